@@ -1,0 +1,5 @@
+pub mod Boxes
+pub mod CellLists
+pub mod Halves
+pub mod Parts
+mod WorkedRows
