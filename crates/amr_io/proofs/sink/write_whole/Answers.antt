@@ -1,0 +1,19 @@
+use Rattle.std.proofs.Common.{arith}
+use Rattle.amr_causes.proofs.ByteLaws.{takes_first, grows_slice, grows_refused}
+use Rattle.amr_io.proofs.sink.write_whole.Goals as goal
+
+pub returns-in_err-at-clause-part : goal.returns-in_err-at-clause-part
+returns-in_err-at-clause-part g c =
+    takes_first g.O.Sink.holds c.args.sink.now c.write.new.self c.loop-at.at c.args.bytes.now
+    (grows_refused g.O.Sink.holds c.args.sink.now c.loop-at.sink c.write.new.self _ c.loop-at.invariant.out c.in_err-at.ensures.bytes)
+
+pub loop-at-preserved : goal.loop-at-preserved
+loop-at-preserved g c = record {
+  within = omega (arith, c.in_ok-at.ensures.bound);
+  out = grows_slice g.O.Sink.holds c.args.sink.now c.loop-at.sink c.write.new.self c.loop-at.at c.in_ok-at.field-0 c.args.bytes.now c.loop-at.invariant.out c.in_ok-at.ensures.bytes;
+  later = omega (arith, c.in_ok-at.ensures.cause.later);
+}
+
+pub returns-clause-part : goal.returns-clause-part
+returns-clause-part g c =
+    takes_first g.O.Sink.holds c.args.sink.now c.loop-at.sink c.loop-at.at c.args.bytes.now c.loop-at.invariant.out

@@ -1,0 +1,7 @@
+use Rattle.amr_io.specs.Kept.{pieces_text}
+use Rattle.amr_io.proofs.Sending.{flush_stops}
+use Rattle.amr_io.proofs.text.write_pieces.Goals as goal
+
+pub returns-in_err-flush-clause-part : goal.returns-in_err-flush-clause-part
+returns-in_err-flush-clause-part g c =
+    flush_stops g.O.Sink.holds c.args.sink.now c.put_pieces.new.sink c.flush.new.sink c.make-text.result c.put_pieces.new.self (pieces_text c.args.pieces.now) c.make-text.ensures c.in_ok-put_pieces.ensures.sent c.in_err-flush.ensures.part

@@ -1,0 +1,21 @@
+//! Sources and sinks of bytes that count their faults: the outside of the program, as its contracts see it. In memory they
+//! tell every byte; over a reader or a writer of std they tell what that tells, which of a real stream is nothing.
+#![tactic(auto)]
+
+mod memory_sink;
+mod memory_source;
+mod piece;
+mod sink;
+mod source;
+mod standard;
+#[cfg(test)]
+mod tests;
+mod text;
+
+pub use memory_sink::MemSink;
+pub use memory_source::MemSource;
+pub use piece::Piece;
+pub use sink::{Sink, WriteFault, write_whole};
+pub use source::{ReadAll, ReadFault, Source, read_all};
+pub use standard::{StdSink, StdSource};
+pub use text::{Text, write_pieces};

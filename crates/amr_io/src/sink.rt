@@ -1,0 +1,39 @@
+// A sink of bytes.
+ghost use Rattle.std.specs.Prelude.{◌≤◌, ◌<◌, List, ℕ, length, IfOk, OnOk};
+ghost use Rattle.amr_causes.specs.Causes.{HasCause};
+ghost use Rattle.amr_causes.specs.Bytes.{Grows, TakesPrefix, written};
+
+/// The sink failed.
+#[derive(Clone, Copy, Debug, PartialEq, Eq, Drop)]
+pub struct WriteFault;
+
+/// A sink of bytes.
+pub trait Sink {
+    /// The sink holds these bytes. One that doesn't tell holds none, in this sense.
+    ghost holds: { Self → List ℕ → Type 0 };
+
+    /// How often the sink has failed; a count at its last value is read as risen.
+    ghost faults: { Self → ℕ };
+
+    /// Writes bytes from the front of `piece`, and says how many: at least one of a piece that isn't empty.
+    fn write(&mut self, piece: &[u8]) -> Result<usize, WriteFault>
+        ensures bound { IfOk result (λ n. n ≤ length piece.now) }
+        ensures some { IfOk result (λ n. 0 < length piece.now → 0 < n) }
+        // What it holds grows by the bytes taken; a fault takes none.
+        ensures bytes { Grows holds self.old self.new (written result piece.now) }
+        // A fault comes only where the count rose, and the count doesn't fall.
+        ensures cause { HasCause (faults self.old) (faults self.new) result };
+}
+
+/// Writes all the bytes. After a fault what went out is a prefix of them.
+pub fn write_whole<O: Sink>(sink: &mut O, bytes: &[u8]) -> Result<(), WriteFault>
+    ensures whole { OnOk result (Grows O.holds sink.old sink.new bytes.now) }
+    ensures part { TakesPrefix O.holds sink.old sink.new bytes.now }
+    ensures cause { HasCause (O.faults sink.old) (O.faults sink.new) result }
+{
+    let mut at = 0;
+    while at < bytes.len() {
+        at += sink.write(&bytes[at..])?;
+    }
+    Ok(())
+}

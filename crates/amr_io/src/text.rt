@@ -1,0 +1,139 @@
+// Text on its way to a sink.
+ghost use Rattle.std.specs.Prelude.{◌≡◌, ◌≤◌, ◌+◌, ◌++◌, [], length, OnOk, OnErr, decimal};
+ghost use Rattle.amr_causes.specs.Causes.{HasCause};
+ghost use Rattle.amr_causes.specs.Bytes.{Grows, TakesPrefix};
+ghost use Rattle.amr_io.specs.Kept.{Sent, piece_text, pieces_text};
+
+use crate::{Piece, Sink, WriteFault, write_whole};
+use itoa::Buffer;
+use std::marker::Model;
+
+const ROOM: usize = 4096;
+
+/// Text on its way to a sink, through a buffer of 4,096 bytes. It is seen as what it keeps back: after a call that succeeded,
+/// what the sink got and then what is kept back is all that was put. A call that failed has sent a prefix of that; the
+/// buffer is then only dropped. No call takes memory.
+#[derive(Drop)]
+pub struct Text {
+    kept: [u8; ROOM],
+    len: usize,
+}
+
+impl Model for Text {
+    ghost use Rattle.std.specs.Prelude.{◌≤◌, List, ℕ, take};
+
+    ghost Value = { List ℕ };
+
+    ghost view = { λ t. take t.len t.kept };
+
+    ghost invariant = { λ t. t.len ≤ 4096 };
+}
+
+impl Text {
+    /// A buffer that keeps nothing back.
+    pub fn make() -> Text
+        ensures { result ≡ [] }
+    {
+        Text {
+            kept: [0; ROOM],
+            len: 0,
+        }
+    }
+
+    /// Puts a string.
+    pub fn put_str<O: Sink>(&mut self, sink: &mut O, text: &str) -> Result<(), WriteFault>
+        ensures sent { OnOk result (Sent O.holds sink.old sink.new self.old self.new text.now) }
+        ensures part { OnErr result (TakesPrefix O.holds sink.old sink.new (self.old ++ text.now)) }
+        ensures cause { HasCause (O.faults sink.old) (O.faults sink.new) result }
+    {
+        self.put(sink, text.as_bytes())
+    }
+
+    /// Puts a number in decimal digits.
+    pub fn put_number<O: Sink>(&mut self, sink: &mut O, n: u64) -> Result<(), WriteFault>
+        ensures sent { OnOk result (Sent O.holds sink.old sink.new self.old self.new (decimal n)) }
+        ensures part { OnErr result (TakesPrefix O.holds sink.old sink.new (self.old ++ decimal n)) }
+        ensures cause { HasCause (O.faults sink.old) (O.faults sink.new) result }
+    {
+        let mut digits = Buffer::new();
+        self.put(sink, digits.format(n).as_bytes())
+    }
+
+    /// Puts pieces in turn. Its callers have one place to stop at, where as many calls of one piece each would have many.
+    pub fn put_pieces<O: Sink>(
+        &mut self,
+        sink: &mut O,
+        pieces: &[Piece<'_>],
+    ) -> Result<(), WriteFault>
+        ensures sent { OnOk result (Sent O.holds sink.old sink.new self.old self.new (pieces_text pieces.now)) }
+        ensures part { OnErr result (TakesPrefix O.holds sink.old sink.new (self.old ++ pieces_text pieces.now)) }
+        ensures cause { HasCause (O.faults sink.old) (O.faults sink.new) result }
+    {
+        for piece in pieces {
+            self.put_piece(sink, piece)?;
+        }
+        Ok(())
+    }
+
+    fn put_piece<O: Sink>(&mut self, sink: &mut O, piece: &Piece<'_>) -> Result<(), WriteFault>
+        ensures sent { OnOk result (Sent O.holds sink.old sink.new self.old self.new (piece_text piece.now)) }
+        ensures part { OnErr result (TakesPrefix O.holds sink.old sink.new (self.old ++ piece_text piece.now)) }
+        ensures cause { HasCause (O.faults sink.old) (O.faults sink.new) result }
+    {
+        match piece {
+            Piece::Str(text) => self.put_str(sink, text),
+            Piece::Number(n) => self.put_number(sink, *n),
+        }
+    }
+
+    /// Sends what is kept back.
+    pub fn flush<O: Sink>(&mut self, sink: &mut O) -> Result<(), WriteFault>
+        ensures sent { OnOk result (Sent O.holds sink.old sink.new self.old self.new []) }
+        ensures part { OnErr result (TakesPrefix O.holds sink.old sink.new self.old) }
+        ensures empty { OnOk result (self.new ≡ []) }
+        ensures cause { HasCause (O.faults sink.old) (O.faults sink.new) result }
+    {
+        write_whole(sink, &self.kept[..self.len])?;
+        self.len = 0;
+        Ok(())
+    }
+
+    fn put<O: Sink>(&mut self, sink: &mut O, bytes: &[u8]) -> Result<(), WriteFault>
+        ensures sent { OnOk result (Sent O.holds sink.old sink.new self.old self.new bytes.now) }
+        ensures part { OnErr result (TakesPrefix O.holds sink.old sink.new (self.old ++ bytes.now)) }
+        ensures cause { HasCause (O.faults sink.old) (O.faults sink.new) result }
+    {
+        if bytes.len() <= ROOM - self.len {
+            self.append(bytes);
+            return Ok(());
+        }
+        self.flush(sink)?;
+        if bytes.len() <= ROOM {
+            self.append(bytes);
+            return Ok(());
+        }
+        write_whole(sink, bytes)?;
+        Ok(())
+    }
+
+    fn append(&mut self, bytes: &[u8])
+        requires { length self.old + length bytes.now ≤ 4096 }
+        ensures { self.new ≡ self.old ++ bytes.now }
+    {
+        let end = self.len + bytes.len();
+        self.kept[self.len..end].copy_from_slice(bytes);
+        self.len = end;
+    }
+}
+
+/// Writes pieces in turn, all of them where no fault comes.
+pub fn write_pieces<O: Sink>(sink: &mut O, pieces: &[Piece<'_>]) -> Result<(), WriteFault>
+    ensures whole { OnOk result (Grows O.holds sink.old sink.new (pieces_text pieces.now)) }
+    ensures part { TakesPrefix O.holds sink.old sink.new (pieces_text pieces.now) }
+    ensures cause { HasCause (O.faults sink.old) (O.faults sink.new) result }
+{
+    let mut text = Text::make();
+    text.put_pieces(sink, pieces)?;
+    text.flush(sink)?;
+    Ok(())
+}
