@@ -1,0 +1,6 @@
+pub mod Sums
+pub mod Plans
+pub mod Consistent
+pub mod Reached
+pub mod Steps
+pub mod Rows
