@@ -1,0 +1,3 @@
+pub mod Places
+pub mod Logs
+pub mod Replays

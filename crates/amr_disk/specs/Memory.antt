@@ -1,0 +1,35 @@
+-- What a disk in memory shows.
+use Rattle.std.specs.Prelude.{ℕ, List, length, Option, Some}
+use Rattle.amr_disk.specs.Calls.{Call, LeavesAt}
+use Rattle.amr_disk.specs.Limits.{Limits}
+use Rattle.amr_disk.specs.Log.{calls_of}
+use Rattle.amr_disk.specs.declared.memory.MemDisk.{MemDisk}
+
+abbrev pub limits_of : MemDisk → Limits
+limits_of disk = record { capacity = disk.capacity; calls = disk.calls; fails = disk.fails.items; stop = disk.stop }
+
+-- how many calls it was asked for
+abbrev pub asked_of : MemDisk → ℕ
+asked_of disk = disk.asked
+
+-- what it was made with
+abbrev pub made_of : MemDisk → List ℕ
+made_of disk = disk.made.items
+
+-- the writes and syncs that it took
+abbrev pub calls_in : MemDisk → List Call
+calls_in disk = calls_of disk.steps.items disk.written.items
+
+-- what a read gives
+abbrev pub seen_of : MemDisk → Option (List ℕ)
+seen_of disk = Some disk.bytes.items
+
+-- the clock counts the writes and syncs
+abbrev pub moment_of : MemDisk → ℕ
+moment_of disk = length (calls_in disk)
+
+abbrev pub leaves_of : MemDisk → ℕ → List ℕ → Type 0
+leaves_of disk moment image = LeavesAt (made_of disk) (calls_in disk) moment image
+
+abbrev pub faults_of : MemDisk → ℕ
+faults_of disk = disk.faults
