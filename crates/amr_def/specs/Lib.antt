@@ -1,0 +1,16 @@
+pub mod Limits
+pub mod Domain
+pub mod State
+pub mod Value
+pub mod Flux
+pub mod LevelStep
+pub mod Ledger
+pub mod Tags
+pub mod Signature
+pub mod Cut
+pub mod Cluster
+pub mod NewBoxes
+pub mod Regrid
+pub mod Run
+pub mod Facts
+pub mod Plot

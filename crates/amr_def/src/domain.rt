@@ -1,0 +1,19 @@
+//! The domain of a level, as the calls on boxes and tags take it.
+
+ghost use Rattle.amr_def.specs.Limits.{DomainLimits};
+
+/// The domain of level `l` of a problem with `nx` by `ny` cells at level 0.
+#[derive(Clone, Copy, Debug)]
+pub struct Dom {
+    /// The level: 0 to 4.
+    pub l: u32,
+    /// How many columns level 0 has: 2 to 256.
+    pub nx: u32,
+    /// How many rows level 0 has: 2 to 256.
+    pub ny: u32,
+    /// Whether the x axis is periodic.
+    pub wrap_x: bool,
+    /// Whether the y axis is periodic.
+    pub wrap_y: bool,
+    pub ghost limits: { DomainLimits l nx ny },
+}

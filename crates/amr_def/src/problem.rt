@@ -1,0 +1,80 @@
+//! What is computed: a problem, its parts and their limits.
+
+ghost use Rattle.amr_def.specs.Limits.{Limits};
+
+use crate::lists::{Blocks, Name, Shear, Thresholds};
+
+/// The two sides of an axis.
+#[derive(Clone, Copy, Debug, PartialEq, Eq)]
+pub enum Sides {
+    /// The last cell of the axis lies beside the first.
+    Periodic,
+    /// The axis is open. The masses are the inflows: what a cell of level 0 would hold beyond the low
+    /// end, and beyond the high end.
+    Open(u64, u64),
+}
+
+/// A rectangle of cells of level 0, from column `x0` to `x1` and from row `y0` to `y1`, both inside,
+/// each of which starts with `mass`.
+#[derive(Clone, Copy, Debug, PartialEq, Eq)]
+pub struct Block {
+    pub x0: u32,
+    pub y0: u32,
+    pub x1: u32,
+    pub y1: u32,
+    pub mass: u64,
+}
+
+/// A row of the ledger: the mass of level 0 after a step, and what flowed in the step into the domain
+/// and out of it through open sides.
+#[derive(Clone, Copy, Debug, PartialEq, Eq)]
+pub struct Row {
+    pub mass: u64,
+    pub inflow: u64,
+    pub outflow: u64,
+}
+
+/// What is computed: the keys of a problem file, within their limits.
+#[derive(Debug, Drop)]
+pub struct Problem {
+    /// 1 to 32 bytes, each of `a` to `z`, `0` to `9`, `-` and `_`.
+    pub name: Name,
+    /// How many columns level 0 has: 2 to 256.
+    pub nx: u32,
+    /// How many rows level 0 has: 2 to 256.
+    pub ny: u32,
+    /// The last step: 0 to 4096.
+    pub steps: u32,
+    /// The Courant number of the x axis is `cx / d`, the same at each level.
+    pub cx: i32,
+    /// The Courant number of the y axis is `cy / d`.
+    pub cy: i32,
+    /// 1 to 1024. The greatest `|cx|` and the greatest `|cy|` in use add up to at most `d`.
+    pub d: u32,
+    /// `cx` for each row of level 0, or nothing where `cx` holds in each.
+    pub shear_x: Shear,
+    /// `cy` for each column of level 0, or nothing where `cy` holds in each.
+    pub shear_y: Shear,
+    pub x_sides: Sides,
+    pub y_sides: Sides,
+    /// The finest level that there may be: 0 to 4.
+    pub max_level: u32,
+    /// For each level below `max_level` the difference of values that tags a cell.
+    pub tag: Thresholds,
+    /// By how many cells tags are grown: 0 to 8.
+    pub n_error_buf: u32,
+    /// Of 100 cells of a new box, how many are to be tagged: 1 to 100.
+    pub efficiency: u32,
+    /// The least width of a part of a box that is cut: 1 to 16.
+    pub min_width: u32,
+    /// How many steps lie between two regrids: 1 to 4096.
+    pub regrid_int: u32,
+    /// The blocking factor: corners of boxes above level 0 lie on multiples of it. 2, 4 or 8.
+    pub blocking: u32,
+    /// The greatest side of a patch that a box is chopped into: even, 4 to 256.
+    pub max_grid_size: u32,
+    /// The masses at the start, at most 256 rectangles. A later one replaces an earlier one, and a cell
+    /// of none has mass 0.
+    pub blocks: Blocks,
+    pub ghost limits: { Limits name nx ny steps cx cy d shear_x shear_y x_sides y_sides max_level tag n_error_buf efficiency min_width regrid_int blocking max_grid_size blocks },
+}
