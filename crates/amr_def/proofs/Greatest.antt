@@ -179,7 +179,7 @@ abbrev pub AllUpTo : ℕ → List Masses → ℕ → Type 0
 AllUpTo l [] b = Unit {0}
 AllUpTo l (m ∷ ms) b = MassesUpTo l m b × AllUpTo (suc l) ms b
 
-all_more : (l : ℕ) (ms : List Masses) (a b : ℕ) → a ≤ b → AllUpTo l ms a → AllUpTo l ms b
+pub all_more : (l : ℕ) (ms : List Masses) (a b : ℕ) → a ≤ b → AllUpTo l ms a → AllUpTo l ms b
 all_more l [] a b h u = tt
 all_more l (m ∷ ms) a b h u = (masses_more l m a b h u.0, all_more (suc l) ms a b h u.1)
 

@@ -22,3 +22,9 @@ pub mod Runs
 pub mod Bounds
 pub mod Raise
 pub mod Greatest
+pub mod Chain
+pub mod Nesting
+pub mod Stepping
+pub mod SoundStep
+pub mod SoundRun
+pub mod OneStep

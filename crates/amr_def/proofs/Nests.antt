@@ -21,7 +21,7 @@ shares_sum m = by_rest (m % 4) (m / 4) m (omega arith) (omega arith)
     by_rest (suc (suc (suc zero))) q m h e = omega arith
     by_rest (suc (suc (suc (suc r)))) q m h e = absurd (omega arith)
 
-half_and_odd : (z : ℤ) → z ≡ half z +ℤ half z +ℤ pos (odd z)
+pub half_and_odd : (z : ℤ) → z ≡ half z +ℤ half z +ℤ pos (odd z)
 half_and_odd (pos a) = omega (arith, ints)
 half_and_odd (negsuc a) = omega (arith, ints)
 

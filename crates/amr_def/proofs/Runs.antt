@@ -9,7 +9,7 @@ times-add : {A : Type 0} (f : A → A) (m n : ℕ) (a : A) → times f n (times 
 times-add f zero n a = let e : n ≡ 0 + n = omega arith in ap (λ k. times f k a) e
 times-add f (suc m) n a = let e : suc (m + n) ≡ suc m + n = omega arith in times-add f m n (f a) ∙ ap (λ k. times f k a) e
 
-step-next : (p : Problem) (s : State) → (next p s).step ≡ s.step + 1
+pub step-next : (p : Problem) (s : State) → (next p s).step ≡ s.step + 1
 unfolding next stepped regrid
 step-next p s = due (regrid_is_due p s)
   where

@@ -13,7 +13,7 @@ use Rattle.amr_def.proofs.Courants.{twice_as_many, power_positive}
 use Rattle.amr_def.proofs.Subcycle.{IsKept, step-kept}
 use Rattle.amr_def.specs.State.{Masses, is_covered, no_masses}
 use Rattle.amr_def.specs.Flux.{Fluxes, face, courant, updated, flux_at}
-use Rattle.amr_def.specs.Ledger.{total_mass, inflow, outflow}
+use Rattle.amr_def.specs.Ledger.{first_of, total_mass, inflow, outflow}
 use Rattle.amr_def.specs.Domain.{columns, rows, home_cell, domain}
 use Rattle.amr_def.specs.LevelStep.{effective, through_children, at_top, over_finer, step_within, step}
 use Rattle.amr_def.proofs.LevelLists.{IsWhole, IsStable, Nested, Synced, HasColumns}
@@ -74,10 +74,10 @@ step-repeats p (suc n) l (m ∷ fine ∷ finer) old cells =
     together_repeats p l cells m old fine _ _ (step-repeats p n (suc l) (fine ∷ finer) m cells) (step-repeats p n (suc l) _ m cells)
 
 -- the masses of the coarsest level after a step are its masses and what came into its cells
-head_updated : (p : Problem) (n l : ℕ) (m : Masses) (finer : List Masses) (old : Masses) (first : List Masses → Masses) → ((a : Masses) (rest : List Masses) → first (a ∷ rest) ≡ a) → first (step_within p (suc n) l (m ∷ finer) old).levels ≡ updated m (step_within p (suc n) l (m ∷ finer) old).fluxes
+pub head_updated : (p : Problem) (n l : ℕ) (m : Masses) (finer : List Masses) (old : Masses) → first_of (step_within p (suc n) l (m ∷ finer) old).levels ≡ updated m (step_within p (suc n) l (m ∷ finer) old).fluxes
 unfolding step_within over_finer at_top
-head_updated p n l m [] old first is = is _ _
-head_updated p n l m (fine ∷ finer) old first is = is _ _
+head_updated p n l m [] old = refl
+head_updated p n l m (fine ∷ finer) old = refl
 
 covering : (p : Problem) (m : Masses) (ms ms' : List Masses) (e : Fluxes) → IsWhole p m → IsKept p 0 (m ∷ ms) no_masses ms' e → IsCovering p m e
 covering p m ms [] e whole kept = absurd kept.same

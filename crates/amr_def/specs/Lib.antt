@@ -14,3 +14,4 @@ pub mod Regrid
 pub mod Run
 pub mod Facts
 pub mod Plot
+pub mod Laws

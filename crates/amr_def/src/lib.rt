@@ -6,6 +6,7 @@
 #![tactic(auto)]
 
 mod domain;
+pub mod laws;
 mod lists;
 mod problem;
 
