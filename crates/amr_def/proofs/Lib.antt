@@ -28,3 +28,4 @@ pub mod Stepping
 pub mod SoundStep
 pub mod SoundRun
 pub mod OneStep
+pub mod Sizes

@@ -17,3 +17,26 @@ pub struct Dom {
     pub wrap_y: bool,
     pub ghost limits: { DomainLimits l nx ny },
 }
+
+impl Dom {
+    ghost use Rattle.std.specs.Prelude.{◌≡◌, ◌≤◌};
+    ghost use Rattle.amr_def.specs.Domain.{domain_of};
+
+    /// How many columns the domain has: `nx * 2^l`, at most 4096.
+    #[tactic(auto, using(crate::proofs::Sizes::sizes))]
+    pub fn columns(&self) -> u32
+        ensures value { result ≡ (domain_of self.now).columns }
+        ensures small { result ≤ 4096 }
+    {
+        self.nx << self.l
+    }
+
+    /// How many rows the domain has: `ny * 2^l`, at most 4096.
+    #[tactic(auto, using(crate::proofs::Sizes::sizes))]
+    pub fn rows(&self) -> u32
+        ensures value { result ≡ (domain_of self.now).rows }
+        ensures small { result ≤ 4096 }
+    {
+        self.ny << self.l
+    }
+}

@@ -2,6 +2,7 @@
 
 ghost use Rattle.amr_def.specs.Limits.{Limits};
 
+use crate::domain::Dom;
 use crate::lists::{Blocks, Name, Shear, Thresholds};
 
 /// The two sides of an axis.
@@ -77,4 +78,61 @@ pub struct Problem {
     /// of none has mass 0.
     pub blocks: Blocks,
     pub ghost limits: { Limits name nx ny steps cx cy d shear_x shear_y x_sides y_sides max_level tag n_error_buf efficiency min_width regrid_int blocking max_grid_size blocks },
+}
+
+impl Sides {
+    ghost use Rattle.std.specs.Prelude.{◌≡◌};
+    ghost use Rattle.amr_def.specs.Domain.{is_periodic};
+
+    pub fn is_periodic(&self) -> bool
+        ensures { result ≡ is_periodic self.now }
+    {
+        matches!(self, Sides::Periodic)
+    }
+}
+
+impl Problem {
+    ghost use Rattle.std.specs.Prelude.{◌≡◌, ◌≤◌, ◌<◌, ◌*◌, ◌/◌, ◌^◌};
+    ghost use Rattle.amr_def.specs.Domain.{columns, rows, domain, domain_of};
+    ghost use Rattle.amr_def.specs.Flux.{number_for};
+
+    /// The domain of level `l`.
+    pub fn domain(&self, l: u32) -> Dom
+        requires { l ≤ 4 }
+        ensures { domain_of result ≡ domain self.now l }
+    {
+        Dom {
+            l,
+            nx: self.nx,
+            ny: self.ny,
+            wrap_x: self.x_sides.is_periodic(),
+            wrap_y: self.y_sides.is_periodic(),
+        }
+    }
+
+    /// The Courant number, times `d`, of the x faces in a row of level `l`.
+    pub fn x_courant(&self, l: u32, row: u32) -> i32
+        requires level { l ≤ 4 }
+        requires inside { row < rows self.now l }
+        ensures { result ≡ number_for self.now.cx self.now.shear_x (row / 2 ^ l) }
+    {
+        let numbers = self.shear_x.entries();
+        if numbers.is_empty() {
+            return self.cx;
+        }
+        numbers[(row >> l) as usize]
+    }
+
+    /// The Courant number, times `d`, of the y faces in a column of level `l`.
+    pub fn y_courant(&self, l: u32, column: u32) -> i32
+        requires level { l ≤ 4 }
+        requires inside { column < columns self.now l }
+        ensures { result ≡ number_for self.now.cy self.now.shear_y (column / 2 ^ l) }
+    {
+        let numbers = self.shear_y.entries();
+        if numbers.is_empty() {
+            return self.cy;
+        }
+        numbers[(column >> l) as usize]
+    }
 }
