@@ -27,11 +27,11 @@ module _ (P Q : Cell → Type 0) where
   each_then f [] e = tt
   each_then f (c ∷ cs) e = (f c e.0, each_then f cs e.1)
 
-each_both : (P Q R : Cell → Type 0) → ((c : Cell) → P c → Q c → R c) → (cs : List Cell) → Each P cs → Each Q cs → Each R cs
+pub each_both : (P Q R : Cell → Type 0) → ((c : Cell) → P c → Q c → R c) → (cs : List Cell) → Each P cs → Each Q cs → Each R cs
 each_both P Q R f [] e g = tt
 each_both P Q R f (c ∷ cs) e g = (f c e.0 g.0, each_both P Q R f cs e.1 g.1)
 
-each_kept : (P : Cell → Type 0) (test : Cell → Bool) (cs : List Cell) → Each P cs → Each P (filter test cs)
+pub each_kept : (P : Cell → Type 0) (test : Cell → Bool) (cs : List Cell) → Each P cs → Each P (filter test cs)
 each_kept P test [] e = tt
 each_kept P test (c ∷ cs) e = kept (test c) (each_kept P test cs e.1)
   where
@@ -39,7 +39,7 @@ each_kept P test (c ∷ cs) e = kept (test c) (each_kept P test cs e.1)
     kept true r = (e.0, r)
     kept false r = r
 
-each_from_kept : (P : Cell → Type 0) (test : Cell → Bool) (cs : List Cell) → Each P (filter test cs) → Each (λ c. test c ≡ true → P c) cs
+pub each_from_kept : (P : Cell → Type 0) (test : Cell → Bool) (cs : List Cell) → Each P (filter test cs) → Each (λ c. test c ≡ true → P c) cs
 each_from_kept P test [] e = tt
 each_from_kept P test (c ∷ cs) e = from (test c) e (λ r. each_from_kept P test cs r)
   where
@@ -47,7 +47,7 @@ each_from_kept P test (c ∷ cs) e = from (test c) e (λ r. each_from_kept P tes
     from true r rest = (λ _. r.0, rest r.1)
     from false r rest = (λ e. cc, rest r)
 
-each_passes : (test : Cell → Bool) (cs : List Cell) → Each (λ c. test c ≡ true) (filter test cs)
+pub each_passes : (test : Cell → Bool) (cs : List Cell) → Each (λ c. test c ≡ true) (filter test cs)
 each_passes test [] = tt
 each_passes test (c ∷ cs) = passes (test c) refl (each_passes test cs)
   where
@@ -57,56 +57,56 @@ each_passes test (c ∷ cs) = passes (test c) refl (each_passes test cs)
 
 -- ---- the least box
 
-low_widened : (lo c z : ℤ) → int_le lo z ≡ true → int_le (int_min lo c) z ≡ true
+pub low_widened : (lo c z : ℤ) → int_le lo z ≡ true → int_le (int_min lo c) z ≡ true
 low_widened lo c z h = grind (arith, ints, clamps)
 
-high_widened : (hi c z : ℤ) → int_le z hi ≡ true → int_le z (int_max hi c) ≡ true
+pub high_widened : (hi c z : ℤ) → int_le z hi ≡ true → int_le z (int_max hi c) ≡ true
 high_widened hi c z h = grind (arith, ints, clamps)
 
-both_true : (a b : Bool) → (a && b) ≡ true → (a ≡ true) × (b ≡ true)
+pub both_true : (a b : Bool) → (a && b) ≡ true → (a ≡ true) × (b ≡ true)
 both_true true b e = (refl, e)
 both_true false b e = cc
 
-and_true : (a b : Bool) → a ≡ true → b ≡ true → (a && b) ≡ true
+pub and_true : (a b : Bool) → a ≡ true → b ≡ true → (a && b) ≡ true
 and_true a b e f = rw (e, f)
 
-widened : (lo hi c z : ℤ) → within lo hi z ≡ true → within (int_min lo c) (int_max hi c) z ≡ true
+pub widened : (lo hi c z : ℤ) → within lo hi z ≡ true → within (int_min lo c) (int_max hi c) z ≡ true
 widened lo hi c z h =
     let parts = both_true (int_le lo z) (int_le z hi) h in
     and_true _ _ (low_widened lo c z parts.0) (high_widened hi c z parts.1)
 
-grown_keeps : (b : Extent) (c q : Cell) → holds b q ≡ true → holds (grown_to b c) q ≡ true
+pub grown_keeps : (b : Extent) (c q : Cell) → holds b q ≡ true → holds (grown_to b c) q ≡ true
 grown_keeps b c q h =
     let parts = both_true _ _ h in
     and_true _ _ (widened b.lo.x b.hi.x c.x q.x parts.0) (widened b.lo.y b.hi.y c.y q.y parts.1)
 
-grown_takes : (b : Extent) (c : Cell) → holds (grown_to b c) c ≡ true
+pub grown_takes : (b : Extent) (c : Cell) → holds (grown_to b c) c ≡ true
 grown_takes b c = grind (arith, ints, clamps)
 
-fold_keeps : (b : Extent) (cs : List Cell) (q : Cell) → holds b q ≡ true → holds (fold grown_to b cs) q ≡ true
+pub fold_keeps : (b : Extent) (cs : List Cell) (q : Cell) → holds b q ≡ true → holds (fold grown_to b cs) q ≡ true
 fold_keeps b [] q h = h
 fold_keeps b (c ∷ cs) q h = fold_keeps (grown_to b c) cs q (grown_keeps b c q h)
 
-fold_takes : (b : Extent) (cs : List Cell) → Each (λ q. holds (fold grown_to b cs) q ≡ true) cs
+pub fold_takes : (b : Extent) (cs : List Cell) → Each (λ q. holds (fold grown_to b cs) q ≡ true) cs
 fold_takes b [] = tt
 fold_takes b (c ∷ cs) = (fold_keeps (grown_to b c) cs c (grown_takes b c), fold_takes (grown_to b c) cs)
 
-own_holds : (c : Cell) → holds (extent c c) c ≡ true
+pub own_holds : (c : Cell) → holds (extent c c) c ≡ true
 own_holds c = grind (arith, ints)
 
-bounding_takes : (c : Cell) (cs : List Cell) → Each (λ q. holds (bounding c cs) q ≡ true) (c ∷ cs)
+pub bounding_takes : (c : Cell) (cs : List Cell) → Each (λ q. holds (bounding c cs) q ≡ true) (c ∷ cs)
 bounding_takes c cs = (fold_keeps (extent c c) cs c (own_holds c), fold_takes (extent c c) cs)
 
 -- ---- cover
 
-or-right : (a b : Bool) → b ≡ true → (a || b) ≡ true
+pub or-right : (a b : Bool) → b ≡ true → (a || b) ≡ true
 or-right true b e = refl
 or-right false b e = e
 
-or-left : (a b : Bool) → a ≡ true → (a || b) ≡ true
+pub or-left : (a b : Bool) → a ≡ true → (a || b) ≡ true
 or-left a b e = rw e refl
 
-either_side : (b : Extent) (k : Cut) (q : Cell) (P : Type 0) → (int_lt (along k.axis q) (edge b k) ≡ true → P) → (int_le (edge b k) (along k.axis q) ≡ true → P) → P
+pub either_side : (b : Extent) (k : Cut) (q : Cell) (P : Type 0) → (int_lt (along k.axis q) (edge b k) ≡ true → P) → (int_le (edge b k) (along k.axis q) ≡ true → P) → P
 either_side b k q P low high = choose (int_lt (along k.axis q) (edge b k)) refl
   where
     not_below : (y z : ℤ) → int_lt z y ≡ false → int_le y z ≡ true
@@ -116,7 +116,7 @@ either_side b k q P low high = choose (int_lt (along k.axis q) (edge b k)) refl
     choose true e = low e
     choose false e = high (not_below (edge b k) (along k.axis q) e)
 
-parts_cover : (boxes : List Cell → List Extent) → ((cs : List Cell) → Each (λ q. in_boxes (boxes cs) q ≡ true) cs) → (cs : List Cell) (b : Extent) → Each (λ q. holds b q ≡ true) cs → (k : Option Cut) → Each (λ q. in_boxes (parts boxes cs b k) q ≡ true) cs
+pub parts_cover : (boxes : List Cell → List Extent) → ((cs : List Cell) → Each (λ q. in_boxes (boxes cs) q ≡ true) cs) → (cs : List Cell) (b : Extent) → Each (λ q. holds b q ≡ true) cs → (k : Option Cut) → Each (λ q. in_boxes (parts boxes cs b k) q ≡ true) cs
 parts_cover boxes covers cs b round None = each_then _ _ (λ q h. or-left (holds b q) false h) cs round
 parts_cover boxes covers cs b round (Some k) =
     let low = boxes (cells_below b k cs) in
@@ -128,7 +128,7 @@ parts_cover boxes covers cs b round (Some k) =
     (each_from_kept (λ q. in_boxes low q ≡ true) (λ c. int_lt (along k.axis c) (edge b k)) cs (covers (cells_below b k cs)))
     (each_from_kept (λ q. in_boxes high q ≡ true) (λ c. int_le (edge b k) (along k.axis c)) cs (covers (cells_from b k cs)))
 
-cluster_within_covers : (efficiency w n : ℕ) (cs : List Cell) → Each (λ q. in_boxes (cluster_within efficiency w n cs) q ≡ true) cs
+pub cluster_within_covers : (efficiency w n : ℕ) (cs : List Cell) → Each (λ q. in_boxes (cluster_within efficiency w n cs) q ≡ true) cs
 unfolding cluster_within
 cluster_within_covers efficiency w zero [] = tt
 cluster_within_covers efficiency w zero (c ∷ cs) = each_then _ _ (λ q h. or-left (holds (bounding c cs) q) false h) (c ∷ cs) (bounding_takes c cs)
@@ -151,39 +151,39 @@ abbrev pub BoxesFrom : Axis → ℤ → List Extent → Type 0
 BoxesFrom a e [] = Unit {0}
 BoxesFrom a e (b ∷ bs) = (e ≤ℤ along a b.lo) × BoxesFrom a e bs
 
-below_append : (a : Axis) (e : ℤ) (bs cs : List Extent) → BoxesBelow a e bs → BoxesBelow a e cs → BoxesBelow a e (bs ++ cs)
+pub below_append : (a : Axis) (e : ℤ) (bs cs : List Extent) → BoxesBelow a e bs → BoxesBelow a e cs → BoxesBelow a e (bs ++ cs)
 below_append a e [] cs h k = k
 below_append a e (b ∷ bs) cs h k = (h.0, below_append a e bs cs h.1 k)
 
-from_append : (a : Axis) (e : ℤ) (bs cs : List Extent) → BoxesFrom a e bs → BoxesFrom a e cs → BoxesFrom a e (bs ++ cs)
+pub from_append : (a : Axis) (e : ℤ) (bs cs : List Extent) → BoxesFrom a e bs → BoxesFrom a e cs → BoxesFrom a e (bs ++ cs)
 from_append a e [] cs h k = k
 from_append a e (b ∷ bs) cs h k = (h.0, from_append a e bs cs h.1 k)
 
-grown_below : (a : Axis) (e : ℤ) (b : Extent) (c : Cell) → along a b.hi <ℤ e → along a c <ℤ e → along a (grown_to b c).hi <ℤ e
+pub grown_below : (a : Axis) (e : ℤ) (b : Extent) (c : Cell) → along a b.hi <ℤ e → along a c <ℤ e → along a (grown_to b c).hi <ℤ e
 grown_below X e b c h k = grind (arith, ints, clamps)
 grown_below Y e b c h k = grind (arith, ints, clamps)
 
-grown_from : (a : Axis) (e : ℤ) (b : Extent) (c : Cell) → e ≤ℤ along a b.lo → e ≤ℤ along a c → e ≤ℤ along a (grown_to b c).lo
+pub grown_from : (a : Axis) (e : ℤ) (b : Extent) (c : Cell) → e ≤ℤ along a b.lo → e ≤ℤ along a c → e ≤ℤ along a (grown_to b c).lo
 grown_from X e b c h k = grind (arith, ints, clamps)
 grown_from Y e b c h k = grind (arith, ints, clamps)
 
-fold_below : (a : Axis) (e : ℤ) (b : Extent) (cs : List Cell) → along a b.hi <ℤ e → Each (λ q. along a q <ℤ e) cs → along a (fold grown_to b cs).hi <ℤ e
+pub fold_below : (a : Axis) (e : ℤ) (b : Extent) (cs : List Cell) → along a b.hi <ℤ e → Each (λ q. along a q <ℤ e) cs → along a (fold grown_to b cs).hi <ℤ e
 fold_below a e b [] h k = h
 fold_below a e b (c ∷ cs) h k = fold_below a e (grown_to b c) cs (grown_below a e b c h k.0) k.1
 
-fold_from : (a : Axis) (e : ℤ) (b : Extent) (cs : List Cell) → e ≤ℤ along a b.lo → Each (λ q. e ≤ℤ along a q) cs → e ≤ℤ along a (fold grown_to b cs).lo
+pub fold_from : (a : Axis) (e : ℤ) (b : Extent) (cs : List Cell) → e ≤ℤ along a b.lo → Each (λ q. e ≤ℤ along a q) cs → e ≤ℤ along a (fold grown_to b cs).lo
 fold_from a e b [] h k = h
 fold_from a e b (c ∷ cs) h k = fold_from a e (grown_to b c) cs (grown_from a e b c h k.0) k.1
 
-own_below : (a : Axis) (e : ℤ) (c : Cell) → along a c <ℤ e → along a (extent c c).hi <ℤ e
+pub own_below : (a : Axis) (e : ℤ) (c : Cell) → along a c <ℤ e → along a (extent c c).hi <ℤ e
 own_below X e c h = h
 own_below Y e c h = h
 
-own_from : (a : Axis) (e : ℤ) (c : Cell) → e ≤ℤ along a c → e ≤ℤ along a (extent c c).lo
+pub own_from : (a : Axis) (e : ℤ) (c : Cell) → e ≤ℤ along a c → e ≤ℤ along a (extent c c).lo
 own_from X e c h = h
 own_from Y e c h = h
 
-within_below : (efficiency w n : ℕ) (a : Axis) (e : ℤ) (cs : List Cell) → Each (λ q. along a q <ℤ e) cs → BoxesBelow a e (cluster_within efficiency w n cs)
+pub within_below : (efficiency w n : ℕ) (a : Axis) (e : ℤ) (cs : List Cell) → Each (λ q. along a q <ℤ e) cs → BoxesBelow a e (cluster_within efficiency w n cs)
 unfolding cluster_within
 within_below efficiency w zero a e [] h = tt
 within_below efficiency w zero a e (c ∷ cs) h = (fold_below a e (extent c c) cs (own_below a e c h.0) h.1, tt)
@@ -194,7 +194,7 @@ within_below efficiency w (suc n) a e (c ∷ cs) h = by_cut (cut_of efficiency w
     by_cut None g = (fold_below a e (extent c c) cs (own_below a e c h.0) h.1, tt)
     by_cut (Some k) g = below_append a e (cluster_within efficiency w n (cells_below (bounding c cs) k (c ∷ cs))) (cluster_within efficiency w n (cells_from (bounding c cs) k (c ∷ cs))) (g (cells_below (bounding c cs) k (c ∷ cs)) (each_kept (λ q. along a q <ℤ e) (λ q. int_lt (along k.axis q) (edge (bounding c cs) k)) (c ∷ cs) h)) (g (cells_from (bounding c cs) k (c ∷ cs)) (each_kept (λ q. along a q <ℤ e) (λ q. int_le (edge (bounding c cs) k) (along k.axis q)) (c ∷ cs) h))
 
-within_from : (efficiency w n : ℕ) (a : Axis) (e : ℤ) (cs : List Cell) → Each (λ q. e ≤ℤ along a q) cs → BoxesFrom a e (cluster_within efficiency w n cs)
+pub within_from : (efficiency w n : ℕ) (a : Axis) (e : ℤ) (cs : List Cell) → Each (λ q. e ≤ℤ along a q) cs → BoxesFrom a e (cluster_within efficiency w n cs)
 unfolding cluster_within
 within_from efficiency w zero a e [] h = tt
 within_from efficiency w zero a e (c ∷ cs) h = (fold_from a e (extent c c) cs (own_from a e c h.0) h.1, tt)
@@ -216,29 +216,29 @@ abbrev pub Disjoint : List Extent → Type 0
 Disjoint [] = Unit {0}
 Disjoint (b ∷ bs) = ApartFrom b bs × Disjoint bs
 
-apart_append : (a : Extent) (bs cs : List Extent) → ApartFrom a bs → ApartFrom a cs → ApartFrom a (bs ++ cs)
+pub apart_append : (a : Extent) (bs cs : List Extent) → ApartFrom a bs → ApartFrom a cs → ApartFrom a (bs ++ cs)
 apart_append a [] cs h k = k
 apart_append a (b ∷ bs) cs h k = (h.0, apart_append a bs cs h.1 k)
 
-sides_apart : (x : Axis) (e : ℤ) (a b : Extent) → along x a.hi <ℤ e → e ≤ℤ along x b.lo → Apart a b
+pub sides_apart : (x : Axis) (e : ℤ) (a b : Extent) → along x a.hi <ℤ e → e ≤ℤ along x b.lo → Apart a b
 sides_apart X e a b h k = λ c p q. grind (arith, ints)
 sides_apart Y e a b h k = λ c p q. grind (arith, ints)
 
-from_apart : (x : Axis) (e : ℤ) (a : Extent) (bs : List Extent) → along x a.hi <ℤ e → BoxesFrom x e bs → ApartFrom a bs
+pub from_apart : (x : Axis) (e : ℤ) (a : Extent) (bs : List Extent) → along x a.hi <ℤ e → BoxesFrom x e bs → ApartFrom a bs
 from_apart x e a [] h k = tt
 from_apart x e a (b ∷ bs) h k = (sides_apart x e a b h k.0, from_apart x e a bs h k.1)
 
-disjoint_append : (x : Axis) (e : ℤ) (ds bs : List Extent) → Disjoint ds → Disjoint bs → BoxesBelow x e ds → BoxesFrom x e bs → Disjoint (ds ++ bs)
+pub disjoint_append : (x : Axis) (e : ℤ) (ds bs : List Extent) → Disjoint ds → Disjoint bs → BoxesBelow x e ds → BoxesFrom x e bs → Disjoint (ds ++ bs)
 disjoint_append x e [] bs h k low high = k
 disjoint_append x e (a ∷ ds) bs h k low high = (apart_append a ds bs h.0 (from_apart x e a bs low.0 high), disjoint_append x e ds bs h.1 k low.1 high)
 
-below_passes : (e z : ℤ) → int_lt z e ≡ true → z <ℤ e
+pub below_passes : (e z : ℤ) → int_lt z e ≡ true → z <ℤ e
 below_passes e z t = grind (arith, ints)
 
-from_passes : (e z : ℤ) → int_le e z ≡ true → e ≤ℤ z
+pub from_passes : (e z : ℤ) → int_le e z ≡ true → e ≤ℤ z
 from_passes e z t = grind (arith, ints)
 
-within_disjoint : (efficiency w n : ℕ) (cs : List Cell) → Disjoint (cluster_within efficiency w n cs)
+pub within_disjoint : (efficiency w n : ℕ) (cs : List Cell) → Disjoint (cluster_within efficiency w n cs)
 unfolding cluster_within
 within_disjoint efficiency w zero [] = tt
 within_disjoint efficiency w zero (c ∷ cs) = (tt, tt)

@@ -26,10 +26,10 @@ use Rattle.amr_def.proofs.Nests.{IsEven, AllEven, half_and_odd, all_children}
 
 -- ---- boxes on multiples of the blocking factor have even low and odd high coordinates
 
-blocking_cases : (b : ℕ) → is_blocking b ≡ true → (b ≡ 2) ⊎ ((b ≡ 4) ⊎ (b ≡ 8))
+pub blocking_cases : (b : ℕ) → is_blocking b ≡ true → (b ≡ 2) ⊎ ((b ≡ 4) ⊎ (b ≡ 8))
 blocking_cases b h = grind (arith, nat_tests)
 
-even_by : (b : ℕ) → (b ≡ 2) ⊎ ((b ≡ 4) ⊎ (b ≡ 8)) → (z : ℤ) → int_rem_euclid z (pos b) ≡ pos 0 → odd z ≡ 0
+pub even_by : (b : ℕ) → (b ≡ 2) ⊎ ((b ≡ 4) ⊎ (b ≡ 8)) → (z : ℤ) → int_rem_euclid z (pos b) ≡ pos 0 → odd z ≡ 0
 even_by b (inl e) (pos a) h = let r : a % 2 ≡ 0 = omega (arith, ints, rw e at h) in r
 even_by b (inl e) (negsuc a) h = let r : int_rem_euclid (negsuc a) (pos 2) ≡ pos 0 = rw e at h in omega (arith, ints, r)
 even_by b (inr (inl e)) (pos a) h = let r : int_rem_euclid (pos a) (pos 4) ≡ pos 0 = rw e at h in omega (arith, ints, r)
@@ -37,24 +37,24 @@ even_by b (inr (inl e)) (negsuc a) h = let r : int_rem_euclid (negsuc a) (pos 4)
 even_by b (inr (inr e)) (pos a) h = let r : int_rem_euclid (pos a) (pos 8) ≡ pos 0 = rw e at h in omega (arith, ints, r)
 even_by b (inr (inr e)) (negsuc a) h = let r : int_rem_euclid (negsuc a) (pos 8) ≡ pos 0 = rw e at h in omega (arith, ints, r)
 
-odd_small : (z : ℤ) → odd z ≤ 1
+pub odd_small : (z : ℤ) → odd z ≤ 1
 odd_small (pos a) = omega arith
 odd_small (negsuc a) = omega arith
 
-odd_before : (z : ℤ) → odd (z +ℤ pos 1) ≡ 0 → odd z ≡ 1
+pub odd_before : (z : ℤ) → odd (z +ℤ pos 1) ≡ 0 → odd z ≡ 1
 odd_before z h = omega (arith, ints, h, half_and_odd z, half_and_odd (z +ℤ pos 1), odd_small z)
 
-aligned_even : (b : ℕ) (e : Extent) → is_blocking b ≡ true → IsAligned b e → IsEven e
+pub aligned_even : (b : ℕ) (e : Extent) → is_blocking b ≡ true → IsAligned b e → IsEven e
 aligned_even b e h a =
     let which = blocking_cases b h in
     (even_by b which e.lo.x a.west, even_by b which e.lo.y a.south, odd_before e.hi.x (even_by b which (e.hi.x +ℤ pos 1) a.east), odd_before e.hi.y (even_by b which (e.hi.y +ℤ pos 1) a.north))
 
 -- ---- cells of the domain
 
-test_inside : (n : ℕ) (z : ℤ) → is_inside n z ≡ true → (pos 0 ≤ℤ z) × (z <ℤ pos n)
+pub test_inside : (n : ℕ) (z : ℤ) → is_inside n z ≡ true → (pos 0 ≤ℤ z) × (z <ℤ pos n)
 test_inside n z h = grind (arith, ints)
 
-both_parts : (a b : Bool) → (a && b) ≡ true → (a ≡ true) × (b ≡ true)
+pub both_parts : (a b : Bool) → (a && b) ≡ true → (a ≡ true) × (b ≡ true)
 both_parts true b e = (refl, e)
 both_parts false b e = cc
 
@@ -66,7 +66,7 @@ in_domain-inside p l c h =
     let y = test_inside (rows p l) c.y parts.1 in
     record { west = x.0; east = x.1; south = y.0; north = y.1 }
 
-parent_inside : (p : Problem) (l : ℕ) (c k : Cell) (i j : ℕ) → i ≤ 1 → j ≤ 1 → k.x ≡ c.x +ℤ c.x +ℤ pos i → k.y ≡ c.y +ℤ c.y +ℤ pos j → IsCellInside p (suc l) k → IsCellInside p l c
+pub parent_inside : (p : Problem) (l : ℕ) (c k : Cell) (i j : ℕ) → i ≤ 1 → j ≤ 1 → k.x ≡ c.x +ℤ c.x +ℤ pos i → k.y ≡ c.y +ℤ c.y +ℤ pos j → IsCellInside p (suc l) k → IsCellInside p l c
 parent_inside p l c k i j hi hj x y inside = record {
   west = omega (arith, ints, x, inside.west);
   east = omega (arith, ints, x, inside.east, twice_as_many p.nx l);
@@ -76,7 +76,7 @@ parent_inside p l c k i j hi hj x y inside = record {
 
 -- ---- past the end of a periodic axis
 
-lifted : (n : ℕ) (z : ℤ) → 0 < n → (m : ℕ) × (z +ℤ pos (unsigned_abs z * n) ≡ pos m)
+pub lifted : (n : ℕ) (z : ℤ) → 0 < n → (m : ℕ) × (z +ℤ pos (unsigned_abs z * n) ≡ pos m)
 lifted n (pos a) some = (a + a * n, omega (arith, ints))
 lifted n (negsuc a) some =
     let enough : suc a * 1 ≤ suc a * n = mul-le-mul_left (suc a) some in
@@ -99,7 +99,7 @@ wrapped_shift true n z w u some is =
 
 -- ---- a cell at most one away
 
-any_at : (f : Cell → Bool) (cs : List Cell) (i : ℕ) (d : Cell) → i < length cs → f (slice_index_or cs i d) ≡ true → list_any f cs ≡ true
+pub any_at : (f : Cell → Bool) (cs : List Cell) (i : ℕ) (d : Cell) → i < length cs → f (slice_index_or cs i d) ≡ true → list_any f cs ≡ true
 any_at f [] i d h e = absurd (omega arith)
 any_at f (c ∷ cs) zero d h e = rw e
 any_at f (c ∷ cs) (suc i) d h e = right (f c) (list_any f cs) (any_at f cs i d (omega arith) e)
@@ -138,23 +138,23 @@ module _ (p : Problem) (l : ℕ) where
       same_cell (wrapped_shift (is_periodic p.x_sides) (columns p l) x i u (power_positive p.nx l some.x) hu) (wrapped_shift (is_periodic p.y_sides) (rows p l) y j v (power_positive p.ny l some.y) hv)
 
 module _ (p : Problem) (l : ℕ) (k fine : Level) (klevel : IsLevel p l k) (flevel : IsLevel p (suc l) fine) (nested : IsNestedLevel p l k fine) where
-  all_even : (bs : List Extent) → ((j : ℕ) (e : Extent) → j < length bs → IsAligned p.blocking (slice_index_or bs j e)) → AllEven bs
+  pub all_even : (bs : List Extent) → ((j : ℕ) (e : Extent) → j < length bs → IsAligned p.blocking (slice_index_or bs j e)) → AllEven bs
   all_even [] h = tt
   all_even (b ∷ bs) h = (aligned_even p.blocking b p.limits.blocking_factor (h 0 b (omega arith)), all_even bs (λ j e i. h (suc j) e (omega arith)))
 
-  children : HasAllChildren fine.masses
+  pub children : HasAllChildren fine.masses
   children = all_children fine.boxes fine.masses (all_even fine.boxes nested.aligned) flevel.filled
 
-  covered_inside : (c : Cell) → is_covered fine.masses c ≡ true → IsCellInside p l c
+  pub covered_inside : (c : Cell) → is_covered fine.masses c ≡ true → IsCellInside p l c
   covered_inside c h =
       let there : in_boxes fine.boxes (child_0 c) ≡ true = sym (flevel.filled (child_0 c)) ∙ children.k0 c h in
       parent_inside p l c (child_0 c) 0 0 (omega arith) (omega arith) (sym (plus_none _)) (sym (plus_none _)) (in_domain-inside p (suc l) (child_0 c) (flevel.inside (child_0 c) there))
 
   -- a cell of the domain that is near a covered one is of the level
-  of_level : (c : Cell) → in_domain (domain p l) c ≡ true → is_near (domain p l) 1 (is_covered fine.masses) c ≡ true → IsSome (k.masses c)
+  pub of_level : (c : Cell) → in_domain (domain p l) c ≡ true → is_near (domain p l) 1 (is_covered fine.masses) c ≡ true → IsSome (k.masses c)
   of_level c inside near = klevel.filled c ∙ nested.around c inside near
 
-  covered_there : (c : Cell) → is_covered fine.masses c ≡ true → IsSome (k.masses c)
+  pub covered_there : (c : Cell) → is_covered fine.masses c ≡ true → IsSome (k.masses c)
   covered_there c h =
       let inside = covered_inside c h in
       let itself : home_cell (domain p l) (moved c (cell (pos 0) (pos 0))) ≡ c = ap (home_cell (domain p l)) (same_cell (plus_none c.x) (plus_none c.y)) ∙ home_at p l c inside in

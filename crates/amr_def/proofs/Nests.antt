@@ -26,29 +26,29 @@ half_and_odd (pos a) = omega (arith, ints)
 half_and_odd (negsuc a) = omega (arith, ints)
 
 -- a box from an even to an odd number has both numbers of a pair or none
-pair_low : (h z : ℤ) → int_le (h +ℤ h) (z +ℤ z) ≡ int_le (h +ℤ h) (z +ℤ z +ℤ pos 1)
+pub pair_low : (h z : ℤ) → int_le (h +ℤ h) (z +ℤ z) ≡ int_le (h +ℤ h) (z +ℤ z +ℤ pos 1)
 pair_low h z = grind (arith, ints)
 
-pair_high : (k z : ℤ) → int_le (z +ℤ z) (k +ℤ k +ℤ pos 1) ≡ int_le (z +ℤ z +ℤ pos 1) (k +ℤ k +ℤ pos 1)
+pub pair_high : (k z : ℤ) → int_le (z +ℤ z) (k +ℤ k +ℤ pos 1) ≡ int_le (z +ℤ z +ℤ pos 1) (k +ℤ k +ℤ pos 1)
 pair_high k z = grind (arith, ints)
 
-even_is : (z : ℤ) → odd z ≡ 0 → z ≡ half z +ℤ half z
+pub even_is : (z : ℤ) → odd z ≡ 0 → z ≡ half z +ℤ half z
 even_is z e = omega (arith, ints, half_and_odd z)
 
-odd_is : (z : ℤ) → odd z ≡ 1 → z ≡ half z +ℤ half z +ℤ pos 1
+pub odd_is : (z : ℤ) → odd z ≡ 1 → z ≡ half z +ℤ half z +ℤ pos 1
 odd_is z e = omega (arith, ints, half_and_odd z)
 
-pair_of : (lo hi h k z : ℤ) → lo ≡ h +ℤ h → hi ≡ k +ℤ k +ℤ pos 1 → within lo hi (z +ℤ z) ≡ within lo hi (z +ℤ z +ℤ pos 1)
+pub pair_of : (lo hi h k z : ℤ) → lo ≡ h +ℤ h → hi ≡ k +ℤ k +ℤ pos 1 → within lo hi (z +ℤ z) ≡ within lo hi (z +ℤ z +ℤ pos 1)
 pair_of lo hi h k z e o =
     rw (e, o) (ap (λ (t : Bool). t && int_le (z +ℤ z) (k +ℤ k +ℤ pos 1)) (pair_low h z) ∙ ap (λ (t : Bool). int_le (h +ℤ h) (z +ℤ z +ℤ pos 1) && t) (pair_high k z))
 
-pair_within : (lo hi z : ℤ) → odd lo ≡ 0 → odd hi ≡ 1 → within lo hi (z +ℤ z) ≡ within lo hi (z +ℤ z +ℤ pos 1)
+pub pair_within : (lo hi z : ℤ) → odd lo ≡ 0 → odd hi ≡ 1 → within lo hi (z +ℤ z) ≡ within lo hi (z +ℤ z +ℤ pos 1)
 pair_within lo hi z e o = pair_of lo hi (half lo) (half hi) z (even_is lo e) (odd_is hi o)
 
 abbrev pub IsEven : Extent → Type 0
 IsEven b = (odd b.lo.x ≡ 0) × (odd b.lo.y ≡ 0) × (odd b.hi.x ≡ 1) × (odd b.hi.y ≡ 1)
 
-children_alike : (b : Extent) (c : Cell) → IsEven b → (holds b (child_1 c) ≡ holds b (child_0 c)) × (holds b (child_2 c) ≡ holds b (child_0 c)) × (holds b (child_3 c) ≡ holds b (child_0 c))
+pub children_alike : (b : Extent) (c : Cell) → IsEven b → (holds b (child_1 c) ≡ holds b (child_0 c)) × (holds b (child_2 c) ≡ holds b (child_0 c)) × (holds b (child_3 c) ≡ holds b (child_0 c))
 children_alike b c e =
     let x = pair_within b.lo.x b.hi.x c.x e.0 e.2 in
     let y = pair_within b.lo.y b.hi.y c.y e.1 e.3 in (
@@ -61,10 +61,10 @@ abbrev pub AllEven : List Extent → Type 0
 AllEven [] = Unit {0}
 AllEven (b ∷ bs) = IsEven b × AllEven bs
 
-or_same : {a a' b b' : Bool} → a ≡ a' → b ≡ b' → (a || b) ≡ (a' || b')
+pub or_same : {a a' b b' : Bool} → a ≡ a' → b ≡ b' → (a || b) ≡ (a' || b')
 or_same e f i = e i || f i
 
-boxes_alike : (bs : List Extent) (c : Cell) → AllEven bs → (in_boxes bs (child_1 c) ≡ in_boxes bs (child_0 c)) × (in_boxes bs (child_2 c) ≡ in_boxes bs (child_0 c)) × (in_boxes bs (child_3 c) ≡ in_boxes bs (child_0 c))
+pub boxes_alike : (bs : List Extent) (c : Cell) → AllEven bs → (in_boxes bs (child_1 c) ≡ in_boxes bs (child_0 c)) × (in_boxes bs (child_2 c) ≡ in_boxes bs (child_0 c)) × (in_boxes bs (child_3 c) ≡ in_boxes bs (child_0 c))
 boxes_alike [] c e = (refl, refl, refl)
 boxes_alike (b ∷ bs) c e =
     let one = children_alike b c e.0 in

@@ -24,18 +24,18 @@ use Rattle.amr_def.proofs.SoundStep.{step-sound}
 
 -- ---- the start before any regrid
 
-both_parts : (a b : Bool) → (a && b) ≡ true → (a ≡ true) × (b ≡ true)
+pub both_parts : (a b : Bool) → (a && b) ≡ true → (a ≡ true) × (b ≡ true)
 both_parts true b e = (refl, e)
 both_parts false b e = cc
 
-and_true : (a b : Bool) → a ≡ true → b ≡ true → (a && b) ≡ true
+pub and_true : (a b : Bool) → a ≡ true → b ≡ true → (a && b) ≡ true
 and_true a b e f = rw (e, f)
 
-or_nothing : (b : Bool) → (b || false) ≡ b
+pub or_nothing : (b : Bool) → (b || false) ≡ b
 or_nothing true = refl
 or_nothing false = refl
 
-axis_inside : (n : ℕ) (z : ℤ) → within (pos 0) (pos n -ℤ pos 1) z ≡ true → is_inside n z ≡ true
+pub axis_inside : (n : ℕ) (z : ℤ) → within (pos 0) (pos n -ℤ pos 1) z ≡ true → is_inside n z ≡ true
 axis_inside n z h =
     let parts = both_parts (int_le (pos 0) z) (int_le z (pos n -ℤ pos 1)) h in
     and_true (int_le (pos 0) z) (int_lt z (pos n)) parts.0 (below z n parts.1)
@@ -43,45 +43,45 @@ axis_inside n z h =
     below : (z : ℤ) (n : ℕ) → int_le z (pos n -ℤ pos 1) ≡ true → int_lt z (pos n) ≡ true
     below z n h = grind (arith, ints)
 
-box_inside : (p : Problem) (l : ℕ) (c : Cell) → holds (domain_box (domain p l)) c ≡ true → in_domain (domain p l) c ≡ true
+pub box_inside : (p : Problem) (l : ℕ) (c : Cell) → holds (domain_box (domain p l)) c ≡ true → in_domain (domain p l) c ≡ true
 unfolding in_domain
 box_inside p l c h =
     let parts = both_parts _ _ h in
     and_true (is_inside (columns p l) c.x) (is_inside (rows p l) c.y) (axis_inside (columns p l) c.x parts.0) (axis_inside (rows p l) c.y parts.1)
 
-is_some-given : (t : Bool) (m : ℕ) → is_some (cond t (Some m) None) ≡ (t || false)
+pub is_some-given : (t : Bool) (m : ℕ) → is_some (cond t (Some m) None) ≡ (t || false)
 is_some-given true m = refl
 is_some-given false m = refl
 
-base_is_level : (p : Problem) → IsLevel p 0 (base_level p)
+pub base_is_level : (p : Problem) → IsLevel p 0 (base_level p)
 base_is_level p = record {
   disjoint = λ i j d lower fits. absurd (omega arith);
   inside = λ c h. box_inside p 0 c (sym (or_nothing (holds (domain_box (domain p 0)) c)) ∙ h);
   filled = λ c. is_some-given (holds (domain_box (domain p 0)) c) (block_mass p.blocks c);
 }
 
-cond_within : (t : Bool) (x y b : ℕ) → x ≤ b → y ≤ b → cond t x y ≤ b
+pub cond_within : (t : Bool) (x y b : ℕ) → x ≤ b → y ≤ b → cond t x y ≤ b
 cond_within true x y b h k = h
 cond_within false x y b h k = k
 
-mass_within : (m : ℕ) → nat_le m (2 ^ 30) ≡ true → m ≤ 2 ^ 30
+pub mass_within : (m : ℕ) → nat_le m (2 ^ 30) ≡ true → m ≤ 2 ^ 30
 mass_within m h = grind (arith, nat_tests)
 
-fold_within : (nx ny : ℕ) (bs : List Block) (c : Cell) (m : ℕ) → list_all (is_block nx ny) bs ≡ true → m ≤ 2 ^ 30 → fold (λ m b. cond (holds (block_extent b) c) b.mass m) m bs ≤ 2 ^ 30
+pub fold_within : (nx ny : ℕ) (bs : List Block) (c : Cell) (m : ℕ) → list_all (is_block nx ny) bs ≡ true → m ≤ 2 ^ 30 → fold (λ m b. cond (holds (block_extent b) c) b.mass m) m bs ≤ 2 ^ 30
 fold_within nx ny [] c m h k = k
 fold_within nx ny (b ∷ bs) c m h k =
     let parts = both_parts (is_block nx ny b) (list_all (is_block nx ny) bs) h in
     let small : b.mass ≤ 2 ^ 30 = mass_within b.mass (both_parts _ _ parts.0).1 in
     fold_within nx ny bs c (cond (holds (block_extent b) c) b.mass m) parts.1 (cond_within (holds (block_extent b) c) b.mass m (2 ^ 30) small k)
 
-given_within : (t : Bool) (m b : ℕ) → m ≤ b → unwrap_or (cond t (Some m) None) 0 ≤ b
+pub given_within : (t : Bool) (m b : ℕ) → m ≤ b → unwrap_or (cond t (Some m) None) 0 ≤ b
 given_within true m b h = h
 given_within false m b h = omega arith
 
-base_within : (p : Problem) (c : Cell) → mass_of (base_level p).masses c ≤ 2 ^ 30
+pub base_within : (p : Problem) (c : Cell) → mass_of (base_level p).masses c ≤ 2 ^ 30
 base_within p c = given_within (holds (domain_box (domain p 0)) c) (block_mass p.blocks c) (2 ^ 30) (fold_within p.nx p.ny p.blocks c 0 p.limits.blocks_inside (omega arith))
 
-base_bounded : (p : Problem) (l : ℕ) (c : Cell) → 4 ^ l * mass_of (level_at (plain_start p) l).masses c ≤ 2 ^ 30 + growth p.max_level * (0 + 1)
+pub base_bounded : (p : Problem) (l : ℕ) (c : Cell) → 4 ^ l * mass_of (level_at (plain_start p) l).masses c ≤ 2 ^ 30 + growth p.max_level * (0 + 1)
 base_bounded p zero c = omega (arith, base_within p c)
 base_bounded p (suc l) c = nothing (4 ^ suc l) (2 ^ 30 + growth p.max_level * (0 + 1))
   where
@@ -106,7 +106,7 @@ plain_start-sound p = record {
 
 -- ---- runs, where regrids keep states sound
 
-regrid_step : (p : Problem) (s : State) → (regrid p s).step ≡ s.step
+pub regrid_step : (p : Problem) (s : State) → (regrid p s).step ≡ s.step
 unfolding regrid
 regrid_step p s = refl
 
@@ -144,7 +144,7 @@ module _ (p : Problem) (keeps : RegridKeeps p) where
 
 -- ---- one level
 
-alone : (p : Problem) (n : ℕ) (rs : List Row) (ks : List Level) → p.max_level ≡ 0 → length ks ≤ 1 → regrid p (record { step = n; rows = rs; levels = ks }) ≡ record { step = n; rows = rs; levels = ks }
+pub alone : (p : Problem) (n : ℕ) (rs : List Row) (ks : List Level) → p.max_level ≡ 0 → length ks ≤ 1 → regrid p (record { step = n; rows = rs; levels = ks }) ≡ record { step = n; rows = rs; levels = ks }
 unfolding regrid refill new_boxes
 alone p n rs [] e h = refl
 alone p n rs (k ∷ []) e h =

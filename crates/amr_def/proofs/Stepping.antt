@@ -69,10 +69,10 @@ first_kept k ks (m ∷ ms) = refl
 
 -- ---- level 0 has each cell of the domain
 
-inside_box : (n x : ℕ) → x < n → (int_le (pos 0) (pos x) && int_le (pos x) (pos n -ℤ pos 1)) ≡ true
+pub inside_box : (n x : ℕ) → x < n → (int_le (pos 0) (pos x) && int_le (pos x) (pos n -ℤ pos 1)) ≡ true
 inside_box n x h = grind (arith, ints)
 
-both_hold : (a b : Bool) → a ≡ true → b ≡ true → ((a && b) || false) ≡ true
+pub both_hold : (a b : Bool) → a ≡ true → b ≡ true → ((a && b) || false) ≡ true
 both_hold a b e f = rw (e, f)
 
 pub whole : (p : Problem) (k : Level) → IsLevel p 0 k → k.boxes ≡ domain_box (domain p 0) ∷ [] → IsWhole p k.masses
@@ -83,15 +83,15 @@ whole p k level base = record {
 
 -- ---- bounds
 
-low_within : (s : Sides) → has_inflows s ≡ true → low_inflow s ≤ 2 ^ 30
+pub low_within : (s : Sides) → has_inflows s ≡ true → low_inflow s ≤ 2 ^ 30
 low_within Periodic h = omega arith
 low_within (Open low high) h = grind (arith, nat_tests)
 
-high_within : (s : Sides) → has_inflows s ≡ true → high_inflow s ≤ 2 ^ 30
+pub high_within : (s : Sides) → has_inflows s ≡ true → high_inflow s ≤ 2 ^ 30
 high_within Periodic h = omega arith
 high_within (Open low high) h = grind (arith, nat_tests)
 
-cond_within : (t : Bool) (x y b : ℕ) → x ≤ b → y ≤ b → cond t x y ≤ b
+pub cond_within : (t : Bool) (x y b : ℕ) → x ≤ b → y ≤ b → cond t x y ≤ b
 cond_within true x y b h k = h
 cond_within false x y b h k = k
 
@@ -113,7 +113,7 @@ all_up l (k ∷ ks) b h = (
   all_up (suc l) ks b (λ j c. let e : l + suc j ≡ suc l + j = omega arith in subst (λ i. 4 ^ i * mass_of (nth ks j).masses c ≤ b) e (h (suc j) c)),
 )
 
-nothing_up : (w b : ℕ) → w * 0 ≤ b
+pub nothing_up : (w b : ℕ) → w * 0 ≤ b
 nothing_up w b = omega arith
 
 pub up_at : (l : ℕ) (ks : List Level) (ms : List Masses) (b : ℕ) → AllUpTo l ms b → (j : ℕ) (c : Cell) → 4 ^ (l + j) * mass_of (nth (with_masses ks ms) j).masses c ≤ b
@@ -124,10 +124,10 @@ up_at l (k ∷ ks) (m ∷ ms) b u (suc j) c = let e : suc l + j ≡ l + suc j = 
 
 -- ---- a step raises masses by no more than the bound grows
 
-growth_least : (m : ℕ) → 2048 ≤ growth m
+pub growth_least : (m : ℕ) → 2048 ≤ growth m
 growth_least m = grind (arith, nat_tests)
 
-growth_greatest : (m : ℕ) → 3 ≤ m → 131072 ≤ growth m
+pub growth_greatest : (m : ℕ) → 3 ≤ m → 131072 ≤ growth m
 growth_greatest m h = grind (arith, nat_tests)
 
 pub rise_within : (n m : ℕ) → n ≤ m + 1 → m ≤ 4 → rise n 0 ≤ growth m
