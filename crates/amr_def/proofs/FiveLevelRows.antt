@@ -1,21 +1,16 @@
 -- A worked row of five levels.
-use Rattle.std.proofs.Common.{◌≡◌, ◌+◌, ℕ, ℤ, pos, negsuc, refl, List, [], ◌∷◌, map, true}
+use Rattle.std.proofs.Common.{◌≡◌, refl}
 use Rattle.std.specs.Prelude.{codes}
 use Rattle.std.specs.Fmt.{digits}
-use Rattle.amr_box.specs.declared.Axis.TheVariants.{X, Y}
-use Rattle.amr_def.specs.Domain.{Domain, domain, in_domain, cells_where}
-use Rattle.amr_def.specs.State.{State, is_covered, no_masses}
+use Rattle.amr_def.specs.Domain.{in_domain}
 use Rattle.amr_def.specs.Value.{value_at, inflow_at}
-use Rattle.amr_def.specs.Flux.{face, updated, net, flux_at, courant}
-use Rattle.amr_def.specs.LevelStep.{step, step_within, at_top, over_finer, effective}
-use Rattle.amr_def.specs.Ledger.{total_mass, inflow, outflow}
-use Rattle.amr_def.specs.Tags.{is_tagged, is_tagged_by}
-use Rattle.amr_def.specs.Signature.{signature}
+use Rattle.amr_def.specs.Ledger.{total_mass}
+use Rattle.amr_def.specs.Tags.{is_tagged_by}
 use Rattle.amr_def.specs.Cut.{best_cut}
 use Rattle.amr_def.specs.Cluster.{cluster, cluster_within}
-use Rattle.amr_def.specs.NewBoxes.{new_boxes, is_projected}
-use Rattle.amr_def.specs.Regrid.{regrid, refill, share}
-use Rattle.amr_def.specs.Run.{plain_start, run, start, finish, stepped, next}
+use Rattle.amr_def.specs.NewBoxes.{new_boxes}
+use Rattle.amr_def.specs.Regrid.{regrid, refill}
+use Rattle.amr_def.specs.Run.{run, start, finish}
 use Rattle.amr_def.specs.Plot.{plot, head_text, ledger_line, level_text, level_line, box_text, box_line, mass_line}
 use Rattle.amr_def.proofs.Examples.{five_levels}
 
