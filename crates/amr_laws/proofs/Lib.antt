@@ -1,0 +1,10 @@
+pub mod Blocks
+pub mod CellSets
+pub mod NewLevels
+pub mod Coverage
+pub mod Refill
+pub mod RefillAll
+pub mod SoundRegrid
+pub mod Held
+pub mod Steps
+pub mod Kept

@@ -1,0 +1,111 @@
+-- Laws of states with any number of levels, each of which a call of this crate ensures.
+use Rattle.std.specs.Prelude.{◌≡◌, ℕ, suc, ◌+◌, ◌*◌, ◌/◌, ◌<◌, ◌≤◌, ℤ, pos, ◌+ℤ◌, ◌-ℤ◌, ◌≤ℤ◌, neg_ℤ, List, ◌∷◌, unsigned_abs, IsTrue, IsFalse, IsSome}
+use Rattle.std.specs.List.{list_any, AllPairs}
+use Rattle.std.specs.Ordering.{eq_by_cmp}
+use Rattle.amr_box.specs.declared.Cell.{Cell}
+use Rattle.amr_box.specs.declared.Face.{Face}
+use Rattle.amr_box.specs.declared.Axis.{Axis}
+use Rattle.amr_box.specs.declared.Axis.TheVariants.{X, Y}
+use Rattle.amr_box.specs.Cells.{cell_cmp, holds}
+use Rattle.amr_def.specs.declared.problem.Problem.{Problem}
+use Rattle.amr_def.specs.Domain.{domain, home_cell}
+use Rattle.amr_def.specs.State.{Masses, Level, State, level_at, in_boxes, is_covered, mass_of}
+use Rattle.amr_def.specs.Flux.{Fluxes, face, low_cell, high_cell, courant, flow, flux_at, net}
+use Rattle.amr_def.specs.LevelStep.{effective, Stepped, step}
+use Rattle.amr_def.specs.Ledger.{first_of}
+use Rattle.amr_def.specs.Cluster.{cluster}
+use Rattle.amr_def.specs.Regrid.{share, regrid}
+use Rattle.amr_def.specs.Run.{start, next, finish, run}
+use Rattle.amr_def.specs.Facts.{IsSound, IsHeld}
+use Rattle.amr_laws.specs.Levels.{AreLevels, masses_of}
+
+-- ---- runs
+
+abbrev pub StartIsSound : Type 0
+StartIsSound = (p : Problem) → IsSound p (start p)
+
+abbrev pub RegridKeepsSound : Type 0
+RegridKeepsSound = (p : Problem) (s : State) → IsSound p s → IsSound p (regrid p s)
+
+-- each tagged cell of a level below the greatest is covered after the regrid
+abbrev pub RegridHoldsTags : Type 0
+RegridHoldsTags = (p : Problem) (s : State) → IsSound p s → IsHeld p s (regrid p s)
+
+-- the regrid that is due and the step after it
+abbrev pub NextIsSound : Type 0
+NextIsSound = (p : Problem) (s : State) → IsSound p s → s.step < p.steps → IsSound p (next p s)
+
+abbrev pub FinishIsSound : Type 0
+FinishIsSound = (p : Problem) (s : State) (k : ℕ) → IsSound p s → k ≤ p.steps → IsSound p (finish p s k)
+
+abbrev pub RunIsSound : Type 0
+RunIsSound = (p : Problem) (k : ℕ) → k ≤ p.steps → IsSound p (run p k)
+
+-- ---- a regrid's masses
+
+-- a cell that is of a level before and after keeps its mass
+abbrev pub RegridKeepsMasses : Type 0
+RegridKeepsMasses = (p : Problem) (s : State) (l : ℕ) (c : Cell) → IsSome ((level_at s l).masses c) → IsSome ((level_at (regrid p s) l).masses c)
+    → mass_of (level_at (regrid p s) l).masses c ≡ mass_of (level_at s l).masses c
+
+-- what the four children of a cell get is its mass
+abbrev pub SharesAddUp : Type 0
+SharesAddUp = (m : ℕ) → share m 0 + share m 1 + share m 2 + share m 3 ≡ m
+
+-- ---- a step
+
+-- in every step of a level, its second finer one too, no mass falls below 0: as whole numbers the new
+-- mass of a cell of the coarsest level is the old one and the net inflow. Each finer level is the
+-- coarsest one of its own two steps, with `old` the masses of the level below before its step.
+abbrev pub LevelStepIsExact : Type 0
+LevelStepIsExact = (p : Problem) (l : ℕ) (ks : List Level) (k : Level) (old : Masses) (c : Cell) → AreLevels p l (k ∷ ks) → IsSome (k.masses c)
+    → let r : Stepped = step p l (k.masses ∷ masses_of ks) old in pos (mass_of (first_of r.levels) c) ≡ pos (mass_of k.masses c) +ℤ net r.fluxes c
+
+-- the child faces of a face
+abbrev pub first_child_face : Face → Face
+first_child_face f = face f.axis (f.x +ℤ f.x) (f.y +ℤ f.y)
+
+abbrev pub second_child : Axis → ℤ → ℤ → Face
+second_child X x y = face X (x +ℤ x) (y +ℤ y +ℤ pos 1)
+second_child Y x y = face Y (x +ℤ x +ℤ pos 1) (y +ℤ y)
+
+abbrev pub second_child_face : Face → Face
+second_child_face f = second_child f.axis f.x f.y
+
+-- what flows through both child faces in two steps, from cells of these values
+abbrev pub four_fluxes : Problem → ℕ → Face → (ℕ → ℕ × ℕ) → ℤ
+four_fluxes p l f sides =
+    let first = courant p (suc l) (first_child_face f) in
+    let second = courant p (suc l) (second_child_face f) in
+    (flow first p.d (sides 0).0 (sides 0).1 +ℤ flow second p.d (sides 1).0 (sides 1).1) +ℤ (flow first p.d (sides 2).0 (sides 2).1 +ℤ flow second p.d (sides 3).0 (sides 3).1)
+
+-- the share of a mass that may flow through a face of its cell
+abbrev pub face_share : Problem → ℕ → Face → ℕ → ℕ
+face_share p l f m = unsigned_abs (courant p l f) * m / p.d
+
+-- four fluxes, over both finer steps, out of ghost cells of a quarter of a coarse mass through the child
+-- faces of one face are at most the coarse cell's share at that face
+abbrev pub FourFluxesAreWithinShare : Type 0
+FourFluxesAreWithinShare = (p : Problem) (l : ℕ) (f : Face) (m : ℕ) (other : ℕ → ℕ)
+    → (four_fluxes p l f (λ i. (m / 4, other i)) ≤ℤ pos (face_share p l f m)) × (neg_ℤ (pos (face_share p l f m)) ≤ℤ four_fluxes p l f (λ i. (other i, m / 4)))
+
+-- what a flux register does: a step with plain fluxes, and then at each cell the effective fluxes of its
+-- faces less the plain ones, is the step with the effective fluxes
+abbrev pub RefluxIsEffectiveStep : Type 0
+RefluxIsEffectiveStep = (p : Problem) (l : ℕ) (m old fine : Masses) (e1 e2 : Fluxes) (c : Cell)
+    → (pos (mass_of m c) +ℤ net (flux_at p l m old) c) +ℤ net (λ f. effective p l m old fine e1 e2 f -ℤ flux_at p l m old f) c ≡ pos (mass_of m c) +ℤ net (effective p l m old fine e1 e2) c
+
+-- and away from covered cells there is nothing to correct
+abbrev pub RegistersLieBesideCovered : Type 0
+RegistersLieBesideCovered = (p : Problem) (l : ℕ) (m old fine : Masses) (e1 e2 : Fluxes) (f : Face) → IsFalse (is_covered fine (home_cell (domain p l) (low_cell f))) → IsFalse (is_covered fine (home_cell (domain p l) (high_cell f)))
+    → effective p l m old fine e1 e2 f ≡ flux_at p l m old f
+
+-- ---- clusters
+
+-- the boxes of a set hold each of its cells
+abbrev pub ClustersCover : Type 0
+ClustersCover = (efficiency w : ℕ) (cs : List Cell) (q : Cell) → IsTrue (list_any (eq_by_cmp cell_cmp q) cs) → IsTrue (in_boxes (cluster efficiency w cs) q)
+
+-- and no two of them have a cell in common
+abbrev pub ClustersAreDisjoint : Type 0
+ClustersAreDisjoint = (efficiency w : ℕ) (cs : List Cell) → AllPairs (λ a b. (c : Cell) → IsTrue (holds a c) → IsTrue (holds b c) → ⊥) (cluster efficiency w cs)

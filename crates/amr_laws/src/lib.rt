@@ -1,0 +1,79 @@
+//! Laws of the definitions of `amr_def`, for every problem and any number of levels. Each call has an
+//! empty body, and what it ensures is the law.
+#![tactic(auto)]
+
+ghost use Rattle.amr_laws.specs.Laws.{ClustersAreDisjoint, ClustersCover, FinishIsSound, FourFluxesAreWithinShare, LevelStepIsExact, NextIsSound, RefluxIsEffectiveStep, RegistersLieBesideCovered, RegridHoldsTags, RegridKeepsMasses, RegridKeepsSound, RunIsSound, SharesAddUp, StartIsSound};
+
+/// The start of a run is sound: nested, synced, bounded and telescoped.
+pub fn start_is_sound()
+    ensures { StartIsSound }
+{}
+
+/// A regrid of a sound state gives a sound state: its new boxes are disjoint, in the domain, aligned to
+/// the blocking factor and nested, covered cells stay the sums of their children, and masses stay within
+/// their bound.
+pub fn regrid_keeps_sound()
+    ensures { RegridKeepsSound }
+{}
+
+/// After a regrid each cell that was tagged is covered, but those of the greatest level.
+pub fn regrid_holds_tags()
+    ensures { RegridHoldsTags }
+{}
+
+/// A cell that is of a level before and after a regrid keeps its mass.
+pub fn regrid_keeps_masses()
+    ensures { RegridKeepsMasses }
+{}
+
+/// The shares of the four children of a cell add up to its mass.
+pub fn shares_add_up()
+    ensures { SharesAddUp }
+{}
+
+/// From a sound state below the last step the regrid that is due and one step give a sound state.
+pub fn next_is_sound()
+    ensures { NextIsSound }
+{}
+
+/// A sound state is finished to a sound state.
+pub fn finish_is_sound()
+    ensures { FinishIsSound }
+{}
+
+/// Each state of a run is sound.
+pub fn run_is_sound()
+    ensures { RunIsSound }
+{}
+
+/// In a step of a level and of those finer than it no mass falls below 0: as whole numbers the new mass
+/// is the old one and the net inflow.
+pub fn level_step_is_exact()
+    ensures { LevelStepIsExact }
+{}
+
+/// Four fluxes out of ghost cells of a quarter of a coarse mass, through the child faces of one face and
+/// over both finer steps, are at most the coarse cell's share at that face.
+pub fn four_fluxes_are_within_share()
+    ensures { FourFluxesAreWithinShare }
+{}
+
+/// A step with plain fluxes and then a correction by flux registers is the step with effective fluxes.
+pub fn reflux_is_effective_step()
+    ensures { RefluxIsEffectiveStep }
+{}
+
+/// A flux register has nothing to correct at a face with no covered cell beside it.
+pub fn registers_lie_beside_covered()
+    ensures { RegistersLieBesideCovered }
+{}
+
+/// The boxes of a cluster hold each cell of its set.
+pub fn clusters_cover()
+    ensures { ClustersCover }
+{}
+
+/// No two boxes of a cluster have a cell in common.
+pub fn clusters_are_disjoint()
+    ensures { ClustersAreDisjoint }
+{}
