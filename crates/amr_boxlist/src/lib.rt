@@ -1,0 +1,96 @@
+//! Lists of boxes that have no cell in common, seen as the sets of their cells, after BoxLib's `BoxList`.
+#![tactic(auto)]
+
+ghost use Rattle.std.specs.Prelude.{◌≡◌, ◌≤◌, false, ◌&&◌, not, List, [], ◌∷◌, ◌++◌, OnOk, OnErr, IsTrue, ◌↔◌};
+ghost use Rattle.std.specs.List.{flat_map};
+ghost use Rattle.amr_box.specs.Cells.{holds};
+ghost use Rattle.amr_box.specs.declared.Cell.{Cell};
+ghost use Rattle.amr_boxlist.specs.Lists.{AreApart, in_boxes};
+ghost use Rattle.amr_boxlist.specs.Chopped.{chopped};
+
+mod chopping;
+mod outside;
+
+use amr_box::Bx;
+use amr_causes::NoMemory;
+use std::alloc::Global;
+use std::marker::Model;
+
+/// A list of boxes of which no two have a cell in common. Contracts see it as the list of its boxes, in order.
+#[derive(Drop)]
+pub struct BoxList {
+    boxes: Vec<Bx>,
+}
+
+impl Model for BoxList {
+    ghost use Rattle.std.specs.Prelude.{List};
+    ghost use Rattle.amr_box.specs.Cells.{Extent};
+
+    ghost Value = { List Extent };
+
+    ghost use Rattle.amr_boxlist.specs.Lists.{AreApart};
+
+    ghost view = { λ l. l.boxes.items };
+
+    ghost invariant = { λ l. AreApart l.boxes.items };
+}
+
+impl BoxList {
+    /// No boxes. Nothing is allocated yet.
+    pub fn make(alloc: Global) -> BoxList
+        ensures { result ≡ [] }
+    {
+        let boxes = Vec::new(alloc);
+        BoxList { boxes }
+    }
+
+    /// The boxes, in order.
+    pub fn list(&self) -> &[Bx]
+        ensures boxes { result.now ≡ self.now }
+        ensures apart { AreApart self.now }
+    {
+        self.boxes.as_slice()
+    }
+
+    /// Adds a box last; it has no cell in common with those that are there. After `NoMemory` the list is as before.
+    pub fn push_disjoint(&mut self, b: Bx) -> Result<(), NoMemory>
+        requires { (c : Cell) → (in_boxes self.old c && holds b c) ≡ false }
+        ensures ok { OnOk result (self.new ≡ self.old ++ b ∷ []) }
+        ensures err { OnErr result (self.new ≡ self.old) }
+    {
+        self.boxes.push(b)?;
+        Ok(())
+    }
+
+    /// Takes the cells of a box away: each box of the list gives way to the at most four boxes that are left of it.
+    /// After `NoMemory` the list is as before.
+    pub fn minus(&mut self, b: Bx) -> Result<(), NoMemory>
+        ensures cells { OnOk result ((c : Cell) → in_boxes self.new c ≡ (in_boxes self.old c && not (holds b c))) }
+        ensures apart { AreApart self.new }
+        ensures err { OnErr result (self.new ≡ self.old) }
+    {
+        let alloc = *self.boxes.allocator();
+        let left = outside::without(alloc, self.boxes.as_slice(), &b)?;
+        self.boxes = left;
+        Ok(())
+    }
+
+    /// Chops each box, from its low corner, into pieces of `max` by `max` cells, the last ones shorter, rows of pieces
+    /// from the low row, within a row from the low column (BoxLib's `maxSize`). The cells stay the same. After
+    /// `NoMemory` the list is as before.
+    pub fn chop(&mut self, max: u32) -> Result<(), NoMemory>
+        requires { 1 ≤ max }
+        ensures pieces { OnOk result (self.new ≡ flat_map (chopped max) self.old) }
+        ensures cells { OnOk result ((c : Cell) → in_boxes self.new c ≡ in_boxes self.old c) }
+        ensures apart { AreApart self.new }
+        ensures err { OnErr result (self.new ≡ self.old) }
+    {
+        let alloc = *self.boxes.allocator();
+        let pieces = chopping::chop_all(alloc, self.boxes.as_slice(), max)?;
+        self.boxes = pieces;
+        Ok(())
+    }
+}
+
+#[cfg(test)]
+mod tests;

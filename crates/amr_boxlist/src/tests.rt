@@ -1,0 +1,52 @@
+use super::*;
+use amr_box::Cell;
+
+fn cell(x: i32, y: i32) -> Cell {
+    Cell { x, y }
+}
+
+/// A list of the one box from (0, 0) to a corner, or of none.
+fn one_box(alloc: Global, hi: Cell) -> Result<BoxList, NoMemory> {
+    let mut list = BoxList::make(alloc);
+    if let Some(b) = Bx::try_new(cell(0, 0), hi) {
+        list.push_disjoint(b)?;
+    }
+    Ok(list)
+}
+
+/// How many boxes of the list hold a cell.
+fn holders(list: &BoxList, c: Cell) -> usize {
+    list.list().iter().filter(|b| b.holds(c)).count()
+}
+
+#[test]
+fn a_box_is_chopped_from_its_low_corner(rt: HostRuntime) -> Result<(), NoMemory> {
+    let mut list = one_box(rt.alloc(), cell(9, 3))?;
+    list.chop(4)?;
+    let corners = [
+        (cell(0, 0), cell(3, 3)),
+        (cell(4, 0), cell(7, 3)),
+        (cell(8, 0), cell(9, 3)),
+    ];
+    assert_eq!(rt; list.list().len(), corners.len());
+    for (b, wanted) in list.list().iter().zip(corners.iter()) {
+        assert_eq!(rt; (b.lo(), b.hi()), *wanted);
+    }
+    Ok(())
+}
+
+#[test]
+fn a_hole_leaves_the_twelve_cells_round_it(rt: HostRuntime) -> Result<(), NoMemory> {
+    let mut list = one_box(rt.alloc(), cell(3, 3))?;
+    if let Some(hole) = Bx::try_new(cell(1, 1), cell(2, 2)) {
+        list.minus(hole)?;
+    }
+    assert_eq!(rt; list.list().len(), 4);
+    for y in 0..4 {
+        for x in 0..4 {
+            let in_hole = (x == 1 || x == 2) && (y == 1 || y == 2);
+            assert_eq!(rt; holders(&list, cell(x, y)), if in_hole { 0 } else { 1 });
+        }
+    }
+    Ok(())
+}
