@@ -8,3 +8,6 @@ pub mod SoundRegrid
 pub mod Held
 pub mod Steps
 pub mod Kept
+pub mod RunRows
+pub mod Cuts
+pub mod Efficient

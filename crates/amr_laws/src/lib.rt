@@ -2,7 +2,7 @@
 //! empty body, and what it ensures is the law.
 #![tactic(auto)]
 
-ghost use Rattle.amr_laws.specs.Laws.{ClustersAreDisjoint, ClustersCover, FinishIsSound, FourFluxesAreWithinShare, LevelStepIsExact, NextIsSound, RefluxIsEffectiveStep, RegistersLieBesideCovered, RegridHoldsTags, RegridKeepsMasses, RegridKeepsSound, RunIsSound, SharesAddUp, StartIsSound};
+ghost use Rattle.amr_laws.specs.Laws.{ClustersAreDisjoint, ClustersAreEfficientOrUncut, ClustersCover, FinishIsSound, FourFluxesAreWithinShare, LevelStepIsExact, NextIsSound, RefluxIsEffectiveStep, RegistersLieBesideCovered, RegridHoldsTags, RegridKeepsMasses, RegridKeepsSound, RunIsSound, SharesAddUp, StartIsSound};
 
 /// The start of a run is sound: nested, synced, bounded and telescoped.
 pub fn start_is_sound()
@@ -76,4 +76,9 @@ pub fn clusters_cover()
 /// No two boxes of a cluster have a cell in common.
 pub fn clusters_are_disjoint()
     ensures { ClustersAreDisjoint }
+{}
+
+/// Each box of a cluster is efficient, or its signatures have no cut.
+pub fn clusters_are_efficient_or_uncut()
+    ensures { ClustersAreEfficientOrUncut }
 {}
