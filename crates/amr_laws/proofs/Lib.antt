@@ -11,3 +11,4 @@ pub mod Kept
 pub mod RunRows
 pub mod Cuts
 pub mod Efficient
+pub mod GridSize

@@ -20,6 +20,8 @@ use Rattle.amr_def.specs.Cluster.{cluster}
 use Rattle.amr_def.specs.Regrid.{share, regrid}
 use Rattle.amr_def.specs.Run.{start, next, finish, run}
 use Rattle.amr_def.specs.Facts.{IsSound, IsHeld}
+use Rattle.amr_def.specs.Plot.{plot}
+use Rattle.amr_laws.specs.GridSize.{AreLimits, with_grid_size}
 use Rattle.amr_laws.specs.Levels.{AreLevels, masses_of}
 
 -- ---- runs
@@ -43,6 +45,14 @@ FinishIsSound = (p : Problem) (s : State) (k : ℕ) → IsSound p s → k ≤ p.
 
 abbrev pub RunIsSound : Type 0
 RunIsSound = (p : Problem) (k : ℕ) → k ≤ p.steps → IsSound p (run p k)
+
+-- problems that differ in the greatest size of a patch alone have the same runs
+abbrev pub RunIgnoresGridSize : Type 0
+RunIgnoresGridSize = (p : Problem) (n : ℕ) (limits : AreLimits p n) (k : ℕ) → run (with_grid_size p n limits) k ≡ run p k
+
+-- and the same plots
+abbrev pub PlotIgnoresGridSize : Type 0
+PlotIgnoresGridSize = (p : Problem) (n : ℕ) (limits : AreLimits p n) (s : State) → plot (with_grid_size p n limits) s ≡ plot p s
 
 -- ---- a regrid's masses
 

@@ -1,2 +1,3 @@
+pub mod GridSize
 pub mod Levels
 pub mod Laws

@@ -2,7 +2,7 @@
 //! empty body, and what it ensures is the law.
 #![tactic(auto)]
 
-ghost use Rattle.amr_laws.specs.Laws.{ClustersAreDisjoint, ClustersAreEfficientOrUncut, ClustersCover, FinishIsSound, FourFluxesAreWithinShare, LevelStepIsExact, NextIsSound, RefluxIsEffectiveStep, RegistersLieBesideCovered, RegridHoldsTags, RegridKeepsMasses, RegridKeepsSound, RunIsSound, SharesAddUp, StartIsSound};
+ghost use Rattle.amr_laws.specs.Laws.{ClustersAreDisjoint, ClustersAreEfficientOrUncut, ClustersCover, FinishIsSound, FourFluxesAreWithinShare, LevelStepIsExact, NextIsSound, PlotIgnoresGridSize, RefluxIsEffectiveStep, RegistersLieBesideCovered, RegridHoldsTags, RegridKeepsMasses, RegridKeepsSound, RunIgnoresGridSize, RunIsSound, SharesAddUp, StartIsSound};
 
 /// The start of a run is sound: nested, synced, bounded and telescoped.
 pub fn start_is_sound()
@@ -44,6 +44,16 @@ pub fn finish_is_sound()
 /// Each state of a run is sound.
 pub fn run_is_sound()
     ensures { RunIsSound }
+{}
+
+/// Problems that differ in the greatest size of a patch alone have the same runs.
+pub fn run_ignores_grid_size()
+    ensures { RunIgnoresGridSize }
+{}
+
+/// And the same plots.
+pub fn plot_ignores_grid_size()
+    ensures { PlotIgnoresGridSize }
 {}
 
 /// In a step of a level and of those finer than it no mass falls below 0: as whole numbers the new mass
