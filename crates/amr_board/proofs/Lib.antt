@@ -1,0 +1,15 @@
+pub mod Sums
+pub mod Keeping
+pub mod Planning
+pub mod Drawing
+pub mod Taking
+pub mod Posting
+pub mod Sharing
+pub mod Workers
+pub mod Showing
+pub mod Running
+pub mod Opening
+pub mod Closing
+pub mod SlotLists
+pub mod Carried
+pub mod Allowing
