@@ -1,0 +1,5 @@
+pub mod Places
+pub mod Counts
+pub mod RowSets
+pub mod Bits
+pub mod Parts

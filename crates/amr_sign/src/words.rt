@@ -1,0 +1,258 @@
+//! Signatures of sets that are given as rows of bits, by whole words.
+ghost use Rattle.std.specs.Prelude.{◌≡◌, ◌==◌, ℕ, ◌+◌, ◌-◌, ◌*◌, ◌/◌, ◌%◌, ◌^◌, ◌<◌, ◌≤◌, ◌&&◌, ◌≤ℤ◌, pos, true, length, IfOk, EachIndex, slice_index, nat_le, nat_lt};
+ghost use Rattle.std.specs.Int.{bit_at};
+ghost use Rattle.amr_box.specs.declared.Axis.TheVariants.{X, Y};
+ghost use Rattle.amr_def.specs.Signature.{signature};
+ghost use Rattle.amr_sign.specs.Counts.{bit, count_to};
+ghost use Rattle.amr_sign.specs.Words.{LiesInRows, bit_cells, bit_of, row_bit, word_bit};
+
+use amr_box::{Axis, Bx};
+use amr_causes::NoMemory;
+use std::alloc::Global;
+
+/// How many bits a word has.
+const BITS: usize = 64;
+
+/// The bits from `from` to `to`, both inside.
+fn mask(from: u32, to: u32) -> u64
+    requires from_inside { from < 64 }
+    requires to_inside { to < 64 }
+    ensures { (i : ℕ) → i < 64 → bit_at result i ≡ bit (nat_le from i && nat_le i to) }
+{
+    (u64::MAX << from) & (u64::MAX >> (63 - to))
+}
+
+/// Word `k` of a row without the bits below `low` and above `high`, which are places in the row.
+fn masked_word(row: &[u64], k: usize, low: usize, high: usize) -> u64
+    requires inside { k < length row.now }
+    requires first { low < 64 * k + 64 }
+    requires last { 64 * k ≤ high }
+    requires short { high < 2 ^ 31 }
+    ensures { (i : ℕ) → i < 64 → (bit_at result i == 1)
+        ≡ ((nat_le low (64 * k + i) && nat_le (64 * k + i) high) && row_bit row.now (64 * k + i)) }
+{
+    let base = 64 * k;
+    let from = low.saturating_sub(base);
+    let to = (high - base).min(63);
+    row[k] & mask(from as u32, to as u32)
+}
+
+/// How many bits of a row are 1 from `low` to `high`, both inside.
+fn count_in_row(row: &[u64], low: usize, high: usize) -> u32
+    requires order { low ≤ high }
+    requires inside { high < 64 * length row.now }
+    requires short { high < 2 ^ 31 }
+    ensures { result ≡ count_to (λ i. row_bit row.now (low + i)) (high + 1 - low) }
+{
+    let mut count = 0;
+    for k in low / BITS..high / BITS + 1 {
+        count += masked_word(row, k, low, high).count_ones();
+    }
+    count
+}
+
+/// Counts the bits of a word, which stands in its row at the places from `base` on, each to its column. Column 0 is `low`.
+fn add_word(counts: &mut [u32], word: u64, base: usize, low: usize)
+    requires inside { (i : ℕ) → i < 64 → (bit_at word i == 1) ≡ true
+        → (low ≤ base + i) × (base + i < low + length counts.old) }
+    requires room { EachIndex counts.old (λ c. slice_index counts.old c + 1 < 2 ^ 32) }
+    requires short { base < 2 ^ 31 }
+    ensures { EachIndex counts.new (λ c. slice_index counts.new c
+        ≡ slice_index counts.old c + bit (word_bit word base (low + c))) }
+{
+    let mut rest = word;
+    while rest != 0 {
+        let place = rest.trailing_zeros();
+        counts[base + place as usize - low] += 1;
+        rest &= !(1 << place);
+    }
+}
+
+/// Counts the bits of a row from `low` to `high`, both inside, each to its column.
+fn add_row_bits(counts: &mut [u32], row: &[u64], low: usize, high: usize)
+    requires order { low ≤ high }
+    requires inside { high < 64 * length row.now }
+    requires short { high < 2 ^ 31 }
+    requires whole { length counts.old ≡ high + 1 - low }
+    requires room { EachIndex counts.old (λ c. slice_index counts.old c < 2 ^ 31) }
+    ensures { EachIndex counts.new (λ c. slice_index counts.new c
+        ≡ slice_index counts.old c + bit (row_bit row.now (low + c))) }
+{
+    for k in low / BITS..high / BITS + 1 {
+        add_word(counts, masked_word(row, k, low, high), BITS * k, low);
+    }
+}
+
+/// A box of rows of bits by its first and last column and row, all inside, counted from 0.
+#[derive(Clone, Copy)]
+struct Window {
+    west: usize,
+    east: usize,
+    south: usize,
+    north: usize,
+}
+
+/// A coordinate that is not below 0.
+fn place(z: i32) -> usize
+    requires { pos 0 ≤ℤ z }
+    ensures value { pos result ≡ z }
+    ensures small { result < 2 ^ 31 }
+{
+    z as usize
+}
+
+fn window_of(part: Bx) -> Window
+    requires west_inside { pos 0 ≤ℤ part.lo.x }
+    requires south_inside { pos 0 ≤ℤ part.lo.y }
+    ensures west { pos result.west ≡ part.lo.x }
+    ensures east { pos result.east ≡ part.hi.x }
+    ensures south { pos result.south ≡ part.lo.y }
+    ensures north { pos result.north ≡ part.hi.y }
+    ensures wide { result.west ≤ result.east }
+    ensures high { result.south ≤ result.north }
+    ensures east_small { result.east < 2 ^ 31 }
+    ensures north_small { result.north < 2 ^ 31 }
+{
+    let (lo, hi) = (part.lo(), part.hi());
+    Window {
+        west: place(lo.x),
+        east: place(hi.x),
+        south: place(lo.y),
+        north: place(hi.y),
+    }
+}
+
+/// Counts the bits of a window, each to its column.
+fn count_columns(counts: &mut [u32], words: &[u64], per_row: usize, at: Window)
+    requires wide { at.west ≤ at.east }
+    requires high { at.south ≤ at.north }
+    requires columns_fit { at.east < 2 ^ 31 }
+    requires rows_fit { at.north < 2 ^ 31 }
+    requires columns_inside { at.east < 64 * per_row }
+    requires rows_inside { (at.north + 1) * per_row ≤ length words.now }
+    requires whole { length counts.old ≡ at.east + 1 - at.west }
+    requires zero { EachIndex counts.old (λ k. slice_index counts.old k ≡ 0) }
+    ensures { EachIndex counts.new (λ i. slice_index counts.new i
+        ≡ count_to (λ j. bit_of per_row words.now (at.west + i) (at.south + j)) (at.north + 1 - at.south)) }
+{
+    for y in at.south..at.north + 1 {
+        let row = &words[y * per_row..(y + 1) * per_row];
+        add_row_bits(counts, row, at.west, at.east);
+    }
+}
+
+/// Counts the bits of a window, each to its row.
+fn count_rows(counts: &mut [u32], words: &[u64], per_row: usize, at: Window)
+    requires wide { at.west ≤ at.east }
+    requires high { at.south ≤ at.north }
+    requires columns_fit { at.east < 2 ^ 31 }
+    requires rows_fit { at.north < 2 ^ 31 }
+    requires columns_inside { at.east < 64 * per_row }
+    requires rows_inside { (at.north + 1) * per_row ≤ length words.now }
+    requires whole { length counts.old ≡ at.north + 1 - at.south }
+    ensures { EachIndex counts.new (λ j. slice_index counts.new j
+        ≡ count_to (λ i. bit_of per_row words.now (at.west + i) (at.south + j)) (at.east + 1 - at.west)) }
+{
+    for y in at.south..at.north + 1 {
+        let row = &words[y * per_row..(y + 1) * per_row];
+        counts[y - at.south] = count_in_row(row, at.west, at.east);
+    }
+}
+
+fn column_counts(
+    alloc: Global,
+    words: &[u64],
+    per_row: usize,
+    part: Bx,
+) -> Result<Vec<u32>, NoMemory>
+    requires inside { LiesInRows words.now per_row part }
+    ensures { IfOk result (λ v. v.items ≡ signature X (bit_cells words.now per_row part) part) }
+{
+    let at = window_of(part);
+    let mut counts = vec![in alloc; 0u32; at.east + 1 - at.west]?;
+    count_columns(&mut counts, words, per_row, at);
+    Ok(counts)
+}
+
+fn row_counts(alloc: Global, words: &[u64], per_row: usize, part: Bx) -> Result<Vec<u32>, NoMemory>
+    requires inside { LiesInRows words.now per_row part }
+    ensures { IfOk result (λ v. v.items ≡ signature Y (bit_cells words.now per_row part) part) }
+{
+    let at = window_of(part);
+    let mut counts = vec![in alloc; 0u32; at.north + 1 - at.south]?;
+    count_rows(&mut counts, words, per_row, at);
+    Ok(counts)
+}
+
+/// How many bits of a box are 1 in each of its columns (axis X) or rows (axis Y), from the low end.
+///
+/// The rows stand one after another in `words`, each in `per_row` words: bit `i` of a row is bit `i % 64` of its word
+/// `i / 64`. `part` counts columns and rows from the low corner of all rows, and lies in them.
+pub fn signature_bits(
+    alloc: Global,
+    words: &[u64],
+    per_row: usize,
+    part: Bx,
+    axis: Axis,
+) -> Result<Vec<u32>, NoMemory>
+    requires positive { 1 ≤ per_row }
+    requires whole { length words.now % per_row ≡ 0 }
+    requires inside { LiesInRows words.now per_row part }
+    ensures { IfOk result (λ v. v.items ≡ signature axis (bit_cells words.now per_row part) part) }
+{
+    match axis {
+        Axis::X => column_counts(alloc, words, per_row, part),
+        Axis::Y => row_counts(alloc, words, per_row, part),
+    }
+}
+
+#[cfg(test)]
+mod tests {
+    use super::*;
+    use amr_box::Cell;
+    use std::test::Fail;
+
+    /// Two rows of three words: bits 0, 63, 64 and 129 of the first, bits 63 and 191 of the second.
+    const WORDS: [u64; 6] = [1 | 1 << 63, 1, 2, 1 << 63, 0, 1 << 63];
+
+    fn part(lo: Cell, hi: Cell) -> Result<Bx, &'static str>
+        ensures { IfOk result (λ b. (b.lo ≡ lo) × (b.hi ≡ hi)) }
+    {
+        Bx::try_new(lo, hi).ok_or("no box")
+    }
+
+    #[test]
+    fn counts_across_words(rt: HostRuntime) -> Result<(), Fail> {
+        let alloc = rt.alloc();
+        let whole = part(Cell { x: 0, y: 0 }, Cell { x: 191, y: 1 })?;
+        let rows = signature_bits(alloc, &WORDS, 3, whole, Axis::Y)?;
+        assert_eq!(rt; rows.as_slice(), [4, 2].as_slice());
+        let columns = signature_bits(alloc, &WORDS, 3, whole, Axis::X)?;
+        assert_eq!(rt; columns.len(), 192);
+        for (x, count) in columns.iter().enumerate() {
+            let want = match x {
+                63 => 2,
+                0 | 64 | 129 | 191 => 1,
+                _ => 0,
+            };
+            assert_eq!(rt; *count, want, "column {x}");
+        }
+        let columns = signature_bits(
+            alloc,
+            &WORDS,
+            3,
+            part(Cell { x: 62, y: 0 }, Cell { x: 65, y: 1 })?,
+            Axis::X,
+        )?;
+        assert_eq!(rt; columns.as_slice(), [0, 2, 1, 0].as_slice());
+        let rows = signature_bits(
+            alloc,
+            &WORDS,
+            3,
+            part(Cell { x: 1, y: 1 }, Cell { x: 190, y: 1 })?,
+            Axis::Y,
+        )?;
+        assert_eq!(rt; rows.as_slice(), [1].as_slice());
+        Ok(())
+    }
+}
