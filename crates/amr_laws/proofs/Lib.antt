@@ -12,3 +12,4 @@ pub mod RunRows
 pub mod Cuts
 pub mod Efficient
 pub mod GridSize
+pub mod Products

@@ -1,5 +1,5 @@
 -- Laws of states with any number of levels, each of which a call of this crate ensures.
-use Rattle.std.specs.Prelude.{◌⊎◌, length, ◌≡◌, ℕ, suc, ◌+◌, ◌*◌, ◌/◌, ◌<◌, ◌≤◌, ℤ, pos, ◌+ℤ◌, ◌-ℤ◌, ◌≤ℤ◌, neg_ℤ, List, ◌∷◌, unsigned_abs, IsTrue, IsFalse, IsSome}
+use Rattle.std.specs.Prelude.{◌⊎◌, length, ◌≡◌, ℕ, suc, ◌+◌, ◌*◌, ◌/◌, ◌^◌, ◌<◌, ◌≤◌, ℤ, pos, ◌+ℤ◌, ◌-ℤ◌, ◌≤ℤ◌, neg_ℤ, List, ◌∷◌, unsigned_abs, IsTrue, IsFalse, IsSome}
 use Rattle.std.specs.declared.option.Option.TheVariants.{None}
 use Rattle.std.specs.List.{All, AllPairs, filter, list_any}
 use Rattle.std.specs.Ordering.{eq_by_cmp}
@@ -10,7 +10,8 @@ use Rattle.amr_box.specs.declared.Axis.TheVariants.{X, Y}
 use Rattle.amr_box.specs.Cells.{cell_cmp, Extent, holds}
 use Rattle.amr_def.specs.declared.problem.Problem.{Problem}
 use Rattle.amr_def.specs.Domain.{domain, home_cell}
-use Rattle.amr_def.specs.State.{Masses, Level, State, level_at, in_boxes, is_covered, mass_of}
+use Rattle.amr_def.specs.State.{Masses, Level, State, level_at, masses_below, in_boxes, is_covered, mass_of}
+use Rattle.amr_def.specs.Value.{value_at}
 use Rattle.amr_def.specs.Flux.{Fluxes, face, low_cell, high_cell, courant, flow, flux_at, net}
 use Rattle.amr_def.specs.LevelStep.{effective, Stepped, step}
 use Rattle.amr_def.specs.Ledger.{first_of}
@@ -53,6 +54,14 @@ RunIgnoresGridSize = (p : Problem) (n : ℕ) (limits : AreLimits p n) (k : ℕ) 
 -- and the same plots
 abbrev pub PlotIgnoresGridSize : Type 0
 PlotIgnoresGridSize = (p : Problem) (n : ℕ) (limits : AreLimits p n) (s : State) → plot (with_grid_size p n limits) s ≡ plot p s
+
+-- in a sound state the value of each cell, ghost cells too, is below 2 ^ 31
+abbrev pub ValuesAreSmall : Type 0
+ValuesAreSmall = (p : Problem) (s : State) (l : ℕ) (c : Cell) → IsSound p s → value_at p l (level_at s l).masses (masses_below s l) c < 2 ^ 31
+
+-- and its product with a Courant number is below 2 ^ 42
+abbrev pub ProductsAreSmall : Type 0
+ProductsAreSmall = (p : Problem) (s : State) (l : ℕ) (f : Face) (c : Cell) → IsSound p s → unsigned_abs (courant p l f) * value_at p l (level_at s l).masses (masses_below s l) c < 2 ^ 42
 
 -- ---- a regrid's masses
 

@@ -2,7 +2,7 @@
 //! empty body, and what it ensures is the law.
 #![tactic(auto)]
 
-ghost use Rattle.amr_laws.specs.Laws.{ClustersAreDisjoint, ClustersAreEfficientOrUncut, ClustersCover, FinishIsSound, FourFluxesAreWithinShare, LevelStepIsExact, NextIsSound, PlotIgnoresGridSize, RefluxIsEffectiveStep, RegistersLieBesideCovered, RegridHoldsTags, RegridKeepsMasses, RegridKeepsSound, RunIgnoresGridSize, RunIsSound, SharesAddUp, StartIsSound};
+ghost use Rattle.amr_laws.specs.Laws.{ClustersAreDisjoint, ClustersAreEfficientOrUncut, ClustersCover, FinishIsSound, FourFluxesAreWithinShare, LevelStepIsExact, NextIsSound, PlotIgnoresGridSize, ProductsAreSmall, RefluxIsEffectiveStep, RegistersLieBesideCovered, RegridHoldsTags, RegridKeepsMasses, RegridKeepsSound, RunIgnoresGridSize, RunIsSound, SharesAddUp, StartIsSound, ValuesAreSmall};
 
 /// The start of a run is sound: nested, synced, bounded and telescoped.
 pub fn start_is_sound()
@@ -44,6 +44,16 @@ pub fn finish_is_sound()
 /// Each state of a run is sound.
 pub fn run_is_sound()
     ensures { RunIsSound }
+{}
+
+/// In a sound state the value of each cell, ghost cells too, is below 2^31.
+pub fn values_are_small()
+    ensures { ValuesAreSmall }
+{}
+
+/// In a sound state each product of a Courant number and a value is below 2^42.
+pub fn products_are_small()
+    ensures { ProductsAreSmall }
 {}
 
 /// Problems that differ in the greatest size of a patch alone have the same runs.
