@@ -1,0 +1,112 @@
+//! The run of a phase.
+ghost use Rattle.std.specs.Prelude.{◌≡◌, ℕ, ◌+◌, ◌≤◌, ◌^◌, true, false};
+ghost use mathlib.Core.Option.{some};
+ghost use lib.ListN.{get_elem?};
+ghost use Rattle.std.specs.Thread.{IsSync};
+ghost use Rattle.amr_board.specs.Views.{HoldsNone};
+ghost use Rattle.amr_board.specs.BoardOf.{IsSeatOf, view};
+
+use crate::gate::Gate;
+use crate::job::Job;
+use amr_board::{Board, Piece, Seat};
+use std::thread::{Threads, join};
+
+/// Runs all tasks of a board by this many workers, each in a thread of its own where one can be had. The seat is the
+/// only one before and after: it holds no task, and after the phase it is past, so the board may be closed with it.
+/// It returns when each worker found no task left.
+pub fn run_phase<R: Threads + Sync, P: Piece + Send, J: Job<P> + Sync, G: Gate + Sync>(
+    rt: &R,
+    board: &Board<P>,
+    seat: Seat<P>,
+    job: &J,
+    gate: &G,
+    workers: u32,
+) -> Seat<P>
+    requires seat { IsSeatOf board.now seat }
+    requires none { HoldsNone (view seat) }
+    requires here { (view seat).past ≡ false }
+    requires alone { (view seat).share ≡ 2 ^ 32 }
+    requires some_workers { 1 ≤ workers }
+    requires few_workers { workers ≤ 64 }
+    requires ready { (t : ℕ) (p : P) → get_elem? board.now.pieces t ≡ some p → J.ready job.now board.now.plan p }
+    ensures seat { IsSeatOf board.now result }
+    ensures none { HoldsNone (view result) }
+    ensures past { (view result).past ≡ true }
+    ensures alone { (view result).share ≡ 2 ^ 32 }
+{
+    run_workers(rt, board, seat, job, gate, 0, workers)
+}
+
+// The workers from `first` on, so many of them.
+fn run_workers<R: Threads + Sync, P: Piece + Send, J: Job<P> + Sync, G: Gate + Sync>(
+    rt: &R,
+    board: &Board<P>,
+    mut seat: Seat<P>,
+    job: &J,
+    gate: &G,
+    first: u32,
+    workers: u32,
+) -> Seat<P>
+    requires seat { IsSeatOf board.now seat }
+    requires none { HoldsNone (view seat) }
+    requires here { (view seat).past ≡ false }
+    requires some { 1 ≤ workers }
+    requires numbers { first + workers ≤ 64 }
+    requires share { workers ≤ (view seat).share }
+    requires ready { (t : ℕ) (p : P) → get_elem? board.now.pieces t ≡ some p → J.ready job.now board.now.plan p }
+    ensures seat { IsSeatOf board.now result }
+    ensures none { HoldsNone (view result) }
+    ensures past { (view result).past ≡ true }
+    ensures share { (view result).share ≡ (view seat).share }
+{
+    if workers == 1 {
+        draw_all(board, &mut seat, job, gate, first);
+        return seat;
+    }
+    let half = workers / 2;
+    let more = workers - half;
+    let middle = first + half;
+    let other = board.split(&mut seat);
+    let (mut one, two) = join(
+        rt,
+        move || -> Seat<P>
+            requires { IsSync R.row × IsSeatOf board.now seat × HoldsNone (view seat) × ((view seat).past ≡ false) × (1 ≤ half) × (first + half ≤ 64) × (half ≤ (view seat).share) × ((t : ℕ) (p : P) → get_elem? board.now.pieces t ≡ some p → J.ready job.now board.now.plan p) }
+            ensures { IsSeatOf board.entry.now result × HoldsNone (view result) × ((view result).past ≡ true) × ((view result).share ≡ (view seat).share) }
+        { run_workers(rt, board, seat, job, gate, first, half) },
+        move || -> Seat<P>
+            requires { IsSync R.row × IsSeatOf board.now other × HoldsNone (view other) × ((view other).past ≡ false) × (1 ≤ more) × (middle + more ≤ 64) × (more ≤ (view other).share) × ((t : ℕ) (p : P) → get_elem? board.now.pieces t ≡ some p → J.ready job.now board.now.plan p) }
+            ensures { IsSeatOf board.entry.now result × HoldsNone (view result) × ((view result).past ≡ true) × ((view result).share ≡ (view other).share) }
+        { run_workers(rt, board, other, job, gate, middle, more) },
+    );
+    board.join(&mut one, two);
+    one
+}
+
+// Draws tasks until none is left.
+fn draw_all<P: Piece, J: Job<P>, G: Gate>(
+    board: &Board<P>,
+    seat: &mut Seat<P>,
+    job: &J,
+    gate: &G,
+    worker: u32,
+)
+    requires seat { IsSeatOf board.now seat.old }
+    requires none { HoldsNone (view seat.old) }
+    requires here { (view seat.old).past ≡ false }
+    requires ready { (t : ℕ) (p : P) → get_elem? board.now.pieces t ≡ some p → J.ready job.now board.now.plan p }
+    ensures seat { IsSeatOf board.now seat.new }
+    ensures none { HoldsNone (view seat.new) }
+    ensures past { (view seat.new).past ≡ true }
+    ensures share { (view seat.new).share ≡ (view seat.old).share }
+{
+    'tasks: loop {
+        let Some(task) = board.draw(seat) else {
+            return;
+        };
+        gate.enter(worker, task);
+        let piece = board.take(seat, task);
+        let next = job.work(board, seat, piece);
+        board.give(seat, task, next);
+        gate.leave(worker, task);
+    }
+}
