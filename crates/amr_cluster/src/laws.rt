@@ -1,0 +1,14 @@
+//! Laws of clusters. Each call has an empty body, and what it ensures is the law: it holds for every set of cells.
+
+ghost use Rattle.amr_cluster.specs.Laws.{ClusterIsRecursive, ClustersAreSound};
+
+/// The boxes of a set are disjoint, cover it, and each is the least box round its cells and efficient, or has no cut.
+pub fn clusters_are_sound()
+    ensures { ClustersAreSound }
+{}
+
+/// The boxes of a set are its least box where that is efficient or has no cut, and else the boxes of the cells below
+/// the cut and then those of the rest.
+pub fn cluster_is_recursive()
+    ensures { ClusterIsRecursive }
+{}

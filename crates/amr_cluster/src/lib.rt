@@ -1,0 +1,8 @@
+//! Boxes round tagged cells (Berger and Rigoutsos, "An algorithm for point clustering and grid generation", 1991).
+//!
+//! - `clusters_are_sound`, `cluster_is_recursive`: what holds of the boxes of every set, as laws.
+#![tactic(auto)]
+
+mod laws;
+
+pub use laws::{cluster_is_recursive, clusters_are_sound};
