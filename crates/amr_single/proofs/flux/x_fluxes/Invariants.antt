@@ -1,0 +1,10 @@
+use Rattle.std.proofs.Common.{◌≡◌, ℕ, ◌<◌, pos}
+use Rattle.std.specs.Prelude.{slice_index_or}
+use Rattle.amr_box.specs.declared.Axis.TheVariants.{X}
+use Rattle.amr_def.specs.Flux.{face}
+use Rattle.amr_single.specs.Rows.{fluxes_on}
+use Rattle.amr_single.proofs.flux.x_fluxes.Given as goal
+
+-- the faces below x have their fluxes
+abbrev pub invariant-loop-x : goal.invariant-loop-x
+invariant-loop-x l = (k : ℕ) → k < l.x → slice_index_or l.fluxes k (pos 0) ≡ fluxes_on l.p l.masses (face X (pos k) (pos l.y))

@@ -1,0 +1,11 @@
+use Rattle.std.proofs.Common.{◌≤◌, get_or}
+use Rattle.amr_io.specs.Kept.{Sent}
+use Rattle.amr_single.specs.Puts.{texts, word}
+use Rattle.amr_single.proofs.text.put_masses.Given as goal
+
+-- the masses before column x are put
+abbrev pub invariant-loop-x : goal.invariant-loop-x
+invariant-loop-x g l = record {
+  sent : Sent g.O.Sink.holds l.initial.sink l.sink l.initial.text l.text (texts (λ i. word i (get_or l.masses i 0)) l.x);
+  later : g.O.Sink.faults l.initial.sink ≤ g.O.Sink.faults l.sink;
+}

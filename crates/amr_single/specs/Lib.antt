@@ -1,0 +1,4 @@
+pub mod Plain
+pub mod Rows
+pub mod Grids
+pub mod Puts
