@@ -1,0 +1,130 @@
+//! Tags: the cells of a box where a finer level is wanted, as rows of bits.
+#![tactic(auto)]
+
+ghost use Rattle.std.specs.Prelude.{◌≡◌, true, false, ◌||◌, ◌&&◌, IfOk, IsTrue, count_by};
+ghost use Rattle.amr_box.specs.Cells.{IsNear, cells_of, holds, width};
+ghost use Rattle.amr_box.specs.declared.Cell.{Cell};
+ghost use Rattle.amr_tags.specs.Bits.{words_for};
+ghost use Rattle.amr_tags.specs.TagSets.{IsLaidOut, SameShape, has, same_cell};
+
+mod rows;
+mod scan;
+
+use amr_box::{Bx, Cell};
+use amr_causes::NoMemory;
+use std::alloc::Global;
+use std::marker::Model;
+
+/// A set of cells of a box, whose axes are periodic (`wrap_x`, `wrap_y`) or open. A row of cells is a row of bits in
+/// words of 64: the cell in column i of the box is bit `i mod 64` of the row's word `i div 64`, and unused bits are 0.
+#[derive(Drop)]
+pub struct Tags {
+    bx: Bx,
+    wrap_x: bool,
+    wrap_y: bool,
+    words: Vec<u64>,
+    spare: Vec<u64>,
+}
+
+impl Model for Tags {
+    ghost use Rattle.amr_tags.specs.TagSets.{TagSet};
+
+    ghost Value = { TagSet };
+
+    ghost use Rattle.amr_tags.specs.Stored.{IsStored};
+
+    ghost view = { λ t. record { bx = t.bx; wrap_x = t.wrap_x; wrap_y = t.wrap_y; words = t.words.items } };
+
+    ghost invariant = { λ t. IsStored t.bx t.words.items t.spare.items };
+}
+
+impl Tags {
+    /// No tags in the box, whose coordinates lie between -2^24 and 2^24. All memory that `grow` needs is taken here.
+    pub fn make(alloc: Global, b: Bx, wrap_x: bool, wrap_y: bool) -> Result<Tags, NoMemory>
+        requires { IsNear b }
+        ensures in_box { IfOk result (λ t. t.bx ≡ b) }
+        ensures axes { IfOk result (λ t. (t.wrap_x ≡ wrap_x) × (t.wrap_y ≡ wrap_y)) }
+        ensures empty { IfOk result (λ t. (c : Cell) → has t c ≡ false) }
+    {
+        let words = rows::empty(alloc, &b)?;
+        let spare = rows::empty(alloc, &b)?;
+        Ok(Tags {
+            bx: b,
+            wrap_x,
+            wrap_y,
+            words,
+            spare,
+        })
+    }
+
+    /// The same tags.
+    pub fn copy(&self) -> Result<Tags, NoMemory>
+        ensures { IfOk result (λ t. t ≡ self.now) }
+    {
+        let alloc = *self.words.allocator();
+        let words = Vec::from_slice(alloc, self.words.as_slice())?;
+        let spare = Vec::from_slice(alloc, self.spare.as_slice())?;
+        Ok(Tags {
+            bx: self.bx,
+            wrap_x: self.wrap_x,
+            wrap_y: self.wrap_y,
+            words,
+            spare,
+        })
+    }
+
+    /// The box whose cells may be tagged.
+    pub fn bx(&self) -> Bx
+        ensures value { result ≡ self.now.bx }
+        ensures near { IsNear self.now.bx }
+    {
+        let _words = self.words.len();
+        self.bx
+    }
+
+    /// The rows' words, one row after the other from the low row, `per_row` words each.
+    pub fn words(&self) -> &[u64]
+        ensures words { result.now ≡ self.now.words }
+        ensures laid_out { IsLaidOut self.now }
+    {
+        self.words.as_slice()
+    }
+
+    /// How many words hold a row.
+    pub fn per_row(&self) -> usize
+        ensures { result ≡ words_for (width self.now.bx) }
+    {
+        rows::words_for(self.bx().width()) as usize
+    }
+
+    /// Tags a cell of the box.
+    pub fn set(&mut self, c: Cell)
+        requires { IsTrue (holds self.old.bx c) }
+        ensures shape { SameShape self.old self.new }
+        ensures cells { (d : Cell) → has self.new d ≡ (has self.old d || same_cell c d) }
+    {
+        let bx = self.bx;
+        rows::set_bit(&mut self.words, &bx, c);
+    }
+
+    /// Whether a cell is tagged; none outside of the box is.
+    pub fn has(&self, c: Cell) -> bool
+        ensures { result ≡ has self.now c }
+    {
+        self.bx.holds(c) && rows::get_bit(&self.words, &self.bx, c)
+    }
+
+    /// How many tagged cells lie in a box, by counts of bits.
+    pub fn count_in(&self, b: Bx) -> u64
+        ensures { result ≡ count_by (λ c. holds b c && has self.now c) (cells_of self.now.bx) }
+    {
+        let bx = self.bx;
+        match bx.meet(&b) {
+            None => 0,
+            Some(part) => scan::count_part(&self.words, &bx, &part),
+        }
+    }
+}
+
+#[cfg(test)]
+mod tests;
