@@ -9,7 +9,5 @@ pub mod Held
 pub mod Steps
 pub mod Kept
 pub mod RunRows
-pub mod Cuts
-pub mod Efficient
 pub mod GridSize
 pub mod Products

@@ -1,23 +1,16 @@
 -- Laws of states with any number of levels, each of which a call of this crate ensures.
-use Rattle.std.specs.Prelude.{◌⊎◌, length, ◌≡◌, ℕ, suc, ◌+◌, ◌*◌, ◌/◌, ◌^◌, ◌<◌, ◌≤◌, ℤ, pos, ◌+ℤ◌, ◌-ℤ◌, ◌≤ℤ◌, neg_ℤ, List, ◌∷◌, unsigned_abs, IsTrue, IsFalse, IsSome}
-use Rattle.std.specs.declared.option.Option.TheVariants.{None}
-use Rattle.std.specs.List.{All, AllPairs, filter, list_any}
-use Rattle.std.specs.Ordering.{eq_by_cmp}
+use Rattle.std.specs.Prelude.{◌≡◌, ℕ, suc, ◌+◌, ◌*◌, ◌/◌, ◌^◌, ◌<◌, ◌≤◌, ℤ, pos, ◌+ℤ◌, ◌-ℤ◌, ◌≤ℤ◌, neg_ℤ, List, ◌∷◌, unsigned_abs, IsFalse, IsSome}
 use Rattle.amr_box.specs.declared.Cell.{Cell}
 use Rattle.amr_box.specs.declared.Face.{Face}
 use Rattle.amr_box.specs.declared.Axis.{Axis}
 use Rattle.amr_box.specs.declared.Axis.TheVariants.{X, Y}
-use Rattle.amr_box.specs.Cells.{cell_cmp, Extent, holds}
 use Rattle.amr_def.specs.declared.problem.Problem.{Problem}
 use Rattle.amr_def.specs.Domain.{domain, home_cell}
-use Rattle.amr_def.specs.State.{Masses, Level, State, level_at, masses_below, in_boxes, is_covered, mass_of}
+use Rattle.amr_def.specs.State.{Masses, Level, State, level_at, masses_below, is_covered, mass_of}
 use Rattle.amr_def.specs.Value.{value_at}
 use Rattle.amr_def.specs.Flux.{Fluxes, face, low_cell, high_cell, courant, flow, flux_at, net}
 use Rattle.amr_def.specs.LevelStep.{effective, Stepped, step}
 use Rattle.amr_def.specs.Ledger.{first_of}
-use Rattle.amr_def.specs.Signature.{is_efficient, signature}
-use Rattle.amr_def.specs.Cut.{best_cut}
-use Rattle.amr_def.specs.Cluster.{cluster}
 use Rattle.amr_def.specs.Regrid.{share, regrid}
 use Rattle.amr_def.specs.Run.{start, next, finish, run}
 use Rattle.amr_def.specs.Facts.{IsSound, IsHeld}
@@ -121,22 +114,3 @@ RefluxIsEffectiveStep = (p : Problem) (l : ℕ) (m old fine : Masses) (e1 e2 : F
 abbrev pub RegistersLieBesideCovered : Type 0
 RegistersLieBesideCovered = (p : Problem) (l : ℕ) (m old fine : Masses) (e1 e2 : Fluxes) (f : Face) → IsFalse (is_covered fine (home_cell (domain p l) (low_cell f))) → IsFalse (is_covered fine (home_cell (domain p l) (high_cell f)))
     → effective p l m old fine e1 e2 f ≡ flux_at p l m old f
-
--- ---- clusters
-
--- a box with these cells is efficient, or has no cut
-abbrev pub IsEfficientOrUncut : ℕ → ℕ → List Cell → Extent → Type 0
-IsEfficientOrUncut efficiency w cs b = IsTrue (is_efficient efficiency (length cs) b) ⊎ (best_cut w (signature X cs b) (signature Y cs b) ≡ None)
-
--- the boxes of a set hold each of its cells
-abbrev pub ClustersCover : Type 0
-ClustersCover = (efficiency w : ℕ) (cs : List Cell) (q : Cell) → IsTrue (list_any (eq_by_cmp cell_cmp q) cs) → IsTrue (in_boxes (cluster efficiency w cs) q)
-
--- and no two of them have a cell in common
-abbrev pub ClustersAreDisjoint : Type 0
-ClustersAreDisjoint = (efficiency w : ℕ) (cs : List Cell) → AllPairs (λ a b. (c : Cell) → IsTrue (holds a c) → IsTrue (holds b c) → ⊥) (cluster efficiency w cs)
-
--- where the least width is at least 1, each box is efficient, by the cells of the set that are in it, or
--- their signatures have no cut
-abbrev pub ClustersAreEfficientOrUncut : Type 0
-ClustersAreEfficientOrUncut = (efficiency w : ℕ) (cs : List Cell) → 1 ≤ w → All (λ b. IsEfficientOrUncut efficiency w (filter (holds b) cs) b) (cluster efficiency w cs)

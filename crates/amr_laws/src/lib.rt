@@ -2,7 +2,7 @@
 //! empty body, and what it ensures is the law.
 #![tactic(auto)]
 
-ghost use Rattle.amr_laws.specs.Laws.{ClustersAreDisjoint, ClustersAreEfficientOrUncut, ClustersCover, FinishIsSound, FourFluxesAreWithinShare, LevelStepIsExact, NextIsSound, PlotIgnoresGridSize, ProductsAreSmall, RefluxIsEffectiveStep, RegistersLieBesideCovered, RegridHoldsTags, RegridKeepsMasses, RegridKeepsSound, RunIgnoresGridSize, RunIsSound, SharesAddUp, StartIsSound, ValuesAreSmall};
+ghost use Rattle.amr_laws.specs.Laws.{FinishIsSound, FourFluxesAreWithinShare, LevelStepIsExact, NextIsSound, PlotIgnoresGridSize, ProductsAreSmall, RefluxIsEffectiveStep, RegistersLieBesideCovered, RegridHoldsTags, RegridKeepsMasses, RegridKeepsSound, RunIgnoresGridSize, RunIsSound, SharesAddUp, StartIsSound, ValuesAreSmall};
 
 /// The start of a run is sound: nested, synced, bounded and telescoped.
 pub fn start_is_sound()
@@ -86,19 +86,4 @@ pub fn reflux_is_effective_step()
 /// A flux register has nothing to correct at a face with no covered cell beside it.
 pub fn registers_lie_beside_covered()
     ensures { RegistersLieBesideCovered }
-{}
-
-/// The boxes of a cluster hold each cell of its set.
-pub fn clusters_cover()
-    ensures { ClustersCover }
-{}
-
-/// No two boxes of a cluster have a cell in common.
-pub fn clusters_are_disjoint()
-    ensures { ClustersAreDisjoint }
-{}
-
-/// Each box of a cluster is efficient, or its signatures have no cut.
-pub fn clusters_are_efficient_or_uncut()
-    ensures { ClustersAreEfficientOrUncut }
 {}
