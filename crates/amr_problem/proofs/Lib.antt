@@ -5,3 +5,4 @@ pub mod Shapes
 pub mod ProblemLaws
 pub mod EntryLaws
 pub mod JudgementLaws
+pub mod PlainLaws

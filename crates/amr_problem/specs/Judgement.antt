@@ -27,7 +27,7 @@ abbrev pub told : Option Fault → Option ProblemFault
 told fault = option_map (λ _. NotBuilt) fault
 
 -- the fault of bytes: none exactly where they are those of a plain problem
-abbrev pub fault_of : List ℕ → Option ProblemFault
+unfoldable pub fault_of : List ℕ → Option ProblemFault
 fault_of bytes = told (first_fault bytes)
 
 -- the problem is the one that the bytes are

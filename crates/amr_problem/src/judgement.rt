@@ -26,6 +26,7 @@ pub const MOST_BYTES: usize = 65536;
 /// The problem that the bytes are, or their fault. Want of memory comes at any bytes.
 ///
 /// A problem is UTF-8 TOML with the keys of the table and no other. (profile)
+#[tactic(auto, unfolding(crate::specs::Judgement::fault_of))]
 pub fn judge(alloc: Global, bytes: &[u8]) -> Result<Problem, JudgeFault>
     ensures accepted { IfOk result (IsProblemOf bytes.now) }
     ensures refused { (f : _) → IsErrOf result (JudgeFault.Fault f) → fault_of bytes.now ≡ Some f }
