@@ -1,0 +1,38 @@
+-- The first of several options.
+use Rattle.std.proofs.Common.{◌≡◌, refl, ℕ, ◌+◌, ◌<◌, length, drop, get_or, map, List, [], ◌∷◌, Option, Some, None, option_map}
+use Rattle.std.proofs.lemmas.List.{drop_more}
+use Rattle.std.specs.Option.{option_or}
+use Rattle.std.specs.List.{fold}
+use Rattle.amr_problem.specs.Faults.{first_some}
+
+-- none of two
+pub record AreNone {A : Type 0} (a b : Option A) : Type 0 where
+  pub first : a ≡ None
+  pub second : b ≡ None
+
+pub both_none : {A : Type 0} (a b : Option A) → option_or a b ≡ None → AreNone a b
+both_none None b h = record { first = refl; second = h }
+both_none (Some x) b h = absurd (cc)
+
+pub option_map-none : {A B : Type 0} (f : A → B) (o : Option A) → option_map f o ≡ None → o ≡ None
+option_map-none f None h = refl
+option_map-none f (Some x) h = absurd (cc)
+
+pub fold-some : {A : Type 0} (x : A) (os : List (Option A)) → fold option_or (Some x) os ≡ Some x
+fold-some x [] = refl
+fold-some x (o ∷ os) = fold-some x os
+
+-- what comes of the elements from a place on, where the one at the place gives something
+pub first_some-at : {X A : Type 0} (f : X → Option A) (xs : List X) (i : ℕ) (d : X) (z : A) → i < length xs → f (get_or xs i d) ≡ Some z → first_some (map f (drop i xs)) ≡ Some z
+first_some-at f xs i d z h is = rw (drop_more xs i d h, is) (fold-some z (map f (drop (i + 1) xs)))
+
+-- none of the first and the others
+pub fold-none : {A : Type 0} (o : Option A) (os : List (Option A)) → fold option_or o os ≡ None → AreNone o (first_some os)
+fold-none None os h = record { first = refl; second = h }
+fold-none (Some x) os h = absurd (let e = fold-some x os in cc)
+
+pub first_some-skip : {A : Type 0} (o : Option A) (os : List (Option A)) → o ≡ None → first_some (o ∷ os) ≡ first_some os
+first_some-skip o os none = rw none
+
+pub first_some-here : {A : Type 0} (o : Option A) (os : List (Option A)) (x : A) → o ≡ Some x → first_some (o ∷ os) ≡ Some x
+first_some-here o os x is = rw is (fold-some x os)

@@ -1,0 +1,51 @@
+-- Laws of the readers of a document's values.
+use Rattle.std.proofs.Common.{◌≡◌, ◌∙◌, ap, refl, ℕ, ◌+◌, ◌<◌, ◌≤◌, ℤ, eq-eqb, List, [], ◌∷◌, ◌++◌, length, drop, take, get_or, set, append_assoc, Option, Some, None, option_map, arith, append-nil}
+use Rattle.std.proofs.lemmas.List.{take_more_set, drop_all, take_all}
+use Rattle.toml.specs.Data.{as_integer}
+use Rattle.toml.specs.View.{view, items_view}
+use Rattle.toml.specs.declared.value.Value.{Value}
+use Rattle.toml.proofs.Views.{items_view-drop}
+use Rattle.amr_problem.specs.Values.{count, integers, numbers_in}
+
+pub count-view : (vs : List Value) → count (items_view vs) ≡ length vs
+count-view [] = refl
+count-view (v ∷ vs) = omega (arith, count-view vs)
+
+-- the integers from a place on, where an integer stands at it
+pub integers-at : (vs : List Value) (i : ℕ) (d : Value) (z : ℤ) → i < length vs → as_integer (view (get_or vs i d)) ≡ Some z
+    → integers (items_view (drop i vs)) ≡ option_map (λ zs. z ∷ zs) (integers (items_view (drop (i + 1) vs)))
+integers-at vs i d z h is = rw (items_view-drop vs i d h, is)
+
+-- the integers from a place on, where no integer stands at it
+pub integers-none : (vs : List Value) (i : ℕ) (d : Value) → i < length vs → as_integer (view (get_or vs i d)) ≡ None
+    → integers (items_view (drop i vs)) ≡ None
+integers-none vs i d h is = rw (items_view-drop vs i d h, is)
+
+-- one more number is read
+pub read_more : (found : List ℤ) (i : ℕ) (z : ℤ) (rest : Option (List ℤ)) → i < length found
+    → option_map (λ zs. take i found ++ zs) (option_map (λ zs. z ∷ zs) rest) ≡ option_map (λ zs. take (i + 1) (set found i z) ++ zs) rest
+read_more found i z None h = refl
+read_more found i z (Some zs) h = rw (take_more_set found i z h, append_assoc)
+
+-- nothing is read yet
+pub read_none : (found : List ℤ) (all : Option (List ℤ)) → all ≡ option_map (λ zs. take 0 found ++ zs) all
+read_none found None = refl
+read_none found (Some zs) = refl
+
+-- a number that is no integer spoils the whole array
+pub read_spoilt : (found : List ℤ) (i : ℕ) (all rest : Option (List ℤ)) → all ≡ option_map (λ zs. take i found ++ zs) rest → rest ≡ None → all ≡ None
+read_spoilt found i all rest h none = rw none at h
+
+-- all is read
+pub read_all : (vs : List Value) (found : List ℤ) (i : ℕ) → length vs ≤ i → length found ≡ length vs
+    → integers (items_view vs) ≡ option_map (λ zs. take i found ++ zs) (integers (items_view (drop i vs)))
+    → integers (items_view vs) ≡ Some found
+read_all vs found i past room h =
+    let over : drop i vs ≡ [] = drop_all i vs past in
+    let full : take i found ≡ found = take_all i found (omega arith) in
+    let read : integers (items_view vs) ≡ Some (found ++ []) = rw (over, full) at h in
+    read ∙ ap Some (append-nil found)
+
+-- so many integers, or not
+pub numbers_in-read : (many : ℕ) (vs : List Value) (zs : Option (List ℤ)) → length vs ≡ many → integers (items_view vs) ≡ zs → numbers_in many (items_view vs) ≡ zs
+numbers_in-read many vs zs same read = rw (count-view vs, eq-eqb (length vs) many same) read

@@ -1,0 +1,113 @@
+-- What a problem writes at its keys.
+use Rattle.std.specs.Prelude.{◌≡◌, ◌≤◌, ℕ, ℤ, pos, negsuc, ◌≤ℤ◌, unsigned_abs, true, Option, Some, None, map, option_map, is_none, List, [], ◌∷◌, length}
+use Rattle.std.specs.List.{list_all}
+use Rattle.std.specs.Option.{option_or}
+use Rattle.toml.specs.Data.{Members}
+use Rattle.amr_problem.specs.declared.entries.Entries.{Entries}
+use Rattle.amr_problem.specs.declared.fault.Fault.{Fault}
+use Rattle.amr_problem.specs.declared.fault.Fault.TheVariants.{OutOfRange}
+use Rattle.amr_problem.specs.declared.key.Key.{Key}
+use Rattle.amr_problem.specs.declared.key.Key.TheVariants.{Version, Name, Cells, Steps, Courant, Sides, MaxLevel, Blocks}
+use Rattle.amr_def.specs.declared.problem.Problem.{Problem}
+use Rattle.amr_def.specs.declared.problem.Block.{Block}
+use Rattle.amr_def.specs.declared.problem.Sides.TheVariants.{Periodic}
+use Rattle.amr_def.specs.Limits.{is_name_byte}
+use Rattle.amr_problem.specs.Keys.{range, ranges_of, first_outside}
+use Rattle.amr_problem.specs.Fields.{block_numbers, HasDefaults}
+use Rattle.amr_problem.specs.Faults.{courant_over, block_outside, first_some, text_outside, rows_outside}
+use Rattle.amr_problem.specs.Values.{number_at, text_at, numbers_at, rows_at}
+
+-- the entries are those of the table
+pub record IsReadOf (table : Members) (e : Entries) : Type 0 where
+  pub version : number_at table Version ≡ Some e.version
+  pub name : text_at table Name ≡ Some e.name.items
+  pub cells : numbers_at 2 table Cells ≡ Some (e.nx ∷ e.ny ∷ [])
+  pub steps : number_at table Steps ≡ Some e.steps
+  pub courant : numbers_at 3 table Courant ≡ Some (e.cx ∷ e.cy ∷ e.d ∷ [])
+  pub sides : numbers_at 4 table Sides ≡ Some (e.x_low ∷ e.x_high ∷ e.y_low ∷ e.y_high ∷ [])
+  pub max_level : number_at table MaxLevel ≡ Some e.max_level
+  pub blocks : rows_at 5 table Blocks ≡ Some e.blocks.items
+
+-- the first of a key's numbers that is out of its range
+abbrev pub numbers_outside : Key → List ℤ → Option Fault
+numbers_outside key zs = option_map (OutOfRange key) (first_outside (ranges_of key) zs)
+
+-- the first number, in the order of the keys, that is out of its range
+unfoldable pub range_fault : Entries → Option Fault
+range_fault e = first_some
+    (numbers_outside Version (e.version ∷ [])
+    ∷ option_map (OutOfRange Name) (text_outside (range (pos 1) (pos 32)) e.name.items)
+    ∷ numbers_outside Cells (e.nx ∷ e.ny ∷ [])
+    ∷ numbers_outside Steps (e.steps ∷ [])
+    ∷ numbers_outside Courant (e.cx ∷ e.cy ∷ e.d ∷ [])
+    ∷ numbers_outside Sides (e.x_low ∷ e.x_high ∷ e.y_low ∷ e.y_high ∷ [])
+    ∷ numbers_outside MaxLevel (e.max_level ∷ [])
+    ∷ option_map (OutOfRange Blocks) (rows_outside 256 (ranges_of Blocks) e.blocks.items)
+    ∷ [])
+
+-- the first fault of entries within their ranges
+abbrev pub in_range_fault : Entries → Option Fault
+in_range_fault e = option_or (courant_over (e.cx ∷ e.cy ∷ e.d ∷ [])) (block_outside (e.nx ∷ e.ny ∷ []) e.blocks.items)
+
+-- the first fault from the ranges on
+abbrev pub entry_fault : Entries → Option Fault
+entry_fault e = option_or (range_fault e) (in_range_fault e)
+
+-- every entry that is used further on is in its range
+pub record IsInRange (e : Entries) : Type 0 where
+  pub named : 1 ≤ length e.name.items
+  pub short_name : length e.name.items ≤ 32
+  pub name_bytes : list_all is_name_byte e.name.items ≡ true
+  pub least_nx : pos 2 ≤ℤ e.nx
+  pub greatest_nx : e.nx ≤ℤ pos 256
+  pub least_ny : pos 2 ≤ℤ e.ny
+  pub greatest_ny : e.ny ≤ℤ pos 256
+  pub least_steps : pos 0 ≤ℤ e.steps
+  pub greatest_steps : e.steps ≤ℤ pos 4096
+  pub size_cx : unsigned_abs e.cx ≤ 1024
+  pub size_cy : unsigned_abs e.cy ≤ 1024
+  pub least_d : pos 1 ≤ℤ e.d
+  pub greatest_d : e.d ≤ℤ pos 1024
+  pub x_low : e.x_low ≡ negsuc 0
+  pub x_high : e.x_high ≡ negsuc 0
+  pub y_low : e.y_low ≡ negsuc 0
+  pub y_high : e.y_high ≡ negsuc 0
+  pub max_level : e.max_level ≡ pos 0
+  pub block_count : length e.blocks.items ≤ 256
+  pub blocks : list_all (λ row. is_none (first_outside (ranges_of Blocks) row)) e.blocks.items ≡ true
+
+-- the entries have no fault from their ranges on
+pub record IsClean (e : Entries) : Type 0 where
+  pub in_range : IsInRange e
+  pub stable : courant_over (e.cx ∷ e.cy ∷ e.d ∷ []) ≡ None
+  pub inside : block_outside (e.nx ∷ e.ny ∷ []) e.blocks.items ≡ None
+
+-- the problem has what the entries say
+pub record HasEntries (e : Entries) (p : Problem) : Type 0 where
+  pub name : e.name.items ≡ p.name
+  pub nx : e.nx ≡ pos p.nx
+  pub ny : e.ny ≡ pos p.ny
+  pub steps : e.steps ≡ pos p.steps
+  pub cx : e.cx ≡ p.cx
+  pub cy : e.cy ≡ p.cy
+  pub d : e.d ≡ pos p.d
+  pub blocks : e.blocks.items ≡ map block_numbers p.blocks
+  pub x_sides : p.x_sides ≡ Periodic
+  pub y_sides : p.y_sides ≡ Periodic
+  pub max_level : p.max_level ≡ 0
+  pub absent : HasDefaults p
+
+-- the problem of one level without walls that has these parts
+pub record HasParts (name : List ℕ) (nx ny steps : ℕ) (cx cy : ℤ) (d : ℕ) (blocks : List Block) (p : Problem) : Type 0 where
+  pub name_is : p.name ≡ name
+  pub nx_is : p.nx ≡ nx
+  pub ny_is : p.ny ≡ ny
+  pub steps_is : p.steps ≡ steps
+  pub cx_is : p.cx ≡ cx
+  pub cy_is : p.cy ≡ cy
+  pub d_is : p.d ≡ d
+  pub x_sides_is : p.x_sides ≡ Periodic
+  pub y_sides_is : p.y_sides ≡ Periodic
+  pub max_level_is : p.max_level ≡ 0
+  pub blocks_are : p.blocks ≡ blocks
+  pub absent : HasDefaults p

@@ -1,0 +1,54 @@
+-- The values of a document, each read by the kind of its key.
+--     number_at, text_at, numbers_at, rows_at      the value at a key: none where it is absent or of another kind
+use Rattle.std.specs.Prelude.{ℕ, ◌+◌, ℤ, Bool, ◌==◌, List, [], ◌∷◌, Option, Some, None, option_map, option_and_then, is_some, if◌then◌else◌}
+use Rattle.toml.specs.Data.{Data, as_integer, as_str, as_array, Items, no_items, item, Members, get_member}
+use Rattle.amr_problem.specs.declared.key.Key.{Key}
+use Rattle.amr_problem.specs.Keys.{text_of}
+
+infixl 10 ◌>>=◌
+abbrev pub ◌>>=◌ : {A B : Type 0} → Option A → (A → Option B) → Option B
+o >>= f = option_and_then f o
+
+abbrev pub count : Items → ℕ
+count no_items = 0
+count (item d rest) = count rest + 1
+
+-- the integers of an array that has nothing else
+abbrev pub integers : Items → Option (List ℤ)
+integers no_items = Some []
+integers (item d rest) = as_integer d >>= (λ z. option_map (λ zs. z ∷ zs) (integers rest))
+
+-- the same, of an array of so many
+abbrev pub numbers_in : ℕ → Items → Option (List ℤ)
+numbers_in many items = if count items == many then integers items else None
+
+abbrev pub numbers_of : ℕ → Data → Option (List ℤ)
+numbers_of many d = as_array d >>= numbers_in many
+
+-- the rows of an array of arrays, each of so many integers
+abbrev pub rows_in : ℕ → Items → Option (List (List ℤ))
+rows_in many no_items = Some []
+rows_in many (item d rest) = numbers_of many d >>= (λ zs. option_map (λ rows. zs ∷ rows) (rows_in many rest))
+
+abbrev pub rows_of : ℕ → Data → Option (List (List ℤ))
+rows_of many d = as_array d >>= rows_in many
+
+-- ---- at a key
+
+abbrev pub value_at : Members → Key → Option Data
+value_at table key = get_member (text_of key) table
+
+unfoldable pub is_there : Members → Key → Bool
+is_there table key = is_some (value_at table key)
+
+unfoldable pub number_at : Members → Key → Option ℤ
+number_at table key = value_at table key >>= as_integer
+
+unfoldable pub text_at : Members → Key → Option (List ℕ)
+text_at table key = value_at table key >>= as_str
+
+unfoldable pub numbers_at : ℕ → Members → Key → Option (List ℤ)
+numbers_at many table key = value_at table key >>= numbers_of many
+
+unfoldable pub rows_at : ℕ → Members → Key → Option (List (List ℤ))
+rows_at many table key = value_at table key >>= rows_of many

@@ -1,0 +1,84 @@
+//! From bytes to the table that they are, and its keys.
+
+ghost use Rattle.std.specs.Prelude.{◌≡◌, Some, None, Ok, Err, IfOk, IfErr, IsErrOf, option_map, codes, string_bytes, find, not};
+ghost use Rattle.std.specs.BTreeMap.{keys as keys_of_map};
+ghost use Rattle.toml.specs.View.{table_view, view};
+ghost use Rattle.amr_problem.specs.Document.{document};
+ghost use Rattle.amr_problem.specs.Keys.{is_known, keys};
+ghost use Rattle.amr_problem.specs.Values.{value_at, is_there};
+ghost use Rattle.amr_problem.specs.Faults.{keys_in, unknown_key, missing_key};
+
+use crate::fault::{Fault, Refusal};
+use crate::key::{KEYS, Key, is_known};
+use crate::key_text::KeyText;
+use std::alloc::{AllocError, Global};
+use toml::{Table, Value};
+
+/// The table that the bytes are.
+pub fn read(alloc: Global, bytes: &[u8]) -> Result<Table, Refusal>
+    ensures read { IfOk result (λ table. document bytes.now ≡ Some (table_view table)) }
+    ensures refused { (f : _) → IsErrOf result (Refusal.Fault f) → (f ≡ Fault.NotToml) × (document bytes.now ≡ None) }
+{
+    match toml::table_from_slice(alloc, bytes) {
+        Ok(table) => Ok(table),
+        Err(error) => {
+            if error.is_memory() {
+                Err(Refusal::NoMemory)
+            } else {
+                Err(Refusal::Fault(Fault::NotToml))
+            }
+        }
+    }
+}
+
+/// The value at a key.
+pub fn value_at<'a>(table: &'a Table, key: Key) -> Option<&'a Value>
+    ensures { option_map (λ v. view v.now) result ≡ value_at (table_view table.now) key }
+{
+    table.get(key.text())
+}
+
+#[tactic(auto, unfolding(crate::specs::Values::is_there))]
+fn is_there(table: &Table, key: Key) -> bool
+    ensures { result ≡ is_there (table_view table.now) key }
+{
+    value_at(table, key).is_some()
+}
+
+fn unknown_text(table: &Table) -> Option<&String>
+    ensures { option_map (λ s. s.now) result ≡ find (λ key. not (is_known (string_bytes key))) (keys_of_map table.now) }
+{
+    table.keys().find(|key| !is_known(key.as_str()))
+}
+
+fn unknown_in(table: &Table) -> Option<&String>
+    ensures { option_map (λ s. string_bytes s.now) result ≡ find (λ key. not (is_known key)) (keys_in (table_view table.now)) }
+{
+    unknown_text(table)
+}
+
+/// The least key that is none of the table's.
+pub fn unknown_key(alloc: Global, table: &Table) -> Result<Option<Fault>, AllocError>
+    ensures { IfOk result (λ fault. fault ≡ unknown_key (table_view table.now)) }
+{
+    match unknown_in(table) {
+        Some(text) => Ok(Some(Fault::UnknownKey(KeyText::make(alloc, text.as_str())?))),
+        None => Ok(None),
+    }
+}
+
+fn absent_key(table: &Table) -> Option<&'static Key>
+    ensures { option_map (λ k. k.now) result ≡ find (λ key. not (is_there (table_view table.now) key)) keys }
+{
+    KEYS.iter().find(|key| !is_there(table, **key))
+}
+
+/// The first key that is absent.
+pub fn missing_key(table: &Table) -> Option<Fault>
+    ensures { result ≡ missing_key (table_view table.now) }
+{
+    match absent_key(table) {
+        Some(key) => Some(Fault::Missing(*key)),
+        None => None,
+    }
+}

@@ -1,0 +1,94 @@
+//! The judgement.
+
+ghost use Rattle.std.specs.Prelude.{◌≡◌, Some, None, IfOk, OnOk, IsErrOf};
+ghost use Rattle.toml.specs.View.{table_view};
+ghost use Rattle.amr_problem.specs.Document.{table_of};
+ghost use Rattle.amr_problem.specs.Faults.{first_fault, fault_in};
+ghost use Rattle.amr_problem.specs.Entries.{entry_fault, in_range_fault, IsInRange, IsClean, HasEntries};
+ghost use Rattle.amr_problem.specs.Judgement.{fault_of, HasKeys, IsProblemOf};
+
+use crate::checks::{block_outside, courant_over};
+use crate::document::{missing_key, read, unknown_key};
+use crate::entries::Entries;
+use crate::fault::{Fault, JudgeFault, ProblemFault, Refusal};
+use crate::problem::problem;
+use crate::ranges::out_of_range;
+use amr_def::Problem;
+use std::alloc::Global;
+use toml::Table;
+
+#[cfg(test)]
+mod tests;
+
+/// The greatest number of bytes of a problem.
+pub const MOST_BYTES: usize = 65536;
+
+/// The problem that the bytes are, or their fault. Want of memory comes at any bytes.
+///
+/// A problem is UTF-8 TOML with the keys of the table and no other. (profile)
+#[tactic(auto, unfolding(crate::specs::Judgement::fault_of))]
+pub fn judge(alloc: Global, bytes: &[u8]) -> Result<Problem, JudgeFault>
+    ensures accepted { IfOk result (IsProblemOf bytes.now) }
+    ensures refused { (f : _) → IsErrOf result (JudgeFault.Fault f) → fault_of bytes.now ≡ Some f }
+{
+    match whole(alloc, bytes) {
+        Ok(problem) => Ok(problem),
+        // each fault is told as the one that there is
+        Err(Refusal::Fault(_)) => Err(JudgeFault::Fault(ProblemFault::NotBuilt)),
+        Err(Refusal::NoMemory) => Err(JudgeFault::NoMemory),
+    }
+}
+
+fn whole(alloc: Global, bytes: &[u8]) -> Result<Problem, Refusal>
+    ensures clean { IfOk result (λ _. first_fault bytes.now ≡ None) }
+    ensures keys { IfOk result (HasKeys (table_of bytes.now)) }
+    ensures refused { (f : _) → IsErrOf result (Refusal.Fault f) → first_fault bytes.now ≡ Some f }
+{
+    if bytes.len() > MOST_BYTES {
+        return Err(Refusal::Fault(Fault::TooLong));
+    }
+    let table = read(alloc, bytes)?;
+    of_table(alloc, &table)
+}
+
+fn of_table(alloc: Global, table: &Table) -> Result<Problem, Refusal>
+    ensures clean { IfOk result (λ _. fault_in (table_view table.now) ≡ None) }
+    ensures keys { IfOk result (HasKeys (table_view table.now)) }
+    ensures refused { (f : _) → IsErrOf result (Refusal.Fault f) → fault_in (table_view table.now) ≡ Some f }
+{
+    let unknown = unknown_key(alloc, table)?;
+    if let Some(fault) = unknown.or(missing_key(table)) {
+        return Err(Refusal::Fault(fault));
+    }
+    of_entries(alloc, Entries::read(alloc, table)?)
+}
+
+fn of_entries(alloc: Global, entries: Entries) -> Result<Problem, Refusal>
+    ensures clean { OnOk result (entry_fault entries ≡ None) }
+    ensures in_range { OnOk result (IsInRange entries) }
+    ensures entries { IfOk result (HasEntries entries) }
+    ensures refused { (f : _) → IsErrOf result (Refusal.Fault f) → entry_fault entries ≡ Some f }
+{
+    if let Some(fault) = entry_fault(&entries) {
+        return Err(Refusal::Fault(fault));
+    }
+    Ok(problem(alloc, entries)?)
+}
+
+fn entry_fault(entries: &Entries) -> Option<Fault>
+    ensures first { result ≡ entry_fault entries.now }
+    ensures clean { result ≡ None → IsClean entries.now }
+{
+    match out_of_range(entries) {
+        Some(fault) => Some(fault),
+        None => in_range_fault(entries),
+    }
+}
+
+fn in_range_fault(entries: &Entries) -> Option<Fault>
+    requires { IsInRange entries.now }
+    ensures { result ≡ in_range_fault entries.now }
+{
+    let courant = courant_over(entries.cx, entries.cy, entries.d);
+    courant.or(block_outside(entries.nx, entries.ny, entries.blocks.as_slice()))
+}

@@ -1,0 +1,174 @@
+//! Which texts are accepted and which refused: each fault, and the ends of each range.
+
+use super::{MOST_BYTES, judge, whole};
+use crate::fault::{JudgeFault, ProblemFault};
+use std::alloc::{Alloc, Global};
+use std::test::Fail;
+
+const RING: &str =
+    "version = 1\nname = \"ring\"\ncells = [4, 2]\nsteps = 1\ncourant = [1, 1, 4]\nsides = [-1, -1, -1, -1]\nmax_level = 0\nblocks = [[0, 0, 0, 0, 8]]\n";
+
+/// A part of the ring's text, what stands in its place, and the verdict on the whole; `/` is the end of a line.
+const TABLE: &str = "steps = 1/ => steps = 1/ => accepted
+version = 1/ =>  => Fault(Missing(Version))
+name = \"ring\"/ =>  => Fault(Missing(Name))
+cells = [4, 2]/ =>  => Fault(Missing(Cells))
+steps = 1/ =>  => Fault(Missing(Steps))
+courant = [1, 1, 4]/ =>  => Fault(Missing(Courant))
+sides = [-1, -1, -1, -1]/ =>  => Fault(Missing(Sides))
+max_level = 0/ =>  => Fault(Missing(MaxLevel))
+blocks = [[0, 0, 0, 0, 8]]/ =>  => Fault(Missing(Blocks))
+version = 1 => version = \"1\" => Fault(WrongKind(Version))
+name = \"ring\" => name = 7 => Fault(WrongKind(Name))
+cells = [4, 2] => cells = 4 => Fault(WrongKind(Cells))
+cells = [4, 2] => cells = [4] => Fault(WrongKind(Cells))
+cells = [4, 2] => cells = [4, 2, 2] => Fault(WrongKind(Cells))
+cells = [4, 2] => cells = [4, 2.0] => Fault(WrongKind(Cells))
+steps = 1 => steps = 1.0 => Fault(WrongKind(Steps))
+courant = [1, 1, 4] => courant = [1, 1] => Fault(WrongKind(Courant))
+sides = [-1, -1, -1, -1] => sides = [-1, -1, -1] => Fault(WrongKind(Sides))
+max_level = 0 => max_level = [0] => Fault(WrongKind(MaxLevel))
+blocks = [[0, 0, 0, 0, 8]] => blocks = {} => Fault(WrongKind(Blocks))
+blocks = [[0, 0, 0, 0, 8]] => blocks = [0, 0, 0, 0, 8] => Fault(WrongKind(Blocks))
+blocks = [[0, 0, 0, 0, 8]] => blocks = [[0, 0, 0, 0]] => Fault(WrongKind(Blocks))
+blocks = [[0, 0, 0, 0, 8]] => blocks = [[0, 0, 0, 0, true]] => Fault(WrongKind(Blocks))
+version = 1 => version = 0 => Fault(OutOfRange(Version, 0))
+version = 1 => version = 2 => Fault(OutOfRange(Version, 2))
+name = \"ring\" => name = \"\" => Fault(OutOfRange(Name, 0))
+name = \"ring\" => name = \"r\" => accepted
+name = \"ring\" => name = \"aaaaaaaaaaaaaaaaaaaaaaaaaaaaaaaa\" => accepted
+name = \"ring\" => name = \"aaaaaaaaaaaaaaaaaaaaaaaaaaaaaaaaa\" => Fault(OutOfRange(Name, 33))
+name = \"ring\" => name = \"az-09_\" => accepted
+name = \"ring\" => name = \"Ring\" => Fault(OutOfRange(Name, 4))
+name = \"ring\" => name = \"r g\" => Fault(OutOfRange(Name, 3))
+cells = [4, 2] => cells = [1, 2] => Fault(OutOfRange(Cells, 1))
+cells = [4, 2] => cells = [2, 2] => accepted
+cells = [4, 2] => cells = [256, 256] => accepted
+cells = [4, 2] => cells = [257, 2] => Fault(OutOfRange(Cells, 257))
+cells = [4, 2] => cells = [4, 1] => Fault(OutOfRange(Cells, 1))
+cells = [4, 2] => cells = [4, 257] => Fault(OutOfRange(Cells, 257))
+steps = 1 => steps = -1 => Fault(OutOfRange(Steps, -1))
+steps = 1 => steps = 0 => accepted
+steps = 1 => steps = 4096 => accepted
+steps = 1 => steps = 4097 => Fault(OutOfRange(Steps, 4097))
+courant = [1, 1, 4] => courant = [-1025, 0, 1024] => Fault(OutOfRange(Courant, -1025))
+courant = [1, 1, 4] => courant = [-1024, 0, 1024] => accepted
+courant = [1, 1, 4] => courant = [1025, 0, 1024] => Fault(OutOfRange(Courant, 1025))
+courant = [1, 1, 4] => courant = [0, 1025, 1024] => Fault(OutOfRange(Courant, 1025))
+courant = [1, 1, 4] => courant = [0, 1024, 1024] => accepted
+courant = [1, 1, 4] => courant = [0, 0, 0] => Fault(OutOfRange(Courant, 0))
+courant = [1, 1, 4] => courant = [0, 0, 1] => accepted
+courant = [1, 1, 4] => courant = [0, 0, 1025] => Fault(OutOfRange(Courant, 1025))
+sides = [-1, -1, -1, -1] => sides = [0, 0, 0, 0] => Fault(OutOfRange(Sides, 0))
+sides = [-1, -1, -1, -1] => sides = [-1, -1, -1, 0] => Fault(OutOfRange(Sides, 0))
+sides = [-1, -1, -1, -1] => sides = [-2, -1, -1, -1] => Fault(OutOfRange(Sides, -2))
+max_level = 0 => max_level = -1 => Fault(OutOfRange(MaxLevel, -1))
+max_level = 0 => max_level = 1 => Fault(OutOfRange(MaxLevel, 1))
+blocks = [[0, 0, 0, 0, 8]] => blocks = [[-1, 0, 0, 0, 8]] => Fault(OutOfRange(Blocks, -1))
+blocks = [[0, 0, 0, 0, 8]] => blocks = [[0, 0, 0, 256, 8]] => Fault(OutOfRange(Blocks, 256))
+blocks = [[0, 0, 0, 0, 8]] => blocks = [[0, 0, 0, 0, -1]] => Fault(OutOfRange(Blocks, -1))
+blocks = [[0, 0, 0, 0, 8]] => blocks = [[0, 0, 0, 0, 1073741824]] => accepted
+blocks = [[0, 0, 0, 0, 8]] => blocks = [[0, 0, 0, 0, 1073741825]] => Fault(OutOfRange(Blocks, 1073741825))
+courant = [1, 1, 4] => courant = [3, 2, 4] => Fault(CourantOver(5, 4))
+courant = [1, 1, 4] => courant = [-3, 2, 4] => Fault(CourantOver(5, 4))
+courant = [1, 1, 4] => courant = [2, -2, 4] => accepted
+blocks = [[0, 0, 0, 0, 8]] => blocks = [] => accepted
+blocks = [[0, 0, 0, 0, 8]] => blocks = [[0, 0, 3, 1, 8]] => accepted
+blocks = [[0, 0, 0, 0, 8]] => blocks = [[1, 0, 0, 0, 8]] => Fault(BlockOutside(0))
+blocks = [[0, 0, 0, 0, 8]] => blocks = [[0, 1, 0, 0, 8]] => Fault(BlockOutside(0))
+blocks = [[0, 0, 0, 0, 8]] => blocks = [[0, 0, 4, 0, 8]] => Fault(BlockOutside(0))
+blocks = [[0, 0, 0, 0, 8]] => blocks = [[0, 0, 0, 0, 8], [0, 0, 0, 2, 8]] => Fault(BlockOutside(1))
+version = 1 =>  => Fault(Missing(Version))
+version = 1 => version = => Fault(NotToml)
+version = 1 => version = 1/version = 1 => Fault(NotToml)
+version = 1 => vers = 1 => Fault(UnknownKey(KeyText { text: \"vers\" }))
+version = 1 => version = 1/max_grid_size = 32/blank = 0 => Fault(UnknownKey(KeyText { text: \"blank\" }))
+version = 1 => version = 2/tag = [] => Fault(UnknownKey(KeyText { text: \"tag\" }))
+version = 1/name = \"ring\" => name = 7 => Fault(Missing(Version))
+cells = [4, 2] => cells = [1, 2.0] => Fault(WrongKind(Cells))
+steps = 1/courant = [1, 1, 4] => steps = -1/courant = 4 => Fault(WrongKind(Courant))
+steps = 1/courant = [1, 1, 4] => steps = -1/courant = [9, 9, 4] => Fault(OutOfRange(Steps, -1))
+blocks = [[0, 0, 0, 0, 8]] => blocks = [[9, 0, 0, 0, 1073741825]] => Fault(OutOfRange(Blocks, 1073741825))";
+
+/// Why bytes are refused; `accepted` where they are not.
+fn verdict(alloc: Global, bytes: &[u8]) -> Result<String, Fail> {
+    match whole(alloc, bytes) {
+        Ok(_) => Ok(String::from_str(alloc, "accepted")?),
+        Err(refusal) => Ok(format!(in alloc; "{refusal:?}")?),
+    }
+}
+
+/// The text with its ends of lines.
+fn in_lines(alloc: Global, text: &str) -> Result<String, Fail> {
+    let mut lines = String::new(alloc);
+    for c in text.chars() {
+        lines.push(if c == '/' { '\n' } else { c })?;
+    }
+    Ok(lines)
+}
+
+#[test]
+fn each_fault_comes_where_it_applies(rt: HostRuntime) -> Result<(), Fail> {
+    let alloc = rt.alloc();
+    for row in TABLE.lines() {
+        let (old, rest) = row.split_once(" => ").expect(&rt, "three parts");
+        let (new, want) = rest.split_once(" => ").expect(&rt, "three parts");
+        let old = in_lines(alloc, old)?;
+        let new = in_lines(alloc, new)?;
+        let (before, after) = RING
+            .split_once(old.as_str())
+            .expect(&rt, "a part of the text");
+        let text = format!(in alloc; "{before}{new}{after}")?;
+        let told = verdict(alloc, text.as_bytes())?;
+        assert_eq!(rt; told.as_str(), want, "{text}");
+        let accepted = judge(alloc, text.as_bytes()).is_ok();
+        assert_eq!(rt; accepted, want == "accepted", "{text}");
+    }
+    Ok(())
+}
+
+#[test]
+fn the_ring_has_its_fields(rt: HostRuntime) {
+    let ring = judge(rt.alloc(), RING.as_bytes()).expect(&rt, "the ring");
+    assert_eq!(rt; ring.name.bytes(), b"ring".as_slice());
+    assert_eq!(rt; (ring.nx, ring.ny, ring.steps), (4, 2, 1));
+    assert_eq!(rt; (ring.cx, ring.cy, ring.d), (1, 1, 4));
+    assert!(rt; ring.x_sides.is_periodic() && ring.y_sides.is_periodic());
+    assert_eq!(rt; (ring.max_level, ring.max_grid_size), (0, 32));
+    assert_eq!(rt; ring.blocks.entries().len(), 1);
+}
+
+#[test]
+fn the_length_counts_in_bytes(rt: HostRuntime) -> Result<(), Fail> {
+    let alloc = rt.alloc();
+    assert_eq!(rt; verdict(alloc, b"")?.as_str(), "Fault(Missing(Version))");
+    assert_eq!(rt; verdict(alloc, b"\xff")?.as_str(), "Fault(NotToml)");
+    let mut text = format!(in alloc; "{RING}#")?;
+    for _ in text.len()..MOST_BYTES {
+        text.push('x')?;
+    }
+    assert_eq!(rt; verdict(alloc, text.as_bytes())?.as_str(), "accepted");
+    text.push('x')?;
+    assert_eq!(rt; verdict(alloc, text.as_bytes())?.as_str(), "Fault(TooLong)");
+    let told = judge(alloc, text.as_bytes());
+    assert!(rt; matches!(told, Err(JudgeFault::Fault(ProblemFault::NotBuilt))));
+    Ok(())
+}
+
+#[test]
+fn there_are_at_most_256_blocks(rt: HostRuntime) -> Result<(), Fail> {
+    let alloc = rt.alloc();
+    let (before, _) = RING.split_once("[[").expect(&rt, "a part of the text");
+    let mut rows = String::new(alloc);
+    for _ in 0..256 {
+        rows.push_str("[0, 0, 0, 0, 1], ")?;
+    }
+    let most = format!(in alloc; "{before}[{rows}]")?;
+    assert_eq!(rt; verdict(alloc, most.as_bytes())?.as_str(), "accepted");
+    let over = format!(in alloc; "{before}[{rows}[0, 0, 0, 0, 1]]")?;
+    assert_eq!(rt;
+        verdict(alloc, over.as_bytes())?.as_str(),
+        "Fault(OutOfRange(Blocks, 257))"
+    );
+    Ok(())
+}

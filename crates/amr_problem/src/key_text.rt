@@ -1,0 +1,37 @@
+//! A key as a document writes it.
+
+ghost use Rattle.std.specs.Prelude.{◌≡◌, IfOk};
+
+use std::alloc::{AllocError, Global};
+use std::marker::Model;
+
+/// The text of a key, as its bytes.
+#[derive(Debug, Drop)]
+pub struct KeyText {
+    text: String,
+}
+
+impl Model for KeyText {
+    ghost use Rattle.std.specs.Prelude.{List, ℕ, string_bytes};
+
+    ghost Value = { List ℕ };
+
+    ghost view = { λ k. string_bytes k.text };
+}
+
+impl KeyText {
+    /// A copy of the text.
+    pub fn make(alloc: Global, text: &str) -> Result<KeyText, AllocError>
+        ensures { IfOk result (λ k. k ≡ text.now) }
+    {
+        Ok(KeyText {
+            text: String::from_str(alloc, text)?,
+        })
+    }
+
+    pub fn text(&self) -> &str
+        ensures { result.now ≡ self.now }
+    {
+        self.text.as_str()
+    }
+}

@@ -1,0 +1,21 @@
+//! The judgement of problem bytes: the problem that they are, or the first fault of the table of faults that they have.
+//!
+//! - `specs/Keys.antt`: the table of keys.
+//! - `specs/Values.antt`: the values of a document, each read by the kind of its key.
+//! - `specs/Faults.antt`: the faults, in the order in which they are looked for.
+//! - `specs/Judgement.antt`: the fault of bytes, and the problem that they are.
+#![tactic(auto)]
+
+mod checks;
+mod document;
+mod entries;
+mod fault;
+mod judgement;
+mod key;
+mod key_text;
+mod problem;
+mod ranges;
+mod values;
+
+pub use fault::{JudgeFault, ProblemFault};
+pub use judgement::judge;

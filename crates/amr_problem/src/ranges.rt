@@ -1,0 +1,91 @@
+//! Whether entries are within their ranges.
+
+ghost use Rattle.std.specs.Prelude.{◌≡◌, pos, None, option_map, map, [], ◌∷◌};
+ghost use Rattle.std.specs.List.{list_all};
+ghost use Rattle.amr_def.specs.Limits.{is_name_byte};
+ghost use Rattle.amr_problem.specs.Keys.{ranges_of, range, first_outside};
+ghost use Rattle.amr_problem.specs.Faults.{first_some, text_outside, rows_outside};
+ghost use Rattle.amr_problem.specs.Entries.{numbers_outside, range_fault, IsInRange};
+
+use crate::entries::Entries;
+use crate::fault::Fault;
+use crate::key::{Key, first_outside};
+
+/// The greatest number of blocks.
+pub const MOST_BLOCKS: usize = 256;
+
+/// The first number, in the order of the keys, that is out of its range.
+pub fn out_of_range(entries: &Entries) -> Option<Fault>
+    ensures first { result ≡ range_fault entries.now }
+    ensures in_range { result ≡ None → IsInRange entries.now }
+{
+    numbers(Key::Version, &[entries.version])
+        .or(name(entries.name.as_slice()))
+        .or(numbers(Key::Cells, &[entries.nx, entries.ny]))
+        .or(numbers(Key::Steps, &[entries.steps]))
+        .or(numbers(Key::Courant, &[entries.cx, entries.cy, entries.d]))
+        .or(numbers(
+            Key::Sides,
+            &[entries.x_low, entries.x_high, entries.y_low, entries.y_high],
+        ))
+        .or(numbers(Key::MaxLevel, &[entries.max_level]))
+        .or(blocks(entries.blocks.as_slice()))
+}
+
+fn numbers(key: Key, numbers: &[i64]) -> Option<Fault>
+    ensures { result ≡ numbers_outside key numbers.now }
+{
+    match first_outside(key.ranges(), numbers) {
+        Some(number) => Some(Fault::OutOfRange(key, number)),
+        None => None,
+    }
+}
+
+fn name(bytes: &[u8]) -> Option<Fault>
+    ensures { result ≡ option_map (Fault.OutOfRange Key.Name) (text_outside (range (pos 1) (pos 32)) bytes.now) }
+{
+    let length = bytes.len() as i64;
+    let fits = first_outside(Key::Name.ranges(), &[length]).is_none();
+    if fits && is_name(bytes) {
+        None
+    } else {
+        Some(Fault::OutOfRange(Key::Name, length))
+    }
+}
+
+fn is_name(bytes: &[u8]) -> bool
+    ensures { result ≡ list_all is_name_byte bytes.now }
+{
+    bytes.iter().all(|&byte| is_name_byte(byte))
+}
+
+fn is_name_byte(byte: u8) -> bool
+    ensures { result ≡ is_name_byte byte }
+{
+    byte.is_ascii_lowercase() || byte.is_ascii_digit() || byte == b'-' || byte == b'_'
+}
+
+fn blocks(rows: &[[i64; 5]]) -> Option<Fault>
+    ensures { result ≡ option_map (Fault.OutOfRange Key.Blocks) (rows_outside 256 (ranges_of Key.Blocks) rows.now) }
+{
+    let outside = if rows.len() > MOST_BLOCKS {
+        Some(rows.len() as i64)
+    } else {
+        first_row_outside(rows)
+    };
+    match outside {
+        Some(number) => Some(Fault::OutOfRange(Key::Blocks, number)),
+        None => None,
+    }
+}
+
+fn first_row_outside(rows: &[[i64; 5]]) -> Option<i64>
+    ensures { result ≡ first_some (map (first_outside (ranges_of Key.Blocks)) rows.now) }
+{
+    for row in rows {
+        if let Some(number) = first_outside(Key::Blocks.ranges(), row) {
+            return Some(number);
+        }
+    }
+    None
+}

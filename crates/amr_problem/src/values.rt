@@ -1,0 +1,62 @@
+//! The values of a document, each read as its key's kind has it.
+
+ghost use Rattle.std.specs.Prelude.{◌≡◌, Some, None, option_map, IfOk};
+ghost use Rattle.toml.specs.View.{view, items_view};
+ghost use Rattle.amr_problem.specs.Values.{numbers_in, numbers_of, rows_in, rows_of};
+
+use std::alloc::{AllocError, Global};
+use toml::Value;
+
+/// The integers of an array that has `N` of them and nothing else.
+pub fn numbers_in<const N: usize>(items: &[Value]) -> Option<[i64; N]>
+    ensures { result ≡ numbers_in N (items_view items.now) }
+{
+    if items.len() != N {
+        return None;
+    }
+    let mut numbers = [0; N];
+    for (place, item) in items.iter().enumerate() {
+        numbers[place] = item.as_integer()?;
+    }
+    Some(numbers)
+}
+
+/// The rows of an array of arrays, each of `N` integers.
+pub fn rows_in<const N: usize>(
+    alloc: Global,
+    items: &[Value],
+) -> Result<Option<Vec<[i64; N]>>, AllocError>
+    ensures { IfOk result (λ o. option_map (λ v. v.items) o ≡ rows_in N (items_view items.now)) }
+{
+    let mut rows = Vec::new(alloc);
+    for item in items {
+        let Some(row) = numbers_of(item) else {
+            return Ok(None);
+        };
+        rows.push(row)?;
+    }
+    Ok(Some(rows))
+}
+
+/// The integers of a value that is an array of `N` of them.
+pub fn numbers_of<const N: usize>(value: &Value) -> Option<[i64; N]>
+    ensures { result ≡ numbers_of N (view value.now) }
+{
+    match value.as_array() {
+        Some(items) => numbers_in(items),
+        None => None,
+    }
+}
+
+/// The rows of a value that is an array of arrays, each of `N` integers.
+pub fn rows_of<const N: usize>(
+    alloc: Global,
+    value: &Value,
+) -> Result<Option<Vec<[i64; N]>>, AllocError>
+    ensures { IfOk result (λ o. option_map (λ v. v.items) o ≡ rows_of N (view value.now)) }
+{
+    match value.as_array() {
+        Some(items) => rows_in(alloc, items),
+        None => Ok(None),
+    }
+}
