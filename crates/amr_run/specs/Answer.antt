@@ -1,0 +1,24 @@
+-- The defined answer of a command, by the bytes of its source.
+use Rattle.std.specs.Prelude.{ℕ, ◌≡◌, List, None}
+use Rattle.amr_def.specs.declared.problem.Problem.{Problem}
+use Rattle.amr_def.specs.Run as runs
+use Rattle.amr_def.specs.Plot as plots
+use Rattle.amr_def.specs.Facts.{IsSound}
+use Rattle.amr_problem.specs.Judgement.{fault_of, IsProblemOf}
+use Rattle.amr_run.specs.declared.command.Command.{Command}
+use Rattle.amr_run.specs.declared.command.Command.TheVariants.{Run}
+
+-- These bytes are the plot of the run of the problem that the bytes of the source are, after all its steps. The state that is
+-- printed is sound: nested, synced, bounded and telescoped.
+pub record IsPlotOfRun (bytes out : List ℕ) : Type 0 where
+  pub problem : Problem
+  pub accepted : IsProblemOf bytes problem
+  pub text : out ≡ plots.plot problem (runs.run problem problem.steps)
+  pub sound : IsSound problem (runs.run problem problem.steps)
+
+abbrev pub IsAnswer : Command → List ℕ → List ℕ → Type 0
+IsAnswer Run bytes out = IsPlotOfRun bytes out
+
+-- the command has an answer: the bytes of the source are a problem without fault
+abbrev pub HasAnswer : Command → List ℕ → Type 0
+HasAnswer Run bytes = fault_of bytes ≡ None

@@ -1,0 +1,18 @@
+-- The statuses by which a fault of a lower layer ends a call.
+use Rattle.amr_io.specs.declared.source.ReadAll.{ReadAll}
+use Rattle.amr_io.specs.declared.source.ReadAll.TheVariants as reading
+use Rattle.amr_problem.specs.declared.fault.JudgeFault.{JudgeFault}
+use Rattle.amr_problem.specs.declared.fault.JudgeFault.TheVariants as judging
+use Rattle.amr_problem.specs.declared.fault.ProblemFault.TheVariants.{NotBuilt}
+use Rattle.amr_run.specs.declared.status.Status.{Status}
+use Rattle.amr_run.specs.declared.status.Status.TheVariants.{ReadFault, Problem, NoMemory}
+
+-- bytes that are too many are no problem
+abbrev pub read_refused : ReadAll → Status
+read_refused reading.TooLong = Problem NotBuilt
+read_refused reading.ReadFault = ReadFault
+read_refused reading.NoMemory = NoMemory
+
+abbrev pub judge_refused : JudgeFault → Status
+judge_refused (judging.Fault fault) = Problem fault
+judge_refused judging.NoMemory = NoMemory

@@ -1,0 +1,91 @@
+// The top call.
+ghost use Rattle.std.specs.Prelude.{◌≡◌, ◌≢◌, ◌⊎◌, List, ℕ, Some, Err, IfErr, OnOk};
+ghost use Rattle.std.specs.Io.KnownBytes.{IsAtEnd};
+ghost use Rattle.amr_causes.specs.Causes.{Rose};
+ghost use Rattle.amr_causes.specs.Bytes.{Grows, IsPrefix, WereLeft};
+ghost use Rattle.amr_run.specs.Words.{command_of};
+ghost use Rattle.amr_run.specs.Texts.{message};
+ghost use Rattle.amr_run.specs.Answer.{HasAnswer};
+ghost use Rattle.amr_run.specs.Outcome.{Outcome, Replies, status_of};
+
+use crate::command::read_words;
+use crate::message::tell;
+use crate::{Command, Line, Status};
+use amr_io::{Sink, Source, read_all};
+use amr_problem::judge;
+use amr_single::{plot, run_to, start};
+use std::alloc::Global;
+
+/// The most bytes that a problem has.
+const MOST_BYTES: usize = 65536;
+
+/// Does what the words ask for: reads a problem from `src`, makes its run and writes the plot to `out`, or says on `err`
+/// why not. `_rt` is the runtime that workers are to come from; so far there are none.
+///
+/// Clauses on bytes hold of objects that tell them. Want of memory may come at any time and is tied to no cause.
+pub fn amr<R, S: Source, O: Sink, E: Sink>(
+    _rt: &R,
+    alloc: Global,
+    words: &Line,
+    src: &mut S,
+    out: &mut O,
+    err: &mut E,
+) -> Status
+    // The status, and what went to `out`, are those of the words and of the bytes that the source had left.
+    ensures outcome { (bytes : List ℕ) × ((sent : List ℕ) × WereLeft (S.left src.old) bytes
+        × Grows O.holds out.old out.new sent × Outcome result (command_of words.now) bytes sent) }
+
+    // Where all is done, nothing of the source is left.
+    ensures ended { result ≡ Status.Done → IsAtEnd (S.left src.new) }
+
+    // What goes to `err` is the line of a refusal, whole unless `err` failed, and nothing where all is done.
+    ensures message { (part : List ℕ) × Grows E.holds err.old err.new part × IsPrefix part (message result)
+        × ((part ≡ message result) ⊎ Rose (E.faults err.old) (E.faults err.new)) }
+
+    // A fault of the outside comes only where that object failed in this call.
+    ensures read_fault { result ≡ Status.ReadFault → Rose (S.faults src.old) (S.faults src.new) }
+    ensures write_fault { result ≡ Status.WriteFault → Rose (O.faults out.old) (O.faults out.new) }
+
+    // Words that are a command and bytes that have an answer get it, unless something fails or memory runs out.
+    ensures complete { (command : _) → command_of words.now ≡ Some command
+        → ((bytes : List ℕ) → WereLeft (S.left src.old) bytes → HasAnswer command bytes)
+        → ¬ (Rose (S.faults src.old) (S.faults src.new)) → ¬ (Rose (O.faults out.old) (O.faults out.new))
+        → (result ≡ Status.Done) ⊎ (result ≡ Status.NoMemory) }
+{
+    let status = serve(alloc, words, src, out);
+    let _ = tell(err, &status);
+    status
+}
+
+fn serve<S: Source, O: Sink>(alloc: Global, words: &Line, src: &mut S, out: &mut O) -> Status
+    ensures outcome { (bytes : List ℕ) × ((sent : List ℕ) × WereLeft (S.left src.old) bytes
+        × Grows O.holds out.old out.new sent × Outcome result (command_of words.now) bytes sent) }
+    ensures ended { result ≡ Status.Done → IsAtEnd (S.left src.new) }
+    ensures read_fault { result ≡ Status.ReadFault → Rose (S.faults src.old) (S.faults src.new) }
+    ensures write_fault { result ≡ Status.WriteFault → Rose (O.faults out.old) (O.faults out.new) }
+{
+    match read_words(words) {
+        None => Status::Usage,
+        Some(Command::Run) => match run(alloc, src, out) {
+            Ok(()) => Status::Done,
+            Err(refusal) => refusal,
+        },
+    }
+}
+
+// The command `run`: the plot of the run of the problem on the source, or the status that refuses it.
+fn run<S: Source, O: Sink>(alloc: Global, src: &mut S, out: &mut O) -> Result<(), Status>
+    ensures outcome { (bytes : List ℕ) × ((sent : List ℕ) × WereLeft (S.left src.old) bytes
+        × Grows O.holds out.old out.new sent × Replies (status_of result) Command.Run bytes sent) }
+    ensures ended { OnOk result (IsAtEnd (S.left src.new)) }
+    ensures refused { IfErr result (λ status. status ≢ Status.Done) }
+    ensures read_fault { result ≡ Err Status.ReadFault → Rose (S.faults src.old) (S.faults src.new) }
+    ensures write_fault { result ≡ Err Status.WriteFault → Rose (O.faults out.old) (O.faults out.new) }
+{
+    let bytes = read_all(alloc, src, MOST_BYTES)?;
+    let problem = judge(alloc, &bytes)?;
+    let mut grid = start(alloc, &problem)?;
+    run_to(&problem, &mut grid, problem.steps)?;
+    plot(&problem, &grid, out)?;
+    Ok(())
+}

@@ -1,0 +1,87 @@
+// How a call ended.
+ghost use Rattle.std.specs.Prelude.{◌≡◌};
+ghost use Rattle.amr_run.specs.Texts.{exit_status};
+
+use amr_causes::NoMemory;
+use amr_io::{ReadAll, WriteFault};
+use amr_problem::{JudgeFault, ProblemFault};
+
+/// How a call of [`amr`](crate::amr) ended, in the order in which the causes are looked for.
+#[derive(Debug, PartialEq, Eq, Drop)]
+pub enum Status {
+    /// The answer went out.
+    Done,
+    /// The words are no command.
+    Usage,
+    /// The source failed.
+    ReadFault,
+    /// The bytes of the source are no problem that can be run.
+    Problem(ProblemFault),
+    /// The sink of the answer failed.
+    WriteFault,
+    /// Memory ran out.
+    NoMemory,
+}
+
+impl Status {
+    /// The exit status of the program.
+    pub fn code(&self) -> u8
+        ensures { result ≡ exit_status self.now }
+    {
+        match self {
+            Status::Done => 0,
+            Status::Usage => 2,
+            Status::Problem(_) => 3,
+            Status::ReadFault => 4,
+            Status::WriteFault => 5,
+            Status::NoMemory => 9,
+        }
+    }
+}
+
+impl From<ReadAll> for Status {
+    ghost use Rattle.amr_run.specs.Refusals.{read_refused};
+
+    ghost from_gives = { λ e status. status ≡ read_refused e };
+
+    fn from(fault: ReadAll) -> Self {
+        match fault {
+            ReadAll::TooLong => Status::Problem(ProblemFault::NotBuilt),
+            ReadAll::ReadFault => Status::ReadFault,
+            ReadAll::NoMemory => Status::NoMemory,
+        }
+    }
+}
+
+impl From<JudgeFault> for Status {
+    ghost use Rattle.amr_run.specs.Refusals.{judge_refused};
+
+    ghost from_gives = { λ e status. status ≡ judge_refused e };
+
+    fn from(fault: JudgeFault) -> Self {
+        match fault {
+            JudgeFault::Fault(fault) => Status::Problem(fault),
+            JudgeFault::NoMemory => Status::NoMemory,
+        }
+    }
+}
+
+impl From<NoMemory> for Status {
+    ghost use Rattle.amr_run.specs.declared.status.Status.TheVariants.{NoMemory as no_memory};
+
+    ghost from_gives = { λ e status. status ≡ no_memory };
+
+    fn from(_: NoMemory) -> Self {
+        Status::NoMemory
+    }
+}
+
+impl From<WriteFault> for Status {
+    ghost use Rattle.amr_run.specs.declared.status.Status.TheVariants.{WriteFault as write_fault};
+
+    ghost from_gives = { λ e status. status ≡ write_fault };
+
+    fn from(_: WriteFault) -> Self {
+        Status::WriteFault
+    }
+}

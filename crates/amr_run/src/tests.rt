@@ -1,0 +1,243 @@
+// What no clause says: that the call succeeds, worked plots, and the text of each refusal.
+
+use crate::{Line, amr};
+use amr_io::{MemSink, MemSource};
+use std::alloc::{AllocError, Global};
+use std::fmt::Write as _;
+use std::process::Abort;
+use std::test::Fail;
+
+// The ring: a block of mass 8 that moves half a cell a step along a periodic axis.
+const RING: &str = "version = 1
+name = \"ring\"
+cells = [4, 2]
+steps = 1
+courant = [1, 0, 2]
+sides = [-1, -1, -1, -1]
+max_level = 0
+blocks = [[0, 0, 0, 0, 8]]
+";
+
+const RING_PLOT: &str = "amr-plot 1
+name ring
+step 1
+ledger 0 8 0 0
+ledger 1 8 0 0
+level 0 1
+box 0 0 3 1
+4 4 0 0
+0 0 0 0
+end
+";
+
+const NOT_BUILT: &str = "amr: problem: not built\n";
+
+const USAGE: &str =
+    "amr: usage: run [--workers W] [--to K] [--keep E] | check | show | trial NUMBER SIZE [--workers W]\n";
+
+// What a call is made on: the words, the bytes, and the calls of the three objects that fail.
+#[derive(Clone, Copy)]
+struct Case<'a> {
+    words: &'a str,
+    bytes: &'a [u8],
+    reads_fail: &'a [u64],
+    writes_fail: &'a [u64],
+    lines_fail: &'a [u64],
+}
+
+impl<'a> Case<'a> {
+    fn run(bytes: &'a [u8]) -> Case<'a> {
+        Case {
+            words: "run",
+            bytes,
+            reads_fail: &[],
+            writes_fail: &[],
+            lines_fail: &[],
+        }
+    }
+
+    // The status and what went to the two sinks are as wanted.
+    fn ends<R: Abort + Alloc<A = Global>>(self, rt: &R, status: u8, out: &str, err: &str) {
+        let alloc = rt.alloc();
+        let line = line_of(alloc, self.words).expect(rt, "memory");
+        let mut src = MemSource::make(alloc, self.bytes, 1000, self.reads_fail).expect(
+            rt, "memory",
+        );
+        let mut plot = MemSink::make(alloc, 10_000, 16, self.writes_fail).expect(rt, "memory");
+        let mut lines = MemSink::make(alloc, 1000, 40, self.lines_fail).expect(rt, "memory");
+        let ended = amr(rt, alloc, &line, &mut src, &mut plot, &mut lines);
+        assert_eq!(rt; lines.bytes(), err.as_bytes());
+        assert_eq!(rt; plot.bytes(), out.as_bytes());
+        assert_eq!(rt; ended.code(), status);
+    }
+}
+
+fn line_of(alloc: Global, words: &str) -> Result<Line, AllocError> {
+    let mut line = Line::make(alloc);
+    for word in words.split(' ') {
+        if line.push(word).is_err() {
+            return Err(AllocError);
+        }
+    }
+    Ok(line)
+}
+
+// The ring with other lines, or none, for some keys.
+fn ring_with(alloc: Global, changes: &[(&str, &str)]) -> Result<String, Fail> {
+    let mut text = String::new(alloc);
+    for old in RING.lines() {
+        let mut line = old;
+        for (key, new) in changes {
+            if old.starts_with(*key) {
+                line = *new;
+            }
+        }
+        if !line.is_empty() {
+            write!(text, "{line}\n")?;
+        }
+    }
+    Ok(text)
+}
+
+#[test]
+fn ring_one_step(rt: HostRuntime) {
+    Case::run(RING.as_bytes()).ends(&rt, 0, RING_PLOT, "");
+}
+
+#[test]
+fn ring_of_mass_7_and_no_steps(rt: HostRuntime) -> Result<(), Fail> {
+    let alloc = rt.alloc();
+    let seven = ("blocks", "blocks = [[0, 0, 0, 0, 7]]");
+    let eight = ("blocks", "blocks = [[0, 0, 0, 0, 8]]");
+    for (changes, ledger, row) in [
+        (
+            [seven, ("steps", "steps = 1")],
+            "step 1\nledger 0 7 0 0\nledger 1 7 0 0\n",
+            "4 3 0 0",
+        ),
+        (
+            [seven, ("steps", "steps = 2")],
+            "step 2\nledger 0 7 0 0\nledger 1 7 0 0\nledger 2 7 0 0\n",
+            "2 4 1 0",
+        ),
+        (
+            [eight, ("steps", "steps = 0")],
+            "step 0\nledger 0 8 0 0\n",
+            "8 0 0 0",
+        ),
+    ] {
+        let text = ring_with(alloc, &changes)?;
+        let plot = format!(in alloc;
+            "amr-plot 1\nname ring\n{ledger}level 0 1\nbox 0 0 3 1\n{row}\n0 0 0 0\nend\n"
+        )?;
+        Case::run(text.as_bytes()).ends(&rt, 0, plot.as_str(), "");
+    }
+    Ok(())
+}
+
+#[test]
+fn words_that_are_no_command(rt: HostRuntime) {
+    for words in [
+        "",
+        "help",
+        "check",
+        "check x",
+        "Run",
+        "run ",
+        "run run",
+        "run --help",
+        "run --workers 0",
+        "run --workers 65",
+    ] {
+        let mut case = Case::run(RING.as_bytes());
+        case.words = words;
+        case.ends(&rt, 2, "", USAGE);
+    }
+}
+
+// A plot in pieces of 16 bytes whose second piece fails, a source that fails at once or at its end, and a line that fails
+// at its second piece.
+#[test]
+fn faults_of_the_outside(rt: HostRuntime) {
+    let ring = Case::run(RING.as_bytes());
+    let mut case = ring;
+    case.writes_fail = &[2];
+    case.ends(&rt, 5, "amr-plot 1\nname ", "amr: write failed\n");
+    for call in 1..=2 {
+        let mut case = ring;
+        let fails = [call];
+        case.reads_fail = &fails;
+        case.ends(&rt, 4, "", "amr: read failed\n");
+    }
+    let mut case = ring;
+    case.words = "help";
+    case.lines_fail = &[2];
+    case.ends(&rt, 2, "", "amr: usage: run [--workers W] [--to K] [");
+}
+
+#[test]
+fn bytes_that_are_no_plain_problem(rt: HostRuntime) -> Result<(), Fail> {
+    let alloc = rt.alloc();
+    for change in [
+        // A key is missing.
+        ("version", ""),
+        ("name", ""),
+        ("cells", ""),
+        ("steps", ""),
+        ("courant", ""),
+        ("sides", ""),
+        ("max_level", ""),
+        ("blocks", ""),
+        // A value is of another kind.
+        ("version", "version = \"1\""),
+        ("name", "name = 1"),
+        ("cells", "cells = 4"),
+        ("cells", "cells = [4]"),
+        ("cells", "cells = [4, 2.0]"),
+        ("steps", "steps = 1.0"),
+        ("courant", "courant = [1, 2]"),
+        ("sides", "sides = [-1, -1, -1]"),
+        ("max_level", "max_level = false"),
+        ("blocks", "blocks = [0, 0, 0, 0, 8]"),
+        ("blocks", "blocks = [[0, 0, 0, 8]]"),
+        // A number is out of its range.
+        ("version", "version = 2"),
+        ("name", "name = \"\""),
+        ("name", "name = \"Ring\""),
+        ("cells", "cells = [1, 2]"),
+        ("cells", "cells = [4, 257]"),
+        ("steps", "steps = -1"),
+        ("steps", "steps = 4097"),
+        ("courant", "courant = [1, 0, 0]"),
+        ("courant", "courant = [1025, 0, 1024]"),
+        ("courant", "courant = [3, -2, 4]"),
+        ("sides", "sides = [0, 0, 0, 0]"),
+        ("sides", "sides = [-1, 0, -1, -1]"),
+        ("max_level", "max_level = 1"),
+        ("blocks", "blocks = [[0, 0, 4, 0, 8]]"),
+        ("blocks", "blocks = [[1, 0, 0, 0, 8]]"),
+        ("blocks", "blocks = [[0, 0, 0, 0, 1073741825]]"),
+        // A key is unknown, or the text is no table.
+        ("steps", "steps = 1\ncolour = 1"),
+        ("steps", "steps = 1\nmax_grid_size = 32"),
+        ("steps", "steps = 1\nsteps = 1"),
+        ("steps", "steps 1"),
+    ] {
+        let text = ring_with(alloc, &[change])?;
+        Case::run(text.as_bytes()).ends(&rt, 3, "", NOT_BUILT);
+    }
+    Case::run(b"").ends(&rt, 3, "", NOT_BUILT);
+    Case::run(b"name = \"\xff\"").ends(&rt, 3, "", NOT_BUILT);
+    Ok(())
+}
+
+#[test]
+fn too_long_by_one_byte(rt: HostRuntime) -> Result<(), Fail> {
+    let mut text = Vec::from_slice(rt.alloc(), RING.as_bytes())?;
+    text.push(b'#')?;
+    text.resize(65_536, b'x')?;
+    Case::run(&text).ends(&rt, 0, RING_PLOT, "");
+    text.push(b'x')?;
+    Case::run(&text).ends(&rt, 3, "", NOT_BUILT);
+    Ok(())
+}
