@@ -1,0 +1,22 @@
+-- Tests joined by `||` and `&&`.
+use Rattle.std.proofs.Common.{◌≡◌, Bool, true, false, ◌||◌, not, refl}
+
+pub or_left : (a b : Bool) → (a || b) ≡ false → a ≡ false
+or_left true b is = is
+or_left false b is = refl
+
+pub or_right : (a b : Bool) → (a || b) ≡ false → b ≡ false
+or_right true b is = let no : true ≡ false = is in cc
+or_right false b is = is
+
+pub or_both : (a b : Bool) → a ≡ false → b ≡ false → (a || b) ≡ false
+or_both true b p q = p
+or_both false b p q = q
+
+pub not_false : (a : Bool) → not a ≡ false → a ≡ true
+not_false true is = refl
+not_false false is = let no : true ≡ false = is in cc
+
+pub not_true : (a : Bool) → a ≡ true → not a ≡ false
+not_true true is = refl
+not_true false is = let no : false ≡ true = is in cc

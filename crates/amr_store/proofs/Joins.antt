@@ -1,0 +1,39 @@
+-- The steps of a put in turn.
+use Rattle.std.proofs.Common.{◌≡◌, ◌⊎◌, inl, inr, ⊎_elim, ℕ, Bool, true, false, ◌||◌, List, Option, Some, ◌∙◌, ap, arith}
+use Rattle.std.specs.Prelude.{option_map, Result, Ok, Err, OnOk}
+use Rattle.amr_disk.specs.Moments.{StopsIn}
+use Rattle.amr_store.proofs.Runs.{joins, weaker}
+use Rattle.amr_store.specs.Stored.{Stored, stored}
+
+pub shut_stays : (was is : Bool) → is ≡ (was || false) → was ≡ false → is ≡ false
+shut_stays true is e f = let wrong : true ≡ false = f in cc
+shut_stays false is e f = e
+
+pub mapped_on : (f : List ℕ → List ℕ) (o p : Option (List ℕ)) (s : List ℕ) → o ≡ Some s → p ≡ option_map f o → p ≡ Some (f s)
+mapped_on f o p s was is = is ∙ ap (λ (x : Option (List ℕ)). option_map f x) was
+
+module _ {D : Type 0} (moment : D → ℕ) (leaves : D → ℕ → List ℕ → Type 0) where
+  -- the image that a read gives has what each image has
+  pub here : (old new : D) (P : List ℕ → Type 0) (t : List ℕ) → StopsIn moment leaves old new P → leaves new (moment new) t → P t
+  here old new P t run left = run.each (moment new) t run.later (omega arith) left
+
+  pub one : (old new : D) (s : List ℕ) (W : Stored → Stored) → StopsIn moment leaves old new (λ c. stored c ≡ stored s) → StopsIn moment leaves old new (λ c. (stored c ≡ stored s) ⊎ (stored c ≡ W (stored s)))
+  one old new s W run = weaker moment leaves old new (λ c. stored c ≡ stored s) (λ c. (stored c ≡ stored s) ⊎ (stored c ≡ W (stored s))) (λ c e. inl e) run
+
+  pub two : (old mid new : D) (s t : List ℕ) → StopsIn moment leaves old mid (λ c. stored c ≡ stored s) → StopsIn moment leaves mid new (λ c. stored c ≡ stored t) → leaves mid (moment mid) t
+      → StopsIn moment leaves old new (λ c. stored c ≡ stored s)
+  two old mid new s t first second left =
+      let same : stored t ≡ stored s = here old mid (λ c. stored c ≡ stored s) t first left in
+      joins moment leaves old mid new (λ c. stored c ≡ stored s) (λ c. stored c ≡ stored t) (λ c. stored c ≡ stored s) first second (λ c e. e) (λ c e. e ∙ same)
+
+  pub three : (old mid new : D) (s t : List ℕ) (W : Stored → Stored) → StopsIn moment leaves old mid (λ c. stored c ≡ stored s)
+      → StopsIn moment leaves mid new (λ c. (stored c ≡ stored t) ⊎ (stored c ≡ W (stored t))) → leaves mid (moment mid) t
+      → StopsIn moment leaves old new (λ c. (stored c ≡ stored s) ⊎ (stored c ≡ W (stored s)))
+  three old mid new s t W first second left =
+      let same : stored t ≡ stored s = here old mid (λ c. stored c ≡ stored s) t first left in
+      joins moment leaves old mid new (λ c. stored c ≡ stored s) (λ c. (stored c ≡ stored t) ⊎ (stored c ≡ W (stored t))) (λ c. (stored c ≡ stored s) ⊎ (stored c ≡ W (stored s))) first second
+      (λ c e. inl e) (λ c either. ⊎_elim (λ e. inl (e ∙ same)) (λ e. inr (e ∙ ap W same)) either)
+
+pub on_ok_both : {T E : Type 0} (r : Result T E) (P Q R : Type 0) → (P → Q → R) → OnOk r P → OnOk r Q → OnOk r R
+on_ok_both (Ok x) P Q R f p q = f p q
+on_ok_both (Err e) P Q R f p q = tt

@@ -1,0 +1,14 @@
+pub mod Bools
+pub mod Examples
+pub mod Images
+pub mod Parts
+pub mod Places
+pub mod Slots
+pub mod Whole
+pub mod Runs
+pub mod Gates
+pub mod Phases
+pub mod Moves
+pub mod Writes
+pub mod Calls
+pub mod Joins

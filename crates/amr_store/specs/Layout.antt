@@ -1,0 +1,47 @@
+-- Where the fields of a store stand, counted from the store's first byte. All numbers are little-endian. (profile)
+use Rattle.std.specs.Prelude.{ℕ, ◌+◌, ◌*◌, List, drop, slice_range}
+use Rattle.std.specs.Int.{from_le_bytes, w32, w64}
+
+-- a gate is open where its byte is this one, and closed at any other
+abbrev pub open_gate : ℕ
+open_gate = 165
+
+-- the bytes of AMRSTOR1 and AMRSTOR2 as numbers
+abbrev pub magic_1 : ℕ
+magic_1 = 0x3152_4f54_5352_4d41
+
+abbrev pub magic_2 : ℕ
+magic_2 = 0x3252_4f54_5352_4d41
+
+abbrev pub head_length : ℕ
+head_length = 21
+
+-- gate, sequence and length of a slot, before its payload
+abbrev pub slot_head : ℕ
+slot_head = 17
+
+-- the numbers of eight and four bytes from a place on
+abbrev pub long_at : List ℕ → ℕ → ℕ
+long_at image place = from_le_bytes w64 (drop place image)
+
+abbrev pub word_at : List ℕ → ℕ → ℕ
+word_at image place = from_le_bytes w32 (drop place image)
+
+abbrev pub size_of : List ℕ → ℕ
+size_of image = long_at image 9
+
+abbrev pub text_length : List ℕ → ℕ
+text_length image = word_at image 17
+
+abbrev pub problem_of : List ℕ → List ℕ
+problem_of image = slice_range image head_length (head_length + text_length image)
+
+-- where the slots' gates stand, and where the store ends, by the lengths of problem and slot
+abbrev pub gate_0 : ℕ → ℕ
+gate_0 text = head_length + text
+
+abbrev pub gate_1 : ℕ → ℕ → ℕ
+gate_1 text size = head_length + text + (slot_head + size)
+
+abbrev pub end_of : ℕ → ℕ → ℕ
+end_of text size = head_length + text + 2 * (slot_head + size)

@@ -1,0 +1,146 @@
+-- What an image of the store's file holds: the first reading that applies, by the bytes alone. (profile)
+use Rattle.std.specs.Prelude.{ℕ, ◌+◌, ◌^◌, ◌≡◌, ◌≤◌, ◌<◌, ◌==◌, nat_le, nat_lt, Bool, true, false, not, ◌&&◌, ◌||◌, List, [], ◌∷◌, ◌++◌, length, drop, slice_index, slice_range, nat_eq, Option, Some, None, if◌then◌else◌}
+use Rattle.amr_store.specs.declared.part.Part.{Part}
+use Rattle.amr_store.specs.declared.part.Part.TheVariants.{Head, Text, Size, Slot, Tie, Renewal}
+use Rattle.std.specs.Cmp.Lexicographic.{pointwise}
+use Rattle.amr_store.specs.Layout.{open_gate, head_length, slot_head, long_at, magic_1, magic_2, size_of, text_length, problem_of, gate_0, gate_1, end_of}
+
+-- a state in a slot
+pub record Entry : Type 0 where
+  pub sequence : ℕ
+  pub payload : List ℕ
+
+-- what a store shows: its latest state is that of the greater sequence
+pub record State : Type 0 where
+  pub version : ℕ
+  pub problem : List ℕ
+  pub slot_size : ℕ
+  pub latest : Option Entry
+
+pub data Stored : Type 0 where
+  Empty : Stored
+  Damaged : (part : Part) → Stored
+  Held : (state : State) → Stored
+
+abbrev pub is_open : List ℕ → ℕ → Bool
+is_open image gate = slice_index image gate == open_gate
+
+-- the slot with its gate at this place: the gate lies past the end, or it is open and not whole, too long, or of sequence 0
+abbrev pub is_broken : List ℕ → ℕ → ℕ → Bool
+is_broken image gate size =
+    nat_le (length image) gate
+    || (is_open image gate
+    && (nat_lt (length image) (gate + slot_head)
+    || nat_lt size (long_at image (gate + 9))
+    || nat_lt (length image) (gate + slot_head + long_at image (gate + 9))
+    || (long_at image (gate + 1) == 0)))
+
+-- what an unbroken slot holds
+abbrev pub entry_at : List ℕ → ℕ → Option Entry
+entry_at image gate =
+    if is_open image gate
+    then Some record { sequence = long_at image (gate + 1); payload = slice_range image (gate + slot_head) (gate + slot_head + long_at image (gate + 9)) }
+    else None
+
+abbrev pub first_of : List ℕ → Option Entry
+first_of image = entry_at image (gate_0 (text_length image))
+
+abbrev pub second_of : List ℕ → Option Entry
+second_of image = entry_at image (gate_1 (text_length image) (size_of image))
+
+abbrev pub is_tie : Option Entry → Option Entry → Bool
+is_tie None second = false
+is_tie (Some a) None = false
+is_tie (Some a) (Some b) = a.sequence == b.sequence
+
+abbrev pub latest_of : Option Entry → Option Entry → Option Entry
+latest_of None second = second
+latest_of (Some a) None = Some a
+latest_of (Some a) (Some b) = if nat_lt a.sequence b.sequence then Some b else Some a
+
+-- the tests on a store that begins at the first byte, in their order, each with the part that it finds damaged
+abbrev pub tests : Bool → List ℕ → List (Bool × Part)
+tests has_magic image =
+    (nat_lt (length image) head_length || not has_magic, Head)
+    ∷ (nat_lt 65536 (text_length image) || nat_lt (length image) (head_length + text_length image), Text)
+    ∷ (nat_lt (2 ^ 40) (size_of image), Size)
+    ∷ (is_broken image (gate_0 (text_length image)) (size_of image), Slot 0)
+    ∷ (is_broken image (gate_1 (text_length image) (size_of image)) (size_of image), Slot 1)
+    ∷ (is_tie (first_of image) (second_of image), Tie)
+    ∷ []
+
+abbrev pub has_magic_1 : List ℕ → Bool
+has_magic_1 image = long_at image 1 == magic_1
+
+abbrev pub has_magic_2 : List ℕ → Bool
+has_magic_2 image = long_at image 1 == magic_2
+
+-- where the store ends
+abbrev pub end_in : List ℕ → ℕ
+end_in image = end_of (text_length image) (size_of image)
+
+-- a version 1 store was renewed: an open gate follows its end, and more
+abbrev pub is_renewed : List ℕ → Bool
+is_renewed image = has_magic_1 image && nat_lt (end_in image + 1) (length image) && is_open image (end_in image)
+
+-- the store that counts begins at this place
+abbrev pub base_of : List ℕ → ℕ
+base_of image = if is_renewed image then end_in image else 0
+
+-- the further tests where the store was renewed: those on the new store, and that it holds the same problem
+abbrev pub renewal_tests : List ℕ → List (Bool × Part)
+renewal_tests image =
+    if is_renewed image
+    then tests (has_magic_2 (drop (end_in image) image)) (drop (end_in image) image)
+    ++ (not (pointwise nat_eq (problem_of (drop (end_in image) image)) (problem_of image)), Renewal) ∷ []
+    else []
+
+-- the first part that is damaged
+abbrev pub first_found : List (Bool × Part) → Option Part
+first_found [] = None
+first_found (test ∷ rest) = if test.0 then Some test.1 else first_found rest
+
+abbrev pub damage_in : List ℕ → Option Part
+damage_in image = first_found (tests (has_magic_1 image || has_magic_2 image) image ++ renewal_tests image)
+
+-- what a store that begins at the first byte shows
+abbrev pub state_of : List ℕ → State
+state_of image = record {
+  version = if has_magic_1 image then 1 else 2;
+  problem = problem_of image;
+  slot_size = size_of image;
+  latest = latest_of (first_of image) (second_of image);
+}
+
+-- no store was made
+abbrev pub is_empty : List ℕ → Bool
+is_empty image = nat_le (length image) 1 || not (is_open image 0)
+
+abbrev pub judged : Bool → Option Part → State → Stored
+judged true damage state = Empty
+judged false (Some part) state = Damaged part
+judged false None state = Held state
+
+abbrev pub stored : List ℕ → Stored
+stored image = judged (is_empty image) (damage_in image) (state_of (drop (base_of image) image))
+
+-- the image holds a sound store, which begins at this base
+pub record Reads (image : List ℕ) (base : ℕ) : Type 0 where
+  pub held : is_empty image ≡ false
+  pub sound : damage_in image ≡ None
+  pub base_is : base_of image ≡ base
+
+-- a slot that was filled behind its closed gate
+pub record IsFilled (image : List ℕ) (gate size sequence : ℕ) (payload : List ℕ) : Type 0 where
+  pub whole : gate + 17 + length payload ≤ length image
+  pub fits : length payload ≤ size
+  pub some : 0 < sequence
+  pub sequence_is : long_at image (gate + 1) ≡ sequence
+  pub length_is : long_at image (gate + 9) ≡ length payload
+  pub payload_is : slice_range image (gate + 17) (gate + 17 + length payload) ≡ payload
+
+-- what is stored once this state is the latest
+abbrev pub with_latest : Stored → ℕ → List ℕ → Stored
+with_latest (Held state) sequence payload = Held (record state { latest = Some record { sequence = sequence; payload = payload } })
+with_latest Empty sequence payload = Empty
+with_latest (Damaged part) sequence payload = Damaged part

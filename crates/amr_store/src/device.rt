@@ -1,0 +1,43 @@
+// Writes that are synced.
+ghost use Rattle.std.specs.Prelude.{◌≡◌, ◌<◌, ◌+◌, ◌^◌, length, OnOk, option_map};
+ghost use Rattle.amr_causes.specs.Causes.{HasCause};
+ghost use Rattle.amr_disk.specs.Image.{written_at, Torn, Only};
+ghost use Rattle.amr_store.specs.Phases.{StopsFrom, TornTwice};
+
+use amr_disk::{Disk, DiskFault};
+
+// Writes a piece and syncs it.
+pub fn write_synced<D: Disk>(disk: &mut D, at: u64, piece: &[u8]) -> Result<(), DiskFault>
+    requires small { at + length piece.now < 2 ^ 48 }
+    requires settled { Only (D.seen disk.old) (D.leaves disk.old (D.moment disk.old)) }
+    ensures stops { StopsFrom D.seen D.moment D.leaves disk.old disk.new (Torn at (length piece.now)) }
+    ensures seen { OnOk result (D.seen disk.new ≡ option_map (written_at at piece.now) (D.seen disk.old)) }
+    ensures settled { OnOk result (Only (D.seen disk.new) (D.leaves disk.new (D.moment disk.new))) }
+    ensures cause { HasCause (D.faults disk.old) (D.faults disk.new) result }
+{
+    disk.write_at(at, piece)?;
+    let synced = disk.sync();
+    synced
+}
+
+// Writes two pieces and syncs them.
+pub fn write_two_synced<D: Disk>(
+    disk: &mut D,
+    first_at: u64,
+    first: &[u8],
+    second_at: u64,
+    second: &[u8],
+) -> Result<(), DiskFault>
+    requires first { first_at + length first.now < 2 ^ 48 }
+    requires second { second_at + length second.now < 2 ^ 48 }
+    requires settled { Only (D.seen disk.old) (D.leaves disk.old (D.moment disk.old)) }
+    ensures stops { StopsFrom D.seen D.moment D.leaves disk.old disk.new (TornTwice first_at (length first.now) second_at (length second.now)) }
+    ensures seen { OnOk result (D.seen disk.new ≡ option_map (λ s. written_at second_at second.now (written_at first_at first.now s)) (D.seen disk.old)) }
+    ensures settled { OnOk result (Only (D.seen disk.new) (D.leaves disk.new (D.moment disk.new))) }
+    ensures cause { HasCause (D.faults disk.old) (D.faults disk.new) result }
+{
+    disk.write_at(first_at, first)?;
+    disk.write_at(second_at, second)?;
+    disk.sync()?;
+    Ok(())
+}

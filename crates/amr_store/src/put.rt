@@ -1,0 +1,197 @@
+// The three steps of a put. A stop in the first leaves a closed gate closed, and an open one any byte over a slot that is as it was; in
+// the second the gate is closed on the disk; in the third the gate is any byte over a slot that is synced.
+ghost use Rattle.std.specs.Prelude.{◌≡◌, ◌≤◌, ◌<◌, ◌+◌, ◌^◌, ◌++◌, ◌∷◌, [], ◌⊎◌, false, true, List, ℕ, Some, None, is_some, length, IfOk, IfSome, OnOk, OnErr, option_map, if◌then◌else◌};
+ghost use Rattle.std.specs.Int.{to_le_bytes, w64};
+ghost use Rattle.amr_store.specs.Next.{first_with, second_with};
+ghost use Rattle.amr_disk.specs.Moments.{StopsIn};
+ghost use Rattle.amr_store.specs.Phases.{StopsFrom};
+ghost use Rattle.amr_store.specs.Reasons.{HasReason, Shuts, is_no_memory};
+ghost use Rattle.amr_store.specs.Stands.{IsReady, IsClosed, IsFilledIn, SameStore, Stands, is_shut, next_in, gate_in, slot_in, last_in, first_in, second_in, slot_size_in, closed_image, filled_image, opened_image, closing_piece};
+ghost use Rattle.amr_store.specs.Stored.{stored, with_latest};
+
+use crate::device::{write_synced, write_two_synced};
+use crate::part::StoreFault;
+use crate::slot::{Slot, Which};
+use crate::store::Store;
+use amr_disk::Disk;
+
+// A gate is open where its byte is this one.
+pub const OPEN: u8 = 0xA5;
+
+/// A store whose next slot is closed, on the disk too. Where it is dropped the slot stays closed, and the other slot as it was.
+#[derive(Drop)]
+pub struct Closed {
+    which: Which,
+}
+
+/// A store whose next slot is filled behind its closed gate. Where it is dropped the slot stays closed, and the other slot as it was.
+#[derive(Drop)]
+pub struct Filled {
+    which: Which,
+    slot: Slot,
+}
+
+// The head of a slot: its sequence and the length of its payload.
+pub fn slot_head(sequence: u64, length: u64) -> [u8; 16]
+    ensures { result ≡ to_le_bytes w64 sequence ++ to_le_bytes w64 length }
+{
+    let s = sequence.to_le_bytes();
+    let n = length.to_le_bytes();
+    [
+        s[0], s[1], s[2], s[3], s[4], s[5], s[6], s[7], n[0], n[1], n[2], n[3], n[4], n[5], n[6],
+        n[7],
+    ]
+}
+
+// What is written at a gate to close it: nothing where it is closed already.
+fn piece_to_close(slot: Option<Slot>) -> &'static [u8]
+    ensures { result.now ≡ closing_piece slot }
+{
+    match slot {
+        Some(_) => &[0],
+        None => &[],
+    }
+}
+
+impl Store {
+    /// Closes the gate of the slot that is written next; the other one holds the latest state. Reads nothing.
+    pub fn close_gate<D: Disk>(&mut self, disk: &mut D) -> Result<Closed, StoreFault>
+        requires ready { IsReady D.seen D.moment D.leaves self.old disk.old }
+        ensures closed { IfOk result (λ closed. IsClosed closed.which self.new) }
+        ensures ready { OnOk result (IsReady D.seen D.moment D.leaves self.new disk.new) }
+        ensures seen { OnOk result (D.seen disk.new ≡ option_map (closed_image self.old) (D.seen disk.old)) }
+        ensures stops { is_shut self.old ≡ false → StopsFrom D.seen D.moment D.leaves disk.old disk.new (λ s c. stored c ≡ stored s) }
+        ensures same { SameStore self.old self.new }
+        ensures last { last_in self.new ≡ last_in self.old }
+        ensures shuts { Shuts (is_shut self.old) (is_shut self.new) result }
+        ensures reason { HasReason (D.faults disk.old) (D.faults disk.new) result }
+        ensures memory { is_no_memory result ≡ false }
+    {
+        if self.is_shut {
+            return Err(StoreFault::Shut);
+        }
+        let which = self.next();
+        let piece = piece_to_close(self.slot(which));
+        match write_synced(disk, self.gate(which), piece) {
+            Ok(()) => {
+                self.set_slot(which, None);
+                Ok(Closed { which })
+            }
+            Err(_) => {
+                self.shut();
+                Err(StoreFault::DiskFault)
+            }
+        }
+    }
+
+    /// Puts a state: the three steps in turn, seven calls of the disk. A stop at any moment leaves what was stored, or the new state.
+    pub fn put<D: Disk>(
+        &mut self,
+        disk: &mut D,
+        sequence: u64,
+        bytes: &[u8],
+    ) -> Result<(), StoreFault>
+        requires ready { IsReady D.seen D.moment D.leaves self.old disk.old }
+        requires counted { 0 < sequence }
+        requires above { IfSome (last_in self.old) (λ last. last < sequence) }
+        requires fits { length bytes.now ≤ slot_size_in self.old }
+        ensures ready { OnOk result (IsReady D.seen D.moment D.leaves self.new disk.new) }
+        ensures put { is_shut self.old ≡ false → OnOk result ((s : List ℕ) → D.seen disk.old ≡ Some s → (t : List ℕ) × (D.seen disk.new ≡ Some t) × (stored t ≡ with_latest (stored s) sequence bytes.now)) }
+        ensures stops { is_shut self.old ≡ false → StopsFrom D.seen D.moment D.leaves disk.old disk.new (λ s c. stored c ≡ stored s ⊎ stored c ≡ with_latest (stored s) sequence bytes.now) }
+        ensures same { SameStore self.old self.new }
+        ensures last { OnOk result (last_in self.new ≡ Some sequence) }
+        ensures kept { OnErr result (last_in self.new ≡ last_in self.old) }
+        ensures shuts { Shuts (is_shut self.old) (is_shut self.new) result }
+        ensures reason { HasReason (D.faults disk.old) (D.faults disk.new) result }
+        ensures memory { is_no_memory result ≡ false }
+    {
+        match self.close_gate(disk) {
+            Ok(closed) => match closed.fill(self, disk, sequence, bytes) {
+                Ok(filled) => filled.open_gate(self, disk),
+                Err(fault) => Err(fault),
+            },
+            Err(fault) => Err(fault),
+        }
+    }
+}
+
+impl Closed {
+    /// Writes sequence, length and payload behind the closed gate. Reads nothing, and writes the payload once.
+    pub fn fill<D: Disk>(
+        self,
+        store: &mut Store,
+        disk: &mut D,
+        sequence: u64,
+        bytes: &[u8],
+    ) -> Result<Filled, StoreFault>
+        requires closed { IsClosed self.which store.old }
+        requires ready { IsReady D.seen D.moment D.leaves store.old disk.old }
+        requires counted { 0 < sequence }
+        requires fits { length bytes.now ≤ slot_size_in store.old }
+        ensures filled { IfOk result (λ filled. (filled.which ≡ self.which) × (filled.slot.sequence ≡ sequence) × (filled.slot.length ≡ length bytes.now)) }
+        ensures holds { OnOk result ((t : List ℕ) → D.seen disk.new ≡ Some t → is_shut store.old ≡ false → IsFilledIn self.which store.new t sequence bytes.now) }
+        ensures ready { OnOk result (IsReady D.seen D.moment D.leaves store.new disk.new) }
+        ensures seen { OnOk result (D.seen disk.new ≡ option_map (filled_image store.old self.which sequence bytes.now) (D.seen disk.old)) }
+        ensures stops { is_shut store.old ≡ false → StopsFrom D.seen D.moment D.leaves disk.old disk.new (λ s c. stored c ≡ stored s) }
+        ensures store { OnOk result (store.new ≡ store.old) }
+        ensures same { SameStore store.old store.new }
+        ensures last { last_in store.new ≡ last_in store.old }
+        ensures shuts { Shuts (is_shut store.old) (is_shut store.new) result }
+        ensures reason { HasReason (D.faults disk.old) (D.faults disk.new) result }
+        ensures memory { is_no_memory result ≡ false }
+    {
+        if store.is_shut {
+            return Err(StoreFault::Shut);
+        }
+        let gate = store.gate(self.which);
+        let length = bytes.len() as u64;
+        let head = slot_head(sequence, length);
+        match write_two_synced(disk, gate + 1, &head, gate + 17, bytes) {
+            Ok(()) => Ok(Filled {
+                which: self.which,
+                slot: Slot { sequence, length },
+            }),
+            Err(_) => {
+                store.shut();
+                Err(StoreFault::DiskFault)
+            }
+        }
+    }
+}
+
+impl Filled {
+    /// Opens the gate of the filled slot: its state is the latest from now on. Reads nothing.
+    pub fn open_gate<D: Disk>(self, store: &mut Store, disk: &mut D) -> Result<(), StoreFault>
+        requires closed { IsClosed self.which store.old }
+        requires above { IfSome (last_in store.old) (λ last. last < self.slot.sequence) }
+        requires ready { IsReady D.seen D.moment D.leaves store.old disk.old }
+        requires filled { is_shut store.old ≡ false → (s : List ℕ) → D.seen disk.old ≡ Some s → (payload : List ℕ) × (length payload ≡ self.slot.length) × IsFilledIn self.which store.old s self.slot.sequence payload }
+        ensures ready { OnOk result (IsReady D.seen D.moment D.leaves store.new disk.new) }
+        ensures seen { OnOk result (D.seen disk.new ≡ option_map (opened_image store.old self.which) (D.seen disk.old)) }
+        ensures put { OnOk result ((s t payload : List ℕ) → D.seen disk.old ≡ Some s → D.seen disk.new ≡ Some t → IsFilledIn self.which store.old s self.slot.sequence payload → stored t ≡ with_latest (stored s) self.slot.sequence payload) }
+        ensures stops { is_shut store.old ≡ false → (s payload : List ℕ) → D.seen disk.old ≡ Some s → IsFilledIn self.which store.old s self.slot.sequence payload → StopsIn D.moment D.leaves disk.old disk.new (λ c. stored c ≡ stored s ⊎ stored c ≡ with_latest (stored s) self.slot.sequence payload) }
+        ensures first { OnOk result (first_in store.new ≡ first_with self.which (Some self.slot) (first_in store.old)) }
+        ensures second { OnOk result (second_in store.new ≡ second_with self.which (Some self.slot) (second_in store.old)) }
+        ensures same { SameStore store.old store.new }
+        ensures last { OnOk result (last_in store.new ≡ Some self.slot.sequence) }
+        ensures kept { OnErr result (last_in store.new ≡ last_in store.old) }
+        ensures shuts { Shuts (is_shut store.old) (is_shut store.new) result }
+        ensures reason { HasReason (D.faults disk.old) (D.faults disk.new) result }
+        ensures memory { is_no_memory result ≡ false }
+    {
+        if store.is_shut {
+            return Err(StoreFault::Shut);
+        }
+        let gate = store.gate(self.which);
+        match write_synced(disk, gate, &[OPEN]) {
+            Ok(()) => {
+                store.set_slot(self.which, Some(self.slot));
+                Ok(())
+            }
+            Err(_) => {
+                store.shut();
+                Err(StoreFault::DiskFault)
+            }
+        }
+    }
+}
