@@ -1,0 +1,151 @@
+-- The tags of a box by its signatures: where an entry is 0 there is none, and else there is one.
+use Rattle.std.proofs.Common.{◌≡◌, ◌⊎◌, inl, inr, ℕ, ◌+◌, ◌<◌, ◌≤◌, Bool, true, false, cond, ◌&&◌, ℤ, pos, negsuc, ◌+ℤ◌, ◌-ℤ◌, ◌≤ℤ◌, List, [], ◌∷◌, length, refl, sym, ap, subst, ◌∙◌, arith}
+use Rattle.std.specs.Prelude.{slice_index, IsSome, IfSome, MatchOption}
+use Rattle.std.specs.declared.option.Option.{Option}
+use Rattle.std.specs.declared.option.Option.TheVariants.{None, Some}
+use Rattle.std.specs.List.{count_by}
+use Rattle.std.specs.Ordering.{int_eq}
+use Rattle.std.proofs.lemmas.Int.{ints}
+use Rattle.std.proofs.lemmas.Bool.{cases_lt, false≢true}
+use Rattle.std.proofs.lemmas.List.Sums.{sum_by-cons}
+use Rattle.std.proofs.lemmas.List.FromFn.{get_or-map-range_with_len, length-map-range_with_len}
+use Rattle.amr_box.specs.declared.Cell.{Cell}
+use Rattle.amr_box.specs.declared.Axis.{Axis}
+use Rattle.amr_box.specs.declared.Axis.TheVariants.{X, Y}
+use Rattle.amr_box.specs.Cells.{Extent, IsNear, along, cells_of, height, holds, width}
+use Rattle.amr_box.proofs.Boxes.{int_le-yes}
+use Rattle.amr_def.specs.Signature.{signature}
+use Rattle.amr_def.proofs.ClusterLaws.{Each, both_true, each_both, each_kept, each_passes}
+use Rattle.amr_tags.specs.TagSets.{IsLeastBox}
+use Rattle.amr_cluster.specs.Work.{IsSpan, LiesIn, cells_in}
+use Rattle.amr_cluster.proofs.Rounds.{HoldsCell, held, member, own_cells}
+use Rattle.amr_cluster.proofs.Tagged.{size-is}
+
+bit_some : (t : Bool) (n : ℕ) → cond t 1 0 + n ≡ 0 → (t ≡ false) × (n ≡ 0)
+bit_some true n e = absurd (omega arith)
+bit_some false n e = (refl, omega arith)
+
+count_none : (p : Cell → Bool) (cs : List Cell) → count_by p cs ≡ 0 → Each (λ c. p c ≡ false) cs
+count_none p [] e = tt
+count_none p (c ∷ cs) e =
+    let parts = bit_some (p c) (count_by p cs) (sym (sum_by-cons (λ c. cond (p c) 1 0) c cs) ∙ e) in
+    (parts.0, count_none p cs parts.1)
+
+count_some : (p : Cell → Bool) (Q : Cell → Type 0) (cs : List Cell) → 1 ≤ count_by p cs → Each Q cs → (c : Cell) × Q c × (p c ≡ true)
+count_some p Q [] h all = absurd (omega arith)
+count_some p Q (c ∷ cs) h all = choose (p c) refl (subst (λ (n : ℕ). 1 ≤ n) (sum_by-cons (λ c. cond (p c) 1 0) c cs) h) (λ g. count_some p Q cs g all.1)
+  where
+    choose : (t : Bool) → p c ≡ t → 1 ≤ cond t 1 0 + count_by p cs → (1 ≤ count_by p cs → (c : Cell) × Q c × (p c ≡ true)) → (c : Cell) × Q c × (p c ≡ true)
+    choose true e g rest = (c, all.0, e)
+    choose false e g rest = rest (omega arith)
+
+abbrev size_along : Axis → Extent → ℕ
+size_along X b = width b
+size_along Y b = height b
+
+signature-length : (a : Axis) (cells : List Cell) (b : Extent) → length (signature a cells b) ≡ size_along a b
+signature-length X cells b = length-map-range_with_len _ 0 (width b)
+signature-length Y cells b = length-map-range_with_len _ 0 (height b)
+
+signature-at : (a : Axis) (cells : List Cell) (b : Extent) (i : ℕ) → i < size_along a b → slice_index (signature a cells b) i ≡ count_by (λ c. int_eq (along a c) (along a b.lo +ℤ pos i)) cells
+signature-at X cells b i h = get_or-map-range_with_len _ 0 (width b) i i 0 h (omega arith)
+signature-at Y cells b i h = get_or-map-range_with_len _ 0 (height b) i i 0 h (omega arith)
+
+size_along-is : (a : Axis) (b : Extent) → IsNear b → pos (size_along a b) ≡ along a b.hi +ℤ pos 1 -ℤ along a b.lo
+size_along-is X b near = size-is b.lo.x b.hi.x near.wide
+size_along-is Y b near = size-is b.lo.y b.hi.y near.high
+
+same_place : (y z : ℤ) → int_eq y z ≡ true → y ≡ z
+same_place y z e = grind (arith, ints)
+
+place_same : (y z : ℤ) → y ≡ z → int_eq y z ≡ true
+place_same y z e = grind (arith, ints)
+
+along_held : (a : Axis) (b : Extent) (c : Cell) → HoldsCell b c → (along a b.lo ≤ℤ along a c) × (along a c ≤ℤ along a b.hi)
+along_held X b c h = (h.west, h.east)
+along_held Y b c h = (h.south, h.north)
+
+module _ (has : Cell → Bool) (part larger : Extent) (near : IsNear part) (inside : LiesIn part larger) where
+  listed : Each (λ c. (holds part c && has c) ≡ true) (cells_in has part)
+  listed = each_both (λ c. has c ≡ true) (λ c. holds part c ≡ true) (λ c. (holds part c && has c) ≡ true) (λ c t h. ap (λ (b : Bool). b && has c) h ∙ t) (cells_in has part)
+      (each_passes has (cells_of part)) (each_kept (λ c. holds part c ≡ true) has (cells_of part) (own_cells part larger inside))
+
+  -- an entry that is not 0 has a tag
+  found : (a : Axis) (i : ℕ) → i < size_along a part → 1 ≤ slice_index (signature a (cells_in has part) part) i → (c : Cell) × ((holds part c && has c) ≡ true) × (along a c ≡ along a part.lo +ℤ pos i)
+  found a i h some =
+      let one = count_some (λ c. int_eq (along a c) (along a part.lo +ℤ pos i)) (λ c. (holds part c && has c) ≡ true) (cells_in has part) (subst (λ (n : ℕ). 1 ≤ n) (signature-at a (cells_in has part) part i h) some) listed in
+      (one.0, one.1, same_place (along a one.0) (along a part.lo +ℤ pos i) one.2)
+
+  -- the entry of a tag
+  offset_of : (a : Axis) (c : Cell) → (holds part c && has c) ≡ true → (i : ℕ) × (i < size_along a part) × (along a c ≡ along a part.lo +ℤ pos i)
+  offset_of a c h =
+      let place = along_held a part c (held part c (both_true _ _ h).0) in
+      of (along a c -ℤ along a part.lo) refl place.0 place.1
+    where
+      of : (z : ℤ) → along a c -ℤ along a part.lo ≡ z → along a part.lo ≤ℤ along a c → along a c ≤ℤ along a part.hi → (i : ℕ) × (i < size_along a part) × (along a c ≡ along a part.lo +ℤ pos i)
+      of (pos n) e g k = (n, omega (arith, ints, size_along-is a part near), omega (arith, ints))
+      of (negsuc n) e g k = absurd (omega (arith, ints))
+
+  not_zero : (a : Axis) (c : Cell) (i : ℕ) → (holds part c && has c) ≡ true → i < size_along a part → along a c ≡ along a part.lo +ℤ pos i → slice_index (signature a (cells_in has part) part) i ≡ 0 → ⊥
+  not_zero a c i h inside_i at none =
+      let all = count_none (λ c. int_eq (along a c) (along a part.lo +ℤ pos i)) (cells_in has part) (sym (signature-at a (cells_in has part) part i inside_i) ∙ none) in
+      let no = member (λ c. int_eq (along a c) (along a part.lo +ℤ pos i) ≡ false) has part c all (both_true _ _ h).1 (both_true _ _ h).0 in
+      false≢true (sym no ∙ place_same (along a c) (along a part.lo +ℤ pos i) at)
+
+  pub no_tags : (a : Axis) (counts : List ℕ) → counts ≡ signature a (cells_in has part) part → ((k : ℕ) → slice_index counts k ≡ 0) → (c : Cell) → (holds part c && has c) ≡ false
+  no_tags a counts e none c = choose (holds part c && has c) refl
+    where
+      choose : (t : Bool) → (holds part c && has c) ≡ t → t ≡ false
+      choose true h = let at = offset_of a c h in absurd (not_zero a c at.0 h at.1 at.2 (ap (λ (s : List ℕ). slice_index s at.0) (sym e) ∙ none at.0))
+      choose false h = refl
+
+-- the span of a signature: its ends have tags, and no tag lies outside
+pub record IsAlong (has : Cell → Bool) (part : Extent) (a : Axis) (low high : ℤ) : Type 0 where
+  pub first : (c : Cell) × ((holds part c && has c) ≡ true) × (along a c ≡ low)
+  pub last : (c : Cell) × ((holds part c && has c) ≡ true) × (along a c ≡ high)
+  pub from : (c : Cell) → (holds part c && has c) ≡ true → low ≤ℤ along a c
+  pub to : (c : Cell) → (holds part c && has c) ≡ true → along a c ≤ℤ high
+
+pub span_along : (has : Cell → Bool) (part larger : Extent) → IsNear part → LiesIn part larger → (a : Axis) (counts : List ℕ) (first last : ℕ) → counts ≡ signature a (cells_in has part) part → IsSpan counts first last → IsAlong has part a (along a part.lo +ℤ pos first) (along a part.lo +ℤ pos last)
+span_along has part larger near inside a counts first last e span =
+    let size : length counts ≡ size_along a part = ap length e ∙ signature-length a (cells_in has part) part in
+    let entry : (k : ℕ) → slice_index counts k ≡ slice_index (signature a (cells_in has part) part) k = λ k. ap (λ (s : List ℕ). slice_index s k) e in
+    record {
+      first = found has part larger near inside a first (omega (arith, span.order, span.inside)) (omega (arith, span.first_some, entry first));
+      last = found has part larger near inside a last (omega (arith, span.inside)) (omega (arith, span.last_some, entry last));
+      from = λ c h.
+          let at = offset_of has part larger near inside a c h in
+          low_side c h at.0 at.1 at.2 (cases_lt at.0 first) (λ k less. sym (entry k) ∙ span.below k less);
+      to = λ c h.
+          let at = offset_of has part larger near inside a c h in
+          high_side c h at.0 at.1 at.2 (cases_lt last at.0) (λ k more. sym (entry k) ∙ span.above k more);
+    }
+  where
+    low_side : (c : Cell) → (holds part c && has c) ≡ true → (i : ℕ) → i < size_along a part → along a c ≡ along a part.lo +ℤ pos i → (i < first) ⊎ (first ≤ i) → ((k : ℕ) → k < first → slice_index (signature a (cells_in has part) part) k ≡ 0) → (along a part.lo +ℤ pos first) ≤ℤ along a c
+    low_side c h i g at (inl less) none = absurd (not_zero has part larger near inside a c i h g at (none i less))
+    low_side c h i g at (inr more) none = omega (arith, ints)
+
+    high_side : (c : Cell) → (holds part c && has c) ≡ true → (i : ℕ) → i < size_along a part → along a c ≡ along a part.lo +ℤ pos i → (last < i) ⊎ (i ≤ last) → ((k : ℕ) → last < k → slice_index (signature a (cells_in has part) part) k ≡ 0) → along a c ≤ℤ (along a part.lo +ℤ pos last)
+    high_side c h i g at (inl more) none = absurd (not_zero has part larger near inside a c i h g at (none i more))
+    high_side c h i g at (inr less) none = omega (arith, ints)
+
+pub least_of : (has : Cell → Bool) (part b : Extent) (west east south north : ℤ) → b.lo.x ≡ west → b.hi.x ≡ east → b.lo.y ≡ south → b.hi.y ≡ north → IsAlong has part X west east → IsAlong has part Y south north → IsLeastBox b (λ c. holds part c && has c)
+least_of has part b west east south north w e s n xs ys = record {
+  inside = λ c h. inside c (omega (arith, ints, xs.from c h)) (omega (arith, ints, xs.to c h)) (omega (arith, ints, ys.from c h)) (omega (arith, ints, ys.to c h));
+  west = (xs.first.0, xs.first.1, xs.first.2 ∙ sym w);
+  south = (ys.first.0, ys.first.1, ys.first.2 ∙ sym s);
+  east = (xs.last.0, xs.last.1, xs.last.2 ∙ sym e);
+  north = (ys.last.0, ys.last.1, ys.last.2 ∙ sym n);
+}
+  where
+    inside : (c : Cell) → b.lo.x ≤ℤ c.x → c.x ≤ℤ b.hi.x → b.lo.y ≤ℤ c.y → c.y ≤ℤ b.hi.y → holds b c ≡ true
+    inside c h i j k = rw (int_le-yes b.lo.x c.x h, int_le-yes c.x b.hi.x i, int_le-yes b.lo.y c.y j, int_le-yes c.y b.hi.y k) refl
+
+pub span_bound : (a : Axis) (cells : List Cell) (part : Extent) (counts : List ℕ) (first last : ℕ) → IsNear part → counts ≡ signature a cells part → IsSpan counts first last → ((along a part.lo +ℤ pos first) ≤ℤ (along a part.lo +ℤ pos last)) × ((along a part.lo +ℤ pos last) ≤ℤ along a part.hi)
+span_bound a cells part counts first last near e span =
+    let size : length counts ≡ size_along a part = ap length e ∙ signature-length a cells part in
+    (omega (arith, ints, span.order), omega (arith, ints, span.inside, size, size_along-is a part near))
+
+pub match_some : (o : Option Extent) (e : Extent) (N : Type 0) (Q : Extent → Type 0) → IfSome o (λ b. b ≡ e) → IsSome o → ((b : Extent) → b ≡ e → Q b) → MatchOption o N Q
+match_some None e N Q is some f = cc
+match_some (Some b) e N Q is some f = f b is

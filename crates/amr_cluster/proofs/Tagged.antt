@@ -1,0 +1,157 @@
+-- Tags as rows of bits: the cells of a box are the bits of the same box counted from the low corner of the rows.
+use Rattle.std.proofs.Common.{◌≡◌, ℕ, ◌*◌, ◌/◌, ◌%◌, ◌^◌, ◌<◌, ◌≤◌, Bool, true, false, cond, ◌&&◌, ℤ, pos, negsuc, ◌+ℤ◌, ◌-ℤ◌, ◌≤ℤ◌, ◌<ℤ◌, List, [], ◌∷◌, map, length, refl, sym, ap, ◌∙◌, arith}
+use Rattle.std.specs.Prelude.{unsigned_abs, int_le, nat_le}
+use Rattle.std.specs.List.{count_by, filter, range_with_len}
+use Rattle.std.proofs.lemmas.Int.{ints}
+use Rattle.std.proofs.lemmas.List.Sums.{length-filter}
+use Rattle.std.proofs.lemmas.List.FromFn.{length-map-range_with_len}
+use Rattle.std.proofs.Math.Nat.{mul-div_cancel, mul-mod_left}
+use Rattle.amr_box.specs.declared.Cell.{Cell}
+use Rattle.amr_box.specs.declared.Axis.{Axis}
+use Rattle.amr_box.specs.declared.Axis.TheVariants.{X, Y}
+use Rattle.amr_box.specs.Cells.{Extent, HasCorners, IsNear, at_least_zero, cell, cells_of, height, holds, width, within}
+use Rattle.amr_box.proofs.Boxes.{int_le-yes}
+use Rattle.amr_def.specs.Signature.{is_efficient, signature}
+use Rattle.amr_sign.specs.Counts.{count_to}
+use Rattle.amr_sign.specs.Words.{LiesInRows, bit_cells, is_bit_set}
+use Rattle.amr_sign.specs.Words.{bit_of as row_bit_of}
+use Rattle.amr_sign.proofs.Bits.{count_to-same_below}
+use Rattle.amr_sign.proofs.Counts.{columns-are, map_to-same, rows-are}
+use Rattle.amr_tags.specs.Bits.{bit_of, words_for}
+use Rattle.amr_tags.specs.TagSets.{IsLaidOut, TagSet, has}
+use Rattle.amr_cluster.proofs.Windows.{cells_of-window}
+use Rattle.amr_cluster.specs.Work.{LiesIn, cells_in}
+
+-- ---- sizes
+
+pub IsNear-in : (b larger : Extent) → LiesIn b larger → IsNear larger → IsNear b
+IsNear-in b larger i near = record {
+  west = omega (arith, ints, near.west, i.west);
+  east = omega (arith, ints, near.east, i.east);
+  south = omega (arith, ints, near.south, i.south);
+  north = omega (arith, ints, near.north, i.north);
+  wide = i.wide;
+  high = i.high;
+}
+
+pub size-is : (low high : ℤ) → low ≤ℤ high → pos (at_least_zero (high +ℤ pos 1 -ℤ low)) ≡ high +ℤ pos 1 -ℤ low
+size-is low high h = of (high +ℤ pos 1 -ℤ low) (omega (arith, ints))
+  where
+    of : (z : ℤ) → pos 0 ≤ℤ z → pos (at_least_zero z) ≡ z
+    of (pos n) g = refl
+    of (negsuc n) g = absurd (omega (arith, ints))
+
+pub signature-short : (axis : Axis) (cells : List Cell) (b : Extent) → IsNear b → length (signature axis cells b) < 2 ^ 32
+signature-short X cells b near =
+    let size : pos (width b) ≡ b.hi.x +ℤ pos 1 -ℤ b.lo.x = size-is b.lo.x b.hi.x near.wide in
+    rw length-map-range_with_len (omega (arith, ints, size, near.west, near.east))
+signature-short Y cells b near =
+    let size : pos (height b) ≡ b.hi.y +ℤ pos 1 -ℤ b.lo.y = size-is b.lo.y b.hi.y near.high in
+    rw length-map-range_with_len (omega (arith, ints, size, near.south, near.north))
+
+filter_both : (p q : Cell → Bool) (cs : List Cell) → filter (λ c. p c && q c) cs ≡ filter q (filter p cs)
+filter_both p q [] = refl
+filter_both p q (c ∷ cs) = choose (p c) (filter_both p q cs)
+  where
+    choose : (t : Bool) → filter (λ c. p c && q c) cs ≡ filter q (filter p cs) → cond (t && q c) (c ∷ filter (λ c. p c && q c) cs) (filter (λ c. p c && q c) cs) ≡ filter q (cond t (c ∷ filter p cs) (filter p cs))
+    choose true e = ap (λ (ks : List Cell). cond (q c) (c ∷ ks) ks) e
+    choose false e = e
+
+-- the count of the tags in a box
+pub count-is : (has : Cell → Bool) (b larger : Extent) → LiesIn b larger → count_by (λ c. holds b c && has c) (cells_of larger) ≡ length (cells_in has b)
+count-is has b larger inside =
+    sym (length-filter (λ c. holds b c && has c) (cells_of larger))
+    ∙ ap length (filter_both (holds b) has (cells_of larger) ∙ ap (filter has) (cells_of-window larger b inside))
+
+pub efficient-is : (efficiency e area count tags : ℕ) (has : Cell → Bool) (b larger : Extent) → LiesIn b larger → e ≡ efficiency → area ≡ width b * height b → tags ≡ count → count ≡ count_by (λ c. holds b c && has c) (cells_of larger) → nat_le (e * area) (100 * tags) ≡ is_efficient efficiency (length (cells_in has b)) b
+efficient-is efficiency e area count tags has b larger inside same_e is same counted =
+    ap (λ (n : ℕ). nat_le (n * area) (100 * tags)) same_e
+    ∙ ap (λ (n : ℕ). nat_le (efficiency * n) (100 * tags)) is
+    ∙ ap (λ (n : ℕ). nat_le (efficiency * (width b * height b)) (100 * n)) (same ∙ counted ∙ count-is has b larger inside)
+
+-- ---- a box counted from the low corner of the tags
+
+-- a part of the box of the tags, and the same counted from the low corner
+pub record IsOffset (t : TagSet) (part at : Extent) : Type 0 where
+  pub laid_out : IsLaidOut t
+  pub inside : LiesIn part t.bx
+  pub corners : HasCorners at (part.lo.x -ℤ t.bx.lo.x) (part.lo.y -ℤ t.bx.lo.y) (part.hi.x -ℤ t.bx.lo.x) (part.hi.y -ℤ t.bx.lo.y)
+
+module _ (t : TagSet) (part at : Extent) (is : IsOffset t part at) where
+  columns_of : pos (width t.bx) ≡ t.bx.hi.x +ℤ pos 1 -ℤ t.bx.lo.x
+  columns_of = size-is t.bx.lo.x t.bx.hi.x is.laid_out.near.wide
+
+  rows_of : pos (height t.bx) ≡ t.bx.hi.y +ℤ pos 1 -ℤ t.bx.lo.y
+  rows_of = size-is t.bx.lo.y t.bx.hi.y is.laid_out.near.high
+
+  pub some_words : 1 ≤ words_for (width t.bx)
+  some_words =
+      let some : 1 ≤ width t.bx = omega (arith, ints, columns_of, is.laid_out.near.wide) in
+      omega arith
+
+  pub whole_rows : length t.words % words_for (width t.bx) ≡ 0
+  whole_rows = ap (λ (n : ℕ). n % words_for (width t.bx)) is.laid_out.rows.count ∙ mul-mod_left (height t.bx) (words_for (width t.bx))
+
+  row_count : length t.words / words_for (width t.bx) ≡ height t.bx
+  row_count = ap (λ (n : ℕ). n / words_for (width t.bx)) is.laid_out.rows.count ∙ mul-div_cancel (height t.bx) some_words
+
+  pub in_rows : LiesInRows t.words (words_for (width t.bx)) at
+  in_rows =
+      let enough : width t.bx ≤ 64 * words_for (width t.bx) = omega arith in
+      record {
+        west = omega (arith, ints, is.corners.west_is, is.inside.west);
+        east = omega (arith, ints, is.corners.east_is, is.inside.east, columns_of, enough);
+        south = omega (arith, ints, is.corners.south_is, is.inside.south);
+        north = rw row_count (omega (arith, ints, is.corners.north_is, is.inside.north, rows_of));
+      }
+
+  same_width : width at ≡ width part
+  same_width = let same : (at.hi.x +ℤ pos 1 -ℤ at.lo.x) ≡ part.hi.x +ℤ pos 1 -ℤ part.lo.x = omega (arith, ints, is.corners.west_is, is.corners.east_is) in ap at_least_zero same
+
+  same_height : height at ≡ height part
+  same_height = let same : (at.hi.y +ℤ pos 1 -ℤ at.lo.y) ≡ part.hi.y +ℤ pos 1 -ℤ part.lo.y = omega (arith, ints, is.corners.south_is, is.corners.north_is) in ap at_least_zero same
+
+  place_is : (low from to z : ℤ) (i : ℕ) → low ≡ from -ℤ to → to ≤ℤ from → at_least_zero (low +ℤ pos i) ≡ unsigned_abs ((from +ℤ pos i) -ℤ to)
+  place_is low from to z i e h = let same : (low +ℤ pos i) ≡ (from +ℤ pos i) -ℤ to = omega (arith, ints) in size (low +ℤ pos i) ((from +ℤ pos i) -ℤ to) same (omega (arith, ints))
+    where
+      size : (a b : ℤ) → a ≡ b → pos 0 ≤ℤ b → at_least_zero a ≡ unsigned_abs b
+      size a (pos n) f g = ap at_least_zero f
+      size a (negsuc n) f g = absurd (omega (arith, ints))
+
+  within_is : (low high lo hi : ℤ) (i : ℕ) → low ≤ℤ lo → hi ≤ℤ high → pos i <ℤ (hi +ℤ pos 1 -ℤ lo) → within low high (lo +ℤ pos i) ≡ true
+  within_is low high lo hi i a b h =
+      let above : int_le low (lo +ℤ pos i) ≡ true = int_le-yes low (lo +ℤ pos i) (omega (arith, ints)) in
+      let below : int_le (lo +ℤ pos i) high ≡ true = int_le-yes (lo +ℤ pos i) high (omega (arith, ints)) in
+      rw (above, below) refl
+
+  held_cell : (i j : ℕ) → i < width part → j < height part → holds t.bx (cell (part.lo.x +ℤ pos i) (part.lo.y +ℤ pos j)) ≡ true
+  held_cell i j h g =
+      let w : pos i <ℤ (part.hi.x +ℤ pos 1 -ℤ part.lo.x) = omega (arith, ints, size-is part.lo.x part.hi.x is.inside.wide) in
+      let v : pos j <ℤ (part.hi.y +ℤ pos 1 -ℤ part.lo.y) = omega (arith, ints, size-is part.lo.y part.hi.y is.inside.high) in
+      both (within_is t.bx.lo.x t.bx.hi.x part.lo.x part.hi.x i is.inside.west is.inside.east w) (within_is t.bx.lo.y t.bx.hi.y part.lo.y part.hi.y j is.inside.south is.inside.north v)
+    where
+      both : {a b : Bool} → a ≡ true → b ≡ true → (a && b) ≡ true
+      both {a} {b} e f = rw (e, f) refl
+
+  same_bit : (i j : ℕ) → i < width part → j < height part → is_bit_set t.words (words_for (width t.bx)) (cell (at.lo.x +ℤ pos i) (at.lo.y +ℤ pos j)) ≡ has t (cell (part.lo.x +ℤ pos i) (part.lo.y +ℤ pos j))
+  same_bit i j h g =
+      let per_row = words_for (width t.bx) in
+      ap (λ (x : ℕ). row_bit_of per_row t.words x (at_least_zero (at.lo.y +ℤ pos j))) (place_is at.lo.x part.lo.x t.bx.lo.x (pos 0) i is.corners.west_is is.inside.west)
+      ∙ ap (row_bit_of per_row t.words (unsigned_abs ((part.lo.x +ℤ pos i) -ℤ t.bx.lo.x))) (place_is at.lo.y part.lo.y t.bx.lo.y (pos 0) j is.corners.south_is is.inside.south)
+      ∙ sym (ap (λ (b : Bool). b && bit_of per_row t.words (unsigned_abs ((part.lo.x +ℤ pos i) -ℤ t.bx.lo.x)) (unsigned_abs ((part.lo.y +ℤ pos j) -ℤ t.bx.lo.y))) (held_cell i j h g))
+
+  pub signature-offset : (axis : Axis) → signature axis (bit_cells t.words (words_for (width t.bx)) at) at ≡ signature axis (cells_in (has t) part) part
+  signature-offset X =
+      let per_row = words_for (width t.bx) in
+      columns-are (is_bit_set t.words per_row) at
+      ∙ ap (λ (n : ℕ). map (λ i. count_to (λ j. is_bit_set t.words per_row (cell (at.lo.x +ℤ pos i) (at.lo.y +ℤ pos j))) n) (range_with_len 0 (width at))) same_height
+      ∙ ap (λ (n : ℕ). map (λ i. count_to (λ j. is_bit_set t.words per_row (cell (at.lo.x +ℤ pos i) (at.lo.y +ℤ pos j))) (height part)) (range_with_len 0 n)) same_width
+      ∙ map_to-same _ _ (width part) (λ i h. count_to-same_below _ _ (height part) (λ j g. same_bit i j h g))
+      ∙ sym (columns-are (has t) part)
+  signature-offset Y =
+      let per_row = words_for (width t.bx) in
+      rows-are (is_bit_set t.words per_row) at
+      ∙ ap (λ (n : ℕ). map (λ j. count_to (λ i. is_bit_set t.words per_row (cell (at.lo.x +ℤ pos i) (at.lo.y +ℤ pos j))) n) (range_with_len 0 (height at))) same_width
+      ∙ ap (λ (n : ℕ). map (λ j. count_to (λ i. is_bit_set t.words per_row (cell (at.lo.x +ℤ pos i) (at.lo.y +ℤ pos j))) (width part)) (range_with_len 0 n)) same_height
+      ∙ map_to-same _ _ (height part) (λ j h. count_to-same_below _ _ (width part) (λ i g. same_bit i j g h))
+      ∙ sym (rows-are (has t) part)
