@@ -1,3 +1,4 @@
 pub mod Sets
 pub mod Frame
 pub mod Pieces
+pub mod SharedCells

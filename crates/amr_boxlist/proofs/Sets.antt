@@ -24,7 +24,7 @@ some_here true t n h k = omega arith
 some_here false t n h k = let e : 1 ≤ n = k h in omega arith
 
 -- a cell is in some box where it is in at least one
-in_boxes-holders : (bs : List Extent) (c : Cell) → in_boxes bs c ≡ false → holders bs c ≡ 0
+pub in_boxes-holders : (bs : List Extent) (c : Cell) → in_boxes bs c ≡ false → holders bs c ≡ 0
 in_boxes-holders [] c h = refl
 in_boxes-holders (b ∷ bs) c h = none_here (holds b c) (in_boxes bs c) (holders bs c) h (in_boxes-holders bs c)
 
@@ -50,7 +50,7 @@ apart-push bs b h n = λ c. step c (holds b c) refl
 pub record HoldOnce (bs : List Extent) (test : Cell → Bool) : Type 0 where
   pub at : (c : Cell) → holders bs c ≡ one_if (test c)
 
-in_boxes-some : (bs : List Extent) (c : Cell) → in_boxes bs c ≡ true → 1 ≤ holders bs c
+pub in_boxes-some : (bs : List Extent) (c : Cell) → in_boxes bs c ≡ true → 1 ≤ holders bs c
 in_boxes-some [] c h = absurd (cc)
 in_boxes-some (b ∷ bs) c h = some_here (holds b c) (in_boxes bs c) (holders bs c) h (in_boxes-some bs c)
 

@@ -1,3 +1,4 @@
 pub mod Lists
 pub mod Chopped
 pub mod Remnants
+pub mod Shared

@@ -3,13 +3,14 @@
 
 ghost use Rattle.std.specs.Prelude.{◌≡◌, ◌≤◌, false, ◌&&◌, not, List, [], ◌∷◌, ◌++◌, OnOk, OnErr, IsTrue, ◌↔◌};
 ghost use Rattle.std.specs.List.{flat_map};
-ghost use Rattle.amr_box.specs.Cells.{holds};
+ghost use Rattle.amr_box.specs.Cells.{IsNear, holds};
 ghost use Rattle.amr_box.specs.declared.Cell.{Cell};
 ghost use Rattle.amr_boxlist.specs.Lists.{AreApart, in_boxes};
 ghost use Rattle.amr_boxlist.specs.Chopped.{chopped};
 
 mod chopping;
 mod outside;
+mod sharing;
 
 use amr_box::Bx;
 use amr_causes::NoMemory;
@@ -73,6 +74,15 @@ impl BoxList {
         let left = outside::without(alloc, self.boxes.as_slice(), &b)?;
         self.boxes = left;
         Ok(())
+    }
+
+    /// Whether each cell of the box is in the list: by counts, one look at each box of the list and no memory.
+    /// Coordinates of the box lie between -2^24 and 2^24.
+    pub fn covers(&self, b: &Bx) -> bool
+        requires { IsNear b.now }
+        ensures { IsTrue result ↔ ((c : Cell) → IsTrue (holds b.now c) → IsTrue (in_boxes self.now c)) }
+    {
+        sharing::count_shared(self.boxes.as_slice(), b) == b.area()
     }
 
     /// Chops each box, from its low corner, into pieces of `max` by `max` cells, the last ones shorter, rows of pieces

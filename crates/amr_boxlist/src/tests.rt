@@ -1,3 +1,6 @@
+ghost use Rattle.std.specs.Prelude.{pos, ◌≤ℤ◌};
+ghost use Rattle.amr_box.specs.Cells.{IsNear};
+
 use super::*;
 use amr_box::Cell;
 
@@ -12,6 +15,17 @@ fn one_box(alloc: Global, hi: Cell) -> Result<BoxList, NoMemory> {
         list.push_disjoint(b)?;
     }
     Ok(list)
+}
+
+/// The box from (3, 1) to column 9 and a row.
+fn box_to_row(row: i32) -> Bx
+    requires from_low { pos 1 ≤ℤ row }
+    requires to_high { row ≤ℤ pos 9 }
+    ensures { IsNear result }
+{
+    let lo = Cell { x: 3, y: 1 };
+    let hi = Cell { x: 9, y: row };
+    Bx::try_new(lo, hi).unwrap()
 }
 
 /// How many boxes of the list hold a cell.
@@ -48,5 +62,20 @@ fn a_hole_leaves_the_twelve_cells_round_it(rt: HostRuntime) -> Result<(), NoMemo
             assert_eq!(rt; holders(&list, cell(x, y)), if in_hole { 0 } else { 1 });
         }
     }
+    Ok(())
+}
+
+#[test]
+fn a_box_across_two_pieces_is_covered(rt: HostRuntime) -> Result<(), NoMemory> {
+    let mut list = one_box(rt.alloc(), cell(9, 3))?;
+    list.chop(4)?;
+    let across = box_to_row(3);
+    let beyond = box_to_row(4);
+    assert!(rt; list.covers(&across));
+    assert!(rt; !list.covers(&beyond));
+    if let Some(hole) = Bx::try_new(cell(5, 2), cell(5, 2)) {
+        list.minus(hole)?;
+    }
+    assert!(rt; !list.covers(&across));
     Ok(())
 }
