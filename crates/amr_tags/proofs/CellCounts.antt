@@ -24,7 +24,7 @@ over_rows : (g : Cell → ℕ) (row : ℕ → List Cell) (a n : ℕ) → sum_by 
 over_rows g row a zero = refl
 over_rows g row a (suc n) = rw flat_map-cons (sum_by-append g (row a) (flat_map row (range_with_len (a + 1) n)) ∙ ap (λ t. sum_by g (row a) + t) (over_rows g row (a + 1) n))
 
-cells-sum : (test : Cell → Bool) (b : Extent) → count_by test (cells_of b) ≡ rows_from (λ j. count_from (λ i. test (cell (b.lo.x +ℤ pos i) (b.lo.y +ℤ pos j))) 0 (width b)) 0 (height b)
+pub cells-sum : (test : Cell → Bool) (b : Extent) → count_by test (cells_of b) ≡ rows_from (λ j. count_from (λ i. test (cell (b.lo.x +ℤ pos i) (b.lo.y +ℤ pos j))) 0 (width b)) 0 (height b)
 cells-sum test b =
     over_rows (λ c. cond (test c) 1 0) (λ j. map (λ i. cell (b.lo.x +ℤ pos i) (b.lo.y +ℤ pos j)) (range_with_len 0 (width b))) 0 (height b)
     ∙ rows-same (λ j. sum_by (λ c. cond (test c) 1 0) (map (λ i. cell (b.lo.x +ℤ pos i) (b.lo.y +ℤ pos j)) (range_with_len 0 (width b)))) (λ j. count_from (λ i. test (cell (b.lo.x +ℤ pos i) (b.lo.y +ℤ pos j))) 0 (width b)) 0 (height b) (λ j _ _. along_row (λ c. cond (test c) 1 0) (λ i. cell (b.lo.x +ℤ pos i) (b.lo.y +ℤ pos j)) 0 (width b))

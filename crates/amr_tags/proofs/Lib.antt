@@ -2,3 +2,4 @@ pub mod Places
 pub mod Counts
 pub mod Masks
 pub mod CellCounts
+pub mod Halving

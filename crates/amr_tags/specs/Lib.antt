@@ -1,4 +1,5 @@
 pub mod Bits
+pub mod Edges
 pub mod Parts
 pub mod Stored
 pub mod TagSets

@@ -1,12 +1,13 @@
 //! Tags: the cells of a box where a finer level is wanted, as rows of bits.
 #![tactic(auto)]
 
-ghost use Rattle.std.specs.Prelude.{◌≡◌, true, false, ◌||◌, ◌&&◌, IfOk, IsTrue, count_by};
+ghost use Rattle.std.specs.Prelude.{◌≡◌, ◌↔◌, true, false, ◌||◌, ◌&&◌, IfOk, IfSome, IsNone, IsTrue, count_by};
 ghost use Rattle.amr_box.specs.Cells.{IsNear, cells_of, holds, width};
 ghost use Rattle.amr_box.specs.declared.Cell.{Cell};
 ghost use Rattle.amr_tags.specs.Bits.{words_for};
-ghost use Rattle.amr_tags.specs.TagSets.{IsLaidOut, SameShape, has, same_cell};
+ghost use Rattle.amr_tags.specs.TagSets.{IsLaidOut, IsLeastBox, SameShape, has, same_cell};
 
+mod edges;
 mod rows;
 mod scan;
 
@@ -112,6 +113,35 @@ impl Tags {
         ensures { result ≡ has self.now c }
     {
         self.bx.holds(c) && rows::get_bit(&self.words, &self.bx, c)
+    }
+
+    /// The least box round the tagged cells, None exactly where none is tagged.
+    pub fn bounding(&self) -> Option<Bx>
+        ensures none { IsNone result ↔ ((c : Cell) → has self.now c ≡ false) }
+        ensures least { IfSome result (λ r. IsLeastBox r (has self.now)) }
+    {
+        let bx = self.bx;
+        if scan::count_part(&self.words, &bx, &bx) == 0 {
+            return None;
+        }
+        Some(edges::least(&self.words, &bx, &bx))
+    }
+
+    /// The least box round the tagged cells that lie in a box, None exactly where none does.
+    pub fn bounding_in(&self, b: Bx) -> Option<Bx>
+        ensures none { IsNone result ↔ ((c : Cell) → (holds b c && has self.now c) ≡ false) }
+        ensures least { IfSome result (λ r. IsLeastBox r (λ c. holds b c && has self.now c)) }
+    {
+        let bx = self.bx;
+        match bx.meet(&b) {
+            None => None,
+            Some(part) => {
+                if scan::count_part(&self.words, &bx, &part) == 0 {
+                    return None;
+                }
+                Some(edges::least(&self.words, &bx, &part))
+            }
+        }
     }
 
     /// How many tagged cells lie in a box, by counts of bits.

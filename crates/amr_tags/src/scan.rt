@@ -95,7 +95,7 @@ pub fn count_part(words: &[u64], b: &Bx, part: &Bx) -> u64
 }
 
 /// How far a coordinate lies above another.
-fn offset(low: i32, z: i32) -> u32
+pub fn offset(low: i32, z: i32) -> u32
     requires order { low ≤ℤ z }
     requires near { (z -ℤ low) <ℤ pos 67108864 }
     ensures value { pos result ≡ z -ℤ low }

@@ -23,6 +23,36 @@ fn count(tags: &Tags, west: i32, east: i32) -> Option<u64> {
     Bx::try_new(lo, hi).map(|part| tags.count_in(part))
 }
 
+fn bounds_within(tags: &Tags, west: i32, east: i32) -> Option<Bx> {
+    let lo = Cell { x: west, y: 0 };
+    let hi = Cell { x: east, y: 1 };
+    match Bx::try_new(lo, hi) {
+        None => None,
+        Some(part) => tags.bounding_in(part),
+    }
+}
+
+#[test]
+fn the_least_box_goes_round_the_tags_of_a_box(rt: HostRuntime) -> Result<(), NoMemory> {
+    let mut tags = Tags::make(rt.alloc(), two_rows(), false, false)?;
+    assert_eq!(rt; tags.bounding(), None);
+    for c in [
+        Cell { x: 3, y: 1 },
+        Cell { x: 63, y: 1 },
+        Cell { x: 64, y: 0 },
+        Cell { x: 128, y: 1 },
+    ] {
+        tag(&mut tags, c);
+    }
+    let whole = Bx::try_new(Cell { x: 3, y: 0 }, Cell { x: 128, y: 1 });
+    assert_eq!(rt; tags.bounding(), whole);
+    let middle = Bx::try_new(Cell { x: 63, y: 0 }, Cell { x: 64, y: 1 });
+    assert_eq!(rt; bounds_within(&tags, 4, 127), middle);
+    assert_eq!(rt; bounds_within(&tags, 65, 127), None);
+    assert_eq!(rt; bounds_within(&tags, 130, 200), None);
+    Ok(())
+}
+
 #[test]
 fn columns_of_one_row_stand_in_their_words(rt: HostRuntime) -> Result<(), NoMemory> {
     let mut tags = Tags::make(rt.alloc(), two_rows(), false, false)?;

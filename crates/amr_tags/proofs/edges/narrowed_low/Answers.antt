@@ -1,0 +1,10 @@
+use Rattle.std.proofs.Common.{arith, refl}
+use Rattle.std.proofs.lemmas.Int.{ints}
+use Rattle.amr_tags.proofs.Halving.{near_high, near_low, none_below_at}
+use Rattle.amr_tags.proofs.edges.narrowed_low.Goals as goal
+
+pub between-middle-requires-clause-near : goal.between-middle-requires-clause-near
+between-middle-requires-clause-near c = omega (arith, ints, c.requires.from_low, c.requires.to_high, near_low c.args.b.now c.args.part.now c.args.axis c.requires.near c.requires.part, near_high c.args.b.now c.args.part.now c.args.axis c.requires.near c.requires.part)
+
+pub returns-else-has_tags_up_to-clause-none_below : goal.returns-else-has_tags_up_to-clause-none_below
+returns-else-has_tags_up_to-clause-none_below c = none_below_at _ _ _ _ (omega (arith, ints, c.between-middle.ensures.from_low, c.between-middle.ensures.below_high, c.requires.from_low, c.requires.to_high, near_low c.args.b.now c.args.part.now c.args.axis c.requires.near c.requires.part, near_high c.args.b.now c.args.part.now c.args.axis c.requires.near c.requires.part)) (c.if-has_tags_up_to.ensures.no refl)
