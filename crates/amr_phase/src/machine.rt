@@ -4,7 +4,8 @@ ghost use Rattle.amr_phase.specs.Plans.{PlanOf};
 ghost use Rattle.amr_phase.specs.declared.machine.Event.{Event};
 
 use crate::plan::Plan;
-use std::alloc::{AllocError, Global};
+use amr_causes::NoMemory;
+use std::alloc::Global;
 use std::marker::Model;
 
 /// How far a task is.
@@ -90,7 +91,7 @@ impl Core {
 
     /// The start of a phase by so many workers: all tasks wait, all places are empty and all words are 0. Only memory can
     /// be wanting.
-    pub fn make(alloc: Global, plan: Plan, workers: u32) -> Result<Core, AllocError>
+    pub fn make(alloc: Global, plan: Plan, workers: u32) -> Result<Core, NoMemory>
         ensures { IfOk result (λ c. c ≡ fresh plan workers) }
     {
         let stages = vec![in alloc; Stage::Waiting; plan.tasks().len()]?;
