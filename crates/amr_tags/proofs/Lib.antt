@@ -3,3 +3,10 @@ pub mod Counts
 pub mod Masks
 pub mod CellCounts
 pub mod Halving
+pub mod Shifts
+pub mod Passes
+pub mod Rounds
+pub mod Neighbours
+pub mod Offsets
+pub mod Sides
+pub mod Grows

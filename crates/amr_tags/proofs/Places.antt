@@ -14,7 +14,7 @@ use Rattle.amr_tags.specs.Bits.{AreRows, bit, bit_of, words_for}
 use Rattle.amr_tags.specs.Stored.{IsIn}
 use Rattle.amr_tags.specs.TagSets.{column_in, row_in, same_cell}
 
-and-true : (a b : Bool) → (a && b) ≡ true → (a ≡ true) × (b ≡ true)
+pub and-true : (a b : Bool) → (a && b) ≡ true → (a ≡ true) × (b ≡ true)
 and-true true b h = (refl, h)
 and-true false b h = absurd (cc)
 
@@ -65,10 +65,10 @@ or-false : (a : Bool) → (a || false) ≡ a
 or-false true = refl
 or-false false = refl
 
-equal : (a b : ℕ) → (a == b) ≡ true → a ≡ b
+pub equal : (a b : ℕ) → (a == b) ≡ true → a ≡ b
 equal a b h = grind (arith, nat_tests)
 
-apart : (a b : ℕ) → (a == b) ≡ false → a ≢ b
+pub apart : (a b : ℕ) → (a == b) ≡ false → a ≢ b
 apart a b h = grind (arith, nat_tests)
 
 not_equal : (a b : ℕ) → a ≢ b → (a == b) ≡ false
@@ -78,7 +78,7 @@ is_equal : (a b : ℕ) → a ≡ b → (a == b) ≡ true
 is_equal a b h = grind (arith, nat_tests)
 
 -- the bits of a word with one more
-set-bit : (w k i : ℕ) → k < 64 → bit (bit_or w (1 * 2 ^ k % 2 ^ 64)) i ≡ (bit w i || (i == k))
+pub set-bit : (w k i : ℕ) → k < 64 → bit (bit_or w (1 * 2 ^ k % 2 ^ 64)) i ≡ (bit w i || (i == k))
 set-bit w k i h = step (i == k) refl
   where
     step : (t : Bool) → (i == k) ≡ t → bit (bit_or w (1 * 2 ^ k % 2 ^ 64)) i ≡ (bit w i || (i == k))

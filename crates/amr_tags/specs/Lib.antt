@@ -1,5 +1,6 @@
 pub mod Bits
 pub mod Edges
+pub mod Grown
 pub mod Parts
 pub mod Stored
 pub mod TagSets

@@ -13,6 +13,9 @@ pub record TagSet : Type 0 where
   pub wrap_y : Bool
   pub words : List ℕ
 
+abbrev pub tag_set : Extent → Bool → Bool → List ℕ → TagSet
+tag_set b x y words = record { bx = b; wrap_x = x; wrap_y = y; words = words }
+
 -- where a cell of the box stands in its row, and in which row
 abbrev pub column_in : Extent → Cell → ℕ
 column_in b c = unsigned_abs (c.x -ℤ b.lo.x)

@@ -5,9 +5,10 @@ ghost use Rattle.std.specs.Prelude.{◌≡◌, ◌↔◌, true, false, ◌||◌,
 ghost use Rattle.amr_box.specs.Cells.{IsNear, cells_of, holds, width};
 ghost use Rattle.amr_box.specs.declared.Cell.{Cell};
 ghost use Rattle.amr_tags.specs.Bits.{words_for};
-ghost use Rattle.amr_tags.specs.TagSets.{IsLaidOut, IsLeastBox, SameShape, has, same_cell};
+ghost use Rattle.amr_tags.specs.TagSets.{IsLaidOut, IsLeastBox, SameShape, has, is_near, same_cell};
 
 mod edges;
+mod grow;
 mod rows;
 mod scan;
 
@@ -106,6 +107,23 @@ impl Tags {
     {
         let bx = self.bx;
         rows::set_bit(&mut self.words, &bx, c);
+    }
+
+    /// Grows the set by `n` cells on all sides, at the corners too: past the end of a periodic axis it goes on at the
+    /// other end, and at the end of an open one it stops. The buffer of Berger and Colella's tags.
+    pub fn grow(&mut self, n: u32)
+        ensures shape { SameShape self.old self.new }
+        ensures cells { (c : Cell) → has self.new c ≡ (holds self.old.bx c && is_near self.old n c) }
+    {
+        let bx = self.bx;
+        grow::grow_by(
+            &mut self.words,
+            &mut self.spare,
+            &bx,
+            self.wrap_x,
+            self.wrap_y,
+            n,
+        );
     }
 
     /// Whether a cell is tagged; none outside of the box is.

@@ -75,7 +75,7 @@ pub fn get_bit(words: &[u64], b: &Bx, c: Cell) -> bool
     bit_at(words[word], at)
 }
 
-fn bit_at(word: u64, at: u32) -> bool
+pub fn bit_at(word: u64, at: u32) -> bool
     requires { at < 64 }
     ensures { result ≡ bit word at }
 {

@@ -19,7 +19,7 @@ fn from_bit(word: u64, at: u32) -> u64
 }
 
 /// The bits of a word up to one.
-fn to_bit(word: u64, at: u32) -> u64
+pub fn to_bit(word: u64, at: u32) -> u64
     requires { at < 64 }
     ensures { (i : ℕ) → i < 64 → bit result i ≡ (bit word i && nat_le i at) }
 {

@@ -79,3 +79,20 @@ fn columns_of_one_row_stand_in_their_words(rt: HostRuntime) -> Result<(), NoMemo
     }
     Ok(())
 }
+
+#[test]
+fn grown_tags_cross_words_and_ends(rt: HostRuntime) -> Result<(), NoMemory> {
+    let mut ring = Tags::make(rt.alloc(), two_rows(), true, false)?;
+    tag(&mut ring, Cell { x: 0, y: 0 });
+    tag(&mut ring, Cell { x: 64, y: 0 });
+    ring.grow(1);
+    assert_eq!(rt;
+        ring.words(),
+        [(1 << 63) + 3, 3, 2, (1 << 63) + 3, 3, 2].as_slice()
+    );
+    let mut open = Tags::make(rt.alloc(), two_rows(), false, false)?;
+    tag(&mut open, Cell { x: 129, y: 1 });
+    open.grow(2);
+    assert_eq!(rt; open.words(), [0, 1 << 63, 3, 0, 1 << 63, 3].as_slice());
+    Ok(())
+}
