@@ -1,0 +1,22 @@
+use Rattle.std.proofs.Common.{◌≡◌, ◌∙◌, ℕ, ◌+◌, ◌-◌, ◌<◌, List, take, drop, to_z, of_z, w32, ap, arith}
+use Rattle.std.specs.Prelude.{slice_index}
+use Rattle.std.proofs.lemmas.Int.{ints}
+use Rattle.amr_box.specs.Cells.{cell}
+use Rattle.amr_patch.specs.Places.{place}
+use Rattle.amr_patch.specs.Patches.{value_in}
+use Rattle.amr_patch.proofs.Entries.{row_entry}
+use Rattle.amr_patch.proofs.patches.Patch.masses_of_row.Goals as goal
+
+pub returns-clause-masses : goal.returns-clause-masses
+unfolding value_in
+returns-clause-masses c =
+    λ k h.
+    let self = c.args.self.now in
+    let from = c.row_place-from.result in
+    let m : ℕ = from + c.width-count.result - from in
+    let x : to_z w32 (of_z w32 c.lo-x.result.x) ≡ self.bx.lo.x = omega (arith, ints, c.lo-x.ensures.x) in
+    let y : to_z w32 (of_z w32 c.args.y) ≡ c.args.y = omega (arith, ints) in
+    let e : from ≡ place self.bx (cell self.bx.lo.x c.args.y) = c.row_place-from.ensures.value ∙ (λ i. place self.bx (cell (x i) (y i))) in
+    let lt : k < m = omega (arith, h, c.width-count.ensures.value) in
+    ap (λ (vs : List ℕ). slice_index (take m (drop from vs)) k) c.deref.ensures.value
+    ∙ row_entry self.values.items self.bx self.bx.lo.x c.args.y from m k lt (omega (arith, ints)) e

@@ -1,0 +1,80 @@
+-- What a patch holds: a value for each cell of its box (a mass) and of the frame round it (a ghost cell's value), a mark for
+-- each cell of the frame, and a flux for each face.
+use Rattle.std.specs.Prelude.{◌≡◌, ◌≢◌, ℕ, Bool, false, cond, ℤ, pos, List, [], ◌∷◌, slice_index, slice_index_or, IsTrue}
+use Rattle.std.specs.declared.option.Option.TheVariants.{None, Some}
+use Rattle.std.specs.List.{AllPairs, list_any}
+use Rattle.amr_box.specs.declared.Cell.{Cell}
+use Rattle.amr_box.specs.declared.Face.{Face}
+use Rattle.amr_box.specs.declared.Axis.{Axis}
+use Rattle.amr_box.specs.declared.Axis.TheVariants.{X, Y}
+use Rattle.amr_box.specs.Cells.{Extent, cell, holds}
+use Rattle.amr_def.specs.State.{Masses}
+use Rattle.amr_patch.specs.declared.patches.Patch.{Patch}
+use Rattle.amr_patch.specs.Places.{grown, is_face_of, place, x_place, y_place}
+
+abbrev pub box : Patch → Extent
+box p = p.bx
+
+-- the value of a cell of the box or of the frame
+unfoldable pub value_in : Patch → Cell → ℕ
+value_in p c = slice_index p.values.items (place p.bx c)
+
+-- of a cell of the box
+abbrev pub mass_in : Patch → Cell → ℕ
+mass_in p c = value_in p c
+
+-- of a cell of the frame
+abbrev pub ghost_in : Patch → Cell → ℕ
+ghost_in p c = value_in p c
+
+-- whether a cell of the frame is a cell of the level
+unfoldable pub mark_in : Patch → Cell → Bool
+mark_in p c = slice_index_or p.marks.items (place p.bx c) false
+
+abbrev pub flux_along : Axis → Patch → Cell → ℤ
+flux_along X p c = slice_index_or p.x_fluxes.items (x_place p.bx c) (pos 0)
+flux_along Y p c = slice_index_or p.y_fluxes.items (y_place p.bx c) (pos 0)
+
+-- the flux through a face of a cell of the box
+unfoldable pub flux_in : Patch → Face → ℤ
+flux_in p f = flux_along f.axis p (cell f.x f.y)
+
+-- ---- what stays
+
+abbrev pub SameValues : Patch → Patch → Type 0
+SameValues p q = (c : Cell) → value_in q c ≡ value_in p c
+
+abbrev pub SameMarks : Patch → Patch → Type 0
+SameMarks p q = (c : Cell) → mark_in q c ≡ mark_in p c
+
+abbrev pub SameFluxes : Patch → Patch → Type 0
+SameFluxes p q = (f : Face) → flux_in q f ≡ flux_in p f
+
+-- the values of all other cells of the box and of the frame
+abbrev pub SameOtherValues : Cell → Patch → Patch → Type 0
+SameOtherValues c p q = (d : Cell) → IsTrue (holds (grown (box p)) d) → d ≢ c → value_in q d ≡ value_in p d
+
+abbrev pub SameOtherMarks : Cell → Patch → Patch → Type 0
+SameOtherMarks c p q = (d : Cell) → IsTrue (holds (grown (box p)) d) → d ≢ c → mark_in q d ≡ mark_in p d
+
+abbrev pub SameOtherFluxes : Face → Patch → Patch → Type 0
+SameOtherFluxes f p q = (g : Face) → IsTrue (is_face_of (box p) g) → g ≢ f → flux_in q g ≡ flux_in p g
+
+-- ---- several patches
+
+-- no cell is in two of the boxes
+abbrev pub AreApart : List Extent → Type 0
+AreApart bs = AllPairs (λ a b. (c : Cell) → IsTrue (holds a c) → IsTrue (holds b c) → ⊥) bs
+
+-- no cell is in two of the patches
+abbrev pub ArePatchesApart : List Patch → Type 0
+ArePatchesApart ps = AllPairs (λ p q. (c : Cell) → IsTrue (holds (box p) c) → IsTrue (holds (box q) c) → ⊥) ps
+
+-- whether a cell is in one of the patches
+abbrev pub in_patches : List Patch → Cell → Bool
+in_patches ps c = list_any (λ p. holds (box p) c) ps
+
+-- the masses of their cells
+abbrev pub masses_in : List Patch → Masses
+masses_in [] c = None
+masses_in (p ∷ ps) c = cond (holds (box p) c) (Some (mass_in p c)) (masses_in ps c)

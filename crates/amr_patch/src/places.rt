@@ -1,0 +1,75 @@
+// Where the entries of a patch stand in its lists.
+
+ghost use Rattle.std.specs.Prelude.{◌≡◌, ◌+◌, ◌*◌, ◌<◌, ◌≤◌, pos, negsuc, ◌+ℤ◌, ◌-ℤ◌, ◌≤ℤ◌, ◌<ℤ◌, IsTrue};
+ghost use Rattle.amr_box.specs.declared.Axis.TheVariants.{X, Y};
+ghost use Rattle.amr_box.specs.Cells.{IsNear, height, holds, width};
+ghost use Rattle.amr_patch.specs.Places.{grown, on_box, place, x_place, y_place};
+
+use amr_box::{Bx, Cell};
+
+/// How far a coordinate lies above another that isn't greater. Both lie between -2^25 and 2^25.
+fn distance(low: i32, z: i32) -> usize
+    requires from { negsuc 33554432 <ℤ low }
+    requires order { low ≤ℤ z }
+    requires to { z <ℤ pos 33554433 }
+    ensures { pos result ≡ z -ℤ low }
+{
+    (z - low) as usize
+}
+
+/// Where the value of a cell of the grown box stands.
+
+pub(crate) fn place(b: &Bx, c: Cell) -> usize
+    requires near { IsNear b.now }
+    requires inside { IsTrue (holds (grown b.now) c) }
+    ensures value { result ≡ place b.now c }
+    ensures within { result < (height b.now + 2) * (width b.now + 2) }
+{
+    let lo = b.lo();
+    let row = distance(lo.y - 1, c.y);
+    let column = distance(lo.x - 1, c.x);
+    row * (b.width() as usize + 2) + column
+}
+
+/// Where the values of `n` cells of a row of the grown box stand, from a cell on.
+pub(crate) fn row_place(b: &Bx, c: Cell, n: u32) -> usize
+    requires near { IsNear b.now }
+    requires inside { IsTrue (holds (grown b.now) c) }
+    requires room { (c.x +ℤ pos n) ≤ℤ (b.now.hi.x +ℤ pos 2) }
+    ensures value { result ≡ place b.now c }
+    ensures within { result + n ≤ (height b.now + 2) * (width b.now + 2) }
+{
+    let lo = b.lo();
+    let row = distance(lo.y - 1, c.y);
+    let column = distance(lo.x - 1, c.x);
+    let _count = n;
+    row * (b.width() as usize + 2) + column
+}
+
+/// Where the flux through the x face at the low side of a cell stands.
+
+pub(crate) fn x_place(b: &Bx, c: Cell) -> usize
+    requires near { IsNear b.now }
+    requires inside { IsTrue (on_box X b.now c) }
+    ensures value { result ≡ x_place b.now c }
+    ensures within { result < height b.now * (width b.now + 1) }
+{
+    let lo = b.lo();
+    let row = distance(lo.y, c.y);
+    let column = distance(lo.x, c.x);
+    row * (b.width() as usize + 1) + column
+}
+
+/// Where the flux through the y face at the low side of a cell stands.
+
+pub(crate) fn y_place(b: &Bx, c: Cell) -> usize
+    requires near { IsNear b.now }
+    requires inside { IsTrue (on_box Y b.now c) }
+    ensures value { result ≡ y_place b.now c }
+    ensures within { result < (height b.now + 1) * width b.now }
+{
+    let lo = b.lo();
+    let row = distance(lo.y, c.y);
+    let column = distance(lo.x, c.x);
+    row * b.width() as usize + column
+}
