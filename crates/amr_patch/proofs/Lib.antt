@@ -1,2 +1,4 @@
 pub mod Rows
 pub mod Entries
+pub mod Lookups
+pub mod LevelLaws

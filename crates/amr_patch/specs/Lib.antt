@@ -1,2 +1,6 @@
 pub mod Places
 pub mod Patches
+pub mod Orders
+pub mod Pairwise
+pub mod Levels
+pub mod Meshes

@@ -60,6 +60,17 @@ SameOtherMarks c p q = (d : Cell) → IsTrue (holds (grown (box p)) d) → d ≢
 abbrev pub SameOtherFluxes : Face → Patch → Patch → Type 0
 SameOtherFluxes f p q = (g : Face) → IsTrue (is_face_of (box p) g) → g ≢ f → flux_in q g ≡ flux_in p g
 
+-- ---- patches made
+
+-- the patch of a box, where each mass is 0
+pub record IsBlank (b : Extent) (p : Patch) : Type 0 where
+  pub of_box : box p ≡ b
+  pub empty : (c : Cell) → mass_in p c ≡ 0
+
+pub record IsCopy (p q : Patch) : Type 0 where
+  pub of_box : box q ≡ box p
+  pub values : SameValues p q
+
 -- ---- several patches
 
 -- no cell is in two of the boxes

@@ -1,11 +1,21 @@
-//! Patches of cells with their ghost cells and fluxes (BoxLib's FABs).
+//! Patches of cells with their ghost cells and fluxes (BoxLib's FABs), the levels that they make up, and the mesh of a state.
 //!
 //! - [`Patch`]: the masses of a box of cells, a frame of ghost cells round it, and the fluxes through its faces, each a flat
 //!   list row by row.
+//! - [`order_of`], [`find`]: which of several patches has a cell, with no look at most of them.
+//! - [`Level`]: boxes, and the patches that hold the masses of their cells.
+//! - [`Mesh`]: the step, the rows of the ledger and the levels.
 #![tactic(auto)]
 
+mod copies;
+mod levels;
+mod lookup;
+mod meshes;
 mod patches;
 mod places;
 
 pub use amr_def::Row;
+pub use levels::Level;
+pub use lookup::{Order, find, mass_at, order_of};
+pub use meshes::Mesh;
 pub use patches::Patch;

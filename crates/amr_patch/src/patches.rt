@@ -3,7 +3,7 @@
 ghost use Rattle.std.specs.Prelude.{◌≡◌, ◌+◌, ◌*◌, length};
 ghost use Rattle.amr_box.specs.Cells.{IsNear, height, width};
 
-use crate::places::{place, row_place, x_place, y_place};
+use crate::places::{columns_from, place, row_place, x_place, y_place};
 use amr_box::{Axis, Bx, Cell, Face};
 use amr_causes::NoMemory;
 use std::alloc::Global;
@@ -55,6 +55,27 @@ impl Patch {
         let y_fluxes = vec![in alloc; 0i64; (height + 1) * width]?;
         Ok(Patch {
             bx: b,
+            values,
+            marks,
+            x_fluxes,
+            y_fluxes,
+        })
+    }
+
+    /// A patch with the same box, values, marks and fluxes.
+    pub fn copy(&self) -> Result<Patch, NoMemory>
+        ensures of_box { IfOk result (λ p. box p ≡ box self.now) }
+        ensures values { IfOk result (λ p. SameValues self.now p) }
+        ensures marks { IfOk result (λ p. SameMarks self.now p) }
+        ensures fluxes { IfOk result (λ p. SameFluxes self.now p) }
+    {
+        let alloc = *self.values.allocator();
+        let values = Vec::from_slice(alloc, &self.values)?;
+        let marks = Vec::from_slice(alloc, &self.marks)?;
+        let x_fluxes = Vec::from_slice(alloc, &self.x_fluxes)?;
+        let y_fluxes = Vec::from_slice(alloc, &self.y_fluxes)?;
+        Ok(Patch {
+            bx: self.bx,
             values,
             marks,
             x_fluxes,
@@ -171,6 +192,17 @@ impl Patch {
         let x = self.bx.lo().x - 1;
         let count = self.bx.width() + 2;
         let from = row_place(&self.bx, Cell { x, y }, count);
+        &self.values[from..from + count as usize]
+    }
+
+    /// The masses of a row from a cell on, to the high end of the box.
+    pub fn masses_from(&self, c: Cell) -> &[u64]
+        requires { IsTrue (holds (box self.now) c) }
+        ensures count { pos (length result.now) ≡ (box self.now).hi.x +ℤ pos 1 -ℤ c.x }
+        ensures masses { (k : ℕ) → k < length result.now → slice_index result.now k ≡ mass_in self.now (cell (c.x +ℤ pos k) c.y) }
+    {
+        let count = columns_from(&self.bx, c);
+        let from = row_place(&self.bx, c, count);
         &self.values[from..from + count as usize]
     }
 }

@@ -46,6 +46,16 @@ pub(crate) fn row_place(b: &Bx, c: Cell, n: u32) -> usize
     row * (b.width() as usize + 2) + column
 }
 
+/// How many columns the box has from a cell of it on.
+pub(crate) fn columns_from(b: &Bx, c: Cell) -> u32
+    requires near { IsNear b.now }
+    requires inside { IsTrue (holds b.now c) }
+    ensures { pos result ≡ b.now.hi.x +ℤ pos 1 -ℤ c.x }
+{
+    let more = distance(c.x, b.hi().x);
+    more as u32 + 1
+}
+
 /// Where the flux through the x face at the low side of a cell stands.
 
 pub(crate) fn x_place(b: &Bx, c: Cell) -> usize

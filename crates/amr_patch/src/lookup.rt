@@ -1,0 +1,146 @@
+//! Which of several patches has a cell.
+
+ghost use Rattle.std.specs.Prelude.{◌≡◌, ℕ, ◌<◌, ◌≤◌, ◌-◌, true, false, slice_index_or, IfSome, IsTrue, length, is_some};
+ghost use Rattle.std.specs.List.Sorted.{IsPartitionPoint};
+ghost use Rattle.amr_box.specs.Cells.{cell, holds};
+ghost use Rattle.amr_patch.specs.Patches.{ArePatchesApart, box, in_patches, masses_in};
+ghost use Rattle.amr_patch.specs.Orders.{AreAtMostHigh, AreInRows, IsHolder, IsOrderOf, comes_first};
+
+use crate::patches::Patch;
+use amr_box::Cell;
+
+/// How a list of patches stands: whether their low corners go row by row from the low row, within a row from the low column;
+/// and how many rows the tallest patch has.
+#[derive(Clone, Copy, Debug)]
+pub struct Order {
+    sorted: bool,
+    tallest: u32,
+}
+
+/// How the patches stand, in one pass over them.
+pub fn order_of(patches: &[Patch]) -> Order
+    ensures { IsOrderOf result patches.now }
+{
+    let mut sorted = true;
+    let mut tallest = 0;
+    for k in 0..patches.len() {
+        sorted = sorted && is_in_order(patches, k);
+        tallest = patches[k].bx().height().max(tallest);
+    }
+    Order { sorted, tallest }
+}
+
+/// Whether a cell comes before another, or is it, where cells go row by row.
+fn comes_first(a: Cell, b: Cell) -> bool
+    ensures { result ≡ comes_first a b }
+{
+    if a.y < b.y {
+        return true;
+    }
+    if b.y < a.y {
+        return false;
+    }
+    a.x <= b.x
+}
+
+/// Whether a patch comes after the one before it; the first one does.
+fn is_in_order(patches: &[Patch], k: usize) -> bool
+    requires { k < length patches.now }
+    ensures { result ≡ true → (d : Patch) → 0 < k → IsTrue (comes_first (box (slice_index_or patches.now (k - 1) d)).lo (box (slice_index_or patches.now k d)).lo) }
+{
+    if k == 0 {
+        return true;
+    }
+    comes_first(patches[k - 1].bx().lo(), patches[k].bx().lo())
+}
+
+/// The number of the patch that has the cell, None exactly where none has it. No cell is in two of the patches.
+///
+/// Where the patches go row by row, it looks by halving for the last one that starts in a row at or below the cell's, in that
+/// row at or left of the cell; if that one doesn't have the cell, no other of its row does, and it goes on with the rows below, as far down
+/// as the tallest patch reaches. So a list of patches in rows costs two searches. Elsewhere it goes over them all.
+pub fn find(patches: &[Patch], order: Order, c: Cell) -> Option<usize>
+    requires order { IsOrderOf order patches.now }
+    requires apart { ArePatchesApart patches.now }
+    ensures some { is_some result ≡ in_patches patches.now c }
+    ensures found { IfSome result (IsHolder patches.now c) }
+{
+    if order.sorted {
+        find_in_rows(patches, order.tallest, c)
+    } else {
+        find_among_all(patches, c)
+    }
+}
+
+/// The same, by a look at each.
+fn find_among_all(patches: &[Patch], c: Cell) -> Option<usize>
+    ensures some { is_some result ≡ in_patches patches.now c }
+    ensures found { IfSome result (IsHolder patches.now c) }
+{
+    for k in 0..patches.len() {
+        if patches[k].bx().holds(c) {
+            return Some(k);
+        }
+    }
+    None
+}
+
+/// The same, where the patches go row by row and none is higher than `tallest`.
+fn find_in_rows(patches: &[Patch], tallest: u32, c: Cell) -> Option<usize>
+    requires sorted { AreInRows patches.now }
+    requires tallest { AreAtMostHigh tallest patches.now }
+    requires apart { ArePatchesApart patches.now }
+    ensures some { is_some result ≡ in_patches patches.now c }
+    ensures found { IfSome result (IsHolder patches.now c) }
+{
+    let mut y = i64::from(c.y);
+    let bottom = y - i64::from(tallest);
+    while y > bottom {
+        let count = count_up_to(patches, y, c.x);
+        if count == 0 {
+            return None;
+        }
+        let b = patches[count - 1].bx();
+        if b.holds(c) {
+            return Some(count - 1);
+        }
+        y = i64::from(b.lo().y).min(y - 1);
+    }
+    None
+}
+
+/// Whether the patch starts in a row below `y`, or in that row at or left of column `x`.
+fn starts_up_to(p: &Patch, y: i64, x: i32) -> bool
+    ensures { result ≡ comes_first (box p.now).lo (cell x y) }
+{
+    let lo = p.bx().lo();
+    let row = i64::from(lo.y);
+    if row < y {
+        return true;
+    }
+    if y < row {
+        return false;
+    }
+    lo.x <= x
+}
+
+/// How many patches start in a row below `y`, or in that row at or left of column `x`.
+fn count_up_to(patches: &[Patch], y: i64, x: i32) -> usize
+    requires { AreInRows patches.now }
+    ensures within { result ≤ length patches.now }
+    ensures parts { IsPartitionPoint (λ p. comes_first (box p).lo (cell x y) ≡ true) (λ p. comes_first (box p).lo (cell x y) ≡ false) patches.now result }
+{
+    patches.partition_point(|p| starts_up_to(p, y, x))
+}
+
+/// The mass of a cell, None exactly where it is in none of the patches. No cell is in two of them.
+pub fn mass_at(patches: &[Patch], order: Order, c: Cell) -> Option<u64>
+    requires order { IsOrderOf order patches.now }
+    requires apart { ArePatchesApart patches.now }
+    ensures { result ≡ masses_in patches.now c }
+{
+    match find(patches, order, c) {
+        None => None,
+        Some(k) => Some(patches[k].mass(c)),
+    }
+}
