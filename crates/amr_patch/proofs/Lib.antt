@@ -2,3 +2,5 @@ pub mod Rows
 pub mod Entries
 pub mod Lookups
 pub mod LevelLaws
+pub mod Apart
+pub mod Tests

@@ -1,6 +1,6 @@
 -- What a patch holds: a value for each cell of its box (a mass) and of the frame round it (a ghost cell's value), a mark for
 -- each cell of the frame, and a flux for each face.
-use Rattle.std.specs.Prelude.{◌≡◌, ◌≢◌, ℕ, Bool, false, cond, ℤ, pos, List, [], ◌∷◌, slice_index, slice_index_or, IsTrue}
+use Rattle.std.specs.Prelude.{◌≡◌, ◌≢◌, ℕ, Bool, false, cond, ℤ, pos, negsuc, ◌<ℤ◌, List, [], ◌∷◌, slice_index, slice_index_or, IsTrue}
 use Rattle.std.specs.declared.option.Option.TheVariants.{None, Some}
 use Rattle.std.specs.List.{AllPairs, list_any}
 use Rattle.amr_box.specs.declared.Cell.{Cell}
@@ -8,7 +8,7 @@ use Rattle.amr_box.specs.declared.Face.{Face}
 use Rattle.amr_box.specs.declared.Axis.{Axis}
 use Rattle.amr_box.specs.declared.Axis.TheVariants.{X, Y}
 use Rattle.amr_box.specs.Cells.{Extent, cell, holds}
-use Rattle.amr_def.specs.State.{Masses}
+use Rattle.amr_def.specs.State.{Masses, in_boxes}
 use Rattle.amr_patch.specs.declared.patches.Patch.{Patch}
 use Rattle.amr_patch.specs.Places.{grown, is_face_of, place, x_place, y_place}
 
@@ -72,6 +72,16 @@ pub record IsCopy (p q : Patch) : Type 0 where
   pub values : SameValues p q
 
 -- ---- several patches
+
+-- coordinates lie between -2^24 and 2^24
+pub record IsNearCell (c : Cell) : Type 0 where
+  pub west : negsuc 16777216 <ℤ c.x
+  pub east : c.x <ℤ pos 16777217
+  pub south : negsuc 16777216 <ℤ c.y
+  pub north : c.y <ℤ pos 16777217
+
+abbrev pub AreNear : List Extent → Type 0
+AreNear bs = (c : Cell) → IsTrue (in_boxes bs c) → IsNearCell c
 
 -- no cell is in two of the boxes
 abbrev pub AreApart : List Extent → Type 0

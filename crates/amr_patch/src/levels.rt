@@ -1,12 +1,10 @@
 //! A level: boxes, and the patches that hold the masses of their cells.
 
 ghost use Rattle.std.specs.Prelude.{◌≡◌, IfOk};
-ghost use Rattle.std.specs.List.{All};
-ghost use Rattle.amr_box.specs.Cells.{IsNear};
 ghost use Rattle.amr_patch.specs.Patches.{ArePatchesApart};
 ghost use Rattle.amr_patch.specs.Orders.{IsOrderOf};
 
-use crate::copies::{blank_patches, copied_patches};
+use crate::copies::{blank_patches, copied_patches, in_rows};
 use crate::lookup::{Order, find, mass_at, order_of};
 use crate::patches::Patch;
 use amr_box::{Bx, Cell};
@@ -30,19 +28,20 @@ impl Level {
     ghost use Rattle.amr_box.specs.declared.Cell.{Cell};
     ghost use Rattle.amr_box.specs.Cells.{cell};
     ghost use Rattle.amr_def.specs.State.{in_boxes, no_masses};
-    ghost use Rattle.amr_patch.specs.Patches.{AreApart, masses_in};
+    ghost use Rattle.amr_patch.specs.Patches.{AreApart, AreNear, masses_in};
     ghost use Rattle.amr_patch.specs.Levels.{level_of, patches_of};
 
     /// The level of these boxes, whose cells the pieces share out, a patch for each; all masses are 0. No cell is in two of
-    /// the pieces.
+    /// the pieces. Coordinates of cells lie between -2^24 and 2^24.
     pub fn make(alloc: Global, boxes: &[Bx], pieces: &[Bx]) -> Result<Level, NoMemory>
         requires apart { AreApart pieces.now }
-        requires near { All IsNear pieces.now }
+        requires near { AreNear boxes.now }
         requires cells { (c : Cell) → in_boxes pieces.now c ≡ in_boxes boxes.now c }
         ensures boxes { IfOk result (λ l. (level_of l).boxes ≡ boxes.now) }
         ensures masses { IfOk result (λ l. (c : Cell) → (level_of l).masses c ≡ cond (in_boxes boxes.now c) (Some 0) None) }
     {
-        let patches = blank_patches(alloc, pieces)?;
+        let pieces = in_rows(alloc, pieces)?;
+        let patches = blank_patches(alloc, &pieces)?;
         let order = order_of(&patches);
         let boxes = Vec::from_slice(alloc, boxes)?;
         Ok(Level {

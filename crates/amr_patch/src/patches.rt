@@ -3,7 +3,7 @@
 ghost use Rattle.std.specs.Prelude.{◌≡◌, ◌+◌, ◌*◌, length};
 ghost use Rattle.amr_box.specs.Cells.{IsNear, height, width};
 
-use crate::places::{columns_from, place, row_place, x_place, y_place};
+use crate::places::{columns_from, in_frame, on_box, place, row_place, x_place, y_place};
 use amr_box::{Axis, Bx, Cell, Face};
 use amr_causes::NoMemory;
 use std::alloc::Global;
@@ -97,6 +97,20 @@ impl Patch {
         ensures { result ≡ mass_in self.now c }
     {
         self.values[place(&self.bx, c)]
+    }
+
+    /// Whether a cell is of the frame.
+    pub fn in_frame(&self, c: Cell) -> bool
+        ensures { result ≡ in_frame (box self.now) c }
+    {
+        in_frame(&self.bx, c)
+    }
+
+    /// Whether a face is one of a cell of the box.
+    pub fn has_face(&self, f: Face) -> bool
+        ensures { result ≡ is_face_of (box self.now) f }
+    {
+        on_box(f.axis, &self.bx, Cell { x: f.x, y: f.y })
     }
 
     /// The value of a cell of the frame, and whether it is a cell of the level.

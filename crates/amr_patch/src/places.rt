@@ -2,10 +2,10 @@
 
 ghost use Rattle.std.specs.Prelude.{◌≡◌, ◌+◌, ◌*◌, ◌<◌, ◌≤◌, pos, negsuc, ◌+ℤ◌, ◌-ℤ◌, ◌≤ℤ◌, ◌<ℤ◌, IsTrue};
 ghost use Rattle.amr_box.specs.declared.Axis.TheVariants.{X, Y};
-ghost use Rattle.amr_box.specs.Cells.{IsNear, height, holds, width};
-ghost use Rattle.amr_patch.specs.Places.{grown, on_box, place, x_place, y_place};
+ghost use Rattle.amr_box.specs.Cells.{IsNear, height, holds, width, within};
+ghost use Rattle.amr_patch.specs.Places.{grown, in_frame, on_box, place, x_place, y_place};
 
-use amr_box::{Bx, Cell};
+use amr_box::{Axis, Bx, Cell};
 
 /// How far a coordinate lies above another that isn't greater. Both lie between -2^25 and 2^25.
 fn distance(low: i32, z: i32) -> usize
@@ -15,6 +15,36 @@ fn distance(low: i32, z: i32) -> usize
     ensures { pos result ≡ z -ℤ low }
 {
     (z - low) as usize
+}
+
+/// Whether a coordinate is from `low` to `high`, both inside.
+fn is_within(low: i32, high: i32, z: i32) -> bool
+    ensures { result ≡ within low high z }
+{
+    low <= z && z <= high
+}
+
+/// Whether a cell is of the frame: of the grown box and not of the box.
+#[tactic(auto, using(crate::proofs::Tests::tests))]
+pub(crate) fn in_frame(b: &Bx, c: Cell) -> bool
+    requires { IsNear b.now }
+    ensures { result ≡ in_frame b.now c }
+{
+    b.grow(1).holds(c) && !b.holds(c)
+}
+
+/// Whether a cell has a face of a cell of the box at its low side along the axis.
+#[tactic(auto, using(crate::proofs::Tests::tests))]
+pub(crate) fn on_box(axis: Axis, b: &Bx, c: Cell) -> bool
+    requires { IsNear b.now }
+    ensures { result ≡ on_box axis b.now c }
+{
+    let lo = b.lo();
+    let hi = b.hi();
+    match axis {
+        Axis::X => is_within(lo.x, hi.x + 1, c.x) && is_within(lo.y, hi.y, c.y),
+        Axis::Y => is_within(lo.x, hi.x, c.x) && is_within(lo.y, hi.y + 1, c.y),
+    }
 }
 
 /// Where the value of a cell of the grown box stands.

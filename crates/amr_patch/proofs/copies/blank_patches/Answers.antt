@@ -4,8 +4,12 @@ use Rattle.amr_box.specs.Cells.{Extent}
 use Rattle.amr_patch.specs.declared.patches.Patch.{Patch}
 use Rattle.amr_patch.specs.Pairwise.{Pairwise}
 use Rattle.amr_patch.specs.Patches.{IsBlank}
+use Rattle.amr_patch.proofs.Apart.{near_box}
 use Rattle.amr_patch.proofs.LevelLaws.{pairwise_push}
 use Rattle.amr_patch.proofs.copies.blank_patches.Goals as goal
+
+pub make-requires : goal.make-requires
+make-requires c = near_box c.args.boxes.now c.loop-b.b-index c.b-item.result (omega arith) c.b-item.is c.lo-low.ensures.proper c.requires
 
 pub loop-b-preserved : goal.loop-b-preserved
 loop-b-preserved c =

@@ -1,12 +1,30 @@
-use Rattle.std.proofs.Common.{◌∙◌, Bool, cond, ap}
+use Rattle.std.proofs.Common.{◌∙◌, Bool, List, cond, sym, ap, subst}
 use Rattle.std.specs.declared.option.Option.TheVariants.{None, Some}
+use Rattle.std.proofs.lemmas.List.Sorted.{list_any-IsPermutation}
+use Rattle.amr_box.specs.Cells.{Extent, holds}
+use Rattle.amr_def.specs.State.{in_boxes}
+use Rattle.amr_patch.specs.Pairwise.{Pairwise}
+use Rattle.amr_patch.specs.Patches.{IsBlank}
 use Rattle.amr_patch.specs.Levels.{level_of}
+use Rattle.amr_patch.proofs.Apart.{apart_in_order}
 use Rattle.amr_patch.proofs.LevelLaws.{blank_apart, blank_masses}
 use Rattle.amr_patch.proofs.levels.Level.make.Goals as goal
 
+pub blank_patches-requires : goal.blank_patches-requires
+blank_patches-requires c =
+    λ d h.
+    let cells = ap (λ (bs : List Extent). in_boxes bs d) c.deref.ensures.value ∙ sym (list_any-IsPermutation (λ (b : Extent). holds b d) c.args.pieces.now c.in_ok-pieces.pieces.items c.in_ok-pieces.ensures) ∙ c.requires.cells d in
+    c.requires.near d (sym cells ∙ h)
+
 pub invariant_of-result-clause-apart : goal.invariant_of-result-clause-apart
-invariant_of-result-clause-apart c = blank_apart c.args.pieces.now c.in_ok-patches.patches.items c.in_ok-patches.ensures c.requires.apart
+invariant_of-result-clause-apart c =
+    let blank = subst (λ (bs : List Extent). Pairwise IsBlank bs c.in_ok-patches.patches.items) c.deref.ensures.value c.in_ok-patches.ensures in
+    blank_apart c.in_ok-pieces.pieces.items c.in_ok-patches.patches.items blank (apart_in_order c.args.pieces.now c.in_ok-pieces.pieces.items c.in_ok-pieces.ensures c.requires.apart)
 
 pub returns-clause-masses : goal.returns-clause-masses
 unfolding level_of
-returns-clause-masses c = λ d. blank_masses c.args.pieces.now c.in_ok-patches.patches.items d c.in_ok-patches.ensures ∙ ap (λ (t : Bool). cond t (Some 0) None) (c.requires.cells d)
+returns-clause-masses c =
+    λ d.
+    let blank = subst (λ (bs : List Extent). Pairwise IsBlank bs c.in_ok-patches.patches.items) c.deref.ensures.value c.in_ok-patches.ensures in
+    let cells = sym (list_any-IsPermutation (λ (b : Extent). holds b d) c.args.pieces.now c.in_ok-pieces.pieces.items c.in_ok-pieces.ensures) ∙ c.requires.cells d in
+    blank_masses c.in_ok-pieces.pieces.items c.in_ok-patches.patches.items d blank ∙ ap (λ (t : Bool). cond t (Some 0) None) cells
