@@ -1,0 +1,9 @@
+pub mod Sizes
+pub mod MapLaws
+pub mod Values
+pub mod StepLaws
+pub mod Readiness
+pub mod FaceLaws
+pub mod Levels
+pub mod LedgerLaws
+pub mod States
