@@ -1,0 +1,5 @@
+pub mod Table
+pub mod Rows
+pub mod Numbers
+pub mod Program
+pub mod Words
