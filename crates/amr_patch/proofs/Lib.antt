@@ -3,4 +3,4 @@ pub mod Entries
 pub mod Lookups
 pub mod LevelLaws
 pub mod Apart
-pub mod Tests
+pub mod Conditions

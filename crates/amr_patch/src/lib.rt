@@ -19,3 +19,6 @@ pub use levels::Level;
 pub use lookup::{Order, find, mass_at, order_of};
 pub use meshes::Mesh;
 pub use patches::Patch;
+
+#[cfg(test)]
+mod tests;

@@ -25,7 +25,7 @@ fn is_within(low: i32, high: i32, z: i32) -> bool
 }
 
 /// Whether a cell is of the frame: of the grown box and not of the box.
-#[tactic(auto, using(crate::proofs::Tests::tests))]
+#[tactic(auto, using(crate::proofs::Conditions::conditions))]
 pub(crate) fn in_frame(b: &Bx, c: Cell) -> bool
     requires { IsNear b.now }
     ensures { result ≡ in_frame b.now c }
@@ -34,7 +34,7 @@ pub(crate) fn in_frame(b: &Bx, c: Cell) -> bool
 }
 
 /// Whether a cell has a face of a cell of the box at its low side along the axis.
-#[tactic(auto, using(crate::proofs::Tests::tests))]
+#[tactic(auto, using(crate::proofs::Conditions::conditions))]
 pub(crate) fn on_box(axis: Axis, b: &Bx, c: Cell) -> bool
     requires { IsNear b.now }
     ensures { result ≡ on_box axis b.now c }

@@ -2,7 +2,7 @@ use Rattle.std.proofs.Common.{◌≡◌, ◌∙◌, pos, ◌+ℤ◌, true, refl,
 use Rattle.std.proofs.lemmas.Int.{ints}
 use Rattle.amr_box.specs.declared.Axis.TheVariants.{X, Y}
 use Rattle.amr_box.specs.Cells.{within}
-use Rattle.amr_patch.proofs.Tests.{on_axis, off_axis}
+use Rattle.amr_patch.proofs.Conditions.{on_axis, off_axis}
 use Rattle.amr_patch.proofs.places.on_box.Goals as goal
 
 pub returns-then-is_within : goal.returns-then-is_within

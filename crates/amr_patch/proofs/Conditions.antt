@@ -11,7 +11,7 @@ grown_is b g c k = ap (λ (e : Extent). holds e c) (λ i. record { lo = record {
 pub and_both : (a b r : Bool) → a ≡ true → r ≡ b → r ≡ (a && b)
 and_both a b r e f = rw e f
 
-pub ruleset tests = (grown_is, and_both)
+pub ruleset conditions = (grown_is, and_both)
 
 -- ---- faces
 
