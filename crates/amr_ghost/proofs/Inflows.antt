@@ -1,0 +1,48 @@
+-- The inflow of the side that a cell lies outside of, side by side.
+use Rattle.std.proofs.Common.{◌≡◌, ℕ, zero, suc, ◌*◌, ◌/◌, ◌^◌, ◌≤◌, true, false, ℤ, pos, ◌≤ℤ◌, ◌<ℤ◌, refl, ap, arith}
+use Rattle.std.specs.Prelude.{int_le, int_lt}
+use Rattle.std.proofs.lemmas.Int.{ints}
+use Rattle.amr_box.specs.declared.Cell.{Cell}
+use Rattle.amr_def.specs.declared.problem.Problem.{Problem}
+use Rattle.amr_def.specs.Domain.{columns}
+use Rattle.amr_def.specs.Value.{high_inflow, inflow_at, low_inflow}
+
+pub int_lt-yes : (a b : ℤ) → a <ℤ b → int_lt a b ≡ true
+int_lt-yes a b h = grind (arith, ints)
+
+pub int_lt-no : (a b : ℤ) → b ≤ℤ a → int_lt a b ≡ false
+int_lt-no a b h = grind (arith, ints)
+
+int_le-yes : (a b : ℤ) → a ≤ℤ b → int_le a b ≡ true
+int_le-yes a b h = grind (arith, ints)
+
+int_le-no : (a b : ℤ) → b <ℤ a → int_le a b ≡ false
+int_le-no a b h = grind (arith, ints)
+
+pub west_inflow : (p : Problem) (l : ℕ) (c : Cell) → c.x <ℤ pos 0 → inflow_at p l c ≡ low_inflow p.x_sides
+unfolding inflow_at
+west_inflow p l c west = rw (int_lt-yes c.x (pos 0) west)
+
+pub east_inflow : (p : Problem) (l : ℕ) (c : Cell) → pos 0 ≤ℤ c.x → pos (columns p l) ≤ℤ c.x → inflow_at p l c ≡ high_inflow p.x_sides
+unfolding inflow_at
+east_inflow p l c from east = rw (int_lt-no c.x (pos 0) from, int_le-yes (pos (columns p l)) c.x east)
+
+pub south_inflow : (p : Problem) (l : ℕ) (c : Cell) → pos 0 ≤ℤ c.x → c.x <ℤ pos (columns p l) → c.y <ℤ pos 0 → inflow_at p l c ≡ low_inflow p.y_sides
+unfolding inflow_at
+south_inflow p l c from to south = rw (int_lt-no c.x (pos 0) from, int_le-no (pos (columns p l)) c.x to, int_lt-yes c.y (pos 0) south)
+
+pub north_inflow : (p : Problem) (l : ℕ) (c : Cell) → pos 0 ≤ℤ c.x → c.x <ℤ pos (columns p l) → pos 0 ≤ℤ c.y → inflow_at p l c ≡ high_inflow p.y_sides
+unfolding inflow_at
+north_inflow p l c from to up = rw (int_lt-no c.x (pos 0) from, int_le-no (pos (columns p l)) c.x to, int_lt-no c.y (pos 0) up)
+
+-- a shift by two places a level divides by four a level
+four_power : (l : ℕ) → l ≤ 4 → 2 ^ (2 * l) ≡ 4 ^ l
+four_power zero h = refl
+four_power (suc zero) h = refl
+four_power (suc (suc zero)) h = refl
+four_power (suc (suc (suc zero))) h = refl
+four_power (suc (suc (suc (suc zero)))) h = refl
+four_power (suc (suc (suc (suc (suc l))))) h = absurd (omega arith)
+
+pub shift_is : (g l : ℕ) → l ≤ 4 → g / 2 ^ (2 * l) ≡ g / 4 ^ l
+shift_is g l h = ap (λ (d : ℕ). g / d) (four_power l h)

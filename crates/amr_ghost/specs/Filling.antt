@@ -1,0 +1,103 @@
+-- What stays and what is gained while frames are filled, a cell at a time.
+use Rattle.std.specs.Prelude.{◌≡◌, ℕ, ◌<◌, Bool, true, pos, ◌+ℤ◌, ◌-ℤ◌, ◌≤ℤ◌, ◌<ℤ◌, List, IsTrue}
+use Rattle.std.specs.List.{AllZip}
+use Rattle.amr_box.specs.declared.Cell.{Cell}
+use Rattle.amr_box.specs.declared.Axis.{Axis}
+use Rattle.amr_box.specs.declared.Axis.TheVariants.{X, Y}
+use Rattle.amr_box.specs.Cells.{Extent, along, cell, height, width}
+use Rattle.amr_def.specs.declared.problem.Problem.{Problem}
+use Rattle.amr_def.specs.Domain.{Domain, is_inside}
+use Rattle.amr_def.specs.State.{Masses}
+use Rattle.amr_def.specs.Value.{value_at}
+use Rattle.amr_patch.specs.declared.patches.Patch.{Patch}
+use Rattle.amr_patch.specs.Places.{in_frame}
+use Rattle.amr_patch.specs.Patches.{ArePatchesApart, SameFluxes, box, mark_in, mass_in, masses_in, value_in}
+use Rattle.amr_patch.specs.declared.lookup.Order.{Order}
+use Rattle.amr_patch.specs.Orders.{IsOrderOf}
+use Rattle.amr_ghost.specs.Frames.{AreInDomain, SameMasses, is_beside, is_of_level}
+use Rattle.amr_ghost.specs.Lines.{step}
+use Rattle.amr_ghost.specs.declared.sides.Side.{Side}
+use Rattle.amr_ghost.specs.declared.sides.Side.TheVariants.{East, North, South, West}
+
+-- a patch keeps all but its frame
+pub record KeepsCells (q r : Patch) : Type 0 where
+  pub of_box : box r ≡ box q
+  pub masses : SameMasses q r
+  pub fluxes : SameFluxes q r
+
+-- a ghost cell has a value and a mark
+pub record HasGhost (value : Cell → ℕ) (mark : Cell → Bool) (q : Patch) (c : Cell) : Type 0 where
+  pub valued : value_in q c ≡ value c
+  pub marked : mark_in q c ≡ mark c
+
+-- a ghost cell that has its value and its mark keeps them
+pub record KeepsGhosts (value : Cell → ℕ) (mark : Cell → Bool) (q r : Patch) : Type 0 where
+  pub at : (c : Cell) → IsTrue (in_frame (box q) c) → HasGhost value mark q c → HasGhost value mark r c
+
+-- how many cells an axis of a domain has
+abbrev pub size_along : Axis → Domain → ℕ
+size_along X d = d.columns
+size_along Y d = d.rows
+
+-- the first cells of a line along an axis are ghost cells of a box, in rows or columns of the domain
+pub record IsGhostLine (d : Domain) (b : Extent) (axis : Axis) (c : Cell) (count : ℕ) : Type 0 where
+  pub ghosts : (k : ℕ) → k < count → IsTrue (in_frame b (step axis c k))
+  pub inside : (k : ℕ) → k < count → IsTrue (is_inside (size_along axis d) (along axis c +ℤ pos k))
+
+-- the first ghost cells of a line have a value and a mark
+pub record HasGhosts (value : Cell → ℕ) (mark : Cell → Bool) (q : Patch) (axis : Axis) (c : Cell) (count : ℕ) : Type 0 where
+  pub at : (k : ℕ) → k < count → HasGhost value mark q (step axis c k)
+
+-- the first cells of a line have as values the masses that a patch has along another line, and are marked
+pub record AreCopied (value : Cell → ℕ) (mark : Cell → Bool) (q : Patch) (axis : Axis) (to from : Cell) (count : ℕ) : Type 0 where
+  pub values : (k : ℕ) → k < count → value (step axis to k) ≡ mass_in q (step axis from k)
+  pub marks : (k : ℕ) → k < count → mark (step axis to k) ≡ true
+
+-- the patches are those of a level in a domain, and stand in this order
+pub record IsLevelInOrder (d : Domain) (o : Order) (ps : List Patch) : Type 0 where
+  pub ordered : IsOrderOf o ps
+  pub apart : ArePatchesApart ps
+  pub inside : AreInDomain d ps
+
+-- the ghost cells of the patches that have the value and the mark of their cell keep them
+abbrev pub KeepsValues : Problem → ℕ → Masses → List Patch → List Patch → Type 0
+KeepsValues p l old ps qs = AllZip (KeepsGhosts (value_at p l (masses_in ps) old) (is_of_level p l (masses_in ps))) ps qs
+
+-- the first ghost cells of a line have the value and the mark of their cell
+abbrev pub HasValues : Problem → ℕ → Masses → Masses → Patch → Axis → Cell → ℕ → Type 0
+HasValues p l m old q axis c count = HasGhosts (value_at p l m old) (is_of_level p l m) q axis c count
+
+-- the cells along a side of a box: where they begin, the axis that they go along, and how many there are
+abbrev pub side_axis : Side → Axis
+side_axis West = Y
+side_axis East = Y
+side_axis South = X
+side_axis North = X
+
+abbrev pub side_from : Extent → Side → Cell
+side_from b West = cell (b.lo.x -ℤ pos 1) b.lo.y
+side_from b East = cell (b.hi.x +ℤ pos 1) b.lo.y
+side_from b South = cell b.lo.x (b.lo.y -ℤ pos 1)
+side_from b North = cell b.lo.x (b.hi.y +ℤ pos 1)
+
+abbrev pub side_count : Extent → Side → ℕ
+side_count b West = height b
+side_count b East = height b
+side_count b South = width b
+side_count b North = width b
+
+abbrev pub HasSideValues : Problem → ℕ → Masses → Masses → Patch → Side → Type 0
+HasSideValues p l m old q side = HasValues p l m old q (side_axis side) (side_from (box q) side) (side_count (box q) side)
+
+-- the ghost cells beside a patch have the value and the mark of their cell
+pub record HasFrame (p : Problem) (l : ℕ) (m old : Masses) (q : Patch) : Type 0 where
+  pub at : (c : Cell) → IsTrue (is_beside (box q) c) → HasGhost (value_at p l m old) (is_of_level p l m) q c
+
+-- where a box that has a cell lies in a domain
+pub record LiesIn (d : Domain) (b : Extent) : Type 0 where
+  pub wide : b.lo.x ≤ℤ b.hi.x
+  pub high : b.lo.y ≤ℤ b.hi.y
+  pub west : pos 0 ≤ℤ b.lo.x
+  pub south : pos 0 ≤ℤ b.lo.y
+  pub east : b.hi.x <ℤ pos d.columns
+  pub north : b.hi.y <ℤ pos d.rows

@@ -1,0 +1,176 @@
+//! Frames are filled side by side, and a side run by run.
+
+ghost use Rattle.std.specs.Prelude.{◌≡◌, ℕ, ◌+◌, ◌<◌, ◌≤◌, length, map, slice_index_or, is_some, IfSome, IsTrue};
+ghost use Rattle.std.specs.Option.{option_copied};
+ghost use Rattle.std.specs.List.{All, AllZip};
+ghost use Rattle.amr_box.specs.declared.Cell.{Cell};
+ghost use Rattle.amr_def.specs.Domain.{domain, domain_of};
+ghost use Rattle.amr_def.specs.Value.{value_at};
+ghost use Rattle.amr_patch.specs.declared.patches.Patch.{Patch};
+ghost use Rattle.amr_patch.specs.Patches.{ArePatchesApart, SameFluxes, box, in_patches, masses_in};
+ghost use Rattle.amr_patch.specs.Orders.{IsHolder, IsOrderOf};
+ghost use Rattle.amr_ghost.specs.Lines.{HasRoom};
+ghost use Rattle.amr_ghost.specs.Frames.{AreInDomain, HasGhostMarks, HasGhostValues, SameMasses, is_of_level, old_masses};
+ghost use Rattle.amr_ghost.specs.Filling.{HasFrame, HasSideValues, HasValues, IsGhostLine, IsLevelInOrder, KeepsCells, KeepsValues, LiesIn};
+
+use crate::ghosts::{copy_line, set_ghost};
+use crate::places::{cells_ahead, home_cell, in_domain, step};
+use crate::sides::{Line, Side, side_line};
+use crate::values::outer_value;
+use amr_box::Cell;
+use amr_def::{Dom, Problem};
+use amr_patch::{Level, Order, Patch, find, order_of};
+
+/// The number of the patch that has a cell. None has one outside the domain.
+fn holder(patches: &[Patch], order: Order, dom: &Dom, c: Cell) -> Option<usize>
+    requires { IsLevelInOrder (domain_of dom.now) order patches.now }
+    ensures some { is_some result ≡ in_patches patches.now c }
+    ensures found { IfSome result (IsHolder patches.now c) }
+{
+    if !in_domain(dom, c) {
+        return None;
+    }
+    find(patches, order, c)
+}
+
+/// Gives the first ghost cells of a line beside patch `i` their values: as many as stand for cells of one patch, or one that
+/// stands for no cell of the level. Answers how many.
+fn fill_run(
+    p: &Problem,
+    l: u32,
+    old: Option<&Level>,
+    order: Order,
+    patches: &mut [Patch],
+    i: usize,
+    line: Line,
+) -> u32
+    requires level { l ≤ 4 }
+    requires patches { IsLevelInOrder (domain p.now l) order patches.old }
+    requires there { i < length patches.old }
+    requires some { 0 < line.count }
+    requires small { line.count ≤ 8192 }
+    requires room { HasRoom line.from }
+    requires ghost_line { (q : Patch) → IsGhostLine (domain p.now l) (box (slice_index_or patches.old i q)) line.axis line.from line.count }
+    ensures some { 0 < result }
+    ensures within { result ≤ line.count }
+    ensures kept { AllZip KeepsCells patches.old patches.new }
+    ensures ghosts { KeepsValues p.now l (old_masses (option_copied old.entry)) patches.old patches.new }
+    ensures set { (q : Patch) → HasValues p.now l (masses_in patches.old) (old_masses (option_copied old.entry)) (slice_index_or patches.new i q) line.axis line.from result }
+{
+    let dom = p.domain(l);
+    let home = home_cell(&dom, line.from);
+    match holder(patches, order, &dom, home) {
+        Some(j) => {
+            let source = patches[j].bx();
+            let count = cells_ahead(&source, line.axis, home).min(line.count);
+            copy_line(patches, i, j, line.axis, line.from, home, count);
+            count
+        }
+        None => {
+            let value = outer_value(p, l, old, home);
+            set_ghost(patches, i, line.from, value, false);
+            1
+        }
+    }
+}
+
+/// Gives the ghost cells of a line beside patch `i` their values, run by run.
+fn fill_line(
+    p: &Problem,
+    l: u32,
+    old: Option<&Level>,
+    order: Order,
+    patches: &mut [Patch],
+    i: usize,
+    line: Line,
+)
+    requires level { l ≤ 4 }
+    requires patches { IsLevelInOrder (domain p.now l) order patches.old }
+    requires there { i < length patches.old }
+    requires small { line.count ≤ 8192 }
+    requires room { HasRoom line.from }
+    requires ghost_line { (q : Patch) → IsGhostLine (domain p.now l) (box (slice_index_or patches.old i q)) line.axis line.from line.count }
+    ensures kept { AllZip KeepsCells patches.old patches.new }
+    ensures ghosts { KeepsValues p.now l (old_masses (option_copied old.entry)) patches.old patches.new }
+    ensures set { (q : Patch) → HasValues p.now l (masses_in patches.old) (old_masses (option_copied old.entry)) (slice_index_or patches.new i q) line.axis line.from line.count }
+{
+    let mut done = 0;
+    while done < line.count {
+        let rest = Line {
+            axis: line.axis,
+            from: step(line.axis, line.from, done),
+            count: line.count - done,
+        };
+        done += fill_run(p, l, old, order, patches, i, rest);
+    }
+}
+
+/// Gives the ghost cells on a side of patch `i` their values.
+fn fill_side(
+    p: &Problem,
+    l: u32,
+    old: Option<&Level>,
+    order: Order,
+    patches: &mut [Patch],
+    i: usize,
+    side: Side,
+)
+    requires level { l ≤ 4 }
+    requires patches { IsLevelInOrder (domain p.now l) order patches.old }
+    requires there { i < length patches.old }
+    ensures kept { AllZip KeepsCells patches.old patches.new }
+    ensures ghosts { KeepsValues p.now l (old_masses (option_copied old.entry)) patches.old patches.new }
+    ensures set { (q : Patch) → HasSideValues p.now l (masses_in patches.old) (old_masses (option_copied old.entry)) (slice_index_or patches.new i q) side }
+    ensures inside { (q : Patch) → LiesIn (domain p.now l) (box (slice_index_or patches.new i q)) }
+{
+    let line = side_line(&patches[i].bx(), side);
+    fill_line(p, l, old, order, patches, i, line);
+}
+
+/// Gives the ghost cells beside patch `i` their values.
+fn fill_frame(
+    p: &Problem,
+    l: u32,
+    old: Option<&Level>,
+    order: Order,
+    patches: &mut [Patch],
+    i: usize,
+)
+    requires level { l ≤ 4 }
+    requires patches { IsLevelInOrder (domain p.now l) order patches.old }
+    requires there { i < length patches.old }
+    ensures kept { AllZip KeepsCells patches.old patches.new }
+    ensures ghosts { KeepsValues p.now l (old_masses (option_copied old.entry)) patches.old patches.new }
+    ensures set { (q : Patch) → HasFrame p.now l (masses_in patches.old) (old_masses (option_copied old.entry)) (slice_index_or patches.new i q) }
+{
+    fill_side(p, l, old, order, patches, i, Side::West);
+    fill_side(p, l, old, order, patches, i, Side::East);
+    fill_side(p, l, old, order, patches, i, Side::South);
+    fill_side(p, l, old, order, patches, i, Side::North);
+}
+
+/// Fills the frames of the patches of level `l`, from 0 to 4: gives each ghost cell beside a patch its value, and marks it where
+/// it stands for a cell of the level (on a periodic axis, one at the other end of the domain). The corners of a frame, which no
+/// face touches, stay.
+///
+/// The value of a cell of the level is its mass; of another cell of the domain a quarter of the mass of its parent in `old`, the
+/// next coarser level at the start of its step (0 where that has no such cell, and where there is no `old`); of a cell outside
+/// an open side that side's inflow, divided by 4 for each level. (Berger and Colella: ghost cells from the same level, else from
+/// the coarser one.)
+///
+/// The patches are those of the whole level: no cell is in two of them, and each is a cell of the domain. It takes no memory.
+pub fn fill(p: &Problem, l: u32, patches: &mut [Patch], old: Option<&Level>)
+    requires level { l ≤ 4 }
+    requires apart { ArePatchesApart patches.old }
+    requires inside { AreInDomain (domain p.now l) patches.old }
+    ensures filled { All (HasGhostValues p.now l (masses_in patches.old) (old_masses (option_copied old.entry))) patches.new }
+    ensures marked { All (HasGhostMarks p.now l (masses_in patches.old)) patches.new }
+    ensures masses { AllZip SameMasses patches.old patches.new }
+    ensures fluxes { AllZip SameFluxes patches.old patches.new }
+    ensures boxes { map box patches.new ≡ map box patches.old }
+{
+    let order = order_of(patches);
+    for i in 0..patches.len() {
+        fill_frame(p, l, old, order, patches, i);
+    }
+}

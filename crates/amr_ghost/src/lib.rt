@@ -1,0 +1,11 @@
+//! Ghost cells: the frame of each patch of a level, by the value of a cell.
+#![tactic(auto)]
+
+mod filling;
+mod ghosts;
+mod outside;
+mod places;
+mod sides;
+mod values;
+
+pub use filling::fill;

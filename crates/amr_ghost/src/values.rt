@@ -1,0 +1,38 @@
+// The values of cells that are not of the level.
+
+ghost use Rattle.std.specs.Prelude.{◌≡◌, ◌≤◌, ◌/◌, ◌^◌, cond};
+ghost use Rattle.std.specs.Option.{option_copied};
+ghost use Rattle.amr_box.specs.Cells.{parent};
+ghost use Rattle.amr_def.specs.Domain.{domain, in_domain};
+ghost use Rattle.amr_def.specs.State.{mass_of};
+ghost use Rattle.amr_def.specs.Value.{inflow_at};
+ghost use Rattle.amr_ghost.specs.Frames.{old_masses};
+
+use crate::outside::outside_value;
+use crate::places::{in_domain, parent};
+use amr_box::Cell;
+use amr_def::Problem;
+use amr_patch::Level;
+
+/// The mass of a cell of the coarser level at the start of its step, 0 where it is no cell of it.
+fn old_mass(old: Option<&Level>, c: Cell) -> u64
+    ensures { result ≡ mass_of (old_masses (option_copied old.entry)) c }
+{
+    match old {
+        None => 0,
+        Some(level) => level.get(c).unwrap_or(0),
+    }
+}
+
+/// The value of a cell that is not of level `l`: within the domain a quarter of the mass of its parent at the start of the
+/// coarser step, outside it the inflow of the side.
+pub(crate) fn outer_value(p: &Problem, l: u32, old: Option<&Level>, c: Cell) -> u64
+    requires { l ≤ 4 }
+    ensures { result ≡ cond (in_domain (domain p.now l) c) (mass_of (old_masses (option_copied old.entry)) (parent c) / 4) (inflow_at p.now l c / 4 ^ l) }
+{
+    if in_domain(&p.domain(l), c) {
+        old_mass(old, parent(c)) / 4
+    } else {
+        outside_value(p, l, c)
+    }
+}
