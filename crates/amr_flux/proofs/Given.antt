@@ -1,0 +1,169 @@
+-- The fluxes through the faces of a patch, once those of its border faces are written beside its own.
+use Rattle.std.proofs.Common.{◌≡◌, ℕ, zero, suc, ◌+◌, ◌<◌, ◌≤◌, ◌⊎◌, inl, inr, Bool, true, false, ◌&&◌, ℤ, pos, ◌+ℤ◌, List, [], ◌∷◌, length, length-append, drop, refl, sym, ap, ◌∙◌, arith}
+use Rattle.std.specs.Prelude.{not, cond, slice_index}
+use Rattle.std.proofs.lemmas.Int.{ints}
+use Rattle.std.proofs.lemmas.Bool.{cases_lt}
+use Rattle.std.proofs.lemmas.List.{get_or-drop}
+use Rattle.amr_box.specs.declared.Face.{Face}
+use Rattle.amr_box.specs.declared.Axis.TheVariants.{X, Y}
+use Rattle.amr_box.specs.Cells.{cell, extent, height, holds, width}
+use Rattle.amr_def.specs.declared.problem.Problem.{Problem}
+use Rattle.amr_def.specs.Flux.{face, courant}
+use Rattle.amr_patch.specs.declared.patches.Patch.{Patch}
+use Rattle.amr_patch.specs.Places.{is_face_of}
+use Rattle.amr_patch.specs.Patches.{flux_in, mark_in}
+use Rattle.amr_patch.proofs.Rows.{is_inside, sides}
+use Rattle.amr_flux.specs.Faces.{border_faces, border_place, fluxes_with, is_border, passing, x_end, y_end}
+use Rattle.amr_flux.specs.Rows.{signed}
+use Rattle.amr_flux.specs.Tables.{HasXBorder, HasYBorder, count_below, mark, x_entry, x_marked, y_entry, y_marked}
+use Rattle.amr_flux.proofs.Places.{IsXFace, IsYFace, Stands, high_at, mark_here, offset, x_beyond, x_courant_here, x_entry_here, x_face_at, y_beyond, y_courant_here, y_entry_here, y_face_at}
+
+-- ---- which faces are border faces
+
+beyond : (a b m : Bool) → a ≡ true → b ≡ false → (a && not b && m) ≡ m
+beyond a b m e h = rw (e, h) refl
+
+within_box : (a b m : Bool) → b ≡ true → (a && not b && m) ≡ false
+within_box true b m h = rw h refl
+within_box false b m h = refl
+
+module _ (q : Patch) where
+  w : ℕ
+  w = width q.bx
+
+  h : ℕ
+  h = height q.bx
+
+  pub x_border : (x y : ℤ) (i j : ℕ) → is_face_of q.bx (face X x y) ≡ true → IsXFace q.bx x y i j → i ≡ width q.bx → is_border q (face X x y) ≡ x_marked (width q.bx) q.marks.items j
+  unfolding is_border
+  x_border x y i j e f last =
+      beyond (is_face_of q.bx (face X x y)) (holds q.bx (cell x y)) (mark_in q (cell x y)) e (x_beyond q.bx x y i j q.near f last)
+      ∙ mark_here q (cell x y) (i + 1) (j + 1) (high_at q.bx x y i j f.at) ∙ ap (λ n. mark (width q.bx) q.marks.items (n + 1) (j + 1)) last
+
+  pub y_border : (x y : ℤ) (i j : ℕ) → is_face_of q.bx (face Y x y) ≡ true → IsYFace q.bx x y i j → j ≡ height q.bx → is_border q (face Y x y) ≡ y_marked (width q.bx) (height q.bx) q.marks.items i
+  unfolding is_border
+  y_border x y i j e f last =
+      beyond (is_face_of q.bx (face Y x y)) (holds q.bx (cell x y)) (mark_in q (cell x y)) e (y_beyond q.bx x y i j q.near f last)
+      ∙ mark_here q (cell x y) (i + 1) (j + 1) (high_at q.bx x y i j f.at) ∙ ap (λ n. mark (width q.bx) q.marks.items (i + 1) (n + 1)) last
+
+  pub x_inner : (x y : ℤ) (i j : ℕ) → IsXFace q.bx x y i j → i < width q.bx → is_border q (face X x y) ≡ false
+  unfolding is_border
+  x_inner x y i j f below =
+      let s = sides q.bx q.near in
+      within_box (is_face_of q.bx (face X x y)) (holds q.bx (cell x y)) (mark_in q (cell x y))
+      (is_inside q.bx (cell x y) (record { west = omega (arith, ints, f.at.column); east = omega (arith, ints, f.at.column, s.wide, below); south = omega (arith, ints, f.at.row); north = omega (arith, ints, f.at.row, s.high, f.row) }))
+
+  pub y_inner : (x y : ℤ) (i j : ℕ) → IsYFace q.bx x y i j → j < height q.bx → is_border q (face Y x y) ≡ false
+  unfolding is_border
+  y_inner x y i j f below =
+      let s = sides q.bx q.near in
+      within_box (is_face_of q.bx (face Y x y)) (holds q.bx (cell x y)) (mark_in q (cell x y))
+      (is_inside q.bx (cell x y) (record { west = omega (arith, ints, f.at.column); east = omega (arith, ints, f.at.column, s.wide, f.column); south = omega (arith, ints, f.at.row); north = omega (arith, ints, f.at.row, s.high, below) }))
+
+  -- ---- their order
+
+  x_end_face : (k : ℕ) → k < height q.bx → is_face_of q.bx (x_end q.bx k) ≡ true
+  x_end_face k below =
+      let s = sides q.bx q.near in
+      is_inside (extent q.bx.lo (cell (q.bx.hi.x +ℤ pos 1) q.bx.hi.y)) (cell (q.bx.hi.x +ℤ pos 1) (q.bx.lo.y +ℤ pos k)) (record { west = omega (arith, ints, q.near.wide); east = omega (arith, ints); south = omega (arith, ints); north = omega (arith, ints, s.high, below) })
+
+  y_end_face : (k : ℕ) → k < width q.bx → is_face_of q.bx (y_end q.bx k) ≡ true
+  y_end_face k below =
+      let s = sides q.bx q.near in
+      is_inside (extent q.bx.lo (cell q.bx.hi.x (q.bx.hi.y +ℤ pos 1))) (cell (q.bx.lo.x +ℤ pos k) (q.bx.hi.y +ℤ pos 1)) (record { west = omega (arith, ints); east = omega (arith, ints, s.wide, below); south = omega (arith, ints, q.near.high); north = omega (arith, ints) })
+
+  x_end_at : (k : ℕ) → k < height q.bx → IsXFace q.bx (q.bx.hi.x +ℤ pos 1) (q.bx.lo.y +ℤ pos k) (width q.bx) k
+  x_end_at k below = let s = sides q.bx q.near in record { at = record { column = omega (arith, ints, s.wide); row = omega (arith, ints) }; column = omega arith; row = below }
+
+  y_end_at : (k : ℕ) → k < width q.bx → IsYFace q.bx (q.bx.lo.x +ℤ pos k) (q.bx.hi.y +ℤ pos 1) k (height q.bx)
+  y_end_at k below = let s = sides q.bx q.near in record { at = record { column = omega (arith, ints); row = omega (arith, ints, s.high) }; column = below; row = omega arith }
+
+  x_end_border : (k : ℕ) → k < height q.bx → is_border q (x_end q.bx k) ≡ x_marked (width q.bx) q.marks.items k
+  x_end_border k below = x_border (q.bx.hi.x +ℤ pos 1) (q.bx.lo.y +ℤ pos k) (width q.bx) k (x_end_face k below) (x_end_at k below) refl
+
+  y_end_border : (k : ℕ) → k < width q.bx → is_border q (y_end q.bx k) ≡ y_marked (width q.bx) (height q.bx) q.marks.items k
+  y_end_border k below = y_border (q.bx.lo.x +ℤ pos k) (q.bx.hi.y +ℤ pos 1) k (height q.bx) (y_end_face k below) (y_end_at k below) refl
+
+length_cond : (b : Bool) (f : Face) → length (cond b (f ∷ []) []) ≡ cond b 1 0
+length_cond true f = refl
+length_cond false f = refl
+
+length_passing : (test : Face → Bool) (g : ℕ → Face) (same : ℕ → Bool) (n : ℕ) → ((k : ℕ) → k < n → test (g k) ≡ same k) → length (passing test g n) ≡ count_below same n
+length_passing test g same zero e = refl
+length_passing test g same (suc n) e =
+    let before : length (passing test g n) ≡ count_below same n = length_passing test g same n (λ k h. e k (omega arith)) in
+    let here : test (g n) ≡ same n = e n (omega arith) in
+    length-append (passing test g n) (cond (test (g n)) (g n ∷ []) []) ∙ (λ i. before i + (length_cond (test (g n)) (g n) ∙ ap (λ b. cond b 1 0) here) i)
+
+module _ (q : Patch) where
+  x_count : (n : ℕ) → n ≤ height q.bx → length (passing (is_border q) (x_end q.bx) n) ≡ count_below (x_marked (width q.bx) q.marks.items) n
+  x_count n h = length_passing (is_border q) (x_end q.bx) (x_marked (width q.bx) q.marks.items) n (λ k below. x_end_border q k (omega arith))
+
+  y_count : (n : ℕ) → n ≤ width q.bx → length (passing (is_border q) (y_end q.bx) n) ≡ count_below (y_marked (width q.bx) (height q.bx) q.marks.items) n
+  y_count n h = length_passing (is_border q) (y_end q.bx) (y_marked (width q.bx) (height q.bx) q.marks.items) n (λ k below. y_end_border q k (omega arith))
+
+  pub border_count : length (border_faces q) ≡ count_below (x_marked (width q.bx) q.marks.items) (height q.bx) + count_below (y_marked (width q.bx) (height q.bx) q.marks.items) (width q.bx)
+  unfolding border_faces
+  border_count =
+      length-append (passing (is_border q) (x_end q.bx) (height q.bx)) (passing (is_border q) (y_end q.bx) (width q.bx))
+      ∙ (λ i. x_count (height q.bx) (omega arith) i + y_count (width q.bx) (omega arith) i)
+
+  x_border_place : (x y : ℤ) → offset q.bx.lo.y y < height q.bx → border_place q (face X x y) ≡ count_below (x_marked (width q.bx) q.marks.items) (offset q.bx.lo.y y)
+  unfolding border_place offset
+  x_border_place x y below = x_count (offset q.bx.lo.y y) (omega arith)
+
+  y_border_place : (x y : ℤ) → offset q.bx.lo.x x < width q.bx → border_place q (face Y x y) ≡ count_below (x_marked (width q.bx) q.marks.items) (height q.bx) + count_below (y_marked (width q.bx) (height q.bx) q.marks.items) (offset q.bx.lo.x x)
+  unfolding border_place offset
+  y_border_place x y below = λ i. x_count (height q.bx) (omega arith) i + y_count (offset q.bx.lo.x x) (omega arith) i
+
+-- ---- the written lists
+
+pub with_border : (p : Problem) (l : ℕ) (q : Patch) (border : List ℕ) (f : Face) → is_border q f ≡ true → fluxes_with p l q border f ≡ signed (courant p l f) (slice_index border (border_place q f))
+unfolding fluxes_with
+with_border p l q border f e = ap (λ b. cond b (signed (courant p l f) (slice_index border (border_place q f))) (flux_in q f)) e
+
+pub with_own : (p : Problem) (l : ℕ) (q : Patch) (border : List ℕ) (f : Face) → is_border q f ≡ false → fluxes_with p l q border f ≡ flux_in q f
+unfolding fluxes_with
+with_own p l q border f e = ap (λ b. cond b (signed (courant p l f) (slice_index border (border_place q f))) (flux_in q f)) e
+
+pub signed_of : {c c' : ℤ} {n n' : ℕ} → c ≡ c' → n ≡ n' → signed c n ≡ signed c' n'
+signed_of ec en i = signed (ec i) (en i)
+
+module _ (p : Problem) (l : ℕ) (q : Patch) (column row : ℕ) (s : Stands p l q.bx column row) (border : List ℕ) (xs ys : List ℤ)
+    (has_x : HasXBorder p l row (width q.bx) q.marks.items border q.x_fluxes.items xs (height q.bx))
+    (has_y : HasYBorder p l column (width q.bx) (height q.bx) q.marks.items (drop (count_below (x_marked (width q.bx) q.marks.items) (height q.bx)) border) q.y_fluxes.items ys) where
+  pub x_given : (x y : ℤ) → is_face_of q.bx (face X x y) ≡ true → x_entry (width q.bx) xs (offset q.bx.lo.x x) (offset q.bx.lo.y y) ≡ fluxes_with p l q border (face X x y)
+  x_given x y e = at_each (x_face_at q.bx x y q.near e) _ refl (cases_lt (offset q.bx.lo.x x) (width q.bx))
+    where
+      at_each : IsXFace q.bx x y (offset q.bx.lo.x x) (offset q.bx.lo.y y) → (b : Bool) → x_marked (width q.bx) q.marks.items (offset q.bx.lo.y y) ≡ b → (offset q.bx.lo.x x < width q.bx) ⊎ (width q.bx ≤ offset q.bx.lo.x x) → x_entry (width q.bx) xs (offset q.bx.lo.x x) (offset q.bx.lo.y y) ≡ fluxes_with p l q border (face X x y)
+      at_each f b m (inl below) =
+          has_x.others (offset q.bx.lo.x x) (offset q.bx.lo.y y) f.column (λ last. absurd (omega (arith, last, below)))
+          ∙ sym (x_entry_here q x y (offset q.bx.lo.x x) (offset q.bx.lo.y y) f.at) ∙ sym (with_own p l q border (face X x y) (x_inner q x y (offset q.bx.lo.x x) (offset q.bx.lo.y y) f below))
+      at_each f true m (inr past) =
+          let last : offset q.bx.lo.x x ≡ width q.bx = omega (arith, f.column, past) in
+          ap (λ n. x_entry (width q.bx) xs n (offset q.bx.lo.y y)) last
+          ∙ has_x.made (offset q.bx.lo.y y) f.row m
+          ∙ signed_of (sym (x_courant_here p l q.bx column row x y (offset q.bx.lo.x x) (offset q.bx.lo.y y) s f.at f.row)) (ap (slice_index border) (sym (x_border_place q x y f.row)))
+          ∙ sym (with_border p l q border (face X x y) (x_border q x y (offset q.bx.lo.x x) (offset q.bx.lo.y y) e f last ∙ m))
+      at_each f false m (inr past) =
+          let last : offset q.bx.lo.x x ≡ width q.bx = omega (arith, f.column, past) in
+          has_x.others (offset q.bx.lo.x x) (offset q.bx.lo.y y) f.column (λ same below. m)
+          ∙ sym (x_entry_here q x y (offset q.bx.lo.x x) (offset q.bx.lo.y y) f.at) ∙ sym (with_own p l q border (face X x y) (x_border q x y (offset q.bx.lo.x x) (offset q.bx.lo.y y) e f last ∙ m))
+
+  pub y_given : (x y : ℤ) → is_face_of q.bx (face Y x y) ≡ true → y_entry (width q.bx) ys (offset q.bx.lo.x x) (offset q.bx.lo.y y) ≡ fluxes_with p l q border (face Y x y)
+  y_given x y e = at_each (y_face_at q.bx x y q.near e) _ refl (cases_lt (offset q.bx.lo.y y) (height q.bx))
+    where
+      at_each : IsYFace q.bx x y (offset q.bx.lo.x x) (offset q.bx.lo.y y) → (b : Bool) → y_marked (width q.bx) (height q.bx) q.marks.items (offset q.bx.lo.x x) ≡ b → (offset q.bx.lo.y y < height q.bx) ⊎ (height q.bx ≤ offset q.bx.lo.y y) → y_entry (width q.bx) ys (offset q.bx.lo.x x) (offset q.bx.lo.y y) ≡ fluxes_with p l q border (face Y x y)
+      at_each f b m (inl below) =
+          has_y.others (offset q.bx.lo.x x) (offset q.bx.lo.y y) f.column (λ last. absurd (omega (arith, last, below)))
+          ∙ sym (y_entry_here q x y (offset q.bx.lo.x x) (offset q.bx.lo.y y) f.at) ∙ sym (with_own p l q border (face Y x y) (y_inner q x y (offset q.bx.lo.x x) (offset q.bx.lo.y y) f below))
+      at_each f true m (inr past) =
+          let last : offset q.bx.lo.y y ≡ height q.bx = omega (arith, f.row, past) in
+          ap (λ n. y_entry (width q.bx) ys (offset q.bx.lo.x x) n) last
+          ∙ has_y.made (offset q.bx.lo.x x) f.column m
+          ∙ signed_of (sym (y_courant_here p l q.bx column row x y (offset q.bx.lo.x x) (offset q.bx.lo.y y) s f.at f.column)) (get_or-drop (count_below (x_marked (width q.bx) q.marks.items) (height q.bx)) border _ 0 ∙ ap (slice_index border) (sym (y_border_place q x y f.column)))
+          ∙ sym (with_border p l q border (face Y x y) (y_border q x y (offset q.bx.lo.x x) (offset q.bx.lo.y y) e f last ∙ m))
+      at_each f false m (inr past) =
+          let last : offset q.bx.lo.y y ≡ height q.bx = omega (arith, f.row, past) in
+          has_y.others (offset q.bx.lo.x x) (offset q.bx.lo.y y) f.column (λ same. m)
+          ∙ sym (y_entry_here q x y (offset q.bx.lo.x x) (offset q.bx.lo.y y) f.at) ∙ sym (with_own p l q border (face Y x y) (y_border q x y (offset q.bx.lo.x x) (offset q.bx.lo.y y) e f last ∙ m))

@@ -1,0 +1,9 @@
+mod Borders
+mod Given
+mod Numbers
+mod Owned
+mod Parts
+mod Places
+mod Reciprocals
+mod Steps
+mod Updates

@@ -1,0 +1,81 @@
+-- A list, and a part of it that was read or written.
+use Rattle.std.proofs.Common.{◌≡◌, ◌≢◌, ℕ, ◌+◌, ◌-◌, ◌*◌, ◌^◌, ◌<◌, ◌≤◌, inl, inr, Bool, false, ℤ, pos, List, ◌++◌, length, get_or, take, drop, ap, ◌∙◌, arith, length-take}
+use Rattle.std.specs.Prelude.{slice_index, slice_index_or}
+use Rattle.std.proofs.Math.ListN.{get_or-append}
+use Rattle.std.proofs.lemmas.List.{get_or-append_right, get_or-drop, get_or-take}
+use Rattle.std.proofs.lemmas.List.Edits.{get_or-between}
+use Rattle.std.proofs.lemmas.Bool.{cases_lt}
+use Rattle.std.proofs.lemmas.Nat.{same_from_place}
+use borrow.Rule.Slice.PartMut.{put_mid}
+use Rattle.amr_flux.specs.Rows.{AreSmallFlows, IsSmallFlow}
+use Rattle.amr_flux.specs.Shares.{AreSmall}
+
+-- ---- a part that is read
+
+pub read : (xs : List ℕ) (a b t : ℕ) → a + t < b → slice_index (take (b - a) (drop a xs)) t ≡ slice_index xs (a + t)
+read xs a b t h = get_or-between xs a b t 0 h
+
+pub small_part : (xs : List ℕ) (a b : ℕ) → ((t : ℕ) → a + t < b → slice_index xs (a + t) < 2 ^ 31) → AreSmall (take (b - a) (drop a xs))
+small_part xs a b each = record {
+  at = λ t h.
+      let below : a + t < b = omega (arith, length-take (b - a) (drop a xs)) in
+      rw (read xs a b t below) (each t below);
+}
+
+-- ---- a part that was written: k entries from a on
+
+module _ {X : Type 0} (a k : ℕ) (xs ys : List X) (d : X) (count : length ys ≡ k) (room : a + k ≤ length xs) where
+  front : length (take a xs) ≡ a
+  front = omega (arith, length-take a xs)
+
+  before : (q : ℕ) → q < a → get_or (put_mid a k xs ys) q d ≡ get_or xs q d
+  before q h = get_or-append (take a xs) _ d q (omega (arith, front)) ∙ get_or-take a xs q d h
+
+  within : (t : ℕ) → t < k → get_or (put_mid a k xs ys) (a + t) d ≡ get_or ys t d
+  within t h =
+      let place : a + t - a ≡ t = omega arith in
+      get_or-append_right (take a xs) _ a (a + t) d front (omega arith) ∙ ap (λ n. get_or (ys ++ drop k (drop a xs)) n d) place ∙ get_or-append ys _ d t (omega arith)
+
+  after : (q : ℕ) → a + k ≤ q → get_or (put_mid a k xs ys) q d ≡ get_or xs q d
+  after q h =
+      let place : a + (k + (q - a - k)) ≡ q = omega arith in
+      get_or-append_right (take a xs) _ a q d front (omega arith) ∙ get_or-append_right ys _ k (q - a) d count (omega arith)
+      ∙ get_or-drop k (drop a xs) (q - a - k) d ∙ get_or-drop a xs (k + (q - a - k)) d ∙ ap (λ n. get_or xs n d) place
+
+  pub written : (q t : ℕ) → q ≡ a + t → t < k → get_or (put_mid a k xs ys) q d ≡ get_or ys t d
+  written q t e h = ap (λ n. get_or (put_mid a k xs ys) n d) e ∙ within t h
+
+  pub kept : (q : ℕ) → ((t : ℕ) → t < k → q ≢ a + t) → get_or (put_mid a k xs ys) q d ≡ get_or xs q d
+  kept q apart =
+      elim (cases_lt q a) [
+        | inl low ↦ before q low
+        | inr high ↦
+            elim (cases_lt q (a + k)) [
+              | inl inside ↦ absurd (apart (q - a) (omega arith) (omega arith))
+              | inr past ↦ after q past
+            ]
+      ]
+
+-- the same in a table with r entries in a row: the part is in row j, from column s on
+module _ {X : Type 0} (r j s a k : ℕ) (xs ys : List X) (d : X) (start : a ≡ j * r + s) (narrow : s + k ≤ r) (count : length ys ≡ k) (room : a + k ≤ length xs) where
+  pub entry_written : (i t : ℕ) → i ≡ s + t → t < k → get_or (put_mid a k xs ys) (j * r + i) d ≡ get_or ys t d
+  entry_written i t e h = written a k xs ys d count room (j * r + i) t (omega arith) h
+
+  pub kept_row : (i j' : ℕ) → i < r → j' ≢ j → get_or (put_mid a k xs ys) (j' * r + i) d ≡ get_or xs (j' * r + i) d
+  kept_row i j' inside other = kept a k xs ys d count room (j' * r + i) (λ t h e. other (same_from_place j' i j (s + t) r inside (omega arith) (e ∙ omega arith)).0)
+
+  pub kept_column : (i j' : ℕ) → i < s → get_or (put_mid a k xs ys) (j' * r + i) d ≡ get_or xs (j' * r + i) d
+  kept_column i j' before = kept a k xs ys d count room (j' * r + i) (λ t h e. let same : i ≡ s + t = (same_from_place j' i j (s + t) r (omega arith) (omega arith) (e ∙ omega arith)).1 in absurd (omega arith))
+
+pub read_flux : (xs : List ℤ) (a b t : ℕ) → a + t < b → slice_index_or (take (b - a) (drop a xs)) t (pos 0) ≡ slice_index_or xs (a + t) (pos 0)
+read_flux xs a b t h = get_or-between xs a b t (pos 0) h
+
+pub read_mark : (xs : List Bool) (a b t : ℕ) → a + t < b → slice_index_or (take (b - a) (drop a xs)) t false ≡ slice_index_or xs (a + t) false
+read_mark xs a b t h = get_or-between xs a b t false h
+
+pub small_flows : (xs : List ℤ) (a b : ℕ) → ((t : ℕ) → a + t < b → IsSmallFlow (slice_index_or xs (a + t) (pos 0))) → AreSmallFlows (take (b - a) (drop a xs))
+small_flows xs a b each = record {
+  at = λ t h.
+      let below : a + t < b = omega (arith, length-take (b - a) (drop a xs)) in
+      rw (read_flux xs a b t below) (each t below);
+}

@@ -1,0 +1,4 @@
+pub mod Faces
+pub mod Rows
+pub mod Shares
+pub mod Tables

@@ -1,0 +1,19 @@
+-- The share of a cell's mass that flows out of it in a step.
+use Rattle.std.specs.Prelude.{◌≡◌, ℕ, ◌+◌, ◌-◌, ◌*◌, ◌/◌, ◌^◌, ◌<◌, ◌≤◌, ℤ, unsigned_abs, List, length, slice_index}
+
+-- the size of the flow out of a cell of mass v at Courant number c/d (donor cell)
+abbrev pub share : ℤ → ℕ → ℕ → ℕ
+share c d v = unsigned_abs c * v / d
+
+-- |c|/d, at most 1, with 41 places after the binary point, rounded up: the first 31 are `whole`, the other ten `rest`
+pub record IsReciprocal (c : ℤ) (d whole rest : ℕ) : Type 0 where
+  pub some : 0 < d
+  pub few : d ≤ 1024
+  pub slow : unsigned_abs c ≤ d
+  pub whole_places : whole ≤ 2 ^ 31
+  pub rest_places : rest < 1024
+  pub places : whole * 1024 + rest ≡ (unsigned_abs c * 2 ^ 41 + (d - 1)) / d
+
+-- none of 2^31 or more
+pub record AreSmall (values : List ℕ) : Type 0 where
+  pub at : (k : ℕ) → k < length values → slice_index values k < 2 ^ 31

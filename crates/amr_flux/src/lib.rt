@@ -1,0 +1,16 @@
+//! Donor-cell fluxes through the faces of a patch, and the new masses of its cells.
+#![tactic(auto)]
+
+mod border;
+mod fluxes;
+mod masses;
+mod rows;
+mod shape;
+mod share;
+mod sweep_x;
+mod sweep_y;
+mod update_rows;
+
+pub use crate::fluxes::sweep;
+pub use crate::masses::update;
+pub use crate::share::Share;
