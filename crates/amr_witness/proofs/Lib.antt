@@ -7,3 +7,4 @@ pub mod FaceLaws
 pub mod Levels
 pub mod LedgerLaws
 pub mod States
+pub mod Samples

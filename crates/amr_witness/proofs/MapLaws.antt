@@ -44,20 +44,20 @@ both false b h = cc
 tests : (q c : Cell) → eq_by_cmp cell_cmp q c ≡ (int_eq q.x c.x && int_eq q.y c.y)
 tests q c = eq_then (int_cmp q.x c.x) (int_cmp q.y c.y)
 
-cell_same : (q c : Cell) → eq_by_cmp cell_cmp q c ≡ true → q ≡ c
+pub cell_same : (q c : Cell) → eq_by_cmp cell_cmp q c ≡ true → q ≡ c
 cell_same q c h =
     let parts = both _ _ (sym (tests q c) ∙ h) in
     let x = same_number q.x c.x parts.0 in
     let y = same_number q.y c.y parts.1 in
     λ i. cell (x i) (y i)
 
-cell_itself : (q : Cell) → eq_by_cmp cell_cmp q q ≡ true
+pub cell_itself : (q : Cell) → eq_by_cmp cell_cmp q q ≡ true
 cell_itself q = tests q q ∙ rw (number_itself q.x) (number_itself q.y)
 
-apart : (b : Bool) → b ≡ true → b ≡ false → ⊥
+pub apart : (b : Bool) → b ≡ true → b ≡ false → ⊥
 apart b is isnt = cc
 
-other : (k q : Cell) → eq_by_cmp cell_cmp k q ≡ false → eq_by_cmp cell_cmp q k ≡ false
+pub other : (k q : Cell) → eq_by_cmp cell_cmp k q ≡ false → eq_by_cmp cell_cmp q k ≡ false
 other k q isnt =
     is_false _ (λ (is : eq_by_cmp cell_cmp q k ≡ true). apart (eq_by_cmp cell_cmp k q) (ap (λ (c : Cell). eq_by_cmp cell_cmp k c) (cell_same q k is) ∙ cell_itself k) isnt)
 

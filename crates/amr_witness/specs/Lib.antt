@@ -1,3 +1,4 @@
+pub mod Given
 pub mod Maps
 pub mod Parts
 pub mod Ready

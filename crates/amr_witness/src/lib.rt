@@ -6,6 +6,8 @@
 mod advance;
 mod faces;
 mod ledger;
+#[cfg(test)]
+mod tests;
 mod value;
 
 pub use advance::slow_step;
