@@ -6,3 +6,4 @@ pub mod Homes
 pub mod Runs
 pub mod BoxSides
 pub mod Levels
+pub mod Samples

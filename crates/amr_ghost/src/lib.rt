@@ -9,3 +9,6 @@ mod sides;
 mod values;
 
 pub use filling::fill;
+
+#[cfg(test)]
+mod tests;

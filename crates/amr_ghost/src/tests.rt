@@ -1,0 +1,248 @@
+//! Frames of small levels: a ring in three pieces, a patch beside itself, open sides, and a fine box in a coarse level.
+
+ghost use Rattle.std.specs.Prelude.{◌≡◌, ℕ, ◌<◌, ◌≤◌, length, slice_index_or, IfOk, IsTrue, true, false};
+ghost use Rattle.amr_box.specs.declared.Cell.{Cell};
+ghost use Rattle.amr_box.specs.Cells.{holds};
+ghost use Rattle.amr_def.specs.Domain.{domain, domain_of, in_domain};
+ghost use Rattle.amr_def.specs.Limits.{has_inflows};
+ghost use Rattle.amr_patch.specs.declared.patches.Patch.{Patch};
+ghost use Rattle.amr_patch.specs.Patches.{ArePatchesApart, box};
+ghost use Rattle.amr_ghost.specs.Frames.{AreInDomain};
+
+use super::*;
+use crate::places::in_domain;
+use amr_box::{Bx, Cell};
+use amr_def::{Blocks, Dom, Name, Problem, Shear, Sides, Thresholds};
+use amr_patch::{Level, Patch};
+use std::alloc::Global;
+use std::test::Fail;
+
+const fn cell(x: i32, y: i32) -> Cell {
+    Cell { x, y }
+}
+
+/// A problem of `nx` by `ny` cells.
+fn problem(alloc: Global, nx: u32, ny: u32, x: Sides, y: Sides) -> Result<Problem, Fail>
+    requires some_columns { 2 ≤ nx }
+    requires few_columns { nx ≤ 16 }
+    requires some_rows { 2 ≤ ny }
+    requires few_rows { ny ≤ 16 }
+    requires x_inflows { has_inflows x ≡ true }
+    requires y_inflows { has_inflows y ≡ true }
+{
+    Ok(Problem {
+        name: Name::make(Vec::from_slice(alloc, b"ghosts")?),
+        nx,
+        ny,
+        steps: 2,
+        cx: 1,
+        cy: 0,
+        d: 1,
+        shear_x: Shear::make(Vec::new(alloc)),
+        shear_y: Shear::make(Vec::new(alloc)),
+        x_sides: x,
+        y_sides: y,
+        max_level: 1,
+        tag: Thresholds::make(Vec::from_slice(alloc, [9].as_slice())?),
+        n_error_buf: 0,
+        efficiency: 80,
+        min_width: 1,
+        regrid_int: 4096,
+        blocking: 2,
+        max_grid_size: 4,
+        blocks: Blocks::make(Vec::new(alloc)),
+    })
+}
+
+/// The patch from column `x0` to `x1` and from row `y0` to `y1`, where there is such a box.
+fn patch(alloc: Global, x0: u8, y0: u8, x1: u8, y1: u8) -> Result<Patch, Fail>
+    requires wide { x0 ≤ x1 }
+    requires high { y0 ≤ y1 }
+{
+    let lo = Cell {
+        x: i32::from(x0),
+        y: i32::from(y0),
+    };
+    let hi = Cell {
+        x: i32::from(x1),
+        y: i32::from(y1),
+    };
+    let b = Bx::try_new(lo, hi).unwrap();
+    Ok(Patch::make(alloc, b)?)
+}
+
+/// Gives a cell of a patch a mass; false where the patch has no such cell.
+fn set(patches: &mut [Patch], k: usize, c: Cell, m: u64) -> bool {
+    if k >= patches.len() {
+        return false;
+    }
+    if !patches[k].bx().holds(c) {
+        return false;
+    }
+    patches[k].set_mass(c, m);
+    true
+}
+
+/// The value and the mark of a ghost cell of a patch.
+fn ghost_at(patches: &[Patch], k: usize, c: Cell) -> Option<(u64, bool)> {
+    if k >= patches.len() {
+        return None;
+    }
+    if !patches[k].in_frame(c) {
+        return None;
+    }
+    Some(patches[k].ghost_cell(c))
+}
+
+/// Whether two patches have a cell in common.
+fn meet(a: &Patch, b: &Patch) -> bool
+    ensures { result ≡ false → (c : Cell) → IsTrue (holds (box a.now) c) → IsTrue (holds (box b.now) c) → ⊥ }
+{
+    a.bx().meet(&b.bx()).is_some()
+}
+
+/// Whether a patch has a cell in common with an earlier one.
+fn meets_earlier(patches: &[Patch], k: usize) -> bool
+    requires { k < length patches.now }
+    ensures { result ≡ false → (j : ℕ) (d : Patch) → j < k → (c : Cell) → IsTrue (holds (box (slice_index_or patches.now j d)) c) → IsTrue (holds (box (slice_index_or patches.now k d)) c) → ⊥ }
+{
+    for j in 0..k {
+        if meet(&patches[j], &patches[k]) {
+            return true;
+        }
+    }
+    false
+}
+
+/// Whether no cell is in two of the patches.
+fn are_apart(patches: &[Patch]) -> bool
+    ensures { result ≡ true → ArePatchesApart patches.now }
+{
+    for k in 0..patches.len() {
+        if meets_earlier(patches, k) {
+            return false;
+        }
+    }
+    true
+}
+
+/// Whether both corners of a patch are cells of the domain, so that each of its cells is.
+fn is_in_domain(dom: &Dom, patch: &Patch) -> bool
+    ensures { result ≡ true → (c : Cell) → IsTrue (holds (box patch.now) c) → IsTrue (in_domain (domain_of dom.now) c) }
+{
+    let b = patch.bx();
+    if !in_domain(dom, b.lo()) {
+        return false;
+    }
+    in_domain(dom, b.hi())
+}
+
+/// Whether the patches lie in the domain of level `l`.
+fn are_in_domain(p: &Problem, l: u32, patches: &[Patch]) -> bool
+    requires { l ≤ 4 }
+    ensures { result ≡ true → AreInDomain (domain p.now l) patches.now }
+{
+    let dom = p.domain(l);
+    for patch in patches {
+        if !is_in_domain(&dom, patch) {
+            return false;
+        }
+    }
+    true
+}
+
+#[test]
+fn ring_in_three_pieces(rt: HostRuntime) -> Result<(), Fail> {
+    let alloc = rt.alloc();
+    let p = problem(alloc, 9, 3, Sides::Periodic, Sides::Periodic)?;
+    let mut patches = Vec::new(alloc);
+    patches.push(patch(alloc, 0, 0, 3, 2)?)?;
+    patches.push(patch(alloc, 4, 0, 7, 2)?)?;
+    patches.push(patch(alloc, 8, 0, 8, 2)?)?;
+    assert!(rt; set(&mut patches, 0, cell(0, 1), 3));
+    assert!(rt; set(&mut patches, 1, cell(4, 0), 5));
+    assert!(rt; set(&mut patches, 2, cell(8, 0), 8));
+    assert!(rt; set(&mut patches, 2, cell(8, 2), 9));
+    assert!(rt; are_apart(&patches));
+    assert!(rt; are_in_domain(&p, 0, &patches));
+    fill(&p, 0, &mut patches, None);
+    assert_eq!(rt; ghost_at(&patches, 0, cell(-1, 0)), Some((8, true)));
+    assert_eq!(rt; ghost_at(&patches, 0, cell(-1, 2)), Some((9, true)));
+    assert_eq!(rt; ghost_at(&patches, 0, cell(4, 0)), Some((5, true)));
+    assert_eq!(rt; ghost_at(&patches, 1, cell(8, 2)), Some((9, true)));
+    assert_eq!(rt; ghost_at(&patches, 1, cell(3, 1)), Some((0, true)));
+    assert_eq!(rt; ghost_at(&patches, 2, cell(9, 1)), Some((3, true)));
+    assert_eq!(rt; ghost_at(&patches, 2, cell(8, -1)), Some((9, true)));
+    assert_eq!(rt; ghost_at(&patches, 2, cell(8, 3)), Some((8, true)));
+    Ok(())
+}
+
+#[test]
+fn one_patch_beside_itself(rt: HostRuntime) -> Result<(), Fail> {
+    let alloc = rt.alloc();
+    let p = problem(alloc, 4, 2, Sides::Periodic, Sides::Periodic)?;
+    let mut patches = Vec::new(alloc);
+    patches.push(patch(alloc, 0, 0, 3, 1)?)?;
+    assert!(rt; set(&mut patches, 0, cell(3, 0), 7));
+    assert!(rt; set(&mut patches, 0, cell(0, 1), 6));
+    assert!(rt; are_apart(&patches));
+    assert!(rt; are_in_domain(&p, 0, &patches));
+    fill(&p, 0, &mut patches, None);
+    assert_eq!(rt; ghost_at(&patches, 0, cell(-1, 0)), Some((7, true)));
+    assert_eq!(rt; ghost_at(&patches, 0, cell(4, 1)), Some((6, true)));
+    assert_eq!(rt; ghost_at(&patches, 0, cell(3, 2)), Some((7, true)));
+    assert_eq!(rt; ghost_at(&patches, 0, cell(0, -1)), Some((6, true)));
+    Ok(())
+}
+
+#[test]
+fn beyond_open_sides(rt: HostRuntime) -> Result<(), Fail> {
+    let alloc = rt.alloc();
+    let p = problem(alloc, 2, 2, Sides::Open(6, 40), Sides::Open(17, 3))?;
+    let mut patches = Vec::new(alloc);
+    patches.push(patch(alloc, 0, 0, 1, 1)?)?;
+    assert!(rt; are_apart(&patches));
+    assert!(rt; are_in_domain(&p, 0, &patches));
+    fill(&p, 0, &mut patches, None);
+    assert_eq!(rt; ghost_at(&patches, 0, cell(-1, 1)), Some((6, false)));
+    assert_eq!(rt; ghost_at(&patches, 0, cell(2, 0)), Some((40, false)));
+    assert_eq!(rt; ghost_at(&patches, 0, cell(0, -1)), Some((17, false)));
+    assert_eq!(rt; ghost_at(&patches, 0, cell(1, 2)), Some((3, false)));
+
+    let mut fine = Vec::new(alloc);
+    fine.push(patch(alloc, 0, 0, 3, 3)?)?;
+    assert!(rt; are_apart(&fine));
+    assert!(rt; are_in_domain(&p, 1, &fine));
+    fill(&p, 1, &mut fine, None);
+    assert_eq!(rt; ghost_at(&fine, 0, cell(-1, 1)), Some((1, false)));
+    assert_eq!(rt; ghost_at(&fine, 0, cell(4, 0)), Some((10, false)));
+    assert_eq!(rt; ghost_at(&fine, 0, cell(0, -1)), Some((4, false)));
+    assert_eq!(rt; ghost_at(&fine, 0, cell(1, 4)), Some((0, false)));
+    Ok(())
+}
+
+#[test]
+fn quarters_of_the_coarser_level(rt: HostRuntime) -> Result<(), Fail> {
+    let alloc = rt.alloc();
+    let p = problem(alloc, 4, 2, Sides::Periodic, Sides::Periodic)?;
+    let mut coarse = Vec::new(alloc);
+    coarse.push(patch(alloc, 0, 0, 3, 1)?)?;
+    assert!(rt; set(&mut coarse, 0, cell(1, 0), 7));
+    assert!(rt; set(&mut coarse, 0, cell(3, 0), 2));
+    assert!(rt; set(&mut coarse, 0, cell(2, 1), 9));
+    assert!(rt; are_apart(&coarse));
+    let mut old = Level::make(alloc, &[], &[])?;
+    old.put_patches(coarse);
+
+    let mut fine = Vec::new(alloc);
+    fine.push(patch(alloc, 4, 0, 5, 1)?)?;
+    assert!(rt; are_apart(&fine));
+    assert!(rt; are_in_domain(&p, 1, &fine));
+    fill(&p, 1, &mut fine, Some(&old));
+    assert_eq!(rt; ghost_at(&fine, 0, cell(3, 0)), Some((1, false)));
+    assert_eq!(rt; ghost_at(&fine, 0, cell(3, 1)), Some((1, false)));
+    assert_eq!(rt; ghost_at(&fine, 0, cell(6, 0)), Some((0, false)));
+    assert_eq!(rt; ghost_at(&fine, 0, cell(4, 2)), Some((2, false)));
+    assert_eq!(rt; ghost_at(&fine, 0, cell(5, -1)), Some((2, false)));
+    Ok(())
+}
