@@ -1,0 +1,6 @@
+mod Corners
+mod Items
+mod LevelBoxes
+mod Pieces
+mod Putting
+mod Words

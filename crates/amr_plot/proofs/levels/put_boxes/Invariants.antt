@@ -1,0 +1,14 @@
+use Rattle.std.proofs.Common.{◌≤◌, get_or}
+use Rattle.amr_io.specs.Kept.{Sent}
+use Rattle.amr_def.specs.Plot.{box_text}
+use Rattle.amr_patch.specs.Levels.{level_of}
+use Rattle.amr_plot.specs.Puts.{texts}
+use Rattle.amr_plot.proofs.LevelBoxes.{no_box}
+use Rattle.amr_plot.proofs.levels.put_boxes.Given as goal
+
+-- the boxes so far are put
+abbrev pub invariant-loop-b : goal.invariant-loop-b
+invariant-loop-b g l = record {
+  sent : Sent g.O.Sink.holds l.initial.sink l.sink l.initial.text l.text (texts (λ i. box_text (level_of l.level).masses (get_or (level_of l.level).boxes i no_box)) l.b-index);
+  later : g.O.Sink.faults l.initial.sink ≤ g.O.Sink.faults l.sink;
+}

@@ -1,0 +1,134 @@
+//! The rows of masses of a box. A row is read piece by piece, with one look-up a piece.
+
+ghost use Rattle.std.specs.Prelude.{◌≡◌, ℕ, ◌+◌, ◌<◌, ◌≤◌, ◌≤ℤ◌, ◌^◌, [], cond, ◌==◌, length, slice_index, codes, IsSome, IsTrue, pos, ◌+ℤ◌};
+ghost use Rattle.amr_box.specs.declared.Cell.{Cell};
+ghost use Rattle.amr_box.specs.Cells.{IsNear, cell, height, holds, width, within};
+ghost use Rattle.amr_def.specs.Plot.{mass_line};
+ghost use Rattle.amr_patch.specs.Levels.{level_of};
+ghost use Rattle.amr_plot.specs.Puts.{Puts, masses_text, texts, word};
+ghost use Rattle.amr_plot.specs.Rows.{HasCellsOf, mass_in, row_word};
+
+use amr_box::{Bx, Cell};
+use amr_io::{Piece, Sink, Text, WriteFault};
+use amr_patch::Level;
+
+/// What stands before the mass in a column of the box.
+fn separator(column: usize) -> &'static str
+    ensures { result.now ≡ cond (column == 0) [] (codes " ") }
+{
+    if column == 0 { "" } else { " " }
+}
+
+fn put_mass<O: Sink>(
+    column: usize,
+    mass: u64,
+    text: &mut Text,
+    sink: &mut O,
+) -> Result<(), WriteFault>
+    ensures { Puts O.holds O.faults sink.old sink.new text.old text.new (word column mass) result }
+{
+    text.put_pieces(sink, &[Piece::Str(separator(column)), Piece::Number(mass)])
+}
+
+/// Masses that stand in the columns from `first` on.
+fn put_masses<O: Sink>(
+    first: usize,
+    masses: &[u64],
+    text: &mut Text,
+    sink: &mut O,
+) -> Result<(), WriteFault>
+    requires { first + length masses.now < 2 ^ 32 }
+    ensures { Puts O.holds O.faults sink.old sink.new text.old text.new (masses_text first masses.now) result }
+{
+    for (k, mass) in masses.iter().enumerate() {
+        put_mass(first + k, *mass, text, sink)?;
+    }
+    Ok(())
+}
+
+/// The cell in a row and column of the box, each counted from its low corner.
+fn cell_in(b: &Bx, row: u32, column: u32) -> Cell
+    requires near { IsNear b.now }
+    requires row { (b.now.lo.y +ℤ pos row) ≤ℤ b.now.hi.y }
+    requires column { (b.now.lo.x +ℤ pos column) ≤ℤ b.now.hi.x }
+    ensures place { result ≡ cell (b.now.lo.x +ℤ pos column) (b.now.lo.y +ℤ pos row) }
+    ensures inside { IsTrue (holds b.now result) }
+{
+    let lo = b.lo();
+    Cell {
+        x: lo.x + column as i32,
+        y: lo.y + row as i32,
+    }
+}
+
+/// The masses of a row of the box from column `first` on, as far as they stand in one piece of the level, and no further
+/// than the box.
+fn masses_from<'a>(level: &'a Level, b: &Bx, row: u32, first: u32) -> &'a [u64]
+    requires near { IsNear b.now }
+    requires row { (b.now.lo.y +ℤ pos row) ≤ℤ b.now.hi.y }
+    requires column { (b.now.lo.x +ℤ pos first) ≤ℤ b.now.hi.x }
+    requires cells { HasCellsOf level.now b.now }
+    ensures some { 0 < length result.now }
+    ensures inside { first + length result.now ≤ width b.now }
+    ensures masses { (k : ℕ) → k < length result.now → slice_index result.now k ≡ mass_in level.now b.now row (first + k) }
+{
+    let run = level.run(cell_in(b, row, first));
+    let left = (b.width() - first) as usize;
+    &run[..run.len().min(left)]
+}
+
+/// A row of masses, from the low column on.
+pub(crate) fn put_row<O: Sink>(
+    level: &Level,
+    b: &Bx,
+    row: u32,
+    text: &mut Text,
+    sink: &mut O,
+) -> Result<(), WriteFault>
+    requires near { IsNear b.now }
+    requires row { (b.now.lo.y +ℤ pos row) ≤ℤ b.now.hi.y }
+    requires cells { HasCellsOf level.now b.now }
+    ensures { Puts O.holds O.faults sink.old sink.new text.old text.new (mass_line (level_of level.now).masses b.now row) result }
+{
+    put_columns(level, b, row, text, sink)?;
+    text.put_str(sink, "\n")
+}
+
+fn put_columns<O: Sink>(
+    level: &Level,
+    b: &Bx,
+    row: u32,
+    text: &mut Text,
+    sink: &mut O,
+) -> Result<(), WriteFault>
+    requires near { IsNear b.now }
+    requires row { (b.now.lo.y +ℤ pos row) ≤ℤ b.now.hi.y }
+    requires cells { HasCellsOf level.now b.now }
+    ensures { Puts O.holds O.faults sink.old sink.new text.old text.new (texts (row_word level.now b.now row) (width b.now)) result }
+{
+    let width = b.width();
+    let mut first = 0;
+    while first < width {
+        let masses = masses_from(level, b, row, first);
+        put_masses(first as usize, masses, text, sink)?;
+        first += masses.len() as u32;
+    }
+    Ok(())
+}
+
+/// The rows of a box, from the low row on.
+pub(crate) fn put_rows<O: Sink>(
+    level: &Level,
+    b: &Bx,
+    text: &mut Text,
+    sink: &mut O,
+) -> Result<(), WriteFault>
+    requires near { IsNear b.now }
+    requires cells { HasCellsOf level.now b.now }
+    ensures { Puts O.holds O.faults sink.old sink.new text.old text.new (texts (mass_line (level_of level.now).masses b.now) (height b.now)) result }
+{
+    for row in 0..b.height() {
+        put_row(level, b, row, text, sink)?;
+    }
+    Ok(())
+}
