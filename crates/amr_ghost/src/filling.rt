@@ -21,14 +21,47 @@ use amr_box::Cell;
 use amr_def::{Dom, Problem};
 use amr_patch::{Level, Order, Patch, find, order_of};
 
-/// The number of the patch that has a cell. None has one outside the domain.
-fn holder(patches: &[Patch], order: Order, dom: &Dom, c: Cell) -> Option<usize>
+/// The patch that a side of a patch was filled from last, for each side: that one or the next is mostly the one for the next
+/// patch, so that few look-ups search.
+#[derive(Clone, Copy, Debug)]
+struct Near {
+    west: usize,
+    east: usize,
+    south: usize,
+    north: usize,
+}
+
+/// The number of the patch that has a cell, where that is `near` or the next.
+fn near_holder(patches: &[Patch], near: usize, c: Cell) -> Option<usize>
+    ensures { IfSome result (IsHolder patches.now c) }
+{
+    if near >= patches.len() {
+        return None;
+    }
+    if patches[near].bx().holds(c) {
+        return Some(near);
+    }
+    let next = near + 1;
+    if next >= patches.len() {
+        return None;
+    }
+    if patches[next].bx().holds(c) {
+        return Some(next);
+    }
+    None
+}
+
+/// The number of the patch that has a cell. None has one outside the domain. It looks at `near` and the next first.
+fn holder(patches: &[Patch], order: Order, dom: &Dom, near: usize, c: Cell) -> Option<usize>
     requires { IsLevelInOrder (domain_of dom.now) order patches.now }
     ensures some { is_some result ≡ in_patches patches.now c }
     ensures found { IfSome result (IsHolder patches.now c) }
 {
     if !in_domain(dom, c) {
         return None;
+    }
+    if let Some(k) = near_holder(patches, near, c) {
+        return Some(k);
     }
     find(patches, order, c)
 }
@@ -43,6 +76,7 @@ fn fill_run(
     patches: &mut [Patch],
     i: usize,
     line: Line,
+    near: &mut usize,
 ) -> u32
     requires level { l ≤ 4 }
     requires patches { IsLevelInOrder (domain p.now l) order patches.old }
@@ -59,8 +93,9 @@ fn fill_run(
 {
     let dom = p.domain(l);
     let home = home_cell(&dom, line.from);
-    match holder(patches, order, &dom, home) {
+    match holder(patches, order, &dom, *near, home) {
         Some(j) => {
+            *near = j;
             let source = patches[j].bx();
             let count = cells_ahead(&source, line.axis, home).min(line.count);
             copy_line(patches, i, j, line.axis, line.from, home, count);
@@ -83,6 +118,7 @@ fn fill_line(
     patches: &mut [Patch],
     i: usize,
     line: Line,
+    near: &mut usize,
 )
     requires level { l ≤ 4 }
     requires patches { IsLevelInOrder (domain p.now l) order patches.old }
@@ -101,7 +137,7 @@ fn fill_line(
             from: step(line.axis, line.from, done),
             count: line.count - done,
         };
-        done += fill_run(p, l, old, order, patches, i, rest);
+        done += fill_run(p, l, old, order, patches, i, rest, near);
     }
 }
 
@@ -114,6 +150,7 @@ fn fill_side(
     patches: &mut [Patch],
     i: usize,
     side: Side,
+    near: &mut usize,
 )
     requires level { l ≤ 4 }
     requires patches { IsLevelInOrder (domain p.now l) order patches.old }
@@ -124,7 +161,7 @@ fn fill_side(
     ensures inside { (q : Patch) → LiesIn (domain p.now l) (box (slice_index_or patches.new i q)) }
 {
     let line = side_line(&patches[i].bx(), side);
-    fill_line(p, l, old, order, patches, i, line);
+    fill_line(p, l, old, order, patches, i, line, near);
 }
 
 /// Gives the ghost cells beside patch `i` their values.
@@ -135,6 +172,7 @@ fn fill_frame(
     order: Order,
     patches: &mut [Patch],
     i: usize,
+    near: &mut Near,
 )
     requires level { l ≤ 4 }
     requires patches { IsLevelInOrder (domain p.now l) order patches.old }
@@ -143,10 +181,10 @@ fn fill_frame(
     ensures ghosts { KeepsValues p.now l (old_masses (option_copied old.entry)) patches.old patches.new }
     ensures set { (q : Patch) → HasFrame p.now l (masses_in patches.old) (old_masses (option_copied old.entry)) (slice_index_or patches.new i q) }
 {
-    fill_side(p, l, old, order, patches, i, Side::West);
-    fill_side(p, l, old, order, patches, i, Side::East);
-    fill_side(p, l, old, order, patches, i, Side::South);
-    fill_side(p, l, old, order, patches, i, Side::North);
+    fill_side(p, l, old, order, patches, i, Side::West, &mut near.west);
+    fill_side(p, l, old, order, patches, i, Side::East, &mut near.east);
+    fill_side(p, l, old, order, patches, i, Side::South, &mut near.south);
+    fill_side(p, l, old, order, patches, i, Side::North, &mut near.north);
 }
 
 /// Fills the frames of the patches of level `l`, from 0 to 4: gives each ghost cell beside a patch its value, and marks it where
@@ -170,7 +208,13 @@ pub fn fill(p: &Problem, l: u32, patches: &mut [Patch], old: Option<&Level>)
     ensures boxes { map box patches.new ≡ map box patches.old }
 {
     let order = order_of(patches);
+    let mut near = Near {
+        west: 0,
+        east: 0,
+        south: 0,
+        north: 0,
+    };
     for i in 0..patches.len() {
-        fill_frame(p, l, old, order, patches, i);
+        fill_frame(p, l, old, order, patches, i, &mut near);
     }
 }
