@@ -14,45 +14,25 @@ ghost use Rattle.amr_ghost.specs.Frames.{AreInDomain, HasGhostMarks, HasGhostVal
 ghost use Rattle.amr_ghost.specs.Filling.{HasFrame, HasSideValues, HasValues, IsGhostLine, IsLevelInOrder, KeepsCells, KeepsValues, LiesIn};
 
 use crate::ghosts::{copy_line, set_ghost};
+use crate::lookup::{Near, look_up};
 use crate::places::{cells_ahead, home_cell, in_domain, step};
 use crate::sides::{Line, Side, side_line};
 use crate::values::outer_value;
 use amr_box::Cell;
 use amr_def::{Dom, Problem};
-use amr_patch::{Level, Order, Patch, find, order_of};
+use amr_patch::{Level, Order, Patch, order_of};
 
-/// The patch that a side of a patch was filled from last, for each side: that one or the next is mostly the one for the next
-/// patch, so that few look-ups search.
+/// Where the look-ups for each side of a patch begin.
 #[derive(Clone, Copy, Debug)]
-struct Near {
-    west: usize,
-    east: usize,
-    south: usize,
-    north: usize,
+struct NearSides {
+    west: Near,
+    east: Near,
+    south: Near,
+    north: Near,
 }
 
-/// The number of the patch that has a cell, where that is `near` or the next.
-fn near_holder(patches: &[Patch], near: usize, c: Cell) -> Option<usize>
-    ensures { IfSome result (IsHolder patches.now c) }
-{
-    if near >= patches.len() {
-        return None;
-    }
-    if patches[near].bx().holds(c) {
-        return Some(near);
-    }
-    let next = near + 1;
-    if next >= patches.len() {
-        return None;
-    }
-    if patches[next].bx().holds(c) {
-        return Some(next);
-    }
-    None
-}
-
-/// The number of the patch that has a cell. None has one outside the domain. It looks at `near` and the next first.
-fn holder(patches: &[Patch], order: Order, dom: &Dom, near: usize, c: Cell) -> Option<usize>
+/// The number of the patch that has a cell. None has one outside the domain.
+fn holder(patches: &[Patch], order: Order, dom: &Dom, near: &mut usize, c: Cell) -> Option<usize>
     requires { IsLevelInOrder (domain_of dom.now) order patches.now }
     ensures some { is_some result ≡ in_patches patches.now c }
     ensures found { IfSome result (IsHolder patches.now c) }
@@ -60,10 +40,7 @@ fn holder(patches: &[Patch], order: Order, dom: &Dom, near: usize, c: Cell) -> O
     if !in_domain(dom, c) {
         return None;
     }
-    if let Some(k) = near_holder(patches, near, c) {
-        return Some(k);
-    }
-    find(patches, order, c)
+    look_up(patches, order, near, c)
 }
 
 /// Gives the first ghost cells of a line beside patch `i` their values: as many as stand for cells of one patch, or one that
@@ -76,7 +53,7 @@ fn fill_run(
     patches: &mut [Patch],
     i: usize,
     line: Line,
-    near: &mut usize,
+    near: &mut Near,
 ) -> u32
     requires level { l ≤ 4 }
     requires patches { IsLevelInOrder (domain p.now l) order patches.old }
@@ -93,16 +70,15 @@ fn fill_run(
 {
     let dom = p.domain(l);
     let home = home_cell(&dom, line.from);
-    match holder(patches, order, &dom, *near, home) {
+    match holder(patches, order, &dom, &mut near.level, home) {
         Some(j) => {
-            *near = j;
             let source = patches[j].bx();
             let count = cells_ahead(&source, line.axis, home).min(line.count);
             copy_line(patches, i, j, line.axis, line.from, home, count);
             count
         }
         None => {
-            let value = outer_value(p, l, old, home);
+            let value = outer_value(p, l, old, &mut near.coarser, home);
             set_ghost(patches, i, line.from, value, false);
             1
         }
@@ -118,7 +94,7 @@ fn fill_line(
     patches: &mut [Patch],
     i: usize,
     line: Line,
-    near: &mut usize,
+    near: &mut Near,
 )
     requires level { l ≤ 4 }
     requires patches { IsLevelInOrder (domain p.now l) order patches.old }
@@ -150,7 +126,7 @@ fn fill_side(
     patches: &mut [Patch],
     i: usize,
     side: Side,
-    near: &mut usize,
+    near: &mut Near,
 )
     requires level { l ≤ 4 }
     requires patches { IsLevelInOrder (domain p.now l) order patches.old }
@@ -172,7 +148,7 @@ fn fill_frame(
     order: Order,
     patches: &mut [Patch],
     i: usize,
-    near: &mut Near,
+    near: &mut NearSides,
 )
     requires level { l ≤ 4 }
     requires patches { IsLevelInOrder (domain p.now l) order patches.old }
@@ -208,11 +184,15 @@ pub fn fill(p: &Problem, l: u32, patches: &mut [Patch], old: Option<&Level>)
     ensures boxes { map box patches.new ≡ map box patches.old }
 {
     let order = order_of(patches);
-    let mut near = Near {
-        west: 0,
-        east: 0,
-        south: 0,
-        north: 0,
+    let first = Near {
+        level: 0,
+        coarser: 0,
+    };
+    let mut near = NearSides {
+        west: first,
+        east: first,
+        south: first,
+        north: first,
     };
     for i in 0..patches.len() {
         fill_frame(p, l, old, order, patches, i, &mut near);

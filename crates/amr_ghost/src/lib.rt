@@ -3,6 +3,7 @@
 
 mod filling;
 mod ghosts;
+mod lookup;
 mod outside;
 mod places;
 mod sides;

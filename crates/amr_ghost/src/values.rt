@@ -6,32 +6,51 @@ ghost use Rattle.amr_box.specs.Cells.{parent};
 ghost use Rattle.amr_def.specs.Domain.{domain, in_domain};
 ghost use Rattle.amr_def.specs.State.{mass_of};
 ghost use Rattle.amr_def.specs.Value.{inflow_at};
+ghost use Rattle.amr_patch.specs.Levels.{level_of};
 ghost use Rattle.amr_ghost.specs.Frames.{old_masses};
 
+use crate::lookup::look_up;
 use crate::outside::outside_value;
 use crate::places::{in_domain, parent};
 use amr_box::Cell;
 use amr_def::Problem;
 use amr_patch::Level;
 
+/// The mass of a cell of a level, 0 where it is no cell of it.
+fn mass_in_level(level: &Level, near: &mut usize, c: Cell) -> u64
+    ensures { result ≡ mass_of (level_of level.now).masses c }
+{
+    let patches = level.patches();
+    match look_up(patches, level.order(), near, c) {
+        None => 0,
+        Some(k) => patches[k].mass(c),
+    }
+}
+
 /// The mass of a cell of the coarser level at the start of its step, 0 where it is no cell of it.
-fn old_mass(old: Option<&Level>, c: Cell) -> u64
+fn old_mass(old: Option<&Level>, near: &mut usize, c: Cell) -> u64
     ensures { result ≡ mass_of (old_masses (option_copied old.entry)) c }
 {
     match old {
         None => 0,
-        Some(level) => level.get(c).unwrap_or(0),
+        Some(level) => mass_in_level(level, near, c),
     }
 }
 
 /// The value of a cell that is not of level `l`: within the domain a quarter of the mass of its parent at the start of the
 /// coarser step, outside it the inflow of the side.
-pub(crate) fn outer_value(p: &Problem, l: u32, old: Option<&Level>, c: Cell) -> u64
+pub(crate) fn outer_value(
+    p: &Problem,
+    l: u32,
+    old: Option<&Level>,
+    near: &mut usize,
+    c: Cell,
+) -> u64
     requires { l ≤ 4 }
     ensures { result ≡ cond (in_domain (domain p.now l) c) (mass_of (old_masses (option_copied old.entry)) (parent c) / 4) (inflow_at p.now l c / 4 ^ l) }
 {
     if in_domain(&p.domain(l), c) {
-        old_mass(old, parent(c)) / 4
+        old_mass(old, near, parent(c)) / 4
     } else {
         outside_value(p, l, c)
     }
