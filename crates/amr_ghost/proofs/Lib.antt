@@ -7,3 +7,4 @@ pub mod Runs
 pub mod BoxSides
 pub mod Levels
 pub mod Samples
+pub mod Reach
