@@ -7,6 +7,7 @@ pub mod RefillAll
 pub mod SoundRegrid
 pub mod Held
 pub mod Steps
+pub mod Registers
 pub mod Kept
 pub mod RunRows
 pub mod GridSize

@@ -23,7 +23,7 @@ use Rattle.amr_laws.specs.Laws.{first_child_face, second_child_face, four_fluxes
 
 -- ---- exact
 
-links : (p : Problem) (l : ℕ) (ks : List Level) → AreLevels p l ks → Chain p l ks
+pub links : (p : Problem) (l : ℕ) (ks : List Level) → AreLevels p l ks → Chain p l ks
 links p l [] a = tt
 links p l (k ∷ []) a = a
 links p l (k ∷ fine ∷ finer) a = (a.0, a.1, record { at = a.2 }, links p (suc l) (fine ∷ finer) a.3)

@@ -1,12 +1,12 @@
 -- Laws of states with any number of levels, each of which a call of this crate ensures.
-use Rattle.std.specs.Prelude.{◌≡◌, ℕ, suc, ◌+◌, ◌*◌, ◌/◌, ◌^◌, ◌<◌, ◌≤◌, ℤ, pos, ◌+ℤ◌, ◌-ℤ◌, ◌≤ℤ◌, neg_ℤ, List, ◌∷◌, unsigned_abs, IsFalse, IsSome}
+use Rattle.std.specs.Prelude.{◌≡◌, ℕ, suc, cond, ◌+◌, ◌*◌, ◌/◌, ◌^◌, ◌<◌, ◌≤◌, ℤ, pos, ◌+ℤ◌, ◌-ℤ◌, ◌≤ℤ◌, neg_ℤ, List, [], ◌∷◌, unsigned_abs, IsFalse, IsSome}
 use Rattle.amr_box.specs.declared.Cell.{Cell}
 use Rattle.amr_box.specs.declared.Face.{Face}
 use Rattle.amr_box.specs.declared.Axis.{Axis}
 use Rattle.amr_box.specs.declared.Axis.TheVariants.{X, Y}
 use Rattle.amr_def.specs.declared.problem.Problem.{Problem}
 use Rattle.amr_def.specs.Domain.{domain, home_cell}
-use Rattle.amr_def.specs.State.{Masses, Level, State, level_at, masses_below, is_covered, mass_of}
+use Rattle.amr_def.specs.State.{Masses, Level, State, no_masses, level_at, masses_below, is_covered, mass_of, children_mass}
 use Rattle.amr_def.specs.Value.{value_at}
 use Rattle.amr_def.specs.Flux.{Fluxes, face, low_cell, high_cell, courant, flow, flux_at, net}
 use Rattle.amr_def.specs.LevelStep.{effective, Stepped, step}
@@ -114,3 +114,18 @@ RefluxIsEffectiveStep = (p : Problem) (l : ℕ) (m old fine : Masses) (e1 e2 : F
 abbrev pub RegistersLieBesideCovered : Type 0
 RegistersLieBesideCovered = (p : Problem) (l : ℕ) (m old fine : Masses) (e1 e2 : Fluxes) (f : Face) → IsFalse (is_covered fine (home_cell (domain p l) (low_cell f))) → IsFalse (is_covered fine (home_cell (domain p l) (high_cell f)))
     → effective p l m old fine e1 e2 f ≡ flux_at p l m old f
+
+-- ---- the whole step of a level over finer ones
+
+-- the masses of the next finer level
+abbrev pub second_of : List Masses → Masses
+second_of [] = no_masses
+second_of (m ∷ ms) = first_of ms
+
+-- a step with plain fluxes, then at each cell that is not covered the fluxes of the step less the plain
+-- ones, and at each covered one the sum of its children, is the level step
+abbrev pub LevelStepByRegisters : Type 0
+LevelStepByRegisters = (p : Problem) (l : ℕ) (k fine : Level) (ks : List Level) (old : Masses) (c : Cell) → AreLevels p l (k ∷ fine ∷ ks) → IsSome (k.masses c)
+    → let r : Stepped = step p l (k.masses ∷ fine.masses ∷ masses_of ks) old in
+    let plain : Fluxes = flux_at p l k.masses old in
+    pos (mass_of (first_of r.levels) c) ≡ cond (is_covered fine.masses c) (pos (children_mass (second_of r.levels) c)) ((pos (mass_of k.masses c) +ℤ net plain c) +ℤ net (λ f. r.fluxes f -ℤ plain f) c)

@@ -2,7 +2,7 @@
 //! empty body, and what it ensures is the law.
 #![tactic(auto)]
 
-ghost use Rattle.amr_laws.specs.Laws.{FinishIsSound, FourFluxesAreWithinShare, LevelStepIsExact, NextIsSound, PlotIgnoresGridSize, ProductsAreSmall, RefluxIsEffectiveStep, RegistersLieBesideCovered, RegridHoldsTags, RegridKeepsMasses, RegridKeepsSound, RunIgnoresGridSize, RunIsSound, SharesAddUp, StartIsSound, ValuesAreSmall};
+ghost use Rattle.amr_laws.specs.Laws.{FinishIsSound, FourFluxesAreWithinShare, LevelStepByRegisters, LevelStepIsExact, NextIsSound, PlotIgnoresGridSize, ProductsAreSmall, RefluxIsEffectiveStep, RegistersLieBesideCovered, RegridHoldsTags, RegridKeepsMasses, RegridKeepsSound, RunIgnoresGridSize, RunIsSound, SharesAddUp, StartIsSound, ValuesAreSmall};
 
 /// The start of a run is sound: nested, synced, bounded and telescoped.
 pub fn start_is_sound()
@@ -86,4 +86,10 @@ pub fn reflux_is_effective_step()
 /// A flux register has nothing to correct at a face with no covered cell beside it.
 pub fn registers_lie_beside_covered()
     ensures { RegistersLieBesideCovered }
+{}
+
+/// The level step of a level over finer ones, at each of its cells: at a cell that is not covered what a
+/// step with plain fluxes and the registers of its faces make, at a covered one the sum of its children.
+pub fn level_step_by_registers()
+    ensures { LevelStepByRegisters }
 {}
