@@ -1,18 +1,19 @@
 -- The fluxes through the faces of a patch, once those of its border faces are written beside its own.
-use Rattle.std.proofs.Common.{◌≡◌, ℕ, zero, suc, ◌+◌, ◌<◌, ◌≤◌, ◌⊎◌, inl, inr, Bool, true, false, ◌&&◌, ℤ, pos, ◌+ℤ◌, List, [], ◌∷◌, length, length-append, drop, refl, sym, ap, ◌∙◌, arith}
+use Rattle.std.proofs.Common.{◌≡◌, ℕ, zero, suc, ◌+◌, ◌<◌, ◌≤◌, ◌⊎◌, inl, inr, Bool, true, false, ◌&&◌, ℤ, pos, ◌+ℤ◌, ◌≤ℤ◌, List, [], ◌∷◌, ◌++◌, length, length-append, add-one, drop, refl, sym, ap, ◌∙◌, arith}
 use Rattle.std.specs.Prelude.{not, cond, slice_index}
 use Rattle.std.proofs.lemmas.Int.{ints}
 use Rattle.std.proofs.lemmas.Bool.{cases_lt}
 use Rattle.std.proofs.lemmas.List.{get_or-drop}
 use Rattle.amr_box.specs.declared.Face.{Face}
+use Rattle.amr_box.specs.declared.Axis.{Axis}
 use Rattle.amr_box.specs.declared.Axis.TheVariants.{X, Y}
-use Rattle.amr_box.specs.Cells.{cell, extent, height, holds, width}
+use Rattle.amr_box.specs.Cells.{Extent, cell, extent, height, holds, width}
 use Rattle.amr_def.specs.declared.problem.Problem.{Problem}
-use Rattle.amr_def.specs.Flux.{face, courant}
+use Rattle.amr_def.specs.Flux.{face, high_cell, courant}
 use Rattle.amr_patch.specs.declared.patches.Patch.{Patch}
-use Rattle.amr_patch.specs.Places.{is_face_of}
+use Rattle.amr_patch.specs.Places.{grown, in_frame, is_face_of}
 use Rattle.amr_patch.specs.Patches.{flux_in, mark_in}
-use Rattle.amr_patch.proofs.Rows.{is_inside, sides}
+use Rattle.amr_patch.proofs.Rows.{around, is_inside, sides}
 use Rattle.amr_flux.specs.Faces.{border_faces, border_place, fluxes_with, is_border, passing, x_end, y_end}
 use Rattle.amr_flux.specs.Rows.{signed}
 use Rattle.amr_flux.specs.Tables.{HasXBorder, HasYBorder, count_below, mark, x_entry, x_marked, y_entry, y_marked}
@@ -28,12 +29,6 @@ within_box true b m h = rw h refl
 within_box false b m h = refl
 
 module _ (q : Patch) where
-  w : ℕ
-  w = width q.bx
-
-  h : ℕ
-  h = height q.bx
-
   pub x_border : (x y : ℤ) (i j : ℕ) → is_face_of q.bx (face X x y) ≡ true → IsXFace q.bx x y i j → i ≡ width q.bx → is_border q (face X x y) ≡ x_marked (width q.bx) q.marks.items j
   unfolding is_border
   x_border x y i j e f last =
@@ -62,20 +57,20 @@ module _ (q : Patch) where
 
   -- ---- their order
 
-  x_end_face : (k : ℕ) → k < height q.bx → is_face_of q.bx (x_end q.bx k) ≡ true
+  pub x_end_face : (k : ℕ) → k < height q.bx → is_face_of q.bx (x_end q.bx k) ≡ true
   x_end_face k below =
       let s = sides q.bx q.near in
       is_inside (extent q.bx.lo (cell (q.bx.hi.x +ℤ pos 1) q.bx.hi.y)) (cell (q.bx.hi.x +ℤ pos 1) (q.bx.lo.y +ℤ pos k)) (record { west = omega (arith, ints, q.near.wide); east = omega (arith, ints); south = omega (arith, ints); north = omega (arith, ints, s.high, below) })
 
-  y_end_face : (k : ℕ) → k < width q.bx → is_face_of q.bx (y_end q.bx k) ≡ true
+  pub y_end_face : (k : ℕ) → k < width q.bx → is_face_of q.bx (y_end q.bx k) ≡ true
   y_end_face k below =
       let s = sides q.bx q.near in
       is_inside (extent q.bx.lo (cell q.bx.hi.x (q.bx.hi.y +ℤ pos 1))) (cell (q.bx.lo.x +ℤ pos k) (q.bx.hi.y +ℤ pos 1)) (record { west = omega (arith, ints); east = omega (arith, ints, s.wide, below); south = omega (arith, ints, q.near.high); north = omega (arith, ints) })
 
-  x_end_at : (k : ℕ) → k < height q.bx → IsXFace q.bx (q.bx.hi.x +ℤ pos 1) (q.bx.lo.y +ℤ pos k) (width q.bx) k
+  pub x_end_at : (k : ℕ) → k < height q.bx → IsXFace q.bx (q.bx.hi.x +ℤ pos 1) (q.bx.lo.y +ℤ pos k) (width q.bx) k
   x_end_at k below = let s = sides q.bx q.near in record { at = record { column = omega (arith, ints, s.wide); row = omega (arith, ints) }; column = omega arith; row = below }
 
-  y_end_at : (k : ℕ) → k < width q.bx → IsYFace q.bx (q.bx.lo.x +ℤ pos k) (q.bx.hi.y +ℤ pos 1) k (height q.bx)
+  pub y_end_at : (k : ℕ) → k < width q.bx → IsYFace q.bx (q.bx.lo.x +ℤ pos k) (q.bx.hi.y +ℤ pos 1) k (height q.bx)
   y_end_at k below = let s = sides q.bx q.near in record { at = record { column = omega (arith, ints); row = omega (arith, ints, s.high) }; column = below; row = omega arith }
 
   x_end_border : (k : ℕ) → k < height q.bx → is_border q (x_end q.bx k) ≡ x_marked (width q.bx) q.marks.items k
@@ -167,3 +162,42 @@ module _ (p : Problem) (l : ℕ) (q : Patch) (column row : ℕ) (s : Stands p l 
           let last : offset q.bx.lo.y y ≡ height q.bx = omega (arith, f.row, past) in
           has_y.others (offset q.bx.lo.x x) (offset q.bx.lo.y y) f.column (λ same. m)
           ∙ sym (y_entry_here q x y (offset q.bx.lo.x x) (offset q.bx.lo.y y) f.at) ∙ sym (with_own p l q border (face Y x y) (y_border q x y (offset q.bx.lo.x x) (offset q.bx.lo.y y) e f last ∙ m))
+
+-- ---- the cell beyond a face
+
+pub border_when : (q : Patch) (f : Face) → is_face_of q.bx f ≡ true → holds q.bx (high_cell f) ≡ false → is_border q f ≡ mark_in q (high_cell f)
+unfolding is_border
+border_when q f e out = beyond (is_face_of q.bx f) (holds q.bx (high_cell f)) (mark_in q (high_cell f)) e out
+
+framed : (a b : Bool) → a ≡ true → b ≡ false → (a && not b) ≡ true
+framed a b e h = rw (e, h) refl
+
+in_grown : (b : Extent) (a : Axis) (x y : ℤ) → is_face_of b (face a x y) ≡ true → holds (grown b) (cell x y) ≡ true
+in_grown b X x y e =
+    let k = around X b (cell x y) e in
+    let west : b.lo.x ≤ℤ x = k.west in
+    let south : b.lo.y ≤ℤ y = k.south in
+    let north : y ≤ℤ b.hi.y = k.north in
+    is_inside (grown b) (cell x y) (record { west = omega (arith, ints, west); east = k.east; south = omega (arith, ints, south); north = omega (arith, ints, north) })
+in_grown b Y x y e =
+    let k = around Y b (cell x y) e in
+    let west : b.lo.x ≤ℤ x = k.west in
+    let east : x ≤ℤ b.hi.x = k.east in
+    let south : b.lo.y ≤ℤ y = k.south in
+    is_inside (grown b) (cell x y) (record { west = omega (arith, ints, west); east = omega (arith, ints, east); south = omega (arith, ints, south); north = k.north })
+
+pub beyond_frame : (b : Extent) (f : Face) → is_face_of b f ≡ true → holds b (high_cell f) ≡ false → in_frame b (high_cell f) ≡ true
+beyond_frame b f e out = framed (holds (grown b) (high_cell f)) (holds b (high_cell f)) (in_grown b f.axis f.x f.y e) out
+
+pub passing_next : (test : Face → Bool) (g : ℕ → Face) (n : ℕ) → passing test g (n + 1) ≡ passing test g n ++ cond (test (g n)) (g n ∷ []) []
+passing_next test g n = ap (passing test g) (add-one n)
+
+pub same_face : (a : Axis) {x x' y y' : ℤ} → x ≡ x' → y ≡ y' → face a x y ≡ face a x' y'
+same_face a ex ey i = record { axis = a; x = ex i; y = ey i }
+
+pub border_faces_is : (q : Patch) → border_faces q ≡ passing (is_border q) (x_end q.bx) (height q.bx) ++ passing (is_border q) (y_end q.bx) (width q.bx)
+unfolding border_faces
+border_faces_is q = refl
+
+pub same_cell : {x x' y y' : ℤ} → x ≡ x' → y ≡ y' → cell x y ≡ cell x' y'
+same_cell ex ey i = record { x = ex i; y = ey i }

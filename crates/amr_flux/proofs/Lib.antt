@@ -5,5 +5,6 @@ mod Owned
 mod Parts
 mod Places
 mod Reciprocals
+pub mod Shown
 mod Steps
 mod Updates

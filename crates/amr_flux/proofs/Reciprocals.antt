@@ -1,8 +1,10 @@
 -- A product with a reciprocal in place of a division.
-use Rattle.std.proofs.Common.{◌≡◌, ℕ, ◌+◌, ◌-◌, ◌*◌, ◌/◌, ◌%◌, ◌^◌, ◌<◌, ◌≤◌, ℤ, ap, ◌∙◌, arith}
+use Rattle.std.proofs.Common.{◌≡◌, ℕ, ◌+◌, ◌-◌, ◌*◌, ◌/◌, ◌%◌, ◌^◌, ◌<◌, ◌≤◌, ℤ, pos, ap, sym, ◌∙◌, arith}
 use Rattle.std.specs.Prelude.{unsigned_abs}
-use Rattle.std.proofs.Math.Nat.{mul_comm, mul-le-mul_left, div-mul-le_self, lt-div-mul-add, lt_of_mul-lt-mul_left}
-use Rattle.amr_flux.specs.Shares.{IsReciprocal, share}
+use Rattle.std.proofs.Math.Nat.{div-le_of_le-mul, mul-le-mul_right, mul_comm, mul-le-mul_left, div-mul-le_self, lt-div-mul-add, lt_of_mul-lt-mul_left}
+use Rattle.std.proofs.lemmas.Int.{ints}
+use Rattle.amr_flux.specs.Rows.{IsSmallFlow}
+use Rattle.amr_flux.specs.Shares.{IsReciprocal, share_of}
 
 -- a quotient by d is below n where the dividend is below d * n
 quotient_below : (x d n : ℕ) → 0 < d → x < d * n → x / d < n
@@ -56,9 +58,22 @@ module _ (c d v m : ℕ) (some : 0 < d) (few : d ≤ 1024) (small : v < 2 ^ 31) 
   scaled : v * m / 2 ^ 41 ≡ c * v / d
   scaled = omega (arith, low, high)
 
-pub exact : (c : ℤ) (d whole rest v : ℕ) → IsReciprocal c d whole rest → v < 2 ^ 31 → (v * whole + v * rest / 1024) / 2 ^ 31 ≡ share c d v
+pub exact : (c : ℤ) (d whole rest v : ℕ) → IsReciprocal c d whole rest → v < 2 ^ 31 → (v * whole + v * rest / 1024) / 2 ^ 31 ≡ share_of c d v
 exact c d whole rest v r small =
     let m : ℕ = whole * 1024 + rest in
     let joined : v * whole + v * rest / 1024 ≡ v * m / 1024 = omega arith in
     let divided : v * m / 1024 / 2 ^ 31 ≡ v * m / 2 ^ 41 = omega arith in
     ap (λ n. n / 2 ^ 31) joined ∙ divided ∙ scaled (unsigned_abs c) d v m r.some r.few small r.places
+
+-- one product where the last ten places are 0
+pub exact_short : (c : ℤ) (d whole rest v : ℕ) → IsReciprocal c d whole rest → rest ≡ 0 → v < 2 ^ 31 → v * whole / 2 ^ 31 ≡ share_of c d v
+exact_short c d whole rest v r short small =
+    let none : v * rest ≡ 0 = omega (arith, ap (λ n. v * n) short) in
+    let same : v * whole + v * rest / 1024 ≡ v * whole = omega (arith, none) in
+    ap (λ n. n / 2 ^ 31) (sym same) ∙ exact c d whole rest v r small
+
+-- a share of a small mass is a small flow
+pub share_small : (c : ℤ) (d whole rest v : ℕ) → IsReciprocal c d whole rest → v < 2 ^ 31 → IsSmallFlow (pos (share_of c d v))
+share_small c d whole rest v r small =
+    let most : unsigned_abs c * v / d ≤ v = div-le_of_le-mul d (mul-le-mul_right v r.slow) in
+    record { low = omega (arith, ints); high = omega (arith, ints, most) }

@@ -1,5 +1,5 @@
 -- The faces of a patch: which it owns, and in which order the fluxes of the others are handed in.
-use Rattle.std.specs.Prelude.{ℕ, zero, suc, ◌+◌, Bool, ◌&&◌, ◌||◌, not, cond, ℤ, pos, ◌+ℤ◌, ◌-ℤ◌, List, [], ◌∷◌, ◌++◌, length, slice_index, IsTrue}
+use Rattle.std.specs.Prelude.{◌≡◌, ℕ, zero, suc, ◌+◌, Bool, ◌&&◌, ◌||◌, not, cond, ℤ, pos, ◌+ℤ◌, ◌-ℤ◌, List, [], ◌∷◌, ◌++◌, length, slice_index, IsTrue}
 use Rattle.amr_box.specs.declared.Cell.{Cell}
 use Rattle.amr_box.specs.declared.Face.{Face}
 use Rattle.amr_box.specs.declared.Axis.{Axis}
@@ -7,6 +7,8 @@ use Rattle.amr_box.specs.declared.Axis.TheVariants.{X, Y}
 use Rattle.amr_box.specs.Cells.{Extent, at_least_zero, height, holds, width, within}
 use Rattle.amr_def.specs.declared.problem.Problem.{Problem}
 use Rattle.amr_def.specs.Domain.{Domain, in_domain}
+use Rattle.amr_def.specs.State.{Masses}
+use Rattle.amr_def.specs.Value.{value_at}
 use Rattle.amr_def.specs.Flux.{Fluxes, courant, face, flow, high_cell, low_cell}
 use Rattle.amr_patch.specs.declared.patches.Patch.{Patch}
 use Rattle.amr_patch.specs.Places.{grown, is_face_of}
@@ -37,6 +39,10 @@ owns q f = is_face_of (box q) f && not (is_border q f)
 -- what flows through a face by the values that the patch has on its two sides
 unfoldable pub flux_beside : Problem → ℕ → Patch → Face → ℤ
 flux_beside p l q f = flow (courant p l f) p.d (value_in q (low_cell f)) (value_in q (high_cell f))
+
+-- the patch has the value of each cell of a level in reach: of masses m, with the coarser masses `old`
+pub record ShowsValues (p : Problem) (l : ℕ) (m old : Masses) (q : Patch) : Type 0 where
+  pub at : (c : Cell) → IsTrue (in_reach (box q) c) → value_in q c ≡ value_at p l m old c
 
 -- ---- the order of border faces
 

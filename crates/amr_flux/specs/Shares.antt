@@ -2,8 +2,8 @@
 use Rattle.std.specs.Prelude.{◌≡◌, ℕ, ◌+◌, ◌-◌, ◌*◌, ◌/◌, ◌^◌, ◌<◌, ◌≤◌, ℤ, unsigned_abs, List, length, slice_index}
 
 -- the size of the flow out of a cell of mass v at Courant number c/d (donor cell)
-abbrev pub share : ℤ → ℕ → ℕ → ℕ
-share c d v = unsigned_abs c * v / d
+abbrev pub share_of : ℤ → ℕ → ℕ → ℕ
+share_of c d v = unsigned_abs c * v / d
 
 -- |c|/d, at most 1, with 41 places after the binary point, rounded up: the first 31 are `whole`, the other ten `rest`
 pub record IsReciprocal (c : ℤ) (d whole rest : ℕ) : Type 0 where

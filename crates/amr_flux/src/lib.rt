@@ -4,13 +4,17 @@
 mod border;
 mod fluxes;
 mod masses;
+mod order;
 mod rows;
 mod shape;
 mod share;
 mod sweep_x;
 mod sweep_y;
+#[cfg(test)]
+mod tests;
 mod update_rows;
 
 pub use crate::fluxes::sweep;
 pub use crate::masses::update;
+pub use crate::order::border_faces;
 pub use crate::share::Share;

@@ -1,11 +1,38 @@
 //! Fluxes and new masses, a row at a time.
 
-ghost use Rattle.std.specs.Prelude.{◌≡◌, ℕ, ◌+◌, ◌<◌, length, slice_index, slice_index_or, pos, ◌+ℤ◌, ◌-ℤ◌, ◌≤ℤ◌, ◌^◌};
+ghost use Rattle.std.specs.Prelude.{◌≡◌, neg_ℤ, ℕ, ◌+◌, ◌<◌, length, slice_index, slice_index_or, pos, ◌+ℤ◌, ◌-ℤ◌, ◌≤ℤ◌, ◌^◌};
 ghost use Rattle.amr_def.specs.Flux.{flow};
 ghost use Rattle.amr_flux.specs.Rows.{AreSmallFlows, IsSmallFlow, inflow};
-ghost use Rattle.amr_flux.specs.Shares.{AreSmall};
+ghost use Rattle.amr_flux.specs.Shares.{AreSmall, share_of};
 
 use crate::share::Share;
+
+/// The sizes of the flows out of these cells, place by place.
+fn sizes(share: Share, cells: &[u64], sizes: &mut [i64])
+    requires count { length cells.now ≡ length sizes.old }
+    requires small { AreSmall cells.now }
+    ensures { (k : ℕ) → k < length sizes.old → slice_index_or sizes.new k (pos 0) ≡ pos (share_of share.number share.parts (slice_index cells.now k)) }
+{
+    if share.is_short() {
+        for k in 0..sizes.len() {
+            sizes[k] = share.short_size(cells[k]) as i64;
+        }
+    } else {
+        for i in 0..sizes.len() {
+            sizes[i] = share.size(cells[i]) as i64;
+        }
+    }
+}
+
+/// Turns flows round.
+fn turn(flows: &mut [i64])
+    requires { AreSmallFlows flows.old }
+    ensures { (k : ℕ) → k < length flows.old → slice_index_or flows.new k (pos 0) ≡ neg_ℤ (slice_index_or flows.old k (pos 0)) }
+{
+    for k in 0..flows.len() {
+        flows[k] = -flows[k];
+    }
+}
 
 /// The fluxes through faces between these cells, place by place.
 pub(crate) fn face_fluxes(share: Share, low: &[u64], high: &[u64], fluxes: &mut [i64])
@@ -15,8 +42,11 @@ pub(crate) fn face_fluxes(share: Share, low: &[u64], high: &[u64], fluxes: &mut 
     requires high_small { AreSmall high.now }
     ensures { (k : ℕ) → k < length fluxes.old → slice_index_or fluxes.new k (pos 0) ≡ flow share.number share.parts (slice_index low.now k) (slice_index high.now k) }
 {
-    for k in 0..fluxes.len() {
-        fluxes[k] = share.flow(low[k], high[k]);
+    if share.number < 0 {
+        sizes(share, high, fluxes);
+        turn(fluxes);
+    } else {
+        sizes(share, low, fluxes);
     }
 }
 

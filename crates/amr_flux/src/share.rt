@@ -1,8 +1,8 @@
 //! How much of a cell's mass flows out of it in a step.
 
-ghost use Rattle.std.specs.Prelude.{◌≡◌, ℕ, ◌+◌, ◌*◌, ◌/◌, ◌^◌, ◌<◌, ◌≤◌, unsigned_abs};
+ghost use Rattle.std.specs.Prelude.{◌≡◌, ℕ, ◌+◌, ◌*◌, ◌/◌, ◌^◌, ◌<◌, ◌≤◌, IsTrue, unsigned_abs};
 ghost use Rattle.amr_def.specs.Flux.{flow};
-ghost use Rattle.amr_flux.specs.Shares.{IsReciprocal, share};
+ghost use Rattle.amr_flux.specs.Shares.{IsReciprocal, share_of};
 
 /// 2 to the 41: a share of a mass below 2^31 is exact if the number has so many binary places.
 const PLACES: u64 = 2199023255552;
@@ -60,12 +60,32 @@ impl Share {
         }
     }
 
+    /// Whether 31 binary places give the number, as where `parts` is a power of two.
+    pub(crate) fn is_short(&self) -> bool
+        ensures { IsTrue result → self.now.rest ≡ 0 }
+    {
+        self.rest == 0
+    }
+
+    /// The size of the flow out of a cell of this mass, by one product.
+    #[inline(always)]
+    #[tactic(auto, using(crate::proofs::Reciprocals::exact_short))]
+    pub(crate) fn short_size(&self, mass: u64) -> u64
+        requires short { self.now.rest ≡ 0 }
+        requires small { mass < 2 ^ 31 }
+        ensures value { result ≡ share_of self.now.number self.now.parts mass }
+        ensures bound { result ≤ mass }
+    {
+        let mass = u64::from(mass as u32);
+        mass * u64::from(self.whole) / WHOLE
+    }
+
     /// The size of the flow out of a cell of this mass.
     #[inline(always)]
     #[tactic(auto, using(crate::proofs::Reciprocals::exact))]
     pub fn size(&self, mass: u64) -> u64
         requires small { mass < 2 ^ 31 }
-        ensures value { result ≡ share self.now.number self.now.parts mass }
+        ensures value { result ≡ share_of self.now.number self.now.parts mass }
         ensures bound { result ≤ mass }
     {
         let mass = u64::from(mass as u32);
