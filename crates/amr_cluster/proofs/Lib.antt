@@ -6,3 +6,5 @@ pub mod Rounds
 pub mod Waiting
 pub mod Tagged
 pub mod Spans
+pub mod Inner
+pub mod GrownTags

@@ -1,25 +1,22 @@
 -- The tags of a box by its signatures: where an entry is 0 there is none, and else there is one.
 use Rattle.std.proofs.Common.{◌≡◌, ◌⊎◌, inl, inr, ℕ, ◌+◌, ◌<◌, ◌≤◌, Bool, true, false, cond, ◌&&◌, ℤ, pos, negsuc, ◌+ℤ◌, ◌-ℤ◌, ◌≤ℤ◌, List, [], ◌∷◌, length, refl, sym, ap, subst, ◌∙◌, arith}
-use Rattle.std.specs.Prelude.{slice_index, IsSome, IfSome, MatchOption}
-use Rattle.std.specs.declared.option.Option.{Option}
-use Rattle.std.specs.declared.option.Option.TheVariants.{None, Some}
+use Rattle.std.specs.Prelude.{slice_index}
 use Rattle.std.specs.List.{count_by}
 use Rattle.std.specs.Ordering.{int_eq}
 use Rattle.std.proofs.lemmas.Int.{ints}
 use Rattle.std.proofs.lemmas.Bool.{cases_lt, false≢true}
 use Rattle.std.proofs.lemmas.List.Sums.{sum_by-cons}
-use Rattle.std.proofs.lemmas.List.FromFn.{get_or-map-range_with_len, length-map-range_with_len}
 use Rattle.amr_box.specs.declared.Cell.{Cell}
 use Rattle.amr_box.specs.declared.Axis.{Axis}
 use Rattle.amr_box.specs.declared.Axis.TheVariants.{X, Y}
-use Rattle.amr_box.specs.Cells.{Extent, IsNear, along, cells_of, height, holds, width}
+use Rattle.amr_box.specs.Cells.{Extent, IsNear, along, cells_of, holds}
 use Rattle.amr_box.proofs.Boxes.{int_le-yes}
 use Rattle.amr_def.specs.Signature.{signature}
 use Rattle.amr_def.proofs.ClusterLaws.{Each, both_true, each_both, each_kept, each_passes}
 use Rattle.amr_tags.specs.TagSets.{IsLeastBox}
 use Rattle.amr_cluster.specs.Work.{IsSpan, LiesIn, cells_in}
 use Rattle.amr_cluster.proofs.Rounds.{HoldsCell, held, member, own_cells}
-use Rattle.amr_cluster.proofs.Tagged.{size-is}
+use Rattle.amr_cluster.proofs.Tagged.{signature-at, signature-length, size-is, size_along}
 
 bit_some : (t : Bool) (n : ℕ) → cond t 1 0 + n ≡ 0 → (t ≡ false) × (n ≡ 0)
 bit_some true n e = absurd (omega arith)
@@ -39,19 +36,7 @@ count_some p Q (c ∷ cs) h all = choose (p c) refl (subst (λ (n : ℕ). 1 ≤ 
     choose true e g rest = (c, all.0, e)
     choose false e g rest = rest (omega arith)
 
-abbrev size_along : Axis → Extent → ℕ
-size_along X b = width b
-size_along Y b = height b
-
-signature-length : (a : Axis) (cells : List Cell) (b : Extent) → length (signature a cells b) ≡ size_along a b
-signature-length X cells b = length-map-range_with_len _ 0 (width b)
-signature-length Y cells b = length-map-range_with_len _ 0 (height b)
-
-signature-at : (a : Axis) (cells : List Cell) (b : Extent) (i : ℕ) → i < size_along a b → slice_index (signature a cells b) i ≡ count_by (λ c. int_eq (along a c) (along a b.lo +ℤ pos i)) cells
-signature-at X cells b i h = get_or-map-range_with_len _ 0 (width b) i i 0 h (omega arith)
-signature-at Y cells b i h = get_or-map-range_with_len _ 0 (height b) i i 0 h (omega arith)
-
-size_along-is : (a : Axis) (b : Extent) → IsNear b → pos (size_along a b) ≡ along a b.hi +ℤ pos 1 -ℤ along a b.lo
+pub size_along-is : (a : Axis) (b : Extent) → IsNear b → pos (size_along a b) ≡ along a b.hi +ℤ pos 1 -ℤ along a b.lo
 size_along-is X b near = size-is b.lo.x b.hi.x near.wide
 size_along-is Y b near = size-is b.lo.y b.hi.y near.high
 
@@ -141,11 +126,8 @@ least_of has part b west east south north w e s n xs ys = record {
     inside : (c : Cell) → b.lo.x ≤ℤ c.x → c.x ≤ℤ b.hi.x → b.lo.y ≤ℤ c.y → c.y ≤ℤ b.hi.y → holds b c ≡ true
     inside c h i j k = rw (int_le-yes b.lo.x c.x h, int_le-yes c.x b.hi.x i, int_le-yes b.lo.y c.y j, int_le-yes c.y b.hi.y k) refl
 
-pub span_bound : (a : Axis) (cells : List Cell) (part : Extent) (counts : List ℕ) (first last : ℕ) → IsNear part → counts ≡ signature a cells part → IsSpan counts first last → ((along a part.lo +ℤ pos first) ≤ℤ (along a part.lo +ℤ pos last)) × ((along a part.lo +ℤ pos last) ≤ℤ along a part.hi)
-span_bound a cells part counts first last near e span =
+-- the ends of a span lie in the box
+pub span_inside : (a : Axis) (cells : List Cell) (part : Extent) (counts : List ℕ) (first last : ℕ) → counts ≡ signature a cells part → IsSpan counts first last → last < size_along a part
+span_inside a cells part counts first last e span =
     let size : length counts ≡ size_along a part = ap length e ∙ signature-length a cells part in
-    (omega (arith, ints, span.order), omega (arith, ints, span.inside, size, size_along-is a part near))
-
-pub match_some : (o : Option Extent) (e : Extent) (N : Type 0) (Q : Extent → Type 0) → IfSome o (λ b. b ≡ e) → IsSome o → ((b : Extent) → b ≡ e → Q b) → MatchOption o N Q
-match_some None e N Q is some f = cc
-match_some (Some b) e N Q is some f = f b is
+    omega (arith, span.inside)

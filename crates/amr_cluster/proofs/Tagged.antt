@@ -1,26 +1,29 @@
 -- Tags as rows of bits: the cells of a box are the bits of the same box counted from the low corner of the rows.
-use Rattle.std.proofs.Common.{◌≡◌, ℕ, ◌*◌, ◌/◌, ◌%◌, ◌^◌, ◌<◌, ◌≤◌, Bool, true, false, cond, ◌&&◌, ℤ, pos, negsuc, ◌+ℤ◌, ◌-ℤ◌, ◌≤ℤ◌, ◌<ℤ◌, List, [], ◌∷◌, map, length, refl, sym, ap, ◌∙◌, arith}
-use Rattle.std.specs.Prelude.{unsigned_abs, int_le, nat_le}
-use Rattle.std.specs.List.{count_by, filter, range_with_len}
+use Rattle.std.proofs.Common.{◌≡◌, ℕ, ◌+◌, ◌-◌, ◌*◌, ◌/◌, ◌%◌, ◌^◌, ◌<◌, ◌≤◌, Bool, true, cond, ◌&&◌, ℤ, pos, negsuc, ◌+ℤ◌, ◌-ℤ◌, ◌≤ℤ◌, ◌<ℤ◌, List, map, drop, length, refl, sym, ap, ◌∙◌, arith}
+use Rattle.std.specs.Prelude.{unsigned_abs, int_le, nat_le, slice_index}
+use Rattle.std.specs.declared.option.Option.TheVariants.{None}
+use Rattle.std.specs.List.{count_by, range_with_len, slice_range, sum_by}
+use Rattle.std.specs.Ordering.{int_eq}
 use Rattle.std.proofs.lemmas.Int.{ints}
-use Rattle.std.proofs.lemmas.List.Sums.{length-filter}
-use Rattle.std.proofs.lemmas.List.FromFn.{length-map-range_with_len}
+use Rattle.std.proofs.lemmas.List.{get_or-drop, get_or-take, length-drop, length-take-le}
+use Rattle.std.proofs.lemmas.List.FromFn.{fill_by_all, get_or-map-range_with_len, length-map-range_with_len}
 use Rattle.std.proofs.Math.Nat.{mul-div_cancel, mul-mod_left}
 use Rattle.amr_box.specs.declared.Cell.{Cell}
 use Rattle.amr_box.specs.declared.Axis.{Axis}
 use Rattle.amr_box.specs.declared.Axis.TheVariants.{X, Y}
-use Rattle.amr_box.specs.Cells.{Extent, HasCorners, IsNear, at_least_zero, cell, cells_of, height, holds, width, within}
+use Rattle.amr_box.specs.Cells.{Extent, HasCorners, IsNear, along, at_least_zero, cell, height, holds, width, within}
 use Rattle.amr_box.proofs.Boxes.{int_le-yes}
-use Rattle.amr_def.specs.Signature.{is_efficient, signature}
+use Rattle.amr_def.specs.Signature.{signature}
+use Rattle.amr_def.specs.Cut.{best_cut}
+use Rattle.amr_def.specs.Cluster.{cut_of}
 use Rattle.amr_sign.specs.Counts.{count_to}
 use Rattle.amr_sign.specs.Words.{LiesInRows, bit_cells, is_bit_set}
 use Rattle.amr_sign.specs.Words.{bit_of as row_bit_of}
 use Rattle.amr_sign.proofs.Bits.{count_to-same_below}
-use Rattle.amr_sign.proofs.Counts.{columns-are, map_to-same, rows-are}
+use Rattle.amr_sign.proofs.Counts.{columns-are, map_to-same, rows-are, rows-total}
 use Rattle.amr_tags.specs.Bits.{bit_of, words_for}
 use Rattle.amr_tags.specs.TagSets.{IsLaidOut, TagSet, has}
-use Rattle.amr_cluster.proofs.Windows.{cells_of-window}
-use Rattle.amr_cluster.specs.Work.{LiesIn, cells_in}
+use Rattle.amr_cluster.specs.Work.{LiesIn, cells_in, cut_by}
 
 -- ---- sizes
 
@@ -41,6 +44,10 @@ size-is low high h = of (high +ℤ pos 1 -ℤ low) (omega (arith, ints))
     of (pos n) g = refl
     of (negsuc n) g = absurd (omega (arith, ints))
 
+abbrev pub size_along : Axis → Extent → ℕ
+size_along X b = width b
+size_along Y b = height b
+
 pub signature-short : (axis : Axis) (cells : List Cell) (b : Extent) → IsNear b → length (signature axis cells b) < 2 ^ 32
 signature-short X cells b near =
     let size : pos (width b) ≡ b.hi.x +ℤ pos 1 -ℤ b.lo.x = size-is b.lo.x b.hi.x near.wide in
@@ -49,25 +56,45 @@ signature-short Y cells b near =
     let size : pos (height b) ≡ b.hi.y +ℤ pos 1 -ℤ b.lo.y = size-is b.lo.y b.hi.y near.high in
     rw length-map-range_with_len (omega (arith, ints, size, near.south, near.north))
 
-filter_both : (p q : Cell → Bool) (cs : List Cell) → filter (λ c. p c && q c) cs ≡ filter q (filter p cs)
-filter_both p q [] = refl
-filter_both p q (c ∷ cs) = choose (p c) (filter_both p q cs)
+-- the signature is as long as the box, and its entries add up to the cells
+pub signature-length : (a : Axis) (cells : List Cell) (b : Extent) → length (signature a cells b) ≡ size_along a b
+signature-length X cells b = length-map-range_with_len _ 0 (width b)
+signature-length Y cells b = length-map-range_with_len _ 0 (height b)
+
+pub signature-at : (a : Axis) (cells : List Cell) (b : Extent) (i : ℕ) → i < size_along a b → slice_index (signature a cells b) i ≡ count_by (λ c. int_eq (along a c) (along a b.lo +ℤ pos i)) cells
+signature-at X cells b i h = get_or-map-range_with_len _ 0 (width b) i i 0 h (omega arith)
+signature-at Y cells b i h = get_or-map-range_with_len _ 0 (height b) i i 0 h (omega arith)
+
+-- a box round tags is cut by its signatures as it is by its cells
+pub cut_by-is : (efficiency w : ℕ) (has : Cell → Bool) (b : Extent) → cut_by efficiency w (signature X (cells_in has b) b) (signature Y (cells_in has b) b) ≡ cut_of efficiency w (cells_in has b) b
+cut_by-is efficiency w has b =
+    let xs = signature X (cells_in has b) b in
+    let ys = signature Y (cells_in has b) b in
+    ap (λ (n : ℕ). cond (nat_le (efficiency * (n * length ys)) (100 * sum_by (λ k. k) ys)) None (best_cut w xs ys)) (signature-length X (cells_in has b) b)
+    ∙ ap (λ (n : ℕ). cond (nat_le (efficiency * (width b * n)) (100 * sum_by (λ k. k) ys)) None (best_cut w xs ys)) (signature-length Y (cells_in has b) b)
+    ∙ ap (λ (n : ℕ). cond (nat_le (efficiency * (width b * height b)) (100 * n)) None (best_cut w xs ys)) (rows-total has b)
+
+-- the signature of a box within another, of the same cells, stands in that of the larger one
+pub signature-within : (a : Axis) (cells : List Cell) (part b : Extent) (first last : ℕ) → along a b.lo ≡ along a part.lo +ℤ pos first → size_along a b ≡ last + 1 - first → first ≤ last → last < size_along a part → slice_range (signature a cells part) first (last + 1) ≡ signature a cells b
+signature-within a cells part b first last at size order inside =
+    let whole = signature a cells part in
+    let entry : ℕ → ℕ = λ k. count_by (λ c. int_eq (along a c) (along a b.lo +ℤ pos k)) cells in
+    let short : last + 1 ≤ length whole = rw (signature-length a cells part) (omega arith) in
+    let left : length (drop first whole) ≡ length whole - first = length-drop first whole in
+    fill_by_all entry (slice_range whole first (last + 1)) (last + 1 - first) 0 (length-take-le (last + 1 - first) (drop first whole) (omega (arith, left, short))) value
+    ∙ sym (listed a size)
   where
-    choose : (t : Bool) → filter (λ c. p c && q c) cs ≡ filter q (filter p cs) → cond (t && q c) (c ∷ filter (λ c. p c && q c) cs) (filter (λ c. p c && q c) cs) ≡ filter q (cond t (c ∷ filter p cs) (filter p cs))
-    choose true e = ap (λ (ks : List Cell). cond (q c) (c ∷ ks) ks) e
-    choose false e = e
+    value : (k : ℕ) → k < last + 1 - first → slice_index (slice_range (signature a cells part) first (last + 1)) k ≡ count_by (λ c. int_eq (along a c) (along a b.lo +ℤ pos k)) cells
+    value k h =
+        let same : (along a part.lo +ℤ pos (first + k)) ≡ along a b.lo +ℤ pos k = omega (arith, ints, at) in
+        get_or-take (last + 1 - first) (drop first (signature a cells part)) k 0 h
+        ∙ get_or-drop first (signature a cells part) k 0
+        ∙ signature-at a cells part (first + k) (omega arith)
+        ∙ ap (λ (z : ℤ). count_by (λ c. int_eq (along a c) z) cells) same
 
--- the count of the tags in a box
-pub count-is : (has : Cell → Bool) (b larger : Extent) → LiesIn b larger → count_by (λ c. holds b c && has c) (cells_of larger) ≡ length (cells_in has b)
-count-is has b larger inside =
-    sym (length-filter (λ c. holds b c && has c) (cells_of larger))
-    ∙ ap length (filter_both (holds b) has (cells_of larger) ∙ ap (filter has) (cells_of-window larger b inside))
-
-pub efficient-is : (efficiency e area count tags : ℕ) (has : Cell → Bool) (b larger : Extent) → LiesIn b larger → e ≡ efficiency → area ≡ width b * height b → tags ≡ count → count ≡ count_by (λ c. holds b c && has c) (cells_of larger) → nat_le (e * area) (100 * tags) ≡ is_efficient efficiency (length (cells_in has b)) b
-efficient-is efficiency e area count tags has b larger inside same_e is same counted =
-    ap (λ (n : ℕ). nat_le (n * area) (100 * tags)) same_e
-    ∙ ap (λ (n : ℕ). nat_le (efficiency * n) (100 * tags)) is
-    ∙ ap (λ (n : ℕ). nat_le (efficiency * (width b * height b)) (100 * n)) (same ∙ counted ∙ count-is has b larger inside)
+    listed : (x : Axis) → size_along x b ≡ last + 1 - first → signature x cells b ≡ map (λ k. count_by (λ c. int_eq (along x c) (along x b.lo +ℤ pos k)) cells) (range_with_len 0 (last + 1 - first))
+    listed X e = ap (λ (n : ℕ). map (λ k. count_by (λ c. int_eq c.x (b.lo.x +ℤ pos k)) cells) (range_with_len 0 n)) e
+    listed Y e = ap (λ (n : ℕ). map (λ k. count_by (λ c. int_eq c.y (b.lo.y +ℤ pos k)) cells) (range_with_len 0 n)) e
 
 -- ---- a box counted from the low corner of the tags
 

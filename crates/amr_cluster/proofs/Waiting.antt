@@ -16,34 +16,35 @@ use Rattle.amr_def.specs.Cluster.{cells_below, cells_from, cluster, cluster_with
 use Rattle.amr_def.specs.State.{in_boxes}
 use Rattle.amr_def.proofs.ClusterLaws.{Apart, ApartFrom, Disjoint, cluster-disjoint}
 use Rattle.amr_cluster.specs.Laws.{IsInside, IsRound}
-use Rattle.amr_cluster.specs.Work.{LiesIn, IsWork, cells_in, waiting, work_left}
+use Rattle.amr_cluster.specs.declared.pieces.Piece.{Piece}
+use Rattle.amr_cluster.specs.Work.{LiesIn, IsCutAs, IsWork, cells_in, waiting, work_left}
 use Rattle.amr_cluster.proofs.Fuel.{cluster-cut, cut_inside, fewer_below, fewer_from}
 use Rattle.amr_cluster.proofs.Rounds.{cells_below-in, cells_from-in}
 use Rattle.amr_cluster.proofs.Sound.{apart_is}
 
 module _ (efficiency w : ℕ) (has : Cell → Bool) where
-  pub waiting-push : (work : List Extent) (b : Extent) → waiting efficiency w has (work ++ b ∷ []) ≡ cluster efficiency w (cells_in has b) ++ waiting efficiency w has work
-  waiting-push [] b = none_after (cluster efficiency w (cells_in has b))
+  pub waiting-push : (work : List Piece) (p : Piece) → waiting efficiency w has (work ++ p ∷ []) ≡ cluster efficiency w (cells_in has p.bx) ++ waiting efficiency w has work
+  waiting-push [] p = none_after (cluster efficiency w (cells_in has p.bx))
     where
       none_after : (bs : List Extent) → bs ≡ bs ++ []
       none_after [] = refl
       none_after (d ∷ bs) = ap (λ (ds : List Extent). d ∷ ds) (none_after bs)
-  waiting-push (d ∷ work) b =
-      ap (λ (bs : List Extent). bs ++ cluster efficiency w (cells_in has d)) (waiting-push work b)
-      ∙ append_assoc (cluster efficiency w (cells_in has b)) (waiting efficiency w has work) (cluster efficiency w (cells_in has d))
+  waiting-push (d ∷ work) p =
+      ap (λ (bs : List Extent). bs ++ cluster efficiency w (cells_in has d.bx)) (waiting-push work p)
+      ∙ append_assoc (cluster efficiency w (cells_in has p.bx)) (waiting efficiency w has work) (cluster efficiency w (cells_in has d.bx))
+
+  pub IsWork-push : (larger : Extent) (work : List Piece) (p : Piece) → IsWork efficiency w has larger work → IsRound p.bx (cells_in has p.bx) → LiesIn p.bx larger → IsCutAs efficiency w has p → IsWork efficiency w has larger (work ++ p ∷ [])
+  IsWork-push larger [] p h round inside cut = (round, inside, cut, tt)
+  IsWork-push larger (d ∷ work) p h round inside cut = (h.0, h.1, h.2, IsWork-push larger work p h.3 round inside cut)
+
+  pub IsWork-pop : (larger : Extent) (work : List Piece) (p : Piece) → IsWork efficiency w has larger (work ++ p ∷ []) → IsRound p.bx (cells_in has p.bx) × LiesIn p.bx larger × IsCutAs efficiency w has p × IsWork efficiency w has larger work
+  IsWork-pop larger [] p h = (h.0, h.1, h.2, tt)
+  IsWork-pop larger (d ∷ work) p h = let rest = IsWork-pop larger work p h.3 in (rest.0, rest.1, rest.2, (h.0, h.1, h.2, rest.3))
 
 module _ (has : Cell → Bool) where
-  pub work_left-push : (work : List Extent) (b : Extent) → work_left has (work ++ b ∷ []) ≡ work_left has work + (2 * length (cells_in has b) - 1)
-  work_left-push [] b = refl
-  work_left-push (d ∷ work) b = let rest : work_left has (work ++ b ∷ []) ≡ work_left has work + (2 * length (cells_in has b) - 1) = work_left-push work b in omega arith
-
-  pub IsWork-push : (larger : Extent) (work : List Extent) (b : Extent) → IsWork has larger work → IsRound b (cells_in has b) → LiesIn b larger → IsWork has larger (work ++ b ∷ [])
-  IsWork-push larger [] b h round inside = (round, inside, tt)
-  IsWork-push larger (d ∷ work) b h round inside = (h.0, h.1, IsWork-push larger work b h.2 round inside)
-
-  pub IsWork-pop : (larger : Extent) (work : List Extent) (b : Extent) → IsWork has larger (work ++ b ∷ []) → IsRound b (cells_in has b) × LiesIn b larger × IsWork has larger work
-  IsWork-pop larger [] b h = (h.0, h.1, tt)
-  IsWork-pop larger (d ∷ work) b h = let rest = IsWork-pop larger work b h.2 in (rest.0, rest.1, (h.0, h.1, rest.2))
+  pub work_left-push : (work : List Piece) (p : Piece) → work_left has (work ++ p ∷ []) ≡ work_left has work + (2 * length (cells_in has p.bx) - 1)
+  work_left-push [] p = refl
+  work_left-push (d ∷ work) p = let rest : work_left has (work ++ p ∷ []) ≡ work_left has work + (2 * length (cells_in has p.bx) - 1) = work_left-push work p in omega arith
 
 -- ---- what the cluster of a box's cells is
 
@@ -128,58 +129,58 @@ none_after [] = refl
 none_after (b ∷ bs) = ap (λ (ds : List Extent). b ∷ ds) (none_after bs)
 
 -- what is done, and what is left, of the boxes of all cells
-pub record IsTurn (efficiency w : ℕ) (has : Cell → Bool) (larger : Extent) (boxes work : List Extent) : Type 0 where
+pub record IsTurn (efficiency w : ℕ) (has : Cell → Bool) (larger : Extent) (boxes : List Extent) (work : List Piece) : Type 0 where
   pub total : boxes ++ waiting efficiency w has work ≡ cluster efficiency w (cells_in has larger)
-  pub listed : IsWork has larger work
+  pub listed : IsWork efficiency w has larger work
 
-pub turn_first : (efficiency w : ℕ) (has : Cell → Bool) (larger : Extent) (work : List Extent) → waiting efficiency w has work ≡ cluster efficiency w (cells_in has larger) ++ [] → IsWork has larger work → IsTurn efficiency w has larger [] work
+pub turn_first : (efficiency w : ℕ) (has : Cell → Bool) (larger : Extent) (work : List Piece) → waiting efficiency w has work ≡ cluster efficiency w (cells_in has larger) ++ [] → IsWork efficiency w has larger work → IsTurn efficiency w has larger [] work
 turn_first efficiency w has larger work e listed = record { total = e ∙ none_after (cluster efficiency w (cells_in has larger)); listed = listed }
 
-pub turn_last : (efficiency w : ℕ) (has : Cell → Bool) (larger : Extent) (boxes work : List Extent) → IsTurn efficiency w has larger boxes work → length work ≡ 0 → boxes ≡ cluster efficiency w (cells_in has larger)
+pub turn_last : (efficiency w : ℕ) (has : Cell → Bool) (larger : Extent) (boxes : List Extent) (work : List Piece) → IsTurn efficiency w has larger boxes work → length work ≡ 0 → boxes ≡ cluster efficiency w (cells_in has larger)
 turn_last efficiency w has larger boxes work turn none =
-    sym (ap (λ (ds : List Extent). boxes ++ waiting efficiency w has ds) (empty_of work none) ∙ none_after boxes) ∙ turn.total
+    sym (ap (λ (ds : List Piece). boxes ++ waiting efficiency w has ds) (empty_of work none) ∙ none_after boxes) ∙ turn.total
 
 -- the box that is next, and the others
-module _ (efficiency w : ℕ) (has : Cell → Bool) (larger : Extent) (least : 1 ≤ w) (boxes old work : List Extent) (b : Extent) (turn : IsTurn efficiency w has larger boxes old) (popped : old ≡ work ++ b ∷ []) where
-  pub next : IsRound b (cells_in has b) × LiesIn b larger × IsWork has larger work
-  next = IsWork-pop has larger work b (subst (IsWork has larger) popped turn.listed)
+module _ (efficiency w : ℕ) (has : Cell → Bool) (larger : Extent) (least : 1 ≤ w) (boxes : List Extent) (old work : List Piece) (p : Piece) (turn : IsTurn efficiency w has larger boxes old) (popped : old ≡ work ++ p ∷ []) where
+  pub next : IsRound p.bx (cells_in has p.bx) × LiesIn p.bx larger × IsCutAs efficiency w has p × IsWork efficiency w has larger work
+  next = IsWork-pop efficiency w has larger work p (subst (IsWork efficiency w has larger) popped turn.listed)
 
-  next_total : boxes ++ (cluster efficiency w (cells_in has b) ++ waiting efficiency w has work) ≡ cluster efficiency w (cells_in has larger)
-  next_total = ap (λ (bs : List Extent). boxes ++ bs) (sym (ap (waiting efficiency w has) popped ∙ waiting-push efficiency w has work b)) ∙ turn.total
+  next_total : boxes ++ (cluster efficiency w (cells_in has p.bx) ++ waiting efficiency w has work) ≡ cluster efficiency w (cells_in has larger)
+  next_total = ap (λ (bs : List Extent). boxes ++ bs) (sym (ap (waiting efficiency w has) popped ∙ waiting-push efficiency w has work p)) ∙ turn.total
 
-  next_left : work_left has old ≡ work_left has work + (2 * length (cells_in has b) - 1)
-  next_left = ap (work_left has) popped ∙ work_left-push has work b
+  next_left : work_left has old ≡ work_left has work + (2 * length (cells_in has p.bx) - 1)
+  next_left = ap (work_left has) popped ∙ work_left-push has work p
 
-  uncut_total : cut_of efficiency w (cells_in has b) b ≡ None → boxes ++ (b ∷ waiting efficiency w has work) ≡ cluster efficiency w (cells_in has larger)
-  uncut_total e = ap (λ (bs : List Extent). boxes ++ (bs ++ waiting efficiency w has work)) (sym (uncut efficiency w has b larger least next.0 next.1 e)) ∙ next_total
+  uncut_total : cut_of efficiency w (cells_in has p.bx) p.bx ≡ None → boxes ++ (p.bx ∷ waiting efficiency w has work) ≡ cluster efficiency w (cells_in has larger)
+  uncut_total e = ap (λ (bs : List Extent). boxes ++ (bs ++ waiting efficiency w has work)) (sym (uncut efficiency w has p.bx larger least next.0 next.1 e)) ∙ next_total
 
-  pub uncut_apart : cut_of efficiency w (cells_in has b) b ≡ None → (c : Cell) → (in_boxes boxes c && holds b c) ≡ false
-  uncut_apart e = apart_before boxes b (waiting efficiency w has work) (subst Disjoint (sym (uncut_total e)) (cluster-disjoint efficiency w (cells_in has larger)))
+  pub uncut_apart : cut_of efficiency w (cells_in has p.bx) p.bx ≡ None → (c : Cell) → (in_boxes boxes c && holds p.bx c) ≡ false
+  uncut_apart e = apart_before boxes p.bx (waiting efficiency w has work) (subst Disjoint (sym (uncut_total e)) (cluster-disjoint efficiency w (cells_in has larger)))
 
-  pub uncut_turn : (new : List Extent) → cut_of efficiency w (cells_in has b) b ≡ None → new ≡ boxes ++ b ∷ [] → IsTurn efficiency w has larger new work
+  pub uncut_turn : (new : List Extent) → cut_of efficiency w (cells_in has p.bx) p.bx ≡ None → new ≡ boxes ++ p.bx ∷ [] → IsTurn efficiency w has larger new work
   uncut_turn new e f = record {
-    total = ap (λ (bs : List Extent). bs ++ waiting efficiency w has work) f ∙ append_assoc boxes (b ∷ []) (waiting efficiency w has work) ∙ uncut_total e;
-    listed = next.2;
+    total = ap (λ (bs : List Extent). bs ++ waiting efficiency w has work) f ∙ append_assoc boxes (p.bx ∷ []) (waiting efficiency w has work) ∙ uncut_total e;
+    listed = next.3;
   }
 
   pub uncut_left : work_left has work < work_left has old
-  uncut_left = let some : 1 ≤ length (cells_in has b) = some_cells efficiency w has b larger least next.0 next.1 in omega (arith, next_left)
+  uncut_left = let some : 1 ≤ length (cells_in has p.bx) = some_cells efficiency w has p.bx larger least next.0 next.1 in omega (arith, next_left)
 
-  pub cut_turn : (k : Cut) (new : List Extent) → cut_of efficiency w (cells_in has b) b ≡ Some k
-      → waiting efficiency w has new ≡ (cluster efficiency w (cells_in has (below_cut k.axis (edge b k) b)) ++ cluster efficiency w (cells_in has (from_cut k.axis (edge b k) b))) ++ waiting efficiency w has work
-      → IsWork has larger new → IsTurn efficiency w has larger boxes new
+  pub cut_turn : (k : Cut) (new : List Piece) → cut_of efficiency w (cells_in has p.bx) p.bx ≡ Some k
+      → waiting efficiency w has new ≡ (cluster efficiency w (cells_in has (below_cut k.axis (edge p.bx k) p.bx)) ++ cluster efficiency w (cells_in has (from_cut k.axis (edge p.bx k) p.bx))) ++ waiting efficiency w has work
+      → IsWork efficiency w has larger new → IsTurn efficiency w has larger boxes new
   cut_turn k new e f listed = record {
-    total = ap (λ (bs : List Extent). boxes ++ bs) (f ∙ ap (λ (bs : List Extent). bs ++ waiting efficiency w has work) (sym (cut_parts efficiency w has b larger least next.0 next.1 k e))) ∙ next_total;
+    total = ap (λ (bs : List Extent). boxes ++ bs) (f ∙ ap (λ (bs : List Extent). bs ++ waiting efficiency w has work) (sym (cut_parts efficiency w has p.bx larger least next.0 next.1 k e))) ∙ next_total;
     listed = listed;
   }
 
-  pub cut_left : (k : Cut) (left : ℕ) → cut_of efficiency w (cells_in has b) b ≡ Some k
-      → left ≤ (work_left has work + (2 * length (cells_in has (from_cut k.axis (edge b k) b)) - 1)) + (2 * length (cells_in has (below_cut k.axis (edge b k) b)) - 1)
+  pub cut_left : (k : Cut) (left : ℕ) → cut_of efficiency w (cells_in has p.bx) p.bx ≡ Some k
+      → left ≤ (work_left has work + (2 * length (cells_in has (from_cut k.axis (edge p.bx k) p.bx)) - 1)) + (2 * length (cells_in has (below_cut k.axis (edge p.bx k) p.bx)) - 1)
       → left < work_left has old
   cut_left k left e h =
-      let inside = inside_cut efficiency w has b larger least next.0 next.1 k e in
-      let less = fewer efficiency w has b larger least next.0 next.1 k inside in
-      let both : length (cells_below b k (cells_in has b)) + length (cells_from b k (cells_in has b)) ≡ length (cells_in has b) = length_parts (λ c. int_lt (along k.axis c) (edge b k)) (λ c. int_le (edge b k) (along k.axis c)) (λ c. int_lt-not (along k.axis c) (edge b k)) (cells_in has b) in
-      let low : length (cells_below b k (cells_in has b)) ≡ length (cells_in has (below_cut k.axis (edge b k) b)) = ap length (cells_below-in has b larger k next.1 inside) in
-      let high : length (cells_from b k (cells_in has b)) ≡ length (cells_in has (from_cut k.axis (edge b k) b)) = ap length (cells_from-in has b larger k next.1 inside) in
+      let inside = inside_cut efficiency w has p.bx larger least next.0 next.1 k e in
+      let less = fewer efficiency w has p.bx larger least next.0 next.1 k inside in
+      let both : length (cells_below p.bx k (cells_in has p.bx)) + length (cells_from p.bx k (cells_in has p.bx)) ≡ length (cells_in has p.bx) = length_parts (λ c. int_lt (along k.axis c) (edge p.bx k)) (λ c. int_le (edge p.bx k) (along k.axis c)) (λ c. int_lt-not (along k.axis c) (edge p.bx k)) (cells_in has p.bx) in
+      let low : length (cells_below p.bx k (cells_in has p.bx)) ≡ length (cells_in has (below_cut k.axis (edge p.bx k) p.bx)) = ap length (cells_below-in has p.bx larger k next.1 inside) in
+      let high : length (cells_from p.bx k (cells_in has p.bx)) ≡ length (cells_in has (from_cut k.axis (edge p.bx k) p.bx)) = ap length (cells_from-in has p.bx larger k next.1 inside) in
       omega (arith, next_left, less.0, less.1)

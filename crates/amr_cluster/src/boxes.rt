@@ -8,8 +8,7 @@ ghost use Rattle.amr_tags.specs.TagSets.{has};
 ghost use Rattle.amr_cluster.specs.Laws.{IsInside};
 ghost use Rattle.amr_cluster.specs.Work.{LiesIn, IsWork, cells_in, waiting, work_left};
 
-use crate::least::least_box;
-use crate::parts::cut_of;
+use crate::pieces::{Piece, piece_of};
 use amr_box::{Axis, Bx};
 use amr_boxlist::BoxList;
 use amr_causes::NoMemory;
@@ -18,19 +17,26 @@ use amr_tags::Tags;
 use std::alloc::Global;
 
 /// Puts the least box round the tags of a box on the work list, where there is a tag.
-fn push_least(alloc: Global, work: &mut Vec<Bx>, tags: &Tags, part: Bx) -> Result<(), NoMemory>
+fn push_piece(
+    alloc: Global,
+    work: &mut Vec<Piece>,
+    tags: &Tags,
+    part: Bx,
+    efficiency: u32,
+    w: u32,
+) -> Result<(), NoMemory>
     requires near { IsNear part }
     requires inside { LiesIn part tags.now.bx }
-    requires work { IsWork (has tags.now) tags.now.bx work.old.items }
-    ensures waiting { (efficiency w : ℕ) → OnOk result (waiting efficiency w (has tags.now) work.new.items
+    requires work { IsWork efficiency w (has tags.now) tags.now.bx work.old.items }
+    ensures waiting { OnOk result (waiting efficiency w (has tags.now) work.new.items
         ≡ cluster efficiency w (cells_in (has tags.now) part) ++ waiting efficiency w (has tags.now) work.old.items) }
-    ensures work { OnOk result (IsWork (has tags.now) tags.now.bx work.new.items) }
+    ensures work { OnOk result (IsWork efficiency w (has tags.now) tags.now.bx work.new.items) }
     ensures left { OnOk result (work_left (has tags.now) work.new.items
         ≤ work_left (has tags.now) work.old.items + (2 * length (cells_in (has tags.now) part) - 1)) }
 {
-    match least_box(alloc, tags, part)? {
-        Some(least) => {
-            work.push(least)?;
+    match piece_of(alloc, tags, part, efficiency, w)? {
+        Some(piece) => {
+            work.push(piece)?;
             Ok(())
         }
         None => Ok(()),
@@ -52,33 +58,38 @@ fn edge(part: Bx, cut: Cut) -> i32
 /// Puts both parts of a box that is cut on the work list, so that the low one is next.
 fn push_parts(
     alloc: Global,
-    work: &mut Vec<Bx>,
+    work: &mut Vec<Piece>,
     tags: &Tags,
     part: Bx,
     cut: Cut,
+    efficiency: u32,
+    w: u32,
 ) -> Result<(), NoMemory>
     requires near { IsNear part }
     requires inside { LiesIn part tags.now.bx }
     requires cut_inside { IsInside part (defined_cut cut) }
-    requires work { IsWork (has tags.now) tags.now.bx work.old.items }
-    ensures waiting { (efficiency w : ℕ) → OnOk result (waiting efficiency w (has tags.now) work.new.items
+    requires work { IsWork efficiency w (has tags.now) tags.now.bx work.old.items }
+    ensures waiting { OnOk result (waiting efficiency w (has tags.now) work.new.items
         ≡ (cluster efficiency w (cells_in (has tags.now) (below_cut cut.axis (edge part (defined_cut cut)) part))
         ++ cluster efficiency w (cells_in (has tags.now) (from_cut cut.axis (edge part (defined_cut cut)) part)))
         ++ waiting efficiency w (has tags.now) work.old.items) }
-    ensures work { OnOk result (IsWork (has tags.now) tags.now.bx work.new.items) }
+    ensures work { OnOk result (IsWork efficiency w (has tags.now) tags.now.bx work.new.items) }
     ensures left { OnOk result (work_left (has tags.now) work.new.items
         ≤ (work_left (has tags.now) work.old.items + (2 * length (cells_in (has tags.now) (from_cut cut.axis (edge part (defined_cut cut)) part)) - 1))
         + (2 * length (cells_in (has tags.now) (below_cut cut.axis (edge part (defined_cut cut)) part)) - 1)) }
 {
     let (low, high) = part.cut_at(cut.axis, edge(part, cut));
-    push_least(alloc, work, tags, high)?;
-    push_least(alloc, work, tags, low)?;
+    push_piece(alloc, work, tags, high, efficiency, w)?;
+    push_piece(alloc, work, tags, low, efficiency, w)?;
     Ok(())
 }
 
 /// The boxes round the tags: the least box round them where it is efficient, so that at least `efficiency` per cent of
 /// its cells are tagged, or where it has no cut that leaves both parts `w` wide; else the boxes of the part below the
 /// cut, and then those of the rest. They have no cell in common and hold every tag. No tags give no boxes.
+///
+/// The words of each box on the work list are gone over once. `NoMemory` where memory is wanting: nothing is kept then,
+/// and the tags, which are only read, are as before.
 pub fn cluster(alloc: Global, tags: &Tags, efficiency: u32, w: u32) -> Result<BoxList, NoMemory>
     requires { 1 ≤ w }
     ensures { IfOk result (λ boxes. boxes ≡ cluster efficiency w (cells_in (has tags.now) tags.now.bx)) }
@@ -86,11 +97,11 @@ pub fn cluster(alloc: Global, tags: &Tags, efficiency: u32, w: u32) -> Result<Bo
     let mut boxes = BoxList::make(alloc);
     let mut work = Vec::new(alloc);
     let whole = tags.bx();
-    push_least(alloc, &mut work, tags, whole)?;
-    while let Some(part) = work.pop() {
-        match cut_of(alloc, tags, part, efficiency, w)? {
-            None => boxes.push_disjoint(part)?,
-            Some(cut) => push_parts(alloc, &mut work, tags, part, cut)?,
+    push_piece(alloc, &mut work, tags, whole, efficiency, w)?;
+    while let Some(piece) = work.pop() {
+        match piece.cut {
+            None => boxes.push_disjoint(piece.bx)?,
+            Some(cut) => push_parts(alloc, &mut work, tags, piece.bx, cut, efficiency, w)?,
         }
     }
     Ok(boxes)

@@ -2,12 +2,17 @@
 //!
 //! - `cluster`: the boxes round the tags of a level.
 //! - `clusters_are_sound`, `cluster_is_recursive`: what holds of the boxes of every set, as laws.
+//! - `tags_grow_as_defined`: tags over the domain of a level grow as the level's definition has it, as a law.
 #![tactic(auto)]
 
 mod boxes;
 mod laws;
-mod least;
 mod parts;
+mod pieces;
+#[cfg(test)]
+mod plain;
+#[cfg(test)]
+mod table;
 
 pub use boxes::cluster;
-pub use laws::{cluster_is_recursive, clusters_are_sound};
+pub use laws::{cluster_is_recursive, clusters_are_sound, tags_grow_as_defined};

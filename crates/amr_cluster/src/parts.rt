@@ -1,29 +1,20 @@
 //! Where the tags of a box are cut.
 
-ghost use Rattle.std.specs.Prelude.{◌≡◌, ℕ, ◌-ℤ◌, length, IfOk};
+ghost use Rattle.std.specs.Prelude.{◌≡◌, ℕ, ◌-ℤ◌, ◌<◌, ◌^◌, length, IfOk};
+ghost use Rattle.std.specs.List.{sum_by};
 ghost use Rattle.std.specs.Option.{option_map};
+ghost use Rattle.amr_box.specs.declared.Axis.TheVariants.{X, Y};
 ghost use Rattle.amr_box.specs.Cells.{HasCorners, IsNear};
-ghost use Rattle.amr_def.specs.Cluster.{cut_of};
-ghost use Rattle.amr_def.specs.Signature.{is_efficient, signature};
+ghost use Rattle.amr_def.specs.Signature.{signature};
 ghost use Rattle.amr_sign.specs.Scan.{defined_cut};
 ghost use Rattle.amr_tags.specs.TagSets.{has};
-ghost use Rattle.amr_cluster.specs.Work.{LiesIn, cells_in};
+ghost use Rattle.amr_cluster.specs.Work.{LiesIn, cells_in, cut_by};
 
-use amr_box::{Axis, Bx, Cell};
+use amr_box::{Bx, Cell};
 use amr_causes::NoMemory;
-use amr_sign::{Cut, best_cut, signature_bits};
+use amr_sign::{Cut, Signatures, best_cut, both_signatures};
 use amr_tags::Tags;
 use std::alloc::Global;
-
-/// Whether enough of a box's cells, in per cent, are tagged.
-fn is_efficient(tags: &Tags, part: Bx, efficiency: u32) -> bool
-    requires near { IsNear part }
-    requires inside { LiesIn part tags.now.bx }
-    ensures { result ≡ is_efficient efficiency (length (cells_in (has tags.now) part)) part }
-{
-    let count = tags.count_in(part);
-    u128::from(efficiency) * u128::from(part.area()) <= 100 * u128::from(count)
-}
 
 /// A box counted from the low corner of the larger one that it lies in.
 fn offset(larger: Bx, part: Bx) -> Bx
@@ -44,31 +35,37 @@ fn offset(larger: Bx, part: Bx) -> Bx
     Bx::try_new(lo, hi).unwrap()
 }
 
-/// How many tags stand in each column or row of a box.
-pub fn signature_of(alloc: Global, tags: &Tags, part: Bx, axis: Axis) -> Result<Vec<u32>, NoMemory>
+/// How many tags stand in each column and in each row of a box.
+pub fn signatures_of(alloc: Global, tags: &Tags, part: Bx) -> Result<Signatures, NoMemory>
     requires inside { LiesIn part tags.now.bx }
-    ensures { IfOk result (λ v. v.items ≡ signature axis (cells_in (has tags.now) part) part) }
+    ensures columns { IfOk result (λ s. s.columns.items ≡ signature X (cells_in (has tags.now) part) part) }
+    ensures rows { IfOk result (λ s. s.rows.items ≡ signature Y (cells_in (has tags.now) part) part) }
 {
     let at = offset(tags.bx(), part);
-    signature_bits(alloc, tags.words(), tags.per_row(), at, axis)
+    both_signatures(alloc, tags.words(), tags.per_row(), at)
 }
 
-/// Where a box round tags is cut: nowhere where it is efficient.
-pub fn cut_of(
-    alloc: Global,
-    tags: &Tags,
-    part: Bx,
-    efficiency: u32,
-    w: u32,
-) -> Result<Option<Cut>, NoMemory>
-    requires near { IsNear part }
-    requires inside { LiesIn part tags.now.bx }
-    ensures { IfOk result (λ k. option_map defined_cut k ≡ cut_of efficiency w (cells_in (has tags.now) part) part) }
+/// The sum of some counts.
+fn total(counts: &[u32]) -> u64
+    requires { length counts.now < 2 ^ 32 }
+    ensures { result ≡ sum_by (λ n. n) counts.now }
 {
-    if is_efficient(tags, part, efficiency) {
-        return Ok(None);
+    let mut sum = 0;
+    for count in counts {
+        sum += u64::from(*count);
     }
-    let xs = signature_of(alloc, tags, part, Axis::X)?;
-    let ys = signature_of(alloc, tags, part, Axis::Y)?;
-    Ok(best_cut(&xs, &ys, w))
+    sum
+}
+
+/// Where a box round tags is cut by its signatures: nowhere where enough of its cells, in per cent, are tagged.
+pub fn cut_by(xs: &[u32], ys: &[u32], efficiency: u32, w: u32) -> Option<Cut>
+    requires columns_short { length xs.now < 2 ^ 32 }
+    requires rows_short { length ys.now < 2 ^ 32 }
+    ensures { option_map defined_cut result ≡ cut_by efficiency w xs.now ys.now }
+{
+    let area = xs.len() as u128 * ys.len() as u128;
+    if u128::from(efficiency) * area <= 100 * u128::from(total(ys)) {
+        return None;
+    }
+    best_cut(xs, ys, w)
 }

@@ -1,9 +1,9 @@
 -- The signature of the cells of a box that pass a test, as counts over the places of each column and of each row.
-use Rattle.std.proofs.Common.{◌≡◌, ◌≢◌, ℕ, zero, suc, ◌+◌, ◌<◌, ◌≤◌, Bool, true, false, cond, ◌&&◌, ℤ, pos, ◌+ℤ◌, List, [], ◌∷◌, map, refl, sym, ap, ◌∙◌, arith, add-one, ◌⊎◌, inl, inr}
+use Rattle.std.proofs.Common.{◌≡◌, ◌≢◌, ℕ, zero, suc, ◌+◌, ◌<◌, ◌≤◌, Bool, true, false, cond, ◌&&◌, ℤ, pos, ◌+ℤ◌, List, [], ◌∷◌, map, length, refl, sym, ap, ◌∙◌, arith, add-one, ◌⊎◌, inl, inr}
 use Rattle.std.specs.List.{count_by, filter, flat_map, range_with_len, sum_by}
 use Rattle.std.specs.Ordering.{int_eq}
 use Rattle.std.proofs.lemmas.Int.{ints}
-use Rattle.std.proofs.lemmas.List.Sums.{count_by-le-length, sum_by-append, sum_by-cons, sum_by_push}
+use Rattle.std.proofs.lemmas.List.Sums.{count_by-le-length, length-filter, sum_by-append, sum_by-cons, sum_by_push}
 use Rattle.std.proofs.lemmas.List.FromFn.{length-range_with_len}
 use Rattle.std.proofs.lemmas.List.Concat.{flat_map-cons}
 use Rattle.amr_box.specs.declared.Cell.{Cell}
@@ -134,3 +134,14 @@ module _ (test : Cell → Bool) (b : Extent) where
 
   pub rows-are : signature Y (filter test (cells_of b)) b ≡ map (λ j. count_to (λ i. at i j) (width b)) (range_with_len 0 (height b))
   rows-are = map_to-same _ _ (height b) row
+
+  -- the counts of the rows add up to the cells
+  pub rows-total : sum_by (λ n. n) (signature Y (filter test (cells_of b)) b) ≡ length (filter test (cells_of b))
+  rows-total =
+      let row : ℕ → List Cell = λ j. map (λ i. cell (b.lo.x +ℤ pos i) (b.lo.y +ℤ pos j)) (range_with_len 0 (width b)) in
+      let one : Cell → ℕ = λ c. bit (test c) in
+      ap (sum_by (λ (n : ℕ). n)) rows-are
+      ∙ sum_by-map (λ (n : ℕ). n) (λ j. count_to (λ i. at i j) (width b)) (range_with_len 0 (height b))
+      ∙ sym (length-filter test (cells_of b)
+      ∙ sum_by-flat_map one row (range_with_len 0 (height b))
+      ∙ sum_by-same (λ j. sum_by one (row j)) (λ j. count_to (λ i. at i j) (width b)) (λ j. sum_by-map one (λ i. cell (b.lo.x +ℤ pos i) (b.lo.y +ℤ pos j)) (range_with_len 0 (width b))) (range_with_len 0 (height b)))

@@ -68,28 +68,33 @@ fn add_word(counts: &mut [u32], word: u64, base: usize, low: usize)
     }
 }
 
-/// Counts the bits of a row from `low` to `high`, both inside, each to its column.
-fn add_row_bits(counts: &mut [u32], row: &[u64], low: usize, high: usize)
+/// Counts the bits of a row from `low` to `high`, both inside, each to its column, and all of them: one look at each word.
+pub fn add_row_bits(counts: &mut [u32], row: &[u64], low: usize, high: usize) -> u32
     requires order { low ≤ high }
     requires inside { high < 64 * length row.now }
     requires short { high < 2 ^ 31 }
     requires whole { length counts.old ≡ high + 1 - low }
     requires room { EachIndex counts.old (λ c. slice_index counts.old c < 2 ^ 31) }
-    ensures { EachIndex counts.new (λ c. slice_index counts.new c
+    ensures columns { EachIndex counts.new (λ c. slice_index counts.new c
         ≡ slice_index counts.old c + bit (row_bit row.now (low + c))) }
+    ensures count { result ≡ count_to (λ i. row_bit row.now (low + i)) (high + 1 - low) }
 {
+    let mut count = 0;
     for k in low / BITS..high / BITS + 1 {
-        add_word(counts, masked_word(row, k, low, high), BITS * k, low);
+        let word = masked_word(row, k, low, high);
+        count += word.count_ones();
+        add_word(counts, word, BITS * k, low);
     }
+    count
 }
 
 /// A box of rows of bits by its first and last column and row, all inside, counted from 0.
 #[derive(Clone, Copy)]
-struct Window {
-    west: usize,
-    east: usize,
-    south: usize,
-    north: usize,
+pub struct Window {
+    pub west: usize,
+    pub east: usize,
+    pub south: usize,
+    pub north: usize,
 }
 
 /// A coordinate that is not below 0.
@@ -101,7 +106,7 @@ fn place(z: i32) -> usize
     z as usize
 }
 
-fn window_of(part: Bx) -> Window
+pub fn window_of(part: Bx) -> Window
     requires west_inside { pos 0 ≤ℤ part.lo.x }
     requires south_inside { pos 0 ≤ℤ part.lo.y }
     ensures west { pos result.west ≡ part.lo.x }
@@ -137,7 +142,7 @@ fn count_columns(counts: &mut [u32], words: &[u64], per_row: usize, at: Window)
 {
     for y in at.south..at.north + 1 {
         let row = &words[y * per_row..(y + 1) * per_row];
-        add_row_bits(counts, row, at.west, at.east);
+        let _count = add_row_bits(counts, row, at.west, at.east);
     }
 }
 

@@ -1,0 +1,95 @@
+//! The signatures of a box along both axes, by one look at each word.
+
+ghost use Rattle.std.specs.Prelude.{◌≡◌, ℕ, ◌+◌, ◌-◌, ◌*◌, ◌%◌, ◌^◌, ◌<◌, ◌≤◌, length, IfOk, EachIndex, slice_index};
+ghost use Rattle.amr_box.specs.declared.Axis.TheVariants.{X, Y};
+ghost use Rattle.amr_def.specs.Signature.{signature};
+ghost use Rattle.amr_sign.specs.Counts.{count_to};
+ghost use Rattle.amr_sign.specs.Words.{LiesInRows, bit_cells, bit_of};
+
+use crate::words::{Window, add_row_bits, window_of};
+use amr_box::Bx;
+use amr_causes::NoMemory;
+use std::alloc::Global;
+
+/// How many tags stand in each column and in each row of a box, from the low end.
+#[derive(Debug, Drop)]
+pub struct Signatures {
+    pub columns: Vec<u32>,
+    pub rows: Vec<u32>,
+}
+
+/// Counts the bits of a window, each to its column and to its row.
+fn count_window(columns: &mut [u32], rows: &mut [u32], words: &[u64], per_row: usize, at: Window)
+    requires wide { at.west ≤ at.east }
+    requires high { at.south ≤ at.north }
+    requires columns_fit { at.east < 2 ^ 31 }
+    requires rows_fit { at.north < 2 ^ 31 }
+    requires columns_inside { at.east < 64 * per_row }
+    requires rows_inside { (at.north + 1) * per_row ≤ length words.now }
+    requires all_columns { length columns.old ≡ at.east + 1 - at.west }
+    requires all_rows { length rows.old ≡ at.north + 1 - at.south }
+    requires zero { EachIndex columns.old (λ k. slice_index columns.old k ≡ 0) }
+    ensures columns { EachIndex columns.new (λ i. slice_index columns.new i
+        ≡ count_to (λ j. bit_of per_row words.now (at.west + i) (at.south + j)) (at.north + 1 - at.south)) }
+    ensures rows { EachIndex rows.new (λ j. slice_index rows.new j
+        ≡ count_to (λ i. bit_of per_row words.now (at.west + i) (at.south + j)) (at.east + 1 - at.west)) }
+{
+    for y in at.south..at.north + 1 {
+        let row = &words[y * per_row..(y + 1) * per_row];
+        rows[y - at.south] = add_row_bits(columns, row, at.west, at.east);
+    }
+}
+
+/// How many bits of a box are 1 in each of its columns and in each of its rows, as `signature_bits` has them for one
+/// axis: the words are gone over once.
+pub fn both_signatures(
+    alloc: Global,
+    words: &[u64],
+    per_row: usize,
+    part: Bx,
+) -> Result<Signatures, NoMemory>
+    requires positive { 1 ≤ per_row }
+    requires whole { length words.now % per_row ≡ 0 }
+    requires inside { LiesInRows words.now per_row part }
+    ensures columns { IfOk result (λ s. s.columns.items ≡ signature X (bit_cells words.now per_row part) part) }
+    ensures rows { IfOk result (λ s. s.rows.items ≡ signature Y (bit_cells words.now per_row part) part) }
+{
+    let at = window_of(part);
+    let mut columns = vec![in alloc; 0u32; at.east + 1 - at.west]?;
+    let mut rows = vec![in alloc; 0u32; at.north + 1 - at.south]?;
+    count_window(&mut columns, &mut rows, words, per_row, at);
+    Ok(Signatures { columns, rows })
+}
+
+#[cfg(test)]
+mod tests {
+    use super::*;
+    use amr_box::Cell;
+    use std::test::Fail;
+
+    /// Two rows of three words: bits 0, 63, 64 and 129 of the first, bits 63 and 191 of the second.
+    const WORDS: [u64; 6] = [1 | 1 << 63, 1, 2, 1 << 63, 0, 1 << 63];
+
+    fn part(lo: Cell, hi: Cell) -> Result<Bx, &'static str>
+        ensures { IfOk result (λ b. (b.lo ≡ lo) × (b.hi ≡ hi)) }
+    {
+        Bx::try_new(lo, hi).ok_or("no box")
+    }
+
+    #[test]
+    fn columns_and_rows_across_words(rt: HostRuntime) -> Result<(), Fail> {
+        let part = part(Cell { x: 62, y: 0 }, Cell { x: 129, y: 1 })?;
+        let counts = both_signatures(rt.alloc(), &WORDS, 3, part)?;
+        assert_eq!(rt; counts.rows.as_slice(), [3, 1].as_slice());
+        assert_eq!(rt; counts.columns.len(), 68);
+        for (i, count) in counts.columns.iter().enumerate() {
+            let want = match i {
+                1 => 2,
+                2 | 67 => 1,
+                _ => 0,
+            };
+            assert_eq!(rt; *count, want, "column {i} of the part");
+        }
+        Ok(())
+    }
+}
