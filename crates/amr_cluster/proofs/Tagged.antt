@@ -7,7 +7,7 @@ use Rattle.std.specs.Ordering.{int_eq}
 use Rattle.std.proofs.lemmas.Int.{ints}
 use Rattle.std.proofs.lemmas.List.{get_or-drop, get_or-take, length-drop, length-take-le}
 use Rattle.std.proofs.lemmas.List.FromFn.{fill_by_all, get_or-map-range_with_len, length-map-range_with_len}
-use Rattle.std.proofs.Math.Nat.{mul-div_cancel, mul-mod_left}
+use Rattle.std.proofs.Math.Nat.{mul-div_cancel}
 use Rattle.amr_box.specs.declared.Cell.{Cell}
 use Rattle.amr_box.specs.declared.Axis.{Axis}
 use Rattle.amr_box.specs.declared.Axis.TheVariants.{X, Y}
@@ -111,13 +111,10 @@ module _ (t : TagSet) (part at : Extent) (is : IsOffset t part at) where
   rows_of : pos (height t.bx) ≡ t.bx.hi.y +ℤ pos 1 -ℤ t.bx.lo.y
   rows_of = size-is t.bx.lo.y t.bx.hi.y is.laid_out.near.high
 
-  pub some_words : 1 ≤ words_for (width t.bx)
+  some_words : 1 ≤ words_for (width t.bx)
   some_words =
       let some : 1 ≤ width t.bx = omega (arith, ints, columns_of, is.laid_out.near.wide) in
       omega arith
-
-  pub whole_rows : length t.words % words_for (width t.bx) ≡ 0
-  whole_rows = ap (λ (n : ℕ). n % words_for (width t.bx)) is.laid_out.rows.count ∙ mul-mod_left (height t.bx) (words_for (width t.bx))
 
   row_count : length t.words / words_for (width t.bx) ≡ height t.bx
   row_count = ap (λ (n : ℕ). n / words_for (width t.bx)) is.laid_out.rows.count ∙ mul-div_cancel (height t.bx) some_words

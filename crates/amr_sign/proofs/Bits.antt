@@ -143,10 +143,10 @@ module _ (row : List ℕ) (low high : ℕ) where
   abbrev pub window : ℕ → Bool
   window x = (nat_le low x && nat_le x high) && row_bit row x
 
-  below-window : (x : ℕ) → x < low → window x ≡ false
+  pub below-window : (x : ℕ) → x < low → window x ≡ false
   below-window x h = let no : nat_le low x ≡ false = grind (arith, nat_tests) in rw no refl
 
-  above-window : (x : ℕ) → high < x → window x ≡ false
+  pub above-window : (x : ℕ) → high < x → window x ≡ false
   above-window x h = let no : nat_le x high ≡ false = grind (arith, nat_tests) in outside (nat_le low x) (nat_le x high) (row_bit row x) no
     where
       outside : (a b c : Bool) → b ≡ false → ((a && b) && c) ≡ false
@@ -154,7 +154,7 @@ module _ (row : List ℕ) (low high : ℕ) where
       outside true false c e = refl
       outside false b c e = refl
 
-  in-window : (x : ℕ) → low ≤ x → x ≤ high → window x ≡ row_bit row x
+  pub in-window : (x : ℕ) → low ≤ x → x ≤ high → window x ≡ row_bit row x
   in-window x h k =
       let above : nat_le low x ≡ true = grind (arith, nat_tests) in
       let below : nat_le x high ≡ true = grind (arith, nat_tests) in
@@ -320,27 +320,28 @@ part-smaller rest word t h part = record { at = λ i k on. choose i k on (cases_
 
 -- ---- the words of a row, one after another
 
-pub word-counted : (row : List ℕ) (low high k word x old now new : ℕ) → low ≤ x → x ≤ high → ((i : ℕ) → i < 64 → (bit_at word i == 1) ≡ window row low high (64 * k + i))
-    → now ≡ old + bit (nat_lt x (64 * k) && row_bit row x) → new ≡ now + bit (word_bit word (64 * k) x) → new ≡ old + bit (nat_lt x (64 * (k + 1)) && row_bit row x)
-word-counted row low high k word x old now new above below bits so_far added = choose (side (64 * k) x)
+-- a count of the places of a row that pass a test, with those of the word that a loop has come to
+pub word-counted : (test : ℕ → Bool) (k word x old now new : ℕ) → ((i : ℕ) → i < 64 → (bit_at word i == 1) ≡ test (64 * k + i)) → now ≡ old + bit (nat_lt x (64 * k) && test x) → new ≡ now + bit (word_bit word (64 * k) x)
+    → new ≡ old + bit (nat_lt x (64 * (k + 1)) && test x)
+word-counted test k word x old now new bits so_far added = choose (side (64 * k) x)
   where
-    choose : Side (64 * k) x → new ≡ old + bit (nat_lt x (64 * (k + 1)) && row_bit row x)
+    choose : Side (64 * k) x → new ≡ old + bit (nat_lt x (64 * (k + 1)) && test x)
     choose (under a) =
         let none : bit (word_bit word (64 * k) x) ≡ 0 = ap bit (word_bit-below word (64 * k) x a) in
         let before : nat_lt x (64 * k) ≡ true = grind (arith, nat_tests) in
         let after : nat_lt x (64 * (k + 1)) ≡ true = grind (arith, nat_tests) in
-        let same : bit (nat_lt x (64 * (k + 1)) && row_bit row x) ≡ bit (nat_lt x (64 * k) && row_bit row x) = ap (λ (t : Bool). bit (t && row_bit row x)) (after ∙ sym before) in
+        let same : bit (nat_lt x (64 * (k + 1)) && test x) ≡ bit (nat_lt x (64 * k) && test x) = ap (λ (t : Bool). bit (t && test x)) (after ∙ sym before) in
         omega arith
     choose (over a) =
         let none : bit (word_bit word (64 * k) x) ≡ 0 = ap bit (word_bit-above word (64 * k) x a) in
         let before : nat_lt x (64 * k) ≡ false = grind (arith, nat_tests) in
         let after : nat_lt x (64 * (k + 1)) ≡ false = grind (arith, nat_tests) in
-        let same : bit (nat_lt x (64 * (k + 1)) && row_bit row x) ≡ bit (nat_lt x (64 * k) && row_bit row x) = ap (λ (t : Bool). bit (t && row_bit row x)) (after ∙ sym before) in
+        let same : bit (nat_lt x (64 * (k + 1)) && test x) ≡ bit (nat_lt x (64 * k) && test x) = ap (λ (t : Bool). bit (t && test x)) (after ∙ sym before) in
         omega arith
     choose (within i h e) =
-        let before : bit (nat_lt x (64 * k) && row_bit row x) ≡ 0 = let no : nat_lt x (64 * k) ≡ false = grind (arith, nat_tests) in ap (λ (t : Bool). bit (t && row_bit row x)) no in
-        let after : bit (nat_lt x (64 * (k + 1)) && row_bit row x) ≡ bit (row_bit row x) = let yes : nat_lt x (64 * (k + 1)) ≡ true = grind (arith, nat_tests) in ap (λ (t : Bool). bit (t && row_bit row x)) yes in
-        let here : bit (word_bit word (64 * k) x) ≡ bit (row_bit row x) = ap bit (ap (word_bit word (64 * k)) e ∙ word_bit-at word (64 * k) i h ∙ bits i h ∙ ap (window row low high) (sym e) ∙ in-window row low high x above below) in
+        let before : bit (nat_lt x (64 * k) && test x) ≡ 0 = let no : nat_lt x (64 * k) ≡ false = grind (arith, nat_tests) in ap (λ (t : Bool). bit (t && test x)) no in
+        let after : bit (nat_lt x (64 * (k + 1)) && test x) ≡ bit (test x) = let yes : nat_lt x (64 * (k + 1)) ≡ true = grind (arith, nat_tests) in ap (λ (t : Bool). bit (t && test x)) yes in
+        let here : bit (word_bit word (64 * k) x) ≡ bit (test x) = ap bit (ap (word_bit word (64 * k)) e ∙ word_bit-at word (64 * k) i h ∙ bits i h ∙ ap test (sym e)) in
         omega arith
 
 -- the bits of a masked word lie in the window
@@ -352,21 +353,25 @@ window-inside row low high k word size i bits whole h on = choose (cases_lt (64 
     choose (inr a) (inl b) = absurd (false≢true (sym (above-window row low high (64 * k + i) b) ∙ sym (bits i h) ∙ on))
     choose (inr a) (inr b) = (a, omega arith)
 
-none-before : (row : List ℕ) (x first old : ℕ) → first ≤ x → old ≡ old + bit (nat_lt x first && row_bit row x)
-none-before row x first old h =
+none-before : (test : ℕ → Bool) (x first old : ℕ) → first ≤ x → old ≡ old + bit (nat_lt x first && test x)
+none-before test x first old h =
     let no : nat_lt x first ≡ false = grind (arith, nat_tests) in
-    let none : bit (nat_lt x first && row_bit row x) ≡ 0 = ap (λ (t : Bool). bit (t && row_bit row x)) no in
+    let none : bit (nat_lt x first && test x) ≡ 0 = ap (λ (t : Bool). bit (t && test x)) no in
     omega arith
 
-pub counted-first : (row : List ℕ) (low x old : ℕ) → low ≤ x → old ≡ old + bit (nat_lt x (64 * (low / 64)) && row_bit row x)
-counted-first row low x old h = none-before row x (64 * (low / 64)) old (omega arith)
+pub counted-first : (test : ℕ → Bool) (low x old : ℕ) → low ≤ x → old ≡ old + bit (nat_lt x (64 * (low / 64)) && test x)
+counted-first test low x old h = none-before test x (64 * (low / 64)) old (omega arith)
 
-pub counted-whole : (row : List ℕ) (x last now old : ℕ) → x < last → now ≡ old + bit (nat_lt x last && row_bit row x) → now ≡ old + bit (row_bit row x)
-counted-whole row x last now old h so_far =
+pub counted-whole : (test : ℕ → Bool) (x last now old : ℕ) → x < last → now ≡ old + bit (nat_lt x last && test x) → now ≡ old + bit (test x)
+counted-whole test x last now old h so_far =
     let yes : nat_lt x last ≡ true = grind (arith, nat_tests) in
-    let same : bit (nat_lt x last && row_bit row x) ≡ bit (row_bit row x) = ap (λ (t : Bool). bit (t && row_bit row x)) yes in
+    let same : bit (nat_lt x last && test x) ≡ bit (test x) = ap (λ (t : Bool). bit (t && test x)) yes in
     omega arith
 
 pub counted-room : (t : Bool) (now old : ℕ) → now ≡ old + bit t → old < 2 ^ 31 → now + 1 < 2 ^ 32
 counted-room true now old e h = omega arith
 counted-room false now old e h = omega arith
+
+pub counted-more : (t : Bool) (now old : ℕ) → now ≡ old + bit t → now ≤ old + 1
+counted-more true now old e = omega arith
+counted-more false now old e = omega arith

@@ -1,4 +1,5 @@
 pub mod Counts
 pub mod Rows
+pub mod Runs
 pub mod Scan
 pub mod Words

@@ -10,6 +10,7 @@
 mod both;
 mod cuts;
 mod rows;
+mod runs;
 mod words;
 
 pub use crate::both::{Signatures, both_signatures};

@@ -6,12 +6,13 @@ ghost use Rattle.amr_def.specs.Signature.{signature};
 ghost use Rattle.amr_sign.specs.Counts.{bit, count_to};
 ghost use Rattle.amr_sign.specs.Words.{LiesInRows, bit_cells, bit_of, row_bit, word_bit};
 
+use crate::both::{Signatures, both_signatures};
 use amr_box::{Axis, Bx};
 use amr_causes::NoMemory;
 use std::alloc::Global;
 
 /// How many bits a word has.
-const BITS: usize = 64;
+pub const BITS: usize = 64;
 
 /// The bits from `from` to `to`, both inside.
 fn mask(from: u32, to: u32) -> u64
@@ -23,7 +24,7 @@ fn mask(from: u32, to: u32) -> u64
 }
 
 /// Word `k` of a row without the bits below `low` and above `high`, which are places in the row.
-fn masked_word(row: &[u64], k: usize, low: usize, high: usize) -> u64
+pub fn masked_word(row: &[u64], k: usize, low: usize, high: usize) -> u64
     requires inside { k < length row.now }
     requires first { low < 64 * k + 64 }
     requires last { 64 * k ≤ high }
@@ -52,7 +53,7 @@ fn count_in_row(row: &[u64], low: usize, high: usize) -> u32
 }
 
 /// Counts the bits of a word, which stands in its row at the places from `base` on, each to its column. Column 0 is `low`.
-fn add_word(counts: &mut [u32], word: u64, base: usize, low: usize)
+pub fn add_word(counts: &mut [u32], word: u64, base: usize, low: usize)
     requires inside { (i : ℕ) → i < 64 → (bit_at word i == 1) ≡ true
         → (low ≤ base + i) × (base + i < low + length counts.old) }
     requires room { EachIndex counts.old (λ c. slice_index counts.old c + 1 < 2 ^ 32) }
@@ -66,26 +67,6 @@ fn add_word(counts: &mut [u32], word: u64, base: usize, low: usize)
         counts[base + place as usize - low] += 1;
         rest &= !(1 << place);
     }
-}
-
-/// Counts the bits of a row from `low` to `high`, both inside, each to its column, and all of them: one look at each word.
-pub fn add_row_bits(counts: &mut [u32], row: &[u64], low: usize, high: usize) -> u32
-    requires order { low ≤ high }
-    requires inside { high < 64 * length row.now }
-    requires short { high < 2 ^ 31 }
-    requires whole { length counts.old ≡ high + 1 - low }
-    requires room { EachIndex counts.old (λ c. slice_index counts.old c < 2 ^ 31) }
-    ensures columns { EachIndex counts.new (λ c. slice_index counts.new c
-        ≡ slice_index counts.old c + bit (row_bit row.now (low + c))) }
-    ensures count { result ≡ count_to (λ i. row_bit row.now (low + i)) (high + 1 - low) }
-{
-    let mut count = 0;
-    for k in low / BITS..high / BITS + 1 {
-        let word = masked_word(row, k, low, high);
-        count += word.count_ones();
-        add_word(counts, word, BITS * k, low);
-    }
-    count
 }
 
 /// A box of rows of bits by its first and last column and row, all inside, counted from 0.
@@ -127,25 +108,6 @@ pub fn window_of(part: Bx) -> Window
     }
 }
 
-/// Counts the bits of a window, each to its column.
-fn count_columns(counts: &mut [u32], words: &[u64], per_row: usize, at: Window)
-    requires wide { at.west ≤ at.east }
-    requires high { at.south ≤ at.north }
-    requires columns_fit { at.east < 2 ^ 31 }
-    requires rows_fit { at.north < 2 ^ 31 }
-    requires columns_inside { at.east < 64 * per_row }
-    requires rows_inside { (at.north + 1) * per_row ≤ length words.now }
-    requires whole { length counts.old ≡ at.east + 1 - at.west }
-    requires zero { EachIndex counts.old (λ k. slice_index counts.old k ≡ 0) }
-    ensures { EachIndex counts.new (λ i. slice_index counts.new i
-        ≡ count_to (λ j. bit_of per_row words.now (at.west + i) (at.south + j)) (at.north + 1 - at.south)) }
-{
-    for y in at.south..at.north + 1 {
-        let row = &words[y * per_row..(y + 1) * per_row];
-        let _count = add_row_bits(counts, row, at.west, at.east);
-    }
-}
-
 /// Counts the bits of a window, each to its row.
 fn count_rows(counts: &mut [u32], words: &[u64], per_row: usize, at: Window)
     requires wide { at.west ≤ at.east }
@@ -173,10 +135,8 @@ fn column_counts(
     requires inside { LiesInRows words.now per_row part }
     ensures { IfOk result (λ v. v.items ≡ signature X (bit_cells words.now per_row part) part) }
 {
-    let at = window_of(part);
-    let mut counts = vec![in alloc; 0u32; at.east + 1 - at.west]?;
-    count_columns(&mut counts, words, per_row, at);
-    Ok(counts)
+    let Signatures { columns, rows: _ } = both_signatures(alloc, words, per_row, part)?;
+    Ok(columns)
 }
 
 fn row_counts(alloc: Global, words: &[u64], per_row: usize, part: Bx) -> Result<Vec<u32>, NoMemory>
