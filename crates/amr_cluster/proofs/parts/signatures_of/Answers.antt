@@ -5,7 +5,7 @@ use Rattle.amr_cluster.proofs.parts.signatures_of.Goals as goal
 pub both_signatures-requires : goal.both_signatures-requires
 both_signatures-requires c =
     let is : IsOffset c.args.tags.now c.args.part c.offset-at.result = record { laid_out = c.words.ensures.laid_out; inside = c.requires.inside; corners = rw c.bx.ensures.value at c.offset-at.ensures } in
-    rw (c.per_row.ensures, c.words.ensures.words) (in_rows c.args.tags.now c.args.part c.offset-at.result is)
+    record { inside = rw (c.per_row.ensures, c.words.ensures.words) (in_rows c.args.tags.now c.args.part c.offset-at.result is) }
 
 pub returns-clause-columns : goal.returns-clause-columns
 returns-clause-columns c =
