@@ -8,19 +8,19 @@ use Rattle.std.specs.Option.{option_or}
 use Rattle.toml.specs.Data.{Members}
 use Rattle.amr_def.specs.Limits.{is_name_byte}
 use Rattle.amr_problem.specs.declared.entries.Entries.{Entries}
-use Rattle.amr_problem.specs.declared.fault.Fault.{Fault}
-use Rattle.amr_problem.specs.declared.fault.Fault.TheVariants.{OutOfRange}
-use Rattle.amr_problem.specs.declared.key.Key.TheVariants.{Version, Name, Cells, Steps, Courant, Sides, MaxLevel, Blocks}
-use Rattle.amr_problem.specs.Keys.{range, ranges_of, holds, first_outside, cell_count, courant_number, periodic}
+use Rattle.amr_problem.specs.declared.fault.ProblemFault.{ProblemFault}
+use Rattle.amr_problem.specs.declared.fault.ProblemFault.TheVariants.{OutOfRange}
+use Rattle.amr_problem.specs.declared.key.Key.TheVariants.{Version, Name, Cells, Steps, Courant, Sides, MaxLevel, MaxGridSize, Blocks}
+use Rattle.amr_problem.specs.Keys.{range, even_range, ranges_of, holds, first_outside, cell_count, courant_number, side}
 use Rattle.amr_problem.specs.Faults.{first_some, out_of_range, text_outside, rows_outside}
-use Rattle.amr_problem.specs.Entries.{IsReadOf, IsInRange, numbers_outside, range_fault}
+use Rattle.amr_problem.specs.Entries.{IsReadOf, IsSide, IsInRange, numbers_outside, range_fault}
 use Rattle.amr_problem.proofs.FirstSome.{both_none, fold-none, option_map-none}
 use Rattle.amr_problem.proofs.RangeLaws.{IsIn, holds-IsIn, first_outside-none}
 
 -- the ranges of a table are those of its entries
 pub same_ranges : (table : Members) (e : Entries) → IsReadOf table e → out_of_range table ≡ range_fault e
 unfolding range_fault
-same_ranges table e r = rw (r.version, r.name, r.cells, r.steps, r.courant, r.sides, r.max_level, r.blocks)
+same_ranges table e r = rw (r.version, r.name, r.cells, r.steps, r.courant, r.sides, r.max_level, r.max_grid_size, r.blocks)
 
 size_within : (z : ℤ) → IsIn courant_number z → unsigned_abs z ≤ 1024
 size_within (pos n) h = let top : pos n ≤ℤ pos 1024 = h.greatest in omega (arith, ints)
@@ -28,6 +28,9 @@ size_within (negsuc n) h = let least : negsuc 1023 ≤ℤ negsuc n = h.least in 
 
 same_from_both : (z w : ℤ) → IsIn (range w w) z → z ≡ w
 same_from_both z w h = let low : w ≤ℤ z = h.least in let high : z ≤ℤ w = h.greatest in omega (arith, ints)
+
+side_within : (z : ℤ) → IsIn side z → IsSide z
+side_within z h = record { least = h.least; greatest = h.greatest }
 
 record IsName (bytes : List ℕ) : Type 0 where
   named : 1 ≤ length bytes
@@ -65,21 +68,24 @@ rows_from_none rows h =
 pub in_range : (e : Entries) → range_fault e ≡ None → IsInRange e
 unfolding range_fault
 in_range e none =
-    let version : Option Fault = numbers_outside Version (e.version ∷ []) in
-    let name : Option Fault = option_map (OutOfRange Name) (text_outside (range (pos 1) (pos 32)) e.name.items) in
-    let cells : Option Fault = numbers_outside Cells (e.nx ∷ e.ny ∷ []) in
-    let steps : Option Fault = numbers_outside Steps (e.steps ∷ []) in
-    let courant : Option Fault = numbers_outside Courant (e.cx ∷ e.cy ∷ e.d ∷ []) in
-    let sides : Option Fault = numbers_outside Sides (e.x_low ∷ e.x_high ∷ e.y_low ∷ e.y_high ∷ []) in
-    let max_level : Option Fault = numbers_outside MaxLevel (e.max_level ∷ []) in
-    let blocks : Option Fault = option_map (OutOfRange Blocks) (rows_outside 256 (ranges_of Blocks) e.blocks.items) in
-    let to_name : Option Fault = option_or version name in
-    let to_cells : Option Fault = option_or to_name cells in
-    let to_steps : Option Fault = option_or to_cells steps in
-    let to_courant : Option Fault = option_or to_steps courant in
-    let to_sides : Option Fault = option_or to_courant sides in
-    let to_max_level : Option Fault = option_or to_sides max_level in
-    let n8 = both_none to_max_level blocks none in
+    let version : Option ProblemFault = numbers_outside Version (e.version ∷ []) in
+    let name : Option ProblemFault = option_map (OutOfRange Name) (text_outside (range (pos 1) (pos 32)) e.name.items) in
+    let cells : Option ProblemFault = numbers_outside Cells (e.nx ∷ e.ny ∷ []) in
+    let steps : Option ProblemFault = numbers_outside Steps (e.steps ∷ []) in
+    let courant : Option ProblemFault = numbers_outside Courant (e.cx ∷ e.cy ∷ e.d ∷ []) in
+    let sides : Option ProblemFault = numbers_outside Sides (e.x_low ∷ e.x_high ∷ e.y_low ∷ e.y_high ∷ []) in
+    let max_level : Option ProblemFault = numbers_outside MaxLevel (e.max_level ∷ []) in
+    let max_grid_size : Option ProblemFault = numbers_outside MaxGridSize (e.max_grid_size ∷ []) in
+    let blocks : Option ProblemFault = option_map (OutOfRange Blocks) (rows_outside 256 (ranges_of Blocks) e.blocks.items) in
+    let to_name : Option ProblemFault = option_or version name in
+    let to_cells : Option ProblemFault = option_or to_name cells in
+    let to_steps : Option ProblemFault = option_or to_cells steps in
+    let to_courant : Option ProblemFault = option_or to_steps courant in
+    let to_sides : Option ProblemFault = option_or to_courant sides in
+    let to_max_level : Option ProblemFault = option_or to_sides max_level in
+    let to_max_grid_size : Option ProblemFault = option_or to_max_level max_grid_size in
+    let n9 = both_none to_max_grid_size blocks none in
+    let n8 = both_none to_max_level max_grid_size n9.first in
     let n7 = both_none to_sides max_level n8.first in
     let n6 = both_none to_courant sides n7.first in
     let n5 = both_none to_steps courant n6.first in
@@ -93,12 +99,13 @@ in_range e none =
     let cx = first_outside-none courant_number (courant_number ∷ range (pos 1) (pos 1024) ∷ []) e.cx (e.cy ∷ e.d ∷ []) (option_map-none (OutOfRange Courant) _ n5.second) in
     let cy = first_outside-none courant_number (range (pos 1) (pos 1024) ∷ []) e.cy (e.d ∷ []) cx.others in
     let d = first_outside-none (range (pos 1) (pos 1024)) [] e.d [] cy.others in
-    let x_low = first_outside-none periodic (periodic ∷ periodic ∷ periodic ∷ []) e.x_low (e.x_high ∷ e.y_low ∷ e.y_high ∷ []) (option_map-none (OutOfRange Sides) _ n6.second) in
-    let x_high = first_outside-none periodic (periodic ∷ periodic ∷ []) e.x_high (e.y_low ∷ e.y_high ∷ []) x_low.others in
-    let y_low = first_outside-none periodic (periodic ∷ []) e.y_low (e.y_high ∷ []) x_high.others in
-    let y_high = first_outside-none periodic [] e.y_high [] y_low.others in
+    let x_low = first_outside-none side (side ∷ side ∷ side ∷ []) e.x_low (e.x_high ∷ e.y_low ∷ e.y_high ∷ []) (option_map-none (OutOfRange Sides) _ n6.second) in
+    let x_high = first_outside-none side (side ∷ side ∷ []) e.x_high (e.y_low ∷ e.y_high ∷ []) x_low.others in
+    let y_low = first_outside-none side (side ∷ []) e.y_low (e.y_high ∷ []) x_high.others in
+    let y_high = first_outside-none side [] e.y_high [] y_low.others in
     let level = first_outside-none (range (pos 0) (pos 0)) [] e.max_level [] (option_map-none (OutOfRange MaxLevel) _ n7.second) in
-    let rows = rows_from_none e.blocks.items (option_map-none (OutOfRange Blocks) _ n8.second) in
+    let grid = first_outside-none (even_range (pos 4) (pos 256)) [] e.max_grid_size [] (option_map-none (OutOfRange MaxGridSize) _ n8.second) in
+    let rows = rows_from_none e.blocks.items (option_map-none (OutOfRange Blocks) _ n9.second) in
     record {
       named = named.named;
       short_name = named.short;
@@ -113,11 +120,14 @@ in_range e none =
       size_cy = size_within e.cy cy.here;
       least_d = d.here.least;
       greatest_d = d.here.greatest;
-      x_low = same_from_both e.x_low (negsuc 0) x_low.here;
-      x_high = same_from_both e.x_high (negsuc 0) x_high.here;
-      y_low = same_from_both e.y_low (negsuc 0) y_low.here;
-      y_high = same_from_both e.y_high (negsuc 0) y_high.here;
+      x_low = side_within e.x_low x_low.here;
+      x_high = side_within e.x_high x_high.here;
+      y_low = side_within e.y_low y_low.here;
+      y_high = side_within e.y_high y_high.here;
       max_level = same_from_both e.max_level (pos 0) level.here;
+      least_max_grid_size = grid.here.least;
+      greatest_max_grid_size = grid.here.greatest;
+      even_max_grid_size = grid.here.even refl;
       block_count = rows.many;
       blocks = rows.inside;
     }

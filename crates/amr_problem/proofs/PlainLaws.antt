@@ -1,20 +1,19 @@
 -- The problem of bytes without fault has one level and no walls.
-use Rattle.std.proofs.Common.{◌≡◌, refl, ℕ, ◌<◌, length, ◌++◌, ℤ, pos, List, [], ◌∷◌, Option, Some, None, option_map, option_and_then, map, arith, lt-ltb}
+use Rattle.std.proofs.Common.{◌≡◌, refl, false, ℕ, ◌<◌, length, ◌++◌, ℤ, pos, List, [], ◌∷◌, Option, Some, None, option_map, option_and_then, map, arith, lt-ltb}
 use Rattle.std.proofs.lemmas.Int.{ints}
 use Rattle.toml.specs.Data.{Members}
 use Rattle.amr_def.specs.declared.problem.Problem.{Problem}
 use Rattle.amr_def.specs.declared.problem.Sides.{Sides}
 use Rattle.amr_def.specs.declared.problem.Sides.TheVariants.{Periodic, Open}
-use Rattle.amr_problem.specs.declared.fault.Fault.{Fault}
-use Rattle.amr_problem.specs.declared.fault.Fault.TheVariants.{OutOfRange}
-use Rattle.amr_problem.specs.declared.fault.ProblemFault.TheVariants.{NotBuilt}
+use Rattle.amr_problem.specs.declared.fault.ProblemFault.{ProblemFault}
+use Rattle.amr_problem.specs.declared.fault.ProblemFault.TheVariants.{TooLong, OutOfRange}
 use Rattle.amr_problem.specs.declared.key.Key.{Key}
 use Rattle.amr_problem.specs.declared.key.Key.TheVariants as key
 use Rattle.amr_problem.specs.Document.{table_of}
-use Rattle.amr_problem.specs.Keys.{kind_of, range, periodic, first_outside}
+use Rattle.amr_problem.specs.Keys.{kind_of, range, first_outside}
 use Rattle.amr_problem.specs.Values.{◌>>=◌, numbers_at, rows_at}
 use Rattle.amr_problem.specs.Fields.{sides_numbers}
-use Rattle.amr_problem.specs.Faults.{first_some, too_long, not_toml, unknown_key, missing_key, wrong_kind, outside, out_of_range, courant_over, block_outside, fault_in, first_fault}
+use Rattle.amr_problem.specs.Faults.{first_some, too_long, not_toml, unknown_key, missing_key, wrong_kind, outside, out_of_range, courant_over, is_periodic, sides_differ, block_outside, not_built, fault_in}
 use Rattle.amr_problem.specs.Judgement.{IsProblemOf, fault_of}
 use Rattle.amr_problem.proofs.FirstSome.{AreNone, fold-none, option_map-none}
 use Rattle.amr_problem.proofs.RangeLaws.{first_outside-none}
@@ -24,31 +23,40 @@ pub record HasOneLevel (p : Problem) : Type 0 where
   pub x_periodic : p.x_sides ≡ Periodic
   pub y_periodic : p.y_sides ≡ Periodic
 
--- no number of a table without fault is out of its range
-in_range : (table : Members) → fault_in table ≡ None → out_of_range table ≡ None
-in_range table h =
-    let after : List (Option Fault) = (numbers_at 3 table key.Courant >>= courant_over) ∷ (numbers_at 2 table key.Cells >>= (λ cells. rows_at 5 table key.Blocks >>= block_outside cells)) ∷ [] in
-    let from_range : List (Option Fault) = out_of_range table ∷ after in
-    let from_kind : List (Option Fault) = wrong_kind table ∷ from_range in
+-- of a table without fault no number is out of its range, and no side is open
+record IsPlain (table : Members) : Type 0 where
+  in_range : out_of_range table ≡ None
+  built : numbers_at 4 table key.Sides >>= not_built ≡ None
+
+is_plain : (table : Members) → fault_in table ≡ None → IsPlain table
+is_plain table h =
+    let blocks : Option ProblemFault = numbers_at 2 table key.Cells >>= (λ cells. rows_at 5 table key.Blocks >>= block_outside cells) in
+    let from_built : List (Option ProblemFault) = (numbers_at 4 table key.Sides >>= not_built) ∷ [] in
+    let from_blocks : List (Option ProblemFault) = blocks ∷ from_built in
+    let from_sides : List (Option ProblemFault) = (numbers_at 4 table key.Sides >>= sides_differ) ∷ from_blocks in
+    let from_courant : List (Option ProblemFault) = (numbers_at 3 table key.Courant >>= courant_over) ∷ from_sides in
+    let from_range : List (Option ProblemFault) = out_of_range table ∷ from_courant in
+    let from_kind : List (Option ProblemFault) = wrong_kind table ∷ from_range in
     let unknown = fold-none (unknown_key table) (missing_key table ∷ from_kind) h in
     let missing = fold-none (missing_key table) from_kind unknown.second in
     let kinds = fold-none (wrong_kind table) from_range missing.second in
-    (fold-none (out_of_range table) after kinds.second).first
+    let ranges = fold-none (out_of_range table) from_courant kinds.second in
+    let courant = fold-none (numbers_at 3 table key.Courant >>= courant_over) from_sides ranges.second in
+    let sides = fold-none (numbers_at 4 table key.Sides >>= sides_differ) from_blocks courant.second in
+    let inside = fold-none blocks from_built sides.second in
+    record { in_range = ranges.first; built = (fold-none (numbers_at 4 table key.Sides >>= not_built) [] inside.second).first }
 
 -- nor the number at a key
-abbrev key_fault : Members → Key → Option Fault
+abbrev key_fault : Members → Key → Option ProblemFault
 key_fault table k = option_map (OutOfRange k) (outside table k (kind_of k))
-
-pub record AreInside (table : Members) : Type 0 where
-  pub sides : outside table key.Sides (kind_of key.Sides) ≡ None
-  pub max_level : outside table key.MaxLevel (kind_of key.MaxLevel) ≡ None
 
 first_key : (table : Members) (k : Key) (ks : List Key) → first_some (map (key_fault table) (k ∷ ks)) ≡ None → AreNone (key_fault table k) (first_some (map (key_fault table) ks))
 first_key table k ks h = fold-none (key_fault table k) (map (key_fault table) ks) h
 
-are_inside : (table : Members) → out_of_range table ≡ None → AreInside table
-are_inside table h =
-    let from_max_level : List Key = key.MaxLevel ∷ key.Blocks ∷ [] in
+level_inside : (table : Members) → out_of_range table ≡ None → outside table key.MaxLevel (kind_of key.MaxLevel) ≡ None
+level_inside table h =
+    let from_grid : List Key = key.MaxGridSize ∷ key.Blocks ∷ [] in
+    let from_max_level : List Key = key.MaxLevel ∷ from_grid in
     let from_sides : List Key = key.Sides ∷ from_max_level in
     let from_courant : List Key = key.Courant ∷ from_sides in
     let from_steps : List Key = key.Steps ∷ from_courant in
@@ -59,20 +67,22 @@ are_inside table h =
     let steps = first_key table key.Steps from_courant cells.second in
     let courant = first_key table key.Courant from_sides steps.second in
     let sides = first_key table key.Sides from_max_level courant.second in
-    let max_level = first_key table key.MaxLevel (key.Blocks ∷ []) sides.second in
-    record { sides = option_map-none _ _ sides.first; max_level = option_map-none _ _ max_level.first }
+    option_map-none _ _ (first_key table key.MaxLevel from_grid sides.second).first
 
--- what is at a key is told to be inside
-inside_at : (found : Option (List ℤ)) (zs : List ℤ) (test : List ℤ → Option ℤ) → found ≡ Some zs → option_and_then test found ≡ None → test zs ≡ None
-inside_at found zs test is h = rw is at h
+-- what stands at a key passes its test
+passes : {A : Type 0} (found : Option A) (x : A) (test : A → Option ProblemFault) → found ≡ Some x → option_and_then test found ≡ None → test x ≡ None
+passes found x test is h = rw is at h
 
-inside_at_number : (found : Option ℤ) (z : ℤ) (test : ℤ → Option ℤ) → found ≡ Some z → option_and_then test found ≡ None → test z ≡ None
-inside_at_number found z test is h = rw is at h
+inside_at : (found : Option ℤ) (z : ℤ) (test : ℤ → Option ℤ) → found ≡ Some z → option_and_then test found ≡ None → test z ≡ None
+inside_at found z test is h = rw is at h
 
-both_periodic : (x y : Sides) → first_outside (periodic ∷ periodic ∷ periodic ∷ periodic ∷ []) (sides_numbers x ++ sides_numbers y) ≡ None → (x ≡ Periodic) × (y ≡ Periodic)
+inflow_open : (n : ℕ) → is_periodic (pos n) ≡ false
+inflow_open n = grind (arith, ints)
+
+both_periodic : (x y : Sides) → not_built (sides_numbers x ++ sides_numbers y) ≡ None → (x ≡ Periodic) × (y ≡ Periodic)
 both_periodic Periodic Periodic h = (refl, refl)
-both_periodic Periodic (Open low high) h = cc
-both_periodic (Open low high) y h = cc
+both_periodic Periodic (Open low high) h = absurd (let e = rw (inflow_open low) at h in cc)
+both_periodic (Open low high) y h = absurd (let e = rw (inflow_open low) at h in cc)
 
 level_0 : (n : ℕ) → first_outside (range (pos 0) (pos 0) ∷ []) (pos n ∷ []) ≡ None → n ≡ 0
 level_0 n h = let here = (first_outside-none (range (pos 0) (pos 0)) [] (pos n) [] h).here.greatest in omega (arith, ints)
@@ -81,19 +91,18 @@ pub has_one_level : (bytes : List ℕ) (p : Problem) → IsProblemOf bytes p →
 unfolding fault_of
 has_one_level bytes p is =
     let table : Members = table_of bytes in
-    let clean : first_fault bytes ≡ None = option_map-none _ _ is.clean in
-    let long = fold-none (too_long bytes) (not_toml bytes ∷ fault_in table ∷ []) clean in
+    let long = fold-none (too_long bytes) (not_toml bytes ∷ fault_in table ∷ []) is.clean in
     let toml = fold-none (not_toml bytes) (fault_in table ∷ []) long.second in
     let fault = fold-none (fault_in table) [] toml.second in
-    let inside = are_inside table (in_range table fault.first) in
-    let sides = both_periodic p.x_sides p.y_sides (inside_at _ _ (first_outside (periodic ∷ periodic ∷ periodic ∷ periodic ∷ [])) is.keys.sides inside.sides) in
+    let plain = is_plain table fault.first in
+    let sides = both_periodic p.x_sides p.y_sides (passes _ _ not_built is.keys.sides plain.built) in
     record {
-      one_level = level_0 p.max_level (inside_at_number _ _ (λ z. first_outside (range (pos 0) (pos 0) ∷ []) (z ∷ [])) is.keys.max_level inside.max_level);
+      one_level = level_0 p.max_level (inside_at _ _ (λ z. first_outside (range (pos 0) (pos 0) ∷ []) (z ∷ [])) is.keys.max_level (level_inside table plain.in_range));
       x_periodic = sides.0;
       y_periodic = sides.1;
     }
 
 -- more bytes than a problem has are none
-pub too_many_bytes : (bytes : List ℕ) → 65536 < length bytes → fault_of bytes ≡ Some NotBuilt
+pub too_many_bytes : (bytes : List ℕ) → 65536 < length bytes → fault_of bytes ≡ Some TooLong
 unfolding fault_of
 too_many_bytes bytes h = rw (lt-ltb 65536 (length bytes) h) refl

@@ -1,22 +1,28 @@
 -- Laws of ranges.
-use Rattle.std.proofs.Common.{◌≡◌, true, ℤ, ◌≤ℤ◌, int_le, inl, inr, List, ◌∷◌, None, arith}
+use Rattle.std.proofs.Common.{◌≡◌, true, not, ◌&&◌, ◌||◌, ℤ, ◌≤ℤ◌, int_le, inl, inr, List, ◌∷◌, None, arith}
 use Rattle.std.proofs.lemmas.Bool.{cases_Bool, and_parts}
 use Rattle.std.proofs.lemmas.Int.{ints}
 use Rattle.amr_problem.specs.declared.key.Range.{Range}
-use Rattle.amr_problem.specs.Keys.{holds, first_outside}
+use Rattle.amr_problem.specs.Keys.{is_even, holds, first_outside}
 
 -- a number in a range
 pub record IsIn (r : Range) (z : ℤ) : Type 0 where
   pub least : r.low ≤ℤ z
   pub greatest : z ≤ℤ r.high
+  pub even : r.even ≡ true → is_even z ≡ true
 
 int_le-true : (a b : ℤ) → int_le a b ≡ true → a ≤ℤ b
 int_le-true a b h = grind (arith, ints)
 
 pub holds-IsIn : (r : Range) (z : ℤ) → holds r z ≡ true → IsIn r z
 holds-IsIn r z h =
-    let (low, high) = and_parts (int_le r.low z) (int_le z r.high) h in
-    record { least = int_le-true r.low z low; greatest = int_le-true z r.high high }
+    let (within, even) = and_parts (int_le r.low z && int_le z r.high) (not r.even || is_even z) h in
+    let (low, high) = and_parts (int_le r.low z) (int_le z r.high) within in
+    record {
+      least = int_le-true r.low z low;
+      greatest = int_le-true z r.high high;
+      even = λ asked. rw asked at even;
+    }
 
 -- the first number is in its range, and of the others none is out of its own
 pub record StartsInside (r : Range) (rs : List Range) (z : ℤ) (zs : List ℤ) : Type 0 where

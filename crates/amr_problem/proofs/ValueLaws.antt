@@ -1,5 +1,6 @@
 -- Laws of the readers of a document's values.
-use Rattle.std.proofs.Common.{◌≡◌, ◌∙◌, ap, refl, ℕ, ◌+◌, ◌<◌, ◌≤◌, ℤ, eq-eqb, List, [], ◌∷◌, ◌++◌, length, drop, take, get_or, set, append_assoc, Option, Some, None, option_map, arith, append-nil}
+use Rattle.std.proofs.Common.{◌≡◌, ◌∙◌, ap, refl, ℕ, ◌+◌, ◌<◌, ◌≤◌, ◌≢◌, ℤ, eq-eqb, List, [], ◌∷◌, ◌++◌, length, drop, take, get_or, set, append_assoc, Option, Some, None, option_map, arith, append-nil}
+use Rattle.std.proofs.lemmas.Bool.{ne_eqb}
 use Rattle.std.proofs.lemmas.List.{take_more_set, drop_all, take_all}
 use Rattle.toml.specs.Data.{as_integer}
 use Rattle.toml.specs.View.{view, items_view}
@@ -7,9 +8,9 @@ use Rattle.toml.specs.declared.value.Value.{Value}
 use Rattle.toml.proofs.Views.{items_view-drop}
 use Rattle.amr_problem.specs.Values.{count, integers, numbers_in}
 
-pub count-view : (vs : List Value) → count (items_view vs) ≡ length vs
-count-view [] = refl
-count-view (v ∷ vs) = omega (arith, count-view vs)
+pub count_view : (vs : List Value) → count (items_view vs) ≡ length vs
+count_view [] = refl
+count_view (v ∷ vs) = omega (arith, count_view vs)
 
 -- the integers from a place on, where an integer stands at it
 pub integers-at : (vs : List Value) (i : ℕ) (d : Value) (z : ℤ) → i < length vs → as_integer (view (get_or vs i d)) ≡ Some z
@@ -46,6 +47,10 @@ read_all vs found i past room h =
     let read : integers (items_view vs) ≡ Some (found ++ []) = rw (over, full) at h in
     read ∙ ap Some (append-nil found)
 
--- so many integers, or not
-pub numbers_in-read : (many : ℕ) (vs : List Value) (zs : Option (List ℤ)) → length vs ≡ many → integers (items_view vs) ≡ zs → numbers_in many (items_view vs) ≡ zs
-numbers_in-read many vs zs same read = rw (count-view vs, eq-eqb (length vs) many same) read
+-- so many items
+pub numbers_in_whole : (many : ℕ) (vs : List Value) → length vs ≡ many → numbers_in many (items_view vs) ≡ integers (items_view vs)
+numbers_in_whole many vs same = rw (count_view vs, eq-eqb (length vs) many same)
+
+-- other than so many
+pub numbers_in_other : (many : ℕ) (vs : List Value) → length vs ≢ many → numbers_in many (items_view vs) ≡ None
+numbers_in_other many vs other = rw (count_view vs, ne_eqb (length vs) many other)

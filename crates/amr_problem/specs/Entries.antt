@@ -4,17 +4,17 @@ use Rattle.std.specs.List.{list_all}
 use Rattle.std.specs.Option.{option_or}
 use Rattle.toml.specs.Data.{Members}
 use Rattle.amr_problem.specs.declared.entries.Entries.{Entries}
-use Rattle.amr_problem.specs.declared.fault.Fault.{Fault}
-use Rattle.amr_problem.specs.declared.fault.Fault.TheVariants.{OutOfRange}
+use Rattle.amr_problem.specs.declared.fault.ProblemFault.{ProblemFault}
+use Rattle.amr_problem.specs.declared.fault.ProblemFault.TheVariants.{OutOfRange}
 use Rattle.amr_problem.specs.declared.key.Key.{Key}
-use Rattle.amr_problem.specs.declared.key.Key.TheVariants.{Version, Name, Cells, Steps, Courant, Sides, MaxLevel, Blocks}
+use Rattle.amr_problem.specs.declared.key.Key.TheVariants.{Version, Name, Cells, Steps, Courant, Sides, MaxLevel, MaxGridSize, Blocks}
 use Rattle.amr_def.specs.declared.problem.Problem.{Problem}
 use Rattle.amr_def.specs.declared.problem.Block.{Block}
-use Rattle.amr_def.specs.declared.problem.Sides.TheVariants.{Periodic}
+use Rattle.amr_def.specs.declared.problem.Sides as axis
 use Rattle.amr_def.specs.Limits.{is_name_byte}
-use Rattle.amr_problem.specs.Keys.{range, ranges_of, first_outside}
-use Rattle.amr_problem.specs.Fields.{block_numbers, HasDefaults}
-use Rattle.amr_problem.specs.Faults.{courant_over, block_outside, first_some, text_outside, rows_outside}
+use Rattle.amr_problem.specs.Keys.{range, ranges_of, first_outside, is_even}
+use Rattle.amr_problem.specs.Fields.{sides_numbers, block_numbers, HasDefaults}
+use Rattle.amr_problem.specs.Faults.{courant_over, is_periodic, sides_differ, block_outside, not_built, first_some, text_outside, rows_outside}
 use Rattle.amr_problem.specs.Values.{number_at, text_at, numbers_at, rows_at}
 
 -- the entries are those of the table
@@ -26,14 +26,15 @@ pub record IsReadOf (table : Members) (e : Entries) : Type 0 where
   pub courant : numbers_at 3 table Courant ≡ Some (e.cx ∷ e.cy ∷ e.d ∷ [])
   pub sides : numbers_at 4 table Sides ≡ Some (e.x_low ∷ e.x_high ∷ e.y_low ∷ e.y_high ∷ [])
   pub max_level : number_at table MaxLevel ≡ Some e.max_level
+  pub max_grid_size : number_at table MaxGridSize ≡ Some e.max_grid_size
   pub blocks : rows_at 5 table Blocks ≡ Some e.blocks.items
 
 -- the first of a key's numbers that is out of its range
-abbrev pub numbers_outside : Key → List ℤ → Option Fault
+abbrev pub numbers_outside : Key → List ℤ → Option ProblemFault
 numbers_outside key zs = option_map (OutOfRange key) (first_outside (ranges_of key) zs)
 
 -- the first number, in the order of the keys, that is out of its range
-unfoldable pub range_fault : Entries → Option Fault
+unfoldable pub range_fault : Entries → Option ProblemFault
 range_fault e = first_some
     (numbers_outside Version (e.version ∷ [])
     ∷ option_map (OutOfRange Name) (text_outside (range (pos 1) (pos 32)) e.name.items)
@@ -42,16 +43,27 @@ range_fault e = first_some
     ∷ numbers_outside Courant (e.cx ∷ e.cy ∷ e.d ∷ [])
     ∷ numbers_outside Sides (e.x_low ∷ e.x_high ∷ e.y_low ∷ e.y_high ∷ [])
     ∷ numbers_outside MaxLevel (e.max_level ∷ [])
+    ∷ numbers_outside MaxGridSize (e.max_grid_size ∷ [])
     ∷ option_map (OutOfRange Blocks) (rows_outside 256 (ranges_of Blocks) e.blocks.items)
     ∷ [])
 
 -- the first fault of entries within their ranges
-abbrev pub in_range_fault : Entries → Option Fault
-in_range_fault e = option_or (courant_over (e.cx ∷ e.cy ∷ e.d ∷ [])) (block_outside (e.nx ∷ e.ny ∷ []) e.blocks.items)
+abbrev pub in_range_fault : Entries → Option ProblemFault
+in_range_fault e = first_some
+    (courant_over (e.cx ∷ e.cy ∷ e.d ∷ [])
+    ∷ sides_differ (e.x_low ∷ e.x_high ∷ e.y_low ∷ e.y_high ∷ [])
+    ∷ block_outside (e.nx ∷ e.ny ∷ []) e.blocks.items
+    ∷ not_built (e.x_low ∷ e.x_high ∷ e.y_low ∷ e.y_high ∷ [])
+    ∷ [])
 
 -- the first fault from the ranges on
-abbrev pub entry_fault : Entries → Option Fault
+abbrev pub entry_fault : Entries → Option ProblemFault
 entry_fault e = option_or (range_fault e) (in_range_fault e)
+
+-- -1 or an inflow
+pub record IsSide (side : ℤ) : Type 0 where
+  pub least : negsuc 0 ≤ℤ side
+  pub greatest : side ≤ℤ pos 1073741824
 
 -- every entry that is used further on is in its range
 pub record IsInRange (e : Entries) : Type 0 where
@@ -68,11 +80,14 @@ pub record IsInRange (e : Entries) : Type 0 where
   pub size_cy : unsigned_abs e.cy ≤ 1024
   pub least_d : pos 1 ≤ℤ e.d
   pub greatest_d : e.d ≤ℤ pos 1024
-  pub x_low : e.x_low ≡ negsuc 0
-  pub x_high : e.x_high ≡ negsuc 0
-  pub y_low : e.y_low ≡ negsuc 0
-  pub y_high : e.y_high ≡ negsuc 0
+  pub x_low : IsSide e.x_low
+  pub x_high : IsSide e.x_high
+  pub y_low : IsSide e.y_low
+  pub y_high : IsSide e.y_high
   pub max_level : e.max_level ≡ pos 0
+  pub least_max_grid_size : pos 4 ≤ℤ e.max_grid_size
+  pub greatest_max_grid_size : e.max_grid_size ≤ℤ pos 256
+  pub even_max_grid_size : is_even e.max_grid_size ≡ true
   pub block_count : length e.blocks.items ≤ 256
   pub blocks : list_all (λ row. is_none (first_outside (ranges_of Blocks) row)) e.blocks.items ≡ true
 
@@ -80,6 +95,8 @@ pub record IsInRange (e : Entries) : Type 0 where
 pub record IsClean (e : Entries) : Type 0 where
   pub in_range : IsInRange e
   pub stable : courant_over (e.cx ∷ e.cy ∷ e.d ∷ []) ≡ None
+  pub x_alike : is_periodic e.x_low ≡ is_periodic e.x_high
+  pub y_alike : is_periodic e.y_low ≡ is_periodic e.y_high
   pub inside : block_outside (e.nx ∷ e.ny ∷ []) e.blocks.items ≡ None
 
 -- the problem has what the entries say
@@ -91,14 +108,15 @@ pub record HasEntries (e : Entries) (p : Problem) : Type 0 where
   pub cx : e.cx ≡ p.cx
   pub cy : e.cy ≡ p.cy
   pub d : e.d ≡ pos p.d
-  pub blocks : e.blocks.items ≡ map block_numbers p.blocks
-  pub x_sides : p.x_sides ≡ Periodic
-  pub y_sides : p.y_sides ≡ Periodic
+  pub x_sides : e.x_low ∷ e.x_high ∷ [] ≡ sides_numbers p.x_sides
+  pub y_sides : e.y_low ∷ e.y_high ∷ [] ≡ sides_numbers p.y_sides
   pub max_level : p.max_level ≡ 0
+  pub max_grid_size : e.max_grid_size ≡ pos p.max_grid_size
+  pub blocks : e.blocks.items ≡ map block_numbers p.blocks
   pub absent : HasDefaults p
 
--- the problem of one level without walls that has these parts
-pub record HasParts (name : List ℕ) (nx ny steps : ℕ) (cx cy : ℤ) (d : ℕ) (blocks : List Block) (p : Problem) : Type 0 where
+-- the problem of one level that has these parts
+pub record HasParts (name : List ℕ) (nx ny steps : ℕ) (cx cy : ℤ) (d : ℕ) (x_sides y_sides : axis.Sides) (max_grid_size : ℕ) (blocks : List Block) (p : Problem) : Type 0 where
   pub name_is : p.name ≡ name
   pub nx_is : p.nx ≡ nx
   pub ny_is : p.ny ≡ ny
@@ -106,8 +124,9 @@ pub record HasParts (name : List ℕ) (nx ny steps : ℕ) (cx cy : ℤ) (d : ℕ
   pub cx_is : p.cx ≡ cx
   pub cy_is : p.cy ≡ cy
   pub d_is : p.d ≡ d
-  pub x_sides_is : p.x_sides ≡ Periodic
-  pub y_sides_is : p.y_sides ≡ Periodic
+  pub x_sides_are : p.x_sides ≡ x_sides
+  pub y_sides_are : p.y_sides ≡ y_sides
   pub max_level_is : p.max_level ≡ 0
+  pub max_grid_size_is : p.max_grid_size ≡ max_grid_size
   pub blocks_are : p.blocks ≡ blocks
   pub absent : HasDefaults p

@@ -1,13 +1,15 @@
 -- The faults of a problem, in the order in which they are looked for. (profile)
 use Rattle.std.specs.Prelude.{ℕ, ◌+◌, ℤ, pos, Bool, ◌&&◌, not, nat_lt, int_le, int_lt, unsigned_abs, List, [], ◌∷◌, length, map, find, fold, true, position, Option, Some, None, option_map, is_some, if◌then◌else◌}
-use Rattle.std.specs.List.{list_all}
+use Rattle.std.specs.List.{list_all, list_any}
 use Rattle.std.specs.Option.{option_or}
+use Rattle.amr_box.specs.declared.Axis.TheVariants.{X, Y}
 use Rattle.amr_def.specs.Limits.{is_name_byte}
 use Rattle.toml.specs.Data.{Members, no_members, member}
-use Rattle.amr_problem.specs.declared.fault.Fault.{Fault}
-use Rattle.amr_problem.specs.declared.fault.Fault.TheVariants.{TooLong, NotToml, UnknownKey, Missing, WrongKind, OutOfRange, CourantOver, BlockOutside}
+use Rattle.amr_problem.specs.declared.fault.ProblemFault.{ProblemFault}
+use Rattle.amr_problem.specs.declared.fault.ProblemFault.TheVariants.{TooLong, NotToml, UnknownKey, Missing, WrongKind, OutOfRange, SidesDiffer, BlockOutside, NotBuilt}
+use Rattle.amr_problem.specs.declared.fault.ProblemFault.TheVariants as fault
 use Rattle.amr_problem.specs.declared.key.Key.{Key}
-use Rattle.amr_problem.specs.declared.key.Key.TheVariants.{Cells, Courant, Blocks}
+use Rattle.amr_problem.specs.declared.key.Key.TheVariants.{Cells, Courant, Sides, Blocks}
 use Rattle.amr_problem.specs.declared.key.Range.{Range}
 use Rattle.amr_problem.specs.Document.{document, table_of}
 use Rattle.amr_problem.specs.Keys.{Kind, number, text, numbers, rows, kind_of, keys, is_known, holds, first_outside}
@@ -23,11 +25,11 @@ abbrev pub most_bytes : ℕ
 most_bytes = 65536
 
 -- 1: there are too many bytes
-abbrev pub too_long : List ℕ → Option Fault
+abbrev pub too_long : List ℕ → Option ProblemFault
 too_long bytes = if nat_lt most_bytes (length bytes) then Some TooLong else None
 
 -- 2: they are no TOML
-abbrev pub not_toml : List ℕ → Option Fault
+abbrev pub not_toml : List ℕ → Option ProblemFault
 not_toml bytes = if is_some (document bytes) then None else Some NotToml
 
 abbrev pub keys_in : Members → List (List ℕ)
@@ -35,11 +37,11 @@ keys_in no_members = []
 keys_in (member key value rest) = key ∷ keys_in rest
 
 -- 3: a key is none of the table's. The members stand in the order of their bytes, so this is the least such key.
-abbrev pub unknown_key : Members → Option Fault
+abbrev pub unknown_key : Members → Option ProblemFault
 unknown_key table = option_map UnknownKey (find (λ key. not (is_known key)) (keys_in table))
 
--- 4: a key is absent
-abbrev pub missing_key : Members → Option Fault
+-- 4: a key is absent, and nothing stands where it is
+abbrev pub missing_key : Members → Option ProblemFault
 missing_key table = option_map Missing (find (λ key. not (is_there table key)) keys)
 
 abbrev pub is_read : Members → Key → Kind → Bool
@@ -49,7 +51,7 @@ is_read table key (numbers rs) = is_some (numbers_at (length rs) table key)
 is_read table key (rows most rs) = is_some (rows_at (length rs) table key)
 
 -- 5: a value is of another kind
-abbrev pub wrong_kind : Members → Option Fault
+abbrev pub wrong_kind : Members → Option ProblemFault
 wrong_kind table = option_map WrongKind (find (λ key. not (is_read table key (kind_of key))) keys)
 
 -- a text is too short or too long, or has other bytes than a name: then its length
@@ -67,37 +69,57 @@ outside table key (numbers rs) = numbers_at (length rs) table key >>= first_outs
 outside table key (rows most rs) = rows_at (length rs) table key >>= rows_outside most rs
 
 -- 6: a number is out of its range
-abbrev pub out_of_range : Members → Option Fault
+abbrev pub out_of_range : Members → Option ProblemFault
 out_of_range table = first_some (map (λ key. option_map (OutOfRange key) (outside table key (kind_of key))) keys)
 
 -- 7: more than a whole cell flows out of it in a step
-abbrev pub courant_over : List ℤ → Option Fault
+abbrev pub courant_over : List ℤ → Option ProblemFault
 courant_over (cx ∷ cy ∷ d ∷ []) =
     let sum = pos (unsigned_abs cx + unsigned_abs cy) in
-    if int_lt d sum then Some (CourantOver sum d) else None
+    if int_lt d sum then Some (fault.Courant sum d) else None
 courant_over _ = None
+
+-- a side below 0 is the -1 of a periodic axis
+abbrev pub is_periodic : ℤ → Bool
+is_periodic side = int_lt side (pos 0)
+
+-- one of the two is periodic and the other isn't
+abbrev pub differ : ℤ → ℤ → Bool
+differ low high = if is_periodic low then not (is_periodic high) else is_periodic high
+
+-- 8: one side of an axis is periodic and the other isn't
+abbrev pub sides_differ : List ℤ → Option ProblemFault
+sides_differ (x_low ∷ x_high ∷ y_low ∷ y_high ∷ []) =
+    if differ x_low x_high then Some (SidesDiffer X) else (if differ y_low y_high then Some (SidesDiffer Y) else None)
+sides_differ _ = None
 
 -- 9: a block has its corners out of order, or lies outside of the cells
 abbrev pub is_inside : List ℤ → List ℤ → Bool
 is_inside (nx ∷ ny ∷ []) (x0 ∷ y0 ∷ x1 ∷ y1 ∷ mass ∷ []) = int_le x0 x1 && int_lt x1 nx && int_le y0 y1 && int_lt y1 ny
 is_inside _ _ = true
 
-abbrev pub block_outside : List ℤ → List (List ℤ) → Option Fault
+abbrev pub block_outside : List ℤ → List (List ℤ) → Option ProblemFault
 block_outside cells blocks = option_map BlockOutside (position (λ block. not (is_inside cells block)) blocks)
+
+-- last, until open sides are built: a side is open
+abbrev pub not_built : List ℤ → Option ProblemFault
+not_built sides = if list_any (λ side. not (is_periodic side)) sides then Some NotBuilt else None
 
 -- ---- the first of them
 
 -- of a table
-abbrev pub fault_in : Members → Option Fault
+abbrev pub fault_in : Members → Option ProblemFault
 fault_in table = first_some
     (unknown_key table
     ∷ missing_key table
     ∷ wrong_kind table
     ∷ out_of_range table
     ∷ (numbers_at 3 table Courant >>= courant_over)
+    ∷ (numbers_at 4 table Sides >>= sides_differ)
     ∷ (numbers_at 2 table Cells >>= (λ cells. rows_at 5 table Blocks >>= block_outside cells))
+    ∷ (numbers_at 4 table Sides >>= not_built)
     ∷ [])
 
 -- of bytes
-abbrev pub first_fault : List ℕ → Option Fault
+abbrev pub first_fault : List ℕ → Option ProblemFault
 first_fault bytes = first_some (too_long bytes ∷ not_toml bytes ∷ fault_in (table_of bytes) ∷ [])

@@ -24,4 +24,3 @@ pub record HasDefaults (p : Problem) : Type 0 where
   pub min_width : p.min_width ≡ 2
   pub regrid_int : p.regrid_int ≡ 2
   pub blocking : p.blocking ≡ 2
-  pub max_grid_size : p.max_grid_size ≡ 32

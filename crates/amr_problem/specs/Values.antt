@@ -1,9 +1,10 @@
 -- The values of a document, each read by the kind of its key.
---     number_at, text_at, numbers_at, rows_at      the value at a key: none where it is absent or of another kind
+--     number_at, text_at, numbers_at, rows_at      the value that stands at a key: none where there is none, or one of another kind
 use Rattle.std.specs.Prelude.{ℕ, ◌+◌, ℤ, Bool, ◌==◌, List, [], ◌∷◌, Option, Some, None, option_map, option_and_then, is_some, if◌then◌else◌}
+use Rattle.std.specs.Option.{option_or}
 use Rattle.toml.specs.Data.{Data, as_integer, as_str, as_array, Items, no_items, item, Members, get_member}
 use Rattle.amr_problem.specs.declared.key.Key.{Key}
-use Rattle.amr_problem.specs.Keys.{text_of}
+use Rattle.amr_problem.specs.Keys.{text_of, absent_of, stands}
 
 infixl 10 ◌>>=◌
 abbrev pub ◌>>=◌ : {A B : Type 0} → Option A → (A → Option B) → Option B
@@ -35,8 +36,13 @@ rows_of many d = as_array d >>= rows_in many
 
 -- ---- at a key
 
+-- the value that is written at it
+abbrev pub written_at : Members → Key → Option Data
+written_at table key = get_member (text_of key) table
+
+-- the value that stands at it: the one that is written, or what stands where the key is absent
 abbrev pub value_at : Members → Key → Option Data
-value_at table key = get_member (text_of key) table
+value_at table key = option_or (written_at table key) (stands (absent_of key))
 
 unfoldable pub is_there : Members → Key → Bool
 is_there table key = is_some (value_at table key)

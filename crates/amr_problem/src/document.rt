@@ -5,35 +5,35 @@ ghost use Rattle.std.specs.BTreeMap.{keys as keys_of_map};
 ghost use Rattle.toml.specs.View.{table_view, view};
 ghost use Rattle.amr_problem.specs.Document.{document};
 ghost use Rattle.amr_problem.specs.Keys.{is_known, keys};
-ghost use Rattle.amr_problem.specs.Values.{value_at, is_there};
+ghost use Rattle.amr_problem.specs.Values.{written_at, is_there};
 ghost use Rattle.amr_problem.specs.Faults.{keys_in, unknown_key, missing_key};
 
-use crate::fault::{Fault, Refusal};
+use crate::fault::{JudgeFault, ProblemFault};
 use crate::key::{KEYS, Key, is_known};
 use crate::key_text::KeyText;
 use std::alloc::{AllocError, Global};
 use toml::{Table, Value};
 
 /// The table that the bytes are.
-pub fn read(alloc: Global, bytes: &[u8]) -> Result<Table, Refusal>
+pub fn read(alloc: Global, bytes: &[u8]) -> Result<Table, JudgeFault>
     ensures read { IfOk result (λ table. document bytes.now ≡ Some (table_view table)) }
-    ensures refused { (f : _) → IsErrOf result (Refusal.Fault f) → (f ≡ Fault.NotToml) × (document bytes.now ≡ None) }
+    ensures refused { (f : _) → IsErrOf result (JudgeFault.Fault f) → (f ≡ ProblemFault.NotToml) × (document bytes.now ≡ None) }
 {
     match toml::table_from_slice(alloc, bytes) {
         Ok(table) => Ok(table),
         Err(error) => {
             if error.is_memory() {
-                Err(Refusal::NoMemory)
+                Err(JudgeFault::NoMemory)
             } else {
-                Err(Refusal::Fault(Fault::NotToml))
+                Err(JudgeFault::Fault(ProblemFault::NotToml))
             }
         }
     }
 }
 
-/// The value at a key.
-pub fn value_at<'a>(table: &'a Table, key: Key) -> Option<&'a Value>
-    ensures { option_map (λ v. view v.now) result ≡ value_at (table_view table.now) key }
+/// The value that is written at a key.
+pub fn written_at<'a>(table: &'a Table, key: Key) -> Option<&'a Value>
+    ensures { option_map (λ v. view v.now) result ≡ written_at (table_view table.now) key }
 {
     table.get(key.text())
 }
@@ -42,7 +42,7 @@ pub fn value_at<'a>(table: &'a Table, key: Key) -> Option<&'a Value>
 fn is_there(table: &Table, key: Key) -> bool
     ensures { result ≡ is_there (table_view table.now) key }
 {
-    value_at(table, key).is_some()
+    written_at(table, key).is_some() || !key.absent().is_required()
 }
 
 fn unknown_text(table: &Table) -> Option<&String>
@@ -58,11 +58,11 @@ fn unknown_in(table: &Table) -> Option<&String>
 }
 
 /// The least key that is none of the table's.
-pub fn unknown_key(alloc: Global, table: &Table) -> Result<Option<Fault>, AllocError>
+pub fn unknown_key(alloc: Global, table: &Table) -> Result<Option<ProblemFault>, AllocError>
     ensures { IfOk result (λ fault. fault ≡ unknown_key (table_view table.now)) }
 {
     match unknown_in(table) {
-        Some(text) => Ok(Some(Fault::UnknownKey(KeyText::make(alloc, text.as_str())?))),
+        Some(text) => Ok(Some(ProblemFault::UnknownKey(KeyText::make(alloc, text.as_str())?))),
         None => Ok(None),
     }
 }
@@ -73,12 +73,12 @@ fn absent_key(table: &Table) -> Option<&'static Key>
     KEYS.iter().find(|key| !is_there(table, **key))
 }
 
-/// The first key that is absent.
-pub fn missing_key(table: &Table) -> Option<Fault>
+/// The first key that is absent, and required.
+pub fn missing_key(table: &Table) -> Option<ProblemFault>
     ensures { result ≡ missing_key (table_view table.now) }
 {
     match absent_key(table) {
-        Some(key) => Some(Fault::Missing(*key)),
+        Some(key) => Some(ProblemFault::Missing(*key)),
         None => None,
     }
 }

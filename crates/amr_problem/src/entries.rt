@@ -1,4 +1,4 @@
-//! What a problem writes at its keys, each value of its key's kind.
+//! What stands at the keys of a problem, each value of its key's kind.
 
 ghost use Rattle.std.specs.Prelude.{◌≡◌, Some, None, Ok, Err, IfOk, IsErrOf, option_map};
 ghost use Rattle.std.specs.Option.{option_or};
@@ -7,8 +7,8 @@ ghost use Rattle.amr_problem.specs.Values.{number_at, text_at, numbers_at, rows_
 ghost use Rattle.amr_problem.specs.Faults.{wrong_kind};
 ghost use Rattle.amr_problem.specs.Entries.{IsReadOf};
 
-use crate::document::value_at;
-use crate::fault::{Fault, Refusal};
+use crate::document::written_at;
+use crate::fault::{JudgeFault, ProblemFault};
 use crate::key::Key;
 use crate::values::{numbers_of, rows_of};
 use std::alloc::{AllocError, Global};
@@ -30,28 +30,38 @@ pub struct Entries {
     pub y_low: i64,
     pub y_high: i64,
     pub max_level: i64,
+    pub max_grid_size: i64,
     pub blocks: Vec<[i64; 5]>,
 }
 
 impl Entries {
     /// Reads every key.
-    pub fn read(alloc: Global, table: &Table) -> Result<Entries, Refusal>
+    pub fn read(alloc: Global, table: &Table) -> Result<Entries, JudgeFault>
         ensures read { IfOk result (IsReadOf (table_view table.now)) }
         ensures kinds { IfOk result (λ _. wrong_kind (table_view table.now) ≡ None) }
-        ensures refused { (f : _) → IsErrOf result (Refusal.Fault f) → wrong_kind (table_view table.now) ≡ Some f }
+        ensures refused { (f : _) → IsErrOf result (JudgeFault.Fault f) → wrong_kind (table_view table.now) ≡ Some f }
     {
-        let version = number_at(table, Key::Version).ok_or(Fault::WrongKind(Key::Version))?;
-        let name = text_at(alloc, table, Key::Name)?.ok_or(Fault::WrongKind(Key::Name))?;
-        let [nx, ny] = numbers_at::<2>(table, Key::Cells).ok_or(Fault::WrongKind(Key::Cells))?;
-        let steps = number_at(table, Key::Steps).ok_or(Fault::WrongKind(Key::Steps))?;
-        let [cx, cy, d] = numbers_at::<3>(table, Key::Courant).ok_or(Fault::WrongKind(
+        let version = number_at(table, Key::Version).ok_or(ProblemFault::WrongKind(Key::Version))?;
+        let name = text_at(alloc, table, Key::Name)?.ok_or(ProblemFault::WrongKind(Key::Name))?;
+        let [nx, ny] = numbers_at::<2>(table, Key::Cells).ok_or(ProblemFault::WrongKind(
+            Key::Cells,
+        ))?;
+        let steps = number_at(table, Key::Steps).ok_or(ProblemFault::WrongKind(Key::Steps))?;
+        let [cx, cy, d] = numbers_at::<3>(table, Key::Courant).ok_or(ProblemFault::WrongKind(
             Key::Courant,
         ))?;
         let [x_low, x_high, y_low, y_high] = numbers_at::<4>(table, Key::Sides).ok_or(
-            Fault::WrongKind(Key::Sides),
+            ProblemFault::WrongKind(Key::Sides),
         )?;
-        let max_level = number_at(table, Key::MaxLevel).ok_or(Fault::WrongKind(Key::MaxLevel))?;
-        let blocks = rows_at(alloc, table, Key::Blocks)?.ok_or(Fault::WrongKind(Key::Blocks))?;
+        let max_level = number_at(table, Key::MaxLevel).ok_or(ProblemFault::WrongKind(
+            Key::MaxLevel,
+        ))?;
+        let max_grid_size = number_at(table, Key::MaxGridSize).ok_or(ProblemFault::WrongKind(
+            Key::MaxGridSize,
+        ))?;
+        let blocks = rows_at(alloc, table, Key::Blocks)?.ok_or(ProblemFault::WrongKind(
+            Key::Blocks,
+        ))?;
         Ok(Entries {
             version,
             name,
@@ -66,6 +76,7 @@ impl Entries {
             y_low,
             y_high,
             max_level,
+            max_grid_size,
             blocks,
         })
     }
@@ -75,9 +86,9 @@ impl Entries {
 fn number_at(table: &Table, key: Key) -> Option<i64>
     ensures { result ≡ number_at (table_view table.now) key }
 {
-    match value_at(table, key) {
+    match written_at(table, key) {
         Some(value) => value.as_integer(),
-        None => None,
+        None => key.absent().number(),
     }
 }
 
@@ -95,7 +106,7 @@ fn text_at(alloc: Global, table: &Table, key: Key) -> Result<Option<Vec<u8>>, Al
 fn text_in(table: &Table, key: Key) -> Option<&str>
     ensures { option_map (λ s. s.now) result ≡ text_at (table_view table.now) key }
 {
-    match value_at(table, key) {
+    match written_at(table, key) {
         Some(value) => value.as_str(),
         None => None,
     }
@@ -105,7 +116,7 @@ fn text_in(table: &Table, key: Key) -> Option<&str>
 fn numbers_at<const N: usize>(table: &Table, key: Key) -> Option<[i64; N]>
     ensures { result ≡ numbers_at N (table_view table.now) key }
 {
-    match value_at(table, key) {
+    match written_at(table, key) {
         Some(value) => numbers_of(value),
         None => None,
     }
@@ -119,7 +130,7 @@ fn rows_at<const N: usize>(
 ) -> Result<Option<Vec<[i64; N]>>, AllocError>
     ensures { IfOk result (λ o. option_map (λ v. v.items) o ≡ rows_at N (table_view table.now) key) }
 {
-    match value_at(table, key) {
+    match written_at(table, key) {
         Some(value) => rows_of(alloc, value),
         None => Ok(None),
     }

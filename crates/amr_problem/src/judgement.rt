@@ -1,20 +1,20 @@
 //! The judgement.
 
 ghost use Rattle.std.specs.Prelude.{◌≡◌, Some, None, IfOk, OnOk, IsErrOf};
+ghost use Rattle.std.specs.Option.{option_or};
 ghost use Rattle.toml.specs.View.{table_view};
-ghost use Rattle.amr_problem.specs.Document.{table_of};
-ghost use Rattle.amr_problem.specs.Faults.{first_fault, fault_in};
+ghost use Rattle.amr_problem.specs.Faults.{unknown_key, missing_key, fault_in};
 ghost use Rattle.amr_problem.specs.Entries.{entry_fault, in_range_fault, IsInRange, IsClean, HasEntries};
 ghost use Rattle.amr_problem.specs.Judgement.{fault_of, HasKeys, IsProblemOf};
 
-use crate::checks::{block_outside, courant_over};
+use crate::checks::{block_outside, courant_over, not_built, sides_differ};
 use crate::document::{missing_key, read, unknown_key};
 use crate::entries::Entries;
-use crate::fault::{Fault, JudgeFault, ProblemFault, Refusal};
+use crate::fault::{JudgeFault, ProblemFault};
 use crate::problem::problem;
 use crate::ranges::out_of_range;
 use amr_def::Problem;
-use std::alloc::Global;
+use std::alloc::{AllocError, Global};
 use toml::Table;
 
 #[cfg(test)]
@@ -25,57 +25,50 @@ pub const MOST_BYTES: usize = 65536;
 
 /// The problem that the bytes are, or their fault. Want of memory comes at any bytes.
 ///
-/// A problem is UTF-8 TOML with the keys of the table and no other. (profile)
+/// A problem is UTF-8 TOML with the keys of the table and no other. Of several faults the first in their order comes. (profile)
 #[tactic(auto, unfolding(crate::specs::Judgement::fault_of))]
 pub fn judge(alloc: Global, bytes: &[u8]) -> Result<Problem, JudgeFault>
     ensures accepted { IfOk result (IsProblemOf bytes.now) }
     ensures refused { (f : _) → IsErrOf result (JudgeFault.Fault f) → fault_of bytes.now ≡ Some f }
 {
-    match whole(alloc, bytes) {
-        Ok(problem) => Ok(problem),
-        // each fault is told as the one that there is
-        Err(Refusal::Fault(_)) => Err(JudgeFault::Fault(ProblemFault::NotBuilt)),
-        Err(Refusal::NoMemory) => Err(JudgeFault::NoMemory),
-    }
-}
-
-fn whole(alloc: Global, bytes: &[u8]) -> Result<Problem, Refusal>
-    ensures clean { IfOk result (λ _. first_fault bytes.now ≡ None) }
-    ensures keys { IfOk result (HasKeys (table_of bytes.now)) }
-    ensures refused { (f : _) → IsErrOf result (Refusal.Fault f) → first_fault bytes.now ≡ Some f }
-{
     if bytes.len() > MOST_BYTES {
-        return Err(Refusal::Fault(Fault::TooLong));
+        return Err(JudgeFault::Fault(ProblemFault::TooLong));
     }
     let table = read(alloc, bytes)?;
     of_table(alloc, &table)
 }
 
-fn of_table(alloc: Global, table: &Table) -> Result<Problem, Refusal>
+fn of_table(alloc: Global, table: &Table) -> Result<Problem, JudgeFault>
     ensures clean { IfOk result (λ _. fault_in (table_view table.now) ≡ None) }
     ensures keys { IfOk result (HasKeys (table_view table.now)) }
-    ensures refused { (f : _) → IsErrOf result (Refusal.Fault f) → fault_in (table_view table.now) ≡ Some f }
+    ensures refused { (f : _) → IsErrOf result (JudgeFault.Fault f) → fault_in (table_view table.now) ≡ Some f }
 {
-    let unknown = unknown_key(alloc, table)?;
-    if let Some(fault) = unknown.or(missing_key(table)) {
-        return Err(Refusal::Fault(fault));
+    if let Some(fault) = key_fault(alloc, table)? {
+        return Err(JudgeFault::Fault(fault));
     }
     of_entries(alloc, Entries::read(alloc, table)?)
 }
 
-fn of_entries(alloc: Global, entries: Entries) -> Result<Problem, Refusal>
+fn key_fault(alloc: Global, table: &Table) -> Result<Option<ProblemFault>, AllocError>
+    ensures { IfOk result (λ fault. fault ≡ option_or (unknown_key (table_view table.now)) (missing_key (table_view table.now))) }
+{
+    let unknown = unknown_key(alloc, table)?;
+    Ok(unknown.or(missing_key(table)))
+}
+
+fn of_entries(alloc: Global, entries: Entries) -> Result<Problem, JudgeFault>
     ensures clean { OnOk result (entry_fault entries ≡ None) }
     ensures in_range { OnOk result (IsInRange entries) }
     ensures entries { IfOk result (HasEntries entries) }
-    ensures refused { (f : _) → IsErrOf result (Refusal.Fault f) → entry_fault entries ≡ Some f }
+    ensures refused { (f : _) → IsErrOf result (JudgeFault.Fault f) → entry_fault entries ≡ Some f }
 {
     if let Some(fault) = entry_fault(&entries) {
-        return Err(Refusal::Fault(fault));
+        return Err(JudgeFault::Fault(fault));
     }
     Ok(problem(alloc, entries)?)
 }
 
-fn entry_fault(entries: &Entries) -> Option<Fault>
+fn entry_fault(entries: &Entries) -> Option<ProblemFault>
     ensures first { result ≡ entry_fault entries.now }
     ensures clean { result ≡ None → IsClean entries.now }
 {
@@ -85,10 +78,12 @@ fn entry_fault(entries: &Entries) -> Option<Fault>
     }
 }
 
-fn in_range_fault(entries: &Entries) -> Option<Fault>
+fn in_range_fault(entries: &Entries) -> Option<ProblemFault>
     requires { IsInRange entries.now }
     ensures { result ≡ in_range_fault entries.now }
 {
-    let courant = courant_over(entries.cx, entries.cy, entries.d);
-    courant.or(block_outside(entries.nx, entries.ny, entries.blocks.as_slice()))
+    courant_over(entries.cx, entries.cy, entries.d)
+        .or(sides_differ(entries.x_low, entries.x_high, entries.y_low, entries.y_high))
+        .or(block_outside(entries.nx, entries.ny, entries.blocks.as_slice()))
+        .or(not_built(entries.x_low, entries.x_high, entries.y_low, entries.y_high))
 }

@@ -5,7 +5,7 @@ ghost use Rattle.std.specs.Prelude.{◌≡◌, IfOk};
 use std::alloc::{AllocError, Global};
 use std::marker::Model;
 
-/// The text of a key, as its bytes.
+/// The text of a key that is none of the table's; contracts see its bytes.
 #[derive(Debug, Drop)]
 pub struct KeyText {
     text: String,
@@ -21,7 +21,7 @@ impl Model for KeyText {
 
 impl KeyText {
     /// A copy of the text.
-    pub fn make(alloc: Global, text: &str) -> Result<KeyText, AllocError>
+    pub(crate) fn make(alloc: Global, text: &str) -> Result<KeyText, AllocError>
         ensures { IfOk result (λ k. k ≡ text.now) }
     {
         Ok(KeyText {
@@ -29,6 +29,7 @@ impl KeyText {
         })
     }
 
+    /// The text as it stands in the document.
     pub fn text(&self) -> &str
         ensures { result.now ≡ self.now }
     {

@@ -19,3 +19,5 @@ mod values;
 
 pub use fault::{JudgeFault, ProblemFault};
 pub use judgement::judge;
+pub use key::Key;
+pub use key_text::KeyText;

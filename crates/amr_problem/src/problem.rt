@@ -4,9 +4,11 @@ ghost use Rattle.std.specs.Prelude.{◌≡◌, ◌≤◌, ◌≤ℤ◌, unsigned
 ghost use Rattle.std.specs.List.{list_all};
 ghost use Rattle.amr_def.specs.Limits.{Limits};
 ghost use Rattle.amr_problem.specs.Keys.{ranges_of, first_outside};
-ghost use Rattle.amr_problem.specs.Fields.{block_numbers};
-ghost use Rattle.amr_problem.specs.Entries.{IsClean, HasEntries, HasParts};
+ghost use Rattle.amr_problem.specs.Fields.{sides_numbers, block_numbers};
+ghost use Rattle.amr_problem.specs.Faults.{is_periodic};
+ghost use Rattle.amr_problem.specs.Entries.{IsSide, IsClean, HasEntries, HasParts};
 
+use crate::checks::is_periodic;
 use crate::entries::Entries;
 use crate::key::Key;
 use amr_def::{Block, Blocks, Name, Problem, Shear, Sides, Thresholds};
@@ -22,6 +24,9 @@ pub fn problem(alloc: Global, entries: Entries) -> Result<Problem, AllocError>
     let ny = small(entries.ny);
     let steps = small(entries.steps);
     let d = small(entries.d);
+    let max_grid_size = small(entries.max_grid_size);
+    let x_sides = sides(entries.x_low, entries.x_high);
+    let y_sides = sides(entries.y_low, entries.y_high);
     let cx = signed(entries.cx);
     let cy = signed(entries.cy);
     Ok(assemble(
@@ -33,11 +38,14 @@ pub fn problem(alloc: Global, entries: Entries) -> Result<Problem, AllocError>
         cx,
         cy,
         d,
+        x_sides,
+        y_sides,
+        max_grid_size,
         Blocks::make(blocks),
     ))
 }
 
-/// A problem of one level without walls.
+/// A problem of one level.
 fn assemble(
     alloc: Global,
     name: Name,
@@ -47,10 +55,13 @@ fn assemble(
     cx: i32,
     cy: i32,
     d: u32,
+    x_sides: Sides,
+    y_sides: Sides,
+    max_grid_size: u32,
     blocks: Blocks,
 ) -> Problem
-    requires { Limits name nx ny steps cx cy d [] [] Sides.Periodic Sides.Periodic 0 [] 1 70 2 2 2 32 blocks }
-    ensures { HasParts name nx ny steps cx cy d blocks result }
+    requires { Limits name nx ny steps cx cy d [] [] x_sides y_sides 0 [] 1 70 2 2 2 max_grid_size blocks }
+    ensures { HasParts name nx ny steps cx cy d x_sides y_sides max_grid_size blocks result }
 {
     Problem {
         name,
@@ -62,8 +73,8 @@ fn assemble(
         d,
         shear_x: Shear::make(Vec::new(alloc)),
         shear_y: Shear::make(Vec::new(alloc)),
-        x_sides: Sides::Periodic,
-        y_sides: Sides::Periodic,
+        x_sides,
+        y_sides,
         max_level: 0,
         tag: Thresholds::make(Vec::new(alloc)),
         n_error_buf: 1,
@@ -71,7 +82,7 @@ fn assemble(
         min_width: 2,
         regrid_int: 2,
         blocking: 2,
-        max_grid_size: 32,
+        max_grid_size,
         blocks,
     }
 }
@@ -89,6 +100,19 @@ fn signed(number: i64) -> i32
     ensures { result ≡ number }
 {
     number as i32
+}
+
+fn sides(low: i64, high: i64) -> Sides
+    requires low_side { IsSide low }
+    requires high_side { IsSide high }
+    requires alike { is_periodic low ≡ is_periodic high }
+    ensures { sides_numbers result ≡ low ∷ high ∷ [] }
+{
+    if is_periodic(low) {
+        Sides::Periodic
+    } else {
+        Sides::Open(low as u64, high as u64)
+    }
 }
 
 fn blocks(alloc: Global, rows: &[[i64; 5]]) -> Result<Vec<Block>, AllocError>

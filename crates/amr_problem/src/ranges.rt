@@ -8,14 +8,14 @@ ghost use Rattle.amr_problem.specs.Faults.{first_some, text_outside, rows_outsid
 ghost use Rattle.amr_problem.specs.Entries.{numbers_outside, range_fault, IsInRange};
 
 use crate::entries::Entries;
-use crate::fault::Fault;
+use crate::fault::ProblemFault;
 use crate::key::{Key, first_outside};
 
 /// The greatest number of blocks.
 pub const MOST_BLOCKS: usize = 256;
 
 /// The first number, in the order of the keys, that is out of its range.
-pub fn out_of_range(entries: &Entries) -> Option<Fault>
+pub fn out_of_range(entries: &Entries) -> Option<ProblemFault>
     ensures first { result ≡ range_fault entries.now }
     ensures in_range { result ≡ None → IsInRange entries.now }
 {
@@ -29,27 +29,28 @@ pub fn out_of_range(entries: &Entries) -> Option<Fault>
             &[entries.x_low, entries.x_high, entries.y_low, entries.y_high],
         ))
         .or(numbers(Key::MaxLevel, &[entries.max_level]))
+        .or(numbers(Key::MaxGridSize, &[entries.max_grid_size]))
         .or(blocks(entries.blocks.as_slice()))
 }
 
-fn numbers(key: Key, numbers: &[i64]) -> Option<Fault>
+fn numbers(key: Key, numbers: &[i64]) -> Option<ProblemFault>
     ensures { result ≡ numbers_outside key numbers.now }
 {
     match first_outside(key.ranges(), numbers) {
-        Some(number) => Some(Fault::OutOfRange(key, number)),
+        Some(number) => Some(ProblemFault::OutOfRange(key, number)),
         None => None,
     }
 }
 
-fn name(bytes: &[u8]) -> Option<Fault>
-    ensures { result ≡ option_map (Fault.OutOfRange Key.Name) (text_outside (range (pos 1) (pos 32)) bytes.now) }
+fn name(bytes: &[u8]) -> Option<ProblemFault>
+    ensures { result ≡ option_map (ProblemFault.OutOfRange Key.Name) (text_outside (range (pos 1) (pos 32)) bytes.now) }
 {
     let length = bytes.len() as i64;
     let fits = first_outside(Key::Name.ranges(), &[length]).is_none();
     if fits && is_name(bytes) {
         None
     } else {
-        Some(Fault::OutOfRange(Key::Name, length))
+        Some(ProblemFault::OutOfRange(Key::Name, length))
     }
 }
 
@@ -65,8 +66,8 @@ fn is_name_byte(byte: u8) -> bool
     byte.is_ascii_lowercase() || byte.is_ascii_digit() || byte == b'-' || byte == b'_'
 }
 
-fn blocks(rows: &[[i64; 5]]) -> Option<Fault>
-    ensures { result ≡ option_map (Fault.OutOfRange Key.Blocks) (rows_outside 256 (ranges_of Key.Blocks) rows.now) }
+fn blocks(rows: &[[i64; 5]]) -> Option<ProblemFault>
+    ensures { result ≡ option_map (ProblemFault.OutOfRange Key.Blocks) (rows_outside 256 (ranges_of Key.Blocks) rows.now) }
 {
     let outside = if rows.len() > MOST_BLOCKS {
         Some(rows.len() as i64)
@@ -74,7 +75,7 @@ fn blocks(rows: &[[i64; 5]]) -> Option<Fault>
         first_row_outside(rows)
     };
     match outside {
-        Some(number) => Some(Fault::OutOfRange(Key::Blocks, number)),
+        Some(number) => Some(ProblemFault::OutOfRange(Key::Blocks, number)),
         None => None,
     }
 }

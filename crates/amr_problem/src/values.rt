@@ -1,19 +1,27 @@
 //! The values of a document, each read as its key's kind has it.
 
-ghost use Rattle.std.specs.Prelude.{◌≡◌, Some, None, option_map, IfOk};
+ghost use Rattle.std.specs.Prelude.{◌≡◌, length, Some, None, option_map, IfOk};
 ghost use Rattle.toml.specs.View.{view, items_view};
-ghost use Rattle.amr_problem.specs.Values.{numbers_in, numbers_of, rows_in, rows_of};
+ghost use Rattle.amr_problem.specs.Values.{integers, numbers_in, numbers_of, rows_in, rows_of};
 
 use std::alloc::{AllocError, Global};
 use toml::Value;
 
 /// The integers of an array that has `N` of them and nothing else.
+#[tactic(auto, using(crate::proofs::ValueLaws::numbers_in_whole, crate::proofs::ValueLaws::numbers_in_other))]
 pub fn numbers_in<const N: usize>(items: &[Value]) -> Option<[i64; N]>
     ensures { result ≡ numbers_in N (items_view items.now) }
 {
     if items.len() != N {
         return None;
     }
+    integers(items)
+}
+
+fn integers<const N: usize>(items: &[Value]) -> Option<[i64; N]>
+    requires { length items.now ≡ N }
+    ensures { result ≡ integers (items_view items.now) }
+{
     let mut numbers = [0; N];
     for (place, item) in items.iter().enumerate() {
         numbers[place] = item.as_integer()?;

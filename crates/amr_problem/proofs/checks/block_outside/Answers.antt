@@ -1,6 +1,6 @@
 use Rattle.std.proofs.Common.{ap, option_map, w64}
 use Rattle.std.proofs.lemmas.Int.{to_z-of_z}
-use Rattle.amr_problem.specs.declared.fault.Fault.TheVariants.{BlockOutside}
+use Rattle.amr_problem.specs.declared.fault.ProblemFault.TheVariants.{BlockOutside}
 use Rattle.amr_problem.proofs.checks.block_outside.Goals as goal
 
 pub returns-in-Some : goal.returns-in-Some

@@ -13,7 +13,7 @@ IfOk-from_OnOk (Err e) p f = tt
 same : (c : goal.After-of_entries) → fault_in (table_view c.args.table.now) ≡ entry_fault c.in_ok-read.field-0
 same c =
     let absent : option_or (unknown_key (table_view c.args.table.now)) (missing_key (table_view c.args.table.now)) ≡ None =
-    rw (← c.in_ok-unknown.ensures, ← c.missing_key.ensures) (sym c.or.ensures ∙ c.in_default.is) in
+    sym c.in_ok-fault.ensures ∙ c.in_default.is in
     fault_in-entries (table_view c.args.table.now) c.in_ok-read.field-0 absent c.in_ok-read.ensures.kinds c.in_ok-read.ensures.read
 
 pub returns-clause-clean : goal.returns-clause-clean

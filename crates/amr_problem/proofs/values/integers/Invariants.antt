@@ -1,7 +1,7 @@
 use Rattle.std.proofs.Common.{◌≡◌, option_map, ◌++◌, length, take, drop}
 use Rattle.toml.specs.View.{items_view}
 use Rattle.amr_problem.specs.Values.{integers}
-use Rattle.amr_problem.proofs.values.numbers_in.Given as goal
+use Rattle.amr_problem.proofs.values.integers.Given as goal
 
 abbrev pub invariant-loop-place : goal.invariant-loop-place
 invariant-loop-place g l = record {

@@ -1,18 +1,14 @@
 use Rattle.std.proofs.Common.{◌≡◌, Some, None, ◌∙◌, sym, ap, rules, arith, ◌+◌, take, drop, get_or, option_map, pos, ◌++◌, SFits, w64}
 use Rattle.std.proofs.Math.ListN.{length-set, length-replicate, replicate}
-use Rattle.std.proofs.lemmas.Bool.Decides.{nat_tests}
 use Rattle.std.proofs.lemmas.Int.{to_z-of_z}
 use Rattle.toml.specs.Data.{as_integer}
 use Rattle.toml.specs.View.{view, items_view}
 use Rattle.amr_problem.specs.Values.{integers}
-use Rattle.amr_problem.proofs.ValueLaws.{count-view, integers-at, integers-none, read_more, read_none, read_spoilt, read_all, numbers_in-read}
-use Rattle.amr_problem.proofs.values.numbers_in.Goals as goal
-
-pub returns-then-items : goal.returns-then-items
-returns-then-items g c = let e = count-view c.args.items.now in grind (arith, nat_tests)
+use Rattle.amr_problem.proofs.ValueLaws.{integers-at, integers-none, read_more, read_none, read_spoilt, read_all}
+use Rattle.amr_problem.proofs.values.integers.Goals as goal
 
 pub loop-place-init : goal.loop-place-init
-loop-place-init g c = record { read = read_none (replicate g.row.N (pos 0)) _; room = length-replicate _ _ ∙ sym c.if-items.false }
+loop-place-init g c = record { read = read_none (replicate g.row.N (pos 0)) _; room = length-replicate _ _ ∙ sym c.requires }
 
 pub returns-in_err-numbers : goal.returns-in_err-numbers
 returns-in_err-numbers g c =
@@ -20,7 +16,7 @@ returns-in_err-numbers g c =
     let i = c.loop-place.place in
     let here : as_integer (view (get_or vs i c.index-items-place.result)) ≡ None = rw (← c.index-items-place.is) (sym c.in_err-numbers.ensures) in
     let none : integers (items_view (drop i vs)) ≡ None = integers-none vs i c.index-items-place.result c.loop-place-test.true here in
-    c.from_residual.ensures ∙ sym (numbers_in-read g.row.N vs None c.if-items.false (read_spoilt _ _ _ _ c.loop-place.invariant.read none))
+    c.from_residual.ensures ∙ sym (read_spoilt _ _ _ _ c.loop-place.invariant.read none)
 
 pub loop-place-preserved : goal.loop-place-preserved
 loop-place-preserved g c =
@@ -37,5 +33,4 @@ loop-place-preserved g c =
 
 pub returns : goal.returns
 returns g c =
-    let all = read_all c.args.items.now c.loop-place.numbers c.loop-place.place (omega arith) c.loop-place.invariant.room c.loop-place.invariant.read in
-    sym (numbers_in-read g.row.N c.args.items.now _ c.if-items.false all)
+    sym (read_all c.args.items.now c.loop-place.numbers c.loop-place.place (omega arith) c.loop-place.invariant.room c.loop-place.invariant.read)
