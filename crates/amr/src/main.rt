@@ -2,8 +2,9 @@
 #![tactic(auto)]
 
 use amr_causes::NoMemory;
+use amr_cli::Line;
 use amr_io::{StdSink, StdSource};
-use amr_run::{Line, Status, amr};
+use amr_run::{Status, amr};
 use std::env;
 use std::io::ErrorKind;
 use std::process::ExitCode;

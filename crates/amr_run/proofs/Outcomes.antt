@@ -19,12 +19,14 @@ use Rattle.amr_problem.specs.declared.fault.ProblemFault.{ProblemFault}
 use Rattle.amr_problem.specs.Judgement.{fault_of, IsProblemOf}
 use Rattle.amr_problem.proofs.PlainLaws.{too_many_bytes, has_one_level}
 use Rattle.amr_single.specs.Plain.{IsPlain}
-use Rattle.amr_run.specs.Answer.{IsPlotOfRun}
+use Rattle.amr_cli.specs.declared.command.Command.{Command}
+use Rattle.amr_run.specs.Answer.{IsAnswer, IsLineOfProblem, IsPlotOfRun}
 use Rattle.amr_run.specs.Outcome.{Outcome, Replies, status_of}
+use Rattle.amr_run.specs.Reading.{Reads, Refuses}
 use Rattle.amr_run.specs.Refusals.{read_refused, judge_refused}
-use Rattle.amr_run.specs.declared.command.Command.{Command}
-use Rattle.amr_run.specs.declared.command.Command.TheVariants.{Run}
+use Rattle.amr_run.specs.Texts.{problem_line}
 use Rattle.amr_run.specs.declared.status.Status.{Status}
+use Rattle.amr_run.specs.declared.status.Status.TheVariants as status
 
 -- ---- the bytes that a source had left
 
@@ -40,29 +42,50 @@ front_taken None new front taken = (front, tt, omega arith)
 front_taken (Some left) None front taken = absurd taken
 front_taken (Some left) (Some rest) front taken = (left, refl, omega (arith, ap length taken, length-append front rest))
 
--- ---- exits of a command
+-- ---- why a problem was not read
 
 pub reading_refused : (old new : Option (List ℕ)) (e : ReadAll) → (e ≡ reading.TooLong → (taken : List ℕ) × Consumes old new taken × (length taken ≡ 65537))
-    → (bytes : List ℕ) × WereLeft old bytes × Replies (read_refused e) Run bytes []
+    → (bytes : List ℕ) × WereLeft old bytes × Refuses (read_refused e) bytes
 reading_refused old new reading.TooLong long =
     let taken = long refl in
     let front = front_taken old new taken.0 taken.1 in
-    (front.0, front.1, (too_many_bytes front.0 (omega (arith, taken.2, front.2)), refl))
-reading_refused old new reading.ReadFault long = let left = were_left old in (left.0, left.1, refl)
-reading_refused old new reading.NoMemory long = let left = were_left old in (left.0, left.1, refl)
+    (front.0, front.1, too_many_bytes front.0 (omega (arith, taken.2, front.2)))
+reading_refused old new reading.ReadFault long = let left = were_left old in (left.0, left.1, tt)
+reading_refused old new reading.NoMemory long = let left = were_left old in (left.0, left.1, tt)
 
-pub judging_refused : (bytes : List ℕ) (e : JudgeFault) → ((f : ProblemFault) → e ≡ judging.Fault f → fault_of bytes ≡ Some f) → Replies (judge_refused e) Run bytes []
-judging_refused bytes (judging.Fault f) fault = (fault f refl, refl)
-judging_refused bytes judging.NoMemory fault = refl
+pub judging_refused : (bytes : List ℕ) (e : JudgeFault) → ((f : ProblemFault) → e ≡ judging.Fault f → fault_of bytes ≡ Some f) → Refuses (judge_refused e) bytes
+judging_refused bytes (judging.Fault f) fault = fault f refl
+judging_refused bytes judging.NoMemory fault = tt
 
 -- by the status that an error became
-pub refused_by : (r : Result Unit Status) (s : Status) (bytes out : List ℕ) → IsErrAnd r (λ x. x ≡ s) → Replies s Run bytes out → Replies (status_of r) Run bytes out
-refused_by (Ok done) s bytes out is replies = absurd is
-refused_by (Err x) s bytes out is replies = subst (λ (t : Status). Replies t Run bytes out) (sym is) replies
+pub reads_refused : (r : Result Problem Status) (s : Status) (bytes : List ℕ) → IsErrAnd r (λ x. x ≡ s) → Refuses s bytes → Reads r bytes
+reads_refused (Ok problem) s bytes is refuses = absurd is
+reads_refused (Err x) s bytes is refuses = subst (λ (t : Status). Refuses t bytes) (sym is) refuses
+
+-- ---- exits of a command
+
+-- where its problem was not read, nothing went out
+pub unread : (answers : List ℕ → Type 0) (status : Status) (bytes : List ℕ) → Refuses status bytes → Replies status answers bytes []
+unread answers (status.Problem fault) bytes refuses = (refuses, refl)
+unread answers status.ReadFault bytes refuses = refl
+unread answers status.NoMemory bytes refuses = refl
+unread answers status.Done bytes refuses = absurd refuses
+unread answers status.Usage bytes refuses = absurd refuses
+unread answers status.WriteFault bytes refuses = absurd refuses
+
+-- by the status that an error became
+pub refused_by : (answers : List ℕ → Type 0) (r : Result Unit Status) (s : Status) (bytes out : List ℕ) → IsErrAnd r (λ x. x ≡ s) → Replies s answers bytes out → Replies (status_of r) answers bytes out
+refused_by answers (Ok done) s bytes out is replies = absurd is
+refused_by answers (Err x) s bytes out is replies = subst (λ (t : Status). Replies t answers bytes out) (sym is) replies
 
 -- of the command that the words are
-pub of_command : (status : Status) (asked : Option Command) (command : Command) (bytes out : List ℕ) → Some command ≡ asked → Replies status Run bytes out → Outcome status asked bytes out
-of_command status asked Run bytes out is replies = subst (λ (o : Option Command). Outcome status o bytes out) is replies
+pub of_command : (status : Status) (asked : Option Command) (command : Command) (bytes out : List ℕ) → asked ≡ Some command → Replies status (IsAnswer command bytes) bytes out → Outcome status asked bytes out
+of_command status asked command bytes out is replies = subst (λ (o : Option Command). Outcome status o bytes out) (sym is) replies
+
+-- of words that were not read for want of memory
+pub of_no_memory : (asked : Option Command) (bytes : List ℕ) → Outcome status.NoMemory asked bytes []
+of_no_memory None bytes = refl
+of_no_memory (Some command) bytes = refl
 
 -- ---- the answer
 
@@ -75,6 +98,9 @@ pub is_plot_of_run : (bytes : List ℕ) (p : Problem) (first last : State) → I
 is_plot_of_run bytes p first last accepted starts ends sound =
     let is : last ≡ run p p.steps = ends ∙ ap (λ (s : State). finish p s p.steps) starts ∙ run_is p in
     record { problem = p; accepted = accepted; text = ap (λ (s : State). plot p s) is; sound = subst (λ (s : State). IsSound p s) is sound }
+
+pub is_line_of_problem : (bytes : List ℕ) (p : Problem) → IsProblemOf bytes p → IsLineOfProblem bytes (problem_line p)
+is_line_of_problem bytes p accepted = record { problem = p; accepted = accepted; text = refl }
 
 -- what the bytes of a source are is plain
 pub is_plain : (bytes : List ℕ) (p : Problem) → IsProblemOf bytes p → IsPlain p

@@ -5,8 +5,9 @@ use Rattle.amr_def.specs.Run as runs
 use Rattle.amr_def.specs.Plot as plots
 use Rattle.amr_def.specs.Facts.{IsSound}
 use Rattle.amr_problem.specs.Judgement.{fault_of, IsProblemOf}
-use Rattle.amr_run.specs.declared.command.Command.{Command}
-use Rattle.amr_run.specs.declared.command.Command.TheVariants.{Run}
+use Rattle.amr_cli.specs.declared.command.Command.{Command}
+use Rattle.amr_cli.specs.declared.command.Command.TheVariants.{Run, Check}
+use Rattle.amr_run.specs.Texts.{problem_line}
 
 -- These bytes are the plot of the run of the problem that the bytes of the source are, after all its steps. The state that is
 -- printed is sound: nested, synced, bounded and telescoped.
@@ -16,9 +17,19 @@ pub record IsPlotOfRun (bytes out : List ℕ) : Type 0 where
   pub text : out ≡ plots.plot problem (runs.run problem problem.steps)
   pub sound : IsSound problem (runs.run problem problem.steps)
 
-abbrev pub IsAnswer : Command → List ℕ → List ℕ → Type 0
-IsAnswer Run bytes out = IsPlotOfRun bytes out
+-- These bytes are the line of the problem that the bytes of the source are.
+pub record IsLineOfProblem (bytes out : List ℕ) : Type 0 where
+  pub problem : Problem
+  pub accepted : IsProblemOf bytes problem
+  pub text : out ≡ problem_line problem
 
--- the command has an answer: the bytes of the source are a problem without fault
+-- ---- by command
+
+abbrev pub IsAnswer : Command → List ℕ → List ℕ → Type 0
+IsAnswer (Run workers) bytes = IsPlotOfRun bytes
+IsAnswer Check bytes = IsLineOfProblem bytes
+
+-- the command has an answer: where it reads a problem, the bytes of the source are one without fault
 abbrev pub HasAnswer : Command → List ℕ → Type 0
-HasAnswer Run bytes = fault_of bytes ≡ None
+HasAnswer (Run workers) bytes = fault_of bytes ≡ None
+HasAnswer Check bytes = fault_of bytes ≡ None

@@ -1,5 +1,5 @@
-pub mod Words
 pub mod Texts
+pub mod Reading
 pub mod Answer
 pub mod Outcome
 pub mod Refusals

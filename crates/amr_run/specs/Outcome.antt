@@ -3,7 +3,7 @@ use Rattle.std.specs.Prelude.{ℕ, ◌≡◌, List, [], Option, None, Some, Resu
 use Rattle.amr_causes.specs.Bytes.{IsPrefix}
 use Rattle.amr_problem.specs.Judgement.{fault_of}
 use Rattle.amr_run.specs.Answer.{IsAnswer}
-use Rattle.amr_run.specs.declared.command.Command.{Command}
+use Rattle.amr_cli.specs.declared.command.Command.{Command}
 use Rattle.amr_run.specs.declared.status.Status.{Status}
 use Rattle.amr_run.specs.declared.status.Status.TheVariants.{Done, Usage, ReadFault, Problem, WriteFault, NoMemory}
 
@@ -12,19 +12,19 @@ abbrev pub status_of : Result Unit Status → Status
 status_of (Ok done) = Done
 status_of (Err status) = status
 
--- Of a command: all of its answer went out where all is done, a prefix of it after a fault in writing, and else nothing.
--- A problem is refused exactly by its fault, and a command is never refused as none.
-abbrev pub Replies : Status → Command → List ℕ → List ℕ → Type 0
-Replies Done command bytes out = IsAnswer command bytes out
-Replies (Problem fault) command bytes out = (fault_of bytes ≡ Some fault) × (out ≡ [])
-Replies WriteFault command bytes out = (whole : List ℕ) × IsAnswer command bytes whole × IsPrefix out whole
-Replies ReadFault command bytes out = out ≡ []
-Replies NoMemory command bytes out = out ≡ []
-Replies Usage command bytes out = ⊥
+-- Of a command, by what its answers are: all of its answer went out where all is done, a prefix of it after a fault in writing,
+-- and else nothing. A problem is refused exactly by its fault, and a command is never refused as none.
+abbrev pub Replies : Status → (List ℕ → Type 0) → List ℕ → List ℕ → Type 0
+Replies Done answers bytes out = answers out
+Replies (Problem fault) answers bytes out = (fault_of bytes ≡ Some fault) × (out ≡ [])
+Replies WriteFault answers bytes out = (whole : List ℕ) × answers whole × IsPrefix out whole
+Replies ReadFault answers bytes out = out ≡ []
+Replies NoMemory answers bytes out = out ≡ []
+Replies Usage answers bytes out = ⊥
 
 -- Of the command that the words are. Where they are none, the status is that, unless memory ran out.
 abbrev pub Outcome : Status → Option Command → List ℕ → List ℕ → Type 0
-Outcome status (Some command) bytes out = Replies status command bytes out
+Outcome status (Some command) bytes out = Replies status (IsAnswer command bytes) bytes out
 Outcome Usage None bytes out = out ≡ []
 Outcome NoMemory None bytes out = out ≡ []
 Outcome _ None bytes out = ⊥

@@ -3,13 +3,13 @@ use Rattle.amr_io.specs.declared.source.ReadAll.{ReadAll}
 use Rattle.amr_io.specs.declared.source.ReadAll.TheVariants as reading
 use Rattle.amr_problem.specs.declared.fault.JudgeFault.{JudgeFault}
 use Rattle.amr_problem.specs.declared.fault.JudgeFault.TheVariants as judging
-use Rattle.amr_problem.specs.declared.fault.ProblemFault.TheVariants.{NotBuilt}
+use Rattle.amr_problem.specs.declared.fault.ProblemFault.TheVariants.{TooLong}
 use Rattle.amr_run.specs.declared.status.Status.{Status}
 use Rattle.amr_run.specs.declared.status.Status.TheVariants.{ReadFault, Problem, NoMemory}
 
--- bytes that are too many are no problem
+-- more bytes than a problem has are its first fault
 abbrev pub read_refused : ReadAll → Status
-read_refused reading.TooLong = Problem NotBuilt
+read_refused reading.TooLong = Problem TooLong
 read_refused reading.ReadFault = ReadFault
 read_refused reading.NoMemory = NoMemory
 

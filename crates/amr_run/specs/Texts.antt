@@ -1,9 +1,20 @@
--- What stands for a status outside of the program: the exit status, and the line on the stream of errors. (profile)
-use Rattle.std.specs.Prelude.{ℕ, List, [], ◌++◌, codes}
+-- What is written outside of plots: the line of a problem, and what stands for a status, the exit status and the line on the
+-- stream of errors. (profile)
+use Rattle.std.specs.Prelude.{ℕ, ℤ, pos, negsuc, List, [], ◌∷◌, ◌++◌, codes, decimal}
+use Rattle.std.specs.Fmt.{signed_decimal}
+use Rattle.amr_box.specs.declared.Axis.{Axis}
+use Rattle.amr_box.specs.declared.Axis.TheVariants as axes
+use Rattle.amr_def.specs.declared.problem.Problem.{Problem}
+use Rattle.amr_def.specs.Plot.{line, spaced}
 use Rattle.amr_problem.specs.declared.fault.ProblemFault.{ProblemFault}
 use Rattle.amr_problem.specs.declared.fault.ProblemFault.TheVariants as problem
+use Rattle.amr_problem.specs.Keys.{text_of}
 use Rattle.amr_run.specs.declared.status.Status.{Status}
 use Rattle.amr_run.specs.declared.status.Status.TheVariants as status
+
+-- the line of a problem: its columns, rows and steps, and its finest level
+abbrev pub problem_line : Problem → List ℕ
+problem_line p = line (spaced (codes "ok" ∷ decimal p.nx ∷ decimal p.ny ∷ decimal p.steps ∷ decimal p.max_level ∷ []))
 
 abbrev pub exit_status : Status → ℕ
 exit_status status.Done = 0
@@ -16,12 +27,30 @@ exit_status status.NoMemory = 9
 abbrev pub usage_text : List ℕ
 usage_text = codes "usage: run [--workers W] [--to K] [--keep E] | check | show | trial NUMBER SIZE [--workers W]"
 
+-- what stands before a number's digits
+abbrev pub sign_text : ℤ → List ℕ
+sign_text (pos n) = []
+sign_text (negsuc n) = codes "-"
+
+abbrev pub axis_text : Axis → List ℕ
+axis_text axes.X = codes "x"
+axis_text axes.Y = codes "y"
+
 abbrev pub fault_text : ProblemFault → List ℕ
+fault_text problem.TooLong = codes "problem: too long"
+fault_text problem.NotToml = codes "problem: not TOML"
+fault_text (problem.UnknownKey key) = spaced (codes "problem: unknown key" ∷ key ∷ [])
+fault_text (problem.Missing key) = spaced (codes "problem: missing key" ∷ text_of key ∷ [])
+fault_text (problem.WrongKind key) = spaced (codes "problem: wrong kind" ∷ text_of key ∷ [])
+fault_text (problem.OutOfRange key value) = spaced (codes "problem: out of range" ∷ text_of key ∷ signed_decimal value ∷ [])
+fault_text (problem.Courant sum d) = spaced (codes "problem: courant" ∷ signed_decimal sum ∷ codes "over" ∷ signed_decimal d ∷ [])
+fault_text (problem.SidesDiffer axis) = spaced (codes "problem: sides differ" ∷ axis_text axis ∷ [])
+fault_text (problem.BlockOutside index) = spaced (codes "problem: block" ∷ decimal index ∷ codes "outside" ∷ [])
 fault_text problem.NotBuilt = codes "problem: not built"
 
 -- the line of a refusal
 abbrev pub refusal : List ℕ → List ℕ
-refusal text = codes "amr: " ++ (text ++ codes "\n")
+refusal text = line (codes "amr: " ++ text)
 
 -- what a call writes to `err`: nothing where all is done
 abbrev pub message : Status → List ℕ

@@ -1,7 +1,7 @@
-//! The program as one call: from words and the bytes of a problem to the bytes of its plot, or to a refusal.
+//! The program as one call: from words and the bytes of a problem to the answer of a command, or to a refusal.
 #![tactic(auto)]
 
-mod command;
+mod commands;
 mod line;
 mod message;
 mod run;
@@ -9,7 +9,5 @@ mod status;
 #[cfg(test)]
 mod tests;
 
-pub use command::Command;
-pub use line::Line;
 pub use run::amr;
 pub use status::Status;

@@ -1,49 +1,21 @@
-// The words of a command line.
-ghost use Rattle.std.specs.Prelude.{◌≡◌, ◌++◌, ◌∷◌, [], OnOk, OnErr, map, string_bytes};
+// A line of text.
+ghost use Rattle.std.specs.Prelude.{OnOk};
+ghost use Rattle.amr_causes.specs.Causes.{HasCause};
+ghost use Rattle.amr_causes.specs.Bytes.{Grows, TakesPrefix};
+ghost use Rattle.amr_def.specs.Plot.{line};
+ghost use Rattle.amr_io.specs.Kept.{pieces_text};
 
-use amr_causes::NoMemory;
-use std::alloc::Global;
-use std::marker::Model;
+use amr_io::{Piece, Sink, Text, WriteFault};
 
-/// The words that a program was called with, those after its name, seen as a list of texts.
-#[derive(Drop)]
-pub struct Line {
-    alloc: Global,
-    words: Vec<String>,
-}
-
-impl Model for Line {
-    ghost use Rattle.std.specs.Prelude.{List, ℕ, map, string_bytes};
-
-    ghost Value = { List (List ℕ) };
-
-    ghost view = { λ l. map string_bytes l.words.items };
-}
-
-impl Line {
-    /// No words yet.
-    pub fn make(alloc: Global) -> Line
-        ensures { result ≡ [] }
-    {
-        Line {
-            alloc,
-            words: Vec::new(alloc),
-        }
-    }
-
-    /// Adds a word at the end. After want of memory the line is as before.
-    pub fn push(&mut self, word: &str) -> Result<(), NoMemory>
-        ensures added { OnOk result (self.new ≡ self.old ++ word.now ∷ []) }
-        ensures same { OnErr result (self.new ≡ self.old) }
-    {
-        let word = String::from_str(self.alloc, word)?;
-        self.words.push(word)?;
-        Ok(())
-    }
-
-    pub(crate) fn words(&self) -> &[String]
-        ensures { map string_bytes result.now ≡ self.now }
-    {
-        self.words.as_slice()
-    }
+/// Writes pieces in turn and a newline, all of them where no fault comes.
+pub(crate) fn put_line<O: Sink>(sink: &mut O, pieces: &[Piece<'_>]) -> Result<(), WriteFault>
+    ensures whole { OnOk result (Grows O.holds sink.old sink.new (line (pieces_text pieces.now))) }
+    ensures part { TakesPrefix O.holds sink.old sink.new (line (pieces_text pieces.now)) }
+    ensures cause { HasCause (O.faults sink.old) (O.faults sink.new) result }
+{
+    let mut text = Text::make();
+    text.put_pieces(sink, pieces)?;
+    text.put_str(sink, "\n")?;
+    text.flush(sink)?;
+    Ok(())
 }

@@ -1,15 +1,17 @@
 // The line of a refusal.
-ghost use Rattle.std.specs.Prelude.{◌≡◌, ◌++◌, OnOk};
+ghost use Rattle.std.specs.Prelude.{◌≡◌, OnOk, unsigned_abs};
 ghost use Rattle.amr_causes.specs.Causes.{HasCause};
 ghost use Rattle.amr_causes.specs.Bytes.{Grows, TakesPrefix};
-ghost use Rattle.amr_run.specs.Texts.{fault_text, message, refusal};
+ghost use Rattle.amr_run.specs.Texts.{axis_text, fault_text, message, refusal, sign_text};
 
 use crate::Status;
-use amr_io::{Piece, Sink, WriteFault, write_pieces};
-use amr_problem::ProblemFault;
+use crate::line::put_line;
+use amr_box::Axis;
+use amr_io::{Piece, Sink, WriteFault};
+use amr_problem::{Key, ProblemFault};
 
 const USAGE: &str =
-    "usage: run [--workers W] [--to K] [--keep E] | check | show | trial NUMBER SIZE [--workers W]";
+    "amr: usage: run [--workers W] [--to K] [--keep E] | check | show | trial NUMBER SIZE [--workers W]";
 
 /// Writes the line of a refusal, nothing where all is done.
 pub(crate) fn tell<E: Sink>(err: &mut E, status: &Status) -> Result<(), WriteFault>
@@ -19,29 +21,118 @@ pub(crate) fn tell<E: Sink>(err: &mut E, status: &Status) -> Result<(), WriteFau
 {
     match status {
         Status::Done => Ok(()),
-        Status::Usage => put_refusal(err, USAGE),
-        Status::ReadFault => put_refusal(err, "read failed"),
-        Status::Problem(fault) => put_refusal(err, text_of(fault)),
-        Status::WriteFault => put_refusal(err, "write failed"),
-        Status::NoMemory => put_refusal(err, "out of memory"),
+        Status::Usage => put_line(err, &[Piece::Str(USAGE)]),
+        Status::ReadFault => put_line(err, &[Piece::Str("amr: read failed")]),
+        Status::Problem(fault) => put_fault(err, fault),
+        Status::WriteFault => put_line(err, &[Piece::Str("amr: write failed")]),
+        Status::NoMemory => put_line(err, &[Piece::Str("amr: out of memory")]),
     }
 }
 
-fn text_of(fault: &ProblemFault) -> &'static str
-    ensures { result.now ≡ fault_text fault.now }
-{
-    match fault {
-        ProblemFault::NotBuilt => "problem: not built",
-    }
-}
-
-fn put_refusal<E: Sink>(err: &mut E, text: &str) -> Result<(), WriteFault>
-    ensures whole { OnOk result (Grows E.holds err.old err.new (refusal text.now)) }
-    ensures part { TakesPrefix E.holds err.old err.new (refusal text.now) }
+fn put_fault<E: Sink>(err: &mut E, fault: &ProblemFault) -> Result<(), WriteFault>
+    ensures whole { OnOk result (Grows E.holds err.old err.new (refusal (fault_text fault.now))) }
+    ensures part { TakesPrefix E.holds err.old err.new (refusal (fault_text fault.now)) }
     ensures cause { HasCause (E.faults err.old) (E.faults err.new) result }
 {
-    write_pieces(
+    match fault {
+        ProblemFault::TooLong => put_line(err, &[Piece::Str("amr: problem: too long")]),
+        ProblemFault::NotToml => put_line(err, &[Piece::Str("amr: problem: not TOML")]),
+        ProblemFault::UnknownKey(key) => put_line(
+            err,
+            &[
+                Piece::Str("amr: problem: unknown key "),
+                Piece::Str(key.text()),
+            ],
+        ),
+        ProblemFault::Missing(key) => put_line(
+            err,
+            &[
+                Piece::Str("amr: problem: missing key "),
+                Piece::Str(key.text()),
+            ],
+        ),
+        ProblemFault::WrongKind(key) => put_line(
+            err,
+            &[
+                Piece::Str("amr: problem: wrong kind "),
+                Piece::Str(key.text()),
+            ],
+        ),
+        ProblemFault::OutOfRange(key, value) => put_out_of_range(err, *key, value),
+        ProblemFault::Courant(sum, d) => put_courant(err, sum, d),
+        ProblemFault::SidesDiffer(axis) => put_line(
+            err,
+            &[
+                Piece::Str("amr: problem: sides differ "),
+                Piece::Str(axis_name(*axis)),
+            ],
+        ),
+        ProblemFault::BlockOutside(index) => put_line(
+            err,
+            &[
+                Piece::Str("amr: problem: block "),
+                Piece::Number(u64::from(*index)),
+                Piece::Str(" outside"),
+            ],
+        ),
+        ProblemFault::NotBuilt => put_line(err, &[Piece::Str("amr: problem: not built")]),
+    }
+}
+
+fn put_out_of_range<E: Sink>(err: &mut E, key: Key, value: &i64) -> Result<(), WriteFault>
+    ensures whole { OnOk result (Grows E.holds err.old err.new (refusal (fault_text (ProblemFault.OutOfRange key value.now)))) }
+    ensures part { TakesPrefix E.holds err.old err.new (refusal (fault_text (ProblemFault.OutOfRange key value.now))) }
+    ensures cause { HasCause (E.faults err.old) (E.faults err.new) result }
+{
+    put_line(
         err,
-        &[Piece::Str("amr: "), Piece::Str(text), Piece::Str("\n")],
+        &[
+            Piece::Str("amr: problem: out of range "),
+            Piece::Str(key.text()),
+            Piece::Str(" "),
+            Piece::Str(sign(value)),
+            Piece::Number(size(value)),
+        ],
     )
+}
+
+fn put_courant<E: Sink>(err: &mut E, sum: &i64, d: &i64) -> Result<(), WriteFault>
+    ensures whole { OnOk result (Grows E.holds err.old err.new (refusal (fault_text (ProblemFault.Courant sum.now d.now)))) }
+    ensures part { TakesPrefix E.holds err.old err.new (refusal (fault_text (ProblemFault.Courant sum.now d.now))) }
+    ensures cause { HasCause (E.faults err.old) (E.faults err.new) result }
+{
+    put_line(
+        err,
+        &[
+            Piece::Str("amr: problem: courant "),
+            Piece::Str(sign(sum)),
+            Piece::Number(size(sum)),
+            Piece::Str(" over "),
+            Piece::Str(sign(d)),
+            Piece::Number(size(d)),
+        ],
+    )
+}
+
+// What stands before a number's digits.
+fn sign(value: &i64) -> &'static str
+    ensures { result.now ≡ sign_text value.now }
+{
+    if *value < 0 { "-" } else { "" }
+}
+
+fn size(value: &i64) -> u64
+    ensures { result ≡ unsigned_abs value.now }
+{
+    let value = *value;
+    value.unsigned_abs()
+}
+
+fn axis_name(axis: Axis) -> &'static str
+    ensures { result.now ≡ axis_text axis }
+{
+    match axis {
+        Axis::X => "x",
+        Axis::Y => "y",
+    }
 }

@@ -3,24 +3,21 @@ ghost use Rattle.std.specs.Prelude.{◌≡◌, ◌≢◌, ◌⊎◌, List, ℕ, 
 ghost use Rattle.std.specs.Io.KnownBytes.{IsAtEnd};
 ghost use Rattle.amr_causes.specs.Causes.{Rose};
 ghost use Rattle.amr_causes.specs.Bytes.{Grows, IsPrefix, WereLeft};
-ghost use Rattle.amr_run.specs.Words.{command_of};
+ghost use Rattle.amr_cli.specs.Words.{command_of};
 ghost use Rattle.amr_run.specs.Texts.{message};
-ghost use Rattle.amr_run.specs.Answer.{HasAnswer};
+ghost use Rattle.amr_run.specs.Answer.{HasAnswer, IsAnswer};
 ghost use Rattle.amr_run.specs.Outcome.{Outcome, Replies, status_of};
 
-use crate::command::read_words;
+use crate::Status;
+use crate::commands::{check, run};
 use crate::message::tell;
-use crate::{Command, Line, Status};
-use amr_io::{Sink, Source, read_all};
-use amr_problem::judge;
-use amr_single::{plot, run_to, start};
+use amr_cli::{CliFault, Command, Line, parse};
+use amr_io::{Sink, Source};
 use std::alloc::Global;
 
-/// The most bytes that a problem has.
-const MOST_BYTES: usize = 65536;
-
-/// Does what the words ask for: reads a problem from `src`, makes its run and writes the plot to `out`, or says on `err`
-/// why not. `_rt` is the runtime that workers are to come from; so far there are none.
+/// Does what the words ask for: reads a problem from `src` and writes the answer of the command to `out`, the plot of the
+/// problem's run (`run`) or the line of the problem (`check`), or says on `err` why not. `_rt` is the runtime that workers are
+/// to come from; so far there are none.
 ///
 /// Clauses on bytes hold of objects that tell them. Want of memory may come at any time and is tied to no cause.
 pub fn amr<R, S: Source, O: Sink, E: Sink>(
@@ -64,28 +61,32 @@ fn serve<S: Source, O: Sink>(alloc: Global, words: &Line, src: &mut S, out: &mut
     ensures read_fault { result ≡ Status.ReadFault → Rose (S.faults src.old) (S.faults src.new) }
     ensures write_fault { result ≡ Status.WriteFault → Rose (O.faults out.old) (O.faults out.new) }
 {
-    match read_words(words) {
-        None => Status::Usage,
-        Some(Command::Run) => match run(alloc, src, out) {
+    match parse(alloc, words) {
+        Err(CliFault::Usage) => Status::Usage,
+        Err(CliFault::NoMemory) => Status::NoMemory,
+        Ok(command) => match answer(command, alloc, src, out) {
             Ok(()) => Status::Done,
             Err(refusal) => refusal,
         },
     }
 }
 
-// The command `run`: the plot of the run of the problem on the source, or the status that refuses it.
-fn run<S: Source, O: Sink>(alloc: Global, src: &mut S, out: &mut O) -> Result<(), Status>
+// The answer of a command, or the status that refuses it.
+fn answer<S: Source, O: Sink>(
+    command: Command,
+    alloc: Global,
+    src: &mut S,
+    out: &mut O,
+) -> Result<(), Status>
     ensures outcome { (bytes : List ℕ) × ((sent : List ℕ) × WereLeft (S.left src.old) bytes
-        × Grows O.holds out.old out.new sent × Replies (status_of result) Command.Run bytes sent) }
+        × Grows O.holds out.old out.new sent × Replies (status_of result) (IsAnswer command bytes) bytes sent) }
     ensures ended { OnOk result (IsAtEnd (S.left src.new)) }
     ensures refused { IfErr result (λ status. status ≢ Status.Done) }
     ensures read_fault { result ≡ Err Status.ReadFault → Rose (S.faults src.old) (S.faults src.new) }
     ensures write_fault { result ≡ Err Status.WriteFault → Rose (O.faults out.old) (O.faults out.new) }
 {
-    let bytes = read_all(alloc, src, MOST_BYTES)?;
-    let problem = judge(alloc, &bytes)?;
-    let mut grid = start(alloc, &problem)?;
-    run_to(&problem, &mut grid, problem.steps)?;
-    plot(&problem, &grid, out)?;
-    Ok(())
+    match command {
+        Command::Run { .. } => run(alloc, src, out),
+        Command::Check => check(alloc, src, out),
+    }
 }

@@ -7,7 +7,7 @@ use amr_io::{ReadAll, WriteFault};
 use amr_problem::{JudgeFault, ProblemFault};
 
 /// How a call of [`amr`](crate::amr) ended, in the order in which the causes are looked for.
-#[derive(Debug, PartialEq, Eq, Drop)]
+#[derive(Debug, Drop)]
 pub enum Status {
     /// The answer went out.
     Done,
@@ -15,7 +15,7 @@ pub enum Status {
     Usage,
     /// The source failed.
     ReadFault,
-    /// The bytes of the source are no problem that can be run.
+    /// The bytes of the source are no problem, or none that can be run.
     Problem(ProblemFault),
     /// The sink of the answer failed.
     WriteFault,
@@ -46,7 +46,7 @@ impl From<ReadAll> for Status {
 
     fn from(fault: ReadAll) -> Self {
         match fault {
-            ReadAll::TooLong => Status::Problem(ProblemFault::NotBuilt),
+            ReadAll::TooLong => Status::Problem(ProblemFault::TooLong),
             ReadAll::ReadFault => Status::ReadFault,
             ReadAll::NoMemory => Status::NoMemory,
         }

@@ -1,6 +1,7 @@
 // What no clause says: that the call succeeds, worked plots, and the text of each refusal.
 
-use crate::{Line, amr};
+use crate::amr;
+use amr_cli::Line;
 use amr_io::{MemSink, MemSource};
 use std::alloc::{AllocError, Global};
 use std::fmt::Write as _;
@@ -30,8 +31,6 @@ box 0 0 3 1
 end
 ";
 
-const NOT_BUILT: &str = "amr: problem: not built\n";
-
 const USAGE: &str =
     "amr: usage: run [--workers W] [--to K] [--keep E] | check | show | trial NUMBER SIZE [--workers W]\n";
 
@@ -46,14 +45,18 @@ struct Case<'a> {
 }
 
 impl<'a> Case<'a> {
-    fn run(bytes: &'a [u8]) -> Case<'a> {
+    fn of(words: &'a str, bytes: &'a [u8]) -> Case<'a> {
         Case {
-            words: "run",
+            words,
             bytes,
             reads_fail: &[],
             writes_fail: &[],
             lines_fail: &[],
         }
+    }
+
+    fn run(bytes: &'a [u8]) -> Case<'a> {
+        Case::of("run", bytes)
     }
 
     // The status and what went to the two sinks are as wanted.
@@ -136,22 +139,27 @@ fn ring_of_mass_7_and_no_steps(rt: HostRuntime) -> Result<(), Fail> {
 }
 
 #[test]
+fn ring_of_one_worker_and_its_line(rt: HostRuntime) {
+    Case::of("run --workers 1", RING.as_bytes()).ends(&rt, 0, RING_PLOT, "");
+    Case::of("check", RING.as_bytes()).ends(&rt, 0, "ok 4 2 1 0\n", "");
+}
+
+#[test]
 fn words_that_are_no_command(rt: HostRuntime) {
     for words in [
         "",
         "help",
-        "check",
         "check x",
-        "Run",
+        "check --workers 1",
         "run ",
         "run run",
         "run --help",
         "run --workers 0",
         "run --workers 65",
+        "run --to 1",
+        "show",
     ] {
-        let mut case = Case::run(RING.as_bytes());
-        case.words = words;
-        case.ends(&rt, 2, "", USAGE);
+        Case::of(words, RING.as_bytes()).ends(&rt, 2, "", USAGE);
     }
 }
 
@@ -163,6 +171,9 @@ fn faults_of_the_outside(rt: HostRuntime) {
     let mut case = ring;
     case.writes_fail = &[2];
     case.ends(&rt, 5, "amr-plot 1\nname ", "amr: write failed\n");
+    case.words = "check";
+    case.writes_fail = &[1];
+    case.ends(&rt, 5, "", "amr: write failed\n");
     for call in 1..=2 {
         let mut case = ring;
         let fails = [call];
@@ -175,60 +186,73 @@ fn faults_of_the_outside(rt: HostRuntime) {
     case.ends(&rt, 2, "", "amr: usage: run [--workers W] [--to K] [");
 }
 
-#[test]
-fn bytes_that_are_no_plain_problem(rt: HostRuntime) -> Result<(), Fail> {
-    let alloc = rt.alloc();
-    for change in [
-        // A key is missing.
-        ("version", ""),
-        ("name", ""),
-        ("cells", ""),
-        ("steps", ""),
-        ("courant", ""),
-        ("sides", ""),
-        ("max_level", ""),
-        ("blocks", ""),
-        // A value is of another kind.
-        ("version", "version = \"1\""),
-        ("name", "name = 1"),
-        ("cells", "cells = 4"),
-        ("cells", "cells = [4]"),
-        ("cells", "cells = [4, 2.0]"),
-        ("steps", "steps = 1.0"),
-        ("courant", "courant = [1, 2]"),
-        ("sides", "sides = [-1, -1, -1]"),
-        ("max_level", "max_level = false"),
-        ("blocks", "blocks = [0, 0, 0, 0, 8]"),
-        ("blocks", "blocks = [[0, 0, 0, 8]]"),
-        // A number is out of its range.
-        ("version", "version = 2"),
-        ("name", "name = \"\""),
-        ("name", "name = \"Ring\""),
-        ("cells", "cells = [1, 2]"),
-        ("cells", "cells = [4, 257]"),
-        ("steps", "steps = -1"),
-        ("steps", "steps = 4097"),
-        ("courant", "courant = [1, 0, 0]"),
-        ("courant", "courant = [1025, 0, 1024]"),
-        ("courant", "courant = [3, -2, 4]"),
-        ("sides", "sides = [0, 0, 0, 0]"),
-        ("sides", "sides = [-1, 0, -1, -1]"),
-        ("max_level", "max_level = 1"),
-        ("blocks", "blocks = [[0, 0, 4, 0, 8]]"),
-        ("blocks", "blocks = [[1, 0, 0, 0, 8]]"),
-        ("blocks", "blocks = [[0, 0, 0, 0, 1073741825]]"),
-        // A key is unknown, or the text is no table.
-        ("steps", "steps = 1\ncolour = 1"),
-        ("steps", "steps = 1\nmax_grid_size = 32"),
-        ("steps", "steps = 1\nsteps = 1"),
-        ("steps", "steps 1"),
-    ] {
-        let text = ring_with(alloc, &[change])?;
-        Case::run(text.as_bytes()).ends(&rt, 3, "", NOT_BUILT);
+// A key of the ring, lines in the place of its own, and what is said of the problem then.
+const FAULTS: &str = "version||missing key version
+blocks||missing key blocks
+name|name = 1|wrong kind name
+cells|cells = [4]|wrong kind cells
+max_level|max_level = false|wrong kind max_level
+blocks|blocks = [[0, 0, 0, 8]]|wrong kind blocks
+version|version = 2|out of range version 2
+name|name = \"\"|out of range name 0
+name|name = \"Ring\"|out of range name 4
+cells|cells = [4, 257]|out of range cells 257
+steps|steps = -1|out of range steps -1
+steps|steps = 4097|out of range steps 4097
+sides|sides = [-1, -1, -2, -1]|out of range sides -2
+max_level|max_level = 1|out of range max_level 1
+steps|steps = 1;max_grid_size = 5|out of range max_grid_size 5
+blocks|blocks = [[0, 0, 0, 0, 1073741825]]|out of range blocks 1073741825
+courant|courant = [3, 2, 4]|courant 5 over 4
+courant|courant = [-1024, 0, 1023]|courant 1024 over 1023
+sides|sides = [-1, 0, -1, -1]|sides differ x
+sides|sides = [-1, -1, 0, -1]|sides differ y
+sides|sides = [0, 0, 0, 0]|not built
+blocks|blocks = [[0, 0, 4, 0, 8]]|block 0 outside
+blocks|blocks = [[0, 0, 0, 0, 8], [1, 0, 0, 0, 8]]|block 1 outside
+steps|steps = 1;zebra = 1;alpha = 1|unknown key alpha
+steps|steps = 1;steps = 1|not TOML
+steps|steps 1|not TOML";
+
+// The ring with other lines, parted by semicolons, in the place of a key's.
+fn ring_with_lines(alloc: Global, key: &str, lines: &str) -> Result<String, Fail> {
+    let mut text = String::new(alloc);
+    for old in RING.lines() {
+        let lines = if old.starts_with(key) { lines } else { old };
+        for line in lines.split(';') {
+            write!(text, "{line}\n")?;
+        }
     }
-    Case::run(b"").ends(&rt, 3, "", NOT_BUILT);
-    Case::run(b"name = \"\xff\"").ends(&rt, 3, "", NOT_BUILT);
+    Ok(text)
+}
+
+#[test]
+fn faults_of_the_problem(rt: HostRuntime) -> Result<(), Fail> {
+    let alloc = rt.alloc();
+    for row in FAULTS.lines() {
+        let mut fields = row.split('|');
+        let key = fields.next().unwrap_or("");
+        let lines = fields.next().unwrap_or("");
+        let fault = fields.next().unwrap_or("");
+        let text = ring_with_lines(alloc, key, lines)?;
+        let line = format!(in alloc; "amr: problem: {fault}\n")?;
+        Case::run(text.as_bytes()).ends(&rt, 3, "", line.as_str());
+        Case::of("check", text.as_bytes()).ends(&rt, 3, "", line.as_str());
+    }
     Ok(())
+}
+
+#[test]
+fn whole_courant_number(rt: HostRuntime) -> Result<(), Fail> {
+    let text = ring_with_lines(rt.alloc(), "courant", "courant = [2, 2, 4]")?;
+    Case::of("check", text.as_bytes()).ends(&rt, 0, "ok 4 2 1 0\n", "");
+    Ok(())
+}
+
+#[test]
+fn bytes_that_are_no_text(rt: HostRuntime) {
+    Case::run(b"").ends(&rt, 3, "", "amr: problem: missing key version\n");
+    Case::run(b"name = \"\xff\"").ends(&rt, 3, "", "amr: problem: not TOML\n");
 }
 
 #[test]
@@ -238,6 +262,6 @@ fn too_long_by_one_byte(rt: HostRuntime) -> Result<(), Fail> {
     text.resize(65_536, b'x')?;
     Case::run(&text).ends(&rt, 0, RING_PLOT, "");
     text.push(b'x')?;
-    Case::run(&text).ends(&rt, 3, "", NOT_BUILT);
+    Case::run(&text).ends(&rt, 3, "", "amr: problem: too long\n");
     Ok(())
 }

@@ -1,0 +1,46 @@
+-- The line of a refusal, as the pieces that are written.
+use Rattle.std.proofs.Common.{◌≡◌, ℕ, ℤ, pos, negsuc, List, [], ◌++◌, Result, OnOk, refl, sym, ◌∙◌, ap, subst}
+use Rattle.std.specs.Prelude.{codes, decimal, unsigned_abs}
+use Rattle.std.specs.Fmt.{signed_decimal}
+use Rattle.amr_causes.specs.Bytes.{Grows, TakesPrefix}
+use Rattle.amr_def.specs.Plot.{line}
+use Rattle.amr_problem.specs.declared.fault.ProblemFault.{ProblemFault}
+use Rattle.amr_problem.specs.declared.fault.ProblemFault.TheVariants as problem
+use Rattle.amr_problem.specs.declared.key.Key.{Key}
+use Rattle.amr_problem.specs.Keys.{text_of}
+use Rattle.amr_run.specs.Texts.{fault_text, refusal, sign_text}
+
+-- another text for the same bytes
+module _ {S : Type 0} (holds : S → List ℕ → Type 0) (old new : S) where
+  pub whole_as : {F : Type 0} (r : Result Unit F) (text same : List ℕ) → text ≡ same → OnOk r (Grows holds old new text) → OnOk r (Grows holds old new same)
+  whole_as r text same is whole = subst (λ (t : List ℕ). OnOk r (Grows holds old new t)) is whole
+
+  pub part_as : (text same : List ℕ) → text ≡ same → TakesPrefix holds old new text → TakesPrefix holds old new same
+  part_as text same is part = subst (λ (t : List ℕ). TakesPrefix holds old new t) is part
+
+signed_text : (z : ℤ) (rest : List ℕ) → sign_text z ++ (decimal (unsigned_abs z) ++ rest) ≡ signed_decimal z ++ rest
+signed_text (pos n) rest = refl
+signed_text (negsuc n) rest = refl
+
+-- a number's sign and its digits, before what is left
+pub sign_and_digits : (sign : List ℕ) (size : ℕ) (z : ℤ) (rest : List ℕ) → sign ≡ sign_text z → size ≡ unsigned_abs z → sign ++ (decimal size ++ rest) ≡ signed_decimal z ++ rest
+sign_and_digits sign size z rest sign_is size_is =
+    ap (λ (s : List ℕ). s ++ (decimal size ++ rest)) sign_is ∙ (ap (λ (n : ℕ). sign_text z ++ (decimal n ++ rest)) size_is ∙ signed_text z rest)
+
+-- ---- the lines of faults
+
+pub out_of_range_line : (key : Key) (z : ℤ) (name sign : List ℕ) (size : ℕ) → name ≡ text_of key → sign ≡ sign_text z → size ≡ unsigned_abs z
+    → line (codes "amr: problem: out of range " ++ (name ++ (codes " " ++ (sign ++ (decimal size ++ []))))) ≡ refusal (fault_text (problem.OutOfRange key z))
+out_of_range_line key z name sign size name_is sign_is size_is =
+    ap (λ (n : List ℕ). line (codes "amr: problem: out of range " ++ (n ++ (codes " " ++ (sign ++ (decimal size ++ [])))))) name_is
+    ∙ ap (λ (t : List ℕ). line (codes "amr: problem: out of range " ++ (text_of key ++ (codes " " ++ t)))) (sign_and_digits sign size z [] sign_is size_is)
+
+pub courant_line : (z y : ℤ) (sign other_sign : List ℕ) (size other_size : ℕ) → sign ≡ sign_text z → size ≡ unsigned_abs z → other_sign ≡ sign_text y → other_size ≡ unsigned_abs y
+    → line (codes "amr: problem: courant " ++ (sign ++ (decimal size ++ (codes " over " ++ (other_sign ++ (decimal other_size ++ [])))))) ≡ refusal (fault_text (problem.Courant z y))
+courant_line z y sign other_sign size other_size sign_is size_is other_sign_is other_size_is =
+    ap (λ (t : List ℕ). line (codes "amr: problem: courant " ++ t)) (sign_and_digits sign size z _ sign_is size_is)
+    ∙ ap (λ (t : List ℕ). line (codes "amr: problem: courant " ++ (signed_decimal z ++ (codes " over " ++ t)))) (sign_and_digits other_sign other_size y [] other_sign_is other_size_is)
+
+-- the line of a fault that is this one
+pub refusal_of : (fault same : ProblemFault) → fault ≡ same → refusal (fault_text same) ≡ refusal (fault_text fault)
+refusal_of fault same is = ap (λ (f : ProblemFault). refusal (fault_text f)) (sym is)

@@ -1,0 +1,45 @@
+use Rattle.std.proofs.Common.{◌≡◌, List, ℕ, [], ◌∷◌, ◌++◌, subst}
+use Rattle.std.proofs.lemmas.List.{append-nil}
+use Rattle.amr_causes.specs.Bytes.{Grows, TakesPrefix}
+use Rattle.amr_def.specs.Plot.{line}
+use Rattle.amr_causes.proofs.ByteLaws.{prefix_whole, takes_longer}
+use Rattle.amr_io.specs.Kept.{Sent, pieces_text}
+use Rattle.amr_io.proofs.Sending.{all_sent, flush_stops, sent_stops, sent_then}
+use Rattle.amr_run.proofs.line.put_line.Goals as goal
+
+pub returns-in_err-put_pieces-clause-part : goal.returns-in_err-put_pieces-clause-part
+returns-in_err-put_pieces-clause-part g c =
+    let part = subst (λ (kept : List ℕ). TakesPrefix g.O.Sink.holds c.args.sink.now c.put_pieces.new.sink (kept ++ pieces_text c.args.pieces.now)) c.make-text.ensures c.in_err-put_pieces.ensures.part in
+    takes_longer g.O.Sink.holds c.args.sink.now c.put_pieces.new.sink (pieces_text c.args.pieces.now) (10 ∷ []) part
+
+pub returns-in_err-put_str-clause-part : goal.returns-in_err-put_str-clause-part
+returns-in_err-put_str-clause-part g c =
+    let stop = sent_stops g.O.Sink.holds c.args.sink.now c.put_pieces.new.sink c.put_str.new.sink c.make-text.result c.put_pieces.new.self (pieces_text c.args.pieces.now) (10 ∷ []) c.in_ok-put_pieces.ensures.sent c.in_err-put_str.ensures.part in
+    subst (λ (kept : List ℕ). TakesPrefix g.O.Sink.holds c.args.sink.now c.put_str.new.sink (kept ++ (pieces_text c.args.pieces.now ++ 10 ∷ []))) c.make-text.ensures stop
+
+pub returns-in_err-flush-clause-part : goal.returns-in_err-flush-clause-part
+returns-in_err-flush-clause-part g c =
+    let sent = sent_then g.O.Sink.holds c.args.sink.now c.put_pieces.new.sink c.put_str.new.sink c.make-text.result c.put_pieces.new.self c.put_str.new.self (pieces_text c.args.pieces.now) (10 ∷ []) c.in_ok-put_pieces.ensures.sent c.in_ok-put_str.ensures.sent in
+    flush_stops g.O.Sink.holds c.args.sink.now c.put_str.new.sink c.flush.new.sink c.make-text.result c.put_str.new.self (pieces_text c.args.pieces.now ++ 10 ∷ []) c.make-text.ensures sent c.in_err-flush.ensures.part
+
+-- all that was put went out, with nothing kept back
+module _ {S : Type 0} (holds : S → List ℕ → Type 0) where
+  went_out : (s0 s1 s2 s3 : S) (k0 k1 k2 k3 text : List ℕ) → k0 ≡ [] → Sent holds s0 s1 k0 k1 text → Sent holds s1 s2 k1 k2 (10 ∷ []) → Sent holds s2 s3 k2 k3 [] → k3 ≡ [] → Grows holds s0 s3 (line text)
+  went_out s0 s1 s2 s3 k0 k1 k2 k3 text none first second third empty =
+      let sent = sent_then holds s0 s2 s3 k0 k2 k3 (line text) [] (sent_then holds s0 s1 s2 k0 k1 k2 text (10 ∷ []) first second) third in
+      let from_none = subst (λ (kept : List ℕ). Sent holds s0 s3 kept k3 (line text ++ [])) none sent in
+      all_sent holds s0 s3 k3 (line text) (subst (λ (t : List ℕ). Sent holds s0 s3 [] k3 t) (append-nil (line text)) from_none) empty
+
+pub returns-clause-whole : goal.returns-clause-whole
+returns-clause-whole g c =
+    went_out g.O.Sink.holds c.args.sink.now c.put_pieces.new.sink c.put_str.new.sink c.flush.new.sink c.make-text.result c.put_pieces.new.self c.put_str.new.self c.flush.new.self (pieces_text c.args.pieces.now)
+    c.make-text.ensures c.in_ok-put_pieces.ensures.sent c.in_ok-put_str.ensures.sent c.in_ok-flush.ensures.sent c.in_ok-flush.ensures.empty
+
+pub returns-clause-part : goal.returns-clause-part
+returns-clause-part g c =
+    let text : List ℕ = line (pieces_text c.args.pieces.now) in (
+      text,
+      prefix_whole text,
+      went_out g.O.Sink.holds c.args.sink.now c.put_pieces.new.sink c.put_str.new.sink c.flush.new.sink c.make-text.result c.put_pieces.new.self c.put_str.new.self c.flush.new.self (pieces_text c.args.pieces.now)
+          c.make-text.ensures c.in_ok-put_pieces.ensures.sent c.in_ok-put_str.ensures.sent c.in_ok-flush.ensures.sent c.in_ok-flush.ensures.empty,
+    )

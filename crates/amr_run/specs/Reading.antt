@@ -1,0 +1,19 @@
+-- How the bytes of the source were read as a problem.
+use Rattle.std.specs.Prelude.{ℕ, ◌≡◌, List, Some, Result, Ok, Err}
+use Rattle.amr_def.specs.declared.problem.Problem.{Problem}
+use Rattle.amr_problem.specs.Judgement.{fault_of, IsProblemOf}
+use Rattle.amr_run.specs.declared.status.Status.{Status}
+use Rattle.amr_run.specs.declared.status.Status.TheVariants as status
+
+-- the status by which they were not
+abbrev pub Refuses : Status → List ℕ → Type 0
+Refuses (status.Problem fault) bytes = fault_of bytes ≡ Some fault
+Refuses status.ReadFault bytes = Unit {0}
+Refuses status.NoMemory bytes = Unit {0}
+Refuses status.Done bytes = ⊥
+Refuses status.Usage bytes = ⊥
+Refuses status.WriteFault bytes = ⊥
+
+abbrev pub Reads : Result Problem Status → List ℕ → Type 0
+Reads (Ok problem) bytes = IsProblemOf bytes problem
+Reads (Err refusal) bytes = Refuses refusal bytes

@@ -1,0 +1,85 @@
+// The commands.
+ghost use Rattle.std.specs.Prelude.{◌≡◌, ◌≢◌, List, ℕ, Err, IfErr, OnOk};
+ghost use Rattle.std.specs.Io.KnownBytes.{IsAtEnd};
+ghost use Rattle.amr_causes.specs.Causes.{HasCause, Rose};
+ghost use Rattle.amr_causes.specs.Bytes.{Grows, TakesPrefix, WereLeft};
+ghost use Rattle.amr_run.specs.Texts.{problem_line};
+ghost use Rattle.amr_run.specs.Answer.{IsLineOfProblem, IsPlotOfRun};
+ghost use Rattle.amr_run.specs.Outcome.{Replies, status_of};
+ghost use Rattle.amr_run.specs.Reading.{Reads};
+
+use crate::Status;
+use crate::line::put_line;
+use amr_def::Problem;
+use amr_io::{Piece, Sink, Source, WriteFault, read_all};
+use amr_problem::judge;
+use amr_single::{plot, run_to, start};
+use std::alloc::Global;
+
+/// The most bytes that a problem has.
+const MOST_BYTES: usize = 65536;
+
+/// The command `run`: the plot of the run of the problem on the source, or the status that refuses it.
+pub(crate) fn run<S: Source, O: Sink>(alloc: Global, src: &mut S, out: &mut O) -> Result<(), Status>
+    ensures outcome { (bytes : List ℕ) × ((sent : List ℕ) × WereLeft (S.left src.old) bytes
+        × Grows O.holds out.old out.new sent × Replies (status_of result) (IsPlotOfRun bytes) bytes sent) }
+    ensures ended { OnOk result (IsAtEnd (S.left src.new)) }
+    ensures refused { IfErr result (λ status. status ≢ Status.Done) }
+    ensures read_fault { result ≡ Err Status.ReadFault → Rose (S.faults src.old) (S.faults src.new) }
+    ensures write_fault { result ≡ Err Status.WriteFault → Rose (O.faults out.old) (O.faults out.new) }
+{
+    let problem = read_problem(alloc, src)?;
+    let mut grid = start(alloc, &problem)?;
+    run_to(&problem, &mut grid, problem.steps)?;
+    plot(&problem, &grid, out)?;
+    Ok(())
+}
+
+/// The command `check`: the line of the problem on the source, or the status that refuses it.
+pub(crate) fn check<S: Source, O: Sink>(
+    alloc: Global,
+    src: &mut S,
+    out: &mut O,
+) -> Result<(), Status>
+    ensures outcome { (bytes : List ℕ) × ((sent : List ℕ) × WereLeft (S.left src.old) bytes
+        × Grows O.holds out.old out.new sent × Replies (status_of result) (IsLineOfProblem bytes) bytes sent) }
+    ensures ended { OnOk result (IsAtEnd (S.left src.new)) }
+    ensures refused { IfErr result (λ status. status ≢ Status.Done) }
+    ensures read_fault { result ≡ Err Status.ReadFault → Rose (S.faults src.old) (S.faults src.new) }
+    ensures write_fault { result ≡ Err Status.WriteFault → Rose (O.faults out.old) (O.faults out.new) }
+{
+    let problem = read_problem(alloc, src)?;
+    put_problem(out, &problem)?;
+    Ok(())
+}
+
+// The problem that the source gives, read to its end.
+fn read_problem<S: Source>(alloc: Global, src: &mut S) -> Result<Problem, Status>
+    ensures problem { (bytes : List ℕ) × WereLeft (S.left src.old) bytes × Reads result bytes }
+    ensures ended { OnOk result (IsAtEnd (S.left src.new)) }
+    ensures read_fault { result ≡ Err Status.ReadFault → Rose (S.faults src.old) (S.faults src.new) }
+{
+    let bytes = read_all(alloc, src, MOST_BYTES)?;
+    let problem = judge(alloc, &bytes)?;
+    Ok(problem)
+}
+
+fn put_problem<O: Sink>(out: &mut O, problem: &Problem) -> Result<(), WriteFault>
+    ensures whole { OnOk result (Grows O.holds out.old out.new (problem_line problem.now)) }
+    ensures part { TakesPrefix O.holds out.old out.new (problem_line problem.now) }
+    ensures cause { HasCause (O.faults out.old) (O.faults out.new) result }
+{
+    put_line(
+        out,
+        &[
+            Piece::Str("ok "),
+            Piece::Number(u64::from(problem.nx)),
+            Piece::Str(" "),
+            Piece::Number(u64::from(problem.ny)),
+            Piece::Str(" "),
+            Piece::Number(u64::from(problem.steps)),
+            Piece::Str(" "),
+            Piece::Number(u64::from(problem.max_level)),
+        ],
+    )
+}
