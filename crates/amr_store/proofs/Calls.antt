@@ -59,7 +59,7 @@ slot_is : (store : Store) (s : List ℕ) (which : Which) → Stands store s → 
 slot_is store s First stands = stands.first
 slot_is store s Second stands = stands.second
 
-stands_at : (later : Store) (c : List ℕ) (b : ℕ) → b ≡ base_in later → Reads c b → version_in later ≡ (state_of (drop b c)).version → problem_in later ≡ problem_of (drop b c) → slot_size_in later ≡ size_of (drop b c)
+pub stands_at : (later : Store) (c : List ℕ) (b : ℕ) → b ≡ base_in later → Reads c b → version_in later ≡ (state_of (drop b c)).version → problem_in later ≡ problem_of (drop b c) → slot_size_in later ≡ size_of (drop b c)
     → first_in later ≡ option_map slot_of (first_of (drop b c)) → second_in later ≡ option_map slot_of (second_of (drop b c)) → Stands later c
 stands_at later c b is reads version problem size first second = record {
   reads = subst (λ (n : ℕ). Reads c n) is reads;

@@ -80,16 +80,16 @@ held_kept old new a b past out held =
     let long = two_bytes old held in
     held_of new (omega (arith, long, out.no_shorter)) (ap (λ (n : ℕ). n == open_gate) (out.below 0 (omega (arith, long)) past) ∙ open_first old held)
 
-and_first : (a b c : Bool) → a ≡ false → (a && b && c) ≡ false
+pub and_first : (a b c : Bool) → a ≡ false → (a && b && c) ≡ false
 and_first true b c is = let no : true ≡ false = is in cc
 and_first false b c is = refl
 
-and_second : (a b c : Bool) → b ≡ false → (a && b && c) ≡ false
+pub and_second : (a b c : Bool) → b ≡ false → (a && b && c) ≡ false
 and_second true true c is = let no : true ≡ false = is in cc
 and_second true false c is = refl
 and_second false b c is = refl
 
-and_third : (a b c : Bool) → c ≡ false → (a && b && c) ≡ false
+pub and_third : (a b c : Bool) → c ≡ false → (a && b && c) ≡ false
 and_third true true c is = is
 and_third true false c is = refl
 and_third false b c is = refl
@@ -134,7 +134,7 @@ still_plain old new b plain head no_longer within same =
       ]
     ]
 
-plain_sound : (new : List ℕ) → (has_magic_1 new || has_magic_2 new) ≡ true → Whole true new → is_renewed new ≡ false → damage_in new ≡ None
+pub plain_sound : (new : List ℕ) → (has_magic_1 new || has_magic_2 new) ≡ true → Whole true new → is_renewed new ≡ false → damage_in new ≡ None
 plain_sound new magic whole plain =
     found_append (tests (has_magic_1 new || has_magic_2 new) new) (renewal_tests new) (tests_of (has_magic_1 new || has_magic_2 new) new (with_magic _ new magic whole)) ∙ rw plain refl
 

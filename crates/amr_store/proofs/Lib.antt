@@ -12,3 +12,5 @@ pub mod Moves
 pub mod Writes
 pub mod Calls
 pub mod Joins
+pub mod Creation
+pub mod Readings

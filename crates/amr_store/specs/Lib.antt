@@ -1,3 +1,4 @@
+pub mod Created
 pub mod Layout
 pub mod Next
 pub mod Phases

@@ -1,10 +1,22 @@
-// Writes that are synced.
-ghost use Rattle.std.specs.Prelude.{◌≡◌, ◌<◌, ◌+◌, ◌^◌, length, OnOk, option_map};
+// Reads, and writes that are synced.
+ghost use Rattle.std.specs.Prelude.{◌≡◌, ◌<◌, ◌+◌, ◌^◌, nat_lt, List, ℕ, Some, length, IfOk, OnOk, option_map};
 ghost use Rattle.amr_causes.specs.Causes.{HasCause};
 ghost use Rattle.amr_disk.specs.Image.{written_at, Torn, Only};
-ghost use Rattle.amr_store.specs.Phases.{StopsFrom, TornTwice};
+ghost use Rattle.amr_store.specs.Phases.{OnlyReads, StopsFrom, TornTwice, TornThrice};
 
 use amr_disk::{Disk, DiskFault};
+
+// Whether the disk has a byte at a place.
+pub fn has_byte<D: Disk>(disk: &mut D, at: u64) -> Result<bool, DiskFault>
+    requires small { at + 1 < 2 ^ 48 }
+    ensures told { IfOk result (λ has. (s : List ℕ) → D.seen disk.old ≡ Some s → has ≡ nat_lt at (length s)) }
+    ensures reads { OnlyReads D.seen D.moment D.leaves disk.old disk.new }
+    ensures cause { HasCause (D.faults disk.old) (D.faults disk.new) result }
+{
+    let mut byte = [0u8];
+    let n = disk.read_at(at, &mut byte)?;
+    Ok(n == 1)
+}
 
 // Writes a piece and syncs it.
 pub fn write_synced<D: Disk>(disk: &mut D, at: u64, piece: &[u8]) -> Result<(), DiskFault>
@@ -16,8 +28,7 @@ pub fn write_synced<D: Disk>(disk: &mut D, at: u64, piece: &[u8]) -> Result<(), 
     ensures cause { HasCause (D.faults disk.old) (D.faults disk.new) result }
 {
     disk.write_at(at, piece)?;
-    let synced = disk.sync();
-    synced
+    disk.sync()
 }
 
 // Writes two pieces and syncs them.
@@ -38,6 +49,32 @@ pub fn write_two_synced<D: Disk>(
 {
     disk.write_at(first_at, first)?;
     disk.write_at(second_at, second)?;
+    disk.sync()?;
+    Ok(())
+}
+
+// Writes three pieces and syncs them.
+pub fn write_three_synced<D: Disk>(
+    disk: &mut D,
+    first_at: u64,
+    first: &[u8],
+    second_at: u64,
+    second: &[u8],
+    third_at: u64,
+    third: &[u8],
+) -> Result<(), DiskFault>
+    requires first { first_at + length first.now < 2 ^ 48 }
+    requires second { second_at + length second.now < 2 ^ 48 }
+    requires third { third_at + length third.now < 2 ^ 48 }
+    requires settled { Only (D.seen disk.old) (D.leaves disk.old (D.moment disk.old)) }
+    ensures stops { StopsFrom D.seen D.moment D.leaves disk.old disk.new (TornThrice first_at (length first.now) second_at (length second.now) third_at (length third.now)) }
+    ensures seen { OnOk result (D.seen disk.new ≡ option_map (λ s. written_at third_at third.now (written_at second_at second.now (written_at first_at first.now s))) (D.seen disk.old)) }
+    ensures settled { OnOk result (Only (D.seen disk.new) (D.leaves disk.new (D.moment disk.new))) }
+    ensures cause { HasCause (D.faults disk.old) (D.faults disk.new) result }
+{
+    disk.write_at(first_at, first)?;
+    disk.write_at(second_at, second)?;
+    disk.write_at(third_at, third)?;
     disk.sync()?;
     Ok(())
 }

@@ -2,6 +2,7 @@
 //! or the one being written.
 #![tactic(auto)]
 
+mod create;
 mod device;
 mod part;
 mod put;

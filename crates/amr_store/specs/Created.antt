@@ -1,0 +1,49 @@
+-- The image of a new store without open slots. (profile)
+use Rattle.std.specs.Prelude.{ℕ, ◌≡◌, ◌<◌, ◌+◌, ◌==◌, ◌⊎◌, true, false, slice_index, slice_range, List, [], ◌∷◌, ◌++◌, length, None, if◌then◌else◌}
+use Rattle.std.specs.Int.{to_le_bytes, w32, w64}
+use Rattle.amr_store.specs.Layout.{magic_1, magic_2, long_at, word_at, gate_0, gate_1, end_of}
+use Rattle.amr_store.specs.Stored.{State, is_open}
+
+-- the versions of the format
+abbrev pub IsVersion : ℕ → Type 0
+IsVersion version = (version ≡ 1) ⊎ (version ≡ 2)
+
+abbrev pub magic_of : ℕ → ℕ
+magic_of version = if version == 1 then magic_1 else magic_2
+
+-- all of the head behind its gate, the problem, and the closed gate of the first slot
+abbrev pub head_bytes : ℕ → List ℕ → ℕ → List ℕ
+head_bytes version problem size = to_le_bytes w64 (magic_of version) ++ to_le_bytes w64 size ++ to_le_bytes w32 (length problem) ++ problem ++ 0 ∷ []
+
+-- what a new store shows
+abbrev pub new_state : ℕ → List ℕ → ℕ → State
+new_state version problem size = record { version = version; problem = problem; slot_size = size; latest = None }
+
+-- the first byte is there, and closed
+pub record IsShutFirst (image : List ℕ) : Type 0 where
+  pub some : 0 < length image
+  pub shut : is_open image 0 ≡ false
+
+-- behind the first byte stands a new store
+pub record IsNew (version : ℕ) (problem : List ℕ) (size : ℕ) (image : List ℕ) : Type 0 where
+  pub long : gate_1 (length problem) size < length image
+  pub magic : long_at image 1 ≡ magic_of version
+  pub size_is : long_at image 9 ≡ size
+  pub text_is : word_at image 17 ≡ length problem
+  pub problem_is : slice_range image 21 (21 + length problem) ≡ problem
+  pub shut_0 : slice_index image (gate_0 (length problem)) ≡ 0
+  pub shut_1 : slice_index image (gate_1 (length problem) size) ≡ 0
+
+-- what follows a store of version 1 does not renew it
+pub record IsPlain (version text size : ℕ) (image : List ℕ) : Type 0 where
+  pub past : version ≡ 1 → end_of text size < length image → slice_index image (end_of text size) ≡ 0
+
+-- a new store behind the first byte, with nothing that renews it
+pub record IsLaid (version : ℕ) (problem : List ℕ) (size : ℕ) (image : List ℕ) : Type 0 where
+  pub inner : IsNew version problem size image
+  pub plain : IsPlain version (length problem) size image
+
+-- a new store behind an open first byte
+pub record IsMade (version : ℕ) (problem : List ℕ) (size : ℕ) (image : List ℕ) : Type 0 where
+  pub laid : IsLaid version problem size image
+  pub opened : is_open image 0 ≡ true

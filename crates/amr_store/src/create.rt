@@ -1,0 +1,197 @@
+// A new store over an empty disk.
+ghost use Rattle.std.specs.Prelude.{◌≡◌, ◌≤◌, ◌<◌, ◌+◌, ◌^◌, ◌⊎◌, ◌==◌, ◌&&◌, true, false, nat_lt, List, ℕ, Some, None, length, IsSome, IfOk, OnOk, vec_len};
+ghost use Rattle.amr_causes.specs.Causes.{HasCause};
+ghost use Rattle.amr_disk.specs.Image.{Only};
+ghost use Rattle.amr_store.specs.Created.{IsVersion, IsShutFirst, IsLaid, IsMade, magic_of, head_bytes, new_state};
+ghost use Rattle.amr_store.specs.Phases.{OnlyReads, StopsFrom};
+ghost use Rattle.amr_store.specs.Reasons.{HasReason, is_no_memory, is_shut_fault};
+ghost use Rattle.amr_store.specs.Stands.{IsReady, is_shut, version_in, problem_in, slot_size_in, last_in};
+ghost use Rattle.amr_store.specs.Stored.{stored, is_empty, Empty, Held};
+
+use crate::device::{has_byte, write_synced, write_three_synced, write_two_synced};
+use crate::part::StoreFault;
+use crate::put::OPEN;
+use crate::store::Store;
+use amr_disk::{Disk, DiskFault};
+use std::alloc::{AllocError, Global};
+
+// The bytes AMRSTOR1 and AMRSTOR2, as numbers.
+pub const MAGIC_1: u64 = 0x3152_4f54_5352_4d41;
+
+pub const MAGIC_2: u64 = 0x3252_4f54_5352_4d41;
+
+// The magic of a version.
+fn magic_of(version: u32) -> u64
+    ensures { result ≡ magic_of version }
+{
+    if version == 1 { MAGIC_1 } else { MAGIC_2 }
+}
+
+// The head of a store behind its gate, its problem, and the closed gate of its first slot.
+fn head_of(
+    alloc: Global,
+    version: u32,
+    problem: &[u8],
+    slot_size: u64,
+) -> Result<Vec<u8>, AllocError>
+    requires text { length problem.now ≤ 65536 }
+    ensures bytes { IfOk result (λ v. v.items ≡ head_bytes version problem.now slot_size) }
+    ensures count { IfOk result (λ v. vec_len v ≡ 21 + length problem.now) }
+{
+    let mut head = Vec::new(alloc);
+    head.extend_from_slice(&magic_of(version).to_le_bytes())?;
+    head.extend_from_slice(&slot_size.to_le_bytes())?;
+    head.extend_from_slice(&(problem.len() as u32).to_le_bytes())?;
+    head.extend_from_slice(problem)?;
+    head.push(0)?;
+    Ok(head)
+}
+
+// A copy of the bytes.
+pub fn copy_of(alloc: Global, bytes: &[u8]) -> Result<Vec<u8>, AllocError>
+    ensures items { IfOk result (λ v. v.items ≡ bytes.now) }
+{
+    let mut copy = Vec::new(alloc);
+    copy.extend_from_slice(bytes)?;
+    Ok(copy)
+}
+
+// Closes the first byte, where it is not closed already.
+fn close_first<D: Disk>(disk: &mut D) -> Result<(), DiskFault>
+    requires settled { Only (D.seen disk.old) (D.leaves disk.old (D.moment disk.old)) }
+    requires empty { (s : List ℕ) → D.seen disk.old ≡ Some s → is_empty s ≡ true }
+    ensures shut { OnOk result ((t : List ℕ) → D.seen disk.new ≡ Some t → IsShutFirst t) }
+    ensures told { OnOk result ((s : List ℕ) → D.seen disk.old ≡ Some s → IsSome (D.seen disk.new)) }
+    ensures stops { StopsFrom D.seen D.moment D.leaves disk.old disk.new (λ s c. stored c ≡ Empty) }
+    ensures settled { OnOk result (Only (D.seen disk.new) (D.leaves disk.new (D.moment disk.new))) }
+    ensures cause { HasCause (D.faults disk.old) (D.faults disk.new) result }
+{
+    match has_byte(disk, 1) {
+        Ok(true) => Ok(()),
+        Ok(false) => write_synced(disk, 0, &[0]),
+        Err(fault) => Err(fault),
+    }
+}
+
+// Whether a byte follows a store of version 1: an open one there would renew it.
+fn has_renewal_gate<D: Disk>(disk: &mut D, version: u32, end: u64) -> Result<bool, DiskFault>
+    requires small { end + 1 < 2 ^ 48 }
+    ensures told { IfOk result (λ has. (s : List ℕ) → D.seen disk.old ≡ Some s → has ≡ (version == 1 && nat_lt end (length s))) }
+    ensures reads { OnlyReads D.seen D.moment D.leaves disk.old disk.new }
+    ensures cause { HasCause (D.faults disk.old) (D.faults disk.new) result }
+{
+    if version == 1 {
+        has_byte(disk, end)
+    } else {
+        Ok(false)
+    }
+}
+
+// Lays the store behind its closed first byte.
+fn lay<D: Disk>(
+    disk: &mut D,
+    version: u32,
+    problem: &[u8],
+    slot_size: u64,
+    head: &[u8],
+) -> Result<(), DiskFault>
+    requires version { IsVersion version }
+    requires text { length problem.now ≤ 65536 }
+    requires size { slot_size ≤ 2 ^ 40 }
+    requires count { length head.now ≡ 21 + length problem.now }
+    requires head { head.now ≡ head_bytes version problem.now slot_size }
+    requires settled { Only (D.seen disk.old) (D.leaves disk.old (D.moment disk.old)) }
+    ensures laid { OnOk result ((t : List ℕ) → D.seen disk.new ≡ Some t → IsLaid version problem.now slot_size t) }
+    ensures told { OnOk result ((s : List ℕ) → D.seen disk.old ≡ Some s → IsSome (D.seen disk.new)) }
+    ensures stops { StopsFrom D.seen D.moment D.leaves disk.old disk.new (λ s c. IsShutFirst s → IsShutFirst c) }
+    ensures settled { OnOk result (Only (D.seen disk.new) (D.leaves disk.new (D.moment disk.new))) }
+    ensures cause { HasCause (D.faults disk.old) (D.faults disk.new) result }
+{
+    let text = problem.len() as u64;
+    let gate = 21 + text + (17 + slot_size);
+    let end = 21 + text + 2 * (17 + slot_size);
+    match has_renewal_gate(disk, version, end) {
+        Ok(true) => write_three_synced(disk, 1, head, gate, &[0], end, &[0]),
+        Ok(false) => write_two_synced(disk, 1, head, gate, &[0]),
+        Err(fault) => Err(fault),
+    }
+}
+
+// The three steps of a new store.
+fn write_store<D: Disk>(
+    disk: &mut D,
+    version: u32,
+    problem: &[u8],
+    slot_size: u64,
+    head: &[u8],
+) -> Result<(), DiskFault>
+    requires version { IsVersion version }
+    requires text { length problem.now ≤ 65536 }
+    requires size { slot_size ≤ 2 ^ 40 }
+    requires count { length head.now ≡ 21 + length problem.now }
+    requires head { head.now ≡ head_bytes version problem.now slot_size }
+    requires settled { Only (D.seen disk.old) (D.leaves disk.old (D.moment disk.old)) }
+    requires empty { (s : List ℕ) → D.seen disk.old ≡ Some s → is_empty s ≡ true }
+    ensures made { OnOk result ((t : List ℕ) → D.seen disk.new ≡ Some t → IsMade version problem.now slot_size t) }
+    ensures stops { StopsFrom D.seen D.moment D.leaves disk.old disk.new (λ s c. stored c ≡ Empty ⊎ stored c ≡ Held (new_state version problem.now slot_size)) }
+    ensures settled { OnOk result (Only (D.seen disk.new) (D.leaves disk.new (D.moment disk.new))) }
+    ensures cause { HasCause (D.faults disk.old) (D.faults disk.new) result }
+{
+    match close_first(disk) {
+        Ok(()) => match lay(disk, version, problem, slot_size, head) {
+            Ok(()) => write_synced(disk, 0, &[OPEN]),
+            Err(fault) => Err(fault),
+        },
+        Err(fault) => Err(fault),
+    }
+}
+
+impl Store {
+    /// Makes a store of version 1 or 2 without open slots on a disk where none was made. A slot may hold `slot_size` bytes. All memory is
+    /// taken before the disk is written. A stop at any moment leaves no store, or the new one.
+    pub fn create<D: Disk>(
+        alloc: Global,
+        disk: &mut D,
+        problem: &[u8],
+        slot_size: u64,
+        version: u32,
+    ) -> Result<Store, StoreFault>
+        requires version { IsVersion version }
+        requires text { length problem.now ≤ 65536 }
+        requires size { slot_size ≤ 2 ^ 40 }
+        requires settled { Only (D.seen disk.old) (D.leaves disk.old (D.moment disk.old)) }
+        requires empty { (s : List ℕ) → D.seen disk.old ≡ Some s → stored s ≡ Empty }
+        ensures ready { IfOk result (λ store. IsReady D.seen D.moment D.leaves store disk.new) }
+        ensures problem { IfOk result (λ store. problem_in store ≡ problem.now) }
+        ensures size { IfOk result (λ store. slot_size_in store ≡ slot_size) }
+        ensures version { IfOk result (λ store. version_in store ≡ version) }
+        ensures last { IfOk result (λ store. last_in store ≡ None) }
+        ensures unshut_store { IfOk result (λ store. is_shut store ≡ false) }
+        ensures made { OnOk result ((t : List ℕ) → D.seen disk.new ≡ Some t → stored t ≡ Held (new_state version problem.now slot_size)) }
+        ensures stops { StopsFrom D.seen D.moment D.leaves disk.old disk.new (λ s c. stored c ≡ Empty ⊎ stored c ≡ Held (new_state version problem.now slot_size)) }
+        ensures memory { is_no_memory result ≡ true → disk.new ≡ disk.old }
+        ensures reason { HasReason (D.faults disk.old) (D.faults disk.new) result }
+        ensures unshut { is_shut_fault result ≡ false }
+    {
+        let head = match head_of(alloc, version, problem, slot_size) {
+            Ok(head) => head,
+            Err(_) => return Err(StoreFault::NoMemory),
+        };
+        let kept = match copy_of(alloc, problem) {
+            Ok(kept) => kept,
+            Err(_) => return Err(StoreFault::NoMemory),
+        };
+        match write_store(disk, version, problem, slot_size, &head) {
+            Ok(()) => Ok(Store {
+                version,
+                base: 0,
+                problem: kept,
+                slot_size,
+                first: None,
+                second: None,
+                is_shut: false,
+            }),
+            Err(_) => Err(StoreFault::DiskFault),
+        }
+    }
+}
