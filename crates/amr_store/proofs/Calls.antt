@@ -55,7 +55,7 @@ next_is store s stands = same _ _ _ _ (sym (ap sequence_in stands.first ∙ sequ
     same : (m n : Option ℕ) (t u : Option ℕ) → m ≡ n → t ≡ u → next_after (is_latest m t) ≡ next_after (is_latest n u)
     same m n t u e f = cc
 
-slot_is : (store : Store) (s : List ℕ) (which : Which) → Stands store s → slot_in store which ≡ option_map slot_of (entry_at (drop (base_in store) s) (gate_at which (text_length (drop (base_in store) s)) (size_of (drop (base_in store) s))))
+pub slot_is : (store : Store) (s : List ℕ) (which : Which) → Stands store s → slot_in store which ≡ option_map slot_of (entry_at (drop (base_in store) s) (gate_at which (text_length (drop (base_in store) s)) (size_of (drop (base_in store) s))))
 slot_is store s First stands = stands.first
 slot_is store s Second stands = stands.second
 
@@ -89,7 +89,7 @@ stands_moved store later s c which entry stands same move first second =
     (first ∙ firsts which entry (first_in store) (first_of (drop (base_in store) s)) stands.first ∙ sym (ap (λ (o : Option Entry). option_map slot_of o) move.kept.first_is))
     (second ∙ seconds which entry (second_in store) (second_of (drop (base_in store) s)) stands.second ∙ sym (ap (λ (o : Option Entry). option_map slot_of o) move.kept.second_is))
 
-none_of : (o : Option Entry) → option_map slot_of o ≡ None → o ≡ None
+pub none_of : (o : Option Entry) → option_map slot_of o ≡ None → o ≡ None
 none_of None is = refl
 none_of (Some e) is = let wrong : Some (slot_of e) ≡ None = is in cc
 

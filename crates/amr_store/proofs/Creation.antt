@@ -1,15 +1,15 @@
 -- A new store, from the closed first byte to the open one.
-use Rattle.std.proofs.Common.{◌≡◌, ◌⊎◌, inl, inr, ℕ, ◌+◌, ◌-◌, ◌≤◌, ◌<◌, ◌^◌, ◌==◌, nat_le, nat_lt, Bool, true, false, not, ◌&&◌, ◌||◌, List, [], ◌∷◌, ◌++◌, length, drop, Option, Some, None, refl, sym, ◌∙◌, ap, subst, arith, length-append, lit<}
-use Rattle.std.proofs.lemmas.Bool.{cases_Bool, leb-true, leb-false, le-leb, ltb-true, ltb-false, le-ltb}
+use Rattle.std.proofs.Common.{◌≡◌, ◌⊎◌, inl, inr, ℕ, ◌+◌, ◌≤◌, ◌<◌, ◌^◌, ◌==◌, nat_le, nat_lt, Bool, true, false, ◌&&◌, ◌||◌, List, [], ◌∷◌, ◌++◌, length, drop, Option, Some, None, refl, sym, ◌∙◌, ap, subst, arith, length-append, lit<}
+use Rattle.std.proofs.lemmas.Bool.{cases_Bool, le-leb, ltb-true, ltb-false, le-ltb}
 use Rattle.std.proofs.lemmas.List.{get_or-drop, get_or_append_left, get_or-append-add}
 use Rattle.std.proofs.lemmas.Nat.{from_le_bytes-to_le_bytes_4}
 use Rattle.std.specs.Int.{from_le_bytes, to_le_bytes, w32, w64}
 use Rattle.std.specs.Prelude.{slice_index, slice_range, if◌then◌else◌}
 use Rattle.amr_disk.specs.Image.{Torn, written_at}
 use Rattle.amr_disk.specs.Replay.{torn_written}
-use Rattle.amr_store.proofs.Bools.{or_left, or_right, not_false, not_true}
+use Rattle.amr_store.proofs.Bools.{or_first, or_second, flips}
 use Rattle.amr_store.proofs.Images.{plain_sound, base_plain, held_of, stored_is, and_first, and_second, and_third}
-use Rattle.amr_store.proofs.Places.{Outside, torn_outside, long_same, word_same, range_same}
+use Rattle.amr_store.proofs.Places.{torn_outside, long_same, word_same, range_same}
 use Rattle.amr_store.proofs.Slots.{sound_closed, entry_closed}
 use Rattle.amr_store.proofs.Whole.{Whole}
 use Rattle.amr_store.proofs.Writes.{written_index, written_length, written_byte, long_from, range_is}
@@ -20,7 +20,7 @@ use Rattle.amr_store.specs.Stands.{Stands, slot_of, base_in, version_in, problem
 use Rattle.amr_store.specs.Created.{IsVersion, IsShutFirst, IsNew, IsPlain, IsLaid, IsMade, magic_of, head_bytes, new_state}
 use Rattle.amr_store.specs.Layout.{open_gate, magic_1, magic_2, long_at, word_at, size_of, text_length, problem_of, gate_0, gate_1, end_of}
 use Rattle.amr_store.specs.Phases.{TornTwice, TornThrice}
-use Rattle.amr_store.specs.Stored.{Entry, State, Stored, Empty, Damaged, Held, Reads, stored, judged, is_empty, is_open, is_broken, entry_at, first_of, second_of, is_tie, latest_of, is_renewed, has_magic_1, has_magic_2, state_of, damage_in, end_in}
+use Rattle.amr_store.specs.Stored.{Entry, State, Empty, Damaged, Held, Reads, stored, judged, is_empty, is_open, first_of, second_of, is_tie, latest_of, is_renewed, has_magic_1, has_magic_2, state_of, end_in}
 
 pub empty_stored : (c : List ℕ) → is_empty c ≡ true → stored c ≡ Empty
 empty_stored c is = rw is refl
@@ -32,18 +32,6 @@ judged_empty false (Some p) s is = let wrong : Damaged p ≡ Empty = is in cc
 
 pub empty_of : (s : List ℕ) → stored s ≡ Empty → is_empty s ≡ true
 empty_of s is = judged_empty (is_empty s) _ _ is
-
-or_first : (a b : Bool) → a ≡ true → (a || b) ≡ true
-or_first true b is = refl
-or_first false b is = let wrong : false ≡ true = is in cc
-
-or_second : (a b : Bool) → b ≡ true → (a || b) ≡ true
-or_second true b is = refl
-or_second false b is = is
-
-flips : (a : Bool) → a ≡ false → not a ≡ true
-flips true is = let wrong : true ≡ false = is in cc
-flips false is = refl
 
 pub shut_empty : (c : List ℕ) → is_open c 0 ≡ false → stored c ≡ Empty
 shut_empty c shut = empty_stored c (or_second (nat_le (length c) 1) _ (flips (is_open c 0) shut))

@@ -14,3 +14,6 @@ pub mod Calls
 pub mod Joins
 pub mod Creation
 pub mod Readings
+pub mod Pieces
+pub mod Openings
+pub mod Entries

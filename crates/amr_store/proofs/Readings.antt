@@ -1,8 +1,8 @@
 -- A run of calls that only read.
-use Rattle.std.proofs.Common.{◌≡◌, ◌⊎◌, inl, inr, ⊎_elim, ℕ, ◌≤◌, nat_le, List, Option, Some, None, refl, sym, ◌∙◌, ap, subst, arith}
+use Rattle.std.proofs.Common.{◌≡◌, inl, inr, ⊎_elim, ℕ, ◌≤◌, nat_le, List, Option, Some, None, refl, sym, ◌∙◌, subst, arith}
 use Rattle.std.proofs.lemmas.Bool.{cases_Bool, leb-true, leb-false}
 use Rattle.amr_disk.specs.Image.{Same, Only}
-use Rattle.amr_disk.specs.Moments.{Passes, StopsIn}
+use Rattle.amr_disk.specs.Moments.{StopsIn}
 use Rattle.amr_store.proofs.Runs.{started, goes_on, only_at}
 use Rattle.amr_store.specs.Phases.{OnlyReads}
 

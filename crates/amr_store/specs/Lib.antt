@@ -5,3 +5,7 @@ pub mod Phases
 pub mod Stored
 pub mod Reasons
 pub mod Stands
+pub mod Reading
+pub mod Checking
+pub mod Shown
+pub mod Opened

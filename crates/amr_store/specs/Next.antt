@@ -44,3 +44,8 @@ entry_of Second image = second_of image
 abbrev pub next_after : Bool → Which
 next_after true = Second
 next_after false = First
+
+-- the other slot: where any slot is open, the one that is not next holds the latest state
+abbrev pub other_than : Which → Which
+other_than First = Second
+other_than Second = First

@@ -2,6 +2,8 @@
 use Rattle.std.specs.Prelude.{ℕ, ◌≡◌, ◌+◌, nat_lt, Bool, false, List, [], ◌∷◌, ◌++◌, length, drop, Option, Some, None, option_map, if◌then◌else◌}
 use Rattle.std.specs.Int.{to_le_bytes, w64}
 use Rattle.amr_disk.specs.Image.{Only, written_at}
+use Rattle.amr_store.specs.declared.put.Closed.{Closed}
+use Rattle.amr_store.specs.declared.put.Filled.{Filled}
 use Rattle.amr_store.specs.declared.slot.Slot.{Slot}
 use Rattle.amr_store.specs.declared.slot.Which.{Which}
 use Rattle.amr_store.specs.declared.slot.Which.TheVariants.{First, Second}
@@ -86,6 +88,23 @@ filled_image store which sequence payload image =
 
 abbrev pub opened_image : Store → Which → List ℕ → List ℕ
 opened_image store which image = written_at (gate_in store which) (165 ∷ []) image
+
+-- the slot that a step of a put closed or filled, and what it was filled with
+abbrev pub slot_closed : Closed → Which
+slot_closed closed = closed.which
+
+abbrev pub slot_filled : Filled → Which
+slot_filled filled = filled.which
+
+abbrev pub sequence_filled : Filled → ℕ
+sequence_filled filled = filled.slot.sequence
+
+abbrev pub length_filled : Filled → ℕ
+length_filled filled = filled.slot.length
+
+-- what is known of the filled slot once it is open
+abbrev pub opened_slot : Filled → Option Slot
+opened_slot filled = Some filled.slot
 
 -- the slot that is next is closed, in memory
 pub record IsClosed (which : Which) (store : Store) : Type 0 where

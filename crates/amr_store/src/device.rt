@@ -1,9 +1,12 @@
 // Reads, and writes that are synced.
-ghost use Rattle.std.specs.Prelude.{◌≡◌, ◌<◌, ◌+◌, ◌^◌, nat_lt, List, ℕ, Some, length, IfOk, OnOk, option_map};
+ghost use Rattle.std.specs.Prelude.{◌≡◌, ◌<◌, ◌+◌, ◌^◌, nat_lt, ◌&&◌, List, ℕ, Some, length, drop, IfOk, OnOk, option_map};
 ghost use Rattle.amr_causes.specs.Causes.{HasCause};
 ghost use Rattle.amr_disk.specs.Image.{written_at, Torn, Only};
 ghost use Rattle.amr_store.specs.Phases.{OnlyReads, StopsFrom, TornTwice, TornThrice};
+ghost use Rattle.amr_store.specs.Reading.{IsRead};
+ghost use Rattle.amr_store.specs.Stored.{is_open};
 
+use crate::put::OPEN;
 use amr_disk::{Disk, DiskFault};
 
 // Whether the disk has a byte at a place.
@@ -16,6 +19,46 @@ pub fn has_byte<D: Disk>(disk: &mut D, at: u64) -> Result<bool, DiskFault>
     let mut byte = [0u8];
     let n = disk.read_at(at, &mut byte)?;
     Ok(n == 1)
+}
+
+// Whether the part of the disk from a base on has a byte at a place.
+pub fn has_byte_from<D: Disk>(disk: &mut D, base: u64, at: u64) -> Result<bool, DiskFault>
+    requires small { base + at + 1 < 2 ^ 48 }
+    ensures told { IfOk result (λ has. (s : List ℕ) → D.seen disk.old ≡ Some s → has ≡ nat_lt at (length (drop base s))) }
+    ensures reads { OnlyReads D.seen D.moment D.leaves disk.old disk.new }
+    ensures cause { HasCause (D.faults disk.old) (D.faults disk.new) result }
+{
+    has_byte(disk, base + at)
+}
+
+// Reads what stands at a place of the part of the disk from a base on, as many bytes as there are.
+pub fn read_from<D: Disk>(
+    disk: &mut D,
+    base: u64,
+    at: u64,
+    into: &mut [u8],
+) -> Result<usize, DiskFault>
+    requires small { base + at + length into.old < 2 ^ 48 }
+    ensures told { IfOk result (λ n. (s : List ℕ) → D.seen disk.old ≡ Some s → IsRead (drop base s) at into.new n) }
+    ensures reads { OnlyReads D.seen D.moment D.leaves disk.old disk.new }
+    ensures cause { HasCause (D.faults disk.old) (D.faults disk.new) result }
+{
+    disk.read_at(base + at, into)
+}
+
+// Whether the disk has two bytes at a place, of which the first is an open gate.
+pub fn has_open_gate<D: Disk>(disk: &mut D, at: u64) -> Result<bool, DiskFault>
+    requires small { at + 2 < 2 ^ 48 }
+    ensures told { IfOk result (λ has. (s : List ℕ) → D.seen disk.old ≡ Some s → has ≡ (nat_lt (at + 1) (length s) && is_open s at)) }
+    ensures reads { OnlyReads D.seen D.moment D.leaves disk.old disk.new }
+    ensures cause { HasCause (D.faults disk.old) (D.faults disk.new) result }
+{
+    let mut bytes = [0u8; 2];
+    let n = disk.read_at(at, &mut bytes)?;
+    if n < 2 {
+        return Ok(false);
+    }
+    Ok(bytes[0] == OPEN)
 }
 
 // Writes a piece and syncs it.

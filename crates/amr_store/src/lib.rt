@@ -2,13 +2,21 @@
 //! or the one being written.
 #![tactic(auto)]
 
+mod check;
 mod create;
 mod device;
+mod found;
+mod latest;
+mod open;
 mod part;
 mod put;
+mod reading;
 mod slot;
 mod store;
+#[cfg(test)]
+mod tests;
 
+pub use found::Found;
 pub use part::{Part, StoreFault};
 pub use put::{Closed, Filled};
 pub use store::Store;

@@ -6,7 +6,7 @@ ghost use Rattle.amr_store.specs.Next.{first_with, second_with};
 ghost use Rattle.amr_disk.specs.Moments.{StopsIn};
 ghost use Rattle.amr_store.specs.Phases.{StopsFrom};
 ghost use Rattle.amr_store.specs.Reasons.{HasReason, Shuts, is_no_memory};
-ghost use Rattle.amr_store.specs.Stands.{IsReady, IsClosed, IsFilledIn, SameStore, Stands, is_shut, next_in, gate_in, slot_in, last_in, first_in, second_in, slot_size_in, closed_image, filled_image, opened_image, closing_piece};
+ghost use Rattle.amr_store.specs.Stands.{IsReady, IsClosed, IsFilledIn, SameStore, Stands, is_shut, next_in, gate_in, slot_in, last_in, first_in, second_in, slot_size_in, closed_image, filled_image, opened_image, closing_piece, slot_closed, slot_filled, sequence_filled, length_filled, opened_slot};
 ghost use Rattle.amr_store.specs.Stored.{stored, with_latest};
 
 use crate::device::{write_synced, write_two_synced};
@@ -57,7 +57,7 @@ impl Store {
     /// Closes the gate of the slot that is written next; the other one holds the latest state. Reads nothing.
     pub fn close_gate<D: Disk>(&mut self, disk: &mut D) -> Result<Closed, StoreFault>
         requires ready { IsReady D.seen D.moment D.leaves self.old disk.old }
-        ensures closed { IfOk result (λ closed. IsClosed closed.which self.new) }
+        ensures closed { IfOk result (λ closed. IsClosed (slot_closed closed) self.new) }
         ensures ready { OnOk result (IsReady D.seen D.moment D.leaves self.new disk.new) }
         ensures seen { OnOk result (D.seen disk.new ≡ option_map (closed_image self.old) (D.seen disk.old)) }
         ensures stops { is_shut self.old ≡ false → StopsFrom D.seen D.moment D.leaves disk.old disk.new (λ s c. stored c ≡ stored s) }
@@ -124,14 +124,14 @@ impl Closed {
         sequence: u64,
         bytes: &[u8],
     ) -> Result<Filled, StoreFault>
-        requires closed { IsClosed self.which store.old }
+        requires closed { IsClosed (slot_closed self) store.old }
         requires ready { IsReady D.seen D.moment D.leaves store.old disk.old }
         requires counted { 0 < sequence }
         requires fits { length bytes.now ≤ slot_size_in store.old }
-        ensures filled { IfOk result (λ filled. (filled.which ≡ self.which) × (filled.slot.sequence ≡ sequence) × (filled.slot.length ≡ length bytes.now)) }
-        ensures holds { OnOk result ((t : List ℕ) → D.seen disk.new ≡ Some t → is_shut store.old ≡ false → IsFilledIn self.which store.new t sequence bytes.now) }
+        ensures filled { IfOk result (λ filled. (slot_filled filled ≡ slot_closed self) × (sequence_filled filled ≡ sequence) × (length_filled filled ≡ length bytes.now)) }
+        ensures holds { OnOk result ((t : List ℕ) → D.seen disk.new ≡ Some t → is_shut store.old ≡ false → IsFilledIn (slot_closed self) store.new t sequence bytes.now) }
         ensures ready { OnOk result (IsReady D.seen D.moment D.leaves store.new disk.new) }
-        ensures seen { OnOk result (D.seen disk.new ≡ option_map (filled_image store.old self.which sequence bytes.now) (D.seen disk.old)) }
+        ensures seen { OnOk result (D.seen disk.new ≡ option_map (filled_image store.old (slot_closed self) sequence bytes.now) (D.seen disk.old)) }
         ensures stops { is_shut store.old ≡ false → StopsFrom D.seen D.moment D.leaves disk.old disk.new (λ s c. stored c ≡ stored s) }
         ensures store { OnOk result (store.new ≡ store.old) }
         ensures same { SameStore store.old store.new }
@@ -162,18 +162,18 @@ impl Closed {
 impl Filled {
     /// Opens the gate of the filled slot: its state is the latest from now on. Reads nothing.
     pub fn open_gate<D: Disk>(self, store: &mut Store, disk: &mut D) -> Result<(), StoreFault>
-        requires closed { IsClosed self.which store.old }
-        requires above { IfSome (last_in store.old) (λ last. last < self.slot.sequence) }
+        requires closed { IsClosed (slot_filled self) store.old }
+        requires above { IfSome (last_in store.old) (λ last. last < sequence_filled self) }
         requires ready { IsReady D.seen D.moment D.leaves store.old disk.old }
-        requires filled { is_shut store.old ≡ false → (s : List ℕ) → D.seen disk.old ≡ Some s → (payload : List ℕ) × (length payload ≡ self.slot.length) × IsFilledIn self.which store.old s self.slot.sequence payload }
+        requires filled { is_shut store.old ≡ false → (s : List ℕ) → D.seen disk.old ≡ Some s → (payload : List ℕ) × (length payload ≡ length_filled self) × IsFilledIn (slot_filled self) store.old s (sequence_filled self) payload }
         ensures ready { OnOk result (IsReady D.seen D.moment D.leaves store.new disk.new) }
-        ensures seen { OnOk result (D.seen disk.new ≡ option_map (opened_image store.old self.which) (D.seen disk.old)) }
-        ensures put { OnOk result ((s t payload : List ℕ) → D.seen disk.old ≡ Some s → D.seen disk.new ≡ Some t → IsFilledIn self.which store.old s self.slot.sequence payload → stored t ≡ with_latest (stored s) self.slot.sequence payload) }
-        ensures stops { is_shut store.old ≡ false → (s payload : List ℕ) → D.seen disk.old ≡ Some s → IsFilledIn self.which store.old s self.slot.sequence payload → StopsIn D.moment D.leaves disk.old disk.new (λ c. stored c ≡ stored s ⊎ stored c ≡ with_latest (stored s) self.slot.sequence payload) }
-        ensures first { OnOk result (first_in store.new ≡ first_with self.which (Some self.slot) (first_in store.old)) }
-        ensures second { OnOk result (second_in store.new ≡ second_with self.which (Some self.slot) (second_in store.old)) }
+        ensures seen { OnOk result (D.seen disk.new ≡ option_map (opened_image store.old (slot_filled self)) (D.seen disk.old)) }
+        ensures put { OnOk result ((s t payload : List ℕ) → D.seen disk.old ≡ Some s → D.seen disk.new ≡ Some t → IsFilledIn (slot_filled self) store.old s (sequence_filled self) payload → stored t ≡ with_latest (stored s) (sequence_filled self) payload) }
+        ensures stops { is_shut store.old ≡ false → (s payload : List ℕ) → D.seen disk.old ≡ Some s → IsFilledIn (slot_filled self) store.old s (sequence_filled self) payload → StopsIn D.moment D.leaves disk.old disk.new (λ c. stored c ≡ stored s ⊎ stored c ≡ with_latest (stored s) (sequence_filled self) payload) }
+        ensures first { OnOk result (first_in store.new ≡ first_with (slot_filled self) (opened_slot self) (first_in store.old)) }
+        ensures second { OnOk result (second_in store.new ≡ second_with (slot_filled self) (opened_slot self) (second_in store.old)) }
         ensures same { SameStore store.old store.new }
-        ensures last { OnOk result (last_in store.new ≡ Some self.slot.sequence) }
+        ensures last { OnOk result (last_in store.new ≡ Some (sequence_filled self)) }
         ensures kept { OnErr result (last_in store.new ≡ last_in store.old) }
         ensures shuts { Shuts (is_shut store.old) (is_shut store.new) result }
         ensures reason { HasReason (D.faults disk.old) (D.faults disk.new) result }

@@ -19,7 +19,7 @@ pub struct Store {
 }
 
 impl Store {
-    ghost use Rattle.amr_store.specs.Next.{first_with, second_with};
+    ghost use Rattle.amr_store.specs.Next.{first_with, second_with, other_than};
     ghost use Rattle.amr_store.specs.Stands.{problem_in, slot_size_in, version_in, last_in, next_in, gate_in, slot_in, sequence_in, first_in, second_in, base_in, is_shut};
 
     /// The problem bytes.
@@ -72,6 +72,16 @@ impl Store {
             Which::Second
         } else {
             Which::First
+        }
+    }
+
+    // The slot that holds the latest state, where one is open.
+    pub(crate) fn latest_slot(&self) -> Which
+        ensures { result ≡ other_than (next_in self.now) }
+    {
+        match self.next() {
+            Which::First => Which::Second,
+            Which::Second => Which::First,
         }
     }
 

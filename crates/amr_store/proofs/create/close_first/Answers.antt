@@ -1,7 +1,7 @@
-use Rattle.std.proofs.Common.{◌≡◌, ◌∙◌, ◌≤◌, sym, ap, ℕ, List, length, arith}
-use Rattle.std.proofs.lemmas.Bool.{ltb-true, ltb-false}
+use Rattle.std.proofs.Common.{◌≡◌, ◌∙◌, ◌≤◌, sym, ap, length}
+use Rattle.std.proofs.lemmas.Bool.{ltb-false}
 use Rattle.amr_disk.specs.Image.{Torn, Same}
-use Rattle.amr_store.proofs.Creation.{empty_stored, short_stop, long_shut}
+use Rattle.amr_store.proofs.Creation.{empty_stored, short_stop}
 use Rattle.amr_store.proofs.Readings.{reads_settled, reads_stops}
 use Rattle.amr_store.proofs.Runs.{joins, weaker}
 use Rattle.amr_store.specs.Stored.{stored, Empty}

@@ -1,5 +1,5 @@
-use Rattle.std.proofs.Common.{◌≡◌, ◌∙◌, ◌+◌, ◌∷◌, [], sym, subst, ap, ℕ, List, length, Option, Some, arith}
-use Rattle.amr_disk.specs.Image.{Torn, Same, written_at}
+use Rattle.std.proofs.Common.{◌∙◌, ◌∷◌, [], sym, subst, ℕ, List, length, arith}
+use Rattle.amr_disk.specs.Image.{Same, written_at}
 use Rattle.amr_store.proofs.Calls.{mapped_some}
 use Rattle.amr_store.proofs.Creation.{laid_twice, laid_thrice, first_kept_twice, first_kept_thrice}
 use Rattle.amr_store.proofs.Joins.{on_ok_map}

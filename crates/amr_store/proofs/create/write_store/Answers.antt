@@ -1,6 +1,5 @@
-use Rattle.std.proofs.Common.{◌≡◌, ◌⊎◌, inl, inr, ◌∙◌, ◌∷◌, [], sym, subst, ℕ, List}
+use Rattle.std.proofs.Common.{◌≡◌, ◌⊎◌, inl, ◌∙◌, ◌∷◌, [], sym, subst, ℕ, List}
 use Rattle.amr_disk.specs.Image.{Torn, written_at}
-use Rattle.amr_disk.specs.Moments.{StopsIn}
 use Rattle.amr_store.proofs.Calls.{mapped_some}
 use Rattle.amr_store.proofs.Creation.{shut_empty, made_stop, made_after}
 use Rattle.amr_store.proofs.Joins.{some_of, on_ok_map}

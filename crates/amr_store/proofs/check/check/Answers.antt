@@ -1,0 +1,19 @@
+use Rattle.std.proofs.Common.{◌∙◌, subst, drop, Option}
+use Rattle.amr_store.proofs.Pieces.{if_ok_map, more_tests, first_test}
+use Rattle.amr_store.specs.declared.part.Part.TheVariants.{Head}
+use Rattle.amr_store.specs.declared.reading.Head.{Head as HeadRead}
+use Rattle.amr_store.specs.Reading.{IsHeadOf, head_test, text_tests}
+use Rattle.amr_store.proofs.check.check.Goals as goal
+
+pub returns-in-None-clause-told : goal.returns-in-None-clause-told
+returns-in-None-clause-told g c s is =
+    let part = drop c.args.base s in
+    let told = subst (λ (h : Option HeadRead). IsHeadOf h c.args.takes_first part) c.in-None.is (c.in_ok-read_head.ensures.told s is) in
+    first_test (head_test c.args.takes_first part) Head (text_tests part) told
+
+pub returns-in-Some-clause-told : goal.returns-in-Some-clause-told
+returns-in-Some-clause-told g c =
+    if_ok_map c.check_text.result _ _ c.check_text.ensures.told (λ checked told s is.
+    let part = drop c.args.base s in
+    let head = subst (λ (h : Option HeadRead). IsHeadOf h c.args.takes_first part) c.in-Some.is (c.in_ok-read_head.ensures.told s is) in
+    more_tests checked (head_test c.args.takes_first part) Head (text_tests part) part head.0 (told s (c.read_head.ensures.reads.same ∙ is) head.1))

@@ -1,0 +1,15 @@
+use Rattle.std.proofs.Common.{◌∙◌, ◌+◌, sym, subst, drop}
+use Rattle.amr_store.proofs.Pieces.{joined_checks}
+use Rattle.amr_store.specs.declared.check.Checked.{Checked}
+use Rattle.amr_store.specs.declared.reading.SlotFound.{SlotFound}
+use Rattle.amr_store.specs.Checking.{Checks}
+use Rattle.amr_store.specs.Reading.{IsSlot, slot_tests}
+use Rattle.amr_store.proofs.check.check_slots.Goals as goal
+
+pub returns-in-Sound-2-clause-told : goal.returns-in-Sound-2-clause-told
+returns-in-Sound-2-clause-told g c s is says =
+    let part = drop c.args.base s in
+    let head = c.args.head in
+    let one = subst (λ (f : SlotFound). IsSlot f part (21 + head.text) head.slot_size) c.in-Sound.is (c.in_ok-read_slot.ensures.told s is) in
+    let two = subst (λ (f : SlotFound). IsSlot f part (21 + head.text + (17 + head.slot_size)) head.slot_size) c.in-Sound-2.is (c.in_ok-read_slot-in-Sound.ensures.told s (c.read_slot.ensures.reads.same ∙ is)) in
+    subst (λ (f : Checked). Checks f (slot_tests part) part) (sym c.join.ensures) (joined_checks head part c.in-Sound.first c.in-Sound-2.second says one two)

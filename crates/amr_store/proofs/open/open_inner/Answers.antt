@@ -1,0 +1,12 @@
+use Rattle.std.proofs.Common.{◌∙◌, List, ℕ, subst}
+use Rattle.amr_store.proofs.Openings.{renewed_finds_at}
+use Rattle.amr_store.specs.Opened.{IsRenewedFound}
+use Rattle.amr_store.proofs.open.open_inner.Goals as goal
+
+pub returns-in-Ok-read_bytes-clause-told : goal.returns-in-Ok-read_bytes-clause-told
+returns-in-Ok-read_bytes-clause-told g c s is held renewed at of =
+    let problem = c.in-Ok-read_bytes.problem.items in
+    let found = c.same_problem.result in
+    let made = subst (λ (x : List ℕ). IsRenewedFound c.args.base c.args.inner problem x found) c.deref.ensures.value c.same_problem.ensures.told in
+    renewed_finds_at found c.args.outline c.args.inner s problem c.in-Ok.old.items c.args.base at made held renewed of
+    (λ whole. c.in-Ok-read_bytes.ensures.told s (c.read_bytes.ensures.reads.same ∙ is) whole) (λ whole. c.in-Ok.ensures.told s is whole)

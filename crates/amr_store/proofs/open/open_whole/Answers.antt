@@ -1,0 +1,13 @@
+use Rattle.std.proofs.Common.{◌∙◌, sym}
+use Rattle.amr_store.proofs.Pieces.{if_ok_map}
+use Rattle.amr_store.proofs.open.open_whole.Goals as goal
+
+pub returns-in-Ok-true-clause-told : goal.returns-in-Ok-true-clause-told
+returns-in-Ok-true-clause-told g c =
+    if_ok_map c.open_renewed.result _ _ c.open_renewed.ensures.told (λ found told s is held.
+    told s (c.was_renewed.ensures.reads.same ∙ is) held (sym (c.in-Ok-true.ensures.told s is held.outline_is) ∙ c.in-Ok-true.field-0-test))
+
+pub returns-in-Ok-false-clause-told : goal.returns-in-Ok-false-clause-told
+returns-in-Ok-false-clause-told g c =
+    if_ok_map c.open_plain.result _ _ c.open_plain.ensures.told (λ found told s is held.
+    told s (c.was_renewed.ensures.reads.same ∙ is) held (sym (c.in-Ok-false.ensures.told s is held.outline_is) ∙ c.in-Ok-false.field-0-test))

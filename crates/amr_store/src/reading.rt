@@ -1,0 +1,157 @@
+// The pieces of a store, as they are read.
+ghost use Rattle.std.specs.Prelude.{◌≡◌, ◌≤◌, ◌<◌, ◌+◌, ◌^◌, List, ℕ, Some, length, drop, IfOk};
+ghost use Rattle.amr_causes.specs.Causes.{HasCause};
+ghost use Rattle.amr_store.specs.Layout.{long_at, word_at};
+ghost use Rattle.amr_store.specs.Phases.{OnlyReads};
+ghost use Rattle.amr_store.specs.Reading.{IsHeadOf, IsSlot, IsWithin, version_read, head_read, slot_read};
+
+use crate::create::{MAGIC_1, MAGIC_2};
+use crate::device::{has_byte_from, read_from};
+use crate::put::OPEN;
+use crate::slot::Slot;
+use amr_disk::{Disk, DiskFault};
+
+// What the head of a store says.
+#[derive(Clone, Copy)]
+pub struct Head {
+    pub version: u32,
+    pub slot_size: u64,
+    pub text: u32,
+}
+
+// A slot, as it was found.
+#[derive(Clone, Copy)]
+pub enum SlotFound {
+    Sound(Option<Slot>),
+    Broken,
+}
+
+// The number of eight bytes at a place.
+fn long_in(bytes: &[u8], at: usize) -> u64
+    requires within { at + 8 ≤ length bytes.now }
+    ensures { result ≡ long_at bytes.now at }
+{
+    u64::from_le_bytes([
+        bytes[at],
+        bytes[at + 1],
+        bytes[at + 2],
+        bytes[at + 3],
+        bytes[at + 4],
+        bytes[at + 5],
+        bytes[at + 6],
+        bytes[at + 7],
+    ])
+}
+
+// The number of four bytes at a place.
+fn word_in(bytes: &[u8], at: usize) -> u32
+    requires within { at + 4 ≤ length bytes.now }
+    ensures { result ≡ word_at bytes.now at }
+{
+    u32::from_le_bytes([bytes[at], bytes[at + 1], bytes[at + 2], bytes[at + 3]])
+}
+
+// The version of a magic, of both or of the second alone.
+fn version_of(magic: u64, takes_first: bool) -> Option<u32>
+    ensures { result ≡ version_read takes_first magic }
+{
+    if magic == MAGIC_2 {
+        return Some(2);
+    }
+    if !takes_first {
+        return None;
+    }
+    if magic == MAGIC_1 {
+        return Some(1);
+    }
+    None
+}
+
+// The head in a buffer of which n bytes were read; None where it is damaged.
+fn head_in(bytes: &[u8], n: usize, takes_first: bool) -> Option<Head>
+    requires buffer { length bytes.now ≡ 21 }
+    ensures { result ≡ head_read bytes.now n takes_first }
+{
+    if n < 21 {
+        return None;
+    }
+    let slot_size = long_in(bytes, 9);
+    let text = word_in(bytes, 17);
+    match version_of(long_in(bytes, 1), takes_first) {
+        Some(version) => Some(Head {
+            version,
+            slot_size,
+            text,
+        }),
+        None => None,
+    }
+}
+
+// The head of the store at a base; None where it is damaged.
+pub fn read_head<D: Disk>(
+    disk: &mut D,
+    base: u64,
+    takes_first: bool,
+) -> Result<Option<Head>, DiskFault>
+    requires small { base < 2 ^ 47 }
+    ensures told { IfOk result (λ head. (s : List ℕ) → D.seen disk.old ≡ Some s → IsHeadOf head takes_first (drop base s)) }
+    ensures reads { OnlyReads D.seen D.moment D.leaves disk.old disk.new }
+    ensures cause { HasCause (D.faults disk.old) (D.faults disk.new) result }
+{
+    let mut bytes = [0u8; 21];
+    let n = read_from(disk, base, 0, &mut bytes)?;
+    Ok(head_in(&bytes, n, takes_first))
+}
+
+// The slot in a buffer of which n bytes were read, short of its payload.
+fn slot_in(bytes: &[u8], n: usize, size: u64) -> SlotFound
+    requires buffer { length bytes.now ≡ 17 }
+    ensures found { result ≡ slot_read bytes.now n size }
+    ensures fits { IsWithin result size }
+{
+    if n < 1 {
+        return SlotFound::Broken;
+    }
+    if bytes[0] != OPEN {
+        return SlotFound::Sound(None);
+    }
+    if n < 17 {
+        return SlotFound::Broken;
+    }
+    let sequence = long_in(bytes, 1);
+    let length = long_in(bytes, 9);
+    if size < length {
+        return SlotFound::Broken;
+    }
+    if sequence == 0 {
+        return SlotFound::Broken;
+    }
+    SlotFound::Sound(Some(Slot { sequence, length }))
+}
+
+// The slot with its gate at this place of the store at a base. Its payload is not read.
+pub fn read_slot<D: Disk>(
+    disk: &mut D,
+    base: u64,
+    gate: u64,
+    size: u64,
+) -> Result<SlotFound, DiskFault>
+    requires small { base + gate + size < 2 ^ 47 }
+    ensures told { IfOk result (λ slot. (s : List ℕ) → D.seen disk.old ≡ Some s → IsSlot slot (drop base s) gate size) }
+    ensures reads { OnlyReads D.seen D.moment D.leaves disk.old disk.new }
+    ensures cause { HasCause (D.faults disk.old) (D.faults disk.new) result }
+{
+    let mut bytes = [0u8; 17];
+    let n = read_from(disk, base, gate, &mut bytes)?;
+    match slot_in(&bytes, n, size) {
+        SlotFound::Sound(Some(slot)) => {
+            match has_byte_from(disk, base, gate + 16 + slot.length) {
+                Ok(true) => Ok(SlotFound::Sound(Some(slot))),
+                Ok(false) => Ok(SlotFound::Broken),
+                Err(fault) => Err(fault),
+            }
+        }
+        SlotFound::Sound(None) => Ok(SlotFound::Sound(None)),
+        SlotFound::Broken => Ok(SlotFound::Broken),
+    }
+}

@@ -1,0 +1,184 @@
+// Stops, damaged images, and the file. The problem is one byte, and a slot holds two: the gates stand at 22 and 41, the end at 60.
+ghost use Rattle.amr_store.specs.Created.{IsVersion};
+
+use crate::{Found, Part, Store};
+use amr_disk::{FileDisk, Leave, MemDisk};
+use std::alloc::Global;
+use std::fs;
+use std::test::Fail;
+
+// A store of version 1 with one state in its first slot.
+const IMAGE: [u8; 42] = [
+    0xA5, 65, 77, 82, 83, 84, 79, 82, 49, 2, 0, 0, 0, 0, 0, 0, 0, 1, 0, 0, 0, 112, 0xA5, 1, 0, 0,
+    0, 0, 0, 0, 0, 2, 0, 0, 0, 0, 0, 0, 0, 8, 9, 0,
+];
+
+// What opening a disk finds, short of the store.
+#[derive(Clone, Copy, Debug, PartialEq, Eq)]
+enum Seen {
+    Nothing,
+    Ready,
+    Damaged(Part),
+}
+
+fn shown(found: &Found) -> Seen {
+    match found {
+        Found::Nothing => Seen::Nothing,
+        Found::Ready(_) => Seen::Ready,
+        Found::Damaged(part) => Seen::Damaged(*part),
+    }
+}
+
+// What opening a disk with these bytes finds.
+fn shown_in(alloc: Global, bytes: &[u8]) -> Result<Seen, Fail> {
+    let mut disk = MemDisk::make(alloc, bytes, 128, 8, &[], None)?;
+    let found = Store::open(alloc, &mut disk)?;
+    Ok(shown(&found))
+}
+
+// The image with one byte changed.
+fn shown_with(alloc: Global, at: usize, byte: u8) -> Result<Seen, Fail> {
+    let mut image = IMAGE;
+    if at < 42 {
+        image[at] = byte;
+    }
+    shown_in(alloc, &image)
+}
+
+// The latest state that a disk holds.
+fn latest_on(alloc: Global, mut disk: MemDisk) -> Result<Option<Vec<u8>>, Fail> {
+    match Store::open(alloc, &mut disk)? {
+        Found::Ready(mut store) => Ok(store.latest(alloc, &mut disk)?),
+        Found::Nothing => Ok(None),
+        Found::Damaged(_) => Ok(None),
+    }
+}
+
+// A new store with two states, on a disk that stops at a call, and what a stop leaves.
+fn stopped(alloc: Global, stop: Option<u64>, version: u32, mode: Leave) -> Result<MemDisk, Fail>
+    requires { IsVersion version }
+{
+    let mut disk = MemDisk::make(alloc, &[], 128, 64, &[], stop)?;
+    match Store::create(alloc, &mut disk, &[112], 2, version) {
+        Ok(mut store) => match store.put(&mut disk, 1, &[8, 9]) {
+            Ok(()) => {
+                let _ = store.put(&mut disk, 2, &[7]);
+            }
+            Err(_) => {}
+        },
+        Err(_) => {}
+    }
+    Ok(disk.leave(mode))
+}
+
+#[test]
+fn stops_find_one_state_or_the_next(rt: HostRuntime) -> Result<(), Fail> {
+    let alloc = rt.alloc();
+    for mode in [Leave::Old, Leave::New, Leave::Filled(0xA5)] {
+        for call in 1..9 {
+            let mut left = stopped(alloc, Some(call), 2, mode)?;
+            let found = Store::open(alloc, &mut left)?;
+            assert!(rt;
+                !matches!(found, Found::Damaged(_)),
+                "creation stopped at {call}"
+            );
+        }
+        for call in 16..23 {
+            let latest = latest_on(alloc, stopped(alloc, Some(call), 2, mode)?)?;
+            let bytes = latest.unwrap_or(Vec::new(alloc));
+            assert!(rt;
+                bytes.as_slice() == [8, 9].as_slice() || bytes.as_slice() == [7].as_slice(),
+                "the second put stopped at {call}"
+            );
+        }
+    }
+    Ok(())
+}
+
+#[test]
+fn puts_are_found_again(rt: HostRuntime) -> Result<(), Fail> {
+    let alloc = rt.alloc();
+    for version in [1, 2] {
+        let mut disk = MemDisk::make(alloc, &[], 128, 64, &[], None)?;
+        let mut store = Store::create(alloc, &mut disk, &[112], 2, version)?;
+        assert!(rt; store.latest(alloc, &mut disk)?.is_none());
+        store.put(&mut disk, 1, &[8, 9])?;
+        store.put(&mut disk, 2, &[7])?;
+        assert_eq!(rt; store.last(), Some(2));
+        match Store::open(alloc, &mut disk)? {
+            Found::Ready(mut again) => {
+                assert_eq!(rt; again.version(), version);
+                assert_eq!(rt; again.slot_size(), 2);
+                assert_eq!(rt; again.last(), Some(2));
+                assert_eq!(rt; again.problem(), [112].as_slice());
+                let latest = again.latest(alloc, &mut disk)?.unwrap_or(Vec::new(alloc));
+                assert_eq!(rt; latest.as_slice(), [7].as_slice());
+            }
+            Found::Nothing => assert!(rt; false),
+            Found::Damaged(_) => assert!(rt; false),
+        }
+    }
+    Ok(())
+}
+
+// The first part that a cut of the image damages.
+fn cut_at(length: usize) -> Seen {
+    if length < 2 {
+        return Seen::Nothing;
+    }
+    if length < 21 {
+        return Seen::Damaged(Part::Head);
+    }
+    if length < 22 {
+        return Seen::Damaged(Part::Text);
+    }
+    if length < 41 {
+        return Seen::Damaged(Part::Slot(0));
+    }
+    if length < 42 {
+        return Seen::Damaged(Part::Slot(1));
+    }
+    Seen::Ready
+}
+
+#[test]
+fn cuts_and_changes_are_damage(rt: HostRuntime) -> Result<(), Fail> {
+    let alloc = rt.alloc();
+    for length in 0..43 {
+        assert_eq!(rt;
+            shown_in(alloc, &IMAGE[..length])?,
+            cut_at(length),
+            "{length} bytes"
+        );
+    }
+    assert_eq!(rt; shown_in(alloc, &[0xA5, 0])?, Seen::Damaged(Part::Head));
+    assert_eq!(rt; shown_with(alloc, 0, 0)?, Seen::Nothing);
+    assert_eq!(rt; shown_with(alloc, 8, 51)?, Seen::Damaged(Part::Head));
+    assert_eq!(rt; shown_with(alloc, 19, 1)?, Seen::Damaged(Part::Text));
+    assert_eq!(rt; shown_with(alloc, 15, 1)?, Seen::Damaged(Part::Size));
+    assert_eq!(rt; shown_with(alloc, 23, 0)?, Seen::Damaged(Part::Slot(0)));
+    assert_eq!(rt; shown_with(alloc, 31, 3)?, Seen::Damaged(Part::Slot(0)));
+    assert_eq!(rt; shown_with(alloc, 41, 0xA5)?, Seen::Damaged(Part::Slot(1)));
+    Ok(())
+}
+
+#[test]
+fn file_holds_a_store(rt: HostRuntime) -> Result<(), Fail> {
+    let alloc = rt.alloc();
+    let _ = fs::remove_file(&rt, "mesh.store");
+    let mut disk = FileDisk::make(rt.clone()?);
+    assert_eq!(rt; shown(&Store::open(alloc, &mut disk)?), Seen::Nothing);
+    let mut store = Store::create(alloc, &mut disk, &[112], 2, 2)?;
+    store.put(&mut disk, 1, &[8, 9])?;
+    let mut again = FileDisk::make(rt.clone()?);
+    match Store::open(alloc, &mut again)? {
+        Found::Ready(mut store) => {
+            let latest = store.latest(alloc, &mut again)?.unwrap_or(Vec::new(alloc));
+            assert_eq!(rt; latest.as_slice(), [8, 9].as_slice());
+        }
+        Found::Nothing => assert!(rt; false),
+        Found::Damaged(_) => assert!(rt; false),
+    }
+    fs::remove_file(&rt, "mesh.store")?;
+    Ok(())
+}
