@@ -25,7 +25,7 @@ use Rattle.amr_store.specs.Stands.{Stands, slot_of, problem_in, slot_size_in, ba
 use Rattle.amr_store.specs.Stored.{Entry, Stored, Held, Reads, IsFilled, with_latest, stored, state_of, first_of, second_of, is_open, entry_at, latest_of}
 
 -- the problem's length is the one that the head tells
-text_is : (store : Store) (s : List ℕ) → Stands store s → text_length (drop (base_in store) s) ≡ length (problem_in store)
+pub text_is : (store : Store) (s : List ℕ) → Stands store s → text_length (drop (base_in store) s) ≡ length (problem_in store)
 text_is store s stands =
     let part = drop (base_in store) s in
     let whole = inner_whole s (base_in store) stands.reads in

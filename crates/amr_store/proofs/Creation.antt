@@ -207,72 +207,72 @@ new_store version problem size image known text_fits size_fits made =
     states v w p q s t a b c d e f g h i = cc
 
 -- the head as it was written
-low_8 : (version : ℕ) (problem : List ℕ) (size i : ℕ) → i < 8 → slice_index (head_bytes version problem size) i ≡ slice_index (to_le_bytes w64 (magic_of version)) i
-low_8 version problem size i lt =
+low_8 : (last version : ℕ) (problem : List ℕ) (size i : ℕ) → i < 8 → slice_index (head_bytes last version problem size) i ≡ slice_index (to_le_bytes w64 (magic_of version)) i
+low_8 last version problem size i lt =
     let m = to_le_bytes w64 (magic_of version) in
     let z = to_le_bytes w64 size in
     let n = to_le_bytes w32 (length problem) in
-    get_or_append_left (m ++ z ++ n ++ problem) (0 ∷ []) 0 i (omega (arith, length-append (m ++ z ++ n) problem))
+    get_or_append_left (m ++ z ++ n ++ problem) (last ∷ []) 0 i (omega (arith, length-append (m ++ z ++ n) problem))
     ∙ get_or_append_left (m ++ z ++ n) problem 0 i (omega arith) ∙ get_or_append_left (m ++ z) n 0 i (omega arith) ∙ get_or_append_left m z 0 i lt
 
-next_8 : (version : ℕ) (problem : List ℕ) (size i : ℕ) → i < 8 → slice_index (head_bytes version problem size) (8 + i) ≡ slice_index (to_le_bytes w64 size) i
-next_8 version problem size i lt =
+next_8 : (last version : ℕ) (problem : List ℕ) (size i : ℕ) → i < 8 → slice_index (head_bytes last version problem size) (8 + i) ≡ slice_index (to_le_bytes w64 size) i
+next_8 last version problem size i lt =
     let m = to_le_bytes w64 (magic_of version) in
     let z = to_le_bytes w64 size in
     let n = to_le_bytes w32 (length problem) in
-    get_or_append_left (m ++ z ++ n ++ problem) (0 ∷ []) 0 (8 + i) (omega (arith, length-append (m ++ z ++ n) problem))
+    get_or_append_left (m ++ z ++ n ++ problem) (last ∷ []) 0 (8 + i) (omega (arith, length-append (m ++ z ++ n) problem))
     ∙ get_or_append_left (m ++ z ++ n) problem 0 (8 + i) (omega arith) ∙ get_or_append_left (m ++ z) n 0 (8 + i) (omega arith) ∙ get_or-append-add m z i 0
 
-next_4 : (version : ℕ) (problem : List ℕ) (size i : ℕ) → i < 4 → slice_index (head_bytes version problem size) (16 + i) ≡ slice_index (to_le_bytes w32 (length problem)) i
-next_4 version problem size i lt =
+next_4 : (last version : ℕ) (problem : List ℕ) (size i : ℕ) → i < 4 → slice_index (head_bytes last version problem size) (16 + i) ≡ slice_index (to_le_bytes w32 (length problem)) i
+next_4 last version problem size i lt =
     let m = to_le_bytes w64 (magic_of version) in
     let z = to_le_bytes w64 size in
     let n = to_le_bytes w32 (length problem) in
-    get_or_append_left (m ++ z ++ n ++ problem) (0 ∷ []) 0 (16 + i) (omega (arith, length-append (m ++ z ++ n) problem))
+    get_or_append_left (m ++ z ++ n ++ problem) (last ∷ []) 0 (16 + i) (omega (arith, length-append (m ++ z ++ n) problem))
     ∙ get_or_append_left (m ++ z ++ n) problem 0 (16 + i) (omega arith) ∙ get_or-append-add (m ++ z) n i 0
 
-text_at : (version : ℕ) (problem : List ℕ) (size i : ℕ) → i < length problem → slice_index (head_bytes version problem size) (20 + i) ≡ slice_index problem i
-text_at version problem size i lt =
+text_at : (last version : ℕ) (problem : List ℕ) (size i : ℕ) → i < length problem → slice_index (head_bytes last version problem size) (20 + i) ≡ slice_index problem i
+text_at last version problem size i lt =
     let f = to_le_bytes w64 (magic_of version) ++ to_le_bytes w64 size ++ to_le_bytes w32 (length problem) in
-    get_or_append_left (f ++ problem) (0 ∷ []) 0 (20 + i) (omega (arith, length-append f problem)) ∙ get_or-append-add f problem i 0
+    get_or_append_left (f ++ problem) (last ∷ []) 0 (20 + i) (omega (arith, length-append f problem)) ∙ get_or-append-add f problem i 0
 
-gate_at_end : (version : ℕ) (problem : List ℕ) (size : ℕ) → slice_index (head_bytes version problem size) (20 + length problem) ≡ 0
-gate_at_end version problem size =
+gate_at_end : (last version : ℕ) (problem : List ℕ) (size : ℕ) → slice_index (head_bytes last version problem size) (20 + length problem) ≡ last
+gate_at_end last version problem size =
     let f = to_le_bytes w64 (magic_of version) ++ to_le_bytes w64 size ++ to_le_bytes w32 (length problem) in
     let at : 20 + length problem ≡ length (f ++ problem) + 0 = omega (arith, length-append f problem) in
-    ap (λ (n : ℕ). slice_index (head_bytes version problem size) n) at ∙ get_or-append-add (f ++ problem) (0 ∷ []) 0 0
+    ap (λ (n : ℕ). slice_index (head_bytes last version problem size) n) at ∙ get_or-append-add (f ++ problem) (last ∷ []) 0 0
 
-head_length_is : (version : ℕ) (problem : List ℕ) (size : ℕ) → length (head_bytes version problem size) ≡ 21 + length problem
-head_length_is version problem size =
+head_length_is : (last version : ℕ) (problem : List ℕ) (size : ℕ) → length (head_bytes last version problem size) ≡ 21 + length problem
+head_length_is last version problem size =
     let f = to_le_bytes w64 (magic_of version) ++ to_le_bytes w64 size ++ to_le_bytes w32 (length problem) in
-    omega (arith, length-append f problem, length-append (f ++ problem) (0 ∷ []))
+    omega (arith, length-append f problem, length-append (f ++ problem) (last ∷ []))
 
-word_from : (image : List ℕ) (p n : ℕ) → n < 2 ^ 32 → ((i : ℕ) → i < 4 → slice_index image (p + i) ≡ slice_index (to_le_bytes w32 n) i) → word_at image p ≡ n
+pub word_from : (image : List ℕ) (p n : ℕ) → n < 2 ^ 32 → ((i : ℕ) → i < 4 → slice_index image (p + i) ≡ slice_index (to_le_bytes w32 n) i) → word_at image p ≡ n
 word_from image p n fits same =
     let at : (i : ℕ) → i < 4 → slice_index (drop p image) i ≡ slice_index (to_le_bytes w32 n) i = λ i lt. get_or-drop p image i 0 ∙ same i lt in
     let read : word_at image p ≡ from_le_bytes w32 (to_le_bytes w32 n) = rw (at 0 (omega arith), at 1 (omega arith), at 2 (omega arith), at 3 (omega arith)) refl in
     read ∙ from_le_bytes-to_le_bytes_4 n fits
 
 -- a head that holds these bytes, as facts on its places
-record IsHead (version : ℕ) (head problem : List ℕ) (size : ℕ) : Type 0 where
-  count : length head ≡ 21 + length problem
-  magic : (i : ℕ) → i < 8 → slice_index head i ≡ slice_index (to_le_bytes w64 (magic_of version)) i
-  size_is : (i : ℕ) → i < 8 → slice_index head (8 + i) ≡ slice_index (to_le_bytes w64 size) i
-  text_is : (i : ℕ) → i < 4 → slice_index head (16 + i) ≡ slice_index (to_le_bytes w32 (length problem)) i
-  problem_is : (i : ℕ) → i < length problem → slice_index head (20 + i) ≡ slice_index problem i
-  gate : slice_index head (20 + length problem) ≡ 0
+pub record IsHead (last version : ℕ) (head problem : List ℕ) (size : ℕ) : Type 0 where
+  pub count : length head ≡ 21 + length problem
+  pub magic : (i : ℕ) → i < 8 → slice_index head i ≡ slice_index (to_le_bytes w64 (magic_of version)) i
+  pub size_is : (i : ℕ) → i < 8 → slice_index head (8 + i) ≡ slice_index (to_le_bytes w64 size) i
+  pub text_is : (i : ℕ) → i < 4 → slice_index head (16 + i) ≡ slice_index (to_le_bytes w32 (length problem)) i
+  pub problem_is : (i : ℕ) → i < length problem → slice_index head (20 + i) ≡ slice_index problem i
+  pub gate : slice_index head (20 + length problem) ≡ last
 
-is_head : (version : ℕ) (head problem : List ℕ) (size : ℕ) → head ≡ head_bytes version problem size → IsHead version head problem size
-is_head version head problem size is = subst (λ (h : List ℕ). IsHead version h problem size) (sym is) record {
-  count = head_length_is version problem size;
-  magic = low_8 version problem size;
-  size_is = next_8 version problem size;
-  text_is = next_4 version problem size;
-  problem_is = text_at version problem size;
-  gate = gate_at_end version problem size;
+pub is_head : (last version : ℕ) (head problem : List ℕ) (size : ℕ) → head ≡ head_bytes last version problem size → IsHead last version head problem size
+is_head last version head problem size is = subst (λ (h : List ℕ). IsHead last version h problem size) (sym is) record {
+  count = head_length_is last version problem size;
+  magic = low_8 last version problem size;
+  size_is = next_8 last version problem size;
+  text_is = next_4 last version problem size;
+  problem_is = text_at last version problem size;
+  gate = gate_at_end last version problem size;
 }
 
-new_at : (version : ℕ) (s head problem : List ℕ) (size : ℕ) → IsHead version head problem size → length problem ≤ 65536 → size ≤ 2 ^ 40
+new_at : (version : ℕ) (s head problem : List ℕ) (size : ℕ) → IsHead 0 version head problem size → length problem ≤ 65536 → size ≤ 2 ^ 40
     → IsNew version problem size (written_at (gate_1 (length problem) size) (0 ∷ []) (written_at 1 head s))
 new_at version s head problem size is text_fits size_fits =
     let gate = gate_1 (length problem) size in
@@ -302,11 +302,11 @@ new_at version s head problem size is text_fits size_fits =
     twenty_one i = omega arith
 
 -- what is written where the gate past the store is not closed, since the image does not reach it or the store is of version 2
-pub laid_twice : (version : ℕ) (s head problem : List ℕ) (size : ℕ) → head ≡ head_bytes version problem size → length problem ≤ 65536 → size ≤ 2 ^ 40
+pub laid_twice : (version : ℕ) (s head problem : List ℕ) (size : ℕ) → head ≡ head_bytes 0 version problem size → length problem ≤ 65536 → size ≤ 2 ^ 40
     → (version == 1 && nat_lt (end_of (length problem) size) (length s)) ≡ false
     → IsLaid version problem size (written_at (gate_1 (length problem) size) (0 ∷ []) (written_at 1 head s))
 laid_twice version s head problem size is text_fits size_fits short =
-    let head_is = is_head version head problem size is in
+    let head_is = is_head 0 version head problem size is in
     let mid = written_at 1 head s in
     let after = written_at (gate_1 (length problem) size) (0 ∷ []) mid in
     let first : Torn 1 (length head) s mid = torn_written 1 head s in
@@ -328,13 +328,13 @@ laid_twice version s head problem size is text_fits size_fits short =
     second_false false b p q = let wrong : false ≡ true = p in cc
 
 -- what is written where the gate past the store is closed too
-pub laid_thrice : (version : ℕ) (s head problem : List ℕ) (size : ℕ) → head ≡ head_bytes version problem size → length problem ≤ 65536 → size ≤ 2 ^ 40
+pub laid_thrice : (version : ℕ) (s head problem : List ℕ) (size : ℕ) → head ≡ head_bytes 0 version problem size → length problem ≤ 65536 → size ≤ 2 ^ 40
     → IsLaid version problem size (written_at (end_of (length problem) size) (0 ∷ []) (written_at (gate_1 (length problem) size) (0 ∷ []) (written_at 1 head s)))
 laid_thrice version s head problem size is text_fits size_fits =
     let end = end_of (length problem) size in
     let mid = written_at (gate_1 (length problem) size) (0 ∷ []) (written_at 1 head s) in
     record {
-      inner = past_kept version problem size mid (written_at end (0 ∷ []) mid) (new_at version s head problem size (is_head version head problem size is) text_fits size_fits) (torn_written end (0 ∷ []) mid);
+      inner = past_kept version problem size mid (written_at end (0 ∷ []) mid) (new_at version s head problem size (is_head 0 version head problem size is) text_fits size_fits) (torn_written end (0 ∷ []) mid);
       plain = record { past = λ one long. written_byte end 0 mid };
     }
 

@@ -48,7 +48,7 @@ pub record NoneOrFilled (new : List ℕ) (gate size sequence : ℕ) (payload : L
   pub either : (entry_at new gate ≡ None) ⊎ (entry_at new gate ≡ Some record { sequence = sequence; payload = payload })
   pub opened : is_open new gate ≡ true → entry_at new gate ≡ Some record { sequence = sequence; payload = payload }
 
-entry_is : (q q' : ℕ) (p p' : List ℕ) (o : Option Entry) → o ≡ Some record { sequence = q; payload = p } → q ≡ q' → p ≡ p' → o ≡ Some record { sequence = q'; payload = p' }
+pub entry_is : (q q' : ℕ) (p p' : List ℕ) (o : Option Entry) → o ≡ Some record { sequence = q; payload = p } → q ≡ q' → p ≡ p' → o ≡ Some record { sequence = q'; payload = p' }
 entry_is q q' p p' o is e f = is ∙ go
   where
     made : ℕ → List ℕ → Option Entry

@@ -33,7 +33,7 @@ base_plain image plain = rw plain refl
 pub base_renewed : (image : List ℕ) → is_renewed image ≡ true → base_of image ≡ end_in image
 base_renewed image renewed = rw renewed refl
 
-true_whole : (has_magic : Bool) (image : List ℕ) → Whole has_magic image → Whole true image
+pub true_whole : (has_magic : Bool) (image : List ℕ) → Whole has_magic image → Whole true image
 true_whole true image whole = whole
 true_whole false image whole = let no : false ≡ true = whole.magic in cc
 
@@ -63,19 +63,19 @@ held_of image long open_is = or_both (nat_le (length image) 1) _ (lt-leb (length
 with_magic : (has_magic : Bool) (image : List ℕ) → has_magic ≡ true → Whole true image → Whole has_magic image
 with_magic has_magic image is whole = subst (λ (m : Bool). Whole m image) (sym is) whole
 
-end_kept : (old new : List ℕ) → SameHead old new → end_in new ≡ end_in old
+pub end_kept : (old new : List ℕ) → SameHead old new → end_in new ≡ end_in old
 end_kept old new head = rw (head.text, head.size) refl
 
-magic_1_kept : (old new : List ℕ) → SameHead old new → has_magic_1 new ≡ has_magic_1 old
+pub magic_1_kept : (old new : List ℕ) → SameHead old new → has_magic_1 new ≡ has_magic_1 old
 magic_1_kept old new head = ap (λ (n : ℕ). n == magic_1) head.magic
 
 magic_2_kept : (old new : List ℕ) → SameHead old new → has_magic_2 new ≡ has_magic_2 old
 magic_2_kept old new head = ap (λ (n : ℕ). n == magic_2) head.magic
 
-some_magic_kept : (old new : List ℕ) → SameHead old new → (has_magic_1 new || has_magic_2 new) ≡ (has_magic_1 old || has_magic_2 old)
+pub some_magic_kept : (old new : List ℕ) → SameHead old new → (has_magic_1 new || has_magic_2 new) ≡ (has_magic_1 old || has_magic_2 old)
 some_magic_kept old new head = rw (magic_1_kept old new head, magic_2_kept old new head) refl
 
-held_kept : (old new : List ℕ) (a b : ℕ) → 0 < a → Outside a b old new → is_empty old ≡ false → is_empty new ≡ false
+pub held_kept : (old new : List ℕ) (a b : ℕ) → 0 < a → Outside a b old new → is_empty old ≡ false → is_empty new ≡ false
 held_kept old new a b past out held =
     let long = two_bytes old held in
     held_of new (omega (arith, long, out.no_shorter)) (ap (λ (n : ℕ). n == open_gate) (out.below 0 (omega (arith, long)) past) ∙ open_first old held)
@@ -94,12 +94,12 @@ and_third true true c is = is
 and_third true false c is = refl
 and_third false b c is = refl
 
-third_false : (a b c : Bool) → a ≡ true → b ≡ true → (a && b && c) ≡ false → c ≡ false
+pub third_false : (a b c : Bool) → a ≡ true → b ≡ true → (a && b && c) ≡ false → c ≡ false
 third_false true true c p q is = is
 third_false true false c p q is = let no : false ≡ true = q in cc
 third_false false b c p q is = let no : false ≡ true = p in cc
 
-all_true : (a b c : Bool) → a ≡ true → b ≡ true → c ≡ true → (a && b && c) ≡ true
+pub all_true : (a b c : Bool) → a ≡ true → b ≡ true → c ≡ true → (a && b && c) ≡ true
 all_true true true c p q is = is
 all_true true false c p q is = q
 all_true false b c p q is = p
@@ -153,7 +153,7 @@ pub record Renewed (image : List ℕ) : Type 0 where
   pub whole : Whole true (drop (end_in image) image)
   pub same : pointwise nat_eq (problem_of (drop (end_in image) image)) (problem_of image) ≡ true
 
-renewed_of : (image : List ℕ) → is_renewed image ≡ true → damage_in image ≡ None → Renewed image
+pub renewed_of : (image : List ℕ) → is_renewed image ≡ true → damage_in image ≡ None → Renewed image
 renewed_of image renewed sound =
     let part = drop (end_in image) image in
     let rows = renewal_rows image renewed sound in
@@ -179,7 +179,7 @@ renewed_sound image magic whole renewed inner =
     (found_append (tests (has_magic_2 part) part) ((not (pointwise nat_eq (problem_of part) (problem_of image)), Renewal) ∷ []) (tests_of (has_magic_2 part) part (with_magic _ part inner.magic inner.whole))
     ∙ one_row (pointwise nat_eq (problem_of part) (problem_of image)) inner.same)
 
-renewed_moved : (image : List ℕ) (e : ℕ) → end_in image ≡ e → has_magic_2 (drop e image) ≡ true → Whole true (drop e image) → pointwise nat_eq (problem_of (drop e image)) (problem_of image) ≡ true → Renewed image
+pub renewed_moved : (image : List ℕ) (e : ℕ) → end_in image ≡ e → has_magic_2 (drop e image) ≡ true → Whole true (drop e image) → pointwise nat_eq (problem_of (drop e image)) (problem_of image) ≡ true → Renewed image
 renewed_moved image e is magic whole same = record {
   magic = subst (λ (n : ℕ). has_magic_2 (drop n image) ≡ true) (sym is) magic;
   whole = subst (λ (n : ℕ). Whole true (drop n image)) (sym is) whole;

@@ -17,3 +17,4 @@ pub mod Readings
 pub mod Pieces
 pub mod Openings
 pub mod Entries
+pub mod Renewals

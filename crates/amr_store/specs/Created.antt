@@ -11,9 +11,9 @@ IsVersion version = (version ≡ 1) ⊎ (version ≡ 2)
 abbrev pub magic_of : ℕ → ℕ
 magic_of version = if version == 1 then magic_1 else magic_2
 
--- all of the head behind its gate, the problem, and the closed gate of the first slot
-abbrev pub head_bytes : ℕ → List ℕ → ℕ → List ℕ
-head_bytes version problem size = to_le_bytes w64 (magic_of version) ++ to_le_bytes w64 size ++ to_le_bytes w32 (length problem) ++ problem ++ 0 ∷ []
+-- all of the head behind its gate, the problem, and the gate of the first slot
+abbrev pub head_bytes : ℕ → ℕ → List ℕ → ℕ → List ℕ
+head_bytes last version problem size = to_le_bytes w64 (magic_of version) ++ to_le_bytes w64 size ++ to_le_bytes w32 (length problem) ++ problem ++ last ∷ []
 
 -- what a new store shows
 abbrev pub new_state : ℕ → List ℕ → ℕ → State

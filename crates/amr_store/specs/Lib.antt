@@ -9,3 +9,4 @@ pub mod Reading
 pub mod Checking
 pub mod Shown
 pub mod Opened
+pub mod Renewed

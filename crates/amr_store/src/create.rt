@@ -35,7 +35,7 @@ fn head_of(
     slot_size: u64,
 ) -> Result<Vec<u8>, AllocError>
     requires text { length problem.now ≤ 65536 }
-    ensures bytes { IfOk result (λ v. v.items ≡ head_bytes version problem.now slot_size) }
+    ensures bytes { IfOk result (λ v. v.items ≡ head_bytes 0 version problem.now slot_size) }
     ensures count { IfOk result (λ v. vec_len v ≡ 21 + length problem.now) }
 {
     let mut head = Vec::new(alloc);
@@ -99,7 +99,7 @@ fn lay<D: Disk>(
     requires text { length problem.now ≤ 65536 }
     requires size { slot_size ≤ 2 ^ 40 }
     requires count { length head.now ≡ 21 + length problem.now }
-    requires head { head.now ≡ head_bytes version problem.now slot_size }
+    requires head { head.now ≡ head_bytes 0 version problem.now slot_size }
     requires settled { Only (D.seen disk.old) (D.leaves disk.old (D.moment disk.old)) }
     ensures laid { OnOk result ((t : List ℕ) → D.seen disk.new ≡ Some t → IsLaid version problem.now slot_size t) }
     ensures told { OnOk result ((s : List ℕ) → D.seen disk.old ≡ Some s → IsSome (D.seen disk.new)) }
@@ -129,7 +129,7 @@ fn write_store<D: Disk>(
     requires text { length problem.now ≤ 65536 }
     requires size { slot_size ≤ 2 ^ 40 }
     requires count { length head.now ≡ 21 + length problem.now }
-    requires head { head.now ≡ head_bytes version problem.now slot_size }
+    requires head { head.now ≡ head_bytes 0 version problem.now slot_size }
     requires settled { Only (D.seen disk.old) (D.leaves disk.old (D.moment disk.old)) }
     requires empty { (s : List ℕ) → D.seen disk.old ≡ Some s → is_empty s ≡ true }
     ensures made { OnOk result ((t : List ℕ) → D.seen disk.new ≡ Some t → IsMade version problem.now slot_size t) }

@@ -11,6 +11,7 @@ mod open;
 mod part;
 mod put;
 mod reading;
+mod renew;
 mod slot;
 mod store;
 #[cfg(test)]

@@ -121,6 +121,50 @@ fn puts_are_found_again(rt: HostRuntime) -> Result<(), Fail> {
     Ok(())
 }
 
+// A store of version 1 with one state, and its renewal, on a disk that stops at a call, and what a stop leaves.
+fn renewed(alloc: Global, stop: Option<u64>, mode: Leave) -> Result<MemDisk, Fail> {
+    let mut disk = MemDisk::make(alloc, &[], 256, 64, &[], stop)?;
+    match Store::create(alloc, &mut disk, &[112], 2, 1) {
+        Ok(mut store) => match store.put(&mut disk, 1, &[8, 9]) {
+            Ok(()) => {
+                let _ = store.renew(alloc, &mut disk, 2, &[1, 2, 3], 3);
+            }
+            Err(_) => {}
+        },
+        Err(_) => {}
+    }
+    Ok(disk.leave(mode))
+}
+
+#[test]
+fn renewal_finds_the_old_state_or_the_new(rt: HostRuntime) -> Result<(), Fail> {
+    let alloc = rt.alloc();
+    for mode in [Leave::Old, Leave::New, Leave::Filled(0xA5)] {
+        for call in 17..25 {
+            let latest = latest_on(alloc, renewed(alloc, Some(call), mode)?)?;
+            let bytes = latest.unwrap_or(Vec::new(alloc));
+            assert!(rt;
+                bytes.as_slice() == [8, 9].as_slice() || bytes.as_slice() == [1, 2, 3].as_slice(),
+                "the renewal stopped at {call}"
+            );
+        }
+    }
+    let mut disk = renewed(alloc, None, Leave::Old)?;
+    match Store::open(alloc, &mut disk)? {
+        Found::Ready(mut store) => {
+            assert_eq!(rt; store.version(), 2);
+            assert_eq!(rt; store.slot_size(), 3);
+            assert_eq!(rt; store.last(), Some(2));
+            assert_eq!(rt; store.problem(), [112].as_slice());
+            let latest = store.latest(alloc, &mut disk)?.unwrap_or(Vec::new(alloc));
+            assert_eq!(rt; latest.as_slice(), [1, 2, 3].as_slice());
+        }
+        Found::Nothing => assert!(rt; false),
+        Found::Damaged(_) => assert!(rt; false),
+    }
+    Ok(())
+}
+
 // The first part that a cut of the image damages.
 fn cut_at(length: usize) -> Seen {
     if length < 2 {
