@@ -1,0 +1,3 @@
+pub mod Filling
+pub mod Bases
+pub mod Placing

@@ -1,0 +1,252 @@
+-- Cells of a patch in the list of all masses, and patches that have them.
+use Rattle.std.proofs.Common.{◌≡◌, ◌≢◌, ℕ, zero, suc, ◌+◌, ◌*◌, ◌<◌, ◌≤◌, Bool, true, false, cond, ◌&&◌, ◌||◌, ℤ, pos, negsuc, ◌+ℤ◌, ◌-ℤ◌, ◌≤ℤ◌, ◌<ℤ◌, List, [], ◌∷◌, length, set, get_or, get_or-set_same, get_or-set_other, below_more, IsTrue, refl, sym, ap, subst, ◌∙◌, arith}
+use Rattle.std.specs.Prelude.{int_lt, is_some, slice_index, unsigned_abs}
+use Rattle.std.specs.List.{All, AllZip}
+use Rattle.std.specs.declared.option.Option.{Option}
+use Rattle.std.specs.declared.option.Option.TheVariants.{None, Some}
+use Rattle.std.proofs.lemmas.Int.{ints}
+use Rattle.std.proofs.lemmas.List.Elements.{AllZip-get_or, length_all_zip}
+use Rattle.std.proofs.Math.Nat.{mul-le-mul_right}
+use Rattle.amr_box.specs.declared.Cell.{Cell}
+use Rattle.amr_box.specs.Cells.{Extent, IsNear, cell, holds, within}
+use Rattle.amr_def.specs.State.{Masses, in_boxes}
+use Rattle.amr_patch.specs.declared.patches.Patch.{Patch}
+use Rattle.amr_patch.specs.Patches.{AreNear, ArePatchesApart, box, in_patches, mass_in, masses_in}
+use Rattle.amr_patch.proofs.Rows.{inside, is_between}
+use Rattle.amr_start.specs.Placed.{HasBoxOf, HasMassesOf, LiesIn}
+use Rattle.amr_start.specs.Rows.{box_of, masses_on}
+
+-- ---- a cell's place in the list
+
+pub record IsPlaced (columns rows : ℕ) (c : Cell) : Type 0 where
+  pub x : pos 0 ≤ℤ c.x
+  pub y : pos 0 ≤ℤ c.y
+  pub column : unsigned_abs c.x < columns
+  pub row : unsigned_abs c.y < rows
+
+pub placed : (columns rows : ℕ) (c : Cell) → holds (box_of columns rows) c ≡ true → IsPlaced columns rows c
+placed columns rows c h =
+    let b = inside (box_of columns rows) c h in
+    at c.x c.y b.west b.east b.south b.north
+  where
+    at : (x y : ℤ) → pos 0 ≤ℤ x → x ≤ℤ (pos columns -ℤ pos 1) → pos 0 ≤ℤ y → y ≤ℤ (pos rows -ℤ pos 1) → IsPlaced columns rows (cell x y)
+    at (pos x) (pos y) w e s n = record { x = w; y = s; column = omega (arith, ints, e); row = omega (arith, ints, n) }
+    at (negsuc x) y w e s n = absurd (omega (arith, ints, w))
+    at (pos x) (negsuc y) w e s n = absurd (omega (arith, ints, s))
+
+pub place_within : (columns rows x y n : ℕ) → x < columns → y < rows → n ≡ rows * columns → y * columns + x < n
+place_within columns rows x y n hx hy e =
+    let next : (y + 1) * columns ≤ rows * columns = mul-le-mul_right columns (omega (arith, hy)) in
+    omega (arith, next, e, hx)
+
+pub mass_here : (columns rows : ℕ) (ms : List ℕ) (c : Cell) (m : ℕ) → holds (box_of columns rows) c ≡ true → m ≡ slice_index ms (unsigned_abs c.y * columns + unsigned_abs c.x) → masses_on columns rows ms c ≡ Some m
+mass_here columns rows ms c m h is =
+    ap (λ (t : Bool). cond t (Some (slice_index ms (unsigned_abs c.y * columns + unsigned_abs c.x))) None) h ∙ ap Some (sym is)
+
+-- ---- one more
+
+below : (x e : ℤ) → int_lt x e ≡ true → x <ℤ e
+below x e h = grind (arith, ints)
+
+not_below : (x e : ℤ) → int_lt x e ≡ false → e ≤ℤ x
+not_below x e h = grind (arith, ints)
+
+-- what holds before a number and at it holds before the next
+pub before_next : (P : ℤ → Type 0) (e x : ℤ) → (x <ℤ e → P x) → (x ≡ e → P x) → x <ℤ (e +ℤ pos 1) → P x
+before_next P e x old here h = cases (int_lt x e) refl
+  where
+    cases : (t : Bool) → int_lt x e ≡ t → P x
+    cases true l = old (below x e l)
+    cases false l = let g = not_below x e l in here (omega (arith, ints, g, h))
+
+-- ---- a row, cell by cell
+
+-- the cells of row y before column k of the patch have these masses, and the other rows what they had
+pub record HasRowTo (m : Masses) (p q : Patch) (y : ℤ) (k : ℕ) : Type 0 where
+  pub of_box : box q ≡ box p
+  pub made : (c : Cell) → IsTrue (holds (box p) c) → c.y ≡ y → c.x <ℤ ((box p).lo.x +ℤ pos k) → m c ≡ Some (mass_in q c)
+  pub others : (c : Cell) → IsTrue (holds (box p) c) → c.y ≢ y → mass_in q c ≡ mass_in p c
+
+pub no_cells : (m : Masses) (p : Patch) (y : ℤ) → HasRowTo m p p y 0
+no_cells m p y = record {
+  of_box = refl;
+  made = λ c h e lt. let b = inside (box p) c h in absurd (omega (arith, ints, b.west, lt));
+  others = λ c h n. refl;
+}
+
+pub cell_more : (m : Masses) (p q r : Patch) (y : ℤ) (k : ℕ) (d : Cell) → d ≡ cell ((box p).lo.x +ℤ pos k) y → box r ≡ box q → m d ≡ Some (mass_in r d) → ((c : Cell) → IsTrue (holds (box q) c) → c ≢ d → mass_in r c ≡ mass_in q c) → HasRowTo m p q y k → HasRowTo m p r y (k + 1)
+cell_more m p q r y k d is of_box here others had = record {
+  of_box = of_box ∙ had.of_box;
+  made = λ c h e lt. before_next (λ x. c.x ≡ x → m c ≡ Some (mass_in r c)) ((box p).lo.x +ℤ pos k) c.x
+      (λ less same. had.made c h e less ∙ ap Some (sym (others c (held c h) (λ f. let x = ap (λ (t : Cell). t.x) (f ∙ is) in omega (arith, ints, less, x)))))
+      (λ at_k same. let there = same_cell c at_k e in ap m there ∙ here ∙ ap (λ (t : Cell). Some (mass_in r t)) (sym there))
+      (omega (arith, ints, lt))
+      refl;
+  others = λ c h n. others c (held c h) (λ f. n (ap (λ (t : Cell). t.y) (f ∙ is))) ∙ had.others c h n;
+}
+  where
+    held : (c : Cell) → IsTrue (holds (box p) c) → IsTrue (holds (box q) c)
+    held c h = subst (λ (b : Extent). IsTrue (holds b c)) (sym had.of_box) h
+
+    same_cell : (c : Cell) → c.x ≡ ((box p).lo.x +ℤ pos k) → c.y ≡ y → c ≡ d
+    same_cell c ex ey = (λ i. cell (ex i) (ey i)) ∙ sym is
+
+pub whole_row : (m : Masses) (p q : Patch) (y : ℤ) (k : ℕ) → pos k ≡ (box p).hi.x +ℤ pos 1 -ℤ (box p).lo.x → HasRowTo m p q y k → (c : Cell) → IsTrue (holds (box p) c) → c.y ≡ y → m c ≡ Some (mass_in q c)
+whole_row m p q y k count had c h e = let b = inside (box p) c h in had.made c h e (omega (arith, ints, b.east, count))
+
+-- ---- a patch, row by row
+
+pub record HasRowsTo (m : Masses) (p q : Patch) (k : ℕ) : Type 0 where
+  pub of_box : box q ≡ box p
+  pub made : (c : Cell) → IsTrue (holds (box p) c) → c.y <ℤ ((box p).lo.y +ℤ pos k) → m c ≡ Some (mass_in q c)
+
+pub no_rows_yet : (m : Masses) (p : Patch) → HasRowsTo m p p 0
+no_rows_yet m p = record { of_box = refl; made = λ c h lt. let b = inside (box p) c h in absurd (omega (arith, ints, b.south, lt)) }
+
+pub row_more : (m : Masses) (p q r : Patch) (y : ℤ) (k : ℕ) → y ≡ (box p).lo.y +ℤ pos k → box r ≡ box q → ((c : Cell) → IsTrue (holds (box q) c) → c.y ≡ y → m c ≡ Some (mass_in r c)) → ((c : Cell) → IsTrue (holds (box q) c) → c.y ≢ y → mass_in r c ≡ mass_in q c) → HasRowsTo m p q k → HasRowsTo m p r (k + 1)
+row_more m p q r y k is of_box here others had = record {
+  of_box = of_box ∙ had.of_box;
+  made = λ c h lt. before_next (λ z. c.y ≡ z → m c ≡ Some (mass_in r c)) ((box p).lo.y +ℤ pos k) c.y
+      (λ less same. had.made c h less ∙ ap Some (sym (others c (held c h) (λ f. omega (arith, ints, less, f, is)))))
+      (λ at_k same. here c (held c h) (at_k ∙ sym is))
+      (omega (arith, ints, lt))
+      refl;
+}
+  where
+    held : (c : Cell) → IsTrue (holds (box p) c) → IsTrue (holds (box q) c)
+    held c h = subst (λ (b : Extent). IsTrue (holds b c)) (sym had.of_box) h
+
+pub whole_patch : (m : Masses) (p q : Patch) (k : ℕ) → pos k ≡ (box p).hi.y +ℤ pos 1 -ℤ (box p).lo.y → HasRowsTo m p q k → HasMassesOf m q
+whole_patch m p q k count had = record {
+  at = λ c h.
+      let here = subst (λ (b : Extent). IsTrue (holds b c)) had.of_box h in
+      let b = inside (box p) c here in
+      had.made c here (omega (arith, ints, b.north, count));
+}
+
+-- ---- a list of patches
+
+pub zip_refl : (ps : List Patch) → AllZip HasBoxOf ps ps
+zip_refl [] = tt
+zip_refl (p ∷ ps) = (record { of_box = refl }, zip_refl ps)
+
+pub zip_set : (ps qs : List Patch) (i : ℕ) (d r : Patch) → i < length qs → HasBoxOf (get_or qs i d) r → AllZip HasBoxOf ps qs → AllZip HasBoxOf ps (set qs i r)
+zip_set [] [] i d r lt b h = tt
+zip_set [] (q ∷ qs) i d r lt b h = absurd h
+zip_set (p ∷ ps) [] i d r lt b h = absurd h
+zip_set (p ∷ ps) (q ∷ qs) zero d r lt b h = (record { of_box = b.of_box ∙ h.0.of_box }, h.1)
+zip_set (p ∷ ps) (q ∷ qs) (suc i) d r lt b h = (h.0, zip_set ps qs i d r (omega arith) b h.1)
+
+pub zip_box : (ps qs : List Patch) (i : ℕ) (d e : Patch) → AllZip HasBoxOf ps qs → i < length ps → box (get_or qs i e) ≡ box (get_or ps i d)
+zip_box ps qs i d e h t = (AllZip-get_or HasBoxOf ps qs i d e h t).of_box
+
+pub zip_length : (ps qs : List Patch) → AllZip HasBoxOf ps qs → length ps ≡ length qs
+zip_length ps qs h = length_all_zip HasBoxOf ps qs h
+
+pub zip_apart : (ps qs : List Patch) → AllZip HasBoxOf ps qs → ArePatchesApart ps → ArePatchesApart qs
+zip_apart ps qs h apart = λ i j d below there c a b.
+    let n = zip_length ps qs h in
+    let low : i < length ps = omega (arith, n, below, there) in
+    let high : j < length ps = omega (arith, n, there) in
+    apart i j d below high c (subst (λ (t : Extent). IsTrue (holds t c)) (zip_box ps qs i d d h low) a) (subst (λ (t : Extent). IsTrue (holds t c)) (zip_box ps qs j d d h high) b)
+
+zip_in : (ps qs : List Patch) (c : Cell) → AllZip HasBoxOf ps qs → in_patches qs c ≡ in_patches ps c
+zip_in [] [] c h = refl
+zip_in [] (q ∷ qs) c h = absurd h
+zip_in (p ∷ ps) [] c h = absurd h
+zip_in (p ∷ ps) (q ∷ qs) c h = λ i. holds (h.0.of_box i) c || zip_in ps qs c h.1 i
+
+some_cases : (t : Bool) (a : ℕ) (x : Option ℕ) (r : Bool) → is_some x ≡ r → is_some (cond t (Some a) x) ≡ (t || r)
+some_cases true a x r e = refl
+some_cases false a x r e = e
+
+some_mass : (ps : List Patch) (c : Cell) → is_some (masses_in ps c) ≡ in_patches ps c
+some_mass [] c = refl
+some_mass (p ∷ ps) c = some_cases (holds (box p) c) (mass_in p c) (masses_in ps c) (in_patches ps c) (some_mass ps c)
+
+-- ---- a list of patches, one by one
+
+pub record HasAllTo (m : Masses) (ps qs : List Patch) (k : ℕ) : Type 0 where
+  pub boxes : AllZip HasBoxOf ps qs
+  pub made : (j : ℕ) (d : Patch) → j < k → HasMassesOf m (get_or qs j d)
+
+pub patch_more : (m : Masses) (ps qs : List Patch) (i : ℕ) (d r : Patch) → i < length qs → HasBoxOf (get_or qs i d) r → HasMassesOf m r → HasAllTo m ps qs i → HasAllTo m ps (set qs i r) (i + 1)
+patch_more m ps qs i d r lt b has had = record {
+  boxes = zip_set ps qs i d r lt b had.boxes;
+  made = λ j e less. below_more (λ n. HasMassesOf m (get_or (set qs i r) n e)) i
+      (λ n t. subst (λ (p : Patch). HasMassesOf m p) (sym (get_or-set_other qs i n r e (λ f. omega (arith, t, f)))) (had.made n e t))
+      (subst (λ (p : Patch). HasMassesOf m p) (sym (get_or-set_same qs i r e lt)) has)
+      j
+      less;
+}
+
+-- patches whose cells are those of a box
+module _ (b : Extent) (ps : List Patch) (blank : (c : Cell) → masses_in ps c ≡ cond (holds b c) (Some 0) None) where
+  in_all : (c : Cell) → in_patches ps c ≡ holds b c
+  in_all c = sym (some_mass ps c) ∙ ap is_some (blank c) ∙ either (holds b c)
+    where
+      either : (t : Bool) → is_some (cond {A = Option ℕ} t (Some 0) None) ≡ t
+      either true = refl
+      either false = refl
+
+  in_at : (ps : List Patch) (c : Cell) (i : ℕ) (d : Patch) → i < length ps → holds (box (get_or ps i d)) c ≡ true → in_patches ps c ≡ true
+  in_at [] c i d lt h = absurd (omega arith)
+  in_at (p ∷ ps) c zero d lt h = rw h refl
+  in_at (p ∷ ps) c (suc i) d lt h = or_right (holds (box p) c) (in_patches ps c) (in_at ps c i d (omega arith) h)
+    where
+      or_right : (a b : Bool) → b ≡ true → (a || b) ≡ true
+      or_right true b e = refl
+      or_right false b e = e
+
+  pub all_lie_in : All (LiesIn b) ps
+  all_lie_in = λ i d lt. record { at = λ c h. sym (in_all c) ∙ in_at ps c i d lt h }
+
+  masses_of : (m : Masses) (qs : List Patch) (c : Cell) → All (HasMassesOf m) qs → masses_in qs c ≡ cond (in_patches qs c) (m c) None
+  masses_of m [] c h = refl
+  masses_of m (q ∷ qs) c h = cases (holds (box q) c) refl (masses_of m qs c (λ k d lt. h (suc k) d (omega arith)))
+    where
+      cases : (t : Bool) → holds (box q) c ≡ t → masses_in qs c ≡ cond (in_patches qs c) (m c) None → cond t (Some (mass_in q c)) (masses_in qs c) ≡ cond (t || in_patches qs c) (m c) None
+      cases true e rest = sym ((h 0 q (omega arith)).at c e)
+      cases false e rest = rest
+
+  -- patches of the same boxes that have the masses of such a function
+  pub all_masses : (m : Masses) (qs : List Patch) → AllZip HasBoxOf ps qs → All (HasMassesOf m) qs → ((c : Cell) → holds b c ≡ false → m c ≡ None) → masses_in qs ≡ m
+  all_masses m qs zip has off = λ i c. at c i
+    where
+      at : (c : Cell) → masses_in qs c ≡ m c
+      at c = masses_of m qs c has ∙ ap (λ (t : Bool). cond t (m c) None) (zip_in ps qs c zip ∙ in_all c) ∙ cases (holds b c) refl
+        where
+          cases : (t : Bool) → holds b c ≡ t → cond t (m c) None ≡ m c
+          cases true e = refl
+          cases false e = sym (off c e)
+
+-- ---- a level of one box
+
+or_none : (t : Bool) → (t || false) ≡ t
+or_none true = refl
+or_none false = refl
+
+pub in_one_box : (b : Extent) (c : Cell) → in_boxes (b ∷ []) c ≡ holds b c
+in_one_box b c = or_none (holds b c)
+
+pub near_alone : (b : Extent) → IsNear b → AreNear (b ∷ [])
+near_alone b near c h =
+    let t = inside b c (sym (in_one_box b c) ∙ h) in
+    record { west = omega (arith, ints, t.west, near.west); east = omega (arith, ints, t.east, near.east); south = omega (arith, ints, t.south, near.south); north = omega (arith, ints, t.north, near.north) }
+
+-- ---- what the calls require
+
+pub lies_still : (b : Extent) (p q : Patch) → box q ≡ box p → LiesIn b p → LiesIn b q
+lies_still b p q e h = record { at = λ c t. h.at c (subst (λ (a : Extent). IsTrue (holds a c)) e t) }
+
+pub cell_held : (p q : Patch) (x y : ℤ) → box q ≡ box p → (box p).lo.x ≤ℤ x → x ≤ℤ (box p).hi.x → within (box p).lo.y (box p).hi.y y ≡ true → IsTrue (holds (box q) (cell x y))
+cell_held p q x y e west east rows = subst (λ (b : Extent). IsTrue (holds b (cell x y))) (sym e) (both (is_between (box p).lo.x (box p).hi.x x west east) rows)
+  where
+    both : {a b : Bool} → a ≡ true → b ≡ true → (a && b) ≡ true
+    both ea eb = rw (ea, eb) refl
+
+pub row_held : (p q : Patch) (y : ℤ) → box q ≡ box p → (box p).lo.y ≤ℤ y → y ≤ℤ (box p).hi.y → within (box q).lo.y (box q).hi.y y ≡ true
+row_held p q y e south north = ap (λ (b : Extent). within b.lo.y b.hi.y y) e ∙ is_between (box p).lo.y (box p).hi.y y south north
+
+pub off_box : (columns rows : ℕ) (ms : List ℕ) (c : Cell) → holds (box_of columns rows) c ≡ false → masses_on columns rows ms c ≡ None
+off_box columns rows ms c h = rw h refl

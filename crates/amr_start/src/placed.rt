@@ -1,0 +1,99 @@
+//! Masses of one list, placed in the patches of a level.
+
+ghost use Rattle.std.specs.Prelude.{◌≡◌, ◌≢◌, ◌+◌, ◌*◌, ◌<◌, ◌≤◌, pos, negsuc, ◌+ℤ◌, ◌<ℤ◌, length, slice_index, Some, IsTrue};
+ghost use Rattle.std.specs.List.{All, AllZip};
+ghost use Rattle.amr_box.specs.declared.Cell.{Cell};
+ghost use Rattle.amr_box.specs.Cells.{holds, within};
+ghost use Rattle.amr_patch.specs.Patches.{box, mass_in};
+ghost use Rattle.amr_start.specs.Placed.{HasBoxOf, HasMassesOf, LiesIn};
+ghost use Rattle.amr_start.specs.Rows.{box_of, masses_on};
+
+use amr_box::Cell;
+use amr_patch::Patch;
+
+/// The entry of a column and a row.
+#[tactic(auto, using(crate::proofs::Placing::place_within))]
+fn entry(masses: &[u64], columns: usize, rows: usize, x: usize, y: usize) -> u64
+    requires column { x < columns }
+    requires row { y < rows }
+    requires count { length masses.now ≡ rows * columns }
+    requires narrow { columns ≤ 256 }
+    requires flat { rows ≤ 256 }
+    ensures { result ≡ slice_index masses.now (y * columns + x) }
+{
+    masses[y * columns + x]
+}
+
+/// Gives a cell its mass.
+fn place_cell(patch: &mut Patch, masses: &[u64], columns: usize, rows: usize, c: Cell)
+    requires inside { LiesIn (box_of columns rows) patch.old }
+    requires count { length masses.now ≡ rows * columns }
+    requires narrow { columns ≤ 256 }
+    requires flat { rows ≤ 256 }
+    requires of_patch { IsTrue (holds (box patch.old) c) }
+    ensures of_box { box patch.new ≡ box patch.old }
+    ensures made { masses_on columns rows masses.now c ≡ Some (mass_in patch.new c) }
+    ensures others { (d : Cell) → IsTrue (holds (box patch.old) d) → d ≢ c → mass_in patch.new d ≡ mass_in patch.old d }
+{
+    let x = c.x.unsigned_abs() as usize;
+    let y = c.y.unsigned_abs() as usize;
+    patch.set_mass(c, entry(masses, columns, rows, x, y));
+}
+
+/// The number that lies `k` above another.
+fn ahead(z: i32, k: u32) -> i32
+    requires from { negsuc 16777216 <ℤ z }
+    requires to { z <ℤ pos 16777217 }
+    requires small { k ≤ 33554432 }
+    ensures { result ≡ z +ℤ pos k }
+{
+    z + k as i32
+}
+
+/// Gives the cells of a row their masses.
+fn place_row(patch: &mut Patch, masses: &[u64], columns: usize, rows: usize, y: i32)
+    requires inside { LiesIn (box_of columns rows) patch.old }
+    requires count { length masses.now ≡ rows * columns }
+    requires narrow { columns ≤ 256 }
+    requires flat { rows ≤ 256 }
+    requires of_patch { IsTrue (within (box patch.old).lo.y (box patch.old).hi.y y) }
+    ensures of_box { box patch.new ≡ box patch.old }
+    ensures made { (c : Cell) → IsTrue (holds (box patch.old) c) → c.y ≡ y → masses_on columns rows masses.now c ≡ Some (mass_in patch.new c) }
+    ensures others { (c : Cell) → IsTrue (holds (box patch.old) c) → c.y ≢ y → mass_in patch.new c ≡ mass_in patch.old c }
+{
+    let b = patch.bx();
+    for k in 0..b.width() {
+        let x = ahead(b.lo().x, k);
+        place_cell(patch, masses, columns, rows, Cell { x, y });
+    }
+}
+
+/// Gives the cells of a patch their masses, row by row.
+fn place_patch(patch: &mut Patch, masses: &[u64], columns: usize, rows: usize)
+    requires inside { LiesIn (box_of columns rows) patch.old }
+    requires count { length masses.now ≡ rows * columns }
+    requires narrow { columns ≤ 256 }
+    requires flat { rows ≤ 256 }
+    ensures of_box { HasBoxOf patch.old patch.new }
+    ensures masses { HasMassesOf (masses_on columns rows masses.now) patch.new }
+{
+    let b = patch.bx();
+    for k in 0..b.height() {
+        let y = ahead(b.lo().y, k);
+        place_row(patch, masses, columns, rows, y);
+    }
+}
+
+/// Gives the cells of all patches their masses.
+pub(crate) fn place_all(patches: &mut [Patch], masses: &[u64], columns: usize, rows: usize)
+    requires inside { All (LiesIn (box_of columns rows)) patches.old }
+    requires count { length masses.now ≡ rows * columns }
+    requires narrow { columns ≤ 256 }
+    requires flat { rows ≤ 256 }
+    ensures boxes { AllZip HasBoxOf patches.old patches.new }
+    ensures masses { All (HasMassesOf (masses_on columns rows masses.now)) patches.new }
+{
+    for i in 0..patches.len() {
+        place_patch(&mut patches[i], masses, columns, rows);
+    }
+}

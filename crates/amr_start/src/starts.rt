@@ -1,0 +1,63 @@
+//! The start of a run.
+
+ghost use Rattle.std.specs.Prelude.{◌≡◌, ◌*◌, ◌≤◌, ◌∷◌, [], false, length, IfOk};
+ghost use Rattle.amr_def.specs.Facts.{IsSound};
+ghost use Rattle.amr_def.specs.Run.{start};
+ghost use Rattle.amr_patch.specs.Levels.{level_of};
+ghost use Rattle.amr_patch.specs.Meshes.{is_spent, state_of};
+ghost use Rattle.amr_start.specs.OneLevel.{HasOneLevel};
+ghost use Rattle.amr_start.specs.Rows.{box_of, masses_on};
+
+use crate::blocks::{start_masses, total_mass};
+use crate::pieces::{blank_level, whole_box};
+use crate::placed::place_all;
+use amr_causes::NoMemory;
+use amr_def::{Problem, Row};
+use amr_patch::{Level, Mesh};
+use std::alloc::Global;
+
+/// Level 0 with the masses of a list, in pieces of at most `max` by `max` cells.
+fn level_with(
+    alloc: Global,
+    masses: &[u64],
+    columns: u32,
+    rows: u32,
+    max: u32,
+) -> Result<Level, NoMemory>
+    requires some_columns { 1 ≤ columns }
+    requires some_rows { 1 ≤ rows }
+    requires narrow { columns ≤ 256 }
+    requires flat { rows ≤ 256 }
+    requires some { 1 ≤ max }
+    requires count { length masses.now ≡ rows * columns }
+    ensures boxes { IfOk result (λ l. (level_of l).boxes ≡ box_of columns rows ∷ []) }
+    ensures masses { IfOk result (λ l. (level_of l).masses ≡ masses_on columns rows masses.now) }
+{
+    let mut level = blank_level(alloc, whole_box(columns, rows), max)?;
+    let mut patches = level.take_patches();
+    place_all(&mut patches, masses, columns as usize, rows as usize);
+    level.put_patches(patches);
+    Ok(level)
+}
+
+/// The start of a run of a problem of one level: step 0, the masses of the blocks (a later block replaces an earlier one, and
+/// a cell of none has 0) in patches of at most `max_grid_size` by `max_grid_size` cells, and row 0 of the ledger, with the mass
+/// of level 0 and no flows. `NoMemory` is the only refusal.
+pub fn start(alloc: Global, p: &Problem) -> Result<Mesh, NoMemory>
+    requires { HasOneLevel p.now }
+    ensures value { IfOk result (λ m. state_of m ≡ start p.now) }
+    ensures sound { IfOk result (λ m. IsSound p.now (state_of m)) }
+    ensures at_start { IfOk result (λ m. (state_of m).step ≡ 0) }
+    ensures whole { IfOk result (λ m. is_spent m ≡ false) }
+{
+    let masses = start_masses(alloc, p)?;
+    let row = Row {
+        mass: total_mass(&masses, p.nx as usize, p.ny as usize),
+        inflow: 0,
+        outflow: 0,
+    };
+    let level = level_with(alloc, &masses, p.nx, p.ny, p.max_grid_size)?;
+    let rows = vec![in alloc; row]?;
+    let levels = vec![in alloc; level]?;
+    Ok(Mesh::of(0, rows, levels))
+}
