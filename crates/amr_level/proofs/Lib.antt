@@ -1,0 +1,8 @@
+mod Lists
+mod Values
+mod Boxes
+mod Repeats
+mod Owners
+mod Filled
+mod Sources
+mod Updating

@@ -1,0 +1,10 @@
+//! A step of level 0, whose masses stand in patches.
+#![tactic(auto)]
+
+mod borders;
+mod home;
+mod step;
+mod updates;
+
+pub use crate::borders::Borders;
+pub use crate::step::advance;
