@@ -8,3 +8,6 @@ mod placed;
 mod starts;
 
 pub use starts::start;
+
+#[cfg(test)]
+mod tests;

@@ -1,0 +1,90 @@
+ghost use Rattle.std.specs.Prelude.{◌≡◌, IfOk};
+
+use super::*;
+use amr_box::Cell;
+use amr_def::{Block, Blocks, Name, Problem, Row, Shear, Sides, Thresholds};
+use amr_patch::Level;
+use std::alloc::Global;
+use std::test::Fail;
+
+const BLOCKS: [Block; 2] = [
+    Block {
+        x0: 1,
+        y0: 0,
+        x1: 4,
+        y1: 1,
+        mass: 7,
+    },
+    Block {
+        x0: 4,
+        y0: 1,
+        x1: 5,
+        y1: 4,
+        mass: 3,
+    },
+];
+
+/// A problem of 6 by 5 cells in pieces of 4 by 4, with two blocks that have a cell in common.
+fn problem(alloc: Global) -> Result<Problem, Fail>
+    ensures { IfOk result (λ p. p.max_level ≡ 0) }
+{
+    Ok(Problem {
+        name: Name::make(Vec::from_slice(alloc, b"blocks")?),
+        nx: 6,
+        ny: 5,
+        steps: 2,
+        cx: 1,
+        cy: 0,
+        d: 2,
+        shear_x: Shear::make(Vec::new(alloc)),
+        shear_y: Shear::make(Vec::new(alloc)),
+        x_sides: Sides::Open(9, 0),
+        y_sides: Sides::Periodic,
+        max_level: 0,
+        tag: Thresholds::make(Vec::new(alloc)),
+        n_error_buf: 0,
+        efficiency: 80,
+        min_width: 1,
+        regrid_int: 4096,
+        blocking: 2,
+        max_grid_size: 4,
+        blocks: Blocks::make(Vec::from_slice(alloc, BLOCKS.as_slice())?),
+    })
+}
+
+/// The mass of a cell of the first level.
+fn mass_at(levels: &[Level], x: i32, y: i32) -> Option<u64> {
+    match levels.first() {
+        Some(level) => level.get(Cell { x, y }),
+        None => None,
+    }
+}
+
+/// How many patches the first level has.
+fn patch_count(levels: &[Level]) -> usize {
+    match levels.first() {
+        Some(level) => level.patches().len(),
+        None => 0,
+    }
+}
+
+#[test]
+fn blocks_in_four_pieces(rt: HostRuntime) -> Result<(), Fail> {
+    let alloc = rt.alloc();
+    let p = problem(alloc)?;
+    let mut mesh = start(alloc, &p)?;
+    let (rows, levels) = mesh.take();
+    assert_eq!(rt; levels.len(), 1);
+    assert_eq!(rt; patch_count(&levels), 4);
+    assert_eq!(rt; mass_at(&levels, 0, 0), Some(0));
+    assert_eq!(rt; mass_at(&levels, 1, 0), Some(7));
+    assert_eq!(rt; mass_at(&levels, 4, 0), Some(7));
+    assert_eq!(rt; mass_at(&levels, 4, 1), Some(3));
+    assert_eq!(rt; mass_at(&levels, 5, 4), Some(3));
+    assert_eq!(rt; mass_at(&levels, 6, 4), None);
+    assert_eq!(rt; rows.len(), 1);
+    let row = rows.first().copied();
+    assert_eq!(rt; row.map(|r| r.mass), Some(73));
+    assert_eq!(rt; row.map(|r| r.inflow), Some(0));
+    Ok(())
+}
