@@ -1,6 +1,7 @@
 -- Counts of the bits of columns by the runs of bits that begin and end in each row.
 use Rattle.std.proofs.Common.{◌≡◌, ℕ, zero, suc, ◌+◌, ◌-◌, ◌*◌, ◌/◌, ◌%◌, ◌^◌, ◌<◌, ◌≤◌, ◌⊎◌, inl, inr, min, max, Bool, true, false, ◌&&◌, not, List, refl, sym, ap, ◌∙◌, arith, add-one, add-zero}
-use Rattle.std.specs.Prelude.{◌==◌, bit_and, bit_or, bit_xor}
+use lib.Count.{ones-le}
+use Rattle.std.specs.Prelude.{◌==◌, bit_and, bit_or, bit_xor, count_ones}
 use Rattle.std.specs.Int.{bit_at}
 use mir.Val.{bool_byte}
 use Rattle.std.specs.List.{slice_range}
@@ -8,8 +9,8 @@ use Rattle.std.proofs.lemmas.Bool.{cases_lt, false≢true}
 use Rattle.std.proofs.lemmas.Nat.Bits.{bit_at-lt, bit_at-suc, bit_at-zero, bit_at_and, bit_at_cat_low, bit_at_lowest, bit_at_or, bit_at_xor}
 use Rattle.amr_sign.specs.Counts.{bit, count_to}
 use Rattle.amr_sign.specs.Runs.{begins, ends, in_span, open_runs, preceding}
-use Rattle.amr_sign.specs.Words.{bit_of}
-use Rattle.amr_sign.proofs.Bits.{above-window, below-window, count_to-none, in-window}
+use Rattle.amr_sign.specs.Words.{bit_of, word_bit}
+use Rattle.amr_sign.proofs.Bits.{above-window, below-window, count_to-none, in-window, word_bit-zero}
 use Rattle.amr_sign.proofs.Counts.{count_to_bound, count_to_more}
 use Rattle.amr_sign.proofs.Parts.{row_bit-slice}
 
@@ -86,6 +87,29 @@ module _ (p : ℕ → Bool) (k word : ℕ) (bits : (i : ℕ) → i < 64 → (bit
   next-first =
       let place : suc (64 * k + 63) ≡ 64 * (k + 1) = omega arith in
       bits 63 (omega arith) ∙ ap (preceding p) place
+
+-- a word without a bit, after a place without one
+zero-bit : (i : ℕ) → (bit_at 0 i == 1) ≡ false
+zero-bit i = ap (λ (b : ℕ). b == 1) (bit_at-zero i)
+
+module _ (p : ℕ → Bool) (k : ℕ) (bits : (i : ℕ) → i < 64 → (bit_at 0 i == 1) ≡ p (64 * k + i)) (before : false ≡ preceding p (64 * k)) where
+  quiet-lifts : (i : ℕ) → i < 64 → (bit_at 0 i == 1) ≡ preceding p (64 * k + i)
+  quiet-lifts = lifted-is p k 0 bits 0 false before (zero-bit 0) (λ i h. zero-bit (i + 1) ∙ sym (zero-bit i))
+
+  pub quiet-begins : (i : ℕ) → i < 64 → (bit_at 0 i == 1) ≡ begins p (64 * k + i)
+  quiet-begins = begun-bits p k 0 bits 0 0 quiet-lifts (λ i. zero-bit i ∙ sym (ap (λ (t : Bool). t && not (bit_at 0 i == 1)) (zero-bit i)))
+
+  pub quiet-ends : (i : ℕ) → i < 64 → (bit_at 0 i == 1) ≡ ends p (64 * k + i)
+  quiet-ends = ended-bits p k 0 bits 0 0 quiet-lifts (λ i. zero-bit i ∙ sym (ap (λ (t : Bool). t && not (bit_at 0 i == 1)) (zero-bit i)))
+
+  pub quiet-next : false ≡ preceding p (64 * (k + 1))
+  quiet-next = sym (zero-bit 63) ∙ next-first p k 0 bits
+
+pub no-more : (base x old : ℕ) → old ≡ old + bit (word_bit 0 base x)
+no-more base x old = let none : bit (word_bit 0 base x) ≡ 0 = ap bit (word_bit-zero base x) in omega arith
+
+pub no-ones : (count : ℕ) → count ≡ count + count_ones 0
+no-ones count = let none : count_ones 0 ≤ 0 = ones-le 0 0 (omega arith) in omega arith
 
 -- ---- places of a row between two others
 

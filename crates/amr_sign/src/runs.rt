@@ -57,6 +57,9 @@ pub fn add_row_runs(
     let mut before = false;
     for k in low / BITS..high / BITS + 1 {
         let word = masked_word(row, k, low, high);
+        if word == 0 && !before {
+            continue;
+        }
         let lifted = raised(word, before);
         count += word.count_ones();
         add_word(begun, apart_from(word, lifted), BITS * k, low);

@@ -32,10 +32,14 @@ pub fn masked_word(row: &[u64], k: usize, low: usize, high: usize) -> u64
     ensures { (i : ℕ) → i < 64 → (bit_at result i == 1)
         ≡ ((nat_le low (64 * k + i) && nat_le (64 * k + i) high) && row_bit row.now (64 * k + i)) }
 {
+    let word = row[k];
+    if word == 0 {
+        return 0;
+    }
     let base = 64 * k;
     let from = low.saturating_sub(base);
     let to = (high - base).min(63);
-    row[k] & mask(from as u32, to as u32)
+    word & mask(from as u32, to as u32)
 }
 
 /// How many bits of a row are 1 from `low` to `high`, both inside.

@@ -110,7 +110,8 @@ impl Tags {
     }
 
     /// Grows the set by `n` cells on all sides, at the corners too: past the end of a periodic axis it goes on at the
-    /// other end, and at the end of an open one it stops. The buffer of Berger and Colella's tags.
+    /// other end, and at the end of an open one it stops. The buffer of Berger and Colella's tags: it is meant for a
+    /// problem's buffer, 0 to 8 cells, but any `n` is allowed, and the time grows with `n`.
     pub fn grow(&mut self, n: u32)
         ensures shape { SameShape self.old self.new }
         ensures cells { (c : Cell) → has self.new c ≡ (holds self.old.bx c && is_near self.old n c) }

@@ -1,11 +1,11 @@
-use Rattle.std.proofs.Common.{◌≡◌, ℕ, ◌+◌, ◌*◌, ◌/◌, ◌<◌, length, refl, sym, ◌∙◌, arith}
+use Rattle.std.proofs.Common.{◌≡◌, ℕ, ◌+◌, ◌*◌, ◌/◌, ◌<◌, false, length, refl, sym, ap, ◌∙◌, arith}
 use lib.Count.{ones-le}
 use Rattle.std.specs.Prelude.{◌==◌}
 use Rattle.std.specs.Int.{bit_at}
-use Rattle.amr_sign.specs.Runs.{begins, ends, in_span}
+use Rattle.amr_sign.specs.Runs.{begins, ends, in_span, preceding}
 use Rattle.amr_sign.proofs.Counts.{count_to_bound}
 use Rattle.amr_sign.proofs.Bits.{counted-first, none-below, window-whole, word-counted, word-more}
-use Rattle.amr_sign.proofs.RunCounts.{begins-inside, begun-bits, ended-bits, ends-inside, lifted-is, next-first, none-preceding}
+use Rattle.amr_sign.proofs.RunCounts.{begins-inside, begun-bits, ended-bits, ends-inside, lifted-is, next-first, no-more, no-ones, none-preceding, quiet-begins, quiet-ends, quiet-next}
 use Rattle.amr_sign.proofs.runs.add_row_runs.Goals as goal
 
 pub overflow_add-count : goal.overflow_add-count
@@ -57,3 +57,18 @@ loop-k-preserved c =
 pub returns-clause-count : goal.returns-clause-count
 returns-clause-count c =
     c.loop-k.invariant.number ∙ window-whole c.args.row.now c.args.low c.args.high (64 * c.loop-k.k) c.requires.order (omega arith)
+
+pub loop-k-preserved-then-not-before : goal.loop-k-preserved-then-not-before
+loop-k-preserved-then-not-before c =
+    let span = in_span c.args.row.now c.args.low c.args.high in
+    let k = c.loop-k.k in
+    let none : c.masked_word-word.result ≡ 0 = c.if-word-eq0.true in
+    let quiet : c.loop-k.before ≡ false = c.if-not-before.true in
+    let bits : (i : ℕ) → i < 64 → (bit_at 0 i == 1) ≡ span (64 * k + i) = λ i h. ap (λ (w : ℕ). bit_at w i == 1) (sym none) ∙ c.masked_word-word.ensures i h in
+    let before : false ≡ preceding span (64 * k) = sym quiet ∙ c.loop-k.invariant.first in
+    record {
+      begin = λ i h. word-counted (begins span) k 0 (c.args.low + i) _ _ _ (quiet-begins span k bits before) (c.loop-k.invariant.begin i h) (no-more (64 * k) (c.args.low + i) _);
+      end = λ i h. word-counted (ends span) k 0 (c.args.low + i) _ _ _ (quiet-ends span k bits before) (c.loop-k.invariant.end i h) (no-more (64 * k) (c.args.low + i) _);
+      number = word-more c.args.row.now c.args.low c.args.high k 0 c.loop-k.count c.loop-k.count (omega arith) bits c.loop-k.invariant.number (no-ones c.loop-k.count);
+      first = quiet ∙ quiet-next span k bits before;
+    }
