@@ -16,13 +16,6 @@ pub struct Cut {
     pub at: u32,
 }
 
-/// The best hole and the best inflection of a signature.
-#[derive(Clone, Copy)]
-struct Candidates {
-    hole: Option<u32>,
-    inflection: Option<Inflection>,
-}
-
 /// A place where the second difference of a signature changes sign, and by how much it changes there.
 #[derive(Clone, Copy)]
 struct Inflection {
@@ -117,41 +110,56 @@ fn sharper_inflection(s: &[u32], best: Option<Inflection>, next: Inflection) -> 
     }
 }
 
-/// The best so far, after the place i.
-fn considered(s: &[u32], best: Candidates, i: usize) -> Candidates
+/// The best hole so far, after the place i.
+fn hole_after(s: &[u32], best: Option<u32>, i: usize) -> Option<u32>
     requires short { length s.now < 2 ^ 32 }
     requires inside { i < length s.now }
-    ensures hole { result.hole
-        ≡ cond (slice_index s.now i == 0) (Some (challenged (nearer s.now) best.hole i)) best.hole }
-    ensures inflection { result.inflection
-        ≡ cond (is_inflection s.now i) (Some (challenged (is_sharper s.now) best.inflection (inflection_of s.now i))) best.inflection }
+    ensures { result
+        ≡ cond (slice_index s.now i == 0) (Some (challenged (nearer s.now) best i)) best }
 {
-    let hole = if s[i] == 0 {
-        Some(nearer_hole(s, best.hole, i as u32))
+    if s[i] == 0 {
+        Some(nearer_hole(s, best, i as u32))
     } else {
-        best.hole
-    };
-    let inflection = match inflection_at(s, i) {
-        None => best.inflection,
-        Some(next) => Some(sharper_inflection(s, best.inflection, next)),
-    };
-    Candidates { hole, inflection }
+        best
+    }
 }
 
-/// The best hole and the best inflection, in one pass.
-fn best_places(w: u32, s: &[u32]) -> Candidates
-    requires { length s.now < 2 ^ 32 }
-    ensures hole { result.hole ≡ best_hole w s.now }
-    ensures inflection { result.inflection
-        ≡ option_map (inflection_of s.now) (best_inflection w s.now) }
+/// The best inflection so far, after the place i.
+fn inflection_after(s: &[u32], best: Option<Inflection>, i: usize) -> Option<Inflection>
+    requires short { length s.now < 2 ^ 32 }
+    requires inside { i < length s.now }
+    ensures { result
+        ≡ cond (is_inflection s.now i) (Some (challenged (is_sharper s.now) best (inflection_of s.now i))) best }
 {
-    let mut best = Candidates {
-        hole: None,
-        inflection: None,
-    };
+    match inflection_at(s, i) {
+        None => best,
+        Some(next) => Some(sharper_inflection(s, best, next)),
+    }
+}
+
+/// The best hole of a signature.
+fn best_hole(w: u32, s: &[u32]) -> Option<u32>
+    requires { length s.now < 2 ^ 32 }
+    ensures { result ≡ best_hole w s.now }
+{
+    let mut best = None;
     for i in 1..s.len() {
         if is_legal(w, s, i) {
-            best = considered(s, best, i);
+            best = hole_after(s, best, i);
+        }
+    }
+    best
+}
+
+/// The best inflection of a signature.
+fn best_inflection(w: u32, s: &[u32]) -> Option<Inflection>
+    requires { length s.now < 2 ^ 32 }
+    ensures { result ≡ option_map (inflection_of s.now) (best_inflection w s.now) }
+{
+    let mut best = None;
+    for i in 1..s.len() {
+        if is_legal(w, s, i) {
+            best = inflection_after(s, best, i);
         }
     }
     best
@@ -198,15 +206,13 @@ fn cut_in_order(w: u32, first: Axis, s: &[u32], second: Axis, t: &[u32]) -> Opti
     requires second_short { length t.now < 2 ^ 32 }
     ensures { option_map defined_cut result ≡ cut_in_order w first s.now second t.now }
 {
-    let on_first = best_places(w, s);
-    if let Some(at) = on_first.hole {
+    if let Some(at) = best_hole(w, s) {
         return Some(Cut { axis: first, at });
     }
-    let on_second = best_places(w, t);
-    if let Some(at) = on_second.hole {
+    if let Some(at) = best_hole(w, t) {
         return Some(Cut { axis: second, at });
     }
-    let sharper = sharper_cut(first, on_first.inflection, second, on_second.inflection);
+    let sharper = sharper_cut(first, best_inflection(w, s), second, best_inflection(w, t));
     match sharper {
         Some(cut) => Some(cut),
         None => middle(first, w, s),
