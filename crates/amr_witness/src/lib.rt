@@ -14,6 +14,7 @@ pub use advance::slow_step;
 use amr_box::{Bx, Cell};
 use amr_def::Row;
 use std::collections::BTreeMap;
+pub use value::{Masses, columns, in_domain, mass_in, parent, rows, value_at};
 
 /// A level: its boxes, in order, and the masses of their cells.
 #[derive(Drop)]

@@ -75,7 +75,7 @@ fn is_below(z: i32, n: u32) -> bool
 }
 
 #[tactic(auto, unfolding(amr_def::specs::Domain::in_domain))]
-fn in_domain(p: &Problem, level: u32, c: Cell) -> bool
+pub fn in_domain(p: &Problem, level: u32, c: Cell) -> bool
     requires { level ≤ 4 }
     ensures { result ≡ in_domain (domain p.now level) c }
 {
@@ -122,7 +122,7 @@ pub fn mass_in(m: &Masses, c: Cell) -> Option<u64>
     m.get(&c).copied()
 }
 
-fn parent(c: Cell) -> Cell
+pub fn parent(c: Cell) -> Cell
     ensures { result ≡ parent c }
 {
     Cell {
@@ -152,7 +152,7 @@ fn quarters(level: u32) -> u64
 
 /// The value of a cell, the level's own or a ghost cell's.
 #[tactic(auto, unfolding(amr_def::specs::Value::value_at))]
-fn value_at(p: &Problem, level: u32, m: &Masses, old: Option<&Masses>, c: Cell) -> u64
+pub fn value_at(p: &Problem, level: u32, m: &Masses, old: Option<&Masses>, c: Cell) -> u64
     requires known { level ≤ 4 }
     requires near { IsNearby c }
     ensures { result ≡ value_at p.now level (masses_of m.now) (old_of old.entry) c }

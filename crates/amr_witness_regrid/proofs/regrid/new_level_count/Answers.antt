@@ -1,0 +1,6 @@
+use Rattle.std.proofs.Common.{arith}
+use Rattle.amr_witness_regrid.proofs.Regridded.{count_of}
+use Rattle.amr_witness_regrid.proofs.regrid.new_level_count.Goals as goal
+
+pub returns : goal.returns
+returns c = let e = count_of c.args.levels.now in omega (arith, e)

@@ -1,0 +1,13 @@
+use Rattle.std.proofs.Common.{◌≡◌, ◌&&◌, take}
+use Rattle.std.specs.List.{list_any}
+use Rattle.amr_box.specs.declared.Cell.{Cell}
+use Rattle.amr_def.specs.Domain.{domain_box}
+use Rattle.amr_tags.specs.TagSets.{has, same_cell}
+use Rattle.amr_witness.specs.Maps.{masses_of, old_of}
+use Rattle.amr_witness_regrid.specs.Wanted.{blocks_of, is_wanted_block}
+use Rattle.amr_witness_regrid.proofs.wanted.wanted_blocks.Given as goal
+
+abbrev pub invariant-loop-b : goal.invariant-loop-b
+invariant-loop-b l =
+    (l.tags.bx ≡ domain_box (blocks_of l.p l.level))
+    × ((d : Cell) → has l.tags d ≡ list_any (λ c. is_wanted_block l.p l.level (masses_of l.m) (old_of l.coarse) l.finer c && same_cell c d) (take l.b-index l.b-items))

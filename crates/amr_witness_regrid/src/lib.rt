@@ -1,0 +1,12 @@
+//! A regrid of a state as plainly as its definition reads: each cell's tag, each block and each new mass is
+//! worked out by itself, over states as ordered maps. It is there to be compared with, and slow; no program
+//! calls it.
+#![tactic(auto)]
+
+mod cells;
+mod masses;
+mod regrid;
+mod tagged;
+mod wanted;
+
+pub use regrid::slow_regrid;
