@@ -16,5 +16,5 @@ mod update_rows;
 
 pub use crate::fluxes::sweep;
 pub use crate::masses::update;
-pub use crate::order::border_faces;
+pub use crate::order::{border_faces, x_end, y_end};
 pub use crate::share::Share;

@@ -24,8 +24,8 @@ fn push_border(faces: &mut Vec<Face>, patch: &Patch, f: Face) -> Result<(), NoMe
     Ok(())
 }
 
-/// The x face beyond the last cell of a row of a box.
-fn x_end(b: &Bx, j: u32) -> Face
+/// The x face beyond the last cell of row `j` of a box, rows counted from 0.
+pub fn x_end(b: &Bx, j: u32) -> Face
     requires near { IsNear b.now }
     requires inside { j < height b.now }
     ensures { result ≡ x_end b.now j }
@@ -37,8 +37,8 @@ fn x_end(b: &Bx, j: u32) -> Face
     }
 }
 
-/// The y face beyond the last cell of a column of a box.
-fn y_end(b: &Bx, i: u32) -> Face
+/// The y face beyond the last cell of column `i` of a box, columns counted from 0.
+pub fn y_end(b: &Bx, i: u32) -> Face
     requires near { IsNear b.now }
     requires inside { i < width b.now }
     ensures { result ≡ y_end b.now i }

@@ -10,6 +10,7 @@ mod sides;
 mod values;
 
 pub use filling::fill;
+pub use places::home_cell;
 
 #[cfg(test)]
 mod tests;

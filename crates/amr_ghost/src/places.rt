@@ -44,7 +44,7 @@ fn is_inside(n: u32, z: i32) -> bool
 }
 
 /// The cell that a cell stands for: on a periodic axis a coordinate is taken modulo the number of cells.
-pub(crate) fn home_cell(dom: &Dom, c: Cell) -> Cell
+pub fn home_cell(dom: &Dom, c: Cell) -> Cell
     ensures { result ≡ home_cell (domain_of dom.now) c }
 {
     Cell {

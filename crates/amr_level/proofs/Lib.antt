@@ -1,5 +1,5 @@
 mod Lists
-mod Values
+pub mod Values
 mod Boxes
 mod Repeats
 mod Owners

@@ -9,10 +9,11 @@ ghost use Rattle.amr_patch.specs.Orders.{IsOrderOf};
 ghost use Rattle.amr_patch.specs.Pairwise.{Pairwise};
 ghost use Rattle.amr_level.specs.Joints.{HasSources, IsBordersOf, IsSource, is_joint};
 
-use crate::home::{home_cell, x_end, y_end};
 use amr_box::{Bx, Cell, Face};
 use amr_causes::NoMemory;
 use amr_def::{Dom, Problem};
+use amr_flux::{x_end, y_end};
+use amr_ghost::home_cell;
 use amr_patch::{Order, Patch, find};
 use std::alloc::Global;
 

@@ -2,7 +2,6 @@
 #![tactic(auto)]
 
 mod borders;
-mod home;
 mod step;
 mod updates;
 

@@ -1,5 +1,5 @@
 -- The masses of a list of patches: of blank ones, of copies, after a write.
-use Rattle.std.proofs.Common.{◌≡◌, ◌≢◌, ◌∙◌, ℕ, zero, suc, ◌<◌, ◌⊎◌, inl, inr, Bool, true, false, ◌||◌, pos, ◌+ℤ◌, ◌-ℤ◌, List, [], ◌∷◌, ◌++◌, length, cond, refl, sym, ap, arith}
+use Rattle.std.proofs.Common.{◌≡◌, ◌≢◌, ◌∙◌, ℕ, zero, suc, ◌<◌, ◌⊎◌, inl, inr, Bool, true, false, ◌||◌, pos, ◌+ℤ◌, ◌-ℤ◌, List, [], ◌∷◌, ◌++◌, length, map, cond, refl, sym, ap, arith}
 use Rattle.std.specs.Prelude.{slice_index_or, slice_set, is_some}
 use Rattle.std.specs.declared.option.Option.{Option}
 use Rattle.std.specs.declared.option.Option.TheVariants.{None, Some}
@@ -46,6 +46,12 @@ in_blank [] [] c h = refl
 in_blank [] (p ∷ ps) c h = absurd h
 in_blank (b ∷ bs) [] c h = absurd h
 in_blank (b ∷ bs) (p ∷ ps) c h = λ i. holds (h.0.of_box i) c || in_blank bs ps c h.1 i
+
+pub blank_boxes : (bs : List Extent) (ps : List Patch) → Pairwise IsBlank bs ps → map box ps ≡ bs
+blank_boxes [] [] h = refl
+blank_boxes [] (p ∷ ps) h = absurd h
+blank_boxes (b ∷ bs) [] h = absurd h
+blank_boxes (b ∷ bs) (p ∷ ps) h = λ i. h.0.of_box i ∷ blank_boxes bs ps h.1 i
 
 pub blank_masses : (bs : List Extent) (ps : List Patch) (c : Cell) → Pairwise IsBlank bs ps → masses_in ps c ≡ cond (in_boxes bs c) (Some 0) None
 blank_masses [] [] c h = refl

@@ -24,11 +24,12 @@ pub struct Level {
 
 #[tactic(auto, unfolding(crate::specs::Levels::level_of, crate::specs::Levels::patches_of))]
 impl Level {
-    ghost use Rattle.std.specs.Prelude.{◌≢◌, ℕ, ◌<◌, ◌+ℤ◌, pos, cond, None, Some, IsSome, length, slice_index};
+    ghost use Rattle.std.specs.Prelude.{◌≢◌, ℕ, ◌<◌, ◌+ℤ◌, pos, cond, None, Some, IsSome, length, map, slice_index};
+    ghost use Rattle.std.specs.List.Sorted.{IsPermutation};
     ghost use Rattle.amr_box.specs.declared.Cell.{Cell};
     ghost use Rattle.amr_box.specs.Cells.{cell};
     ghost use Rattle.amr_def.specs.State.{in_boxes, no_masses};
-    ghost use Rattle.amr_patch.specs.Patches.{AreApart, AreNear, masses_in};
+    ghost use Rattle.amr_patch.specs.Patches.{AreApart, AreNear, box, masses_in};
     ghost use Rattle.amr_patch.specs.Levels.{level_of, patches_of};
 
     /// The level of these boxes, whose cells the pieces share out, a patch for each; all masses are 0. No cell is in two of
@@ -39,6 +40,7 @@ impl Level {
         requires cells { (c : Cell) → in_boxes pieces.now c ≡ in_boxes boxes.now c }
         ensures boxes { IfOk result (λ l. (level_of l).boxes ≡ boxes.now) }
         ensures masses { IfOk result (λ l. (c : Cell) → (level_of l).masses c ≡ cond (in_boxes boxes.now c) (Some 0) None) }
+        ensures pieces { IfOk result (λ l. IsPermutation pieces.now (map box (patches_of l))) }
     {
         let pieces = in_rows(alloc, pieces)?;
         let patches = blank_patches(alloc, &pieces)?;

@@ -1,13 +1,14 @@
 use Rattle.std.proofs.Common.{◌∙◌, Bool, List, cond, sym, ap, subst}
+use Rattle.std.specs.List.Sorted.{IsPermutation}
 use Rattle.std.specs.declared.option.Option.TheVariants.{None, Some}
 use Rattle.std.proofs.lemmas.List.Sorted.{list_any-IsPermutation}
 use Rattle.amr_box.specs.Cells.{Extent, holds}
 use Rattle.amr_def.specs.State.{in_boxes}
 use Rattle.amr_patch.specs.Pairwise.{Pairwise}
 use Rattle.amr_patch.specs.Patches.{IsBlank}
-use Rattle.amr_patch.specs.Levels.{level_of}
+use Rattle.amr_patch.specs.Levels.{level_of, patches_of}
 use Rattle.amr_patch.proofs.Apart.{apart_in_order}
-use Rattle.amr_patch.proofs.LevelLaws.{blank_apart, blank_masses}
+use Rattle.amr_patch.proofs.LevelLaws.{blank_apart, blank_boxes, blank_masses}
 use Rattle.amr_patch.proofs.levels.Level.make.Goals as goal
 
 pub blank_patches-requires : goal.blank_patches-requires
@@ -28,3 +29,9 @@ returns-clause-masses c =
     let blank = subst (λ (bs : List Extent). Pairwise IsBlank bs c.in_ok-patches.patches.items) c.deref.ensures.value c.in_ok-patches.ensures in
     let cells = sym (list_any-IsPermutation (λ (b : Extent). holds b d) c.args.pieces.now c.in_ok-pieces.pieces.items c.in_ok-pieces.ensures) ∙ c.requires.cells d in
     blank_masses c.in_ok-pieces.pieces.items c.in_ok-patches.patches.items d blank ∙ ap (λ (t : Bool). cond t (Some 0) None) cells
+
+pub returns-clause-pieces : goal.returns-clause-pieces
+unfolding patches_of
+returns-clause-pieces c =
+    let blank = subst (λ (bs : List Extent). Pairwise IsBlank bs c.in_ok-patches.patches.items) c.deref.ensures.value c.in_ok-patches.ensures in
+    subst (λ (bs : List Extent). IsPermutation c.args.pieces.now bs) (sym (blank_boxes c.in_ok-pieces.pieces.items c.in_ok-patches.patches.items blank)) c.in_ok-pieces.ensures
