@@ -2,7 +2,7 @@
 
 ghost use Rattle.std.specs.Prelude.{◌≡◌, ◌<◌, true, false, map, length, slice_get, Some};
 ghost use Rattle.amr_patch.specs.Levels.{level_of};
-ghost use Rattle.amr_patch.specs.Meshes.{is_spent, state_of};
+ghost use Rattle.amr_patch.specs.Meshes.{is_spent, levels_of, state_of};
 
 use crate::levels::Level;
 use amr_def::Row;
@@ -17,11 +17,12 @@ pub struct Mesh {
     spent: bool,
 }
 
-#[tactic(auto, unfolding(crate::specs::Meshes::state_of, crate::specs::Meshes::is_spent))]
+#[tactic(auto, unfolding(crate::specs::Meshes::state_of, crate::specs::Meshes::levels_of, crate::specs::Meshes::is_spent))]
 impl Mesh {
     /// The mesh with this step, these rows and these levels.
     pub fn of(step: u32, rows: Vec<Row>, levels: Vec<Level>) -> Mesh
         ensures state { state_of result ≡ record { step = step; rows = rows.items; levels = map level_of levels.items } }
+        ensures levels { levels_of result ≡ levels.items }
         ensures whole { is_spent result ≡ false }
     {
         Mesh {
@@ -52,7 +53,8 @@ impl Mesh {
     /// The levels, from the coarsest on.
     pub fn levels(&self) -> &[Level]
         requires { is_spent self.now ≡ false }
-        ensures { map level_of result.now ≡ (state_of self.now).levels }
+        ensures all { result.now ≡ levels_of self.now }
+        ensures levels { map level_of result.now ≡ (state_of self.now).levels }
     {
         self.levels.as_slice()
     }
@@ -61,6 +63,7 @@ impl Mesh {
     pub fn take(&mut self) -> (Vec<Row>, Vec<Level>)
         requires { is_spent self.old ≡ false }
         ensures rows { result.0.items ≡ (state_of self.old).rows }
+        ensures all { result.1.items ≡ levels_of self.old }
         ensures levels { map level_of result.1.items ≡ (state_of self.old).levels }
         ensures spent { is_spent self.new ≡ true }
     {
