@@ -41,7 +41,8 @@ fn through_sides(
 
 /// What flowed in a step into the domain and out of it, through its open sides, by the fluxes that the patches of level 0 have.
 ///
-/// The first number is the inflow, the second the outflow. A periodic axis has no flows.
+/// The first number is the inflow, the second the outflow. A periodic axis has no flows. Each is at most 2^41: there are at most
+/// 1024 faces, with fluxes below 2^31.
 #[tactic(none)]
 pub fn inflow_and_outflow(p: &Problem, patches: &[Patch], order: Order) -> (u64, u64)
     requires order { IsOrderOf order patches.now }
@@ -49,6 +50,8 @@ pub fn inflow_and_outflow(p: &Problem, patches: &[Patch], order: Order) -> (u64,
     requires ends { HasEndsShown p.now patches.now }
     ensures inflow { (e : Fluxes) → HasEndFluxes p.now e patches.now → result.0 ≡ inflow p.now e }
     ensures outflow { (e : Fluxes) → HasEndFluxes p.now e patches.now → result.1 ≡ outflow p.now e }
+    ensures inflow_bound { result.0 ≤ 2 ^ 41 }
+    ensures outflow_bound { result.1 ≤ 2 ^ 41 }
 {
     let (x_in, x_out) = through_sides(p.x_sides, patches, order, Axis::X, p.nx, p.ny);
     let (y_in, y_out) = through_sides(p.y_sides, patches, order, Axis::Y, p.ny, p.nx);

@@ -82,3 +82,9 @@ returns-clause-outflow c e h =
     let x : c.through_sides-x_in.result.1 ≡ if_open p.x_sides (x_through p below_zero above_zero e) = c.through_sides-x_in.ensures.outflow e h.x ∙ ap (λ (n : ℕ). if_open p.x_sides n) (x_is p below_zero above_zero e) in
     let y : c.through_sides-y_in.result.1 ≡ if_open p.y_sides (y_through p below_zero above_zero e) = c.through_sides-y_in.ensures.outflow e h.y ∙ ap (λ (n : ℕ). if_open p.y_sides n) (y_is p below_zero above_zero e) in
     λ i. x i + y i
+
+pub returns-clause-inflow_bound : goal.returns-clause-inflow_bound
+returns-clause-inflow_bound c = omega (arith, c.through_sides-x_in.ensures.inflow_bound, c.through_sides-y_in.ensures.inflow_bound)
+
+pub returns-clause-outflow_bound : goal.returns-clause-outflow_bound
+returns-clause-outflow_bound c = omega (arith, c.through_sides-x_in.ensures.outflow_bound, c.through_sides-y_in.ensures.outflow_bound)
