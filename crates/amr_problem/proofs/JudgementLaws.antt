@@ -9,14 +9,14 @@ use Rattle.amr_problem.specs.Entries.{IsReadOf, IsInRange, HasEntries, range_fau
 use Rattle.amr_problem.specs.Judgement.{HasKeys}
 use Rattle.amr_problem.proofs.EntryLaws.{same_ranges}
 
-or_four : {A : Type 0} (a b c d e : Option A) → option_or (option_or (option_or (option_or a b) c) d) e ≡ option_or a (option_or (option_or (option_or b c) d) e)
-or_four None b c d e = refl
-or_four (Some x) b c d e = refl
+or_three : {A : Type 0} (a b c d : Option A) → option_or (option_or (option_or a b) c) d ≡ option_or a (option_or (option_or b c) d)
+or_three None b c d = refl
+or_three (Some x) b c d = refl
 
 -- where the keys are right, the fault is that of the entries
 pub fault_in-entries : (table : Members) (e : Entries) → option_or (unknown_key table) (missing_key table) ≡ None → wrong_kind table ≡ None → IsReadOf table e → fault_in table ≡ entry_fault e
 fault_in-entries table e absent kinds r =
-    rw (absent, kinds, same_ranges table e r, r.courant, r.sides, r.cells, r.blocks) (or_four (range_fault e) _ _ _ _)
+    rw (absent, kinds, same_ranges table e r, r.courant, r.sides, r.cells, r.blocks) (or_three (range_fault e) _ _ _)
 
 -- the sides of both axes
 four_sides : {a b c d : ℤ} {xs ys : List ℤ} → a ∷ b ∷ [] ≡ xs → c ∷ d ∷ [] ≡ ys → a ∷ b ∷ c ∷ d ∷ [] ≡ xs ++ ys

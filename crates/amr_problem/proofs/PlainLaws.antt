@@ -1,10 +1,8 @@
--- The problem of bytes without fault has one level and no walls.
-use Rattle.std.proofs.Common.{◌≡◌, refl, false, ℕ, ◌<◌, length, ◌++◌, ℤ, pos, List, [], ◌∷◌, Option, Some, None, option_map, option_and_then, map, arith, lt-ltb}
+-- The problem of bytes without fault has one level.
+use Rattle.std.proofs.Common.{◌≡◌, refl, ℕ, ◌<◌, length, ℤ, pos, List, [], ◌∷◌, Option, Some, None, option_map, option_and_then, map, arith, lt-ltb}
 use Rattle.std.proofs.lemmas.Int.{ints}
 use Rattle.toml.specs.Data.{Members}
 use Rattle.amr_def.specs.declared.problem.Problem.{Problem}
-use Rattle.amr_def.specs.declared.problem.Sides.{Sides}
-use Rattle.amr_def.specs.declared.problem.Sides.TheVariants.{Periodic, Open}
 use Rattle.amr_problem.specs.declared.fault.ProblemFault.{ProblemFault}
 use Rattle.amr_problem.specs.declared.fault.ProblemFault.TheVariants.{TooLong, OutOfRange}
 use Rattle.amr_problem.specs.declared.key.Key.{Key}
@@ -12,27 +10,19 @@ use Rattle.amr_problem.specs.declared.key.Key.TheVariants as key
 use Rattle.amr_problem.specs.Document.{table_of}
 use Rattle.amr_problem.specs.Keys.{kind_of, range, first_outside}
 use Rattle.amr_problem.specs.Values.{◌>>=◌, numbers_at, rows_at}
-use Rattle.amr_problem.specs.Fields.{sides_numbers}
-use Rattle.amr_problem.specs.Faults.{first_some, too_long, not_toml, unknown_key, missing_key, wrong_kind, outside, out_of_range, courant_over, is_periodic, sides_differ, block_outside, not_built, fault_in}
+use Rattle.amr_problem.specs.Faults.{first_some, too_long, not_toml, unknown_key, missing_key, wrong_kind, outside, out_of_range, courant_over, sides_differ, block_outside, fault_in}
 use Rattle.amr_problem.specs.Judgement.{IsProblemOf, fault_of}
 use Rattle.amr_problem.proofs.FirstSome.{AreNone, fold-none, option_map-none}
 use Rattle.amr_problem.proofs.RangeLaws.{first_outside-none}
 
 pub record HasOneLevel (p : Problem) : Type 0 where
   pub one_level : p.max_level ≡ 0
-  pub x_periodic : p.x_sides ≡ Periodic
-  pub y_periodic : p.y_sides ≡ Periodic
 
--- of a table without fault no number is out of its range, and no side is open
-record IsPlain (table : Members) : Type 0 where
-  in_range : out_of_range table ≡ None
-  built : numbers_at 4 table key.Sides >>= not_built ≡ None
-
-is_plain : (table : Members) → fault_in table ≡ None → IsPlain table
-is_plain table h =
+-- of a table without fault no number is out of its range
+in_range : (table : Members) → fault_in table ≡ None → out_of_range table ≡ None
+in_range table h =
     let blocks : Option ProblemFault = numbers_at 2 table key.Cells >>= (λ cells. rows_at 5 table key.Blocks >>= block_outside cells) in
-    let from_built : List (Option ProblemFault) = (numbers_at 4 table key.Sides >>= not_built) ∷ [] in
-    let from_blocks : List (Option ProblemFault) = blocks ∷ from_built in
+    let from_blocks : List (Option ProblemFault) = blocks ∷ [] in
     let from_sides : List (Option ProblemFault) = (numbers_at 4 table key.Sides >>= sides_differ) ∷ from_blocks in
     let from_courant : List (Option ProblemFault) = (numbers_at 3 table key.Courant >>= courant_over) ∷ from_sides in
     let from_range : List (Option ProblemFault) = out_of_range table ∷ from_courant in
@@ -40,11 +30,7 @@ is_plain table h =
     let unknown = fold-none (unknown_key table) (missing_key table ∷ from_kind) h in
     let missing = fold-none (missing_key table) from_kind unknown.second in
     let kinds = fold-none (wrong_kind table) from_range missing.second in
-    let ranges = fold-none (out_of_range table) from_courant kinds.second in
-    let courant = fold-none (numbers_at 3 table key.Courant >>= courant_over) from_sides ranges.second in
-    let sides = fold-none (numbers_at 4 table key.Sides >>= sides_differ) from_blocks courant.second in
-    let inside = fold-none blocks from_built sides.second in
-    record { in_range = ranges.first; built = (fold-none (numbers_at 4 table key.Sides >>= not_built) [] inside.second).first }
+    (fold-none (out_of_range table) from_courant kinds.second).first
 
 -- nor the number at a key
 abbrev key_fault : Members → Key → Option ProblemFault
@@ -69,20 +55,9 @@ level_inside table h =
     let sides = first_key table key.Sides from_max_level courant.second in
     option_map-none _ _ (first_key table key.MaxLevel from_grid sides.second).first
 
--- what stands at a key passes its test
-passes : {A : Type 0} (found : Option A) (x : A) (test : A → Option ProblemFault) → found ≡ Some x → option_and_then test found ≡ None → test x ≡ None
-passes found x test is h = rw is at h
-
+-- a number that stands at a key passes its test
 inside_at : (found : Option ℤ) (z : ℤ) (test : ℤ → Option ℤ) → found ≡ Some z → option_and_then test found ≡ None → test z ≡ None
 inside_at found z test is h = rw is at h
-
-inflow_open : (n : ℕ) → is_periodic (pos n) ≡ false
-inflow_open n = grind (arith, ints)
-
-both_periodic : (x y : Sides) → not_built (sides_numbers x ++ sides_numbers y) ≡ None → (x ≡ Periodic) × (y ≡ Periodic)
-both_periodic Periodic Periodic h = (refl, refl)
-both_periodic Periodic (Open low high) h = absurd (let e = rw (inflow_open low) at h in cc)
-both_periodic (Open low high) y h = absurd (let e = rw (inflow_open low) at h in cc)
 
 level_0 : (n : ℕ) → first_outside (range (pos 0) (pos 0) ∷ []) (pos n ∷ []) ≡ None → n ≡ 0
 level_0 n h = let here = (first_outside-none (range (pos 0) (pos 0)) [] (pos n) [] h).here.greatest in omega (arith, ints)
@@ -94,13 +69,7 @@ has_one_level bytes p is =
     let long = fold-none (too_long bytes) (not_toml bytes ∷ fault_in table ∷ []) is.clean in
     let toml = fold-none (not_toml bytes) (fault_in table ∷ []) long.second in
     let fault = fold-none (fault_in table) [] toml.second in
-    let plain = is_plain table fault.first in
-    let sides = both_periodic p.x_sides p.y_sides (passes _ _ not_built is.keys.sides plain.built) in
-    record {
-      one_level = level_0 p.max_level (inside_at _ _ (λ z. first_outside (range (pos 0) (pos 0) ∷ []) (z ∷ [])) is.keys.max_level (level_inside table plain.in_range));
-      x_periodic = sides.0;
-      y_periodic = sides.1;
-    }
+    record { one_level = level_0 p.max_level (inside_at _ _ (λ z. first_outside (range (pos 0) (pos 0) ∷ []) (z ∷ [])) is.keys.max_level (level_inside table (in_range table fault.first))) }
 
 -- more bytes than a problem has are none
 pub too_many_bytes : (bytes : List ℕ) → 65536 < length bytes → fault_of bytes ≡ Some TooLong

@@ -14,7 +14,7 @@ use Rattle.amr_def.specs.declared.problem.Sides as axis
 use Rattle.amr_def.specs.Limits.{is_name_byte}
 use Rattle.amr_problem.specs.Keys.{range, ranges_of, first_outside, is_even}
 use Rattle.amr_problem.specs.Fields.{sides_numbers, block_numbers, HasDefaults}
-use Rattle.amr_problem.specs.Faults.{courant_over, is_periodic, sides_differ, block_outside, not_built, first_some, text_outside, rows_outside}
+use Rattle.amr_problem.specs.Faults.{courant_over, is_periodic, sides_differ, block_outside, first_some, text_outside, rows_outside}
 use Rattle.amr_problem.specs.Values.{number_at, text_at, numbers_at, rows_at}
 
 -- the entries are those of the table
@@ -53,7 +53,6 @@ in_range_fault e = first_some
     (courant_over (e.cx ∷ e.cy ∷ e.d ∷ [])
     ∷ sides_differ (e.x_low ∷ e.x_high ∷ e.y_low ∷ e.y_high ∷ [])
     ∷ block_outside (e.nx ∷ e.ny ∷ []) e.blocks.items
-    ∷ not_built (e.x_low ∷ e.x_high ∷ e.y_low ∷ e.y_high ∷ [])
     ∷ [])
 
 -- the first fault from the ranges on

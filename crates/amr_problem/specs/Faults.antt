@@ -1,12 +1,12 @@
 -- The faults of a problem, in the order in which they are looked for. (profile)
 use Rattle.std.specs.Prelude.{ℕ, ◌+◌, ℤ, pos, Bool, ◌&&◌, not, nat_lt, int_le, int_lt, unsigned_abs, List, [], ◌∷◌, length, map, find, fold, true, position, Option, Some, None, option_map, is_some, if◌then◌else◌}
-use Rattle.std.specs.List.{list_all, list_any}
+use Rattle.std.specs.List.{list_all}
 use Rattle.std.specs.Option.{option_or}
 use Rattle.amr_box.specs.declared.Axis.TheVariants.{X, Y}
 use Rattle.amr_def.specs.Limits.{is_name_byte}
 use Rattle.toml.specs.Data.{Members, no_members, member}
 use Rattle.amr_problem.specs.declared.fault.ProblemFault.{ProblemFault}
-use Rattle.amr_problem.specs.declared.fault.ProblemFault.TheVariants.{TooLong, NotToml, UnknownKey, Missing, WrongKind, OutOfRange, SidesDiffer, BlockOutside, NotBuilt}
+use Rattle.amr_problem.specs.declared.fault.ProblemFault.TheVariants.{TooLong, NotToml, UnknownKey, Missing, WrongKind, OutOfRange, SidesDiffer, BlockOutside}
 use Rattle.amr_problem.specs.declared.fault.ProblemFault.TheVariants as fault
 use Rattle.amr_problem.specs.declared.key.Key.{Key}
 use Rattle.amr_problem.specs.declared.key.Key.TheVariants.{Cells, Courant, Sides, Blocks}
@@ -101,10 +101,6 @@ is_inside _ _ = true
 abbrev pub block_outside : List ℤ → List (List ℤ) → Option ProblemFault
 block_outside cells blocks = option_map BlockOutside (position (λ block. not (is_inside cells block)) blocks)
 
--- last, until open sides are built: a side is open
-abbrev pub not_built : List ℤ → Option ProblemFault
-not_built sides = if list_any (λ side. not (is_periodic side)) sides then Some NotBuilt else None
-
 -- ---- the first of them
 
 -- of a table
@@ -117,7 +113,6 @@ fault_in table = first_some
     ∷ (numbers_at 3 table Courant >>= courant_over)
     ∷ (numbers_at 4 table Sides >>= sides_differ)
     ∷ (numbers_at 2 table Cells >>= (λ cells. rows_at 5 table Blocks >>= block_outside cells))
-    ∷ (numbers_at 4 table Sides >>= not_built)
     ∷ [])
 
 -- of bytes

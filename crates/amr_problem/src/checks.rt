@@ -1,7 +1,7 @@
 //! What entries within their ranges must fulfil together.
 
 ghost use Rattle.std.specs.Prelude.{◌≡◌, ◌≤◌, [], ◌∷◌, length, not, position, unsigned_abs, option_map};
-ghost use Rattle.amr_problem.specs.Faults.{courant_over, is_periodic, differ, sides_differ, block_outside, is_inside, not_built};
+ghost use Rattle.amr_problem.specs.Faults.{courant_over, is_periodic, differ, sides_differ, block_outside, is_inside};
 
 use crate::fault::ProblemFault;
 use amr_box::Axis;
@@ -72,19 +72,4 @@ fn is_inside(nx: i64, ny: i64, block: &[i64; 5]) -> bool
 {
     let [x0, y0, x1, y1, _] = *block;
     x0 <= x1 && x1 < nx && y0 <= y1 && y1 < ny
-}
-
-/// Whether a side is open, which can't be run yet.
-pub fn not_built(x_low: i64, x_high: i64, y_low: i64, y_high: i64) -> Option<ProblemFault>
-    ensures { result ≡ not_built (x_low ∷ x_high ∷ y_low ∷ y_high ∷ []) }
-{
-    let periodic = is_periodic(x_low)
-        && is_periodic(x_high)
-        && is_periodic(y_low)
-        && is_periodic(y_high);
-    if periodic {
-        None
-    } else {
-        Some(ProblemFault::NotBuilt)
-    }
 }

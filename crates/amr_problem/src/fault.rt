@@ -26,8 +26,6 @@ pub enum ProblemFault {
     SidesDiffer(Axis),
     /// The block with this index, counted from 0, has its corners out of order, or lies outside of the cells.
     BlockOutside(u32),
-    /// There is no other fault, and a side is open.
-    NotBuilt,
 }
 
 /// Why `judge` gives no problem.

@@ -7,7 +7,7 @@ ghost use Rattle.amr_problem.specs.Faults.{unknown_key, missing_key, fault_in};
 ghost use Rattle.amr_problem.specs.Entries.{entry_fault, in_range_fault, IsInRange, IsClean, HasEntries};
 ghost use Rattle.amr_problem.specs.Judgement.{fault_of, HasKeys, IsProblemOf};
 
-use crate::checks::{block_outside, courant_over, not_built, sides_differ};
+use crate::checks::{block_outside, courant_over, sides_differ};
 use crate::document::{missing_key, read, unknown_key};
 use crate::entries::Entries;
 use crate::fault::{JudgeFault, ProblemFault};
@@ -85,5 +85,4 @@ fn in_range_fault(entries: &Entries) -> Option<ProblemFault>
     courant_over(entries.cx, entries.cy, entries.d)
         .or(sides_differ(entries.x_low, entries.x_high, entries.y_low, entries.y_high))
         .or(block_outside(entries.nx, entries.ny, entries.blocks.as_slice()))
-        .or(not_built(entries.x_low, entries.x_high, entries.y_low, entries.y_high))
 }

@@ -18,7 +18,7 @@ use Rattle.amr_problem.specs.declared.fault.JudgeFault.TheVariants as judging
 use Rattle.amr_problem.specs.declared.fault.ProblemFault.{ProblemFault}
 use Rattle.amr_problem.specs.Judgement.{fault_of, IsProblemOf}
 use Rattle.amr_problem.proofs.PlainLaws.{too_many_bytes, has_one_level}
-use Rattle.amr_single.specs.Plain.{IsPlain}
+use Rattle.amr_start.specs.OneLevel.{HasOneLevel}
 use Rattle.amr_cli.specs.declared.command.Command.{Command}
 use Rattle.amr_run.specs.Answer.{IsAnswer, IsLineOfProblem, IsPlotOfRun}
 use Rattle.amr_run.specs.Outcome.{Outcome, Replies, status_of}
@@ -102,11 +102,9 @@ is_plot_of_run bytes p first last accepted starts ends sound =
 pub is_line_of_problem : (bytes : List ℕ) (p : Problem) → IsProblemOf bytes p → IsLineOfProblem bytes (problem_line p)
 is_line_of_problem bytes p accepted = record { problem = p; accepted = accepted; text = refl }
 
--- what the bytes of a source are is plain
-pub is_plain : (bytes : List ℕ) (p : Problem) → IsProblemOf bytes p → IsPlain p
-is_plain bytes p is =
-    let one = has_one_level bytes p is in
-    record { one_level = one.one_level; x_periodic = one.x_periodic; y_periodic = one.y_periodic; x_uniform = is.keys.absent.shear_x; y_uniform = is.keys.absent.shear_y }
+-- the problem that bytes are has level 0 alone
+pub one_level : (bytes : List ℕ) (p : Problem) → IsProblemOf bytes p → HasOneLevel p
+one_level bytes p is = record { one_level = (has_one_level bytes p is).one_level }
 
 -- ---- the line on the stream of errors
 

@@ -46,7 +46,6 @@ fault_text (problem.OutOfRange key value) = spaced (codes "problem: out of range
 fault_text (problem.Courant sum d) = spaced (codes "problem: courant" ∷ signed_decimal sum ∷ codes "over" ∷ signed_decimal d ∷ [])
 fault_text (problem.SidesDiffer axis) = spaced (codes "problem: sides differ" ∷ axis_text axis ∷ [])
 fault_text (problem.BlockOutside index) = spaced (codes "problem: block" ∷ decimal index ∷ codes "outside" ∷ [])
-fault_text problem.NotBuilt = codes "problem: not built"
 
 -- the line of a refusal
 abbrev pub refusal : List ℕ → List ℕ

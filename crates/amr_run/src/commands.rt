@@ -12,8 +12,10 @@ use crate::Status;
 use crate::line::put_line;
 use amr_def::Problem;
 use amr_io::{Piece, Sink, Source, WriteFault, read_all};
+use amr_plot::plot;
 use amr_problem::judge;
-use amr_single::{plot, run_to, start};
+use amr_runs::run_to;
+use amr_start::start;
 use std::alloc::Global;
 
 /// The most bytes that a problem has.
@@ -29,9 +31,9 @@ pub(crate) fn run<S: Source, O: Sink>(alloc: Global, src: &mut S, out: &mut O) -
     ensures write_fault { result ≡ Err Status.WriteFault → Rose (O.faults out.old) (O.faults out.new) }
 {
     let problem = read_problem(alloc, src)?;
-    let mut grid = start(alloc, &problem)?;
-    run_to(&problem, &mut grid, problem.steps)?;
-    plot(&problem, &grid, out)?;
+    let mut mesh = start(alloc, &problem)?;
+    run_to(alloc, &problem, &mut mesh, problem.steps)?;
+    plot(&problem, &mesh, out)?;
     Ok(())
 }
 

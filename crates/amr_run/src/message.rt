@@ -75,7 +75,6 @@ fn put_fault<E: Sink>(err: &mut E, fault: &ProblemFault) -> Result<(), WriteFaul
                 Piece::Str(" outside"),
             ],
         ),
-        ProblemFault::NotBuilt => put_line(err, &[Piece::Str("amr: problem: not built")]),
     }
 }
 

@@ -15,7 +15,7 @@ pub enum Status {
     Usage,
     /// The source failed.
     ReadFault,
-    /// The bytes of the source are no problem, or none that can be run.
+    /// The bytes of the source are no problem.
     Problem(ProblemFault),
     /// The sink of the answer failed.
     WriteFault,

@@ -31,6 +31,47 @@ box 0 0 3 1
 end
 ";
 
+// A block of mass 5 that leaves through an open side.
+const OUTFLOW_PLOT: &str = "amr-plot 1
+name ring
+step 1
+ledger 0 5 0 0
+ledger 1 0 0 5
+level 0 1
+box 0 0 1 1
+0 0
+0 0
+end
+";
+
+// Half of the mass beyond the low end of each row flows in.
+const INFLOW_PLOT: &str = "amr-plot 1
+name ring
+step 1
+ledger 0 0 0 0
+ledger 1 6 6 0
+level 0 1
+box 0 0 1 1
+3 0
+3 0
+end
+";
+
+// A block of mass 8 that moves a cell a step, past the end of the axis.
+const NINE_COLUMNS_PLOT: &str = "amr-plot 1
+name ring
+step 2
+ledger 0 8 0 0
+ledger 1 8 0 0
+ledger 2 8 0 0
+level 0 1
+box 0 0 8 2
+0 8 0 0 0 0 0 0 0
+0 0 0 0 0 0 0 0 0
+0 0 0 0 0 0 0 0 0
+end
+";
+
 const USAGE: &str =
     "amr: usage: run [--workers W] [--to K] [--keep E] | check | show | trial NUMBER SIZE [--workers W]\n";
 
@@ -145,6 +186,59 @@ fn ring_of_one_worker_and_its_line(rt: HostRuntime) {
 }
 
 #[test]
+fn flows_through_open_sides(rt: HostRuntime) -> Result<(), Fail> {
+    let alloc = rt.alloc();
+    let outflow = ring_with(
+        alloc,
+        &[
+            ("cells", "cells = [2, 2]"),
+            ("courant", "courant = [2, 0, 2]"),
+            ("sides", "sides = [0, 0, 0, 0]"),
+            ("blocks", "blocks = [[1, 0, 1, 0, 5]]"),
+        ],
+    )?;
+    Case::run(outflow.as_bytes()).ends(&rt, 0, OUTFLOW_PLOT, "");
+    Case::of("check", outflow.as_bytes()).ends(&rt, 0, "ok 2 2 1 0\n", "");
+    let inflow = ring_with(
+        alloc,
+        &[
+            ("cells", "cells = [2, 2]"),
+            ("sides", "sides = [6, 0, 0, 0]"),
+            ("blocks", "blocks = []"),
+        ],
+    )?;
+    Case::run(inflow.as_bytes()).ends(&rt, 0, INFLOW_PLOT, "");
+    Ok(())
+}
+
+// Nine columns in three patches, and in one: the patches leave no trace in the plot.
+#[test]
+fn nine_columns_in_three_patches_and_in_one(rt: HostRuntime) -> Result<(), Fail> {
+    let alloc = rt.alloc();
+    let three = ring_with(
+        alloc,
+        &[
+            ("cells", "cells = [9, 3]"),
+            ("courant", "courant = [1, 0, 1]"),
+            ("steps", "steps = 2\nmax_grid_size = 4"),
+            ("blocks", "blocks = [[8, 0, 8, 0, 8]]"),
+        ],
+    )?;
+    Case::run(three.as_bytes()).ends(&rt, 0, NINE_COLUMNS_PLOT, "");
+    let one = ring_with(
+        alloc,
+        &[
+            ("cells", "cells = [9, 3]"),
+            ("courant", "courant = [1, 0, 1]"),
+            ("steps", "steps = 2\nmax_grid_size = 32"),
+            ("blocks", "blocks = [[8, 0, 8, 0, 8]]"),
+        ],
+    )?;
+    Case::run(one.as_bytes()).ends(&rt, 0, NINE_COLUMNS_PLOT, "");
+    Ok(())
+}
+
+#[test]
 fn words_that_are_no_command(rt: HostRuntime) {
     for words in [
         "",
@@ -207,7 +301,6 @@ courant|courant = [3, 2, 4]|courant 5 over 4
 courant|courant = [-1024, 0, 1023]|courant 1024 over 1023
 sides|sides = [-1, 0, -1, -1]|sides differ x
 sides|sides = [-1, -1, 0, -1]|sides differ y
-sides|sides = [0, 0, 0, 0]|not built
 blocks|blocks = [[0, 0, 4, 0, 8]]|block 0 outside
 blocks|blocks = [[0, 0, 0, 0, 8], [1, 0, 0, 0, 8]]|block 1 outside
 steps|steps = 1;zebra = 1;alpha = 1|unknown key alpha

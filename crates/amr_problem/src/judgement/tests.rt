@@ -2,6 +2,7 @@
 
 use super::{MOST_BYTES, judge};
 use crate::fault::JudgeFault;
+use amr_def::Sides;
 use std::alloc::{Alloc, Global};
 use std::test::Fail;
 
@@ -66,9 +67,9 @@ courant = [1, 1, 4] => courant = [0, 0, 1025] => OutOfRange(Courant, 1025)
 sides = [-1, -1, -1, -1] => sides = [-2, -1, -1, -1] => OutOfRange(Sides, -2)
 sides = [-1, -1, -1, -1] => sides = [-1, -1, -1, -2] => OutOfRange(Sides, -2)
 sides = [-1, -1, -1, -1] => sides = [0, 1073741825, -1, -1] => OutOfRange(Sides, 1073741825)
-sides = [-1, -1, -1, -1] => sides = [0, 1073741824, -1, -1] => NotBuilt
-sides = [-1, -1, -1, -1] => sides = [-1, -1, 1073741824, 0] => NotBuilt
-sides = [-1, -1, -1, -1] => sides = [0, 0, 0, 0] => NotBuilt
+sides = [-1, -1, -1, -1] => sides = [0, 1073741824, -1, -1] => accepted
+sides = [-1, -1, -1, -1] => sides = [-1, -1, 1073741824, 0] => accepted
+sides = [-1, -1, -1, -1] => sides = [0, 0, 0, 0] => accepted
 max_level = 0 => max_level = -1 => OutOfRange(MaxLevel, -1)
 max_level = 0 => max_level = 1 => OutOfRange(MaxLevel, 1)
 max_level = 0 => max_level = 0/max_grid_size = 3 => OutOfRange(MaxGridSize, 3)
@@ -81,6 +82,7 @@ max_level = 0 => max_level = 0/max_grid_size = 258 => OutOfRange(MaxGridSize, 25
 blocks = [[0, 0, 0, 0, 8]] => blocks = [[-1, 0, 0, 0, 8]] => OutOfRange(Blocks, -1)
 blocks = [[0, 0, 0, 0, 8]] => blocks = [[0, 0, 0, 256, 8]] => OutOfRange(Blocks, 256)
 blocks = [[0, 0, 0, 0, 8]] => blocks = [[0, 0, 0, 0, -1]] => OutOfRange(Blocks, -1)
+blocks = [[0, 0, 0, 0, 8]] => blocks = [[0, 0, 0, 0, 0]] => accepted
 blocks = [[0, 0, 0, 0, 8]] => blocks = [[0, 0, 0, 0, 1073741824]] => accepted
 blocks = [[0, 0, 0, 0, 8]] => blocks = [[0, 0, 0, 0, 1073741825]] => OutOfRange(Blocks, 1073741825)
 courant = [1, 1, 4] => courant = [3, 2, 4] => Courant(5, 4)
@@ -161,6 +163,23 @@ fn the_ring_has_its_fields(rt: HostRuntime) {
     assert!(rt; ring.x_sides.is_periodic() && ring.y_sides.is_periodic());
     assert_eq!(rt; (ring.max_level, ring.max_grid_size), (0, 32));
     assert_eq!(rt; ring.blocks.entries().len(), 1);
+}
+
+#[test]
+fn open_sides_stand_with_their_inflows(rt: HostRuntime) -> Result<(), Fail> {
+    let alloc = rt.alloc();
+    let (before, after) = RING
+        .split_once("-1, -1, -1, -1")
+        .expect(&rt, "a part of the text");
+    let text = format!(in alloc; "{before}0, 1073741824, -1, -1{after}")?;
+    let x_open = judge(alloc, text.as_bytes()).expect(&rt, "open along x");
+    assert_eq!(rt; x_open.x_sides, Sides::Open(0, 1_073_741_824));
+    assert_eq!(rt; x_open.y_sides, Sides::Periodic);
+    let text = format!(in alloc; "{before}6, 0, 1, 2{after}")?;
+    let both_open = judge(alloc, text.as_bytes()).expect(&rt, "open along both axes");
+    assert_eq!(rt; both_open.x_sides, Sides::Open(6, 0));
+    assert_eq!(rt; both_open.y_sides, Sides::Open(1, 2));
+    Ok(())
 }
 
 #[test]

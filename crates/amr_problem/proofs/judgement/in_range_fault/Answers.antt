@@ -12,13 +12,11 @@ pub returns : goal.returns
 returns c =
     let e = c.args.entries.now in
     rw (
-      c.or-3.ensures,
       c.or-2.ensures,
       c.or.ensures,
       c.courant_over.ensures,
       c.sides_differ.ensures,
       c.block_outside.ensures,
-      c.not_built.ensures,
       c.as_slice.ensures.value,
       to_z-of_z w64 e.cx (search rules),
       to_z-of_z w64 e.cy (search rules),

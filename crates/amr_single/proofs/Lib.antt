@@ -1,9 +1,0 @@
-pub mod Fluxes
-pub mod Masses
-pub mod Advances
-pub mod States
-pub mod Finishes
-pub mod Filling
-pub mod Putting
-pub mod Lines
-pub mod Plots

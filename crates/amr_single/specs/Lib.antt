@@ -1,4 +1,0 @@
-pub mod Plain
-pub mod Rows
-pub mod Grids
-pub mod Puts
