@@ -78,7 +78,7 @@ sum_to-same_below : (f g : ℕ → ℕ) (n : ℕ) → ((k : ℕ) → k < n → f
 sum_to-same_below f g zero h = refl
 sum_to-same_below f g (suc n) h = omega (arith, sum_to-same_below f g n (λ k below. h k (omega arith)), h n (omega arith))
 
-whole_box : (p : Problem) → domain_box (domain p 0) ≡ box_of p.nx p.ny
+pub whole_box : (p : Problem) → domain_box (domain p 0) ≡ box_of p.nx p.ny
 whole_box p = λ i. box_of (columns_0 p i) (rows_0 p i)
 
 module _ (p : Problem) (one : HasOneLevel p) (ms : List ℕ) (has : HasBlocks p ms) where

@@ -1,3 +1,4 @@
 pub mod Filling
 pub mod Bases
 pub mod Placing
+pub mod Chops

@@ -1,5 +1,5 @@
 -- Cells of a patch in the list of all masses, and patches that have them.
-use Rattle.std.proofs.Common.{◌≡◌, ◌≢◌, ℕ, zero, suc, ◌+◌, ◌*◌, ◌<◌, ◌≤◌, Bool, true, false, cond, ◌&&◌, ◌||◌, ℤ, pos, negsuc, ◌+ℤ◌, ◌-ℤ◌, ◌≤ℤ◌, ◌<ℤ◌, List, [], ◌∷◌, length, set, get_or, get_or-set_same, get_or-set_other, below_more, IsTrue, refl, sym, ap, subst, ◌∙◌, arith}
+use Rattle.std.proofs.Common.{◌≡◌, ◌≢◌, ℕ, zero, suc, ◌+◌, ◌*◌, ◌<◌, ◌≤◌, Bool, true, false, cond, ◌&&◌, ◌||◌, ℤ, pos, negsuc, ◌+ℤ◌, ◌-ℤ◌, ◌≤ℤ◌, ◌<ℤ◌, List, [], ◌∷◌, length, map, set, get_or, get_or-set_same, get_or-set_other, below_more, IsTrue, refl, sym, ap, subst, ◌∙◌, arith}
 use Rattle.std.specs.Prelude.{int_lt, is_some, slice_index, unsigned_abs}
 use Rattle.std.specs.List.{All, AllZip}
 use Rattle.std.specs.declared.option.Option.{Option}
@@ -142,6 +142,12 @@ zip_box ps qs i d e h t = (AllZip-get_or HasBoxOf ps qs i d e h t).of_box
 
 pub zip_length : (ps qs : List Patch) → AllZip HasBoxOf ps qs → length ps ≡ length qs
 zip_length ps qs h = length_all_zip HasBoxOf ps qs h
+
+pub zip_boxes : (ps qs : List Patch) → AllZip HasBoxOf ps qs → map box qs ≡ map box ps
+zip_boxes [] [] h = refl
+zip_boxes [] (q ∷ qs) h = absurd h
+zip_boxes (p ∷ ps) [] h = absurd h
+zip_boxes (p ∷ ps) (q ∷ qs) h = λ i. h.0.of_box i ∷ zip_boxes ps qs h.1 i
 
 pub zip_apart : (ps qs : List Patch) → AllZip HasBoxOf ps qs → ArePatchesApart ps → ArePatchesApart qs
 zip_apart ps qs h apart = λ i j d below there c a b.

@@ -4,8 +4,9 @@ ghost use Rattle.std.specs.Prelude.{◌≡◌, ◌*◌, ◌≤◌, ◌∷◌, []
 ghost use Rattle.amr_def.specs.Facts.{IsSound};
 ghost use Rattle.amr_def.specs.Run.{start};
 ghost use Rattle.amr_patch.specs.Levels.{level_of};
-ghost use Rattle.amr_patch.specs.Meshes.{is_spent, state_of};
+ghost use Rattle.amr_patch.specs.Meshes.{is_spent, levels_of, state_of};
 ghost use Rattle.amr_start.specs.OneLevel.{HasOneLevel};
+ghost use Rattle.amr_start.specs.Pieces.{HasChoppedDomain, IsChopped};
 ghost use Rattle.amr_start.specs.Rows.{box_of, masses_on};
 
 use crate::blocks::{start_masses, total_mass};
@@ -32,6 +33,7 @@ fn level_with(
     requires count { length masses.now ≡ rows * columns }
     ensures boxes { IfOk result (λ l. (level_of l).boxes ≡ box_of columns rows ∷ []) }
     ensures masses { IfOk result (λ l. (level_of l).masses ≡ masses_on columns rows masses.now) }
+    ensures pieces { IfOk result (IsChopped max (box_of columns rows)) }
 {
     let mut level = blank_level(alloc, whole_box(columns, rows), max)?;
     let mut patches = level.take_patches();
@@ -48,6 +50,7 @@ pub fn start(alloc: Global, p: &Problem) -> Result<Mesh, NoMemory>
     ensures value { IfOk result (λ m. state_of m ≡ start p.now) }
     ensures sound { IfOk result (λ m. IsSound p.now (state_of m)) }
     ensures at_start { IfOk result (λ m. (state_of m).step ≡ 0) }
+    ensures pieces { IfOk result (λ m. HasChoppedDomain p.now (levels_of m)) }
     ensures whole { IfOk result (λ m. is_spent m ≡ false) }
 {
     let masses = start_masses(alloc, p)?;

@@ -1,8 +1,13 @@
-use Rattle.std.proofs.Common.{◌≡◌, ◌∙◌, ◌&&◌, ◌++◌, ◌∷◌, [], List, Bool, cond, ap, sym, subst, rules, refl}
+use Rattle.std.proofs.Common.{◌≡◌, ◌∙◌, ◌&&◌, ◌++◌, ◌∷◌, [], List, Bool, cond, map, ap, sym, subst, rules, refl}
+use Rattle.std.specs.List.{flat_map}
+use Rattle.std.specs.List.Sorted.{IsPermutation}
+use Rattle.std.proofs.lemmas.List.{append-nil}
 use Rattle.std.specs.declared.option.Option.TheVariants.{None, Some}
 use Rattle.amr_box.specs.Cells.{Extent, holds}
+use Rattle.amr_boxlist.specs.Chopped.{chopped}
 use Rattle.amr_boxlist.specs.Lists.{AreApart, holders, in_boxes}
-use Rattle.amr_patch.specs.Patches.{AreNear}
+use Rattle.amr_patch.specs.Levels.{patches_of}
+use Rattle.amr_patch.specs.Patches.{AreNear, box}
 use Rattle.amr_patch.proofs.Apart.{apart_from_counts}
 use Rattle.amr_start.proofs.Placing.{in_one_box, near_alone}
 use Rattle.amr_start.proofs.pieces.blank_level.Goals as goal
@@ -37,3 +42,10 @@ returns-clause-masses c d =
     let items : c.in_ok-boxes.boxes.items ≡ c.args.whole ∷ [] = search rules in
     c.in_ok-level.ensures.masses d
     ∙ ap (λ (t : Bool). cond t (Some 0) None) (ap (λ (l : List Extent). in_boxes l d) (c.deref.ensures.value ∙ items) ∙ in_one_box c.args.whole d)
+
+pub returns-clause-pieces : goal.returns-clause-pieces
+returns-clause-pieces c =
+    let max = c.args.max in
+    let alone : c.push_disjoint.new.self ≡ c.args.whole ∷ [] = c.in_ok-push_disjoint.ensures.ok ∙ ap (λ (l : List Extent). l ++ c.args.whole ∷ []) c.make-pieces.ensures in
+    let list : c.list.result.now ≡ chopped max c.args.whole = c.list.ensures.boxes ∙ c.in_ok-chop.ensures.pieces ∙ ap (flat_map (chopped max)) alone ∙ append-nil (chopped max c.args.whole) in
+    record { pieces = subst (λ (l : List Extent). IsPermutation l (map box (patches_of c.in_ok-level.level))) list c.in_ok-level.ensures.pieces }
