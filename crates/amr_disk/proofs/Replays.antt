@@ -1,5 +1,5 @@
 -- The log taken again, from its first step on.
-use Rattle.std.proofs.Common.{◌≡◌, ◌∙◌, sym, ap, ◌+◌, ◌-◌, ◌≤◌, ◌<◌, ℕ, max, List, [], ◌∷◌, take, drop, length, get_or, Vec, Global, vec_len, vec_capacity, arith}
+use Rattle.std.proofs.Common.{◌≡◌, ◌∙◌, sym, ◌+◌, ◌≤◌, ℕ, List, [], take, drop, length, Vec, Global, vec_len, vec_capacity, arith}
 use Rattle.std.proofs.Common.{refl, subst, replicate}
 use Rattle.std.proofs.lemmas.List.{take_all, drop_all, length-replicate}
 use Rattle.amr_disk.specs.Calls.{Call, left_after, Leaves, LeavesAt}
@@ -8,7 +8,6 @@ use Rattle.amr_disk.specs.Replay.{torn_same, torn_written, torn_placed, left_is_
 use Rattle.amr_disk.specs.declared.leave.Leave.TheVariants.{Old, New, Filled}
 use Rattle.amr_disk.specs.declared.leave.Leave.{Leave}
 use Rattle.amr_disk.specs.declared.memory.MemDisk.{MemDisk}
-use Rattle.amr_disk.specs.declared.step.Step.{Step}
 use Rattle.amr_disk.specs.Left.{part_of}
 use Rattle.amr_disk.specs.Log.{calls_of, size_of, reach_of}
 use Rattle.amr_disk.specs.Memory.{made_of, calls_in}

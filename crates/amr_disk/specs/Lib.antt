@@ -6,3 +6,4 @@ pub mod Replay
 pub mod Limits
 pub mod Left
 pub mod Memory
+pub mod Faults

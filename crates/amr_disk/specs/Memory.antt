@@ -1,5 +1,5 @@
 -- What a disk in memory shows.
-use Rattle.std.specs.Prelude.{ℕ, List, length, Option, Some}
+use Rattle.std.specs.Prelude.{ℕ, ◌+◌, ◌&&◌, nat_le, nat_lt, Bool, List, length, Option, Some, vec_len}
 use Rattle.amr_disk.specs.Calls.{Call, LeavesAt}
 use Rattle.amr_disk.specs.Limits.{Limits}
 use Rattle.amr_disk.specs.Log.{calls_of}
@@ -19,6 +19,10 @@ made_of disk = disk.made.items
 -- the writes and syncs that it took
 abbrev pub calls_in : MemDisk → List Call
 calls_in disk = calls_of disk.steps.items disk.written.items
+
+-- there is room for a write of so many bytes: where it ends, in the log's bytes, and in the log's steps
+abbrev pub fits_in : MemDisk → ℕ → ℕ → Bool
+fits_in disk at len = nat_le (at + len) disk.capacity && nat_le (vec_len disk.written + len) disk.capacity && nat_lt (vec_len disk.steps) disk.calls
 
 -- what a read gives
 abbrev pub seen_of : MemDisk → Option (List ℕ)

@@ -1,10 +1,10 @@
 -- A log with one call more.
-use Rattle.std.proofs.Common.{◌≡◌, ◌⊎◌, inl, inr, ℕ, zero, suc, ◌+◌, ◌-◌, ◌≤◌, ◌<◌, min, max, List, [], ◌∷◌, ◌++◌, length, take, drop, replicate, get_or, nat_le, Bool, true, false, cond, Option, Some, refl, sym, ◌∙◌, ap, subst, arith, length-append, length-take, length-drop}
+use Rattle.std.proofs.Common.{◌≡◌, inl, inr, ℕ, ◌+◌, ◌-◌, ◌≤◌, ◌<◌, max, List, [], ◌∷◌, ◌++◌, length, take, drop, replicate, nat_le, Bool, true, false, Some, refl, sym, ◌∙◌, ap, subst, arith, length-append}
 use Rattle.std.proofs.lemmas.List.{take-append-le, take_all}
 use Rattle.std.proofs.lemmas.Grind.{common_steps}
 use Rattle.std.proofs.lemmas.Bool.{cases_Bool, leb-true, leb-false}
 use Rattle.std.specs.Prelude.{slice_index}
-use Rattle.amr_disk.specs.Image.{Torn, Same, placed, written_at, reach}
+use Rattle.amr_disk.specs.Image.{Torn, Same, placed, written_at}
 use Rattle.amr_disk.specs.Moments.{Passes}
 use Rattle.std.specs.Prelude.{if◌then◌else◌}
 use Rattle.amr_disk.specs.Limits.{Limits, has_room, with_write}

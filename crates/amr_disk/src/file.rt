@@ -11,7 +11,8 @@ use std::rt::Files;
 const NAME: &str = "mesh.store";
 
 /// The file `mesh.store` of the current folder, opened at first use. An absent file reads as empty and syncs with Ok; the first write
-/// makes it, and the sync after that makes its entry in the folder durable too, where the system lets it. It tells nothing of its bytes.
+/// makes it. The first sync of a file that was opened or made makes its entry in the folder durable too, where the system lets it: an
+/// earlier run may have ended before it did. It tells nothing of its bytes.
 #[derive(Drop)]
 pub struct FileDisk<R> {
     rt: R,
@@ -21,9 +22,11 @@ pub struct FileDisk<R> {
 }
 
 impl<R: Files<File = File> + Drop> FileDisk<R> {
+    ghost use Rattle.amr_disk.specs.Faults.{faults_in};
+
     /// A disk over the file, which is not opened yet. It has not failed so far.
     pub fn make(rt: R) -> FileDisk<R>
-        ensures faultless { ⟦<FileDisk<R> as Disk>⟧.faults result ≡ 0 }
+        ensures faultless { faults_in result ≡ 0 }
     {
         FileDisk {
             rt,
@@ -35,14 +38,17 @@ impl<R: Files<File = File> + Drop> FileDisk<R> {
 
     // Opens the file, where it is there.
     fn open(&mut self) -> io::Result<()>
-        ensures { self.new.faults ≡ self.old.faults }
+        ensures { faults_in self.new ≡ faults_in self.old }
     {
         if self.file.is_none() {
             let mut how = OpenOptions::new();
             how.read(true);
             how.write(true);
             match how.open(&self.rt, NAME) {
-                Ok(file) => self.file = Some(file),
+                Ok(file) => {
+                    self.file = Some(file);
+                    self.is_entry_pending = true;
+                }
                 Err(e) => {
                     if e.kind() != ErrorKind::NotFound {
                         return Err(e);
@@ -55,7 +61,7 @@ impl<R: Files<File = File> + Drop> FileDisk<R> {
 
     // Opens the file, or makes it.
     fn open_or_create(&mut self) -> io::Result<()>
-        ensures { self.new.faults ≡ self.old.faults }
+        ensures { faults_in self.new ≡ faults_in self.old }
     {
         self.open()?;
         if self.file.is_none() {
@@ -71,7 +77,7 @@ impl<R: Files<File = File> + Drop> FileDisk<R> {
 
     fn try_read(&mut self, at: u64, into: &mut [u8]) -> io::Result<usize>
         ensures bound { IfOk result (λ n. n ≤ length into.new) }
-        ensures faults { self.new.faults ≡ self.old.faults }
+        ensures faults { faults_in self.new ≡ faults_in self.old }
     {
         self.open()?;
         match &self.file {
@@ -81,7 +87,7 @@ impl<R: Files<File = File> + Drop> FileDisk<R> {
     }
 
     fn try_write(&mut self, at: u64, bytes: &[u8]) -> io::Result<()>
-        ensures faults { self.new.faults ≡ self.old.faults }
+        ensures faults { faults_in self.new ≡ faults_in self.old }
     {
         self.open_or_create()?;
         match &self.file {
@@ -91,7 +97,7 @@ impl<R: Files<File = File> + Drop> FileDisk<R> {
     }
 
     fn try_sync(&mut self) -> io::Result<()>
-        ensures faults { self.new.faults ≡ self.old.faults }
+        ensures faults { faults_in self.new ≡ faults_in self.old }
     {
         self.open()?;
         match &self.file {
@@ -107,8 +113,8 @@ impl<R: Files<File = File> + Drop> FileDisk<R> {
 
     // Counts a fault.
     fn fault(&mut self) -> DiskFault
-        ensures later { self.old.faults ≤ self.new.faults }
-        ensures rose { Rose self.old.faults self.new.faults }
+        ensures later { faults_in self.old ≤ faults_in self.new }
+        ensures rose { Rose (faults_in self.old) (faults_in self.new) }
     {
         self.faults = self.faults.saturating_add(1);
         DiskFault
@@ -155,6 +161,7 @@ fn sync_folder<R: Files<File = File>>(rt: &R) -> io::Result<()> {
 }
 
 impl<R: Files<File = File> + Drop> Disk for FileDisk<R> {
+    ghost use Rattle.amr_disk.specs.Faults.{faults_in};
     ghost use Rattle.std.proofs.Common.{rules};
 
     ghost seen = { λ d. None };
@@ -163,7 +170,7 @@ impl<R: Files<File = File> + Drop> Disk for FileDisk<R> {
 
     ghost leaves = { λ d t c. ⊥ };
 
-    ghost faults = { λ d. d.faults };
+    ghost faults = { faults_in };
 
     ghost reads_image = { λ d s is. Prim.cc };
 

@@ -42,7 +42,7 @@ pub struct MemDisk {
 }
 
 impl MemDisk {
-    ghost use Rattle.amr_disk.specs.Memory.{limits_of, asked_of, made_of, calls_in, seen_of, moment_of, leaves_of, faults_of};
+    ghost use Rattle.amr_disk.specs.Memory.{limits_of, asked_of, made_of, calls_in, fits_in, seen_of, moment_of, leaves_of, faults_of};
 
     /// A disk that holds these bytes, all of them synced.
     ///
@@ -130,7 +130,7 @@ impl MemDisk {
         ensures counted { asked_of self.new ≡ min (asked_of self.old + 1) (2 ^ 64 - 1) }
         ensures calls { calls_in self.new ≡ calls_in self.old }
         ensures made { made_of self.new ≡ made_of self.old }
-        ensures bytes { self.new.bytes.items ≡ self.old.bytes.items }
+        ensures seen { seen_of self.new ≡ seen_of self.old }
         ensures limits { limits_of self.new ≡ limits_of self.old }
         ensures faults { faults_of self.new ≡ faults_of self.old }
     {
@@ -150,7 +150,7 @@ impl MemDisk {
         ensures asked { asked_of self.new ≡ asked_of self.old }
         ensures calls { calls_in self.new ≡ calls_in self.old }
         ensures made { made_of self.new ≡ made_of self.old }
-        ensures bytes { self.new.bytes.items ≡ self.old.bytes.items }
+        ensures seen { seen_of self.new ≡ seen_of self.old }
         ensures limits { limits_of self.new ≡ limits_of self.old }
     {
         self.faults = self.faults.saturating_add(1);
@@ -160,7 +160,7 @@ impl MemDisk {
     // Whether there is room for a write.
     fn fits(&self, at: usize, len: usize) -> bool
         requires small { at + len < 2 ^ 48 }
-        ensures { result ≡ (nat_le (at + len) self.now.capacity && nat_le (vec_len self.now.written + len) self.now.capacity && nat_lt (vec_len self.now.steps) self.now.calls) }
+        ensures { result ≡ fits_in self.now at len }
     {
         at + len <= self.capacity
             && self.written.len() + len <= self.capacity
@@ -176,7 +176,7 @@ impl MemDisk {
         ensures limits { limits_of self.new ≡ limits_of self.old }
         ensures asked { asked_of self.new ≡ asked_of self.old }
         ensures faults { faults_of self.new ≡ faults_of self.old }
-        ensures bytes { result ≡ true → self.new.bytes.items ≡ written_at at piece.now self.old.bytes.items }
+        ensures seen { result ≡ true → seen_of self.new ≡ option_map (written_at at piece.now) (seen_of self.old) }
     {
         let len = piece.len();
         if len == 0 {
@@ -199,7 +199,7 @@ impl MemDisk {
         ensures limits { limits_of self.new ≡ limits_of self.old }
         ensures asked { asked_of self.new ≡ asked_of self.old }
         ensures faults { faults_of self.new ≡ faults_of self.old }
-        ensures bytes { self.new.bytes.items ≡ self.old.bytes.items }
+        ensures seen { seen_of self.new ≡ seen_of self.old }
     {
         if self.steps.len() >= self.calls {
             return false;

@@ -18,3 +18,5 @@ pub mod Pieces
 pub mod Openings
 pub mod Entries
 pub mod Renewals
+pub mod Seen
+pub mod Puts

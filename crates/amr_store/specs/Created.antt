@@ -1,6 +1,7 @@
 -- The image of a new store without open slots. (profile)
-use Rattle.std.specs.Prelude.{ℕ, ◌≡◌, ◌<◌, ◌+◌, ◌==◌, ◌⊎◌, true, false, slice_index, slice_range, List, [], ◌∷◌, ◌++◌, length, None, if◌then◌else◌}
+use Rattle.std.specs.Prelude.{ℕ, ◌≡◌, ◌<◌, ◌+◌, ◌==◌, ◌&&◌, ◌⊎◌, nat_lt, true, false, slice_index, slice_range, List, [], ◌∷◌, ◌++◌, length, None, if◌then◌else◌}
 use Rattle.std.specs.Int.{to_le_bytes, w32, w64}
+use Rattle.amr_disk.specs.Image.{written_at}
 use Rattle.amr_store.specs.Layout.{magic_1, magic_2, long_at, word_at, gate_0, gate_1, end_of}
 use Rattle.amr_store.specs.Stored.{State, is_open}
 
@@ -47,3 +48,18 @@ pub record IsLaid (version : ℕ) (problem : List ℕ) (size : ℕ) (image : Lis
 pub record IsMade (version : ℕ) (problem : List ℕ) (size : ℕ) (image : List ℕ) : Type 0 where
   pub laid : IsLaid version problem size image
   pub opened : is_open image 0 ≡ true
+
+-- the bytes that creation writes, and no other: a first byte that is closed, where there is none or it is the only one
+abbrev pub shut_first : List ℕ → List ℕ
+shut_first image = if nat_lt 1 (length image) then image else written_at 0 (0 ∷ []) image
+
+-- head, problem and closed gates, and a 0 past the end of a store of version 1 where there is a byte
+abbrev pub laid_image : ℕ → List ℕ → ℕ → List ℕ → List ℕ
+laid_image version problem size image =
+    if version == 1 && nat_lt (end_of (length problem) size) (length image)
+    then written_at (end_of (length problem) size) (0 ∷ []) (written_at (gate_1 (length problem) size) (0 ∷ []) (written_at 1 (head_bytes 0 version problem size) image))
+    else written_at (gate_1 (length problem) size) (0 ∷ []) (written_at 1 (head_bytes 0 version problem size) image)
+
+-- and the first byte, opened
+abbrev pub created_image : ℕ → List ℕ → ℕ → List ℕ → List ℕ
+created_image version problem size image = written_at 0 (165 ∷ []) (laid_image version problem size (shut_first image))

@@ -1,6 +1,7 @@
 -- A store of version 1, and the store of version 2 that renews it. (profile)
-use Rattle.std.specs.Prelude.{ℕ, ◌≡◌, ◌+◌, ◌<◌, true, false, slice_index, slice_range, List, ◌++◌, length, drop, Some, None}
+use Rattle.std.specs.Prelude.{ℕ, ◌≡◌, ◌+◌, ◌<◌, nat_lt, true, false, slice_index, slice_range, List, [], ◌∷◌, ◌++◌, length, drop, Some, None, if◌then◌else◌}
 use Rattle.std.specs.Int.{to_le_bytes, w64}
+use Rattle.amr_disk.specs.Image.{written_at}
 use Rattle.amr_store.specs.Created.{head_bytes}
 use Rattle.amr_store.specs.Layout.{magic_2, long_at, word_at, size_of, problem_of, gate_0, gate_1}
 use Rattle.amr_store.specs.Stored.{State, Held, Reads, IsFilled, has_magic_1, is_open, is_renewed, end_in, state_of, first_of, second_of, stored}
@@ -47,3 +48,12 @@ pub record IsRenewed (end : ℕ) (problem : List ℕ) (size sequence : ℕ) (pay
   pub first_is : first_of (drop end image) ≡ Some record { sequence = sequence; payload = payload }
   pub second_is : second_of (drop end image) ≡ None
   pub stored_as : stored image ≡ Held (renewed_state problem size sequence payload)
+
+-- the bytes that a renewal writes, and no other: a closed byte past the old store's end, where there is none or it is the last one
+abbrev pub shut_past : ℕ → List ℕ → List ℕ
+shut_past end image = if nat_lt (end + 1) (length image) then image else written_at end (0 ∷ []) image
+
+-- the new store behind it with its state, the closed gate of its second slot, and the first byte, opened
+abbrev pub renewed_image : ℕ → List ℕ → ℕ → ℕ → List ℕ → List ℕ → List ℕ
+renewed_image end problem size sequence payload image =
+    written_at end (165 ∷ []) (written_at (end + gate_1 (length problem) size) (0 ∷ []) (written_at (end + 1) (renewal_bytes problem size sequence payload) (shut_past end image)))

@@ -1,5 +1,5 @@
 -- A store in memory, and the image that it stands for. (profile)
-use Rattle.std.specs.Prelude.{ℕ, ◌≡◌, ◌+◌, nat_lt, Bool, false, List, [], ◌∷◌, ◌++◌, length, drop, Option, Some, None, option_map, if◌then◌else◌}
+use Rattle.std.specs.Prelude.{ℕ, ◌≡◌, ◌+◌, nat_lt, Bool, true, false, List, [], ◌∷◌, ◌++◌, length, drop, Option, Some, None, option_map, if◌then◌else◌}
 use Rattle.std.specs.Int.{to_le_bytes, w64}
 use Rattle.amr_disk.specs.Image.{Only, written_at}
 use Rattle.amr_store.specs.declared.put.Closed.{Closed}
@@ -18,6 +18,10 @@ slot_of entry = record { sequence = entry.sequence; length = length entry.payloa
 
 abbrev pub is_shut : Store → Bool
 is_shut store = store.is_shut
+
+-- the store, shut
+abbrev pub shut_of : Store → Store
+shut_of store = record store { is_shut = true }
 
 abbrev pub version_in : Store → ℕ
 version_in store = store.version
@@ -88,6 +92,10 @@ filled_image store which sequence payload image =
 
 abbrev pub opened_image : Store → Which → List ℕ → List ℕ
 opened_image store which image = written_at (gate_in store which) (165 ∷ []) image
+
+-- the bytes that a put writes, and no other: its three steps in turn
+abbrev pub put_image : Store → ℕ → List ℕ → List ℕ → List ℕ
+put_image store sequence payload image = opened_image store (next_in store) (filled_image store (next_in store) sequence payload (closed_image store image))
 
 -- the slot that a step of a put closed or filled, and what it was filled with
 abbrev pub slot_closed : Closed → Which

@@ -1,8 +1,8 @@
 // A new store over an empty disk.
-ghost use Rattle.std.specs.Prelude.{◌≡◌, ◌≤◌, ◌<◌, ◌+◌, ◌^◌, ◌⊎◌, ◌==◌, ◌&&◌, true, false, nat_lt, List, ℕ, Some, None, length, IsSome, IfOk, OnOk, vec_len};
+ghost use Rattle.std.specs.Prelude.{◌≡◌, ◌≤◌, ◌<◌, ◌+◌, ◌^◌, ◌⊎◌, ◌==◌, ◌&&◌, true, false, nat_lt, List, ℕ, Some, None, length, IsSome, IfOk, OnOk, vec_len, option_map};
 ghost use Rattle.amr_causes.specs.Causes.{HasCause};
 ghost use Rattle.amr_disk.specs.Image.{Only};
-ghost use Rattle.amr_store.specs.Created.{IsVersion, IsShutFirst, IsLaid, IsMade, magic_of, head_bytes, new_state};
+ghost use Rattle.amr_store.specs.Created.{IsVersion, IsShutFirst, IsLaid, IsMade, magic_of, head_bytes, new_state, shut_first, laid_image, created_image};
 ghost use Rattle.amr_store.specs.Phases.{OnlyReads, StopsFrom};
 ghost use Rattle.amr_store.specs.Reasons.{HasReason, is_no_memory, is_shut_fault};
 ghost use Rattle.amr_store.specs.Stands.{IsReady, is_shut, version_in, problem_in, slot_size_in, last_in};
@@ -61,6 +61,7 @@ fn close_first<D: Disk>(disk: &mut D) -> Result<(), DiskFault>
     requires settled { Only (D.seen disk.old) (D.leaves disk.old (D.moment disk.old)) }
     requires empty { (s : List ℕ) → D.seen disk.old ≡ Some s → is_empty s ≡ true }
     ensures shut { OnOk result ((t : List ℕ) → D.seen disk.new ≡ Some t → IsShutFirst t) }
+    ensures seen { OnOk result (D.seen disk.new ≡ option_map shut_first (D.seen disk.old)) }
     ensures told { OnOk result ((s : List ℕ) → D.seen disk.old ≡ Some s → IsSome (D.seen disk.new)) }
     ensures stops { StopsFrom D.seen D.moment D.leaves disk.old disk.new (λ s c. stored c ≡ Empty) }
     ensures settled { OnOk result (Only (D.seen disk.new) (D.leaves disk.new (D.moment disk.new))) }
@@ -101,6 +102,7 @@ fn lay<D: Disk>(
     requires count { length head.now ≡ 21 + length problem.now }
     requires head { head.now ≡ head_bytes 0 version problem.now slot_size }
     requires settled { Only (D.seen disk.old) (D.leaves disk.old (D.moment disk.old)) }
+    ensures seen { OnOk result (D.seen disk.new ≡ option_map (laid_image version problem.now slot_size) (D.seen disk.old)) }
     ensures laid { OnOk result ((t : List ℕ) → D.seen disk.new ≡ Some t → IsLaid version problem.now slot_size t) }
     ensures told { OnOk result ((s : List ℕ) → D.seen disk.old ≡ Some s → IsSome (D.seen disk.new)) }
     ensures stops { StopsFrom D.seen D.moment D.leaves disk.old disk.new (λ s c. IsShutFirst s → IsShutFirst c) }
@@ -132,6 +134,7 @@ fn write_store<D: Disk>(
     requires head { head.now ≡ head_bytes 0 version problem.now slot_size }
     requires settled { Only (D.seen disk.old) (D.leaves disk.old (D.moment disk.old)) }
     requires empty { (s : List ℕ) → D.seen disk.old ≡ Some s → is_empty s ≡ true }
+    ensures seen { OnOk result (D.seen disk.new ≡ option_map (created_image version problem.now slot_size) (D.seen disk.old)) }
     ensures made { OnOk result ((t : List ℕ) → D.seen disk.new ≡ Some t → IsMade version problem.now slot_size t) }
     ensures stops { StopsFrom D.seen D.moment D.leaves disk.old disk.new (λ s c. stored c ≡ Empty ⊎ stored c ≡ Held (new_state version problem.now slot_size)) }
     ensures settled { OnOk result (Only (D.seen disk.new) (D.leaves disk.new (D.moment disk.new))) }
@@ -167,6 +170,7 @@ impl Store {
         ensures version { IfOk result (λ store. version_in store ≡ version) }
         ensures last { IfOk result (λ store. last_in store ≡ None) }
         ensures unshut_store { IfOk result (λ store. is_shut store ≡ false) }
+        ensures seen { OnOk result (D.seen disk.new ≡ option_map (created_image version problem.now slot_size) (D.seen disk.old)) }
         ensures made { OnOk result ((t : List ℕ) → D.seen disk.new ≡ Some t → stored t ≡ Held (new_state version problem.now slot_size)) }
         ensures stops { StopsFrom D.seen D.moment D.leaves disk.old disk.new (λ s c. stored c ≡ Empty ⊎ stored c ≡ Held (new_state version problem.now slot_size)) }
         ensures memory { is_no_memory result ≡ true → disk.new ≡ disk.old }

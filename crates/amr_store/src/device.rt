@@ -79,19 +79,19 @@ pub fn write_two_synced<D: Disk>(
     disk: &mut D,
     first_at: u64,
     first: &[u8],
-    second_at: u64,
-    second: &[u8],
+    last_at: u64,
+    last: &[u8],
 ) -> Result<(), DiskFault>
     requires first { first_at + length first.now < 2 ^ 48 }
-    requires second { second_at + length second.now < 2 ^ 48 }
+    requires last { last_at + length last.now < 2 ^ 48 }
     requires settled { Only (D.seen disk.old) (D.leaves disk.old (D.moment disk.old)) }
-    ensures stops { StopsFrom D.seen D.moment D.leaves disk.old disk.new (TornTwice first_at (length first.now) second_at (length second.now)) }
-    ensures seen { OnOk result (D.seen disk.new ≡ option_map (λ s. written_at second_at second.now (written_at first_at first.now s)) (D.seen disk.old)) }
+    ensures stops { StopsFrom D.seen D.moment D.leaves disk.old disk.new (TornTwice first_at (length first.now) last_at (length last.now)) }
+    ensures seen { OnOk result (D.seen disk.new ≡ option_map (λ s. written_at last_at last.now (written_at first_at first.now s)) (D.seen disk.old)) }
     ensures settled { OnOk result (Only (D.seen disk.new) (D.leaves disk.new (D.moment disk.new))) }
     ensures cause { HasCause (D.faults disk.old) (D.faults disk.new) result }
 {
     disk.write_at(first_at, first)?;
-    disk.write_at(second_at, second)?;
+    disk.write_at(last_at, last)?;
     disk.sync()?;
     Ok(())
 }

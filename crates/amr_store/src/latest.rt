@@ -1,7 +1,7 @@
 // The latest state.
-ghost use Rattle.std.specs.Prelude.{◌≡◌, false, List, ℕ, Some, is_some, option_map, IfOk};
+ghost use Rattle.std.specs.Prelude.{◌≡◌, true, false, List, ℕ, Some, is_some, option_map, IfOk};
 ghost use Rattle.amr_store.specs.Phases.{OnlyReads};
-ghost use Rattle.amr_store.specs.Reasons.{HasReason, Shuts};
+ghost use Rattle.amr_store.specs.Reasons.{HasReason, Shuts, is_no_memory};
 ghost use Rattle.amr_store.specs.Shown.{latest_in};
 ghost use Rattle.amr_store.specs.Stands.{IsReady, SameStore, is_shut, last_in};
 ghost use Rattle.amr_store.specs.Stored.{stored};
@@ -14,7 +14,7 @@ use std::alloc::Global;
 
 impl Store {
     /// The payload of the state with the greatest sequence; None exactly where no slot is open. Writes nothing. Where memory is wanting the
-    /// store is as before.
+    /// store and the disk are as before.
     pub fn latest<D: Disk>(
         &mut self,
         alloc: Global,
@@ -25,6 +25,7 @@ impl Store {
         ensures none { IfOk result (λ latest. is_some latest ≡ is_some (last_in self.old)) }
         ensures ready { IsReady D.seen D.moment D.leaves self.new disk.new }
         ensures reads { OnlyReads D.seen D.moment D.leaves disk.old disk.new }
+        ensures memory { is_no_memory result ≡ true → disk.new ≡ disk.old }
         ensures same { SameStore self.old self.new }
         ensures last { last_in self.new ≡ last_in self.old }
         ensures shuts { Shuts (is_shut self.old) (is_shut self.new) result }
@@ -45,7 +46,7 @@ impl Store {
                 self.shut();
                 Err(StoreFault::DiskFault)
             }
-            Err(_) => Err(StoreFault::NoMemory),
+            Err(fault) => Err(fault),
         }
     }
 }

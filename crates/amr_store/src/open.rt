@@ -5,7 +5,7 @@ ghost use Rattle.amr_disk.specs.Image.{Only};
 ghost use Rattle.amr_store.specs.Checking.{IsOutline, IsHeldBy, IsInner};
 ghost use Rattle.amr_store.specs.Opened.{Finds, FindsIn, IsReadyFound, IsRenewedFound, IsUnshut};
 ghost use Rattle.amr_store.specs.Phases.{OnlyReads};
-ghost use Rattle.amr_store.specs.Reasons.{HasReason, is_shut_fault};
+ghost use Rattle.amr_store.specs.Reasons.{HasReason, is_no_memory, is_shut_fault};
 ghost use Rattle.amr_store.specs.Stored.{stored, is_open, is_empty, is_renewed, end_in};
 
 use crate::check::{Checked, Outline, check};
@@ -36,6 +36,7 @@ pub fn read_bytes<D: Disk>(
     ensures count { IfOk result (λ v. vec_len v ≡ count) }
     ensures told { IfOk result (λ v. (s : List ℕ) → D.seen disk.old ≡ Some s → at + count ≤ length (drop base s) → v.items ≡ slice_range (drop base s) at (at + count)) }
     ensures reads { OnlyReads D.seen D.moment D.leaves disk.old disk.new }
+    ensures memory { is_no_memory result ≡ true → disk.new ≡ disk.old }
     ensures reason { HasReason (D.faults disk.old) (D.faults disk.new) result }
     ensures unshut { is_shut_fault result ≡ false }
 {
@@ -205,9 +206,18 @@ fn find<D: Disk>(alloc: Global, disk: &mut D) -> Result<Found, StoreFault>
     }
 }
 
+// Syncs, so that nothing is pending.
+fn settle<D: Disk>(disk: &mut D) -> Result<(), DiskFault>
+    ensures settled { OnOk result (Only (D.seen disk.new) (D.leaves disk.new (D.moment disk.new))) }
+    ensures reads { OnlyReads D.seen D.moment D.leaves disk.old disk.new }
+    ensures cause { HasCause (D.faults disk.old) (D.faults disk.new) result }
+{
+    disk.sync()
+}
+
 impl Store {
     /// Finds out what a disk holds: no store, a store, or one of which a part is damaged, by the bytes alone. Begins with a sync, and
-    /// reads heads, gates and the problem, but no payload. Writes nothing.
+    /// reads heads, gates and the problem; of a payload it looks only whether its last byte is there. Writes nothing.
     pub fn open<D: Disk>(alloc: Global, disk: &mut D) -> Result<Found, StoreFault>
         ensures finds { IfOk result (λ found. (s : List ℕ) → D.seen disk.old ≡ Some s → Finds found (stored s)) }
         ensures ready { IfOk result (λ found. IsReadyFound D.seen D.moment D.leaves found disk.new) }
@@ -216,7 +226,7 @@ impl Store {
         ensures reason { HasReason (D.faults disk.old) (D.faults disk.new) result }
         ensures unshut { is_shut_fault result ≡ false }
     {
-        match disk.sync() {
+        match settle(disk) {
             Ok(()) => find(alloc, disk),
             Err(DiskFault) => Err(StoreFault::DiskFault),
         }

@@ -2,11 +2,11 @@
 // the second the gate is closed on the disk; in the third the gate is any byte over a slot that is synced.
 ghost use Rattle.std.specs.Prelude.{◌≡◌, ◌≤◌, ◌<◌, ◌+◌, ◌^◌, ◌++◌, ◌∷◌, [], ◌⊎◌, false, true, List, ℕ, Some, None, is_some, length, IfOk, IfSome, OnOk, OnErr, option_map, if◌then◌else◌};
 ghost use Rattle.std.specs.Int.{to_le_bytes, w64};
-ghost use Rattle.amr_store.specs.Next.{first_with, second_with};
+ghost use Rattle.amr_store.specs.Next.{first_with, second_with, other_than};
 ghost use Rattle.amr_disk.specs.Moments.{StopsIn};
 ghost use Rattle.amr_store.specs.Phases.{StopsFrom};
 ghost use Rattle.amr_store.specs.Reasons.{HasReason, Shuts, is_no_memory};
-ghost use Rattle.amr_store.specs.Stands.{IsReady, IsClosed, IsFilledIn, SameStore, Stands, is_shut, next_in, gate_in, slot_in, last_in, first_in, second_in, slot_size_in, closed_image, filled_image, opened_image, closing_piece, slot_closed, slot_filled, sequence_filled, length_filled, opened_slot};
+ghost use Rattle.amr_store.specs.Stands.{IsReady, IsClosed, IsFilledIn, SameStore, Stands, is_shut, next_in, gate_in, slot_in, last_in, first_in, second_in, slot_size_in, closed_image, filled_image, opened_image, put_image, closing_piece, slot_closed, slot_filled, sequence_filled, length_filled, opened_slot};
 ghost use Rattle.amr_store.specs.Stored.{stored, with_latest};
 
 use crate::device::{write_synced, write_two_synced};
@@ -58,6 +58,9 @@ impl Store {
     pub fn close_gate<D: Disk>(&mut self, disk: &mut D) -> Result<Closed, StoreFault>
         requires ready { IsReady D.seen D.moment D.leaves self.old disk.old }
         ensures closed { IfOk result (λ closed. IsClosed (slot_closed closed) self.new) }
+        ensures which { IfOk result (λ closed. slot_closed closed ≡ next_in self.old) }
+        ensures first { OnOk result (first_in self.new ≡ first_with (next_in self.old) None (first_in self.old)) }
+        ensures second { OnOk result (second_in self.new ≡ second_with (next_in self.old) None (second_in self.old)) }
         ensures ready { OnOk result (IsReady D.seen D.moment D.leaves self.new disk.new) }
         ensures seen { OnOk result (D.seen disk.new ≡ option_map (closed_image self.old) (D.seen disk.old)) }
         ensures stops { is_shut self.old ≡ false → StopsFrom D.seen D.moment D.leaves disk.old disk.new (λ s c. stored c ≡ stored s) }
@@ -96,6 +99,8 @@ impl Store {
         requires above { IfSome (last_in self.old) (λ last. last < sequence) }
         requires fits { length bytes.now ≤ slot_size_in self.old }
         ensures ready { OnOk result (IsReady D.seen D.moment D.leaves self.new disk.new) }
+        ensures seen { OnOk result (D.seen disk.new ≡ option_map (put_image self.old sequence bytes.now) (D.seen disk.old)) }
+        ensures other { OnOk result (slot_in self.new (other_than (next_in self.old)) ≡ slot_in self.old (other_than (next_in self.old))) }
         ensures put { is_shut self.old ≡ false → OnOk result ((s : List ℕ) → D.seen disk.old ≡ Some s → (t : List ℕ) × (D.seen disk.new ≡ Some t) × (stored t ≡ with_latest (stored s) sequence bytes.now)) }
         ensures stops { is_shut self.old ≡ false → StopsFrom D.seen D.moment D.leaves disk.old disk.new (λ s c. stored c ≡ stored s ⊎ stored c ≡ with_latest (stored s) sequence bytes.now) }
         ensures same { SameStore self.old self.new }

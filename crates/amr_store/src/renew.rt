@@ -1,11 +1,12 @@
 // A store of version 2 past the end of one of version 1, with the same problem and a new state.
-ghost use Rattle.std.specs.Prelude.{◌≡◌, ◌≤◌, ◌<◌, ◌+◌, ◌^◌, ◌⊎◌, true, false, List, ℕ, Some, length, IsSome, IfOk, IfSome, OnOk, vec_len};
+ghost use Rattle.std.specs.Prelude.{◌≡◌, ◌≤◌, ◌<◌, ◌+◌, ◌^◌, ◌⊎◌, true, false, List, ℕ, Some, length, IsSome, IfOk, IfSome, OnOk, vec_len, option_map};
 ghost use Rattle.amr_causes.specs.Causes.{HasCause};
 ghost use Rattle.amr_disk.specs.Image.{Only};
 ghost use Rattle.amr_disk.specs.Moments.{StopsIn};
+ghost use Rattle.amr_store.specs.Layout.{end_of};
 ghost use Rattle.amr_store.specs.Phases.{StopsFrom};
 ghost use Rattle.amr_store.specs.Reasons.{HasReason, is_no_memory, is_shut_fault};
-ghost use Rattle.amr_store.specs.Renewed.{IsOld, IsOldShut, IsRenewed, renewal_bytes, renewed_state};
+ghost use Rattle.amr_store.specs.Renewed.{IsOld, IsOldShut, IsRenewed, renewal_bytes, renewed_state, shut_past, renewed_image};
 ghost use Rattle.amr_store.specs.Stands.{IsReady, is_shut, version_in, problem_in, slot_size_in, last_in};
 ghost use Rattle.amr_store.specs.Stored.{stored, Held};
 
@@ -48,6 +49,7 @@ fn shut_end<D: Disk>(disk: &mut D, end: u64) -> Result<(), DiskFault>
     requires settled { Only (D.seen disk.old) (D.leaves disk.old (D.moment disk.old)) }
     ensures shut { OnOk result ((t problem : List ℕ) → D.seen disk.new ≡ Some t → ((s : List ℕ) → D.seen disk.old ≡ Some s → IsOld end problem s) → IsOldShut end problem t) }
     ensures told { OnOk result ((s : List ℕ) → D.seen disk.old ≡ Some s → IsSome (D.seen disk.new)) }
+    ensures seen { OnOk result (D.seen disk.new ≡ option_map (shut_past end) (D.seen disk.old)) }
     ensures stops { (s problem : List ℕ) → D.seen disk.old ≡ Some s → IsOld end problem s → StopsIn D.moment D.leaves disk.old disk.new (λ c. stored c ≡ stored s) }
     ensures settled { OnOk result (Only (D.seen disk.new) (D.leaves disk.new (D.moment disk.new))) }
     ensures cause { HasCause (D.faults disk.old) (D.faults disk.new) result }
@@ -78,6 +80,7 @@ fn write_renewal<D: Disk>(
     requires all { all.now ≡ renewal_bytes problem.now slot_size sequence bytes.now }
     requires settled { Only (D.seen disk.old) (D.leaves disk.old (D.moment disk.old)) }
     requires old { (s : List ℕ) → D.seen disk.old ≡ Some s → IsOld end problem.now s }
+    ensures seen { OnOk result (D.seen disk.new ≡ option_map (renewed_image end problem.now slot_size sequence bytes.now) (D.seen disk.old)) }
     ensures made { OnOk result ((t : List ℕ) → D.seen disk.new ≡ Some t → IsRenewed end problem.now slot_size sequence bytes.now t) }
     ensures stops { StopsFrom D.seen D.moment D.leaves disk.old disk.new (λ s c. stored c ≡ stored s ⊎ stored c ≡ Held (renewed_state problem.now slot_size sequence bytes.now)) }
     ensures settled { OnOk result (Only (D.seen disk.new) (D.leaves disk.new (D.moment disk.new))) }
@@ -118,6 +121,7 @@ impl Store {
         ensures version { IfOk result (λ store. version_in store ≡ 2) }
         ensures last { IfOk result (λ store. last_in store ≡ Some sequence) }
         ensures unshut_store { IfOk result (λ store. is_shut store ≡ false) }
+        ensures seen { OnOk result (D.seen disk.new ≡ option_map (renewed_image (end_of (length (problem_in self)) (slot_size_in self)) (problem_in self) slot_size sequence bytes.now) (D.seen disk.old)) }
         ensures renewed { OnOk result ((t : List ℕ) → D.seen disk.new ≡ Some t → stored t ≡ Held (renewed_state (problem_in self) slot_size sequence bytes.now)) }
         ensures stops { is_shut self ≡ false → StopsFrom D.seen D.moment D.leaves disk.old disk.new (λ s c. stored c ≡ stored s ⊎ stored c ≡ Held (renewed_state (problem_in self) slot_size sequence bytes.now)) }
         ensures memory { is_no_memory result ≡ true → disk.new ≡ disk.old }

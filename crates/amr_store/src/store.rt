@@ -1,5 +1,5 @@
 // The store in memory.
-ghost use Rattle.std.specs.Prelude.{◌≡◌, ◌≤◌, ◌<◌, ◌+◌, ◌^◌, true, vec_len};
+ghost use Rattle.std.specs.Prelude.{◌≡◌, ◌≤◌, ◌<◌, ◌+◌, ◌^◌, vec_len};
 
 use crate::slot::{Slot, Which};
 
@@ -20,7 +20,7 @@ pub struct Store {
 
 impl Store {
     ghost use Rattle.amr_store.specs.Next.{first_with, second_with, other_than};
-    ghost use Rattle.amr_store.specs.Stands.{problem_in, slot_size_in, version_in, last_in, next_in, gate_in, slot_in, sequence_in, first_in, second_in, base_in, is_shut};
+    ghost use Rattle.amr_store.specs.Stands.{problem_in, slot_size_in, version_in, last_in, next_in, gate_in, slot_in, sequence_in, first_in, second_in, base_in, is_shut, shut_of};
 
     /// The problem bytes.
     pub fn problem(&self) -> &[u8]
@@ -126,7 +126,7 @@ impl Store {
 
     // Shuts the store.
     pub(crate) fn shut(&mut self)
-        ensures { self.new ≡ record self.old { is_shut = true } }
+        ensures { self.new ≡ shut_of self.old }
     {
         self.is_shut = true;
     }

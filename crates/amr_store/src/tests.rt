@@ -1,8 +1,8 @@
 // Stops, damaged images, and the file. The problem is one byte, and a slot holds two: the gates stand at 22 and 41, the end at 60.
 ghost use Rattle.amr_store.specs.Created.{IsVersion};
 
-use crate::{Found, Part, Store};
-use amr_disk::{FileDisk, Leave, MemDisk};
+use crate::{Found, Part, Store, StoreFault};
+use amr_disk::{Disk, FileDisk, Leave, MemDisk};
 use std::alloc::Global;
 use std::fs;
 use std::test::Fail;
@@ -12,6 +12,13 @@ const IMAGE: [u8; 42] = [
     0xA5, 65, 77, 82, 83, 84, 79, 82, 49, 2, 0, 0, 0, 0, 0, 0, 0, 1, 0, 0, 0, 112, 0xA5, 1, 0, 0,
     0, 0, 0, 0, 0, 2, 0, 0, 0, 0, 0, 0, 0, 8, 9, 0,
 ];
+
+// Longer bytes of something older, with a closed first byte and an open gate wherever one could stand.
+fn older() -> [u8; 128] {
+    let mut bytes = [0xA5; 128];
+    bytes[0] = 0;
+    bytes
+}
 
 // What opening a disk finds, short of the store.
 #[derive(Clone, Copy, Debug, PartialEq, Eq)]
@@ -74,7 +81,12 @@ fn stopped(alloc: Global, stop: Option<u64>, version: u32, mode: Leave) -> Resul
 #[test]
 fn stops_find_one_state_or_the_next(rt: HostRuntime) -> Result<(), Fail> {
     let alloc = rt.alloc();
-    for mode in [Leave::Old, Leave::New, Leave::Filled(0xA5)] {
+    for mode in [
+        Leave::Old,
+        Leave::New,
+        Leave::Filled(0),
+        Leave::Filled(0xA5),
+    ] {
         for call in 1..9 {
             let mut left = stopped(alloc, Some(call), 2, mode)?;
             let found = Store::open(alloc, &mut left)?;
@@ -197,12 +209,152 @@ fn cuts_and_changes_are_damage(rt: HostRuntime) -> Result<(), Fail> {
     }
     assert_eq!(rt; shown_in(alloc, &[0xA5, 0])?, Seen::Damaged(Part::Head));
     assert_eq!(rt; shown_with(alloc, 0, 0)?, Seen::Nothing);
+    assert_eq!(rt; shown_with(alloc, 8, 50)?, Seen::Ready);
     assert_eq!(rt; shown_with(alloc, 8, 51)?, Seen::Damaged(Part::Head));
     assert_eq!(rt; shown_with(alloc, 19, 1)?, Seen::Damaged(Part::Text));
     assert_eq!(rt; shown_with(alloc, 15, 1)?, Seen::Damaged(Part::Size));
     assert_eq!(rt; shown_with(alloc, 23, 0)?, Seen::Damaged(Part::Slot(0)));
     assert_eq!(rt; shown_with(alloc, 31, 3)?, Seen::Damaged(Part::Slot(0)));
     assert_eq!(rt; shown_with(alloc, 41, 0xA5)?, Seen::Damaged(Part::Slot(1)));
+    Ok(())
+}
+
+#[test]
+fn long_fields_are_damage(rt: HostRuntime) -> Result<(), Fail> {
+    let alloc = rt.alloc();
+    let mut image = IMAGE;
+    image[9] = 0;
+    image[14] = 1;
+    assert_eq!(rt;
+        shown_in(alloc, &image)?,
+        Seen::Damaged(Part::Slot(1)),
+        "slots of 2^40 bytes"
+    );
+    image[31] = 0;
+    image[36] = 1;
+    assert_eq!(rt;
+        shown_in(alloc, &image)?,
+        Seen::Damaged(Part::Slot(0)),
+        "a payload of 2^40 bytes"
+    );
+    image[17] = 0;
+    image[19] = 1;
+    assert_eq!(rt;
+        shown_in(alloc, &image)?,
+        Seen::Damaged(Part::Text),
+        "a problem of 65,536 bytes"
+    );
+    let mut longer = [0; 43];
+    longer[..42].copy_from_slice(&IMAGE);
+    longer[9] = 3;
+    assert_eq!(rt;
+        shown_in(alloc, &longer)?,
+        Seen::Ready,
+        "slots of a byte more"
+    );
+    Ok(())
+}
+
+#[test]
+fn tie_and_other_problem_are_damage(rt: HostRuntime) -> Result<(), Fail> {
+    let alloc = rt.alloc();
+    let mut disk = stopped(alloc, None, 2, Leave::New)?;
+    disk.write_at(42, &[1])?;
+    assert_eq!(rt;
+        shown(&Store::open(alloc, &mut disk)?),
+        Seen::Damaged(Part::Tie)
+    );
+    let mut disk = renewed(alloc, None, Leave::New)?;
+    disk.write_at(21, &[113])?;
+    assert_eq!(rt;
+        shown(&Store::open(alloc, &mut disk)?),
+        Seen::Damaged(Part::Renewal)
+    );
+    disk.write_at(68, &[49])?;
+    assert_eq!(rt;
+        shown(&Store::open(alloc, &mut disk)?),
+        Seen::Damaged(Part::Head)
+    );
+    Ok(())
+}
+
+// A new store over the older bytes, with one state where asked.
+fn over_older(alloc: Global, version: u32, is_put: bool) -> Result<MemDisk, Fail>
+    requires { IsVersion version }
+{
+    let mut disk = MemDisk::make(alloc, &older(), 128, 64, &[], None)?;
+    match Store::open(alloc, &mut disk)? {
+        Found::Nothing => {
+            let mut store = Store::create(alloc, &mut disk, &[112], 2, version)?;
+            if is_put {
+                store.put(&mut disk, 1, &[8, 9])?;
+            }
+        }
+        Found::Ready(_) => {}
+        Found::Damaged(_) => {}
+    }
+    Ok(disk)
+}
+
+// The same, byte by byte: what the format names, and older bytes elsewhere.
+fn bytes_over_older(version: u32, is_put: bool) -> [u8; 128] {
+    let mut bytes = [0xA5; 128];
+    bytes[..22].copy_from_slice(&IMAGE[..22]);
+    bytes[22] = 0;
+    bytes[41] = 0;
+    if version == 1 {
+        bytes[60] = 0;
+    } else {
+        bytes[8] = 50;
+    }
+    if is_put {
+        bytes[22..41].copy_from_slice(&IMAGE[22..41]);
+    }
+    bytes
+}
+
+#[test]
+fn older_bytes_stay_and_do_not_count(rt: HostRuntime) -> Result<(), Fail> {
+    let alloc = rt.alloc();
+    for version in [1, 2] {
+        for is_put in [false, true] {
+            let mut disk = over_older(alloc, version, is_put)?;
+            let mut bytes = [0; 128];
+            assert_eq!(rt; disk.read_at(0, &mut bytes)?, 128);
+            assert_eq!(rt; bytes, bytes_over_older(version, is_put));
+            let latest = latest_on(alloc, disk)?;
+            assert_eq!(rt; latest.is_some(), is_put);
+        }
+    }
+    Ok(())
+}
+
+#[test]
+fn failed_sync_shuts_the_store(rt: HostRuntime) -> Result<(), Fail> {
+    let alloc = rt.alloc();
+    for call in [17, 20, 22] {
+        let mut disk = MemDisk::make(alloc, &[], 128, 64, &[call], None)?;
+        let mut store = Store::create(alloc, &mut disk, &[112], 2, 2)?;
+        store.put(&mut disk, 1, &[8, 9])?;
+        match store.put(&mut disk, 2, &[7]) {
+            Err(StoreFault::DiskFault) => {
+                let later = store.put(&mut disk, 3, &[6]);
+                assert_eq!(rt; later, Err(StoreFault::Shut), "after a failed sync");
+            }
+            Err(_) => assert!(rt; false),
+            Ok(()) => assert!(rt; false, "the sync failed at {call}"),
+        }
+        assert_eq!(rt; store.last(), Some(1));
+        let latest = latest_on(alloc, disk)?.unwrap_or(Vec::new(alloc));
+        if call == 22 {
+            assert_eq!(rt; latest.as_slice(), [7].as_slice());
+        } else {
+            assert_eq!(rt; latest.as_slice(), [8, 9].as_slice());
+        }
+    }
+    let mut disk = MemDisk::make(alloc, &IMAGE, 128, 8, &[1], None)?;
+    assert!(rt; matches!(Store::open(alloc, &mut disk), Err(StoreFault::DiskFault)));
+    assert_eq!(rt; shown(&Store::open(alloc, &mut disk)?), Seen::Ready);
     Ok(())
 }
 

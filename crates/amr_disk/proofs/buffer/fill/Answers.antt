@@ -1,4 +1,4 @@
-use Rattle.std.proofs.Common.{◌≡◌, ◌∙◌, ◌+◌, ◌++◌, List, ℕ, Vec, Global, length, take, drop, replicate, ap, sym, arith}
+use Rattle.std.proofs.Common.{◌≡◌, ◌∙◌, ◌+◌, ◌++◌, List, ℕ, Vec, Global, length, take, drop, replicate, ap, arith}
 use Rattle.std.proofs.lemmas.List.{length-replicate, with_items_is}
 use Rattle.amr_disk.proofs.Places.{filled_within, filled_past}
 use Rattle.amr_disk.proofs.buffer.fill.Goals as goal

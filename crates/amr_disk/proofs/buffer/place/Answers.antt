@@ -1,4 +1,4 @@
-use Rattle.std.proofs.Common.{◌≡◌, ◌∙◌, ◌+◌, ◌++◌, List, ℕ, Vec, Global, length, take, drop, ap, arith}
+use Rattle.std.proofs.Common.{◌∙◌, ◌+◌, ◌++◌, List, ℕ, Vec, Global, length, take, drop, ap, arith}
 use Rattle.std.proofs.lemmas.List.{with_items_is}
 use Rattle.amr_disk.proofs.Places.{placed_within, placed_past}
 use Rattle.amr_disk.proofs.buffer.place.Goals as goal

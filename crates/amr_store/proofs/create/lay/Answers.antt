@@ -5,7 +5,8 @@ use Rattle.amr_store.proofs.Creation.{laid_twice, laid_thrice, first_kept_twice,
 use Rattle.amr_store.proofs.Joins.{on_ok_map}
 use Rattle.amr_store.proofs.Readings.{reads_stops}
 use Rattle.amr_store.proofs.Runs.{joins, weaker}
-use Rattle.amr_store.specs.Created.{IsLaid, IsShutFirst}
+use Rattle.amr_store.proofs.Seen.{written_as, laid_past, laid_short}
+use Rattle.amr_store.specs.Created.{IsLaid, IsShutFirst, laid_image}
 use Rattle.amr_store.specs.Layout.{gate_1, end_of}
 use Rattle.amr_store.specs.Phases.{TornTwice, TornThrice}
 use Rattle.amr_store.proofs.create.lay.Goals as goal
@@ -61,3 +62,26 @@ pub returns-in-Err-clause-stops : goal.returns-in-Err-clause-stops
 returns-in-Err-clause-stops g c s is =
     weaker g.D.Disk.moment g.D.Disk.leaves c.args.disk.now c.has_renewal_gate.new.disk (Same s) (λ i. IsShutFirst s → IsShutFirst i) (λ i same shut. subst IsShutFirst (sym same) shut)
     (reads_stops g.D.Disk.seen g.D.Disk.moment g.D.Disk.leaves c.args.disk.now c.has_renewal_gate.new.disk s c.has_renewal_gate.ensures.reads c.requires.settled is)
+
+pub returns-in-Ok-true-clause-seen : goal.returns-in-Ok-true-clause-seen
+returns-in-Ok-true-clause-seen g c =
+    let v = c.args.version in
+    let problem = c.args.problem.now in
+    let size = c.args.slot_size in
+    let head = c.args.head.now in
+    let gate = gate_1 (length problem) size in
+    let end = end_of (length problem) size in
+    on_ok_map c.write_three_synced.result _ _ (λ seen.
+    written_as (λ s. written_at end (0 ∷ []) (written_at gate (0 ∷ []) (written_at 1 head s))) (laid_image v problem size) (g.D.Disk.seen c.args.disk.now) (g.D.Disk.seen c.has_renewal_gate.new.disk) (g.D.Disk.seen c.write_three_synced.new.disk) c.has_renewal_gate.ensures.reads.same seen
+    (λ s is. laid_past v problem size head s c.requires.head (sym (c.in-Ok-true.ensures.told s is) ∙ c.in-Ok-true.field-0-test))) c.write_three_synced.ensures.seen
+
+pub returns-in-Ok-false-clause-seen : goal.returns-in-Ok-false-clause-seen
+returns-in-Ok-false-clause-seen g c =
+    let v = c.args.version in
+    let problem = c.args.problem.now in
+    let size = c.args.slot_size in
+    let head = c.args.head.now in
+    let gate = gate_1 (length problem) size in
+    on_ok_map c.write_two_synced.result _ _ (λ seen.
+    written_as (λ s. written_at gate (0 ∷ []) (written_at 1 head s)) (laid_image v problem size) (g.D.Disk.seen c.args.disk.now) (g.D.Disk.seen c.has_renewal_gate.new.disk) (g.D.Disk.seen c.write_two_synced.new.disk) c.has_renewal_gate.ensures.reads.same seen
+    (λ s is. laid_short v problem size head s c.requires.head (sym (c.in-Ok-false.ensures.told s is) ∙ c.in-Ok-false.field-0-test))) c.write_two_synced.ensures.seen

@@ -4,7 +4,8 @@ use Rattle.amr_store.proofs.Calls.{mapped_some}
 use Rattle.amr_store.proofs.Creation.{shut_empty, made_stop, made_after}
 use Rattle.amr_store.proofs.Joins.{some_of, on_ok_map}
 use Rattle.amr_store.proofs.Runs.{joins, weaker}
-use Rattle.amr_store.specs.Created.{IsMade, IsShutFirst, new_state}
+use Rattle.amr_store.proofs.Seen.{written_thrice}
+use Rattle.amr_store.specs.Created.{IsMade, IsShutFirst, new_state, laid_image, shut_first}
 use Rattle.amr_store.specs.Stored.{stored, Empty, Held}
 use Rattle.amr_store.proofs.create.write_store.Goals as goal
 
@@ -48,3 +49,9 @@ returns-in-Err-lay-clause-stops g c s is =
 pub returns-in-Err-clause-stops : goal.returns-in-Err-clause-stops
 returns-in-Err-clause-stops g c s is =
     weaker g.D.Disk.moment g.D.Disk.leaves c.args.disk.now c.close_first.new.disk (λ i. stored i ≡ Empty) (λ i. (stored i ≡ Empty) ⊎ (stored i ≡ Held (new_state c.args.version c.args.problem.now c.args.slot_size))) (λ i e. inl e) (c.close_first.ensures.stops s is)
+
+pub returns-in-Ok-lay-clause-seen : goal.returns-in-Ok-lay-clause-seen
+returns-in-Ok-lay-clause-seen g c =
+    let seen = g.D.Disk.seen in
+    on_ok_map c.write_synced.result _ _ (written_thrice shut_first (laid_image c.args.version c.args.problem.now c.args.slot_size) (written_at 0 (165 ∷ [])) (seen c.args.disk.now) (seen c.close_first.new.disk) (seen c.lay.new.disk) (seen c.write_synced.new.disk)
+    c.in-Ok.ensures.seen c.in-Ok-lay.ensures.seen) c.write_synced.ensures.seen

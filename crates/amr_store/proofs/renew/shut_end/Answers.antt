@@ -5,7 +5,8 @@ use Rattle.amr_store.proofs.Joins.{on_ok_map}
 use Rattle.amr_store.proofs.Readings.{reads_stops}
 use Rattle.amr_store.proofs.Renewals.{shut_already, shut_after, shut_same}
 use Rattle.amr_store.proofs.Runs.{joins, weaker}
-use Rattle.amr_store.specs.Renewed.{IsOldShut}
+use Rattle.amr_store.proofs.Seen.{unchanged, written_as, past_stays, past_written}
+use Rattle.amr_store.specs.Renewed.{IsOldShut, shut_past}
 use Rattle.amr_store.specs.Stored.{stored}
 use Rattle.amr_store.proofs.renew.shut_end.Goals as goal
 
@@ -38,3 +39,13 @@ pub returns-in-Err-clause-stops : goal.returns-in-Err-clause-stops
 returns-in-Err-clause-stops g c s problem is old =
     weaker g.D.Disk.moment g.D.Disk.leaves c.args.disk.now c.has_byte.new.disk (Same s) (λ i. stored i ≡ stored s) (λ i same. ap stored same)
     (reads_stops g.D.Disk.seen g.D.Disk.moment g.D.Disk.leaves c.args.disk.now c.has_byte.new.disk s c.has_byte.ensures.reads c.requires.settled is)
+
+pub returns-in-Ok-true-clause-seen : goal.returns-in-Ok-true-clause-seen
+returns-in-Ok-true-clause-seen g c =
+    written_as (λ s. s) (shut_past c.args.end) (g.D.Disk.seen c.args.disk.now) (g.D.Disk.seen c.has_byte.new.disk) (g.D.Disk.seen c.has_byte.new.disk) c.has_byte.ensures.reads.same (unchanged _)
+    (λ s is. past_stays c.args.end s (sym (c.in-Ok-true.ensures.told s is) ∙ c.in-Ok-true.field-0-test))
+
+pub returns-in-Ok-false-clause-seen : goal.returns-in-Ok-false-clause-seen
+returns-in-Ok-false-clause-seen g c =
+    on_ok_map c.write_synced.result _ _ (λ seen. written_as (written_at c.args.end (0 ∷ [])) (shut_past c.args.end) (g.D.Disk.seen c.args.disk.now) (g.D.Disk.seen c.has_byte.new.disk) (g.D.Disk.seen c.write_synced.new.disk) c.has_byte.ensures.reads.same seen
+    (λ s is. past_written c.args.end s (sym (c.in-Ok-false.ensures.told s is) ∙ c.in-Ok-false.field-0-test))) c.write_synced.ensures.seen

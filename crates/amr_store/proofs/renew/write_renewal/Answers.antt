@@ -1,4 +1,5 @@
 use Rattle.std.proofs.Common.{◌≡◌, ◌⊎◌, ◌∙◌, ◌+◌, ◌<◌, ◌∷◌, [], sym, subst, ℕ, List, length, drop, arith}
+use Rattle.std.specs.Prelude.{OnOk, option_map}
 use Rattle.amr_disk.specs.Image.{Torn, written_at}
 use Rattle.amr_store.proofs.Calls.{mapped_some}
 use Rattle.amr_store.proofs.Joins.{mapped_on, some_of, on_ok_map, one, two, three}
@@ -6,7 +7,8 @@ use Rattle.amr_store.proofs.Renewals.{laid_same, laid_shut, renewal_written, ren
 use Rattle.amr_store.proofs.Runs.{weaker}
 use Rattle.amr_store.specs.Layout.{gate_1}
 use Rattle.amr_store.specs.Phases.{TornTwice}
-use Rattle.amr_store.specs.Renewed.{IsOldShut, IsRenewal, IsRenewed, renewed_state}
+use Rattle.amr_store.proofs.Seen.{written_thrice}
+use Rattle.amr_store.specs.Renewed.{IsOldShut, IsRenewal, IsRenewed, renewed_state, shut_past}
 use Rattle.amr_store.specs.Stored.{Stored, Held, stored}
 use Rattle.amr_store.proofs.renew.write_renewal.Goals as goal
 
@@ -79,3 +81,13 @@ pub returns-in-Err-clause-stops : goal.returns-in-Err-clause-stops
 returns-in-Err-clause-stops g c s is =
     one g.D.Disk.moment g.D.Disk.leaves c.args.disk.now c.shut_end.new.disk s (λ (x : Stored). Held (renewed_state c.args.problem.now c.args.slot_size c.args.sequence c.args.bytes.now))
     (c.shut_end.ensures.stops s c.args.problem.now is (c.requires.old s is))
+
+pub returns-in-Ok-write_two_synced-clause-seen : goal.returns-in-Ok-write_two_synced-clause-seen
+returns-in-Ok-write_two_synced-clause-seen g c =
+    let seen = g.D.Disk.seen in
+    let end = c.args.end in
+    let all = c.args.all.now in
+    let beyond = end + gate_1 (length c.args.problem.now) c.args.slot_size in
+    subst (λ (a : List ℕ). OnOk c.write_synced.result (seen c.write_synced.new.disk ≡ option_map (λ s. written_at end (165 ∷ []) (written_at beyond (0 ∷ []) (written_at (end + 1) a (shut_past end s)))) (seen c.args.disk.now))) c.requires.all
+    (on_ok_map c.write_synced.result _ _ (written_thrice (shut_past end) (λ i. written_at beyond (0 ∷ []) (written_at (end + 1) all i)) (written_at end (165 ∷ [])) (seen c.args.disk.now) (seen c.shut_end.new.disk) (seen c.write_two_synced.new.disk) (seen c.write_synced.new.disk)
+    c.in-Ok.ensures.seen c.in-Ok-write_two_synced.ensures.seen) c.write_synced.ensures.seen)

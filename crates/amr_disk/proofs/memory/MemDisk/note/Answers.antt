@@ -1,4 +1,4 @@
-use Rattle.std.proofs.Common.{arith, ◌≡◌, ◌∙◌, ◌+◌, ◌≤◌, ◌<◌, refl, sym, length, Bool, true, false}
+use Rattle.std.proofs.Common.{arith, ◌≡◌, ◌∙◌, ◌+◌, ◌≤◌, refl, sym, length, true, false}
 use Rattle.amr_disk.proofs.Logs.{room_is, room_ends, with_write-room, with_write-none, log_write, replayed_write, whole_after, fits_after, reach_after_write}
 use Rattle.amr_disk.specs.Limits.{has_room}
 use Rattle.amr_disk.specs.Memory.{limits_of, calls_in}

@@ -1,4 +1,4 @@
-use Rattle.std.proofs.Common.{arith, ◌≡◌, ◌∙◌, sym, Bool, true, false, nat_lt}
+use Rattle.std.proofs.Common.{arith, ◌∙◌, sym}
 use Rattle.std.proofs.lemmas.Bool.{lt-ltb, le-ltb}
 use Rattle.amr_disk.proofs.Logs.{call_is, log_sync, replayed_sync, size_after_sync, reach_after_sync}
 use Rattle.amr_disk.specs.Memory.{limits_of}

@@ -1,4 +1,4 @@
-use Rattle.std.proofs.Common.{◌≡◌, ◌∙◌, ap, List, [], ◌∷◌, ◌++◌, true}
+use Rattle.std.proofs.Common.{◌∙◌, ap, List, [], ◌∷◌, ◌++◌, true}
 use Rattle.amr_disk.specs.Calls.{Call, Synced}
 use Rattle.amr_disk.specs.Memory.{made_of, calls_in}
 use Rattle.amr_disk.specs.Replay.{passes_sync, durable_sync}

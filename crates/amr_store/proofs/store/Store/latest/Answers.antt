@@ -1,5 +1,4 @@
-use Rattle.std.proofs.Common.{◌≡◌, ◌∙◌, ◌+◌, ◌-◌, false, true, sym, refl, arith}
-use Rattle.amr_store.proofs.Bools.{or_none}
+use Rattle.std.proofs.Common.{◌∙◌, ◌+◌, ◌-◌, sym, arith}
 use Rattle.amr_store.proofs.Entries.{latest_none, latest_some}
 use Rattle.amr_store.proofs.Readings.{reads_settled}
 use Rattle.amr_store.proofs.store.Store.latest.Goals as goal
@@ -18,17 +17,8 @@ returns-in-Ok-clause-ready g c = record {
   stands = λ shut s is. c.requires.ready.stands shut s (sym c.read_bytes.ensures.reads.same ∙ is);
 }
 
-pub returns-in-Err : goal.returns-in-Err
-returns-in-Err g c = record {
-  latest = λ shut. tt;
-  none = tt;
-  ready = record {
-    settled = λ shut. reads_settled g.D.Disk.seen g.D.Disk.moment g.D.Disk.leaves c.args.disk.now c.read_bytes.new.disk c.read_bytes.ensures.reads (c.requires.ready.settled shut);
-    stands = λ shut s is. c.requires.ready.stands shut s (sym c.read_bytes.ensures.reads.same ∙ is);
-  };
-  reads = c.read_bytes.ensures.reads;
-  same = record { version = refl; problem = refl; slot_size = refl; base = refl };
-  last = refl;
-  shuts = record { refused = sym c.if-self.false; shut = or_none c.args.self.now.is_shut };
-  reason = record { later = c.read_bytes.ensures.reason.later; failed = λ wrong. let no : false ≡ true = wrong in cc };
+pub returns-in-Err-clause-ready : goal.returns-in-Err-clause-ready
+returns-in-Err-clause-ready g c = record {
+  settled = λ shut. reads_settled g.D.Disk.seen g.D.Disk.moment g.D.Disk.leaves c.args.disk.now c.read_bytes.new.disk c.read_bytes.ensures.reads (c.requires.ready.settled shut);
+  stands = λ shut s is. c.requires.ready.stands shut s (sym c.read_bytes.ensures.reads.same ∙ is);
 }

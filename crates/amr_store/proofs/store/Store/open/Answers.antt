@@ -1,17 +1,15 @@
-use Rattle.std.proofs.Common.{◌∙◌, sym, subst, Option, List, ℕ}
-use Rattle.amr_disk.specs.Image.{Only}
+use Rattle.std.proofs.Common.{◌∙◌, sym}
 use Rattle.amr_store.proofs.Openings.{finds_of, ready_found}
 use Rattle.amr_store.proofs.Pieces.{if_ok_map, if_ok_both}
 use Rattle.amr_store.proofs.Readings.{reads_settled}
 use Rattle.amr_store.proofs.store.Store.open.Goals as goal
 
 pub returns-in-Ok-clause-finds : goal.returns-in-Ok-clause-finds
-returns-in-Ok-clause-finds g c = if_ok_map c.find.result _ _ c.find.ensures.told (λ found told s is. finds_of found s (told s (c.sync.ensures.seen ∙ is)))
+returns-in-Ok-clause-finds g c = if_ok_map c.find.result _ _ c.find.ensures.told (λ found told s is. finds_of found s (told s (c.settle.ensures.reads.same ∙ is)))
 
 pub returns-in-Ok-clause-ready : goal.returns-in-Ok-clause-ready
 returns-in-Ok-clause-ready g c =
     let m = g.D.Disk.moment in
     let l = g.D.Disk.leaves in
-    let settled = subst (λ (o : Option (List ℕ)). Only o (l c.sync.new.self (m c.sync.new.self))) (sym c.sync.ensures.seen) c.in-Ok.ensures.durable in
     if_ok_both c.find.result _ _ _ c.find.ensures.told c.find.ensures.open
-    (λ found told open_is. ready_found g.D.Disk.seen m l found c.find.new.disk open_is (λ s is. told s (sym c.find.ensures.reads.same ∙ is)) (reads_settled g.D.Disk.seen m l c.sync.new.self c.find.new.disk c.find.ensures.reads settled))
+    (λ found told open_is. ready_found g.D.Disk.seen m l found c.find.new.disk open_is (λ s is. told s (sym c.find.ensures.reads.same ∙ is)) (reads_settled g.D.Disk.seen m l c.settle.new.disk c.find.new.disk c.find.ensures.reads c.in-Ok.ensures.settled))

@@ -1,8 +1,9 @@
+use Rattle.std.specs.Prelude.{option_map}
 use Rattle.std.proofs.Common.{◌≡◌, ◌⊎◌, inl, ◌∙◌, ◌+◌, ◌*◌, ap, sym, subst, refl, ℕ, List}
 use Rattle.amr_store.proofs.Renewals.{old_of, renewed_stands}
 use Rattle.amr_store.proofs.Runs.{only_at, started}
 use Rattle.amr_disk.specs.Moments.{StopsIn}
-use Rattle.amr_store.specs.Renewed.{IsOld, renewed_state}
+use Rattle.amr_store.specs.Renewed.{IsOld, renewed_state, renewed_image}
 use Rattle.amr_store.specs.Stands.{problem_in}
 use Rattle.amr_store.specs.Stored.{Held, stored}
 use Rattle.amr_store.proofs.store.Store.renew.Goals as goal
@@ -37,3 +38,9 @@ pub returns-in-Err-write_renewal-clause-stops : goal.returns-in-Err-write_renewa
 returns-in-Err-write_renewal-clause-stops g c shut s is =
     subst (λ (p : List ℕ). StopsIn g.D.Disk.moment g.D.Disk.leaves c.args.disk.now c.write_renewal.new.disk (λ i. (stored i ≡ stored s) ⊎ (stored i ≡ Held (renewed_state p c.args.slot_size c.args.sequence c.args.bytes.now))))
     c.deref-2.ensures.value (c.write_renewal.ensures.stops s is)
+
+pub returns-in-Ok-write_renewal-clause-seen : goal.returns-in-Ok-write_renewal-clause-seen
+returns-in-Ok-write_renewal-clause-seen g c =
+    let seen = g.D.Disk.seen in
+    subst (λ (n : ℕ). seen c.write_renewal.new.disk ≡ option_map (renewed_image (21 + n + 2 * (17 + c.args.self.slot_size)) (problem_in c.args.self) c.args.slot_size c.args.sequence c.args.bytes.now) (seen c.args.disk.now)) (c.len.ensures ∙ c.args.self.problem.ok.0)
+    (subst (λ (p : List ℕ). seen c.write_renewal.new.disk ≡ option_map (renewed_image (21 + c.len.result + 2 * (17 + c.args.self.slot_size)) p c.args.slot_size c.args.sequence c.args.bytes.now) (seen c.args.disk.now)) c.deref-2.ensures.value c.in-Ok-write_renewal.ensures.seen)
