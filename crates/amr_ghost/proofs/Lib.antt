@@ -2,6 +2,7 @@ pub mod Inflows
 pub mod Zips
 pub mod Steps
 pub mod GhostLines
+pub mod LinePlaces
 pub mod Homes
 pub mod Runs
 pub mod BoxSides

@@ -7,18 +7,9 @@ use Rattle.amr_box.specs.declared.Cell.{Cell}
 use Rattle.amr_box.specs.Cells.{Extent, holds}
 use Rattle.amr_patch.specs.declared.patches.Patch.{Patch}
 use Rattle.amr_patch.specs.Places.{grown, in_frame}
-use Rattle.amr_patch.specs.Patches.{SameFluxes, SameOtherMarks, SameOtherValues, box, mark_in, value_in}
+use Rattle.amr_patch.specs.Patches.{box}
 use Rattle.amr_patch.proofs.Entries.{in_grown, same_cells}
-use Rattle.amr_ghost.specs.Filling.{HasGhost, KeepsCells, KeepsGhosts}
-
--- what a patch becomes where a ghost cell is given a value and a mark
-pub record IsGhostSet (q r : Patch) (c : Cell) (v : ℕ) (of_level : Bool) : Type 0 where
-  pub set : value_in r c ≡ v
-  pub marked : mark_in r c ≡ of_level
-  pub others : SameOtherValues c q r
-  pub marks : SameOtherMarks c q r
-  pub fluxes : SameFluxes q r
-  pub of_box : box r ≡ box q
+use Rattle.amr_ghost.specs.Filling.{HasGhost, IsGhostSet, KeepsCells, KeepsGhosts}
 
 not_both : (a b : Bool) → IsTrue (a && not b) → IsTrue b → ⊥
 not_both true true h k = cc

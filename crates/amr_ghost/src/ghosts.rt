@@ -1,16 +1,16 @@
 // Ghost cells of a patch, given their values.
 
-ghost use Rattle.std.specs.Prelude.{◌≡◌, ℕ, ◌+◌, ◌<◌, ◌≤◌, length, slice_index_or, slice_set, true, Bool, IsTrue};
+ghost use Rattle.std.specs.Prelude.{◌≡◌, ℕ, ◌+◌, ◌<◌, ◌≤◌, length, slice_index, slice_index_or, slice_set, true, Bool, IsTrue};
 ghost use Rattle.std.specs.List.{AllZip};
 ghost use Rattle.amr_box.specs.declared.Cell.{Cell};
 ghost use Rattle.amr_box.specs.Cells.{holds};
 ghost use Rattle.amr_patch.specs.declared.patches.Patch.{Patch};
-ghost use Rattle.amr_patch.specs.Places.{in_frame};
+ghost use Rattle.amr_patch.specs.Places.{in_frame, place};
 ghost use Rattle.amr_patch.specs.Patches.{box, mass_in};
 ghost use Rattle.amr_ghost.specs.Lines.{HasRoom, step};
-ghost use Rattle.amr_ghost.specs.Filling.{AreCopied, HasGhost, HasGhosts, KeepsCells, KeepsGhosts};
+ghost use Rattle.amr_ghost.specs.Filling.{AreCopied, HasGhost, HasGhosts, IsGhostSet, KeepsCells, KeepsGhosts};
 
-use crate::places::step;
+use crate::entries::{entries_of, nth};
 use amr_box::{Axis, Cell};
 use amr_patch::Patch;
 
@@ -23,6 +23,23 @@ pub(crate) fn set_ghost(patches: &mut [Patch], i: usize, c: Cell, v: u64, of_lev
     ensures set { (value : Cell → ℕ) (mark : Cell → Bool) (q : Patch) → value c ≡ v → mark c ≡ of_level → HasGhost value mark (slice_index_or patches.new i q) c }
 {
     patches[i].set_ghost(c, v, of_level);
+}
+
+/// The mass at a place.
+fn entry(patch: &Patch, at: usize) -> u64
+    requires { at < length patch.now.values.items }
+    ensures { result ≡ slice_index patch.now.values.items at }
+{
+    patch.values[at]
+}
+
+/// Gives the ghost cell whose entries stand at a place a mass, and marks it as a cell of the level.
+fn set_entry(patch: &mut Patch, at: usize, mass: u64)
+    requires { at < length patch.old.values.items }
+    ensures { (c : Cell) → IsTrue (in_frame (box patch.old) c) → at ≡ place (box patch.old) c → IsGhostSet patch.old patch.new c mass true }
+{
+    patch.values[at] = mass;
+    patch.marks[at] = true;
 }
 
 /// Gives the ghost cells of a line beside patch `i` the masses of the cells of a line in patch `j`, and marks them as cells of
@@ -47,8 +64,14 @@ pub(crate) fn copy_line(
     ensures ghosts { (value : Cell → ℕ) (mark : Cell → Bool) (d : Patch) → AreCopied value mark (slice_index_or patches.old j d) axis to from count → AllZip (KeepsGhosts value mark) patches.old patches.new }
     ensures set { (value : Cell → ℕ) (mark : Cell → Bool) (q d : Patch) → AreCopied value mark (slice_index_or patches.old j d) axis to from count → HasGhosts value mark (slice_index_or patches.new i q) axis to count }
 {
+    if count == 0 {
+        return;
+    }
+    let source = entries_of(&patches[j].bx(), axis, from);
+    let target = entries_of(&patches[i].bx(), axis, to);
     for k in 0..count {
-        let mass = patches[j].mass(step(axis, from, k));
-        set_ghost(patches, i, step(axis, to, k), mass, true);
+        let mass = entry(&patches[j], nth(source, k));
+        let at = nth(target, k);
+        set_entry(&mut patches[i], at, mass);
     }
 }

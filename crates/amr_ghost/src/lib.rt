@@ -1,6 +1,7 @@
 //! Ghost cells: the frame of each patch of a level, by the value of a cell.
 #![tactic(auto)]
 
+mod entries;
 mod filling;
 mod ghosts;
 mod lookup;

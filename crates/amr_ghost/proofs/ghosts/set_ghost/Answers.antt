@@ -1,7 +1,7 @@
 use Rattle.std.proofs.Common.{get_or}
-use Rattle.amr_ghost.specs.Filling.{KeepsCells, KeepsGhosts}
+use Rattle.amr_ghost.specs.Filling.{IsGhostSet, KeepsCells, KeepsGhosts}
 use Rattle.amr_ghost.proofs.Zips.{keeps_refl, zip_set}
-use Rattle.amr_ghost.proofs.Steps.{IsGhostSet, ghost_keeps_cells, ghost_keeps_ghosts, ghosts_refl}
+use Rattle.amr_ghost.proofs.Steps.{ghost_keeps_cells, ghost_keeps_ghosts, ghosts_refl}
 use Rattle.amr_ghost.proofs.ghosts.set_ghost.Goals as goal
 
 pub returns-clause-kept : goal.returns-clause-kept

@@ -1,0 +1,53 @@
+// Where the entries of the cells of a line stand in the lists of a patch.
+
+ghost use Rattle.std.specs.Prelude.{◌≡◌, ℕ, ◌+◌, ◌*◌, ◌<◌, ◌≤◌, ◌^◌, pos, negsuc, ◌+ℤ◌, ◌-ℤ◌, ◌≤ℤ◌, ◌<ℤ◌, IsTrue};
+ghost use Rattle.amr_box.specs.Cells.{IsNear, height, holds, width};
+ghost use Rattle.amr_patch.specs.Places.{grown, place};
+ghost use Rattle.amr_ghost.specs.Lines.{step};
+
+use amr_box::{Axis, Bx, Cell};
+
+/// The places of a line's cells: that of the first cell, and how many places on that of each next one is.
+#[derive(Clone, Copy, Debug)]
+pub(crate) struct Entries {
+    pub(crate) first: usize,
+    pub(crate) stride: usize,
+}
+
+/// How far a coordinate lies above another that isn't greater. Both lie between -2^25 and 2^25.
+fn distance(low: i32, z: i32) -> usize
+    requires from { negsuc 33554432 <ℤ low }
+    requires order { low ≤ℤ z }
+    requires to { z <ℤ pos 33554433 }
+    ensures { pos result ≡ z -ℤ low }
+{
+    (z - low) as usize
+}
+
+/// The places of the cells of a line in a patch of this box.
+pub(crate) fn entries_of(b: &Bx, axis: Axis, c: Cell) -> Entries
+    requires near { IsNear b.now }
+    requires inside { IsTrue (holds (grown b.now) c) }
+    ensures { (k : ℕ) → result.first + k * result.stride ≡ place b.now (step axis c k) }
+{
+    let lo = b.lo();
+    let row_length = b.width() as usize + 2;
+    let row = distance(lo.y - 1, c.y);
+    let column = distance(lo.x - 1, c.x);
+    let first = row * row_length + column;
+    match axis {
+        Axis::X => Entries { first, stride: 1 },
+        Axis::Y => Entries {
+            first,
+            stride: row_length,
+        },
+    }
+}
+
+/// The place of the cell that is `k` cells on.
+pub(crate) fn nth(line: Entries, k: u32) -> usize
+    requires { line.first + k * line.stride < 2 ^ 63 }
+    ensures { result ≡ line.first + k * line.stride }
+{
+    line.first + k as usize * line.stride
+}
