@@ -26,12 +26,15 @@ pub(crate) fn step(axis: Axis, c: Cell, k: u32) -> Cell
     }
 }
 
-/// A coordinate of an axis of `n` cells, taken modulo `n` where the axis is periodic.
+/// A coordinate of an axis of `n` cells, taken modulo `n` where the axis is periodic. Most are inside, and take no division.
 fn wrapped(wrap: bool, n: u32, z: i32) -> i32
     requires some { 0 < n }
     requires few { n ≤ 4096 }
     ensures { result ≡ wrapped wrap n z }
 {
+    if is_inside(n, z) {
+        return z;
+    }
     if wrap { z.rem_euclid(n as i32) } else { z }
 }
 
