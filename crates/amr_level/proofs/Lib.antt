@@ -1,4 +1,7 @@
 mod Lists
+mod Runs
+mod Gathering
+mod Entries
 pub mod Values
 mod Boxes
 mod Repeats

@@ -22,7 +22,7 @@ use Rattle.amr_patch.proofs.LevelLaws.{pairwise_at, pairwise_length}
 use Rattle.amr_ghost.proofs.Zips.{some_mass}
 use Rattle.amr_flux.specs.Faces.{border_faces, border_place, fluxes_with, is_border, owns, passing, x_end, y_end}
 use Rattle.amr_flux.proofs.Shown.{border_is, border_of_box, border_placed, own_is}
-use Rattle.amr_level.specs.declared.borders.Source.{Source}
+use Rattle.amr_level.specs.Runs.{Source}
 use Rattle.amr_level.specs.Joints.{HasSources, IsSource, home_face, is_joint, joints}
 use Rattle.amr_level.specs.Steps.{IsReadable, IsReady, KeepsFluxes, base_fluxes}
 use Rattle.amr_level.proofs.Lists.{in_boxes_of, passing_few, passing_same}

@@ -3,7 +3,7 @@ use Rattle.std.proofs.Common.{◌≡◌, ℕ, ◌<◌, Bool, true, false, cond, 
 use Rattle.std.proofs.lemmas.List.{get_or-map, length-map}
 use Rattle.amr_box.specs.declared.Cell.{Cell}
 use Rattle.amr_box.specs.declared.Face.{Face}
-use Rattle.amr_box.specs.Cells.{Extent, height, holds, width}
+use Rattle.amr_box.specs.Cells.{Extent, cell, height, holds, width}
 use Rattle.amr_def.specs.Domain.{Domain, home_cell}
 use Rattle.amr_def.specs.Flux.{face, high_cell}
 use Rattle.amr_patch.specs.declared.patches.Patch.{Patch}
@@ -12,7 +12,8 @@ use Rattle.amr_patch.specs.Patches.{box, in_patches}
 use Rattle.amr_patch.specs.Orders.{IsHolder}
 use Rattle.amr_patch.proofs.LevelLaws.{pairwise_push}
 use Rattle.amr_patch.proofs.Lookups.{in_one}
-use Rattle.amr_level.specs.declared.borders.Source.{Source}
+use Rattle.amr_level.specs.declared.borders.Run.{Run}
+use Rattle.amr_level.specs.Runs.{HasOneMore, Source, expanded, source}
 use Rattle.amr_flux.specs.Faces.{passing, x_end, y_end}
 use Rattle.amr_level.specs.Joints.{IsSource, is_joint, joints}
 use Rattle.amr_level.proofs.Lists.{in_boxes_of}
@@ -50,6 +51,11 @@ module _ (d : Domain) (ps : List Patch) (f : Face) where
       let joint : is_joint d (map box ps) f ≡ true = joint_is c home ∙ in_one ps c s.patch h in
       let more : Pairwise (IsSource d (map box ps)) (fs ++ f ∷ []) (ss ++ s ∷ []) = pairwise_push (IsSource d (map box ps)) fs ss f s has src in
       subst (λ (gs : List Face). Pairwise (IsSource d (map box ps)) gs new) (sym (some_list fs (is_joint d (map box ps) f) joint)) (subst (λ (ts : List Source). Pairwise (IsSource d (map box ps)) (fs ++ f ∷ []) ts) (sym pushed) more)
+
+module _ (d : Domain) (ps : List Patch) (f : Face) where
+  -- a face was taken into the last run
+  pub more_source : (c : Cell) (g : Face) (fs : List Face) (old new : List Run) → c ≡ home_cell d (high_cell f) → g ≡ face f.axis c.x c.y → HasOneMore ps g old new → Pairwise (IsSource d (map box ps)) fs (expanded old) → Pairwise (IsSource d (map box ps)) (fs ++ cond (is_joint d (map box ps) f) (f ∷ []) []) (expanded new)
+  more_source c g fs old new home is more has = one_source d ps f c (source more.patch g) fs (expanded old) (expanded new) home (subst (λ (t : Face). IsHolder ps (cell t.x t.y) more.patch) is more.held) is has more.faces
 
 pub joints_are : (d : Domain) (bs : List Extent) (b : Extent) → joints d bs b ≡ passing (is_joint d bs) (x_end b) (height b) ++ passing (is_joint d bs) (y_end b) (width b)
 unfolding joints

@@ -20,7 +20,8 @@ use Rattle.amr_flux.specs.Faces.{border_faces, fluxes_with, owns}
 use Rattle.amr_flux.specs.Rows.{IsSmallFlow}
 use Rattle.amr_flux.specs.Shares.{AreSmall}
 use Rattle.amr_flux.proofs.Shown.{net_alike}
-use Rattle.amr_level.specs.declared.borders.Source.{Source}
+use Rattle.amr_level.specs.declared.borders.Run.{Run}
+use Rattle.amr_level.specs.Runs.{Source, expanded}
 use Rattle.amr_level.specs.declared.borders.Borders.{Borders}
 use Rattle.amr_level.specs.Joints.{HasSources, IsBordersOf}
 use Rattle.amr_level.specs.Steps.{IsReadable, IsReady, IsUpdated, KeepsFluxes, base_fluxes}
@@ -28,18 +29,18 @@ use Rattle.amr_level.proofs.Values.{flux_small, mass_kept}
 use Rattle.amr_level.proofs.Owners.{all_fluxes, entry_small, source_count, sources_few, sources_readable}
 use Rattle.amr_level.proofs.Filled.{inside_level}
 
-pub sources_long : (p : Problem) (ps : List Patch) (borders : Borders) → IsBordersOf p (map box ps) borders → length borders.sources.items ≡ length ps
+pub sources_long : (p : Problem) (ps : List Patch) (borders : Borders) → IsBordersOf p (map box ps) borders → length borders.runs.items ≡ length ps
 unfolding IsBordersOf
-sources_long p ps borders has = pairwise_length (λ b (v : Vec Source Global). HasSources (domain p 0) (map box ps) b v.items) (map box ps) borders.sources.items has ∙ length-map ps box
+sources_long p ps borders has = pairwise_length (λ b (v : Vec Run Global). HasSources (domain p 0) (map box ps) b (expanded v.items)) (map box ps) borders.runs.items has ∙ length-map ps box
 
-sources_of : (p : Problem) (ps : List Patch) (borders : Borders) (i : ℕ) (e : Patch) (v : Vec Source Global) → IsBordersOf p (map box ps) borders → i < length ps → v ≡ get_or borders.sources.items i v → HasSources (domain p 0) (map box ps) (box (get_or ps i e)) v.items
+sources_of : (p : Problem) (ps : List Patch) (borders : Borders) (i : ℕ) (e : Patch) (v : Vec Run Global) → IsBordersOf p (map box ps) borders → i < length ps → v ≡ get_or borders.runs.items i v → HasSources (domain p 0) (map box ps) (box (get_or ps i e)) (expanded v.items)
 unfolding IsBordersOf
 sources_of p ps borders i e v has lt is =
     let bs = map box ps in
-    let R : Extent → Vec Source Global → Type 0 = λ b w. HasSources (domain p 0) bs b w.items in
-    let below : i < length borders.sources.items = omega (arith, lt, sources_long p ps borders has) in
-    let at : R (get_or bs i (box e)) (get_or borders.sources.items i v) = pairwise_at R bs borders.sources.items i (box e) v has below in
-    subst (λ (b : Extent). R b v) (get_or-map box ps i e (box e) lt) (subst (λ (w : Vec Source Global). R (get_or bs i (box e)) w) (sym is) at)
+    let R : Extent → Vec Run Global → Type 0 = λ b w. HasSources (domain p 0) bs b (expanded w.items) in
+    let below : i < length borders.runs.items = omega (arith, lt, sources_long p ps borders has) in
+    let at : R (get_or bs i (box e)) (get_or borders.runs.items i v) = pairwise_at R bs borders.runs.items i (box e) v has below in
+    subst (λ (b : Extent). R b v) (get_or-map box ps i e (box e) lt) (subst (λ (w : Vec Run Global). R (get_or bs i (box e)) w) (sym is) at)
 
 keeps_itself : (q r : Patch) → r ≡ q → KeepsFluxes q r
 keeps_itself q r e = record { of_box = ap box e; marks = λ c. ap (λ (s : Patch). mark_in s c) e; fluxes = λ f h. ap (λ (s : Patch). flux_in s f) e }
@@ -53,7 +54,7 @@ module _ (p : Problem) (ps qs : List Patch) (i : ℕ) (ready : All (IsReady p (m
       by_place (inl below) = (done k d below).kept
       by_place (inr past) = keeps_itself (get_or ps k d) (get_or qs k d) (rest k d past)
 
-  module _ (e : Patch) (borders : Borders) (v : Vec Source Global) (sources : List Source) (has : IsBordersOf p (map box ps) borders) (is : v ≡ get_or borders.sources.items i v) (items : sources ≡ v.items) where
+  module _ (e : Patch) (borders : Borders) (v : Vec Run Global) (sources : List Source) (has : IsBordersOf p (map box ps) borders) (is : v ≡ get_or borders.runs.items i v) (items : sources ≡ expanded v.items) where
     unchanged : get_or qs i e ≡ get_or ps i e
     unchanged = rest i e (omega arith)
 
@@ -72,31 +73,28 @@ module _ (p : Problem) (ps qs : List Patch) (i : ℕ) (ready : All (IsReady p (m
     pub own_small : (f : Face) → owns (get_or qs i e) f ≡ true → IsSmallFlow (flux_in (get_or qs i e) f)
     own_small f own = subst (λ (z : ℤ). IsSmallFlow z) (sym (here.fluxes f own)) (flux_small p (masses_in ps) small f)
 
-    module _ (sizes : List ℕ) (long : length sources ≤ length sizes) (read : (k : ℕ) (s : Source) (r : Patch) → k < length sources → slice_index sizes k ≡ unsigned_abs (flux_in (get_or qs (get_or sources k s).patch r) (get_or sources k s).face)) where
-      border : List ℕ
-      border = take (length sources) sizes
+    module _ (sizes : List ℕ) (n : ℕ) (count : n ≡ length sources) (long : n ≤ length sizes) (read : (k : ℕ) (s : Source) (r : Patch) → k < length sources → slice_index sizes k ≡ unsigned_abs (flux_in (get_or qs (get_or sources k s).patch r) (get_or sources k s).face)) where
+      pub long_border : n ≡ length (take n sizes)
+      long_border = sym (length-take-le n sizes long)
 
-      pub long_border : length sources ≡ length (take (length sources) sizes)
-      long_border = sym (length-take-le (length sources) sizes long)
+      pub border_count : length (take n sizes) ≡ length (border_faces (get_or qs i e))
+      border_count = sym long_border ∙ count ∙ sym (source_count p ps qs ready same keeps (get_or qs i e) here sources held)
 
-      pub border_count : length (take (length sources) sizes) ≡ length (border_faces (get_or qs i e))
-      border_count = sym long_border ∙ sym (source_count p ps qs ready same keeps (get_or qs i e) here sources held)
+      entries : (k : ℕ) (s : Source) (r : Patch) → k < length sources → slice_index (take n sizes) k ≡ unsigned_abs (flux_in (get_or qs (get_or sources k s).patch r) (get_or sources k s).face)
+      entries k s r h = get_or-take n sizes k 0 (omega (arith, h, count)) ∙ read k s r h
 
-      entries : (k : ℕ) (s : Source) (r : Patch) → k < length sources → slice_index (take (length sources) sizes) k ≡ unsigned_abs (flux_in (get_or qs (get_or sources k s).patch r) (get_or sources k s).face)
-      entries k s r h = get_or-take (length sources) sizes k 0 h ∙ read k s r h
+      pub border_small : AreSmall (take n sizes)
+      border_small = record { at = λ k h. entry_small p ps qs ready same keeps (get_or qs i e) here sources held (take n sizes) entries small k (omega (arith, h, count, long_border)) }
 
-      pub border_small : AreSmall (take (length sources) sizes)
-      border_small = record { at = λ k h. entry_small p ps qs ready same keeps (get_or qs i e) here sources held (take (length sources) sizes) entries small k (omega (arith, h, long_border)) }
+      net_is : (c : Cell) → holds (box (get_or qs i e)) c ≡ true → net (fluxes_with p 0 (get_or qs i e) (take n sizes)) c ≡ net (base_fluxes p (masses_in ps)) c
+      net_is c h = net_alike (box (get_or qs i e)) (fluxes_with p 0 (get_or qs i e) (take n sizes)) (base_fluxes p (masses_in ps)) (all_fluxes p ps qs ready same keeps (get_or qs i e) here sources held (take n sizes) entries) c h
 
-      net_is : (c : Cell) → holds (box (get_or qs i e)) c ≡ true → net (fluxes_with p 0 (get_or qs i e) (take (length sources) sizes)) c ≡ net (base_fluxes p (masses_in ps)) c
-      net_is c h = net_alike (box (get_or qs i e)) (fluxes_with p 0 (get_or qs i e) (take (length sources) sizes)) (base_fluxes p (masses_in ps)) (all_fluxes p ps qs ready same keeps (get_or qs i e) here sources held (take (length sources) sizes) entries) c h
-
-      pub kept : (c : Cell) → holds (box (get_or qs i e)) c ≡ true → pos 0 ≤ℤ (pos (mass_in (get_or qs i e) c) +ℤ net (fluxes_with p 0 (get_or qs i e) (take (length sources) sizes)) c)
+      pub kept : (c : Cell) → holds (box (get_or qs i e)) c ≡ true → pos 0 ≤ℤ (pos (mass_in (get_or qs i e) c) +ℤ net (fluxes_with p 0 (get_or qs i e) (take n sizes)) c)
       kept c h = subst (λ (z : ℤ). pos 0 ≤ℤ (pos (mass_in (get_or qs i e) c) +ℤ z)) (sym (net_is c h)) (mass_kept p (masses_in ps) (inside_level p ps inside) c (mass_in (get_or qs i e) c) (here.masses c h))
 
-      pub updated_one : (r : Patch) → KeepsFluxes (get_or qs i e) r → ((c : Cell) → holds (box (get_or qs i e)) c ≡ true → pos (mass_in r c) ≡ pos (mass_in (get_or qs i e) c) +ℤ net (fluxes_with p 0 (get_or qs i e) (take (length sources) sizes)) c) → IsUpdated (base_fluxes p (masses_in ps)) (get_or qs i e) r
+      pub updated_one : (r : Patch) → KeepsFluxes (get_or qs i e) r → ((c : Cell) → holds (box (get_or qs i e)) c ≡ true → pos (mass_in r c) ≡ pos (mass_in (get_or qs i e) c) +ℤ net (fluxes_with p 0 (get_or qs i e) (take n sizes)) c) → IsUpdated (base_fluxes p (masses_in ps)) (get_or qs i e) r
       updated_one r keeps_all made = record { kept = keeps_all; masses = λ c h. made c h ∙ ap (λ (z : ℤ). pos (mass_in (get_or qs i e) c) +ℤ z) (net_is c h) }
 
-pub borders_are : (p : Problem) (bs : List Extent) (vs : Vec (Vec Source Global) Global) → Pairwise (λ b (w : Vec Source Global). HasSources (domain p 0) bs b w.items) bs vs.items → IsBordersOf p bs (record { sources = vs })
+pub borders_are : (p : Problem) (bs : List Extent) (vs : Vec (Vec Run Global) Global) → Pairwise (λ b (w : Vec Run Global). HasSources (domain p 0) bs b (expanded w.items)) bs vs.items → IsBordersOf p bs (record { runs = vs })
 unfolding IsBordersOf
 borders_are p bs vs h = h

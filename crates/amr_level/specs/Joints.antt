@@ -8,8 +8,8 @@ use Rattle.amr_def.specs.State.{in_boxes}
 use Rattle.amr_def.specs.Flux.{face, high_cell}
 use Rattle.amr_patch.specs.Pairwise.{Pairwise}
 use Rattle.amr_flux.specs.Faces.{passing, x_end, y_end}
-use Rattle.amr_level.specs.declared.borders.Source.{Source}
 use Rattle.amr_level.specs.declared.borders.Borders.{Borders}
+use Rattle.amr_level.specs.Runs.{Source, expanded}
 
 -- whether the cell beyond a face, wrapped on periodic axes, is one of the level
 abbrev pub is_joint : Domain → List Extent → Face → Bool
@@ -32,6 +32,6 @@ pub record IsSource (d : Domain) (bs : List Extent) (f : Face) (s : Source) : Ty
 abbrev pub HasSources : Domain → List Extent → Extent → List Source → Type 0
 HasSources d bs b sources = Pairwise (IsSource d bs) (joints d bs b) sources
 
--- a list of sources for each box of level 0
+-- for each box of level 0 runs of its sources
 unfoldable pub IsBordersOf : Problem → List Extent → Borders → Type 0
-IsBordersOf p bs borders = Pairwise (λ b sources. HasSources (domain p 0) bs b sources.items) bs borders.sources.items
+IsBordersOf p bs borders = Pairwise (λ b runs. HasSources (domain p 0) bs b (expanded runs.items)) bs borders.runs.items

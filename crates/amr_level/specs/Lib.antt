@@ -1,2 +1,3 @@
 pub mod Joints
+pub mod Runs
 pub mod Steps

@@ -14,7 +14,7 @@ use Rattle.amr_patch.specs.Places.{is_face_of}
 use Rattle.amr_patch.specs.Patches.{SameMarks, SameValues, box, flux_in, mass_in, value_in}
 use Rattle.amr_ghost.specs.Frames.{HasGhostMarks}
 use Rattle.amr_flux.specs.Faces.{LiesIn, flux_beside, in_reach, owns}
-use Rattle.amr_level.specs.declared.borders.Source.{Source}
+use Rattle.amr_level.specs.Runs.{Source}
 
 -- each patch has, at each face that it owns, this flux
 abbrev pub HasFluxes : Fluxes → List Patch → Type 0
