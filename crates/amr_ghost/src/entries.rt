@@ -1,7 +1,7 @@
 // Where the entries of the cells of a line stand in the lists of a patch.
 
-ghost use Rattle.std.specs.Prelude.{◌≡◌, ℕ, ◌+◌, ◌*◌, ◌<◌, ◌≤◌, ◌^◌, pos, negsuc, ◌+ℤ◌, ◌-ℤ◌, ◌≤ℤ◌, ◌<ℤ◌, IsTrue};
-ghost use Rattle.amr_box.specs.Cells.{IsNear, height, holds, width};
+ghost use Rattle.std.specs.Prelude.{◌≡◌, ℕ, ◌+◌, ◌*◌, ◌<◌, ◌^◌, pos, negsuc, ◌-ℤ◌, ◌≤ℤ◌, ◌<ℤ◌, IsTrue};
+ghost use Rattle.amr_box.specs.Cells.{IsNear, holds};
 ghost use Rattle.amr_patch.specs.Places.{grown, place};
 ghost use Rattle.amr_ghost.specs.Lines.{step};
 
