@@ -1,5 +1,5 @@
 // A sink in memory.
-ghost use Rattle.std.specs.Prelude.{◌≡◌, ◌<◌, ◌≤◌, ◌-◌, [], IfOk, is_err, length, min};
+ghost use Rattle.std.specs.Prelude.{◌≡◌, ◌<◌, ◌≤◌, ◌-◌, [], IfOk, OnOk, is_err, length, min};
 ghost use Rattle.amr_causes.specs.Causes.{HasCause};
 ghost use Rattle.amr_causes.specs.Bytes.{Grows, written};
 ghost use Rattle.amr_io.specs.Memory.{write_fails, sink_after};
@@ -74,6 +74,7 @@ impl Sink for MemSink {
         ensures some { IfOk result (λ n. 0 < length piece.now → 0 < n) }
         ensures bytes { Grows (λ s bytes. bytes ≡ s.held) self.old self.new (written result piece.now) }
         ensures cause { HasCause self.old.faults self.new.faults result }
+        ensures no_fault { OnOk result (self.new.faults ≡ self.old.faults) }
         // It fails exactly where the call's number is in the list, or the sink is full.
         ensures fails { is_err result ≡ write_fails self.old }
         ensures amount { IfOk result (λ n. n ≡ min (length piece.now) (min self.old.most (self.old.capacity - length self.old.held))) }

@@ -1,5 +1,5 @@
 // A source of bytes.
-ghost use Rattle.std.specs.Prelude.{◌≡◌, ◌≤◌, ◌+◌, List, ℕ, Option, length, IfOk, IsErrOf};
+ghost use Rattle.std.specs.Prelude.{◌≡◌, ◌≢◌, ◌≤◌, ◌+◌, List, ℕ, Option, length, IfOk, IsErrOf, OnOk};
 ghost use Rattle.std.specs.Io.{ReadsAtMost};
 ghost use Rattle.std.specs.Io.KnownBytes.{ReadConsumes, Consumes, IsAtEnd};
 ghost use Rattle.amr_causes.specs.Causes.{Rose, HasCause};
@@ -25,7 +25,9 @@ pub trait Source {
         // They are the first of those that were left; a fault takes none.
         ensures bytes { ReadConsumes (left self.old) (left self.new) result into.new }
         // A fault comes only where the count rose, and the count doesn't fall.
-        ensures cause { HasCause (faults self.old) (faults self.new) result };
+        ensures cause { HasCause (faults self.old) (faults self.new) result }
+        // An `Ok` leaves the count as it was.
+        ensures no_fault { OnOk result (faults self.new ≡ faults self.old) };
 }
 
 /// Why [`read_all`] has no answer.
@@ -74,6 +76,8 @@ pub fn read_all<S: Source>(alloc: Global, src: &mut S, max: usize) -> Result<Vec
     ensures taken { (taken : List ℕ) × Consumes (S.left src.old) (S.left src.new) taken × (length taken ≤ max + 1) }
     ensures read_fault { IsErrOf result ReadAll.ReadFault → Rose (S.faults src.old) (S.faults src.new) }
     ensures later { S.faults src.old ≤ S.faults src.new }
+    // Any answer but a read fault leaves the count as it was.
+    ensures no_fault { result ≢ Err ReadAll.ReadFault → S.faults src.new ≡ S.faults src.old }
 {
     let mut all = Vec::new(alloc);
     let mut piece = [0u8; PIECE];

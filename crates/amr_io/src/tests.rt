@@ -1,9 +1,10 @@
 // What no clause says: that the calls succeed, and what stands at each call that fails.
 
 use crate::{
-    MemSink, MemSource, Piece, ReadAll, Sink, StdSink, StdSource, Text, WriteFault, read_all,
-    write_pieces, write_whole,
+    MemSink, MemSource, Piece, ReadAll, ReadFault, Sink, Source, StdSink, StdSource, Text,
+    WriteFault, read_all, write_pieces, write_whole,
 };
+use std::alloc::Global;
 use std::fmt::Write as _;
 use std::io::{self, Read, Write};
 use std::test::Fail;
@@ -170,5 +171,116 @@ fn sink_over_a_writer(rt: HostRuntime) -> Result<(), Fail> {
     assert_eq!(rt; sink.write(BYTES), Ok(1));
     assert_eq!(rt; sink.write(BYTES), Err(WriteFault));
     assert_eq!(rt; sink.write(BYTES), Err(WriteFault));
+    Ok(())
+}
+
+// A reader and a writer that fail at their first `fails` calls, and then pass `size` bytes, and one more each call.
+#[derive(Drop)]
+struct OneMore<'a> {
+    rest: &'a [u8],
+    size: usize,
+    fails: u32,
+}
+
+impl Read for OneMore<'_> {
+    fn read(&mut self, into: &mut [u8]) -> io::Result<usize> {
+        if self.fails > 0 {
+            self.fails -= 1;
+            return Err(io::ErrorKind::BrokenPipe.into());
+        }
+        let n = self.size.min(into.len()).min(self.rest.len());
+        into[..n].copy_from_slice(&self.rest[..n]);
+        self.rest = &self.rest[n..];
+        self.size = self.size.saturating_add(1);
+        Ok(n)
+    }
+}
+
+#[derive(Drop)]
+struct TakesMore {
+    held: Vec<u8>,
+    size: usize,
+    fails: u32,
+}
+
+impl Write for TakesMore {
+    fn write(&mut self, piece: &[u8]) -> io::Result<usize> {
+        if self.fails > 0 {
+            self.fails -= 1;
+            return Err(io::ErrorKind::BrokenPipe.into());
+        }
+        let n = self.size.min(piece.len());
+        match self.held.extend_from_slice(&piece[..n]) {
+            Ok(()) => {}
+            Err(_) => return Err(io::ErrorKind::OutOfMemory.into()),
+        }
+        self.size = self.size.saturating_add(1);
+        Ok(n)
+    }
+
+    fn flush(&mut self) -> io::Result<()> {
+        Ok(())
+    }
+}
+
+// So many bytes, no two neighbours the same.
+fn counting_bytes(alloc: Global, n: usize) -> Result<Vec<u8>, Fail> {
+    let mut bytes = Vec::with_capacity(alloc, n)?;
+    for i in 0..n {
+        bytes.push((i % 251) as u8)?;
+    }
+    Ok(bytes)
+}
+
+#[test]
+fn pieces_of_every_size(rt: HostRuntime) -> Result<(), Fail> {
+    let alloc = rt.alloc();
+    let bytes = counting_bytes(alloc, 62_000)?;
+    for size in [1, 4_090] {
+        let reader = OneMore {
+            rest: &bytes,
+            size,
+            fails: 0,
+        };
+        let mut src = StdSource::make(reader);
+        let all = read_all(alloc, &mut src, 62_000).expect(&rt, "the bytes");
+        assert!(rt; all == bytes, "read from {size} on");
+
+        let mut writer = TakesMore {
+            held: Vec::new(alloc),
+            size,
+            fails: 0,
+        };
+        let mut sink = StdSink::make(&mut writer);
+        assert_eq!(rt; write_whole(&mut sink, &bytes), Ok(()));
+        drop(sink);
+        assert!(rt; writer.held == bytes, "written from {size} on");
+    }
+    Ok(())
+}
+
+#[test]
+fn one_fault_is_not_tried_again(rt: HostRuntime) -> Result<(), Fail> {
+    let alloc = rt.alloc();
+    let mut src = StdSource::make(OneMore {
+        rest: BYTES,
+        size: 16,
+        fails: 1,
+    });
+    let mut into = [0u8; 16];
+    assert_eq!(rt; src.read(&mut into), Err(ReadFault));
+    assert_eq!(rt; src.read(&mut into), Ok(16));
+    assert_eq!(rt; into.as_slice(), BYTES);
+
+    let mut writer = TakesMore {
+        held: Vec::new(alloc),
+        size: 16,
+        fails: 1,
+    };
+    let mut sink = StdSink::make(&mut writer);
+    assert_eq!(rt; sink.write(BYTES), Err(WriteFault));
+    assert_eq!(rt; sink.write(BYTES), Ok(16));
+    drop(sink);
+    assert_eq!(rt; writer.held.as_slice(), BYTES);
     Ok(())
 }

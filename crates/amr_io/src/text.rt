@@ -3,6 +3,7 @@ ghost use Rattle.std.specs.Prelude.{◌≡◌, ◌≤◌, ◌+◌, ◌++◌, [],
 ghost use Rattle.amr_causes.specs.Causes.{HasCause};
 ghost use Rattle.amr_causes.specs.Bytes.{Grows, TakesPrefix};
 ghost use Rattle.amr_io.specs.Kept.{Sent, piece_text, pieces_text};
+ghost use Rattle.amr_io.specs.Short.{FallsShort};
 
 use crate::{Piece, Sink, WriteFault, write_whole};
 use itoa::Buffer;
@@ -11,8 +12,8 @@ use std::marker::Model;
 const ROOM: usize = 4096;
 
 /// Text on its way to a sink, through a buffer of 4,096 bytes. It is seen as what it keeps back: after a call that succeeded,
-/// what the sink got and then what is kept back is all that was put. A call that failed has sent a prefix of that; the
-/// buffer is then only dropped. No call takes memory.
+/// what the sink got and then what is kept back is all that was put. A call that failed has sent a prefix of that, and not
+/// the whole; the buffer is then only dropped. No call takes memory.
 #[derive(Drop)]
 pub struct Text {
     kept: [u8; ROOM],
@@ -44,7 +45,9 @@ impl Text {
     pub fn put_str<O: Sink>(&mut self, sink: &mut O, text: &str) -> Result<(), WriteFault>
         ensures sent { OnOk result (Sent O.holds sink.old sink.new self.old self.new text.now) }
         ensures part { OnErr result (TakesPrefix O.holds sink.old sink.new (self.old ++ text.now)) }
+        ensures short { OnErr result (FallsShort O.holds sink.old sink.new (self.old ++ text.now)) }
         ensures cause { HasCause (O.faults sink.old) (O.faults sink.new) result }
+        ensures no_fault { OnOk result (O.faults sink.new ≡ O.faults sink.old) }
     {
         self.put(sink, text.as_bytes())
     }
@@ -53,7 +56,9 @@ impl Text {
     pub fn put_number<O: Sink>(&mut self, sink: &mut O, n: u64) -> Result<(), WriteFault>
         ensures sent { OnOk result (Sent O.holds sink.old sink.new self.old self.new (decimal n)) }
         ensures part { OnErr result (TakesPrefix O.holds sink.old sink.new (self.old ++ decimal n)) }
+        ensures short { OnErr result (FallsShort O.holds sink.old sink.new (self.old ++ decimal n)) }
         ensures cause { HasCause (O.faults sink.old) (O.faults sink.new) result }
+        ensures no_fault { OnOk result (O.faults sink.new ≡ O.faults sink.old) }
     {
         let mut digits = Buffer::new();
         self.put(sink, digits.format(n).as_bytes())
@@ -67,7 +72,9 @@ impl Text {
     ) -> Result<(), WriteFault>
         ensures sent { OnOk result (Sent O.holds sink.old sink.new self.old self.new (pieces_text pieces.now)) }
         ensures part { OnErr result (TakesPrefix O.holds sink.old sink.new (self.old ++ pieces_text pieces.now)) }
+        ensures short { OnErr result (FallsShort O.holds sink.old sink.new (self.old ++ pieces_text pieces.now)) }
         ensures cause { HasCause (O.faults sink.old) (O.faults sink.new) result }
+        ensures no_fault { OnOk result (O.faults sink.new ≡ O.faults sink.old) }
     {
         for piece in pieces {
             self.put_piece(sink, piece)?;
@@ -78,7 +85,9 @@ impl Text {
     fn put_piece<O: Sink>(&mut self, sink: &mut O, piece: &Piece<'_>) -> Result<(), WriteFault>
         ensures sent { OnOk result (Sent O.holds sink.old sink.new self.old self.new (piece_text piece.now)) }
         ensures part { OnErr result (TakesPrefix O.holds sink.old sink.new (self.old ++ piece_text piece.now)) }
+        ensures short { OnErr result (FallsShort O.holds sink.old sink.new (self.old ++ piece_text piece.now)) }
         ensures cause { HasCause (O.faults sink.old) (O.faults sink.new) result }
+        ensures no_fault { OnOk result (O.faults sink.new ≡ O.faults sink.old) }
     {
         match piece {
             Piece::Str(text) => self.put_str(sink, text),
@@ -86,12 +95,15 @@ impl Text {
         }
     }
 
-    /// Sends what is kept back.
+    /// Sends what is kept back. After a fault it is kept back as before, though a part of it went out.
     pub fn flush<O: Sink>(&mut self, sink: &mut O) -> Result<(), WriteFault>
         ensures sent { OnOk result (Sent O.holds sink.old sink.new self.old self.new []) }
         ensures part { OnErr result (TakesPrefix O.holds sink.old sink.new self.old) }
+        ensures short { OnErr result (FallsShort O.holds sink.old sink.new self.old) }
         ensures empty { OnOk result (self.new ≡ []) }
+        ensures stays { OnErr result (self.new ≡ self.old) }
         ensures cause { HasCause (O.faults sink.old) (O.faults sink.new) result }
+        ensures no_fault { OnOk result (O.faults sink.new ≡ O.faults sink.old) }
     {
         write_whole(sink, &self.kept[..self.len])?;
         self.len = 0;
@@ -101,7 +113,9 @@ impl Text {
     fn put<O: Sink>(&mut self, sink: &mut O, bytes: &[u8]) -> Result<(), WriteFault>
         ensures sent { OnOk result (Sent O.holds sink.old sink.new self.old self.new bytes.now) }
         ensures part { OnErr result (TakesPrefix O.holds sink.old sink.new (self.old ++ bytes.now)) }
+        ensures short { OnErr result (FallsShort O.holds sink.old sink.new (self.old ++ bytes.now)) }
         ensures cause { HasCause (O.faults sink.old) (O.faults sink.new) result }
+        ensures no_fault { OnOk result (O.faults sink.new ≡ O.faults sink.old) }
     {
         if bytes.len() <= ROOM - self.len {
             self.append(bytes);
@@ -126,11 +140,13 @@ impl Text {
     }
 }
 
-/// Writes pieces in turn, all of them where no fault comes.
+/// Writes pieces in turn, all of them where no fault comes, and otherwise a prefix that isn't the whole.
 pub fn write_pieces<O: Sink>(sink: &mut O, pieces: &[Piece<'_>]) -> Result<(), WriteFault>
     ensures whole { OnOk result (Grows O.holds sink.old sink.new (pieces_text pieces.now)) }
     ensures part { TakesPrefix O.holds sink.old sink.new (pieces_text pieces.now) }
+    ensures short { OnErr result (FallsShort O.holds sink.old sink.new (pieces_text pieces.now)) }
     ensures cause { HasCause (O.faults sink.old) (O.faults sink.new) result }
+    ensures no_fault { OnOk result (O.faults sink.new ≡ O.faults sink.old) }
 {
     let mut text = Text::make();
     text.put_pieces(sink, pieces)?;
