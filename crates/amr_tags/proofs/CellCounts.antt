@@ -31,7 +31,7 @@ cells-sum test b =
 
 -- ---- the test of a cell, by its column and row
 
-in_range : (lo low high : ℤ) (first last i : ℕ) → pos first ≡ low -ℤ lo → pos last ≡ high -ℤ lo → within low high (lo +ℤ pos i) ≡ (nat_le first i && nat_le i last)
+pub in_range : (lo low high : ℤ) (first last i : ℕ) → pos first ≡ low -ℤ lo → pos last ≡ high -ℤ lo → within low high (lo +ℤ pos i) ≡ (nat_le first i && nat_le i last)
 in_range lo low high first last i e f = grind (arith, ints, nat_tests)
 
 place_is : (lo : ℤ) (i : ℕ) → unsigned_abs ((lo +ℤ pos i) -ℤ lo) ≡ i

@@ -10,3 +10,4 @@ pub mod Neighbours
 pub mod Offsets
 pub mod Sides
 pub mod Grows
+pub mod Fills

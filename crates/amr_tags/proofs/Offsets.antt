@@ -14,7 +14,7 @@ use Rattle.amr_box.specs.Cells.{Extent, at_least_zero, cell, cell_cmp, cells_of,
 use Rattle.amr_tags.specs.Stored.{IsIn}
 use Rattle.amr_tags.specs.TagSets.{TagSet, has, home, is_near, moved, wrapped}
 use Rattle.amr_tags.proofs.Neighbours.{split, wrapped-moved}
-use Rattle.amr_tags.proofs.Places.{and-true, is_in}
+use Rattle.amr_tags.proofs.Places.{and-true, is_in, or-false}
 
 -- the offsets of a square, by their box
 abbrev pub square_box : ℕ → Extent
@@ -151,10 +151,6 @@ wrapped-itself true low w z y e a b =
     let small : k < w = omega (arith, ints) in
     ap (λ (t : ℤ). low +ℤ int_rem_euclid t (pos w)) is ∙ ap (λ (t : ℕ). low +ℤ pos t) (mod-eq_of_lt small) ∙ omega (arith, ints)
 wrapped-itself false low w z y e a b = e
-
-or-false : (a : Bool) → (a || false) ≡ a
-or-false true = refl
-or-false false = refl
 
 pub near-none : (t : TagSet) (c : Cell) → holds t.bx c ≡ true → is_near t 0 c ≡ has t c
 near-none t c inside = or-false (has t (home t (moved c zero_step))) ∙ ap (has t) same

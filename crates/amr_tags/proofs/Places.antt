@@ -61,7 +61,7 @@ or-true : (a : Bool) → (a || true) ≡ true
 or-true true = refl
 or-true false = refl
 
-or-false : (a : Bool) → (a || false) ≡ a
+pub or-false : (a : Bool) → (a || false) ≡ a
 or-false true = refl
 or-false false = refl
 
@@ -71,10 +71,10 @@ equal a b h = grind (arith, nat_tests)
 pub apart : (a b : ℕ) → (a == b) ≡ false → a ≢ b
 apart a b h = grind (arith, nat_tests)
 
-not_equal : (a b : ℕ) → a ≢ b → (a == b) ≡ false
+pub not_equal : (a b : ℕ) → a ≢ b → (a == b) ≡ false
 not_equal a b h = grind (arith, nat_tests)
 
-is_equal : (a b : ℕ) → a ≡ b → (a == b) ≡ true
+pub is_equal : (a b : ℕ) → a ≡ b → (a == b) ≡ true
 is_equal a b h = grind (arith, nat_tests)
 
 -- the bits of a word with one more

@@ -8,6 +8,7 @@ ghost use Rattle.amr_tags.specs.Bits.{words_for};
 ghost use Rattle.amr_tags.specs.TagSets.{IsLaidOut, IsLeastBox, SameShape, has, is_near, same_cell};
 
 mod edges;
+mod fill;
 mod grow;
 mod rows;
 mod scan;
@@ -107,6 +108,15 @@ impl Tags {
     {
         let bx = self.bx;
         rows::set_bit(&mut self.words, &bx, c);
+    }
+
+    /// Tags the cells of a box, as far as they lie in the set's box, a word at a look.
+    pub fn set_in(&mut self, b: Bx)
+        ensures shape { SameShape self.old self.new }
+        ensures cells { (c : Cell) → has self.new c ≡ (has self.old c || (holds self.old.bx c && holds b c)) }
+    {
+        let bx = self.bx;
+        fill::set_common(&mut self.words, &bx, &b);
     }
 
     /// Grows the set by `n` cells on all sides, at the corners too: past the end of a periodic axis it goes on at the

@@ -27,7 +27,7 @@ pub fn to_bit(word: u64, at: u32) -> u64
 }
 
 /// The bits of a word, whose first is the row's bit `start`, that lie in the columns from `from` to `to`.
-fn kept(word: u64, start: u32, from: u32, to: u32) -> u64
+pub fn kept(word: u64, start: u32, from: u32, to: u32) -> u64
     requires near_from { from < start + 64 }
     requires near_to { start ≤ to }
     ensures { (i : ℕ) → i < 64 → bit result i ≡ (bit word i && (nat_le from (start + i) && nat_le (start + i) to)) }

@@ -11,6 +11,15 @@ fn two_rows() -> Bx
     Bx::try_new(lo, hi).unwrap()
 }
 
+/// The greatest domain of a level: 4,096 by 4,096 cells.
+fn greatest() -> Bx
+    ensures { IsNear result }
+{
+    let lo = Cell { x: 0, y: 0 };
+    let hi = Cell { x: 4095, y: 4095 };
+    Bx::try_new(lo, hi).unwrap()
+}
+
 fn tag(tags: &mut Tags, c: Cell) {
     if tags.bx().holds(c) {
         tags.set(c);
@@ -94,5 +103,39 @@ fn grown_tags_cross_words_and_ends(rt: HostRuntime) -> Result<(), NoMemory> {
     tag(&mut open, Cell { x: 129, y: 1 });
     open.grow(2);
     assert_eq!(rt; open.words(), [0, 1 << 63, 3, 0, 1 << 63, 3].as_slice());
+    Ok(())
+}
+
+#[test]
+fn a_box_is_tagged_as_far_as_it_lies_in_the_set(rt: HostRuntime) -> Result<(), NoMemory> {
+    let mut tags = Tags::make(rt.alloc(), two_rows(), false, false)?;
+    tag(&mut tags, Cell { x: 0, y: 0 });
+    let over = Bx::try_new(Cell { x: 62, y: 1 }, Cell { x: 64, y: 9 });
+    if let Some(b) = over {
+        tags.set_in(b);
+    }
+    assert_eq!(rt; tags.words(), [1, 0, 0, 3 << 62, 1, 0].as_slice());
+    let beside = Bx::try_new(Cell { x: 130, y: 0 }, Cell { x: 140, y: 1 });
+    if let Some(b) = beside {
+        tags.set_in(b);
+    }
+    assert_eq!(rt; tags.words(), [1, 0, 0, 3 << 62, 1, 0].as_slice());
+    Ok(())
+}
+
+#[test]
+fn tags_of_the_greatest_domain_grow_past_its_ends(rt: HostRuntime) -> Result<(), NoMemory> {
+    let whole = greatest();
+    let mut tags = Tags::make(rt.alloc(), whole, true, true)?;
+    tag(&mut tags, Cell { x: 4095, y: 4095 });
+    tags.grow(8);
+    assert_eq!(rt; tags.per_row(), 64);
+    assert_eq!(rt; tags.count_in(whole), 289);
+    assert_eq!(rt; tags.bounding(), Some(whole));
+    assert!(rt; tags.has(Cell { x: 7, y: 7 }) && tags.has(Cell { x: 4087, y: 0 }));
+    assert!(rt; !tags.has(Cell { x: 8, y: 0 }) && !tags.has(Cell { x: 0, y: 4086 }));
+    let mut same = tags.copy()?;
+    same.set_in(whole);
+    assert_eq!(rt; same.count_in(whole), 4096 * 4096);
     Ok(())
 }
