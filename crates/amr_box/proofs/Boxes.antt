@@ -1,11 +1,12 @@
-use Rattle.std.proofs.Common.{◌≡◌, ℕ, ◌*◌, ◌+ℤ◌, ◌-ℤ◌, Bool, true, false, ◌&&◌, ℤ, pos, negsuc, ◌≤ℤ◌, ◌<ℤ◌, int_le, refl, sym, ap, ◌∙◌, subst, arith}
+-- Tests of coordinates, what is in both of two boxes, and the width and height of a near box.
+use Rattle.std.proofs.Common.{◌≡◌, ℕ, ◌+◌, ◌*◌, ◌≤◌, ◌+ℤ◌, ◌-ℤ◌, Bool, true, false, ◌&&◌, ℤ, pos, negsuc, ◌≤ℤ◌, ◌<ℤ◌, int_le, refl, sym, ap, ◌∙◌, subst, arith}
 use Rattle.std.specs.Prelude.{IfSome, IsNone, IsSome, ◌↔◌}
 use Rattle.std.specs.declared.option.Option.{Option}
 use Rattle.std.specs.declared.option.Option.TheVariants.{None, Some}
 use Rattle.std.specs.Int.{int_max, int_min}
 use Rattle.std.proofs.lemmas.Int.{ints, clamps, to_z-of_z}
 use Rattle.amr_box.specs.declared.Cell.{Cell}
-use Rattle.amr_box.specs.Cells.{AreDisjoint, IsBoxOf, IsProper, half, width, height, Extent, extent, holds, within, common}
+use Rattle.amr_box.specs.Cells.{AreDisjoint, IsBoxOf, IsNear, IsProper, at_least_zero, near_limit, half, width, height, Extent, extent, holds, within, common}
 
 -- a test for ≤ from what holds, and the other way round
 pub int_le-yes : (a b : ℤ) → a ≤ℤ b → int_le a b ≡ true
@@ -101,3 +102,18 @@ meet_none (Some r) a b lo hi is h = (λ n. absurd (cc), λ d. absurd (apart (sym
   where
     apart : false ≡ true → ⊥
     apart e = cc
+
+-- ---- sides of a near box
+
+side_small : (low high : ℤ) → negsuc near_limit <ℤ low → high <ℤ pos (near_limit + 1) → at_least_zero (high +ℤ pos 1 -ℤ low) ≤ 2 * near_limit + 1
+side_small low high h k = step (high +ℤ pos 1 -ℤ low) (omega (arith, ints))
+  where
+    step : (z : ℤ) → z ≤ℤ pos (2 * near_limit + 1) → at_least_zero z ≤ 2 * near_limit + 1
+    step (pos n) h = omega (arith, ints)
+    step (negsuc n) h = omega arith
+
+pub near_width : (b : Extent) → IsNear b → width b ≤ 2 * near_limit + 1
+near_width b near = side_small b.lo.x b.hi.x near.west near.east
+
+pub near_height : (b : Extent) → IsNear b → height b ≤ 2 * near_limit + 1
+near_height b near = side_small b.lo.y b.hi.y near.south near.north

@@ -1,15 +1,15 @@
--- The list of a box's cells holds exactly the cells of the box.
-use Rattle.std.proofs.Common.{◌≡◌, ℕ, zero, suc, ◌+◌, Bool, true, false, ◌&&◌, ◌||◌, ◌⊎◌, inl, inr, ℤ, pos, negsuc, ◌+ℤ◌, ◌-ℤ◌, ◌<ℤ◌, refl, sym, ap, ◌∙◌, arith, List, [], ◌∷◌, map}
+-- The list of a box's cells holds exactly the cells of the box; a cell of a box that passes a test.
+use Rattle.std.proofs.Common.{◌≡◌, ℕ, zero, suc, ◌+◌, Bool, true, false, ◌&&◌, ◌||◌, ◌⊎◌, inl, inr, ℤ, pos, negsuc, ◌+ℤ◌, ◌-ℤ◌, ◌<ℤ◌, refl, sym, ap, subst, ◌∙◌, arith, List, [], ◌∷◌, map}
 use Rattle.std.specs.Prelude.{int_le, int_lt}
-use Rattle.std.specs.declared.cmp.Ordering.{Ordering}
-use Rattle.std.specs.declared.cmp.Ordering.TheVariants.{Less, Equal, Greater}
-use Rattle.std.specs.Ordering.{int_cmp, int_eq, is_eq, ordering_then, eq_by_cmp}
+use Rattle.std.specs.Ordering.{int_eq, eq_by_cmp}
 use Rattle.std.specs.List.{range_with_len, flat_map, list_any}
 use Rattle.std.proofs.lemmas.Int.{ints}
 use Rattle.std.proofs.lemmas.List.Folds.{list_any-append}
 use Rattle.std.proofs.lemmas.List.Concat.{flat_map-cons}
 use Rattle.amr_box.specs.declared.Cell.{Cell}
 use Rattle.amr_box.specs.Cells.{Extent, at_least_zero, cell, cell_cmp, cells_of, holds, within, width, height}
+use Rattle.std.proofs.lemmas.Bool.{or_left, or_right}
+use Rattle.amr_box.proofs.CellEquality.{by_coordinates, cell_itself, cell_same, is_cell}
 
 int_eq-itself : (a b : ℤ) → a ≡ b → int_eq a b ≡ true
 int_eq-itself a b e = grind (arith, ints)
@@ -61,11 +61,6 @@ list_any-same p q (x ∷ xs) h = ap (λ b. b || list_any p xs) (h x) ∙ ap (λ 
 
 -- ---- the cells of a box
 
-eq-then : (r s : Ordering) → is_eq (ordering_then r s) ≡ (is_eq r && is_eq s)
-eq-then Less s = refl
-eq-then Equal s = refl
-eq-then Greater s = refl
-
 up_to : (z w : ℤ) → z ≡ w → (w ≡ pos (at_least_zero z)) ⊎ ((w <ℤ pos 0) × (at_least_zero z ≡ 0))
 up_to (pos n) w e = inl (sym e)
 up_to (negsuc n) w e = inr (omega (arith, ints), refl)
@@ -83,10 +78,48 @@ among_cells_of b q =
     let row : ℕ → List Cell = λ j. map (λ i. cell (b.lo.x +ℤ pos i) (b.lo.y +ℤ pos j)) (range_with_len 0 (width b)) in
     let in_row : (j : ℕ) → list_any test (row j) ≡ (within b.lo.x b.hi.x q.x && int_eq q.y (b.lo.y +ℤ pos j)) = λ j.
     list_any-map test (λ i. cell (b.lo.x +ℤ pos i) (b.lo.y +ℤ pos j)) (range_with_len 0 (width b))
-    ∙ list_any-same (λ i. test (cell (b.lo.x +ℤ pos i) (b.lo.y +ℤ pos j))) (λ i. int_eq q.x (b.lo.x +ℤ pos i) && int_eq q.y (b.lo.y +ℤ pos j)) (range_with_len 0 (width b)) (λ i. eq-then (int_cmp q.x (b.lo.x +ℤ pos i)) (int_cmp q.y (b.lo.y +ℤ pos j)))
+    ∙ list_any-same (λ i. test (cell (b.lo.x +ℤ pos i) (b.lo.y +ℤ pos j))) (λ i. int_eq q.x (b.lo.x +ℤ pos i) && int_eq q.y (b.lo.y +ℤ pos j)) (range_with_len 0 (width b)) (λ i. by_coordinates q (cell (b.lo.x +ℤ pos i) (b.lo.y +ℤ pos j)))
     ∙ list_any-and (λ i. int_eq q.x (b.lo.x +ℤ pos i)) (int_eq q.y (b.lo.y +ℤ pos j)) (range_with_len 0 (width b))
     ∙ ap (λ t. t && int_eq q.y (b.lo.y +ℤ pos j)) (in_range b.lo.x b.hi.x q.x) in
     list_any-flat_map test row (range_with_len 0 (height b))
     ∙ list_any-same (λ j. list_any test (row j)) (λ j. within b.lo.x b.hi.x q.x && int_eq q.y (b.lo.y +ℤ pos j)) (range_with_len 0 (height b)) in_row
     ∙ list_any-and_left (λ j. int_eq q.y (b.lo.y +ℤ pos j)) (within b.lo.x b.hi.x q.x) (range_with_len 0 (height b))
     ∙ ap (λ t. within b.lo.x b.hi.x q.x && t) (in_range b.lo.y b.hi.y q.y)
+
+-- ---- any cell in a box
+
+-- a cell of a box that passes a test
+pub record IsFound (test : Cell → Bool) (b : Extent) : Type 0 where
+  pub at : Cell
+  pub inside : holds b at ≡ true
+  pub passes : test at ≡ true
+
+record IsAmong (test : Cell → Bool) (cs : List Cell) : Type 0 where
+  one : Cell
+  among : list_any (is_cell one) cs ≡ true
+  passes : test one ≡ true
+
+among_of : (test : Cell → Bool) (cs : List Cell) → list_any test cs ≡ true → IsAmong test cs
+among_of test [] h = absurd (cc)
+among_of test (c ∷ cs) h = choose (test c) refl (among_of test cs)
+  where
+    choose : (t : Bool) → test c ≡ t → (list_any test cs ≡ true → IsAmong test cs) → IsAmong test (c ∷ cs)
+    choose true e more = record { one = c; among = or_left (is_cell c c) (list_any (is_cell c) cs) (cell_itself c); passes = e }
+    choose false e more =
+        let rest = more (sym (ap (λ t. t || list_any test cs) e) ∙ h) in
+        record { one = rest.one; among = or_right (is_cell rest.one c) (list_any (is_cell rest.one) cs) rest.among; passes = rest.passes }
+
+pub found_in_box : (test : Cell → Bool) (b : Extent) → list_any test (cells_of b) ≡ true → IsFound test b
+found_in_box test b h = let k = among_of test (cells_of b) h in record { at = k.one; inside = sym (among_cells_of b k.one) ∙ k.among; passes = k.passes }
+
+-- one that is among the cells of a list
+pub any_by : (test : Cell → Bool) (q : Cell) → test q ≡ true → (cs : List Cell) → list_any (is_cell q) cs ≡ true → list_any test cs ≡ true
+any_by test q passes [] h = h
+any_by test q passes (c ∷ cs) h = choose (is_cell q c) refl h (any_by test q passes cs)
+  where
+    choose : (t : Bool) → is_cell q c ≡ t → (t || list_any (is_cell q) cs) ≡ true → (list_any (is_cell q) cs ≡ true → list_any test cs ≡ true) → (test c || list_any test cs) ≡ true
+    choose true is h rest = or_left (test c) (list_any test cs) (subst (λ (k : Cell). test k ≡ true) (cell_same q c is) passes)
+    choose false is h rest = or_right (test c) (list_any test cs) (rest h)
+
+pub any_in_box : (test : Cell → Bool) (b : Extent) (q : Cell) → holds b q ≡ true → test q ≡ true → list_any test (cells_of b) ≡ true
+any_in_box test b q held passes = any_by test q passes (cells_of b) (among_cells_of b q ∙ held)

@@ -1,4 +1,5 @@
 pub mod Boxes
+pub mod CellEquality
 pub mod CellLists
 pub mod Halves
 pub mod Parts

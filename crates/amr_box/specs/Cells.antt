@@ -3,7 +3,7 @@
 --     holds             its cells, as a test
 --     cells_of          its cells, as a list
 --     parent, child     of a cell, on the next coarser and the next finer level
-use Rattle.std.specs.Prelude.{◌≡◌, ℕ, ◌/◌, ◌%◌, Bool, false, ◌&&◌, ◌||◌, ℤ, pos, negsuc, ◌+ℤ◌, ◌-ℤ◌, ◌≤ℤ◌, ◌<ℤ◌, int_le, List, map, IsTrue}
+use Rattle.std.specs.Prelude.{◌≡◌, ℕ, ◌+◌, ◌/◌, ◌%◌, Bool, false, ◌&&◌, ◌||◌, ℤ, pos, negsuc, ◌+ℤ◌, ◌-ℤ◌, ◌≤ℤ◌, ◌<ℤ◌, int_le, List, map, IsTrue}
 use Rattle.std.specs.Int.{int_div_euclid, int_max, int_min}
 use Rattle.std.specs.List.{range_with_len, flat_map}
 use Rattle.std.specs.declared.cmp.Ordering.{Ordering}
@@ -56,12 +56,16 @@ pub record IsProper (b : Extent) : Type 0 where
   pub wide : b.lo.x ≤ℤ b.hi.x
   pub high : b.lo.y ≤ℤ b.hi.y
 
+-- how far from 0 the coordinates of a near box lie, 2^24: boxes that are grown or refined fit 32 bits. (profile)
+abbrev pub near_limit : ℕ
+near_limit = 16777216
+
 -- proper, and coordinates lie between -2^24 and 2^24
 pub record IsNear (b : Extent) : Type 0 where
-  pub west : negsuc 16777216 <ℤ b.lo.x
-  pub east : b.hi.x <ℤ pos 16777217
-  pub south : negsuc 16777216 <ℤ b.lo.y
-  pub north : b.hi.y <ℤ pos 16777217
+  pub west : negsuc near_limit <ℤ b.lo.x
+  pub east : b.hi.x <ℤ pos (near_limit + 1)
+  pub south : negsuc near_limit <ℤ b.lo.y
+  pub north : b.hi.y <ℤ pos (near_limit + 1)
   pub wide : b.lo.x ≤ℤ b.hi.x
   pub high : b.lo.y ≤ℤ b.hi.y
 

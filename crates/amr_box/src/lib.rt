@@ -234,14 +234,24 @@ impl Bx {
 }
 
 /// Whether a coordinate is from `low` to `high`, both inside.
-fn is_within(low: i32, high: i32, z: i32) -> bool
+pub fn is_within(low: i32, high: i32, z: i32) -> bool
     ensures { result ≡ within low high z }
 {
     low <= z && z <= high
 }
 
-/// The cell of the next coarser level that a cell lies in.
-fn parent(c: Cell) -> Cell
+/// How far a coordinate lies above another that is not greater.
+pub fn distance(low: i32, z: i32) -> usize
+    requires order { low ≤ℤ z }
+    ensures value { pos result ≡ z -ℤ low }
+    ensures small { result < 2 ^ 32 }
+{
+    (z as i64 - low as i64) as usize
+}
+
+/// The cell of the next coarser level that a cell lies in: both coordinates halved towards minus infinity.
+pub fn parent(c: Cell) -> Cell
+    ensures value { result ≡ parent c }
     ensures x { result.x ≡ half c.x }
     ensures y { result.y ≡ half c.y }
 {

@@ -53,3 +53,10 @@ fn boxes_meet_in_their_common_cells_and_not_at_an_edge(rt: HostRuntime) {
     let beside = Bx::try_new(cell(1, -1), cell(4, 4)).map(|o| b.meet(&o).map(corners));
     assert_eq!(rt; beside, Some(None));
 }
+
+#[test]
+fn coordinates_below_zero(rt: HostRuntime) {
+    assert_eq!(rt; parent(cell(-3, 5)), cell(-2, 2));
+    assert_eq!(rt; distance(i32::MIN, i32::MAX), 4_294_967_295);
+    assert!(rt; is_within(-3, 0, 0) && !is_within(-3, 0, 1));
+}

@@ -1,8 +1,8 @@
-// The refusal for want of memory.
+//! The refusal that allocation failed.
 
 use std::alloc::{AllocError, AllocFailed};
 
-/// Memory ran out. No contract ties it to a refused growth: a call that takes memory may always answer it.
+/// Out of memory. No contract ties it to an allocation that failed: a call that takes memory may always answer it.
 #[derive(Clone, Copy, Debug, PartialEq, Eq, Drop)]
 pub struct NoMemory;
 

@@ -1,16 +1,20 @@
--- The boxes of a cluster cover its set, and no two of them share a cell.
-use Rattle.std.proofs.Common.{◌≡◌, ℕ, zero, suc, Bool, true, false, cond, ◌&&◌, ◌||◌, ℤ, ◌≤ℤ◌, ◌<ℤ◌, refl, ◌∙◌, arith, List, [], ◌∷◌, ◌++◌}
+-- The boxes of a cluster cover its set, no two of them share a cell, and each has a cell.
+use Rattle.std.proofs.Common.{◌≡◌, ℕ, zero, suc, Bool, true, false, cond, ◌||◌, ℤ, ◌≤ℤ◌, ◌<ℤ◌, refl, ◌∙◌, arith, List, [], ◌∷◌, ◌++◌}
 use Rattle.std.specs.Prelude.{int_le, int_lt}
 use Rattle.std.specs.declared.option.Option.{Option}
 use Rattle.std.specs.declared.option.Option.TheVariants.{None, Some}
 use Rattle.std.specs.List.{filter, fold}
 use Rattle.std.specs.Int.{int_min, int_max}
 use Rattle.std.proofs.lemmas.Int.{ints, clamps}
+pub use Rattle.std.proofs.lemmas.Bool.{and_parts as both_true, and_from as and_true}
+use Rattle.std.proofs.lemmas.Bool.{or_left, or_right}
+use Rattle.std.proofs.lemmas.List.Elements.{All-append, All-nil, All-push}
+use Rattle.std.specs.List.{All}
 use Rattle.std.proofs.lemmas.List.Folds.{list_any-append}
 use Rattle.amr_box.specs.declared.Cell.{Cell}
 use Rattle.amr_box.specs.declared.Axis.{Axis}
 use Rattle.amr_box.specs.declared.Axis.TheVariants.{X, Y}
-use Rattle.amr_box.specs.Cells.{Extent, extent, holds, within}
+use Rattle.amr_box.specs.Cells.{Extent, IsProper, extent, holds, within}
 use Rattle.amr_def.specs.Cluster.{edge, cells_below, cells_from, parts, cut_of, cluster_within, cluster}
 use Rattle.amr_box.specs.Cells.{along}
 use Rattle.amr_def.specs.Signature.{grown_to, bounding}
@@ -23,7 +27,7 @@ Each P [] = Unit {0}
 Each P (c ∷ cs) = P c × Each P cs
 
 module _ (P Q : Cell → Type 0) where
-  each_then : ((c : Cell) → P c → Q c) → (cs : List Cell) → Each P cs → Each Q cs
+  pub each_then : ((c : Cell) → P c → Q c) → (cs : List Cell) → Each P cs → Each Q cs
   each_then f [] e = tt
   each_then f (c ∷ cs) e = (f c e.0, each_then f cs e.1)
 
@@ -63,13 +67,6 @@ low_widened lo c z h = grind (arith, ints, clamps)
 pub high_widened : (hi c z : ℤ) → int_le z hi ≡ true → int_le z (int_max hi c) ≡ true
 high_widened hi c z h = grind (arith, ints, clamps)
 
-pub both_true : (a b : Bool) → (a && b) ≡ true → (a ≡ true) × (b ≡ true)
-both_true true b e = (refl, e)
-both_true false b e = cc
-
-pub and_true : (a b : Bool) → a ≡ true → b ≡ true → (a && b) ≡ true
-and_true a b e f = rw (e, f)
-
 pub widened : (lo hi c z : ℤ) → within lo hi z ≡ true → within (int_min lo c) (int_max hi c) z ≡ true
 widened lo hi c z h =
     let parts = both_true (int_le lo z) (int_le z hi) h in
@@ -99,13 +96,6 @@ bounding_takes c cs = (fold_keeps (extent c c) cs c (own_holds c), fold_takes (e
 
 -- ---- cover
 
-pub or-right : (a b : Bool) → b ≡ true → (a || b) ≡ true
-or-right true b e = refl
-or-right false b e = e
-
-pub or-left : (a b : Bool) → a ≡ true → (a || b) ≡ true
-or-left a b e = rw e refl
-
 pub either_side : (b : Extent) (k : Cut) (q : Cell) (P : Type 0) → (int_lt (along k.axis q) (edge b k) ≡ true → P) → (int_le (edge b k) (along k.axis q) ≡ true → P) → P
 either_side b k q P low high = choose (int_lt (along k.axis q) (edge b k)) refl
   where
@@ -117,13 +107,13 @@ either_side b k q P low high = choose (int_lt (along k.axis q) (edge b k)) refl
     choose false e = high (not_below (edge b k) (along k.axis q) e)
 
 pub parts_cover : (boxes : List Cell → List Extent) → ((cs : List Cell) → Each (λ q. in_boxes (boxes cs) q ≡ true) cs) → (cs : List Cell) (b : Extent) → Each (λ q. holds b q ≡ true) cs → (k : Option Cut) → Each (λ q. in_boxes (parts boxes cs b k) q ≡ true) cs
-parts_cover boxes covers cs b round None = each_then _ _ (λ q h. or-left (holds b q) false h) cs round
+parts_cover boxes covers cs b round None = each_then _ _ (λ q h. or_left (holds b q) false h) cs round
 parts_cover boxes covers cs b round (Some k) =
     let low = boxes (cells_below b k cs) in
     let high = boxes (cells_from b k cs) in
     each_both _ _ _
     (λ q inlow inhigh. list_any-append (λ e. holds e q) low high ∙ either_side b k q ((in_boxes low q || in_boxes high q) ≡ true)
-    (λ t. or-left (in_boxes low q) (in_boxes high q) (inlow t)) (λ t. or-right (in_boxes low q) (in_boxes high q) (inhigh t)))
+    (λ t. or_left (in_boxes low q) (in_boxes high q) (inlow t)) (λ t. or_right (in_boxes low q) (in_boxes high q) (inhigh t)))
     cs
     (each_from_kept (λ q. in_boxes low q ≡ true) (λ c. int_lt (along k.axis c) (edge b k)) cs (covers (cells_below b k cs)))
     (each_from_kept (λ q. in_boxes high q ≡ true) (λ c. int_le (edge b k) (along k.axis c)) cs (covers (cells_from b k cs)))
@@ -131,7 +121,7 @@ parts_cover boxes covers cs b round (Some k) =
 pub cluster_within_covers : (efficiency w n : ℕ) (cs : List Cell) → Each (λ q. in_boxes (cluster_within efficiency w n cs) q ≡ true) cs
 unfolding cluster_within
 cluster_within_covers efficiency w zero [] = tt
-cluster_within_covers efficiency w zero (c ∷ cs) = each_then _ _ (λ q h. or-left (holds (bounding c cs) q) false h) (c ∷ cs) (bounding_takes c cs)
+cluster_within_covers efficiency w zero (c ∷ cs) = each_then _ _ (λ q h. or_left (holds (bounding c cs) q) false h) (c ∷ cs) (bounding_takes c cs)
 cluster_within_covers efficiency w (suc n) [] = tt
 cluster_within_covers efficiency w (suc n) (c ∷ cs) =
     parts_cover (cluster_within efficiency w n) (cluster_within_covers efficiency w n) (c ∷ cs) (bounding c cs) (bounding_takes c cs) (cut_of efficiency w (c ∷ cs) (bounding c cs))
@@ -256,3 +246,39 @@ within_disjoint efficiency w (suc n) (c ∷ cs) = by_cut (cut_of efficiency w (c
 pub cluster-disjoint : (efficiency w : ℕ) (cs : List Cell) → Disjoint (cluster efficiency w cs)
 unfolding cluster
 cluster-disjoint efficiency w cs = within_disjoint efficiency w _ cs
+
+-- ---- each box has a cell
+
+own_proper : (c : Cell) → IsProper (extent c c)
+own_proper c = record { wide = omega (arith, ints); high = omega (arith, ints) }
+
+grown_proper : (b : Extent) (c : Cell) → IsProper b → IsProper (grown_to b c)
+grown_proper b c h =
+    let wide = h.wide in
+    let high = h.high in
+    record { wide = omega (arith, ints, clamps, wide); high = omega (arith, ints, clamps, high) }
+
+fold_proper : (b : Extent) (cs : List Cell) → IsProper b → IsProper (fold grown_to b cs)
+fold_proper b [] h = h
+fold_proper b (c ∷ cs) h = fold_proper (grown_to b c) cs (grown_proper b c h)
+
+bounding_proper : (c : Cell) (cs : List Cell) → All IsProper (bounding c cs ∷ [])
+bounding_proper c cs = All-push IsProper [] (bounding c cs) (All-nil IsProper) (fold_proper (extent c c) cs (own_proper c))
+
+within_proper : (efficiency w n : ℕ) (cs : List Cell) → All IsProper (cluster_within efficiency w n cs)
+unfolding cluster_within
+within_proper efficiency w zero [] = All-nil IsProper
+within_proper efficiency w zero (c ∷ cs) = bounding_proper c cs
+within_proper efficiency w (suc n) [] = All-nil IsProper
+within_proper efficiency w (suc n) (c ∷ cs) = by_cut (cut_of efficiency w (c ∷ cs) (bounding c cs)) (within_proper efficiency w n)
+  where
+    by_cut : (k : Option Cut) → ((ks : List Cell) → All IsProper (cluster_within efficiency w n ks)) → All IsProper (parts (cluster_within efficiency w n) (c ∷ cs) (bounding c cs) k)
+    by_cut None g = bounding_proper c cs
+    by_cut (Some k) g =
+        let low = cells_below (bounding c cs) k (c ∷ cs) in
+        let high = cells_from (bounding c cs) k (c ∷ cs) in
+        All-append IsProper (cluster_within efficiency w n low) (cluster_within efficiency w n high) (g low) (g high)
+
+pub cluster-proper : (efficiency w : ℕ) (cs : List Cell) → All IsProper (cluster efficiency w cs)
+unfolding cluster
+cluster-proper efficiency w cs = within_proper efficiency w _ cs

@@ -44,10 +44,11 @@ pub record Keys : Type 0 where
   pub blocks : List Block
 
 abbrev pub AreWithinLimits : Keys → Type 0
-AreWithinLimits k = Limits k.name k.nx k.ny k.steps k.cx k.cy k.d k.shear_x k.shear_y k.x_sides k.y_sides k.max_level k.tag k.n_error_buf k.efficiency k.min_width k.regrid_int k.blocking k.max_grid_size k.blocks
+AreWithinLimits k = Limits 1 k.name k.nx k.ny k.steps k.cx k.cy k.d k.shear_x k.shear_y k.x_sides k.y_sides k.max_level k.tag k.n_error_buf k.efficiency k.min_width k.regrid_int k.blocking k.max_grid_size k.blocks
 
 abbrev pub problem : (k : Keys) → AreWithinLimits k → Problem
 problem k limits = record {
+  version = 1;
   name = k.name;
   nx = k.nx;
   ny = k.ny;

@@ -39,7 +39,7 @@ chosen_up (Some v) t x y w b h i k = h
 chosen_up None true x y w b h i k = i
 chosen_up None false x y w b h i k = k
 
-values_up : (p : Problem) (l : ℕ) (m old : Masses) (b : ℕ) → MassesUpTo l m b → OldUpTo l old b → SidesUpTo p b → IsUpTo p l m old b
+pub values_up : (p : Problem) (l : ℕ) (m old : Masses) (b : ℕ) → MassesUpTo l m b → OldUpTo l old b → SidesUpTo p b → IsUpTo p l m old b
 unfolding value_at
 values_up p l m old b masses olds sides = record {
   at = λ c.
@@ -48,7 +48,7 @@ values_up p l m old b masses olds sides = record {
       chosen_up (m k) (in_domain (domain p l) k) _ _ (4 ^ l) b (masses.at k) (olds.at (parent k)) side;
 }
 
-finer_old : (l : ℕ) (m : Masses) (b : ℕ) → MassesUpTo l m b → OldUpTo (suc l) m b
+pub finer_old : (l : ℕ) (m : Masses) (b : ℕ) → MassesUpTo l m b → OldUpTo (suc l) m b
 finer_old l m b masses = record {
   at = λ k.
       let quarter : 4 ^ l * (mass_of m k / 4 * 4) ≤ 4 ^ l * mass_of m k = mul-le-mul_left (4 ^ l) (div-mul-le_self (mass_of m k) 4) in
@@ -57,13 +57,13 @@ finer_old l m b masses = record {
 
 -- ---- a higher bound
 
-masses_more : (l : ℕ) (m : Masses) (a b : ℕ) → a ≤ b → MassesUpTo l m a → MassesUpTo l m b
+pub masses_more : (l : ℕ) (m : Masses) (a b : ℕ) → a ≤ b → MassesUpTo l m a → MassesUpTo l m b
 masses_more l m a b h u = record { at = λ c. omega (arith, u.at c, h) }
 
-old_more : (l : ℕ) (m : Masses) (a b : ℕ) → a ≤ b → OldUpTo l m a → OldUpTo l m b
+pub old_more : (l : ℕ) (m : Masses) (a b : ℕ) → a ≤ b → OldUpTo l m a → OldUpTo l m b
 old_more l m a b h u = record { at = λ c. omega (arith, u.at c, h) }
 
-sides_more : (p : Problem) (a b : ℕ) → a ≤ b → SidesUpTo p a → SidesUpTo p b
+pub sides_more : (p : Problem) (a b : ℕ) → a ≤ b → SidesUpTo p a → SidesUpTo p b
 sides_more p a b h u = record { at = λ l c. omega (arith, u.at l c, h) }
 
 along_more : (c : ℤ) (d w a b : ℕ) (z : ℤ) → a ≤ b → Along c d w a z → Along c d w b z
@@ -71,7 +71,7 @@ along_more c d w a b z h g =
     let more : unsigned_abs c * a ≤ unsigned_abs c * b = mul-le-mul_left (unsigned_abs c) h in
     record { size = g.size; is = g.is; at_most = omega (arith, g.at_most, more) }
 
-flows_more : (p : Problem) (l : ℕ) (m old : Masses) (a b : ℕ) (e : Fluxes) → a ≤ b → Flows p l m old a e → Flows p l m old b e
+pub flows_more : (p : Problem) (l : ℕ) (m old : Masses) (a b : ℕ) (e : Fluxes) → a ≤ b → Flows p l m old a e → Flows p l m old b e
 flows_more p l m old a b e h g = record { along = λ f. along_more _ _ _ a b _ h (g.along f); high = g.high; low = g.low }
 
 -- ---- the fluxes of a level
@@ -84,7 +84,7 @@ flow_low_exact : (c : ℤ) (d low v : ℕ) → IsBackward c → flow c d low v �
 flow_low_exact (pos a) d low v h = absurd h
 flow_low_exact (negsuc a) d low v h = refl
 
-plain_flows : (p : Problem) (l : ℕ) (m old : Masses) (b : ℕ) → IsUpTo p l m old b → Flows p l m old b (flux_at p l m old)
+pub plain_flows : (p : Problem) (l : ℕ) (m old : Masses) (b : ℕ) → IsUpTo p l m old b → Flows p l m old b (flux_at p l m old)
 unfolding flux_at
 plain_flows p l m old b values = record {
   along = λ f. flow_along (courant p l f) p.d (4 ^ l) b _ _ (values.at (low_cell f)) (values.at (high_cell f));
@@ -123,7 +123,7 @@ module _ (p : Problem) (l : ℕ) (m old : Masses) (b : ℕ) (stable : IsStable p
   back : (z : ℤ) → z +ℤ pos 1 -ℤ pos 1 ≡ z
   back z = omega (arith, ints)
 
-  plain_raised : (c : Cell) → home_cell (domain p l) c ≡ c → IsSome (m c) → (new : ℕ) → pos new ≡ pos (mass_of m c) +ℤ net (flux_at p l m old) c → 4 ^ l * new ≤ b + 14 * 4 ^ l
+  pub plain_raised : (c : Cell) → home_cell (domain p l) c ≡ c → IsSome (m c) → (new : ℕ) → pos new ≡ pos (mass_of m c) +ℤ net (flux_at p l m old) c → 4 ^ l * new ≤ b + 14 * 4 ^ l
   unfolding flux_at courant
   plain_raised c home there new exact =
       let cx = courant p l (face X c.x c.y) in
@@ -140,7 +140,7 @@ module _ (p : Problem) (l : ℕ) (m old : Masses) (b : ℕ) (stable : IsStable p
       (exact ∙ ap (λ (z : ℤ). pos (mass_of m c) +ℤ z) n) in
       omega (arith, raised)
 
-  top_raised : MassesUpTo l (updated m (flux_at p l m old)) (b + 14 * 4 ^ l)
+  pub top_raised : MassesUpTo l (updated m (flux_at p l m old)) (b + 14 * 4 ^ l)
   top_raised = record {
     at = λ c. some_or_none (m c)
         (λ there.
@@ -196,7 +196,7 @@ abbrev pub rise : ℕ → ℕ → ℕ
 rise zero l = 0
 rise (suc n) l = 2 * rise n (suc l) + 14 * 4 ^ l
 
-same_length : (ms ms' : List Masses) → SameCells ms ms' → length ms' ≡ length ms
+pub same_length : (ms ms' : List Masses) → SameCells ms ms' → length ms' ≡ length ms
 same_length [] [] s = refl
 same_length [] (m' ∷ ms') s = absurd s
 same_length (m ∷ ms) [] s = absurd s

@@ -25,7 +25,9 @@ pub mod Greatest
 pub mod Chain
 pub mod Nesting
 pub mod Stepping
+pub mod Totals
 pub mod SoundStep
 pub mod SoundRun
 pub mod OneStep
 pub mod Sizes
+pub mod Homes

@@ -1,19 +1,20 @@
 -- From the facts of a sound state to what a step needs of a level and the finer one.
-use Rattle.std.proofs.Common.{◌≡◌, ℕ, zero, suc, ◌+◌, ◌-◌, ◌*◌, ◌%◌, ◌<◌, ◌≤◌, Bool, true, false, ◌&&◌, ◌||◌, ◌⊎◌, inl, inr, ℤ, pos, negsuc, ◌+ℤ◌, ◌-ℤ◌, ◌≤ℤ◌, ◌<ℤ◌, IsSome, refl, sym, ap, ◌∙◌, arith, List, [], ◌∷◌, length}
+use Rattle.std.proofs.Common.{◌≡◌, ℕ, zero, suc, ◌+◌, ◌-◌, ◌*◌, ◌%◌, ◌<◌, ◌≤◌, Bool, true, false, ◌⊎◌, inl, inr, ℤ, pos, negsuc, ◌+ℤ◌, ◌-ℤ◌, ◌≤ℤ◌, ◌<ℤ◌, IsSome, is_some, refl, sym, ap, subst, ◌∙◌, arith, List, [], ◌∷◌, length}
 use Rattle.std.specs.Prelude.{unsigned_abs, slice_index_or}
 use Rattle.std.specs.List.{list_any}
 use Rattle.std.specs.Int.{int_rem_euclid}
 use Rattle.std.proofs.lemmas.Int.{ints, int_rem_euclid_is}
+use Rattle.std.proofs.lemmas.Bool.{and_parts, or_right}
 use Rattle.std.proofs.lemmas.Bool.Decides.{nat_tests}
 use Rattle.std.proofs.Math.Nat.{mod-add-mod, mul-le-mul_left}
 use Rattle.amr_box.specs.declared.Cell.{Cell}
 use Rattle.amr_box.specs.declared.Axis.{Axis}
 use Rattle.amr_box.specs.declared.Axis.TheVariants.{X, Y}
-use Rattle.amr_box.specs.Cells.{cell, Extent}
+use Rattle.amr_box.specs.Cells.{cell, has_child_where, Extent}
 use Rattle.amr_def.specs.declared.problem.Problem.{Problem}
 use Rattle.amr_def.specs.Limits.{is_blocking}
 use Rattle.amr_def.specs.Domain.{Domain, domain, columns, rows, is_periodic, wrapped, home_cell, in_domain, is_inside, moved, square, is_near}
-use Rattle.amr_def.specs.State.{Level, in_boxes, is_covered}
+use Rattle.amr_def.specs.State.{Masses, Level, in_boxes, is_covered, is_covered_by}
 use Rattle.amr_def.specs.Flux.{low_cell, high_cell, face}
 use Rattle.amr_def.specs.Regrid.{odd}
 use Rattle.amr_def.specs.Facts.{IsAligned, IsLevel, IsNestedLevel}
@@ -54,14 +55,10 @@ aligned_even b e h a =
 pub test_inside : (n : ℕ) (z : ℤ) → is_inside n z ≡ true → (pos 0 ≤ℤ z) × (z <ℤ pos n)
 test_inside n z h = grind (arith, ints)
 
-pub both_parts : (a b : Bool) → (a && b) ≡ true → (a ≡ true) × (b ≡ true)
-both_parts true b e = (refl, e)
-both_parts false b e = cc
-
 pub in_domain-inside : (p : Problem) (l : ℕ) (c : Cell) → in_domain (domain p l) c ≡ true → IsCellInside p l c
 unfolding in_domain
 in_domain-inside p l c h =
-    let parts = both_parts _ _ h in
+    let parts = and_parts _ _ h in
     let x = test_inside (columns p l) c.x parts.0 in
     let y = test_inside (rows p l) c.y parts.1 in
     record { west = x.0; east = x.1; south = y.0; north = y.1 }
@@ -102,11 +99,7 @@ wrapped_shift true n z w u some is =
 pub any_at : (f : Cell → Bool) (cs : List Cell) (i : ℕ) (d : Cell) → i < length cs → f (slice_index_or cs i d) ≡ true → list_any f cs ≡ true
 any_at f [] i d h e = absurd (omega arith)
 any_at f (c ∷ cs) zero d h e = rw e
-any_at f (c ∷ cs) (suc i) d h e = right (f c) (list_any f cs) (any_at f cs i d (omega arith) e)
-  where
-    right : (a b : Bool) → b ≡ true → (a || b) ≡ true
-    right true b e = refl
-    right false b e = e
+any_at f (c ∷ cs) (suc i) d h e = or_right (f c) (list_any f cs) (any_at f cs i d (omega arith) e)
 
 module _ (d : Domain) (test : Cell → Bool) (c : Cell) where
   -- whether the cell at this offset passes the test
@@ -130,6 +123,13 @@ module _ (d : Domain) (test : Cell → Bool) (c : Cell) where
 
 -- ---- a level and the finer one
 
+-- masses that fill boxes cover what the boxes cover
+pub covered_boxes : (m : Masses) (bs : List Extent) → ((c : Cell) → is_some (m c) ≡ in_boxes bs c) → is_covered m ≡ is_covered_by bs
+unfolding is_covered
+covered_boxes m bs filled =
+    let same : (λ (k : Cell). is_some (m k)) ≡ in_boxes bs = λ i k. filled k i in
+    ap has_child_where same
+
 module _ (p : Problem) (l : ℕ) where
   -- the cell at most one away from a cell's own place
   pub home_shift : (x y i j : ℤ) (u v : ℕ) → i +ℤ pos 1 ≡ pos u → j +ℤ pos 1 ≡ pos v → home_cell (domain p l) (moved (home_cell (domain p l) (cell x y)) (cell i j)) ≡ home_cell (domain p l) (cell (x +ℤ i) (y +ℤ j))
@@ -150,9 +150,12 @@ module _ (p : Problem) (l : ℕ) (k fine : Level) (klevel : IsLevel p l k) (flev
       let there : in_boxes fine.boxes (child_0 c) ≡ true = sym (flevel.filled (child_0 c)) ∙ children.k0 c h in
       parent_inside p l c (child_0 c) 0 0 (omega arith) (omega arith) (sym (plus_none _)) (sym (plus_none _)) (in_domain-inside p (suc l) (child_0 c) (flevel.inside (child_0 c) there))
 
+  covered_by_boxes : is_covered fine.masses ≡ is_covered_by fine.boxes
+  covered_by_boxes = covered_boxes fine.masses fine.boxes flevel.filled
+
   -- a cell of the domain that is near a covered one is of the level
   pub of_level : (c : Cell) → in_domain (domain p l) c ≡ true → is_near (domain p l) 1 (is_covered fine.masses) c ≡ true → IsSome (k.masses c)
-  of_level c inside near = klevel.filled c ∙ nested.around c inside near
+  of_level c inside near = klevel.filled c ∙ nested.around c inside (subst (λ (t : Cell → Bool). is_near (domain p l) 1 t c ≡ true) covered_by_boxes near)
 
   pub covered_there : (c : Cell) → is_covered fine.masses c ≡ true → IsSome (k.masses c)
   covered_there c h =

@@ -1,6 +1,5 @@
 -- What a step does to the masses of level 0 of a sound state, and how great masses are.
 use Rattle.std.proofs.Common.{◌≡◌, ℕ, zero, suc, ◌+◌, ◌*◌, ◌^◌, ◌<◌, ◌≤◌, true, pos, ◌+ℤ◌, ap, ◌∙◌, arith, List, [], ◌∷◌}
-use Rattle.std.proofs.lemmas.Bool.Decides.{nat_tests}
 use Rattle.std.proofs.lemmas.Nat.{mul-le}
 use Rattle.std.proofs.Math.Nat.{pow-suc}
 use Rattle.amr_box.specs.declared.Cell.{Cell}
@@ -10,10 +9,11 @@ use Rattle.amr_def.specs.State.{Masses, Level, State, level_at, in_boxes, mass_o
 use Rattle.amr_def.specs.Flux.{net}
 use Rattle.amr_def.specs.Ledger.{total_mass, inflow, outflow}
 use Rattle.amr_def.specs.Run.{stepped}
-use Rattle.amr_def.specs.Facts.{IsSound, growth}
+use Rattle.amr_def.specs.Facts.{IsSound}
 use Rattle.amr_def.specs.Laws.{step_fluxes}
 use Rattle.amr_def.proofs.Chain.{state_chain, chain_first}
 use Rattle.amr_def.proofs.Stepping.{first_kept}
+use Rattle.amr_def.proofs.Totals.{bound_small}
 use Rattle.amr_def.proofs.SoundStep.{exact, flows, taken}
 
 exact_from : (p : Problem) (n : ℕ) (rs : List Row) (ks : List Level) (c : Cell) → let s : State = record { step = n; rows = rs; levels = ks } in IsSound p s → in_boxes (level_at s 0).boxes c ≡ true
@@ -40,9 +40,6 @@ mass_by_flows p s sound = flows_from p s.step s.rows s.levels sound
 
 -- ---- sizes
 
-growth_most : (m : ℕ) → growth m ≤ 131072
-growth_most m = grind (arith, nat_tests)
-
 power_some : (l : ℕ) → 1 ≤ 4 ^ l
 power_some zero = omega arith
 power_some (suc l) = let e : 4 ^ suc l ≡ 4 ^ l * 4 = pow-suc 4 l in omega (arith, e, power_some l)
@@ -51,6 +48,4 @@ pub masses-small : (p : Problem) (s : State) (l : ℕ) (c : Cell) → IsSound p 
 masses-small p s l c sound =
     let m = mass_of (level_at s l).masses c in
     let weighed : 1 * m ≤ 4 ^ l * m = mul-le 1 m (4 ^ l) m (power_some l) (omega arith) in
-    let steps : s.step + 1 ≤ 4097 = omega (arith, sound.within, p.limits.greatest_steps) in
-    let grown : growth p.max_level * (s.step + 1) ≤ 131072 * 4097 = mul-le (growth p.max_level) (s.step + 1) 131072 4097 (growth_most p.max_level) steps in
-    omega (arith, weighed, grown, sound.bounded.at l c)
+    omega (arith, weighed, sound.bounded.at l c, bound_small p s.step (omega (arith, sound.within)))

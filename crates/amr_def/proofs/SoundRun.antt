@@ -1,13 +1,15 @@
 -- Every state of a run is sound, where a regrid keeps states sound; and a regrid of one level alone does nothing.
-use Rattle.std.proofs.Common.{◌≡◌, ℕ, zero, suc, ◌+◌, ◌-◌, ◌*◌, ◌^◌, ◌<◌, ◌≤◌, min, Bool, true, false, cond, ◌&&◌, ◌||◌, ℤ, pos, ◌-ℤ◌, is_some, refl, sym, ap, subst, ◌∙◌, arith, List, [], ◌∷◌, length}
+use Rattle.std.proofs.Common.{◌≡◌, ℕ, zero, suc, ◌+◌, ◌-◌, ◌*◌, ◌^◌, ◌<◌, ◌≤◌, min, Bool, true, false, cond, ◌||◌, ℤ, pos, ◌-ℤ◌, is_some, refl, sym, ap, subst, ◌∙◌, arith, List, [], ◌∷◌, length}
 use Rattle.std.specs.Prelude.{int_le, int_lt, nat_le}
 use Rattle.std.specs.List.{fold, list_all}
 use Rattle.std.specs.declared.option.Option.TheVariants.{None, Some}
 use Rattle.std.specs.Option.{unwrap_or}
 use Rattle.std.proofs.lemmas.Int.{ints}
+pub use Rattle.std.proofs.lemmas.Bool.{and_parts as both_parts, and_from as and_true}
+pub use Rattle.std.proofs.Math.Bool.{or-false as or_nothing}
 use Rattle.std.proofs.lemmas.Bool.Decides.{nat_tests}
 use Rattle.amr_box.specs.declared.Cell.{Cell}
-use Rattle.amr_box.specs.Cells.{holds, within}
+use Rattle.amr_box.specs.Cells.{IsProper, holds, within}
 use Rattle.amr_def.specs.declared.problem.Problem.{Problem}
 use Rattle.amr_def.specs.declared.problem.Block.{Block}
 use Rattle.amr_def.specs.declared.problem.Row.{Row}
@@ -18,22 +20,16 @@ use Rattle.amr_def.specs.Tags.{is_tagged}
 use Rattle.amr_def.specs.NewBoxes.{new_boxes}
 use Rattle.amr_def.specs.Regrid.{regrid, regridded_levels, refill}
 use Rattle.amr_def.specs.Run.{block_extent, block_mass, base_level, plain_start, start, stepped, next, regrid_is_due, times, finish, run}
-use Rattle.amr_def.specs.Facts.{IsLevel, IsSound, growth}
+use Rattle.amr_def.specs.Facts.{IsLevel, IsSmallRow, IsSound, growth}
 use Rattle.amr_def.proofs.Runs.{step-next}
 use Rattle.amr_def.proofs.SoundStep.{step-sound}
+pub use Rattle.amr_def.proofs.Stepping.{cond_within}
+use Rattle.amr_def.proofs.Totals.{total_within}
+use Rattle.amr_def.proofs.Courants.{power_positive, some_columns}
+use Rattle.amr_def.specs.Ledger.{total_mass}
+use Rattle.std.proofs.lemmas.List.Elements.{All-nil, All-push}
 
 -- ---- the start before any regrid
-
-pub both_parts : (a b : Bool) → (a && b) ≡ true → (a ≡ true) × (b ≡ true)
-both_parts true b e = (refl, e)
-both_parts false b e = cc
-
-pub and_true : (a b : Bool) → a ≡ true → b ≡ true → (a && b) ≡ true
-and_true a b e f = rw (e, f)
-
-pub or_nothing : (b : Bool) → (b || false) ≡ b
-or_nothing true = refl
-or_nothing false = refl
 
 pub axis_inside : (n : ℕ) (z : ℤ) → within (pos 0) (pos n -ℤ pos 1) z ≡ true → is_inside n z ≡ true
 axis_inside n z h =
@@ -53,16 +49,20 @@ pub is_some-given : (t : Bool) (m : ℕ) → is_some (cond t (Some m) None) ≡ 
 is_some-given true m = refl
 is_some-given false m = refl
 
+pub domain_proper : (p : Problem) (l : ℕ) → IsProper (domain_box (domain p l))
+domain_proper p l = record {
+  wide = omega (arith, ints, power_positive p.nx l (some_columns p).x);
+  high = omega (arith, ints, power_positive p.ny l (some_columns p).y);
+}
+
 pub base_is_level : (p : Problem) → IsLevel p 0 (base_level p)
 base_is_level p = record {
+  some = omega arith;
+  proper = All-push IsProper [] (domain_box (domain p 0)) (All-nil IsProper) (domain_proper p 0);
   disjoint = λ i j d lower fits. absurd (omega arith);
   inside = λ c h. box_inside p 0 c (sym (or_nothing (holds (domain_box (domain p 0)) c)) ∙ h);
   filled = λ c. is_some-given (holds (domain_box (domain p 0)) c) (block_mass p.blocks c);
 }
-
-pub cond_within : (t : Bool) (x y b : ℕ) → x ≤ b → y ≤ b → cond t x y ≤ b
-cond_within true x y b h k = h
-cond_within false x y b h k = k
 
 pub mass_within : (m : ℕ) → nat_le m (2 ^ 30) ≡ true → m ≤ 2 ^ 30
 mass_within m h = grind (arith, nat_tests)
@@ -88,6 +88,17 @@ base_bounded p (suc l) c = nothing (4 ^ suc l) (2 ^ 30 + growth p.max_level * (0
     nothing : (w b : ℕ) → w * 0 ≤ b
     nothing w b = omega arith
 
+-- the row of the start
+abbrev first_row : Problem → Row
+first_row p = record { mass = total_mass p (base_level p).masses; inflow = 0; outflow = 0 }
+
+first_row-small : (p : Problem) → IsSmallRow (first_row p)
+first_row-small p = record {
+  mass = omega (arith, total_within p (base_level p).masses (λ c. omega (arith, base_within p c)));
+  inflow = omega arith;
+  outflow = omega arith;
+}
+
 pub plain_start-sound : (p : Problem) → IsSound p (plain_start p)
 plain_start-sound p = record {
   within = omega arith;
@@ -98,6 +109,7 @@ plain_start-sound p = record {
   synced = record { at = λ l c h. absurd (omega arith) };
   bounded = record { at = base_bounded p };
   telescoped = record { count = refl; no_inflow = refl; no_outflow = refl; each = λ k h. absurd (omega arith); last = refl };
+  small_rows = All-push IsSmallRow [] (first_row p) (All-nil IsSmallRow) (first_row-small p);
 }
   where
     first : (l : ℕ) → l < 1 → IsLevel p l (level_at (plain_start p) l)

@@ -3,6 +3,7 @@ use Rattle.std.proofs.Common.{◌≡◌, ℕ, zero, suc, ◌+◌, ◌*◌, ◌/�
 use Rattle.std.specs.Prelude.{slice_index_or}
 use Rattle.std.proofs.lemmas.List.{get_or_at}
 use Rattle.std.proofs.Math.ListN.{length-append}
+use Rattle.std.proofs.lemmas.List.Elements.{All-push}
 use Rattle.amr_box.specs.declared.Cell.{Cell}
 use Rattle.amr_def.specs.declared.problem.Problem.{Problem}
 use Rattle.amr_def.specs.declared.problem.Row.{Row}
@@ -11,12 +12,13 @@ use Rattle.amr_def.specs.Flux.{net, updated}
 use Rattle.amr_def.specs.LevelStep.{Stepped, step}
 use Rattle.amr_def.specs.Ledger.{first_of, total_mass, inflow, outflow, row_after}
 use Rattle.amr_def.specs.Run.{with_masses, stepped}
-use Rattle.amr_def.specs.Facts.{IsSound, IsBounded, IsTelescoped, no_row, growth}
+use Rattle.amr_def.specs.Facts.{IsSmallRow, IsSound, IsBounded, IsTelescoped, no_row, growth}
 use Rattle.amr_def.proofs.LevelLists.{IsWhole, Nested, Synced}
 use Rattle.amr_def.proofs.Courants.{stable, some_columns}
 use Rattle.amr_def.proofs.Subcycle.{IsKept, step-kept}
 use Rattle.amr_def.proofs.Steps.{head_updated, step-telescopes}
-use Rattle.amr_def.proofs.Greatest.{AllUpTo, rise, step-raises, all_more}
+use Rattle.amr_def.proofs.Greatest.{AllUpTo, IsRaised, rise, step-raises, all_more}
+use Rattle.amr_def.proofs.Totals.{IsSmallFluxes, bound_small, flux_within, inflow_within, outflow_within, total_within}
 use Rattle.amr_def.proofs.Chain.{nth, Chain, state_chain, state_nested, state_synced, chain_first}
 use Rattle.amr_def.proofs.Stepping.{masses_in, chain_lists, chain_kept, count_kept, boxes_kept, first_kept, whole, sides_up, all_up, up_at, rise_within}
 
@@ -26,6 +28,10 @@ pub row_before : (rs more : List Row) (k : ℕ) → k < length rs → slice_inde
 row_before [] more k h = absurd (omega arith)
 row_before (r ∷ rs) more zero h = refl
 row_before (r ∷ rs) more (suc k) h = row_before rs more k (omega arith)
+
+first_up : (ms : List Masses) (b : ℕ) → AllUpTo 0 ms b → (c : Cell) → mass_of (first_of ms) c ≤ b
+first_up [] b u c = omega arith
+first_up (m ∷ ms) b u c = omega (arith, u.0.at c)
 
 -- no masses are up to any bound
 no_old : (b : ℕ) (k : Cell) → 4 ^ 0 * (mass_of no_masses k / 4) ≤ b
@@ -90,9 +96,12 @@ module _ (p : Problem) (n : ℕ) (rs : List Row) (k : Level) (ks : List Level) w
     unfolding bound
     up = all_up 0 (k ∷ ks) (2 ^ 30 + growth p.max_level * (n + 1)) (λ j c. let e : j ≡ 0 + j = omega arith in subst (λ i. 4 ^ i * mass_of (nth (k ∷ ks) j).masses c ≤ 2 ^ 30 + growth p.max_level * (n + 1)) e (sound.bounded.at j c))
 
-    raised : AllUpTo 0 taken.levels (bound + rise (length (masses_in (k ∷ ks))) 0)
+    raises : IsRaised p 0 (masses_in (k ∷ ks)) no_masses taken.levels taken.fluxes (bound + rise (length (masses_in (k ∷ ks))) 0)
     unfolding bound
-    raised = (step-raises p (length (masses_in (k ∷ ks))) 0 (masses_in (k ∷ ks)) no_masses bound (omega arith) (stable p) lists.0 lists.1 up (record { at = no_old bound }) (sides_up p bound (omega arith))).masses
+    raises = step-raises p (length (masses_in (k ∷ ks))) 0 (masses_in (k ∷ ks)) no_masses bound (omega arith) (stable p) lists.0 lists.1 up (record { at = no_old bound }) (sides_up p bound (omega arith))
+
+    raised : AllUpTo 0 taken.levels (bound + rise (length (masses_in (k ∷ ks))) 0)
+    raised = raises.masses
 
     enough : bound + rise (length (masses_in (k ∷ ks))) 0 ≤ new_bound
     unfolding bound new_bound
@@ -143,6 +152,25 @@ module _ (p : Problem) (n : ℕ) (rs : List Row) (k : Level) (ks : List Level) w
         below_or_at : (i n : ℕ) → i < n + 1 → (i < n) ⊎ (i ≡ n)
         below_or_at i n h = grind arith
 
+    -- ---- the new row is small
+
+    below : n < p.steps → bound + rise (length (masses_in (k ∷ ks))) 0 < 2 ^ 31
+    unfolding new_bound
+    below more = omega (arith, enough, bound_small p (n + 1) (omega arith))
+
+    small_fluxes : n < p.steps → IsSmallFluxes taken.fluxes
+    small_fluxes more = record { at = λ f. let fits = flux_within p 0 k.masses no_masses (bound + rise (length (masses_in (k ∷ ks))) 0) taken.fluxes raises.flows f in omega (arith, fits, below more) }
+
+    small_masses : n < p.steps → (c : Cell) → mass_of (first_of taken.levels) c < 2 ^ 31
+    small_masses more c = omega (arith, first_up taken.levels (bound + rise (length (masses_in (k ∷ ks))) 0) raised c, below more)
+
+    small_row : n < p.steps → IsSmallRow last_row
+    small_row more = record {
+      mass = omega (arith, total_within p (first_of taken.levels) (small_masses more));
+      inflow = omega (arith, inflow_within p taken.fluxes (small_fluxes more));
+      outflow = omega (arith, outflow_within p taken.fluxes (small_fluxes more));
+    }
+
     -- ---- sound
 
     pub sound_after : n < p.steps → IsSound p (stepped p before)
@@ -156,6 +184,7 @@ module _ (p : Problem) (n : ℕ) (rs : List Row) (k : Level) (ks : List Level) w
       synced = state_synced p (stepped p before) new_links;
       bounded = new_bounded;
       telescoped = new_telescoped;
+      small_rows = All-push IsSmallRow rs last_row sound.small_rows (small_row more);
     }
 
 sound_from : (p : Problem) (n : ℕ) (rs : List Row) (ks : List Level) → IsSound p (record { step = n; rows = rs; levels = ks }) → n < p.steps → IsSound p (stepped p (record { step = n; rows = rs; levels = ks }))

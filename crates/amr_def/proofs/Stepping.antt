@@ -9,14 +9,14 @@ use Rattle.amr_def.specs.declared.problem.Problem.{Problem}
 use Rattle.amr_def.specs.declared.problem.Sides.{Sides}
 use Rattle.amr_def.specs.declared.problem.Sides.TheVariants.{Periodic, Open}
 use Rattle.amr_def.specs.Limits.{has_inflows}
-use Rattle.amr_def.specs.Domain.{domain, domain_box, columns, rows, is_near}
-use Rattle.amr_def.specs.State.{Masses, Level, in_boxes, is_covered, mass_of}
+use Rattle.amr_def.specs.Domain.{domain, domain_box, columns, rows}
+use Rattle.amr_def.specs.State.{Masses, Level, in_boxes, mass_of}
 use Rattle.amr_def.specs.Value.{low_inflow, high_inflow, inflow_at}
 use Rattle.amr_def.specs.Ledger.{first_of}
 use Rattle.amr_def.specs.Run.{with_masses}
-use Rattle.amr_def.specs.Facts.{IsLevel, IsNestedLevel, growth}
+use Rattle.amr_def.specs.Facts.{IsLevel, growth}
 use Rattle.amr_def.proofs.LevelLists.{IsWhole, Nested, Synced}
-use Rattle.amr_def.proofs.Subcycle.{HasSameCells, SameCells, covered_same}
+use Rattle.amr_def.proofs.Subcycle.{HasSameCells, SameCells}
 use Rattle.amr_def.proofs.Greatest.{SidesUpTo, AllUpTo, rise}
 use Rattle.amr_def.proofs.Nesting.{nest, level_inside}
 use Rattle.amr_def.proofs.Chain.{nth, Chain}
@@ -35,15 +35,7 @@ chain_lists p l (k ∷ fine ∷ finest ∷ finer) x =
 -- ---- new masses in the same boxes
 
 pub level_kept : (p : Problem) (l : ℕ) (k : Level) (m : Masses) → HasSameCells k.masses m → IsLevel p l k → IsLevel p l (record { boxes = k.boxes; masses = m })
-level_kept p l k m same level = record { disjoint = level.disjoint; inside = level.inside; filled = λ c. same.at c ∙ level.filled c }
-
-pub nesting_kept : (p : Problem) (l : ℕ) (k fine : Level) (m m' : Masses) → HasSameCells fine.masses m' → IsNestedLevel p l k fine → IsNestedLevel p l (record { boxes = k.boxes; masses = m }) (record { boxes = fine.boxes; masses = m' })
-nesting_kept p l k fine m m' same nested =
-    let covered : is_covered m' ≡ is_covered fine.masses = λ i c. covered_same fine.masses m' same c i in
-    record {
-      aligned = nested.aligned;
-      around = λ c inside near. nested.around c inside (subst (λ (t : Cell → Bool). is_near (domain p l) 1 t c ≡ true) covered near);
-    }
+level_kept p l k m same level = record { some = level.some; proper = level.proper; disjoint = level.disjoint; inside = level.inside; filled = λ c. same.at c ∙ level.filled c }
 
 pub chain_kept : (p : Problem) (l : ℕ) (ks : List Level) (ms : List Masses) → Chain p l ks → SameCells (masses_in ks) ms → Synced ms → Chain p l (with_masses ks ms)
 chain_kept p l [] ms x same synced = tt
@@ -52,7 +44,7 @@ chain_kept p l (k ∷ []) (m ∷ []) x same synced = level_kept p l k m same.0 x
 chain_kept p l (k ∷ []) (m ∷ m' ∷ ms) x same synced = absurd same.1
 chain_kept p l (k ∷ fine ∷ finer) (m ∷ []) x same synced = absurd same.1
 chain_kept p l (k ∷ fine ∷ finer) (m ∷ m' ∷ ms) x same synced =
-    (level_kept p l k m same.0 x.0, nesting_kept p l k fine m m' same.1.0 x.1, synced.0, chain_kept p (suc l) (fine ∷ finer) (m' ∷ ms) x.3 same.1 synced.1)
+    (level_kept p l k m same.0 x.0, x.1, synced.0, chain_kept p (suc l) (fine ∷ finer) (m' ∷ ms) x.3 same.1 synced.1)
 
 pub count_kept : (ks : List Level) (ms : List Masses) → SameCells (masses_in ks) ms → length (with_masses ks ms) ≡ length ks
 count_kept [] ms same = refl
@@ -83,6 +75,10 @@ whole p k level base = record {
 
 -- ---- bounds
 
+pub cond_within : (t : Bool) (x y b : ℕ) → x ≤ b → y ≤ b → cond t x y ≤ b
+cond_within true x y b h k = h
+cond_within false x y b h k = k
+
 pub low_within : (s : Sides) → has_inflows s ≡ true → low_inflow s ≤ 2 ^ 30
 low_within Periodic h = omega arith
 low_within (Open low high) h = grind (arith, nat_tests)
@@ -90,10 +86,6 @@ low_within (Open low high) h = grind (arith, nat_tests)
 pub high_within : (s : Sides) → has_inflows s ≡ true → high_inflow s ≤ 2 ^ 30
 high_within Periodic h = omega arith
 high_within (Open low high) h = grind (arith, nat_tests)
-
-pub cond_within : (t : Bool) (x y b : ℕ) → x ≤ b → y ≤ b → cond t x y ≤ b
-cond_within true x y b h k = h
-cond_within false x y b h k = k
 
 pub sides_up : (p : Problem) (b : ℕ) → 2 ^ 30 ≤ b → SidesUpTo p b
 unfolding inflow_at

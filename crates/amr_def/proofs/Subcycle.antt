@@ -4,6 +4,7 @@ use Rattle.std.specs.declared.option.Option.{Option}
 use Rattle.std.specs.declared.option.Option.TheVariants.{None, Some}
 use Rattle.std.specs.Option.{option_map}
 use Rattle.std.proofs.lemmas.Int.{ints}
+pub use Rattle.std.proofs.lemmas.Bool.{false_from_ne_true as is_false}
 use Rattle.amr_box.specs.declared.Cell.{Cell}
 use Rattle.amr_box.specs.Cells.{parent}
 use Rattle.amr_def.specs.declared.problem.Problem.{Problem}
@@ -106,10 +107,6 @@ updated_same m e = record { at = λ c. mapped (m c) _ }
 pub updated_exact : (m : Masses) (e : Fluxes) (c : Cell) → IsSome (m c) → pos 0 ≤ℤ (pos (mass_of m c) +ℤ net e c) → pos (mass_of (updated m e) c) ≡ pos (mass_of m c) +ℤ net e c
 unfolding updated
 updated_exact m e c there covers = updated_entry (m c) (net e c) there covers
-
-pub is_false : (b : Bool) → (b ≡ true → ⊥) → b ≡ false
-is_false true h = absurd (h refl)
-is_false false h = refl
 
 pub none_is : (o : Option ℕ) → o ≡ None → is_some o ≡ true → ⊥
 none_is o e h = cc

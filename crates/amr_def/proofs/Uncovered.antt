@@ -1,8 +1,9 @@
 -- A cell that is not covered keeps a mass of 0 or more.
-use Rattle.std.proofs.Common.{◌≡◌, ℕ, suc, ◌+◌, ◌/◌, ◌≤◌, Bool, true, false, cond, ◌||◌, ℤ, pos, negsuc, ◌+ℤ◌, ◌-ℤ◌, ◌≤ℤ◌, ◌<ℤ◌, IsSome, is_some, refl, sym, ap, subst, ◌∙◌, arith}
+use Rattle.std.proofs.Common.{◌≡◌, ℕ, suc, ◌+◌, ◌/◌, ◌≤◌, Bool, true, false, cond, ℤ, pos, negsuc, ◌+ℤ◌, ◌-ℤ◌, ◌≤ℤ◌, ◌<ℤ◌, IsSome, is_some, refl, sym, ap, subst, ◌∙◌, arith}
 use Rattle.std.specs.declared.option.Option.{Option}
 use Rattle.std.specs.declared.option.Option.TheVariants.{None, Some}
 use Rattle.std.proofs.lemmas.Int.{ints}
+use Rattle.std.proofs.lemmas.Bool.{or_parts}
 use Rattle.amr_box.specs.declared.Cell.{Cell}
 use Rattle.amr_box.specs.declared.Face.{Face}
 use Rattle.amr_box.specs.declared.Axis.TheVariants.{X, Y}
@@ -70,10 +71,6 @@ plus_none z = omega (arith, ints)
 
 -- ---- children that are not there
 
-or-no : (a b : Bool) → (a || b) ≡ false → (a ≡ false) × (b ≡ false)
-or-no true b e = cc
-or-no false b e = (refl, e)
-
 no_mass : (o : Option ℕ) → is_some o ≡ false → o ≡ None
 no_mass None e = refl
 no_mass (Some v) e = cc
@@ -86,9 +83,9 @@ pub record HasNoChildren (fine : Masses) (c : Cell) : Type 0 where
 
 pub no_children : (fine : Masses) (c : Cell) → is_covered fine c ≡ false → HasNoChildren fine c
 no_children fine c e =
-    let a = or-no _ _ (sym (covered_by c fine) ∙ e) in
-    let b = or-no _ _ a.0 in
-    let d = or-no _ _ b.0 in
+    let a = or_parts _ _ (sym (covered_by c fine) ∙ e) in
+    let b = or_parts _ _ a.0 in
+    let d = or_parts _ _ b.0 in
     record { k0 = no_mass _ d.0; k1 = no_mass _ d.1; k2 = no_mass _ b.1; k3 = no_mass _ a.1 }
 
 pub cond_both : (P : ℤ → Type 0) (b : Bool) (x y : ℤ) → P x → P y → P (cond b x y)

@@ -4,7 +4,7 @@ use Rattle.std.specs.declared.option.Option.{Option}
 use Rattle.std.specs.declared.option.Option.TheVariants.{None, Some}
 use Rattle.std.specs.Option.{unwrap_or}
 use Rattle.amr_box.specs.declared.Cell.{Cell}
-use Rattle.amr_box.specs.Cells.{cell}
+pub use Rattle.amr_box.proofs.CellEquality.{same_cell}
 use Rattle.amr_def.specs.declared.problem.Problem.{Problem}
 use Rattle.amr_def.specs.Domain.{domain, home_cell}
 use Rattle.amr_def.specs.State.{Masses}
@@ -24,9 +24,6 @@ value_here p l m old c k e h = or_else_given (m (home_cell (domain p l) c)) _ (s
 pub value_same : (p : Problem) (l : ℕ) (m old : Masses) (c c' : Cell) → home_cell (domain p l) c ≡ home_cell (domain p l) c' → value_at p l m old c ≡ value_at p l m old c'
 unfolding value_at
 value_same p l m old c c' e = ap (home_value p l m old) e
-
-pub same_cell : {x x' y y' : ℤ} → x ≡ x' → y ≡ y' → cell x y ≡ cell x' y'
-same_cell ex ey i = record { x = ex i; y = ey i }
 
 pub flow_same : (c : ℤ) (d : ℕ) {low low' high high' : ℕ} → low ≡ low' → high ≡ high' → flow c d low high ≡ flow c d low' high'
 flow_same c d a b i = flow c d (a i) (b i)

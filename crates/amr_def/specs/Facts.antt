@@ -1,14 +1,14 @@
 -- Facts that hold of each state of a run: nested, synced, bounded and telescoped, together sound; and
 -- that a regrid covers the tags.
-use Rattle.std.specs.Prelude.{◌≡◌, ℕ, ◌+◌, ◌*◌, ◌^◌, ◌<◌, ◌≤◌, cond, pos, ◌+ℤ◌, [], ◌∷◌, length, nat_le, slice_index_or, is_some, IsTrue}
+use Rattle.std.specs.Prelude.{◌≡◌, ℕ, ◌+◌, ◌*◌, ◌^◌, ◌<◌, ◌≤◌, cond, pos, ◌+ℤ◌, List, [], ◌∷◌, length, nat_le, slice_index_or, is_some, IsTrue}
 use Rattle.std.specs.List.{All, AllPairs}
 use Rattle.std.specs.Int.{int_rem_euclid}
 use Rattle.amr_box.specs.declared.Cell.{Cell}
-use Rattle.amr_box.specs.Cells.{Extent, holds}
+use Rattle.amr_box.specs.Cells.{Extent, IsProper, holds}
 use Rattle.amr_def.specs.declared.problem.Problem.{Problem}
 use Rattle.amr_def.specs.declared.problem.Row.{Row}
-use Rattle.amr_def.specs.Domain.{domain, domain_box, in_domain, is_near}
-use Rattle.amr_def.specs.State.{Level, State, level_at, in_boxes, is_covered, mass_of, children_mass}
+use Rattle.amr_def.specs.Domain.{Domain, domain, domain_box, in_domain, is_near}
+use Rattle.amr_def.specs.State.{Level, State, level_at, in_boxes, is_covered, is_covered_by, mass_of, children_mass}
 use Rattle.amr_def.specs.Ledger.{total_mass}
 use Rattle.amr_def.specs.Tags.{is_tagged}
 
@@ -21,17 +21,24 @@ pub record IsAligned (blocking : ℕ) (b : Extent) : Type 0 where
   pub east : int_rem_euclid (b.hi.x +ℤ pos 1) (pos blocking) ≡ pos 0
   pub north : int_rem_euclid (b.hi.y +ℤ pos 1) (pos blocking) ≡ pos 0
 
--- boxes have no cell in common and lie in the domain, and the masses are those of their cells
+-- there is a box, boxes have cells, no two have a cell in common, they lie in the domain, and the masses are those of
+-- their cells (Berger and Colella: the grids of a level)
 pub record IsLevel (p : Problem) (l : ℕ) (k : Level) : Type 0 where
+  pub some : 0 < length k.boxes
+  pub proper : All IsProper k.boxes
   pub disjoint : AllPairs (λ a b. (c : Cell) → IsTrue (holds a c) → IsTrue (holds b c) → ⊥) k.boxes
   pub inside : (c : Cell) → IsTrue (in_boxes k.boxes c) → IsTrue (in_domain (domain p l) c)
   pub filled : (c : Cell) → is_some (k.masses c) ≡ in_boxes k.boxes c
 
--- of level l and the next finer one: each cell of the domain at most one away from a covered cell is of
--- the level (Berger and Colella: one cell between levels l + 1 and l - 1, but at the physical boundary)
-pub record IsNestedLevel (p : Problem) (l : ℕ) (coarse fine : Level) : Type 0 where
-  pub aligned : All (IsAligned p.blocking) fine.boxes
-  pub around : (c : Cell) → IsTrue (in_domain (domain p l) c) → IsTrue (is_near (domain p l) 1 (is_covered fine.masses) c) → IsTrue (in_boxes coarse.boxes c)
+-- finer boxes over those of a level whose domain is d: each cell of d at most one away from a parent of a finer cell
+-- is in a box of the level (Berger and Colella: one cell between levels l + 1 and l - 1, but at the physical boundary)
+pub record IsNestedIn (d : Domain) (blocking : ℕ) (fine coarse : List Extent) : Type 0 where
+  pub aligned : All (IsAligned blocking) fine
+  pub around : (c : Cell) → IsTrue (in_domain d c) → IsTrue (is_near d 1 (is_covered_by fine) c) → IsTrue (in_boxes coarse c)
+
+-- of level l and the next finer one
+abbrev pub IsNestedLevel : Problem → ℕ → Level → Level → Type 0
+IsNestedLevel p l coarse fine = IsNestedIn (domain p l) p.blocking fine.boxes coarse.boxes
 
 pub record IsNested (p : Problem) (s : State) : Type 0 where
   pub each : (l : ℕ) → l < length s.levels → IsLevel p l (level_at s l)
@@ -47,7 +54,8 @@ pub record IsSynced (s : State) : Type 0 where
 abbrev pub growth : ℕ → ℕ
 growth max_level = cond (nat_le max_level 2) 2048 131072
 
--- each mass, scaled to level 0, is at most this after n steps. Masses are whole numbers, so none is below 0.
+-- each mass, scaled to level 0, is at most this after n steps. Masses are natural numbers: that no step cuts one at 0 is the
+-- law on exact masses.
 pub record IsBounded (p : Problem) (s : State) : Type 0 where
   pub at : (l : ℕ) (c : Cell) → 4 ^ l * mass_of (level_at s l).masses c ≤ 2 ^ 30 + growth p.max_level * (s.step + 1)
 
@@ -65,6 +73,12 @@ pub record IsTelescoped (p : Problem) (s : State) : Type 0 where
   pub each : (k : ℕ) → k < s.step → (row_at s (k + 1)).mass + (row_at s (k + 1)).outflow ≡ (row_at s k).mass + (row_at s (k + 1)).inflow
   pub last : (row_at s s.step).mass ≡ total_mass p (level_at s 0).masses
 
+-- each number of a row fits 64 bits (profile)
+pub record IsSmallRow (r : Row) : Type 0 where
+  pub mass : r.mass < 2 ^ 64
+  pub inflow : r.inflow < 2 ^ 64
+  pub outflow : r.outflow < 2 ^ 64
+
 -- ---- sound, held
 
 pub record IsSound (p : Problem) (s : State) : Type 0 where
@@ -76,6 +90,7 @@ pub record IsSound (p : Problem) (s : State) : Type 0 where
   pub synced : IsSynced s
   pub bounded : IsBounded p s
   pub telescoped : IsTelescoped p s
+  pub small_rows : All IsSmallRow s.rows
 
 -- each tagged cell of s is covered in s', but those of the greatest level
 pub record IsHeld (p : Problem) (s s' : State) : Type 0 where

@@ -65,6 +65,7 @@ flux_at p l m old f = flow (courant p l f) p.d (value_at p l m old (low_cell f))
 unfoldable pub net : Fluxes → Cell → ℤ
 net e c = (e (face X c.x c.y) -ℤ e (face X (c.x +ℤ pos 1) c.y)) +ℤ (e (face Y c.x c.y) -ℤ e (face Y c.x (c.y +ℤ pos 1)))
 
--- every mass plus its net inflow, which in a sound state is never below 0
+-- each mass plus its net inflow. A mass is a natural number, so that what is below 0 is cut at 0: the laws on exact masses
+-- say that the cut never acts in a step of a sound state.
 unfoldable pub updated : Masses → Fluxes → Masses
 updated m e c = option_map (λ v. at_least_zero (pos v +ℤ net e c)) (m c)

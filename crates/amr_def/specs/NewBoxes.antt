@@ -4,14 +4,14 @@ use Rattle.amr_box.specs.declared.Cell.{Cell}
 use Rattle.amr_box.specs.Cells.{Extent, has_child_where}
 use Rattle.amr_def.specs.declared.problem.Problem.{Problem}
 use Rattle.amr_def.specs.Domain.{Domain, domain, cells_where, is_near, refined, in_blocks, has_cell_where}
-use Rattle.amr_def.specs.State.{in_boxes}
+use Rattle.amr_def.specs.State.{is_covered_by}
 use Rattle.amr_def.specs.Tags.{is_grown}
 use Rattle.amr_def.specs.Cluster.{cluster}
 
 -- the parents of the cells at most one away from a parent of a cell of the boxes. The boxes are of
 -- level l + 2, the domain is that of l + 1, and the cell is of level l. (Berger and Colella: proper nesting)
 abbrev pub is_projected : Domain → List Extent → Cell → Bool
-is_projected d boxes = has_child_where (is_near d 1 (has_child_where (in_boxes boxes)))
+is_projected d boxes = has_child_where (is_near d 1 (is_covered_by boxes))
 
 abbrev pub first_boxes : List (List Extent) → List Extent
 first_boxes [] = []

@@ -44,6 +44,10 @@ masses_below s (suc l) = (level_at s l).masses
 abbrev pub in_boxes : List Extent → Cell → Bool
 in_boxes bs c = list_any (λ b. holds b c) bs
 
+-- whether boxes of the finer level cover a cell: it is the parent of one of their cells
+abbrev pub is_covered_by : List Extent → Cell → Bool
+is_covered_by bs = has_child_where (in_boxes bs)
+
 -- ---- covered cells
 
 -- whether a cell is covered: it is the parent of a cell of the finer level

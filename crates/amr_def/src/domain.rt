@@ -1,6 +1,9 @@
-//! The domain of a level, as the calls on boxes and tags take it.
+//! The domain of a level, as the calls on boxes and tags take it: its size, its cells, and the cell that each cell stands for.
 
 ghost use Rattle.amr_def.specs.Limits.{DomainLimits};
+
+use crate::axis::{is_inside, wrapped};
+use amr_box::Cell;
 
 /// The domain of level `l` of a problem with `nx` by `ny` cells at level 0.
 #[derive(Clone, Copy, Debug)]
@@ -20,7 +23,7 @@ pub struct Dom {
 
 impl Dom {
     ghost use Rattle.std.specs.Prelude.{◌≡◌, ◌≤◌};
-    ghost use Rattle.amr_def.specs.Domain.{domain_of};
+    ghost use Rattle.amr_def.specs.Domain.{domain_of, home_cell, in_domain};
 
     /// How many columns the domain has: `nx * 2^l`, at most 4096.
     #[tactic(auto, using(crate::proofs::Sizes::sizes))]
@@ -38,5 +41,23 @@ impl Dom {
         ensures small { result ≤ 4096 }
     {
         self.ny << self.l
+    }
+
+    /// The cell that a cell stands for: on a periodic axis a coordinate is taken modulo the number of cells.
+    pub fn home_cell(&self, c: Cell) -> Cell
+        ensures { result ≡ home_cell (domain_of self.now) c }
+    {
+        Cell {
+            x: wrapped(self.wrap_x, self.columns(), c.x),
+            y: wrapped(self.wrap_y, self.rows(), c.y),
+        }
+    }
+
+    /// Whether a cell is one of the domain.
+    #[tactic(auto, unfolding(crate::specs::Domain::in_domain))]
+    pub fn in_domain(&self, c: Cell) -> bool
+        ensures { result ≡ in_domain (domain_of self.now) c }
+    {
+        is_inside(self.columns(), c.x) && is_inside(self.rows(), c.y)
     }
 }

@@ -38,6 +38,8 @@ pub struct Row {
 /// What is computed: the keys of a problem file, within their limits.
 #[derive(Debug, Drop)]
 pub struct Problem {
+    /// The version of the problem file: 1.
+    pub version: u32,
     /// 1 to 32 bytes, each of `a` to `z`, `0` to `9`, `-` and `_`.
     pub name: Name,
     /// How many columns level 0 has: 2 to 256.
@@ -77,7 +79,7 @@ pub struct Problem {
     /// The masses at the start, at most 256 rectangles. A later one replaces an earlier one, and a cell
     /// of none has mass 0.
     pub blocks: Blocks,
-    pub ghost limits: { Limits name nx ny steps cx cy d shear_x shear_y x_sides y_sides max_level tag n_error_buf efficiency min_width regrid_int blocking max_grid_size blocks },
+    pub ghost limits: { Limits version name nx ny steps cx cy d shear_x shear_y x_sides y_sides max_level tag n_error_buf efficiency min_width regrid_int blocking max_grid_size blocks },
 }
 
 impl Sides {

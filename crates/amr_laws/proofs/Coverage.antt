@@ -1,6 +1,7 @@
 -- New boxes lie in their domain, and cover each cell whose parent is wanted.
-use Rattle.std.proofs.Common.{◌≡◌, ℕ, zero, suc, ◌+◌, ◌*◌, ◌/◌, ◌%◌, ◌^◌, ◌<◌, ◌≤◌, Bool, true, false, ◌||◌, ◌⊎◌, inl, inr, ℤ, pos, negsuc, ◌+ℤ◌, ◌≤ℤ◌, ◌<ℤ◌, refl, sym, ap, subst, ◌∙◌, arith, List, map}
+use Rattle.std.proofs.Common.{◌≡◌, ℕ, zero, suc, ◌+◌, ◌*◌, ◌/◌, ◌%◌, ◌^◌, ◌<◌, ◌≤◌, Bool, true, ◌||◌, ◌⊎◌, inl, inr, ℤ, pos, negsuc, ◌+ℤ◌, ◌≤ℤ◌, ◌<ℤ◌, refl, sym, ap, subst, ◌∙◌, arith, List, map}
 use Rattle.std.proofs.lemmas.Int.{ints}
+use Rattle.std.proofs.lemmas.Bool.{or_left, or_right}
 use Rattle.std.proofs.Math.Nat.{lt-div-mul-add, div-mul-le_self, mul-le-mul_right, mod-add-div', mul-div_cancel, div-lt_iff_lt-mul}
 use Rattle.amr_box.specs.declared.Cell.{Cell}
 use Rattle.amr_box.specs.Cells.{cell, half, parent, child, has_child_where, Extent, extent, holds}
@@ -15,10 +16,10 @@ use Rattle.amr_def.proofs.Values.{same_cell}
 use Rattle.amr_def.proofs.Courants.{twice_as_many}
 use Rattle.amr_def.proofs.Nesting.{parent_inside, odd_small}
 use Rattle.amr_def.proofs.Nests.{half_and_odd}
-use Rattle.amr_def.proofs.ClusterLaws.{own_holds, cluster-disjoint}
+use Rattle.amr_def.proofs.ClusterLaws.{own_holds, cluster-disjoint, cluster-proper}
 use Rattle.amr_laws.proofs.Blocks.{IsSide, block_at, block_of, holds-refined, in_boxes-refined, parent-block, side_positive}
 use Rattle.amr_laws.proofs.CellSets.{any_in_box, clustered}
-use Rattle.amr_laws.proofs.NewLevels.{AreNewBoxes, is_blocking_of, all_aligned, refined_disjoint, pairs_apart, box_holds, cluster_within_domain}
+use Rattle.amr_laws.proofs.NewLevels.{AreNewBoxes, is_blocking_of, all_aligned, all_proper, refined_disjoint, pairs_apart, box_holds, cluster_within_domain}
 
 -- the new boxes of level l + 1, over those of level l + 2
 abbrev pub boxes_over : Problem → (ℕ → Cell → Bool) → ℕ → List Extent → List Extent
@@ -85,6 +86,7 @@ module _ (p : Problem) (tagged : ℕ → Cell → Bool) (l : ℕ) (finer : List 
 
   pub new_boxes-good : AreNewBoxes p (suc l) (boxes_over p tagged l finer)
   new_boxes-good = record {
+    proper = all_proper p.blocking side clusters (cluster-proper p.efficiency p.min_width (wanted_blocks p tagged l finer));
     aligned = all_aligned p.blocking side clusters;
     disjoint = pairs_apart (boxes_over p tagged l finer) (refined_disjoint p.blocking side clusters (cluster-disjoint p.efficiency p.min_width (wanted_blocks p tagged l finer)));
     inside = inside;
@@ -124,22 +126,16 @@ zero_or_one (suc zero) h = inr refl
 zero_or_one (suc (suc n)) h = absurd (omega arith)
 
 or_1 : (a b c d : Bool) → a ≡ true → (a || b || c || d) ≡ true
-or_1 a b c d e = rw e
+or_1 a b c d e = or_left _ d (or_left _ c (or_left a b e))
 
 or_2 : (a b c d : Bool) → b ≡ true → (a || b || c || d) ≡ true
-or_2 true b c d e = refl
-or_2 false b c d e = rw e
+or_2 a b c d e = or_left _ d (or_left _ c (or_right a b e))
 
 or_3 : (a b c d : Bool) → c ≡ true → (a || b || c || d) ≡ true
-or_3 true b c d e = refl
-or_3 false true c d e = refl
-or_3 false false c d e = rw e
+or_3 a b c d e = or_left _ d (or_right _ c e)
 
 or_4 : (a b c d : Bool) → d ≡ true → (a || b || c || d) ≡ true
-or_4 true b c d e = refl
-or_4 false true c d e = refl
-or_4 false false true d e = refl
-or_4 false false false d e = e
+or_4 a b c d e = or_right _ d e
 
 module _ (test : Cell → Bool) (q : Cell) (h : test q ≡ true) where
   at : (i j : ℕ) → odd q.x ≡ i → odd q.y ≡ j → test (cell (half q.x +ℤ half q.x +ℤ pos i) (half q.y +ℤ half q.y +ℤ pos j)) ≡ true

@@ -1,11 +1,12 @@
 -- The new boxes of a level: aligned, apart, in the domain, and over every child of a wanted cell.
-use Rattle.std.proofs.Common.{◌≡◌, ℕ, zero, suc, ◌<◌, Bool, true, false, ◌||◌, ℤ, pos, ◌-ℤ◌, ◌≤ℤ◌, ◌<ℤ◌, refl, sym, ◌∙◌, arith, List, [], ◌∷◌, length, map}
+use Rattle.std.proofs.Common.{◌≡◌, ℕ, zero, suc, ◌<◌, Bool, true, false, ◌||◌, inl, inr, ℤ, pos, ◌+ℤ◌, ◌-ℤ◌, ◌*ℤ◌, ◌≤ℤ◌, ◌<ℤ◌, refl, sym, ◌∙◌, arith, List, [], ◌∷◌, length, map}
 use Rattle.std.specs.Prelude.{slice_index_or}
 use Rattle.std.specs.List.{All, AllPairs}
 use Rattle.std.proofs.lemmas.Int.{ints}
+use Rattle.std.proofs.lemmas.List.Elements.{All-map}
 use Rattle.amr_box.specs.declared.Cell.{Cell}
 use Rattle.amr_box.specs.declared.Axis.TheVariants.{X, Y}
-use Rattle.amr_box.specs.Cells.{Extent, holds, within}
+use Rattle.amr_box.specs.Cells.{Extent, IsProper, holds, within}
 use Rattle.amr_def.specs.declared.problem.Problem.{Problem}
 use Rattle.amr_def.specs.Domain.{Domain, domain_box, cells_where, refined}
 use Rattle.amr_def.specs.State.{in_boxes}
@@ -17,14 +18,29 @@ use Rattle.amr_def.proofs.ClusterLaws.{BoxesBelow, BoxesFrom, within_below, with
 use Rattle.amr_laws.proofs.Blocks.{IsSide, IsBlocking, blocking, block_of, holds-refined, refined-aligned}
 use Rattle.amr_laws.proofs.CellSets.{both_parts, each_then, each_inside}
 
--- boxes of level l: aligned, apart, and in the domain
+-- boxes of level l: with cells, aligned, apart, and in the domain
 pub record AreNewBoxes (p : Problem) (l : ℕ) (bs : List Extent) : Type 0 where
+  pub proper : All IsProper bs
   pub aligned : All (IsAligned p.blocking) bs
   pub disjoint : AllPairs (λ a b. (c : Cell) → holds a c ≡ true → holds b c ≡ true → ⊥) bs
   pub inside : (c : Cell) → in_boxes bs c ≡ true → IsCellInside p l c
 
 pub is_blocking_of : (p : Problem) → IsBlocking p.blocking
 is_blocking_of p = blocking p.blocking (blocking_cases p.blocking p.limits.blocking_factor)
+
+-- ---- with cells
+
+refined_axis : (n : ℕ) → IsSide n → (lo hi : ℤ) → lo ≤ℤ hi → (pos n *ℤ lo) ≤ℤ (pos n *ℤ hi +ℤ (pos n -ℤ pos 1))
+refined_axis n (inl e) lo hi h = rw e (omega (arith, ints, h))
+refined_axis n (inr (inl e)) lo hi h = rw e (omega (arith, ints, h))
+refined_axis n (inr (inr (inl e))) lo hi h = rw e (omega (arith, ints, h))
+refined_axis n (inr (inr (inr e))) lo hi h = rw e (omega (arith, ints, h))
+
+refined_proper : (n : ℕ) → IsSide n → (b : Extent) → IsProper b → IsProper (refined n b)
+refined_proper n side b h = record { wide = refined_axis n side b.lo.x b.hi.x h.wide; high = refined_axis n side b.lo.y b.hi.y h.high }
+
+pub all_proper : (n : ℕ) → IsSide n → (bs : List Extent) → All IsProper bs → All IsProper (map (refined n) bs)
+all_proper n side bs h = All-map IsProper (refined n) bs (λ k d i. refined_proper n side (slice_index_or bs k d) (h k d i))
 
 -- ---- apart
 

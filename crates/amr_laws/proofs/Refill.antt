@@ -1,14 +1,14 @@
 -- A level with new boxes: its cells, its nesting, and its masses, kept or shared out.
-use Rattle.std.proofs.Common.{◌≡◌, ℕ, zero, suc, ◌+◌, ◌*◌, Bool, true, false, cond, ℤ, pos, ◌+ℤ◌, IsSome, is_some, refl, sym, ap, subst, ◌∙◌, arith, List, [], ◌∷◌, add-one}
+use Rattle.std.proofs.Common.{◌≡◌, ℕ, zero, suc, ◌+◌, ◌*◌, ◌<◌, Bool, true, false, cond, ℤ, pos, ◌+ℤ◌, IsSome, is_some, refl, sym, ap, subst, ◌∙◌, arith, List, [], ◌∷◌, length, add-one}
 use Rattle.std.specs.declared.option.Option.{Option}
 use Rattle.std.specs.declared.option.Option.TheVariants.{None, Some}
 use Rattle.std.specs.Option.{unwrap_or}
 use Rattle.std.proofs.lemmas.Int.{ints}
 use Rattle.amr_box.specs.declared.Cell.{Cell}
-use Rattle.amr_box.specs.Cells.{parent, has_child_where, Extent}
+use Rattle.amr_box.specs.Cells.{parent, Extent}
 use Rattle.amr_def.specs.declared.problem.Problem.{Problem}
 use Rattle.amr_def.specs.Domain.{domain, in_domain, is_near}
-use Rattle.amr_def.specs.State.{Masses, Level, in_boxes, is_covered, mass_of, children_mass}
+use Rattle.amr_def.specs.State.{Masses, Level, in_boxes, is_covered, is_covered_by, mass_of, children_mass}
 use Rattle.amr_def.specs.NewBoxes.{first_boxes, is_projected, is_wanted, new_boxes}
 use Rattle.amr_def.specs.Tags.{is_grown}
 use Rattle.amr_def.specs.Regrid.{share, odd, child_number, split_mass, refilled}
@@ -18,7 +18,7 @@ use Rattle.amr_def.proofs.Values.{same_cell}
 use Rattle.amr_def.proofs.Children.{children_mass-is}
 use Rattle.amr_def.proofs.Subcycle.{bool_cases}
 use Rattle.amr_def.proofs.Uncovered.{in_domain-yes, half-double, half-double_next, no_children}
-use Rattle.amr_def.proofs.Nesting.{in_domain-inside, children, covered_there}
+use Rattle.amr_def.proofs.Nesting.{in_domain-inside, children, covered_boxes, covered_there}
 use Rattle.amr_def.proofs.Nests.{half_and_odd, shares_sum}
 use Rattle.amr_laws.proofs.CellSets.{right}
 use Rattle.amr_laws.proofs.NewLevels.{AreNewBoxes}
@@ -45,7 +45,7 @@ new_facts p tagged (suc n) l =
 
 -- a cell of the domain near the children's parents of these boxes is of the level
 pub record Surrounds (p : Problem) (l : ℕ) (k : Level) (bs : List Extent) : Type 0 where
-  pub at : (c : Cell) → in_domain (domain p l) c ≡ true → is_near (domain p l) 1 (has_child_where (in_boxes bs)) c ≡ true → in_boxes k.boxes c ≡ true
+  pub at : (c : Cell) → in_domain (domain p l) c ≡ true → is_near (domain p l) 1 (is_covered_by bs) c ≡ true → in_boxes k.boxes c ≡ true
 
 -- a cell of the level over old children has their mass
 pub record SyncedWithin (m old : Masses) : Type 0 where
@@ -58,11 +58,9 @@ pub is_some-given : (t : Bool) (m : ℕ) → is_some (cond t (Some m) None) ≡ 
 is_some-given true m = refl
 is_some-given false m = refl
 
-pub covered_by_boxes : (coarse old : Masses) (bs : List Extent) → is_covered (refilled coarse old bs) ≡ has_child_where (in_boxes bs)
+pub covered_by_boxes : (coarse old : Masses) (bs : List Extent) → is_covered (refilled coarse old bs) ≡ is_covered_by bs
 unfolding is_covered
-covered_by_boxes coarse old bs =
-    let filled : (λ (k : Cell). is_some (refilled coarse old bs k)) ≡ in_boxes bs = λ i k. is_some-given (in_boxes bs k) (unwrap_or (old k) (split_mass coarse k)) i in
-    ap has_child_where filled
+covered_by_boxes coarse old bs = covered_boxes (refilled coarse old bs) bs (λ k. is_some-given (in_boxes bs k) (unwrap_or (old k) (split_mass coarse k)))
 
 kept_mass : (t : Bool) (o : Option ℕ) (v : ℕ) → t ≡ true → IsSome o → unwrap_or (cond t (Some (unwrap_or o v)) None) 0 ≡ unwrap_or o 0
 kept_mass true (Some w) v e h = refl
@@ -104,22 +102,21 @@ module _ (coarse : Masses) (c : Cell) where
   share_3 : split_mass coarse (child_3 c) ≡ share (mass_of coarse c) 3
   share_3 = shared (child_3 c) 1 1 (same_cell (half-double_next c.x) (half-double_next c.y)) (odd-double_next c.x) (odd-double_next c.y)
 
-module _ (p : Problem) (l : ℕ) (k : Level) (old : Masses) (bs : List Extent) (klevel : IsLevel p l k) (good : AreNewBoxes p (suc l) bs) (surrounds : Surrounds p l k bs) where
+module _ (p : Problem) (l : ℕ) (k : Level) (old : Masses) (bs : List Extent) (klevel : IsLevel p l k) (some : 0 < length bs) (good : AreNewBoxes p (suc l) bs) (surrounds : Surrounds p l k bs) where
   abbrev fine : Level
   fine = new_level k.masses old bs
 
   pub new_is_level : IsLevel p (suc l) fine
   new_is_level = record {
+    some = some;
+    proper = good.proper;
     disjoint = good.disjoint;
     inside = λ c h. in_domain-yes p (suc l) c (good.inside c h);
     filled = λ c. is_some-given (in_boxes bs c) (unwrap_or (old c) (split_mass k.masses c));
   }
 
   pub new_is_nested : IsNestedLevel p l k fine
-  new_is_nested = record {
-    aligned = good.aligned;
-    around = λ c inside near. surrounds.at c inside (subst (λ (t : Cell → Bool). is_near (domain p l) 1 t c ≡ true) (covered_by_boxes k.masses old bs) near);
-  }
+  new_is_nested = record { aligned = good.aligned; around = surrounds.at }
 
   module _ (old_children : HasAllChildren old) (synced : SyncedWithin k.masses old) where
     module _ (c : Cell) (covered : is_covered fine.masses c ≡ true) where
@@ -171,7 +168,7 @@ module _ (p : Problem) (l : ℕ) (k : Level) (old : Masses) (bs : List Extent) (
 pub next_surrounds : (p : Problem) (tagged : ℕ → Cell → Bool) (l : ℕ) (coarse old : Masses) (bs next : List Extent) → Covers p tagged l next bs → Surrounds p (suc l) (new_level coarse old bs) next
 next_surrounds p tagged l coarse old bs next covers = record {
   at = λ c inside near.
-      let near_here : is_near (domain p (l + 1)) 1 (has_child_where (in_boxes next)) c ≡ true = subst (λ (n : ℕ). is_near (domain p n) 1 (has_child_where (in_boxes next)) c ≡ true) (sym (add-one l)) near in
+      let near_here : is_near (domain p (l + 1)) 1 (is_covered_by next) c ≡ true = subst (λ (n : ℕ). is_near (domain p n) 1 (is_covered_by next) c ≡ true) (sym (add-one l)) near in
       covers.at c (in_domain-inside p (suc l) c inside)
-      (right (is_grown p l (tagged l) (parent c)) (is_projected (domain p (l + 1)) next (parent c)) (child_of_parent (is_near (domain p (l + 1)) 1 (has_child_where (in_boxes next))) c near_here));
+      (right (is_grown p l (tagged l) (parent c)) (is_projected (domain p (l + 1)) next (parent c)) (child_of_parent (is_near (domain p (l + 1)) 1 (is_covered_by next)) c near_here));
 }

@@ -68,10 +68,10 @@ refill_chain p tagged l k olds [] level surrounds synced o new = level
 refill_chain p tagged l k olds ([] ∷ more) level surrounds synced o new = level
 refill_chain p tagged l k olds ((b ∷ bs) ∷ more) level surrounds synced o new =
     let fine = new_level k.masses (first_masses olds) (b ∷ bs) in
-    let fine_level = new_is_level p l k (first_masses olds) (b ∷ bs) level new.0 surrounds in (
+    let fine_level = new_is_level p l k (first_masses olds) (b ∷ bs) level (omega arith) new.0 surrounds in (
       level,
-      new_is_nested p l k (first_masses olds) (b ∷ bs) level new.0 surrounds,
-      new_is_synced p l k (first_masses olds) (b ∷ bs) level new.0 surrounds o.children synced,
+      new_is_nested p l k (first_masses olds) (b ∷ bs) level (omega arith) new.0 surrounds,
+      new_is_synced p l k (first_masses olds) (b ∷ bs) level (omega arith) new.0 surrounds o.children synced,
       refill_chain p tagged (suc l) fine (rest_of olds) more fine_level
           (next_surrounds p tagged l k.masses (first_masses olds) (b ∷ bs) (first_boxes more) new.1)
           (later_synced p l k.masses olds (b ∷ bs) o) (later_facts p l olds o) new.2,

@@ -125,6 +125,7 @@ module _ (p : Problem) (n : ℕ) (rs : List Row) (k : Level) (ks : List Level) w
         each = sound.telescoped.each;
         last = sound.telescoped.last;
       };
+      small_rows = sound.small_rows;
     }
 
 sound_from : (p : Problem) (n : ℕ) (rs : List Row) (ks : List Level) → IsSound p (record { step = n; rows = rs; levels = ks }) → IsSound p (regrid p (record { step = n; rows = rs; levels = ks }))

@@ -105,7 +105,7 @@ pub record AreValues (e : Entries) (name : List ℕ) (nx ny steps : ℕ) (cx cy 
 
 pub limits : (e : Entries) (name : List ℕ) (nx ny steps : ℕ) (cx cy : ℤ) (d : ℕ) (x_sides y_sides : Sides) (max_grid_size : ℕ) (blocks : List Block) → IsClean e
     → AreValues e name nx ny steps cx cy d x_sides y_sides max_grid_size blocks
-    → Limits name nx ny steps cx cy d [] [] x_sides y_sides 0 [] 1 70 2 2 2 max_grid_size blocks
+    → Limits 1 name nx ny steps cx cy d [] [] x_sides y_sides 0 [] 1 70 2 2 2 max_grid_size blocks
 limits e name nx ny steps cx cy d x_sides y_sides max_grid_size blocks clean v =
     let r = clean.in_range in
     let inside : list_all (is_inside (e.nx ∷ e.ny ∷ [])) e.blocks.items ≡ true = position-none (is_inside (e.nx ∷ e.ny ∷ [])) e.blocks.items (option_map-none _ _ clean.inside) in
@@ -124,6 +124,7 @@ limits e name nx ny steps cx cy d x_sides y_sides max_grid_size blocks clean v =
     let even : is_even (pos max_grid_size) ≡ true = rw v.max_grid_size_is at r.even_max_grid_size in
     let many : length (map block_numbers blocks) ≤ 256 = rw v.blocks_are at r.block_count in
     record {
+      known_version = refl;
       named = rw v.name_is at r.named;
       short_name = rw v.name_is at r.short_name;
       name_bytes = rw v.name_is at r.name_bytes;

@@ -60,10 +60,11 @@ fn assemble(
     max_grid_size: u32,
     blocks: Blocks,
 ) -> Problem
-    requires { Limits name nx ny steps cx cy d [] [] x_sides y_sides 0 [] 1 70 2 2 2 max_grid_size blocks }
+    requires { Limits 1 name nx ny steps cx cy d [] [] x_sides y_sides 0 [] 1 70 2 2 2 max_grid_size blocks }
     ensures { HasParts name nx ny steps cx cy d x_sides y_sides max_grid_size blocks result }
 {
     Problem {
+        version: 1,
         name,
         nx,
         ny,
