@@ -12,3 +12,4 @@ pub mod Kept
 pub mod RunRows
 pub mod GridSize
 pub mod Products
+pub mod Substeps

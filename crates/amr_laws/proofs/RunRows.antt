@@ -1,4 +1,4 @@
--- A run with an open side, a finer level and a regrid on the way, so that no law holds for want of a case.
+-- A run with an open side, a finer level and a regrid on the way, so that each law has a case.
 -- The plot is that of another program for the same problem.
 use Rattle.std.proofs.Common.{◌≡◌, refl, [], ◌∷◌, rules}
 use Rattle.std.specs.Prelude.{codes}

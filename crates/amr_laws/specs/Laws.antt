@@ -9,7 +9,7 @@ use Rattle.amr_def.specs.Domain.{domain, home_cell}
 use Rattle.amr_def.specs.State.{Masses, Level, State, no_masses, level_at, masses_below, is_covered, mass_of, children_mass}
 use Rattle.amr_def.specs.Value.{value_at}
 use Rattle.amr_def.specs.Flux.{Fluxes, face, low_cell, high_cell, courant, flow, flux_at, net}
-use Rattle.amr_def.specs.LevelStep.{effective, Stepped, step}
+use Rattle.amr_def.specs.LevelStep.{effective, Stepped, step, over_finer}
 use Rattle.amr_def.specs.Ledger.{first_of}
 use Rattle.amr_def.specs.Regrid.{share, regrid}
 use Rattle.amr_def.specs.Run.{start, next, finish, run}
@@ -17,6 +17,7 @@ use Rattle.amr_def.specs.Facts.{IsSound, IsHeld}
 use Rattle.amr_def.specs.Plot.{plot}
 use Rattle.amr_laws.specs.GridSize.{AreLimits, with_grid_size}
 use Rattle.amr_laws.specs.Levels.{AreLevels, masses_of}
+use Rattle.amr_laws.specs.Substeps.{IsSubstep, StepFits, after_step}
 
 -- ---- runs
 
@@ -129,3 +130,25 @@ LevelStepByRegisters = (p : Problem) (l : ℕ) (k fine : Level) (ks : List Level
     → let r : Stepped = step p l (k.masses ∷ fine.masses ∷ masses_of ks) old in
     let plain : Fluxes = flux_at p l k.masses old in
     pos (mass_of (first_of r.levels) c) ≡ cond (is_covered fine.masses c) (pos (children_mass (second_of r.levels) c)) ((pos (mass_of k.masses c) +ℤ net plain c) +ℤ net (λ f. r.fluxes f -ℤ plain f) c)
+
+-- ---- steps within a step
+
+-- a step of levels keeps what the laws on it ask: each in its domain, nested and in sync. So they hold of a second step too.
+abbrev pub LevelStepKeepsLevels : Type 0
+LevelStepKeepsLevels = (p : Problem) (l : ℕ) (ks : List Level) (old : Masses) → AreLevels p l ks → AreLevels p l (after_step p l ks old)
+
+-- a step of a level over finer ones is made of two steps of those, the second of what the first left, both with the
+-- level's masses of before
+abbrev pub LevelStepIsTwoFiner : Type 0
+LevelStepIsTwoFiner = (p : Problem) (l : ℕ) (k fine : Level) (finer : List Level) (old : Masses) → AreLevels p (suc l) (fine ∷ finer)
+    → let first : Stepped = step p (suc l) (masses_of (fine ∷ finer)) k.masses in
+    let second : Stepped = step p (suc l) (masses_of (after_step p (suc l) (fine ∷ finer) k.masses)) k.masses in
+    step p l (masses_of (k ∷ fine ∷ finer)) old ≡ over_finer p l k.masses old fine.masses first second
+
+-- what a step of a sound state is made of: each step of levels within it is one of levels in their domains, nested and in sync
+abbrev pub SubstepsAreOfLevels : Type 0
+SubstepsAreOfLevels = (p : Problem) (s : State) (l : ℕ) (ks : List Level) (old : Masses) → IsSound p s → IsSubstep p s l ks old → AreLevels p l ks
+
+-- and its numbers fit the integers of code
+abbrev pub SubstepsFit : Type 0
+SubstepsFit = (p : Problem) (s : State) (l : ℕ) (k : Level) (finer : List Level) (old : Masses) → IsSound p s → s.step < p.steps → IsSubstep p s l (k ∷ finer) old → StepFits p l k finer old

@@ -1,3 +1,4 @@
 pub mod GridSize
 pub mod Levels
+pub mod Substeps
 pub mod Laws

@@ -2,7 +2,7 @@
 //! empty body, and what it ensures is the law.
 #![tactic(auto)]
 
-ghost use Rattle.amr_laws.specs.Laws.{FinishIsSound, FourFluxesAreWithinShare, LevelStepByRegisters, LevelStepIsExact, NextIsSound, PlotIgnoresGridSize, ProductsAreSmall, RefluxIsEffectiveStep, RegistersLieBesideCovered, RegridHoldsTags, RegridKeepsMasses, RegridKeepsSound, RunIgnoresGridSize, RunIsSound, SharesAddUp, StartIsSound, ValuesAreSmall};
+ghost use Rattle.amr_laws.specs.Laws.{FinishIsSound, FourFluxesAreWithinShare, LevelStepByRegisters, LevelStepIsExact, LevelStepIsTwoFiner, LevelStepKeepsLevels, NextIsSound, PlotIgnoresGridSize, ProductsAreSmall, RefluxIsEffectiveStep, RegistersLieBesideCovered, RegridHoldsTags, RegridKeepsMasses, RegridKeepsSound, RunIgnoresGridSize, RunIsSound, SharesAddUp, StartIsSound, SubstepsAreOfLevels, SubstepsFit, ValuesAreSmall};
 
 /// The start of a run is sound: nested, synced, bounded and telescoped.
 pub fn start_is_sound()
@@ -92,4 +92,27 @@ pub fn registers_lie_beside_covered()
 /// step with plain fluxes and the registers of its faces make, at a covered one the sum of its children.
 pub fn level_step_by_registers()
     ensures { LevelStepByRegisters }
+{}
+
+/// A step of levels keeps what the laws on it ask: each in its domain, nested and in sync with the next finer one. So
+/// what `level_step_is_exact` and `level_step_by_registers` say of a first finer step they say of the second too.
+pub fn level_step_keeps_levels()
+    ensures { LevelStepKeepsLevels }
+{}
+
+/// A step of a level over finer ones is made of two steps of those, the second of what the first left, both with the
+/// level's masses of before.
+pub fn level_step_is_two_finer()
+    ensures { LevelStepIsTwoFiner }
+{}
+
+/// Each step of levels within the step from a sound state is one of levels in their domains, nested and in sync.
+pub fn substeps_are_of_levels()
+    ensures { SubstepsAreOfLevels }
+{}
+
+/// In each step of levels within the step from a sound state masses, values and fluxes are below 2^31, products below
+/// 2^42 and sums below 2^52, and four fluxes take no more than a cell has.
+pub fn substeps_fit()
+    ensures { SubstepsFit }
 {}
