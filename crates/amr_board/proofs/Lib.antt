@@ -7,9 +7,12 @@ pub mod Posting
 pub mod Sharing
 pub mod Workers
 pub mod Showing
+pub mod ShowingDraws
 pub mod Running
 pub mod Opening
 pub mod Closing
 pub mod SlotLists
 pub mod Carried
+pub mod Stepping
 pub mod Allowing
+pub mod Called

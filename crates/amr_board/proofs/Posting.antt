@@ -6,11 +6,11 @@ use mathlib.Core.Logic.{dite}
 use native.Mathlib.Decide.{ℕ_discrete}
 use lib.ListN.{get_elem?}
 use Rattle.std.proofs.Math.ListN.{length-set}
-use Rattle.std.proofs.lemmas.List.{set-get_or, get_or-set_same, get_or-set_other}
+use Rattle.std.proofs.lemmas.List.{get_or-set_same, get_or-set_other}
 use Rattle.atomic_table.specs.Table.{State}
 use Rattle.amr_phase.specs.declared.plan.Post.{Post}
 use Rattle.amr_phase.specs.declared.plan.Task.{Task}
-use Rattle.amr_phase.specs.Plans.{PlanOf, total, planned_face, puts_of, adds_of, stored, added, named, no_post, planned_total, puts_named}
+use Rattle.amr_phase.specs.Plans.{PlanOf, total, planned_face, puts_of, adds_of, stored, added, named, no_post, planned_total, puts_named, IsPlan}
 use Rattle.amr_board.specs.declared.view.Progress.{Progress}
 use Rattle.amr_board.specs.declared.view.View.{View}
 use Rattle.amr_board.specs.Views.{current, IsNextAdd, IsNextPut, add_done, put_done, looked}
@@ -99,6 +99,14 @@ module _ {P : Type 0} (q : PlanOf) (m r : ℕ) (len : length q.tasks ≡ m + r) 
       let w : (total (own_puts q p) vs + total (λ (v : View P). total (rest_of q (stored p)) v.tasks) vs) + later q (stored p) m r ≡ planned_face q p = parts (stored p) in
       inr (omega arith))
 
+-- the next post names a place or word of the plan
+module _ {P : Type 0} (v : View P) (ok : IsPlan v.plan) where
+  pub put_in_range : (place amount : ℕ) → IsNextPut v place amount → place < v.plan.places
+  put_in_range place amount ready = subst (λ (x : Post). x.at < v.plan.places) ready.post (ok.puts_in_range (current v).task (current v).puts ready.left)
+
+  pub add_in_range : (word amount : ℕ) → IsNextAdd v word amount → word < v.plan.words
+  add_in_range word amount ready = subst (λ (x : Post). x.at < v.plan.words) ready.post (ok.adds_in_range (current v).task (current v).adds ready.left)
+
 module _ {P : Type 0} (becomes : P → P → Type 0) (s : State (Option P) (View P)) (id : ℕ) (v : View P) (h : Sentences v.plan v.pieces becomes s) (at : get_elem? s.views id ≡ lookup.some v) (live : v.spent ≡ false) where
   abbrev q : PlanOf
   q = v.plan
@@ -113,9 +121,6 @@ module _ {P : Type 0} (becomes : P → P → Type 0) (s : State (Option P) (View
   same_homes w same t p is =
       subst (λ n. SlotIs becomes s.homes t p n) (let a = sum_set (stages t) s.views id v w at in let e = same t in let r : total (stages t) s.views ≡ total (stages t) (set s.views id w) = omega arith in r) (h.slots t p is)
 
-  pub add_in_range : (word amount : ℕ) → IsNextAdd v word amount → word < q.words
-  add_in_range word amount ready = subst (λ (x : Post). x.at < q.words) ready.post (h.is_plan.adds_in_range (current v).task (current v).adds ready.left)
-
   pub adds_rule : (word amount : ℕ) → IsNextAdd v word amount
       → (get_or s.words (1 + q.places + word) 0 + amount < 2 ^ 64) × Sentences q v.pieces becomes (record { words = set s.words (1 + q.places + word) (get_or s.words (1 + q.places + word) 0 + amount); homes = s.homes; views = set s.views id (add_done v) })
   adds_rule word amount ready =
@@ -126,7 +131,7 @@ module _ {P : Type 0} (becomes : P → P → Type 0) (s : State (Option P) (View
       let vs = s.views in
       let at_word : ℕ = 1 + q.places + word in
       let post : Post = record { at = word; amount = amount } in
-      let in_words = add_in_range word amount ready in
+      let in_words = add_in_range v h.is_plan word amount ready in
       let once' : (g : ℕ → ℕ) → total (numbers g) (set vs id w) ≡ weigh g 0 m
       = λ g. (let t = sum_set (numbers g) vs id v w at in let same : numbers g w ≡ numbers g v = same_current v e' held (λ (x : Progress). g x.task) refl in let o = h.each_once g in omega arith) in
       let more : (x : ℕ) → own_adds q x w ≡ own_adds q x v + added x post
@@ -163,9 +168,6 @@ module _ {P : Type 0} (becomes : P → P → Type 0) (s : State (Option P) (View
             (fit_current v e' held q (record { not_taken = λ x. absurd (true≢false (sym ready.holding.is_taken ∙ x)); given = λ x. absurd (true≢false (sym x ∙ ready.holding.ungiven)); older = λ x. absurd (omega arith) }) (h.tasks id v at)),
       )
 
-  pub put_in_range : (place amount : ℕ) → IsNextPut v place amount → place < q.places
-  put_in_range place amount ready = subst (λ (x : Post). x.at < q.places) ready.post (h.is_plan.puts_in_range (current v).task (current v).puts ready.left)
-
   pub puts_rule : (place amount : ℕ) → IsNextPut v place amount
       → Sentences q v.pieces becomes (record { words = set s.words (1 + place) (amount + 1); homes = s.homes; views = set s.views id (put_done v place) })
   puts_rule place amount ready =
@@ -175,7 +177,7 @@ module _ {P : Type 0} (becomes : P → P → Type 0) (s : State (Option P) (View
       let w = put_done v place in
       let vs = s.views in
       let post : Post = record { at = place; amount = amount } in
-      let lt : place < q.places = put_in_range place amount ready in
+      let lt : place < q.places = put_in_range v h.is_plan place amount ready in
       let inside : 1 + place < length s.words = rw h.sized (omega arith) in
       let once' : (g : ℕ → ℕ) → total (numbers g) (set vs id w) ≡ weigh g 0 m
       = λ g. (let t = sum_set (numbers g) vs id v w at in let same : numbers g w ≡ numbers g v = same_current v e' held (λ (x : Progress). g x.task) refl in let o = h.each_once g in omega arith) in
@@ -233,17 +235,16 @@ module _ {P : Type 0} (becomes : P → P → Type 0) (s : State (Option P) (View
       (λ ne. subst (λ b. Contains (cond b v.known (v.known ++ place ∷ [])) p → (p < q.places) × (0 < get_or s.words (1 + p) 0)) (sym (ne_eqb n 0 ne))
       (λ has. ⊎_elim (λ r. h.known id v p at r) (λ (e : place ≡ p). subst (λ x. (x < q.places) × (0 < get_or s.words (1 + x) 0)) e (lt, (let r : 0 < n = omega arith in r))) (Contains-push_cases v.known place p has)))
 
-  pub looks_rule : (place : ℕ) → place < q.places → Sentences q v.pieces becomes (record { words = set s.words (1 + place) (get_or s.words (1 + place) 0); homes = s.homes; views = set s.views id (looked v place (get_or s.words (1 + place) 0)) })
+  pub looks_rule : (place : ℕ) → place < q.places → Sentences q v.pieces becomes (record { words = s.words; homes = s.homes; views = set s.views id (looked v place (get_or s.words (1 + place) 0)) })
   looks_rule place lt =
       let n : ℕ = get_or s.words (1 + place) 0 in
       let w = looked v place n in
       let same : (g : Progress → ℕ) → total (λ (u : View P). total g u.tasks) (set s.views id w) ≡ total (λ (u : View P). total g u.tasks) s.views
       = λ g. (let t = sum_set (λ (u : View P). total g u.tasks) s.views id v w at in let k : total g w.tasks ≡ total g v.tasks = refl in omega arith) in
-      subst (λ ws. Sentences q v.pieces becomes (record { words = ws; homes = s.homes; views = set s.views id w })) (sym (set-get_or s.words (1 + place) 0))
-      (kept q v.pieces becomes s h id v at s.words s.homes w refl refl live live (refl, refl) (λ g. refl) refl refl
+      kept q v.pieces becomes s h id v at s.words s.homes w refl refl live live (refl, refl) (λ g. refl) refl refl
       (λ p p_lt. h.faces p p_lt ∙ sym (same (done_puts q p)))
       (λ x x_lt. h.registers x x_lt ∙ sym (same (done_adds q x)))
       (λ k u p is has. each_set (λ (y : View P). Contains y.known p → (p < q.places) × (0 < get_or s.words (1 + p) 0)) s.views id w (λ j y e'. h.known j y p e') (known_after place p lt) k u is has)
       (face_is place lt)
       (same_homes w (λ t. refl))
-      (h.tasks id v at))
+      (h.tasks id v at)

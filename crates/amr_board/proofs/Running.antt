@@ -18,7 +18,7 @@ use Rattle.amr_board.specs.declared.view.Deed.TheVariants.{Draw, Take, Put, Add,
 use Rattle.amr_board.specs.declared.view.Progress.{Progress}
 use Rattle.amr_board.specs.declared.view.View.{View}
 use Rattle.amr_board.specs.Views.{HasDone, first_view, keeps_half, other_half, joined, spent_view}
-use Rattle.amr_board.specs.Core.{IsCore, Shows, AllEnabled, event_of, worker_of, deed_of, deeds_by, stage_shown}
+use Rattle.amr_board.specs.Core.{IsCore, IsCoreOf, Shows, AllEnabled, event_of, worker_of, deed_of, deeds_by, stage_shown}
 use Rattle.amr_board.proofs.Sums.{sum_set, in_range_at}
 use Rattle.amr_board.proofs.Sharing.{sum_append, at_append, no_entry}
 use Rattle.amr_board.proofs.Workers.{past_stays}
@@ -99,20 +99,18 @@ pub consistent : (plan : PlanOf) (ok : IsPlan plan) (n : ℕ) (es : List Event) 
 consistent plan ok n es = keeps_after (fresh plan n) (keeps_fresh plan n ok) es
 
 module _ {P : Type 0} (plan : PlanOf) (ok : IsPlan plan) where
-  module _ (s : State (Option P) (View P)) (core : IsCore plan s) where
+  module _ (s : State (Option P) (View P)) (es : List Event) (core : IsCoreOf plan s es) where
     -- a deed of one seat is one event more
     pub core_steps : (id : ℕ) (v w : View P) (deed : Deed) (words : List ℕ) (homes : List (lookup.Option (Option P))) → get_elem? s.views id ≡ lookup.some v → v.spent ≡ false → HasDone deed v w
         → ((c : CoreOf) → IsConsistent c → Shows plan s c → (d : CoreOf) × (next_of c (event_of id deed) ≡ Some d) × Shows plan (record { words = words; homes = homes; views = set s.views id w }) d)
-        → IsCore plan (record { words = words; homes = homes; views = set s.views id w })
+        → IsCoreOf plan (record { words = words; homes = homes; views = set s.views id w }) (es ++ event_of id deed ∷ [])
     core_steps id v w deed words homes at live done event =
-        let es = core.events in
         let e = event_of id deed in
         let s' : State (Option P) (View P) = record { words = words; homes = homes; views = set s.views id w } in
         let count_views = length-set s.views id w in
         let step : (n : ℕ) → length (set s.views id w) ≤ n → (d : CoreOf) × (next_of (after (fresh plan n) es) e ≡ Some d) × Shows plan s' d
         = λ n le. event (after (fresh plan n) es) (consistent plan ok n es) (core.shown n (omega arith)) in
         record {
-          events = es ++ e ∷ [];
           enabled = λ n le. (let x = step n le in enabled_snoc (fresh plan n) es e x.0 (core.enabled n (omega arith)) x.1);
           shown = λ n le. (let x = step n le in
               subst (Shows plan s') (sym (after_snoc (fresh plan n) es e ∙ ap (λ (o : Option CoreOf). unwrap_or o (after (fresh plan n) es)) x.1)) x.2);
@@ -132,7 +130,7 @@ module _ {P : Type 0} (plan : PlanOf) (ok : IsPlan plan) where
         }
 
     -- a split brings a worker into use, with no event
-    pub core_splits : (id : ℕ) (v : View P) → get_elem? s.views id ≡ lookup.some v → v.spent ≡ false → IsCore plan (record { words = s.words; homes = s.homes; views = set s.views id (keeps_half v) ++ other_half v ∷ [] })
+    pub core_splits : (id : ℕ) (v : View P) → get_elem? s.views id ≡ lookup.some v → v.spent ≡ false → IsCoreOf plan (record { words = s.words; homes = s.homes; views = set s.views id (keeps_half v) ++ other_half v ∷ [] }) es
     core_splits id v at live =
         let l = keeps_half v in
         let r = other_half v in
@@ -147,7 +145,6 @@ module _ {P : Type 0} (plan : PlanOf) (ok : IsPlan plan) where
         (λ (t : (r ≡ u) × (k ≡ length vs)). inl (t.1 ∙ in_vs, t.0))
         (last_or vs r u k is) in
         record {
-          events = core.events;
           enabled = λ n le. core.enabled n (omega arith);
           shown = λ n le. (let old = core.shown n (omega arith) in
               record {
@@ -160,14 +157,14 @@ module _ {P : Type 0} (plan : PlanOf) (ok : IsPlan plan) where
                     (λ (t : (k ≡ length s.views) × (r ≡ u)). absurd (no_entry i e (ap (λ (y : View P). get_elem? y.tasks i) t.1 ∙ in_u)))
                     (λ x. ⊎_elim
                     (λ (t : (k ≡ id) × (l ≡ u)).
-                    subst (λ j. stage_of (after (fresh plan n) core.events) e.task ≡ stage_shown j e) (sym t.0) (old.noted id v at i e (ap (λ (y : View P). get_elem? y.tasks i) t.1 ∙ in_u)))
+                    subst (λ j. stage_of (after (fresh plan n) es) e.task ≡ stage_shown j e) (sym t.0) (old.noted id v at i e (ap (λ (y : View P). get_elem? y.tasks i) t.1 ∙ in_u)))
                     (λ (t : get_elem? s.views k ≡ lookup.some u). old.noted k u t i e in_u)
                     x)
                     (which k u is);
                 past = λ k u is unspent drew. ⊎_elim
                     (λ (t : (k ≡ length s.views) × (r ≡ u)). absurd (true≢false (sym drew ∙ old.idle k (let same = t.0 in omega arith))))
                     (λ x. ⊎_elim
-                    (λ (t : (k ≡ id) × (l ≡ u)). ap (λ (y : View P). y.past) (sym t.1) ∙ old.past id v at live (subst (λ j. slice_index_or (after (fresh plan n) core.events).past j false ≡ true) t.0 drew))
+                    (λ (t : (k ≡ id) × (l ≡ u)). ap (λ (y : View P). y.past) (sym t.1) ∙ old.past id v at live (subst (λ j. slice_index_or (after (fresh plan n) es).past j false ≡ true) t.0 drew))
                     (λ (t : get_elem? s.views k ≡ lookup.some u). old.past k u t unspent drew)
                     x)
                     (which k u is);
@@ -176,20 +173,20 @@ module _ {P : Type 0} (plan : PlanOf) (ok : IsPlan plan) where
               });
           own = λ k u is unspent. ⊎_elim
               (λ (t : (k ≡ length s.views) × (r ≡ u)).
-              ap (λ j. deeds_by j core.events) t.0 ∙ (deeds_none (length s.views) core.events core.by_seats ∙ ap (λ (y : View P). y.deeds) t.1))
+              ap (λ j. deeds_by j es) t.0 ∙ (deeds_none (length s.views) es core.by_seats ∙ ap (λ (y : View P). y.deeds) t.1))
               (λ x. ⊎_elim
-              (λ (t : (k ≡ id) × (l ≡ u)). ap (λ j. deeds_by j core.events) t.0 ∙ (core.own id v at live ∙ ap (λ (y : View P). y.deeds) t.1))
+              (λ (t : (k ≡ id) × (l ≡ u)). ap (λ j. deeds_by j es) t.0 ∙ (core.own id v at live ∙ ap (λ (y : View P). y.deeds) t.1))
               (λ (t : get_elem? s.views k ≡ lookup.some u). core.own k u t unspent)
               x)
               (which k u is);
-          by_seats = fewer (length s.views) (length (vs ++ r ∷ [])) core.events (omega arith) core.by_seats;
+          by_seats = fewer (length s.views) (length (vs ++ r ∷ [])) es (omega arith) core.by_seats;
           count = (let a : total (λ (u : View P). u.made) (vs ++ r ∷ []) ≡ total (λ (u : View P). u.made) vs + (r.made + 0) = sum_append (λ (u : View P). u.made) vs (r ∷ []) in
               let b = sum_set (λ (u : View P). u.made) s.views id v l at in let m : l.made ≡ v.made = refl in let z : r.made ≡ 0 = refl in let e = core.count in omega arith);
         }
       where
         -- a state has as many workers as the machine began with
-        consistent_past : (n : ℕ) → length (after (fresh plan n) core.events).past ≡ n
-        consistent_past n = past_stays (fresh plan n) core.events ∙ length-replicate n false
+        consistent_past : (n : ℕ) → length (after (fresh plan n) es).past ≡ n
+        consistent_past n = past_stays (fresh plan n) es ∙ length-replicate n false
 
         last_or : (xs : List (View P)) (x u : View P) (k : ℕ) → get_elem? (xs ++ x ∷ []) k ≡ lookup.some u → (get_elem? xs k ≡ lookup.some u) ⊎ ((x ≡ u) × (k ≡ length xs))
         last_or [] x u zero e = inr (lookup.some-injective x u e, refl)
@@ -201,7 +198,7 @@ module _ {P : Type 0} (plan : PlanOf) (ok : IsPlan plan) where
     pub core_joins : (id other : ℕ) (v w : View P) → get_elem? s.views id ≡ lookup.some v → get_elem? s.views other ≡ lookup.some w → other ≢ id → v.spent ≡ false → w.spent ≡ false
         → get_elem? (set s.views id (joined v w)) other ≡ lookup.some w
         → ((i : ℕ) (e : Progress) → get_elem? w.tasks i ≡ lookup.some e → e.given ≡ true)
-        → IsCore plan (record { words = s.words; homes = s.homes; views = set (set s.views id (joined v w)) other spent_view })
+        → IsCoreOf plan (record { words = s.words; homes = s.homes; views = set (set s.views id (joined v w)) other spent_view }) es
     core_joins id other v w at at_other apart live live' there all_given =
         let b = joined v w in
         let vs = set s.views id b in
@@ -213,7 +210,6 @@ module _ {P : Type 0} (plan : PlanOf) (ok : IsPlan plan) where
         (λ (t : (k ≢ other) × (get_elem? vs k ≡ lookup.some u)). inr (⊎_elim (λ (x : (k ≡ id) × (b ≡ u)). inl x) (λ (x : (k ≢ id) × (get_elem? s.views k ≡ lookup.some u)). inr x.1) (at_set s.views id k b u t.1)))
         (at_set vs other k spent_view u is) in
         record {
-          events = core.events;
           enabled = λ n le. core.enabled n (omega arith);
           shown = λ n le. (let old = core.shown n (omega arith) in
               record {
@@ -226,7 +222,7 @@ module _ {P : Type 0} (plan : PlanOf) (ok : IsPlan plan) where
                     (λ (t : (k ≡ other) × (spent_view ≡ u)). absurd (no_entry i e (ap (λ (y : View P). get_elem? y.tasks i) t.1 ∙ in_u)))
                     (λ x. ⊎_elim
                     (λ (t : (k ≡ id) × (b ≡ u)).
-                    subst (λ j. stage_of (after (fresh plan n) core.events) e.task ≡ stage_shown j e) (sym t.0)
+                    subst (λ j. stage_of (after (fresh plan n) es) e.task ≡ stage_shown j e) (sym t.0)
                     (⊎_elim
                     (λ (in_v : get_elem? v.tasks i ≡ lookup.some e). old.noted id v at i e in_v)
                     (λ (in_w : (j : ℕ) × (i ≡ length v.tasks + j) × (get_elem? w.tasks j ≡ lookup.some e)).
@@ -240,7 +236,7 @@ module _ {P : Type 0} (plan : PlanOf) (ok : IsPlan plan) where
                     (λ x. ⊎_elim
                     (λ (t : (k ≡ id) × (b ≡ u)).
                     ap (λ (y : View P). y.past) (sym t.1)
-                    ∙ ap (λ c. cond c true w.past) (old.past id v at live (subst (λ j. slice_index_or (after (fresh plan n) core.events).past j false ≡ true) t.0 drew)))
+                    ∙ ap (λ c. cond c true w.past) (old.past id v at live (subst (λ j. slice_index_or (after (fresh plan n) es).past j false ≡ true) t.0 drew)))
                     (λ (t : get_elem? s.views k ≡ lookup.some u). old.past k u t unspent drew)
                     x)
                     (which k u is);
@@ -250,11 +246,11 @@ module _ {P : Type 0} (plan : PlanOf) (ok : IsPlan plan) where
           own = λ k u is unspent. ⊎_elim
               (λ (t : (k ≡ other) × (spent_view ≡ u)). absurd (true≢false (ap (λ (y : View P). y.spent) t.1 ∙ unspent)))
               (λ x. ⊎_elim
-              (λ (t : (k ≡ id) × (b ≡ u)). ap (λ j. deeds_by j core.events) t.0 ∙ (core.own id v at live ∙ ap (λ (y : View P). y.deeds) t.1))
+              (λ (t : (k ≡ id) × (b ≡ u)). ap (λ j. deeds_by j es) t.0 ∙ (core.own id v at live ∙ ap (λ (y : View P). y.deeds) t.1))
               (λ (t : get_elem? s.views k ≡ lookup.some u). core.own k u t unspent)
               x)
               (which k u is);
-          by_seats = subst (λ n. All (λ x. worker_of x < n) core.events) (sym count_views) core.by_seats;
+          by_seats = subst (λ n. All (λ x. worker_of x < n) es) (sym count_views) core.by_seats;
           count = (let x = sum_set (λ (u : View P). u.made) s.views id v b at in let y = sum_set (λ (u : View P). u.made) vs other w spent_view there in
               let m : b.made ≡ v.made + w.made = refl in let z : (spent_view {P = P}).made ≡ 0 = refl in let e = core.count in omega arith);
         }
@@ -269,21 +265,23 @@ module _ {P : Type 0} (plan : PlanOf) (ok : IsPlan plan) where
       let only : (k : ℕ) (u : View P) → get_elem? (v ∷ []) k ≡ lookup.some u → v ≡ u = λ k u is. one_of k u is in
       record {
         events = [];
-        enabled = λ n le. tt;
-        shown = λ n le. record {
-          plan_is = refl;
-          counter = sym (empty 0);
-          faces = λ p lt. ap word_of (get_or-replicate plan.places p None None lt) ∙ sym (empty (1 + p));
-          words = λ x lt. get_or-replicate plan.words x 0 0 lt ∙ sym (empty (1 + plan.places + x));
-          waiting = λ t le' lt. get_or-replicate (length plan.tasks) t Waiting Given (let k = length-replicate (length plan.tasks) Waiting in omega arith);
-          noted = λ k u is i e in_u. absurd (no_entry i e (ap (λ (y : View P). get_elem? y.tasks i) (only k u is) ∙ in_u));
-          past = λ k u is unspent drew. absurd (true≢false (sym drew ∙ nobody n k));
-          idle = λ k more. nobody n k;
-          enough = (let k = length-replicate n false in omega arith);
+        is_core = record {
+          enabled = λ n le. tt;
+          shown = λ n le. record {
+            plan_is = refl;
+            counter = sym (empty 0);
+            faces = λ p lt. ap word_of (get_or-replicate plan.places p None None lt) ∙ sym (empty (1 + p));
+            words = λ x lt. get_or-replicate plan.words x 0 0 lt ∙ sym (empty (1 + plan.places + x));
+            waiting = λ t le' lt. get_or-replicate (length plan.tasks) t Waiting Given (let k = length-replicate (length plan.tasks) Waiting in omega arith);
+            noted = λ k u is i e in_u. absurd (no_entry i e (ap (λ (y : View P). get_elem? y.tasks i) (only k u is) ∙ in_u));
+            past = λ k u is unspent drew. absurd (true≢false (sym drew ∙ nobody n k));
+            idle = λ k more. nobody n k;
+            enough = (let k = length-replicate n false in omega arith);
+          };
+          own = λ k u is unspent. ap (λ (y : View P). y.deeds) (only k u is);
+          by_seats = all_none (λ (x : Event). worker_of x < 1);
+          count = refl;
         };
-        own = λ k u is unspent. ap (λ (y : View P). y.deeds) (only k u is);
-        by_seats = all_none (λ (x : Event). worker_of x < 1);
-        count = refl;
       }
     where
       one_of : (k : ℕ) (u : View P) → get_elem? (first_view plan pieces ∷ []) k ≡ lookup.some u → first_view plan pieces ≡ u

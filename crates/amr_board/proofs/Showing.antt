@@ -28,12 +28,12 @@ use Rattle.amr_board.specs.Rule.{Sentences, numbers}
 use Rattle.amr_board.proofs.Sums.{get_first, got, in_range_at, some_member}
 use Rattle.amr_board.proofs.Keeping.{hit, hit_in, hit_is}
 
-given_is : (b : Bool) (s : Stage) → b ≡ true → cond b Given s ≡ Given
+pub given_is : (b : Bool) (s : Stage) → b ≡ true → cond b Given s ≡ Given
 given_is true s e = refl
 given_is false s e = absurd (true≢false (sym e))
 
 -- a seat's entry is with no other seat
-not_with : (id k : ℕ) (e : Progress) → k ≢ id → is_with id (stage_shown k e) ≡ false
+pub not_with : (id k : ℕ) (e : Progress) → k ≢ id → is_with id (stage_shown k e) ≡ false
 not_with id k e ne =
     elim (e.given) as (λ b. is_with id (cond b Given (cond e.taken (Held k e.puts e.adds) (Drawn k))) ≡ false) [
       | true ↦ refl
@@ -48,14 +48,14 @@ not_given s id w e = absurd_with (ap (is_with id) e) w
 
 module _ {P : Type 0} (plan : PlanOf) (pieces : List P) (becomes : P → P → Type 0) (s : State (Option P) (View P)) (h : Sentences plan pieces becomes s)
     (c : CoreOf) (good : IsConsistent c) (shows : Shows plan s c) (id : ℕ) (v : View P) (at : get_elem? s.views id ≡ lookup.some v) (live : v.spent ≡ false) where
-  here : nat_lt id (length c.past) ≡ true
+  pub here : nat_lt id (length c.past) ≡ true
   here = lt-ltb id (length c.past) (let n = in_range_at s.views id v at in let m = shows.enough in omega arith)
 
-  count_tasks : length c.stages ≡ length plan.tasks
+  pub count_tasks : length c.stages ≡ length plan.tasks
   count_tasks = good.stage_count ∙ ap (λ (q : PlanOf). length q.tasks) shows.plan_is
 
   -- what a seat drew before its last task is given
-  older : (i : ℕ) (e : Progress) → get_elem? v.tasks i ≡ lookup.some e → i ≢ 0 → e.given ≡ true
+  pub older : (i : ℕ) (e : Progress) → get_elem? v.tasks i ≡ lookup.some e → i ≢ 0 → e.given ≡ true
   older i e is ne = (h.tasks id v at i e is).older (omega arith)
 
   -- A view and a state after a step that leaves counter and past as they are
@@ -151,25 +151,24 @@ module _ {P : Type 0} (plan : PlanOf) (pieces : List P) (becomes : P → P → T
               let now : stage_shown id e ≡ Given = given_is e.given (cond e.taken (Held id e.puts e.adds) (Drawn id)) given in
               other_stage e.task (elsewhere id i v e at x.1 (ap (is_with id) now)) ∙ shows.noted id v at i e x.1)
               (at_set v.tasks 0 i e' e (ap (λ (l : List Progress). get_elem? l i) (sym tasks_are) ∙ is))
-          -- A look changes nothing
 
-  pub face_event : (words : List ℕ) (place n : ℕ) → place < plan.places → words ≡ s.words
-      → (d : CoreOf) × (next_of c (event_of id (Face place)) ≡ Some d) × Shows plan (record { words = words; homes = s.homes; views = set s.views id (looked v place n) }) d
-  face_event words place n lt same =
+  -- A look changes nothing
+  pub face_event : (place n : ℕ) → place < plan.places → (d : CoreOf) × (next_of c (event_of id (Face place)) ≡ Some d) × Shows plan (record { words = s.words; homes = s.homes; views = set s.views id (looked v place n) }) d
+  face_event place n lt =
       let in_places : nat_lt place c.plan.places ≡ true = lt-ltb place c.plan.places (let k = ap (λ (q : PlanOf). q.places) shows.plan_is in omega arith) in (
         c,
         ap (λ b. cond b (cond (nat_lt place c.plan.places) (Some c) None) None) here ∙ ap (λ b. cond b (Some c) None) in_places,
-        shows_after words s.homes (looked v place n) c refl refl (ap (λ (l : List ℕ). get_or l 0 0) same) refl refl live
-            (λ p p_lt. shows.faces p p_lt ∙ ap (λ (l : List ℕ). get_or l (1 + p) 0) (sym same))
-            (λ x x_lt. shows.words x x_lt ∙ ap (λ (l : List ℕ). get_or l (1 + plan.places + x) 0) (sym same))
+        shows_after s.words s.homes (looked v place n) c refl refl refl refl refl live
+            shows.faces
+            shows.words
             shows.waiting
             (λ i e is. shows.noted id v at i e is)
             (λ k i u e is ne in_u. refl),
       )
 
-  pub take_event : (words : List ℕ) (homes : List (lookup.Option (Option P))) (task : ℕ) → IsHolding v task false → words ≡ s.words
-      → (d : CoreOf) × (next_of c (event_of id Take) ≡ Some d) × Shows plan (record { words = words; homes = homes; views = set s.views id (taking v) }) d
-  take_event words homes task holding same =
+  pub take_event : (homes : List (lookup.Option (Option P))) (task : ℕ) → IsHolding v task false
+      → (d : CoreOf) × (next_of c (event_of id Take) ≡ Some d) × Shows plan (record { words = s.words; homes = homes; views = set s.views id (taking v) }) d
+  take_event homes task holding =
       let e = current v in
       let n : ℕ = e.task in
       let first = get_first v.tasks no_progress holding.held in
@@ -180,9 +179,7 @@ module _ {P : Type 0} (plan : PlanOf) (pieces : List P) (becomes : P → P → T
       = sym (ap (λ b. cond b Given (Held id e.puts e.adds)) holding.ungiven ∙ (ap (λ k. Held id k e.adds) none.0 ∙ ap (λ k. Held id 0 k) none.1)) in (
         record c { stages = set c.stages n (Held id 0 0) },
         at_event holding.held holding.ungiven (after_take c) ∙ ap (after_take c n) stage_is,
-        shows_moved holding.held holding.ungiven words homes (taking v) (record e { taken = true }) (Held id 0 0) c.faces c.totals (ap (λ (l : List ℕ). get_or l 0 0) same) refl live refl refl now
-            (λ p p_lt. shows.faces p p_lt ∙ ap (λ (l : List ℕ). get_or l (1 + p) 0) (sym same))
-            (λ x x_lt. shows.words x x_lt ∙ ap (λ (l : List ℕ). get_or l (1 + plan.places + x) 0) (sym same)),
+        shows_moved holding.held holding.ungiven s.words homes (taking v) (record e { taken = true }) (Held id 0 0) c.faces c.totals refl refl live refl refl now shows.faces shows.words,
       )
 
   -- the seat has taken the task that it holds
@@ -196,9 +193,9 @@ module _ {P : Type 0} (plan : PlanOf) (pieces : List P) (becomes : P → P → T
     shown_held : (e : Progress) → e.given ≡ false → e.taken ≡ true → Held id e.puts e.adds ≡ stage_shown id e
     shown_held e g k = sym (ap (λ b. cond b Given (cond e.taken (Held id e.puts e.adds) (Drawn id))) g ∙ ap (λ b. cond b (Held id e.puts e.adds) (Drawn id)) k)
 
-  pub give_event : (words : List ℕ) (homes : List (lookup.Option (Option P))) → IsHolding v (current v).task true → (current v).puts ≡ length (puts_of plan (current v).task) → (current v).adds ≡ length (adds_of plan (current v).task) → words ≡ s.words
-      → (d : CoreOf) × (next_of c (event_of id Give) ≡ Some d) × Shows plan (record { words = words; homes = homes; views = set s.views id (giving v) }) d
-  give_event words homes holding puts adds same =
+  pub give_event : (homes : List (lookup.Option (Option P))) → IsHolding v (current v).task true → (current v).puts ≡ length (puts_of plan (current v).task) → (current v).adds ≡ length (adds_of plan (current v).task)
+      → (d : CoreOf) × (next_of c (event_of id Give) ≡ Some d) × Shows plan (record { words = s.words; homes = homes; views = set s.views id (giving v) }) d
+  give_event homes holding puts adds =
       let e = current v in
       let n : ℕ = e.task in
       let st = stage_held holding.held holding.ungiven holding.is_taken in
@@ -209,9 +206,7 @@ module _ {P : Type 0} (plan : PlanOf) (pieces : List P) (becomes : P → P → T
         at_event holding.held holding.ungiven (after_give c)
             ∙ (ap (after_give c n) st
             ∙ (ap (λ b. cond b (cond (e.adds == length (task_at c n).adds) (Some d) None) None) all_puts ∙ ap (λ b. cond b (Some d) None) all_adds)),
-        shows_moved holding.held holding.ungiven words homes (giving v) (record e { given = true }) Given c.faces c.totals (ap (λ (l : List ℕ). get_or l 0 0) same) refl live refl refl refl
-            (λ p p_lt. shows.faces p p_lt ∙ ap (λ (l : List ℕ). get_or l (1 + p) 0) (sym same))
-            (λ x x_lt. shows.words x x_lt ∙ ap (λ (l : List ℕ). get_or l (1 + plan.places + x) 0) (sym same)),
+        shows_moved holding.held holding.ungiven s.words homes (giving v) (record e { given = true }) Given c.faces c.totals refl refl live refl refl refl shows.faces shows.words,
       )
 
   pub put_event : (place amount : ℕ) → IsNextPut v place amount → v.plan ≡ plan → place < plan.places → length s.words ≡ 1 + plan.places + plan.words
@@ -276,174 +271,3 @@ module _ {P : Type 0} (plan : PlanOf) (pieces : List P) (becomes : P → P → T
             get_or-set_other c.totals word x (get_or c.totals word 0 + amount) 0 ne
             ∙ (shows.words x x_lt ∙ sym (get_or-set_other s.words at_word (1 + plan.places + x) sum 0 (λ y. ne (omega arith)))))),
       )
-
-  -- The seat holds no task
-  module _ (none : HoldsNone v) (not_past : v.past ≡ false) where
-    all_given : (i : ℕ) (e : Progress) → get_elem? v.tasks i ≡ lookup.some e → e.given ≡ true
-    all_given i e is =
-        dite (ℕ_discrete i 0)
-        (λ z. subst (λ (x : Progress). x.given ≡ true) (got v.tasks 0 e no_progress (ap (get_elem? v.tasks) (sym z) ∙ is)) none)
-        (λ ne. older i e is ne)
-
-    -- and no task of the machine is with it
-    free : (n : ℕ) → is_with id (stage_of c n) ≡ false
-    free n =
-        dite (dec_le (length c.stages) n)
-        (λ le. ap (is_with id) (get_or_past c.stages n Given le))
-        (λ lt.
-        let n_lt = lt_of_not-le lt in
-        dite (dec_le c.counter n)
-        (λ le. ap (is_with id) (shows.waiting n le n_lt))
-        (λ below.
-        let n_below = lt_of_not-le below in
-        let m : ℕ = min (get_or s.words 0 0) (length plan.tasks) in
-        let inside : n < m = (let a = shows.counter in let b = count_tasks in omega arith) in
-        let one : total (numbers (hit n)) s.views ≡ 1 = h.each_once (hit n) ∙ hit_in n 0 m (omega arith) (omega arith) in
-        let holder = some_member (numbers (hit n)) s.views (omega arith) in
-        let entry = some_member (λ (e : Progress). hit n e.task) holder.1.tasks (let k = holder.3 in omega arith) in
-        let e : Progress = entry.1 in
-        let same : e.task ≡ n = hit_is n e.task entry.3 in
-        ap (λ k. is_with id (stage_of c k)) (sym same)
-        ∙ (ap (is_with id) (shows.noted holder.0 holder.1 holder.2 entry.0 e entry.2)
-        ∙ dite (ℕ_discrete holder.0 id)
-        (λ mine.
-        let view_is : holder.1 ≡ v = lookup.some-injective holder.1 v (sym holder.2 ∙ (ap (get_elem? s.views) mine ∙ at)) in
-        ap (is_with id) (given_is e.given (cond e.taken (Held holder.0 e.puts e.adds) (Drawn holder.0)) (all_given entry.0 e (ap (λ (u : View P). get_elem? u.tasks entry.0) (sym view_is) ∙ entry.2))))
-        (λ ne. not_with id holder.0 e ne))))
-
-    no_position : position (is_with id) c.stages ≡ None
-    no_position = found (position (is_with id) c.stages) refl
-      where
-        found : (o : Option ℕ) → position (is_with id) c.stages ≡ o → position (is_with id) c.stages ≡ None
-        found None e = e
-        found (Some u) e = absurd (true≢false (sym (position-Some (is_with id) c.stages u Given e).1 ∙ free u))
-
-    not_drawn_past : slice_index_or c.past id true ≡ false
-    not_drawn_past = in_past (slice_index_or c.past id false) refl
-      where
-        id_lt : id < length c.past
-        id_lt = (let n = in_range_at s.views id v at in let m = shows.enough in omega arith)
-
-        in_past : (b : Bool) → slice_index_or c.past id false ≡ b → slice_index_or c.past id true ≡ false
-        in_past true e = absurd (true≢false (sym (shows.past id v at live e) ∙ not_past))
-        in_past false e = same_default c.past id true false id_lt ∙ e
-
-    can : can_draw (position (is_with id) c.stages) (slice_index_or c.past id true) ≡ true
-    can = ap (λ o. can_draw o (slice_index_or c.past id true)) no_position ∙ ap (can_draw None) not_drawn_past
-
-    draws : next_of c (event_of id Draw) ≡ Some (drawn_in c id)
-    draws = ap (λ b. cond b (cond (can_draw (position (is_with id) c.stages) (slice_index_or c.past id true)) (Some (drawn_in c id)) None) None) here ∙ ap (λ b. cond b (Some (drawn_in c id)) None) can
-
-    abbrev n : ℕ
-    n = get_or s.words 0 0
-
-    abbrev counted : List ℕ
-    counted = set s.words 0 (n + 1)
-
-    is_counter : c.counter ≡ n
-    is_counter = shows.counter
-
-    zeroth : length s.words ≡ 1 + plan.places + plan.words → get_or counted 0 0 ≡ n + 1
-    zeroth size = get_or-set_same s.words 0 (n + 1) 0 (let k = size in omega arith)
-
-    other_word : (i : ℕ) → 0 < i → get_or s.words i 0 ≡ get_or counted i 0
-    other_word i pos = sym (get_or-set_other s.words 0 i (n + 1) 0 (λ e. absurd (omega arith)))
-
-    -- it draws the counter's task
-    module _ (size : length s.words ≡ 1 + plan.places + plan.words) (lt : n < length plan.tasks) where
-      abbrev with_task : CoreOf
-      with_task = record c { counter = c.counter + 1; stages = set c.stages c.counter (Drawn id) }
-
-      in_stages : c.counter < length c.stages
-      in_stages = (let a = is_counter in let b = count_tasks in omega arith)
-
-      becomes_with_task : drawn_in c id ≡ with_task
-      becomes_with_task = ap (λ b. cond b with_task (record c { counter = c.counter + 1; past = set c.past id true })) (lt-ltb c.counter (length c.stages) in_stages)
-
-      -- nobody has it yet
-      unseen : (k i : ℕ) (u : View P) (e : Progress) → get_elem? s.views k ≡ lookup.some u → get_elem? u.tasks i ≡ lookup.some e → e.task ≢ c.counter
-      unseen k i u e is in_u same =
-          true≢false
-          (sym (ap is_waiting (shows.waiting c.counter (omega arith) in_stages))
-          ∙ (ap (λ m. is_waiting (stage_of c m)) (sym same) ∙ (ap is_waiting (shows.noted k u is i e in_u) ∙ never_waits k e)))
-        where
-          never_waits : (k : ℕ) (e : Progress) → is_waiting (stage_shown k e) ≡ false
-          never_waits k e =
-              elim (e.given) as (λ b. is_waiting (cond b Given (cond e.taken (Held k e.puts e.adds) (Drawn k))) ≡ false) [
-                | true ↦ refl
-                | false ↦ elim (e.taken) as (λ b. is_waiting (cond b (Held k e.puts e.adds) (Drawn k)) ≡ false) [ true ↦ refl | false ↦ refl ]
-              ]
-
-      still : (k i : ℕ) (u : View P) (e : Progress) → get_elem? s.views k ≡ lookup.some u → get_elem? u.tasks i ≡ lookup.some e → stage_of with_task e.task ≡ stage_shown k e
-      still k i u e is in_u = get_or-set_other c.stages c.counter e.task (Drawn id) Given (unseen k i u e is in_u) ∙ shows.noted k u is i e in_u
-
-      shows_drawn : Shows plan (record { words = counted; homes = s.homes; views = set s.views id (drawn v n) }) with_task
-      shows_drawn =
-          record {
-            plan_is = shows.plan_is;
-            counter = ap (λ k. k + 1) is_counter ∙ sym (zeroth size);
-            faces = λ p p_lt. shows.faces p p_lt ∙ other_word (1 + p) (omega arith);
-            words = λ x x_lt. shows.words x x_lt ∙ other_word (1 + plan.places + x) (omega arith);
-            waiting = λ m le m_lt.
-                (let l : m < length c.stages = (let k = length-set c.stages c.counter (Drawn id) in omega arith) in
-                get_or-set_other c.stages c.counter m (Drawn id) Given (λ same. absurd (omega arith)) ∙ shows.waiting m (omega arith) l);
-            noted = λ k u is i e in_u. ⊎_elim
-                (λ (t : (k ≡ id) × (drawn v n ≡ u)). subst (λ j. stage_of with_task e.task ≡ stage_shown j e) (sym t.0) (mine i e (ap (λ (y : View P). get_elem? y.tasks i) t.1 ∙ in_u)))
-                (λ (t : (k ≢ id) × (get_elem? s.views k ≡ lookup.some u)). still k i u e t.1 in_u)
-                (at_set s.views id k (drawn v n) u is);
-            past = λ k u is unspent drew. ⊎_elim
-                (λ (t : (k ≡ id) × (drawn v n ≡ u)). ap (λ (y : View P). y.past) (sym t.1) ∙ shows.past id v at live (subst (λ j. slice_index_or c.past j false ≡ true) t.0 drew))
-                (λ (t : (k ≢ id) × (get_elem? s.views k ≡ lookup.some u)). shows.past k u t.1 unspent drew)
-                (at_set s.views id k (drawn v n) u is);
-            idle = λ k le. shows.idle k (let m = length-set s.views id (drawn v n) in omega arith);
-            enough = (let m = length-set s.views id (drawn v n) in let e = shows.enough in omega arith);
-          }
-        where
-          mine : (i : ℕ) (e : Progress) → get_elem? (drawn v n).tasks i ≡ lookup.some e → stage_of with_task e.task ≡ stage_shown id e
-          mine zero e is =
-              subst (λ (x : Progress). stage_of with_task x.task ≡ stage_shown id x) (lookup.some-injective _ e is)
-              (ap (λ m. get_or (set c.stages c.counter (Drawn id)) m Given) (sym is_counter) ∙ get_or-set_same c.stages c.counter (Drawn id) Given in_stages)
-          mine (suc i) e is = still id i v e at is
-
-    -- it finds no task left
-    module _ (size : length s.words ≡ 1 + plan.places + plan.words) (le : length plan.tasks ≤ n) where
-      abbrev with_past : CoreOf
-      with_past = record c { counter = c.counter + 1; past = set c.past id true }
-
-      becomes_with_past : drawn_in c id ≡ with_past
-      becomes_with_past =
-          ap (λ b. cond b (record c { counter = c.counter + 1; stages = set c.stages c.counter (Drawn id) }) with_past) (le-ltb c.counter (length c.stages) (let a = is_counter in let b = count_tasks in omega arith))
-
-      shows_gone : Shows plan (record { words = counted; homes = s.homes; views = set s.views id (gone v) }) with_past
-      shows_gone =
-          record {
-            plan_is = shows.plan_is;
-            counter = ap (λ k. k + 1) is_counter ∙ sym (zeroth size);
-            faces = λ p p_lt. shows.faces p p_lt ∙ other_word (1 + p) (omega arith);
-            words = λ x x_lt. shows.words x x_lt ∙ other_word (1 + plan.places + x) (omega arith);
-            waiting = λ m le' m_lt. shows.waiting m (omega arith) m_lt;
-            noted = λ k u is i e in_u. ⊎_elim
-                (λ (t : (k ≡ id) × (gone v ≡ u)). subst (λ j. stage_of c e.task ≡ stage_shown j e) (sym t.0) (shows.noted id v at i e (ap (λ (y : View P). get_elem? y.tasks i) t.1 ∙ in_u)))
-                (λ (t : (k ≢ id) × (get_elem? s.views k ≡ lookup.some u)). shows.noted k u t.1 i e in_u)
-                (at_set s.views id k (gone v) u is);
-            past = λ k u is unspent drew. ⊎_elim
-                (λ (t : (k ≡ id) × (gone v ≡ u)). ap (λ (y : View P). y.past) (sym t.1))
-                (λ (t : (k ≢ id) × (get_elem? s.views k ≡ lookup.some u)). shows.past k u t.1 unspent (sym (get_or-set_other c.past id k true false t.0) ∙ drew))
-                (at_set s.views id k (gone v) u is);
-            idle = λ k le'.
-                (let m = length-set s.views id (gone v) in
-                let apart : k ≢ id = (λ same. absurd (let l = in_range_at s.views id v at in omega arith)) in
-                get_or-set_other c.past id k true false apart ∙ shows.idle k (omega arith));
-            enough = (let m = length-set s.views id (gone v) in let j = length-set c.past id true in let e = shows.enough in omega arith);
-          }
-
-    pub draw_event : v.plan ≡ plan → length s.words ≡ 1 + plan.places + plan.words
-        → (d : CoreOf) × (next_of c (event_of id Draw) ≡ Some d) × Shows plan (record { words = counted; homes = s.homes; views = set s.views id (after_draw v n) }) d
-    draw_event same size =
-        let F : View P → Type 0 = λ (w : View P). (d : CoreOf) × (next_of c (event_of id Draw) ≡ Some d) × Shows plan (record { words = counted; homes = s.homes; views = set s.views id w }) d in
-        let tasks_same : length v.plan.tasks ≡ length plan.tasks = ap (λ (q : PlanOf). length q.tasks) same in
-        dite (dec_le (length plan.tasks) n)
-        (λ le. subst (λ b. F (cond b (drawn v n) (gone v))) (sym (le-ltb n (length v.plan.tasks) (omega arith))) (with_past size le, draws ∙ ap Some (becomes_with_past size le), shows_gone size le))
-        (λ no.
-        let lt = lt_of_not-le no in
-        subst (λ b. F (cond b (drawn v n) (gone v))) (sym (lt-ltb n (length v.plan.tasks) (omega arith))) (with_task size lt, draws ∙ ap Some (becomes_with_task size lt), shows_drawn size lt))

@@ -5,7 +5,6 @@ use mathlib.Core.Option as lookup
 use mathlib.Core.Logic.{dite}
 use native.Mathlib.Decide.{ℕ_discrete}
 use lib.ListN.{get_elem?}
-use Rattle.std.proofs.lemmas.List.{set-get_or}
 use Rattle.atomic_table.specs.Table.{State}
 use Rattle.atomic_table.proofs.Lists.{set_here, set_else}
 use Rattle.amr_phase.specs.Plans.{stored, added, total, puts_of, adds_of}
@@ -51,17 +50,16 @@ module _ {P : Type 0} (becomes : P → P → Type 0) (s : State (Option P) (View
 
   -- a move of the current task's slot: the words stay
   module _ (live : v.spent ≡ false) (puts : e.puts ≡ (current v).puts) (adds : e.adds ≡ (current v).adds) (fit : IsFit v.plan 0 e) where
-    pub moved : Sentences v.plan v.pieces becomes (record { words = set s.words 0 (get_or s.words 0 0); homes = set s.homes (current v).task home; views = set s.views id w })
+    pub moved : Sentences v.plan v.pieces becomes (record { words = s.words; homes = set s.homes (current v).task home; views = set s.views id w })
     moved =
         let q = v.plan in
         let same_sum : (g : Progress → ℕ) → g e ≡ g (current v) → total (λ (u : View P). total g u.tasks) (set s.views id w) ≡ total (λ (u : View P). total g u.tasks) s.views
         = λ g eq. (let t = sum_set (λ (u : View P). total g u.tasks) s.views id v w at in let c : total g w.tasks ≡ total g v.tasks = same_current v e held g eq in omega arith) in
-        subst (λ ws. Sentences q v.pieces becomes (record { words = ws; homes = set s.homes (current v).task home; views = set s.views id w })) (sym (set-get_or s.words 0 0))
-        (kept q v.pieces becomes s h id v at s.words (set s.homes (current v).task home) w refl refl live live (refl, refl)
+        kept q v.pieces becomes s h id v at s.words (set s.homes (current v).task home) w refl refl live live (refl, refl)
         (λ g. same_current v e held (λ (x : Progress). g x.task) (ap g same)) refl refl
         (λ p lt. h.faces p lt ∙ sym (same_sum (done_puts q p) (λ i. total (stored p) (take (puts i) (puts_of q (same i))))))
         (λ x lt. h.registers x lt ∙ sym (same_sum (done_adds q x) (λ i. total (added x) (take (adds i) (adds_of q (same i))))))
         (λ k u p is has. each_set (λ (y : View P). Contains y.known p → (p < q.places) × (0 < get_or s.words (1 + p) 0)) s.views id w (λ j y e'. h.known j y p e') (h.known id v p at) k u is has)
         (h.looks id v at)
         slots_after
-        (fit_current v e held q fit (h.tasks id v at)))
+        (fit_current v e held q fit (h.tasks id v at))

@@ -71,13 +71,17 @@ module _ {P : Type 0} where
     pub idle : (k : ℕ) → length s.views ≤ k → slice_index_or c.past k false ≡ false
     pub enough : length s.views ≤ length c.past
 
-  -- Some events, each enabled where it came, lead from the start to what the board shows, with any number of workers
+  -- These events, each enabled where it came, lead from the start to what the board shows, with any number of workers
   -- that is enough. They are the deeds of the seats, each once: those of the worker k are what the seat k did, and
   -- all seats together did as many as there are
-  pub record IsCore (plan : PlanOf) (s : State (Option P) (View P)) : Type 0 where
-    pub events : List Event
+  pub record IsCoreOf (plan : PlanOf) (s : State (Option P) (View P)) (events : List Event) : Type 0 where
     pub enabled : (n : ℕ) → length s.views ≤ n → AllEnabled (fresh plan n) events
     pub shown : (n : ℕ) → length s.views ≤ n → Shows plan s (after (fresh plan n) events)
     pub own : (k : ℕ) (v : View P) → get_elem? s.views k ≡ lookup.some v → v.spent ≡ false → deeds_by k events ≡ v.deeds
     pub by_seats : All (λ e. worker_of e < length s.views) events
     pub count : total (λ (v : View P). v.made) s.views ≡ length events
+
+  -- some events lead to what the board shows
+  pub record IsCore (plan : PlanOf) (s : State (Option P) (View P)) : Type 0 where
+    pub events : List Event
+    pub is_core : IsCoreOf plan s events

@@ -3,6 +3,7 @@ pub mod Views
 pub mod Plays
 pub mod Core
 pub mod Rule
+pub mod Steps
 pub mod BoardOf
 pub mod Ended
 pub mod MakeFault

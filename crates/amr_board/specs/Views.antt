@@ -39,18 +39,17 @@ module _ {P : Type 0} where
   abbrev pub HoldsNone : View P → Type 0
   HoldsNone v = (current v).given ≡ true
 
-  -- this put is the seat's next post, of the task that it holds and has taken
+  -- this put is the next of the task that the seat holds and has taken
   pub record IsNextPut (v : View P) (place amount : ℕ) : Type 0 where
     pub task : ℕ
     pub holding : IsHolding v task true
     pub left : (current v).puts < length (puts_of v.plan (current v).task)
     pub post : slice_index_or (puts_of v.plan (current v).task) (current v).puts no_post ≡ record { at = place; amount = amount }
 
-  -- this add is the seat's next post: the task's puts are made
+  -- this add is the next of the task that the seat holds and has taken
   pub record IsNextAdd (v : View P) (word amount : ℕ) : Type 0 where
     pub task : ℕ
     pub holding : IsHolding v task true
-    pub puts_done : (current v).puts ≡ length (puts_of v.plan (current v).task)
     pub left : (current v).adds < length (adds_of v.plan (current v).task)
     pub post : slice_index_or (adds_of v.plan (current v).task) (current v).adds no_post ≡ record { at = word; amount = amount }
 

@@ -12,8 +12,9 @@ mod view;
 
 pub use board::{Board, MakeFault, Seat, Shape};
 pub use ended::Ended;
-pub use laws::running_board_is_the_core;
+pub use laws::{each_deed_is_one_event, running_board_is_the_core};
 pub use piece::Piece;
+pub use rule::{About, Kept};
 pub use view::{Deed, Look, Progress, View};
 
 #[cfg(test)]

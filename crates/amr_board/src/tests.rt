@@ -72,7 +72,7 @@ fn opened(rt: &impl Abort, alloc: Global) -> Result<(Board<Simple>, Seat<Simple>
     }
 }
 
-// Draws the next task, which is this one, makes its posts, and gives the next piece.
+// Draws the next task, which is this one, makes its add before its put, and gives the next piece.
 fn work(rt: &impl Abort, board: &Board<Simple>, seat: &mut Seat<Simple>, want: u32)
     requires seat { IsSeatOf board.now seat.old }
     requires none { HoldsNone (view seat.old) }
@@ -85,8 +85,8 @@ fn work(rt: &impl Abort, board: &Board<Simple>, seat: &mut Seat<Simple>, want: u
         panic!(rt; "no task");
     };
     let mut piece = board.take(seat, task);
-    board.put(seat, piece.task, piece.value);
     board.add(seat, 0, piece.amount);
+    board.put(seat, piece.task, piece.value);
     assert!(rt; task == want && !piece.done);
     piece.done = true;
     board.give(seat, task, piece);

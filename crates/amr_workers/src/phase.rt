@@ -1,5 +1,5 @@
 //! The run of a phase.
-ghost use Rattle.std.specs.Prelude.{◌≡◌, ℕ, ◌+◌, ◌≤◌, ◌^◌, true, false};
+ghost use Rattle.std.specs.Prelude.{◌≡◌, ℕ, ◌+◌, ◌<◌, ◌≤◌, ◌^◌, true, false, length};
 ghost use mathlib.Core.Option.{some};
 ghost use lib.ListN.{get_elem?};
 ghost use Rattle.std.specs.Thread.{IsSync};
@@ -13,7 +13,8 @@ use std::thread::{Threads, join};
 
 /// Runs all tasks of a board by this many workers, each in a thread of its own where one can be had. The seat is the
 /// only one before and after: it holds no task, and after the phase it is past, so the board may be closed with it.
-/// It returns when each worker found no task left.
+/// The gate is handed numbers of workers from 0 to `workers` - 1, and of tasks of the plan. It returns when each worker
+/// found no task left.
 pub fn run_phase<R: Threads + Sync, P: Piece + Send, J: Job<P> + Sync, G: Gate + Sync>(
     rt: &R,
     board: &Board<P>,
@@ -29,6 +30,7 @@ pub fn run_phase<R: Threads + Sync, P: Piece + Send, J: Job<P> + Sync, G: Gate +
     requires some_workers { 1 ≤ workers }
     requires few_workers { workers ≤ 64 }
     requires ready { (t : ℕ) (p : P) → get_elem? board.now.pieces t ≡ some p → J.ready job.now board.now.plan p }
+    requires gate { (worker task : ℕ) → worker < workers → task < length board.now.plan.tasks → G.admits gate.now worker task }
     ensures seat { IsSeatOf board.now result }
     ensures none { HoldsNone (view result) }
     ensures past { (view result).past ≡ true }
@@ -54,6 +56,7 @@ fn run_workers<R: Threads + Sync, P: Piece + Send, J: Job<P> + Sync, G: Gate + S
     requires numbers { first + workers ≤ 64 }
     requires share { workers ≤ (view seat).share }
     requires ready { (t : ℕ) (p : P) → get_elem? board.now.pieces t ≡ some p → J.ready job.now board.now.plan p }
+    requires gate { (worker task : ℕ) → first ≤ worker → worker < first + workers → task < length board.now.plan.tasks → G.admits gate.now worker task }
     ensures seat { IsSeatOf board.now result }
     ensures none { HoldsNone (view result) }
     ensures past { (view result).past ≡ true }
@@ -70,11 +73,11 @@ fn run_workers<R: Threads + Sync, P: Piece + Send, J: Job<P> + Sync, G: Gate + S
     let (mut one, two) = join(
         rt,
         move || -> Seat<P>
-            requires { IsSync R.row × IsSeatOf board.now seat × HoldsNone (view seat) × ((view seat).past ≡ false) × (1 ≤ half) × (first + half ≤ 64) × (half ≤ (view seat).share) × ((t : ℕ) (p : P) → get_elem? board.now.pieces t ≡ some p → J.ready job.now board.now.plan p) }
+            requires { IsSync R.row × IsSeatOf board.now seat × HoldsNone (view seat) × ((view seat).past ≡ false) × (1 ≤ half) × (first + half ≤ 64) × (half ≤ (view seat).share) × ((t : ℕ) (p : P) → get_elem? board.now.pieces t ≡ some p → J.ready job.now board.now.plan p) × ((worker task : ℕ) → first ≤ worker → worker < first + half → task < length board.now.plan.tasks → G.admits gate.now worker task) }
             ensures { IsSeatOf board.entry.now result × HoldsNone (view result) × ((view result).past ≡ true) × ((view result).share ≡ (view seat).share) }
         { run_workers(rt, board, seat, job, gate, first, half) },
         move || -> Seat<P>
-            requires { IsSync R.row × IsSeatOf board.now other × HoldsNone (view other) × ((view other).past ≡ false) × (1 ≤ more) × (middle + more ≤ 64) × (more ≤ (view other).share) × ((t : ℕ) (p : P) → get_elem? board.now.pieces t ≡ some p → J.ready job.now board.now.plan p) }
+            requires { IsSync R.row × IsSeatOf board.now other × HoldsNone (view other) × ((view other).past ≡ false) × (1 ≤ more) × (middle + more ≤ 64) × (more ≤ (view other).share) × ((t : ℕ) (p : P) → get_elem? board.now.pieces t ≡ some p → J.ready job.now board.now.plan p) × ((worker task : ℕ) → middle ≤ worker → worker < middle + more → task < length board.now.plan.tasks → G.admits gate.now worker task) }
             ensures { IsSeatOf board.entry.now result × HoldsNone (view result) × ((view result).past ≡ true) × ((view result).share ≡ (view other).share) }
         { run_workers(rt, board, other, job, gate, middle, more) },
     );
@@ -94,6 +97,7 @@ fn draw_all<P: Piece, J: Job<P>, G: Gate>(
     requires none { HoldsNone (view seat.old) }
     requires here { (view seat.old).past ≡ false }
     requires ready { (t : ℕ) (p : P) → get_elem? board.now.pieces t ≡ some p → J.ready job.now board.now.plan p }
+    requires gate { (task : ℕ) → task < length board.now.plan.tasks → G.admits gate.now worker task }
     ensures seat { IsSeatOf board.now seat.new }
     ensures none { HoldsNone (view seat.new) }
     ensures past { (view seat.new).past ≡ true }

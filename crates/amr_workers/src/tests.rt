@@ -1,47 +1,120 @@
-//! Workers on a board of two tasks.
-ghost use Rattle.std.specs.Prelude.{◌≡◌, ◌<◌, [], ◌∷◌, false, IfOk};
-ghost use Rattle.amr_phase.specs.Plans.{planned_face};
+//! Workers on a board of five tasks.
+ghost use Rattle.std.specs.Prelude.{◌≡◌, ◌<◌, [], ◌∷◌, false, IfOk, length};
 ghost use Rattle.amr_board.specs.Views.{first_view};
-ghost use Rattle.amr_board.specs.Ended.{face_of};
 ghost use Rattle.amr_board.specs.BoardOf.{IsSeatOf, view};
 
 use crate::{Gate, Job, OpenGate, run_phase};
 use amr_board::{Board, Ended, MakeFault, Piece, Seat, Shape};
 use std::alloc::{AllocError, Global};
 use std::process::Abort;
-use std::sync::atomic::{AtomicBool, Ordering};
+use std::sync::atomic::{AtomicBool, AtomicU64, Ordering};
 use std::test::Fail;
 use std::thread;
 
-// A task that puts a value at the place of its number, and adds an amount to word 0.
+// A bit for each of five numbers.
+const ALL: u64 = 31;
+
+// How often a worker at a gate looks whether it may go on.
+const TURNS: u32 = 10_000_000;
+
+// A task that puts its number at the place of its number, and adds it to word 0.
 #[derive(Clone, Copy)]
-struct Simple {
+struct Counted {
     task: u32,
-    value: u64,
-    amount: u64,
     done: bool,
 }
 
-impl Piece for Simple {
+impl Piece for Counted {
     ghost use Rattle.std.specs.Prelude.{◌≡◌, [], ◌∷◌, true};
 
     ghost task = { λ p. p.task };
 
-    ghost puts = { λ p. record { at = p.task; amount = p.value } ∷ [] };
+    ghost puts = { λ p. record { at = p.task; amount = p.task } ∷ [] };
 
-    ghost adds = { λ p. record { at = 0; amount = p.amount } ∷ [] };
+    ghost adds = { λ p. record { at = 0; amount = p.task } ∷ [] };
 
     ghost becomes = { λ p q. (q.task ≡ p.task) × (q.done ≡ true) };
 }
 
-struct Posting;
+// Notes which workers and tasks passed the gate and which tasks were worked on, and whether anything came out of turn.
+#[derive(Drop)]
+struct RollCall {
+    workers: AtomicU64,
+    entered: AtomicU64,
+    worked: AtomicU64,
+    left: AtomicU64,
+    wrong: AtomicBool,
+}
 
-impl Job<Simple> for Posting {
+impl RollCall {
+    fn new() -> RollCall {
+        RollCall {
+            workers: AtomicU64::new(0),
+            entered: AtomicU64::new(0),
+            worked: AtomicU64::new(0),
+            left: AtomicU64::new(0),
+            wrong: AtomicBool::new(false),
+        }
+    }
+
+    // Notes that something is wrong, unless this holds.
+    fn expect(&self, holds: bool) {
+        if !holds {
+            self.wrong.store(true, Ordering::SeqCst);
+        }
+    }
+}
+
+// Whether the number is noted among these.
+fn has(noted: &AtomicU64, number: u32) -> bool {
+    noted.load(Ordering::SeqCst) & 1u64.wrapping_shl(number) != 0
+}
+
+// Notes the number. False where it was noted before.
+fn note(noted: &AtomicU64, number: u32) -> bool {
+    let bit = 1u64.wrapping_shl(number);
+    noted.fetch_or(bit, Ordering::SeqCst) & bit == 0
+}
+
+// A worker comes once, and waits until all five have come. A task is left once it was worked on.
+impl Gate for RollCall {
+    ghost use Rattle.std.specs.Prelude.{◌<◌};
+
+    ghost admits = { λ _ worker task. (worker < 5) × (task < 5) };
+
+    fn enter(&self, worker: u32, task: u32) {
+        self.expect(note(&self.entered, task));
+        self.expect(note(&self.workers, worker));
+        for _ in 0..TURNS {
+            if self.workers.load(Ordering::SeqCst) == ALL {
+                return;
+            }
+            thread::yield_now();
+        }
+        self.expect(false);
+    }
+
+    fn leave(&self, _worker: u32, task: u32) {
+        self.expect(has(&self.worked, task));
+        self.expect(note(&self.left, task));
+    }
+}
+
+// A task is worked on once, after it was entered and before it is left.
+impl Job<Counted> for RollCall {
     ghost ready = { λ _ _ _. Unit {0} };
 
-    fn work(&self, board: &Board<Simple>, seat: &mut Seat<Simple>, mut piece: Simple) -> Simple {
-        board.put(seat, piece.task, piece.value);
-        board.add(seat, 0, piece.amount);
+    fn work(
+        &self,
+        board: &Board<Counted>,
+        seat: &mut Seat<Counted>,
+        mut piece: Counted,
+    ) -> Counted {
+        self.expect(has(&self.entered, piece.task));
+        self.expect(!has(&self.left, piece.task));
+        self.expect(note(&self.worked, piece.task));
+        board.put(seat, piece.task, u64::from(piece.task));
+        board.add(seat, 0, u64::from(piece.task));
         piece.done = true;
         piece
     }
@@ -56,11 +129,13 @@ struct Turnstile {
 }
 
 impl Gate for Turnstile {
+    ghost admits = { λ _ _ _. Unit {0} };
+
     fn enter(&self, _worker: u32, _task: u32) {
         if self.entered.swap(true, Ordering::SeqCst) {
             return;
         }
-        for _ in 0..10_000_000u32 {
+        for _ in 0..TURNS {
             if self.left.load(Ordering::SeqCst) {
                 return;
             }
@@ -74,59 +149,79 @@ impl Gate for Turnstile {
     }
 }
 
-fn two_pieces(alloc: Global) -> Result<Vec<Simple>, AllocError>
-    ensures { IfOk result (λ v. v.items ≡ record { task = 0; value = 0; amount = 3; done = false } ∷ record { task = 1; value = 9; amount = 5; done = false } ∷ []) }
+fn five_pieces(alloc: Global) -> Result<Vec<Counted>, AllocError>
+    ensures { IfOk result (λ v. v.items ≡ record { task = 0; done = false } ∷ record { task = 1; done = false } ∷ record { task = 2; done = false } ∷ record { task = 3; done = false } ∷ record { task = 4; done = false } ∷ []) }
 {
     let mut pieces = Vec::new(alloc);
-    pieces.push(Simple {
+    pieces.push(Counted {
         task: 0,
-        value: 0,
-        amount: 3,
         done: false,
     })?;
-    pieces.push(Simple {
+    pieces.push(Counted {
         task: 1,
-        value: 9,
-        amount: 5,
+        done: false,
+    })?;
+    pieces.push(Counted {
+        task: 2,
+        done: false,
+    })?;
+    pieces.push(Counted {
+        task: 3,
+        done: false,
+    })?;
+    pieces.push(Counted {
+        task: 4,
         done: false,
     })?;
     Ok(pieces)
 }
 
-fn opened(rt: &impl Abort, alloc: Global) -> Result<(Board<Simple>, Seat<Simple>), AllocError>
+fn opened(rt: &impl Abort, alloc: Global) -> Result<(Board<Counted>, Seat<Counted>), AllocError>
     ensures seat { IfOk result (λ r. IsSeatOf r.0 r.1 × (view r.1 ≡ first_view r.0.plan r.0.pieces)) }
-    ensures shape { IfOk result (λ r. (r.0.plan.places ≡ 2) × (r.0.plan.words ≡ 1)) }
-    ensures faces { IfOk result (λ r. (planned_face r.0.plan 0 ≡ 1) × (planned_face r.0.plan 1 ≡ 10)) }
+    ensures shape { IfOk result (λ r. (r.0.plan.words ≡ 1) × (length r.0.plan.tasks ≡ 5)) }
 {
     let shape = Shape {
-        places: 2,
+        places: 5,
         words: 1,
     };
-    match Board::make(alloc, shape, two_pieces(alloc)?) {
+    match Board::make(alloc, shape, five_pieces(alloc)?) {
         Ok(both) => Ok(both),
         Err(MakeFault::NoMemory(pieces)) => {
-            assert!(rt; pieces.len() == 2);
+            assert!(rt; pieces.len() == 5);
             Err(AllocError)
         }
     }
 }
 
-fn check(rt: &impl Abort, ended: Ended<Simple>)
-    requires shape { (ended.places ≡ 2) × (ended.registers ≡ 1) }
-    requires faces { (face_of ended 0 ≡ 1) × (face_of ended 1 ≡ 10) }
+// The sum of the tasks' numbers.
+fn check(rt: &impl Abort, ended: Ended<Counted>)
+    requires { ended.registers ≡ 1 }
 {
-    assert!(rt; ended.total(0) == 8);
-    assert!(rt; ended.face(0) == 0);
-    assert!(rt; ended.face(1) == 9);
+    assert!(rt; ended.total(0) == 10);
 }
 
 #[test]
 fn any_number_of_workers(rt: HostRuntime) -> Result<(), Fail> {
     for workers in [1, 2, 5, 64] {
         let (board, seat) = opened(&rt, rt.alloc())?;
-        let last = run_phase(&rt, &board, seat, &Posting, &OpenGate, workers);
+        let last = run_phase(&rt, &board, seat, &RollCall::new(), &OpenGate, workers);
         check(&rt, board.close(last));
     }
+    Ok(())
+}
+
+// Each of the five draws one task, under its own number, and passes the gate before and after its work.
+#[test]
+fn five_workers_come_at_once(rt: HostRuntime) -> Result<(), Fail> {
+    let roll = RollCall::new();
+    let (board, seat) = opened(&rt, rt.alloc())?;
+    let last = run_phase(&rt, &board, seat, &roll, &roll, 5);
+    check(&rt, board.close(last));
+    assert!(rt; roll.workers.load(Ordering::SeqCst) == ALL);
+    assert!(rt;
+        roll.entered.load(Ordering::SeqCst) == ALL && roll.left.load(Ordering::SeqCst) == ALL
+    );
+    assert!(rt; !roll.wrong.load(Ordering::SeqCst));
     Ok(())
 }
 
@@ -138,7 +233,7 @@ fn second_task_first(rt: HostRuntime) -> Result<(), Fail> {
         waited_in_vain: AtomicBool::new(false),
     };
     let (board, seat) = opened(&rt, rt.alloc())?;
-    let last = run_phase(&rt, &board, seat, &Posting, &gate, 2);
+    let last = run_phase(&rt, &board, seat, &RollCall::new(), &gate, 2);
     check(&rt, board.close(last));
     assert!(rt; !gate.waited_in_vain.load(Ordering::SeqCst));
     Ok(())

@@ -1,21 +1,14 @@
-use Rattle.std.proofs.Common.{◌≡◌, List, sym, ap, ◌∙◌, arith}
-use Rattle.amr_phase.specs.Plans.{PlanOf}
-use Rattle.amr_board.specs.BoardOf.{BoardOf}
-use Rattle.amr_board.specs.Piece.{plan_of}
+use Rattle.std.proofs.Common.{arith}
 use Rattle.amr_board.proofs.Allowing.{draws}
+use Rattle.amr_board.proofs.Called.{known}
 use Rattle.amr_board.proofs.board.Board.draw.Goals as goal
 
 pub fetch_add-found-requires : goal.fetch_add-found-requires
 fetch_add-found-requires g c =
     let i = c.self.inside in
-    let key = i.table.shared.key in
-    let me = c.args.seat.now.me in
-    let pieces : List g.row.P.Denot = key.pieces.value.items in
-    let plan : PlanOf = plan_of g.P.Piece.puts g.P.Piece.adds key.shape.places key.shape.words pieces in
-    let same : me.0.plan ≡ plan = c.requires.seat.plan ∙ sym (ap (λ (b : BoardOf g.row.P.Denot). b.plan) c.self.view_is) in
-    let same' : me.0.pieces ≡ pieces = c.requires.seat.pieces ∙ sym (ap (λ (b : BoardOf g.row.P.Denot). b.pieces) c.self.view_is) in
-    let table = c.requires.seat.table ∙ sym (ap (λ (b : BoardOf g.row.P.Denot). b.id) c.self.view_is) in (
-      table,
+    let k = known _ _ _ c.args.self.now c.args.seat.now c.self.view_is c.requires.seat in
+    let me = c.args.seat.now.me in (
+      k.table,
       (let n = c.self.invariant.1 in omega arith),
-      draws g.P.Piece.becomes plan pieces i.table.shared.table_id.slots c.args.seat.now.id me.0 me.1 same same' c.requires.seat.unspent c.requires.here c.requires.none,
+      draws g.P.Piece.becomes _ _ i.table.shared.table_id.slots c.args.seat.now.id me.0 me.1 k.same_plan k.same_pieces c.requires.seat.unspent c.requires.here c.requires.none,
     )

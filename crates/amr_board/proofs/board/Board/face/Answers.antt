@@ -1,26 +1,18 @@
-use Rattle.std.proofs.Common.{◌≡◌, ◌<◌, List, sym, ap, ◌∙◌, subst, arith}
+use Rattle.std.proofs.Common.{◌<◌, sym, ap, subst, arith}
 use Rattle.amr_phase.specs.Plans.{PlanOf}
 use Rattle.amr_board.specs.declared.board.Shape.{Shape}
 use Rattle.amr_board.specs.BoardOf.{BoardOf}
-use Rattle.amr_board.specs.Piece.{plan_of}
 use Rattle.amr_board.proofs.Allowing.{faces}
+use Rattle.amr_board.proofs.Called.{known}
 use Rattle.amr_board.proofs.board.Board.face.Goals as goal
 
 pub load-found-requires : goal.load-found-requires
 load-found-requires g c =
     let i = c.self.inside in
-    let key = i.table.shared.key in
+    let k = known _ _ _ c.args.self.now c.args.seat.now c.self.view_is c.requires.seat in
     let me = c.args.seat.now.me in
-    let pieces : List g.row.P.Denot = key.pieces.value.items in
-    let plan : PlanOf = plan_of g.P.Piece.puts g.P.Piece.adds key.shape.places key.shape.words pieces in
-    let same : me.0.plan ≡ plan = c.requires.seat.plan ∙ sym (ap (λ (b : BoardOf g.row.P.Denot). b.plan) c.self.view_is) in
-    let same' : me.0.pieces ≡ pieces = c.requires.seat.pieces ∙ sym (ap (λ (b : BoardOf g.row.P.Denot). b.pieces) c.self.view_is) in
-    let table = c.requires.seat.table ∙ sym (ap (λ (b : BoardOf g.row.P.Denot). b.id) c.self.view_is) in
-    let places : key.shape.places ≡ i.shape.places = ap (λ (s : Shape). s.places) c.self.invariant.0 in
-    let words : key.shape.words ≡ i.shape.words = ap (λ (s : Shape). s.words) c.self.invariant.0 in
-    let is : plan ≡ c.args.self.now.plan = ap (λ (b : BoardOf g.row.P.Denot). b.plan) c.self.view_is in
-    let lt : c.args.place < key.shape.places = subst (λ (p : PlanOf). c.args.place < p.places) (sym is) c.requires.place in (
-      table,
-      (let n = c.self.invariant.1 in omega arith),
-      faces g.P.Piece.becomes plan pieces i.table.shared.table_id.slots c.args.seat.now.id me.0 me.1 c.args.place same same' c.requires.seat.unspent lt,
+    let lt : c.args.place < i.table.shared.key.shape.places = subst (λ (b : BoardOf g.row.P.Denot). c.args.place < b.plan.places) (sym c.self.view_is) c.requires.place in (
+      k.table,
+      (let n = c.self.invariant.1 in let same = ap (λ (s : Shape). s.places) c.self.invariant.0 in omega arith),
+      faces g.P.Piece.becomes _ _ i.table.shared.table_id.slots c.args.seat.now.id me.0 me.1 c.args.place k.same_plan k.same_pieces c.requires.seat.unspent lt,
     )
