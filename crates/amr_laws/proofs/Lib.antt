@@ -11,5 +11,7 @@ pub mod Registers
 pub mod Kept
 pub mod RunRows
 pub mod GridSize
+pub mod Sizes
 pub mod Products
 pub mod Substeps
+mod SubstepRows

@@ -5,7 +5,7 @@ use Rattle.std.specs.declared.option.Option.TheVariants.{None, Some}
 use Rattle.std.specs.Option.{unwrap_or}
 use Rattle.std.specs.Prelude.{nat_lt}
 use Rattle.std.proofs.lemmas.Bool.Decides.{nat_tests}
-use Rattle.std.proofs.Math.Nat.{pow-suc, mul-le-mul_left, le_of_mul-le-mul_left}
+use Rattle.std.proofs.Math.Nat.{mul-le-mul_left, le_of_mul-le-mul_left}
 use Rattle.amr_box.specs.declared.Cell.{Cell}
 use Rattle.amr_box.specs.Cells.{Extent, parent}
 use Rattle.amr_def.specs.declared.problem.Problem.{Problem}
@@ -19,6 +19,7 @@ use Rattle.amr_def.proofs.Nesting.{children, covered_there}
 use Rattle.amr_def.proofs.Greatest.{AllUpTo, MassesUpTo}
 use Rattle.amr_def.proofs.Chain.{Chain, chain_first, nth}
 use Rattle.amr_def.proofs.Stepping.{masses_in, nothing_up}
+use Rattle.amr_laws.proofs.Sizes.{weight_some}
 use Rattle.amr_laws.proofs.Refill.{NewFacts, Surrounds, SyncedWithin, new_level, is_some-given, kept, new_is_level, new_is_nested, new_is_synced, next_surrounds}
 
 -- ---- the old levels above a level
@@ -107,10 +108,6 @@ given_at_most w b false o v h k = nothing_up w b
 less_weight : (w m q : ℕ) → 0 < w → w * m ≤ w * q → m ≤ q
 less_weight w m q some h = le_of_mul-le-mul_left h some
 
-power_some : (l : ℕ) → 0 < 4 ^ l
-power_some zero = omega arith
-power_some (suc l) = let e : 4 ^ suc l ≡ 4 ^ l * 4 = pow-suc 4 l in omega (arith, e, power_some l)
-
 refilled_up : (l : ℕ) (coarse old : Masses) (bs : List Extent) (b : ℕ) → l < 4 → IsScaled b → MassesUpTo l coarse b → ((c : Cell) → 4 ^ suc l * mass_of old c ≤ b) → MassesUpTo (suc l) (refilled coarse old bs) b
 refilled_up l coarse old bs b few scaled up olds = record {
   at = λ c.
@@ -118,7 +115,7 @@ refilled_up l coarse old bs b few scaled up olds = record {
       let q = s.0 in
       let m = mass_of coarse (parent c) in
       let below : 4 ^ l * m ≤ 4 ^ l * (4 * q) = subst (λ t. 4 ^ l * m ≤ t) s.1 (up.at (parent c)) in
-      let small : m ≤ 4 * q = less_weight (4 ^ l) m (4 * q) (power_some l) below in
+      let small : m ≤ 4 * q = less_weight (4 ^ l) m (4 * q) (weight_some l) below in
       let part : split_mass coarse c ≤ q = share_at_most m (child_number c) q small in
       let weighed : 4 ^ suc l * split_mass coarse c ≤ 4 ^ suc l * q = mul-le-mul_left (4 ^ suc l) part in
       let given : 4 ^ suc l * split_mass coarse c ≤ b = subst (λ t. 4 ^ suc l * split_mass coarse c ≤ t) (sym s.2) weighed in

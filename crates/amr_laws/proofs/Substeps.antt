@@ -1,8 +1,6 @@
 -- Steps of levels within the step from a sound state: of levels, and with numbers that fit.
-use Rattle.std.proofs.Common.{◌≡◌, ℕ, zero, suc, ◌+◌, ◌*◌, ◌/◌, ◌^◌, ◌<◌, ◌≤◌, refl, sym, ap, subst, ◌∙◌, arith, List, [], ◌∷◌, length}
+use Rattle.std.proofs.Common.{◌≡◌, ℕ, suc, ◌+◌, ◌*◌, ◌/◌, ◌^◌, ◌<◌, ◌≤◌, refl, sym, ap, subst, ◌∙◌, arith, List, [], ◌∷◌, length}
 use Rattle.std.specs.Prelude.{unsigned_abs}
-use Rattle.std.proofs.Math.Nat.{pow-suc}
-use Rattle.std.proofs.lemmas.Nat.{mul-le}
 use Rattle.amr_box.specs.declared.Cell.{Cell}
 use Rattle.amr_box.specs.declared.Face.{Face}
 use Rattle.amr_def.specs.declared.problem.Problem.{Problem}
@@ -25,6 +23,7 @@ use Rattle.amr_laws.specs.Levels.{AreLevels, masses_of}
 use Rattle.amr_laws.specs.Substeps.{IsSubstep, StepFits, after_step}
 use Rattle.amr_laws.specs.Substeps.{whole, first, second}
 use Rattle.amr_laws.proofs.Steps.{links}
+use Rattle.amr_laws.proofs.Sizes.{product_small, weighs}
 
 -- ---- a step keeps levels
 
@@ -159,16 +158,6 @@ top_small p s sound more =
     map_length : (ks : List Level) → length (masses_in ks) ≡ length ks
     map_length [] = refl
     map_length (k ∷ ks) = ap suc (map_length ks)
-
-weight_some : (l : ℕ) → 1 ≤ 4 ^ l
-weight_some zero = omega arith
-weight_some (suc l) = let e : 4 ^ suc l ≡ 4 ^ l * 4 = pow-suc 4 l in omega (arith, e, weight_some l)
-
-weighs : (l v b : ℕ) → 4 ^ l * v ≤ b → v ≤ b
-weighs l v b h = let more : 1 * v ≤ 4 ^ l * v = mul-le 1 v (4 ^ l) v (weight_some l) (omega arith) in omega (arith, more, h)
-
-product_small : (n v : ℕ) → n ≤ 1024 → v < 2 ^ 31 → n * v < 2 ^ 42
-product_small n v h k = let fits : n * v ≤ 1024 * 2147483647 = mul-le n v 1024 2147483647 h (omega (arith, k)) in omega (arith, fits)
 
 module _ (p : Problem) (l : ℕ) (k : Level) (finer : List Level) (old : Masses) (t : ℕ) (small : t < 2 ^ 31) (f : SubstepFacts p t l (k ∷ finer) old) where
   fits_by : StepFits p l k finer old
