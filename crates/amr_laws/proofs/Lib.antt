@@ -11,6 +11,7 @@ pub mod Registers
 pub mod Kept
 pub mod RunRows
 pub mod GridSize
+pub mod NearBoxes
 pub mod Sizes
 pub mod Products
 pub mod Substeps

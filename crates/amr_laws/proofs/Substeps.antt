@@ -1,8 +1,9 @@
 -- Steps of levels within the step from a sound state: of levels, and with numbers that fit.
-use Rattle.std.proofs.Common.{◌≡◌, ℕ, suc, ◌+◌, ◌*◌, ◌/◌, ◌^◌, ◌<◌, ◌≤◌, refl, sym, ap, subst, ◌∙◌, arith, List, [], ◌∷◌, length}
+use Rattle.std.proofs.Common.{◌≡◌, ℕ, suc, ◌+◌, ◌*◌, ◌/◌, ◌^◌, ◌<◌, ◌≤◌, refl, sym, ap, subst, ◌∙◌, arith, List, [], ◌∷◌, length, map}
 use Rattle.std.specs.Prelude.{unsigned_abs}
 use Rattle.amr_box.specs.declared.Cell.{Cell}
 use Rattle.amr_box.specs.declared.Face.{Face}
+use Rattle.amr_box.specs.Cells.{Extent}
 use Rattle.amr_def.specs.declared.problem.Problem.{Problem}
 use Rattle.amr_def.specs.State.{Masses, Level, State, no_masses, mass_of}
 use Rattle.amr_def.specs.Value.{value_at}
@@ -42,6 +43,15 @@ chain_after p l ks old x = let kept = kept_by_step p l ks old x in chain_kept p 
 pub keeps_levels : (p : Problem) (l : ℕ) (ks : List Level) (old : Masses) → AreLevels p l ks → AreLevels p l (after_step p l ks old)
 keeps_levels p l ks old a = levels_of p l (after_step p l ks old) (chain_after p l ks old (links p l ks a))
 
+boxes_with : (ks : List Level) (ms : List Masses) → SameCells (masses_in ks) ms → map (λ k. k.boxes) (with_masses ks ms) ≡ map (λ k. k.boxes) ks
+boxes_with [] [] same = refl
+boxes_with [] (m ∷ ms) same = absurd same
+boxes_with (k ∷ ks) [] same = absurd same
+boxes_with (k ∷ ks) (m ∷ ms) same = ap (λ (rest : List (List Extent)). k.boxes ∷ rest) (boxes_with ks ms same.1)
+
+pub keeps_boxes : (p : Problem) (l : ℕ) (ks : List Level) (old : Masses) → AreLevels p l ks → map (λ k. k.boxes) (after_step p l ks old) ≡ map (λ k. k.boxes) ks
+keeps_boxes p l ks old a = boxes_with ks (step p l (masses_in ks) old).levels (kept_by_step p l ks old (links p l ks a)).same
+
 -- ---- two finer steps
 
 -- new masses in the boxes of as many levels
@@ -53,6 +63,9 @@ masses_with (k ∷ ks) (m ∷ ms) same = ap (λ (rest : List Masses). m ∷ rest
 
 masses_after : (p : Problem) (l : ℕ) (ks : List Level) (old : Masses) → Chain p l ks → masses_in (after_step p l ks old) ≡ (step p l (masses_in ks) old).levels
 masses_after p l ks old x = masses_with ks (step p l (masses_in ks) old).levels (kept_by_step p l ks old x).same
+
+pub gives_masses : (p : Problem) (l : ℕ) (ks : List Level) (old : Masses) → AreLevels p l ks → masses_of (after_step p l ks old) ≡ (step p l (masses_of ks) old).levels
+gives_masses p l ks old a = masses_after p l ks old (links p l ks a)
 
 pub two_finer : (p : Problem) (l : ℕ) (k fine : Level) (finer : List Level) (old : Masses) → AreLevels p (suc l) (fine ∷ finer)
     → let first : Stepped = step p (suc l) (masses_of (fine ∷ finer)) k.masses in
@@ -80,6 +93,7 @@ record SubstepFacts (p : Problem) (t l : ℕ) (ks : List Level) (old : Masses) :
   base : 2 ^ 30 ≤ bound
   up : AllUpTo l (masses_in ks) bound
   olds : OldUpTo l old bound
+  old_masses : (c : Cell) → mass_of old c ≤ t
   room : bound + rise (length (masses_in ks)) l ≤ t
 
 no_old : (b : ℕ) (k : Cell) → 4 ^ 0 * (mass_of no_masses k / 4) ≤ b
@@ -106,6 +120,7 @@ module _ (p : Problem) (s : State) (sound : IsSound p s) where
         base = omega arith;
         up = all_up 0 s.levels b (λ j c. let e : j ≡ 0 + j = omega arith in subst (λ i. 4 ^ i * mass_of (nth s.levels j).masses c ≤ 2 ^ 30 + growth p.max_level * (s.step + 1)) e (sound.bounded.at j c));
         olds = record { at = no_old b };
+        old_masses = λ c. omega arith;
         room = omega arith;
       }
 
@@ -116,6 +131,7 @@ module _ (p : Problem) (s : State) (sound : IsSound p s) where
     base = f.base;
     up = f.up.1;
     olds = finer_old l k.masses f.bound f.up.0;
+    old_masses = λ c. omega (arith, weighs l (mass_of k.masses c) f.bound (f.up.0.at c), f.room);
     room = omega (arith, f.room);
   }
 
@@ -136,6 +152,7 @@ module _ (p : Problem) (s : State) (sound : IsSound p s) where
         base = omega (arith, f.base);
         up = subst (λ (ns : List Masses). AllUpTo (suc l) ns (b + r)) (sym same) raised.masses;
         olds = old_more (suc l) k.masses b (b + r) (omega arith) below;
+        old_masses = λ c. omega (arith, weighs l (mass_of k.masses c) b (f.up.0.at c), f.room);
         room = subst (λ n. b + r + rise n (suc l) ≤ top p s) (sym (ap (λ (ns : List Masses). length ns) same ∙ count)) room;
       }
 
@@ -174,6 +191,7 @@ module _ (p : Problem) (l : ℕ) (k : Level) (finer : List Level) (old : Masses)
       let taken = step p l (masses_in (k ∷ finer)) old in
       record {
         masses = λ c. omega (arith, weighs l (mass_of k.masses c) b (f.up.0.at c), within, small);
+        old_masses = λ c. omega (arith, f.old_masses c, small);
         values = value;
         products = λ e c. product_small (unsigned_abs (courant p l e)) (value_at p l k.masses old c) (omega (arith, courant_within p l e, p.limits.greatest_d)) (value c);
         fluxes = flux;

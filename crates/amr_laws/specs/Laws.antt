@@ -1,5 +1,5 @@
 -- Laws of states with any number of levels, each of which a call of this crate ensures.
-use Rattle.std.specs.Prelude.{◌≡◌, ℕ, suc, cond, ◌+◌, ◌*◌, ◌/◌, ◌^◌, ◌<◌, ◌≤◌, ℤ, pos, ◌+ℤ◌, ◌-ℤ◌, ◌≤ℤ◌, neg_ℤ, List, [], ◌∷◌, unsigned_abs, IsFalse, IsSome}
+use Rattle.std.specs.Prelude.{◌≡◌, ℕ, suc, cond, ◌+◌, ◌*◌, ◌/◌, ◌^◌, ◌<◌, ◌≤◌, ℤ, pos, ◌+ℤ◌, ◌-ℤ◌, ◌≤ℤ◌, neg_ℤ, List, [], ◌∷◌, map, unsigned_abs, IsFalse, IsSome}
 use Rattle.amr_box.specs.declared.Cell.{Cell}
 use Rattle.amr_box.specs.declared.Face.{Face}
 use Rattle.amr_box.specs.declared.Axis.{Axis}
@@ -13,10 +13,11 @@ use Rattle.amr_def.specs.LevelStep.{effective, Stepped, step, over_finer}
 use Rattle.amr_def.specs.Ledger.{first_of}
 use Rattle.amr_def.specs.Regrid.{share, regrid}
 use Rattle.amr_def.specs.Run.{start, next, finish, run}
-use Rattle.amr_def.specs.Facts.{IsSound, IsHeld}
+use Rattle.amr_def.specs.Facts.{IsLevel, IsSound, IsHeld}
 use Rattle.amr_def.specs.Plot.{plot}
 use Rattle.amr_laws.specs.GridSize.{AreLimits, with_grid_size}
-use Rattle.amr_laws.specs.Levels.{AreLevels, masses_of}
+use Rattle.std.specs.List.{All}
+use Rattle.amr_laws.specs.Levels.{AreLevels, LiesInLevel, masses_of}
 use Rattle.amr_laws.specs.Substeps.{IsSubstep, StepFits, after_step}
 
 -- ---- runs
@@ -48,6 +49,10 @@ RunIgnoresGridSize = (p : Problem) (n : ℕ) (limits : AreLimits p n) (k : ℕ) 
 -- and the same plots
 abbrev pub PlotIgnoresGridSize : Type 0
 PlotIgnoresGridSize = (p : Problem) (n : ℕ) (limits : AreLimits p n) (s : State) → plot (with_grid_size p n limits) s ≡ plot p s
+
+-- the boxes of a level lie in its domain, and their coordinates are as small as the calls on boxes ask
+abbrev pub BoxesLieInLevel : Type 0
+BoxesLieInLevel = (p : Problem) (l : ℕ) (k : Level) → l ≤ 4 → IsLevel p l k → All (LiesInLevel p l) k.boxes
 
 -- in a sound state the value of each cell, ghost cells too, is below 2 ^ 31
 abbrev pub ValuesAreSmall : Type 0
@@ -136,6 +141,14 @@ LevelStepByRegisters = (p : Problem) (l : ℕ) (k fine : Level) (ks : List Level
 -- a step of levels keeps what the laws on it ask: each in its domain, nested and in sync. So they hold of a second step too.
 abbrev pub LevelStepKeepsLevels : Type 0
 LevelStepKeepsLevels = (p : Problem) (l : ℕ) (ks : List Level) (old : Masses) → AreLevels p l ks → AreLevels p l (after_step p l ks old)
+
+-- their boxes stay
+abbrev pub LevelStepKeepsBoxes : Type 0
+LevelStepKeepsBoxes = (p : Problem) (l : ℕ) (ks : List Level) (old : Masses) → AreLevels p l ks → map (λ k. k.boxes) (after_step p l ks old) ≡ map (λ k. k.boxes) ks
+
+-- and their masses are those of the step, none left out
+abbrev pub LevelStepGivesMasses : Type 0
+LevelStepGivesMasses = (p : Problem) (l : ℕ) (ks : List Level) (old : Masses) → AreLevels p l ks → masses_of (after_step p l ks old) ≡ (step p l (masses_of ks) old).levels
 
 -- a step of a level over finer ones is made of two steps of those, the second of what the first left, both with the
 -- level's masses of before

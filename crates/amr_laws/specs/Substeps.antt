@@ -25,6 +25,7 @@ pub data IsSubstep (p : Problem) (s : State) : ℕ → List Level → Masses →
 -- the numbers of a step of a level, and of the finer ones with it, fit
 pub record StepFits (p : Problem) (l : ℕ) (k : Level) (finer : List Level) (old : Masses) : Type 0 where
   pub masses : (c : Cell) → mass_of k.masses c < 2 ^ 31
+  pub old_masses : (c : Cell) → mass_of old c < 2 ^ 31
   -- of each cell, ghost cells too
   pub values : (c : Cell) → value_at p l k.masses old c < 2 ^ 31
   pub products : (f : Face) (c : Cell) → unsigned_abs (courant p l f) * value_at p l k.masses old c < 2 ^ 42

@@ -2,9 +2,9 @@
 //! empty body, and what it ensures is the law.
 #![tactic(auto)]
 
-ghost use Rattle.amr_laws.specs.Laws.{FinishIsSound, FourFluxesAreWithinShare, LevelStepByRegisters, LevelStepIsExact, LevelStepIsTwoFiner, LevelStepKeepsLevels, NextIsSound, PlotIgnoresGridSize, ProductsAreSmall, RefluxIsEffectiveStep, RegistersLieBesideCovered, RegridHoldsTags, RegridKeepsMasses, RegridKeepsSound, RunIgnoresGridSize, RunIsSound, SharesAddUp, StartIsSound, SubstepsAreOfLevels, SubstepsFit, ValuesAreSmall};
+ghost use Rattle.amr_laws.specs.Laws.{BoxesLieInLevel, FinishIsSound, FourFluxesAreWithinShare, LevelStepByRegisters, LevelStepGivesMasses, LevelStepIsExact, LevelStepIsTwoFiner, LevelStepKeepsBoxes, LevelStepKeepsLevels, NextIsSound, PlotIgnoresGridSize, ProductsAreSmall, RefluxIsEffectiveStep, RegistersLieBesideCovered, RegridHoldsTags, RegridKeepsMasses, RegridKeepsSound, RunIgnoresGridSize, RunIsSound, SharesAddUp, StartIsSound, SubstepsAreOfLevels, SubstepsFit, ValuesAreSmall};
 
-/// The start of a run is sound: nested, synced, bounded and telescoped.
+/// The start of a run is sound: nested, synced, bounded and telescoped, with boxes that have cells and rows of 64 bits.
 pub fn start_is_sound()
     ensures { StartIsSound }
 {}
@@ -44,6 +44,11 @@ pub fn finish_is_sound()
 /// Each state of a run is sound.
 pub fn run_is_sound()
     ensures { RunIsSound }
+{}
+
+/// The boxes of a level lie in its domain, and their coordinates are as small as the calls on boxes ask.
+pub fn boxes_lie_in_level()
+    ensures { BoxesLieInLevel }
 {}
 
 /// In a sound state the value of each cell, ghost cells too, is below 2^31.
@@ -94,10 +99,12 @@ pub fn level_step_by_registers()
     ensures { LevelStepByRegisters }
 {}
 
-/// A step of levels keeps what the laws on it ask: each in its domain, nested and in sync with the next finer one. So
-/// what `level_step_is_exact` and `level_step_by_registers` say of a first finer step they say of the second too.
+/// A step of levels keeps what the laws on it ask: each in its domain, nested and in sync with the next finer one. All
+/// levels stay, with their boxes, and have the masses of the step. So what `level_step_is_exact` and `level_step_by_registers` say of a first finer step they say of the second too.
 pub fn level_step_keeps_levels()
-    ensures { LevelStepKeepsLevels }
+    ensures levels { LevelStepKeepsLevels }
+    ensures boxes { LevelStepKeepsBoxes }
+    ensures masses { LevelStepGivesMasses }
 {}
 
 /// A step of a level over finer ones is made of two steps of those, the second of what the first left, both with the
