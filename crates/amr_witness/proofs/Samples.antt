@@ -7,7 +7,7 @@ use Rattle.std.specs.declared.option.Option.TheVariants.{None, Some}
 use Rattle.std.specs.Option.{unwrap_or}
 use Rattle.std.proofs.lemmas.Int.{ints}
 use Rattle.amr_box.specs.declared.Cell.{Cell}
-use Rattle.amr_box.specs.Cells.{Extent, cell, cell_cmp, cells_of, child, extent, holds, within}
+use Rattle.amr_box.specs.Cells.{Extent, IsProper, cell, cell_cmp, cells_of, child, extent, holds, within}
 use Rattle.amr_box.proofs.CellLists.{among_cells_of}
 use Rattle.amr_def.specs.declared.problem.Problem.{Problem}
 use Rattle.amr_def.specs.declared.problem.Row.{Row}
@@ -15,8 +15,8 @@ use Rattle.amr_def.specs.Domain.{columns, rows, domain, domain_box, in_domain, i
 use Rattle.amr_def.specs.State.{Masses, Level, State, level_at, is_covered, mass_of, children_mass, in_boxes}
 use Rattle.amr_def.specs.Ledger.{mass_at, sum_to, total_mass}
 use Rattle.amr_def.specs.Run.{stepped}
-use Rattle.amr_def.specs.Facts.{IsAligned, IsLevel, IsNestedLevel, IsSound, growth}
-use Rattle.amr_def.proofs.SoundRun.{both_parts, and_true, box_inside, given_within, is_some-given, or_nothing, cond_within}
+use Rattle.amr_def.specs.Facts.{IsAligned, IsLevel, IsNestedLevel, IsSmallRow, IsSound, growth}
+use Rattle.amr_def.proofs.SoundRun.{both_parts, and_true, box_inside, domain_proper, given_within, is_some-given, or_nothing, cond_within}
 use Rattle.amr_def.proofs.Subcycle.{bool_cases}
 use Rattle.amr_witness.specs.Given.{given}
 use Rattle.amr_witness.specs.declared.PlainLevel.{PlainLevel}
@@ -54,12 +54,22 @@ module _ (b : Extent) (at : Cell) (v : ℕ) where
   small_box c =
       given_within (list_any (λ k. eq_by_cmp cell_cmp c k) (cells_of b)) (cond (eq_by_cmp cell_cmp c at) v 0) v (cond_within (eq_by_cmp cell_cmp c at) v 0 v (omega arith) (omega arith))
 
-pub box_level : (p : Problem) (l : ℕ) (b : Extent) (at : Cell) (v : ℕ) → ((c : Cell) → holds b c ≡ true → in_domain (domain p l) c ≡ true) → IsLevel p l (level_with b (in_box b at v))
-box_level p l b at v inside = record {
+only_proper : (b : Extent) → IsProper b → (k : ℕ) (d : Extent) → k < 1 → IsProper (get_or (b ∷ []) k d)
+only_proper b proper zero d h = proper
+only_proper b proper (suc k) d h = absurd (omega arith)
+
+pub box_level : (p : Problem) (l : ℕ) (b : Extent) (at : Cell) (v : ℕ) → IsProper b → ((c : Cell) → holds b c ≡ true → in_domain (domain p l) c ≡ true) → IsLevel p l (level_with b (in_box b at v))
+box_level p l b at v proper inside = record {
+  some = omega arith;
+  proper = only_proper b proper;
   disjoint = λ i j d lower fits. absurd (omega arith);
   inside = λ c h. inside c (sym (or_nothing (holds b c)) ∙ h);
   filled = filled_box b at v;
 }
+
+small_row : (v : ℕ) → v ≤ 2 ^ 30 → (k : ℕ) (d : Row) → k < 1 → IsSmallRow (get_or (row_of v ∷ []) k d)
+small_row v small zero d h = record { mass = omega (arith, small); inflow = omega arith; outflow = omega arith }
+small_row v small (suc k) d h = absurd (omega arith)
 
 -- ---- one level
 
@@ -71,7 +81,7 @@ module _ (p : Problem) (at : Cell) (v : ℕ) (small : v ≤ 2 ^ 30) (total : v �
   m = in_box whole at v
 
   base : IsLevel p 0 (level_with whole m)
-  base = box_level p 0 whole at v (box_inside p 0)
+  base = box_level p 0 whole at v (domain_proper p 0) (box_inside p 0)
 
   bound : (l : ℕ) (c : Cell) → 4 ^ l * mass_of (level_at (one_level whole m v) l).masses c ≤ 2 ^ 30 + growth p.max_level * (0 + 1)
   bound zero c = omega (arith, small, small_box whole at v c)
@@ -94,6 +104,7 @@ module _ (p : Problem) (at : Cell) (v : ℕ) (small : v ≤ 2 ^ 30) (total : v �
     synced = record { at = λ l c h. absurd (omega arith) };
     bounded = record { at = bound };
     telescoped = record { count = refl; no_inflow = refl; no_outflow = refl; each = λ k h. absurd (omega arith); last = total };
+    small_rows = small_row v small;
   }
 
 -- ---- two levels
@@ -182,8 +193,8 @@ module _ (p : Problem) (v : ℕ) (small : v ≤ 2 ^ 30) (wide : p.nx ≡ 4) (tal
   pair = two_levels outer coarse v fine_box fine_masses
 
   each : (l : ℕ) → l < 2 → IsLevel p l (level_at pair l)
-  each zero h = box_level p 0 outer beside v (box_inside p 0)
-  each (suc zero) h = box_level p 1 fine_box (cell (pos 4) (pos 0)) 0 (fine_inside p wide tall)
+  each zero h = box_level p 0 outer beside v (domain_proper p 0) (box_inside p 0)
+  each (suc zero) h = box_level p 1 fine_box (cell (pos 4) (pos 0)) 0 (record { wide = omega (arith, ints); high = omega (arith, ints) }) (fine_inside p wide tall)
   each (suc (suc l)) h = absurd (omega arith)
 
   nesting : (l : ℕ) → l + 1 < 2 → IsNestedLevel p l (level_at pair l) (level_at pair (l + 1))
@@ -221,6 +232,7 @@ module _ (p : Problem) (v : ℕ) (small : v ≤ 2 ^ 30) (wide : p.nx ≡ 4) (tal
     synced = record { at = synced };
     bounded = record { at = within_bound };
     telescoped = record { count = refl; no_inflow = refl; no_outflow = refl; each = λ k h. absurd (omega arith); last = total };
+    small_rows = small_row v small;
   }
 
 -- ---- totals

@@ -52,6 +52,7 @@ fn problem(alloc: Global, nx: u32, cx: i32, d: u32, x: Sides, y: Sides) -> Resul
     ensures blocking { IfOk result (λ p. p.blocking ≡ 2) }
 {
     Ok(Problem {
+        version: 1,
         name: Name::make(Vec::from_slice(alloc, b"ring")?),
         nx,
         ny: 2,
