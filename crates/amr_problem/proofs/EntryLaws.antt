@@ -92,6 +92,7 @@ in_range e none =
     let n4 = both_none to_cells steps n5.first in
     let n3 = both_none to_name cells n4.first in
     let n2 = both_none version name n3.first in
+    let version_is = first_outside-none (range (pos 1) (pos 1)) [] e.version [] (option_map-none (OutOfRange Version) _ n2.first) in
     let named = name_from_none e.name.items (option_map-none (OutOfRange Name) _ n2.second) in
     let nx = first_outside-none cell_count (cell_count ∷ []) e.nx (e.ny ∷ []) (option_map-none (OutOfRange Cells) _ n3.second) in
     let ny = first_outside-none cell_count [] e.ny [] nx.others in
@@ -107,6 +108,7 @@ in_range e none =
     let grid = first_outside-none (even_range (pos 4) (pos 256)) [] e.max_grid_size [] (option_map-none (OutOfRange MaxGridSize) _ n8.second) in
     let rows = rows_from_none e.blocks.items (option_map-none (OutOfRange Blocks) _ n9.second) in
     record {
+      version = same_from_both e.version (pos 1) version_is.here;
       named = named.named;
       short_name = named.short;
       name_bytes = named.proper;

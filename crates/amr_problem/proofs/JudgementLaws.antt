@@ -1,9 +1,10 @@
 -- From the entries of a table to its problem.
-use Rattle.std.proofs.Common.{◌≡◌, ◌∙◌, ap, refl, ℤ, List, [], ◌∷◌, ◌++◌, Option, Some, None}
+use Rattle.std.proofs.Common.{◌≡◌, ◌∙◌, sym, ap, refl, ℤ, List, [], ◌∷◌, ◌++◌, map, Option, Some, None}
 use Rattle.std.specs.Option.{option_or}
 use Rattle.toml.specs.Data.{Members}
 use Rattle.amr_def.specs.declared.problem.Problem.{Problem}
 use Rattle.amr_problem.specs.declared.entries.Entries.{Entries}
+use Rattle.amr_problem.specs.Fields.{sides_numbers, block_numbers}
 use Rattle.amr_problem.specs.Faults.{unknown_key, missing_key, wrong_kind, fault_in}
 use Rattle.amr_problem.specs.Entries.{IsReadOf, IsInRange, HasEntries, range_fault, entry_fault}
 use Rattle.amr_problem.specs.Judgement.{HasKeys}
@@ -23,14 +24,18 @@ four_sides : {a b c d : ℤ} {xs ys : List ℤ} → a ∷ b ∷ [] ≡ xs → c 
 four_sides x y = rw (← x, ← y)
 
 pub has_keys : (table : Members) (e : Entries) (p : Problem) → IsReadOf table e → IsInRange e → HasEntries e p → HasKeys table p
-has_keys table e p r i h = record {
-  name = r.name ∙ ap Some h.name;
-  cells = r.cells ∙ rw (h.nx, h.ny);
-  steps = r.steps ∙ rw h.steps;
-  courant = r.courant ∙ rw (h.cx, h.cy, h.d);
-  sides = r.sides ∙ ap Some (four_sides h.x_sides h.y_sides);
-  max_level = r.max_level ∙ rw (i.max_level, h.max_level);
-  max_grid_size = r.max_grid_size ∙ ap Some h.max_grid_size;
-  blocks = r.blocks ∙ ap Some h.blocks;
-  absent = h.absent;
-}
+has_keys table e p r i h =
+    let v = h.values in
+    let q = h.has in
+    record {
+      version = r.version ∙ rw (v.version, q.version);
+      name = r.name ∙ ap Some (v.name ∙ sym q.name);
+      cells = r.cells ∙ rw (v.nx, v.ny, q.nx, q.ny);
+      steps = r.steps ∙ rw (v.steps, q.steps);
+      courant = r.courant ∙ rw (v.cx, v.cy, v.d, q.cx, q.cy, q.d);
+      sides = r.sides ∙ ap Some (four_sides (v.x_sides ∙ ap sides_numbers (sym q.x_sides)) (v.y_sides ∙ ap sides_numbers (sym q.y_sides)));
+      max_level = r.max_level ∙ rw (i.max_level, q.max_level);
+      max_grid_size = r.max_grid_size ∙ rw (v.max_grid_size, q.max_grid_size);
+      blocks = r.blocks ∙ ap Some (v.blocks ∙ ap (map block_numbers) (sym q.blocks));
+      absent = q.absent;
+    }

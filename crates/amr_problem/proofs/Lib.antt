@@ -6,3 +6,4 @@ pub mod ProblemLaws
 pub mod EntryLaws
 pub mod JudgementLaws
 pub mod PlainLaws
+pub mod OneProblem

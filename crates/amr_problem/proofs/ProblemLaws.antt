@@ -1,21 +1,21 @@
 -- From entries without a fault to the limits of a problem.
-use Rattle.std.proofs.Common.{◌≡◌, ◌∙◌, sym, ap, refl, ℕ, ◌+◌, ◌%◌, ◌≤◌, ◌^◌, true, false, le-leb, ℤ, pos, ◌≤ℤ◌, int_lt, unsigned_abs, inl, inr, List, [], ◌∷◌, map, length, None, is_none, arith}
+use Rattle.std.proofs.Common.{◌≡◌, ◌∙◌, sym, refl, ℕ, ◌+◌, ◌%◌, ◌≤◌, ◌^◌, true, false, le-leb, ℤ, pos, ◌≤ℤ◌, int_lt, unsigned_abs, inl, inr, List, [], ◌∷◌, map, length, None, is_none, arith}
 use Rattle.std.proofs.lemmas.Bool.{cases_Bool, and_parts, eqb-true}
 use Rattle.std.proofs.lemmas.Int.{ints}
 use Rattle.std.proofs.lemmas.List.{length-map}
 use Rattle.std.proofs.Math.Nat.{mod-one}
 use Rattle.std.specs.List.{list_all}
-use Rattle.amr_def.specs.declared.problem.Problem.{Problem}
 use Rattle.amr_def.specs.declared.problem.Block.{Block}
 use Rattle.amr_def.specs.declared.problem.Sides.{Sides}
 use Rattle.amr_def.specs.declared.problem.Sides.TheVariants.{Periodic, Open}
-use Rattle.amr_def.specs.Limits.{Limits, is_block, has_inflows}
+use Rattle.amr_def.specs.Limits.{is_block, has_inflows}
 use Rattle.amr_problem.specs.declared.entries.Entries.{Entries}
+use Rattle.amr_problem.specs.declared.problem.Parts.{Parts}
 use Rattle.amr_problem.specs.declared.key.Key.TheVariants.{Blocks}
 use Rattle.amr_problem.specs.Keys.{ranges_of, range, coordinate, is_even, first_outside}
 use Rattle.amr_problem.specs.Fields.{sides_numbers, block_numbers}
 use Rattle.amr_problem.specs.Faults.{courant_over, is_periodic, differ, sides_differ, is_inside}
-use Rattle.amr_problem.specs.Entries.{IsSide, IsClean, HasEntries, HasParts}
+use Rattle.amr_problem.specs.Entries.{IsSide, IsClean, AreValues, AreWithinLimits}
 use Rattle.amr_problem.proofs.FirstSome.{option_map-none}
 use Rattle.amr_problem.proofs.RangeLaws.{first_outside-none}
 use Rattle.amr_problem.proofs.Shapes.{none_from_test, position-none}
@@ -89,59 +89,44 @@ blocks_inside nx ny (b ∷ bs) inside in_range =
     let (here', others') = and_parts (is_none (first_outside (ranges_of Blocks) (block_numbers b))) (list_all (λ row. is_none (first_outside (ranges_of Blocks) row)) (map block_numbers bs)) in_range in
     rw (one_block nx ny b here (none_from_test _ here'), blocks_inside nx ny bs others others')
 
--- the values of a problem are those of the entries
-pub record AreValues (e : Entries) (name : List ℕ) (nx ny steps : ℕ) (cx cy : ℤ) (d : ℕ) (x_sides y_sides : Sides) (max_grid_size : ℕ) (blocks : List Block) : Type 0 where
-  pub name_is : e.name.items ≡ name
-  pub nx_is : e.nx ≡ pos nx
-  pub ny_is : e.ny ≡ pos ny
-  pub steps_is : e.steps ≡ pos steps
-  pub cx_is : e.cx ≡ cx
-  pub cy_is : e.cy ≡ cy
-  pub d_is : e.d ≡ pos d
-  pub x_sides_are : e.x_low ∷ e.x_high ∷ [] ≡ sides_numbers x_sides
-  pub y_sides_are : e.y_low ∷ e.y_high ∷ [] ≡ sides_numbers y_sides
-  pub max_grid_size_is : e.max_grid_size ≡ pos max_grid_size
-  pub blocks_are : e.blocks.items ≡ map block_numbers blocks
-
-pub limits : (e : Entries) (name : List ℕ) (nx ny steps : ℕ) (cx cy : ℤ) (d : ℕ) (x_sides y_sides : Sides) (max_grid_size : ℕ) (blocks : List Block) → IsClean e
-    → AreValues e name nx ny steps cx cy d x_sides y_sides max_grid_size blocks
-    → Limits 1 name nx ny steps cx cy d [] [] x_sides y_sides 0 [] 1 70 2 2 2 max_grid_size blocks
-limits e name nx ny steps cx cy d x_sides y_sides max_grid_size blocks clean v =
+pub limits : (e : Entries) (parts : Parts) → IsClean e → AreValues e parts → AreWithinLimits parts
+limits e parts clean v =
     let r = clean.in_range in
     let inside : list_all (is_inside (e.nx ∷ e.ny ∷ [])) e.blocks.items ≡ true = position-none (is_inside (e.nx ∷ e.ny ∷ [])) e.blocks.items (option_map-none _ _ clean.inside) in
-    let inside' : list_all (is_inside (pos nx ∷ pos ny ∷ [])) (map block_numbers blocks) ≡ true = rw (v.nx_is, v.ny_is, v.blocks_are) at inside in
-    let in_range' : list_all (λ row. is_none (first_outside (ranges_of Blocks) row)) (map block_numbers blocks) ≡ true = rw v.blocks_are at r.blocks in
-    let stable : pos (unsigned_abs cx + unsigned_abs cy) ≤ℤ pos d = rw (v.cx_is, v.cy_is, v.d_is) at (stable-from_none e.cx e.cy e.d clean.stable) in
-    let least_nx : pos 2 ≤ℤ pos nx = rw v.nx_is at r.least_nx in
-    let greatest_nx : pos nx ≤ℤ pos 256 = rw v.nx_is at r.greatest_nx in
-    let least_ny : pos 2 ≤ℤ pos ny = rw v.ny_is at r.least_ny in
-    let greatest_ny : pos ny ≤ℤ pos 256 = rw v.ny_is at r.greatest_ny in
-    let greatest_steps : pos steps ≤ℤ pos 4096 = rw v.steps_is at r.greatest_steps in
-    let least_d : pos 1 ≤ℤ pos d = rw v.d_is at r.least_d in
-    let greatest_d : pos d ≤ℤ pos 1024 = rw v.d_is at r.greatest_d in
-    let least_grid : pos 4 ≤ℤ pos max_grid_size = rw v.max_grid_size_is at r.least_max_grid_size in
-    let greatest_grid : pos max_grid_size ≤ℤ pos 256 = rw v.max_grid_size_is at r.greatest_max_grid_size in
-    let even : is_even (pos max_grid_size) ≡ true = rw v.max_grid_size_is at r.even_max_grid_size in
-    let many : length (map block_numbers blocks) ≤ 256 = rw v.blocks_are at r.block_count in
+    let inside' : list_all (is_inside (pos parts.nx ∷ pos parts.ny ∷ [])) (map block_numbers parts.blocks) ≡ true = rw (v.nx, v.ny, v.blocks) at inside in
+    let in_range' : list_all (λ row. is_none (first_outside (ranges_of Blocks) row)) (map block_numbers parts.blocks) ≡ true = rw v.blocks at r.blocks in
+    let stable : pos (unsigned_abs parts.cx + unsigned_abs parts.cy) ≤ℤ pos parts.d = rw (v.cx, v.cy, v.d) at (stable-from_none e.cx e.cy e.d clean.stable) in
+    let least_nx : pos 2 ≤ℤ pos parts.nx = rw v.nx at r.least_nx in
+    let greatest_nx : pos parts.nx ≤ℤ pos 256 = rw v.nx at r.greatest_nx in
+    let least_ny : pos 2 ≤ℤ pos parts.ny = rw v.ny at r.least_ny in
+    let greatest_ny : pos parts.ny ≤ℤ pos 256 = rw v.ny at r.greatest_ny in
+    let greatest_steps : pos parts.steps ≤ℤ pos 4096 = rw v.steps at r.greatest_steps in
+    let least_d : pos 1 ≤ℤ pos parts.d = rw v.d at r.least_d in
+    let greatest_d : pos parts.d ≤ℤ pos 1024 = rw v.d at r.greatest_d in
+    let least_grid : pos 4 ≤ℤ pos parts.max_grid_size = rw v.max_grid_size at r.least_max_grid_size in
+    let greatest_grid : pos parts.max_grid_size ≤ℤ pos 256 = rw v.max_grid_size at r.greatest_max_grid_size in
+    let even : is_even (pos parts.max_grid_size) ≡ true = rw v.max_grid_size at r.even_max_grid_size in
+    let many : length (map block_numbers parts.blocks) ≤ 256 = rw v.blocks at r.block_count in
+    let version : pos parts.version ≡ pos 1 = rw v.version at r.version in
     record {
-      known_version = refl;
-      named = rw v.name_is at r.named;
-      short_name = rw v.name_is at r.short_name;
-      name_bytes = rw v.name_is at r.name_bytes;
+      known_version = omega (arith, ints);
+      named = rw v.name at r.named;
+      short_name = rw v.name at r.short_name;
+      name_bytes = rw v.name at r.name_bytes;
       least_nx = omega (arith, ints);
       greatest_nx = omega (arith, ints);
       least_ny = omega (arith, ints);
       greatest_ny = omega (arith, ints);
       greatest_steps = omega (arith, ints);
-      greatest_cx = rw v.cx_is at r.size_cx;
-      greatest_cy = rw v.cy_is at r.size_cy;
+      greatest_cx = rw v.cx at r.size_cx;
+      greatest_cy = rw v.cy at r.size_cy;
       least_d = omega (arith, ints);
       greatest_d = omega (arith, ints);
       rows_shear = refl;
       columns_shear = refl;
       stable = omega (arith, ints);
-      x_inflows = inflows_fit x_sides e.x_low e.x_high v.x_sides_are r.x_low r.x_high;
-      y_inflows = inflows_fit y_sides e.y_low e.y_high v.y_sides_are r.y_low r.y_high;
+      x_inflows = inflows_fit parts.x_sides e.x_low e.x_high v.x_sides r.x_low r.x_high;
+      y_inflows = inflows_fit parts.y_sides e.y_low e.y_high v.y_sides r.y_low r.y_high;
       greatest_max_level = omega arith;
       tag_count = refl;
       thresholds = refl;
@@ -153,30 +138,11 @@ limits e name nx ny steps cx cy d x_sides y_sides max_grid_size blocks clean v =
       least_regrid_int = omega arith;
       greatest_regrid_int = omega arith;
       blocking_factor = refl;
-      x_blocks = mod-one nx;
-      y_blocks = mod-one ny;
+      x_blocks = mod-one parts.nx;
+      y_blocks = mod-one parts.ny;
       least_max_grid_size = omega (arith, ints);
       greatest_max_grid_size = omega (arith, ints);
-      even_max_grid_size = eqb-true (max_grid_size % 2) 0 even;
-      block_count = omega (arith, length-map blocks block_numbers);
-      blocks_inside = blocks_inside nx ny blocks inside' in_range';
+      even_max_grid_size = eqb-true (parts.max_grid_size % 2) 0 even;
+      block_count = omega (arith, length-map parts.blocks block_numbers);
+      blocks_inside = blocks_inside parts.nx parts.ny parts.blocks inside' in_range';
     }
-
--- a problem of these values has what the entries say
-pub has_entries : (e : Entries) (name : List ℕ) (nx ny steps : ℕ) (cx cy : ℤ) (d : ℕ) (x_sides y_sides : Sides) (max_grid_size : ℕ) (blocks : List Block) (p : Problem)
-    → AreValues e name nx ny steps cx cy d x_sides y_sides max_grid_size blocks → HasParts name nx ny steps cx cy d x_sides y_sides max_grid_size blocks p → HasEntries e p
-has_entries e name nx ny steps cx cy d x_sides y_sides max_grid_size blocks p v h = record {
-  name = v.name_is ∙ sym h.name_is;
-  nx = v.nx_is ∙ ap pos (sym h.nx_is);
-  ny = v.ny_is ∙ ap pos (sym h.ny_is);
-  steps = v.steps_is ∙ ap pos (sym h.steps_is);
-  cx = v.cx_is ∙ sym h.cx_is;
-  cy = v.cy_is ∙ sym h.cy_is;
-  d = v.d_is ∙ ap pos (sym h.d_is);
-  x_sides = v.x_sides_are ∙ ap sides_numbers (sym h.x_sides_are);
-  y_sides = v.y_sides_are ∙ ap sides_numbers (sym h.y_sides_are);
-  max_level = h.max_level_is;
-  max_grid_size = v.max_grid_size_is ∙ ap pos (sym h.max_grid_size_is);
-  blocks = v.blocks_are ∙ ap (map block_numbers) (sym h.blocks_are);
-  absent = h.absent;
-}

@@ -1,5 +1,5 @@
 -- What a problem writes at its keys.
-use Rattle.std.specs.Prelude.{◌≡◌, ◌≤◌, ℕ, ℤ, pos, negsuc, ◌≤ℤ◌, unsigned_abs, true, Option, Some, None, map, option_map, is_none, List, [], ◌∷◌, length}
+use Rattle.std.specs.Prelude.{◌≡◌, ◌≤◌, ℤ, pos, negsuc, ◌≤ℤ◌, unsigned_abs, true, Option, Some, None, map, option_map, is_none, List, [], ◌∷◌, length}
 use Rattle.std.specs.List.{list_all}
 use Rattle.std.specs.Option.{option_or}
 use Rattle.toml.specs.Data.{Members}
@@ -9,9 +9,8 @@ use Rattle.amr_problem.specs.declared.fault.ProblemFault.TheVariants.{OutOfRange
 use Rattle.amr_problem.specs.declared.key.Key.{Key}
 use Rattle.amr_problem.specs.declared.key.Key.TheVariants.{Version, Name, Cells, Steps, Courant, Sides, MaxLevel, MaxGridSize, Blocks}
 use Rattle.amr_def.specs.declared.problem.Problem.{Problem}
-use Rattle.amr_def.specs.declared.problem.Block.{Block}
-use Rattle.amr_def.specs.declared.problem.Sides as axis
-use Rattle.amr_def.specs.Limits.{is_name_byte}
+use Rattle.amr_def.specs.Limits.{Limits, is_name_byte}
+use Rattle.amr_problem.specs.declared.problem.Parts.{Parts}
 use Rattle.amr_problem.specs.Keys.{range, ranges_of, first_outside, is_even}
 use Rattle.amr_problem.specs.Fields.{sides_numbers, block_numbers, HasDefaults}
 use Rattle.amr_problem.specs.Faults.{courant_over, is_periodic, sides_differ, block_outside, first_some, text_outside, rows_outside}
@@ -66,6 +65,7 @@ pub record IsSide (side : ℤ) : Type 0 where
 
 -- every entry that is used further on is in its range
 pub record IsInRange (e : Entries) : Type 0 where
+  pub version : e.version ≡ pos 1
   pub named : 1 ≤ length e.name.items
   pub short_name : length e.name.items ≤ 32
   pub name_bytes : list_all is_name_byte e.name.items ≡ true
@@ -98,34 +98,44 @@ pub record IsClean (e : Entries) : Type 0 where
   pub y_alike : is_periodic e.y_low ≡ is_periodic e.y_high
   pub inside : block_outside (e.nx ∷ e.ny ∷ []) e.blocks.items ≡ None
 
--- the problem has what the entries say
-pub record HasEntries (e : Entries) (p : Problem) : Type 0 where
-  pub name : e.name.items ≡ p.name
-  pub nx : e.nx ≡ pos p.nx
-  pub ny : e.ny ≡ pos p.ny
-  pub steps : e.steps ≡ pos p.steps
-  pub cx : e.cx ≡ p.cx
-  pub cy : e.cy ≡ p.cy
-  pub d : e.d ≡ pos p.d
-  pub x_sides : e.x_low ∷ e.x_high ∷ [] ≡ sides_numbers p.x_sides
-  pub y_sides : e.y_low ∷ e.y_high ∷ [] ≡ sides_numbers p.y_sides
-  pub max_level : p.max_level ≡ 0
-  pub max_grid_size : e.max_grid_size ≡ pos p.max_grid_size
-  pub blocks : e.blocks.items ≡ map block_numbers p.blocks
-  pub absent : HasDefaults p
+-- the parts are what the entries say
+pub record AreValues (e : Entries) (parts : Parts) : Type 0 where
+  pub version : e.version ≡ pos parts.version
+  pub name : e.name.items ≡ parts.name
+  pub nx : e.nx ≡ pos parts.nx
+  pub ny : e.ny ≡ pos parts.ny
+  pub steps : e.steps ≡ pos parts.steps
+  pub cx : e.cx ≡ parts.cx
+  pub cy : e.cy ≡ parts.cy
+  pub d : e.d ≡ pos parts.d
+  pub x_sides : e.x_low ∷ e.x_high ∷ [] ≡ sides_numbers parts.x_sides
+  pub y_sides : e.y_low ∷ e.y_high ∷ [] ≡ sides_numbers parts.y_sides
+  pub max_grid_size : e.max_grid_size ≡ pos parts.max_grid_size
+  pub blocks : e.blocks.items ≡ map block_numbers parts.blocks
+
+-- the parts are within the limits of a problem of one level
+abbrev pub AreWithinLimits : Parts → Type 0
+AreWithinLimits q = Limits q.version q.name q.nx q.ny q.steps q.cx q.cy q.d [] [] q.x_sides q.y_sides 0 [] 1 70 2 2 2 q.max_grid_size q.blocks
 
 -- the problem of one level that has these parts
-pub record HasParts (name : List ℕ) (nx ny steps : ℕ) (cx cy : ℤ) (d : ℕ) (x_sides y_sides : axis.Sides) (max_grid_size : ℕ) (blocks : List Block) (p : Problem) : Type 0 where
-  pub name_is : p.name ≡ name
-  pub nx_is : p.nx ≡ nx
-  pub ny_is : p.ny ≡ ny
-  pub steps_is : p.steps ≡ steps
-  pub cx_is : p.cx ≡ cx
-  pub cy_is : p.cy ≡ cy
-  pub d_is : p.d ≡ d
-  pub x_sides_are : p.x_sides ≡ x_sides
-  pub y_sides_are : p.y_sides ≡ y_sides
-  pub max_level_is : p.max_level ≡ 0
-  pub max_grid_size_is : p.max_grid_size ≡ max_grid_size
-  pub blocks_are : p.blocks ≡ blocks
+pub record HasParts (parts : Parts) (p : Problem) : Type 0 where
+  pub version : p.version ≡ parts.version
+  pub name : p.name ≡ parts.name
+  pub nx : p.nx ≡ parts.nx
+  pub ny : p.ny ≡ parts.ny
+  pub steps : p.steps ≡ parts.steps
+  pub cx : p.cx ≡ parts.cx
+  pub cy : p.cy ≡ parts.cy
+  pub d : p.d ≡ parts.d
+  pub x_sides : p.x_sides ≡ parts.x_sides
+  pub y_sides : p.y_sides ≡ parts.y_sides
+  pub max_level : p.max_level ≡ 0
+  pub max_grid_size : p.max_grid_size ≡ parts.max_grid_size
+  pub blocks : p.blocks ≡ parts.blocks
   pub absent : HasDefaults p
+
+-- the problem has what the entries say
+pub record HasEntries (e : Entries) (p : Problem) : Type 0 where
+  pub parts : Parts
+  pub values : AreValues e parts
+  pub has : HasParts parts p

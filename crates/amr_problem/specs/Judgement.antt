@@ -3,7 +3,7 @@ use Rattle.std.specs.Prelude.{◌≡◌, ℕ, pos, List, [], ◌∷◌, ◌++◌
 use Rattle.toml.specs.Data.{Members}
 use Rattle.amr_def.specs.declared.problem.Problem.{Problem}
 use Rattle.amr_problem.specs.declared.fault.ProblemFault.{ProblemFault}
-use Rattle.amr_problem.specs.declared.key.Key.TheVariants.{Name, Cells, Steps, Courant, Sides, MaxLevel, MaxGridSize, Blocks}
+use Rattle.amr_problem.specs.declared.key.Key.TheVariants.{Version, Name, Cells, Steps, Courant, Sides, MaxLevel, MaxGridSize, Blocks}
 use Rattle.amr_problem.specs.Document.{table_of}
 use Rattle.amr_problem.specs.Fields.{sides_numbers, block_numbers, HasDefaults}
 use Rattle.amr_problem.specs.Values.{number_at, text_at, numbers_at, rows_at}
@@ -11,6 +11,7 @@ use Rattle.amr_problem.specs.Faults.{first_fault}
 
 -- the problem has what stands at the keys of the table
 pub record HasKeys (table : Members) (p : Problem) : Type 0 where
+  pub version : number_at table Version ≡ Some (pos p.version)
   pub name : text_at table Name ≡ Some p.name
   pub cells : numbers_at 2 table Cells ≡ Some (pos p.nx ∷ pos p.ny ∷ [])
   pub steps : number_at table Steps ≡ Some (pos p.steps)

@@ -5,3 +5,4 @@ pub mod Fields
 pub mod Faults
 pub mod Entries
 pub mod Judgement
+pub mod Laws

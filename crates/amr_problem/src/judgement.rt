@@ -23,7 +23,7 @@ mod tests;
 /// The greatest number of bytes of a problem.
 pub const MOST_BYTES: usize = 65536;
 
-/// The problem that the bytes are, or their fault. Want of memory comes at any bytes.
+/// The problem that the bytes are, or their fault. Memory may run out at any bytes.
 ///
 /// A problem is UTF-8 TOML with the keys of the table and no other. Of several faults the first in their order comes. (profile)
 #[tactic(auto, unfolding(crate::specs::Judgement::fault_of))]

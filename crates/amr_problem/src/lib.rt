@@ -4,6 +4,7 @@
 //! - `specs/Values.antt`: the values of a document, each read by the kind of its key.
 //! - `specs/Faults.antt`: the faults, in the order in which they are looked for.
 //! - `specs/Judgement.antt`: the fault of bytes, and the problem that they are.
+//! - `specs/Laws.antt`: that bytes are one problem at most.
 #![tactic(auto)]
 
 mod checks;
@@ -13,6 +14,7 @@ mod fault;
 mod judgement;
 mod key;
 mod key_text;
+mod laws;
 mod problem;
 mod ranges;
 mod values;
@@ -21,3 +23,4 @@ pub use fault::{JudgeFault, ProblemFault};
 pub use judgement::judge;
 pub use key::Key;
 pub use key_text::KeyText;
+pub use laws::bytes_are_one_problem;

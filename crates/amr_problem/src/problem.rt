@@ -2,11 +2,10 @@
 
 ghost use Rattle.std.specs.Prelude.{◌≡◌, ◌≤◌, ◌≤ℤ◌, unsigned_abs, None, true, pos, IfOk, [], ◌∷◌, map, is_none};
 ghost use Rattle.std.specs.List.{list_all};
-ghost use Rattle.amr_def.specs.Limits.{Limits};
 ghost use Rattle.amr_problem.specs.Keys.{ranges_of, first_outside};
 ghost use Rattle.amr_problem.specs.Fields.{sides_numbers, block_numbers};
 ghost use Rattle.amr_problem.specs.Faults.{is_periodic};
-ghost use Rattle.amr_problem.specs.Entries.{IsSide, IsClean, HasEntries, HasParts};
+ghost use Rattle.amr_problem.specs.Entries.{IsSide, IsClean, HasEntries, AreValues, AreWithinLimits, HasParts};
 
 use crate::checks::is_periodic;
 use crate::entries::Entries;
@@ -14,68 +13,71 @@ use crate::key::Key;
 use amr_def::{Block, Blocks, Name, Problem, Shear, Sides, Thresholds};
 use std::alloc::{AllocError, Global};
 
+/// What a problem of one level has beside what stands for the keys that there are none of yet.
+#[derive(Drop)]
+pub struct Parts {
+    pub version: u32,
+    pub name: Name,
+    pub nx: u32,
+    pub ny: u32,
+    pub steps: u32,
+    pub cx: i32,
+    pub cy: i32,
+    pub d: u32,
+    pub x_sides: Sides,
+    pub y_sides: Sides,
+    pub max_grid_size: u32,
+    pub blocks: Blocks,
+}
+
 /// The problem that the entries are.
 pub fn problem(alloc: Global, entries: Entries) -> Result<Problem, AllocError>
     requires { IsClean entries }
     ensures { IfOk result (HasEntries entries) }
 {
-    let blocks = blocks(alloc, entries.blocks.as_slice())?;
-    let nx = small(entries.nx);
-    let ny = small(entries.ny);
-    let steps = small(entries.steps);
-    let d = small(entries.d);
-    let max_grid_size = small(entries.max_grid_size);
-    let x_sides = sides(entries.x_low, entries.x_high);
-    let y_sides = sides(entries.y_low, entries.y_high);
-    let cx = signed(entries.cx);
-    let cy = signed(entries.cy);
-    Ok(assemble(
-        alloc,
-        Name::make(entries.name),
-        nx,
-        ny,
-        steps,
-        cx,
-        cy,
-        d,
-        x_sides,
-        y_sides,
-        max_grid_size,
-        Blocks::make(blocks),
-    ))
+    let parts = parts_of(alloc, entries)?;
+    Ok(assemble(alloc, parts))
 }
 
-/// A problem of one level.
-fn assemble(
-    alloc: Global,
-    name: Name,
-    nx: u32,
-    ny: u32,
-    steps: u32,
-    cx: i32,
-    cy: i32,
-    d: u32,
-    x_sides: Sides,
-    y_sides: Sides,
-    max_grid_size: u32,
-    blocks: Blocks,
-) -> Problem
-    requires { Limits 1 name nx ny steps cx cy d [] [] x_sides y_sides 0 [] 1 70 2 2 2 max_grid_size blocks }
-    ensures { HasParts name nx ny steps cx cy d x_sides y_sides max_grid_size blocks result }
+fn parts_of(alloc: Global, entries: Entries) -> Result<Parts, AllocError>
+    requires { IsClean entries }
+    ensures { IfOk result (AreValues entries) }
+{
+    let blocks = blocks(alloc, entries.blocks.as_slice())?;
+    Ok(Parts {
+        version: small(entries.version),
+        name: Name::make(entries.name),
+        nx: small(entries.nx),
+        ny: small(entries.ny),
+        steps: small(entries.steps),
+        cx: signed(entries.cx),
+        cy: signed(entries.cy),
+        d: small(entries.d),
+        x_sides: sides(entries.x_low, entries.x_high),
+        y_sides: sides(entries.y_low, entries.y_high),
+        max_grid_size: small(entries.max_grid_size),
+        blocks: Blocks::make(blocks),
+    })
+}
+
+// The problem of these parts, with one level.
+fn assemble(alloc: Global, parts: Parts) -> Problem
+    requires { AreWithinLimits parts }
+    ensures { HasParts parts result }
 {
     Problem {
-        version: 1,
-        name,
-        nx,
-        ny,
-        steps,
-        cx,
-        cy,
-        d,
+        version: parts.version,
+        name: parts.name,
+        nx: parts.nx,
+        ny: parts.ny,
+        steps: parts.steps,
+        cx: parts.cx,
+        cy: parts.cy,
+        d: parts.d,
         shear_x: Shear::make(Vec::new(alloc)),
         shear_y: Shear::make(Vec::new(alloc)),
-        x_sides,
-        y_sides,
+        x_sides: parts.x_sides,
+        y_sides: parts.y_sides,
         max_level: 0,
         tag: Thresholds::make(Vec::new(alloc)),
         n_error_buf: 1,
@@ -83,8 +85,8 @@ fn assemble(
         min_width: 2,
         regrid_int: 2,
         blocking: 2,
-        max_grid_size,
-        blocks,
+        max_grid_size: parts.max_grid_size,
+        blocks: parts.blocks,
     }
 }
 
