@@ -31,7 +31,7 @@ impl Line {
         }
     }
 
-    /// Adds a word at the end. After want of memory the line is as before.
+    /// Adds a word at the end. If allocation fails, the line is as before.
     pub fn push(&mut self, word: &str) -> Result<(), NoMemory>
         ensures added { OnOk result (self.new ≡ self.old ++ word.now ∷ []) }
         ensures same { OnErr result (self.new ≡ self.old) }

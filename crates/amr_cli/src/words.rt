@@ -33,8 +33,8 @@ impl From<AllocError> for CliFault {
     }
 }
 
-/// The command that the words are. `Usage` comes exactly where they are none of the set; want of memory may come at any time
-/// and is tied to no cause.
+/// The command that the words are. `Usage` comes exactly where they are none of the set. Memory may run out at any time;
+/// that is tied to no cause.
 pub fn parse(alloc: Global, line: &Line) -> Result<Command, CliFault>
     ensures command { IfOk result (λ command. command_of line.now ≡ Some command) }
     ensures usage { IsErrOf result CliFault.Usage → command_of line.now ≡ None }
