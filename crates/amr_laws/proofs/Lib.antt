@@ -15,4 +15,7 @@ pub mod NearBoxes
 pub mod Sizes
 pub mod Products
 pub mod Substeps
+pub mod Signs
+pub mod Sides
+pub mod LedgerLevels
 mod SubstepRows

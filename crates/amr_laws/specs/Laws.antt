@@ -1,5 +1,5 @@
 -- Laws of states with any number of levels, each of which a call of this crate ensures.
-use Rattle.std.specs.Prelude.{◌≡◌, ℕ, suc, cond, ◌+◌, ◌*◌, ◌/◌, ◌^◌, ◌<◌, ◌≤◌, ℤ, pos, ◌+ℤ◌, ◌-ℤ◌, ◌≤ℤ◌, neg_ℤ, List, [], ◌∷◌, map, unsigned_abs, IsFalse, IsSome}
+use Rattle.std.specs.Prelude.{◌≡◌, ℕ, suc, cond, ◌+◌, ◌*◌, ◌/◌, ◌^◌, ◌<◌, ◌≤◌, ℤ, pos, ◌+ℤ◌, ◌-ℤ◌, ◌≤ℤ◌, neg_ℤ, List, [], ◌∷◌, length, map, unsigned_abs, IsFalse, IsSome}
 use Rattle.amr_box.specs.declared.Cell.{Cell}
 use Rattle.amr_box.specs.declared.Face.{Face}
 use Rattle.amr_box.specs.declared.Axis.{Axis}
@@ -10,7 +10,8 @@ use Rattle.amr_def.specs.State.{Masses, Level, State, no_masses, level_at, masse
 use Rattle.amr_def.specs.Value.{value_at}
 use Rattle.amr_def.specs.Flux.{Fluxes, face, low_cell, high_cell, courant, flow, flux_at, net}
 use Rattle.amr_def.specs.LevelStep.{effective, Stepped, step, over_finer}
-use Rattle.amr_def.specs.Ledger.{first_of}
+use Rattle.amr_def.specs.Ledger.{first_of, inflow, outflow}
+use Rattle.amr_def.specs.Laws.{step_fluxes}
 use Rattle.amr_def.specs.Regrid.{share, regrid}
 use Rattle.amr_def.specs.Run.{start, next, finish, run}
 use Rattle.amr_def.specs.Facts.{IsLevel, IsSound, IsHeld}
@@ -18,6 +19,7 @@ use Rattle.amr_def.specs.Plot.{plot}
 use Rattle.amr_laws.specs.GridSize.{AreLimits, with_grid_size}
 use Rattle.std.specs.List.{All}
 use Rattle.amr_laws.specs.Levels.{AreLevels, LiesInLevel, masses_of}
+use Rattle.amr_laws.specs.Sides.{inflow_beside, outflow_beside, over_levels}
 use Rattle.amr_laws.specs.Substeps.{IsSubstep, StepFits, after_step}
 
 -- ---- runs
@@ -135,6 +137,17 @@ LevelStepByRegisters = (p : Problem) (l : ℕ) (k fine : Level) (ks : List Level
     → let r : Stepped = step p l (k.masses ∷ fine.masses ∷ masses_of ks) old in
     let plain : Fluxes = flux_at p l k.masses old in
     pos (mass_of (first_of r.levels) c) ≡ cond (is_covered fine.masses c) (pos (children_mass (second_of r.levels) c)) ((pos (mass_of k.masses c) +ℤ net plain c) +ℤ net (λ f. r.fluxes f -ℤ plain f) c)
+
+-- ---- the ledger by levels
+
+-- what flows into the domain in the step from a sound state is what flows in through open sides beside cells that no finer
+-- level covers, over all levels and the steps that each makes
+abbrev pub InflowByLevels : Type 0
+InflowByLevels = (p : Problem) (s : State) → IsSound p s → inflow p (step_fluxes p s) ≡ over_levels (inflow_beside p) p (length (masses_of s.levels)) 0 (masses_of s.levels) no_masses
+
+-- and the same of what flows out
+abbrev pub OutflowByLevels : Type 0
+OutflowByLevels = (p : Problem) (s : State) → IsSound p s → outflow p (step_fluxes p s) ≡ over_levels (outflow_beside p) p (length (masses_of s.levels)) 0 (masses_of s.levels) no_masses
 
 -- ---- steps within a step
 

@@ -1,4 +1,5 @@
 pub mod GridSize
 pub mod Levels
 pub mod Substeps
+pub mod Sides
 pub mod Laws

@@ -2,7 +2,7 @@
 //! empty body, and what it ensures is the law.
 #![tactic(auto)]
 
-ghost use Rattle.amr_laws.specs.Laws.{BoxesLieInLevel, FinishIsSound, FourFluxesAreWithinShare, LevelStepByRegisters, LevelStepGivesMasses, LevelStepIsExact, LevelStepIsTwoFiner, LevelStepKeepsBoxes, LevelStepKeepsLevels, NextIsSound, PlotIgnoresGridSize, ProductsAreSmall, RefluxIsEffectiveStep, RegistersLieBesideCovered, RegridHoldsTags, RegridKeepsMasses, RegridKeepsSound, RunIgnoresGridSize, RunIsSound, SharesAddUp, StartIsSound, SubstepsAreOfLevels, SubstepsFit, ValuesAreSmall};
+ghost use Rattle.amr_laws.specs.Laws.{BoxesLieInLevel, FinishIsSound, FourFluxesAreWithinShare, InflowByLevels, LevelStepByRegisters, LevelStepGivesMasses, LevelStepIsExact, LevelStepIsTwoFiner, LevelStepKeepsBoxes, LevelStepKeepsLevels, NextIsSound, OutflowByLevels, PlotIgnoresGridSize, ProductsAreSmall, RefluxIsEffectiveStep, RegistersLieBesideCovered, RegridHoldsTags, RegridKeepsMasses, RegridKeepsSound, RunIgnoresGridSize, RunIsSound, SharesAddUp, StartIsSound, SubstepsAreOfLevels, SubstepsFit, ValuesAreSmall};
 
 /// The start of a run is sound: nested, synced, bounded and telescoped, with boxes that have cells and rows of 64 bits.
 pub fn start_is_sound()
@@ -122,4 +122,11 @@ pub fn substeps_are_of_levels()
 /// 2^42 and sums below 2^52, and four fluxes take no more than a cell has.
 pub fn substeps_fit()
     ensures { SubstepsFit }
+{}
+
+/// What flows through open sides in the step from a sound state is what flows there beside cells that no finer level
+/// covers, over all levels and the steps that each makes. So the ledger's row is a sum of plain fluxes.
+pub fn ledger_by_levels()
+    ensures inflow { InflowByLevels }
+    ensures outflow { OutflowByLevels }
 {}
