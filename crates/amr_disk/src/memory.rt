@@ -1,5 +1,5 @@
 // A disk in memory, which keeps its calls.
-ghost use Rattle.std.specs.Prelude.{◌≡◌, ◌≤◌, ◌<◌, ◌+◌, ◌^◌, ◌-◌, true, drop, List, IfSome, [], ◌∷◌, ◌++◌, ◌&&◌, if◌then◌else◌, nat_le, nat_lt, Some, None, length, min, max, not, is_ok, vec_len, vec_capacity, IfOk, OnOk, IsTrue, option_map};
+ghost use Rattle.std.specs.Prelude.{◌≡◌, ◌≤◌, ◌<◌, ◌+◌, ◌^◌, ◌-◌, true, drop, List, IfSome, [], ◌∷◌, ◌++◌, ◌&&◌, if◌then◌else◌, nat_le, nat_lt, Some, None, length, min, max, not, is_ok, vec_len, vec_capacity, IfOk, OnOk, OnErr, IsTrue, option_map};
 ghost use Rattle.std.specs.Io.{ReadsAtMost};
 ghost use Rattle.amr_causes.specs.Causes.{HasCause, Rose};
 ghost use Rattle.amr_disk.specs.Calls.{Synced, seen_after, left_after, LeavesAt};
@@ -17,7 +17,8 @@ use amr_causes::NoMemory;
 use std::alloc::Global;
 
 /// A disk in memory. It fails at the calls of a list, from the call on at which it stops, and where its memory ends. All its memory is
-/// taken when it is made. A write that fails by the list or the stop still counts as written: a stop may leave anything of it.
+/// taken when it is made. A write that fails by the list or the stop still counts as written: a stop may leave anything of it. One that
+/// has no room is refused before any of it is written, so nothing of it is pending.
 #[derive(Drop)]
 pub struct MemDisk {
     made: Vec<u8>,
@@ -57,6 +58,7 @@ impl MemDisk {
         stop: Option<u64>,
     ) -> Result<MemDisk, NoMemory>
         ensures told { IfOk result (λ d. seen_of d ≡ Some bytes.now) }
+        ensures made { IfOk result (λ d. made_of d ≡ bytes.now) }
         ensures settled { IfOk result (λ d. Only (seen_of d) (leaves_of d (moment_of d))) }
         ensures faultless { IfOk result (λ d. faults_of d ≡ 0) }
         ensures unasked { IfOk result (λ d. asked_of d ≡ 0) }
@@ -82,6 +84,7 @@ impl MemDisk {
     /// Old and New leave each write that no sync followed undone or done; Filled leaves its byte in each of their ranges.
     pub fn leave(self, mode: Leave) -> MemDisk
         ensures image { seen_of result ≡ Some (left_after (part_of mode) (made_of self) (made_of self) (calls_in self)) }
+        ensures made { seen_of result ≡ Some (made_of result) }
         ensures possible { IfSome (seen_of result) (leaves_of self (moment_of self)) }
         ensures settled { Only (seen_of result) (leaves_of result (moment_of result)) }
         ensures faultless { faults_of result ≡ 0 }
@@ -145,6 +148,7 @@ impl MemDisk {
 
     // Counts a fault.
     fn fault(&mut self) -> DiskFault
+        ensures counted { faults_of self.new ≡ min (faults_of self.old + 1) (2 ^ 64 - 1) }
         ensures later { faults_of self.old ≤ faults_of self.new }
         ensures rose { Rose (faults_of self.old) (faults_of self.new) }
         ensures asked { asked_of self.new ≡ asked_of self.old }
@@ -230,10 +234,14 @@ impl Disk for MemDisk {
         ensures seen { seen_of self.new ≡ seen_of self.old }
         ensures images { Passes (moment_of self.old) (moment_of self.new) (leaves_of self.old) (leaves_of self.new) Same }
         ensures cause { HasCause (faults_of self.old) (faults_of self.new) result }
+        ensures no_fault { OnOk result (faults_of self.new ≡ faults_of self.old) }
+        ensures one_fault { OnErr result (faults_of self.new ≡ min (faults_of self.old + 1) (2 ^ 64 - 1)) }
         ensures answer { is_ok result ≡ not (is_refused (limits_of self.old) (asked_of self.new)) }
         ensures counted { asked_of self.new ≡ min (asked_of self.old + 1) (2 ^ 64 - 1) }
         ensures calls { calls_in self.new ≡ calls_in self.old }
         ensures limits { limits_of self.new ≡ limits_of self.old }
+        ensures made { made_of self.new ≡ made_of self.old }
+        ensures replayed { seen_of self.new ≡ Some (seen_after (made_of self.new) (calls_in self.new)) }
     {
         if self.refuses() {
             return Err(self.fault());
@@ -250,10 +258,14 @@ impl Disk for MemDisk {
         ensures seen { OnOk result (seen_of self.new ≡ option_map (written_at at bytes.now) (seen_of self.old)) }
         ensures images { Passes (moment_of self.old) (moment_of self.new) (leaves_of self.old) (leaves_of self.new) (Torn at (length bytes.now)) }
         ensures cause { HasCause (faults_of self.old) (faults_of self.new) result }
+        ensures no_fault { OnOk result (faults_of self.new ≡ faults_of self.old) }
+        ensures one_fault { OnErr result (faults_of self.new ≡ min (faults_of self.old + 1) (2 ^ 64 - 1)) }
         ensures answer { is_ok result ≡ (not (is_refused (limits_of self.old) (asked_of self.new)) && has_room (limits_of self.old) (calls_in self.old) at bytes.now) }
         ensures counted { asked_of self.new ≡ min (asked_of self.old + 1) (2 ^ 64 - 1) }
         ensures calls { calls_in self.new ≡ with_write (limits_of self.old) (calls_in self.old) at bytes.now }
         ensures limits { limits_of self.new ≡ limits_of self.old }
+        ensures made { made_of self.new ≡ made_of self.old }
+        ensures replayed { seen_of self.new ≡ Some (seen_after (made_of self.new) (calls_in self.new)) }
     {
         let refused = self.refuses();
         let taken = self.note(at as usize, bytes);
@@ -268,10 +280,14 @@ impl Disk for MemDisk {
         ensures durable { OnOk result (Only (seen_of self.old) (leaves_of self.new (moment_of self.new))) }
         ensures images { Passes (moment_of self.old) (moment_of self.new) (leaves_of self.old) (leaves_of self.new) Same }
         ensures cause { HasCause (faults_of self.old) (faults_of self.new) result }
+        ensures no_fault { OnOk result (faults_of self.new ≡ faults_of self.old) }
+        ensures one_fault { OnErr result (faults_of self.new ≡ min (faults_of self.old + 1) (2 ^ 64 - 1)) }
         ensures answer { is_ok result ≡ (not (is_refused (limits_of self.old) (asked_of self.new)) && has_call (limits_of self.old) (calls_in self.old)) }
         ensures counted { asked_of self.new ≡ min (asked_of self.old + 1) (2 ^ 64 - 1) }
         ensures calls { calls_in self.new ≡ (if is_ok result then calls_in self.old ++ Synced ∷ [] else calls_in self.old) }
         ensures limits { limits_of self.new ≡ limits_of self.old }
+        ensures made { made_of self.new ≡ made_of self.old }
+        ensures replayed { seen_of self.new ≡ Some (seen_after (made_of self.new) (calls_in self.new)) }
     {
         if self.refuses() {
             return Err(self.fault());

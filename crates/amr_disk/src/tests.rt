@@ -1,7 +1,12 @@
 // Stops, refusals, and the file.
+ghost use Rattle.std.specs.Prelude.{◌≡◌, Some, IfOk};
+ghost use Rattle.amr_disk.specs.Memory.{seen_of};
+
 use crate::{Disk, DiskFault, FileDisk, Leave, MemDisk};
+use amr_causes::NoMemory;
 use std::alloc::Global;
 use std::fs;
+use std::os::unix::fs::symlink;
 use std::test::Fail;
 
 // What a disk reads, up to its first sixteen bytes.
@@ -9,6 +14,16 @@ fn read_all<D: Disk>(alloc: Global, disk: &mut D) -> Result<Vec<u8>, Fail> {
     let mut bytes = [0u8; 16];
     let n = disk.read_at(0, &mut bytes)?;
     Ok(bytes[..n.min(16)].to_vec(alloc)?)
+}
+
+// A disk that was only read, after a stop: the clauses of the calls say what the stop leaves.
+fn only_read(alloc: Global, bytes: &[u8], mode: Leave) -> Result<MemDisk, NoMemory>
+    ensures { IfOk result (λ d. seen_of d ≡ Some bytes.now) }
+{
+    let mut disk = MemDisk::make(alloc, bytes, 16, 8, &[2], None)?;
+    let _ = disk.read_at(0, &mut [0]);
+    let _ = disk.read_at(1, &mut [0]);
+    Ok(disk.leave(mode))
 }
 
 // Three bytes, one of which is written over, and two beyond a gap, with a sync between where asked.
@@ -72,7 +87,11 @@ fn file_keeps_what_was_written(rt: HostRuntime) -> Result<(), Fail> {
         let mut absent = FileDisk::make(rt.clone()?);
         assert_eq!(rt; read_all(alloc, &mut absent)?.len(), 0);
         assert_eq!(rt; absent.sync(), Ok(()));
-        assert!(rt; fs::metadata(&rt, "mesh.store").is_err());
+        assert_eq!(rt; absent.write_at(2, &[]), Ok(()));
+        assert!(rt;
+            fs::metadata(&rt, "mesh.store").is_err(),
+            "an empty write makes no file"
+        );
         assert_eq!(rt; absent.write_at(2, &[7]), Ok(()));
         assert_eq!(rt; absent.sync(), Ok(()));
     }
@@ -82,5 +101,40 @@ fn file_keeps_what_was_written(rt: HostRuntime) -> Result<(), Fail> {
         [0, 0, 7].as_slice()
     );
     fs::remove_file(&rt, "mesh.store")?;
+    Ok(())
+}
+
+#[test]
+fn file_that_cannot_be_opened_is_a_fault(rt: HostRuntime) -> Result<(), Fail> {
+    let _ = fs::remove_dir(&rt, "mesh.store");
+    fs::create_dir(&rt, "mesh.store")?;
+    let mut disk = FileDisk::make(rt.clone()?);
+    assert_eq!(rt; disk.read_at(0, &mut [0]), Err(DiskFault), "read");
+    assert_eq!(rt; disk.write_at(0, &[1]), Err(DiskFault), "write");
+    assert_eq!(rt; disk.sync(), Err(DiskFault), "sync");
+    fs::remove_dir(&rt, "mesh.store")?;
+    Ok(())
+}
+
+// A device that takes each write and can't be synced, behind the file's name.
+#[test]
+fn sync_reaches_the_file(rt: HostRuntime) -> Result<(), Fail> {
+    let _ = fs::remove_file(&rt, "mesh.store");
+    symlink(&rt, "/dev/null", "mesh.store")?;
+    let mut disk = FileDisk::make(rt.clone()?);
+    assert_eq!(rt; disk.write_at(0, &[1]), Ok(()));
+    assert_eq!(rt; disk.sync(), Err(DiskFault));
+    fs::remove_file(&rt, "mesh.store")?;
+    Ok(())
+}
+
+#[test]
+fn reads_leave_the_bytes(rt: HostRuntime) -> Result<(), Fail> {
+    let alloc = rt.alloc();
+    let mut left = only_read(alloc, &[1, 2, 3], Leave::New)?;
+    assert_eq!(rt;
+        read_all(alloc, &mut left)?.as_slice(),
+        [1, 2, 3].as_slice()
+    );
     Ok(())
 }
