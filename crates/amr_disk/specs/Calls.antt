@@ -1,4 +1,4 @@
--- What a disk reads and what a stop may leave, by the writes and syncs that it took.
+-- What a disk reads and what a stop may leave, by the writes and syncs that it took. (profile)
 use Rattle.std.specs.Prelude.{ℕ, ◌≡◌, List, [], ◌∷◌, length, take}
 use Rattle.amr_disk.specs.Image.{Torn, written_at}
 

@@ -1,4 +1,4 @@
--- How often a disk over a file has failed.
+-- How often a disk over a file has failed. (profile)
 use Rattle.std.specs.Prelude.{ℕ}
 use Rattle.amr_disk.specs.declared.file.FileDisk.{FileDisk}
 

@@ -1,4 +1,5 @@
--- The bytes of a disk, and what a stop leaves of a write.
+-- The bytes of a disk, and what a stop leaves of a write. As in crash Hoare logic (Chen et al. 2015) a write is pending until a sync;
+-- here one that is pending may be torn at each byte. (profile)
 use Rattle.std.specs.Prelude.{ℕ, zero, suc, ◌+◌, ◌-◌, ◌≡◌, ◌≤◌, ◌<◌, slice_index, min, max, List, [], ◌∷◌, ◌++◌, length, take, drop, replicate, Option, IfSome}
 
 -- the place past a write of n bytes; a write of none reaches nothing

@@ -1,4 +1,4 @@
--- What a stop leaves of a write, by its mode.
+-- What a stop leaves of a write, by its mode. (profile)
 use Rattle.std.specs.Prelude.{ℕ, List, length, replicate}
 use Rattle.amr_disk.specs.Image.{placed, written_at}
 use Rattle.amr_disk.specs.declared.leave.Leave.{Leave}

@@ -1,4 +1,4 @@
--- When a disk in memory fails.
+-- When a disk in memory fails. (profile)
 use Rattle.std.specs.Prelude.{ℕ, ◌+◌, ◌==◌, nat_le, nat_lt, Bool, true, false, ◌||◌, ◌&&◌, List, [], ◌∷◌, ◌++◌, length, Option, Some, None, if◌then◌else◌}
 use Rattle.std.specs.List.{list_any}
 use Rattle.amr_disk.specs.Calls.{Call, Wrote, Synced}

@@ -1,4 +1,4 @@
--- The log of a disk in memory: its steps, and the bytes of its writes one after the other.
+-- The log of a disk in memory: its steps, and the bytes of its writes one after the other. (profile)
 use Rattle.std.specs.Prelude.{ℕ, ◌+◌, max, List, [], ◌∷◌, take, drop}
 use Rattle.amr_disk.specs.Calls.{Call, Wrote, Synced}
 use Rattle.amr_disk.specs.declared.step.Step.{Step}

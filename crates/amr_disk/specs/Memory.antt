@@ -1,4 +1,4 @@
--- What a disk in memory shows.
+-- What a disk in memory shows. (profile)
 use Rattle.std.specs.Prelude.{ℕ, ◌+◌, ◌&&◌, nat_le, nat_lt, Bool, List, length, Option, Some, vec_len}
 use Rattle.amr_disk.specs.Calls.{Call, LeavesAt}
 use Rattle.amr_disk.specs.Limits.{Limits}

@@ -1,4 +1,4 @@
-// Buffers with room for what is to come.
+//! Buffers with room for what is to come.
 ghost use Rattle.std.specs.Prelude.{◌≡◌, ◌≤◌, ◌<◌, ◌+◌, ◌^◌, ◌-◌, ◌++◌, length, replicate, take, drop, vec_len, vec_capacity, IfOk};
 ghost use Rattle.amr_disk.specs.Image.{placed, written_at};
 

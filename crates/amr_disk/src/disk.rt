@@ -1,4 +1,4 @@
-// The disk.
+//! The disk.
 ghost use Rattle.std.specs.Prelude.{◌≡◌, ◌≤◌, ◌<◌, ◌+◌, ◌^◌, List, ℕ, Option, Some, length, IfOk, OnOk, option_map};
 ghost use Rattle.std.specs.Io.{ReadsAtMost};
 ghost use Rattle.amr_causes.specs.Causes.{HasCause};

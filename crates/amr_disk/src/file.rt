@@ -1,4 +1,4 @@
-// A disk over a file of the current folder.
+//! A disk over a file of the current folder.
 ghost use Rattle.amr_causes.specs.Causes.{Rose};
 ghost use Rattle.std.specs.Prelude.{None, ◌≡◌, ◌≤◌, length, IfOk};
 

@@ -1,4 +1,4 @@
-// What a stop leaves of a disk in memory.
+//! What a stop leaves of a disk in memory.
 ghost use Rattle.std.specs.Prelude.{◌≡◌, ◌≤◌, ◌<◌, ◌+◌, ◌^◌, List, [], ◌∷◌, length, max, drop, vec_len, vec_capacity};
 ghost use Rattle.amr_disk.specs.Calls.{left_after};
 ghost use Rattle.amr_disk.specs.Left.{part_of};

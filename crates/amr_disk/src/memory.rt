@@ -1,4 +1,4 @@
-// A disk in memory, which keeps its calls.
+//! A disk in memory, which keeps its calls.
 ghost use Rattle.std.specs.Prelude.{◌≡◌, ◌≤◌, ◌<◌, ◌+◌, ◌^◌, ◌-◌, true, drop, List, IfSome, [], ◌∷◌, ◌++◌, ◌&&◌, if◌then◌else◌, nat_le, nat_lt, Some, None, length, min, max, not, is_ok, vec_len, vec_capacity, IfOk, OnOk, OnErr, IsTrue, option_map};
 ghost use Rattle.std.specs.Io.{ReadsAtMost};
 ghost use Rattle.amr_causes.specs.Causes.{HasCause, Rose};

@@ -1,4 +1,4 @@
-// The steps that a disk in memory keeps.
+//! The steps that a disk in memory keeps.
 ghost use Rattle.std.specs.Prelude.{◌≡◌, ◌≤◌, ◌<◌, ◌++◌, ◌∷◌, [], vec_len, vec_capacity};
 
 #[derive(Clone, Copy)]

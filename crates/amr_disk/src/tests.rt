@@ -1,4 +1,4 @@
-// Stops, refusals, and the file.
+//! Stops, refusals, and the file.
 ghost use Rattle.std.specs.Prelude.{◌≡◌, Some, IfOk};
 ghost use Rattle.amr_disk.specs.Memory.{seen_of};
 

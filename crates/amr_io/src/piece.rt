@@ -1,4 +1,4 @@
-// A part of a text.
+//! A part of a text.
 
 /// A part of a text: a string as it stands, or a number in decimal digits.
 #[derive(Clone, Copy, Drop)]

@@ -1,4 +1,4 @@
-// Sources and sinks over a reader and a writer of std.
+//! Sources and sinks over a reader and a writer of std.
 ghost use Rattle.std.specs.Prelude.{◌≡◌, List, ℕ, Some};
 
 use crate::{ReadFault, Sink, Source, WriteFault};

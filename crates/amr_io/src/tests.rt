@@ -1,4 +1,4 @@
-// What no clause says: that the calls succeed, and what stands at each call that fails.
+//! What no clause says: that the calls succeed, and what stands at each call that fails.
 
 use crate::{
     MemSink, MemSource, Piece, ReadAll, ReadFault, Sink, Source, StdSink, StdSource, Text,

@@ -1,4 +1,4 @@
-// Text on its way to a sink.
+//! Text on its way to a sink.
 ghost use Rattle.std.specs.Prelude.{◌≡◌, ◌≤◌, ◌+◌, ◌++◌, [], length, OnOk, OnErr, decimal};
 ghost use Rattle.amr_causes.specs.Causes.{HasCause};
 ghost use Rattle.amr_causes.specs.Bytes.{Grows, TakesPrefix};

@@ -5,6 +5,7 @@ use Rattle.std.proofs.Common.{Option, Some, sym}
 use Rattle.amr_disk.specs.Image.{Torn, Same, Only}
 use Rattle.amr_disk.specs.Replay.{torn_same}
 use Rattle.amr_disk.specs.Moments.{Passes, StopsIn}
+use Rattle.amr_store.specs.Phases.{TornTwice, TornThrice}
 
 module _ {D : Type 0} (moment : D → ℕ) (leaves : D → ℕ → List ℕ → Type 0) where
   -- before the first call
@@ -57,6 +58,17 @@ module _ {D : Type 0} (moment : D → ℕ) (leaves : D → ℕ → List ℕ → 
   writes_on old mid new at n P Q run call torn =
       goes_on old mid new Q (Torn at n) (weaker old mid P Q (λ c p. torn c c p (torn_same at n c)) run) call
       (λ c left. let from = call.after c left in torn from.0 c (run.each (moment mid) from.0 run.later (omega arith) from.1) from.2)
+
+  -- two writes, and three, to a settled disk
+  pub two_writes : (d0 d1 d2 : D) (a n b k : ℕ) (s : List ℕ) → ((c : List ℕ) → leaves d0 (moment d0) c → c ≡ s) → Passes (moment d0) (moment d1) (leaves d0) (leaves d1) (Torn a n) → Passes (moment d1) (moment d2) (leaves d1) (leaves d2) (Torn b k)
+      → StopsIn moment leaves d0 d2 (TornTwice a n b k s)
+  two_writes d0 d1 d2 a n b k s settled first second =
+      writes_on d0 d1 d2 b k (Torn a n s) (TornTwice a n b k s) (writes d0 d1 a n s settled first) second (λ d e p t. (d, p, t))
+
+  pub three_writes : (d0 d1 d2 d3 : D) (a n b k e j : ℕ) (s : List ℕ) → ((c : List ℕ) → leaves d0 (moment d0) c → c ≡ s) → Passes (moment d0) (moment d1) (leaves d0) (leaves d1) (Torn a n) → Passes (moment d1) (moment d2) (leaves d1) (leaves d2) (Torn b k)
+      → Passes (moment d2) (moment d3) (leaves d2) (leaves d3) (Torn e j) → StopsIn moment leaves d0 d3 (TornThrice a n b k e j s)
+  three_writes d0 d1 d2 d3 a n b k e j s settled first second third =
+      writes_on d0 d2 d3 e j (TornTwice a n b k s) (TornThrice a n b k e j s) (two_writes d0 d1 d2 a n b k s settled first second) third (λ d i p t. (d, p, t))
 
   -- a sync
   pub syncs : (old mid new : D) (P : List ℕ → Type 0) → StopsIn moment leaves old mid P → Passes (moment mid) (moment new) (leaves mid) (leaves new) Same → StopsIn moment leaves old new P

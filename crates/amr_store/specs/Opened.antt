@@ -7,7 +7,7 @@ use Rattle.amr_store.specs.declared.found.Found.TheVariants.{Nothing, Ready, Dam
 use Rattle.amr_store.specs.declared.part.Part.TheVariants.{Renewal}
 use Rattle.amr_store.specs.declared.store.Store.{Store}
 use Rattle.amr_store.specs.Shown.{IsDamaged, Shows}
-use Rattle.amr_store.specs.Stands.{IsReady, Stands, is_shut, base_in, version_in, problem_in, slot_size_in, first_in, second_in}
+use Rattle.amr_store.specs.Stands.{IsStoreReady, Stands, is_shut, base_in, version_in, problem_in, slot_size_in, first_in, second_in}
 use Rattle.amr_store.specs.Stored.{Stored, Empty, stored}
 
 -- exactly what is stored: no store, a store that shows its state, or a damaged part
@@ -19,7 +19,7 @@ Finds (Damaged part) found = IsDamaged found part
 -- a store that was found is not shut, and stands for what the disk holds
 abbrev pub IsReadyFound : {D : Type 0} → (D → Option (List ℕ)) → (D → ℕ) → (D → ℕ → List ℕ → Type 0) → Found → D → Type 0
 IsReadyFound seen moment leaves Nothing disk = ⊤
-IsReadyFound seen moment leaves (Ready store) disk = (is_shut store ≡ false) × IsReady seen moment leaves store disk
+IsReadyFound seen moment leaves (Ready store) disk = (is_shut store ≡ false) × IsStoreReady seen moment leaves store disk
 IsReadyFound seen moment leaves (Damaged part) disk = ⊤
 
 -- the same of an image, with all that the store in memory stands for

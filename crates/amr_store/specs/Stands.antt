@@ -74,7 +74,7 @@ pub record Stands (store : Store) (image : List ℕ) : Type 0 where
   pub second : second_in store ≡ option_map slot_of (second_of (drop (base_in store) image))
 
 -- a store that is not shut finds the disk as its last call left it: nothing is pending, and the store stands for what a read gives
-pub record IsReady {D : Type 0} (seen : D → Option (List ℕ)) (moment : D → ℕ) (leaves : D → ℕ → List ℕ → Type 0) (store : Store) (disk : D) : Type 0 where
+pub record IsStoreReady {D : Type 0} (seen : D → Option (List ℕ)) (moment : D → ℕ) (leaves : D → ℕ → List ℕ → Type 0) (store : Store) (disk : D) : Type 0 where
   pub settled : is_shut store ≡ false → Only (seen disk) (leaves disk (moment disk))
   pub stands : is_shut store ≡ false → (s : List ℕ) → seen disk ≡ Some s → Stands store s
 

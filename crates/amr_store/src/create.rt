@@ -5,10 +5,10 @@ ghost use Rattle.amr_disk.specs.Image.{Only};
 ghost use Rattle.amr_store.specs.Created.{IsVersion, IsShutFirst, IsLaid, IsMade, magic_of, head_bytes, new_state, shut_first, laid_image, created_image};
 ghost use Rattle.amr_store.specs.Phases.{OnlyReads, StopsFrom};
 ghost use Rattle.amr_store.specs.Reasons.{HasReason, is_no_memory, is_shut_fault};
-ghost use Rattle.amr_store.specs.Stands.{IsReady, is_shut, version_in, problem_in, slot_size_in, last_in};
+ghost use Rattle.amr_store.specs.Stands.{IsStoreReady, is_shut, version_in, problem_in, slot_size_in, last_in};
 ghost use Rattle.amr_store.specs.Stored.{stored, is_empty, Empty, Held};
 
-use crate::device::{has_byte, write_synced, write_three_synced, write_two_synced};
+use crate::device::{Write, has_byte, write_synced, write_three_synced, write_two_synced};
 use crate::part::StoreFault;
 use crate::put::OPEN;
 use crate::store::Store;
@@ -113,7 +113,12 @@ fn lay<D: Disk>(
     let gate = 21 + text + (17 + slot_size);
     let end = 21 + text + 2 * (17 + slot_size);
     match has_renewal_gate(disk, version, end) {
-        Ok(true) => write_three_synced(disk, 1, head, gate, &[0], end, &[0]),
+        Ok(true) => write_three_synced(
+            disk,
+            Write { at: 1, bytes: head },
+            Write { at: gate, bytes: &[0] },
+            Write { at: end, bytes: &[0] },
+        ),
         Ok(false) => write_two_synced(disk, 1, head, gate, &[0]),
         Err(fault) => Err(fault),
     }
@@ -164,7 +169,7 @@ impl Store {
         requires size { slot_size ≤ 2 ^ 40 }
         requires settled { Only (D.seen disk.old) (D.leaves disk.old (D.moment disk.old)) }
         requires empty { (s : List ℕ) → D.seen disk.old ≡ Some s → stored s ≡ Empty }
-        ensures ready { IfOk result (λ store. IsReady D.seen D.moment D.leaves store disk.new) }
+        ensures ready { IfOk result (λ store. IsStoreReady D.seen D.moment D.leaves store disk.new) }
         ensures problem { IfOk result (λ store. problem_in store ≡ problem.now) }
         ensures size { IfOk result (λ store. slot_size_in store ≡ slot_size) }
         ensures version { IfOk result (λ store. version_in store ≡ version) }

@@ -9,6 +9,13 @@ ghost use Rattle.amr_store.specs.Stored.{is_open};
 use crate::put::OPEN;
 use amr_disk::{Disk, DiskFault};
 
+// Bytes, and the place on the disk where they are written.
+#[derive(Clone, Copy)]
+pub struct Write<'a> {
+    pub at: u64,
+    pub bytes: &'a [u8],
+}
+
 // Whether the disk has a byte at a place.
 pub fn has_byte<D: Disk>(disk: &mut D, at: u64) -> Result<bool, DiskFault>
     requires small { at + 1 < 2 ^ 48 }
@@ -99,25 +106,22 @@ pub fn write_two_synced<D: Disk>(
 // Writes three pieces and syncs them.
 pub fn write_three_synced<D: Disk>(
     disk: &mut D,
-    first_at: u64,
-    first: &[u8],
-    second_at: u64,
-    second: &[u8],
-    third_at: u64,
-    third: &[u8],
+    first: Write<'_>,
+    second: Write<'_>,
+    third: Write<'_>,
 ) -> Result<(), DiskFault>
-    requires first { first_at + length first.now < 2 ^ 48 }
-    requires second { second_at + length second.now < 2 ^ 48 }
-    requires third { third_at + length third.now < 2 ^ 48 }
+    requires first { first.at + length first.bytes.now < 2 ^ 48 }
+    requires second { second.at + length second.bytes.now < 2 ^ 48 }
+    requires third { third.at + length third.bytes.now < 2 ^ 48 }
     requires settled { Only (D.seen disk.old) (D.leaves disk.old (D.moment disk.old)) }
-    ensures stops { StopsFrom D.seen D.moment D.leaves disk.old disk.new (TornThrice first_at (length first.now) second_at (length second.now) third_at (length third.now)) }
-    ensures seen { OnOk result (D.seen disk.new ≡ option_map (λ s. written_at third_at third.now (written_at second_at second.now (written_at first_at first.now s))) (D.seen disk.old)) }
+    ensures stops { StopsFrom D.seen D.moment D.leaves disk.old disk.new (TornThrice first.entry.at (length first.entry.bytes.now) second.entry.at (length second.entry.bytes.now) third.entry.at (length third.entry.bytes.now)) }
+    ensures seen { OnOk result (D.seen disk.new ≡ option_map (λ s. written_at third.entry.at third.entry.bytes.now (written_at second.entry.at second.entry.bytes.now (written_at first.entry.at first.entry.bytes.now s))) (D.seen disk.old)) }
     ensures settled { OnOk result (Only (D.seen disk.new) (D.leaves disk.new (D.moment disk.new))) }
     ensures cause { HasCause (D.faults disk.old) (D.faults disk.new) result }
 {
-    disk.write_at(first_at, first)?;
-    disk.write_at(second_at, second)?;
-    disk.write_at(third_at, third)?;
+    disk.write_at(first.at, first.bytes)?;
+    disk.write_at(second.at, second.bytes)?;
+    disk.write_at(third.at, third.bytes)?;
     disk.sync()?;
     Ok(())
 }

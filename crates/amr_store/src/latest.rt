@@ -3,7 +3,7 @@ ghost use Rattle.std.specs.Prelude.{◌≡◌, true, false, List, ℕ, Some, is_
 ghost use Rattle.amr_store.specs.Phases.{OnlyReads};
 ghost use Rattle.amr_store.specs.Reasons.{HasReason, Shuts, is_no_memory};
 ghost use Rattle.amr_store.specs.Shown.{latest_in};
-ghost use Rattle.amr_store.specs.Stands.{IsReady, SameStore, is_shut, last_in};
+ghost use Rattle.amr_store.specs.Stands.{IsStoreReady, SameStore, is_shut, last_in};
 ghost use Rattle.amr_store.specs.Stored.{stored};
 
 use crate::open::read_bytes;
@@ -13,19 +13,20 @@ use amr_disk::Disk;
 use std::alloc::Global;
 
 impl Store {
-    /// The payload of the state with the greatest sequence; None exactly where no slot is open. Writes nothing. Where memory is wanting the
-    /// store and the disk are as before.
+    /// The payload of the state with the greatest sequence; None exactly where no slot is open. Writes nothing. If allocation fails,
+    /// or the store is shut, the store and the disk are as before.
     pub fn latest<D: Disk>(
         &mut self,
         alloc: Global,
         disk: &mut D,
     ) -> Result<Option<Vec<u8>>, StoreFault>
-        requires ready { IsReady D.seen D.moment D.leaves self.old disk.old }
+        requires ready { IsStoreReady D.seen D.moment D.leaves self.old disk.old }
         ensures latest { is_shut self.old ≡ false → IfOk result (λ latest. (s : List ℕ) → D.seen disk.old ≡ Some s → option_map (λ v. v.items) latest ≡ latest_in (stored s)) }
         ensures none { IfOk result (λ latest. is_some latest ≡ is_some (last_in self.old)) }
-        ensures ready { IsReady D.seen D.moment D.leaves self.new disk.new }
+        ensures ready { IsStoreReady D.seen D.moment D.leaves self.new disk.new }
         ensures reads { OnlyReads D.seen D.moment D.leaves disk.old disk.new }
         ensures memory { is_no_memory result ≡ true → disk.new ≡ disk.old }
+        ensures untouched { is_shut self.old ≡ true → disk.new ≡ disk.old }
         ensures same { SameStore self.old self.new }
         ensures last { last_in self.new ≡ last_in self.old }
         ensures shuts { Shuts (is_shut self.old) (is_shut self.new) result }

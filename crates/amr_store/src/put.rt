@@ -6,7 +6,7 @@ ghost use Rattle.amr_store.specs.Next.{first_with, second_with, other_than};
 ghost use Rattle.amr_disk.specs.Moments.{StopsIn};
 ghost use Rattle.amr_store.specs.Phases.{StopsFrom};
 ghost use Rattle.amr_store.specs.Reasons.{HasReason, Shuts, is_no_memory};
-ghost use Rattle.amr_store.specs.Stands.{IsReady, IsClosed, IsFilledIn, SameStore, Stands, is_shut, next_in, gate_in, slot_in, last_in, first_in, second_in, slot_size_in, closed_image, filled_image, opened_image, put_image, closing_piece, slot_closed, slot_filled, sequence_filled, length_filled, opened_slot};
+ghost use Rattle.amr_store.specs.Stands.{IsStoreReady, IsClosed, IsFilledIn, SameStore, Stands, is_shut, next_in, gate_in, slot_in, last_in, first_in, second_in, slot_size_in, closed_image, filled_image, opened_image, put_image, closing_piece, slot_closed, slot_filled, sequence_filled, length_filled, opened_slot};
 ghost use Rattle.amr_store.specs.Stored.{stored, with_latest};
 
 use crate::device::{write_synced, write_two_synced};
@@ -54,19 +54,21 @@ fn piece_to_close(slot: Option<Slot>) -> &'static [u8]
 }
 
 impl Store {
-    /// Closes the gate of the slot that is written next; the other one holds the latest state. Reads nothing.
+    /// Closes the gate of the slot that is written next; the other one holds the latest state. Reads nothing. Where the store is shut the
+    /// disk is as before.
     pub fn close_gate<D: Disk>(&mut self, disk: &mut D) -> Result<Closed, StoreFault>
-        requires ready { IsReady D.seen D.moment D.leaves self.old disk.old }
+        requires ready { IsStoreReady D.seen D.moment D.leaves self.old disk.old }
         ensures closed { IfOk result (λ closed. IsClosed (slot_closed closed) self.new) }
         ensures which { IfOk result (λ closed. slot_closed closed ≡ next_in self.old) }
         ensures first { OnOk result (first_in self.new ≡ first_with (next_in self.old) None (first_in self.old)) }
         ensures second { OnOk result (second_in self.new ≡ second_with (next_in self.old) None (second_in self.old)) }
-        ensures ready { OnOk result (IsReady D.seen D.moment D.leaves self.new disk.new) }
+        ensures ready { OnOk result (IsStoreReady D.seen D.moment D.leaves self.new disk.new) }
         ensures seen { OnOk result (D.seen disk.new ≡ option_map (closed_image self.old) (D.seen disk.old)) }
         ensures stops { is_shut self.old ≡ false → StopsFrom D.seen D.moment D.leaves disk.old disk.new (λ s c. stored c ≡ stored s) }
         ensures same { SameStore self.old self.new }
         ensures last { last_in self.new ≡ last_in self.old }
         ensures shuts { Shuts (is_shut self.old) (is_shut self.new) result }
+        ensures untouched { is_shut self.old ≡ true → disk.new ≡ disk.old }
         ensures reason { HasReason (D.faults disk.old) (D.faults disk.new) result }
         ensures memory { is_no_memory result ≡ false }
     {
@@ -87,18 +89,19 @@ impl Store {
         }
     }
 
-    /// Puts a state: the three steps in turn, seven calls of the disk. A stop at any moment leaves what was stored, or the new state.
+    /// Puts a state: the three steps in turn, seven calls of the disk. A stop at any moment leaves what was stored, or the new state. Where
+    /// the store is shut the disk is as before.
     pub fn put<D: Disk>(
         &mut self,
         disk: &mut D,
         sequence: u64,
         bytes: &[u8],
     ) -> Result<(), StoreFault>
-        requires ready { IsReady D.seen D.moment D.leaves self.old disk.old }
+        requires ready { IsStoreReady D.seen D.moment D.leaves self.old disk.old }
         requires counted { 0 < sequence }
         requires above { IfSome (last_in self.old) (λ last. last < sequence) }
         requires fits { length bytes.now ≤ slot_size_in self.old }
-        ensures ready { OnOk result (IsReady D.seen D.moment D.leaves self.new disk.new) }
+        ensures ready { OnOk result (IsStoreReady D.seen D.moment D.leaves self.new disk.new) }
         ensures seen { OnOk result (D.seen disk.new ≡ option_map (put_image self.old sequence bytes.now) (D.seen disk.old)) }
         ensures other { OnOk result (slot_in self.new (other_than (next_in self.old)) ≡ slot_in self.old (other_than (next_in self.old))) }
         ensures put { is_shut self.old ≡ false → OnOk result ((s : List ℕ) → D.seen disk.old ≡ Some s → (t : List ℕ) × (D.seen disk.new ≡ Some t) × (stored t ≡ with_latest (stored s) sequence bytes.now)) }
@@ -107,6 +110,7 @@ impl Store {
         ensures last { OnOk result (last_in self.new ≡ Some sequence) }
         ensures kept { OnErr result (last_in self.new ≡ last_in self.old) }
         ensures shuts { Shuts (is_shut self.old) (is_shut self.new) result }
+        ensures untouched { is_shut self.old ≡ true → disk.new ≡ disk.old }
         ensures reason { HasReason (D.faults disk.old) (D.faults disk.new) result }
         ensures memory { is_no_memory result ≡ false }
     {
@@ -130,18 +134,19 @@ impl Closed {
         bytes: &[u8],
     ) -> Result<Filled, StoreFault>
         requires closed { IsClosed (slot_closed self) store.old }
-        requires ready { IsReady D.seen D.moment D.leaves store.old disk.old }
+        requires ready { IsStoreReady D.seen D.moment D.leaves store.old disk.old }
         requires counted { 0 < sequence }
         requires fits { length bytes.now ≤ slot_size_in store.old }
         ensures filled { IfOk result (λ filled. (slot_filled filled ≡ slot_closed self) × (sequence_filled filled ≡ sequence) × (length_filled filled ≡ length bytes.now)) }
         ensures holds { OnOk result ((t : List ℕ) → D.seen disk.new ≡ Some t → is_shut store.old ≡ false → IsFilledIn (slot_closed self) store.new t sequence bytes.now) }
-        ensures ready { OnOk result (IsReady D.seen D.moment D.leaves store.new disk.new) }
+        ensures ready { OnOk result (IsStoreReady D.seen D.moment D.leaves store.new disk.new) }
         ensures seen { OnOk result (D.seen disk.new ≡ option_map (filled_image store.old (slot_closed self) sequence bytes.now) (D.seen disk.old)) }
         ensures stops { is_shut store.old ≡ false → StopsFrom D.seen D.moment D.leaves disk.old disk.new (λ s c. stored c ≡ stored s) }
         ensures store { OnOk result (store.new ≡ store.old) }
         ensures same { SameStore store.old store.new }
         ensures last { last_in store.new ≡ last_in store.old }
         ensures shuts { Shuts (is_shut store.old) (is_shut store.new) result }
+        ensures untouched { is_shut store.old ≡ true → disk.new ≡ disk.old }
         ensures reason { HasReason (D.faults disk.old) (D.faults disk.new) result }
         ensures memory { is_no_memory result ≡ false }
     {
@@ -169,9 +174,9 @@ impl Filled {
     pub fn open_gate<D: Disk>(self, store: &mut Store, disk: &mut D) -> Result<(), StoreFault>
         requires closed { IsClosed (slot_filled self) store.old }
         requires above { IfSome (last_in store.old) (λ last. last < sequence_filled self) }
-        requires ready { IsReady D.seen D.moment D.leaves store.old disk.old }
+        requires ready { IsStoreReady D.seen D.moment D.leaves store.old disk.old }
         requires filled { is_shut store.old ≡ false → (s : List ℕ) → D.seen disk.old ≡ Some s → (payload : List ℕ) × (length payload ≡ length_filled self) × IsFilledIn (slot_filled self) store.old s (sequence_filled self) payload }
-        ensures ready { OnOk result (IsReady D.seen D.moment D.leaves store.new disk.new) }
+        ensures ready { OnOk result (IsStoreReady D.seen D.moment D.leaves store.new disk.new) }
         ensures seen { OnOk result (D.seen disk.new ≡ option_map (opened_image store.old (slot_filled self)) (D.seen disk.old)) }
         ensures put { OnOk result ((s t payload : List ℕ) → D.seen disk.old ≡ Some s → D.seen disk.new ≡ Some t → IsFilledIn (slot_filled self) store.old s (sequence_filled self) payload → stored t ≡ with_latest (stored s) (sequence_filled self) payload) }
         ensures stops { is_shut store.old ≡ false → (s payload : List ℕ) → D.seen disk.old ≡ Some s → IsFilledIn (slot_filled self) store.old s (sequence_filled self) payload → StopsIn D.moment D.leaves disk.old disk.new (λ c. stored c ≡ stored s ⊎ stored c ≡ with_latest (stored s) (sequence_filled self) payload) }
@@ -181,6 +186,7 @@ impl Filled {
         ensures last { OnOk result (last_in store.new ≡ Some (sequence_filled self)) }
         ensures kept { OnErr result (last_in store.new ≡ last_in store.old) }
         ensures shuts { Shuts (is_shut store.old) (is_shut store.new) result }
+        ensures untouched { is_shut store.old ≡ true → disk.new ≡ disk.old }
         ensures reason { HasReason (D.faults disk.old) (D.faults disk.new) result }
         ensures memory { is_no_memory result ≡ false }
     {

@@ -7,7 +7,7 @@ ghost use Rattle.amr_store.specs.Layout.{end_of};
 ghost use Rattle.amr_store.specs.Phases.{StopsFrom};
 ghost use Rattle.amr_store.specs.Reasons.{HasReason, is_no_memory, is_shut_fault};
 ghost use Rattle.amr_store.specs.Renewed.{IsOld, IsOldShut, IsRenewed, renewal_bytes, renewed_state, shut_past, renewed_image};
-ghost use Rattle.amr_store.specs.Stands.{IsReady, is_shut, version_in, problem_in, slot_size_in, last_in};
+ghost use Rattle.amr_store.specs.Stands.{IsStoreReady, is_shut, version_in, problem_in, slot_size_in, last_in};
 ghost use Rattle.amr_store.specs.Stored.{stored, Held};
 
 use crate::create::MAGIC_2;
@@ -109,13 +109,13 @@ impl Store {
         bytes: &[u8],
         slot_size: u64,
     ) -> Result<Store, StoreFault>
-        requires ready { IsReady D.seen D.moment D.leaves self disk.old }
+        requires ready { IsStoreReady D.seen D.moment D.leaves self disk.old }
         requires version { version_in self ≡ 1 }
         requires counted { 0 < sequence }
         requires above { IfSome (last_in self) (λ last. last < sequence) }
         requires size { slot_size ≤ 2 ^ 40 }
         requires fits { length bytes.now ≤ slot_size }
-        ensures ready { IfOk result (λ store. IsReady D.seen D.moment D.leaves store disk.new) }
+        ensures ready { IfOk result (λ store. IsStoreReady D.seen D.moment D.leaves store disk.new) }
         ensures problem { IfOk result (λ store. problem_in store ≡ problem_in self) }
         ensures size { IfOk result (λ store. slot_size_in store ≡ slot_size) }
         ensures version { IfOk result (λ store. version_in store ≡ 2) }
@@ -125,6 +125,7 @@ impl Store {
         ensures renewed { OnOk result ((t : List ℕ) → D.seen disk.new ≡ Some t → stored t ≡ Held (renewed_state (problem_in self) slot_size sequence bytes.now)) }
         ensures stops { is_shut self ≡ false → StopsFrom D.seen D.moment D.leaves disk.old disk.new (λ s c. stored c ≡ stored s ⊎ stored c ≡ Held (renewed_state (problem_in self) slot_size sequence bytes.now)) }
         ensures memory { is_no_memory result ≡ true → disk.new ≡ disk.old }
+        ensures untouched { is_shut self ≡ true → disk.new ≡ disk.old }
         ensures shuts { is_shut_fault result ≡ is_shut self }
         ensures reason { HasReason (D.faults disk.old) (D.faults disk.new) result }
     {

@@ -107,6 +107,32 @@ fn stops_find_one_state_or_the_next(rt: HostRuntime) -> Result<(), Fail> {
     Ok(())
 }
 
+// How many puts succeed on a disk that stops at a call.
+fn puts_before(alloc: Global, stop: u64) -> Result<u64, Fail> {
+    let mut disk = MemDisk::make(alloc, &[], 128, 64, &[], Some(stop))?;
+    let mut store = Store::create(alloc, &mut disk, &[112], 2, 2)?;
+    for count in 0..4 {
+        match store.put(&mut disk, count + 1, &[7]) {
+            Ok(()) => {}
+            Err(_) => return Ok(count),
+        }
+    }
+    Ok(4)
+}
+
+#[test]
+fn put_is_seven_calls(rt: HostRuntime) -> Result<(), Fail> {
+    let alloc = rt.alloc();
+    // Creation is eight calls. Each put is done by its seventh call, and makes no eighth.
+    for puts in 0..4 {
+        let next = 9 + 7 * puts;
+        assert_eq!(rt; puts_before(alloc, next)?, puts, "stopped at {next}");
+        let last = next + 6;
+        assert_eq!(rt; puts_before(alloc, last)?, puts, "stopped at {last}");
+    }
+    Ok(())
+}
+
 #[test]
 fn puts_are_found_again(rt: HostRuntime) -> Result<(), Fail> {
     let alloc = rt.alloc();
