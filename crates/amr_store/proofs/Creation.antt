@@ -1,13 +1,12 @@
 -- A new store, from the closed first byte to the open one.
 use Rattle.std.proofs.Common.{◌≡◌, ◌⊎◌, inl, inr, ℕ, ◌+◌, ◌≤◌, ◌<◌, ◌^◌, ◌==◌, nat_le, nat_lt, Bool, true, false, ◌&&◌, ◌||◌, List, [], ◌∷◌, ◌++◌, length, drop, Option, Some, None, refl, sym, ◌∙◌, ap, subst, arith, length-append, lit<}
-use Rattle.std.proofs.lemmas.Bool.{cases_Bool, le-leb, ltb-true, ltb-false, le-ltb}
+use Rattle.std.proofs.lemmas.Bool.{cases_Bool, le-leb, ltb-true, ltb-false, le-ltb, or_left, or_right, not_from_false}
 use Rattle.std.proofs.lemmas.List.{get_or-drop, get_or_append_left, get_or-append-add}
 use Rattle.std.proofs.lemmas.Nat.{from_le_bytes-to_le_bytes_4}
 use Rattle.std.specs.Int.{from_le_bytes, to_le_bytes, w32, w64}
 use Rattle.std.specs.Prelude.{slice_index, slice_range, if◌then◌else◌}
 use Rattle.amr_disk.specs.Image.{Torn, written_at}
 use Rattle.amr_disk.specs.Replay.{torn_written}
-use Rattle.amr_store.proofs.Bools.{or_first, or_second, flips}
 use Rattle.amr_store.proofs.Images.{plain_sound, base_plain, held_of, stored_is, and_first, and_second, and_third}
 use Rattle.amr_store.proofs.Places.{torn_outside, long_same, word_same, range_same}
 use Rattle.amr_store.proofs.Slots.{sound_closed, entry_closed}
@@ -34,11 +33,11 @@ pub empty_of : (s : List ℕ) → stored s ≡ Empty → is_empty s ≡ true
 empty_of s is = judged_empty (is_empty s) _ _ is
 
 pub shut_empty : (c : List ℕ) → is_open c 0 ≡ false → stored c ≡ Empty
-shut_empty c shut = empty_stored c (or_second (nat_le (length c) 1) _ (flips (is_open c 0) shut))
+shut_empty c shut = empty_stored c (or_right (nat_le (length c) 1) _ (not_from_false (is_open c 0) shut))
 
 -- the first byte of an image of at most one byte is written
 pub short_stop : (s c : List ℕ) → length s ≤ 1 → Torn 0 1 s c → stored c ≡ Empty
-short_stop s c short torn = empty_stored c (or_first (nat_le (length c) 1) _ (le-leb (length c) 1 (omega (arith, torn.no_longer))))
+short_stop s c short torn = empty_stored c (or_left (nat_le (length c) 1) _ (le-leb (length c) 1 (omega (arith, torn.no_longer))))
 
 pub short_after : (s : List ℕ) → IsShutFirst (written_at 0 (0 ∷ []) s)
 short_after s = record {
@@ -124,7 +123,7 @@ has_version version problem size image known is = elim known [
       let ends : end_in image ≡ end_of (length problem) size = end_same _ _ _ _ is.inner.text_is is.inner.size_is in
       record {
         number = rw as_1 (sym one);
-        magic = or_first (has_magic_1 image) (has_magic_2 image) as_1;
+        magic = or_left (has_magic_1 image) (has_magic_2 image) as_1;
         plain = elim (cases_Bool (nat_lt (end_in image) (length image))) [
           | inl long ↦
               let byte : slice_index image (end_in image) ≡ 0 = ap (λ (n : ℕ). slice_index image n) ends ∙ is.plain.past one (omega (arith, ends, ltb-true (end_in image) (length image) long)) in
@@ -138,7 +137,7 @@ has_version version problem size image known is = elim known [
       let other : has_magic_1 image ≡ false = ap (λ (n : ℕ). n == magic_1) as_2 in
       record {
         number = rw other (sym two);
-        magic = or_second (has_magic_1 image) (has_magic_2 image) (ap (λ (n : ℕ). n == magic_2) as_2);
+        magic = or_right (has_magic_1 image) (has_magic_2 image) (ap (λ (n : ℕ). n == magic_2) as_2);
         plain = and_first (has_magic_1 image) (nat_lt (end_in image + 1) (length image)) (is_open image (end_in image)) other;
       }
 ]

@@ -1,9 +1,8 @@
 -- A whole image, with the store that counts in it.
 use Rattle.std.proofs.Common.{◌≡◌, ℕ, ◌+◌, ◌≤◌, ◌<◌, max, nat_le, nat_lt, ◌==◌, Bool, true, false, not, ◌&&◌, ◌||◌, List, [], ◌∷◌, ◌++◌, length, drop, Option, None, inl, inr, refl, sym, ◌∙◌, ap, subst, arith}
-use Rattle.std.proofs.lemmas.Bool.{cases_Bool, ltb-true, ltb-false, lt-ltb, le-ltb, leb-false, lt-leb}
+use Rattle.std.proofs.lemmas.Bool.{cases_Bool, ltb-true, ltb-false, lt-ltb, le-ltb, leb-false, lt-leb, or_parts, or_from, not-false, not_from_true}
 use Rattle.std.specs.Prelude.{slice_index, nat_eq}
 use Rattle.std.specs.Cmp.Lexicographic.{pointwise}
-use Rattle.amr_store.proofs.Bools.{or_left, or_right, or_both, not_false, not_true}
 use Rattle.amr_store.proofs.Parts.{SameHead, Kept, beyond_changed}
 use Rattle.amr_store.proofs.Places.{Outside}
 use Rattle.amr_store.proofs.Whole.{Whole, whole_of, tests_of, found_append, front_none, head_none, NoneFound}
@@ -52,13 +51,13 @@ inner_whole image base reads = elim (cases_Bool (is_renewed image)) [
 
 -- the bytes at the first place and the length of an image that holds a store
 pub open_first : (image : List ℕ) → is_empty image ≡ false → is_open image 0 ≡ true
-open_first image held = not_false (is_open image 0) (or_right (nat_le (length image) 1) _ held)
+open_first image held = not-false (is_open image 0) (or_parts (nat_le (length image) 1) _ held).1
 
 pub two_bytes : (image : List ℕ) → is_empty image ≡ false → 1 < length image
-two_bytes image held = leb-false (length image) 1 (or_left (nat_le (length image) 1) _ held)
+two_bytes image held = leb-false (length image) 1 (or_parts (nat_le (length image) 1) _ held).0
 
 pub held_of : (image : List ℕ) → 1 < length image → is_open image 0 ≡ true → is_empty image ≡ false
-held_of image long open_is = or_both (nat_le (length image) 1) _ (lt-leb (length image) 1 long) (not_true (is_open image 0) open_is)
+held_of image long open_is = or_from (nat_le (length image) 1) _ (lt-leb (length image) 1 long) (not_from_true (is_open image 0) open_is)
 
 with_magic : (has_magic : Bool) (image : List ℕ) → has_magic ≡ true → Whole true image → Whole has_magic image
 with_magic has_magic image is whole = subst (λ (m : Bool). Whole m image) (sym is) whole
@@ -164,7 +163,7 @@ renewed_of image renewed sound =
     record {
       magic = whole.magic;
       whole = true_whole (has_magic_2 part) part whole;
-      same = not_false (pointwise nat_eq (problem_of part) (problem_of image)) (head_none _ _ _ back);
+      same = not-false (pointwise nat_eq (problem_of part) (problem_of image)) (head_none _ _ _ back);
     }
 
 one_row : (test : Bool) → test ≡ true → first_found ((not test, Renewal) ∷ []) ≡ None

@@ -1,4 +1,3 @@
-pub mod Bools
 pub mod Examples
 pub mod Images
 pub mod Parts

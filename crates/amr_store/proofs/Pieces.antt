@@ -1,11 +1,10 @@
 -- What the pieces of a store say that were read.
 use Rattle.std.proofs.Common.{◌≡◌, inl, inr, ℕ, ◌+◌, ◌≤◌, ◌<◌, ◌==◌, nat_le, nat_lt, Bool, true, false, not, ◌&&◌, ◌||◌, List, [], ◌∷◌, length, drop, Option, Some, None, refl, sym, ◌∙◌, ap, subst, arith}
-use Rattle.std.proofs.lemmas.Bool.{cases_Bool, ltb-true, ltb-false, lt-ltb, le-ltb, le-leb}
+use Rattle.std.proofs.lemmas.Bool.{cases_Bool, ltb-true, ltb-false, lt-ltb, le-ltb, le-leb, or_from, or_left, or_right, not_from_false, not_from_true}
 use Rattle.std.proofs.lemmas.Bool.Decides.{nat_tests}
 use Rattle.std.proofs.lemmas.Grind.{common_steps}
 use Rattle.std.proofs.lemmas.List.{get_or-drop}
 use Rattle.std.specs.Prelude.{slice_index, slice_range, option_map, if◌then◌else◌, Result, Ok, Err, IfOk}
-use Rattle.amr_store.proofs.Bools.{or_both, or_first, or_second, flips, not_true}
 use Rattle.amr_store.proofs.Slots.{sound_full, sound_closed, entry_closed, entry_open}
 use Rattle.amr_store.proofs.Writes.{range_is}
 use Rattle.amr_store.specs.declared.check.Outline.{Outline}
@@ -75,15 +74,15 @@ known_as o m k read known = subst (λ (x : Option ℕ). KnownVersion x m k) (sym
 second_version : (m : Bool) (k : ℕ) → (k == magic_2) ≡ true → KnownVersion (version_read m k) m k
 second_version m k two =
     let number : 2 ≡ (if k == magic_1 then 1 else 2) = rw (not_both k two) refl in
-    known_as (Some 2) m k (rw two refl) (number, or_second (m && (k == magic_1)) (k == magic_2) two)
+    known_as (Some 2) m k (rw two refl) (number, or_right (m && (k == magic_1)) (k == magic_2) two)
 
 first_version : (k : ℕ) → (k == magic_2) ≡ false → (k == magic_1) ≡ true → KnownVersion (version_read true k) true k
 first_version k other one =
     let number : 1 ≡ (if k == magic_1 then 1 else 2) = rw one refl in
-    known_as (Some 1) true k (rw (other, one) refl) (number, or_first (true && (k == magic_1)) (k == magic_2) one)
+    known_as (Some 1) true k (rw (other, one) refl) (number, or_left (true && (k == magic_1)) (k == magic_2) one)
 
 no_version : (k : ℕ) → (k == magic_2) ≡ false → (k == magic_1) ≡ false → KnownVersion (version_read true k) true k
-no_version k other none = known_as None true k (rw (other, none) refl) (or_both (true && (k == magic_1)) (k == magic_2) none other)
+no_version k other none = known_as None true k (rw (other, none) refl) (or_from (true && (k == magic_1)) (k == magic_2) none other)
 
 no_second : (k : ℕ) → (k == magic_2) ≡ false → KnownVersion (version_read false k) false k
 no_second k none = known_as None false k (rw none refl) none
@@ -105,7 +104,7 @@ pub head_told : (m : Bool) (part bytes : List ℕ) (n : ℕ) → length bytes �
 head_told m part bytes n size read = elim (cases_Bool (nat_lt n 21)) [
   | inl short ↦
       let less : nat_lt (length part) 21 ≡ true = lt-ltb (length part) 21 (omega (arith, read.count, ltb-true n 21 short)) in
-      rw short (or_first (nat_lt (length part) 21) (not (magic_in m part)) less)
+      rw short (or_left (nat_lt (length part) 21) (not (magic_in m part)) less)
   | inr long ↦
       let enough : 21 ≤ n = ltb-false n 21 long in
       let whole : nat_lt (length part) 21 ≡ false = le-ltb (length part) 21 (omega (arith, read.count)) in
@@ -116,8 +115,8 @@ head_told m part bytes n size read = elim (cases_Bool (nat_lt n 21)) [
   where
     go : (v : Option ℕ) → KnownVersion v m (long_at part 1) → nat_lt (length part) 21 ≡ false → long_at bytes 9 ≡ long_at part 9 → word_at bytes 17 ≡ word_at part 17
         → IsHeadOf (head_with v (long_at bytes 9) (word_at bytes 17)) m part
-    go None known whole size_is text_is = or_second (nat_lt (length part) 21) (not (magic_in m part)) (flips (magic_in m part) known)
-    go (Some v) known whole size_is text_is = (or_both (nat_lt (length part) 21) (not (magic_in m part)) whole (not_true (magic_in m part) known.1), record { version_is = known.0; size_is = size_is; text_is = text_is })
+    go None known whole size_is text_is = or_right (nat_lt (length part) 21) (not (magic_in m part)) (not_from_false (magic_in m part) known)
+    go (Some v) known whole size_is text_is = (or_from (nat_lt (length part) 21) (not (magic_in m part)) whole (not_from_true (magic_in m part) known.1), record { version_is = known.0; size_is = size_is; text_is = text_is })
 
 four_1 : (a b c d : Bool) → a ≡ true → (a || b || c || d) ≡ true
 four_1 a b c d is = rw is refl
@@ -150,7 +149,7 @@ pub slot_begun : (part bytes : List ℕ) (n gate size : ℕ) → length bytes �
 slot_begun part bytes n gate size wide read = elim (cases_Bool (nat_lt n 1)) [
   | inl none ↦
       let past : nat_le (length part) gate ≡ true = le-leb (length part) gate (omega (arith, read.count, ltb-true n 1 none)) in
-      rw none (or_first (nat_le (length part) gate) _ past)
+      rw none (or_left (nat_le (length part) gate) _ past)
   | inr some ↦
       let here : gate < length part = omega (arith, read.count, ltb-false n 1 some) in
       let byte : slice_index bytes 0 ≡ slice_index part gate = read.bytes 0 (omega (arith, ltb-false n 1 some)) ∙ ap (λ (k : ℕ). slice_index part k) plus in

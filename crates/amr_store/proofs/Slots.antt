@@ -1,8 +1,7 @@
 -- A slot of an image that differs from another.
 use Rattle.std.proofs.Common.{◌≡◌, ℕ, ◌+◌, ◌≤◌, ◌<◌, nat_le, nat_lt, ◌==◌, Bool, true, false, ◌&&◌, ◌||◌, List, length, Some, None, inl, inr, refl, sym, ◌∙◌, ap, arith}
-use Rattle.std.proofs.lemmas.Bool.{cases_Bool, ltb-false, le-ltb, leb-false, lt-leb}
+use Rattle.std.proofs.lemmas.Bool.{cases_Bool, ltb-false, le-ltb, leb-false, lt-leb, or_parts, or_from, and_left, and_right}
 use Rattle.std.specs.Prelude.{slice_index, slice_range}
-use Rattle.amr_store.proofs.Bools.{or_left, or_right, or_both}
 use Rattle.amr_store.proofs.Places.{long_same, range_same}
 use Rattle.amr_store.specs.Layout.{open_gate, long_at}
 use Rattle.amr_store.specs.Stored.{is_open, is_broken, entry_at, Entry}
@@ -15,7 +14,7 @@ pub record IsFull (image : List ℕ) (gate size : ℕ) : Type 0 where
   pub some : (long_at image (gate + 1) == 0) ≡ false
 
 pub gate_within : (image : List ℕ) (gate size : ℕ) → is_broken image gate size ≡ false → gate < length image
-gate_within image gate size sound = leb-false (length image) gate (or_left _ _ sound)
+gate_within image gate size sound = leb-false (length image) gate (or_parts _ _ sound).0
 
 and_true : (a b : Bool) → a ≡ true → (a && b) ≡ false → b ≡ false
 and_true true b is none = none
@@ -23,36 +22,28 @@ and_true false b is none = let no : false ≡ true = is in cc
 
 pub full_of : (image : List ℕ) (gate size : ℕ) → is_broken image gate size ≡ false → is_open image gate ≡ true → IsFull image gate size
 full_of image gate size sound open_is =
-    let tests = and_true (is_open image gate) _ open_is (or_right (nat_le (length image) gate) _ sound) in
-    let three = or_left _ (long_at image (gate + 1) == 0) tests in
-    let two = or_left (nat_lt (length image) (gate + 17) || nat_lt size (long_at image (gate + 9))) (nat_lt (length image) (gate + 17 + long_at image (gate + 9))) three in
+    let tests = and_true (is_open image gate) _ open_is (or_parts (nat_le (length image) gate) _ sound).1 in
+    let three = (or_parts _ (long_at image (gate + 1) == 0) tests).0 in
+    let two = (or_parts (nat_lt (length image) (gate + 17) || nat_lt size (long_at image (gate + 9))) (nat_lt (length image) (gate + 17 + long_at image (gate + 9))) three).0 in
     record {
-      head = ltb-false (length image) (gate + 17) (or_left _ (nat_lt size (long_at image (gate + 9))) two);
-      fits = ltb-false size (long_at image (gate + 9)) (or_right (nat_lt (length image) (gate + 17)) _ two);
-      whole = ltb-false (length image) (gate + 17 + long_at image (gate + 9)) (or_right (nat_lt (length image) (gate + 17) || nat_lt size (long_at image (gate + 9))) _ three);
-      some = or_right _ (long_at image (gate + 1) == 0) tests;
+      head = ltb-false (length image) (gate + 17) (or_parts _ (nat_lt size (long_at image (gate + 9))) two).0;
+      fits = ltb-false size (long_at image (gate + 9)) (or_parts (nat_lt (length image) (gate + 17)) _ two).1;
+      whole = ltb-false (length image) (gate + 17 + long_at image (gate + 9)) (or_parts (nat_lt (length image) (gate + 17) || nat_lt size (long_at image (gate + 9))) _ three).1;
+      some = (or_parts _ (long_at image (gate + 1) == 0) tests).1;
     }
-
-and_none : (a b : Bool) → b ≡ false → (a && b) ≡ false
-and_none true b is = is
-and_none false b is = refl
-
-and_closed : (a b : Bool) → a ≡ false → (a && b) ≡ false
-and_closed true b is = let no : true ≡ false = is in cc
-and_closed false b is = refl
 
 pub sound_full : (image : List ℕ) (gate size : ℕ) → IsFull image gate size → is_broken image gate size ≡ false
 sound_full image gate size full =
-    or_both (nat_le (length image) gate) _ (lt-leb (length image) gate (omega (arith, full.head)))
-    (and_none (is_open image gate) _
-    (or_both _ (long_at image (gate + 1) == 0)
-    (or_both (nat_lt (length image) (gate + 17) || nat_lt size (long_at image (gate + 9))) (nat_lt (length image) (gate + 17 + long_at image (gate + 9)))
-    (or_both (nat_lt (length image) (gate + 17)) (nat_lt size (long_at image (gate + 9))) (le-ltb (length image) (gate + 17) full.head) (le-ltb size (long_at image (gate + 9)) full.fits))
+    or_from (nat_le (length image) gate) _ (lt-leb (length image) gate (omega (arith, full.head)))
+    (and_right (is_open image gate) _
+    (or_from _ (long_at image (gate + 1) == 0)
+    (or_from (nat_lt (length image) (gate + 17) || nat_lt size (long_at image (gate + 9))) (nat_lt (length image) (gate + 17 + long_at image (gate + 9)))
+    (or_from (nat_lt (length image) (gate + 17)) (nat_lt size (long_at image (gate + 9))) (le-ltb (length image) (gate + 17) full.head) (le-ltb size (long_at image (gate + 9)) full.fits))
     (le-ltb (length image) (gate + 17 + long_at image (gate + 9)) full.whole))
     full.some))
 
 pub sound_closed : (image : List ℕ) (gate size : ℕ) → gate < length image → is_open image gate ≡ false → is_broken image gate size ≡ false
-sound_closed image gate size within closed = or_both (nat_le (length image) gate) _ (lt-leb (length image) gate within) (and_closed (is_open image gate) _ closed)
+sound_closed image gate size within closed = or_from (nat_le (length image) gate) _ (lt-leb (length image) gate within) (and_left (is_open image gate) _ closed)
 
 pub entry_closed : (image : List ℕ) (gate : ℕ) → is_open image gate ≡ false → entry_at image gate ≡ None
 entry_closed image gate closed = rw closed refl

@@ -1,7 +1,6 @@
 -- A store on which no test finds damage.
 use Rattle.std.proofs.Common.{◌≡◌, ℕ, ◌+◌, ◌≤◌, ◌^◌, nat_lt, Bool, true, false, not, List, [], ◌∷◌, ◌++◌, length, Some, None, refl}
-use Rattle.std.proofs.lemmas.Bool.{ltb-false, le-ltb}
-use Rattle.amr_store.proofs.Bools.{or_left, or_right, or_both, not_false, not_true}
+use Rattle.std.proofs.lemmas.Bool.{ltb-false, le-ltb, or_parts, or_from, not-false, not_from_true}
 use Rattle.amr_store.specs.declared.part.Part.{Part}
 use Rattle.amr_store.specs.declared.part.Part.TheVariants.{Head, Text, Size, Slot, Tie}
 use Rattle.amr_store.specs.Layout.{size_of, text_length, gate_0, gate_1}
@@ -66,10 +65,10 @@ whole_found has_magic image none =
     let none_3 = rest_none _ _ _ none_2 in
     let none_4 = rest_none _ _ _ none_3 in
     record {
-      long = ltb-false (length image) 21 (or_left (nat_lt (length image) 21) (not has_magic) head);
-      magic = not_false has_magic (or_right (nat_lt (length image) 21) (not has_magic) head);
-      text_fits = ltb-false 65536 (text_length image) (or_left (nat_lt 65536 (text_length image)) (nat_lt (length image) (21 + text_length image)) text);
-      text_whole = ltb-false (length image) (21 + text_length image) (or_right (nat_lt 65536 (text_length image)) (nat_lt (length image) (21 + text_length image)) text);
+      long = ltb-false (length image) 21 (or_parts (nat_lt (length image) 21) (not has_magic) head).0;
+      magic = not-false has_magic (or_parts (nat_lt (length image) 21) (not has_magic) head).1;
+      text_fits = ltb-false 65536 (text_length image) (or_parts (nat_lt 65536 (text_length image)) (nat_lt (length image) (21 + text_length image)) text).0;
+      text_whole = ltb-false (length image) (21 + text_length image) (or_parts (nat_lt 65536 (text_length image)) (nat_lt (length image) (21 + text_length image)) text).1;
       size_fits = ltb-false (2 ^ 40) (size_of image) size;
       slot_0 = head_none _ _ _ none_3;
       slot_1 = head_none _ _ _ none_4;
@@ -82,8 +81,8 @@ whole_of has_magic image none = whole_found has_magic image record { none = none
 pub tests_of : (has_magic : Bool) (image : List ℕ) → Whole has_magic image → first_found (tests has_magic image) ≡ None
 tests_of has_magic image whole =
     let rows : NoneFound (tests has_magic image) =
-    both_none _ Head _ (or_both (nat_lt (length image) 21) (not has_magic) (le-ltb (length image) 21 whole.long) (not_true has_magic whole.magic))
-    (both_none _ Text _ (or_both (nat_lt 65536 (text_length image)) (nat_lt (length image) (21 + text_length image)) (le-ltb 65536 (text_length image) whole.text_fits) (le-ltb (length image) (21 + text_length image) whole.text_whole))
+    both_none _ Head _ (or_from (nat_lt (length image) 21) (not has_magic) (le-ltb (length image) 21 whole.long) (not_from_true has_magic whole.magic))
+    (both_none _ Text _ (or_from (nat_lt 65536 (text_length image)) (nat_lt (length image) (21 + text_length image)) (le-ltb 65536 (text_length image) whole.text_fits) (le-ltb (length image) (21 + text_length image) whole.text_whole))
     (both_none _ Size _ (le-ltb (2 ^ 40) (size_of image) whole.size_fits)
     (both_none _ (Slot 0) _ whole.slot_0
     (both_none _ (Slot 1) _ whole.slot_1

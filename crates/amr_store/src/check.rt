@@ -1,4 +1,4 @@
-// The tests on the store at a base, in their order.
+//! The tests on the store at a base, in their order.
 ghost use Rattle.std.specs.Prelude.{◌≡◌, ◌≤◌, ◌^◌, List, ℕ, Some, drop, IfOk};
 ghost use Rattle.amr_causes.specs.Causes.{HasCause};
 ghost use Rattle.amr_store.specs.Checking.{Checks, HasRoom, is_slot_tie, joined};

@@ -1,4 +1,4 @@
-// A new store over an empty disk.
+//! A new store over an empty disk.
 ghost use Rattle.std.specs.Prelude.{◌≡◌, ◌≤◌, ◌<◌, ◌+◌, ◌^◌, ◌⊎◌, ◌==◌, ◌&&◌, true, false, nat_lt, List, ℕ, Some, None, length, IsSome, IfOk, OnOk, vec_len, option_map};
 ghost use Rattle.amr_causes.specs.Causes.{HasCause};
 ghost use Rattle.amr_disk.specs.Image.{Only};
@@ -116,8 +116,14 @@ fn lay<D: Disk>(
         Ok(true) => write_three_synced(
             disk,
             Write { at: 1, bytes: head },
-            Write { at: gate, bytes: &[0] },
-            Write { at: end, bytes: &[0] },
+            Write {
+                at: gate,
+                bytes: &[0],
+            },
+            Write {
+                at: end,
+                bytes: &[0],
+            },
         ),
         Ok(false) => write_two_synced(disk, 1, head, gate, &[0]),
         Err(fault) => Err(fault),

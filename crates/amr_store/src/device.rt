@@ -1,4 +1,4 @@
-// Reads, and writes that are synced.
+//! Reads, and writes that are synced.
 ghost use Rattle.std.specs.Prelude.{◌≡◌, ◌<◌, ◌+◌, ◌^◌, nat_lt, ◌&&◌, List, ℕ, Some, length, drop, IfOk, OnOk, option_map};
 ghost use Rattle.amr_causes.specs.Causes.{HasCause};
 ghost use Rattle.amr_disk.specs.Image.{written_at, Torn, Only};

@@ -1,4 +1,4 @@
-// What opening a disk finds.
+//! What opening a disk finds.
 use crate::part::Part;
 use crate::store::Store;
 

@@ -1,4 +1,4 @@
-// The latest state.
+//! The latest state.
 ghost use Rattle.std.specs.Prelude.{◌≡◌, true, false, List, ℕ, Some, is_some, option_map, IfOk};
 ghost use Rattle.amr_store.specs.Phases.{OnlyReads};
 ghost use Rattle.amr_store.specs.Reasons.{HasReason, Shuts, is_no_memory};

@@ -1,4 +1,4 @@
-// Opening a store: what the disk holds, by the tests on it in their order.
+//! Opening a store: what the disk holds, by the tests on it in their order.
 ghost use Rattle.std.specs.Prelude.{◌≡◌, ◌≤◌, ◌<◌, ◌+◌, ◌*◌, ◌^◌, ◌==◌, ◌&&◌, true, false, nat_lt, nat_eq, List, ℕ, Some, length, drop, slice_range, IfOk, OnOk, vec_len};
 ghost use Rattle.amr_causes.specs.Causes.{HasCause};
 ghost use Rattle.amr_disk.specs.Image.{Only};

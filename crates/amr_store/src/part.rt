@@ -1,4 +1,4 @@
-// The parts of a store's file, and why a call on a store is refused.
+//! The parts of a store's file, and why a call on a store is refused.
 ghost use Rattle.std.specs.Prelude.{◌≡◌};
 
 use amr_causes::NoMemory;

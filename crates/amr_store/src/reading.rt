@@ -1,4 +1,4 @@
-// The pieces of a store, as they are read.
+//! The parts of a store, as they are read.
 ghost use Rattle.std.specs.Prelude.{◌≡◌, ◌≤◌, ◌<◌, ◌+◌, ◌^◌, List, ℕ, Some, length, drop, IfOk};
 ghost use Rattle.amr_causes.specs.Causes.{HasCause};
 ghost use Rattle.amr_store.specs.Layout.{long_at, word_at};

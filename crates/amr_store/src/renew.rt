@@ -1,4 +1,4 @@
-// A store of version 2 past the end of one of version 1, with the same problem and a new state.
+//! A store of version 2 past the end of one of version 1, with the same problem and a new state.
 ghost use Rattle.std.specs.Prelude.{◌≡◌, ◌≤◌, ◌<◌, ◌+◌, ◌^◌, ◌⊎◌, true, false, List, ℕ, Some, length, IsSome, IfOk, IfSome, OnOk, vec_len, option_map};
 ghost use Rattle.amr_causes.specs.Causes.{HasCause};
 ghost use Rattle.amr_disk.specs.Image.{Only};
@@ -61,28 +61,35 @@ fn shut_end<D: Disk>(disk: &mut D, end: u64) -> Result<(), DiskFault>
     }
 }
 
+// A state as a slot holds it: its sequence and its payload.
+#[derive(Clone, Copy)]
+struct Entry<'a> {
+    sequence: u64,
+    payload: &'a [u8],
+}
+
 // The three steps of a renewal.
 fn write_renewal<D: Disk>(
     disk: &mut D,
     end: u64,
     problem: &[u8],
     slot_size: u64,
-    sequence: u64,
-    bytes: &[u8],
+    state: Entry<'_>,
     all: &[u8],
 ) -> Result<(), DiskFault>
     requires end { end < 2 ^ 44 }
     requires text { length problem.now ≤ 65536 }
     requires size { slot_size ≤ 2 ^ 40 }
-    requires fits { length bytes.now ≤ slot_size }
-    requires counted { 0 < sequence }
-    requires count { length all.now ≡ 37 + length problem.now + length bytes.now }
-    requires all { all.now ≡ renewal_bytes problem.now slot_size sequence bytes.now }
+    requires fits { length state.payload.now ≤ slot_size }
+    requires counted { 0 < state.sequence }
+    requires small { state.sequence < 2 ^ 64 }
+    requires count { length all.now ≡ 37 + length problem.now + length state.payload.now }
+    requires all { all.now ≡ renewal_bytes problem.now slot_size state.sequence state.payload.now }
     requires settled { Only (D.seen disk.old) (D.leaves disk.old (D.moment disk.old)) }
     requires old { (s : List ℕ) → D.seen disk.old ≡ Some s → IsOld end problem.now s }
-    ensures seen { OnOk result (D.seen disk.new ≡ option_map (renewed_image end problem.now slot_size sequence bytes.now) (D.seen disk.old)) }
-    ensures made { OnOk result ((t : List ℕ) → D.seen disk.new ≡ Some t → IsRenewed end problem.now slot_size sequence bytes.now t) }
-    ensures stops { StopsFrom D.seen D.moment D.leaves disk.old disk.new (λ s c. stored c ≡ stored s ⊎ stored c ≡ Held (renewed_state problem.now slot_size sequence bytes.now)) }
+    ensures seen { OnOk result (D.seen disk.new ≡ option_map (renewed_image end problem.now slot_size state.entry.sequence state.entry.payload.now) (D.seen disk.old)) }
+    ensures made { OnOk result ((t : List ℕ) → D.seen disk.new ≡ Some t → IsRenewed end problem.now slot_size state.entry.sequence state.entry.payload.now t) }
+    ensures stops { StopsFrom D.seen D.moment D.leaves disk.old disk.new (λ s c. stored c ≡ stored s ⊎ stored c ≡ Held (renewed_state problem.now slot_size state.entry.sequence state.entry.payload.now)) }
     ensures settled { OnOk result (Only (D.seen disk.new) (D.leaves disk.new (D.moment disk.new))) }
     ensures cause { HasCause (D.faults disk.old) (D.faults disk.new) result }
 {
@@ -146,7 +153,11 @@ impl Store {
             Ok(all) => all,
             Err(_) => return Err(StoreFault::NoMemory),
         };
-        match write_renewal(disk, end, &problem, slot_size, sequence, bytes, &all) {
+        let state = Entry {
+            sequence,
+            payload: bytes,
+        };
+        match write_renewal(disk, end, &problem, slot_size, state, &all) {
             Ok(()) => Ok(Store {
                 version: 2,
                 base: end,

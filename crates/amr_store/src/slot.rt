@@ -1,4 +1,4 @@
-// The two slots of a store.
+//! The two slots of a store.
 
 /// One of the two slots.
 #[derive(Clone, Copy, Debug, PartialEq, Eq)]

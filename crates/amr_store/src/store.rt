@@ -1,4 +1,4 @@
-// The store in memory.
+//! The store in memory.
 ghost use Rattle.std.specs.Prelude.{◌≡◌, ◌≤◌, ◌<◌, ◌+◌, ◌^◌, vec_len};
 
 use crate::slot::{Slot, Which};

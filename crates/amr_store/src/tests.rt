@@ -1,4 +1,4 @@
-// Stops, damaged images, and the file. The problem is one byte, and a slot holds two: the gates stand at 22 and 41, the end at 60.
+//! Stops, damaged images, and the file. The problem is one byte, and a slot holds two: the gates stand at 22 and 41, the end at 60.
 ghost use Rattle.amr_store.specs.Created.{IsVersion};
 
 use crate::{Found, Part, Store, StoreFault};

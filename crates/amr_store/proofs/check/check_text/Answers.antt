@@ -1,6 +1,5 @@
 use Rattle.std.proofs.Common.{◌≡◌, ◌∙◌, ◌+◌, ◌^◌, nat_lt, true, false, ◌||◌, ◌∷◌, sym, drop, length, arith}
-use Rattle.std.proofs.lemmas.Bool.{ltb-true, ltb-false, lt-ltb, le-ltb}
-use Rattle.amr_store.proofs.Bools.{or_second, or_both}
+use Rattle.std.proofs.lemmas.Bool.{ltb-true, ltb-false, lt-ltb, le-ltb, or_right, or_from}
 use Rattle.amr_store.proofs.Pieces.{if_ok_map, more_tests, first_test, next_test}
 use Rattle.amr_store.specs.declared.part.Part.TheVariants.{Text, Size}
 use Rattle.amr_store.specs.Layout.{size_of, text_length}
@@ -12,14 +11,14 @@ returns-in-Ok-false-clause-told g c s is says =
     let part = drop c.args.base s in
     let none : nat_lt (20 + c.args.head.text) (length part) ≡ false = sym (c.in-Ok-false.ensures.told s is) ∙ c.in-Ok-false.field-0-test in
     first_test (nat_lt 65536 (text_length part) || nat_lt (length part) (21 + text_length part)) Text ((nat_lt (2 ^ 40) (size_of part), Size) ∷ slot_tests part)
-    (or_second (nat_lt 65536 (text_length part)) (nat_lt (length part) (21 + text_length part)) (lt-ltb (length part) (21 + text_length part) (omega (arith, says.text_is, ltb-false (20 + c.args.head.text) (length part) none))))
+    (or_right (nat_lt 65536 (text_length part)) (nat_lt (length part) (21 + text_length part)) (lt-ltb (length part) (21 + text_length part) (omega (arith, says.text_is, ltb-false (20 + c.args.head.text) (length part) none))))
 
 pub returns-then-head-clause-told : goal.returns-then-head-clause-told
 returns-then-head-clause-told g c s is says =
     let part = drop c.args.base s in
     let long : nat_lt (20 + c.args.head.text) (length part) ≡ true = sym (c.in-Ok-true.ensures.told s is) ∙ c.in-Ok-true.field-0-test in
     next_test (nat_lt 65536 (text_length part) || nat_lt (length part) (21 + text_length part)) Text Size ((nat_lt (2 ^ 40) (size_of part), Size) ∷ slot_tests part)
-    (or_both (nat_lt 65536 (text_length part)) (nat_lt (length part) (21 + text_length part)) (le-ltb 65536 (text_length part) (omega (arith, says.text_is, c.if-head-gt65536.false)))
+    (or_from (nat_lt 65536 (text_length part)) (nat_lt (length part) (21 + text_length part)) (le-ltb 65536 (text_length part) (omega (arith, says.text_is, c.if-head-gt65536.false)))
     (le-ltb (length part) (21 + text_length part) (omega (arith, says.text_is, ltb-true (20 + c.args.head.text) (length part) long))))
     (first_test (nat_lt (2 ^ 40) (size_of part)) Size (slot_tests part) (lt-ltb (2 ^ 40) (size_of part) (omega (arith, says.size_is, c.if-head.true))))
 
@@ -29,6 +28,6 @@ returns-clause-told g c =
     let part = drop c.args.base s in
     let long : nat_lt (20 + c.args.head.text) (length part) ≡ true = sym (c.in-Ok-true.ensures.told s is) ∙ c.in-Ok-true.field-0-test in
     more_tests checked (nat_lt 65536 (text_length part) || nat_lt (length part) (21 + text_length part)) Text ((nat_lt (2 ^ 40) (size_of part), Size) ∷ slot_tests part) part
-    (or_both (nat_lt 65536 (text_length part)) (nat_lt (length part) (21 + text_length part)) (le-ltb 65536 (text_length part) (omega (arith, says.text_is, c.if-head-gt65536.false)))
+    (or_from (nat_lt 65536 (text_length part)) (nat_lt (length part) (21 + text_length part)) (le-ltb 65536 (text_length part) (omega (arith, says.text_is, c.if-head-gt65536.false)))
     (le-ltb (length part) (21 + text_length part) (omega (arith, says.text_is, ltb-true (20 + c.args.head.text) (length part) long))))
     (more_tests checked (nat_lt (2 ^ 40) (size_of part)) Size (slot_tests part) part (le-ltb (2 ^ 40) (size_of part) (omega (arith, says.size_is, c.if-head.false))) (told s (c.has_byte_from.ensures.reads.same ∙ is) says)))

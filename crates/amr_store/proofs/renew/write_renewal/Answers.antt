@@ -19,8 +19,8 @@ returns-in-Ok-write_two_synced-clause-stops g c s is =
     let end = c.args.end in
     let problem = c.args.problem.now in
     let size = c.args.slot_size in
-    let q = c.args.sequence in
-    let bytes = c.args.bytes.now in
+    let q = c.args.state.sequence in
+    let bytes = c.args.state.payload.now in
     let all = c.args.all.now in
     let beyond = end + gate_1 (length problem) size in
     let disk_0 = c.args.disk.now in
@@ -34,7 +34,7 @@ returns-in-Ok-write_two_synced-clause-stops g c s is =
     let first = c.shut_end.ensures.stops s problem is (c.requires.old s is) in
     let second = weaker m l disk_1 disk_2 (TornTwice (end + 1) (length all) beyond 1 told_1.0) (λ i. stored i ≡ stored told_1.0) (λ i torn. laid_same end (length all) beyond problem told_1.0 i shut_1 past torn) (c.write_two_synced.ensures.stops told_1.0 told_1.1) in
     let both = two m l disk_0 disk_1 disk_2 s told_1.0 first second (g.met.D.Disk.reads_image disk_1 told_1.0 told_1.1) in
-    let renewal = renewal_written told_1.0 all problem end size q bytes c.requires.all c.requires.text c.requires.size c.requires.fits c.requires.counted c.ranges.sequence.fits in
+    let renewal = renewal_written told_1.0 all problem end size q bytes c.requires.all c.requires.text c.requires.size c.requires.fits c.requires.counted c.requires.small in
     let last = weaker m l disk_2 c.write_synced.new.disk (Torn end 1 image_2) (λ i. (stored i ≡ stored image_2) ⊎ (stored i ≡ Held (renewed_state problem size q bytes)))
     (λ i torn. renewed_stop end problem size q bytes image_2 i (laid_shut end beyond problem all told_1.0 shut_1 past) c.requires.text c.requires.size renewal torn) (c.write_synced.ensures.stops image_2 told_2) in
     three m l disk_0 disk_2 c.write_synced.new.disk s image_2 (λ (x : Stored). Held (renewed_state problem size q bytes)) both last (g.met.D.Disk.reads_image disk_2 image_2 told_2)
@@ -44,8 +44,8 @@ returns-in-Ok-write_two_synced-clause-made g c =
     let end = c.args.end in
     let problem = c.args.problem.now in
     let size = c.args.slot_size in
-    let q = c.args.sequence in
-    let bytes = c.args.bytes.now in
+    let q = c.args.state.sequence in
+    let bytes = c.args.state.payload.now in
     let all = c.args.all.now in
     let beyond = end + gate_1 (length problem) size in
     let past : end < beyond = omega arith in
@@ -53,7 +53,7 @@ returns-in-Ok-write_two_synced-clause-made g c =
     let from_2 = mapped_some (written_at end (165 ∷ [])) (g.D.Disk.seen c.write_two_synced.new.disk) t (sym seen ∙ is) in
     let from_1 = mapped_some (λ i. written_at beyond (0 ∷ []) (written_at (end + 1) all i)) (g.D.Disk.seen c.shut_end.new.disk) from_2.0 (sym c.in-Ok-write_two_synced.ensures.seen ∙ from_2.1) in
     let shut_1 = c.in-Ok.ensures.shut from_1.0 problem from_1.1 c.requires.old in
-    let renewal = renewal_written from_1.0 all problem end size q bytes c.requires.all c.requires.text c.requires.size c.requires.fits c.requires.counted c.ranges.sequence.fits in
+    let renewal = renewal_written from_1.0 all problem end size q bytes c.requires.all c.requires.text c.requires.size c.requires.fits c.requires.counted c.requires.small in
     subst (λ (i : List ℕ). IsRenewed end problem size q bytes i) from_2.2
     (renewed_after end problem size q bytes from_2.0 (subst (λ (i : List ℕ). IsOldShut end problem i) from_1.2 (laid_shut end beyond problem all from_1.0 shut_1 past)) c.requires.text c.requires.size
     (subst (λ (i : List ℕ). IsRenewal problem size q bytes (drop end i)) from_1.2 renewal))) c.write_synced.ensures.seen
@@ -74,12 +74,12 @@ returns-in-Err-write_two_synced-clause-stops g c s is =
     let told_1 = some_of (g.D.Disk.seen disk_1) (c.in-Ok.ensures.told s is) in
     let shut_1 = c.in-Ok.ensures.shut told_1.0 problem told_1.1 c.requires.old in
     let second = weaker m l disk_1 disk_2 (TornTwice (end + 1) (length all) beyond 1 told_1.0) (λ i. stored i ≡ stored told_1.0) (λ i torn. laid_same end (length all) beyond problem told_1.0 i shut_1 past torn) (c.write_two_synced.ensures.stops told_1.0 told_1.1) in
-    one m l disk_0 disk_2 s (λ (x : Stored). Held (renewed_state problem size c.args.sequence c.args.bytes.now))
+    one m l disk_0 disk_2 s (λ (x : Stored). Held (renewed_state problem size c.args.state.sequence c.args.state.payload.now))
     (two m l disk_0 disk_1 disk_2 s told_1.0 (c.shut_end.ensures.stops s problem is (c.requires.old s is)) second (g.met.D.Disk.reads_image disk_1 told_1.0 told_1.1))
 
 pub returns-in-Err-clause-stops : goal.returns-in-Err-clause-stops
 returns-in-Err-clause-stops g c s is =
-    one g.D.Disk.moment g.D.Disk.leaves c.args.disk.now c.shut_end.new.disk s (λ (x : Stored). Held (renewed_state c.args.problem.now c.args.slot_size c.args.sequence c.args.bytes.now))
+    one g.D.Disk.moment g.D.Disk.leaves c.args.disk.now c.shut_end.new.disk s (λ (x : Stored). Held (renewed_state c.args.problem.now c.args.slot_size c.args.state.sequence c.args.state.payload.now))
     (c.shut_end.ensures.stops s c.args.problem.now is (c.requires.old s is))
 
 pub returns-in-Ok-write_two_synced-clause-seen : goal.returns-in-Ok-write_two_synced-clause-seen
