@@ -1,5 +1,7 @@
 //! Stops, damaged images, and the file. The problem is one byte, and a slot holds two: the gates stand at 22 and 41, the end at 60.
+ghost use Rattle.std.specs.Prelude.{◌≡◌, None};
 ghost use Rattle.amr_store.specs.Created.{IsVersion};
+ghost use Rattle.amr_store.specs.Stands.{IsStoreReady, last_in, slot_size_in};
 
 use crate::{Found, Part, Store, StoreFault};
 use amr_disk::{Disk, FileDisk, Leave, MemDisk};
@@ -107,29 +109,35 @@ fn stops_find_one_state_or_the_next(rt: HostRuntime) -> Result<(), Fail> {
     Ok(())
 }
 
-// How many puts succeed on a disk that stops at a call.
-fn puts_before(alloc: Global, stop: u64) -> Result<u64, Fail> {
+// Three puts in turn, up to the first that is refused.
+fn put_three<D: Disk>(store: &mut Store, disk: &mut D) -> Result<(), StoreFault>
+    requires ready { IsStoreReady D.seen D.moment D.leaves store.old disk.old }
+    requires none { last_in store.old ≡ None }
+    requires size { slot_size_in store.old ≡ 2 }
+{
+    store.put(disk, 1, &[7])?;
+    store.put(disk, 2, &[7])?;
+    store.put(disk, 3, &[7])
+}
+
+// The last of three puts that succeeds on a disk that stops at a call.
+fn last_before(alloc: Global, stop: u64) -> Result<Option<u64>, Fail> {
     let mut disk = MemDisk::make(alloc, &[], 128, 64, &[], Some(stop))?;
     let mut store = Store::create(alloc, &mut disk, &[112], 2, 2)?;
-    for count in 0..4 {
-        match store.put(&mut disk, count + 1, &[7]) {
-            Ok(()) => {}
-            Err(_) => return Ok(count),
-        }
-    }
-    Ok(4)
+    let _ = put_three(&mut store, &mut disk);
+    Ok(store.last())
 }
 
 #[test]
 fn put_is_seven_calls(rt: HostRuntime) -> Result<(), Fail> {
     let alloc = rt.alloc();
-    // Creation is eight calls. Each put is done by its seventh call, and makes no eighth.
-    for puts in 0..4 {
-        let next = 9 + 7 * puts;
-        assert_eq!(rt; puts_before(alloc, next)?, puts, "stopped at {next}");
-        let last = next + 6;
-        assert_eq!(rt; puts_before(alloc, last)?, puts, "stopped at {last}");
-    }
+    // Creation is eight calls. Each put needs its seventh call, and makes no eighth.
+    assert_eq!(rt; last_before(alloc, 15)?, None);
+    assert_eq!(rt; last_before(alloc, 16)?, Some(1));
+    assert_eq!(rt; last_before(alloc, 22)?, Some(1));
+    assert_eq!(rt; last_before(alloc, 23)?, Some(2));
+    assert_eq!(rt; last_before(alloc, 29)?, Some(2));
+    assert_eq!(rt; last_before(alloc, 30)?, Some(3));
     Ok(())
 }
 
