@@ -8,7 +8,7 @@ use Rattle.amr_box.specs.declared.Axis.TheVariants.{X, Y}
 use Rattle.amr_box.specs.Cells.{Extent, IsProper, along, below_cut, common, from_cut, holds, within}
 use Rattle.amr_box.proofs.Boxes.{holds-common, int_le-yes}
 use Rattle.amr_boxlist.specs.Lists.{holders}
-use Rattle.amr_boxlist.specs.Remnants.{frame, high_part, is_proper, low_part, remnants}
+use Rattle.amr_boxlist.specs.Remnants.{frame, high_part, is_proper, low_part, whole_or_frame}
 use Rattle.amr_boxlist.proofs.Sets.{HoldOnce, holders-append, one_if}
 
 pub proper-test : (e : Extent) → IsProper e → is_proper e ≡ true
@@ -191,10 +191,10 @@ apart_from true true h = h
 apart_from true false h = refl
 apart_from false t h = refl
 
-pub remnants-hold : (b a : Extent) → HoldOnce (remnants b a) (λ c. holds a c && not (holds b c))
+pub remnants-hold : (b a : Extent) → HoldOnce (whole_or_frame b a) (λ c. holds a c && not (holds b c))
 remnants-hold b a = record { at = λ c. step c (is_proper (common a b)) refl }
   where
-    step : (c : Cell) (t : Bool) → is_proper (common a b) ≡ t → holders (remnants b a) c ≡ one_if (holds a c && not (holds b c))
+    step : (c : Cell) (t : Bool) → is_proper (common a b) ≡ t → holders (whole_or_frame b a) c ≡ one_if (holds a c && not (holds b c))
     step c true e =
         rw e
         (frame-holders a (common a b) (part_of a b e) c
@@ -205,10 +205,10 @@ remnants-hold b a = record { at = λ c. step c (is_proper (common a b)) refl }
 
 -- ---- what the code pushes
 
-pub remnants-alone : (b a : Extent) → (IsProper (common a b) → ⊥) → remnants b a ≡ a ∷ []
+pub remnants-alone : (b a : Extent) → (IsProper (common a b) → ⊥) → whole_or_frame b a ≡ a ∷ []
 remnants-alone b a n = rw (improper-test (common a b) n)
 
-pub remnants-frame : (b a m : Extent) → m ≡ common a b → IsProper (common a b) → remnants b a ≡ frame a m
+pub remnants-frame : (b a m : Extent) → m ≡ common a b → IsProper (common a b) → whole_or_frame b a ≡ frame a m
 remnants-frame b a m e p = rw (proper-test (common a b) p, e)
 
 pub high_is : (axis : Axis) (i k : ℤ) (a r : Extent) → i <ℤ along axis a.hi → k ≡ i +ℤ pos 1 → r ≡ from_cut axis k a → r ∷ [] ≡ high_part axis (i +ℤ pos 1) a

@@ -2,3 +2,4 @@ pub mod Sets
 pub mod Frame
 pub mod Pieces
 pub mod SharedCells
+pub mod Corners

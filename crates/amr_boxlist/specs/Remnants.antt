@@ -1,8 +1,8 @@
 -- What is left of a box when the cells of another are taken away, as at most four boxes (BoxLib: boxDiff).
-use Rattle.std.specs.Prelude.{Bool, cond, ◌&&◌, ℤ, pos, ◌+ℤ◌, int_le, int_lt, List, [], ◌∷◌, ◌++◌}
+use Rattle.std.specs.Prelude.{Bool, cond, ◌&&◌, ℤ, pos, ◌+ℤ◌, ◌-ℤ◌, int_le, int_lt, List, [], ◌∷◌, ◌++◌}
 use Rattle.amr_box.specs.declared.Axis.{Axis}
 use Rattle.amr_box.specs.declared.Axis.TheVariants.{X, Y}
-use Rattle.amr_box.specs.Cells.{Extent, along, below_cut, common, from_cut}
+use Rattle.amr_box.specs.Cells.{Extent, along, below_cut, cell, common, extent, from_cut}
 
 -- the part of a box below a column or row, none where there is none
 abbrev pub low_part : Axis → ℤ → Extent → List Extent
@@ -24,5 +24,33 @@ frame a m =
 abbrev pub is_proper : Extent → Bool
 is_proper b = int_le b.lo.x b.hi.x && int_le b.lo.y b.hi.y
 
+-- as calls cut it
+abbrev pub whole_or_frame : Extent → Extent → List Extent
+whole_or_frame b a = cond (is_proper (common a b)) (frame a (common a b)) (a ∷ [])
+
+-- ---- the same by corners
+
+-- a box, or nothing where its corners are out of order
+abbrev pub if_proper : Extent → List Extent
+if_proper b = cond (is_proper b) (b ∷ []) []
+
+-- the four sides of a box a round a box m within it: the rows below m, the rows above, and of the rows of m what lies left and
+-- right of it
+abbrev pub south_of : Extent → Extent → Extent
+south_of m a = extent a.lo (cell a.hi.x (m.lo.y -ℤ pos 1))
+
+abbrev pub north_of : Extent → Extent → Extent
+north_of m a = extent (cell a.lo.x (m.hi.y +ℤ pos 1)) a.hi
+
+abbrev pub west_of : Extent → Extent → Extent
+west_of m a = extent (cell a.lo.x m.lo.y) (cell (m.lo.x -ℤ pos 1) m.hi.y)
+
+abbrev pub east_of : Extent → Extent → Extent
+east_of m a = extent (cell (m.hi.x +ℤ pos 1) m.lo.y) (cell a.hi.x m.hi.y)
+
+abbrev pub sides_round : Extent → Extent → List Extent
+sides_round m a = if_proper (south_of m a) ++ if_proper (north_of m a) ++ if_proper (west_of m a) ++ if_proper (east_of m a)
+
+-- what is left of a box a without the cells of b, in order: a itself where they share no cell, and else at most four boxes
 abbrev pub remnants : Extent → Extent → List Extent
-remnants b a = cond (is_proper (common a b)) (frame a (common a b)) (a ∷ [])
+remnants b a = cond (is_proper (common a b)) (sides_round (common a b) a) (a ∷ [])

@@ -7,6 +7,7 @@ ghost use Rattle.amr_box.specs.Cells.{IsNear, holds};
 ghost use Rattle.amr_box.specs.declared.Cell.{Cell};
 ghost use Rattle.amr_boxlist.specs.Lists.{AreApart, in_boxes};
 ghost use Rattle.amr_boxlist.specs.Chopped.{chopped};
+ghost use Rattle.amr_boxlist.specs.Remnants.{remnants};
 
 mod chopping;
 mod outside;
@@ -16,6 +17,8 @@ use amr_box::Bx;
 use amr_causes::NoMemory;
 use std::alloc::Global;
 use std::marker::Model;
+
+pub use sharing::covers;
 
 /// A list of boxes of which no two have a cell in common. Contracts see it as the list of its boxes, in order.
 #[derive(Drop)]
@@ -63,9 +66,11 @@ impl BoxList {
         Ok(())
     }
 
-    /// Takes the cells of a box away: each box of the list gives way to the at most four boxes that are left of it.
-    /// After `NoMemory` the list is as before.
+    /// Takes the cells of a box away: each box of the list gives way to the at most four boxes that are left of it, the
+    /// rows below what both have in common, the rows above, and what lies left and right (BoxLib's `boxDiff`). After
+    /// `NoMemory` the list is as before.
     pub fn minus(&mut self, b: Bx) -> Result<(), NoMemory>
+        ensures remnants { OnOk result (self.new ≡ flat_map (remnants b) self.old) }
         ensures cells { OnOk result ((c : Cell) → in_boxes self.new c ≡ (in_boxes self.old c && not (holds b c))) }
         ensures apart { AreApart self.new }
         ensures err { OnErr result (self.new ≡ self.old) }
@@ -82,7 +87,7 @@ impl BoxList {
         requires { IsNear b.now }
         ensures { IsTrue result ↔ ((c : Cell) → IsTrue (holds b.now c) → IsTrue (in_boxes self.now c)) }
     {
-        sharing::count_shared(self.boxes.as_slice(), b) == b.area()
+        sharing::covers(self.boxes.as_slice(), b)
     }
 
     /// Chops each box, from its low corner, into pieces of `max` by `max` cells, the last ones shorter, rows of pieces

@@ -3,7 +3,7 @@
 ghost use Rattle.std.specs.Prelude.{◌≡◌, ◌≤◌, ◌++◌, IfOk, OnOk, pos, ◌+ℤ◌, ◌≤ℤ◌, ◌<ℤ◌};
 ghost use Rattle.std.specs.List.{flat_map};
 ghost use Rattle.amr_box.specs.Cells.{along, below_cut, from_cut};
-ghost use Rattle.amr_boxlist.specs.Remnants.{frame, high_part, low_part, remnants};
+ghost use Rattle.amr_boxlist.specs.Remnants.{frame, high_part, low_part, whole_or_frame};
 
 use amr_box::{Axis, Bx};
 use amr_causes::NoMemory;
@@ -11,7 +11,7 @@ use std::alloc::Global;
 
 /// What is left of the boxes, in their order.
 pub fn without(alloc: Global, boxes: &[Bx], b: &Bx) -> Result<Vec<Bx>, NoMemory>
-    ensures { IfOk result (λ left. left.items ≡ flat_map (remnants b.now) boxes.now) }
+    ensures { IfOk result (λ left. left.items ≡ flat_map (whole_or_frame b.now) boxes.now) }
 {
     let mut left = Vec::new(alloc);
     for a in boxes {
@@ -21,7 +21,7 @@ pub fn without(alloc: Global, boxes: &[Bx], b: &Bx) -> Result<Vec<Bx>, NoMemory>
 }
 
 fn push_remnants(left: &mut Vec<Bx>, a: &Bx, b: &Bx) -> Result<(), NoMemory>
-    ensures { OnOk result (left.new.items ≡ left.old.items ++ remnants b.now a.now) }
+    ensures { OnOk result (left.new.items ≡ left.old.items ++ whole_or_frame b.now a.now) }
 {
     match a.meet(b) {
         None => {

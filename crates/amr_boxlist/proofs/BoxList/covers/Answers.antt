@@ -1,14 +1,13 @@
-use Rattle.std.proofs.Common.{◌∙◌, ap, subst, List}
-use Rattle.std.specs.List.{sum_by}
-use Rattle.amr_box.specs.Cells.{Extent}
-use Rattle.amr_boxlist.specs.Lists.{AreApart}
-use Rattle.amr_boxlist.specs.Shared.{shared}
-use Rattle.amr_boxlist.proofs.SharedCells.{covers_is}
+use Rattle.std.proofs.Common.{◌∙◌, subst, sym, List, ◌↔◌, IsTrue}
+use Rattle.amr_box.specs.declared.Cell.{Cell}
+use Rattle.amr_box.specs.Cells.{Extent, holds}
+use Rattle.amr_boxlist.specs.Lists.{AreApart, in_boxes}
 use Rattle.amr_boxlist.proofs.BoxList.covers.Goals as goal
+
+pub covers-requires-clause-apart : goal.covers-requires-clause-apart
+covers-requires-clause-apart c = subst (λ (l : List Extent). AreApart l) (sym c.as_slice.ensures.value) c.self.invariant
 
 pub returns : goal.returns
 returns c =
-    covers_is c.args.self.now c.args.b.now _ _ c.requires
-    (subst (λ (l : List Extent). AreApart l) c.self.view_is c.self.invariant)
-    (c.count_shared.ensures ∙ ap (sum_by (shared c.args.b.now)) (c.as_slice.ensures.value ∙ c.self.view_is))
-    c.area.ensures.sides
+    let P : List Extent → Type 0 = λ (l : List Extent). IsTrue c.covers.result ↔ ((q : Cell) → IsTrue (holds c.args.b.now q) → IsTrue (in_boxes l q)) in
+    subst P (c.as_slice.ensures.value ∙ c.self.view_is) c.covers.ensures
