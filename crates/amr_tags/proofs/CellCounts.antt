@@ -1,5 +1,5 @@
 -- The number of a box's tagged cells in a part of it, row by row.
-use Rattle.std.proofs.Common.{◌≡◌, ℕ, zero, suc, ◌+◌, ◌-◌, ◌*◌, ◌/◌, ◌<◌, ◌≤◌, Bool, true, false, ◌&&◌, cond, ℤ, pos, ◌+ℤ◌, ◌-ℤ◌, ◌<ℤ◌, negsuc, refl, sym, ap, ◌∙◌, arith, List, [], ◌∷◌, map}
+use Rattle.std.proofs.Common.{◌≡◌, ℕ, zero, suc, ◌+◌, ◌-◌, ◌*◌, ◌/◌, ◌<◌, ◌≤◌, Bool, true, false, ◌&&◌, cond, ℤ, pos, ◌+ℤ◌, ◌-ℤ◌, ◌≤ℤ◌, ◌<ℤ◌, negsuc, refl, sym, ap, ◌∙◌, arith, List, [], ◌∷◌, map}
 use Rattle.std.specs.Prelude.{nat_le, unsigned_abs}
 use Rattle.std.specs.List.{count_by, flat_map, range_with_len, sum_by}
 use Rattle.std.proofs.lemmas.Int.{ints, clamps}
@@ -147,6 +147,12 @@ part-count b part words west south east north k wide high columns rows =
     same j h g =
         ap (λ t. cond (t && nat_le j north) (row_count (words_for (width b)) words west east j) 0) (is_le south j h)
         ∙ ap (λ t. cond t (row_count (words_for (width b)) words west east j) 0) (is_le j north g)
+
+pub column_inside : (lo hi end : ℤ) (e w : ℕ) → pos e ≡ end -ℤ lo → pos w ≡ hi +ℤ pos 1 -ℤ lo → end ≤ℤ hi → e < w
+column_inside lo hi end e w p q h = omega (arith, ints)
+
+pub word_inside : (e w p : ℕ) → e < w → p ≡ words_for w → e / 64 < p
+word_inside e w p h k = omega arith
 
 pub below_side : (z : ℤ) (n : ℕ) → pos n <ℤ z → n < at_least_zero z
 below_side (pos m) n h = omega (arith, ints)

@@ -4,7 +4,7 @@ use Rattle.std.proofs.lemmas.Nat.{row_fits}
 use Rattle.amr_box.specs.Cells.{height, width}
 use Rattle.amr_tags.specs.Bits.{bit_of, words_for}
 use Rattle.amr_tags.specs.Parts.{with_part}
-use Rattle.amr_tags.proofs.CellCounts.{Spans, below_side}
+use Rattle.amr_tags.proofs.CellCounts.{Spans, below_side, column_inside, word_inside}
 use Rattle.amr_tags.proofs.Fills.{cells_after_part, rows_after_part}
 use Rattle.amr_tags.proofs.fill.set_part.Goals as goal
 
@@ -12,7 +12,11 @@ pub set_rows-requires-clause-order : goal.set_rows-requires-clause-order
 set_rows-requires-clause-order c = omega (arith, ints, c.offset-west.ensures.value, c.offset-east.ensures.value)
 
 pub set_rows-requires-clause-inside : goal.set_rows-requires-clause-inside
-set_rows-requires-clause-inside c = let east : c.offset-east.result < c.width.result = omega (arith, ints, c.offset-east.ensures.value, c.width.ensures.corners) in omega (arith, c.words_for-per_row.ensures)
+set_rows-requires-clause-inside c =
+    let east : pos c.offset-east.result ≡ c.args.part.now.hi.x -ℤ c.args.b.now.lo.x = omega (arith, ints, c.offset-east.ensures.value) in
+    word_inside c.offset-east.result c.width.result c.words_for-per_row.result
+    (column_inside c.args.b.now.lo.x c.args.b.now.hi.x c.args.part.now.hi.x c.offset-east.result c.width.result east c.width.ensures.corners c.requires.part.east)
+    c.words_for-per_row.ensures
 
 pub set_rows-requires-clause-rows_order : goal.set_rows-requires-clause-rows_order
 set_rows-requires-clause-rows_order c = omega (arith, ints, c.offset-south.ensures.value, c.offset-north.ensures.value)

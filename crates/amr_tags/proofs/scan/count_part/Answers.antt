@@ -4,14 +4,18 @@ use Rattle.std.proofs.lemmas.Nat.{row_fits}
 use Rattle.amr_box.specs.Cells.{height, width}
 use Rattle.amr_tags.specs.Bits.{words_for}
 use Rattle.amr_tags.specs.Parts.{row_count, rows_from}
-use Rattle.amr_tags.proofs.CellCounts.{below_side, part-count}
+use Rattle.amr_tags.proofs.CellCounts.{below_side, column_inside, part-count, word_inside}
 use Rattle.amr_tags.proofs.scan.count_part.Goals as goal
 
 pub count_rows-requires-clause-order : goal.count_rows-requires-clause-order
 count_rows-requires-clause-order c = omega (arith, ints, c.offset-west.ensures.value, c.offset-east.ensures.value)
 
 pub count_rows-requires-clause-inside : goal.count_rows-requires-clause-inside
-count_rows-requires-clause-inside c = let east : c.offset-east.result < c.width.result = omega (arith, ints, c.offset-east.ensures.value, c.width.ensures.corners) in omega (arith, c.words_for-per_row.ensures)
+count_rows-requires-clause-inside c =
+    let east : pos c.offset-east.result ≡ c.args.part.now.hi.x -ℤ c.args.b.now.lo.x = omega (arith, ints, c.offset-east.ensures.value) in
+    word_inside c.offset-east.result c.width.result c.words_for-per_row.result
+    (column_inside c.args.b.now.lo.x c.args.b.now.hi.x c.args.part.now.hi.x c.offset-east.result c.width.result east c.width.ensures.corners c.requires.part.east)
+    c.words_for-per_row.ensures
 
 pub count_rows-requires-clause-rows_order : goal.count_rows-requires-clause-rows_order
 count_rows-requires-clause-rows_order c = omega (arith, ints, c.offset-south.ensures.value, c.offset-north.ensures.value)
