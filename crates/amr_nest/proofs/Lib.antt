@@ -1,0 +1,4 @@
+pub mod Turns
+pub mod Reaches
+pub mod Projected
+pub mod Sizes

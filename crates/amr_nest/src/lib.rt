@@ -1,0 +1,15 @@
+//! Proper nesting (Berger and Colella 1989): a finer level lies at least one cell inside the level below it, but at the
+//! physical boundary.
+//!
+//! - `project`: the cells that have to be covered so that the boxes two levels above are nested.
+//! - `nested`: whether the boxes of a level are nested in those of the level below.
+#![tactic(auto)]
+
+mod nesting;
+mod projection;
+mod reach;
+#[cfg(test)]
+mod tests;
+
+pub use nesting::nested;
+pub use projection::project;
