@@ -15,10 +15,9 @@ mod sharing;
 
 use amr_box::Bx;
 use amr_causes::NoMemory;
+pub use sharing::covers;
 use std::alloc::Global;
 use std::marker::Model;
-
-pub use sharing::covers;
 
 /// A list of boxes of which no two have a cell in common. Contracts see it as the list of its boxes, in order.
 #[derive(Drop)]
