@@ -9,8 +9,8 @@ use Rattle.amr_box.specs.declared.Axis.{Axis}
 use Rattle.amr_box.specs.declared.Axis.TheVariants.{X, Y}
 use Rattle.amr_box.specs.Cells.{Extent, IsNear, at_least_zero, cell, height, holds, width}
 use Rattle.amr_patch.specs.declared.patches.Patch.{Patch}
-use Rattle.amr_patch.specs.Places.{grown, place, x_place, y_place}
-use Rattle.amr_patch.specs.Patches.{SameFluxes, box, flux_along, flux_in, value_in}
+use Rattle.amr_patch.specs.Places.{grown, place}
+use Rattle.amr_patch.specs.Patches.{box, value_in}
 use Rattle.amr_patch.proofs.Rows.{inside, place_within, sides, zero-cut}
 use Rattle.amr_patch.proofs.Entries.{along_row, below, whole}
 use Rattle.amr_ghost.specs.Lines.{step}
@@ -52,15 +52,6 @@ along_y b c first stride k h e f =
 pub entry_is : (q : Patch) (b : Extent) (c : Cell) (at v : ℕ) → box q ≡ b → at ≡ place b c → v ≡ slice_index q.values.items at → v ≡ value_in q c
 unfolding value_in
 entry_is q b c at v e f g = g ∙ ap (λ (n : ℕ). slice_index q.values.items n) (f ∙ ap (λ (t : Extent). place t c) (sym e))
-
--- a patch that keeps its lists of fluxes keeps its fluxes
-pub same_lists : (q r : Patch) → box r ≡ box q → r.x_fluxes.items ≡ q.x_fluxes.items → r.y_fluxes.items ≡ q.y_fluxes.items → SameFluxes q r
-unfolding flux_in
-same_lists q r b x y f = cases f.axis
-  where
-    cases : (axis : Axis) → flux_along axis r (cell f.x f.y) ≡ flux_along axis q (cell f.x f.y)
-    cases X = λ i. slice_index_or (x i) (x_place (b i) (cell f.x f.y)) (pos 0)
-    cases Y = λ i. slice_index_or (y i) (y_place (b i) (cell f.x f.y)) (pos 0)
 
 -- ---- the places of a line in a patch of a list
 

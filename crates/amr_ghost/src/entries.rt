@@ -1,4 +1,4 @@
-// Where the entries of the cells of a line stand in the lists of a patch.
+//! Where the entries of the cells of a line stand in the lists of a patch.
 
 ghost use Rattle.std.specs.Prelude.{◌≡◌, ℕ, ◌+◌, ◌*◌, ◌<◌, ◌^◌, pos, negsuc, ◌-ℤ◌, ◌≤ℤ◌, ◌<ℤ◌, IsTrue};
 ghost use Rattle.amr_box.specs.Cells.{IsNear, holds};

@@ -184,6 +184,21 @@ pub fn fill(p: &Problem, l: u32, patches: &mut [Patch], old: Option<&Level>)
     ensures boxes { map box patches.new ≡ map box patches.old }
 {
     let order = order_of(patches);
+    fill_in_order(p, l, patches, order, old);
+}
+
+/// The same, where it is known how the patches stand, as where they were taken from a level and each kept its box.
+pub fn fill_in_order(p: &Problem, l: u32, patches: &mut [Patch], order: Order, old: Option<&Level>)
+    requires level { l ≤ 4 }
+    requires order { IsOrderOf order patches.old }
+    requires apart { ArePatchesApart patches.old }
+    requires inside { AreInDomain (domain p.now l) patches.old }
+    ensures filled { All (HasGhostValues p.now l (masses_in patches.old) (old_masses (option_copied old.entry))) patches.new }
+    ensures marked { All (HasGhostMarks p.now l (masses_in patches.old)) patches.new }
+    ensures masses { AllZip SameMasses patches.old patches.new }
+    ensures fluxes { AllZip SameFluxes patches.old patches.new }
+    ensures boxes { map box patches.new ≡ map box patches.old }
+{
     let first = Near {
         level: 0,
         coarser: 0,

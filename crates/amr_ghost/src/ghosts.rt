@@ -1,6 +1,6 @@
-// Ghost cells of a patch, given their values.
+//! Ghost cells of a patch, given their values.
 
-ghost use Rattle.std.specs.Prelude.{◌≡◌, ℕ, ◌+◌, ◌<◌, ◌≤◌, length, slice_index, slice_index_or, slice_set, true, Bool, IsTrue};
+ghost use Rattle.std.specs.Prelude.{◌≡◌, ℕ, ◌+◌, ◌^◌, ◌<◌, ◌≤◌, length, slice_index, slice_index_or, slice_set, true, Bool, IsTrue};
 ghost use Rattle.std.specs.List.{AllZip};
 ghost use Rattle.amr_box.specs.declared.Cell.{Cell};
 ghost use Rattle.amr_box.specs.Cells.{holds};
@@ -18,6 +18,7 @@ use amr_patch::Patch;
 pub(crate) fn set_ghost(patches: &mut [Patch], i: usize, c: Cell, v: u64, of_level: bool)
     requires there { i < length patches.old }
     requires ghost_cell { (q : Patch) → IsTrue (in_frame (box (slice_index_or patches.old i q)) c) }
+    requires small { v < 2 ^ 32 }
     ensures kept { AllZip KeepsCells patches.old patches.new }
     ensures ghosts { (value : Cell → ℕ) (mark : Cell → Bool) → value c ≡ v → mark c ≡ of_level → AllZip (KeepsGhosts value mark) patches.old patches.new }
     ensures set { (value : Cell → ℕ) (mark : Cell → Bool) (q : Patch) → value c ≡ v → mark c ≡ of_level → HasGhost value mark (slice_index_or patches.new i q) c }
@@ -26,7 +27,7 @@ pub(crate) fn set_ghost(patches: &mut [Patch], i: usize, c: Cell, v: u64, of_lev
 }
 
 /// The mass at a place.
-fn entry(patch: &Patch, at: usize) -> u64
+fn entry(patch: &Patch, at: usize) -> u32
     requires { at < length patch.now.values.items }
     ensures { result ≡ slice_index patch.now.values.items at }
 {
@@ -34,7 +35,7 @@ fn entry(patch: &Patch, at: usize) -> u64
 }
 
 /// Gives the ghost cell whose entries stand at a place a mass, and marks it as a cell of the level.
-fn set_entry(patch: &mut Patch, at: usize, mass: u64)
+fn set_entry(patch: &mut Patch, at: usize, mass: u32)
     requires { at < length patch.old.values.items }
     ensures { (c : Cell) → IsTrue (in_frame (box patch.old) c) → at ≡ place (box patch.old) c → IsGhostSet patch.old patch.new c mass true }
 {

@@ -10,7 +10,7 @@ mod places;
 mod sides;
 mod values;
 
-pub use filling::fill;
+pub use filling::{fill, fill_in_order};
 pub use places::home_cell;
 
 #[cfg(test)]

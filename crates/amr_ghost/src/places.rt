@@ -1,4 +1,4 @@
-// Cells of a line, and the cells that they stand for.
+//! Cells of a line, and the cells that they stand for.
 
 ghost use Rattle.std.specs.Prelude.{◌≡◌, ◌<◌, ◌≤◌, pos, negsuc, ◌+ℤ◌, ◌≤ℤ◌, ◌<ℤ◌, IsTrue};
 ghost use Rattle.amr_box.specs.Cells.{IsNear, along, holds, parent};

@@ -1,4 +1,4 @@
-// The sides of a box, and the cells along them.
+//! The sides of a box, and the cells along them.
 
 ghost use Rattle.std.specs.Prelude.{◌≡◌, ◌≤◌};
 ghost use Rattle.amr_box.specs.Cells.{IsNear, IsProper};

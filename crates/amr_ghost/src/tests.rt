@@ -31,6 +31,7 @@ fn problem(alloc: Global, nx: u32, ny: u32, x: Sides, y: Sides) -> Result<Proble
     requires y_inflows { has_inflows y ≡ true }
 {
     Ok(Problem {
+        version: 1,
         name: Name::make(Vec::from_slice(alloc, b"ghosts")?),
         nx,
         ny,
@@ -72,14 +73,14 @@ fn patch(alloc: Global, x0: u8, y0: u8, x1: u8, y1: u8) -> Result<Patch, Fail>
 }
 
 /// Gives a cell of a patch a mass; false where the patch has no such cell.
-fn set(patches: &mut [Patch], k: usize, c: Cell, m: u64) -> bool {
+fn set(patches: &mut [Patch], k: usize, c: Cell, m: u32) -> bool {
     if k >= patches.len() {
         return false;
     }
     if !patches[k].bx().holds(c) {
         return false;
     }
-    patches[k].set_mass(c, m);
+    patches[k].set_mass(c, u64::from(m));
     true
 }
 

@@ -12,7 +12,7 @@ use Rattle.amr_box.specs.declared.Axis.TheVariants.{X, Y}
 use Rattle.amr_box.specs.Cells.{Extent, at_least_zero, cell, height, width, within}
 use Rattle.amr_patch.specs.declared.patches.Patch.{Patch}
 use Rattle.amr_patch.specs.Places.{column_of, is_edge_face, is_end, on_edge, row_of}
-use Rattle.amr_patch.specs.Patches.{HasNoFluxes, flux_along, flux_in}
+use Rattle.amr_patch.specs.Patches.{HasNoFluxes, SameFluxes, flux_along, flux_in}
 use Rattle.amr_patch.proofs.Rows.{IsBetween, and_true, between}
 use Rattle.amr_patch.proofs.Entries.{same_cut}
 
@@ -100,9 +100,19 @@ nothing_flows p xl xh yl yh f = cases f.axis
     one : (t : Bool) (a b : ℤ) → a ≡ pos 0 → b ≡ pos 0 → cond t a b ≡ pos 0
     one true a b e g = e
     one false a b e g = g
+
     cases : (axis : Axis) → flux_along axis p (cell f.x f.y) ≡ pos 0
     cases X = one (int_eq f.x p.bx.lo.x) _ _ (xl (row_of p.bx (cell f.x f.y))) (xh (row_of p.bx (cell f.x f.y)))
     cases Y = one (int_eq f.y p.bx.lo.y) _ _ (yl (column_of p.bx (cell f.x f.y))) (yh (column_of p.bx (cell f.x f.y)))
+
+-- a patch that keeps its edge lines keeps its fluxes
+pub same_lines : (p q : Patch) → q.bx ≡ p.bx → q.x_low.items ≡ p.x_low.items → q.x_high.items ≡ p.x_high.items → q.y_low.items ≡ p.y_low.items → q.y_high.items ≡ p.y_high.items → SameFluxes p q
+unfolding flux_in
+same_lines p q b xl xh yl yh f = cases f.axis
+  where
+    cases : (axis : Axis) → flux_along axis q (cell f.x f.y) ≡ flux_along axis p (cell f.x f.y)
+    cases X = λ i. cond (int_eq f.x (b i).lo.x) (slice_index_or (xl i) (row_of (b i) (cell f.x f.y)) (pos 0)) (slice_index_or (xh i) (row_of (b i) (cell f.x f.y)) (pos 0))
+    cases Y = λ i. cond (int_eq f.y (b i).lo.y) (slice_index_or (yl i) (column_of (b i) (cell f.x f.y)) (pos 0)) (slice_index_or (yh i) (column_of (b i) (cell f.x f.y)) (pos 0))
 
 -- ---- a flux written
 
@@ -170,6 +180,7 @@ other_x p q f g v s a at eb low high other_low other_high h k n = cases g.axis r
         let on_line : g.x ≡ f.x = same_on_line p.bx.lo.x p.bx.hi.x g.x f.x s l at of_g.ends of_f.ends in
         let in_line : g.y ≡ f.y = same_offset p.bx.lo.y g.y f.y of_g.from of_f.from (sym r) in
         n (same_faces g f (sym e ∙ sym a) on_line in_line)
+
     cases : (axis : Axis) → axis ≡ g.axis → flux_along axis q (cell g.x g.y) ≡ flux_along axis p (cell g.x g.y)
     cases Y e = λ i. cond (int_eq g.y (eb i).lo.y) (slice_index_or (other_low i) (column_of (eb i) (cell g.x g.y)) (pos 0)) (slice_index_or (other_high i) (column_of (eb i) (cell g.x g.y)) (pos 0))
     cases X e =
@@ -192,6 +203,7 @@ other_y p q f g v s a at eb low high other_low other_high h k n = cases g.axis r
         let on_line : g.y ≡ f.y = same_on_line p.bx.lo.y p.bx.hi.y g.y f.y s l at of_g.ends of_f.ends in
         let in_line : g.x ≡ f.x = same_offset p.bx.lo.x g.x f.x of_g.from of_f.from (sym r) in
         n (same_faces g f (sym e ∙ sym a) in_line on_line)
+
     cases : (axis : Axis) → axis ≡ g.axis → flux_along axis q (cell g.x g.y) ≡ flux_along axis p (cell g.x g.y)
     cases X e = λ i. cond (int_eq g.x (eb i).lo.x) (slice_index_or (other_low i) (row_of (eb i) (cell g.x g.y)) (pos 0)) (slice_index_or (other_high i) (row_of (eb i) (cell g.x g.y)) (pos 0))
     cases Y e =

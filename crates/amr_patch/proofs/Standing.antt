@@ -58,9 +58,11 @@ boxes_sorted bs sorted i j d lt l = from_below j lt l
     step k l =
         let next : k + 1 ≡ suc k = omega arith in
         ap (λ (n : ℕ). comes_first (slice_index_or bs k d).lo (slice_index_or bs n d).lo) (sym next) ∙ not_before (slice_index_or bs k d).lo (slice_index_or bs (k + 1) d).lo (sorted k d (omega arith) (omega arith))
+
     after : (m : ℕ) → suc m < length bs → (i ≡ m) ⊎ (i ≡ m → ⊥) → (i < m → comes_first (slice_index_or bs i d).lo (slice_index_or bs m d).lo ≡ true) → i < suc m → comes_first (slice_index_or bs i d).lo (slice_index_or bs (suc m) d).lo ≡ true
     after m l (inl e) before lt = ap (λ (n : ℕ). comes_first (slice_index_or bs n d).lo (slice_index_or bs (suc m) d).lo) e ∙ step m l
     after m l (inr n) before lt = comes_first-trans (slice_index_or bs i d).lo (slice_index_or bs m d).lo (slice_index_or bs (suc m) d).lo (before (omega arith)) (step m l)
+
     from_below : (j : ℕ) → i < j → j < length bs → comes_first (slice_index_or bs i d).lo (slice_index_or bs j d).lo ≡ true
     from_below zero lt l = absurd (omega arith)
     from_below (suc m) lt l = after m l (cases_eq i m) (λ below. from_below m below (omega arith)) (omega arith)

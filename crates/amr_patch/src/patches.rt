@@ -111,7 +111,8 @@ impl Patch {
     /// The mass of a cell of the box.
     pub fn mass(&self, c: Cell) -> u64
         requires { IsTrue (holds (box self.now) c) }
-        ensures { result ≡ mass_in self.now c }
+        ensures value { result ≡ mass_in self.now c }
+        ensures small { result < 2 ^ 32 }
     {
         u64::from(self.values[place(&self.bx, c)])
     }
@@ -134,6 +135,7 @@ impl Patch {
     pub fn ghost_cell(&self, c: Cell) -> (u64, bool)
         requires { IsTrue (in_frame (box self.now) c) }
         ensures value { result.0 ≡ ghost_in self.now c }
+        ensures small { result.0 < 2 ^ 32 }
         ensures mark { result.1 ≡ mark_in self.now c }
     {
         let at = place(&self.bx, c);

@@ -56,7 +56,7 @@ returns-in-None-clause-ghosts c =
     let home : c.home_cell-home.result ≡ home_cell (domain c.args.p.now c.args.l) c.args.line.from = subst (λ e. c.home_cell-home.result ≡ home_cell e c.args.line.from) c.domain-dom.ensures c.home_cell-home.ensures in
     let none : m c.home_cell-home.result ≡ None = masses_in-none c.args.patches.now c.home_cell-home.result (sym c.in-None.ensures.some) in
     c.set_ghost.ensures.ghosts (value_at c.args.p.now c.args.l m old) (is_of_level c.args.p.now c.args.l m)
-    (outer_is c.args.p.now c.args.l m old c.args.line.from c.home_cell-home.result c.outer_value-value.result home none c.outer_value-value.ensures)
+    (outer_is c.args.p.now c.args.l m old c.args.line.from c.home_cell-home.result c.outer_value-value.result home none c.outer_value-value.ensures.value)
     (no_mark c.args.p.now c.args.l m c.args.line.from c.home_cell-home.result home none)
 
 pub returns-in-None-clause-set : goal.returns-in-None-clause-set
@@ -67,5 +67,5 @@ returns-in-None-clause-set c q =
     let none : m c.home_cell-home.result ≡ None = masses_in-none c.args.patches.now c.home_cell-home.result (sym c.in-None.ensures.some) in
     one_ghost (value_at c.args.p.now c.args.l m old) (is_of_level c.args.p.now c.args.l m) (get_or c.set_ghost.new.patches c.args.i q) c.args.line.axis c.args.line.from
     (c.set_ghost.ensures.set (value_at c.args.p.now c.args.l m old) (is_of_level c.args.p.now c.args.l m) q
-    (outer_is c.args.p.now c.args.l m old c.args.line.from c.home_cell-home.result c.outer_value-value.result home none c.outer_value-value.ensures)
+    (outer_is c.args.p.now c.args.l m old c.args.line.from c.home_cell-home.result c.outer_value-value.result home none c.outer_value-value.ensures.value)
     (no_mark c.args.p.now c.args.l m c.args.line.from c.home_cell-home.result home none))

@@ -29,4 +29,3 @@ returns-then-is_within-2 c =
     let z : to_z w32 (of_z w32 q.x) ≡ q.x = omega (arith, ints) in
     let line : to_z w32 (of_z w32 q.y) ≡ q.y = omega (arith, ints) in
     on_line c.args.axis Y b q b.lo.x b.hi.x q.x b.lo.y b.hi.y q.y c.is_end-then-is_within-2.result c.in-Y.is refl (c.if-is_within-2.ensures ∙ (λ i. within (low i) (high i) (z i))) (c.is_end-then-is_within-2.ensures ∙ (λ i. is_end (first i) (last i) (line i)))
-

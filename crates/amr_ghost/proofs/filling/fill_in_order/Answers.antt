@@ -8,7 +8,7 @@ use Rattle.amr_ghost.specs.Frames.{SameMasses, old_masses}
 use Rattle.amr_ghost.specs.Filling.{HasFrame, IsLevelInOrder, KeepsCells}
 use Rattle.amr_ghost.proofs.Zips.{keeps_refl, keeps_trans, zip_boxes, zip_map, zip_refl, zip_trans}
 use Rattle.amr_ghost.proofs.Levels.{same_frame, still_frame, still_level}
-use Rattle.amr_ghost.proofs.filling.fill.Goals as goal
+use Rattle.amr_ghost.proofs.filling.fill_in_order.Goals as goal
 
 pub loop-i-init : goal.loop-i-init
 loop-i-init c = record {
@@ -18,8 +18,8 @@ loop-i-init c = record {
 
 pub fill_frame-requires-clause-patches : goal.fill_frame-requires-clause-patches
 fill_frame-requires-clause-patches c =
-    let level : IsLevelInOrder (domain c.args.p.now c.args.l) c.order_of-order.result c.args.patches.now = record { ordered = c.order_of-order.ensures; apart = c.requires.apart; inside = c.requires.inside } in
-    still_level (domain c.args.p.now c.args.l) c.order_of-order.result c.args.patches.now c.loop-i.patches c.loop-i.invariant.kept level
+    let level : IsLevelInOrder (domain c.args.p.now c.args.l) c.args.order c.args.patches.now = record { ordered = c.requires.order; apart = c.requires.apart; inside = c.requires.inside } in
+    still_level (domain c.args.p.now c.args.l) c.args.order c.args.patches.now c.loop-i.patches c.loop-i.invariant.kept level
 
 pub loop-i-preserved : goal.loop-i-preserved
 loop-i-preserved c =

@@ -5,7 +5,7 @@ use Rattle.amr_patch.specs.declared.patches.Patch.{Patch}
 use Rattle.amr_patch.specs.Patches.{masses_in}
 use Rattle.amr_ghost.specs.Frames.{old_masses}
 use Rattle.amr_ghost.specs.Filling.{HasFrame, KeepsCells}
-use Rattle.amr_ghost.proofs.filling.fill.Given as goal
+use Rattle.amr_ghost.proofs.filling.fill_in_order.Given as goal
 
 abbrev pub invariant-loop-i : goal.invariant-loop-i
 invariant-loop-i l = record {
