@@ -1,4 +1,4 @@
-//! Frames of small levels: a ring in three pieces, a patch beside itself, open sides, and a fine box in a coarse level.
+//! Frames of small levels: a ring in three patches, a patch beside itself, open sides, and a fine box in a coarse level.
 
 ghost use Rattle.std.specs.Prelude.{◌≡◌, ℕ, ◌<◌, ◌≤◌, length, slice_index_or, IfOk, IsTrue, true, false};
 ghost use Rattle.amr_box.specs.declared.Cell.{Cell};
@@ -152,8 +152,22 @@ fn are_in_domain(p: &Problem, l: u32, patches: &[Patch]) -> bool
     true
 }
 
+/// Fills the frames of the patches of level `l`, if they are those of a level.
+fn fill_level(p: &Problem, l: u32, patches: &mut [Patch], old: Option<&Level>) -> bool
+    requires { l ≤ 4 }
+{
+    if !are_apart(patches) {
+        return false;
+    }
+    if !are_in_domain(p, l, patches) {
+        return false;
+    }
+    fill(p, l, patches, old);
+    true
+}
+
 #[test]
-fn ring_in_three_pieces(rt: HostRuntime) -> Result<(), Fail> {
+fn ring_in_three_patches(rt: HostRuntime) -> Result<(), Fail> {
     let alloc = rt.alloc();
     let p = problem(alloc, 9, 3, Sides::Periodic, Sides::Periodic)?;
     let mut patches = Vec::new(alloc);
@@ -164,9 +178,7 @@ fn ring_in_three_pieces(rt: HostRuntime) -> Result<(), Fail> {
     assert!(rt; set(&mut patches, 1, cell(4, 0), 5));
     assert!(rt; set(&mut patches, 2, cell(8, 0), 8));
     assert!(rt; set(&mut patches, 2, cell(8, 2), 9));
-    assert!(rt; are_apart(&patches));
-    assert!(rt; are_in_domain(&p, 0, &patches));
-    fill(&p, 0, &mut patches, None);
+    assert!(rt; fill_level(&p, 0, &mut patches, None));
     assert_eq!(rt; ghost_at(&patches, 0, cell(-1, 0)), Some((8, true)));
     assert_eq!(rt; ghost_at(&patches, 0, cell(-1, 2)), Some((9, true)));
     assert_eq!(rt; ghost_at(&patches, 0, cell(4, 0)), Some((5, true)));
@@ -186,9 +198,7 @@ fn one_patch_beside_itself(rt: HostRuntime) -> Result<(), Fail> {
     patches.push(patch(alloc, 0, 0, 3, 1)?)?;
     assert!(rt; set(&mut patches, 0, cell(3, 0), 7));
     assert!(rt; set(&mut patches, 0, cell(0, 1), 6));
-    assert!(rt; are_apart(&patches));
-    assert!(rt; are_in_domain(&p, 0, &patches));
-    fill(&p, 0, &mut patches, None);
+    assert!(rt; fill_level(&p, 0, &mut patches, None));
     assert_eq!(rt; ghost_at(&patches, 0, cell(-1, 0)), Some((7, true)));
     assert_eq!(rt; ghost_at(&patches, 0, cell(4, 1)), Some((6, true)));
     assert_eq!(rt; ghost_at(&patches, 0, cell(3, 2)), Some((7, true)));
@@ -202,9 +212,7 @@ fn beyond_open_sides(rt: HostRuntime) -> Result<(), Fail> {
     let p = problem(alloc, 2, 2, Sides::Open(6, 40), Sides::Open(17, 3))?;
     let mut patches = Vec::new(alloc);
     patches.push(patch(alloc, 0, 0, 1, 1)?)?;
-    assert!(rt; are_apart(&patches));
-    assert!(rt; are_in_domain(&p, 0, &patches));
-    fill(&p, 0, &mut patches, None);
+    assert!(rt; fill_level(&p, 0, &mut patches, None));
     assert_eq!(rt; ghost_at(&patches, 0, cell(-1, 1)), Some((6, false)));
     assert_eq!(rt; ghost_at(&patches, 0, cell(2, 0)), Some((40, false)));
     assert_eq!(rt; ghost_at(&patches, 0, cell(0, -1)), Some((17, false)));
@@ -212,9 +220,7 @@ fn beyond_open_sides(rt: HostRuntime) -> Result<(), Fail> {
 
     let mut fine = Vec::new(alloc);
     fine.push(patch(alloc, 0, 0, 3, 3)?)?;
-    assert!(rt; are_apart(&fine));
-    assert!(rt; are_in_domain(&p, 1, &fine));
-    fill(&p, 1, &mut fine, None);
+    assert!(rt; fill_level(&p, 1, &mut fine, None));
     assert_eq!(rt; ghost_at(&fine, 0, cell(-1, 1)), Some((1, false)));
     assert_eq!(rt; ghost_at(&fine, 0, cell(4, 0)), Some((10, false)));
     assert_eq!(rt; ghost_at(&fine, 0, cell(0, -1)), Some((4, false)));
@@ -237,9 +243,7 @@ fn quarters_of_the_coarser_level(rt: HostRuntime) -> Result<(), Fail> {
 
     let mut fine = Vec::new(alloc);
     fine.push(patch(alloc, 4, 0, 5, 1)?)?;
-    assert!(rt; are_apart(&fine));
-    assert!(rt; are_in_domain(&p, 1, &fine));
-    fill(&p, 1, &mut fine, Some(&old));
+    assert!(rt; fill_level(&p, 1, &mut fine, Some(&old)));
     assert_eq!(rt; ghost_at(&fine, 0, cell(3, 0)), Some((1, false)));
     assert_eq!(rt; ghost_at(&fine, 0, cell(3, 1)), Some((1, false)));
     assert_eq!(rt; ghost_at(&fine, 0, cell(6, 0)), Some((0, false)));
