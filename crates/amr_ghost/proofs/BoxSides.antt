@@ -114,6 +114,26 @@ side_ghost b North k wide high t =
     let top = counted b.lo.x b.hi.x k t in
     out_y b (cell (b.lo.x +ℤ pos k) (b.hi.y +ℤ pos 1)) (within_grown b.lo.x b.hi.x (b.lo.x +ℤ pos k) (omega (arith, ints)) (omega (arith, ints))) (within_grown b.lo.y b.hi.y (b.hi.y +ℤ pos 1) (omega (arith, ints)) (omega (arith, ints))) (above_out b.lo.y b.hi.y (b.hi.y +ℤ pos 1) (omega (arith, ints)))
 
+in_a_row : (f a e : Bool) → IsTrue f → e ≡ true → IsTrue (f && (a || e))
+in_a_row true true e h k = refl
+in_a_row true false e h k = k
+in_a_row false a e h k = absurd (cc)
+
+in_a_column : (f a e : Bool) → IsTrue f → a ≡ true → IsTrue (f && (a || e))
+in_a_column true true e h k = refl
+in_a_column true false e h k = absurd (cc)
+in_a_column false a e h k = absurd (cc)
+
+in_range : (low high : ℤ) (k : ℕ) → k < at_least_zero (high +ℤ pos 1 -ℤ low) → within low high (low +ℤ pos k) ≡ true
+in_range low high k t = let top = counted low high k t in rw (le_of low (low +ℤ pos k) (omega (arith, ints)), le_of (low +ℤ pos k) high top)
+
+-- and shares a face with a cell of the box
+side_beside : (b : Extent) (side : Side) (k : ℕ) → b.lo.x ≤ℤ b.hi.x → b.lo.y ≤ℤ b.hi.y → k < side_count b side → IsTrue (is_beside b (step (side_axis side) (side_from b side) k))
+side_beside b West k wide high t = in_a_row (in_frame b (cell (b.lo.x -ℤ pos 1) (b.lo.y +ℤ pos k))) (within b.lo.x b.hi.x (b.lo.x -ℤ pos 1)) (within b.lo.y b.hi.y (b.lo.y +ℤ pos k)) (side_ghost b West k wide high t) (in_range b.lo.y b.hi.y k t)
+side_beside b East k wide high t = in_a_row (in_frame b (cell (b.hi.x +ℤ pos 1) (b.lo.y +ℤ pos k))) (within b.lo.x b.hi.x (b.hi.x +ℤ pos 1)) (within b.lo.y b.hi.y (b.lo.y +ℤ pos k)) (side_ghost b East k wide high t) (in_range b.lo.y b.hi.y k t)
+side_beside b South k wide high t = in_a_column (in_frame b (cell (b.lo.x +ℤ pos k) (b.lo.y -ℤ pos 1))) (within b.lo.x b.hi.x (b.lo.x +ℤ pos k)) (within b.lo.y b.hi.y (b.lo.y -ℤ pos 1)) (side_ghost b South k wide high t) (in_range b.lo.x b.hi.x k t)
+side_beside b North k wide high t = in_a_column (in_frame b (cell (b.lo.x +ℤ pos k) (b.hi.y +ℤ pos 1))) (within b.lo.x b.hi.x (b.lo.x +ℤ pos k)) (within b.lo.y b.hi.y (b.hi.y +ℤ pos 1)) (side_ghost b North k wide high t) (in_range b.lo.x b.hi.x k t)
+
 inside_of : (n : ℕ) (z : ℤ) → pos 0 ≤ℤ z → z <ℤ pos n → IsTrue (is_inside n z)
 inside_of n z from to = grind (arith, ints)
 
@@ -126,6 +146,7 @@ along_side d b North k h t = let top = counted b.lo.x b.hi.x k t in let s = h.we
 pub side_is_line : (d : Domain) (b : Extent) (side : Side) → LiesIn d b → IsGhostLine d b (side_axis side) (side_from b side) (side_count b side)
 side_is_line d b side h = record {
   ghosts = λ k t. side_ghost b side k h.wide h.high t;
+  beside = λ k t. side_beside b side k h.wide h.high t;
   inside = λ k t. along_side d b side k h t;
 }
 

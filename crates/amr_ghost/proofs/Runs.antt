@@ -103,6 +103,7 @@ room_ahead d Y c k room size inside = record { x = room.x; y = low d.rows (c.y +
 pub rest_of_line : (d : Domain) (b b' : Extent) (axis : Axis) (c c' : Cell) (count done : ℕ) → b' ≡ b → c' ≡ step axis c done → IsGhostLine d b axis c count → IsGhostLine d b' axis c' (count - done)
 rest_of_line d b b' axis c c' count done same is line = rw (same, is) (record {
   ghosts = λ k t. rw step_step (line.ghosts (done + k) (omega arith));
+  beside = λ k t. rw step_step (line.beside (done + k) (omega arith));
   inside = λ k t. subst (λ (z : ℤ). IsTrue (is_inside (size_along axis d) z)) (further axis c k) (line.inside (done + k) (omega arith));
 })
   where

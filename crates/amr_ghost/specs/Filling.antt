@@ -14,16 +14,17 @@ use Rattle.amr_patch.specs.Places.{in_frame}
 use Rattle.amr_patch.specs.Patches.{ArePatchesApart, SameFluxes, SameOtherMarks, SameOtherValues, box, mark_in, mass_in, masses_in, value_in}
 use Rattle.amr_patch.specs.declared.lookup.Order.{Order}
 use Rattle.amr_patch.specs.Orders.{IsOrderOf}
-use Rattle.amr_ghost.specs.Frames.{AreInDomain, SameMasses, is_beside, is_of_level}
+use Rattle.amr_ghost.specs.Frames.{AreInDomain, KeepsCorners, SameMasses, is_beside, is_of_level}
 use Rattle.amr_ghost.specs.Lines.{step}
 use Rattle.amr_ghost.specs.declared.sides.Side.{Side}
 use Rattle.amr_ghost.specs.declared.sides.Side.TheVariants.{East, North, South, West}
 
--- a patch keeps all but its frame
+-- a patch keeps all but the ghost cells beside it
 pub record KeepsCells (q r : Patch) : Type 0 where
   pub of_box : box r ≡ box q
   pub masses : SameMasses q r
   pub fluxes : SameFluxes q r
+  pub corners : KeepsCorners q r
 
 -- a ghost cell has a value and a mark
 pub record HasGhost (value : Cell → ℕ) (mark : Cell → Bool) (q : Patch) (c : Cell) : Type 0 where
@@ -51,6 +52,7 @@ size_along Y d = d.rows
 -- the first cells of a line along an axis are ghost cells of a box, in rows or columns of the domain
 pub record IsGhostLine (d : Domain) (b : Extent) (axis : Axis) (c : Cell) (count : ℕ) : Type 0 where
   pub ghosts : (k : ℕ) → k < count → IsTrue (in_frame b (step axis c k))
+  pub beside : (k : ℕ) → k < count → IsTrue (is_beside b (step axis c k))
   pub inside : (k : ℕ) → k < count → IsTrue (is_inside (size_along axis d) (along axis c +ℤ pos k))
 
 -- the first ghost cells of a line have a value and a mark

@@ -10,7 +10,7 @@ ghost use Rattle.amr_patch.specs.declared.patches.Patch.{Patch};
 ghost use Rattle.amr_patch.specs.Patches.{ArePatchesApart, SameFluxes, box, in_patches, masses_in};
 ghost use Rattle.amr_patch.specs.Orders.{IsHolder, IsOrderOf};
 ghost use Rattle.amr_ghost.specs.Lines.{HasRoom};
-ghost use Rattle.amr_ghost.specs.Frames.{AreInDomain, HasGhostMarks, HasGhostValues, SameMasses, is_of_level, old_masses};
+ghost use Rattle.amr_ghost.specs.Frames.{AreInDomain, HasGhostMarks, HasGhostValues, KeepsCorners, SameMasses, is_of_level, old_masses};
 ghost use Rattle.amr_ghost.specs.Filling.{HasFrame, HasSideValues, HasValues, IsGhostLine, IsLevelInOrder, KeepsCells, KeepsValues, LiesIn};
 
 use crate::ghosts::{copy_line, set_ghost};
@@ -180,6 +180,7 @@ pub fn fill(p: &Problem, l: u32, patches: &mut [Patch], old: Option<&Level>)
     ensures filled { All (HasGhostValues p.now l (masses_in patches.old) (old_masses (option_copied old.entry))) patches.new }
     ensures marked { All (HasGhostMarks p.now l (masses_in patches.old)) patches.new }
     ensures masses { AllZip SameMasses patches.old patches.new }
+    ensures corners { AllZip KeepsCorners patches.old patches.new }
     ensures fluxes { AllZip SameFluxes patches.old patches.new }
     ensures boxes { map box patches.new ≡ map box patches.old }
 {
@@ -196,6 +197,7 @@ pub fn fill_in_order(p: &Problem, l: u32, patches: &mut [Patch], order: Order, o
     ensures filled { All (HasGhostValues p.now l (masses_in patches.old) (old_masses (option_copied old.entry))) patches.new }
     ensures marked { All (HasGhostMarks p.now l (masses_in patches.old)) patches.new }
     ensures masses { AllZip SameMasses patches.old patches.new }
+    ensures corners { AllZip KeepsCorners patches.old patches.new }
     ensures fluxes { AllZip SameFluxes patches.old patches.new }
     ensures boxes { map box patches.new ≡ map box patches.old }
 {

@@ -8,6 +8,7 @@ ghost use Rattle.amr_patch.specs.declared.patches.Patch.{Patch};
 ghost use Rattle.amr_patch.specs.Places.{in_frame, place};
 ghost use Rattle.amr_patch.specs.Patches.{box, mass_in};
 ghost use Rattle.amr_ghost.specs.Lines.{HasRoom, step};
+ghost use Rattle.amr_ghost.specs.Frames.{is_beside};
 ghost use Rattle.amr_ghost.specs.Filling.{AreCopied, HasGhost, HasGhosts, IsGhostSet, KeepsCells, KeepsGhosts};
 
 use crate::entries::{entries_of, nth};
@@ -18,6 +19,7 @@ use amr_patch::Patch;
 pub(crate) fn set_ghost(patches: &mut [Patch], i: usize, c: Cell, v: u64, of_level: bool)
     requires there { i < length patches.old }
     requires ghost_cell { (q : Patch) → IsTrue (in_frame (box (slice_index_or patches.old i q)) c) }
+    requires beside { (q : Patch) → IsTrue (is_beside (box (slice_index_or patches.old i q)) c) }
     requires small { v < 2 ^ 32 }
     ensures kept { AllZip KeepsCells patches.old patches.new }
     ensures ghosts { (value : Cell → ℕ) (mark : Cell → Bool) → value c ≡ v → mark c ≡ of_level → AllZip (KeepsGhosts value mark) patches.old patches.new }
@@ -60,6 +62,7 @@ pub(crate) fn copy_line(
     requires to_room { HasRoom to }
     requires from_room { HasRoom from }
     requires ghost_cells { (q : Patch) (k : ℕ) → k < count → IsTrue (in_frame (box (slice_index_or patches.old i q)) (step axis to k)) }
+    requires beside { (q : Patch) (k : ℕ) → k < count → IsTrue (is_beside (box (slice_index_or patches.old i q)) (step axis to k)) }
     requires masses { (q : Patch) (k : ℕ) → k < count → IsTrue (holds (box (slice_index_or patches.old j q)) (step axis from k)) }
     ensures kept { AllZip KeepsCells patches.old patches.new }
     ensures ghosts { (value : Cell → ℕ) (mark : Cell → Bool) (d : Patch) → AreCopied value mark (slice_index_or patches.old j d) axis to from count → AllZip (KeepsGhosts value mark) patches.old patches.new }

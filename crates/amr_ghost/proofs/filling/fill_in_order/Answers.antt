@@ -4,7 +4,7 @@ use Rattle.std.specs.List.{AllZip}
 use Rattle.std.proofs.lemmas.List.Elements.{length_all_zip}
 use Rattle.amr_def.specs.Domain.{domain}
 use Rattle.amr_patch.specs.Patches.{SameFluxes, masses_in}
-use Rattle.amr_ghost.specs.Frames.{SameMasses, old_masses}
+use Rattle.amr_ghost.specs.Frames.{KeepsCorners, SameMasses, old_masses}
 use Rattle.amr_ghost.specs.Filling.{HasFrame, IsLevelInOrder, KeepsCells}
 use Rattle.amr_ghost.proofs.Zips.{keeps_refl, keeps_trans, zip_boxes, zip_map, zip_refl, zip_trans}
 use Rattle.amr_ghost.proofs.Levels.{same_frame, still_frame, still_level}
@@ -45,6 +45,9 @@ returns-clause-masses c = zip_map KeepsCells SameMasses (λ q r k. k.masses) c.a
 
 pub returns-clause-fluxes : goal.returns-clause-fluxes
 returns-clause-fluxes c = zip_map KeepsCells SameFluxes (λ q r k. k.fluxes) c.args.patches.now c.loop-i.patches c.loop-i.invariant.kept
+
+pub returns-clause-corners : goal.returns-clause-corners
+returns-clause-corners c = zip_map KeepsCells KeepsCorners (λ q r k. k.corners) c.args.patches.now c.loop-i.patches c.loop-i.invariant.kept
 
 pub returns-clause-boxes : goal.returns-clause-boxes
 returns-clause-boxes c = zip_boxes c.args.patches.now c.loop-i.patches c.loop-i.invariant.kept

@@ -8,7 +8,7 @@ use Rattle.amr_def.specs.Value.{value_at}
 use Rattle.amr_patch.specs.Places.{in_frame}
 use Rattle.amr_patch.specs.Patches.{box, masses_in}
 use Rattle.amr_patch.proofs.Lookups.{masses_in-none}
-use Rattle.amr_ghost.specs.Frames.{is_of_level, old_masses}
+use Rattle.amr_ghost.specs.Frames.{is_beside, is_of_level, old_masses}
 use Rattle.amr_ghost.proofs.Runs.{first_ghost, no_mark, one_ghost, outer_is, room_inside, run_copied, run_held}
 use Rattle.amr_ghost.proofs.filling.fill_run.Goals as goal
 
@@ -22,6 +22,13 @@ copy_line-requires-clause-masses c q k t =
     let d = c.index-patches-j.result in
     let ahead = subst (λ (b : Extent). along c.args.line.axis c.home_cell-home.result +ℤ pos c.cells_ahead.result ≡ along c.args.line.axis b.hi +ℤ pos 1) c.bx-source.ensures.value c.cells_ahead.ensures.up_to_high in
     run_held c.args.patches.now c.in-Some.j d q c.args.line.axis c.home_cell-home.result c.cells_ahead.result k c.in-Some.ensures.found ahead (omega (arith, t, c.min-count.ensures))
+
+pub copy_line-requires-clause-beside : goal.copy_line-requires-clause-beside
+copy_line-requires-clause-beside c q k t = (c.requires.ghost_line q).beside k (omega (arith, t, c.min-count.ensures))
+
+pub set_ghost-requires-clause-beside : goal.set_ghost-requires-clause-beside
+set_ghost-requires-clause-beside c q =
+    first_ghost (λ (s : Cell). IsTrue (is_beside (box (get_or c.args.patches.now c.args.i q)) s)) c.args.line.axis c.args.line.from ((c.requires.ghost_line q).beside 0 c.requires.some)
 
 pub set_ghost-requires-clause-ghost_cell : goal.set_ghost-requires-clause-ghost_cell
 set_ghost-requires-clause-ghost_cell c q =

@@ -9,8 +9,9 @@ use Rattle.amr_patch.specs.Places.{grown, in_frame, place}
 use Rattle.amr_patch.specs.Patches.{box, mass_in}
 use Rattle.amr_patch.proofs.Entries.{in_grown}
 use Rattle.amr_ghost.specs.Lines.{step}
+use Rattle.amr_ghost.specs.Frames.{is_beside}
 use Rattle.amr_ghost.specs.Filling.{AreCopied, HasGhost, IsGhostSet, KeepsCells, KeepsGhosts}
-use Rattle.amr_ghost.proofs.Zips.{keeps_refl, keeps_trans, still_ghost, still_held, zip_ghosts, zip_refl, zip_set, zip_trans}
+use Rattle.amr_ghost.proofs.Zips.{keeps_refl, keeps_trans, still_ghost, still_held, zip_box, zip_ghosts, zip_refl, zip_set, zip_trans}
 use Rattle.amr_ghost.proofs.Steps.{frame_grown, ghost_is_set, ghost_keeps_cells, ghost_keeps_ghosts, ghosts_refl}
 use Rattle.amr_ghost.proofs.GhostLines.{copied_mark, copied_value, fewer_ghosts, more_ghosts, no_ghosts, still_ghosts}
 use Rattle.amr_ghost.proofs.LinePlaces.{entry_in_list, entry_is, entry_small, still_place}
@@ -92,13 +93,14 @@ loop-k-preserved c =
     let kept : AllZip KeepsCells ps qs = c.loop-k.invariant.kept in
     let there : c.args.i < length qs = let n : length ps ≡ length qs = length_all_zip KeepsCells ps qs kept in omega arith in
     let ghost : IsTrue (in_frame (box q) t) = still_ghost ps qs c.args.i d d t t kept c.requires.there refl (c.requires.ghost_cells d k (omega arith)) in
+    let beside : IsTrue (is_beside (box q) t) = subst (λ (b : Extent). IsTrue (is_beside b t)) (sym (zip_box ps qs c.args.i d d kept c.requires.there)) (c.requires.beside d k (omega arith)) in
     let s : IsGhostSet q r t mass true = c.set_entry.ensures t ghost (still_place ps qs c.args.i c.index-patches-i.result d c.bx-2.result t c.nth-at.result kept c.requires.there c.bx-2.ensures.value (c.nth-at.ensures ∙ c.entries_of-target.ensures k)) in
     let now : mass ≡ mass_in (get_or qs c.args.j e) f = entry_is (get_or qs c.args.j e) (box (get_or qs c.args.j e)) f c.nth.result mass refl (still_place ps qs c.args.j c.index-patches-j.result e c.bx.result f c.nth.result kept c.requires.source c.bx.ensures.value (c.nth.ensures ∙ c.entries_of-source.ensures k)) c.entry-mass.ensures in
     let value_is : (value : Cell → ℕ) (mark : Cell → Bool) (p : Patch) → AreCopied value mark (get_or ps c.args.j p) c.args.axis c.args.to c.args.from c.args.count → value t ≡ mass = λ value mark p copied. copied_value value mark ps qs c.args.j p e c.args.axis c.args.to c.args.from c.args.count k mass t f kept c.requires.source (omega arith) (c.requires.masses p k (omega arith)) copied refl refl now in
     let mark_is : (value : Cell → ℕ) (mark : Cell → Bool) (p : Patch) → AreCopied value mark (get_or ps c.args.j p) c.args.axis c.args.to c.args.from c.args.count → mark t ≡ true = λ value mark p copied. copied_mark value mark (get_or ps c.args.j p) c.args.axis c.args.to c.args.from c.args.count k t (omega arith) copied refl in
     let one : (value : Cell → ℕ) (mark : Cell → Bool) (p : Patch) → AreCopied value mark (get_or ps c.args.j p) c.args.axis c.args.to c.args.from c.args.count → AllZip (KeepsGhosts value mark) qs rs = λ value mark p copied. zip_set (KeepsGhosts value mark) (ghosts_refl value mark) qs c.args.i d r (ghost_keeps_ghosts value mark q r t mass true (value_is value mark p copied) (mark_is value mark p copied) s) in
     record {
-      kept = zip_trans KeepsCells keeps_trans ps qs rs kept (zip_set KeepsCells keeps_refl qs c.args.i d r (ghost_keeps_cells q r t mass true ghost s));
+      kept = zip_trans KeepsCells keeps_trans ps qs rs kept (zip_set KeepsCells keeps_refl qs c.args.i d r (ghost_keeps_cells q r t mass true ghost beside s));
       ghosts = λ value mark p copied. zip_ghosts value mark ps qs rs kept (c.loop-k.invariant.ghosts value mark p copied) (one value mark p copied);
       set = λ value mark o p copied. more_ghosts value mark (get_or rs c.args.i o) c.args.axis c.args.to k
           (still_ghosts value mark qs rs c.args.i o o c.args.axis c.args.to k there (one value mark p copied) (λ m h. still_ghost ps qs c.args.i o o (step c.args.axis c.args.to m) (step c.args.axis c.args.to m) kept c.requires.there refl (c.requires.ghost_cells o m (omega arith))) (c.loop-k.invariant.set value mark o p copied))
