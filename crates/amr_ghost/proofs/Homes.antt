@@ -1,4 +1,4 @@
--- The cells that the cells of a line stand for, and what a line has in a box.
+-- The cells that the cells of a strip stand for, and what a strip has in a box.
 use Rattle.std.proofs.Common.{◌≡◌, ℕ, ◌+◌, ◌<◌, Bool, true, false, ◌&&◌, ℤ, pos, negsuc, ◌+ℤ◌, ◌≤ℤ◌, IsTrue, refl, sym, ap, ◌∙◌, arith}
 use Rattle.std.proofs.lemmas.Int.{ints}
 use Rattle.std.proofs.Math.Nat.{mod-eq_of_lt}
@@ -7,7 +7,7 @@ use Rattle.amr_box.specs.declared.Axis.{Axis}
 use Rattle.amr_box.specs.declared.Axis.TheVariants.{X, Y}
 use Rattle.amr_box.specs.Cells.{Extent, along, cell, holds, within}
 use Rattle.amr_def.specs.Domain.{Domain, home_cell, is_inside, wrapped}
-use Rattle.amr_ghost.specs.Lines.{step}
+use Rattle.amr_ghost.specs.Strips.{step}
 use Rattle.amr_ghost.specs.Filling.{size_along}
 
 -- a coordinate of the domain stands for itself
@@ -19,7 +19,7 @@ wrapped_inside true n (pos a) h = ap pos (mod-eq_of_lt (below a n h))
     below a n h = grind (arith, ints)
 wrapped_inside true n (negsuc a) h = absurd (grind (arith, ints))
 
--- the cells of a line along an axis of the domain stand for those of a line
+-- the cells of a strip along an axis of the domain stand for those of a strip
 pub home_step : (d : Domain) (axis : Axis) (c : Cell) (k : ℕ) → IsTrue (is_inside (size_along axis d) (along axis c)) → IsTrue (is_inside (size_along axis d) (along axis c +ℤ pos k)) → home_cell d (step axis c k) ≡ step axis (home_cell d c) k
 home_step d X c k first here = λ i. cell (x i) (wrapped d.wrap_y d.rows c.y)
   where
@@ -46,7 +46,7 @@ pub held_ahead : (b : Extent) (axis : Axis) (c : Cell) (k : ℕ) → IsTrue (hol
 held_ahead b X c k h below = both (within b.lo.x b.hi.x c.x) (within b.lo.y b.hi.y c.y) (within b.lo.x b.hi.x (c.x +ℤ pos k)) (λ t. within_ahead b.lo.x b.hi.x c.x k t below) h
 held_ahead b Y c k h below = both_right (within b.lo.x b.hi.x c.x) (within b.lo.y b.hi.y c.y) (within b.lo.y b.hi.y (c.y +ℤ pos k)) (λ t. within_ahead b.lo.y b.hi.y c.y k t below) h
 
--- a line that goes on from a later cell
+-- a strip that goes on from a later cell
 pub step_step : (axis : Axis) (c : Cell) (j k : ℕ) → step axis (step axis c j) k ≡ step axis c (j + k)
 step_step X c j k = λ i. cell (add c.x j k i) c.y
   where

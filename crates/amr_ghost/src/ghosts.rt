@@ -7,7 +7,7 @@ ghost use Rattle.amr_box.specs.Cells.{holds};
 ghost use Rattle.amr_patch.specs.declared.patches.Patch.{Patch};
 ghost use Rattle.amr_patch.specs.Places.{in_frame, place};
 ghost use Rattle.amr_patch.specs.Patches.{box, mass_in};
-ghost use Rattle.amr_ghost.specs.Lines.{HasRoom, step};
+ghost use Rattle.amr_ghost.specs.Strips.{HasRoom, step};
 ghost use Rattle.amr_ghost.specs.Frames.{is_beside};
 ghost use Rattle.amr_ghost.specs.Filling.{AreCopied, HasGhost, HasGhosts, IsGhostSet, KeepsCells, KeepsGhosts};
 
@@ -45,9 +45,9 @@ fn set_entry(patch: &mut Patch, at: usize, mass: u32)
     patch.marks[at] = true;
 }
 
-/// Gives the ghost cells of a line beside patch `i` the masses of the cells of a line in patch `j`, and marks them as cells of
+/// Gives the ghost cells of a strip beside patch `i` the masses of the cells of a strip in patch `j`, and marks them as cells of
 /// the level. `j` may be `i`.
-pub(crate) fn copy_line(
+pub(crate) fn copy_strip(
     patches: &mut [Patch],
     i: usize,
     j: usize,

@@ -1,9 +1,9 @@
-//! Cells of a line, and the cells that they stand for.
+//! Cells of a strip, and the cells that they stand for.
 
 ghost use Rattle.std.specs.Prelude.{◌≡◌, ◌<◌, ◌≤◌, pos, negsuc, ◌+ℤ◌, ◌≤ℤ◌, ◌<ℤ◌, IsTrue};
 ghost use Rattle.amr_box.specs.Cells.{IsNear, along, holds, parent};
 ghost use Rattle.amr_def.specs.Domain.{domain_of, home_cell, in_domain, is_inside, wrapped};
-ghost use Rattle.amr_ghost.specs.Lines.{HasRoom, step};
+ghost use Rattle.amr_ghost.specs.Strips.{HasRoom, step};
 
 use amr_box::{Axis, Bx, Cell};
 use amr_def::Dom;

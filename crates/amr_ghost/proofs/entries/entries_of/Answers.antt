@@ -3,8 +3,8 @@ use Rattle.std.proofs.lemmas.Int.{ints}
 use Rattle.amr_box.specs.declared.Axis.{Axis}
 use Rattle.amr_patch.specs.Places.{grown, place}
 use Rattle.amr_patch.proofs.Rows.{inside, place_is}
-use Rattle.amr_ghost.specs.Lines.{step}
-use Rattle.amr_ghost.proofs.LinePlaces.{along_x, along_y}
+use Rattle.amr_ghost.specs.Strips.{step}
+use Rattle.amr_ghost.proofs.StripPlaces.{along_x, along_y}
 use Rattle.amr_ghost.proofs.entries.entries_of.Goals as goal
 
 pub distance-row-requires-clause-order : goal.distance-row-requires-clause-order

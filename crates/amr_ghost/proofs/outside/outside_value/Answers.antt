@@ -1,4 +1,4 @@
-use Rattle.std.proofs.Common.{◌≡◌, ◌/◌, ◌^◌, ◌≤◌, ℕ, ap, ◌∙◌, arith}
+use Rattle.std.proofs.Common.{◌/◌, ◌^◌, ◌≤◌, ℕ, ap, ◌∙◌, arith}
 use Rattle.amr_def.specs.Value.{inflow_at}
 use Rattle.amr_ghost.proofs.Inflows.{inflow_within, shift_is, shift_within}
 use Rattle.amr_ghost.proofs.outside.outside_value.Goals as goal

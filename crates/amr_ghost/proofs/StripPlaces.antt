@@ -1,4 +1,4 @@
--- Where the cells of a line stand in the lists of a patch.
+-- Where the cells of a strip stand in the lists of a patch.
 use Rattle.std.proofs.Common.{◌≡◌, ℕ, ◌+◌, ◌*◌, ◌^◌, ◌<◌, ◌≤◌, List, length, get_or, pos, ◌+ℤ◌, ◌-ℤ◌, IsTrue, sym, ap, subst, ◌∙◌, arith}
 use Rattle.std.specs.Prelude.{slice_index, slice_index_or}
 use Rattle.std.proofs.lemmas.Int.{ints}
@@ -13,7 +13,7 @@ use Rattle.amr_patch.specs.Places.{grown, place}
 use Rattle.amr_patch.specs.Patches.{box, value_in}
 use Rattle.amr_patch.proofs.Rows.{inside, place_within, sides, zero-cut}
 use Rattle.amr_patch.proofs.Entries.{along_row, below, whole}
-use Rattle.amr_ghost.specs.Lines.{step}
+use Rattle.amr_ghost.specs.Strips.{step}
 use Rattle.amr_ghost.specs.Filling.{KeepsCells}
 use Rattle.amr_ghost.proofs.Zips.{zip_box}
 
@@ -30,7 +30,7 @@ place_below b c near h =
 pub place_in_list : (q : Patch) (c : Cell) → IsTrue (holds (grown (box q)) c) → place (box q) c < length q.values.items
 place_in_list q c h = let p : place (box q) c < (height (box q) + 2) * (width (box q) + 2) = place_below (box q) c q.near h in rw q.value_count p
 
--- the cells of a line along x stand one by one, those of one along y a row of the grown box apart
+-- the cells of a strip along x stand one by one, those of one along y a row of the grown box apart
 pub along_x : (b : Extent) (c : Cell) (first k : ℕ) → IsTrue (holds (grown b) c) → first ≡ place b c → first + k * 1 ≡ place b (step X c k)
 along_x b c first k h e =
     let i = inside (grown b) c h in
@@ -53,7 +53,7 @@ pub entry_is : (q : Patch) (b : Extent) (c : Cell) (at v : ℕ) → box q ≡ b 
 unfolding value_in
 entry_is q b c at v e f g = g ∙ ap (λ (n : ℕ). slice_index q.values.items n) (f ∙ ap (λ (t : Extent). place t c) (sym e))
 
--- ---- the places of a line in a patch of a list
+-- ---- the places of a strip in a patch of a list
 
 pub place_small : (q : Patch) (c : Cell) → IsTrue (holds (grown (box q)) c) → place (box q) c < 2 ^ 63
 place_small q c h =

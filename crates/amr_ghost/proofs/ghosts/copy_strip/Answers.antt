@@ -8,15 +8,15 @@ use Rattle.amr_patch.specs.declared.patches.Patch.{Patch}
 use Rattle.amr_patch.specs.Places.{grown, in_frame, place}
 use Rattle.amr_patch.specs.Patches.{box, mass_in}
 use Rattle.amr_patch.proofs.Entries.{in_grown}
-use Rattle.amr_ghost.specs.Lines.{step}
+use Rattle.amr_ghost.specs.Strips.{step}
 use Rattle.amr_ghost.specs.Frames.{is_beside}
 use Rattle.amr_ghost.specs.Filling.{AreCopied, HasGhost, IsGhostSet, KeepsCells, KeepsGhosts}
 use Rattle.amr_ghost.proofs.Zips.{keeps_refl, keeps_trans, still_ghost, still_held, zip_box, zip_ghosts, zip_refl, zip_set, zip_trans}
 use Rattle.amr_ghost.proofs.Steps.{frame_grown, ghost_is_set, ghost_keeps_cells, ghost_keeps_ghosts, ghosts_refl}
-use Rattle.amr_ghost.proofs.GhostLines.{copied_mark, copied_value, fewer_ghosts, more_ghosts, no_ghosts, still_ghosts}
-use Rattle.amr_ghost.proofs.LinePlaces.{entry_in_list, entry_is, entry_small, still_place}
-use Rattle.amr_ghost.proofs.Runs.{first_ghost}
-use Rattle.amr_ghost.proofs.ghosts.copy_line.Goals as goal
+use Rattle.amr_ghost.proofs.GhostStrips.{copied_mark, copied_value, fewer_ghosts, more_ghosts, no_ghosts, still_ghosts}
+use Rattle.amr_ghost.proofs.StripPlaces.{entry_in_list, entry_is, entry_small, still_place}
+use Rattle.amr_ghost.proofs.Spans.{first_ghost}
+use Rattle.amr_ghost.proofs.ghosts.copy_strip.Goals as goal
 
 pub returns-then-count-eq0-clause-kept : goal.returns-then-count-eq0-clause-kept
 returns-then-count-eq0-clause-kept c = zip_refl KeepsCells keeps_refl c.args.patches.now

@@ -3,7 +3,7 @@ use Rattle.std.specs.List.{AllZip}
 use Rattle.amr_box.specs.declared.Cell.{Cell}
 use Rattle.amr_patch.specs.declared.patches.Patch.{Patch}
 use Rattle.amr_ghost.specs.Filling.{AreCopied, HasGhosts, KeepsCells, KeepsGhosts}
-use Rattle.amr_ghost.proofs.ghosts.copy_line.Given as goal
+use Rattle.amr_ghost.proofs.ghosts.copy_strip.Given as goal
 
 abbrev pub invariant-loop-k : goal.invariant-loop-k
 invariant-loop-k l = record {

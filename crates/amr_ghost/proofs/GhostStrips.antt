@@ -1,4 +1,4 @@
--- Ghost cells along a line that have their values: none yet, still, and one more.
+-- Ghost cells along a strip that have their values: none yet, still, and one more.
 use Rattle.std.proofs.Common.{◌≡◌, ℕ, ◌+◌, ◌<◌, ◌≤◌, Bool, true, List, length, get_or, IsTrue, sym, ap, ◌∙◌, arith, below_more}
 use Rattle.std.specs.List.{AllZip}
 use Rattle.std.proofs.lemmas.List.Elements.{AllZip-get_or}
@@ -8,7 +8,7 @@ use Rattle.amr_box.specs.Cells.{holds}
 use Rattle.amr_patch.specs.declared.patches.Patch.{Patch}
 use Rattle.amr_patch.specs.Places.{in_frame}
 use Rattle.amr_patch.specs.Patches.{box, mass_in}
-use Rattle.amr_ghost.specs.Lines.{step}
+use Rattle.amr_ghost.specs.Strips.{step}
 use Rattle.amr_ghost.specs.Filling.{AreCopied, HasGhost, HasGhosts, KeepsCells, KeepsGhosts}
 use Rattle.amr_ghost.proofs.Zips.{still_mass}
 

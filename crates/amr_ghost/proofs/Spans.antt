@@ -1,4 +1,4 @@
--- A run of ghost cells: copied from the patch that has the cells that they stand for, or one that stands for no cell of the level.
+-- A span of ghost cells: copied from the patch that has the cells that they stand for, or one that stands for no cell of the level.
 use Rattle.std.proofs.Common.{◌≡◌, ℕ, ◌+◌, ◌-◌, ◌/◌, ◌^◌, ◌<◌, ◌≤◌, Bool, true, false, cond, ℤ, pos, ◌+ℤ◌, ◌≤ℤ◌, ◌<ℤ◌, List, length, get_or, IsTrue, refl, sym, ap, subst, ◌∙◌, arith}
 use Rattle.std.specs.Prelude.{is_some, nat_lt}
 use Rattle.std.proofs.lemmas.Bool.Decides.{nat_tests}
@@ -19,9 +19,9 @@ use Rattle.amr_patch.specs.declared.patches.Patch.{Patch}
 use Rattle.amr_patch.specs.Patches.{ArePatchesApart, box, mass_in, masses_in}
 use Rattle.amr_patch.specs.Orders.{IsHolder}
 use Rattle.amr_patch.proofs.Lookups.{masses_in-at, same_default}
-use Rattle.amr_ghost.specs.Lines.{HasRoom, step}
+use Rattle.amr_ghost.specs.Strips.{HasRoom, step}
 use Rattle.amr_ghost.specs.Frames.{is_of_level}
-use Rattle.amr_ghost.specs.Filling.{AreCopied, HasGhost, HasGhosts, IsGhostLine, size_along}
+use Rattle.amr_ghost.specs.Filling.{AreCopied, HasGhost, HasGhosts, IsGhostStrip, size_along}
 use Rattle.amr_ghost.proofs.Homes.{bounds, held_ahead, home_step, step_step}
 
 pub room_inside : (b : Extent) (c : Cell) → IsNear b → IsTrue (holds b c) → HasRoom c
@@ -55,14 +55,14 @@ one_ghost value mark q axis c h = record { at = λ k t. at_first k (omega arith)
 last_ahead : (z h : ℤ) (n k : ℕ) → z +ℤ pos n ≡ h +ℤ pos 1 → k < n → (z +ℤ pos k) ≤ℤ h
 last_ahead z h n k e t = omega (arith, ints)
 
-pub run_held : (ps : List Patch) (j : ℕ) (e q : Patch) (axis : Axis) (h : Cell) (n k : ℕ) → IsHolder ps h j → along axis h +ℤ pos n ≡ along axis (box (get_or ps j e)).hi +ℤ pos 1 → k < n → IsTrue (holds (box (get_or ps j q)) (step axis h k))
-run_held ps j e q axis h n k holder end t =
+pub span_held : (ps : List Patch) (j : ℕ) (e q : Patch) (axis : Axis) (h : Cell) (n k : ℕ) → IsHolder ps h j → along axis h +ℤ pos n ≡ along axis (box (get_or ps j e)).hi +ℤ pos 1 → k < n → IsTrue (holds (box (get_or ps j q)) (step axis h k))
+span_held ps j e q axis h n k holder end t =
     let same : get_or ps j e ≡ get_or ps j q = same_default ps j e q holder.inside in
     let ahead : along axis h +ℤ pos n ≡ along axis (box (get_or ps j q)).hi +ℤ pos 1 = subst (λ (p : Patch). along axis h +ℤ pos n ≡ along axis (box p).hi +ℤ pos 1) same end in
     held_ahead (box (get_or ps j q)) axis h k (holder.holds_it q) (last_ahead (along axis h) (along axis (box (get_or ps j q)).hi) n k ahead t)
 
-pub run_copied : (p : Problem) (l : ℕ) (ps : List Patch) (old : Masses) (j : ℕ) (d : Patch) (b : Extent) (axis : Axis) (c h : Cell) (count n : ℕ) → ArePatchesApart ps → j < length ps → h ≡ home_cell (domain p l) c → 0 < count → n ≤ count → IsGhostLine (domain p l) b axis c count → ((q : Patch) (k : ℕ) → k < n → IsTrue (holds (box (get_or ps j q)) (step axis h k))) → AreCopied (value_at p l (masses_in ps) old) (is_of_level p l (masses_in ps)) (get_or ps j d) axis c h n
-run_copied p l ps old j d b axis c h count n apart there home some few line held = record {
+pub span_copied : (p : Problem) (l : ℕ) (ps : List Patch) (old : Masses) (j : ℕ) (d : Patch) (b : Extent) (axis : Axis) (c h : Cell) (count n : ℕ) → ArePatchesApart ps → j < length ps → h ≡ home_cell (domain p l) c → 0 < count → n ≤ count → IsGhostStrip (domain p l) b axis c count → ((q : Patch) (k : ℕ) → k < n → IsTrue (holds (box (get_or ps j q)) (step axis h k))) → AreCopied (value_at p l (masses_in ps) old) (is_of_level p l (masses_in ps)) (get_or ps j d) axis c h n
+span_copied p l ps old j d b axis c h count n apart there home some few strip held = record {
   values = λ k t. value_here p l (masses_in ps) old (step axis c k) (step axis h k) (home_is k t) (ap is_some (mass_is k t)) ∙ ap (λ (o : Option ℕ). unwrap_or o 0) (mass_is k t);
   marks = λ k t. ap (λ (s : Cell). is_some (masses_in ps s)) (home_is k t) ∙ ap is_some (mass_is k t);
 }
@@ -74,7 +74,7 @@ run_copied p l ps old j d b axis c h count n apart there home some few line held
         none z = omega (arith, ints)
 
     home_is : (k : ℕ) → k < n → home_cell (domain p l) (step axis c k) ≡ step axis h k
-    home_is k t = home_step (domain p l) axis c k (from_low (line.inside 0 some)) (line.inside k (omega arith)) ∙ ap (λ (s : Cell). step axis s k) (sym home)
+    home_is k t = home_step (domain p l) axis c k (from_low (strip.inside 0 some)) (strip.inside k (omega arith)) ∙ ap (λ (s : Cell). step axis s k) (sym home)
 
     mass_is : (k : ℕ) → k < n → masses_in ps (step axis h k) ≡ Some (mass_in (get_or ps j d) (step axis h k))
     mass_is k t = masses_in-at ps (step axis h k) j d apart (record { inside = there; holds_it = λ q. held q k t })
@@ -88,7 +88,7 @@ outer_is p l m old c h v home none is = ap (home_value p l m old) (sym home) ∙
 pub no_mark : (p : Problem) (l : ℕ) (m : Masses) (c h : Cell) → h ≡ home_cell (domain p l) c → m h ≡ None → is_of_level p l m c ≡ false
 no_mark p l m c h home none = ap (λ (s : Cell). is_some (m s)) (sym home) ∙ ap is_some none
 
--- ---- two runs, one after the other
+-- ---- two spans, one after the other
 
 pub room_ahead : (d : Domain) (axis : Axis) (c : Cell) (k : ℕ) → HasRoom c → size_along axis d ≤ 4096 → IsTrue (is_inside (size_along axis d) (along axis c +ℤ pos k)) → HasRoom (step axis c k)
 room_ahead d X c k room size inside = record { x = low d.columns (c.x +ℤ pos k) size inside; y = room.y }
@@ -100,11 +100,11 @@ room_ahead d Y c k room size inside = record { x = room.x; y = low d.rows (c.y +
     low : (n : ℕ) (z : ℤ) → n ≤ 4096 → IsTrue (is_inside n z) → z <ℤ pos 33554433
     low n z s h = grind (arith, ints)
 
-pub rest_of_line : (d : Domain) (b b' : Extent) (axis : Axis) (c c' : Cell) (count done : ℕ) → b' ≡ b → c' ≡ step axis c done → IsGhostLine d b axis c count → IsGhostLine d b' axis c' (count - done)
-rest_of_line d b b' axis c c' count done same is line = rw (same, is) (record {
-  ghosts = λ k t. rw step_step (line.ghosts (done + k) (omega arith));
-  beside = λ k t. rw step_step (line.beside (done + k) (omega arith));
-  inside = λ k t. subst (λ (z : ℤ). IsTrue (is_inside (size_along axis d) z)) (further axis c k) (line.inside (done + k) (omega arith));
+pub rest_of_strip : (d : Domain) (b b' : Extent) (axis : Axis) (c c' : Cell) (count done : ℕ) → b' ≡ b → c' ≡ step axis c done → IsGhostStrip d b axis c count → IsGhostStrip d b' axis c' (count - done)
+rest_of_strip d b b' axis c c' count done same is strip = rw (same, is) (record {
+  ghosts = λ k t. rw step_step (strip.ghosts (done + k) (omega arith));
+  beside = λ k t. rw step_step (strip.beside (done + k) (omega arith));
+  inside = λ k t. subst (λ (z : ℤ). IsTrue (is_inside (size_along axis d) z)) (further axis c k) (strip.inside (done + k) (omega arith));
 })
   where
     further : (axis : Axis) (c : Cell) (k : ℕ) → along axis c +ℤ pos (done + k) ≡ along axis (step axis c done) +ℤ pos k
