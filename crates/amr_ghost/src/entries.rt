@@ -5,23 +5,13 @@ ghost use Rattle.amr_box.specs.Cells.{IsNear, holds};
 ghost use Rattle.amr_patch.specs.Places.{grown, place};
 ghost use Rattle.amr_ghost.specs.Strips.{step};
 
-use amr_box::{Axis, Bx, Cell};
+use amr_box::{Axis, Bx, Cell, distance};
 
 /// The places of a strip's cells: that of the first cell, and how many places on that of each next one is.
 #[derive(Clone, Copy, Debug)]
 pub(crate) struct Entries {
     pub(crate) first: usize,
     pub(crate) stride: usize,
-}
-
-/// How far a coordinate lies above another that isn't greater. Both lie between -2^25 and 2^25.
-fn distance(low: i32, z: i32) -> usize
-    requires from { negsuc 33554432 <ℤ low }
-    requires order { low ≤ℤ z }
-    requires to { z <ℤ pos 33554433 }
-    ensures { pos result ≡ z -ℤ low }
-{
-    (z - low) as usize
 }
 
 /// The places of the cells of a strip in a patch of this box.

@@ -15,7 +15,7 @@ ghost use Rattle.amr_ghost.specs.Filling.{HasFrame, HasSideValues, HasValues, Is
 
 use crate::ghosts::{copy_strip, set_ghost};
 use crate::lookup::{Near, look_up};
-use crate::places::{cells_ahead, home_cell, in_domain, step};
+use crate::places::{cells_ahead, step};
 use crate::sides::{Side, Strip, side_strip};
 use crate::values::outer_value;
 use amr_box::Cell;
@@ -37,7 +37,7 @@ fn holder(patches: &[Patch], order: Order, dom: &Dom, near: &mut usize, c: Cell)
     ensures some { is_some result ≡ in_patches patches.now c }
     ensures found { IfSome result (IsHolder patches.now c) }
 {
-    if !in_domain(dom, c) {
+    if !dom.in_domain(c) {
         return None;
     }
     look_up(patches, order, near, c)
@@ -69,7 +69,7 @@ fn fill_span(
     ensures set { (q : Patch) → HasValues p.now l (masses_in patches.old) (old_masses (option_copied old.entry)) (slice_index_or patches.new i q) strip.axis strip.from result }
 {
     let dom = p.domain(l);
-    let home = home_cell(&dom, strip.from);
+    let home = dom.home_cell(strip.from);
     match holder(patches, order, &dom, &mut near.level, home) {
         Some(j) => {
             let source = patches[j].bx();

@@ -11,7 +11,6 @@ mod sides;
 mod values;
 
 pub use filling::{fill, fill_in_order};
-pub use places::home_cell;
 
 #[cfg(test)]
 mod tests;

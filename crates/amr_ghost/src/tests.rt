@@ -10,7 +10,6 @@ ghost use Rattle.amr_patch.specs.Patches.{ArePatchesApart, box};
 ghost use Rattle.amr_ghost.specs.Frames.{AreInDomain};
 
 use super::*;
-use crate::places::in_domain;
 use amr_box::{Bx, Cell};
 use amr_def::{Blocks, Dom, Name, Problem, Shear, Sides, Thresholds};
 use amr_patch::{Level, Patch};
@@ -132,10 +131,10 @@ fn is_in_domain(dom: &Dom, patch: &Patch) -> bool
     ensures { result ≡ true → (c : Cell) → IsTrue (holds (box patch.now) c) → IsTrue (in_domain (domain_of dom.now) c) }
 {
     let b = patch.bx();
-    if !in_domain(dom, b.lo()) {
+    if !dom.in_domain(b.lo()) {
         return false;
     }
-    in_domain(dom, b.hi())
+    dom.in_domain(b.hi())
 }
 
 /// Whether the patches lie in the domain of level `l`.

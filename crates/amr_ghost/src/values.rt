@@ -11,8 +11,7 @@ ghost use Rattle.amr_ghost.specs.Frames.{old_masses};
 
 use crate::lookup::look_up;
 use crate::outside::outside_value;
-use crate::places::{in_domain, parent};
-use amr_box::Cell;
+use amr_box::{Cell, parent};
 use amr_def::Problem;
 use amr_patch::Level;
 
@@ -52,7 +51,7 @@ pub(crate) fn outer_value(
     ensures value { result ≡ cond (in_domain (domain p.now l) c) (mass_of (old_masses (option_copied old.entry)) (parent c) / 4) (inflow_at p.now l c / 4 ^ l) }
     ensures small { result < 2 ^ 32 }
 {
-    if in_domain(&p.domain(l), c) {
+    if p.domain(l).in_domain(c) {
         old_mass(old, near, parent(c)) / 4
     } else {
         outside_value(p, l, c)
