@@ -1,6 +1,7 @@
 -- What an update needs and gives, by the cells and faces of the patch.
 use Rattle.std.proofs.Common.{◌≡◌, ℕ, ◌+◌, ◌*◌, ◌^◌, ◌<◌, ◌≤◌, Bool, true, false, ℤ, pos, negsuc, ◌+ℤ◌, ◌-ℤ◌, ◌≤ℤ◌, ◌<ℤ◌, List, length, refl, sym, ap, subst, ◌∙◌, arith}
-use Rattle.std.specs.Prelude.{IsTrue, not, slice_index}
+use Rattle.std.specs.Prelude.{IsTrue, cond, not, slice_index, slice_index_or}
+use Rattle.std.specs.Ordering.{int_eq}
 use Rattle.std.proofs.lemmas.Int.{ints}
 use Rattle.std.proofs.lemmas.Nat.{same_from_place}
 use Rattle.amr_box.specs.declared.Cell.{Cell}
@@ -11,8 +12,8 @@ use Rattle.amr_box.specs.Cells.{Extent, IsNear, at_least_zero, cell, extent, hei
 use Rattle.amr_def.specs.declared.problem.Problem.{Problem}
 use Rattle.amr_def.specs.Flux.{face, net}
 use Rattle.amr_patch.specs.declared.patches.Patch.{Patch}
-use Rattle.amr_patch.specs.Places.{grown, in_frame, is_face_of}
-use Rattle.amr_patch.specs.Patches.{mass_in, value_in}
+use Rattle.amr_patch.specs.Places.{column_of, grown, in_frame, is_face_of, row_of}
+use Rattle.amr_patch.specs.Patches.{flux_along, mass_in, value_in}
 use Rattle.amr_patch.proofs.Rows.{and_true, inside, is_inside, sides, zero-cut}
 use Rattle.amr_flux.specs.Faces.{border_faces, fluxes_with}
 use Rattle.amr_flux.specs.Tables.{IsOtherPlace, Stands, count_below, net_inflow, value, x_marked, x_through, y_marked, y_through}
@@ -180,3 +181,8 @@ moved P {l = l} {l' = l'} {w = w} {w' = w'} {h = h} {h' = h'} {v = v} {v' = v'} 
 
 pub enough : (q : Patch) (border : List ℕ) → length border ≡ length (border_faces q) → count_below (x_marked (width q.bx) q.marks.items) (height q.bx) + count_below (y_marked (width q.bx) (height q.bx) q.marks.items) (width q.bx) ≤ length border
 enough q border count = omega (arith, count, border_count q)
+
+-- a patch that keeps its box and its edge lines has the fluxes of before
+pub same_along : (q r : Patch) (a : Axis) (c : Cell) → r.bx ≡ q.bx → r.x_low.items ≡ q.x_low.items → r.x_high.items ≡ q.x_high.items → r.y_low.items ≡ q.y_low.items → r.y_high.items ≡ q.y_high.items → flux_along a r c ≡ flux_along a q c
+same_along q r X c eb west east south north = λ i. cond (int_eq c.x (eb i).lo.x) (slice_index_or (west i) (row_of (eb i) c) (pos 0)) (slice_index_or (east i) (row_of (eb i) c) (pos 0))
+same_along q r Y c eb west east south north = λ i. cond (int_eq c.y (eb i).lo.y) (slice_index_or (south i) (column_of (eb i) c) (pos 0)) (slice_index_or (north i) (column_of (eb i) c) (pos 0))

@@ -13,7 +13,7 @@ ghost use Rattle.amr_flux.specs.Shares.{AreSmall};
 
 use crate::room::Room;
 use crate::shape::shape_of;
-use crate::update_rows::update_in_room;
+use crate::update_rows::update_in_lists;
 use amr_def::Problem;
 use amr_patch::Patch;
 
@@ -39,12 +39,14 @@ pub fn update(p: &Problem, l: u32, patch: &mut Patch, border: &[u32], room: &mut
     let shape = shape_of(p, l, &patch.bx, room);
     room.x_share = shape.x;
     room.y_share = shape.y;
-    update_in_room(
+    update_in_lists(
         p,
         shape,
         &mut patch.values,
         &patch.marks,
         border,
-        room,
+        &mut room.x,
+        &mut room.low,
+        &mut room.high,
     );
 }

@@ -73,7 +73,7 @@ fn net_inflow(west: i32, east: i32, south: i32, north: i32) -> i64
 
 /// A mass and its net inflow, by the fluxes through the cell's faces.
 #[inline(always)]
-fn mass_after(mass: u32, west: i32, east: i32, south: i32, north: i32) -> u32
+pub(crate) fn mass_after(mass: u32, west: i32, east: i32, south: i32, north: i32) -> u32
     requires kept { pos 0 ≤ℤ (pos mass +ℤ ((west -ℤ east) +ℤ (south -ℤ north))) }
     requires fits { (pos mass +ℤ ((west -ℤ east) +ℤ (south -ℤ north))) <ℤ pos (2 ^ 32) }
     ensures { pos result ≡ pos mass +ℤ ((west -ℤ east) +ℤ (south -ℤ north)) }
@@ -97,7 +97,15 @@ pub(crate) fn update_row(masses: &mut [u32], x: &[i32], low: &[i32], high: &[i32
 }
 
 /// Makes the new masses of row `j` of a patch, all else stays.
-pub(crate) fn update_patch_row(w: usize, h: usize, j: usize, values: &mut [u32], x: &[i32], low: &[i32], high: &[i32])
+pub(crate) fn update_patch_row(
+    w: usize,
+    h: usize,
+    j: usize,
+    values: &mut [u32],
+    x: &[i32],
+    low: &[i32],
+    high: &[i32],
+)
     requires value_count { length values.old ≡ (h + 2) * (w + 2) }
     requires row { j < h }
     requires x_count { length x.now ≡ w + 1 }

@@ -31,13 +31,7 @@ fn put_size(marked: bool, size: u32, used: usize, sizes: &mut [u32]) -> usize
 }
 
 /// The sizes at the high ends of the rows. Answers how many there are.
-fn x_sizes(
-    p: &Problem,
-    shape: Shape,
-    values: &[u32],
-    marks: &[bool],
-    sizes: &mut [u32],
-) -> usize
+fn x_sizes(p: &Problem, shape: Shape, values: &[u32], marks: &[bool], sizes: &mut [u32]) -> usize
     requires level { shape.level ≤ 4 }
     requires inside { shape.row + shape.h ≤ rows p.now shape.level }
     requires value_count { length values.now ≡ (shape.h + 2) * (shape.w + 2) }

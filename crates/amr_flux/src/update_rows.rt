@@ -2,11 +2,9 @@
 
 ghost use Rattle.std.specs.Prelude.{◌≡◌, ℕ, ◌+◌, ◌*◌, ◌<◌, ◌≤◌, ◌^◌, pos, ◌+ℤ◌, ◌≤ℤ◌, ◌<ℤ◌, length, slice_index};
 ghost use Rattle.amr_def.specs.Domain.{columns, rows};
-ghost use Rattle.amr_flux.specs.Rooms.{widest};
 ghost use Rattle.amr_flux.specs.Shares.{AreSmall};
 ghost use Rattle.amr_flux.specs.Tables.{AreXSmall, AreYSmall, IsOtherPlace, count_below, net_inflow, value, x_marked, x_through, y_marked, y_through};
 
-use crate::room::Room;
 use crate::rows::update_patch_row;
 use crate::shape::Shape;
 use crate::x_faces::{is_end_marked, set_end, x_row};
@@ -60,15 +58,16 @@ pub(crate) fn update_rows(
     }
 }
 
-/// The same, with room for the fluxes of a row.
-#[tactic(auto, unfolding(crate::specs::Rooms::widest))]
-pub(crate) fn update_in_room(
+/// The same, with room for the fluxes of a row that may be longer.
+pub(crate) fn update_in_lists(
     p: &Problem,
     shape: Shape,
     values: &mut [u32],
     marks: &[bool],
     border: &[u32],
-    room: &mut Room,
+    x: &mut [i32],
+    low: &mut [i32],
+    high: &mut [i32],
 )
     requires level { shape.level ≤ 4 }
     requires columns_inside { shape.column + shape.w ≤ columns p.now shape.level }
@@ -76,7 +75,9 @@ pub(crate) fn update_in_room(
     requires value_count { length values.old ≡ (shape.h + 2) * (shape.w + 2) }
     requires mark_count { length marks.now ≡ (shape.h + 2) * (shape.w + 2) }
     requires some { 0 < shape.h }
-    requires room { shape.w ≤ widest room.old }
+    requires x_room { shape.w + 1 ≤ length x.old }
+    requires low_room { shape.w ≤ length low.old }
+    requires high_room { shape.w ≤ length high.old }
     requires enough { count_below (x_marked shape.w marks.now) shape.h + count_below (y_marked shape.w shape.h marks.now) shape.w ≤ length border.now }
     requires border_small { AreSmall border.now }
     requires x_small { AreXSmall shape.w shape.h values.old }
@@ -85,7 +86,6 @@ pub(crate) fn update_in_room(
     requires fits { (i j : ℕ) → i < shape.w → j < shape.h → (pos (value shape.w values.old (i + 1) (j + 1)) +ℤ net_inflow (x_through p.now shape.level shape.row shape.w marks.now border.now values.old) (y_through p.now shape.level shape.column shape.w shape.h marks.now border.now values.old) i j) <ℤ pos (2 ^ 32) }
     ensures made { (i j : ℕ) → i < shape.w → j < shape.h → pos (value shape.w values.new (i + 1) (j + 1)) ≡ pos (value shape.w values.old (i + 1) (j + 1)) +ℤ net_inflow (x_through p.now shape.level shape.row shape.w marks.now border.now values.old) (y_through p.now shape.level shape.column shape.w shape.h marks.now border.now values.old) i j }
     ensures others { (k : ℕ) → IsOtherPlace shape.w shape.h k → slice_index values.new k ≡ slice_index values.old k }
-    ensures room { widest room.new ≡ widest room.old }
 {
     update_rows(
         p,
@@ -93,8 +93,8 @@ pub(crate) fn update_in_room(
         values,
         marks,
         border,
-        &mut room.x[..shape.w + 1],
-        &mut room.low[..shape.w],
-        &mut room.high[..shape.w],
+        &mut x[..shape.w + 1],
+        &mut low[..shape.w],
+        &mut high[..shape.w],
     );
 }

@@ -69,7 +69,14 @@ pub(crate) fn high_fluxes(
 }
 
 /// The fluxes through the x faces of row `j`, by the values on their two sides.
-pub(crate) fn x_row(p: &Problem, shape: Shape, share: Share, values: &[u32], j: usize, fluxes: &mut [i32])
+pub(crate) fn x_row(
+    p: &Problem,
+    shape: Shape,
+    share: Share,
+    values: &[u32],
+    j: usize,
+    fluxes: &mut [i32],
+)
     requires number { share.number ≡ x_number p.now shape.level (shape.row + j) }
     requires parts { share.parts ≡ p.now.d }
     requires value_count { length values.now ≡ (shape.h + 2) * (shape.w + 2) }
@@ -99,7 +106,13 @@ pub(crate) fn is_end_marked(shape: Shape, marks: &[bool], j: usize) -> bool
 
 /// Gives the last of a row's faces, if it is marked as a border face, its flux by the size at place `used`. Answers how many
 /// sizes are used then.
-pub(crate) fn set_end(number: i32, marked: bool, border: &[u32], used: usize, fluxes: &mut [i32]) -> usize
+pub(crate) fn set_end(
+    number: i32,
+    marked: bool,
+    border: &[u32],
+    used: usize,
+    fluxes: &mut [i32],
+) -> usize
     requires some { 0 < length fluxes.old }
     requires enough { used + cond marked 1 0 ≤ length border.now }
     requires small { AreSmall border.now }

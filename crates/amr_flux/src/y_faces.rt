@@ -31,13 +31,7 @@ fn alike(p: &Problem, l: u32, column: u32, rest: usize) -> usize
 
 /// The fluxes through the y faces between two rows of cells of a patch.
 #[tactic(auto, using(crate::proofs::Numbers::y_slow))]
-pub(crate) fn y_fluxes(
-    p: &Problem,
-    shape: Shape,
-    low: &[u32],
-    high: &[u32],
-    fluxes: &mut [i32],
-)
+pub(crate) fn y_fluxes(p: &Problem, shape: Shape, low: &[u32], high: &[u32], fluxes: &mut [i32])
     requires level { shape.level ≤ 4 }
     requires inside { shape.column + length fluxes.old ≤ columns p.now shape.level }
     requires low_count { length low.now ≡ length fluxes.old }
@@ -52,7 +46,12 @@ pub(crate) fn y_fluxes(
         let column = shape.column + from as u32;
         share = share.with(p.y_courant(shape.level, column), p.d);
         let to = from + alike(p, shape.level, column, fluxes.len() - from);
-        face_fluxes(share, &low[from..to], &high[from..to], &mut fluxes[from..to]);
+        face_fluxes(
+            share,
+            &low[from..to],
+            &high[from..to],
+            &mut fluxes[from..to],
+        );
         from = to;
     }
 }

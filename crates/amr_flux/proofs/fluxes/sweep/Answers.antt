@@ -52,10 +52,10 @@ returns-clause-fluxes c =
     let y_low = c.y_row.new.fluxes in
     let y_high = c.top_fluxes.new.fluxes in
     swept p c.args.l q _ column row e.stands refl
-    (λ j h. ap (λ es. slice_index_or es j (pos 0)) (with_items_is q.x_low x_low (search rules)) ∙ moved (λ l w h v m. (j : ℕ) → j < h → slice_index_or x_low j (pos 0) ≡ x_flux p l row w v 0 j) e.level e.columns e.rows c.deref.ensures.value refl c.low_fluxes.ensures j h)
+    (λ j h. ap (λ es. slice_index_or es j (pos 0)) (with_items_is q.x_low x_low (search rules)) ∙ moved (λ l w h v m. (j : ℕ) → j < h → slice_index_or x_low j (pos 0) ≡ x_flux p l row w v 0 j) e.level e.columns e.rows c.deref.ensures.value c.deref-3.ensures.value c.low_fluxes.ensures j h)
     (λ j h f. ap (λ es. slice_index_or es j (pos 0)) (with_items_is q.x_high x_high (search rules)) ∙ moved (λ l w h v m. (j : ℕ) → j < h → x_marked w m j ≡ false → slice_index_or x_high j (pos 0) ≡ x_flux p l row w v w j) e.level e.columns e.rows c.deref-2.ensures.value c.deref-3.ensures.value c.high_fluxes.ensures.made j h f)
     (λ j f. ap (λ es. slice_index_or es j (pos 0)) (with_items_is q.x_high x_high (search rules)) ∙ moved (λ l w h v m. (j : ℕ) → x_marked w m j ≡ true → slice_index_or x_high j (pos 0) ≡ slice_index_or c.deref_mut-2.result.now j (pos 0)) e.level e.columns e.rows c.deref-2.ensures.value c.deref-3.ensures.value c.high_fluxes.ensures.others j f ∙ ap (λ es. slice_index_or es j (pos 0)) c.deref_mut-2.ensures.value)
-    (λ i h. ap (λ es. slice_index_or es i (pos 0)) (with_items_is q.y_low y_low (search rules)) ∙ moved (λ l w h v m. (i : ℕ) → i < w → slice_index_or y_low i (pos 0) ≡ y_flux p l column w v i 0) e.level e.columns e.rows c.deref-4.ensures.value refl c.y_row.ensures i h)
+    (λ i h. ap (λ es. slice_index_or es i (pos 0)) (with_items_is q.y_low y_low (search rules)) ∙ moved (λ l w h v m. (i : ℕ) → i < w → slice_index_or y_low i (pos 0) ≡ y_flux p l column w v i 0) e.level e.columns e.rows c.deref-4.ensures.value c.deref-3.ensures.value c.y_row.ensures i h)
     (λ i h f. ap (λ es. slice_index_or es i (pos 0)) (with_items_is q.y_high y_high (search rules)) ∙ moved (λ l w h v m. (i : ℕ) → i < w → y_marked w h m i ≡ false → slice_index_or y_high i (pos 0) ≡ y_flux p l column w v i h) e.level e.columns e.rows c.deref-5.ensures.value c.deref-6.ensures.value c.top_fluxes.ensures.made i h f)
     (λ i h f. ap (λ es. slice_index_or es i (pos 0)) (with_items_is q.y_high y_high (search rules)) ∙ moved (λ l w h v m. (i : ℕ) → i < w → y_marked w h m i ≡ true → slice_index_or y_high i (pos 0) ≡ slice_index_or c.deref_mut-4.result.now i (pos 0)) e.level e.columns e.rows c.deref-5.ensures.value c.deref-6.ensures.value c.top_fluxes.ensures.others i h f ∙ ap (λ es. slice_index_or es i (pos 0)) c.deref_mut-4.ensures.value)
 
@@ -71,10 +71,10 @@ returns-clause-border c =
     let y_low = c.y_row.new.fluxes in
     let y_high = c.top_fluxes.new.fluxes in
     border_stays p c.args.l q _ column row e.stands refl
-    (λ j h. ap (λ es. slice_index_or es j (pos 0)) (with_items_is q.x_low x_low (search rules)) ∙ moved (λ l w h v m. (j : ℕ) → j < h → slice_index_or x_low j (pos 0) ≡ x_flux p l row w v 0 j) e.level e.columns e.rows c.deref.ensures.value refl c.low_fluxes.ensures j h)
+    (λ j h. ap (λ es. slice_index_or es j (pos 0)) (with_items_is q.x_low x_low (search rules)) ∙ moved (λ l w h v m. (j : ℕ) → j < h → slice_index_or x_low j (pos 0) ≡ x_flux p l row w v 0 j) e.level e.columns e.rows c.deref.ensures.value c.deref-3.ensures.value c.low_fluxes.ensures j h)
     (λ j h f. ap (λ es. slice_index_or es j (pos 0)) (with_items_is q.x_high x_high (search rules)) ∙ moved (λ l w h v m. (j : ℕ) → j < h → x_marked w m j ≡ false → slice_index_or x_high j (pos 0) ≡ x_flux p l row w v w j) e.level e.columns e.rows c.deref-2.ensures.value c.deref-3.ensures.value c.high_fluxes.ensures.made j h f)
     (λ j f. ap (λ es. slice_index_or es j (pos 0)) (with_items_is q.x_high x_high (search rules)) ∙ moved (λ l w h v m. (j : ℕ) → x_marked w m j ≡ true → slice_index_or x_high j (pos 0) ≡ slice_index_or c.deref_mut-2.result.now j (pos 0)) e.level e.columns e.rows c.deref-2.ensures.value c.deref-3.ensures.value c.high_fluxes.ensures.others j f ∙ ap (λ es. slice_index_or es j (pos 0)) c.deref_mut-2.ensures.value)
-    (λ i h. ap (λ es. slice_index_or es i (pos 0)) (with_items_is q.y_low y_low (search rules)) ∙ moved (λ l w h v m. (i : ℕ) → i < w → slice_index_or y_low i (pos 0) ≡ y_flux p l column w v i 0) e.level e.columns e.rows c.deref-4.ensures.value refl c.y_row.ensures i h)
+    (λ i h. ap (λ es. slice_index_or es i (pos 0)) (with_items_is q.y_low y_low (search rules)) ∙ moved (λ l w h v m. (i : ℕ) → i < w → slice_index_or y_low i (pos 0) ≡ y_flux p l column w v i 0) e.level e.columns e.rows c.deref-4.ensures.value c.deref-3.ensures.value c.y_row.ensures i h)
     (λ i h f. ap (λ es. slice_index_or es i (pos 0)) (with_items_is q.y_high y_high (search rules)) ∙ moved (λ l w h v m. (i : ℕ) → i < w → y_marked w h m i ≡ false → slice_index_or y_high i (pos 0) ≡ y_flux p l column w v i h) e.level e.columns e.rows c.deref-5.ensures.value c.deref-6.ensures.value c.top_fluxes.ensures.made i h f)
     (λ i h f. ap (λ es. slice_index_or es i (pos 0)) (with_items_is q.y_high y_high (search rules)) ∙ moved (λ l w h v m. (i : ℕ) → i < w → y_marked w h m i ≡ true → slice_index_or y_high i (pos 0) ≡ slice_index_or c.deref_mut-4.result.now i (pos 0)) e.level e.columns e.rows c.deref-5.ensures.value c.deref-6.ensures.value c.top_fluxes.ensures.others i h f ∙ ap (λ es. slice_index_or es i (pos 0)) c.deref_mut-4.ensures.value)
 

@@ -6,34 +6,35 @@ use Rattle.amr_patch.proofs.Rows.{sides}
 use Rattle.amr_flux.specs.Rooms.{widest}
 use Rattle.amr_flux.specs.Tables.{IsOtherPlace, count_below, net_inflow, value, x_marked, x_through, y_marked, y_through}
 use Rattle.amr_flux.proofs.Owned.{x_small, y_small}
-use Rattle.amr_flux.proofs.Updates.{enough, fits_at, frame_stays, kept_at, masses_are, moved}
+use Rattle.amr_flux.proofs.Updates.{enough, fits_at, frame_stays, kept_at, masses_are, moved, same_along}
+use Rattle.amr_box.specs.Cells.{cell}
 use Rattle.amr_flux.proofs.masses.update.Goals as goal
 
-pub update_in_room-requires-clause-columns_inside : goal.update_in_room-requires-clause-columns_inside
-update_in_room-requires-clause-columns_inside c = rw (c.shape_of-shape.ensures.columns, c.shape_of-shape.ensures.level) c.shape_of-shape.ensures.stands.columns_fit
+pub update_in_lists-requires-clause-columns_inside : goal.update_in_lists-requires-clause-columns_inside
+update_in_lists-requires-clause-columns_inside c = rw (c.shape_of-shape.ensures.columns, c.shape_of-shape.ensures.level) c.shape_of-shape.ensures.stands.columns_fit
 
-pub update_in_room-requires-clause-rows_inside : goal.update_in_room-requires-clause-rows_inside
-update_in_room-requires-clause-rows_inside c = rw (c.shape_of-shape.ensures.rows, c.shape_of-shape.ensures.level) c.shape_of-shape.ensures.stands.rows_fit
+pub update_in_lists-requires-clause-rows_inside : goal.update_in_lists-requires-clause-rows_inside
+update_in_lists-requires-clause-rows_inside c = rw (c.shape_of-shape.ensures.rows, c.shape_of-shape.ensures.level) c.shape_of-shape.ensures.stands.rows_fit
 
-pub update_in_room-requires-clause-some : goal.update_in_room-requires-clause-some
-update_in_room-requires-clause-some c = omega (arith, c.shape_of-shape.ensures.rows, (sides c.args.patch.now.bx c.args.patch.now.near).some_rows)
+pub update_in_lists-requires-clause-some : goal.update_in_lists-requires-clause-some
+update_in_lists-requires-clause-some c = omega (arith, c.shape_of-shape.ensures.rows, (sides c.args.patch.now.bx c.args.patch.now.near).some_rows)
 
-pub update_in_room-requires-clause-enough : goal.update_in_room-requires-clause-enough
-update_in_room-requires-clause-enough c = rw (c.shape_of-shape.ensures.columns, c.shape_of-shape.ensures.rows, c.deref.ensures.value) (enough c.args.patch.now c.args.border.now c.requires.border_count)
+pub update_in_lists-requires-clause-enough : goal.update_in_lists-requires-clause-enough
+update_in_lists-requires-clause-enough c = rw (c.shape_of-shape.ensures.columns, c.shape_of-shape.ensures.rows, c.deref.ensures.value) (enough c.args.patch.now c.args.border.now c.requires.border_count)
 
-pub update_in_room-requires-clause-x_small : goal.update_in_room-requires-clause-x_small
-update_in_room-requires-clause-x_small c = rw (c.shape_of-shape.ensures.columns, c.shape_of-shape.ensures.rows, c.deref_mut.ensures.value) (x_small c.args.patch.now c.requires.small)
+pub update_in_lists-requires-clause-x_small : goal.update_in_lists-requires-clause-x_small
+update_in_lists-requires-clause-x_small c = rw (c.shape_of-shape.ensures.columns, c.shape_of-shape.ensures.rows, c.deref_mut.ensures.value) (x_small c.args.patch.now c.requires.small)
 
-pub update_in_room-requires-clause-y_small : goal.update_in_room-requires-clause-y_small
-update_in_room-requires-clause-y_small c = rw (c.shape_of-shape.ensures.columns, c.shape_of-shape.ensures.rows, c.deref_mut.ensures.value) (y_small c.args.patch.now c.requires.small)
+pub update_in_lists-requires-clause-y_small : goal.update_in_lists-requires-clause-y_small
+update_in_lists-requires-clause-y_small c = rw (c.shape_of-shape.ensures.columns, c.shape_of-shape.ensures.rows, c.deref_mut.ensures.value) (y_small c.args.patch.now c.requires.small)
 
-pub update_in_room-requires-clause-kept : goal.update_in_room-requires-clause-kept
-update_in_room-requires-clause-kept c =
+pub update_in_lists-requires-clause-kept : goal.update_in_lists-requires-clause-kept
+update_in_lists-requires-clause-kept c =
     let q = c.args.patch.now in
     rw (c.shape_of-shape.ensures.columns, c.shape_of-shape.ensures.rows, c.shape_of-shape.ensures.level, c.deref_mut.ensures.value, c.deref.ensures.value) (kept_at c.args.p.now c.args.l q c.shape_of-shape.result.column c.shape_of-shape.result.row c.shape_of-shape.ensures.stands c.args.border.now c.requires.kept)
 
-pub update_in_room-requires-clause-fits : goal.update_in_room-requires-clause-fits
-update_in_room-requires-clause-fits c =
+pub update_in_lists-requires-clause-fits : goal.update_in_lists-requires-clause-fits
+update_in_lists-requires-clause-fits c =
     let q = c.args.patch.now in
     rw (c.shape_of-shape.ensures.columns, c.shape_of-shape.ensures.rows, c.shape_of-shape.ensures.level, c.deref_mut.ensures.value, c.deref.ensures.value) (fits_at c.args.p.now c.args.l q c.shape_of-shape.result.column c.shape_of-shape.result.row c.shape_of-shape.ensures.stands c.args.border.now c.requires.fits)
 
@@ -45,17 +46,17 @@ returns-clause-masses c =
     let row = c.shape_of-shape.result.row in
     let column = c.shape_of-shape.result.column in
     let e = c.shape_of-shape.ensures in
-    let vs = c.update_in_room.new.values in
+    let vs = c.update_in_lists.new.values in
     masses_are p c.args.l q column row e.stands border _ refl vs (with_items_is q.values vs (search rules))
-    (moved (λ l w h v m. (i j : ℕ) → i < w → j < h → pos (value w vs (i + 1) (j + 1)) ≡ pos (value w v (i + 1) (j + 1)) +ℤ net_inflow (x_through p l row w m border v) (y_through p l column w h m border v) i j) e.level e.columns e.rows c.deref_mut.ensures.value c.deref.ensures.value c.update_in_room.ensures.made)
+    (moved (λ l w h v m. (i j : ℕ) → i < w → j < h → pos (value w vs (i + 1) (j + 1)) ≡ pos (value w v (i + 1) (j + 1)) +ℤ net_inflow (x_through p l row w m border v) (y_through p l column w h m border v) i j) e.level e.columns e.rows c.deref_mut.ensures.value c.deref.ensures.value c.update_in_lists.ensures.made)
 
 pub returns-clause-frame : goal.returns-clause-frame
 returns-clause-frame c =
     let q = c.args.patch.now in
     let e = c.shape_of-shape.ensures in
-    let vs = c.update_in_room.new.values in
+    let vs = c.update_in_lists.new.values in
     frame_stays q _ vs refl (with_items_is q.values vs (search rules))
-    (moved (λ l w h v m. (k : ℕ) → IsOtherPlace w h k → slice_index vs k ≡ slice_index v k) e.level e.columns e.rows c.deref_mut.ensures.value c.deref.ensures.value c.update_in_room.ensures.others)
+    (moved (λ l w h v m. (k : ℕ) → IsOtherPlace w h k → slice_index vs k ≡ slice_index v k) e.level e.columns e.rows c.deref_mut.ensures.value c.deref.ensures.value c.update_in_lists.ensures.others)
 
 pub returns-clause-marks : goal.returns-clause-marks
 unfolding mark_in
@@ -63,8 +64,20 @@ returns-clause-marks c = λ d. refl
 
 pub returns-clause-fluxes : goal.returns-clause-fluxes
 unfolding flux_in
-returns-clause-fluxes c = λ f. refl
+returns-clause-fluxes c = λ f. same_along c.args.patch.now _ f.axis (cell f.x f.y) refl refl refl refl refl
 
 pub returns-clause-room : goal.returns-clause-room
 unfolding widest
-returns-clause-room c = c.update_in_room.ensures.room
+returns-clause-room c = ap length (with_items_is c.args.room.now.low c.update_in_lists.new.low (search rules)) ∙ search rules
+
+pub update_in_lists-requires-clause-x_room : goal.update_in_lists-requires-clause-x_room
+unfolding widest
+update_in_lists-requires-clause-x_room c = omega (arith, c.shape_of-shape.ensures.columns, c.requires.room, c.args.room.now.x_count, ap length c.deref_mut-2.ensures.value)
+
+pub update_in_lists-requires-clause-low_room : goal.update_in_lists-requires-clause-low_room
+unfolding widest
+update_in_lists-requires-clause-low_room c = omega (arith, c.shape_of-shape.ensures.columns, c.requires.room, ap length c.deref_mut-3.ensures.value)
+
+pub update_in_lists-requires-clause-high_room : goal.update_in_lists-requires-clause-high_room
+unfolding widest
+update_in_lists-requires-clause-high_room c = omega (arith, c.shape_of-shape.ensures.columns, c.requires.room, c.args.room.now.high_count, ap length c.deref_mut-4.ensures.value)

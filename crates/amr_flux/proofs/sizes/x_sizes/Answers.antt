@@ -34,4 +34,4 @@ pub returns-clause-small : goal.returns-clause-small
 returns-clause-small c = λ k h. c.loop-j.invariant.small k (omega arith) h
 
 pub returns-clause-sizes : goal.returns-clause-sizes
-returns-clause-sizes c = λ j h m. c.loop-j.invariant.sizes j (omega (arith, h, c.loop-j-test.false, c.loop-j.auto.j-end)) m
+returns-clause-sizes c = λ j h m. ap (slice_index c.loop-j.sizes) (omega arith) ∙ c.loop-j.invariant.sizes j (omega (arith, h, c.loop-j-test.false, c.loop-j.auto.j-end)) m

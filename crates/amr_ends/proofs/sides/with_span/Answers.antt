@@ -2,11 +2,11 @@ use Rattle.std.proofs.Common.{◌≡◌, ℕ, ◌+◌, ◌<◌, ◌^◌, ℤ, �
 use Rattle.std.proofs.lemmas.Int.{ints, to_z-of_z}
 use Rattle.amr_box.specs.declared.Face.{Face}
 use Rattle.amr_def.specs.Ledger.{above_zero, below_zero}
-use Rattle.amr_patch.specs.Places.{is_face_of}
+use Rattle.amr_patch.specs.Places.{is_edge_face}
 use Rattle.amr_patch.specs.Patches.{box, flux_in}
 use Rattle.amr_ends.specs.Ends.{down_to, face_across, up_to}
 use Rattle.amr_ends.proofs.Lines.{above_small, below_small, one_more}
-use Rattle.amr_ends.proofs.sides.with_run.Goals as goal
+use Rattle.amr_ends.proofs.sides.with_span.Goals as goal
 
 pub loop-k-init : goal.loop-k-init
 loop-k-init c = record { above = refl; below = refl; above_bound = c.requires.up_bound; below_bound = c.requires.down_bound }
@@ -18,7 +18,7 @@ pub flux-requires : goal.flux-requires
 flux-requires c =
     let at = to_z-of_z w32 c.args.at c.ranges.at in
     let here : c.face_across.result ≡ face_across c.args.axis c.args.at c.loop-k.k = c.face_across.ensures ∙ ap (λ (z : ℤ). face_across c.args.axis z c.loop-k.k) at in
-    subst (λ (g : Face). IsTrue (is_face_of (box c.args.patch.now) g)) (sym here) (c.requires.face c.loop-k.k (omega (arith, c.loop-k.auto.k)) (omega (arith, c.loop-k-test.true, c.loop-k.auto.k-end)))
+    subst (λ (g : Face). IsTrue (is_edge_face (box c.args.patch.now) g)) (sym here) (c.requires.face c.loop-k.k (omega (arith, c.loop-k.auto.k)) (omega (arith, c.loop-k-test.true, c.loop-k.auto.k-end)))
 
 -- the flux handed on is that of the face
 read : (c : goal.After-flux) → to_z w64 (of_z w64 c.flux.result) ≡ flux_in c.args.patch.now (face_across c.args.axis (to_z w32 (of_z w32 c.args.at)) c.loop-k.k)

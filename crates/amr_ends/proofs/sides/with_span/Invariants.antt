@@ -1,7 +1,7 @@
 use Rattle.std.proofs.Common.{◌≡◌, ◌+◌, ◌*◌, ◌^◌, ◌≤◌}
 use Rattle.amr_patch.specs.Patches.{flux_in}
 use Rattle.amr_ends.specs.Ends.{down_to, up_to}
-use Rattle.amr_ends.proofs.sides.with_run.Given as goal
+use Rattle.amr_ends.proofs.sides.with_span.Given as goal
 
 -- the sums have the flow through the faces before place k
 abbrev pub invariant-loop-k : goal.invariant-loop-k

@@ -1,8 +1,8 @@
 use Rattle.std.proofs.Common.{◌≡◌, ◌∙◌, sym, ap, arith, w32, to_z}
 use Rattle.std.proofs.lemmas.Int.{ints}
 use Rattle.amr_ends.proofs.Lines.{end_of, end_after, run_held}
-use Rattle.amr_ends.proofs.sides.run_end.Goals.{in-X, in-Y}
-use Rattle.amr_ends.proofs.sides.run_end.Goals as goal
+use Rattle.amr_ends.proofs.sides.span_end.Goals.{in-X, in-Y}
+use Rattle.amr_ends.proofs.sides.span_end.Goals as goal
 
 pub overflow_add-unsigned_abs : goal.overflow_add-unsigned_abs
 overflow_add-unsigned_abs c = omega (arith, c.unsigned_abs.ensures.bound)
@@ -23,6 +23,6 @@ returns-clause-some c =
 pub returns-clause-within : goal.returns-clause-within
 returns-clause-within c = omega (arith, c.min.ensures)
 
-pub returns-clause-run : goal.returns-clause-run
-returns-clause-run c j h t =
+pub returns-clause-span : goal.returns-clause-span
+returns-clause-span c j h t =
     run_held c.args.axis c.args.b.now c.args.beside c.args.k (to_z w32 c.match-axis.last-bits) j c.requires.held (last_is c) h (omega (arith, t, c.unsigned_abs.ensures.value, c.min.ensures))
