@@ -10,13 +10,13 @@ use Rattle.amr_plot.proofs.rows.masses_from.Goals as goal
 
 pub returns-clause-masses : goal.returns-clause-masses
 returns-clause-masses c k below =
-    let run = c.run-run.result.now in
+    let span = c.span-span.result.now in
     let m = (level_of c.args.level.now).masses in
     let b = c.args.b.now in
-    let inside : k < c.min.result = omega (arith, below, length-take {A = ℕ} c.min.result run) in
-    let there : k < length run = omega (arith, below, length-take {A = ℕ} c.min.result run) in
+    let inside : k < c.min.result = omega (arith, below, length-take {A = ℕ} c.min.result span) in
+    let there : k < length span = omega (arith, below, length-take {A = ℕ} c.min.result span) in
     let x : b.lo.x +ℤ pos c.args.first +ℤ pos k ≡ b.lo.x +ℤ pos (c.args.first + k) = omega (arith, ints) in
-    get_or-take c.min.result run k 0 inside
-    ∙ sym (ap (λ (o : Option ℕ). unwrap_or o 0) (c.run-run.ensures.masses k there))
+    get_or-take c.min.result span k 0 inside
+    ∙ sym (ap (λ (o : Option ℕ). unwrap_or o 0) (c.span-span.ensures.masses k there))
     ∙ (λ i. mass_of m (cell ((c.cell_in.ensures.place i).x +ℤ pos k) (c.cell_in.ensures.place i).y))
     ∙ (λ i. mass_of m (cell (x i) (b.lo.y +ℤ pos c.args.row)))

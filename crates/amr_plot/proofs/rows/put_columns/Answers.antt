@@ -25,7 +25,7 @@ returns-in_err-put_masses g c =
     let more : texts f (l.first + n) ≡ texts f l.first ++ masses_text l.first masses = texts_more f l.first n ∙ ap (λ (t : List ℕ). texts f l.first ++ t) (sym same) in
     let is : IsPrefix (texts f l.first ++ masses_text l.first masses) (texts f (width b)) = subst (λ (t : List ℕ). IsPrefix t (texts f (width b))) more (texts_before f (l.first + n) (width b) c.masses_from-masses.ensures.inside) in
     puts_stop g.O.Sink.holds g.O.Sink.faults c.args.sink.now l.sink c.put_masses.new.sink c.args.text.now l.text c.put_masses.new.text (texts f l.first) (masses_text l.first masses) _ c.from_residual.result
-    c.from_residual.ensures.0 is l.invariant.sent l.invariant.later c.in_err-put_masses.ensures.part c.in_err-put_masses.ensures.cause.later c.in_err-put_masses.ensures.cause.failed
+    c.from_residual.ensures.0 is l.invariant.sent l.invariant.same c.in_err-put_masses.ensures.part c.in_err-put_masses.ensures.cause.later c.in_err-put_masses.ensures.cause.failed
 
 pub loop-first-preserved : goal.loop-first-preserved
 loop-first-preserved g c =
@@ -39,6 +39,6 @@ loop-first-preserved g c =
     record {
       sent = sent_same g.O.Sink.holds c.args.sink.now c.put_masses.new.sink c.args.text.now c.put_masses.new.text _ _ (sym more)
           (sent_then g.O.Sink.holds c.args.sink.now l.sink c.put_masses.new.sink c.args.text.now l.text c.put_masses.new.text (texts f l.first) (masses_text l.first masses) l.invariant.sent c.in_ok-put_masses.ensures.sent);
-      later = omega (arith, l.invariant.later, c.in_ok-put_masses.ensures.cause.later);
+      same = c.in_ok-put_masses.ensures.no_fault ∙ l.invariant.same;
       within = c.masses_from-masses.ensures.inside;
     }

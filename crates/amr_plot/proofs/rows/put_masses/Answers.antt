@@ -9,7 +9,7 @@ returns-in_err-put_mass g c =
     let l = c.loop-k in
     puts_stop g.O.Sink.holds g.O.Sink.faults c.args.sink.now l.sink c.put_mass.new.sink c.args.text.now l.text c.put_mass.new.text (texts f l.k) (f l.k) _ c.from_residual.result
     c.from_residual.ensures.0 (texts_within f l.k (length c.args.masses.now) _ c.loop-k-test.true refl)
-    l.invariant.sent l.invariant.later c.in_err-put_mass.ensures.part c.in_err-put_mass.ensures.cause.later c.in_err-put_mass.ensures.cause.failed
+    l.invariant.sent l.invariant.same c.in_err-put_mass.ensures.part c.in_err-put_mass.ensures.cause.later c.in_err-put_mass.ensures.cause.failed
 
 pub loop-k-preserved : goal.loop-k-preserved
 loop-k-preserved g c =
@@ -17,7 +17,7 @@ loop-k-preserved g c =
     let l = c.loop-k in
     record {
       sent = texts_sent g.O.Sink.holds c.args.sink.now l.sink c.put_mass.new.sink c.args.text.now l.text c.put_mass.new.text f l.k l.invariant.sent c.in_ok-put_mass.ensures.sent;
-      later = omega (arith, l.invariant.later, c.in_ok-put_mass.ensures.cause.later);
+      same = c.in_ok-put_mass.ensures.no_fault ∙ l.invariant.same;
     }
 
 pub returns : goal.returns
@@ -28,5 +28,6 @@ returns g c =
     record {
       sent = sent_same g.O.Sink.holds c.args.sink.now l.sink c.args.text.now l.text _ _ (ap (texts f) all) l.invariant.sent;
       part = tt;
-      cause = record { later = l.invariant.later; failed = tt };
+      no_fault = l.invariant.same;
+      cause = record { later = omega (arith, l.invariant.same); failed = tt };
     }

@@ -4,7 +4,7 @@ ghost use Rattle.std.specs.Prelude.{◌≡◌, ◌≤◌, ◌<◌, cond, None, S
 ghost use Rattle.amr_box.specs.declared.Cell.{Cell};
 ghost use Rattle.amr_box.specs.Cells.{IsNear, holds};
 ghost use Rattle.amr_patch.specs.Levels.{level_of};
-ghost use Rattle.amr_start.specs.Pieces.{IsChopped};
+ghost use Rattle.amr_start.specs.PatchBoxes.{IsChopped};
 ghost use Rattle.amr_start.specs.Rows.{box_of};
 
 use amr_box::{Bx, Cell};
@@ -33,18 +33,18 @@ pub(crate) fn whole_box(columns: u32, rows: u32) -> Bx
     }
 }
 
-/// The level of one box, in pieces of at most `max` by `max` cells, with mass 0 in each cell.
+/// The level of one box, in patches of at most `max` by `max` cells, with mass 0 in each cell.
 pub(crate) fn blank_level(alloc: Global, whole: Bx, max: u32) -> Result<Level, NoMemory>
     requires near { IsNear whole }
     requires some { 1 ≤ max }
     ensures boxes { IfOk result (λ l. (level_of l).boxes ≡ whole ∷ []) }
     ensures masses { IfOk result (λ l. (c : Cell) → (level_of l).masses c ≡ cond (holds whole c) (Some 0) None) }
-    ensures pieces { IfOk result (IsChopped max whole) }
+    ensures patches { IfOk result (IsChopped max whole) }
 {
     let boxes = vec![in alloc; whole]?;
-    let mut pieces = BoxList::make(alloc);
-    pieces.push_disjoint(whole)?;
-    pieces.chop(max)?;
-    let level = Level::make(alloc, &boxes, pieces.list())?;
+    let mut chopped = BoxList::make(alloc);
+    chopped.push_disjoint(whole)?;
+    chopped.chop(max)?;
+    let level = Level::make(alloc, &boxes, chopped.list())?;
     Ok(level)
 }

@@ -1,4 +1,4 @@
--- Level 0 in the pieces that a problem asks for.
+-- Level 0 in the patches that a problem asks for.
 use Rattle.std.specs.Prelude.{◌≡◌, ℕ, List, [], ◌∷◌, map}
 use Rattle.std.specs.List.Sorted.{IsPermutation}
 use Rattle.amr_box.specs.Cells.{Extent}
@@ -9,9 +9,9 @@ use Rattle.amr_patch.specs.declared.levels.Level.{Level}
 use Rattle.amr_patch.specs.Levels.{patches_of}
 use Rattle.amr_patch.specs.Patches.{box}
 
--- the level has a patch for each piece of at most max by max cells that a box is chopped into, and no other
+-- the level has a patch for each box of at most max by max cells that a box is chopped into, and no other
 pub record IsChopped (max : ℕ) (b : Extent) (l : Level) : Type 0 where
-  pub pieces : IsPermutation (chopped max b) (map box (patches_of l))
+  pub patches : IsPermutation (chopped max b) (map box (patches_of l))
 
 -- level 0 alone, the domain chopped by the problem's max_grid_size
 pub record HasChoppedDomain (p : Problem) (ls : List Level) : Type 0 where

@@ -10,10 +10,10 @@ use Rattle.amr_patch.specs.Levels.{patches_of}
 use Rattle.amr_patch.specs.Patches.{AreNear, box}
 use Rattle.amr_patch.proofs.Apart.{apart_from_counts}
 use Rattle.amr_start.proofs.Placing.{in_one_box, near_alone}
-use Rattle.amr_start.proofs.pieces.blank_level.Goals as goal
+use Rattle.amr_start.proofs.blank.blank_level.Goals as goal
 
 pub push_disjoint-requires : goal.push_disjoint-requires
-push_disjoint-requires c d = ap (λ (l : List Extent). in_boxes l d && holds c.args.whole d) c.make-pieces.ensures
+push_disjoint-requires c d = ap (λ (l : List Extent). in_boxes l d && holds c.args.whole d) c.make-chopped.ensures
 
 pub make-requires-clause-apart : goal.make-requires-clause-apart
 make-requires-clause-apart c =
@@ -29,7 +29,7 @@ make-requires-clause-cells c d =
     let items : c.in_ok-boxes.boxes.items ≡ c.args.whole ∷ [] = search rules in
     ap (λ (l : List Extent). in_boxes l d) c.list.ensures.boxes
     ∙ c.in_ok-chop.ensures.cells d
-    ∙ ap (λ (l : List Extent). in_boxes l d) (c.in_ok-push_disjoint.ensures.ok ∙ ap (λ (l : List Extent). l ++ c.args.whole ∷ []) c.make-pieces.ensures)
+    ∙ ap (λ (l : List Extent). in_boxes l d) (c.in_ok-push_disjoint.ensures.ok ∙ ap (λ (l : List Extent). l ++ c.args.whole ∷ []) c.make-chopped.ensures)
     ∙ sym (ap (λ (l : List Extent). in_boxes l d) (c.deref.ensures.value ∙ items))
 
 pub returns-clause-boxes : goal.returns-clause-boxes
@@ -43,9 +43,9 @@ returns-clause-masses c d =
     c.in_ok-level.ensures.masses d
     ∙ ap (λ (t : Bool). cond t (Some 0) None) (ap (λ (l : List Extent). in_boxes l d) (c.deref.ensures.value ∙ items) ∙ in_one_box c.args.whole d)
 
-pub returns-clause-pieces : goal.returns-clause-pieces
-returns-clause-pieces c =
+pub returns-clause-patches : goal.returns-clause-patches
+returns-clause-patches c =
     let max = c.args.max in
-    let alone : c.push_disjoint.new.self ≡ c.args.whole ∷ [] = c.in_ok-push_disjoint.ensures.ok ∙ ap (λ (l : List Extent). l ++ c.args.whole ∷ []) c.make-pieces.ensures in
+    let alone : c.push_disjoint.new.self ≡ c.args.whole ∷ [] = c.in_ok-push_disjoint.ensures.ok ∙ ap (λ (l : List Extent). l ++ c.args.whole ∷ []) c.make-chopped.ensures in
     let list : c.list.result.now ≡ chopped max c.args.whole = c.list.ensures.boxes ∙ c.in_ok-chop.ensures.pieces ∙ ap (flat_map (chopped max)) alone ∙ append-nil (chopped max c.args.whole) in
-    record { pieces = subst (λ (l : List Extent). IsPermutation l (map box (patches_of c.in_ok-level.level))) list c.in_ok-level.ensures.pieces }
+    record { patches = subst (λ (l : List Extent). IsPermutation l (map box (patches_of c.in_ok-level.level))) list c.in_ok-level.ensures.patches }
