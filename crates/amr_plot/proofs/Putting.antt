@@ -1,6 +1,6 @@
 -- Texts that are put one after another.
 use Rattle.std.proofs.Common.{◌≡◌, ℕ, zero, suc, ◌+◌, ◌-◌, ◌<◌, ◌≤◌, ◌⊎◌, inl, inr, List, [], ◌∷◌, ◌++◌, length, get_or, refl, sym, ap, subst, ◌∙◌, append_assoc, arith, add-one}
-use Rattle.std.specs.Prelude.{Result, Ok, Err, IsErr}
+use Rattle.std.specs.Prelude.{Result, Ok, Err, IsErr, OnErr}
 use Rattle.std.proofs.lemmas.List.{append-nil}
 use Rattle.std.proofs.lemmas.Bool.{cases_lt}
 use Rattle.amr_causes.specs.Causes.{Rose}
@@ -60,6 +60,11 @@ module _ {S : Type 0} (holds : S → List ℕ → Type 0) (faults : S → ℕ) w
     no_fault = tt;
     cause = record { later = omega (arith, same, later); failed = rose_after (faults s0) (faults s1) (faults s2) (omega (arith, same)) rose };
   }
+
+-- what holds anyway holds where a call fails
+pub where_it_fails : {T E : Type 0} (r : Result T E) (P : Type 0) → P → OnErr r P
+where_it_fails (Ok v) P p = tt
+where_it_fails (Err e) P p = p
 
 -- ---- texts in turn
 

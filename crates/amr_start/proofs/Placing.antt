@@ -1,5 +1,5 @@
 -- Cells of a patch in the list of all masses, and patches that have them.
-use Rattle.std.proofs.Common.{◌≡◌, ◌≢◌, ℕ, zero, suc, ◌+◌, ◌*◌, ◌<◌, ◌≤◌, Bool, true, false, cond, ◌&&◌, ◌||◌, ℤ, pos, negsuc, ◌+ℤ◌, ◌-ℤ◌, ◌≤ℤ◌, ◌<ℤ◌, List, [], ◌∷◌, length, map, set, get_or, get_or-set_same, get_or-set_other, below_more, IsTrue, refl, sym, ap, subst, ◌∙◌, arith}
+use Rattle.std.proofs.Common.{◌≡◌, ◌≢◌, ℕ, zero, suc, ◌+◌, ◌-◌, ◌*◌, ◌<◌, ◌≤◌, Bool, true, false, cond, ◌&&◌, ◌||◌, ℤ, pos, negsuc, ◌+ℤ◌, ◌-ℤ◌, ◌≤ℤ◌, ◌<ℤ◌, List, [], ◌∷◌, length, map, set, get_or, get_or-set_same, get_or-set_other, below_more, IsTrue, refl, sym, ap, subst, ◌∙◌, arith}
 use Rattle.std.specs.Prelude.{int_lt, is_some, slice_index, unsigned_abs}
 use Rattle.std.specs.List.{All, AllZip}
 use Rattle.std.specs.declared.option.Option.{Option}
@@ -77,7 +77,7 @@ pub row_placed : (columns rows : ℕ) (ms row : List ℕ) (q : Patch) (first c :
     → ((k : ℕ) → k < count → mass_in q (cell (first.x +ℤ pos k) first.y) ≡ slice_index row k)
     → ((k : ℕ) → k < count → slice_index row k ≡ slice_index ms (unsigned_abs first.y * columns + unsigned_abs first.x + k))
     → masses_on columns rows ms c ≡ Some (mass_in q c)
-row_placed columns rows ms row q first c count f h same west east set read =
+row_placed columns rows ms row q first c count f h same west east made read =
     let a = placed columns rows first f in
     let b = placed columns rows c h in
     let k = unsigned_abs c.x - unsigned_abs first.x in
@@ -86,8 +86,8 @@ row_placed columns rows ms row q first c count f h same west east set read =
     let few : k < count = omega (arith, ints, x, east) in
     let at : cell (first.x +ℤ pos k) first.y ≡ c = λ i. cell (x i) (same i) in
     let place : unsigned_abs first.y * columns + unsigned_abs first.x + k ≡ unsigned_abs c.y * columns + unsigned_abs c.x =
-        omega (arith, ahead) ∙ ap (λ (z : ℤ). unsigned_abs z * columns + unsigned_abs c.x) same in
-    mass_here columns rows ms c (mass_in q c) h (ap (mass_in q) (sym at) ∙ set k few ∙ read k few ∙ ap (slice_index ms) place)
+    omega (arith, ahead) ∙ ap (λ (z : ℤ). unsigned_abs z * columns + unsigned_abs c.x) same in
+    mass_here columns rows ms c (mass_in q c) h (ap (mass_in q) (sym at) ∙ made k few ∙ read k few ∙ ap (slice_index ms) place)
 
 -- ---- a patch, row by row
 

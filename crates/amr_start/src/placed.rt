@@ -12,7 +12,6 @@ use amr_box::Cell;
 use amr_patch::Patch;
 
 /// Where the mass of a cell stands in the list of all masses.
-#[tactic(none)]
 fn place_of(c: Cell, columns: usize, rows: usize) -> usize
     requires inside { IsTrue (holds (box_of columns rows) c) }
     requires narrow { columns ≤ 256 }

@@ -1,4 +1,4 @@
-use Rattle.std.proofs.Common.{◌≡◌, ◌≤◌, get_or, map}
+use Rattle.std.proofs.Common.{◌≡◌, get_or, map}
 use Rattle.amr_io.specs.Kept.{Sent}
 use Rattle.amr_def.specs.Plot.{level_text}
 use Rattle.amr_def.specs.State.{no_level}

@@ -8,6 +8,22 @@ use Rattle.amr_def.specs.State.{mass_of}
 use Rattle.amr_patch.specs.Levels.{level_of}
 use Rattle.amr_plot.proofs.rows.masses_from.Goals as goal
 
+pub span-span-requires : goal.span-span-requires
+span-span-requires c = c.requires.cells.at c.cell_in.result c.cell_in.ensures.inside
+
+pub overflow_sub-left : goal.overflow_sub-left
+overflow_sub-left c = omega (arith, ints, c.width.ensures.corners, c.requires.column)
+
+pub returns-clause-some : goal.returns-clause-some
+returns-clause-some c =
+    let wide : c.args.first < c.width.result = omega (arith, ints, c.width.ensures.corners, c.requires.column) in
+    omega (arith, length-take {A = ℕ} c.min.result c.span-span.result.now, c.min.ensures, wide, c.span-span.ensures.some)
+
+pub returns-clause-inside : goal.returns-clause-inside
+returns-clause-inside c =
+    let wide : c.args.first < c.width.result = omega (arith, ints, c.width.ensures.corners, c.requires.column) in
+    omega (arith, length-take {A = ℕ} c.min.result c.span-span.result.now, c.min.ensures, wide, c.width.ensures.value)
+
 pub returns-clause-masses : goal.returns-clause-masses
 returns-clause-masses c k below =
     let span = c.span-span.result.now in

@@ -1,4 +1,5 @@
 use Rattle.std.proofs.Common.{◌≡◌, ℕ, ◌+◌, List, ◌++◌, length, sym, ap, subst, ◌∙◌, arith}
+use Rattle.std.proofs.lemmas.Int.{ints}
 use Rattle.amr_box.specs.Cells.{width}
 use Rattle.amr_causes.specs.Bytes.{IsPrefix}
 use Rattle.amr_patch.proofs.Rows.{sides}
@@ -41,4 +42,19 @@ loop-first-preserved g c =
           (sent_then g.O.Sink.holds c.args.sink.now l.sink c.put_masses.new.sink c.args.text.now l.text c.put_masses.new.text (texts f l.first) (masses_text l.first masses) l.invariant.sent c.in_ok-put_masses.ensures.sent);
       same = c.in_ok-put_masses.ensures.no_fault ∙ l.invariant.same;
       within = c.masses_from-masses.ensures.inside;
+    }
+
+pub masses_from-masses-requires-clause-column : goal.masses_from-masses-requires-clause-column
+masses_from-masses-requires-clause-column g c = omega (arith, ints, c.width-width.ensures.corners, c.loop-first-test.true)
+
+pub returns : goal.returns
+returns g c =
+    let l = c.loop-first in
+    let b = c.args.b.now in
+    let all : l.first ≡ width b = omega (arith, c.loop-first-test.false, l.invariant.within, c.width-width.ensures.value) in
+    record {
+      sent = sent_same g.O.Sink.holds c.args.sink.now l.sink c.args.text.now l.text _ _ (ap (texts (row_word c.args.level.now b c.args.row)) all) l.invariant.sent;
+      part = tt;
+      no_fault = l.invariant.same;
+      cause = record { later = omega (arith, l.invariant.same); failed = tt };
     }

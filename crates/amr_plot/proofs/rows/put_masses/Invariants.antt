@@ -1,4 +1,4 @@
-use Rattle.std.proofs.Common.{◌≡◌, ◌≤◌, ◌+◌, get_or}
+use Rattle.std.proofs.Common.{◌≡◌, ◌+◌, get_or}
 use Rattle.amr_io.specs.Kept.{Sent}
 use Rattle.amr_plot.specs.Puts.{texts, word}
 use Rattle.amr_plot.proofs.rows.put_masses.Given as goal

@@ -1,4 +1,4 @@
-use Rattle.std.proofs.Common.{◌≡◌, ◌≤◌}
+use Rattle.std.proofs.Common.{◌≡◌}
 use Rattle.amr_io.specs.Kept.{Sent}
 use Rattle.amr_def.specs.Plot.{mass_line}
 use Rattle.amr_patch.specs.Levels.{level_of}

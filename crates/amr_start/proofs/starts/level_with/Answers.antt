@@ -10,7 +10,7 @@ use Rattle.amr_boxlist.specs.Chopped.{chopped}
 use Rattle.amr_def.specs.State.{Masses}
 use Rattle.amr_patch.specs.declared.patches.Patch.{Patch}
 use Rattle.amr_patch.specs.Patches.{ArePatchesApart, box, masses_in}
-use Rattle.amr_start.specs.Placed.{HasBoxOf, LiesIn}
+use Rattle.amr_start.specs.Placed.{HasBoxOf, LiesInBox}
 use Rattle.amr_start.specs.PatchBoxes.{IsChopped}
 use Rattle.amr_start.specs.Rows.{box_of, masses_on}
 use Rattle.amr_start.proofs.Placing.{all_lie_in, all_masses, off_box, zip_apart, zip_boxes}
@@ -21,7 +21,7 @@ place_all-requires-clause-inside c =
     let b = box_of c.args.columns c.args.rows in
     let ps = c.take_patches-patches.result.items in
     let blank : (d : Cell) → masses_in ps d ≡ cond {A = Option ℕ} (holds b d) (Some 0) None = λ d. ap (λ (m : Masses). m d) (sym c.take_patches-patches.ensures.masses) ∙ c.in_ok-level.ensures.masses d ∙ ap (λ (e : Extent). cond {A = Option ℕ} (holds e d) (Some 0) None) c.whole_box.ensures.value in
-    subst (λ (qs : List Patch). All (LiesIn b) qs) (sym c.deref_mut.ensures.value) (all_lie_in b ps blank)
+    subst (λ (qs : List Patch). All (LiesInBox b) qs) (sym c.deref_mut.ensures.value) (all_lie_in b ps blank)
 
 pub put_patches-requires : goal.put_patches-requires
 put_patches-requires c =
