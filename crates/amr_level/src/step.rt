@@ -32,7 +32,13 @@ fn sweep_all(p: &Problem, patches: &mut [Patch], room: &mut Room)
 }
 
 /// Makes a step of the patches of level 0.
-fn step_patches(p: &Problem, patches: &mut [Patch], order: Order, sizes: &mut [u32], room: &mut Room)
+fn step_patches(
+    p: &Problem,
+    patches: &mut [Patch],
+    order: Order,
+    sizes: &mut [u32],
+    room: &mut Room,
+)
     requires apart { ArePatchesApart patches.old }
     requires order { IsOrderOf order patches.old }
     requires inside { AreInDomain (domain p.now 0) patches.old }

@@ -1,5 +1,6 @@
 use Rattle.std.proofs.Common.{◌≡◌, ◌<◌, ◌≤◌, ◌^◌, ◌∙◌, true, length, get_or, sym, ap, subst, arith}
 use Rattle.std.specs.Prelude.{slice_index, unsigned_abs}
+use Rattle.std.proofs.lemmas.List.{length-take-le}
 use Rattle.amr_box.specs.declared.Face.{Face}
 use Rattle.amr_patch.specs.declared.patches.Patch.{Patch}
 use Rattle.amr_patch.specs.Patches.{box, masses_in}
@@ -17,9 +18,9 @@ border_sizes-count-requires-clause-inside c =
     let qs = c.loop-i.patches in
     let i = c.loop-i.i in
     let lt : i < length ps = omega arith in
-    let one = c.index-patches-i.result in
-    let at = c.index-patches-i.is ∙ c.loop-i.invariant.rest i one (omega arith) in
-    let here : IsReady p (masses_in ps) one = subst (λ (t : Patch). IsReady p (masses_in ps) t) (sym at) (c.requires.ready i one lt) in
+    let one = get_or qs i c.index-patches-i.result in
+    let at = c.loop-i.invariant.rest i c.index-patches-i.result (omega arith) in
+    let here : IsReady p (masses_in ps) one = subst (λ (t : Patch). IsReady p (masses_in ps) t) (sym at) (c.requires.ready i c.index-patches-i.result lt) in
     here.inside
 
 pub border_sizes-count-requires-clause-small : goal.border_sizes-count-requires-clause-small
@@ -29,9 +30,9 @@ border_sizes-count-requires-clause-small c =
     let qs = c.loop-i.patches in
     let i = c.loop-i.i in
     let lt : i < length ps = omega arith in
-    let one = c.index-patches-i.result in
-    let at = c.index-patches-i.is ∙ c.loop-i.invariant.rest i one (omega arith) in
-    let here : IsReady p (masses_in ps) one = subst (λ (t : Patch). IsReady p (masses_in ps) t) (sym at) (c.requires.ready i one lt) in
+    let one = get_or qs i c.index-patches-i.result in
+    let at = c.loop-i.invariant.rest i c.index-patches-i.result (omega arith) in
+    let here : IsReady p (masses_in ps) one = subst (λ (t : Patch). IsReady p (masses_in ps) t) (sym at) (c.requires.ready i c.index-patches-i.result lt) in
     reach_small p ps c.requires.small c.requires.inside one here
 
 pub border_sizes-count-requires-clause-room : goal.border_sizes-count-requires-clause-room
@@ -41,9 +42,9 @@ border_sizes-count-requires-clause-room c =
     let qs = c.loop-i.patches in
     let i = c.loop-i.i in
     let lt : i < length ps = omega arith in
-    let one = c.index-patches-i.result in
-    let at = c.index-patches-i.is ∙ c.loop-i.invariant.rest i one (omega arith) in
-    let here : IsReady p (masses_in ps) one = subst (λ (t : Patch). IsReady p (masses_in ps) t) (sym at) (c.requires.ready i one lt) in
+    let one = get_or qs i c.index-patches-i.result in
+    let at = c.loop-i.invariant.rest i c.index-patches-i.result (omega arith) in
+    let here : IsReady p (masses_in ps) one = subst (λ (t : Patch). IsReady p (masses_in ps) t) (sym at) (c.requires.ready i c.index-patches-i.result lt) in
     omega (arith, few p ps c.requires.small c.requires.inside one here, c.loop-i.invariant.sizes)
 
 pub slice_bounds-update-end : goal.slice_bounds-update-end
@@ -53,10 +54,22 @@ slice_bounds-update-end c =
     let qs = c.loop-i.patches in
     let i = c.loop-i.i in
     let lt : i < length ps = omega arith in
-    let one = c.index-patches-i.result in
-    let at = c.index-patches-i.is ∙ c.loop-i.invariant.rest i one (omega arith) in
-    let here : IsReady p (masses_in ps) one = subst (λ (t : Patch). IsReady p (masses_in ps) t) (sym at) (c.requires.ready i one lt) in
+    let one = get_or qs i c.index-patches-i.result in
+    let at = c.loop-i.invariant.rest i c.index-patches-i.result (omega arith) in
+    let here : IsReady p (masses_in ps) one = subst (λ (t : Patch). IsReady p (masses_in ps) t) (sym at) (c.requires.ready i c.index-patches-i.result lt) in
     omega (arith, c.border_sizes-count.ensures.count, few p ps c.requires.small c.requires.inside one here, c.loop-i.invariant.sizes, c.border_sizes-count.auto.sizes)
+
+pub slice_bounds-update-end-in-loop-i : goal.slice_bounds-update-end-in-loop-i
+slice_bounds-update-end-in-loop-i c =
+    let p = c.args.p.now in
+    let ps = c.args.patches.now in
+    let qs = c.loop-i.patches in
+    let i = c.loop-i.i in
+    let lt : i < length ps = omega arith in
+    let one = get_or qs i c.index-patches-i.result in
+    let at = c.loop-i.invariant.rest i c.index-patches-i.result (omega arith) in
+    let here : IsReady p (masses_in ps) one = subst (λ (t : Patch). IsReady p (masses_in ps) t) (sym at) (c.requires.ready i c.index-patches-i.result lt) in
+    sym (length-take-le c.border_sizes-count.result c.border_sizes-count.new.sizes (omega (arith, c.border_sizes-count.ensures.count, few p ps c.requires.small c.requires.inside one here, c.loop-i.invariant.sizes, c.border_sizes-count.auto.sizes)))
 
 pub update-requires-clause-inside : goal.update-requires-clause-inside
 update-requires-clause-inside c =
@@ -65,11 +78,11 @@ update-requires-clause-inside c =
     let qs = c.loop-i.patches in
     let i = c.loop-i.i in
     let lt : i < length ps = omega arith in
-    let one = c.index-patches-i.result in
-    let at = c.index-patches-i.is ∙ c.loop-i.invariant.rest i one (omega arith) in
-    let here : IsReady p (masses_in ps) one = subst (λ (t : Patch). IsReady p (masses_in ps) t) (sym at) (c.requires.ready i one lt) in
-    let q = get_or qs i c.index-patches-i-2.result in
-    let same : one ≡ q = c.index-patches-i.is ∙ same_default qs i one c.index-patches-i-2.result (omega arith) in
+    let one = get_or qs i c.index-patches-i.result in
+    let at = c.loop-i.invariant.rest i c.index-patches-i.result (omega arith) in
+    let here : IsReady p (masses_in ps) one = subst (λ (t : Patch). IsReady p (masses_in ps) t) (sym at) (c.requires.ready i c.index-patches-i.result lt) in
+    let q = get_or qs i c.index-patches-i-in-loop-i.result in
+    let same : one ≡ q = same_default qs i c.index-patches-i.result c.index-patches-i-in-loop-i.result (omega arith) in
     let ready : IsReady p (masses_in ps) q = subst (λ (t : Patch). IsReady p (masses_in ps) t) same here in
     let sizes = c.border_sizes-count.new.sizes in
     let n = c.border_sizes-count.result in
@@ -86,11 +99,11 @@ update-requires-clause-border_count c =
     let qs = c.loop-i.patches in
     let i = c.loop-i.i in
     let lt : i < length ps = omega arith in
-    let one = c.index-patches-i.result in
-    let at = c.index-patches-i.is ∙ c.loop-i.invariant.rest i one (omega arith) in
-    let here : IsReady p (masses_in ps) one = subst (λ (t : Patch). IsReady p (masses_in ps) t) (sym at) (c.requires.ready i one lt) in
-    let q = get_or qs i c.index-patches-i-2.result in
-    let same : one ≡ q = c.index-patches-i.is ∙ same_default qs i one c.index-patches-i-2.result (omega arith) in
+    let one = get_or qs i c.index-patches-i.result in
+    let at = c.loop-i.invariant.rest i c.index-patches-i.result (omega arith) in
+    let here : IsReady p (masses_in ps) one = subst (λ (t : Patch). IsReady p (masses_in ps) t) (sym at) (c.requires.ready i c.index-patches-i.result lt) in
+    let q = get_or qs i c.index-patches-i-in-loop-i.result in
+    let same : one ≡ q = same_default qs i c.index-patches-i.result c.index-patches-i-in-loop-i.result (omega arith) in
     let ready : IsReady p (masses_in ps) q = subst (λ (t : Patch). IsReady p (masses_in ps) t) same here in
     let sizes = c.border_sizes-count.new.sizes in
     let n = c.border_sizes-count.result in
@@ -107,11 +120,11 @@ update-requires-clause-small c =
     let qs = c.loop-i.patches in
     let i = c.loop-i.i in
     let lt : i < length ps = omega arith in
-    let one = c.index-patches-i.result in
-    let at = c.index-patches-i.is ∙ c.loop-i.invariant.rest i one (omega arith) in
-    let here : IsReady p (masses_in ps) one = subst (λ (t : Patch). IsReady p (masses_in ps) t) (sym at) (c.requires.ready i one lt) in
-    let q = get_or qs i c.index-patches-i-2.result in
-    let same : one ≡ q = c.index-patches-i.is ∙ same_default qs i one c.index-patches-i-2.result (omega arith) in
+    let one = get_or qs i c.index-patches-i.result in
+    let at = c.loop-i.invariant.rest i c.index-patches-i.result (omega arith) in
+    let here : IsReady p (masses_in ps) one = subst (λ (t : Patch). IsReady p (masses_in ps) t) (sym at) (c.requires.ready i c.index-patches-i.result lt) in
+    let q = get_or qs i c.index-patches-i-in-loop-i.result in
+    let same : one ≡ q = same_default qs i c.index-patches-i.result c.index-patches-i-in-loop-i.result (omega arith) in
     let ready : IsReady p (masses_in ps) q = subst (λ (t : Patch). IsReady p (masses_in ps) t) same here in
     let sizes = c.border_sizes-count.new.sizes in
     let n = c.border_sizes-count.result in
@@ -128,11 +141,11 @@ update-requires-clause-border_small c =
     let qs = c.loop-i.patches in
     let i = c.loop-i.i in
     let lt : i < length ps = omega arith in
-    let one = c.index-patches-i.result in
-    let at = c.index-patches-i.is ∙ c.loop-i.invariant.rest i one (omega arith) in
-    let here : IsReady p (masses_in ps) one = subst (λ (t : Patch). IsReady p (masses_in ps) t) (sym at) (c.requires.ready i one lt) in
-    let q = get_or qs i c.index-patches-i-2.result in
-    let same : one ≡ q = c.index-patches-i.is ∙ same_default qs i one c.index-patches-i-2.result (omega arith) in
+    let one = get_or qs i c.index-patches-i.result in
+    let at = c.loop-i.invariant.rest i c.index-patches-i.result (omega arith) in
+    let here : IsReady p (masses_in ps) one = subst (λ (t : Patch). IsReady p (masses_in ps) t) (sym at) (c.requires.ready i c.index-patches-i.result lt) in
+    let q = get_or qs i c.index-patches-i-in-loop-i.result in
+    let same : one ≡ q = same_default qs i c.index-patches-i.result c.index-patches-i-in-loop-i.result (omega arith) in
     let ready : IsReady p (masses_in ps) q = subst (λ (t : Patch). IsReady p (masses_in ps) t) same here in
     let sizes = c.border_sizes-count.new.sizes in
     let n = c.border_sizes-count.result in
@@ -149,11 +162,11 @@ update-requires-clause-kept c =
     let qs = c.loop-i.patches in
     let i = c.loop-i.i in
     let lt : i < length ps = omega arith in
-    let one = c.index-patches-i.result in
-    let at = c.index-patches-i.is ∙ c.loop-i.invariant.rest i one (omega arith) in
-    let here : IsReady p (masses_in ps) one = subst (λ (t : Patch). IsReady p (masses_in ps) t) (sym at) (c.requires.ready i one lt) in
-    let q = get_or qs i c.index-patches-i-2.result in
-    let same : one ≡ q = c.index-patches-i.is ∙ same_default qs i one c.index-patches-i-2.result (omega arith) in
+    let one = get_or qs i c.index-patches-i.result in
+    let at = c.loop-i.invariant.rest i c.index-patches-i.result (omega arith) in
+    let here : IsReady p (masses_in ps) one = subst (λ (t : Patch). IsReady p (masses_in ps) t) (sym at) (c.requires.ready i c.index-patches-i.result lt) in
+    let q = get_or qs i c.index-patches-i-in-loop-i.result in
+    let same : one ≡ q = same_default qs i c.index-patches-i.result c.index-patches-i-in-loop-i.result (omega arith) in
     let ready : IsReady p (masses_in ps) q = subst (λ (t : Patch). IsReady p (masses_in ps) t) same here in
     let sizes = c.border_sizes-count.new.sizes in
     let n = c.border_sizes-count.result in
@@ -170,11 +183,11 @@ update-requires-clause-fits c =
     let qs = c.loop-i.patches in
     let i = c.loop-i.i in
     let lt : i < length ps = omega arith in
-    let one = c.index-patches-i.result in
-    let at = c.index-patches-i.is ∙ c.loop-i.invariant.rest i one (omega arith) in
-    let here : IsReady p (masses_in ps) one = subst (λ (t : Patch). IsReady p (masses_in ps) t) (sym at) (c.requires.ready i one lt) in
-    let q = get_or qs i c.index-patches-i-2.result in
-    let same : one ≡ q = c.index-patches-i.is ∙ same_default qs i one c.index-patches-i-2.result (omega arith) in
+    let one = get_or qs i c.index-patches-i.result in
+    let at = c.loop-i.invariant.rest i c.index-patches-i.result (omega arith) in
+    let here : IsReady p (masses_in ps) one = subst (λ (t : Patch). IsReady p (masses_in ps) t) (sym at) (c.requires.ready i c.index-patches-i.result lt) in
+    let q = get_or qs i c.index-patches-i-in-loop-i.result in
+    let same : one ≡ q = same_default qs i c.index-patches-i.result c.index-patches-i-in-loop-i.result (omega arith) in
     let ready : IsReady p (masses_in ps) q = subst (λ (t : Patch). IsReady p (masses_in ps) t) same here in
     let sizes = c.border_sizes-count.new.sizes in
     let n = c.border_sizes-count.result in
@@ -191,11 +204,11 @@ update-requires-clause-room c =
     let qs = c.loop-i.patches in
     let i = c.loop-i.i in
     let lt : i < length ps = omega arith in
-    let one = c.index-patches-i.result in
-    let at = c.index-patches-i.is ∙ c.loop-i.invariant.rest i one (omega arith) in
-    let here : IsReady p (masses_in ps) one = subst (λ (t : Patch). IsReady p (masses_in ps) t) (sym at) (c.requires.ready i one lt) in
-    let q = get_or qs i c.index-patches-i-2.result in
-    let same : one ≡ q = c.index-patches-i.is ∙ same_default qs i one c.index-patches-i-2.result (omega arith) in
+    let one = get_or qs i c.index-patches-i.result in
+    let at = c.loop-i.invariant.rest i c.index-patches-i.result (omega arith) in
+    let here : IsReady p (masses_in ps) one = subst (λ (t : Patch). IsReady p (masses_in ps) t) (sym at) (c.requires.ready i c.index-patches-i.result lt) in
+    let q = get_or qs i c.index-patches-i-in-loop-i.result in
+    let same : one ≡ q = same_default qs i c.index-patches-i.result c.index-patches-i-in-loop-i.result (omega arith) in
     let ready : IsReady p (masses_in ps) q = subst (λ (t : Patch). IsReady p (masses_in ps) t) same here in
     let sizes = c.border_sizes-count.new.sizes in
     let n = c.border_sizes-count.result in
@@ -212,11 +225,11 @@ loop-i-preserved c =
     let qs = c.loop-i.patches in
     let i = c.loop-i.i in
     let lt : i < length ps = omega arith in
-    let one = c.index-patches-i.result in
-    let at = c.index-patches-i.is ∙ c.loop-i.invariant.rest i one (omega arith) in
-    let here : IsReady p (masses_in ps) one = subst (λ (t : Patch). IsReady p (masses_in ps) t) (sym at) (c.requires.ready i one lt) in
-    let q = get_or qs i c.index-patches-i-2.result in
-    let same : one ≡ q = c.index-patches-i.is ∙ same_default qs i one c.index-patches-i-2.result (omega arith) in
+    let one = get_or qs i c.index-patches-i.result in
+    let at = c.loop-i.invariant.rest i c.index-patches-i.result (omega arith) in
+    let here : IsReady p (masses_in ps) one = subst (λ (t : Patch). IsReady p (masses_in ps) t) (sym at) (c.requires.ready i c.index-patches-i.result lt) in
+    let q = get_or qs i c.index-patches-i-in-loop-i.result in
+    let same : one ≡ q = same_default qs i c.index-patches-i.result c.index-patches-i-in-loop-i.result (omega arith) in
     let ready : IsReady p (masses_in ps) q = subst (λ (t : Patch). IsReady p (masses_in ps) t) same here in
     let sizes = c.border_sizes-count.new.sizes in
     let n = c.border_sizes-count.result in
@@ -230,7 +243,7 @@ loop-i-preserved c =
     record {
       sizes = omega (arith, c.loop-i.invariant.sizes, c.border_sizes-count.auto.sizes);
       row = c.update.ensures.room ∙ c.loop-i.invariant.row;
-      done = set_done (IsUpdated (base_fluxes p (masses_in ps))) ps qs i r (omega arith) c.loop-i.invariant.done c.loop-i.invariant.rest c.index-patches-i-2.result done;
+      done = set_done (IsUpdated (base_fluxes p (masses_in ps))) ps qs i r (omega arith) c.loop-i.invariant.done c.loop-i.invariant.rest c.index-patches-i-in-loop-i.result done;
       rest = set_rest (IsUpdated (base_fluxes p (masses_in ps))) ps qs i r (omega arith) c.loop-i.invariant.done c.loop-i.invariant.rest;
     }
 
