@@ -257,8 +257,8 @@ fn words_that_are_no_command(rt: HostRuntime) {
     }
 }
 
-// A plot in pieces of 16 bytes whose second piece fails, a source that fails at once or at its end, and a line that fails
-// at its second piece.
+// A plot that goes out 16 bytes at a time and whose second write fails, a source that fails at once or at its end, and a
+// line whose second write fails.
 #[test]
 fn faults_of_the_outside(rt: HostRuntime) {
     let ring = Case::run(RING.as_bytes());
