@@ -1,5 +1,5 @@
 -- What patches have at the open ends of the domain after a step of level 0.
-use Rattle.std.proofs.Common.{◌≡◌, ℕ, ◌<◌, ◌≤◌, ◌^◌, Bool, true, false, ◌&&◌, ◌||◌, ℤ, pos, ◌+ℤ◌, ◌-ℤ◌, ◌≤ℤ◌, ◌<ℤ◌, List, IsTrue, refl, sym, ap, subst, ◌∙◌, arith}
+use Rattle.std.proofs.Common.{◌≡◌, ℕ, ◌<◌, ◌≤◌, ◌^◌, ◌⊎◌, inl, inr, length, get_or, Bool, true, false, ◌&&◌, ◌||◌, ℤ, pos, ◌+ℤ◌, ◌-ℤ◌, ◌≤ℤ◌, ◌<ℤ◌, List, IsTrue, refl, sym, ap, subst, ◌∙◌, arith}
 use Rattle.std.specs.Prelude.{is_some, not, unsigned_abs}
 use Rattle.std.specs.List.{All}
 use Rattle.std.proofs.lemmas.Int.{ints}
@@ -16,8 +16,11 @@ use Rattle.amr_def.proofs.Nesting.{in_domain-inside}
 use Rattle.amr_def.proofs.Subcycle.{is_false}
 use Rattle.amr_def.proofs.Uncovered.{in_domain-yes}
 use Rattle.amr_patch.specs.declared.patches.Patch.{Patch}
-use Rattle.amr_patch.specs.Places.{grown, is_face_of, on_box}
-use Rattle.amr_patch.specs.Patches.{flux_in, in_patches, mark_in}
+use Rattle.std.specs.Ordering.{int_eq}
+use Rattle.amr_patch.specs.Places.{grown, is_edge_face, is_end, is_face_of, on_box}
+use Rattle.amr_patch.specs.Patches.{box, flux_in, in_patches, mark_in}
+use Rattle.amr_patch.proofs.Edges.{equal_is}
+use Rattle.amr_patch.proofs.Lookups.{in_one, same_default}
 use Rattle.amr_patch.proofs.Rows.{inside, is_between, is_inside}
 use Rattle.amr_ghost.specs.Frames.{HasGhostMarks, is_beside}
 use Rattle.amr_flux.specs.Faces.{is_border, owns}
@@ -101,30 +104,61 @@ beyond_y p x open_here =
 -- ---- lines of faces that patches own
 
 record OwnsAcross (axis : Axis) (beside at : ℤ) (n : ℕ) (q : Patch) : Type 0 where
-  pub face : (k : ℕ) → k < n → holds q.bx (cell_across axis beside k) ≡ true → is_face_of q.bx (face_across axis at k) ≡ true
+  pub edge : (k : ℕ) → k < n → holds q.bx (cell_across axis beside k) ≡ true → is_edge_face q.bx (face_across axis at k) ≡ true
   pub own : (k : ℕ) → k < n → holds q.bx (cell_across axis beside k) ≡ true → owns q (face_across axis at k) ≡ true
 
-fluxes_owned : (e : Fluxes) (axis : Axis) (beside at : ℤ) (n : ℕ) (q : Patch) → OwnsAcross axis beside at n q → ((f : Face) → IsTrue (owns q f) → flux_in q f ≡ e f) → HasFluxesAcross e axis beside at n q
-fluxes_owned e axis beside at n q line has = record { flux = λ k h held. has (face_across axis at k) (line.own k h held) }
+fluxes_owned : (e : Fluxes) (axis : Axis) (beside at : ℤ) (n : ℕ) (q : Patch) → OwnsAcross axis beside at n q → ((f : Face) → IsTrue (is_edge_face (box q) f) → IsTrue (owns q f) → flux_in q f ≡ e f) → HasFluxesAcross e axis beside at n q
+fluxes_owned e axis beside at n q line has = record { flux = λ k h held. has (face_across axis at k) (line.edge k h held) (line.own k h held) }
 
-faces_owned : (e : Fluxes) (axis : Axis) (beside at : ℤ) (n : ℕ) (q : Patch) → OwnsAcross axis beside at n q → ((f : Face) → IsTrue (owns q f) → flux_in q f ≡ e f) → ((f : Face) → unsigned_abs (e f) < 2 ^ 31) → HasFacesAcross axis beside at n q
+faces_owned : (e : Fluxes) (axis : Axis) (beside at : ℤ) (n : ℕ) (q : Patch) → OwnsAcross axis beside at n q → ((f : Face) → IsTrue (is_edge_face (box q) f) → IsTrue (owns q f) → flux_in q f ≡ e f) → ((f : Face) → unsigned_abs (e f) < 2 ^ 31) → HasFacesAcross axis beside at n q
 faces_owned e axis beside at n q line has small = record {
-  face = line.face;
-  small = λ k h held. subst (λ (z : ℤ). unsigned_abs z < 2 ^ 31) (sym (has (face_across axis at k) (line.own k h held))) (small (face_across axis at k));
+  face = line.edge;
+  small = λ k h held. subst (λ (z : ℤ). unsigned_abs z < 2 ^ 31) (sym (has (face_across axis at k) (line.edge k h held) (line.own k h held))) (small (face_across axis at k));
 }
 
-low_x : (q : Patch) (n : ℕ) → OwnsAcross X (pos 0) (pos 0) n q
-low_x q n = record {
-  face = λ k h held. low_face q.bx X (cell (pos 0) (pos k)) held;
+end_at : (low high z : ℤ) → (z ≡ low) ⊎ (z ≡ high +ℤ pos 1) → is_end low high z ≡ true
+end_at low high z (inl e) = or_left (int_eq z low) (int_eq z (high +ℤ pos 1)) (equal_is z low e)
+end_at low high z (inr e) = or_right (int_eq z low) (int_eq z (high +ℤ pos 1)) (equal_is z (high +ℤ pos 1) e)
+
+on_both : (a b : Bool) → a ≡ true → b ≡ true → (a && b) ≡ true
+on_both a b e h = rw (e, h) refl
+
+-- all cells of a patch are of level 0
+AreOfDomain : Problem → Patch → Type 0
+AreOfDomain p q = (c : Cell) → holds q.bx c ≡ true → in_domain (domain p 0) c ≡ true
+
+x_edge : (q : Patch) (x y : ℤ) → q.bx.lo.y ≤ℤ y → y ≤ℤ q.bx.hi.y → (x ≡ q.bx.lo.x) ⊎ (x ≡ q.bx.hi.x +ℤ pos 1) → is_edge_face q.bx (face X x y) ≡ true
+x_edge q x y south north at = on_both (within q.bx.lo.y q.bx.hi.y y) (is_end q.bx.lo.x q.bx.hi.x x) (is_between q.bx.lo.y q.bx.hi.y y south north) (end_at q.bx.lo.x q.bx.hi.x x at)
+
+y_edge : (q : Patch) (x y : ℤ) → q.bx.lo.x ≤ℤ x → x ≤ℤ q.bx.hi.x → (y ≡ q.bx.lo.y) ⊎ (y ≡ q.bx.hi.y +ℤ pos 1) → is_edge_face q.bx (face Y x y) ≡ true
+y_edge q x y west east at = on_both (within q.bx.lo.x q.bx.hi.x x) (is_end q.bx.lo.y q.bx.hi.y y) (is_between q.bx.lo.x q.bx.hi.x x west east) (end_at q.bx.lo.y q.bx.hi.y y at)
+
+low_x : (p : Problem) (q : Patch) (n : ℕ) → AreOfDomain p q → OwnsAcross X (pos 0) (pos 0) n q
+unfolding AreOfDomain
+low_x p q n within_domain = record {
+  edge = λ k h held.
+      let i = inside q.bx (cell (pos 0) (pos k)) held in
+      let first : holds q.bx (cell q.bx.lo.x (pos k)) ≡ true = is_inside q.bx (cell q.bx.lo.x (pos k)) (record { west = omega (arith, ints); east = q.near.wide; south = i.south; north = i.north }) in
+      let d = in_domain-inside p 0 (cell q.bx.lo.x (pos k)) (within_domain (cell q.bx.lo.x (pos k)) first) in
+      let from : pos 0 ≤ℤ q.bx.lo.x = d.west in
+      let to : q.bx.lo.x ≤ℤ pos 0 = i.west in
+      x_edge q (pos 0) (pos k) i.south i.north (inl (omega (arith, ints, from, to)));
   own = λ k h held. owns_when q (face X (pos 0) (pos k)) (low_face q.bx X (cell (pos 0) (pos k)) held) (λ out. absurd (clash held out));
 }
   where
     clash : {b : Bool} → b ≡ true → b ≡ false → ⊥
     clash t f = cc
 
-low_y : (q : Patch) (n : ℕ) → OwnsAcross Y (pos 0) (pos 0) n q
-low_y q n = record {
-  face = λ k h held. low_face q.bx Y (cell (pos k) (pos 0)) held;
+low_y : (p : Problem) (q : Patch) (n : ℕ) → AreOfDomain p q → OwnsAcross Y (pos 0) (pos 0) n q
+unfolding AreOfDomain
+low_y p q n within_domain = record {
+  edge = λ k h held.
+      let i = inside q.bx (cell (pos k) (pos 0)) held in
+      let first : holds q.bx (cell (pos k) q.bx.lo.y) ≡ true = is_inside q.bx (cell (pos k) q.bx.lo.y) (record { west = i.west; east = i.east; south = omega (arith, ints); north = q.near.high }) in
+      let d = in_domain-inside p 0 (cell (pos k) q.bx.lo.y) (within_domain (cell (pos k) q.bx.lo.y) first) in
+      let from : pos 0 ≤ℤ q.bx.lo.y = d.south in
+      let to : q.bx.lo.y ≤ℤ pos 0 = i.south in
+      y_edge q (pos k) (pos 0) i.west i.east (inl (omega (arith, ints, from, to)));
   own = λ k h held. owns_when q (face Y (pos k) (pos 0)) (low_face q.bx Y (cell (pos k) (pos 0)) held) (λ out. absurd (clash held out));
 }
   where
@@ -132,16 +166,34 @@ low_y q n = record {
     clash t f = cc
 
 module _ (p : Problem) (m : Masses) (ps : List Patch) (s : IsStepped p m ps) where
-  high_x : (q : Patch) → HasGhostMarks p 0 m q → is_periodic p.x_sides ≡ false → OwnsAcross X (pos p.nx -ℤ pos 1) (pos p.nx) p.ny q
-  high_x q marks open_here = record {
-    face = λ k h held. high_face-x q.bx (pos p.nx) (pos k) held;
+  of_domain : (i : ℕ) (d : Patch) → i < length ps → AreOfDomain p (get_or ps i d)
+  unfolding AreOfDomain
+  of_domain i d lt c h = sym (s.whole c) ∙ sym (s.held c) ∙ in_one ps c i (record { inside = lt; holds_it = λ e. ap (λ (q : Patch). holds (box q) c) (same_default ps i e d lt) ∙ h })
+
+  high_x : (q : Patch) → AreOfDomain p q → HasGhostMarks p 0 m q → is_periodic p.x_sides ≡ false → OwnsAcross X (pos p.nx -ℤ pos 1) (pos p.nx) p.ny q
+  unfolding AreOfDomain
+  high_x q within_domain marks open_here = record {
+    edge = λ k h held.
+        let i = inside q.bx (cell (pos p.nx -ℤ pos 1) (pos k)) held in
+        let last : holds q.bx (cell q.bx.hi.x (pos k)) ≡ true = is_inside q.bx (cell q.bx.hi.x (pos k)) (record { west = q.near.wide; east = omega (arith, ints); south = i.south; north = i.north }) in
+        let d = in_domain-inside p 0 (cell q.bx.hi.x (pos k)) (within_domain (cell q.bx.hi.x (pos k)) last) in
+        let from : (pos p.nx -ℤ pos 1) ≤ℤ q.bx.hi.x = i.east in
+        let to : q.bx.hi.x <ℤ pos (columns p 0) = d.east in
+        x_edge q (pos p.nx) (pos k) i.south i.north (inr (omega (arith, ints, from, to, columns_0 p)));
     own = λ k h held. owns_when q (face X (pos p.nx) (pos k)) (high_face-x q.bx (pos p.nx) (pos k) held)
         (λ out. marks (cell (pos p.nx) (pos k)) (beside_x q.bx (pos p.nx) (pos k) held out) ∙ s.whole (home_cell (domain p 0) (cell (pos p.nx) (pos k))) ∙ beyond_x p (pos k) open_here);
   }
 
-  high_y : (q : Patch) → HasGhostMarks p 0 m q → is_periodic p.y_sides ≡ false → OwnsAcross Y (pos p.ny -ℤ pos 1) (pos p.ny) p.nx q
-  high_y q marks open_here = record {
-    face = λ k h held. high_face-y q.bx (pos k) (pos p.ny) held;
+  high_y : (q : Patch) → AreOfDomain p q → HasGhostMarks p 0 m q → is_periodic p.y_sides ≡ false → OwnsAcross Y (pos p.ny -ℤ pos 1) (pos p.ny) p.nx q
+  unfolding AreOfDomain
+  high_y q within_domain marks open_here = record {
+    edge = λ k h held.
+        let i = inside q.bx (cell (pos k) (pos p.ny -ℤ pos 1)) held in
+        let last : holds q.bx (cell (pos k) q.bx.hi.y) ≡ true = is_inside q.bx (cell (pos k) q.bx.hi.y) (record { west = i.west; east = i.east; south = q.near.high; north = omega (arith, ints) }) in
+        let d = in_domain-inside p 0 (cell (pos k) q.bx.hi.y) (within_domain (cell (pos k) q.bx.hi.y) last) in
+        let from : (pos p.ny -ℤ pos 1) ≤ℤ q.bx.hi.y = i.north in
+        let to : q.bx.hi.y <ℤ pos (rows p 0) = d.north in
+        y_edge q (pos k) (pos p.ny) i.west i.east (inr (omega (arith, ints, from, to, rows_0 p)));
     own = λ k h held. owns_when q (face Y (pos k) (pos p.ny)) (high_face-y q.bx (pos k) (pos p.ny) held)
         (λ out. marks (cell (pos k) (pos p.ny)) (beside_y q.bx (pos k) (pos p.ny) held out) ∙ s.whole (home_cell (domain p 0) (cell (pos k) (pos p.ny))) ∙ beyond_y p (pos k) open_here);
   }
@@ -154,12 +206,12 @@ module _ (p : Problem) (m : Masses) (ps : List Patch) (s : IsStepped p m ps) whe
       let e = base_fluxes p m in
       record {
         x = record {
-          low = λ o i q h. fluxes_owned e X (pos 0) (pos 0) p.ny _ (low_x _ p.ny) (s.fluxes i q h);
-          high = λ o i q h. fluxes_owned e X (pos p.nx -ℤ pos 1) (pos p.nx) p.ny _ (high_x _ (s.marks i q h) o) (s.fluxes i q h);
+          low = λ o i q h. fluxes_owned e X (pos 0) (pos 0) p.ny _ (low_x p _ p.ny (of_domain i q h)) (s.fluxes i q h);
+          high = λ o i q h. fluxes_owned e X (pos p.nx -ℤ pos 1) (pos p.nx) p.ny _ (high_x _ (of_domain i q h) (s.marks i q h) o) (s.fluxes i q h);
         };
         y = record {
-          low = λ o i q h. fluxes_owned e Y (pos 0) (pos 0) p.nx _ (low_y _ p.nx) (s.fluxes i q h);
-          high = λ o i q h. fluxes_owned e Y (pos p.ny -ℤ pos 1) (pos p.ny) p.nx _ (high_y _ (s.marks i q h) o) (s.fluxes i q h);
+          low = λ o i q h. fluxes_owned e Y (pos 0) (pos 0) p.nx _ (low_y p _ p.nx (of_domain i q h)) (s.fluxes i q h);
+          high = λ o i q h. fluxes_owned e Y (pos p.ny -ℤ pos 1) (pos p.ny) p.nx _ (high_y _ (of_domain i q h) (s.marks i q h) o) (s.fluxes i q h);
         };
       }
 
@@ -174,21 +226,21 @@ module _ (p : Problem) (m : Masses) (ps : List Patch) (s : IsStepped p m ps) whe
         x = record {
           low = λ o. record {
             there = λ k h. there (cell (pos 0) (pos k)) (omega (arith, ints)) (omega (arith, ints, some_x, cols)) (omega (arith, ints)) (omega (arith, ints, h, lines));
-            faces = λ i q h. faces_owned e X (pos 0) (pos 0) p.ny _ (low_x _ p.ny) (s.fluxes i q h) s.small;
+            faces = λ i q h. faces_owned e X (pos 0) (pos 0) p.ny _ (low_x p _ p.ny (of_domain i q h)) (s.fluxes i q h) s.small;
           };
           high = λ o. record {
             there = λ k h. there (cell (pos p.nx -ℤ pos 1) (pos k)) (omega (arith, ints, some_x)) (omega (arith, ints, some_x, cols)) (omega (arith, ints)) (omega (arith, ints, h, lines));
-            faces = λ i q h. faces_owned e X (pos p.nx -ℤ pos 1) (pos p.nx) p.ny _ (high_x _ (s.marks i q h) o) (s.fluxes i q h) s.small;
+            faces = λ i q h. faces_owned e X (pos p.nx -ℤ pos 1) (pos p.nx) p.ny _ (high_x _ (of_domain i q h) (s.marks i q h) o) (s.fluxes i q h) s.small;
           };
         };
         y = record {
           low = λ o. record {
             there = λ k h. there (cell (pos k) (pos 0)) (omega (arith, ints)) (omega (arith, ints, h, cols)) (omega (arith, ints)) (omega (arith, ints, some_y, lines));
-            faces = λ i q h. faces_owned e Y (pos 0) (pos 0) p.nx _ (low_y _ p.nx) (s.fluxes i q h) s.small;
+            faces = λ i q h. faces_owned e Y (pos 0) (pos 0) p.nx _ (low_y p _ p.nx (of_domain i q h)) (s.fluxes i q h) s.small;
           };
           high = λ o. record {
             there = λ k h. there (cell (pos k) (pos p.ny -ℤ pos 1)) (omega (arith, ints)) (omega (arith, ints, h, cols)) (omega (arith, ints, some_y)) (omega (arith, ints, some_y, lines));
-            faces = λ i q h. faces_owned e Y (pos p.ny -ℤ pos 1) (pos p.ny) p.nx _ (high_y _ (s.marks i q h) o) (s.fluxes i q h) s.small;
+            faces = λ i q h. faces_owned e Y (pos p.ny -ℤ pos 1) (pos p.ny) p.nx _ (high_y _ (of_domain i q h) (s.marks i q h) o) (s.fluxes i q h) s.small;
           };
         };
       }

@@ -12,7 +12,7 @@ use Rattle.amr_def.specs.Domain.{is_periodic}
 use Rattle.amr_def.specs.Flux.{Fluxes, face}
 use Rattle.amr_def.specs.Ledger.{above_zero, below_zero, sum_to}
 use Rattle.amr_patch.specs.declared.patches.Patch.{Patch}
-use Rattle.amr_patch.specs.Places.{is_face_of}
+use Rattle.amr_patch.specs.Places.{is_edge_face}
 use Rattle.amr_patch.specs.Patches.{box, flux_in, in_patches}
 
 -- the cell and the face at place k of a line across an axis
@@ -24,9 +24,10 @@ abbrev pub face_across : Axis → ℤ → ℕ → Face
 face_across X z k = face X z (pos k)
 face_across Y z k = face Y (pos k) z
 
--- each cell of the patch in the line at `beside`, up to place n, has a face in the line at `at`, with a flux of a size below 2^31
+-- each cell of the patch in the line at `beside`, up to place n, has a face on an edge of the patch in the line at `at`, with a flux
+-- of a size below 2^31
 pub record HasFacesAcross (axis : Axis) (beside at : ℤ) (n : ℕ) (q : Patch) : Type 0 where
-  pub face : (k : ℕ) → k < n → IsTrue (holds (box q) (cell_across axis beside k)) → IsTrue (is_face_of (box q) (face_across axis at k))
+  pub face : (k : ℕ) → k < n → IsTrue (holds (box q) (cell_across axis beside k)) → IsTrue (is_edge_face (box q) (face_across axis at k))
   pub small : (k : ℕ) → k < n → IsTrue (holds (box q) (cell_across axis beside k)) → unsigned_abs (flux_in q (face_across axis at k)) < 2 ^ 31
 
 -- and these are the fluxes

@@ -1,4 +1,4 @@
-//! What flows through a line of faces, run by run.
+//! What flows through a line of faces, patch by patch.
 
 ghost use Rattle.std.specs.Prelude.{◌≡◌, ℕ, ◌+◌, ◌*◌, ◌^◌, ◌<◌, ◌≤◌, unsigned_abs, IsTrue};
 ghost use Rattle.std.specs.List.{All};
@@ -7,7 +7,7 @@ ghost use Rattle.amr_def.specs.Flux.{Fluxes};
 ghost use Rattle.amr_def.specs.Ledger.{above_zero, below_zero};
 ghost use Rattle.amr_patch.specs.Orders.{IsOrderOf};
 ghost use Rattle.amr_patch.specs.Patches.{ArePatchesApart, box, flux_in, in_patches};
-ghost use Rattle.amr_patch.specs.Places.{is_face_of};
+ghost use Rattle.amr_patch.specs.Places.{is_edge_face};
 ghost use Rattle.amr_ends.specs.Ends.{HasFacesAcross, HasFluxesAcross, cell_across, down_to, face_across, up_to};
 
 use amr_box::{Axis, Bx, Cell, Face};
@@ -50,15 +50,15 @@ fn face_across(axis: Axis, z: i32, k: u32) -> Face
     }
 }
 
-/// The place at which a run ends: that after the last cell of the box in the line, but no later than `n`.
+/// The place after the last cell of the box in the line, but no later than `n`.
 #[tactic(none)]
-fn run_end(b: &Bx, axis: Axis, beside: i32, k: u32, n: u32) -> u32
+fn span_end(b: &Bx, axis: Axis, beside: i32, k: u32, n: u32) -> u32
     requires there { k < n }
     requires few { n ≤ 256 }
     requires held { IsTrue (holds b.now (cell_across axis beside k)) }
     ensures some { k < result }
     ensures within { result ≤ n }
-    ensures run { (j : ℕ) → k ≤ j → j < result → IsTrue (holds b.now (cell_across axis beside j)) }
+    ensures span { (j : ℕ) → k ≤ j → j < result → IsTrue (holds b.now (cell_across axis beside j)) }
 {
     let hi = b.hi();
     let last = match axis {
@@ -92,10 +92,10 @@ fn added(sum: Through, flux: i64) -> Through
 
 /// A sum and what flows through the faces from place `from` to before place `to`.
 #[tactic(none)]
-fn with_run(sum: Through, patch: &Patch, axis: Axis, at: i32, from: u32, to: u32) -> Through
+fn with_span(sum: Through, patch: &Patch, axis: Axis, at: i32, from: u32, to: u32) -> Through
     requires order { from ≤ to }
     requires few { to ≤ 256 }
-    requires face { (k : ℕ) → from ≤ k → k < to → IsTrue (is_face_of (box patch.now) (face_across axis at k)) }
+    requires face { (k : ℕ) → from ≤ k → k < to → IsTrue (is_edge_face (box patch.now) (face_across axis at k)) }
     requires small { (k : ℕ) → from ≤ k → k < to → unsigned_abs (flux_in patch.now (face_across axis at k)) < 2 ^ 31 }
     requires up_bound { sum.up ≤ from * 2 ^ 31 }
     requires down_bound { sum.down ≤ from * 2 ^ 31 }
@@ -111,7 +111,7 @@ fn with_run(sum: Through, patch: &Patch, axis: Axis, at: i32, from: u32, to: u32
     through
 }
 
-/// What flows through the first `n` faces of the line at `at`, of cells in the line at `beside`: one look-up of a patch a run.
+/// What flows through the first `n` faces of the line at `at`, of cells in the line at `beside`: one look-up of a patch a span.
 #[tactic(none)]
 pub fn flow_across(
     patches: &[Patch],
@@ -139,8 +139,8 @@ pub fn flow_across(
             Some(i) => {
                 #[tactic(auto)]
                 let patch = &patches[i];
-                let next = run_end(&patch.bx(), axis, beside, done, n);
-                sum = with_run(sum, patch, axis, at, done, next);
+                let next = span_end(&patch.bx(), axis, beside, done, n);
+                sum = with_span(sum, patch, axis, at, done, next);
                 done = next;
             }
         }

@@ -12,12 +12,14 @@ use Rattle.amr_def.specs.declared.problem.Problem.{Problem}
 use Rattle.amr_def.specs.Flux.{face, high_cell, courant}
 use Rattle.amr_patch.specs.declared.patches.Patch.{Patch}
 use Rattle.amr_patch.specs.Places.{grown, in_frame, is_face_of}
-use Rattle.amr_patch.specs.Patches.{flux_in, mark_in}
-use Rattle.amr_patch.proofs.Rows.{around, is_inside, sides}
-use Rattle.amr_flux.specs.Faces.{border_faces, border_place, fluxes_with, is_border, passing, x_end, y_end}
+use Rattle.amr_patch.specs.Patches.{mark_in}
+use Rattle.amr_patch.proofs.Rows.{is_inside, sides}
+use Rattle.amr_flux.specs.Faces.{border_faces, border_place, flux_beside, fluxes_with, is_border, passing, x_end, y_end}
 use Rattle.amr_flux.specs.Rows.{signed}
-use Rattle.amr_flux.specs.Tables.{HasXBorder, HasYBorder, count_below, mark, x_entry, x_marked, y_entry, y_marked}
-use Rattle.amr_flux.proofs.Places.{IsXFace, IsYFace, Stands, high_at, mark_here, offset, x_beyond, x_courant_here, x_entry_here, x_face_at, y_beyond, y_courant_here, y_entry_here, y_face_at}
+use Rattle.amr_flux.specs.Tables.{Stands, count_below, mark, x_flux, x_marked, x_through, y_flux, y_marked, y_through}
+use Rattle.amr_flux.proofs.Owned.{x_beside, y_beside}
+use Rattle.amr_flux.proofs.Throughs.{x_flux_inner, x_flux_last, y_flux_inner, y_flux_last}
+use Rattle.amr_flux.proofs.Places.{around, IsXFace, IsYFace, high_at, mark_here, offset, x_beyond, x_courant_here, x_face_at, y_beyond, y_courant_here, y_face_at}
 
 -- ---- which faces are border faces
 
@@ -103,11 +105,11 @@ module _ (q : Patch) where
       length-append (passing (is_border q) (x_end q.bx) (height q.bx)) (passing (is_border q) (y_end q.bx) (width q.bx))
       ∙ (λ i. x_count (height q.bx) (omega arith) i + y_count (width q.bx) (omega arith) i)
 
-  x_border_place : (x y : ℤ) → offset q.bx.lo.y y < height q.bx → border_place q (face X x y) ≡ count_below (x_marked (width q.bx) q.marks.items) (offset q.bx.lo.y y)
+  pub x_border_place : (x y : ℤ) → offset q.bx.lo.y y < height q.bx → border_place q (face X x y) ≡ count_below (x_marked (width q.bx) q.marks.items) (offset q.bx.lo.y y)
   unfolding border_place offset
   x_border_place x y below = x_count (offset q.bx.lo.y y) (omega arith)
 
-  y_border_place : (x y : ℤ) → offset q.bx.lo.x x < width q.bx → border_place q (face Y x y) ≡ count_below (x_marked (width q.bx) q.marks.items) (height q.bx) + count_below (y_marked (width q.bx) (height q.bx) q.marks.items) (offset q.bx.lo.x x)
+  pub y_border_place : (x y : ℤ) → offset q.bx.lo.x x < width q.bx → border_place q (face Y x y) ≡ count_below (x_marked (width q.bx) q.marks.items) (height q.bx) + count_below (y_marked (width q.bx) (height q.bx) q.marks.items) (offset q.bx.lo.x x)
   unfolding border_place offset
   y_border_place x y below = λ i. x_count (height q.bx) (omega arith) i + y_count (offset q.bx.lo.x x) (omega arith) i
 
@@ -115,53 +117,59 @@ module _ (q : Patch) where
 
 pub with_border : (p : Problem) (l : ℕ) (q : Patch) (border : List ℕ) (f : Face) → is_border q f ≡ true → fluxes_with p l q border f ≡ signed (courant p l f) (slice_index border (border_place q f))
 unfolding fluxes_with
-with_border p l q border f e = ap (λ b. cond b (signed (courant p l f) (slice_index border (border_place q f))) (flux_in q f)) e
+with_border p l q border f e = ap (λ b. cond b (signed (courant p l f) (slice_index border (border_place q f))) (flux_beside p l q f)) e
 
-pub with_own : (p : Problem) (l : ℕ) (q : Patch) (border : List ℕ) (f : Face) → is_border q f ≡ false → fluxes_with p l q border f ≡ flux_in q f
+pub with_own : (p : Problem) (l : ℕ) (q : Patch) (border : List ℕ) (f : Face) → is_border q f ≡ false → fluxes_with p l q border f ≡ flux_beside p l q f
 unfolding fluxes_with
-with_own p l q border f e = ap (λ b. cond b (signed (courant p l f) (slice_index border (border_place q f))) (flux_in q f)) e
+with_own p l q border f e = ap (λ b. cond b (signed (courant p l f) (slice_index border (border_place q f))) (flux_beside p l q f)) e
 
 pub signed_of : {c c' : ℤ} {n n' : ℕ} → c ≡ c' → n ≡ n' → signed c n ≡ signed c' n'
 signed_of ec en i = signed (ec i) (en i)
 
-module _ (p : Problem) (l : ℕ) (q : Patch) (column row : ℕ) (s : Stands p l q.bx column row) (border : List ℕ) (xs ys : List ℤ)
-    (has_x : HasXBorder p l row (width q.bx) q.marks.items border q.x_fluxes.items xs (height q.bx))
-    (has_y : HasYBorder p l column (width q.bx) (height q.bx) q.marks.items (drop (count_below (x_marked (width q.bx) q.marks.items) (height q.bx)) border) q.y_fluxes.items ys) where
-  pub x_given : (x y : ℤ) → is_face_of q.bx (face X x y) ≡ true → x_entry (width q.bx) xs (offset q.bx.lo.x x) (offset q.bx.lo.y y) ≡ fluxes_with p l q border (face X x y)
+module _ (p : Problem) (l : ℕ) (q : Patch) (column row : ℕ) (s : Stands p l q.bx column row) (border : List ℕ) where
+  pub x_given : (x y : ℤ) → is_face_of q.bx (face X x y) ≡ true → x_through p l row (width q.bx) q.marks.items border q.values.items (offset q.bx.lo.x x) (offset q.bx.lo.y y) ≡ fluxes_with p l q border (face X x y)
   x_given x y e = at_each (x_face_at q.bx x y q.near e) _ refl (cases_lt (offset q.bx.lo.x x) (width q.bx))
     where
-      at_each : IsXFace q.bx x y (offset q.bx.lo.x x) (offset q.bx.lo.y y) → (b : Bool) → x_marked (width q.bx) q.marks.items (offset q.bx.lo.y y) ≡ b → (offset q.bx.lo.x x < width q.bx) ⊎ (width q.bx ≤ offset q.bx.lo.x x) → x_entry (width q.bx) xs (offset q.bx.lo.x x) (offset q.bx.lo.y y) ≡ fluxes_with p l q border (face X x y)
+      at_each : IsXFace q.bx x y (offset q.bx.lo.x x) (offset q.bx.lo.y y) → (b : Bool) → x_marked (width q.bx) q.marks.items (offset q.bx.lo.y y) ≡ b → (offset q.bx.lo.x x < width q.bx) ⊎ (width q.bx ≤ offset q.bx.lo.x x) → x_through p l row (width q.bx) q.marks.items border q.values.items (offset q.bx.lo.x x) (offset q.bx.lo.y y) ≡ fluxes_with p l q border (face X x y)
       at_each f b m (inl below) =
-          has_x.others (offset q.bx.lo.x x) (offset q.bx.lo.y y) f.column (λ last. absurd (omega (arith, last, below)))
-          ∙ sym (x_entry_here q x y (offset q.bx.lo.x x) (offset q.bx.lo.y y) f.at) ∙ sym (with_own p l q border (face X x y) (x_inner q x y (offset q.bx.lo.x x) (offset q.bx.lo.y y) f below))
+          sym (x_flux_inner p l row (width q.bx) q.marks.items border q.values.items (offset q.bx.lo.y y) (offset q.bx.lo.x x) below)
+          ∙ x_beside p l q column row s x y (offset q.bx.lo.x x) (offset q.bx.lo.y y) f.at f.row
+          ∙ sym (with_own p l q border (face X x y) (x_inner q x y (offset q.bx.lo.x x) (offset q.bx.lo.y y) f below))
       at_each f true m (inr past) =
           let last : offset q.bx.lo.x x ≡ width q.bx = omega (arith, f.column, past) in
-          ap (λ n. x_entry (width q.bx) xs n (offset q.bx.lo.y y)) last
-          ∙ has_x.made (offset q.bx.lo.y y) f.row m
+          ap (λ n. x_through p l row (width q.bx) q.marks.items border q.values.items n (offset q.bx.lo.y y)) last
+          ∙ sym (x_flux_last p l row (width q.bx) q.marks.items border q.values.items (offset q.bx.lo.y y) {m = true} refl (sym m) refl refl)
           ∙ signed_of (sym (x_courant_here p l q.bx column row x y (offset q.bx.lo.x x) (offset q.bx.lo.y y) s f.at f.row)) (ap (slice_index border) (sym (x_border_place q x y f.row)))
           ∙ sym (with_border p l q border (face X x y) (x_border q x y (offset q.bx.lo.x x) (offset q.bx.lo.y y) e f last ∙ m))
       at_each f false m (inr past) =
           let last : offset q.bx.lo.x x ≡ width q.bx = omega (arith, f.column, past) in
-          has_x.others (offset q.bx.lo.x x) (offset q.bx.lo.y y) f.column (λ same below. m)
-          ∙ sym (x_entry_here q x y (offset q.bx.lo.x x) (offset q.bx.lo.y y) f.at) ∙ sym (with_own p l q border (face X x y) (x_border q x y (offset q.bx.lo.x x) (offset q.bx.lo.y y) e f last ∙ m))
+          ap (λ n. x_through p l row (width q.bx) q.marks.items border q.values.items n (offset q.bx.lo.y y)) last
+          ∙ sym (x_flux_last p l row (width q.bx) q.marks.items border q.values.items (offset q.bx.lo.y y) {m = false} refl (sym m) refl refl)
+          ∙ ap (λ n. x_flux p l row (width q.bx) q.values.items n (offset q.bx.lo.y y)) (sym last)
+          ∙ x_beside p l q column row s x y (offset q.bx.lo.x x) (offset q.bx.lo.y y) f.at f.row
+          ∙ sym (with_own p l q border (face X x y) (x_border q x y (offset q.bx.lo.x x) (offset q.bx.lo.y y) e f last ∙ m))
 
-  pub y_given : (x y : ℤ) → is_face_of q.bx (face Y x y) ≡ true → y_entry (width q.bx) ys (offset q.bx.lo.x x) (offset q.bx.lo.y y) ≡ fluxes_with p l q border (face Y x y)
+  pub y_given : (x y : ℤ) → is_face_of q.bx (face Y x y) ≡ true → y_through p l column (width q.bx) (height q.bx) q.marks.items border q.values.items (offset q.bx.lo.x x) (offset q.bx.lo.y y) ≡ fluxes_with p l q border (face Y x y)
   y_given x y e = at_each (y_face_at q.bx x y q.near e) _ refl (cases_lt (offset q.bx.lo.y y) (height q.bx))
     where
-      at_each : IsYFace q.bx x y (offset q.bx.lo.x x) (offset q.bx.lo.y y) → (b : Bool) → y_marked (width q.bx) (height q.bx) q.marks.items (offset q.bx.lo.x x) ≡ b → (offset q.bx.lo.y y < height q.bx) ⊎ (height q.bx ≤ offset q.bx.lo.y y) → y_entry (width q.bx) ys (offset q.bx.lo.x x) (offset q.bx.lo.y y) ≡ fluxes_with p l q border (face Y x y)
+      at_each : IsYFace q.bx x y (offset q.bx.lo.x x) (offset q.bx.lo.y y) → (b : Bool) → y_marked (width q.bx) (height q.bx) q.marks.items (offset q.bx.lo.x x) ≡ b → (offset q.bx.lo.y y < height q.bx) ⊎ (height q.bx ≤ offset q.bx.lo.y y) → y_through p l column (width q.bx) (height q.bx) q.marks.items border q.values.items (offset q.bx.lo.x x) (offset q.bx.lo.y y) ≡ fluxes_with p l q border (face Y x y)
       at_each f b m (inl below) =
-          has_y.others (offset q.bx.lo.x x) (offset q.bx.lo.y y) f.column (λ last. absurd (omega (arith, last, below)))
-          ∙ sym (y_entry_here q x y (offset q.bx.lo.x x) (offset q.bx.lo.y y) f.at) ∙ sym (with_own p l q border (face Y x y) (y_inner q x y (offset q.bx.lo.x x) (offset q.bx.lo.y y) f below))
+          sym (y_flux_inner p l column (width q.bx) (height q.bx) q.marks.items border q.values.items (offset q.bx.lo.x x) (offset q.bx.lo.y y) below)
+          ∙ y_beside p l q column row s x y (offset q.bx.lo.x x) (offset q.bx.lo.y y) f.at f.column
+          ∙ sym (with_own p l q border (face Y x y) (y_inner q x y (offset q.bx.lo.x x) (offset q.bx.lo.y y) f below))
       at_each f true m (inr past) =
           let last : offset q.bx.lo.y y ≡ height q.bx = omega (arith, f.row, past) in
-          ap (λ n. y_entry (width q.bx) ys (offset q.bx.lo.x x) n) last
-          ∙ has_y.made (offset q.bx.lo.x x) f.column m
-          ∙ signed_of (sym (y_courant_here p l q.bx column row x y (offset q.bx.lo.x x) (offset q.bx.lo.y y) s f.at f.column)) (get_or-drop (count_below (x_marked (width q.bx) q.marks.items) (height q.bx)) border _ 0 ∙ ap (slice_index border) (sym (y_border_place q x y f.column)))
+          ap (λ n. y_through p l column (width q.bx) (height q.bx) q.marks.items border q.values.items (offset q.bx.lo.x x) n) last
+          ∙ sym (y_flux_last p l column (width q.bx) (height q.bx) q.marks.items border q.values.items (offset q.bx.lo.x x) {m = true} (sym m))
+          ∙ signed_of (sym (y_courant_here p l q.bx column row x y (offset q.bx.lo.x x) (offset q.bx.lo.y y) s f.at f.column)) (ap (slice_index border) (sym (y_border_place q x y f.column)))
           ∙ sym (with_border p l q border (face Y x y) (y_border q x y (offset q.bx.lo.x x) (offset q.bx.lo.y y) e f last ∙ m))
       at_each f false m (inr past) =
           let last : offset q.bx.lo.y y ≡ height q.bx = omega (arith, f.row, past) in
-          has_y.others (offset q.bx.lo.x x) (offset q.bx.lo.y y) f.column (λ same. m)
-          ∙ sym (y_entry_here q x y (offset q.bx.lo.x x) (offset q.bx.lo.y y) f.at) ∙ sym (with_own p l q border (face Y x y) (y_border q x y (offset q.bx.lo.x x) (offset q.bx.lo.y y) e f last ∙ m))
+          ap (λ n. y_through p l column (width q.bx) (height q.bx) q.marks.items border q.values.items (offset q.bx.lo.x x) n) last
+          ∙ sym (y_flux_last p l column (width q.bx) (height q.bx) q.marks.items border q.values.items (offset q.bx.lo.x x) {m = false} (sym m))
+          ∙ ap (λ n. y_flux p l column (width q.bx) q.values.items (offset q.bx.lo.x x) n) (sym last)
+          ∙ y_beside p l q column row s x y (offset q.bx.lo.x x) (offset q.bx.lo.y y) f.at f.column
+          ∙ sym (with_own p l q border (face Y x y) (y_border q x y (offset q.bx.lo.x x) (offset q.bx.lo.y y) e f last ∙ m))
 
 -- ---- the cell beyond a face
 

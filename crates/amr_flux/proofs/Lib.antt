@@ -1,10 +1,15 @@
+mod BorderSizes
 mod Borders
 mod Given
 mod Numbers
 mod Owned
 mod Parts
 mod Places
-mod Reciprocals
+pub mod Reciprocals
 pub mod Shown
+mod Sized
 mod Steps
+mod Swept
+mod Throughs
 mod Updates
+mod Words

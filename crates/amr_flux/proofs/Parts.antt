@@ -79,3 +79,7 @@ small_flows xs a b each = record {
       let below : a + t < b = omega (arith, length-take (b - a) (drop a xs)) in
       rw (read_flux xs a b t below) (each t below);
 }
+
+-- the sizes from a place on
+pub rest_small : (border : List ℕ) (used : ℕ) → AreSmall border → AreSmall (take (length border - used) (drop used border))
+rest_small border used small = small_part border used (length border) (λ t h. small.at (used + t) h)

@@ -1,11 +1,12 @@
 -- The entries of a patch's lists, and its cells and faces.
-use Rattle.std.proofs.Common.{◌≡◌, ℕ, ◌+◌, ◌<◌, ◌≤◌, Bool, true, false, ◌&&◌, ℤ, pos, negsuc, ◌-ℤ◌, ◌≤ℤ◌, ◌<ℤ◌, refl, sym, ap, ◌∙◌, arith}
+use Rattle.std.proofs.Common.{◌≡◌, ℕ, ◌+◌, ◌<◌, ◌≤◌, Bool, true, false, ◌&&◌, ℤ, pos, negsuc, ◌+ℤ◌, ◌-ℤ◌, ◌≤ℤ◌, ◌<ℤ◌, refl, sym, ap, ◌∙◌, arith}
 use Rattle.std.specs.Prelude.{not, slice_index, slice_index_or}
 use Rattle.std.proofs.lemmas.Int.{ints}
 use Rattle.amr_box.specs.declared.Cell.{Cell}
 use Rattle.amr_box.specs.declared.Face.{Face}
+use Rattle.amr_box.specs.declared.Axis.{Axis}
 use Rattle.amr_box.specs.declared.Axis.TheVariants.{X, Y}
-use Rattle.amr_box.specs.Cells.{Extent, IsNear, at_least_zero, cell, height, holds, width}
+use Rattle.amr_box.specs.Cells.{Extent, IsNear, at_least_zero, cell, extent, height, holds, width}
 use Rattle.amr_def.specs.declared.problem.Problem.{Problem}
 use Rattle.amr_def.specs.Domain.{columns, rows, domain, is_periodic, wrapped}
 use Rattle.amr_def.specs.Flux.{face, high_cell, courant, at_base, number_for}
@@ -14,17 +15,12 @@ use Rattle.amr_def.proofs.Flows.{wrapped_inside}
 use Rattle.amr_patch.specs.declared.patches.Patch.{Patch}
 use Rattle.amr_patch.specs.Places.{on_box, is_face_of}
 use Rattle.amr_patch.specs.Patches.{box, flux_in, mark_in, value_in}
-use Rattle.amr_patch.proofs.Rows.{IsIn, around, inside, is_inside, place_is, x_place_is, y_place_is, sides}
-use Rattle.amr_flux.specs.Faces.{LiesIn, is_border, owns}
-use Rattle.amr_flux.specs.Tables.{mark, value, x_entry, x_number, y_entry, y_number}
+use Rattle.amr_patch.proofs.Rows.{IsIn, inside, is_inside, place_is, sides, zero-cut}
+use Rattle.amr_patch.proofs.Edges.{flux_x_high, flux_x_low, flux_y_high, flux_y_low}
+use Rattle.amr_flux.specs.Faces.{IsInDomain, is_border, owns}
+use Rattle.amr_flux.specs.Tables.{Stands, mark, value, x_number, y_number}
 
 -- ---- where a box of a level stands
-
-pub record Stands (p : Problem) (l : ℕ) (b : Extent) (column row : ℕ) : Type 0 where
-  pub x : pos column ≡ b.lo.x
-  pub y : pos row ≡ b.lo.y
-  pub columns_fit : column + width b ≤ columns p l
-  pub rows_fit : row + height b ≤ rows p l
 
 -- a box in the domain has its low corner there
 pub record HasCorner (p : Problem) (l : ℕ) (b : Extent) : Type 0 where
@@ -39,19 +35,19 @@ low_in b near = record { west = omega (arith, ints); east = near.wide; south = o
 high_in : (b : Extent) → IsNear b → IsIn b b.hi
 high_in b near = record { west = near.wide; east = omega (arith, ints); south = near.high; north = omega (arith, ints) }
 
-pub corner : (p : Problem) (l : ℕ) (b : Extent) → IsNear b → LiesIn (domain p l) b → HasCorner p l b
+pub corner : (p : Problem) (l : ℕ) (b : Extent) → IsNear b → IsInDomain (domain p l) b → HasCorner p l b
 corner p l b near lies =
     let low = in_domain-inside p l b.lo (lies.at b.lo (is_inside b b.lo (low_in b near))) in
     let high = in_domain-inside p l b.hi (lies.at b.hi (is_inside b b.hi (high_in b near))) in
     record { west = low.west; south = low.south; east = high.east; north = high.north }
 
-pub column_fits : (p : Problem) (l : ℕ) (b : Extent) (column : ℕ) → IsNear b → LiesIn (domain p l) b → pos column ≡ b.lo.x → column + width b ≤ columns p l
+pub column_fits : (p : Problem) (l : ℕ) (b : Extent) (column : ℕ) → IsNear b → IsInDomain (domain p l) b → pos column ≡ b.lo.x → column + width b ≤ columns p l
 column_fits p l b column near lies e = let k = corner p l b near lies in let s = sides b near in omega (arith, ints, k.east, s.wide, e)
 
-pub row_fits : (p : Problem) (l : ℕ) (b : Extent) (row : ℕ) → IsNear b → LiesIn (domain p l) b → pos row ≡ b.lo.y → row + height b ≤ rows p l
+pub row_fits : (p : Problem) (l : ℕ) (b : Extent) (row : ℕ) → IsNear b → IsInDomain (domain p l) b → pos row ≡ b.lo.y → row + height b ≤ rows p l
 row_fits p l b row near lies e = let k = corner p l b near lies in let s = sides b near in omega (arith, ints, k.north, s.high, e)
 
-pub stands : (p : Problem) (l : ℕ) (b : Extent) (column row : ℕ) → IsNear b → LiesIn (domain p l) b → pos column ≡ b.lo.x → pos row ≡ b.lo.y → Stands p l b column row
+pub stands : (p : Problem) (l : ℕ) (b : Extent) (column row : ℕ) → IsNear b → IsInDomain (domain p l) b → pos column ≡ b.lo.x → pos row ≡ b.lo.y → Stands p l b column row
 stands p l b column row near lies ex ey =
     record { x = ex; y = ey; columns_fit = column_fits p l b column near lies ex; rows_fit = row_fits p l b row near lies ey }
 
@@ -75,13 +71,18 @@ pub record IsFaceAt (b : Extent) (x y : ℤ) (i j : ℕ) : Type 0 where
   pub column : pos i ≡ x -ℤ b.lo.x
   pub row : pos j ≡ y -ℤ b.lo.y
 
-pub x_entry_here : (q : Patch) (x y : ℤ) (i j : ℕ) → IsFaceAt q.bx x y i j → flux_in q (face X x y) ≡ x_entry (width q.bx) q.x_fluxes.items i j
-unfolding flux_in
-x_entry_here q x y i j at = ap (λ n. slice_index_or q.x_fluxes.items n (pos 0)) (sym (x_place_is q.bx (cell x y) j i (width q.bx) at.row at.column refl))
+-- the flux of a face on an edge line is that line's entry
+pub x_low_here : (q : Patch) (x y : ℤ) (i j : ℕ) → IsFaceAt q.bx x y i j → x ≡ q.bx.lo.x → flux_in q (face X x y) ≡ slice_index_or q.x_low.items j (pos 0)
+x_low_here q x y i j at e = flux_x_low q (face X x y) refl e ∙ ap (λ n. slice_index_or q.x_low.items n (pos 0)) (zero-cut (y -ℤ q.bx.lo.y) j at.row)
 
-pub y_entry_here : (q : Patch) (x y : ℤ) (i j : ℕ) → IsFaceAt q.bx x y i j → flux_in q (face Y x y) ≡ y_entry (width q.bx) q.y_fluxes.items i j
-unfolding flux_in
-y_entry_here q x y i j at = ap (λ n. slice_index_or q.y_fluxes.items n (pos 0)) (sym (y_place_is q.bx (cell x y) j i (width q.bx) at.row at.column refl))
+pub x_high_here : (q : Patch) (x y : ℤ) (i j : ℕ) → IsFaceAt q.bx x y i j → x ≡ q.bx.hi.x +ℤ pos 1 → flux_in q (face X x y) ≡ slice_index_or q.x_high.items j (pos 0)
+x_high_here q x y i j at e = flux_x_high q (face X x y) refl e ∙ ap (λ n. slice_index_or q.x_high.items n (pos 0)) (zero-cut (y -ℤ q.bx.lo.y) j at.row)
+
+pub y_low_here : (q : Patch) (x y : ℤ) (i j : ℕ) → IsFaceAt q.bx x y i j → y ≡ q.bx.lo.y → flux_in q (face Y x y) ≡ slice_index_or q.y_low.items i (pos 0)
+y_low_here q x y i j at e = flux_y_low q (face Y x y) refl e ∙ ap (λ n. slice_index_or q.y_low.items n (pos 0)) (zero-cut (x -ℤ q.bx.lo.x) i at.column)
+
+pub y_high_here : (q : Patch) (x y : ℤ) (i j : ℕ) → IsFaceAt q.bx x y i j → y ≡ q.bx.hi.y +ℤ pos 1 → flux_in q (face Y x y) ≡ slice_index_or q.y_high.items i (pos 0)
+y_high_here q x y i j at e = flux_y_high q (face Y x y) refl e ∙ ap (λ n. slice_index_or q.y_high.items n (pos 0)) (zero-cut (x -ℤ q.bx.lo.x) i at.column)
 
 -- the cells on the two sides of a face
 pub high_at : (b : Extent) (x y : ℤ) (i j : ℕ) → IsFaceAt b x y i j → IsAt b (cell x y) (i + 1) (j + 1)
@@ -110,6 +111,15 @@ y_courant_here p l b column row x y i j s at h =
     ∙ ap (λ z. number_for p.cy p.shear_y (at_base l z)) (wrapped_inside (is_periodic p.x_sides) (columns p l) (column + i) (omega (arith, s.columns_fit, h)))
 
 -- ---- the faces that a patch owns
+
+-- the cells at whose low side along an axis a face of the box lies
+abbrev pub face_cells : Axis → Extent → Extent
+face_cells X b = extent b.lo (cell (b.hi.x +ℤ pos 1) b.hi.y)
+face_cells Y b = extent b.lo (cell b.hi.x (b.hi.y +ℤ pos 1))
+
+pub around : (axis : Axis) (b : Extent) (c : Cell) → on_box axis b c ≡ true → IsIn (face_cells axis b) c
+around X b c e = inside (extent b.lo (cell (b.hi.x +ℤ pos 1) b.hi.y)) c e
+around Y b c e = inside (extent b.lo (cell b.hi.x (b.hi.y +ℤ pos 1))) c e
 
 -- where a face of a box stands
 pub record IsXFace (b : Extent) (x y : ℤ) (i j : ℕ) : Type 0 where

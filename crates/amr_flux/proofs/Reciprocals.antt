@@ -1,10 +1,10 @@
 -- A product with a reciprocal in place of a division.
-use Rattle.std.proofs.Common.{◌≡◌, ℕ, ◌+◌, ◌-◌, ◌*◌, ◌/◌, ◌%◌, ◌^◌, ◌<◌, ◌≤◌, ℤ, pos, ap, sym, ◌∙◌, arith}
+use Rattle.std.proofs.Common.{◌≡◌, ℕ, zero, suc, ◌+◌, ◌-◌, ◌*◌, ◌/◌, ◌%◌, ◌^◌, ◌<◌, ◌≤◌, ℤ, pos, ap, sym, ◌∙◌, arith}
 use Rattle.std.specs.Prelude.{unsigned_abs}
 use Rattle.std.proofs.Math.Nat.{div-le_of_le-mul, mul-le-mul_right, mul_comm, mul-le-mul_left, div-mul-le_self, lt-div-mul-add, lt_of_mul-lt-mul_left}
 use Rattle.std.proofs.lemmas.Int.{ints}
 use Rattle.amr_flux.specs.Rows.{IsSmallFlow}
-use Rattle.amr_flux.specs.Shares.{IsReciprocal, share_of}
+use Rattle.amr_flux.specs.Shares.{IsNearReciprocal, IsReciprocal, share_of}
 
 -- a quotient by d is below n where the dividend is below d * n
 quotient_below : (x d n : ℕ) → 0 < d → x < d * n → x / d < n
@@ -23,6 +23,26 @@ places c d n some few slow is =
       rest_places = omega arith;
       places = omega (arith, is);
     }
+
+pub record IsRoundedUp (c : ℤ) (d n : ℕ) : Type 0 where
+  pub fits : n ≤ 2 ^ 31
+  pub up : unsigned_abs c * 2 ^ 31 ≤ n * d
+  pub error : n * d - unsigned_abs c * 2 ^ 31 < d
+
+pub rounded_up : (c : ℤ) (d n : ℕ) → 0 < d → unsigned_abs c ≤ d → n ≡ (unsigned_abs c * 2 ^ 31 + (d - 1)) / d → IsRoundedUp c d n
+rounded_up c d n some slow is =
+    let below : (unsigned_abs c * 2 ^ 31 + (d - 1)) / d < 2 ^ 31 + 1 = quotient_below (unsigned_abs c * 2 ^ 31 + (d - 1)) d (2 ^ 31 + 1) some (omega arith) in
+    let e : unsigned_abs c * 2 ^ 31 + (d - 1) < (unsigned_abs c * 2 ^ 31 + (d - 1)) / d * d + d = lt-div-mul-add some in
+    let e' : unsigned_abs c * 2 ^ 31 + (d - 1) < n * d + d = rw is e in
+    let m : (unsigned_abs c * 2 ^ 31 + (d - 1)) / d * d ≤ unsigned_abs c * 2 ^ 31 + (d - 1) = div-mul-le_self (unsigned_abs c * 2 ^ 31 + (d - 1)) d in
+    let m' : n * d ≤ unsigned_abs c * 2 ^ 31 + (d - 1) = rw is m in
+    record { fits = omega (arith, is, below); up = omega (arith, e'); error = omega (arith, m', some) }
+
+pub near_places : (c : ℤ) (d n limit : ℕ) → 0 < d → unsigned_abs c ≤ d → n ≡ (unsigned_abs c * 2 ^ 31 + (d - 1)) / d → limit * (n * d - unsigned_abs c * 2 ^ 31) ≤ 2 ^ 31 → IsNearReciprocal c d n limit
+near_places c d n limit some slow is small = let r = rounded_up c d n some slow is in record { fits = r.fits; up = r.up; error = small }
+
+pub limit_fits : (e : ℕ) → 2 ^ 31 / e * e ≤ 2 ^ 31
+limit_fits e = div-mul-le_self (2 ^ 31) e
 
 -- ---- |c|/d with 41 places, rounded up, times a mass
 
@@ -65,15 +85,53 @@ exact c d whole rest v r small =
     let divided : v * m / 1024 / 2 ^ 31 ≡ v * m / 2 ^ 41 = omega arith in
     ap (λ n. n / 2 ^ 31) joined ∙ divided ∙ scaled (unsigned_abs c) d v m r.some r.few small r.places
 
--- one product where the last ten places are 0
-pub exact_short : (c : ℤ) (d whole rest v : ℕ) → IsReciprocal c d whole rest → rest ≡ 0 → v < 2 ^ 31 → v * whole / 2 ^ 31 ≡ share_of c d v
-exact_short c d whole rest v r short small =
-    let none : v * rest ≡ 0 = omega (arith, ap (λ n. v * n) short) in
-    let same : v * whole + v * rest / 1024 ≡ v * whole = omega (arith, none) in
-    ap (λ n. n / 2 ^ 31) (sym same) ∙ exact c d whole rest v r small
+-- ---- |c|/d with 31 places, rounded up, times a mass below the limit
+
+-- the product of twice a small mass and the places fits 64 bits
+pub product_fits : (v near : ℕ) → v < 2 ^ 31 → near ≤ 2 ^ 31 → (v + v) * near < 2 ^ 64
+product_fits v near small fits =
+    let h : (v + v) * near ≤ (v + v) * 2 ^ 31 = mul-le-mul_left (v + v) fits in
+    omega (arith, h)
+
+near_product : (v a b e : ℕ) → a ≡ b + e → v * a ≡ v * b + v * e
+near_product v a b e is = ap (λ n. v * n) is ∙ omega arith
+
+module _ (c d v m limit : ℕ) (some : 0 < d) (below : v < limit) (up : c * 2 ^ 31 ≤ m * d) (error : limit * (m * d - c * 2 ^ 31) ≤ 2 ^ 31) where
+  near_error : v * (m * d - c * 2 ^ 31) < 2 ^ 31
+  near_error = at_each (m * d - c * 2 ^ 31) error
+    where
+      at_each : (e : ℕ) → limit * e ≤ 2 ^ 31 → v * e < 2 ^ 31
+      at_each zero h = omega arith
+      at_each (suc e) h = let more : (v + 1) * suc e ≤ limit * suc e = mul-le-mul_right (suc e) (omega arith) in omega (arith, more, h)
+
+  near_low : c * v / d * 2 ^ 31 < v * m + 1
+  near_low =
+      let q : c * v / d * d ≤ c * v = div-mul-le_self (c * v) d in
+      let p : v * (c * 2 ^ 31) ≤ v * (m * d) = mul-le-mul_left v up in
+      lt_of_mul-lt-mul_left d (omega (arith, p, q, some))
+
+  near_high : v * m < (c * v / d + 1) * 2 ^ 31
+  near_high =
+      let q : c * v < c * v / d * d + d = lt-div-mul-add some in
+      let q' : c * v + 1 ≤ c * v / d * d + d = omega (arith, q) in
+      let split : m * d ≡ c * 2 ^ 31 + (m * d - c * 2 ^ 31) = omega (arith, up) in
+      let is : v * (m * d) ≡ v * (c * 2 ^ 31) + v * (m * d - c * 2 ^ 31) = near_product v (m * d) (c * 2 ^ 31) (m * d - c * 2 ^ 31) split in
+      lt_of_mul-lt-mul_left d (omega (arith, is, near_error, q', some))
+
+  near_scaled : v * m / 2 ^ 31 ≡ c * v / d
+  near_scaled = omega (arith, near_low, near_high)
+
+pub exact_near : (c : ℤ) (d near limit v : ℕ) → 0 < d → IsNearReciprocal c d near limit → v < limit → (v + v) * near / 2 ^ 32 ≡ share_of c d v
+exact_near c d near limit v some r below =
+    let halved : (v + v) * near / 2 ^ 32 ≡ v * near / 2 ^ 31 = omega arith in
+    halved ∙ near_scaled (unsigned_abs c) d v near limit some below r.up r.error
+
+-- a share of a mass is no more than the mass
+pub share_within : (c : ℤ) (d v : ℕ) → unsigned_abs c ≤ d → share_of c d v ≤ v
+share_within c d v slow = div-le_of_le-mul d (mul-le-mul_right v slow)
 
 -- a share of a small mass is a small flow
 pub share_small : (c : ℤ) (d whole rest v : ℕ) → IsReciprocal c d whole rest → v < 2 ^ 31 → IsSmallFlow (pos (share_of c d v))
 share_small c d whole rest v r small =
-    let most : unsigned_abs c * v / d ≤ v = div-le_of_le-mul d (mul-le-mul_right v r.slow) in
+    let most : unsigned_abs c * v / d ≤ v = share_within c d v r.slow in
     record { low = omega (arith, ints); high = omega (arith, ints, most) }

@@ -18,12 +18,11 @@ use Rattle.amr_def.specs.Value.{value_at}
 use Rattle.amr_def.specs.Flux.{Fluxes, courant, face, flow, flux_at, high_cell, low_cell, net, updated}
 use Rattle.amr_patch.specs.declared.patches.Patch.{Patch}
 use Rattle.amr_patch.specs.Places.{grown, is_face_of}
-use Rattle.amr_patch.specs.Patches.{flux_in}
-use Rattle.amr_patch.proofs.Rows.{around, inside, is_between, is_inside, sides}
+use Rattle.amr_patch.proofs.Rows.{inside, is_between, is_inside, sides}
 use Rattle.amr_flux.specs.Faces.{ShowsValues, border_faces, border_place, flux_beside, fluxes_with, in_reach, is_border, passing, x_end, y_end}
 use Rattle.amr_flux.specs.Rows.{signed}
 use Rattle.amr_flux.proofs.Steps.{flow_of}
-use Rattle.amr_flux.proofs.Places.{IsXFace, IsYFace, offset, x_face_at, y_face_at}
+use Rattle.amr_flux.proofs.Places.{around, IsXFace, IsYFace, offset, x_face_at, y_face_at}
 use Rattle.amr_flux.proofs.Given.{same_face, with_border, with_own, x_inner, y_inner}
 
 -- ---- fluxes
@@ -89,8 +88,8 @@ unfolding flux_at
 border_is p l m old q border f e is =
     with_border p l q border f e ∙ ap (signed (courant p l f)) is ∙ signed_size (courant p l f) p.d (value_at p l m old (low_cell f)) (value_at p l m old (high_cell f))
 
--- a face that the patch owns has the flux that the patch holds
-pub own_is : (p : Problem) (l : ℕ) (q : Patch) (border : List ℕ) (f : Face) → is_border q f ≡ false → fluxes_with p l q border f ≡ flux_in q f
+-- a face that the patch owns has the flux by the values beside it
+pub own_is : (p : Problem) (l : ℕ) (q : Patch) (border : List ℕ) (f : Face) → is_border q f ≡ false → fluxes_with p l q border f ≡ flux_beside p l q f
 own_is p l q border f e = with_own p l q border f e
 
 -- ---- new masses

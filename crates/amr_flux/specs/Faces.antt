@@ -12,11 +12,11 @@ use Rattle.amr_def.specs.Value.{value_at}
 use Rattle.amr_def.specs.Flux.{Fluxes, courant, face, flow, high_cell, low_cell}
 use Rattle.amr_patch.specs.declared.patches.Patch.{Patch}
 use Rattle.amr_patch.specs.Places.{grown, is_face_of}
-use Rattle.amr_patch.specs.Patches.{box, flux_in, mark_in, value_in}
+use Rattle.amr_patch.specs.Patches.{box, mark_in, value_in}
 use Rattle.amr_flux.specs.Rows.{signed}
 
 -- all cells of a box are cells of a domain
-pub record LiesIn (d : Domain) (b : Extent) : Type 0 where
+pub record IsInDomain (d : Domain) (b : Extent) : Type 0 where
   pub at : (c : Cell) → IsTrue (holds b c) → IsTrue (in_domain d c)
 
 -- whether a cell is of the box, or of the frame beside it: not a corner of the frame
@@ -70,6 +70,6 @@ place_along Y q f = length (passing (is_border q) (x_end (box q)) (height (box q
 unfoldable pub border_place : Patch → Face → ℕ
 border_place q f = place_along f.axis q f
 
--- the fluxes through the faces of a patch's cells: its own, and those of its border faces by the sizes handed in
+-- the fluxes through the faces of a patch's cells: those that it owns by the values, those of its border faces by the sizes handed in
 unfoldable pub fluxes_with : Problem → ℕ → Patch → List ℕ → Fluxes
-fluxes_with p l q border f = cond (is_border q f) (signed (courant p l f) (slice_index border (border_place q f))) (flux_in q f)
+fluxes_with p l q border f = cond (is_border q f) (signed (courant p l f) (slice_index border (border_place q f))) (flux_beside p l q f)

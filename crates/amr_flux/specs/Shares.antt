@@ -14,6 +14,16 @@ pub record IsReciprocal (c : ℤ) (d whole rest : ℕ) : Type 0 where
   pub rest_places : rest < 1024
   pub places : whole * 1024 + rest ≡ (unsigned_abs c * 2 ^ 41 + (d - 1)) / d
 
+-- |c|/d with 31 places, rounded up, and a limit below which the product with a mass errs by less than 1
+pub record IsNearReciprocal (c : ℤ) (d near limit : ℕ) : Type 0 where
+  pub fits : near ≤ 2 ^ 31
+  pub up : unsigned_abs c * 2 ^ 31 ≤ near * d
+  pub error : limit * (near * d - unsigned_abs c * 2 ^ 31) ≤ 2 ^ 31
+
+-- all below a limit
+pub record AreBelow (limit : ℕ) (values : List ℕ) : Type 0 where
+  pub at : (k : ℕ) → k < length values → slice_index values k < limit
+
 -- none of 2^31 or more
-pub record AreSmall (values : List ℕ) : Type 0 where
-  pub at : (k : ℕ) → k < length values → slice_index values k < 2 ^ 31
+abbrev pub AreSmall : List ℕ → Type 0
+AreSmall values = AreBelow (2 ^ 31) values

@@ -1,20 +1,28 @@
 //! Donor-cell fluxes through the faces of a patch, and the new masses of its cells.
+//!
+//! - [`sweep`]: the fluxes through the faces on a patch's edges that it owns.
+//! - [`update`]: the new masses, in one pass row by row; what flows inside is worked out and used there, and kept nowhere.
+//! - [`border_faces`]: the faces on a patch's edges that others own, in the order in which `update` takes their fluxes.
+//! - [`Share`]: how much of a mass flows out of a cell, by products in place of a division.
 #![tactic(auto)]
 
-mod border;
 mod fluxes;
 mod masses;
 mod order;
+mod room;
 mod rows;
 mod shape;
 mod share;
-mod sweep_x;
-mod sweep_y;
+mod sizes;
 #[cfg(test)]
 mod tests;
 mod update_rows;
+mod x_faces;
+mod y_faces;
 
 pub use crate::fluxes::sweep;
 pub use crate::masses::update;
 pub use crate::order::{border_faces, x_end, y_end};
+pub use crate::room::Room;
 pub use crate::share::Share;
+pub use crate::sizes::border_sizes;

@@ -1,33 +1,79 @@
-//! Where a patch stands, and how many cells it has along each axis.
+//! Where a patch stands in its level, how many cells it has along each axis, and its Courant numbers.
 
-ghost use Rattle.std.specs.Prelude.{◌≡◌, ◌≤◌, pos, ◌≤ℤ◌};
+ghost use Rattle.std.specs.Prelude.{◌≡◌, ◌≤◌, ◌<◌, pos, ◌≤ℤ◌};
 ghost use Rattle.amr_box.specs.Cells.{IsNear, height, width};
+ghost use Rattle.amr_def.specs.Domain.{columns, domain, rows};
+ghost use Rattle.amr_flux.specs.Faces.{IsInDomain};
+ghost use Rattle.amr_flux.specs.Tables.{Stands, x_number, y_number};
 
+use crate::room::Room;
+use crate::share::Share;
 use amr_box::Bx;
+use amr_def::Problem;
 
-/// The columns and the rows of a patch.
+/// A patch of a level: how many columns and rows it has, which column and row of the level its first cell lies in, and the
+/// shares at the Courant numbers of that row and that column.
 #[derive(Clone, Copy, Debug)]
 pub(crate) struct Shape {
     pub(crate) w: usize,
     pub(crate) h: usize,
-}
-
-/// How many columns and rows a box has.
-pub(crate) fn shape_of(b: &Bx) -> Shape
-    requires { IsNear b.now }
-    ensures columns { result.w ≡ width b.now }
-    ensures rows { result.h ≡ height b.now }
-{
-    Shape {
-        w: b.width() as usize,
-        h: b.height() as usize,
-    }
+    pub(crate) level: u32,
+    pub(crate) column: u32,
+    pub(crate) row: u32,
+    pub(crate) x: Share,
+    pub(crate) y: Share,
 }
 
 /// A column or a row of the domain, which has none below 0.
-pub(crate) fn coordinate(z: i32) -> u32
+fn coordinate(z: i32) -> u32
     requires { pos 0 ≤ℤ z }
     ensures { pos result ≡ z }
 {
     z as u32
+}
+
+/// The share at the Courant number of the x faces in a row of a level, from the share that was used last.
+#[tactic(auto, using(crate::proofs::Numbers::x_slow))]
+pub(crate) fn x_share(p: &Problem, level: u32, row: u32, last: Share) -> Share
+    requires level { level ≤ 4 }
+    requires inside { row < rows p.now level }
+    ensures number { result.number ≡ x_number p.now level row }
+    ensures parts { result.parts ≡ p.now.d }
+{
+    last.with(p.x_courant(level, row), p.d)
+}
+
+/// The share at the Courant number of the y faces in a column of a level, from the share that was used last.
+#[tactic(auto, using(crate::proofs::Numbers::y_slow))]
+pub(crate) fn y_share(p: &Problem, level: u32, column: u32, last: Share) -> Share
+    requires level { level ≤ 4 }
+    requires inside { column < columns p.now level }
+    ensures number { result.number ≡ y_number p.now level column }
+    ensures parts { result.parts ≡ p.now.d }
+{
+    last.with(p.y_courant(level, column), p.d)
+}
+
+/// The shape of a box of a level.
+pub(crate) fn shape_of(p: &Problem, level: u32, b: &Bx, room: &Room) -> Shape
+    requires level { level ≤ 4 }
+    requires near { IsNear b.now }
+    requires inside { IsInDomain (domain p.now level) b.now }
+    ensures columns { result.w ≡ width b.now }
+    ensures rows { result.h ≡ height b.now }
+    ensures level { result.level ≡ level }
+    ensures stands { Stands p.now level b.now result.column result.row }
+{
+    let lo = b.lo();
+    let column = coordinate(lo.x);
+    let row = coordinate(lo.y);
+    Shape {
+        w: b.width() as usize,
+        h: b.height() as usize,
+        level,
+        column,
+        row,
+        x: x_share(p, level, row, room.x_share),
+        y: y_share(p, level, column, room.y_share),
+    }
 }

@@ -1,10 +1,10 @@
 ghost use Rattle.std.specs.Prelude.{◌↔◌, ◌<◌, EachIndex, IsTrue, slice_index};
 
 use super::*;
-use crate::rows::face_fluxes;
+use crate::rows::{face_fluxes, mass_after};
 
 /// Whether all values are below 2^31.
-fn are_small(values: &[u64]) -> bool
+fn are_small(values: &[u32]) -> bool
     ensures { IsTrue result ↔ EachIndex values.now (λ k. slice_index values.now k < 2147483648) }
 {
     values.iter().all(|v| *v < 2147483648)
@@ -31,8 +31,8 @@ fn shares_are_rounded_down(rt: HostRuntime) {
 fn flows_come_from_the_cell_upwind(rt: HostRuntime) {
     let sevenths = Share::make(3, 7);
     assert_eq!(rt; sevenths.flow(7, 100), 3);
-    assert_eq!(rt; sevenths.with(-3).flow(7, 100), -42);
-    assert_eq!(rt; sevenths.with(0).flow(7, 100), 0);
+    assert_eq!(rt; sevenths.with(-3, 7).flow(7, 100), -42);
+    assert_eq!(rt; sevenths.with(0, 7).flow(7, 100), 0);
 }
 
 #[test]
@@ -46,4 +46,30 @@ fn ring_with_mass_7_passes_on_3(rt: HostRuntime) {
     assert_eq!(rt; fluxes, [0, 3, 0, 0, 0]);
     face_fluxes(Share::make(-1, 2), &low, &high, &mut fluxes);
     assert_eq!(rt; fluxes, [-3, 0, 0, 0, -3]);
+}
+
+#[test]
+fn large_masses_take_two_products(rt: HostRuntime) {
+    let cells = [2147483647, 2147483646, 2147483645, 7, 0];
+    let mut fluxes = [0; 5];
+    assert!(rt; are_small(&cells));
+    face_fluxes(Share::make(2, 3), &cells, &cells, &mut fluxes);
+    assert_eq!(rt; fluxes, [1431655764, 1431655764, 1431655763, 4, 0]);
+    face_fluxes(Share::make(-1, 1000), &cells, &cells, &mut fluxes);
+    assert_eq!(rt; fluxes, [-2147483, -2147483, -2147483, 0, 0]);
+}
+
+#[test]
+fn a_row_gets_what_comes_in(rt: HostRuntime) {
+    let mut masses = [10, 20, 30];
+    masses[0] = mass_after(masses[0], 3, 5, 0, 1);
+    assert_eq!(rt; masses[0], 7);
+    masses[1] = mass_after(masses[1], -4, -6, 2, -2);
+    assert_eq!(rt; masses[1], 26);
+}
+
+#[test]
+fn room_is_refused_without_memory(rt: HostRuntime) {
+    let room = Room::make(rt.alloc(), 256);
+    assert!(rt; room.is_ok());
 }

@@ -1,33 +1,100 @@
 //! The new masses of a patch's cells, row by row.
 
-ghost use Rattle.std.specs.Prelude.{◌≡◌, ℕ, ◌+◌, ◌*◌, ◌<◌, pos, ◌+ℤ◌, ◌≤ℤ◌, length, slice_index};
-ghost use Rattle.amr_flux.specs.Tables.{AreMassesSmall, AreXFlowsSmall, AreYFlowsSmall, IsOtherPlace, net_inflow, value};
+ghost use Rattle.std.specs.Prelude.{◌≡◌, ℕ, ◌+◌, ◌*◌, ◌<◌, ◌≤◌, ◌^◌, pos, ◌+ℤ◌, ◌≤ℤ◌, ◌<ℤ◌, length, slice_index};
+ghost use Rattle.amr_def.specs.Domain.{columns, rows};
+ghost use Rattle.amr_flux.specs.Shares.{AreSmall};
+ghost use Rattle.amr_flux.specs.Tables.{AreXSmall, AreYSmall, IsOtherPlace, count_below, net_inflow, value, x_marked, x_through, y_marked, y_through};
 
-use crate::rows::update_row;
+use crate::rows::update_patch_row;
 use crate::shape::Shape;
+use crate::x_faces::{is_end_marked, set_end, x_row};
+use crate::y_faces::{set_top, y_row};
+use amr_def::Problem;
 
-/// Gives each cell of a patch what comes in through its faces.
-pub(crate) fn update_rows(shape: Shape, values: &mut [u64], x: &[i64], y: &[i64])
+/// Gives each cell of a patch what comes in through its faces: by the values on their two sides, and for border faces by the sizes
+/// handed in. All is worked out and used row by row, in one pass over the masses; `x`, `low` and `high` are room for the fluxes
+/// through the faces of a row.
+#[tactic(auto, using(crate::proofs::Numbers::x_slow))]
+pub(crate) fn update_rows(
+    p: &Problem,
+    shape: Shape,
+    values: &mut [u32],
+    marks: &[bool],
+    border: &[u32],
+    x: &mut [i32],
+    low: &mut [i32],
+    high: &mut [i32],
+)
+    requires level { shape.level ≤ 4 }
+    requires columns_inside { shape.column + shape.w ≤ columns p.now shape.level }
+    requires rows_inside { shape.row + shape.h ≤ rows p.now shape.level }
     requires value_count { length values.old ≡ (shape.h + 2) * (shape.w + 2) }
-    requires x_count { length x.now ≡ shape.h * (shape.w + 1) }
-    requires y_count { length y.now ≡ (shape.h + 1) * shape.w }
-    requires small { AreMassesSmall shape.w shape.h values.old }
-    requires x_small { AreXFlowsSmall shape.w shape.h x.now }
-    requires y_small { AreYFlowsSmall shape.w shape.h y.now }
-    requires kept { (i j : ℕ) → i < shape.w → j < shape.h → pos 0 ≤ℤ (pos (value shape.w values.old (i + 1) (j + 1)) +ℤ net_inflow shape.w x.now y.now i j) }
-    ensures made { (i j : ℕ) → i < shape.w → j < shape.h → pos (value shape.w values.new (i + 1) (j + 1)) ≡ pos (value shape.w values.old (i + 1) (j + 1)) +ℤ net_inflow shape.w x.now y.now i j }
+    requires mark_count { length marks.now ≡ (shape.h + 2) * (shape.w + 2) }
+    requires some { 0 < shape.h }
+    requires x_count { length x.old ≡ shape.w + 1 }
+    requires low_count { length low.old ≡ shape.w }
+    requires high_count { length high.old ≡ shape.w }
+    requires enough { count_below (x_marked shape.w marks.now) shape.h + count_below (y_marked shape.w shape.h marks.now) shape.w ≤ length border.now }
+    requires border_small { AreSmall border.now }
+    requires x_small { AreXSmall shape.w shape.h values.old }
+    requires y_small { AreYSmall shape.w shape.h values.old }
+    requires kept { (i j : ℕ) → i < shape.w → j < shape.h → pos 0 ≤ℤ (pos (value shape.w values.old (i + 1) (j + 1)) +ℤ net_inflow (x_through p.now shape.level shape.row shape.w marks.now border.now values.old) (y_through p.now shape.level shape.column shape.w shape.h marks.now border.now values.old) i j) }
+    requires fits { (i j : ℕ) → i < shape.w → j < shape.h → (pos (value shape.w values.old (i + 1) (j + 1)) +ℤ net_inflow (x_through p.now shape.level shape.row shape.w marks.now border.now values.old) (y_through p.now shape.level shape.column shape.w shape.h marks.now border.now values.old) i j) <ℤ pos (2 ^ 32) }
+    ensures made { (i j : ℕ) → i < shape.w → j < shape.h → pos (value shape.w values.new (i + 1) (j + 1)) ≡ pos (value shape.w values.old (i + 1) (j + 1)) +ℤ net_inflow (x_through p.now shape.level shape.row shape.w marks.now border.now values.old) (y_through p.now shape.level shape.column shape.w shape.h marks.now border.now values.old) i j }
     ensures others { (k : ℕ) → IsOtherPlace shape.w shape.h k → slice_index values.new k ≡ slice_index values.old k }
 {
+    y_row(p, shape, values, 0, low);
+    let mut share = shape.x;
+    let mut used = 0;
     for j in 0..shape.h {
-        let from = (j + 1) * (shape.w + 2) + 1;
-        let x_from = j * (shape.w + 1);
-        let low = j * shape.w;
-        let high = (j + 1) * shape.w;
-        update_row(
-            &mut values[from..from + shape.w],
-            &x[x_from..x_from + shape.w + 1],
-            &y[low..low + shape.w],
-            &y[high..high + shape.w],
-        );
+        share = share.with(p.x_courant(shape.level, shape.row + j as u32), p.d);
+        x_row(p, shape, share, values, j, x);
+        let marked = is_end_marked(shape, marks, j);
+        used = set_end(share.number, marked, border, used, x);
+        y_row(p, shape, values, j + 1, high);
+        set_top(p, shape, j, marks, &border[used..], high);
+        update_patch_row(shape.w, shape.h, j, values, x, low, high);
+        low.copy_from_slice(high);
     }
+}
+
+/// The same, with room for the fluxes of a row that may be longer.
+pub(crate) fn update_in_lists(
+    p: &Problem,
+    shape: Shape,
+    values: &mut [u32],
+    marks: &[bool],
+    border: &[u32],
+    x: &mut [i32],
+    low: &mut [i32],
+    high: &mut [i32],
+)
+    requires level { shape.level ≤ 4 }
+    requires columns_inside { shape.column + shape.w ≤ columns p.now shape.level }
+    requires rows_inside { shape.row + shape.h ≤ rows p.now shape.level }
+    requires value_count { length values.old ≡ (shape.h + 2) * (shape.w + 2) }
+    requires mark_count { length marks.now ≡ (shape.h + 2) * (shape.w + 2) }
+    requires some { 0 < shape.h }
+    requires x_room { shape.w + 1 ≤ length x.old }
+    requires low_room { shape.w ≤ length low.old }
+    requires high_room { shape.w ≤ length high.old }
+    requires enough { count_below (x_marked shape.w marks.now) shape.h + count_below (y_marked shape.w shape.h marks.now) shape.w ≤ length border.now }
+    requires border_small { AreSmall border.now }
+    requires x_small { AreXSmall shape.w shape.h values.old }
+    requires y_small { AreYSmall shape.w shape.h values.old }
+    requires kept { (i j : ℕ) → i < shape.w → j < shape.h → pos 0 ≤ℤ (pos (value shape.w values.old (i + 1) (j + 1)) +ℤ net_inflow (x_through p.now shape.level shape.row shape.w marks.now border.now values.old) (y_through p.now shape.level shape.column shape.w shape.h marks.now border.now values.old) i j) }
+    requires fits { (i j : ℕ) → i < shape.w → j < shape.h → (pos (value shape.w values.old (i + 1) (j + 1)) +ℤ net_inflow (x_through p.now shape.level shape.row shape.w marks.now border.now values.old) (y_through p.now shape.level shape.column shape.w shape.h marks.now border.now values.old) i j) <ℤ pos (2 ^ 32) }
+    ensures made { (i j : ℕ) → i < shape.w → j < shape.h → pos (value shape.w values.new (i + 1) (j + 1)) ≡ pos (value shape.w values.old (i + 1) (j + 1)) +ℤ net_inflow (x_through p.now shape.level shape.row shape.w marks.now border.now values.old) (y_through p.now shape.level shape.column shape.w shape.h marks.now border.now values.old) i j }
+    ensures others { (k : ℕ) → IsOtherPlace shape.w shape.h k → slice_index values.new k ≡ slice_index values.old k }
+{
+    update_rows(
+        p,
+        shape,
+        values,
+        marks,
+        border,
+        &mut x[..shape.w + 1],
+        &mut low[..shape.w],
+        &mut high[..shape.w],
+    );
 }

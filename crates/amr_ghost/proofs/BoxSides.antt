@@ -11,11 +11,11 @@ use Rattle.amr_patch.specs.declared.patches.Patch.{Patch}
 use Rattle.amr_patch.specs.Places.{grown, in_frame}
 use Rattle.amr_patch.specs.Patches.{box}
 use Rattle.amr_patch.proofs.Lookups.{holder, in_one, same_default}
-use Rattle.amr_ghost.specs.Lines.{step}
+use Rattle.amr_ghost.specs.Strips.{step}
 use Rattle.amr_ghost.specs.Frames.{AreInDomain, is_beside}
 use Rattle.amr_ghost.specs.declared.sides.Side.{Side}
 use Rattle.amr_ghost.specs.declared.sides.Side.TheVariants.{East, North, South, West}
-use Rattle.amr_ghost.specs.Filling.{HasGhosts, IsGhostLine, LiesIn, side_axis, side_count, side_from, size_along}
+use Rattle.amr_ghost.specs.Filling.{HasGhosts, IsGhostStrip, LiesInDomain, side_axis, side_count, side_from, size_along}
 
 le_self : (z : ℤ) → int_le z z ≡ true
 le_self z = grind (arith, ints)
@@ -52,7 +52,7 @@ unfolding in_domain
 parts_of d c h = (left_of (is_inside d.columns c.x) (is_inside d.rows c.y) h, right_of (is_inside d.columns c.x) (is_inside d.rows c.y) h)
 
 -- the box of a patch of a level lies in the domain
-pub lies_in : (d : Domain) (ps : List Patch) (i : ℕ) (p : Patch) → AreInDomain d ps → i < length ps → p ≡ get_or ps i p → (box p).lo.x ≤ℤ (box p).hi.x → (box p).lo.y ≤ℤ (box p).hi.y → LiesIn d (box p)
+pub lies_in : (d : Domain) (ps : List Patch) (i : ℕ) (p : Patch) → AreInDomain d ps → i < length ps → p ≡ get_or ps i p → (box p).lo.x ≤ℤ (box p).hi.x → (box p).lo.y ≤ℤ (box p).hi.y → LiesInDomain d (box p)
 lies_in d ps i p inside there is wide high =
     let low = parts_of d (box p).lo (inside (box p).lo (in_one ps (box p).lo i (holder ps (box p).lo i p there is (has_low (box p) wide high)))) in
     let top = parts_of d (box p).hi (inside (box p).hi (in_one ps (box p).hi i (holder ps (box p).hi i p there is (has_high (box p) wide high)))) in
@@ -114,18 +114,39 @@ side_ghost b North k wide high t =
     let top = counted b.lo.x b.hi.x k t in
     out_y b (cell (b.lo.x +ℤ pos k) (b.hi.y +ℤ pos 1)) (within_grown b.lo.x b.hi.x (b.lo.x +ℤ pos k) (omega (arith, ints)) (omega (arith, ints))) (within_grown b.lo.y b.hi.y (b.hi.y +ℤ pos 1) (omega (arith, ints)) (omega (arith, ints))) (above_out b.lo.y b.hi.y (b.hi.y +ℤ pos 1) (omega (arith, ints)))
 
+in_a_row : (f a e : Bool) → IsTrue f → e ≡ true → IsTrue (f && (a || e))
+in_a_row true true e h k = refl
+in_a_row true false e h k = k
+in_a_row false a e h k = absurd (cc)
+
+in_a_column : (f a e : Bool) → IsTrue f → a ≡ true → IsTrue (f && (a || e))
+in_a_column true true e h k = refl
+in_a_column true false e h k = absurd (cc)
+in_a_column false a e h k = absurd (cc)
+
+in_range : (low high : ℤ) (k : ℕ) → k < at_least_zero (high +ℤ pos 1 -ℤ low) → within low high (low +ℤ pos k) ≡ true
+in_range low high k t = let top = counted low high k t in rw (le_of low (low +ℤ pos k) (omega (arith, ints)), le_of (low +ℤ pos k) high top)
+
+-- and shares a face with a cell of the box
+side_beside : (b : Extent) (side : Side) (k : ℕ) → b.lo.x ≤ℤ b.hi.x → b.lo.y ≤ℤ b.hi.y → k < side_count b side → IsTrue (is_beside b (step (side_axis side) (side_from b side) k))
+side_beside b West k wide high t = in_a_row (in_frame b (cell (b.lo.x -ℤ pos 1) (b.lo.y +ℤ pos k))) (within b.lo.x b.hi.x (b.lo.x -ℤ pos 1)) (within b.lo.y b.hi.y (b.lo.y +ℤ pos k)) (side_ghost b West k wide high t) (in_range b.lo.y b.hi.y k t)
+side_beside b East k wide high t = in_a_row (in_frame b (cell (b.hi.x +ℤ pos 1) (b.lo.y +ℤ pos k))) (within b.lo.x b.hi.x (b.hi.x +ℤ pos 1)) (within b.lo.y b.hi.y (b.lo.y +ℤ pos k)) (side_ghost b East k wide high t) (in_range b.lo.y b.hi.y k t)
+side_beside b South k wide high t = in_a_column (in_frame b (cell (b.lo.x +ℤ pos k) (b.lo.y -ℤ pos 1))) (within b.lo.x b.hi.x (b.lo.x +ℤ pos k)) (within b.lo.y b.hi.y (b.lo.y -ℤ pos 1)) (side_ghost b South k wide high t) (in_range b.lo.x b.hi.x k t)
+side_beside b North k wide high t = in_a_column (in_frame b (cell (b.lo.x +ℤ pos k) (b.hi.y +ℤ pos 1))) (within b.lo.x b.hi.x (b.lo.x +ℤ pos k)) (within b.lo.y b.hi.y (b.hi.y +ℤ pos 1)) (side_ghost b North k wide high t) (in_range b.lo.x b.hi.x k t)
+
 inside_of : (n : ℕ) (z : ℤ) → pos 0 ≤ℤ z → z <ℤ pos n → IsTrue (is_inside n z)
 inside_of n z from to = grind (arith, ints)
 
-along_side : (d : Domain) (b : Extent) (side : Side) (k : ℕ) → LiesIn d b → k < side_count b side → IsTrue (is_inside (size_along (side_axis side) d) (along (side_axis side) (side_from b side) +ℤ pos k))
+along_side : (d : Domain) (b : Extent) (side : Side) (k : ℕ) → LiesInDomain d b → k < side_count b side → IsTrue (is_inside (size_along (side_axis side) d) (along (side_axis side) (side_from b side) +ℤ pos k))
 along_side d b West k h t = let top = counted b.lo.y b.hi.y k t in let s = h.south in let n = h.north in inside_of d.rows (b.lo.y +ℤ pos k) (omega (arith, ints)) (omega (arith, ints))
 along_side d b East k h t = let top = counted b.lo.y b.hi.y k t in let s = h.south in let n = h.north in inside_of d.rows (b.lo.y +ℤ pos k) (omega (arith, ints)) (omega (arith, ints))
 along_side d b South k h t = let top = counted b.lo.x b.hi.x k t in let s = h.west in let n = h.east in inside_of d.columns (b.lo.x +ℤ pos k) (omega (arith, ints)) (omega (arith, ints))
 along_side d b North k h t = let top = counted b.lo.x b.hi.x k t in let s = h.west in let n = h.east in inside_of d.columns (b.lo.x +ℤ pos k) (omega (arith, ints)) (omega (arith, ints))
 
-pub side_is_line : (d : Domain) (b : Extent) (side : Side) → LiesIn d b → IsGhostLine d b (side_axis side) (side_from b side) (side_count b side)
-side_is_line d b side h = record {
+pub side_is_strip : (d : Domain) (b : Extent) (side : Side) → LiesInDomain d b → IsGhostStrip d b (side_axis side) (side_from b side) (side_count b side)
+side_is_strip d b side h = record {
   ghosts = λ k t. side_ghost b side k h.wide h.high t;
+  beside = λ k t. side_beside b side k h.wide h.high t;
   inside = λ k t. along_side d b side k h t;
 }
 
@@ -136,7 +157,7 @@ few low high n from to = by_size (high +ℤ pos 1 -ℤ low) refl
     by_size (pos k) e = omega (arith, ints)
     by_size (negsuc k) e = omega arith
 
-pub side_few : (d : Domain) (b : Extent) (side : Side) → LiesIn d b → side_count b side ≤ size_along (side_axis side) d
+pub side_few : (d : Domain) (b : Extent) (side : Side) → LiesInDomain d b → side_count b side ≤ size_along (side_axis side) d
 side_few d b West h = few b.lo.y b.hi.y d.rows h.south h.north
 side_few d b East h = few b.lo.y b.hi.y d.rows h.south h.north
 side_few d b South h = few b.lo.x b.hi.x d.columns h.west h.east
@@ -237,11 +258,11 @@ beside_of P b sides c h = by_ranges (within b.lo.x b.hi.x c.x) (within b.lo.y b.
 
 -- ---- the same, of the box that a call answers
 
-pub box_lies : (d : Domain) (ps : List Patch) (i : ℕ) (e : Patch) (b : Extent) → AreInDomain d ps → i < length ps → e ≡ get_or ps i e → b ≡ box (get_or ps i e) → IsNear (box (get_or ps i e)) → LiesIn d b
+pub box_lies : (d : Domain) (ps : List Patch) (i : ℕ) (e : Patch) (b : Extent) → AreInDomain d ps → i < length ps → e ≡ get_or ps i e → b ≡ box (get_or ps i e) → IsNear (box (get_or ps i e)) → LiesInDomain d b
 box_lies d ps i e b inside there is same near = rw same (lies_in d ps i (get_or ps i e) inside there (ap (get_or ps i) is) near.wide near.high)
 
 pub same_box : (ps : List Patch) (i : ℕ) (e q : Patch) (b : Extent) → i < length ps → b ≡ box (get_or ps i e) → box (get_or ps i q) ≡ b
 same_box ps i e q b there same = ap box (same_default ps i q e there) ∙ sym same
 
-pub line_of : (d : Domain) (b b' : Extent) (side : Side) (axis : Axis) (from : Cell) (count : ℕ) → LiesIn d b → b' ≡ b → axis ≡ side_axis side → from ≡ side_from b side → count ≡ side_count b side → IsGhostLine d b' axis from count
-line_of d b b' side axis from count lies same a f n = rw (same, a, f, n) (side_is_line d b side lies)
+pub strip_of : (d : Domain) (b b' : Extent) (side : Side) (axis : Axis) (from : Cell) (count : ℕ) → LiesInDomain d b → b' ≡ b → axis ≡ side_axis side → from ≡ side_from b side → count ≡ side_count b side → IsGhostStrip d b' axis from count
+strip_of d b b' side axis from count lies same a f n = rw (same, a, f, n) (side_is_strip d b side lies)

@@ -1,34 +1,25 @@
--- The cells that the cells of a line stand for, and what a line has in a box.
-use Rattle.std.proofs.Common.{◌≡◌, ℕ, ◌+◌, ◌<◌, Bool, true, false, ◌&&◌, ℤ, pos, negsuc, ◌+ℤ◌, ◌≤ℤ◌, IsTrue, refl, sym, ap, ◌∙◌, arith}
+-- The cells that the cells of a strip stand for, and what a strip has in a box.
+use Rattle.std.proofs.Common.{◌≡◌, ℕ, ◌+◌, Bool, true, false, ◌&&◌, ℤ, pos, ◌+ℤ◌, ◌≤ℤ◌, IsTrue, refl, sym, ap, ◌∙◌, arith}
 use Rattle.std.proofs.lemmas.Int.{ints}
-use Rattle.std.proofs.Math.Nat.{mod-eq_of_lt}
 use Rattle.amr_box.specs.declared.Cell.{Cell}
 use Rattle.amr_box.specs.declared.Axis.{Axis}
 use Rattle.amr_box.specs.declared.Axis.TheVariants.{X, Y}
 use Rattle.amr_box.specs.Cells.{Extent, along, cell, holds, within}
 use Rattle.amr_def.specs.Domain.{Domain, home_cell, is_inside, wrapped}
-use Rattle.amr_ghost.specs.Lines.{step}
+use Rattle.amr_def.proofs.Homes.{inside-itself}
+use Rattle.amr_ghost.specs.Strips.{step}
 use Rattle.amr_ghost.specs.Filling.{size_along}
 
--- a coordinate of the domain stands for itself
-pub wrapped_inside : (wrap : Bool) (n : ℕ) (z : ℤ) → IsTrue (is_inside n z) → wrapped wrap n z ≡ z
-wrapped_inside false n z h = refl
-wrapped_inside true n (pos a) h = ap pos (mod-eq_of_lt (below a n h))
-  where
-    below : (a n : ℕ) → IsTrue (is_inside n (pos a)) → a < n
-    below a n h = grind (arith, ints)
-wrapped_inside true n (negsuc a) h = absurd (grind (arith, ints))
-
--- the cells of a line along an axis of the domain stand for those of a line
+-- the cells of a strip along an axis of the domain stand for those of a strip
 pub home_step : (d : Domain) (axis : Axis) (c : Cell) (k : ℕ) → IsTrue (is_inside (size_along axis d) (along axis c)) → IsTrue (is_inside (size_along axis d) (along axis c +ℤ pos k)) → home_cell d (step axis c k) ≡ step axis (home_cell d c) k
 home_step d X c k first here = λ i. cell (x i) (wrapped d.wrap_y d.rows c.y)
   where
     x : wrapped d.wrap_x d.columns (c.x +ℤ pos k) ≡ wrapped d.wrap_x d.columns c.x +ℤ pos k
-    x = wrapped_inside d.wrap_x d.columns (c.x +ℤ pos k) here ∙ ap (λ (z : ℤ). z +ℤ pos k) (sym (wrapped_inside d.wrap_x d.columns c.x first))
+    x = inside-itself d.wrap_x d.columns (c.x +ℤ pos k) here ∙ ap (λ (z : ℤ). z +ℤ pos k) (sym (inside-itself d.wrap_x d.columns c.x first))
 home_step d Y c k first here = λ i. cell (wrapped d.wrap_x d.columns c.x) (y i)
   where
     y : wrapped d.wrap_y d.rows (c.y +ℤ pos k) ≡ wrapped d.wrap_y d.rows c.y +ℤ pos k
-    y = wrapped_inside d.wrap_y d.rows (c.y +ℤ pos k) here ∙ ap (λ (z : ℤ). z +ℤ pos k) (sym (wrapped_inside d.wrap_y d.rows c.y first))
+    y = inside-itself d.wrap_y d.rows (c.y +ℤ pos k) here ∙ ap (λ (z : ℤ). z +ℤ pos k) (sym (inside-itself d.wrap_y d.rows c.y first))
 
 within_ahead : (low high z : ℤ) (k : ℕ) → IsTrue (within low high z) → (z +ℤ pos k) ≤ℤ high → IsTrue (within low high (z +ℤ pos k))
 within_ahead low high z k h below = grind (arith, ints)
@@ -46,7 +37,7 @@ pub held_ahead : (b : Extent) (axis : Axis) (c : Cell) (k : ℕ) → IsTrue (hol
 held_ahead b X c k h below = both (within b.lo.x b.hi.x c.x) (within b.lo.y b.hi.y c.y) (within b.lo.x b.hi.x (c.x +ℤ pos k)) (λ t. within_ahead b.lo.x b.hi.x c.x k t below) h
 held_ahead b Y c k h below = both_right (within b.lo.x b.hi.x c.x) (within b.lo.y b.hi.y c.y) (within b.lo.y b.hi.y (c.y +ℤ pos k)) (λ t. within_ahead b.lo.y b.hi.y c.y k t below) h
 
--- a line that goes on from a later cell
+-- a strip that goes on from a later cell
 pub step_step : (axis : Axis) (c : Cell) (j k : ℕ) → step axis (step axis c j) k ≡ step axis c (j + k)
 step_step X c j k = λ i. cell (add c.x j k i) c.y
   where

@@ -1,10 +1,11 @@
 -- The inflow of the side that a cell lies outside of, side by side.
-use Rattle.std.proofs.Common.{◌≡◌, ℕ, zero, suc, ◌*◌, ◌/◌, ◌^◌, ◌≤◌, true, false, ℤ, pos, ◌≤ℤ◌, ◌<ℤ◌, refl, ap, arith}
+use Rattle.std.proofs.Common.{◌≡◌, ℕ, zero, suc, ◌*◌, ◌/◌, ◌^◌, ◌≤◌, true, false, ℤ, pos, ◌≤ℤ◌, ◌<ℤ◌, refl, ap, arith, ◌<◌}
 use Rattle.std.specs.Prelude.{int_le, int_lt}
 use Rattle.std.proofs.lemmas.Int.{ints}
 use Rattle.amr_box.specs.declared.Cell.{Cell}
 use Rattle.amr_def.specs.declared.problem.Problem.{Problem}
 use Rattle.amr_def.specs.Domain.{columns}
+use Rattle.amr_def.proofs.Stepping.{cond_within, high_within, low_within}
 use Rattle.amr_def.specs.Value.{high_inflow, inflow_at, low_inflow}
 
 pub int_lt-yes : (a b : ℤ) → a <ℤ b → int_lt a b ≡ true
@@ -46,3 +47,17 @@ four_power (suc (suc (suc (suc (suc l))))) h = absurd (omega arith)
 
 pub shift_is : (g l : ℕ) → l ≤ 4 → g / 2 ^ (2 * l) ≡ g / 4 ^ l
 shift_is g l h = ap (λ (d : ℕ). g / d) (four_power l h)
+
+-- a shift makes no number greater
+pub shift_within : (g l : ℕ) → l ≤ 4 → g ≤ 2 ^ 30 → g / 2 ^ (2 * l) < 2 ^ 32
+shift_within g zero h k = omega (arith, k)
+shift_within g (suc zero) h k = omega (arith, k)
+shift_within g (suc (suc zero)) h k = omega (arith, k)
+shift_within g (suc (suc (suc zero))) h k = omega (arith, k)
+shift_within g (suc (suc (suc (suc zero)))) h k = omega (arith, k)
+shift_within g (suc (suc (suc (suc (suc l))))) h k = absurd (omega arith)
+
+-- an inflow is at most 2^30
+pub inflow_within : (p : Problem) (l : ℕ) (c : Cell) → inflow_at p l c ≤ 2 ^ 30
+unfolding inflow_at
+inflow_within p l c = cond_within _ _ _ (2 ^ 30) (low_within p.x_sides p.limits.x_inflows) (cond_within _ _ _ (2 ^ 30) (high_within p.x_sides p.limits.x_inflows) (cond_within _ _ _ (2 ^ 30) (low_within p.y_sides p.limits.y_inflows) (high_within p.y_sides p.limits.y_inflows)))

@@ -16,31 +16,15 @@ use Rattle.amr_patch.specs.declared.patches.Patch.{Patch}
 use Rattle.amr_patch.specs.declared.lookup.Order.{Order}
 use Rattle.amr_patch.specs.Places.{in_frame}
 use Rattle.amr_patch.specs.Patches.{box, in_patches, masses_in}
-use Rattle.amr_patch.specs.Orders.{AreInRows, IsOrderOf}
-use Rattle.amr_ghost.specs.Lines.{step}
+use Rattle.amr_patch.proofs.Standing.{order_of_boxes}
+use Rattle.amr_ghost.specs.Strips.{step}
 use Rattle.amr_ghost.specs.Frames.{AreInDomain, is_beside, is_of_level}
 use Rattle.amr_ghost.specs.declared.sides.Side.{Side}
 use Rattle.amr_ghost.specs.declared.sides.Side.TheVariants.{East, North, South, West}
-use Rattle.amr_ghost.specs.Filling.{HasFrame, HasGhost, HasSideValues, HasValues, IsLevelInOrder, KeepsCells, KeepsGhosts, KeepsValues, LiesIn, side_axis, side_count, side_from, size_along}
+use Rattle.amr_ghost.specs.Filling.{HasFrame, HasGhost, HasSideValues, HasValues, IsLevelInOrder, KeepsCells, KeepsGhosts, KeepsValues, LiesInDomain, side_axis, side_count, side_from, size_along}
 use Rattle.amr_ghost.proofs.BoxSides.{beside_of, side_ghost}
-use Rattle.amr_ghost.proofs.Zips.{some_mass, zip_apart, zip_box, zip_ghosts, zip_masses}
-use Rattle.amr_ghost.proofs.GhostLines.{still_ghosts}
-
-zip_rows : (ps qs : List Patch) → AllZip KeepsCells ps qs → AreInRows ps → AreInRows qs
-zip_rows ps qs kept rows = λ i j d below there.
-    let n : length ps ≡ length qs = length_all_zip KeepsCells ps qs kept in
-    let low : i < length ps = omega arith in
-    let high : j < length ps = omega arith in
-    rw (zip_box ps qs i d d kept low, zip_box ps qs j d d kept high) (rows i j d below high)
-
-zip_order : (o : Order) (ps qs : List Patch) → AllZip KeepsCells ps qs → IsOrderOf o ps → IsOrderOf o qs
-zip_order o ps qs kept order = record {
-  sorted = λ s. zip_rows ps qs kept (order.sorted s);
-  tallest = λ k d there.
-      let n : length ps ≡ length qs = length_all_zip KeepsCells ps qs kept in
-      let here : k < length ps = omega arith in
-      rw (zip_box ps qs k d d kept here) (order.tallest k d here);
-}
+use Rattle.amr_ghost.proofs.Zips.{some_mass, zip_apart, zip_box, zip_boxes, zip_ghosts, zip_masses}
+use Rattle.amr_ghost.proofs.GhostStrips.{still_ghosts}
 
 pub zip_in_patches : (ps qs : List Patch) (c : Cell) → AllZip KeepsCells ps qs → in_patches qs c ≡ in_patches ps c
 zip_in_patches ps qs c kept = sym (some_mass qs c) ∙ ap (λ (m : Masses). is_some (m c)) (zip_masses ps qs kept) ∙ some_mass ps c
@@ -50,7 +34,7 @@ zip_inside d ps qs kept inside = λ c h. inside c (sym (zip_in_patches ps qs c k
 
 pub still_level : (d : Domain) (o : Order) (ps qs : List Patch) → AllZip KeepsCells ps qs → IsLevelInOrder d o ps → IsLevelInOrder d o qs
 still_level d o ps qs kept level = record {
-  ordered = zip_order o ps qs kept level.ordered;
+  ordered = order_of_boxes o ps qs (zip_boxes ps qs kept) level.ordered;
   apart = zip_apart ps qs kept level.apart;
   inside = zip_inside d ps qs kept level.inside;
 }
@@ -65,7 +49,7 @@ same_values p l old ps qs q axis c n kept values = subst (λ (m : Masses). HasVa
 pub keeps_values : (p : Problem) (l : ℕ) (old : Masses) (ps qs rs : List Patch) → AllZip KeepsCells ps qs → KeepsValues p l old ps qs → KeepsValues p l old qs rs → KeepsValues p l old ps rs
 keeps_values p l old ps qs rs kept first then = zip_ghosts (value_at p l (masses_in ps) old) (is_of_level p l (masses_in ps)) ps qs rs kept first (same_keeps p l old ps qs rs kept then)
 
--- the values along a line stay while others are set
+-- the values along a strip stay while others are set
 pub still_values : (p : Problem) (l : ℕ) (old : Masses) (ps qs rs : List Patch) (i : ℕ) (q e : Patch) (axis : Axis) (c : Cell) (n : ℕ) → i < length ps → AllZip KeepsCells ps qs → KeepsValues p l old qs rs → ((m : ℕ) → m < n → IsTrue (in_frame (box (get_or ps i q)) (step axis c m))) → HasValues p l (masses_in ps) old (get_or qs i q) axis c n → HasValues p l (masses_in ps) old (get_or rs i e) axis c n
 still_values p l old ps qs rs i q e axis c n there kept more ghosts values =
     let same : length ps ≡ length qs = length_all_zip KeepsCells ps qs kept in
@@ -85,7 +69,7 @@ few_along p l Y h = doubled_small p.ny l p.limits.greatest_ny h
 -- ---- the sides of a patch, one after the other
 
 -- the ghost cells of a side keep their values while others are set
-pub still_side : (p : Problem) (l : ℕ) (old : Masses) (ps qs rs : List Patch) (i : ℕ) (q : Patch) (side : Side) → i < length ps → AllZip KeepsCells ps qs → AllZip KeepsCells qs rs → KeepsValues p l old qs rs → LiesIn (domain p l) (box (get_or qs i q)) → HasSideValues p l (masses_in ps) old (get_or qs i q) side → HasSideValues p l (masses_in ps) old (get_or rs i q) side
+pub still_side : (p : Problem) (l : ℕ) (old : Masses) (ps qs rs : List Patch) (i : ℕ) (q : Patch) (side : Side) → i < length ps → AllZip KeepsCells ps qs → AllZip KeepsCells qs rs → KeepsValues p l old qs rs → LiesInDomain (domain p l) (box (get_or qs i q)) → HasSideValues p l (masses_in ps) old (get_or qs i q) side → HasSideValues p l (masses_in ps) old (get_or rs i q) side
 still_side p l old ps qs rs i q side there kept more values lies h =
     let same : length ps ≡ length qs = length_all_zip KeepsCells ps qs kept in
     let here : i < length qs = omega arith in

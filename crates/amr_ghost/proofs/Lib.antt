@@ -1,10 +1,10 @@
 pub mod Inflows
 pub mod Zips
 pub mod Steps
-pub mod GhostLines
-pub mod LinePlaces
+pub mod GhostStrips
+pub mod StripPlaces
 pub mod Homes
-pub mod Runs
+pub mod Spans
 pub mod BoxSides
 pub mod Levels
 pub mod Samples

@@ -18,7 +18,7 @@ use Rattle.amr_patch.specs.Patches.{ArePatchesApart, box, mass_in, masses_in, va
 use Rattle.amr_patch.specs.Orders.{IsHolder}
 use Rattle.amr_patch.proofs.Lookups.{in_one, masses_in-at}
 use Rattle.amr_ghost.specs.Frames.{AreInDomain, HasGhostValues, SameMasses}
-use Rattle.amr_ghost.proofs.Homes.{wrapped_inside}
+use Rattle.amr_def.proofs.Homes.{inside-itself}
 
 left_part : (a b : Bool) → IsTrue (a && b) → IsTrue a
 left_part true b h = refl
@@ -31,7 +31,7 @@ right_part false b h = absurd (cc)
 -- a cell of the domain stands for itself
 pub home_inside : (d : Domain) (c : Cell) → IsTrue (in_domain d c) → home_cell d c ≡ c
 unfolding in_domain
-home_inside d c h = λ i. cell (wrapped_inside d.wrap_x d.columns c.x (left_part (is_inside d.columns c.x) (is_inside d.rows c.y) h) i) (wrapped_inside d.wrap_y d.rows c.y (right_part (is_inside d.columns c.x) (is_inside d.rows c.y) h) i)
+home_inside d c h = λ i. cell (inside-itself d.wrap_x d.columns c.x (left_part (is_inside d.columns c.x) (is_inside d.rows c.y) h) i) (inside-itself d.wrap_y d.rows c.y (right_part (is_inside d.columns c.x) (is_inside d.rows c.y) h) i)
 
 -- the value of a cell of a patch is its mass
 pub own_value : (p : Problem) (l : ℕ) (old : Masses) (ps : List Patch) (k : ℕ) (d : Patch) (c : Cell) → ArePatchesApart ps → AreInDomain (domain p l) ps → k < length ps → ((e : Patch) → IsTrue (holds (box (get_or ps k e)) c)) → value_at p l (masses_in ps) old c ≡ mass_in (get_or ps k d) c

@@ -1,14 +1,15 @@
 -- One ghost cell that is given its value and its mark.
-use Rattle.std.proofs.Common.{◌≡◌, ◌≢◌, ℕ, Bool, true, false, ◌&&◌, IsTrue, refl, sym, ap, subst, ◌∙◌}
+use Rattle.std.proofs.Common.{◌≡◌, ◌≢◌, ℕ, Bool, true, false, ◌&&◌, ◌||◌, IsTrue, refl, sym, ap, subst, ◌∙◌}
 use Rattle.std.specs.Prelude.{not, ◌⊎◌}
 use Rattle.std.proofs.Common.{inl, inr}
 use Rattle.std.proofs.Math.IntN.{ℤ_discrete}
 use Rattle.amr_box.specs.declared.Cell.{Cell}
-use Rattle.amr_box.specs.Cells.{Extent, holds}
+use Rattle.amr_box.specs.Cells.{Extent, holds, within}
 use Rattle.amr_patch.specs.declared.patches.Patch.{Patch}
 use Rattle.amr_patch.specs.Places.{grown, in_frame}
 use Rattle.amr_patch.specs.Patches.{box}
 use Rattle.amr_patch.proofs.Entries.{in_grown, same_cells}
+use Rattle.amr_ghost.specs.Frames.{is_beside, is_corner}
 use Rattle.amr_ghost.specs.Filling.{HasGhost, IsGhostSet, KeepsCells, KeepsGhosts}
 
 not_both : (a b : Bool) → IsTrue (a && not b) → IsTrue b → ⊥
@@ -27,11 +28,27 @@ apart_cells b c d ghost inside e = not_both (holds (grown b) c) (holds b c) ghos
 pub frame_grown : (b : Extent) (c : Cell) → IsTrue (in_frame b c) → IsTrue (holds (grown b) c)
 frame_grown b c h = first_of_both (holds (grown b) c) (holds b c) h
 
-pub ghost_keeps_cells : (q r : Patch) (c : Cell) (v : ℕ) (t : Bool) → IsTrue (in_frame (box q) c) → IsGhostSet q r c v t → KeepsCells q r
-ghost_keeps_cells q r c v t ghost s = record {
+-- a corner of the frame is no cell beside the box
+corner_apart : (b : Extent) (c d : Cell) → IsTrue (is_beside b c) → IsTrue (is_corner b d) → d ≢ c
+corner_apart b c d beside corner e = neither (in_frame b c) (within b.lo.x b.hi.x c.x || within b.lo.y b.hi.y c.y) beside (subst (λ (t : Cell). IsTrue (is_corner b t)) e corner)
+  where
+    neither : (f r : Bool) → IsTrue (f && r) → IsTrue (f && not r) → ⊥
+    neither true true h k = cc
+    neither true false h k = cc
+    neither false r h k = cc
+
+corner_grown : (b : Extent) (d : Cell) → IsTrue (is_corner b d) → IsTrue (holds (grown b) d)
+corner_grown b d h = frame_grown b d (first_of_both (in_frame b d) (within b.lo.x b.hi.x d.x || within b.lo.y b.hi.y d.y) h)
+
+pub ghost_keeps_cells : (q r : Patch) (c : Cell) (v : ℕ) (t : Bool) → IsTrue (in_frame (box q) c) → IsTrue (is_beside (box q) c) → IsGhostSet q r c v t → KeepsCells q r
+ghost_keeps_cells q r c v t ghost beside s = record {
   of_box = s.of_box;
   masses = λ d h. s.others d (in_grown (box q) d h) (apart_cells (box q) c d ghost h);
   fluxes = s.fluxes;
+  corners = record {
+    values = λ d h. s.others d (corner_grown (box q) d h) (corner_apart (box q) c d beside h);
+    marks = λ d h. s.marks d (corner_grown (box q) d h) (corner_apart (box q) c d beside h);
+  };
 }
 
 -- the cell that is set has its value and its mark; another keeps its own

@@ -10,6 +10,7 @@ use Rattle.amr_box.specs.Cells.{Extent, holds}
 use Rattle.amr_patch.specs.declared.patches.Patch.{Patch}
 use Rattle.amr_patch.specs.Places.{in_frame}
 use Rattle.amr_patch.specs.Patches.{ArePatchesApart, box, in_patches, masses_in, mass_in}
+use Rattle.amr_ghost.specs.Frames.{is_corner}
 use Rattle.amr_ghost.specs.Filling.{KeepsCells, KeepsGhosts}
 
 pub zip_refl : (R : Patch → Patch → Type 0) → ((q : Patch) → R q q) → (ps : List Patch) → AllZip R ps ps
@@ -40,13 +41,17 @@ zip_map R S into (p ∷ ps) (q ∷ qs) h = (into p q h.0, zip_map R S into ps qs
 -- ---- cells are kept
 
 pub keeps_refl : (q : Patch) → KeepsCells q q
-keeps_refl q = record { of_box = refl; masses = λ c h. refl; fluxes = λ f. refl }
+keeps_refl q = record { of_box = refl; masses = λ c h. refl; fluxes = λ f. refl; corners = record { values = λ c h. refl; marks = λ c h. refl } }
 
 pub keeps_trans : (p q r : Patch) → KeepsCells p q → KeepsCells q r → KeepsCells p r
 keeps_trans p q r h k = record {
   of_box = k.of_box ∙ h.of_box;
   masses = λ c t. k.masses c (subst (λ (b : Extent). IsTrue (holds b c)) (sym h.of_box) t) ∙ h.masses c t;
   fluxes = λ f. k.fluxes f ∙ h.fluxes f;
+  corners = record {
+    values = λ c t. k.corners.values c (subst (λ (b : Extent). IsTrue (is_corner b c)) (sym h.of_box) t) ∙ h.corners.values c t;
+    marks = λ c t. k.corners.marks c (subst (λ (b : Extent). IsTrue (is_corner b c)) (sym h.of_box) t) ∙ h.corners.marks c t;
+  };
 }
 
 pub zip_boxes : (ps qs : List Patch) → AllZip KeepsCells ps qs → map box qs ≡ map box ps

@@ -14,16 +14,17 @@ use Rattle.amr_patch.specs.Places.{in_frame}
 use Rattle.amr_patch.specs.Patches.{ArePatchesApart, SameFluxes, SameOtherMarks, SameOtherValues, box, mark_in, mass_in, masses_in, value_in}
 use Rattle.amr_patch.specs.declared.lookup.Order.{Order}
 use Rattle.amr_patch.specs.Orders.{IsOrderOf}
-use Rattle.amr_ghost.specs.Frames.{AreInDomain, SameMasses, is_beside, is_of_level}
-use Rattle.amr_ghost.specs.Lines.{step}
+use Rattle.amr_ghost.specs.Frames.{AreInDomain, KeepsCorners, SameMasses, is_beside, is_of_level}
+use Rattle.amr_ghost.specs.Strips.{step}
 use Rattle.amr_ghost.specs.declared.sides.Side.{Side}
 use Rattle.amr_ghost.specs.declared.sides.Side.TheVariants.{East, North, South, West}
 
--- a patch keeps all but its frame
+-- a patch keeps all but the ghost cells beside it
 pub record KeepsCells (q r : Patch) : Type 0 where
   pub of_box : box r ≡ box q
   pub masses : SameMasses q r
   pub fluxes : SameFluxes q r
+  pub corners : KeepsCorners q r
 
 -- a ghost cell has a value and a mark
 pub record HasGhost (value : Cell → ℕ) (mark : Cell → Bool) (q : Patch) (c : Cell) : Type 0 where
@@ -48,16 +49,17 @@ abbrev pub size_along : Axis → Domain → ℕ
 size_along X d = d.columns
 size_along Y d = d.rows
 
--- the first cells of a line along an axis are ghost cells of a box, in rows or columns of the domain
-pub record IsGhostLine (d : Domain) (b : Extent) (axis : Axis) (c : Cell) (count : ℕ) : Type 0 where
+-- the first cells of a strip along an axis are ghost cells of a box, in rows or columns of the domain
+pub record IsGhostStrip (d : Domain) (b : Extent) (axis : Axis) (c : Cell) (count : ℕ) : Type 0 where
   pub ghosts : (k : ℕ) → k < count → IsTrue (in_frame b (step axis c k))
+  pub beside : (k : ℕ) → k < count → IsTrue (is_beside b (step axis c k))
   pub inside : (k : ℕ) → k < count → IsTrue (is_inside (size_along axis d) (along axis c +ℤ pos k))
 
--- the first ghost cells of a line have a value and a mark
+-- the first ghost cells of a strip have a value and a mark
 pub record HasGhosts (value : Cell → ℕ) (mark : Cell → Bool) (q : Patch) (axis : Axis) (c : Cell) (count : ℕ) : Type 0 where
   pub at : (k : ℕ) → k < count → HasGhost value mark q (step axis c k)
 
--- the first cells of a line have as values the masses that a patch has along another line, and are marked
+-- the first cells of a strip have as values the masses that a patch has along another strip, and are marked
 pub record AreCopied (value : Cell → ℕ) (mark : Cell → Bool) (q : Patch) (axis : Axis) (to from : Cell) (count : ℕ) : Type 0 where
   pub values : (k : ℕ) → k < count → value (step axis to k) ≡ mass_in q (step axis from k)
   pub marks : (k : ℕ) → k < count → mark (step axis to k) ≡ true
@@ -72,7 +74,7 @@ pub record IsLevelInOrder (d : Domain) (o : Order) (ps : List Patch) : Type 0 wh
 abbrev pub KeepsValues : Problem → ℕ → Masses → List Patch → List Patch → Type 0
 KeepsValues p l old ps qs = AllZip (KeepsGhosts (value_at p l (masses_in ps) old) (is_of_level p l (masses_in ps))) ps qs
 
--- the first ghost cells of a line have the value and the mark of their cell
+-- the first ghost cells of a strip have the value and the mark of their cell
 abbrev pub HasValues : Problem → ℕ → Masses → Masses → Patch → Axis → Cell → ℕ → Type 0
 HasValues p l m old q axis c count = HasGhosts (value_at p l m old) (is_of_level p l m) q axis c count
 
@@ -103,7 +105,7 @@ pub record HasFrame (p : Problem) (l : ℕ) (m old : Masses) (q : Patch) : Type 
   pub at : (c : Cell) → IsTrue (is_beside (box q) c) → HasGhost (value_at p l m old) (is_of_level p l m) q c
 
 -- where a box that has a cell lies in a domain
-pub record LiesIn (d : Domain) (b : Extent) : Type 0 where
+pub record LiesInDomain (d : Domain) (b : Extent) : Type 0 where
   pub wide : b.lo.x ≤ℤ b.hi.x
   pub high : b.lo.y ≤ℤ b.hi.y
   pub west : pos 0 ≤ℤ b.lo.x

@@ -1,5 +1,5 @@
 -- The frame of a patch when it is filled: the value of each cell beside the patch, and whether it is a cell of the level.
-use Rattle.std.specs.Prelude.{◌≡◌, ℕ, Bool, ◌&&◌, ◌||◌, List, IsTrue, is_some}
+use Rattle.std.specs.Prelude.{◌≡◌, ℕ, Bool, ◌&&◌, ◌||◌, not, List, IsTrue, is_some}
 use Rattle.std.specs.declared.option.Option.{Option}
 use Rattle.std.specs.declared.option.Option.TheVariants.{None, Some}
 use Rattle.amr_box.specs.declared.Cell.{Cell}
@@ -19,6 +19,10 @@ use Rattle.amr_patch.specs.Patches.{box, ghost_in, in_patches, mark_in, mass_in}
 abbrev pub is_beside : Extent → Cell → Bool
 is_beside b c = in_frame b c && (within b.lo.x b.hi.x c.x || within b.lo.y b.hi.y c.y)
 
+-- whether a cell is a corner of the frame, which no face of a cell of the box touches
+abbrev pub is_corner : Extent → Cell → Bool
+is_corner b c = in_frame b c && not (within b.lo.x b.hi.x c.x || within b.lo.y b.hi.y c.y)
+
 -- whether a cell stands for one of the level
 abbrev pub is_of_level : Problem → ℕ → Masses → Cell → Bool
 is_of_level p l m c = is_some (m (home_cell (domain p l) c))
@@ -35,6 +39,11 @@ HasGhostMarks p l m q = (c : Cell) → IsTrue (is_beside (box q) c) → mark_in 
 -- each cell of the patch has the mass that it had
 abbrev pub SameMasses : Patch → Patch → Type 0
 SameMasses q r = (c : Cell) → IsTrue (holds (box q) c) → mass_in r c ≡ mass_in q c
+
+-- the corners of a frame keep their values and their marks
+pub record KeepsCorners (q r : Patch) : Type 0 where
+  pub values : (c : Cell) → IsTrue (is_corner (box q) c) → ghost_in r c ≡ ghost_in q c
+  pub marks : (c : Cell) → IsTrue (is_corner (box q) c) → mark_in r c ≡ mark_in q c
 
 -- the cells of the patches are cells of the domain
 abbrev pub AreInDomain : Domain → List Patch → Type 0

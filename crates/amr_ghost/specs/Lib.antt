@@ -1,3 +1,3 @@
-pub mod Lines
+pub mod Strips
 pub mod Frames
 pub mod Filling

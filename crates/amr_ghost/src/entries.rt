@@ -1,30 +1,20 @@
-// Where the entries of the cells of a line stand in the lists of a patch.
+//! Where the entries of the cells of a strip stand in the lists of a patch.
 
 ghost use Rattle.std.specs.Prelude.{◌≡◌, ℕ, ◌+◌, ◌*◌, ◌<◌, ◌^◌, pos, negsuc, ◌-ℤ◌, ◌≤ℤ◌, ◌<ℤ◌, IsTrue};
 ghost use Rattle.amr_box.specs.Cells.{IsNear, holds};
 ghost use Rattle.amr_patch.specs.Places.{grown, place};
-ghost use Rattle.amr_ghost.specs.Lines.{step};
+ghost use Rattle.amr_ghost.specs.Strips.{step};
 
-use amr_box::{Axis, Bx, Cell};
+use amr_box::{Axis, Bx, Cell, distance};
 
-/// The places of a line's cells: that of the first cell, and how many places on that of each next one is.
+/// The places of a strip's cells: that of the first cell, and how many places on that of each next one is.
 #[derive(Clone, Copy, Debug)]
 pub(crate) struct Entries {
     pub(crate) first: usize,
     pub(crate) stride: usize,
 }
 
-/// How far a coordinate lies above another that isn't greater. Both lie between -2^25 and 2^25.
-fn distance(low: i32, z: i32) -> usize
-    requires from { negsuc 33554432 <ℤ low }
-    requires order { low ≤ℤ z }
-    requires to { z <ℤ pos 33554433 }
-    ensures { pos result ≡ z -ℤ low }
-{
-    (z - low) as usize
-}
-
-/// The places of the cells of a line in a patch of this box.
+/// The places of the cells of a strip in a patch of this box.
 pub(crate) fn entries_of(b: &Bx, axis: Axis, c: Cell) -> Entries
     requires near { IsNear b.now }
     requires inside { IsTrue (holds (grown b.now) c) }
@@ -45,9 +35,9 @@ pub(crate) fn entries_of(b: &Bx, axis: Axis, c: Cell) -> Entries
 }
 
 /// The place of the cell that is `k` cells on.
-pub(crate) fn nth(line: Entries, k: u32) -> usize
-    requires { line.first + k * line.stride < 2 ^ 63 }
-    ensures { result ≡ line.first + k * line.stride }
+pub(crate) fn nth(strip: Entries, k: u32) -> usize
+    requires { strip.first + k * strip.stride < 2 ^ 63 }
+    ensures { result ≡ strip.first + k * strip.stride }
 {
-    line.first + k as usize * line.stride
+    strip.first + k as usize * strip.stride
 }

@@ -1,4 +1,4 @@
-//! Frames are filled side by side, and a side run by run.
+//! Frames are filled side by side, and a side span by span.
 
 ghost use Rattle.std.specs.Prelude.{◌≡◌, ℕ, ◌+◌, ◌<◌, ◌≤◌, length, map, slice_index_or, is_some, IfSome, IsTrue};
 ghost use Rattle.std.specs.Option.{option_copied};
@@ -9,14 +9,14 @@ ghost use Rattle.amr_def.specs.Value.{value_at};
 ghost use Rattle.amr_patch.specs.declared.patches.Patch.{Patch};
 ghost use Rattle.amr_patch.specs.Patches.{ArePatchesApart, SameFluxes, box, in_patches, masses_in};
 ghost use Rattle.amr_patch.specs.Orders.{IsHolder, IsOrderOf};
-ghost use Rattle.amr_ghost.specs.Lines.{HasRoom};
-ghost use Rattle.amr_ghost.specs.Frames.{AreInDomain, HasGhostMarks, HasGhostValues, SameMasses, is_of_level, old_masses};
-ghost use Rattle.amr_ghost.specs.Filling.{HasFrame, HasSideValues, HasValues, IsGhostLine, IsLevelInOrder, KeepsCells, KeepsValues, LiesIn};
+ghost use Rattle.amr_ghost.specs.Strips.{HasRoom};
+ghost use Rattle.amr_ghost.specs.Frames.{AreInDomain, HasGhostMarks, HasGhostValues, KeepsCorners, SameMasses, is_of_level, old_masses};
+ghost use Rattle.amr_ghost.specs.Filling.{HasFrame, HasSideValues, HasValues, IsGhostStrip, IsLevelInOrder, KeepsCells, KeepsValues, LiesInDomain};
 
-use crate::ghosts::{copy_line, set_ghost};
+use crate::ghosts::{copy_strip, set_ghost};
 use crate::lookup::{Near, look_up};
-use crate::places::{cells_ahead, home_cell, in_domain, step};
-use crate::sides::{Line, Side, side_line};
+use crate::places::{cells_ahead, step};
+use crate::sides::{Side, Strip, side_strip};
 use crate::values::outer_value;
 use amr_box::Cell;
 use amr_def::{Dom, Problem};
@@ -37,83 +37,83 @@ fn holder(patches: &[Patch], order: Order, dom: &Dom, near: &mut usize, c: Cell)
     ensures some { is_some result ≡ in_patches patches.now c }
     ensures found { IfSome result (IsHolder patches.now c) }
 {
-    if !in_domain(dom, c) {
+    if !dom.in_domain(c) {
         return None;
     }
     look_up(patches, order, near, c)
 }
 
-/// Gives the first ghost cells of a line beside patch `i` their values: as many as stand for cells of one patch, or one that
+/// Gives the first ghost cells of a strip beside patch `i` their values: as many as stand for cells of one patch, or one that
 /// stands for no cell of the level. Answers how many.
-fn fill_run(
+fn fill_span(
     p: &Problem,
     l: u32,
     old: Option<&Level>,
     order: Order,
     patches: &mut [Patch],
     i: usize,
-    line: Line,
+    strip: Strip,
     near: &mut Near,
 ) -> u32
     requires level { l ≤ 4 }
     requires patches { IsLevelInOrder (domain p.now l) order patches.old }
     requires there { i < length patches.old }
-    requires some { 0 < line.count }
-    requires small { line.count ≤ 8192 }
-    requires room { HasRoom line.from }
-    requires ghost_line { (q : Patch) → IsGhostLine (domain p.now l) (box (slice_index_or patches.old i q)) line.axis line.from line.count }
+    requires some { 0 < strip.count }
+    requires small { strip.count ≤ 8192 }
+    requires room { HasRoom strip.from }
+    requires ghost_strip { (q : Patch) → IsGhostStrip (domain p.now l) (box (slice_index_or patches.old i q)) strip.axis strip.from strip.count }
     ensures some { 0 < result }
-    ensures within { result ≤ line.count }
+    ensures within { result ≤ strip.count }
     ensures kept { AllZip KeepsCells patches.old patches.new }
     ensures ghosts { KeepsValues p.now l (old_masses (option_copied old.entry)) patches.old patches.new }
-    ensures set { (q : Patch) → HasValues p.now l (masses_in patches.old) (old_masses (option_copied old.entry)) (slice_index_or patches.new i q) line.axis line.from result }
+    ensures set { (q : Patch) → HasValues p.now l (masses_in patches.old) (old_masses (option_copied old.entry)) (slice_index_or patches.new i q) strip.axis strip.from result }
 {
     let dom = p.domain(l);
-    let home = home_cell(&dom, line.from);
+    let home = dom.home_cell(strip.from);
     match holder(patches, order, &dom, &mut near.level, home) {
         Some(j) => {
             let source = patches[j].bx();
-            let count = cells_ahead(&source, line.axis, home).min(line.count);
-            copy_line(patches, i, j, line.axis, line.from, home, count);
+            let count = cells_ahead(&source, strip.axis, home).min(strip.count);
+            copy_strip(patches, i, j, strip.axis, strip.from, home, count);
             count
         }
         None => {
             let value = outer_value(p, l, old, &mut near.coarser, home);
-            set_ghost(patches, i, line.from, value, false);
+            set_ghost(patches, i, strip.from, value, false);
             1
         }
     }
 }
 
-/// Gives the ghost cells of a line beside patch `i` their values, run by run.
-fn fill_line(
+/// Gives the ghost cells of a strip beside patch `i` their values, span by span.
+fn fill_strip(
     p: &Problem,
     l: u32,
     old: Option<&Level>,
     order: Order,
     patches: &mut [Patch],
     i: usize,
-    line: Line,
+    strip: Strip,
     near: &mut Near,
 )
     requires level { l ≤ 4 }
     requires patches { IsLevelInOrder (domain p.now l) order patches.old }
     requires there { i < length patches.old }
-    requires small { line.count ≤ 8192 }
-    requires room { HasRoom line.from }
-    requires ghost_line { (q : Patch) → IsGhostLine (domain p.now l) (box (slice_index_or patches.old i q)) line.axis line.from line.count }
+    requires small { strip.count ≤ 8192 }
+    requires room { HasRoom strip.from }
+    requires ghost_strip { (q : Patch) → IsGhostStrip (domain p.now l) (box (slice_index_or patches.old i q)) strip.axis strip.from strip.count }
     ensures kept { AllZip KeepsCells patches.old patches.new }
     ensures ghosts { KeepsValues p.now l (old_masses (option_copied old.entry)) patches.old patches.new }
-    ensures set { (q : Patch) → HasValues p.now l (masses_in patches.old) (old_masses (option_copied old.entry)) (slice_index_or patches.new i q) line.axis line.from line.count }
+    ensures set { (q : Patch) → HasValues p.now l (masses_in patches.old) (old_masses (option_copied old.entry)) (slice_index_or patches.new i q) strip.axis strip.from strip.count }
 {
     let mut done = 0;
-    while done < line.count {
-        let rest = Line {
-            axis: line.axis,
-            from: step(line.axis, line.from, done),
-            count: line.count - done,
+    while done < strip.count {
+        let rest = Strip {
+            axis: strip.axis,
+            from: step(strip.axis, strip.from, done),
+            count: strip.count - done,
         };
-        done += fill_run(p, l, old, order, patches, i, rest, near);
+        done += fill_span(p, l, old, order, patches, i, rest, near);
     }
 }
 
@@ -134,10 +134,10 @@ fn fill_side(
     ensures kept { AllZip KeepsCells patches.old patches.new }
     ensures ghosts { KeepsValues p.now l (old_masses (option_copied old.entry)) patches.old patches.new }
     ensures set { (q : Patch) → HasSideValues p.now l (masses_in patches.old) (old_masses (option_copied old.entry)) (slice_index_or patches.new i q) side }
-    ensures inside { (q : Patch) → LiesIn (domain p.now l) (box (slice_index_or patches.new i q)) }
+    ensures inside { (q : Patch) → LiesInDomain (domain p.now l) (box (slice_index_or patches.new i q)) }
 {
-    let line = side_line(&patches[i].bx(), side);
-    fill_line(p, l, old, order, patches, i, line, near);
+    let strip = side_strip(&patches[i].bx(), side);
+    fill_strip(p, l, old, order, patches, i, strip, near);
 }
 
 /// Gives the ghost cells beside patch `i` their values.
@@ -180,10 +180,27 @@ pub fn fill(p: &Problem, l: u32, patches: &mut [Patch], old: Option<&Level>)
     ensures filled { All (HasGhostValues p.now l (masses_in patches.old) (old_masses (option_copied old.entry))) patches.new }
     ensures marked { All (HasGhostMarks p.now l (masses_in patches.old)) patches.new }
     ensures masses { AllZip SameMasses patches.old patches.new }
+    ensures corners { AllZip KeepsCorners patches.old patches.new }
     ensures fluxes { AllZip SameFluxes patches.old patches.new }
     ensures boxes { map box patches.new ≡ map box patches.old }
 {
     let order = order_of(patches);
+    fill_in_order(p, l, patches, order, old);
+}
+
+/// The same, where it is known how the patches stand, as where they were taken from a level and each kept its box.
+pub fn fill_in_order(p: &Problem, l: u32, patches: &mut [Patch], order: Order, old: Option<&Level>)
+    requires level { l ≤ 4 }
+    requires order { IsOrderOf order patches.old }
+    requires apart { ArePatchesApart patches.old }
+    requires inside { AreInDomain (domain p.now l) patches.old }
+    ensures filled { All (HasGhostValues p.now l (masses_in patches.old) (old_masses (option_copied old.entry))) patches.new }
+    ensures marked { All (HasGhostMarks p.now l (masses_in patches.old)) patches.new }
+    ensures masses { AllZip SameMasses patches.old patches.new }
+    ensures corners { AllZip KeepsCorners patches.old patches.new }
+    ensures fluxes { AllZip SameFluxes patches.old patches.new }
+    ensures boxes { map box patches.new ≡ map box patches.old }
+{
     let first = Near {
         level: 0,
         coarser: 0,

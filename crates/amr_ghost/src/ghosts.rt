@@ -1,13 +1,14 @@
-// Ghost cells of a patch, given their values.
+//! Ghost cells of a patch, given their values.
 
-ghost use Rattle.std.specs.Prelude.{◌≡◌, ℕ, ◌+◌, ◌<◌, ◌≤◌, length, slice_index, slice_index_or, slice_set, true, Bool, IsTrue};
+ghost use Rattle.std.specs.Prelude.{◌≡◌, ℕ, ◌+◌, ◌^◌, ◌<◌, ◌≤◌, length, slice_index, slice_index_or, slice_set, true, Bool, IsTrue};
 ghost use Rattle.std.specs.List.{AllZip};
 ghost use Rattle.amr_box.specs.declared.Cell.{Cell};
 ghost use Rattle.amr_box.specs.Cells.{holds};
 ghost use Rattle.amr_patch.specs.declared.patches.Patch.{Patch};
 ghost use Rattle.amr_patch.specs.Places.{in_frame, place};
 ghost use Rattle.amr_patch.specs.Patches.{box, mass_in};
-ghost use Rattle.amr_ghost.specs.Lines.{HasRoom, step};
+ghost use Rattle.amr_ghost.specs.Strips.{HasRoom, step};
+ghost use Rattle.amr_ghost.specs.Frames.{is_beside};
 ghost use Rattle.amr_ghost.specs.Filling.{AreCopied, HasGhost, HasGhosts, IsGhostSet, KeepsCells, KeepsGhosts};
 
 use crate::entries::{entries_of, nth};
@@ -18,6 +19,8 @@ use amr_patch::Patch;
 pub(crate) fn set_ghost(patches: &mut [Patch], i: usize, c: Cell, v: u64, of_level: bool)
     requires there { i < length patches.old }
     requires ghost_cell { (q : Patch) → IsTrue (in_frame (box (slice_index_or patches.old i q)) c) }
+    requires beside { (q : Patch) → IsTrue (is_beside (box (slice_index_or patches.old i q)) c) }
+    requires small { v < 2 ^ 32 }
     ensures kept { AllZip KeepsCells patches.old patches.new }
     ensures ghosts { (value : Cell → ℕ) (mark : Cell → Bool) → value c ≡ v → mark c ≡ of_level → AllZip (KeepsGhosts value mark) patches.old patches.new }
     ensures set { (value : Cell → ℕ) (mark : Cell → Bool) (q : Patch) → value c ≡ v → mark c ≡ of_level → HasGhost value mark (slice_index_or patches.new i q) c }
@@ -26,7 +29,7 @@ pub(crate) fn set_ghost(patches: &mut [Patch], i: usize, c: Cell, v: u64, of_lev
 }
 
 /// The mass at a place.
-fn entry(patch: &Patch, at: usize) -> u64
+fn entry(patch: &Patch, at: usize) -> u32
     requires { at < length patch.now.values.items }
     ensures { result ≡ slice_index patch.now.values.items at }
 {
@@ -34,7 +37,7 @@ fn entry(patch: &Patch, at: usize) -> u64
 }
 
 /// Gives the ghost cell whose entries stand at a place a mass, and marks it as a cell of the level.
-fn set_entry(patch: &mut Patch, at: usize, mass: u64)
+fn set_entry(patch: &mut Patch, at: usize, mass: u32)
     requires { at < length patch.old.values.items }
     ensures { (c : Cell) → IsTrue (in_frame (box patch.old) c) → at ≡ place (box patch.old) c → IsGhostSet patch.old patch.new c mass true }
 {
@@ -42,9 +45,9 @@ fn set_entry(patch: &mut Patch, at: usize, mass: u64)
     patch.marks[at] = true;
 }
 
-/// Gives the ghost cells of a line beside patch `i` the masses of the cells of a line in patch `j`, and marks them as cells of
+/// Gives the ghost cells of a strip beside patch `i` the masses of the cells of a strip in patch `j`, and marks them as cells of
 /// the level. `j` may be `i`.
-pub(crate) fn copy_line(
+pub(crate) fn copy_strip(
     patches: &mut [Patch],
     i: usize,
     j: usize,
@@ -59,6 +62,7 @@ pub(crate) fn copy_line(
     requires to_room { HasRoom to }
     requires from_room { HasRoom from }
     requires ghost_cells { (q : Patch) (k : ℕ) → k < count → IsTrue (in_frame (box (slice_index_or patches.old i q)) (step axis to k)) }
+    requires beside { (q : Patch) (k : ℕ) → k < count → IsTrue (is_beside (box (slice_index_or patches.old i q)) (step axis to k)) }
     requires masses { (q : Patch) (k : ℕ) → k < count → IsTrue (holds (box (slice_index_or patches.old j q)) (step axis from k)) }
     ensures kept { AllZip KeepsCells patches.old patches.new }
     ensures ghosts { (value : Cell → ℕ) (mark : Cell → Bool) (d : Patch) → AreCopied value mark (slice_index_or patches.old j d) axis to from count → AllZip (KeepsGhosts value mark) patches.old patches.new }

@@ -10,8 +10,7 @@ mod places;
 mod sides;
 mod values;
 
-pub use filling::fill;
-pub use places::home_cell;
+pub use filling::{fill, fill_in_order};
 
 #[cfg(test)]
 mod tests;

@@ -1,4 +1,4 @@
-// Look-ups that begin where the last one ended.
+//! Look-ups that begin where the last one ended.
 
 ghost use Rattle.std.specs.Prelude.{◌≡◌, is_some, IfSome};
 ghost use Rattle.amr_patch.specs.Patches.{ArePatchesApart, in_patches};

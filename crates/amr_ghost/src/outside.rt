@@ -1,6 +1,6 @@
-// The value of a cell outside an open side.
+//! The value of a cell outside an open side.
 
-ghost use Rattle.std.specs.Prelude.{◌≡◌, ◌≤◌, ◌/◌, ◌^◌};
+ghost use Rattle.std.specs.Prelude.{◌≡◌, ◌<◌, ◌≤◌, ◌/◌, ◌^◌};
 ghost use Rattle.amr_def.specs.Value.{high_inflow, inflow_at, low_inflow};
 
 use amr_box::Cell;
@@ -47,7 +47,8 @@ fn inflow_at(p: &Problem, l: u32, c: Cell) -> u64
 /// The value of a cell outside of a side: the side's inflow, at each finer level a quarter of that of the level below.
 pub(crate) fn outside_value(p: &Problem, l: u32, c: Cell) -> u64
     requires { l ≤ 4 }
-    ensures { result ≡ inflow_at p.now l c / 4 ^ l }
+    ensures value { result ≡ inflow_at p.now l c / 4 ^ l }
+    ensures small { result < 2 ^ 32 }
 {
     inflow_at(p, l, c) >> (2 * l)
 }

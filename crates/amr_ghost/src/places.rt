@@ -1,12 +1,10 @@
-// Cells of a line, and the cells that they stand for.
+//! Cells of a strip.
 
 ghost use Rattle.std.specs.Prelude.{◌≡◌, ◌<◌, ◌≤◌, pos, negsuc, ◌+ℤ◌, ◌≤ℤ◌, ◌<ℤ◌, IsTrue};
-ghost use Rattle.amr_box.specs.Cells.{IsNear, along, holds, parent};
-ghost use Rattle.amr_def.specs.Domain.{domain_of, home_cell, in_domain, is_inside, wrapped};
-ghost use Rattle.amr_ghost.specs.Lines.{HasRoom, step};
+ghost use Rattle.amr_box.specs.Cells.{IsNear, along, holds};
+ghost use Rattle.amr_ghost.specs.Strips.{HasRoom, step};
 
 use amr_box::{Axis, Bx, Cell};
-use amr_def::Dom;
 
 /// The cell that lies `k` cells from another along an axis.
 pub(crate) fn step(axis: Axis, c: Cell, k: u32) -> Cell
@@ -23,54 +21,6 @@ pub(crate) fn step(axis: Axis, c: Cell, k: u32) -> Cell
             x: c.x,
             y: c.y + k as i32,
         },
-    }
-}
-
-/// A coordinate of an axis of `n` cells, taken modulo `n` where the axis is periodic. Most are inside, and take no division.
-fn wrapped(wrap: bool, n: u32, z: i32) -> i32
-    requires some { 0 < n }
-    requires few { n ≤ 4096 }
-    ensures { result ≡ wrapped wrap n z }
-{
-    if is_inside(n, z) {
-        return z;
-    }
-    if wrap { z.rem_euclid(n as i32) } else { z }
-}
-
-/// Whether a coordinate is one of `n` cells.
-fn is_inside(n: u32, z: i32) -> bool
-    requires { n ≤ 4096 }
-    ensures { result ≡ is_inside n z }
-{
-    0 <= z && z < n as i32
-}
-
-/// The cell that a cell stands for: on a periodic axis a coordinate is taken modulo the number of cells.
-pub fn home_cell(dom: &Dom, c: Cell) -> Cell
-    ensures { result ≡ home_cell (domain_of dom.now) c }
-{
-    Cell {
-        x: wrapped(dom.wrap_x, dom.columns(), c.x),
-        y: wrapped(dom.wrap_y, dom.rows(), c.y),
-    }
-}
-
-/// Whether a cell is one of the domain.
-#[tactic(auto, unfolding(amr_def::specs::Domain::in_domain))]
-pub(crate) fn in_domain(dom: &Dom, c: Cell) -> bool
-    ensures { result ≡ in_domain (domain_of dom.now) c }
-{
-    is_inside(dom.columns(), c.x) && is_inside(dom.rows(), c.y)
-}
-
-/// The cell of the next coarser level that a cell lies in.
-pub(crate) fn parent(c: Cell) -> Cell
-    ensures { result ≡ parent c }
-{
-    Cell {
-        x: c.x.div_euclid(2),
-        y: c.y.div_euclid(2),
     }
 }
 

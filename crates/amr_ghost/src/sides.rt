@@ -1,8 +1,8 @@
-// The sides of a box, and the cells along them.
+//! The sides of a box, and the cells along them.
 
 ghost use Rattle.std.specs.Prelude.{◌≡◌, ◌≤◌};
 ghost use Rattle.amr_box.specs.Cells.{IsNear, IsProper};
-ghost use Rattle.amr_ghost.specs.Lines.{HasRoom};
+ghost use Rattle.amr_ghost.specs.Strips.{HasRoom};
 ghost use Rattle.amr_ghost.specs.Filling.{side_axis, side_count, side_from};
 
 use amr_box::{Axis, Bx, Cell};
@@ -16,16 +16,16 @@ pub(crate) enum Side {
     North,
 }
 
-/// The cells of a line along an axis, from its first cell on.
+/// The cells of a strip along an axis, from its first cell on.
 #[derive(Clone, Copy, Debug)]
-pub(crate) struct Line {
+pub(crate) struct Strip {
     pub(crate) axis: Axis,
     pub(crate) from: Cell,
     pub(crate) count: u32,
 }
 
 /// The cells beside a box along one of its sides.
-pub(crate) fn side_line(b: &Bx, side: Side) -> Line
+pub(crate) fn side_strip(b: &Bx, side: Side) -> Strip
     requires near { IsNear b.now }
     ensures axis { result.axis ≡ side_axis side }
     ensures from { result.from ≡ side_from b.now side }
@@ -35,7 +35,7 @@ pub(crate) fn side_line(b: &Bx, side: Side) -> Line
     let lo = b.lo();
     let hi = b.hi();
     match side {
-        Side::West => Line {
+        Side::West => Strip {
             axis: Axis::Y,
             from: Cell {
                 x: lo.x - 1,
@@ -43,7 +43,7 @@ pub(crate) fn side_line(b: &Bx, side: Side) -> Line
             },
             count: b.height(),
         },
-        Side::East => Line {
+        Side::East => Strip {
             axis: Axis::Y,
             from: Cell {
                 x: hi.x + 1,
@@ -51,7 +51,7 @@ pub(crate) fn side_line(b: &Bx, side: Side) -> Line
             },
             count: b.height(),
         },
-        Side::South => Line {
+        Side::South => Strip {
             axis: Axis::X,
             from: Cell {
                 x: lo.x,
@@ -59,7 +59,7 @@ pub(crate) fn side_line(b: &Bx, side: Side) -> Line
             },
             count: b.width(),
         },
-        Side::North => Line {
+        Side::North => Strip {
             axis: Axis::X,
             from: Cell {
                 x: lo.x,

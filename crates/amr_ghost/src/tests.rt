@@ -1,4 +1,4 @@
-//! Frames of small levels: a ring in three pieces, a patch beside itself, open sides, and a fine box in a coarse level.
+//! Frames of small levels: a ring in three patches, a patch beside itself, open sides, and a fine box in a coarse level.
 
 ghost use Rattle.std.specs.Prelude.{◌≡◌, ℕ, ◌<◌, ◌≤◌, length, slice_index_or, IfOk, IsTrue, true, false};
 ghost use Rattle.amr_box.specs.declared.Cell.{Cell};
@@ -10,7 +10,6 @@ ghost use Rattle.amr_patch.specs.Patches.{ArePatchesApart, box};
 ghost use Rattle.amr_ghost.specs.Frames.{AreInDomain};
 
 use super::*;
-use crate::places::in_domain;
 use amr_box::{Bx, Cell};
 use amr_def::{Blocks, Dom, Name, Problem, Shear, Sides, Thresholds};
 use amr_patch::{Level, Patch};
@@ -31,6 +30,7 @@ fn problem(alloc: Global, nx: u32, ny: u32, x: Sides, y: Sides) -> Result<Proble
     requires y_inflows { has_inflows y ≡ true }
 {
     Ok(Problem {
+        version: 1,
         name: Name::make(Vec::from_slice(alloc, b"ghosts")?),
         nx,
         ny,
@@ -72,14 +72,14 @@ fn patch(alloc: Global, x0: u8, y0: u8, x1: u8, y1: u8) -> Result<Patch, Fail>
 }
 
 /// Gives a cell of a patch a mass; false where the patch has no such cell.
-fn set(patches: &mut [Patch], k: usize, c: Cell, m: u64) -> bool {
+fn set(patches: &mut [Patch], k: usize, c: Cell, m: u32) -> bool {
     if k >= patches.len() {
         return false;
     }
     if !patches[k].bx().holds(c) {
         return false;
     }
-    patches[k].set_mass(c, m);
+    patches[k].set_mass(c, u64::from(m));
     true
 }
 
@@ -131,10 +131,10 @@ fn is_in_domain(dom: &Dom, patch: &Patch) -> bool
     ensures { result ≡ true → (c : Cell) → IsTrue (holds (box patch.now) c) → IsTrue (in_domain (domain_of dom.now) c) }
 {
     let b = patch.bx();
-    if !in_domain(dom, b.lo()) {
+    if !dom.in_domain(b.lo()) {
         return false;
     }
-    in_domain(dom, b.hi())
+    dom.in_domain(b.hi())
 }
 
 /// Whether the patches lie in the domain of level `l`.
@@ -151,8 +151,22 @@ fn are_in_domain(p: &Problem, l: u32, patches: &[Patch]) -> bool
     true
 }
 
+/// Fills the frames of the patches of level `l`, if they are those of a level.
+fn fill_level(p: &Problem, l: u32, patches: &mut [Patch], old: Option<&Level>) -> bool
+    requires { l ≤ 4 }
+{
+    if !are_apart(patches) {
+        return false;
+    }
+    if !are_in_domain(p, l, patches) {
+        return false;
+    }
+    fill(p, l, patches, old);
+    true
+}
+
 #[test]
-fn ring_in_three_pieces(rt: HostRuntime) -> Result<(), Fail> {
+fn ring_in_three_patches(rt: HostRuntime) -> Result<(), Fail> {
     let alloc = rt.alloc();
     let p = problem(alloc, 9, 3, Sides::Periodic, Sides::Periodic)?;
     let mut patches = Vec::new(alloc);
@@ -163,9 +177,7 @@ fn ring_in_three_pieces(rt: HostRuntime) -> Result<(), Fail> {
     assert!(rt; set(&mut patches, 1, cell(4, 0), 5));
     assert!(rt; set(&mut patches, 2, cell(8, 0), 8));
     assert!(rt; set(&mut patches, 2, cell(8, 2), 9));
-    assert!(rt; are_apart(&patches));
-    assert!(rt; are_in_domain(&p, 0, &patches));
-    fill(&p, 0, &mut patches, None);
+    assert!(rt; fill_level(&p, 0, &mut patches, None));
     assert_eq!(rt; ghost_at(&patches, 0, cell(-1, 0)), Some((8, true)));
     assert_eq!(rt; ghost_at(&patches, 0, cell(-1, 2)), Some((9, true)));
     assert_eq!(rt; ghost_at(&patches, 0, cell(4, 0)), Some((5, true)));
@@ -185,9 +197,7 @@ fn one_patch_beside_itself(rt: HostRuntime) -> Result<(), Fail> {
     patches.push(patch(alloc, 0, 0, 3, 1)?)?;
     assert!(rt; set(&mut patches, 0, cell(3, 0), 7));
     assert!(rt; set(&mut patches, 0, cell(0, 1), 6));
-    assert!(rt; are_apart(&patches));
-    assert!(rt; are_in_domain(&p, 0, &patches));
-    fill(&p, 0, &mut patches, None);
+    assert!(rt; fill_level(&p, 0, &mut patches, None));
     assert_eq!(rt; ghost_at(&patches, 0, cell(-1, 0)), Some((7, true)));
     assert_eq!(rt; ghost_at(&patches, 0, cell(4, 1)), Some((6, true)));
     assert_eq!(rt; ghost_at(&patches, 0, cell(3, 2)), Some((7, true)));
@@ -201,9 +211,7 @@ fn beyond_open_sides(rt: HostRuntime) -> Result<(), Fail> {
     let p = problem(alloc, 2, 2, Sides::Open(6, 40), Sides::Open(17, 3))?;
     let mut patches = Vec::new(alloc);
     patches.push(patch(alloc, 0, 0, 1, 1)?)?;
-    assert!(rt; are_apart(&patches));
-    assert!(rt; are_in_domain(&p, 0, &patches));
-    fill(&p, 0, &mut patches, None);
+    assert!(rt; fill_level(&p, 0, &mut patches, None));
     assert_eq!(rt; ghost_at(&patches, 0, cell(-1, 1)), Some((6, false)));
     assert_eq!(rt; ghost_at(&patches, 0, cell(2, 0)), Some((40, false)));
     assert_eq!(rt; ghost_at(&patches, 0, cell(0, -1)), Some((17, false)));
@@ -211,9 +219,7 @@ fn beyond_open_sides(rt: HostRuntime) -> Result<(), Fail> {
 
     let mut fine = Vec::new(alloc);
     fine.push(patch(alloc, 0, 0, 3, 3)?)?;
-    assert!(rt; are_apart(&fine));
-    assert!(rt; are_in_domain(&p, 1, &fine));
-    fill(&p, 1, &mut fine, None);
+    assert!(rt; fill_level(&p, 1, &mut fine, None));
     assert_eq!(rt; ghost_at(&fine, 0, cell(-1, 1)), Some((1, false)));
     assert_eq!(rt; ghost_at(&fine, 0, cell(4, 0)), Some((10, false)));
     assert_eq!(rt; ghost_at(&fine, 0, cell(0, -1)), Some((4, false)));
@@ -236,9 +242,7 @@ fn quarters_of_the_coarser_level(rt: HostRuntime) -> Result<(), Fail> {
 
     let mut fine = Vec::new(alloc);
     fine.push(patch(alloc, 4, 0, 5, 1)?)?;
-    assert!(rt; are_apart(&fine));
-    assert!(rt; are_in_domain(&p, 1, &fine));
-    fill(&p, 1, &mut fine, Some(&old));
+    assert!(rt; fill_level(&p, 1, &mut fine, Some(&old)));
     assert_eq!(rt; ghost_at(&fine, 0, cell(3, 0)), Some((1, false)));
     assert_eq!(rt; ghost_at(&fine, 0, cell(3, 1)), Some((1, false)));
     assert_eq!(rt; ghost_at(&fine, 0, cell(6, 0)), Some((0, false)));

@@ -1,6 +1,6 @@
-// The values of cells that are not of the level.
+//! The values of cells that are not of the level.
 
-ghost use Rattle.std.specs.Prelude.{◌≡◌, ◌≤◌, ◌/◌, ◌^◌, cond};
+ghost use Rattle.std.specs.Prelude.{◌≡◌, ◌<◌, ◌≤◌, ◌/◌, ◌^◌, cond};
 ghost use Rattle.std.specs.Option.{option_copied};
 ghost use Rattle.amr_box.specs.Cells.{parent};
 ghost use Rattle.amr_def.specs.Domain.{domain, in_domain};
@@ -11,14 +11,14 @@ ghost use Rattle.amr_ghost.specs.Frames.{old_masses};
 
 use crate::lookup::look_up;
 use crate::outside::outside_value;
-use crate::places::{in_domain, parent};
-use amr_box::Cell;
+use amr_box::{Cell, parent};
 use amr_def::Problem;
 use amr_patch::Level;
 
 /// The mass of a cell of a level, 0 where it is no cell of it.
 fn mass_in_level(level: &Level, near: &mut usize, c: Cell) -> u64
-    ensures { result ≡ mass_of (level_of level.now).masses c }
+    ensures value { result ≡ mass_of (level_of level.now).masses c }
+    ensures small { result < 2 ^ 32 }
 {
     let patches = level.patches();
     match look_up(patches, level.order(), near, c) {
@@ -29,7 +29,8 @@ fn mass_in_level(level: &Level, near: &mut usize, c: Cell) -> u64
 
 /// The mass of a cell of the coarser level at the start of its step, 0 where it is no cell of it.
 fn old_mass(old: Option<&Level>, near: &mut usize, c: Cell) -> u64
-    ensures { result ≡ mass_of (old_masses (option_copied old.entry)) c }
+    ensures value { result ≡ mass_of (old_masses (option_copied old.entry)) c }
+    ensures small { result < 2 ^ 32 }
 {
     match old {
         None => 0,
@@ -47,9 +48,10 @@ pub(crate) fn outer_value(
     c: Cell,
 ) -> u64
     requires { l ≤ 4 }
-    ensures { result ≡ cond (in_domain (domain p.now l) c) (mass_of (old_masses (option_copied old.entry)) (parent c) / 4) (inflow_at p.now l c / 4 ^ l) }
+    ensures value { result ≡ cond (in_domain (domain p.now l) c) (mass_of (old_masses (option_copied old.entry)) (parent c) / 4) (inflow_at p.now l c / 4 ^ l) }
+    ensures small { result < 2 ^ 32 }
 {
-    if in_domain(&p.domain(l), c) {
+    if p.domain(l).in_domain(c) {
         old_mass(old, near, parent(c)) / 4
     } else {
         outside_value(p, l, c)

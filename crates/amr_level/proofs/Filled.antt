@@ -21,13 +21,13 @@ use Rattle.amr_def.proofs.Subcycle.{bool_cases}
 use Rattle.amr_def.proofs.Uncovered.{home_at}
 use Rattle.amr_def.proofs.Values.{value_here}
 use Rattle.amr_patch.specs.declared.patches.Patch.{Patch}
-use Rattle.amr_patch.specs.Places.{grown, is_face_of}
+use Rattle.amr_patch.specs.Places.{grown, is_edge_face, is_face_of}
 use Rattle.amr_patch.specs.Patches.{ArePatchesApart, SameMarks, box, mass_in, masses_in, value_in}
 use Rattle.amr_patch.specs.Orders.{IsHolder}
 use Rattle.amr_patch.proofs.Lookups.{in_one, masses_in-at, same_default}
 use Rattle.amr_ghost.specs.Frames.{AreInDomain, HasGhostMarks, HasGhostValues, SameMasses, is_beside}
 use Rattle.amr_ghost.proofs.Zips.{some_mass}
-use Rattle.amr_flux.specs.Faces.{LiesIn, ShowsValues, in_reach, is_border, owns}
+use Rattle.amr_flux.specs.Faces.{IsInDomain, ShowsValues, in_reach, is_border, owns}
 use Rattle.amr_flux.proofs.Shown.{flux_is}
 use Rattle.amr_level.specs.Steps.{HasFluxes, IsReady, IsShown, IsSwept, IsUpdated, base_fluxes}
 use Rattle.amr_level.proofs.Lists.{HasMasses, apart_from, boxes_at, boxes_from, zip_from, zip_map, zip_masses}
@@ -65,7 +65,7 @@ module _ (p : Problem) (ps : List Patch) (apart : ArePatchesApart ps) (inside : 
   in_at k r c lt h = inside c (in_one ps c k (holder_at k r c lt h))
 
   -- a patch of the box of patch k
-  pub lies : (k : ℕ) (r q : Patch) → k < length ps → box q ≡ box (get_or ps k r) → LiesIn (domain p 0) (box q)
+  pub lies : (k : ℕ) (r q : Patch) → k < length ps → box q ≡ box (get_or ps k r) → IsInDomain (domain p 0) (box q)
   lies k r q lt same = record { at = λ c h. in_at k r c lt (ap (λ (b : Extent). holds b c) (sym same) ∙ h) }
 
   module _ (k : ℕ) (r q : Patch) (lt : k < length ps) (same : box q ≡ box (get_or ps k r)) (masses : SameMasses (get_or ps k r) q) where
@@ -156,9 +156,10 @@ module _ (p : Problem) (ps fs : List Patch) (apart : ArePatchesApart ps) (inside
           inside = lies p ps apart inside k r (get_or ss k r) lt (box_there k r lt);
           masses = mass_here p ps apart inside k r (get_or ss k r) lt (box_there k r lt) (masses_there k r lt);
           marks = λ c h. s.marks c ∙ marked k r here c (subst (λ (b : Extent). is_beside b c ≡ true) s.of_box h);
-          fluxes = λ f h.
+          shows = record { at = λ c e. s.values c ∙ (shows_at k r lt).at c (ap (λ (b : Extent). in_reach b c) (sym s.of_box) ∙ e) };
+          fluxes = λ f edge h.
               let own : owns q f ≡ true = sym (owned_same q (get_or ss k r) s.of_box s.marks f) ∙ h in
-              s.fluxes f own ∙ flux_is p 0 (masses_in ps) no_masses q (shows_at k r lt) f (face_owned q f own);
+              s.fluxes f (ap (λ (b : Extent). is_edge_face b f) (sym s.of_box) ∙ edge) own ∙ flux_is p 0 (masses_in ps) no_masses q (shows_at k r lt) f (face_owned q f own);
         }
 
     pub all_ready_then : All (IsReady p (masses_in ps)) ss
@@ -196,11 +197,11 @@ module _ (p : Problem) (e : Fluxes) (ps qs : List Patch) (done : AllZip (IsUpdat
   updated_masses = λ i c. zip_masses (λ c v. at_least_zero (pos v +ℤ net e c)) ps qs c (zip_map (IsUpdated e) (HasMasses (λ c v. at_least_zero (pos v +ℤ net e c))) (λ q r u. record { of_box = u.kept.of_box; masses = λ c h. ap at_least_zero (u.masses c h) }) ps qs done) i
 
   pub updated_fluxes : (m : Masses) → All (IsReady p m) ps → HasFluxes (base_fluxes p m) qs
-  updated_fluxes m ready = λ k r h f own.
+  updated_fluxes m ready = λ k r h f edge own.
       let lt : k < length ps = omega (arith, h, count) in
       let u = (at k r lt).kept in
       let before : owns (get_or ps k r) f ≡ true = sym (owned_same (get_or ps k r) (get_or qs k r) u.of_box u.marks f) ∙ own in
-      u.fluxes f before ∙ (ready k r lt).fluxes f before
+      u.fluxes f ∙ (ready k r lt).fluxes f (ap (λ (b : Extent). is_edge_face b f) (sym u.of_box) ∙ edge) before
 
   pub updated_marks : (m : Masses) → All (IsReady p m) ps → All (HasGhostMarks p 0 m) qs
   updated_marks m ready = λ k r h c b.

@@ -1,11 +1,5 @@
-mod Lists
-mod Runs
-mod Gathering
-mod Entries
-pub mod Values
 mod Boxes
-mod Repeats
-mod Owners
 mod Filled
-mod Sources
+mod Lists
 mod Updating
+pub mod Values

@@ -19,19 +19,6 @@ use Rattle.amr_flux.specs.Faces.{passing}
 
 -- ---- faces that pass a test
 
-pub same_face : (a : Axis) {x x' y y' : ℤ} → x ≡ x' → y ≡ y' → face a x y ≡ face a x' y'
-same_face a ex ey i = record { axis = a; x = ex i; y = ey i }
-
-pub passing_same : (t u : Face → Bool) (g : ℕ → Face) (n : ℕ) → ((k : ℕ) → k < n → t (g k) ≡ u (g k)) → passing t g n ≡ passing u g n
-passing_same t u g zero e = refl
-passing_same t u g (suc n) e =
-    let before : passing t g n ≡ passing u g n = passing_same t u g n (λ k h. e k (omega arith)) in
-    let here : t (g n) ≡ u (g n) = e n (omega arith) in
-    λ i. before i ++ cond (here i) (g n ∷ []) []
-
-pub passing_next : (t : Face → Bool) (g : ℕ → Face) (n : ℕ) → passing t g (n + 1) ≡ passing t g n ++ cond (t (g n)) (g n ∷ []) []
-passing_next t g n = ap (passing t g) (add-one n)
-
 one_most : (b : Bool) (f : Face) → length (cond b (f ∷ []) []) ≤ 1
 one_most true f = omega arith
 one_most false f = omega arith
@@ -41,11 +28,6 @@ passing_few t g zero = omega arith
 passing_few t g (suc n) = omega (arith, passing_few t g n, one_most (t (g n)) (g n), length-append (passing t g n) (cond (t (g n)) (g n ∷ []) []))
 
 -- ---- patches one by one
-
--- a list that has a place has a patch
-pub patch_at : (ps : List Patch) (i : ℕ) → i < length ps → Patch
-patch_at [] i h = absurd (omega arith)
-patch_at (p ∷ ps) i h = p
 
 pub zip_from : (R : Patch → Patch → Type 0) (ps qs : List Patch) → length ps ≡ length qs → ((k : ℕ) (d : Patch) → k < length ps → R (get_or ps k d) (get_or qs k d)) → AllZip R ps qs
 zip_from R [] [] e h = tt
@@ -85,10 +67,6 @@ apart_from ps qs n same apart = λ i j d below there c a b.
     let low : i < length ps = omega arith in
     let high : j < length ps = omega arith in
     apart i j d below high c (subst (λ (t : Extent). IsTrue (holds t c)) (same i d low) a) (subst (λ (t : Extent). IsTrue (holds t c)) (same j d high) b)
-
-pub in_boxes_of : (ps : List Patch) (c : Cell) → in_boxes (map box ps) c ≡ in_patches ps c
-in_boxes_of [] c = refl
-in_boxes_of (p ∷ ps) c = ap (λ t. holds (box p) c || t) (in_boxes_of ps c)
 
 -- ---- their masses
 

@@ -1,9 +1,9 @@
 -- The values of level 0 and what flows in it: sizes, and that no mass falls below 0.
-use Rattle.std.proofs.Common.{◌≡◌, ℕ, suc, ◌*◌, ◌/◌, ◌^◌, ◌<◌, ◌≤◌, Bool, true, false, cond, ℤ, pos, negsuc, ◌+ℤ◌, ◌≤ℤ◌, IsSome, refl, ap, arith}
+use Rattle.std.proofs.Common.{◌≡◌, ℕ, suc, ◌-◌, ◌<ℤ◌, [], ◌∷◌, ◌*◌, ◌/◌, ◌^◌, ◌<◌, ◌≤◌, Bool, true, false, cond, ℤ, pos, negsuc, ◌+ℤ◌, ◌≤ℤ◌, IsSome, refl, ap, arith}
 use Rattle.std.specs.Prelude.{unsigned_abs}
 use Rattle.std.specs.declared.option.Option.{Option}
 use Rattle.std.specs.declared.option.Option.TheVariants.{None, Some}
-use Rattle.std.specs.Option.{unwrap_or}
+use Rattle.std.specs.Option.{option_map, unwrap_or}
 use Rattle.std.proofs.lemmas.Int.{ints}
 use Rattle.std.proofs.Math.Nat.{div-mul-le_self, mul-le-mul_right, le_of_mul-le-mul_right}
 use Rattle.amr_box.specs.declared.Cell.{Cell}
@@ -14,7 +14,10 @@ use Rattle.amr_def.specs.declared.problem.Problem.{Problem}
 use Rattle.amr_def.specs.Domain.{domain, home_cell, in_domain}
 use Rattle.amr_def.specs.State.{Masses, mass_of, no_masses}
 use Rattle.amr_def.specs.Value.{inflow_at, value_at}
-use Rattle.amr_def.specs.Flux.{courant, courant_in, flow, flux_at, high_cell, low_cell, net}
+use Rattle.amr_box.specs.Cells.{at_least_zero}
+use Rattle.amr_def.specs.Flux.{Fluxes, courant, courant_in, flow, flux_at, high_cell, low_cell, net, updated}
+use Rattle.amr_def.specs.LevelStep.{at_top, step_within}
+use Rattle.amr_def.proofs.Greatest.{MassesUpTo, step-raises}
 use Rattle.amr_def.proofs.LevelLists.{IsInside}
 use Rattle.amr_def.proofs.Courants.{stable}
 use Rattle.amr_def.proofs.Stepping.{sides_up}
@@ -78,3 +81,20 @@ pub mass_kept : (p : Problem) (m : Masses) → IsInside p 0 m → (c : Cell) (v 
 mass_kept p m inside c v e =
     let kept : pos 0 ≤ℤ (pos (mass_of m c) +ℤ net (base_fluxes p m) c) = plain_covers p 0 m no_masses (stable p) inside c (some_is (m c) v e) in
     omega (arith, ints, kept, mass_is m c v e)
+
+new_mass : (m : Masses) (e : Fluxes) (c : Cell) (v : ℕ) → m c ≡ Some v → mass_of (updated m e) c ≡ at_least_zero (pos v +ℤ net e c)
+unfolding updated
+new_mass m e c v is = ap (λ (o : Option ℕ). unwrap_or (option_map (λ n. at_least_zero (pos n +ℤ net e c)) o) 0) is
+
+below : (z : ℤ) → at_least_zero z < 2 ^ 32 → z <ℤ pos (2 ^ 32)
+below (pos n) h = omega (arith, ints, h)
+below (negsuc n) h = omega (arith, ints)
+
+-- and none comes to 2^32 where all were below 2^31
+pub mass_fits : (p : Problem) (m : Masses) → ((c : Cell) → mass_of m c < 2 ^ 31) → IsInside p 0 m → (c : Cell) (v : ℕ) → m c ≡ Some v → (pos v +ℤ net (base_fluxes p m) c) <ℤ pos (2 ^ 32)
+unfolding step_within at_top
+mass_fits p m small inside c v e =
+    let up : MassesUpTo 0 m (2 ^ 31 - 1) = record { at = λ k. omega (arith, small k) } in
+    let raised = (step-raises p 1 0 (m ∷ []) no_masses (2 ^ 31 - 1) (omega arith) (stable p) inside tt (up, tt) (record { at = λ k. omega arith }) (sides_up p (2 ^ 31 - 1) (omega arith))).masses.0.at c in
+    let new : mass_of (updated m (base_fluxes p m)) c ≡ at_least_zero (pos v +ℤ net (base_fluxes p m) c) = new_mass m (base_fluxes p m) c v e in
+    below (pos v +ℤ net (base_fluxes p m) c) (omega (arith, raised, new))

@@ -1,5 +1,5 @@
 -- What patches have in a step of level 0.
-use Rattle.std.specs.Prelude.{◌≡◌, ◌<◌, ◌^◌, pos, ◌+ℤ◌, List, length, slice_index_or, IsTrue}
+use Rattle.std.specs.Prelude.{◌≡◌, ◌<◌, ◌^◌, pos, ◌+ℤ◌, List, IsTrue}
 use Rattle.std.specs.declared.option.Option.TheVariants.{Some}
 use Rattle.std.specs.List.{All}
 use Rattle.amr_box.specs.declared.Cell.{Cell}
@@ -10,15 +10,14 @@ use Rattle.amr_def.specs.Domain.{domain}
 use Rattle.amr_def.specs.State.{Masses, no_masses}
 use Rattle.amr_def.specs.Flux.{Fluxes, flux_at, net}
 use Rattle.amr_patch.specs.declared.patches.Patch.{Patch}
-use Rattle.amr_patch.specs.Places.{is_face_of}
-use Rattle.amr_patch.specs.Patches.{SameMarks, SameValues, box, flux_in, mass_in, value_in}
+use Rattle.amr_patch.specs.Places.{is_edge_face}
+use Rattle.amr_patch.specs.Patches.{SameFluxes, SameMarks, SameValues, box, flux_in, mass_in, value_in}
 use Rattle.amr_ghost.specs.Frames.{HasGhostMarks}
-use Rattle.amr_flux.specs.Faces.{LiesIn, flux_beside, in_reach, owns}
-use Rattle.amr_level.specs.Runs.{Source}
+use Rattle.amr_flux.specs.Faces.{IsInDomain, ShowsValues, flux_beside, in_reach, owns}
 
--- each patch has, at each face that it owns, this flux
+-- each patch has, at each face on its edges that it owns, this flux
 abbrev pub HasFluxes : Fluxes → List Patch → Type 0
-HasFluxes e ps = All (λ q. (f : Face) → IsTrue (owns q f) → flux_in q f ≡ e f) ps
+HasFluxes e ps = All (λ q. (f : Face) → IsTrue (is_edge_face (box q) f) → IsTrue (owns q f) → flux_in q f ≡ e f) ps
 
 -- what flows through the faces of level 0, where it is the only level
 abbrev pub base_fluxes : Problem → Masses → Fluxes
@@ -28,35 +27,32 @@ base_fluxes p m = flux_at p 0 m no_masses
 
 -- a patch in the domain whose values in reach are below 2^31
 pub record IsShown (p : Problem) (q : Patch) : Type 0 where
-  pub inside : LiesIn (domain p 0) (box q)
+  pub inside : IsInDomain (domain p 0) (box q)
   pub small : (c : Cell) → IsTrue (in_reach (box q) c) → value_in q c < 2 ^ 31
 
--- a patch got the fluxes of the faces that it owns, and nothing else changed
+-- a patch got the fluxes of the faces on its edges that it owns, and nothing else changed
 pub record IsSwept (p : Problem) (q r : Patch) : Type 0 where
   pub of_box : box r ≡ box q
   pub values : SameValues q r
   pub marks : SameMarks q r
-  pub fluxes : (f : Face) → IsTrue (owns q f) → flux_in r f ≡ flux_beside p 0 q f
+  pub fluxes : (f : Face) → IsTrue (is_edge_face (box q) f) → IsTrue (owns q f) → flux_in r f ≡ flux_beside p 0 q f
 
 -- ---- new masses
 
--- the source is a face of one of the patches
-pub record IsReadable (ps : List Patch) (s : Source) : Type 0 where
-  pub inside : s.patch < length ps
-  pub of_box : (q : Patch) → IsTrue (is_face_of (box (slice_index_or ps s.patch q)) s.face)
-
--- a patch of level 0 with the masses m of its cells, with marks, and with the fluxes of the faces that it owns
+-- a patch of level 0 with the masses m of its cells, with the values and marks of its frame, and with the fluxes of the faces on
+-- its edges that it owns
 pub record IsReady (p : Problem) (m : Masses) (q : Patch) : Type 0 where
-  pub inside : LiesIn (domain p 0) (box q)
+  pub inside : IsInDomain (domain p 0) (box q)
   pub masses : (c : Cell) → IsTrue (holds (box q) c) → m c ≡ Some (mass_in q c)
   pub marks : HasGhostMarks p 0 m q
-  pub fluxes : (f : Face) → IsTrue (owns q f) → flux_in q f ≡ base_fluxes p m f
+  pub shows : ShowsValues p 0 m no_masses q
+  pub fluxes : (f : Face) → IsTrue (is_edge_face (box q) f) → IsTrue (owns q f) → flux_in q f ≡ base_fluxes p m f
 
 -- a patch has the marks and the fluxes of before
 pub record KeepsFluxes (q r : Patch) : Type 0 where
   pub of_box : box r ≡ box q
   pub marks : SameMarks q r
-  pub fluxes : (f : Face) → IsTrue (owns q f) → flux_in r f ≡ flux_in q f
+  pub fluxes : SameFluxes q r
 
 -- and its cells got what flows in
 pub record IsUpdated (e : Fluxes) (q r : Patch) : Type 0 where

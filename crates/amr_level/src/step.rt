@@ -8,63 +8,75 @@ ghost use Rattle.amr_def.specs.State.{mass_of};
 ghost use Rattle.amr_def.specs.Flux.{updated};
 ghost use Rattle.amr_def.specs.Facts.{IsLevel};
 ghost use Rattle.amr_patch.specs.Levels.{level_of, patches_of};
+ghost use Rattle.amr_patch.specs.Orders.{IsOrderOf};
 ghost use Rattle.amr_patch.specs.Patches.{ArePatchesApart, box, masses_in};
 ghost use Rattle.amr_ghost.specs.Frames.{AreInDomain, HasGhostMarks};
-ghost use Rattle.amr_level.specs.Joints.{IsBordersOf};
+ghost use Rattle.amr_flux.specs.Rooms.{widest};
 ghost use Rattle.amr_level.specs.Steps.{HasFluxes, IsShown, IsSwept, base_fluxes};
 
-use crate::borders::Borders;
 use crate::updates::update_all;
 use amr_def::Problem;
-use amr_flux::sweep;
-use amr_ghost::fill;
-use amr_patch::{Level, Patch};
+use amr_flux::{Room, sweep};
+use amr_ghost::fill_in_order;
+use amr_patch::{Level, Order, Patch};
 
-/// Works out the fluxes of each patch.
-fn sweep_all(p: &Problem, patches: &mut [Patch])
+/// Works out the fluxes on the edges of each patch.
+fn sweep_all(p: &Problem, patches: &mut [Patch], room: &mut Room)
     requires { All (IsShown p.now) patches.old }
-    ensures { AllZip (IsSwept p.now) patches.old patches.new }
+    ensures swept { AllZip (IsSwept p.now) patches.old patches.new }
+    ensures row { widest room.new ≡ widest room.old }
 {
     for i in 0..patches.len() {
-        sweep(p, 0, &mut patches[i]);
+        sweep(p, 0, &mut patches[i], room);
     }
 }
 
 /// Makes a step of the patches of level 0.
-fn step_patches(p: &Problem, patches: &mut [Patch], borders: &Borders, sizes: &mut [u64])
+fn step_patches(
+    p: &Problem,
+    patches: &mut [Patch],
+    order: Order,
+    sizes: &mut [u32],
+    room: &mut Room,
+)
     requires apart { ArePatchesApart patches.old }
+    requires order { IsOrderOf order patches.old }
     requires inside { AreInDomain (domain p.now 0) patches.old }
     requires small { (c : Cell) → mass_of (masses_in patches.old) c < 2 ^ 31 }
-    requires borders { IsBordersOf p.now (map box patches.old) borders.now }
-    requires room { 512 ≤ length sizes.old }
+    requires sizes { 512 ≤ length sizes.old }
+    requires row { 256 ≤ widest room.old }
     ensures apart { ArePatchesApart patches.new }
     ensures masses { masses_in patches.new ≡ updated (masses_in patches.old) (base_fluxes p.now (masses_in patches.old)) }
-    ensures pieces { map box patches.new ≡ map box patches.old }
+    ensures patches { map box patches.new ≡ map box patches.old }
     ensures fluxes { HasFluxes (base_fluxes p.now (masses_in patches.old)) patches.new }
     ensures marks { All (HasGhostMarks p.now 0 (masses_in patches.old)) patches.new }
+    ensures row { widest room.new ≡ widest room.old }
 {
-    fill(p, 0, patches, None);
-    sweep_all(p, patches);
-    update_all(p, patches, borders, sizes);
+    fill_in_order(p, 0, patches, order, None);
+    sweep_all(p, patches, room);
+    update_all(p, patches, sizes, room);
 }
 
 /// Makes a step of level 0, where it is the only level: each cell gets what flows in through its faces (donor cell; Berger and
-/// Colella 1989). Its patches are left with the fluxes of the faces that they own and with the marks of their ghost cells.
+/// Colella 1989). Its patches are left with the fluxes of the faces on their edges that they own, and with the marks of their
+/// ghost cells.
 ///
-/// The level lies in its domain, and each mass is below 2^31. `borders` is that of its patches; `sizes` is room for the fluxes
-/// of a patch's border faces, at most 512. It takes no memory.
-pub fn advance(p: &Problem, level: &mut Level, borders: &Borders, sizes: &mut [u64])
+/// The level lies in its domain, and each mass is below 2^31. `sizes` is room for the fluxes of a patch's border faces, at most
+/// 512, and `room` for a row of at most 256 cells. It takes no memory.
+pub fn advance(p: &Problem, level: &mut Level, sizes: &mut [u32], room: &mut Room)
     requires of_domain { IsLevel p.now 0 (level_of level.old) }
     requires small { (c : Cell) → mass_of (level_of level.old).masses c < 2 ^ 31 }
-    requires borders { IsBordersOf p.now (map box (patches_of level.old)) borders.now }
-    requires room { 512 ≤ length sizes.old }
+    requires sizes { 512 ≤ length sizes.old }
+    requires row { 256 ≤ widest room.old }
     ensures masses { (level_of level.new).masses ≡ updated (level_of level.old).masses (base_fluxes p.now (level_of level.old).masses) }
     ensures boxes { (level_of level.new).boxes ≡ (level_of level.old).boxes }
-    ensures pieces { map box (patches_of level.new) ≡ map box (patches_of level.old) }
+    ensures patches { map box (patches_of level.new) ≡ map box (patches_of level.old) }
     ensures fluxes { HasFluxes (base_fluxes p.now (level_of level.old).masses) (patches_of level.new) }
     ensures marks { All (HasGhostMarks p.now 0 (level_of level.old).masses) (patches_of level.new) }
+    ensures row { widest room.new ≡ widest room.old }
 {
+    let order = level.order();
     let mut patches = level.take_patches();
-    step_patches(p, &mut patches, borders, sizes);
-    level.put_patches(patches);
+    step_patches(p, &mut patches, order, sizes, room);
+    level.put_patches_in_order(patches, order);
 }

@@ -3,7 +3,7 @@ use Rattle.std.proofs.Common.{◌≡◌, ◌∙◌, Bool, true, false, ◌&&◌,
 use Rattle.amr_box.specs.declared.Cell.{Cell}
 use Rattle.amr_box.specs.declared.Axis.{Axis}
 use Rattle.amr_box.specs.Cells.{Extent, HasCorners, holds, within}
-use Rattle.amr_patch.specs.Places.{grown, on_box}
+use Rattle.amr_patch.specs.Places.{grown, is_end, on_edge}
 
 pub grown_is : (b g : Extent) (c : Cell) → HasCorners g (b.lo.x -ℤ pos 1) (b.lo.y -ℤ pos 1) (b.hi.x +ℤ pos 1) (b.hi.y +ℤ pos 1) → holds g c ≡ holds (grown b) c
 grown_is b g c k = ap (λ (e : Extent). holds e c) (λ i. record { lo = record { x = k.west_is i; y = k.south_is i }; hi = record { x = k.east_is i; y = k.north_is i } })
@@ -15,9 +15,9 @@ pub ruleset conditions = (grown_is, and_both)
 
 -- ---- faces
 
--- a test of a column and one of a row, by numbers that are those of the box
-pub on_axis : (axis a : Axis) (b : Extent) (c : Cell) (low high x south north y : ℤ) (r : Bool) → axis ≡ a → on_box a b c ≡ (within low high x && within south north y) → true ≡ within low high x → r ≡ within south north y → r ≡ on_box axis b c
-on_axis axis a b c low high x south north y r e f t k = k ∙ ap (λ (u : Bool). u && within south north y) t ∙ sym f ∙ ap (λ (s : Axis). on_box s b c) (sym e)
+-- a test of a row or a column and one of a line of faces, by numbers that are those of the box
+pub on_line : (axis a : Axis) (b : Extent) (c : Cell) (low high z first last line : ℤ) (r : Bool) → axis ≡ a → on_edge a b c ≡ (within low high z && is_end first last line) → true ≡ within low high z → r ≡ is_end first last line → r ≡ on_edge axis b c
+on_line axis a b c low high z first last line r e f t k = k ∙ ap (λ (u : Bool). u && is_end first last line) t ∙ sym f ∙ ap (λ (s : Axis). on_edge s b c) (sym e)
 
-pub off_axis : (axis a : Axis) (b : Extent) (c : Cell) (low high x south north y : ℤ) (r : Bool) → axis ≡ a → on_box a b c ≡ (within low high x && within south north y) → r ≡ within low high x → r ≡ false → r ≡ on_box axis b c
-off_axis axis a b c low high x south north y r e f t k = k ∙ ap (λ (u : Bool). u && within south north y) (sym k ∙ t) ∙ sym f ∙ ap (λ (s : Axis). on_box s b c) (sym e)
+pub off_line : (axis a : Axis) (b : Extent) (c : Cell) (low high z first last line : ℤ) (r : Bool) → axis ≡ a → on_edge a b c ≡ (within low high z && is_end first last line) → r ≡ within low high z → r ≡ false → r ≡ on_edge axis b c
+off_line axis a b c low high z first last line r e f t k = k ∙ ap (λ (u : Bool). u && is_end first last line) (sym k ∙ t) ∙ sym f ∙ ap (λ (s : Axis). on_edge s b c) (sym e)

@@ -1,18 +1,16 @@
--- Two cells of a box stand at two places, and so do two faces.
-use Rattle.std.proofs.Common.{◌≡◌, ◌≢◌, ◌∙◌, ℕ, ◌+◌, ◌*◌, ◌<◌, true, ℤ, pos, negsuc, ◌+ℤ◌, ◌-ℤ◌, ◌≤ℤ◌, ◌<ℤ◌, List, take, drop, refl, sym, ap, arith}
+-- Two cells of a box stand at two places.
+use Rattle.std.proofs.Common.{◌≡◌, ◌≢◌, ◌∙◌, ℕ, ◌+◌, ◌-◌, ◌*◌, ◌<◌, ◌≤◌, ◌⊎◌, inl, inr, true, ℤ, pos, negsuc, ◌+ℤ◌, ◌-ℤ◌, ◌≤ℤ◌, ◌<ℤ◌, List, ◌++◌, length, length-take, take, drop, refl, sym, ap, arith}
 use Rattle.std.specs.Prelude.{not, slice_index, slice_index_or, slice_set}
 use Rattle.std.proofs.lemmas.Int.{ints}
 use Rattle.std.proofs.lemmas.Nat.{same_from_place}
-use Rattle.std.proofs.lemmas.List.{get_or-set_other, get_or-take, get_or-drop}
+use Rattle.std.proofs.lemmas.Bool.{cases_lt}
+use Rattle.std.proofs.lemmas.List.{get_or-append_right, get_or-drop, get_or-replicate, get_or-set_other, get_or-take, get_or_append_left, length-replicate}
+use Rattle.std.proofs.Math.ListN.{get_or-eq_default, replicate}
+use borrow.Rule.Slice.PartMut.{post_of}
 use Rattle.amr_box.specs.declared.Cell.{Cell}
-use Rattle.amr_box.specs.declared.Face.{Face}
-use Rattle.amr_box.specs.declared.Axis.{Axis}
-use Rattle.amr_box.specs.declared.Axis.TheVariants.{X, Y}
 use Rattle.amr_box.specs.Cells.{Extent, IsNear, at_least_zero, cell, holds, width}
-use Rattle.amr_patch.specs.declared.patches.Patch.{Patch}
-use Rattle.amr_patch.specs.Places.{grown, in_frame, is_face_of, on_box, place, x_place, y_place}
-use Rattle.amr_patch.specs.Patches.{flux_along, flux_in}
-use Rattle.amr_patch.proofs.Rows.{and_true, around, inside, is_inside, sides, zero-cut}
+use Rattle.amr_patch.specs.Places.{grown, in_frame, place}
+use Rattle.amr_patch.proofs.Rows.{and_true, inside, is_inside, sides, zero-cut}
 
 pub whole : (z : ℤ) → pos 0 ≤ℤ z → pos (at_least_zero z) ≡ z
 whole (pos n) p = refl
@@ -58,40 +56,6 @@ place-same b c d near p q e =
     let o : (c.x +ℤ pos 1 -ℤ b.lo.x ≡ d.x +ℤ pos 1 -ℤ b.lo.x) × (c.y +ℤ pos 1 -ℤ b.lo.y ≡ d.y +ℤ pos 1 -ℤ b.lo.y) = same_offsets _ _ _ _ (width b + 2) h e in
     same_cells c d (omega (arith, ints, o.0)) (omega (arith, ints, o.1))
 
-pub x_place-same : (b : Extent) (c d : Cell) → IsNear b → on_box X b c ≡ true → on_box X b d ≡ true → x_place b c ≡ x_place b d → c ≡ d
-unfolding x_place
-x_place-same b c d near p q e =
-    let s = sides b near in
-    let i = around X b c p in
-    let j = around X b d q in
-    let h : HasOffsets (c.x -ℤ b.lo.x) (c.y -ℤ b.lo.y) (d.x -ℤ b.lo.x) (d.y -ℤ b.lo.y) (width b + 1) = record {
-      x_from = omega (arith, ints, i.west);
-      x_below = omega (arith, ints, i.east, s.wide);
-      y_from = omega (arith, ints, i.south);
-      u_from = omega (arith, ints, j.west);
-      u_below = omega (arith, ints, j.east, s.wide);
-      v_from = omega (arith, ints, j.south);
-    } in
-    let o : (c.x -ℤ b.lo.x ≡ d.x -ℤ b.lo.x) × (c.y -ℤ b.lo.y ≡ d.y -ℤ b.lo.y) = same_offsets _ _ _ _ (width b + 1) h e in
-    same_cells c d (omega (arith, ints, o.0)) (omega (arith, ints, o.1))
-
-pub y_place-same : (b : Extent) (c d : Cell) → IsNear b → on_box Y b c ≡ true → on_box Y b d ≡ true → y_place b c ≡ y_place b d → c ≡ d
-unfolding y_place
-y_place-same b c d near p q e =
-    let s = sides b near in
-    let i = around Y b c p in
-    let j = around Y b d q in
-    let h : HasOffsets (c.x -ℤ b.lo.x) (c.y -ℤ b.lo.y) (d.x -ℤ b.lo.x) (d.y -ℤ b.lo.y) (width b) = record {
-      x_from = omega (arith, ints, i.west);
-      x_below = omega (arith, ints, i.east, s.wide);
-      y_from = omega (arith, ints, i.south);
-      u_from = omega (arith, ints, j.west);
-      u_below = omega (arith, ints, j.east, s.wide);
-      v_from = omega (arith, ints, j.south);
-    } in
-    let o : (c.x -ℤ b.lo.x ≡ d.x -ℤ b.lo.x) × (c.y -ℤ b.lo.y ≡ d.y -ℤ b.lo.y) = same_offsets _ _ _ _ (width b) h e in
-    same_cells c d (omega (arith, ints, o.0)) (omega (arith, ints, o.1))
-
 -- ---- writes
 
 -- after a write at the place of a cell every other cell has what it had
@@ -103,36 +67,6 @@ in_grown b c e = let i = inside b c e in is_inside (grown b) c (record { west = 
 
 pub in_the_frame : (b : Extent) (c : Cell) → in_frame b c ≡ true → holds (grown b) c ≡ true
 in_the_frame b c e = (and_true (holds (grown b) c) (not (holds b c)) e).0
-
--- faces of different axes have different places; of one axis they differ in the cell
-pub same_faces : (f g : Face) → f.axis ≡ g.axis → cell f.x f.y ≡ cell g.x g.y → f ≡ g
-same_faces f g e h = λ i. record { axis = e i; x = (h i).x; y = (h i).y }
-
-pub other_x : (p q : Patch) (f g : Face) (v : ℤ) → IsNear p.bx → f.axis ≡ X → q.bx ≡ p.bx → q.x_fluxes.items ≡ slice_set p.x_fluxes.items (x_place p.bx (cell f.x f.y)) v → q.y_fluxes.items ≡ p.y_fluxes.items → is_face_of p.bx f ≡ true → is_face_of p.bx g ≡ true → g ≢ f → flux_in q g ≡ flux_in p g
-unfolding flux_in
-other_x p q f g v near a eb ex ey h k n = cases g.axis refl
-  where
-    cases : (axis : Axis) → axis ≡ g.axis → flux_along axis q (cell g.x g.y) ≡ flux_along axis p (cell g.x g.y)
-    cases X e =
-        ap (λ (b : Extent). slice_index_or q.x_fluxes.items (x_place b (cell g.x g.y)) (pos 0)) eb
-        ∙ ap (λ (xs : List ℤ). slice_index_or xs (x_place p.bx (cell g.x g.y)) (pos 0)) ex
-        ∙ get_or-set_other p.x_fluxes.items (x_place p.bx (cell f.x f.y)) (x_place p.bx (cell g.x g.y)) v (pos 0) (λ s. n (same_faces g f (sym e ∙ sym a) (x_place-same p.bx (cell g.x g.y) (cell f.x f.y) near (ap (λ (t : Axis). on_box t p.bx (cell g.x g.y)) e ∙ k) (ap (λ (t : Axis). on_box t p.bx (cell f.x f.y)) (sym a) ∙ h) s)))
-    cases Y e =
-        ap (λ (b : Extent). slice_index_or q.y_fluxes.items (y_place b (cell g.x g.y)) (pos 0)) eb
-        ∙ ap (λ (xs : List ℤ). slice_index_or xs (y_place p.bx (cell g.x g.y)) (pos 0)) ey
-
-pub other_y : (p q : Patch) (f g : Face) (v : ℤ) → IsNear p.bx → f.axis ≡ Y → q.bx ≡ p.bx → q.y_fluxes.items ≡ slice_set p.y_fluxes.items (y_place p.bx (cell f.x f.y)) v → q.x_fluxes.items ≡ p.x_fluxes.items → is_face_of p.bx f ≡ true → is_face_of p.bx g ≡ true → g ≢ f → flux_in q g ≡ flux_in p g
-unfolding flux_in
-other_y p q f g v near a eb ey ex h k n = cases g.axis refl
-  where
-    cases : (axis : Axis) → axis ≡ g.axis → flux_along axis q (cell g.x g.y) ≡ flux_along axis p (cell g.x g.y)
-    cases Y e =
-        ap (λ (b : Extent). slice_index_or q.y_fluxes.items (y_place b (cell g.x g.y)) (pos 0)) eb
-        ∙ ap (λ (xs : List ℤ). slice_index_or xs (y_place p.bx (cell g.x g.y)) (pos 0)) ey
-        ∙ get_or-set_other p.y_fluxes.items (y_place p.bx (cell f.x f.y)) (y_place p.bx (cell g.x g.y)) v (pos 0) (λ s. n (same_faces g f (sym e ∙ sym a) (y_place-same p.bx (cell g.x g.y) (cell f.x f.y) near (ap (λ (t : Axis). on_box t p.bx (cell g.x g.y)) e ∙ k) (ap (λ (t : Axis). on_box t p.bx (cell f.x f.y)) (sym a) ∙ h) s)))
-    cases X e =
-        ap (λ (b : Extent). slice_index_or q.x_fluxes.items (x_place b (cell g.x g.y)) (pos 0)) eb
-        ∙ ap (λ (xs : List ℤ). slice_index_or xs (x_place p.bx (cell g.x g.y)) (pos 0)) ex
 
 -- ---- rows
 
@@ -149,3 +83,52 @@ row_entry xs b x y from m k lt h e =
     get_or-take m (drop from xs) k 0 lt
     ∙ get_or-drop from xs k 0
     ∙ ap (λ (n : ℕ). slice_index xs n) (ap (λ (n : ℕ). n + k) e ∙ along_row b x y k h)
+
+-- ---- lists of one entry, and lists written in part
+
+pub replicated : {A : Type 0} (n k : ℕ) (a : A) → slice_index_or (replicate n a) k a ≡ a
+replicated n k a = cases (cases_lt k n)
+  where
+    cases : (k < n) ⊎ (n ≤ k) → slice_index_or (replicate n a) k a ≡ a
+    cases (inl h) = get_or-replicate n k a a h
+    cases (inr h) = get_or-eq_default (replicate n a) a (omega (arith, length-replicate n a, h))
+
+-- a part of a list, n entries from one on, was given other entries
+pub part_read : (xs ys zs : List ℕ) (from n k : ℕ) → ys ≡ zs → from ≤ length xs → k < length zs → slice_index (take from xs ++ (ys ++ post_of from n xs)) (from + k) ≡ slice_index zs k
+part_read xs ys zs from n k e h lt =
+    let front : length (take from xs) ≡ from = length-take from xs ∙ omega arith in
+    let back : from + k - from ≡ k = omega arith in
+    get_or-append_right (take from xs) (ys ++ post_of from n xs) from (from + k) 0 front (omega arith)
+    ∙ ap (λ (i : ℕ). slice_index (ys ++ post_of from n xs) i) back
+    ∙ ap (λ (ws : List ℕ). slice_index (ws ++ post_of from n xs) k) e
+    ∙ get_or_append_left zs (post_of from n xs) 0 k lt
+
+pub part_kept : (xs ys zs : List ℕ) (from n k : ℕ) → ys ≡ zs → n ≡ length zs → from + length zs ≤ length xs → (k < from) ⊎ (from + length zs ≤ k) → slice_index (take from xs ++ (ys ++ post_of from n xs)) k ≡ slice_index xs k
+part_kept xs ys zs from n k e m h (inl lt) =
+    let front : length (take from xs) ≡ from = length-take from xs ∙ omega arith in
+    get_or_append_left (take from xs) (ys ++ post_of from n xs) 0 k (omega (arith, front)) ∙ get_or-take from xs k 0 lt
+part_kept xs ys zs from n k e m h (inr le) =
+    let front : length (take from xs) ≡ from = length-take from xs ∙ omega arith in
+    let rest : from + (n + (k - from - length zs)) ≡ k = omega arith in
+    get_or-append_right (take from xs) (ys ++ post_of from n xs) from k 0 front (omega arith)
+    ∙ ap (λ (ws : List ℕ). slice_index (ws ++ post_of from n xs) (k - from)) e
+    ∙ get_or-append_right zs (post_of from n xs) (length zs) (k - from) 0 refl (omega arith)
+    ∙ get_or-drop n (drop from xs) (k - from - length zs) 0
+    ∙ get_or-drop from xs (n + (k - from - length zs)) 0
+    ∙ ap (λ (i : ℕ). slice_index xs i) rest
+
+-- after a write to a span of cells every other cell has what it had
+pub beside_span : (b : Extent) (c d : Cell) (from n : ℕ) → IsNear b → holds b c ≡ true → (c.x +ℤ pos n) ≤ℤ (b.hi.x +ℤ pos 1) → from ≡ place b c → holds (grown b) d ≡ true → ((k : ℕ) → k < n → d ≢ cell (c.x +ℤ pos k) c.y) → (place b d < from) ⊎ (from + n ≤ place b d)
+beside_span b c d from n near h room e g other = cases (cases_lt (place b d) from) (cases_lt (place b d) (from + n))
+  where
+    cases : (place b d < from) ⊎ (from ≤ place b d) → (place b d < from + n) ⊎ (from + n ≤ place b d) → (place b d < from) ⊎ (from + n ≤ place b d)
+    cases (inl lt) u = inl lt
+    cases (inr le) (inr past) = inr past
+    cases (inr le) (inl lt) =
+        let i = inside b c h in
+        let k : ℕ = place b d - from in
+        let within_span : k < n = omega arith in
+        let cells : holds (grown b) (cell (c.x +ℤ pos k) c.y) ≡ true = is_inside (grown b) (cell (c.x +ℤ pos k) c.y) (record { west = omega (arith, ints, i.west); east = omega (arith, ints, room, within_span); south = omega (arith, ints, i.south); north = omega (arith, ints, i.north) }) in
+        let shifted : place b d ≡ from + k = omega arith in
+        let there : place b d ≡ place b (cell (c.x +ℤ pos k) c.y) = shifted ∙ ap (λ (m : ℕ). m + k) e ∙ along_row b c.x c.y k (omega (arith, ints, i.west)) in
+        absurd (other k within_span (place-same b d (cell (c.x +ℤ pos k) c.y) near g cells there))

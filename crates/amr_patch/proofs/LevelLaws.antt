@@ -1,6 +1,7 @@
 -- The masses of a list of patches: of blank ones, of copies, after a write.
-use Rattle.std.proofs.Common.{◌≡◌, ◌≢◌, ◌∙◌, ℕ, zero, suc, ◌<◌, ◌⊎◌, inl, inr, Bool, true, false, ◌||◌, pos, ◌+ℤ◌, ◌-ℤ◌, List, [], ◌∷◌, ◌++◌, length, map, cond, refl, sym, ap, arith}
-use Rattle.std.specs.Prelude.{slice_index_or, slice_set, is_some}
+use Rattle.std.proofs.Common.{◌≡◌, ◌≢◌, ◌∙◌, ℕ, zero, suc, ◌<◌, ◌⊎◌, inl, inr, Bool, true, false, ◌||◌, pos, ◌+ℤ◌, ◌-ℤ◌, List, [], ◌∷◌, ◌++◌, length, map, cond, refl, sym, ap, subst, arith}
+use Rattle.std.specs.Prelude.{not, slice_index_or, slice_set, is_some}
+use Rattle.std.specs.List.{All}
 use Rattle.std.specs.declared.option.Option.{Option}
 use Rattle.std.specs.declared.option.Option.TheVariants.{None, Some}
 use Rattle.std.proofs.lemmas.Int.{ints}
@@ -10,13 +11,15 @@ use Rattle.amr_box.specs.declared.Cell.{Cell}
 use Rattle.amr_box.specs.Cells.{Extent, cell, height, holds}
 use Rattle.amr_def.specs.State.{in_boxes}
 use Rattle.amr_patch.specs.declared.patches.Patch.{Patch}
+use Rattle.amr_patch.specs.Places.{grown}
 use Rattle.amr_patch.specs.Pairwise.{Pairwise}
-use Rattle.amr_patch.specs.Patches.{AreApart, ArePatchesApart, IsBlank, IsCopy, SameOtherValues, box, in_patches, mass_in, masses_in}
+use Rattle.amr_patch.specs.Patches.{AreApart, ArePatchesApart, HasNoFluxes, HasNoMarks, IsBlank, IsCopy, KeepsFrameAndFluxes, SameGhosts, SameOtherValues, box, in_patches, mass_in, masses_in}
 use Rattle.amr_patch.specs.declared.lookup.Order.{Order}
-use Rattle.amr_patch.specs.Orders.{IsHolder, IsOrderOf, comes_first}
-use Rattle.amr_patch.proofs.Rows.{inside, is_inside}
-use Rattle.amr_patch.proofs.Entries.{in_grown}
-use Rattle.amr_patch.proofs.Lookups.{holder, masses_in-at, masses_in-none, same_default}
+use Rattle.amr_patch.specs.Orders.{AreBoxesInRows, AreInRows, IsHolder, IsOrderOf, comes_first}
+use Rattle.amr_patch.proofs.Rows.{and_true, inside, is_inside}
+use Rattle.amr_patch.proofs.Entries.{in_grown, in_the_frame}
+use Rattle.amr_patch.proofs.Standing.{order_of_boxes}
+use Rattle.amr_patch.proofs.Lookups.{holder, one_patch, masses_in-at, masses_in-none, same_default}
 
 -- ---- lists of one length
 
@@ -70,7 +73,27 @@ blank_apart bs ps h apart i j d lt l c p q =
     let e = pairwise_at IsBlank bs ps j (box d) d h l in
     apart i j (box d) lt (omega (arith, n)) c (ap (λ (t : Extent). holds t c) (sym b.of_box) ∙ p) (ap (λ (t : Extent). holds t c) (sym e.of_box) ∙ q)
 
+-- blank patches of boxes that go row by row go row by row, with no mark and no flux
+pub blank_rows : (bs : List Extent) (ps : List Patch) → Pairwise IsBlank bs ps → AreBoxesInRows bs → AreInRows ps
+blank_rows bs ps h rows i j d lt l =
+    let n = pairwise_length IsBlank bs ps h in
+    let b = pairwise_at IsBlank bs ps i (box d) d h (omega arith) in
+    let e = pairwise_at IsBlank bs ps j (box d) d h l in
+    (λ t. comes_first (b.of_box t).lo (e.of_box t).lo) ∙ rows i j (box d) lt (omega (arith, n))
+
+pub blank_marks : (bs : List Extent) (ps : List Patch) → Pairwise IsBlank bs ps → All HasNoMarks ps
+blank_marks bs ps h i d lt = (pairwise_at IsBlank bs ps i (box d) d h lt).marks
+
+pub blank_fluxes : (bs : List Extent) (ps : List Patch) → Pairwise IsBlank bs ps → All HasNoFluxes ps
+blank_fluxes bs ps h i d lt = (pairwise_at IsBlank bs ps i (box d) d h lt).fluxes
+
 -- ---- copies
+
+pub copy_boxes : (ps qs : List Patch) → Pairwise IsCopy ps qs → map box qs ≡ map box ps
+copy_boxes [] [] h = refl
+copy_boxes [] (q ∷ qs) h = absurd h
+copy_boxes (p ∷ ps) [] h = absurd h
+copy_boxes (p ∷ ps) (q ∷ qs) h = λ i. h.0.of_box i ∷ copy_boxes ps qs h.1 i
 
 pub copy_masses : (ps qs : List Patch) → Pairwise IsCopy ps qs → masses_in qs ≡ masses_in ps
 copy_masses ps qs h = λ i c. at ps qs c h i
@@ -103,6 +126,19 @@ box_set ps k i p d lt e = cases (cases_eq i k)
         ∙ ap (λ (n : ℕ). box (slice_index_or ps n d)) (sym h)
     cases (inr h) = ap (λ (q : Patch). box q) (get_or-set_other ps k i p d h)
 
+pub boxes_set : (ps : List Patch) (k : ℕ) (p : Patch) → k < length ps → box p ≡ box (slice_index_or ps k p) → map box (slice_set ps k p) ≡ map box ps
+boxes_set [] k p lt e = absurd (omega arith)
+boxes_set (x ∷ ps) zero p lt e = λ i. e i ∷ map box ps
+boxes_set (x ∷ ps) (suc k) p lt e = λ i. box x ∷ boxes_set ps k p (omega arith) e i
+
+-- a patch keeps what it has
+itself : (p : Patch) → KeepsFrameAndFluxes p p
+itself p = record { of_box = refl; ghosts = λ c h. refl; marks = λ c. refl; fluxes = λ f. refl }
+
+all_kept : (ps : List Patch) → Pairwise KeepsFrameAndFluxes ps ps
+all_kept [] = tt
+all_kept (p ∷ ps) = (itself p, all_kept ps)
+
 pub apart_set : (ps : List Patch) (k : ℕ) (p : Patch) → k < length ps → box p ≡ box (slice_index_or ps k p) → ArePatchesApart ps → ArePatchesApart (slice_set ps k p)
 apart_set ps k p lt e apart i j d g l c h m = apart i j d g (omega (arith, length-set ps k p)) c (ap (λ (t : Extent). holds t c) (sym (box_set ps k i p d lt e)) ∙ h) (ap (λ (t : Extent). holds t c) (sym (box_set ps k j p d lt e)) ∙ m)
 
@@ -133,14 +169,25 @@ none_here ps c h e = clash (sym h ∙ ap (λ (m : Option ℕ). is_some m) (masse
 
 -- the patches stand as they stood
 pub order_set : (o : Order) (ps : List Patch) (k : ℕ) (p : Patch) → k < length ps → box p ≡ box (slice_index_or ps k p) → IsOrderOf o ps → IsOrderOf o (slice_set ps k p)
-order_set o ps k p lt e h = record {
-  sorted = λ s i j d g l. (λ t. comes_first (box_set ps k i p d lt e t).lo (box_set ps k j p d lt e t).lo) ∙ h.sorted s i j d g (omega (arith, length-set ps k p));
-  tallest = λ i d l. omega (arith, ap (λ (b : Extent). height b) (box_set ps k i p d lt e), h.tallest i d (omega (arith, length-set ps k p)));
-}
+order_set o ps k p lt e = order_of_boxes o ps (slice_set ps k p) (boxes_set ps k p lt e)
+
+-- no ghost cell is a cell of the box
+pub ghosts_stay : (c : Cell) (q p : Patch) → holds (box q) c ≡ true → SameOtherValues c q p → SameGhosts q p
+ghosts_stay c q p h others d e = others d (in_the_frame (box q) d e) (λ same. apart (holds (box q) d) (and_true (holds (grown (box q)) d) (not (holds (box q) d)) e).1 (ap (λ (b : Cell). holds (box q) b) same ∙ h))
+  where
+    apart : (t : Bool) → not t ≡ true → t ≡ true → ⊥
+    apart true e f = cc
+    apart false e f = cc
+
+-- a patch that keeps all but its masses was put in place of the one at k
+pub frames_set : (ps : List Patch) (k : ℕ) (p q : Patch) → k < length ps → q ≡ slice_index_or ps k q → KeepsFrameAndFluxes q p → Pairwise KeepsFrameAndFluxes ps (slice_set ps k p)
+frames_set [] k p q lt at h = absurd (omega arith)
+frames_set (x ∷ ps) zero p q lt at h = (subst (λ (r : Patch). KeepsFrameAndFluxes r p) at h, all_kept ps)
+frames_set (x ∷ ps) (suc k) p q lt at h = (itself x, frames_set ps k p q (omega arith) at h)
 
 -- the masses along a row of the patch that has the cell
-pub along_run : (ps : List Patch) (c : Cell) (i k m n : ℕ) (p : Patch) → ArePatchesApart ps → IsHolder ps c i → p ≡ slice_index_or ps i p → pos n ≡ (box p).hi.x +ℤ pos 1 -ℤ c.x → k < n → m ≡ mass_in p (cell (c.x +ℤ pos k) c.y) → masses_in ps (cell (c.x +ℤ pos k) c.y) ≡ Some m
-along_run ps c i k m n p apart h at_i count lt e =
+pub along_span : (ps : List Patch) (c : Cell) (i k m n : ℕ) (p : Patch) → ArePatchesApart ps → IsHolder ps c i → p ≡ slice_index_or ps i p → pos n ≡ (box p).hi.x +ℤ pos 1 -ℤ c.x → k < n → m ≡ mass_in p (cell (c.x +ℤ pos k) c.y) → masses_in ps (cell (c.x +ℤ pos k) c.y) ≡ Some m
+along_span ps c i k m n p apart h at_i count lt e =
     let p_there : slice_index_or ps i p ≡ p = sym at_i in
     let in_p : holds (box p) c ≡ true = ap (λ (q : Patch). holds (box q) c) at_i ∙ h.holds_it p in
     let b = inside (box p) c in_p in
@@ -148,3 +195,9 @@ along_run ps c i k m n p apart h at_i count lt e =
     masses_in-at ps (cell (c.x +ℤ pos k) c.y) i p apart (holder ps (cell (c.x +ℤ pos k) c.y) i p h.inside at_i there)
     ∙ ap (λ (q : Patch). Some (mass_in q (cell (c.x +ℤ pos k) c.y))) p_there
     ∙ ap (λ (v : ℕ). Some v) (sym e)
+
+-- a patch that has the cell is the one that was found
+pub one_holder_here : (ps : List Patch) (c : Cell) (i j : ℕ) (p d : Patch) → ArePatchesApart ps → IsHolder ps c i → p ≡ slice_index_or ps i p → j < length ps → holds (box (slice_index_or ps j d)) c ≡ true → p ≡ slice_index_or ps j d
+one_holder_here ps c i j p d apart h at_i lt e =
+    let same : i ≡ j = one_patch ps c i j d apart h.inside lt (h.holds_it d) e in
+    at_i ∙ same_default ps i p d h.inside ∙ ap (λ (n : ℕ). slice_index_or ps n d) same

@@ -57,6 +57,15 @@ same_default [] i d e h = absurd (omega arith)
 same_default (x ∷ xs) zero d e h = refl
 same_default (x ∷ xs) (suc i) d e h = same_default xs i d e (omega arith)
 
+-- one patch has a cell
+pub one_patch : (ps : List Patch) (c : Cell) (i j : ℕ) (d : Patch) → ArePatchesApart ps → i < length ps → j < length ps → holds (box (slice_index_or ps i d)) c ≡ true → holds (box (slice_index_or ps j d)) c ≡ true → i ≡ j
+one_patch ps c i j d apart lt l e f = cases (cases_lt i j) (cases_lt j i)
+  where
+    cases : (i < j) ⊎ (j ≤ i) → (j < i) ⊎ (i ≤ j) → i ≡ j
+    cases (inl g) k = absurd (apart i j d g l c e f)
+    cases (inr g) (inl k) = absurd (apart j i d k lt c f e)
+    cases (inr g) (inr k) = omega arith
+
 -- what a patch of the list says, whatever stands for a place beyond its end
 pub holder : (ps : List Patch) (c : Cell) (i : ℕ) (p : Patch) → i < length ps → p ≡ slice_index_or ps i p → holds (box p) c ≡ true → IsHolder ps c i
 holder ps c i p lt e h = record { inside = lt; holds_it = λ d. ap (λ (q : Patch). holds (box q) c) (same_default ps i d p lt ∙ sym e) ∙ h }
@@ -69,7 +78,10 @@ comes_first-rows a b h = grind (arith, ints)
 comes_first-columns : (a b : Cell) → comes_first a b ≡ true → a.y ≡ b.y → a.x ≤ℤ b.x
 comes_first-columns a b h e = grind (arith, ints)
 
-comes_first-yes : (a b : Cell) → a.y ≤ℤ b.y → a.x ≤ℤ b.x → comes_first a b ≡ true
+pub comes_first-below : (a b : Cell) → a.y <ℤ b.y → comes_first a b ≡ true
+comes_first-below a b h = grind (arith, ints)
+
+pub comes_first-yes : (a b : Cell) → a.y ≤ℤ b.y → a.x ≤ℤ b.x → comes_first a b ≡ true
 comes_first-yes a b h k = grind (arith, ints)
 
 pub comes_first-trans : (a b c : Cell) → comes_first a b ≡ true → comes_first b c ≡ true → comes_first a c ≡ true

@@ -5,10 +5,8 @@ use Rattle.std.proofs.lemmas.Int.{ints}
 use Rattle.std.proofs.lemmas.Nat.{rows}
 use Rattle.std.proofs.Math.Nat.{mul-le-mul_right}
 use Rattle.amr_box.specs.declared.Cell.{Cell}
-use Rattle.amr_box.specs.declared.Axis.{Axis}
-use Rattle.amr_box.specs.declared.Axis.TheVariants.{X, Y}
 use Rattle.amr_box.specs.Cells.{Extent, IsNear, at_least_zero, cell, extent, height, holds, width, within}
-use Rattle.amr_patch.specs.Places.{on_box, place, x_place, y_place}
+use Rattle.amr_patch.specs.Places.{place}
 
 -- ---- tests as facts
 
@@ -63,20 +61,6 @@ place_is b c row column w r s e =
     let q : at_least_zero (c.x +ℤ pos 1 -ℤ b.lo.x) ≡ column = zero-cut (c.x +ℤ pos 1 -ℤ b.lo.x) column (omega (arith, ints, s)) in
     rw (p, q, e) refl
 
-pub x_place_is : (b : Extent) (c : Cell) (row column w : ℕ) → pos row ≡ c.y -ℤ b.lo.y → pos column ≡ c.x -ℤ b.lo.x → w ≡ width b → row * (w + 1) + column ≡ x_place b c
-unfolding x_place
-x_place_is b c row column w r s e =
-    let p : at_least_zero (c.y -ℤ b.lo.y) ≡ row = zero-cut (c.y -ℤ b.lo.y) row r in
-    let q : at_least_zero (c.x -ℤ b.lo.x) ≡ column = zero-cut (c.x -ℤ b.lo.x) column s in
-    rw (p, q, e) refl
-
-pub y_place_is : (b : Extent) (c : Cell) (row column w : ℕ) → pos row ≡ c.y -ℤ b.lo.y → pos column ≡ c.x -ℤ b.lo.x → w ≡ width b → row * w + column ≡ y_place b c
-unfolding y_place
-y_place_is b c row column w r s e =
-    let p : at_least_zero (c.y -ℤ b.lo.y) ≡ row = zero-cut (c.y -ℤ b.lo.y) row r in
-    let q : at_least_zero (c.x -ℤ b.lo.x) ≡ column = zero-cut (c.x -ℤ b.lo.x) column s in
-    rw (p, q, e) refl
-
 -- the sides of a near box, as whole numbers
 pub record HasSides (b : Extent) : Type 0 where
   pub wide : pos (width b) ≡ b.hi.x +ℤ pos 1 -ℤ b.lo.x
@@ -99,17 +83,6 @@ sides b h =
 -- such a place is one of h rows of w entries
 pub place_within : (row column w h : ℕ) → row < h → column < w → row * w + column < h * w
 place_within row column w h p q = grind (arith, rows)
-
--- ---- faces
-
--- the cells at whose low side along an axis a face of the box lies
-abbrev pub face_cells : Axis → Extent → Extent
-face_cells X b = extent b.lo (cell (b.hi.x +ℤ pos 1) b.hi.y)
-face_cells Y b = extent b.lo (cell b.hi.x (b.hi.y +ℤ pos 1))
-
-pub around : (axis : Axis) (b : Extent) (c : Cell) → on_box axis b c ≡ true → IsIn (face_cells axis b) c
-around X b c e = inside (extent b.lo (cell (b.hi.x +ℤ pos 1) b.hi.y)) c e
-around Y b c e = inside (extent b.lo (cell b.hi.x (b.hi.y +ℤ pos 1))) c e
 
 pub row_within : (row column n w h : ℕ) → row < h → column + n ≤ w → row * w + column + n ≤ h * w
 row_within row column n w h p q =

@@ -1,8 +1,9 @@
 -- What a patch holds: a value for each cell of its box (a mass) and of the frame round it (a ghost cell's value), a mark for
--- each cell of the frame, and a flux for each face.
-use Rattle.std.specs.Prelude.{◌≡◌, ◌≢◌, ℕ, Bool, false, cond, ℤ, pos, negsuc, ◌<ℤ◌, List, [], ◌∷◌, slice_index, slice_index_or, IsTrue}
+-- each cell of the frame, and a flux for each face on the edge lines of its box.
+use Rattle.std.specs.Prelude.{◌≡◌, ◌≢◌, ℕ, ◌<◌, Bool, false, cond, ℤ, pos, negsuc, ◌+ℤ◌, ◌<ℤ◌, List, [], ◌∷◌, slice_index, slice_index_or, IsTrue}
 use Rattle.std.specs.declared.option.Option.TheVariants.{None, Some}
 use Rattle.std.specs.List.{AllPairs, list_any}
+use Rattle.std.specs.Ordering.{int_eq}
 use Rattle.amr_box.specs.declared.Cell.{Cell}
 use Rattle.amr_box.specs.declared.Face.{Face}
 use Rattle.amr_box.specs.declared.Axis.{Axis}
@@ -10,7 +11,7 @@ use Rattle.amr_box.specs.declared.Axis.TheVariants.{X, Y}
 use Rattle.amr_box.specs.Cells.{Extent, cell, holds}
 use Rattle.amr_def.specs.State.{Masses, in_boxes}
 use Rattle.amr_patch.specs.declared.patches.Patch.{Patch}
-use Rattle.amr_patch.specs.Places.{grown, is_face_of, place, x_place, y_place}
+use Rattle.amr_patch.specs.Places.{column_of, grown, in_frame, is_edge_face, place, row_of}
 
 abbrev pub box : Patch → Extent
 box p = p.bx
@@ -32,10 +33,10 @@ unfoldable pub mark_in : Patch → Cell → Bool
 mark_in p c = slice_index_or p.marks.items (place p.bx c) false
 
 abbrev pub flux_along : Axis → Patch → Cell → ℤ
-flux_along X p c = slice_index_or p.x_fluxes.items (x_place p.bx c) (pos 0)
-flux_along Y p c = slice_index_or p.y_fluxes.items (y_place p.bx c) (pos 0)
+flux_along X p c = cond (int_eq c.x p.bx.lo.x) (slice_index_or p.x_low.items (row_of p.bx c) (pos 0)) (slice_index_or p.x_high.items (row_of p.bx c) (pos 0))
+flux_along Y p c = cond (int_eq c.y p.bx.lo.y) (slice_index_or p.y_low.items (column_of p.bx c) (pos 0)) (slice_index_or p.y_high.items (column_of p.bx c) (pos 0))
 
--- the flux through a face of a cell of the box
+-- the flux through a face on an edge line of the box
 unfoldable pub flux_in : Patch → Face → ℤ
 flux_in p f = flux_along f.axis p (cell f.x f.y)
 
@@ -58,18 +59,46 @@ abbrev pub SameOtherMarks : Cell → Patch → Patch → Type 0
 SameOtherMarks c p q = (d : Cell) → IsTrue (holds (grown (box p)) d) → d ≢ c → mark_in q d ≡ mark_in p d
 
 abbrev pub SameOtherFluxes : Face → Patch → Patch → Type 0
-SameOtherFluxes f p q = (g : Face) → IsTrue (is_face_of (box p) g) → g ≢ f → flux_in q g ≡ flux_in p g
+SameOtherFluxes f p q = (g : Face) → IsTrue (is_edge_face (box p) g) → g ≢ f → flux_in q g ≡ flux_in p g
+
+-- the ghost cells
+abbrev pub SameGhosts : Patch → Patch → Type 0
+SameGhosts p q = (c : Cell) → IsTrue (in_frame (box p) c) → ghost_in q c ≡ ghost_in p c
+
+-- a patch keeps all but its masses
+pub record KeepsFrameAndFluxes (p q : Patch) : Type 0 where
+  pub of_box : box q ≡ box p
+  pub ghosts : SameGhosts p q
+  pub marks : SameMarks p q
+  pub fluxes : SameFluxes p q
+
+-- all values but those of n cells of a row, from a cell on
+abbrev pub SameBeside : Cell → ℕ → Patch → Patch → Type 0
+SameBeside c n p q = (d : Cell) → IsTrue (holds (grown (box p)) d) → ((k : ℕ) → k < n → d ≢ cell (c.x +ℤ pos k) c.y) → value_in q d ≡ value_in p d
 
 -- ---- patches made
 
--- the patch of a box, where each mass is 0
+-- nothing flows through the faces on the edge lines
+abbrev pub HasNoFluxes : Patch → Type 0
+HasNoFluxes p = (f : Face) → flux_in p f ≡ pos 0
+
+-- no ghost cell is marked
+abbrev pub HasNoMarks : Patch → Type 0
+HasNoMarks p = (c : Cell) → mark_in p c ≡ false
+
+-- the patch of a box, where each mass and each flux is 0
 pub record IsBlank (b : Extent) (p : Patch) : Type 0 where
   pub of_box : box p ≡ b
   pub empty : (c : Cell) → mass_in p c ≡ 0
+  pub marks : HasNoMarks p
+  pub fluxes : HasNoFluxes p
 
+-- a copy has all but the fluxes
 pub record IsCopy (p q : Patch) : Type 0 where
   pub of_box : box q ≡ box p
   pub values : SameValues p q
+  pub marks : SameMarks p q
+  pub fluxes : HasNoFluxes q
 
 -- ---- several patches
 

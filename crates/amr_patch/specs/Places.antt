@@ -1,6 +1,7 @@
--- Where the entries of a patch stand in its lists: values row by row over the grown box, fluxes row by row over the box's
--- faces, within a row from the low column.
-use Rattle.std.specs.Prelude.{ℕ, ◌+◌, ◌*◌, Bool, ◌&&◌, not, pos, ◌+ℤ◌, ◌-ℤ◌}
+-- Where the entries of a patch stand in its lists: values row by row over the grown box, within a row from the low column;
+-- fluxes along the four edge lines of the box, which are the lines of faces that its cells share with cells outside.
+use Rattle.std.specs.Prelude.{ℕ, ◌+◌, ◌*◌, ℤ, Bool, ◌&&◌, ◌||◌, not, pos, ◌+ℤ◌, ◌-ℤ◌}
+use Rattle.std.specs.Ordering.{int_eq}
 use Rattle.amr_box.specs.declared.Cell.{Cell}
 use Rattle.amr_box.specs.declared.Face.{Face}
 use Rattle.amr_box.specs.declared.Axis.{Axis}
@@ -27,10 +28,23 @@ is_face_of b f = on_box f.axis b (cell f.x f.y)
 unfoldable pub place : Extent → Cell → ℕ
 place b c = at_least_zero (c.y +ℤ pos 1 -ℤ b.lo.y) * (width b + 2) + at_least_zero (c.x +ℤ pos 1 -ℤ b.lo.x)
 
--- the flux through the x face at the low side of a cell, the first of the cells right of the box too
-unfoldable pub x_place : Extent → Cell → ℕ
-x_place b c = at_least_zero (c.y -ℤ b.lo.y) * (width b + 1) + at_least_zero (c.x -ℤ b.lo.x)
+-- ---- edge lines
 
--- the flux through the y face at the low side of a cell, the first of the cells above the box too
-unfoldable pub y_place : Extent → Cell → ℕ
-y_place b c = at_least_zero (c.y -ℤ b.lo.y) * width b + at_least_zero (c.x -ℤ b.lo.x)
+-- whether a line of faces is the one at the low side of the cells from low to high, or the one at their high side
+abbrev pub is_end : ℤ → ℤ → ℤ → Bool
+is_end low high z = int_eq z low || int_eq z (high +ℤ pos 1)
+
+-- whether the face at the low side of a cell lies on an edge line of a box
+abbrev pub on_edge : Axis → Extent → Cell → Bool
+on_edge X b c = within b.lo.y b.hi.y c.y && is_end b.lo.x b.hi.x c.x
+on_edge Y b c = within b.lo.x b.hi.x c.x && is_end b.lo.y b.hi.y c.y
+
+abbrev pub is_edge_face : Extent → Face → Bool
+is_edge_face b f = on_edge f.axis b (cell f.x f.y)
+
+-- the row and the column of a cell, each counted from the low corner of a box
+abbrev pub row_of : Extent → Cell → ℕ
+row_of b c = at_least_zero (c.y -ℤ b.lo.y)
+
+abbrev pub column_of : Extent → Cell → ℕ
+column_of b c = at_least_zero (c.x -ℤ b.lo.x)

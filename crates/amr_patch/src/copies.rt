@@ -2,6 +2,7 @@
 
 ghost use Rattle.std.specs.Prelude.{IfOk};
 ghost use Rattle.std.specs.List.Sorted.{IsPermutation};
+ghost use Rattle.amr_patch.specs.Orders.{AreBoxesInRows};
 ghost use Rattle.amr_patch.specs.Pairwise.{Pairwise};
 ghost use Rattle.amr_patch.specs.Patches.{AreNear, IsBlank, IsCopy};
 
@@ -12,7 +13,8 @@ use std::alloc::Global;
 
 /// The boxes in the order of their low corners, row by row.
 pub(crate) fn in_rows(alloc: Global, boxes: &[Bx]) -> Result<Vec<Bx>, NoMemory>
-    ensures { IfOk result (λ v. IsPermutation boxes.now v.items) }
+    ensures same { IfOk result (λ v. IsPermutation boxes.now v.items) }
+    ensures in_rows { IfOk result (λ v. AreBoxesInRows v.items) }
 {
     let mut sorted = Vec::from_slice(alloc, boxes)?;
     sorted.sort_unstable_by_key(|b| {

@@ -9,6 +9,7 @@
 
 mod copies;
 mod levels;
+mod lists;
 mod lookup;
 mod meshes;
 mod patches;

@@ -1,10 +1,10 @@
 //! Which of several patches has a cell.
 
-ghost use Rattle.std.specs.Prelude.{◌≡◌, ℕ, ◌<◌, ◌≤◌, ◌-◌, true, false, slice_index_or, IfSome, IsTrue, length, is_some};
+ghost use Rattle.std.specs.Prelude.{◌≡◌, ◌<◌, ◌≤◌, ◌↔◌, true, false, IfSome, IsTrue, length, is_some};
 ghost use Rattle.std.specs.List.Sorted.{IsPartitionPoint};
 ghost use Rattle.amr_box.specs.Cells.{cell, holds};
 ghost use Rattle.amr_patch.specs.Patches.{ArePatchesApart, box, in_patches, masses_in};
-ghost use Rattle.amr_patch.specs.Orders.{AreAtMostHigh, AreInRows, IsHolder, IsOrderOf, comes_first};
+ghost use Rattle.amr_patch.specs.Orders.{AreAtMostHigh, AreInRows, FollowsLast, IsHolder, IsOrderOf, comes_first};
 
 use crate::patches::Patch;
 use amr_box::Cell;
@@ -46,7 +46,7 @@ fn comes_first(a: Cell, b: Cell) -> bool
 /// Whether a patch comes after the one before it; the first one does.
 fn is_in_order(patches: &[Patch], k: usize) -> bool
     requires { k < length patches.now }
-    ensures { result ≡ true → (d : Patch) → 0 < k → IsTrue (comes_first (box (slice_index_or patches.now (k - 1) d)).lo (box (slice_index_or patches.now k d)).lo) }
+    ensures { IsTrue result ↔ FollowsLast patches.now k }
 {
     if k == 0 {
         return true;

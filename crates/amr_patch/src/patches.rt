@@ -3,83 +3,100 @@
 ghost use Rattle.std.specs.Prelude.{◌≡◌, ◌+◌, ◌*◌, length};
 ghost use Rattle.amr_box.specs.Cells.{IsNear, height, width};
 
-use crate::places::{columns_from, in_frame, on_box, place, row_place, x_place, y_place};
+use crate::lists::{no_fluxes, no_marks, no_values, set_span};
+use crate::places::{columns_from, edge_column, edge_row, in_frame, on_edge, place, row_place};
 use amr_box::{Axis, Bx, Cell, Face};
 use amr_causes::NoMemory;
 use std::alloc::Global;
 
 /// A box of cells with what a step needs of them (BoxLib's FAB with one ghost cell): a value for each cell of the box, its
 /// mass, and of the frame one cell wide round it, each of these marked where it is a cell of the level; and a flux for each
-/// face of a cell of the box, above 0 towards the high side. Coordinates lie between -2^24 and 2^24.
+/// face on the four edge lines of the box, above 0 towards the high side. Other patches, registers and the ledger read these
+/// fluxes. Coordinates lie between -2^24 and 2^24, masses are below 2^32, and fluxes of a size below 2^31.
 ///
-/// The lists go row by row from the low row, within a row from the low column. A row of `values` and `marks` is a row of the
-/// grown box, two cells wider than the box; there are two rows more than the box has. A row of `x_fluxes` has the fluxes
-/// through the x faces of a row of the box, one more than it has columns; a row of `y_fluxes` those through the y faces at
-/// the low side of a row, and there is one row more than the box has.
+/// `values` and `marks` go row by row from the low row, within a row from the low column. A row of them is a row of the grown
+/// box, two cells wider than the box; there are two rows more than the box has. `x_low` has the flux through the x face at the
+/// low side of each row, from the low row on, and `x_high` that at its high side. `y_low` has the flux through the y face at
+/// the low side of each column, from the low column on, and `y_high` that at its high side.
 #[derive(Drop)]
 pub struct Patch {
     pub bx: Bx,
-    pub values: Vec<u64>,
+    pub values: Vec<u32>,
     pub marks: Vec<bool>,
-    pub x_fluxes: Vec<i64>,
-    pub y_fluxes: Vec<i64>,
+    pub x_low: Vec<i32>,
+    pub x_high: Vec<i32>,
+    pub y_low: Vec<i32>,
+    pub y_high: Vec<i32>,
     pub ghost near: { IsNear bx },
     pub ghost value_count: { length values.items ≡ (height bx + 2) * (width bx + 2) },
     pub ghost mark_count: { length marks.items ≡ (height bx + 2) * (width bx + 2) },
-    pub ghost x_count: { length x_fluxes.items ≡ height bx * (width bx + 1) },
-    pub ghost y_count: { length y_fluxes.items ≡ (height bx + 1) * width bx },
+    pub ghost x_low_count: { length x_low.items ≡ height bx },
+    pub ghost x_high_count: { length x_high.items ≡ height bx },
+    pub ghost y_low_count: { length y_low.items ≡ width bx },
+    pub ghost y_high_count: { length y_high.items ≡ width bx },
 }
 
 #[tactic(auto, unfolding(crate::specs::Patches::value_in, crate::specs::Patches::mark_in, crate::specs::Patches::flux_in))]
 impl Patch {
-    ghost use Rattle.std.specs.Prelude.{ℕ, ◌<◌, ◌-ℤ◌, ◌+ℤ◌, pos, false, slice_index, IfOk, IsTrue};
+    ghost use Rattle.std.specs.Prelude.{ℕ, ◌<◌, ◌^◌, ◌-ℤ◌, ◌+ℤ◌, ◌≤ℤ◌, pos, slice_index, unsigned_abs, IfOk, IsTrue};
     ghost use Rattle.amr_box.specs.declared.Cell.{Cell};
     ghost use Rattle.amr_box.specs.declared.Face.{Face};
     ghost use Rattle.amr_box.specs.Cells.{cell, holds, within};
-    ghost use Rattle.amr_patch.specs.Places.{grown, in_frame, is_face_of};
-    ghost use Rattle.amr_patch.specs.Patches.{SameFluxes, SameMarks, SameOtherFluxes, SameOtherMarks, SameOtherValues, SameValues, box, flux_in, ghost_in, mark_in, mass_in, value_in};
+    ghost use Rattle.amr_patch.specs.Places.{in_frame, is_edge_face};
+    ghost use Rattle.amr_patch.specs.Patches.{HasNoFluxes, HasNoMarks, SameBeside, SameFluxes, SameMarks, SameOtherFluxes, SameOtherMarks, SameOtherValues, SameValues, box, flux_in, ghost_in, mark_in, mass_in, value_in};
 
     /// The patch of a box: all values and fluxes are 0, and no cell of the frame is marked.
     pub fn make(alloc: Global, b: Bx) -> Result<Patch, NoMemory>
         requires { IsNear b }
         ensures of_box { IfOk result (λ p. box p ≡ b) }
         ensures values { IfOk result (λ p. (c : Cell) → value_in p c ≡ 0) }
-        ensures marks { IfOk result (λ p. (c : Cell) → mark_in p c ≡ false) }
-        ensures fluxes { IfOk result (λ p. (f : Face) → flux_in p f ≡ pos 0) }
+        ensures marks { IfOk result HasNoMarks }
+        ensures fluxes { IfOk result HasNoFluxes }
     {
         let width = b.width() as usize;
         let height = b.height() as usize;
-        let values = vec![in alloc; 0u64; (height + 2) * (width + 2)]?;
-        let marks = vec![in alloc; false; (height + 2) * (width + 2)]?;
-        let x_fluxes = vec![in alloc; 0i64; height * (width + 1)]?;
-        let y_fluxes = vec![in alloc; 0i64; (height + 1) * width]?;
+        let count = (height + 2) * (width + 2);
+        let values = no_values(alloc, count)?;
+        let marks = no_marks(alloc, count)?;
+        let x_low = no_fluxes(alloc, height)?;
+        let x_high = no_fluxes(alloc, height)?;
+        let y_low = no_fluxes(alloc, width)?;
+        let y_high = no_fluxes(alloc, width)?;
         Ok(Patch {
             bx: b,
             values,
             marks,
-            x_fluxes,
-            y_fluxes,
+            x_low,
+            x_high,
+            y_low,
+            y_high,
         })
     }
 
-    /// A patch with the same box, values, marks and fluxes.
+    /// A patch with the same box, values and marks. Its fluxes are 0.
     pub fn copy(&self) -> Result<Patch, NoMemory>
         ensures of_box { IfOk result (λ p. box p ≡ box self.now) }
         ensures values { IfOk result (λ p. SameValues self.now p) }
         ensures marks { IfOk result (λ p. SameMarks self.now p) }
-        ensures fluxes { IfOk result (λ p. SameFluxes self.now p) }
+        ensures fluxes { IfOk result HasNoFluxes }
     {
         let alloc = *self.values.allocator();
+        let width = self.bx.width() as usize;
+        let height = self.bx.height() as usize;
         let values = Vec::from_slice(alloc, &self.values)?;
         let marks = Vec::from_slice(alloc, &self.marks)?;
-        let x_fluxes = Vec::from_slice(alloc, &self.x_fluxes)?;
-        let y_fluxes = Vec::from_slice(alloc, &self.y_fluxes)?;
+        let x_low = no_fluxes(alloc, height)?;
+        let x_high = no_fluxes(alloc, height)?;
+        let y_low = no_fluxes(alloc, width)?;
+        let y_high = no_fluxes(alloc, width)?;
         Ok(Patch {
             bx: self.bx,
             values,
             marks,
-            x_fluxes,
-            y_fluxes,
+            x_low,
+            x_high,
+            y_low,
+            y_high,
         })
     }
 
@@ -94,9 +111,10 @@ impl Patch {
     /// The mass of a cell of the box.
     pub fn mass(&self, c: Cell) -> u64
         requires { IsTrue (holds (box self.now) c) }
-        ensures { result ≡ mass_in self.now c }
+        ensures value { result ≡ mass_in self.now c }
+        ensures small { result < 2 ^ 32 }
     {
-        self.values[place(&self.bx, c)]
+        u64::from(self.values[place(&self.bx, c)])
     }
 
     /// Whether a cell is of the frame.
@@ -106,38 +124,55 @@ impl Patch {
         in_frame(&self.bx, c)
     }
 
-    /// Whether a face is one of a cell of the box.
-    pub fn has_face(&self, f: Face) -> bool
-        ensures { result ≡ is_face_of (box self.now) f }
+    /// Whether a face lies on an edge line of the box.
+    pub fn on_edge(&self, f: Face) -> bool
+        ensures { result ≡ is_edge_face (box self.now) f }
     {
-        on_box(f.axis, &self.bx, Cell { x: f.x, y: f.y })
+        on_edge(f.axis, &self.bx, Cell { x: f.x, y: f.y })
     }
 
     /// The value of a cell of the frame, and whether it is a cell of the level.
     pub fn ghost_cell(&self, c: Cell) -> (u64, bool)
         requires { IsTrue (in_frame (box self.now) c) }
         ensures value { result.0 ≡ ghost_in self.now c }
+        ensures small { result.0 < 2 ^ 32 }
         ensures mark { result.1 ≡ mark_in self.now c }
     {
         let at = place(&self.bx, c);
-        (self.values[at], self.marks[at])
+        (u64::from(self.values[at]), self.marks[at])
     }
 
-    /// The flux through a face of a cell of the box.
+    /// The flux through a face on an edge line of the box.
     pub fn flux(&self, f: Face) -> i64
-        requires { IsTrue (is_face_of (box self.now) f) }
+        requires { IsTrue (is_edge_face (box self.now) f) }
         ensures { result ≡ flux_in self.now f }
     {
+        let lo = self.bx.lo();
         let c = Cell { x: f.x, y: f.y };
         match f.axis {
-            Axis::X => self.x_fluxes[x_place(&self.bx, c)],
-            Axis::Y => self.y_fluxes[y_place(&self.bx, c)],
+            Axis::X => {
+                let row = edge_row(&self.bx, c);
+                if f.x == lo.x {
+                    i64::from(self.x_low[row])
+                } else {
+                    i64::from(self.x_high[row])
+                }
+            }
+            Axis::Y => {
+                let column = edge_column(&self.bx, c);
+                if f.y == lo.y {
+                    i64::from(self.y_low[column])
+                } else {
+                    i64::from(self.y_high[column])
+                }
+            }
         }
     }
 
     /// Gives a cell of the box a mass.
     pub fn set_mass(&mut self, c: Cell, m: u64)
-        requires { IsTrue (holds (box self.old) c) }
+        requires inside { IsTrue (holds (box self.old) c) }
+        requires small { m < 2 ^ 32 }
         ensures set { mass_in self.new c ≡ m }
         ensures others { SameOtherValues c self.old self.new }
         ensures marks { SameMarks self.old self.new }
@@ -145,12 +180,13 @@ impl Patch {
         ensures of_box { box self.new ≡ box self.old }
     {
         let at = place(&self.bx, c);
-        self.values[at] = m;
+        self.values[at] = m as u32;
     }
 
     /// Gives a cell of the frame a value, and says whether it is a cell of the level.
     pub fn set_ghost(&mut self, c: Cell, v: u64, of_level: bool)
-        requires { IsTrue (in_frame (box self.old) c) }
+        requires ghost_cell { IsTrue (in_frame (box self.old) c) }
+        requires small { v < 2 ^ 32 }
         ensures set { ghost_in self.new c ≡ v }
         ensures marked { mark_in self.new c ≡ of_level }
         ensures others { SameOtherValues c self.old self.new }
@@ -159,34 +195,58 @@ impl Patch {
         ensures of_box { box self.new ≡ box self.old }
     {
         let at = place(&self.bx, c);
-        self.values[at] = v;
+        self.values[at] = v as u32;
         self.marks[at] = of_level;
     }
 
-    /// Gives a face of a cell of the box a flux.
+    /// Gives the cells of a row, from one of them on, these masses.
+    pub fn set_masses(&mut self, c: Cell, masses: &[u32])
+        requires inside { IsTrue (holds (box self.old) c) }
+        requires room { (c.x +ℤ pos (length masses.now)) ≤ℤ ((box self.old).hi.x +ℤ pos 1) }
+        ensures set { (k : ℕ) → k < length masses.now → mass_in self.new (cell (c.x +ℤ pos k) c.y) ≡ slice_index masses.now k }
+        ensures others { SameBeside c (length masses.now) self.old self.new }
+        ensures marks { SameMarks self.old self.new }
+        ensures fluxes { SameFluxes self.old self.new }
+        ensures of_box { box self.new ≡ box self.old }
+    {
+        let from = row_place(&self.bx, c, masses.len() as u32);
+        set_span(&mut self.values, from, masses);
+    }
+
+    /// Gives a face on an edge line of the box a flux.
     pub fn set_flux(&mut self, f: Face, v: i64)
-        requires { IsTrue (is_face_of (box self.old) f) }
+        requires edge { IsTrue (is_edge_face (box self.old) f) }
+        requires small { unsigned_abs v < 2 ^ 31 }
         ensures set { flux_in self.new f ≡ v }
         ensures others { SameOtherFluxes f self.old self.new }
         ensures values { SameValues self.old self.new }
         ensures marks { SameMarks self.old self.new }
         ensures of_box { box self.new ≡ box self.old }
     {
+        let lo = self.bx.lo();
         let c = Cell { x: f.x, y: f.y };
         match f.axis {
             Axis::X => {
-                let at = x_place(&self.bx, c);
-                self.x_fluxes[at] = v;
+                let row = edge_row(&self.bx, c);
+                if f.x == lo.x {
+                    self.x_low[row] = v as i32;
+                } else {
+                    self.x_high[row] = v as i32;
+                }
             }
             Axis::Y => {
-                let at = y_place(&self.bx, c);
-                self.y_fluxes[at] = v;
+                let column = edge_column(&self.bx, c);
+                if f.y == lo.y {
+                    self.y_low[column] = v as i32;
+                } else {
+                    self.y_high[column] = v as i32;
+                }
             }
         }
     }
 
     /// The masses of a row of the box, from the low column.
-    pub fn masses_of_row(&self, y: i32) -> &[u64]
+    pub fn masses_of_row(&self, y: i32) -> &[u32]
         requires { IsTrue (within (box self.now).lo.y (box self.now).hi.y y) }
         ensures count { length result.now ≡ width (box self.now) }
         ensures masses { (k : ℕ) → k < width (box self.now) → slice_index result.now k ≡ mass_in self.now (cell ((box self.now).lo.x +ℤ pos k) y) }
@@ -198,7 +258,7 @@ impl Patch {
     }
 
     /// The values of a row of the grown box, from the low column.
-    pub fn row_with_frame(&self, y: i32) -> &[u64]
+    pub fn row_with_frame(&self, y: i32) -> &[u32]
         requires { IsTrue (within ((box self.now).lo.y -ℤ pos 1) ((box self.now).hi.y +ℤ pos 1) y) }
         ensures count { length result.now ≡ width (box self.now) + 2 }
         ensures values { (k : ℕ) → k < width (box self.now) + 2 → slice_index result.now k ≡ value_in self.now (cell ((box self.now).lo.x -ℤ pos 1 +ℤ pos k) y) }
@@ -210,7 +270,7 @@ impl Patch {
     }
 
     /// The masses of a row from a cell on, to the high end of the box.
-    pub fn masses_from(&self, c: Cell) -> &[u64]
+    pub fn masses_from(&self, c: Cell) -> &[u32]
         requires { IsTrue (holds (box self.now) c) }
         ensures count { pos (length result.now) ≡ (box self.now).hi.x +ℤ pos 1 -ℤ c.x }
         ensures masses { (k : ℕ) → k < length result.now → slice_index result.now k ≡ mass_in self.now (cell (c.x +ℤ pos k) c.y) }

@@ -1,9 +1,9 @@
-// Where the entries of a patch stand in its lists.
+//! Where the entries of a patch stand in its lists.
 
 ghost use Rattle.std.specs.Prelude.{◌≡◌, ◌+◌, ◌*◌, ◌<◌, ◌≤◌, pos, negsuc, ◌+ℤ◌, ◌-ℤ◌, ◌≤ℤ◌, ◌<ℤ◌, IsTrue};
 ghost use Rattle.amr_box.specs.declared.Axis.TheVariants.{X, Y};
 ghost use Rattle.amr_box.specs.Cells.{IsNear, height, holds, width, within};
-ghost use Rattle.amr_patch.specs.Places.{grown, in_frame, on_box, place, x_place, y_place};
+ghost use Rattle.amr_patch.specs.Places.{column_of, grown, in_frame, is_end, on_edge, place, row_of};
 
 use amr_box::{Axis, Bx, Cell};
 
@@ -33,22 +33,7 @@ pub(crate) fn in_frame(b: &Bx, c: Cell) -> bool
     b.grow(1).holds(c) && !b.holds(c)
 }
 
-/// Whether a cell has a face of a cell of the box at its low side along the axis.
-#[tactic(auto, using(crate::proofs::Conditions::conditions))]
-pub(crate) fn on_box(axis: Axis, b: &Bx, c: Cell) -> bool
-    requires { IsNear b.now }
-    ensures { result ≡ on_box axis b.now c }
-{
-    let lo = b.lo();
-    let hi = b.hi();
-    match axis {
-        Axis::X => is_within(lo.x, hi.x + 1, c.x) && is_within(lo.y, hi.y, c.y),
-        Axis::Y => is_within(lo.x, hi.x, c.x) && is_within(lo.y, hi.y + 1, c.y),
-    }
-}
-
 /// Where the value of a cell of the grown box stands.
-
 pub(crate) fn place(b: &Bx, c: Cell) -> usize
     requires near { IsNear b.now }
     requires inside { IsTrue (holds (grown b.now) c) }
@@ -86,30 +71,43 @@ pub(crate) fn columns_from(b: &Bx, c: Cell) -> u32
     more as u32 + 1
 }
 
-/// Where the flux through the x face at the low side of a cell stands.
-
-pub(crate) fn x_place(b: &Bx, c: Cell) -> usize
-    requires near { IsNear b.now }
-    requires inside { IsTrue (on_box X b.now c) }
-    ensures value { result ≡ x_place b.now c }
-    ensures within { result < height b.now * (width b.now + 1) }
+/// Whether a line of faces is the one at the low side of the cells from `low` to `high`, or the one at their high side.
+fn is_end(low: i32, high: i32, z: i32) -> bool
+    requires { high <ℤ pos 16777217 }
+    ensures { result ≡ is_end low high z }
 {
-    let lo = b.lo();
-    let row = distance(lo.y, c.y);
-    let column = distance(lo.x, c.x);
-    row * (b.width() as usize + 1) + column
+    z == low || z == high + 1
 }
 
-/// Where the flux through the y face at the low side of a cell stands.
-
-pub(crate) fn y_place(b: &Bx, c: Cell) -> usize
-    requires near { IsNear b.now }
-    requires inside { IsTrue (on_box Y b.now c) }
-    ensures value { result ≡ y_place b.now c }
-    ensures within { result < (height b.now + 1) * width b.now }
+/// Whether the face at the low side of a cell along the axis lies on an edge line of the box.
+pub(crate) fn on_edge(axis: Axis, b: &Bx, c: Cell) -> bool
+    requires { IsNear b.now }
+    ensures { result ≡ on_edge axis b.now c }
 {
     let lo = b.lo();
-    let row = distance(lo.y, c.y);
-    let column = distance(lo.x, c.x);
-    row * b.width() as usize + column
+    let hi = b.hi();
+    match axis {
+        Axis::X => is_within(lo.y, hi.y, c.y) && is_end(lo.x, hi.x, c.x),
+        Axis::Y => is_within(lo.x, hi.x, c.x) && is_end(lo.y, hi.y, c.y),
+    }
+}
+
+/// The row of a face on the low or the high x edge line, counted from the low row of the box.
+pub(crate) fn edge_row(b: &Bx, c: Cell) -> usize
+    requires near { IsNear b.now }
+    requires on_line { IsTrue (on_edge X b.now c) }
+    ensures value { result ≡ row_of b.now c }
+    ensures within { result < height b.now }
+{
+    distance(b.lo().y, c.y)
+}
+
+/// The column of a face on the low or the high y edge line, counted from the low column of the box.
+pub(crate) fn edge_column(b: &Bx, c: Cell) -> usize
+    requires near { IsNear b.now }
+    requires on_line { IsTrue (on_edge Y b.now c) }
+    ensures value { result ≡ column_of b.now c }
+    ensures within { result < width b.now }
+{
+    distance(b.lo().x, c.x)
 }

@@ -1,3 +1,4 @@
+ghost use Rattle.std.specs.Prelude.{◌≡◌, ◌+ℤ◌, pos, length};
 ghost use Rattle.amr_box.specs.Cells.{IsNear};
 ghost use Rattle.amr_patch.specs.Patches.{AreApart, AreNear};
 
@@ -35,25 +36,47 @@ fn ghost_of(p: &Patch, c: Cell) -> Option<(u64, bool)> {
 }
 
 fn flux_of(p: &Patch, f: Face) -> Option<i64> {
-    if p.has_face(f) { Some(p.flux(f)) } else { None }
+    if p.on_edge(f) { Some(p.flux(f)) } else { None }
 }
 
-/// The box with mass 7 in its high corner, the ghost cell right of that marked with value 5, and flux -4 between the two.
+fn x_face(x: i32, y: i32) -> Face {
+    let axis = Axis::X;
+    Face { axis, x, y }
+}
+
+fn y_face(x: i32, y: i32) -> Face {
+    let axis = Axis::Y;
+    Face { axis, x, y }
+}
+
+/// Gives a cell and the one right of it masses, if both are of the box.
+fn set_two(p: &mut Patch, c: Cell, right: Cell, masses: &[u32])
+    requires two { length masses.now ≡ 2 }
+    requires beside { right.x ≡ c.x +ℤ pos 1 }
+{
+    if p.bx().holds(c) {
+        if p.bx().holds(right) {
+            p.set_masses(c, masses);
+        }
+    }
+}
+
+/// The box with masses 6 and 7 at the end of its high row, the ghost cell right of them marked with value 5, and flux -4 into
+/// the row from there.
 fn small_patch(alloc: std::alloc::Global) -> Result<Patch, NoMemory> {
     let mut p = Patch::make(alloc, small_box())?;
-    let (corner, beside) = (cell(2, 1), cell(3, 1));
+    let corner = Cell { x: 2, y: 1 };
+    let before = Cell { x: 1, y: 1 };
+    set_two(&mut p, before, corner, &[6, 1]);
     if p.bx().holds(corner) {
         p.set_mass(corner, 7);
     }
+    let beside = cell(3, 1);
     if p.in_frame(beside) {
         p.set_ghost(beside, 5, true);
     }
-    let between = Face {
-        axis: Axis::X,
-        x: 3,
-        y: 1,
-    };
-    if p.has_face(between) {
+    let between = x_face(3, 1);
+    if p.on_edge(between) {
         p.set_flux(between, -4);
     }
     Ok(p)
@@ -61,46 +84,22 @@ fn small_patch(alloc: std::alloc::Global) -> Result<Patch, NoMemory> {
 
 #[test]
 fn a_patch_has_what_was_set(rt: HostRuntime) -> Result<(), NoMemory> {
-    let p = small_patch(rt.alloc())?.copy()?;
+    let set = small_patch(rt.alloc())?;
+    assert_eq!(rt; flux_of(&set, x_face(3, 1)), Some(-4));
+    assert_eq!(rt; flux_of(&set, x_face(3, 0)), Some(0));
+    assert_eq!(rt; flux_of(&set, x_face(0, 1)), Some(0));
+    assert_eq!(rt; flux_of(&set, x_face(2, 1)), None);
+    assert_eq!(rt; flux_of(&set, y_face(2, 2)), Some(0));
+    assert_eq!(rt; flux_of(&set, y_face(3, 2)), None);
+    let p = set.copy()?;
+    assert_eq!(rt; flux_of(&p, x_face(3, 1)), Some(0));
     assert_eq!(rt; mass_of(&p, cell(2, 1)), Some(7));
-    assert_eq!(rt; mass_of(&p, cell(1, 1)), Some(0));
+    assert_eq!(rt; mass_of(&p, cell(1, 1)), Some(6));
+    assert_eq!(rt; mass_of(&p, cell(0, 1)), Some(0));
     assert_eq!(rt; mass_of(&p, cell(3, 1)), None);
     assert_eq!(rt; ghost_of(&p, cell(3, 1)), Some((5, true)));
     assert_eq!(rt; ghost_of(&p, cell(-1, -1)), Some((0, false)));
     assert_eq!(rt; ghost_of(&p, cell(2, 1)), None);
-    assert_eq!(rt;
-        flux_of(
-            &p,
-            Face {
-                axis: Axis::X,
-                x: 3,
-                y: 1
-            }
-        ),
-        Some(-4)
-    );
-    assert_eq!(rt;
-        flux_of(
-            &p,
-            Face {
-                axis: Axis::Y,
-                x: 2,
-                y: 2
-            }
-        ),
-        Some(0)
-    );
-    assert_eq!(rt;
-        flux_of(
-            &p,
-            Face {
-                axis: Axis::Y,
-                x: 3,
-                y: 1
-            }
-        ),
-        None
-    );
     Ok(())
 }
 
@@ -132,9 +131,9 @@ fn three_patches(alloc: std::alloc::Global) -> Result<Level, NoMemory> {
     Ok(level)
 }
 
-fn run_of(level: &Level, c: Cell) -> &[u64] {
+fn span_of(level: &Level, c: Cell) -> &[u32] {
     match level.get(c) {
-        Some(_) => level.run(c),
+        Some(_) => level.span(c),
         None => &[],
     }
 }
@@ -149,8 +148,8 @@ fn a_level_of_three_patches(rt: HostRuntime) -> Result<(), NoMemory> {
     assert_eq!(rt; level.get(cell(9, 1)), None);
     assert_eq!(rt; level.get(cell(4, 3)), None);
     assert_eq!(rt; level.get(cell(4, -1)), None);
-    assert_eq!(rt; run_of(&level, cell(5, 1)), [0, 0, 5].as_slice());
-    assert_eq!(rt; run_of(&level, cell(8, 0)), [0].as_slice());
+    assert_eq!(rt; span_of(&level, cell(5, 1)), [0, 0, 5].as_slice());
+    assert_eq!(rt; span_of(&level, cell(8, 0)), [0].as_slice());
     Ok(())
 }
 
@@ -163,6 +162,10 @@ fn patches_are_taken_and_put_back(rt: HostRuntime) -> Result<(), NoMemory> {
     let order = order_of(&patches);
     assert_eq!(rt; find(&patches, order, cell(5, 2)), Some(1));
     assert_eq!(rt; find(&patches, order, cell(5, 3)), None);
+    assert_eq!(rt; find(level.patches(), level.order(), cell(5, 2)), None);
+    level.put_patches_in_order(patches, order);
+    assert_eq!(rt; level.get(cell(7, 1)), Some(5));
+    let patches = level.take_patches();
     level.put_patches(patches);
     assert_eq!(rt; level.get(cell(7, 1)), Some(5));
     Ok(())

@@ -1,14 +1,16 @@
 -- Texts that are put one after another.
 use Rattle.std.proofs.Common.{◌≡◌, ℕ, zero, suc, ◌+◌, ◌-◌, ◌<◌, ◌≤◌, ◌⊎◌, inl, inr, List, [], ◌∷◌, ◌++◌, length, get_or, refl, sym, ap, subst, ◌∙◌, append_assoc, arith, add-one}
-use Rattle.std.specs.Prelude.{Result, Ok, Err, IsErr}
+use Rattle.std.specs.Prelude.{Result, Ok, Err, IsErr, OnErr}
 use Rattle.std.proofs.lemmas.List.{append-nil}
 use Rattle.std.proofs.lemmas.Bool.{cases_lt}
 use Rattle.amr_causes.specs.Causes.{Rose}
-use Rattle.amr_causes.specs.Bytes.{Grows, TakesPrefix, IsPrefix}
+use Rattle.amr_causes.specs.Bytes.{Grows, IsPrefix}
 use Rattle.amr_causes.proofs.CauseLaws.{rose_after}
-use Rattle.amr_causes.proofs.ByteLaws.{prefix_whole, prefix_longer, prefix_after, takes_longer, grows_to}
+use Rattle.amr_causes.proofs.ByteLaws.{prefix_whole, prefix_longer, prefix_after, grows_to}
 use Rattle.amr_io.specs.Kept.{Sent}
-use Rattle.amr_io.proofs.Sending.{sent_then, sent_stops, all_sent}
+use Rattle.amr_io.proofs.Sending.{sent_then, all_sent}
+use Rattle.amr_io.specs.Short.{FallsShort}
+use Rattle.amr_io.proofs.Shorter.{sent_short, short_longer}
 use Rattle.amr_def.specs.Plot.{numbered, ledger_line}
 use Rattle.amr_def.specs.declared.problem.Row.{Row}
 use Rattle.std.specs.List.{flat_map, range_with_len}
@@ -21,39 +23,48 @@ module _ {S : Type 0} (holds : S → List ℕ → Type 0) (faults : S → ℕ) w
   puts_same s0 s1 k0 k1 t t' r e puts = subst (λ (u : List ℕ). Puts holds faults s0 s1 k0 k1 u r) e puts
 
   -- one text, and then another, with the answer of the second
-  pub puts_then : {T E : Type 0} (s0 s1 s2 : S) (k0 k1 k2 t1 t2 : List ℕ) (r : Result T E) → Sent holds s0 s1 k0 k1 t1 → faults s0 ≤ faults s1 → Puts holds faults s1 s2 k1 k2 t2 r → Puts holds faults s0 s2 k0 k2 (t1 ++ t2) r
-  puts_then s0 s1 s2 k0 k1 k2 t1 t2 (Ok v) first later puts = record {
+  pub puts_then : {T E : Type 0} (s0 s1 s2 : S) (k0 k1 k2 t1 t2 : List ℕ) (r : Result T E) → Sent holds s0 s1 k0 k1 t1 → faults s1 ≡ faults s0 → Puts holds faults s1 s2 k1 k2 t2 r → Puts holds faults s0 s2 k0 k2 (t1 ++ t2) r
+  puts_then s0 s1 s2 k0 k1 k2 t1 t2 (Ok v) first same puts = record {
     sent = sent_then holds s0 s1 s2 k0 k1 k2 t1 t2 first puts.sent;
     part = tt;
-    cause = record { later = omega (arith, later, puts.cause.later); failed = tt };
+    no_fault = puts.no_fault ∙ same;
+    cause = record { later = omega (arith, same, puts.cause.later); failed = tt };
   }
-  puts_then s0 s1 s2 k0 k1 k2 t1 t2 (Err e) first later puts = record {
+  puts_then s0 s1 s2 k0 k1 k2 t1 t2 (Err e) first same puts = record {
     sent = tt;
-    part = sent_stops holds s0 s1 s2 k0 k1 t1 t2 first puts.part;
-    cause = record { later = omega (arith, later, puts.cause.later); failed = rose_after (faults s0) (faults s1) (faults s2) later puts.cause.failed };
+    part = sent_short holds s0 s1 s2 k0 k1 t1 t2 first puts.part;
+    no_fault = tt;
+    cause = record { later = omega (arith, same, puts.cause.later); failed = rose_after (faults s0) (faults s1) (faults s2) (omega (arith, same)) puts.cause.failed };
   }
 
   -- a fault in the first of two texts
-  pub puts_first : {T E : Type 0} (s0 s1 : S) (k0 k1 t1 t2 : List ℕ) (r : Result T E) → IsErr r → TakesPrefix holds s0 s1 (k0 ++ t1) → faults s0 ≤ faults s1 → Rose (faults s0) (faults s1) → Puts holds faults s0 s1 k0 k1 (t1 ++ t2) r
+  pub puts_first : {T E : Type 0} (s0 s1 : S) (k0 k1 t1 t2 : List ℕ) (r : Result T E) → IsErr r → FallsShort holds s0 s1 (k0 ++ t1) → faults s0 ≤ faults s1 → Rose (faults s0) (faults s1) → Puts holds faults s0 s1 k0 k1 (t1 ++ t2) r
   puts_first s0 s1 k0 k1 t1 t2 (Ok v) failed part later rose = cc
   puts_first s0 s1 k0 k1 t1 t2 (Err e) failed part later rose = record {
     sent = tt;
-    part = subst (λ (u : List ℕ). TakesPrefix holds s0 s1 u) (append_assoc k0 t1 t2) (takes_longer holds s0 s1 (k0 ++ t1) t2 part);
+    part = subst (λ (u : List ℕ). FallsShort holds s0 s1 u) (append_assoc k0 t1 t2) (short_longer holds s0 s1 (k0 ++ t1) t2 part);
+    no_fault = tt;
     cause = record { later = later; failed = rose };
   }
 
-  takes_prefix : (s0 s1 : S) (part whole : List ℕ) → IsPrefix part whole → TakesPrefix holds s0 s1 part → TakesPrefix holds s0 s1 whole
-  takes_prefix s0 s1 part whole is taken = subst (λ (u : List ℕ). TakesPrefix holds s0 s1 u) is.split (takes_longer holds s0 s1 part is.rest taken)
+  short_of_more : (s0 s1 : S) (part whole : List ℕ) → IsPrefix part whole → FallsShort holds s0 s1 part → FallsShort holds s0 s1 whole
+  short_of_more s0 s1 part whole is taken = subst (λ (u : List ℕ). FallsShort holds s0 s1 u) is.split (short_longer holds s0 s1 part is.rest taken)
 
   -- a fault after some of a text
-  pub puts_stop : {T E : Type 0} (s0 s1 s2 : S) (k0 k1 k2 done now whole : List ℕ) (r : Result T E) → IsErr r → IsPrefix (done ++ now) whole → Sent holds s0 s1 k0 k1 done → faults s0 ≤ faults s1 → TakesPrefix holds s1 s2 (k1 ++ now) → faults s1 ≤ faults s2 → Rose (faults s1) (faults s2)
+  pub puts_stop : {T E : Type 0} (s0 s1 s2 : S) (k0 k1 k2 done now whole : List ℕ) (r : Result T E) → IsErr r → IsPrefix (done ++ now) whole → Sent holds s0 s1 k0 k1 done → faults s1 ≡ faults s0 → FallsShort holds s1 s2 (k1 ++ now) → faults s1 ≤ faults s2 → Rose (faults s1) (faults s2)
       → Puts holds faults s0 s2 k0 k2 whole r
-  puts_stop s0 s1 s2 k0 k1 k2 done now whole (Ok v) failed is first earlier part later rose = cc
-  puts_stop s0 s1 s2 k0 k1 k2 done now whole (Err e) failed is first earlier part later rose = record {
+  puts_stop s0 s1 s2 k0 k1 k2 done now whole (Ok v) failed is first same part later rose = cc
+  puts_stop s0 s1 s2 k0 k1 k2 done now whole (Err e) failed is first same part later rose = record {
     sent = tt;
-    part = takes_prefix s0 s2 (k0 ++ (done ++ now)) (k0 ++ whole) (prefix_after k0 (done ++ now) whole is) (sent_stops holds s0 s1 s2 k0 k1 done now first part);
-    cause = record { later = omega (arith, earlier, later); failed = rose_after (faults s0) (faults s1) (faults s2) earlier rose };
+    part = short_of_more s0 s2 (k0 ++ (done ++ now)) (k0 ++ whole) (prefix_after k0 (done ++ now) whole is) (sent_short holds s0 s1 s2 k0 k1 done now first part);
+    no_fault = tt;
+    cause = record { later = omega (arith, same, later); failed = rose_after (faults s0) (faults s1) (faults s2) (omega (arith, same)) rose };
   }
+
+-- what holds anyway holds where a call fails
+pub where_it_fails : {T E : Type 0} (r : Result T E) (P : Type 0) → P → OnErr r P
+where_it_fails (Ok v) P p = tt
+where_it_fails (Err e) P p = p
 
 -- ---- texts in turn
 

@@ -1,13 +1,14 @@
 -- A text that is put through a buffer into a sink.
-use Rattle.std.specs.Prelude.{ℕ, zero, suc, ◌+◌, List, [], ◌∷◌, ◌++◌, cond, ◌==◌, codes, decimal, slice_index, length, Result, OnOk, OnErr}
+use Rattle.std.specs.Prelude.{◌≡◌, ℕ, zero, suc, ◌+◌, List, [], ◌∷◌, ◌++◌, cond, ◌==◌, codes, decimal, slice_index, length, Result, OnOk, OnErr}
 use Rattle.amr_causes.specs.Causes.{HasCause}
-use Rattle.amr_causes.specs.Bytes.{TakesPrefix}
 use Rattle.amr_io.specs.Kept.{Sent}
+use Rattle.amr_io.specs.Short.{FallsShort}
 
--- on `Ok` the text was put; otherwise a prefix went out, and the sink's faults rose
+-- on `Ok` the text was put, with no fault; otherwise less than all went out, and the sink's faults rose
 pub record Puts {S T E : Type 0} (holds : S → List ℕ → Type 0) (faults : S → ℕ) (old new : S) (kept keeps text : List ℕ) (result : Result T E) : Type 0 where
   pub sent : OnOk result (Sent holds old new kept keeps text)
-  pub part : OnErr result (TakesPrefix holds old new (kept ++ text))
+  pub part : OnErr result (FallsShort holds old new (kept ++ text))
+  pub no_fault : OnOk result (faults new ≡ faults old)
   pub cause : HasCause (faults old) (faults new) result
 
 -- f 0, f 1 and so on, n texts

@@ -4,6 +4,7 @@ ghost use Rattle.std.specs.Prelude.{◌≡◌, ◌+◌, ◌≤◌, false, length
 ghost use Rattle.amr_causes.specs.Causes.{HasCause};
 ghost use Rattle.amr_causes.specs.Bytes.{Grows, TakesPrefix};
 ghost use Rattle.amr_def.specs.Facts.{IsSound};
+ghost use Rattle.amr_io.specs.Short.{FallsShort};
 ghost use Rattle.amr_def.specs.Plot.{ledger_line, numbered, plot};
 ghost use Rattle.amr_patch.specs.Meshes.{is_spent, state_of};
 ghost use Rattle.amr_plot.specs.Puts.{Puts};
@@ -77,12 +78,15 @@ fn put_plot<O: Sink>(
 }
 
 /// Writes the plot of the mesh's state through a buffer of fixed size; it takes no memory. The mesh is a sound state of the
-/// problem, and not spent. A `WriteFault` comes only where the sink's count of faults rose; a prefix of the plot went out.
+/// problem, and not spent. A `WriteFault` comes only where the sink's count of faults rose; a prefix of the plot went out, and
+/// not all of it.
 pub fn plot<O: Sink>(p: &Problem, mesh: &Mesh, sink: &mut O) -> Result<(), WriteFault>
     requires whole { is_spent mesh.now ≡ false }
     requires sound { IsSound p.now (state_of mesh.now) }
     ensures whole { OnOk result (Grows O.holds sink.old sink.new (plot p.now (state_of mesh.now))) }
     ensures part { TakesPrefix O.holds sink.old sink.new (plot p.now (state_of mesh.now)) }
+    ensures short { OnErr result (FallsShort O.holds sink.old sink.new (plot p.now (state_of mesh.now))) }
+    ensures no_fault { OnOk result (O.faults sink.new ≡ O.faults sink.old) }
     ensures cause { HasCause (O.faults sink.old) (O.faults sink.new) result }
 {
     let mut text = Text::make();

@@ -1,4 +1,4 @@
-//! The rows of masses of a box. A row is read piece by piece, with one look-up a piece.
+//! The rows of masses of a box. A row is read span by span, with one look-up a span.
 
 ghost use Rattle.std.specs.Prelude.{◌≡◌, ℕ, ◌+◌, ◌<◌, ◌≤◌, ◌≤ℤ◌, ◌^◌, [], cond, ◌==◌, length, slice_index, codes, IsSome, IsTrue, pos, ◌+ℤ◌};
 ghost use Rattle.amr_box.specs.declared.Cell.{Cell};
@@ -33,7 +33,7 @@ fn put_mass<O: Sink>(
 /// Masses that stand in the columns from `first` on.
 fn put_masses<O: Sink>(
     first: usize,
-    masses: &[u64],
+    masses: &[u32],
     text: &mut Text,
     sink: &mut O,
 ) -> Result<(), WriteFault>
@@ -41,7 +41,7 @@ fn put_masses<O: Sink>(
     ensures { Puts O.holds O.faults sink.old sink.new text.old text.new (masses_text first masses.now) result }
 {
     for (k, mass) in masses.iter().enumerate() {
-        put_mass(first + k, *mass, text, sink)?;
+        put_mass(first + k, u64::from(*mass), text, sink)?;
     }
     Ok(())
 }
@@ -61,9 +61,9 @@ fn cell_in(b: &Bx, row: u32, column: u32) -> Cell
     }
 }
 
-/// The masses of a row of the box from column `first` on, as far as they stand in one piece of the level, and no further
+/// The masses of a row of the box from column `first` on, as far as they stand in one patch of the level, and no further
 /// than the box.
-fn masses_from<'a>(level: &'a Level, b: &Bx, row: u32, first: u32) -> &'a [u64]
+fn masses_from<'a>(level: &'a Level, b: &Bx, row: u32, first: u32) -> &'a [u32]
     requires near { IsNear b.now }
     requires row { (b.now.lo.y +ℤ pos row) ≤ℤ b.now.hi.y }
     requires column { (b.now.lo.x +ℤ pos first) ≤ℤ b.now.hi.x }
@@ -72,9 +72,9 @@ fn masses_from<'a>(level: &'a Level, b: &Bx, row: u32, first: u32) -> &'a [u64]
     ensures inside { first + length result.now ≤ width b.now }
     ensures masses { (k : ℕ) → k < length result.now → slice_index result.now k ≡ mass_in level.now b.now row (first + k) }
 {
-    let run = level.run(cell_in(b, row, first));
+    let span = level.span(cell_in(b, row, first));
     let left = (b.width() - first) as usize;
-    &run[..run.len().min(left)]
+    &span[..span.len().min(left)]
 }
 
 /// A row of masses, from the low column on.

@@ -1,8 +1,9 @@
 -- The line of a refusal, as the pieces that are written.
-use Rattle.std.proofs.Common.{◌≡◌, ℕ, ℤ, pos, negsuc, List, [], ◌++◌, Result, OnOk, refl, sym, ◌∙◌, ap, subst}
+use Rattle.std.proofs.Common.{◌≡◌, ℕ, ℤ, pos, negsuc, List, [], ◌++◌, Result, OnOk, OnErr, refl, sym, ◌∙◌, ap, subst}
 use Rattle.std.specs.Prelude.{codes, decimal, unsigned_abs}
 use Rattle.std.specs.Fmt.{signed_decimal}
-use Rattle.amr_causes.specs.Bytes.{Grows, TakesPrefix}
+use Rattle.amr_causes.specs.Bytes.{Grows}
+use Rattle.amr_io.specs.Short.{FallsShort}
 use Rattle.amr_def.specs.Plot.{line}
 use Rattle.amr_problem.specs.declared.fault.ProblemFault.{ProblemFault}
 use Rattle.amr_problem.specs.declared.fault.ProblemFault.TheVariants as problem
@@ -15,8 +16,8 @@ module _ {S : Type 0} (holds : S → List ℕ → Type 0) (old new : S) where
   pub whole_as : {F : Type 0} (r : Result Unit F) (text same : List ℕ) → text ≡ same → OnOk r (Grows holds old new text) → OnOk r (Grows holds old new same)
   whole_as r text same is whole = subst (λ (t : List ℕ). OnOk r (Grows holds old new t)) is whole
 
-  pub part_as : (text same : List ℕ) → text ≡ same → TakesPrefix holds old new text → TakesPrefix holds old new same
-  part_as text same is part = subst (λ (t : List ℕ). TakesPrefix holds old new t) is part
+  pub short_as : {F : Type 0} (r : Result Unit F) (text same : List ℕ) → text ≡ same → OnErr r (FallsShort holds old new text) → OnErr r (FallsShort holds old new same)
+  short_as r text same is short = subst (λ (t : List ℕ). OnErr r (FallsShort holds old new t)) is short
 
 signed_text : (z : ℤ) (rest : List ℕ) → sign_text z ++ (decimal (unsigned_abs z) ++ rest) ≡ signed_decimal z ++ rest
 signed_text (pos n) rest = refl

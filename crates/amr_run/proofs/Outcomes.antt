@@ -1,10 +1,11 @@
 -- The outcome at each exit, by what the layers below say of it.
-use Rattle.std.proofs.Common.{◌≡◌, ◌≤◌, ◌⊎◌, inl, inr, ℕ, List, [], ◌++◌, length, Option, Some, None, Result, Ok, Err, refl, sym, ◌∙◌, ap, subst, arith, length-append, OnOk}
+use Rattle.std.proofs.Common.{◌≡◌, ◌≤◌, ◌⊎◌, inl, inr, ℕ, List, [], ◌++◌, length, Option, Some, None, Result, Ok, Err, OnErr, refl, sym, ◌∙◌, ap, subst, arith, length-append, OnOk}
 use Rattle.std.proofs.lemmas.List.{append-nil}
 use Rattle.std.specs.Prelude.{IsErrAnd}
 use Rattle.std.specs.Io.KnownBytes.{Consumes, IsAtEnd}
 use Rattle.amr_causes.specs.Causes.{HasCause, Rose}
-use Rattle.amr_causes.specs.Bytes.{Grows, IsPrefix, TakesPrefix, WereLeft}
+use Rattle.amr_causes.specs.Bytes.{Grows, IsPrefix, WereLeft}
+use Rattle.amr_io.specs.Short.{FallsShort}
 use Rattle.amr_causes.proofs.ByteLaws.{prefix_whole, were_left}
 use Rattle.amr_def.specs.declared.problem.Problem.{Problem}
 use Rattle.amr_def.specs.State.{State}
@@ -82,7 +83,7 @@ refused_by answers (Err x) s bytes out is replies = subst (λ (t : Status). Repl
 pub of_command : (status : Status) (asked : Option Command) (command : Command) (bytes out : List ℕ) → asked ≡ Some command → Replies status (IsAnswer command bytes) bytes out → Outcome status asked bytes out
 of_command status asked command bytes out is replies = subst (λ (o : Option Command). Outcome status o bytes out) (sym is) replies
 
--- of words that were not read for want of memory
+-- of words that were not read, as memory ran out
 pub of_no_memory : (asked : Option Command) (bytes : List ℕ) → Outcome status.NoMemory asked bytes []
 of_no_memory None bytes = refl
 of_no_memory (Some command) bytes = refl
@@ -108,8 +109,8 @@ one_level bytes p is = record { one_level = (has_one_level bytes p is).one_level
 
 -- ---- the line on the stream of errors
 
--- it went out whole, or in part with a fault that has its cause
-pub told : {S F : Type 0} (holds : S → List ℕ → Type 0) (old new : S) (before now : ℕ) (text : List ℕ) (r : Result Unit F) → OnOk r (Grows holds old new text) → TakesPrefix holds old new text → HasCause before now r
+-- it went out whole, or less than the whole with a fault that has its cause
+pub told : {S F : Type 0} (holds : S → List ℕ → Type 0) (old new : S) (before now : ℕ) (text : List ℕ) (r : Result Unit F) → OnOk r (Grows holds old new text) → OnErr r (FallsShort holds old new text) → HasCause before now r
     → (part : List ℕ) × Grows holds old new part × IsPrefix part text × ((part ≡ text) ⊎ Rose before now)
-told holds old new before now text (Ok done) whole part cause = (text, whole, prefix_whole text, inl refl)
-told holds old new before now text (Err fault) whole part cause = (part.0, part.2, part.1, inr cause.failed)
+told holds old new before now text (Ok done) whole short cause = (text, whole, prefix_whole text, inl refl)
+told holds old new before now text (Err fault) whole short cause = (short.0, short.2, record { rest = short.1.rest; split = short.1.split }, inr cause.failed)

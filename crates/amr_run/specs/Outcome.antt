@@ -1,6 +1,6 @@
 -- What a status says of the words, of the bytes of the source and of what went out.
 use Rattle.std.specs.Prelude.{ℕ, ◌≡◌, List, [], Option, None, Some, Result, Ok, Err}
-use Rattle.amr_causes.specs.Bytes.{IsPrefix}
+use Rattle.amr_io.specs.Short.{IsProperPrefix}
 use Rattle.amr_problem.specs.Judgement.{fault_of}
 use Rattle.amr_run.specs.Answer.{IsAnswer}
 use Rattle.amr_cli.specs.declared.command.Command.{Command}
@@ -12,12 +12,12 @@ abbrev pub status_of : Result Unit Status → Status
 status_of (Ok done) = Done
 status_of (Err status) = status
 
--- Of a command, by what its answers are: all of its answer went out where all is done, a prefix of it after a fault in writing,
--- and else nothing. A problem is refused exactly by its fault, and a command is never refused as none.
+-- Of a command, by what its answers are: all of its answer went out where all is done, a prefix of it that isn't the whole after a
+-- fault in writing, and else nothing. A problem is refused exactly by its fault, and a command is never refused as none.
 abbrev pub Replies : Status → (List ℕ → Type 0) → List ℕ → List ℕ → Type 0
 Replies Done answers bytes out = answers out
 Replies (Problem fault) answers bytes out = (fault_of bytes ≡ Some fault) × (out ≡ [])
-Replies WriteFault answers bytes out = (whole : List ℕ) × answers whole × IsPrefix out whole
+Replies WriteFault answers bytes out = (whole : List ℕ) × answers whole × IsProperPrefix out whole
 Replies ReadFault answers bytes out = out ≡ []
 Replies NoMemory answers bytes out = out ≡ []
 Replies Usage answers bytes out = ⊥

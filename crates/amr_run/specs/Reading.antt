@@ -1,5 +1,6 @@
 -- How the bytes of the source were read as a problem.
-use Rattle.std.specs.Prelude.{ℕ, ◌≡◌, List, Some, Result, Ok, Err}
+use Rattle.std.specs.Prelude.{ℕ, ◌≡◌, ◌≤◌, List, length, Option, Some, Result, Ok, Err}
+use Rattle.std.specs.Io.KnownBytes.{Consumes}
 use Rattle.amr_def.specs.declared.problem.Problem.{Problem}
 use Rattle.amr_problem.specs.Judgement.{fault_of, IsProblemOf}
 use Rattle.amr_run.specs.declared.status.Status.{Status}
@@ -17,3 +18,7 @@ Refuses status.WriteFault bytes = ⊥
 abbrev pub Reads : Result Problem Status → List ℕ → Type 0
 Reads (Ok problem) bytes = IsProblemOf bytes problem
 Reads (Err refusal) bytes = Refuses refusal bytes
+
+-- at most so many bytes were taken, from the front of those that were left
+abbrev pub TakesAtMost : ℕ → Option (List ℕ) → Option (List ℕ) → Type 0
+TakesAtMost most old new = (taken : List ℕ) × Consumes old new taken × (length taken ≤ most)

@@ -1,12 +1,13 @@
 // The commands.
-ghost use Rattle.std.specs.Prelude.{◌≡◌, ◌≢◌, List, ℕ, Err, IfErr, OnOk};
+ghost use Rattle.std.specs.Prelude.{◌≡◌, ◌≢◌, List, ℕ, Err, IfErr, OnOk, OnErr};
 ghost use Rattle.std.specs.Io.KnownBytes.{IsAtEnd};
 ghost use Rattle.amr_causes.specs.Causes.{HasCause, Rose};
-ghost use Rattle.amr_causes.specs.Bytes.{Grows, TakesPrefix, WereLeft};
+ghost use Rattle.amr_causes.specs.Bytes.{Grows, WereLeft};
+ghost use Rattle.amr_io.specs.Short.{FallsShort};
 ghost use Rattle.amr_run.specs.Texts.{problem_line};
 ghost use Rattle.amr_run.specs.Answer.{IsLineOfProblem, IsPlotOfRun};
 ghost use Rattle.amr_run.specs.Outcome.{Replies, status_of};
-ghost use Rattle.amr_run.specs.Reading.{Reads};
+ghost use Rattle.amr_run.specs.Reading.{Reads, TakesAtMost};
 
 use crate::Status;
 use crate::line::put_line;
@@ -26,9 +27,12 @@ pub(crate) fn run<S: Source, O: Sink>(alloc: Global, src: &mut S, out: &mut O) -
     ensures outcome { (bytes : List ℕ) × ((sent : List ℕ) × WereLeft (S.left src.old) bytes
         × Grows O.holds out.old out.new sent × Replies (status_of result) (IsPlotOfRun bytes) bytes sent) }
     ensures ended { OnOk result (IsAtEnd (S.left src.new)) }
+    ensures taken { TakesAtMost 65537 (S.left src.old) (S.left src.new) }
     ensures refused { IfErr result (λ status. status ≢ Status.Done) }
     ensures read_fault { result ≡ Err Status.ReadFault → Rose (S.faults src.old) (S.faults src.new) }
+    ensures no_read_fault { result ≢ Err Status.ReadFault → S.faults src.new ≡ S.faults src.old }
     ensures write_fault { result ≡ Err Status.WriteFault → Rose (O.faults out.old) (O.faults out.new) }
+    ensures no_write_fault { result ≢ Err Status.WriteFault → O.faults out.new ≡ O.faults out.old }
 {
     let problem = read_problem(alloc, src)?;
     let mut mesh = start(alloc, &problem)?;
@@ -46,9 +50,12 @@ pub(crate) fn check<S: Source, O: Sink>(
     ensures outcome { (bytes : List ℕ) × ((sent : List ℕ) × WereLeft (S.left src.old) bytes
         × Grows O.holds out.old out.new sent × Replies (status_of result) (IsLineOfProblem bytes) bytes sent) }
     ensures ended { OnOk result (IsAtEnd (S.left src.new)) }
+    ensures taken { TakesAtMost 65537 (S.left src.old) (S.left src.new) }
     ensures refused { IfErr result (λ status. status ≢ Status.Done) }
     ensures read_fault { result ≡ Err Status.ReadFault → Rose (S.faults src.old) (S.faults src.new) }
+    ensures no_read_fault { result ≢ Err Status.ReadFault → S.faults src.new ≡ S.faults src.old }
     ensures write_fault { result ≡ Err Status.WriteFault → Rose (O.faults out.old) (O.faults out.new) }
+    ensures no_write_fault { result ≢ Err Status.WriteFault → O.faults out.new ≡ O.faults out.old }
 {
     let problem = read_problem(alloc, src)?;
     put_problem(out, &problem)?;
@@ -59,7 +66,9 @@ pub(crate) fn check<S: Source, O: Sink>(
 fn read_problem<S: Source>(alloc: Global, src: &mut S) -> Result<Problem, Status>
     ensures problem { (bytes : List ℕ) × WereLeft (S.left src.old) bytes × Reads result bytes }
     ensures ended { OnOk result (IsAtEnd (S.left src.new)) }
+    ensures taken { TakesAtMost 65537 (S.left src.old) (S.left src.new) }
     ensures read_fault { result ≡ Err Status.ReadFault → Rose (S.faults src.old) (S.faults src.new) }
+    ensures no_read_fault { result ≢ Err Status.ReadFault → S.faults src.new ≡ S.faults src.old }
 {
     let bytes = read_all(alloc, src, MOST_BYTES)?;
     let problem = judge(alloc, &bytes)?;
@@ -68,8 +77,9 @@ fn read_problem<S: Source>(alloc: Global, src: &mut S) -> Result<Problem, Status
 
 fn put_problem<O: Sink>(out: &mut O, problem: &Problem) -> Result<(), WriteFault>
     ensures whole { OnOk result (Grows O.holds out.old out.new (problem_line problem.now)) }
-    ensures part { TakesPrefix O.holds out.old out.new (problem_line problem.now) }
+    ensures short { OnErr result (FallsShort O.holds out.old out.new (problem_line problem.now)) }
     ensures cause { HasCause (O.faults out.old) (O.faults out.new) result }
+    ensures no_fault { OnOk result (O.faults out.new ≡ O.faults out.old) }
 {
     put_line(
         out,

@@ -1,7 +1,8 @@
 // The line of a refusal.
-ghost use Rattle.std.specs.Prelude.{◌≡◌, OnOk, unsigned_abs};
+ghost use Rattle.std.specs.Prelude.{◌≡◌, OnOk, OnErr, unsigned_abs};
 ghost use Rattle.amr_causes.specs.Causes.{HasCause};
-ghost use Rattle.amr_causes.specs.Bytes.{Grows, TakesPrefix};
+ghost use Rattle.amr_causes.specs.Bytes.{Grows};
+ghost use Rattle.amr_io.specs.Short.{FallsShort};
 ghost use Rattle.amr_run.specs.Texts.{axis_text, fault_text, message, refusal, sign_text};
 
 use crate::Status;
@@ -16,8 +17,9 @@ const USAGE: &str =
 /// Writes the line of a refusal, nothing where all is done.
 pub(crate) fn tell<E: Sink>(err: &mut E, status: &Status) -> Result<(), WriteFault>
     ensures whole { OnOk result (Grows E.holds err.old err.new (message status.now)) }
-    ensures part { TakesPrefix E.holds err.old err.new (message status.now) }
+    ensures short { OnErr result (FallsShort E.holds err.old err.new (message status.now)) }
     ensures cause { HasCause (E.faults err.old) (E.faults err.new) result }
+    ensures quiet { status.now ≡ Status.Done → err.new ≡ err.old }
 {
     match status {
         Status::Done => Ok(()),
@@ -31,7 +33,7 @@ pub(crate) fn tell<E: Sink>(err: &mut E, status: &Status) -> Result<(), WriteFau
 
 fn put_fault<E: Sink>(err: &mut E, fault: &ProblemFault) -> Result<(), WriteFault>
     ensures whole { OnOk result (Grows E.holds err.old err.new (refusal (fault_text fault.now))) }
-    ensures part { TakesPrefix E.holds err.old err.new (refusal (fault_text fault.now)) }
+    ensures short { OnErr result (FallsShort E.holds err.old err.new (refusal (fault_text fault.now))) }
     ensures cause { HasCause (E.faults err.old) (E.faults err.new) result }
 {
     match fault {
@@ -80,7 +82,7 @@ fn put_fault<E: Sink>(err: &mut E, fault: &ProblemFault) -> Result<(), WriteFaul
 
 fn put_out_of_range<E: Sink>(err: &mut E, key: Key, value: &i64) -> Result<(), WriteFault>
     ensures whole { OnOk result (Grows E.holds err.old err.new (refusal (fault_text (ProblemFault.OutOfRange key value.now)))) }
-    ensures part { TakesPrefix E.holds err.old err.new (refusal (fault_text (ProblemFault.OutOfRange key value.now))) }
+    ensures short { OnErr result (FallsShort E.holds err.old err.new (refusal (fault_text (ProblemFault.OutOfRange key value.now)))) }
     ensures cause { HasCause (E.faults err.old) (E.faults err.new) result }
 {
     put_line(
@@ -97,7 +99,7 @@ fn put_out_of_range<E: Sink>(err: &mut E, key: Key, value: &i64) -> Result<(), W
 
 fn put_courant<E: Sink>(err: &mut E, sum: &i64, d: &i64) -> Result<(), WriteFault>
     ensures whole { OnOk result (Grows E.holds err.old err.new (refusal (fault_text (ProblemFault.Courant sum.now d.now)))) }
-    ensures part { TakesPrefix E.holds err.old err.new (refusal (fault_text (ProblemFault.Courant sum.now d.now))) }
+    ensures short { OnErr result (FallsShort E.holds err.old err.new (refusal (fault_text (ProblemFault.Courant sum.now d.now)))) }
     ensures cause { HasCause (E.faults err.old) (E.faults err.new) result }
 {
     put_line(

@@ -215,26 +215,21 @@ fn flows_through_open_sides(rt: HostRuntime) -> Result<(), Fail> {
 #[test]
 fn nine_columns_in_three_patches_and_in_one(rt: HostRuntime) -> Result<(), Fail> {
     let alloc = rt.alloc();
-    let three = ring_with(
-        alloc,
-        &[
-            ("cells", "cells = [9, 3]"),
-            ("courant", "courant = [1, 0, 1]"),
-            ("steps", "steps = 2\nmax_grid_size = 4"),
-            ("blocks", "blocks = [[8, 0, 8, 0, 8]]"),
-        ],
-    )?;
-    Case::run(three.as_bytes()).ends(&rt, 0, NINE_COLUMNS_PLOT, "");
-    let one = ring_with(
-        alloc,
-        &[
-            ("cells", "cells = [9, 3]"),
-            ("courant", "courant = [1, 0, 1]"),
-            ("steps", "steps = 2\nmax_grid_size = 32"),
-            ("blocks", "blocks = [[8, 0, 8, 0, 8]]"),
-        ],
-    )?;
-    Case::run(one.as_bytes()).ends(&rt, 0, NINE_COLUMNS_PLOT, "");
+    for steps in [
+        "steps = 2\nmax_grid_size = 4",
+        "steps = 2\nmax_grid_size = 32",
+    ] {
+        let text = ring_with(
+            alloc,
+            &[
+                ("cells", "cells = [9, 3]"),
+                ("courant", "courant = [1, 0, 1]"),
+                ("steps", steps),
+                ("blocks", "blocks = [[8, 0, 8, 0, 8]]"),
+            ],
+        )?;
+        Case::run(text.as_bytes()).ends(&rt, 0, NINE_COLUMNS_PLOT, "");
+    }
     Ok(())
 }
 
@@ -257,8 +252,8 @@ fn words_that_are_no_command(rt: HostRuntime) {
     }
 }
 
-// A plot in pieces of 16 bytes whose second piece fails, a source that fails at once or at its end, and a line that fails
-// at its second piece.
+// A plot that goes out 16 bytes at a time and whose second write fails, a source that fails at once or at its end, and a
+// line whose second write fails.
 #[test]
 fn faults_of_the_outside(rt: HostRuntime) {
     let ring = Case::run(RING.as_bytes());

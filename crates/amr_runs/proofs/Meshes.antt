@@ -7,8 +7,9 @@ use Rattle.amr_def.specs.State as defined
 use Rattle.amr_def.specs.State.{State}
 use Rattle.amr_def.specs.Facts.{IsSound}
 use Rattle.amr_patch.specs.declared.levels.Level.{Level}
-use Rattle.amr_patch.specs.Levels.{level_of}
-use Rattle.amr_runs.specs.OneState.{one_level_state}
+use Rattle.amr_patch.specs.Levels.{level_of, patches_of}
+use Rattle.amr_patch.specs.Patches.{box}
+use Rattle.amr_runs.specs.OneState.{one_level_state, patch_boxes}
 
 alone : (ks : List defined.Level) (ls : List Level) (l : Level) → map level_of ls ≡ ks → 0 < length ks → length ks ≤ 1 → l ≡ slice_index_or ls 0 l → level_of l ∷ [] ≡ ks
 alone ks [] l e some few at = let none : 0 ≡ length ks = ap (λ (js : List defined.Level). length js) e in absurd (omega (arith, none, some))
@@ -37,3 +38,8 @@ put_back p s n rows ls new one sound levels_is =
     let count : length (map level_of ls) ≡ length s.levels = ap (λ (js : List defined.Level). length js) levels_is in
     let levels = replaced ls (length s.levels) new count sound.some_level (few_levels p s one sound) in
     λ i. record { step = n; rows = rows; levels = levels i }
+
+-- the patch boxes stay where the level that is put in place has those of the level that was there
+pub boxes_put : (ls : List Level) (l new : Level) → l ≡ slice_index_or ls 0 l → map box (patches_of new) ≡ map box (patches_of l) → patch_boxes (set ls 0 new) ≡ patch_boxes ls
+boxes_put [] l new at e = refl
+boxes_put (x ∷ ls) l new at e = λ i. (e ∙ ap (λ (t : Level). map box (patches_of t)) at) i ∷ patch_boxes ls

@@ -4,21 +4,23 @@ ghost use Rattle.std.specs.Prelude.{◌≡◌, ◌≤◌, ◌+◌, ◌-◌, fals
 ghost use Rattle.amr_def.specs.Facts.{IsSound};
 ghost use Rattle.amr_def.specs.Run.{finish};
 ghost use Rattle.amr_patch.specs.Levels.{level_of, patches_of};
-ghost use Rattle.amr_patch.specs.Meshes.{is_spent, state_of};
+ghost use Rattle.amr_patch.specs.Meshes.{is_spent, levels_of, state_of};
 ghost use Rattle.amr_patch.specs.Patches.{box};
-ghost use Rattle.amr_level.specs.Joints.{IsBordersOf};
+ghost use Rattle.amr_flux.specs.Rooms.{widest};
 ghost use Rattle.amr_start.specs.OneLevel.{HasOneLevel};
-ghost use Rattle.amr_runs.specs.OneState.{one_level_state};
+ghost use Rattle.amr_runs.specs.OneState.{one_level_state, patch_boxes};
 
 use crate::steps::make_step;
 use amr_causes::NoMemory;
 use amr_def::{Problem, Row};
-use amr_level::Borders;
+use amr_flux::Room;
 use amr_patch::{Level, Mesh};
 use std::alloc::Global;
 
 /// The most border faces that a patch reads: those at the two high sides of 256 by 256 cells.
 const MOST_BORDER_FACES: usize = 512;
+/// The most columns that a patch has.
+const MOST_COLUMNS: u32 = 256;
 
 /// Makes the steps of level 0 from step `step` up to step `target`. It takes no memory.
 #[tactic(none)]
@@ -28,26 +30,27 @@ fn make_steps(
     target: u32,
     rows: &mut Vec<Row>,
     level: &mut Level,
-    borders: &Borders,
-    sizes: &mut [u64],
+    sizes: &mut [u32],
+    room: &mut Room,
 )
     requires one_level { p.now.max_level ≡ 0 }
     requires sound { IsSound p.now (one_level_state step rows.old.items (level_of level.old)) }
     requires ahead { step ≤ target }
     requires within { target ≤ p.now.steps }
-    requires borders { IsBordersOf p.now (map box (patches_of level.old)) borders.now }
     requires sizes { 512 ≤ length sizes.old }
+    requires row { 256 ≤ widest room.old }
     requires room { length rows.old.items + (target - step) ≤ vec_capacity rows.old }
     ensures value { one_level_state target rows.new.items (level_of level.new) ≡ finish p.now (one_level_state step rows.old.items (level_of level.old)) target }
     ensures sound { IsSound p.now (one_level_state target rows.new.items (level_of level.new)) }
+    ensures patches { map box (patches_of level.new) ≡ map box (patches_of level.old) }
 {
     for k in step..target {
-        make_step(p, k, rows, level, borders, sizes);
+        make_step(p, k, rows, level, sizes, room);
     }
 }
 
-/// Makes the steps of level 0 from step `step` up to step `target`. All memory is taken before the first step; where it is
-/// wanting, the rows and the level are as before.
+/// Makes the steps of level 0 from step `step` up to step `target`. All memory is taken before the first step; if allocation
+/// fails, the rows and the level are as before.
 fn run_level(
     alloc: Global,
     p: &Problem,
@@ -64,16 +67,17 @@ fn run_level(
     ensures sound { OnOk result (IsSound p.now (one_level_state target rows.new.items (level_of level.new))) }
     ensures same_rows { OnErr result (rows.new.items ≡ rows.old.items) }
     ensures same_level { OnErr result (level_of level.new ≡ level_of level.old) }
+    ensures patches { map box (patches_of level.new) ≡ map box (patches_of level.old) }
 {
     rows.reserve((target - step) as usize)?;
-    let borders = Borders::make(alloc, p, level.patches(), level.order())?;
-    let mut sizes = vec![in alloc; 0u64; MOST_BORDER_FACES]?;
-    make_steps(p, step, target, rows, level, &borders, &mut sizes);
+    let mut sizes = vec![in alloc; 0u32; MOST_BORDER_FACES]?;
+    let mut room = Room::make(alloc, MOST_COLUMNS)?;
+    make_steps(p, step, target, rows, level, &mut sizes, &mut room);
     Ok(())
 }
 
 /// Makes the steps up to step `target` of a problem of one level. All memory is taken before the first step. `NoMemory` is the
-/// only refusal: the mesh then shows the state of before.
+/// only refusal: the mesh then shows the state of before. Patch boxes stay.
 pub fn run_to(alloc: Global, p: &Problem, mesh: &mut Mesh, target: u32) -> Result<(), NoMemory>
     requires one_level { HasOneLevel p.now }
     requires whole { is_spent mesh.old ≡ false }
@@ -84,6 +88,7 @@ pub fn run_to(alloc: Global, p: &Problem, mesh: &mut Mesh, target: u32) -> Resul
     ensures sound { OnOk result (IsSound p.now (state_of mesh.new)) }
     ensures unchanged { OnErr result (state_of mesh.new ≡ state_of mesh.old) }
     ensures whole { is_spent mesh.new ≡ false }
+    ensures patches { patch_boxes (levels_of mesh.new) ≡ patch_boxes (levels_of mesh.old) }
 {
     let step = mesh.step();
     let (mut rows, mut levels) = mesh.take();

@@ -25,12 +25,13 @@ const BLOCKS: [Block; 2] = [
     },
 ];
 
-/// Two steps of 6 by 5 cells in four pieces, where each mass goes one column on in a step: 9 flows in at each row.
+/// Two steps of 6 by 5 cells in four patches, where each mass goes one column on in a step: 9 flows in at each row.
 fn channel(alloc: Global) -> Result<Problem, Fail>
     ensures one_level { IfOk result (λ p. p.max_level ≡ 0) }
     ensures steps { IfOk result (λ p. p.steps ≡ 2) }
 {
     Ok(Problem {
+        version: 1,
         name: Name::make(Vec::from_slice(alloc, b"channel")?),
         nx: 6,
         ny: 5,
@@ -60,6 +61,7 @@ fn square(alloc: Global) -> Result<Problem, Fail>
     ensures steps { IfOk result (λ p. p.steps ≡ 1) }
 {
     Ok(Problem {
+        version: 1,
         name: Name::make(Vec::from_slice(alloc, b"square")?),
         nx: 2,
         ny: 2,
@@ -92,7 +94,7 @@ fn mass_at(levels: &[Level], x: i32, y: i32) -> Option<u64> {
 }
 
 #[test]
-fn two_steps_of_four_pieces(rt: HostRuntime) -> Result<(), Fail> {
+fn two_steps_of_four_patches(rt: HostRuntime) -> Result<(), Fail> {
     let alloc = rt.alloc();
     let p = channel(alloc)?;
     let mut mesh = start(alloc, &p)?;

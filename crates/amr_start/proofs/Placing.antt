@@ -1,5 +1,5 @@
 -- Cells of a patch in the list of all masses, and patches that have them.
-use Rattle.std.proofs.Common.{◌≡◌, ◌≢◌, ℕ, zero, suc, ◌+◌, ◌*◌, ◌<◌, ◌≤◌, Bool, true, false, cond, ◌&&◌, ◌||◌, ℤ, pos, negsuc, ◌+ℤ◌, ◌-ℤ◌, ◌≤ℤ◌, ◌<ℤ◌, List, [], ◌∷◌, length, map, set, get_or, get_or-set_same, get_or-set_other, below_more, IsTrue, refl, sym, ap, subst, ◌∙◌, arith}
+use Rattle.std.proofs.Common.{◌≡◌, ◌≢◌, ℕ, zero, suc, ◌+◌, ◌-◌, ◌*◌, ◌<◌, ◌≤◌, Bool, true, false, cond, ◌&&◌, ◌||◌, ℤ, pos, negsuc, ◌+ℤ◌, ◌-ℤ◌, ◌≤ℤ◌, ◌<ℤ◌, List, [], ◌∷◌, length, map, set, get_or, get_or-set_same, get_or-set_other, below_more, IsTrue, refl, sym, ap, subst, ◌∙◌, arith}
 use Rattle.std.specs.Prelude.{int_lt, is_some, slice_index, unsigned_abs}
 use Rattle.std.specs.List.{All, AllZip}
 use Rattle.std.specs.declared.option.Option.{Option}
@@ -13,7 +13,7 @@ use Rattle.amr_def.specs.State.{Masses, in_boxes}
 use Rattle.amr_patch.specs.declared.patches.Patch.{Patch}
 use Rattle.amr_patch.specs.Patches.{AreNear, ArePatchesApart, box, in_patches, mass_in, masses_in}
 use Rattle.amr_patch.proofs.Rows.{inside, is_between}
-use Rattle.amr_start.specs.Placed.{HasBoxOf, HasMassesOf, LiesIn}
+use Rattle.amr_start.specs.Placed.{HasBoxOf, HasMassesOf, LiesInBox}
 use Rattle.amr_start.specs.Rows.{box_of, masses_on}
 
 -- ---- a cell's place in the list
@@ -23,6 +23,8 @@ pub record IsPlaced (columns rows : ℕ) (c : Cell) : Type 0 where
   pub y : pos 0 ≤ℤ c.y
   pub column : unsigned_abs c.x < columns
   pub row : unsigned_abs c.y < rows
+  pub across : pos (unsigned_abs c.x) ≡ c.x
+  pub up : pos (unsigned_abs c.y) ≡ c.y
 
 pub placed : (columns rows : ℕ) (c : Cell) → holds (box_of columns rows) c ≡ true → IsPlaced columns rows c
 placed columns rows c h =
@@ -30,7 +32,7 @@ placed columns rows c h =
     at c.x c.y b.west b.east b.south b.north
   where
     at : (x y : ℤ) → pos 0 ≤ℤ x → x ≤ℤ (pos columns -ℤ pos 1) → pos 0 ≤ℤ y → y ≤ℤ (pos rows -ℤ pos 1) → IsPlaced columns rows (cell x y)
-    at (pos x) (pos y) w e s n = record { x = w; y = s; column = omega (arith, ints, e); row = omega (arith, ints, n) }
+    at (pos x) (pos y) w e s n = record { x = w; y = s; column = omega (arith, ints, e); row = omega (arith, ints, n); across = refl; up = refl }
     at (negsuc x) y w e s n = absurd (omega (arith, ints, w))
     at (pos x) (negsuc y) w e s n = absurd (omega (arith, ints, s))
 
@@ -43,7 +45,7 @@ pub mass_here : (columns rows : ℕ) (ms : List ℕ) (c : Cell) (m : ℕ) → ho
 mass_here columns rows ms c m h is =
     ap (λ (t : Bool). cond t (Some (slice_index ms (unsigned_abs c.y * columns + unsigned_abs c.x))) None) h ∙ ap Some (sym is)
 
--- ---- one more
+-- ---- a row at once
 
 below : (x e : ℤ) → int_lt x e ≡ true → x <ℤ e
 below x e h = grind (arith, ints)
@@ -59,40 +61,33 @@ before_next P e x old here h = cases (int_lt x e) refl
     cases true l = old (below x e l)
     cases false l = let g = not_below x e l in here (omega (arith, ints, g, h))
 
--- ---- a row, cell by cell
+-- a row of a patch stands whole in the list
+pub row_inside : (columns rows n : ℕ) (first last : Cell) (count : ℕ) → holds (box_of columns rows) first ≡ true → holds (box_of columns rows) last ≡ true → first.y ≡ last.y
+    → pos count ≡ last.x +ℤ pos 1 -ℤ first.x → n ≡ rows * columns → unsigned_abs first.y * columns + unsigned_abs first.x + count ≤ n
+row_inside columns rows n first last count f l same width e =
+    let a = placed columns rows first f in
+    let b = placed columns rows last l in
+    let end : unsigned_abs first.x + count ≡ unsigned_abs last.x + 1 = omega (arith, ints, a.across, b.across, width) in
+    let there : unsigned_abs first.y * columns + unsigned_abs last.x < n = place_within columns rows (unsigned_abs last.x) (unsigned_abs first.y) n b.column a.row e in
+    omega (arith, there, end)
 
--- the cells of row y before column k of the patch have these masses, and the other rows what they had
-pub record HasRowTo (m : Masses) (p q : Patch) (y : ℤ) (k : ℕ) : Type 0 where
-  pub of_box : box q ≡ box p
-  pub made : (c : Cell) → IsTrue (holds (box p) c) → c.y ≡ y → c.x <ℤ ((box p).lo.x +ℤ pos k) → m c ≡ Some (mass_in q c)
-  pub others : (c : Cell) → IsTrue (holds (box p) c) → c.y ≢ y → mass_in q c ≡ mass_in p c
-
-pub no_cells : (m : Masses) (p : Patch) (y : ℤ) → HasRowTo m p p y 0
-no_cells m p y = record {
-  of_box = refl;
-  made = λ c h e lt. let b = inside (box p) c h in absurd (omega (arith, ints, b.west, lt));
-  others = λ c h n. refl;
-}
-
-pub cell_more : (m : Masses) (p q r : Patch) (y : ℤ) (k : ℕ) (d : Cell) → d ≡ cell ((box p).lo.x +ℤ pos k) y → box r ≡ box q → m d ≡ Some (mass_in r d) → ((c : Cell) → IsTrue (holds (box q) c) → c ≢ d → mass_in r c ≡ mass_in q c) → HasRowTo m p q y k → HasRowTo m p r y (k + 1)
-cell_more m p q r y k d is of_box here others had = record {
-  of_box = of_box ∙ had.of_box;
-  made = λ c h e lt. before_next (λ x. c.x ≡ x → m c ≡ Some (mass_in r c)) ((box p).lo.x +ℤ pos k) c.x
-      (λ less same. had.made c h e less ∙ ap Some (sym (others c (held c h) (λ f. let x = ap (λ (t : Cell). t.x) (f ∙ is) in omega (arith, ints, less, x)))))
-      (λ at_k same. let there = same_cell c at_k e in ap m there ∙ here ∙ ap (λ (t : Cell). Some (mass_in r t)) (sym there))
-      (omega (arith, ints, lt))
-      refl;
-  others = λ c h n. others c (held c h) (λ f. n (ap (λ (t : Cell). t.y) (f ∙ is))) ∙ had.others c h n;
-}
-  where
-    held : (c : Cell) → IsTrue (holds (box p) c) → IsTrue (holds (box q) c)
-    held c h = subst (λ (b : Extent). IsTrue (holds b c)) (sym had.of_box) h
-
-    same_cell : (c : Cell) → c.x ≡ ((box p).lo.x +ℤ pos k) → c.y ≡ y → c ≡ d
-    same_cell c ex ey = (λ i. cell (ex i) (ey i)) ∙ sym is
-
-pub whole_row : (m : Masses) (p q : Patch) (y : ℤ) (k : ℕ) → pos k ≡ (box p).hi.x +ℤ pos 1 -ℤ (box p).lo.x → HasRowTo m p q y k → (c : Cell) → IsTrue (holds (box p) c) → c.y ≡ y → m c ≡ Some (mass_in q c)
-whole_row m p q y k count had c h e = let b = inside (box p) c h in had.made c h e (omega (arith, ints, b.east, count))
+-- and its cells get what stands there
+pub row_placed : (columns rows : ℕ) (ms row : List ℕ) (q : Patch) (first c : Cell) (count : ℕ) → holds (box_of columns rows) first ≡ true → holds (box_of columns rows) c ≡ true
+    → first.y ≡ c.y → first.x ≤ℤ c.x → c.x <ℤ (first.x +ℤ pos count)
+    → ((k : ℕ) → k < count → mass_in q (cell (first.x +ℤ pos k) first.y) ≡ slice_index row k)
+    → ((k : ℕ) → k < count → slice_index row k ≡ slice_index ms (unsigned_abs first.y * columns + unsigned_abs first.x + k))
+    → masses_on columns rows ms c ≡ Some (mass_in q c)
+row_placed columns rows ms row q first c count f h same west east made read =
+    let a = placed columns rows first f in
+    let b = placed columns rows c h in
+    let k = unsigned_abs c.x - unsigned_abs first.x in
+    let ahead : unsigned_abs first.x + k ≡ unsigned_abs c.x = omega (arith, ints, a.across, b.across, west) in
+    let x : first.x +ℤ pos k ≡ c.x = omega (arith, ints, a.across, b.across, ahead) in
+    let few : k < count = omega (arith, ints, x, east) in
+    let at : cell (first.x +ℤ pos k) first.y ≡ c = λ i. cell (x i) (same i) in
+    let place : unsigned_abs first.y * columns + unsigned_abs first.x + k ≡ unsigned_abs c.y * columns + unsigned_abs c.x =
+    omega (arith, ahead) ∙ ap (λ (z : ℤ). unsigned_abs z * columns + unsigned_abs c.x) same in
+    mass_here columns rows ms c (mass_in q c) h (ap (mass_in q) (sym at) ∙ made k few ∙ read k few ∙ ap (slice_index ms) place)
 
 -- ---- a patch, row by row
 
@@ -204,7 +199,7 @@ module _ (b : Extent) (ps : List Patch) (blank : (c : Cell) → masses_in ps c �
       or_right true b e = refl
       or_right false b e = e
 
-  pub all_lie_in : All (LiesIn b) ps
+  pub all_lie_in : All (LiesInBox b) ps
   all_lie_in = λ i d lt. record { at = λ c h. sym (in_all c) ∙ in_at ps c i d lt h }
 
   masses_of : (m : Masses) (qs : List Patch) (c : Cell) → All (HasMassesOf m) qs → masses_in qs c ≡ cond (in_patches qs c) (m c) None
@@ -242,7 +237,7 @@ near_alone b near c h =
 
 -- ---- what the calls require
 
-pub lies_still : (b : Extent) (p q : Patch) → box q ≡ box p → LiesIn b p → LiesIn b q
+pub lies_still : (b : Extent) (p q : Patch) → box q ≡ box p → LiesInBox b p → LiesInBox b q
 lies_still b p q e h = record { at = λ c t. h.at c (subst (λ (a : Extent). IsTrue (holds a c)) e t) }
 
 pub cell_held : (p q : Patch) (x y : ℤ) → box q ≡ box p → (box p).lo.x ≤ℤ x → x ≤ℤ (box p).hi.x → within (box p).lo.y (box p).hi.y y ≡ true → IsTrue (holds (box q) (cell x y))

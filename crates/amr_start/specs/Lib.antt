@@ -1,4 +1,4 @@
 pub mod OneLevel
 pub mod Rows
 pub mod Placed
-pub mod Pieces
+pub mod PatchBoxes

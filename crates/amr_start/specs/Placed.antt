@@ -8,7 +8,7 @@ use Rattle.amr_patch.specs.declared.patches.Patch.{Patch}
 use Rattle.amr_patch.specs.Patches.{box, mass_in}
 
 -- the patch's cells are cells of a box
-pub record LiesIn (b : Extent) (p : Patch) : Type 0 where
+pub record LiesInBox (b : Extent) (p : Patch) : Type 0 where
   pub at : (c : Cell) → IsTrue (holds (box p) c) → IsTrue (holds b c)
 
 -- the patch has these masses

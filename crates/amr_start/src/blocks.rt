@@ -11,7 +11,7 @@ use amr_def::{Block, Problem};
 use std::alloc::Global;
 
 /// Gives the entries from `low` to before `high` a mass.
-fn fill(masses: &mut [u64], low: usize, high: usize, mass: u64)
+fn fill(masses: &mut [u32], low: usize, high: usize, mass: u32)
     requires order { low ≤ high }
     requires inside { high ≤ length masses.old }
     ensures { (k : ℕ) → slice_index masses.new k ≡ cond (nat_le low k && nat_lt k high) mass (slice_index masses.old k) }
@@ -22,7 +22,7 @@ fn fill(masses: &mut [u64], low: usize, high: usize, mass: u64)
 }
 
 /// Gives the cells of a block its mass, in place of what they had.
-fn fill_block(masses: &mut [u64], columns: usize, rows: usize, b: &Block)
+fn fill_block(masses: &mut [u32], columns: usize, rows: usize, b: &Block)
     requires block { IsBlockIn columns rows b.now }
     requires count { length masses.old ≡ rows * columns }
     requires narrow { columns ≤ 256 }
@@ -33,18 +33,18 @@ fn fill_block(masses: &mut [u64], columns: usize, rows: usize, b: &Block)
     let past_east = b.x1 as usize + 1;
     for y in b.y0 as usize..b.y1 as usize + 1 {
         let start = y * columns;
-        fill(masses, start + west, start + past_east, b.mass);
+        fill(masses, start + west, start + past_east, b.mass as u32);
     }
 }
 
 /// The masses of level 0 at the start: those of the blocks, of which a later one replaces an earlier
 /// one, and 0 elsewhere.
-pub(crate) fn start_masses(alloc: Global, p: &Problem) -> Result<Vec<u64>, NoMemory>
+pub(crate) fn start_masses(alloc: Global, p: &Problem) -> Result<Vec<u32>, NoMemory>
     ensures { IfOk result (λ v. HasBlocks p.now v.items) }
 {
     let columns = p.nx as usize;
     let rows = p.ny as usize;
-    let mut masses = vec![in alloc; 0u64; rows * columns]?;
+    let mut masses = vec![in alloc; 0u32; rows * columns]?;
     for b in p.blocks.entries() {
         fill_block(&mut masses, columns, rows, b);
     }
@@ -52,7 +52,7 @@ pub(crate) fn start_masses(alloc: Global, p: &Problem) -> Result<Vec<u64>, NoMem
 }
 
 /// The sum of a row.
-fn row_mass(masses: &[u64], columns: usize, y: usize) -> u64
+fn row_mass(masses: &[u32], columns: usize, y: usize) -> u64
     requires small { (k : ℕ) → slice_index masses.now k < 2 ^ 31 }
     requires narrow { columns ≤ 256 }
     requires inside { (y + 1) * columns ≤ length masses.now }
@@ -62,13 +62,13 @@ fn row_mass(masses: &[u64], columns: usize, y: usize) -> u64
     let start = y * columns;
     let mut sum = 0;
     for x in 0..columns {
-        sum += masses[start + x];
+        sum += u64::from(masses[start + x]);
     }
     sum
 }
 
 /// The sum of the masses.
-pub(crate) fn total_mass(masses: &[u64], columns: usize, rows: usize) -> u64
+pub(crate) fn total_mass(masses: &[u32], columns: usize, rows: usize) -> u64
     requires small { (k : ℕ) → slice_index masses.now k < 2 ^ 31 }
     requires count { length masses.now ≡ rows * columns }
     requires narrow { columns ≤ 256 }

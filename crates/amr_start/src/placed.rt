@@ -1,43 +1,24 @@
 //! Masses of one list, placed in the patches of a level.
 
-ghost use Rattle.std.specs.Prelude.{◌≡◌, ◌≢◌, ◌+◌, ◌*◌, ◌<◌, ◌≤◌, pos, negsuc, ◌+ℤ◌, ◌<ℤ◌, length, slice_index, Some, IsTrue};
+ghost use Rattle.std.specs.Prelude.{◌≡◌, ◌≢◌, ◌+◌, ◌*◌, ◌<◌, ◌≤◌, pos, negsuc, ◌+ℤ◌, ◌<ℤ◌, length, slice_index, unsigned_abs, Some, IsTrue};
 ghost use Rattle.std.specs.List.{All, AllZip};
 ghost use Rattle.amr_box.specs.declared.Cell.{Cell};
 ghost use Rattle.amr_box.specs.Cells.{holds, within};
 ghost use Rattle.amr_patch.specs.Patches.{box, mass_in};
-ghost use Rattle.amr_start.specs.Placed.{HasBoxOf, HasMassesOf, LiesIn};
+ghost use Rattle.amr_start.specs.Placed.{HasBoxOf, HasMassesOf, LiesInBox};
 ghost use Rattle.amr_start.specs.Rows.{box_of, masses_on};
 
 use amr_box::Cell;
 use amr_patch::Patch;
 
-/// The entry of a column and a row.
-#[tactic(auto, using(crate::proofs::Placing::place_within))]
-fn entry(masses: &[u64], columns: usize, rows: usize, x: usize, y: usize) -> u64
-    requires column { x < columns }
-    requires row { y < rows }
-    requires count { length masses.now ≡ rows * columns }
+/// Where the mass of a cell stands in the list of all masses.
+fn place_of(c: Cell, columns: usize, rows: usize) -> usize
+    requires inside { IsTrue (holds (box_of columns rows) c) }
     requires narrow { columns ≤ 256 }
     requires flat { rows ≤ 256 }
-    ensures { result ≡ slice_index masses.now (y * columns + x) }
+    ensures { result ≡ unsigned_abs c.y * columns + unsigned_abs c.x }
 {
-    masses[y * columns + x]
-}
-
-/// Gives a cell its mass.
-fn place_cell(patch: &mut Patch, masses: &[u64], columns: usize, rows: usize, c: Cell)
-    requires inside { LiesIn (box_of columns rows) patch.old }
-    requires count { length masses.now ≡ rows * columns }
-    requires narrow { columns ≤ 256 }
-    requires flat { rows ≤ 256 }
-    requires of_patch { IsTrue (holds (box patch.old) c) }
-    ensures of_box { box patch.new ≡ box patch.old }
-    ensures made { masses_on columns rows masses.now c ≡ Some (mass_in patch.new c) }
-    ensures others { (d : Cell) → IsTrue (holds (box patch.old) d) → d ≢ c → mass_in patch.new d ≡ mass_in patch.old d }
-{
-    let x = c.x.unsigned_abs() as usize;
-    let y = c.y.unsigned_abs() as usize;
-    patch.set_mass(c, entry(masses, columns, rows, x, y));
+    c.y.unsigned_abs() as usize * columns + c.x.unsigned_abs() as usize
 }
 
 /// The number that lies `k` above another.
@@ -50,9 +31,9 @@ fn ahead(z: i32, k: u32) -> i32
     z + k as i32
 }
 
-/// Gives the cells of a row their masses.
-fn place_row(patch: &mut Patch, masses: &[u64], columns: usize, rows: usize, y: i32)
-    requires inside { LiesIn (box_of columns rows) patch.old }
+/// Gives the cells of a row their masses, all at once.
+fn place_row(patch: &mut Patch, masses: &[u32], columns: usize, rows: usize, y: i32)
+    requires inside { LiesInBox (box_of columns rows) patch.old }
     requires count { length masses.now ≡ rows * columns }
     requires narrow { columns ≤ 256 }
     requires flat { rows ≤ 256 }
@@ -62,15 +43,14 @@ fn place_row(patch: &mut Patch, masses: &[u64], columns: usize, rows: usize, y: 
     ensures others { (c : Cell) → IsTrue (holds (box patch.old) c) → c.y ≢ y → mass_in patch.new c ≡ mass_in patch.old c }
 {
     let b = patch.bx();
-    for k in 0..b.width() {
-        let x = ahead(b.lo().x, k);
-        place_cell(patch, masses, columns, rows, Cell { x, y });
-    }
+    let first = Cell { x: b.lo().x, y };
+    let from = place_of(first, columns, rows);
+    patch.set_masses(first, &masses[from..from + b.width() as usize]);
 }
 
 /// Gives the cells of a patch their masses, row by row.
-fn place_patch(patch: &mut Patch, masses: &[u64], columns: usize, rows: usize)
-    requires inside { LiesIn (box_of columns rows) patch.old }
+fn place_patch(patch: &mut Patch, masses: &[u32], columns: usize, rows: usize)
+    requires inside { LiesInBox (box_of columns rows) patch.old }
     requires count { length masses.now ≡ rows * columns }
     requires narrow { columns ≤ 256 }
     requires flat { rows ≤ 256 }
@@ -85,8 +65,8 @@ fn place_patch(patch: &mut Patch, masses: &[u64], columns: usize, rows: usize)
 }
 
 /// Gives the cells of all patches their masses.
-pub(crate) fn place_all(patches: &mut [Patch], masses: &[u64], columns: usize, rows: usize)
-    requires inside { All (LiesIn (box_of columns rows)) patches.old }
+pub(crate) fn place_all(patches: &mut [Patch], masses: &[u32], columns: usize, rows: usize)
+    requires inside { All (LiesInBox (box_of columns rows)) patches.old }
     requires count { length masses.now ≡ rows * columns }
     requires narrow { columns ≤ 256 }
     requires flat { rows ≤ 256 }

@@ -6,21 +6,21 @@ ghost use Rattle.amr_def.specs.Run.{start};
 ghost use Rattle.amr_patch.specs.Levels.{level_of};
 ghost use Rattle.amr_patch.specs.Meshes.{is_spent, levels_of, state_of};
 ghost use Rattle.amr_start.specs.OneLevel.{HasOneLevel};
-ghost use Rattle.amr_start.specs.Pieces.{HasChoppedDomain, IsChopped};
+ghost use Rattle.amr_start.specs.PatchBoxes.{HasChoppedDomain, IsChopped};
 ghost use Rattle.amr_start.specs.Rows.{box_of, masses_on};
 
+use crate::blank::{blank_level, whole_box};
 use crate::blocks::{start_masses, total_mass};
-use crate::pieces::{blank_level, whole_box};
 use crate::placed::place_all;
 use amr_causes::NoMemory;
 use amr_def::{Problem, Row};
 use amr_patch::{Level, Mesh};
 use std::alloc::Global;
 
-/// Level 0 with the masses of a list, in pieces of at most `max` by `max` cells.
+/// Level 0 with the masses of a list, in patches of at most `max` by `max` cells.
 fn level_with(
     alloc: Global,
-    masses: &[u64],
+    masses: &[u32],
     columns: u32,
     rows: u32,
     max: u32,
@@ -33,7 +33,7 @@ fn level_with(
     requires count { length masses.now ≡ rows * columns }
     ensures boxes { IfOk result (λ l. (level_of l).boxes ≡ box_of columns rows ∷ []) }
     ensures masses { IfOk result (λ l. (level_of l).masses ≡ masses_on columns rows masses.now) }
-    ensures pieces { IfOk result (IsChopped max (box_of columns rows)) }
+    ensures patches { IfOk result (IsChopped max (box_of columns rows)) }
 {
     let mut level = blank_level(alloc, whole_box(columns, rows), max)?;
     let mut patches = level.take_patches();
@@ -50,7 +50,7 @@ pub fn start(alloc: Global, p: &Problem) -> Result<Mesh, NoMemory>
     ensures value { IfOk result (λ m. state_of m ≡ start p.now) }
     ensures sound { IfOk result (λ m. IsSound p.now (state_of m)) }
     ensures at_start { IfOk result (λ m. (state_of m).step ≡ 0) }
-    ensures pieces { IfOk result (λ m. HasChoppedDomain p.now (levels_of m)) }
+    ensures patches { IfOk result (λ m. HasChoppedDomain p.now (levels_of m)) }
     ensures whole { IfOk result (λ m. is_spent m ≡ false) }
 {
     let masses = start_masses(alloc, p)?;

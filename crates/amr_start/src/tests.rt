@@ -24,11 +24,12 @@ const BLOCKS: [Block; 2] = [
     },
 ];
 
-/// A problem of 6 by 5 cells in pieces of 4 by 4, with two blocks that have a cell in common.
+/// A problem of 6 by 5 cells in patches of 4 by 4, with two blocks that have a cell in common.
 fn problem(alloc: Global) -> Result<Problem, Fail>
     ensures { IfOk result (λ p. p.max_level ≡ 0) }
 {
     Ok(Problem {
+        version: 1,
         name: Name::make(Vec::from_slice(alloc, b"blocks")?),
         nx: 6,
         ny: 5,
@@ -69,7 +70,7 @@ fn patch_count(levels: &[Level]) -> usize {
 }
 
 #[test]
-fn blocks_in_four_pieces(rt: HostRuntime) -> Result<(), Fail> {
+fn blocks_in_four_patches(rt: HostRuntime) -> Result<(), Fail> {
     let alloc = rt.alloc();
     let p = problem(alloc)?;
     let mut mesh = start(alloc, &p)?;

@@ -3,21 +3,16 @@ use Rattle.std.proofs.lemmas.Int.{ints}
 use Rattle.amr_flux.proofs.rows.mass_after.Goals as goal
 
 pub overflow_add-result : goal.overflow_add-result
-overflow_add-result c =
-    let r = c.requires in
-    omega (arith, ints, r.small, r.west_small.low, r.west_small.high, r.east_small.low, r.east_small.high, r.south_small.low, r.south_small.high, r.north_small.low, r.north_small.high)
+overflow_add-result c = omega (arith, ints, c.ranges.mass.fits, c.from.ensures, c.net_inflow.ensures.least, c.net_inflow.ensures.most)
 
-pub overflow_add-result-2 : goal.overflow_add-result-2
-overflow_add-result-2 c =
+pub overflow_cast-result : goal.overflow_cast-result
+overflow_cast-result c =
     let r = c.requires in
-    omega (arith, ints, r.small, r.west_small.low, r.west_small.high, r.east_small.low, r.east_small.high, r.south_small.low, r.south_small.high, r.north_small.low, r.north_small.high)
-
-pub overflow_cast-result-2 : goal.overflow_cast-result-2
-overflow_cast-result-2 c =
-    let r = c.requires in
-    (omega (arith, ints, r.kept, r.small, r.west_small.low, r.west_small.high, r.east_small.low, r.east_small.high, r.south_small.low, r.south_small.high, r.north_small.low, r.north_small.high), omega (arith, ints, r.kept, r.small, r.west_small.low, r.west_small.high, r.east_small.low, r.east_small.high, r.south_small.low, r.south_small.high, r.north_small.low, r.north_small.high))
+    let n = c.net_inflow.ensures in
+    (omega (arith, ints, r.kept, r.fits, c.ranges.mass.fits, c.from.ensures, n.value, n.least, n.most), omega (arith, ints, r.kept, r.fits, c.ranges.mass.fits, c.from.ensures, n.value, n.least, n.most))
 
 pub returns : goal.returns
 returns c =
     let r = c.requires in
-    omega (arith, ints, r.kept, r.small, r.west_small.low, r.west_small.high, r.east_small.low, r.east_small.high, r.south_small.low, r.south_small.high, r.north_small.low, r.north_small.high)
+    let n = c.net_inflow.ensures in
+    omega (arith, ints, r.kept, r.fits, c.ranges.mass.fits, c.from.ensures, n.value, n.least, n.most)

@@ -1,75 +1,155 @@
-use Rattle.std.proofs.Common.{ℕ, ◌+◌, ◌*◌, ◌^◌, ◌<◌, ◌∙◌, pos, ℤ, ◌+ℤ◌, ◌≤ℤ◌, sym, subst, refl, drop, length-take, ◌-◌, arith, rules}
-use Rattle.amr_flux.specs.Tables.{value, net_inflow}
-use Rattle.amr_flux.proofs.Parts.{read, read_flux, small_flows, small_part}
-use Rattle.amr_flux.proofs.Steps.{masses_made, others_kept, row_mass, row_total}
+use Rattle.std.proofs.Common.{◌≡◌, ℕ, ◌+◌, ◌*◌, ◌^◌, ◌<◌, ◌≤◌, ◌∙◌, ℤ, List, pos, ◌+ℤ◌, ◌≤ℤ◌, ◌<ℤ◌, sym, ap, subst, refl, length, length-drop, arith, rules}
+use Rattle.std.specs.Prelude.{cond, slice_index, slice_index_or}
+use Rattle.std.proofs.lemmas.List.{take_rest}
+use Rattle.amr_flux.proofs.Parts.{rest_small}
+use Rattle.amr_flux.specs.Rows.{inflow}
+use Rattle.amr_flux.specs.Tables.{net_inflow, value, x_marked, x_through, y_through, count_below}
+use Rattle.amr_flux.proofs.Borders.{count_grows, count_more}
+use Rattle.amr_flux.proofs.Throughs.{later, others_more, rows_more, total_now, x_made, x_now, y_flux_inner, y_made, y_now}
 use Rattle.amr_flux.proofs.update_rows.update_rows.Goals as goal
+
+pub y_row-requires-clause-low_small : goal.y_row-requires-clause-low_small
+y_row-requires-clause-low_small c = λ i h. c.requires.y_small.at i 0 h (omega arith)
+
+pub y_row-requires-clause-high_small : goal.y_row-requires-clause-high_small
+y_row-requires-clause-high_small c = λ i h. c.requires.y_small.at i 1 h (omega arith)
+
+pub loop-j-init : goal.loop-j-init
+loop-j-init c = record {
+  used = refl;
+  low = λ i h. c.y_row.ensures i h ∙ y_flux_inner c.args.p.now c.args.shape.level c.args.shape.column c.args.shape.w c.args.shape.h c.args.marks.now c.args.border.now c.args.values.now i 0 c.requires.some;
+  made = λ i j inside below. absurd (omega arith);
+  others = λ k other. refl;
+}
+
+pub x_row-requires-clause-small : goal.x_row-requires-clause-small
+x_row-requires-clause-small c = λ i h.
+    let j = c.loop-j.j in
+    let P : ℕ → Type 0 = λ n. n < 2 ^ 31 in
+    subst P (sym (later c.args.shape.w j c.loop-j.values c.args.values.now c.loop-j.invariant.others (j + 1) i _ (omega arith) h refl)) (c.requires.x_small.at i j h c.loop-j-test.true)
+
+pub set_end-used-requires-clause-enough : goal.set_end-used-requires-clause-enough
+set_end-used-requires-clause-enough c =
+    let w = c.args.shape.w in
+    let j = c.loop-j.j in
+    let marks = c.args.marks.now in
+    let all : count_below (x_marked w marks) (j + 1) ≤ count_below (x_marked w marks) c.args.shape.h = count_grows (x_marked w marks) (j + 1) c.args.shape.h (omega (arith, c.loop-j-test.true)) in
+    omega (arith, all, c.loop-j.invariant.used, count_more (x_marked w marks) j, c.requires.enough, ap {B = ℕ} (λ b. cond b 1 0) c.is_end_marked-marked.ensures)
+
+pub y_row-requires-in-loop-j-clause-low_small : goal.y_row-requires-in-loop-j-clause-low_small
+y_row-requires-in-loop-j-clause-low_small c = λ i h.
+    let j = c.loop-j.j in
+    let P : ℕ → Type 0 = λ n. n < 2 ^ 31 in
+    subst P (sym (later c.args.shape.w j c.loop-j.values c.args.values.now c.loop-j.invariant.others (j + 1) (i + 1) _ (omega arith) (omega (arith, h)) refl)) (c.requires.y_small.at i (j + 1) h (omega (arith, c.loop-j-test.true)))
+
+pub y_row-requires-in-loop-j-clause-high_small : goal.y_row-requires-in-loop-j-clause-high_small
+y_row-requires-in-loop-j-clause-high_small c = λ i h.
+    let j = c.loop-j.j in
+    let P : ℕ → Type 0 = λ n. n < 2 ^ 31 in
+    subst P (sym (later c.args.shape.w j c.loop-j.values c.args.values.now c.loop-j.invariant.others (j + 1 + 1) (i + 1) _ (omega arith) (omega (arith, h)) refl)) (c.requires.y_small.at i (j + 1 + 1) h (omega (arith, c.loop-j-test.true)))
+
+pub set_top-requires-clause-enough : goal.set_top-requires-clause-enough
+set_top-requires-clause-enough c = λ last.
+    let w = c.args.shape.w in
+    let marks = c.args.marks.now in
+    let used : c.set_end-used.result ≡ count_below (x_marked w marks) c.args.shape.h = c.set_end-used.ensures.count ∙ (λ t. c.loop-j.invariant.used t + cond (c.is_end_marked-marked.ensures t) 1 0) ∙ sym (count_more (x_marked w marks) c.loop-j.j) ∙ ap (count_below (x_marked w marks)) last in
+    omega (arith, used, c.requires.enough, length-drop c.set_end-used.result c.args.border.now)
+
+pub set_top-requires-clause-small : goal.set_top-requires-clause-small
+set_top-requires-clause-small c = rest_small c.args.border.now c.set_end-used.result c.requires.border_small
+
+pub update_patch_row-requires-clause-kept : goal.update_patch_row-requires-clause-kept
+update_patch_row-requires-clause-kept c = λ t below.
+    let p = c.args.p.now in
+    let l = c.args.shape.level in
+    let w = c.args.shape.w in
+    let h = c.args.shape.h in
+    let row = c.args.shape.row in
+    let column = c.args.shape.column in
+    let marks = c.args.marks.now in
+    let border = c.args.border.now in
+    let old = c.args.values.now in
+    let values = c.loop-j.values in
+    let j = c.loop-j.j in
+    let before = c.loop-j.invariant.others in
+    let xs : ℕ → ℕ → ℤ = x_through p l row w marks border old in
+    let ys : ℕ → ℕ → ℤ = y_through p l column w h marks border old in
+    let one = c.x_row.new.fluxes in
+    let two = c.set_end-used.new.fluxes in
+    let next : c.set_end-used.result ≡ count_below (x_marked w marks) (j + 1) = c.set_end-used.ensures.count ∙ (λ s. c.loop-j.invariant.used s + cond (c.is_end_marked-marked.ensures s) 1 0) ∙ sym (count_more (x_marked w marks) j) in
+    let x_is : (k : ℕ) → k ≤ w → slice_index_or two k (pos 0) ≡ xs k j =
+    x_made p l row w marks border old j one two _ _ _ (search rules) (λ k i. c.x_row.ensures k i ∙ x_now p l row w j values old before k i) (search rules) c.is_end_marked-marked.ensures c.loop-j.invariant.used c.set_end-used.ensures.last c.set_end-used.ensures.others in
+    let high_is : (i : ℕ) → i < w → slice_index_or c.set_top.new.fluxes i (pos 0) ≡ ys i (j + 1) =
+    λ i k. y_made p l column w h marks border old j i c.set_end-used.result _ (take_rest border c.set_end-used.result) next (c.y_row-in-loop-j.ensures i k ∙ y_now p l column w j values old before i k) (c.set_top.ensures i k) in
+    let total : (t : ℕ) → t < w → pos (value w values (t + 1) (j + 1)) +ℤ inflow two c.loop-j.low c.set_top.new.fluxes t ≡ pos (value w old (t + 1) (j + 1)) +ℤ net_inflow xs ys t j =
+    λ t i. total_now two c.loop-j.low c.set_top.new.fluxes xs ys _ _ t j (later w j values old before (j + 1) (t + 1) _ (omega arith) (omega (arith, i)) refl) (x_is t (omega (arith, i))) (x_is (t + 1) (omega (arith, i))) (c.loop-j.invariant.low t i) (high_is t i) in
+    let P : ℤ → Type 0 = λ z. pos 0 ≤ℤ z in
+    subst P (sym (total t below)) (c.requires.kept t j below c.loop-j-test.true)
+
+pub update_patch_row-requires-clause-fits : goal.update_patch_row-requires-clause-fits
+update_patch_row-requires-clause-fits c = λ t below.
+    let p = c.args.p.now in
+    let l = c.args.shape.level in
+    let w = c.args.shape.w in
+    let h = c.args.shape.h in
+    let row = c.args.shape.row in
+    let column = c.args.shape.column in
+    let marks = c.args.marks.now in
+    let border = c.args.border.now in
+    let old = c.args.values.now in
+    let values = c.loop-j.values in
+    let j = c.loop-j.j in
+    let before = c.loop-j.invariant.others in
+    let xs : ℕ → ℕ → ℤ = x_through p l row w marks border old in
+    let ys : ℕ → ℕ → ℤ = y_through p l column w h marks border old in
+    let one = c.x_row.new.fluxes in
+    let two = c.set_end-used.new.fluxes in
+    let next : c.set_end-used.result ≡ count_below (x_marked w marks) (j + 1) = c.set_end-used.ensures.count ∙ (λ s. c.loop-j.invariant.used s + cond (c.is_end_marked-marked.ensures s) 1 0) ∙ sym (count_more (x_marked w marks) j) in
+    let x_is : (k : ℕ) → k ≤ w → slice_index_or two k (pos 0) ≡ xs k j =
+    x_made p l row w marks border old j one two _ _ _ (search rules) (λ k i. c.x_row.ensures k i ∙ x_now p l row w j values old before k i) (search rules) c.is_end_marked-marked.ensures c.loop-j.invariant.used c.set_end-used.ensures.last c.set_end-used.ensures.others in
+    let high_is : (i : ℕ) → i < w → slice_index_or c.set_top.new.fluxes i (pos 0) ≡ ys i (j + 1) =
+    λ i k. y_made p l column w h marks border old j i c.set_end-used.result _ (take_rest border c.set_end-used.result) next (c.y_row-in-loop-j.ensures i k ∙ y_now p l column w j values old before i k) (c.set_top.ensures i k) in
+    let total : (t : ℕ) → t < w → pos (value w values (t + 1) (j + 1)) +ℤ inflow two c.loop-j.low c.set_top.new.fluxes t ≡ pos (value w old (t + 1) (j + 1)) +ℤ net_inflow xs ys t j =
+    λ t i. total_now two c.loop-j.low c.set_top.new.fluxes xs ys _ _ t j (later w j values old before (j + 1) (t + 1) _ (omega arith) (omega (arith, i)) refl) (x_is t (omega (arith, i))) (x_is (t + 1) (omega (arith, i))) (c.loop-j.invariant.low t i) (high_is t i) in
+    let P : ℤ → Type 0 = λ z. z <ℤ pos (2 ^ 32) in
+    subst P (sym (total t below)) (c.requires.fits t j below c.loop-j-test.true)
 
 pub loop-j-preserved : goal.loop-j-preserved
 loop-j-preserved c =
+    let p = c.args.p.now in
+    let l = c.args.shape.level in
     let w = c.args.shape.w in
+    let h = c.args.shape.h in
+    let row = c.args.shape.row in
+    let column = c.args.shape.column in
+    let marks = c.args.marks.now in
+    let border = c.args.border.now in
+    let old = c.args.values.now in
+    let values = c.loop-j.values in
     let j = c.loop-j.j in
-    let x = c.args.x.now in
-    let y = c.args.y.now in
-    let from = (j + 1) * (w + 2) + 1 in
-    let west = j * (w + 1) in
-    let low = j * w in
-    let high = (j + 1) * w in
-    let f : ℕ → ℕ → ℤ = λ i j. pos (value w c.args.values.now (i + 1) (j + 1)) +ℤ net_inflow w x y i j in
+    let before = c.loop-j.invariant.others in
+    let xs : ℕ → ℕ → ℤ = x_through p l row w marks border old in
+    let ys : ℕ → ℕ → ℤ = y_through p l column w h marks border old in
+    let one = c.x_row.new.fluxes in
+    let two = c.set_end-used.new.fluxes in
+    let next : c.set_end-used.result ≡ count_below (x_marked w marks) (j + 1) = c.set_end-used.ensures.count ∙ (λ s. c.loop-j.invariant.used s + cond (c.is_end_marked-marked.ensures s) 1 0) ∙ sym (count_more (x_marked w marks) j) in
+    let x_is : (k : ℕ) → k ≤ w → slice_index_or two k (pos 0) ≡ xs k j =
+    x_made p l row w marks border old j one two _ _ _ (search rules) (λ k i. c.x_row.ensures k i ∙ x_now p l row w j values old before k i) (search rules) c.is_end_marked-marked.ensures c.loop-j.invariant.used c.set_end-used.ensures.last c.set_end-used.ensures.others in
+    let high_is : (i : ℕ) → i < w → slice_index_or c.set_top.new.fluxes i (pos 0) ≡ ys i (j + 1) =
+    λ i k. y_made p l column w h marks border old j i c.set_end-used.result _ (take_rest border c.set_end-used.result) next (c.y_row-in-loop-j.ensures i k ∙ y_now p l column w j values old before i k) (c.set_top.ensures i k) in
+    let total : (t : ℕ) → t < w → pos (value w values (t + 1) (j + 1)) +ℤ inflow two c.loop-j.low c.set_top.new.fluxes t ≡ pos (value w old (t + 1) (j + 1)) +ℤ net_inflow xs ys t j =
+    λ t i. total_now two c.loop-j.low c.set_top.new.fluxes xs ys _ _ t j (later w j values old before (j + 1) (t + 1) _ (omega arith) (omega (arith, i)) refl) (x_is t (omega (arith, i))) (x_is (t + 1) (omega (arith, i))) (c.loop-j.invariant.low t i) (high_is t i) in
+    let f : ℕ → ℕ → ℤ = λ i k. pos (value w old (i + 1) (k + 1)) +ℤ net_inflow xs ys i k in
+    let stays = c.update_patch_row.ensures.others in
     record {
-      made = masses_made w j _ _ c.loop-j.values c.update_row.new.masses refl (omega arith) (search rules) (search rules) f
-          (λ t h. c.update_row.ensures t (search rules) ∙ row_total w j c.loop-j.values c.args.values.now c.loop-j.invariant.others t h x y _ _ _ _
-          (read c.loop-j.values from (from + w) t (omega (arith, h)))
-          (read_flux x west (west + w + 1) t (omega (arith, h)))
-          (read_flux x west (west + w + 1) (t + 1) (omega (arith, h)))
-          (read_flux y low (low + w) t (omega (arith, h)))
-          (read_flux y high (high + w) t (omega (arith, h))))
-          c.loop-j.invariant.made;
-      others = others_kept w j _ _ c.loop-j.values c.update_row.new.masses refl (omega arith) (search rules) (search rules) c.args.values.now c.loop-j.invariant.others;
+      used = next;
+      low = λ i k. ap (λ es. slice_index_or es i (pos 0)) c.copy_from_slice.ensures.after ∙ high_is i k;
+      made = rows_more w j values c.update_patch_row.new.values old f stays (λ i k. c.update_patch_row.ensures.made i k ∙ total i k) c.loop-j.invariant.made;
+      others = others_more w j values c.update_patch_row.new.values old f stays before;
     }
 
-pub update_row-requires-clause-small : goal.update_row-requires-clause-small
-update_row-requires-clause-small c =
-    let w = c.args.shape.w in
-    let from = (c.loop-j.j + 1) * (w + 2) + 1 in
-    small_part c.loop-j.values from (from + w)
-    (λ t h. let P : ℕ → Type 0 = λ n. n < 2 ^ 31 in
-    let inside : t < w = omega (arith, h) in
-    subst P (sym (row_mass w c.loop-j.j c.loop-j.values c.args.values.now c.loop-j.invariant.others t inside)) (c.requires.small.at t c.loop-j.j inside c.loop-j-test.true))
-
-pub update_row-requires-clause-kept : goal.update_row-requires-clause-kept
-update_row-requires-clause-kept c = λ t below.
-    let w = c.args.shape.w in
-    let j = c.loop-j.j in
-    let x = c.args.x.now in
-    let y = c.args.y.now in
-    let from = (j + 1) * (w + 2) + 1 in
-    let west = j * (w + 1) in
-    let low = j * w in
-    let high = (j + 1) * w in
-    let h : t < w = omega (arith, below, length-take (from + w - from) (drop from c.loop-j.values)) in
-    let P : ℤ → Type 0 = λ z. pos 0 ≤ℤ z in
-    subst P (sym (row_total w j c.loop-j.values c.args.values.now c.loop-j.invariant.others t h x y _ _ _ _
-    (read c.loop-j.values from (from + w) t (omega (arith, h)))
-    (read_flux x west (west + w + 1) t (omega (arith, h)))
-    (read_flux x west (west + w + 1) (t + 1) (omega (arith, h)))
-    (read_flux y low (low + w) t (omega (arith, h)))
-    (read_flux y high (high + w) t (omega (arith, h)))))
-    (c.requires.kept t j h c.loop-j-test.true)
+pub returns-clause-made : goal.returns-clause-made
+returns-clause-made c = λ i j hi hj. c.loop-j.invariant.made i j hi (omega (arith, hj, c.loop-j.auto.j-end))
 
 pub returns-clause-others : goal.returns-clause-others
 returns-clause-others c = λ k other. c.loop-j.invariant.others k (λ i j hi hj. other i j hi (omega (arith, hj, c.loop-j.auto.j-end)))
-
-pub update_row-requires-clause-x_small : goal.update_row-requires-clause-x_small
-update_row-requires-clause-x_small c =
-    let west = c.loop-j.j * (c.args.shape.w + 1) in
-    small_flows c.args.x.now west (west + c.args.shape.w + 1) (λ t h. c.requires.x_small.at t c.loop-j.j (omega (arith, h)) c.loop-j-test.true)
-
-pub update_row-requires-clause-low_small : goal.update_row-requires-clause-low_small
-update_row-requires-clause-low_small c =
-    let low = c.loop-j.j * c.args.shape.w in
-    small_flows c.args.y.now low (low + c.args.shape.w) (λ t h. c.requires.y_small.at t c.loop-j.j (omega (arith, h)) (omega (arith, c.loop-j-test.true)))
-
-pub update_row-requires-clause-high_small : goal.update_row-requires-clause-high_small
-update_row-requires-clause-high_small c =
-    let high = (c.loop-j.j + 1) * c.args.shape.w in
-    small_flows c.args.y.now high (high + c.args.shape.w) (λ t h. c.requires.y_small.at t (c.loop-j.j + 1) (omega (arith, h)) (omega (arith, c.loop-j-test.true)))

@@ -2,8 +2,8 @@ use Rattle.std.proofs.Common.{ℕ, ◌<◌, false, true, length, refl, sym, subs
 use Rattle.std.proofs.lemmas.Grind.{get_or-set_at}
 use Rattle.amr_patch.specs.Places.{place}
 use Rattle.amr_patch.specs.Patches.{mark_in, value_in}
+use Rattle.amr_patch.proofs.Edges.{same_lines}
 use Rattle.amr_patch.proofs.Entries.{in_the_frame, other_place}
-use Rattle.amr_ghost.proofs.LinePlaces.{same_lists}
 use Rattle.amr_ghost.proofs.ghosts.set_entry.Goals as goal
 
 pub returns : goal.returns
@@ -16,6 +16,6 @@ returns c d ghost e =
       marked = get_or-set_at p.marks.items c.args.at (place p.bx d) true false (sym e) there;
       others = λ g h n. other_place p.values.items c.args.mass 0 c.args.at p.bx d g p.near e (in_the_frame p.bx d ghost) h n;
       marks = λ g h n. other_place p.marks.items true false c.args.at p.bx d g p.near e (in_the_frame p.bx d ghost) h n;
-      fluxes = same_lists p _ refl refl refl;
+      fluxes = same_lines p _ refl refl refl refl refl;
       of_box = refl;
     }

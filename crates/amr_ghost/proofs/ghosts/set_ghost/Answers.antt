@@ -10,7 +10,7 @@ returns-clause-kept c =
     let q = get_or c.args.patches.now c.args.i d in
     let r = c.set_ghost.new.self in
     let s : IsGhostSet q r c.args.c c.args.v c.args.of_level = record { set = c.set_ghost.ensures.set; marked = c.set_ghost.ensures.marked; others = c.set_ghost.ensures.others; marks = c.set_ghost.ensures.marks; fluxes = c.set_ghost.ensures.fluxes; of_box = c.set_ghost.ensures.of_box } in
-    zip_set KeepsCells keeps_refl c.args.patches.now c.args.i d r (ghost_keeps_cells q r c.args.c c.args.v c.args.of_level (c.requires.ghost_cell d) s)
+    zip_set KeepsCells keeps_refl c.args.patches.now c.args.i d r (ghost_keeps_cells q r c.args.c c.args.v c.args.of_level (c.requires.ghost_cell d) (c.requires.beside d) s)
 
 pub returns-clause-ghosts : goal.returns-clause-ghosts
 returns-clause-ghosts c value mark e f =

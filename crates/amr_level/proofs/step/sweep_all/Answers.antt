@@ -1,4 +1,4 @@
-use Rattle.std.proofs.Common.{arith}
+use Rattle.std.proofs.Common.{◌∙◌, arith}
 use Rattle.amr_level.specs.Steps.{IsSwept}
 use Rattle.amr_level.proofs.Lists.{set_done, set_rest, zip_from}
 use Rattle.amr_level.proofs.step.sweep_all.Goals as goal
@@ -11,9 +11,10 @@ loop-i-preserved c =
     let r = c.sweep.new.patch in
     let e = c.index-patches-i.result in
     record {
+      row = c.sweep.ensures.room ∙ c.loop-i.invariant.row;
       done = set_done (IsSwept c.args.p.now) ps qs i r (omega arith) c.loop-i.invariant.done c.loop-i.invariant.rest e (record { of_box = c.sweep.ensures.of_box; values = c.sweep.ensures.values; marks = c.sweep.ensures.marks; fluxes = c.sweep.ensures.fluxes });
       rest = set_rest (IsSwept c.args.p.now) ps qs i r (omega arith) c.loop-i.invariant.done c.loop-i.invariant.rest;
     }
 
-pub returns : goal.returns
-returns c = zip_from (IsSwept c.args.p.now) c.args.patches.now c.loop-i.patches (omega (arith, c.loop-i.auto.patches)) (λ k d lt. c.loop-i.invariant.done k d (omega arith))
+pub returns-clause-swept : goal.returns-clause-swept
+returns-clause-swept c = zip_from (IsSwept c.args.p.now) c.args.patches.now c.loop-i.patches (omega (arith, c.loop-i.auto.patches)) (λ k d lt. c.loop-i.invariant.done k d (omega arith))

@@ -17,7 +17,7 @@ loop-b-preserved c =
     let k = c.loop-b.b-index in
     let b = c.b-item.result in
     let p = c.in_ok-make.field-0 in
-    let more = pairwise_push IsBlank (take k bs) c.loop-b.patches.items (get_or bs k b) p c.loop-b.invariant (record { of_box = c.in_ok-make.ensures.of_box ∙ c.b-item.is; empty = c.in_ok-make.ensures.values }) in
+    let more = pairwise_push IsBlank (take k bs) c.loop-b.patches.items (get_or bs k b) p c.loop-b.invariant (record { of_box = c.in_ok-make.ensures.of_box ∙ c.b-item.is; empty = c.in_ok-make.ensures.values; marks = c.in_ok-make.ensures.marks; fluxes = c.in_ok-make.ensures.fluxes }) in
     let items : c.push.new.self.items ≡ c.loop-b.patches.items ++ p ∷ [] = c.in_ok-push.ensures.items in
     subst (λ (ps : List Patch). Pairwise IsBlank (take (k + 1) bs) ps) (sym items)
     (subst (λ (xs : List Extent). Pairwise IsBlank xs (c.loop-b.patches.items ++ p ∷ [])) (sym (take_more bs k b (omega arith))) more)

@@ -2,7 +2,7 @@ use Rattle.std.proofs.Common.{◌≡◌, ◌∙◌, ◌+◌, ◌++◌, ◌∷◌
 use Rattle.std.proofs.lemmas.List.{take_more}
 use Rattle.amr_patch.specs.declared.patches.Patch.{Patch}
 use Rattle.amr_patch.specs.Pairwise.{Pairwise}
-use Rattle.amr_patch.specs.Patches.{IsCopy, box, value_in}
+use Rattle.amr_patch.specs.Patches.{IsCopy, box, mark_in, value_in}
 use Rattle.amr_patch.proofs.LevelLaws.{pairwise_push}
 use Rattle.amr_patch.proofs.copies.copied_patches.Goals as goal
 
@@ -15,6 +15,8 @@ loop-p-preserved c =
     let more = pairwise_push IsCopy (take k ps) c.loop-p.copies.items (get_or ps k p) q c.loop-p.invariant (record {
       of_box = c.in_ok-copy.ensures.of_box ∙ ap (λ (r : Patch). box r) c.p-item.is;
       values = λ d. c.in_ok-copy.ensures.values d ∙ ap (λ (r : Patch). value_in r d) c.p-item.is;
+      marks = λ d. c.in_ok-copy.ensures.marks d ∙ ap (λ (r : Patch). mark_in r d) c.p-item.is;
+      fluxes = c.in_ok-copy.ensures.fluxes;
     }) in
     let items : c.push.new.self.items ≡ c.loop-p.copies.items ++ q ∷ [] = c.in_ok-push.ensures.items in
     subst (λ (qs : List Patch). Pairwise IsCopy (take (k + 1) ps) qs) (sym items)

@@ -4,8 +4,15 @@ use Rattle.std.proofs.lemmas.Int.{ints}
 use Rattle.amr_box.specs.Cells.{Extent, cell, holds}
 use Rattle.amr_patch.specs.Patches.{box}
 use Rattle.amr_patch.specs.Orders.{comes_first}
+use Rattle.amr_patch.proofs.Rows.{inside}
 use Rattle.amr_patch.proofs.Lookups.{goes_down, going_down, holder, in_one, none_reaches, none_starts, shrinks}
 use Rattle.amr_patch.proofs.lookup.find_in_rows.Goals as goal
+
+pub loop-y-init : goal.loop-y-init
+loop-y-init c = record {
+  reach = λ k d lt h. let i = inside (box (slice_index_or c.args.patches.now k d)) c.args.c h in omega (arith, ints, i.south, c.from-y.ensures);
+  high = omega (arith, ints, c.from-y.ensures);
+}
 
 pub returns-then-count-eq0-clause-some : goal.returns-then-count-eq0-clause-some
 returns-then-count-eq0-clause-some c =

@@ -13,4 +13,4 @@ pub returns-in-Some : goal.returns-in-Some
 returns-in-Some c =
     let ps = c.args.patches.now in
     let p = c.index-patches-k.result in
-    ap (λ (m : ℕ). Some m) (c.mass.ensures ∙ ap (λ (q : Patch). mass_in q c.args.c) c.index-patches-k.is) ∙ sym (masses_in-at ps c.args.c c.in-Some.k p c.requires.apart c.in-Some.ensures.found)
+    ap (λ (m : ℕ). Some m) (c.mass.ensures.value ∙ ap (λ (q : Patch). mass_in q c.args.c) c.index-patches-k.is) ∙ sym (masses_in-at ps c.args.c c.in-Some.k p c.requires.apart c.in-Some.ensures.found)

@@ -49,4 +49,4 @@ returns g c =
     let e = c.in_ok-put_box_line.ensures in
     puts_same g.O.Sink.holds g.O.Sink.faults c.args.sink.now c.put_rows.new.sink c.args.text.now c.put_rows.new.text _ _ c.put_rows.result
     (λ i. box_line (extent (c.lo.ensures.value i) (c.hi.ensures.value i)) ++ sym (texts_of_range f (height b)) i)
-    (puts_then g.O.Sink.holds g.O.Sink.faults c.args.sink.now c.put_box_line.new.sink c.put_rows.new.sink c.args.text.now c.put_box_line.new.text c.put_rows.new.text _ (texts f (height b)) c.put_rows.result e.sent e.cause.later c.put_rows.ensures)
+    (puts_then g.O.Sink.holds g.O.Sink.faults c.args.sink.now c.put_box_line.new.sink c.put_rows.new.sink c.args.text.now c.put_box_line.new.text c.put_rows.new.text _ (texts f (height b)) c.put_rows.result e.sent e.no_fault c.put_rows.ensures)

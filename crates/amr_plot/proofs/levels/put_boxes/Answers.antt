@@ -1,6 +1,6 @@
 use Rattle.std.proofs.Common.{◌≡◌, ◌<◌, ◌++◌, ℕ, List, length, get_or, sym, ap, subst, ◌∙◌, arith}
 use Rattle.amr_box.specs.Cells.{Extent}
-use Rattle.amr_causes.specs.Bytes.{TakesPrefix}
+use Rattle.amr_io.specs.Short.{FallsShort}
 use Rattle.amr_def.specs.Plot.{box_text}
 use Rattle.amr_patch.specs.Levels.{level_of}
 use Rattle.amr_plot.specs.Puts.{texts}
@@ -17,10 +17,10 @@ returns-in_err-put_box g c =
     let i = l.b-index in
     let inside = subst (λ (bs : List Extent). i < length bs) c.boxes-b-items.ensures c.loop-b-test.true in
     let here : box_text k.masses c.b-item.result ≡ f i = ap (box_text k.masses) (item c.boxes-b-items.result.now i c.b-item.result no_box c.loop-b-test.true c.b-item.is) ∙ ap (λ (bs : List Extent). box_text k.masses (get_or bs i no_box)) c.boxes-b-items.ensures in
-    let part = subst (λ (t : List ℕ). TakesPrefix g.O.Sink.holds l.sink c.put_box.new.sink (l.text ++ t)) here c.in_err-put_box.ensures.part in
+    let part = subst (λ (t : List ℕ). FallsShort g.O.Sink.holds l.sink c.put_box.new.sink (l.text ++ t)) here c.in_err-put_box.ensures.part in
     puts_stop g.O.Sink.holds g.O.Sink.faults c.args.sink.now l.sink c.put_box.new.sink c.args.text.now l.text c.put_box.new.text (texts f i) (f i) _ c.from_residual.result
     c.from_residual.ensures.0 (texts_within f i (length k.boxes) _ inside (texts_of_list (box_text k.masses) no_box k.boxes))
-    l.invariant.sent l.invariant.later part c.in_err-put_box.ensures.cause.later c.in_err-put_box.ensures.cause.failed
+    l.invariant.sent l.invariant.same part c.in_err-put_box.ensures.cause.later c.in_err-put_box.ensures.cause.failed
 
 pub loop-b-preserved : goal.loop-b-preserved
 loop-b-preserved g c =
@@ -32,7 +32,7 @@ loop-b-preserved g c =
     let sent = sent_same g.O.Sink.holds l.sink c.put_box.new.sink l.text c.put_box.new.text _ _ here c.in_ok-put_box.ensures.sent in
     record {
       sent = texts_sent g.O.Sink.holds c.args.sink.now l.sink c.put_box.new.sink c.args.text.now l.text c.put_box.new.text f i l.invariant.sent sent;
-      later = omega (arith, l.invariant.later, c.in_ok-put_box.ensures.cause.later);
+      same = c.in_ok-put_box.ensures.no_fault ∙ l.invariant.same;
     }
 
 pub returns : goal.returns
@@ -44,5 +44,6 @@ returns g c =
     record {
       sent = sent_same g.O.Sink.holds c.args.sink.now l.sink c.args.text.now l.text _ _ (ap (texts f) all ∙ sym (texts_of_list (box_text k.masses) no_box k.boxes)) l.invariant.sent;
       part = tt;
-      cause = record { later = l.invariant.later; failed = tt };
+      no_fault = l.invariant.same;
+      cause = record { later = omega (arith, l.invariant.same); failed = tt };
     }

@@ -1,4 +1,4 @@
-use Rattle.std.proofs.Common.{◌≤◌, get_or}
+use Rattle.std.proofs.Common.{◌≡◌, get_or}
 use Rattle.amr_io.specs.Kept.{Sent}
 use Rattle.amr_def.specs.Plot.{box_text}
 use Rattle.amr_patch.specs.Levels.{level_of}
@@ -10,5 +10,5 @@ use Rattle.amr_plot.proofs.levels.put_boxes.Given as goal
 abbrev pub invariant-loop-b : goal.invariant-loop-b
 invariant-loop-b g l = record {
   sent : Sent g.O.Sink.holds l.initial.sink l.sink l.initial.text l.text (texts (λ i. box_text (level_of l.level).masses (get_or (level_of l.level).boxes i no_box)) l.b-index);
-  later : g.O.Sink.faults l.initial.sink ≤ g.O.Sink.faults l.sink;
+  same : g.O.Sink.faults l.sink ≡ g.O.Sink.faults l.initial.sink;
 }

@@ -1,6 +1,6 @@
 use Rattle.std.proofs.Common.{◌≡◌, ◌<◌, ◌++◌, ℕ, List, length, get_or, map, sym, ap, subst, ◌∙◌, arith}
 use Rattle.std.proofs.lemmas.List.{length-map}
-use Rattle.amr_causes.specs.Bytes.{TakesPrefix}
+use Rattle.amr_io.specs.Short.{FallsShort}
 use Rattle.amr_def.specs.Facts.{IsLevel}
 use Rattle.amr_def.specs.Plot.{level_text}
 use Rattle.amr_def.specs.State.{no_level, Level}
@@ -23,10 +23,10 @@ returns-in_err-put_level g c =
     let l = c.loop-l in
     let here : level_text l.l (level_of c.index-levels-l.result) ≡ f l.l = ap (level_text l.l) (level_item c.args.levels.now l.l c.index-levels-l.result c.loop-l-test.true c.index-levels-l.is) in
     let inside : l.l < length ks = subst (λ n. l.l < n) (sym (length-map c.args.levels.now level_of)) c.loop-l-test.true in
-    let part = subst (λ (t : List ℕ). TakesPrefix g.O.Sink.holds l.sink c.put_level.new.sink (l.text ++ t)) here c.in_err-put_level.ensures.part in
+    let part = subst (λ (t : List ℕ). FallsShort g.O.Sink.holds l.sink c.put_level.new.sink (l.text ++ t)) here c.in_err-put_level.ensures.part in
     puts_stop g.O.Sink.holds g.O.Sink.faults c.args.sink.now l.sink c.put_level.new.sink c.args.text.now l.text c.put_level.new.text (texts f l.l) (f l.l) _ c.from_residual.result
     c.from_residual.ensures.0 (texts_within f l.l (length ks) _ inside (numbered_from_zero level_text no_level ks))
-    l.invariant.sent l.invariant.later part c.in_err-put_level.ensures.cause.later c.in_err-put_level.ensures.cause.failed
+    l.invariant.sent l.invariant.same part c.in_err-put_level.ensures.cause.later c.in_err-put_level.ensures.cause.failed
 
 pub loop-l-preserved : goal.loop-l-preserved
 loop-l-preserved g c =
@@ -36,7 +36,7 @@ loop-l-preserved g c =
     let here : level_text l.l (level_of c.index-levels-l.result) ≡ f l.l = ap (level_text l.l) (level_item c.args.levels.now l.l c.index-levels-l.result c.loop-l-test.true c.index-levels-l.is) in
     record {
       sent = texts_sent g.O.Sink.holds c.args.sink.now l.sink c.put_level.new.sink c.args.text.now l.text c.put_level.new.text f l.l l.invariant.sent (sent_same g.O.Sink.holds l.sink c.put_level.new.sink l.text c.put_level.new.text _ _ here c.in_ok-put_level.ensures.sent);
-      later = omega (arith, l.invariant.later, c.in_ok-put_level.ensures.cause.later);
+      same = c.in_ok-put_level.ensures.no_fault ∙ l.invariant.same;
     }
 
 pub returns : goal.returns
@@ -48,5 +48,6 @@ returns g c =
     record {
       sent = sent_same g.O.Sink.holds c.args.sink.now l.sink c.args.text.now l.text _ _ (ap (texts f) all ∙ sym (numbered_from_zero level_text no_level ks)) l.invariant.sent;
       part = tt;
-      cause = record { later = l.invariant.later; failed = tt };
+      no_fault = l.invariant.same;
+      cause = record { later = omega (arith, l.invariant.same); failed = tt };
     }

@@ -13,4 +13,4 @@ returns g c =
     let north : pos c.number-4.result ≡ c.args.hi.y = omega (arith, ints, c.number-4.ensures) in
     puts_same g.O.Sink.holds g.O.Sink.faults c.args.sink.now c.put_pieces.new.sink c.args.text.now c.put_pieces.new.self _ _ c.put_pieces.result
     (box_pieces (extent c.args.lo c.args.hi) c.number.result c.number-2.result c.number-3.result c.number-4.result west south east north)
-    (record { sent = c.put_pieces.ensures.sent; part = c.put_pieces.ensures.part; cause = c.put_pieces.ensures.cause })
+    (record { sent = c.put_pieces.ensures.sent; part = c.put_pieces.ensures.short; no_fault = c.put_pieces.ensures.no_fault; cause = c.put_pieces.ensures.cause })

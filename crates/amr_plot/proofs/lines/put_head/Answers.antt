@@ -17,4 +17,4 @@ returns g c =
     let name = c.in-Ok.ensures.cases.0 ∙ c.bytes.ensures in
     puts_same g.O.Sink.holds g.O.Sink.faults c.args.sink.now c.put_pieces.new.sink c.args.text.now c.put_pieces.new.self _ _ c.put_pieces.result
     ((λ i. codes "amr-plot 1" ++ (10 ∷ (codes "name " ++ (name i ++ (10 ∷ (codes "step " ++ (decimal (c.from.ensures i) ++ (10 ∷ [])))))))) ∙ head_pieces c.args.p.now c.args.step)
-    (record { sent = c.put_pieces.ensures.sent; part = c.put_pieces.ensures.part; cause = c.put_pieces.ensures.cause })
+    (record { sent = c.put_pieces.ensures.sent; part = c.put_pieces.ensures.short; no_fault = c.put_pieces.ensures.no_fault; cause = c.put_pieces.ensures.cause })

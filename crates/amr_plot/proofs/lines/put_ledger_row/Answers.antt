@@ -7,4 +7,4 @@ use Rattle.amr_plot.proofs.lines.put_ledger_row.Goals as goal
 pub returns : goal.returns
 returns g c =
     puts_same g.O.Sink.holds g.O.Sink.faults c.args.sink.now c.put_pieces.new.sink c.args.text.now c.put_pieces.new.self _ _ c.put_pieces.result (ledger_pieces c.from.result c.args.row ∙ ap (λ (k : ℕ). ledger_line k c.args.row) c.from.ensures)
-    (record { sent = c.put_pieces.ensures.sent; part = c.put_pieces.ensures.part; cause = c.put_pieces.ensures.cause })
+    (record { sent = c.put_pieces.ensures.sent; part = c.put_pieces.ensures.short; no_fault = c.put_pieces.ensures.no_fault; cause = c.put_pieces.ensures.cause })

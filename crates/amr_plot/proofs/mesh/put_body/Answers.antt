@@ -13,4 +13,4 @@ pub returns : goal.returns
 unfolding after_head
 returns g c =
     let e = c.in_ok-put_ledger.ensures in
-    puts_then g.O.Sink.holds g.O.Sink.faults c.args.sink.now c.put_ledger.new.sink c.put_tables.new.sink c.args.text.now c.put_ledger.new.text c.put_tables.new.text _ (after_ledger (state_of c.args.mesh.now)) c.put_tables.result e.sent e.cause.later c.put_tables.ensures
+    puts_then g.O.Sink.holds g.O.Sink.faults c.args.sink.now c.put_ledger.new.sink c.put_tables.new.sink c.args.text.now c.put_ledger.new.text c.put_tables.new.text _ (after_ledger (state_of c.args.mesh.now)) c.put_tables.result e.sent e.no_fault c.put_tables.ensures

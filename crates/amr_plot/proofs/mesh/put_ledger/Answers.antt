@@ -1,6 +1,6 @@
 use Rattle.std.proofs.Common.{◌≡◌, ◌<◌, ℕ, List, ◌++◌, length, get_or, sym, ap, subst, ◌∙◌, arith}
 use Rattle.std.proofs.lemmas.Option.{get_or_from_slice_get}
-use Rattle.amr_causes.specs.Bytes.{TakesPrefix}
+use Rattle.amr_io.specs.Short.{FallsShort}
 use Rattle.amr_def.specs.Plot.{ledger_line}
 use Rattle.amr_patch.specs.Meshes.{state_of}
 use Rattle.amr_plot.specs.Puts.{texts}
@@ -13,11 +13,11 @@ returns-in_err-put_ledger_row g c =
     let f : ℕ → List ℕ = λ i. ledger_line i (get_or rows i no_row) in
     let l = c.loop-k in
     let here : ledger_line l.k c.row.result ≡ f l.k = ap (ledger_line l.k) (sym (get_or_from_slice_get rows l.k c.row.result no_row c.row.ensures)) in
-    let part = subst (λ (t : List ℕ). TakesPrefix g.O.Sink.holds l.sink c.put_ledger_row.new.sink (l.text ++ t)) here c.in_err-put_ledger_row.ensures.part in
+    let part = subst (λ (t : List ℕ). FallsShort g.O.Sink.holds l.sink c.put_ledger_row.new.sink (l.text ++ t)) here c.in_err-put_ledger_row.ensures.part in
     let inside = subst (λ n. l.k < n) (sym c.requires.rows) c.loop-k-test.true in
     puts_stop g.O.Sink.holds g.O.Sink.faults c.args.sink.now l.sink c.put_ledger_row.new.sink c.args.text.now l.text c.put_ledger_row.new.text (texts f l.k) (f l.k) _ c.from_residual.result
     c.from_residual.ensures.0 (texts_within f l.k (length rows) _ inside (ledger_texts rows))
-    l.invariant.sent l.invariant.later part c.in_err-put_ledger_row.ensures.cause.later c.in_err-put_ledger_row.ensures.cause.failed
+    l.invariant.sent l.invariant.same part c.in_err-put_ledger_row.ensures.cause.later c.in_err-put_ledger_row.ensures.cause.failed
 
 pub loop-k-preserved : goal.loop-k-preserved
 loop-k-preserved g c =
@@ -27,7 +27,7 @@ loop-k-preserved g c =
     let here : ledger_line l.k c.row.result ≡ f l.k = ap (ledger_line l.k) (sym (get_or_from_slice_get rows l.k c.row.result no_row c.row.ensures)) in
     record {
       sent = texts_sent g.O.Sink.holds c.args.sink.now l.sink c.put_ledger_row.new.sink c.args.text.now l.text c.put_ledger_row.new.text f l.k l.invariant.sent (sent_same g.O.Sink.holds l.sink c.put_ledger_row.new.sink l.text c.put_ledger_row.new.text _ _ here c.in_ok-put_ledger_row.ensures.sent);
-      later = omega (arith, l.invariant.later, c.in_ok-put_ledger_row.ensures.cause.later);
+      same = c.in_ok-put_ledger_row.ensures.no_fault ∙ l.invariant.same;
     }
 
 pub returns : goal.returns
@@ -39,5 +39,6 @@ returns g c =
     record {
       sent = sent_same g.O.Sink.holds c.args.sink.now l.sink c.args.text.now l.text _ _ (ap (texts f) all ∙ sym (ledger_texts rows)) l.invariant.sent;
       part = tt;
-      cause = record { later = l.invariant.later; failed = tt };
+      no_fault = l.invariant.same;
+      cause = record { later = omega (arith, l.invariant.same); failed = tt };
     }

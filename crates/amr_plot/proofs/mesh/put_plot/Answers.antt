@@ -19,4 +19,4 @@ returns g c =
     let e = c.in_ok-put_head.ensures in
     let s = state_of c.args.mesh.now in
     puts_same g.O.Sink.holds g.O.Sink.faults c.args.sink.now c.put_body.new.sink c.args.text.now c.put_body.new.text _ _ c.put_body.result (ap (λ (n : ℕ). head_text c.args.p.now n ++ after_head s) c.step.ensures)
-    (puts_then g.O.Sink.holds g.O.Sink.faults c.args.sink.now c.put_head.new.sink c.put_body.new.sink c.args.text.now c.put_head.new.text c.put_body.new.text _ (after_head s) c.put_body.result e.sent e.cause.later c.put_body.ensures)
+    (puts_then g.O.Sink.holds g.O.Sink.faults c.args.sink.now c.put_head.new.sink c.put_body.new.sink c.args.text.now c.put_head.new.text c.put_body.new.text _ (after_head s) c.put_body.result e.sent e.no_fault c.put_body.ensures)

@@ -1,4 +1,4 @@
-use Rattle.std.proofs.Common.{◌≤◌, ◌-◌}
+use Rattle.std.proofs.Common.{◌≡◌, ◌≤◌, ◌-◌}
 use Rattle.amr_box.specs.Cells.{width}
 use Rattle.amr_io.specs.Kept.{Sent}
 use Rattle.amr_plot.specs.Puts.{texts}
@@ -9,7 +9,7 @@ use Rattle.amr_plot.proofs.rows.put_columns.Given as goal
 abbrev pub invariant-loop-first : goal.invariant-loop-first
 invariant-loop-first g l = record {
   sent : Sent g.O.Sink.holds l.initial.sink l.sink l.initial.text l.text (texts (row_word l.level l.b l.row) l.first);
-  later : g.O.Sink.faults l.initial.sink ≤ g.O.Sink.faults l.sink;
+  same : g.O.Sink.faults l.sink ≡ g.O.Sink.faults l.initial.sink;
   within : l.first ≤ width l.b;
 }
 

@@ -15,4 +15,4 @@ returns g c =
     let e = c.in_ok-put_columns.ensures in
     let b = c.args.b.now in
     puts_same g.O.Sink.holds g.O.Sink.faults c.args.sink.now c.put_str.new.sink c.args.text.now c.put_str.new.self _ _ c.put_str.result (row_is c.args.level.now b c.args.row (sides b c.requires.near).some_columns)
-    (puts_then g.O.Sink.holds g.O.Sink.faults c.args.sink.now c.put_columns.new.sink c.put_str.new.sink c.args.text.now c.put_columns.new.text c.put_str.new.self _ _ c.put_str.result e.sent e.cause.later (record { sent = c.put_str.ensures.sent; part = c.put_str.ensures.part; cause = c.put_str.ensures.cause }))
+    (puts_then g.O.Sink.holds g.O.Sink.faults c.args.sink.now c.put_columns.new.sink c.put_str.new.sink c.args.text.now c.put_columns.new.text c.put_str.new.self _ _ c.put_str.result e.sent e.no_fault (record { sent = c.put_str.ensures.sent; part = c.put_str.ensures.short; no_fault = c.put_str.ensures.no_fault; cause = c.put_str.ensures.cause }))

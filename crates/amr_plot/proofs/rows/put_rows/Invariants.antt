@@ -1,4 +1,4 @@
-use Rattle.std.proofs.Common.{◌≤◌}
+use Rattle.std.proofs.Common.{◌≡◌}
 use Rattle.amr_io.specs.Kept.{Sent}
 use Rattle.amr_def.specs.Plot.{mass_line}
 use Rattle.amr_patch.specs.Levels.{level_of}
@@ -9,5 +9,5 @@ use Rattle.amr_plot.proofs.rows.put_rows.Given as goal
 abbrev pub invariant-loop-row : goal.invariant-loop-row
 invariant-loop-row g l = record {
   sent : Sent g.O.Sink.holds l.initial.sink l.sink l.initial.text l.text (texts (mass_line (level_of l.level).masses l.b) l.row);
-  later : g.O.Sink.faults l.initial.sink ≤ g.O.Sink.faults l.sink;
+  same : g.O.Sink.faults l.sink ≡ g.O.Sink.faults l.initial.sink;
 }

@@ -14,7 +14,7 @@ returns-in_err-problem-clause-outcome g c =
 pub returns-in_err-put_problem-clause-outcome : goal.returns-in_err-put_problem-clause-outcome
 returns-in_err-put_problem-clause-outcome g c =
     let read = c.in_ok-problem.ensures.problem in
-    let part = c.in_err-put_problem.ensures.part in
+    let part = c.in_err-put_problem.ensures.short in
     (read.0, (part.0, read.1, part.2, refused_by (IsLineOfProblem read.0) c.from_residual-in_err-put_problem.result WriteFault read.0 part.0 c.from_residual-in_err-put_problem.ensures.1 (problem_line c.in_ok-problem.problem, is_line_of_problem read.0 c.in_ok-problem.problem read.2, part.1)))
 
 pub returns-clause-outcome : goal.returns-clause-outcome

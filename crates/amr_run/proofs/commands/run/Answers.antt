@@ -32,7 +32,7 @@ pub returns-in_err-plot-clause-outcome : goal.returns-in_err-plot-clause-outcome
 returns-in_err-plot-clause-outcome g c =
     let read = c.in_ok-problem.ensures.problem in
     let answer = is_plot_of_run read.0 c.in_ok-problem.problem (state_of c.in_ok-mesh.mesh) (state_of c.run_to.new.mesh) read.2 c.in_ok-mesh.ensures.value c.in_ok-run_to.ensures.value c.in_ok-run_to.ensures.sound in
-    let part = c.in_err-plot.ensures.part in
+    let part = c.in_err-plot.ensures.short in
     (read.0, (part.0, read.1, part.2, refused_by (IsPlotOfRun read.0) c.from_residual-in_err-plot.result WriteFault read.0 part.0 c.from_residual-in_err-plot.ensures.1 (plot c.in_ok-problem.problem (state_of c.run_to.new.mesh), answer, part.1)))
 
 pub returns-clause-outcome : goal.returns-clause-outcome

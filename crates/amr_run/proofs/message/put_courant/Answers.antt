@@ -1,4 +1,4 @@
-use Rattle.amr_run.proofs.Messages.{courant_line, part_as, whole_as}
+use Rattle.amr_run.proofs.Messages.{courant_line, short_as, whole_as}
 use Rattle.amr_run.proofs.message.put_courant.Goals as goal
 
 pub returns-clause-whole : goal.returns-clause-whole
@@ -11,12 +11,12 @@ returns-clause-whole g c =
     (courant_line c.args.sum.now c.args.d.now c.sign.result.now c.sign-2.result.now c.size.result c.size-2.result sign size other_sign other_size)
     c.put_line.ensures.whole
 
-pub returns-clause-part : goal.returns-clause-part
-returns-clause-part g c =
+pub returns-clause-short : goal.returns-clause-short
+returns-clause-short g c =
     let sign = c.sign.ensures in
     let size = c.size.ensures in
     let other_sign = c.sign-2.ensures in
     let other_size = c.size-2.ensures in
-    part_as g.E.Sink.holds c.args.err.now c.put_line.new.sink _ _
+    short_as g.E.Sink.holds c.args.err.now c.put_line.new.sink c.put_line.result _ _
     (courant_line c.args.sum.now c.args.d.now c.sign.result.now c.sign-2.result.now c.size.result c.size-2.result sign size other_sign other_size)
-    c.put_line.ensures.part
+    c.put_line.ensures.short

@@ -1,6 +1,6 @@
 use Rattle.std.proofs.Common.{List, ℕ, [], ◌++◌, ◌∙◌, ap, codes}
 use Rattle.amr_def.specs.Plot.{line}
-use Rattle.amr_run.proofs.Messages.{part_as, refusal_of, whole_as}
+use Rattle.amr_run.proofs.Messages.{short_as, refusal_of, whole_as}
 use Rattle.amr_run.proofs.message.put_fault.Goals as goal
 
 pub returns-in-UnknownKey-clause-whole : goal.returns-in-UnknownKey-clause-whole
@@ -8,23 +8,23 @@ returns-in-UnknownKey-clause-whole g c =
     whole_as g.E.Sink.holds c.args.err.now c.put_line-in-UnknownKey.new.sink c.put_line-in-UnknownKey.result _ _
     (ap (λ (t : List ℕ). line (codes "amr: problem: unknown key " ++ (t ++ []))) c.text.ensures ∙ refusal_of _ _ c.in-UnknownKey.is) c.put_line-in-UnknownKey.ensures.whole
 
-pub returns-in-UnknownKey-clause-part : goal.returns-in-UnknownKey-clause-part
-returns-in-UnknownKey-clause-part g c =
-    part_as g.E.Sink.holds c.args.err.now c.put_line-in-UnknownKey.new.sink _ _
-    (ap (λ (t : List ℕ). line (codes "amr: problem: unknown key " ++ (t ++ []))) c.text.ensures ∙ refusal_of _ _ c.in-UnknownKey.is) c.put_line-in-UnknownKey.ensures.part
+pub returns-in-UnknownKey-clause-short : goal.returns-in-UnknownKey-clause-short
+returns-in-UnknownKey-clause-short g c =
+    short_as g.E.Sink.holds c.args.err.now c.put_line-in-UnknownKey.new.sink c.put_line-in-UnknownKey.result _ _
+    (ap (λ (t : List ℕ). line (codes "amr: problem: unknown key " ++ (t ++ []))) c.text.ensures ∙ refusal_of _ _ c.in-UnknownKey.is) c.put_line-in-UnknownKey.ensures.short
 
 pub returns-in-Courant-clause-whole : goal.returns-in-Courant-clause-whole
 returns-in-Courant-clause-whole g c = whole_as g.E.Sink.holds c.args.err.now c.put_courant.new.err c.put_courant.result _ _ (refusal_of _ _ c.in-Courant.is) c.put_courant.ensures.whole
 
-pub returns-in-Courant-clause-part : goal.returns-in-Courant-clause-part
-returns-in-Courant-clause-part g c = part_as g.E.Sink.holds c.args.err.now c.put_courant.new.err _ _ (refusal_of _ _ c.in-Courant.is) c.put_courant.ensures.part
+pub returns-in-Courant-clause-short : goal.returns-in-Courant-clause-short
+returns-in-Courant-clause-short g c = short_as g.E.Sink.holds c.args.err.now c.put_courant.new.err c.put_courant.result _ _ (refusal_of _ _ c.in-Courant.is) c.put_courant.ensures.short
 
 pub returns-in-SidesDiffer-clause-whole : goal.returns-in-SidesDiffer-clause-whole
 returns-in-SidesDiffer-clause-whole g c =
     whole_as g.E.Sink.holds c.args.err.now c.put_line-in-SidesDiffer.new.sink c.put_line-in-SidesDiffer.result _ _
     (ap (λ (t : List ℕ). line (codes "amr: problem: sides differ " ++ (t ++ []))) c.axis_name.ensures ∙ refusal_of _ _ c.in-SidesDiffer.is) c.put_line-in-SidesDiffer.ensures.whole
 
-pub returns-in-SidesDiffer-clause-part : goal.returns-in-SidesDiffer-clause-part
-returns-in-SidesDiffer-clause-part g c =
-    part_as g.E.Sink.holds c.args.err.now c.put_line-in-SidesDiffer.new.sink _ _
-    (ap (λ (t : List ℕ). line (codes "amr: problem: sides differ " ++ (t ++ []))) c.axis_name.ensures ∙ refusal_of _ _ c.in-SidesDiffer.is) c.put_line-in-SidesDiffer.ensures.part
+pub returns-in-SidesDiffer-clause-short : goal.returns-in-SidesDiffer-clause-short
+returns-in-SidesDiffer-clause-short g c =
+    short_as g.E.Sink.holds c.args.err.now c.put_line-in-SidesDiffer.new.sink c.put_line-in-SidesDiffer.result _ _
+    (ap (λ (t : List ℕ). line (codes "amr: problem: sides differ " ++ (t ++ []))) c.axis_name.ensures ∙ refusal_of _ _ c.in-SidesDiffer.is) c.put_line-in-SidesDiffer.ensures.short

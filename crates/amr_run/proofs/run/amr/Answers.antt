@@ -4,4 +4,4 @@ use Rattle.amr_run.proofs.run.amr.Goals as goal
 
 pub returns-clause-message : goal.returns-clause-message
 returns-clause-message g c =
-    told g.E.Sink.holds c.args.err.now c.tell.new.err (g.E.Sink.faults c.args.err.now) (g.E.Sink.faults c.tell.new.err) (message c.serve-status.result) c.tell.result c.tell.ensures.whole c.tell.ensures.part c.tell.ensures.cause
+    told g.E.Sink.holds c.args.err.now c.tell.new.err (g.E.Sink.faults c.args.err.now) (g.E.Sink.faults c.tell.new.err) (message c.serve-status.result) c.tell.result c.tell.ensures.whole c.tell.ensures.short c.tell.ensures.cause

@@ -1,10 +1,8 @@
-use Rattle.std.proofs.Common.{◌≡◌, ℕ, List, refl, sym, ap, subst, ◌∙◌, arith}
-use Rattle.amr_box.specs.Cells.{Extent}
+use Rattle.std.proofs.Common.{◌≡◌, ℕ, refl, sym, ap, subst, ◌∙◌, arith}
 use Rattle.amr_def.specs.Facts.{IsSound}
 use Rattle.amr_def.specs.Run.{finish}
 use Rattle.amr_def.specs.State.{State}
 use Rattle.amr_patch.specs.Levels.{level_of}
-use Rattle.amr_level.specs.Joints.{IsBordersOf}
 use Rattle.amr_runs.specs.OneState.{one_level_state}
 use Rattle.amr_runs.proofs.Finishes.{finish_here, finish_next}
 use Rattle.amr_runs.proofs.runs.make_steps.Goals as goal
@@ -13,9 +11,10 @@ pub loop-k-init : goal.loop-k-init
 loop-k-init c = record {
   sound = c.requires.sound;
   value = refl;
-  borders = c.requires.borders;
+  patches = refl;
   sizes = c.requires.sizes;
-  room = c.requires.room;
+  row = c.requires.row;
+  space = c.requires.room;
 }
 
 pub make_step-requires-clause-one_level : goal.make_step-requires-clause-one_level
@@ -27,14 +26,14 @@ make_step-requires-clause-sound c = c.loop-k.invariant.sound
 pub make_step-requires-clause-more : goal.make_step-requires-clause-more
 make_step-requires-clause-more c = omega (arith, c.loop-k-test.true, c.requires.within)
 
-pub make_step-requires-clause-borders : goal.make_step-requires-clause-borders
-make_step-requires-clause-borders c = c.loop-k.invariant.borders
-
 pub make_step-requires-clause-sizes : goal.make_step-requires-clause-sizes
 make_step-requires-clause-sizes c = c.loop-k.invariant.sizes
 
+pub make_step-requires-clause-row : goal.make_step-requires-clause-row
+make_step-requires-clause-row c = c.loop-k.invariant.row
+
 pub make_step-requires-clause-room : goal.make_step-requires-clause-room
-make_step-requires-clause-room c = omega (arith, c.loop-k-test.true, c.loop-k.invariant.room)
+make_step-requires-clause-room c = omega (arith, c.loop-k-test.true, c.loop-k.invariant.space)
 
 pub loop-k-preserved : goal.loop-k-preserved
 loop-k-preserved c =
@@ -44,9 +43,10 @@ loop-k-preserved c =
     record {
       sound = c.make_step.ensures.sound;
       value = ap (λ (t : State). finish p t c.args.target) c.make_step.ensures.value ∙ finish_next p s c.args.target c.loop-k-test.true ∙ l.invariant.value;
-      borders = subst (λ (bs : List Extent). IsBordersOf p bs c.args.borders.now) (sym c.make_step.ensures.pieces) l.invariant.borders;
+      patches = c.make_step.ensures.patches ∙ l.invariant.patches;
+      row = omega (arith, c.make_step.ensures.row, l.invariant.row);
       sizes = omega (arith, c.make_step.ensures.sizes, l.invariant.sizes);
-      room = omega (arith, c.make_step.ensures.count, c.make_step.ensures.capacity, l.invariant.room, c.loop-k-test.true);
+      space = omega (arith, c.make_step.ensures.count, c.make_step.ensures.capacity, l.invariant.space, c.loop-k-test.true);
     }
 
 pub returns-clause-value : goal.returns-clause-value
@@ -62,3 +62,6 @@ returns-clause-sound c =
     let l = c.loop-k in
     let last : l.k ≡ c.args.target = omega (arith, c.loop-k-test.false, l.auto.k-end, c.requires.ahead) in
     subst (λ (k : ℕ). IsSound c.args.p.now (one_level_state k l.rows.items (level_of l.level))) last l.invariant.sound
+
+pub returns-clause-patches : goal.returns-clause-patches
+returns-clause-patches c = c.loop-k.invariant.patches

@@ -3,7 +3,7 @@ use Rattle.amr_def.specs.Facts.{IsSound}
 use Rattle.amr_def.specs.Run.{finish}
 use Rattle.amr_patch.specs.Levels.{level_of, patches_of}
 use Rattle.amr_patch.specs.Patches.{box}
-use Rattle.amr_level.specs.Joints.{IsBordersOf}
+use Rattle.amr_flux.specs.Rooms.{widest}
 use Rattle.amr_runs.specs.OneState.{one_level_state}
 use Rattle.amr_runs.proofs.runs.make_steps.Given as goal
 
@@ -12,7 +12,8 @@ abbrev pub invariant-loop-k : goal.invariant-loop-k
 invariant-loop-k l = record {
   sound : IsSound l.p (one_level_state l.k l.rows.items (level_of l.level));
   value : finish l.p (one_level_state l.k l.rows.items (level_of l.level)) l.target ≡ finish l.p (one_level_state l.fn.step l.fn.rows.items (level_of l.fn.level)) l.target;
-  borders : IsBordersOf l.p (map box (patches_of l.level)) l.borders;
+  patches : map box (patches_of l.level) ≡ map box (patches_of l.fn.level);
+  row : 256 ≤ widest l.room;
   sizes : 512 ≤ length l.sizes;
-  room : length l.rows.items + (l.target - l.k) ≤ vec_capacity l.rows;
+  space : length l.rows.items + (l.target - l.k) ≤ vec_capacity l.rows;
 }

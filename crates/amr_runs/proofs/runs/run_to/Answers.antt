@@ -3,7 +3,8 @@ use Rattle.amr_def.specs.Facts.{IsSound}
 use Rattle.amr_def.specs.Run.{finish}
 use Rattle.amr_def.specs.State.{State}
 use Rattle.amr_patch.specs.Meshes.{state_of}
-use Rattle.amr_runs.proofs.Meshes.{put_back, taken}
+use Rattle.amr_runs.specs.OneState.{patch_boxes}
+use Rattle.amr_runs.proofs.Meshes.{boxes_put, put_back, taken}
 use Rattle.amr_runs.proofs.runs.run_to.Goals as goal
 
 pub run_level-requires-clause-sound : goal.run_level-requires-clause-sound
@@ -32,3 +33,15 @@ returns-in-Ok-clause-sound c =
     let back = c.of.ensures.state
     ∙ put_back p s c.args.target c.run_level.new.rows.items c.take-rows.result.1.items c.run_level.new.level c.requires.one_level.one_level c.requires.sound c.take-rows.ensures.levels in
     subst (λ (t : State). IsSound p t) (sym back) c.in-Ok.ensures.sound
+
+pub returns-in-Ok-clause-patches : goal.returns-in-Ok-clause-patches
+returns-in-Ok-clause-patches c =
+    (λ i. patch_boxes (c.of.ensures.levels i))
+    ∙ boxes_put c.take-rows.result.1.items c.index_mut.result.now c.run_level.new.level c.index_mut.ensures.value c.run_level.ensures.patches
+    ∙ ap patch_boxes c.take-rows.ensures.all
+
+pub returns-in-Err-clause-patches : goal.returns-in-Err-clause-patches
+returns-in-Err-clause-patches c =
+    (λ i. patch_boxes (c.of-in-Err.ensures.levels i))
+    ∙ boxes_put c.take-rows.result.1.items c.index_mut.result.now c.run_level.new.level c.index_mut.ensures.value c.run_level.ensures.patches
+    ∙ ap patch_boxes c.take-rows.ensures.all

@@ -26,14 +26,17 @@ advance-requires-clause-of_domain c = of_domain c.args.p.now c.args.step c.args.
 pub advance-requires-clause-small : goal.advance-requires-clause-small
 advance-requires-clause-small c d = masses-small c.args.p.now (one_level_state c.args.step c.args.rows.now.items (level_of c.args.level.now)) 0 d c.requires.sound
 
-pub advance-requires-clause-borders : goal.advance-requires-clause-borders
-advance-requires-clause-borders c = c.requires.borders
+pub advance-requires-clause-sizes : goal.advance-requires-clause-sizes
+advance-requires-clause-sizes c = c.requires.sizes
 
-pub advance-requires-clause-room : goal.advance-requires-clause-room
-advance-requires-clause-room c = c.requires.sizes
+pub advance-requires-clause-row : goal.advance-requires-clause-row
+advance-requires-clause-row c = c.requires.row
 
-pub returns-clause-pieces : goal.returns-clause-pieces
-returns-clause-pieces c = c.advance.ensures.pieces
+pub returns-clause-patches : goal.returns-clause-patches
+returns-clause-patches c = c.advance.ensures.patches
+
+pub returns-clause-row : goal.returns-clause-row
+returns-clause-row c = c.advance.ensures.row
 
 pub inflow_and_outflow-inflow-requires-clause-order : goal.inflow_and_outflow-inflow-requires-clause-order
 inflow_and_outflow-inflow-requires-clause-order c = subst (λ (ps : List Patch). IsOrderOf c.order.result ps) (sym c.patches.ensures.all) c.order.ensures

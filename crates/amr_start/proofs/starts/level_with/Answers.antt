@@ -10,8 +10,8 @@ use Rattle.amr_boxlist.specs.Chopped.{chopped}
 use Rattle.amr_def.specs.State.{Masses}
 use Rattle.amr_patch.specs.declared.patches.Patch.{Patch}
 use Rattle.amr_patch.specs.Patches.{ArePatchesApart, box, masses_in}
-use Rattle.amr_start.specs.Placed.{HasBoxOf, LiesIn}
-use Rattle.amr_start.specs.Pieces.{IsChopped}
+use Rattle.amr_start.specs.Placed.{HasBoxOf, LiesInBox}
+use Rattle.amr_start.specs.PatchBoxes.{IsChopped}
 use Rattle.amr_start.specs.Rows.{box_of, masses_on}
 use Rattle.amr_start.proofs.Placing.{all_lie_in, all_masses, off_box, zip_apart, zip_boxes}
 use Rattle.amr_start.proofs.starts.level_with.Goals as goal
@@ -21,7 +21,7 @@ place_all-requires-clause-inside c =
     let b = box_of c.args.columns c.args.rows in
     let ps = c.take_patches-patches.result.items in
     let blank : (d : Cell) → masses_in ps d ≡ cond {A = Option ℕ} (holds b d) (Some 0) None = λ d. ap (λ (m : Masses). m d) (sym c.take_patches-patches.ensures.masses) ∙ c.in_ok-level.ensures.masses d ∙ ap (λ (e : Extent). cond {A = Option ℕ} (holds e d) (Some 0) None) c.whole_box.ensures.value in
-    subst (λ (qs : List Patch). All (LiesIn b) qs) (sym c.deref_mut.ensures.value) (all_lie_in b ps blank)
+    subst (λ (qs : List Patch). All (LiesInBox b) qs) (sym c.deref_mut.ensures.value) (all_lie_in b ps blank)
 
 pub put_patches-requires : goal.put_patches-requires
 put_patches-requires c =
@@ -46,12 +46,12 @@ returns-clause-masses c =
     ∙ ap (λ (qs : List Patch). masses_in qs) items
     ∙ all_masses b ps blank (masses_on c.args.columns c.args.rows c.args.masses.now) new zip c.place_all.ensures.masses (off_box c.args.columns c.args.rows c.args.masses.now)
 
-pub returns-clause-pieces : goal.returns-clause-pieces
-returns-clause-pieces c =
+pub returns-clause-patches : goal.returns-clause-patches
+returns-clause-patches c =
     let ps = c.take_patches-patches.result.items in
     let new = c.place_all.new.patches in
     let items = with_items_is c.take_patches-patches.result new (c.place_all.auto.patches ∙ c.deref_mut.ensures.len) in
     let zip : AllZip HasBoxOf ps new = subst (λ (qs : List Patch). AllZip HasBoxOf qs new) c.deref_mut.ensures.value c.place_all.ensures.boxes in
     let boxes = ap (map box) c.put_patches.ensures.all ∙ ap (map box) items ∙ zip_boxes ps new zip ∙ ap (map box) c.take_patches-patches.ensures.all in
-    let blank = subst (λ (b : Extent). IsChopped c.args.max b c.in_ok-level.level) c.whole_box.ensures.value c.in_ok-level.ensures.pieces in
-    record { pieces = subst (λ (bs : List Extent). IsPermutation (chopped c.args.max (box_of c.args.columns c.args.rows)) bs) (sym boxes) blank.pieces }
+    let blank = subst (λ (b : Extent). IsChopped c.args.max b c.in_ok-level.level) c.whole_box.ensures.value c.in_ok-level.ensures.patches in
+    record { patches = subst (λ (bs : List Extent). IsPermutation (chopped c.args.max (box_of c.args.columns c.args.rows)) bs) (sym boxes) blank.patches }

@@ -6,7 +6,7 @@ use Rattle.amr_def.specs.State.{State}
 use Rattle.amr_box.specs.Cells.{Extent}
 use Rattle.amr_def.proofs.SoundRun.{keeps_alone, start-sound}
 use Rattle.amr_patch.specs.Levels.{level_of}
-use Rattle.amr_start.specs.Pieces.{IsChopped}
+use Rattle.amr_start.specs.PatchBoxes.{IsChopped}
 use Rattle.amr_start.specs.Rows.{box_of, masses_on, row_mass_in}
 use Rattle.amr_start.proofs.Bases.{start-state_with, whole_box}
 use Rattle.amr_start.proofs.starts.start.Goals as goal
@@ -43,12 +43,12 @@ returns-clause-sound c =
 pub returns-clause-at_start : goal.returns-clause-at_start
 returns-clause-at_start c = ap (λ (s : State). s.step) c.of.ensures.state
 
-pub returns-clause-pieces : goal.returns-clause-pieces
-returns-clause-pieces c =
+pub returns-clause-patches : goal.returns-clause-patches
+returns-clause-patches c =
     let p = c.args.p.now in
     let levels : c.in_ok-levels.levels.items ≡ c.in_ok-level.level ∷ [] = search rules in
     record {
       base = c.in_ok-level.level;
       alone = c.of.ensures.levels ∙ levels;
-      chopped = subst (λ (b : Extent). IsChopped p.max_grid_size b c.in_ok-level.level) (sym (whole_box p)) c.in_ok-level.ensures.pieces;
+      chopped = subst (λ (b : Extent). IsChopped p.max_grid_size b c.in_ok-level.level) (sym (whole_box p)) c.in_ok-level.ensures.patches;
     }

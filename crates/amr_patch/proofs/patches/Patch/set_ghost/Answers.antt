@@ -7,10 +7,10 @@ pub returns-clause-others : goal.returns-clause-others
 unfolding value_in
 returns-clause-others c =
     let self = c.args.self.now in
-    λ d h n. other_place self.values.items c.args.v 0 c.place-at.result self.bx c.args.c d self.near c.place-at.ensures.value (in_the_frame self.bx c.args.c c.requires) h n
+    λ d h n. other_place self.values.items c.args.v 0 c.place-at.result self.bx c.args.c d self.near c.place-at.ensures.value (in_the_frame self.bx c.args.c c.requires.ghost_cell) h n
 
 pub returns-clause-marks : goal.returns-clause-marks
 unfolding mark_in
 returns-clause-marks c =
     let self = c.args.self.now in
-    λ d h n. other_place self.marks.items c.args.of_level false c.place-at.result self.bx c.args.c d self.near c.place-at.ensures.value (in_the_frame self.bx c.args.c c.requires) h n
+    λ d h n. other_place self.marks.items c.args.of_level false c.place-at.result self.bx c.args.c d self.near c.place-at.ensures.value (in_the_frame self.bx c.args.c c.requires.ghost_cell) h n

@@ -6,4 +6,4 @@ pub returns-clause-others : goal.returns-clause-others
 unfolding value_in
 returns-clause-others c =
     let self = c.args.self.now in
-    λ d h n. other_place self.values.items c.args.m 0 c.place-at.result self.bx c.args.c d self.near c.place-at.ensures.value (in_grown self.bx c.args.c c.requires) h n
+    λ d h n. other_place self.values.items c.args.m 0 c.place-at.result self.bx c.args.c d self.near c.place-at.ensures.value (in_grown self.bx c.args.c c.requires.inside) h n

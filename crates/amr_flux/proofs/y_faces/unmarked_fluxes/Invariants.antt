@@ -1,0 +1,12 @@
+use Rattle.std.proofs.Common.{◌≡◌, ℕ, ◌+◌, ◌<◌, false, true, pos}
+use Rattle.std.specs.Prelude.{slice_index, slice_index_or}
+use Rattle.amr_def.specs.Flux.{flow}
+use Rattle.amr_flux.specs.Tables.{y_number}
+use Rattle.amr_flux.proofs.y_faces.unmarked_fluxes.Given as goal
+
+-- the unmarked columns before i have their fluxes, and the marked ones keep theirs
+abbrev pub invariant-loop-i : goal.invariant-loop-i
+invariant-loop-i l = record {
+  made : (i : ℕ) → i < l.i → slice_index_or l.marks i false ≡ false → slice_index_or l.fluxes i (pos 0) ≡ flow (y_number l.p l.shape.level (l.shape.column + i)) l.p.d (slice_index l.low i) (slice_index l.high i);
+  others : (i : ℕ) → slice_index_or l.marks i false ≡ true → slice_index_or l.fluxes i (pos 0) ≡ slice_index_or l.fn.fluxes i (pos 0);
+}

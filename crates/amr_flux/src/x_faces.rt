@@ -1,0 +1,130 @@
+//! The fluxes through the x faces at the two ends of a patch's rows.
+
+ghost use Rattle.std.specs.Prelude.{◌≡◌, ℕ, ◌+◌, ◌*◌, ◌≤◌, ◌<◌, cond, false, true, ◌-◌, length, pos, slice_index, slice_index_or, unsigned_abs};
+ghost use Rattle.amr_def.specs.Domain.{rows};
+ghost use Rattle.amr_def.specs.Flux.{flow};
+ghost use Rattle.amr_flux.specs.Rows.{signed};
+ghost use Rattle.amr_flux.specs.Shares.{AreSmall};
+ghost use Rattle.amr_flux.specs.Tables.{AreXSmall, value, x_flux, x_marked, x_number};
+
+use crate::rows::face_fluxes;
+use crate::shape::{Shape, x_share};
+use crate::share::Share;
+use crate::y_faces::signed_flux;
+use amr_def::Problem;
+
+/// The flux through x face `i` of row `j`.
+pub(crate) fn x_face_flux(shape: Shape, share: Share, values: &[u32], i: usize, j: usize) -> i32
+    requires value_count { length values.now ≡ (shape.h + 2) * (shape.w + 2) }
+    requires column { i ≤ shape.w }
+    requires row { j < shape.h }
+    requires small { AreXSmall shape.w shape.h values.now }
+    ensures value { result ≡ flow share.number share.parts (value shape.w values.now i (j + 1)) (value shape.w values.now (i + 1) (j + 1)) }
+    ensures small { unsigned_abs result < 2147483648 }
+{
+    let at = (j + 1) * (shape.w + 2);
+    share.flow(values[at + i], values[at + (i + 1)])
+}
+
+/// The flux through the x face at the low side of each row.
+pub(crate) fn low_fluxes(p: &Problem, shape: Shape, values: &[u32], fluxes: &mut [i32])
+    requires level { shape.level ≤ 4 }
+    requires inside { shape.row + shape.h ≤ rows p.now shape.level }
+    requires value_count { length values.now ≡ (shape.h + 2) * (shape.w + 2) }
+    requires flux_count { length fluxes.old ≡ shape.h }
+    requires small { AreXSmall shape.w shape.h values.now }
+    ensures { (j : ℕ) → j < shape.h → slice_index_or fluxes.new j (pos 0) ≡ x_flux p.now shape.level shape.row shape.w values.now 0 j }
+{
+    let mut share = shape.x;
+    for j in 0..fluxes.len() {
+        share = x_share(p, shape.level, shape.row + j as u32, share);
+        fluxes[j] = x_face_flux(shape, share, values, 0, j);
+    }
+}
+
+/// The flux through the x face at the high side of each row, where the cell beyond it is not marked.
+pub(crate) fn high_fluxes(
+    p: &Problem,
+    shape: Shape,
+    values: &[u32],
+    marks: &[bool],
+    fluxes: &mut [i32],
+)
+    requires level { shape.level ≤ 4 }
+    requires inside { shape.row + shape.h ≤ rows p.now shape.level }
+    requires value_count { length values.now ≡ (shape.h + 2) * (shape.w + 2) }
+    requires mark_count { length marks.now ≡ (shape.h + 2) * (shape.w + 2) }
+    requires flux_count { length fluxes.old ≡ shape.h }
+    requires small { AreXSmall shape.w shape.h values.now }
+    ensures made { (j : ℕ) → j < shape.h → x_marked shape.w marks.now j ≡ false → slice_index_or fluxes.new j (pos 0) ≡ x_flux p.now shape.level shape.row shape.w values.now shape.w j }
+    ensures others { (j : ℕ) → x_marked shape.w marks.now j ≡ true → slice_index_or fluxes.new j (pos 0) ≡ slice_index_or fluxes.old j (pos 0) }
+{
+    let mut share = shape.x;
+    for j in 0..fluxes.len() {
+        if !is_end_marked(shape, marks, j) {
+            share = x_share(p, shape.level, shape.row + j as u32, share);
+            fluxes[j] = x_face_flux(shape, share, values, shape.w, j);
+        }
+    }
+}
+
+/// The fluxes through the x faces of row `j`, by the values on their two sides.
+pub(crate) fn x_row(
+    p: &Problem,
+    shape: Shape,
+    share: Share,
+    values: &[u32],
+    j: usize,
+    fluxes: &mut [i32],
+)
+    requires number { share.number ≡ x_number p.now shape.level (shape.row + j) }
+    requires parts { share.parts ≡ p.now.d }
+    requires value_count { length values.now ≡ (shape.h + 2) * (shape.w + 2) }
+    requires flux_count { length fluxes.old ≡ shape.w + 1 }
+    requires row { j < shape.h }
+    requires small { (i : ℕ) → i < shape.w + 2 → value shape.w values.now i (j + 1) < 2147483648 }
+    ensures { (i : ℕ) → i < shape.w + 1 → slice_index_or fluxes.new i (pos 0) ≡ x_flux p.now shape.level shape.row shape.w values.now i j }
+{
+    let at = (j + 1) * (shape.w + 2);
+    face_fluxes(
+        share,
+        &values[at..at + shape.w + 1],
+        &values[at + 1..at + shape.w + 2],
+        fluxes,
+    );
+}
+
+/// Whether the cell beyond row `j` is marked as one of the level.
+pub(crate) fn is_end_marked(shape: Shape, marks: &[bool], j: usize) -> bool
+    requires mark_count { length marks.now ≡ (shape.h + 2) * (shape.w + 2) }
+    requires row { j < shape.h }
+    ensures { result ≡ x_marked shape.w marks.now j }
+{
+    let at = (j + 1) * (shape.w + 2);
+    marks[at + (shape.w + 1)]
+}
+
+/// Gives the last of a row's faces, if it is marked as a border face, its flux by the size at place `used`. Answers how many
+/// sizes are used then.
+pub(crate) fn set_end(
+    number: i32,
+    marked: bool,
+    border: &[u32],
+    used: usize,
+    fluxes: &mut [i32],
+) -> usize
+    requires some { 0 < length fluxes.old }
+    requires enough { used + cond marked 1 0 ≤ length border.now }
+    requires small { AreSmall border.now }
+    ensures count { result ≡ used + cond marked 1 0 }
+    ensures within { result ≤ length border.now }
+    ensures last { slice_index_or fluxes.new (length fluxes.old - 1) (pos 0) ≡ cond marked (signed number (slice_index border.now used)) (slice_index_or fluxes.old (length fluxes.old - 1) (pos 0)) }
+    ensures others { (k : ℕ) → k + 1 < length fluxes.old → slice_index_or fluxes.new k (pos 0) ≡ slice_index_or fluxes.old k (pos 0) }
+{
+    if marked {
+        let last = fluxes.len() - 1;
+        fluxes[last] = signed_flux(number, border[used]);
+        return used + 1;
+    }
+    used
+}
