@@ -1,5 +1,5 @@
 pub mod Sets
 pub mod Frame
-pub mod Pieces
+pub mod PatchBoxes
 pub mod SharedCells
 pub mod Corners

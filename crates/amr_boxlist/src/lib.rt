@@ -89,19 +89,19 @@ impl BoxList {
         sharing::covers(self.boxes.as_slice(), b)
     }
 
-    /// Chops each box, from its low corner, into pieces of `max` by `max` cells, the last ones shorter, rows of pieces
+    /// Chops each box, from its low corner, into patch boxes of `max` by `max` cells, the last ones shorter, rows of patch boxes
     /// from the low row, within a row from the low column (BoxLib's `maxSize`). The cells stay the same. After
     /// `NoMemory` the list is as before.
     pub fn chop(&mut self, max: u32) -> Result<(), NoMemory>
         requires { 1 ≤ max }
-        ensures pieces { OnOk result (self.new ≡ flat_map (chopped max) self.old) }
+        ensures chopped { OnOk result (self.new ≡ flat_map (chopped max) self.old) }
         ensures cells { OnOk result ((c : Cell) → in_boxes self.new c ≡ in_boxes self.old c) }
         ensures apart { AreApart self.new }
         ensures err { OnErr result (self.new ≡ self.old) }
     {
         let alloc = *self.boxes.allocator();
-        let pieces = chopping::chop_all(alloc, self.boxes.as_slice(), max)?;
-        self.boxes = pieces;
+        let patch_boxes = chopping::chop_all(alloc, self.boxes.as_slice(), max)?;
+        self.boxes = patch_boxes;
         Ok(())
     }
 }

@@ -1,4 +1,4 @@
-// What is left of boxes when the cells of another are taken away.
+//! What is left of boxes when the cells of another are taken away.
 
 ghost use Rattle.std.specs.Prelude.{◌≡◌, ◌≤◌, ◌++◌, IfOk, OnOk, pos, ◌+ℤ◌, ◌≤ℤ◌, ◌<ℤ◌};
 ghost use Rattle.std.specs.List.{flat_map};

@@ -1,4 +1,4 @@
-// How many cells of a box are in boxes that have no cell in common.
+//! How many cells of a box are in boxes that have no cell in common.
 
 ghost use Rattle.std.specs.Prelude.{◌≡◌, IsTrue, ◌↔◌};
 ghost use Rattle.std.specs.List.{sum_by};

@@ -66,7 +66,7 @@ fn a_hole_leaves_the_twelve_cells_round_it(rt: HostRuntime) -> Result<(), NoMemo
 }
 
 #[test]
-fn a_box_across_two_pieces_is_covered(rt: HostRuntime) -> Result<(), NoMemory> {
+fn a_box_across_two_patch_boxes_is_covered(rt: HostRuntime) -> Result<(), NoMemory> {
     let mut list = one_box(rt.alloc(), cell(9, 3))?;
     list.chop(4)?;
     let across = box_to_row(3);

@@ -1,4 +1,4 @@
-// The commands.
+//! The commands.
 
 /// What the words ask for.
 #[derive(Clone, Copy, Debug, PartialEq, Eq, Drop)]

@@ -1,4 +1,4 @@
-// Numbers in words.
+//! Numbers in words.
 ghost use Rattle.std.specs.Prelude.{◌≡◌, ◌<◌, ◌^◌, option_and_then};
 ghost use Rattle.amr_cli.specs.Numbers.{in_range, number_of};
 

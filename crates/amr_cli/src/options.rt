@@ -1,4 +1,4 @@
-// What the matches of `clap` say.
+//! What the matches of `clap` say.
 ghost use Rattle.std.specs.Prelude.{◌≡◌, ◌<◌, ◌^◌, option_map};
 ghost use Rattle.clap.specs.Words.{first_of, found_of, rows_of, subcommand_rows_of};
 ghost use Rattle.amr_cli.specs.Rows.{option_row};

@@ -1,4 +1,4 @@
-// The command line in the terms of `clap`, as the table gives it.
+//! The command line in the terms of `clap`, as the table gives it.
 ghost use Rattle.std.specs.Prelude.{◌≡◌, false, IfOk};
 ghost use Rattle.clap.specs.Words.{app_of, rule_of};
 ghost use Rattle.clap.specs.declared.builder.command.Command.TheViews.{out-Command as fields_of};

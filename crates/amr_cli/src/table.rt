@@ -1,4 +1,4 @@
-// The command set, as a table.
+//! The command set, as a table.
 ghost use Rattle.std.specs.Prelude.{◌≡◌, map};
 ghost use Rattle.amr_cli.specs.Table.{commands};
 ghost use Rattle.amr_cli.specs.Rows.{command_row};

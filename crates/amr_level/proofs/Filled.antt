@@ -29,7 +29,7 @@ use Rattle.amr_ghost.specs.Frames.{AreInDomain, HasGhostMarks, HasGhostValues, S
 use Rattle.amr_ghost.proofs.Zips.{some_mass}
 use Rattle.amr_flux.specs.Faces.{IsInDomain, ShowsValues, in_reach, is_border, owns}
 use Rattle.amr_flux.proofs.Shown.{flux_is}
-use Rattle.amr_level.specs.Steps.{HasFluxes, IsReady, IsShown, IsSwept, IsUpdated, base_fluxes}
+use Rattle.amr_level.specs.Steps.{HasFluxes, IsReadyToUpdate, IsShown, IsSwept, IsUpdated, base_fluxes}
 use Rattle.amr_level.proofs.Lists.{HasMasses, apart_from, boxes_at, boxes_from, zip_from, zip_map, zip_masses}
 use Rattle.amr_level.proofs.Values.{value_small}
 
@@ -147,7 +147,7 @@ module _ (p : Problem) (ps fs : List Patch) (apart : ArePatchesApart ps) (inside
     pub swept_boxes : map box ss ≡ map box ps
     swept_boxes = boxes_from ps ss (zip_from (λ q r. box r ≡ box q) ps ss swept_count box_there)
 
-    ready_at : (k : ℕ) (r : Patch) → k < length ps → IsReady p (masses_in ps) (get_or ss k r)
+    ready_at : (k : ℕ) (r : Patch) → k < length ps → IsReadyToUpdate p (masses_in ps) (get_or ss k r)
     ready_at k r lt =
         let s = swept_at k r lt in
         let q = get_or fs k r in
@@ -162,11 +162,11 @@ module _ (p : Problem) (ps fs : List Patch) (apart : ArePatchesApart ps) (inside
               s.fluxes f (ap (λ (b : Extent). is_edge_face b f) (sym s.of_box) ∙ edge) own ∙ flux_is p 0 (masses_in ps) no_masses q (shows_at k r lt) f (face_owned q f own);
         }
 
-    pub all_ready_then : All (IsReady p (masses_in ps)) ss
+    pub all_ready_then : All (IsReadyToUpdate p (masses_in ps)) ss
     all_ready_then = λ k r h. ready_at k r (omega (arith, h, swept_count))
 
-    pub all_ready : All (IsReady p (masses_in ss)) ss
-    all_ready = λ k r h. subst (λ (m : Masses). IsReady p m (get_or ss k r)) (sym swept_masses) (ready_at k r (omega (arith, h, swept_count)))
+    pub all_ready : All (IsReadyToUpdate p (masses_in ss)) ss
+    all_ready = λ k r h. subst (λ (m : Masses). IsReadyToUpdate p m (get_or ss k r)) (sym swept_masses) (ready_at k r (omega (arith, h, swept_count)))
 
     pub swept_inside : AreInDomain (domain p 0) ss
     swept_inside = λ c h. inside c (sym (some_mass ps c) ∙ ap (λ (m : Masses). is_some (m c)) (sym swept_masses) ∙ some_mass ss c ∙ h)
@@ -196,14 +196,14 @@ module _ (p : Problem) (e : Fluxes) (ps qs : List Patch) (done : AllZip (IsUpdat
   unfolding updated
   updated_masses = λ i c. zip_masses (λ c v. at_least_zero (pos v +ℤ net e c)) ps qs c (zip_map (IsUpdated e) (HasMasses (λ c v. at_least_zero (pos v +ℤ net e c))) (λ q r u. record { of_box = u.kept.of_box; masses = λ c h. ap at_least_zero (u.masses c h) }) ps qs done) i
 
-  pub updated_fluxes : (m : Masses) → All (IsReady p m) ps → HasFluxes (base_fluxes p m) qs
+  pub updated_fluxes : (m : Masses) → All (IsReadyToUpdate p m) ps → HasFluxes (base_fluxes p m) qs
   updated_fluxes m ready = λ k r h f edge own.
       let lt : k < length ps = omega (arith, h, count) in
       let u = (at k r lt).kept in
       let before : owns (get_or ps k r) f ≡ true = sym (owned_same (get_or ps k r) (get_or qs k r) u.of_box u.marks f) ∙ own in
       u.fluxes f ∙ (ready k r lt).fluxes f (ap (λ (b : Extent). is_edge_face b f) (sym u.of_box) ∙ edge) before
 
-  pub updated_marks : (m : Masses) → All (IsReady p m) ps → All (HasGhostMarks p 0 m) qs
+  pub updated_marks : (m : Masses) → All (IsReadyToUpdate p m) ps → All (HasGhostMarks p 0 m) qs
   updated_marks m ready = λ k r h c b.
       let lt : k < length ps = omega (arith, h, count) in
       let u = (at k r lt).kept in

@@ -19,13 +19,13 @@ use Rattle.amr_ghost.specs.Frames.{AreInDomain}
 use Rattle.amr_flux.specs.Faces.{border_faces, border_place, flux_beside, fluxes_with, in_reach, is_border, passing, x_end, y_end}
 use Rattle.amr_flux.specs.Shares.{AreSmall}
 use Rattle.amr_flux.proofs.Shown.{border_is, border_of_box, border_placed, flux_is, net_alike, own_is}
-use Rattle.amr_level.specs.Steps.{IsReady, IsUpdated, KeepsFluxes, base_fluxes}
+use Rattle.amr_level.specs.Steps.{IsReadyToUpdate, IsUpdated, KeepsFluxes, base_fluxes}
 use Rattle.amr_level.proofs.Boxes.{corners}
 use Rattle.amr_level.proofs.Filled.{inside_level}
 use Rattle.amr_level.proofs.Lists.{passing_few}
 use Rattle.amr_level.proofs.Values.{mass_fits, mass_kept, value_small}
 
-module _ (p : Problem) (ps : List Patch) (small : (c : Cell) → mass_of (masses_in ps) c < 2 ^ 31) (inside : AreInDomain (domain p 0) ps) (q : Patch) (here : IsReady p (masses_in ps) q) where
+module _ (p : Problem) (ps : List Patch) (small : (c : Cell) → mass_of (masses_in ps) c < 2 ^ 31) (inside : AreInDomain (domain p 0) ps) (q : Patch) (here : IsReadyToUpdate p (masses_in ps) q) where
   pub reach_small : (c : Cell) → in_reach (box q) c ≡ true → value_in q c < 2 ^ 31
   reach_small c e = omega (arith, here.shows.at c e, value_small p (masses_in ps) small c)
 

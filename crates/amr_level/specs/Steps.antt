@@ -41,7 +41,7 @@ pub record IsSwept (p : Problem) (q r : Patch) : Type 0 where
 
 -- a patch of level 0 with the masses m of its cells, with the values and marks of its frame, and with the fluxes of the faces on
 -- its edges that it owns
-pub record IsReady (p : Problem) (m : Masses) (q : Patch) : Type 0 where
+pub record IsReadyToUpdate (p : Problem) (m : Masses) (q : Patch) : Type 0 where
   pub inside : IsInDomain (domain p 0) (box q)
   pub masses : (c : Cell) → IsTrue (holds (box q) c) → m c ≡ Some (mass_in q c)
   pub marks : HasGhostMarks p 0 m q

@@ -8,7 +8,7 @@ ghost use Rattle.amr_def.specs.State.{mass_of};
 ghost use Rattle.amr_patch.specs.Patches.{masses_in};
 ghost use Rattle.amr_ghost.specs.Frames.{AreInDomain};
 ghost use Rattle.amr_flux.specs.Rooms.{widest};
-ghost use Rattle.amr_level.specs.Steps.{IsReady, IsUpdated, base_fluxes};
+ghost use Rattle.amr_level.specs.Steps.{IsReadyToUpdate, IsUpdated, base_fluxes};
 
 use amr_def::Problem;
 use amr_flux::{Room, border_sizes, update};
@@ -17,7 +17,7 @@ use amr_patch::Patch;
 /// Makes the new masses of each patch. The patches have the values of the level in their frames; `sizes` is room for the border
 /// fluxes of a patch.
 pub(crate) fn update_all(p: &Problem, patches: &mut [Patch], sizes: &mut [u32], room: &mut Room)
-    requires ready { All (IsReady p.now (masses_in patches.old)) patches.old }
+    requires ready { All (IsReadyToUpdate p.now (masses_in patches.old)) patches.old }
     requires inside { AreInDomain (domain p.now 0) patches.old }
     requires small { (c : Cell) → mass_of (masses_in patches.old) c < 2 ^ 31 }
     requires sizes { 512 ≤ length sizes.old }

@@ -1,4 +1,4 @@
-// A line of text.
+//! A line of text.
 ghost use Rattle.std.specs.Prelude.{◌≡◌, OnOk, OnErr};
 ghost use Rattle.amr_causes.specs.Causes.{HasCause};
 ghost use Rattle.amr_causes.specs.Bytes.{Grows};

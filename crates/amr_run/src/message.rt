@@ -1,4 +1,4 @@
-// The line of a refusal.
+//! The line of a refusal.
 ghost use Rattle.std.specs.Prelude.{◌≡◌, OnOk, OnErr, unsigned_abs};
 ghost use Rattle.amr_causes.specs.Causes.{HasCause};
 ghost use Rattle.amr_causes.specs.Bytes.{Grows};

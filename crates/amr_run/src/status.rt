@@ -1,4 +1,4 @@
-// How a call ended.
+//! How a call ended.
 ghost use Rattle.std.specs.Prelude.{◌≡◌};
 ghost use Rattle.amr_run.specs.Texts.{exit_status};
 

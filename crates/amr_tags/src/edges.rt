@@ -1,4 +1,4 @@
-// Where the tags of a part begin and end along an axis, by halving: each look counts bits, a word at a time.
+//! Where the tags of a part begin and end along an axis, by halving: each look counts bits, a word at a time.
 
 ghost use Rattle.std.specs.Prelude.{◌≡◌, true, false, pos, ◌+ℤ◌, ◌-ℤ◌, ◌*◌, ◌≤ℤ◌, ◌<ℤ◌, length};
 ghost use Rattle.amr_box.specs.Cells.{IsNear, along, height, width};

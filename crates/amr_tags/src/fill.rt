@@ -1,4 +1,4 @@
-// The bits of a part of the rows set, a word at a look.
+//! The bits of a part of the rows set, a word at a look.
 
 ghost use Rattle.std.specs.Prelude.{◌≡◌, ℕ, ◌+◌, ◌*◌, ◌/◌, ◌<◌, ◌≤◌, ◌^◌, ◌&&◌, ◌||◌, length};
 ghost use Rattle.amr_box.specs.Cells.{IsNear, height, holds, width};

@@ -1,4 +1,4 @@
-// Rows of bits grown by one place on each side, a word at a look.
+//! Rows of bits grown by one place on each side, a word at a look.
 
 ghost use Rattle.std.specs.Prelude.{◌≡◌, false, ℕ, ◌+◌, ◌-◌, ◌*◌, ◌/◌, ◌%◌, ◌<◌, ◌≤◌, ◌^◌, ◌&&◌, ◌||◌, ◌==◌, length, nat_lt};
 ghost use Rattle.amr_tags.specs.Bits.{AreRows, bit, bit_of, words_for};

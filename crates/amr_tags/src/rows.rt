@@ -1,4 +1,4 @@
-// Rows of bits in words of 64.
+//! Rows of bits in words of 64.
 
 ghost use Rattle.std.specs.Prelude.{◌≡◌, ℕ, ◌+◌, ◌*◌, ◌/◌, ◌%◌, ◌^◌, ◌<◌, ◌≤◌, IfOk, IsTrue, bit_or, length, replicate, slice_index, slice_set};
 ghost use Rattle.amr_box.specs.Cells.{IsNear, height, holds, width};

@@ -1,4 +1,4 @@
-// Counts of the bits in a part of the rows, a word at a look.
+//! Counts of the bits in a part of the rows, a word at a look.
 
 ghost use Rattle.std.specs.Prelude.{◌≡◌, pos, ◌-ℤ◌, ◌≤ℤ◌, ◌<ℤ◌, count_by, ℕ, ◌+◌, ◌-◌, ◌*◌, ◌/◌, ◌^◌, ◌<◌, ◌≤◌, ◌&&◌, length, nat_le};
 ghost use Rattle.amr_tags.specs.Bits.{bit, bit_of, words_for};

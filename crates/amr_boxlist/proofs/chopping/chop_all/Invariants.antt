@@ -4,4 +4,4 @@ use Rattle.amr_boxlist.specs.Chopped.{chopped}
 use Rattle.amr_boxlist.proofs.chopping.chop_all.Given as goal
 
 abbrev pub invariant-loop-b : goal.invariant-loop-b
-invariant-loop-b l = l.pieces.items ≡ flat_map (chopped l.max) (take l.b-index l.boxes)
+invariant-loop-b l = l.patch_boxes.items ≡ flat_map (chopped l.max) (take l.b-index l.boxes)

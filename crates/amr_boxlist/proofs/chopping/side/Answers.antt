@@ -1,6 +1,6 @@
 use Rattle.std.proofs.Common.{pos, ◌+ℤ◌, ◌-ℤ◌, arith, rules}
 use Rattle.std.proofs.lemmas.Int.{ints}
-use Rattle.amr_boxlist.proofs.Pieces.{side_value}
+use Rattle.amr_boxlist.proofs.PatchBoxes.{side_value}
 use Rattle.amr_boxlist.proofs.chopping.side.Goals as goal
 
 pub returns-clause-value : goal.returns-clause-value

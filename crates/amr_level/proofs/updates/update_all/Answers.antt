@@ -6,7 +6,7 @@ use Rattle.amr_patch.specs.declared.patches.Patch.{Patch}
 use Rattle.amr_patch.specs.Patches.{box, masses_in}
 use Rattle.amr_patch.proofs.Lookups.{same_default}
 use Rattle.amr_flux.specs.Faces.{border_faces, border_place, flux_beside, is_border}
-use Rattle.amr_level.specs.Steps.{IsReady, IsUpdated, KeepsFluxes, base_fluxes}
+use Rattle.amr_level.specs.Steps.{IsReadyToUpdate, IsUpdated, KeepsFluxes, base_fluxes}
 use Rattle.amr_level.proofs.Lists.{set_done, set_rest, zip_from}
 use Rattle.amr_level.proofs.Updating.{border_count, border_small, few, fits, kept, narrow, reach_small, updated_one}
 use Rattle.amr_level.proofs.updates.update_all.Goals as goal
@@ -20,7 +20,7 @@ border_sizes-count-requires-clause-inside c =
     let lt : i < length ps = omega arith in
     let one = get_or qs i c.index-patches-i.result in
     let at = c.loop-i.invariant.rest i c.index-patches-i.result (omega arith) in
-    let here : IsReady p (masses_in ps) one = subst (λ (t : Patch). IsReady p (masses_in ps) t) (sym at) (c.requires.ready i c.index-patches-i.result lt) in
+    let here : IsReadyToUpdate p (masses_in ps) one = subst (λ (t : Patch). IsReadyToUpdate p (masses_in ps) t) (sym at) (c.requires.ready i c.index-patches-i.result lt) in
     here.inside
 
 pub border_sizes-count-requires-clause-small : goal.border_sizes-count-requires-clause-small
@@ -32,7 +32,7 @@ border_sizes-count-requires-clause-small c =
     let lt : i < length ps = omega arith in
     let one = get_or qs i c.index-patches-i.result in
     let at = c.loop-i.invariant.rest i c.index-patches-i.result (omega arith) in
-    let here : IsReady p (masses_in ps) one = subst (λ (t : Patch). IsReady p (masses_in ps) t) (sym at) (c.requires.ready i c.index-patches-i.result lt) in
+    let here : IsReadyToUpdate p (masses_in ps) one = subst (λ (t : Patch). IsReadyToUpdate p (masses_in ps) t) (sym at) (c.requires.ready i c.index-patches-i.result lt) in
     reach_small p ps c.requires.small c.requires.inside one here
 
 pub border_sizes-count-requires-clause-room : goal.border_sizes-count-requires-clause-room
@@ -44,7 +44,7 @@ border_sizes-count-requires-clause-room c =
     let lt : i < length ps = omega arith in
     let one = get_or qs i c.index-patches-i.result in
     let at = c.loop-i.invariant.rest i c.index-patches-i.result (omega arith) in
-    let here : IsReady p (masses_in ps) one = subst (λ (t : Patch). IsReady p (masses_in ps) t) (sym at) (c.requires.ready i c.index-patches-i.result lt) in
+    let here : IsReadyToUpdate p (masses_in ps) one = subst (λ (t : Patch). IsReadyToUpdate p (masses_in ps) t) (sym at) (c.requires.ready i c.index-patches-i.result lt) in
     omega (arith, few p ps c.requires.small c.requires.inside one here, c.loop-i.invariant.sizes)
 
 pub slice_bounds-update-end : goal.slice_bounds-update-end
@@ -56,7 +56,7 @@ slice_bounds-update-end c =
     let lt : i < length ps = omega arith in
     let one = get_or qs i c.index-patches-i.result in
     let at = c.loop-i.invariant.rest i c.index-patches-i.result (omega arith) in
-    let here : IsReady p (masses_in ps) one = subst (λ (t : Patch). IsReady p (masses_in ps) t) (sym at) (c.requires.ready i c.index-patches-i.result lt) in
+    let here : IsReadyToUpdate p (masses_in ps) one = subst (λ (t : Patch). IsReadyToUpdate p (masses_in ps) t) (sym at) (c.requires.ready i c.index-patches-i.result lt) in
     omega (arith, c.border_sizes-count.ensures.count, few p ps c.requires.small c.requires.inside one here, c.loop-i.invariant.sizes, c.border_sizes-count.auto.sizes)
 
 pub slice_bounds-update-end-in-loop-i : goal.slice_bounds-update-end-in-loop-i
@@ -68,7 +68,7 @@ slice_bounds-update-end-in-loop-i c =
     let lt : i < length ps = omega arith in
     let one = get_or qs i c.index-patches-i.result in
     let at = c.loop-i.invariant.rest i c.index-patches-i.result (omega arith) in
-    let here : IsReady p (masses_in ps) one = subst (λ (t : Patch). IsReady p (masses_in ps) t) (sym at) (c.requires.ready i c.index-patches-i.result lt) in
+    let here : IsReadyToUpdate p (masses_in ps) one = subst (λ (t : Patch). IsReadyToUpdate p (masses_in ps) t) (sym at) (c.requires.ready i c.index-patches-i.result lt) in
     sym (length-take-le c.border_sizes-count.result c.border_sizes-count.new.sizes (omega (arith, c.border_sizes-count.ensures.count, few p ps c.requires.small c.requires.inside one here, c.loop-i.invariant.sizes, c.border_sizes-count.auto.sizes)))
 
 pub update-requires-clause-inside : goal.update-requires-clause-inside
@@ -80,10 +80,10 @@ update-requires-clause-inside c =
     let lt : i < length ps = omega arith in
     let one = get_or qs i c.index-patches-i.result in
     let at = c.loop-i.invariant.rest i c.index-patches-i.result (omega arith) in
-    let here : IsReady p (masses_in ps) one = subst (λ (t : Patch). IsReady p (masses_in ps) t) (sym at) (c.requires.ready i c.index-patches-i.result lt) in
+    let here : IsReadyToUpdate p (masses_in ps) one = subst (λ (t : Patch). IsReadyToUpdate p (masses_in ps) t) (sym at) (c.requires.ready i c.index-patches-i.result lt) in
     let q = get_or qs i c.index-patches-i-in-loop-i.result in
     let same : one ≡ q = same_default qs i c.index-patches-i.result c.index-patches-i-in-loop-i.result (omega arith) in
-    let ready : IsReady p (masses_in ps) q = subst (λ (t : Patch). IsReady p (masses_in ps) t) same here in
+    let ready : IsReadyToUpdate p (masses_in ps) q = subst (λ (t : Patch). IsReadyToUpdate p (masses_in ps) t) same here in
     let sizes = c.border_sizes-count.new.sizes in
     let n = c.border_sizes-count.result in
     let count = c.border_sizes-count.ensures.count ∙ ap (λ (t : Patch). length (border_faces t)) same in
@@ -101,10 +101,10 @@ update-requires-clause-border_count c =
     let lt : i < length ps = omega arith in
     let one = get_or qs i c.index-patches-i.result in
     let at = c.loop-i.invariant.rest i c.index-patches-i.result (omega arith) in
-    let here : IsReady p (masses_in ps) one = subst (λ (t : Patch). IsReady p (masses_in ps) t) (sym at) (c.requires.ready i c.index-patches-i.result lt) in
+    let here : IsReadyToUpdate p (masses_in ps) one = subst (λ (t : Patch). IsReadyToUpdate p (masses_in ps) t) (sym at) (c.requires.ready i c.index-patches-i.result lt) in
     let q = get_or qs i c.index-patches-i-in-loop-i.result in
     let same : one ≡ q = same_default qs i c.index-patches-i.result c.index-patches-i-in-loop-i.result (omega arith) in
-    let ready : IsReady p (masses_in ps) q = subst (λ (t : Patch). IsReady p (masses_in ps) t) same here in
+    let ready : IsReadyToUpdate p (masses_in ps) q = subst (λ (t : Patch). IsReadyToUpdate p (masses_in ps) t) same here in
     let sizes = c.border_sizes-count.new.sizes in
     let n = c.border_sizes-count.result in
     let count = c.border_sizes-count.ensures.count ∙ ap (λ (t : Patch). length (border_faces t)) same in
@@ -122,10 +122,10 @@ update-requires-clause-small c =
     let lt : i < length ps = omega arith in
     let one = get_or qs i c.index-patches-i.result in
     let at = c.loop-i.invariant.rest i c.index-patches-i.result (omega arith) in
-    let here : IsReady p (masses_in ps) one = subst (λ (t : Patch). IsReady p (masses_in ps) t) (sym at) (c.requires.ready i c.index-patches-i.result lt) in
+    let here : IsReadyToUpdate p (masses_in ps) one = subst (λ (t : Patch). IsReadyToUpdate p (masses_in ps) t) (sym at) (c.requires.ready i c.index-patches-i.result lt) in
     let q = get_or qs i c.index-patches-i-in-loop-i.result in
     let same : one ≡ q = same_default qs i c.index-patches-i.result c.index-patches-i-in-loop-i.result (omega arith) in
-    let ready : IsReady p (masses_in ps) q = subst (λ (t : Patch). IsReady p (masses_in ps) t) same here in
+    let ready : IsReadyToUpdate p (masses_in ps) q = subst (λ (t : Patch). IsReadyToUpdate p (masses_in ps) t) same here in
     let sizes = c.border_sizes-count.new.sizes in
     let n = c.border_sizes-count.result in
     let count = c.border_sizes-count.ensures.count ∙ ap (λ (t : Patch). length (border_faces t)) same in
@@ -143,10 +143,10 @@ update-requires-clause-border_small c =
     let lt : i < length ps = omega arith in
     let one = get_or qs i c.index-patches-i.result in
     let at = c.loop-i.invariant.rest i c.index-patches-i.result (omega arith) in
-    let here : IsReady p (masses_in ps) one = subst (λ (t : Patch). IsReady p (masses_in ps) t) (sym at) (c.requires.ready i c.index-patches-i.result lt) in
+    let here : IsReadyToUpdate p (masses_in ps) one = subst (λ (t : Patch). IsReadyToUpdate p (masses_in ps) t) (sym at) (c.requires.ready i c.index-patches-i.result lt) in
     let q = get_or qs i c.index-patches-i-in-loop-i.result in
     let same : one ≡ q = same_default qs i c.index-patches-i.result c.index-patches-i-in-loop-i.result (omega arith) in
-    let ready : IsReady p (masses_in ps) q = subst (λ (t : Patch). IsReady p (masses_in ps) t) same here in
+    let ready : IsReadyToUpdate p (masses_in ps) q = subst (λ (t : Patch). IsReadyToUpdate p (masses_in ps) t) same here in
     let sizes = c.border_sizes-count.new.sizes in
     let n = c.border_sizes-count.result in
     let count = c.border_sizes-count.ensures.count ∙ ap (λ (t : Patch). length (border_faces t)) same in
@@ -164,10 +164,10 @@ update-requires-clause-kept c =
     let lt : i < length ps = omega arith in
     let one = get_or qs i c.index-patches-i.result in
     let at = c.loop-i.invariant.rest i c.index-patches-i.result (omega arith) in
-    let here : IsReady p (masses_in ps) one = subst (λ (t : Patch). IsReady p (masses_in ps) t) (sym at) (c.requires.ready i c.index-patches-i.result lt) in
+    let here : IsReadyToUpdate p (masses_in ps) one = subst (λ (t : Patch). IsReadyToUpdate p (masses_in ps) t) (sym at) (c.requires.ready i c.index-patches-i.result lt) in
     let q = get_or qs i c.index-patches-i-in-loop-i.result in
     let same : one ≡ q = same_default qs i c.index-patches-i.result c.index-patches-i-in-loop-i.result (omega arith) in
-    let ready : IsReady p (masses_in ps) q = subst (λ (t : Patch). IsReady p (masses_in ps) t) same here in
+    let ready : IsReadyToUpdate p (masses_in ps) q = subst (λ (t : Patch). IsReadyToUpdate p (masses_in ps) t) same here in
     let sizes = c.border_sizes-count.new.sizes in
     let n = c.border_sizes-count.result in
     let count = c.border_sizes-count.ensures.count ∙ ap (λ (t : Patch). length (border_faces t)) same in
@@ -185,10 +185,10 @@ update-requires-clause-fits c =
     let lt : i < length ps = omega arith in
     let one = get_or qs i c.index-patches-i.result in
     let at = c.loop-i.invariant.rest i c.index-patches-i.result (omega arith) in
-    let here : IsReady p (masses_in ps) one = subst (λ (t : Patch). IsReady p (masses_in ps) t) (sym at) (c.requires.ready i c.index-patches-i.result lt) in
+    let here : IsReadyToUpdate p (masses_in ps) one = subst (λ (t : Patch). IsReadyToUpdate p (masses_in ps) t) (sym at) (c.requires.ready i c.index-patches-i.result lt) in
     let q = get_or qs i c.index-patches-i-in-loop-i.result in
     let same : one ≡ q = same_default qs i c.index-patches-i.result c.index-patches-i-in-loop-i.result (omega arith) in
-    let ready : IsReady p (masses_in ps) q = subst (λ (t : Patch). IsReady p (masses_in ps) t) same here in
+    let ready : IsReadyToUpdate p (masses_in ps) q = subst (λ (t : Patch). IsReadyToUpdate p (masses_in ps) t) same here in
     let sizes = c.border_sizes-count.new.sizes in
     let n = c.border_sizes-count.result in
     let count = c.border_sizes-count.ensures.count ∙ ap (λ (t : Patch). length (border_faces t)) same in
@@ -206,10 +206,10 @@ update-requires-clause-room c =
     let lt : i < length ps = omega arith in
     let one = get_or qs i c.index-patches-i.result in
     let at = c.loop-i.invariant.rest i c.index-patches-i.result (omega arith) in
-    let here : IsReady p (masses_in ps) one = subst (λ (t : Patch). IsReady p (masses_in ps) t) (sym at) (c.requires.ready i c.index-patches-i.result lt) in
+    let here : IsReadyToUpdate p (masses_in ps) one = subst (λ (t : Patch). IsReadyToUpdate p (masses_in ps) t) (sym at) (c.requires.ready i c.index-patches-i.result lt) in
     let q = get_or qs i c.index-patches-i-in-loop-i.result in
     let same : one ≡ q = same_default qs i c.index-patches-i.result c.index-patches-i-in-loop-i.result (omega arith) in
-    let ready : IsReady p (masses_in ps) q = subst (λ (t : Patch). IsReady p (masses_in ps) t) same here in
+    let ready : IsReadyToUpdate p (masses_in ps) q = subst (λ (t : Patch). IsReadyToUpdate p (masses_in ps) t) same here in
     let sizes = c.border_sizes-count.new.sizes in
     let n = c.border_sizes-count.result in
     let count = c.border_sizes-count.ensures.count ∙ ap (λ (t : Patch). length (border_faces t)) same in
@@ -227,10 +227,10 @@ loop-i-preserved c =
     let lt : i < length ps = omega arith in
     let one = get_or qs i c.index-patches-i.result in
     let at = c.loop-i.invariant.rest i c.index-patches-i.result (omega arith) in
-    let here : IsReady p (masses_in ps) one = subst (λ (t : Patch). IsReady p (masses_in ps) t) (sym at) (c.requires.ready i c.index-patches-i.result lt) in
+    let here : IsReadyToUpdate p (masses_in ps) one = subst (λ (t : Patch). IsReadyToUpdate p (masses_in ps) t) (sym at) (c.requires.ready i c.index-patches-i.result lt) in
     let q = get_or qs i c.index-patches-i-in-loop-i.result in
     let same : one ≡ q = same_default qs i c.index-patches-i.result c.index-patches-i-in-loop-i.result (omega arith) in
-    let ready : IsReady p (masses_in ps) q = subst (λ (t : Patch). IsReady p (masses_in ps) t) same here in
+    let ready : IsReadyToUpdate p (masses_in ps) q = subst (λ (t : Patch). IsReadyToUpdate p (masses_in ps) t) same here in
     let sizes = c.border_sizes-count.new.sizes in
     let n = c.border_sizes-count.result in
     let count = c.border_sizes-count.ensures.count ∙ ap (λ (t : Patch). length (border_faces t)) same in

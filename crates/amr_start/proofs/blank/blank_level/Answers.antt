@@ -47,5 +47,5 @@ pub returns-clause-patches : goal.returns-clause-patches
 returns-clause-patches c =
     let max = c.args.max in
     let alone : c.push_disjoint.new.self ≡ c.args.whole ∷ [] = c.in_ok-push_disjoint.ensures.ok ∙ ap (λ (l : List Extent). l ++ c.args.whole ∷ []) c.make-chopped.ensures in
-    let list : c.list.result.now ≡ chopped max c.args.whole = c.list.ensures.boxes ∙ c.in_ok-chop.ensures.pieces ∙ ap (flat_map (chopped max)) alone ∙ append-nil (chopped max c.args.whole) in
+    let list : c.list.result.now ≡ chopped max c.args.whole = c.list.ensures.boxes ∙ c.in_ok-chop.ensures.chopped ∙ ap (flat_map (chopped max)) alone ∙ append-nil (chopped max c.args.whole) in
     record { patches = subst (λ (l : List Extent). IsPermutation l (map box (patches_of c.in_ok-level.level))) list c.in_ok-level.ensures.patches }
