@@ -1,21 +1,20 @@
 -- Each call's step keeps the rule, and tells what it promises.
-use Rattle.std.proofs.Common.{◌≡◌, ◌≢◌, ◌⊎◌, ℕ, zero, suc, ◌+◌, ◌-◌, ◌%◌, ◌^◌, ◌<◌, ◌≤◌, true, false, List, ◌∷◌, length, get_or, set, Some, refl, sym, ap, ◌∙◌, subst, ⊎_elim, arith}
+use Rattle.std.proofs.Common.{◌≡◌, ◌⊎◌, ℕ, ◌+◌, ◌-◌, ◌%◌, ◌^◌, ◌<◌, ◌≤◌, false, List, ◌∷◌, length, get_or, set, Some, refl, sym, subst, arith}
 use Rattle.std.specs.Prelude.{Contains, Option}
 use mathlib.Core.Option as lookup
 use lib.ListN.{get_elem?}
 use Rattle.std.proofs.Math.Nat.{mod-eq_of_lt}
 use Rattle.std.proofs.lemmas.List.{set-get_or}
 use Rattle.atomic_table.specs.Table.{State, keeps, takes, gives, step, Allows, Splits, Joins}
-use Rattle.atomic_table.proofs.Lists.{at_set, set_here}
+use Rattle.atomic_table.proofs.Lists.{set_here}
 use Rattle.amr_phase.specs.Plans.{PlanOf, planned_face}
 use Rattle.amr_board.specs.declared.view.Deed.TheVariants.{Draw, Take, Put, Add, Face, Give}
-use Rattle.amr_board.specs.declared.view.Progress.{Progress}
 use Rattle.amr_board.specs.declared.view.View.{View}
-use Rattle.amr_board.specs.Views.{current, no_progress, IsHolding, HoldsNone, IsNextPut, IsNextAdd, after_draw, taking, put_done, add_done, looked, giving, keeps_half, other_half, joined, spent_view}
+use Rattle.amr_board.specs.Views.{current, IsHolding, HoldsNone, IsNextPut, IsNextAdd, after_draw, taking, put_done, add_done, looked, giving, keeps_half, other_half, joined, spent_view}
 use Rattle.amr_board.specs.Plays.{Draws, Puts, Faces, Takes}
 use Rattle.amr_board.specs.Rule.{Rule}
 use Rattle.amr_board.specs.Steps.{MayGive}
-use Rattle.amr_board.proofs.Sums.{in_range_at, got}
+use Rattle.amr_board.proofs.Sums.{in_range_at}
 use Rattle.amr_board.proofs.Drawing.{small_counter, few_tasks}
 use Rattle.amr_board.proofs.Posting.{face_is}
 use Rattle.amr_board.proofs.Sharing.{splits_here, joins_here}

@@ -10,7 +10,7 @@ use Rattle.amr_board.specs.declared.view.Progress.{Progress}
 use Rattle.amr_board.specs.declared.view.View.{View}
 use Rattle.amr_board.specs.Views.{no_progress, HoldsNone}
 use Rattle.amr_board.specs.Rule.{Rule, Sentences, weigh, numbers, stage, stage_at, stages, done_adds, done_puts, IsHome}
-use Rattle.amr_board.proofs.Sums.{sum_set, sum_set_at, sum_take_one, each_set, zero_too, member_le, only_one, get_first, in_range_at, weigh_split, weigh_zero, whole, weigh_list, sum_both}
+use Rattle.amr_board.proofs.Sums.{only_one, in_range_at, weigh_list, sum_both}
 use Rattle.amr_board.proofs.Keeping.{hit, hit_in}
 use Rattle.std.proofs.Math.Seq.{take-length}
 

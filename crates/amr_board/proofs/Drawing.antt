@@ -13,7 +13,8 @@ use Rattle.amr_board.specs.declared.view.Progress.{Progress}
 use Rattle.amr_board.specs.declared.view.View.{View}
 use Rattle.amr_board.specs.Views.{no_progress, drawn, gone, after_draw, HoldsNone}
 use Rattle.amr_board.specs.Rule.{Sentences, IsFit, weigh, numbers, stage_at, stages, past_share, own_adds, own_puts, SlotIs}
-use Rattle.amr_board.proofs.Sums.{sum_set, sum_set_at, sum_take_one, each_set, zero_too, member_le, only_one, get_first, in_range_at, weigh_split, weigh_zero, whole, sum_le}
+use Rattle.amr_phase.proofs.Sums.{zero_too}
+use Rattle.amr_board.proofs.Sums.{sum_set, each_set, member_le, weigh_split, sum_le}
 use Rattle.amr_board.proofs.Keeping.{hit, hit_before, no_stage}
 use Rattle.std.proofs.lemmas.Bool.{lt-ltb, le-ltb}
 

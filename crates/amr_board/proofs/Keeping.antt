@@ -12,7 +12,8 @@ use Rattle.amr_board.specs.declared.view.Progress.{Progress}
 use Rattle.amr_board.specs.declared.view.View.{View}
 use Rattle.amr_board.specs.Views.{current, with_current, no_progress}
 use Rattle.amr_board.specs.Rule.{Sentences, IsFit, weigh, numbers, stage, stage_at, stages, past_share, own_adds, own_puts, SlotIs}
-use Rattle.amr_board.proofs.Sums.{sum_set, sum_set_at, each_set, zero_too, member_le, only_one, get_first}
+use Rattle.amr_phase.proofs.Sums.{total_set, zero_too}
+use Rattle.amr_board.proofs.Sums.{sum_set, each_set, member_le, only_one, get_first}
 
 abbrev pub hit : ℕ → ℕ → ℕ
 hit t k = cond (k == t) 1 0
@@ -151,7 +152,7 @@ module _ {P : Type 0} (plan : PlanOf) (pieces : List P) (becomes : P → P → T
 -- a view whose current task is changed
 module _ {P : Type 0} (v : View P) (e : Progress) (held : 0 < length v.tasks) where
   pub sum_current : (g : Progress → ℕ) → total g (with_current v e).tasks + g (current v) ≡ total g v.tasks + g e
-  sum_current g = sum_set_at g v.tasks 0 e no_progress held
+  sum_current g = total_set g v.tasks 0 e no_progress held
 
   pub same_current : (g : Progress → ℕ) → g e ≡ g (current v) → total g (with_current v e).tasks ≡ total g v.tasks
   same_current g same = (let t = sum_current g in omega arith)

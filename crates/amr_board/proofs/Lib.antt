@@ -1,6 +1,7 @@
 pub mod Sums
 pub mod Keeping
 pub mod Planning
+pub mod Posts
 pub mod Drawing
 pub mod Taking
 pub mod Posting

@@ -1,5 +1,5 @@
 -- An add, a put and a look keep the rule.
-use Rattle.std.proofs.Common.{◌≡◌, ◌⊎◌, ℕ, zero, suc, ◌+◌, ◌-◌, ◌^◌, ◌<◌, ◌≤◌, ◌==◌, cond, min, true, false, true≢false, List, [], ◌∷◌, ◌++◌, length, get_or, set, take, drop, refl, sym, ap, ◌∙◌, subst, ⊎_elim, inl, inr, arith, eq-eqb, ne_eqb, add-zero}
+use Rattle.std.proofs.Common.{◌≡◌, ◌⊎◌, ℕ, ◌+◌, ◌-◌, ◌^◌, ◌<◌, ◌≤◌, ◌==◌, cond, min, false, true≢false, List, [], ◌∷◌, ◌++◌, length, get_or, set, take, drop, refl, sym, ap, ◌∙◌, subst, ⊎_elim, inl, inr, arith, eq-eqb, ne_eqb, add-zero}
 use Rattle.std.specs.Prelude.{Contains, Option}
 use mathlib.Core.Option as lookup
 use mathlib.Core.Logic.{dite}
@@ -15,7 +15,9 @@ use Rattle.amr_board.specs.declared.view.Progress.{Progress}
 use Rattle.amr_board.specs.declared.view.View.{View}
 use Rattle.amr_board.specs.Views.{current, IsNextAdd, IsNextPut, add_done, put_done, looked}
 use Rattle.amr_board.specs.Rule.{Sentences, weigh, numbers, stage_at, stages, own_adds, own_puts, done_adds, done_puts, SlotIs}
-use Rattle.amr_board.proofs.Sums.{sum_set, sum_take_one, each_set, zero_too, weigh_zero, whole}
+use Rattle.amr_phase.proofs.Sums.{total_more, zero_too}
+use Rattle.amr_board.proofs.Sums.{sum_set, each_set, weigh_zero, whole}
+use Rattle.amr_phase.proofs.Totals.{unnamed}
 use Rattle.amr_board.proofs.Keeping.{kept, sum_current, same_current, fit_current}
 use Rattle.std.proofs.lemmas.List.Elements.{Contains-push_cases}
 
@@ -39,23 +41,6 @@ still ws i n j lt pos was =
     dite (ℕ_discrete j i)
     (λ e. subst (λ x. 0 < x) (sym (ap (λ y. get_or (set ws i n) y 0) e ∙ get_or-set_same ws i n 0 lt)) pos)
     (λ ne. subst (λ x. 0 < x) (sym (get_or-set_other ws i j n 0 ne)) was)
-
-one_is_not : {X : Type 0} (n : ℕ) → n ≡ 1 → n ≡ 0 → X
-one_is_not n a b = absurd (omega arith)
-
-unnamed : (p : ℕ) (x : Post) → named p x ≡ 0 → stored p x ≡ 0
-unnamed p x =
-    elim (x.at == p) as (λ b. cond {A = ℕ} b 1 0 ≡ 0 → cond {A = ℕ} b (x.amount + 1) 0 ≡ 0) [ true ↦ one_is_not 1 refl | false ↦ λ _. refl ]
-
-at_le : {X : Type 0} (f : X → ℕ) (xs : List X) (i : ℕ) (d : X) → f d ≡ 0 → f (get_or xs i d) ≤ total f xs
-at_le f [] i d z = let r : f d ≤ 0 = omega arith in r
-at_le f (x ∷ xs) zero d z = let r : f x ≤ f x + total f xs = omega arith in r
-at_le f (x ∷ xs) (suc i) d z = let h = at_le f xs i d z in let r : f (get_or xs i d) ≤ f x + total f xs = omega arith in r
-
-at_le_in : {X : Type 0} (f : X → ℕ) (xs : List X) (i : ℕ) (d : X) → i < length xs → f (get_or xs i d) ≤ total f xs
-at_le_in f [] i d h = absurd (omega arith)
-at_le_in f (x ∷ xs) zero d h = let r : f x ≤ f x + total f xs = omega arith in r
-at_le_in f (x ∷ xs) (suc i) d h = let k = at_le_in f xs i d (omega arith) in let r : f (get_or xs i d) ≤ f x + total f xs = omega arith in r
 
 -- the done and the left part of the puts, however the posts are counted
 abbrev part : PlanOf → (Post → ℕ) → Progress → ℕ
@@ -137,7 +122,7 @@ module _ {P : Type 0} (becomes : P → P → Type 0) (s : State (Option P) (View
       let more : (x : ℕ) → own_adds q x w ≡ own_adds q x v + added x post
       = λ x. (
       let t : own_adds q x w + done_adds q x e ≡ own_adds q x v + done_adds q x e' = sum_current v e' held (done_adds q x) in
-      let r : done_adds q x e' ≡ done_adds q x e + added x (get_or (adds_of q e.task) e.adds no_post) = sum_take_one (added x) (adds_of q e.task) e.adds no_post ready.left in
+      let r : done_adds q x e' ≡ done_adds q x e + added x (get_or (adds_of q e.task) e.adds no_post) = total_more (added x) (adds_of q e.task) e.adds no_post ready.left in
       let k : added x (get_or (adds_of q e.task) e.adds no_post) ≡ added x post = ap (added x) ready.post in omega arith
       ) in
       let sums' : (x : ℕ) → total (own_adds q x) (set vs id w) ≡ total (own_adds q x) vs + added x post
@@ -184,7 +169,7 @@ module _ {P : Type 0} (becomes : P → P → Type 0) (s : State (Option P) (View
       let more : (f : Post → ℕ) → total (part q f) w.tasks ≡ total (part q f) v.tasks + f post
       = λ f. (
       let t : total (part q f) w.tasks + part q f e ≡ total (part q f) v.tasks + part q f e' = sum_current v e' held (part q f) in
-      let r : part q f e' ≡ part q f e + f (get_or (puts_of q e.task) e.puts no_post) = sum_take_one f (puts_of q e.task) e.puts no_post ready.left in
+      let r : part q f e' ≡ part q f e + f (get_or (puts_of q e.task) e.puts no_post) = total_more f (puts_of q e.task) e.puts no_post ready.left in
       let k : f (get_or (puts_of q e.task) e.puts no_post) ≡ f post = ap f ready.post in omega arith
       ) in
       let names : named place post ≡ 1 = ap (λ b. cond {A = ℕ} b 1 0) (eq-eqb place place refl) in

@@ -10,7 +10,7 @@ use Rattle.amr_board.specs.declared.view.Progress.{Progress}
 use Rattle.amr_board.specs.declared.view.View.{View}
 use Rattle.amr_board.specs.Views.{no_progress, keeps_half, other_half, joined, spent_view, HoldsNone}
 use Rattle.amr_board.specs.Rule.{Sentences, IsFit, stage_at, past_share, done_adds, done_puts, SlotIs}
-use Rattle.amr_board.proofs.Sums.{sum_set, sum_set_at, sum_take_one, each_set, zero_too, member_le, only_one, get_first, in_range_at, weigh_split, weigh_zero, whole}
+use Rattle.amr_board.proofs.Sums.{sum_set, each_set}
 use Rattle.std.proofs.lemmas.List.Elements.{Contains-append_cases}
 
 pub sum_append : {X : Type 0} (f : X → ℕ) (xs ys : List X) → total f (xs ++ ys) ≡ total f xs + total f ys

@@ -1,32 +1,31 @@
 -- A step of a seat is one event of the machine that the board shows.
-use Rattle.std.proofs.Common.{◌≡◌, ◌≢◌, ℕ, zero, suc, ◌+◌, ◌<◌, ◌≤◌, ◌==◌, cond, min, Bool, true, false, true≢false, List, length, get_or, set, Some, None, refl, sym, ap, ◌∙◌, subst, ⊎_elim, arith, eq-eqb, ne_eqb, lt_of_not-le}
+use Rattle.std.proofs.Common.{◌≡◌, ◌≢◌, ℕ, ◌+◌, ◌<◌, ◌≤◌, ◌==◌, cond, Bool, true, false, true≢false, List, length, get_or, set, Some, None, refl, sym, ap, ◌∙◌, subst, ⊎_elim, arith, eq-eqb, ne_eqb}
 use Rattle.std.specs.Prelude.{Option, nat_lt, position, slice_index_or}
 use mathlib.Core.Option as lookup
 use mathlib.Core.Logic.{dite}
-use native.Mathlib.Decide.{ℕ_discrete, dec_le}
+use native.Mathlib.Decide.{ℕ_discrete}
 use lib.ListN.{get_elem?}
 use Rattle.std.proofs.Math.ListN.{length-set}
-use Rattle.std.proofs.lemmas.List.{get_or-set_same, get_or-set_other, get_or_past}
+use Rattle.std.proofs.lemmas.List.{get_or-set_same, get_or-set_other}
 use Rattle.std.proofs.lemmas.List.Quantifiers.{position-Some}
-use Rattle.std.proofs.lemmas.Bool.{lt-ltb, le-ltb}
+use Rattle.std.proofs.lemmas.Bool.{lt-ltb}
 use Rattle.atomic_table.specs.Table.{State}
 use Rattle.atomic_table.proofs.Lists.{at_set}
 use Rattle.amr_phase.specs.declared.plan.Post.{Post}
 use Rattle.amr_phase.specs.declared.machine.Stage.{Stage}
 use Rattle.amr_phase.specs.declared.machine.Stage.TheVariants.{Waiting, Drawn, Held, Given}
-use Rattle.amr_phase.specs.Plans.{PlanOf, total, puts_of, adds_of, no_post}
-use Rattle.amr_phase.specs.Machine.{CoreOf, is_with, is_waiting, stage_of, task_at, word_of, next_of, next_at, at_task, after_take, after_put, after_add, after_give, drawn as drawn_in, can_draw}
+use Rattle.amr_phase.specs.Plans.{PlanOf, puts_of, adds_of, no_post}
+use Rattle.amr_phase.specs.Machine.{CoreOf, is_with, stage_of, task_at, word_of, next_of, next_at, at_task, held_at, hold_in, hold_of, after_take, after_put, after_add, after_give}
 use Rattle.amr_phase.specs.Laws.{IsConsistent}
-use Rattle.amr_phase.proofs.Sums.{same_default}
-use Rattle.amr_phase.proofs.Consistent.{none_passes}
-use Rattle.amr_board.specs.declared.view.Deed.TheVariants.{Draw, Take, Put, Add, Face, Give}
+use Rattle.amr_phase.proofs.Finding.{none_passes}
+use Rattle.std.specs.Option.{option_and_then}
+use Rattle.amr_board.specs.declared.view.Deed.TheVariants.{Take, Put, Add, Face, Give}
 use Rattle.amr_board.specs.declared.view.Progress.{Progress}
 use Rattle.amr_board.specs.declared.view.View.{View}
-use Rattle.amr_board.specs.Views.{current, no_progress, IsHolding, HoldsNone, IsNextPut, IsNextAdd, drawn, gone, after_draw, taking, put_done, add_done, looked, giving}
+use Rattle.amr_board.specs.Views.{current, no_progress, IsHolding, IsNextPut, IsNextAdd, taking, put_done, add_done, looked, giving}
 use Rattle.amr_board.specs.Core.{Shows, event_of, stage_shown}
-use Rattle.amr_board.specs.Rule.{Sentences, numbers}
-use Rattle.amr_board.proofs.Sums.{get_first, got, in_range_at, some_member}
-use Rattle.amr_board.proofs.Keeping.{hit, hit_in, hit_is}
+use Rattle.amr_board.specs.Rule.{Sentences}
+use Rattle.amr_board.proofs.Sums.{get_first, in_range_at}
 
 pub given_is : (b : Bool) (s : Stage) → b ≡ true → cond b Given s ≡ Given
 given_is true s e = refl
@@ -190,6 +189,9 @@ module _ {P : Type 0} (plan : PlanOf) (pieces : List P) (becomes : P → P → T
         ∙ (ap (λ b. cond b Given (cond (current v).taken (Held id (current v).puts (current v).adds) (Drawn id))) ungiven
         ∙ ap (λ b. cond b (Held id (current v).puts (current v).adds) (Drawn id)) taken)
 
+    hold_here : hold_of c id ≡ Some (record { task = (current v).task; worker = id; puts = (current v).puts; adds = (current v).adds })
+    hold_here = ap (λ b. cond b (hold_in c (position (is_with id) c.stages)) None) here ∙ (ap (hold_in c) (position_is held ungiven) ∙ ap (held_at (current v).task) stage_held)
+
     shown_held : (e : Progress) → e.given ≡ false → e.taken ≡ true → Held id e.puts e.adds ≡ stage_shown id e
     shown_held e g k = sym (ap (λ b. cond b Given (cond e.taken (Held id e.puts e.adds) (Drawn id))) g ∙ ap (λ b. cond b (Held id e.puts e.adds) (Drawn id)) k)
 
@@ -198,14 +200,12 @@ module _ {P : Type 0} (plan : PlanOf) (pieces : List P) (becomes : P → P → T
   give_event homes holding puts adds =
       let e = current v in
       let n : ℕ = e.task in
-      let st = stage_held holding.held holding.ungiven holding.is_taken in
       let all_puts : (e.puts == length (task_at c n).puts) ≡ true = eq-eqb e.puts (length (task_at c n).puts) (puts ∙ ap (λ (q : PlanOf). length (puts_of q n)) (sym shows.plan_is)) in
       let all_adds : (e.adds == length (task_at c n).adds) ≡ true = eq-eqb e.adds (length (task_at c n).adds) (adds ∙ ap (λ (q : PlanOf). length (adds_of q n)) (sym shows.plan_is)) in
       let d : CoreOf = record c { stages = set c.stages n Given } in (
         d,
-        at_event holding.held holding.ungiven (after_give c)
-            ∙ (ap (after_give c n) st
-            ∙ (ap (λ b. cond b (cond (e.adds == length (task_at c n).adds) (Some d) None) None) all_puts ∙ ap (λ b. cond b (Some d) None) all_adds)),
+        ap (option_and_then (after_give c)) (hold_here holding.held holding.ungiven holding.is_taken)
+            ∙ (ap (λ b. cond b (cond (e.adds == length (task_at c n).adds) (Some d) None) None) all_puts ∙ ap (λ b. cond b (Some d) None) all_adds),
         shows_moved holding.held holding.ungiven s.words homes (giving v) (record e { given = true }) Given c.faces c.totals refl refl live refl refl refl shows.faces shows.words,
       )
 
@@ -216,7 +216,6 @@ module _ {P : Type 0} (plan : PlanOf) (pieces : List P) (becomes : P → P → T
       let n : ℕ = e.task in
       let holding = ready.holding in
       let e' : Progress = record e { puts = e.puts + 1 } in
-      let st = stage_held holding.held holding.ungiven holding.is_taken in
       let puts_same : (task_at c n).puts ≡ puts_of v.plan n = ap (λ (q : PlanOf). puts_of q n) (shows.plan_is ∙ sym same) in
       let more : nat_lt e.puts (length (task_at c n).puts) ≡ true = lt-ltb e.puts (length (task_at c n).puts) (subst (λ (l : List Post). e.puts < length l) (sym puts_same) ready.left) in
       let post : get_or (task_at c n).puts e.puts no_post ≡ record { at = place; amount = amount } = ap (λ (l : List Post). get_or l e.puts no_post) puts_same ∙ ready.post in
@@ -224,9 +223,8 @@ module _ {P : Type 0} (plan : PlanOf) (pieces : List P) (becomes : P → P → T
       let inside : 1 + place < length s.words = (let k = size in omega arith) in
       let len : place < length c.faces = (let k = good.face_count in let p = ap (λ (q : PlanOf). q.places) shows.plan_is in omega arith) in (
         to (record { at = place; amount = amount }),
-        at_event holding.held holding.ungiven (after_put c)
-            ∙ (ap (after_put c n) st
-            ∙ (ap (λ b. cond b (Some (to (get_or (task_at c n).puts e.puts no_post))) None) more ∙ ap (λ (x : Post). Some (to x)) post)),
+        ap (option_and_then (after_put c)) (hold_here holding.held holding.ungiven holding.is_taken)
+            ∙ (ap (λ b. cond b (Some (to (get_or (task_at c n).puts e.puts no_post))) None) more ∙ ap (λ (x : Post). Some (to x)) post),
         shows_moved holding.held holding.ungiven (set s.words (1 + place) (amount + 1)) s.homes (put_done v place) e' (Held id (e.puts + 1) e.adds) (set c.faces place (Some amount)) c.totals
             (get_or-set_other s.words (1 + place) 0 (amount + 1) 0 (λ x. absurd (omega arith))) refl live refl refl (shown_held holding.held holding.ungiven holding.is_taken e' holding.ungiven holding.is_taken)
             (λ p p_lt. dite (ℕ_discrete p place)
@@ -246,7 +244,6 @@ module _ {P : Type 0} (plan : PlanOf) (pieces : List P) (becomes : P → P → T
       let n : ℕ = e.task in
       let holding = ready.holding in
       let e' : Progress = record e { adds = e.adds + 1 } in
-      let st = stage_held holding.held holding.ungiven holding.is_taken in
       let adds_same : (task_at c n).adds ≡ adds_of v.plan n = ap (λ (q : PlanOf). adds_of q n) (shows.plan_is ∙ sym same) in
       let more : nat_lt e.adds (length (task_at c n).adds) ≡ true = lt-ltb e.adds (length (task_at c n).adds) (subst (λ (l : List Post). e.adds < length l) (sym adds_same) ready.left) in
       let post : get_or (task_at c n).adds e.adds no_post ≡ record { at = word; amount = amount } = ap (λ (l : List Post). get_or l e.adds no_post) adds_same ∙ ready.post in
@@ -257,9 +254,8 @@ module _ {P : Type 0} (plan : PlanOf) (pieces : List P) (becomes : P → P → T
       let word_now = shows.words word lt in
       let len : word < length c.totals = (let k = good.word_count in let p = ap (λ (q : PlanOf). q.words) shows.plan_is in omega arith) in (
         to (record { at = word; amount = amount }),
-        at_event holding.held holding.ungiven (after_add c)
-            ∙ (ap (after_add c n) st
-            ∙ (ap (λ b. cond b (Some (to (get_or (task_at c n).adds e.adds no_post))) None) more ∙ ap (λ (x : Post). Some (to x)) post)),
+        ap (option_and_then (after_add c)) (hold_here holding.held holding.ungiven holding.is_taken)
+            ∙ (ap (λ b. cond b (Some (to (get_or (task_at c n).adds e.adds no_post))) None) more ∙ ap (λ (x : Post). Some (to x)) post),
         shows_moved holding.held holding.ungiven (set s.words at_word sum) s.homes (add_done v) e' (Held id e.puts (e.adds + 1)) c.faces (set c.totals word (get_or c.totals word 0 + amount))
             (get_or-set_other s.words at_word 0 sum 0 (λ x. absurd (omega arith))) refl live refl refl (shown_held holding.held holding.ungiven holding.is_taken e' holding.ungiven holding.is_taken)
             (λ p p_lt. shows.faces p p_lt ∙ sym (get_or-set_other s.words at_word (1 + p) sum 0 (λ y. absurd (omega arith))))

@@ -1,6 +1,6 @@
 -- A draw is one event of the machine that the board shows.
-use Rattle.std.proofs.Common.{◌≡◌, ◌≢◌, ℕ, zero, suc, ◌+◌, ◌<◌, ◌≤◌, ◌==◌, cond, min, Bool, true, false, true≢false, List, length, get_or, set, Some, None, refl, sym, ap, ◌∙◌, subst, ⊎_elim, arith, eq-eqb, ne_eqb, lt_of_not-le}
-use Rattle.std.specs.Prelude.{Option, nat_lt, position, slice_index_or}
+use Rattle.std.proofs.Common.{◌≡◌, ◌≢◌, ℕ, zero, suc, ◌+◌, ◌<◌, ◌≤◌, cond, min, Bool, true, false, true≢false, List, length, get_or, set, Some, None, refl, sym, ap, ◌∙◌, subst, ⊎_elim, arith, lt_of_not-le}
+use Rattle.std.specs.Prelude.{Option, position, slice_index_or}
 use mathlib.Core.Option as lookup
 use mathlib.Core.Logic.{dite}
 use native.Mathlib.Decide.{ℕ_discrete, dec_le}
@@ -11,21 +11,18 @@ use Rattle.std.proofs.lemmas.List.Quantifiers.{position-Some}
 use Rattle.std.proofs.lemmas.Bool.{lt-ltb, le-ltb}
 use Rattle.atomic_table.specs.Table.{State}
 use Rattle.atomic_table.proofs.Lists.{at_set}
-use Rattle.amr_phase.specs.declared.plan.Post.{Post}
-use Rattle.amr_phase.specs.declared.machine.Stage.{Stage}
-use Rattle.amr_phase.specs.declared.machine.Stage.TheVariants.{Waiting, Drawn, Held, Given}
-use Rattle.amr_phase.specs.Plans.{PlanOf, total, puts_of, adds_of, no_post}
-use Rattle.amr_phase.specs.Machine.{CoreOf, is_with, is_waiting, stage_of, task_at, word_of, next_of, next_at, at_task, after_take, after_put, after_add, after_give, drawn as drawn_in, can_draw}
+use Rattle.amr_phase.specs.declared.machine.Stage.TheVariants.{Drawn, Held, Given}
+use Rattle.amr_phase.specs.Plans.{PlanOf, total}
+use Rattle.amr_phase.specs.Machine.{CoreOf, is_with, is_waiting, stage_of, next_of, drawn as drawn_in, can_draw}
 use Rattle.amr_phase.specs.Laws.{IsConsistent}
 use Rattle.amr_phase.proofs.Sums.{same_default}
-use Rattle.amr_phase.proofs.Consistent.{none_passes}
-use Rattle.amr_board.specs.declared.view.Deed.TheVariants.{Draw, Take, Put, Add, Face, Give}
+use Rattle.amr_board.specs.declared.view.Deed.TheVariants.{Draw}
 use Rattle.amr_board.specs.declared.view.Progress.{Progress}
 use Rattle.amr_board.specs.declared.view.View.{View}
-use Rattle.amr_board.specs.Views.{current, no_progress, IsHolding, HoldsNone, IsNextPut, IsNextAdd, drawn, gone, after_draw, taking, put_done, add_done, looked, giving}
+use Rattle.amr_board.specs.Views.{no_progress, HoldsNone, drawn, gone, after_draw}
 use Rattle.amr_board.specs.Core.{Shows, event_of, stage_shown}
 use Rattle.amr_board.specs.Rule.{Sentences, numbers}
-use Rattle.amr_board.proofs.Sums.{get_first, got, in_range_at, some_member}
+use Rattle.amr_board.proofs.Sums.{got, in_range_at, some_member}
 use Rattle.amr_board.proofs.Keeping.{hit, hit_in, hit_is}
 use Rattle.amr_board.proofs.Showing.{given_is, not_with, here, count_tasks, older}
 

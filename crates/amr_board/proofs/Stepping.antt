@@ -5,14 +5,13 @@ use mathlib.Core.Option as lookup
 use lib.ListN.{get_elem?}
 use Rattle.atomic_table.specs.Table.{State}
 use Rattle.atomic_table.proofs.Lists.{at_set}
-use Rattle.amr_phase.specs.declared.machine.Event.{Event}
 use Rattle.amr_phase.specs.Plans.{PlanOf}
 use Rattle.amr_board.specs.declared.view.Deed.{Deed}
 use Rattle.amr_board.specs.declared.view.Deed.TheVariants.{Draw, Take, Put, Add, Face, Give}
 use Rattle.amr_board.specs.declared.view.Progress.{Progress}
 use Rattle.amr_board.specs.declared.view.View.{View}
 use Rattle.amr_board.specs.Views.{current, no_progress, IsHolding, HoldsNone, IsNextAdd, HasDone, drawn, gone, after_draw, taking, put_done, add_done, looked, giving, joined, spent_view}
-use Rattle.amr_board.specs.Core.{event_of, IsCoreOf}
+use Rattle.amr_board.specs.Core.{event_of}
 use Rattle.amr_board.specs.Rule.{Rule, Sentences, IsHome, stage}
 use Rattle.amr_board.specs.Steps.{IsSeen, Leaves, GrowsBy, HasNoEvent}
 use Rattle.amr_board.proofs.Sums.{found_at, got}

@@ -1,5 +1,5 @@
 -- Sums over views, and over the posts of their tasks.
-use Rattle.std.proofs.Common.{◌≡◌, ◌≢◌, ℕ, zero, suc, ◌+◌, ◌<◌, ◌≤◌, List, [], ◌∷◌, length, get_or, set, take, drop, refl, sym, ap, ◌∙◌, subst, ⊎_elim, arith, add-zero, zero-add, add-one}
+use Rattle.std.proofs.Common.{◌≡◌, ◌≢◌, ℕ, zero, suc, ◌+◌, ◌<◌, ◌≤◌, List, [], ◌∷◌, length, get_or, set, take, drop, refl, sym, ap, ◌∙◌, subst, ⊎_elim, arith, add-zero, zero-add}
 use mathlib.Core.Logic.{dite}
 use native.Mathlib.Decide.{ℕ_discrete}
 use mathlib.Core.Option.{some, some-ne-none, some-injective}
@@ -10,6 +10,7 @@ use Rattle.amr_phase.specs.declared.plan.Task.{Task}
 use Rattle.amr_phase.specs.Plans.{PlanOf, total, no_task}
 use Rattle.amr_board.specs.declared.view.Progress.{Progress}
 use Rattle.amr_board.specs.declared.view.View.{View}
+use Rattle.amr_phase.proofs.Sums.{total_take_drop}
 use Rattle.amr_board.specs.Rule.{weigh, numbers}
 
 module _ {X : Type 0} where
@@ -29,24 +30,6 @@ module _ {X : Type 0} where
   pub sum_both : (f g : X → ℕ) (xs : List X) → total f xs + total g xs ≡ total (λ x. f x + g x) xs
   sum_both f g [] = refl
   sum_both f g (x ∷ xs) = let h = sum_both f g xs in let r : (f x + total f xs) + (g x + total g xs) ≡ (f x + g x) + total (λ y. f y + g y) xs = omega arith in r
-
-  pub sum_take_drop : (f : X → ℕ) (xs : List X) (n : ℕ) → total f (take n xs) + total f (drop n xs) ≡ total f xs
-  sum_take_drop f xs zero = let r : 0 + total f xs ≡ total f xs = omega arith in r
-  sum_take_drop f [] (suc n) = refl
-  sum_take_drop f (x ∷ xs) (suc n) = let h = sum_take_drop f xs n in let r : (f x + total f (take n xs)) + total f (drop n xs) ≡ f x + total f xs = omega arith in r
-
-  pub sum_take_next : (f : X → ℕ) (xs : List X) (n : ℕ) (d : X) → n < length xs → total f (take (suc n) xs) ≡ total f (take n xs) + f (get_or xs n d)
-  sum_take_next f [] n d h = absurd (omega arith)
-  sum_take_next f (x ∷ xs) zero d h = let r : f x + 0 ≡ 0 + f x = omega arith in r
-  sum_take_next f (x ∷ xs) (suc n) d h = let k = sum_take_next f xs n d (omega arith) in let r : f x + total f (take (suc n) xs) ≡ (f x + total f (take n xs)) + f (get_or xs n d) = omega arith in r
-
-  pub sum_set_at : (f : X → ℕ) (xs : List X) (i : ℕ) (y d : X) → i < length xs → total f (set xs i y) + f (get_or xs i d) ≡ total f xs + f y
-  sum_set_at f [] i y d h = absurd (omega arith)
-  sum_set_at f (x ∷ xs) zero y d h = let r : (f y + total f xs) + f x ≡ (f x + total f xs) + f y = omega arith in r
-  sum_set_at f (x ∷ xs) (suc i) y d h = let k = sum_set_at f xs i y d (omega arith) in let r : (f x + total f (set xs i y)) + f (get_or xs i d) ≡ (f x + total f xs) + f y = omega arith in r
-
-  pub sum_take_one : (f : X → ℕ) (xs : List X) (n : ℕ) (d : X) → n < length xs → total f (take (n + 1) xs) ≡ total f (take n xs) + f (get_or xs n d)
-  sum_take_one f xs n d h = rw add-one (sum_take_next f xs n d h)
 
   -- what holds of each view holds still where one is replaced
   pub each_set : (Q : X → Type 0) (vs : List X) (id : ℕ) (w : X) → ((k : ℕ) (u : X) → get_elem? vs k ≡ some u → Q u) → Q w → (k : ℕ) (u : X) → get_elem? (set vs id w) k ≡ some u → Q u
@@ -97,7 +80,7 @@ module _ (plan : PlanOf) (sel : Task → List Post) (count : Progress → ℕ) (
   whole {P} m r len vs once =
       let drawn = sum_both (λ (v : View P). total done v.tasks) (λ (v : View P). total left v.tasks) vs
       ∙ (sum_ext (λ (v : View P). total done v.tasks + total left v.tasks) (numbers (λ t. total f (posts t))) vs
-      (λ v. sum_both done left v.tasks ∙ sum_ext (λ e. done e + left e) (λ (e : Progress). total f (posts e.task)) v.tasks (λ e. sum_take_drop f (posts e.task) (count e)))
+      (λ v. sum_both done left v.tasks ∙ sum_ext (λ e. done e + left e) (λ (e : Progress). total f (posts e.task)) v.tasks (λ e. total_take_drop f (posts e.task) (count e)))
       ∙ once (λ t. total f (posts t))) in
       let all : weigh (λ t. total f (posts t)) 0 (m + r) ≡ weigh (λ t. total f (posts t)) 0 m + undrawn (0 + m) r = weigh_split (λ t. total f (posts t)) 0 m r in
       let at : undrawn (0 + m) r ≡ undrawn m r = ap (λ n. undrawn n r) (zero-add m) in
@@ -108,14 +91,6 @@ pub got : {X : Type 0} (xs : List X) (i : ℕ) (x d : X) → get_elem? xs i ≡ 
 got [] i x d e = absurd (some-ne-none x (sym e))
 got (y ∷ ys) zero x d e = some-injective y x e
 got (y ∷ ys) (suc i) x d e = got ys i x d e
-
-pub zero_too : {X : Type 0} (f g : X → ℕ) (xs : List X) → ((x : X) → f x ≡ 0 → g x ≡ 0) → total f xs ≡ 0 → total g xs ≡ 0
-zero_too f g [] z h = refl
-zero_too f g (x ∷ xs) z h =
-    let h' : f x + total f xs ≡ 0 = h in
-    let a : g x ≡ 0 = z x (omega arith) in
-    let b : total g xs ≡ 0 = zero_too f g xs z (omega arith) in
-    let r : g x + total g xs ≡ 0 = omega arith in r
 
 pub weigh_zero : (f g : ℕ → ℕ) (t n : ℕ) → ((k : ℕ) → f k ≡ 0 → g k ≡ 0) → weigh f t n ≡ 0 → weigh g t n ≡ 0
 weigh_zero f g t zero z h = refl

@@ -1,5 +1,6 @@
 pub mod Piece
 pub mod Views
+pub mod Posts
 pub mod Plays
 pub mod Core
 pub mod Rule

@@ -26,7 +26,7 @@ pub struct Shape {
     pub words: u32,
 }
 
-/// Why there is no board: memory was wanting. The pieces come back.
+/// Why there is no board: out of memory. The pieces come back.
 #[derive(Drop)]
 pub enum MakeFault<P> {
     NoMemory(Vec<P>),
@@ -63,8 +63,8 @@ impl<P: Piece> Board<P> {
     ghost use Rattle.amr_board.specs.BoardOf.{IsSeatOf, view, IsEvent, IsNoEvent};
     ghost use Rattle.amr_board.specs.MakeFault.{pieces_back};
 
-    /// A board for these pieces, piece i being task i, and its first seat, which has every share. Only memory can be
-    /// wanting, and then the pieces come back.
+    /// A board for these pieces, piece i being task i, and its first seat, which has every share. It is refused
+    /// only if allocation fails, and then the pieces come back.
     pub fn make(
         alloc: Global,
         shape: Shape,

@@ -12,7 +12,10 @@ mod view;
 
 pub use board::{Board, MakeFault, Seat, Shape};
 pub use ended::Ended;
-pub use laws::{each_deed_is_one_event, running_board_is_the_core};
+pub use laws::{
+    each_deed_is_one_event, looks_alone, plans_of_pieces, posts_in_a_loop,
+    running_board_is_the_core,
+};
 pub use piece::Piece;
 pub use rule::{About, Kept};
 pub use view::{Deed, Look, Progress, View};

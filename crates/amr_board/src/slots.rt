@@ -4,7 +4,7 @@ ghost use Rattle.std.specs.Vec.{vec_capacity};
 
 use std::alloc::{AllocError, Global};
 
-/// Moves each piece into a slot, in order. The vector keeps its room. Where memory is wanting it keeps the pieces.
+/// Moves each piece into a slot, in order. The vector keeps its room. If allocation fails it keeps the pieces.
 pub fn to_slots<P: Drop>(alloc: Global, pieces: &mut Vec<P>) -> Result<Vec<Option<P>>, AllocError>
     ensures slots { MatchResult result (λ slots. slots.items ≡ map Some pieces.old.items) (λ _. pieces.new.items ≡ pieces.old.items) }
     ensures room { MatchResult result (λ slots. (pieces.new.items ≡ []) × (length slots.items ≤ vec_capacity pieces.new)) (λ _. Unit {0}) }

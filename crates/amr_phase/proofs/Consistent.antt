@@ -1,42 +1,26 @@
 -- Every event keeps the machine consistent.
 use Rattle.std.proofs.Common.{◌≡◌, ◌≢◌, ◌⊎◌, ℕ, zero, suc, ◌+◌, ◌^◌, ◌<◌, ◌≤◌, ◌==◌, cond, Bool, true, false, true≢false, List, [], ◌∷◌, length, get_or, set, take, replicate, Some, None, refl, sym, ap, ◌∙◌, subst, ⊎_elim, inl, inr, arith, eq-eqb, ne_eqb, lt_of_not-le, add-zero}
-use Rattle.std.specs.Prelude.{is_some, Option, nat_lt, nat_le, position, MatchOption, unwrap_or}
+use Rattle.std.specs.Prelude.{Option, nat_lt, nat_le, position, MatchOption, unwrap_or}
 use Rattle.std.proofs.Math.ListN.{length-set, length-replicate}
 use Rattle.std.proofs.lemmas.List.{get_or-set_same, get_or-set_other, get_or-replicate}
 use Rattle.std.proofs.lemmas.List.Quantifiers.{position-Some}
 use Rattle.std.proofs.Math.Seq.{take-length}
-use Rattle.std.proofs.lemmas.Bool.{lt-ltb, le-ltb, ltb-true, ltb-false, le-leb, lt-leb}
-use Rattle.std.specs.List.{position_or_len}
-use Rattle.std.proofs.lemmas.List.Recursion.{is_position_or_len}
+use Rattle.std.proofs.lemmas.Bool.{lt-ltb, le-ltb, ltb-true, le-leb, lt-leb}
 use mathlib.Core.Logic.{dite}
 use native.Mathlib.Decide.{ℕ_discrete, dec_le}
-use Rattle.amr_phase.specs.declared.plan.Post.{Post}
 use Rattle.amr_phase.specs.declared.plan.Task.{Task}
+use Rattle.amr_phase.specs.declared.machine.Hold.{Hold}
 use Rattle.amr_phase.specs.declared.machine.Stage.{Stage}
 use Rattle.amr_phase.specs.declared.machine.Stage.TheVariants.{Waiting, Drawn, Held, Given}
 use Rattle.amr_phase.specs.declared.machine.Event.{Event}
 use Rattle.amr_phase.specs.declared.machine.Event.TheVariants.{Draw, Take, Put, Add, Face, Give}
-use Rattle.amr_phase.specs.Plans.{total, added, stored, named, no_task, no_post, planned_total, planned_face, PlanOf, IsPlan}
-use Rattle.amr_phase.specs.Machine.{CoreOf, is_with, is_waiting, puts_done, total2, adds_sum, puts_sum, puts_count, word_of, stage_of, task_at, drawn, can_draw, after_take, after_put, after_add, after_give, at_task, next_at, next_of, after, fresh}
+use Rattle.amr_phase.specs.Plans.{total, added, stored, named, no_post, planned_total, planned_face, PlanOf, IsPlan}
+use Rattle.amr_phase.specs.Machine.{CoreOf, is_with, is_waiting, puts_done, total2, adds_sum, puts_sum, puts_count, word_of, stage_of, task_at, drawn, can_draw, held_at, hold_in, hold_of, after_take, after_put, after_add, after_give, at_task, next_at, next_of, after, fresh}
 use Rattle.amr_phase.specs.Laws.{IsConsistent}
+use Rattle.std.specs.Option.{option_and_then}
+use Rattle.amr_phase.proofs.Totals.{total2_set, zero2, le2, unnamed}
+use Rattle.amr_phase.proofs.Finding.{at_set, same_of, none_passes, any_default}
 use Rattle.amr_phase.proofs.Sums.{total_more, total_take, total_set, zero_too}
-
-pub total2_set : (f : Task → Stage → ℕ) (ts : List Task) (ss : List Stage) (i : ℕ) (s : Stage) → length ss ≡ length ts → i < length ss
-    → total2 f ts (set ss i s) + f (get_or ts i no_task) (get_or ss i Given) ≡ total2 f ts ss + f (get_or ts i no_task) s
-total2_set f [] [] i s len lt = absurd (omega arith)
-total2_set f [] (x ∷ ss) i s len lt = absurd (omega arith)
-total2_set f (t ∷ ts) [] i s len lt = absurd (omega arith)
-total2_set f (t ∷ ts) (x ∷ ss) zero s len lt = let r : (f t s + total2 f ts ss) + f t x ≡ (f t x + total2 f ts ss) + f t s = omega arith in r
-total2_set f (t ∷ ts) (x ∷ ss) (suc i) s len lt =
-    let h = total2_set f ts ss i s (omega arith) (omega arith) in
-    let r : (f t x + total2 f ts (set ss i s)) + f (get_or ts i no_task) (get_or ss i Given) ≡ (f t x + total2 f ts ss) + f (get_or ts i no_task) s = omega arith in r
-
--- what holds at each place holds after one is replaced
-at_set : {X : Type 0} (Q : ℕ → X → Type 0) (xs : List X) (i : ℕ) (y d : X) → i < length xs → ((j : ℕ) → j ≢ i → Q j (get_or xs j d)) → Q i y → (j : ℕ) → Q j (get_or (set xs i y) j d)
-at_set Q xs i y d lt others mine j =
-    dite (ℕ_discrete j i)
-    (λ e. subst (λ k. Q k (get_or (set xs i y) k d)) (sym e) (subst (Q i) (sym (get_or-set_same xs i y d lt)) mine))
-    (λ ne. subst (Q j) (sym (get_or-set_other xs i j y d ne)) (others j ne))
 
 abbrev one_if : Bool → ℕ
 one_if b = cond b 1 0
@@ -67,36 +51,6 @@ module _ (c : CoreOf) (h : IsConsistent c) (t : ℕ) (s : Stage) (lt : t < lengt
         counter_fits = rw count h.counter_fits;
       }
 
-same_of : (a b : ℕ) → (a == b) ≡ true → a ≡ b
-same_of a b h = dite (ℕ_discrete a b) (λ e. e) (λ ne. absurd (true≢false (sym h ∙ ne_eqb a b ne)))
-
-first : {X : Type 0} → (X → Bool) → List X → ℕ
-first p [] = 0
-first p (x ∷ xs) = cond (p x) 0 (1 + first p xs)
-
-first_is : {X : Type 0} (p : X → Bool) (xs : List X) → first p xs ≡ position_or_len p xs
-unfolding first
-first_is p xs = is_position_or_len (first p) p refl (λ x xs. refl) xs
-
-first_none : {X : Type 0} (p : X → Bool) (xs : List X) (d : X) → p d ≡ false → length xs ≤ first p xs → (k : ℕ) → p (get_or xs k d) ≡ false
-unfolding first
-first_none p [] d never le k = never
-first_none p (x ∷ xs) d never le k = by_test (p x) refl (λ le'. first_none p xs d never le') k
-  where
-    by_test : (b : Bool) → p x ≡ b → (length xs ≤ first p xs → (k : ℕ) → p (get_or xs k d) ≡ false) → (k : ℕ) → p (get_or (x ∷ xs) k d) ≡ false
-    by_test true e go k = absurd (let l : suc (length xs) ≤ 0 = subst (λ b. suc (length xs) ≤ cond b 0 (1 + first p xs)) e le in omega arith)
-    by_test false e go zero = e
-    by_test false e go (suc k) = go (let l : suc (length xs) ≤ 1 + first p xs = subst (λ b. suc (length xs) ≤ cond b 0 (1 + first p xs)) e le in omega arith) k
-
-some_or : (b : Bool) (n : ℕ) → cond b (Some n) None ≡ None → b ≡ false
-some_or true n e = absurd (cc)
-some_or false n e = refl
-
--- where no place passes, none does
-pub none_passes : {X : Type 0} (p : X → Bool) (xs : List X) (d : X) → p d ≡ false → position p xs ≡ None → (k : ℕ) → p (get_or xs k d) ≡ false
-none_passes p xs d never e =
-    first_none p xs d never (subst (λ n. length xs ≤ n) (sym (first_is p xs)) (ltb-false (position_or_len p xs) (length xs) (some_or (nat_lt (position_or_len p xs) (length xs)) (position_or_len p xs) e)))
-
 -- a state after an event, if the event was enabled, is good
 abbrev pub Fine : Option CoreOf → Type 0
 Fine o = MatchOption o (Unit {0}) IsConsistent
@@ -114,10 +68,11 @@ keeps_taken c h t (Drawn v) lt e =
 keeps_taken c h t (Held v p a) lt e = tt
 keeps_taken c h t Given lt e = tt
 
-pub keeps_given : (c : CoreOf) (h : IsConsistent c) (t : ℕ) (s : Stage) → t < length c.stages → stage_of c t ≡ s → Fine (after_give c t s)
-keeps_given c h t Waiting lt e = tt
-keeps_given c h t (Drawn v) lt e = tt
-keeps_given c h t (Held v p a) lt e =
+pub keeps_given : (c : CoreOf) (h : IsConsistent c) (x : Hold) → x.task < length c.stages → stage_of c x.task ≡ Held x.worker x.puts x.adds → Fine (after_give c x)
+keeps_given c h x lt e =
+    let t = x.task in
+    let p = x.puts in
+    let a = x.adds in
     fine_if (p == length (task_at c t).puts) _ (λ puts.
     fine_if (a == length (task_at c t).adds) _ (λ adds.
     let p_is : p ≡ length (task_at c t).puts = same_of p (length (task_at c t).puts) puts in
@@ -125,12 +80,13 @@ keeps_given c h t (Held v p a) lt e =
     keeps_moved c h t Given lt (sym (ap is_waiting e)) (λ w is. absurd (true≢false (sym is))) c.faces c.totals refl refl
     (λ w _. ap (λ x. get_or c.totals w 0 + adds_sum w (task_at c t) x) e ∙ ap (λ l. get_or c.totals w 0 + total (added w) l) (ap (λ n. take n (task_at c t).adds) a_is ∙ take-length (task_at c t).adds))
     (λ q _. ap (λ x. word_of (get_or c.faces q None) + puts_sum q (task_at c t) x) e ∙ ap (λ l. word_of (get_or c.faces q None) + total (stored q) l) (ap (λ n. take n (task_at c t).puts) p_is ∙ take-length (task_at c t).puts))))
-keeps_given c h t Given lt e = tt
 
-pub keeps_add : (c : CoreOf) (h : IsConsistent c) (t : ℕ) (s : Stage) → t < length c.stages → stage_of c t ≡ s → Fine (after_add c t s)
-keeps_add c h t Waiting lt e = tt
-keeps_add c h t (Drawn v) lt e = tt
-keeps_add c h t (Held v p a) lt e =
+pub keeps_add : (c : CoreOf) (h : IsConsistent c) (x : Hold) → x.task < length c.stages → stage_of c x.task ≡ Held x.worker x.puts x.adds → Fine (after_add c x)
+keeps_add c h held lt e =
+    let t = held.task in
+    let v = held.worker in
+    let p = held.puts in
+    let a = held.adds in
     fine_if (nat_lt a (length (task_at c t).adds)) _ (λ more.
     let x = get_or (task_at c t).adds a no_post in
     let a_lt = ltb-true a (length (task_at c t).adds) more in
@@ -147,30 +103,6 @@ keeps_add c h t (Held v p a) lt e =
     ) in
     omega arith)
     (λ q _. ap (λ y. word_of (get_or c.faces q None) + puts_sum q (task_at c t) y) e))
-keeps_add c h t Given lt e = tt
-
-pub zero2 : (f g : Task → Stage → ℕ) (ts : List Task) (ss : List Stage) → ((t : Task) (s : Stage) → f t s ≡ 0 → g t s ≡ 0) → total2 f ts ss ≡ 0 → total2 g ts ss ≡ 0
-zero2 f g [] ss z h = refl
-zero2 f g (t ∷ ts) [] z h = refl
-zero2 f g (t ∷ ts) (s ∷ ss) z h =
-    let h' : f t s + total2 f ts ss ≡ 0 = h in
-    let a : g t s ≡ 0 = z t s (omega arith) in
-    let b : total2 g ts ss ≡ 0 = zero2 f g ts ss z (omega arith) in
-    let r : g t s + total2 g ts ss ≡ 0 = omega arith in r
-
-le2 : (f : Task → Stage → ℕ) (g : Task → ℕ) (ts : List Task) (ss : List Stage) → ((t : Task) (s : Stage) → f t s ≤ g t) → total2 f ts ss ≤ total g ts
-le2 f g [] ss le = let r : 0 ≤ 0 = omega arith in r
-le2 f g (t ∷ ts) [] le = let r : 0 ≤ g t + total g ts = omega arith in r
-le2 f g (t ∷ ts) (s ∷ ss) le =
-    let a = le t s in let b = le2 f g ts ss le in
-    let r : f t s + total2 f ts ss ≤ g t + total g ts = omega arith in r
-
-one_is_not : {X : Type 0} (n : ℕ) → n ≡ 1 → n ≡ 0 → X
-one_is_not n a b = absurd (omega arith)
-
-pub unnamed : (p : ℕ) (x : Post) → named p x ≡ 0 → stored p x ≡ 0
-unnamed p x =
-    elim (x.at == p) as (λ b. cond {A = ℕ} b 1 0 ≡ 0 → cond {A = ℕ} b (x.amount + 1) 0 ≡ 0) [ true ↦ one_is_not 1 refl | false ↦ λ _. refl ]
 
 puts_count_le : (p : ℕ) (t : Task) (s : Stage) → puts_count p t s ≤ total (named p) t.puts
 puts_count_le p t Waiting = let r : 0 ≤ total (named p) t.puts = omega arith in r
@@ -192,10 +124,12 @@ empty_place c h t v p a lt e p_lt =
     let apart = h.is_plan.apart q in
     zero2 (puts_count q) (puts_sum q) c.plan.tasks c.stages (λ y s. zero_too (named q) (stored q) (puts_done y s) (unnamed q)) (omega arith)
 
-pub keeps_put : (c : CoreOf) (h : IsConsistent c) (t : ℕ) (s : Stage) → t < length c.stages → stage_of c t ≡ s → Fine (after_put c t s)
-keeps_put c h t Waiting lt e = tt
-keeps_put c h t (Drawn v) lt e = tt
-keeps_put c h t (Held v p a) lt e =
+pub keeps_put : (c : CoreOf) (h : IsConsistent c) (x : Hold) → x.task < length c.stages → stage_of c x.task ≡ Held x.worker x.puts x.adds → Fine (after_put c x)
+keeps_put c h held lt e =
+    let t = held.task in
+    let v = held.worker in
+    let p = held.puts in
+    let a = held.adds in
     fine_if (nat_lt p (length (task_at c t).puts)) _ (λ more.
     let x = get_or (task_at c t).puts p no_post in
     let p_lt = ltb-true p (length (task_at c t).puts) more in
@@ -216,7 +150,6 @@ keeps_put c h t (Held v p a) lt e =
     let now = ap word_of (get_or-set_other c.faces x.at q (Some x.amount) None ne) in omega arith)
     ) in
     omega arith))
-keeps_put c h t Given lt e = tt
 
 -- a waiting task has done nothing
 idle_adds : (s : Stage) (w : ℕ) (t : Task) → is_waiting s ≡ true → adds_sum w t s ≡ 0
@@ -307,6 +240,33 @@ keeps_at c h w f each (Some t) e = each t (stage_of c t) (position-Some (is_with
 keeps_next_at : (c : CoreOf) (h : IsConsistent c) (w : ℕ) (f : ℕ → Stage → Option CoreOf) → ((t : ℕ) (s : Stage) → t < length c.stages → stage_of c t ≡ s → Fine (f t s)) → Fine (next_at c w f)
 keeps_next_at c h w f each = fine_if (nat_lt w (length c.past)) _ (λ _. keeps_at c h w f each (position (is_with w) c.stages) refl)
 
+-- the task that a worker holds is one of the stages, with so many of its posts made
+pub hold_is : (c : CoreOf) (w : ℕ) (x : Hold) → hold_of c w ≡ Some x → (x.task < length c.stages) × (stage_of c x.task ≡ Held x.worker x.puts x.adds)
+hold_is c w x = by_test (nat_lt w (length c.past))
+  where
+    by_stage : (t : ℕ) (s : Stage) → t < length c.stages → stage_of c t ≡ s → held_at t s ≡ Some x → (x.task < length c.stages) × (stage_of c x.task ≡ Held x.worker x.puts x.adds)
+    by_stage t Waiting lt is e = absurd (cc)
+    by_stage t (Drawn v) lt is e = absurd (cc)
+    by_stage t (Held v p a) lt is e =
+        let same : record { task = t; worker = v; puts = p; adds = a } ≡ x = cc in
+        subst (λ (y : Hold). (y.task < length c.stages) × (stage_of c y.task ≡ Held y.worker y.puts y.adds)) same (lt, is)
+    by_stage t Given lt is e = absurd (cc)
+
+    by_place : (o : Option ℕ) → position (is_with w) c.stages ≡ o → hold_in c o ≡ Some x → (x.task < length c.stages) × (stage_of c x.task ≡ Held x.worker x.puts x.adds)
+    by_place None at e = absurd (cc)
+    by_place (Some t) at e = by_stage t (stage_of c t) (position-Some (is_with w) c.stages t Given at).0 refl e
+
+    by_test : (b : Bool) → cond b (hold_in c (position (is_with w) c.stages)) None ≡ Some x → (x.task < length c.stages) × (stage_of c x.task ≡ Held x.worker x.puts x.adds)
+    by_test true e = by_place (position (is_with w) c.stages) refl e
+    by_test false e = absurd (cc)
+
+keeps_held : (c : CoreOf) (w : ℕ) (f : Hold → Option CoreOf) → ((x : Hold) → x.task < length c.stages → stage_of c x.task ≡ Held x.worker x.puts x.adds → Fine (f x)) → Fine (option_and_then f (hold_of c w))
+keeps_held c w f each = go (hold_of c w) refl
+  where
+    go : (o : Option Hold) → hold_of c w ≡ o → Fine (option_and_then f o)
+    go None e = tt
+    go (Some x) e = let is = hold_is c w x e in each x is.0 is.1
+
 -- an event that is enabled keeps the machine good
 pub keeps_next : (c : CoreOf) → IsConsistent c → (e : Event) → Fine (next_of c e)
 keeps_next c h (Draw w) =
@@ -314,10 +274,10 @@ keeps_next c h (Draw w) =
     let k = draw_conditions (position (is_with w) c.stages) (get_or c.past w true) can in
     keeps_draw_in c h w (ltb-true w (length c.past) lt) (none_passes (is_with w) c.stages Given refl k.0) k.1))
 keeps_next c h (Take w) = keeps_next_at c h w (after_take c) (keeps_taken c h)
-keeps_next c h (Put w) = keeps_next_at c h w (after_put c) (keeps_put c h)
-keeps_next c h (Add w) = keeps_next_at c h w (after_add c) (keeps_add c h)
+keeps_next c h (Put w) = keeps_held c w (after_put c) (keeps_put c h)
+keeps_next c h (Add w) = keeps_held c w (after_add c) (keeps_add c h)
 keeps_next c h (Face w p) = fine_if (nat_lt w (length c.past)) _ (λ _. fine_if (nat_lt p c.plan.places) _ (λ _. h))
-keeps_next c h (Give w) = keeps_next_at c h w (after_give c) (keeps_given c h)
+keeps_next c h (Give w) = keeps_held c w (after_give c) (keeps_given c h)
 
 keeps_or : (o : Option CoreOf) (c : CoreOf) → Fine o → IsConsistent c → IsConsistent (unwrap_or o c)
 keeps_or None c f h = h
@@ -371,22 +331,10 @@ words_end c h all w lt = h.words w lt ∙ all_given (adds_sum w) (λ (t : Task).
 pub places_end : (c : CoreOf) → IsConsistent c → ((k : ℕ) → k < length c.stages → stage_of c k ≡ Given) → (p : ℕ) → p < c.plan.places → word_of (get_or c.faces p None) ≡ planned_face c.plan p
 places_end c h all p lt = h.places p lt ∙ all_given (puts_sum p) (λ (t : Task). total (stored p) t.puts) c.plan.tasks c.stages h.stage_count (λ t. refl) all
 
-pub any_default : {X : Type 0} (xs : List X) (i : ℕ) (x d : X) → i < length xs → x ≡ get_or xs i x → get_or xs i d ≡ x
-any_default [] i x d lt e = absurd (omega arith)
-any_default (y ∷ ys) zero x d lt e = sym e
-any_default (y ∷ ys) (suc i) x d lt e = any_default ys i x d (omega arith) e
-
 pub ones_le : (bs : List Bool) → total one_if bs ≤ length bs
 ones_le [] = let r : 0 ≤ 0 = omega arith in r
 ones_le (true ∷ bs) = let h = ones_le bs in let r : 1 + total one_if bs ≤ suc (length bs) = omega arith in r
 ones_le (false ∷ bs) = let h = ones_le bs in let r : 0 + total one_if bs ≤ suc (length bs) = omega arith in r
-
-pub did : (c d : CoreOf) (w t : ℕ) (f : ℕ → Stage → Option CoreOf) → nat_lt w (length c.past) ≡ true → position (is_with w) c.stages ≡ Some t → f t (stage_of c t) ≡ Some d
-    → MatchOption (next_at c w f) ((true ≡ false) × (d ≡ c)) (λ n. (true ≡ true) × (d ≡ n))
-did c d w t f lt at is =
-    subst (λ (b : Bool). MatchOption (cond b (at_task c w f (position (is_with w) c.stages)) None) ((true ≡ false) × (d ≡ c)) (λ n. (true ≡ true) × (d ≡ n))) (sym lt)
-    (subst (λ (o : Option ℕ). MatchOption (at_task c w f o) ((true ≡ false) × (d ≡ c)) (λ n. (true ≡ true) × (d ≡ n))) (sym at)
-    (subst (λ (o : Option CoreOf). MatchOption o ((true ≡ false) × (d ≡ c)) (λ n. (true ≡ true) × (d ≡ n))) (sym is) (refl, refl)))
 
 pub fine_true : (b : Bool) (d : CoreOf) → b ≡ true → Fine (cond b (Some d) None) → IsConsistent d
 fine_true true d e f = f
@@ -415,7 +363,3 @@ add_fits c h t v p a lt e a_lt =
     adds_le w y (Drawn u) = let r : 0 ≤ total (added w) y.adds = omega arith in r
     adds_le w y (Held u n k) = total_take (added w) y.adds k
     adds_le w y Given = let r : total (added w) y.adds ≤ total (added w) y.adds = omega arith in r
-
-pub none_of : {X : Type 0} (o : Option X) → is_some o ≡ false → o ≡ None
-none_of None e = refl
-none_of (Some x) e = absurd (true≢false e)

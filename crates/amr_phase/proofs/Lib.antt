@@ -1,5 +1,8 @@
 pub mod Sums
+pub mod Totals
+pub mod Finding
 pub mod Plans
+pub mod Layouts
 pub mod Consistent
 pub mod Reached
 pub mod Steps

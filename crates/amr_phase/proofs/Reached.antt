@@ -1,5 +1,5 @@
 -- What holds of every reached state.
-use Rattle.std.proofs.Common.{◌≡◌, ℕ, zero, suc, ◌+◌, ◌<◌, true, true≢false, List, [], ◌∷◌, length, take, drop, Some, None, refl, sym, ap, ◌∙◌, subst, inl, inr, arith, add-one}
+use Rattle.std.proofs.Common.{◌≡◌, ℕ, suc, ◌+◌, ◌<◌, true, true≢false, List, [], ◌∷◌, length, drop, Some, None, refl, sym, ap, ◌∙◌, subst, inl, inr, arith, add-one}
 use Rattle.std.specs.Prelude.{Option}
 use mathlib.Core.Logic.{dite}
 use native.Mathlib.Decide.{ℕ_discrete}
@@ -10,9 +10,10 @@ use Rattle.amr_phase.specs.declared.machine.Stage.TheVariants.{Waiting, Drawn, H
 use Rattle.amr_phase.specs.Plans.{total, named, stored, planned_face}
 use Rattle.amr_phase.specs.Machine.{CoreOf, fresh, is_given, puts_done, total2, puts_sum, puts_count, word_of, stage_of}
 use Rattle.amr_phase.specs.Laws.{IsReached, IsConsistent, PlacesAreEmptyOrPlanned, DrawnAreBelowCounter, EndsAsPlanned, place_of, puts_made, value_in}
-use Rattle.amr_phase.proofs.Sums.{zero_too}
+use Rattle.amr_phase.proofs.Sums.{zero_too, total_take_drop}
 use Rattle.amr_phase.proofs.Plans.{passes_at}
-use Rattle.amr_phase.proofs.Consistent.{keeps_after, keeps_fresh, words_end, places_end, unnamed, zero2}
+use Rattle.amr_phase.proofs.Consistent.{keeps_after, keeps_fresh, words_end, places_end}
+use Rattle.amr_phase.proofs.Totals.{unnamed, zero2}
 
 pub consistent : (c : CoreOf) → IsReached c → IsConsistent c
 consistent c r = subst IsConsistent (sym r.reached) (keeps_after (fresh r.plan r.workers) (keeps_fresh r.plan r.workers r.is_plan) r.events)
@@ -24,15 +25,10 @@ puts_left t (Drawn v) = t.puts
 puts_left t (Held v p a) = drop p t.puts
 puts_left t Given = []
 
-sum_take_drop : (f : Post → ℕ) (xs : List Post) (n : ℕ) → total f (take n xs) + total f (drop n xs) ≡ total f xs
-sum_take_drop f xs zero = let r : 0 + total f xs ≡ total f xs = omega arith in r
-sum_take_drop f [] (suc n) = refl
-sum_take_drop f (x ∷ xs) (suc n) = let h = sum_take_drop f xs n in let r : (f x + total f (take n xs)) + total f (drop n xs) ≡ f x + total f xs = omega arith in r
-
 done_and_left : (f : Post → ℕ) (t : Task) (s : Stage) → total f (puts_done t s) + total f (puts_left t s) ≡ total f t.puts
 done_and_left f t Waiting = let r : 0 + total f t.puts ≡ total f t.puts = omega arith in r
 done_and_left f t (Drawn v) = let r : 0 + total f t.puts ≡ total f t.puts = omega arith in r
-done_and_left f t (Held v p a) = sum_take_drop f t.puts p
+done_and_left f t (Held v p a) = total_take_drop f t.puts p
 done_and_left f t Given = let r : total f t.puts + 0 ≡ total f t.puts = omega arith in r
 
 all_parts : (f : Post → ℕ) (ts : List Task) (ss : List Stage) → length ss ≡ length ts

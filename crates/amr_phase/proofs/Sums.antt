@@ -1,5 +1,5 @@
 -- Sums over lists.
-use Rattle.std.proofs.Common.{◌≡◌, ℕ, zero, suc, ◌+◌, ◌<◌, ◌≤◌, min, List, [], ◌∷◌, length, get_or, set, take, refl, arith, add-one}
+use Rattle.std.proofs.Common.{◌≡◌, ℕ, zero, suc, ◌+◌, ◌<◌, ◌≤◌, min, List, [], ◌∷◌, length, get_or, set, take, drop, refl, arith, add-one}
 use Rattle.amr_phase.specs.Plans.{total}
 
 module _ {X : Type 0} where
@@ -21,6 +21,11 @@ module _ {X : Type 0} where
   total_take f xs zero = let r : 0 ≤ total f xs = omega arith in r
   total_take f [] (suc n) = let r : 0 ≤ 0 = omega arith in r
   total_take f (x ∷ xs) (suc n) = let h = total_take f xs n in let r : f x + total f (take n xs) ≤ f x + total f xs = omega arith in r
+
+  pub total_take_drop : (f : X → ℕ) (xs : List X) (n : ℕ) → total f (take n xs) + total f (drop n xs) ≡ total f xs
+  total_take_drop f xs zero = let r : 0 + total f xs ≡ total f xs = omega arith in r
+  total_take_drop f [] (suc n) = refl
+  total_take_drop f (x ∷ xs) (suc n) = let h = total_take_drop f xs n in let r : (f x + total f (take n xs)) + total f (drop n xs) ≡ f x + total f xs = omega arith in r
 
   -- where each value is 0, so is the sum
   pub total_zero : (f : X → ℕ) (xs : List X) (d : X) → ((i : ℕ) → i < length xs → f (get_or xs i d) ≡ 0) → total f xs ≡ 0

@@ -1,8 +1,10 @@
 -- The machine as plain data, and what each event does to it. (profile)
 use Rattle.std.specs.Prelude.{ℕ, ◌+◌, ◌==◌, ◌≡◌, Bool, true, false, if◌then◌else◌, List, [], ◌∷◌, take, length, replicate, slice_index, slice_index_or, slice_set, nat_lt, Option, Some, None, position, unwrap_or, MatchOption}
 use Rattle.std.specs.List.{list_all}
+use Rattle.std.specs.Option.{option_and_then}
 use Rattle.amr_phase.specs.declared.plan.Post.{Post}
 use Rattle.amr_phase.specs.declared.plan.Task.{Task}
+use Rattle.amr_phase.specs.declared.machine.Hold.{Hold}
 use Rattle.amr_phase.specs.declared.machine.Stage.{Stage}
 use Rattle.amr_phase.specs.declared.machine.Stage.TheVariants.{Waiting, Drawn, Held, Given}
 use Rattle.amr_phase.specs.declared.machine.Event.{Event}
@@ -113,33 +115,12 @@ after_take c t (Drawn v) = Some (with_stage c t (Held v 0 0))
 after_take c t (Held v p a) = None
 after_take c t Given = None
 
--- the next put's place holds its value
-abbrev pub after_put : CoreOf → ℕ → Stage → Option CoreOf
-after_put c t Waiting = None
-after_put c t (Drawn v) = None
-after_put c t (Held v p a) =
-    if nat_lt p (length (task_at c t).puts) then
-    (let x = slice_index_or (task_at c t).puts p no_post in Some (record (with_stage c t (Held v (p + 1) a)) { faces = slice_set c.faces x.at (Some x.amount) }))
-    else None
-after_put c t Given = None
-
--- the next add's word rises by its amount
-abbrev pub after_add : CoreOf → ℕ → Stage → Option CoreOf
-after_add c t Waiting = None
-after_add c t (Drawn v) = None
-after_add c t (Held v p a) =
-    if nat_lt a (length (task_at c t).adds) then
-    (let x = slice_index_or (task_at c t).adds a no_post in Some (record (with_stage c t (Held v p (a + 1))) { totals = slice_set c.totals x.at (slice_index c.totals x.at + x.amount) }))
-    else None
-after_add c t Given = None
-
--- the task is given back where no post is left
-abbrev pub after_give : CoreOf → ℕ → Stage → Option CoreOf
-after_give c t Waiting = None
-after_give c t (Drawn v) = None
-after_give c t (Held v p a) =
-    if p == length (task_at c t).puts then (if a == length (task_at c t).adds then Some (with_stage c t Given) else None) else None
-after_give c t Given = None
+-- what is made of a task at this stage, if it is held
+abbrev pub held_at : ℕ → Stage → Option Hold
+held_at t Waiting = None
+held_at t (Drawn v) = None
+held_at t (Held v p a) = Some (record { task = t; worker = v; puts = p; adds = a })
+held_at t Given = None
 
 -- at the task that the worker has, if it has one
 abbrev pub at_task : CoreOf → ℕ → (ℕ → Stage → Option CoreOf) → Option ℕ → Option CoreOf
@@ -149,14 +130,43 @@ at_task c w f (Some t) = f t (stage_of c t)
 abbrev pub next_at : CoreOf → ℕ → (ℕ → Stage → Option CoreOf) → Option CoreOf
 next_at c w f = if nat_lt w (length c.past) then at_task c w f (position (is_with w) c.stages) else None
 
+-- what the worker holds, if it holds a task
+abbrev pub hold_in : CoreOf → Option ℕ → Option Hold
+hold_in c None = None
+hold_in c (Some t) = held_at t (stage_of c t)
+
+abbrev pub hold_of : CoreOf → ℕ → Option Hold
+hold_of c w = if nat_lt w (length c.past) then hold_in c (position (is_with w) c.stages) else None
+
+-- the next put's place holds its value
+abbrev pub after_put : CoreOf → Hold → Option CoreOf
+after_put c h =
+    if nat_lt h.puts (length (task_at c h.task).puts) then
+    (let x = slice_index_or (task_at c h.task).puts h.puts no_post in
+    Some (record (with_stage c h.task (Held h.worker (h.puts + 1) h.adds)) { faces = slice_set c.faces x.at (Some x.amount) }))
+    else None
+
+-- the next add's word rises by its amount
+abbrev pub after_add : CoreOf → Hold → Option CoreOf
+after_add c h =
+    if nat_lt h.adds (length (task_at c h.task).adds) then
+    (let x = slice_index_or (task_at c h.task).adds h.adds no_post in
+    Some (record (with_stage c h.task (Held h.worker h.puts (h.adds + 1))) { totals = slice_set c.totals x.at (slice_index c.totals x.at + x.amount) }))
+    else None
+
+-- the task is given back where no post is left
+abbrev pub after_give : CoreOf → Hold → Option CoreOf
+after_give c h =
+    if h.puts == length (task_at c h.task).puts then (if h.adds == length (task_at c h.task).adds then Some (with_stage c h.task Given) else None) else None
+
 -- the state after an event, where the event is enabled
 abbrev pub next_of : CoreOf → Event → Option CoreOf
 next_of c (Draw w) = after_draw c w
 next_of c (Take w) = next_at c w (after_take c)
-next_of c (Put w) = next_at c w (after_put c)
-next_of c (Add w) = next_at c w (after_add c)
+next_of c (Put w) = option_and_then (after_put c) (hold_of c w)
+next_of c (Add w) = option_and_then (after_add c) (hold_of c w)
 next_of c (Face w p) = if nat_lt w (length c.past) then (if nat_lt p c.plan.places then Some c else None) else None
-next_of c (Give w) = next_at c w (after_give c)
+next_of c (Give w) = option_and_then (after_give c) (hold_of c w)
 
 -- true and the state to come, where there is one; else false, and nothing changes
 abbrev pub Moves : Option CoreOf → CoreOf → Bool → CoreOf → Type 0

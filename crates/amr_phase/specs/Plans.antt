@@ -1,5 +1,5 @@
 -- Plans: what the tasks of a phase post, and how much of it is done. (profile)
-use Rattle.std.specs.Prelude.{ℕ, ◌+◌, ◌==◌, ◌<◌, ◌≤◌, ◌^◌, ◌&&◌, if◌then◌else◌, Bool, List, [], ◌∷◌, length, slice_index_or, nat_lt, nat_le}
+use Rattle.std.specs.Prelude.{ℕ, ◌+◌, ◌==◌, ◌≡◌, ◌<◌, ◌≤◌, ◌^◌, ◌&&◌, if◌then◌else◌, Bool, List, [], ◌∷◌, length, slice_index_or, nat_lt, nat_le}
 use Rattle.std.specs.List.{list_all}
 use Rattle.amr_phase.specs.declared.plan.Post.{Post}
 use Rattle.amr_phase.specs.declared.plan.Task.{Task}
@@ -72,4 +72,20 @@ pub record IsPlan (plan : PlanOf) : Type 0 where
   pub adds_in_range : (t k : ℕ) → k < length (adds_of plan t) → (slice_index_or (adds_of plan t) k no_post).at < plan.words
   pub apart : (place : ℕ) → puts_named plan place ≤ 1
   pub puts_fit : (t k : ℕ) → k < length (puts_of plan t) → (slice_index_or (puts_of plan t) k no_post).amount < 2 ^ 63
+  pub totals_fit : (word : ℕ) → planned_total plan word < 2 ^ 63
+
+-- put k of task t
+abbrev pub put_at : PlanOf → ℕ → ℕ → Post
+put_at plan t k = slice_index_or (puts_of plan t) k no_post
+
+-- two puts that name one place are one put
+abbrev pub PutsAreApart : PlanOf → Type 0
+PutsAreApart plan = (t k u j : ℕ) → k < length (puts_of plan t) → j < length (puts_of plan u) → (put_at plan t k).at ≡ (put_at plan u j).at → (t ≡ u) × (k ≡ j)
+
+-- A layout: numbers in range, puts apart, and what is put or added at one place or word below 2^63
+pub record IsLayout (plan : PlanOf) : Type 0 where
+  pub puts_in_range : (t k : ℕ) → k < length (puts_of plan t) → (put_at plan t k).at < plan.places
+  pub adds_in_range : (t k : ℕ) → k < length (adds_of plan t) → (slice_index_or (adds_of plan t) k no_post).at < plan.words
+  pub apart : PutsAreApart plan
+  pub puts_fit : (t k : ℕ) → k < length (puts_of plan t) → (put_at plan t k).amount < 2 ^ 63
   pub totals_fit : (word : ℕ) → planned_total plan word < 2 ^ 63

@@ -9,9 +9,9 @@ mod list;
 mod machine;
 mod plan;
 
-pub use laws::{every_list_of_events, tests_of_plans};
+pub use laws::{every_list_of_events, layouts_and_plans, tests_of_plans};
 pub use list::List;
-pub use machine::{Core, Event, Stage};
+pub use machine::{Core, Event, Hold, Stage};
 pub use plan::{Plan, Post, Task};
 
 #[cfg(test)]

@@ -1,5 +1,6 @@
 //! The machine: each event is one atomic action of one worker.
-ghost use Rattle.std.specs.Prelude.{◌≡◌, ℕ, ◌<◌, IfOk, position, slice_index};
+ghost use Rattle.std.specs.Prelude.{◌≡◌, ℕ, ◌<◌, IfOk, IfSome, length, position, slice_index};
+ghost use Rattle.std.specs.Option.{option_and_then};
 ghost use Rattle.amr_phase.specs.Plans.{PlanOf};
 ghost use Rattle.amr_phase.specs.declared.machine.Event.{Event};
 
@@ -19,6 +20,15 @@ pub enum Stage {
     Held { worker: u32, puts: u64, adds: u64 },
     /// Its next piece is at home.
     Given,
+}
+
+/// The task that a worker holds, and how many of its puts and adds are made.
+#[derive(Clone, Copy)]
+pub struct Hold {
+    pub task: usize,
+    pub worker: u32,
+    pub puts: u64,
+    pub adds: u64,
 }
 
 /// An atomic action of a worker. Workers and places are numbered from 0.
@@ -86,11 +96,11 @@ impl Stage {
 }
 
 impl Core {
-    ghost use Rattle.amr_phase.specs.Machine.{Steps, Moves, fresh, is_with, is_complete, after_draw, next_at, after_take, after_put, after_add, after_give};
+    ghost use Rattle.amr_phase.specs.Machine.{Steps, Moves, fresh, is_with, is_complete, after_draw, next_at, after_take, hold_of, after_put, after_add, after_give};
     ghost use Rattle.amr_phase.specs.Laws.{place_of};
 
-    /// The start of a phase by so many workers: all tasks wait, all places are empty and all words are 0. Only memory can
-    /// be wanting.
+    /// The start of a phase by so many workers: all tasks wait, all places are empty and all words are 0. It is refused
+    /// only if allocation fails.
     pub fn make(alloc: Global, plan: Plan, workers: u32) -> Result<Core, NoMemory>
         ensures { IfOk result (λ c. c ≡ fresh plan workers) }
     {
@@ -198,92 +208,81 @@ impl Core {
         true
     }
 
-    fn put(&mut self, worker: u32) -> bool
-        ensures { Moves (next_at self.old worker (after_put self.old)) self.old result self.new }
+    /// What this worker holds: None where it has no task, or has not taken its piece.
+    pub fn hold_of(&self, worker: u32) -> Option<Hold>
+        ensures hold { result ≡ hold_of self.now worker }
+        ensures task { IfSome result (λ held. held.task < length self.now.stages) }
     {
         if worker as usize >= self.past.len() {
-            return false;
+            return None;
         }
         let Some(task) = self.task_of(worker) else {
+            return None;
+        };
+        match self.stages[task] {
+            Stage::Held { worker, puts, adds } => Some(Hold {
+                task,
+                worker,
+                puts,
+                adds,
+            }),
+            _ => None,
+        }
+    }
+
+    fn put(&mut self, worker: u32) -> bool
+        ensures { Moves (option_and_then (after_put self.old) (hold_of self.old worker)) self.old result self.new }
+    {
+        let Some(held) = self.hold_of(worker) else {
             return false;
         };
-        let Stage::Held {
-            worker: by,
-            puts,
-            adds,
-        } = self.stages[task]
-        else {
-            return false;
-        };
-        let posts = self.plan.tasks()[task].puts.as_slice();
-        if puts as usize >= posts.len() {
+        let posts = self.plan.tasks()[held.task].puts.as_slice();
+        if held.puts as usize >= posts.len() {
             return false;
         }
-        let post = posts[puts as usize];
+        let post = posts[held.puts as usize];
         self.faces[post.at as usize] = Some(post.amount);
-        self.stages[task] = Stage::Held {
-            worker: by,
-            puts: puts + 1,
-            adds,
+        self.stages[held.task] = Stage::Held {
+            worker: held.worker,
+            puts: held.puts + 1,
+            adds: held.adds,
         };
         true
     }
 
     fn add(&mut self, worker: u32) -> bool
-        ensures { Moves (next_at self.old worker (after_add self.old)) self.old result self.new }
+        ensures { Moves (option_and_then (after_add self.old) (hold_of self.old worker)) self.old result self.new }
     {
-        if worker as usize >= self.past.len() {
-            return false;
-        }
-        let Some(task) = self.task_of(worker) else {
+        let Some(held) = self.hold_of(worker) else {
             return false;
         };
-        let Stage::Held {
-            worker: by,
-            puts,
-            adds,
-        } = self.stages[task]
-        else {
-            return false;
-        };
-        let posts = self.plan.tasks()[task].adds.as_slice();
-        if adds as usize >= posts.len() {
+        let posts = self.plan.tasks()[held.task].adds.as_slice();
+        if held.adds as usize >= posts.len() {
             return false;
         }
-        let post = posts[adds as usize];
+        let post = posts[held.adds as usize];
         self.totals[post.at as usize] += post.amount;
-        self.stages[task] = Stage::Held {
-            worker: by,
-            puts,
-            adds: adds + 1,
+        self.stages[held.task] = Stage::Held {
+            worker: held.worker,
+            puts: held.puts,
+            adds: held.adds + 1,
         };
         true
     }
 
     fn give(&mut self, worker: u32) -> bool
-        ensures { Moves (next_at self.old worker (after_give self.old)) self.old result self.new }
+        ensures { Moves (option_and_then (after_give self.old) (hold_of self.old worker)) self.old result self.new }
     {
-        if worker as usize >= self.past.len() {
-            return false;
-        }
-        let Some(task) = self.task_of(worker) else {
+        let Some(held) = self.hold_of(worker) else {
             return false;
         };
-        let Stage::Held {
-            worker: _,
-            puts,
-            adds,
-        } = self.stages[task]
-        else {
-            return false;
-        };
-        let tasks = self.plan.tasks();
-        if puts as usize != tasks[task].puts.as_slice().len()
-            || adds as usize != tasks[task].adds.as_slice().len()
-        {
+        let task = &self.plan.tasks()[held.task];
+        let puts = task.puts.as_slice().len();
+        let adds = task.adds.as_slice().len();
+        if held.puts as usize != puts || held.adds as usize != adds {
             return false;
         }
-        self.stages[task] = Stage::Given;
+        self.stages[held.task] = Stage::Given;
         true
     }
 }

@@ -56,6 +56,11 @@ fn sum(rt: &impl Abort, core: &Core) -> u64 {
     core.total(0)
 }
 
+// How many puts and adds of the task that the worker holds are made.
+fn made(core: &Core, worker: u32) -> Option<(u64, u64)> {
+    core.hold_of(worker).map(|held| (held.puts, held.adds))
+}
+
 #[test]
 fn limits_of_a_plan(rt: HostRuntime) -> Result<(), Fail> {
     let alloc = rt.alloc();
@@ -83,6 +88,7 @@ fn two_workers_in_either_order(rt: HostRuntime) -> Result<(), Fail> {
         assert!(rt; !core.step(Event::Draw(first)) && !core.step(Event::Put(first)));
         assert!(rt; core.step(Event::Take(other)) && core.step(Event::Take(first)));
         assert!(rt; core.step(Event::Put(other)));
+        assert!(rt; made(&core, first) == Some((0, 0)) && made(&core, other) == Some((1, 0)));
         look(&rt, &core, None, Some(9));
         assert!(rt; core.step(Event::Face(first, 1)) && !core.step(Event::Face(first, 2)));
         assert!(rt; core.step(Event::Put(first)) && !core.step(Event::Put(first)));

@@ -1,5 +1,4 @@
 use Rattle.std.proofs.Common.{◌<◌, sym, ap, subst, arith}
-use Rattle.amr_phase.specs.Plans.{PlanOf}
 use Rattle.amr_board.specs.declared.board.Shape.{Shape}
 use Rattle.amr_board.specs.BoardOf.{BoardOf}
 use Rattle.amr_board.proofs.Allowing.{faces}

@@ -3,7 +3,8 @@ use Rattle.amr_phase.specs.Machine.{CoreOf}
 use Rattle.amr_phase.specs.Laws.{IsConsistent}
 use Rattle.std.proofs.Math.ListN.{length-set}
 use Rattle.amr_phase.proofs.Steps.{free}
-use Rattle.amr_phase.proofs.Consistent.{keeps_drawn, keeps_past, any_default, ones_le}
+use Rattle.amr_phase.proofs.Consistent.{keeps_drawn, keeps_past, ones_le}
+use Rattle.amr_phase.proofs.Finding.{any_default}
 use Rattle.amr_phase.proofs.machine.Core.draw.Goals as goal
 
 pub invariant_of-self : goal.invariant_of-self
