@@ -36,50 +36,61 @@ pub fn run_phase<R: Threads + Sync, P: Piece + Send, J: Job<P> + Sync, G: Gate +
     ensures past { (view result).past ≡ true }
     ensures alone { (view result).share ≡ 2 ^ 32 }
 {
-    run_workers(rt, board, seat, job, gate, 0, workers)
+    run_workers(rt, board, seat, job, gate, Crew { first: 0, workers })
 }
 
-// The workers from `first` on, so many of them.
+// So many workers, whose numbers go from the first on.
+#[derive(Clone, Copy)]
+struct Crew {
+    first: u32,
+    workers: u32,
+}
+
+// The workers of a crew, in two halves until each is alone.
 fn run_workers<R: Threads + Sync, P: Piece + Send, J: Job<P> + Sync, G: Gate + Sync>(
     rt: &R,
     board: &Board<P>,
     mut seat: Seat<P>,
     job: &J,
     gate: &G,
-    first: u32,
-    workers: u32,
+    crew: Crew,
 ) -> Seat<P>
     requires seat { IsSeatOf board.now seat }
     requires none { HoldsNone (view seat) }
     requires here { (view seat).past ≡ false }
-    requires some { 1 ≤ workers }
-    requires numbers { first + workers ≤ 64 }
-    requires share { workers ≤ (view seat).share }
+    requires some { 1 ≤ crew.workers }
+    requires numbers { crew.first + crew.workers ≤ 64 }
+    requires share { crew.workers ≤ (view seat).share }
     requires ready { (t : ℕ) (p : P) → get_elem? board.now.pieces t ≡ some p → J.ready job.now board.now.plan p }
-    requires gate { (worker task : ℕ) → first ≤ worker → worker < first + workers → task < length board.now.plan.tasks → G.admits gate.now worker task }
+    requires gate { (worker task : ℕ) → crew.first ≤ worker → worker < crew.first + crew.workers → task < length board.now.plan.tasks → G.admits gate.now worker task }
     ensures seat { IsSeatOf board.now result }
     ensures none { HoldsNone (view result) }
     ensures past { (view result).past ≡ true }
     ensures share { (view result).share ≡ (view seat).share }
 {
-    if workers == 1 {
-        draw_all(board, &mut seat, job, gate, first);
+    if crew.workers == 1 {
+        draw_all(board, &mut seat, job, gate, crew.first);
         return seat;
     }
-    let half = workers / 2;
-    let more = workers - half;
-    let middle = first + half;
+    let half = Crew {
+        first: crew.first,
+        workers: crew.workers / 2,
+    };
+    let more = Crew {
+        first: crew.first + half.workers,
+        workers: crew.workers - half.workers,
+    };
     let other = board.split(&mut seat);
     let (mut one, two) = join(
         rt,
         move || -> Seat<P>
-            requires { IsSync R.row × IsSeatOf board.now seat × HoldsNone (view seat) × ((view seat).past ≡ false) × (1 ≤ half) × (first + half ≤ 64) × (half ≤ (view seat).share) × ((t : ℕ) (p : P) → get_elem? board.now.pieces t ≡ some p → J.ready job.now board.now.plan p) × ((worker task : ℕ) → first ≤ worker → worker < first + half → task < length board.now.plan.tasks → G.admits gate.now worker task) }
+            requires { IsSync R.row × IsSeatOf board.now seat × HoldsNone (view seat) × ((view seat).past ≡ false) × (1 ≤ half.workers) × (half.first + half.workers ≤ 64) × (half.workers ≤ (view seat).share) × ((t : ℕ) (p : P) → get_elem? board.now.pieces t ≡ some p → J.ready job.now board.now.plan p) × ((worker task : ℕ) → half.first ≤ worker → worker < half.first + half.workers → task < length board.now.plan.tasks → G.admits gate.now worker task) }
             ensures { IsSeatOf board.entry.now result × HoldsNone (view result) × ((view result).past ≡ true) × ((view result).share ≡ (view seat).share) }
-        { run_workers(rt, board, seat, job, gate, first, half) },
+        { run_workers(rt, board, seat, job, gate, half) },
         move || -> Seat<P>
-            requires { IsSync R.row × IsSeatOf board.now other × HoldsNone (view other) × ((view other).past ≡ false) × (1 ≤ more) × (middle + more ≤ 64) × (more ≤ (view other).share) × ((t : ℕ) (p : P) → get_elem? board.now.pieces t ≡ some p → J.ready job.now board.now.plan p) × ((worker task : ℕ) → middle ≤ worker → worker < middle + more → task < length board.now.plan.tasks → G.admits gate.now worker task) }
+            requires { IsSync R.row × IsSeatOf board.now other × HoldsNone (view other) × ((view other).past ≡ false) × (1 ≤ more.workers) × (more.first + more.workers ≤ 64) × (more.workers ≤ (view other).share) × ((t : ℕ) (p : P) → get_elem? board.now.pieces t ≡ some p → J.ready job.now board.now.plan p) × ((worker task : ℕ) → more.first ≤ worker → worker < more.first + more.workers → task < length board.now.plan.tasks → G.admits gate.now worker task) }
             ensures { IsSeatOf board.entry.now result × HoldsNone (view result) × ((view result).past ≡ true) × ((view result).share ≡ (view other).share) }
-        { run_workers(rt, board, other, job, gate, middle, more) },
+        { run_workers(rt, board, other, job, gate, more) },
     );
     board.join(&mut one, two);
     one

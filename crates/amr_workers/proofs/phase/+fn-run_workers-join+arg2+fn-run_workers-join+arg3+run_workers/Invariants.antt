@@ -2,10 +2,10 @@ use Rattle.std.proofs.Common.{◌+◌, ◌*◌}
 use Rattle.amr_workers.proofs.phase.+fn-run_workers-join+arg2+fn-run_workers-join+arg3+run_workers.Given as goal
 
 abbrev pub decreases-join+arg2 : goal.decreases-join+arg2
-decreases-join+arg2 g l = 2 * l.half + 1
+decreases-join+arg2 g l = 2 * l.half.workers + 1
 
 abbrev pub decreases-join+arg3 : goal.decreases-join+arg3
-decreases-join+arg3 g l = 2 * l.more + 1
+decreases-join+arg3 g l = 2 * l.more.workers + 1
 
 abbrev pub decreases-run_workers : goal.decreases-run_workers
-decreases-run_workers g l = 2 * l.workers
+decreases-run_workers g l = 2 * l.crew.workers
