@@ -83,6 +83,7 @@ fn fails_by_list_stop_and_room(rt: HostRuntime) -> Result<(), Fail> {
 fn file_keeps_what_was_written(rt: HostRuntime) -> Result<(), Fail> {
     let alloc = rt.alloc();
     let _ = fs::remove_file(&rt, "mesh.store");
+    let _ = fs::remove_dir(&rt, "mesh.store");
     {
         let mut absent = FileDisk::make(rt.clone()?);
         assert_eq!(rt; read_all(alloc, &mut absent)?.len(), 0);
@@ -101,29 +102,20 @@ fn file_keeps_what_was_written(rt: HostRuntime) -> Result<(), Fail> {
         [0, 0, 7].as_slice()
     );
     fs::remove_file(&rt, "mesh.store")?;
-    Ok(())
-}
 
-#[test]
-fn file_that_cannot_be_opened_is_a_fault(rt: HostRuntime) -> Result<(), Fail> {
-    let _ = fs::remove_dir(&rt, "mesh.store");
+    // A name that can't be opened is a fault, and no absent file.
     fs::create_dir(&rt, "mesh.store")?;
-    let mut disk = FileDisk::make(rt.clone()?);
-    assert_eq!(rt; disk.read_at(0, &mut [0]), Err(DiskFault), "read");
-    assert_eq!(rt; disk.write_at(0, &[1]), Err(DiskFault), "write");
-    assert_eq!(rt; disk.sync(), Err(DiskFault), "sync");
+    let mut unopened = FileDisk::make(rt.clone()?);
+    assert_eq!(rt; unopened.read_at(0, &mut [0]), Err(DiskFault), "read");
+    assert_eq!(rt; unopened.write_at(0, &[1]), Err(DiskFault), "write");
+    assert_eq!(rt; unopened.sync(), Err(DiskFault), "sync");
     fs::remove_dir(&rt, "mesh.store")?;
-    Ok(())
-}
 
-// A device that takes each write and can't be synced, behind the file's name.
-#[test]
-fn sync_reaches_the_file(rt: HostRuntime) -> Result<(), Fail> {
-    let _ = fs::remove_file(&rt, "mesh.store");
+    // A sync reaches the file: a device behind its name takes each write and can't be synced.
     symlink(&rt, "/dev/null", "mesh.store")?;
-    let mut disk = FileDisk::make(rt.clone()?);
-    assert_eq!(rt; disk.write_at(0, &[1]), Ok(()));
-    assert_eq!(rt; disk.sync(), Err(DiskFault));
+    let mut unsynced = FileDisk::make(rt.clone()?);
+    assert_eq!(rt; unsynced.write_at(0, &[1]), Ok(()));
+    assert_eq!(rt; unsynced.sync(), Err(DiskFault));
     fs::remove_file(&rt, "mesh.store")?;
     Ok(())
 }
