@@ -1,10 +1,10 @@
 -- A product with a reciprocal in place of a division.
 use Rattle.std.proofs.Common.{◌≡◌, ℕ, zero, suc, ◌+◌, ◌-◌, ◌*◌, ◌/◌, ◌%◌, ◌^◌, ◌<◌, ◌≤◌, ℤ, pos, ap, sym, ◌∙◌, arith}
-use Rattle.std.specs.Prelude.{unsigned_abs}
+use Rattle.std.specs.Prelude.{List, unsigned_abs}
 use Rattle.std.proofs.Math.Nat.{div-le_of_le-mul, mul-le-mul_right, mul_comm, mul-le-mul_left, div-mul-le_self, lt-div-mul-add, lt_of_mul-lt-mul_left}
 use Rattle.std.proofs.lemmas.Int.{ints}
 use Rattle.amr_flux.specs.Rows.{IsSmallFlow}
-use Rattle.amr_flux.specs.Shares.{IsNearReciprocal, IsReciprocal, share_of}
+use Rattle.amr_flux.specs.Shares.{AreBelow, AreSmall, IsNearReciprocal, IsReciprocal, share_of}
 
 -- a quotient by d is below n where the dividend is below d * n
 quotient_below : (x d n : ℕ) → 0 < d → x < d * n → x / d < n
@@ -125,6 +125,10 @@ pub exact_near : (c : ℤ) (d near limit v : ℕ) → 0 < d → IsNearReciprocal
 exact_near c d near limit v some r below =
     let halved : (v + v) * near / 2 ^ 32 ≡ v * near / 2 ^ 31 = omega arith in
     halved ∙ near_scaled (unsigned_abs c) d v near limit some below r.up r.error
+
+-- small masses are below a limit of 2^31
+pub without_limit : (limit : ℕ) (masses : List ℕ) → limit ≡ 2147483648 → AreSmall masses → AreBelow limit masses
+without_limit limit masses e small = rw e small
 
 -- a share of a mass is no more than the mass
 pub share_within : (c : ℤ) (d v : ℕ) → unsigned_abs c ≤ d → share_of c d v ≤ v

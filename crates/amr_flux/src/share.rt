@@ -2,7 +2,7 @@
 
 ghost use Rattle.std.specs.Prelude.{◌≡◌, ◌+◌, ◌*◌, ◌/◌, ◌^◌, ◌<◌, ◌≤◌, IsTrue, unsigned_abs};
 ghost use Rattle.amr_def.specs.Flux.{flow};
-ghost use Rattle.amr_flux.specs.Shares.{AreBelow, IsNearReciprocal, IsReciprocal, share_of};
+ghost use Rattle.amr_flux.specs.Shares.{AreBelow, AreSmall, IsNearReciprocal, IsReciprocal, share_of};
 
 /// 2 to the 41: a share of a mass below 2^31 is exact if the number has so many binary places.
 const PLACES: u64 = 2199023255552;
@@ -86,10 +86,15 @@ impl Share {
         self
     }
 
-    /// Whether one product gives the shares of all these masses.
+    /// Whether one product gives the shares of all these masses. Where there is no limit, none is looked at.
+    #[tactic(auto, using(crate::proofs::Reciprocals::without_limit))]
     pub(crate) fn is_near(&self, masses: &[u32]) -> bool
+        requires { AreSmall masses.now }
         ensures { IsTrue result → AreBelow self.now.limit masses.now }
     {
+        if self.limit == 2147483648 {
+            return true;
+        }
         let mut most = 0;
         for k in 0..masses.len() {
             most = masses[k].max(most);
