@@ -8,7 +8,8 @@ use Rattle.amr_box.specs.Cells.{Extent, HasCorners, IsNear, at_least_zero, holds
 use Rattle.amr_def.specs.Cluster.{cut_of}
 use Rattle.amr_def.specs.Signature.{signature}
 use Rattle.amr_tags.specs.TagSets.{IsLeastBox}
-use Rattle.amr_cluster.specs.Work.{IsSpan, LiesIn, cells_in, cut_by}
+use Rattle.amr_tags.specs.Stored.{IsPart}
+use Rattle.amr_cluster.specs.Work.{IsSpan, cells_in, cut_by}
 use Rattle.amr_cluster.proofs.Rounds.{cells_in-least}
 use Rattle.amr_cluster.proofs.Spans.{least_of, span_along, span_inside}
 use Rattle.amr_cluster.proofs.Tagged.{cut_by-is, signature-within}
@@ -19,7 +20,7 @@ size_between first last from low high e f h = let is : (high +ℤ pos 1 -ℤ low
 -- the signatures of a part, the ends of their entries that are not 0, and the box between these
 pub record IsInner (has : Cell → Bool) (part larger b : Extent) (columns rows : List ℕ) (west east south north : ℕ) : Type 0 where
   pub near : IsNear part
-  pub inside : LiesIn part larger
+  pub inside : IsPart larger part
   pub columns_are : columns ≡ signature X (cells_in has part) part
   pub rows_are : rows ≡ signature Y (cells_in has part) part
   pub across : IsSpan columns west east

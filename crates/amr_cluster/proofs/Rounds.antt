@@ -18,7 +18,8 @@ use Rattle.amr_def.specs.Cluster.{cells_below, cells_from, edge}
 use Rattle.amr_def.proofs.ClusterLaws.{Each, both_true, bounding_takes, each_both, each_from_kept, each_kept, each_passes, fold_below, fold_from, own_below, own_from}
 use Rattle.amr_tags.specs.TagSets.{IsLeastBox}
 use Rattle.amr_cluster.specs.Laws.{IsInside, IsRound}
-use Rattle.amr_cluster.specs.Work.{LiesIn, cells_in}
+use Rattle.amr_tags.specs.Stored.{IsPart}
+use Rattle.amr_cluster.specs.Work.{cells_in}
 use Rattle.amr_cluster.proofs.Fuel.{each_map}
 use Rattle.amr_cluster.proofs.Sound.{filter_all}
 use Rattle.amr_cluster.proofs.Windows.{cells_of-window}
@@ -41,40 +42,40 @@ filter_filter p q (c ∷ cs) = choose (p c) (q c) refl refl (filter_filter p q c
 
 -- ---- the cells of a box
 
-pub itself : (b : Extent) (larger : Extent) → LiesIn b larger → LiesIn b b
+pub itself : (b : Extent) (larger : Extent) → IsPart larger b → IsPart b b
 itself b larger i = record { west = omega (arith, ints); wide = i.wide; east = omega (arith, ints); south = omega (arith, ints); high = i.high; north = omega (arith, ints) }
 
-pub own_cells : (b larger : Extent) → LiesIn b larger → Each (λ c. holds b c ≡ true) (cells_of b)
+pub own_cells : (b larger : Extent) → IsPart larger b → Each (λ c. holds b c ≡ true) (cells_of b)
 own_cells b larger i = subst (λ (cs : List Cell). Each (λ c. holds b c ≡ true) cs) (cells_of-window b b (itself b larger i)) (each_passes (holds b) (cells_of b))
 
 -- a part of a box, and its cells in a set
-part_cells : (has test : Cell → Bool) (b part larger : Extent) → LiesIn b larger → LiesIn part b → IsBoxOf part (λ c. holds b c && test c) → filter test (cells_in has b) ≡ cells_in has part
+part_cells : (has test : Cell → Bool) (b part larger : Extent) → IsPart larger b → IsPart b part → IsBoxOf part (λ c. holds b c && test c) → filter test (cells_in has b) ≡ cells_in has part
 part_cells has test b part larger i j is =
     let same = each_map (λ c. holds b c ≡ true) (λ c. test c ≡ holds part c) (λ c h. sym (is.at c ∙ ap (λ (t : Bool). t && test c) h)) (cells_of b) (own_cells b larger i) in
     filter_filter test has (cells_of b) ∙ ap (filter has) (filter_same test (holds part) (cells_of b) same ∙ cells_of-window b part j)
 
-pub LiesIn-below : (b : Extent) (larger : Extent) (k : Cut) → LiesIn b larger → IsInside b k → LiesIn (below_cut k.axis (edge b k) b) b
-LiesIn-below b larger k i inside = choose k.axis (edge b k) inside.from inside.to
+pub IsPart-below : (b : Extent) (larger : Extent) (k : Cut) → IsPart larger b → IsInside b k → IsPart b (below_cut k.axis (edge b k) b)
+IsPart-below b larger k i inside = choose k.axis (edge b k) inside.from inside.to
   where
-    choose : (a : Axis) (e : ℤ) → along a b.lo <ℤ e → e ≤ℤ along a b.hi → LiesIn (below_cut a e b) b
+    choose : (a : Axis) (e : ℤ) → along a b.lo <ℤ e → e ≤ℤ along a b.hi → IsPart b (below_cut a e b)
     choose X e from to = record { west = omega (arith, ints); wide = omega (arith, ints); east = omega (arith, ints); south = omega (arith, ints); high = i.high; north = omega (arith, ints) }
     choose Y e from to = record { west = omega (arith, ints); wide = i.wide; east = omega (arith, ints); south = omega (arith, ints); high = omega (arith, ints); north = omega (arith, ints) }
 
-pub LiesIn-from : (b : Extent) (larger : Extent) (k : Cut) → LiesIn b larger → IsInside b k → LiesIn (from_cut k.axis (edge b k) b) b
-LiesIn-from b larger k i inside = choose k.axis (edge b k) inside.from inside.to
+pub IsPart-from : (b : Extent) (larger : Extent) (k : Cut) → IsPart larger b → IsInside b k → IsPart b (from_cut k.axis (edge b k) b)
+IsPart-from b larger k i inside = choose k.axis (edge b k) inside.from inside.to
   where
-    choose : (a : Axis) (e : ℤ) → along a b.lo <ℤ e → e ≤ℤ along a b.hi → LiesIn (from_cut a e b) b
+    choose : (a : Axis) (e : ℤ) → along a b.lo <ℤ e → e ≤ℤ along a b.hi → IsPart b (from_cut a e b)
     choose X e from to = record { west = omega (arith, ints); wide = omega (arith, ints); east = omega (arith, ints); south = omega (arith, ints); high = i.high; north = omega (arith, ints) }
     choose Y e from to = record { west = omega (arith, ints); wide = i.wide; east = omega (arith, ints); south = omega (arith, ints); high = omega (arith, ints); north = omega (arith, ints) }
 
-pub LiesIn-in : (a b c : Extent) → LiesIn a b → LiesIn b c → LiesIn a c
-LiesIn-in a b c i j = record { west = omega (arith, ints, i.west, j.west); wide = i.wide; east = omega (arith, ints, i.east, j.east); south = omega (arith, ints, i.south, j.south); high = i.high; north = omega (arith, ints, i.north, j.north) }
+pub IsPart-in : (a b c : Extent) → IsPart b a → IsPart c b → IsPart c a
+IsPart-in a b c i j = record { west = omega (arith, ints, i.west, j.west); wide = i.wide; east = omega (arith, ints, i.east, j.east); south = omega (arith, ints, i.south, j.south); high = i.high; north = omega (arith, ints, i.north, j.north) }
 
-pub cells_below-in : (has : Cell → Bool) (b larger : Extent) (k : Cut) → LiesIn b larger → IsInside b k → cells_below b k (cells_in has b) ≡ cells_in has (below_cut k.axis (edge b k) b)
-cells_below-in has b larger k i inside = part_cells has (λ c. int_lt (along k.axis c) (edge b k)) b _ larger i (LiesIn-below b larger k i inside) (below_cells k.axis (edge b k) b inside.to)
+pub cells_below-in : (has : Cell → Bool) (b larger : Extent) (k : Cut) → IsPart larger b → IsInside b k → cells_below b k (cells_in has b) ≡ cells_in has (below_cut k.axis (edge b k) b)
+cells_below-in has b larger k i inside = part_cells has (λ c. int_lt (along k.axis c) (edge b k)) b _ larger i (IsPart-below b larger k i inside) (below_cells k.axis (edge b k) b inside.to)
 
-pub cells_from-in : (has : Cell → Bool) (b larger : Extent) (k : Cut) → LiesIn b larger → IsInside b k → cells_from b k (cells_in has b) ≡ cells_in has (from_cut k.axis (edge b k) b)
-cells_from-in has b larger k i inside = part_cells has (λ c. int_le (edge b k) (along k.axis c)) b _ larger i (LiesIn-from b larger k i inside) (from_cells k.axis (edge b k) b inside.from)
+pub cells_from-in : (has : Cell → Bool) (b larger : Extent) (k : Cut) → IsPart larger b → IsInside b k → cells_from b k (cells_in has b) ≡ cells_in has (from_cut k.axis (edge b k) b)
+cells_from-in has b larger k i inside = part_cells has (λ c. int_le (edge b k) (along k.axis c)) b _ larger i (IsPart-from b larger k i inside) (from_cells k.axis (edge b k) b inside.from)
 
 -- ---- one cell of a box
 
@@ -134,8 +135,8 @@ below_next : (z a : ℤ) → z ≤ℤ a → z <ℤ (a +ℤ pos 1)
 below_next z a h = omega (arith, ints)
 
 module _ (has : Cell → Bool) (part r : Extent) (least : IsLeastBox r (λ c. holds part c && has c)) where
-  pub LiesIn-least : LiesIn r part
-  LiesIn-least =
+  pub IsPart-least : IsPart part r
+  IsPart-least =
       let at_west = held part least.west.0 (both_true _ _ least.west.1).0 in
       let at_east = held part least.east.0 (both_true _ _ least.east.1).0 in
       let at_south = held part least.south.0 (both_true _ _ least.south.1).0 in
@@ -151,9 +152,9 @@ module _ (has : Cell → Bool) (part r : Extent) (least : IsLeastBox r (λ c. ho
         north = omega (arith, ints, at_north.north, least.north.2);
       }
 
-  part_itself : LiesIn part part
+  part_itself : IsPart part part
   part_itself =
-      let i = LiesIn-least in
+      let i = IsPart-least in
       record {
         west = omega (arith, ints);
         wide = omega (arith, ints, i.west, i.wide, i.east);
@@ -171,7 +172,7 @@ module _ (has : Cell → Bool) (part r : Extent) (least : IsLeastBox r (λ c. ho
 
   pub cells_in-least : cells_in has r ≡ cells_in has part
   cells_in-least =
-      ap (filter has) (sym (cells_of-window part r LiesIn-least))
+      ap (filter has) (sym (cells_of-window part r IsPart-least))
       ∙ filter_filter has (holds r) (cells_of part)
       ∙ filter_all (holds r) (cells_in has part) listed_in_least
 
@@ -209,7 +210,7 @@ module _ (has : Cell → Bool) (part r : Extent) (least : IsLeastBox r (λ c. ho
           }
 
 -- a set with no cell in a box
-pub cells_in-none : (has : Cell → Bool) (part : Extent) → ((c : Cell) → (holds part c && has c) ≡ false) → LiesIn part part → cells_in has part ≡ []
+pub cells_in-none : (has : Cell → Bool) (part : Extent) → ((c : Cell) → (holds part c && has c) ≡ false) → IsPart part part → cells_in has part ≡ []
 cells_in-none has part none i =
     filter_same has (λ c. false) (cells_of part) (each_map (λ c. holds part c ≡ true) (λ c. has c ≡ false) (λ c h. sym (ap (λ (t : Bool). t && has c) h) ∙ none c) (cells_of part) (own_cells part part i))
     ∙ filter_nothing (cells_of part)

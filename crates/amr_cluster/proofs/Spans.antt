@@ -14,7 +14,8 @@ use Rattle.amr_box.proofs.Boxes.{int_le-yes}
 use Rattle.amr_def.specs.Signature.{signature}
 use Rattle.amr_def.proofs.ClusterLaws.{Each, both_true, each_both, each_kept, each_passes}
 use Rattle.amr_tags.specs.TagSets.{IsLeastBox}
-use Rattle.amr_cluster.specs.Work.{IsSpan, LiesIn, cells_in}
+use Rattle.amr_tags.specs.Stored.{IsPart}
+use Rattle.amr_cluster.specs.Work.{IsSpan, cells_in}
 use Rattle.amr_cluster.proofs.Rounds.{HoldsCell, held, member, own_cells}
 use Rattle.amr_cluster.proofs.Tagged.{signature-at, signature-length, size-is, size_along}
 
@@ -50,7 +51,7 @@ along_held : (a : Axis) (b : Extent) (c : Cell) → HoldsCell b c → (along a b
 along_held X b c h = (h.west, h.east)
 along_held Y b c h = (h.south, h.north)
 
-module _ (has : Cell → Bool) (part larger : Extent) (near : IsNear part) (inside : LiesIn part larger) where
+module _ (has : Cell → Bool) (part larger : Extent) (near : IsNear part) (inside : IsPart larger part) where
   listed : Each (λ c. (holds part c && has c) ≡ true) (cells_in has part)
   listed = each_both (λ c. has c ≡ true) (λ c. holds part c ≡ true) (λ c. (holds part c && has c) ≡ true) (λ c t h. ap (λ (b : Bool). b && has c) h ∙ t) (cells_in has part)
       (each_passes has (cells_of part)) (each_kept (λ c. holds part c ≡ true) has (cells_of part) (own_cells part larger inside))
@@ -91,7 +92,7 @@ pub record IsAlong (has : Cell → Bool) (part : Extent) (a : Axis) (low high : 
   pub from : (c : Cell) → (holds part c && has c) ≡ true → low ≤ℤ along a c
   pub to : (c : Cell) → (holds part c && has c) ≡ true → along a c ≤ℤ high
 
-pub span_along : (has : Cell → Bool) (part larger : Extent) → IsNear part → LiesIn part larger → (a : Axis) (counts : List ℕ) (first last : ℕ) → counts ≡ signature a (cells_in has part) part → IsSpan counts first last → IsAlong has part a (along a part.lo +ℤ pos first) (along a part.lo +ℤ pos last)
+pub span_along : (has : Cell → Bool) (part larger : Extent) → IsNear part → IsPart larger part → (a : Axis) (counts : List ℕ) (first last : ℕ) → counts ≡ signature a (cells_in has part) part → IsSpan counts first last → IsAlong has part a (along a part.lo +ℤ pos first) (along a part.lo +ℤ pos last)
 span_along has part larger near inside a counts first last e span =
     let size : length counts ≡ size_along a part = ap length e ∙ signature-length a (cells_in has part) part in
     let entry : (k : ℕ) → slice_index counts k ≡ slice_index (signature a (cells_in has part) part) k = λ k. ap (λ (s : List ℕ). slice_index s k) e in

@@ -1,5 +1,5 @@
 -- Tags as rows of bits: the cells of a box are the bits of the same box counted from the low corner of the rows.
-use Rattle.std.proofs.Common.{◌≡◌, ℕ, ◌+◌, ◌-◌, ◌*◌, ◌/◌, ◌%◌, ◌^◌, ◌<◌, ◌≤◌, Bool, true, cond, ◌&&◌, ℤ, pos, negsuc, ◌+ℤ◌, ◌-ℤ◌, ◌≤ℤ◌, ◌<ℤ◌, List, map, drop, length, refl, sym, ap, ◌∙◌, arith}
+use Rattle.std.proofs.Common.{◌≡◌, ℕ, ◌+◌, ◌-◌, ◌*◌, ◌/◌, ◌^◌, ◌<◌, ◌≤◌, Bool, true, cond, ◌&&◌, ℤ, pos, negsuc, ◌+ℤ◌, ◌-ℤ◌, ◌≤ℤ◌, ◌<ℤ◌, List, map, drop, length, refl, sym, ap, ◌∙◌, arith}
 use Rattle.std.specs.Prelude.{unsigned_abs, int_le, nat_le, slice_index}
 use Rattle.std.specs.declared.option.Option.TheVariants.{None}
 use Rattle.std.specs.List.{count_by, range_with_len, slice_range, sum_by}
@@ -23,11 +23,12 @@ use Rattle.amr_sign.proofs.Bits.{count_to-same_below}
 use Rattle.amr_sign.proofs.Counts.{columns-are, map_to-same, rows-are, rows-total}
 use Rattle.amr_tags.specs.Bits.{bit_of, words_for}
 use Rattle.amr_tags.specs.TagSets.{IsLaidOut, TagSet, has}
-use Rattle.amr_cluster.specs.Work.{LiesIn, cells_in, cut_by}
+use Rattle.amr_tags.specs.Stored.{IsPart}
+use Rattle.amr_cluster.specs.Work.{cells_in, cut_by}
 
 -- ---- sizes
 
-pub IsNear-in : (b larger : Extent) → LiesIn b larger → IsNear larger → IsNear b
+pub IsNear-in : (b larger : Extent) → IsPart larger b → IsNear larger → IsNear b
 IsNear-in b larger i near = record {
   west = omega (arith, ints, near.west, i.west);
   east = omega (arith, ints, near.east, i.east);
@@ -101,7 +102,7 @@ signature-within a cells part b first last at size order inside =
 -- a part of the box of the tags, and the same counted from the low corner
 pub record IsOffset (t : TagSet) (part at : Extent) : Type 0 where
   pub laid_out : IsLaidOut t
-  pub inside : LiesIn part t.bx
+  pub inside : IsPart t.bx part
   pub corners : HasCorners at (part.lo.x -ℤ t.bx.lo.x) (part.lo.y -ℤ t.bx.lo.y) (part.hi.x -ℤ t.bx.lo.x) (part.hi.y -ℤ t.bx.lo.y)
 
 module _ (t : TagSet) (part at : Extent) (is : IsOffset t part at) where

@@ -16,14 +16,15 @@ use Rattle.amr_def.specs.Cluster.{cells_below, cells_from, cluster, cluster_with
 use Rattle.amr_def.specs.State.{in_boxes}
 use Rattle.amr_def.proofs.ClusterLaws.{Apart, ApartFrom, Disjoint, cluster-disjoint}
 use Rattle.amr_cluster.specs.Laws.{IsInside, IsRound}
-use Rattle.amr_cluster.specs.declared.pieces.Piece.{Piece}
-use Rattle.amr_cluster.specs.Work.{LiesIn, IsCutAs, IsWork, cells_in, waiting, work_left}
+use Rattle.amr_cluster.specs.declared.cut_boxes.CutBox.{CutBox}
+use Rattle.amr_tags.specs.Stored.{IsPart}
+use Rattle.amr_cluster.specs.Work.{IsCutAs, IsWork, cells_in, waiting, work_left}
 use Rattle.amr_cluster.proofs.Fuel.{cluster-cut, cut_inside, fewer_below, fewer_from}
 use Rattle.amr_cluster.proofs.Rounds.{cells_below-in, cells_from-in}
 use Rattle.amr_cluster.proofs.Sound.{apart_is}
 
 module _ (efficiency w : ℕ) (has : Cell → Bool) where
-  pub waiting-push : (work : List Piece) (p : Piece) → waiting efficiency w has (work ++ p ∷ []) ≡ cluster efficiency w (cells_in has p.bx) ++ waiting efficiency w has work
+  pub waiting-push : (work : List CutBox) (p : CutBox) → waiting efficiency w has (work ++ p ∷ []) ≡ cluster efficiency w (cells_in has p.bx) ++ waiting efficiency w has work
   waiting-push [] p = none_after (cluster efficiency w (cells_in has p.bx))
     where
       none_after : (bs : List Extent) → bs ≡ bs ++ []
@@ -33,22 +34,22 @@ module _ (efficiency w : ℕ) (has : Cell → Bool) where
       ap (λ (bs : List Extent). bs ++ cluster efficiency w (cells_in has d.bx)) (waiting-push work p)
       ∙ append_assoc (cluster efficiency w (cells_in has p.bx)) (waiting efficiency w has work) (cluster efficiency w (cells_in has d.bx))
 
-  pub IsWork-push : (larger : Extent) (work : List Piece) (p : Piece) → IsWork efficiency w has larger work → IsRound p.bx (cells_in has p.bx) → LiesIn p.bx larger → IsCutAs efficiency w has p → IsWork efficiency w has larger (work ++ p ∷ [])
+  pub IsWork-push : (larger : Extent) (work : List CutBox) (p : CutBox) → IsWork efficiency w has larger work → IsRound p.bx (cells_in has p.bx) → IsPart larger p.bx → IsCutAs efficiency w has p → IsWork efficiency w has larger (work ++ p ∷ [])
   IsWork-push larger [] p h round inside cut = (round, inside, cut, tt)
   IsWork-push larger (d ∷ work) p h round inside cut = (h.0, h.1, h.2, IsWork-push larger work p h.3 round inside cut)
 
-  pub IsWork-pop : (larger : Extent) (work : List Piece) (p : Piece) → IsWork efficiency w has larger (work ++ p ∷ []) → IsRound p.bx (cells_in has p.bx) × LiesIn p.bx larger × IsCutAs efficiency w has p × IsWork efficiency w has larger work
+  pub IsWork-pop : (larger : Extent) (work : List CutBox) (p : CutBox) → IsWork efficiency w has larger (work ++ p ∷ []) → IsRound p.bx (cells_in has p.bx) × IsPart larger p.bx × IsCutAs efficiency w has p × IsWork efficiency w has larger work
   IsWork-pop larger [] p h = (h.0, h.1, h.2, tt)
   IsWork-pop larger (d ∷ work) p h = let rest = IsWork-pop larger work p h.3 in (rest.0, rest.1, rest.2, (h.0, h.1, h.2, rest.3))
 
 module _ (has : Cell → Bool) where
-  pub work_left-push : (work : List Piece) (p : Piece) → work_left has (work ++ p ∷ []) ≡ work_left has work + (2 * length (cells_in has p.bx) - 1)
+  pub work_left-push : (work : List CutBox) (p : CutBox) → work_left has (work ++ p ∷ []) ≡ work_left has work + (2 * length (cells_in has p.bx) - 1)
   work_left-push [] p = refl
   work_left-push (d ∷ work) p = let rest : work_left has (work ++ p ∷ []) ≡ work_left has work + (2 * length (cells_in has p.bx) - 1) = work_left-push work p in omega arith
 
 -- ---- what the cluster of a box's cells is
 
-module _ (efficiency w : ℕ) (has : Cell → Bool) (b larger : Extent) (least : 1 ≤ w) (round : IsRound b (cells_in has b)) (inside : LiesIn b larger) where
+module _ (efficiency w : ℕ) (has : Cell → Bool) (b larger : Extent) (least : 1 ≤ w) (round : IsRound b (cells_in has b)) (inside : IsPart larger b) where
   at_cut : (o : Option Cut) → cut_of efficiency w (cells_in has b) b ≡ o → cluster efficiency w (cells_in has b) ≡ parts (cluster efficiency w) (cells_in has b) b o
   at_cut o e =
       let whole : cluster efficiency w (round.first ∷ round.others) ≡ parts (cluster efficiency w) (round.first ∷ round.others) (bounding round.first round.others) (cut_of efficiency w (round.first ∷ round.others) (bounding round.first round.others)) = cluster-cut efficiency w round.first round.others least in
@@ -129,20 +130,20 @@ none_after [] = refl
 none_after (b ∷ bs) = ap (λ (ds : List Extent). b ∷ ds) (none_after bs)
 
 -- what is done, and what is left, of the boxes of all cells
-pub record IsTurn (efficiency w : ℕ) (has : Cell → Bool) (larger : Extent) (boxes : List Extent) (work : List Piece) : Type 0 where
+pub record IsTurn (efficiency w : ℕ) (has : Cell → Bool) (larger : Extent) (boxes : List Extent) (work : List CutBox) : Type 0 where
   pub total : boxes ++ waiting efficiency w has work ≡ cluster efficiency w (cells_in has larger)
   pub listed : IsWork efficiency w has larger work
 
-pub turn_first : (efficiency w : ℕ) (has : Cell → Bool) (larger : Extent) (work : List Piece) → waiting efficiency w has work ≡ cluster efficiency w (cells_in has larger) ++ [] → IsWork efficiency w has larger work → IsTurn efficiency w has larger [] work
+pub turn_first : (efficiency w : ℕ) (has : Cell → Bool) (larger : Extent) (work : List CutBox) → waiting efficiency w has work ≡ cluster efficiency w (cells_in has larger) ++ [] → IsWork efficiency w has larger work → IsTurn efficiency w has larger [] work
 turn_first efficiency w has larger work e listed = record { total = e ∙ none_after (cluster efficiency w (cells_in has larger)); listed = listed }
 
-pub turn_last : (efficiency w : ℕ) (has : Cell → Bool) (larger : Extent) (boxes : List Extent) (work : List Piece) → IsTurn efficiency w has larger boxes work → length work ≡ 0 → boxes ≡ cluster efficiency w (cells_in has larger)
+pub turn_last : (efficiency w : ℕ) (has : Cell → Bool) (larger : Extent) (boxes : List Extent) (work : List CutBox) → IsTurn efficiency w has larger boxes work → length work ≡ 0 → boxes ≡ cluster efficiency w (cells_in has larger)
 turn_last efficiency w has larger boxes work turn none =
-    sym (ap (λ (ds : List Piece). boxes ++ waiting efficiency w has ds) (empty_of work none) ∙ none_after boxes) ∙ turn.total
+    sym (ap (λ (ds : List CutBox). boxes ++ waiting efficiency w has ds) (empty_of work none) ∙ none_after boxes) ∙ turn.total
 
 -- the box that is next, and the others
-module _ (efficiency w : ℕ) (has : Cell → Bool) (larger : Extent) (least : 1 ≤ w) (boxes : List Extent) (old work : List Piece) (p : Piece) (turn : IsTurn efficiency w has larger boxes old) (popped : old ≡ work ++ p ∷ []) where
-  pub next : IsRound p.bx (cells_in has p.bx) × LiesIn p.bx larger × IsCutAs efficiency w has p × IsWork efficiency w has larger work
+module _ (efficiency w : ℕ) (has : Cell → Bool) (larger : Extent) (least : 1 ≤ w) (boxes : List Extent) (old work : List CutBox) (p : CutBox) (turn : IsTurn efficiency w has larger boxes old) (popped : old ≡ work ++ p ∷ []) where
+  pub next : IsRound p.bx (cells_in has p.bx) × IsPart larger p.bx × IsCutAs efficiency w has p × IsWork efficiency w has larger work
   next = IsWork-pop efficiency w has larger work p (subst (IsWork efficiency w has larger) popped turn.listed)
 
   next_total : boxes ++ (cluster efficiency w (cells_in has p.bx) ++ waiting efficiency w has work) ≡ cluster efficiency w (cells_in has larger)
@@ -166,7 +167,7 @@ module _ (efficiency w : ℕ) (has : Cell → Bool) (larger : Extent) (least : 1
   pub uncut_left : work_left has work < work_left has old
   uncut_left = let some : 1 ≤ length (cells_in has p.bx) = some_cells efficiency w has p.bx larger least next.0 next.1 in omega (arith, next_left)
 
-  pub cut_turn : (k : Cut) (new : List Piece) → cut_of efficiency w (cells_in has p.bx) p.bx ≡ Some k
+  pub cut_turn : (k : Cut) (new : List CutBox) → cut_of efficiency w (cells_in has p.bx) p.bx ≡ Some k
       → waiting efficiency w has new ≡ (cluster efficiency w (cells_in has (below_cut k.axis (edge p.bx k) p.bx)) ++ cluster efficiency w (cells_in has (from_cut k.axis (edge p.bx k) p.bx))) ++ waiting efficiency w has work
       → IsWork efficiency w has larger new → IsTurn efficiency w has larger boxes new
   cut_turn k new e f listed = record {

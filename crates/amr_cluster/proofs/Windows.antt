@@ -4,7 +4,7 @@ use Rattle.std.specs.List.{filter, flat_map, range_with_len}
 use Rattle.std.proofs.lemmas.Int.{ints}
 use Rattle.std.proofs.lemmas.List.Elements.{filter-append}
 use Rattle.amr_box.specs.declared.Cell.{Cell}
-use Rattle.amr_cluster.specs.Work.{LiesIn}
+use Rattle.amr_tags.specs.Stored.{IsPart}
 use Rattle.amr_box.specs.Cells.{Extent, at_least_zero, cell, cells_of, height, holds, width, within}
 
 filter-map : {A B : Type 0} (p : B → Bool) (f : A → B) (xs : List A) → filter p (map f xs) ≡ map f (filter (λ x. p (f x)) xs)
@@ -153,7 +153,7 @@ and-no : (t : Bool) → (t && false) ≡ false
 and-no true = refl
 and-no false = refl
 
-module _ (a b : Extent) (inside : LiesIn b a) where
+module _ (a b : Extent) (inside : IsPart a b) where
   at : ℕ → ℕ → Cell
   at j i = cell (a.lo.x +ℤ pos i) (a.lo.y +ℤ pos j)
 

@@ -6,9 +6,10 @@ ghost use Rattle.amr_def.specs.Cluster.{cluster, edge};
 ghost use Rattle.amr_sign.specs.Scan.{defined_cut};
 ghost use Rattle.amr_tags.specs.TagSets.{has};
 ghost use Rattle.amr_cluster.specs.Laws.{IsInside};
-ghost use Rattle.amr_cluster.specs.Work.{LiesIn, IsWork, cells_in, waiting, work_left};
+ghost use Rattle.amr_tags.specs.Stored.{IsPart};
+ghost use Rattle.amr_cluster.specs.Work.{IsWork, cells_in, waiting, work_left};
 
-use crate::pieces::{Piece, piece_of};
+use crate::cut_boxes::{CutBox, cut_box_of};
 use amr_box::{Axis, Bx};
 use amr_boxlist::BoxList;
 use amr_causes::NoMemory;
@@ -17,16 +18,16 @@ use amr_tags::Tags;
 use std::alloc::Global;
 
 /// Puts the least box round the tags of a box on the work list, where there is a tag.
-fn push_piece(
+fn push_cut_box(
     alloc: Global,
-    work: &mut Vec<Piece>,
+    work: &mut Vec<CutBox>,
     tags: &Tags,
     part: Bx,
     efficiency: u32,
     w: u32,
 ) -> Result<(), NoMemory>
     requires near { IsNear part }
-    requires inside { LiesIn part tags.now.bx }
+    requires inside { IsPart tags.now.bx part }
     requires work { IsWork efficiency w (has tags.now) tags.now.bx work.old.items }
     ensures waiting { OnOk result (waiting efficiency w (has tags.now) work.new.items
         ≡ cluster efficiency w (cells_in (has tags.now) part) ++ waiting efficiency w (has tags.now) work.old.items) }
@@ -34,9 +35,9 @@ fn push_piece(
     ensures left { OnOk result (work_left (has tags.now) work.new.items
         ≤ work_left (has tags.now) work.old.items + (2 * length (cells_in (has tags.now) part) - 1)) }
 {
-    match piece_of(alloc, tags, part, efficiency, w)? {
-        Some(piece) => {
-            work.push(piece)?;
+    match cut_box_of(alloc, tags, part, efficiency, w)? {
+        Some(cut_box) => {
+            work.push(cut_box)?;
             Ok(())
         }
         None => Ok(()),
@@ -58,7 +59,7 @@ fn edge(part: Bx, cut: Cut) -> i32
 /// Puts both parts of a box that is cut on the work list, so that the low one is next.
 fn push_parts(
     alloc: Global,
-    work: &mut Vec<Piece>,
+    work: &mut Vec<CutBox>,
     tags: &Tags,
     part: Bx,
     cut: Cut,
@@ -66,7 +67,7 @@ fn push_parts(
     w: u32,
 ) -> Result<(), NoMemory>
     requires near { IsNear part }
-    requires inside { LiesIn part tags.now.bx }
+    requires inside { IsPart tags.now.bx part }
     requires cut_inside { IsInside part (defined_cut cut) }
     requires work { IsWork efficiency w (has tags.now) tags.now.bx work.old.items }
     ensures waiting { OnOk result (waiting efficiency w (has tags.now) work.new.items
@@ -79,8 +80,8 @@ fn push_parts(
         + (2 * length (cells_in (has tags.now) (below_cut cut.axis (edge part (defined_cut cut)) part)) - 1)) }
 {
     let (low, high) = part.cut_at(cut.axis, edge(part, cut));
-    push_piece(alloc, work, tags, high, efficiency, w)?;
-    push_piece(alloc, work, tags, low, efficiency, w)?;
+    push_cut_box(alloc, work, tags, high, efficiency, w)?;
+    push_cut_box(alloc, work, tags, low, efficiency, w)?;
     Ok(())
 }
 
@@ -88,7 +89,7 @@ fn push_parts(
 /// its cells are tagged, or where it has no cut that leaves both parts `w` wide; else the boxes of the part below the
 /// cut, and then those of the rest. They have no cell in common and hold every tag. No tags give no boxes.
 ///
-/// The words of each box on the work list are gone over once. `NoMemory` where memory is wanting: nothing is kept then,
+/// The words of each box on the work list are gone over once. `NoMemory` comes where allocation fails: nothing is kept then,
 /// and the tags, which are only read, are as before.
 pub fn cluster(alloc: Global, tags: &Tags, efficiency: u32, w: u32) -> Result<BoxList, NoMemory>
     requires { 1 ≤ w }
@@ -97,11 +98,11 @@ pub fn cluster(alloc: Global, tags: &Tags, efficiency: u32, w: u32) -> Result<Bo
     let mut boxes = BoxList::make(alloc);
     let mut work = Vec::new(alloc);
     let whole = tags.bx();
-    push_piece(alloc, &mut work, tags, whole, efficiency, w)?;
-    while let Some(piece) = work.pop() {
-        match piece.cut {
-            None => boxes.push_disjoint(piece.bx)?,
-            Some(cut) => push_parts(alloc, &mut work, tags, piece.bx, cut, efficiency, w)?,
+    push_cut_box(alloc, &mut work, tags, whole, efficiency, w)?;
+    while let Some(cut_box) = work.pop() {
+        match cut_box.cut {
+            None => boxes.push_disjoint(cut_box.bx)?,
+            Some(cut) => push_parts(alloc, &mut work, tags, cut_box.bx, cut, efficiency, w)?,
         }
     }
     Ok(boxes)
@@ -142,6 +143,27 @@ mod tests {
         let boxes = cluster(alloc, &tags, efficiency, w)?;
         assert_eq!(rt; boxes.list().len(), want.len());
         for (b, corners) in boxes.list().iter().zip(want) {
+            let (lo, hi) = (b.lo(), b.hi());
+            assert_eq!(rt; (lo.x, lo.y, hi.x, hi.y), *corners);
+        }
+        Ok(())
+    }
+
+    #[test]
+    fn clusters_of_the_greatest_domain(rt: HostRuntime) -> Result<(), Fail> {
+        let alloc = rt.alloc();
+        let field = whole(Cell { x: 0, y: 0 }, Cell { x: 4095, y: 4095 })?;
+        let mut tags = Tags::make(alloc, field, false, false)?;
+        for (x, y) in [(0, 0), (1, 0), (4094, 4095), (4095, 4095)] {
+            let cell = Cell { x, y };
+            if tags.bx().holds(cell) {
+                tags.set(cell);
+            }
+        }
+        let boxes = cluster(alloc, &tags, 100, 1)?;
+        let want = [(0, 0, 1, 0), (4094, 4095, 4095, 4095)];
+        assert_eq!(rt; boxes.list().len(), want.len());
+        for (b, corners) in boxes.list().iter().zip(want.iter()) {
             let (lo, hi) = (b.lo(), b.hi());
             assert_eq!(rt; (lo.x, lo.y, hi.x, hi.y), *corners);
         }

@@ -6,9 +6,9 @@
 #![tactic(auto)]
 
 mod boxes;
+mod cut_boxes;
 mod laws;
 mod parts;
-mod pieces;
 #[cfg(test)]
 mod plain;
 #[cfg(test)]

@@ -8,7 +8,8 @@ ghost use Rattle.amr_box.specs.Cells.{HasCorners, IsNear};
 ghost use Rattle.amr_def.specs.Signature.{signature};
 ghost use Rattle.amr_sign.specs.Scan.{defined_cut};
 ghost use Rattle.amr_tags.specs.TagSets.{has};
-ghost use Rattle.amr_cluster.specs.Work.{LiesIn, cells_in, cut_by};
+ghost use Rattle.amr_tags.specs.Stored.{IsPart};
+ghost use Rattle.amr_cluster.specs.Work.{cells_in, cut_by};
 
 use amr_box::{Bx, Cell};
 use amr_causes::NoMemory;
@@ -19,7 +20,7 @@ use std::alloc::Global;
 /// A box counted from the low corner of the larger one that it lies in.
 fn offset(larger: Bx, part: Bx) -> Bx
     requires near { IsNear larger }
-    requires inside { LiesIn part larger }
+    requires inside { IsPart larger part }
     ensures { HasCorners result (part.lo.x -ℤ larger.lo.x) (part.lo.y -ℤ larger.lo.y) (part.hi.x -ℤ larger.lo.x) (part.hi.y -ℤ larger.lo.y) }
 {
     let from = larger.lo();
@@ -37,7 +38,7 @@ fn offset(larger: Bx, part: Bx) -> Bx
 
 /// How many tags stand in each column and in each row of a box.
 pub fn signatures_of(alloc: Global, tags: &Tags, part: Bx) -> Result<Signatures, NoMemory>
-    requires inside { LiesIn part tags.now.bx }
+    requires inside { IsPart tags.now.bx part }
     ensures columns { IfOk result (λ s. s.columns.items ≡ signature X (cells_in (has tags.now) part) part) }
     ensures rows { IfOk result (λ s. s.rows.items ≡ signature Y (cells_in (has tags.now) part) part) }
 {

@@ -4,7 +4,8 @@ ghost use Rattle.std.specs.Prelude.{◌≡◌, ℕ, ◌+◌, ◌≤◌, ◌<◌,
 ghost use Rattle.amr_box.specs.Cells.{HasCorners, IsNear, height, holds, width};
 ghost use Rattle.amr_box.specs.declared.Cell.{Cell};
 ghost use Rattle.amr_tags.specs.TagSets.{has};
-ghost use Rattle.amr_cluster.specs.Work.{IsPiece, IsSpan, LiesIn};
+ghost use Rattle.amr_tags.specs.Stored.{IsPart};
+ghost use Rattle.amr_cluster.specs.Work.{IsCutBox, IsSpan};
 
 use crate::parts::{cut_by, signatures_of};
 use amr_box::{Bx, Cell};
@@ -15,7 +16,7 @@ use std::alloc::Global;
 
 /// The least box round some tags, and where it is cut, if anywhere.
 #[derive(Clone, Copy)]
-pub struct Piece {
+pub struct CutBox {
     pub bx: Bx,
     pub cut: Option<Cut>,
 }
@@ -71,16 +72,16 @@ fn inner(part: Bx, columns: Ends, rows: Ends) -> Bx
 /// The least box round the tags in a box, and where it is cut, by one look at the words.
 ///
 /// Both signatures of the least box stand within those of the box that it lies in, so that they needn't be counted.
-pub fn piece_of(
+pub fn cut_box_of(
     alloc: Global,
     tags: &Tags,
     part: Bx,
     efficiency: u32,
     w: u32,
-) -> Result<Option<Piece>, NoMemory>
+) -> Result<Option<CutBox>, NoMemory>
     requires near { IsNear part }
-    requires inside { LiesIn part tags.now.bx }
-    ensures { IfOk result (λ found. MatchOption found ((c : Cell) → (holds part c && has tags.now c) ≡ false) (IsPiece efficiency w (has tags.now) part)) }
+    requires inside { IsPart tags.now.bx part }
+    ensures { IfOk result (λ found. MatchOption found ((c : Cell) → (holds part c && has tags.now c) ≡ false) (IsCutBox efficiency w (has tags.now) part)) }
 {
     let counts = signatures_of(alloc, tags, part)?;
     let Some(columns) = span(&counts.columns) else {
@@ -93,5 +94,5 @@ pub fn piece_of(
     let xs = &counts.columns[columns.first..columns.last + 1];
     let ys = &counts.rows[rows.first..rows.last + 1];
     let cut = cut_by(xs, ys, efficiency, w);
-    Ok(Some(Piece { bx, cut }))
+    Ok(Some(CutBox { bx, cut }))
 }

@@ -1,7 +1,7 @@
 use Rattle.std.proofs.Common.{ap, ◌∙◌, arith}
 use Rattle.std.proofs.lemmas.Int.{ints}
 use Rattle.amr_cluster.proofs.Tagged.{size-is}
-use Rattle.amr_cluster.proofs.pieces.inner.Goals as goal
+use Rattle.amr_cluster.proofs.cut_boxes.inner.Goals as goal
 
 pub overflow_cast-lo : goal.overflow_cast-lo
 overflow_cast-lo c = omega (arith, ints, c.requires.near.west, c.requires.near.east, c.requires.near.south, c.requires.near.north, size-is c.args.part.lo.x c.args.part.hi.x c.requires.near.wide, size-is c.args.part.lo.y c.args.part.hi.y c.requires.near.high)

@@ -4,7 +4,7 @@ use Rattle.amr_tags.specs.TagSets.{has}
 use Rattle.amr_cluster.specs.Work.{cells_in}
 use Rattle.amr_cluster.proofs.Inner.{IsInner, inner-cut, inner-least}
 use Rattle.amr_cluster.proofs.Spans.{no_tags, span_inside}
-use Rattle.amr_cluster.proofs.pieces.piece_of.Goals as goal
+use Rattle.amr_cluster.proofs.cut_boxes.cut_box_of.Goals as goal
 
 pub returns-in_default : goal.returns-in_default
 returns-in_default c =
