@@ -4,6 +4,8 @@
 
 mod check;
 mod create;
+#[cfg(test)]
+mod damaged;
 mod device;
 mod found;
 mod latest;

@@ -1,4 +1,4 @@
-//! Stops, damaged images, and the file. The problem is one byte, and a slot holds two: the gates stand at 22 and 41, the end at 60.
+//! Stops, puts, renewals, older bytes, and the file. The problem is one byte, and a slot holds two: the gates stand at 22 and 41, the end at 60.
 ghost use Rattle.std.specs.Prelude.{◌≡◌, None};
 ghost use Rattle.amr_store.specs.Created.{IsVersion};
 ghost use Rattle.amr_store.specs.Stands.{IsStoreReady, last_in, slot_size_in};
@@ -10,7 +10,7 @@ use std::fs;
 use std::test::Fail;
 
 // A store of version 1 with one state in its first slot.
-const IMAGE: [u8; 42] = [
+pub(crate) const IMAGE: [u8; 42] = [
     0xA5, 65, 77, 82, 83, 84, 79, 82, 49, 2, 0, 0, 0, 0, 0, 0, 0, 1, 0, 0, 0, 112, 0xA5, 1, 0, 0,
     0, 0, 0, 0, 0, 2, 0, 0, 0, 0, 0, 0, 0, 8, 9, 0,
 ];
@@ -24,34 +24,18 @@ fn older() -> [u8; 128] {
 
 // What opening a disk finds, short of the store.
 #[derive(Clone, Copy, Debug, PartialEq, Eq)]
-enum Seen {
+pub(crate) enum Seen {
     Nothing,
     Ready,
     Damaged(Part),
 }
 
-fn shown(found: &Found) -> Seen {
+pub(crate) fn shown(found: &Found) -> Seen {
     match found {
         Found::Nothing => Seen::Nothing,
         Found::Ready(_) => Seen::Ready,
         Found::Damaged(part) => Seen::Damaged(*part),
     }
-}
-
-// What opening a disk with these bytes finds.
-fn shown_in(alloc: Global, bytes: &[u8]) -> Result<Seen, Fail> {
-    let mut disk = MemDisk::make(alloc, bytes, 128, 8, &[], None)?;
-    let found = Store::open(alloc, &mut disk)?;
-    Ok(shown(&found))
-}
-
-// The image with one byte changed.
-fn shown_with(alloc: Global, at: usize, byte: u8) -> Result<Seen, Fail> {
-    let mut image = IMAGE;
-    if at < 42 {
-        image[at] = byte;
-    }
-    shown_in(alloc, &image)
 }
 
 // The latest state that a disk holds.
@@ -64,7 +48,12 @@ fn latest_on(alloc: Global, mut disk: MemDisk) -> Result<Option<Vec<u8>>, Fail> 
 }
 
 // A new store with two states, on a disk that stops at a call, and what a stop leaves.
-fn stopped(alloc: Global, stop: Option<u64>, version: u32, mode: Leave) -> Result<MemDisk, Fail>
+pub(crate) fn stopped(
+    alloc: Global,
+    stop: Option<u64>,
+    version: u32,
+    mode: Leave,
+) -> Result<MemDisk, Fail>
     requires { IsVersion version }
 {
     let mut disk = MemDisk::make(alloc, &[], 128, 64, &[], stop)?;
@@ -168,7 +157,7 @@ fn puts_are_found_again(rt: HostRuntime) -> Result<(), Fail> {
 }
 
 // A store of version 1 with one state, and its renewal, on a disk that stops at a call, and what a stop leaves.
-fn renewed(alloc: Global, stop: Option<u64>, mode: Leave) -> Result<MemDisk, Fail> {
+pub(crate) fn renewed(alloc: Global, stop: Option<u64>, mode: Leave) -> Result<MemDisk, Fail> {
     let mut disk = MemDisk::make(alloc, &[], 256, 64, &[], stop)?;
     match Store::create(alloc, &mut disk, &[112], 2, 1) {
         Ok(mut store) => match store.put(&mut disk, 1, &[8, 9]) {
@@ -208,107 +197,6 @@ fn renewal_finds_the_old_state_or_the_new(rt: HostRuntime) -> Result<(), Fail> {
         Found::Nothing => assert!(rt; false),
         Found::Damaged(_) => assert!(rt; false),
     }
-    Ok(())
-}
-
-// The first part that a cut of the image damages.
-fn cut_at(length: usize) -> Seen {
-    if length < 2 {
-        return Seen::Nothing;
-    }
-    if length < 21 {
-        return Seen::Damaged(Part::Head);
-    }
-    if length < 22 {
-        return Seen::Damaged(Part::Text);
-    }
-    if length < 41 {
-        return Seen::Damaged(Part::Slot(0));
-    }
-    if length < 42 {
-        return Seen::Damaged(Part::Slot(1));
-    }
-    Seen::Ready
-}
-
-#[test]
-fn cuts_and_changes_are_damage(rt: HostRuntime) -> Result<(), Fail> {
-    let alloc = rt.alloc();
-    for length in 0..43 {
-        assert_eq!(rt;
-            shown_in(alloc, &IMAGE[..length])?,
-            cut_at(length),
-            "{length} bytes"
-        );
-    }
-    assert_eq!(rt; shown_in(alloc, &[0xA5, 0])?, Seen::Damaged(Part::Head));
-    assert_eq!(rt; shown_with(alloc, 0, 0)?, Seen::Nothing);
-    assert_eq!(rt; shown_with(alloc, 8, 50)?, Seen::Ready);
-    assert_eq!(rt; shown_with(alloc, 8, 51)?, Seen::Damaged(Part::Head));
-    assert_eq!(rt; shown_with(alloc, 19, 1)?, Seen::Damaged(Part::Text));
-    assert_eq!(rt; shown_with(alloc, 15, 1)?, Seen::Damaged(Part::Size));
-    assert_eq!(rt; shown_with(alloc, 23, 0)?, Seen::Damaged(Part::Slot(0)));
-    assert_eq!(rt; shown_with(alloc, 31, 3)?, Seen::Damaged(Part::Slot(0)));
-    assert_eq!(rt; shown_with(alloc, 41, 0xA5)?, Seen::Damaged(Part::Slot(1)));
-    Ok(())
-}
-
-#[test]
-fn long_fields_are_damage(rt: HostRuntime) -> Result<(), Fail> {
-    let alloc = rt.alloc();
-    let mut image = IMAGE;
-    image[9] = 0;
-    image[14] = 1;
-    assert_eq!(rt;
-        shown_in(alloc, &image)?,
-        Seen::Damaged(Part::Slot(1)),
-        "slots of 2^40 bytes"
-    );
-    image[31] = 0;
-    image[36] = 1;
-    assert_eq!(rt;
-        shown_in(alloc, &image)?,
-        Seen::Damaged(Part::Slot(0)),
-        "a payload of 2^40 bytes"
-    );
-    image[17] = 0;
-    image[19] = 1;
-    assert_eq!(rt;
-        shown_in(alloc, &image)?,
-        Seen::Damaged(Part::Text),
-        "a problem of 65,536 bytes"
-    );
-    let mut longer = [0; 43];
-    longer[..42].copy_from_slice(&IMAGE);
-    longer[9] = 3;
-    assert_eq!(rt;
-        shown_in(alloc, &longer)?,
-        Seen::Ready,
-        "slots of a byte more"
-    );
-    Ok(())
-}
-
-#[test]
-fn tie_and_other_problem_are_damage(rt: HostRuntime) -> Result<(), Fail> {
-    let alloc = rt.alloc();
-    let mut disk = stopped(alloc, None, 2, Leave::New)?;
-    disk.write_at(42, &[1])?;
-    assert_eq!(rt;
-        shown(&Store::open(alloc, &mut disk)?),
-        Seen::Damaged(Part::Tie)
-    );
-    let mut disk = renewed(alloc, None, Leave::New)?;
-    disk.write_at(21, &[113])?;
-    assert_eq!(rt;
-        shown(&Store::open(alloc, &mut disk)?),
-        Seen::Damaged(Part::Renewal)
-    );
-    disk.write_at(68, &[49])?;
-    assert_eq!(rt;
-        shown(&Store::open(alloc, &mut disk)?),
-        Seen::Damaged(Part::Head)
-    );
     Ok(())
 }
 
