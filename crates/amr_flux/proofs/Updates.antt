@@ -2,6 +2,7 @@
 use Rattle.std.proofs.Common.{◌≡◌, ℕ, ◌+◌, ◌*◌, ◌^◌, ◌<◌, ◌≤◌, Bool, true, false, ℤ, pos, negsuc, ◌+ℤ◌, ◌-ℤ◌, ◌≤ℤ◌, ◌<ℤ◌, List, length, refl, sym, ap, subst, ◌∙◌, arith}
 use Rattle.std.specs.Prelude.{IsTrue, cond, not, slice_index, slice_index_or}
 use Rattle.std.specs.Ordering.{int_eq}
+use Rattle.std.proofs.lemmas.Bool.{and_parts}
 use Rattle.std.proofs.lemmas.Int.{ints}
 use Rattle.std.proofs.lemmas.Nat.{same_from_place}
 use Rattle.amr_box.specs.declared.Cell.{Cell}
@@ -14,7 +15,7 @@ use Rattle.amr_def.specs.Flux.{face, net}
 use Rattle.amr_patch.specs.declared.patches.Patch.{Patch}
 use Rattle.amr_patch.specs.Places.{column_of, grown, in_frame, is_face_of, row_of}
 use Rattle.amr_patch.specs.Patches.{flux_along, mass_in, value_in}
-use Rattle.amr_patch.proofs.Rows.{and_true, inside, is_inside, sides, zero-cut}
+use Rattle.amr_patch.proofs.Rows.{inside, is_inside, sides, zero-cut}
 use Rattle.amr_flux.specs.Faces.{border_faces, fluxes_with}
 use Rattle.amr_flux.specs.Tables.{IsOtherPlace, Stands, count_below, net_inflow, value, x_marked, x_through, y_marked, y_through}
 use Rattle.amr_flux.proofs.Places.{IsAt, IsFaceAt, high_at, offset, value_here}
@@ -156,7 +157,7 @@ grown_at b c e =
 
 pub frame_stays : (q new : Patch) (vs : List ℕ) → new.bx ≡ q.bx → new.values.items ≡ vs → ((k : ℕ) → IsOtherPlace (width q.bx) (height q.bx) k → slice_index vs k ≡ slice_index q.values.items k) → (c : Cell) → IsTrue (in_frame q.bx c) → value_in new c ≡ value_in q c
 frame_stays q new vs same vs_is others c e =
-    let parts = and_true (holds (grown q.bx) c) (not (holds q.bx c)) e in
+    let parts = and_parts (holds (grown q.bx) c) (not (holds q.bx c)) e in
     let i = at_least_zero (c.x -ℤ (q.bx.lo.x -ℤ pos 1)) in
     let j = at_least_zero (c.y -ℤ (q.bx.lo.y -ℤ pos 1)) in
     let at = grown_at q.bx c parts.0 in

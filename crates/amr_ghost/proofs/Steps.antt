@@ -5,10 +5,11 @@ use Rattle.std.proofs.Common.{inl, inr}
 use Rattle.std.proofs.Math.IntN.{ℤ_discrete}
 use Rattle.amr_box.specs.declared.Cell.{Cell}
 use Rattle.amr_box.specs.Cells.{Extent, holds, within}
+use Rattle.amr_box.proofs.CellEquality.{same_cells}
 use Rattle.amr_patch.specs.declared.patches.Patch.{Patch}
 use Rattle.amr_patch.specs.Places.{grown, in_frame}
 use Rattle.amr_patch.specs.Patches.{box}
-use Rattle.amr_patch.proofs.Entries.{in_grown, same_cells}
+use Rattle.amr_patch.proofs.Entries.{in_grown}
 use Rattle.amr_ghost.specs.Frames.{is_beside, is_corner}
 use Rattle.amr_ghost.specs.Filling.{HasGhost, IsGhostSet, KeepsCells, KeepsGhosts}
 

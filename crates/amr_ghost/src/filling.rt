@@ -22,6 +22,14 @@ use amr_box::Cell;
 use amr_def::{Dom, Problem};
 use amr_patch::{Level, Order, Patch, order_of};
 
+/// The patch whose frame is filled: the number of its level, how that level's patches stand, and its own number among them.
+#[derive(Clone, Copy, Debug)]
+struct Target {
+    level: u32,
+    order: Order,
+    patch: usize,
+}
+
 /// Where the look-ups for each side of a patch begin.
 #[derive(Clone, Copy, Debug)]
 struct NearSides {
@@ -43,68 +51,69 @@ fn holder(patches: &[Patch], order: Order, dom: &Dom, near: &mut usize, c: Cell)
     look_up(patches, order, near, c)
 }
 
-/// Gives the first ghost cells of a strip beside patch `i` their values: as many as stand for cells of one patch, or one that
+/// Gives the first ghost cells of a strip beside a patch their values: as many as stand for cells of one patch, or one that
 /// stands for no cell of the level. Answers how many.
 fn fill_span(
     p: &Problem,
-    l: u32,
     old: Option<&Level>,
-    order: Order,
     patches: &mut [Patch],
-    i: usize,
+    target: Target,
     strip: Strip,
     near: &mut Near,
 ) -> u32
-    requires level { l ≤ 4 }
-    requires patches { IsLevelInOrder (domain p.now l) order patches.old }
-    requires there { i < length patches.old }
+    requires level { target.level ≤ 4 }
+    requires patches { IsLevelInOrder (domain p.now target.level) target.order patches.old }
+    requires there { target.patch < length patches.old }
     requires some { 0 < strip.count }
     requires small { strip.count ≤ 8192 }
     requires room { HasRoom strip.from }
-    requires ghost_strip { (q : Patch) → IsGhostStrip (domain p.now l) (box (slice_index_or patches.old i q)) strip.axis strip.from strip.count }
+    requires ghost_strip { (q : Patch) → IsGhostStrip (domain p.now target.level) (box (slice_index_or patches.old target.patch q)) strip.axis strip.from strip.count }
     ensures some { 0 < result }
     ensures within { result ≤ strip.count }
     ensures kept { AllZip KeepsCells patches.old patches.new }
-    ensures ghosts { KeepsValues p.now l (old_masses (option_copied old.entry)) patches.old patches.new }
-    ensures set { (q : Patch) → HasValues p.now l (masses_in patches.old) (old_masses (option_copied old.entry)) (slice_index_or patches.new i q) strip.axis strip.from result }
+    ensures ghosts { KeepsValues p.now target.level (old_masses (option_copied old.entry)) patches.old patches.new }
+    ensures set { (q : Patch) → HasValues p.now target.level (masses_in patches.old) (old_masses (option_copied old.entry)) (slice_index_or patches.new target.patch q) strip.axis strip.from result }
 {
-    let dom = p.domain(l);
+    let dom = p.domain(target.level);
     let home = dom.home_cell(strip.from);
-    match holder(patches, order, &dom, &mut near.level, home) {
+    match holder(patches, target.order, &dom, &mut near.level, home) {
         Some(j) => {
             let source = patches[j].bx();
             let count = cells_ahead(&source, strip.axis, home).min(strip.count);
-            copy_strip(patches, i, j, strip.axis, strip.from, home, count);
+            let span = Strip {
+                axis: strip.axis,
+                from: strip.from,
+                count,
+            };
+            copy_strip(patches, target.patch, span, j, home);
             count
         }
         None => {
-            let value = outer_value(p, l, old, &mut near.coarser, home);
-            set_ghost(patches, i, strip.from, value, false);
+            let value = outer_value(p, target.level, old, &mut near.coarser, home);
+            set_ghost(patches, target.patch, strip.from, value, false);
             1
         }
     }
 }
 
-/// Gives the ghost cells of a strip beside patch `i` their values, span by span.
+/// Gives the ghost cells of a strip beside a patch their values, span by span.
 fn fill_strip(
     p: &Problem,
-    l: u32,
     old: Option<&Level>,
-    order: Order,
     patches: &mut [Patch],
-    i: usize,
+    target: Target,
     strip: Strip,
     near: &mut Near,
 )
-    requires level { l ≤ 4 }
-    requires patches { IsLevelInOrder (domain p.now l) order patches.old }
-    requires there { i < length patches.old }
+    requires level { target.level ≤ 4 }
+    requires patches { IsLevelInOrder (domain p.now target.level) target.order patches.old }
+    requires there { target.patch < length patches.old }
     requires small { strip.count ≤ 8192 }
     requires room { HasRoom strip.from }
-    requires ghost_strip { (q : Patch) → IsGhostStrip (domain p.now l) (box (slice_index_or patches.old i q)) strip.axis strip.from strip.count }
+    requires ghost_strip { (q : Patch) → IsGhostStrip (domain p.now target.level) (box (slice_index_or patches.old target.patch q)) strip.axis strip.from strip.count }
     ensures kept { AllZip KeepsCells patches.old patches.new }
-    ensures ghosts { KeepsValues p.now l (old_masses (option_copied old.entry)) patches.old patches.new }
-    ensures set { (q : Patch) → HasValues p.now l (masses_in patches.old) (old_masses (option_copied old.entry)) (slice_index_or patches.new i q) strip.axis strip.from strip.count }
+    ensures ghosts { KeepsValues p.now target.level (old_masses (option_copied old.entry)) patches.old patches.new }
+    ensures set { (q : Patch) → HasValues p.now target.level (masses_in patches.old) (old_masses (option_copied old.entry)) (slice_index_or patches.new target.patch q) strip.axis strip.from strip.count }
 {
     let mut done = 0;
     while done < strip.count {
@@ -113,54 +122,50 @@ fn fill_strip(
             from: step(strip.axis, strip.from, done),
             count: strip.count - done,
         };
-        done += fill_span(p, l, old, order, patches, i, rest, near);
+        done += fill_span(p, old, patches, target, rest, near);
     }
 }
 
-/// Gives the ghost cells on a side of patch `i` their values.
+/// Gives the ghost cells on a side of a patch their values.
 fn fill_side(
     p: &Problem,
-    l: u32,
     old: Option<&Level>,
-    order: Order,
     patches: &mut [Patch],
-    i: usize,
+    target: Target,
     side: Side,
     near: &mut Near,
 )
-    requires level { l ≤ 4 }
-    requires patches { IsLevelInOrder (domain p.now l) order patches.old }
-    requires there { i < length patches.old }
+    requires level { target.level ≤ 4 }
+    requires patches { IsLevelInOrder (domain p.now target.level) target.order patches.old }
+    requires there { target.patch < length patches.old }
     ensures kept { AllZip KeepsCells patches.old patches.new }
-    ensures ghosts { KeepsValues p.now l (old_masses (option_copied old.entry)) patches.old patches.new }
-    ensures set { (q : Patch) → HasSideValues p.now l (masses_in patches.old) (old_masses (option_copied old.entry)) (slice_index_or patches.new i q) side }
-    ensures inside { (q : Patch) → LiesInDomain (domain p.now l) (box (slice_index_or patches.new i q)) }
+    ensures ghosts { KeepsValues p.now target.level (old_masses (option_copied old.entry)) patches.old patches.new }
+    ensures set { (q : Patch) → HasSideValues p.now target.level (masses_in patches.old) (old_masses (option_copied old.entry)) (slice_index_or patches.new target.patch q) side }
+    ensures inside { (q : Patch) → LiesInDomain (domain p.now target.level) (box (slice_index_or patches.new target.patch q)) }
 {
-    let strip = side_strip(&patches[i].bx(), side);
-    fill_strip(p, l, old, order, patches, i, strip, near);
+    let strip = side_strip(&patches[target.patch].bx(), side);
+    fill_strip(p, old, patches, target, strip, near);
 }
 
-/// Gives the ghost cells beside patch `i` their values.
+/// Gives the ghost cells beside a patch their values.
 fn fill_frame(
     p: &Problem,
-    l: u32,
     old: Option<&Level>,
-    order: Order,
     patches: &mut [Patch],
-    i: usize,
+    target: Target,
     near: &mut NearSides,
 )
-    requires level { l ≤ 4 }
-    requires patches { IsLevelInOrder (domain p.now l) order patches.old }
-    requires there { i < length patches.old }
+    requires level { target.level ≤ 4 }
+    requires patches { IsLevelInOrder (domain p.now target.level) target.order patches.old }
+    requires there { target.patch < length patches.old }
     ensures kept { AllZip KeepsCells patches.old patches.new }
-    ensures ghosts { KeepsValues p.now l (old_masses (option_copied old.entry)) patches.old patches.new }
-    ensures set { (q : Patch) → HasFrame p.now l (masses_in patches.old) (old_masses (option_copied old.entry)) (slice_index_or patches.new i q) }
+    ensures ghosts { KeepsValues p.now target.level (old_masses (option_copied old.entry)) patches.old patches.new }
+    ensures set { (q : Patch) → HasFrame p.now target.level (masses_in patches.old) (old_masses (option_copied old.entry)) (slice_index_or patches.new target.patch q) }
 {
-    fill_side(p, l, old, order, patches, i, Side::West, &mut near.west);
-    fill_side(p, l, old, order, patches, i, Side::East, &mut near.east);
-    fill_side(p, l, old, order, patches, i, Side::South, &mut near.south);
-    fill_side(p, l, old, order, patches, i, Side::North, &mut near.north);
+    fill_side(p, old, patches, target, Side::West, &mut near.west);
+    fill_side(p, old, patches, target, Side::East, &mut near.east);
+    fill_side(p, old, patches, target, Side::South, &mut near.south);
+    fill_side(p, old, patches, target, Side::North, &mut near.north);
 }
 
 /// Fills the frames of the patches of level `l`, from 0 to 4: gives each ghost cell beside a patch its value, and marks it where
@@ -212,6 +217,11 @@ pub fn fill_in_order(p: &Problem, l: u32, patches: &mut [Patch], order: Order, o
         north: first,
     };
     for i in 0..patches.len() {
-        fill_frame(p, l, old, order, patches, i, &mut near);
+        let target = Target {
+            level: l,
+            order,
+            patch: i,
+        };
+        fill_frame(p, old, patches, target, &mut near);
     }
 }

@@ -12,7 +12,8 @@ ghost use Rattle.amr_ghost.specs.Frames.{is_beside};
 ghost use Rattle.amr_ghost.specs.Filling.{AreCopied, HasGhost, HasGhosts, IsGhostSet, KeepsCells, KeepsGhosts};
 
 use crate::entries::{entries_of, nth};
-use amr_box::{Axis, Cell};
+use crate::sides::Strip;
+use amr_box::Cell;
 use amr_patch::Patch;
 
 /// Gives a ghost cell of patch `i` a value and a mark.
@@ -45,35 +46,27 @@ fn set_entry(patch: &mut Patch, at: usize, mass: u32)
     patch.marks[at] = true;
 }
 
-/// Gives the ghost cells of a strip beside patch `i` the masses of the cells of a strip in patch `j`, and marks them as cells of
-/// the level. `j` may be `i`.
-pub(crate) fn copy_strip(
-    patches: &mut [Patch],
-    i: usize,
-    j: usize,
-    axis: Axis,
-    to: Cell,
-    from: Cell,
-    count: u32,
-)
+/// Gives the ghost cells of a strip beside patch `i` the masses of as many cells of patch `j` along the same axis, from a cell
+/// on, and marks them as cells of the level. `j` may be `i`.
+pub(crate) fn copy_strip(patches: &mut [Patch], i: usize, strip: Strip, j: usize, from: Cell)
     requires there { i < length patches.old }
     requires source { j < length patches.old }
-    requires small { count ≤ 8192 }
-    requires to_room { HasRoom to }
+    requires small { strip.count ≤ 8192 }
+    requires to_room { HasRoom strip.from }
     requires from_room { HasRoom from }
-    requires ghost_cells { (q : Patch) (k : ℕ) → k < count → IsTrue (in_frame (box (slice_index_or patches.old i q)) (step axis to k)) }
-    requires beside { (q : Patch) (k : ℕ) → k < count → IsTrue (is_beside (box (slice_index_or patches.old i q)) (step axis to k)) }
-    requires masses { (q : Patch) (k : ℕ) → k < count → IsTrue (holds (box (slice_index_or patches.old j q)) (step axis from k)) }
+    requires ghost_cells { (q : Patch) (k : ℕ) → k < strip.count → IsTrue (in_frame (box (slice_index_or patches.old i q)) (step strip.axis strip.from k)) }
+    requires beside { (q : Patch) (k : ℕ) → k < strip.count → IsTrue (is_beside (box (slice_index_or patches.old i q)) (step strip.axis strip.from k)) }
+    requires masses { (q : Patch) (k : ℕ) → k < strip.count → IsTrue (holds (box (slice_index_or patches.old j q)) (step strip.axis from k)) }
     ensures kept { AllZip KeepsCells patches.old patches.new }
-    ensures ghosts { (value : Cell → ℕ) (mark : Cell → Bool) (d : Patch) → AreCopied value mark (slice_index_or patches.old j d) axis to from count → AllZip (KeepsGhosts value mark) patches.old patches.new }
-    ensures set { (value : Cell → ℕ) (mark : Cell → Bool) (q d : Patch) → AreCopied value mark (slice_index_or patches.old j d) axis to from count → HasGhosts value mark (slice_index_or patches.new i q) axis to count }
+    ensures ghosts { (value : Cell → ℕ) (mark : Cell → Bool) (d : Patch) → AreCopied value mark (slice_index_or patches.old j d) strip.axis strip.from from strip.count → AllZip (KeepsGhosts value mark) patches.old patches.new }
+    ensures set { (value : Cell → ℕ) (mark : Cell → Bool) (q d : Patch) → AreCopied value mark (slice_index_or patches.old j d) strip.axis strip.from from strip.count → HasGhosts value mark (slice_index_or patches.new i q) strip.axis strip.from strip.count }
 {
-    if count == 0 {
+    if strip.count == 0 {
         return;
     }
-    let source = entries_of(&patches[j].bx(), axis, from);
-    let target = entries_of(&patches[i].bx(), axis, to);
-    for k in 0..count {
+    let source = entries_of(&patches[j].bx(), strip.axis, from);
+    let target = entries_of(&patches[i].bx(), strip.axis, strip.from);
+    for k in 0..strip.count {
         let mass = entry(&patches[j], nth(source, k));
         let at = nth(target, k);
         set_entry(&mut patches[i], at, mass);

@@ -1,10 +1,11 @@
 -- Boxes that have no cell in common, by how many of them hold a cell: in each order, and from a count of any form.
-use Rattle.std.proofs.Common.{◌≡◌, ◌∙◌, ℕ, zero, suc, ◌+◌, ◌<◌, ◌≤◌, Bool, true, false, ◌||◌, List, [], ◌∷◌, length, cond, refl, sym, ap, arith}
+use Rattle.std.proofs.Common.{◌≡◌, ◌∙◌, ℕ, zero, suc, ◌+◌, ◌<◌, ◌≤◌, Bool, true, false, List, [], ◌∷◌, length, cond, refl, sym, ap, arith}
 use Rattle.std.specs.Prelude.{slice_index_or}
 use Rattle.std.specs.List.{sum_by}
 use Rattle.std.specs.List.Sorted.{IsPermutation}
 use Rattle.std.proofs.lemmas.List.Sums.{sum_by-cons}
 use Rattle.std.proofs.lemmas.List.Sorted.{sum_by-IsPermutation}
+use Rattle.std.proofs.lemmas.Bool.{or_right}
 use Rattle.amr_box.specs.declared.Cell.{Cell}
 use Rattle.std.proofs.lemmas.Int.{ints}
 use Rattle.amr_box.specs.Cells.{Extent, IsNear, IsProper, holds}
@@ -73,10 +74,6 @@ pub in_boxes_at : (bs : List Extent) (c : Cell) (k : ℕ) (d : Extent) → k < l
 in_boxes_at [] c k d lt e = absurd (omega arith)
 in_boxes_at (b ∷ bs) c zero d lt e = rw e refl
 in_boxes_at (b ∷ bs) c (suc k) d lt e = or_right (holds b c) (in_boxes bs c) (in_boxes_at bs c k d (omega arith) e)
-  where
-    or_right : (a b : Bool) → b ≡ true → (a || b) ≡ true
-    or_right true b e = refl
-    or_right false b e = e
 
 -- one of the boxes whose cells are near is near
 pub near_box : (bs : List Extent) (k : ℕ) (b : Extent) → k < length bs → b ≡ slice_index_or bs k b → IsProper b → AreNear bs → IsNear b

@@ -2,6 +2,7 @@
 use Rattle.std.proofs.Common.{◌≡◌, ◌≢◌, ◌∙◌, ℕ, ◌<◌, ◌⊎◌, inl, inr, Bool, true, false, ◌||◌, cond, ℤ, pos, ◌+ℤ◌, ◌-ℤ◌, ◌≤ℤ◌, List, length, refl, sym, ap, arith}
 use Rattle.std.specs.Prelude.{slice_index_or, slice_set}
 use Rattle.std.specs.Ordering.{int_eq}
+use Rattle.std.proofs.lemmas.Bool.{and_parts}
 use Rattle.std.proofs.lemmas.Int.{ints}
 use Rattle.std.proofs.lemmas.Bool.Decides.{Decides-int_eq}
 use Rattle.std.proofs.lemmas.List.{get_or-set_other, get_or-set_same}
@@ -13,7 +14,7 @@ use Rattle.amr_box.specs.Cells.{Extent, at_least_zero, cell, height, width, with
 use Rattle.amr_patch.specs.declared.patches.Patch.{Patch}
 use Rattle.amr_patch.specs.Places.{column_of, is_edge_face, is_end, on_edge, row_of}
 use Rattle.amr_patch.specs.Patches.{HasNoFluxes, SameFluxes, flux_along, flux_in}
-use Rattle.amr_patch.proofs.Rows.{IsBetween, and_true, between}
+use Rattle.amr_patch.proofs.Rows.{between}
 use Rattle.amr_patch.proofs.Entries.{same_cut}
 
 -- ---- numbers told equal
@@ -52,13 +53,13 @@ pub record IsOnLine (low high first last z line : ℤ) : Type 0 where
 
 pub x_edge : (b : Extent) (c : Cell) → on_edge X b c ≡ true → IsOnLine b.lo.y b.hi.y b.lo.x b.hi.x c.y c.x
 x_edge b c e =
-    let t : (within b.lo.y b.hi.y c.y ≡ true) × (is_end b.lo.x b.hi.x c.x ≡ true) = and_true (within b.lo.y b.hi.y c.y) (is_end b.lo.x b.hi.x c.x) e in
+    let t : (within b.lo.y b.hi.y c.y ≡ true) × (is_end b.lo.x b.hi.x c.x ≡ true) = and_parts (within b.lo.y b.hi.y c.y) (is_end b.lo.x b.hi.x c.x) e in
     let h = between b.lo.y b.hi.y c.y t.0 in
     record { from = h.from; to = h.to; ends = t.1 }
 
 pub y_edge : (b : Extent) (c : Cell) → on_edge Y b c ≡ true → IsOnLine b.lo.x b.hi.x b.lo.y b.hi.y c.x c.y
 y_edge b c e =
-    let t : (within b.lo.x b.hi.x c.x ≡ true) × (is_end b.lo.y b.hi.y c.y ≡ true) = and_true (within b.lo.x b.hi.x c.x) (is_end b.lo.y b.hi.y c.y) e in
+    let t : (within b.lo.x b.hi.x c.x ≡ true) × (is_end b.lo.y b.hi.y c.y ≡ true) = and_parts (within b.lo.x b.hi.x c.x) (is_end b.lo.y b.hi.y c.y) e in
     let h = between b.lo.x b.hi.x c.x t.0 in
     record { from = h.from; to = h.to; ends = t.1 }
 

@@ -3,14 +3,15 @@ use Rattle.std.proofs.Common.{◌≡◌, ◌≢◌, ◌∙◌, ℕ, ◌+◌, ◌
 use Rattle.std.specs.Prelude.{not, slice_index, slice_index_or, slice_set}
 use Rattle.std.proofs.lemmas.Int.{ints}
 use Rattle.std.proofs.lemmas.Nat.{same_from_place}
-use Rattle.std.proofs.lemmas.Bool.{cases_lt}
+use Rattle.std.proofs.lemmas.Bool.{and_parts, cases_lt}
 use Rattle.std.proofs.lemmas.List.{get_or-append_right, get_or-drop, get_or-replicate, get_or-set_other, get_or-take, get_or_append_left, length-replicate}
 use Rattle.std.proofs.Math.ListN.{get_or-eq_default, replicate}
 use borrow.Rule.Slice.PartMut.{post_of}
 use Rattle.amr_box.specs.declared.Cell.{Cell}
 use Rattle.amr_box.specs.Cells.{Extent, IsNear, at_least_zero, cell, holds, width}
+use Rattle.amr_box.proofs.CellEquality.{same_cells}
 use Rattle.amr_patch.specs.Places.{grown, in_frame, place}
-use Rattle.amr_patch.proofs.Rows.{and_true, inside, is_inside, sides, zero-cut}
+use Rattle.amr_patch.proofs.Rows.{inside, is_inside, sides, zero-cut}
 
 pub whole : (z : ℤ) → pos 0 ≤ℤ z → pos (at_least_zero z) ≡ z
 whole (pos n) p = refl
@@ -35,9 +36,6 @@ same_offsets : (x y u v : ℤ) (w : ℕ) → HasOffsets x y u v w → at_least_z
 same_offsets x y u v w h e =
     let both : (at_least_zero y ≡ at_least_zero v) × (at_least_zero x ≡ at_least_zero u) = same_from_place (at_least_zero y) (at_least_zero x) (at_least_zero v) (at_least_zero u) w (below x w h.x_from h.x_below) (below u w h.u_from h.u_below) e in
     (same_cut x u h.x_from h.u_from both.1, same_cut y v h.y_from h.v_from both.0)
-
-pub same_cells : (c d : Cell) → c.x ≡ d.x → c.y ≡ d.y → c ≡ d
-same_cells c d e f = λ i. record { x = e i; y = f i }
 
 pub place-same : (b : Extent) (c d : Cell) → IsNear b → holds (grown b) c ≡ true → holds (grown b) d ≡ true → place b c ≡ place b d → c ≡ d
 unfolding place
@@ -66,7 +64,7 @@ pub in_grown : (b : Extent) (c : Cell) → holds b c ≡ true → holds (grown b
 in_grown b c e = let i = inside b c e in is_inside (grown b) c (record { west = omega (arith, ints, i.west); east = omega (arith, ints, i.east); south = omega (arith, ints, i.south); north = omega (arith, ints, i.north) })
 
 pub in_the_frame : (b : Extent) (c : Cell) → in_frame b c ≡ true → holds (grown b) c ≡ true
-in_the_frame b c e = (and_true (holds (grown b) c) (not (holds b c)) e).0
+in_the_frame b c e = (and_parts (holds (grown b) c) (not (holds b c)) e).0
 
 -- ---- rows
 

@@ -5,10 +5,10 @@ use Rattle.std.specs.List.{All}
 use Rattle.std.specs.declared.option.Option.{Option}
 use Rattle.std.specs.declared.option.Option.TheVariants.{None, Some}
 use Rattle.std.proofs.lemmas.Int.{ints}
-use Rattle.std.proofs.lemmas.Bool.{cases_eq}
+use Rattle.std.proofs.lemmas.Bool.{and_parts, cases_eq}
 use Rattle.std.proofs.lemmas.List.{get_or-set_same, get_or-set_other, length-set}
 use Rattle.amr_box.specs.declared.Cell.{Cell}
-use Rattle.amr_box.specs.Cells.{Extent, cell, height, holds}
+use Rattle.amr_box.specs.Cells.{Extent, cell, holds}
 use Rattle.amr_def.specs.State.{in_boxes}
 use Rattle.amr_patch.specs.declared.patches.Patch.{Patch}
 use Rattle.amr_patch.specs.Places.{grown}
@@ -16,7 +16,7 @@ use Rattle.amr_patch.specs.Pairwise.{Pairwise}
 use Rattle.amr_patch.specs.Patches.{AreApart, ArePatchesApart, HasNoFluxes, HasNoMarks, IsBlank, IsCopy, KeepsFrameAndFluxes, SameGhosts, SameOtherValues, box, in_patches, mass_in, masses_in}
 use Rattle.amr_patch.specs.declared.lookup.Order.{Order}
 use Rattle.amr_patch.specs.Orders.{AreBoxesInRows, AreInRows, IsHolder, IsOrderOf, comes_first}
-use Rattle.amr_patch.proofs.Rows.{and_true, inside, is_inside}
+use Rattle.amr_patch.proofs.Rows.{inside, is_inside}
 use Rattle.amr_patch.proofs.Entries.{in_grown, in_the_frame}
 use Rattle.amr_patch.proofs.Standing.{order_of_boxes}
 use Rattle.amr_patch.proofs.Lookups.{holder, one_patch, masses_in-at, masses_in-none, same_default}
@@ -173,7 +173,7 @@ order_set o ps k p lt e = order_of_boxes o ps (slice_set ps k p) (boxes_set ps k
 
 -- no ghost cell is a cell of the box
 pub ghosts_stay : (c : Cell) (q p : Patch) → holds (box q) c ≡ true → SameOtherValues c q p → SameGhosts q p
-ghosts_stay c q p h others d e = others d (in_the_frame (box q) d e) (λ same. apart (holds (box q) d) (and_true (holds (grown (box q)) d) (not (holds (box q) d)) e).1 (ap (λ (b : Cell). holds (box q) b) same ∙ h))
+ghosts_stay c q p h others d e = others d (in_the_frame (box q) d e) (λ same. apart (holds (box q) d) (and_parts (holds (grown (box q)) d) (not (holds (box q) d)) e).1 (ap (λ (b : Cell). holds (box q) b) same ∙ h))
   where
     apart : (t : Bool) → not t ≡ true → t ≡ true → ⊥
     apart true e f = cc

@@ -4,7 +4,7 @@ use Rattle.std.specs.Prelude.{int_le, slice_index_or, IsTrue}
 use Rattle.std.specs.List.{All}
 use Rattle.std.specs.declared.option.Option.TheVariants.{None, Some}
 use Rattle.std.proofs.lemmas.Int.{ints, clamps}
-use Rattle.std.proofs.lemmas.Bool.{cases_lt, cases_eq}
+use Rattle.std.proofs.lemmas.Bool.{or_right, cases_lt, cases_eq, false_from_ne_true}
 use Rattle.std.specs.Int.{int_min}
 use Rattle.amr_box.specs.declared.Cell.{Cell}
 use Rattle.amr_box.specs.Cells.{at_least_zero, cell, height, holds}
@@ -13,24 +13,16 @@ use Rattle.amr_patch.specs.Patches.{ArePatchesApart, box, in_patches, mass_in, m
 use Rattle.amr_patch.specs.Orders.{AreAtMostHigh, AreInRows, IsHolder, comes_first}
 use Rattle.amr_patch.proofs.Rows.{inside, is_inside, sides}
 
-not_true : (b : Bool) → (b ≡ true → ⊥) → b ≡ false
-not_true true n = absurd (n refl)
-not_true false n = refl
-
 -- ---- what is in the patches
 
 pub in_none : (ps : List Patch) (c : Cell) → All (λ p. IsTrue (holds (box p) c) → ⊥) ps → in_patches ps c ≡ false
 in_none [] c h = refl
-in_none (p ∷ ps) c h = rw (not_true (holds (box p) c) (h 0 p (omega arith))) (in_none ps c (λ k d lt. h (suc k) d (omega arith)))
+in_none (p ∷ ps) c h = rw (false_from_ne_true (holds (box p) c) (h 0 p (omega arith))) (in_none ps c (λ k d lt. h (suc k) d (omega arith)))
 
 pub in_one : (ps : List Patch) (c : Cell) (i : ℕ) → IsHolder ps c i → in_patches ps c ≡ true
 in_one [] c i h = let lt : i < 0 = h.inside in absurd (omega arith)
 in_one (p ∷ ps) c zero h = rw (h.holds_it p) refl
 in_one (p ∷ ps) c (suc i) h = or_right (holds (box p) c) (in_patches ps c) (in_one ps c i (record { inside = let lt : suc i < suc (length ps) = h.inside in omega arith; holds_it = λ d. h.holds_it d }))
-  where
-    or_right : (a b : Bool) → b ≡ true → (a || b) ≡ true
-    or_right true b e = refl
-    or_right false b e = e
 
 apart_tail : (p : Patch) (ps : List Patch) → ArePatchesApart (p ∷ ps) → ArePatchesApart ps
 apart_tail p ps h = λ i j d lt k. h (suc i) (suc j) d (omega arith) (omega arith)
@@ -49,7 +41,7 @@ masses_in-at [] c i d a h = let lt : i < 0 = h.inside in absurd (omega arith)
 masses_in-at (p ∷ ps) c zero d a h = rw (h.holds_it d) refl
 masses_in-at (p ∷ ps) c (suc i) d a h =
     let lt : suc i < suc (length ps) = h.inside in
-    let other : holds (box p) c ≡ false = not_true (holds (box p) c) (λ e. a 0 (suc i) d (omega arith) lt c e (h.holds_it d)) in
+    let other : holds (box p) c ≡ false = false_from_ne_true (holds (box p) c) (λ e. a 0 (suc i) d (omega arith) lt c e (h.holds_it d)) in
     rw other (masses_in-at ps c i d (apart_tail p ps a) (record { inside = omega arith; holds_it = λ d. h.holds_it d }))
 
 pub same_default : {A : Type 0} (xs : List A) (i : ℕ) (d e : A) → i < length xs → slice_index_or xs i d ≡ slice_index_or xs i e

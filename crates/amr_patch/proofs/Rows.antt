@@ -1,18 +1,15 @@
 -- Where a cell stands among the cells of a box, in rows.
-use Rattle.std.proofs.Common.{◌≡◌, ℕ, ◌+◌, ◌*◌, ◌<◌, ◌≤◌, Bool, true, false, ◌&&◌, ℤ, pos, negsuc, ◌+ℤ◌, ◌-ℤ◌, ◌≤ℤ◌, refl, arith}
+use Rattle.std.proofs.Common.{◌≡◌, ℕ, ◌+◌, ◌*◌, ◌<◌, ◌≤◌, Bool, true, ◌&&◌, ℤ, pos, negsuc, ◌+ℤ◌, ◌-ℤ◌, ◌≤ℤ◌, refl, arith}
 use Rattle.std.specs.Prelude.{int_le}
 use Rattle.std.proofs.lemmas.Int.{ints}
+use Rattle.std.proofs.lemmas.Bool.{and_parts}
 use Rattle.std.proofs.lemmas.Nat.{rows}
 use Rattle.std.proofs.Math.Nat.{mul-le-mul_right}
 use Rattle.amr_box.specs.declared.Cell.{Cell}
-use Rattle.amr_box.specs.Cells.{Extent, IsNear, at_least_zero, cell, extent, height, holds, width, within}
+use Rattle.amr_box.specs.Cells.{Extent, IsNear, at_least_zero, height, holds, width, within}
 use Rattle.amr_patch.specs.Places.{place}
 
 -- ---- tests as facts
-
-pub and_true : (a b : Bool) → (a && b) ≡ true → (a ≡ true) × (b ≡ true)
-and_true true b e = (refl, e)
-and_true false b e = cc
 
 pub record IsBetween (low high z : ℤ) : Type 0 where
   pub from : low ≤ℤ z
@@ -20,7 +17,7 @@ pub record IsBetween (low high z : ℤ) : Type 0 where
 
 pub between : (low high z : ℤ) → within low high z ≡ true → IsBetween low high z
 between low high z e =
-    let t : (int_le low z ≡ true) × (int_le z high ≡ true) = and_true (int_le low z) (int_le z high) e in
+    let t : (int_le low z ≡ true) × (int_le z high ≡ true) = and_parts (int_le low z) (int_le z high) e in
     record { from = is_le low z t.0; to = is_le z high t.1 }
   where
     is_le : (a b : ℤ) → int_le a b ≡ true → a ≤ℤ b
@@ -38,7 +35,7 @@ pub record IsIn (b : Extent) (c : Cell) : Type 0 where
 
 pub inside : (b : Extent) (c : Cell) → holds b c ≡ true → IsIn b c
 inside b c e =
-    let t : (within b.lo.x b.hi.x c.x ≡ true) × (within b.lo.y b.hi.y c.y ≡ true) = and_true (within b.lo.x b.hi.x c.x) (within b.lo.y b.hi.y c.y) e in
+    let t : (within b.lo.x b.hi.x c.x ≡ true) × (within b.lo.y b.hi.y c.y ≡ true) = and_parts (within b.lo.x b.hi.x c.x) (within b.lo.y b.hi.y c.y) e in
     let x = between b.lo.x b.hi.x c.x t.0 in
     let y = between b.lo.y b.hi.y c.y t.1 in
     record { west = x.from; east = x.to; south = y.from; north = y.to }

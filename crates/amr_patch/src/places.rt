@@ -1,28 +1,11 @@
 //! Where the entries of a patch stand in its lists.
 
-ghost use Rattle.std.specs.Prelude.{◌≡◌, ◌+◌, ◌*◌, ◌<◌, ◌≤◌, pos, negsuc, ◌+ℤ◌, ◌-ℤ◌, ◌≤ℤ◌, ◌<ℤ◌, IsTrue};
+ghost use Rattle.std.specs.Prelude.{◌≡◌, ◌+◌, ◌*◌, ◌<◌, ◌≤◌, pos, ◌+ℤ◌, ◌-ℤ◌, ◌≤ℤ◌, ◌<ℤ◌, IsTrue};
 ghost use Rattle.amr_box.specs.declared.Axis.TheVariants.{X, Y};
-ghost use Rattle.amr_box.specs.Cells.{IsNear, height, holds, width, within};
+ghost use Rattle.amr_box.specs.Cells.{IsNear, height, holds, width};
 ghost use Rattle.amr_patch.specs.Places.{column_of, grown, in_frame, is_end, on_edge, place, row_of};
 
-use amr_box::{Axis, Bx, Cell};
-
-/// How far a coordinate lies above another that isn't greater. Both lie between -2^25 and 2^25.
-fn distance(low: i32, z: i32) -> usize
-    requires from { negsuc 33554432 <ℤ low }
-    requires order { low ≤ℤ z }
-    requires to { z <ℤ pos 33554433 }
-    ensures { pos result ≡ z -ℤ low }
-{
-    (z - low) as usize
-}
-
-/// Whether a coordinate is from `low` to `high`, both inside.
-fn is_within(low: i32, high: i32, z: i32) -> bool
-    ensures { result ≡ within low high z }
-{
-    low <= z && z <= high
-}
+use amr_box::{Axis, Bx, Cell, distance, is_within};
 
 /// Whether a cell is of the frame: of the grown box and not of the box.
 #[tactic(auto, using(crate::proofs::Conditions::conditions))]

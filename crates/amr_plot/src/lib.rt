@@ -1,4 +1,4 @@
-//! The plot: the state of a mesh as text, its boxes in order and each box's masses row by row. The pieces that boxes are
+//! The plot: the state of a mesh as text, its boxes in order and each box's masses row by row. The patch boxes that a box is
 //! chopped into leave no trace in it.
 #![tactic(auto)]
 

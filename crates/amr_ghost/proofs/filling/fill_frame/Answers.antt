@@ -11,20 +11,20 @@ use Rattle.amr_ghost.proofs.Levels.{keeps_values, same_side, still_level, still_
 use Rattle.amr_ghost.proofs.filling.fill_frame.Goals as goal
 
 pub fill_side-requires-2-clause-patches : goal.fill_side-requires-2-clause-patches
-fill_side-requires-2-clause-patches c = still_level (domain c.args.p.now c.args.l) c.args.order c.args.patches.now c.fill_side.new.patches c.fill_side.ensures.kept c.requires.patches
+fill_side-requires-2-clause-patches c = still_level (domain c.args.p.now c.args.target.level) c.args.target.order c.args.patches.now c.fill_side.new.patches c.fill_side.ensures.kept c.requires.patches
 
 pub fill_side-requires-3-clause-patches : goal.fill_side-requires-3-clause-patches
 fill_side-requires-3-clause-patches c =
     let ps = c.args.patches.now in
     let two = zip_trans KeepsCells keeps_trans ps c.fill_side.new.patches c.fill_side-2.new.patches c.fill_side.ensures.kept c.fill_side-2.ensures.kept in
-    still_level (domain c.args.p.now c.args.l) c.args.order ps c.fill_side-2.new.patches two c.requires.patches
+    still_level (domain c.args.p.now c.args.target.level) c.args.target.order ps c.fill_side-2.new.patches two c.requires.patches
 
 pub fill_side-requires-4-clause-patches : goal.fill_side-requires-4-clause-patches
 fill_side-requires-4-clause-patches c =
     let ps = c.args.patches.now in
     let two = zip_trans KeepsCells keeps_trans ps c.fill_side.new.patches c.fill_side-2.new.patches c.fill_side.ensures.kept c.fill_side-2.ensures.kept in
     let three = zip_trans KeepsCells keeps_trans ps c.fill_side-2.new.patches c.fill_side-3.new.patches two c.fill_side-3.ensures.kept in
-    still_level (domain c.args.p.now c.args.l) c.args.order ps c.fill_side-3.new.patches three c.requires.patches
+    still_level (domain c.args.p.now c.args.target.level) c.args.target.order ps c.fill_side-3.new.patches three c.requires.patches
 
 pub returns-clause-kept : goal.returns-clause-kept
 returns-clause-kept c =
@@ -37,7 +37,7 @@ pub returns-clause-ghosts : goal.returns-clause-ghosts
 returns-clause-ghosts c =
     let ps = c.args.patches.now in
     let p = c.args.p.now in
-    let l = c.args.l in
+    let l = c.args.target.level in
     let old = old_masses (option_copied c.args.old) in
     let two = zip_trans KeepsCells keeps_trans ps c.fill_side.new.patches c.fill_side-2.new.patches c.fill_side.ensures.kept c.fill_side-2.ensures.kept in
     let three = zip_trans KeepsCells keeps_trans ps c.fill_side-2.new.patches c.fill_side-3.new.patches two c.fill_side-3.ensures.kept in
@@ -55,8 +55,8 @@ returns-clause-set c q =
     let p3 = c.fill_side-3.new.patches in
     let p4 = c.fill_side-4.new.patches in
     let p = c.args.p.now in
-    let l = c.args.l in
-    let i = c.args.i in
+    let l = c.args.target.level in
+    let i = c.args.target.patch in
     let there = c.requires.there in
     let old = old_masses (option_copied c.args.old) in
     let one : AllZip KeepsCells p0 p1 = c.fill_side.ensures.kept in

@@ -21,18 +21,18 @@ loop-done-init c =
     record {
       within = omega arith;
       kept = zip_refl KeepsCells keeps_refl ps;
-      ghosts = zip_refl (KeepsGhosts (value_at c.args.p.now c.args.l m old) (is_of_level c.args.p.now c.args.l m)) (ghosts_refl (value_at c.args.p.now c.args.l m old) (is_of_level c.args.p.now c.args.l m)) ps;
-      set = λ q. no_ghosts (value_at c.args.p.now c.args.l m old) (is_of_level c.args.p.now c.args.l m) (get_or ps c.args.i q) c.args.strip.axis c.args.strip.from;
+      ghosts = zip_refl (KeepsGhosts (value_at c.args.p.now c.args.target.level m old) (is_of_level c.args.p.now c.args.target.level m)) (ghosts_refl (value_at c.args.p.now c.args.target.level m old) (is_of_level c.args.p.now c.args.target.level m)) ps;
+      set = λ q. no_ghosts (value_at c.args.p.now c.args.target.level m old) (is_of_level c.args.p.now c.args.target.level m) (get_or ps c.args.target.patch q) c.args.strip.axis c.args.strip.from;
     }
 
 pub fill_span-done-requires-clause-patches : goal.fill_span-done-requires-clause-patches
-fill_span-done-requires-clause-patches c = still_level (domain c.args.p.now c.args.l) c.args.order c.args.patches.now c.loop-done.patches c.loop-done.invariant.kept c.requires.patches
+fill_span-done-requires-clause-patches c = still_level (domain c.args.p.now c.args.target.level) c.args.target.order c.args.patches.now c.loop-done.patches c.loop-done.invariant.kept c.requires.patches
 
 pub fill_span-done-requires-clause-room : goal.fill_span-done-requires-clause-room
-fill_span-done-requires-clause-room c = rw c.step.ensures (room_ahead (domain c.args.p.now c.args.l) c.args.strip.axis c.args.strip.from c.loop-done.done c.requires.room (few_along c.args.p.now c.args.l c.args.strip.axis c.requires.level) ((c.requires.ghost_strip (some_patch c.args.patches.now c.args.i c.requires.there)).inside c.loop-done.done (omega arith)))
+fill_span-done-requires-clause-room c = rw c.step.ensures (room_ahead (domain c.args.p.now c.args.target.level) c.args.strip.axis c.args.strip.from c.loop-done.done c.requires.room (few_along c.args.p.now c.args.target.level c.args.strip.axis c.requires.level) ((c.requires.ghost_strip (some_patch c.args.patches.now c.args.target.patch c.requires.there)).inside c.loop-done.done (omega arith)))
 
 pub fill_span-done-requires-clause-ghost_strip : goal.fill_span-done-requires-clause-ghost_strip
-fill_span-done-requires-clause-ghost_strip c q = rest_of_strip (domain c.args.p.now c.args.l) (box (get_or c.args.patches.now c.args.i q)) (box (get_or c.loop-done.patches c.args.i q)) c.args.strip.axis c.args.strip.from c.step.result c.args.strip.count c.loop-done.done (zip_box c.args.patches.now c.loop-done.patches c.args.i q q c.loop-done.invariant.kept c.requires.there) c.step.ensures (c.requires.ghost_strip q)
+fill_span-done-requires-clause-ghost_strip c q = rest_of_strip (domain c.args.p.now c.args.target.level) (box (get_or c.args.patches.now c.args.target.patch q)) (box (get_or c.loop-done.patches c.args.target.patch q)) c.args.strip.axis c.args.strip.from c.step.result c.args.strip.count c.loop-done.done (zip_box c.args.patches.now c.loop-done.patches c.args.target.patch q q c.loop-done.invariant.kept c.requires.there) c.step.ensures (c.requires.ghost_strip q)
 
 pub loop-done-preserved : goal.loop-done-preserved
 loop-done-preserved c =
@@ -40,8 +40,8 @@ loop-done-preserved c =
     let qs = c.loop-done.patches in
     let rs = c.fill_span-done.new.patches in
     let p = c.args.p.now in
-    let l = c.args.l in
-    let i = c.args.i in
+    let l = c.args.target.level in
+    let i = c.args.target.patch in
     let strip = c.args.strip in
     let old = old_masses (option_copied c.args.old) in
     let kept : AllZip KeepsCells ps qs = c.loop-done.invariant.kept in

@@ -11,8 +11,8 @@ abbrev pub invariant-loop-done : goal.invariant-loop-done
 invariant-loop-done l = record {
   within : l.done ≤ l.strip.count;
   kept : AllZip KeepsCells l.initial.patches l.patches;
-  ghosts : KeepsValues l.p l.l (old_masses (option_copied l.old)) l.initial.patches l.patches;
-  set : (q : Patch) → HasValues l.p l.l (masses_in l.initial.patches) (old_masses (option_copied l.old)) (slice_index_or l.patches l.i q) l.strip.axis l.strip.from l.done;
+  ghosts : KeepsValues l.p l.target.level (old_masses (option_copied l.old)) l.initial.patches l.patches;
+  set : (q : Patch) → HasValues l.p l.target.level (masses_in l.initial.patches) (old_masses (option_copied l.old)) (slice_index_or l.patches l.target.patch q) l.strip.axis l.strip.from l.done;
 }
 
 abbrev pub decreases-loop-done : goal.decreases-loop-done

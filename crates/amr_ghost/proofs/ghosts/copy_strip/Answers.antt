@@ -18,28 +18,28 @@ use Rattle.amr_ghost.proofs.StripPlaces.{entry_in_list, entry_is, entry_small, s
 use Rattle.amr_ghost.proofs.Spans.{first_ghost}
 use Rattle.amr_ghost.proofs.ghosts.copy_strip.Goals as goal
 
-pub returns-then-count-eq0-clause-kept : goal.returns-then-count-eq0-clause-kept
-returns-then-count-eq0-clause-kept c = zip_refl KeepsCells keeps_refl c.args.patches.now
+pub returns-then-strip-eq0-clause-kept : goal.returns-then-strip-eq0-clause-kept
+returns-then-strip-eq0-clause-kept c = zip_refl KeepsCells keeps_refl c.args.patches.now
 
-pub returns-then-count-eq0-clause-ghosts : goal.returns-then-count-eq0-clause-ghosts
-returns-then-count-eq0-clause-ghosts c value mark d copied = zip_refl (KeepsGhosts value mark) (ghosts_refl value mark) c.args.patches.now
+pub returns-then-strip-eq0-clause-ghosts : goal.returns-then-strip-eq0-clause-ghosts
+returns-then-strip-eq0-clause-ghosts c value mark d copied = zip_refl (KeepsGhosts value mark) (ghosts_refl value mark) c.args.patches.now
 
 pub entries_of-source-requires-clause-inside : goal.entries_of-source-requires-clause-inside
 entries_of-source-requires-clause-inside c =
     let b = box (get_or c.args.patches.now c.args.j c.index-patches-j.result) in
-    let held : IsTrue (holds b c.args.from) = first_ghost (λ (s : Cell). IsTrue (holds b s)) c.args.axis c.args.from (c.requires.masses c.index-patches-j.result 0 (omega arith)) in
+    let held : IsTrue (holds b c.args.from) = first_ghost (λ (s : Cell). IsTrue (holds b s)) c.args.strip.axis c.args.from (c.requires.masses c.index-patches-j.result 0 (omega arith)) in
     subst (λ (t : Extent). IsTrue (holds (grown t) c.args.from)) (sym c.bx.ensures.value) (in_grown b c.args.from held)
 
 pub entries_of-target-requires-clause-inside : goal.entries_of-target-requires-clause-inside
 entries_of-target-requires-clause-inside c =
     let b = box (get_or c.args.patches.now c.args.i c.index-patches-i.result) in
-    let ghost : IsTrue (in_frame b c.args.to) = first_ghost (λ (s : Cell). IsTrue (in_frame b s)) c.args.axis c.args.to (c.requires.ghost_cells c.index-patches-i.result 0 (omega arith)) in
-    subst (λ (t : Extent). IsTrue (holds (grown t) c.args.to)) (sym c.bx-2.ensures.value) (frame_grown b c.args.to ghost)
+    let ghost : IsTrue (in_frame b c.args.strip.from) = first_ghost (λ (s : Cell). IsTrue (in_frame b s)) c.args.strip.axis c.args.strip.from (c.requires.ghost_cells c.index-patches-i.result 0 (omega arith)) in
+    subst (λ (t : Extent). IsTrue (holds (grown t) c.args.strip.from)) (sym c.bx-2.ensures.value) (frame_grown b c.args.strip.from ghost)
 
 pub nth-requires : goal.nth-requires
 nth-requires c =
     let q = get_or c.args.patches.now c.args.j c.index-patches-j.result in
-    let f = step c.args.axis c.args.from c.loop-k.k in
+    let f = step c.args.strip.axis c.args.from c.loop-k.k in
     entry_small q f _ (c.entries_of-source.ensures c.loop-k.k ∙ ap (λ (b : Extent). place b f) c.bx.ensures.value) (in_grown (box q) f (c.requires.masses c.index-patches-j.result c.loop-k.k (omega arith)))
 
 pub entry-mass-requires : goal.entry-mass-requires
@@ -48,7 +48,7 @@ entry-mass-requires c =
     let qs = c.loop-k.patches in
     let d = c.index-patches-j.result in
     let e = c.index-patches-j-in-loop-k.result in
-    let f = step c.args.axis c.args.from c.loop-k.k in
+    let f = step c.args.strip.axis c.args.from c.loop-k.k in
     entry_in_list (get_or qs c.args.j e) f c.nth.result
     (still_place ps qs c.args.j d e c.bx.result f c.nth.result c.loop-k.invariant.kept c.requires.source c.bx.ensures.value (c.nth.ensures ∙ c.entries_of-source.ensures c.loop-k.k))
     (in_grown (box (get_or qs c.args.j e)) f (still_held ps qs c.args.j d e f f c.loop-k.invariant.kept c.requires.source refl (c.requires.masses d c.loop-k.k (omega arith))))
@@ -56,7 +56,7 @@ entry-mass-requires c =
 pub nth-at-requires : goal.nth-at-requires
 nth-at-requires c =
     let q = get_or c.args.patches.now c.args.i c.index-patches-i.result in
-    let t = step c.args.axis c.args.to c.loop-k.k in
+    let t = step c.args.strip.axis c.args.strip.from c.loop-k.k in
     entry_small q t _ (c.entries_of-target.ensures c.loop-k.k ∙ ap (λ (b : Extent). place b t) c.bx-2.ensures.value) (frame_grown (box q) t (c.requires.ghost_cells c.index-patches-i.result c.loop-k.k (omega arith)))
 
 pub set_entry-requires : goal.set_entry-requires
@@ -65,7 +65,7 @@ set_entry-requires c =
     let qs = c.loop-k.patches in
     let d = c.index-patches-i.result in
     let e = c.index-patches-i-in-loop-k.result in
-    let t = step c.args.axis c.args.to c.loop-k.k in
+    let t = step c.args.strip.axis c.args.strip.from c.loop-k.k in
     entry_in_list (get_or qs c.args.i e) t c.nth-at.result
     (still_place ps qs c.args.i d e c.bx-2.result t c.nth-at.result c.loop-k.invariant.kept c.requires.there c.bx-2.ensures.value (c.nth-at.ensures ∙ c.entries_of-target.ensures c.loop-k.k))
     (frame_grown (box (get_or qs c.args.i e)) t (still_ghost ps qs c.args.i d e t t c.loop-k.invariant.kept c.requires.there refl (c.requires.ghost_cells d c.loop-k.k (omega arith))))
@@ -74,7 +74,7 @@ pub loop-k-init : goal.loop-k-init
 loop-k-init c = record {
   kept = zip_refl KeepsCells keeps_refl c.args.patches.now;
   ghosts = λ value mark d copied. zip_refl (KeepsGhosts value mark) (ghosts_refl value mark) c.args.patches.now;
-  set = λ value mark q d copied. no_ghosts value mark (get_or c.args.patches.now c.args.i q) c.args.axis c.args.to;
+  set = λ value mark q d copied. no_ghosts value mark (get_or c.args.patches.now c.args.i q) c.args.strip.axis c.args.strip.from;
 }
 
 pub loop-k-preserved : goal.loop-k-preserved
@@ -88,24 +88,24 @@ loop-k-preserved c =
     let d = c.index-patches-i-in-loop-k.result in
     let e = c.index-patches-j-in-loop-k.result in
     let q = get_or qs c.args.i d in
-    let f = step c.args.axis c.args.from k in
-    let t = step c.args.axis c.args.to k in
+    let f = step c.args.strip.axis c.args.from k in
+    let t = step c.args.strip.axis c.args.strip.from k in
     let kept : AllZip KeepsCells ps qs = c.loop-k.invariant.kept in
     let there : c.args.i < length qs = let n : length ps ≡ length qs = length_all_zip KeepsCells ps qs kept in omega arith in
     let ghost : IsTrue (in_frame (box q) t) = still_ghost ps qs c.args.i d d t t kept c.requires.there refl (c.requires.ghost_cells d k (omega arith)) in
     let beside : IsTrue (is_beside (box q) t) = subst (λ (b : Extent). IsTrue (is_beside b t)) (sym (zip_box ps qs c.args.i d d kept c.requires.there)) (c.requires.beside d k (omega arith)) in
     let s : IsGhostSet q r t mass true = c.set_entry.ensures t ghost (still_place ps qs c.args.i c.index-patches-i.result d c.bx-2.result t c.nth-at.result kept c.requires.there c.bx-2.ensures.value (c.nth-at.ensures ∙ c.entries_of-target.ensures k)) in
     let now : mass ≡ mass_in (get_or qs c.args.j e) f = entry_is (get_or qs c.args.j e) (box (get_or qs c.args.j e)) f c.nth.result mass refl (still_place ps qs c.args.j c.index-patches-j.result e c.bx.result f c.nth.result kept c.requires.source c.bx.ensures.value (c.nth.ensures ∙ c.entries_of-source.ensures k)) c.entry-mass.ensures in
-    let value_is : (value : Cell → ℕ) (mark : Cell → Bool) (p : Patch) → AreCopied value mark (get_or ps c.args.j p) c.args.axis c.args.to c.args.from c.args.count → value t ≡ mass = λ value mark p copied. copied_value value mark ps qs c.args.j p e c.args.axis c.args.to c.args.from c.args.count k mass t f kept c.requires.source (omega arith) (c.requires.masses p k (omega arith)) copied refl refl now in
-    let mark_is : (value : Cell → ℕ) (mark : Cell → Bool) (p : Patch) → AreCopied value mark (get_or ps c.args.j p) c.args.axis c.args.to c.args.from c.args.count → mark t ≡ true = λ value mark p copied. copied_mark value mark (get_or ps c.args.j p) c.args.axis c.args.to c.args.from c.args.count k t (omega arith) copied refl in
-    let one : (value : Cell → ℕ) (mark : Cell → Bool) (p : Patch) → AreCopied value mark (get_or ps c.args.j p) c.args.axis c.args.to c.args.from c.args.count → AllZip (KeepsGhosts value mark) qs rs = λ value mark p copied. zip_set (KeepsGhosts value mark) (ghosts_refl value mark) qs c.args.i d r (ghost_keeps_ghosts value mark q r t mass true (value_is value mark p copied) (mark_is value mark p copied) s) in
+    let value_is : (value : Cell → ℕ) (mark : Cell → Bool) (p : Patch) → AreCopied value mark (get_or ps c.args.j p) c.args.strip.axis c.args.strip.from c.args.from c.args.strip.count → value t ≡ mass = λ value mark p copied. copied_value value mark ps qs c.args.j p e c.args.strip.axis c.args.strip.from c.args.from c.args.strip.count k mass t f kept c.requires.source (omega arith) (c.requires.masses p k (omega arith)) copied refl refl now in
+    let mark_is : (value : Cell → ℕ) (mark : Cell → Bool) (p : Patch) → AreCopied value mark (get_or ps c.args.j p) c.args.strip.axis c.args.strip.from c.args.from c.args.strip.count → mark t ≡ true = λ value mark p copied. copied_mark value mark (get_or ps c.args.j p) c.args.strip.axis c.args.strip.from c.args.from c.args.strip.count k t (omega arith) copied refl in
+    let one : (value : Cell → ℕ) (mark : Cell → Bool) (p : Patch) → AreCopied value mark (get_or ps c.args.j p) c.args.strip.axis c.args.strip.from c.args.from c.args.strip.count → AllZip (KeepsGhosts value mark) qs rs = λ value mark p copied. zip_set (KeepsGhosts value mark) (ghosts_refl value mark) qs c.args.i d r (ghost_keeps_ghosts value mark q r t mass true (value_is value mark p copied) (mark_is value mark p copied) s) in
     record {
       kept = zip_trans KeepsCells keeps_trans ps qs rs kept (zip_set KeepsCells keeps_refl qs c.args.i d r (ghost_keeps_cells q r t mass true ghost beside s));
       ghosts = λ value mark p copied. zip_ghosts value mark ps qs rs kept (c.loop-k.invariant.ghosts value mark p copied) (one value mark p copied);
-      set = λ value mark o p copied. more_ghosts value mark (get_or rs c.args.i o) c.args.axis c.args.to k
-          (still_ghosts value mark qs rs c.args.i o o c.args.axis c.args.to k there (one value mark p copied) (λ m h. still_ghost ps qs c.args.i o o (step c.args.axis c.args.to m) (step c.args.axis c.args.to m) kept c.requires.there refl (c.requires.ghost_cells o m (omega arith))) (c.loop-k.invariant.set value mark o p copied))
+      set = λ value mark o p copied. more_ghosts value mark (get_or rs c.args.i o) c.args.strip.axis c.args.strip.from k
+          (still_ghosts value mark qs rs c.args.i o o c.args.strip.axis c.args.strip.from k there (one value mark p copied) (λ m h. still_ghost ps qs c.args.i o o (step c.args.strip.axis c.args.strip.from m) (step c.args.strip.axis c.args.strip.from m) kept c.requires.there refl (c.requires.ghost_cells o m (omega arith))) (c.loop-k.invariant.set value mark o p copied))
           (subst (λ (u : Patch). HasGhost value mark u t) (sym (get_or-set_same qs c.args.i r o there)) (ghost_is_set value mark q r t mass true (value_is value mark p copied) (mark_is value mark p copied) s));
     }
 
 pub returns-clause-set : goal.returns-clause-set
-returns-clause-set c value mark q d copied = fewer_ghosts value mark (get_or c.loop-k.patches c.args.i q) c.args.axis c.args.to c.loop-k.k c.args.count (omega arith) (c.loop-k.invariant.set value mark q d copied)
+returns-clause-set c value mark q d copied = fewer_ghosts value mark (get_or c.loop-k.patches c.args.i q) c.args.strip.axis c.args.strip.from c.loop-k.k c.args.strip.count (omega arith) (c.loop-k.invariant.set value mark q d copied)
