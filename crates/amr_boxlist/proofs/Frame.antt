@@ -1,6 +1,7 @@
 -- What is left of a box when the cells of another are taken away holds the others once.
 use Rattle.std.proofs.Common.{◌≡◌, ℕ, ◌+◌, Bool, true, false, ◌&&◌, ℤ, pos, ◌+ℤ◌, ◌-ℤ◌, ◌≤ℤ◌, ◌<ℤ◌, refl, sym, ap, ◌∙◌, arith, List, [], ◌∷◌, ◌++◌, append_assoc}
 use Rattle.std.specs.Prelude.{int_le, int_lt, not}
+use Rattle.std.proofs.Math.Bool.{and-false}
 use Rattle.std.proofs.lemmas.Int.{ints, clamps}
 use Rattle.amr_box.specs.declared.Cell.{Cell}
 use Rattle.amr_box.specs.declared.Axis.{Axis}
@@ -66,10 +67,6 @@ lt-no : (a b : ℤ) → int_lt a b ≡ false → b ≤ℤ a
 lt-no a b h = grind (arith, ints)
 
 -- ---- the parts of a box, each as a test
-
-and-false : (t : Bool) → (t && false) ≡ false
-and-false true = refl
-and-false false = refl
 
 plus-none : (n : ℕ) → n + 0 ≡ n
 plus-none n = omega arith

@@ -1,6 +1,7 @@
 -- Lists of boxes as sets, and boxes that give way to the boxes of parts of them.
 use Rattle.std.proofs.Common.{◌≡◌, ℕ, ◌+◌, ◌≤◌, Bool, true, false, ◌&&◌, ◌||◌, cond, refl, sym, ap, ◌∙◌, arith, List, [], ◌∷◌, ◌++◌, add_assoc}
 use Rattle.std.specs.List.{flat_map}
+use Rattle.std.proofs.Math.Bool.{and-true, and-or_distrib_right}
 use Rattle.std.proofs.lemmas.List.Folds.{list_any-append}
 use Rattle.std.proofs.lemmas.List.Concat.{flat_map-cons}
 use Rattle.amr_box.specs.declared.Cell.{Cell}
@@ -63,14 +64,6 @@ once-in_boxes bs c t e = step t (in_boxes bs c) refl e
     step false true f e = absurd (omega (arith, in_boxes-some bs c f))
     step false false f e = f
 
-or-and : (a b c : Bool) → ((a && c) || (b && c)) ≡ ((a || b) && c)
-or-and true true true = refl
-or-and true true false = refl
-or-and true false true = refl
-or-and true false false = refl
-or-and false true c = refl
-or-and false false c = refl
-
 -- where each box b gives way to boxes that hold, once, its cells that pass the test, those of the list give way so too
 pub parts-in_boxes : (f : Extent → List Extent) (test : Cell → Bool) (bs : List Extent) → ((b : Extent) → HoldOnce (f b) (λ c. holds b c && test c)) → (c : Cell) → in_boxes (flat_map f bs) c ≡ (in_boxes bs c && test c)
 parts-in_boxes f test [] h c = refl
@@ -79,7 +72,7 @@ parts-in_boxes f test (b ∷ bs) h c =
     (list_any-append (λ b. holds b c) (f b) (flat_map f bs)
     ∙ ap (λ t. t || in_boxes (flat_map f bs) c) (once-in_boxes (f b) c (holds b c && test c) ((h b).at c))
     ∙ ap (λ t. (holds b c && test c) || t) (parts-in_boxes f test bs h c)
-    ∙ or-and (holds b c) (in_boxes bs c) (test c))
+    ∙ sym (and-or_distrib_right (holds b c) (in_boxes bs c) (test c)))
 
 one_if-and : (a b : Bool) → one_if (a && b) ≤ one_if a
 one_if-and true true = omega arith
@@ -93,10 +86,6 @@ parts-holders f test (b ∷ bs) h c =
 
 pub parts-apart : (f : Extent → List Extent) (test : Cell → Bool) (bs : List Extent) → ((b : Extent) → HoldOnce (f b) (λ c. holds b c && test c)) → AreApart bs → AreApart (flat_map f bs)
 parts-apart f test bs h apart = λ c. omega (arith, parts-holders f test bs h c, apart c)
-
-and-true : (t : Bool) → (t && true) ≡ t
-and-true true = refl
-and-true false = refl
 
 pub parts-same_cells : (f : Extent → List Extent) (bs : List Extent) → ((b : Extent) → HoldOnce (f b) (λ c. holds b c && true)) → (c : Cell) → in_boxes (flat_map f bs) c ≡ in_boxes bs c
 parts-same_cells f bs h c = parts-in_boxes f (λ c. true) bs h c ∙ and-true (in_boxes bs c)

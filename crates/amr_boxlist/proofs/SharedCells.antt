@@ -4,6 +4,7 @@ use Rattle.std.specs.Prelude.{int_le, IsTrue, ◌↔◌}
 use Rattle.std.specs.Int.{int_max, int_min}
 use Rattle.std.specs.List.{sum_by}
 use Rattle.std.proofs.lemmas.Int.{ints, clamps}
+use Rattle.std.proofs.lemmas.Bool.{and_parts}
 use Rattle.std.proofs.lemmas.Bool.Decides.{nat_tests}
 use Rattle.std.proofs.lemmas.List.Sums.{sum_by-cons, sum_by-take-le, sum_by_more}
 use Rattle.std.proofs.Math.Nat.{mul-le-mul_left}
@@ -233,16 +234,11 @@ in_range lo hi i h = step (up_to (hi +ℤ pos 1 -ℤ lo))
     step (inl k) = tests _ k.1 h
     step (inr k) = absurd (omega (arith, h, k.1))
 
-both-true : (s t : Bool) → (s && t) ≡ true → (s ≡ true) × (t ≡ true)
-both-true true true e = (refl, refl)
-both-true true false e = absurd (cc)
-both-true false t e = absurd (cc)
-
 pub all-covered : (bs : List Extent) (b : Extent) → IsProper b → AreApart bs → sum_by (shared b) bs ≡ width b * height b → (c : Cell) → holds b c ≡ true → in_boxes bs c ≡ true
 all-covered bs b p h e c inside = step (in_boxes bs c) refl
   where
     tests : (within b.lo.x b.hi.x c.x ≡ true) × (within b.lo.y b.hi.y c.y ≡ true)
-    tests = both-true _ _ inside
+    tests = and_parts _ _ inside
 
     full : (i j : ℕ) → i < width b → j < height b → holders bs (cell (b.lo.x +ℤ pos i) (b.lo.y +ℤ pos j)) ≡ 1
     full i j k l =

@@ -1,6 +1,7 @@
 -- Bits of a part of the rows that are set, word by word and row by row.
 use Rattle.std.proofs.Common.{◌≡◌, ℕ, ◌+◌, ◌*◌, ◌/◌, ◌%◌, ◌<◌, ◌≤◌, Bool, true, false, ◌&&◌, ◌||◌, ℤ, pos, ◌+ℤ◌, ◌-ℤ◌, ◌≤ℤ◌, refl, sym, ap, ◌∙◌, arith, List, length, set, get_or}
 use Rattle.std.specs.Prelude.{◌==◌, bit_or, nat_le, nat_lt, unsigned_abs}
+use Rattle.std.proofs.Math.Bool.{or-false}
 use Rattle.std.proofs.lemmas.Bool.Decides.{nat_tests}
 use Rattle.std.proofs.lemmas.Int.{ints}
 use Rattle.std.proofs.lemmas.List.{get_or-set_same, get_or-set_other}
@@ -13,7 +14,7 @@ use Rattle.amr_tags.specs.Parts.{in_rows, with_part}
 use Rattle.amr_tags.specs.Stored.{IsIn}
 use Rattle.amr_tags.specs.TagSets.{column_in, row_in}
 use Rattle.amr_tags.proofs.CellCounts.{Spans, in_range}
-use Rattle.amr_tags.proofs.Places.{apart, column_within, equal, is_equal, is_in, or-false}
+use Rattle.amr_tags.proofs.Places.{apart, column_within, equal, is_equal, is_in}
 use Rattle.amr_tags.proofs.Shifts.{or-bit}
 
 -- the columns from `from` to `to`

@@ -1,6 +1,7 @@
 -- A count of cells that is not 0 has a cell, and one that is 0 has none.
 use Rattle.std.proofs.Common.{◌≡◌, ℕ, zero, suc, ◌+◌, ◌<◌, ◌≤◌, ◌≢◌, Bool, true, false, ◌&&◌, cond, ℤ, pos, negsuc, ◌+ℤ◌, ◌-ℤ◌, ◌≤ℤ◌, ◌<ℤ◌, refl, sym, ap, ◌∙◌, subst, arith, List, [], ◌∷◌}
 use Rattle.std.specs.Prelude.{int_le, int_lt, nat_lt, ◌==◌, unsigned_abs}
+use Rattle.std.proofs.lemmas.Bool.{and_from, and_parts}
 use Rattle.std.proofs.lemmas.Bool.Decides.{nat_tests}
 use Rattle.std.specs.List.{count_by}
 use Rattle.std.proofs.lemmas.Int.{ints}
@@ -15,7 +16,7 @@ use Rattle.amr_tags.specs.Stored.{IsIn, IsPart}
 use Rattle.amr_tags.specs.Edges.{HasNoneAbove, HasNoneBelow, HasOne, HasOneFrom, HasOneUpTo, in_part}
 use Rattle.amr_tags.specs.TagSets.{IsLeastBox, column_in, row_in}
 use Rattle.amr_tags.proofs.CellCounts.{cells-sum}
-use Rattle.amr_tags.proofs.Places.{column_within, is_in, row_within}
+use Rattle.amr_tags.proofs.Places.{column_within, high_in, is_in, low_in, row_within}
 
 counted-cons : (p : Cell → Bool) (c : Cell) (cs : List Cell) → p c ≡ false → count_by p (c ∷ cs) ≡ count_by p cs
 counted-cons p c cs e = sum_by-cons (λ c. cond (p c) 1 0) c cs ∙ ap (λ t. cond t 1 0 + count_by p cs) e ∙ zero-plus (count_by p cs)
@@ -64,27 +65,14 @@ none_counted p b c none h =
     let same : cell (b.lo.x +ℤ pos (column_in b c)) (b.lo.y +ℤ pos (row_in b c)) ≡ c = λ i. record { x = x i; y = y i } in
     sym (ap p same) ∙ one-zero (p (cell (b.lo.x +ℤ pos (column_in b c)) (b.lo.y +ℤ pos (row_in b c)))) one
 
-and-true : (a b : Bool) → (a && b) ≡ true → (a ≡ true) × (b ≡ true)
-and-true true b h = (refl, h)
-and-true false b h = absurd (cc)
-
-both-true : (a b : Bool) → a ≡ true → b ≡ true → (a && b) ≡ true
-both-true a b e f = rw (e, f)
-
 -- a cell of a part is one of the box
 part-holds : (b part : Extent) (c : Cell) → IsPart b part → holds part c ≡ true → holds b c ≡ true
 part-holds b part c k h =
-    let t = and-true (within part.lo.x part.hi.x c.x) (within part.lo.y part.hi.y c.y) h in
-    both-true _ _ (wider b.lo.x b.hi.x part.lo.x part.hi.x c.x k.west k.east t.0) (wider b.lo.y b.hi.y part.lo.y part.hi.y c.y k.south k.north t.1)
+    let t = and_parts (within part.lo.x part.hi.x c.x) (within part.lo.y part.hi.y c.y) h in
+    and_from _ _ (wider b.lo.x b.hi.x part.lo.x part.hi.x c.x k.west k.east t.0) (wider b.lo.y b.hi.y part.lo.y part.hi.y c.y k.south k.north t.1)
   where
     wider : (lo hi l h z : ℤ) → lo ≤ℤ l → h ≤ℤ hi → within l h z ≡ true → within lo hi z ≡ true
     wider lo hi l h z e f g = grind (arith, ints)
-
-low_in : (lo hi z : ℤ) → within lo hi z ≡ true → lo ≤ℤ z
-low_in lo hi z h = grind (arith, ints)
-
-high_in : (lo hi z : ℤ) → within lo hi z ≡ true → z ≤ℤ hi
-high_in lo hi z h = grind (arith, ints)
 
 pub part-below : (b part : Extent) (axis : Axis) (i : ℤ) → IsPart b part → along axis part.lo <ℤ i → i ≤ℤ along axis part.hi → IsPart b (below_cut axis i part)
 part-below b part X i k low high = record { west = k.west; south = k.south; east = omega (arith, ints, k.east); north = k.north; wide = omega (arith, ints); high = k.high }
@@ -109,10 +97,10 @@ le-is a b h = grind (arith, ints)
 pub one_up_to : (b part below : Extent) (words : List ℕ) (axis : Axis) (i last : ℤ) → IsBoxOf below (λ c. holds part c && int_lt (along axis c) i) → i ≡ last +ℤ pos 1 → 0 < count_by (in_part b words below) (cells_of b) → HasOneUpTo (in_part b words part) axis last
 one_up_to b part below words axis i last k e h =
     let c = some_counted (in_part b words below) (cells_of b) h in
-    let s = and-true (holds below c.0) _ c.1 in
-    let t = and-true (holds part c.0) (int_lt (along axis c.0) i) (sym (k.at c.0) ∙ s.0) in
+    let s = and_parts (holds below c.0) _ c.1 in
+    let t = and_parts (holds part c.0) (int_lt (along axis c.0) i) (sym (k.at c.0) ∙ s.0) in
     let lower = lt-yes (along axis c.0) i t.1 in
-    record { at = (c.0, both-true _ _ t.0 s.1, omega (arith, ints, lower, e)) }
+    record { at = (c.0, and_from _ _ t.0 s.1, omega (arith, ints, lower, e)) }
 
 not_lower : (z i last : ℤ) → int_lt z i ≡ false → i ≡ last +ℤ pos 1 → (last +ℤ pos 1) ≤ℤ z
 not_lower z i last f e = grind (arith, ints)
@@ -122,8 +110,8 @@ none_up_to b part below words axis i last k e p h = record { from = λ c t. step
   where
     step : (c : Cell) → in_part b words part c ≡ true → (s : Bool) → int_lt (along axis c) i ≡ s → (last +ℤ pos 1) ≤ℤ along axis c
     step c t true f =
-        let parts = and-true (holds part c) _ t in
-        let there : in_part b words below c ≡ true = both-true _ _ (k.at c ∙ both-true _ _ parts.0 f) parts.1 in
+        let parts = and_parts (holds part c) _ t in
+        let there : in_part b words below c ≡ true = and_from _ _ (k.at c ∙ and_from _ _ parts.0 f) parts.1 in
         let not_there = none_counted (in_part b words below) b c h (part-holds b part c p parts.0) in
         absurd (clash (sym not_there ∙ there))
       where
@@ -134,10 +122,10 @@ none_up_to b part below words axis i last k e p h = record { from = λ c t. step
 pub one_from : (b part above : Extent) (words : List ℕ) (axis : Axis) (i first : ℤ) → IsBoxOf above (λ c. holds part c && int_le i (along axis c)) → i ≡ first → 0 < count_by (in_part b words above) (cells_of b) → HasOneFrom (in_part b words part) axis first
 one_from b part above words axis i first k e h =
     let c = some_counted (in_part b words above) (cells_of b) h in
-    let s = and-true (holds above c.0) _ c.1 in
-    let t = and-true (holds part c.0) (int_le i (along axis c.0)) (sym (k.at c.0) ∙ s.0) in
+    let s = and_parts (holds above c.0) _ c.1 in
+    let t = and_parts (holds part c.0) (int_le i (along axis c.0)) (sym (k.at c.0) ∙ s.0) in
     let higher = le-yes i (along axis c.0) t.1 in
-    record { at = (c.0, both-true _ _ t.0 s.1, omega (arith, ints, higher, e)) }
+    record { at = (c.0, and_from _ _ t.0 s.1, omega (arith, ints, higher, e)) }
 
 pub none_from : (b part above : Extent) (words : List ℕ) (axis : Axis) (i first : ℤ) → IsBoxOf above (λ c. holds part c && int_le i (along axis c)) → i ≡ first → IsPart b part → count_by (in_part b words above) (cells_of b) ≡ 0 → HasNoneAbove (in_part b words part) axis (first -ℤ pos 1)
 none_from b part above words axis i first k e p h = record { to = λ c t. step c t (int_le i (along axis c)) refl }
@@ -147,8 +135,8 @@ none_from b part above words axis i first k e p h = record { to = λ c t. step c
 
     step : (c : Cell) → in_part b words part c ≡ true → (s : Bool) → int_le i (along axis c) ≡ s → along axis c ≤ℤ (first -ℤ pos 1)
     step c t true f =
-        let parts = and-true (holds part c) _ t in
-        let there : in_part b words above c ≡ true = both-true _ _ (k.at c ∙ both-true _ _ parts.0 f) parts.1 in
+        let parts = and_parts (holds part c) _ t in
+        let there : in_part b words above c ≡ true = and_from _ _ (k.at c ∙ and_from _ _ parts.0 f) parts.1 in
         let not_there = none_counted (in_part b words above) b c h (part-holds b part c p parts.0) in
         absurd (clash (sym not_there ∙ there))
       where
@@ -165,24 +153,24 @@ none-test n m h e = let k : n ≡ 0 = grind (arith, nat_tests) in sym e ∙ k
 -- ---- the ends of a part
 
 axis_low : (axis : Axis) (part : Extent) (c : Cell) → holds part c ≡ true → along axis part.lo ≤ℤ along axis c
-axis_low X part c h = low_in part.lo.x part.hi.x c.x (and-true (within part.lo.x part.hi.x c.x) (within part.lo.y part.hi.y c.y) h).0
-axis_low Y part c h = low_in part.lo.y part.hi.y c.y (and-true (within part.lo.x part.hi.x c.x) (within part.lo.y part.hi.y c.y) h).1
+axis_low X part c h = low_in part.lo.x part.hi.x c.x (and_parts (within part.lo.x part.hi.x c.x) (within part.lo.y part.hi.y c.y) h).0
+axis_low Y part c h = low_in part.lo.y part.hi.y c.y (and_parts (within part.lo.x part.hi.x c.x) (within part.lo.y part.hi.y c.y) h).1
 
 axis_high : (axis : Axis) (part : Extent) (c : Cell) → holds part c ≡ true → along axis c ≤ℤ along axis part.hi
-axis_high X part c h = high_in part.lo.x part.hi.x c.x (and-true (within part.lo.x part.hi.x c.x) (within part.lo.y part.hi.y c.y) h).0
-axis_high Y part c h = high_in part.lo.y part.hi.y c.y (and-true (within part.lo.x part.hi.x c.x) (within part.lo.y part.hi.y c.y) h).1
+axis_high X part c h = high_in part.lo.x part.hi.x c.x (and_parts (within part.lo.x part.hi.x c.x) (within part.lo.y part.hi.y c.y) h).0
+axis_high Y part c h = high_in part.lo.y part.hi.y c.y (and_parts (within part.lo.x part.hi.x c.x) (within part.lo.y part.hi.y c.y) h).1
 
 pub none_below_part : (b part : Extent) (words : List ℕ) (axis : Axis) (low : ℤ) → low ≡ along axis part.lo → HasNoneBelow (in_part b words part) axis low
-none_below_part b part words axis low e = record { from = λ c t. let k = axis_low axis part c (and-true (holds part c) _ t).0 in omega (arith, ints, k, e) }
+none_below_part b part words axis low e = record { from = λ c t. let k = axis_low axis part c (and_parts (holds part c) _ t).0 in omega (arith, ints, k, e) }
 
 pub none_above_part : (b part : Extent) (words : List ℕ) (axis : Axis) (high : ℤ) → high ≡ along axis part.hi → HasNoneAbove (in_part b words part) axis high
-none_above_part b part words axis high e = record { to = λ c t. let k = axis_high axis part c (and-true (holds part c) _ t).0 in omega (arith, ints, k, e) }
+none_above_part b part words axis high e = record { to = λ c t. let k = axis_high axis part c (and_parts (holds part c) _ t).0 in omega (arith, ints, k, e) }
 
 pub one_up_to_high : (b part : Extent) (words : List ℕ) (axis : Axis) (high : ℤ) → high ≡ along axis part.hi → HasOne (in_part b words part) → HasOneUpTo (in_part b words part) axis high
-one_up_to_high b part words axis high e h = record { at = (h.at.0, h.at.1, (let k = axis_high axis part h.at.0 (and-true (holds part h.at.0) _ h.at.1).0 in omega (arith, ints, k, e))) }
+one_up_to_high b part words axis high e h = record { at = (h.at.0, h.at.1, (let k = axis_high axis part h.at.0 (and_parts (holds part h.at.0) _ h.at.1).0 in omega (arith, ints, k, e))) }
 
 pub one_from_low : (b part : Extent) (words : List ℕ) (axis : Axis) (low : ℤ) → low ≡ along axis part.lo → HasOne (in_part b words part) → HasOneFrom (in_part b words part) axis low
-one_from_low b part words axis low e h = record { at = (h.at.0, h.at.1, (let k = axis_low axis part h.at.0 (and-true (holds part h.at.0) _ h.at.1).0 in omega (arith, ints, k, e))) }
+one_from_low b part words axis low e h = record { at = (h.at.0, h.at.1, (let k = axis_low axis part h.at.0 (and_parts (holds part h.at.0) _ h.at.1).0 in omega (arith, ints, k, e))) }
 
 pub near_low : (b part : Extent) (axis : Axis) → IsNear b → IsPart b part → negsuc 16777216 <ℤ along axis part.lo
 near_low b part X n k = omega (arith, ints, n.west, k.west)
@@ -215,7 +203,7 @@ edges_in_order test axis low high h k one = let a = h.from one.at.0 one.at.1 in 
 
 pub least_box : (test : Cell → Bool) (b : Extent) → HasNoneBelow test X b.lo.x → HasOneUpTo test X b.lo.x → HasNoneBelow test Y b.lo.y → HasOneUpTo test Y b.lo.y → HasNoneAbove test X b.hi.x → HasOneFrom test X b.hi.x → HasNoneAbove test Y b.hi.y → HasOneFrom test Y b.hi.y → IsLeastBox b test
 least_box test b w w1 s s1 e e1 n n1 = record {
-  inside = λ c t. both-true _ _ (both-true _ _ (le-is _ _ (w.from c t)) (le-is _ _ (e.to c t))) (both-true _ _ (le-is _ _ (s.from c t)) (le-is _ _ (n.to c t)));
+  inside = λ c t. and_from _ _ (and_from _ _ (le-is _ _ (w.from c t)) (le-is _ _ (e.to c t))) (and_from _ _ (le-is _ _ (s.from c t)) (le-is _ _ (n.to c t)));
   west = (w1.at.0, w1.at.1, same w1.at.0.x b.lo.x w1.at.2 (w.from w1.at.0 w1.at.1));
   south = (s1.at.0, s1.at.1, same s1.at.0.y b.lo.y s1.at.2 (s.from s1.at.0 s1.at.1));
   east = (e1.at.0, e1.at.1, same e1.at.0.x b.hi.x (e.to e1.at.0 e1.at.1) e1.at.2);

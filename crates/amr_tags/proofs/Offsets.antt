@@ -1,93 +1,22 @@
 -- Cells at most n away: of n + 1 cells the first, then the other n.
-use Rattle.std.proofs.Common.{◌≡◌, ℕ, ◌+◌, ◌<◌, Bool, true, false, ◌&&◌, ◌||◌, ℤ, pos, ◌+ℤ◌, ◌-ℤ◌, ◌≤ℤ◌, ◌<ℤ◌, refl, sym, ap, ◌∙◌, subst, arith, List, [], ◌∷◌}
-use Rattle.std.specs.List.{list_any}
+use Rattle.std.proofs.Common.{◌≡◌, ℕ, ◌+◌, ◌<◌, Bool, true, false, ℤ, pos, ◌+ℤ◌, ◌-ℤ◌, ◌≤ℤ◌, ◌<ℤ◌, sym, ap, ◌∙◌, arith}
 use Rattle.std.specs.Prelude.{unsigned_abs}
 use Rattle.std.specs.Int.{int_rem_euclid}
 use native.Mathlib.Nat.{mod-eq_of_lt}
-use Rattle.std.specs.declared.cmp.Ordering.{Ordering}
-use Rattle.std.specs.declared.cmp.Ordering.TheVariants.{Less, Equal, Greater}
-use Rattle.std.specs.Ordering.{int_cmp, int_eq, is_eq, ordering_then, eq_by_cmp}
-use Rattle.amr_box.proofs.CellLists.{among_cells_of}
+use Rattle.std.proofs.Math.Bool.{or-false}
+use Rattle.std.proofs.lemmas.Bool.{and_parts}
 use Rattle.std.proofs.lemmas.Int.{ints}
 use Rattle.amr_box.specs.declared.Cell.{Cell}
-use Rattle.amr_box.specs.Cells.{Extent, at_least_zero, cell, cell_cmp, cells_of, extent, height, holds, width, within}
+use Rattle.amr_box.specs.Cells.{Extent, at_least_zero, cell, extent, height, holds, width}
+use Rattle.amr_box.proofs.CellLists.{IsFound, any_in_box, found_in_box}
 use Rattle.amr_tags.specs.Stored.{IsIn}
 use Rattle.amr_tags.specs.TagSets.{TagSet, has, home, is_near, moved, wrapped}
 use Rattle.amr_tags.proofs.Neighbours.{split, wrapped-moved}
-use Rattle.amr_tags.proofs.Places.{and-true, is_in, or-false}
+use Rattle.amr_tags.proofs.Places.{in_holds, is_in}
 
 -- the offsets of a square, by their box
 abbrev pub square_box : ℕ → Extent
 square_box n = extent (cell (pos 0 -ℤ pos n) (pos 0 -ℤ pos n)) (cell (pos n) (pos n))
-
-pub record IsFound (test : Cell → Bool) (b : Extent) : Type 0 where
-  pub at : Cell
-  pub inside : holds b at ≡ true
-  pub passes : test at ≡ true
-
-eq_then : (r s : Ordering) → is_eq (ordering_then r s) ≡ (is_eq r && is_eq s)
-eq_then Less s = refl
-eq_then Equal s = refl
-eq_then Greater s = refl
-
-same_number : (a b : ℤ) → int_eq a b ≡ true → a ≡ b
-same_number a b h = grind (arith, ints)
-
-number_itself : (a : ℤ) → int_eq a a ≡ true
-number_itself a = grind (arith, ints)
-
-tests : (q c : Cell) → eq_by_cmp cell_cmp q c ≡ (int_eq q.x c.x && int_eq q.y c.y)
-tests q c = eq_then (int_cmp q.x c.x) (int_cmp q.y c.y)
-
-cell_same : (q c : Cell) → eq_by_cmp cell_cmp q c ≡ true → q ≡ c
-cell_same q c h =
-    let parts = and-true _ _ (sym (tests q c) ∙ h) in
-    let x = same_number q.x c.x parts.0 in
-    let y = same_number q.y c.y parts.1 in
-    λ i. cell (x i) (y i)
-
-cell_itself : (q : Cell) → eq_by_cmp cell_cmp q q ≡ true
-cell_itself q = tests q q ∙ rw (number_itself q.x) (number_itself q.y)
-
-or-right : (a b : Bool) → b ≡ true → (a || b) ≡ true
-or-right true b h = refl
-or-right false b h = h
-
--- one of a list that passes a test
-record IsAmong (test : Cell → Bool) (cs : List Cell) : Type 0 where
-  one : Cell
-  among : list_any (λ c. eq_by_cmp cell_cmp one c) cs ≡ true
-  passes : test one ≡ true
-
-among_of : (test : Cell → Bool) (cs : List Cell) → list_any test cs ≡ true → IsAmong test cs
-among_of test [] h = absurd (cc)
-among_of test (c ∷ cs) h = choose (test c) refl (among_of test cs)
-  where
-    choose : (t : Bool) → test c ≡ t → (list_any test cs ≡ true → IsAmong test cs) → IsAmong test (c ∷ cs)
-    choose true e more = record { one = c; among = ap (λ t. t || list_any (λ d. eq_by_cmp cell_cmp c d) cs) (cell_itself c); passes = e }
-    choose false e more =
-        let rest = more (sym (ap (λ t. t || list_any test cs) e) ∙ h) in
-        record { one = rest.one; among = or-right (eq_by_cmp cell_cmp rest.one c) _ rest.among; passes = rest.passes }
-
-pub any_from : (test : Cell → Bool) (b : Extent) → list_any test (cells_of b) ≡ true → IsFound test b
-any_from test b h = let k = among_of test (cells_of b) h in record { at = k.one; inside = sym (among_cells_of b k.one) ∙ k.among; passes = k.passes }
-
-any_by : (test : Cell → Bool) (q : Cell) → test q ≡ true → (cs : List Cell) → list_any (λ c. eq_by_cmp cell_cmp q c) cs ≡ true → list_any test cs ≡ true
-any_by test q passes [] h = absurd (cc)
-any_by test q passes (c ∷ cs) h = choose (eq_by_cmp cell_cmp q c) refl (any_by test q passes cs)
-  where
-    choose : (t : Bool) → eq_by_cmp cell_cmp q c ≡ t → (list_any (λ d. eq_by_cmp cell_cmp q d) cs ≡ true → list_any test cs ≡ true) → (test c || list_any test cs) ≡ true
-    choose true e more = ap (λ t. t || list_any test cs) (subst (λ (k : Cell). test k ≡ true) (cell_same q c e) passes)
-    choose false e more = or-right (test c) (list_any test cs) (more (sym (ap (λ t. t || list_any (λ d. eq_by_cmp cell_cmp q d) cs) e) ∙ h))
-
-pub any_in_box : (test : Cell → Bool) (b : Extent) (q : Cell) → holds b q ≡ true → test q ≡ true → list_any test (cells_of b) ≡ true
-any_in_box test b q inside passes = any_by test q passes (cells_of b) (among_cells_of b q ∙ inside)
-
-within-is : (lo hi z : ℤ) → lo ≤ℤ z → z ≤ℤ hi → within lo hi z ≡ true
-within-is lo hi z h k = grind (arith, ints)
-
-pub holds-is : (b : Extent) (c : Cell) → b.lo.x ≤ℤ c.x → c.x ≤ℤ b.hi.x → b.lo.y ≤ℤ c.y → c.y ≤ℤ b.hi.y → holds b c ≡ true
-holds-is b c west east south north = ap (λ t. t && within b.lo.y b.hi.y c.y) (within-is b.lo.x b.hi.x c.x west east) ∙ within-is b.lo.y b.hi.y c.y south north
 
 side-is : (lo hi : ℤ) → lo ≤ℤ hi → pos (at_least_zero (hi +ℤ pos 1 -ℤ lo)) ≡ hi +ℤ pos 1 -ℤ lo
 side-is lo hi h = grind (arith, ints)
@@ -100,7 +29,7 @@ pub record IsBeside (t : TagSet) (n : ℕ) (c : Cell) : Type 0 where
   pub on : is_near t n (home t (moved c step)) ≡ true
 
 pub near-more : (t : TagSet) (n : ℕ) (c : Cell) → holds t.bx c ≡ true → is_near t (n + 1) c ≡ true → IsBeside t n c
-near-more t n c inside near = go (any_from (λ o. has t (home t (moved c o))) (square_box (n + 1)) near)
+near-more t n c inside near = go (found_in_box (λ o. has t (home t (moved c o))) (square_box (n + 1)) near)
   where
     here : IsIn t.bx c
     here = is_in t.bx c inside
@@ -114,20 +43,20 @@ near-more t n c inside near = go (any_from (λ o. has t (home t (moved c o))) (s
     go : IsFound (λ o. has t (home t (moved c o))) (square_box (n + 1)) → IsBeside t n c
     go f =
         let way = is_in (square_box (n + 1)) f.at f.inside in
-        let tagged = and-true (holds t.bx (home t (moved c f.at))) _ f.passes in
+        let tagged = and_parts (holds t.bx (home t (moved c f.at))) _ f.passes in
         let end = is_in t.bx (home t (moved c f.at)) tagged.0 in
         let x = split t.wrap_x t.bx.lo.x (width t.bx) n c.x f.at.x (omega (arith, ints, wide, here.west, here.east)) here.west (omega (arith, ints, wide, here.east)) end.west (omega (arith, ints, wide, end.east)) way.west way.east in
         let y = split t.wrap_y t.bx.lo.y (height t.bx) n c.y f.at.y (omega (arith, ints, high, here.south, here.north)) here.south (omega (arith, ints, high, here.north)) end.south (omega (arith, ints, high, end.north)) way.south way.north in
         let same : home t (moved (home t (moved c (cell x.first y.first))) (cell x.rest y.rest)) ≡ home t (moved c f.at) = λ i. cell (x.ends i) (y.ends i) in
         record {
           step = cell x.first y.first;
-          short = holds-is (square_box 1) (cell x.first y.first) x.first_low x.first_high y.first_low y.first_high;
-          there = holds-is t.bx (home t (moved c (cell x.first y.first))) x.inside_low (omega (arith, ints, wide, x.inside_high)) y.inside_low (omega (arith, ints, high, y.inside_high));
-          on = any_in_box (λ o. has t (home t (moved (home t (moved c (cell x.first y.first))) o))) (square_box n) (cell x.rest y.rest) (holds-is (square_box n) (cell x.rest y.rest) x.rest_low x.rest_high y.rest_low y.rest_high) (ap (has t) same ∙ f.passes);
+          short = in_holds (square_box 1) (cell x.first y.first) x.first_low x.first_high y.first_low y.first_high;
+          there = in_holds t.bx (home t (moved c (cell x.first y.first))) x.inside_low (omega (arith, ints, wide, x.inside_high)) y.inside_low (omega (arith, ints, high, y.inside_high));
+          on = any_in_box (λ o. has t (home t (moved (home t (moved c (cell x.first y.first))) o))) (square_box n) (cell x.rest y.rest) (in_holds (square_box n) (cell x.rest y.rest) x.rest_low x.rest_high y.rest_low y.rest_high) (ap (has t) same ∙ f.passes);
         }
 
 pub near-joined : (t : TagSet) (n : ℕ) (c e : Cell) → 0 < width t.bx → 0 < height t.bx → holds (square_box 1) e ≡ true → is_near t n (home t (moved c e)) ≡ true → is_near t (n + 1) c ≡ true
-near-joined t n c e some_x some_y short near = go (any_from (λ o. has t (home t (moved (home t (moved c e)) o))) (square_box n) near)
+near-joined t n c e some_x some_y short near = go (found_in_box (λ o. has t (home t (moved (home t (moved c e)) o))) (square_box n) near)
   where
     go : IsFound (λ o. has t (home t (moved (home t (moved c e)) o))) (square_box n) → is_near t (n + 1) c ≡ true
     go f =
@@ -139,7 +68,7 @@ near-joined t n c e some_x some_y short near = go (any_from (λ o. has t (home t
         let ends_y = wrapped-moved t.wrap_y t.bx.lo.y (height t.bx) (c.y +ℤ e.y) f.at.y some_y ∙ ap (wrapped t.wrap_y t.bx.lo.y (height t.bx)) sum_y in
         let same : home t (moved (home t (moved c e)) f.at) ≡ home t (moved c (cell (e.x +ℤ f.at.x) (e.y +ℤ f.at.y))) = λ i. cell (ends_x i) (ends_y i) in
         any_in_box (λ o. has t (home t (moved c o))) (square_box (n + 1)) (cell (e.x +ℤ f.at.x) (e.y +ℤ f.at.y))
-        (holds-is (square_box (n + 1)) (cell (e.x +ℤ f.at.x) (e.y +ℤ f.at.y)) (omega (arith, ints, way.west, first.west)) (omega (arith, ints, way.east, first.east)) (omega (arith, ints, way.south, first.south)) (omega (arith, ints, way.north, first.north)))
+        (in_holds (square_box (n + 1)) (cell (e.x +ℤ f.at.x) (e.y +ℤ f.at.y)) (omega (arith, ints, way.west, first.west)) (omega (arith, ints, way.east, first.east)) (omega (arith, ints, way.south, first.south)) (omega (arith, ints, way.north, first.north)))
         (ap (has t) (sym same) ∙ f.passes)
 
 -- ---- no step

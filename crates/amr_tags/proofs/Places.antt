@@ -4,6 +4,8 @@ use Rattle.std.specs.Prelude.{nat_lt, ◌==◌, bit_or, replicate, unsigned_abs}
 use Rattle.std.specs.Ordering.{int_eq}
 use Rattle.std.specs.Int.{w64}
 use Rattle.std.proofs.lemmas.List.{get_or_past, get_or-replicate, get_or-set_same, get_or-set_other, length-replicate}
+use Rattle.std.proofs.Math.Bool.{or-false, or-true}
+use Rattle.std.proofs.lemmas.Bool.{and_parts}
 use Rattle.std.proofs.lemmas.Bool.Decides.{nat_tests}
 use Rattle.std.proofs.lemmas.Int.{ints}
 use Rattle.std.proofs.lemmas.Nat.{mul-add-lt, same_from_place}
@@ -14,25 +16,28 @@ use Rattle.amr_tags.specs.Bits.{AreRows, bit, bit_of, words_for}
 use Rattle.amr_tags.specs.Stored.{IsIn}
 use Rattle.amr_tags.specs.TagSets.{column_in, row_in, same_cell}
 
-pub and-true : (a b : Bool) → (a && b) ≡ true → (a ≡ true) × (b ≡ true)
-and-true true b h = (refl, h)
-and-true false b h = absurd (cc)
-
-low_in : (lo hi z : ℤ) → within lo hi z ≡ true → lo ≤ℤ z
+pub low_in : (lo hi z : ℤ) → within lo hi z ≡ true → lo ≤ℤ z
 low_in lo hi z h = grind (arith, ints)
 
-high_in : (lo hi z : ℤ) → within lo hi z ≡ true → z ≤ℤ hi
+pub high_in : (lo hi z : ℤ) → within lo hi z ≡ true → z ≤ℤ hi
 high_in lo hi z h = grind (arith, ints)
 
 pub is_in : (b : Extent) (c : Cell) → holds b c ≡ true → IsIn b c
 is_in b c h =
-    let k = and-true (within b.lo.x b.hi.x c.x) (within b.lo.y b.hi.y c.y) h in
+    let k = and_parts (within b.lo.x b.hi.x c.x) (within b.lo.y b.hi.y c.y) h in
     record {
       west = low_in b.lo.x b.hi.x c.x k.0;
       east = high_in b.lo.x b.hi.x c.x k.0;
       south = low_in b.lo.y b.hi.y c.y k.1;
       north = high_in b.lo.y b.hi.y c.y k.1;
     }
+
+within_is : (lo hi z : ℤ) → lo ≤ℤ z → z ≤ℤ hi → within lo hi z ≡ true
+within_is lo hi z h k = grind (arith, ints)
+
+-- and back
+pub in_holds : (b : Extent) (c : Cell) → b.lo.x ≤ℤ c.x → c.x ≤ℤ b.hi.x → b.lo.y ≤ℤ c.y → c.y ≤ℤ b.hi.y → holds b c ≡ true
+in_holds b c west east south north = ap (λ t. t && within b.lo.y b.hi.y c.y) (within_is b.lo.x b.hi.x c.x west east) ∙ within_is b.lo.y b.hi.y c.y south north
 
 -- the word of a place is one of the rows' words
 pub place_within : (i j width height : ℕ) → i < width → j < height → j * words_for width + i / 64 < height * words_for width
@@ -56,14 +61,6 @@ pub empty-bit_of : (p n i j : ℕ) → bit_of p (replicate n 0) i j ≡ false
 empty-bit_of p n i j = ap (λ t. bit t (i % 64)) (zeros-at n (j * p + i / 64)) ∙ ap (λ t. t == 1) (bit_at-zero (i % 64))
 
 -- ---- one bit more
-
-or-true : (a : Bool) → (a || true) ≡ true
-or-true true = refl
-or-true false = refl
-
-pub or-false : (a : Bool) → (a || false) ≡ a
-or-false true = refl
-or-false false = refl
 
 pub equal : (a b : ℕ) → (a == b) ≡ true → a ≡ b
 equal a b h = grind (arith, nat_tests)
@@ -153,7 +150,7 @@ int_equal a b h = grind (arith, ints)
 
 same_holds : (b : Extent) (c d : Cell) → same_cell c d ≡ true → holds b d ≡ holds b c
 same_holds b c d e =
-    let k = and-true (int_eq c.x d.x) (int_eq c.y d.y) e in
+    let k = and_parts (int_eq c.x d.x) (int_eq c.y d.y) e in
     ap (λ (t : ℤ). within b.lo.x b.hi.x t && within b.lo.y b.hi.y d.y) (sym (int_equal c.x d.x k.0)) ∙ ap (λ (t : ℤ). within b.lo.x b.hi.x c.x && within b.lo.y b.hi.y t) (sym (int_equal c.y d.y k.1))
 
 pub after_set : (b : Extent) (words : List ℕ) (c d : Cell) → AreRows (width b) (height b) words → holds b c ≡ true → (holds b d && bit_of (words_for (width b)) (set words (row_in b c * words_for (width b) + column_in b c / 64) (bit_or (get_or words (row_in b c * words_for (width b) + column_in b c / 64) 0) (1 * 2 ^ (column_in b c % 64) % 2 ^ 64))) (column_in b d) (row_in b d)) ≡ ((holds b d && bit_of (words_for (width b)) words (column_in b d) (row_in b d)) || same_cell c d)

@@ -3,6 +3,7 @@ use Rattle.std.proofs.Common.{◌≡◌, ℕ, zero, suc, ◌+◌, ◌-◌, ◌*�
 use Rattle.std.specs.Prelude.{◌==◌, bit_or, nat_le, nat_lt}
 use Rattle.std.specs.Int.{bit_at}
 use Rattle.std.proofs.lemmas.Nat.Bits.{bit_at_or, bit_at-lt, bit_at-suc, bit_at_lowest, bit_at_cat_low}
+use Rattle.std.proofs.Math.Bool.{and-false, or-false}
 use Rattle.std.proofs.lemmas.Bool.Decides.{nat_tests}
 use Rattle.amr_tags.specs.Bits.{bit, bit_of, words_for}
 use Rattle.amr_tags.specs.Grown.{after, before, beside, widened}
@@ -16,14 +17,6 @@ or-bit a b i = ap (λ k. k == 1) (bit_at_or a b i) ∙ either (bit_at a i) (bit_
 
 pub three-bit : (a b c i : ℕ) → bit (bit_or a (bit_or b c)) i ≡ (bit a i || (bit b i || bit c i))
 three-bit a b c i = or-bit a (bit_or b c) i ∙ ap (λ t. bit a i || t) (or-bit b c i)
-
-or-false : (a : Bool) → (a || false) ≡ a
-or-false true = refl
-or-false false = refl
-
-and-false : (a : Bool) → (a && false) ≡ false
-and-false true = refl
-and-false false = refl
 
 -- ---- one place up
 

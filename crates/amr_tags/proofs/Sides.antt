@@ -3,6 +3,7 @@ use Rattle.std.proofs.Common.{◌≡◌, ℕ, zero, suc, ◌+◌, ◌-◌, ◌*�
 use Rattle.std.specs.Prelude.{nat_lt}
 use Rattle.std.specs.Int.{int_rem_euclid}
 use native.Mathlib.Nat.{add-mul-mod_self_right, mod-eq_of_lt}
+use Rattle.std.proofs.lemmas.Bool.{or_left, or_right}
 use Rattle.std.proofs.lemmas.Bool.Decides.{nat_tests}
 use Rattle.std.proofs.lemmas.Int.{ints}
 use Rattle.amr_tags.specs.Grown.{after, before, beside}
@@ -76,10 +77,6 @@ from-beside wrap low w f i h e = itself (f i) refl
 
 -- ---- and back
 
-or-right : (a b : Bool) → b ≡ true → (a || b) ≡ true
-or-right true b h = refl
-or-right false b h = h
-
 same_at : (low : ℤ) (z : ℤ) (j k : ℕ) → z ≡ low +ℤ pos j → z ≡ low +ℤ pos k → k ≡ j
 same_at low z j k e g = omega (arith, ints, e, g)
 
@@ -119,10 +116,6 @@ ways (pos zero) a b = still refl
 ways (pos (suc n)) a b = ahead (omega (arith, ints, b))
 ways (negsuc n) a b = back (omega (arith, ints, a))
 
-or-left : (a b : Bool) → a ≡ true → (a || b) ≡ true
-or-left true b h = refl
-or-left false b h = absurd (cc)
-
 pub to-beside : (wrap : Bool) (low : ℤ) (w : ℕ) (f : ℕ → Bool) (i : ℕ) → i < w → IsStep wrap low w f i → beside wrap w f i ≡ true
 to-beside wrap low w f i h s = by (ways s.way s.way_low s.way_high)
   where
@@ -130,6 +123,6 @@ to-beside wrap low w f i h s = by (ways s.way s.way_low s.way_high)
     ends_at d e = ap (λ (t : ℤ). wrapped wrap low w (low +ℤ pos i +ℤ t)) (sym e) ∙ s.ends
 
     by : Way s.way → beside wrap w f i ≡ true
-    by (ahead e) = or-right (f i) (before wrap w f i || after wrap w f i) (or-right (before wrap w f i) (after wrap w f i) (to-after wrap low w f i s.at h s.inside (ends_at (pos 1) e) s.passes))
-    by (still e) = or-left (f i) (before wrap w f i || after wrap w f i) (ap f (sym (at-itself wrap low w i s.at (pos 0) i h (omega (arith, ints)) (ends_at (pos 0) e))) ∙ s.passes)
-    by (back e) = or-right (f i) (before wrap w f i || after wrap w f i) (or-left (before wrap w f i) (after wrap w f i) (to-before wrap low w f i s.at h s.inside (ends_at (pos 0 -ℤ pos 1) e) s.passes))
+    by (ahead e) = or_right (f i) (before wrap w f i || after wrap w f i) (or_right (before wrap w f i) (after wrap w f i) (to-after wrap low w f i s.at h s.inside (ends_at (pos 1) e) s.passes))
+    by (still e) = or_left (f i) (before wrap w f i || after wrap w f i) (ap f (sym (at-itself wrap low w i s.at (pos 0) i h (omega (arith, ints)) (ends_at (pos 0) e))) ∙ s.passes)
+    by (back e) = or_right (f i) (before wrap w f i || after wrap w f i) (or_left (before wrap w f i) (after wrap w f i) (to-before wrap low w f i s.at h s.inside (ends_at (pos 0 -ℤ pos 1) e) s.passes))

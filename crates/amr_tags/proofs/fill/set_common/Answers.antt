@@ -1,8 +1,8 @@
 use Rattle.std.proofs.Common.{◌≡◌, ◌∙◌, ◌&&◌, ◌||◌, ap, sym, refl, Bool, true, false}
+use Rattle.std.proofs.Math.Bool.{or-false}
 use Rattle.amr_box.specs.Cells.{holds}
 use Rattle.amr_tags.specs.Parts.{in_rows}
 use Rattle.amr_tags.proofs.CellCounts.{part-common}
-use Rattle.amr_tags.proofs.Places.{or-false}
 use Rattle.amr_tags.proofs.fill.set_common.Goals as goal
 
 pub set_part-requires-clause-part : goal.set_part-requires-clause-part
