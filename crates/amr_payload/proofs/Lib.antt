@@ -1,1 +1,8 @@
+pub mod Readings
+pub mod Numbers
+pub mod Fields
+pub mod Grids
+pub mod Places
+pub mod GridLevels
+pub mod ReadStates
 mod WorkedRows
