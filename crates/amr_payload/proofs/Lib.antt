@@ -5,4 +5,8 @@ pub mod Grids
 pub mod Places
 pub mod GridLevels
 pub mod ReadStates
+pub mod Counting
+pub mod WriteLevels
+pub mod WriteStates
+pub mod Room
 mod WorkedRows
