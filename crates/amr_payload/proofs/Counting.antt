@@ -1,5 +1,5 @@
 -- Disjoint boxes in a domain have no more cells than the domain: so there are few of them, and their masses have room.
-use Rattle.std.proofs.Common.{◌≡◌, ℕ, zero, suc, ◌+◌, ◌-◌, ◌*◌, ◌^◌, ◌<◌, ◌≤◌, Bool, true, false, ◌&&◌, ◌||◌, ℤ, pos, negsuc, ◌+ℤ◌, ◌-ℤ◌, ◌≤ℤ◌, ◌<ℤ◌, List, [], ◌∷◌, ◌++◌, length, map, get_or, refl, sym, ap, subst, ◌∙◌, arith, flat_map, ◌⊎◌, inl, inr, All, AllPairs, IsTrue, if◌then◌else◌, length-append, pow-suc, mul-le-mul, mul_comm, mul_assoc, mul-le-mul_right, pow_pos}
+use Rattle.std.proofs.Common.{◌≡◌, ℕ, zero, suc, ◌+◌, ◌*◌, ◌^◌, ◌<◌, ◌≤◌, Bool, true, false, ◌||◌, ℤ, pos, negsuc, ◌+ℤ◌, ◌-ℤ◌, ◌≤ℤ◌, List, [], ◌∷◌, ◌++◌, length, map, refl, sym, ap, subst, ◌∙◌, arith, flat_map, ◌⊎◌, inl, inr, All, AllPairs, if◌then◌else◌, length-append, pow-suc, mul-le-mul, mul_comm, mul_assoc, pow_pos}
 use Rattle.std.specs.List.{list_any, range_with_len}
 use Rattle.std.proofs.lemmas.Int.{ints}
 use Rattle.std.proofs.lemmas.Bool.{or_left, or_right, or_cases, or_parts, or_from, false_from_ne_true, both_ways}
@@ -10,7 +10,7 @@ use Rattle.amr_box.proofs.CellEquality.{is_cell, cell_same, cell_itself, cell_ap
 use Rattle.amr_box.proofs.CellLists.{among_cells_of}
 use Rattle.amr_box.proofs.Parts.{length-cells_of}
 use Rattle.amr_def.specs.declared.problem.Problem.{Problem}
-use Rattle.amr_def.specs.Domain.{columns, rows, domain, domain_box, in_domain}
+use Rattle.amr_def.specs.Domain.{columns, rows, domain, domain_box}
 use Rattle.amr_def.specs.State.{Level, in_boxes}
 use Rattle.amr_def.specs.Facts.{IsAligned, IsLevel}
 use Rattle.amr_def.proofs.Nesting.{aligned_even}
@@ -21,7 +21,7 @@ use Rattle.amr_payload.specs.Payload.{level_cells}
 use Rattle.amr_payload.specs.Tests.{place_in}
 use Rattle.amr_payload.proofs.Fields.{Each}
 use Rattle.amr_payload.proofs.Places.{each_cell, by_places, place_of}
-use Rattle.amr_payload.proofs.GridLevels.{domain_box_cells}
+use Rattle.amr_payload.proofs.GridLevels.{HaveNoCommonCell, domain_box_cells}
 
 -- ---- lists of distinct cells
 
@@ -103,9 +103,6 @@ joined_distinct (c ∷ cs) ds one other apart = (list_any-append (is_cell c) cs 
 among_boxes : (bs : List Extent) (c : Cell) → list_any (is_cell c) (flat_map cells_of bs) ≡ in_boxes bs c
 among_boxes [] c = refl
 among_boxes (b ∷ bs) c = list_any-append (is_cell c) (cells_of b) (flat_map cells_of bs) ∙ (λ i. among_cells_of b c i || among_boxes bs c i)
-
-abbrev pub HaveNoCommonCell : Extent → Extent → Type 0
-HaveNoCommonCell a b = (c : Cell) → IsTrue (holds a c) → IsTrue (holds b c) → ⊥
 
 in_none : (c : Cell) (a : Extent) (bs : List Extent) → holds a c ≡ true → All (HaveNoCommonCell a) bs → in_boxes bs c ≡ false
 in_none c a [] held h = refl

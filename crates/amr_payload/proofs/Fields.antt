@@ -1,16 +1,12 @@
 -- The fields of a payload, one kind after the other: what is read was written, and what is written is read.
-use Rattle.std.proofs.Common.{◌≡◌, ℕ, zero, suc, ◌+◌, ◌*◌, ◌^◌, ◌<◌, ◌≤◌, Bool, true, false, ℤ, pos, List, [], ◌∷◌, ◌++◌, length, refl, sym, ap, subst, ◌∙◌, append_assoc, arith, All, flat_map}
-use Rattle.std.specs.Int.{Width, w8, w32, w64}
-use Rattle.amr_box.specs.declared.Cell.{Cell}
-use Rattle.amr_box.specs.Cells.{cell, Extent, extent, width, height}
-use Rattle.amr_def.specs.declared.problem.Problem.{Problem}
+use Rattle.std.proofs.Common.{◌≡◌, ℕ, zero, suc, ◌+◌, true, List, [], ◌∷◌, ◌++◌, length, refl, sym, ap, subst, ◌∙◌, append_assoc, arith, flat_map}
+use Rattle.std.specs.Int.{w64}
 use Rattle.amr_def.specs.declared.problem.Row.{Row}
-use Rattle.amr_def.specs.State.{Level}
-use Rattle.amr_def.specs.Facts.{IsSmallRow, growth}
-use Rattle.amr_payload.specs.Payload.{number_bytes, row_bytes, corner_bytes}
-use Rattle.amr_payload.specs.Tests.{Left, Reading, read, then_read, tested, read_also, read_number, read_row, has_no_flows, is_row_after, read_first_row, read_row_after, read_rows_after, read_rows, Grid, read_box, is_box_of, is_mass, read_mass, read_masses, read_grid, read_grids, level_of, is_box_count, read_level}
-use Rattle.amr_payload.proofs.Readings.{left, AreBytes, WasRead, was_read, was_tested, also_read, Took, took_then, took_none, took_same, Gives, gives, gives_then, gives_tested, gives_also, gives_at}
-use Rattle.amr_payload.proofs.Numbers.{IsCode, code_32, code_64, below_64}
+use Rattle.amr_def.specs.Facts.{IsSmallRow}
+use Rattle.amr_payload.specs.Payload.{number_bytes, row_bytes}
+use Rattle.amr_payload.specs.Tests.{Left, read, then_read, tested, read_also, read_number, read_row, has_no_flows, is_row_after, read_first_row, read_row_after, read_rows_after, read_rows}
+use Rattle.amr_payload.proofs.Readings.{left, AreBytes, was_read, was_tested, also_read, Took, took_then, took_none, took_same, Gives, gives, gives_then, gives_tested, gives_also, gives_at}
+use Rattle.amr_payload.proofs.Numbers.{code_64, below_64}
 
 abbrev pub Each : {A : Type 0} → (A → Type 0) → List A → Type 0
 Each P [] = Unit {0}
@@ -43,7 +39,7 @@ row_took r e v small h =
     let same : row_of a.value b.value c.value ≡ v = read_value _ _ _ _ c.second in
     record {
       took = took_same (row_bytes (row_of a.value b.value c.value)) (row_bytes v) r c.rest e (ap (λ v. row_bytes v) same) (read_rest _ _ _ _ c.second)
-      (took_then _ _ r b.rest c.rest (took_then _ _ r a.rest b.rest ta tb) tc);
+          (took_then _ _ r b.rest c.rest (took_then _ _ r a.rest b.rest ta tb) tc);
       small = subst (λ (v : Row). IsSmallRow v) same (record {
         mass = below_64 r a.rest a.value small a.first;
         inflow = below_64 a.rest b.rest b.value ta.small b.first;

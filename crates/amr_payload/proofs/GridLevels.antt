@@ -1,29 +1,29 @@
 -- Boxes with masses that pass their tests make a level: disjoint boxes in the domain, each cell with its mass. And the bytes of
 -- that level are those of the boxes.
-use Rattle.std.proofs.Common.{◌≡◌, ℕ, zero, suc, ◌+◌, ◌*◌, ◌^◌, ◌<◌, ◌≤◌, Bool, true, false, not, ◌&&◌, ◌||◌, ℤ, pos, negsuc, ◌+ℤ◌, ◌-ℤ◌, ◌≤ℤ◌, ◌<ℤ◌, List, [], ◌∷◌, ◌++◌, length, map, get_or, refl, sym, ap, subst, ◌∙◌, arith, flat_map, ◌⊎◌, inl, inr, All, AllPairs, unwrap_or, is_some, if◌then◌else◌, IsTrue, nat_le, ◌==◌, mul-zero}
+use Rattle.std.proofs.Common.{◌≡◌, ℕ, zero, suc, ◌+◌, ◌*◌, ◌^◌, ◌<◌, ◌≤◌, Bool, true, false, not, ◌&&◌, ◌||◌, ℤ, pos, ◌+ℤ◌, ◌-ℤ◌, ◌≤ℤ◌, List, [], ◌∷◌, ◌++◌, length, map, refl, sym, ap, subst, ◌∙◌, arith, flat_map, ◌⊎◌, inl, inr, All, AllPairs, unwrap_or, is_some, if◌then◌else◌, IsTrue, nat_le, mul-zero}
 use Rattle.std.specs.Prelude.{slice_index, int_le}
-use Rattle.std.specs.List.{list_any, list_all}
+use Rattle.std.specs.List.{list_any}
 use Rattle.std.specs.Int.{Width, w32, int_rem_euclid}
 use Rattle.std.specs.Ordering.{int_eq}
 use Rattle.std.specs.declared.option.Option.{Option}
-use Rattle.std.specs.declared.option.Option.TheVariants.{None, Some}
+use Rattle.std.specs.declared.option.Option.TheVariants.{Some}
 use Rattle.std.proofs.lemmas.List.{length-map}
 use Rattle.std.proofs.lemmas.Int.{ints}
-use Rattle.std.proofs.lemmas.Bool.{and_parts, and_from, or_left, or_right, or_cases, or_parts, not-true, false_from_ne_true, both_ways, leb-true, eqb-true}
+use Rattle.std.proofs.lemmas.Bool.{and_parts, and_from, or_cases, or_parts, not-true, false_from_ne_true, both_ways, leb-true, eqb-true}
 use Rattle.amr_box.specs.declared.Cell.{Cell}
 use Rattle.amr_box.specs.Cells.{Extent, IsProper, cells_of, common, holds, within, width, height}
 use Rattle.amr_box.proofs.Boxes.{holds-common, int_le-yes}
 use Rattle.amr_box.proofs.CellEquality.{same_number, same_cells}
 use Rattle.amr_def.specs.declared.problem.Problem.{Problem}
 use Rattle.amr_def.specs.Domain.{Domain, domain, domain_box, in_domain, is_inside}
-use Rattle.amr_def.specs.State.{Masses, Level, in_boxes, mass_of}
+use Rattle.amr_def.specs.State.{Masses, in_boxes, mass_of}
 use Rattle.amr_def.specs.Facts.{IsAligned, IsLevel, growth}
 use Rattle.amr_def.proofs.SoundRun.{domain_proper}
 use Rattle.amr_payload.specs.Payload.{level_cells, box_bytes, level_bytes, number_bytes}
 use Rattle.amr_payload.specs.Tests.{Grid, is_same_cell, is_same_box, is_proper, lies_in, is_multiple, is_aligned, meets, is_box_of, is_box_count, is_mass, masses_in, level_of, place_in}
 use Rattle.amr_payload.proofs.Fields.{Each}
 use Rattle.amr_payload.proofs.Numbers.{IsCode}
-use Rattle.amr_payload.proofs.Grids.{corners, IsGrid, AreGrids, grid_bytes, grids_bytes}
+use Rattle.amr_payload.proofs.Grids.{corners, AreGrids, grid_bytes, grids_bytes}
 use Rattle.amr_payload.proofs.Places.{each_cell, looked_up}
 
 -- ---- two boxes
@@ -144,16 +144,16 @@ module _ (w : Width) (code : IsCode w (2 ^ 32)) (p : Problem) (n l : ℕ) where
   later_apart : (e : Extent) (earlier : List Extent) (gs : List Grid) → ((b : Extent) → list_any (meets b) earlier ≡ false → meets b e ≡ false) → AreGrids w code p n (suc l) earlier gs → Each (λ k. meets k.box e ≡ false) gs
   later_apart e earlier [] among each = tt
   later_apart e earlier (g ∷ gs) among each = (
-      among g.box (fine_box p l earlier g.box each.0.box).apart,
-      later_apart e (g.box ∷ earlier) gs (λ b none. among b (or_parts (meets b g.box) (list_any (meets b) earlier) none).1) each.1,
-    )
+    among g.box (fine_box p l earlier g.box each.0.box).apart,
+    later_apart e (g.box ∷ earlier) gs (λ b none. among b (or_parts (meets b g.box) (list_any (meets b) earlier) none).1) each.1,
+  )
 
   fine_apart : (earlier : List Extent) (gs : List Grid) → AreGrids w code p n (suc l) earlier gs → AreApart gs
   fine_apart earlier [] each = tt
   fine_apart earlier (g ∷ gs) each = (
-      later_apart g.box (g.box ∷ earlier) gs (λ b none. (or_parts (meets b g.box) (list_any (meets b) earlier) none).0) each.1,
-      fine_apart (g.box ∷ earlier) gs each.1,
-    )
+    later_apart g.box (g.box ∷ earlier) gs (λ b none. (or_parts (meets b g.box) (list_any (meets b) earlier) none).0) each.1,
+    fine_apart (g.box ∷ earlier) gs each.1,
+  )
 
 pub apart : (w : Width) (code : IsCode w (2 ^ 32)) (p : Problem) (n l : ℕ) (gs : List Grid) → is_box_count p l (length gs) ≡ true → AreGrids w code p n l [] gs → AreApart gs
 apart w code p n zero [] count each = tt
@@ -169,17 +169,17 @@ Agrees m gs = Each (λ g. (c : Cell) → holds g.box c ≡ true → m c ≡ Some
 pub agrees : (gs : List Grid) → AreApart gs → Agrees (masses_in gs) gs
 agrees [] h = tt
 agrees (g ∷ gs) h = (
-    λ c held. ap (λ (t : Bool). if t then Some (slice_index g.masses (place_in g.box c)) else masses_in gs c) held,
-    others gs h.0 (agrees gs h.1),
-  )
+  λ c held. ap (λ (t : Bool). if t then Some (slice_index g.masses (place_in g.box c)) else masses_in gs c) held,
+  others gs h.0 (agrees gs h.1),
+)
   where
     others : (ks : List Grid) → Each (λ k. meets k.box g.box ≡ false) ks → Agrees (masses_in gs) ks → Agrees (masses_in (g ∷ gs)) ks
     others [] away rest = tt
     others (k ∷ ks) away rest = (
-        λ c held. ap (λ (t : Bool). if t then Some (slice_index g.masses (place_in g.box c)) else masses_in gs c)
-        (false_from_ne_true (holds g.box c) (λ both. both_ways (meets k.box g.box) away.0 (meets_at k.box g.box c held both))) ∙ rest.0 c held,
-        others ks away.1 rest.1,
-      )
+      λ c held. ap (λ (t : Bool). if t then Some (slice_index g.masses (place_in g.box c)) else masses_in gs c)
+          (false_from_ne_true (holds g.box c) (λ both. both_ways (meets k.box g.box) away.0 (meets_at k.box g.box c held both))) ∙ rest.0 c held,
+      others ks away.1 rest.1,
+    )
 
 flat_map-map : {A B C : Type 0} (f : B → List C) (g : A → B) (xs : List A) → flat_map f (map g xs) ≡ flat_map (λ x. f (g x)) xs
 flat_map-map f g [] = refl
@@ -226,7 +226,8 @@ each_map : {A B : Type 0} (P : B → Type 0) (f : A → B) (xs : List A) → Eac
 each_map P f [] h = tt
 each_map P f (x ∷ xs) h = (h.0, each_map P f xs h.1)
 
-abbrev HaveNoCommonCell : Extent → Extent → Type 0
+-- no cell is in both boxes
+abbrev pub HaveNoCommonCell : Extent → Extent → Type 0
 HaveNoCommonCell a b = (c : Cell) → IsTrue (holds a c) → IsTrue (holds b c) → ⊥
 
 all_apart : (gs : List Grid) → AreApart gs → AllPairs HaveNoCommonCell (map (λ g. g.box) gs)

@@ -1,10 +1,9 @@
 -- Boxes with their masses, and levels: what is read was written, and what is written is read.
-use Rattle.std.proofs.Common.{◌≡◌, ℕ, zero, suc, ◌+◌, ◌*◌, ◌^◌, ◌<◌, ◌≤◌, Bool, true, false, ℤ, pos, List, [], ◌∷◌, ◌++◌, length, refl, sym, ap, subst, ◌∙◌, append_assoc, arith, flat_map}
+use Rattle.std.proofs.Common.{◌≡◌, ℕ, zero, suc, ◌*◌, ◌^◌, ◌<◌, true, pos, List, [], ◌∷◌, ◌++◌, length, refl, sym, ap, subst, ◌∙◌, append_assoc, flat_map}
 use Rattle.std.specs.Int.{Width, w32}
 use Rattle.amr_box.specs.Cells.{cell, Extent, extent, width, height}
 use Rattle.amr_def.specs.declared.problem.Problem.{Problem}
 use Rattle.amr_def.specs.State.{Level}
-use Rattle.amr_def.specs.Facts.{growth}
 use Rattle.amr_payload.specs.Payload.{number_bytes, corner_bytes}
 use Rattle.amr_payload.specs.Tests.{Left, read, then_read, tested, read_also, read_number, Grid, read_box, is_box_of, is_mass, read_mass, read_masses, read_grid, read_grids, level_of, is_box_count, read_level}
 use Rattle.amr_payload.proofs.Readings.{left, AreBytes, was_read, was_tested, also_read, Took, took_then, took_none, took_same, Gives, gives, gives_then, gives_tested, gives_also, gives_at}
@@ -133,7 +132,7 @@ module _ (w : Width) (code : IsCode w (2 ^ 32)) (p : Problem) (n l : ℕ) where
       let same : grid_of t.value m.value ≡ g = read_value (grid_of t.value m.value) g m.rest e m.second in
       subst (λ (g : Grid). IsGridRead earlier g r e) same (record {
         took = took_same (grid_bytes (grid_of t.value m.value)) (grid_bytes (grid_of t.value m.value)) r m.rest e refl (read_rest (grid_of t.value m.value) g m.rest e m.second)
-        (took_then (corners t.value) (flat_map (number_bytes w) m.value) r t.rest m.rest box masses.took);
+            (took_then (corners t.value) (flat_map (number_bytes w) m.value) r t.rest m.rest box masses.took);
         grid = record { box = subst (λ (b : Extent). is_box_of p l earlier b ≡ true) test.value test.passes; count = masses.count; each = masses.each };
       })
 
@@ -212,7 +211,7 @@ module _ (w : Width) (code : IsCode w (2 ^ 32)) (p : Problem) (n l : ℕ) where
         grids = g.value;
         is = read_value (level_of g.value) k g.rest e g.second;
         took = took_same (number_bytes w32 t.value ++ flat_map grid_bytes g.value) (grids_bytes g.value) r g.rest e (ap (λ m. number_bytes w32 m ++ flat_map grid_bytes g.value) (sym grids.count)) (read_rest (level_of g.value) k g.rest e g.second)
-        (took_then (number_bytes w32 t.value) (flat_map grid_bytes g.value) r t.rest g.rest number grids.took);
+            (took_then (number_bytes w32 t.value) (flat_map grid_bytes g.value) r t.rest g.rest number grids.took);
         count = subst (λ (m : ℕ). is_box_count p l m ≡ true) (test.value ∙ sym grids.count) test.passes;
         each = grids.each;
       }

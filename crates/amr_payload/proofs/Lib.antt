@@ -9,4 +9,5 @@ pub mod Counting
 pub mod WriteLevels
 pub mod WriteStates
 pub mod Room
+pub mod Bytes
 mod WorkedRows

@@ -1,11 +1,11 @@
 -- A number of 8, 32 or 64 bits is read back from its bytes.
-use Rattle.std.proofs.Common.{◌≡◌, ℕ, zero, suc, ◌+◌, ◌*◌, ◌/◌, ◌%◌, ◌^◌, ◌<◌, ◌≤◌, ◌⊎◌, inl, inr, Bool, true, false, List, [], ◌∷◌, ◌++◌, length, length-append, drop, get_or, refl, sym, ap, subst, ◌∙◌, arith}
+use Rattle.std.proofs.Common.{◌≡◌, ℕ, zero, suc, ◌+◌, ◌*◌, ◌%◌, ◌^◌, ◌<◌, ◌≤◌, inl, inr, true, List, [], ◌∷◌, ◌++◌, length, length-append, drop, get_or, refl, sym, ap, subst, arith}
 use Rattle.std.specs.Prelude.{nat_le}
 use Rattle.std.specs.Int.{Width, w8, w32, w64, byte_len, to_le_bytes, from_le_bytes}
 use Rattle.std.proofs.lemmas.Bool.Decides.{nat_tests}
 use Rattle.std.proofs.lemmas.Nat.{le_bytes_4, le_bytes_8, from_le_bytes-to_le_bytes_4, from_le_bytes-to_le_bytes_8}
 use Rattle.amr_payload.specs.Payload.{IsMassWidth, number_bytes}
-use Rattle.amr_payload.specs.Tests.{Left, Reading, read, tested, after, read_number}
+use Rattle.amr_payload.specs.Tests.{Left, read, tested, after, read_number}
 use Rattle.amr_payload.proofs.Readings.{left, AreBytes, Took, Gives, was_tested, took_same}
 
 -- numbers below a limit are read back, and what is read is written back
@@ -65,10 +65,10 @@ forth_64 (a ∷ b ∷ c ∷ d ∷ e ∷ []) h s = absurd (omega arith)
 forth_64 (a ∷ b ∷ c ∷ d ∷ e ∷ f ∷ []) h s = absurd (omega arith)
 forth_64 (a ∷ b ∷ c ∷ d ∷ e ∷ f ∷ g ∷ []) h s = absurd (omega arith)
 forth_64 (a ∷ b ∷ c ∷ d ∷ e ∷ f ∷ g ∷ k ∷ xs) h s = (
-    sym (ap (λ bs. bs ++ xs) (le_bytes_8 (a ∷ b ∷ c ∷ d ∷ e ∷ f ∷ g ∷ k ∷ []) (from_le_bytes w64 (a ∷ b ∷ c ∷ d ∷ e ∷ f ∷ g ∷ k ∷ xs)) refl (small_8 a b c d e f g k s.0 s.1.0 s.1.1.0 s.1.1.1.0 s.1.1.1.1.0 s.1.1.1.1.1.0 s.1.1.1.1.1.1.0 s.1.1.1.1.1.1.1.0) refl)),
-    s.1.1.1.1.1.1.1.1,
-    below a b c d e f g k s.0 s.1.0 s.1.1.0 s.1.1.1.0 s.1.1.1.1.0 s.1.1.1.1.1.0 s.1.1.1.1.1.1.0 s.1.1.1.1.1.1.1.0,
-  )
+  sym (ap (λ bs. bs ++ xs) (le_bytes_8 (a ∷ b ∷ c ∷ d ∷ e ∷ f ∷ g ∷ k ∷ []) (from_le_bytes w64 (a ∷ b ∷ c ∷ d ∷ e ∷ f ∷ g ∷ k ∷ xs)) refl (small_8 a b c d e f g k s.0 s.1.0 s.1.1.0 s.1.1.1.0 s.1.1.1.1.0 s.1.1.1.1.1.0 s.1.1.1.1.1.1.0 s.1.1.1.1.1.1.1.0) refl)),
+  s.1.1.1.1.1.1.1.1,
+  below a b c d e f g k s.0 s.1.0 s.1.1.0 s.1.1.1.0 s.1.1.1.1.0 s.1.1.1.1.1.0 s.1.1.1.1.1.1.0 s.1.1.1.1.1.1.1.0,
+)
   where
     below : (a b c d e f g h : ℕ) → a < 256 → b < 256 → c < 256 → d < 256 → e < 256 → f < 256 → g < 256 → h < 256 → a + b * 256 + c * 65536 + d * 16777216 + e * 4294967296 + f * 1099511627776 + g * 281474976710656 + h * 72057594037927936 < 2 ^ 64
     below a b c d e f g h a' b' c' d' e' f' g' h' = omega arith
@@ -83,9 +83,9 @@ unfolding number_bytes read_number
 code_8 = record {
   gives = λ n k bs fits. record { place = k + 1; is = (λ i. tested (le_yes 1 (length (to_le_bytes w8 n ++ bs)) (omega arith) i) k (back_8 n fits i) (left (k + 1) bs)) };
   took = λ r e n small h.
-    let t = was_tested (nat_le 1 (length r.bytes)) r.place (from_le_bytes w8 r.bytes) n (after 1 r) e h in
-    let f = forth_8 r.bytes (le_is 1 (length r.bytes) t.passes) small in
-    took_same (to_le_bytes w8 (from_le_bytes w8 r.bytes)) (to_le_bytes w8 n) r (after 1 r) e (ap (λ m. to_le_bytes w8 m) t.value) t.rest (record { is = f.0; small = f.1 });
+      let t = was_tested (nat_le 1 (length r.bytes)) r.place (from_le_bytes w8 r.bytes) n (after 1 r) e h in
+      let f = forth_8 r.bytes (le_is 1 (length r.bytes) t.passes) small in
+      took_same (to_le_bytes w8 (from_le_bytes w8 r.bytes)) (to_le_bytes w8 n) r (after 1 r) e (ap (λ m. to_le_bytes w8 m) t.value) t.rest (record { is = f.0; small = f.1 });
   len = λ n. refl;
 }
 
@@ -94,9 +94,9 @@ unfolding number_bytes read_number
 code_32 = record {
   gives = λ n k bs fits. record { place = k + 4; is = (λ i. tested (le_yes 4 (length (to_le_bytes w32 n ++ bs)) (omega arith) i) k (from_le_bytes-to_le_bytes_4 n fits i) (left (k + 4) bs)) };
   took = λ r e n small h.
-    let t = was_tested (nat_le 4 (length r.bytes)) r.place (from_le_bytes w32 r.bytes) n (after 4 r) e h in
-    let f = forth_32 r.bytes (le_is 4 (length r.bytes) t.passes) small in
-    took_same (to_le_bytes w32 (from_le_bytes w32 r.bytes)) (to_le_bytes w32 n) r (after 4 r) e (ap (λ m. to_le_bytes w32 m) t.value) t.rest (record { is = f.0; small = f.1 });
+      let t = was_tested (nat_le 4 (length r.bytes)) r.place (from_le_bytes w32 r.bytes) n (after 4 r) e h in
+      let f = forth_32 r.bytes (le_is 4 (length r.bytes) t.passes) small in
+      took_same (to_le_bytes w32 (from_le_bytes w32 r.bytes)) (to_le_bytes w32 n) r (after 4 r) e (ap (λ m. to_le_bytes w32 m) t.value) t.rest (record { is = f.0; small = f.1 });
   len = λ n. refl;
 }
 
@@ -105,9 +105,9 @@ unfolding number_bytes read_number
 code_64 = record {
   gives = λ n k bs fits. record { place = k + 8; is = (λ i. tested (le_yes 8 (length (to_le_bytes w64 n ++ bs)) (omega arith) i) k (from_le_bytes-to_le_bytes_8 n fits i) (left (k + 8) bs)) };
   took = λ r e n small h.
-    let t = was_tested (nat_le 8 (length r.bytes)) r.place (from_le_bytes w64 r.bytes) n (after 8 r) e h in
-    let f = forth_64 r.bytes (le_is 8 (length r.bytes) t.passes) small in
-    took_same (to_le_bytes w64 (from_le_bytes w64 r.bytes)) (to_le_bytes w64 n) r (after 8 r) e (ap (λ m. to_le_bytes w64 m) t.value) t.rest (record { is = f.0; small = f.1 });
+      let t = was_tested (nat_le 8 (length r.bytes)) r.place (from_le_bytes w64 r.bytes) n (after 8 r) e h in
+      let f = forth_64 r.bytes (le_is 8 (length r.bytes) t.passes) small in
+      took_same (to_le_bytes w64 (from_le_bytes w64 r.bytes)) (to_le_bytes w64 n) r (after 8 r) e (ap (λ m. to_le_bytes w64 m) t.value) t.rest (record { is = f.0; small = f.1 });
   len = λ n. refl;
 }
 

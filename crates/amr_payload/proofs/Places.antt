@@ -1,13 +1,12 @@
 -- The cells of a box in order: each is in the box, a cell's place among them, and tests of all of them.
-use Rattle.std.proofs.Common.{◌≡◌, ℕ, zero, suc, ◌+◌, ◌*◌, ◌<◌, ◌≤◌, Bool, true, false, ◌&&◌, ◌||◌, ℤ, pos, negsuc, ◌+ℤ◌, ◌-ℤ◌, ◌≤ℤ◌, ◌<ℤ◌, List, [], ◌∷◌, ◌++◌, length, map, get_or, refl, sym, ap, subst, ◌∙◌, arith, flat_map, add-mul, suc-mul, zero-mul, mul_comm, ◌⊎◌, inl, inr}
-use Rattle.std.specs.Prelude.{slice_index, int_le}
+use Rattle.std.proofs.Common.{◌≡◌, ℕ, zero, suc, ◌+◌, ◌*◌, ◌<◌, Bool, true, ℤ, pos, negsuc, ◌+ℤ◌, ◌-ℤ◌, List, [], ◌∷◌, ◌++◌, length, map, refl, sym, ap, subst, ◌∙◌, arith, flat_map, add-mul, suc-mul, zero-mul, mul_comm, ◌⊎◌, inl, inr}
+use Rattle.std.specs.Prelude.{slice_index}
 use Rattle.std.specs.List.{list_any, list_all, range_with_len}
 use Rattle.std.proofs.lemmas.Int.{ints}
 use Rattle.std.proofs.lemmas.Bool.{and_parts, and_from, or_left, or_right, or_cases}
 use Rattle.std.proofs.lemmas.List.{map-append}
-use Rattle.std.proofs.lemmas.List.FromFn.{get_or-map-range_with_len}
 use Rattle.amr_box.specs.declared.Cell.{Cell}
-use Rattle.amr_box.specs.Cells.{Extent, IsProper, at_least_zero, cell, cells_of, holds, within, width, height}
+use Rattle.amr_box.specs.Cells.{Extent, at_least_zero, cell, cells_of, holds, within, width, height}
 use Rattle.amr_box.proofs.CellEquality.{is_cell, cell_itself, cell_same, same_cell}
 use Rattle.amr_box.proofs.CellLists.{among_cells_of}
 use Rattle.amr_payload.specs.Tests.{place_in}

@@ -1,25 +1,24 @@
 -- Bytes that pass all tests are the payload of the state that is read, and the state is sound.
-use Rattle.std.proofs.Common.{◌≡◌, ℕ, zero, suc, ◌+◌, ◌-◌, ◌*◌, ◌^◌, ◌<◌, ◌≤◌, Bool, true, false, not, ◌&&◌, ◌||◌, List, [], ◌∷◌, ◌++◌, length, map, get_or, refl, sym, ap, subst, ◌∙◌, arith, flat_map, ◌⊎◌, inl, inr, All, IsTrue, nat_le, ◌==◌, mul-zero, append-nil, append_assoc, if◌then◌else◌}
-use Rattle.std.specs.List.{list_all}
+use Rattle.std.proofs.Common.{◌≡◌, ℕ, zero, suc, ◌+◌, ◌-◌, ◌*◌, ◌^◌, ◌<◌, ◌≤◌, Bool, true, false, not, ◌&&◌, ◌||◌, List, [], ◌∷◌, ◌++◌, length, get_or, refl, sym, ap, subst, ◌∙◌, arith, flat_map, All, nat_le, ◌==◌, mul-zero, append-nil, append_assoc, if◌then◌else◌}
 use Rattle.std.specs.Int.{Width, w8, w32}
 use Rattle.std.specs.declared.result.Result.TheVariants.{Ok, Err}
-use Rattle.std.proofs.lemmas.Bool.{and_parts, or_cases, both_ways, leb-true, eqb-true, not_from_true}
+use Rattle.std.proofs.lemmas.Bool.{and_parts, leb-true, eqb-true}
 use Rattle.amr_box.specs.declared.Cell.{Cell}
-use Rattle.amr_box.specs.Cells.{Extent, cells_of}
+use Rattle.amr_box.specs.Cells.{Extent}
 use Rattle.amr_def.specs.declared.problem.Problem.{Problem}
 use Rattle.amr_def.specs.declared.problem.Row.{Row}
 use Rattle.amr_def.specs.Limits.{between}
 use Rattle.amr_def.specs.Domain.{Domain, domain, domain_box, in_domain, is_near}
 use Rattle.amr_def.specs.State.{Masses, Level, State, no_level, level_at, in_boxes, mass_of, is_covered, is_covered_by, children_mass}
 use Rattle.amr_def.specs.Ledger.{total_mass}
-use Rattle.amr_def.specs.Facts.{IsAligned, IsLevel, IsNestedLevel, IsNested, IsSynced, IsBounded, IsTelescoped, IsSmallRow, IsSound, growth, no_row, row_at}
+use Rattle.amr_def.specs.Facts.{IsAligned, IsLevel, IsNestedLevel, IsTelescoped, IsSmallRow, IsSound, growth, no_row, row_at}
 use Rattle.amr_def.proofs.Nesting.{covered_inside}
 use Rattle.amr_def.proofs.Uncovered.{in_domain-yes}
 use Rattle.amr_payload.specs.Payload.{IsMassWidth, number_bytes, row_bytes, level_bytes, payload}
-use Rattle.amr_payload.specs.Tests.{Left, Reading, bad, read, then_read, tested, read_also, read_number, read_rows, read_step, read_level, read_finer, read_all_finer, read_levels, read_state, decoded, nothing_follows, surrounds, is_in_sync, is_in_balance, has_no_flows, is_row_after, row_place, level_of}
+use Rattle.amr_payload.specs.Tests.{Left, Reading, bad, read, then_read, tested, read_also, read_number, read_rows, read_step, read_level, read_finer, read_all_finer, read_levels, read_state, decoded, nothing_follows, surrounds, is_in_sync, is_in_balance, row_place, level_of}
 use Rattle.amr_payload.proofs.Readings.{left, AreBytes, are_bytes, was_read, was_tested, also_read, Took, took_then, took_none, took_same}
 use Rattle.amr_payload.proofs.Numbers.{IsCode, code_8, code_32, mass_code}
-use Rattle.amr_payload.proofs.Fields.{Each, read_value, read_rest, IsChain, IsLedger, IsLedgerRead, rows_took}
+use Rattle.amr_payload.proofs.Fields.{read_rest, IsChain, IsLedger, rows_took}
 use Rattle.amr_payload.proofs.Grids.{grids_bytes, IsLevelRead, level_took}
 use Rattle.amr_payload.proofs.Places.{any_cell}
 use Rattle.amr_payload.proofs.GridLevels.{all_from, domain_box_cells, level_written, is_level, level_bounded, all_aligned, base_boxes}
@@ -187,8 +186,8 @@ module _ (w : Width) (code : IsCode w (2 ^ 32)) (p : Problem) (n : ℕ) where
         finer = others.others;
         is = refl;
         took = took_then (number_bytes w8 (length (b.value ∷ others.others))) (level_bytes w b.value ++ flat_map (level_bytes w) others.others) r t.rest e
-        (took_same (number_bytes w8 t.value) (number_bytes w8 (length (b.value ∷ others.others))) r t.rest t.rest (ap (λ m. number_bytes w8 m) (sym count)) refl number)
-        (took_then (level_bytes w b.value) (flat_map (level_bytes w) others.others) t.rest b.rest e good.took more.took);
+            (took_same (number_bytes w8 t.value) (number_bytes w8 (length (b.value ∷ others.others))) r t.rest t.rest (ap (λ m. number_bytes w8 m) (sym count)) refl number)
+            (took_then (level_bytes w b.value) (flat_map (level_bytes w) others.others) t.rest b.rest e good.took more.took);
         few = omega (arith, count, test.value, few);
         good = good.good;
         boxes = subst (λ (k : Level). k.boxes ≡ domain_box (domain p 0) ∷ []) one.is (base_boxes w code p n one.grids one.count one.each);
@@ -244,11 +243,11 @@ sound_state w code p s base finer is within few good boxes tower ledger small =
       nested = record {
         each = λ l inside. subst (λ (ks : List Level). l < length ks → IsLevel p l (get_or ks l no_level)) (sym is) (λ inside. from_base p s.step base finer good.level tower l inside) inside;
         nested = λ l inside. subst (λ (ks : List Level). l + 1 < length ks → IsNestedLevel p l (get_or ks l no_level) (get_or ks (l + 1) no_level)) (sym is)
-        (λ inside. nested_level p s.step l (get_or (base ∷ finer) l no_level) (get_or (base ∷ finer) (l + 1) no_level) (pair_from_base p s.step base finer tower l inside)) inside;
+            (λ inside. nested_level p s.step l (get_or (base ∷ finer) l no_level) (get_or (base ∷ finer) (l + 1) no_level) (pair_from_base p s.step base finer tower l inside)) inside;
       };
       synced = record {
         at = λ l c inside covered. subst (λ (ks : List Level). l + 1 < length ks → is_covered (get_or ks (l + 1) no_level).masses c ≡ true → mass_of (get_or ks l no_level).masses c ≡ children_mass (get_or ks (l + 1) no_level).masses c) (sym is)
-        (λ inside covered. synced_level p s.step l (get_or (base ∷ finer) l no_level) (get_or (base ∷ finer) (l + 1) no_level) (from_base p s.step base finer good.level tower l (omega arith)) (pair_from_base p s.step base finer tower l inside) c covered) inside covered;
+            (λ inside covered. synced_level p s.step l (get_or (base ∷ finer) l no_level) (get_or (base ∷ finer) (l + 1) no_level) (from_base p s.step base finer good.level tower l (omega arith)) (pair_from_base p s.step base finer tower l inside) c covered) inside covered;
       };
       bounded = record { at = λ l c. subst (λ (ks : List Level). 4 ^ l * mass_of (get_or ks l no_level).masses c ≤ bound p s.step) (sym is) (bounded_from_base p s.step base finer good tower l c) };
       telescoped = ledger;
@@ -272,11 +271,11 @@ state_took w code p r e s small h =
     let within : t.value ≤ p.steps = leb-true t.value p.steps step.passes in
     subst (λ (s : State). IsStateRead w p s r e) test.value (record {
       took = took_same (payload w read_one) (payload w read_one) r c.rest e refl test.rest
-      (regroup (number_bytes w32 a.value) (flat_map row_bytes b.value) (number_bytes w8 (length c.value)) (flat_map (level_bytes w) c.value) r c.rest
-      (took_then (number_bytes w32 a.value ++ flat_map row_bytes b.value) (number_bytes w8 (length c.value) ++ flat_map (level_bytes w) c.value) r b.rest c.rest
-      (took_then (number_bytes w32 a.value) (flat_map row_bytes b.value) r a.rest b.rest number rows.took) levels.took));
+          (regroup (number_bytes w32 a.value) (flat_map row_bytes b.value) (number_bytes w8 (length c.value)) (flat_map (level_bytes w) c.value) r c.rest
+          (took_then (number_bytes w32 a.value ++ flat_map row_bytes b.value) (number_bytes w8 (length c.value) ++ flat_map (level_bytes w) c.value) r b.rest c.rest
+          (took_then (number_bytes w32 a.value) (flat_map row_bytes b.value) r a.rest b.rest number rows.took) levels.took));
       sound = sound_state w code p read_one levels.base levels.finer levels.is (omega (arith, within, step.value)) levels.few levels.good levels.boxes levels.tower
-      (telescoped p read_one rows.count rows.ledger test.passes) (all_from IsSmallRow b.value rows.small);
+          (telescoped p read_one rows.count rows.ledger test.passes) (all_from IsSmallRow b.value rows.small);
     })
   where
     regroup : (a b c d : List ℕ) (r e : Left) → Took (a ++ b ++ (c ++ d)) r e → Took (a ++ b ++ c ++ d) r e

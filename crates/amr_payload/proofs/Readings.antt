@@ -1,5 +1,5 @@
 -- What a reading took from the bytes, and which bytes give a reading.
-use Rattle.std.proofs.Common.{◌≡◌, ℕ, zero, suc, ◌+◌, ◌*◌, ◌^◌, ◌<◌, ◌≤◌, Bool, true, false, List, [], ◌∷◌, ◌++◌, length, get_or, refl, sym, ap, subst, ◌∙◌, append_assoc, arith, All}
+use Rattle.std.proofs.Common.{◌≡◌, ℕ, suc, ◌<◌, Bool, true, false, List, [], ◌∷◌, ◌++◌, refl, sym, ap, subst, ◌∙◌, append_assoc, arith, All}
 use Rattle.amr_payload.specs.Tests.{Left, Reading, bad, read, then_read, tested, read_also}
 
 abbrev pub left : ℕ → List ℕ → Left

@@ -1,5 +1,5 @@
 -- How long a payload is, and that a slot has room for it.
-use Rattle.std.proofs.Common.{◌≡◌, ℕ, zero, suc, ◌+◌, ◌*◌, ◌^◌, ◌<◌, ◌≤◌, List, [], ◌∷◌, ◌++◌, length, refl, sym, ap, subst, ◌∙◌, arith, flat_map, All, length-append, mul-le-mul_left, mul-add, add-mul, mul-zero, mul-suc, ◌-◌}
+use Rattle.std.proofs.Common.{◌≡◌, ℕ, zero, suc, ◌+◌, ◌*◌, ◌^◌, ◌≤◌, List, [], ◌∷◌, ◌++◌, length, refl, sym, ap, subst, ◌∙◌, arith, flat_map, length-append, mul-le-mul_left, mul-add, add-mul, mul-zero, mul-suc, ◌-◌}
 use Rattle.std.specs.Int.{Width, w8, w32, w64, byte_len}
 use Rattle.amr_box.specs.declared.Cell.{Cell}
 use Rattle.amr_box.specs.Cells.{Extent, at_least_zero, cells_of}

@@ -1,34 +1,33 @@
 -- The levels of a sound state are read back from their bytes.
-use Rattle.std.proofs.Common.{◌≡◌, ℕ, zero, suc, ◌+◌, ◌-◌, ◌*◌, ◌^◌, ◌<◌, ◌≤◌, Bool, true, false, not, ◌&&◌, ◌||◌, ℤ, pos, negsuc, ◌+ℤ◌, ◌-ℤ◌, ◌≤ℤ◌, ◌<ℤ◌, List, [], ◌∷◌, ◌++◌, length, map, get_or, refl, sym, ap, subst, ◌∙◌, arith, flat_map, ◌⊎◌, inl, inr, All, AllPairs, IsTrue, if◌then◌else◌, is_some, unwrap_or, nat_le, ◌==◌, mul-le-mul_right, mul-le-mul, append_assoc, pow_pos, pow-suc, ◌/◌, ◌%◌, Option, Some, None}
-use Rattle.std.specs.Prelude.{slice_index, int_le}
-use Rattle.std.specs.List.{list_any, list_all, range_with_len}
-use Rattle.std.specs.Int.{Width, w8, w32, int_rem_euclid}
+use Rattle.std.proofs.Common.{◌≡◌, ℕ, zero, suc, ◌+◌, ◌*◌, ◌^◌, ◌<◌, ◌≤◌, Bool, true, false, not, ◌&&◌, ◌||◌, ℤ, pos, negsuc, ◌+ℤ◌, ◌≤ℤ◌, ◌<ℤ◌, List, [], ◌∷◌, ◌++◌, length, map, refl, sym, ap, subst, ◌∙◌, arith, flat_map, All, AllPairs, if◌then◌else◌, is_some, unwrap_or, nat_le, ◌==◌, mul-le-mul_right, mul-le-mul, append_assoc, pow-suc, ◌/◌, ◌%◌, Option, Some, None}
+use Rattle.std.specs.Prelude.{slice_index}
+use Rattle.std.specs.List.{list_any}
+use Rattle.std.specs.Int.{Width, int_rem_euclid}
 use Rattle.std.specs.Ordering.{int_eq}
 use Rattle.std.proofs.lemmas.Int.{ints}
-use Rattle.std.proofs.lemmas.Bool.{and_parts, and_from, or_left, or_right, or_cases, or_from, both_ways, false_from_ne_true, le-leb, eq-eqb, not_from_false}
+use Rattle.std.proofs.lemmas.Bool.{and_from, or_left, or_right, or_from, false_from_ne_true, le-leb, eq-eqb, not_from_false}
 use Rattle.std.proofs.lemmas.Nat.{div-mul-add, mod-mul-add}
 use Rattle.std.proofs.lemmas.List.{length-map}
 use Rattle.std.proofs.lemmas.List.FromFn.{get_or-map-range_with_len}
 use Rattle.amr_box.specs.declared.Cell.{Cell}
-use Rattle.amr_box.specs.Cells.{Extent, extent, IsProper, at_least_zero, cell, cells_of, common, holds, width, height}
+use Rattle.amr_box.specs.Cells.{Extent, extent, IsProper, cell, cells_of, common, holds, width, height}
 use Rattle.amr_box.proofs.CellEquality.{number_itself, same_cell}
 use Rattle.amr_box.proofs.Parts.{length-cells_of}
 use Rattle.amr_def.specs.declared.problem.Problem.{Problem}
 use Rattle.amr_def.specs.Domain.{Domain, columns, rows, domain, domain_box, in_domain, is_near}
 use Rattle.amr_def.specs.State.{Masses, Level, mass_of, in_boxes, is_covered, is_covered_by, children_mass}
-use Rattle.amr_def.specs.Facts.{IsAligned, IsLevel, IsNestedLevel, growth}
-use Rattle.amr_def.proofs.LevelLists.{IsCellInside}
+use Rattle.amr_def.specs.Facts.{IsAligned, IsNestedLevel}
 use Rattle.amr_def.proofs.Nesting.{in_domain-inside}
 use Rattle.amr_def.proofs.Sizes.{doubled_small}
-use Rattle.amr_payload.specs.Payload.{number_bytes, level_bytes, level_cells}
-use Rattle.amr_payload.specs.Tests.{Left, Reading, read, then_read, tested, read_also, Grid, is_same_cell, is_same_box, is_proper, lies_in, is_multiple, is_aligned, meets, is_box_of, is_mass, is_box_count, place_in, masses_in, level_of, surrounds, is_in_sync, read_level, read_finer, read_all_finer}
+use Rattle.amr_payload.specs.Payload.{level_bytes, level_cells}
+use Rattle.amr_payload.specs.Tests.{tested, read_also, Grid, is_same_cell, is_same_box, is_proper, lies_in, is_multiple, is_aligned, meets, is_box_of, is_mass, is_box_count, place_in, masses_in, level_of, surrounds, is_in_sync, read_level, read_finer, read_all_finer}
 use Rattle.amr_payload.proofs.Readings.{left, Gives, gives, gives_then, gives_tested, gives_also, gives_at}
 use Rattle.amr_payload.proofs.Numbers.{IsCode}
 use Rattle.amr_payload.proofs.Fields.{Each}
 use Rattle.amr_payload.proofs.Grids.{IsWritable, IsGrid, AreGrids, IsFit, grids_bytes, level_gives}
-use Rattle.amr_payload.proofs.Places.{each_cell, all_cells, by_places, place_of, cell_of}
-use Rattle.amr_payload.proofs.GridLevels.{domain_box_cells, low_held, high_held, is_proper_from, meeting_cell, level_written}
-use Rattle.amr_payload.proofs.Counting.{HaveNoCommonCell, few_boxes, domain_cells}
+use Rattle.amr_payload.proofs.Places.{all_cells, by_places, place_of, cell_of}
+use Rattle.amr_payload.proofs.GridLevels.{HaveNoCommonCell, domain_box_cells, low_held, high_held, is_proper_from, meeting_cell, level_written}
+use Rattle.amr_payload.proofs.Counting.{few_boxes, domain_cells}
 use Rattle.amr_payload.proofs.ReadStates.{bound, IsGood, IsOver, IsTower}
 
 -- ---- the boxes of a level with the masses of their cells
@@ -127,9 +126,9 @@ record IsOf (p : Problem) (l : ℕ) (b : Extent) : Type 0 where
 each_of : (p : Problem) (l : ℕ) (bs : List Extent) → All IsProper bs → ((c : Cell) → in_boxes bs c ≡ true → in_domain (domain p l) c ≡ true) → Each (IsOf p l) bs
 each_of p l [] proper inside = tt
 each_of p l (b ∷ bs) proper inside = (
-    record { proper = proper 0 b (omega arith); inside = λ c held. inside c (or_left (holds b c) (in_boxes bs c) held) },
-    each_of p l bs (λ k d before. proper (suc k) d (omega arith)) (λ c held. inside c (or_right (holds b c) (in_boxes bs c) held)),
-  )
+  record { proper = proper 0 b (omega arith); inside = λ c held. inside c (or_left (holds b c) (in_boxes bs c) held) },
+  each_of p l bs (λ k d before. proper (suc k) d (omega arith)) (λ c held. inside c (or_right (holds b c) (in_boxes bs c) held)),
+)
 
 lies : (p : Problem) (l : ℕ) (b : Extent) → IsOf p l b → lies_in (domain p l) b ≡ true
 lies p l b h =
@@ -220,10 +219,10 @@ fine_grids : (w : Width) (code : IsCode w (2 ^ 32)) (p : Problem) (n l : ℕ) (m
     → AllPairs HaveNoCommonCell bs → Each (λ b. Each (λ e. HaveNoCommonCell e b) earlier) bs → AreGrids w code p n (suc l) earlier (map (grid m) bs)
 fine_grids w code p n l m earlier [] bounded h aligned pairs apart = tt
 fine_grids w code p n l m earlier (b ∷ bs) bounded h aligned pairs apart = (
-    one_grid w code p n (suc l) m earlier b (fine_box_from p l earlier b h.0 aligned.0 apart.0) bounded,
-    fine_grids w code p n l m (b ∷ earlier) bs bounded h.1 aligned.1 (λ i j d before inside. pairs (suc i) (suc j) d (omega arith) (omega arith))
-    (also_apart b earlier bs (each_from (HaveNoCommonCell b) bs (λ k d inside. pairs 0 (suc k) d (omega arith) (omega arith))) apart.1),
-  )
+  one_grid w code p n (suc l) m earlier b (fine_box_from p l earlier b h.0 aligned.0 apart.0) bounded,
+  fine_grids w code p n l m (b ∷ earlier) bs bounded h.1 aligned.1 (λ i j d before inside. pairs (suc i) (suc j) d (omega arith) (omega arith))
+      (also_apart b earlier bs (each_from (HaveNoCommonCell b) bs (λ k d inside. pairs 0 (suc k) d (omega arith) (omega arith))) apart.1),
+)
 
 none_earlier : (bs : List Extent) → Each (λ b. Each (λ e. HaveNoCommonCell e b) []) bs
 none_earlier [] = tt

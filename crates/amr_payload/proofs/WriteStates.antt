@@ -1,24 +1,22 @@
 -- A sound state is read back from its payload, which fits a slot.
-use Rattle.std.proofs.Common.{◌≡◌, ℕ, zero, suc, ◌+◌, ◌-◌, ◌*◌, ◌^◌, ◌<◌, ◌≤◌, Bool, true, false, ◌&&◌, List, [], ◌∷◌, ◌++◌, length, map, get_or, refl, sym, ap, subst, ◌∙◌, arith, flat_map, ◌⊎◌, inl, inr, All, nat_le, ◌==◌, append_assoc, append-nil, length-append, mul-le-mul, mul-le-mul_left, mul-add, add-mul, mul_comm, mul-one}
-use Rattle.std.specs.Int.{Width, w8, w32, w64, byte_len}
+use Rattle.std.proofs.Common.{◌≡◌, ℕ, suc, ◌+◌, ◌-◌, ◌^◌, ◌<◌, ◌≤◌, true, List, [], ◌∷◌, ◌++◌, length, get_or, refl, sym, ap, subst, ◌∙◌, arith, flat_map, nat_le, ◌==◌, append_assoc, append-nil}
+use Rattle.std.specs.Int.{Width, w8, w32}
 use Rattle.std.specs.declared.result.Result.{Result}
 use Rattle.std.specs.declared.result.Result.TheVariants.{Ok}
 use Rattle.std.proofs.lemmas.Bool.{and_from, le-leb, eq-eqb}
-use Rattle.amr_box.specs.declared.Cell.{Cell}
-use Rattle.amr_box.specs.Cells.{Extent, cells_of}
 use Rattle.amr_def.specs.declared.problem.Problem.{Problem}
 use Rattle.amr_def.specs.declared.problem.Row.{Row}
 use Rattle.amr_def.specs.Limits.{between}
 use Rattle.amr_def.specs.Domain.{domain, domain_box}
-use Rattle.amr_def.specs.State.{Masses, Level, State, no_level, level_at, mass_of, is_covered, children_mass}
-use Rattle.amr_def.specs.Ledger.{total_mass, sum_to}
-use Rattle.amr_def.specs.Facts.{IsAligned, IsLevel, IsNestedLevel, IsTelescoped, IsSmallRow, IsSound, growth, no_row, row_at}
+use Rattle.amr_def.specs.State.{Level, State, no_level, level_at}
+use Rattle.amr_def.specs.Ledger.{total_mass}
+use Rattle.amr_def.specs.Facts.{IsSmallRow, IsSound, no_row, row_at}
 use Rattle.amr_def.proofs.Totals.{bound_small}
-use Rattle.amr_payload.specs.Payload.{IsMassWidth, number_bytes, row_bytes, corner_bytes, box_bytes, level_bytes, payload, level_cells, slot_size}
-use Rattle.amr_payload.specs.Tests.{Left, Reading, read, then_read, tested, read_also, read_number, read_rows, read_step, read_level, read_all_finer, read_levels, read_state, decoded, nothing_follows, is_in_balance, has_no_flows, is_row_after, row_place}
-use Rattle.amr_payload.proofs.Readings.{left, Gives, gives, gives_then, gives_tested, gives_also, gives_at}
-use Rattle.amr_payload.proofs.Numbers.{IsCode, code_8, code_32, code_64, mass_code}
-use Rattle.amr_payload.proofs.Fields.{Each, IsChain, IsLedger, rows_give}
+use Rattle.amr_payload.specs.Payload.{IsMassWidth, number_bytes, row_bytes, level_bytes, payload}
+use Rattle.amr_payload.specs.Tests.{Reading, then_read, tested, read_also, read_number, read_rows, read_step, read_level, read_all_finer, read_levels, read_state, decoded, nothing_follows, is_in_balance, row_place}
+use Rattle.amr_payload.proofs.Readings.{left, Gives, gives_then, gives_tested, gives_also, gives_at}
+use Rattle.amr_payload.proofs.Numbers.{IsCode, code_8, code_32, mass_code}
+use Rattle.amr_payload.proofs.Fields.{IsChain, IsLedger, rows_give}
 use Rattle.amr_payload.proofs.ReadStates.{bound, IsGood, IsOver, IsTower}
 use Rattle.amr_payload.proofs.WriteLevels.{each_from, base_back, all_finer_back, over_from}
 
@@ -27,9 +25,9 @@ use Rattle.amr_payload.proofs.WriteLevels.{each_from, base_back, all_finer_back,
 chain_from : (before : Row) (vs : List Row) → ((k : ℕ) → k < length vs → (get_or (before ∷ vs) (k + 1) no_row).mass + (get_or (before ∷ vs) (k + 1) no_row).outflow ≡ (get_or (before ∷ vs) k no_row).mass + (get_or (before ∷ vs) (k + 1) no_row).inflow) → IsChain before vs
 chain_from before [] h = tt
 chain_from before (v ∷ vs) h = (
-    eq-eqb (v.mass + v.outflow) (before.mass + v.inflow) (h 0 (omega arith)),
-    chain_from v vs (λ k inside. next (suc k + 1) (k + 1) k (omega arith) (h (suc k) (omega arith))),
-  )
+  eq-eqb (v.mass + v.outflow) (before.mass + v.inflow) (h 0 (omega arith)),
+  chain_from v vs (λ k inside. next (suc k + 1) (k + 1) k (omega arith) (h (suc k) (omega arith))),
+)
   where
     next : (j i k : ℕ) → j ≡ suc i → (get_or (before ∷ v ∷ vs) j no_row).mass + (get_or (before ∷ v ∷ vs) j no_row).outflow ≡ (get_or (v ∷ vs) k no_row).mass + (get_or (before ∷ v ∷ vs) j no_row).inflow
         → (get_or (v ∷ vs) i no_row).mass + (get_or (v ∷ vs) i no_row).outflow ≡ (get_or (v ∷ vs) k no_row).mass + (get_or (v ∷ vs) i no_row).inflow
@@ -39,18 +37,18 @@ ledger_from : (rs : List Row) (n : ℕ) → length rs ≡ n + 1 → (get_or rs 0
     → ((k : ℕ) → k < n → (get_or rs (k + 1) no_row).mass + (get_or rs (k + 1) no_row).outflow ≡ (get_or rs k no_row).mass + (get_or rs (k + 1) no_row).inflow) → IsLedger rs
 ledger_from [] n count no_in no_out each = absurd (omega arith)
 ledger_from (v ∷ vs) n count no_in no_out each = (
-    and_from (v.inflow == 0) (v.outflow == 0) (eq-eqb v.inflow 0 no_in) (eq-eqb v.outflow 0 no_out),
-    chain_from v vs (λ k inside. each k (omega arith)),
-  )
+  and_from (v.inflow == 0) (v.outflow == 0) (eq-eqb v.inflow 0 no_in) (eq-eqb v.outflow 0 no_out),
+  chain_from v vs (λ k inside. each k (omega arith)),
+)
 
 -- ---- the levels
 
 tower_from : (p : Problem) (n l : ℕ) (below : Level) (ks : List Level) → ((i : ℕ) → i + 1 < suc (length ks) → IsOver p n (l + i) (get_or (below ∷ ks) i no_level) (get_or (below ∷ ks) (i + 1) no_level)) → IsTower p n l below ks
 tower_from p n l below [] h = tt
 tower_from p n l below (k ∷ ks) h = (
-    let same : l + 0 ≡ l = omega arith in subst (λ (m : ℕ). IsOver p n m below k) same (h 0 (omega arith)),
-    tower_from p n (suc l) k ks (λ i inside. next i (l + suc i) (suc l + i) (suc i + 1) (i + 1) (omega arith) (omega arith) (h (suc i) (omega arith))),
-  )
+  let same : l + 0 ≡ l = omega arith in subst (λ (m : ℕ). IsOver p n m below k) same (h 0 (omega arith)),
+  tower_from p n (suc l) k ks (λ i inside. next i (l + suc i) (suc l + i) (suc i + 1) (i + 1) (omega arith) (omega arith) (h (suc i) (omega arith))),
+)
   where
     next : (i a b j m : ℕ) → a ≡ b → j ≡ suc m → IsOver p n a (get_or (k ∷ ks) i no_level) (get_or (below ∷ k ∷ ks) j no_level) → IsOver p n b (get_or (k ∷ ks) i no_level) (get_or (k ∷ ks) m no_level)
     next i a b j m e f h = subst (λ (b : ℕ). IsOver p n b (get_or (k ∷ ks) i no_level) (get_or (k ∷ ks) m no_level)) e (subst (λ (j : ℕ). IsOver p n a (get_or (k ∷ ks) i no_level) (get_or (below ∷ k ∷ ks) j no_level)) f h)

@@ -1,5 +1,5 @@
 -- Laws of payloads, each of which a call of the crate ensures. w is the width of a mass: 64 bits in payload 1, 32 in payload 2.
-use Rattle.std.specs.Prelude.{◌≡◌, ℕ, ◌<◌, ◌≤◌, List, length}
+use Rattle.std.specs.Prelude.{◌≡◌, ◌↔◌, ℕ, ◌<◌, ◌≤◌, List, length}
 use Rattle.std.specs.List.{All}
 use Rattle.std.specs.Int.{Width}
 use Rattle.std.specs.declared.result.Result.TheVariants.{Ok}
@@ -9,17 +9,14 @@ use Rattle.amr_def.specs.Facts.{IsSound}
 use Rattle.amr_payload.specs.Payload.{IsMassWidth, payload, slot_size}
 use Rattle.amr_payload.specs.Tests.{decoded}
 
--- bytes that pass all tests are the payload of what is read
-abbrev pub ReadBytesArePayload : Type 0
-ReadBytesArePayload = (w : Width) (p : Problem) (s : State) (bytes : List ℕ) → IsMassWidth w → All (λ b. b < 256) bytes → decoded w p bytes ≡ Ok s → bytes ≡ payload w s
+-- a payload is a list of bytes
+abbrev pub PayloadIsBytes : Type 0
+PayloadIsBytes = (w : Width) (s : State) → IsMassWidth w → All (λ b. b < 256) (payload w s)
 
--- and what is read is sound
-abbrev pub ReadStateIsSound : Type 0
-ReadStateIsSound = (w : Width) (p : Problem) (s : State) (bytes : List ℕ) → IsMassWidth w → All (λ b. b < 256) bytes → decoded w p bytes ≡ Ok s → IsSound p s
-
--- the payload of a sound state passes all tests, and that state is read
-abbrev pub SoundStateIsRead : Type 0
-SoundStateIsRead = (w : Width) (p : Problem) (s : State) → IsMassWidth w → IsSound p s → decoded w p (payload w s) ≡ Ok s
+-- bytes are read as a state exactly where they are its payload and the state is sound
+abbrev pub ReadExactlyWhereSound : Type 0
+ReadExactlyWhereSound = (w : Width) (p : Problem) (s : State) (bytes : List ℕ) → IsMassWidth w → All (λ b. b < 256) bytes
+    → (decoded w p bytes ≡ Ok s) ↔ ((bytes ≡ payload w s) × IsSound p s)
 
 -- one payload has one state
 abbrev pub PayloadHasOneState : Type 0

@@ -1,2 +1,27 @@
-//! The payload of a state.
+//! The payload of a state: the bytes that a state is kept as, the tests that bytes are read by, and the laws of both.
+//! The definitions stand in `specs/Payload` and `specs/Tests`. Each call has an empty body, and what it ensures is the
+//! law, for every problem and for masses of 64 bits (payload 1) and of 32 bits (payload 2).
 #![tactic(auto)]
+
+ghost use Rattle.amr_payload.specs.Laws.{PayloadFitsSlot, PayloadHasOneState, PayloadIsBytes, ReadExactlyWhereSound};
+
+/// A payload is a list of bytes: each of its numbers is below 256.
+pub fn payload_is_bytes()
+    ensures { PayloadIsBytes }
+{}
+
+/// Bytes pass all tests, and are read as a state, exactly where they are its payload and the state is sound: nested,
+/// synced, bounded and telescoped. So two payloads of one state are equal.
+pub fn read_exactly_where_sound()
+    ensures { ReadExactlyWhereSound }
+{}
+
+/// Sound states with the same payload are the same.
+pub fn payload_has_one_state()
+    ensures { PayloadHasOneState }
+{}
+
+/// The payload of a sound state has at most as many bytes as a slot has room for.
+pub fn payload_fits_slot()
+    ensures { PayloadFitsSlot }
+{}
