@@ -11,3 +11,4 @@ pub mod WriteStates
 pub mod Room
 pub mod Bytes
 mod WorkedRows
+mod LevelRows

@@ -14,7 +14,7 @@ use Rattle.amr_payload.proofs.Counting.{level_few, few_boxes, next_cells}
 use Rattle.amr_payload.proofs.ReadStates.{IsGood, IsOver, IsTower}
 use Rattle.amr_payload.proofs.WriteStates.{has_tower}
 
-length-row : (r : Row) → length (row_bytes r) ≡ 24
+pub length-row : (r : Row) → length (row_bytes r) ≡ 24
 unfolding row_bytes
 length-row r =
     let m = number_bytes w64 r.mass in
@@ -25,11 +25,11 @@ length-row r =
     let c : length o ≡ 8 = code_64.len r.outflow in
     omega (arith, length-append (m ++ i) o, length-append m i, a, b, c)
 
-length-rows : (rs : List Row) → length (flat_map row_bytes rs) ≡ 24 * length rs
+pub length-rows : (rs : List Row) → length (flat_map row_bytes rs) ≡ 24 * length rs
 length-rows [] = refl
 length-rows (r ∷ rs) = omega (arith, length-append (row_bytes r) (flat_map row_bytes rs), length-row r, length-rows rs)
 
-length-corner : (c : Cell) → length (corner_bytes c) ≡ 8
+pub length-corner : (c : Cell) → length (corner_bytes c) ≡ 8
 unfolding corner_bytes
 length-corner c =
     let x = number_bytes w32 (at_least_zero c.x) in
@@ -39,7 +39,7 @@ length-corner c =
     omega (arith, length-append x y, a, b)
 
 module _ (w : Width) (code : IsCode w (2 ^ 32)) where
-  length-masses : (m : Masses) (cs : List Cell) → length (flat_map (λ c. number_bytes w (mass_of m c)) cs) ≡ byte_len w * length cs
+  pub length-masses : (m : Masses) (cs : List Cell) → length (flat_map (λ c. number_bytes w (mass_of m c)) cs) ≡ byte_len w * length cs
   length-masses m [] = sym (mul-zero (byte_len w))
   length-masses m (c ∷ cs) =
       length-append (number_bytes w (mass_of m c)) (flat_map (λ c. number_bytes w (mass_of m c)) cs) ∙ (λ i. code.len (mass_of m c) i + length-masses m cs i) ∙ sum_of (byte_len w) (length cs)
@@ -47,13 +47,13 @@ module _ (w : Width) (code : IsCode w (2 ^ 32)) where
       sum_of : (a n : ℕ) → a + a * n ≡ a * suc n
       sum_of a n = omega (arith, mul-suc a n)
 
-  length-box : (m : Masses) (b : Extent) → length (box_bytes w m b) ≡ 16 + byte_len w * length (cells_of b)
+  pub length-box : (m : Masses) (b : Extent) → length (box_bytes w m b) ≡ 16 + byte_len w * length (cells_of b)
   unfolding box_bytes
   length-box m b =
       let ms = flat_map (λ c. number_bytes w (mass_of m c)) (cells_of b) in
       omega (arith, length-append (corner_bytes b.lo ++ corner_bytes b.hi) ms, length-append (corner_bytes b.lo) (corner_bytes b.hi), length-corner b.lo, length-corner b.hi, length-masses m (cells_of b))
 
-  length-boxes : (m : Masses) (bs : List Extent) → length (flat_map (box_bytes w m) bs) ≡ 16 * length bs + byte_len w * length (flat_map cells_of bs)
+  pub length-boxes : (m : Masses) (bs : List Extent) → length (flat_map (box_bytes w m) bs) ≡ 16 * length bs + byte_len w * length (flat_map cells_of bs)
   length-boxes m [] = omega (arith, mul-zero (byte_len w))
   length-boxes m (b ∷ bs) =
       let all : length (cells_of b ++ flat_map cells_of bs) ≡ length (cells_of b) + length (flat_map cells_of bs) = length-append (cells_of b) (flat_map cells_of bs) in

@@ -285,7 +285,7 @@ module _ (w : Width) (code : IsCode w (2 ^ 32)) (p : Problem) (n : ℕ) (small :
 
 -- ---- two levels of a sound state
 
-surrounds_from : (d : Domain) (coarse fine : List Extent) → ((c : Cell) → in_domain d c ≡ true → is_near d 1 (is_covered_by fine) c ≡ true → in_boxes coarse c ≡ true) → surrounds d coarse fine ≡ true
+pub surrounds_from : (d : Domain) (coarse fine : List Extent) → ((c : Cell) → in_domain d c ≡ true → is_near d 1 (is_covered_by fine) c ≡ true → in_boxes coarse c ≡ true) → surrounds d coarse fine ≡ true
 surrounds_from d coarse fine h =
     all_cells (λ c. not (is_near d 1 (is_covered_by fine) c) || in_boxes coarse c) (domain_box d)
     (λ c held. if_on (is_near d 1 (is_covered_by fine) c) (in_boxes coarse c) (h c (sym (domain_box_cells d c) ∙ held)))
@@ -294,7 +294,7 @@ surrounds_from d coarse fine h =
     if_on true b h = h refl
     if_on false b h = refl
 
-in_sync_from : (d : Domain) (coarse fine : Masses) → ((c : Cell) → is_covered fine c ≡ true → mass_of coarse c ≡ children_mass fine c) → is_in_sync d coarse fine ≡ true
+pub in_sync_from : (d : Domain) (coarse fine : Masses) → ((c : Cell) → is_covered fine c ≡ true → mass_of coarse c ≡ children_mass fine c) → is_in_sync d coarse fine ≡ true
 in_sync_from d coarse fine h =
     all_cells (λ c. not (is_covered fine c) || (mass_of coarse c == children_mass fine c)) (domain_box d)
     (λ c held. if_on (is_covered fine c) (mass_of coarse c == children_mass fine c) (λ covered. eq-eqb (mass_of coarse c) (children_mass fine c) (h c covered)))
