@@ -1,17 +1,17 @@
 -- Payloads of states of two and three levels: which damage is found where.
-use Rattle.std.proofs.Common.{◌≡◌, ℕ, refl, true, cond, List, [], ◌∷◌, length, map, take}
+use Rattle.std.proofs.Common.{◌≡◌, ℕ, ◌+◌, ◌*◌, refl, true, cond, List, [], ◌∷◌, length, map, take}
 use Rattle.std.specs.Prelude.{set}
 use Rattle.std.specs.Result.{is_ok}
-use Rattle.std.specs.Int.{w64}
+use Rattle.std.specs.Int.{w32, w64}
 use Rattle.std.specs.declared.option.Option.TheVariants.{None, Some}
 use Rattle.std.specs.declared.result.Result.{Result}
 use Rattle.std.specs.declared.result.Result.TheVariants.{Err}
-use Rattle.amr_box.specs.Cells.{Extent, holds}
+use Rattle.amr_box.specs.Cells.{Extent, at_least_zero, holds}
 use Rattle.amr_def.specs.Domain.{in_domain}
 use Rattle.amr_def.specs.State.{Level, State, is_covered}
 use Rattle.amr_def.specs.Ledger.{total_mass}
 use Rattle.amr_def.proofs.Examples.{box, edged, edge_state, edge_coarse, edge_fine, three_levels}
-use Rattle.amr_payload.specs.Payload.{number_bytes, row_bytes, corner_bytes, box_bytes, level_bytes, payload}
+use Rattle.amr_payload.specs.Payload.{number_bytes, row_bytes, corner_bytes, box_bytes, level_bytes, payload, slot_size}
 use Rattle.amr_payload.specs.Tests.{read_number, read_row, read_first_row, read_row_after, read_rows, read_box, is_box_of, read_mass, read_grid, level_of, read_level, read_finer, read_levels, read_step, read_state, decoded}
 
 abbrev bad_at : ℕ → Result State ℕ
@@ -75,3 +75,24 @@ nested = refl
 not_nested : decoded w64 three_levels (payload w64 (over (box 0 0 1 1))) ≡ bad_at 133
 unfolding total_mass in_domain is_covered number_bytes row_bytes corner_bytes box_bytes level_bytes payload read_number read_row read_first_row read_row_after read_rows read_box is_box_of read_mass read_grid level_of read_level read_finer read_levels read_step read_state decoded
 not_nested = refl
+
+-- ---- the bytes of a payload, one after the other
+
+-- a level of one box whose masses tell their cells
+abbrev told : Extent → Level
+told b = record { boxes = b ∷ []; masses = λ c. cond (holds b c) (Some (at_least_zero c.x + 10 * at_least_zero c.y)) None }
+
+abbrev sample : State
+sample = record {
+  step = 1;
+  rows = record { mass = 3; inflow = 0; outflow = 0 } ∷ record { mass = 258; inflow = 5; outflow = 4 } ∷ [];
+  levels = told (box 0 0 1 1) ∷ told (box 2 0 5 1) ∷ [];
+}
+
+spelled : payload w32 sample ≡ 1 ∷ 0 ∷ 0 ∷ 0 ∷ 3 ∷ 0 ∷ 0 ∷ 0 ∷ 0 ∷ 0 ∷ 0 ∷ 0 ∷ 0 ∷ 0 ∷ 0 ∷ 0 ∷ 0 ∷ 0 ∷ 0 ∷ 0 ∷ 0 ∷ 0 ∷ 0 ∷ 0 ∷ 0 ∷ 0 ∷ 0 ∷ 0 ∷ 2 ∷ 1 ∷ 0 ∷ 0 ∷ 0 ∷ 0 ∷ 0 ∷ 0 ∷ 5 ∷ 0 ∷ 0 ∷ 0 ∷ 0 ∷ 0 ∷ 0 ∷ 0 ∷ 4 ∷ 0 ∷ 0 ∷ 0 ∷ 0 ∷ 0 ∷ 0 ∷ 0 ∷ 2 ∷ 1 ∷ 0 ∷ 0 ∷ 0 ∷ 0 ∷ 0 ∷ 0 ∷ 0 ∷ 0 ∷ 0 ∷ 0 ∷ 0 ∷ 1 ∷ 0 ∷ 0 ∷ 0 ∷ 1 ∷ 0 ∷ 0 ∷ 0 ∷ 0 ∷ 0 ∷ 0 ∷ 0 ∷ 1 ∷ 0 ∷ 0 ∷ 0 ∷ 10 ∷ 0 ∷ 0 ∷ 0 ∷ 11 ∷ 0 ∷ 0 ∷ 0 ∷ 1 ∷ 0 ∷ 0 ∷ 0 ∷ 2 ∷ 0 ∷ 0 ∷ 0 ∷ 0 ∷ 0 ∷ 0 ∷ 0 ∷ 5 ∷ 0 ∷ 0 ∷ 0 ∷ 1 ∷ 0 ∷ 0 ∷ 0 ∷ 2 ∷ 0 ∷ 0 ∷ 0 ∷ 3 ∷ 0 ∷ 0 ∷ 0 ∷ 4 ∷ 0 ∷ 0 ∷ 0 ∷ 5 ∷ 0 ∷ 0 ∷ 0 ∷ 12 ∷ 0 ∷ 0 ∷ 0 ∷ 13 ∷ 0 ∷ 0 ∷ 0 ∷ 14 ∷ 0 ∷ 0 ∷ 0 ∷ 15 ∷ 0 ∷ 0 ∷ 0 ∷ []
+unfolding total_mass in_domain is_covered number_bytes row_bytes corner_bytes box_bytes level_bytes payload read_number read_row read_first_row read_row_after read_rows read_box is_box_of read_mass read_grid level_of read_level read_finer read_levels read_step read_state decoded
+spelled = refl
+
+slot_sizes : slot_size w64 edged ∷ slot_size w32 edged ∷ [] ≡ 557 ∷ 397 ∷ []
+unfolding slot_size
+slot_sizes = refl
