@@ -9,8 +9,9 @@ use Rattle.amr_def.specs.Domain.{Domain, domain_box, home_cell, in_blocks, in_do
 use Rattle.amr_def.specs.Facts.{IsAligned, IsNestedIn}
 use Rattle.amr_def.specs.NewBoxes.{is_projected}
 use Rattle.amr_def.specs.State.{in_boxes, is_covered_by}
+use Rattle.amr_tags.proofs.Places.{in_holds, is_in}
 use Rattle.amr_nest.specs.Reach.{IsInDomainBox, is_reached, is_reached_at, parents_of}
-use Rattle.amr_nest.proofs.Reaches.{domain_is, in_holds, is_in, near_is_reached, parents_hold, reached_found, reached_from}
+use Rattle.amr_nest.proofs.Reaches.{domain_is, near_is_reached, parents_hold, reached_found, reached_from}
 
 -- ---- one of two tests
 

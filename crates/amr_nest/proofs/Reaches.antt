@@ -5,8 +5,9 @@ use Rattle.std.specs.declared.option.Option.{Option}
 use Rattle.std.specs.declared.option.Option.TheVariants.{None, Some}
 use Rattle.std.specs.List.{list_any}
 use Rattle.std.proofs.lemmas.Int.{ints, clamps}
-use Rattle.std.proofs.lemmas.Bool.Decides.{nat_tests}
-use Rattle.std.proofs.lemmas.Bool.{and_parts, or_left, or_right}
+use Rattle.std.proofs.lemmas.Bool.Decides.{nat_tests, same_from_decides}
+use Rattle.std.proofs.lemmas.Bool.{and_from, and_parts, or_left, or_right}
+use Rattle.std.proofs.Math.Bool.{or-false}
 use Rattle.amr_box.specs.declared.Cell.{Cell}
 use Rattle.amr_box.specs.Cells.{Extent, HasCorners, IsBoxOf, IsNear, IsProper, cell, cells_of, common, extent, half, has_child_where, holds, parent, within}
 use Rattle.amr_box.proofs.CellLists.{IsFound, any_in_box, found_in_box}
@@ -14,41 +15,12 @@ use Rattle.amr_box.proofs.Halves.{coarsened}
 use Rattle.amr_def.proofs.Nesting.{odd_small}
 use Rattle.amr_def.proofs.Nests.{half_and_odd}
 use Rattle.amr_def.specs.Domain.{Domain, domain_box, home_cell, in_domain, is_inside, is_near, moved}
+use Rattle.amr_tags.specs.Stored.{IsIn}
+use Rattle.amr_tags.proofs.Places.{in_holds, is_in}
 use Rattle.amr_nest.specs.Reach.{IsInDomainBox, is_reached, is_reached_at, is_turn, moved_reach, parents_of}
 use Rattle.amr_nest.proofs.Turns.{SomeStep, SomeTurn, step_of, turn_of}
 
--- ---- cells of a box, coordinate by coordinate
-
-pub record IsIn (b : Extent) (c : Cell) : Type 0 where
-  pub west : b.lo.x ≤ℤ c.x
-  pub east : c.x ≤ℤ b.hi.x
-  pub south : b.lo.y ≤ℤ c.y
-  pub north : c.y ≤ℤ b.hi.y
-
-low_in : (lo hi z : ℤ) → within lo hi z ≡ true → lo ≤ℤ z
-low_in lo hi z h = grind (arith, ints)
-
-high_in : (lo hi z : ℤ) → within lo hi z ≡ true → z ≤ℤ hi
-high_in lo hi z h = grind (arith, ints)
-
-within_is : (lo hi z : ℤ) → lo ≤ℤ z → z ≤ℤ hi → within lo hi z ≡ true
-within_is lo hi z h k = grind (arith, ints)
-
-pub is_in : (b : Extent) (c : Cell) → holds b c ≡ true → IsIn b c
-is_in b c h =
-    let k = and_parts (within b.lo.x b.hi.x c.x) (within b.lo.y b.hi.y c.y) h in
-    record {
-      west = low_in b.lo.x b.hi.x c.x k.0;
-      east = high_in b.lo.x b.hi.x c.x k.0;
-      south = low_in b.lo.y b.hi.y c.y k.1;
-      north = high_in b.lo.y b.hi.y c.y k.1;
-    }
-
-pub both_true : (s t : Bool) → s ≡ true → t ≡ true → (s && t) ≡ true
-both_true s t e f = rw (e, f)
-
-pub in_holds : (b : Extent) (c : Cell) → b.lo.x ≤ℤ c.x → c.x ≤ℤ b.hi.x → b.lo.y ≤ℤ c.y → c.y ≤ℤ b.hi.y → holds b c ≡ true
-in_holds b c west east south north = both_true (within b.lo.x b.hi.x c.x) (within b.lo.y b.hi.y c.y) (within_is b.lo.x b.hi.x c.x west east) (within_is b.lo.y b.hi.y c.y south north)
+-- ---- the cells of a domain
 
 below_is : (z : ℤ) (n : ℕ) → int_le z (pos n -ℤ pos 1) ≡ int_lt z (pos n)
 below_is z n = grind (arith, ints)
@@ -145,7 +117,7 @@ module _ (d : Domain) (b : Extent) (in_dom : IsInDomainBox d b) (proper : IsProp
       let y : SomeTurn d.wrap_y d.rows b.lo.y b.hi.y c.y = turn_of d.rows b.lo.y b.hi.y c.y in_dom.south in_dom.north at.south north_end d.wrap_y f.at.y (record { short_low = way.south; short_high = way.north; low = end.south; high = end.north }) in
       let k = of_turns x.turn y.turn x.is.few y.is.few in
       let moved_here : holds (moved_reach d x.turn y.turn b) c ≡ true = in_holds (moved_reach d x.turn y.turn b) c x.is.low x.is.high y.is.low y.is.high in
-      let turned : reached_by d b c x.turn y.turn ≡ true = both_true (is_turn d.wrap_x x.turn && is_turn d.wrap_y y.turn) (holds (domain_box d) c && holds (moved_reach d x.turn y.turn b) c) (both_true (is_turn d.wrap_x x.turn) (is_turn d.wrap_y y.turn) x.is.turn y.is.turn) (both_true (holds (domain_box d) c) (holds (moved_reach d x.turn y.turn b) c) here moved_here) in
+      let turned : reached_by d b c x.turn y.turn ≡ true = and_from (is_turn d.wrap_x x.turn && is_turn d.wrap_y y.turn) (holds (domain_box d) c && holds (moved_reach d x.turn y.turn b) c) (and_from (is_turn d.wrap_x x.turn) (is_turn d.wrap_y y.turn) x.is.turn y.is.turn) (and_from (holds (domain_box d) c) (holds (moved_reach d x.turn y.turn b) c) here moved_here) in
       let column : (x.turn + 3 * y.turn) % 3 ≡ x.turn = k.1 in
       let row : (x.turn + 3 * y.turn) / 3 ≡ y.turn = k.2 in
       reached_from d b 9 (x.turn + 3 * y.turn) c k.0 ((λ i. reached_by d b c (column i) (row i)) ∙ turned)
@@ -164,21 +136,16 @@ module _ (d : Domain) (b : Extent) (in_dom : IsInDomainBox d b) (proper : IsProp
       (in_holds square_box (cell x.step y.step) x.is.short_low x.is.short_high y.is.short_low y.is.short_high)
       (in_holds b (home_cell d (moved c (cell x.step y.step))) x.is.low x.is.high y.is.low y.is.high)
 
-  either : (s t : Bool) → (s ≡ true → t ≡ true) → (t ≡ true → s ≡ true) → s ≡ t
-  either true t f g = sym (f refl)
-  either false true f g = g refl
-  either false false f g = refl
-
   pub near_is_reached : is_near d 1 (holds b) c ≡ is_reached d b 9 c
   near_is_reached =
-      either (is_near d 1 (holds b) c) (is_reached d b 9 c)
-      (λ h. from_step (found_in_box (λ o. holds b (home_cell d (moved c o))) square_box h))
-      (λ h. from_turn (reached_found d b 9 c h))
+      same_from_decides {P = is_reached d b 9 c ≡ true} (is_near d 1 (holds b) c) (is_reached d b 9 c)
+      ((λ h. from_step (found_in_box (λ o. holds b (home_cell d (moved c o))) square_box h)), (λ h. from_turn (reached_found d b 9 c h)))
+      ((λ h. h), (λ h. h))
 
 -- one box, by its corners
 pub one_inside : (d : Domain) (b : Extent) (q : Cell) → pos 0 ≤ℤ b.lo.x → pos 0 ≤ℤ b.lo.y → b.hi.x <ℤ pos (2 * d.columns) → b.hi.y <ℤ pos (2 * d.rows) → (holds b q || false) ≡ true → in_domain d (parent q) ≡ true
 one_inside d b q west south east north h =
-    let i = is_in b q (sym (or_nothing (holds b q)) ∙ h) in
+    let i = is_in b q (sym (or-false (holds b q)) ∙ h) in
     sym (domain_is d (parent q))
     ∙ in_holds (domain_box d) (parent q) (from_zero q.x (omega (arith, ints, i.west, west))) (to_end d.columns q.x (omega (arith, ints, i.east, east))) (from_zero q.y (omega (arith, ints, i.south, south))) (to_end d.rows q.y (omega (arith, ints, i.north, north)))
   where
@@ -187,10 +154,6 @@ one_inside d b q west south east north h =
 
     to_end : (n : ℕ) (z : ℤ) → z <ℤ pos (2 * n) → half z ≤ℤ (pos n -ℤ pos 1)
     to_end n z h = omega (arith, ints, half_and_odd z, odd_small z)
-
-    or_nothing : (s : Bool) → (s || false) ≡ s
-    or_nothing true = refl
-    or_nothing false = refl
 
 -- ---- what two boxes have in common, where there is anything
 

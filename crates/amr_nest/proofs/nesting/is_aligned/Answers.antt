@@ -2,7 +2,7 @@ use Rattle.std.proofs.Common.{◌≡◌, ◌∙◌, ◌&&◌, ℕ, ℤ, pos, ◌
 use Rattle.std.specs.Int.{int_rem_euclid}
 use Rattle.std.proofs.lemmas.Bool.{and_parts}
 use Rattle.std.proofs.lemmas.Int.{ints}
-use Rattle.amr_nest.proofs.Reaches.{both_true}
+use Rattle.std.proofs.lemmas.Bool.{and_from}
 use Rattle.amr_nest.proofs.nesting.is_aligned.Goals as goal
 
 begins : (n : ℕ) (x y : ℤ) → int_rem_euclid x (pos n) ≡ pos 0 → x ≡ y → int_rem_euclid y (pos n) ≡ pos 0
@@ -36,7 +36,7 @@ returns c =
             north = ends c.args.blocking y1 c.args.b.now.hi.y (c.ends_block-north.ensures.0 high.1) north_is;
           },
       λ a.
-          both_true (w && s) (e && n)
-          (both_true w s (c.begins_block-west.ensures.1 (begins c.args.blocking c.args.b.now.lo.x x0 a.west (sym west_is))) (c.begins_block-south.ensures.1 (begins c.args.blocking c.args.b.now.lo.y y0 a.south (sym south_is))))
-          (both_true e n (c.ends_block-east.ensures.1 (ends c.args.blocking c.args.b.now.hi.x x1 a.east (sym east_is))) (c.ends_block-north.ensures.1 (ends c.args.blocking c.args.b.now.hi.y y1 a.north (sym north_is)))),
+          and_from (w && s) (e && n)
+          (and_from w s (c.begins_block-west.ensures.1 (begins c.args.blocking c.args.b.now.lo.x x0 a.west (sym west_is))) (c.begins_block-south.ensures.1 (begins c.args.blocking c.args.b.now.lo.y y0 a.south (sym south_is))))
+          (and_from e n (c.ends_block-east.ensures.1 (ends c.args.blocking c.args.b.now.hi.x x1 a.east (sym east_is))) (c.ends_block-north.ensures.1 (ends c.args.blocking c.args.b.now.hi.y y1 a.north (sym north_is)))),
     )
