@@ -1,10 +1,10 @@
 pub mod CutPlaces
+pub mod Ends
 pub mod Fuel
 pub mod Sound
 pub mod Windows
 pub mod Rounds
 pub mod Waiting
 pub mod Tagged
-pub mod Spans
 pub mod Inner
 pub mod GrownTags

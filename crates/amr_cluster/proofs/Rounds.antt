@@ -2,14 +2,13 @@
 use Rattle.std.proofs.Common.{◌≡◌, Bool, true, false, cond, ◌&&◌, ◌||◌, ℤ, pos, ◌+ℤ◌, ◌≤ℤ◌, ◌<ℤ◌, List, [], ◌∷◌, refl, sym, ap, subst, ◌∙◌, arith}
 use Rattle.std.specs.Prelude.{int_le, int_lt}
 use Rattle.std.specs.List.{filter, list_any}
-use Rattle.std.specs.declared.cmp.Ordering.{Ordering}
-use Rattle.std.specs.declared.cmp.Ordering.TheVariants.{Less, Equal, Greater}
-use Rattle.std.specs.Ordering.{eq_by_cmp, int_cmp, int_eq, is_eq, ordering_then}
+use Rattle.std.specs.Ordering.{eq_by_cmp}
 use Rattle.std.proofs.lemmas.Int.{ints}
 use Rattle.amr_box.specs.declared.Cell.{Cell}
 use Rattle.amr_box.specs.declared.Axis.{Axis}
 use Rattle.amr_box.specs.declared.Axis.TheVariants.{X, Y}
-use Rattle.amr_box.specs.Cells.{Extent, IsBoxOf, along, below_cut, cell, cell_cmp, cells_of, extent, from_cut, holds, within}
+use Rattle.amr_box.specs.Cells.{Extent, IsBoxOf, along, below_cut, cell, cell_cmp, cells_of, extent, from_cut, holds}
+use Rattle.amr_box.proofs.CellEquality.{cell_same}
 use Rattle.amr_box.proofs.CellLists.{among_cells_of}
 use Rattle.amr_box.proofs.Parts.{below_cells, from_cells}
 use Rattle.amr_def.specs.Signature.{bounding}
@@ -18,7 +17,8 @@ use Rattle.amr_def.specs.Cluster.{cells_below, cells_from, edge}
 use Rattle.amr_def.proofs.ClusterLaws.{Each, both_true, bounding_takes, each_both, each_from_kept, each_kept, each_passes, fold_below, fold_from, own_below, own_from}
 use Rattle.amr_tags.specs.TagSets.{IsLeastBox}
 use Rattle.amr_cluster.specs.Laws.{IsInside, IsRound}
-use Rattle.amr_tags.specs.Stored.{IsPart}
+use Rattle.amr_tags.specs.Stored.{IsIn, IsPart}
+use Rattle.amr_tags.proofs.Places.{is_in}
 use Rattle.amr_cluster.specs.Work.{cells_in}
 use Rattle.amr_cluster.proofs.Fuel.{each_map}
 use Rattle.amr_cluster.proofs.Sound.{filter_all}
@@ -79,48 +79,18 @@ cells_from-in has b larger k i inside = part_cells has (λ c. int_le (edge b k) 
 
 -- ---- one cell of a box
 
-eq-then : (r s : Ordering) → is_eq (ordering_then r s) ≡ (is_eq r && is_eq s)
-eq-then Less s = refl
-eq-then Equal s = refl
-eq-then Greater s = refl
-
-same_number : (a b : ℤ) → int_eq a b ≡ true → a ≡ b
-same_number a b e = grind (arith, ints)
-
-same_cell : (p q : Cell) → eq_by_cmp cell_cmp p q ≡ true → p ≡ q
-same_cell p q e =
-    let parts = both_true (int_eq p.x q.x) (int_eq p.y q.y) (sym (eq-then (int_cmp p.x q.x) (int_cmp p.y q.y)) ∙ e) in
-    ap (λ (z : ℤ). cell z p.y) (same_number p.x q.x parts.0) ∙ ap (cell q.x) (same_number p.y q.y parts.1)
-
 any_each : (Q : Cell → Type 0) (q : Cell) (cs : List Cell) → list_any (λ c. eq_by_cmp cell_cmp q c) cs ≡ true → Each Q cs → Q q
 any_each Q q [] e all = absurd (cc)
 any_each Q q (c ∷ cs) e all = choose (eq_by_cmp cell_cmp q c) refl e (λ f. any_each Q q cs f all.1)
   where
     choose : (t : Bool) → eq_by_cmp cell_cmp q c ≡ t → (t || list_any (λ c. eq_by_cmp cell_cmp q c) cs) ≡ true → (list_any (λ c. eq_by_cmp cell_cmp q c) cs ≡ true → Q q) → Q q
-    choose true f g rest = subst Q (sym (same_cell q c f)) all.0
+    choose true f g rest = subst Q (sym (cell_same q c f)) all.0
     choose false f g rest = rest g
 
 pub member : (P : Cell → Type 0) (has : Cell → Bool) (part : Extent) (q : Cell) → Each P (cells_in has part) → has q ≡ true → holds part q ≡ true → P q
 member P has part q all h inside = any_each (λ c. has c ≡ true → P c) q (cells_of part) (among_cells_of part q ∙ inside) (each_from_kept P has (cells_of part) all) h
 
 -- ---- the least box
-
--- the corners round a cell
-pub record HoldsCell (b : Extent) (c : Cell) : Type 0 where
-  pub west : b.lo.x ≤ℤ c.x
-  pub east : c.x ≤ℤ b.hi.x
-  pub south : b.lo.y ≤ℤ c.y
-  pub north : c.y ≤ℤ b.hi.y
-
-le_of : (a b : ℤ) → int_le a b ≡ true → a ≤ℤ b
-le_of a b e = grind (arith, ints)
-
-pub held : (b : Extent) (c : Cell) → holds b c ≡ true → HoldsCell b c
-held b c h =
-    let parts = both_true (within b.lo.x b.hi.x c.x) (within b.lo.y b.hi.y c.y) h in
-    let x = both_true (int_le b.lo.x c.x) (int_le c.x b.hi.x) parts.0 in
-    let y = both_true (int_le b.lo.y c.y) (int_le c.y b.hi.y) parts.1 in
-    record { west = le_of _ _ x.0; east = le_of _ _ x.1; south = le_of _ _ y.0; north = le_of _ _ y.1 }
 
 same_box : (a b : Extent) → a.lo.x ≡ b.lo.x → a.lo.y ≡ b.lo.y → a.hi.x ≡ b.hi.x → a.hi.y ≡ b.hi.y → a ≡ b
 same_box a b w s e n = λ i. record { lo = record { x = w i; y = s i }; hi = record { x = e i; y = n i } }
@@ -137,12 +107,12 @@ below_next z a h = omega (arith, ints)
 module _ (has : Cell → Bool) (part r : Extent) (least : IsLeastBox r (λ c. holds part c && has c)) where
   pub IsPart-least : IsPart part r
   IsPart-least =
-      let at_west = held part least.west.0 (both_true _ _ least.west.1).0 in
-      let at_east = held part least.east.0 (both_true _ _ least.east.1).0 in
-      let at_south = held part least.south.0 (both_true _ _ least.south.1).0 in
-      let at_north = held part least.north.0 (both_true _ _ least.north.1).0 in
-      let wide = held r least.west.0 (least.inside least.west.0 least.west.1) in
-      let high = held r least.south.0 (least.inside least.south.0 least.south.1) in
+      let at_west = is_in part least.west.0 (both_true _ _ least.west.1).0 in
+      let at_east = is_in part least.east.0 (both_true _ _ least.east.1).0 in
+      let at_south = is_in part least.south.0 (both_true _ _ least.south.1).0 in
+      let at_north = is_in part least.north.0 (both_true _ _ least.north.1).0 in
+      let wide = is_in r least.west.0 (least.inside least.west.0 least.west.1) in
+      let high = is_in r least.south.0 (least.inside least.south.0 least.south.1) in
       record {
         west = omega (arith, ints, at_west.west, least.west.2);
         wide = omega (arith, ints, wide.east, least.west.2);
@@ -177,13 +147,13 @@ module _ (has : Cell → Bool) (part r : Extent) (least : IsLeastBox r (λ c. ho
       ∙ filter_all (holds r) (cells_in has part) listed_in_least
 
   -- the box round the listed cells is the least box
-  round_is : (c : Cell) (cs : List Cell) → Each (λ q. HoldsCell r q) (c ∷ cs) → ((q : Cell) → (holds part q && has q) ≡ true → HoldsCell (bounding c cs) q) → r ≡ bounding c cs
+  round_is : (c : Cell) (cs : List Cell) → Each (λ q. IsIn r q) (c ∷ cs) → ((q : Cell) → (holds part q && has q) ≡ true → IsIn (bounding c cs) q) → r ≡ bounding c cs
   round_is c cs cells at =
       let b = bounding c cs in
-      let wests = each_map (λ q. HoldsCell r q) (λ q. r.lo.x ≤ℤ along X q) (λ q h. h.west) (c ∷ cs) cells in
-      let souths = each_map (λ q. HoldsCell r q) (λ q. r.lo.y ≤ℤ along Y q) (λ q h. h.south) (c ∷ cs) cells in
-      let easts = each_map (λ q. HoldsCell r q) (λ q. along X q <ℤ (r.hi.x +ℤ pos 1)) (λ q h. below_next q.x r.hi.x h.east) (c ∷ cs) cells in
-      let norths = each_map (λ q. HoldsCell r q) (λ q. along Y q <ℤ (r.hi.y +ℤ pos 1)) (λ q h. below_next q.y r.hi.y h.north) (c ∷ cs) cells in
+      let wests = each_map (λ q. IsIn r q) (λ q. r.lo.x ≤ℤ along X q) (λ q h. h.west) (c ∷ cs) cells in
+      let souths = each_map (λ q. IsIn r q) (λ q. r.lo.y ≤ℤ along Y q) (λ q h. h.south) (c ∷ cs) cells in
+      let easts = each_map (λ q. IsIn r q) (λ q. along X q <ℤ (r.hi.x +ℤ pos 1)) (λ q h. below_next q.x r.hi.x h.east) (c ∷ cs) cells in
+      let norths = each_map (λ q. IsIn r q) (λ q. along Y q <ℤ (r.hi.y +ℤ pos 1)) (λ q h. below_next q.y r.hi.y h.north) (c ∷ cs) cells in
       let west = fold_from X r.lo.x (extent c c) cs (own_from X r.lo.x c wests.0) wests.1 in
       let south = fold_from Y r.lo.y (extent c c) cs (own_from Y r.lo.y c souths.0) souths.1 in
       let east = fold_below X (r.hi.x +ℤ pos 1) (extent c c) cs (own_below X (r.hi.x +ℤ pos 1) c easts.0) easts.1 in
@@ -205,8 +175,8 @@ module _ (has : Cell → Bool) (part r : Extent) (least : IsLeastBox r (λ c. ho
             first = c;
             others = cs;
             cells_are = refl;
-            box_is = round_is c cs (each_map (λ q. holds r q ≡ true) (λ q. HoldsCell r q) (λ q h. held r q h) (c ∷ cs) all)
-                (λ q t. held (bounding c cs) q (member (λ q. holds (bounding c cs) q ≡ true) has part q listed (both_true _ _ t).1 (both_true _ _ t).0));
+            box_is = round_is c cs (each_map (λ q. holds r q ≡ true) (λ q. IsIn r q) (λ q h. is_in r q h) (c ∷ cs) all)
+                (λ q t. is_in (bounding c cs) q (member (λ q. holds (bounding c cs) q ≡ true) has part q listed (both_true _ _ t).1 (both_true _ _ t).0));
           }
 
 -- a set with no cell in a box

@@ -46,8 +46,8 @@ abbrev pub work_left : (Cell → Bool) → List CutBox → ℕ
 work_left has [] = 0
 work_left has (p ∷ work) = work_left has work + (2 * length (cells_in has p.bx) - 1)
 
--- from the first to the last entry that is not 0
-pub record IsSpan (counts : List ℕ) (first last : ℕ) : Type 0 where
+-- the first and the last entry that is not 0
+pub record AreEnds (counts : List ℕ) (first last : ℕ) : Type 0 where
   pub order : first ≤ last
   pub inside : last < length counts
   pub first_some : 1 ≤ slice_index counts first

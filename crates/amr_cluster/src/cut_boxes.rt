@@ -5,7 +5,7 @@ ghost use Rattle.amr_box.specs.Cells.{HasCorners, IsNear, height, holds, width};
 ghost use Rattle.amr_box.specs.declared.Cell.{Cell};
 ghost use Rattle.amr_tags.specs.TagSets.{has};
 ghost use Rattle.amr_tags.specs.Stored.{IsPart};
-ghost use Rattle.amr_cluster.specs.Work.{IsCutBox, IsSpan};
+ghost use Rattle.amr_cluster.specs.Work.{IsCutBox, AreEnds};
 
 use crate::parts::{cut_by, signatures_of};
 use amr_box::{Bx, Cell};
@@ -29,8 +29,8 @@ struct Ends {
 }
 
 /// The first and the last entry of a signature that is not 0.
-fn span(counts: &[u32]) -> Option<Ends>
-    ensures some { IfSome result (λ ends. IsSpan counts.now ends.first ends.last) }
+fn ends_of(counts: &[u32]) -> Option<Ends>
+    ensures some { IfSome result (λ ends. AreEnds counts.now ends.first ends.last) }
     ensures none { IfNone result ((k : ℕ) → slice_index counts.now k ≡ 0) }
 {
     let mut first = counts.len();
@@ -84,10 +84,10 @@ pub fn cut_box_of(
     ensures { IfOk result (λ found. MatchOption found ((c : Cell) → (holds part c && has tags.now c) ≡ false) (IsCutBox efficiency w (has tags.now) part)) }
 {
     let counts = signatures_of(alloc, tags, part)?;
-    let Some(columns) = span(&counts.columns) else {
+    let Some(columns) = ends_of(&counts.columns) else {
         return Ok(None);
     };
-    let Some(rows) = span(&counts.rows) else {
+    let Some(rows) = ends_of(&counts.rows) else {
         return Ok(None);
     };
     let bx = inner(part, columns, rows);

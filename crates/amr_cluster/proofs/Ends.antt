@@ -10,13 +10,13 @@ use Rattle.amr_box.specs.declared.Cell.{Cell}
 use Rattle.amr_box.specs.declared.Axis.{Axis}
 use Rattle.amr_box.specs.declared.Axis.TheVariants.{X, Y}
 use Rattle.amr_box.specs.Cells.{Extent, IsNear, along, cells_of, holds}
-use Rattle.amr_box.proofs.Boxes.{int_le-yes}
 use Rattle.amr_def.specs.Signature.{signature}
 use Rattle.amr_def.proofs.ClusterLaws.{Each, both_true, each_both, each_kept, each_passes}
 use Rattle.amr_tags.specs.TagSets.{IsLeastBox}
-use Rattle.amr_tags.specs.Stored.{IsPart}
-use Rattle.amr_cluster.specs.Work.{IsSpan, cells_in}
-use Rattle.amr_cluster.proofs.Rounds.{HoldsCell, held, member, own_cells}
+use Rattle.amr_tags.specs.Stored.{IsIn, IsPart}
+use Rattle.amr_tags.proofs.Places.{in_holds, is_in}
+use Rattle.amr_cluster.specs.Work.{AreEnds, cells_in}
+use Rattle.amr_cluster.proofs.Rounds.{member, own_cells}
 use Rattle.amr_cluster.proofs.Tagged.{signature-at, signature-length, size-is, size_along}
 
 bit_some : (t : Bool) (n : ℕ) → cond t 1 0 + n ≡ 0 → (t ≡ false) × (n ≡ 0)
@@ -47,9 +47,9 @@ same_place y z e = grind (arith, ints)
 place_same : (y z : ℤ) → y ≡ z → int_eq y z ≡ true
 place_same y z e = grind (arith, ints)
 
-along_held : (a : Axis) (b : Extent) (c : Cell) → HoldsCell b c → (along a b.lo ≤ℤ along a c) × (along a c ≤ℤ along a b.hi)
-along_held X b c h = (h.west, h.east)
-along_held Y b c h = (h.south, h.north)
+along_in : (a : Axis) (b : Extent) (c : Cell) → IsIn b c → (along a b.lo ≤ℤ along a c) × (along a c ≤ℤ along a b.hi)
+along_in X b c h = (h.west, h.east)
+along_in Y b c h = (h.south, h.north)
 
 module _ (has : Cell → Bool) (part larger : Extent) (near : IsNear part) (inside : IsPart larger part) where
   listed : Each (λ c. (holds part c && has c) ≡ true) (cells_in has part)
@@ -65,7 +65,7 @@ module _ (has : Cell → Bool) (part larger : Extent) (near : IsNear part) (insi
   -- the entry of a tag
   offset_of : (a : Axis) (c : Cell) → (holds part c && has c) ≡ true → (i : ℕ) × (i < size_along a part) × (along a c ≡ along a part.lo +ℤ pos i)
   offset_of a c h =
-      let place = along_held a part c (held part c (both_true _ _ h).0) in
+      let place = along_in a part c (is_in part c (both_true _ _ h).0) in
       of (along a c -ℤ along a part.lo) refl place.0 place.1
     where
       of : (z : ℤ) → along a c -ℤ along a part.lo ≡ z → along a part.lo ≤ℤ along a c → along a c ≤ℤ along a part.hi → (i : ℕ) × (i < size_along a part) × (along a c ≡ along a part.lo +ℤ pos i)
@@ -85,26 +85,26 @@ module _ (has : Cell → Bool) (part larger : Extent) (near : IsNear part) (insi
       choose true h = let at = offset_of a c h in absurd (not_zero a c at.0 h at.1 at.2 (ap (λ (s : List ℕ). slice_index s at.0) (sym e) ∙ none at.0))
       choose false h = refl
 
--- the span of a signature: its ends have tags, and no tag lies outside
+-- the ends of a signature: they have tags, and no tag lies outside
 pub record IsAlong (has : Cell → Bool) (part : Extent) (a : Axis) (low high : ℤ) : Type 0 where
   pub first : (c : Cell) × ((holds part c && has c) ≡ true) × (along a c ≡ low)
   pub last : (c : Cell) × ((holds part c && has c) ≡ true) × (along a c ≡ high)
   pub from : (c : Cell) → (holds part c && has c) ≡ true → low ≤ℤ along a c
   pub to : (c : Cell) → (holds part c && has c) ≡ true → along a c ≤ℤ high
 
-pub span_along : (has : Cell → Bool) (part larger : Extent) → IsNear part → IsPart larger part → (a : Axis) (counts : List ℕ) (first last : ℕ) → counts ≡ signature a (cells_in has part) part → IsSpan counts first last → IsAlong has part a (along a part.lo +ℤ pos first) (along a part.lo +ℤ pos last)
-span_along has part larger near inside a counts first last e span =
+pub ends_along : (has : Cell → Bool) (part larger : Extent) → IsNear part → IsPart larger part → (a : Axis) (counts : List ℕ) (first last : ℕ) → counts ≡ signature a (cells_in has part) part → AreEnds counts first last → IsAlong has part a (along a part.lo +ℤ pos first) (along a part.lo +ℤ pos last)
+ends_along has part larger near inside a counts first last e ends =
     let size : length counts ≡ size_along a part = ap length e ∙ signature-length a (cells_in has part) part in
     let entry : (k : ℕ) → slice_index counts k ≡ slice_index (signature a (cells_in has part) part) k = λ k. ap (λ (s : List ℕ). slice_index s k) e in
     record {
-      first = found has part larger near inside a first (omega (arith, span.order, span.inside)) (omega (arith, span.first_some, entry first));
-      last = found has part larger near inside a last (omega (arith, span.inside)) (omega (arith, span.last_some, entry last));
+      first = found has part larger near inside a first (omega (arith, ends.order, ends.inside)) (omega (arith, ends.first_some, entry first));
+      last = found has part larger near inside a last (omega (arith, ends.inside)) (omega (arith, ends.last_some, entry last));
       from = λ c h.
           let at = offset_of has part larger near inside a c h in
-          low_side c h at.0 at.1 at.2 (cases_lt at.0 first) (λ k less. sym (entry k) ∙ span.below k less);
+          low_side c h at.0 at.1 at.2 (cases_lt at.0 first) (λ k less. sym (entry k) ∙ ends.below k less);
       to = λ c h.
           let at = offset_of has part larger near inside a c h in
-          high_side c h at.0 at.1 at.2 (cases_lt last at.0) (λ k more. sym (entry k) ∙ span.above k more);
+          high_side c h at.0 at.1 at.2 (cases_lt last at.0) (λ k more. sym (entry k) ∙ ends.above k more);
     }
   where
     low_side : (c : Cell) → (holds part c && has c) ≡ true → (i : ℕ) → i < size_along a part → along a c ≡ along a part.lo +ℤ pos i → (i < first) ⊎ (first ≤ i) → ((k : ℕ) → k < first → slice_index (signature a (cells_in has part) part) k ≡ 0) → (along a part.lo +ℤ pos first) ≤ℤ along a c
@@ -117,18 +117,15 @@ span_along has part larger near inside a counts first last e span =
 
 pub least_of : (has : Cell → Bool) (part b : Extent) (west east south north : ℤ) → b.lo.x ≡ west → b.hi.x ≡ east → b.lo.y ≡ south → b.hi.y ≡ north → IsAlong has part X west east → IsAlong has part Y south north → IsLeastBox b (λ c. holds part c && has c)
 least_of has part b west east south north w e s n xs ys = record {
-  inside = λ c h. inside c (omega (arith, ints, xs.from c h)) (omega (arith, ints, xs.to c h)) (omega (arith, ints, ys.from c h)) (omega (arith, ints, ys.to c h));
+  inside = λ c h. in_holds b c (omega (arith, ints, xs.from c h)) (omega (arith, ints, xs.to c h)) (omega (arith, ints, ys.from c h)) (omega (arith, ints, ys.to c h));
   west = (xs.first.0, xs.first.1, xs.first.2 ∙ sym w);
   south = (ys.first.0, ys.first.1, ys.first.2 ∙ sym s);
   east = (xs.last.0, xs.last.1, xs.last.2 ∙ sym e);
   north = (ys.last.0, ys.last.1, ys.last.2 ∙ sym n);
 }
-  where
-    inside : (c : Cell) → b.lo.x ≤ℤ c.x → c.x ≤ℤ b.hi.x → b.lo.y ≤ℤ c.y → c.y ≤ℤ b.hi.y → holds b c ≡ true
-    inside c h i j k = rw (int_le-yes b.lo.x c.x h, int_le-yes c.x b.hi.x i, int_le-yes b.lo.y c.y j, int_le-yes c.y b.hi.y k) refl
 
--- the ends of a span lie in the box
-pub span_inside : (a : Axis) (cells : List Cell) (part : Extent) (counts : List ℕ) (first last : ℕ) → counts ≡ signature a cells part → IsSpan counts first last → last < size_along a part
-span_inside a cells part counts first last e span =
+-- the ends of a signature lie in the box
+pub ends_inside : (a : Axis) (cells : List Cell) (part : Extent) (counts : List ℕ) (first last : ℕ) → counts ≡ signature a cells part → AreEnds counts first last → last < size_along a part
+ends_inside a cells part counts first last e ends =
     let size : length counts ≡ size_along a part = ap length e ∙ signature-length a cells part in
-    omega (arith, span.inside)
+    omega (arith, ends.inside)
