@@ -7,7 +7,7 @@ use Rattle.std.proofs.lemmas.Int.{ints}
 use Rattle.amr_box.specs.declared.Cell.{Cell}
 use Rattle.amr_box.specs.declared.Axis.{Axis}
 use Rattle.amr_box.specs.declared.Axis.TheVariants.{X, Y}
-use Rattle.amr_box.specs.Cells.{Extent, IsBoxOf, along, below_cut, cell, cell_cmp, cells_of, extent, from_cut, holds}
+use Rattle.amr_box.specs.Cells.{Extent, IsBoxOf, along, below_cut, cell_cmp, cells_of, extent, from_cut, holds}
 use Rattle.amr_box.proofs.CellEquality.{cell_same}
 use Rattle.amr_box.proofs.CellLists.{among_cells_of}
 use Rattle.amr_box.proofs.Parts.{below_cells, from_cells}
