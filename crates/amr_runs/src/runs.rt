@@ -22,29 +22,35 @@ const MOST_BORDER_FACES: usize = 512;
 /// The most columns that a patch has.
 const MOST_COLUMNS: u32 = 256;
 
-/// Makes the steps of level 0 from step `step` up to step `target`. It takes no memory.
+/// Steps that are made one after another: those from step `step` up to step `target`.
+#[derive(Clone, Copy, Debug)]
+struct Steps {
+    step: u32,
+    target: u32,
+}
+
+/// Makes these steps of level 0. It takes no memory.
 #[tactic(none)]
 fn make_steps(
     p: &Problem,
-    step: u32,
-    target: u32,
+    steps: Steps,
     rows: &mut Vec<Row>,
     level: &mut Level,
     sizes: &mut [u32],
     room: &mut Room,
 )
     requires one_level { p.now.max_level ≡ 0 }
-    requires sound { IsSound p.now (one_level_state step rows.old.items (level_of level.old)) }
-    requires ahead { step ≤ target }
-    requires within { target ≤ p.now.steps }
+    requires sound { IsSound p.now (one_level_state steps.step rows.old.items (level_of level.old)) }
+    requires ahead { steps.step ≤ steps.target }
+    requires within { steps.target ≤ p.now.steps }
     requires sizes { 512 ≤ length sizes.old }
     requires row { 256 ≤ widest room.old }
-    requires room { length rows.old.items + (target - step) ≤ vec_capacity rows.old }
-    ensures value { one_level_state target rows.new.items (level_of level.new) ≡ finish p.now (one_level_state step rows.old.items (level_of level.old)) target }
-    ensures sound { IsSound p.now (one_level_state target rows.new.items (level_of level.new)) }
+    requires room { length rows.old.items + (steps.target - steps.step) ≤ vec_capacity rows.old }
+    ensures value { one_level_state steps.target rows.new.items (level_of level.new) ≡ finish p.now (one_level_state steps.step rows.old.items (level_of level.old)) steps.target }
+    ensures sound { IsSound p.now (one_level_state steps.target rows.new.items (level_of level.new)) }
     ensures patches { map box (patches_of level.new) ≡ map box (patches_of level.old) }
 {
-    for k in step..target {
+    for k in steps.step..steps.target {
         make_step(p, k, rows, level, sizes, room);
     }
 }
@@ -72,7 +78,8 @@ fn run_level(
     rows.reserve((target - step) as usize)?;
     let mut sizes = vec![in alloc; 0u32; MOST_BORDER_FACES]?;
     let mut room = Room::make(alloc, MOST_COLUMNS)?;
-    make_steps(p, step, target, rows, level, &mut sizes, &mut room);
+    let steps = Steps { step, target };
+    make_steps(p, steps, rows, level, &mut sizes, &mut room);
     Ok(())
 }
 

@@ -42,7 +42,7 @@ loop-k-preserved c =
     let s = one_level_state l.k l.rows.items (level_of l.level) in
     record {
       sound = c.make_step.ensures.sound;
-      value = ap (λ (t : State). finish p t c.args.target) c.make_step.ensures.value ∙ finish_next p s c.args.target c.loop-k-test.true ∙ l.invariant.value;
+      value = ap (λ (t : State). finish p t c.args.steps.target) c.make_step.ensures.value ∙ finish_next p s c.args.steps.target c.loop-k-test.true ∙ l.invariant.value;
       patches = c.make_step.ensures.patches ∙ l.invariant.patches;
       row = omega (arith, c.make_step.ensures.row, l.invariant.row);
       sizes = omega (arith, c.make_step.ensures.sizes, l.invariant.sizes);
@@ -53,14 +53,14 @@ pub returns-clause-value : goal.returns-clause-value
 returns-clause-value c =
     let p = c.args.p.now in
     let l = c.loop-k in
-    let last : l.k ≡ c.args.target = omega (arith, c.loop-k-test.false, l.auto.k-end, c.requires.ahead) in
+    let last : l.k ≡ c.args.steps.target = omega (arith, c.loop-k-test.false, l.auto.k-end, c.requires.ahead) in
     let s = one_level_state l.k l.rows.items (level_of l.level) in
-    ap (λ (k : ℕ). one_level_state k l.rows.items (level_of l.level)) (sym last) ∙ sym (finish_here p s c.args.target last) ∙ l.invariant.value
+    ap (λ (k : ℕ). one_level_state k l.rows.items (level_of l.level)) (sym last) ∙ sym (finish_here p s c.args.steps.target last) ∙ l.invariant.value
 
 pub returns-clause-sound : goal.returns-clause-sound
 returns-clause-sound c =
     let l = c.loop-k in
-    let last : l.k ≡ c.args.target = omega (arith, c.loop-k-test.false, l.auto.k-end, c.requires.ahead) in
+    let last : l.k ≡ c.args.steps.target = omega (arith, c.loop-k-test.false, l.auto.k-end, c.requires.ahead) in
     subst (λ (k : ℕ). IsSound c.args.p.now (one_level_state k l.rows.items (level_of l.level))) last l.invariant.sound
 
 pub returns-clause-patches : goal.returns-clause-patches
