@@ -50,7 +50,7 @@ pub fn row_after(
 
 /// The mass of level 0.
 #[tactic(auto, unfolding(amr_def::specs::Ledger::total_mass))]
-fn total_mass(p: &Problem, m: &Masses) -> u64
+pub fn total_mass(p: &Problem, m: &Masses) -> u64
     requires { HasSmallMasses (masses_of m.now) }
     ensures { result ≡ total_mass p.now (masses_of m.now) }
 {

@@ -13,6 +13,7 @@ mod value;
 pub use advance::slow_step;
 use amr_box::{Bx, Cell};
 use amr_def::Row;
+pub use ledger::total_mass;
 use std::collections::BTreeMap;
 pub use value::{Masses, columns, in_domain, mass_in, parent, rows, value_at};
 

@@ -7,6 +7,8 @@ mod cells;
 mod masses;
 mod regrid;
 mod tagged;
+#[cfg(test)]
+mod tests;
 mod wanted;
 
 pub use regrid::slow_regrid;
