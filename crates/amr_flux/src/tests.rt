@@ -2,6 +2,9 @@ ghost use Rattle.std.specs.Prelude.{◌↔◌, ◌<◌, EachIndex, IsTrue, slice
 
 use super::*;
 use crate::rows::{face_fluxes, mass_after};
+use amr_box::{Axis, Bx, Cell, Face};
+use amr_causes::NoMemory;
+use amr_patch::Patch;
 
 /// Whether all values are below 2^31.
 fn are_small(values: &[u32]) -> bool
@@ -69,7 +72,33 @@ fn a_row_gets_what_comes_in(rt: HostRuntime) {
 }
 
 #[test]
-fn room_is_refused_without_memory(rt: HostRuntime) {
+fn room_is_made(rt: HostRuntime) {
     let room = Room::make(rt.alloc(), 256);
     assert!(rt; room.is_ok());
+}
+
+/// A patch of the cells from (0, 0) to (2, 1), where the cell beyond row 1 is of the level.
+fn marked_patch(rt: HostRuntime) -> Result<Patch, NoMemory> {
+    let lo = Cell { x: 0, y: 0 };
+    let hi = Cell { x: 2, y: 1 };
+    let mut patch = Patch::make(rt.alloc(), Bx::try_new(lo, hi).unwrap())?;
+    let beyond = Cell { x: 3, y: 1 };
+    if patch.in_frame(beyond) {
+        patch.set_ghost(beyond, 7, true);
+    }
+    Ok(patch)
+}
+
+#[test]
+fn border_faces_lie_before_marked_cells(rt: HostRuntime) -> Result<(), NoMemory> {
+    let patch = marked_patch(rt)?;
+    let faces = border_faces(rt.alloc(), &patch)?;
+    assert_eq!(rt; faces.len(), 1);
+    let beyond = Face {
+        axis: Axis::X,
+        x: 3,
+        y: 1,
+    };
+    assert!(rt; faces.get(0) == Some(&beyond));
+    Ok(())
 }

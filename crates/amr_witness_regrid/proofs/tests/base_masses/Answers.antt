@@ -1,4 +1,4 @@
-use Rattle.std.proofs.Common.{◌≡◌, ◌∙◌, subst, arith, ℕ, Bool, cond, ap, sym, pos, List, [], ◌∷◌}
+use Rattle.std.proofs.Common.{◌∙◌, subst, arith, ℕ, Bool, cond, ap, sym, pos, List, [], ◌∷◌}
 use Rattle.std.proofs.lemmas.Int.{ints}
 use Rattle.std.specs.declared.option.Option.TheVariants.{None, Some}
 use Rattle.std.proofs.lemmas.List.{take_all}

@@ -1,10 +1,8 @@
-use Rattle.std.proofs.Common.{◌≡◌, ◌∙◌, ◌≤◌, ◌<◌, ◌^◌, ℕ, ap, sym, subst, arith, List, [], ◌∷◌, ◌++◌}
-use Rattle.std.specs.declared.option.Option.TheVariants.{Some}
+use Rattle.std.proofs.Common.{◌≡◌, ◌∙◌, ◌≤◌, ◌^◌, ℕ, ap, sym, subst, arith, List, [], ◌∷◌, ◌++◌}
 use Rattle.std.specs.Option.{unwrap_or}
 use Rattle.amr_box.specs.Cells.{Extent}
 use Rattle.amr_def.specs.declared.problem.Row.{Row}
 use Rattle.amr_def.specs.Domain.{domain, domain_box}
-use Rattle.amr_def.specs.State.{Level, Masses}
 use Rattle.amr_def.specs.Run.{base_level}
 use Rattle.amr_def.specs.Ledger.{total_mass}
 use Rattle.amr_def.proofs.SoundRun.{base_within}

@@ -1,7 +1,6 @@
-use Rattle.std.proofs.Common.{◌≡◌, subst, sym, ap, ◌∙◌}
+use Rattle.std.proofs.Common.{subst, sym, ap, ◌∙◌}
 use Rattle.amr_def.specs.State.{State}
 use Rattle.amr_def.specs.Facts.{IsSound}
-use Rattle.amr_def.specs.Run.{plain_start}
 use Rattle.amr_def.proofs.SoundRun.{plain_start-sound, regrid_step}
 use Rattle.amr_laws.proofs.SoundRegrid.{regrid-sound}
 use Rattle.amr_witness.specs.Maps.{state_of}
