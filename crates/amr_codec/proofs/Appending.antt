@@ -1,0 +1,65 @@
+-- Bytes that are put one after another: those of the entries of a list, and of the numbers of a range.
+use Rattle.std.proofs.Common.{◌≡◌, ℕ, zero, suc, ◌+◌, ◌<◌, ◌≤◌, List, [], ◌∷◌, ◌++◌, length, get_or, take, map, refl, sym, ap, ◌∙◌, append_assoc, append-nil, arith, pos, ◌+ℤ◌}
+use Rattle.std.specs.List.{flat_map, range_with_len}
+use Rattle.std.proofs.lemmas.List.{flat_map_more, take_all}
+use Rattle.std.proofs.lemmas.Grind.{take_at_read}
+use Rattle.std.proofs.lemmas.List.Concat.{flat_map-append, flat_map-cons}
+use Rattle.std.proofs.lemmas.List.Folds.{flat_map-map}
+use Rattle.amr_box.specs.declared.Cell.{Cell}
+use Rattle.amr_box.specs.Cells.{Extent, cell, cells_of, height, width}
+
+-- ---- lists
+
+-- one more entry
+pub entry_more : {A : Type 0} (f : A → List ℕ) (start : List ℕ) (xs : List A) (i : ℕ) (x d : A) → i < length xs → x ≡ get_or xs i d → (start ++ flat_map f (take i xs)) ++ f x ≡ start ++ flat_map f (take (i + 1) xs)
+entry_more f start xs i x d inside is =
+    flat_map_more f start (take i xs) x ∙ ap (λ y. start ++ flat_map f (take i xs ++ y ∷ [])) is ∙ ap (λ ys. start ++ flat_map f ys) (sym (take_at_read xs i d inside).1)
+
+-- all entries
+pub entries_all : {A : Type 0} (f : A → List ℕ) (start : List ℕ) (xs : List A) (i : ℕ) → length xs ≤ i → start ++ flat_map f (take i xs) ≡ start ++ flat_map f xs
+entries_all f start xs i end = ap (λ ys. start ++ flat_map f ys) (take_all i xs end)
+
+-- one list and then another
+pub put_twice : (a b c x y : List ℕ) → b ≡ a ++ x → c ≡ b ++ y → c ≡ a ++ (x ++ y)
+put_twice a b c x y first second = second ∙ ap (λ (l : List ℕ). l ++ y) first ∙ append_assoc a x y
+
+-- ---- ranges
+
+range_parts : (a m n : ℕ) → range_with_len a (m + n) ≡ range_with_len a m ++ range_with_len (a + m) n
+range_parts a zero n = let e : 0 + n ≡ n = omega arith in let f : a ≡ a + 0 = omega arith in λ i. range_with_len (f i) (e i)
+range_parts a (suc m) n =
+    let e : suc m + n ≡ suc (m + n) = omega arith in
+    let f : a + 1 + m ≡ a + suc m = omega arith in
+    ap (range_with_len a) e ∙ ap (λ (xs : List ℕ). a ∷ xs) (range_parts (a + 1) m n ∙ ap (λ k. range_with_len (a + 1) m ++ range_with_len k n) f)
+
+-- n numbers more
+pub range_more : (f : ℕ → List ℕ) (start : List ℕ) (m n : ℕ) → (start ++ flat_map f (range_with_len 0 m)) ++ flat_map f (range_with_len m n) ≡ start ++ flat_map f (range_with_len 0 (m + n))
+range_more f start m n =
+    let e : 0 + m ≡ m = omega arith in
+    append_assoc start (flat_map f (range_with_len 0 m)) (flat_map f (range_with_len m n))
+    ∙ ap (λ (l : List ℕ). start ++ l) (sym (flat_map-append f (range_with_len 0 m) (range_with_len m n)) ∙ ap (λ k. flat_map f (range_with_len 0 m ++ range_with_len k n)) (sym e) ∙ ap (flat_map f) (sym (range_parts 0 m n)))
+
+-- one number more
+pub number_more : (f : ℕ → List ℕ) (start : List ℕ) (m : ℕ) → (start ++ flat_map f (range_with_len 0 m)) ++ f m ≡ start ++ flat_map f (range_with_len 0 (m + 1))
+number_more f start m = ap (λ (l : List ℕ). (start ++ flat_map f (range_with_len 0 m)) ++ l) (sym (append-nil (f m))) ∙ range_more f start m 1
+
+-- ---- masses
+
+-- those of the columns from m on
+pub span_bytes : (g : ℕ → List ℕ) (h : ℕ → ℕ) (m : ℕ) (xs : List ℕ) → ((k : ℕ) → k < length xs → get_or xs k 0 ≡ h (m + k)) → flat_map g xs ≡ flat_map (λ i. g (h i)) (range_with_len m (length xs))
+span_bytes g h m [] e = refl
+span_bytes g h m (x ∷ xs) e =
+    let z : m + 0 ≡ m = omega arith in
+    let here : x ≡ h m = e 0 (omega arith) ∙ ap h z in
+    let rest : (k : ℕ) → k < length xs → get_or xs k 0 ≡ h (m + 1 + k) = λ k below. let s : m + suc k ≡ m + 1 + k = omega arith in e (suc k) (omega (arith, below)) ∙ ap h s in
+    λ i. g (here i) ++ span_bytes g h (m + 1) xs rest i
+
+flat_map_twice : {A B : Type 0} (f : B → List ℕ) (g : A → List B) (xs : List A) → flat_map f (flat_map g xs) ≡ flat_map (λ x. flat_map f (g x)) xs
+flat_map_twice f g [] = refl
+flat_map_twice f g (x ∷ xs) = flat_map-append f (g x) (flat_map g xs) ∙ ap (λ (l : List ℕ). flat_map f (g x) ++ l) (flat_map_twice f g xs)
+
+-- the cells of a box, row by row
+pub rows_of_cells : (g : Cell → List ℕ) (b : Extent) → flat_map g (cells_of b) ≡ flat_map (λ j. flat_map (λ i. g (cell (b.lo.x +ℤ pos i) (b.lo.y +ℤ pos j))) (range_with_len 0 (width b))) (range_with_len 0 (height b))
+rows_of_cells g b =
+    flat_map_twice g (λ j. map (λ i. cell (b.lo.x +ℤ pos i) (b.lo.y +ℤ pos j)) (range_with_len 0 (width b))) (range_with_len 0 (height b))
+    ∙ (λ t. flat_map (λ j. flat_map-map g (λ i. cell (b.lo.x +ℤ pos i) (b.lo.y +ℤ pos j)) (range_with_len 0 (width b)) t) (range_with_len 0 (height b)))

@@ -1,0 +1,4 @@
+mod Appending
+mod Corners
+mod Domains
+mod Entries

@@ -1,0 +1,13 @@
+use Rattle.std.proofs.Common.{◌≡◌, ◌≤◌, ◌+◌, ◌*◌, ◌^◌}
+use Rattle.std.specs.Int.{byte_len}
+use Rattle.amr_def.specs.Ledger.{sum_to}
+use Rattle.amr_payload.specs.Payload.{level_cells}
+use Rattle.amr_codec.specs.MassWidths.{width_of}
+use Rattle.amr_codec.proofs.sizes.size_for.Given as goal
+
+-- the levels before l are counted
+abbrev pub invariant-loop-l : goal.invariant-loop-l
+invariant-loop-l l = record {
+  counted : l.size ≡ 21 + 24 * (l.p.steps + 1) + sum_to (λ k. 4 + (byte_len (width_of l.width) + 4) * level_cells l.p k) l.l;
+  small : l.size ≤ 200000 + 2 ^ 30 * l.l;
+}

@@ -1,0 +1,2 @@
+pub mod MassWidths
+pub mod Masses
