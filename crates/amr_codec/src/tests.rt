@@ -1,5 +1,8 @@
 //! Fields of a payload, and the sizes of slots: values worked out by hand from the table of fields.
 
+ghost use Rattle.std.specs.Prelude.{◌≡◌, IfOk};
+ghost use Rattle.amr_start.specs.OneLevel.{HasOneLevel};
+
 use super::*;
 use crate::numbers::{
     MassWidth, put_corners, put_count_of_boxes, put_count_of_levels, put_ledger_row, put_masses,
@@ -7,11 +10,14 @@ use crate::numbers::{
 use amr_box::Cell;
 use amr_causes::NoMemory;
 use amr_def::{Blocks, Name, Problem, Row, Shear, Sides, Thresholds};
+use amr_start::start;
 use std::alloc::Global;
 use std::test::Fail;
 
 /// A problem of 2 by 2 cells without blocks, of no steps.
-fn two_by_two(alloc: Global) -> Result<Problem, Fail> {
+fn two_by_two(alloc: Global) -> Result<Problem, Fail>
+    ensures { IfOk result (λ p. p.max_level ≡ 0) }
+{
     Ok(Problem {
         version: 1,
         name: Name::make(Vec::from_slice(alloc, b"two")?),
@@ -92,5 +98,25 @@ fn a_ledger_row_and_counts(rt: HostRuntime) -> Result<(), NoMemory> {
         ]
         .as_slice()
     );
+    Ok(())
+}
+
+/// Both payloads of the start.
+fn start_as_bytes(alloc: Global, p: &Problem) -> Result<(Vec<u8>, Vec<u8>), NoMemory>
+    requires { HasOneLevel p.now }
+{
+    let mesh = start(alloc, p)?;
+    let first = encode(alloc, p, &mesh)?;
+    let second = encode2(alloc, p, &mesh)?;
+    Ok((first, second))
+}
+
+#[test]
+fn the_start_of_two_by_two_cells(rt: HostRuntime) -> Result<(), Fail> {
+    let p = two_by_two(rt.alloc())?;
+    let (first, second) = start_as_bytes(rt.alloc(), &p)?;
+    assert_eq!(rt; first.len(), 81);
+    assert!(rt; first.get(28) == Some(&1));
+    assert_eq!(rt; second.len(), 65);
     Ok(())
 }

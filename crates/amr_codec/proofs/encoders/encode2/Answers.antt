@@ -1,4 +1,4 @@
-use Rattle.std.proofs.Common.{◌≡◌, ◌≤◌, ℕ, List, length, inr, refl, subst, sym}
+use Rattle.std.proofs.Common.{◌≤◌, ℕ, List, length, inr, refl, subst, sym}
 use Rattle.std.specs.Int.{w32}
 use Rattle.std.proofs.lemmas.Result.{IfOk-weaker}
 use Rattle.amr_patch.specs.Meshes.{state_of}

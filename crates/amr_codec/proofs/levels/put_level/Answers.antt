@@ -1,4 +1,4 @@
-use Rattle.std.proofs.Common.{◌≡◌, ◌++◌, List, ℕ, length, ap, ◌∙◌}
+use Rattle.std.proofs.Common.{◌++◌, List, length, ap, ◌∙◌}
 use Rattle.std.specs.Int.{w32}
 use Rattle.std.specs.List.{flat_map}
 use Rattle.amr_box.specs.Cells.{Extent}

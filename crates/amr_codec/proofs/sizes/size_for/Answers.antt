@@ -1,4 +1,4 @@
-use Rattle.std.proofs.Common.{◌≡◌, ℕ, ◌+◌, ◌*◌, suc, ap, sym, ◌∙◌, add-one, arith}
+use Rattle.std.proofs.Common.{◌≡◌, ℕ, ◌+◌, ◌*◌, ap, sym, ◌∙◌, add-one, arith}
 use Rattle.std.specs.Int.{byte_len}
 use Rattle.amr_def.specs.Ledger.{sum_to}
 use Rattle.amr_payload.specs.Payload.{level_cells, slot_size}
