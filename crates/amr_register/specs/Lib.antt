@@ -1,0 +1,2 @@
+pub mod RegisterCells
+pub mod Entries
