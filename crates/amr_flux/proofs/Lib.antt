@@ -1,5 +1,6 @@
 mod BorderSizes
 mod Borders
+pub mod FaceSides
 mod Given
 mod Numbers
 mod Owned

@@ -45,7 +45,7 @@ in_column b c west east south north =
     (is_inside (grown b) c (record { west = omega (arith, ints, west); east = omega (arith, ints, east); south = south; north = north })) (inl (is_between b.lo.x b.hi.x c.x west east))
 
 -- the cells on both sides of a face of the box are in reach
-low_in_reach : (b : Extent) (a : Axis) (x y : ℤ) → is_face_of b (face a x y) ≡ true → in_reach b (low_cell (face a x y)) ≡ true
+pub low_in_reach : (b : Extent) (a : Axis) (x y : ℤ) → is_face_of b (face a x y) ≡ true → in_reach b (low_cell (face a x y)) ≡ true
 low_in_reach b X x y e =
     let k = around X b (cell x y) e in
     let west : b.lo.x ≤ℤ x = k.west in
@@ -57,7 +57,7 @@ low_in_reach b Y x y e =
     let north : y ≤ℤ (b.hi.y +ℤ pos 1) = k.north in
     in_column b (cell x (y -ℤ pos 1)) k.west k.east (omega (arith, ints, south)) (omega (arith, ints, north))
 
-high_in_reach : (b : Extent) (a : Axis) (x y : ℤ) → is_face_of b (face a x y) ≡ true → in_reach b (high_cell (face a x y)) ≡ true
+pub high_in_reach : (b : Extent) (a : Axis) (x y : ℤ) → is_face_of b (face a x y) ≡ true → in_reach b (high_cell (face a x y)) ≡ true
 high_in_reach b X x y e =
     let k = around X b (cell x y) e in
     let west : b.lo.x ≤ℤ x = k.west in

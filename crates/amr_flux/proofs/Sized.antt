@@ -1,5 +1,5 @@
 -- Sizes put one after another.
-use Rattle.std.proofs.Common.{◌≡◌, refl, ◌≢◌, ℕ, ◌+◌, ◌^◌, ◌<◌, ◌≤◌, ◌⊎◌, inl, inr, Bool, true, false, List, sym, ap, ◌∙◌, subst, arith}
+use Rattle.std.proofs.Common.{◌≡◌, refl, ◌≢◌, ℕ, ◌+◌, ◌^◌, ◌<◌, ◌≤◌, ◌⊎◌, inl, inr, Bool, true, false, List, sym, ap, ◌∙◌, arith}
 use Rattle.std.specs.Prelude.{cond, slice_index}
 use Rattle.std.proofs.lemmas.Bool.{cases_eq}
 use Rattle.amr_flux.specs.Tables.{count_below}

@@ -25,7 +25,7 @@ pub(crate) struct Shape {
 }
 
 /// A column or a row of the domain, which has none below 0.
-fn coordinate(z: i32) -> u32
+pub(crate) fn coordinate(z: i32) -> u32
     requires { pos 0 ≤ℤ z }
     ensures { pos result ≡ z }
 {

@@ -1,4 +1,4 @@
-use Rattle.std.proofs.Common.{◌≡◌, pos, ◌∙◌, ap, arith}
+use Rattle.std.proofs.Common.{◌≡◌, pos, arith}
 use Rattle.std.proofs.lemmas.Int.{ints}
 use Rattle.amr_patch.proofs.Rows.{sides}
 use Rattle.amr_flux.proofs.Places.{corner, column_fits, row_fits, stands}

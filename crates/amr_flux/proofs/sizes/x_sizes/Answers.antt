@@ -1,4 +1,4 @@
-use Rattle.std.proofs.Common.{◌≡◌, ◌≢◌, ℕ, ◌+◌, ◌^◌, ◌<◌, ◌≤◌, ◌∙◌, Bool, true, ap, sym, refl, arith, rules}
+use Rattle.std.proofs.Common.{◌≡◌, ℕ, ◌+◌, ◌^◌, ◌<◌, ◌≤◌, ◌∙◌, Bool, ap, refl, arith, rules}
 use Rattle.std.specs.Prelude.{cond, slice_index, unsigned_abs}
 use Rattle.amr_flux.specs.Tables.{count_below, x_flux, x_marked}
 use Rattle.amr_flux.proofs.Borders.{count_grows, count_more}

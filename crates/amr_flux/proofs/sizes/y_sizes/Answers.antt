@@ -1,5 +1,5 @@
-use Rattle.std.proofs.Common.{◌≡◌, ◌≢◌, ℕ, ◌+◌, ◌^◌, ◌<◌, ◌≤◌, ◌∙◌, Bool, true, ap, sym, refl, arith, rules}
-use Rattle.std.specs.Prelude.{cond, slice_index, unsigned_abs}
+use Rattle.std.proofs.Common.{◌≡◌, ℕ, ◌+◌, ◌^◌, ◌<◌, ◌≤◌, ◌∙◌, Bool, ap, refl, arith, rules}
+use Rattle.std.specs.Prelude.{cond, unsigned_abs}
 use Rattle.amr_flux.specs.Tables.{count_below, y_flux, y_marked}
 use Rattle.amr_flux.proofs.Borders.{count_grows, count_more}
 use Rattle.amr_flux.proofs.Sized.{next_at, sizes_more, small_more}

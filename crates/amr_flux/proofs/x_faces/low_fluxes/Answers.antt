@@ -1,4 +1,4 @@
-use Rattle.std.proofs.Common.{◌≡◌, ℕ, ◌+◌, ◌<◌, ◌∙◌, Bool, true, refl, pos, ℤ, List, rules}
+use Rattle.std.proofs.Common.{◌≡◌, ℕ, ◌∙◌, true, refl, ℤ, rules}
 use mir.Val.{SFits}
 use mir.Syntax.{w32}
 use Rattle.std.proofs.lemmas.Int.{to_z-of_z}

@@ -1,5 +1,5 @@
-use Rattle.std.proofs.Common.{◌≡◌, ℕ, ◌+◌, ◌-◌, ◌*◌, ◌<◌, ◌∙◌, ℤ, Bool, true, false, ◌&&◌, List, length, pos, take, drop, ap, sym, refl, arith, rules}
-use Rattle.std.specs.Prelude.{cond, nat_eq, slice_index, slice_index_or}
+use Rattle.std.proofs.Common.{◌≡◌, ℕ, ◌+◌, ◌-◌, ◌*◌, ◌<◌, ◌∙◌, Bool, false, List, take, drop, ap, arith, rules}
+use Rattle.std.specs.Prelude.{nat_eq, slice_index, slice_index_or}
 use Rattle.std.proofs.lemmas.Bool.{eq-eqb}
 use Rattle.amr_flux.specs.Rows.{signed}
 use Rattle.amr_flux.specs.Tables.{count_below, marked_below, y_marked, y_number}

@@ -1,4 +1,4 @@
-use Rattle.std.proofs.Common.{◌≡◌, ℕ, ◌+◌, ◌-◌, ◌<◌, ◌^◌, ◌∙◌, ℤ, sym, ap, refl, arith, rules}
+use Rattle.std.proofs.Common.{◌≡◌, ℕ, ◌+◌, ◌∙◌, ℤ, sym, ap, arith, rules}
 use Rattle.std.specs.Prelude.{slice_index}
 use Rattle.amr_def.specs.Flux.{flow}
 use Rattle.amr_flux.specs.Tables.{y_number}
