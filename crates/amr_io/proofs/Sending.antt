@@ -2,8 +2,8 @@
 use Rattle.std.proofs.Common.{◌≡◌, ℕ, zero, suc, ◌+◌, ◌<◌, length, take, drop, get_or, refl, arith, add-one, List, [], ◌∷◌, ◌++◌, sym, ◌∙◌, ap, append_assoc, subst}
 use Rattle.std.proofs.lemmas.List.{append-nil}
 use Rattle.amr_causes.specs.Bytes.{Grows, TakesPrefix}
-use Rattle.amr_io.specs.Kept.{Sent, piece_text, pieces_text}
-use Rattle.amr_io.specs.declared.piece.Piece.{Piece}
+use Rattle.amr_io.specs.Kept.{Sent, fragment_text, fragments_text}
+use Rattle.amr_io.specs.declared.fragment.Fragment.{Fragment}
 use Rattle.amr_causes.proofs.ByteLaws.{grows_more, grows_to, takes_longer}
 
 module _ {S : Type 0} (holds : S → List ℕ → Type 0) where
@@ -43,29 +43,29 @@ module _ {S : Type 0} (holds : S → List ℕ → Type 0) where
     grows_more holds s0 s1 s2 first.0 second.0 first.1 second.2,
   )
 
-pub pieces_one_more : (ps : List Piece) (i : ℕ) (d : Piece) → i < length ps → pieces_text (take (i + 1) ps) ≡ pieces_text (take i ps) ++ piece_text (get_or ps i d)
-pieces_one_more [] i d within = absurd (omega arith)
-pieces_one_more (p ∷ ps) zero d within = append-nil (piece_text p)
-pieces_one_more (p ∷ ps) (suc i) d within = rw add-one (ap (λ (l : List ℕ). piece_text p ++ l) (rw add-one at (pieces_one_more ps i d (omega arith))) ∙ sym (append_assoc (piece_text p) (pieces_text (take i ps)) (piece_text (get_or ps i d))))
+pub fragments_one_more : (ps : List Fragment) (i : ℕ) (d : Fragment) → i < length ps → fragments_text (take (i + 1) ps) ≡ fragments_text (take i ps) ++ fragment_text (get_or ps i d)
+fragments_one_more [] i d within = absurd (omega arith)
+fragments_one_more (p ∷ ps) zero d within = append-nil (fragment_text p)
+fragments_one_more (p ∷ ps) (suc i) d within = rw add-one (ap (λ (l : List ℕ). fragment_text p ++ l) (rw add-one at (fragments_one_more ps i d (omega arith))) ∙ sym (append_assoc (fragment_text p) (fragments_text (take i ps)) (fragment_text (get_or ps i d))))
 
-pub pieces_split : (ps : List Piece) (i : ℕ) → pieces_text ps ≡ pieces_text (take i ps) ++ pieces_text (drop i ps)
-pieces_split ps zero = refl
-pieces_split [] (suc i) = refl
-pieces_split (p ∷ ps) (suc i) = ap (λ (l : List ℕ). piece_text p ++ l) (pieces_split ps i) ∙ sym (append_assoc (piece_text p) (pieces_text (take i ps)) (pieces_text (drop i ps)))
+pub fragments_split : (ps : List Fragment) (i : ℕ) → fragments_text ps ≡ fragments_text (take i ps) ++ fragments_text (drop i ps)
+fragments_split ps zero = refl
+fragments_split [] (suc i) = refl
+fragments_split (p ∷ ps) (suc i) = ap (λ (l : List ℕ). fragment_text p ++ l) (fragments_split ps i) ∙ sym (append_assoc (fragment_text p) (fragments_text (take i ps)) (fragments_text (drop i ps)))
 
 module _ {S : Type 0} (holds : S → List ℕ → Type 0) where
-  -- one piece more
-  pub piece_sent : (s0 s1 s2 : S) (k0 k1 k2 : List ℕ) (ps : List Piece) (i : ℕ) (d : Piece) → i < length ps → Sent holds s0 s1 k0 k1 (pieces_text (take i ps)) → Sent holds s1 s2 k1 k2 (piece_text (get_or ps i d))
-      → Sent holds s0 s2 k0 k2 (pieces_text (take (i + 1) ps))
-  piece_sent s0 s1 s2 k0 k1 k2 ps i d within first second =
-      subst (λ (t : List ℕ). Sent holds s0 s2 k0 k2 t) (sym (pieces_one_more ps i d within)) (sent_then holds s0 s1 s2 k0 k1 k2 _ _ first second)
+  -- one fragment more
+  pub fragment_sent : (s0 s1 s2 : S) (k0 k1 k2 : List ℕ) (ps : List Fragment) (i : ℕ) (d : Fragment) → i < length ps → Sent holds s0 s1 k0 k1 (fragments_text (take i ps)) → Sent holds s1 s2 k1 k2 (fragment_text (get_or ps i d))
+      → Sent holds s0 s2 k0 k2 (fragments_text (take (i + 1) ps))
+  fragment_sent s0 s1 s2 k0 k1 k2 ps i d within first second =
+      subst (λ (t : List ℕ). Sent holds s0 s2 k0 k2 t) (sym (fragments_one_more ps i d within)) (sent_then holds s0 s1 s2 k0 k1 k2 _ _ first second)
 
-  -- a fault in a piece
-  pub piece_stops : (s0 s1 s2 : S) (k0 k1 : List ℕ) (ps : List Piece) (i : ℕ) (d : Piece) → i < length ps → Sent holds s0 s1 k0 k1 (pieces_text (take i ps)) → TakesPrefix holds s1 s2 (k1 ++ piece_text (get_or ps i d))
-      → TakesPrefix holds s0 s2 (k0 ++ pieces_text ps)
-  piece_stops s0 s1 s2 k0 k1 ps i d within first second =
-      let stop = sent_stops holds s0 s1 s2 k0 k1 (pieces_text (take i ps)) (piece_text (get_or ps i d)) first second in
-      let rest : List ℕ = pieces_text (drop (i + 1) ps) in
-      let whole : (k0 ++ (pieces_text (take i ps) ++ piece_text (get_or ps i d))) ++ rest ≡ k0 ++ pieces_text ps =
-      append_assoc k0 _ rest ∙ ap (λ (l : List ℕ). k0 ++ l) (ap (λ (l : List ℕ). l ++ rest) (sym (pieces_one_more ps i d within)) ∙ sym (pieces_split ps (i + 1))) in
+  -- a fault in a fragment
+  pub fragment_stops : (s0 s1 s2 : S) (k0 k1 : List ℕ) (ps : List Fragment) (i : ℕ) (d : Fragment) → i < length ps → Sent holds s0 s1 k0 k1 (fragments_text (take i ps)) → TakesPrefix holds s1 s2 (k1 ++ fragment_text (get_or ps i d))
+      → TakesPrefix holds s0 s2 (k0 ++ fragments_text ps)
+  fragment_stops s0 s1 s2 k0 k1 ps i d within first second =
+      let stop = sent_stops holds s0 s1 s2 k0 k1 (fragments_text (take i ps)) (fragment_text (get_or ps i d)) first second in
+      let rest : List ℕ = fragments_text (drop (i + 1) ps) in
+      let whole : (k0 ++ (fragments_text (take i ps) ++ fragment_text (get_or ps i d))) ++ rest ≡ k0 ++ fragments_text ps =
+      append_assoc k0 _ rest ∙ ap (λ (l : List ℕ). k0 ++ l) (ap (λ (l : List ℕ). l ++ rest) (sym (fragments_one_more ps i d within)) ∙ sym (fragments_split ps (i + 1))) in
       subst (λ (t : List ℕ). TakesPrefix holds s0 s2 t) whole (takes_longer holds s0 s2 _ rest stop)

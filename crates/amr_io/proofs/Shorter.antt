@@ -1,12 +1,12 @@
 -- Where a fault comes, not all went out.
-use Rattle.std.proofs.Common.{◌≡◌, ℕ, zero, suc, ◌+◌, ◌-◌, ◌<◌, length, take, drop, get_or, arith, List, [], ◌∷◌, ◌++◌, sym, ◌∙◌, ap, append_assoc, subst, length-drop, length-append}
-use Rattle.std.proofs.lemmas.List.{append-nil, take-append-drop}
+use Rattle.std.proofs.Common.{◌≡◌, ℕ, ◌+◌, ◌<◌, length, take, drop, get_or, arith, List, [], ◌++◌, sym, ◌∙◌, ap, append_assoc, subst, length-drop, length-append}
+use Rattle.std.proofs.lemmas.List.{take-append-drop}
 use Rattle.amr_causes.specs.Bytes.{Grows, TakesPrefix}
-use Rattle.amr_io.specs.Kept.{Sent, piece_text, pieces_text}
+use Rattle.amr_io.specs.Kept.{Sent, fragment_text, fragments_text}
 use Rattle.amr_io.specs.Short.{IsProperPrefix, FallsShort}
-use Rattle.amr_io.specs.declared.piece.Piece.{Piece}
+use Rattle.amr_io.specs.declared.fragment.Fragment.{Fragment}
 use Rattle.amr_causes.proofs.ByteLaws.{grows_more}
-use Rattle.amr_io.proofs.Sending.{pieces_one_more, pieces_split}
+use Rattle.amr_io.proofs.Sending.{fragments_one_more, fragments_split}
 
 pub proper_take : (n : ℕ) (whole : List ℕ) → n < length whole → IsProperPrefix (take n whole) whole
 proper_take n whole within = record { rest = drop n whole; some = omega (arith, length-drop n whole); split = take-append-drop n whole }
@@ -51,12 +51,12 @@ module _ {S : Type 0} (holds : S → List ℕ → Type 0) where
       let whole : first.0 ++ k1 ≡ text = first.2 ∙ ap (λ (l : List ℕ). l ++ text) empty in
       subst (λ (l : List ℕ). FallsShort holds s0 s2 l) whole (short_after s0 s1 s2 first.0 k1 first.1 second)
 
-  -- a fault in a piece
-  pub piece_short : (s0 s1 s2 : S) (k0 k1 : List ℕ) (ps : List Piece) (i : ℕ) (d : Piece) → i < length ps → Sent holds s0 s1 k0 k1 (pieces_text (take i ps)) → FallsShort holds s1 s2 (k1 ++ piece_text (get_or ps i d))
-      → FallsShort holds s0 s2 (k0 ++ pieces_text ps)
-  piece_short s0 s1 s2 k0 k1 ps i d within first second =
-      let stop = sent_short s0 s1 s2 k0 k1 (pieces_text (take i ps)) (piece_text (get_or ps i d)) first second in
-      let rest : List ℕ = pieces_text (drop (i + 1) ps) in
-      let whole : (k0 ++ (pieces_text (take i ps) ++ piece_text (get_or ps i d))) ++ rest ≡ k0 ++ pieces_text ps =
-      append_assoc k0 _ rest ∙ ap (λ (l : List ℕ). k0 ++ l) (ap (λ (l : List ℕ). l ++ rest) (sym (pieces_one_more ps i d within)) ∙ sym (pieces_split ps (i + 1))) in
+  -- a fault in a fragment
+  pub fragment_short : (s0 s1 s2 : S) (k0 k1 : List ℕ) (ps : List Fragment) (i : ℕ) (d : Fragment) → i < length ps → Sent holds s0 s1 k0 k1 (fragments_text (take i ps)) → FallsShort holds s1 s2 (k1 ++ fragment_text (get_or ps i d))
+      → FallsShort holds s0 s2 (k0 ++ fragments_text ps)
+  fragment_short s0 s1 s2 k0 k1 ps i d within first second =
+      let stop = sent_short s0 s1 s2 k0 k1 (fragments_text (take i ps)) (fragment_text (get_or ps i d)) first second in
+      let rest : List ℕ = fragments_text (drop (i + 1) ps) in
+      let whole : (k0 ++ (fragments_text (take i ps) ++ fragment_text (get_or ps i d))) ++ rest ≡ k0 ++ fragments_text ps =
+      append_assoc k0 _ rest ∙ ap (λ (l : List ℕ). k0 ++ l) (ap (λ (l : List ℕ). l ++ rest) (sym (fragments_one_more ps i d within)) ∙ sym (fragments_split ps (i + 1))) in
       subst (λ (t : List ℕ). FallsShort holds s0 s2 t) whole (short_longer s0 s2 _ rest stop)

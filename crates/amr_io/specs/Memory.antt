@@ -43,5 +43,5 @@ source_after s left (Err e) = record s { calls = counted s.calls; faults = count
 
 -- the sink after a call: it stands as before but for its counters and what it took
 abbrev pub sink_after : {E : Type 0} → SinkState → List ℕ → Result ℕ E → SinkState
-sink_after s piece (Ok n) = record s { held = s.held ++ take n piece; calls = counted s.calls }
-sink_after s piece (Err e) = record s { calls = counted s.calls; faults = counted s.faults }
+sink_after s chunk (Ok n) = record s { held = s.held ++ take n chunk; calls = counted s.calls }
+sink_after s chunk (Err e) = record s { calls = counted s.calls; faults = counted s.faults }

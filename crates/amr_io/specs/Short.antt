@@ -1,4 +1,4 @@
--- What goes out where a write fails: never the whole, since the write that failed took none of a piece that was not empty. (profile)
+-- What goes out where a write fails: never the whole, since the write that failed took none of a chunk that was not empty. (profile)
 use Rattle.std.specs.Prelude.{ℕ, ◌≡◌, ◌<◌, List, ◌++◌, length}
 use Rattle.amr_causes.specs.Bytes.{Grows}
 

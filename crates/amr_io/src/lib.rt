@@ -2,9 +2,9 @@
 //! tell every byte; over a reader or a writer of std they tell what that tells, which of a real stream is nothing.
 #![tactic(auto)]
 
+mod fragment;
 mod memory_sink;
 mod memory_source;
-mod piece;
 mod sink;
 mod source;
 mod standard;
@@ -12,10 +12,10 @@ mod standard;
 mod tests;
 mod text;
 
+pub use fragment::Fragment;
 pub use memory_sink::MemSink;
 pub use memory_source::MemSource;
-pub use piece::Piece;
 pub use sink::{Sink, WriteFault, write_whole};
 pub use source::{ReadAll, ReadFault, Source, read_all};
 pub use standard::{StdSink, StdSource};
-pub use text::{Text, write_pieces};
+pub use text::{Text, write_fragments};

@@ -69,16 +69,16 @@ impl Sink for MemSink {
 
     ghost faults = { λ s. s.faults };
 
-    fn write(&mut self, piece: &[u8]) -> Result<usize, WriteFault>
-        ensures bound { IfOk result (λ n. n ≤ length piece.now) }
-        ensures some { IfOk result (λ n. 0 < length piece.now → 0 < n) }
-        ensures bytes { Grows (λ s bytes. bytes ≡ s.held) self.old self.new (written result piece.now) }
+    fn write(&mut self, chunk: &[u8]) -> Result<usize, WriteFault>
+        ensures bound { IfOk result (λ n. n ≤ length chunk.now) }
+        ensures some { IfOk result (λ n. 0 < length chunk.now → 0 < n) }
+        ensures bytes { Grows (λ s bytes. bytes ≡ s.held) self.old self.new (written result chunk.now) }
         ensures cause { HasCause self.old.faults self.new.faults result }
         ensures no_fault { OnOk result (self.new.faults ≡ self.old.faults) }
         // It fails exactly where the call's number is in the list, or the sink is full.
         ensures fails { is_err result ≡ write_fails self.old }
-        ensures amount { IfOk result (λ n. n ≡ min (length piece.now) (min self.old.most (self.old.capacity - length self.old.held))) }
-        ensures after { self.new ≡ sink_after self.old piece.now result }
+        ensures amount { IfOk result (λ n. n ≡ min (length chunk.now) (min self.old.most (self.old.capacity - length self.old.held))) }
+        ensures after { self.new ≡ sink_after self.old chunk.now result }
     {
         self.calls = self.calls.saturating_add(1);
         let left = self.capacity - self.bytes.len();
@@ -86,8 +86,8 @@ impl Sink for MemSink {
             self.faults = self.faults.saturating_add(1);
             return Err(WriteFault);
         }
-        let n = piece.len().min(self.most.min(left));
-        self.bytes.extend_from_slice(&piece[..n]).unwrap();
+        let n = chunk.len().min(self.most.min(left));
+        self.bytes.extend_from_slice(&chunk[..n]).unwrap();
         Ok(n)
     }
 }

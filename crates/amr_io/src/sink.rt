@@ -16,12 +16,12 @@ pub trait Sink {
     /// How often the sink has failed; a count at its last value is read as risen.
     ghost faults: { Self → ℕ };
 
-    /// Writes bytes from the front of `piece`, and says how many: at least one of a piece that isn't empty.
-    fn write(&mut self, piece: &[u8]) -> Result<usize, WriteFault>
-        ensures bound { IfOk result (λ n. n ≤ length piece.now) }
-        ensures some { IfOk result (λ n. 0 < length piece.now → 0 < n) }
+    /// Writes bytes from the front of `chunk`, and says how many: at least one of a chunk that isn't empty.
+    fn write(&mut self, chunk: &[u8]) -> Result<usize, WriteFault>
+        ensures bound { IfOk result (λ n. n ≤ length chunk.now) }
+        ensures some { IfOk result (λ n. 0 < length chunk.now → 0 < n) }
         // What it holds grows by the bytes taken; a fault takes none.
-        ensures bytes { Grows holds self.old self.new (written result piece.now) }
+        ensures bytes { Grows holds self.old self.new (written result chunk.now) }
         // A fault comes only where the count rose, and the count doesn't fall.
         ensures cause { HasCause (faults self.old) (faults self.new) result }
         // An `Ok` leaves the count as it was.

@@ -61,7 +61,7 @@ impl From<AllocError> for ReadAll {
     }
 }
 
-const PIECE: usize = 4096;
+const CHUNK: usize = 4096;
 
 /// Reads a source to its end, where it has at most `max` bytes. After an `Err` what is left of the source is a suffix of
 /// what was left before.
@@ -80,14 +80,14 @@ pub fn read_all<S: Source>(alloc: Global, src: &mut S, max: usize) -> Result<Vec
     ensures no_fault { result ≢ Err ReadAll.ReadFault → S.faults src.new ≡ S.faults src.old }
 {
     let mut all = Vec::new(alloc);
-    let mut piece = [0u8; PIECE];
+    let mut chunk = [0u8; CHUNK];
     while all.len() <= max {
-        let want = PIECE.min((max - all.len()).saturating_add(1));
-        let n = src.read(&mut piece[..want])?;
+        let want = CHUNK.min((max - all.len()).saturating_add(1));
+        let n = src.read(&mut chunk[..want])?;
         if n == 0 {
             return Ok(all);
         }
-        all.extend_from_slice(&piece[..n])?;
+        all.extend_from_slice(&chunk[..n])?;
     }
     Err(ReadAll::TooLong)
 }

@@ -37,7 +37,7 @@ impl<R: Read> Source for StdSource<R> {
     }
 }
 
-/// A writer of std whose errors are counted; that it takes nothing of a piece that isn't empty is one too. It tells what
+/// A writer of std whose errors are counted; that it takes nothing of a chunk that isn't empty is one too. It tells what
 /// the writer tells, of a real stream nothing.
 #[derive(Drop)]
 pub struct StdSink<W> {
@@ -60,10 +60,10 @@ impl<W: Write> Sink for StdSink<W> {
 
     ghost faults = { λ s. s.faults };
 
-    fn write(&mut self, piece: &[u8]) -> Result<usize, WriteFault> {
-        match self.inner.write(piece) {
+    fn write(&mut self, chunk: &[u8]) -> Result<usize, WriteFault> {
+        match self.inner.write(chunk) {
             Ok(n) => {
-                if n == 0 && !piece.is_empty() {
+                if n == 0 && !chunk.is_empty() {
                     self.faults = self.faults.saturating_add(1);
                     return Err(WriteFault);
                 }

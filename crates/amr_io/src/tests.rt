@@ -1,8 +1,8 @@
 //! What no clause says: that the calls succeed, and what stands at each call that fails.
 
 use crate::{
-    MemSink, MemSource, Piece, ReadAll, ReadFault, Sink, Source, StdSink, StdSource, Text,
-    WriteFault, read_all, write_pieces, write_whole,
+    Fragment, MemSink, MemSource, ReadAll, ReadFault, Sink, Source, StdSink, StdSource, Text,
+    WriteFault, read_all, write_fragments, write_whole,
 };
 use std::alloc::Global;
 use std::fmt::Write as _;
@@ -41,12 +41,12 @@ fn one_byte_a_call_and_a_fault_at_each_call(rt: HostRuntime) -> Result<(), Fail>
         assert_eq!(rt; sink.bytes(), held, "held at call {call}");
 
         let mut sink = MemSink::make(alloc, 16, 1, &fails).expect(&rt, "memory");
-        let pieces = [
-            Piece::Str("block-"),
-            Piece::Str(""),
-            Piece::Str("structured"),
+        let fragments = [
+            Fragment::Str("block-"),
+            Fragment::Str(""),
+            Fragment::Str("structured"),
         ];
-        let done = write_pieces(&mut sink, &pieces);
+        let done = write_fragments(&mut sink, &fragments);
         assert_eq!(rt; done.is_err(), call <= 16, "text at call {call}");
         assert_eq!(rt; sink.bytes(), held, "held of a text at call {call}");
     }
@@ -88,8 +88,12 @@ fn text_past_its_buffer(rt: HostRuntime) -> Result<(), Fail> {
     let mut sink = MemSink::make(alloc, 40_000, 700, &[]).expect(&rt, "memory");
     let mut text = Text::make();
     for i in 0..1500u64 {
-        let line = [Piece::Str("cell "), Piece::Number(i), Piece::Str("\n")];
-        text.put_pieces(&mut sink, &line).expect(&rt, "room");
+        let line = [
+            Fragment::Str("cell "),
+            Fragment::Number(i),
+            Fragment::Str("\n"),
+        ];
+        text.put_fragments(&mut sink, &line).expect(&rt, "room");
         write!(want, "cell {i}\n")?;
     }
     let long = want.clone()?;
@@ -136,8 +140,8 @@ impl Read for Flaky {
 }
 
 impl Write for Flaky {
-    fn write(&mut self, piece: &[u8]) -> io::Result<usize> {
-        Ok(self.next()?.min(piece.len()))
+    fn write(&mut self, chunk: &[u8]) -> io::Result<usize> {
+        Ok(self.next()?.min(chunk.len()))
     }
 
     fn flush(&mut self) -> io::Result<()> {
@@ -204,13 +208,13 @@ struct TakesMore {
 }
 
 impl Write for TakesMore {
-    fn write(&mut self, piece: &[u8]) -> io::Result<usize> {
+    fn write(&mut self, chunk: &[u8]) -> io::Result<usize> {
         if self.fails > 0 {
             self.fails -= 1;
             return Err(io::ErrorKind::BrokenPipe.into());
         }
-        let n = self.size.min(piece.len());
-        match self.held.extend_from_slice(&piece[..n]) {
+        let n = self.size.min(chunk.len());
+        match self.held.extend_from_slice(&chunk[..n]) {
             Ok(()) => {}
             Err(_) => return Err(io::ErrorKind::OutOfMemory.into()),
         }
@@ -233,7 +237,7 @@ fn counting_bytes(alloc: Global, n: usize) -> Result<Vec<u8>, Fail> {
 }
 
 #[test]
-fn pieces_of_every_size(rt: HostRuntime) -> Result<(), Fail> {
+fn chunks_of_every_size(rt: HostRuntime) -> Result<(), Fail> {
     let alloc = rt.alloc();
     let bytes = counting_bytes(alloc, 62_000)?;
     for size in [1, 4_090] {

@@ -2,10 +2,10 @@
 ghost use Rattle.std.specs.Prelude.{◌≡◌, ◌≤◌, ◌+◌, ◌++◌, [], length, OnOk, OnErr, decimal};
 ghost use Rattle.amr_causes.specs.Causes.{HasCause};
 ghost use Rattle.amr_causes.specs.Bytes.{Grows, TakesPrefix};
-ghost use Rattle.amr_io.specs.Kept.{Sent, piece_text, pieces_text};
+ghost use Rattle.amr_io.specs.Kept.{Sent, fragment_text, fragments_text};
 ghost use Rattle.amr_io.specs.Short.{FallsShort};
 
-use crate::{Piece, Sink, WriteFault, write_whole};
+use crate::{Fragment, Sink, WriteFault, write_whole};
 use itoa::Buffer;
 use std::marker::Model;
 
@@ -64,34 +64,38 @@ impl Text {
         self.put(sink, digits.format(n).as_bytes())
     }
 
-    /// Puts pieces in turn. Its callers have one place to stop at, where as many calls of one piece each would have many.
-    pub fn put_pieces<O: Sink>(
+    /// Puts fragments in turn. Its callers have one place to stop at, where as many calls of one fragment each would have many.
+    pub fn put_fragments<O: Sink>(
         &mut self,
         sink: &mut O,
-        pieces: &[Piece<'_>],
+        fragments: &[Fragment<'_>],
     ) -> Result<(), WriteFault>
-        ensures sent { OnOk result (Sent O.holds sink.old sink.new self.old self.new (pieces_text pieces.now)) }
-        ensures part { OnErr result (TakesPrefix O.holds sink.old sink.new (self.old ++ pieces_text pieces.now)) }
-        ensures short { OnErr result (FallsShort O.holds sink.old sink.new (self.old ++ pieces_text pieces.now)) }
+        ensures sent { OnOk result (Sent O.holds sink.old sink.new self.old self.new (fragments_text fragments.now)) }
+        ensures part { OnErr result (TakesPrefix O.holds sink.old sink.new (self.old ++ fragments_text fragments.now)) }
+        ensures short { OnErr result (FallsShort O.holds sink.old sink.new (self.old ++ fragments_text fragments.now)) }
         ensures cause { HasCause (O.faults sink.old) (O.faults sink.new) result }
         ensures no_fault { OnOk result (O.faults sink.new ≡ O.faults sink.old) }
     {
-        for piece in pieces {
-            self.put_piece(sink, piece)?;
+        for fragment in fragments {
+            self.put_fragment(sink, fragment)?;
         }
         Ok(())
     }
 
-    fn put_piece<O: Sink>(&mut self, sink: &mut O, piece: &Piece<'_>) -> Result<(), WriteFault>
-        ensures sent { OnOk result (Sent O.holds sink.old sink.new self.old self.new (piece_text piece.now)) }
-        ensures part { OnErr result (TakesPrefix O.holds sink.old sink.new (self.old ++ piece_text piece.now)) }
-        ensures short { OnErr result (FallsShort O.holds sink.old sink.new (self.old ++ piece_text piece.now)) }
+    fn put_fragment<O: Sink>(
+        &mut self,
+        sink: &mut O,
+        fragment: &Fragment<'_>,
+    ) -> Result<(), WriteFault>
+        ensures sent { OnOk result (Sent O.holds sink.old sink.new self.old self.new (fragment_text fragment.now)) }
+        ensures part { OnErr result (TakesPrefix O.holds sink.old sink.new (self.old ++ fragment_text fragment.now)) }
+        ensures short { OnErr result (FallsShort O.holds sink.old sink.new (self.old ++ fragment_text fragment.now)) }
         ensures cause { HasCause (O.faults sink.old) (O.faults sink.new) result }
         ensures no_fault { OnOk result (O.faults sink.new ≡ O.faults sink.old) }
     {
-        match piece {
-            Piece::Str(text) => self.put_str(sink, text),
-            Piece::Number(n) => self.put_number(sink, *n),
+        match fragment {
+            Fragment::Str(text) => self.put_str(sink, text),
+            Fragment::Number(n) => self.put_number(sink, *n),
         }
     }
 
@@ -140,16 +144,16 @@ impl Text {
     }
 }
 
-/// Writes pieces in turn, all of them where no fault comes, and otherwise a prefix that isn't the whole.
-pub fn write_pieces<O: Sink>(sink: &mut O, pieces: &[Piece<'_>]) -> Result<(), WriteFault>
-    ensures whole { OnOk result (Grows O.holds sink.old sink.new (pieces_text pieces.now)) }
-    ensures part { TakesPrefix O.holds sink.old sink.new (pieces_text pieces.now) }
-    ensures short { OnErr result (FallsShort O.holds sink.old sink.new (pieces_text pieces.now)) }
+/// Writes fragments in turn, all of them where no fault comes, and otherwise a prefix that isn't the whole.
+pub fn write_fragments<O: Sink>(sink: &mut O, fragments: &[Fragment<'_>]) -> Result<(), WriteFault>
+    ensures whole { OnOk result (Grows O.holds sink.old sink.new (fragments_text fragments.now)) }
+    ensures part { TakesPrefix O.holds sink.old sink.new (fragments_text fragments.now) }
+    ensures short { OnErr result (FallsShort O.holds sink.old sink.new (fragments_text fragments.now)) }
     ensures cause { HasCause (O.faults sink.old) (O.faults sink.new) result }
     ensures no_fault { OnOk result (O.faults sink.new ≡ O.faults sink.old) }
 {
     let mut text = Text::make();
-    text.put_pieces(sink, pieces)?;
+    text.put_fragments(sink, fragments)?;
     text.flush(sink)?;
     Ok(())
 }

@@ -1,6 +1,6 @@
 mod Corners
 mod Items
 mod LevelBoxes
-mod Pieces
+mod Fragments
 mod Putting
 mod Words

@@ -7,7 +7,7 @@ ghost use Rattle.amr_plot.specs.Puts.{Puts, level_head};
 
 use amr_box::Cell;
 use amr_def::{Problem, Row};
-use amr_io::{Piece, Sink, Text, WriteFault};
+use amr_io::{Fragment, Sink, Text, WriteFault};
 use std::str;
 
 pub(crate) fn put_head<O: Sink>(
@@ -19,14 +19,14 @@ pub(crate) fn put_head<O: Sink>(
     ensures { Puts O.holds O.faults sink.old sink.new text.old text.new (head_text p.now step) result }
 {
     match str::from_utf8(p.name.bytes()) {
-        Ok(name) => text.put_pieces(
+        Ok(name) => text.put_fragments(
             sink,
             &[
-                Piece::Str("amr-plot 1\nname "),
-                Piece::Str(name),
-                Piece::Str("\nstep "),
-                Piece::Number(u64::from(step)),
-                Piece::Str("\n"),
+                Fragment::Str("amr-plot 1\nname "),
+                Fragment::Str(name),
+                Fragment::Str("\nstep "),
+                Fragment::Number(u64::from(step)),
+                Fragment::Str("\n"),
             ],
         ),
         Err(_) => unreachable!(),
@@ -41,18 +41,18 @@ pub(crate) fn put_ledger_row<O: Sink>(
 ) -> Result<(), WriteFault>
     ensures { Puts O.holds O.faults sink.old sink.new text.old text.new (ledger_line k row) result }
 {
-    text.put_pieces(
+    text.put_fragments(
         sink,
         &[
-            Piece::Str("ledger "),
-            Piece::Number(u64::from(k)),
-            Piece::Str(" "),
-            Piece::Number(row.mass),
-            Piece::Str(" "),
-            Piece::Number(row.inflow),
-            Piece::Str(" "),
-            Piece::Number(row.outflow),
-            Piece::Str("\n"),
+            Fragment::Str("ledger "),
+            Fragment::Number(u64::from(k)),
+            Fragment::Str(" "),
+            Fragment::Number(row.mass),
+            Fragment::Str(" "),
+            Fragment::Number(row.inflow),
+            Fragment::Str(" "),
+            Fragment::Number(row.outflow),
+            Fragment::Str("\n"),
         ],
     )
 }
@@ -66,14 +66,14 @@ pub(crate) fn put_level_line<O: Sink>(
 ) -> Result<(), WriteFault>
     ensures { Puts O.holds O.faults sink.old sink.new text.old text.new (level_head l boxes) result }
 {
-    text.put_pieces(
+    text.put_fragments(
         sink,
         &[
-            Piece::Str("level "),
-            Piece::Number(u64::from(l)),
-            Piece::Str(" "),
-            Piece::Number(boxes as u64),
-            Piece::Str("\n"),
+            Fragment::Str("level "),
+            Fragment::Number(u64::from(l)),
+            Fragment::Str(" "),
+            Fragment::Number(boxes as u64),
+            Fragment::Str("\n"),
         ],
     )
 }
@@ -99,18 +99,18 @@ pub(crate) fn put_box_line<O: Sink>(
     requires north { pos 0 ≤ℤ hi.y }
     ensures { Puts O.holds O.faults sink.old sink.new text.old text.new (box_line (extent lo hi)) result }
 {
-    text.put_pieces(
+    text.put_fragments(
         sink,
         &[
-            Piece::Str("box "),
-            Piece::Number(number(lo.x)),
-            Piece::Str(" "),
-            Piece::Number(number(lo.y)),
-            Piece::Str(" "),
-            Piece::Number(number(hi.x)),
-            Piece::Str(" "),
-            Piece::Number(number(hi.y)),
-            Piece::Str("\n"),
+            Fragment::Str("box "),
+            Fragment::Number(number(lo.x)),
+            Fragment::Str(" "),
+            Fragment::Number(number(lo.y)),
+            Fragment::Str(" "),
+            Fragment::Number(number(hi.x)),
+            Fragment::Str(" "),
+            Fragment::Number(number(hi.y)),
+            Fragment::Str("\n"),
         ],
     )
 }

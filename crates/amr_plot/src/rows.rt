@@ -9,7 +9,7 @@ ghost use Rattle.amr_plot.specs.Puts.{Puts, masses_text, texts, word};
 ghost use Rattle.amr_plot.specs.Rows.{HasCellsOf, mass_in, row_word};
 
 use amr_box::{Bx, Cell};
-use amr_io::{Piece, Sink, Text, WriteFault};
+use amr_io::{Fragment, Sink, Text, WriteFault};
 use amr_patch::Level;
 
 /// What stands before the mass in a column of the box.
@@ -27,7 +27,10 @@ fn put_mass<O: Sink>(
 ) -> Result<(), WriteFault>
     ensures { Puts O.holds O.faults sink.old sink.new text.old text.new (word column mass) result }
 {
-    text.put_pieces(sink, &[Piece::Str(separator(column)), Piece::Number(mass)])
+    text.put_fragments(
+        sink,
+        &[Fragment::Str(separator(column)), Fragment::Number(mass)],
+    )
 }
 
 /// Masses that stand in the columns from `first` on.

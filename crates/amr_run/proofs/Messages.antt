@@ -1,4 +1,4 @@
--- The line of a refusal, as the pieces that are written.
+-- The line of a refusal, as the fragments that are written.
 use Rattle.std.proofs.Common.{◌≡◌, ℕ, ℤ, pos, negsuc, List, [], ◌++◌, Result, OnOk, OnErr, refl, sym, ◌∙◌, ap, subst}
 use Rattle.std.specs.Prelude.{codes, decimal, unsigned_abs}
 use Rattle.std.specs.Fmt.{signed_decimal}

@@ -12,7 +12,7 @@ ghost use Rattle.amr_run.specs.Reading.{Reads, TakesAtMost};
 use crate::Status;
 use crate::line::put_line;
 use amr_def::Problem;
-use amr_io::{Piece, Sink, Source, WriteFault, read_all};
+use amr_io::{Fragment, Sink, Source, WriteFault, read_all};
 use amr_plot::plot;
 use amr_problem::judge;
 use amr_runs::run_to;
@@ -84,14 +84,14 @@ fn put_problem<O: Sink>(out: &mut O, problem: &Problem) -> Result<(), WriteFault
     put_line(
         out,
         &[
-            Piece::Str("ok "),
-            Piece::Number(u64::from(problem.nx)),
-            Piece::Str(" "),
-            Piece::Number(u64::from(problem.ny)),
-            Piece::Str(" "),
-            Piece::Number(u64::from(problem.steps)),
-            Piece::Str(" "),
-            Piece::Number(u64::from(problem.max_level)),
+            Fragment::Str("ok "),
+            Fragment::Number(u64::from(problem.nx)),
+            Fragment::Str(" "),
+            Fragment::Number(u64::from(problem.ny)),
+            Fragment::Str(" "),
+            Fragment::Number(u64::from(problem.steps)),
+            Fragment::Str(" "),
+            Fragment::Number(u64::from(problem.max_level)),
         ],
     )
 }

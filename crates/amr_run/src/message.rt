@@ -8,7 +8,7 @@ ghost use Rattle.amr_run.specs.Texts.{axis_text, fault_text, message, refusal, s
 use crate::Status;
 use crate::line::put_line;
 use amr_box::Axis;
-use amr_io::{Piece, Sink, WriteFault};
+use amr_io::{Fragment, Sink, WriteFault};
 use amr_problem::{Key, ProblemFault};
 
 const USAGE: &str =
@@ -23,11 +23,11 @@ pub(crate) fn tell<E: Sink>(err: &mut E, status: &Status) -> Result<(), WriteFau
 {
     match status {
         Status::Done => Ok(()),
-        Status::Usage => put_line(err, &[Piece::Str(USAGE)]),
-        Status::ReadFault => put_line(err, &[Piece::Str("amr: read failed")]),
+        Status::Usage => put_line(err, &[Fragment::Str(USAGE)]),
+        Status::ReadFault => put_line(err, &[Fragment::Str("amr: read failed")]),
         Status::Problem(fault) => put_fault(err, fault),
-        Status::WriteFault => put_line(err, &[Piece::Str("amr: write failed")]),
-        Status::NoMemory => put_line(err, &[Piece::Str("amr: out of memory")]),
+        Status::WriteFault => put_line(err, &[Fragment::Str("amr: write failed")]),
+        Status::NoMemory => put_line(err, &[Fragment::Str("amr: out of memory")]),
     }
 }
 
@@ -37,27 +37,27 @@ fn put_fault<E: Sink>(err: &mut E, fault: &ProblemFault) -> Result<(), WriteFaul
     ensures cause { HasCause (E.faults err.old) (E.faults err.new) result }
 {
     match fault {
-        ProblemFault::TooLong => put_line(err, &[Piece::Str("amr: problem: too long")]),
-        ProblemFault::NotToml => put_line(err, &[Piece::Str("amr: problem: not TOML")]),
+        ProblemFault::TooLong => put_line(err, &[Fragment::Str("amr: problem: too long")]),
+        ProblemFault::NotToml => put_line(err, &[Fragment::Str("amr: problem: not TOML")]),
         ProblemFault::UnknownKey(key) => put_line(
             err,
             &[
-                Piece::Str("amr: problem: unknown key "),
-                Piece::Str(key.text()),
+                Fragment::Str("amr: problem: unknown key "),
+                Fragment::Str(key.text()),
             ],
         ),
         ProblemFault::Missing(key) => put_line(
             err,
             &[
-                Piece::Str("amr: problem: missing key "),
-                Piece::Str(key.text()),
+                Fragment::Str("amr: problem: missing key "),
+                Fragment::Str(key.text()),
             ],
         ),
         ProblemFault::WrongKind(key) => put_line(
             err,
             &[
-                Piece::Str("amr: problem: wrong kind "),
-                Piece::Str(key.text()),
+                Fragment::Str("amr: problem: wrong kind "),
+                Fragment::Str(key.text()),
             ],
         ),
         ProblemFault::OutOfRange(key, value) => put_out_of_range(err, *key, value),
@@ -65,16 +65,16 @@ fn put_fault<E: Sink>(err: &mut E, fault: &ProblemFault) -> Result<(), WriteFaul
         ProblemFault::SidesDiffer(axis) => put_line(
             err,
             &[
-                Piece::Str("amr: problem: sides differ "),
-                Piece::Str(axis_name(*axis)),
+                Fragment::Str("amr: problem: sides differ "),
+                Fragment::Str(axis_name(*axis)),
             ],
         ),
         ProblemFault::BlockOutside(index) => put_line(
             err,
             &[
-                Piece::Str("amr: problem: block "),
-                Piece::Number(u64::from(*index)),
-                Piece::Str(" outside"),
+                Fragment::Str("amr: problem: block "),
+                Fragment::Number(u64::from(*index)),
+                Fragment::Str(" outside"),
             ],
         ),
     }
@@ -88,11 +88,11 @@ fn put_out_of_range<E: Sink>(err: &mut E, key: Key, value: &i64) -> Result<(), W
     put_line(
         err,
         &[
-            Piece::Str("amr: problem: out of range "),
-            Piece::Str(key.text()),
-            Piece::Str(" "),
-            Piece::Str(sign(value)),
-            Piece::Number(size(value)),
+            Fragment::Str("amr: problem: out of range "),
+            Fragment::Str(key.text()),
+            Fragment::Str(" "),
+            Fragment::Str(sign(value)),
+            Fragment::Number(size(value)),
         ],
     )
 }
@@ -105,12 +105,12 @@ fn put_courant<E: Sink>(err: &mut E, sum: &i64, d: &i64) -> Result<(), WriteFaul
     put_line(
         err,
         &[
-            Piece::Str("amr: problem: courant "),
-            Piece::Str(sign(sum)),
-            Piece::Number(size(sum)),
-            Piece::Str(" over "),
-            Piece::Str(sign(d)),
-            Piece::Number(size(d)),
+            Fragment::Str("amr: problem: courant "),
+            Fragment::Str(sign(sum)),
+            Fragment::Number(size(sum)),
+            Fragment::Str(" over "),
+            Fragment::Str(sign(d)),
+            Fragment::Number(size(d)),
         ],
     )
 }

@@ -3,7 +3,7 @@ use Rattle.std.specs.List.{flat_map}
 use Rattle.amr_def.specs.Plot.{box_text, level_text}
 use Rattle.amr_patch.specs.Levels.{level_of}
 use Rattle.amr_plot.specs.Puts.{level_head}
-use Rattle.amr_plot.proofs.Pieces.{level_pieces}
+use Rattle.amr_plot.proofs.Fragments.{level_fragments}
 use Rattle.amr_plot.proofs.Putting.{puts_first, puts_same, puts_then}
 use Rattle.amr_plot.proofs.levels.put_level.Goals as goal
 
@@ -14,7 +14,7 @@ returns-in_err-put_level_line g c =
     let rest : List ℕ = flat_map (box_text k.masses) k.boxes in
     let e = c.in_err-put_level_line.ensures in
     puts_same g.O.Sink.holds g.O.Sink.faults c.args.sink.now c.put_level_line.new.sink c.args.text.now c.put_level_line.new.text _ _ c.from_residual.result
-    ((λ i. level_head c.args.l (length (c.boxes.ensures i)) ++ rest) ∙ ap (λ (t : List ℕ). t ++ rest) (level_pieces c.args.l k))
+    ((λ i. level_head c.args.l (length (c.boxes.ensures i)) ++ rest) ∙ ap (λ (t : List ℕ). t ++ rest) (level_fragments c.args.l k))
     (puts_first g.O.Sink.holds g.O.Sink.faults c.args.sink.now c.put_level_line.new.sink c.args.text.now c.put_level_line.new.text _ rest c.from_residual.result c.from_residual.ensures.0 e.part e.cause.later e.cause.failed)
 
 pub returns : goal.returns
@@ -24,5 +24,5 @@ returns g c =
     let rest : List ℕ = flat_map (box_text k.masses) k.boxes in
     let e = c.in_ok-put_level_line.ensures in
     puts_same g.O.Sink.holds g.O.Sink.faults c.args.sink.now c.put_boxes.new.sink c.args.text.now c.put_boxes.new.text _ _ c.put_boxes.result
-    ((λ i. level_head c.args.l (length (c.boxes.ensures i)) ++ rest) ∙ ap (λ (t : List ℕ). t ++ rest) (level_pieces c.args.l k))
+    ((λ i. level_head c.args.l (length (c.boxes.ensures i)) ++ rest) ∙ ap (λ (t : List ℕ). t ++ rest) (level_fragments c.args.l k))
     (puts_then g.O.Sink.holds g.O.Sink.faults c.args.sink.now c.put_level_line.new.sink c.put_boxes.new.sink c.args.text.now c.put_level_line.new.text c.put_boxes.new.text _ rest c.put_boxes.result e.sent e.no_fault c.put_boxes.ensures)

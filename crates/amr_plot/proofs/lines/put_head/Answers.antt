@@ -3,7 +3,7 @@ use Rattle.std.specs.Prelude.{codes, decimal}
 use Rattle.std.specs.Str.{IsUtf8}
 use Rattle.std.proofs.lemmas.Str.{IsUtf8-from_ascii}
 use Rattle.amr_plot.proofs.Putting.{puts_same}
-use Rattle.amr_plot.proofs.Pieces.{head_pieces, name_ascii}
+use Rattle.amr_plot.proofs.Fragments.{head_fragments, name_ascii}
 use Rattle.amr_plot.proofs.lines.put_head.Goals as goal
 
 pub unreachable-requires : goal.unreachable-requires
@@ -15,6 +15,6 @@ unreachable-requires g c =
 pub returns : goal.returns
 returns g c =
     let name = c.in-Ok.ensures.cases.0 ∙ c.bytes.ensures in
-    puts_same g.O.Sink.holds g.O.Sink.faults c.args.sink.now c.put_pieces.new.sink c.args.text.now c.put_pieces.new.self _ _ c.put_pieces.result
-    ((λ i. codes "amr-plot 1" ++ (10 ∷ (codes "name " ++ (name i ++ (10 ∷ (codes "step " ++ (decimal (c.from.ensures i) ++ (10 ∷ [])))))))) ∙ head_pieces c.args.p.now c.args.step)
-    (record { sent = c.put_pieces.ensures.sent; part = c.put_pieces.ensures.short; no_fault = c.put_pieces.ensures.no_fault; cause = c.put_pieces.ensures.cause })
+    puts_same g.O.Sink.holds g.O.Sink.faults c.args.sink.now c.put_fragments.new.sink c.args.text.now c.put_fragments.new.self _ _ c.put_fragments.result
+    ((λ i. codes "amr-plot 1" ++ (10 ∷ (codes "name " ++ (name i ++ (10 ∷ (codes "step " ++ (decimal (c.from.ensures i) ++ (10 ∷ [])))))))) ∙ head_fragments c.args.p.now c.args.step)
+    (record { sent = c.put_fragments.ensures.sent; part = c.put_fragments.ensures.short; no_fault = c.put_fragments.ensures.no_fault; cause = c.put_fragments.ensures.cause })

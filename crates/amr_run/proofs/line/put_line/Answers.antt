@@ -2,28 +2,28 @@ use Rattle.std.proofs.Common.{◌≡◌, List, ℕ, [], ◌∷◌, ◌++◌, sub
 use Rattle.std.proofs.lemmas.List.{append-nil}
 use Rattle.amr_causes.specs.Bytes.{Grows}
 use Rattle.amr_def.specs.Plot.{line}
-use Rattle.amr_io.specs.Kept.{Sent, pieces_text}
+use Rattle.amr_io.specs.Kept.{Sent, fragments_text}
 use Rattle.amr_io.specs.Short.{FallsShort}
 use Rattle.amr_io.proofs.Sending.{all_sent, sent_then}
 use Rattle.amr_io.proofs.Shorter.{flush_short, sent_short, short_longer}
 use Rattle.amr_run.proofs.line.put_line.Goals as goal
 
-pub returns-in_err-put_pieces-clause-short : goal.returns-in_err-put_pieces-clause-short
-returns-in_err-put_pieces-clause-short g c =
-    let short = subst (λ (kept : List ℕ). FallsShort g.O.Sink.holds c.args.sink.now c.put_pieces.new.sink (kept ++ pieces_text c.args.pieces.now)) c.make-text.ensures c.in_err-put_pieces.ensures.short in
-    let all = short_longer g.O.Sink.holds c.args.sink.now c.put_pieces.new.sink (pieces_text c.args.pieces.now) (10 ∷ []) short in
+pub returns-in_err-put_fragments-clause-short : goal.returns-in_err-put_fragments-clause-short
+returns-in_err-put_fragments-clause-short g c =
+    let short = subst (λ (kept : List ℕ). FallsShort g.O.Sink.holds c.args.sink.now c.put_fragments.new.sink (kept ++ fragments_text c.args.fragments.now)) c.make-text.ensures c.in_err-put_fragments.ensures.short in
+    let all = short_longer g.O.Sink.holds c.args.sink.now c.put_fragments.new.sink (fragments_text c.args.fragments.now) (10 ∷ []) short in
     search (rules, all)
 
 pub returns-in_err-put_str-clause-short : goal.returns-in_err-put_str-clause-short
 returns-in_err-put_str-clause-short g c =
-    let stop = sent_short g.O.Sink.holds c.args.sink.now c.put_pieces.new.sink c.put_str.new.sink c.make-text.result c.put_pieces.new.self (pieces_text c.args.pieces.now) (10 ∷ []) c.in_ok-put_pieces.ensures.sent c.in_err-put_str.ensures.short in
-    let all = subst (λ (kept : List ℕ). FallsShort g.O.Sink.holds c.args.sink.now c.put_str.new.sink (kept ++ (pieces_text c.args.pieces.now ++ 10 ∷ []))) c.make-text.ensures stop in
+    let stop = sent_short g.O.Sink.holds c.args.sink.now c.put_fragments.new.sink c.put_str.new.sink c.make-text.result c.put_fragments.new.self (fragments_text c.args.fragments.now) (10 ∷ []) c.in_ok-put_fragments.ensures.sent c.in_err-put_str.ensures.short in
+    let all = subst (λ (kept : List ℕ). FallsShort g.O.Sink.holds c.args.sink.now c.put_str.new.sink (kept ++ (fragments_text c.args.fragments.now ++ 10 ∷ []))) c.make-text.ensures stop in
     search (rules, all)
 
 pub returns-in_err-flush-clause-short : goal.returns-in_err-flush-clause-short
 returns-in_err-flush-clause-short g c =
-    let sent = sent_then g.O.Sink.holds c.args.sink.now c.put_pieces.new.sink c.put_str.new.sink c.make-text.result c.put_pieces.new.self c.put_str.new.self (pieces_text c.args.pieces.now) (10 ∷ []) c.in_ok-put_pieces.ensures.sent c.in_ok-put_str.ensures.sent in
-    let all = flush_short g.O.Sink.holds c.args.sink.now c.put_str.new.sink c.flush.new.sink c.make-text.result c.put_str.new.self (pieces_text c.args.pieces.now ++ 10 ∷ []) c.make-text.ensures sent c.in_err-flush.ensures.short in
+    let sent = sent_then g.O.Sink.holds c.args.sink.now c.put_fragments.new.sink c.put_str.new.sink c.make-text.result c.put_fragments.new.self c.put_str.new.self (fragments_text c.args.fragments.now) (10 ∷ []) c.in_ok-put_fragments.ensures.sent c.in_ok-put_str.ensures.sent in
+    let all = flush_short g.O.Sink.holds c.args.sink.now c.put_str.new.sink c.flush.new.sink c.make-text.result c.put_str.new.self (fragments_text c.args.fragments.now ++ 10 ∷ []) c.make-text.ensures sent c.in_err-flush.ensures.short in
     search (rules, all)
 
 -- all that was put went out, with nothing kept back
@@ -36,5 +36,5 @@ module _ {S : Type 0} (holds : S → List ℕ → Type 0) where
 
 pub returns-clause-whole : goal.returns-clause-whole
 returns-clause-whole g c =
-    went_out g.O.Sink.holds c.args.sink.now c.put_pieces.new.sink c.put_str.new.sink c.flush.new.sink c.make-text.result c.put_pieces.new.self c.put_str.new.self c.flush.new.self (pieces_text c.args.pieces.now)
-    c.make-text.ensures c.in_ok-put_pieces.ensures.sent c.in_ok-put_str.ensures.sent c.in_ok-flush.ensures.sent c.in_ok-flush.ensures.empty
+    went_out g.O.Sink.holds c.args.sink.now c.put_fragments.new.sink c.put_str.new.sink c.flush.new.sink c.make-text.result c.put_fragments.new.self c.put_str.new.self c.flush.new.self (fragments_text c.args.fragments.now)
+    c.make-text.ensures c.in_ok-put_fragments.ensures.sent c.in_ok-put_str.ensures.sent c.in_ok-flush.ensures.sent c.in_ok-flush.ensures.empty

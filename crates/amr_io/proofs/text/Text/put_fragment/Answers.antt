@@ -1,8 +1,4 @@
-use Rattle.std.proofs.Common.{◌≡◌, ◌++◌, List, ℕ, subst}
-use Rattle.std.specs.Prelude.{OnErr}
-use Rattle.amr_io.specs.Kept.{piece_text}
-use Rattle.amr_io.specs.Short.{FallsShort}
-use Rattle.amr_io.proofs.text.Text.put_piece.Goals as goal
+use Rattle.amr_io.proofs.text.Text.put_fragment.Goals as goal
 
 pub returns-in-Str-clause-short : goal.returns-in-Str-clause-short
 returns-in-Str-clause-short g c = rw c.in-Str.is c.put_str.ensures.short

@@ -1,4 +1,4 @@
--- The lines of a plot, as the pieces that are put.
+-- The lines of a plot, as the fragments that are put.
 use Rattle.std.proofs.Common.{◌≡◌, pos, length, ℕ, zero, suc, ◌<◌, Bool, true, false, ◌&&◌, List, [], ◌∷◌, ◌++◌, refl, sym, ap, ◌∙◌, append_assoc, arith}
 use Rattle.std.specs.Prelude.{codes, decimal}
 use Rattle.amr_def.specs.declared.problem.Problem.{Problem}
@@ -26,25 +26,25 @@ four_words a b c d end = word_then a _ end ∙ after_word a (word_then b _ end �
 pub two_words : (a b end : List ℕ) → (32 ∷ (a ++ (32 ∷ (b ++ [])))) ++ end ≡ 32 ∷ (a ++ (32 ∷ (b ++ end)))
 two_words a b end = word_then a _ end ∙ after_word a (word_then b [] end)
 
-pub level_pieces : (l : ℕ) (k : Level) → level_head l (length k.boxes) ≡ level_line l k
+pub level_fragments : (l : ℕ) (k : Level) → level_head l (length k.boxes) ≡ level_line l k
 unfolding level_line
-level_pieces l k = ap (λ (t : List ℕ). codes "level" ++ t) (sym (two_words (decimal l) (decimal (length k.boxes)) (10 ∷ [])))
+level_fragments l k = ap (λ (t : List ℕ). codes "level" ++ t) (sym (two_words (decimal l) (decimal (length k.boxes)) (10 ∷ [])))
 
 -- the line of a box by its coordinates, none below 0
-pub box_pieces : (b : Extent) (west south east north : ℕ) → pos west ≡ b.lo.x → pos south ≡ b.lo.y → pos east ≡ b.hi.x → pos north ≡ b.hi.y
+pub box_fragments : (b : Extent) (west south east north : ℕ) → pos west ≡ b.lo.x → pos south ≡ b.lo.y → pos east ≡ b.hi.x → pos north ≡ b.hi.y
     → codes "box " ++ (decimal west ++ (codes " " ++ (decimal south ++ (codes " " ++ (decimal east ++ (codes " " ++ (decimal north ++ (10 ∷ [])))))))) ≡ box_line b
 unfolding box_line
-box_pieces b west south east north w s e n =
+box_fragments b west south east north w s e n =
     ap (λ (t : List ℕ). codes "box" ++ t) (sym (four_words (decimal west) (decimal south) (decimal east) (decimal north) (10 ∷ [])))
     ∙ (λ i. (codes "box" ++ (32 ∷ (signed_decimal (w i) ++ (32 ∷ (signed_decimal (s i) ++ (32 ∷ (signed_decimal (e i) ++ (32 ∷ (signed_decimal (n i) ++ []))))))))) ++ 10 ∷ [])
 
-pub ledger_pieces : (k : ℕ) (r : Row) → codes "ledger " ++ (decimal k ++ (codes " " ++ (decimal r.mass ++ (codes " " ++ (decimal r.inflow ++ (codes " " ++ (decimal r.outflow ++ (10 ∷ [])))))))) ≡ ledger_line k r
+pub ledger_fragments : (k : ℕ) (r : Row) → codes "ledger " ++ (decimal k ++ (codes " " ++ (decimal r.mass ++ (codes " " ++ (decimal r.inflow ++ (codes " " ++ (decimal r.outflow ++ (10 ∷ [])))))))) ≡ ledger_line k r
 unfolding ledger_line
-ledger_pieces k r = ap (λ (l : List ℕ). codes "ledger" ++ l) (sym (four_words (decimal k) (decimal r.mass) (decimal r.inflow) (decimal r.outflow) (10 ∷ [])))
+ledger_fragments k r = ap (λ (l : List ℕ). codes "ledger" ++ l) (sym (four_words (decimal k) (decimal r.mass) (decimal r.inflow) (decimal r.outflow) (10 ∷ [])))
 
-pub head_pieces : (p : Problem) (step : ℕ) → codes "amr-plot 1" ++ (10 ∷ (codes "name " ++ (p.name ++ (10 ∷ (codes "step " ++ (decimal step ++ (10 ∷ []))))))) ≡ head_text p step
+pub head_fragments : (p : Problem) (step : ℕ) → codes "amr-plot 1" ++ (10 ∷ (codes "name " ++ (p.name ++ (10 ∷ (codes "step " ++ (decimal step ++ (10 ∷ []))))))) ≡ head_text p step
 unfolding head_text
-head_pieces p step = ap (λ (l : List ℕ). codes "amr-plot 1" ++ (10 ∷ (codes "name " ++ l))) (sym (append_assoc p.name (10 ∷ []) (codes "step " ++ (decimal step ++ (10 ∷ [])))))
+head_fragments p step = ap (λ (l : List ℕ). codes "amr-plot 1" ++ (10 ∷ (codes "name " ++ l))) (sym (append_assoc p.name (10 ∷ []) (codes "step " ++ (decimal step ++ (10 ∷ [])))))
 
 -- ---- the name is text
 
