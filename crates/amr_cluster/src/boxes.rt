@@ -17,6 +17,13 @@ use amr_sign::Cut;
 use amr_tags::Tags;
 use std::alloc::Global;
 
+/// A box, and where it is cut in two.
+#[derive(Clone, Copy)]
+struct Split {
+    bx: Bx,
+    cut: Cut,
+}
+
 /// Puts the least box round the tags of a box on the work list, where there is a tag.
 fn push_cut_box(
     alloc: Global,
@@ -61,25 +68,25 @@ fn push_parts(
     alloc: Global,
     work: &mut Vec<CutBox>,
     tags: &Tags,
-    part: Bx,
-    cut: Cut,
+    split: Split,
     efficiency: u32,
     w: u32,
 ) -> Result<(), NoMemory>
-    requires near { IsNear part }
-    requires inside { IsPart tags.now.bx part }
-    requires cut_inside { IsInside part (defined_cut cut) }
+    requires near { IsNear split.bx }
+    requires inside { IsPart tags.now.bx split.bx }
+    requires cut_inside { IsInside split.bx (defined_cut split.cut) }
     requires work { IsWork efficiency w (has tags.now) tags.now.bx work.old.items }
     ensures waiting { OnOk result (waiting efficiency w (has tags.now) work.new.items
-        ≡ (cluster efficiency w (cells_in (has tags.now) (below_cut cut.axis (edge part (defined_cut cut)) part))
-        ++ cluster efficiency w (cells_in (has tags.now) (from_cut cut.axis (edge part (defined_cut cut)) part)))
+        ≡ (cluster efficiency w (cells_in (has tags.now) (below_cut split.cut.axis (edge split.bx (defined_cut split.cut)) split.bx))
+        ++ cluster efficiency w (cells_in (has tags.now) (from_cut split.cut.axis (edge split.bx (defined_cut split.cut)) split.bx)))
         ++ waiting efficiency w (has tags.now) work.old.items) }
     ensures work { OnOk result (IsWork efficiency w (has tags.now) tags.now.bx work.new.items) }
     ensures left { OnOk result (work_left (has tags.now) work.new.items
-        ≤ (work_left (has tags.now) work.old.items + (2 * length (cells_in (has tags.now) (from_cut cut.axis (edge part (defined_cut cut)) part)) - 1))
-        + (2 * length (cells_in (has tags.now) (below_cut cut.axis (edge part (defined_cut cut)) part)) - 1)) }
+        ≤ (work_left (has tags.now) work.old.items + (2 * length (cells_in (has tags.now) (from_cut split.cut.axis (edge split.bx (defined_cut split.cut)) split.bx)) - 1))
+        + (2 * length (cells_in (has tags.now) (below_cut split.cut.axis (edge split.bx (defined_cut split.cut)) split.bx)) - 1)) }
 {
-    let (low, high) = part.cut_at(cut.axis, edge(part, cut));
+    let Split { bx, cut } = split;
+    let (low, high) = bx.cut_at(cut.axis, edge(bx, cut));
     push_cut_box(alloc, work, tags, high, efficiency, w)?;
     push_cut_box(alloc, work, tags, low, efficiency, w)?;
     Ok(())
@@ -102,7 +109,13 @@ pub fn cluster(alloc: Global, tags: &Tags, efficiency: u32, w: u32) -> Result<Bo
     while let Some(cut_box) = work.pop() {
         match cut_box.cut {
             None => boxes.push_disjoint(cut_box.bx)?,
-            Some(cut) => push_parts(alloc, &mut work, tags, cut_box.bx, cut, efficiency, w)?,
+            Some(cut) => {
+                let split = Split {
+                    bx: cut_box.bx,
+                    cut,
+                };
+                push_parts(alloc, &mut work, tags, split, efficiency, w)?;
+            }
         }
     }
     Ok(boxes)

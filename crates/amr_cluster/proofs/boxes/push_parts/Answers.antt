@@ -14,16 +14,16 @@ use Rattle.amr_cluster.proofs.boxes.push_parts.Goals as goal
 pub push_cut_box-requires-clause-inside : goal.push_cut_box-requires-clause-inside
 push_cut_box-requires-clause-inside c =
     let fits : SFits w32 c.edge.result = search rules in
-    let k = defined_cut c.args.cut in
+    let k = defined_cut c.args.split.cut in
     let high = rw c.edge.ensures at (simp to_z-of_z at c.cut_at-low.ensures.high) in
-    subst (λ (b : Extent). IsPart c.args.tags.now.bx b) (sym high) (IsPart-in (from_cut c.args.cut.axis (edge c.args.part k) c.args.part) c.args.part c.args.tags.now.bx (IsPart-from c.args.part c.args.tags.now.bx k c.requires.inside c.requires.cut_inside) c.requires.inside)
+    subst (λ (b : Extent). IsPart c.args.tags.now.bx b) (sym high) (IsPart-in (from_cut c.args.split.cut.axis (edge c.args.split.bx k) c.args.split.bx) c.args.split.bx c.args.tags.now.bx (IsPart-from c.args.split.bx c.args.tags.now.bx k c.requires.inside c.requires.cut_inside) c.requires.inside)
 
 pub push_cut_box-requires-2-clause-inside : goal.push_cut_box-requires-2-clause-inside
 push_cut_box-requires-2-clause-inside c =
     let fits : SFits w32 c.edge.result = search rules in
-    let k = defined_cut c.args.cut in
+    let k = defined_cut c.args.split.cut in
     let low = rw c.edge.ensures at (simp to_z-of_z at c.cut_at-low.ensures.low) in
-    subst (λ (b : Extent). IsPart c.args.tags.now.bx b) (sym low) (IsPart-in (below_cut c.args.cut.axis (edge c.args.part k) c.args.part) c.args.part c.args.tags.now.bx (IsPart-below c.args.part c.args.tags.now.bx k c.requires.inside c.requires.cut_inside) c.requires.inside)
+    subst (λ (b : Extent). IsPart c.args.tags.now.bx b) (sym low) (IsPart-in (below_cut c.args.split.cut.axis (edge c.args.split.bx k) c.args.split.bx) c.args.split.bx c.args.tags.now.bx (IsPart-below c.args.split.bx c.args.tags.now.bx k c.requires.inside c.requires.cut_inside) c.requires.inside)
 
 pub returns-clause-waiting : goal.returns-clause-waiting
 returns-clause-waiting c =
@@ -46,13 +46,13 @@ returns-clause-left c =
 pub push_cut_box-requires-clause-near : goal.push_cut_box-requires-clause-near
 push_cut_box-requires-clause-near c =
     let fits : SFits w32 c.edge.result = search rules in
-    let k = defined_cut c.args.cut in
+    let k = defined_cut c.args.split.cut in
     let high = rw c.edge.ensures at (simp to_z-of_z at c.cut_at-low.ensures.high) in
-    subst (λ (b : Extent). IsNear b) (sym high) (IsNear-in (from_cut c.args.cut.axis (edge c.args.part k) c.args.part) c.args.part (IsPart-from c.args.part c.args.tags.now.bx k c.requires.inside c.requires.cut_inside) c.requires.near)
+    subst (λ (b : Extent). IsNear b) (sym high) (IsNear-in (from_cut c.args.split.cut.axis (edge c.args.split.bx k) c.args.split.bx) c.args.split.bx (IsPart-from c.args.split.bx c.args.tags.now.bx k c.requires.inside c.requires.cut_inside) c.requires.near)
 
 pub push_cut_box-requires-2-clause-near : goal.push_cut_box-requires-2-clause-near
 push_cut_box-requires-2-clause-near c =
     let fits : SFits w32 c.edge.result = search rules in
-    let k = defined_cut c.args.cut in
+    let k = defined_cut c.args.split.cut in
     let low = rw c.edge.ensures at (simp to_z-of_z at c.cut_at-low.ensures.low) in
-    subst (λ (b : Extent). IsNear b) (sym low) (IsNear-in (below_cut c.args.cut.axis (edge c.args.part k) c.args.part) c.args.part (IsPart-below c.args.part c.args.tags.now.bx k c.requires.inside c.requires.cut_inside) c.requires.near)
+    subst (λ (b : Extent). IsNear b) (sym low) (IsNear-in (below_cut c.args.split.cut.axis (edge c.args.split.bx k) c.args.split.bx) c.args.split.bx (IsPart-below c.args.split.bx c.args.tags.now.bx k c.requires.inside c.requires.cut_inside) c.requires.near)
