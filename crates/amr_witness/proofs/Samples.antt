@@ -23,7 +23,8 @@ use Rattle.amr_witness.specs.declared.PlainLevel.{PlainLevel}
 use Rattle.amr_witness.specs.declared.Plain.{Plain}
 use Rattle.amr_witness.specs.Ready.{HasMasses}
 use Rattle.amr_witness.specs.Maps.{level_of, levels_of, masses_of, state_of}
-use Rattle.amr_witness.proofs.MapLaws.{apart, cell_itself, cell_same, other}
+use Rattle.amr_box.proofs.CellEquality.{cell_itself, cell_same}
+use Rattle.amr_witness.proofs.MapLaws.{apart, other}
 use Rattle.std.specs.BTreeMap.{BTreeMap, is_at}
 use Rattle.std.proofs.lemmas.List.{take_more}
 use Rattle.std.proofs.lemmas.List.Folds.{list_any-append}

@@ -17,11 +17,13 @@ use Rattle.amr_def.specs.Value.{inflow_at, value_at}
 use Rattle.amr_def.specs.Flux.{courant, courant_in, high_cell, number_for, at_base}
 use Rattle.amr_def.proofs.Courants.{stable}
 use Rattle.amr_def.proofs.Flows.{wrapped_inside}
+use Rattle.amr_def.proofs.Homes.{wrapped_between}
 use Rattle.amr_def.proofs.Greatest.{SidesUpTo}
 use Rattle.amr_def.proofs.Stepping.{sides_up}
-use Rattle.amr_witness.specs.Ready.{IsReady, IsFace, HasSmallValues}
+use Rattle.amr_witness.specs.Ready.{IsReady, IsFace, IsNearby, HasSmallValues}
 use Rattle.std.proofs.lemmas.Int.{ints}
 use Rattle.amr_def.proofs.Sizes.{doubled_small}
+use Rattle.amr_witness.proofs.Sizes.{level_some}
 
 number_small : (p : Problem) (l : ℕ) (a : Axis) (c : Cell) → unsigned_abs (courant_in p l a c) ≤ 1024
 number_small p l X c = omega (arith, (stable p).within l c, p.limits.greatest_d)
@@ -72,6 +74,14 @@ small_values p l m old ms r = record {
 }
 
 -- ---- cells beside a face
+
+pub home_nearby : (p : Problem) (l : ℕ) (c : Cell) → l ≤ 4 → IsNearby c → IsNearby (home_cell (domain p l) c)
+home_nearby p l c known near =
+    let wide : pos (columns p l) ≤ℤ pos 4096 = omega (arith, ints, doubled_small p.nx l p.limits.greatest_nx known) in
+    let tall : pos (rows p l) ≤ℤ pos 4096 = omega (arith, ints, doubled_small p.ny l p.limits.greatest_ny known) in
+    let x = wrapped_between (is_periodic p.x_sides) (columns p l) c.x (negsuc 0) (pos 4096) (level_some p.nx l p.limits.least_nx) (omega (arith, ints)) wide near.west near.east in
+    let y = wrapped_between (is_periodic p.y_sides) (rows p l) c.y (negsuc 0) (pos 4096) (level_some p.ny l p.limits.least_ny) (omega (arith, ints)) tall near.south near.north in
+    record { west = x.0; east = x.1; south = y.0; north = y.1 }
 
 module _ (p : Problem) (l : ℕ) (f : Face) (known : l ≤ 4) (inside : IsFace p l f) where
   most_columns : columns p l ≤ 4096

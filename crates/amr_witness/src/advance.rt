@@ -13,7 +13,7 @@ ghost use Rattle.amr_witness.specs.Parts.{beside_covered, IsInDomain, new_mass, 
 
 use crate::faces::{east_face, high_child, low_child, north_face, south_face, west_face};
 use crate::ledger::row_after;
-use crate::value::{Masses, flux_at, high_cell, home_cell, is_covered, low_cell};
+use crate::value::{Masses, flux_at, high_cell, is_covered, low_cell};
 use crate::{Plain, PlainLevel};
 use amr_box::{Cell, Face};
 use amr_causes::NoMemory;
@@ -159,8 +159,9 @@ fn is_beside_covered(p: &Problem, level: u32, finer: &[PlainLevel], f: Face) -> 
     match finer.split_first() {
         None => false,
         Some((fine, _)) => {
-            let low = is_covered(&fine.masses, home_cell(p, level, low_cell(p, level, f)));
-            let high = is_covered(&fine.masses, home_cell(p, level, high_cell(p, level, f)));
+            let dom = p.domain(level);
+            let low = is_covered(&fine.masses, dom.home_cell(low_cell(p, level, f)));
+            let high = is_covered(&fine.masses, dom.home_cell(high_cell(p, level, f)));
             low | high
         }
     }

@@ -15,7 +15,7 @@ use amr_box::{Bx, Cell};
 use amr_def::Row;
 pub use ledger::total_mass;
 use std::collections::BTreeMap;
-pub use value::{Masses, columns, in_domain, mass_in, parent, rows, value_at};
+pub use value::{Masses, columns, mass_in, rows, value_at};
 
 /// A level: its boxes, in order, and the masses of their cells.
 #[derive(Drop)]

@@ -3,14 +3,14 @@
 ghost use Rattle.std.specs.Prelude.{◌≡◌, ◌≢◌, ℕ, ◌+◌, ◌*◌, ◌/◌, ◌^◌, ◌<◌, ◌≤◌, pos, negsuc, ◌+ℤ◌, ◌-ℤ◌, ◌≤ℤ◌, ◌<ℤ◌, unsigned_abs, is_some};
 ghost use Rattle.std.specs.Option.{unwrap_or};
 ghost use Rattle.amr_box.specs.Cells.{cell, parent, child};
-ghost use Rattle.amr_def.specs.Domain.{columns, rows, wrapped, domain, home_cell, in_domain, is_inside};
+ghost use Rattle.amr_def.specs.Domain.{columns, rows, domain, home_cell, in_domain};
 ghost use Rattle.amr_def.specs.State.{is_covered, mass_of};
 ghost use Rattle.amr_def.specs.Value.{low_inflow, high_inflow, inflow_at, value_at};
 ghost use Rattle.amr_def.specs.Flux.{courant, flow, flux_at, low_cell, high_cell};
 ghost use Rattle.amr_witness.specs.Maps.{masses_of, old_of};
 ghost use Rattle.amr_witness.specs.Ready.{HasSmallValues, IsFace, IsNearby, IsWithin};
 
-use amr_box::{Axis, Cell, Face};
+use amr_box::{Axis, Cell, Face, parent};
 use amr_def::{Problem, Sides};
 use std::collections::BTreeMap;
 
@@ -25,7 +25,7 @@ pub fn columns(p: &Problem, level: u32) -> u32
     ensures some { 0 < result }
     ensures small { result ≤ 4096 }
 {
-    p.nx << level
+    p.domain(level).columns()
 }
 
 /// How many rows a level has.
@@ -36,50 +36,7 @@ pub fn rows(p: &Problem, level: u32) -> u32
     ensures some { 0 < result }
     ensures small { result ≤ 4096 }
 {
-    p.ny << level
-}
-
-fn wrapped(is_periodic: bool, n: u32, z: i32) -> i32
-    requires some { 0 < n }
-    requires small { n ≤ 4096 }
-    requires low { negsuc 0 ≤ℤ z }
-    requires high { z ≤ℤ pos 4096 }
-    ensures value { result ≡ wrapped is_periodic n z }
-    ensures low { negsuc 0 ≤ℤ result }
-    ensures high { result ≤ℤ pos 4096 }
-{
-    if is_periodic {
-        z.rem_euclid(n as i32)
-    } else {
-        z
-    }
-}
-
-/// The cell of the domain that a cell stands for on periodic axes.
-pub fn home_cell(p: &Problem, level: u32, c: Cell) -> Cell
-    requires known { level ≤ 4 }
-    requires near { IsNearby c }
-    ensures value { result ≡ home_cell (domain p.now level) c }
-    ensures near { IsNearby result }
-{
-    let x = wrapped(p.x_sides.is_periodic(), columns(p, level), c.x);
-    let y = wrapped(p.y_sides.is_periodic(), rows(p, level), c.y);
-    Cell { x, y }
-}
-
-fn is_below(z: i32, n: u32) -> bool
-    requires { n ≤ 4096 }
-    ensures { result ≡ is_inside n z }
-{
-    0 <= z && z < n as i32
-}
-
-#[tactic(auto, unfolding(amr_def::specs::Domain::in_domain))]
-pub fn in_domain(p: &Problem, level: u32, c: Cell) -> bool
-    requires { level ≤ 4 }
-    ensures { result ≡ in_domain (domain p.now level) c }
-{
-    is_below(c.x, columns(p, level)) && is_below(c.y, rows(p, level))
+    p.domain(level).rows()
 }
 
 fn low_inflow(sides: Sides) -> u64
@@ -122,15 +79,6 @@ pub fn mass_in(m: &Masses, c: Cell) -> Option<u64>
     m.get(&c).copied()
 }
 
-pub fn parent(c: Cell) -> Cell
-    ensures { result ≡ parent c }
-{
-    Cell {
-        x: c.x.div_euclid(2),
-        y: c.y.div_euclid(2),
-    }
-}
-
 fn old_mass(old: Option<&Masses>, c: Cell) -> u64
     ensures { result ≡ mass_of (old_of old.entry) c }
 {
@@ -153,15 +101,15 @@ fn quarters(level: u32) -> u64
 /// The value of a cell, the level's own or a ghost cell's.
 #[tactic(auto, unfolding(amr_def::specs::Value::value_at))]
 pub fn value_at(p: &Problem, level: u32, m: &Masses, old: Option<&Masses>, c: Cell) -> u64
-    requires known { level ≤ 4 }
-    requires near { IsNearby c }
+    requires { level ≤ 4 }
     ensures { result ≡ value_at p.now level (masses_of m.now) (old_of old.entry) c }
 {
-    let home = home_cell(p, level, c);
+    let dom = p.domain(level);
+    let home = dom.home_cell(c);
     match mass_in(m, home) {
         Some(mass) => mass,
         None => {
-            if in_domain(p, level, home) {
+            if dom.in_domain(home) {
                 old_mass(old, parent(home)) / 4
             } else {
                 inflow_at(p, level, home) / quarters(level)

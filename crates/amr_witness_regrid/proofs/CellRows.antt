@@ -38,9 +38,6 @@ row_more f j k more is e =
     last : flat_map f (range_with_len 0 j) ++ flat_map f ((0 + j) ∷ []) ≡ flat_map f (range_with_len 0 j) ++ f j
     last = ap (λ (k : ℕ). flat_map f (range_with_len 0 j) ++ flat_map f (k ∷ [])) (zero-add j) ∙ ap (λ t. flat_map f (range_with_len 0 j) ++ t) (append-nil (f j))
 
-pub cell_is : (r c : Cell) → r.x ≡ c.x → r.y ≡ c.y → r ≡ c
-cell_is r c x y = λ i. record { x = x i; y = y i }
-
 pub inside_side : (low high : ℤ) (i : ℕ) → low ≤ℤ high → i < at_least_zero (high +ℤ pos 1 -ℤ low) → pos i ≤ℤ (high -ℤ low)
 inside_side low high i h k = let e = size-is low high h in omega (arith, ints, e, k)
 

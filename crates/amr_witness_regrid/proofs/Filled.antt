@@ -11,7 +11,8 @@ use Rattle.amr_def.specs.State.{Masses, State, level_at, masses_below, no_level}
 use Rattle.amr_def.proofs.Subcycle.{bool_cases}
 use Rattle.amr_witness.specs.declared.PlainLevel.{PlainLevel}
 use Rattle.amr_witness.specs.Maps.{level_of}
-use Rattle.amr_witness.proofs.MapLaws.{cell_same, cell_itself, other}
+use Rattle.amr_box.proofs.CellEquality.{cell_itself, cell_same}
+use Rattle.amr_witness.proofs.MapLaws.{other}
 
 abbrev pub among : Cell → List Cell → Bool
 among q cs = list_any (λ c. eq_by_cmp cell_cmp q c) cs

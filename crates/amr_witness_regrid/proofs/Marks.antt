@@ -1,15 +1,14 @@
 -- Tags marked one by one, and the list of the cells that a set has.
-use Rattle.std.proofs.Common.{◌≡◌, ℕ, ◌+◌, ◌<◌, Bool, ℤ, true, false, ◌&&◌, ◌||◌, cond, refl, sym, ap, ◌∙◌, arith, List, [], ◌∷◌, length, take, get_or}
+use Rattle.std.proofs.Common.{◌≡◌, ℕ, ◌+◌, ◌<◌, Bool, true, false, ◌&&◌, ◌||◌, cond, refl, sym, ap, ◌∙◌, List, [], ◌∷◌, length, take, get_or}
 use Rattle.std.specs.List.{filter, list_any}
-use Rattle.std.specs.Ordering.{int_eq}
 use Rattle.std.proofs.lemmas.List.Folds.{list_any_more}
 use Rattle.amr_box.specs.declared.Cell.{Cell}
-use Rattle.amr_box.specs.Cells.{cell, cells_of, Extent, holds}
-use Rattle.std.proofs.lemmas.Int.{ints}
+use Rattle.amr_box.specs.Cells.{cells_of, Extent, holds}
 use Rattle.amr_box.proofs.CellLists.{among_cells_of}
 use Rattle.amr_def.proofs.ClusterLaws.{Each}
 use Rattle.amr_def.proofs.Subcycle.{bool_cases, is_false}
-use Rattle.amr_laws.proofs.CellSets.{both_parts, cell_itself, cell_same, each_held, is_cell}
+use Rattle.amr_box.proofs.CellEquality.{cell_itself, cell_same, coordinates_itself, coordinates_same, is_cell}
+use Rattle.amr_laws.proofs.CellSets.{each_held}
 use Rattle.amr_tags.specs.TagSets.{same_cell}
 use Rattle.amr_witness.proofs.MapLaws.{apart}
 use Rattle.amr_witness_regrid.proofs.Filled.{among}
@@ -23,24 +22,8 @@ mark_more f old new w cs i e inside before step is d =
     step d ∙ ap (λ (b : Bool). b || (w && same_cell (get_or cs i e) d)) (before d) ∙ ap (λ (b : Bool). marked f (take i cs) d || (b && same_cell (get_or cs i e) d)) is
     ∙ sym (list_any_more (λ c. f c && same_cell c d) cs i e inside)
 
-same_number : (a b : ℤ) → int_eq a b ≡ true → a ≡ b
-same_number a b h = grind (arith, ints)
-
-number_itself : (a : ℤ) → int_eq a a ≡ true
-number_itself a = grind (arith, ints)
-
-same_itself : (c : Cell) → same_cell c c ≡ true
-same_itself c = rw (number_itself c.x, number_itself c.y)
-
-same_then : (c d : Cell) → same_cell c d ≡ true → c ≡ d
-same_then c d h =
-    let parts = both_parts _ _ h in
-    let x = same_number c.x d.x parts.0 in
-    let y = same_number c.y d.y parts.1 in
-    λ i. cell (x i) (y i)
-
 differ : (c d : Cell) → is_cell d c ≡ false → same_cell c d ≡ false
-differ c d h = is_false _ (λ (is : same_cell c d ≡ true). apart (is_cell d c) (ap (λ (k : Cell). is_cell d k) (same_then c d is) ∙ cell_itself d) h)
+differ c d h = is_false _ (λ (is : same_cell c d ≡ true). apart (is_cell d c) (ap (λ (k : Cell). is_cell d k) (coordinates_same c d is) ∙ cell_itself d) h)
 
 joined : (f r : Bool) → ((f && true) || (r && f)) ≡ f
 joined true r = refl
@@ -59,7 +42,7 @@ marks f (c ∷ cs) d =
     (λ e.
     let same : d ≡ c = cell_same d c e in
     let own : f c ≡ f d = ap f (sym same) in
-    let it : same_cell c d ≡ true = ap (λ (k : Cell). same_cell c k) same ∙ same_itself c in
+    let it : same_cell c d ≡ true = ap (λ (k : Cell). same_cell c k) same ∙ coordinates_itself c in
     (λ i. (own i && it i) || rest i) ∙ joined (f d) (among d cs) ∙ sym (ap (λ (b : Bool). (b || among d cs) && f d) e))
     (λ e. (λ i. (f c && differ c d e i) || rest i) ∙ left_out (f c) (among d cs && f d) ∙ sym (ap (λ (b : Bool). (b || among d cs) && f d) e))
 

@@ -1,15 +1,15 @@
 -- Where cells lie.
-use Rattle.std.proofs.Common.{◌≡◌, ℕ, zero, suc, ◌<◌, ◌≤◌, true, ℤ, pos, ◌-ℤ◌, ◌≤ℤ◌, sym, subst, arith, List, [], ◌∷◌, length, get_or}
+use Rattle.std.proofs.Common.{◌≡◌, ℕ, zero, suc, ◌<◌, ◌≤◌, true, ℤ, pos, neg_ℤ, ◌-ℤ◌, ◌≤ℤ◌, sym, subst, arith, List, [], ◌∷◌, length, get_or}
 use Rattle.std.proofs.lemmas.Int.{ints}
 use Rattle.amr_box.specs.declared.Cell.{Cell}
 use Rattle.amr_box.specs.Cells.{cell, cells_of, extent, holds, within}
 use Rattle.amr_def.specs.declared.problem.Problem.{Problem}
-use Rattle.amr_def.specs.Domain.{columns, moved, rows, square}
+use Rattle.amr_def.specs.Domain.{columns, domain, home_cell, is_periodic, rows, square}
 use Rattle.amr_def.proofs.ClusterLaws.{Each}
+use Rattle.amr_def.proofs.Homes.{wrapped_between}
 use Rattle.amr_laws.proofs.CellSets.{both_parts, each_held, each_then}
 use Rattle.amr_witness.specs.Parts.{IsInDomain}
-use Rattle.amr_witness.specs.Ready.{IsNearby}
-use Rattle.amr_witness.proofs.Sizes.{level_small}
+use Rattle.amr_witness.proofs.Sizes.{level_small, level_some}
 use Rattle.amr_witness_regrid.specs.Places.{IsUpTo}
 
 pub up_more : (m n : ℕ) (c : Cell) → m ≤ n → IsUpTo m c → IsUpTo n c
@@ -63,10 +63,12 @@ module _ (p : Problem) (l : ℕ) (c : Cell) (known : l ≤ 4) (inside : IsInDoma
     north = omega (arith, ints, inside.north, few_rows, h);
   }
 
-  pub moved_nearby : (o : Cell) → IsUpTo 1 o → IsNearby (moved c o)
-  moved_nearby o u = record {
-    west = omega (arith, ints, inside.west, u.west);
-    east = omega (arith, ints, inside.east, few_columns, u.east);
-    south = omega (arith, ints, inside.south, u.south);
-    north = omega (arith, ints, inside.north, few_rows, u.north);
-  }
+-- the cell that a cell stands for lies no farther out than the domain or the cell
+pub home_up : (p : Problem) (l n : ℕ) (c : Cell) → l ≤ 4 → 4096 ≤ n → IsUpTo n c → IsUpTo n (home_cell (domain p l) c)
+home_up p l n c known far up =
+    let low : neg_ℤ (pos n) ≤ℤ pos 0 = omega (arith, ints) in
+    let wide : pos (columns p l) ≤ℤ pos n = omega (arith, ints, level_small p.nx l p.limits.greatest_nx known, far) in
+    let tall : pos (rows p l) ≤ℤ pos n = omega (arith, ints, level_small p.ny l p.limits.greatest_ny known, far) in
+    let x = wrapped_between (is_periodic p.x_sides) (columns p l) c.x (neg_ℤ (pos n)) (pos n) (level_some p.nx l p.limits.least_nx) low wide up.west up.east in
+    let y = wrapped_between (is_periodic p.y_sides) (rows p l) c.y (neg_ℤ (pos n)) (pos n) (level_some p.ny l p.limits.least_ny) low tall up.south up.north in
+    record { west = x.0; east = x.1; south = y.0; north = y.1 }

@@ -128,34 +128,6 @@ pub fn moved(c: Cell, o: Cell) -> Cell
     }
 }
 
-fn wrapped(is_periodic: bool, n: u32, z: i32) -> i32
-    requires some { 0 < n }
-    requires small { n ≤ 4096 }
-    requires low { negsuc 10008 <ℤ z }
-    requires high { z <ℤ pos 10009 }
-    ensures value { result ≡ wrapped is_periodic n z }
-    ensures low { negsuc 10008 <ℤ result }
-    ensures high { result <ℤ pos 10009 }
-{
-    if is_periodic {
-        z.rem_euclid(n as i32)
-    } else {
-        z
-    }
-}
-
-/// The cell of the domain that a cell stands for on periodic axes.
-pub fn home_cell(p: &Problem, level: u32, c: Cell) -> Cell
-    requires known { level ≤ 4 }
-    requires near { IsUpTo 10008 c }
-    ensures value { result ≡ home_cell (domain p.now level) c }
-    ensures near { IsUpTo 10008 result }
-{
-    let x = wrapped(p.x_sides.is_periodic(), columns(p, level), c.x);
-    let y = wrapped(p.y_sides.is_periodic(), rows(p, level), c.y);
-    Cell { x, y }
-}
-
 /// Child `k` of a cell.
 pub fn child(c: Cell, k: u32) -> Cell
     requires near { IsUpTo 10008 c }

@@ -12,9 +12,9 @@ ghost use Rattle.amr_witness.specs.Ready.{HasMasses};
 ghost use Rattle.amr_witness_regrid.specs.Wanted.{lists_in};
 
 use crate::cells::cells_of;
-use amr_box::{Bx, Cell};
+use amr_box::{Bx, Cell, parent};
 use amr_causes::NoMemory;
-use amr_witness::{Masses, PlainLevel, mass_in, parent};
+use amr_witness::{Masses, PlainLevel, mass_in};
 use std::alloc::Global;
 use std::collections::BTreeMap;
 

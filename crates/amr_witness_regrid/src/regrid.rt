@@ -14,6 +14,7 @@ ghost use Rattle.amr_witness_regrid.specs.Wanted.{lists_in, with_levels};
 
 use crate::cells::{Offsets, offsets_of};
 use crate::masses::refill;
+use crate::tagged::LevelMasses;
 use crate::wanted::boxes_over;
 use amr_box::Bx;
 use amr_causes::NoMemory;
@@ -98,15 +99,12 @@ fn new_boxes(
         return Ok(Vec::new(alloc));
     }
     let mut all = new_boxes(alloc, p, levels, near, level + 1, n - 1)?;
-    let boxes = boxes_over(
-        alloc,
-        p,
+    let here = LevelMasses {
         level,
-        masses_at(levels, level),
-        masses_below(levels, level),
-        first_boxes(all.as_slice()),
-        near,
-    )?;
+        masses: masses_at(levels, level),
+        coarse: masses_below(levels, level),
+    };
+    let boxes = boxes_over(alloc, p, here, first_boxes(all.as_slice()), near)?;
     all.insert(0, boxes)?;
     Ok(all)
 }

@@ -12,14 +12,14 @@ ghost use Rattle.amr_witness.specs.Maps.{masses_of, old_of};
 ghost use Rattle.amr_witness_regrid.specs.Places.{AreOffsets, HasCellsInside, IsLow, IsUpTo};
 ghost use Rattle.amr_witness_regrid.specs.Wanted.{blocks_of, boxes_over, is_wanted_block, is_wanted_by};
 
-use crate::cells::{Offsets, cells_of, child, has_child_in, home_cell, moved, refined, single};
-use crate::tagged::is_grown;
+use crate::cells::{Offsets, cells_of, child, has_child_in, moved, refined, single};
+use crate::tagged::{LevelMasses, is_grown};
 use amr_box::{Bx, Cell};
 use amr_causes::NoMemory;
 use amr_cluster::cluster;
 use amr_def::Problem;
 use amr_tags::Tags;
-use amr_witness::{Masses, columns, rows};
+use amr_witness::{columns, rows};
 use std::alloc::Global;
 
 /// Whether a parent of a cell of the boxes is at most one away from a cell. `ring` are the offsets to
@@ -30,8 +30,9 @@ fn is_beside(p: &Problem, level: u32, boxes: &[Bx], ring: &[Cell], c: Cell) -> b
     requires near { IsUpTo 10000 c }
     ensures { result ≡ is_near (domain p.now level) 1 (has_child_where (in_boxes boxes.now)) c }
 {
+    let dom = p.domain(level);
     for o in ring {
-        if has_child_in(boxes, home_cell(p, level, moved(c, *o))) {
+        if has_child_in(boxes, dom.home_cell(moved(c, *o))) {
             return true;
         }
     }
@@ -53,43 +54,33 @@ fn is_projected(p: &Problem, level: u32, boxes: &[Bx], ring: &[Cell], c: Cell) -
 }
 
 /// Whether a cell of a level is to be covered: it is near a tag, or nests boxes two levels above.
-fn is_wanted(
-    p: &Problem,
-    level: u32,
-    m: &Masses,
-    coarse: Option<&Masses>,
-    finer: &[Bx],
-    near: &Offsets,
-    c: Cell,
-) -> bool
-    requires known { level < p.now.max_level }
-    requires inside { HasCellsInside p.now level (masses_of m.now) }
+fn is_wanted(p: &Problem, here: LevelMasses<'_>, finer: &[Bx], near: &Offsets, c: Cell) -> bool
+    requires known { here.level < p.now.max_level }
+    requires inside { HasCellsInside p.now here.level (masses_of here.masses.now) }
     requires offsets { AreOffsets p.now near.now }
     requires cell { IsUpTo 4098 c }
-    ensures { result ≡ is_wanted_by p.now level (masses_of m.now) (old_of coarse.entry) finer.now c }
+    ensures { result ≡ is_wanted_by p.now here.entry.level (masses_of here.entry.masses.now) (old_of here.entry.coarse) finer.now c }
 {
-    let grown = is_grown(p, level, m, coarse, near.buffer.as_slice(), c);
-    grown | is_projected(p, level, finer, near.ring.as_slice(), c)
+    let grown = is_grown(p, here, near.buffer.as_slice(), c);
+    grown | is_projected(p, here.level, finer, near.ring.as_slice(), c)
 }
 
 /// Whether one of the cells is to be covered.
 fn has_wanted(
     p: &Problem,
-    level: u32,
-    m: &Masses,
-    coarse: Option<&Masses>,
+    here: LevelMasses<'_>,
     finer: &[Bx],
     near: &Offsets,
     cells: &[Cell],
 ) -> bool
-    requires known { level < p.now.max_level }
-    requires inside { HasCellsInside p.now level (masses_of m.now) }
+    requires known { here.level < p.now.max_level }
+    requires inside { HasCellsInside p.now here.level (masses_of here.masses.now) }
     requires offsets { AreOffsets p.now near.now }
     requires cells { All (IsUpTo 4098) cells.now }
-    ensures { result ≡ list_any (is_wanted_by p.now level (masses_of m.now) (old_of coarse.entry) finer.now) cells.now }
+    ensures { result ≡ list_any (is_wanted_by p.now here.entry.level (masses_of here.entry.masses.now) (old_of here.entry.coarse) finer.now) cells.now }
 {
     for c in cells {
-        if is_wanted(p, level, m, coarse, finer, near, *c) {
+        if is_wanted(p, here, finer, near, *c) {
             return true;
         }
     }
@@ -100,21 +91,19 @@ fn has_wanted(
 fn is_wanted_block(
     alloc: Global,
     p: &Problem,
-    level: u32,
-    m: &Masses,
-    coarse: Option<&Masses>,
+    here: LevelMasses<'_>,
     finer: &[Bx],
     near: &Offsets,
     block: Cell,
 ) -> Result<bool, NoMemory>
-    requires known { level < p.now.max_level }
-    requires inside { HasCellsInside p.now level (masses_of m.now) }
+    requires known { here.level < p.now.max_level }
+    requires inside { HasCellsInside p.now here.level (masses_of here.masses.now) }
     requires offsets { AreOffsets p.now near.now }
-    requires block { holds (domain_box (blocks_of p.now level)) block ≡ true }
-    ensures { IfOk result (λ r. r ≡ is_wanted_block p.now level (masses_of m.now) (old_of coarse.entry) finer.now block) }
+    requires block { holds (domain_box (blocks_of p.now here.level)) block ≡ true }
+    ensures { IfOk result (λ r. r ≡ is_wanted_block p.now here.entry.level (masses_of here.entry.masses.now) (old_of here.entry.coarse) finer.now block) }
 {
     let cells = cells_of(alloc, &refined(&single(block), p.blocking / 2))?;
-    Ok(has_wanted(p, level, m, coarse, finer, near, cells.as_slice()))
+    Ok(has_wanted(p, here, finer, near, cells.as_slice()))
 }
 
 /// The domain of a level in blocks.
@@ -148,23 +137,21 @@ fn mark(tags: &mut Tags, c: Cell, is_wanted: bool)
 fn wanted_blocks(
     alloc: Global,
     p: &Problem,
-    level: u32,
-    m: &Masses,
-    coarse: Option<&Masses>,
+    here: LevelMasses<'_>,
     finer: &[Bx],
     near: &Offsets,
 ) -> Result<Tags, NoMemory>
-    requires known { level < p.now.max_level }
-    requires inside { HasCellsInside p.now level (masses_of m.now) }
+    requires known { here.level < p.now.max_level }
+    requires inside { HasCellsInside p.now here.level (masses_of here.masses.now) }
     requires offsets { AreOffsets p.now near.now }
-    ensures bx { IfOk result (λ t. t.bx ≡ domain_box (blocks_of p.now level)) }
-    ensures cells { IfOk result (λ t. (c : Cell) → has t c ≡ (holds (domain_box (blocks_of p.now level)) c && is_wanted_block p.now level (masses_of m.now) (old_of coarse.entry) finer.now c)) }
+    ensures bx { IfOk result (λ t. t.bx ≡ domain_box (blocks_of p.now here.entry.level)) }
+    ensures cells { IfOk result (λ t. (c : Cell) → has t c ≡ (holds (domain_box (blocks_of p.now here.entry.level)) c && is_wanted_block p.now here.entry.level (masses_of here.entry.masses.now) (old_of here.entry.coarse) finer.now c)) }
 {
-    let whole = blocks_of(p, level);
+    let whole = blocks_of(p, here.level);
     let mut tags = Tags::make(alloc, whole, false, false)?;
     let blocks = cells_of(alloc, &whole)?;
     for b in blocks.as_slice() {
-        let is_wanted = is_wanted_block(alloc, p, level, m, coarse, finer, near, *b)?;
+        let is_wanted = is_wanted_block(alloc, p, here, finer, near, *b)?;
         mark(&mut tags, *b, is_wanted);
     }
     Ok(tags)
@@ -189,19 +176,17 @@ fn all_refined(alloc: Global, boxes: &[Bx], n: u32) -> Result<Vec<Bx>, NoMemory>
 pub fn boxes_over(
     alloc: Global,
     p: &Problem,
-    level: u32,
-    m: &Masses,
-    coarse: Option<&Masses>,
+    here: LevelMasses<'_>,
     finer: &[Bx],
     near: &Offsets,
 ) -> Result<Vec<Bx>, NoMemory>
-    requires known { level < p.now.max_level }
-    requires inside { HasCellsInside p.now level (masses_of m.now) }
+    requires known { here.level < p.now.max_level }
+    requires inside { HasCellsInside p.now here.level (masses_of here.masses.now) }
     requires offsets { AreOffsets p.now near.now }
-    ensures boxes { IfOk result (λ r. r.items ≡ boxes_over p.now level (masses_of m.now) (old_of coarse.entry) finer.now) }
+    ensures boxes { IfOk result (λ r. r.items ≡ boxes_over p.now here.entry.level (masses_of here.entry.masses.now) (old_of here.entry.coarse) finer.now) }
     ensures near { IfOk result (λ r. All IsNear r.items) }
 {
-    let tags = wanted_blocks(alloc, p, level, m, coarse, finer, near)?;
+    let tags = wanted_blocks(alloc, p, here, finer, near)?;
     let clusters = cluster(alloc, &tags, p.efficiency, p.min_width)?;
     all_refined(alloc, clusters.list(), p.blocking)
 }

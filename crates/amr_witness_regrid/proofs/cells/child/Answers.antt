@@ -1,7 +1,7 @@
 use Rattle.std.proofs.Common.{arith}
 use Rattle.std.proofs.lemmas.Int.{ints}
-use Rattle.amr_witness_regrid.proofs.CellRows.{cell_is}
+use Rattle.amr_box.proofs.CellEquality.{same_cells}
 use Rattle.amr_witness_regrid.proofs.cells.child.Goals as goal
 
 pub returns-clause-value : goal.returns-clause-value
-returns-clause-value c = cell_is _ _ (omega (arith, ints, c.requires.near.west, c.requires.near.east, c.requires.one_of_four)) (omega (arith, ints, c.requires.near.south, c.requires.near.north, c.requires.one_of_four))
+returns-clause-value c = same_cells _ _ (omega (arith, ints, c.requires.near.west, c.requires.near.east, c.requires.one_of_four)) (omega (arith, ints, c.requires.near.south, c.requires.near.north, c.requires.one_of_four))

@@ -6,4 +6,4 @@ use Rattle.amr_witness.specs.Maps.{masses_of, old_of}
 use Rattle.amr_witness_regrid.proofs.tagged.is_grown.Given as goal
 
 abbrev pub invariant-loop-o : goal.invariant-loop-o
-invariant-loop-o l = list_any (λ o. is_tagged_by l.p l.level (masses_of l.m) (old_of l.coarse) (home_cell (domain l.p l.level) (moved l.c o))) (take l.o-index l.buffer) ≡ false
+invariant-loop-o l = list_any (λ o. is_tagged_by l.p l.here.level (masses_of l.here.masses.now) (old_of l.here.coarse) (home_cell (domain l.p l.here.level) (moved l.c o))) (take l.o-index l.buffer) ≡ false

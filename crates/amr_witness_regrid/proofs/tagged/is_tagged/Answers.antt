@@ -45,4 +45,4 @@ returns c =
     let e2 = c.is_steep-south.ensures in
     let e3 = c.is_steep-north.ensures in
     four_of c.is_steep-west.result c.is_steep-east.result c.is_steep-south.result c.is_steep-north.result ∙ (λ i. e0 i || (e1 i || (e2 i || (e3 i || false))))
-    ∙ tagged_is c.args.p.now c.args.level (masses_of c.args.m.now) (old_of c.args.coarse) c.args.c (sym (ap (λ (o : Option ℕ). is_some o) c.mass_in.ensures) ∙ c.if-is_none.ensures)
+    ∙ tagged_is c.args.p.now c.args.here.level (masses_of c.args.here.masses.now) (old_of c.args.here.coarse) c.args.c (sym (ap (λ (o : Option ℕ). is_some o) c.mass_in.ensures) ∙ c.if-is_none.ensures)

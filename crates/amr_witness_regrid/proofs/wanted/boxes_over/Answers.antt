@@ -21,8 +21,8 @@ all_refined-requires-clause-few c = blocking_few c.args.p.now
 pub all_refined-requires-clause-low : goal.all_refined-requires-clause-low
 all_refined-requires-clause-low c =
     let p = c.args.p.now in
-    let l = c.args.level in
-    let f = is_wanted_block p l (masses_of c.args.m.now) (old_of c.args.coarse) c.args.finer.now in
+    let l = c.args.here.level in
+    let f = is_wanted_block p l (masses_of c.args.here.masses.now) (old_of c.args.here.coarse) c.args.finer.now in
     let t = c.in_ok-tags.tags in
     let d = blocks_of p l in
     let cells = ap (λ (b : Extent). filter (has t) (cells_of b)) c.in_ok-tags.ensures.bx ∙ filter_box (has t) f (domain_box d) (λ k h. c.in_ok-tags.ensures.cells k ∙ ap (λ (b : Bool). b && f k) h) in
@@ -33,8 +33,8 @@ all_refined-requires-clause-low c =
 pub returns-clause-boxes : goal.returns-clause-boxes
 returns-clause-boxes c =
     let p = c.args.p.now in
-    let l = c.args.level in
-    let f = is_wanted_block p l (masses_of c.args.m.now) (old_of c.args.coarse) c.args.finer.now in
+    let l = c.args.here.level in
+    let f = is_wanted_block p l (masses_of c.args.here.masses.now) (old_of c.args.here.coarse) c.args.finer.now in
     let t = c.in_ok-tags.tags in
     let d = blocks_of p l in
     let cells = ap (λ (b : Extent). filter (has t) (cells_of b)) c.in_ok-tags.ensures.bx ∙ filter_box (has t) f (domain_box d) (λ k h. c.in_ok-tags.ensures.cells k ∙ ap (λ (b : Bool). b && f k) h) in

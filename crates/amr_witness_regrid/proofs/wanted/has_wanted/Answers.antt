@@ -15,15 +15,15 @@ is_wanted-requires-clause-cell c = All-get_or (IsUpTo 4098) c.args.cells.now c.l
 
 pub returns-then-is_wanted : goal.returns-then-is_wanted
 returns-then-is_wanted c =
-    let g = is_wanted_by c.args.p.now c.args.level (masses_of c.args.m.now) (old_of c.args.coarse) c.args.finer.now in
+    let g = is_wanted_by c.args.p.now c.args.here.level (masses_of c.args.here.masses.now) (old_of c.args.here.coarse) c.args.finer.now in
     found g c.args.cells.now c.args.cells.now c.loop-c.c-index (cell (pos 0) (pos 0)) refl c.loop-c-test.true (sym c.is_wanted.ensures ∙ c.if-is_wanted.true)
 
 pub loop-c-preserved : goal.loop-c-preserved
 loop-c-preserved c =
-    let g = is_wanted_by c.args.p.now c.args.level (masses_of c.args.m.now) (old_of c.args.coarse) c.args.finer.now in
+    let g = is_wanted_by c.args.p.now c.args.here.level (masses_of c.args.here.masses.now) (old_of c.args.here.coarse) c.args.finer.now in
     none_more g c.args.cells.now c.loop-c.c-index (cell (pos 0) (pos 0)) c.loop-c-test.true c.loop-c.invariant (sym c.is_wanted.ensures ∙ c.if-is_wanted.false)
 
 pub returns : goal.returns
 returns c =
-    let g = is_wanted_by c.args.p.now c.args.level (masses_of c.args.m.now) (old_of c.args.coarse) c.args.finer.now in
+    let g = is_wanted_by c.args.p.now c.args.here.level (masses_of c.args.here.masses.now) (old_of c.args.here.coarse) c.args.finer.now in
     none_at_all g c.args.cells.now c.args.cells.now c.loop-c.c-index refl (omega (arith, c.loop-c-test.false)) c.loop-c.invariant

@@ -5,4 +5,4 @@ use Rattle.amr_witness_regrid.specs.Wanted.{is_wanted_by}
 use Rattle.amr_witness_regrid.proofs.wanted.has_wanted.Given as goal
 
 abbrev pub invariant-loop-c : goal.invariant-loop-c
-invariant-loop-c l = list_any (is_wanted_by l.p l.level (masses_of l.m) (old_of l.coarse) l.finer) (take l.c-index l.cells) ≡ false
+invariant-loop-c l = list_any (is_wanted_by l.p l.here.level (masses_of l.here.masses.now) (old_of l.here.coarse) l.finer) (take l.c-index l.cells) ≡ false

@@ -9,5 +9,5 @@ use Rattle.amr_witness_regrid.proofs.wanted.wanted_blocks.Given as goal
 
 abbrev pub invariant-loop-b : goal.invariant-loop-b
 invariant-loop-b l =
-    (l.tags.bx ≡ domain_box (blocks_of l.p l.level))
-    × ((d : Cell) → has l.tags d ≡ list_any (λ c. is_wanted_block l.p l.level (masses_of l.m) (old_of l.coarse) l.finer c && same_cell c d) (take l.b-index l.b-items))
+    (l.tags.bx ≡ domain_box (blocks_of l.p l.here.level))
+    × ((d : Cell) → has l.tags d ≡ list_any (λ c. is_wanted_block l.p l.here.level (masses_of l.here.masses.now) (old_of l.here.coarse) l.finer c && same_cell c d) (take l.b-index l.b-items))
