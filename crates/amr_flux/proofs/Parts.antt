@@ -1,5 +1,5 @@
 -- A list, and a part of it that was read or written.
-use Rattle.std.proofs.Common.{◌≡◌, ◌≢◌, ℕ, ◌+◌, ◌-◌, ◌*◌, ◌^◌, ◌<◌, ◌≤◌, inl, inr, Bool, false, ℤ, pos, List, ◌++◌, length, get_or, take, drop, ap, ◌∙◌, arith, length-take}
+use Rattle.std.proofs.Common.{◌≡◌, ◌≢◌, ℕ, ◌+◌, ◌-◌, ◌*◌, ◌^◌, ◌<◌, ◌≤◌, inl, inr, Bool, false, ℤ, pos, ◌+ℤ◌, ◌-ℤ◌, List, ◌++◌, length, get_or, take, drop, ap, ◌∙◌, arith, length-take}
 use Rattle.std.specs.Prelude.{slice_index, slice_index_or}
 use Rattle.std.proofs.Math.ListN.{get_or-append}
 use Rattle.std.proofs.lemmas.List.{get_or-append_right, get_or-drop, get_or-take}
@@ -7,7 +7,7 @@ use Rattle.std.proofs.lemmas.List.Edits.{get_or-between}
 use Rattle.std.proofs.lemmas.Bool.{cases_lt}
 use Rattle.std.proofs.lemmas.Nat.{same_from_place}
 use borrow.Rule.Slice.PartMut.{put_mid}
-use Rattle.amr_flux.specs.Rows.{AreSmallFlows, IsSmallFlow}
+use Rattle.amr_flux.specs.Rows.{AreSmallFlows, IsSmallFlow, inflow}
 use Rattle.amr_flux.specs.Shares.{AreSmall}
 
 -- ---- a part that is read
@@ -83,3 +83,12 @@ small_flows xs a b each = record {
 -- the sizes from a place on
 pub rest_small : (border : List ℕ) (used : ℕ) → AreSmall border → AreSmall (take (length border - used) (drop used border))
 rest_small border used small = small_part border used (length border) (λ t h. small.at (used + t) h)
+
+-- what comes in by the first entries of longer lists
+pub inflow_part : (xs ls hs : List ℤ) (w t : ℕ) → t < w → inflow (take (w + 1) xs) (take w ls) (take w hs) t ≡ inflow xs ls hs t
+inflow_part xs ls hs w t h =
+    let west : slice_index_or (take (w + 1) xs) t (pos 0) ≡ slice_index_or xs t (pos 0) = get_or-take (w + 1) xs t (pos 0) (omega arith) in
+    let east : slice_index_or (take (w + 1) xs) (t + 1) (pos 0) ≡ slice_index_or xs (t + 1) (pos 0) = get_or-take (w + 1) xs (t + 1) (pos 0) (omega arith) in
+    let south : slice_index_or (take w ls) t (pos 0) ≡ slice_index_or ls t (pos 0) = get_or-take w ls t (pos 0) h in
+    let north : slice_index_or (take w hs) t (pos 0) ≡ slice_index_or hs t (pos 0) = get_or-take w hs t (pos 0) h in
+    λ i. (west i -ℤ east i) +ℤ (south i -ℤ north i)

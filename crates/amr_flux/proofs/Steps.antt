@@ -1,12 +1,12 @@
 -- A part of a row of fluxes more.
-use Rattle.std.proofs.Common.{◌≡◌, ◌≢◌, ℕ, ◌+◌, ◌-◌, ◌<◌, ◌≤◌, ◌⊎◌, inl, inr, Bool, true, false, ℤ, pos, List, length, set, get_or-set_same, get_or-set_other, sym, ap, ◌∙◌, arith}
+use Rattle.std.proofs.Common.{◌≡◌, ◌≢◌, ℕ, ◌+◌, ◌-◌, ◌*◌, ◌<◌, ◌≤◌, ◌⊎◌, inl, inr, Bool, true, false, ℤ, pos, List, length, set, get_or-set_same, get_or-set_other, sym, ap, ◌∙◌, arith}
 use Rattle.std.specs.Prelude.{slice_index_or}
 use Rattle.std.proofs.lemmas.Bool.{cases_eq, cases_lt}
 use borrow.Rule.Slice.PartMut.{put_mid}
 use Rattle.amr_def.specs.declared.problem.Problem.{Problem}
 use Rattle.amr_def.specs.Flux.{flow}
 use Rattle.amr_flux.specs.Tables.{value, x_flux, x_number, y_flux, y_number}
-use Rattle.amr_flux.proofs.Parts.{kept, written}
+use Rattle.amr_flux.proofs.Parts.{written}
 
 pub flow_of : {c c' : ℤ} {d d' a a' b b' : ℕ} → c ≡ c' → d ≡ d' → a ≡ a' → b ≡ b' → flow c d a b ≡ flow c' d' a' b'
 flow_of ec ed ea eb i = flow (ec i) (ed i) (ea i) (eb i)
@@ -14,19 +14,11 @@ flow_of ec ed ea eb i = flow (ec i) (ed i) (ea i) (eb i)
 opposite : {b : Bool} → b ≡ true → b ≡ false → ⊥
 opposite e f = let wrong : true ≡ false = sym e ∙ f in cc
 
--- ---- the faces from `a` to before `a + k` got their fluxes
+-- ---- a row of faces
 
-pub part_made : (a k to : ℕ) (fluxes part : List ℤ) (f : ℕ → ℤ) → a + k ≡ to → length part ≡ k → to ≤ length fluxes
-    → ((t : ℕ) → t < k → slice_index_or part t (pos 0) ≡ f (a + t))
-    → ((i : ℕ) → i < a → slice_index_or fluxes i (pos 0) ≡ f i)
-    → (i : ℕ) → i < to → slice_index_or (put_mid a k fluxes part) i (pos 0) ≡ f i
-part_made a k to fluxes part f size count room each before i h = at_each (cases_lt i a)
-  where
-    at_each : (i < a) ⊎ (a ≤ i) → slice_index_or (put_mid a k fluxes part) i (pos 0) ≡ f i
-    at_each (inl low) = kept a k fluxes part (pos 0) count (omega (arith, size, room)) i (λ t inside e. omega (arith, e, low)) ∙ before i low
-    at_each (inr high) =
-        let place : a + (i - a) ≡ i = omega (arith, high) in
-        written a k fluxes part (pos 0) count (omega (arith, size, room)) i (i - a) (sym place) (omega (arith, size, h, high)) ∙ each (i - a) (omega (arith, size, h, high)) ∙ ap f place
+-- the first k faces got theirs
+pub front_made : (k : ℕ) (fluxes part : List ℤ) (f : ℕ → ℤ) → length part ≡ k → k ≤ length fluxes → ((t : ℕ) → t < k → slice_index_or part t (pos 0) ≡ f t) → (i : ℕ) → i < k → slice_index_or (put_mid 0 k fluxes part) i (pos 0) ≡ f i
+front_made k fluxes part f size room each i h = written 0 k fluxes part (pos 0) size (omega (arith, room)) i i (omega arith) h ∙ each i h
 
 -- ---- one flux more, of those whose places pass a test
 

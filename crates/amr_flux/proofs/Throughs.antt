@@ -1,8 +1,8 @@
 -- What the rows of an update read and give.
-use Rattle.std.proofs.Common.{◌≡◌, ◌≢◌, ℕ, ◌+◌, ◌-◌, ◌*◌, ◌<◌, ◌≤◌, ◌⊎◌, inl, inr, Bool, true, false, ◌&&◌, ℤ, pos, ◌+ℤ◌, ◌-ℤ◌, List, length, drop, refl, sym, ap, subst, ◌∙◌, arith}
+use Rattle.std.proofs.Common.{◌≡◌, ◌≢◌, ℕ, zero, suc, ◌+◌, ◌-◌, ◌*◌, ◌<◌, ◌≤◌, ◌⊎◌, inl, inr, Bool, true, false, ◌&&◌, ℤ, pos, ◌+ℤ◌, ◌-ℤ◌, List, [], length, drop, refl, sym, ap, subst, ◌∙◌, arith}
 use Rattle.std.specs.Prelude.{cond, nat_eq, slice_index, slice_index_or}
 use Rattle.std.proofs.lemmas.Bool.{cases_eq, cases_lt, eq-eqb, eqb-true}
-use Rattle.std.proofs.lemmas.List.{get_or-drop}
+use Rattle.std.proofs.lemmas.List.{get_or-drop, get_or_past}
 use Rattle.std.proofs.lemmas.Nat.{same_from_place}
 use Rattle.amr_def.specs.declared.problem.Problem.{Problem}
 use Rattle.amr_def.specs.Flux.{flow}
@@ -40,23 +40,19 @@ module _ (p : Problem) (l first w : ℕ) (marks : List Bool) (border old : List 
       ∙ sym (ap (λ b. cond (b && x_marked w marks j) (signed (x_number p l (first + j)) (slice_index border (count_below (x_marked w marks) j))) (x_flux p l first w old w j)) (eq-eqb w w refl))
 
   -- the faces of a row by the values, and then with the last one's border flux
-  pub x_made : (one two : List ℤ) (n : ℤ) (m : Bool) (used : ℕ) → length one ≡ w + 1
+  pub x_made : (one two : List ℤ) (n : ℤ) (m : Bool) (used : ℕ)
       → ((k : ℕ) → k < w + 1 → slice_index_or one k (pos 0) ≡ x_flux p l first w old k j)
       → n ≡ x_number p l (first + j) → m ≡ x_marked w marks j → used ≡ count_below (x_marked w marks) j
-      → slice_index_or two (length one - 1) (pos 0) ≡ cond m (signed n (slice_index border used)) (slice_index_or one (length one - 1) (pos 0))
-      → ((k : ℕ) → k + 1 < length one → slice_index_or two k (pos 0) ≡ slice_index_or one k (pos 0))
+      → slice_index_or two w (pos 0) ≡ cond m (signed n (slice_index border used)) (slice_index_or one w (pos 0))
+      → ((k : ℕ) → k ≢ w → slice_index_or two k (pos 0) ≡ slice_index_or one k (pos 0))
       → (k : ℕ) → k ≤ w → slice_index_or two k (pos 0) ≡ x_through p l first w marks border old k j
-  x_made one two n m used count each en em eu last others k h = at_each (cases_lt k w)
+  x_made one two n m used each en em eu last others k h = at_each (cases_lt k w)
     where
-      end : length one - 1 ≡ w
-      end = omega (arith, count)
-
       at_each : (k < w) ⊎ (w ≤ k) → slice_index_or two k (pos 0) ≡ x_through p l first w marks border old k j
-      at_each (inl below) = others k (omega (arith, count, below)) ∙ each k (omega (arith, below)) ∙ x_flux_inner k below
+      at_each (inl below) = others k (λ e. omega (arith, e, below)) ∙ each k (omega (arith, below)) ∙ x_flux_inner k below
       at_each (inr past) =
           let same : k ≡ w = omega (arith, h, past) in
-          let value_at : slice_index_or one (length one - 1) (pos 0) ≡ x_flux p l first w old w j = ap (λ q. slice_index_or one q (pos 0)) end ∙ each w (omega arith) in
-          ap (λ q. slice_index_or two q (pos 0)) (same ∙ sym end) ∙ last ∙ x_flux_last en em eu value_at ∙ ap (λ q. x_through p l first w marks border old q j) (sym same)
+          ap (λ q. slice_index_or two q (pos 0)) same ∙ last ∙ x_flux_last en em eu (each w (omega arith)) ∙ ap (λ q. x_through p l first w marks border old q j) (sym same)
 
 module _ (p : Problem) (l first w h : ℕ) (marks : List Bool) (border old : List ℕ) where
   -- the y faces at the low side of cells of the patch
@@ -90,6 +86,37 @@ module _ (p : Problem) (l first w h : ℕ) (marks : List Bool) (border old : Lis
           ap (λ b. cond (b && y_marked w h marks i) (signed (y_number p l (first + i)) (slice_index (drop used border) (count_below (y_marked w h marks) i))) v) e
           ∙ ev
           ∙ sym (ap (λ b. cond (b && y_marked w h marks i) (signed (y_number p l (first + i)) (slice_index border (count_below (x_marked w marks) h + count_below (y_marked w h marks) i))) (y_flux p l first w old i (j + 1))) e)
+
+-- ---- where there are no marks
+
+never : (a b : Bool) → b ≡ false → (a && b) ≡ false
+never true b e = e
+never false b e = refl
+
+unmarked : (n : ℕ) → slice_index_or {A = Bool} [] n false ≡ false
+unmarked n = get_or_past {X = Bool} [] n false (omega arith)
+
+module _ (p : Problem) (l first w : ℕ) (border old : List ℕ) (i j : ℕ) where
+  pub x_unmarked : x_through p l first w [] border old i j ≡ x_flux p l first w old i j
+  unfolding x_through
+  x_unmarked = ap (λ b. cond b (signed (x_number p l (first + j)) (slice_index border (count_below (x_marked w []) j))) (x_flux p l first w old i j)) (never (nat_eq i w) (x_marked w [] j) (unmarked ((j + 1) * (w + 2) + (w + 1))))
+
+  pub y_unmarked : (h : ℕ) → y_through p l first w h [] border old i j ≡ y_flux p l first w old i j
+  unfolding y_through
+  y_unmarked h = ap (λ b. cond b (signed (y_number p l (first + i)) (slice_index border (count_below (x_marked w []) h + count_below (y_marked w h []) i))) (y_flux p l first w old i j)) (never (nat_eq j h) (y_marked w h [] i) (unmarked ((h + 1) * (w + 2) + (i + 1))))
+
+none_below : (test : ℕ → Bool) (n : ℕ) → ((k : ℕ) → test k ≡ false) → count_below test n ≡ 0
+none_below test zero none = refl
+none_below test (suc n) none =
+    let before : count_below test n ≡ 0 = none_below test n none in
+    omega (arith, before, ap {B = ℕ} (λ b. cond b 1 0) (none n))
+
+-- no sizes are needed there
+pub no_sizes : (w h : ℕ) → count_below (x_marked w []) h + count_below (y_marked w h []) w ≡ 0
+no_sizes w h =
+    let x : count_below (x_marked w []) h ≡ 0 = none_below (x_marked w []) h (λ j. unmarked ((j + 1) * (w + 2) + (w + 1))) in
+    let y : count_below (y_marked w h []) w ≡ 0 = none_below (y_marked w h []) w (λ i. unmarked ((h + 1) * (w + 2) + (i + 1))) in
+    omega (arith, x, y)
 
 -- a flux that is the one by the size where a face of the last row is marked, and else the one of before
 pub top_by : {a b v : ℤ} (last marked : Bool) → last ≡ true → (marked ≡ true → a ≡ b) → (marked ≡ false → a ≡ v) → a ≡ cond (last && marked) b v
@@ -136,3 +163,33 @@ pub total_now : (x low high : List ℤ) (X Y : ℕ → ℕ → ℤ) (m v t j : �
     → slice_index_or low t (pos 0) ≡ Y t j → slice_index_or high t (pos 0) ≡ Y t (j + 1)
     → pos m +ℤ inflow x low high t ≡ pos v +ℤ net_inflow X Y t j
 total_now x low high X Y m v t j e ew ee es en = λ i. pos (e i) +ℤ ((ew i -ℤ ee i) +ℤ (es i -ℤ en i))
+
+-- ---- a row in an update: x, low and high are its lists of fluxes
+
+module _ (p : Problem) (l row column w h : ℕ) (marks : List Bool) (border old values : List ℕ) (j : ℕ) (before : (q : ℕ) → IsOtherPlace w j q → slice_index values q ≡ slice_index old q)
+    (x low high : List ℤ) where
+  abbrev xs : ℕ → ℕ → ℤ
+  xs = x_through p l row w marks border old
+
+  abbrev ys : ℕ → ℕ → ℤ
+  ys = y_through p l column w h marks border old
+
+  -- those along the row, first by the values and then with the last one's border flux
+  pub x_here : (one : List ℤ) {n : ℤ} {m : Bool} {used : ℕ} → ((k : ℕ) → k < w + 1 → slice_index_or one k (pos 0) ≡ x_flux p l row w values k j)
+      → n ≡ x_number p l (row + j) → m ≡ x_marked w marks j → used ≡ count_below (x_marked w marks) j
+      → slice_index_or x w (pos 0) ≡ cond m (signed n (slice_index border used)) (slice_index_or one w (pos 0))
+      → ((k : ℕ) → k ≢ w → slice_index_or x k (pos 0) ≡ slice_index_or one k (pos 0))
+      → (k : ℕ) → k ≤ w → slice_index_or x k (pos 0) ≡ xs k j
+  x_here one each en em eu last others = x_made p l row w marks border old j one x _ _ _ (λ k i. each k i ∙ x_now p l row w j values old before k i) en em eu last others
+
+  -- those above the row, first by the values and then with the fluxes of the border above the last row
+  pub high_here : (one : List ℤ) (used : ℕ) (rest : List ℕ) → rest ≡ drop used border → used ≡ count_below (x_marked w marks) (j + 1)
+      → ((i : ℕ) → i < w → slice_index_or one i (pos 0) ≡ y_flux p l column w values i (j + 1))
+      → ((i : ℕ) → i < w → slice_index_or high i (pos 0) ≡ cond (nat_eq (j + 1) h && y_marked w h marks i) (signed (y_number p l (column + i)) (slice_index rest (count_below (y_marked w h marks) i))) (slice_index_or one i (pos 0)))
+      → (i : ℕ) → i < w → slice_index_or high i (pos 0) ≡ ys i (j + 1)
+  high_here one used rest er eu each is i k = y_made p l column w h marks border old j i used rest er eu (each i k ∙ y_now p l column w j values old before i k) (is i k)
+
+  -- what a cell of the row gets
+  pub row_total : ((k : ℕ) → k ≤ w → slice_index_or x k (pos 0) ≡ xs k j) → ((i : ℕ) → i < w → slice_index_or low i (pos 0) ≡ ys i j) → ((i : ℕ) → i < w → slice_index_or high i (pos 0) ≡ ys i (j + 1))
+      → (t : ℕ) → t < w → pos (value w values (t + 1) (j + 1)) +ℤ inflow x low high t ≡ pos (value w old (t + 1) (j + 1)) +ℤ net_inflow xs ys t j
+  row_total x_is low_is high_is t i = total_now x low high xs ys _ _ t j (later w j values old before (j + 1) (t + 1) _ (omega arith) (omega (arith, i)) refl) (x_is t (omega (arith, i))) (x_is (t + 1) (omega (arith, i))) (low_is t i) (high_is t i)

@@ -1,24 +1,27 @@
 -- What an update needs and gives, by the cells and faces of the patch.
-use Rattle.std.proofs.Common.{◌≡◌, ℕ, ◌+◌, ◌*◌, ◌^◌, ◌<◌, ◌≤◌, Bool, true, false, ℤ, pos, negsuc, ◌+ℤ◌, ◌-ℤ◌, ◌≤ℤ◌, ◌<ℤ◌, List, length, refl, sym, ap, subst, ◌∙◌, arith}
+use Rattle.std.proofs.Common.{◌≡◌, ℕ, ◌+◌, ◌*◌, ◌^◌, ◌<◌, ◌≤◌, Bool, true, false, ℤ, pos, negsuc, ◌+ℤ◌, ◌-ℤ◌, ◌≤ℤ◌, ◌<ℤ◌, List, [], length, refl, sym, ap, subst, ◌∙◌, arith}
 use Rattle.std.specs.Prelude.{IsTrue, cond, not, slice_index, slice_index_or}
 use Rattle.std.specs.Ordering.{int_eq}
 use Rattle.std.proofs.lemmas.Bool.{and_parts}
 use Rattle.std.proofs.lemmas.Int.{ints}
 use Rattle.std.proofs.lemmas.Nat.{same_from_place}
 use Rattle.amr_box.specs.declared.Cell.{Cell}
+use Rattle.amr_box.specs.declared.Face.{Face}
 use Rattle.amr_box.specs.declared.Axis.{Axis}
 use Rattle.amr_box.specs.declared.Axis.TheVariants.{X, Y}
 use Rattle.amr_box.specs.Cells.{Extent, IsNear, at_least_zero, cell, extent, height, holds, width}
 use Rattle.amr_def.specs.declared.problem.Problem.{Problem}
-use Rattle.amr_def.specs.Flux.{face, net}
+use Rattle.amr_def.specs.Flux.{Fluxes, face, net}
 use Rattle.amr_patch.specs.declared.patches.Patch.{Patch}
 use Rattle.amr_patch.specs.Places.{column_of, grown, in_frame, is_face_of, row_of}
 use Rattle.amr_patch.specs.Patches.{flux_along, mass_in, value_in}
 use Rattle.amr_patch.proofs.Rows.{inside, is_inside, sides, zero-cut}
-use Rattle.amr_flux.specs.Faces.{border_faces, fluxes_with}
+use Rattle.amr_flux.specs.Faces.{border_faces, flux_beside, fluxes_with}
 use Rattle.amr_flux.specs.Tables.{IsOtherPlace, Stands, count_below, net_inflow, value, x_marked, x_through, y_marked, y_through}
 use Rattle.amr_flux.proofs.Places.{IsAt, IsFaceAt, high_at, offset, value_here}
 use Rattle.amr_flux.proofs.Given.{border_count, x_given, y_given}
+use Rattle.amr_flux.proofs.Owned.{x_beside, y_beside}
+use Rattle.amr_flux.proofs.Throughs.{x_unmarked, y_unmarked}
 
 not_true : (b : Bool) → not b ≡ true → b ≡ false
 not_true true e = cc
@@ -75,45 +78,46 @@ mass_at q c i j at = value_here q c (i + 1) (j + 1) (high_at q.bx c.x c.y i j at
 
 -- ---- the fluxes that an update uses
 
-module _ (p : Problem) (l : ℕ) (q : Patch) (column row : ℕ) (s : Stands p l q.bx column row) (border : List ℕ) where
-  abbrev xs : ℕ → ℕ → ℤ
-  xs = x_through p l row (width q.bx) q.marks.items border q.values.items
+-- fluxes of the faces of a patch's cells, by column and row
+pub record AreFluxes (q : Patch) (e : Fluxes) (xs ys : ℕ → ℕ → ℤ) : Type 0 where
+  pub x : (x y : ℤ) (i j : ℕ) → IsFaceAt q.bx x y i j → i ≤ width q.bx → j < height q.bx → xs i j ≡ e (face X x y)
+  pub y : (x y : ℤ) (i j : ℕ) → IsFaceAt q.bx x y i j → i < width q.bx → j ≤ height q.bx → ys i j ≡ e (face Y x y)
 
-  abbrev ys : ℕ → ℕ → ℤ
-  ys = y_through p l column (width q.bx) (height q.bx) q.marks.items border q.values.items
+module _ (p : Problem) (l : ℕ) (q : Patch) (column row : ℕ) (s : Stands p l q.bx column row) where
+  -- those of border faces by the sizes handed in
+  pub given_fluxes : (border : List ℕ) → AreFluxes q (fluxes_with p l q border) (x_through p l row (width q.bx) q.marks.items border q.values.items) (y_through p l column (width q.bx) (height q.bx) q.marks.items border q.values.items)
+  given_fluxes border = record {
+    x = λ x y i j at hi hj.
+        (λ t. x_through p l row (width q.bx) q.marks.items border q.values.items (sym (offset_is q.bx.lo.x x i at.column) t) (sym (offset_is q.bx.lo.y y j at.row) t))
+        ∙ x_given p l q column row s border x y (x_is_face q.bx x y i j q.near at hi hj);
+    y = λ x y i j at hi hj.
+        (λ t. y_through p l column (width q.bx) (height q.bx) q.marks.items border q.values.items (sym (offset_is q.bx.lo.x x i at.column) t) (sym (offset_is q.bx.lo.y y j at.row) t))
+        ∙ y_given p l q column row s border x y (y_is_face q.bx x y i j q.near at hi hj);
+  }
 
-  x_at : (x y : ℤ) (i j : ℕ) → IsFaceAt q.bx x y i j → i ≤ width q.bx → j < height q.bx → xs i j ≡ fluxes_with p l q border (face X x y)
-  x_at x y i j at hi hj =
-      (λ t. xs (sym (offset_is q.bx.lo.x x i at.column) t) (sym (offset_is q.bx.lo.y y j at.row) t))
-      ∙ x_given p l q column row s border x y (x_is_face q.bx x y i j q.near at hi hj)
+  -- all by the values, where no face is marked
+  pub frame_fluxes : AreFluxes q (flux_beside p l q) (x_through p l row (width q.bx) [] [] q.values.items) (y_through p l column (width q.bx) (height q.bx) [] [] q.values.items)
+  frame_fluxes = record {
+    x = λ x y i j at hi hj. x_unmarked p l row (width q.bx) [] q.values.items i j ∙ x_beside p l q column row s x y i j at hj;
+    y = λ x y i j at hi hj. y_unmarked p l column (width q.bx) [] q.values.items i j (height q.bx) ∙ y_beside p l q column row s x y i j at hi;
+  }
 
-  y_at : (x y : ℤ) (i j : ℕ) → IsFaceAt q.bx x y i j → i < width q.bx → j ≤ height q.bx → ys i j ≡ fluxes_with p l q border (face Y x y)
-  y_at x y i j at hi hj =
-      (λ t. ys (sym (offset_is q.bx.lo.x x i at.column) t) (sym (offset_is q.bx.lo.y y j at.row) t))
-      ∙ y_given p l q column row s border x y (y_is_face q.bx x y i j q.near at hi hj)
-
-  pub net_at : (c : Cell) (i j : ℕ) → IsFaceAt q.bx c.x c.y i j → i < width q.bx → j < height q.bx → net_inflow xs ys i j ≡ net (fluxes_with p l q border) c
+module _ (q : Patch) (e : Fluxes) (xs ys : ℕ → ℕ → ℤ) (are : AreFluxes q e xs ys) where
+  pub net_at : (c : Cell) (i j : ℕ) → IsFaceAt q.bx c.x c.y i j → i < width q.bx → j < height q.bx → net_inflow xs ys i j ≡ net e c
   unfolding net
   net_at c i j at hi hj =
-      let west = x_at c.x c.y i j at (omega arith) hj in
-      let east = x_at (c.x +ℤ pos 1) c.y (i + 1) j (record { column = omega (arith, ints, at.column); row = at.row }) (omega arith) hj in
-      let south = y_at c.x c.y i j at hi (omega arith) in
-      let north = y_at c.x (c.y +ℤ pos 1) i (j + 1) (record { column = at.column; row = omega (arith, ints, at.row) }) hi (omega arith) in
+      let west = are.x c.x c.y i j at (omega arith) hj in
+      let east = are.x (c.x +ℤ pos 1) c.y (i + 1) j (record { column = omega (arith, ints, at.column); row = at.row }) (omega arith) hj in
+      let south = are.y c.x c.y i j at hi (omega arith) in
+      let north = are.y c.x (c.y +ℤ pos 1) i (j + 1) (record { column = at.column; row = omega (arith, ints, at.row) }) hi (omega arith) in
       λ t. (west t -ℤ east t) +ℤ (south t -ℤ north t)
 
-  pub kept_at : ((c : Cell) → IsTrue (holds q.bx c) → pos 0 ≤ℤ (pos (mass_in q c) +ℤ net (fluxes_with p l q border) c)) → (i j : ℕ) → i < width q.bx → j < height q.bx → pos 0 ≤ℤ (pos (value (width q.bx) q.values.items (i + 1) (j + 1)) +ℤ net_inflow xs ys i j)
-  kept_at kept i j hi hj =
+  -- a fact on the new mass of each cell, by column and row
+  pub each_at : (P : ℤ → Type 0) → ((c : Cell) → IsTrue (holds q.bx c) → P (pos (mass_in q c) +ℤ net e c)) → (i j : ℕ) → i < width q.bx → j < height q.bx → P (pos (value (width q.bx) q.values.items (i + 1) (j + 1)) +ℤ net_inflow xs ys i j)
+  each_at P each i j hi hj =
       let c = cell (q.bx.lo.x +ℤ pos i) (q.bx.lo.y +ℤ pos j) in
       let f = face_at q.bx i j in
-      let P : ℤ → Type 0 = λ z. pos 0 ≤ℤ z in
-      subst P (λ t. pos (mass_at q c i j f t) +ℤ sym (net_at c i j f hi hj) t) (kept c (of_cell q.bx i j q.near hi hj))
-
-  pub fits_at : ((c : Cell) → IsTrue (holds q.bx c) → (pos (mass_in q c) +ℤ net (fluxes_with p l q border) c) <ℤ pos (2 ^ 32)) → (i j : ℕ) → i < width q.bx → j < height q.bx → (pos (value (width q.bx) q.values.items (i + 1) (j + 1)) +ℤ net_inflow xs ys i j) <ℤ pos (2 ^ 32)
-  fits_at fits i j hi hj =
-      let c = cell (q.bx.lo.x +ℤ pos i) (q.bx.lo.y +ℤ pos j) in
-      let f = face_at q.bx i j in
-      let P : ℤ → Type 0 = λ z. z <ℤ pos (2 ^ 32) in
-      subst P (λ t. pos (mass_at q c i j f t) +ℤ sym (net_at c i j f hi hj) t) (fits c (of_cell q.bx i j q.near hi hj))
+      subst P (λ t. pos (mass_at q c i j f t) +ℤ sym (net_at c i j f hi hj) t) (each c (of_cell q.bx i j q.near hi hj))
 
   -- the new values
   module _ (new : Patch) (same : new.bx ≡ q.bx) (vs : List ℕ) (vs_is : new.values.items ≡ vs) where
@@ -122,9 +126,9 @@ module _ (p : Problem) (l : ℕ) (q : Patch) (column row : ℕ) (s : Stands p l 
         let P : Extent → Type 0 = λ b. IsAt b c i j in
         value_here new c i j (subst P (sym same) at) ∙ (λ t. value (width (same t)) (vs_is t) i j)
 
-    pub masses_are : ((i j : ℕ) → i < width q.bx → j < height q.bx → pos (value (width q.bx) vs (i + 1) (j + 1)) ≡ pos (value (width q.bx) q.values.items (i + 1) (j + 1)) +ℤ net_inflow xs ys i j) → (c : Cell) → IsTrue (holds q.bx c) → pos (mass_in new c) ≡ pos (mass_in q c) +ℤ net (fluxes_with p l q border) c
-    masses_are made c e =
-        let k = cell_of q.bx c q.near e in
+    pub masses_are : ((i j : ℕ) → i < width q.bx → j < height q.bx → pos (value (width q.bx) vs (i + 1) (j + 1)) ≡ pos (value (width q.bx) q.values.items (i + 1) (j + 1)) +ℤ net_inflow xs ys i j) → (c : Cell) → IsTrue (holds q.bx c) → pos (mass_in new c) ≡ pos (mass_in q c) +ℤ net e c
+    masses_are made c h =
+        let k = cell_of q.bx c q.near h in
         let i = offset q.bx.lo.x c.x in
         let j = offset q.bx.lo.y c.y in
         ap pos (new_value c (i + 1) (j + 1) (high_at q.bx c.x c.y i j k.at)) ∙ made i j k.column k.row

@@ -12,7 +12,7 @@ ghost use Rattle.amr_flux.specs.Rooms.{widest};
 use crate::room::Room;
 use crate::shape::shape_of;
 use crate::x_faces::{high_fluxes, low_fluxes};
-use crate::y_faces::{top_fluxes, y_row};
+use crate::y_faces::{set_shares, top_fluxes, y_row};
 use amr_def::Problem;
 use amr_patch::Patch;
 
@@ -35,6 +35,15 @@ pub fn sweep(p: &Problem, l: u32, patch: &mut Patch, room: &mut Room)
     room.y_share = shape.y;
     low_fluxes(p, shape, &patch.values, &mut patch.x_low);
     high_fluxes(p, shape, &patch.values, &patch.marks, &mut patch.x_high);
-    y_row(p, shape, &patch.values, 0, &mut patch.y_low);
-    top_fluxes(p, shape, &patch.values, &patch.marks, &mut patch.y_high);
+    set_shares(p, shape, &mut room.shares);
+    let shares = &room.shares;
+    y_row(p, shape, &patch.values, 0, shares, &mut patch.y_low);
+    top_fluxes(
+        p,
+        shape,
+        &patch.values,
+        &patch.marks,
+        shares,
+        &mut patch.y_high,
+    );
 }

@@ -7,8 +7,7 @@ use amr_causes::NoMemory;
 use std::alloc::Global;
 
 /// Room for the fluxes through the faces of one row of cells, and the shares at the Courant numbers that were used last. It is
-/// made once and serves all patches that are no wider, so that no step takes memory, and none makes a division where one Courant
-/// number holds everywhere.
+/// made once and serves all patches that are no wider, so that no step takes memory, and none makes a division for each face.
 #[derive(Drop)]
 pub struct Room {
     pub(crate) x_share: Share,
@@ -19,8 +18,11 @@ pub struct Room {
     pub(crate) low: Vec<i32>,
     /// Through the y faces at the high side of the row.
     pub(crate) high: Vec<i32>,
+    /// The shares at the Courant numbers of the columns that were worked on last, where each column has its own.
+    pub(crate) shares: Vec<Share>,
     pub ghost x_count: { length x.items ≡ length low.items + 1 },
     pub ghost high_count: { length high.items ≡ length low.items },
+    pub ghost share_count: { length shares.items ≡ length low.items },
 }
 
 #[tactic(auto, unfolding(crate::specs::Rooms::widest))]
@@ -36,12 +38,14 @@ impl Room {
         let x = vec![in alloc; 0i32; columns + 1]?;
         let low = vec![in alloc; 0i32; columns]?;
         let high = vec![in alloc; 0i32; columns]?;
+        let shares = vec![in alloc; Share::make(0, 1); columns]?;
         Ok(Room {
             x_share: Share::make(0, 1),
             y_share: Share::make(0, 1),
             x,
             low,
             high,
+            shares,
         })
     }
 }

@@ -1,11 +1,14 @@
 //! Fluxes and new masses, a row at a time.
 
-ghost use Rattle.std.specs.Prelude.{◌≡◌, ◌≢◌, neg_ℤ, ℕ, ◌+◌, ◌*◌, ◌<◌, length, slice_index, slice_index_or, pos, negsuc, ◌+ℤ◌, ◌-ℤ◌, ◌≤ℤ◌, ◌<ℤ◌, ◌^◌};
+ghost use Rattle.std.specs.Prelude.{◌≡◌, ◌≢◌, neg_ℤ, ℕ, ◌+◌, ◌*◌, ◌<◌, ◌≤◌, length, slice_index, slice_index_or, pos, negsuc, ◌+ℤ◌, ◌-ℤ◌, ◌≤ℤ◌, ◌<ℤ◌, ◌^◌};
 ghost use Rattle.amr_def.specs.Flux.{flow};
+ghost use Rattle.amr_flux.specs.Rooms.{widest};
 ghost use Rattle.amr_flux.specs.Rows.{AreSmallFlows, inflow};
 ghost use Rattle.amr_flux.specs.Shares.{AreSmall, share_of};
 ghost use Rattle.amr_flux.specs.Tables.{value};
 
+use crate::room::Room;
+use crate::shape::Shape;
 use crate::share::Share;
 
 /// The sizes of the flows out of these cells, place by place.
@@ -96,26 +99,23 @@ pub(crate) fn update_row(masses: &mut [u32], x: &[i32], low: &[i32], high: &[i32
     }
 }
 
-/// Makes the new masses of row `j` of a patch, all else stays.
-pub(crate) fn update_patch_row(
-    w: usize,
-    h: usize,
-    j: usize,
-    values: &mut [u32],
-    x: &[i32],
-    low: &[i32],
-    high: &[i32],
-)
-    requires value_count { length values.old ≡ (h + 2) * (w + 2) }
-    requires row { j < h }
-    requires x_count { length x.now ≡ w + 1 }
-    requires low_count { length low.now ≡ w }
-    requires high_count { length high.now ≡ w }
-    requires kept { (i : ℕ) → i < w → pos 0 ≤ℤ (pos (value w values.old (i + 1) (j + 1)) +ℤ inflow x.now low.now high.now i) }
-    requires fits { (i : ℕ) → i < w → (pos (value w values.old (i + 1) (j + 1)) +ℤ inflow x.now low.now high.now i) <ℤ pos (2 ^ 32) }
-    ensures made { (i : ℕ) → i < w → pos (value w values.new (i + 1) (j + 1)) ≡ pos (value w values.old (i + 1) (j + 1)) +ℤ inflow x.now low.now high.now i }
-    ensures others { (k : ℕ) → ((i : ℕ) → i < w → k ≢ (j + 1) * (w + 2) + (i + 1)) → slice_index values.new k ≡ slice_index values.old k }
+/// Makes the new masses of row `j` of a patch by the fluxes in the room, all else stays.
+#[tactic(auto, unfolding(crate::specs::Rooms::widest))]
+pub(crate) fn update_patch_row(shape: Shape, j: usize, values: &mut [u32], room: &Room)
+    requires value_count { length values.old ≡ (shape.h + 2) * (shape.w + 2) }
+    requires row { j < shape.h }
+    requires room { shape.w ≤ widest room.now }
+    requires kept { (i : ℕ) → i < shape.w → pos 0 ≤ℤ (pos (value shape.w values.old (i + 1) (j + 1)) +ℤ inflow room.now.x.items room.now.low.items room.now.high.items i) }
+    requires fits { (i : ℕ) → i < shape.w → (pos (value shape.w values.old (i + 1) (j + 1)) +ℤ inflow room.now.x.items room.now.low.items room.now.high.items i) <ℤ pos (2 ^ 32) }
+    ensures made { (i : ℕ) → i < shape.w → pos (value shape.w values.new (i + 1) (j + 1)) ≡ pos (value shape.w values.old (i + 1) (j + 1)) +ℤ inflow room.now.x.items room.now.low.items room.now.high.items i }
+    ensures others { (k : ℕ) → ((i : ℕ) → i < shape.w → k ≢ (j + 1) * (shape.w + 2) + (i + 1)) → slice_index values.new k ≡ slice_index values.old k }
 {
+    let w = shape.w;
     let from = (j + 1) * (w + 2) + 1;
-    update_row(&mut values[from..from + w], x, low, high);
+    update_row(
+        &mut values[from..from + w],
+        &room.x[..w + 1],
+        &room.low[..w],
+        &room.high[..w],
+    );
 }

@@ -2,38 +2,35 @@
 
 ghost use Rattle.std.specs.Prelude.{◌≡◌, ℕ, ◌+◌, ◌*◌, ◌<◌, ◌≤◌, ◌^◌, pos, ◌+ℤ◌, ◌≤ℤ◌, ◌<ℤ◌, length, slice_index};
 ghost use Rattle.amr_def.specs.Domain.{columns, rows};
+ghost use Rattle.amr_flux.specs.Rooms.{widest};
 ghost use Rattle.amr_flux.specs.Shares.{AreSmall};
 ghost use Rattle.amr_flux.specs.Tables.{AreXSmall, AreYSmall, IsOtherPlace, count_below, net_inflow, value, x_marked, x_through, y_marked, y_through};
 
+use crate::room::Room;
 use crate::rows::update_patch_row;
 use crate::shape::Shape;
 use crate::x_faces::{is_end_marked, set_end, x_row};
-use crate::y_faces::{set_top, y_row};
+use crate::y_faces::{set_shares, set_top, y_row};
 use amr_def::Problem;
 
 /// Gives each cell of a patch what comes in through its faces: by the values on their two sides, and for border faces by the sizes
-/// handed in. All is worked out and used row by row, in one pass over the masses; `x`, `low` and `high` are room for the fluxes
-/// through the faces of a row.
-#[tactic(auto, using(crate::proofs::Numbers::x_slow))]
+/// handed in. All is worked out and used row by row, in one pass over the masses. Where there are no marks, no face is a border
+/// face, and all fluxes follow from the values.
+#[tactic(auto, using(crate::proofs::Numbers::x_slow), unfolding(crate::specs::Rooms::widest))]
 pub(crate) fn update_rows(
     p: &Problem,
     shape: Shape,
     values: &mut [u32],
     marks: &[bool],
     border: &[u32],
-    x: &mut [i32],
-    low: &mut [i32],
-    high: &mut [i32],
+    room: &mut Room,
 )
     requires level { shape.level ≤ 4 }
     requires columns_inside { shape.column + shape.w ≤ columns p.now shape.level }
     requires rows_inside { shape.row + shape.h ≤ rows p.now shape.level }
     requires value_count { length values.old ≡ (shape.h + 2) * (shape.w + 2) }
-    requires mark_count { length marks.now ≡ (shape.h + 2) * (shape.w + 2) }
     requires some { 0 < shape.h }
-    requires x_count { length x.old ≡ shape.w + 1 }
-    requires low_count { length low.old ≡ shape.w }
-    requires high_count { length high.old ≡ shape.w }
+    requires room { shape.w ≤ widest room.old }
     requires enough { count_below (x_marked shape.w marks.now) shape.h + count_below (y_marked shape.w shape.h marks.now) shape.w ≤ length border.now }
     requires border_small { AreSmall border.now }
     requires x_small { AreXSmall shape.w shape.h values.old }
@@ -42,59 +39,20 @@ pub(crate) fn update_rows(
     requires fits { (i j : ℕ) → i < shape.w → j < shape.h → (pos (value shape.w values.old (i + 1) (j + 1)) +ℤ net_inflow (x_through p.now shape.level shape.row shape.w marks.now border.now values.old) (y_through p.now shape.level shape.column shape.w shape.h marks.now border.now values.old) i j) <ℤ pos (2 ^ 32) }
     ensures made { (i j : ℕ) → i < shape.w → j < shape.h → pos (value shape.w values.new (i + 1) (j + 1)) ≡ pos (value shape.w values.old (i + 1) (j + 1)) +ℤ net_inflow (x_through p.now shape.level shape.row shape.w marks.now border.now values.old) (y_through p.now shape.level shape.column shape.w shape.h marks.now border.now values.old) i j }
     ensures others { (k : ℕ) → IsOtherPlace shape.w shape.h k → slice_index values.new k ≡ slice_index values.old k }
+    ensures room { widest room.new ≡ widest room.old }
 {
-    y_row(p, shape, values, 0, low);
+    set_shares(p, shape, &mut room.shares);
+    y_row(p, shape, values, 0, &room.shares, &mut room.low);
     let mut share = shape.x;
     let mut used = 0;
     for j in 0..shape.h {
         share = share.with(p.x_courant(shape.level, shape.row + j as u32), p.d);
-        x_row(p, shape, share, values, j, x);
+        x_row(p, shape, share, values, j, &mut room.x);
         let marked = is_end_marked(shape, marks, j);
-        used = set_end(share.number, marked, border, used, x);
-        y_row(p, shape, values, j + 1, high);
-        set_top(p, shape, j, marks, &border[used..], high);
-        update_patch_row(shape.w, shape.h, j, values, x, low, high);
-        low.copy_from_slice(high);
+        used = set_end(share.number, marked, border, used, shape.w, &mut room.x);
+        y_row(p, shape, values, j + 1, &room.shares, &mut room.high);
+        set_top(p, shape, j, marks, &border[used..], &mut room.high);
+        update_patch_row(shape, j, values, room);
+        std::mem::swap(&mut room.low, &mut room.high);
     }
-}
-
-/// The same, with room for the fluxes of a row that may be longer.
-pub(crate) fn update_in_lists(
-    p: &Problem,
-    shape: Shape,
-    values: &mut [u32],
-    marks: &[bool],
-    border: &[u32],
-    x: &mut [i32],
-    low: &mut [i32],
-    high: &mut [i32],
-)
-    requires level { shape.level ≤ 4 }
-    requires columns_inside { shape.column + shape.w ≤ columns p.now shape.level }
-    requires rows_inside { shape.row + shape.h ≤ rows p.now shape.level }
-    requires value_count { length values.old ≡ (shape.h + 2) * (shape.w + 2) }
-    requires mark_count { length marks.now ≡ (shape.h + 2) * (shape.w + 2) }
-    requires some { 0 < shape.h }
-    requires x_room { shape.w + 1 ≤ length x.old }
-    requires low_room { shape.w ≤ length low.old }
-    requires high_room { shape.w ≤ length high.old }
-    requires enough { count_below (x_marked shape.w marks.now) shape.h + count_below (y_marked shape.w shape.h marks.now) shape.w ≤ length border.now }
-    requires border_small { AreSmall border.now }
-    requires x_small { AreXSmall shape.w shape.h values.old }
-    requires y_small { AreYSmall shape.w shape.h values.old }
-    requires kept { (i j : ℕ) → i < shape.w → j < shape.h → pos 0 ≤ℤ (pos (value shape.w values.old (i + 1) (j + 1)) +ℤ net_inflow (x_through p.now shape.level shape.row shape.w marks.now border.now values.old) (y_through p.now shape.level shape.column shape.w shape.h marks.now border.now values.old) i j) }
-    requires fits { (i j : ℕ) → i < shape.w → j < shape.h → (pos (value shape.w values.old (i + 1) (j + 1)) +ℤ net_inflow (x_through p.now shape.level shape.row shape.w marks.now border.now values.old) (y_through p.now shape.level shape.column shape.w shape.h marks.now border.now values.old) i j) <ℤ pos (2 ^ 32) }
-    ensures made { (i j : ℕ) → i < shape.w → j < shape.h → pos (value shape.w values.new (i + 1) (j + 1)) ≡ pos (value shape.w values.old (i + 1) (j + 1)) +ℤ net_inflow (x_through p.now shape.level shape.row shape.w marks.now border.now values.old) (y_through p.now shape.level shape.column shape.w shape.h marks.now border.now values.old) i j }
-    ensures others { (k : ℕ) → IsOtherPlace shape.w shape.h k → slice_index values.new k ≡ slice_index values.old k }
-{
-    update_rows(
-        p,
-        shape,
-        values,
-        marks,
-        border,
-        &mut x[..shape.w + 1],
-        &mut low[..shape.w],
-        &mut high[..shape.w],
-    );
 }

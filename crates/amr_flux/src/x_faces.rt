@@ -1,6 +1,6 @@
 //! The fluxes through the x faces at the two ends of a patch's rows.
 
-ghost use Rattle.std.specs.Prelude.{◌≡◌, ℕ, ◌+◌, ◌*◌, ◌≤◌, ◌<◌, cond, false, true, ◌-◌, length, pos, slice_index, slice_index_or, unsigned_abs};
+ghost use Rattle.std.specs.Prelude.{◌≡◌, ◌≢◌, ℕ, ◌^◌, ◌+◌, ◌*◌, ◌≤◌, ◌<◌, cond, false, true, length, pos, slice_index, slice_index_or, unsigned_abs};
 ghost use Rattle.amr_def.specs.Domain.{rows};
 ghost use Rattle.amr_def.specs.Flux.{flow};
 ghost use Rattle.amr_flux.specs.Rows.{signed};
@@ -68,7 +68,7 @@ pub(crate) fn high_fluxes(
     }
 }
 
-/// The fluxes through the x faces of row `j`, by the values on their two sides.
+/// The fluxes through the x faces of row `j`, by the values on their two sides, from the first flux on.
 pub(crate) fn x_row(
     p: &Problem,
     shape: Shape,
@@ -80,7 +80,7 @@ pub(crate) fn x_row(
     requires number { share.number ≡ x_number p.now shape.level (shape.row + j) }
     requires parts { share.parts ≡ p.now.d }
     requires value_count { length values.now ≡ (shape.h + 2) * (shape.w + 2) }
-    requires flux_count { length fluxes.old ≡ shape.w + 1 }
+    requires flux_count { shape.w + 1 ≤ length fluxes.old }
     requires row { j < shape.h }
     requires small { (i : ℕ) → i < shape.w + 2 → value shape.w values.now i (j + 1) < 2147483648 }
     ensures { (i : ℕ) → i < shape.w + 1 → slice_index_or fluxes.new i (pos 0) ≡ x_flux p.now shape.level shape.row shape.w values.now i j }
@@ -90,39 +90,49 @@ pub(crate) fn x_row(
         share,
         &values[at..at + shape.w + 1],
         &values[at + 1..at + shape.w + 2],
-        fluxes,
+        &mut fluxes[0..shape.w + 1],
     );
+}
+
+/// Whether a cell is marked, by its place; none is where there are no marks.
+pub(crate) fn is_marked(marks: &[bool], at: usize) -> bool
+    ensures { result ≡ slice_index_or marks.now at false }
+{
+    if at < marks.len() {
+        return marks[at];
+    }
+    false
 }
 
 /// Whether the cell beyond row `j` is marked as one of the level.
 pub(crate) fn is_end_marked(shape: Shape, marks: &[bool], j: usize) -> bool
-    requires mark_count { length marks.now ≡ (shape.h + 2) * (shape.w + 2) }
+    requires few { (shape.h + 2) * (shape.w + 2) < 2 ^ 63 }
     requires row { j < shape.h }
     ensures { result ≡ x_marked shape.w marks.now j }
 {
     let at = (j + 1) * (shape.w + 2);
-    marks[at + (shape.w + 1)]
+    is_marked(marks, at + (shape.w + 1))
 }
 
-/// Gives the last of a row's faces, if it is marked as a border face, its flux by the size at place `used`. Answers how many
+/// Gives the last face of a row, where it is marked as a border face, its flux by the size at place `used`. Answers how many
 /// sizes are used then.
 pub(crate) fn set_end(
     number: i32,
     marked: bool,
     border: &[u32],
     used: usize,
+    last: usize,
     fluxes: &mut [i32],
 ) -> usize
-    requires some { 0 < length fluxes.old }
+    requires inside { last < length fluxes.old }
     requires enough { used + cond marked 1 0 ≤ length border.now }
     requires small { AreSmall border.now }
     ensures count { result ≡ used + cond marked 1 0 }
     ensures within { result ≤ length border.now }
-    ensures last { slice_index_or fluxes.new (length fluxes.old - 1) (pos 0) ≡ cond marked (signed number (slice_index border.now used)) (slice_index_or fluxes.old (length fluxes.old - 1) (pos 0)) }
-    ensures others { (k : ℕ) → k + 1 < length fluxes.old → slice_index_or fluxes.new k (pos 0) ≡ slice_index_or fluxes.old k (pos 0) }
+    ensures last { slice_index_or fluxes.new last (pos 0) ≡ cond marked (signed number (slice_index border.now used)) (slice_index_or fluxes.old last (pos 0)) }
+    ensures others { (k : ℕ) → k ≢ last → slice_index_or fluxes.new k (pos 0) ≡ slice_index_or fluxes.old k (pos 0) }
 {
     if marked {
-        let last = fluxes.len() - 1;
         fluxes[last] = signed_flux(number, border[used]);
         return used + 1;
     }

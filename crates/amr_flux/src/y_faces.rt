@@ -1,37 +1,51 @@
 //! The fluxes through rows of y faces.
 
-ghost use Rattle.std.specs.Prelude.{◌≡◌, ℕ, ◌+◌, ◌*◌, ◌≤◌, ◌<◌, Bool, ◌&&◌, cond, nat_eq, false, true, length, pos, slice_index, slice_index_or, unsigned_abs};
+ghost use Rattle.std.specs.Prelude.{◌≡◌, ℕ, ◌+◌, ◌*◌, ◌≤◌, ◌<◌, ◌^◌, Bool, ◌&&◌, cond, nat_eq, false, true, length, pos, slice_index, slice_index_or, unsigned_abs};
 ghost use Rattle.amr_def.specs.Domain.{columns};
 ghost use Rattle.amr_def.specs.Flux.{flow};
 ghost use Rattle.amr_flux.specs.Rows.{signed};
 ghost use Rattle.amr_flux.specs.Shares.{AreSmall};
-ghost use Rattle.amr_flux.specs.Tables.{AreYSmall, count_below, marked_below, value, y_flux, y_marked, y_number};
+ghost use Rattle.amr_flux.specs.Tables.{AreYSmall, count_below, value, y_flux, y_marked, y_number};
 
 use crate::rows::face_fluxes;
-use crate::shape::Shape;
+use crate::shape::{Shape, y_share};
 use crate::share::Share;
+use crate::x_faces::is_marked;
 use amr_def::Problem;
 
-/// How many columns of level `l` from this one on have its Courant number, of `rest` columns that there are.
-fn alike(p: &Problem, l: u32, column: u32, rest: usize) -> usize
-    requires level { l ≤ 4 }
-    requires inside { column + rest ≤ columns p.now l }
-    requires some { 0 < rest }
-    ensures some { 0 < result }
-    ensures within { result ≤ rest }
-    ensures same { (k : ℕ) → k < result → y_number p.now l (column + k) ≡ y_number p.now l column }
-{
-    if p.shear_y.entries().is_empty() {
-        return rest;
+/// The share that is kept at a place, or another where none is.
+fn share_at(shares: &[Share], i: usize, other: Share) -> Share {
+    if i < shares.len() {
+        return shares[i];
     }
-    let width = 1u32 << l;
-    let left = (width - column % width) as usize;
-    left.min(rest)
+    other
 }
 
-/// The fluxes through the y faces between two rows of cells of a patch.
+/// Makes the shares at the Courant numbers of a patch's columns, where each column has its own; those that it has are kept.
 #[tactic(auto, using(crate::proofs::Numbers::y_slow))]
-pub(crate) fn y_fluxes(p: &Problem, shape: Shape, low: &[u32], high: &[u32], fluxes: &mut [i32])
+pub(crate) fn set_shares(p: &Problem, shape: Shape, shares: &mut [Share])
+    requires level { shape.level ≤ 4 }
+    requires inside { shape.column + shape.w ≤ columns p.now shape.level }
+{
+    if p.shear_y.entries().is_empty() {
+        return;
+    }
+    for i in 0..shape.w.min(shares.len()) {
+        shares[i] = shares[i].with(p.y_courant(shape.level, shape.column + i as u32), p.d);
+    }
+}
+
+/// The fluxes through the y faces between two rows of cells of a patch. No division is made where the shares are those of the
+/// columns.
+#[tactic(auto, using(crate::proofs::Numbers::y_slow))]
+pub(crate) fn y_fluxes(
+    p: &Problem,
+    shape: Shape,
+    low: &[u32],
+    high: &[u32],
+    shares: &[Share],
+    fluxes: &mut [i32],
+)
     requires level { shape.level ≤ 4 }
     requires inside { shape.column + length fluxes.old ≤ columns p.now shape.level }
     requires low_count { length low.now ≡ length fluxes.old }
@@ -40,57 +54,31 @@ pub(crate) fn y_fluxes(p: &Problem, shape: Shape, low: &[u32], high: &[u32], flu
     requires high_small { AreSmall high.now }
     ensures { (i : ℕ) → i < length fluxes.old → slice_index_or fluxes.new i (pos 0) ≡ flow (y_number p.now shape.level (shape.column + i)) p.now.d (slice_index low.now i) (slice_index high.now i) }
 {
-    let mut share = shape.y;
-    let mut from = 0;
-    while from < fluxes.len() {
-        let column = shape.column + from as u32;
-        share = share.with(p.y_courant(shape.level, column), p.d);
-        let to = from + alike(p, shape.level, column, fluxes.len() - from);
-        face_fluxes(
-            share,
-            &low[from..to],
-            &high[from..to],
-            &mut fluxes[from..to],
-        );
-        from = to;
+    if p.shear_y.entries().is_empty() {
+        face_fluxes(shape.y.with(p.cy, p.d), low, high, fluxes);
+        return;
+    }
+    for i in 0..fluxes.len() {
+        let last = share_at(shares, i, shape.y);
+        let share = last.with(p.y_courant(shape.level, shape.column + i as u32), p.d);
+        fluxes[i] = share.flow(low[i], high[i]);
     }
 }
 
-/// The fluxes through the y faces between two rows of cells, where the cell on the high side is not marked.
-#[tactic(auto, using(crate::proofs::Numbers::y_slow))]
-fn unmarked_fluxes(
+/// The fluxes through the y faces at the low side of the cells of row `j`, which may be the row beyond the last, from the first
+/// flux on.
+pub(crate) fn y_row(
     p: &Problem,
     shape: Shape,
-    low: &[u32],
-    high: &[u32],
-    marks: &[bool],
+    values: &[u32],
+    j: usize,
+    shares: &[Share],
     fluxes: &mut [i32],
 )
     requires level { shape.level ≤ 4 }
-    requires inside { shape.column + length fluxes.old ≤ columns p.now shape.level }
-    requires low_count { length low.now ≡ length fluxes.old }
-    requires high_count { length high.now ≡ length fluxes.old }
-    requires mark_count { length marks.now ≡ length fluxes.old }
-    requires low_small { AreSmall low.now }
-    requires high_small { AreSmall high.now }
-    ensures made { (i : ℕ) → i < length fluxes.old → slice_index_or marks.now i false ≡ false → slice_index_or fluxes.new i (pos 0) ≡ flow (y_number p.now shape.level (shape.column + i)) p.now.d (slice_index low.now i) (slice_index high.now i) }
-    ensures others { (i : ℕ) → slice_index_or marks.now i false ≡ true → slice_index_or fluxes.new i (pos 0) ≡ slice_index_or fluxes.old i (pos 0) }
-{
-    let mut share = shape.y;
-    for i in 0..fluxes.len() {
-        if !marks[i] {
-            share = share.with(p.y_courant(shape.level, shape.column + i as u32), p.d);
-            fluxes[i] = share.flow(low[i], high[i]);
-        }
-    }
-}
-
-/// The fluxes through the y faces at the low side of the cells of row `j`, which may be the row beyond the last.
-pub(crate) fn y_row(p: &Problem, shape: Shape, values: &[u32], j: usize, fluxes: &mut [i32])
-    requires level { shape.level ≤ 4 }
     requires inside { shape.column + shape.w ≤ columns p.now shape.level }
     requires value_count { length values.now ≡ (shape.h + 2) * (shape.w + 2) }
-    requires flux_count { length fluxes.old ≡ shape.w }
+    requires flux_count { shape.w ≤ length fluxes.old }
     requires row { j ≤ shape.h }
     requires low_small { (i : ℕ) → i < shape.w → value shape.w values.now (i + 1) j < 2147483648 }
     requires high_small { (i : ℕ) → i < shape.w → value shape.w values.now (i + 1) (j + 1) < 2147483648 }
@@ -103,47 +91,46 @@ pub(crate) fn y_row(p: &Problem, shape: Shape, values: &[u32], j: usize, fluxes:
         shape,
         &values[low..low + shape.w],
         &values[high..high + shape.w],
-        fluxes,
+        shares,
+        &mut fluxes[0..shape.w],
     );
 }
 
 /// The fluxes through the y faces at the high side of a patch, where the cell beyond is not marked.
+#[tactic(auto, using(crate::proofs::Numbers::y_slow))]
 pub(crate) fn top_fluxes(
     p: &Problem,
     shape: Shape,
     values: &[u32],
     marks: &[bool],
+    shares: &[Share],
     fluxes: &mut [i32],
 )
     requires level { shape.level ≤ 4 }
     requires inside { shape.column + shape.w ≤ columns p.now shape.level }
     requires value_count { length values.now ≡ (shape.h + 2) * (shape.w + 2) }
-    requires mark_count { length marks.now ≡ (shape.h + 2) * (shape.w + 2) }
     requires flux_count { length fluxes.old ≡ shape.w }
     requires small { AreYSmall shape.w shape.h values.now }
     ensures made { (i : ℕ) → i < shape.w → y_marked shape.w shape.h marks.now i ≡ false → slice_index_or fluxes.new i (pos 0) ≡ y_flux p.now shape.level shape.column shape.w values.now i shape.h }
     ensures others { (i : ℕ) → i < shape.w → y_marked shape.w shape.h marks.now i ≡ true → slice_index_or fluxes.new i (pos 0) ≡ slice_index_or fluxes.old i (pos 0) }
 {
-    let low = shape.h * (shape.w + 2) + 1;
-    let high = (shape.h + 1) * (shape.w + 2) + 1;
-    unmarked_fluxes(
-        p,
-        shape,
-        &values[low..low + shape.w],
-        &values[high..high + shape.w],
-        &marks[high..high + shape.w],
-        fluxes,
-    );
+    for i in 0..fluxes.len() {
+        if !is_top_marked(shape, marks, i) {
+            let last = share_at(shares, i, shape.y);
+            let share = y_share(p, shape.level, shape.column + i as u32, last);
+            fluxes[i] = top_flux(shape, share, values, i);
+        }
+    }
 }
 
 /// Whether the cell beyond column `i` is marked as one of the level.
 pub(crate) fn is_top_marked(shape: Shape, marks: &[bool], i: usize) -> bool
-    requires mark_count { length marks.now ≡ (shape.h + 2) * (shape.w + 2) }
+    requires few { (shape.h + 2) * (shape.w + 2) < 2 ^ 63 }
     requires column { i < shape.w }
     ensures { result ≡ y_marked shape.w shape.h marks.now i }
 {
     let at = (shape.h + 1) * (shape.w + 2);
-    marks[at + (i + 1)]
+    is_marked(marks, at + (i + 1))
 }
 
 /// The flux through the y face at the high side of column `i`.
@@ -171,25 +158,20 @@ pub(crate) fn signed_flux(number: i32, size: u32) -> i32
     }
 }
 
-/// Gives the marked ones of a row of y faces their fluxes, by sizes that are handed in for them.
-pub(crate) fn set_marked(
-    p: &Problem,
-    shape: Shape,
-    marks: &[bool],
-    border: &[u32],
-    fluxes: &mut [i32],
-)
+/// Gives the marked ones of the y faces at the high side of a patch their fluxes, by sizes that are handed in for them.
+fn set_marked(p: &Problem, shape: Shape, marks: &[bool], border: &[u32], fluxes: &mut [i32])
     requires level { shape.level ≤ 4 }
-    requires inside { shape.column + length fluxes.old ≤ columns p.now shape.level }
-    requires mark_count { length marks.now ≡ length fluxes.old }
-    requires enough { marked_below marks.now (length fluxes.old) ≤ length border.now }
+    requires inside { shape.column + shape.w ≤ columns p.now shape.level }
+    requires few { (shape.h + 2) * (shape.w + 2) < 2 ^ 63 }
+    requires flux_count { shape.w ≤ length fluxes.old }
+    requires enough { count_below (y_marked shape.w shape.h marks.now) shape.w ≤ length border.now }
     requires small { AreSmall border.now }
-    ensures made { (i : ℕ) → i < length fluxes.old → slice_index_or marks.now i false ≡ true → slice_index_or fluxes.new i (pos 0) ≡ signed (y_number p.now shape.level (shape.column + i)) (slice_index border.now (marked_below marks.now i)) }
-    ensures others { (i : ℕ) → slice_index_or marks.now i false ≡ false → slice_index_or fluxes.new i (pos 0) ≡ slice_index_or fluxes.old i (pos 0) }
+    ensures made { (i : ℕ) → i < shape.w → y_marked shape.w shape.h marks.now i ≡ true → slice_index_or fluxes.new i (pos 0) ≡ signed (y_number p.now shape.level (shape.column + i)) (slice_index border.now (count_below (y_marked shape.w shape.h marks.now) i)) }
+    ensures others { (i : ℕ) → y_marked shape.w shape.h marks.now i ≡ false → slice_index_or fluxes.new i (pos 0) ≡ slice_index_or fluxes.old i (pos 0) }
 {
     let mut used = 0;
-    for i in 0..fluxes.len() {
-        if marks[i] {
+    for i in 0..shape.w {
+        if is_top_marked(shape, marks, i) {
             fluxes[i] = signed_flux(
                 p.y_courant(shape.level, shape.column + i as u32),
                 border[used],
@@ -210,15 +192,14 @@ pub(crate) fn set_top(
 )
     requires level { shape.level ≤ 4 }
     requires inside { shape.column + shape.w ≤ columns p.now shape.level }
-    requires mark_count { length marks.now ≡ (shape.h + 2) * (shape.w + 2) }
-    requires flux_count { length fluxes.old ≡ shape.w }
+    requires few { (shape.h + 2) * (shape.w + 2) < 2 ^ 63 }
+    requires flux_count { shape.w ≤ length fluxes.old }
     requires row { j < shape.h }
     requires enough { j + 1 ≡ shape.h → count_below (y_marked shape.w shape.h marks.now) shape.w ≤ length border.now }
     requires small { AreSmall border.now }
     ensures { (i : ℕ) → i < shape.w → slice_index_or fluxes.new i (pos 0) ≡ cond (nat_eq (j + 1) shape.h && y_marked shape.w shape.h marks.now i) (signed (y_number p.now shape.level (shape.column + i)) (slice_index border.now (count_below (y_marked shape.w shape.h marks.now) i))) (slice_index_or fluxes.old i (pos 0)) }
 {
     if j + 1 == shape.h {
-        let at = (shape.h + 1) * (shape.w + 2) + 1;
-        set_marked(p, shape, &marks[at..at + shape.w], border, fluxes);
+        set_marked(p, shape, marks, border, fluxes);
     }
 }

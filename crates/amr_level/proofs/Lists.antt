@@ -1,5 +1,5 @@
--- Lists of patches and of faces.
-use Rattle.std.proofs.Common.{◌≡◌, ◌≢◌, ℕ, zero, suc, ◌+◌, ◌⊎◌, inl, inr, add-one, set, ◌<◌, ◌≤◌, Bool, true, false, cond, ◌||◌, ℤ, List, [], ◌∷◌, ◌++◌, length, length-append, get_or, map, IsTrue, refl, sym, ap, subst, ◌∙◌, arith}
+-- Lists of patches.
+use Rattle.std.proofs.Common.{◌≡◌, ◌≢◌, ℕ, suc, ◌+◌, ◌⊎◌, inl, inr, set, ◌<◌, ◌≤◌, Bool, true, false, cond, List, [], ◌∷◌, length, get_or, map, IsTrue, refl, sym, ap, subst, ◌∙◌, arith}
 use Rattle.std.specs.declared.option.Option.{Option}
 use Rattle.std.specs.declared.option.Option.TheVariants.{Some}
 use Rattle.std.specs.Option.{option_map}
@@ -7,25 +7,10 @@ use Rattle.std.specs.List.{AllZip}
 use Rattle.std.proofs.lemmas.Bool.{cases_eq}
 use Rattle.std.proofs.lemmas.List.{get_or-set_other, get_or-set_same}
 use Rattle.amr_box.specs.declared.Cell.{Cell}
-use Rattle.amr_box.specs.declared.Face.{Face}
-use Rattle.amr_box.specs.declared.Axis.{Axis}
 use Rattle.amr_box.specs.Cells.{Extent, holds}
-use Rattle.amr_def.specs.Flux.{face}
-use Rattle.amr_def.specs.State.{in_boxes}
 use Rattle.amr_patch.specs.declared.patches.Patch.{Patch}
-use Rattle.amr_patch.specs.Patches.{ArePatchesApart, box, in_patches, mass_in, masses_in}
+use Rattle.amr_patch.specs.Patches.{ArePatchesApart, box, mass_in, masses_in}
 use Rattle.amr_patch.proofs.Lookups.{same_default}
-use Rattle.amr_flux.specs.Faces.{passing}
-
--- ---- faces that pass a test
-
-one_most : (b : Bool) (f : Face) → length (cond b (f ∷ []) []) ≤ 1
-one_most true f = omega arith
-one_most false f = omega arith
-
-pub passing_few : (t : Face → Bool) (g : ℕ → Face) (n : ℕ) → length (passing t g n) ≤ n
-passing_few t g zero = omega arith
-passing_few t g (suc n) = omega (arith, passing_few t g n, one_most (t (g n)) (g n), length-append (passing t g n) (cond (t (g n)) (g n ∷ []) []))
 
 -- ---- patches one by one
 

@@ -1,6 +1,6 @@
 //! A step of level 0.
 
-ghost use Rattle.std.specs.Prelude.{◌≡◌, ◌≤◌, ◌<◌, ◌^◌, length, map};
+ghost use Rattle.std.specs.Prelude.{◌≡◌, ◌≤◌, ◌<◌, ◌^◌, map};
 ghost use Rattle.std.specs.List.{All, AllZip};
 ghost use Rattle.amr_box.specs.declared.Cell.{Cell};
 ghost use Rattle.amr_def.specs.Domain.{domain};
@@ -32,18 +32,11 @@ fn sweep_all(p: &Problem, patches: &mut [Patch], room: &mut Room)
 }
 
 /// Makes a step of the patches of level 0.
-fn step_patches(
-    p: &Problem,
-    patches: &mut [Patch],
-    order: Order,
-    sizes: &mut [u32],
-    room: &mut Room,
-)
+fn step_patches(p: &Problem, patches: &mut [Patch], order: Order, room: &mut Room)
     requires apart { ArePatchesApart patches.old }
     requires order { IsOrderOf order patches.old }
     requires inside { AreInDomain (domain p.now 0) patches.old }
     requires small { (c : Cell) → mass_of (masses_in patches.old) c < 2 ^ 31 }
-    requires sizes { 512 ≤ length sizes.old }
     requires row { 256 ≤ widest room.old }
     ensures apart { ArePatchesApart patches.new }
     ensures masses { masses_in patches.new ≡ updated (masses_in patches.old) (base_fluxes p.now (masses_in patches.old)) }
@@ -54,19 +47,17 @@ fn step_patches(
 {
     fill_in_order(p, 0, patches, order, None);
     sweep_all(p, patches, room);
-    update_all(p, patches, sizes, room);
+    update_all(p, patches, room);
 }
 
 /// Makes a step of level 0, where it is the only level: each cell gets what flows in through its faces (donor cell; Berger and
 /// Colella 1989). Its patches are left with the fluxes of the faces on their edges that they own, and with the marks of their
 /// ghost cells.
 ///
-/// The level lies in its domain, and each mass is below 2^31. `sizes` is room for the fluxes of a patch's border faces, at most
-/// 512, and `room` for a row of at most 256 cells. It takes no memory.
-pub fn advance(p: &Problem, level: &mut Level, sizes: &mut [u32], room: &mut Room)
+/// The level lies in its domain, and each mass is below 2^31. `room` is for a row of at most 256 cells. It takes no memory.
+pub fn advance(p: &Problem, level: &mut Level, room: &mut Room)
     requires of_domain { IsLevel p.now 0 (level_of level.old) }
     requires small { (c : Cell) → mass_of (level_of level.old).masses c < 2 ^ 31 }
-    requires sizes { 512 ≤ length sizes.old }
     requires row { 256 ≤ widest room.old }
     ensures masses { (level_of level.new).masses ≡ updated (level_of level.old).masses (base_fluxes p.now (level_of level.old).masses) }
     ensures boxes { (level_of level.new).boxes ≡ (level_of level.old).boxes }
@@ -77,6 +68,6 @@ pub fn advance(p: &Problem, level: &mut Level, sizes: &mut [u32], room: &mut Roo
 {
     let order = level.order();
     let mut patches = level.take_patches();
-    step_patches(p, &mut patches, order, sizes, room);
+    step_patches(p, &mut patches, order, room);
     level.put_patches_in_order(patches, order);
 }

@@ -17,8 +17,6 @@ use amr_flux::Room;
 use amr_patch::{Level, Mesh};
 use std::alloc::Global;
 
-/// The most border faces that a patch reads: those at the two high sides of 256 by 256 cells.
-const MOST_BORDER_FACES: usize = 512;
 /// The most columns that a patch has.
 const MOST_COLUMNS: u32 = 256;
 
@@ -36,14 +34,12 @@ fn make_steps(
     steps: Steps,
     rows: &mut Vec<Row>,
     level: &mut Level,
-    sizes: &mut [u32],
     room: &mut Room,
 )
     requires one_level { p.now.max_level ≡ 0 }
     requires sound { IsSound p.now (one_level_state steps.step rows.old.items (level_of level.old)) }
     requires ahead { steps.step ≤ steps.target }
     requires within { steps.target ≤ p.now.steps }
-    requires sizes { 512 ≤ length sizes.old }
     requires row { 256 ≤ widest room.old }
     requires room { length rows.old.items + (steps.target - steps.step) ≤ vec_capacity rows.old }
     ensures value { one_level_state steps.target rows.new.items (level_of level.new) ≡ finish p.now (one_level_state steps.step rows.old.items (level_of level.old)) steps.target }
@@ -51,7 +47,7 @@ fn make_steps(
     ensures patches { map box (patches_of level.new) ≡ map box (patches_of level.old) }
 {
     for k in steps.step..steps.target {
-        make_step(p, k, rows, level, sizes, room);
+        make_step(p, k, rows, level, room);
     }
 }
 
@@ -76,10 +72,9 @@ fn run_level(
     ensures patches { map box (patches_of level.new) ≡ map box (patches_of level.old) }
 {
     rows.reserve((target - step) as usize)?;
-    let mut sizes = vec![in alloc; 0u32; MOST_BORDER_FACES]?;
     let mut room = Room::make(alloc, MOST_COLUMNS)?;
     let steps = Steps { step, target };
-    make_steps(p, steps, rows, level, &mut sizes, &mut room);
+    make_steps(p, steps, rows, level, &mut room);
     Ok(())
 }
 

@@ -23,13 +23,11 @@ pub fn make_step(
     step: u32,
     rows: &mut Vec<Row>,
     level: &mut Level,
-    sizes: &mut [u32],
     room: &mut Room,
 )
     requires one_level { p.now.max_level ≡ 0 }
     requires sound { IsSound p.now (one_level_state step rows.old.items (level_of level.old)) }
     requires more { step < p.now.steps }
-    requires sizes { 512 ≤ length sizes.old }
     requires row { 256 ≤ widest room.old }
     requires room { length rows.old.items < vec_capacity rows.old }
     ensures value { one_level_state (step + 1) rows.new.items (level_of level.new) ≡ next p.now (one_level_state step rows.old.items (level_of level.old)) }
@@ -37,10 +35,9 @@ pub fn make_step(
     ensures patches { map box (patches_of level.new) ≡ map box (patches_of level.old) }
     ensures capacity { vec_capacity rows.old ≤ vec_capacity rows.new }
     ensures count { length rows.new.items ≡ length rows.old.items + 1 }
-    ensures sizes { length sizes.new ≡ length sizes.old }
     ensures row { widest room.new ≡ widest room.old }
 {
-    advance(p, level, sizes, room);
+    advance(p, level, room);
     let (inflow, outflow) = inflow_and_outflow(p, level.patches(), level.order());
     let last = rows[rows.len() - 1];
     let row = Row {

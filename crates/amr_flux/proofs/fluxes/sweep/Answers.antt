@@ -1,4 +1,4 @@
-use Rattle.std.proofs.Common.{◌≡◌, ℕ, ◌<◌, ◌∙◌, false, true, pos, refl, ap, arith, rules}
+use Rattle.std.proofs.Common.{◌≡◌, ℕ, ◌+◌, ◌<◌, ◌∙◌, Bool, false, true, List, ℤ, pos, refl, ap, arith, rules}
 use Rattle.std.specs.Prelude.{slice_index_or}
 use Rattle.std.proofs.lemmas.List.{with_items_is}
 use Rattle.amr_patch.specs.Patches.{mark_in, value_in}
@@ -28,7 +28,7 @@ pub high_fluxes-requires-clause-small : goal.high_fluxes-requires-clause-small
 high_fluxes-requires-clause-small c = rw (c.shape_of-shape.ensures.columns, c.shape_of-shape.ensures.rows, c.deref-2.ensures.value) (x_small c.args.patch.now c.requires.small)
 
 pub top_fluxes-requires-clause-small : goal.top_fluxes-requires-clause-small
-top_fluxes-requires-clause-small c = rw (c.shape_of-shape.ensures.columns, c.shape_of-shape.ensures.rows, c.deref-5.ensures.value) (y_small c.args.patch.now c.requires.small)
+top_fluxes-requires-clause-small c = rw (c.shape_of-shape.ensures.columns, c.shape_of-shape.ensures.rows, c.deref-6.ensures.value) (y_small c.args.patch.now c.requires.small)
 
 pub y_row-requires-clause-low_small : goal.y_row-requires-clause-low_small
 y_row-requires-clause-low_small c = λ i h.
@@ -56,8 +56,8 @@ returns-clause-fluxes c =
     (λ j h f. ap (λ es. slice_index_or es j (pos 0)) (with_items_is q.x_high x_high (search rules)) ∙ moved (λ l w h v m. (j : ℕ) → j < h → x_marked w m j ≡ false → slice_index_or x_high j (pos 0) ≡ x_flux p l row w v w j) e.level e.columns e.rows c.deref-2.ensures.value c.deref-3.ensures.value c.high_fluxes.ensures.made j h f)
     (λ j f. ap (λ es. slice_index_or es j (pos 0)) (with_items_is q.x_high x_high (search rules)) ∙ moved (λ l w h v m. (j : ℕ) → x_marked w m j ≡ true → slice_index_or x_high j (pos 0) ≡ slice_index_or c.deref_mut-2.result.now j (pos 0)) e.level e.columns e.rows c.deref-2.ensures.value c.deref-3.ensures.value c.high_fluxes.ensures.others j f ∙ ap (λ es. slice_index_or es j (pos 0)) c.deref_mut-2.ensures.value)
     (λ i h. ap (λ es. slice_index_or es i (pos 0)) (with_items_is q.y_low y_low (search rules)) ∙ moved (λ l w h v m. (i : ℕ) → i < w → slice_index_or y_low i (pos 0) ≡ y_flux p l column w v i 0) e.level e.columns e.rows c.deref-4.ensures.value c.deref-3.ensures.value c.y_row.ensures i h)
-    (λ i h f. ap (λ es. slice_index_or es i (pos 0)) (with_items_is q.y_high y_high (search rules)) ∙ moved (λ l w h v m. (i : ℕ) → i < w → y_marked w h m i ≡ false → slice_index_or y_high i (pos 0) ≡ y_flux p l column w v i h) e.level e.columns e.rows c.deref-5.ensures.value c.deref-6.ensures.value c.top_fluxes.ensures.made i h f)
-    (λ i h f. ap (λ es. slice_index_or es i (pos 0)) (with_items_is q.y_high y_high (search rules)) ∙ moved (λ l w h v m. (i : ℕ) → i < w → y_marked w h m i ≡ true → slice_index_or y_high i (pos 0) ≡ slice_index_or c.deref_mut-4.result.now i (pos 0)) e.level e.columns e.rows c.deref-5.ensures.value c.deref-6.ensures.value c.top_fluxes.ensures.others i h f ∙ ap (λ es. slice_index_or es i (pos 0)) c.deref_mut-4.ensures.value)
+    (λ i h f. ap (λ es. slice_index_or es i (pos 0)) (with_items_is q.y_high y_high (search rules)) ∙ moved (λ l w h v m. (i : ℕ) → i < w → y_marked w h m i ≡ false → slice_index_or y_high i (pos 0) ≡ y_flux p l column w v i h) e.level e.columns e.rows c.deref-6.ensures.value c.deref-7.ensures.value c.top_fluxes.ensures.made i h f)
+    (λ i h f. ap (λ es. slice_index_or es i (pos 0)) (with_items_is q.y_high y_high (search rules)) ∙ moved (λ l w h v m. (i : ℕ) → i < w → y_marked w h m i ≡ true → slice_index_or y_high i (pos 0) ≡ slice_index_or c.deref_mut-5.result.now i (pos 0)) e.level e.columns e.rows c.deref-6.ensures.value c.deref-7.ensures.value c.top_fluxes.ensures.others i h f ∙ ap (λ es. slice_index_or es i (pos 0)) c.deref_mut-5.ensures.value)
 
 pub returns-clause-border : goal.returns-clause-border
 returns-clause-border c =
@@ -75,8 +75,8 @@ returns-clause-border c =
     (λ j h f. ap (λ es. slice_index_or es j (pos 0)) (with_items_is q.x_high x_high (search rules)) ∙ moved (λ l w h v m. (j : ℕ) → j < h → x_marked w m j ≡ false → slice_index_or x_high j (pos 0) ≡ x_flux p l row w v w j) e.level e.columns e.rows c.deref-2.ensures.value c.deref-3.ensures.value c.high_fluxes.ensures.made j h f)
     (λ j f. ap (λ es. slice_index_or es j (pos 0)) (with_items_is q.x_high x_high (search rules)) ∙ moved (λ l w h v m. (j : ℕ) → x_marked w m j ≡ true → slice_index_or x_high j (pos 0) ≡ slice_index_or c.deref_mut-2.result.now j (pos 0)) e.level e.columns e.rows c.deref-2.ensures.value c.deref-3.ensures.value c.high_fluxes.ensures.others j f ∙ ap (λ es. slice_index_or es j (pos 0)) c.deref_mut-2.ensures.value)
     (λ i h. ap (λ es. slice_index_or es i (pos 0)) (with_items_is q.y_low y_low (search rules)) ∙ moved (λ l w h v m. (i : ℕ) → i < w → slice_index_or y_low i (pos 0) ≡ y_flux p l column w v i 0) e.level e.columns e.rows c.deref-4.ensures.value c.deref-3.ensures.value c.y_row.ensures i h)
-    (λ i h f. ap (λ es. slice_index_or es i (pos 0)) (with_items_is q.y_high y_high (search rules)) ∙ moved (λ l w h v m. (i : ℕ) → i < w → y_marked w h m i ≡ false → slice_index_or y_high i (pos 0) ≡ y_flux p l column w v i h) e.level e.columns e.rows c.deref-5.ensures.value c.deref-6.ensures.value c.top_fluxes.ensures.made i h f)
-    (λ i h f. ap (λ es. slice_index_or es i (pos 0)) (with_items_is q.y_high y_high (search rules)) ∙ moved (λ l w h v m. (i : ℕ) → i < w → y_marked w h m i ≡ true → slice_index_or y_high i (pos 0) ≡ slice_index_or c.deref_mut-4.result.now i (pos 0)) e.level e.columns e.rows c.deref-5.ensures.value c.deref-6.ensures.value c.top_fluxes.ensures.others i h f ∙ ap (λ es. slice_index_or es i (pos 0)) c.deref_mut-4.ensures.value)
+    (λ i h f. ap (λ es. slice_index_or es i (pos 0)) (with_items_is q.y_high y_high (search rules)) ∙ moved (λ l w h v m. (i : ℕ) → i < w → y_marked w h m i ≡ false → slice_index_or y_high i (pos 0) ≡ y_flux p l column w v i h) e.level e.columns e.rows c.deref-6.ensures.value c.deref-7.ensures.value c.top_fluxes.ensures.made i h f)
+    (λ i h f. ap (λ es. slice_index_or es i (pos 0)) (with_items_is q.y_high y_high (search rules)) ∙ moved (λ l w h v m. (i : ℕ) → i < w → y_marked w h m i ≡ true → slice_index_or y_high i (pos 0) ≡ slice_index_or c.deref_mut-5.result.now i (pos 0)) e.level e.columns e.rows c.deref-6.ensures.value c.deref-7.ensures.value c.top_fluxes.ensures.others i h f ∙ ap (λ es. slice_index_or es i (pos 0)) c.deref_mut-5.ensures.value)
 
 pub returns-clause-values : goal.returns-clause-values
 unfolding value_in

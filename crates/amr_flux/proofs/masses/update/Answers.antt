@@ -1,42 +1,44 @@
-use Rattle.std.proofs.Common.{◌≡◌, ℕ, ◌+◌, ◌<◌, ◌∙◌, pos, ◌+ℤ◌, length, refl, ap, arith, rules}
+use Rattle.std.proofs.Common.{◌≡◌, ℕ, ◌+◌, ◌^◌, ◌<◌, ◌≤◌, ◌∙◌, Bool, List, ℤ, pos, ◌+ℤ◌, ◌≤ℤ◌, ◌<ℤ◌, length, refl, sym, ap, arith, rules}
 use Rattle.std.specs.Prelude.{slice_index}
 use Rattle.std.proofs.lemmas.List.{with_items_is}
 use Rattle.amr_patch.specs.Patches.{flux_in, mark_in}
 use Rattle.amr_patch.proofs.Rows.{sides}
 use Rattle.amr_flux.specs.Rooms.{widest}
-use Rattle.amr_flux.specs.Tables.{IsOtherPlace, net_inflow, value, x_through, y_through}
+use Rattle.amr_flux.specs.Tables.{IsOtherPlace, count_below, net_inflow, value, x_marked, x_through, y_marked, y_through}
 use Rattle.amr_flux.proofs.Owned.{x_small, y_small}
-use Rattle.amr_flux.proofs.Updates.{enough, fits_at, frame_stays, kept_at, masses_are, moved, same_along}
+use Rattle.amr_flux.proofs.Updates.{each_at, enough, frame_stays, given_fluxes, masses_are, moved, same_along}
 use Rattle.amr_box.specs.Cells.{cell}
 use Rattle.amr_flux.proofs.masses.update.Goals as goal
 
-pub update_in_lists-requires-clause-columns_inside : goal.update_in_lists-requires-clause-columns_inside
-update_in_lists-requires-clause-columns_inside c = rw (c.shape_of-shape.ensures.columns, c.shape_of-shape.ensures.level) c.shape_of-shape.ensures.stands.columns_fit
+pub update_rows-requires-clause-columns_inside : goal.update_rows-requires-clause-columns_inside
+update_rows-requires-clause-columns_inside c = rw (c.shape_of-shape.ensures.columns, c.shape_of-shape.ensures.level) c.shape_of-shape.ensures.stands.columns_fit
 
-pub update_in_lists-requires-clause-rows_inside : goal.update_in_lists-requires-clause-rows_inside
-update_in_lists-requires-clause-rows_inside c = rw (c.shape_of-shape.ensures.rows, c.shape_of-shape.ensures.level) c.shape_of-shape.ensures.stands.rows_fit
+pub update_rows-requires-clause-rows_inside : goal.update_rows-requires-clause-rows_inside
+update_rows-requires-clause-rows_inside c = rw (c.shape_of-shape.ensures.rows, c.shape_of-shape.ensures.level) c.shape_of-shape.ensures.stands.rows_fit
 
-pub update_in_lists-requires-clause-some : goal.update_in_lists-requires-clause-some
-update_in_lists-requires-clause-some c = omega (arith, c.shape_of-shape.ensures.rows, (sides c.args.patch.now.bx c.args.patch.now.near).some_rows)
+pub update_rows-requires-clause-some : goal.update_rows-requires-clause-some
+update_rows-requires-clause-some c = omega (arith, c.shape_of-shape.ensures.rows, (sides c.args.patch.now.bx c.args.patch.now.near).some_rows)
 
-pub update_in_lists-requires-clause-enough : goal.update_in_lists-requires-clause-enough
-update_in_lists-requires-clause-enough c = rw (c.shape_of-shape.ensures.columns, c.shape_of-shape.ensures.rows, c.deref.ensures.value) (enough c.args.patch.now c.args.border.now c.requires.border_count)
+pub update_rows-requires-clause-enough : goal.update_rows-requires-clause-enough
+update_rows-requires-clause-enough c = rw (c.shape_of-shape.ensures.columns, c.shape_of-shape.ensures.rows, c.deref.ensures.value) (enough c.args.patch.now c.args.border.now c.requires.border_count)
 
-pub update_in_lists-requires-clause-x_small : goal.update_in_lists-requires-clause-x_small
-update_in_lists-requires-clause-x_small c = rw (c.shape_of-shape.ensures.columns, c.shape_of-shape.ensures.rows, c.deref_mut.ensures.value) (x_small c.args.patch.now c.requires.small)
+pub update_rows-requires-clause-x_small : goal.update_rows-requires-clause-x_small
+update_rows-requires-clause-x_small c = rw (c.shape_of-shape.ensures.columns, c.shape_of-shape.ensures.rows, c.deref_mut.ensures.value) (x_small c.args.patch.now c.requires.small)
 
-pub update_in_lists-requires-clause-y_small : goal.update_in_lists-requires-clause-y_small
-update_in_lists-requires-clause-y_small c = rw (c.shape_of-shape.ensures.columns, c.shape_of-shape.ensures.rows, c.deref_mut.ensures.value) (y_small c.args.patch.now c.requires.small)
+pub update_rows-requires-clause-y_small : goal.update_rows-requires-clause-y_small
+update_rows-requires-clause-y_small c = rw (c.shape_of-shape.ensures.columns, c.shape_of-shape.ensures.rows, c.deref_mut.ensures.value) (y_small c.args.patch.now c.requires.small)
 
-pub update_in_lists-requires-clause-kept : goal.update_in_lists-requires-clause-kept
-update_in_lists-requires-clause-kept c =
+pub update_rows-requires-clause-kept : goal.update_rows-requires-clause-kept
+update_rows-requires-clause-kept c =
     let q = c.args.patch.now in
-    rw (c.shape_of-shape.ensures.columns, c.shape_of-shape.ensures.rows, c.shape_of-shape.ensures.level, c.deref_mut.ensures.value, c.deref.ensures.value) (kept_at c.args.p.now c.args.l q c.shape_of-shape.result.column c.shape_of-shape.result.row c.shape_of-shape.ensures.stands c.args.border.now c.requires.kept)
+    let r = c.shape_of-shape.result in
+    rw (c.shape_of-shape.ensures.columns, c.shape_of-shape.ensures.rows, c.shape_of-shape.ensures.level, c.deref_mut.ensures.value, c.deref.ensures.value) (each_at q _ _ _ (given_fluxes c.args.p.now c.args.l q r.column r.row c.shape_of-shape.ensures.stands c.args.border.now) (λ z. pos 0 ≤ℤ z) c.requires.kept)
 
-pub update_in_lists-requires-clause-fits : goal.update_in_lists-requires-clause-fits
-update_in_lists-requires-clause-fits c =
+pub update_rows-requires-clause-fits : goal.update_rows-requires-clause-fits
+update_rows-requires-clause-fits c =
     let q = c.args.patch.now in
-    rw (c.shape_of-shape.ensures.columns, c.shape_of-shape.ensures.rows, c.shape_of-shape.ensures.level, c.deref_mut.ensures.value, c.deref.ensures.value) (fits_at c.args.p.now c.args.l q c.shape_of-shape.result.column c.shape_of-shape.result.row c.shape_of-shape.ensures.stands c.args.border.now c.requires.fits)
+    let r = c.shape_of-shape.result in
+    rw (c.shape_of-shape.ensures.columns, c.shape_of-shape.ensures.rows, c.shape_of-shape.ensures.level, c.deref_mut.ensures.value, c.deref.ensures.value) (each_at q _ _ _ (given_fluxes c.args.p.now c.args.l q r.column r.row c.shape_of-shape.ensures.stands c.args.border.now) (λ z. z <ℤ pos (2 ^ 32)) c.requires.fits)
 
 pub returns-clause-masses : goal.returns-clause-masses
 returns-clause-masses c =
@@ -46,17 +48,17 @@ returns-clause-masses c =
     let row = c.shape_of-shape.result.row in
     let column = c.shape_of-shape.result.column in
     let e = c.shape_of-shape.ensures in
-    let vs = c.update_in_lists.new.values in
-    masses_are p c.args.l q column row e.stands border _ refl vs (with_items_is q.values vs (search rules))
-    (moved (λ l w h v m. (i j : ℕ) → i < w → j < h → pos (value w vs (i + 1) (j + 1)) ≡ pos (value w v (i + 1) (j + 1)) +ℤ net_inflow (x_through p l row w m border v) (y_through p l column w h m border v) i j) e.level e.columns e.rows c.deref_mut.ensures.value c.deref.ensures.value c.update_in_lists.ensures.made)
+    let vs = c.update_rows.new.values in
+    masses_are q _ _ _ (given_fluxes p c.args.l q column row e.stands border) _ refl vs (with_items_is q.values vs (search rules))
+    (moved (λ l w h v m. (i j : ℕ) → i < w → j < h → pos (value w vs (i + 1) (j + 1)) ≡ pos (value w v (i + 1) (j + 1)) +ℤ net_inflow (x_through p l row w m border v) (y_through p l column w h m border v) i j) e.level e.columns e.rows c.deref_mut.ensures.value c.deref.ensures.value c.update_rows.ensures.made)
 
 pub returns-clause-frame : goal.returns-clause-frame
 returns-clause-frame c =
     let q = c.args.patch.now in
     let e = c.shape_of-shape.ensures in
-    let vs = c.update_in_lists.new.values in
+    let vs = c.update_rows.new.values in
     frame_stays q _ vs refl (with_items_is q.values vs (search rules))
-    (moved (λ l w h v m. (k : ℕ) → IsOtherPlace w h k → slice_index vs k ≡ slice_index v k) e.level e.columns e.rows c.deref_mut.ensures.value c.deref.ensures.value c.update_in_lists.ensures.others)
+    (moved (λ l w h v m. (k : ℕ) → IsOtherPlace w h k → slice_index vs k ≡ slice_index v k) e.level e.columns e.rows c.deref_mut.ensures.value c.deref.ensures.value c.update_rows.ensures.others)
 
 pub returns-clause-marks : goal.returns-clause-marks
 unfolding mark_in
@@ -66,18 +68,10 @@ pub returns-clause-fluxes : goal.returns-clause-fluxes
 unfolding flux_in
 returns-clause-fluxes c = λ f. same_along c.args.patch.now _ f.axis (cell f.x f.y) refl refl refl refl refl
 
+pub update_rows-requires-clause-room : goal.update_rows-requires-clause-room
+unfolding widest
+update_rows-requires-clause-room c = omega (arith, c.shape_of-shape.ensures.columns, c.requires.room)
+
 pub returns-clause-room : goal.returns-clause-room
 unfolding widest
-returns-clause-room c = ap length (with_items_is c.args.room.now.low c.update_in_lists.new.low (search rules)) ∙ search rules
-
-pub update_in_lists-requires-clause-x_room : goal.update_in_lists-requires-clause-x_room
-unfolding widest
-update_in_lists-requires-clause-x_room c = omega (arith, c.shape_of-shape.ensures.columns, c.requires.room, c.args.room.now.x_count, ap length c.deref_mut-2.ensures.value)
-
-pub update_in_lists-requires-clause-low_room : goal.update_in_lists-requires-clause-low_room
-unfolding widest
-update_in_lists-requires-clause-low_room c = omega (arith, c.shape_of-shape.ensures.columns, c.requires.room, ap length c.deref_mut-3.ensures.value)
-
-pub update_in_lists-requires-clause-high_room : goal.update_in_lists-requires-clause-high_room
-unfolding widest
-update_in_lists-requires-clause-high_room c = omega (arith, c.shape_of-shape.ensures.columns, c.requires.room, c.args.room.now.high_count, ap length c.deref_mut-4.ensures.value)
+returns-clause-room c = c.update_rows.ensures.room

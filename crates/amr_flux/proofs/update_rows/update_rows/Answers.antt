@@ -1,11 +1,12 @@
-use Rattle.std.proofs.Common.{◌≡◌, ℕ, ◌+◌, ◌^◌, ◌<◌, ◌≤◌, ◌∙◌, ℤ, pos, ◌+ℤ◌, ◌≤ℤ◌, ◌<ℤ◌, sym, ap, subst, refl, length-drop, arith, rules}
-use Rattle.std.specs.Prelude.{cond, slice_index_or}
-use Rattle.std.proofs.lemmas.List.{take_rest}
+use Rattle.std.proofs.Common.{◌≡◌, ℕ, ◌+◌, ◌*◌, ◌^◌, ◌<◌, ◌≤◌, ◌∙◌, ℤ, List, pos, ◌+ℤ◌, ◌≤ℤ◌, ◌<ℤ◌, sym, ap, subst, refl, length, length-drop, arith, rules}
+use Rattle.std.specs.Prelude.{cond, slice_index, slice_index_or}
+use Rattle.std.specs.Vec.{with_items}
+use Rattle.std.proofs.lemmas.List.{take_rest, with_items_is}
 use Rattle.amr_flux.proofs.Parts.{rest_small}
 use Rattle.amr_flux.specs.Rows.{inflow}
 use Rattle.amr_flux.specs.Tables.{net_inflow, value, x_marked, x_through, y_through, count_below}
 use Rattle.amr_flux.proofs.Borders.{count_grows, count_more}
-use Rattle.amr_flux.proofs.Throughs.{later, others_more, rows_more, total_now, x_made, x_now, y_flux_inner, y_made, y_now}
+use Rattle.amr_flux.proofs.Throughs.{high_here, later, others_more, row_total, rows_more, x_here, y_flux_inner}
 use Rattle.amr_flux.proofs.update_rows.update_rows.Goals as goal
 
 pub y_row-requires-clause-low_small : goal.y_row-requires-clause-low_small
@@ -15,12 +16,15 @@ pub y_row-requires-clause-high_small : goal.y_row-requires-clause-high_small
 y_row-requires-clause-high_small c = λ i h. c.requires.y_small.at i 1 h (omega arith)
 
 pub loop-j-init : goal.loop-j-init
-loop-j-init c = record {
-  used = refl;
-  low = λ i h. c.y_row.ensures i h ∙ y_flux_inner c.args.p.now c.args.shape.level c.args.shape.column c.args.shape.w c.args.shape.h c.args.marks.now c.args.border.now c.args.values.now i 0 c.requires.some;
-  made = λ i j inside below. absurd (omega arith);
-  others = λ k other. refl;
-}
+loop-j-init c =
+    let low = with_items_is c.args.room.now.low c.y_row.new.fluxes (search rules) in
+    record {
+      width = ap length low ∙ search rules;
+      used = refl;
+      low = λ i h. ap (λ es. slice_index_or es i (pos 0)) low ∙ c.y_row.ensures i h ∙ y_flux_inner c.args.p.now c.args.shape.level c.args.shape.column c.args.shape.w c.args.shape.h c.args.marks.now c.args.border.now c.args.values.now i 0 c.requires.some;
+      made = λ i j inside below. absurd (omega arith);
+      others = λ k other. refl;
+    }
 
 pub x_row-requires-clause-small : goal.x_row-requires-clause-small
 x_row-requires-clause-small c = λ i h.
@@ -61,91 +65,74 @@ set_top-requires-clause-small c = rest_small c.args.border.now c.set_end-used.re
 pub update_patch_row-requires-clause-kept : goal.update_patch_row-requires-clause-kept
 update_patch_row-requires-clause-kept c = λ t below.
     let p = c.args.p.now in
-    let l = c.args.shape.level in
-    let w = c.args.shape.w in
-    let h = c.args.shape.h in
-    let row = c.args.shape.row in
-    let column = c.args.shape.column in
+    let s = c.args.shape in
+    let w = s.w in
     let marks = c.args.marks.now in
     let border = c.args.border.now in
     let old = c.args.values.now in
-    let values = c.loop-j.values in
     let j = c.loop-j.j in
     let before = c.loop-j.invariant.others in
-    let xs : ℕ → ℕ → ℤ = x_through p l row w marks border old in
-    let ys : ℕ → ℕ → ℤ = y_through p l column w h marks border old in
-    let one = c.x_row.new.fluxes in
-    let two = c.set_end-used.new.fluxes in
-    let next : c.set_end-used.result ≡ count_below (x_marked w marks) (j + 1) = c.set_end-used.ensures.count ∙ (λ s. c.loop-j.invariant.used s + cond (c.is_end_marked-marked.ensures s) 1 0) ∙ sym (count_more (x_marked w marks) j) in
-    let x_is : (k : ℕ) → k ≤ w → slice_index_or two k (pos 0) ≡ xs k j =
-    x_made p l row w marks border old j one two _ _ _ (search rules) (λ k i. c.x_row.ensures k i ∙ x_now p l row w j values old before k i) (search rules) c.is_end_marked-marked.ensures c.loop-j.invariant.used c.set_end-used.ensures.last c.set_end-used.ensures.others in
-    let high_is : (i : ℕ) → i < w → slice_index_or c.set_top.new.fluxes i (pos 0) ≡ ys i (j + 1) =
-    λ i k. y_made p l column w h marks border old j i c.set_end-used.result _ (take_rest border c.set_end-used.result) next (c.y_row-in-loop-j.ensures i k ∙ y_now p l column w j values old before i k) (c.set_top.ensures i k) in
-    let total : (t : ℕ) → t < w → pos (value w values (t + 1) (j + 1)) +ℤ inflow two c.loop-j.low c.set_top.new.fluxes t ≡ pos (value w old (t + 1) (j + 1)) +ℤ net_inflow xs ys t j =
-    λ t i. total_now two c.loop-j.low c.set_top.new.fluxes xs ys _ _ t j (later w j values old before (j + 1) (t + 1) _ (omega arith) (omega (arith, i)) refl) (x_is t (omega (arith, i))) (x_is (t + 1) (omega (arith, i))) (c.loop-j.invariant.low t i) (high_is t i) in
+    let next : c.set_end-used.result ≡ count_below (x_marked w marks) (j + 1) = c.set_end-used.ensures.count ∙ (λ t. c.loop-j.invariant.used t + cond (c.is_end_marked-marked.ensures t) 1 0) ∙ sym (count_more (x_marked w marks) j) in
+    let x_one = c.deref_mut-in-loop-j-2.ensures.value ∙ with_items_is c.loop-j.room.x c.x_row.new.fluxes (search rules) in
+    let y_one = c.deref_mut-in-loop-j-4.ensures.value ∙ with_items_is c.loop-j.room.high c.y_row-in-loop-j.new.fluxes (search rules) in
+    let x_two = with_items_is (with_items c.loop-j.room.x c.x_row.new.fluxes) c.set_end-used.new.fluxes (search rules) in
+    let y_two = with_items_is (with_items c.loop-j.room.high c.y_row-in-loop-j.new.fluxes) c.set_top.new.fluxes (search rules) in
+    let x_is = x_here p s.level s.row s.column w s.h marks border old c.loop-j.values j before c.set_end-used.new.fluxes c.loop-j.room.low.items c.set_top.new.fluxes c.deref_mut-in-loop-j-2.result.now (λ k i. ap (λ es. slice_index_or es k (pos 0)) x_one ∙ c.x_row.ensures k i) (search rules) c.is_end_marked-marked.ensures c.loop-j.invariant.used c.set_end-used.ensures.last c.set_end-used.ensures.others in
+    let high_is = high_here p s.level s.row s.column w s.h marks border old c.loop-j.values j before c.set_end-used.new.fluxes c.loop-j.room.low.items c.set_top.new.fluxes c.deref_mut-in-loop-j-4.result.now c.set_end-used.result _ (take_rest border c.set_end-used.result) next (λ i k. ap (λ es. slice_index_or es i (pos 0)) y_one ∙ c.y_row-in-loop-j.ensures i k) c.set_top.ensures in
+    let sum = row_total p s.level s.row s.column w s.h marks border old c.loop-j.values j before c.set_end-used.new.fluxes c.loop-j.room.low.items c.set_top.new.fluxes x_is c.loop-j.invariant.low high_is in
+    let total = λ (t : ℕ) (h : t < w). (λ i. pos (value w c.loop-j.values (t + 1) (j + 1)) +ℤ inflow (x_two i) c.loop-j.room.low.items (y_two i) t) ∙ sum t h in
     let P : ℤ → Type 0 = λ z. pos 0 ≤ℤ z in
     subst P (sym (total t below)) (c.requires.kept t j below c.loop-j-test.true)
 
 pub update_patch_row-requires-clause-fits : goal.update_patch_row-requires-clause-fits
 update_patch_row-requires-clause-fits c = λ t below.
     let p = c.args.p.now in
-    let l = c.args.shape.level in
-    let w = c.args.shape.w in
-    let h = c.args.shape.h in
-    let row = c.args.shape.row in
-    let column = c.args.shape.column in
+    let s = c.args.shape in
+    let w = s.w in
     let marks = c.args.marks.now in
     let border = c.args.border.now in
     let old = c.args.values.now in
-    let values = c.loop-j.values in
     let j = c.loop-j.j in
     let before = c.loop-j.invariant.others in
-    let xs : ℕ → ℕ → ℤ = x_through p l row w marks border old in
-    let ys : ℕ → ℕ → ℤ = y_through p l column w h marks border old in
-    let one = c.x_row.new.fluxes in
-    let two = c.set_end-used.new.fluxes in
-    let next : c.set_end-used.result ≡ count_below (x_marked w marks) (j + 1) = c.set_end-used.ensures.count ∙ (λ s. c.loop-j.invariant.used s + cond (c.is_end_marked-marked.ensures s) 1 0) ∙ sym (count_more (x_marked w marks) j) in
-    let x_is : (k : ℕ) → k ≤ w → slice_index_or two k (pos 0) ≡ xs k j =
-    x_made p l row w marks border old j one two _ _ _ (search rules) (λ k i. c.x_row.ensures k i ∙ x_now p l row w j values old before k i) (search rules) c.is_end_marked-marked.ensures c.loop-j.invariant.used c.set_end-used.ensures.last c.set_end-used.ensures.others in
-    let high_is : (i : ℕ) → i < w → slice_index_or c.set_top.new.fluxes i (pos 0) ≡ ys i (j + 1) =
-    λ i k. y_made p l column w h marks border old j i c.set_end-used.result _ (take_rest border c.set_end-used.result) next (c.y_row-in-loop-j.ensures i k ∙ y_now p l column w j values old before i k) (c.set_top.ensures i k) in
-    let total : (t : ℕ) → t < w → pos (value w values (t + 1) (j + 1)) +ℤ inflow two c.loop-j.low c.set_top.new.fluxes t ≡ pos (value w old (t + 1) (j + 1)) +ℤ net_inflow xs ys t j =
-    λ t i. total_now two c.loop-j.low c.set_top.new.fluxes xs ys _ _ t j (later w j values old before (j + 1) (t + 1) _ (omega arith) (omega (arith, i)) refl) (x_is t (omega (arith, i))) (x_is (t + 1) (omega (arith, i))) (c.loop-j.invariant.low t i) (high_is t i) in
+    let next : c.set_end-used.result ≡ count_below (x_marked w marks) (j + 1) = c.set_end-used.ensures.count ∙ (λ t. c.loop-j.invariant.used t + cond (c.is_end_marked-marked.ensures t) 1 0) ∙ sym (count_more (x_marked w marks) j) in
+    let x_one = c.deref_mut-in-loop-j-2.ensures.value ∙ with_items_is c.loop-j.room.x c.x_row.new.fluxes (search rules) in
+    let y_one = c.deref_mut-in-loop-j-4.ensures.value ∙ with_items_is c.loop-j.room.high c.y_row-in-loop-j.new.fluxes (search rules) in
+    let x_two = with_items_is (with_items c.loop-j.room.x c.x_row.new.fluxes) c.set_end-used.new.fluxes (search rules) in
+    let y_two = with_items_is (with_items c.loop-j.room.high c.y_row-in-loop-j.new.fluxes) c.set_top.new.fluxes (search rules) in
+    let x_is = x_here p s.level s.row s.column w s.h marks border old c.loop-j.values j before c.set_end-used.new.fluxes c.loop-j.room.low.items c.set_top.new.fluxes c.deref_mut-in-loop-j-2.result.now (λ k i. ap (λ es. slice_index_or es k (pos 0)) x_one ∙ c.x_row.ensures k i) (search rules) c.is_end_marked-marked.ensures c.loop-j.invariant.used c.set_end-used.ensures.last c.set_end-used.ensures.others in
+    let high_is = high_here p s.level s.row s.column w s.h marks border old c.loop-j.values j before c.set_end-used.new.fluxes c.loop-j.room.low.items c.set_top.new.fluxes c.deref_mut-in-loop-j-4.result.now c.set_end-used.result _ (take_rest border c.set_end-used.result) next (λ i k. ap (λ es. slice_index_or es i (pos 0)) y_one ∙ c.y_row-in-loop-j.ensures i k) c.set_top.ensures in
+    let sum = row_total p s.level s.row s.column w s.h marks border old c.loop-j.values j before c.set_end-used.new.fluxes c.loop-j.room.low.items c.set_top.new.fluxes x_is c.loop-j.invariant.low high_is in
+    let total = λ (t : ℕ) (h : t < w). (λ i. pos (value w c.loop-j.values (t + 1) (j + 1)) +ℤ inflow (x_two i) c.loop-j.room.low.items (y_two i) t) ∙ sum t h in
     let P : ℤ → Type 0 = λ z. z <ℤ pos (2 ^ 32) in
     subst P (sym (total t below)) (c.requires.fits t j below c.loop-j-test.true)
 
 pub loop-j-preserved : goal.loop-j-preserved
 loop-j-preserved c =
     let p = c.args.p.now in
-    let l = c.args.shape.level in
-    let w = c.args.shape.w in
-    let h = c.args.shape.h in
-    let row = c.args.shape.row in
-    let column = c.args.shape.column in
+    let s = c.args.shape in
+    let w = s.w in
     let marks = c.args.marks.now in
     let border = c.args.border.now in
     let old = c.args.values.now in
-    let values = c.loop-j.values in
     let j = c.loop-j.j in
     let before = c.loop-j.invariant.others in
-    let xs : ℕ → ℕ → ℤ = x_through p l row w marks border old in
-    let ys : ℕ → ℕ → ℤ = y_through p l column w h marks border old in
-    let one = c.x_row.new.fluxes in
-    let two = c.set_end-used.new.fluxes in
-    let next : c.set_end-used.result ≡ count_below (x_marked w marks) (j + 1) = c.set_end-used.ensures.count ∙ (λ s. c.loop-j.invariant.used s + cond (c.is_end_marked-marked.ensures s) 1 0) ∙ sym (count_more (x_marked w marks) j) in
-    let x_is : (k : ℕ) → k ≤ w → slice_index_or two k (pos 0) ≡ xs k j =
-    x_made p l row w marks border old j one two _ _ _ (search rules) (λ k i. c.x_row.ensures k i ∙ x_now p l row w j values old before k i) (search rules) c.is_end_marked-marked.ensures c.loop-j.invariant.used c.set_end-used.ensures.last c.set_end-used.ensures.others in
-    let high_is : (i : ℕ) → i < w → slice_index_or c.set_top.new.fluxes i (pos 0) ≡ ys i (j + 1) =
-    λ i k. y_made p l column w h marks border old j i c.set_end-used.result _ (take_rest border c.set_end-used.result) next (c.y_row-in-loop-j.ensures i k ∙ y_now p l column w j values old before i k) (c.set_top.ensures i k) in
-    let total : (t : ℕ) → t < w → pos (value w values (t + 1) (j + 1)) +ℤ inflow two c.loop-j.low c.set_top.new.fluxes t ≡ pos (value w old (t + 1) (j + 1)) +ℤ net_inflow xs ys t j =
-    λ t i. total_now two c.loop-j.low c.set_top.new.fluxes xs ys _ _ t j (later w j values old before (j + 1) (t + 1) _ (omega arith) (omega (arith, i)) refl) (x_is t (omega (arith, i))) (x_is (t + 1) (omega (arith, i))) (c.loop-j.invariant.low t i) (high_is t i) in
-    let f : ℕ → ℕ → ℤ = λ i k. pos (value w old (i + 1) (k + 1)) +ℤ net_inflow xs ys i k in
+    let next : c.set_end-used.result ≡ count_below (x_marked w marks) (j + 1) = c.set_end-used.ensures.count ∙ (λ t. c.loop-j.invariant.used t + cond (c.is_end_marked-marked.ensures t) 1 0) ∙ sym (count_more (x_marked w marks) j) in
+    let x_one = c.deref_mut-in-loop-j-2.ensures.value ∙ with_items_is c.loop-j.room.x c.x_row.new.fluxes (search rules) in
+    let y_one = c.deref_mut-in-loop-j-4.ensures.value ∙ with_items_is c.loop-j.room.high c.y_row-in-loop-j.new.fluxes (search rules) in
+    let x_two = with_items_is (with_items c.loop-j.room.x c.x_row.new.fluxes) c.set_end-used.new.fluxes (search rules) in
+    let y_two = with_items_is (with_items c.loop-j.room.high c.y_row-in-loop-j.new.fluxes) c.set_top.new.fluxes (search rules) in
+    let x_is = x_here p s.level s.row s.column w s.h marks border old c.loop-j.values j before c.set_end-used.new.fluxes c.loop-j.room.low.items c.set_top.new.fluxes c.deref_mut-in-loop-j-2.result.now (λ k i. ap (λ es. slice_index_or es k (pos 0)) x_one ∙ c.x_row.ensures k i) (search rules) c.is_end_marked-marked.ensures c.loop-j.invariant.used c.set_end-used.ensures.last c.set_end-used.ensures.others in
+    let high_is = high_here p s.level s.row s.column w s.h marks border old c.loop-j.values j before c.set_end-used.new.fluxes c.loop-j.room.low.items c.set_top.new.fluxes c.deref_mut-in-loop-j-4.result.now c.set_end-used.result _ (take_rest border c.set_end-used.result) next (λ i k. ap (λ es. slice_index_or es i (pos 0)) y_one ∙ c.y_row-in-loop-j.ensures i k) c.set_top.ensures in
+    let sum = row_total p s.level s.row s.column w s.h marks border old c.loop-j.values j before c.set_end-used.new.fluxes c.loop-j.room.low.items c.set_top.new.fluxes x_is c.loop-j.invariant.low high_is in
+    let total = λ (t : ℕ) (h : t < w). (λ i. pos (value w c.loop-j.values (t + 1) (j + 1)) +ℤ inflow (x_two i) c.loop-j.room.low.items (y_two i) t) ∙ sum t h in
+    let f : ℕ → ℕ → ℤ = λ i k. pos (value w old (i + 1) (k + 1)) +ℤ net_inflow (x_through p s.level s.row w marks border old) (y_through p s.level s.column w s.h marks border old) i k in
     let stays = c.update_patch_row.ensures.others in
     record {
+      width = (λ t. length ((c.swap.ensures.x_after t).items)) ∙ ap length y_two ∙ omega (arith, c.loop-j.invariant.width);
       used = next;
-      low = λ i k. ap (λ es. slice_index_or es i (pos 0)) c.copy_from_slice.ensures.after ∙ high_is i k;
-      made = rows_more w j values c.update_patch_row.new.values old f stays (λ i k. c.update_patch_row.ensures.made i k ∙ total i k) c.loop-j.invariant.made;
-      others = others_more w j values c.update_patch_row.new.values old f stays before;
+      low = λ i k. (λ t. slice_index_or ((c.swap.ensures.x_after t).items) i (pos 0)) ∙ ap (λ es. slice_index_or es i (pos 0)) y_two ∙ high_is i k;
+      made = rows_more w j c.loop-j.values c.update_patch_row.new.values old f stays (λ i k. c.update_patch_row.ensures.made i k ∙ total i k) c.loop-j.invariant.made;
+      others = others_more w j c.loop-j.values c.update_patch_row.new.values old f stays before;
     }
 
 pub returns-clause-made : goal.returns-clause-made

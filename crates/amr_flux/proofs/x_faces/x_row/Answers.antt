@@ -1,7 +1,8 @@
-use Rattle.std.proofs.Common.{ℕ, ◌+◌, ◌*◌, ◌^◌, ◌<◌, ◌∙◌, ap, subst, arith}
+use Rattle.std.proofs.Common.{ℕ, ◌+◌, ◌*◌, ◌^◌, ◌<◌, ◌∙◌, ap, subst, arith, rules}
 use Rattle.std.specs.Prelude.{slice_index}
+use Rattle.amr_flux.specs.Tables.{x_flux}
 use Rattle.amr_flux.proofs.Parts.{read, small_part}
-use Rattle.amr_flux.proofs.Steps.{x_flux_is}
+use Rattle.amr_flux.proofs.Steps.{front_made, x_flux_is}
 use Rattle.amr_flux.proofs.x_faces.x_row.Goals as goal
 
 pub face_fluxes-requires-clause-low_small : goal.face_fluxes-requires-clause-low_small
@@ -17,8 +18,12 @@ face_fluxes-requires-clause-high_small c =
 
 pub returns : goal.returns
 returns c = λ i inside.
+    let p = c.args.p.now in
     let w = c.args.shape.w in
     let values = c.args.values.now in
     let at = (c.args.j + 1) * (w + 2) in
-    c.face_fluxes.ensures i (omega (arith, inside, c.requires.flux_count))
-    ∙ x_flux_is c.args.p.now c.args.shape.level c.args.shape.row w values i c.args.j c.requires.number c.requires.parts (read values at (at + w + 1) i (omega (arith, inside))) (read values (at + 1) (at + w + 2) i (omega (arith, inside)) ∙ ap (slice_index values) (omega arith))
+    front_made _ c.args.fluxes.now c.face_fluxes.new.fluxes (λ k. x_flux p c.args.shape.level c.args.shape.row w values k c.args.j) (search rules) (search rules)
+    (λ t h.
+    c.face_fluxes.ensures t (search rules)
+    ∙ x_flux_is p c.args.shape.level c.args.shape.row w values t c.args.j c.requires.number c.requires.parts (read values at (at + w + 1) t (omega (arith, h))) (read values (at + 1) (at + w + 2) t (omega (arith, h)) ∙ ap (slice_index values) (omega arith)))
+    i (omega (arith, inside))

@@ -4,27 +4,30 @@ use mir.Val.{SFits}
 use mir.Syntax.{w32}
 use Rattle.std.proofs.lemmas.Int.{to_z-of_z}
 use Rattle.amr_flux.specs.Rows.{signed}
-use Rattle.amr_flux.specs.Tables.{marked_below, y_number}
+use Rattle.amr_flux.specs.Tables.{count_below, y_marked, y_number}
 use Rattle.amr_flux.proofs.Borders.{count_less, count_next, count_same}
 use Rattle.amr_flux.proofs.Steps.{not_false, not_true, one_left, one_made, others_kept}
 use Rattle.amr_flux.proofs.y_faces.set_marked.Goals as goal
-use Rattle.amr_flux.proofs.y_faces.set_marked.Goals.{then-marks-i, else-marks-i}
+use Rattle.amr_flux.proofs.y_faces.set_marked.Goals.{then-is_top_marked, else-is_top_marked}
 
 pub bounds-border-used : goal.bounds-border-used
 bounds-border-used c =
-    let test : ℕ → Bool = λ i. slice_index_or c.args.marks.now i false in
-    count_less test c.loop-i.i (length c.args.fluxes.now) _ _ c.if-marks-i.true (search rules) c.requires.enough c.loop-i.invariant.count
+    let is : y_marked c.args.shape.w c.args.shape.h c.args.marks.now c.loop-i.i ≡ true = search rules in
+    let test : ℕ → Bool = y_marked c.args.shape.w c.args.shape.h c.args.marks.now in
+    count_less test c.loop-i.i c.args.shape.w _ _ is (search rules) c.requires.enough c.loop-i.invariant.count
 
 pub offset_bounds-border-used : goal.offset_bounds-border-used
 offset_bounds-border-used c =
-    let test : ℕ → Bool = λ i. slice_index_or c.args.marks.now i false in
-    let below : c.loop-i.used < length c.args.border.now = count_less test c.loop-i.i (length c.args.fluxes.now) _ _ c.if-marks-i.true (search rules) c.requires.enough c.loop-i.invariant.count in
+    let is : y_marked c.args.shape.w c.args.shape.h c.args.marks.now c.loop-i.i ≡ true = search rules in
+    let test : ℕ → Bool = y_marked c.args.shape.w c.args.shape.h c.args.marks.now in
+    let below : c.loop-i.used < length c.args.border.now = count_less test c.loop-i.i c.args.shape.w _ _ is (search rules) c.requires.enough c.loop-i.invariant.count in
     search rules
 
 pub overflow_add-used : goal.overflow_add-used
 overflow_add-used c =
-    let test : ℕ → Bool = λ i. slice_index_or c.args.marks.now i false in
-    let below : c.loop-i.used < length c.args.border.now = count_less test c.loop-i.i (length c.args.fluxes.now) _ _ c.if-marks-i.true (search rules) c.requires.enough c.loop-i.invariant.count in
+    let is : y_marked c.args.shape.w c.args.shape.h c.args.marks.now c.loop-i.i ≡ true = search rules in
+    let test : ℕ → Bool = y_marked c.args.shape.w c.args.shape.h c.args.marks.now in
+    let below : c.loop-i.used < length c.args.border.now = count_less test c.loop-i.i c.args.shape.w _ _ is (search rules) c.requires.enough c.loop-i.invariant.count in
     search rules
 
 pub loop-i-preserved : goal.loop-i-preserved
@@ -32,12 +35,13 @@ loop-i-preserved c =
     let marks = c.args.marks.now in
     let border = c.args.border.now in
     let i = c.loop-i.i in
-    let test : ℕ → Bool = λ i. slice_index_or marks i false in
-    let f : ℕ → ℤ = λ i. signed (y_number c.args.p.now c.args.shape.level (c.args.shape.column + i)) (slice_index border (marked_below marks i)) in
-    let P : List ℤ → Type 0 = λ es. (t : ℕ) → t < i + 1 → slice_index_or marks t false ≡ true → slice_index_or es t (pos 0) ≡ f t in
-    let Q : List ℤ → Type 0 = λ es. (t : ℕ) → slice_index_or marks t false ≡ false → slice_index_or es t (pos 0) ≡ slice_index_or c.args.fluxes.now t (pos 0) in
-    elim c.if-marks-i.branch [
-      | then-marks-i b ↦
+    let test : ℕ → Bool = y_marked c.args.shape.w c.args.shape.h marks in
+    let f : ℕ → ℤ = λ i. signed (y_number c.args.p.now c.args.shape.level (c.args.shape.column + i)) (slice_index border (count_below test i)) in
+    let P : List ℤ → Type 0 = λ es. (t : ℕ) → t < i + 1 → test t ≡ true → slice_index_or es t (pos 0) ≡ f t in
+    let Q : List ℤ → Type 0 = λ es. (t : ℕ) → test t ≡ false → slice_index_or es t (pos 0) ≡ slice_index_or c.args.fluxes.now t (pos 0) in
+    elim c.if-is_top_marked.branch [
+      | then-is_top_marked b ↦
+          let marked : test i ≡ true = search rules in
           let value : b.signed_flux.result ≡ f i =
           let number : b.y_courant.result ≡ y_number c.args.p.now c.args.shape.level (c.args.shape.column + i) = search rules in
           let small : SFits w32 b.y_courant.result = search rules in
@@ -45,13 +49,15 @@ loop-i-preserved c =
           is ∙ (λ t. signed (number t) (slice_index border (c.loop-i.invariant.count t))) in
           let fits : SFits w32 b.signed_flux.result = search rules in
           record {
-            count = b.used-is ∙ ap (λ n. n + 1) c.loop-i.invariant.count ∙ sym (count_next test i b.if-marks-i.true);
+            count = b.used-is ∙ ap (λ n. n + 1) c.loop-i.invariant.count ∙ sym (count_next test i marked);
             made = subst P (sym b.fluxes-is) (one_made test true c.loop-i.fluxes i f _ (search rules) (rw to_z-of_z value) c.loop-i.invariant.made);
-            others = subst Q (sym b.fluxes-is) (others_kept test true c.loop-i.fluxes i f c.args.fluxes.now _ false (not_false b.if-marks-i.true) c.loop-i.invariant.others);
+            others = subst Q (sym b.fluxes-is) (others_kept test true c.loop-i.fluxes i f c.args.fluxes.now _ false (not_false marked) c.loop-i.invariant.others);
           }
-      | else-marks-i b ↦ record {
-        count = b.used-is ∙ c.loop-i.invariant.count ∙ sym (count_same test i b.if-marks-i.false);
-        made = subst P (sym b.fluxes-is) (one_left test true c.loop-i.fluxes i f (not_true b.if-marks-i.false) c.loop-i.invariant.made);
-        others = subst Q (sym b.fluxes-is) c.loop-i.invariant.others;
-      }
+      | else-is_top_marked b ↦
+          let free : test i ≡ false = search rules in
+          record {
+            count = b.used-is ∙ c.loop-i.invariant.count ∙ sym (count_same test i free);
+            made = subst P (sym b.fluxes-is) (one_left test true c.loop-i.fluxes i f (not_true free) c.loop-i.invariant.made);
+            others = subst Q (sym b.fluxes-is) c.loop-i.invariant.others;
+          }
     ]

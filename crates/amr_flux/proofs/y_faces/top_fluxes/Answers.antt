@@ -1,37 +1,35 @@
-use Rattle.std.proofs.Common.{ℕ, ◌+◌, ◌*◌, ◌^◌, ◌<◌, ◌∙◌, false, ap, subst, refl, arith}
-use Rattle.std.specs.Prelude.{slice_index, slice_index_or}
-use Rattle.amr_flux.proofs.Parts.{read, read_mark, small_part}
-use Rattle.amr_flux.proofs.Steps.{y_flux_is}
+use Rattle.std.proofs.Common.{◌≡◌, ℕ, ◌+◌, ◌<◌, ◌∙◌, false, true, pos, sym, refl, subst, rules, ℤ, List, Bool}
+use mir.Val.{SFits}
+use mir.Syntax.{w32}
+use Rattle.std.proofs.lemmas.Int.{to_z-of_z}
+use Rattle.std.specs.Prelude.{slice_index_or}
+use Rattle.amr_flux.specs.Tables.{y_flux, y_marked}
+use Rattle.amr_flux.proofs.Steps.{not_false, not_true, one_left, one_made, others_kept, y_flux_is}
 use Rattle.amr_flux.proofs.y_faces.top_fluxes.Goals as goal
+use Rattle.amr_flux.proofs.y_faces.top_fluxes.Goals.{then-not-is_top_marked, else-not-is_top_marked}
 
-pub unmarked_fluxes-requires-clause-low_small : goal.unmarked_fluxes-requires-clause-low_small
-unmarked_fluxes-requires-clause-low_small c =
-    let low = c.args.shape.h * (c.args.shape.w + 2) + 1 in
-    small_part c.args.values.now low (low + c.args.shape.w)
-    (λ t h. let P : ℕ → Type 0 = λ n. slice_index c.args.values.now n < 2 ^ 31 in
-    subst P (omega arith) (c.requires.small.at t c.args.shape.h (omega (arith, h)) (omega arith)))
-
-pub unmarked_fluxes-requires-clause-high_small : goal.unmarked_fluxes-requires-clause-high_small
-unmarked_fluxes-requires-clause-high_small c =
-    let high = (c.args.shape.h + 1) * (c.args.shape.w + 2) + 1 in
-    small_part c.args.values.now high (high + c.args.shape.w)
-    (λ t h. let P : ℕ → Type 0 = λ n. slice_index c.args.values.now n < 2 ^ 31 in
-    subst P (omega arith) (c.requires.small.at t (c.args.shape.h + 1) (omega (arith, h)) (omega arith)))
-
-pub returns-clause-made : goal.returns-clause-made
-returns-clause-made c = λ i inside free.
+pub loop-i-preserved : goal.loop-i-preserved
+loop-i-preserved c =
+    let i = c.loop-i.i in
     let w = c.args.shape.w in
     let h = c.args.shape.h in
-    let values = c.args.values.now in
-    let marks = c.args.marks.now in
-    let low = h * (w + 2) + 1 in
-    let high = (h + 1) * (w + 2) + 1 in
-    c.unmarked_fluxes.ensures.made i (omega (arith, inside, c.requires.flux_count)) (read_mark marks high (high + w) i (omega (arith, inside)) ∙ ap (λ n. slice_index_or marks n false) (omega arith) ∙ free)
-    ∙ y_flux_is c.args.p.now c.args.shape.level c.args.shape.column w values i h refl refl (read values low (low + w) i (omega (arith, inside)) ∙ ap (slice_index values) (omega arith)) (read values high (high + w) i (omega (arith, inside)) ∙ ap (slice_index values) (omega arith))
-
-pub returns-clause-others : goal.returns-clause-others
-returns-clause-others c = λ i inside marked.
-    let w = c.args.shape.w in
-    let marks = c.args.marks.now in
-    let high = (c.args.shape.h + 1) * (w + 2) + 1 in
-    c.unmarked_fluxes.ensures.others i (read_mark marks high (high + w) i (omega (arith, inside)) ∙ ap (λ n. slice_index_or marks n false) (omega arith) ∙ marked)
+    let test : ℕ → Bool = λ n. y_marked w h c.args.marks.now n in
+    let f : ℕ → ℤ = λ n. y_flux c.args.p.now c.args.shape.level c.args.shape.column w c.args.values.now n h in
+    let P : List ℤ → Type 0 = λ es. (n : ℕ) → n < i + 1 → y_marked w h c.args.marks.now n ≡ false → slice_index_or es n (pos 0) ≡ f n in
+    let Q : List ℤ → Type 0 = λ es. (n : ℕ) → y_marked w h c.args.marks.now n ≡ true → slice_index_or es n (pos 0) ≡ slice_index_or c.args.fluxes.now n (pos 0) in
+    elim c.if-not-is_top_marked.branch [
+      | then-not-is_top_marked b ↦
+          let fits : SFits w32 b.top_flux.result = search rules in
+          let is : b.top_flux.result ≡ f i = b.top_flux.ensures.value ∙ y_flux_is c.args.p.now c.args.shape.level c.args.shape.column w c.args.values.now i h (search rules) (search rules) refl refl in
+          let free : test i ≡ false = search rules in
+          record {
+            made = subst P (sym b.fluxes-is) (one_made test false c.loop-i.fluxes i f _ (search rules) (rw to_z-of_z is) c.loop-i.invariant.made);
+            others = subst Q (sym b.fluxes-is) (others_kept test false c.loop-i.fluxes i f c.args.fluxes.now _ true (not_true free) c.loop-i.invariant.others);
+          }
+      | else-not-is_top_marked b ↦
+          let marked : test i ≡ true = search rules in
+          record {
+            made = subst P (sym b.fluxes-is) (one_left test false c.loop-i.fluxes i f (not_false marked) c.loop-i.invariant.made);
+            others = subst Q (sym b.fluxes-is) c.loop-i.invariant.others;
+          }
+    ]

@@ -1,31 +1,20 @@
-use Rattle.std.proofs.Common.{◌≡◌, ℕ, ◌+◌, ◌∙◌, ℤ, sym, ap, arith, rules}
+use Rattle.std.proofs.Common.{◌≡◌, ℕ, ◌+◌, ◌<◌, ◌∙◌, ℤ, Bool, true, [], sym, refl, arith, rules}
+use mir.Val.{SFits}
+use mir.Syntax.{w32}
+use Rattle.std.proofs.lemmas.Int.{to_z-of_z}
 use Rattle.std.specs.Prelude.{slice_index}
 use Rattle.amr_def.specs.Flux.{flow}
 use Rattle.amr_flux.specs.Tables.{y_number}
-use Rattle.amr_flux.proofs.Parts.{read, small_part}
-use Rattle.amr_flux.proofs.Steps.{flow_of, part_made}
+use Rattle.amr_flux.proofs.Numbers.{plain_slow, unsheared}
+use Rattle.amr_flux.proofs.Steps.{flow_of, one_made}
 use Rattle.amr_flux.proofs.y_faces.y_fluxes.Goals as goal
 
-pub loop-from-preserved : goal.loop-from-preserved
-loop-from-preserved c =
-    let from = c.loop-from.from in
-    let p = c.args.p.now in
-    let l = c.args.shape.level in
-    let first = c.args.shape.column in
-    let to = from + c.alike.result in
-    let f : ℕ → ℤ = λ i. flow (y_number p l (first + i)) p.d (slice_index c.args.low.now i) (slice_index c.args.high.now i) in
-    record {
-      within = search rules;
-      made = part_made from _ to c.loop-from.fluxes c.face_fluxes.new.fluxes f (search rules) (search rules) (search rules)
-          (λ t h.
-          let column : first + from + t ≡ first + (from + t) = omega arith in
-          c.face_fluxes.ensures t (search rules)
-          ∙ flow_of (search rules ∙ sym (c.alike.ensures.same t (omega (arith, h))) ∙ ap (y_number p l) column) (search rules) (read c.args.low.now from to t (omega (arith, h))) (read c.args.high.now from to t (omega (arith, h))))
-          c.loop-from.invariant.made;
-    }
-
-pub face_fluxes-requires-clause-low_small : goal.face_fluxes-requires-clause-low_small
-face_fluxes-requires-clause-low_small c = small_part c.args.low.now c.loop-from.from (c.loop-from.from + c.alike.result) (λ t h. c.requires.low_small.at (c.loop-from.from + t) (search rules))
-
-pub face_fluxes-requires-clause-high_small : goal.face_fluxes-requires-clause-high_small
-face_fluxes-requires-clause-high_small c = small_part c.args.high.now c.loop-from.from (c.loop-from.from + c.alike.result) (λ t h. c.requires.high_small.at (c.loop-from.from + t) (search rules))
+pub loop-i-preserved : goal.loop-i-preserved
+loop-i-preserved c = λ k below.
+    let i = c.loop-i.i in
+    let f : ℕ → ℤ = λ n. flow (y_number c.args.p.now c.args.shape.level (c.args.shape.column + n)) c.args.p.now.d (slice_index c.args.low.now n) (slice_index c.args.high.now n) in
+    let fits : SFits w32 c.flow.result = search rules in
+    let number : c.with-share.result.number ≡ y_number c.args.p.now c.args.shape.level (c.args.shape.column + i) = search rules in
+    let parts : c.with-share.result.parts ≡ c.args.p.now.d = search rules in
+    let is : c.flow.result ≡ f i = c.flow.ensures.value ∙ flow_of number parts refl refl in
+    one_made (λ n. true) true c.loop-i.fluxes i f _ (search rules) (rw to_z-of_z is) (λ t h e. c.loop-i.invariant t h) k below refl

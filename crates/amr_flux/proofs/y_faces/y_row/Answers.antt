@@ -1,7 +1,8 @@
-use Rattle.std.proofs.Common.{ℕ, ◌+◌, ◌*◌, ◌^◌, ◌<◌, ◌∙◌, ap, subst, refl, arith}
+use Rattle.std.proofs.Common.{ℕ, ◌+◌, ◌*◌, ◌^◌, ◌<◌, ◌∙◌, ap, subst, refl, arith, rules}
 use Rattle.std.specs.Prelude.{slice_index}
+use Rattle.amr_flux.specs.Tables.{y_flux}
 use Rattle.amr_flux.proofs.Parts.{read, small_part}
-use Rattle.amr_flux.proofs.Steps.{y_flux_is}
+use Rattle.amr_flux.proofs.Steps.{front_made, y_flux_is}
 use Rattle.amr_flux.proofs.y_faces.y_row.Goals as goal
 
 pub y_fluxes-requires-clause-low_small : goal.y_fluxes-requires-clause-low_small
@@ -18,9 +19,13 @@ y_fluxes-requires-clause-high_small c =
 
 pub returns : goal.returns
 returns c = λ i inside.
+    let p = c.args.p.now in
     let w = c.args.shape.w in
     let values = c.args.values.now in
     let low = c.args.j * (w + 2) + 1 in
     let high = (c.args.j + 1) * (w + 2) + 1 in
-    c.y_fluxes.ensures i (omega (arith, inside, c.requires.flux_count))
-    ∙ y_flux_is c.args.p.now c.args.shape.level c.args.shape.column w values i c.args.j refl refl (read values low (low + w) i (omega (arith, inside)) ∙ ap (slice_index values) (omega arith)) (read values high (high + w) i (omega (arith, inside)) ∙ ap (slice_index values) (omega arith))
+    front_made _ c.args.fluxes.now c.y_fluxes.new.fluxes (λ k. y_flux p c.args.shape.level c.args.shape.column w values k c.args.j) (search rules) (search rules)
+    (λ t h.
+    c.y_fluxes.ensures t (search rules)
+    ∙ y_flux_is p c.args.shape.level c.args.shape.column w values t c.args.j refl refl (read values low (low + w) t (omega (arith, h)) ∙ ap (slice_index values) (omega arith)) (read values high (high + w) t (omega (arith, h)) ∙ ap (slice_index values) (omega arith)))
+    i (omega (arith, inside))

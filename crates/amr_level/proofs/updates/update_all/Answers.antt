@@ -1,222 +1,38 @@
-use Rattle.std.proofs.Common.{◌≡◌, ◌<◌, ◌≤◌, ◌^◌, ◌∙◌, true, length, get_or, sym, ap, subst, arith}
-use Rattle.std.specs.Prelude.{slice_index, unsigned_abs}
-use Rattle.std.proofs.lemmas.List.{length-take-le}
-use Rattle.amr_box.specs.declared.Face.{Face}
-use Rattle.amr_patch.specs.declared.patches.Patch.{Patch}
-use Rattle.amr_patch.specs.Patches.{box, masses_in}
-use Rattle.amr_patch.proofs.Lookups.{same_default}
-use Rattle.amr_flux.specs.Faces.{border_faces, border_place, flux_beside, is_border}
-use Rattle.amr_level.specs.Steps.{IsReadyToUpdate, IsUpdated, KeepsFluxes, base_fluxes}
+use Rattle.std.proofs.Common.{◌∙◌, get_or, arith}
+use Rattle.amr_patch.specs.Patches.{masses_in}
+use Rattle.amr_level.specs.Steps.{IsUpdated, base_fluxes}
 use Rattle.amr_level.proofs.Lists.{set_done, set_rest, zip_from}
-use Rattle.amr_level.proofs.Updating.{border_count, border_small, few, fits, kept, narrow, reach_small, updated_one}
+use Rattle.amr_level.proofs.Updating.{fits, kept, narrow, reach_small, ready_still, updated_one}
 use Rattle.amr_level.proofs.updates.update_all.Goals as goal
 
-pub border_sizes-count-requires-clause-inside : goal.border_sizes-count-requires-clause-inside
-border_sizes-count-requires-clause-inside c =
-    let p = c.args.p.now in
-    let ps = c.args.patches.now in
-    let qs = c.loop-i.patches in
-    let i = c.loop-i.i in
-    let lt : i < length ps = omega arith in
-    let one = get_or qs i c.index-patches-i.result in
-    let at = c.loop-i.invariant.rest i c.index-patches-i.result (omega arith) in
-    let here : IsReadyToUpdate p (masses_in ps) one = subst (λ (t : Patch). IsReadyToUpdate p (masses_in ps) t) (sym at) (c.requires.ready i c.index-patches-i.result lt) in
-    here.inside
-
-pub border_sizes-count-requires-clause-small : goal.border_sizes-count-requires-clause-small
-border_sizes-count-requires-clause-small c =
-    let p = c.args.p.now in
-    let ps = c.args.patches.now in
-    let qs = c.loop-i.patches in
-    let i = c.loop-i.i in
-    let lt : i < length ps = omega arith in
-    let one = get_or qs i c.index-patches-i.result in
-    let at = c.loop-i.invariant.rest i c.index-patches-i.result (omega arith) in
-    let here : IsReadyToUpdate p (masses_in ps) one = subst (λ (t : Patch). IsReadyToUpdate p (masses_in ps) t) (sym at) (c.requires.ready i c.index-patches-i.result lt) in
-    reach_small p ps c.requires.small c.requires.inside one here
-
-pub border_sizes-count-requires-clause-room : goal.border_sizes-count-requires-clause-room
-border_sizes-count-requires-clause-room c =
-    let p = c.args.p.now in
-    let ps = c.args.patches.now in
-    let qs = c.loop-i.patches in
-    let i = c.loop-i.i in
-    let lt : i < length ps = omega arith in
-    let one = get_or qs i c.index-patches-i.result in
-    let at = c.loop-i.invariant.rest i c.index-patches-i.result (omega arith) in
-    let here : IsReadyToUpdate p (masses_in ps) one = subst (λ (t : Patch). IsReadyToUpdate p (masses_in ps) t) (sym at) (c.requires.ready i c.index-patches-i.result lt) in
-    omega (arith, few p ps c.requires.small c.requires.inside one here, c.loop-i.invariant.sizes)
-
-pub slice_bounds-update-end : goal.slice_bounds-update-end
-slice_bounds-update-end c =
-    let p = c.args.p.now in
-    let ps = c.args.patches.now in
-    let qs = c.loop-i.patches in
-    let i = c.loop-i.i in
-    let lt : i < length ps = omega arith in
-    let one = get_or qs i c.index-patches-i.result in
-    let at = c.loop-i.invariant.rest i c.index-patches-i.result (omega arith) in
-    let here : IsReadyToUpdate p (masses_in ps) one = subst (λ (t : Patch). IsReadyToUpdate p (masses_in ps) t) (sym at) (c.requires.ready i c.index-patches-i.result lt) in
-    omega (arith, c.border_sizes-count.ensures.count, few p ps c.requires.small c.requires.inside one here, c.loop-i.invariant.sizes, c.border_sizes-count.auto.sizes)
-
-pub slice_bounds-update-end-in-loop-i : goal.slice_bounds-update-end-in-loop-i
-slice_bounds-update-end-in-loop-i c =
-    let p = c.args.p.now in
-    let ps = c.args.patches.now in
-    let qs = c.loop-i.patches in
-    let i = c.loop-i.i in
-    let lt : i < length ps = omega arith in
-    let one = get_or qs i c.index-patches-i.result in
-    let at = c.loop-i.invariant.rest i c.index-patches-i.result (omega arith) in
-    let here : IsReadyToUpdate p (masses_in ps) one = subst (λ (t : Patch). IsReadyToUpdate p (masses_in ps) t) (sym at) (c.requires.ready i c.index-patches-i.result lt) in
-    sym (length-take-le c.border_sizes-count.result c.border_sizes-count.new.sizes (omega (arith, c.border_sizes-count.ensures.count, few p ps c.requires.small c.requires.inside one here, c.loop-i.invariant.sizes, c.border_sizes-count.auto.sizes)))
-
-pub update-requires-clause-inside : goal.update-requires-clause-inside
-update-requires-clause-inside c =
-    let p = c.args.p.now in
-    let ps = c.args.patches.now in
-    let qs = c.loop-i.patches in
-    let i = c.loop-i.i in
-    let lt : i < length ps = omega arith in
-    let one = get_or qs i c.index-patches-i.result in
-    let at = c.loop-i.invariant.rest i c.index-patches-i.result (omega arith) in
-    let here : IsReadyToUpdate p (masses_in ps) one = subst (λ (t : Patch). IsReadyToUpdate p (masses_in ps) t) (sym at) (c.requires.ready i c.index-patches-i.result lt) in
-    let q = get_or qs i c.index-patches-i-in-loop-i.result in
-    let same : one ≡ q = same_default qs i c.index-patches-i.result c.index-patches-i-in-loop-i.result (omega arith) in
-    let ready : IsReadyToUpdate p (masses_in ps) q = subst (λ (t : Patch). IsReadyToUpdate p (masses_in ps) t) same here in
-    let sizes = c.border_sizes-count.new.sizes in
-    let n = c.border_sizes-count.result in
-    let count = c.border_sizes-count.ensures.count ∙ ap (λ (t : Patch). length (border_faces t)) same in
-    let room : n ≤ length sizes = omega (arith, count, few p ps c.requires.small c.requires.inside q ready, c.loop-i.invariant.sizes, c.border_sizes-count.auto.sizes) in
-    let read : (f : Face) → is_border q f ≡ true → slice_index sizes (border_place q f) ≡ unsigned_abs (flux_beside p 0 q f) = subst (λ (t : Patch). (f : Face) → is_border t f ≡ true → slice_index sizes (border_place t f) ≡ unsigned_abs (flux_beside p 0 t f)) same c.border_sizes-count.ensures.sizes in
-    let tiny = c.border_sizes-count.ensures.small in
+pub update_by_frame-requires-clause-inside : goal.update_by_frame-requires-clause-inside
+update_by_frame-requires-clause-inside c =
+    let ready = ready_still c.args.p.now c.args.patches.now c.loop-i.patches c.loop-i.i c.index-patches-i.result (omega arith) c.requires.ready c.loop-i.invariant.rest in
     ready.inside
 
-pub update-requires-clause-border_count : goal.update-requires-clause-border_count
-update-requires-clause-border_count c =
-    let p = c.args.p.now in
+pub update_by_frame-requires-clause-small : goal.update_by_frame-requires-clause-small
+update_by_frame-requires-clause-small c =
     let ps = c.args.patches.now in
-    let qs = c.loop-i.patches in
-    let i = c.loop-i.i in
-    let lt : i < length ps = omega arith in
-    let one = get_or qs i c.index-patches-i.result in
-    let at = c.loop-i.invariant.rest i c.index-patches-i.result (omega arith) in
-    let here : IsReadyToUpdate p (masses_in ps) one = subst (λ (t : Patch). IsReadyToUpdate p (masses_in ps) t) (sym at) (c.requires.ready i c.index-patches-i.result lt) in
-    let q = get_or qs i c.index-patches-i-in-loop-i.result in
-    let same : one ≡ q = same_default qs i c.index-patches-i.result c.index-patches-i-in-loop-i.result (omega arith) in
-    let ready : IsReadyToUpdate p (masses_in ps) q = subst (λ (t : Patch). IsReadyToUpdate p (masses_in ps) t) same here in
-    let sizes = c.border_sizes-count.new.sizes in
-    let n = c.border_sizes-count.result in
-    let count = c.border_sizes-count.ensures.count ∙ ap (λ (t : Patch). length (border_faces t)) same in
-    let room : n ≤ length sizes = omega (arith, count, few p ps c.requires.small c.requires.inside q ready, c.loop-i.invariant.sizes, c.border_sizes-count.auto.sizes) in
-    let read : (f : Face) → is_border q f ≡ true → slice_index sizes (border_place q f) ≡ unsigned_abs (flux_beside p 0 q f) = subst (λ (t : Patch). (f : Face) → is_border t f ≡ true → slice_index sizes (border_place t f) ≡ unsigned_abs (flux_beside p 0 t f)) same c.border_sizes-count.ensures.sizes in
-    let tiny = c.border_sizes-count.ensures.small in
-    border_count p ps c.requires.small c.requires.inside q ready sizes n count room read tiny
+    let ready = ready_still c.args.p.now ps c.loop-i.patches c.loop-i.i c.index-patches-i.result (omega arith) c.requires.ready c.loop-i.invariant.rest in
+    reach_small c.args.p.now ps c.requires.small c.requires.inside _ ready
 
-pub update-requires-clause-small : goal.update-requires-clause-small
-update-requires-clause-small c =
-    let p = c.args.p.now in
+pub update_by_frame-requires-clause-kept : goal.update_by_frame-requires-clause-kept
+update_by_frame-requires-clause-kept c =
     let ps = c.args.patches.now in
-    let qs = c.loop-i.patches in
-    let i = c.loop-i.i in
-    let lt : i < length ps = omega arith in
-    let one = get_or qs i c.index-patches-i.result in
-    let at = c.loop-i.invariant.rest i c.index-patches-i.result (omega arith) in
-    let here : IsReadyToUpdate p (masses_in ps) one = subst (λ (t : Patch). IsReadyToUpdate p (masses_in ps) t) (sym at) (c.requires.ready i c.index-patches-i.result lt) in
-    let q = get_or qs i c.index-patches-i-in-loop-i.result in
-    let same : one ≡ q = same_default qs i c.index-patches-i.result c.index-patches-i-in-loop-i.result (omega arith) in
-    let ready : IsReadyToUpdate p (masses_in ps) q = subst (λ (t : Patch). IsReadyToUpdate p (masses_in ps) t) same here in
-    let sizes = c.border_sizes-count.new.sizes in
-    let n = c.border_sizes-count.result in
-    let count = c.border_sizes-count.ensures.count ∙ ap (λ (t : Patch). length (border_faces t)) same in
-    let room : n ≤ length sizes = omega (arith, count, few p ps c.requires.small c.requires.inside q ready, c.loop-i.invariant.sizes, c.border_sizes-count.auto.sizes) in
-    let read : (f : Face) → is_border q f ≡ true → slice_index sizes (border_place q f) ≡ unsigned_abs (flux_beside p 0 q f) = subst (λ (t : Patch). (f : Face) → is_border t f ≡ true → slice_index sizes (border_place t f) ≡ unsigned_abs (flux_beside p 0 t f)) same c.border_sizes-count.ensures.sizes in
-    let tiny = c.border_sizes-count.ensures.small in
-    reach_small p ps c.requires.small c.requires.inside q ready
+    let ready = ready_still c.args.p.now ps c.loop-i.patches c.loop-i.i c.index-patches-i.result (omega arith) c.requires.ready c.loop-i.invariant.rest in
+    kept c.args.p.now ps c.requires.small c.requires.inside _ ready
 
-pub update-requires-clause-border_small : goal.update-requires-clause-border_small
-update-requires-clause-border_small c =
-    let p = c.args.p.now in
+pub update_by_frame-requires-clause-fits : goal.update_by_frame-requires-clause-fits
+update_by_frame-requires-clause-fits c =
     let ps = c.args.patches.now in
-    let qs = c.loop-i.patches in
-    let i = c.loop-i.i in
-    let lt : i < length ps = omega arith in
-    let one = get_or qs i c.index-patches-i.result in
-    let at = c.loop-i.invariant.rest i c.index-patches-i.result (omega arith) in
-    let here : IsReadyToUpdate p (masses_in ps) one = subst (λ (t : Patch). IsReadyToUpdate p (masses_in ps) t) (sym at) (c.requires.ready i c.index-patches-i.result lt) in
-    let q = get_or qs i c.index-patches-i-in-loop-i.result in
-    let same : one ≡ q = same_default qs i c.index-patches-i.result c.index-patches-i-in-loop-i.result (omega arith) in
-    let ready : IsReadyToUpdate p (masses_in ps) q = subst (λ (t : Patch). IsReadyToUpdate p (masses_in ps) t) same here in
-    let sizes = c.border_sizes-count.new.sizes in
-    let n = c.border_sizes-count.result in
-    let count = c.border_sizes-count.ensures.count ∙ ap (λ (t : Patch). length (border_faces t)) same in
-    let room : n ≤ length sizes = omega (arith, count, few p ps c.requires.small c.requires.inside q ready, c.loop-i.invariant.sizes, c.border_sizes-count.auto.sizes) in
-    let read : (f : Face) → is_border q f ≡ true → slice_index sizes (border_place q f) ≡ unsigned_abs (flux_beside p 0 q f) = subst (λ (t : Patch). (f : Face) → is_border t f ≡ true → slice_index sizes (border_place t f) ≡ unsigned_abs (flux_beside p 0 t f)) same c.border_sizes-count.ensures.sizes in
-    let tiny = c.border_sizes-count.ensures.small in
-    border_small p ps c.requires.small c.requires.inside q ready sizes n count room read tiny
+    let ready = ready_still c.args.p.now ps c.loop-i.patches c.loop-i.i c.index-patches-i.result (omega arith) c.requires.ready c.loop-i.invariant.rest in
+    fits c.args.p.now ps c.requires.small c.requires.inside _ ready
 
-pub update-requires-clause-kept : goal.update-requires-clause-kept
-update-requires-clause-kept c =
-    let p = c.args.p.now in
+pub update_by_frame-requires-clause-room : goal.update_by_frame-requires-clause-room
+update_by_frame-requires-clause-room c =
     let ps = c.args.patches.now in
-    let qs = c.loop-i.patches in
-    let i = c.loop-i.i in
-    let lt : i < length ps = omega arith in
-    let one = get_or qs i c.index-patches-i.result in
-    let at = c.loop-i.invariant.rest i c.index-patches-i.result (omega arith) in
-    let here : IsReadyToUpdate p (masses_in ps) one = subst (λ (t : Patch). IsReadyToUpdate p (masses_in ps) t) (sym at) (c.requires.ready i c.index-patches-i.result lt) in
-    let q = get_or qs i c.index-patches-i-in-loop-i.result in
-    let same : one ≡ q = same_default qs i c.index-patches-i.result c.index-patches-i-in-loop-i.result (omega arith) in
-    let ready : IsReadyToUpdate p (masses_in ps) q = subst (λ (t : Patch). IsReadyToUpdate p (masses_in ps) t) same here in
-    let sizes = c.border_sizes-count.new.sizes in
-    let n = c.border_sizes-count.result in
-    let count = c.border_sizes-count.ensures.count ∙ ap (λ (t : Patch). length (border_faces t)) same in
-    let room : n ≤ length sizes = omega (arith, count, few p ps c.requires.small c.requires.inside q ready, c.loop-i.invariant.sizes, c.border_sizes-count.auto.sizes) in
-    let read : (f : Face) → is_border q f ≡ true → slice_index sizes (border_place q f) ≡ unsigned_abs (flux_beside p 0 q f) = subst (λ (t : Patch). (f : Face) → is_border t f ≡ true → slice_index sizes (border_place t f) ≡ unsigned_abs (flux_beside p 0 t f)) same c.border_sizes-count.ensures.sizes in
-    let tiny = c.border_sizes-count.ensures.small in
-    kept p ps c.requires.small c.requires.inside q ready sizes n count room read tiny
-
-pub update-requires-clause-fits : goal.update-requires-clause-fits
-update-requires-clause-fits c =
-    let p = c.args.p.now in
-    let ps = c.args.patches.now in
-    let qs = c.loop-i.patches in
-    let i = c.loop-i.i in
-    let lt : i < length ps = omega arith in
-    let one = get_or qs i c.index-patches-i.result in
-    let at = c.loop-i.invariant.rest i c.index-patches-i.result (omega arith) in
-    let here : IsReadyToUpdate p (masses_in ps) one = subst (λ (t : Patch). IsReadyToUpdate p (masses_in ps) t) (sym at) (c.requires.ready i c.index-patches-i.result lt) in
-    let q = get_or qs i c.index-patches-i-in-loop-i.result in
-    let same : one ≡ q = same_default qs i c.index-patches-i.result c.index-patches-i-in-loop-i.result (omega arith) in
-    let ready : IsReadyToUpdate p (masses_in ps) q = subst (λ (t : Patch). IsReadyToUpdate p (masses_in ps) t) same here in
-    let sizes = c.border_sizes-count.new.sizes in
-    let n = c.border_sizes-count.result in
-    let count = c.border_sizes-count.ensures.count ∙ ap (λ (t : Patch). length (border_faces t)) same in
-    let room : n ≤ length sizes = omega (arith, count, few p ps c.requires.small c.requires.inside q ready, c.loop-i.invariant.sizes, c.border_sizes-count.auto.sizes) in
-    let read : (f : Face) → is_border q f ≡ true → slice_index sizes (border_place q f) ≡ unsigned_abs (flux_beside p 0 q f) = subst (λ (t : Patch). (f : Face) → is_border t f ≡ true → slice_index sizes (border_place t f) ≡ unsigned_abs (flux_beside p 0 t f)) same c.border_sizes-count.ensures.sizes in
-    let tiny = c.border_sizes-count.ensures.small in
-    fits p ps c.requires.small c.requires.inside q ready sizes n count room read tiny
-
-pub update-requires-clause-room : goal.update-requires-clause-room
-update-requires-clause-room c =
-    let p = c.args.p.now in
-    let ps = c.args.patches.now in
-    let qs = c.loop-i.patches in
-    let i = c.loop-i.i in
-    let lt : i < length ps = omega arith in
-    let one = get_or qs i c.index-patches-i.result in
-    let at = c.loop-i.invariant.rest i c.index-patches-i.result (omega arith) in
-    let here : IsReadyToUpdate p (masses_in ps) one = subst (λ (t : Patch). IsReadyToUpdate p (masses_in ps) t) (sym at) (c.requires.ready i c.index-patches-i.result lt) in
-    let q = get_or qs i c.index-patches-i-in-loop-i.result in
-    let same : one ≡ q = same_default qs i c.index-patches-i.result c.index-patches-i-in-loop-i.result (omega arith) in
-    let ready : IsReadyToUpdate p (masses_in ps) q = subst (λ (t : Patch). IsReadyToUpdate p (masses_in ps) t) same here in
-    let sizes = c.border_sizes-count.new.sizes in
-    let n = c.border_sizes-count.result in
-    let count = c.border_sizes-count.ensures.count ∙ ap (λ (t : Patch). length (border_faces t)) same in
-    let room : n ≤ length sizes = omega (arith, count, few p ps c.requires.small c.requires.inside q ready, c.loop-i.invariant.sizes, c.border_sizes-count.auto.sizes) in
-    let read : (f : Face) → is_border q f ≡ true → slice_index sizes (border_place q f) ≡ unsigned_abs (flux_beside p 0 q f) = subst (λ (t : Patch). (f : Face) → is_border t f ≡ true → slice_index sizes (border_place t f) ≡ unsigned_abs (flux_beside p 0 t f)) same c.border_sizes-count.ensures.sizes in
-    let tiny = c.border_sizes-count.ensures.small in
-    omega (arith, narrow p ps c.requires.small c.requires.inside q ready, c.loop-i.invariant.row, c.requires.row)
+    let ready = ready_still c.args.p.now ps c.loop-i.patches c.loop-i.i c.index-patches-i.result (omega arith) c.requires.ready c.loop-i.invariant.rest in
+    omega (arith, narrow c.args.p.now ps c.requires.small c.requires.inside _ ready, c.loop-i.invariant.row, c.requires.row)
 
 pub loop-i-preserved : goal.loop-i-preserved
 loop-i-preserved c =
@@ -224,26 +40,14 @@ loop-i-preserved c =
     let ps = c.args.patches.now in
     let qs = c.loop-i.patches in
     let i = c.loop-i.i in
-    let lt : i < length ps = omega arith in
-    let one = get_or qs i c.index-patches-i.result in
-    let at = c.loop-i.invariant.rest i c.index-patches-i.result (omega arith) in
-    let here : IsReadyToUpdate p (masses_in ps) one = subst (λ (t : Patch). IsReadyToUpdate p (masses_in ps) t) (sym at) (c.requires.ready i c.index-patches-i.result lt) in
-    let q = get_or qs i c.index-patches-i-in-loop-i.result in
-    let same : one ≡ q = same_default qs i c.index-patches-i.result c.index-patches-i-in-loop-i.result (omega arith) in
-    let ready : IsReadyToUpdate p (masses_in ps) q = subst (λ (t : Patch). IsReadyToUpdate p (masses_in ps) t) same here in
-    let sizes = c.border_sizes-count.new.sizes in
-    let n = c.border_sizes-count.result in
-    let count = c.border_sizes-count.ensures.count ∙ ap (λ (t : Patch). length (border_faces t)) same in
-    let room : n ≤ length sizes = omega (arith, count, few p ps c.requires.small c.requires.inside q ready, c.loop-i.invariant.sizes, c.border_sizes-count.auto.sizes) in
-    let read : (f : Face) → is_border q f ≡ true → slice_index sizes (border_place q f) ≡ unsigned_abs (flux_beside p 0 q f) = subst (λ (t : Patch). (f : Face) → is_border t f ≡ true → slice_index sizes (border_place t f) ≡ unsigned_abs (flux_beside p 0 t f)) same c.border_sizes-count.ensures.sizes in
-    let tiny = c.border_sizes-count.ensures.small in
-    let r = c.update.new.patch in
-    let keeps : KeepsFluxes q r = record { of_box = c.update.ensures.of_box; marks = c.update.ensures.marks; fluxes = c.update.ensures.fluxes } in
-    let done = updated_one p ps c.requires.small c.requires.inside q ready sizes n count room read tiny r keeps c.update.ensures.masses in
+    let d = c.index-patches-i.result in
+    let ready = ready_still p ps qs i d (omega arith) c.requires.ready c.loop-i.invariant.rest in
+    let made = c.update_by_frame.ensures in
+    let r = c.update_by_frame.new.patch in
+    let done = updated_one p ps c.requires.small c.requires.inside (get_or qs i d) ready r (record { of_box = made.of_box; marks = made.marks; fluxes = made.fluxes }) made.masses in
     record {
-      sizes = omega (arith, c.loop-i.invariant.sizes, c.border_sizes-count.auto.sizes);
-      row = c.update.ensures.room ∙ c.loop-i.invariant.row;
-      done = set_done (IsUpdated (base_fluxes p (masses_in ps))) ps qs i r (omega arith) c.loop-i.invariant.done c.loop-i.invariant.rest c.index-patches-i-in-loop-i.result done;
+      row = made.room ∙ c.loop-i.invariant.row;
+      done = set_done (IsUpdated (base_fluxes p (masses_in ps))) ps qs i r (omega arith) c.loop-i.invariant.done c.loop-i.invariant.rest d done;
       rest = set_rest (IsUpdated (base_fluxes p (masses_in ps))) ps qs i r (omega arith) c.loop-i.invariant.done c.loop-i.invariant.rest;
     }
 

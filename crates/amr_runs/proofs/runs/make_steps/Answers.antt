@@ -12,7 +12,6 @@ loop-k-init c = record {
   sound = c.requires.sound;
   value = refl;
   patches = refl;
-  sizes = c.requires.sizes;
   row = c.requires.row;
   space = c.requires.room;
 }
@@ -25,9 +24,6 @@ make_step-requires-clause-sound c = c.loop-k.invariant.sound
 
 pub make_step-requires-clause-more : goal.make_step-requires-clause-more
 make_step-requires-clause-more c = omega (arith, c.loop-k-test.true, c.requires.within)
-
-pub make_step-requires-clause-sizes : goal.make_step-requires-clause-sizes
-make_step-requires-clause-sizes c = c.loop-k.invariant.sizes
 
 pub make_step-requires-clause-row : goal.make_step-requires-clause-row
 make_step-requires-clause-row c = c.loop-k.invariant.row
@@ -45,7 +41,6 @@ loop-k-preserved c =
       value = ap (λ (t : State). finish p t c.args.steps.target) c.make_step.ensures.value ∙ finish_next p s c.args.steps.target c.loop-k-test.true ∙ l.invariant.value;
       patches = c.make_step.ensures.patches ∙ l.invariant.patches;
       row = omega (arith, c.make_step.ensures.row, l.invariant.row);
-      sizes = omega (arith, c.make_step.ensures.sizes, l.invariant.sizes);
       space = omega (arith, c.make_step.ensures.count, c.make_step.ensures.capacity, l.invariant.space, c.loop-k-test.true);
     }
 

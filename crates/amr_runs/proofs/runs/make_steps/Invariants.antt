@@ -14,6 +14,5 @@ invariant-loop-k l = record {
   value : finish l.p (one_level_state l.k l.rows.items (level_of l.level)) l.fn.steps.target ≡ finish l.p (one_level_state l.fn.steps.step l.fn.rows.items (level_of l.fn.level)) l.fn.steps.target;
   patches : map box (patches_of l.level) ≡ map box (patches_of l.fn.level);
   row : 256 ≤ widest l.room;
-  sizes : 512 ≤ length l.sizes;
   space : length l.rows.items + (l.fn.steps.target - l.k) ≤ vec_capacity l.rows;
 }

@@ -26,9 +26,6 @@ advance-requires-clause-of_domain c = of_domain c.args.p.now c.args.step c.args.
 pub advance-requires-clause-small : goal.advance-requires-clause-small
 advance-requires-clause-small c d = masses-small c.args.p.now (one_level_state c.args.step c.args.rows.now.items (level_of c.args.level.now)) 0 d c.requires.sound
 
-pub advance-requires-clause-sizes : goal.advance-requires-clause-sizes
-advance-requires-clause-sizes c = c.requires.sizes
-
 pub advance-requires-clause-row : goal.advance-requires-clause-row
 advance-requires-clause-row c = c.requires.row
 
@@ -68,8 +65,6 @@ returns-clause-capacity c = omega (arith, c.push.ensures.capacity, c.requires.ro
 pub returns-clause-count : goal.returns-clause-count
 returns-clause-count c = omega (arith, c.in-Ok.ensures.len)
 
-pub returns-clause-sizes : goal.returns-clause-sizes
-returns-clause-sizes c = c.advance.auto.sizes
 
 pub overflow_add-row : goal.overflow_add-row
 overflow_add-row c =

@@ -1,0 +1,77 @@
+use Rattle.std.proofs.Common.{◌≡◌, ℕ, ◌+◌, ◌^◌, ◌<◌, ◌≤◌, ◌∙◌, Bool, List, ℤ, pos, ◌+ℤ◌, ◌≤ℤ◌, ◌<ℤ◌, [], length, refl, sym, ap, arith, rules}
+use Rattle.std.specs.Prelude.{slice_index}
+use Rattle.std.proofs.lemmas.List.{with_items_is}
+use Rattle.amr_patch.specs.Patches.{flux_in, mark_in}
+use Rattle.amr_patch.proofs.Rows.{sides}
+use Rattle.amr_flux.specs.Rooms.{widest}
+use Rattle.amr_flux.specs.Tables.{IsOtherPlace, count_below, net_inflow, value, x_marked, x_through, y_marked, y_through}
+use Rattle.amr_flux.proofs.Owned.{x_small, y_small}
+use Rattle.amr_flux.proofs.Throughs.{no_sizes}
+use Rattle.amr_flux.proofs.Updates.{each_at, frame_stays, frame_fluxes, masses_are, moved, same_along}
+use Rattle.amr_box.specs.Cells.{cell}
+use Rattle.amr_flux.proofs.masses.update_by_frame.Goals as goal
+
+pub update_rows-requires-clause-columns_inside : goal.update_rows-requires-clause-columns_inside
+update_rows-requires-clause-columns_inside c = rw (c.shape_of-shape.ensures.columns, c.shape_of-shape.ensures.level) c.shape_of-shape.ensures.stands.columns_fit
+
+pub update_rows-requires-clause-rows_inside : goal.update_rows-requires-clause-rows_inside
+update_rows-requires-clause-rows_inside c = rw (c.shape_of-shape.ensures.rows, c.shape_of-shape.ensures.level) c.shape_of-shape.ensures.stands.rows_fit
+
+pub update_rows-requires-clause-some : goal.update_rows-requires-clause-some
+update_rows-requires-clause-some c = omega (arith, c.shape_of-shape.ensures.rows, (sides c.args.patch.now.bx c.args.patch.now.near).some_rows)
+
+pub update_rows-requires-clause-enough : goal.update_rows-requires-clause-enough
+update_rows-requires-clause-enough c = omega (arith, no_sizes c.shape_of-shape.result.w c.shape_of-shape.result.h)
+
+pub update_rows-requires-clause-x_small : goal.update_rows-requires-clause-x_small
+update_rows-requires-clause-x_small c = rw (c.shape_of-shape.ensures.columns, c.shape_of-shape.ensures.rows, c.deref_mut.ensures.value) (x_small c.args.patch.now c.requires.small)
+
+pub update_rows-requires-clause-y_small : goal.update_rows-requires-clause-y_small
+update_rows-requires-clause-y_small c = rw (c.shape_of-shape.ensures.columns, c.shape_of-shape.ensures.rows, c.deref_mut.ensures.value) (y_small c.args.patch.now c.requires.small)
+
+pub update_rows-requires-clause-kept : goal.update_rows-requires-clause-kept
+update_rows-requires-clause-kept c =
+    let q = c.args.patch.now in
+    let r = c.shape_of-shape.result in
+    rw (c.shape_of-shape.ensures.columns, c.shape_of-shape.ensures.rows, c.shape_of-shape.ensures.level, c.deref_mut.ensures.value) (each_at q _ _ _ (frame_fluxes c.args.p.now c.args.l q r.column r.row c.shape_of-shape.ensures.stands) (λ z. pos 0 ≤ℤ z) c.requires.kept)
+
+pub update_rows-requires-clause-fits : goal.update_rows-requires-clause-fits
+update_rows-requires-clause-fits c =
+    let q = c.args.patch.now in
+    let r = c.shape_of-shape.result in
+    rw (c.shape_of-shape.ensures.columns, c.shape_of-shape.ensures.rows, c.shape_of-shape.ensures.level, c.deref_mut.ensures.value) (each_at q _ _ _ (frame_fluxes c.args.p.now c.args.l q r.column r.row c.shape_of-shape.ensures.stands) (λ z. z <ℤ pos (2 ^ 32)) c.requires.fits)
+
+pub returns-clause-masses : goal.returns-clause-masses
+returns-clause-masses c =
+    let p = c.args.p.now in
+    let q = c.args.patch.now in
+    let row = c.shape_of-shape.result.row in
+    let column = c.shape_of-shape.result.column in
+    let e = c.shape_of-shape.ensures in
+    let vs = c.update_rows.new.values in
+    masses_are q _ _ _ (frame_fluxes p c.args.l q column row e.stands) _ refl vs (with_items_is q.values vs (search rules))
+    (moved (λ l w h v m. (i j : ℕ) → i < w → j < h → pos (value w vs (i + 1) (j + 1)) ≡ pos (value w v (i + 1) (j + 1)) +ℤ net_inflow (x_through p l row w [] [] v) (y_through p l column w h [] [] v) i j) {m = []} e.level e.columns e.rows c.deref_mut.ensures.value refl c.update_rows.ensures.made)
+
+pub returns-clause-frame : goal.returns-clause-frame
+returns-clause-frame c =
+    let q = c.args.patch.now in
+    let e = c.shape_of-shape.ensures in
+    let vs = c.update_rows.new.values in
+    frame_stays q _ vs refl (with_items_is q.values vs (search rules))
+    (moved (λ l w h v m. (k : ℕ) → IsOtherPlace w h k → slice_index vs k ≡ slice_index v k) {m = []} e.level e.columns e.rows c.deref_mut.ensures.value refl c.update_rows.ensures.others)
+
+pub returns-clause-marks : goal.returns-clause-marks
+unfolding mark_in
+returns-clause-marks c = λ d. refl
+
+pub returns-clause-fluxes : goal.returns-clause-fluxes
+unfolding flux_in
+returns-clause-fluxes c = λ f. same_along c.args.patch.now _ f.axis (cell f.x f.y) refl refl refl refl refl
+
+pub update_rows-requires-clause-room : goal.update_rows-requires-clause-room
+unfolding widest
+update_rows-requires-clause-room c = omega (arith, c.shape_of-shape.ensures.columns, c.requires.room)
+
+pub returns-clause-room : goal.returns-clause-room
+unfolding widest
+returns-clause-room c = c.update_rows.ensures.room
