@@ -29,13 +29,7 @@ struct Steps {
 
 /// Makes these steps of level 0. It takes no memory.
 #[tactic(none)]
-fn make_steps(
-    p: &Problem,
-    steps: Steps,
-    rows: &mut Vec<Row>,
-    level: &mut Level,
-    room: &mut Room,
-)
+fn make_steps(p: &Problem, steps: Steps, rows: &mut Vec<Row>, level: &mut Level, room: &mut Room)
     requires one_level { p.now.max_level ≡ 0 }
     requires sound { IsSound p.now (one_level_state steps.step rows.old.items (level_of level.old)) }
     requires ahead { steps.step ≤ steps.target }

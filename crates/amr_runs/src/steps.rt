@@ -18,13 +18,7 @@ use amr_patch::Level;
 /// Makes the step from step `step`: level 0 steps, and the ledger gets its row. The mass of the new row is the mass of the last
 /// one and the inflow, less the outflow, so no pass over the masses is made. It takes no memory.
 #[tactic(none)]
-pub fn make_step(
-    p: &Problem,
-    step: u32,
-    rows: &mut Vec<Row>,
-    level: &mut Level,
-    room: &mut Room,
-)
+pub fn make_step(p: &Problem, step: u32, rows: &mut Vec<Row>, level: &mut Level, room: &mut Room)
     requires one_level { p.now.max_level ≡ 0 }
     requires sound { IsSound p.now (one_level_state step rows.old.items (level_of level.old)) }
     requires more { step < p.now.steps }

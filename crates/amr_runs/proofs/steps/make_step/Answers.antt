@@ -65,7 +65,6 @@ returns-clause-capacity c = omega (arith, c.push.ensures.capacity, c.requires.ro
 pub returns-clause-count : goal.returns-clause-count
 returns-clause-count c = omega (arith, c.in-Ok.ensures.len)
 
-
 pub overflow_add-row : goal.overflow_add-row
 overflow_add-row c =
     let p = c.args.p.now in
