@@ -1,0 +1,24 @@
+-- Cells of a patch that are given masses, while all else of the patch stays.
+use Rattle.std.specs.Prelude.{◌≡◌, ℕ, Bool, false, pos, ◌+ℤ◌, ◌-ℤ◌, IsTrue}
+use Rattle.amr_box.specs.declared.Cell.{Cell}
+use Rattle.amr_box.specs.Cells.{Extent, cell, extent, holds}
+use Rattle.amr_patch.specs.declared.patches.Patch.{Patch}
+use Rattle.amr_patch.specs.Patches.{KeepsFrameAndFluxes, box, mass_in}
+
+-- the cells of a set have these masses, and all else of the patch is as it was
+pub record IsGiven (cells : Cell → Bool) (mass : Cell → ℕ) (p q : Patch) : Type 0 where
+  pub kept : KeepsFrameAndFluxes p q
+  pub given : (c : Cell) → IsTrue (holds (box p) c) → IsTrue (cells c) → mass_in q c ≡ mass c
+  pub others : (c : Cell) → IsTrue (holds (box p) c) → cells c ≡ false → mass_in q c ≡ mass_in p c
+
+-- n cells of a row, from a cell on
+abbrev pub span : Cell → ℕ → Extent
+span c n = extent c (cell (c.x +ℤ pos n -ℤ pos 1) c.y)
+
+-- the first n rows of a box
+abbrev pub rows_to : Extent → ℕ → Extent
+rows_to b n = extent b.lo (cell b.hi.x (b.lo.y +ℤ pos n -ℤ pos 1))
+
+-- each cell of the patch has this mass
+pub record HasMasses (mass : Cell → ℕ) (q : Patch) : Type 0 where
+  pub at : (c : Cell) → IsTrue (holds (box q) c) → mass_in q c ≡ mass c

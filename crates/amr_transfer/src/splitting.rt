@@ -1,0 +1,147 @@
+//! The masses of a level that is made anew.
+
+ghost use Rattle.std.specs.Prelude.{◌≡◌, ℕ, ◌+◌, ◌*◌, ◌/◌, ◌%◌, ◌<◌, ◌≤◌, pos, ◌+ℤ◌, ◌-ℤ◌, ◌≤ℤ◌, length, slice_index, is_some, IsSome, IsTrue};
+ghost use Rattle.std.specs.Option.{option_copied};
+ghost use Rattle.std.specs.List.{All};
+ghost use Rattle.amr_box.specs.declared.Cell.{Cell};
+ghost use Rattle.amr_box.specs.Cells.{cell, holds, parent};
+ghost use Rattle.amr_def.specs.Regrid.{refilled, share, split_mass};
+ghost use Rattle.amr_def.specs.State.{children_mass, in_boxes, mass_of};
+ghost use Rattle.amr_patch.specs.Levels.{level_of, patches_of};
+ghost use Rattle.amr_patch.specs.Pairwise.{Pairwise};
+ghost use Rattle.amr_patch.specs.Patches.{ArePatchesApart, KeepsFrameAndFluxes, box, in_patches, masses_in};
+ghost use Rattle.amr_transfer.specs.Given.{HasMasses, IsGiven, span};
+ghost use Rattle.amr_transfer.specs.Shares.{HasChildren, IsInSync, kept_or_split, masses_before};
+ghost use Rattle.amr_transfer.specs.Windows.{AreRowsOf};
+
+use crate::cells::{ROOM, above, ahead, cells_from, odd};
+use crate::giving::give;
+use crate::keeping::keep;
+use crate::windows::{Rows, rows_of};
+use amr_box::{Cell, parent};
+use amr_patch::{Level, Patch};
+
+/// What child `k` gets of its parent's mass: a quarter, and one more for the first of the four.
+fn share(mass: u32, k: u32) -> u32
+    ensures { result ≡ share mass k }
+{
+    if k < mass % 4 { mass / 4 + 1 } else { mass / 4 }
+}
+
+/// Works out the shares of the cells of a row. They begin with the low child of the first parent where `first` is 0, and with the
+/// high one where it is 1. `row` is 0 in the low row of the children, and 1 in the high row.
+fn share_row(parents: &[u32], first: usize, row: usize, shares: &mut [u32])
+    requires first { first ≤ 1 }
+    requires row { row ≤ 1 }
+    requires small { length shares.old ≤ 256 }
+    requires enough { first + length shares.old ≤ 2 * length parents.now }
+    ensures { (k : ℕ) → k < length shares.new → slice_index shares.new k ≡ share (slice_index parents.now ((first + k) / 2)) (2 * row + (first + k) % 2) }
+{
+    for k in 0..shares.len() {
+        let place = first + k;
+        shares[k] = share(parents[place / 2], (2 * row + place % 2) as u32);
+    }
+}
+
+/// Gives cells of a row of a patch, from one of them on, their shares: as many as have their parents in one coarse patch.
+/// Answers how many.
+fn split_span(coarse: &Level, patch: &mut Patch, c: Cell, room: &mut [u32]) -> u32
+    requires parent { IsSome ((level_of coarse.now).masses (parent c)) }
+    requires inside { IsTrue (holds (box patch.old) c) }
+    requires room { length room.old ≡ 256 }
+    ensures some { 0 < result }
+    ensures within { (c.x +ℤ pos result) ≤ℤ ((box patch.old).hi.x +ℤ pos 1) }
+    ensures given { IsGiven (holds (span c result)) (split_mass (level_of coarse.now).masses) patch.old patch.new }
+{
+    let parents = coarse.span(parent(c));
+    let first = odd(c.x);
+    let reach = 2 * parents.len().min(room.len()) - first;
+    let count = reach.min(room.len()).min(cells_from(&patch.bx(), c));
+    share_row(parents, first, odd(c.y), &mut room[..count]);
+    give(patch, c, &room[..count]);
+    count as u32
+}
+
+/// Gives the cells of a row of a patch, from its low column on, their shares.
+fn split_row(coarse: &Level, patch: &mut Patch, low: Cell, room: &mut [u32])
+    requires parents { (c : Cell) → IsTrue (holds (box patch.old) c) → IsSome ((level_of coarse.now).masses (parent c)) }
+    requires inside { IsTrue (holds (box patch.old) low) }
+    requires room { length room.old ≡ 256 }
+    ensures { (n : ℕ) → pos n ≡ (box patch.old).hi.x +ℤ pos 1 -ℤ low.x → IsGiven (holds (span low n)) (split_mass (level_of coarse.now).masses) patch.old patch.new }
+{
+    let width = cells_from(&patch.bx(), low) as u32;
+    let mut done = 0;
+    while done < width {
+        done += split_span(coarse, patch, ahead(low, done), room);
+    }
+}
+
+/// Gives the cells of a patch their shares.
+fn split_patch(coarse: &Level, patch: &mut Patch, room: &mut [u32])
+    requires parents { (c : Cell) → IsTrue (holds (box patch.old) c) → IsSome ((level_of coarse.now).masses (parent c)) }
+    requires room { length room.old ≡ 256 }
+    ensures { IsGiven (holds (box patch.old)) (split_mass (level_of coarse.now).masses) patch.old patch.new }
+{
+    let b = patch.bx();
+    for k in 0..b.height() {
+        split_row(coarse, patch, above(b.lo(), k), room);
+    }
+}
+
+/// Gives the cells of a patch their masses: those that the old patches have, else their shares.
+fn fill_patch(coarse: &Level, old: &[Patch], rows: Rows, patch: &mut Patch, room: &mut [u32])
+    requires parents { (c : Cell) → IsTrue (holds (box patch.old) c) → IsSome ((level_of coarse.now).masses (parent c)) }
+    requires rows { AreRowsOf rows old.now }
+    requires apart { ArePatchesApart old.now }
+    requires room { length room.old ≡ 256 }
+    ensures kept { KeepsFrameAndFluxes patch.old patch.new }
+    ensures masses { HasMasses (kept_or_split (level_of coarse.now).masses (masses_in old.now)) patch.new }
+{
+    split_patch(coarse, patch, room);
+    keep(old, rows, patch);
+}
+
+/// The same of a list of patches.
+fn fill_all(coarse: &Level, old: &[Patch], patches: &mut [Patch])
+    requires parents { (c : Cell) → IsTrue (in_patches patches.old c) → IsSome ((level_of coarse.now).masses (parent c)) }
+    requires apart { ArePatchesApart old.now }
+    ensures kept { Pairwise KeepsFrameAndFluxes patches.old patches.new }
+    ensures masses { All (HasMasses (kept_or_split (level_of coarse.now).masses (masses_in old.now))) patches.new }
+{
+    let rows = rows_of(old);
+    let mut room = [0u32; ROOM];
+    for i in 0..patches.len() {
+        fill_patch(coarse, old, rows, &mut patches[i], &mut room);
+    }
+}
+
+/// The patches of a level as it was, none where there was no such level.
+fn patches_before(old: Option<&Level>) -> &[Patch]
+    ensures masses { masses_in result.now ≡ masses_before (option_copied old.entry) }
+    ensures apart { ArePatchesApart result.now }
+{
+    match old {
+        Some(level) => level.patches(),
+        None => &[],
+    }
+}
+
+/// Gives the cells of a level their masses over the next coarser one, as a regrid does: a cell that was of the level keeps the
+/// mass that it has in `old_fine`, and any other gets its child share of its parent's mass: a quarter, rounded down, and one
+/// more for the first of the four where a rest is left. So the four children of a cell add up to it, if the old level was in
+/// sync with it. (Berger and Colella: a new grid takes its values from the old grids, else from the coarser level.)
+///
+/// The parent of each cell is a cell of the coarser level. Boxes, patch boxes, frames and fluxes stay. It takes no memory.
+pub fn split_into(coarse: &Level, old_fine: Option<&Level>, fine: &mut Level)
+    requires filled { (c : Cell) → is_some ((level_of fine.old).masses c) ≡ in_boxes (level_of fine.old).boxes c }
+    requires parents { (c : Cell) → IsSome ((level_of fine.old).masses c) → IsSome ((level_of coarse.now).masses (parent c)) }
+    ensures masses { (level_of fine.new).masses ≡ refilled (level_of coarse.now).masses (masses_before (option_copied old_fine.entry)) (level_of fine.old).boxes }
+    ensures boxes { (level_of fine.new).boxes ≡ (level_of fine.old).boxes }
+    ensures patches { Pairwise KeepsFrameAndFluxes (patches_of fine.old) (patches_of fine.new) }
+    ensures sync { (c : Cell) → HasChildren (level_of fine.old).masses c → IsInSync (level_of coarse.now).masses (masses_before (option_copied old_fine.entry)) c → children_mass (level_of fine.new).masses c ≡ mass_of (level_of coarse.now).masses c }
+{
+    let order = fine.order();
+    let mut patches = fine.take_patches();
+    fill_all(coarse, patches_before(old_fine), &mut patches);
+    fine.put_patches_in_order(patches, order);
+}
