@@ -6,7 +6,9 @@ use Rattle.std.specs.Ordering.{int_eq}
 use Rattle.std.proofs.lemmas.Int.{ints}
 use Rattle.std.proofs.lemmas.Bool.{cases_lt, false≢true}
 use Rattle.std.proofs.lemmas.List.Sums.{sum_by-cons}
+use Rattle.std.proofs.lemmas.Bool.Decides.{Decides-int_eq}
 use Rattle.amr_box.specs.declared.Cell.{Cell}
+use Rattle.amr_box.proofs.CellEquality.{same_number}
 use Rattle.amr_box.specs.declared.Axis.{Axis}
 use Rattle.amr_box.specs.declared.Axis.TheVariants.{X, Y}
 use Rattle.amr_box.specs.Cells.{Extent, IsNear, along, cells_of, holds}
@@ -41,12 +43,6 @@ pub size_along-is : (a : Axis) (b : Extent) → IsNear b → pos (size_along a b
 size_along-is X b near = size-is b.lo.x b.hi.x near.wide
 size_along-is Y b near = size-is b.lo.y b.hi.y near.high
 
-same_place : (y z : ℤ) → int_eq y z ≡ true → y ≡ z
-same_place y z e = grind (arith, ints)
-
-place_same : (y z : ℤ) → y ≡ z → int_eq y z ≡ true
-place_same y z e = grind (arith, ints)
-
 along_in : (a : Axis) (b : Extent) (c : Cell) → IsIn b c → (along a b.lo ≤ℤ along a c) × (along a c ≤ℤ along a b.hi)
 along_in X b c h = (h.west, h.east)
 along_in Y b c h = (h.south, h.north)
@@ -60,7 +56,7 @@ module _ (has : Cell → Bool) (part larger : Extent) (near : IsNear part) (insi
   found : (a : Axis) (i : ℕ) → i < size_along a part → 1 ≤ slice_index (signature a (cells_in has part) part) i → (c : Cell) × ((holds part c && has c) ≡ true) × (along a c ≡ along a part.lo +ℤ pos i)
   found a i h some =
       let one = count_some (λ c. int_eq (along a c) (along a part.lo +ℤ pos i)) (λ c. (holds part c && has c) ≡ true) (cells_in has part) (subst (λ (n : ℕ). 1 ≤ n) (signature-at a (cells_in has part) part i h) some) listed in
-      (one.0, one.1, same_place (along a one.0) (along a part.lo +ℤ pos i) one.2)
+      (one.0, one.1, same_number (along a one.0) (along a part.lo +ℤ pos i) one.2)
 
   -- the entry of a tag
   offset_of : (a : Axis) (c : Cell) → (holds part c && has c) ≡ true → (i : ℕ) × (i < size_along a part) × (along a c ≡ along a part.lo +ℤ pos i)
@@ -76,7 +72,7 @@ module _ (has : Cell → Bool) (part larger : Extent) (near : IsNear part) (insi
   not_zero a c i h inside_i at none =
       let all = count_none (λ c. int_eq (along a c) (along a part.lo +ℤ pos i)) (cells_in has part) (sym (signature-at a (cells_in has part) part i inside_i) ∙ none) in
       let no = member (λ c. int_eq (along a c) (along a part.lo +ℤ pos i) ≡ false) has part c all (both_true _ _ h).1 (both_true _ _ h).0 in
-      false≢true (sym no ∙ place_same (along a c) (along a part.lo +ℤ pos i) at)
+      false≢true (sym no ∙ (Decides-int_eq (along a c) (along a part.lo +ℤ pos i)).1 at)
 
   pub no_tags : (a : Axis) (counts : List ℕ) → counts ≡ signature a (cells_in has part) part → ((k : ℕ) → slice_index counts k ≡ 0) → (c : Cell) → (holds part c && has c) ≡ false
   no_tags a counts e none c = choose (holds part c && has c) refl

@@ -26,7 +26,7 @@ use Rattle.amr_cluster.proofs.Windows.{cells_of-window}
 
 -- ---- filters
 
-filter_same : (p q : Cell → Bool) (cs : List Cell) → Each (λ c. p c ≡ q c) cs → filter p cs ≡ filter q cs
+pub filter_same : (p q : Cell → Bool) (cs : List Cell) → Each (λ c. p c ≡ q c) cs → filter p cs ≡ filter q cs
 filter_same p q [] e = refl
 filter_same p q (c ∷ cs) e = ap (λ (t : Bool). cond t (c ∷ filter p cs) (filter p cs)) e.0 ∙ ap (λ (ks : List Cell). cond (q c) (c ∷ ks) ks) (filter_same p q cs e.1)
 

@@ -105,7 +105,7 @@ leaves_within efficiency w (suc n) (c ∷ cs) least h = by_cut (cut_of efficienc
 
 -- ---- the same in the words of the law
 
-all_cells : (P : Cell → Type 0) (cs : List Cell) → Each P cs → All P cs
+pub all_cells : (P : Cell → Type 0) (cs : List Cell) → Each P cs → All P cs
 all_cells P [] e k d h = absurd (omega arith)
 all_cells P (c ∷ cs) e zero d h = e.0
 all_cells P (c ∷ cs) e (suc k) d h = all_cells P cs e.1 k d (omega arith)

@@ -38,12 +38,12 @@ IsNear-in b larger i near = record {
   high = i.high;
 }
 
+pub at_least_zero-is : (z : ℤ) → pos 0 ≤ℤ z → pos (at_least_zero z) ≡ z
+at_least_zero-is (pos n) g = refl
+at_least_zero-is (negsuc n) g = absurd (omega (arith, ints))
+
 pub size-is : (low high : ℤ) → low ≤ℤ high → pos (at_least_zero (high +ℤ pos 1 -ℤ low)) ≡ high +ℤ pos 1 -ℤ low
-size-is low high h = of (high +ℤ pos 1 -ℤ low) (omega (arith, ints))
-  where
-    of : (z : ℤ) → pos 0 ≤ℤ z → pos (at_least_zero z) ≡ z
-    of (pos n) g = refl
-    of (negsuc n) g = absurd (omega (arith, ints))
+size-is low high h = at_least_zero-is (high +ℤ pos 1 -ℤ low) (omega (arith, ints))
 
 abbrev pub size_along : Axis → Extent → ℕ
 size_along X b = width b

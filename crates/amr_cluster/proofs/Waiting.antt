@@ -6,6 +6,7 @@ use Rattle.std.specs.declared.option.Option.{Option}
 use Rattle.std.specs.declared.option.Option.TheVariants.{None, Some}
 use Rattle.std.specs.List.{filter}
 use Rattle.std.proofs.lemmas.Int.{ints}
+use Rattle.std.proofs.lemmas.List.{append-nil}
 use Rattle.amr_box.specs.declared.Cell.{Cell}
 use Rattle.amr_box.specs.declared.Axis.{Axis}
 use Rattle.amr_box.specs.declared.Axis.TheVariants.{X, Y}
@@ -25,11 +26,7 @@ use Rattle.amr_cluster.proofs.Sound.{apart_is}
 
 module _ (efficiency w : ℕ) (has : Cell → Bool) where
   pub waiting-push : (work : List CutBox) (p : CutBox) → waiting efficiency w has (work ++ p ∷ []) ≡ cluster efficiency w (cells_in has p.bx) ++ waiting efficiency w has work
-  waiting-push [] p = none_after (cluster efficiency w (cells_in has p.bx))
-    where
-      none_after : (bs : List Extent) → bs ≡ bs ++ []
-      none_after [] = refl
-      none_after (d ∷ bs) = ap (λ (ds : List Extent). d ∷ ds) (none_after bs)
+  waiting-push [] p = sym (append-nil (cluster efficiency w (cells_in has p.bx)))
   waiting-push (d ∷ work) p =
       ap (λ (bs : List Extent). bs ++ cluster efficiency w (cells_in has d.bx)) (waiting-push work p)
       ∙ append_assoc (cluster efficiency w (cells_in has p.bx)) (waiting efficiency w has work) (cluster efficiency w (cells_in has d.bx))
@@ -125,21 +122,17 @@ pub empty_of : {A : Type 0} (xs : List A) → length xs ≡ 0 → xs ≡ []
 empty_of [] e = refl
 empty_of (x ∷ xs) e = absurd (omega arith)
 
-none_after : (bs : List Extent) → bs ++ [] ≡ bs
-none_after [] = refl
-none_after (b ∷ bs) = ap (λ (ds : List Extent). b ∷ ds) (none_after bs)
-
 -- what is done, and what is left, of the boxes of all cells
 pub record IsTurn (efficiency w : ℕ) (has : Cell → Bool) (larger : Extent) (boxes : List Extent) (work : List CutBox) : Type 0 where
   pub total : boxes ++ waiting efficiency w has work ≡ cluster efficiency w (cells_in has larger)
   pub listed : IsWork efficiency w has larger work
 
 pub turn_first : (efficiency w : ℕ) (has : Cell → Bool) (larger : Extent) (work : List CutBox) → waiting efficiency w has work ≡ cluster efficiency w (cells_in has larger) ++ [] → IsWork efficiency w has larger work → IsTurn efficiency w has larger [] work
-turn_first efficiency w has larger work e listed = record { total = e ∙ none_after (cluster efficiency w (cells_in has larger)); listed = listed }
+turn_first efficiency w has larger work e listed = record { total = e ∙ append-nil (cluster efficiency w (cells_in has larger)); listed = listed }
 
 pub turn_last : (efficiency w : ℕ) (has : Cell → Bool) (larger : Extent) (boxes : List Extent) (work : List CutBox) → IsTurn efficiency w has larger boxes work → length work ≡ 0 → boxes ≡ cluster efficiency w (cells_in has larger)
 turn_last efficiency w has larger boxes work turn none =
-    sym (ap (λ (ds : List CutBox). boxes ++ waiting efficiency w has ds) (empty_of work none) ∙ none_after boxes) ∙ turn.total
+    sym (ap (λ (ds : List CutBox). boxes ++ waiting efficiency w has ds) (empty_of work none) ∙ append-nil boxes) ∙ turn.total
 
 -- the box that is next, and the others
 module _ (efficiency w : ℕ) (has : Cell → Bool) (larger : Extent) (least : 1 ≤ w) (boxes : List Extent) (old work : List CutBox) (p : CutBox) (turn : IsTurn efficiency w has larger boxes old) (popped : old ≡ work ++ p ∷ []) where

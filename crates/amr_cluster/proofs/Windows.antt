@@ -1,11 +1,14 @@
 -- The cells of a box inside another, as the cells of the larger one that lie in it, in the same order.
-use Rattle.std.proofs.Common.{◌≡◌, ℕ, zero, suc, ◌+◌, ◌-◌, ◌<◌, ◌≤◌, Bool, true, false, cond, ◌&&◌, ℤ, pos, negsuc, ◌+ℤ◌, ◌-ℤ◌, ◌≤ℤ◌, ◌<ℤ◌, List, [], ◌∷◌, ◌++◌, map, refl, ap, ◌∙◌, arith}
+use Rattle.std.proofs.Common.{◌≡◌, ℕ, zero, suc, ◌+◌, ◌-◌, ◌<◌, ◌≤◌, Bool, true, false, cond, ◌&&◌, ℤ, pos, ◌+ℤ◌, ◌-ℤ◌, ◌≤ℤ◌, ◌<ℤ◌, List, [], ◌∷◌, ◌++◌, map, refl, ap, ◌∙◌, arith}
 use Rattle.std.specs.List.{filter, flat_map, range_with_len}
 use Rattle.std.proofs.lemmas.Int.{ints}
 use Rattle.std.proofs.lemmas.List.Elements.{filter-append}
+use Rattle.std.proofs.Math.Bool.{and-false, and-true}
+use Rattle.std.proofs.lemmas.List.{append-nil}
 use Rattle.amr_box.specs.declared.Cell.{Cell}
 use Rattle.amr_tags.specs.Stored.{IsPart}
 use Rattle.amr_box.specs.Cells.{Extent, at_least_zero, cell, cells_of, height, holds, width, within}
+use Rattle.amr_cluster.proofs.Tagged.{at_least_zero-is, size-is}
 
 filter-map : {A B : Type 0} (p : B → Bool) (f : A → B) (xs : List A) → filter p (map f xs) ≡ map f (filter (λ x. p (f x)) xs)
 filter-map {B = B} p f [] = refl
@@ -65,15 +68,11 @@ filter-window p d n r before inside after =
     ap (filter p) (range-add 0 (d + n) r)
     ∙ filter-append p (range_with_len 0 (d + n)) (range_with_len (0 + (d + n)) r)
     ∙ ap (λ (ks : List ℕ). filter p (range_with_len 0 (d + n)) ++ ks) (ap (λ (k : ℕ). filter p (range_with_len k r)) (omega arith) ∙ last)
-    ∙ none-after (filter p (range_with_len 0 (d + n)))
+    ∙ append-nil (filter p (range_with_len 0 (d + n)))
     ∙ ap (filter p) (range-add 0 d n)
     ∙ filter-append p (range_with_len 0 d) (range_with_len (0 + d) n)
     ∙ ap (λ (ks : List ℕ). ks ++ filter p (range_with_len (0 + d) n)) first
     ∙ ap (λ (k : ℕ). filter p (range_with_len k n)) (omega arith) ∙ middle
-  where
-    none-after : (xs : List ℕ) → xs ++ [] ≡ xs
-    none-after [] = refl
-    none-after (x ∷ xs) = ap (λ (ys : List ℕ). x ∷ ys) (none-after xs)
 
 -- the windows of two ranges of coordinates
 record IsWindow (low high lo hi : ℤ) : Type 0 where
@@ -81,19 +80,8 @@ record IsWindow (low high lo hi : ℤ) : Type 0 where
   order : lo ≤ℤ hi
   to : hi ≤ℤ high
 
-size-is : (low high : ℤ) → low ≤ℤ high → pos (at_least_zero (high +ℤ pos 1 -ℤ low)) ≡ high +ℤ pos 1 -ℤ low
-size-is low high h = of (high +ℤ pos 1 -ℤ low) (omega (arith, ints))
-  where
-    of : (z : ℤ) → pos 0 ≤ℤ z → pos (at_least_zero z) ≡ z
-    of (pos n) g = refl
-    of (negsuc n) g = absurd (omega (arith, ints))
-
 offset-is : (low lo : ℤ) → low ≤ℤ lo → pos (at_least_zero (lo -ℤ low)) ≡ lo -ℤ low
-offset-is low lo h = of (lo -ℤ low) (omega (arith, ints))
-  where
-    of : (z : ℤ) → pos 0 ≤ℤ z → pos (at_least_zero z) ≡ z
-    of (pos n) g = refl
-    of (negsuc n) g = absurd (omega (arith, ints))
+offset-is low lo h = at_least_zero-is (lo -ℤ low) (omega (arith, ints))
 
 abbrev size : ℤ → ℤ → ℕ
 size low high = at_least_zero (high +ℤ pos 1 -ℤ low)
@@ -145,14 +133,6 @@ flat_map-eq : {A B : Type 0} (f g : A → List B) → ((x : A) → f x ≡ g x) 
 flat_map-eq f g same [] = refl
 flat_map-eq {B = B} f g same (x ∷ xs) = ap (λ (ys : List B). ys ++ flat_map f xs) (same x) ∙ ap (λ (ys : List B). g x ++ ys) (flat_map-eq f g same xs)
 
-and-yes : (t : Bool) → (t && true) ≡ t
-and-yes true = refl
-and-yes false = refl
-
-and-no : (t : Bool) → (t && false) ≡ false
-and-no true = refl
-and-no false = refl
-
 module _ (a b : Extent) (inside : IsPart a b) where
   at : ℕ → ℕ → Cell
   at j i = cell (a.lo.x +ℤ pos i) (a.lo.y +ℤ pos j)
@@ -176,10 +156,10 @@ module _ (a b : Extent) (inside : IsPart a b) where
     where
       choose : (t : Bool) → map (at j) (filter (λ i. column_in i && t) (range_with_len 0 (width a))) ≡ cond t (map (at j) (range_with_len (at_least_zero (b.lo.x -ℤ a.lo.x)) (width b))) []
       choose true =
-          ap (map (at j)) (filter-range-same (λ i. column_in i && true) column_in 0 (width a) (λ i from to. and-yes (column_in i))
+          ap (map (at j)) (filter-range-same (λ i. column_in i && true) column_in 0 (width a) (λ i from to. and-true (column_in i))
           ∙ coordinates a.lo.x a.hi.x b.lo.x b.hi.x across)
       choose false =
-          ap (map (at j)) (filter-range-same (λ i. column_in i && false) (λ i. false) 0 (width a) (λ i from to. and-no (column_in i)) ∙ filter-none (range_with_len 0 (width a)))
+          ap (map (at j)) (filter-range-same (λ i. column_in i && false) (λ i. false) 0 (width a) (λ i from to. and-false (column_in i)) ∙ filter-none (range_with_len 0 (width a)))
 
   same_cell : (j i : ℕ) → at (at_least_zero (b.lo.y -ℤ a.lo.y) + j) (at_least_zero (b.lo.x -ℤ a.lo.x) + i) ≡ cell (b.lo.x +ℤ pos i) (b.lo.y +ℤ pos j)
   unfolding at

@@ -3,6 +3,9 @@ use Rattle.std.proofs.Common.{◌≡◌, ℕ, ◌<◌, ◌≤◌, Bool, true, fa
 use Rattle.std.specs.Prelude.{int_le, not, ◌⊎◌}
 use Rattle.std.proofs.Common.{inl, inr}
 use Rattle.std.proofs.lemmas.Int.{ints}
+use Rattle.std.proofs.lemmas.Bool.{and_parts}
+use Rattle.std.proofs.Math.Bool.{and-false}
+use Rattle.amr_box.proofs.Boxes.{int_le-no, int_le-yes}
 use Rattle.amr_box.specs.declared.Cell.{Cell}
 use Rattle.amr_box.specs.declared.Axis.{Axis}
 use Rattle.amr_box.specs.Cells.{Extent, IsNear, along, at_least_zero, cell, holds, within}
@@ -20,25 +23,11 @@ use Rattle.amr_ghost.specs.Filling.{HasGhosts, IsGhostStrip, LiesInDomain, side_
 le_self : (z : ℤ) → int_le z z ≡ true
 le_self z = grind (arith, ints)
 
-le_of : (a b : ℤ) → a ≤ℤ b → int_le a b ≡ true
-le_of a b h = grind (arith, ints)
-
-lt_of : (a b : ℤ) → b <ℤ a → int_le a b ≡ false
-lt_of a b h = grind (arith, ints)
-
 has_low : (b : Extent) → b.lo.x ≤ℤ b.hi.x → b.lo.y ≤ℤ b.hi.y → holds b b.lo ≡ true
-has_low b wide high = rw (le_self b.lo.x, le_of b.lo.x b.hi.x wide, le_self b.lo.y, le_of b.lo.y b.hi.y high)
+has_low b wide high = rw (le_self b.lo.x, int_le-yes b.lo.x b.hi.x wide, le_self b.lo.y, int_le-yes b.lo.y b.hi.y high)
 
 has_high : (b : Extent) → b.lo.x ≤ℤ b.hi.x → b.lo.y ≤ℤ b.hi.y → holds b b.hi ≡ true
-has_high b wide high = rw (le_of b.lo.x b.hi.x wide, le_self b.hi.x, le_of b.lo.y b.hi.y high, le_self b.hi.y)
-
-left_of : (a b : Bool) → IsTrue (a && b) → IsTrue a
-left_of true b h = refl
-left_of false b h = h
-
-right_of : (a b : Bool) → IsTrue (a && b) → IsTrue b
-right_of true b h = h
-right_of false b h = absurd (cc)
+has_high b wide high = rw (int_le-yes b.lo.x b.hi.x wide, le_self b.hi.x, int_le-yes b.lo.y b.hi.y high, le_self b.hi.y)
 
 low_inside : (n : ℕ) (z : ℤ) → IsTrue (is_inside n z) → pos 0 ≤ℤ z
 low_inside n z h = grind (arith, ints)
@@ -49,7 +38,7 @@ high_inside n z h = grind (arith, ints)
 -- the sides of a domain round a cell
 parts_of : (d : Domain) (c : Cell) → IsTrue (in_domain d c) → IsTrue (is_inside d.columns c.x) × IsTrue (is_inside d.rows c.y)
 unfolding in_domain
-parts_of d c h = (left_of (is_inside d.columns c.x) (is_inside d.rows c.y) h, right_of (is_inside d.columns c.x) (is_inside d.rows c.y) h)
+parts_of d c h = ((and_parts (is_inside d.columns c.x) (is_inside d.rows c.y) h).0, (and_parts (is_inside d.columns c.x) (is_inside d.rows c.y) h).1)
 
 -- the box of a patch of a level lies in the domain
 pub lies_in : (d : Domain) (ps : List Patch) (i : ℕ) (p : Patch) → AreInDomain d ps → i < length ps → p ≡ get_or ps i p → (box p).lo.x ≤ℤ (box p).hi.x → (box p).lo.y ≤ℤ (box p).hi.y → LiesInDomain d (box p)
@@ -67,10 +56,6 @@ lies_in d ps i p inside there is wide high =
 
 -- ---- ghost cells along a side
 
-and-false : (t : Bool) → (t && false) ≡ false
-and-false true = refl
-and-false false = refl
-
 out_x : (b : Extent) (c : Cell) → within (b.lo.x -ℤ pos 1) (b.hi.x +ℤ pos 1) c.x ≡ true → within (b.lo.y -ℤ pos 1) (b.hi.y +ℤ pos 1) c.y ≡ true → within b.lo.x b.hi.x c.x ≡ false → IsTrue (in_frame b c)
 out_x b c x y out = frame_of (within (b.lo.x -ℤ pos 1) (b.hi.x +ℤ pos 1) c.x) (within (b.lo.y -ℤ pos 1) (b.hi.y +ℤ pos 1) c.y) (within b.lo.x b.hi.x c.x) (within b.lo.y b.hi.y c.y) x y out
   where
@@ -84,13 +69,13 @@ out_y b c x y out = frame_of (within (b.lo.x -ℤ pos 1) (b.hi.x +ℤ pos 1) c.x
     frame_of g h a e x y z = rw (x, y, z, and-false a) refl
 
 within_grown : (low high z : ℤ) → (low -ℤ pos 1) ≤ℤ z → z ≤ℤ (high +ℤ pos 1) → within (low -ℤ pos 1) (high +ℤ pos 1) z ≡ true
-within_grown low high z from to = rw (le_of (low -ℤ pos 1) z from, le_of z (high +ℤ pos 1) to)
+within_grown low high z from to = rw (int_le-yes (low -ℤ pos 1) z from, int_le-yes z (high +ℤ pos 1) to)
 
 below_out : (low high z : ℤ) → z <ℤ low → within low high z ≡ false
-below_out low high z h = rw (lt_of low z h)
+below_out low high z h = rw (int_le-no low z h)
 
 above_out : (low high z : ℤ) → high <ℤ z → within low high z ≡ false
-above_out low high z h = rw (lt_of z high h) (and-false (int_le low z))
+above_out low high z h = rw (int_le-no z high h) (and-false (int_le low z))
 
 -- the k-th cell from a coordinate on is below the end of as many
 counted : (low high : ℤ) (k : ℕ) → k < at_least_zero (high +ℤ pos 1 -ℤ low) → (low +ℤ pos k) ≤ℤ high
@@ -125,7 +110,7 @@ in_a_column true false e h k = absurd (cc)
 in_a_column false a e h k = absurd (cc)
 
 in_range : (low high : ℤ) (k : ℕ) → k < at_least_zero (high +ℤ pos 1 -ℤ low) → within low high (low +ℤ pos k) ≡ true
-in_range low high k t = let top = counted low high k t in rw (le_of low (low +ℤ pos k) (omega (arith, ints)), le_of (low +ℤ pos k) high top)
+in_range low high k t = let top = counted low high k t in rw (int_le-yes low (low +ℤ pos k) (omega (arith, ints)), int_le-yes (low +ℤ pos k) high top)
 
 -- and shares a face with a cell of the box
 side_beside : (b : Extent) (side : Side) (k : ℕ) → b.lo.x ≤ℤ b.hi.x → b.lo.y ≤ℤ b.hi.y → k < side_count b side → IsTrue (is_beside b (step (side_axis side) (side_from b side) k))
@@ -211,16 +196,16 @@ pub beside_of : (P : Cell → Type 0) (b : Extent) → ((side : Side) (k : ℕ) 
 beside_of P b sides c h = by_ranges (within b.lo.x b.hi.x c.x) (within b.lo.y b.hi.y c.y) refl refl
   where
     frame : IsTrue (in_frame b c)
-    frame = left_of (in_frame b c) (within b.lo.x b.hi.x c.x || within b.lo.y b.hi.y c.y) h
+    frame = (and_parts (in_frame b c) (within b.lo.x b.hi.x c.x || within b.lo.y b.hi.y c.y) h).0
 
     near : IsTrue (holds (grown b) c)
-    near = left_of (holds (grown b) c) (not (holds b c)) frame
+    near = (and_parts (holds (grown b) c) (not (holds b c)) frame).0
 
     near_x : IsTrue (within (b.lo.x -ℤ pos 1) (b.hi.x +ℤ pos 1) c.x)
-    near_x = left_of (within (b.lo.x -ℤ pos 1) (b.hi.x +ℤ pos 1) c.x) (within (b.lo.y -ℤ pos 1) (b.hi.y +ℤ pos 1) c.y) near
+    near_x = (and_parts (within (b.lo.x -ℤ pos 1) (b.hi.x +ℤ pos 1) c.x) (within (b.lo.y -ℤ pos 1) (b.hi.y +ℤ pos 1) c.y) near).0
 
     near_y : IsTrue (within (b.lo.y -ℤ pos 1) (b.hi.y +ℤ pos 1) c.y)
-    near_y = right_of (within (b.lo.x -ℤ pos 1) (b.hi.x +ℤ pos 1) c.x) (within (b.lo.y -ℤ pos 1) (b.hi.y +ℤ pos 1) c.y) near
+    near_y = (and_parts (within (b.lo.x -ℤ pos 1) (b.hi.x +ℤ pos 1) c.x) (within (b.lo.y -ℤ pos 1) (b.hi.y +ℤ pos 1) c.y) near).1
 
     west_or_east : within b.lo.y b.hi.y c.y ≡ true → (c.x ≡ b.lo.x -ℤ pos 1) ⊎ (c.x ≡ b.hi.x +ℤ pos 1) → P c
     west_or_east y (inl e) =

@@ -1,6 +1,7 @@
 -- The cells that the cells of a strip stand for, and what a strip has in a box.
 use Rattle.std.proofs.Common.{◌≡◌, ℕ, ◌+◌, Bool, true, false, ◌&&◌, ℤ, pos, ◌+ℤ◌, ◌≤ℤ◌, IsTrue, refl, sym, ap, ◌∙◌, arith}
 use Rattle.std.proofs.lemmas.Int.{ints}
+use Rattle.std.proofs.lemmas.Bool.{and_parts}
 use Rattle.amr_box.specs.declared.Cell.{Cell}
 use Rattle.amr_box.specs.declared.Axis.{Axis}
 use Rattle.amr_box.specs.declared.Axis.TheVariants.{X, Y}
@@ -58,16 +59,8 @@ pub record HasBounds (b : Extent) (c : Cell) : Type 0 where
 two_sides : (low high z : ℤ) → IsTrue (within low high z) → (low ≤ℤ z) × (z ≤ℤ high)
 two_sides low high z h = grind (arith, ints)
 
-left_part : (a b : Bool) → IsTrue (a && b) → IsTrue a
-left_part true b h = refl
-left_part false b h = h
-
-right_part : (a b : Bool) → IsTrue (a && b) → IsTrue b
-right_part true b h = h
-right_part false b h = absurd (cc)
-
 pub bounds : (b : Extent) (c : Cell) → IsTrue (holds b c) → HasBounds b c
 bounds b c h =
-    let x = two_sides b.lo.x b.hi.x c.x (left_part (within b.lo.x b.hi.x c.x) (within b.lo.y b.hi.y c.y) h) in
-    let y = two_sides b.lo.y b.hi.y c.y (right_part (within b.lo.x b.hi.x c.x) (within b.lo.y b.hi.y c.y) h) in
+    let x = two_sides b.lo.x b.hi.x c.x ((and_parts (within b.lo.x b.hi.x c.x) (within b.lo.y b.hi.y c.y) h).0) in
+    let y = two_sides b.lo.y b.hi.y c.y ((and_parts (within b.lo.x b.hi.x c.x) (within b.lo.y b.hi.y c.y) h).1) in
     record { west = x.0; east = x.1; south = y.0; north = y.1 }

@@ -1,7 +1,8 @@
 -- The inflow of the side that a cell lies outside of, side by side.
 use Rattle.std.proofs.Common.{◌≡◌, ℕ, zero, suc, ◌*◌, ◌/◌, ◌^◌, ◌≤◌, true, false, ℤ, pos, ◌≤ℤ◌, ◌<ℤ◌, refl, ap, arith, ◌<◌}
-use Rattle.std.specs.Prelude.{int_le, int_lt}
+use Rattle.std.specs.Prelude.{int_lt}
 use Rattle.std.proofs.lemmas.Int.{ints}
+use Rattle.amr_box.proofs.Boxes.{int_le-no, int_le-yes}
 use Rattle.amr_box.specs.declared.Cell.{Cell}
 use Rattle.amr_def.specs.declared.problem.Problem.{Problem}
 use Rattle.amr_def.specs.Domain.{columns}
@@ -13,12 +14,6 @@ int_lt-yes a b h = grind (arith, ints)
 
 pub int_lt-no : (a b : ℤ) → b ≤ℤ a → int_lt a b ≡ false
 int_lt-no a b h = grind (arith, ints)
-
-int_le-yes : (a b : ℤ) → a ≤ℤ b → int_le a b ≡ true
-int_le-yes a b h = grind (arith, ints)
-
-int_le-no : (a b : ℤ) → b <ℤ a → int_le a b ≡ false
-int_le-no a b h = grind (arith, ints)
 
 pub west_inflow : (p : Problem) (l : ℕ) (c : Cell) → c.x <ℤ pos 0 → inflow_at p l c ≡ low_inflow p.x_sides
 unfolding inflow_at

@@ -1,8 +1,9 @@
 -- The patches of a level while their frames are filled: they stay a level, and the values of its cells stay.
-use Rattle.std.proofs.Common.{◌≡◌, ℕ, ◌<◌, ◌≤◌, Bool, true, false, ◌&&◌, ◌||◌, List, [], ◌∷◌, length, get_or, IsTrue, refl, sym, ap, subst, ◌∙◌, arith}
+use Rattle.std.proofs.Common.{◌≡◌, ℕ, ◌<◌, ◌≤◌, ◌||◌, List, [], ◌∷◌, length, get_or, IsTrue, sym, ap, subst, ◌∙◌, arith}
 use Rattle.std.specs.Prelude.{is_some}
 use Rattle.std.specs.List.{AllZip}
 use Rattle.std.proofs.lemmas.List.Elements.{AllZip-get_or, length_all_zip}
+use Rattle.std.proofs.lemmas.Bool.{and_parts}
 use Rattle.amr_box.specs.declared.Cell.{Cell}
 use Rattle.amr_box.specs.declared.Axis.{Axis}
 use Rattle.amr_box.specs.declared.Axis.TheVariants.{X, Y}
@@ -100,12 +101,8 @@ still_frame p l old ps qs rs i q there kept more values h =
     let b : box (get_or rs i q) ≡ box (get_or qs i q) = zip_box qs rs i q q more here in
     record { at = λ c t. stays b here c (subst (λ (x : Extent). IsTrue (is_beside x c)) b t) }
   where
-    frame_part : (x y : Bool) → IsTrue (x && y) → IsTrue x
-    frame_part true y h = refl
-    frame_part false y h = h
-
     stays : box (get_or rs i q) ≡ box (get_or qs i q) → i < length qs → (c : Cell) → IsTrue (is_beside (box (get_or qs i q)) c) → HasGhost (value_at p l (masses_in ps) old) (is_of_level p l (masses_in ps)) (get_or rs i q) c
-    stays b here c t = (AllZip-get_or (KeepsGhosts (value_at p l (masses_in ps) old) (is_of_level p l (masses_in ps))) qs rs i q q (same_keeps p l old ps qs rs kept values) here).at c (frame_part (in_frame (box (get_or qs i q)) c) (within (box (get_or qs i q)).lo.x (box (get_or qs i q)).hi.x c.x || within (box (get_or qs i q)).lo.y (box (get_or qs i q)).hi.y c.y) t) (h.at c t)
+    stays b here c t = (AllZip-get_or (KeepsGhosts (value_at p l (masses_in ps) old) (is_of_level p l (masses_in ps))) qs rs i q q (same_keeps p l old ps qs rs kept values) here).at c ((and_parts (in_frame (box (get_or qs i q)) c) (within (box (get_or qs i q)).lo.x (box (get_or qs i q)).hi.x c.x || within (box (get_or qs i q)).lo.y (box (get_or qs i q)).hi.y c.y) t).0) (h.at c t)
 
 pub same_frame : (p : Problem) (l : ℕ) (old : Masses) (ps qs : List Patch) (q : Patch) → AllZip KeepsCells ps qs → HasFrame p l (masses_in qs) old q → HasFrame p l (masses_in ps) old q
 same_frame p l old ps qs q kept h = subst (λ (m : Masses). HasFrame p l m old q) (zip_masses ps qs kept) h

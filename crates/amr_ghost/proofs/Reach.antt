@@ -5,6 +5,7 @@ use Rattle.std.specs.declared.option.Option.{Option}
 use Rattle.std.specs.Option.{unwrap_or}
 use Rattle.std.specs.List.{All, AllZip}
 use Rattle.std.proofs.lemmas.List.Elements.{AllZip-get_or, length_all_zip}
+use Rattle.std.proofs.lemmas.Bool.{and_parts}
 use Rattle.amr_box.specs.declared.Cell.{Cell}
 use Rattle.amr_box.specs.Cells.{Extent, cell, holds, within}
 use Rattle.amr_def.specs.declared.problem.Problem.{Problem}
@@ -20,18 +21,10 @@ use Rattle.amr_patch.proofs.Lookups.{in_one, masses_in-at}
 use Rattle.amr_ghost.specs.Frames.{AreInDomain, HasGhostValues, SameMasses}
 use Rattle.amr_def.proofs.Homes.{inside-itself}
 
-left_part : (a b : Bool) → IsTrue (a && b) → IsTrue a
-left_part true b h = refl
-left_part false b h = h
-
-right_part : (a b : Bool) → IsTrue (a && b) → IsTrue b
-right_part true b h = h
-right_part false b h = absurd (cc)
-
 -- a cell of the domain stands for itself
 pub home_inside : (d : Domain) (c : Cell) → IsTrue (in_domain d c) → home_cell d c ≡ c
 unfolding in_domain
-home_inside d c h = λ i. cell (inside-itself d.wrap_x d.columns c.x (left_part (is_inside d.columns c.x) (is_inside d.rows c.y) h) i) (inside-itself d.wrap_y d.rows c.y (right_part (is_inside d.columns c.x) (is_inside d.rows c.y) h) i)
+home_inside d c h = λ i. cell (inside-itself d.wrap_x d.columns c.x ((and_parts (is_inside d.columns c.x) (is_inside d.rows c.y) h).0) i) (inside-itself d.wrap_y d.rows c.y ((and_parts (is_inside d.columns c.x) (is_inside d.rows c.y) h).1) i)
 
 -- the value of a cell of a patch is its mass
 pub own_value : (p : Problem) (l : ℕ) (old : Masses) (ps : List Patch) (k : ℕ) (d : Patch) (c : Cell) → ArePatchesApart ps → AreInDomain (domain p l) ps → k < length ps → ((e : Patch) → IsTrue (holds (box (get_or ps k e)) c)) → value_at p l (masses_in ps) old c ≡ mass_in (get_or ps k d) c

@@ -4,6 +4,7 @@ use Rattle.std.specs.Prelude.{◌↔◌}
 use Rattle.std.specs.declared.option.Option.{Option}
 use Rattle.std.specs.declared.option.Option.TheVariants.{None, Some}
 use Rattle.std.proofs.lemmas.Int.{ints}
+use Rattle.std.proofs.lemmas.Bool.{and_from, and_parts}
 use Rattle.amr_box.specs.declared.Cell.{Cell}
 use Rattle.amr_box.specs.Cells.{AreDisjoint, Extent, holds}
 use Rattle.amr_def.specs.Domain.{Domain, in_domain, is_inside}
@@ -25,26 +26,14 @@ apart_boxes None a b h none c s t = neither (holds a c) (holds b c) (h.0 refl c)
 inside_between : (n : ℕ) (low high z : ℤ) → IsTrue (is_inside n low) → IsTrue (is_inside n high) → low ≤ℤ z → z ≤ℤ high → IsTrue (is_inside n z)
 inside_between n low high z h k from to = grind (arith, ints)
 
-first_of : (a b : Bool) → IsTrue (a && b) → IsTrue a
-first_of true b h = refl
-first_of false b h = h
-
-second_of : (a b : Bool) → IsTrue (a && b) → IsTrue b
-second_of true b h = h
-second_of false b h = absurd (cc)
-
-both_of : (a b : Bool) → IsTrue a → IsTrue b → IsTrue (a && b)
-both_of true b h k = k
-both_of false b h k = h
-
 -- the cells of a box lie in a domain where its corners do
 pub box_in_domain : (d : Domain) (b : Extent) → IsTrue (in_domain d b.lo) → IsTrue (in_domain d b.hi) → (c : Cell) → IsTrue (holds b c) → IsTrue (in_domain d c)
 unfolding in_domain
 box_in_domain d b low high c h =
     let k = bounds b c h in
-    both_of (is_inside d.columns c.x) (is_inside d.rows c.y)
-    (inside_between d.columns b.lo.x b.hi.x c.x (first_of (is_inside d.columns b.lo.x) (is_inside d.rows b.lo.y) low) (first_of (is_inside d.columns b.hi.x) (is_inside d.rows b.hi.y) high) k.west k.east)
-    (inside_between d.rows b.lo.y b.hi.y c.y (second_of (is_inside d.columns b.lo.x) (is_inside d.rows b.lo.y) low) (second_of (is_inside d.columns b.hi.x) (is_inside d.rows b.hi.y) high) k.south k.north)
+    and_from (is_inside d.columns c.x) (is_inside d.rows c.y)
+    (inside_between d.columns b.lo.x b.hi.x c.x ((and_parts (is_inside d.columns b.lo.x) (is_inside d.rows b.lo.y) low).0) ((and_parts (is_inside d.columns b.hi.x) (is_inside d.rows b.hi.y) high).0) k.west k.east)
+    (inside_between d.rows b.lo.y b.hi.y c.y ((and_parts (is_inside d.columns b.lo.x) (is_inside d.rows b.lo.y) low).1) ((and_parts (is_inside d.columns b.hi.x) (is_inside d.rows b.hi.y) high).1) k.south k.north)
 
 -- and those of the patches where each patch's do
 pub patches_in_domain : (d : Domain) (ps : List Patch) → ((i : ℕ) (q : Patch) → i < length ps → (c : Cell) → IsTrue (holds (box (get_or ps i q)) c) → IsTrue (in_domain d c)) → AreInDomain d ps

@@ -1,5 +1,5 @@
 -- The lines of a plot, as the fragments that are put.
-use Rattle.std.proofs.Common.{◌≡◌, pos, length, ℕ, zero, suc, ◌<◌, Bool, true, false, ◌&&◌, List, [], ◌∷◌, ◌++◌, refl, sym, ap, ◌∙◌, append_assoc, arith}
+use Rattle.std.proofs.Common.{◌≡◌, pos, length, ℕ, zero, suc, ◌<◌, true, List, [], ◌∷◌, ◌++◌, sym, ap, ◌∙◌, append_assoc, arith}
 use Rattle.std.specs.Prelude.{codes, decimal}
 use Rattle.amr_def.specs.declared.problem.Problem.{Problem}
 use Rattle.amr_def.specs.declared.problem.Row.{Row}
@@ -8,6 +8,7 @@ use Rattle.std.specs.List.{list_all}
 use Rattle.std.specs.Str.{IsAscii}
 use Rattle.amr_def.specs.Limits.{is_name_byte}
 use Rattle.std.specs.Fmt.{signed_decimal}
+use Rattle.std.proofs.lemmas.Bool.{and_parts}
 use Rattle.amr_box.specs.Cells.{Extent}
 use Rattle.amr_def.specs.State.{Level}
 use Rattle.amr_def.specs.Plot.{box_line, head_text, ledger_line, level_line}
@@ -51,11 +52,7 @@ head_fragments p step = ap (λ (l : List ℕ). codes "amr-plot 1" ++ (10 ∷ (co
 name_byte_small : (b : ℕ) → is_name_byte b ≡ true → b < 128
 name_byte_small b e = grind (arith, nat_tests)
 
-and_true : (a b : Bool) → (a && b) ≡ true → (a ≡ true) × (b ≡ true)
-and_true true b e = (refl, e)
-and_true false b e = cc
-
 pub name_ascii : (bs : List ℕ) → list_all is_name_byte bs ≡ true → IsAscii bs
 name_ascii [] e i = omega arith
-name_ascii (b ∷ bs) e zero = name_byte_small b (and_true (is_name_byte b) (list_all is_name_byte bs) e).0
-name_ascii (b ∷ bs) e (suc i) = name_ascii bs (and_true (is_name_byte b) (list_all is_name_byte bs) e).1 i
+name_ascii (b ∷ bs) e zero = name_byte_small b (and_parts (is_name_byte b) (list_all is_name_byte bs) e).0
+name_ascii (b ∷ bs) e (suc i) = name_ascii bs (and_parts (is_name_byte b) (list_all is_name_byte bs) e).1 i

@@ -1,6 +1,7 @@
 -- The boxes of a level, one by one.
-use Rattle.std.proofs.Common.{◌≡◌, ℕ, zero, suc, ◌<◌, Bool, true, false, ◌||◌, List, [], ◌∷◌, length, get_or, refl, ap, ◌∙◌, arith}
+use Rattle.std.proofs.Common.{◌≡◌, ℕ, zero, suc, ◌<◌, Bool, true, ◌||◌, List, [], ◌∷◌, length, get_or, ap, ◌∙◌, arith}
 use Rattle.std.specs.Prelude.{IsTrue, pos, ◌||◌}
+use Rattle.std.proofs.lemmas.Bool.{or_right}
 use Rattle.amr_box.specs.declared.Cell.{Cell}
 use Rattle.amr_box.specs.Cells.{Extent, cell, extent, holds}
 use Rattle.amr_def.specs.declared.problem.Problem.{Problem}
@@ -13,10 +14,6 @@ use Rattle.amr_plot.specs.Rows.{HasCellsOf}
 
 abbrev pub no_box : Extent
 no_box = extent (cell (pos 0) (pos 0)) (cell (pos 0) (pos 0))
-
-or_right : (a b : Bool) → b ≡ true → (a || b) ≡ true
-or_right true b e = refl
-or_right false b e = e
 
 pub in_some : (bs : List Extent) (i : ℕ) (c : Cell) → i < length bs → holds (get_or bs i no_box) c ≡ true → in_boxes bs c ≡ true
 in_some [] i c h e = absurd (omega (arith, h))

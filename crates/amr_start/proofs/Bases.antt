@@ -1,10 +1,11 @@
 -- The start of a problem of one level, by the list of its masses.
-use Rattle.std.proofs.Common.{◌≡◌, ℕ, zero, suc, ◌+◌, ◌*◌, ◌<◌, Bool, true, false, cond, ◌&&◌, ℤ, pos, negsuc, ◌-ℤ◌, List, [], ◌∷◌, refl, sym, ap, ◌∙◌, arith}
+use Rattle.std.proofs.Common.{◌≡◌, ℕ, zero, suc, ◌+◌, ◌*◌, ◌<◌, Bool, true, false, cond, ℤ, pos, negsuc, ◌-ℤ◌, List, [], ◌∷◌, refl, sym, ap, ◌∙◌, arith}
 use Rattle.std.specs.Prelude.{slice_index}
 use Rattle.std.specs.Option.{unwrap_or}
 use Rattle.std.specs.declared.option.Option.{Option}
 use Rattle.std.specs.declared.option.Option.TheVariants.{None, Some}
 use Rattle.std.proofs.lemmas.Int.{ints}
+use Rattle.std.proofs.lemmas.Bool.{and_parts}
 use Rattle.amr_box.specs.declared.Cell.{Cell}
 use Rattle.amr_box.specs.Cells.{Extent, cell, holds, within}
 use Rattle.amr_def.specs.declared.problem.Problem.{Problem}
@@ -40,10 +41,6 @@ record IsAt (columns rows : ℕ) (c : Cell) : Type 0 where
   pub row : y < rows
   pub is : c ≡ cell (pos x) (pos y)
 
-and_true : (a b : Bool) → (a && b) ≡ true → (a ≡ true) × (b ≡ true)
-and_true true b e = (refl, e)
-and_true false b e = cc
-
 below_end : (k n : ℕ) → within (pos 0) (pos n -ℤ pos 1) (pos k) ≡ true → k < n
 below_end k n e = grind (arith, ints)
 
@@ -54,7 +51,7 @@ at_pos columns rows (negsuc x) y hx hy = cc
 
 inside_at : (columns rows : ℕ) (c : Cell) → holds (box_of columns rows) c ≡ true → IsAt columns rows c
 inside_at columns rows c h =
-    let both = and_true (within (pos 0) (pos columns -ℤ pos 1) c.x) (within (pos 0) (pos rows -ℤ pos 1) c.y) h in
+    let both = and_parts (within (pos 0) (pos columns -ℤ pos 1) c.x) (within (pos 0) (pos rows -ℤ pos 1) c.y) h in
     at_pos columns rows c.x c.y both.0 both.1
 
 -- masses that agree at each cell of a box are one

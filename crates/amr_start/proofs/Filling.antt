@@ -1,7 +1,7 @@
 -- How a block fills its cells, row by row.
 use Rattle.std.proofs.Common.{◌≡◌, ℕ, ◌+◌, ◌*◌, ◌<◌, ◌≤◌, Bool, true, false, cond, ◌&&◌, ◌⊎◌, inl, inr, ◌≢◌, pos, List, length, get_or, set, get_or-set_same, get_or-set_other, take, ◌/◌, ◌%◌, ◌^◌, refl, sym, ap, subst, ◌∙◌, arith}
 use Rattle.std.specs.Prelude.{nat_le, nat_lt}
-use Rattle.std.proofs.lemmas.Bool.{cases_lt, cases_eq}
+use Rattle.std.proofs.lemmas.Bool.{and_parts, cases_eq, cases_lt, le-leb, le-ltb, leb-true, lt-leb, lt-ltb, ltb-true}
 use Rattle.std.proofs.lemmas.Bool.Decides.{nat_tests}
 use Rattle.std.proofs.lemmas.List.{get_or_past, get_or-replicate, length-replicate}
 use Rattle.std.specs.Prelude.{replicate}
@@ -11,23 +11,12 @@ use Rattle.std.specs.List.{list_all}
 use Rattle.amr_def.specs.Limits.{is_block}
 use Rattle.std.proofs.lemmas.Nat.{rows}
 use Rattle.std.proofs.Math.Nat.{mul-le-mul_right}
+use Rattle.std.proofs.Math.Bool.{and-false, and-true}
 use Rattle.amr_box.specs.declared.Cell.{Cell}
 use Rattle.amr_box.specs.Cells.{cell, holds, within}
 use Rattle.amr_def.specs.declared.problem.Block.{Block}
 use Rattle.amr_def.specs.Run.{block_extent, block_mass}
 use Rattle.amr_start.specs.Rows.{IsBlockIn, IsFilled}
-
-yes_le : (a b : ℕ) → a ≤ b → nat_le a b ≡ true
-yes_le a b h = grind (arith, nat_tests)
-
-no_le : (a b : ℕ) → b < a → nat_le a b ≡ false
-no_le a b h = grind (arith, nat_tests)
-
-yes_lt : (a b : ℕ) → a < b → nat_lt a b ≡ true
-yes_lt a b h = grind (arith, nat_tests)
-
-no_lt : (a b : ℕ) → b ≤ a → nat_lt a b ≡ false
-no_lt a b h = grind (arith, nat_tests)
 
 -- whether a cell is in the rows of a block before row e
 abbrev pub is_in_rows : Block → ℕ → ℕ → ℕ → Bool
@@ -76,14 +65,6 @@ after_row columns y j x high hx h =
     let next : (j + 1) * columns ≤ y * columns = mul-le-mul_right columns one in
     omega (arith, next)
 
-and_false : (b : Bool) → (b && false) ≡ false
-and_false true = refl
-and_false false = refl
-
-and_yes : (b : Bool) → (b && true) ≡ b
-and_yes true = refl
-and_yes false = refl
-
 -- a span of row j fills what the block has of it
 pub row_filled : (b : Block) (columns j x y mass old ms new : ℕ) → x < columns → b.x1 < columns → b.y0 ≤ j
     → ms ≡ cond (is_in_rows b j x y) mass old
@@ -96,35 +77,35 @@ row_filled b columns j x y mass old ms new hx inside above had has = at_each (ca
 
     at_each : (y < j) ⊎ (j ≤ y) → new ≡ cond (is_in_rows b (j + 1) x y) mass old
     at_each (inl below) =
-        let outside = no_le (j * columns + b.x0) (y * columns + x) (before_row columns y j x b.x0 hx below) in
+        let outside = lt-leb (j * columns + b.x0) (y * columns + x) (before_row columns y j x b.x0 hx below) in
         has ∙ ap (λ (t : Bool). cond (t && nat_lt (y * columns + x) (j * columns + (b.x1 + 1))) mass ms) outside ∙ had
-        ∙ ap (λ (t : Bool). cond ((nat_le b.x0 x && nat_lt x (b.x1 + 1)) && (nat_le b.y0 y && t)) mass old) (yes_lt y j below ∙ sym (yes_lt y (j + 1) (omega arith)))
+        ∙ ap (λ (t : Bool). cond ((nat_le b.x0 x && nat_lt x (b.x1 + 1)) && (nat_le b.y0 y && t)) mass old) (lt-ltb y j below ∙ sym (lt-ltb y (j + 1) (omega arith)))
     at_each (inr past) = from (cases_eq y j)
       where
         from : (y ≡ j) ⊎ (y ≢ j) → new ≡ cond (is_in_rows b (j + 1) x y) mass old
         from (inl e) =
             let place : y * columns ≡ j * columns = ap (λ t. t * columns) e in
             let span = ap (λ t. nat_le (j * columns + b.x0) (t + x) && nat_lt (t + x) (j * columns + (b.x1 + 1))) place ∙ same_span b.x0 (b.x1 + 1) (j * columns) x in
-            let rows = yes_le b.y0 y (omega (arith, above)) in
-            let none = no_lt y j past in
-            let one = yes_lt y (j + 1) (omega (arith, e)) in
+            let rows = le-leb b.y0 y (omega (arith, above)) in
+            let none = le-ltb y j past in
+            let one = lt-ltb y (j + 1) (omega (arith, e)) in
             has ∙ ap (λ (t : Bool). cond t mass ms) span
-            ∙ ap (λ t. cond column mass t) (had ∙ ap (λ (t : Bool). cond (column && (nat_le b.y0 y && t)) mass old) none ∙ ap (λ (t : Bool). cond (column && t) mass old) (and_false (nat_le b.y0 y)) ∙ ap (λ (t : Bool). cond t mass old) (and_false column))
-            ∙ sym (ap (λ (t : Bool). cond (column && (t && nat_lt y (j + 1))) mass old) rows ∙ ap (λ (t : Bool). cond (column && t) mass old) one ∙ ap (λ (t : Bool). cond t mass old) (and_yes column))
+            ∙ ap (λ t. cond column mass t) (had ∙ ap (λ (t : Bool). cond (column && (nat_le b.y0 y && t)) mass old) none ∙ ap (λ (t : Bool). cond (column && t) mass old) (and-false (nat_le b.y0 y)) ∙ ap (λ (t : Bool). cond t mass old) (and-false column))
+            ∙ sym (ap (λ (t : Bool). cond (column && (t && nat_lt y (j + 1))) mass old) rows ∙ ap (λ (t : Bool). cond (column && t) mass old) one ∙ ap (λ (t : Bool). cond t mass old) (and-true column))
         from (inr ne) =
             let far : j < y = omega arith in
             let farther : j + 1 ≤ y = omega arith in
-            let outside = no_lt (y * columns + x) (j * columns + (b.x1 + 1)) (after_row columns y j x (b.x1 + 1) (omega (arith, inside)) far) in
-            let none = no_lt y j past in
-            let none_more = no_lt y (j + 1) farther in
+            let outside = le-ltb (y * columns + x) (j * columns + (b.x1 + 1)) (after_row columns y j x (b.x1 + 1) (omega (arith, inside)) far) in
+            let none = le-ltb y j past in
+            let none_more = le-ltb y (j + 1) farther in
             has ∙ ap (λ (t : Bool). cond (nat_le (j * columns + b.x0) (y * columns + x) && t) mass ms) outside
-            ∙ ap (λ (t : Bool). cond t mass ms) (and_false _) ∙ had
+            ∙ ap (λ (t : Bool). cond t mass ms) (and-false _) ∙ had
             ∙ ap (λ (t : Bool). cond (column && (nat_le b.y0 y && t)) mass old) (none ∙ sym none_more)
 
 -- ---- a block
 
 pub no_rows : (b : Block) (x y mass old : ℕ) → old ≡ cond (is_in_rows b b.y0 x y) mass old
-no_rows b x y mass old = sym (ap (λ (t : Bool). cond (column && t) mass old) rows ∙ ap (λ (t : Bool). cond t mass old) (and_false column))
+no_rows b x y mass old = sym (ap (λ (t : Bool). cond (column && t) mass old) rows ∙ ap (λ (t : Bool). cond t mass old) (and-false column))
   where
     column : Bool
     column = nat_le b.x0 x && nat_lt x (b.x1 + 1)
@@ -186,23 +167,13 @@ more_blocks w h bs i d old new some inside count light filled had = record {
 
 -- ---- the limits of blocks
 
-and_true : (a b : Bool) → (a && b) ≡ true → (a ≡ true) × (b ≡ true)
-and_true true b e = (refl, e)
-and_true false b e = cc
-
-le_from : (a b : ℕ) → nat_le a b ≡ true → a ≤ b
-le_from a b e = grind (arith, nat_tests)
-
-lt_from : (a b : ℕ) → nat_lt a b ≡ true → a < b
-lt_from a b e = grind (arith, nat_tests)
-
 block_in : (nx ny : ℕ) (b : Block) → is_block nx ny b ≡ true → IsBlockIn nx ny b
 block_in nx ny b e =
-    let mass = and_true (nat_le b.x0 b.x1 && nat_lt b.x1 nx && nat_le b.y0 b.y1 && nat_lt b.y1 ny) (nat_le b.mass (2 ^ 30)) e in
-    let north = and_true (nat_le b.x0 b.x1 && nat_lt b.x1 nx && nat_le b.y0 b.y1) (nat_lt b.y1 ny) mass.0 in
-    let high = and_true (nat_le b.x0 b.x1 && nat_lt b.x1 nx) (nat_le b.y0 b.y1) north.0 in
-    let wide = and_true (nat_le b.x0 b.x1) (nat_lt b.x1 nx) high.0 in
-    record { wide = le_from b.x0 b.x1 wide.0; east = lt_from b.x1 nx wide.1; high = le_from b.y0 b.y1 high.1; north = lt_from b.y1 ny north.1; mass = le_from b.mass (2 ^ 30) mass.1 }
+    let mass = and_parts (nat_le b.x0 b.x1 && nat_lt b.x1 nx && nat_le b.y0 b.y1 && nat_lt b.y1 ny) (nat_le b.mass (2 ^ 30)) e in
+    let north = and_parts (nat_le b.x0 b.x1 && nat_lt b.x1 nx && nat_le b.y0 b.y1) (nat_lt b.y1 ny) mass.0 in
+    let high = and_parts (nat_le b.x0 b.x1 && nat_lt b.x1 nx) (nat_le b.y0 b.y1) north.0 in
+    let wide = and_parts (nat_le b.x0 b.x1) (nat_lt b.x1 nx) high.0 in
+    record { wide = leb-true b.x0 b.x1 wide.0; east = ltb-true b.x1 nx wide.1; high = leb-true b.y0 b.y1 high.1; north = ltb-true b.y1 ny north.1; mass = leb-true b.mass (2 ^ 30) mass.1 }
 
 pub block_at : (nx ny : ℕ) (bs : List Block) (i : ℕ) (d : Block) → i < length bs → list_all (is_block nx ny) bs ≡ true → IsBlockIn nx ny (get_or bs i d)
 block_at nx ny bs i d inside all = at (is_block nx ny (get_or bs i d)) refl

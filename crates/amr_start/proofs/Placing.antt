@@ -1,5 +1,5 @@
 -- Cells of a patch in the list of all masses, and patches that have them.
-use Rattle.std.proofs.Common.{◌≡◌, ◌≢◌, ℕ, zero, suc, ◌+◌, ◌-◌, ◌*◌, ◌<◌, ◌≤◌, Bool, true, false, cond, ◌&&◌, ◌||◌, ℤ, pos, negsuc, ◌+ℤ◌, ◌-ℤ◌, ◌≤ℤ◌, ◌<ℤ◌, List, [], ◌∷◌, length, map, set, get_or, get_or-set_same, get_or-set_other, below_more, IsTrue, refl, sym, ap, subst, ◌∙◌, arith}
+use Rattle.std.proofs.Common.{◌≡◌, ◌≢◌, ℕ, zero, suc, ◌+◌, ◌-◌, ◌*◌, ◌<◌, ◌≤◌, Bool, true, false, cond, ◌||◌, ℤ, pos, negsuc, ◌+ℤ◌, ◌-ℤ◌, ◌≤ℤ◌, ◌<ℤ◌, List, [], ◌∷◌, length, map, set, get_or, get_or-set_same, get_or-set_other, below_more, IsTrue, refl, sym, ap, subst, ◌∙◌, arith}
 use Rattle.std.specs.Prelude.{int_lt, is_some, slice_index, unsigned_abs}
 use Rattle.std.specs.List.{All, AllZip}
 use Rattle.std.specs.declared.option.Option.{Option}
@@ -7,6 +7,8 @@ use Rattle.std.specs.declared.option.Option.TheVariants.{None, Some}
 use Rattle.std.proofs.lemmas.Int.{ints}
 use Rattle.std.proofs.lemmas.List.Elements.{AllZip-get_or, length_all_zip}
 use Rattle.std.proofs.Math.Nat.{mul-le-mul_right}
+use Rattle.std.proofs.lemmas.Bool.{and_from, or_right}
+use Rattle.std.proofs.Math.Bool.{or-false}
 use Rattle.amr_box.specs.declared.Cell.{Cell}
 use Rattle.amr_box.specs.Cells.{Extent, IsNear, cell, holds, within}
 use Rattle.amr_def.specs.State.{Masses, in_boxes}
@@ -194,10 +196,6 @@ module _ (b : Extent) (ps : List Patch) (blank : (c : Cell) → masses_in ps c �
   in_at [] c i d lt h = absurd (omega arith)
   in_at (p ∷ ps) c zero d lt h = rw h refl
   in_at (p ∷ ps) c (suc i) d lt h = or_right (holds (box p) c) (in_patches ps c) (in_at ps c i d (omega arith) h)
-    where
-      or_right : (a b : Bool) → b ≡ true → (a || b) ≡ true
-      or_right true b e = refl
-      or_right false b e = e
 
   pub all_lie_in : All (LiesInBox b) ps
   all_lie_in = λ i d lt. record { at = λ c h. sym (in_all c) ∙ in_at ps c i d lt h }
@@ -223,12 +221,8 @@ module _ (b : Extent) (ps : List Patch) (blank : (c : Cell) → masses_in ps c �
 
 -- ---- a level of one box
 
-or_none : (t : Bool) → (t || false) ≡ t
-or_none true = refl
-or_none false = refl
-
 pub in_one_box : (b : Extent) (c : Cell) → in_boxes (b ∷ []) c ≡ holds b c
-in_one_box b c = or_none (holds b c)
+in_one_box b c = or-false (holds b c)
 
 pub near_alone : (b : Extent) → IsNear b → AreNear (b ∷ [])
 near_alone b near c h =
@@ -241,10 +235,7 @@ pub lies_still : (b : Extent) (p q : Patch) → box q ≡ box p → LiesInBox b 
 lies_still b p q e h = record { at = λ c t. h.at c (subst (λ (a : Extent). IsTrue (holds a c)) e t) }
 
 pub cell_held : (p q : Patch) (x y : ℤ) → box q ≡ box p → (box p).lo.x ≤ℤ x → x ≤ℤ (box p).hi.x → within (box p).lo.y (box p).hi.y y ≡ true → IsTrue (holds (box q) (cell x y))
-cell_held p q x y e west east rows = subst (λ (b : Extent). IsTrue (holds b (cell x y))) (sym e) (both (is_between (box p).lo.x (box p).hi.x x west east) rows)
-  where
-    both : {a b : Bool} → a ≡ true → b ≡ true → (a && b) ≡ true
-    both ea eb = rw (ea, eb) refl
+cell_held p q x y e west east rows = subst (λ (b : Extent). IsTrue (holds b (cell x y))) (sym e) (and_from _ _ (is_between (box p).lo.x (box p).hi.x x west east) rows)
 
 pub row_held : (p q : Patch) (y : ℤ) → box q ≡ box p → (box p).lo.y ≤ℤ y → y ≤ℤ (box p).hi.y → within (box q).lo.y (box q).hi.y y ≡ true
 row_held p q y e south north = ap (λ (b : Extent). within b.lo.y b.hi.y y) e ∙ is_between (box p).lo.y (box p).hi.y y south north

@@ -14,10 +14,10 @@ use Rattle.amr_def.proofs.Sizes.{doubled_small}
 use Rattle.amr_witness.specs.Ready.{IsFace, IsNearby}
 use Rattle.amr_witness.specs.Parts.{IsInDomain, west_face, east_face, south_face, north_face, low_child, high_child, high_child_on}
 
-apart : X ≡ Y → ⊥
+pub apart : X ≡ Y → ⊥
 apart e = cc
 
-apart_too : Y ≡ X → ⊥
+pub apart_too : Y ≡ X → ⊥
 apart_too e = cc
 
 module _ (p : Problem) (l : ℕ) (c : Cell) (inside : IsInDomain p l c) where

@@ -29,6 +29,7 @@ use Rattle.std.specs.BTreeMap.{BTreeMap, is_at}
 use Rattle.std.proofs.lemmas.List.{take_more}
 use Rattle.std.proofs.lemmas.List.Folds.{list_any-append}
 use Rattle.std.specs.declared.option.Option.{Option}
+use Rattle.std.proofs.lemmas.Bool.{or_right}
 
 abbrev pub row_of : ℕ → Row
 row_of v = record { mass = v; inflow = 0; outflow = 0 }
@@ -254,10 +255,6 @@ value_is k at v w there elsewhere =
     (λ e.
     elsewhere (λ (same : k ≡ at). apart (eq_by_cmp cell_cmp k at) (ap (λ (x : Cell). eq_by_cmp cell_cmp k x) (sym same) ∙ cell_itself k) e) ∙ sym (ap (λ (b : Bool). cond b v 0) e))
 
-or_true : (a b : Bool) → b ≡ true → (a || b) ≡ true
-or_true true b e = refl
-or_true false b e = e
-
 or_false : (a b : Bool) → b ≡ false → (a || b) ≡ a
 or_false true b e = refl
 or_false false b e = e
@@ -275,7 +272,7 @@ given_more next next' cs i d at v w inside left put value q =
     (λ e.
     let same : k ≡ q = cell_same k q e in
     let back : f k ≡ true = ap (λ (x : Cell). eq_by_cmp cell_cmp x k) (sym same) ∙ cell_itself k in
-    ap (λ (b : Bool). cond b (Some w) (cond A S None)) e ∙ ap (λ (x : ℕ). Some x) (value ∙ ap (λ (x : Cell). cond (eq_by_cmp cell_cmp x at) v 0) same) ∙ sym (ap (λ (b : Bool). cond b S None) (or_true A (f k) back)))
+    ap (λ (b : Bool). cond b (Some w) (cond A S None)) e ∙ ap (λ (x : ℕ). Some x) (value ∙ ap (λ (x : Cell). cond (eq_by_cmp cell_cmp x at) v 0) same) ∙ sym (ap (λ (b : Bool). cond b S None) (or_right A (f k) back)))
     (λ e. ap (λ (b : Bool). cond b (Some w) (cond A S None)) e ∙ sym (ap (λ (b : Bool). cond b S None) (or_false A (f k) (other k q e)))) in
     put q ∙ ap (λ (o : Option ℕ). cond (eq_by_cmp cell_cmp k q) (Some w) o) (left q) ∙ step ∙ sym (ap (λ (t : Bool). cond t S None) any)
 

@@ -8,13 +8,10 @@ use Rattle.amr_box.specs.Cells.{cell}
 use Rattle.amr_def.proofs.Sizes.{doubled_small}
 use Rattle.amr_def.proofs.Courants.{power_positive}
 
-pub level_small : (n l : ℕ) → n ≤ 256 → l ≤ 4 → n * 2 ^ l ≤ 4096
-level_small n l h k = doubled_small n l h k
-
 pub level_some : (n l : ℕ) → 2 ≤ n → 0 < n * 2 ^ l
 level_some n l h = power_positive n l (omega arith)
 
-pub ruleset sizes = (level_small, level_some)
+pub ruleset sizes = (doubled_small, level_some)
 
 pub power_of_four_low : (l : ℕ) → l ≤ 5 → 0 < 4 ^ l
 power_of_four_low zero k = omega arith

@@ -6,19 +6,20 @@ use Rattle.std.proofs.Math.Nat.{mul-le-mul_left, div-le_self}
 use Rattle.amr_box.specs.declared.Cell.{Cell}
 use Rattle.amr_box.specs.declared.Axis.TheVariants.{X, Y}
 use Rattle.amr_box.specs.Cells.{cells_of, Extent, extent, holds, within}
+use Rattle.amr_cluster.proofs.Sound.{all_cells}
 use Rattle.amr_def.specs.declared.problem.Problem.{Problem}
 use Rattle.amr_def.specs.Domain.{Domain, cells_where, columns, domain_box, refined, rows}
 use Rattle.amr_def.specs.Cluster.{cluster, cluster_within}
 use Rattle.amr_def.specs.NewBoxes.{block_side}
-use Rattle.amr_def.proofs.ClusterLaws.{BoxesBelow, BoxesFrom, Each, within_below, within_from}
+use Rattle.amr_def.proofs.ClusterLaws.{BoxesBelow, BoxesFrom, within_below, within_from}
 use Rattle.amr_def.proofs.Courants.{power_positive}
 use Rattle.amr_laws.proofs.Blocks.{IsSide, side_positive}
 use Rattle.amr_laws.proofs.CellSets.{both_parts, each_held, each_inside, each_then}
 use Rattle.amr_laws.proofs.NewLevels.{is_blocking_of}
-use Rattle.amr_witness.proofs.Sizes.{level_small}
+use Rattle.amr_def.proofs.Sizes.{doubled_small}
 use Rattle.amr_witness_regrid.specs.Places.{IsLow, IsUpTo}
 use Rattle.amr_witness_regrid.specs.Wanted.{blocks_of}
-use Rattle.amr_witness_regrid.proofs.Near.{each_get}
+use Rattle.amr_witness_regrid.proofs.Near.{axis_bounds}
 
 -- ---- how many there are
 
@@ -44,15 +45,12 @@ pub rows_some : (p : Problem) (l : ℕ) → 1 ≤ (blocks_of p l).rows
 rows_some p l = some_of p.ny (rows p l) (block_side p) (is_blocking_of p).half_side p.limits.least_ny (level_more p.ny l) p.limits.y_blocks
 
 pub columns_few : (p : Problem) (l : ℕ) → l ≤ 4 → (blocks_of p l).columns ≤ 4096
-columns_few p l k = let d = div-le_self (columns p l) (block_side p) in omega (arith, d, level_small p.nx l p.limits.greatest_nx k)
+columns_few p l k = let d = div-le_self (columns p l) (block_side p) in omega (arith, d, doubled_small p.nx l p.limits.greatest_nx k)
 
 pub rows_few : (p : Problem) (l : ℕ) → l ≤ 4 → (blocks_of p l).rows ≤ 4096
-rows_few p l k = let d = div-le_self (rows p l) (block_side p) in omega (arith, d, level_small p.ny l p.limits.greatest_ny k)
+rows_few p l k = let d = div-le_self (rows p l) (block_side p) in omega (arith, d, doubled_small p.ny l p.limits.greatest_ny k)
 
 -- ---- where they lie
-
-axis_bounds : (low high z : ℤ) → within low high z ≡ true → (low ≤ℤ z) × (z ≤ℤ high)
-axis_bounds low high z h = grind (arith, ints)
 
 pub block_low : (p : Problem) (l : ℕ) (c : Cell) → l ≤ 4 → holds (domain_box (blocks_of p l)) c ≡ true → IsLow (extent c c)
 block_low p l c k h =
@@ -87,18 +85,15 @@ in_block x s z q (inr (inl e)) = subst (λ t. InBlock x t z q) (sym e) (in_block
 in_block x s z q (inr (inr (inl e))) = subst (λ t. InBlock x t z q) (sym e) (in_block_4 x z q)
 in_block x s z q (inr (inr (inr e))) = subst (λ t. InBlock x t z q) (sym e) (in_block_8 x z q)
 
-all_of : (P : Cell → Type 0) (cs : List Cell) → Each P cs → All P cs
-all_of P cs e = λ k d h. each_get P cs k d h e
-
 pub block_cells : (p : Problem) (l : ℕ) (c : Cell) → l ≤ 4 → holds (domain_box (blocks_of p l)) c ≡ true → All (IsUpTo 4098) (cells_of (refined (block_side p) (extent c c)))
 block_cells p l c k h =
     let s = block_side p in
     let side = (is_blocking_of p).half_side in
     let b = refined s (extent c c) in
     let parts = both_parts _ _ h in
-    let wide = level_small p.nx l p.limits.greatest_nx k in
-    let high = level_small p.ny l p.limits.greatest_ny k in
-    all_of (IsUpTo 4098) (cells_of b) (each_then (λ q. holds b q ≡ true) (IsUpTo 4098)
+    let wide = doubled_small p.nx l p.limits.greatest_nx k in
+    let high = doubled_small p.ny l p.limits.greatest_ny k in
+    all_cells (IsUpTo 4098) (cells_of b) (each_then (λ q. holds b q ≡ true) (IsUpTo 4098)
     (λ q held.
     let inner = both_parts _ _ held in
     let x = in_block (columns p l) s c.x q.x side parts.0 inner.0 in

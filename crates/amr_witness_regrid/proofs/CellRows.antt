@@ -9,6 +9,7 @@ use mir.Syntax.{w32}
 use Rattle.std.specs.List.{flat_map, range_with_len}
 use Rattle.std.proofs.lemmas.List.Concat.{flat_map-append}
 use Rattle.std.proofs.lemmas.List.FromFn.{map-range_with_len_more}
+use Rattle.std.proofs.lemmas.List.{append-nil}
 use Rattle.amr_box.specs.declared.Cell.{Cell}
 
 pub cell_more : (f : ℕ → Cell) (i : ℕ) (l k : List Cell) (c : Cell) → k ≡ l ++ map f (range_with_len 0 i) → c ≡ f i → k ++ c ∷ [] ≡ l ++ map f (range_with_len 0 (i + 1))
@@ -24,10 +25,6 @@ range_more a n = sym (plain (range_with_len a (n + 1))) ∙ map-range_with_len_m
     plain : (xs : List ℕ) → map (λ k. k) xs ≡ xs
     plain [] = refl
     plain (x ∷ xs) = ap (λ t. x ∷ t) (plain xs)
-
-append-nil : (xs : List Cell) → xs ++ [] ≡ xs
-append-nil [] = refl
-append-nil (x ∷ xs) = ap (λ t. x ∷ t) (append-nil xs)
 
 pub row_more : (f : ℕ → List Cell) (j : ℕ) (k more : List Cell) → k ≡ flat_map f (range_with_len 0 j) → more ≡ k ++ f j → more ≡ flat_map f (range_with_len 0 (j + 1))
 row_more f j k more is e =

@@ -13,10 +13,6 @@ none_more g xs i d inside before fails = list_any_more g xs i d inside ∙ (λ k
 pub none_at_all : {X : Type 0} (g : X → Bool) (xs ys : List X) (i : ℕ) → xs ≡ ys → length xs ≤ i → list_any g (take i xs) ≡ false → false ≡ list_any g ys
 none_at_all g xs ys i is all none = sym none ∙ ap (list_any g) (take_all i xs all ∙ is)
 
-pub or_nothing : (a : Bool) → (a || false) ≡ a
-or_nothing true = refl
-or_nothing false = refl
-
 pub four_of : (a b c d : Bool) → ((a || b) || (c || d)) ≡ (a || (b || (c || (d || false))))
 four_of true b c d = refl
 four_of false true c d = refl

@@ -1,7 +1,8 @@
 -- Tags marked one by one, and the list of the cells that a set has.
-use Rattle.std.proofs.Common.{◌≡◌, ℕ, ◌+◌, ◌<◌, Bool, true, false, ◌&&◌, ◌||◌, cond, refl, sym, ap, ◌∙◌, List, [], ◌∷◌, length, take, get_or}
+use Rattle.std.proofs.Common.{◌≡◌, ℕ, ◌+◌, ◌<◌, Bool, true, false, ◌&&◌, ◌||◌, refl, sym, ap, ◌∙◌, List, [], ◌∷◌, length, take, get_or}
 use Rattle.std.specs.List.{filter, list_any}
 use Rattle.std.proofs.lemmas.List.Folds.{list_any_more}
+use Rattle.amr_cluster.proofs.Rounds.{filter_same}
 use Rattle.amr_box.specs.declared.Cell.{Cell}
 use Rattle.amr_box.specs.Cells.{cells_of, Extent, holds}
 use Rattle.amr_box.proofs.CellLists.{among_cells_of}
@@ -49,12 +50,8 @@ marks f (c ∷ cs) d =
 pub marked_box : (f : Cell → Bool) (b : Extent) (d : Cell) → marked f (cells_of b) d ≡ (holds b d && f d)
 marked_box f b d = marks f (cells_of b) d ∙ ap (λ (t : Bool). t && f d) (among_cells_of b d)
 
-filter_each : (f g : Cell → Bool) (cs : List Cell) → Each (λ c. f c ≡ g c) cs → filter f cs ≡ filter g cs
-filter_each f g [] e = refl
-filter_each f g (c ∷ cs) e = (λ i. cond (e.0 i) (c ∷ filter_each f g cs e.1 i) (filter_each f g cs e.1 i))
-
 pub filter_box : (f g : Cell → Bool) (b : Extent) → ((c : Cell) → holds b c ≡ true → f c ≡ g c) → filter f (cells_of b) ≡ filter g (cells_of b)
-filter_box f g b same = filter_each f g (cells_of b) (each_from (cells_of b) (each_held b))
+filter_box f g b same = filter_same f g (cells_of b) (each_from (cells_of b) (each_held b))
   where
     each_from : (cs : List Cell) → Each (λ q. holds b q ≡ true) cs → Each (λ c. f c ≡ g c) cs
     each_from [] e = tt

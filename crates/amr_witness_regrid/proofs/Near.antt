@@ -9,7 +9,8 @@ use Rattle.amr_def.proofs.ClusterLaws.{Each}
 use Rattle.amr_def.proofs.Homes.{wrapped_between}
 use Rattle.amr_laws.proofs.CellSets.{both_parts, each_held, each_then}
 use Rattle.amr_witness.specs.Parts.{IsInDomain}
-use Rattle.amr_witness.proofs.Sizes.{level_small, level_some}
+use Rattle.amr_def.proofs.Sizes.{doubled_small}
+use Rattle.amr_witness.proofs.Sizes.{level_some}
 use Rattle.amr_witness_regrid.specs.Places.{IsUpTo}
 
 pub up_more : (m n : ℕ) (c : Cell) → m ≤ n → IsUpTo m c → IsUpTo n c
@@ -20,7 +21,7 @@ up_more m n c h u = record {
   north = omega (arith, ints, h, u.north);
 }
 
-axis_bounds : (low high z : ℤ) → within low high z ≡ true → (low ≤ℤ z) × (z ≤ℤ high)
+pub axis_bounds : (low high z : ℤ) → within low high z ≡ true → (low ≤ℤ z) × (z ≤ℤ high)
 axis_bounds low high z h = grind (arith, ints)
 
 held_up : (n : ℕ) (c : Cell) → holds (extent (cell (pos 0 -ℤ pos n) (pos 0 -ℤ pos n)) (cell (pos n) (pos n))) c ≡ true → IsUpTo n c
@@ -50,10 +51,10 @@ square_small n m xs i d h is inside = up_more n m _ h (each_get (IsUpTo n) xs i 
 
 module _ (p : Problem) (l : ℕ) (c : Cell) (known : l ≤ 4) (inside : IsInDomain p l c) where
   few_columns : columns p l ≤ 4096
-  few_columns = level_small p.nx l p.limits.greatest_nx known
+  few_columns = doubled_small p.nx l p.limits.greatest_nx known
 
   few_rows : rows p l ≤ 4096
-  few_rows = level_small p.ny l p.limits.greatest_ny known
+  few_rows = doubled_small p.ny l p.limits.greatest_ny known
 
   pub inside_up : (n : ℕ) → 4096 ≤ n → IsUpTo n c
   inside_up n h = record {
@@ -67,8 +68,8 @@ module _ (p : Problem) (l : ℕ) (c : Cell) (known : l ≤ 4) (inside : IsInDoma
 pub home_up : (p : Problem) (l n : ℕ) (c : Cell) → l ≤ 4 → 4096 ≤ n → IsUpTo n c → IsUpTo n (home_cell (domain p l) c)
 home_up p l n c known far up =
     let low : neg_ℤ (pos n) ≤ℤ pos 0 = omega (arith, ints) in
-    let wide : pos (columns p l) ≤ℤ pos n = omega (arith, ints, level_small p.nx l p.limits.greatest_nx known, far) in
-    let tall : pos (rows p l) ≤ℤ pos n = omega (arith, ints, level_small p.ny l p.limits.greatest_ny known, far) in
+    let wide : pos (columns p l) ≤ℤ pos n = omega (arith, ints, doubled_small p.nx l p.limits.greatest_nx known, far) in
+    let tall : pos (rows p l) ≤ℤ pos n = omega (arith, ints, doubled_small p.ny l p.limits.greatest_ny known, far) in
     let x = wrapped_between (is_periodic p.x_sides) (columns p l) c.x (neg_ℤ (pos n)) (pos n) (level_some p.nx l p.limits.least_nx) low wide up.west up.east in
     let y = wrapped_between (is_periodic p.y_sides) (rows p l) c.y (neg_ℤ (pos n)) (pos n) (level_some p.ny l p.limits.least_ny) low tall up.south up.north in
     record { west = x.0; east = x.1; south = y.0; north = y.1 }

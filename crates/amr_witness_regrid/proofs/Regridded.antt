@@ -23,10 +23,6 @@ use Rattle.amr_witness.specs.Maps.{levels_of, masses_of}
 use Rattle.amr_witness_regrid.specs.Places.{AreInside}
 use Rattle.amr_witness_regrid.specs.Wanted.{lists_in}
 
-pub count_of : (ks : List PlainLevel) → length (levels_of ks) ≡ length ks
-count_of [] = refl
-count_of (k ∷ ks) = ap suc (count_of ks)
-
 -- ---- refilled levels
 
 pub refill_none : (m : Masses) (olds : List Level) (boxes : List (List Extent)) → boxes ≡ [] → [] ≡ refill m olds boxes

@@ -3,9 +3,10 @@ use Rattle.std.specs.Global.{Vec}
 use Rattle.amr_box.specs.Cells.{Extent}
 use Rattle.amr_def.specs.Tags.{is_tagged}
 use Rattle.amr_def.specs.NewBoxes.{first_boxes}
+use Rattle.amr_witness.proofs.States.{count_same}
 use Rattle.amr_witness_regrid.specs.Places.{HasCellsInside}
 use Rattle.amr_witness_regrid.specs.Wanted.{boxes_over, lists_in, with_levels}
-use Rattle.amr_witness_regrid.proofs.Regridded.{boxes_more, count_of, more_near, no_boxes, nothing_near}
+use Rattle.amr_witness_regrid.proofs.Regridded.{boxes_more, more_near, no_boxes, nothing_near}
 use Rattle.amr_witness_regrid.proofs.regrid.+new_boxes.Goals as goal
 
 pub returns-then-n-eq0-clause-boxes : goal.returns-then-n-eq0-clause-boxes
@@ -16,7 +17,7 @@ returns-then-n-eq0-clause-near t c = nothing_near c.new.result.items c.new.ensur
 
 pub boxes_over-requires-clause-inside : goal.boxes_over-requires-clause-inside
 boxes_over-requires-clause-inside t c =
-    let e = count_of c.args.levels.now in
+    let e = count_same c.args.levels.now in
     subst (HasCellsInside c.args.p.now c.args.level) (sym c.masses_at.ensures) (c.requires.inside.at c.args.level (omega (arith, e, c.requires.there, c.if-n-eq0.false)))
 
 pub returns-clause-boxes : goal.returns-clause-boxes

@@ -1,6 +1,6 @@
 use Rattle.std.proofs.Common.{◌∙◌, ◌||◌, ◌&&◌, Bool, sym, ap}
+use Rattle.std.proofs.Math.Bool.{or-false}
 use Rattle.amr_tags.specs.TagSets.{has, same_cell}
-use Rattle.amr_witness_regrid.proofs.Loops.{or_nothing}
 use Rattle.amr_witness_regrid.proofs.wanted.mark.Goals as goal
 
 pub returns-then-is_wanted-clause-bx : goal.returns-then-is_wanted-clause-bx
@@ -10,4 +10,4 @@ pub returns-then-is_wanted-clause-cells : goal.returns-then-is_wanted-clause-cel
 returns-then-is_wanted-clause-cells c = λ d. c.set.ensures.cells d ∙ sym (ap (λ (b : Bool). has c.args.tags.now d || (b && same_cell c.args.c d)) c.if-is_wanted.true)
 
 pub returns-else-is_wanted-clause-cells : goal.returns-else-is_wanted-clause-cells
-returns-else-is_wanted-clause-cells c = λ d. sym (ap (λ (b : Bool). has c.args.tags.now d || (b && same_cell c.args.c d)) c.if-is_wanted.false ∙ or_nothing (has c.args.tags.now d))
+returns-else-is_wanted-clause-cells c = λ d. sym (ap (λ (b : Bool). has c.args.tags.now d || (b && same_cell c.args.c d)) c.if-is_wanted.false ∙ or-false (has c.args.tags.now d))
