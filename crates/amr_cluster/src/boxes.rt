@@ -92,9 +92,9 @@ fn push_parts(
     Ok(())
 }
 
-/// The boxes round the tags: the least box round them where it is efficient, so that at least `efficiency` per cent of
-/// its cells are tagged, or where it has no cut that leaves both parts `w` wide; else the boxes of the part below the
-/// cut, and then those of the rest. They have no cell in common and hold every tag. No tags give no boxes.
+/// The boxes round the tags. The least box round them is kept where at least `efficiency` per cent of its cells are
+/// tagged, or where no cut leaves both parts `w` wide. Else they are the boxes of the part below the cut, and then
+/// those of the rest. They have no cell in common and hold every tag. No tags give no boxes.
 ///
 /// The words of each box on the work list are gone over once. `NoMemory` comes where allocation fails: nothing is kept then,
 /// and the tags, which are only read, are as before.

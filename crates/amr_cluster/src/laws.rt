@@ -9,14 +9,14 @@ pub fn clusters_are_sound()
     ensures { ClustersAreSound }
 {}
 
-/// The boxes of a set are its least box where that is efficient or has no cut, and else the boxes of the cells below
-/// the cut and then those of the rest.
+/// The boxes of a set are its least box where that is efficient or has no cut. Else they are the boxes of the cells
+/// below the cut, and then those of the rest.
 pub fn cluster_is_recursive()
     ensures { ClusterIsRecursive }
 {}
 
-/// A set of tags over a domain, with the domain's periodic axes, grows as the definition of grown tags has it: `domain`
-/// by any number of cells, `level` on a level by the problem's buffer.
+/// A set of tags over a domain, with the domain's periodic axes, grows as the definition of grown tags has it.
+/// `domain`: by any number of cells. `level`: on a level by the problem's buffer.
 pub fn tags_grow_as_defined()
     ensures domain { TagsGrowInDomain }
     ensures level { TagsGrowOnLevel }

@@ -41,8 +41,8 @@ impl Diamond {
     }
 }
 
-/// What the sets of a row of the table are drawn from: a box by its low corner and its last column and row counted from
-/// there, how many cells in a hundred are tagged, and whether diamonds of tags stand in it.
+/// What the sets of a row of the table are drawn from. A box is given by its low corner, and its last column and row
+/// counted from there. Then comes how many cells in a hundred are tagged, and whether diamonds of tags stand in it.
 #[derive(Clone, Copy)]
 struct Kind {
     west: i8,

@@ -51,8 +51,8 @@ fn holder(patches: &[Patch], order: Order, dom: &Dom, near: &mut usize, c: Cell)
     look_up(patches, order, near, c)
 }
 
-/// Gives the first ghost cells of a strip beside a patch their values: as many as stand for cells of one patch, or one that
-/// stands for no cell of the level. Answers how many.
+/// Gives the first ghost cells of a strip beside a patch their values, and answers how many. They are as many as stand for
+/// cells of one patch, or one that stands for no cell of the level.
 fn fill_span(
     p: &Problem,
     old: Option<&Level>,
@@ -168,14 +168,14 @@ fn fill_frame(
     fill_side(p, old, patches, target, Side::North, &mut near.north);
 }
 
-/// Fills the frames of the patches of level `l`, from 0 to 4: gives each ghost cell beside a patch its value, and marks it where
-/// it stands for a cell of the level (on a periodic axis, one at the other end of the domain). The corners of a frame, which no
-/// face touches, stay.
+/// Fills the frames of the patches of level `l`, from 0 to 4. Each ghost cell beside a patch gets its value. It is marked where it
+/// stands for a cell of the level, on a periodic axis one at the other end of the domain. The corners of a frame, which no face
+/// touches, stay.
 ///
-/// The value of a cell of the level is its mass; of another cell of the domain a quarter of the mass of its parent in `old`, the
-/// next coarser level at the start of its step (0 where that has no such cell, and where there is no `old`); of a cell outside
-/// an open side that side's inflow, divided by 4 for each level. (Berger and Colella: ghost cells from the same level, else from
-/// the coarser one.)
+/// Ghost cells come from the same level, else from the coarser one (Berger and Colella). The value of a cell of the level is its
+/// mass. Of another cell of the domain it is a quarter of the mass of its parent in `old`, the next coarser level at the start of
+/// its step. That is 0 where `old` has no such cell, and where there is no `old`. Of a cell outside an open side it is that
+/// side's inflow, divided by 4 for each level.
 ///
 /// The patches are those of the whole level: no cell is in two of them, and each is a cell of the domain. It takes no memory.
 pub fn fill(p: &Problem, l: u32, patches: &mut [Patch], old: Option<&Level>)

@@ -46,8 +46,8 @@ fn set_entry(patch: &mut Patch, at: usize, mass: u32)
     patch.marks[at] = true;
 }
 
-/// Gives the ghost cells of a strip beside patch `i` the masses of as many cells of patch `j` along the same axis, from a cell
-/// on, and marks them as cells of the level. `j` may be `i`.
+/// Gives the ghost cells of a strip beside patch `i` masses of patch `j`, and marks them as cells of the level. The masses are
+/// those of as many cells along the same axis, from a cell on. `j` may be `i`.
 pub(crate) fn copy_strip(patches: &mut [Patch], i: usize, strip: Strip, j: usize, from: Cell)
     requires there { i < length patches.old }
     requires source { j < length patches.old }

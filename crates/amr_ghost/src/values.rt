@@ -38,8 +38,8 @@ fn old_mass(old: Option<&Level>, near: &mut usize, c: Cell) -> u64
     }
 }
 
-/// The value of a cell that is not of level `l`: within the domain a quarter of the mass of its parent at the start of the
-/// coarser step, outside it the inflow of the side.
+/// The value of a cell that is not of level `l`. Within the domain it is a quarter of the mass of its parent at the start of
+/// the coarser step, and outside it the inflow of the side.
 pub(crate) fn outer_value(
     p: &Problem,
     l: u32,

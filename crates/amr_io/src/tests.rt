@@ -116,7 +116,7 @@ fn full_sink_fails(rt: HostRuntime) -> Result<(), Fail> {
     Ok(())
 }
 
-// A reader and a writer whose second call fails, and whose third takes nothing.
+/// A reader and a writer whose second call fails, and whose third takes nothing.
 #[derive(Drop)]
 struct Flaky {
     calls: u32,
@@ -178,7 +178,7 @@ fn sink_over_a_writer(rt: HostRuntime) -> Result<(), Fail> {
     Ok(())
 }
 
-// A reader and a writer that fail at their first `fails` calls, and then pass `size` bytes, and one more each call.
+/// A reader and a writer that fail at their first `fails` calls, and then pass `size` bytes, and one more each call.
 #[derive(Drop)]
 struct OneMore<'a> {
     rest: &'a [u8],
@@ -227,7 +227,7 @@ impl Write for TakesMore {
     }
 }
 
-// So many bytes, no two neighbours the same.
+/// So many bytes, no two neighbours the same.
 fn counting_bytes(alloc: Global, n: usize) -> Result<Vec<u8>, Fail> {
     let mut bytes = Vec::with_capacity(alloc, n)?;
     for i in 0..n {

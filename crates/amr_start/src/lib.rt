@@ -1,5 +1,5 @@
-//! The start of a problem of one level, over patches: level 0 chopped into patches of at most `max_grid_size` by
-//! `max_grid_size` cells, the masses of the blocks, and row 0 of the ledger.
+//! The start of a problem of one level, over patches. Level 0 is chopped into patches of at most `max_grid_size` by
+//! `max_grid_size` cells, which get the masses of the blocks; the ledger gets its row 0.
 #![tactic(auto)]
 
 mod blank;

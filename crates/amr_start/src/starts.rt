@@ -42,9 +42,9 @@ fn level_with(
     Ok(level)
 }
 
-/// The start of a run of a problem of one level: step 0, the masses of the blocks (a later block replaces an earlier one, and
-/// a cell of none has 0) in patches of at most `max_grid_size` by `max_grid_size` cells, and row 0 of the ledger, with the mass
-/// of level 0 and no flows. `NoMemory` is the only refusal.
+/// The start of a run of a problem of one level, at step 0, in patches of at most `max_grid_size` by `max_grid_size` cells. A
+/// cell has the mass of the last block that it lies in, and 0 where it lies in none. Row 0 of the ledger has the mass of level 0
+/// and no flows. `NoMemory` is the only refusal.
 pub fn start(alloc: Global, p: &Problem) -> Result<Mesh, NoMemory>
     requires { HasOneLevel p.now }
     ensures value { IfOk result (λ m. state_of m ≡ start p.now) }

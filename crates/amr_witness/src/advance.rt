@@ -123,8 +123,8 @@ fn net(
     Ok((west - east) + (south - north))
 }
 
-/// What flows through a face of the coarsest of the levels in a step: its own flux, or beside a covered
-/// cell what flows through its child faces in both finer steps.
+/// What flows through a face of the coarsest of the levels in a step: its own flux. Beside a covered cell it
+/// is what flows through the child faces in both finer steps.
 #[cycle(step)]
 pub fn flux(
     alloc: Global,

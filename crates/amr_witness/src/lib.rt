@@ -1,5 +1,5 @@
-//! A step of a state as plainly as its definition reads: levels are ordered maps, and each flux is worked
-//! out anew where it is used, beside a covered cell from fresh steps of the finer levels. It is there to be
+//! A step of a state as plainly as its definition reads. Levels are ordered maps, and each flux is worked out
+//! anew where it is used: beside a covered cell, from fresh steps of the finer levels. It is there to be
 //! compared with, and slow; no program calls it.
 #![tactic(auto)]
 

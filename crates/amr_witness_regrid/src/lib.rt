@@ -1,5 +1,5 @@
-//! A regrid of a state as plainly as its definition reads: each cell's tag, each block and each new mass is
-//! worked out by itself, over states as ordered maps. It is there to be compared with, and slow; no program
+//! A regrid of a state as plainly as its definition reads, over states as ordered maps. Each cell's tag, each
+//! block and each new mass is worked out by itself. It is there to be compared with, and slow; no program
 //! calls it.
 #![tactic(auto)]
 
