@@ -6,3 +6,4 @@ pub mod Halves
 pub mod Fours
 pub mod KeptOrSplit
 pub mod BoxRows
+pub mod Samples

@@ -1,0 +1,15 @@
+use Rattle.std.proofs.Common.{List, ◌∙◌, sym, ap}
+use Rattle.amr_box.specs.Cells.{Extent}
+use Rattle.amr_def.specs.State.{in_boxes}
+use Rattle.amr_patch.specs.Levels.{patches_of}
+use Rattle.amr_transfer.proofs.Samples.{coarsenable_from}
+use Rattle.amr_transfer.proofs.tests.fine_level.Goals as goal
+
+pub returns-clause-filled : goal.returns-clause-filled
+returns-clause-filled c d = c.in_ok-level.ensures.cells d ∙ ap (λ (bs : List Extent). in_boxes bs d) (sym c.in_ok-level.ensures.boxes)
+
+pub returns-clause-cells : goal.returns-clause-cells
+returns-clause-cells c d = c.in_ok-level.ensures.cells d ∙ ap (λ (bs : List Extent). in_boxes bs d) c.fine_boxes-boxes.ensures.are
+
+pub returns-clause-coarsenable : goal.returns-clause-coarsenable
+returns-clause-coarsenable c = coarsenable_from c.fine_boxes-boxes.result (patches_of c.in_ok-level.level) c.fine_boxes-boxes.ensures.are c.in_ok-level.ensures.patches

@@ -1,0 +1,172 @@
+ghost use Rattle.std.specs.Prelude.{◌≡◌, ◌<◌, [], ◌∷◌, pos, map, is_some, IfOk};
+ghost use Rattle.std.specs.List.Sorted.{IsPermutation};
+ghost use Rattle.amr_box.specs.declared.Cell.{Cell};
+ghost use Rattle.amr_box.specs.Cells.{cell, extent};
+ghost use Rattle.amr_def.specs.State.{in_boxes, mass_of};
+ghost use Rattle.amr_patch.specs.Levels.{level_of, patches_of};
+ghost use Rattle.amr_patch.specs.Patches.{AreApart, AreNear, box};
+ghost use Rattle.amr_transfer.specs.Sums.{AreCoarsenable};
+
+use super::*;
+use amr_box::{Bx, Cell};
+use amr_causes::NoMemory;
+use amr_patch::Level;
+use std::alloc::Global;
+
+/// The boxes (0, 0) to (0, 0) and (1, 0) to (3, 0).
+fn coarse_boxes() -> [Bx; 2]
+    ensures are { result ≡ extent (cell (pos 0) (pos 0)) (cell (pos 0) (pos 0)) ∷ extent (cell (pos 1) (pos 0)) (cell (pos 3) (pos 0)) ∷ [] }
+    ensures apart { AreApart result }
+    ensures near { AreNear result }
+{
+    let first_lo = Cell { x: 0, y: 0 };
+    let first_hi = Cell { x: 0, y: 0 };
+    let last_lo = Cell { x: 1, y: 0 };
+    let last_hi = Cell { x: 3, y: 0 };
+    let first = Bx::try_new(first_lo, first_hi).unwrap();
+    let last = Bx::try_new(last_lo, last_hi).unwrap();
+    [first, last]
+}
+
+/// The boxes (0, 0) to (1, 1) and (2, 0) to (5, 1).
+fn fine_boxes() -> [Bx; 2]
+    ensures are { result ≡ extent (cell (pos 0) (pos 0)) (cell (pos 1) (pos 1)) ∷ extent (cell (pos 2) (pos 0)) (cell (pos 5) (pos 1)) ∷ [] }
+    ensures apart { AreApart result }
+    ensures near { AreNear result }
+{
+    let first_lo = Cell { x: 0, y: 0 };
+    let first_hi = Cell { x: 1, y: 1 };
+    let last_lo = Cell { x: 2, y: 0 };
+    let last_hi = Cell { x: 5, y: 1 };
+    let first = Bx::try_new(first_lo, first_hi).unwrap();
+    let last = Bx::try_new(last_lo, last_hi).unwrap();
+    [first, last]
+}
+
+/// The boxes (2, 0) to (2, 1) and (3, 0) to (3, 1).
+fn old_boxes() -> [Bx; 2]
+    ensures apart { AreApart result }
+    ensures near { AreNear result }
+{
+    let first_lo = Cell { x: 2, y: 0 };
+    let first_hi = Cell { x: 2, y: 1 };
+    let last_lo = Cell { x: 3, y: 0 };
+    let last_hi = Cell { x: 3, y: 1 };
+    let first = Bx::try_new(first_lo, first_hi).unwrap();
+    let last = Bx::try_new(last_lo, last_hi).unwrap();
+    [first, last]
+}
+
+/// The level of these boxes, each of them a patch, where each mass is 0.
+fn empty_level(alloc: Global, boxes: &[Bx]) -> Result<Level, NoMemory>
+    requires apart { AreApart boxes.now }
+    requires near { AreNear boxes.now }
+    ensures boxes { IfOk result (λ l. (level_of l).boxes ≡ boxes.now) }
+    ensures cells { IfOk result (λ l. (c : Cell) → is_some ((level_of l).masses c) ≡ in_boxes boxes.now c) }
+    ensures small { IfOk result (λ l. (c : Cell) → mass_of (level_of l).masses c < 256) }
+    ensures patches { IfOk result (λ l. IsPermutation boxes.now (map box (patches_of l))) }
+{
+    let level = Level::make(alloc, boxes, boxes)?;
+    Ok(level)
+}
+
+/// Gives a cell a mass, where it is a cell of the level.
+fn put(level: &mut Level, c: Cell, m: u8)
+    requires { (d : Cell) → mass_of (level_of level.old).masses d < 256 }
+    ensures cells { (d : Cell) → is_some ((level_of level.new).masses d) ≡ is_some ((level_of level.old).masses d) }
+    ensures small { (d : Cell) → mass_of (level_of level.new).masses d < 256 }
+    ensures boxes { map box (patches_of level.new) ≡ map box (patches_of level.old) }
+{
+    if level.get(c).is_none() {
+        return;
+    }
+    level.set(c, u64::from(m));
+}
+
+/// A coarse level of the masses 7, 2, 0 and 5.
+fn coarse_level(alloc: Global) -> Result<Level, NoMemory>
+    ensures { IfOk result (λ l. (c : Cell) → is_some ((level_of l).masses c) ≡ in_boxes (extent (cell (pos 0) (pos 0)) (cell (pos 0) (pos 0)) ∷ extent (cell (pos 1) (pos 0)) (cell (pos 3) (pos 0)) ∷ []) c) }
+{
+    let boxes = coarse_boxes();
+    let mut level = empty_level(alloc, &boxes)?;
+    put(&mut level, Cell { x: 0, y: 0 }, 7);
+    put(&mut level, Cell { x: 1, y: 0 }, 2);
+    put(&mut level, Cell { x: 3, y: 0 }, 5);
+    Ok(level)
+}
+
+/// A fine level without masses.
+fn fine_level(alloc: Global) -> Result<Level, NoMemory>
+    ensures filled { IfOk result (λ l. (c : Cell) → is_some ((level_of l).masses c) ≡ in_boxes (level_of l).boxes c) }
+    ensures cells { IfOk result (λ l. (c : Cell) → is_some ((level_of l).masses c) ≡ in_boxes (extent (cell (pos 0) (pos 0)) (cell (pos 1) (pos 1)) ∷ extent (cell (pos 2) (pos 0)) (cell (pos 5) (pos 1)) ∷ []) c) }
+    ensures small { IfOk result (λ l. (c : Cell) → mass_of (level_of l).masses c < 256) }
+    ensures coarsenable { IfOk result (λ l. AreCoarsenable (patches_of l)) }
+{
+    let boxes = fine_boxes();
+    let level = empty_level(alloc, &boxes)?;
+    Ok(level)
+}
+
+/// The masses of a level from column 0 to 5 of a row, in order.
+fn row_of(level: &Level, y: i32) -> [Option<u64>; 6] {
+    [
+        level.get(Cell { x: 0, y }),
+        level.get(Cell { x: 1, y }),
+        level.get(Cell { x: 2, y }),
+        level.get(Cell { x: 3, y }),
+        level.get(Cell { x: 4, y }),
+        level.get(Cell { x: 5, y }),
+    ]
+}
+
+#[test]
+fn children_share_their_parents_mass(rt: HostRuntime) -> Result<(), NoMemory> {
+    let coarse = coarse_level(rt.alloc())?;
+    let mut fine = fine_level(rt.alloc())?;
+    split_into(&coarse, None, &mut fine);
+    assert_eq!(rt;
+        row_of(&fine, 0),
+        [Some(2), Some(2), Some(1), Some(1), Some(0), Some(0)]
+    );
+    assert_eq!(rt;
+        row_of(&fine, 1),
+        [Some(2), Some(1), Some(0), Some(0), Some(0), Some(0)]
+    );
+    Ok(())
+}
+
+#[test]
+fn old_cells_keep_their_masses(rt: HostRuntime) -> Result<(), NoMemory> {
+    let coarse = coarse_level(rt.alloc())?;
+    let boxes = old_boxes();
+    let mut old = empty_level(rt.alloc(), &boxes)?;
+    put(&mut old, Cell { x: 2, y: 0 }, 9);
+    put(&mut old, Cell { x: 3, y: 1 }, 6);
+    let mut fine = fine_level(rt.alloc())?;
+    split_into(&coarse, Some(&old), &mut fine);
+    assert_eq!(rt;
+        row_of(&fine, 0),
+        [Some(2), Some(2), Some(9), Some(0), Some(0), Some(0)]
+    );
+    assert_eq!(rt;
+        row_of(&fine, 1),
+        [Some(2), Some(1), Some(0), Some(6), Some(0), Some(0)]
+    );
+    Ok(())
+}
+
+#[test]
+fn covered_cells_are_summed(rt: HostRuntime) -> Result<(), NoMemory> {
+    let mut coarse = coarse_level(rt.alloc())?;
+    let mut fine = fine_level(rt.alloc())?;
+    put(&mut fine, Cell { x: 1, y: 1 }, 4);
+    put(&mut fine, Cell { x: 2, y: 0 }, 8);
+    put(&mut fine, Cell { x: 3, y: 1 }, 6);
+    put(&mut fine, Cell { x: 5, y: 0 }, 1);
+    sum_up(&fine, &mut coarse);
+    assert_eq!(rt;
+        row_of(&coarse, 0),
+        [Some(4), Some(14), Some(1), Some(5), None, None]
+    );
+    Ok(())
+}
