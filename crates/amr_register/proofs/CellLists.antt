@@ -1,5 +1,5 @@
 -- The list of register cells, from a list in order that has just these cells.
-use Rattle.std.proofs.Common.{◌≡◌, ◌∙◌, ℕ, Bool, true, ◌&&◌, ℤ, pos, ◌-ℤ◌, List, sym, ap, subst, arith}
+use Rattle.std.proofs.Common.{◌≡◌, ◌∙◌, ℕ, Bool, ◌⊎◌, inl, inr, true, false, ◌&&◌, ℤ, pos, ◌-ℤ◌, List, refl, sym, ap, subst, arith}
 use Rattle.std.specs.Prelude.{is_some}
 use Rattle.std.specs.List.{Contains, list_any}
 use Rattle.std.specs.List.Sorted.{IsStrictlySortedBy}
@@ -72,3 +72,14 @@ are_register_cells p l m fine cs inside sorted sound complete =
 
 pub same_coordinates : IsEquivalence have_same_coordinates
 same_coordinates = subst (λ (t : Cell → Cell → Bool). IsEquivalence t) (λ i a b. by_coordinates a b i) same_cells
+
+-- a cell is among others or isn't
+pub is_or_not : (q : Cell) (cs : List Cell) → Contains cs q ⊎ (Contains cs q → ⊥)
+is_or_not q cs = by_test (list_any (is_cell q) cs) refl
+  where
+    clash : true ≡ false → ⊥
+    clash f = cc
+
+    by_test : (t : Bool) → list_any (is_cell q) cs ≡ t → Contains cs q ⊎ (Contains cs q → ⊥)
+    by_test true e = inl (among_from_test q cs e)
+    by_test false e = inr (λ h. clash (sym (among_by_test q cs h) ∙ e))

@@ -1,2 +1,14 @@
 pub mod RowOrder
 pub mod CellLists
+pub mod EntryLaws
+pub mod Homes
+pub mod Taken
+pub mod SideLists
+pub mod OwnedFlows
+pub mod CollectLaws
+pub mod Around
+pub mod FineBoxes
+pub mod Refluxes
+pub mod Kept
+pub mod LevelRefluxes
+pub mod NetOver

@@ -115,7 +115,7 @@ later x c xs h m = All-contains (λ q. row_cmp x q ≡ Less) xs c (All-after_fir
 two_ways : (a b : Cell) → row_cmp a b ≡ Less → row_cmp b a ≡ Less → ⊥
 two_ways a b h k = row_cmp-itself a a refl (row_cmp_total.trans a b a h k)
 
-nothing_among : (c : Cell) → Contains [] c → ⊥
+pub nothing_among : (c : Cell) → Contains [] c → ⊥
 nothing_among c (k, lt, e) = omega arith
 
 pub same_sorted : (xs ys : List Cell) → IsStrictlySortedBy row_cmp xs → IsStrictlySortedBy row_cmp ys → ((c : Cell) → Contains xs c → Contains ys c) → ((c : Cell) → Contains ys c → Contains xs c) → xs ≡ ys

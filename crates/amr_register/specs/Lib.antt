@@ -1,2 +1,6 @@
 pub mod RegisterCells
 pub mod Entries
+pub mod Beside
+pub mod Collecting
+pub mod CoarseFlows
+pub mod Registers

@@ -1,7 +1,17 @@
 //! Flux registers: what corrects the step of a level beside the cells that a finer level covers, so that each unit of mass
 //! that the finer faces carried is accounted for (Berger and Colella 1989; AMReX's `FluxRegister`).
+//!
+//! A [`Register`] has an entry for each register cell, a cell that is not covered beside one that is. The coarse step takes
+//! its plain flows at the coarse-fine edges away, patch by patch ([`Register::coarse_part`]); what flowed through the finer
+//! faces there is added ([`Register::absorb`]); and in the end each entry is added to its cell ([`Register::reflux`]).
 #![tactic(auto)]
 
+mod beside;
+mod cells;
+mod flows;
 mod order;
+mod reflux;
+mod register;
+mod sides;
 
-pub use order::put_in_order;
+pub use register::Register;

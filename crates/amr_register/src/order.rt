@@ -7,7 +7,7 @@ ghost use Rattle.amr_register.specs.Entries.{AreRising};
 use amr_box::Cell;
 
 /// Puts cells in order, by row and within a row by column, each once.
-pub fn put_in_order(cells: &mut Vec<Cell>)
+pub(crate) fn put_in_order(cells: &mut Vec<Cell>)
     ensures rising { AreRising cells.new.items }
     ensures kept { (c : Cell) → Contains cells.old.items c → Contains cells.new.items c }
     ensures none_added { (c : Cell) → Contains cells.new.items c → Contains cells.old.items c }

@@ -1,0 +1,64 @@
+-- What a look at each box of the finer level has of it, and in the end.
+use Rattle.std.proofs.Common.{◌≡◌, ◌∙◌, ℕ, suc, ◌<◌, ◌≤◌, true, List, length, sym, ap, subst}
+use Rattle.std.specs.Prelude.{slice_index_or}
+use Rattle.std.specs.List.{All, Contains}
+use Rattle.std.proofs.lemmas.List.Elements.{Contains-get_or}
+use Rattle.amr_box.specs.declared.Cell.{Cell}
+use Rattle.amr_box.specs.Cells.{Extent, HasCorners, IsBoxOf, IsNear, IsProper, half, has_child_where, holds}
+use Rattle.amr_def.specs.declared.problem.Problem.{Problem}
+use Rattle.amr_def.specs.Domain.{Domain, domain}
+use Rattle.amr_def.specs.State.{Level, Masses, is_covered}
+use Rattle.amr_def.specs.Facts.{IsLevel, IsNestedLevel}
+use Rattle.amr_flux.specs.Faces.{IsInDomain}
+use Rattle.amr_register.specs.RegisterCells.{is_register_cell, register_cells}
+use Rattle.amr_register.specs.Beside.{IsDomainCell}
+use Rattle.amr_register.specs.Entries.{AreRising}
+use Rattle.amr_register.proofs.Around.{all_found, covered_parents, half_order, near_parents, parents_inside}
+use Rattle.amr_register.proofs.CellLists.{are_register_cells, where_inside}
+use Rattle.amr_register.proofs.CollectLaws.{BoxesDone, coarse_box}
+use Rattle.amr_register.proofs.Homes.{domain_cell, size_at}
+use Rattle.amr_register.proofs.RowOrder.{sorted_from_rising}
+
+module _ (p : Problem) (l : ℕ) (k fine : Level) (klevel : IsLevel p l k) (flevel : IsLevel p (suc l) fine) (nested : IsNestedLevel p l k fine) (few : l ≤ 3) where
+  module _ (n : ℕ) (items : List Extent) (e b : Extent) (is_items : items ≡ fine.boxes) (lt : n < length items) (at : e ≡ slice_index_or items n e) (corners : HasCorners b (half e.lo.x) (half e.lo.y) (half e.hi.x) (half e.hi.y)) (cells : IsBoxOf b (has_child_where (holds e))) where
+    pub there : n < length fine.boxes
+    there = subst (λ (bs : List Extent). n < length bs) is_items lt
+
+    same : e ≡ slice_index_or fine.boxes n e
+    same = at ∙ ap (λ (bs : List Extent). slice_index_or bs n e) is_items
+
+    cells_here : IsBoxOf b (has_child_where (holds (slice_index_or fine.boxes n e)))
+    cells_here = subst (λ (x : Extent). IsBoxOf b (has_child_where (holds x))) same cells
+
+    pub covered : (c : Cell) → holds b c ≡ true → is_covered fine.masses c ≡ true
+    covered = covered_parents p l k fine klevel flevel nested few n b e there cells_here
+
+    pub within : IsInDomain (domain p l) b
+    within = parents_inside p l k fine klevel flevel nested few n b e there cells_here
+
+    is_here : b ≡ coarse_box e
+    is_here i = record { lo = record { x = corners.west_is i; y = corners.south_is i }; hi = record { x = corners.east_is i; y = corners.north_is i } }
+
+    pub is : b ≡ coarse_box (slice_index_or fine.boxes n e)
+    is = is_here ∙ ap coarse_box same
+
+    pub near : IsNear b
+    near =
+        let proper : IsProper e = subst IsProper (sym same) (flevel.proper n e there) in
+        let parents : IsProper (coarse_box e) = record { wide = half_order _ _ proper.wide; high = half_order _ _ proper.high } in
+        near_parents p l k fine klevel flevel nested few b (subst IsProper (sym is_here) parents) within
+
+  pub all_boxes : (d : Domain) (cs : List Cell) (n : ℕ) → d ≡ domain p l → n ≡ length fine.boxes → BoxesDone d (is_register_cell d k.masses fine.masses) fine.boxes cs n → BoxesDone (domain p l) (is_register_cell (domain p l) k.masses fine.masses) fine.boxes cs (length fine.boxes)
+  all_boxes d cs n e m done = subst (λ (i : ℕ). BoxesDone (domain p l) (is_register_cell (domain p l) k.masses fine.masses) fine.boxes cs i) m (subst (λ (x : Domain). BoxesDone x (is_register_cell x k.masses fine.masses) fine.boxes cs n) e done)
+
+  pub in_the_end : (cs sorted : List Cell) → BoxesDone (domain p l) (is_register_cell (domain p l) k.masses fine.masses) fine.boxes cs (length fine.boxes) → AreRising sorted → ((c : Cell) → Contains cs c → Contains sorted c) → ((c : Cell) → Contains sorted c → Contains cs c) → sorted ≡ register_cells p l k.masses fine.masses
+  in_the_end cs sorted done rises kept none_added =
+      are_register_cells p l k.masses fine.masses sorted
+      (λ q h. klevel.inside q (sym (klevel.filled q) ∙ h))
+      (sorted_from_rising sorted rises)
+      (λ q h. done.passing q (none_added q h))
+      (λ q t. kept q (all_found p l k fine klevel flevel nested few cs done q t))
+
+pub near_cells : (p : Problem) (l : ℕ) (m fine : Masses) (cs : List Cell) → l ≤ 4 → cs ≡ register_cells p l m fine → All IsDomainCell cs
+near_cells p l m fine cs few e n d lt =
+    domain_cell (domain p l) (slice_index_or cs n d) (size_at p l few) (where_inside (domain p l) (is_register_cell (domain p l) m fine) (slice_index_or cs n d) (subst (λ (xs : List Cell). Contains xs (slice_index_or cs n d)) e (Contains-get_or cs n d lt)))

@@ -1,0 +1,6 @@
+use Rattle.amr_register.specs.Registers.{cells_in}
+use Rattle.amr_register.proofs.register.Register.cells.Goals as goal
+
+pub returns : goal.returns
+unfolding cells_in
+returns c = c.as_slice.ensures.value

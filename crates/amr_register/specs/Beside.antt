@@ -1,0 +1,36 @@
+-- Cells beside covered ones.
+use Rattle.std.specs.Prelude.{◌≡◌, ℕ, ◌<◌, Bool, pos, negsuc, ◌+ℤ◌, ◌-ℤ◌, ◌≤ℤ◌, List, length, slice_index_or, is_some}
+use Rattle.amr_box.specs.declared.Cell.{Cell}
+use Rattle.amr_box.specs.Cells.{cell}
+use Rattle.amr_def.specs.Domain.{Domain, home_cell}
+use Rattle.amr_def.specs.State.{Masses, is_covered}
+use Rattle.amr_register.specs.declared.sides.CoveredSides.{CoveredSides}
+
+-- a covered cell has all of its children, so that the first one tells
+pub record HasFirstChildren (fine : Masses) : Type 0 where
+  pub at : (c : Cell) → is_covered fine c ≡ is_some (fine (cell (c.x +ℤ c.x) (c.y +ℤ c.y)))
+
+-- as far as domains reach, which have at most 4096 columns and rows
+pub record IsDomainCell (c : Cell) : Type 0 where
+  pub west : pos 0 ≤ℤ c.x
+  pub east : c.x ≤ℤ pos 4095
+  pub south : pos 0 ≤ℤ c.y
+  pub north : c.y ≤ℤ pos 4095
+
+-- and one cell farther
+pub record IsBesideDomain (c : Cell) : Type 0 where
+  pub west : negsuc 0 ≤ℤ c.x
+  pub east : c.x ≤ℤ pos 4096
+  pub south : negsuc 0 ≤ℤ c.y
+  pub north : c.y ≤ℤ pos 4096
+
+-- these are the sides where a covered cell lies beside the cell
+pub record HasSides (d : Domain) (covered : Cell → Bool) (c : Cell) (s : CoveredSides) : Type 0 where
+  pub west : s.west ≡ covered (home_cell d (cell (c.x -ℤ pos 1) c.y))
+  pub east : s.east ≡ covered (home_cell d (cell (c.x +ℤ pos 1) c.y))
+  pub south : s.south ≡ covered (home_cell d (cell c.x (c.y -ℤ pos 1)))
+  pub north : s.north ≡ covered (home_cell d (cell c.x (c.y +ℤ pos 1)))
+
+-- cell by cell
+abbrev pub HaveSides : Domain → (Cell → Bool) → List Cell → List CoveredSides → Type 0
+HaveSides d covered cs ss = (k : ℕ) (c : Cell) (s : CoveredSides) → k < length cs → HasSides d covered (slice_index_or cs k c) (slice_index_or ss k s)

@@ -1,0 +1,112 @@
+//! The plain flows of a patch through coarse-fine edges.
+
+ghost use Rattle.std.specs.Prelude.{◌≡◌, ℕ, ◌<◌, ◌≤◌, ◌^◌, ◌-ℤ◌, ◌<ℤ◌, pos, negsuc, length, slice_index_or, unsigned_abs, IsTrue};
+ghost use Rattle.std.specs.List.{All};
+ghost use Rattle.amr_box.specs.declared.Cell.{Cell};
+ghost use Rattle.amr_def.specs.Domain.{domain};
+ghost use Rattle.amr_def.specs.Flux.{high_cell};
+ghost use Rattle.amr_patch.specs.Patches.{box};
+ghost use Rattle.amr_flux.specs.Faces.{IsInDomain};
+ghost use Rattle.amr_register.specs.declared.sides.CoveredSides.{CoveredSides};
+ghost use Rattle.amr_register.specs.Beside.{IsDomainCell};
+ghost use Rattle.amr_register.specs.CoarseFlows.{high_face, low_face, net_over, owned_flow};
+
+use crate::sides::CoveredSides;
+use amr_box::{Axis, Cell, Face};
+use amr_def::Problem;
+use amr_flux::face_flux;
+use amr_patch::Patch;
+
+/// The cell at the high side of a face.
+fn high_cell(f: Face) -> Cell
+    ensures { result ≡ high_cell f }
+{
+    Cell { x: f.x, y: f.y }
+}
+
+/// The face at the low side of a cell.
+fn low_face(axis: Axis, c: Cell) -> Face
+    ensures { result ≡ low_face axis c }
+{
+    Face {
+        axis,
+        x: c.x,
+        y: c.y,
+    }
+}
+
+/// The face at the high side of a cell.
+fn high_face(axis: Axis, c: Cell) -> Face
+    requires { IsDomainCell c }
+    ensures { result ≡ high_face axis c }
+{
+    match axis {
+        Axis::X => Face {
+            axis,
+            x: c.x + 1,
+            y: c.y,
+        },
+        Axis::Y => Face {
+            axis,
+            x: c.x,
+            y: c.y + 1,
+        },
+    }
+}
+
+/// The flow through a face that the patch owns, if it counts; 0 through any other.
+fn owned_flow(p: &Problem, l: u32, patch: &Patch, counts: bool, f: Face) -> i64
+    requires level { l ≤ 4 }
+    requires inside { IsInDomain (domain p.now l) (box patch.now) }
+    ensures value { result ≡ owned_flow p.now l patch.now counts f }
+    ensures low { negsuc (2 ^ 32) <ℤ result }
+    ensures high { result <ℤ pos (2 ^ 32) }
+{
+    if !counts {
+        return 0;
+    }
+    let high = p.domain(l).home_cell(high_cell(f));
+    if !patch.bx().holds(high) {
+        return 0;
+    }
+    face_flux(p, l, patch, low_face(f.axis, high))
+}
+
+/// What comes into a cell by the flows through those of its faces that lie on these sides and that the patch owns.
+fn net_over(p: &Problem, l: u32, patch: &Patch, sides: CoveredSides, c: Cell) -> i64
+    requires level { l ≤ 4 }
+    requires near { IsDomainCell c }
+    requires inside { IsInDomain (domain p.now l) (box patch.now) }
+    ensures value { result ≡ net_over p.now l patch.now sides c }
+    ensures low { negsuc (2 ^ 34) <ℤ result }
+    ensures high { result <ℤ pos (2 ^ 34) }
+{
+    let west = owned_flow(p, l, patch, sides.west, low_face(Axis::X, c));
+    let east = owned_flow(p, l, patch, sides.east, high_face(Axis::X, c));
+    let south = owned_flow(p, l, patch, sides.south, low_face(Axis::Y, c));
+    let north = owned_flow(p, l, patch, sides.north, high_face(Axis::Y, c));
+    (west - east) + (south - north)
+}
+
+/// Takes away from each entry what comes into its cell by the flows through those of its faces that lie on its sides and that
+/// the patch owns.
+pub(crate) fn take_away(
+    p: &Problem,
+    l: u32,
+    patch: &Patch,
+    cells: &[Cell],
+    sides: &[CoveredSides],
+    entries: &mut [i64],
+)
+    requires level { l ≤ 4 }
+    requires inside { IsInDomain (domain p.now l) (box patch.now) }
+    requires near { All IsDomainCell cells.now }
+    requires side_count { length sides.now ≡ length cells.now }
+    requires entry_count { length entries.old ≡ length cells.now }
+    requires room { (k : ℕ) → k < length cells.now → unsigned_abs (slice_index_or entries.old k (pos 0)) < 2 ^ 62 }
+    ensures { (k : ℕ) (c : Cell) (s : CoveredSides) → k < length cells.now → slice_index_or entries.new k (pos 0) ≡ slice_index_or entries.old k (pos 0) -ℤ net_over p.now l patch.now (slice_index_or sides.now k s) (slice_index_or cells.now k c) }
+{
+    for k in 0..cells.len() {
+        entries[k] -= net_over(p, l, patch, sides[k], cells[k]);
+    }
+}
