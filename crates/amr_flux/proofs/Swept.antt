@@ -6,14 +6,14 @@ use Rattle.std.proofs.lemmas.Bool.{cases_lt}
 use Rattle.amr_box.specs.declared.Face.{Face}
 use Rattle.amr_box.specs.declared.Axis.{Axis}
 use Rattle.amr_box.specs.declared.Axis.TheVariants.{X, Y}
-use Rattle.amr_box.specs.Cells.{Extent, cell, height, width}
+use Rattle.amr_box.specs.Cells.{Extent, IsNear, cell, extent, height, width}
 use Rattle.amr_def.specs.declared.problem.Problem.{Problem}
 use Rattle.amr_def.specs.Flux.{face}
 use Rattle.amr_patch.specs.declared.patches.Patch.{Patch}
-use Rattle.amr_patch.specs.Places.{is_edge_face}
+use Rattle.amr_patch.specs.Places.{is_edge_face, on_box, on_edge}
 use Rattle.amr_patch.specs.Patches.{box, flux_in}
 use Rattle.amr_patch.proofs.Edges.{at_end, x_edge, y_edge}
-use Rattle.amr_patch.proofs.Rows.{sides}
+use Rattle.amr_patch.proofs.Rows.{is_inside, sides}
 use Rattle.amr_flux.specs.Faces.{flux_beside, is_border, owns}
 use Rattle.amr_flux.specs.Tables.{Stands, mark, x_flux, x_marked, y_flux, y_marked}
 use Rattle.amr_flux.proofs.Places.{IsFaceAt, IsXFace, IsYFace, high_at, mark_here, offset, owned_of_box, owned_unmarked, x_beyond, x_face_at, x_high_here, x_low_here, y_beyond, y_face_at, y_high_here, y_low_here}
@@ -24,6 +24,67 @@ use Rattle.amr_flux.proofs.Shown.{border_of_box}
 opposite : {b : Bool} → b ≡ true → b ≡ false → ⊥
 opposite e f = let wrong : true ≡ false = sym e ∙ f in cc
 
+-- a face at an end of a row or a column has the entry of its edge line
+module _ (p : Problem) (l : ℕ) (q new : Patch) (column row : ℕ) (s : Stands p l q.bx column row) (same : new.bx ≡ q.bx) where
+  there : (x y : ℤ) (i j : ℕ) → IsFaceAt q.bx x y i j → IsFaceAt new.bx x y i j
+  there x y i j at = let P : Extent → Type 0 = λ b. IsFaceAt b x y i j in subst P (sym same) at
+
+  x_low_is : (x y : ℤ) (i j : ℕ) → IsXFace q.bx x y i j → x ≡ q.bx.lo.x → slice_index_or new.x_low.items j (pos 0) ≡ x_flux p l row (width q.bx) q.values.items 0 j → flux_in new (face X x y) ≡ flux_beside p l q (face X x y)
+  x_low_is x y i j f e is =
+      let first : i ≡ 0 = omega (arith, ints, f.at.column, e) in
+      x_low_here new x y i j (there x y i j f.at) (e ∙ ap (λ (b : Extent). b.lo.x) (sym same)) ∙ is ∙ ap (λ n. x_flux p l row (width q.bx) q.values.items n j) (sym first) ∙ x_beside p l q column row s x y i j f.at f.row
+
+  x_high_is : (x y : ℤ) (i j : ℕ) → IsXFace q.bx x y i j → x ≡ q.bx.hi.x +ℤ pos 1 → slice_index_or new.x_high.items j (pos 0) ≡ x_flux p l row (width q.bx) q.values.items (width q.bx) j → flux_in new (face X x y) ≡ flux_beside p l q (face X x y)
+  x_high_is x y i j f e is =
+      let wide = (sides q.bx q.near).wide in
+      let last : i ≡ width q.bx = omega (arith, ints, f.at.column, e, wide) in
+      x_high_here new x y i j (there x y i j f.at) (e ∙ ap (λ (b : Extent). b.hi.x +ℤ pos 1) (sym same)) ∙ is ∙ ap (λ n. x_flux p l row (width q.bx) q.values.items n j) (sym last) ∙ x_beside p l q column row s x y i j f.at f.row
+
+  y_low_is : (x y : ℤ) (i j : ℕ) → IsYFace q.bx x y i j → y ≡ q.bx.lo.y → slice_index_or new.y_low.items i (pos 0) ≡ y_flux p l column (width q.bx) q.values.items i 0 → flux_in new (face Y x y) ≡ flux_beside p l q (face Y x y)
+  y_low_is x y i j f e is =
+      let first : j ≡ 0 = omega (arith, ints, f.at.row, e) in
+      y_low_here new x y i j (there x y i j f.at) (e ∙ ap (λ (b : Extent). b.lo.y) (sym same)) ∙ is ∙ ap (λ n. y_flux p l column (width q.bx) q.values.items i n) (sym first) ∙ y_beside p l q column row s x y i j f.at f.column
+
+  y_high_is : (x y : ℤ) (i j : ℕ) → IsYFace q.bx x y i j → y ≡ q.bx.hi.y +ℤ pos 1 → slice_index_or new.y_high.items i (pos 0) ≡ y_flux p l column (width q.bx) q.values.items i (height q.bx) → flux_in new (face Y x y) ≡ flux_beside p l q (face Y x y)
+  y_high_is x y i j f e is =
+      let high = (sides q.bx q.near).high in
+      let last : j ≡ height q.bx = omega (arith, ints, f.at.row, e, high) in
+      y_high_here new x y i j (there x y i j f.at) (e ∙ ap (λ (b : Extent). b.hi.y +ℤ pos 1) (sym same)) ∙ is ∙ ap (λ n. y_flux p l column (width q.bx) q.values.items i n) (sym last) ∙ y_beside p l q column row s x y i j f.at f.column
+
+-- a face on an edge line is a face of the box
+edge_face : (b : Extent) (a : Axis) (x y : ℤ) → IsNear b → on_edge a b (cell x y) ≡ true → on_box a b (cell x y) ≡ true
+edge_face b X x y near e = at_each (at_end b.lo.x b.hi.x x (x_edge b (cell x y) e).ends)
+  where
+    at_each : (x ≡ b.lo.x) ⊎ (x ≡ b.hi.x +ℤ pos 1) → on_box X b (cell x y) ≡ true
+    at_each (inl at) = let line = x_edge b (cell x y) e in is_inside (extent b.lo (cell (b.hi.x +ℤ pos 1) b.hi.y)) (cell x y) (record { west = omega (arith, ints, at); east = omega (arith, ints, at, near.wide); south = line.from; north = line.to })
+    at_each (inr at) = let line = x_edge b (cell x y) e in is_inside (extent b.lo (cell (b.hi.x +ℤ pos 1) b.hi.y)) (cell x y) (record { west = omega (arith, ints, at, near.wide); east = omega (arith, ints, at); south = line.from; north = line.to })
+edge_face b Y x y near e = at_each (at_end b.lo.y b.hi.y y (y_edge b (cell x y) e).ends)
+  where
+    at_each : (y ≡ b.lo.y) ⊎ (y ≡ b.hi.y +ℤ pos 1) → on_box Y b (cell x y) ≡ true
+    at_each (inl at) = let line = y_edge b (cell x y) e in is_inside (extent b.lo (cell b.hi.x (b.hi.y +ℤ pos 1))) (cell x y) (record { west = line.from; east = line.to; south = omega (arith, ints, at); north = omega (arith, ints, at, near.high) })
+    at_each (inr at) = let line = y_edge b (cell x y) e in is_inside (extent b.lo (cell b.hi.x (b.hi.y +ℤ pos 1))) (cell x y) (record { west = line.from; east = line.to; south = omega (arith, ints, at, near.high); north = omega (arith, ints, at) })
+
+-- where all lists are worked out from the values, each face on the edges has its flux
+module _ (p : Problem) (l : ℕ) (q new : Patch) (column row : ℕ) (s : Stands p l q.bx column row) (same : new.bx ≡ q.bx)
+    (x_low : (j : ℕ) → j < height q.bx → slice_index_or new.x_low.items j (pos 0) ≡ x_flux p l row (width q.bx) q.values.items 0 j)
+    (x_high : (j : ℕ) → j < height q.bx → slice_index_or new.x_high.items j (pos 0) ≡ x_flux p l row (width q.bx) q.values.items (width q.bx) j)
+    (y_low : (i : ℕ) → i < width q.bx → slice_index_or new.y_low.items i (pos 0) ≡ y_flux p l column (width q.bx) q.values.items i 0)
+    (y_high : (i : ℕ) → i < width q.bx → slice_index_or new.y_high.items i (pos 0) ≡ y_flux p l column (width q.bx) q.values.items i (height q.bx)) where
+  framed_by : (a : Axis) (x y : ℤ) → on_edge a q.bx (cell x y) ≡ true → flux_in new (face a x y) ≡ flux_beside p l q (face a x y)
+  framed_by X x y e = at_each (at_end q.bx.lo.x q.bx.hi.x x (x_edge q.bx (cell x y) e).ends)
+    where
+      at_each : (x ≡ q.bx.lo.x) ⊎ (x ≡ q.bx.hi.x +ℤ pos 1) → flux_in new (face X x y) ≡ flux_beside p l q (face X x y)
+      at_each (inl at) = let f = x_face_at q.bx x y q.near (edge_face q.bx X x y q.near e) in x_low_is p l q new column row s same x y _ _ f at (x_low _ f.row)
+      at_each (inr at) = let f = x_face_at q.bx x y q.near (edge_face q.bx X x y q.near e) in x_high_is p l q new column row s same x y _ _ f at (x_high _ f.row)
+  framed_by Y x y e = at_each (at_end q.bx.lo.y q.bx.hi.y y (y_edge q.bx (cell x y) e).ends)
+    where
+      at_each : (y ≡ q.bx.lo.y) ⊎ (y ≡ q.bx.hi.y +ℤ pos 1) → flux_in new (face Y x y) ≡ flux_beside p l q (face Y x y)
+      at_each (inl at) = let f = y_face_at q.bx x y q.near (edge_face q.bx Y x y q.near e) in y_low_is p l q new column row s same x y _ _ f at (y_low _ f.column)
+      at_each (inr at) = let f = y_face_at q.bx x y q.near (edge_face q.bx Y x y q.near e) in y_high_is p l q new column row s same x y _ _ f at (y_high _ f.column)
+
+  pub all_swept : (f : Face) → IsTrue (is_edge_face (box q) f) → flux_in new f ≡ flux_beside p l q f
+  all_swept f e = framed_by f.axis f.x f.y e
+
 module _ (p : Problem) (l : ℕ) (q new : Patch) (column row : ℕ) (s : Stands p l q.bx column row) (same : new.bx ≡ q.bx)
     (x_low : (j : ℕ) → j < height q.bx → slice_index_or new.x_low.items j (pos 0) ≡ x_flux p l row (width q.bx) q.values.items 0 j)
     (x_made : (j : ℕ) → j < height q.bx → x_marked (width q.bx) q.marks.items j ≡ false → slice_index_or new.x_high.items j (pos 0) ≡ x_flux p l row (width q.bx) q.values.items (width q.bx) j)
@@ -31,16 +92,8 @@ module _ (p : Problem) (l : ℕ) (q new : Patch) (column row : ℕ) (s : Stands 
     (y_low : (i : ℕ) → i < width q.bx → slice_index_or new.y_low.items i (pos 0) ≡ y_flux p l column (width q.bx) q.values.items i 0)
     (y_made : (i : ℕ) → i < width q.bx → y_marked (width q.bx) (height q.bx) q.marks.items i ≡ false → slice_index_or new.y_high.items i (pos 0) ≡ y_flux p l column (width q.bx) q.values.items i (height q.bx))
     (y_kept : (i : ℕ) → i < width q.bx → y_marked (width q.bx) (height q.bx) q.marks.items i ≡ true → slice_index_or new.y_high.items i (pos 0) ≡ slice_index_or q.y_high.items i (pos 0)) where
-  there : (x y : ℤ) (i j : ℕ) → IsFaceAt q.bx x y i j → IsFaceAt new.bx x y i j
-  there x y i j at = let P : Extent → Type 0 = λ b. IsFaceAt b x y i j in subst P (sym same) at
-
   x_swept : (x y : ℤ) → owns q (face X x y) ≡ true → (x ≡ q.bx.lo.x) ⊎ (x ≡ q.bx.hi.x +ℤ pos 1) → flux_in new (face X x y) ≡ flux_beside p l q (face X x y)
-  x_swept x y own (inl e) =
-      let f = x_face_at q.bx x y q.near (owned_of_box q (face X x y) own) in
-      let i = offset q.bx.lo.x x in
-      let j = offset q.bx.lo.y y in
-      let first : i ≡ 0 = omega (arith, ints, f.at.column, e) in
-      x_low_here new x y i j (there x y i j f.at) (e ∙ ap (λ (b : Extent). b.lo.x) (sym same)) ∙ x_low j f.row ∙ ap (λ n. x_flux p l row (width q.bx) q.values.items n j) (sym first) ∙ x_beside p l q column row s x y i j f.at f.row
+  x_swept x y own (inl e) = let f = x_face_at q.bx x y q.near (owned_of_box q (face X x y) own) in x_low_is p l q new column row s same x y _ _ f e (x_low _ f.row)
   x_swept x y own (inr e) =
       let f = x_face_at q.bx x y q.near (owned_of_box q (face X x y) own) in
       let i = offset q.bx.lo.x x in
@@ -48,15 +101,10 @@ module _ (p : Problem) (l : ℕ) (q new : Patch) (column row : ℕ) (s : Stands 
       let wide = (sides q.bx q.near).wide in
       let last : i ≡ width q.bx = omega (arith, ints, f.at.column, e, wide) in
       let free : x_marked (width q.bx) q.marks.items j ≡ false = ap (λ n. mark (width q.bx) q.marks.items (n + 1) (j + 1)) (sym last) ∙ sym (mark_here q (cell x y) (i + 1) (j + 1) (high_at q.bx x y i j f.at)) ∙ owned_unmarked q (face X x y) own (x_beyond q.bx x y i j q.near f last) in
-      x_high_here new x y i j (there x y i j f.at) (e ∙ ap (λ (b : Extent). b.hi.x +ℤ pos 1) (sym same)) ∙ x_made j f.row free ∙ ap (λ n. x_flux p l row (width q.bx) q.values.items n j) (sym last) ∙ x_beside p l q column row s x y i j f.at f.row
+      x_high_is p l q new column row s same x y i j f e (x_made j f.row free)
 
   y_swept : (x y : ℤ) → owns q (face Y x y) ≡ true → (y ≡ q.bx.lo.y) ⊎ (y ≡ q.bx.hi.y +ℤ pos 1) → flux_in new (face Y x y) ≡ flux_beside p l q (face Y x y)
-  y_swept x y own (inl e) =
-      let f = y_face_at q.bx x y q.near (owned_of_box q (face Y x y) own) in
-      let i = offset q.bx.lo.x x in
-      let j = offset q.bx.lo.y y in
-      let first : j ≡ 0 = omega (arith, ints, f.at.row, e) in
-      y_low_here new x y i j (there x y i j f.at) (e ∙ ap (λ (b : Extent). b.lo.y) (sym same)) ∙ y_low i f.column ∙ ap (λ n. y_flux p l column (width q.bx) q.values.items i n) (sym first) ∙ y_beside p l q column row s x y i j f.at f.column
+  y_swept x y own (inl e) = let f = y_face_at q.bx x y q.near (owned_of_box q (face Y x y) own) in y_low_is p l q new column row s same x y _ _ f e (y_low _ f.column)
   y_swept x y own (inr e) =
       let f = y_face_at q.bx x y q.near (owned_of_box q (face Y x y) own) in
       let i = offset q.bx.lo.x x in
@@ -64,7 +112,7 @@ module _ (p : Problem) (l : ℕ) (q new : Patch) (column row : ℕ) (s : Stands 
       let high = (sides q.bx q.near).high in
       let last : j ≡ height q.bx = omega (arith, ints, f.at.row, e, high) in
       let free : y_marked (width q.bx) (height q.bx) q.marks.items i ≡ false = ap (λ n. mark (width q.bx) q.marks.items (i + 1) (n + 1)) (sym last) ∙ sym (mark_here q (cell x y) (i + 1) (j + 1) (high_at q.bx x y i j f.at)) ∙ owned_unmarked q (face Y x y) own (y_beyond q.bx x y i j q.near f last) in
-      y_high_here new x y i j (there x y i j f.at) (e ∙ ap (λ (b : Extent). b.hi.y +ℤ pos 1) (sym same)) ∙ y_made i f.column free ∙ ap (λ n. y_flux p l column (width q.bx) q.values.items i n) (sym last) ∙ y_beside p l q column row s x y i j f.at f.column
+      y_high_is p l q new column row s same x y i j f e (y_made i f.column free)
 
   by_axis : (a : Axis) (x y : ℤ) → is_edge_face q.bx (face a x y) ≡ true → owns q (face a x y) ≡ true → flux_in new (face a x y) ≡ flux_beside p l q (face a x y)
   by_axis X x y e own = x_swept x y own (at_end q.bx.lo.x q.bx.hi.x x (x_edge q.bx (cell x y) e).ends)
@@ -85,7 +133,7 @@ module _ (p : Problem) (l : ℕ) (q new : Patch) (column row : ℕ) (s : Stands 
           let wide = (sides q.bx q.near).wide in
           let line : x ≡ q.bx.hi.x +ℤ pos 1 = omega (arith, ints, f.at.column, last, wide) in
           let marked : x_marked (width q.bx) q.marks.items j ≡ true = sym (x_border q x y i j (border_of_box q (face X x y) e) f last) ∙ e in
-          x_high_here new x y i j (there x y i j f.at) (line ∙ ap (λ (b : Extent). b.hi.x +ℤ pos 1) (sym same)) ∙ x_kept j marked ∙ sym (x_high_here q x y i j f.at line)
+          x_high_here new x y i j (there p l q new column row s same x y i j f.at) (line ∙ ap (λ (b : Extent). b.hi.x +ℤ pos 1) (sym same)) ∙ x_kept j marked ∙ sym (x_high_here q x y i j f.at line)
 
   y_stays : (x y : ℤ) → is_border q (face Y x y) ≡ true → flux_in new (face Y x y) ≡ flux_in q (face Y x y)
   y_stays x y e = at_each (y_face_at q.bx x y q.near (border_of_box q (face Y x y) e)) (cases_lt (offset q.bx.lo.y y) (height q.bx))
@@ -99,7 +147,7 @@ module _ (p : Problem) (l : ℕ) (q new : Patch) (column row : ℕ) (s : Stands 
           let high = (sides q.bx q.near).high in
           let line : y ≡ q.bx.hi.y +ℤ pos 1 = omega (arith, ints, f.at.row, last, high) in
           let marked : y_marked (width q.bx) (height q.bx) q.marks.items i ≡ true = sym (y_border q x y i j (border_of_box q (face Y x y) e) f last) ∙ e in
-          y_high_here new x y i j (there x y i j f.at) (line ∙ ap (λ (b : Extent). b.hi.y +ℤ pos 1) (sym same)) ∙ y_kept i f.column marked ∙ sym (y_high_here q x y i j f.at line)
+          y_high_here new x y i j (there p l q new column row s same x y i j f.at) (line ∙ ap (λ (b : Extent). b.hi.y +ℤ pos 1) (sym same)) ∙ y_kept i f.column marked ∙ sym (y_high_here q x y i j f.at line)
 
   stays_by : (a : Axis) (x y : ℤ) → is_border q (face a x y) ≡ true → flux_in new (face a x y) ≡ flux_in q (face a x y)
   stays_by X x y e = x_stays x y e

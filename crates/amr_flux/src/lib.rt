@@ -1,6 +1,7 @@
 //! Donor-cell fluxes through the faces of a patch, and the new masses of its cells.
 //!
 //! - [`sweep`]: the fluxes through the faces on a patch's edges that it owns.
+//! - [`sweep_by_frame`]: the fluxes through all faces on a patch's edges, as they follow from the frame.
 //! - [`face_flux`]: the flux through any one face of a patch's cells, by the values on its two sides.
 //! - [`update`]: the new masses, in one pass row by row; what flows inside is worked out and used there, and kept nowhere.
 //! - [`update_by_frame`]: the same where all fluxes follow from the frame.
@@ -24,7 +25,7 @@ mod x_faces;
 mod y_faces;
 
 pub use crate::faces::face_flux;
-pub use crate::fluxes::sweep;
+pub use crate::fluxes::{sweep, sweep_by_frame};
 pub use crate::masses::{update, update_by_frame};
 pub use crate::order::{border_faces, x_end, y_end};
 pub use crate::room::Room;

@@ -26,19 +26,38 @@ pub(crate) fn x_face_flux(shape: Shape, share: Share, values: &[u32], i: usize, 
     share.flow(values[at + i], values[at + (i + 1)])
 }
 
-/// The flux through the x face at the low side of each row.
-pub(crate) fn low_fluxes(p: &Problem, shape: Shape, values: &[u32], fluxes: &mut [i32])
+/// The flux through x face `i` of each row, where one Courant number holds in all rows.
+fn column_at(shape: Shape, share: Share, values: &[u32], i: usize, fluxes: &mut [i32])
+    requires value_count { length values.now ≡ (shape.h + 2) * (shape.w + 2) }
+    requires column { i ≤ shape.w }
+    requires flux_count { length fluxes.old ≡ shape.h }
+    requires small { AreXSmall shape.w shape.h values.now }
+    ensures { (j : ℕ) → j < shape.h → slice_index_or fluxes.new j (pos 0) ≡ flow share.number share.parts (value shape.w values.now i (j + 1)) (value shape.w values.now (i + 1) (j + 1)) }
+{
+    for j in 0..fluxes.len() {
+        fluxes[j] = x_face_flux(shape, share, values, i, j);
+    }
+}
+
+/// The flux through x face `i` of each row.
+#[tactic(auto, using(crate::proofs::Numbers::plain_x_slow))]
+pub(crate) fn column_fluxes(p: &Problem, shape: Shape, values: &[u32], i: usize, fluxes: &mut [i32])
     requires level { shape.level ≤ 4 }
     requires inside { shape.row + shape.h ≤ rows p.now shape.level }
     requires value_count { length values.now ≡ (shape.h + 2) * (shape.w + 2) }
+    requires column { i ≤ shape.w }
     requires flux_count { length fluxes.old ≡ shape.h }
     requires small { AreXSmall shape.w shape.h values.now }
-    ensures { (j : ℕ) → j < shape.h → slice_index_or fluxes.new j (pos 0) ≡ x_flux p.now shape.level shape.row shape.w values.now 0 j }
+    ensures { (j : ℕ) → j < shape.h → slice_index_or fluxes.new j (pos 0) ≡ x_flux p.now shape.level shape.row shape.w values.now i j }
 {
+    if p.shear_x.entries().is_empty() {
+        column_at(shape, shape.x.with(p.cx, p.d), values, i, fluxes);
+        return;
+    }
     let mut share = shape.x;
     for j in 0..fluxes.len() {
         share = x_share(p, shape.level, shape.row + j as u32, share);
-        fluxes[j] = x_face_flux(shape, share, values, 0, j);
+        fluxes[j] = x_face_flux(shape, share, values, i, j);
     }
 }
 

@@ -16,7 +16,7 @@ ghost use Rattle.amr_level.specs.Steps.{HasFluxes, IsShown, IsSwept, base_fluxes
 
 use crate::updates::update_all;
 use amr_def::Problem;
-use amr_flux::{Room, sweep};
+use amr_flux::{Room, sweep_by_frame};
 use amr_ghost::fill_in_order;
 use amr_patch::{Level, Order, Patch};
 
@@ -27,7 +27,7 @@ fn sweep_all(p: &Problem, patches: &mut [Patch], room: &mut Room)
     ensures row { widest room.new ≡ widest room.old }
 {
     for i in 0..patches.len() {
-        sweep(p, 0, &mut patches[i], room);
+        sweep_by_frame(p, 0, &mut patches[i], room);
     }
 }
 

@@ -1,4 +1,4 @@
-use Rattle.std.proofs.Common.{◌≡◌, ℕ, ◌+◌, ◌<◌, ◌∙◌, Bool, false, true, List, ℤ, pos, refl, ap, arith, rules}
+use Rattle.std.proofs.Common.{◌≡◌, ℕ, ◌<◌, ◌∙◌, false, true, pos, refl, ap, arith, rules}
 use Rattle.std.specs.Prelude.{slice_index_or}
 use Rattle.std.proofs.lemmas.List.{with_items_is}
 use Rattle.amr_patch.specs.Patches.{mark_in, value_in}
@@ -9,8 +9,8 @@ use Rattle.amr_flux.proofs.Swept.{border_stays, swept}
 use Rattle.amr_flux.proofs.Updates.{moved}
 use Rattle.amr_flux.proofs.fluxes.sweep.Goals as goal
 
-pub low_fluxes-requires-clause-inside : goal.low_fluxes-requires-clause-inside
-low_fluxes-requires-clause-inside c = rw (c.shape_of-shape.ensures.rows, c.shape_of-shape.ensures.level) c.shape_of-shape.ensures.stands.rows_fit
+pub column_fluxes-requires-clause-inside : goal.column_fluxes-requires-clause-inside
+column_fluxes-requires-clause-inside c = rw (c.shape_of-shape.ensures.rows, c.shape_of-shape.ensures.level) c.shape_of-shape.ensures.stands.rows_fit
 
 pub high_fluxes-requires-clause-inside : goal.high_fluxes-requires-clause-inside
 high_fluxes-requires-clause-inside c = rw (c.shape_of-shape.ensures.rows, c.shape_of-shape.ensures.level) c.shape_of-shape.ensures.stands.rows_fit
@@ -21,8 +21,8 @@ y_row-requires-clause-inside c = rw (c.shape_of-shape.ensures.columns, c.shape_o
 pub top_fluxes-requires-clause-inside : goal.top_fluxes-requires-clause-inside
 top_fluxes-requires-clause-inside c = rw (c.shape_of-shape.ensures.columns, c.shape_of-shape.ensures.level) c.shape_of-shape.ensures.stands.columns_fit
 
-pub low_fluxes-requires-clause-small : goal.low_fluxes-requires-clause-small
-low_fluxes-requires-clause-small c = rw (c.shape_of-shape.ensures.columns, c.shape_of-shape.ensures.rows, c.deref.ensures.value) (x_small c.args.patch.now c.requires.small)
+pub column_fluxes-requires-clause-small : goal.column_fluxes-requires-clause-small
+column_fluxes-requires-clause-small c = rw (c.shape_of-shape.ensures.columns, c.shape_of-shape.ensures.rows, c.deref.ensures.value) (x_small c.args.patch.now c.requires.small)
 
 pub high_fluxes-requires-clause-small : goal.high_fluxes-requires-clause-small
 high_fluxes-requires-clause-small c = rw (c.shape_of-shape.ensures.columns, c.shape_of-shape.ensures.rows, c.deref-2.ensures.value) (x_small c.args.patch.now c.requires.small)
@@ -47,12 +47,12 @@ returns-clause-fluxes c =
     let row = c.shape_of-shape.result.row in
     let column = c.shape_of-shape.result.column in
     let e = c.shape_of-shape.ensures in
-    let x_low = c.low_fluxes.new.fluxes in
+    let x_low = c.column_fluxes.new.fluxes in
     let x_high = c.high_fluxes.new.fluxes in
     let y_low = c.y_row.new.fluxes in
     let y_high = c.top_fluxes.new.fluxes in
     swept p c.args.l q _ column row e.stands refl
-    (λ j h. ap (λ es. slice_index_or es j (pos 0)) (with_items_is q.x_low x_low (search rules)) ∙ moved (λ l w h v m. (j : ℕ) → j < h → slice_index_or x_low j (pos 0) ≡ x_flux p l row w v 0 j) e.level e.columns e.rows c.deref.ensures.value c.deref-3.ensures.value c.low_fluxes.ensures j h)
+    (λ j h. ap (λ es. slice_index_or es j (pos 0)) (with_items_is q.x_low x_low (search rules)) ∙ moved (λ l w h v m. (j : ℕ) → j < h → slice_index_or x_low j (pos 0) ≡ x_flux p l row w v 0 j) e.level e.columns e.rows c.deref.ensures.value c.deref-3.ensures.value c.column_fluxes.ensures j h)
     (λ j h f. ap (λ es. slice_index_or es j (pos 0)) (with_items_is q.x_high x_high (search rules)) ∙ moved (λ l w h v m. (j : ℕ) → j < h → x_marked w m j ≡ false → slice_index_or x_high j (pos 0) ≡ x_flux p l row w v w j) e.level e.columns e.rows c.deref-2.ensures.value c.deref-3.ensures.value c.high_fluxes.ensures.made j h f)
     (λ j f. ap (λ es. slice_index_or es j (pos 0)) (with_items_is q.x_high x_high (search rules)) ∙ moved (λ l w h v m. (j : ℕ) → x_marked w m j ≡ true → slice_index_or x_high j (pos 0) ≡ slice_index_or c.deref_mut-2.result.now j (pos 0)) e.level e.columns e.rows c.deref-2.ensures.value c.deref-3.ensures.value c.high_fluxes.ensures.others j f ∙ ap (λ es. slice_index_or es j (pos 0)) c.deref_mut-2.ensures.value)
     (λ i h. ap (λ es. slice_index_or es i (pos 0)) (with_items_is q.y_low y_low (search rules)) ∙ moved (λ l w h v m. (i : ℕ) → i < w → slice_index_or y_low i (pos 0) ≡ y_flux p l column w v i 0) e.level e.columns e.rows c.deref-4.ensures.value c.deref-3.ensures.value c.y_row.ensures i h)
@@ -66,12 +66,12 @@ returns-clause-border c =
     let row = c.shape_of-shape.result.row in
     let column = c.shape_of-shape.result.column in
     let e = c.shape_of-shape.ensures in
-    let x_low = c.low_fluxes.new.fluxes in
+    let x_low = c.column_fluxes.new.fluxes in
     let x_high = c.high_fluxes.new.fluxes in
     let y_low = c.y_row.new.fluxes in
     let y_high = c.top_fluxes.new.fluxes in
     border_stays p c.args.l q _ column row e.stands refl
-    (λ j h. ap (λ es. slice_index_or es j (pos 0)) (with_items_is q.x_low x_low (search rules)) ∙ moved (λ l w h v m. (j : ℕ) → j < h → slice_index_or x_low j (pos 0) ≡ x_flux p l row w v 0 j) e.level e.columns e.rows c.deref.ensures.value c.deref-3.ensures.value c.low_fluxes.ensures j h)
+    (λ j h. ap (λ es. slice_index_or es j (pos 0)) (with_items_is q.x_low x_low (search rules)) ∙ moved (λ l w h v m. (j : ℕ) → j < h → slice_index_or x_low j (pos 0) ≡ x_flux p l row w v 0 j) e.level e.columns e.rows c.deref.ensures.value c.deref-3.ensures.value c.column_fluxes.ensures j h)
     (λ j h f. ap (λ es. slice_index_or es j (pos 0)) (with_items_is q.x_high x_high (search rules)) ∙ moved (λ l w h v m. (j : ℕ) → j < h → x_marked w m j ≡ false → slice_index_or x_high j (pos 0) ≡ x_flux p l row w v w j) e.level e.columns e.rows c.deref-2.ensures.value c.deref-3.ensures.value c.high_fluxes.ensures.made j h f)
     (λ j f. ap (λ es. slice_index_or es j (pos 0)) (with_items_is q.x_high x_high (search rules)) ∙ moved (λ l w h v m. (j : ℕ) → x_marked w m j ≡ true → slice_index_or x_high j (pos 0) ≡ slice_index_or c.deref_mut-2.result.now j (pos 0)) e.level e.columns e.rows c.deref-2.ensures.value c.deref-3.ensures.value c.high_fluxes.ensures.others j f ∙ ap (λ es. slice_index_or es j (pos 0)) c.deref_mut-2.ensures.value)
     (λ i h. ap (λ es. slice_index_or es i (pos 0)) (with_items_is q.y_low y_low (search rules)) ∙ moved (λ l w h v m. (i : ℕ) → i < w → slice_index_or y_low i (pos 0) ≡ y_flux p l column w v i 0) e.level e.columns e.rows c.deref-4.ensures.value c.deref-3.ensures.value c.y_row.ensures i h)

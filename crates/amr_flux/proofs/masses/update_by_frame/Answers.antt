@@ -1,10 +1,10 @@
-use Rattle.std.proofs.Common.{◌≡◌, ℕ, ◌+◌, ◌^◌, ◌<◌, ◌≤◌, ◌∙◌, Bool, List, ℤ, pos, ◌+ℤ◌, ◌≤ℤ◌, ◌<ℤ◌, [], length, refl, sym, ap, arith, rules}
+use Rattle.std.proofs.Common.{◌≡◌, ℕ, ◌+◌, ◌^◌, ◌<◌, pos, ◌+ℤ◌, ◌≤ℤ◌, ◌<ℤ◌, [], refl, arith, rules}
 use Rattle.std.specs.Prelude.{slice_index}
 use Rattle.std.proofs.lemmas.List.{with_items_is}
 use Rattle.amr_patch.specs.Patches.{flux_in, mark_in}
 use Rattle.amr_patch.proofs.Rows.{sides}
 use Rattle.amr_flux.specs.Rooms.{widest}
-use Rattle.amr_flux.specs.Tables.{IsOtherPlace, count_below, net_inflow, value, x_marked, x_through, y_marked, y_through}
+use Rattle.amr_flux.specs.Tables.{IsOtherPlace, net_inflow, value, x_through, y_through}
 use Rattle.amr_flux.proofs.Owned.{x_small, y_small}
 use Rattle.amr_flux.proofs.Throughs.{no_sizes}
 use Rattle.amr_flux.proofs.Updates.{each_at, frame_stays, frame_fluxes, masses_are, moved, same_along}

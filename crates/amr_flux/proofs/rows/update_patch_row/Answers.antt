@@ -1,7 +1,6 @@
-use Rattle.std.proofs.Common.{◌≡◌, ℕ, ℤ, pos, ◌+◌, ◌-◌, ◌*◌, ◌^◌, ◌<◌, ◌+ℤ◌, ◌≤ℤ◌, ◌<ℤ◌, ◌∙◌, List, ap, sym, subst, take, drop, length, length-take, refl, arith, rules}
+use Rattle.std.proofs.Common.{◌≡◌, ℤ, pos, ◌+◌, ◌-◌, ◌*◌, ◌^◌, ◌<◌, ◌+ℤ◌, ◌≤ℤ◌, ◌<ℤ◌, ◌∙◌, ap, sym, subst, take, drop, length-take, refl, arith, rules}
 use Rattle.std.specs.Prelude.{slice_index}
 use Rattle.amr_flux.specs.Rows.{inflow}
-use Rattle.amr_flux.specs.Tables.{value}
 use Rattle.amr_flux.proofs.Parts.{entry_written, inflow_part, kept, read}
 use Rattle.amr_flux.proofs.rows.update_patch_row.Goals as goal
 

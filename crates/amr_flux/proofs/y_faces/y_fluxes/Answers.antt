@@ -1,11 +1,10 @@
-use Rattle.std.proofs.Common.{◌≡◌, ℕ, ◌+◌, ◌<◌, ◌∙◌, ℤ, Bool, true, [], sym, refl, arith, rules}
+use Rattle.std.proofs.Common.{◌≡◌, ℕ, ◌+◌, ◌∙◌, ℤ, true, refl, rules}
 use mir.Val.{SFits}
 use mir.Syntax.{w32}
 use Rattle.std.proofs.lemmas.Int.{to_z-of_z}
 use Rattle.std.specs.Prelude.{slice_index}
 use Rattle.amr_def.specs.Flux.{flow}
 use Rattle.amr_flux.specs.Tables.{y_number}
-use Rattle.amr_flux.proofs.Numbers.{plain_slow, unsheared}
 use Rattle.amr_flux.proofs.Steps.{flow_of, one_made}
 use Rattle.amr_flux.proofs.y_faces.y_fluxes.Goals as goal
 

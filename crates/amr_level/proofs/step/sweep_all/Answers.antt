@@ -8,11 +8,11 @@ loop-i-preserved c =
     let ps = c.args.patches.now in
     let qs = c.loop-i.patches in
     let i = c.loop-i.i in
-    let r = c.sweep.new.patch in
+    let r = c.sweep_by_frame.new.patch in
     let e = c.index-patches-i.result in
     record {
-      row = c.sweep.ensures.room ∙ c.loop-i.invariant.row;
-      done = set_done (IsSwept c.args.p.now) ps qs i r (omega arith) c.loop-i.invariant.done c.loop-i.invariant.rest e (record { of_box = c.sweep.ensures.of_box; values = c.sweep.ensures.values; marks = c.sweep.ensures.marks; fluxes = c.sweep.ensures.fluxes });
+      row = c.sweep_by_frame.ensures.room ∙ c.loop-i.invariant.row;
+      done = set_done (IsSwept c.args.p.now) ps qs i r (omega arith) c.loop-i.invariant.done c.loop-i.invariant.rest e (record { of_box = c.sweep_by_frame.ensures.of_box; values = c.sweep_by_frame.ensures.values; marks = c.sweep_by_frame.ensures.marks; fluxes = λ f edge own. c.sweep_by_frame.ensures.fluxes f edge });
       rest = set_rest (IsSwept c.args.p.now) ps qs i r (omega arith) c.loop-i.invariant.done c.loop-i.invariant.rest;
     }
 
