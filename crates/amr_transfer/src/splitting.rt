@@ -28,8 +28,8 @@ fn share(mass: u32, k: u32) -> u32
     if k < mass % 4 { mass / 4 + 1 } else { mass / 4 }
 }
 
-/// Works out the shares of the cells of a row. They begin with the low child of the first parent where `first` is 0, and with the
-/// high one where it is 1. `row` is 0 in the low row of the children, and 1 in the high row.
+/// Works out the shares of the cells of a row. They begin with the low child of the first parent where `first` is 0, and
+/// with the high one where it is 1. `row` is 0 in the low row of the children, and 1 in the high row.
 fn share_row(parents: &[u32], first: usize, row: usize, shares: &mut [u32])
     requires first { first ≤ 1 }
     requires row { row ≤ 1 }
@@ -43,8 +43,8 @@ fn share_row(parents: &[u32], first: usize, row: usize, shares: &mut [u32])
     }
 }
 
-/// Gives cells of a row of a patch, from one of them on, their shares: as many as have their parents in one coarse patch.
-/// Answers how many.
+/// Gives cells of a row of a patch, from one of them on, their shares. It stops where the parents leave one coarse patch, and
+/// after as many as there is room for. Answers how many it gave.
 fn split_span(coarse: &Level, patch: &mut Patch, c: Cell, room: &mut [u32]) -> u32
     requires parent { IsSome ((level_of coarse.now).masses (parent c)) }
     requires inside { IsTrue (holds (box patch.old) c) }
@@ -126,12 +126,13 @@ fn patches_before(old: Option<&Level>) -> &[Patch]
     }
 }
 
-/// Gives the cells of a level their masses over the next coarser one, as a regrid does: a cell that was of the level keeps the
-/// mass that it has in `old_fine`, and any other gets its child share of its parent's mass: a quarter, rounded down, and one
-/// more for the first of the four where a rest is left. So the four children of a cell add up to it, if the old level was in
-/// sync with it. (Berger and Colella: a new grid takes its values from the old grids, else from the coarser level.)
+/// Gives the cells of a level their masses over the next coarser one, as a regrid does. A cell of `old_fine` keeps the mass that
+/// it has there. Any other gets its child share of its parent's mass `m`: a quarter, rounded down, and one unit more for the
+/// first `m mod 4` of the four. So the four children of a cell add up to it, if the old level was in sync with it. (Berger and
+/// Colella: a new grid takes its values from the old grids, else from the coarser level.)
 ///
-/// The parent of each cell is a cell of the coarser level. Boxes, patch boxes, frames and fluxes stay. It takes no memory.
+/// The parent of each cell is a cell of the coarser level, and the cells are those of the level's boxes. Boxes, patch boxes,
+/// frames and fluxes stay. It takes no memory.
 pub fn split_into(coarse: &Level, old_fine: Option<&Level>, fine: &mut Level)
     requires filled { (c : Cell) → is_some ((level_of fine.old).masses c) ≡ in_boxes (level_of fine.old).boxes c }
     requires parents { (c : Cell) → IsSome ((level_of fine.old).masses c) → IsSome ((level_of coarse.now).masses (parent c)) }

@@ -31,7 +31,8 @@ fn sum_rows(lower: &[u32], upper: &[u32], sums: &mut [u32])
     }
 }
 
-/// Gives cells of a row of a patch, from one of them on, the sums of their children: as many as the patch has. Answers how many.
+/// Gives cells of a row of a patch, from one of them on, the sums of their children. It stops at the patch's high end, and after
+/// as many as there is room for. Answers how many it gave.
 fn sum_in_patch(patch: &mut Patch, c: Cell, lower: &[u32], upper: &[u32], room: &mut [u32]) -> usize
     requires inside { IsTrue (holds (box patch.old) c) }
     requires some { 2 ≤ length lower.now }
@@ -51,7 +52,7 @@ fn sum_in_patch(patch: &mut Patch, c: Cell, lower: &[u32], upper: &[u32], room: 
     count
 }
 
-/// The same of a level's patches: as many as the patch has that has the first of them.
+/// The same in the patch of a level that has the first of the cells.
 fn sum_span(
     patches: &mut [Patch],
     order: Order,
@@ -77,7 +78,7 @@ fn sum_span(
     }
 }
 
-/// The masses of a row of a fine patch that has children of a row of cells: their lower row for `k` 0, their upper row for 1.
+/// The masses of a row of a fine patch over a row of cells: the lower row of their children for `k` 0, the upper one for 1.
 fn children_row(fine: &Patch, c: Cell, k: u32) -> &[u32]
     requires from { negsuc 16777216 <ℤ c.y }
     requires to { c.y <ℤ pos 16777217 }
@@ -151,9 +152,9 @@ fn sum_all(fine: &[Patch], patches: &mut [Patch], order: Order)
 
 /// Gives each covered cell of a level the sum of the masses of its children, as after the finer level's steps. All else stays:
 /// the other masses, boxes, patch boxes, frames and fluxes. (Berger and Colella: a coarse cell under a fine grid takes the fine
-/// grid's values; AMReX: `average_down`, which also asks for fine patches that can be coarsened.)
+/// grid's values. AMReX: `average_down`, which also asks for fine patches that can be coarsened.)
 ///
-/// The parent of each fine cell is a cell of the level, no fine patch cuts a cell of the level, and each sum is below 2^32. It
+/// The parent of each fine cell is a cell of the level, and no fine patch cuts a cell of the level. Each sum is below 2^32. It
 /// takes no memory.
 pub fn sum_up(fine: &Level, coarse: &mut Level)
     requires parents { (c : Cell) → IsSome ((level_of fine.now).masses c) → IsSome ((level_of coarse.old).masses (parent c)) }

@@ -34,7 +34,8 @@ pub(crate) fn rows_of(patches: &[Patch]) -> Rows
     Rows { rising, tallest }
 }
 
-/// The part of the list outside which no patch has a cell of the box. Where the patches go row by row it is found by halving.
+/// A part of the list, outside which no patch has a cell of the box. Where the patches go row by row it is found by halving;
+/// elsewhere it is the whole list.
 pub(crate) fn reaching<'a>(patches: &'a [Patch], rows: Rows, b: &Bx) -> &'a [Patch]
     requires rows { AreRowsOf rows patches.now }
     requires apart { ArePatchesApart patches.now }
