@@ -12,3 +12,5 @@ pub mod Refluxes
 pub mod Kept
 pub mod LevelRefluxes
 pub mod NetOver
+pub mod RegisterRows
+pub mod Once

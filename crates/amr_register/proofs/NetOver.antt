@@ -29,7 +29,7 @@ low_tells : (low high : Bool) → high ≡ false → cond low (not high) high �
 low_tells true high e = ap not e
 low_tells false high e = e
 
-high_tells : (low high : Bool) → low ≡ false → cond low (not high) high ≡ high
+pub high_tells : (low high : Bool) → low ≡ false → cond low (not high) high ≡ high
 high_tells low high e = ap (λ (b : Bool). cond b (not high) high) e
 
 module _ (p : Problem) (l : ℕ) (fine : Masses) (q : Patch) (c : Cell) (s : CoveredSides) (inside : in_domain (domain p l) c ≡ true) (free : is_covered fine c ≡ false) (sides : HasSides (domain p l) (is_covered fine) c s) where

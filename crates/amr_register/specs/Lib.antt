@@ -4,3 +4,4 @@ pub mod Beside
 pub mod Collecting
 pub mod CoarseFlows
 pub mod Registers
+pub mod Laws

@@ -9,9 +9,11 @@
 mod beside;
 mod cells;
 mod flows;
+mod laws;
 mod order;
 mod reflux;
 mod register;
 mod sides;
 
+pub use laws::edges_are_taken_once;
 pub use register::Register;
