@@ -1,0 +1,67 @@
+-- Patches whose frames are filled: their boxes and masses are those of before.
+use Rattle.std.proofs.Common.{◌≡◌, ℕ, suc, ◌<◌, Bool, true, false, cond, List, [], ◌∷◌, length, get_or, map, IsTrue, refl, sym, ap, subst, ◌∙◌, arith}
+use Rattle.std.specs.Prelude.{is_some}
+use Rattle.std.specs.declared.option.Option.{Option}
+use Rattle.std.specs.declared.option.Option.TheVariants.{Some}
+use Rattle.std.specs.List.{AllZip}
+use Rattle.std.proofs.lemmas.List.{get_or-map}
+use Rattle.amr_box.specs.declared.Cell.{Cell}
+use Rattle.amr_box.specs.Cells.{Extent, holds}
+use Rattle.amr_def.specs.declared.problem.Problem.{Problem}
+use Rattle.amr_def.specs.Domain.{domain}
+use Rattle.amr_def.specs.State.{Level, Masses}
+use Rattle.amr_def.specs.Facts.{IsLevel}
+use Rattle.amr_patch.specs.declared.patches.Patch.{Patch}
+use Rattle.amr_patch.specs.Patches.{ArePatchesApart, box, mass_in, masses_in}
+use Rattle.amr_ghost.specs.Frames.{AreInDomain, SameMasses}
+use Rattle.amr_ghost.proofs.Zips.{some_mass}
+
+-- the patches of a level lie in its domain
+pub patches_inside : (p : Problem) (l : ℕ) (k : Level) (ps : List Patch) → IsLevel p l k → k.masses ≡ masses_in ps → AreInDomain (domain p l) ps
+patches_inside p l k ps level is = λ c h. level.inside c (sym (level.filled c) ∙ ap (λ (m : Masses). is_some (m c)) is ∙ some_mass ps c ∙ h)
+
+-- ---- patches with the boxes of others
+
+map_length : (ps : List Patch) → length (map box ps) ≡ length ps
+map_length [] = refl
+map_length (p ∷ ps) = ap suc (map_length ps)
+
+pub same_count : (ps qs : List Patch) → map box qs ≡ map box ps → length qs ≡ length ps
+same_count ps qs e = sym (map_length qs) ∙ ap length e ∙ map_length ps
+
+pub box_at : (ps qs : List Patch) (k : ℕ) (d e : Patch) → map box qs ≡ map box ps → k < length qs → box (get_or qs k d) ≡ box (get_or ps k e)
+box_at ps qs k d e same h =
+    let n = same_count ps qs same in
+    let here : k < length ps = omega arith in
+    sym (get_or-map box qs k d (box d) h) ∙ ap (λ (bs : List Extent). get_or bs k (box d)) same ∙ get_or-map box ps k e (box d) here
+
+pub still_apart : (ps qs : List Patch) → map box qs ≡ map box ps → ArePatchesApart ps → ArePatchesApart qs
+still_apart ps qs same apart = λ i j d below there c a b.
+    let n = same_count ps qs same in
+    let low : i < length qs = omega arith in
+    apart i j d below (omega arith) c (subst (λ (t : Extent). IsTrue (holds t c)) (box_at ps qs i d d same low) a) (subst (λ (t : Extent). IsTrue (holds t c)) (box_at ps qs j d d same there) b)
+
+first_box : List Extent → Extent → Extent
+first_box [] b = b
+first_box (a ∷ bs) b = a
+
+rest_of : List Extent → List Extent
+rest_of [] = []
+rest_of (a ∷ bs) = bs
+
+mass_cases : (t : Bool) (a b : ℕ) (x y : Option ℕ) → (t ≡ true → b ≡ a) → y ≡ x → cond t (Some b) y ≡ cond t (Some a) x
+mass_cases true a b x y e f = ap Some (e refl)
+mass_cases false a b x y e f = f
+
+same_mass : (ps qs : List Patch) (c : Cell) → AllZip SameMasses ps qs → map box qs ≡ map box ps → masses_in qs c ≡ masses_in ps c
+unfolding first_box rest_of
+same_mass [] [] c h e = refl
+same_mass [] (q ∷ qs) c h e = absurd h
+same_mass (p ∷ ps) [] c h e = absurd h
+same_mass (p ∷ ps) (q ∷ qs) c h e =
+    let here : box q ≡ box p = ap (λ bs. first_box bs (box p)) e in
+    ap (λ (b : Extent). cond (holds b c) (Some (mass_in q c)) (masses_in qs c)) here
+    ∙ mass_cases (holds (box p) c) (mass_in p c) (mass_in q c) (masses_in ps c) (masses_in qs c) (λ t. h.0 c t) (same_mass ps qs c h.1 (ap rest_of e))
+
+pub same_masses : (ps qs : List Patch) → AllZip SameMasses ps qs → map box qs ≡ map box ps → masses_in qs ≡ masses_in ps
+same_masses ps qs h e i c = same_mass ps qs c h e i

@@ -1,0 +1,7 @@
+pub mod Regions
+pub mod Joins
+pub mod Steeps
+pub mod Compared
+pub mod Marked
+pub mod Frames
+pub mod Levels

@@ -1,0 +1,82 @@
+//! The tags of a level.
+
+ghost use Rattle.std.specs.Prelude.{◌≡◌, ◌<◌, IfOk, OnErr, map};
+ghost use Rattle.std.specs.Option.{option_copied};
+ghost use Rattle.amr_box.specs.declared.Cell.{Cell};
+ghost use Rattle.amr_box.specs.Cells.{IsNear};
+ghost use Rattle.amr_def.specs.Domain.{domain, domain_box, domain_of};
+ghost use Rattle.amr_def.specs.Facts.{IsLevel};
+ghost use Rattle.amr_def.specs.Tags.{is_tagged_by};
+ghost use Rattle.amr_ghost.specs.Frames.{old_masses};
+ghost use Rattle.amr_patch.specs.Levels.{level_of, patches_of};
+ghost use Rattle.amr_patch.specs.Patches.{box};
+ghost use Rattle.amr_tags.specs.TagSets.{has};
+ghost use Rattle.amr_criterion.specs.Pairs.{IsJoined};
+
+use crate::patches::tag_patches;
+use amr_box::{Bx, Cell};
+use amr_causes::NoMemory;
+use amr_def::{Dom, Problem};
+use amr_ghost::fill_in_order;
+use amr_patch::Level;
+use amr_tags::Tags;
+use std::alloc::Global;
+
+/// The domain as a box.
+#[tactic(auto, using(amr_nest::proofs::Sizes::two_doubled))]
+fn whole_box(dom: &Dom) -> Bx
+    ensures value { result ≡ domain_box (domain_of dom.now) }
+    ensures near { IsNear result }
+{
+    let hi = Cell {
+        x: dom.columns() as i32 - 1,
+        y: dom.rows() as i32 - 1,
+    };
+    Bx::try_new(Cell { x: 0, y: 0 }, hi).unwrap()
+}
+
+/// Tags the cells of a level that are to be refined, and fills the frames of its patches.
+fn tag_level(tags: &mut Tags, p: &Problem, l: u32, level: &mut Level, coarse: Option<&Level>)
+    requires below { l < p.now.max_level }
+    requires of_domain { IsLevel p.now l (level_of level.old) }
+    ensures tags { IsJoined (is_tagged_by p.now l (level_of level.old).masses (old_masses (option_copied coarse.entry))) tags.old tags.new }
+    ensures level { level_of level.new ≡ level_of level.old }
+    ensures patches { map box (patches_of level.new) ≡ map box (patches_of level.old) }
+{
+    let dom = p.domain(l);
+    let threshold = p.tag.entries()[l as usize];
+    let order = level.order();
+    let mut patches = level.take_patches();
+    fill_in_order(p, l, &mut patches, order, coarse);
+    tag_patches(tags, &patches, &dom, threshold);
+    level.put_patches_in_order(patches, order);
+}
+
+/// The cells of level `l` that are to be refined: those with a neighbour in the domain, past the end of a periodic axis too,
+/// whose value differs from theirs by the level's threshold or more. The level is below the greatest and lies in its domain;
+/// `coarse` is the next coarser level, whose masses stand for a quarter each in the cells beside the level (Berger and Colella's
+/// tags; the criterion is this program's own).
+///
+/// The frames of the patches are filled first. Then each patch is gone over row by row, and what is tagged is set span by span.
+/// The boxes and masses of the level stay, and so do its patch boxes. After `NoMemory`, the only refusal, the level is as before.
+pub fn tags(
+    alloc: Global,
+    p: &Problem,
+    l: u32,
+    level: &mut Level,
+    coarse: Option<&Level>,
+) -> Result<Tags, NoMemory>
+    requires below { l < p.now.max_level }
+    requires of_domain { IsLevel p.now l (level_of level.old) }
+    ensures in_box { IfOk result (λ t. t.bx ≡ domain_box (domain p.now l)) }
+    ensures axes { IfOk result (λ t. (t.wrap_x ≡ (domain p.now l).wrap_x) × (t.wrap_y ≡ (domain p.now l).wrap_y)) }
+    ensures cells { IfOk result (λ t. (c : Cell) → has t c ≡ is_tagged_by p.now l (level_of level.old).masses (old_masses (option_copied coarse.entry)) c) }
+    ensures level { level_of level.new ≡ level_of level.old }
+    ensures patches { map box (patches_of level.new) ≡ map box (patches_of level.old) }
+    ensures refused { OnErr result (level.new ≡ level.old) }
+{
+    let dom = p.domain(l);
+    let mut tags = Tags::make(alloc, whole_box(&dom), dom.wrap_x, dom.wrap_y)?;
+    tag_level(&mut tags, p, l, level, coarse);
+    Ok(tags)
+}
