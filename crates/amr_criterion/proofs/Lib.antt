@@ -5,3 +5,4 @@ pub mod Compared
 pub mod Marked
 pub mod Frames
 pub mod Levels
+pub mod Samples

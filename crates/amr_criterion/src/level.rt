@@ -1,15 +1,16 @@
 //! The tags of a level.
 
-ghost use Rattle.std.specs.Prelude.{◌≡◌, ◌<◌, IfOk, OnErr, map};
+ghost use Rattle.std.specs.Prelude.{◌≡◌, ◌<◌, IfOk, OnErr, OnOk, map};
+ghost use Rattle.std.specs.List.{All, AllZip};
 ghost use Rattle.std.specs.Option.{option_copied};
 ghost use Rattle.amr_box.specs.declared.Cell.{Cell};
 ghost use Rattle.amr_box.specs.Cells.{IsNear};
 ghost use Rattle.amr_def.specs.Domain.{domain, domain_box, domain_of};
 ghost use Rattle.amr_def.specs.Facts.{IsLevel};
 ghost use Rattle.amr_def.specs.Tags.{is_tagged_by};
-ghost use Rattle.amr_ghost.specs.Frames.{old_masses};
+ghost use Rattle.amr_ghost.specs.Frames.{HasGhostValues, old_masses};
 ghost use Rattle.amr_patch.specs.Levels.{level_of, patches_of};
-ghost use Rattle.amr_patch.specs.Patches.{box};
+ghost use Rattle.amr_patch.specs.Patches.{SameFluxes, box};
 ghost use Rattle.amr_tags.specs.TagSets.{has};
 ghost use Rattle.amr_criterion.specs.Pairs.{IsJoined};
 
@@ -42,6 +43,8 @@ fn tag_level(tags: &mut Tags, p: &Problem, l: u32, level: &mut Level, coarse: Op
     ensures tags { IsJoined (is_tagged_by p.now l (level_of level.old).masses (old_masses (option_copied coarse.entry))) tags.old tags.new }
     ensures level { level_of level.new ≡ level_of level.old }
     ensures patches { map box (patches_of level.new) ≡ map box (patches_of level.old) }
+    ensures fluxes { AllZip SameFluxes (patches_of level.old) (patches_of level.new) }
+    ensures frames { All (HasGhostValues p.now l (level_of level.old).masses (old_masses (option_copied coarse.entry))) (patches_of level.new) }
 {
     let dom = p.domain(l);
     let threshold = p.tag.entries()[l as usize];
@@ -58,7 +61,8 @@ fn tag_level(tags: &mut Tags, p: &Problem, l: u32, level: &mut Level, coarse: Op
 /// tags; the criterion is this program's own).
 ///
 /// The frames of the patches are filled first. Then each patch is gone over row by row, and what is tagged is set span by span.
-/// The boxes and masses of the level stay, and so do its patch boxes. After `NoMemory`, the only refusal, the level is as before.
+/// The boxes and masses of the level stay, and so do its patch boxes and its fluxes. After `NoMemory`, the only refusal, the level is
+/// as before.
 pub fn tags(
     alloc: Global,
     p: &Problem,
@@ -73,6 +77,8 @@ pub fn tags(
     ensures cells { IfOk result (λ t. (c : Cell) → has t c ≡ is_tagged_by p.now l (level_of level.old).masses (old_masses (option_copied coarse.entry)) c) }
     ensures level { level_of level.new ≡ level_of level.old }
     ensures patches { map box (patches_of level.new) ≡ map box (patches_of level.old) }
+    ensures fluxes { OnOk result (AllZip SameFluxes (patches_of level.old) (patches_of level.new)) }
+    ensures frames { OnOk result (All (HasGhostValues p.now l (level_of level.old).masses (old_masses (option_copied coarse.entry))) (patches_of level.new)) }
     ensures refused { OnErr result (level.new ≡ level.old) }
 {
     let dom = p.domain(l);

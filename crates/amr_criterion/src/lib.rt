@@ -10,3 +10,6 @@ mod lines;
 mod patches;
 
 pub use level::tags;
+
+#[cfg(test)]
+mod tests;

@@ -1,16 +1,17 @@
 use Rattle.std.proofs.Common.{◌≡◌, List, sym, subst, ap, ◌∙◌, rules}
 use Rattle.std.specs.Prelude.{slice_index}
-use Rattle.std.specs.List.{list_any}
+use Rattle.std.specs.List.{All, AllZip, list_any}
 use Rattle.std.specs.Option.{option_copied}
 use Rattle.std.proofs.lemmas.List.{with_items_is}
 use Rattle.amr_def.specs.Domain.{Domain, domain, domain_of}
+use Rattle.amr_def.specs.State.{Masses}
 use Rattle.amr_def.specs.Tags.{is_tagged_by}
 use Rattle.amr_patch.specs.declared.patches.Patch.{Patch}
-use Rattle.amr_patch.specs.Levels.{level_of}
+use Rattle.amr_patch.specs.Levels.{level_of, patches_of}
 use Rattle.amr_patch.specs.Orders.{IsOrderOf}
-use Rattle.amr_patch.specs.Patches.{ArePatchesApart, masses_in}
+use Rattle.amr_patch.specs.Patches.{ArePatchesApart, SameFluxes, masses_in}
 use Rattle.amr_patch.proofs.Standing.{order_of_boxes}
-use Rattle.amr_ghost.specs.Frames.{AreInDomain, old_masses}
+use Rattle.amr_ghost.specs.Frames.{AreInDomain, HasGhostValues, old_masses}
 use Rattle.amr_criterion.specs.Marks.{is_marked}
 use Rattle.amr_criterion.proofs.Frames.{patches_inside, same_masses, still_apart}
 use Rattle.amr_criterion.proofs.Joins.{joined_as}
@@ -74,3 +75,20 @@ returns-clause-level c =
     ∙ ap masses_in c.deref_mut.ensures.value
     ∙ sym c.take_patches-patches.ensures.masses in
     λ i. record { boxes = boxes i; masses = masses i }
+
+pub returns-clause-fluxes : goal.returns-clause-fluxes
+returns-clause-fluxes c =
+    let after = with_items_is c.take_patches-patches.result c.fill_in_order.new.patches (search rules) in
+    let old : c.deref_mut.result.now ≡ patches_of c.args.level.now = c.deref_mut.ensures.value ∙ c.take_patches-patches.ensures.all in
+    let new : c.fill_in_order.new.patches ≡ patches_of c.put_patches_in_order.new.self = sym (c.put_patches_in_order.ensures.all ∙ after) in
+    subst (λ (ps : List Patch). AllZip SameFluxes ps (patches_of c.put_patches_in_order.new.self)) old (subst (λ (qs : List Patch). AllZip SameFluxes c.deref_mut.result.now qs) new c.fill_in_order.ensures.fluxes)
+
+pub returns-clause-frames : goal.returns-clause-frames
+returns-clause-frames c =
+    let p = c.args.p.now in
+    let l = c.args.l in
+    let old = old_masses (option_copied c.args.coarse) in
+    let after = with_items_is c.take_patches-patches.result c.fill_in_order.new.patches (search rules) in
+    let before : masses_in c.deref_mut.result.now ≡ (level_of c.args.level.now).masses = ap masses_in c.deref_mut.ensures.value ∙ sym c.take_patches-patches.ensures.masses in
+    let new : c.fill_in_order.new.patches ≡ patches_of c.put_patches_in_order.new.self = sym (c.put_patches_in_order.ensures.all ∙ after) in
+    subst (λ (m : Masses). All (HasGhostValues p l m old) (patches_of c.put_patches_in_order.new.self)) before (subst (λ (qs : List Patch). All (HasGhostValues p l (masses_in c.deref_mut.result.now) old) qs) new c.fill_in_order.ensures.filled)
