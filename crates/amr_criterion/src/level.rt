@@ -8,7 +8,7 @@ ghost use Rattle.amr_box.specs.Cells.{IsNear};
 ghost use Rattle.amr_def.specs.Domain.{domain, domain_box, domain_of};
 ghost use Rattle.amr_def.specs.Facts.{IsLevel};
 ghost use Rattle.amr_def.specs.Tags.{is_tagged_by};
-ghost use Rattle.amr_ghost.specs.Frames.{HasGhostValues, old_masses};
+ghost use Rattle.amr_ghost.specs.Frames.{HasGhostMarks, HasGhostValues, old_masses};
 ghost use Rattle.amr_patch.specs.Levels.{level_of, patches_of};
 ghost use Rattle.amr_patch.specs.Patches.{SameFluxes, box};
 ghost use Rattle.amr_tags.specs.TagSets.{has};
@@ -45,6 +45,7 @@ fn tag_level(tags: &mut Tags, p: &Problem, l: u32, level: &mut Level, coarse: Op
     ensures patches { map box (patches_of level.new) ≡ map box (patches_of level.old) }
     ensures fluxes { AllZip SameFluxes (patches_of level.old) (patches_of level.new) }
     ensures frames { All (HasGhostValues p.now l (level_of level.old).masses (old_masses (option_copied coarse.entry))) (patches_of level.new) }
+    ensures marks { All (HasGhostMarks p.now l (level_of level.old).masses) (patches_of level.new) }
 {
     let dom = p.domain(l);
     let threshold = p.tag.entries()[l as usize];
@@ -79,6 +80,7 @@ pub fn tags(
     ensures patches { map box (patches_of level.new) ≡ map box (patches_of level.old) }
     ensures fluxes { OnOk result (AllZip SameFluxes (patches_of level.old) (patches_of level.new)) }
     ensures frames { OnOk result (All (HasGhostValues p.now l (level_of level.old).masses (old_masses (option_copied coarse.entry))) (patches_of level.new)) }
+    ensures marks { OnOk result (All (HasGhostMarks p.now l (level_of level.old).masses) (patches_of level.new)) }
     ensures refused { OnErr result (level.new ≡ level.old) }
 {
     let dom = p.domain(l);

@@ -11,7 +11,7 @@ use Rattle.amr_patch.specs.Levels.{level_of, patches_of}
 use Rattle.amr_patch.specs.Orders.{IsOrderOf}
 use Rattle.amr_patch.specs.Patches.{ArePatchesApart, SameFluxes, masses_in}
 use Rattle.amr_patch.proofs.Standing.{order_of_boxes}
-use Rattle.amr_ghost.specs.Frames.{AreInDomain, HasGhostValues, old_masses}
+use Rattle.amr_ghost.specs.Frames.{AreInDomain, HasGhostMarks, HasGhostValues, old_masses}
 use Rattle.amr_criterion.specs.Marks.{is_marked}
 use Rattle.amr_criterion.proofs.Frames.{patches_inside, same_masses, still_apart}
 use Rattle.amr_criterion.proofs.Joins.{joined_as}
@@ -92,3 +92,12 @@ returns-clause-frames c =
     let before : masses_in c.deref_mut.result.now ≡ (level_of c.args.level.now).masses = ap masses_in c.deref_mut.ensures.value ∙ sym c.take_patches-patches.ensures.masses in
     let new : c.fill_in_order.new.patches ≡ patches_of c.put_patches_in_order.new.self = sym (c.put_patches_in_order.ensures.all ∙ after) in
     subst (λ (m : Masses). All (HasGhostValues p l m old) (patches_of c.put_patches_in_order.new.self)) before (subst (λ (qs : List Patch). All (HasGhostValues p l (masses_in c.deref_mut.result.now) old) qs) new c.fill_in_order.ensures.filled)
+
+pub returns-clause-marks : goal.returns-clause-marks
+returns-clause-marks c =
+    let p = c.args.p.now in
+    let l = c.args.l in
+    let after = with_items_is c.take_patches-patches.result c.fill_in_order.new.patches (search rules) in
+    let before : masses_in c.deref_mut.result.now ≡ (level_of c.args.level.now).masses = ap masses_in c.deref_mut.ensures.value ∙ sym c.take_patches-patches.ensures.masses in
+    let new : c.fill_in_order.new.patches ≡ patches_of c.put_patches_in_order.new.self = sym (c.put_patches_in_order.ensures.all ∙ after) in
+    subst (λ (m : Masses). All (HasGhostMarks p l m) (patches_of c.put_patches_in_order.new.self)) before (subst (λ (qs : List Patch). All (HasGhostMarks p l (masses_in c.deref_mut.result.now)) qs) new c.fill_in_order.ensures.marked)
