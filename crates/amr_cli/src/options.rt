@@ -28,7 +28,7 @@ fn run_from(matches: &ArgMatches) -> Option<Command>
     Some(Command::Run { workers })
 }
 
-/// The value of an option that may be absent. None where its text is no number in its range.
+// The value of an option that may be absent. None where its text is no number in its range.
 fn option_from(matches: &ArgMatches, option: &NumberOption) -> Option<Option<u32>>
     requires { option.now.high < 2 ^ 32 }
     ensures { result ≡ option_of (option_row option.now) (rows_of (found_of matches.now)) }

@@ -22,7 +22,7 @@ pub(crate) fn program<'a>(alloc: Global) -> Result<Command<'a>, AllocError>
     Ok(program)
 }
 
-/// The program before it has commands: all words are arguments, and one of them has to name a command.
+// The program before it has commands: all words are arguments, and one of them has to name a command.
 fn bare_program<'a>(alloc: Global) -> Command<'a>
     ensures { app_of result ≡ bare_app }
 {

@@ -50,7 +50,7 @@ pub fn parse(alloc: Global, line: &Line) -> Result<Command, CliFault>
     }
 }
 
-/// What `clap` finds in the words.
+// What `clap` finds in the words.
 fn matches_of<'a>(alloc: Global, words: &'a [String]) -> Result<ArgMatches<'a>, CliFault>
     ensures faultless { IfOk result (λ _. fault_of program_app (map string_bytes words.entry.now) ≡ []) }
     ensures found { IfOk result (λ matches. subcommand_rows_of matches ≡ subcommand_of program_app (map string_bytes words.entry.now)) }
@@ -66,7 +66,7 @@ fn matches_of<'a>(alloc: Global, words: &'a [String]) -> Result<ArgMatches<'a>, 
     }
 }
 
-/// Whether the first word is a command's name, and no word asks for help or for the version.
+// Whether the first word is a command's name, and no word asks for help or for the version.
 fn may_be_command(words: &[String]) -> bool
     ensures { result ≡ may_be_command (map string_bytes words.now) }
 {

@@ -35,8 +35,8 @@ pub enum Key {
     Steps,
     /// The Courant numbers of both axes, and their denominator.
     Courant,
-    /// The low and the high side of the x axis, then those of the y axis. Each is -1 where the axis is periodic, else what a
-    /// cell of level 0 would hold beyond the side.
+    /// The low and the high side of the x axis, then those of the y axis: -1 where the axis is periodic, else what a cell
+    /// of level 0 would hold beyond the side.
     Sides,
     /// The finest level that there may be.
     MaxLevel,
@@ -46,35 +46,35 @@ pub enum Key {
     Blocks,
 }
 
-/// How many columns or rows there are.
+// How many columns or rows there are.
 const CELLS: Range = Range {
     low: 2,
     high: 256,
     even: false,
 };
 
-/// The numerator of a Courant number.
+// The numerator of a Courant number.
 const COURANT: Range = Range {
     low: -1024,
     high: 1024,
     even: false,
 };
 
-/// -1, which says that the axis is periodic, or the mass of a cell beyond the side.
+// -1, which says that the axis is periodic, or the mass of a cell beyond the side.
 const SIDE: Range = Range {
     low: -1,
     high: 1073741824,
     even: false,
 };
 
-/// A column or a row of a block.
+// A column or a row of a block.
 const COORDINATE: Range = Range {
     low: 0,
     high: 255,
     even: false,
 };
 
-/// The mass of a cell at the start.
+// The mass of a cell at the start.
 const MASS: Range = Range {
     low: 0,
     high: 1073741824,

@@ -60,7 +60,7 @@ fn parts_of(alloc: Global, entries: Entries) -> Result<Parts, AllocError>
     })
 }
 
-/// The problem of these parts, with one level.
+// The problem of these parts, with one level.
 fn assemble(alloc: Global, parts: Parts) -> Problem
     requires { AreWithinLimits parts }
     ensures { HasParts parts result }
