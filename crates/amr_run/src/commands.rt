@@ -62,7 +62,7 @@ pub(crate) fn check<S: Source, O: Sink>(
     Ok(())
 }
 
-// The problem that the source gives, read to its end.
+/// The problem that the source gives, read to its end.
 fn read_problem<S: Source>(alloc: Global, src: &mut S) -> Result<Problem, Status>
     ensures problem { (bytes : List ℕ) × WereLeft (S.left src.old) bytes × Reads result bytes }
     ensures ended { OnOk result (IsAtEnd (S.left src.new)) }

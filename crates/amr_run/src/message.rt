@@ -115,7 +115,7 @@ fn put_courant<E: Sink>(err: &mut E, sum: &i64, d: &i64) -> Result<(), WriteFaul
     )
 }
 
-// What stands before a number's digits.
+/// What stands before a number's digits.
 fn sign(value: &i64) -> &'static str
     ensures { result.now ≡ sign_text value.now }
 {

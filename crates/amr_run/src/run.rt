@@ -16,9 +16,9 @@ use amr_cli::{CliFault, Command, Line, parse};
 use amr_io::{Sink, Source};
 use std::alloc::Global;
 
-/// Does what the words ask for: reads a problem from `src` and writes the answer of the command to `out`, the plot of the
-/// problem's run (`run`) or the line of the problem (`check`), or says on `err` why not. `_rt` is the runtime that workers are
-/// to come from; so far there are none.
+/// Does what the words ask for: reads a problem from `src` and writes the answer of the command to `out`, or says on `err` why
+/// not. The answer of `run` is the plot of the problem's run, and that of `check` the line of the problem. `_rt` is the runtime
+/// that workers are to come from; so far there are none.
 ///
 /// Clauses on bytes hold of objects that tell them. Memory may run out at any time; that is tied to no cause.
 pub fn amr<R, S: Source, O: Sink, E: Sink>(
@@ -87,7 +87,7 @@ fn serve<S: Source, O: Sink>(alloc: Global, words: &Line, src: &mut S, out: &mut
     }
 }
 
-// The answer of a command, or the status that refuses it.
+/// The answer of a command, or the status that refuses it.
 fn answer<S: Source, O: Sink>(
     command: Command,
     alloc: Global,

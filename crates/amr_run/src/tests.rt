@@ -8,7 +8,7 @@ use std::fmt::Write as _;
 use std::process::Abort;
 use std::test::Fail;
 
-// The ring: a block of mass 8 that moves half a cell a step along a periodic axis.
+/// The ring: a block of mass 8 that moves half a cell a step along a periodic axis.
 const RING: &str = "version = 1
 name = \"ring\"
 cells = [4, 2]
@@ -31,7 +31,7 @@ box 0 0 3 1
 end
 ";
 
-// A block of mass 5 that leaves through an open side.
+/// A block of mass 5 that leaves through an open side.
 const OUTFLOW_PLOT: &str = "amr-plot 1
 name ring
 step 1
@@ -44,7 +44,7 @@ box 0 0 1 1
 end
 ";
 
-// Half of the mass beyond the low end of each row flows in.
+/// Half of the mass beyond the low end of each row flows in.
 const INFLOW_PLOT: &str = "amr-plot 1
 name ring
 step 1
@@ -57,7 +57,7 @@ box 0 0 1 1
 end
 ";
 
-// A block of mass 8 that moves a cell a step, past the end of the axis.
+/// A block of mass 8 that moves a cell a step, past the end of the axis.
 const NINE_COLUMNS_PLOT: &str = "amr-plot 1
 name ring
 step 2
@@ -75,7 +75,7 @@ end
 const USAGE: &str =
     "amr: usage: run [--workers W] [--to K] [--keep E] | check | show | trial NUMBER SIZE [--workers W]\n";
 
-// What a call is made on: the words, the bytes, and the calls of the three objects that fail.
+/// What a call is made on: the words, the bytes, and the calls of the three objects that fail.
 #[derive(Clone, Copy)]
 struct Case<'a> {
     words: &'a str,
@@ -100,7 +100,7 @@ impl<'a> Case<'a> {
         Case::of("run", bytes)
     }
 
-    // The status and what went to the two sinks are as wanted.
+    /// The status and what went to the two sinks are as wanted.
     fn ends<R: Abort + Alloc<A = Global>>(self, rt: &R, status: u8, out: &str, err: &str) {
         let alloc = rt.alloc();
         let line = line_of(alloc, self.words).expect(rt, "memory");
@@ -126,7 +126,7 @@ fn line_of(alloc: Global, words: &str) -> Result<Line, AllocError> {
     Ok(line)
 }
 
-// The ring with other lines, or none, for some keys.
+/// The ring with other lines, or none, for some keys.
 fn ring_with(alloc: Global, changes: &[(&str, &str)]) -> Result<String, Fail> {
     let mut text = String::new(alloc);
     for old in RING.lines() {
@@ -211,7 +211,7 @@ fn flows_through_open_sides(rt: HostRuntime) -> Result<(), Fail> {
     Ok(())
 }
 
-// Nine columns in three patches, and in one: the patches leave no trace in the plot.
+/// Nine columns in three patches, and in one: the patches leave no trace in the plot.
 #[test]
 fn nine_columns_in_three_patches_and_in_one(rt: HostRuntime) -> Result<(), Fail> {
     let alloc = rt.alloc();
@@ -252,8 +252,8 @@ fn words_that_are_no_command(rt: HostRuntime) {
     }
 }
 
-// A plot that goes out 16 bytes at a time and whose second write fails, a source that fails at once or at its end, and a
-// line whose second write fails.
+/// A plot that goes out 16 bytes at a time and whose second write fails; a source that fails at once or at its end; a line
+/// whose second write fails.
 #[test]
 fn faults_of_the_outside(rt: HostRuntime) {
     let ring = Case::run(RING.as_bytes());
@@ -275,7 +275,7 @@ fn faults_of_the_outside(rt: HostRuntime) {
     case.ends(&rt, 2, "", "amr: usage: run [--workers W] [--to K] [");
 }
 
-// A key of the ring, lines in the place of its own, and what is said of the problem then.
+/// A key of the ring, lines in the place of its own, and what is said of the problem then.
 const FAULTS: &str = "version||missing key version
 blocks||missing key blocks
 name|name = 1|wrong kind name
@@ -302,7 +302,7 @@ steps|steps = 1;zebra = 1;alpha = 1|unknown key alpha
 steps|steps = 1;steps = 1|not TOML
 steps|steps 1|not TOML";
 
-// The ring with other lines, parted by semicolons, in the place of a key's.
+/// The ring with other lines, parted by semicolons, in the place of a key's.
 fn ring_with_lines(alloc: Global, key: &str, lines: &str) -> Result<String, Fail> {
     let mut text = String::new(alloc);
     for old in RING.lines() {
