@@ -1,5 +1,5 @@
 -- The fluxes through the faces of a patch, once those of its border faces are written beside its own.
-use Rattle.std.proofs.Common.{◌≡◌, ℕ, zero, suc, ◌+◌, ◌<◌, ◌≤◌, ◌⊎◌, inl, inr, Bool, true, false, ◌&&◌, ℤ, pos, ◌+ℤ◌, ◌≤ℤ◌, List, [], ◌∷◌, ◌++◌, length, length-append, add-one, refl, sym, ap, ◌∙◌, arith}
+use Rattle.std.proofs.Common.{◌≡◌, ℕ, zero, suc, ◌+◌, ◌<◌, ◌≤◌, ◌⊎◌, inl, inr, Bool, true, false, ◌&&◌, ℤ, pos, ◌+ℤ◌, ◌≤ℤ◌, List, [], ◌∷◌, ◌++◌, length, length-append, refl, sym, ap, ◌∙◌, arith}
 use Rattle.std.specs.Prelude.{not, cond, slice_index}
 use Rattle.std.proofs.lemmas.Int.{ints}
 use Rattle.std.proofs.lemmas.Bool.{cases_lt}
@@ -195,9 +195,6 @@ in_grown b Y x y e =
 
 pub beyond_frame : (b : Extent) (f : Face) → is_face_of b f ≡ true → holds b (high_cell f) ≡ false → in_frame b (high_cell f) ≡ true
 beyond_frame b f e out = framed (holds (grown b) (high_cell f)) (holds b (high_cell f)) (in_grown b f.axis f.x f.y e) out
-
-pub passing_next : (test : Face → Bool) (g : ℕ → Face) (n : ℕ) → passing test g (n + 1) ≡ passing test g n ++ cond (test (g n)) (g n ∷ []) []
-passing_next test g n = ap (passing test g) (add-one n)
 
 pub same_face : (a : Axis) {x x' y y' : ℤ} → x ≡ x' → y ≡ y' → face a x y ≡ face a x' y'
 same_face a ex ey i = record { axis = a; x = ex i; y = ey i }

@@ -17,9 +17,6 @@ y_slow p l column = omega (arith, (stable p).within l (cell (pos column) (pos 0)
 pub unsheared : (p : Problem) (l column : ℕ) → p.shear_y ≡ [] → y_number p l column ≡ p.cy
 unsheared p l column e = ap (λ ss. number_for p.cy ss (column / 2 ^ l)) e
 
-pub plain_slow : (p : Problem) → p.shear_y ≡ [] → unsigned_abs p.cy ≤ p.d
-plain_slow p e = omega (arith, y_slow p 0 0, ap unsigned_abs (unsheared p 0 0 e))
-
 -- and the same of all rows
 pub x_unsheared : (p : Problem) (l row : ℕ) → p.shear_x ≡ [] → x_number p l row ≡ p.cx
 x_unsheared p l row e = ap (λ ss. number_for p.cx ss (row / 2 ^ l)) e

@@ -1,13 +1,12 @@
 -- A list, and a part of it that was read or written.
-use Rattle.std.proofs.Common.{◌≡◌, ◌≢◌, ℕ, ◌+◌, ◌-◌, ◌*◌, ◌^◌, ◌<◌, ◌≤◌, inl, inr, Bool, false, ℤ, pos, ◌+ℤ◌, ◌-ℤ◌, List, ◌++◌, length, get_or, take, drop, ap, ◌∙◌, arith, length-take}
+use Rattle.std.proofs.Common.{◌≡◌, ◌≢◌, ℕ, ◌+◌, ◌-◌, ◌*◌, ◌^◌, ◌<◌, ◌≤◌, inl, inr, ℤ, pos, ◌+ℤ◌, ◌-ℤ◌, List, ◌++◌, length, get_or, take, drop, ap, ◌∙◌, arith, length-take}
 use Rattle.std.specs.Prelude.{slice_index, slice_index_or}
 use Rattle.std.proofs.Math.ListN.{get_or-append}
 use Rattle.std.proofs.lemmas.List.{get_or-append_right, get_or-drop, get_or-take}
 use Rattle.std.proofs.lemmas.List.Edits.{get_or-between}
 use Rattle.std.proofs.lemmas.Bool.{cases_lt}
-use Rattle.std.proofs.lemmas.Nat.{same_from_place}
 use borrow.Rule.Slice.PartMut.{put_mid}
-use Rattle.amr_flux.specs.Rows.{AreSmallFlows, IsSmallFlow, inflow}
+use Rattle.amr_flux.specs.Rows.{inflow}
 use Rattle.amr_flux.specs.Shares.{AreSmall}
 
 -- ---- a part that is read
@@ -60,25 +59,6 @@ module _ {X : Type 0} (a k : ℕ) (xs ys : List X) (d : X) (count : length ys �
 module _ {X : Type 0} (r j s a k : ℕ) (xs ys : List X) (d : X) (start : a ≡ j * r + s) (narrow : s + k ≤ r) (count : length ys ≡ k) (room : a + k ≤ length xs) where
   pub entry_written : (i t : ℕ) → i ≡ s + t → t < k → get_or (put_mid a k xs ys) (j * r + i) d ≡ get_or ys t d
   entry_written i t e h = written a k xs ys d count room (j * r + i) t (omega arith) h
-
-  pub kept_row : (i j' : ℕ) → i < r → j' ≢ j → get_or (put_mid a k xs ys) (j' * r + i) d ≡ get_or xs (j' * r + i) d
-  kept_row i j' inside other = kept a k xs ys d count room (j' * r + i) (λ t h e. other (same_from_place j' i j (s + t) r inside (omega arith) (e ∙ omega arith)).0)
-
-  pub kept_column : (i j' : ℕ) → i < s → get_or (put_mid a k xs ys) (j' * r + i) d ≡ get_or xs (j' * r + i) d
-  kept_column i j' before = kept a k xs ys d count room (j' * r + i) (λ t h e. let same : i ≡ s + t = (same_from_place j' i j (s + t) r (omega arith) (omega arith) (e ∙ omega arith)).1 in absurd (omega arith))
-
-pub read_flux : (xs : List ℤ) (a b t : ℕ) → a + t < b → slice_index_or (take (b - a) (drop a xs)) t (pos 0) ≡ slice_index_or xs (a + t) (pos 0)
-read_flux xs a b t h = get_or-between xs a b t (pos 0) h
-
-pub read_mark : (xs : List Bool) (a b t : ℕ) → a + t < b → slice_index_or (take (b - a) (drop a xs)) t false ≡ slice_index_or xs (a + t) false
-read_mark xs a b t h = get_or-between xs a b t false h
-
-pub small_flows : (xs : List ℤ) (a b : ℕ) → ((t : ℕ) → a + t < b → IsSmallFlow (slice_index_or xs (a + t) (pos 0))) → AreSmallFlows (take (b - a) (drop a xs))
-small_flows xs a b each = record {
-  at = λ t h.
-      let below : a + t < b = omega (arith, length-take (b - a) (drop a xs)) in
-      rw (read_flux xs a b t below) (each t below);
-}
 
 -- the sizes from a place on
 pub rest_small : (border : List ℕ) (used : ℕ) → AreSmall border → AreSmall (take (length border - used) (drop used border))

@@ -53,9 +53,6 @@ abbrev pub count_below : (ℕ → Bool) → ℕ → ℕ
 count_below test zero = 0
 count_below test (suc n) = count_below test n + cond (test n) 1 0
 
-abbrev pub marked_below : List Bool → ℕ → ℕ
-marked_below marks n = count_below (λ i. slice_index_or marks i false) n
-
 -- ---- fluxes that an update uses: those of border faces by the sizes handed in, first of the x faces by y, then of the y faces by x
 
 unfoldable pub x_through : Problem → ℕ → ℕ → ℕ → List Bool → List ℕ → List ℕ → ℕ → ℕ → ℤ
