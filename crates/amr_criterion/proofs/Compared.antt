@@ -8,7 +8,7 @@ use Rattle.amr_def.specs.Domain.{is_inside, wrapped}
 use Rattle.amr_def.proofs.Homes.{inside-itself}
 use Rattle.amr_patch.proofs.Rows.{between, is_between}
 use Rattle.amr_tags.proofs.Neighbours.{rem-lt}
-use Rattle.amr_criterion.specs.Marks.{reach_high, reach_low}
+use Rattle.amr_criterion.specs.Tagged.{reach_high, reach_low}
 
 -- the first and the last cell that are compared lie at most one beyond
 pub record IsReach (low high first last : ℤ) : Type 0 where

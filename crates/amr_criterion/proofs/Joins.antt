@@ -1,5 +1,6 @@
 -- Sets of tags to which cells are added, more than once.
 use Rattle.std.proofs.Common.{◌≡◌, Bool, true, false, ◌&&◌, ◌||◌, refl, sym, ap, ◌∙◌}
+use Rattle.std.proofs.Math.Bool.{and-false, or-false}
 use Rattle.amr_box.specs.declared.Cell.{Cell}
 use Rattle.amr_box.specs.Cells.{Extent, holds}
 use Rattle.amr_tags.specs.TagSets.{SameShape, TagSet, has}
@@ -10,14 +11,6 @@ gather true b v w = refl
 gather false true v w = refl
 gather false false v w = refl
 
-or_false : (a : Bool) → (a || false) ≡ a
-or_false true = refl
-or_false false = refl
-
-and_false : (a : Bool) → (a && false) ≡ false
-and_false true = refl
-and_false false = refl
-
 pub same_shapes : (s t u : TagSet) → SameShape s t → SameShape t u → SameShape s u
 same_shapes s t u a b = record { bx = b.bx ∙ a.bx; x = b.x ∙ a.x; y = b.y ∙ a.y }
 
@@ -25,7 +18,7 @@ same_shapes s t u a b = record { bx = b.bx ∙ a.bx; x = b.x ∙ a.x; y = b.y �
 pub joined_none : (wanted : Cell → Bool) (s : TagSet) → ((c : Cell) → wanted c ≡ false) → IsJoined wanted s s
 joined_none wanted s none = record {
   shape = record { bx = refl; x = refl; y = refl };
-  cells = λ c. sym (ap (λ (w : Bool). has s c || (holds s.bx c && w)) (none c) ∙ ap (λ (w : Bool). has s c || w) (and_false (holds s.bx c)) ∙ or_false (has s c));
+  cells = λ c. sym (ap (λ (w : Bool). has s c || (holds s.bx c && w)) (none c) ∙ ap (λ (w : Bool). has s c || w) (and-false (holds s.bx c)) ∙ or-false (has s c));
 }
 
 -- the same cells, by another test
@@ -56,7 +49,7 @@ pub joined_within : (part : Extent) (v w both : Cell → Bool) (s t u : TagSet) 
 joined_within part v w both s t u same = joined_twice (λ c. holds part c && v c) (λ c. holds part c && w c) (λ c. holds part c && both c) s t u (λ c. ap (λ (b : Bool). holds part c && b) (same c) ∙ and_or (holds part c) (v c) (w c))
 
 pub joined_none_within : (part : Extent) (w : Cell → Bool) (s : TagSet) → ((c : Cell) → w c ≡ false) → IsJoined (λ c. holds part c && w c) s s
-joined_none_within part w s none = joined_none (λ c. holds part c && w c) s (λ c. ap (λ (b : Bool). holds part c && b) (none c) ∙ and_false (holds part c))
+joined_none_within part w s none = joined_none (λ c. holds part c && w c) s (λ c. ap (λ (b : Bool). holds part c && b) (none c) ∙ and-false (holds part c))
 
 pub joined_as_within : (part : Extent) (v w : Cell → Bool) (s t : TagSet) → ((c : Cell) → w c ≡ v c) → IsJoined (λ c. holds part c && v c) s t → IsJoined (λ c. holds part c && w c) s t
 joined_as_within part v w s t same = joined_as (λ c. holds part c && v c) (λ c. holds part c && w c) s t (λ c. ap (λ (b : Bool). holds part c && b) (same c))

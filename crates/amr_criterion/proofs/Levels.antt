@@ -1,7 +1,8 @@
--- The marked cells of a level's patches are its tagged cells.
+-- The tagged cells of a level's patches are those of the level.
 use Rattle.std.proofs.Common.{◌≡◌, ℕ, suc, ◌<◌, Bool, true, false, ◌&&◌, ◌||◌, ◌⊎◌, inl, inr, ℤ, pos, negsuc, ◌+ℤ◌, ◌-ℤ◌, ◌≤ℤ◌, List, [], ◌∷◌, length, get_or, map, IsTrue, refl, sym, ap, ◌∙◌, arith}
 use Rattle.std.specs.Prelude.{is_some, slice_index}
 use Rattle.std.specs.List.{All, AllZip, list_any}
+use Rattle.std.proofs.lemmas.Bool.{and_from, and_parts}
 use Rattle.std.proofs.lemmas.Int.{ints}
 use Rattle.amr_box.specs.declared.Cell.{Cell}
 use Rattle.amr_box.specs.Cells.{Extent, cell, holds, within}
@@ -20,7 +21,7 @@ use Rattle.amr_ghost.proofs.Reach.{reach_values}
 use Rattle.amr_ghost.proofs.Zips.{some_mass}
 use Rattle.amr_nest.proofs.Reaches.{domain_is}
 use Rattle.amr_tags.specs.TagSets.{TagSet, has}
-use Rattle.amr_criterion.specs.Marks.{is_marked}
+use Rattle.amr_criterion.specs.Tagged.{is_tagged_in}
 use Rattle.amr_criterion.specs.Pairs.{IsJoined}
 use Rattle.amr_criterion.proofs.Frames.{box_at, same_masses}
 
@@ -51,10 +52,7 @@ reached false a e h l = h
 in_reach : (b : Extent) (q : Cell) → (b.lo.x -ℤ pos 1) ≤ℤ q.x → q.x ≤ℤ (b.hi.x +ℤ pos 1) → (b.lo.y -ℤ pos 1) ≤ℤ q.y → q.y ≤ℤ (b.hi.y +ℤ pos 1) → (within b.lo.x b.hi.x q.x ≡ true) ⊎ (within b.lo.y b.hi.y q.y ≡ true) → IsTrue (holds (grown b) q && (within b.lo.x b.hi.x q.x || within b.lo.y b.hi.y q.y))
 in_reach b q west east south north line =
     reached (holds (grown b) q) (within b.lo.x b.hi.x q.x) (within b.lo.y b.hi.y q.y)
-    (both _ _ (is_between (b.lo.x -ℤ pos 1) (b.hi.x +ℤ pos 1) q.x west east) (is_between (b.lo.y -ℤ pos 1) (b.hi.y +ℤ pos 1) q.y south north)) line
-  where
-    both : (a b : Bool) → a ≡ true → b ≡ true → (a && b) ≡ true
-    both a b e f = rw e f
+    (and_from (within (b.lo.x -ℤ pos 1) (b.hi.x +ℤ pos 1) q.x) (within (b.lo.y -ℤ pos 1) (b.hi.y +ℤ pos 1) q.y) (is_between (b.lo.x -ℤ pos 1) (b.hi.x +ℤ pos 1) q.x west east) (is_between (b.lo.y -ℤ pos 1) (b.hi.y +ℤ pos 1) q.y south north)) line
 
 beside_x : (b : Extent) (c : Cell) (x y : ℤ) → IsIn b c → (c.x -ℤ pos 1) ≤ℤ x → x ≤ℤ (c.x +ℤ pos 1) → y ≡ c.y → IsTrue (holds (grown b) (cell x y) && (within b.lo.x b.hi.x x || within b.lo.y b.hi.y y))
 beside_x b c x y here from to e = in_reach b (cell x y) (omega (arith, ints, here.west)) (omega (arith, ints, here.east)) (omega (arith, ints, e, here.south)) (omega (arith, ints, e, here.north)) (inr (is_between b.lo.y b.hi.y y (omega (arith, ints, e, here.south)) (omega (arith, ints, e, here.north))))
@@ -91,8 +89,8 @@ module _ (p : Problem) (l : ℕ) (old : Masses) (ps qs : List Patch) (apart : Ar
       (value_of k d (moved c (cell (pos 0) (negsuc 0))) lt (beside_y b c (c.x +ℤ pos 0) (c.y +ℤ negsuc 0) here (omega (arith, ints)) (omega (arith, ints)) (omega (arith, ints))))
       (value_of k d (moved c (cell (pos 0) (pos 1))) lt (beside_y b c (c.x +ℤ pos 0) (c.y +ℤ pos 1) here (omega (arith, ints)) (omega (arith, ints)) (omega (arith, ints))))
 
-  pub tagged_is : (c : Cell) → is_tagged_by p l (masses_in ps) old c ≡ list_any (λ q. is_marked (slice_index p.tag l) (domain p l) q c) qs
-  unfolding is_tagged_by is_marked
+  pub tagged_is : (c : Cell) → is_tagged_by p l (masses_in ps) old c ≡ list_any (λ q. is_tagged_in (slice_index p.tag l) (domain p l) q c) qs
+  unfolding is_tagged_by is_tagged_in
   tagged_is c =
       let some : is_some (masses_in ps c) ≡ in_patches qs c = ap (λ (m : Masses). is_some (m c)) (sym (same_masses ps qs masses boxes)) ∙ some_mass qs c in
       ap (λ (s : Bool). s && compares (slice_index p.tag l) (domain p l) (value_at p l (masses_in ps) old) c) some
@@ -100,14 +98,10 @@ module _ (p : Problem) (l : ℕ) (old : Masses) (ps qs : List Patch) (apart : Ar
 
 -- ---- tagged cells lie in the domain
 
-first_true : (a b : Bool) → (a && b) ≡ true → a ≡ true
-first_true true b h = refl
-first_true false b h = h
-
 tagged_inside : (p : Problem) (l : ℕ) (k : Level) (old : Masses) (c : Cell) → IsLevel p l k → is_tagged_by p l k.masses old c ≡ true → holds (domain_box (domain p l)) c ≡ true
 unfolding is_tagged_by
 tagged_inside p l k old c level h =
-    let some : is_some (k.masses c) ≡ true = first_true (is_some (k.masses c)) (compares (slice_index p.tag l) (domain p l) (value_at p l k.masses old) c) h in
+    let some : is_some (k.masses c) ≡ true = (and_parts (is_some (k.masses c)) (compares (slice_index p.tag l) (domain p l) (value_at p l k.masses old) c) h).0 in
     domain_is (domain p l) c ∙ level.inside c (sym (level.filled c) ∙ some)
 
 then_both : (a b : Bool) → (b ≡ true → a ≡ true) → (a && b) ≡ b

@@ -2,7 +2,7 @@ pub mod Regions
 pub mod Joins
 pub mod Steeps
 pub mod Compared
-pub mod Marked
+pub mod TaggedIn
 pub mod Frames
 pub mod Levels
 pub mod Samples

@@ -2,10 +2,13 @@
 use Rattle.std.proofs.Common.{◌≡◌, ℕ, ◌+◌, ◌<◌, ◌≤◌, Bool, true, false, ◌&&◌, ◌||◌, ℤ, pos, negsuc, ◌+ℤ◌, ◌-ℤ◌, ◌≤ℤ◌, ◌<ℤ◌, refl, ap, ◌∙◌, arith}
 use Rattle.std.specs.Prelude.{unsigned_abs}
 use Rattle.std.proofs.lemmas.Int.{ints}
+use Rattle.std.proofs.lemmas.Bool.{and_parts}
+use Rattle.std.proofs.Math.Bool.{and-false}
 use Rattle.amr_box.specs.declared.Cell.{Cell}
 use Rattle.amr_box.specs.declared.Axis.{Axis}
 use Rattle.amr_box.specs.declared.Axis.TheVariants.{X, Y}
 use Rattle.amr_box.specs.Cells.{Extent, cell, extent, holds, within}
+use Rattle.amr_box.proofs.CellEquality.{same_cells}
 use Rattle.amr_criterion.specs.Pairs.{after, ahead, before, region, with_after}
 
 -- numbers up to one more
@@ -43,15 +46,11 @@ rows_parts from n m k t c e =
 none_within : (low z : ℤ) → within low (low +ℤ pos 0 -ℤ pos 1) z ≡ false
 none_within low z = grind (arith, ints)
 
-and_false : (a : Bool) → (a && false) ≡ false
-and_false true = refl
-and_false false = refl
-
 pub no_columns : (from : Cell) (m : ℕ) (c : Cell) → holds (region from 0 m) c ≡ false
 no_columns from m c = ap (λ (b : Bool). b && within from.y (from.y +ℤ pos m -ℤ pos 1) c.y) (none_within from.x c.x)
 
 pub no_rows : (from : Cell) (n : ℕ) (c : Cell) → holds (region from n 0) c ≡ false
-no_rows from n c = ap (λ (b : Bool). within from.x (from.x +ℤ pos n -ℤ pos 1) c.x && b) (none_within from.y c.y) ∙ and_false (within from.x (from.x +ℤ pos n -ℤ pos 1) c.x)
+no_rows from n c = ap (λ (b : Bool). within from.x (from.x +ℤ pos n -ℤ pos 1) c.x && b) (none_within from.y c.y) ∙ and-false (within from.x (from.x +ℤ pos n -ℤ pos 1) c.x)
 
 -- the cells of a region and those after them
 pub cells_after : (axis : Axis) (b : Extent) (c : Cell) → b.lo.x ≤ℤ b.hi.x → b.lo.y ≤ℤ b.hi.y → holds (with_after axis b) c ≡ (holds b c || holds b (before axis c))
@@ -85,20 +84,11 @@ column_of low z a n h = by_size (z -ℤ low) refl (low_part h) (high_part h)
 one_row : (low z : ℤ) → within low (low +ℤ pos 1 -ℤ pos 1) z ≡ true → z ≡ low
 one_row low z h = grind (arith, ints)
 
-and_left : (a b : Bool) → (a && b) ≡ true → a ≡ true
-and_left true b h = refl
-and_left false b h = h
-
-and_right : (a b : Bool) → (a && b) ≡ true → b ≡ true
-and_right true b h = h
-and_right false b h = absurd (cc)
-
 pub ahead_of : (from : Cell) (a n : ℕ) (c : Cell) → holds (region (ahead from a) n 1) c ≡ true → IsAhead from a n c
 ahead_of from a n c h =
-    let x = and_left (within (from.x +ℤ pos a) (from.x +ℤ pos a +ℤ pos n -ℤ pos 1) c.x) (within from.y (from.y +ℤ pos 1 -ℤ pos 1) c.y) h in
-    let y = and_right (within (from.x +ℤ pos a) (from.x +ℤ pos a +ℤ pos n -ℤ pos 1) c.x) (within from.y (from.y +ℤ pos 1 -ℤ pos 1) c.y) h in
-    let column = column_of from.x c.x a n x in
-    let row = one_row from.y c.y y in
+    let both = and_parts (within (from.x +ℤ pos a) (from.x +ℤ pos a +ℤ pos n -ℤ pos 1) c.x) (within from.y (from.y +ℤ pos 1 -ℤ pos 1) c.y) h in
+    let column = column_of from.x c.x a n both.0 in
+    let row = one_row from.y c.y both.1 in
     record { k = unsigned_abs (c.x -ℤ from.x); from_a = column.1; to_n = column.2; is = λ i. cell (column.0 i) (row i) }
 
 -- boxes with the same corners have the same cells
@@ -106,9 +96,6 @@ pub same_corners : (b : Extent) (west south east north : ℤ) → b.lo.x ≡ wes
 same_corners b west south east north w s e n c = λ i. within (w i) (e i) c.x && within (s i) (n i) c.y
 
 -- ---- the box of a span of pairs
-
-pub same_cells : (c d : Cell) → c.x ≡ d.x → c.y ≡ d.y → c ≡ d
-same_cells c d ex ey i = cell (ex i) (ey i)
 
 pub not_before : (axis : Axis) (last high : Cell) → high ≡ after axis last → (last.x ≤ℤ high.x) × (last.y ≤ℤ high.y)
 not_before X last high e =

@@ -1,10 +1,12 @@
 -- Levels of one box, for the tests.
-use Rattle.std.proofs.Common.{◌≡◌, ◌≢◌, ℕ, ◌<◌, Bool, true, false, cond, ◌&&◌, ◌||◌, ℤ, pos, ◌≤ℤ◌, ◌<ℤ◌, List, [], ◌∷◌, refl, sym, ap, subst, ◌∙◌, arith}
+use Rattle.std.proofs.Common.{◌≡◌, ◌≢◌, ℕ, ◌<◌, Bool, true, false, cond, ℤ, pos, ◌≤ℤ◌, ◌<ℤ◌, List, [], ◌∷◌, refl, sym, ap, subst, ◌∙◌, arith}
 use Rattle.std.specs.Prelude.{is_some}
 use Rattle.std.specs.declared.option.Option.TheVariants.{None, Some}
 use Rattle.std.specs.List.{All}
 use Rattle.std.proofs.lemmas.Grind.{get_or_head}
+use Rattle.std.proofs.lemmas.Bool.{and_from}
 use Rattle.std.proofs.lemmas.Int.{ints}
+use Rattle.std.proofs.Math.Bool.{or-false}
 use Rattle.amr_box.specs.declared.Cell.{Cell}
 use Rattle.amr_box.specs.Cells.{Extent, IsNear, IsProper, holds}
 use Rattle.amr_box.proofs.CellEquality.{coordinates_itself, coordinates_same, have_same_coordinates}
@@ -17,12 +19,8 @@ use Rattle.amr_ghost.specs.Filling.{LiesInDomain}
 use Rattle.amr_patch.specs.Patches.{AreApart, AreNear}
 use Rattle.amr_patch.proofs.Rows.{inside}
 
-or_false : (a : Bool) → (a || false) ≡ a
-or_false true = refl
-or_false false = refl
-
 pub in_one : (b : Extent) (c : Cell) → in_boxes (b ∷ []) c ≡ holds b c
-in_one b c = or_false (holds b c)
+in_one b c = or-false (holds b c)
 
 pub one_apart : (b : Extent) → AreApart (b ∷ [])
 one_apart b = λ i j d below there c x y. absurd (too_many i j below there)
@@ -37,13 +35,10 @@ in_whole : (p : Problem) (l : ℕ) (b : Extent) (c : Cell) → LiesInDomain (dom
 unfolding in_domain
 in_whole p l b c lies h =
     let here = inside b c h in
-    both _ _ (within_side (domain p l).columns c.x (omega (arith, ints, lies.west, here.west)) (omega (arith, ints, lies.east, here.east))) (within_side (domain p l).rows c.y (omega (arith, ints, lies.south, here.south)) (omega (arith, ints, lies.north, here.north)))
+    and_from (is_inside (domain p l).columns c.x) (is_inside (domain p l).rows c.y) (within_side (domain p l).columns c.x (omega (arith, ints, lies.west, here.west)) (omega (arith, ints, lies.east, here.east))) (within_side (domain p l).rows c.y (omega (arith, ints, lies.south, here.south)) (omega (arith, ints, lies.north, here.north)))
   where
     within_side : (n : ℕ) (z : ℤ) → pos 0 ≤ℤ z → z <ℤ pos n → is_inside n z ≡ true
     within_side n z h k = grind (arith, ints)
-
-    both : (a b : Bool) → a ≡ true → b ≡ true → (a && b) ≡ true
-    both a b e f = rw e f
 
 some_in : (t : Bool) → is_some {T = ℕ} (cond t (Some 0) None) ≡ t
 some_in true = refl

@@ -8,7 +8,7 @@ ghost use Rattle.amr_ghost.specs.Filling.{LiesInDomain};
 ghost use Rattle.amr_ghost.specs.Frames.{AreInDomain};
 ghost use Rattle.amr_patch.specs.Patches.{box, value_in};
 ghost use Rattle.amr_criterion.specs.Pairs.{IsJoined, in_steep_pair, region};
-ghost use Rattle.amr_criterion.specs.Marks.{AreReached, IsRowOf, is_marked};
+ghost use Rattle.amr_criterion.specs.Tagged.{AreReached, IsRowOf, is_tagged_in};
 
 use crate::firsts::{Firsts, across, upward};
 use crate::lines::{Line, after, tag_line};
@@ -87,7 +87,7 @@ fn tag_rows(tags: &mut Tags, patch: &Patch, threshold: u64, firsts: &Firsts)
 /// compared once, along the rows first and then from row to row.
 fn tag_patch(tags: &mut Tags, patch: &Patch, dom: &Dom, threshold: u64)
     requires { LiesInDomain (domain_of dom.now) (box patch.now) }
-    ensures { IsJoined (is_marked threshold (domain_of dom.now) patch.now) tags.old tags.new }
+    ensures { IsJoined (is_tagged_in threshold (domain_of dom.now) patch.now) tags.old tags.new }
 {
     let bx = patch.bx();
     tag_rows(tags, patch, threshold, &across(&bx, dom));
@@ -97,7 +97,7 @@ fn tag_patch(tags: &mut Tags, patch: &Patch, dom: &Dom, threshold: u64)
 /// Tags the cells of the patches that differ from a neighbour in the domain by the threshold or more.
 pub(crate) fn tag_patches(tags: &mut Tags, patches: &[Patch], dom: &Dom, threshold: u64)
     requires { AreInDomain (domain_of dom.now) patches.now }
-    ensures { IsJoined (λ c. list_any (λ q. is_marked threshold (domain_of dom.now) q c) patches.now) tags.old tags.new }
+    ensures { IsJoined (λ c. list_any (λ q. is_tagged_in threshold (domain_of dom.now) q c) patches.now) tags.old tags.new }
 {
     for k in 0..patches.len() {
         tag_patch(tags, &patches[k], dom, threshold);

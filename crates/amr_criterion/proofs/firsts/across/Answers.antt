@@ -2,7 +2,7 @@ use Rattle.std.proofs.Common.{◌≡◌, ◌∙◌, ℕ, ℤ, pos, ◌≤ℤ◌,
 use Rattle.std.proofs.lemmas.Int.{ints}
 use Rattle.amr_box.specs.Cells.{Extent}
 use Rattle.amr_def.specs.Domain.{Domain, domain_of}
-use Rattle.amr_criterion.specs.Marks.{reach_high, reach_low}
+use Rattle.amr_criterion.specs.Tagged.{reach_high, reach_low}
 use Rattle.amr_criterion.proofs.Compared.{IsReach, is_reach}
 use Rattle.amr_criterion.proofs.firsts.across.Goals as goal
 

@@ -12,7 +12,7 @@ use Rattle.amr_patch.specs.Orders.{IsOrderOf}
 use Rattle.amr_patch.specs.Patches.{ArePatchesApart, SameFluxes, masses_in}
 use Rattle.amr_patch.proofs.Standing.{order_of_boxes}
 use Rattle.amr_ghost.specs.Frames.{AreInDomain, HasGhostMarks, HasGhostValues, old_masses}
-use Rattle.amr_criterion.specs.Marks.{is_marked}
+use Rattle.amr_criterion.specs.Tagged.{is_tagged_in}
 use Rattle.amr_criterion.proofs.Frames.{patches_inside, same_masses, still_apart}
 use Rattle.amr_criterion.proofs.Joins.{joined_as}
 use Rattle.amr_criterion.proofs.Levels.{tagged_is}
@@ -57,11 +57,11 @@ returns-clause-tags c =
     let apart : ArePatchesApart ps = subst (λ (rs : List Patch). ArePatchesApart rs) (sym c.deref_mut.ensures.value) c.take_patches-patches.ensures.apart in
     let inside : AreInDomain (domain p l) ps = patches_inside p l (level_of c.args.level.now) ps c.requires.of_domain (sym before) in
     let shown : c.deref.result.now ≡ qs = c.deref.ensures.value ∙ after in
-    joined_as (λ a. list_any (λ q. is_marked (slice_index c.entries.result.now l) (domain_of c.domain-dom.result) q a) c.deref.result.now) (is_tagged_by p l (level_of c.args.level.now).masses old) c.args.tags.now c.tag_patches.new.tags
+    joined_as (λ a. list_any (λ q. is_tagged_in (slice_index c.entries.result.now l) (domain_of c.domain-dom.result) q a) c.deref.result.now) (is_tagged_by p l (level_of c.args.level.now).masses old) c.args.tags.now c.tag_patches.new.tags
     (λ a.
     (λ i. is_tagged_by p l (sym before i) old a)
     ∙ tagged_is p l old ps qs apart inside c.fill_in_order.ensures.masses c.fill_in_order.ensures.boxes c.fill_in_order.ensures.filled a
-    ∙ (λ i. list_any (λ q. is_marked (slice_index (sym c.entries.ensures i) l) (sym c.domain-dom.ensures i) q a) (sym shown i)))
+    ∙ (λ i. list_any (λ q. is_tagged_in (slice_index (sym c.entries.ensures i) l) (sym c.domain-dom.ensures i) q a) (sym shown i)))
     c.tag_patches.ensures
 
 pub returns-clause-level : goal.returns-clause-level

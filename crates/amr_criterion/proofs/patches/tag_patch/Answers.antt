@@ -5,9 +5,9 @@ use Rattle.amr_box.specs.Cells.{Extent, holds}
 use Rattle.amr_def.specs.Domain.{domain_of}
 use Rattle.amr_patch.specs.Patches.{box, value_in}
 use Rattle.amr_criterion.specs.Pairs.{IsJoined, in_steep_pair, region}
-use Rattle.amr_criterion.specs.Marks.{is_marked, reach_high, reach_low}
+use Rattle.amr_criterion.specs.Tagged.{is_tagged_in, reach_high, reach_low}
 use Rattle.amr_criterion.proofs.Joins.{joined_as, joined_within}
-use Rattle.amr_criterion.proofs.Marked.{IsAcross, IsUpward, marked_is, pairs_of}
+use Rattle.amr_criterion.proofs.TaggedIn.{IsAcross, IsUpward, tagged_in_is, pairs_of}
 use Rattle.amr_criterion.proofs.patches.tag_patch.Goals as goal
 
 pub returns : goal.returns
@@ -34,6 +34,6 @@ returns c =
     } in
     let first = subst (λ (a : Axis). IsJoined (λ k. holds (box q) k && in_steep_pair t (value_in q) a row k) c.args.tags.now c.tag_rows.new.tags) c.across.ensures.axis c.tag_rows.ensures in
     let second = subst (λ (a : Axis). IsJoined (λ k. holds (box q) k && in_steep_pair t (value_in q) a column k) c.tag_rows.new.tags c.tag_rows-2.new.tags) c.upward.ensures.axis c.tag_rows-2.ensures in
-    joined_as (λ k. holds (box q) k && pairs_of t q row column k) (is_marked t d q) c.args.tags.now c.tag_rows-2.new.tags
-    (marked_is t d q f.from u.from f.columns f.rows u.columns u.rows c.requires across upward)
+    joined_as (λ k. holds (box q) k && pairs_of t q row column k) (is_tagged_in t d q) c.args.tags.now c.tag_rows-2.new.tags
+    (tagged_in_is t d q f.from u.from f.columns f.rows u.columns u.rows c.requires across upward)
     (joined_within (box q) (in_steep_pair t (value_in q) X row) (in_steep_pair t (value_in q) Y column) (pairs_of t q row column) c.args.tags.now c.tag_rows.new.tags c.tag_rows-2.new.tags (λ k. refl) first second)

@@ -4,7 +4,7 @@ use Rattle.amr_box.specs.declared.Cell.{Cell}
 use Rattle.amr_box.specs.Cells.{Extent, cell, holds}
 use Rattle.amr_patch.specs.Patches.{box, value_in}
 use Rattle.amr_criterion.specs.Pairs.{AreAlong, IsJoined, after, ahead, in_steep_pair, region}
-use Rattle.amr_criterion.specs.Marks.{IsRowOf}
+use Rattle.amr_criterion.specs.Tagged.{IsRowOf}
 use Rattle.amr_criterion.proofs.Regions.{after_ahead}
 use Rattle.amr_criterion.proofs.patches.tag_row.Goals as goal
 

@@ -1,4 +1,4 @@
--- The steep pairs in the two regions of a patch are those that the definition of its marked cells compares.
+-- The steep pairs in the two regions of a patch are those that the definition of its tagged cells compares.
 use Rattle.std.proofs.Common.{◌≡◌, ℕ, ◌+◌, ◌-◌, ◌<◌, Bool, true, false, ◌&&◌, ◌||◌, ℤ, pos, negsuc, ◌+ℤ◌, ◌-ℤ◌, ◌≤ℤ◌, ◌<ℤ◌, refl, sym, ap, ◌∙◌, arith}
 use Rattle.std.specs.Prelude.{nat_le}
 use Rattle.std.proofs.lemmas.Int.{ints}
@@ -14,7 +14,7 @@ use Rattle.amr_patch.specs.declared.patches.Patch.{Patch}
 use Rattle.amr_patch.specs.Patches.{box, value_in}
 use Rattle.amr_patch.proofs.Rows.{IsIn, inside, is_between}
 use Rattle.amr_criterion.specs.Pairs.{before, in_steep_pair, is_steep, region}
-use Rattle.amr_criterion.specs.Marks.{is_marked, reach_high, reach_low}
+use Rattle.amr_criterion.specs.Tagged.{is_tagged_in, reach_high, reach_low}
 use Rattle.amr_criterion.proofs.Compared.{is_home, last_compared, next_compared}
 
 -- the pairs along the rows of a box, and those along its columns
@@ -140,10 +140,10 @@ compared t d q from up columns rows wide high lies across upward c here =
     (λ i. ((east i && east_of t (value_in q) c i) || (west i && west_of t (value_in q) c i)) || ((north i && north_of t (value_in q) c i) || (south i && south_of t (value_in q) c i)))
     ∙ in_order (compares_at t d q c (cell (pos 1) (pos 0))) (compares_at t d q c (cell (negsuc 0) (pos 0))) (compares_at t d q c (cell (pos 0) (pos 1))) (compares_at t d q c (cell (pos 0) (negsuc 0)))
 
--- the cells of the box in a steep pair are the marked ones
-pub marked_is : (t : ℕ) (d : Domain) (q : Patch) (from up : Cell) (columns rows wide high : ℕ) → LiesInDomain d (box q) → IsAcross d (box q) from columns rows → IsUpward d (box q) up wide high → (c : Cell) → is_marked t d q c ≡ (holds (box q) c && pairs_of t q (region from columns rows) (region up wide high) c)
-unfolding is_marked
-marked_is t d q from up columns rows wide high lies across upward c = by_box (holds (box q) c) refl
+-- the cells of the box in a steep pair are the tagged ones
+pub tagged_in_is : (t : ℕ) (d : Domain) (q : Patch) (from up : Cell) (columns rows wide high : ℕ) → LiesInDomain d (box q) → IsAcross d (box q) from columns rows → IsUpward d (box q) up wide high → (c : Cell) → is_tagged_in t d q c ≡ (holds (box q) c && pairs_of t q (region from columns rows) (region up wide high) c)
+unfolding is_tagged_in
+tagged_in_is t d q from up columns rows wide high lies across upward c = by_box (holds (box q) c) refl
   where
     by_box : (h : Bool) → holds (box q) c ≡ h → (h && compares t d q c) ≡ (h && pairs_of t q (region from columns rows) (region up wide high) c)
     by_box true e = sym (compared t d q from up columns rows wide high lies across upward c (inside (box q) c e))

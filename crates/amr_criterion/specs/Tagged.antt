@@ -12,8 +12,8 @@ use Rattle.amr_criterion.specs.Pairs.{after}
 use Rattle.amr_criterion.specs.declared.firsts.Firsts.{Firsts}
 
 -- whether the value of a cell of the patch and that of a neighbour in the domain differ by the threshold or more
-unfoldable pub is_marked : ℕ → Domain → Patch → Cell → Bool
-is_marked threshold d q c =
+unfoldable pub is_tagged_in : ℕ → Domain → Patch → Cell → Bool
+is_tagged_in threshold d q c =
     holds (box q) c && list_any (λ o. in_domain d (home_cell d (moved c o)) && differs_by threshold (value_in q c) (value_in q (moved c o))) neighbours
 
 -- ---- which pairs a patch compares
