@@ -13,8 +13,10 @@ use amr_def::Row;
 
 /// How many bytes a mass takes.
 #[derive(Clone, Copy)]
-pub(crate) enum MassWidth {
+pub enum MassWidth {
+    /// Four, in payload 2.
     Four,
+    /// Eight, in payload 1.
     Eight,
 }
 

@@ -30,8 +30,8 @@ fn cell_in(b: &Bx, row: u32, column: u32) -> Cell
 }
 
 /// The masses of a row of the box from column `first` on, as far as they stand in one patch of the level, and no further
-/// than the box.
-fn masses_from<'a>(level: &'a Level, b: &Bx, row: u32, first: u32) -> &'a [u32]
+/// than the box. Rows and columns are counted from the box's low corner.
+pub fn masses_from<'a>(level: &'a Level, b: &Bx, row: u32, first: u32) -> &'a [u32]
     requires near { IsNear b.now }
     requires row { (b.now.lo.y +ℤ pos row) ≤ℤ b.now.hi.y }
     requires column { (b.now.lo.x +ℤ pos first) ≤ℤ b.now.hi.x }

@@ -1,0 +1,110 @@
+-- Masses, read one after another.
+use Rattle.std.proofs.Common.{◌≡◌, ℕ, zero, suc, ◌+◌, ◌-◌, ◌*◌, ◌/◌, ◌%◌, ◌^◌, ◌<◌, ◌≤◌, pow_pos, mul_comm, Bool, true, false, List, [], ◌∷◌, ◌++◌, length, drop, map, refl, sym, ap, ◌∙◌, arith, drop-drop}
+use Rattle.std.specs.Prelude.{nat_le}
+use Rattle.std.specs.Int.{Width, byte_len, from_le_bytes}
+use Rattle.std.specs.List.{range_with_len}
+use Rattle.std.proofs.lemmas.Bool.{both_ways}
+use Rattle.std.proofs.lemmas.Nat.{div-add-mod', le-div}
+use Rattle.std.proofs.Math.Nat.{mul-le-mul_right}
+use Rattle.std.proofs.lemmas.List.FromFn.{map-range_with_len_more}
+use Rattle.amr_def.specs.declared.problem.Problem.{Problem}
+use Rattle.amr_payload.specs.Tests.{Left, Reading, bad, read, then_read, tested, read_also, after, is_mass, read_number, read_mass, read_masses}
+use Rattle.amr_payload.proofs.Readings.{was_tested}
+use Rattle.amr_decoder.specs.declared.faults.CodecFault.{CodecFault}
+use Rattle.amr_decoder.specs.Faults.{IsFaultOf}
+use Rattle.amr_decoder.specs.Numbers.{number_at, numbers}
+use Rattle.amr_decoder.proofs.Readings.{fault_first, fault_same, le_is, le_no, le_yes}
+use Rattle.amr_decoder.proofs.Lists.{also_all, one_left}
+
+-- a number that was read, and what is left
+pub record WasNumber (w : Width) (r e : Left) (n : ℕ) : Type 0 where
+  pub value : from_le_bytes w r.bytes ≡ n
+  pub rest : after (byte_len w) r ≡ e
+
+pub was_number : (w : Width) (r e : Left) (n : ℕ) → read_number w r ≡ read n e → WasNumber w r e n
+unfolding read_number
+was_number w r e n h =
+    let t = was_tested (nat_le (byte_len w) (length r.bytes)) r.place (from_le_bytes w r.bytes) n (after (byte_len w) r) e h in
+    record { value = t.value; rest = t.rest }
+
+pub after_more : (w : Width) (k : ℕ) (r m e : Left) → m ≡ after (byte_len w * k) r → after (byte_len w) m ≡ e → e ≡ after (byte_len w * (k + 1)) r
+after_more w k r m e is rest =
+    sym rest ∙ ap (after (byte_len w)) is
+    ∙ (let place : r.place + byte_len w * k + byte_len w ≡ r.place + byte_len w * (k + 1) = omega arith in
+       let count : byte_len w * k + byte_len w ≡ byte_len w * (k + 1) = omega arith in
+       λ i. record { place = place i; bytes = (drop-drop (byte_len w) (byte_len w * k) r.bytes ∙ ap (λ n. drop n r.bytes) count) i })
+
+pub numbers_more : (w : Width) (k m : ℕ) (r l : Left) → l ≡ after (byte_len w * k) r → from_le_bytes w l.bytes ≡ m → numbers w k r.bytes ++ m ∷ [] ≡ numbers w (k + 1) r.bytes
+unfolding numbers
+numbers_more w k m r l is value =
+    let here : number_at w r.bytes k ≡ m = sym (ap (λ (l : Left). from_le_bytes w l.bytes) is) ∙ value in
+    ap (λ n. map (number_at w r.bytes) (range_with_len 0 k) ++ n ∷ []) (sym here) ∙ sym (map-range_with_len_more (number_at w r.bytes) 0 k k (omega arith))
+
+module _ (w : Width) (p : Problem) (n l : ℕ) where
+  pub mass_next : (count k m : ℕ) (r e : Left) → k < count → read_number w r ≡ read m e → is_mass p n l m ≡ true → read_masses w p n l (count - k) r ≡ read_also m (read_masses w p n l (count - (k + 1)) e)
+  unfolding read_mass
+  mass_next count k m r e inside first passes =
+      ap (λ j. read_masses w p n l j r) (one_left count k inside)
+      ∙ ap (λ q. then_read (then_read q (λ m a. tested (is_mass p n l m) r.place m a)) (λ m a. read_also m (read_masses w p n l (count - (k + 1)) a))) first
+      ∙ ap (λ t. then_read (tested t r.place m e) (λ m a. read_also m (read_masses w p n l (count - (k + 1)) a))) passes
+
+  pub mass_bad : (count k m : ℕ) (r e : Left) → k < count → read_number w r ≡ read m e → is_mass p n l m ≡ false → read_masses w p n l (count - k) r ≡ bad r.place
+  unfolding read_mass
+  mass_bad count k m r e inside first fails =
+      ap (λ j. read_masses w p n l j r) (one_left count k inside)
+      ∙ ap (λ q. then_read (then_read q (λ m a. tested (is_mass p n l m) r.place m a)) (λ m a. read_also m (read_masses w p n l (count - (k + 1)) a))) first
+      ∙ ap (λ t. then_read (tested t r.place m e) (λ m a. read_also m (read_masses w p n l (count - (k + 1)) a))) fails
+
+  pub mass_cut : (count k : ℕ) (r : Left) (e : CodecFault) → k < count → IsFaultOf (read_number w r) e → IsFaultOf (read_masses w p n l (count - k) r) e
+  unfolding read_mass
+  mass_cut count k r e inside h =
+      fault_same (read_masses w p n l (count - k) r) (read_masses w p n l (suc (count - (k + 1))) r) e (ap (λ j. read_masses w p n l j r) (one_left count k inside))
+      (fault_first (then_read (read_number w r) (λ m a. tested (is_mass p n l m) r.place m a)) (λ m a. read_also m (read_masses w p n l (count - (k + 1)) a)) e
+      (fault_first (read_number w r) (λ m a. tested (is_mass p n l m) r.place m a) e h))
+
+  pub masses_end : (count k : ℕ) (r : Left) → count - k ≡ 0 → read_masses w p n l (count - k) r ≡ read [] r
+  masses_end count k r none = ap (λ j. read_masses w p n l j r) none
+
+  pub none_yet : (count : ℕ) (r : Left) → read_masses w p n l count r ≡ also_all (numbers w 0 r.bytes) (read_masses w p n l (count - 0) r)
+  unfolding numbers
+  none_yet count r = let same : count ≡ count - 0 = omega arith in ap (λ j. read_masses w p n l j r) same
+
+pub after_none : (w : Width) (r : Left) → r ≡ after (byte_len w * 0) r
+after_none w r =
+    let place : r.place ≡ r.place + byte_len w * 0 = omega arith in
+    let zero_bytes : 0 ≡ byte_len w * 0 = omega arith in
+    λ i. record { place = place i; bytes = drop (zero_bytes i) r.bytes }
+
+pub all_inside : (w : Width) (count k : ℕ) (r e : Left) (whole : List ℕ) → count ≡ k → e ≡ after (byte_len w * k) r → e.place ≤ length whole → r.place + byte_len w * count ≤ length whole
+all_inside w count k r e whole same is inside =
+    let place : e.place ≡ r.place + byte_len w * k = ap (λ (l : Left). l.place) is in
+    let product : byte_len w * count ≡ byte_len w * k = ap (λ n. byte_len w * n) same in
+    omega (arith, place, product, inside)
+
+-- ---- the greatest mass
+
+four_is : (l : ℕ) → l ≤ 4 → 2 ^ (2 * l) ≡ 4 ^ l
+four_is zero h = refl
+four_is (suc zero) h = refl
+four_is (suc (suc zero)) h = refl
+four_is (suc (suc (suc zero))) h = refl
+four_is (suc (suc (suc (suc zero)))) h = refl
+four_is (suc (suc (suc (suc (suc l))))) h = absurd (omega arith)
+
+same_test : (a b c d : ℕ) → (a ≤ b → c ≤ d) → (c ≤ d → a ≤ b) → nat_le a b ≡ nat_le c d
+same_test a b c d there back = by_test (nat_le a b) refl
+  where
+    by_test : (t : Bool) → nat_le a b ≡ t → t ≡ nat_le c d
+    by_test true e = sym (le_yes c d (there (le_is a b e)))
+    by_test false e = sym (le_no c d (above c d (λ h. both_ways (nat_le a b) e (le_yes a b (back h)))))
+      where
+        above : (c d : ℕ) → (c ≤ d → ⊥) → d < c
+        above c d h = omega arith
+
+below_shift : (k m bound : ℕ) → 0 < k → nat_le (k * m) bound ≡ nat_le m (bound / k)
+below_shift k m bound some = same_test (k * m) bound m (bound / k)
+    (λ h. le-div m bound k some (omega (arith, mul_comm k m)))
+    (λ h. let part : m * k ≤ bound / k * k = mul-le-mul_right k h in omega (arith, mul_comm k m, part, div-add-mod' bound k))
+
+pub greatest_is : (l m bound : ℕ) → l ≤ 4 → nat_le (4 ^ l * m) bound ≡ nat_le m (bound / 2 ^ (2 * l))
+greatest_is l m bound h = ap (λ k. nat_le (k * m) bound) (sym (four_is l h)) ∙ below_shift (2 ^ (2 * l)) m bound (pow_pos (2 * l))

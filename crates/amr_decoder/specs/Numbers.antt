@@ -1,0 +1,12 @@
+-- Numbers one after another in a list of bytes.
+use Rattle.std.specs.Prelude.{ℕ, ◌*◌, List, drop, map}
+use Rattle.std.specs.Int.{Width, byte_len, from_le_bytes}
+use Rattle.std.specs.List.{range_with_len}
+
+-- number i of numbers of w bits
+abbrev pub number_at : Width → List ℕ → ℕ → ℕ
+number_at w bytes i = from_le_bytes w (drop (byte_len w * i) bytes)
+
+-- the first n
+unfoldable pub numbers : Width → ℕ → List ℕ → List ℕ
+numbers w n bytes = map (number_at w bytes) (range_with_len 0 n)

@@ -1,0 +1,95 @@
+//! The boxes of a level with their masses.
+
+ghost use Rattle.std.specs.Prelude.{◌≡◌, ◌&&◌, ◌≤◌, nat_lt, true, false, [], map, IfOk, IfErr, IfSome, IfNone};
+ghost use Rattle.std.specs.List.{All, list_any};
+ghost use Rattle.amr_box.specs.Cells.{IsNear};
+ghost use Rattle.amr_codec.specs.MassWidths.{width_of};
+ghost use Rattle.amr_payload.specs.Tests.{is_box_of, meets, read, read_grid, read_grids};
+ghost use Rattle.amr_decoder.specs.Boxes.{box_at};
+ghost use Rattle.amr_decoder.specs.Faults.{IsFaultOf};
+ghost use Rattle.amr_decoder.specs.Grids.{IsInside, grid_of};
+ghost use Rattle.amr_decoder.specs.Lefts.{left_of, whole_of};
+
+use crate::apart::Apart;
+use crate::boxes::{Corners, as_box, is_fit, read_corners};
+use crate::faults::CodecFault;
+use crate::grid::Grid;
+use crate::masses::{MassKind, read_masses};
+use crate::reader::Reader;
+use amr_box::Bx;
+use amr_def::Problem;
+use std::alloc::Global;
+
+/// Whether a box of a finer level has a cell in common with an earlier one.
+fn is_in_the_way(l: u32, earlier: &Apart, b: &Bx) -> bool
+    ensures { result ≡ (nat_lt 0 l && list_any (meets b.now) earlier.now) }
+{
+    l > 0 && earlier.meets(b)
+}
+
+/// The box with these corners, where it passes the tests on a box of level `l` after the earlier ones.
+fn tested_box(p: &Problem, l: u32, earlier: &Apart, b: Corners) -> Option<Bx>
+    requires { l ≤ 4 }
+    ensures some { IfSome result (λ e. (e ≡ box_at b) × (is_box_of p.now l earlier.now (box_at b) ≡ true)) }
+    ensures near { IfSome result IsNear }
+    ensures none { IfNone result (is_box_of p.now l earlier.now (box_at b) ≡ false) }
+{
+    if !is_fit(p, l, b) {
+        return None;
+    }
+    let tested = as_box(b);
+    if is_in_the_way(l, earlier, &tested) {
+        return None;
+    }
+    Some(tested)
+}
+
+/// A box and its masses.
+#[tactic(auto, unfolding(amr_payload::specs::Tests::read_grid))]
+fn read_grid(
+    p: &Problem,
+    kind: MassKind,
+    earlier: &Apart,
+    r: &mut Reader<'_>,
+) -> Result<Grid, CodecFault>
+    requires step { kind.step ≤ 4096 }
+    requires level { kind.level ≤ 4 }
+    ensures read { IfOk result (λ g. read_grid (width_of kind.width) p.now kind.step kind.level earlier.now (left_of r.old) ≡ read (grid_of (width_of kind.width) (whole_of r.old) g) (left_of r.new)) }
+    ensures bad { IfErr result (IsFaultOf (read_grid (width_of kind.width) p.now kind.step kind.level earlier.now (left_of r.old))) }
+    ensures inside { IfOk result (IsInside (width_of kind.width) (whole_of r.old)) }
+    ensures whole { whole_of r.new ≡ whole_of r.old }
+{
+    let place = r.place() as u64;
+    let corners = read_corners(r)?;
+    let Some(bx) = tested_box(p, kind.level, earlier, corners) else {
+        return Err(CodecFault::Bad { place });
+    };
+    let from = r.place();
+    read_masses(p, kind, bx.area(), r)?;
+    Ok(Grid { bx, from })
+}
+
+/// `count` boxes with their masses, each apart from the earlier ones. Memory is taken as they are read.
+pub(crate) fn read_grids(
+    alloc: Global,
+    p: &Problem,
+    kind: MassKind,
+    count: u32,
+    r: &mut Reader<'_>,
+) -> Result<Vec<Grid>, CodecFault>
+    requires step { kind.step ≤ 4096 }
+    requires level { kind.level ≤ 4 }
+    ensures read { IfOk result (λ gs. read_grids (width_of kind.width) p.now kind.step kind.level count [] (left_of r.old) ≡ read (map (grid_of (width_of kind.width) (whole_of r.old)) gs.items) (left_of r.new)) }
+    ensures bad { IfErr result (IsFaultOf (read_grids (width_of kind.width) p.now kind.step kind.level count [] (left_of r.old))) }
+    ensures inside { IfOk result (λ gs. All (IsInside (width_of kind.width) (whole_of r.old)) gs.items) }
+    ensures whole { whole_of r.new ≡ whole_of r.old }
+{
+    let mut grids = Vec::new(alloc);
+    let mut earlier = Apart::new(alloc);
+    for _k in 0..count {
+        let grid = read_grid(p, kind, &earlier, r)?;
+        earlier.push(grid.bx)?;
+        grids.push(grid)?;
+    }
+    Ok(grids)
+}

@@ -1,0 +1,67 @@
+//! The masses of a box.
+
+ghost use Rattle.std.specs.Prelude.{◌≡◌, ℕ, ◌+◌, ◌*◌, ◌≤◌, length, nat_le, OnOk, IfErr};
+ghost use Rattle.std.specs.Int.{byte_len};
+ghost use Rattle.amr_codec.specs.MassWidths.{width_of};
+ghost use Rattle.amr_def.specs.Facts.{growth};
+ghost use Rattle.amr_payload.specs.Tests.{is_mass, read, read_masses};
+ghost use Rattle.amr_decoder.specs.Faults.{IsFaultOf};
+ghost use Rattle.amr_decoder.specs.Lefts.{left_of, whole_of};
+ghost use Rattle.amr_decoder.specs.Numbers.{numbers};
+
+use crate::faults::CodecFault;
+use crate::reader::Reader;
+use amr_codec::MassWidth;
+use amr_def::Problem;
+
+/// How the masses of a level are read: how many bytes each takes, and the step and the level that bound them.
+#[derive(Clone, Copy)]
+pub(crate) struct MassKind {
+    pub width: MassWidth,
+    pub step: u32,
+    pub level: u32,
+}
+
+/// By how much the bound of masses grows at a step.
+fn growth(max_level: u32) -> u64
+    ensures value { result ≡ growth max_level }
+    ensures small { result ≤ 131072 }
+{
+    if max_level <= 2 { 2048 } else { 131_072 }
+}
+
+/// The greatest mass of a cell.
+fn greatest_mass(p: &Problem, kind: MassKind) -> u64
+    requires step { kind.step ≤ 4096 }
+    requires level { kind.level ≤ 4 }
+    ensures { (m : ℕ) → is_mass p.now kind.step kind.level m ≡ nat_le m result }
+{
+    let bound = (1 << 30) + growth(p.max_level) * (u64::from(kind.step) + 1);
+    bound >> (2 * kind.level)
+}
+
+/// Reads `count` masses, each of which is tested.
+#[tactic(auto, unfolding(amr_payload::specs::Tests::read_mass))]
+pub(crate) fn read_masses(
+    p: &Problem,
+    kind: MassKind,
+    count: u64,
+    r: &mut Reader<'_>,
+) -> Result<(), CodecFault>
+    requires step { kind.step ≤ 4096 }
+    requires level { kind.level ≤ 4 }
+    ensures read { OnOk result (read_masses (width_of kind.width) p.now kind.step kind.level count (left_of r.old) ≡ read (numbers (width_of kind.width) count (left_of r.old).bytes) (left_of r.new)) }
+    ensures bad { IfErr result (IsFaultOf (read_masses (width_of kind.width) p.now kind.step kind.level count (left_of r.old))) }
+    ensures inside { OnOk result ((left_of r.old).place + byte_len (width_of kind.width) * count ≤ length (whole_of r.old)) }
+    ensures whole { whole_of r.new ≡ whole_of r.old }
+{
+    let greatest = greatest_mass(p, kind);
+    for _k in 0..count {
+        let place = r.place() as u64;
+        let m = r.read_mass(kind.width)?;
+        if greatest < m {
+            return Err(CodecFault::Bad { place });
+        }
+    }
+    Ok(())
+}

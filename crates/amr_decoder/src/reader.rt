@@ -1,0 +1,157 @@
+//! The bytes of a payload, read number by number.
+
+ghost use Rattle.std.specs.Prelude.{◌≡◌, ◌+◌, ◌≤◌, length, drop};
+ghost use Rattle.std.specs.Int.{w32, w64, byte_len, from_le_bytes};
+ghost use Rattle.amr_codec.specs.MassWidths.{width_of};
+
+use crate::faults::CodecFault;
+use amr_codec::MassWidth;
+
+/// The number of four bytes at a place.
+fn word_at(bytes: &[u8], at: usize) -> u32
+    requires { at + 4 ≤ length bytes.now }
+    ensures { result ≡ from_le_bytes w32 (drop at bytes.now) }
+{
+    u32::from_le_bytes([bytes[at], bytes[at + 1], bytes[at + 2], bytes[at + 3]])
+}
+
+/// The number of eight bytes at a place.
+fn long_at(bytes: &[u8], at: usize) -> u64
+    requires { at + 8 ≤ length bytes.now }
+    ensures { result ≡ from_le_bytes w64 (drop at bytes.now) }
+{
+    u64::from_le_bytes([
+        bytes[at],
+        bytes[at + 1],
+        bytes[at + 2],
+        bytes[at + 3],
+        bytes[at + 4],
+        bytes[at + 5],
+        bytes[at + 6],
+        bytes[at + 7],
+    ])
+}
+
+/// A mass at a place.
+pub(crate) fn mass_at(bytes: &[u8], at: usize, width: MassWidth) -> u64
+    requires { at + byte_len (width_of width) ≤ length bytes.now }
+    ensures { result ≡ from_le_bytes (width_of width) (drop at bytes.now) }
+{
+    match width {
+        MassWidth::Four => u64::from(word_at(bytes, at)),
+        MassWidth::Eight => long_at(bytes, at),
+    }
+}
+
+/// How many bytes a mass takes.
+pub(crate) fn mass_len(width: MassWidth) -> usize
+    ensures { result ≡ byte_len (width_of width) }
+{
+    match width {
+        MassWidth::Four => 4,
+        MassWidth::Eight => 8,
+    }
+}
+
+/// The bytes of a payload, and the place of the next that is read. A number is read where it lies wholly inside the bytes;
+/// else it is bad at its place, and the reader stays there.
+#[derive(Clone, Copy)]
+pub(crate) struct Reader<'a> {
+    bytes: &'a [u8],
+    place: usize,
+    ghost inside: { place ≤ length bytes.now },
+}
+
+#[tactic(auto, unfolding(crate::specs::Lefts::left_of, crate::specs::Lefts::whole_of))]
+impl<'a> Reader<'a> {
+    ghost use Rattle.std.specs.Prelude.{◌≡◌, ◌<◌, ◌^◌, drop, length, IfOk, IfErr};
+    ghost use Rattle.std.specs.Int.{w8, w32, w64};
+    ghost use Rattle.amr_codec.specs.MassWidths.{width_of};
+    ghost use Rattle.amr_payload.specs.Tests.{read, read_number};
+    ghost use Rattle.amr_decoder.specs.Faults.{IsFaultOf};
+    ghost use Rattle.amr_decoder.specs.Lefts.{left_of, whole_of};
+
+    /// All of the bytes, from the first on.
+    pub fn of(bytes: &'a [u8]) -> Reader<'a>
+        ensures left { left_of result ≡ record { place = 0; bytes = bytes.now } }
+        ensures whole { whole_of result ≡ bytes.now }
+    {
+        Reader { bytes, place: 0 }
+    }
+
+    /// All of the bytes.
+    pub fn bytes(&self) -> &'a [u8]
+        ensures { result.now ≡ whole_of self.now }
+    {
+        self.bytes
+    }
+
+    /// The place of the next byte.
+    pub fn place(&self) -> usize
+        ensures place { result ≡ (left_of self.now).place }
+        ensures left { (left_of self.now).bytes ≡ drop result (whole_of self.now) }
+    {
+        self.place
+    }
+
+    /// How many bytes are left.
+    pub fn count_left(&self) -> usize
+        ensures { result ≡ length (left_of self.now).bytes }
+    {
+        self.bytes.len() - self.place
+    }
+
+    /// A number of one byte.
+    pub fn read_u8(&mut self) -> Result<u8, CodecFault>
+        ensures read { IfOk result (λ n. read_number w8 (left_of self.old) ≡ read n (left_of self.new)) }
+        ensures bad { IfErr result (IsFaultOf (read_number w8 (left_of self.old))) }
+        ensures whole { whole_of self.new ≡ whole_of self.old }
+    {
+        let at = self.place;
+        if self.count_left() < 1 {
+            return Err(CodecFault::Bad { place: at as u64 });
+        }
+        self.place = at + 1;
+        Ok(self.bytes[at])
+    }
+
+    /// A number of four bytes.
+    pub fn read_u32(&mut self) -> Result<u32, CodecFault>
+        ensures read { IfOk result (λ n. read_number w32 (left_of self.old) ≡ read n (left_of self.new)) }
+        ensures bad { IfErr result (IsFaultOf (read_number w32 (left_of self.old))) }
+        ensures whole { whole_of self.new ≡ whole_of self.old }
+    {
+        let at = self.place;
+        if self.count_left() < 4 {
+            return Err(CodecFault::Bad { place: at as u64 });
+        }
+        self.place = at + 4;
+        Ok(word_at(self.bytes, at))
+    }
+
+    /// A number of eight bytes.
+    pub fn read_u64(&mut self) -> Result<u64, CodecFault>
+        ensures read { IfOk result (λ n. read_number w64 (left_of self.old) ≡ read n (left_of self.new)) }
+        ensures bad { IfErr result (IsFaultOf (read_number w64 (left_of self.old))) }
+        ensures whole { whole_of self.new ≡ whole_of self.old }
+    {
+        let at = self.place;
+        if self.count_left() < 8 {
+            return Err(CodecFault::Bad { place: at as u64 });
+        }
+        self.place = at + 8;
+        Ok(long_at(self.bytes, at))
+    }
+
+    /// A mass.
+    pub fn read_mass(&mut self, width: MassWidth) -> Result<u64, CodecFault>
+        ensures read { IfOk result (λ n. read_number (width_of width) (left_of self.old) ≡ read n (left_of self.new)) }
+        ensures bad { IfErr result (IsFaultOf (read_number (width_of width) (left_of self.old))) }
+        ensures whole { whole_of self.new ≡ whole_of self.old }
+    {
+        match width {
+            MassWidth::Four => Ok(u64::from(self.read_u32()?)),
+            MassWidth::Eight => self.read_u64(),
+        }
+    }
+}
