@@ -1,4 +1,4 @@
 mod Appending
-mod Corners
+pub mod Corners
 mod Domains
 mod Entries

@@ -15,7 +15,7 @@ use amr_causes::NoMemory;
 use amr_patch::Level;
 
 /// The cell in a row and column of the box, each counted from its low corner.
-fn cell_in(b: &Bx, row: u32, column: u32) -> Cell
+pub fn cell_in(b: &Bx, row: u32, column: u32) -> Cell
     requires near { IsNear b.now }
     requires row { (b.now.lo.y +ℤ pos row) ≤ℤ b.now.hi.y }
     requires column { (b.now.lo.x +ℤ pos column) ≤ℤ b.now.hi.x }

@@ -46,6 +46,7 @@ in_the_way p (suc l) earlier b h = fine_with p (suc l) earlier b (λ e. absurd (
   where
     positive : (l : ℕ) → (nat_lt 0 (suc l) && list_any (meets b) earlier) ≡ true → list_any (meets b) earlier ≡ true
     positive l h = grind (arith, nat_tests)
+
     by_tests : (t s : Bool) → s ≡ true → (t && not s) ≡ false
     by_tests true s h = ap not h
     by_tests false s h = refl

@@ -5,3 +5,6 @@ pub mod BoxTests
 pub mod MassReadings
 pub mod Bools
 pub mod GridReadings
+pub mod Filling
+pub mod GridBoxes
+pub mod LevelReadings

@@ -1,12 +1,12 @@
 -- Masses, read one after another.
-use Rattle.std.proofs.Common.{◌≡◌, ℕ, zero, suc, ◌+◌, ◌-◌, ◌*◌, ◌/◌, ◌%◌, ◌^◌, ◌<◌, ◌≤◌, pow_pos, mul_comm, Bool, true, false, List, [], ◌∷◌, ◌++◌, length, drop, map, refl, sym, ap, ◌∙◌, arith, drop-drop}
-use Rattle.std.specs.Prelude.{nat_le}
+use Rattle.std.proofs.Common.{◌≡◌, ℕ, zero, suc, ◌+◌, ◌-◌, ◌*◌, ◌/◌, ◌%◌, ◌^◌, ◌<◌, ◌≤◌, pow_pos, mul_comm, mul_assoc, mul-add, Bool, true, false, List, [], ◌∷◌, ◌++◌, length, drop, map, refl, sym, ap, ◌∙◌, arith, drop-drop}
+use Rattle.std.specs.Prelude.{nat_le, slice_index}
 use Rattle.std.specs.Int.{Width, byte_len, from_le_bytes}
 use Rattle.std.specs.List.{range_with_len}
 use Rattle.std.proofs.lemmas.Bool.{both_ways}
 use Rattle.std.proofs.lemmas.Nat.{div-add-mod', le-div}
-use Rattle.std.proofs.Math.Nat.{mul-le-mul_right}
-use Rattle.std.proofs.lemmas.List.FromFn.{map-range_with_len_more}
+use Rattle.std.proofs.Math.Nat.{mul-le-mul_left, mul-le-mul_right}
+use Rattle.std.proofs.lemmas.List.FromFn.{get_or-map-range_with_len, length-map-range_with_len, map-range_with_len_more}
 use Rattle.amr_def.specs.declared.problem.Problem.{Problem}
 use Rattle.amr_payload.specs.Tests.{Left, Reading, bad, read, then_read, tested, read_also, after, is_mass, read_number, read_mass, read_masses}
 use Rattle.amr_payload.proofs.Readings.{was_tested}
@@ -31,8 +31,11 @@ pub after_more : (w : Width) (k : ℕ) (r m e : Left) → m ≡ after (byte_len 
 after_more w k r m e is rest =
     sym rest ∙ ap (after (byte_len w)) is
     ∙ (let place : r.place + byte_len w * k + byte_len w ≡ r.place + byte_len w * (k + 1) = omega arith in
-       let count : byte_len w * k + byte_len w ≡ byte_len w * (k + 1) = omega arith in
-       λ i. record { place = place i; bytes = (drop-drop (byte_len w) (byte_len w * k) r.bytes ∙ ap (λ n. drop n r.bytes) count) i })
+    let count : byte_len w * k + byte_len w ≡ byte_len w * (k + 1) = omega arith in
+    λ i. record { place = place i; bytes = (drop-drop (byte_len w) (byte_len w * k) r.bytes ∙ ap (λ n. drop n r.bytes) count) i })
+
+pub number_is : (w : Width) (k m : ℕ) (r l : Left) → l ≡ after (byte_len w * k) r → from_le_bytes w l.bytes ≡ m → number_at w r.bytes k ≡ m
+number_is w k m r l is value = sym (ap (λ (l : Left). from_le_bytes w l.bytes) is) ∙ value
 
 pub numbers_more : (w : Width) (k m : ℕ) (r l : Left) → l ≡ after (byte_len w * k) r → from_le_bytes w l.bytes ≡ m → numbers w k r.bytes ++ m ∷ [] ≡ numbers w (k + 1) r.bytes
 unfolding numbers
@@ -83,7 +86,7 @@ all_inside w count k r e whole same is inside =
 
 -- ---- the greatest mass
 
-four_is : (l : ℕ) → l ≤ 4 → 2 ^ (2 * l) ≡ 4 ^ l
+pub four_is : (l : ℕ) → l ≤ 4 → 2 ^ (2 * l) ≡ 4 ^ l
 four_is zero h = refl
 four_is (suc zero) h = refl
 four_is (suc (suc zero)) h = refl
@@ -108,3 +111,34 @@ below_shift k m bound some = same_test (k * m) bound m (bound / k)
 
 pub greatest_is : (l m bound : ℕ) → l ≤ 4 → nat_le (4 ^ l * m) bound ≡ nat_le m (bound / 2 ^ (2 * l))
 greatest_is l m bound h = ap (λ k. nat_le (k * m) bound) (sym (four_is l h)) ∙ below_shift (2 ^ (2 * l)) m bound (pow_pos (2 * l))
+
+-- ---- numbers by their places
+
+pub number_here : (w : Width) (from i : ℕ) (bytes : List ℕ) → from_le_bytes w (drop (from + byte_len w * i) bytes) ≡ number_at w (drop from bytes) i
+number_here w from i bytes = ap (from_le_bytes w) (sym (drop-drop (byte_len w * i) from bytes))
+
+pub numbers_push : (w : Width) (k : ℕ) (bytes : List ℕ) → numbers w k bytes ++ number_at w bytes k ∷ [] ≡ numbers w (k + 1) bytes
+unfolding numbers
+numbers_push w k bytes = sym (map-range_with_len_more (number_at w bytes) 0 k k (omega arith))
+
+pub count_numbers : (w : Width) (n : ℕ) (bytes : List ℕ) → length (numbers w n bytes) ≡ n
+unfolding numbers
+count_numbers w n bytes = length-map-range_with_len (number_at w bytes) 0 n
+
+pub numbers_at : (w : Width) (n i : ℕ) (bytes : List ℕ) → i < n → slice_index (numbers w n bytes) i ≡ number_at w bytes i
+unfolding numbers
+numbers_at w n i bytes h = get_or-map-range_with_len (number_at w bytes) 0 n i i 0 h (omega arith)
+
+pub row_number : (w : Width) (from columns j i : ℕ) (bytes : List ℕ) → number_at w (drop (from + byte_len w * columns * j) bytes) i ≡ number_at w (drop from bytes) (j * columns + i)
+row_number w from columns j i bytes =
+    let same : from + byte_len w * columns * j + byte_len w * i ≡ from + byte_len w * (j * columns + i) = place (byte_len w) in
+    sym (number_here w (from + byte_len w * columns * j) i bytes) ∙ ap (λ n. from_le_bytes w (drop n bytes)) same ∙ number_here w from (j * columns + i) bytes
+  where
+    place : (len : ℕ) → from + len * columns * j + len * i ≡ from + len * (j * columns + i)
+    place len = omega (arith, mul_assoc len columns j, mul_comm columns j, mul-add len (j * columns) i)
+
+-- a row of masses lies before the end of all
+pub row_place : (len columns rows j from n : ℕ) → j < rows → from + len * (columns * rows) ≤ n → from + len * columns * j + len * columns ≤ n
+row_place len columns rows j from n h inside =
+    let part : len * columns * (j + 1) ≤ len * columns * rows = mul-le-mul_left (len * columns) (omega arith) in
+    omega (arith, part, mul-add (len * columns) j 1, mul_assoc len columns rows, inside)

@@ -7,7 +7,7 @@ ghost use Rattle.amr_codec.specs.MassWidths.{width_of};
 ghost use Rattle.amr_payload.specs.Tests.{is_box_of, meets, read, read_grid, read_grids};
 ghost use Rattle.amr_decoder.specs.Boxes.{box_at};
 ghost use Rattle.amr_decoder.specs.Faults.{IsFaultOf};
-ghost use Rattle.amr_decoder.specs.Grids.{IsInside, grid_of};
+ghost use Rattle.amr_decoder.specs.Grids.{HasSmallMasses, IsInside, grid_of};
 ghost use Rattle.amr_decoder.specs.Lefts.{left_of, whole_of};
 
 use crate::apart::Apart;
@@ -57,6 +57,7 @@ fn read_grid(
     ensures read { IfOk result (λ g. read_grid (width_of kind.width) p.now kind.step kind.level earlier.now (left_of r.old) ≡ read (grid_of (width_of kind.width) (whole_of r.old) g) (left_of r.new)) }
     ensures bad { IfErr result (IsFaultOf (read_grid (width_of kind.width) p.now kind.step kind.level earlier.now (left_of r.old))) }
     ensures inside { IfOk result (IsInside (width_of kind.width) (whole_of r.old)) }
+    ensures small { IfOk result (HasSmallMasses (width_of kind.width) (whole_of r.old)) }
     ensures whole { whole_of r.new ≡ whole_of r.old }
 {
     let place = r.place() as u64;
@@ -82,6 +83,7 @@ pub(crate) fn read_grids(
     ensures read { IfOk result (λ gs. read_grids (width_of kind.width) p.now kind.step kind.level count [] (left_of r.old) ≡ read (map (grid_of (width_of kind.width) (whole_of r.old)) gs.items) (left_of r.new)) }
     ensures bad { IfErr result (IsFaultOf (read_grids (width_of kind.width) p.now kind.step kind.level count [] (left_of r.old))) }
     ensures inside { IfOk result (λ gs. All (IsInside (width_of kind.width) (whole_of r.old)) gs.items) }
+    ensures small { IfOk result (λ gs. All (HasSmallMasses (width_of kind.width) (whole_of r.old)) gs.items) }
     ensures whole { whole_of r.new ≡ whole_of r.old }
 {
     let mut grids = Vec::new(alloc);

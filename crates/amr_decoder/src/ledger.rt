@@ -1,14 +1,30 @@
-//! The rows of the ledger.
+//! The step, and the rows of the ledger.
 
-ghost use Rattle.std.specs.Prelude.{◌≡◌, IfOk, IfErr};
-ghost use Rattle.amr_payload.specs.Tests.{has_no_flows, is_row_after, read, read_first_row, read_row, read_row_after, read_rows};
+ghost use Rattle.std.specs.Prelude.{◌≡◌, ◌≤◌, IfOk, IfErr};
+ghost use Rattle.amr_payload.specs.Tests.{has_no_flows, is_row_after, read, read_first_row, read_row, read_row_after, read_rows, read_step};
 ghost use Rattle.amr_decoder.specs.Faults.{IsFaultOf};
 ghost use Rattle.amr_decoder.specs.Lefts.{left_of};
 
 use crate::faults::CodecFault;
 use crate::reader::Reader;
-use amr_def::Row;
+use amr_def::{Problem, Row};
 use std::alloc::Global;
+
+/// The step, which is one of the problem.
+#[tactic(auto, unfolding(amr_payload::specs::Tests::read_step))]
+pub fn read_step(p: &Problem, r: &mut Reader<'_>) -> Result<u32, CodecFault>
+    ensures read { IfOk result (λ n. read_step p.now (left_of r.old) ≡ read n (left_of r.new)) }
+    ensures bad { IfErr result (IsFaultOf (read_step p.now (left_of r.old))) }
+    ensures within { IfOk result (λ n. n ≤ p.now.steps) }
+{
+    let place = r.place() as u64;
+    let step = r.read_u32()?;
+    if step <= p.steps {
+        Ok(step)
+    } else {
+        Err(CodecFault::Bad { place })
+    }
+}
 
 #[tactic(auto, unfolding(amr_payload::specs::Tests::read_row))]
 fn read_row(r: &mut Reader<'_>) -> Result<Row, CodecFault>
@@ -68,13 +84,10 @@ fn read_row_after(before: Row, r: &mut Reader<'_>) -> Result<Row, CodecFault>
     }
 }
 
-/// Row 0 and `count` more. Memory is taken as they are read.
+/// Row 0 of the ledger, which has no flows, and `count` more, whose mass is that of the row before and its net inflow. Memory
+/// is taken as they are read.
 #[tactic(auto, unfolding(amr_payload::specs::Tests::read_rows))]
-pub(crate) fn read_rows(
-    alloc: Global,
-    count: u32,
-    r: &mut Reader<'_>,
-) -> Result<Vec<Row>, CodecFault>
+pub fn read_rows(alloc: Global, count: u32, r: &mut Reader<'_>) -> Result<Vec<Row>, CodecFault>
     ensures read { IfOk result (λ rows. read_rows count (left_of r.old) ≡ read rows.items (left_of r.new)) }
     ensures bad { IfErr result (IsFaultOf (read_rows count (left_of r.old))) }
 {

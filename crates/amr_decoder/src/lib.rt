@@ -1,16 +1,30 @@
-//! The decoder: a payload, a list of bytes, as the mesh of the state that it is of. Payload 1 has masses of 8 bytes, payload
-//! 2 of 4. Crate `amr_payload` has the tests that bytes are read by, and crate `amr_codec` the encoders.
+//! The fields of a payload, each read and tested as crate `amr_payload` defines it: the value that stands in the bytes, or
+//! the place of the first test that fails. Crate `amr_codec` has the encoders.
 //!
-//! - [`decode`], [`decode2`]: the mesh, or the place of the first test that fails.
+//! - [`Reader`]: the bytes that are left, number by number.
+//! - [`read_step`], [`read_rows`]: the step and the ledger.
+//! - [`read_level`]: a level's boxes, and their masses in patches.
+//!
+//! Levels aren't tested against one another here.
 #![tactic(auto)]
 
 mod apart;
 mod boxes;
 mod faults;
+mod fill;
 mod grid;
 mod grids;
 mod ledger;
+mod levels;
+mod made;
 mod masses;
 mod reader;
 
 pub use faults::CodecFault;
+pub use ledger::{read_rows, read_step};
+pub use levels::read_level;
+pub use masses::MassKind;
+pub use reader::Reader;
+
+#[cfg(test)]
+mod tests;

@@ -1,13 +1,13 @@
 //! The masses of a box.
 
-ghost use Rattle.std.specs.Prelude.{◌≡◌, ℕ, ◌+◌, ◌*◌, ◌≤◌, length, nat_le, OnOk, IfErr};
+ghost use Rattle.std.specs.Prelude.{◌≡◌, ℕ, ◌+◌, ◌*◌, ◌^◌, ◌<◌, ◌≤◌, length, nat_le, OnOk, IfErr};
 ghost use Rattle.std.specs.Int.{byte_len};
 ghost use Rattle.amr_codec.specs.MassWidths.{width_of};
 ghost use Rattle.amr_def.specs.Facts.{growth};
 ghost use Rattle.amr_payload.specs.Tests.{is_mass, read, read_masses};
 ghost use Rattle.amr_decoder.specs.Faults.{IsFaultOf};
 ghost use Rattle.amr_decoder.specs.Lefts.{left_of, whole_of};
-ghost use Rattle.amr_decoder.specs.Numbers.{numbers};
+ghost use Rattle.amr_decoder.specs.Numbers.{number_at, numbers};
 
 use crate::faults::CodecFault;
 use crate::reader::Reader;
@@ -16,9 +16,12 @@ use amr_def::Problem;
 
 /// How the masses of a level are read: how many bytes each takes, and the step and the level that bound them.
 #[derive(Clone, Copy)]
-pub(crate) struct MassKind {
+pub struct MassKind {
+    /// How many bytes a mass takes.
     pub width: MassWidth,
+    /// The step: 0 to 4096.
     pub step: u32,
+    /// The level: 0 to 4.
     pub level: u32,
 }
 
@@ -34,7 +37,8 @@ fn growth(max_level: u32) -> u64
 fn greatest_mass(p: &Problem, kind: MassKind) -> u64
     requires step { kind.step ≤ 4096 }
     requires level { kind.level ≤ 4 }
-    ensures { (m : ℕ) → is_mass p.now kind.step kind.level m ≡ nat_le m result }
+    ensures value { (m : ℕ) → is_mass p.now kind.step kind.level m ≡ nat_le m result }
+    ensures small { result < 2 ^ 32 }
 {
     let bound = (1 << 30) + growth(p.max_level) * (u64::from(kind.step) + 1);
     bound >> (2 * kind.level)
@@ -53,6 +57,7 @@ pub(crate) fn read_masses(
     ensures read { OnOk result (read_masses (width_of kind.width) p.now kind.step kind.level count (left_of r.old) ≡ read (numbers (width_of kind.width) count (left_of r.old).bytes) (left_of r.new)) }
     ensures bad { IfErr result (IsFaultOf (read_masses (width_of kind.width) p.now kind.step kind.level count (left_of r.old))) }
     ensures inside { OnOk result ((left_of r.old).place + byte_len (width_of kind.width) * count ≤ length (whole_of r.old)) }
+    ensures small { OnOk result ((i : ℕ) → i < count → number_at (width_of kind.width) (left_of r.old).bytes i < 2 ^ 32) }
     ensures whole { whole_of r.new ≡ whole_of r.old }
 {
     let greatest = greatest_mass(p, kind);

@@ -56,7 +56,7 @@ pub(crate) fn mass_len(width: MassWidth) -> usize
 /// The bytes of a payload, and the place of the next that is read. A number is read where it lies wholly inside the bytes;
 /// else it is bad at its place, and the reader stays there.
 #[derive(Clone, Copy)]
-pub(crate) struct Reader<'a> {
+pub struct Reader<'a> {
     bytes: &'a [u8],
     place: usize,
     ghost inside: { place ≤ length bytes.now },

@@ -7,7 +7,7 @@ use Rattle.amr_box.specs.Cells.{Extent}
 use Rattle.amr_codec.specs.MassWidths.{width_of}
 use Rattle.amr_payload.specs.Tests.{read, read_grid, read_grids}
 use Rattle.amr_decoder.specs.declared.grid.Grid.{Grid}
-use Rattle.amr_decoder.specs.Grids.{IsInside, grid_of}
+use Rattle.amr_decoder.specs.Grids.{HasSmallMasses, IsInside, grid_of}
 use Rattle.amr_decoder.specs.Lefts.{left_of, whole_of}
 use Rattle.amr_decoder.proofs.GridReadings.{grid_bad, grid_next, grids_end}
 use Rattle.amr_decoder.proofs.Lists.{all_read, also_all, bad_next, more}
@@ -45,6 +45,8 @@ loop-k-preserved c =
           ∙ ap (λ (gs : List Grid). also_all (map (grid_of w whole) gs) (read_grids w p n lev (c.args.count - (l._k + 1)) c.push.new.self e)) (sym c.in_ok-push-2.ensures.items);
       inside = subst (λ (gs : List Grid). All (IsInside w whole) gs) (sym c.in_ok-push-2.ensures.items)
           (All-push (IsInside w whole) l.grids.items g l.invariant.inside (subst (λ (bs : List ℕ). IsInside w bs g) l.invariant.whole c.in_ok-grid.ensures.inside));
+      small = subst (λ (gs : List Grid). All (HasSmallMasses w whole) gs) (sym c.in_ok-push-2.ensures.items)
+          (All-push (HasSmallMasses w whole) l.grids.items g l.invariant.small (subst (λ (bs : List ℕ). HasSmallMasses w bs g) l.invariant.whole c.in_ok-grid.ensures.small));
       whole = c.in_ok-grid.ensures.whole ∙ l.invariant.whole;
     }
 

@@ -1,0 +1,143 @@
+//! Masses of a payload, placed in the patches of a level. A row of a box is read at once, and a span of it is one look-up.
+
+ghost use Rattle.std.specs.Prelude.{◌≡◌, ℕ, ◌+◌, ◌*◌, ◌<◌, ◌≤◌, ◌^◌, pos, ◌+ℤ◌, ◌-ℤ◌, ◌≤ℤ◌, drop, length, map, IsTrue, OnOk};
+ghost use Rattle.std.specs.Int.{byte_len};
+ghost use Rattle.std.specs.List.{All};
+ghost use Rattle.amr_box.specs.declared.Cell.{Cell};
+ghost use Rattle.amr_box.specs.Cells.{cell, holds};
+ghost use Rattle.amr_codec.specs.MassWidths.{width_of};
+ghost use Rattle.amr_def.specs.State.{in_boxes};
+ghost use Rattle.amr_patch.specs.Orders.{IsOrderOf};
+ghost use Rattle.amr_patch.specs.Patches.{AreApart, ArePatchesApart, box, in_patches};
+ghost use Rattle.amr_decoder.specs.Filled.{AreFilled, IsFilled, IsPlaced, IsSpanSet};
+ghost use Rattle.amr_decoder.specs.Grids.{HasSmallMasses, IsInside, boxes_of, grid_of};
+ghost use Rattle.amr_decoder.specs.Numbers.{number_at, numbers};
+
+use crate::grid::Grid;
+use crate::reader::{mass_at, mass_len};
+use amr_box::{Cell, distance};
+use amr_causes::NoMemory;
+use amr_codec::{MassWidth, cell_in};
+use amr_patch::{Order, Patch, find};
+use std::alloc::Global;
+
+/// How many cells of the patch's row there are from a cell of it on.
+fn room_from(patch: &Patch, c: Cell) -> usize
+    requires { IsTrue (holds (box patch.now) c) }
+    ensures { pos result ≡ (box patch.now).hi.x +ℤ pos 1 -ℤ c.x }
+{
+    distance(c.x, patch.bx().hi().x) + 1
+}
+
+/// Gives the cells from one on their masses, as far as they stand in one patch, and says how many they are.
+fn set_span(patches: &mut [Patch], order: Order, c: Cell, masses: &[u32]) -> usize
+    requires order { IsOrderOf order patches.old }
+    requires apart { ArePatchesApart patches.old }
+    requires inside { IsTrue (in_patches patches.old c) }
+    requires some { 0 < length masses.now }
+    ensures some { 0 < result }
+    ensures within { result ≤ length masses.now }
+    ensures set { IsSpanSet c masses.now result patches.old patches.new }
+{
+    match find(patches, order, c) {
+        None => unreachable!(),
+        Some(k) => {
+            let patch = &mut patches[k];
+            let count = room_from(patch, c).min(masses.len());
+            patch.set_masses(c, &masses[..count]);
+            count
+        }
+    }
+}
+
+/// Gives the cells of a row from one on their masses.
+fn set_row(patches: &mut [Patch], order: Order, c: Cell, masses: &[u32])
+    requires order { IsOrderOf order patches.old }
+    requires apart { ArePatchesApart patches.old }
+    requires inside { (k : ℕ) → k < length masses.now → IsTrue (in_patches patches.old (cell (c.x +ℤ pos k) c.y)) }
+    requires west { pos 0 ≤ℤ c.x }
+    requires east { (c.x +ℤ pos (length masses.now)) ≤ℤ pos 16777217 }
+    requires south { pos 0 ≤ℤ c.y }
+    requires north { c.y ≤ℤ pos 16777217 }
+    ensures { IsSpanSet c masses.now (length masses.now) patches.old patches.new }
+{
+    let mut first = 0;
+    while first < masses.len() {
+        let next = Cell {
+            x: c.x + first as i32,
+            y: c.y,
+        };
+        first += set_span(patches, order, next, &masses[first..]);
+    }
+}
+
+/// The `count` masses from a place on, in place of what the row had.
+fn read_row(
+    bytes: &[u8],
+    width: MassWidth,
+    from: usize,
+    count: usize,
+    row: &mut Vec<u32>,
+) -> Result<(), NoMemory>
+    requires inside { from + byte_len (width_of width) * count ≤ length bytes.now }
+    requires small { (i : ℕ) → i < count → number_at (width_of width) (drop from bytes.now) i < 2 ^ 32 }
+    ensures { OnOk result (row.new.items ≡ numbers (width_of width) count (drop from bytes.now)) }
+{
+    row.clear();
+    let len = mass_len(width);
+    for i in 0..count {
+        row.push(mass_at(bytes, from + len * i, width) as u32)?;
+    }
+    Ok(())
+}
+
+/// Gives the cells of a box their masses, row by row.
+fn fill_box(
+    patches: &mut [Patch],
+    order: Order,
+    bytes: &[u8],
+    width: MassWidth,
+    grid: &Grid,
+    row: &mut Vec<u32>,
+) -> Result<(), NoMemory>
+    requires order { IsOrderOf order patches.old }
+    requires apart { ArePatchesApart patches.old }
+    requires cells { (c : Cell) → IsTrue (holds grid.now.bx c) → IsTrue (in_patches patches.old c) }
+    requires placed { IsPlaced grid.now.bx }
+    requires inside { IsInside (width_of width) bytes.now grid.now }
+    requires small { HasSmallMasses (width_of width) bytes.now grid.now }
+    ensures { OnOk result (IsFilled (grid_of (width_of width) bytes.now grid.now) patches.old patches.new) }
+{
+    let columns = grid.bx.width() as usize;
+    let len = mass_len(width) * columns;
+    for j in 0..grid.bx.height() {
+        read_row(bytes, width, grid.from + len * j as usize, columns, row)?;
+        set_row(patches, order, cell_in(&grid.bx, j, 0), row);
+    }
+    Ok(())
+}
+
+/// Gives the cells of all boxes their masses.
+pub(crate) fn fill_boxes(
+    alloc: Global,
+    patches: &mut [Patch],
+    order: Order,
+    bytes: &[u8],
+    width: MassWidth,
+    grids: &[Grid],
+) -> Result<(), NoMemory>
+    requires order { IsOrderOf order patches.old }
+    requires apart { ArePatchesApart patches.old }
+    requires disjoint { AreApart (boxes_of grids.now) }
+    requires cells { (c : Cell) → IsTrue (in_boxes (boxes_of grids.now) c) → IsTrue (in_patches patches.old c) }
+    requires placed { All IsPlaced (boxes_of grids.now) }
+    requires inside { All (IsInside (width_of width) bytes.now) grids.now }
+    requires small { All (HasSmallMasses (width_of width) bytes.now) grids.now }
+    ensures { OnOk result (AreFilled (map (grid_of (width_of width) bytes.now) grids.now) patches.old patches.new) }
+{
+    let mut row = Vec::new(alloc);
+    for grid in grids {
+        fill_box(patches, order, bytes, width, grid, &mut row)?;
+    }
+    Ok(())
+}
