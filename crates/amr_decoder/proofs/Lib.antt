@@ -8,3 +8,4 @@ pub mod GridReadings
 pub mod Filling
 pub mod GridBoxes
 pub mod LevelReadings
+pub mod Stacked

@@ -1,5 +1,5 @@
 -- Masses, read one after another.
-use Rattle.std.proofs.Common.{◌≡◌, ℕ, zero, suc, ◌+◌, ◌-◌, ◌*◌, ◌/◌, ◌%◌, ◌^◌, ◌<◌, ◌≤◌, pow_pos, mul_comm, mul_assoc, mul-add, Bool, true, false, List, [], ◌∷◌, ◌++◌, length, drop, map, refl, sym, ap, ◌∙◌, arith, drop-drop}
+use Rattle.std.proofs.Common.{◌≡◌, ℕ, zero, suc, ◌+◌, ◌-◌, ◌*◌, ◌/◌, ◌^◌, ◌<◌, ◌≤◌, pow_pos, mul_comm, mul_assoc, mul-add, Bool, true, false, List, [], ◌∷◌, ◌++◌, length, drop, map, refl, sym, ap, ◌∙◌, arith, drop-drop}
 use Rattle.std.specs.Prelude.{nat_le, slice_index}
 use Rattle.std.specs.Int.{Width, byte_len, from_le_bytes}
 use Rattle.std.specs.List.{range_with_len}
@@ -8,7 +8,7 @@ use Rattle.std.proofs.lemmas.Nat.{div-add-mod', le-div}
 use Rattle.std.proofs.Math.Nat.{mul-le-mul_left, mul-le-mul_right}
 use Rattle.std.proofs.lemmas.List.FromFn.{get_or-map-range_with_len, length-map-range_with_len, map-range_with_len_more}
 use Rattle.amr_def.specs.declared.problem.Problem.{Problem}
-use Rattle.amr_payload.specs.Tests.{Left, Reading, bad, read, then_read, tested, read_also, after, is_mass, read_number, read_mass, read_masses}
+use Rattle.amr_payload.specs.Tests.{Left, bad, read, then_read, tested, read_also, after, is_mass, read_number, read_mass, read_masses}
 use Rattle.amr_payload.proofs.Readings.{was_tested}
 use Rattle.amr_decoder.specs.declared.faults.CodecFault.{CodecFault}
 use Rattle.amr_decoder.specs.Faults.{IsFaultOf}

@@ -6,3 +6,4 @@ pub mod Grids
 pub mod Lefts
 pub mod Numbers
 pub mod ReadLevels
+pub mod Synced

@@ -4,8 +4,7 @@
 //! - [`Reader`]: the bytes that are left, number by number.
 //! - [`read_step`], [`read_rows`]: the step and the ledger.
 //! - [`read_level`]: a level's boxes, and their masses in patches.
-//!
-//! Levels aren't tested against one another here.
+//! - [`stands_over`]: whether a level is nested in the one below it and in sync with it.
 #![tactic(auto)]
 
 mod apart;
@@ -19,12 +18,15 @@ mod levels;
 mod made;
 mod masses;
 mod reader;
+mod stands;
+mod sync;
 
 pub use faults::CodecFault;
 pub use ledger::{read_rows, read_step};
 pub use levels::read_level;
 pub use masses::MassKind;
 pub use reader::Reader;
+pub use stands::stands_over;
 
 #[cfg(test)]
 mod tests;

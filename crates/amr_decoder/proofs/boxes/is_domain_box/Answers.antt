@@ -1,4 +1,4 @@
-use Rattle.std.proofs.Common.{◌≡◌, ◌-◌, ◌≤◌, ◌<◌, ◌∙◌, ap, subst, ℕ, sym, arith, ◌&&◌, pos}
+use Rattle.std.proofs.Common.{◌-◌, ◌≤◌, ◌∙◌, ap, arith, ◌&&◌}
 use Rattle.std.specs.Prelude.{nat_eq}
 use Rattle.amr_def.specs.Domain.{domain_of}
 use Rattle.amr_decoder.proofs.BoxTests.{at_corners, last_column, same_number, some_cells}

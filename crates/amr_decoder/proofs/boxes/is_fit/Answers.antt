@@ -1,4 +1,4 @@
-use Rattle.std.proofs.Common.{◌≡◌, ◌∙◌, ap, sym, [], ◌&&◌}
+use Rattle.std.proofs.Common.{◌∙◌, ap, sym, ◌&&◌}
 use Rattle.amr_def.specs.Domain.{Domain, domain_box}
 use Rattle.amr_payload.specs.Tests.{is_aligned, is_proper, is_same_box, lies_in}
 use Rattle.amr_decoder.specs.Boxes.{box_at}

@@ -3,12 +3,11 @@ use Rattle.std.specs.Prelude.{IsTrue, slice_index}
 use Rattle.std.specs.Int.{byte_len}
 use Rattle.std.proofs.lemmas.Int.{ints}
 use Rattle.amr_box.specs.declared.Cell.{Cell}
-use Rattle.amr_box.specs.Cells.{cell, height, holds, width}
+use Rattle.amr_box.specs.Cells.{cell, height, width}
 use Rattle.amr_codec.specs.MassWidths.{width_of}
 use Rattle.amr_patch.specs.Patches.{in_patches}
-use Rattle.amr_patch.proofs.Rows.{place_within, sides}
+use Rattle.amr_patch.proofs.Rows.{place_within}
 use Rattle.amr_patch.proofs.Standing.{order_of_boxes}
-use Rattle.amr_decoder.specs.Filled.{IsSpanSet}
 use Rattle.amr_decoder.specs.Grids.{grid_of}
 use Rattle.amr_decoder.specs.Numbers.{number_at, numbers}
 use Rattle.amr_decoder.proofs.Filling.{all_rows, boxes_apart, held_at, in_same_boxes, no_rows, row_filled}

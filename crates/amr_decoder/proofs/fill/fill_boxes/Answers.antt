@@ -1,6 +1,5 @@
-use Rattle.std.proofs.Common.{◌≡◌, ◌∙◌, ◌++◌, ◌∷◌, [], ◌+◌, true, ℕ, List, map, take, sym, ap, subst, length, arith}
+use Rattle.std.proofs.Common.{◌∙◌, List, map, take, sym, ap, subst, arith}
 use Rattle.std.proofs.lemmas.List.{length-map}
-use Rattle.amr_box.specs.declared.Cell.{Cell}
 use Rattle.amr_box.specs.Cells.{Extent}
 use Rattle.amr_codec.specs.MassWidths.{width_of}
 use Rattle.amr_def.specs.State.{in_boxes}
@@ -8,7 +7,7 @@ use Rattle.amr_patch.proofs.Standing.{order_of_boxes}
 use Rattle.amr_payload.specs.Tests as tests
 use Rattle.amr_decoder.specs.declared.grid.Grid.{Grid}
 use Rattle.amr_decoder.specs.Filled.{AreFilled, IsPlaced}
-use Rattle.amr_decoder.specs.Grids.{boxes_of, grid_of}
+use Rattle.amr_decoder.specs.Grids.{grid_of}
 use Rattle.amr_decoder.proofs.Filling.{box_filled, boxes_apart, in_same_boxes}
 use Rattle.amr_decoder.proofs.GridBoxes.{apart_before, box_at_place, boxes_of_grids, in_grids, one_more}
 use Rattle.amr_decoder.proofs.fill.fill_boxes.Goals as goal

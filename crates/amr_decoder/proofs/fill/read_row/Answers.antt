@@ -1,5 +1,5 @@
-use Rattle.std.proofs.Common.{◌≡◌, ◌∙◌, ◌+◌, ◌*◌, ◌<◌, ◌++◌, ◌∷◌, [], ℕ, List, drop, sym, ap, arith}
-use Rattle.std.specs.Int.{byte_len, from_le_bytes}
+use Rattle.std.proofs.Common.{◌≡◌, ◌∙◌, ◌+◌, ◌*◌, ◌++◌, ◌∷◌, [], drop, ap, arith}
+use Rattle.std.specs.Int.{from_le_bytes}
 use Rattle.amr_codec.specs.MassWidths.{width_of}
 use Rattle.amr_decoder.specs.Numbers.{number_at, numbers}
 use Rattle.amr_decoder.proofs.MassReadings.{number_here, numbers_push}

@@ -1,4 +1,4 @@
-use Rattle.std.proofs.Common.{◌≡◌, ◌∙◌, ◌+◌, ◌≤◌, ◌<◌, ◌-◌, ℕ, List, pos, ◌+ℤ◌, take, drop, length, length-drop, sym, ap, subst, arith}
+use Rattle.std.proofs.Common.{◌≡◌, ◌∙◌, ◌-◌, ℕ, List, pos, ◌+ℤ◌, take, drop, length, length-drop, sym, ap, subst, arith}
 use Rattle.std.specs.Prelude.{IsTrue}
 use mir.Val.{to_z, of_z}
 use mir.Syntax.{w32}

@@ -1,4 +1,4 @@
-use Rattle.std.proofs.Common.{◌≡◌, ℕ, ◌≤◌, ◌<◌, length, length-take, arith, pos, ◌+ℤ◌, ◌≤ℤ◌}
+use Rattle.std.proofs.Common.{ℕ, length-take, arith}
 use Rattle.std.proofs.lemmas.Int.{ints}
 use Rattle.amr_decoder.proofs.Filling.{span_set}
 use Rattle.amr_decoder.proofs.fill.set_span.Goals as goal

@@ -1,4 +1,4 @@
-use Rattle.std.proofs.Common.{◌≡◌, ◌∙◌, ◌<◌, ◌^◌, ℕ, List, drop, ap, subst, arith}
+use Rattle.std.proofs.Common.{◌∙◌, ◌<◌, ◌^◌, ℕ, List, drop, ap, subst, arith}
 use Rattle.amr_codec.specs.MassWidths.{width_of}
 use Rattle.amr_decoder.specs.Numbers.{number_at}
 use Rattle.amr_decoder.proofs.grids.read_grid.Goals as goal

@@ -1,6 +1,6 @@
-use Rattle.std.proofs.Common.{◌≡◌, ◌∙◌, sym}
+use Rattle.std.proofs.Common.{◌∙◌, sym}
 use Rattle.amr_box.specs.Cells.{Extent}
-use Rattle.std.proofs.Common.{ap, ◌&&◌, List}
+use Rattle.std.proofs.Common.{ap, ◌&&◌}
 use Rattle.std.specs.Prelude.{nat_lt}
 use Rattle.std.specs.List.{list_any}
 use Rattle.amr_payload.specs.Tests.{meets}

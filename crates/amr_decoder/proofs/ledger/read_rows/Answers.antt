@@ -1,8 +1,7 @@
-use Rattle.std.proofs.Common.{◌≡◌, ◌+◌, ◌-◌, List, arith, sym, ap, ◌∙◌}
+use Rattle.std.proofs.Common.{◌+◌, ◌-◌, List, arith, sym, ap, ◌∙◌}
 use Rattle.std.proofs.lemmas.Result.{err_from_is_err_and}
 use Rattle.amr_def.specs.declared.problem.Row.{Row}
 use Rattle.amr_payload.specs.Tests.{read_rows, read_rows_after}
-use Rattle.amr_decoder.specs.Faults.{IsFaultOf}
 use Rattle.amr_decoder.specs.Lefts.{left_of}
 use Rattle.amr_decoder.proofs.Lists.{all_read, also_all, bad_next, more}
 use Rattle.amr_decoder.proofs.Rows.{row_bad, row_next, rows_end}

@@ -1,4 +1,4 @@
-use Rattle.std.proofs.Common.{◌≡◌, ◌*◌, ◌^◌, ◌≤◌, ◌<◌, arith}
+use Rattle.std.proofs.Common.{◌*◌, arith}
 use Rattle.std.proofs.lemmas.Nat.{mul-le}
 use Rattle.amr_decoder.proofs.LevelReadings.{few_cells}
 use Rattle.amr_decoder.proofs.levels.cells_of_level.Goals as goal

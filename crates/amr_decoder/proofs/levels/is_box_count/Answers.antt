@@ -1,4 +1,4 @@
-use Rattle.std.proofs.Common.{◌≡◌, ◌∙◌, ◌-◌, ap, suc, arith}
+use Rattle.std.proofs.Common.{◌≡◌, ◌∙◌, ◌-◌, suc, arith}
 use Rattle.amr_def.specs.Limits.{between}
 use Rattle.amr_decoder.proofs.LevelReadings.{one_box, some_boxes}
 use Rattle.amr_decoder.proofs.levels.is_box_count.Goals as goal

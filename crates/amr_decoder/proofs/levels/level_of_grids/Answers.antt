@@ -1,4 +1,4 @@
-use Rattle.std.proofs.Common.{◌≡◌, ◌<◌, ◌≤◌, List, map, sym, subst, arith}
+use Rattle.std.proofs.Common.{◌≡◌, ◌<◌, List, map, sym, subst, arith}
 use Rattle.std.specs.List.{All}
 use Rattle.std.proofs.lemmas.Result.{IfOk-weaker}
 use Rattle.amr_box.specs.Cells.{Extent}

@@ -1,4 +1,4 @@
-use Rattle.std.proofs.Common.{◌≡◌, ◌∙◌, ◌<◌, [], ℕ, true, List, map, drop, sym, ap, subst, arith}
+use Rattle.std.proofs.Common.{◌≡◌, ◌∙◌, [], ℕ, true, List, map, drop, sym, ap, subst, arith}
 use Rattle.std.specs.List.{All}
 use Rattle.amr_codec.specs.MassWidths.{width_of}
 use Rattle.amr_def.specs.State.{Level}
@@ -8,7 +8,6 @@ use Rattle.amr_payload.proofs.Readings.{AreBytes}
 use Rattle.amr_decoder.specs.declared.grid.Grid.{Grid}
 use Rattle.amr_decoder.specs.Grids.{HasSmallMasses, IsInside, grid_of}
 use Rattle.amr_decoder.specs.Lefts.{left_of, whole_of}
-use Rattle.amr_decoder.specs.ReadLevels.{IsReadLevel}
 use Rattle.amr_decoder.proofs.LevelReadings.{bytes_after, level_read}
 use Rattle.amr_decoder.proofs.levels.read_level.Goals as goal
 

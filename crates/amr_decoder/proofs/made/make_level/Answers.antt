@@ -1,4 +1,4 @@
-use Rattle.std.proofs.Common.{◌≡◌, ◌∙◌, ◌||◌, Bool, true, false, List, cond, map, refl, ap, sym, subst}
+use Rattle.std.proofs.Common.{◌≡◌, ◌∙◌, Bool, List, cond, map, ap, sym, subst}
 use Rattle.std.specs.Prelude.{IsTrue, is_some}
 use Rattle.std.specs.List.{flat_map}
 use Rattle.std.specs.List.Sorted.{IsPermutation}
@@ -10,15 +10,12 @@ use Rattle.amr_box.specs.declared.Cell.{Cell}
 use Rattle.amr_box.specs.Cells.{Extent}
 use Rattle.amr_boxlist.specs.Chopped.{chopped}
 use Rattle.amr_codec.specs.MassWidths.{width_of}
-use Rattle.amr_def.specs.State.{Level, Masses, in_boxes}
+use Rattle.amr_def.specs.State.{Masses, in_boxes}
 use Rattle.amr_patch.specs.declared.patches.Patch.{Patch}
-use Rattle.amr_patch.specs.declared.lookup.Order.{Order}
 use Rattle.amr_patch.specs.Levels.{level_of, patches_of}
 use Rattle.amr_patch.specs.Orders.{IsOrderOf}
 use Rattle.amr_patch.specs.Patches.{ArePatchesApart, box, in_patches, masses_in}
 use Rattle.amr_patch.proofs.Standing.{order_of_boxes}
-use Rattle.amr_payload.specs.Tests as tests
-use Rattle.amr_decoder.specs.declared.grid.Grid.{Grid}
 use Rattle.amr_decoder.specs.Filled.{AreFilled}
 use Rattle.amr_decoder.specs.Grids.{boxes_of, grid_of}
 use Rattle.amr_decoder.proofs.Filling.{boxes_apart}

@@ -1,4 +1,4 @@
-use Rattle.std.proofs.Common.{◌≡◌, ℕ, ◌+◌, ◌*◌, ◌/◌, ◌^◌, ◌≤◌, ◌∙◌, sym, ap, arith}
+use Rattle.std.proofs.Common.{◌+◌, ◌*◌, ◌/◌, ◌^◌, ◌≤◌, ◌∙◌, sym, arith}
 use Rattle.std.proofs.lemmas.Nat.{mul-le, shr_le}
 use Rattle.std.specs.Prelude.{nat_le}
 use Rattle.amr_def.specs.Facts.{growth}

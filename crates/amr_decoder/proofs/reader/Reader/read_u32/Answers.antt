@@ -1,4 +1,4 @@
-use Rattle.std.proofs.Common.{◌≡◌, ◌+◌, ◌-◌, ◌<◌, ◌≤◌, ℕ, length, length-drop, arith}
+use Rattle.std.proofs.Common.{length-drop, arith}
 use Rattle.std.specs.Int.{w32}
 use Rattle.amr_decoder.specs.Lefts.{left_of}
 use Rattle.amr_decoder.proofs.Readings.{number_bad, number_read}
