@@ -1,0 +1,9 @@
+pub mod Passing
+pub mod Placing
+pub mod Numbers
+pub mod Edges
+pub mod Going
+pub mod LevelPlaces
+pub mod Joined
+pub mod Planned
+pub mod Taken

@@ -1,0 +1,38 @@
+use Rattle.std.proofs.Common.{◌≡◌, ℕ, ◌+◌, ◌*◌, List, length, map, sym, ap, ◌∙◌, arith}
+use Rattle.std.specs.Option.{option_copied}
+use Rattle.std.specs.List.{range_with_len}
+use Rattle.std.specs.Global.{Vec}
+use Rattle.std.proofs.lemmas.List.FromFn.{length-range_with_len}
+use Rattle.amr_def.specs.Domain.{Domain, domain, domain_of}
+use Rattle.amr_patch.specs.Patches.{box}
+use Rattle.amr_layout.specs.declared.PutAt.{PutAt}
+use Rattle.amr_layout.specs.declared.TaskLayout.{TaskLayout}
+use Rattle.amr_layout.specs.Surroundings.{around}
+use Rattle.amr_layout.specs.Places.{border_places, puts_of}
+use Rattle.amr_layout.proofs.Planned.{image_length, lots_are, planned}
+use Rattle.amr_layout.proofs.layouts.plan.Goals as goal
+
+pub tasks_of-requires-clause-borders : goal.tasks_of-requires-clause-borders
+tasks_of-requires-clause-borders c =
+    let ps = c.args.patches.now in
+    ap (λ (l : List (Vec ℕ)). length l) c.deref_mut-2.ensures.value
+    ∙ image_length (λ (v : Vec ℕ). v.items) (border_places (domain_of c.domain.result) ps) c.in_ok-places.borders.items (range_with_len 0 (length ps)) c.in_ok-places.ensures.borders ∙ length-range_with_len 0 (length ps)
+
+pub returns-clause-puts : goal.returns-clause-puts
+returns-clause-puts c =
+    let ps = c.args.patches.now in
+    c.in_ok-tasks.ensures.puts ∙ ap (map (λ (v : Vec PutAt). v.items)) c.deref_mut.ensures.value ∙ lots_are (domain_of c.domain.result) ps c.in_ok-places.places.count c.in_ok-places.places.lots.items c.in_ok-places.ensures.put
+    ∙ ap (λ (d : Domain). map (λ q. puts_of d ps (box q)) ps) c.domain.ensures
+
+pub returns-clause-plan : goal.returns-clause-plan
+returns-clause-plan c = λ size small.
+    let ps = c.args.patches.now in
+    let d = domain_of c.domain.result in
+    planned (around c.args.p.now c.args.l ps c.args.cells.now (option_copied c.args.finer)) d (record { places = c.in_ok-places.places.count; words = 2 + 2 * length c.args.cells.now; tasks = c.in_ok-tasks.tasks }) (record {
+      apart = c.requires.apart;
+      puts = c.in_ok-tasks.ensures.puts ∙ ap (map (λ (v : Vec PutAt). v.items)) c.deref_mut.ensures.value ∙ lots_are d ps c.in_ok-places.places.count c.in_ok-places.places.lots.items c.in_ok-places.ensures.put;
+      places = c.in_ok-places.ensures.put.places;
+      flows = c.in_ok-tasks.ensures.flows;
+      words = c.in_ok-tasks.ensures.words;
+      few = c.in_ok-check_faces.ensures;
+    }) size small

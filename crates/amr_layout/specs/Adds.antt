@@ -1,0 +1,100 @@
+-- The faces whose flows are added to words: those of open sides to the ledger's, those of coarse-fine edges to a register cell's.
+use Rattle.std.specs.Prelude.{◌≡◌, ℕ, ◌+◌, ◌*◌, ◌<◌, Bool, ◌&&◌, not, cond, pos, int_lt, List, [], ◌∷◌, ◌++◌, map, take, Contains, IsTrue}
+use Rattle.std.specs.List.{All, AllPairs, flat_map, position_or_len}
+use Rattle.std.specs.Ordering.{int_eq}
+use Rattle.amr_box.specs.declared.Cell.{Cell}
+use Rattle.amr_box.specs.declared.Face.{Face}
+use Rattle.amr_box.specs.Cells.{Extent, parent}
+use Rattle.amr_def.specs.Domain.{home_cell}
+use Rattle.amr_def.specs.State.{is_covered}
+use Rattle.amr_patch.specs.Patches.{box}
+use Rattle.amr_patch.specs.Orders.{comes_first}
+use Rattle.amr_flux.specs.Faces.{passing}
+use Rattle.amr_layout.specs.declared.AddAt.{AddAt}
+use Rattle.amr_layout.specs.declared.TaskLayout.{TaskLayout}
+use Rattle.amr_layout.specs.Surroundings.{Around, domain_around, edge_count, edge_face, inside, inward, is_coarse_fine, is_open, outside}
+
+-- the flow through a face goes to a word
+pub record FlowTo : Type 0 where
+  pub word : ℕ
+  pub face : Face
+
+abbrev pub flow_to : ℕ → Face → FlowTo
+flow_to w f = record { word = w; face = f }
+
+-- ---- the ledger
+
+-- whether a face is one of an open side, beside a cell that isn't covered: what flows there beside a covered cell is added by the
+-- finer level
+unfoldable pub is_ledger_face : Around → Extent → Face → Bool
+is_ledger_face s b f = is_open s b f && not (is_covered s.finer (inside b f))
+
+-- whether mass flows in through it, or out
+unfoldable pub is_inflow_face : Around → Extent → Face → Bool
+is_inflow_face s b f = is_ledger_face s b f && int_lt (pos 0) (inward s.problem s.level b f)
+
+unfoldable pub is_outflow_face : Around → Extent → Face → Bool
+is_outflow_face s b f = is_ledger_face s b f && int_lt (inward s.problem s.level b f) (pos 0)
+
+-- those on the edges of a box
+unfoldable pub inflow_faces : Around → Extent → List Face
+inflow_faces s b = passing (is_inflow_face s b) (edge_face b) (edge_count b)
+
+unfoldable pub outflow_faces : Around → Extent → List Face
+outflow_faces s b = passing (is_outflow_face s b) (edge_face b) (edge_count b)
+
+-- ---- register cells
+
+-- whether two cells are one
+abbrev pub same_cell : Cell → Cell → Bool
+same_cell a b = int_eq a.x b.x && int_eq a.y b.y
+
+-- the cell of the next coarser level on the other side of a face of the coarse-fine edge
+unfoldable pub cell_beyond : Around → Extent → Face → Cell
+cell_beyond s b f = parent (home_cell (domain_around s) (outside b f))
+
+-- the number of a register cell
+unfoldable pub number_of : List Cell → Cell → ℕ
+number_of cells c = position_or_len (same_cell c) cells
+
+-- register cell k has the gain at word 2 + 2k and the loss at word 3 + 2k. What flows out of the box is its gain.
+unfoldable pub word_of : Around → Extent → Face → ℕ
+word_of s b f =
+    cond (int_lt (inward s.problem s.level b f) (pos 0)) (2 + 2 * number_of s.cells (cell_beyond s b f)) (3 + 2 * number_of s.cells (cell_beyond s b f))
+
+-- whether mass flows through a face of the coarse-fine edge
+unfoldable pub is_exchange_face : Around → Extent → Face → Bool
+is_exchange_face s b f = is_coarse_fine s b f && not (int_eq (inward s.problem s.level b f) (pos 0))
+
+-- the flows of a box to register words: of such faces on its edges
+unfoldable pub register_flows : Around → Extent → List FlowTo
+register_flows s b = map (λ f. record { word = word_of s b f; face = f }) (passing (is_exchange_face s b) (edge_face b) (edge_count b))
+
+-- ---- all
+
+-- what flows through the faces on the edges of a box besides to its cells: to the ledger's inflow, word 0, to its outflow, word 1,
+-- and to register words
+unfoldable pub flows_of : Around → Extent → List FlowTo
+flows_of s b = map (flow_to 0) (inflow_faces s b) ++ (map (flow_to 1) (outflow_faces s b) ++ register_flows s b)
+
+-- what adds have of this, a face each
+abbrev pub flows_in : List AddAt → List FlowTo
+flows_in adds = flat_map (λ a. map (flow_to a.word) a.faces.items) adds
+
+-- the first two adds of a task are those to the ledger's words
+abbrev pub HasLedgerAdds : TaskLayout → Type 0
+HasLedgerAdds t = take 2 (map (λ a. a.word) t.adds.items) ≡ 0 ∷ 1 ∷ []
+
+-- ---- the list of register cells
+
+-- cells go by y, then by x, each once
+abbrev pub AreInOrder : List Cell → Type 0
+AreInOrder cells = AllPairs (λ a b. IsTrue (comes_first a b) × (IsTrue (same_cell a b) → ⊥)) cells
+
+-- the list has each cell of the next coarser level that lies on the other side of a face of the coarse-fine edge
+abbrev pub HasCellsBeyond : Around → Extent → Type 0
+HasCellsBeyond s b = (n : ℕ) → n < edge_count b → IsTrue (is_coarse_fine s b (edge_face b n)) → Contains s.cells (cell_beyond s b (edge_face b n))
+
+pub record HasRegisterCells (s : Around) : Type 0 where
+  pub ordered : AreInOrder s.cells
+  pub each : All (λ q. HasCellsBeyond s (box q)) s.patches

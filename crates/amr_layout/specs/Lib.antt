@@ -1,0 +1,5 @@
+pub mod Surroundings
+pub mod Places
+pub mod Adds
+pub mod Flows
+pub mod Posts

@@ -1,0 +1,255 @@
+//! The faces of a patch whose flows go to the ledger or to register cells.
+
+ghost use Rattle.std.specs.Prelude.{◌≡◌, ℕ, ◌+◌, ◌*◌, ◌≤◌, ◌<◌, ◌++◌, ◌^◌, ◌&&◌, not, [], ◌∷◌, cond, pos, int_lt, false, length, map, take, IfOk, OnOk, IsTrue, Contains};
+ghost use Rattle.std.specs.Option.{option_copied};
+ghost use Rattle.std.specs.List.{All};
+ghost use Rattle.amr_box.specs.Cells.{IsNear};
+ghost use Rattle.amr_def.specs.Domain.{domain, home_cell, in_domain};
+ghost use Rattle.amr_patch.specs.Patches.{ArePatchesApart, in_patches};
+ghost use Rattle.amr_patch.specs.Orders.{IsOrderOf};
+ghost use Rattle.amr_flux.specs.Faces.{IsInDomain};
+ghost use Rattle.amr_layout.specs.Surroundings.{IsInLines, IsNearFace, around, is_coarse_fine};
+ghost use Rattle.amr_layout.specs.Adds.{AreInOrder, HasCellsBeyond, cell_beyond, flow_to, flows_in, flows_of, inflow_faces, is_exchange_face, is_inflow_face, is_outflow_face, number_of, outflow_faces, register_flows, word_of};
+ghost use Rattle.amr_layout.specs.Flows.{IsAtHome, IsToWord, is_coarser, is_inflow, is_outflow, is_outside, is_register, word_in};
+
+use crate::AddAt;
+use crate::faces::{edge_count, edge_face, inside, inward, outside};
+use crate::lookup::{is_covered, look_up};
+use crate::registers::number_of;
+use amr_box::{Bx, Cell, Face, parent};
+use amr_causes::NoMemory;
+use amr_def::Problem;
+use amr_patch::{Level, Order, Patch};
+use std::alloc::Global;
+
+/// A level with what lies around it.
+#[derive(Clone, Copy)]
+pub(crate) struct Surroundings<'a> {
+    pub(crate) problem: &'a Problem,
+    pub(crate) level: u32,
+    pub(crate) patches: &'a [Patch],
+    pub(crate) order: Order,
+    /// The register cells of the next coarser level, in their order.
+    pub(crate) cells: &'a [Cell],
+    pub(crate) finer: Option<&'a Level>,
+}
+
+/// Where the look-ups for a patch begin: among the patches of its level, and among those of the next finer one.
+#[derive(Clone, Copy)]
+pub(crate) struct Near {
+    pub(crate) level: usize,
+    pub(crate) finer: usize,
+}
+
+/// What a patch adds, as in its task's layout.
+#[derive(Drop)]
+pub(crate) struct Adds {
+    pub(crate) inflow: Vec<Face>,
+    pub(crate) outflow: Vec<Face>,
+    pub(crate) register: Vec<AddAt>,
+}
+
+/// What lies on the other side of a face on a patch's edges.
+#[derive(Clone, Copy)]
+pub(crate) enum Across {
+    /// Nothing: the outside of the domain.
+    Outside,
+    /// A cell of the level.
+    Level,
+    /// This cell of the domain, which the level doesn't have.
+    Coarser(Cell),
+}
+
+/// Where the flow through a face goes besides the cells.
+#[derive(Clone, Copy)]
+pub(crate) enum Flow {
+    /// Nowhere.
+    Kept,
+    /// It is an inflow of the ledger.
+    Inflow,
+    /// It is an outflow of the ledger.
+    Outflow,
+    /// To this word of a register cell.
+    Register(u32),
+}
+
+/// What lies at a cell beside a patch.
+fn beyond(s: Surroundings<'_>, near: &mut Near, c: Cell) -> Across
+    requires level { s.level ≤ 4 }
+    requires order { IsOrderOf s.order s.patches.now }
+    requires apart { ArePatchesApart s.patches.now }
+    ensures outside { is_outside result ≡ not (in_domain (domain s.entry.problem.now s.entry.level) (home_cell (domain s.entry.problem.now s.entry.level) c)) }
+    ensures coarser { is_coarser result ≡ (in_domain (domain s.entry.problem.now s.entry.level) (home_cell (domain s.entry.problem.now s.entry.level) c) && not (in_patches s.entry.patches.now (home_cell (domain s.entry.problem.now s.entry.level) c))) }
+    ensures home { IsAtHome result (home_cell (domain s.entry.problem.now s.entry.level) c) }
+{
+    let dom = s.problem.domain(s.level);
+    let home = dom.home_cell(c);
+    if !dom.in_domain(home) {
+        return Across::Outside;
+    }
+    match look_up(s.patches, s.order, &mut near.level, home) {
+        Some(_) => Across::Level,
+        None => Across::Coarser(home),
+    }
+}
+
+/// The word of a register cell for a flow out of the patch, its gain, or into the patch, its loss.
+fn word_of(cells: &[Cell], inward: i64, c: Cell) -> u32
+    requires ordered { AreInOrder cells.now }
+    requires few { length cells.now ≤ 2 ^ 30 }
+    requires there { Contains cells.now c }
+    ensures word { result ≡ cond (int_lt inward (pos 0)) (2 + 2 * number_of cells.now c) (3 + 2 * number_of cells.now c) }
+    ensures within { result < 2 + 2 * length cells.now }
+{
+    let k = number_of(cells, c) as u32;
+    if inward < 0 { 2 + 2 * k } else { 3 + 2 * k }
+}
+
+/// Where the flow through a face of an open side goes.
+fn ledger_flow(inward: i64, covered: bool) -> Flow
+    ensures inflow { is_inflow result ≡ (not covered && int_lt (pos 0) inward) }
+    ensures outflow { is_outflow result ≡ (not covered && int_lt inward (pos 0)) }
+    ensures register { is_register result ≡ false }
+{
+    if covered || inward == 0 {
+        return Flow::Kept;
+    }
+    if inward > 0 {
+        Flow::Inflow
+    } else {
+        Flow::Outflow
+    }
+}
+
+/// Where the flow through a face on the edges of a patch's box goes.
+fn flow_of(s: Surroundings<'_>, near: &mut Near, b: &Bx, f: Face) -> Flow
+    requires level { s.level ≤ 4 }
+    requires order { IsOrderOf s.order s.patches.now }
+    requires apart { ArePatchesApart s.patches.now }
+    requires ordered { AreInOrder s.cells.now }
+    requires few { length s.cells.now ≤ 2 ^ 30 }
+    requires line { IsInLines s.problem.now s.level f }
+    requires near { IsNearFace f }
+    requires there { IsTrue (is_coarse_fine (around s.problem.now s.level s.patches.now s.cells.now (option_copied s.finer)) b.now f) → Contains s.cells.now (cell_beyond (around s.problem.now s.level s.patches.now s.cells.now (option_copied s.finer)) b.now f) }
+    ensures inflow { is_inflow result ≡ is_inflow_face (around s.entry.problem.now s.entry.level s.entry.patches.now s.entry.cells.now (option_copied s.entry.finer)) b.now f }
+    ensures outflow { is_outflow result ≡ is_outflow_face (around s.entry.problem.now s.entry.level s.entry.patches.now s.entry.cells.now (option_copied s.entry.finer)) b.now f }
+    ensures register { is_register result ≡ is_exchange_face (around s.entry.problem.now s.entry.level s.entry.patches.now s.entry.cells.now (option_copied s.entry.finer)) b.now f }
+    ensures within { word_in result < 2 + 2 * length s.entry.cells.now }
+    ensures word { IsToWord result (word_of (around s.entry.problem.now s.entry.level s.entry.patches.now s.entry.cells.now (option_copied s.entry.finer)) b.now f) }
+{
+    let inward = inward(s.problem, s.level, b, f);
+    match beyond(s, near, outside(b, f)) {
+        Across::Level => Flow::Kept,
+        Across::Outside => {
+            let covered = is_covered(s.finer, &mut near.finer, inside(b, f));
+            ledger_flow(inward, covered)
+        }
+        Across::Coarser(home) => {
+            if inward == 0 {
+                return Flow::Kept;
+            }
+            Flow::Register(word_of(s.cells, inward, parent(home)))
+        }
+    }
+}
+
+/// The add of a face to the word of a register cell.
+fn register_add(alloc: Global, word: u32, f: Face) -> Result<AddAt, NoMemory>
+    ensures word { IfOk result (λ a. a.word ≡ word) }
+    ensures faces { IfOk result (λ a. a.faces.items ≡ f ∷ []) }
+{
+    let mut faces = Vec::new(alloc);
+    faces.push(f)?;
+    Ok(AddAt { word, faces })
+}
+
+/// Adds a face to the list that its flow goes to.
+fn add_face(alloc: Global, adds: &mut Adds, flow: Flow, f: Face) -> Result<(), NoMemory>
+    ensures inflow { OnOk result (adds.new.inflow.items ≡ adds.old.inflow.items ++ cond (is_inflow flow) (f ∷ []) []) }
+    ensures outflow { OnOk result (adds.new.outflow.items ≡ adds.old.outflow.items ++ cond (is_outflow flow) (f ∷ []) []) }
+    ensures register { OnOk result (flows_in adds.new.register.items ≡ flows_in adds.old.register.items ++ cond (is_register flow) (flow_to (word_in flow) f ∷ []) []) }
+    ensures words { (n : ℕ) → word_in flow < n → All (λ a. a.word < n) adds.old.register.items → OnOk result (All (λ a. a.word < n) adds.new.register.items) }
+{
+    match flow {
+        Flow::Kept => {}
+        Flow::Inflow => adds.inflow.push(f)?,
+        Flow::Outflow => adds.outflow.push(f)?,
+        Flow::Register(word) => adds.register.push(register_add(alloc, word, f)?)?,
+    }
+    Ok(())
+}
+
+/// Where the flows through the faces on the edges of a patch's box go.
+fn flows_beside(
+    alloc: Global,
+    s: Surroundings<'_>,
+    near: &mut Near,
+    b: &Bx,
+) -> Result<Adds, NoMemory>
+    requires level { s.level ≤ 4 }
+    requires order { IsOrderOf s.order s.patches.now }
+    requires apart { ArePatchesApart s.patches.now }
+    requires ordered { AreInOrder s.cells.now }
+    requires few { length s.cells.now ≤ 2 ^ 30 }
+    requires near { IsNear b.now }
+    requires inside { IsInDomain (domain s.problem.now s.level) b.now }
+    requires there { HasCellsBeyond (around s.problem.now s.level s.patches.now s.cells.now (option_copied s.finer)) b.now }
+    ensures inflow { IfOk result (λ adds. adds.inflow.items ≡ inflow_faces (around s.entry.problem.now s.entry.level s.entry.patches.now s.entry.cells.now (option_copied s.entry.finer)) b.now) }
+    ensures outflow { IfOk result (λ adds. adds.outflow.items ≡ outflow_faces (around s.entry.problem.now s.entry.level s.entry.patches.now s.entry.cells.now (option_copied s.entry.finer)) b.now) }
+    ensures register { IfOk result (λ adds. flows_in adds.register.items ≡ register_flows (around s.entry.problem.now s.entry.level s.entry.patches.now s.entry.cells.now (option_copied s.entry.finer)) b.now) }
+    ensures words { IfOk result (λ adds. All (λ a. a.word < 2 + 2 * length s.entry.cells.now) adds.register.items) }
+{
+    let mut adds = Adds {
+        inflow: Vec::new(alloc),
+        outflow: Vec::new(alloc),
+        register: Vec::new(alloc),
+    };
+    for n in 0..edge_count(b) {
+        let f = edge_face(b, n);
+        let flow = flow_of(s, near, b, f);
+        add_face(alloc, &mut adds, flow, f)?;
+    }
+    Ok(adds)
+}
+
+/// The adds of the task of a patch with this box.
+pub(crate) fn adds_of(
+    alloc: Global,
+    s: Surroundings<'_>,
+    near: &mut Near,
+    b: &Bx,
+) -> Result<Vec<AddAt>, NoMemory>
+    requires level { s.level ≤ 4 }
+    requires order { IsOrderOf s.order s.patches.now }
+    requires apart { ArePatchesApart s.patches.now }
+    requires ordered { AreInOrder s.cells.now }
+    requires few { length s.cells.now ≤ 2 ^ 30 }
+    requires near { IsNear b.now }
+    requires inside { IsInDomain (domain s.problem.now s.level) b.now }
+    requires there { HasCellsBeyond (around s.problem.now s.level s.patches.now s.cells.now (option_copied s.finer)) b.now }
+    ensures flows { IfOk result (λ adds. flows_in adds.items ≡ flows_of (around s.entry.problem.now s.entry.level s.entry.patches.now s.entry.cells.now (option_copied s.entry.finer)) b.now) }
+    ensures ledger { IfOk result (λ adds. take 2 (map (λ a. a.word) adds.items) ≡ 0 ∷ 1 ∷ []) }
+    ensures words { IfOk result (λ adds. All (λ a. a.word < 2 + 2 * length s.entry.cells.now) adds.items) }
+{
+    let Adds {
+        inflow,
+        outflow,
+        register,
+    } = flows_beside(alloc, s, near, b)?;
+    let mut adds = register;
+    adds.insert(
+        0,
+        AddAt {
+            word: 1,
+            faces: outflow,
+        },
+    )?;
+    adds.insert(
+        0,
+        AddAt {
+            word: 0,
+            faces: inflow,
+        },
+    )?;
+    Ok(adds)
+}

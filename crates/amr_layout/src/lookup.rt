@@ -1,0 +1,74 @@
+//! Look-ups that begin where the last one ended, so that a span of faces beside one patch takes one search.
+
+ghost use Rattle.std.specs.Prelude.{◌≡◌, ℕ, ◌<◌, ◌≤◌, pos, negsuc, ◌<ℤ◌, is_some, IfSome};
+ghost use Rattle.std.specs.Option.{option_copied};
+ghost use Rattle.amr_box.specs.Cells.{cell};
+ghost use Rattle.amr_def.specs.State.{is_covered};
+ghost use Rattle.amr_patch.specs.Levels.{level_of};
+ghost use Rattle.amr_patch.specs.Patches.{ArePatchesApart, in_patches};
+ghost use Rattle.amr_patch.specs.Orders.{IsHolder, IsOrderOf};
+ghost use Rattle.amr_layout.specs.Surroundings.{IsReachable, finer_masses};
+
+use amr_box::Cell;
+use amr_patch::{Level, Order, Patch, find};
+
+/// The number of the patch that has a cell, None exactly where none has it. It looks at patch `near` first, and leaves there
+/// what it found.
+pub(crate) fn look_up(patches: &[Patch], order: Order, near: &mut usize, c: Cell) -> Option<usize>
+    requires order { IsOrderOf order patches.now }
+    requires apart { ArePatchesApart patches.now }
+    ensures some { is_some result ≡ in_patches patches.now c }
+    ensures found { IfSome result (IsHolder patches.now c) }
+{
+    if let Some(k) = near_holder(patches, *near, c) {
+        return Some(k);
+    }
+    let found = find(patches, order, c);
+    if let Some(k) = found {
+        *near = k;
+    }
+    found
+}
+
+/// The number of the patch that has a cell, where that is `near`.
+fn near_holder(patches: &[Patch], near: usize, c: Cell) -> Option<usize>
+    ensures { IfSome result (IsHolder patches.now c) }
+{
+    if near >= patches.len() {
+        return None;
+    }
+    if patches[near].bx().holds(c) {
+        return Some(near);
+    }
+    None
+}
+
+/// Whether a level has the cell.
+fn has(level: &Level, near: &mut usize, x: i32, y: i32) -> bool
+    ensures { result ≡ is_some ((level_of level.now).masses (cell x y)) }
+{
+    look_up(level.patches(), level.order(), near, Cell { x, y }).is_some()
+}
+
+/// Whether a cell is the parent of one of the level.
+fn has_child(level: &Level, near: &mut usize, c: Cell) -> bool
+    requires { IsReachable c }
+    ensures { result ≡ is_covered (level_of level.now).masses c }
+{
+    let x = c.x + c.x;
+    let y = c.y + c.y;
+    let low = has(level, near, x, y) | has(level, near, x + 1, y);
+    let high = has(level, near, x, y + 1) | has(level, near, x + 1, y + 1);
+    low | high
+}
+
+/// Whether a cell is covered by the finer level, if there is one.
+pub(crate) fn is_covered(finer: Option<&Level>, near: &mut usize, c: Cell) -> bool
+    requires { IsReachable c }
+    ensures { result ≡ is_covered (finer_masses (option_copied finer.entry)) c }
+{
+    match finer {
+        None => false,
+        Some(level) => has_child(level, near, c),
+    }
+}

@@ -1,0 +1,40 @@
+//! The number of a register cell.
+
+ghost use Rattle.std.specs.Prelude.{◌≡◌, ◌<◌, ◌≤◌, length, true, false, Contains};
+ghost use Rattle.std.specs.List.Sorted.{IsPartitionPoint};
+ghost use Rattle.amr_patch.specs.Orders.{comes_first};
+ghost use Rattle.amr_layout.specs.Adds.{AreInOrder, number_of};
+
+use amr_box::Cell;
+
+/// Whether a cell comes before another, or is it, where cells go by y, then by x.
+fn comes_first(a: &Cell, b: Cell) -> bool
+    ensures { result ≡ comes_first a.now b }
+{
+    if a.y < b.y {
+        return true;
+    }
+    if b.y < a.y {
+        return false;
+    }
+    a.x <= b.x
+}
+
+/// How many cells come before this one or are it.
+fn count_up_to(cells: &[Cell], c: Cell) -> usize
+    requires { AreInOrder cells.now }
+    ensures within { result ≤ length cells.now }
+    ensures parts { IsPartitionPoint (λ a. comes_first a c ≡ true) (λ a. comes_first a c ≡ false) cells.now result }
+{
+    cells.partition_point(|a| comes_first(a, c))
+}
+
+/// The number of a cell of the list, by halving.
+pub(crate) fn number_of(cells: &[Cell], c: Cell) -> usize
+    requires ordered { AreInOrder cells.now }
+    requires there { Contains cells.now c }
+    ensures number { result ≡ number_of cells.now c }
+    ensures within { result < length cells.now }
+{
+    count_up_to(cells, c) - 1
+}
