@@ -7,3 +7,4 @@ pub mod LevelPlaces
 pub mod Joined
 pub mod Planned
 pub mod Taken
+pub mod Samples

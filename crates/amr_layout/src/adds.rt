@@ -74,7 +74,7 @@ pub(crate) enum Flow {
 }
 
 /// What lies at a cell beside a patch.
-fn beyond(s: Surroundings<'_>, near: &mut Near, c: Cell) -> Across
+pub(crate) fn beyond(s: Surroundings<'_>, near: &mut Near, c: Cell) -> Across
     requires level { s.level ≤ 4 }
     requires order { IsOrderOf s.order s.patches.now }
     requires apart { ArePatchesApart s.patches.now }

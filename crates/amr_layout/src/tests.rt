@@ -1,11 +1,22 @@
 //! Layouts of small levels: a ring in two patches, and a fine box in it, with and without an open side beside it.
 
-ghost use Rattle.std.specs.Prelude.{◌≡◌, ◌≤◌, IsTrue, true};
+ghost use Rattle.std.specs.Prelude.{◌≡◌, ℕ, ◌<◌, ◌≤◌, length, slice_index_or, IsTrue, Contains, true};
+ghost use Rattle.std.specs.Option.{option_copied};
+ghost use Rattle.std.specs.List.{All};
+ghost use Rattle.amr_box.specs.Cells.{IsNear};
+ghost use Rattle.amr_def.specs.Domain.{domain, domain_of};
 ghost use Rattle.amr_def.specs.Limits.{has_inflows};
+ghost use Rattle.amr_patch.specs.Orders.{IsOrderOf, comes_first};
+ghost use Rattle.amr_patch.specs.Patches.{ArePatchesApart, box};
+ghost use Rattle.amr_flux.specs.Faces.{IsInDomain};
+ghost use Rattle.amr_layout.specs.Adds.{AreInOrder, HasCellsBeyond, cell_beyond, same_cell};
+ghost use Rattle.amr_layout.specs.Surroundings.{IsNearFace, around, is_coarse_fine};
 
 use super::*;
-use amr_box::{Axis, Bx, Cell, Face};
-use amr_def::{Blocks, Name, Problem, Shear, Sides, Thresholds};
+use crate::adds::{Across, Near, Surroundings, beyond};
+use crate::faces::{edge_count, edge_face, outside};
+use amr_box::{Axis, Bx, Cell, Face, parent};
+use amr_def::{Blocks, Dom, Name, Problem, Shear, Sides, Thresholds};
 use amr_patch::{Level, Patch};
 use std::alloc::Global;
 use std::test::Fail;
@@ -51,8 +62,8 @@ fn ring(alloc: Global, x_sides: Sides) -> Result<Problem, Fail>
     })
 }
 
-/// The box from column `x0` to `x1` and from row `y0` to `y1`.
-fn box_of(x0: u8, y0: u8, x1: u8, y1: u8) -> Bx
+/// The level of one patch, from column `x0` to `x1` and from row `y0` to `y1`.
+fn level_of(alloc: Global, x0: u8, y0: u8, x1: u8, y1: u8) -> Result<Level, Fail>
     requires wide { x0 ≤ x1 }
     requires high { y0 ≤ y1 }
 {
@@ -64,13 +75,170 @@ fn box_of(x0: u8, y0: u8, x1: u8, y1: u8) -> Bx
         x: i32::from(x1),
         y: i32::from(y1),
     };
-    Bx::try_new(lo, hi).unwrap()
+    let b = Bx::try_new(lo, hi).unwrap();
+    let mut patches = Vec::new(alloc);
+    patches.push(Patch::make(alloc, b)?)?;
+    let mut level = Level::make(alloc, &[], &[])?;
+    level.put_patches(patches);
+    Ok(level)
 }
 
-/// The level of one box in one patch.
-fn level_of(alloc: Global, b: Bx) -> Result<Level, Fail> {
-    let boxes = vec![in alloc; b; 1]?;
-    Ok(Level::make(alloc, &boxes, &boxes)?)
+/// Whether a box lies in a domain.
+fn is_in_domain(dom: &Dom, b: &Bx) -> bool
+    ensures { result ≡ true → IsInDomain (domain_of dom.now) b.now }
+{
+    if !dom.in_domain(b.lo()) {
+        return false;
+    }
+    dom.in_domain(b.hi())
+}
+
+/// Whether patches lie in the domain of level `l`.
+fn are_in_domain(p: &Problem, l: u32, patches: &[Patch]) -> bool
+    requires { l ≤ 4 }
+    ensures { result ≡ true → All (λ q. IsInDomain (domain p.now l) (box q)) patches.now }
+{
+    let dom = p.domain(l);
+    for i in 0..patches.len() {
+        if !is_in_domain(&dom, &patches[i].bx()) {
+            return false;
+        }
+    }
+    true
+}
+
+/// Whether a cell comes before another, by y, then by x.
+fn is_before(a: Cell, b: Cell) -> bool
+    ensures { result ≡ true → IsTrue (comes_first a b) × (IsTrue (same_cell a b) → ⊥) }
+{
+    if a.y < b.y {
+        return true;
+    }
+    if b.y < a.y {
+        return false;
+    }
+    if a.x < b.x {
+        return true;
+    }
+    false
+}
+
+/// Whether the cells before place `j` come before that one.
+fn are_before(cells: &[Cell], j: usize) -> bool
+    requires { j < length cells.now }
+    ensures { result ≡ true → (i : ℕ) (d : Cell) → i < j → IsTrue (comes_first (slice_index_or cells.now i d) (slice_index_or cells.now j d)) × (IsTrue (same_cell (slice_index_or cells.now i d) (slice_index_or cells.now j d)) → ⊥) }
+{
+    for i in 0..j {
+        if !is_before(cells[i], cells[j]) {
+            return false;
+        }
+    }
+    true
+}
+
+/// Whether cells go by y, then by x, each once.
+fn are_in_order(cells: &[Cell]) -> bool
+    ensures { result ≡ true → AreInOrder cells.now }
+{
+    for j in 0..cells.len() {
+        if !are_before(cells, j) {
+            return false;
+        }
+    }
+    true
+}
+
+/// Whether a list has a cell.
+fn has_cell(cells: &[Cell], c: Cell) -> bool
+    ensures { result ≡ true → Contains cells.now c }
+{
+    for k in 0..cells.len() {
+        if cells[k].x == c.x {
+            if cells[k].y == c.y {
+                return true;
+            }
+        }
+    }
+    false
+}
+
+/// Whether the register cell on the other side of a face is in the list, if there is one.
+fn has_cell_beyond(s: Surroundings<'_>, near: &mut Near, b: &Bx, f: Face) -> bool
+    requires level { s.level ≤ 4 }
+    requires order { IsOrderOf s.order s.patches.now }
+    requires apart { ArePatchesApart s.patches.now }
+    requires near { IsNearFace f }
+    ensures { result ≡ true → IsTrue (is_coarse_fine (around s.entry.problem.now s.entry.level s.entry.patches.now s.entry.cells.now (option_copied s.entry.finer)) b.now f) → Contains s.entry.cells.now (cell_beyond (around s.entry.problem.now s.entry.level s.entry.patches.now s.entry.cells.now (option_copied s.entry.finer)) b.now f) }
+{
+    match beyond(s, near, outside(b, f)) {
+        Across::Outside => true,
+        Across::Level => true,
+        Across::Coarser(home) => has_cell(s.cells, parent(home)),
+    }
+}
+
+/// Whether each register cell beside a box is in the list.
+fn has_cells_beyond(s: Surroundings<'_>, near: &mut Near, b: &Bx) -> bool
+    requires level { s.level ≤ 4 }
+    requires order { IsOrderOf s.order s.patches.now }
+    requires apart { ArePatchesApart s.patches.now }
+    requires near { IsNear b.now }
+    ensures { result ≡ true → HasCellsBeyond (around s.entry.problem.now s.entry.level s.entry.patches.now s.entry.cells.now (option_copied s.entry.finer)) b.now }
+{
+    for n in 0..edge_count(b) {
+        if !has_cell_beyond(s, near, b, edge_face(b, n)) {
+            return false;
+        }
+    }
+    true
+}
+
+/// Whether each register cell beside a patch is in the list.
+fn have_cells_beyond(s: Surroundings<'_>) -> bool
+    requires level { s.level ≤ 4 }
+    requires order { IsOrderOf s.order s.patches.now }
+    requires apart { ArePatchesApart s.patches.now }
+    ensures { result ≡ true → All (λ q. HasCellsBeyond (around s.entry.problem.now s.entry.level s.entry.patches.now s.entry.cells.now (option_copied s.entry.finer)) (box q)) s.entry.patches.now }
+{
+    let mut near = Near { level: 0, finer: 0 };
+    for i in 0..s.patches.len() {
+        if !has_cells_beyond(s, &mut near, &s.patches[i].bx()) {
+            return false;
+        }
+    }
+    true
+}
+
+/// The layout of a level, if its patches and cells are such.
+fn layout_of(
+    alloc: Global,
+    p: &Problem,
+    l: u32,
+    level: &Level,
+    cells: &[Cell],
+    finer: Option<&Level>,
+) -> Result<Option<Layout>, Fail>
+    requires { l ≤ 4 }
+{
+    let patches = level.patches();
+    let s = Surroundings {
+        problem: p,
+        level: l,
+        patches,
+        order: level.order(),
+        cells,
+        finer,
+    };
+    if !are_in_domain(p, l, patches) {
+        return Ok(None);
+    }
+    if !are_in_order(cells) {
+        return Ok(None);
+    }
+    if !have_cells_beyond(s) {
+        return Ok(None);
+    }
+    Ok(Some(plan(alloc, p, l, patches, cells, finer)?))
 }
 
 fn puts_are(task: &TaskLayout, k: usize, place: u32, face: Face) -> bool {
@@ -89,9 +257,11 @@ fn adds_are(task: &TaskLayout, k: usize, word: u32, faces: &[Face]) -> bool {
 fn a_ring_with_a_fine_box(rt: HostRuntime) -> Result<(), Fail> {
     let alloc = rt.alloc();
     let p = ring(alloc, Sides::Periodic)?;
-    let coarse = level_of(alloc, box_of(0, 0, 3, 1))?;
-    let fine = level_of(alloc, box_of(4, 0, 5, 1))?;
-    let below = plan(alloc, &p, 0, coarse.patches(), &[], Some(&fine))?;
+    let coarse = level_of(alloc, 0, 0, 3, 1)?;
+    let fine = level_of(alloc, 4, 0, 5, 1)?;
+    let Some(below) = layout_of(alloc, &p, 0, &coarse, &[], Some(&fine))? else {
+        panic!(rt; "no level");
+    };
     assert_eq!(rt; below.places, 6);
     assert_eq!(rt; below.words, 2);
     for task in &below.tasks {
@@ -118,7 +288,9 @@ fn a_ring_with_a_fine_box(rt: HostRuntime) -> Result<(), Fail> {
         assert!(rt; adds_are(task, 0, 0, &[]) && adds_are(task, 1, 1, &[]));
     }
     let cells = [cell(1, 0), cell(3, 0), cell(2, 1)];
-    let above = plan(alloc, &p, 1, fine.patches(), &cells, None)?;
+    let Some(above) = layout_of(alloc, &p, 1, &fine, &cells, None)? else {
+        panic!(rt; "no level");
+    };
     assert_eq!(rt; above.places, 0);
     assert_eq!(rt; above.words, 8);
     for task in &above.tasks {
@@ -135,9 +307,11 @@ fn a_ring_with_a_fine_box(rt: HostRuntime) -> Result<(), Fail> {
 fn a_fine_box_at_an_open_side(rt: HostRuntime) -> Result<(), Fail> {
     let alloc = rt.alloc();
     let p = ring(alloc, Sides::Open(6, 0))?;
-    let coarse = level_of(alloc, box_of(0, 0, 3, 1))?;
-    let fine = level_of(alloc, box_of(0, 0, 1, 1))?;
-    let below = plan(alloc, &p, 0, coarse.patches(), &[], Some(&fine))?;
+    let coarse = level_of(alloc, 0, 0, 3, 1)?;
+    let fine = level_of(alloc, 0, 0, 1, 1)?;
+    let Some(below) = layout_of(alloc, &p, 0, &coarse, &[], Some(&fine))? else {
+        panic!(rt; "no level");
+    };
     assert_eq!(rt; below.places, 4);
     for task in &below.tasks {
         assert_eq!(rt; task.adds.len(), 2);
@@ -145,7 +319,9 @@ fn a_fine_box_at_an_open_side(rt: HostRuntime) -> Result<(), Fail> {
         assert!(rt; adds_are(task, 1, 1, &[x_face(4, 0), x_face(4, 1)]));
     }
     let cells = [cell(1, 0), cell(0, 1)];
-    let above = plan(alloc, &p, 1, fine.patches(), &cells, None)?;
+    let Some(above) = layout_of(alloc, &p, 1, &fine, &cells, None)? else {
+        panic!(rt; "no level");
+    };
     assert_eq!(rt; above.words, 6);
     for task in &above.tasks {
         assert_eq!(rt; task.adds.len(), 4);
