@@ -1,21 +1,20 @@
 -- The faces on the edges of a box, side by side.
-use Rattle.std.proofs.Common.{◌≡◌, ℕ, ◌+◌, ◌-◌, ◌*◌, ◌/◌, ◌^◌, ◌<◌, ◌≤◌, ◌⊎◌, inl, inr, Bool, true, false, cond, ℤ, pos, negsuc, ◌+ℤ◌, ◌-ℤ◌, ◌≤ℤ◌, ◌<ℤ◌, refl, sym, ap, subst, ◌∙◌, arith}
-use Rattle.std.specs.Prelude.{IsTrue, nat_lt}
+use Rattle.std.proofs.Common.{◌≡◌, ℕ, ◌+◌, ◌-◌, ◌*◌, ◌/◌, ◌^◌, ◌<◌, ◌≤◌, ◌⊎◌, inl, inr, Bool, true, false, cond, ℤ, pos, ◌+ℤ◌, ◌≤ℤ◌, ◌<ℤ◌, sym, ap, subst, ◌∙◌, arith}
+use Rattle.std.specs.Prelude.{nat_lt}
 use Rattle.std.proofs.lemmas.Int.{ints}
 use Rattle.std.proofs.lemmas.Bool.{cases_lt, lt-ltb, le-ltb}
-use Rattle.amr_box.specs.declared.Cell.{Cell}
 use Rattle.amr_box.specs.declared.Face.{Face}
 use Rattle.amr_box.specs.declared.Axis.{Axis}
 use Rattle.amr_box.specs.declared.Axis.TheVariants.{X, Y}
 use Rattle.amr_box.specs.Cells.{Extent, IsNear, height, holds, width}
 use Rattle.amr_def.specs.declared.problem.Problem.{Problem}
 use Rattle.amr_def.specs.Domain.{columns, domain, is_inside, is_periodic, rows, wrapped}
-use Rattle.amr_def.specs.Flux.{at_base, courant, courant_in, face, high_cell, low_cell, number_for}
+use Rattle.amr_def.specs.Flux.{at_base, courant, face, high_cell, low_cell, number_for}
 use Rattle.amr_def.proofs.Nesting.{in_domain-inside}
 use Rattle.amr_def.proofs.Flows.{wrapped_inside}
-use Rattle.amr_patch.proofs.Rows.{IsIn, is_inside as is_in, sides}
+use Rattle.amr_patch.proofs.Rows.{is_inside as is_in, sides}
 use Rattle.amr_flux.specs.Faces.{IsInDomain, x_end, y_end}
-use Rattle.amr_layout.specs.Surroundings.{IsInLines, IsNearFace, IsReachable, edge_count, edge_face, inside, line_count, line_of, outside, x_start, y_start}
+use Rattle.amr_layout.specs.Surroundings.{IsInLines, IsNearFace, IsReachable, edge_count, edge_face, inside, x_start, y_start}
 
 -- ---- which side a face lies on
 

@@ -1,12 +1,12 @@
 -- Where the flow through a face on the edges of a box goes.
-use Rattle.std.proofs.Common.{◌≡◌, ◌≢◌, ℕ, ◌+◌, ◌*◌, ◌<◌, Bool, true, false, ◌&&◌, cond, ℤ, pos, List, [], ◌∷◌, ◌++◌, map, refl, sym, ap, subst, ◌∙◌, add-one}
+use Rattle.std.proofs.Common.{◌≡◌, ℕ, ◌+◌, ◌*◌, Bool, true, false, ◌&&◌, cond, ℤ, pos, List, [], ◌∷◌, ◌++◌, map, refl, sym, ap, ◌∙◌}
 use Rattle.std.specs.Prelude.{not, int_lt}
 use Rattle.std.specs.Ordering.{int_eq}
 use Rattle.std.proofs.lemmas.List.{map-append}
 use Rattle.amr_box.specs.declared.Cell.{Cell}
 use Rattle.amr_box.specs.declared.Face.{Face}
 use Rattle.amr_box.specs.Cells.{Extent, parent}
-use Rattle.amr_box.proofs.CellEquality.{number_itself, same_number}
+use Rattle.amr_box.proofs.CellEquality.{same_number}
 use Rattle.amr_def.specs.Domain.{home_cell, in_domain}
 use Rattle.amr_def.specs.State.{is_covered}
 use Rattle.amr_patch.specs.Patches.{in_patches}

@@ -1,15 +1,15 @@
 -- The number of a register cell, by the number of cells that come before it or are it.
-use Rattle.std.proofs.Common.{◌≡◌, ℕ, zero, suc, ◌+◌, ◌-◌, ◌<◌, ◌≤◌, ◌⊎◌, inl, inr, Bool, true, false, ◌&&◌, List, length, get_or, refl, sym, ap, subst, ◌∙◌, arith, ℤ, ◌<ℤ◌, ◌≤ℤ◌}
-use Rattle.std.specs.Prelude.{Contains, not, slice_index_or, IsTrue}
+use Rattle.std.proofs.Common.{◌≡◌, ℕ, ◌+◌, ◌<◌, ◌≤◌, ◌⊎◌, inl, inr, Bool, true, false, List, length, get_or, refl, sym, ap, ◌∙◌, arith}
+use Rattle.std.specs.Prelude.{Contains, not}
 use Rattle.std.specs.List.{prefix_len}
 use Rattle.std.specs.List.Sorted.{IsPartitionPoint, IsPartitionedBy}
 use Rattle.std.proofs.lemmas.Int.{ints}
 use Rattle.std.proofs.lemmas.Bool.{cases_lt, cases_eq}
 use Rattle.std.proofs.lemmas.List.Sums.{prefix_len_passes, prefix_len_stops}
 use Rattle.amr_box.specs.declared.Cell.{Cell}
-use Rattle.amr_box.proofs.CellEquality.{coordinates_same, have_same_coordinates}
+use Rattle.amr_box.proofs.CellEquality.{coordinates_same}
 use Rattle.amr_patch.specs.Orders.{comes_first}
-use Rattle.amr_patch.proofs.Lookups.{comes_first-trans, comes_first-yes, same_default}
+use Rattle.amr_patch.proofs.Lookups.{comes_first-trans, comes_first-yes}
 use Rattle.amr_layout.specs.Adds.{AreInOrder, number_of, same_cell}
 
 itself : (c : Cell) → same_cell c c ≡ true

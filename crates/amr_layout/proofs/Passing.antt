@@ -1,5 +1,5 @@
 -- Faces that pass a test, one after another.
-use Rattle.std.proofs.Common.{◌≡◌, ℕ, zero, suc, ◌+◌, ◌≤◌, Bool, true, false, cond, List, [], ◌∷◌, ◌++◌, length, length-append, ap, add-one, arith}
+use Rattle.std.proofs.Common.{◌≡◌, ℕ, zero, suc, ◌+◌, ◌≤◌, Bool, true, false, cond, [], ◌∷◌, ◌++◌, length, length-append, ap, add-one, arith}
 use Rattle.amr_box.specs.declared.Face.{Face}
 use Rattle.amr_flux.specs.Faces.{passing}
 

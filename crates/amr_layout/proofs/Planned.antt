@@ -4,7 +4,6 @@ use Rattle.std.specs.List.{All, filter}
 use Rattle.std.specs.Global.{Vec}
 use Rattle.std.proofs.lemmas.Bool.{cases_lt}
 use Rattle.std.proofs.lemmas.List.{get_or-map, get_or_past, length-map}
-use Rattle.amr_box.specs.declared.Cell.{Cell}
 use Rattle.amr_box.specs.declared.Face.{Face}
 use Rattle.amr_box.specs.declared.Axis.TheVariants.{X}
 use Rattle.amr_box.specs.Cells.{Extent, holds}
@@ -12,10 +11,10 @@ use Rattle.amr_def.specs.Domain.{Domain}
 use Rattle.amr_def.specs.Flux.{face, high_cell}
 use Rattle.amr_patch.specs.declared.patches.Patch.{Patch}
 use Rattle.amr_patch.specs.Patches.{ArePatchesApart, box}
-use Rattle.amr_patch.proofs.Lookups.{one_patch, same_default}
+use Rattle.amr_patch.proofs.Lookups.{one_patch}
 use Rattle.amr_phase.specs.declared.plan.Post.{Post}
 use Rattle.amr_phase.specs.declared.plan.Task.{Task}
-use Rattle.amr_phase.specs.Plans.{IsLayout, IsPlan, PlanOf, PutsAreApart, added, adds_of, no_post, no_task, planned_total, put_at, puts_of as posts_at, total}
+use Rattle.amr_phase.specs.Plans.{IsPlan, PutsAreApart, added, adds_of, no_post, no_task, planned_total, put_at, puts_of as posts_at, total}
 use Rattle.amr_phase.proofs.Layouts.{layout_is_plan}
 use Rattle.amr_flux.specs.Faces.{passing}
 use Rattle.amr_layout.specs.declared.PutAt.{PutAt}

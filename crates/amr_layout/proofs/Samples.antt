@@ -1,5 +1,5 @@
 -- What tests find out of boxes and cells before they make a layout.
-use Rattle.std.proofs.Common.{◌≡◌, ℕ, Bool, true, ℤ, ◌≤ℤ◌, ◌<ℤ◌, IsTrue, ap, arith}
+use Rattle.std.proofs.Common.{◌≡◌, ℕ, true, ℤ, ◌≤ℤ◌, ◌<ℤ◌, IsTrue, ap, arith}
 use Rattle.std.proofs.lemmas.Int.{ints}
 use Rattle.std.proofs.lemmas.Bool.{and_from, and_parts}
 use Rattle.amr_box.specs.declared.Cell.{Cell}

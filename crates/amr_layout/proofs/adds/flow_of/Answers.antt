@@ -1,9 +1,9 @@
-use Rattle.std.proofs.Common.{◌≡◌, ◌+◌, ◌*◌, ◌<◌, Bool, true, false, ◌⊎◌, ℕ, ℤ, pos, length, sym, ap, subst, ◌∙◌, to_z, of_z, w64, arith}
+use Rattle.std.proofs.Common.{◌≡◌, sym, subst, ◌∙◌, to_z, of_z, w64, arith}
 use Rattle.std.specs.Prelude.{Contains}
 use Rattle.std.specs.Option.{option_copied}
 use Rattle.std.proofs.lemmas.Int.{ints}
 use Rattle.amr_box.specs.declared.Cell.{Cell}
-use Rattle.amr_layout.specs.Surroundings.{IsReachable, Around, around, inside, inward, is_coarse_fine, is_open, outside}
+use Rattle.amr_layout.specs.Surroundings.{IsReachable, around}
 use Rattle.amr_layout.specs.Adds.{cell_beyond}
 use Rattle.amr_layout.proofs.Edges.{inside_reachable}
 use Rattle.amr_layout.proofs.Going.{beyond_is, coarse_is, ledger_in, ledger_out, no_exchange, no_inflow, no_outflow, no_word, no_word_owed, none_flows, open_is, some_flows, word_is}

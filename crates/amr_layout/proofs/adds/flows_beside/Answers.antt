@@ -1,9 +1,9 @@
-use Rattle.std.proofs.Common.{◌≡◌, ◌+◌, ◌*◌, ◌<◌, ℕ, length, map, sym, ap, subst, ◌∙◌, arith}
+use Rattle.std.proofs.Common.{◌≡◌, ◌+◌, ◌*◌, length, map, sym, ap, subst, ◌∙◌, arith}
 use Rattle.std.specs.Option.{option_copied}
 use Rattle.amr_box.specs.declared.Face.{Face}
 use Rattle.amr_flux.specs.Faces.{passing}
-use Rattle.amr_layout.specs.Surroundings.{IsInLines, IsNearFace, around, edge_count, edge_face, is_coarse_fine}
-use Rattle.amr_layout.specs.Adds.{cell_beyond, flow_to, flows_in, inflow_faces, is_exchange_face, is_inflow_face, is_outflow_face, outflow_faces, register_flows, word_of}
+use Rattle.amr_layout.specs.Surroundings.{IsInLines, IsNearFace, around, edge_count, edge_face}
+use Rattle.amr_layout.specs.Adds.{flow_to, flows_in, inflow_faces, is_exchange_face, is_inflow_face, is_outflow_face, outflow_faces, register_flows, word_of}
 use Rattle.amr_layout.specs.Flows.{is_inflow, is_outflow}
 use Rattle.amr_layout.proofs.Edges.{edge_lines, edge_near}
 use Rattle.amr_layout.proofs.Going.{faces_more, flows_more}

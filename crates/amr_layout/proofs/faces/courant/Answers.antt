@@ -1,4 +1,4 @@
-use Rattle.std.proofs.Common.{◌≡◌, ℕ, ℤ, pos, sym, ap, ◌∙◌, to_z, of_z, w32, arith}
+use Rattle.std.proofs.Common.{◌≡◌, ℕ, pos, ◌∙◌, to_z, of_z, w32, arith}
 use Rattle.std.specs.Prelude.{unsigned_abs}
 use Rattle.std.proofs.lemmas.Int.{ints}
 use Rattle.amr_layout.proofs.Edges.{in_columns, in_rows, x_courant_is, y_courant_is}

@@ -1,4 +1,4 @@
-use Rattle.std.proofs.Common.{◌≡◌, Bool, true, false, ℤ, sym, ap, ◌∙◌, to_z, of_z, w32, w64, pos, ◌-ℤ◌, cond, arith}
+use Rattle.std.proofs.Common.{◌≡◌, true, false, sym, ap, ◌∙◌, to_z, of_z, w64, pos, ◌-ℤ◌, cond, arith}
 use Rattle.std.specs.Prelude.{neg_ℤ}
 use Rattle.std.proofs.lemmas.Int.{ints}
 use Rattle.amr_box.specs.Cells.{holds}

@@ -1,12 +1,11 @@
-use Rattle.std.proofs.Common.{◌≡◌, ℕ, ◌+◌, ◌*◌, List, length, map, sym, ap, ◌∙◌, arith}
+use Rattle.std.proofs.Common.{ℕ, ◌+◌, ◌*◌, List, length, map, ap, ◌∙◌}
 use Rattle.std.specs.Option.{option_copied}
 use Rattle.std.specs.List.{range_with_len}
 use Rattle.std.specs.Global.{Vec}
 use Rattle.std.proofs.lemmas.List.FromFn.{length-range_with_len}
-use Rattle.amr_def.specs.Domain.{Domain, domain, domain_of}
+use Rattle.amr_def.specs.Domain.{Domain, domain_of}
 use Rattle.amr_patch.specs.Patches.{box}
 use Rattle.amr_layout.specs.declared.PutAt.{PutAt}
-use Rattle.amr_layout.specs.declared.TaskLayout.{TaskLayout}
 use Rattle.amr_layout.specs.Surroundings.{around}
 use Rattle.amr_layout.specs.Places.{border_places, puts_of}
 use Rattle.amr_layout.proofs.Planned.{image_length, lots_are, planned}

@@ -1,4 +1,4 @@
-use Rattle.std.proofs.Common.{◌≡◌, sym, ap}
+use Rattle.std.proofs.Common.{sym, ap}
 use Rattle.std.specs.Option.{option_copied}
 use Rattle.amr_def.specs.State.{is_covered}
 use Rattle.amr_layout.specs.Surroundings.{finer_masses}

@@ -1,9 +1,8 @@
-use Rattle.std.proofs.Common.{◌≡◌, ℕ, ◌+◌, ◌<◌, ◌++◌, ◌∷◌, [], List, length, get_or, map, take, ap, sym, subst, ◌∙◌, arith}
+use Rattle.std.proofs.Common.{ℕ, ◌<◌, ◌++◌, List, length, map, take, ap, sym, subst, ◌∙◌, arith}
 use Rattle.std.specs.Global.{Vec}
 use Rattle.amr_box.specs.declared.Face.{Face}
 use Rattle.amr_box.specs.Cells.{Extent}
 use Rattle.amr_def.specs.Domain.{domain_of}
-use Rattle.amr_patch.specs.Patches.{box}
 use Rattle.amr_layout.specs.Places.{ArePut, borders_of, level_borders}
 use Rattle.amr_layout.proofs.LevelPlaces.{level_more, no_borders, places_more}
 use Rattle.amr_layout.proofs.Placing.{no_puts_yet}

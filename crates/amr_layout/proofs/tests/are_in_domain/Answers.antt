@@ -1,7 +1,5 @@
-use Rattle.std.proofs.Common.{◌≡◌, ◌<◌, length, get_or, below_more, sym, subst, ap, ◌∙◌, arith}
-use Rattle.amr_box.specs.Cells.{Extent}
-use Rattle.amr_def.specs.Domain.{Domain, domain, domain_of}
-use Rattle.amr_patch.specs.declared.patches.Patch.{Patch}
+use Rattle.std.proofs.Common.{◌≡◌, ◌<◌, length, get_or, below_more, sym, subst, ◌∙◌, arith}
+use Rattle.amr_def.specs.Domain.{Domain, domain}
 use Rattle.amr_patch.specs.Patches.{box}
 use Rattle.amr_patch.proofs.Lookups.{same_default}
 use Rattle.amr_flux.specs.Faces.{IsInDomain}
