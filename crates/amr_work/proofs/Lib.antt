@@ -1,0 +1,5 @@
+pub mod Small
+pub mod Standing
+pub mod Posting
+pub mod Finishing
+pub mod Sameness

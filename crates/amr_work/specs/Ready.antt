@@ -1,0 +1,54 @@
+-- What a piece has to be before its task is drawn.
+use Rattle.std.specs.Prelude.{◌≡◌, ℕ, ◌+◌, ◌<◌, ◌≤◌, ◌^◌, pos, ◌+ℤ◌, ◌≤ℤ◌, ◌<ℤ◌, List, length, slice_index, slice_index_or, unsigned_abs, IsTrue}
+use Rattle.std.specs.List.{All}
+use Rattle.amr_box.specs.declared.Cell.{Cell}
+use Rattle.amr_box.specs.declared.Face.{Face}
+use Rattle.amr_box.specs.Cells.{holds, width}
+use Rattle.amr_def.specs.Domain.{domain}
+use Rattle.amr_def.specs.Flux.{net}
+use Rattle.amr_patch.specs.declared.patches.Patch.{Patch}
+use Rattle.amr_patch.specs.Places.{is_edge_face}
+use Rattle.amr_patch.specs.Patches.{box, mass_in, value_in}
+use Rattle.amr_flux.specs.Faces.{IsInDomain, border_faces, in_reach, owns}
+use Rattle.amr_flux.specs.Rooms.{widest}
+use Rattle.amr_phase.specs.Plans.{PlanOf, planned_face}
+use Rattle.amr_layout.specs.declared.TaskLayout.{TaskLayout}
+use Rattle.amr_def.specs.declared.problem.Problem.{Problem}
+use Rattle.amr_work.specs.declared.work.Stage.TheVariants.{Raw}
+use Rattle.amr_work.specs.declared.work.Work.{Work}
+use Rattle.amr_work.specs.Works.{plain}
+
+-- faces on the edges of a patch that it owns
+abbrev pub AreOwnEdges : Patch → List Face → Type 0
+AreOwnEdges q = All (λ (f : Face). IsTrue (is_edge_face (box q) f) × IsTrue (owns q f))
+
+-- a task posts only what flows through faces on the edges of its patch that the patch owns
+pub record HasOwnPosts (q : Patch) (layout : TaskLayout) : Type 0 where
+  pub puts : All (λ u. IsTrue (is_edge_face (box q) u.face) × IsTrue (owns q u.face)) layout.puts.items
+  pub adds : All (λ a. AreOwnEdges q a.faces.items × (length a.faces.items < 2 ^ 31)) layout.adds.items
+
+-- a patch of its level with values below 2^31 in reach, of which no step makes a mass below 0 or one that does not fit, with a
+-- workspace that serves it
+pub record IsReadyPiece (w : Work) : Type 0 where
+  pub level : w.level ≤ 4
+  pub inside : IsInDomain (domain w.problem.value w.level) (box w.patch)
+  pub small : (c : Cell) → IsTrue (in_reach (box w.patch) c) → value_in w.patch c < 2 ^ 31
+  pub kept : (c : Cell) → IsTrue (holds (box w.patch) c) → pos 0 ≤ℤ (pos (mass_in w.patch c) +ℤ net (plain w) c)
+  pub fits : (c : Cell) → IsTrue (holds (box w.patch) c) → (pos (mass_in w.patch c) +ℤ net (plain w) c) <ℤ pos (2 ^ 32)
+  pub room : width (box w.patch) ≤ widest w.workspace.room
+  pub posts : HasOwnPosts w.patch w.workspace.layout
+  pub border : length w.workspace.layout.border.items ≡ length (border_faces w.patch)
+  pub sizes : length w.workspace.layout.border.items ≤ length w.workspace.sizes.items
+
+-- at the place of each of its border faces the plan has what flows through it
+pub record HasBorderPlanned (plan : PlanOf) (w : Work) : Type 0 where
+  pub places : All (λ place. place < plan.places) w.workspace.layout.border.items
+  pub sizes : (k : ℕ) (f : Face) → k < length w.workspace.layout.border.items
+      → planned_face plan (slice_index w.workspace.layout.border.items k) ≡ unsigned_abs (plain w (slice_index_or (border_faces w.patch) k f)) + 1
+
+-- a raw piece of this problem that is ready, whose border the plan has
+pub record MayBegin (p : Problem) (plan : PlanOf) (w : Work) : Type 0 where
+  pub problem : w.problem.value ≡ p
+  pub raw : w.stage ≡ Raw
+  pub ready : IsReadyPiece w
+  pub border : HasBorderPlanned plan w

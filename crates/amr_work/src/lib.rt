@@ -1,0 +1,13 @@
+//! The work on one patch in a step of its level: the piece of a task, and what a worker does with it. (Berger and Colella 1989:
+//! the integration of one grid)
+#![tactic(auto)]
+
+mod border;
+mod job;
+mod posts;
+mod sweeping;
+mod work;
+
+pub use border::finish;
+pub use job::{LevelWork, work_level};
+pub use work::{Stage, Work, Workspace};
