@@ -14,3 +14,4 @@ pub mod LevelRefluxes
 pub mod NetOver
 pub mod RegisterRows
 pub mod Once
+pub mod OneBox

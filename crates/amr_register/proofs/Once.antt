@@ -1,30 +1,28 @@
 -- The patches of a level together take each plain flow through a coarse-fine edge away once.
-use Rattle.std.proofs.Common.{◌≡◌, ◌∙◌, ℕ, zero, suc, ◌+◌, ◌<◌, ◌≤◌, Bool, true, false, cond, ◌&&◌, ◌⊎◌, inl, inr, ℤ, pos, negsuc, ◌+ℤ◌, ◌-ℤ◌, List, [], ◌∷◌, length, refl, sym, ap, subst, arith}
-use Rattle.std.specs.Prelude.{is_some, not, slice_index_or}
+use Rattle.std.proofs.Common.{◌≡◌, ◌∙◌, ℕ, zero, suc, ◌<◌, ◌≤◌, Bool, true, false, cond, ◌&&◌, ℤ, pos, negsuc, ◌+ℤ◌, ◌-ℤ◌, List, [], ◌∷◌, length, refl, sym, ap, arith}
+use Rattle.std.specs.Prelude.{is_some, slice_index_or}
 use Rattle.std.specs.List.{All}
 use Rattle.std.proofs.lemmas.List.Folds.{Any-from_list_any}
 use Rattle.std.proofs.lemmas.Int.{ints}
-use Rattle.std.proofs.lemmas.Bool.{and_from, and_left, and_right, cond-false, cond-true, false_from_ne_true, true_from_ne_false}
+use Rattle.std.proofs.lemmas.Bool.{cond-false, cond-true, false_from_ne_true, true_from_ne_false}
 use Rattle.amr_box.specs.declared.Cell.{Cell}
-use Rattle.amr_box.specs.declared.Face.{Face}
 use Rattle.amr_box.specs.declared.Axis.{Axis}
 use Rattle.amr_box.specs.declared.Axis.TheVariants.{X, Y}
-use Rattle.amr_box.specs.Cells.{Extent, cell, holds}
+use Rattle.amr_box.specs.Cells.{cell, holds}
 use Rattle.amr_box.proofs.CellEquality.{same_cell}
 use Rattle.amr_def.specs.declared.problem.Problem.{Problem}
 use Rattle.amr_def.specs.Domain.{Domain, domain, home_cell, in_domain, wrapped}
 use Rattle.amr_def.specs.State.{Level, Masses, is_covered}
 use Rattle.amr_def.specs.Facts.{IsLevel, IsNestedLevel}
-use Rattle.amr_def.specs.Value.{value_at}
-use Rattle.amr_def.specs.Flux.{Fluxes, courant, courant_in, face, flow, flux_at, high_cell, low_cell, net}
+use Rattle.amr_def.specs.Flux.{Fluxes, courant, courant_in, face, flow, flux_at, low_cell, net}
 use Rattle.amr_def.proofs.Nesting.{covered_there, wrapped_shift}
-use Rattle.amr_def.proofs.Values.{flow_same, value_same}
+use Rattle.amr_def.proofs.Values.{value_same}
 use Rattle.amr_patch.specs.declared.patches.Patch.{Patch}
 use Rattle.amr_patch.specs.Patches.{ArePatchesApart, box, in_patches, masses_in}
 use Rattle.amr_patch.proofs.LevelLaws.{none_here}
 use Rattle.amr_flux.specs.Faces.{ShowsValues, flux_beside}
 use Rattle.amr_flux.proofs.Shown.{flux_is}
-use Rattle.amr_register.specs.CoarseFlows.{coarse_flows, edge_flows, has_high_cell, high_face, home_face, low_face, owned_flow}
+use Rattle.amr_register.specs.CoarseFlows.{coarse_flows, edge_flows, has_high_cell, high_face, home_face, low_face}
 use Rattle.amr_register.specs.RegisterCells.{is_coarse_fine, is_register_cell}
 use Rattle.amr_register.specs.Laws.{net_of_all}
 use Rattle.amr_register.proofs.CellLists.{of_level}

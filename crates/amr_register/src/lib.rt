@@ -14,6 +14,8 @@ mod order;
 mod reflux;
 mod register;
 mod sides;
+#[cfg(test)]
+mod tests;
 
 pub use laws::edges_are_taken_once;
 pub use register::Register;
