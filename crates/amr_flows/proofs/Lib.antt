@@ -1,0 +1,6 @@
+pub mod LedgerFlowsSums
+pub mod LedgerFlowsWays
+pub mod LedgerFlowsOpen
+pub mod LedgerFlowsSides
+pub mod LedgerFlowsBoxes
+pub mod LedgerFlows
