@@ -105,7 +105,7 @@ low_home : (d : Domain) (a : Axis) (x y : ℤ) → HasSize d → home_cell d (lo
 low_home d X x y size = same_cell (before d.wrap_x d.columns x size.some_columns) (twice d.wrap_y d.rows y size.some_rows)
 low_home d Y x y size = same_cell (twice d.wrap_x d.columns x size.some_columns) (before d.wrap_y d.rows y size.some_rows)
 
-same_flux : (p : Problem) (l : ℕ) (m old : Masses) (a : Axis) (x y : ℤ) → HasSize (domain p l) → flux_at p l m old (home_face (domain p l) (face a x y)) ≡ flux_at p l m old (face a x y)
+pub same_flux : (p : Problem) (l : ℕ) (m old : Masses) (a : Axis) (x y : ℤ) → HasSize (domain p l) → flux_at p l m old (home_face (domain p l) (face a x y)) ≡ flux_at p l m old (face a x y)
 unfolding flux_at courant
 same_flux p l m old a x y size =
     let d = domain p l in

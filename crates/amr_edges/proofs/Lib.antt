@@ -1,0 +1,9 @@
+pub mod Borders
+pub mod Parents
+pub mod Beyond
+pub mod Ordered
+pub mod Coarsenable
+pub mod OwnEdges
+pub mod OwnFlows
+pub mod PutPlaces
+pub mod Joined
