@@ -4,3 +4,11 @@ pub mod LedgerFlowsOpen
 pub mod LedgerFlowsSides
 pub mod LedgerFlowsBoxes
 pub mod LedgerFlows
+pub mod RegisterFlowsSums
+pub mod RegisterFlowsSigns
+pub mod RegisterFlowsCells
+pub mod RegisterFlowsSides
+pub mod RegisterFlowsCrossings
+pub mod RegisterFlowsBoxes
+pub mod RegisterFlowsRepeat
+pub mod RegisterFlows

@@ -1,11 +1,17 @@
--- What is added to a word of a layout by flows of these sizes.
-use Rattle.std.specs.Prelude.{ℕ, ◌==◌, if◌then◌else◌, List}
+-- What is added to a word of a layout by flows of these sizes, and what flows through the children of a coarse-fine edge.
+use Rattle.std.specs.Prelude.{ℕ, ◌==◌, if◌then◌else◌, pos, cond, List}
 use Rattle.amr_box.specs.declared.Face.{Face}
+use Rattle.amr_def.specs.declared.problem.Problem.{Problem}
+use Rattle.amr_def.specs.Domain.{domain}
+use Rattle.amr_def.specs.State.{Masses}
+use Rattle.amr_def.specs.Flux.{Fluxes}
+use Rattle.amr_def.specs.LevelStep.{through_children}
 use Rattle.amr_patch.specs.declared.patches.Patch.{Patch}
 use Rattle.amr_patch.specs.Patches.{box}
 use Rattle.amr_phase.specs.Plans.{total}
 use Rattle.amr_layout.specs.Surroundings.{Around}
 use Rattle.amr_layout.specs.Adds.{FlowTo, flows_of}
+use Rattle.amr_register.specs.RegisterCells.{is_coarse_fine}
 
 -- the size of a flow that goes to a word
 abbrev pub size_to : (Face → ℕ) → ℕ → FlowTo → ℕ
@@ -18,3 +24,8 @@ word_total size word = total (size_to size word)
 -- what all patches of a level add to a word
 abbrev pub level_total : Around → (Face → ℕ) → ℕ → ℕ
 level_total s size word = total (λ (q : Patch). word_total size word (flows_of s (box q))) s.patches
+
+-- the flows through the children of the coarse-fine edges of level l below a finer level with masses `fine`, and 0 through all
+-- other faces (Berger and Colella)
+unfoldable pub child_flows : Problem → ℕ → Masses → Fluxes → Fluxes
+child_flows p l fine e f = cond (is_coarse_fine (domain p l) fine f) (through_children e f.axis f.x f.y) (pos 0)
