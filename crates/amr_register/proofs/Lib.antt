@@ -15,3 +15,6 @@ pub mod NetOver
 pub mod RegisterRows
 pub mod Once
 pub mod OneBox
+pub mod RowSpans
+pub mod NotBeside
+pub mod BesideTaken

@@ -1,21 +1,31 @@
 //! The plain flows of a patch through coarse-fine edges.
 
-ghost use Rattle.std.specs.Prelude.{◌≡◌, ℕ, ◌<◌, ◌≤◌, ◌^◌, ◌-ℤ◌, ◌<ℤ◌, pos, negsuc, length, slice_index_or, unsigned_abs, IsTrue};
+ghost use Rattle.std.specs.Prelude.{◌≡◌, ℕ, ◌<◌, ◌≤◌, ◌^◌, ◌-ℤ◌, ◌<ℤ◌, cond, pos, negsuc, length, slice_index_or, unsigned_abs, IsTrue};
 ghost use Rattle.std.specs.List.{All};
 ghost use Rattle.amr_box.specs.declared.Cell.{Cell};
-ghost use Rattle.amr_def.specs.Domain.{domain};
+ghost use Rattle.amr_def.specs.Domain.{domain, in_domain};
 ghost use Rattle.amr_def.specs.Flux.{high_cell};
 ghost use Rattle.amr_patch.specs.Patches.{box};
 ghost use Rattle.amr_flux.specs.Faces.{IsInDomain};
 ghost use Rattle.amr_register.specs.declared.sides.CoveredSides.{CoveredSides};
 ghost use Rattle.amr_register.specs.Beside.{IsDomainCell};
+ghost use Rattle.amr_register.specs.Entries.{AreRising};
+ghost use Rattle.amr_register.specs.Spans.{is_place_of};
 ghost use Rattle.amr_register.specs.CoarseFlows.{high_face, low_face, net_over, owned_flow};
 
+use crate::rows::{Span, span_below, span_in_rows};
 use crate::sides::CoveredSides;
 use amr_box::{Axis, Cell, Face};
 use amr_def::Problem;
 use amr_flux::face_flux;
 use amr_patch::Patch;
+
+/// Register cells in their order, with the sides of each where covered cells lie.
+#[derive(Clone, Copy)]
+pub(crate) struct Edge<'a> {
+    pub(crate) cells: &'a [Cell],
+    pub(crate) sides: &'a [CoveredSides],
+}
 
 /// The cell at the high side of a face.
 fn high_cell(f: Face) -> Cell
@@ -88,25 +98,39 @@ fn net_over(p: &Problem, l: u32, patch: &Patch, sides: CoveredSides, c: Cell) ->
     (west - east) + (south - north)
 }
 
-/// Takes away from each entry what comes into its cell by the flows through those of its faces that lie on its sides and that
-/// the patch owns.
-pub(crate) fn take_away(
-    p: &Problem,
-    l: u32,
-    patch: &Patch,
-    cells: &[Cell],
-    sides: &[CoveredSides],
-    entries: &mut [i64],
-)
+/// Takes away from the entries at the places of a span what comes into their cells by the flows through those of their faces that
+/// lie on their sides and that the patch owns.
+fn take_away(p: &Problem, l: u32, patch: &Patch, edge: Edge<'_>, span: Span, entries: &mut [i64])
     requires level { l ≤ 4 }
     requires inside { IsInDomain (domain p.now l) (box patch.now) }
-    requires near { All IsDomainCell cells.now }
-    requires side_count { length sides.now ≡ length cells.now }
-    requires entry_count { length entries.old ≡ length cells.now }
-    requires room { (k : ℕ) → k < length cells.now → unsigned_abs (slice_index_or entries.old k (pos 0)) < 2 ^ 62 }
-    ensures { (k : ℕ) (c : Cell) (s : CoveredSides) → k < length cells.now → slice_index_or entries.new k (pos 0) ≡ slice_index_or entries.old k (pos 0) -ℤ net_over p.now l patch.now (slice_index_or sides.now k s) (slice_index_or cells.now k c) }
+    requires near { All IsDomainCell edge.cells.now }
+    requires side_count { length edge.sides.now ≡ length edge.cells.now }
+    requires entry_count { length entries.old ≡ length edge.cells.now }
+    requires ordered { span.from ≤ span.to }
+    requires within { span.to ≤ length edge.cells.now }
+    requires room { (k : ℕ) → span.from ≤ k → k < span.to → unsigned_abs (slice_index_or entries.old k (pos 0)) < 2 ^ 62 }
+    ensures { (k : ℕ) (c : Cell) (s : CoveredSides) → k < length edge.entry.cells.now → slice_index_or entries.new k (pos 0) ≡ slice_index_or entries.old k (pos 0) -ℤ cond (is_place_of span k) (net_over p.now l patch.now (slice_index_or edge.entry.sides.now k s) (slice_index_or edge.entry.cells.now k c)) (pos 0) }
 {
-    for k in 0..cells.len() {
-        entries[k] -= net_over(p, l, patch, sides[k], cells[k]);
+    for k in span.from..span.to {
+        entries[k] -= net_over(p, l, patch, edge.sides[k], edge.cells[k]);
     }
+}
+
+/// Takes away from each entry what comes into its cell by the flows through those of its faces that lie on its sides and that
+/// the patch owns. Only cells in the rows of the patch, and in the row below it, have such faces.
+pub(crate) fn take_beside(p: &Problem, l: u32, patch: &Patch, edge: Edge<'_>, entries: &mut [i64])
+    requires level { l ≤ 4 }
+    requires inside { IsInDomain (domain p.now l) (box patch.now) }
+    requires rising { AreRising edge.cells.now }
+    requires near { All IsDomainCell edge.cells.now }
+    requires side_count { length edge.sides.now ≡ length edge.cells.now }
+    requires entry_count { length entries.old ≡ length edge.cells.now }
+    requires room { (k : ℕ) → k < length edge.cells.now → unsigned_abs (slice_index_or entries.old k (pos 0)) < 2 ^ 62 }
+    ensures { All (λ c. IsTrue (in_domain (domain p.now l) c)) edge.entry.cells.now → (k : ℕ) (c : Cell) (s : CoveredSides) → k < length edge.entry.cells.now → slice_index_or entries.new k (pos 0) ≡ slice_index_or entries.old k (pos 0) -ℤ net_over p.now l patch.now (slice_index_or edge.entry.sides.now k s) (slice_index_or edge.entry.cells.now k c) }
+{
+    let b = patch.bx();
+    let rows = span_in_rows(edge.cells, &b);
+    let below = span_below(edge.cells, &p.domain(l), &b);
+    take_away(p, l, patch, edge, rows, entries);
+    take_away(p, l, patch, edge, below, entries);
 }

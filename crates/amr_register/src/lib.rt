@@ -13,6 +13,7 @@ mod laws;
 mod order;
 mod reflux;
 mod register;
+mod rows;
 mod sides;
 #[cfg(test)]
 mod tests;

@@ -6,7 +6,7 @@ ghost use Rattle.amr_register.specs.Beside.{IsDomainCell};
 ghost use Rattle.amr_register.specs.Entries.{AreRising};
 
 use crate::beside::register_cells;
-use crate::flows::take_away;
+use crate::flows::{Edge, take_beside};
 use crate::reflux::add_entries;
 use crate::sides::{CoveredSides, sides_of_all};
 use amr_box::Cell;
@@ -98,7 +98,8 @@ impl Register {
 
     /// Takes away the plain flows through those coarse-fine edges that a patch of the level owns, by the patch's values before
     /// the step: an edge belongs to the patch that has the cell at its high side, so that over all patches each is taken away
-    /// once. Entries lie between -2^62 and 2^62.
+    /// once. Entries lie between -2^62 and 2^62. It looks at the register cells in the rows of the patch and in the row below
+    /// it alone.
     pub fn coarse_part(&mut self, p: &Problem, l: u32, patch: &Patch)
         requires level { l ≤ 3 }
         requires inside { IsInDomain (domain p.now l) (box patch.now) }
@@ -106,7 +107,11 @@ impl Register {
         ensures taken { (m fine : Masses) → IsRegisterOf p.now l m fine self.old → (c : Cell) → Contains (cells_in self.old) c → entry_in self.new c ≡ entry_in self.old c -ℤ net (coarse_flows p.now l fine patch.now) c }
         ensures cells { SameCells self.old self.new }
     {
-        take_away(p, l, patch, &self.cells, &self.sides, &mut self.entries);
+        let edge = Edge {
+            cells: &self.cells,
+            sides: &self.sides,
+        };
+        take_beside(p, l, patch, edge, &mut self.entries);
     }
 
     /// Adds `gain - loss`, what flowed through finer faces into register cell `k` and out of it, to the entry of that cell.

@@ -6,13 +6,14 @@ use Rattle.std.proofs.lemmas.List.{with_items_is}
 use Rattle.amr_register.specs.CoarseFlows.{net_over}
 use Rattle.amr_register.specs.Entries.{entry_at}
 use Rattle.amr_register.specs.Registers.{cells_in, entry_in, sides_in}
+use Rattle.amr_register.proofs.BesideTaken.{cells_inside}
 use Rattle.amr_register.proofs.EntryLaws.{entry_of_place}
 use Rattle.amr_register.proofs.NetOver.{along, part_taken}
 use Rattle.amr_register.proofs.register.Register.coarse_part.Goals as goal
 
-pub take_away-requires-clause-room : goal.take_away-requires-clause-room
+pub take_beside-requires-clause-room : goal.take_beside-requires-clause-room
 unfolding entry_in
-take_away-requires-clause-room c = λ k lt.
+take_beside-requires-clause-room c = λ k lt.
     let self = c.args.self.now in
     let inside : k < length self.cells.items = subst (λ (xs : List Cell). k < length xs) c.deref.ensures.value lt in
     let q : Cell = cell (pos 0) (pos 0) in
@@ -23,11 +24,11 @@ pub returns-clause-taken : goal.returns-clause-taken
 unfolding cells_in entry_in sides_in
 returns-clause-taken c = λ m fine of q has.
     let self = c.args.self.now in
-    let count : length c.take_away.new.entries ≡ length self.cells.items = omega (arith, c.take_away.auto.entries, ap length c.deref_mut.ensures.value, self.entry_count) in
-    let whole = with_items_is self.entries c.take_away.new.entries (omega (arith, c.take_away.auto.entries, c.deref_mut.ensures.len)) in
+    let count : length c.take_beside.new.entries ≡ length self.cells.items = omega (arith, c.take_beside.auto.entries, ap length c.deref_mut.ensures.value, self.entry_count) in
+    let whole = with_items_is self.entries c.take_beside.new.entries (omega (arith, c.take_beside.auto.entries, c.deref_mut.ensures.len)) in
     ap (λ (xs : List ℤ). entry_at self.cells.items xs q) whole
-    ∙ part_taken c.args.p.now c.args.l m fine c.args.patch.now self self.entries.items c.take_away.new.entries of self.rising self.entry_count count
-    (along (net_over c.args.p.now c.args.l c.args.patch.now) self.cells.items _ self.sides.items _ self.entries.items _ c.take_away.new.entries c.deref.ensures.value c.deref-2.ensures.value c.deref_mut.ensures.value c.take_away.ensures)
+    ∙ part_taken c.args.p.now c.args.l m fine c.args.patch.now self self.entries.items c.take_beside.new.entries of self.rising self.entry_count count
+    (along (net_over c.args.p.now c.args.l c.args.patch.now) self.cells.items _ self.sides.items _ self.entries.items _ c.take_beside.new.entries c.deref.ensures.value c.deref-2.ensures.value c.deref_mut.ensures.value (c.take_beside.ensures (cells_inside c.args.p.now c.args.l m fine _ (c.deref.ensures.value ∙ of.cells))))
     q has
 
 pub returns-clause-cells : goal.returns-clause-cells
