@@ -12,3 +12,7 @@ pub mod RegisterFlowsCrossings
 pub mod RegisterFlowsBoxes
 pub mod RegisterFlowsRepeat
 pub mod RegisterFlows
+pub mod SubcycleSteps
+pub mod SubcycleFaces
+pub mod Subcycle
+pub mod SubcycleSizes

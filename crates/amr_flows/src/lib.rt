@@ -1,9 +1,10 @@
 //! Laws of what a layout's words hold: over the patches of a level, what they add up to is what flows through the level's open
-//! sides, and into and out of each register cell of the next coarser level. Each call has an empty body, and what it ensures
-//! is the law.
+//! sides, and into and out of each register cell of the next coarser level. And laws of what registers and sums over children
+//! make of them: the step of a level over finer ones. Each call has an empty body, and what it ensures is the law.
 #![tactic(auto)]
 
 ghost use Rattle.amr_flows.specs.Laws.{InflowIsOfLevel, OutflowIsOfLevel, RegisterWordsAreOfChildren};
+ghost use Rattle.amr_flows.specs.Subcycle.{FlowsAreOfFinerSteps, FlowsAreOfLevelAlone, RefluxFits, RegistersGiveTheStep, StepKeepsCover};
 
 /// What the patches of a level add to word 0 of its layout is what flows into the domain beside its uncovered cells.
 pub fn inflow_is_of_level()
@@ -19,4 +20,29 @@ pub fn outflow_is_of_level()
 /// (Berger and Colella 1989)
 pub fn register_words_are_of_children()
     ensures { RegisterWordsAreOfChildren }
+{}
+
+/// Plain fluxes, then a register's entries, then sums over children give the step of a level over finer ones. The register
+/// gathers the flows through child faces of both finer steps, less the plain flows through coarse-fine edges.
+/// (Berger and Colella 1989)
+pub fn registers_give_the_step()
+    ensures { RegistersGiveTheStep }
+{}
+
+/// A step of levels leaves what the coarsest of them covers: so one register serves both finer steps.
+pub fn step_keeps_cover()
+    ensures { StepKeepsCover }
+{}
+
+/// In each step of levels within the step from a sound state a register cell's mass and entry add up to at least 0 and below
+/// 2^31, and the parts of the entry are below 2^34.
+pub fn reflux_fits()
+    ensures { RefluxFits }
+{}
+
+/// What flows through open sides in a step of levels is what flows there at the coarsest level, beside cells that are not
+/// covered, and in both finer steps. Of one level alone it is the level's.
+pub fn flows_are_of_finer_steps()
+    ensures finer { FlowsAreOfFinerSteps }
+    ensures alone { FlowsAreOfLevelAlone }
 {}
