@@ -16,3 +16,6 @@ pub mod SubcycleSteps
 pub mod SubcycleFaces
 pub mod Subcycle
 pub mod SubcycleSizes
+pub mod SubcycleLedger
+pub mod SubcycleParts
+mod SubcycleRows

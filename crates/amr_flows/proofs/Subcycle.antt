@@ -1,5 +1,5 @@
 -- The step of a level over finer ones, by a register and by sums over children.
-use Rattle.std.proofs.Common.{◌≡◌, ◌∙◌, ℕ, suc, ◌<◌, Bool, true, false, ◌⊎◌, inl, inr, ℤ, pos, negsuc, ◌+ℤ◌, ◌-ℤ◌, ◌≤ℤ◌, List, ◌∷◌, length, refl, sym, ap, subst, arith}
+use Rattle.std.proofs.Common.{◌≡◌, ◌∙◌, ℕ, suc, ◌<◌, Bool, true, false, ◌⊎◌, inl, inr, ℤ, pos, negsuc, ◌+ℤ◌, ◌-ℤ◌, ◌≤ℤ◌, List, [], ◌∷◌, length, refl, sym, ap, subst, arith}
 use Rattle.std.specs.Prelude.{is_some, slice_index_or}
 use Rattle.std.specs.Option.{option_map, unwrap_or}
 use Rattle.std.specs.declared.option.Option.{Option}
@@ -15,7 +15,7 @@ use Rattle.amr_def.specs.declared.problem.Problem.{Problem}
 use Rattle.amr_def.specs.Domain.{domain, home_cell, moved}
 use Rattle.amr_def.specs.State.{Level, Masses, children_mass, is_covered, mass_of}
 use Rattle.amr_def.specs.Flux.{Fluxes, face, flux_at, high_cell, low_cell, net, updated}
-use Rattle.amr_def.specs.LevelStep.{Stepped, effective, over_finer, step}
+use Rattle.amr_def.specs.LevelStep.{Stepped, at_top, effective, over_finer, step, step_within}
 use Rattle.amr_def.specs.Ledger.{first_of}
 use Rattle.amr_def.specs.Tags.{neighbours}
 use Rattle.amr_def.proofs.Chain.{chain_first}
@@ -195,8 +195,16 @@ module _ (p : Problem) (l : ℕ) (k fine : Level) (ks : List Level) (old : Masse
         cond-true (is_covered (first_of second.levels) c) _ _ (covers c ∙ covered)
         ∙ sym (is_mass (first_of r.levels c) (children_mass (first_of second.levels) c) ((step_cells p l (k ∷ fine ∷ ks) old levels).at c ∙ there) sum)
 
-    pub give_the_step : made ≡ first_of (step p l (masses_of (k ∷ fine ∷ ks)) old).levels
-    give_the_step = λ i c. by_cover c i
+    is_made : made ≡ updated k.masses together
+    is_made = λ i c. by_cover c i
       where
-        by_cover : (c : Cell) → made c ≡ first_of (step p l (masses_of (k ∷ fine ∷ ks)) old).levels c
-        by_cover c = bool_cases (is_covered fine.masses c) (at_covered c) (λ free. at_free c free ∙ sym (ap (λ (m : Masses). m c) step_first))
+        by_cover : (c : Cell) → made c ≡ updated k.masses together c
+        by_cover c = bool_cases (is_covered fine.masses c) (λ covered. at_covered c covered ∙ ap (λ (m : Masses). m c) step_first) (at_free c)
+
+    pub give_the_step : (step p l (masses_of (k ∷ fine ∷ ks)) old).levels ≡ made ∷ second.levels
+    unfolding over_finer
+    give_the_step = ap (λ (r : Stepped). r.levels) is_over ∙ sym (ap (λ (m : Masses). m ∷ second.levels) is_made)
+
+pub of_plain_fluxes : (p : Problem) (l : ℕ) (k : Level) (old : Masses) → (step p l (masses_of (k ∷ [])) old).levels ≡ updated k.masses (flux_at p l k.masses old) ∷ []
+unfolding step_within at_top
+of_plain_fluxes p l k old = refl

@@ -32,11 +32,11 @@ use Rattle.amr_flows.proofs.SubcycleSteps.{step_count}
 
 -- ---- sizes
 
-record IsWithin (n : ℕ) (z : ℤ) : Type 0 where
-  low : neg_ℤ (pos n) ≤ℤ z
-  high : z <ℤ pos n
+pub record IsWithin (n : ℕ) (z : ℤ) : Type 0 where
+  pub low : neg_ℤ (pos n) ≤ℤ z
+  pub high : z <ℤ pos n
 
-within_from : (n : ℕ) (z : ℤ) → unsigned_abs z < n → IsWithin n z
+pub within_from : (n : ℕ) (z : ℤ) → unsigned_abs z < n → IsWithin n z
 within_from n (pos a) h = record { low = omega (arith, ints, h); high = omega (arith, ints, h) }
 within_from n (negsuc a) h = record { low = omega (arith, ints, h); high = omega (arith, ints, h) }
 
@@ -45,7 +45,7 @@ size_from n (pos a) h k = omega (arith, ints, k)
 size_from n (negsuc a) h k = omega (arith, ints, h)
 
 -- four fluxes
-net_size : (n : ℕ) (e : Fluxes) (c : Cell) → ((f : Face) → IsWithin n (e f)) → unsigned_abs (net e c) < 4 * n
+pub net_size : (n : ℕ) (e : Fluxes) (c : Cell) → ((f : Face) → IsWithin n (e f)) → unsigned_abs (net e c) < 4 * n
 unfolding net
 net_size n e c h =
     let w = h (face X c.x c.y) in
@@ -54,7 +54,7 @@ net_size n e c h =
     let o = h (face Y c.x (c.y +ℤ pos 1)) in
     size_from (4 * n) (net e c) (omega (arith, ints, w.low, a.high, s.low, o.high)) (omega (arith, ints, w.high, a.low, s.high, o.low))
 
-cond_within : (n : ℕ) (t : Bool) (z : ℤ) → IsWithin n z → IsWithin n (cond t z (pos 0))
+pub cond_within : (n : ℕ) (t : Bool) (z : ℤ) → IsWithin n z → IsWithin n (cond t z (pos 0))
 cond_within n true z h = h
 cond_within n false z h = record { low = omega (arith, ints); high = omega (arith, ints, h.low, h.high) }
 

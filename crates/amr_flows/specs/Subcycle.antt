@@ -1,8 +1,9 @@
 -- Laws of a step of a level over finer ones as calls make it: plain fluxes, both finer steps, a register, sums over children.
 -- (Berger and Colella)
-use Rattle.std.specs.Prelude.{◌≡◌, ℕ, suc, ◌+◌, ◌^◌, ◌<◌, Bool, ℤ, pos, ◌+ℤ◌, ◌-ℤ◌, ◌≤ℤ◌, ◌<ℤ◌, List, [], ◌∷◌, length, unsigned_abs}
-use Rattle.std.specs.List.{Contains}
+use Rattle.std.specs.Prelude.{◌≡◌, ℕ, suc, ◌+◌, ◌^◌, ◌<◌, ◌≤◌, Bool, ℤ, pos, ◌+ℤ◌, ◌-ℤ◌, ◌≤ℤ◌, ◌<ℤ◌, List, [], ◌∷◌, length, unsigned_abs}
+use Rattle.std.specs.List.{All, Contains}
 use Rattle.amr_box.specs.declared.Cell.{Cell}
+use Rattle.amr_box.specs.declared.Face.{Face}
 use Rattle.amr_def.specs.declared.problem.Problem.{Problem}
 use Rattle.amr_def.specs.State.{Level, Masses, State, is_covered, mass_of, no_masses}
 use Rattle.amr_def.specs.Flux.{Fluxes, flux_at, net, updated}
@@ -10,10 +11,14 @@ use Rattle.amr_def.specs.LevelStep.{Stepped, step}
 use Rattle.amr_def.specs.Ledger.{first_of}
 use Rattle.amr_def.specs.Facts.{IsSound}
 use Rattle.amr_laws.specs.Levels.{AreLevels, masses_of}
-use Rattle.amr_laws.specs.Sides.{is_uncovered, over_levels}
+use Rattle.amr_laws.specs.Sides.{inflow_beside, is_uncovered, outflow_beside, over_levels}
 use Rattle.amr_laws.specs.Substeps.{IsSubstep, after_step}
+use Rattle.amr_patch.specs.declared.patches.Patch.{Patch}
+use Rattle.amr_patch.specs.Patches.{ArePatchesApart}
+use Rattle.amr_flux.specs.Faces.{ShowsValues}
 use Rattle.amr_register.specs.CoarseFlows.{edge_flows}
 use Rattle.amr_register.specs.Entries.{with_entries}
+use Rattle.amr_register.specs.Laws.{net_of_all}
 use Rattle.amr_register.specs.RegisterCells.{register_cells}
 use Rattle.amr_transfer.specs.Sums.{summed}
 use Rattle.amr_flows.specs.Words.{child_flows}
@@ -42,13 +47,17 @@ pub record AreGathered (p : Problem) (l : ℕ) (k : Level) (old fine between : M
 -- ---- the step
 
 -- a step with plain fluxes, then at each register cell what was gathered, then at each covered cell the sum of its children
--- after both finer steps: that is the coarsest level after the step
+-- after both finer steps: that is the coarsest level after the step, and the others are as those steps leave them
 abbrev pub RegistersGiveTheStep : Type 0
 RegistersGiveTheStep = (p : Problem) (l : ℕ) (k fine : Level) (ks : List Level) (old : Masses) (e : Cell → ℤ) → AreLevels p l (k ∷ fine ∷ ks)
     → let first : Stepped = step p (suc l) (masses_of (fine ∷ ks)) k.masses in
     let second : Stepped = step p (suc l) (masses_of (after_step p (suc l) (fine ∷ ks) k.masses)) k.masses in
     AreGathered p l k old fine.masses (first_of first.levels) e
-    → summed (first_of second.levels) (with_entries e (updated k.masses (flux_at p l k.masses old))) ≡ first_of (step p l (masses_of (k ∷ fine ∷ ks)) old).levels
+    → (step p l (masses_of (k ∷ fine ∷ ks)) old).levels ≡ summed (first_of second.levels) (with_entries e (updated k.masses (flux_at p l k.masses old))) ∷ second.levels
+
+-- of a level alone it is the step with plain fluxes
+abbrev pub PlainFluxesGiveTheStep : Type 0
+PlainFluxesGiveTheStep = (p : Problem) (l : ℕ) (k : Level) (old : Masses) → (step p l (masses_of (k ∷ [])) old).levels ≡ updated k.masses (flux_at p l k.masses old) ∷ []
 
 -- levels that cover the same cells, and so have the same registers and coarse-fine edges
 pub record CoverAlike (fine after : Masses) : Type 0 where
@@ -76,6 +85,12 @@ abbrev pub RefluxFits : Type 0
 RefluxFits = (p : Problem) (s : State) (l : ℕ) (k fine : Level) (ks : List Level) (old : Masses) (c : Cell) → IsSound p s → s.step < p.steps → IsSubstep p s l (k ∷ fine ∷ ks) old → Contains (register_cells p l k.masses fine.masses) c
     → GatheredFits p l k old fine.masses (first_of (step p (suc l) (masses_of (fine ∷ ks)) k.masses).levels) c
 
+-- while patches take their plain flows from entries, one patch after the other, entries stay small: of no face are two of them
+-- the owner
+abbrev pub PartsTakenFit : Type 0
+PartsTakenFit = (p : Problem) (l : ℕ) (m old fine : Masses) (ps : List Patch) (c : Cell) → ((f : Face) → unsigned_abs (flux_at p l m old f) < 2 ^ 31) → ArePatchesApart ps → All (ShowsValues p l m old) ps
+    → unsigned_abs (net_of_all p l fine ps c) < 2 ^ 33
+
 -- ---- its ledger
 
 -- the flows of a step of these levels beside cells that no finer one covers
@@ -90,3 +105,12 @@ FlowsAreOfFinerSteps = (flows : ℕ → (Cell → Bool) → Fluxes → ℕ) (p :
 -- and of a level alone those of the level, of which nothing is covered
 abbrev pub FlowsAreOfLevelAlone : Type 0
 FlowsAreOfLevelAlone = (flows : ℕ → (Cell → Bool) → Fluxes → ℕ) (p : Problem) (l : ℕ) (k : Level) (old : Masses) → flows_of_step flows p l (k ∷ []) old ≡ flows l (is_uncovered k.masses no_masses) (flux_at p l k.masses old)
+
+-- what flows through open sides in a step of levels
+pub record LedgerFits (p : Problem) (l : ℕ) (ks : List Level) (old : Masses) : Type 0 where
+  pub inflow : flows_of_step (inflow_beside p) p l ks old ≤ 2 ^ 41
+  pub outflow : flows_of_step (outflow_beside p) p l ks old ≤ 2 ^ 41
+
+-- in each step of levels within the step from a sound state it fits, since it is a part of what flows in that step
+abbrev pub FlowsFit : Type 0
+FlowsFit = (p : Problem) (s : State) (l : ℕ) (ks : List Level) (old : Masses) → IsSound p s → s.step < p.steps → IsSubstep p s l ks old → LedgerFits p l ks old

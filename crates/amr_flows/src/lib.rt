@@ -4,7 +4,7 @@
 #![tactic(auto)]
 
 ghost use Rattle.amr_flows.specs.Laws.{InflowIsOfLevel, OutflowIsOfLevel, RegisterWordsAreOfChildren};
-ghost use Rattle.amr_flows.specs.Subcycle.{FlowsAreOfFinerSteps, FlowsAreOfLevelAlone, RefluxFits, RegistersGiveTheStep, StepKeepsCover};
+ghost use Rattle.amr_flows.specs.Subcycle.{FlowsAreOfFinerSteps, FlowsAreOfLevelAlone, FlowsFit, PartsTakenFit, PlainFluxesGiveTheStep, RefluxFits, RegistersGiveTheStep, StepKeepsCover};
 
 /// What the patches of a level add to word 0 of its layout is what flows into the domain beside its uncovered cells.
 pub fn inflow_is_of_level()
@@ -23,10 +23,11 @@ pub fn register_words_are_of_children()
 {}
 
 /// Plain fluxes, then a register's entries, then sums over children give the step of a level over finer ones. The register
-/// gathers the flows through child faces of both finer steps, less the plain flows through coarse-fine edges.
-/// (Berger and Colella 1989)
+/// gathers the flows through child faces of both finer steps, less the plain flows through coarse-fine edges. Of a level alone
+/// the step has plain fluxes. (Berger and Colella 1989)
 pub fn registers_give_the_step()
-    ensures { RegistersGiveTheStep }
+    ensures finer { RegistersGiveTheStep }
+    ensures alone { PlainFluxesGiveTheStep }
 {}
 
 /// A step of levels leaves what the coarsest of them covers: so one register serves both finer steps.
@@ -40,9 +41,21 @@ pub fn reflux_fits()
     ensures { RefluxFits }
 {}
 
+/// What any patches of a level take from an entry, those with the level's values and no cell in common, is below 2^33. So while
+/// one patch after the other takes its part, no entry leaves the range of the calls.
+pub fn parts_taken_fit()
+    ensures { PartsTakenFit }
+{}
+
 /// What flows through open sides in a step of levels is what flows there at the coarsest level, beside cells that are not
 /// covered, and in both finer steps. Of one level alone it is the level's.
 pub fn flows_are_of_finer_steps()
     ensures finer { FlowsAreOfFinerSteps }
     ensures alone { FlowsAreOfLevelAlone }
+{}
+
+/// In each step of levels within the step from a sound state, what flows in through open sides is at most 2^41, and so is what
+/// flows out.
+pub fn flows_fit()
+    ensures { FlowsFit }
 {}
