@@ -1,0 +1,5 @@
+mod Inside
+mod Rows
+mod SummaryRows
+mod TextParts
+mod TextRows

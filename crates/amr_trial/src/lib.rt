@@ -1,0 +1,24 @@
+//! Trials: problems that are drawn from two numbers, so that a run and its answer are told by one line. This crate has the
+//! generator, the text of a trial's problem, and the definition of the line that a trial prints.
+#![tactic(auto)]
+
+ghost use Rattle.amr_trial.specs.Laws.{BlocksLieInside, CourantNumbersFit};
+
+mod generator;
+mod problem;
+#[cfg(test)]
+mod tests;
+mod writing;
+
+pub use generator::Generator;
+pub use problem::text;
+
+/// The Courant numbers of a trial add up to at most seven eighths.
+pub fn courant_numbers_fit()
+    ensures { CourantNumbersFit }
+{}
+
+/// The blocks of a trial lie in its domain, with masses below 4,096.
+pub fn blocks_lie_inside()
+    ensures { BlocksLieInside }
+{}
