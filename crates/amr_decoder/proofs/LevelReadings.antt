@@ -1,5 +1,5 @@
 -- A level that was read: its boxes lie in the domain, near and with no cell in common.
-use Rattle.std.proofs.Common.{◌≡◌, ℕ, zero, suc, ◌+◌, ◌*◌, ◌^◌, ◌<◌, ◌≤◌, true, List, [], ◌∷◌, get_or, drop, refl, sym, ap, subst, ◌∙◌, arith, inl, inr}
+use Rattle.std.proofs.Common.{◌≡◌, ℕ, zero, suc, ◌+◌, ◌*◌, ◌^◌, ◌<◌, ◌≤◌, true, List, [], ◌∷◌, length, get_or, drop, refl, sym, ap, subst, ◌∙◌, arith, inl, inr}
 use Rattle.std.specs.Prelude.{◌==◌}
 use Rattle.std.specs.Int.{Width}
 use Rattle.std.specs.List.{All}
@@ -11,6 +11,7 @@ use Rattle.amr_codec.specs.declared.numbers.MassWidth.TheVariants.{Four, Eight}
 use Rattle.amr_codec.specs.MassWidths.{width_of}
 use Rattle.amr_codec.proofs.Corners.{corners}
 use Rattle.amr_def.specs.declared.problem.Problem.{Problem}
+use Rattle.amr_def.specs.Domain.{domain, domain_box}
 use Rattle.amr_def.specs.Facts.{IsAligned, IsLevel}
 use Rattle.amr_def.specs.Limits.{between}
 use Rattle.amr_def.specs.State.{Level}
@@ -21,7 +22,7 @@ use Rattle.amr_patch.proofs.Apart.{in_boxes_at}
 use Rattle.amr_payload.specs.Payload.{IsMassWidth, level_cells}
 use Rattle.amr_payload.specs.Tests.{Left, Grid, is_box_count, level_of, read, read_grids}
 use Rattle.amr_payload.proofs.Grids.{AreGrids, grids_took}
-use Rattle.amr_payload.proofs.GridLevels.{all_aligned, is_level}
+use Rattle.amr_payload.proofs.GridLevels.{all_aligned, base_boxes, is_level}
 use Rattle.amr_payload.proofs.Numbers.{IsCode, mass_code}
 use Rattle.amr_payload.proofs.Readings.{AreBytes}
 use Rattle.amr_decoder.specs.Filled.{IsPlaced}
@@ -44,8 +45,12 @@ level_read m p n l k r e gs small count h =
     let code = mass_code w (is_mass_width m) in
     let took = grids_took w code p n l k [] r e gs small h in
     let counted = ap (is_box_count p l) took.count ∙ count in
-    record { level = is_level w code p n l gs counted took.each; aligned = aligned w code l took.each }
+    record { level = is_level w code p n l gs counted took.each; base = base w code l took.each counted; aligned = aligned w code l took.each }
   where
+    base : (w : Width) (code : IsCode w (2 ^ 32)) (l : ℕ) → AreGrids w code p n l [] gs → is_box_count p l (length gs) ≡ true → l ≡ 0 → (level_of gs).boxes ≡ domain_box (domain p 0) ∷ []
+    base w code zero each counted none = base_boxes w code p n gs counted each
+    base w code (suc l) each counted none = absurd (omega arith)
+
     aligned : (w : Width) (code : IsCode w (2 ^ 32)) (l : ℕ) → AreGrids w code p n l [] gs → 0 < l → All (IsAligned p.blocking) (level_of gs).boxes
     aligned w code zero each some = absurd (omega arith)
     aligned w code (suc l) each some = all_aligned w code p n l gs each

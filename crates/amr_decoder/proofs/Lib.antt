@@ -9,3 +9,6 @@ pub mod Filling
 pub mod GridBoxes
 pub mod LevelReadings
 pub mod Stacked
+pub mod FinerLevels
+pub mod MassSums
+pub mod States

@@ -1,8 +1,9 @@
 //! Levels: each read, tested against the one below it, and held in patches.
 
-ghost use Rattle.std.specs.Prelude.{◌≡◌, ◌^◌, ◌<◌, ◌≤◌, map, IfOk, IfErr};
+ghost use Rattle.std.specs.Prelude.{◌≡◌, ◌^◌, ◌<◌, ◌≤◌, [], ◌∷◌, map, IfOk, IfErr};
 ghost use Rattle.std.specs.List.{All};
 ghost use Rattle.amr_codec.specs.MassWidths.{width_of};
+ghost use Rattle.amr_def.specs.Domain.{domain, domain_box};
 ghost use Rattle.amr_def.specs.Facts.{IsAligned, IsLevel};
 ghost use Rattle.amr_def.specs.Limits.{between};
 ghost use Rattle.amr_patch.specs.Levels.{level_of};
@@ -47,7 +48,7 @@ fn cells_of_level(p: &Problem, l: u32) -> u64
 }
 
 /// Whether a number is from 1 to another.
-fn is_between(k: u64, high: u64) -> bool
+pub(crate) fn is_between(k: u64, high: u64) -> bool
     ensures { result ≡ between 1 high k }
 {
     1 <= k && k <= high
@@ -79,6 +80,7 @@ fn level_of_grids(
     requires small { All (HasSmallMasses (width_of kind.width) bytes.now) grids.now }
     ensures value { IfOk result (λ k. level_of k ≡ tests.level_of (map (grid_of (width_of kind.width) bytes.now) grids.now)) }
     ensures level { IfOk result (λ k. IsLevel p.now kind.level (level_of k)) }
+    ensures base { IfOk result (λ k. kind.level ≡ 0 → (level_of k).boxes ≡ domain_box (domain p.now 0) ∷ []) }
     ensures aligned { IfOk result (λ k. 0 < kind.level → All (IsAligned p.now.blocking) (level_of k).boxes) }
     ensures chopped { IfOk result (IsChopped p.now.max_grid_size) }
 {
@@ -100,6 +102,7 @@ pub fn read_level(
     ensures read { IfOk result (λ k. read_level (width_of kind.width) p.now kind.step kind.level (left_of r.old) ≡ read (level_of k) (left_of r.new)) }
     ensures bad { IfErr result (IsFaultOf (read_level (width_of kind.width) p.now kind.step kind.level (left_of r.old))) }
     ensures level { IfOk result (λ k. IsLevel p.now kind.level (level_of k)) }
+    ensures base { IfOk result (λ k. kind.level ≡ 0 → (level_of k).boxes ≡ domain_box (domain p.now 0) ∷ []) }
     ensures aligned { IfOk result (λ k. 0 < kind.level → All (IsAligned p.now.blocking) (level_of k).boxes) }
     ensures chopped { IfOk result (IsChopped p.now.max_grid_size) }
 {

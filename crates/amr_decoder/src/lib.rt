@@ -1,16 +1,21 @@
-//! The fields of a payload, each read and tested as crate `amr_payload` defines it: the value that stands in the bytes, or
-//! the place of the first test that fails. Crate `amr_codec` has the encoders.
+//! The decoders: a payload's bytes, read and tested field by field as crate `amr_payload` defines it, as a mesh. Its state is
+//! sound, and the bytes are its payload. Where a test fails they are bad, at the place of the first that does. Crate
+//! `amr_codec` has the encoders.
 //!
+//! - [`decode`], [`decode2`]: a whole payload, with masses of 8 or 4 bytes.
 //! - [`Reader`]: the bytes that are left, number by number.
 //! - [`read_step`], [`read_rows`]: the step and the ledger.
 //! - [`read_level`]: a level's boxes, and their masses in patches.
 //! - [`stands_over`]: whether a level is nested in the one below it and in sync with it.
+//! - [`read_finer`], [`read_levels`]: a level over the one below it, and all levels.
 #![tactic(auto)]
 
 mod apart;
 mod boxes;
+mod decoders;
 mod faults;
 mod fill;
+mod finer;
 mod grid;
 mod grids;
 mod ledger;
@@ -20,13 +25,18 @@ mod masses;
 mod reader;
 mod stands;
 mod sync;
+mod totals;
 
+pub use decoders::{decode, decode2};
 pub use faults::CodecFault;
+pub use finer::{read_finer, read_levels};
 pub use ledger::{read_rows, read_step};
 pub use levels::read_level;
 pub use masses::MassKind;
 pub use reader::Reader;
 pub use stands::stands_over;
 
+#[cfg(test)]
+mod payload_tests;
 #[cfg(test)]
 mod tests;

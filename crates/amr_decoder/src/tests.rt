@@ -8,7 +8,7 @@ use std::alloc::Global;
 use std::test::Fail;
 
 /// A problem of 2 by 2 cells without blocks, of one step.
-fn two_by_two(alloc: Global) -> Result<Problem, Fail> {
+pub(crate) fn two_by_two(alloc: Global) -> Result<Problem, Fail> {
     Ok(Problem {
         version: 1,
         name: Name::make(Vec::from_slice(alloc, b"two")?),

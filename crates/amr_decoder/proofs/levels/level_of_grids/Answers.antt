@@ -1,8 +1,9 @@
-use Rattle.std.proofs.Common.{◌≡◌, ◌<◌, List, map, sym, subst, arith}
+use Rattle.std.proofs.Common.{◌≡◌, ◌<◌, List, [], ◌∷◌, map, sym, subst, arith}
 use Rattle.std.specs.List.{All}
 use Rattle.std.proofs.lemmas.Result.{IfOk-weaker}
 use Rattle.amr_box.specs.Cells.{Extent}
 use Rattle.amr_codec.specs.MassWidths.{width_of}
+use Rattle.amr_def.specs.Domain.{domain, domain_box}
 use Rattle.amr_def.specs.Facts.{IsAligned, IsLevel}
 use Rattle.amr_def.specs.State as defined
 use Rattle.amr_patch.specs.declared.levels.Level.{Level}
@@ -43,3 +44,9 @@ returns-clause-aligned c =
     let gs = map (grid_of (width_of c.args.kind.width) c.args.bytes.now) c.args.grids.now in
     IfOk-weaker c.make_level.result (λ (k : Level). level_of k ≡ tests.level_of gs) (λ (k : Level). 0 < c.args.kind.level → All (IsAligned c.args.p.now.blocking) (level_of k).boxes)
     (λ k is. subst (λ (e : defined.Level). 0 < c.args.kind.level → All (IsAligned c.args.p.now.blocking) e.boxes) (sym is) c.requires.read.aligned) c.make_level.ensures.level
+
+pub returns-clause-base : goal.returns-clause-base
+returns-clause-base c =
+    let gs = map (grid_of (width_of c.args.kind.width) c.args.bytes.now) c.args.grids.now in
+    IfOk-weaker c.make_level.result (λ (k : Level). level_of k ≡ tests.level_of gs) (λ (k : Level). c.args.kind.level ≡ 0 → (level_of k).boxes ≡ domain_box (domain c.args.p.now 0) ∷ [])
+    (λ k is. subst (λ (e : defined.Level). c.args.kind.level ≡ 0 → e.boxes ≡ domain_box (domain c.args.p.now 0) ∷ []) (sym is) c.requires.read.base) c.make_level.ensures.level

@@ -1,0 +1,72 @@
+use Rattle.std.proofs.Common.{◌+◌, ◌-◌, [], ◌∷◌, List, All, map, sym, ap, subst, ◌∙◌, arith}
+use Rattle.std.proofs.lemmas.List.{map-append}
+use Rattle.std.proofs.lemmas.List.Elements.{All-push}
+use Rattle.std.proofs.lemmas.Result.{err_from_is_err_and}
+use Rattle.amr_codec.specs.MassWidths.{width_of}
+use Rattle.amr_def.specs.State as defined
+use Rattle.amr_patch.specs.declared.levels.Level.{Level}
+use Rattle.amr_patch.specs.Levels.{level_of}
+use Rattle.amr_payload.specs.Tests.{read, read_all_finer, read_also}
+use Rattle.amr_decoder.specs.Chopped.{IsChopped}
+use Rattle.amr_decoder.specs.Lefts.{left_of}
+use Rattle.amr_decoder.specs.ReadLevels.{read_over}
+use Rattle.amr_decoder.proofs.FinerLevels.{over_bad, over_end, over_next}
+use Rattle.amr_decoder.proofs.Lists.{also_all, also_end, bad_next, more}
+use Rattle.amr_decoder.proofs.Readings.{fault_also}
+use Rattle.amr_decoder.proofs.finer.add_finer.Goals as goal
+
+pub loop-k-preserved : goal.loop-k-preserved
+loop-k-preserved c =
+    let l = c.loop-k in
+    let w = width_of c.args.kind.width in
+    let p = c.args.p.now in
+    let n = c.args.kind.step in
+    let t = c.args.count in
+    let r = left_of l.r in
+    let e = left_of c.read_finer.new.r in
+    let below = level_of l.last in
+    let k = level_of c.in_ok-level.level in
+    let now = read_all_finer w p n (t - l.k) l.k below r in
+    let next = read_all_finer w p n (t - (l.k + 1)) (l.k + 1) k e in
+    record {
+      so_far = more (read_over w p n t (level_of c.args.base) (left_of c.args.r.now)) (map level_of l.levels.items) below (read_also below now) (read_also k next) l.invariant.so_far
+          (ap (λ q. read_also below q) (over_next w p n t l.k below k r e c.loop-k-test.true c.in_ok-level.ensures.read))
+          ∙ ap (λ (ks : List defined.Level). also_all ks (read_also k next)) (sym (map-append level_of l.levels.items (l.last ∷ [])) ∙ ap (map level_of) (sym c.in_ok-push.ensures.items));
+      level = c.in_ok-level.ensures.level;
+      chopped = subst (λ (ks : List Level). All (IsChopped p.max_grid_size) ks) (sym c.in_ok-push.ensures.items) (All-push (IsChopped p.max_grid_size) l.levels.items l.last l.invariant.chopped l.invariant.last);
+      last = c.in_ok-level.ensures.chopped;
+    }
+
+pub returns-in_err-level-clause-bad : goal.returns-in_err-level-clause-bad
+returns-in_err-level-clause-bad c =
+    let l = c.loop-k in
+    let w = width_of c.args.kind.width in
+    let p = c.args.p.now in
+    let n = c.args.kind.step in
+    let t = c.args.count in
+    let r = left_of l.r in
+    let below = level_of l.last in
+    let now = read_all_finer w p n (t - l.k) l.k below r in
+    let q = err_from_is_err_and c.from_residual.result c.from_residual.ensures.1 in
+    rw (q.1, q.2) (bad_next (read_over w p n t (level_of c.args.base) (left_of c.args.r.now)) (map level_of l.levels.items) (read_also below now) c.in_err-level.field-0.0 l.invariant.so_far
+    (fault_also below now c.in_err-level.field-0.0 (over_bad w p n t l.k below r c.in_err-level.field-0.0 c.loop-k-test.true c.in_err-level.ensures.bad)))
+
+pub returns-clause-read : goal.returns-clause-read
+returns-clause-read c =
+    let l = c.loop-k in
+    let w = width_of c.args.kind.width in
+    let p = c.args.p.now in
+    let n = c.args.kind.step in
+    let t = c.args.count in
+    let r = left_of l.r in
+    let below = level_of l.last in
+    l.invariant.so_far
+    ∙ ap (λ q. also_all (map level_of l.levels.items) (read_also below q)) (over_end w p n t l.k below r (omega (arith, c.loop-k-test.false)))
+    ∙ also_end (map level_of l.levels.items) (below ∷ []) r
+    ∙ ap (λ (ks : List defined.Level). read ks r) (sym (map-append level_of l.levels.items (l.last ∷ [])) ∙ ap (map level_of) (sym c.in_ok-push-2.ensures.items))
+
+pub returns-clause-chopped : goal.returns-clause-chopped
+returns-clause-chopped c =
+    let l = c.loop-k in
+    let max = c.args.p.now.max_grid_size in
+    subst (λ (ks : List Level). All (IsChopped max) ks) (sym c.in_ok-push-2.ensures.items) (All-push (IsChopped max) l.levels.items l.last l.invariant.chopped l.invariant.last)
