@@ -1,12 +1,40 @@
 //! Whole payloads: bytes and places worked out by hand from the table of fields.
 
+ghost use Rattle.std.specs.Prelude.{◌≡◌, false};
+ghost use Rattle.amr_patch.specs.Meshes.{is_spent};
+
 use super::*;
 use crate::tests::two_by_two;
 use amr_box::Cell;
 use amr_codec::{MassWidth, encode, encode2};
 use amr_def::{Blocks, Name, Problem, Shear, Sides, Thresholds};
+use amr_patch::Mesh;
 use std::alloc::Global;
 use std::test::Fail;
+
+/// The bytes from one place on up to another, as far as there are any.
+fn part(bytes: &[u8], from: usize, to: usize) -> &[u8] {
+    let to = to.min(bytes.len());
+    let from = from.min(to);
+    &bytes[from..to]
+}
+
+/// Sets a byte, where there is one.
+fn set(bytes: &mut [u8], place: usize, byte: u8) {
+    if place < bytes.len() {
+        bytes[place] = byte;
+    }
+}
+
+/// The mass of a cell of level `l`.
+fn mass_at(mesh: &Mesh, l: usize, x: i32, y: i32) -> Option<u64>
+    requires { is_spent mesh.now ≡ false }
+{
+    match mesh.levels().get(l) {
+        None => None,
+        Some(level) => level.get(Cell { x, y }),
+    }
+}
 
 /// What a decoder says: nothing where it gives a mesh, else its fault.
 fn fault_in(alloc: Global, p: &Problem, width: MassWidth, bytes: &[u8]) -> Option<CodecFault> {
@@ -24,9 +52,7 @@ fn fault_in(alloc: Global, p: &Problem, width: MassWidth, bytes: &[u8]) -> Optio
 fn empty_square(alloc: Global, len: usize) -> Result<Vec<u8>, Fail> {
     let mut bytes = vec![in alloc; 0u8; len]?;
     for place in [28usize, 29, 41, 45] {
-        if place < bytes.len() {
-            bytes[place] = 1;
-        }
+        set(&mut bytes, place, 1);
     }
     Ok(bytes)
 }
@@ -41,11 +67,11 @@ fn the_start_of_two_by_two_cells(rt: HostRuntime) -> Result<(), Fail> {
     assert_eq!(rt; mesh.levels().len(), 1);
     let again = encode(alloc, &p, &mesh)?;
     assert_eq!(rt; again.as_slice(), bytes.as_slice());
-    bytes[28] = 2;
+    set(&mut bytes, 28, 2);
     let levels = fault_in(alloc, &p, MassWidth::Eight, &bytes);
     assert_eq!(rt; levels, Some(CodecFault::Bad { place: 28 }));
-    bytes[28] = 1;
-    let cut = fault_in(alloc, &p, MassWidth::Eight, &bytes[..80]);
+    set(&mut bytes, 28, 1);
+    let cut = fault_in(alloc, &p, MassWidth::Eight, part(&bytes, 0, 80));
     assert_eq!(rt; cut, Some(CodecFault::Bad { place: 73 }));
     bytes.push(0)?;
     let longer = fault_in(alloc, &p, MassWidth::Eight, &bytes);
@@ -61,7 +87,7 @@ fn the_same_by_four_bytes(rt: HostRuntime) -> Result<(), Fail> {
     let mesh = decode2(alloc, &p, &bytes)?;
     let again = encode2(alloc, &p, &mesh)?;
     assert_eq!(rt; again.as_slice(), bytes.as_slice());
-    let cut = fault_in(alloc, &p, MassWidth::Four, &bytes[..64]);
+    let cut = fault_in(alloc, &p, MassWidth::Four, part(&bytes, 0, 64));
     assert_eq!(rt; cut, Some(CodecFault::Bad { place: 61 }));
     let as_eight = fault_in(alloc, &p, MassWidth::Eight, &bytes);
     assert_eq!(rt; as_eight, Some(CodecFault::Bad { place: 65 }));
@@ -122,9 +148,9 @@ fn state_bytes(alloc: Global, width: MassWidth) -> Result<Vec<u8>, Fail> {
         put(&mut bytes, n)?;
     }
     bytes.push(3)?;
-    for (level, low) in LEVELS.iter().zip([0u32, 2, 6]) {
+    for (level, (low, high)) in LEVELS.iter().zip([(0u32, 3u32), (2, 5), (6, 9)]) {
         put(&mut bytes, 1)?;
-        for corner in [low, low, low + 3, low + 3] {
+        for corner in [low, low, high, high] {
             put(&mut bytes, corner)?;
         }
         for mass in level {
@@ -142,9 +168,8 @@ fn three_levels_there_and_back(rt: HostRuntime) -> Result<(), Fail> {
     let mesh = decode(alloc, &p, &first)?;
     assert_eq!(rt; first.len(), 473);
     assert_eq!(rt; mesh.levels().len(), 3);
-    let middle = &mesh.levels()[1];
-    assert_eq!(rt; middle.get(Cell { x: 2, y: 2 }), Some(5));
-    assert_eq!(rt; middle.get(Cell { x: 3, y: 4 }), Some(4));
+    assert_eq!(rt; mass_at(&mesh, 1, 2, 2), Some(5));
+    assert_eq!(rt; mass_at(&mesh, 1, 3, 4), Some(4));
     let again = encode(alloc, &p, &mesh)?;
     assert_eq!(rt; again.as_slice(), first.as_slice());
     let second = state_bytes(alloc, MassWidth::Four)?;
@@ -256,9 +281,7 @@ fn each_field_at_its_bounds(rt: HostRuntime) -> Result<(), Fail> {
         let count = if place == 28 { 1 } else { 4 };
         let mut bytes = state_bytes(alloc, MassWidth::Eight)?;
         for (k, byte) in value.to_le_bytes().iter().take(count).enumerate() {
-            if place < 470 {
-                bytes[place + k] = *byte;
-            }
+            set(&mut bytes, place.saturating_add(k), *byte);
         }
         let fault = fault_in(alloc, &p, MassWidth::Eight, &bytes);
         let told = told(alloc, fault)?;
@@ -292,7 +315,7 @@ fn each_length_from_none_to_the_whole(rt: HostRuntime) -> Result<(), Fail> {
     let p = three_levels(alloc)?;
     let bytes = state_bytes(alloc, MassWidth::Eight)?;
     for len in 0..bytes.len() {
-        let fault = fault_in(alloc, &p, MassWidth::Eight, &bytes[..len]);
+        let fault = fault_in(alloc, &p, MassWidth::Eight, part(&bytes, 0, len));
         let place = field_of(len) as u64;
         assert_eq!(rt; fault, Some(CodecFault::Bad { place }));
     }
@@ -305,10 +328,10 @@ fn a_box_twice_is_bad_at_its_first_field(rt: HostRuntime) -> Result<(), Fail> {
     let p = three_levels(alloc)?;
     let whole = state_bytes(alloc, MassWidth::Eight)?;
     let mut bytes = Vec::new(alloc);
-    bytes.extend_from_slice(&whole[..325])?;
-    bytes.extend_from_slice(&whole[181..325])?;
-    bytes[28] = 2;
-    bytes[177] = 2;
+    bytes.extend_from_slice(part(&whole, 0, 325))?;
+    bytes.extend_from_slice(part(&whole, 181, 325))?;
+    set(&mut bytes, 28, 2);
+    set(&mut bytes, 177, 2);
     let fault = fault_in(alloc, &p, MassWidth::Eight, &bytes);
     assert_eq!(rt; fault, Some(CodecFault::Bad { place: 325 }));
     Ok(())
