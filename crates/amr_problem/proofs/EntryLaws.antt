@@ -1,5 +1,5 @@
 -- Entries that are read of a table, and their ranges.
-use Rattle.std.proofs.Common.{◌≡◌, refl, ℕ, ◌≤◌, true, ◌&&◌, nat_lt, ℤ, pos, negsuc, ◌≤ℤ◌, unsigned_abs, inl, inr, List, [], ◌∷◌, map, length, Option, None, option_map, is_none, arith}
+use Rattle.std.proofs.Common.{◌≡◌, ◌∙◌, sym, ap, refl, ℕ, ◌≤◌, true, ◌&&◌, nat_lt, ℤ, pos, negsuc, ◌≤ℤ◌, unsigned_abs, inl, inr, List, [], ◌∷◌, ◌++◌, map, length, Option, None, Some, option_map, is_none, arith}
 use Rattle.std.proofs.lemmas.Bool.{cases_Bool, and_parts}
 use Rattle.std.proofs.lemmas.Bool.Decides.{nat_tests}
 use Rattle.std.proofs.lemmas.Int.{ints}
@@ -7,27 +7,48 @@ use Rattle.std.specs.List.{list_all}
 use Rattle.std.specs.Option.{option_or}
 use Rattle.toml.specs.Data.{Members}
 use Rattle.amr_def.specs.Limits.{is_name_byte}
+use Rattle.amr_problem.specs.declared.entries.Basics.{Basics}
+use Rattle.amr_problem.specs.declared.entries.Refining.{Refining}
+use Rattle.amr_problem.specs.declared.entries.Overlay.{Overlay}
 use Rattle.amr_problem.specs.declared.entries.Entries.{Entries}
 use Rattle.amr_problem.specs.declared.fault.ProblemFault.{ProblemFault}
 use Rattle.amr_problem.specs.declared.fault.ProblemFault.TheVariants.{OutOfRange}
-use Rattle.amr_problem.specs.declared.key.Key.TheVariants.{Version, Name, Cells, Steps, Courant, Sides, MaxLevel, MaxGridSize, Blocks}
-use Rattle.amr_problem.specs.Keys.{range, even_range, ranges_of, holds, first_outside, cell_count, courant_number, side}
-use Rattle.amr_problem.specs.Faults.{first_some, out_of_range, text_outside, rows_outside}
-use Rattle.amr_problem.specs.Entries.{IsReadOf, IsSide, IsInRange, numbers_outside, range_fault}
-use Rattle.amr_problem.proofs.FirstSome.{both_none, fold-none, option_map-none}
-use Rattle.amr_problem.proofs.RangeLaws.{IsIn, holds-IsIn, first_outside-none}
+use Rattle.amr_problem.specs.declared.key.Key.TheVariants.{Version, Name, Cells, Steps, Courant, Sides, MaxLevel, Tag, NErrorBuf, Efficiency, MinWidth, RegridInt, MaxGridSize, Blocks, ShearX, ShearY, Blocking}
+use Rattle.amr_problem.specs.declared.scope.Scope.{Scope}
+use Rattle.amr_problem.specs.declared.scope.Scope.TheVariants.{Whole}
+use Rattle.amr_problem.specs.Keys.{range, even_range, ranges_of, holds, first_outside, first_beyond, cell_count, courant_number, side, threshold, blocking_factor, greatest_version, greatest_level}
+use Rattle.amr_problem.specs.Values.{numbers_at}
+use Rattle.amr_problem.specs.Faults.{first_some, key_outside, out_of_range, text_outside, rows_outside}
+use Rattle.amr_problem.specs.Entries.{basic_keys, refining_keys, overlay_keys, AreBasicsOf, AreRefiningOf, IsOverlayOf, IsReadOf, IsSide, AreBasicsInRange, AreRefiningInRange, IsOverlayInRange, IsInRange, numbers_outside, basics_outside, refining_outside, overlay_outside, range_fault}
+use Rattle.amr_problem.proofs.FirstSome.{fold-none, or_or, option_map-none, first_some-append}
+use Rattle.amr_problem.proofs.RangeLaws.{IsIn, holds-IsIn, first_outside-none, first_outside-holds, first_beyond-none}
 
--- the ranges of a table are those of its entries
-pub same_ranges : (table : Members) (e : Entries) → IsReadOf table e → out_of_range table ≡ range_fault e
-unfolding range_fault
-same_ranges table e r = rw (r.version, r.name, r.cells, r.steps, r.courant, r.sides, r.max_level, r.max_grid_size, r.blocks)
+-- ---- the ranges of a table are those of its entries
 
-size_within : (z : ℤ) → IsIn courant_number z → unsigned_abs z ≤ 1024
+same_basics : (scope : Scope) (table : Members) (b : Basics) → AreBasicsOf table b → first_some (map (key_outside scope table) basic_keys) ≡ basics_outside scope b
+unfolding basics_outside
+same_basics scope table b r = rw (r.version, r.name, r.cells, r.steps, r.courant, r.sides, r.max_level)
+
+same_refining : (scope : Scope) (table : Members) (r : Refining) → AreRefiningOf table r → first_some (map (key_outside scope table) refining_keys) ≡ refining_outside scope r
+unfolding refining_outside
+same_refining scope table r h = rw (h.tag, h.n_error_buf, h.efficiency, h.min_width, h.regrid_int, h.max_grid_size)
+
+same_overlay : (scope : Scope) (table : Members) (nx ny : ℤ) (o : Overlay) → numbers_at 2 table Cells ≡ Some (nx ∷ ny ∷ []) → IsOverlayOf nx ny table o → first_some (map (key_outside scope table) overlay_keys) ≡ overlay_outside scope o
+unfolding overlay_outside
+same_overlay scope table nx ny o cells h = rw (cells, h.blocks, h.shear_x, h.shear_y, h.blocking)
+
+pub same_ranges : (scope : Scope) (table : Members) (e : Entries) → IsReadOf table e → out_of_range scope table ≡ range_fault scope e
+same_ranges scope table e r =
+    let f = key_outside scope table in
+    first_some-append (map f basic_keys) (map f refining_keys ++ map f overlay_keys)
+    ∙ ap (option_or (first_some (map f basic_keys))) (first_some-append (map f refining_keys) (map f overlay_keys))
+    ∙ rw (same_basics scope table e.basics r.basics, same_refining scope table e.refining r.refining, same_overlay scope table e.basics.nx e.basics.ny e.overlay r.basics.cells r.overlay) (sym (or_or (basics_outside scope e.basics) (refining_outside scope e.refining) (overlay_outside scope e.overlay)))
+
+-- ---- entries without a number out of its range
+
+pub size_within : (z : ℤ) → IsIn courant_number z → unsigned_abs z ≤ 1024
 size_within (pos n) h = let top : pos n ≤ℤ pos 1024 = h.greatest in omega (arith, ints)
 size_within (negsuc n) h = let least : negsuc 1023 ≤ℤ negsuc n = h.least in omega (arith, ints)
-
-same_from_both : (z w : ℤ) → IsIn (range w w) z → z ≡ w
-same_from_both z w h = let low : w ≤ℤ z = h.least in let high : z ≤ℤ w = h.greatest in omega (arith, ints)
 
 side_within : (z : ℤ) → IsIn side z → IsSide z
 side_within z h = record { least = h.least; greatest = h.greatest }
@@ -51,64 +72,51 @@ name_from_none bytes h =
 
 record AreRows (rows : List (List ℤ)) : Type 0 where
   many : length rows ≤ 256
-  inside : list_all (λ row. is_none (first_outside (ranges_of Blocks) row)) rows ≡ true
+  inside : list_all (λ row. is_none (first_outside (ranges_of Whole Blocks) row)) rows ≡ true
 
 all_none : {X A : Type 0} (f : X → Option A) (xs : List X) → first_some (map f xs) ≡ None → list_all (λ x. is_none (f x)) xs ≡ true
 all_none f [] h = refl
 all_none f (x ∷ xs) h = let none = fold-none (f x) (map f xs) h in rw (none.first, all_none f xs none.second)
 
-rows_from_none : (rows : List (List ℤ)) → rows_outside 256 (ranges_of Blocks) rows ≡ None → AreRows rows
+rows_from_none : (rows : List (List ℤ)) → rows_outside 256 (ranges_of Whole Blocks) rows ≡ None → AreRows rows
 rows_from_none rows h =
     elim (cases_Bool (nat_lt 256 (length rows))) [
       | inl over ↦ absurd (let e = rw over at h in cc)
-      | inr within ↦ record { many = grind (arith, nat_tests); inside = all_none (first_outside (ranges_of Blocks)) rows (rw within at h) }
+      | inr within ↦ record { many = grind (arith, nat_tests); inside = all_none (first_outside (ranges_of Whole Blocks)) rows (rw within at h) }
     ]
 
--- entries without a number out of its range
-pub in_range : (e : Entries) → range_fault e ≡ None → IsInRange e
-unfolding range_fault
-in_range e none =
-    let version : Option ProblemFault = numbers_outside Version (e.version ∷ []) in
-    let name : Option ProblemFault = option_map (OutOfRange Name) (text_outside (range (pos 1) (pos 32)) e.name.items) in
-    let cells : Option ProblemFault = numbers_outside Cells (e.nx ∷ e.ny ∷ []) in
-    let steps : Option ProblemFault = numbers_outside Steps (e.steps ∷ []) in
-    let courant : Option ProblemFault = numbers_outside Courant (e.cx ∷ e.cy ∷ e.d ∷ []) in
-    let sides : Option ProblemFault = numbers_outside Sides (e.x_low ∷ e.x_high ∷ e.y_low ∷ e.y_high ∷ []) in
-    let max_level : Option ProblemFault = numbers_outside MaxLevel (e.max_level ∷ []) in
-    let max_grid_size : Option ProblemFault = numbers_outside MaxGridSize (e.max_grid_size ∷ []) in
-    let blocks : Option ProblemFault = option_map (OutOfRange Blocks) (rows_outside 256 (ranges_of Blocks) e.blocks.items) in
-    let to_name : Option ProblemFault = option_or version name in
-    let to_cells : Option ProblemFault = option_or to_name cells in
-    let to_steps : Option ProblemFault = option_or to_cells steps in
-    let to_courant : Option ProblemFault = option_or to_steps courant in
-    let to_sides : Option ProblemFault = option_or to_courant sides in
-    let to_max_level : Option ProblemFault = option_or to_sides max_level in
-    let to_max_grid_size : Option ProblemFault = option_or to_max_level max_grid_size in
-    let n9 = both_none to_max_grid_size blocks none in
-    let n8 = both_none to_max_level max_grid_size n9.first in
-    let n7 = both_none to_sides max_level n8.first in
-    let n6 = both_none to_courant sides n7.first in
-    let n5 = both_none to_steps courant n6.first in
-    let n4 = both_none to_cells steps n5.first in
-    let n3 = both_none to_name cells n4.first in
-    let n2 = both_none version name n3.first in
-    let version_is = first_outside-none (range (pos 1) (pos 1)) [] e.version [] (option_map-none (OutOfRange Version) _ n2.first) in
-    let named = name_from_none e.name.items (option_map-none (OutOfRange Name) _ n2.second) in
-    let nx = first_outside-none cell_count (cell_count ∷ []) e.nx (e.ny ∷ []) (option_map-none (OutOfRange Cells) _ n3.second) in
-    let ny = first_outside-none cell_count [] e.ny [] nx.others in
-    let last = first_outside-none (range (pos 0) (pos 4096)) [] e.steps [] (option_map-none (OutOfRange Steps) _ n4.second) in
-    let cx = first_outside-none courant_number (courant_number ∷ range (pos 1) (pos 1024) ∷ []) e.cx (e.cy ∷ e.d ∷ []) (option_map-none (OutOfRange Courant) _ n5.second) in
-    let cy = first_outside-none courant_number (range (pos 1) (pos 1024) ∷ []) e.cy (e.d ∷ []) cx.others in
-    let d = first_outside-none (range (pos 1) (pos 1024)) [] e.d [] cy.others in
-    let x_low = first_outside-none side (side ∷ side ∷ side ∷ []) e.x_low (e.x_high ∷ e.y_low ∷ e.y_high ∷ []) (option_map-none (OutOfRange Sides) _ n6.second) in
-    let x_high = first_outside-none side (side ∷ side ∷ []) e.x_high (e.y_low ∷ e.y_high ∷ []) x_low.others in
-    let y_low = first_outside-none side (side ∷ []) e.y_low (e.y_high ∷ []) x_high.others in
-    let y_high = first_outside-none side [] e.y_high [] y_low.others in
-    let level = first_outside-none (range (pos 0) (pos 0)) [] e.max_level [] (option_map-none (OutOfRange MaxLevel) _ n7.second) in
-    let grid = first_outside-none (even_range (pos 4) (pos 256)) [] e.max_grid_size [] (option_map-none (OutOfRange MaxGridSize) _ n8.second) in
-    let rows = rows_from_none e.blocks.items (option_map-none (OutOfRange Blocks) _ n9.second) in
+basics_in_range : (scope : Scope) (b : Basics) → basics_outside scope b ≡ None → AreBasicsInRange scope b
+unfolding basics_outside
+basics_in_range scope b none =
+    let name : Option ProblemFault = option_map (OutOfRange Name) (text_outside (range (pos 1) (pos 32)) b.name.items) in
+    let cells : Option ProblemFault = numbers_outside scope Cells (b.nx ∷ b.ny ∷ []) in
+    let steps : Option ProblemFault = numbers_outside scope Steps (b.steps ∷ []) in
+    let courant : Option ProblemFault = numbers_outside scope Courant (b.cx ∷ b.cy ∷ b.d ∷ []) in
+    let sides : Option ProblemFault = numbers_outside scope Sides (b.x_low ∷ b.x_high ∷ b.y_low ∷ b.y_high ∷ []) in
+    let max_level : Option ProblemFault = numbers_outside scope MaxLevel (b.max_level ∷ []) in
+    let n1 = fold-none (numbers_outside scope Version (b.version ∷ [])) (name ∷ cells ∷ steps ∷ courant ∷ sides ∷ max_level ∷ []) none in
+    let n2 = fold-none name (cells ∷ steps ∷ courant ∷ sides ∷ max_level ∷ []) n1.second in
+    let n3 = fold-none cells (steps ∷ courant ∷ sides ∷ max_level ∷ []) n2.second in
+    let n4 = fold-none steps (courant ∷ sides ∷ max_level ∷ []) n3.second in
+    let n5 = fold-none courant (sides ∷ max_level ∷ []) n4.second in
+    let n6 = fold-none sides (max_level ∷ []) n5.second in
+    let n7 = fold-none max_level [] n6.second in
+    let version_is = first_outside-none (range (pos 1) (pos (greatest_version scope))) [] b.version [] (option_map-none (OutOfRange Version) _ n1.first) in
+    let named = name_from_none b.name.items (option_map-none (OutOfRange Name) _ n2.first) in
+    let nx = first_outside-none cell_count (cell_count ∷ []) b.nx (b.ny ∷ []) (option_map-none (OutOfRange Cells) _ n3.first) in
+    let ny = first_outside-none cell_count [] b.ny [] nx.others in
+    let last = first_outside-none (range (pos 0) (pos 4096)) [] b.steps [] (option_map-none (OutOfRange Steps) _ n4.first) in
+    let cx = first_outside-none courant_number (courant_number ∷ range (pos 1) (pos 1024) ∷ []) b.cx (b.cy ∷ b.d ∷ []) (option_map-none (OutOfRange Courant) _ n5.first) in
+    let cy = first_outside-none courant_number (range (pos 1) (pos 1024) ∷ []) b.cy (b.d ∷ []) cx.others in
+    let d = first_outside-none (range (pos 1) (pos 1024)) [] b.d [] cy.others in
+    let x_low = first_outside-none side (side ∷ side ∷ side ∷ []) b.x_low (b.x_high ∷ b.y_low ∷ b.y_high ∷ []) (option_map-none (OutOfRange Sides) _ n6.first) in
+    let x_high = first_outside-none side (side ∷ side ∷ []) b.x_high (b.y_low ∷ b.y_high ∷ []) x_low.others in
+    let y_low = first_outside-none side (side ∷ []) b.y_low (b.y_high ∷ []) x_high.others in
+    let y_high = first_outside-none side [] b.y_high [] y_low.others in
+    let level = first_outside-none (range (pos 0) (pos (greatest_level scope))) [] b.max_level [] (option_map-none (OutOfRange MaxLevel) _ n7.first) in
     record {
-      version = same_from_both e.version (pos 1) version_is.here;
+      least_version = version_is.here.least;
+      greatest_version = version_is.here.greatest;
       named = named.named;
       short_name = named.short;
       name_bytes = named.proper;
@@ -118,18 +126,78 @@ in_range e none =
       greatest_ny = ny.here.greatest;
       least_steps = last.here.least;
       greatest_steps = last.here.greatest;
-      size_cx = size_within e.cx cx.here;
-      size_cy = size_within e.cy cy.here;
+      size_cx = size_within b.cx cx.here;
+      size_cy = size_within b.cy cy.here;
       least_d = d.here.least;
       greatest_d = d.here.greatest;
-      x_low = side_within e.x_low x_low.here;
-      x_high = side_within e.x_high x_high.here;
-      y_low = side_within e.y_low y_low.here;
-      y_high = side_within e.y_high y_high.here;
-      max_level = same_from_both e.max_level (pos 0) level.here;
+      x_low = side_within b.x_low x_low.here;
+      x_high = side_within b.x_high x_high.here;
+      y_low = side_within b.y_low y_low.here;
+      y_high = side_within b.y_high y_high.here;
+      least_max_level = level.here.least;
+      greatest_max_level = level.here.greatest;
+    }
+
+refining_in_range : (scope : Scope) (r : Refining) → refining_outside scope r ≡ None → AreRefiningInRange r
+unfolding refining_outside
+refining_in_range scope r none =
+    let n_error_buf : Option ProblemFault = numbers_outside scope NErrorBuf (r.n_error_buf ∷ []) in
+    let efficiency : Option ProblemFault = numbers_outside scope Efficiency (r.efficiency ∷ []) in
+    let min_width : Option ProblemFault = numbers_outside scope MinWidth (r.min_width ∷ []) in
+    let regrid_int : Option ProblemFault = numbers_outside scope RegridInt (r.regrid_int ∷ []) in
+    let max_grid_size : Option ProblemFault = numbers_outside scope MaxGridSize (r.max_grid_size ∷ []) in
+    let n1 = fold-none (option_map (OutOfRange Tag) (first_beyond threshold r.tag.items)) (n_error_buf ∷ efficiency ∷ min_width ∷ regrid_int ∷ max_grid_size ∷ []) none in
+    let n2 = fold-none n_error_buf (efficiency ∷ min_width ∷ regrid_int ∷ max_grid_size ∷ []) n1.second in
+    let n3 = fold-none efficiency (min_width ∷ regrid_int ∷ max_grid_size ∷ []) n2.second in
+    let n4 = fold-none min_width (regrid_int ∷ max_grid_size ∷ []) n3.second in
+    let n5 = fold-none regrid_int (max_grid_size ∷ []) n4.second in
+    let n6 = fold-none max_grid_size [] n5.second in
+    let buf = first_outside-none (range (pos 0) (pos 8)) [] r.n_error_buf [] (option_map-none (OutOfRange NErrorBuf) _ n2.first) in
+    let share = first_outside-none (range (pos 1) (pos 100)) [] r.efficiency [] (option_map-none (OutOfRange Efficiency) _ n3.first) in
+    let width = first_outside-none (range (pos 1) (pos 16)) [] r.min_width [] (option_map-none (OutOfRange MinWidth) _ n4.first) in
+    let interval = first_outside-none (range (pos 1) (pos 4096)) [] r.regrid_int [] (option_map-none (OutOfRange RegridInt) _ n5.first) in
+    let grid = first_outside-none (even_range (pos 4) (pos 256)) [] r.max_grid_size [] (option_map-none (OutOfRange MaxGridSize) _ n6.first) in
+    record {
+      tag = first_beyond-none threshold r.tag.items (option_map-none (OutOfRange Tag) _ n1.first);
+      least_n_error_buf = buf.here.least;
+      greatest_n_error_buf = buf.here.greatest;
+      least_efficiency = share.here.least;
+      greatest_efficiency = share.here.greatest;
+      least_min_width = width.here.least;
+      greatest_min_width = width.here.greatest;
+      least_regrid_int = interval.here.least;
+      greatest_regrid_int = interval.here.greatest;
       least_max_grid_size = grid.here.least;
       greatest_max_grid_size = grid.here.greatest;
-      even_max_grid_size = grid.here.even refl;
+      even_max_grid_size = grid.here.among;
+    }
+
+overlay_in_range : (scope : Scope) (o : Overlay) → overlay_outside scope o ≡ None → IsOverlayInRange o
+unfolding overlay_outside
+overlay_in_range scope o none =
+    let shear_x : Option ProblemFault = option_map (OutOfRange ShearX) (first_beyond courant_number o.shear_x.items) in
+    let shear_y : Option ProblemFault = option_map (OutOfRange ShearY) (first_beyond courant_number o.shear_y.items) in
+    let blocking : Option ProblemFault = numbers_outside scope Blocking (o.blocking ∷ []) in
+    let n1 = fold-none (option_map (OutOfRange Blocks) (rows_outside 256 (ranges_of scope Blocks) o.blocks.items)) (shear_x ∷ shear_y ∷ blocking ∷ []) none in
+    let n2 = fold-none shear_x (shear_y ∷ blocking ∷ []) n1.second in
+    let n3 = fold-none shear_y (blocking ∷ []) n2.second in
+    let n4 = fold-none blocking [] n3.second in
+    let rows = rows_from_none o.blocks.items (option_map-none (OutOfRange Blocks) _ n1.first) in
+    record {
       block_count = rows.many;
       blocks = rows.inside;
+      shear_x = first_beyond-none courant_number o.shear_x.items (option_map-none (OutOfRange ShearX) _ n2.first);
+      shear_y = first_beyond-none courant_number o.shear_y.items (option_map-none (OutOfRange ShearY) _ n3.first);
+      blocking = first_outside-holds blocking_factor o.blocking (option_map-none (OutOfRange Blocking) _ n4.first);
+    }
+
+pub in_range : (scope : Scope) (e : Entries) → range_fault scope e ≡ None → IsInRange scope e
+in_range scope e none =
+    let n1 = fold-none (basics_outside scope e.basics) (refining_outside scope e.refining ∷ overlay_outside scope e.overlay ∷ []) none in
+    let n2 = fold-none (refining_outside scope e.refining) (overlay_outside scope e.overlay ∷ []) n1.second in
+    let n3 = fold-none (overlay_outside scope e.overlay) [] n2.second in
+    record {
+      basics = basics_in_range scope e.basics n1.first;
+      refining = refining_in_range scope e.refining n2.first;
+      overlay = overlay_in_range scope e.overlay n3.first;
     }

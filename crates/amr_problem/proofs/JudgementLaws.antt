@@ -1,41 +1,88 @@
 -- From the entries of a table to its problem.
-use Rattle.std.proofs.Common.{◌≡◌, ◌∙◌, sym, ap, refl, ℤ, List, [], ◌∷◌, ◌++◌, map, Option, Some, None}
+use Rattle.std.proofs.Common.{◌≡◌, ◌∙◌, ap, refl, inl, inr, ℤ, List, [], ◌∷◌, ◌++◌, Option, Some, None}
+use Rattle.std.proofs.lemmas.Bool.{cases_Bool}
 use Rattle.std.specs.Option.{option_or}
 use Rattle.toml.specs.Data.{Members}
-use Rattle.amr_def.specs.declared.problem.Problem.{Problem}
 use Rattle.amr_problem.specs.declared.entries.Entries.{Entries}
-use Rattle.amr_problem.specs.Fields.{sides_numbers, block_numbers}
-use Rattle.amr_problem.specs.Faults.{unknown_key, missing_key, wrong_kind, fault_in}
-use Rattle.amr_problem.specs.Entries.{IsReadOf, IsInRange, HasEntries, range_fault, entry_fault}
+use Rattle.amr_problem.specs.declared.fault.ProblemFault.{ProblemFault}
+use Rattle.amr_problem.specs.declared.key.Key.{Key}
+use Rattle.amr_problem.specs.declared.parts.Parts.{Parts}
+use Rattle.amr_problem.specs.declared.scope.Scope.{Scope}
+use Rattle.amr_problem.specs.declared.scope.Scope.TheVariants.{Whole}
+use Rattle.amr_problem.specs.Keys.{kind_of}
+use Rattle.amr_problem.specs.Faults.{is_read, unknown_key, missing_key, wrong_kind, first_wrong, courant_over, sides_differ, block_outside, tag_count, blocking_misfit, fault_in}
+use Rattle.amr_problem.specs.Entries.{basic_keys, refining_keys, overlay_keys, IsReadOf, HasShears, AreValues, range_fault, entry_fault}
 use Rattle.amr_problem.specs.Judgement.{HasKeys}
 use Rattle.amr_problem.proofs.EntryLaws.{same_ranges}
+use Rattle.amr_problem.proofs.FirstSome.{first_some-cons}
+use Rattle.amr_problem.proofs.ValueLaws.{shear_at-lines}
 
-or_three : {A : Type 0} (a b c d : Option A) → option_or (option_or (option_or a b) c) d ≡ option_or a (option_or (option_or b c) d)
-or_three None b c d = refl
-or_three (Some x) b c d = refl
+-- ---- the first key of another kind
+
+first_wrong-append : (table : Members) (ks ls : List Key) → first_wrong table (ks ++ ls) ≡ option_or (first_wrong table ks) (first_wrong table ls)
+first_wrong-append table [] ls = refl
+first_wrong-append table (k ∷ ks) ls =
+    elim (cases_Bool (is_read table k (kind_of Whole k))) [
+      | inl read ↦ rw read (first_wrong-append table ks ls)
+      | inr unread ↦ rw unread refl
+    ]
+
+-- part by part of the keys
+pub wrong_kind-parts : (table : Members) → wrong_kind table ≡ option_or (first_wrong table basic_keys) (option_or (first_wrong table refining_keys) (first_wrong table overlay_keys))
+wrong_kind-parts table =
+    first_wrong-append table basic_keys (refining_keys ++ overlay_keys)
+    ∙ ap (option_or (first_wrong table basic_keys)) (first_wrong-append table refining_keys overlay_keys)
+
+-- ---- the fault of a table
+
+-- those of entries within their ranges
+abbrev later_faults : Entries → List (Option ProblemFault)
+later_faults e =
+    courant_over (e.basics.cx ∷ e.basics.cy ∷ e.basics.d ∷ []) e.overlay.shear_x.items e.overlay.shear_y.items
+    ∷ sides_differ (e.basics.x_low ∷ e.basics.x_high ∷ e.basics.y_low ∷ e.basics.y_high ∷ [])
+    ∷ block_outside (e.basics.nx ∷ e.basics.ny ∷ []) e.overlay.blocks.items
+    ∷ tag_count e.basics.max_level e.refining.tag.items
+    ∷ blocking_misfit (e.basics.nx ∷ e.basics.ny ∷ []) e.overlay.blocking
+    ∷ []
 
 -- where the keys are right, the fault is that of the entries
-pub fault_in-entries : (table : Members) (e : Entries) → option_or (unknown_key table) (missing_key table) ≡ None → wrong_kind table ≡ None → IsReadOf table e → fault_in table ≡ entry_fault e
-fault_in-entries table e absent kinds r =
-    rw (absent, kinds, same_ranges table e r, r.courant, r.sides, r.cells, r.blocks) (or_three (range_fault e) _ _ _)
+pub fault_in-entries : (scope : Scope) (table : Members) (e : Entries) → option_or (unknown_key scope table) (missing_key table) ≡ None → wrong_kind table ≡ None → IsReadOf table e → fault_in scope table ≡ entry_fault scope e
+fault_in-entries scope table e absent kinds r =
+    rw (absent, kinds, same_ranges scope table e r, r.basics.courant, r.basics.sides, r.basics.cells, r.basics.max_level, r.refining.tag, r.overlay.blocks, r.overlay.shear_x, r.overlay.shear_y, r.overlay.blocking) (first_some-cons (range_fault scope e) (later_faults e))
+
+-- ---- from entries to keys
+
+pub has_shears : (table : Members) (e : Entries) → IsReadOf table e → HasShears e.basics.nx e.basics.ny e.overlay
+has_shears table e r = record {
+  rows = shear_at-lines e.basics.ny table _ _ r.overlay.shear_x;
+  columns = shear_at-lines e.basics.nx table _ _ r.overlay.shear_y;
+}
 
 -- the sides of both axes
 four_sides : {a b c d : ℤ} {xs ys : List ℤ} → a ∷ b ∷ [] ≡ xs → c ∷ d ∷ [] ≡ ys → a ∷ b ∷ c ∷ d ∷ [] ≡ xs ++ ys
 four_sides x y = rw (← x, ← y)
 
-pub has_keys : (table : Members) (e : Entries) (p : Problem) → IsReadOf table e → IsInRange e → HasEntries e p → HasKeys table p
-has_keys table e p r i h =
-    let v = h.values in
-    let q = h.has in
+pub has_keys : (table : Members) (e : Entries) (q : Parts) → IsReadOf table e → AreValues e q → HasKeys table q
+has_keys table e q r v =
+    let b = r.basics in
+    let f = r.refining in
+    let o = r.overlay in
     record {
-      version = r.version ∙ rw (v.version, q.version);
-      name = r.name ∙ ap Some (v.name ∙ sym q.name);
-      cells = r.cells ∙ rw (v.nx, v.ny, q.nx, q.ny);
-      steps = r.steps ∙ rw (v.steps, q.steps);
-      courant = r.courant ∙ rw (v.cx, v.cy, v.d, q.cx, q.cy, q.d);
-      sides = r.sides ∙ ap Some (four_sides (v.x_sides ∙ ap sides_numbers (sym q.x_sides)) (v.y_sides ∙ ap sides_numbers (sym q.y_sides)));
-      max_level = r.max_level ∙ rw (i.max_level, q.max_level);
-      max_grid_size = r.max_grid_size ∙ rw (v.max_grid_size, q.max_grid_size);
-      blocks = r.blocks ∙ ap Some (v.blocks ∙ ap (map block_numbers) (sym q.blocks));
-      absent = q.absent;
+      version = b.version ∙ ap Some v.version;
+      name = b.name ∙ ap Some v.name;
+      cells = b.cells ∙ rw (v.nx, v.ny);
+      steps = b.steps ∙ ap Some v.steps;
+      courant = b.courant ∙ rw (v.cx, v.cy, v.d);
+      sides = b.sides ∙ ap Some (four_sides v.x_sides v.y_sides);
+      max_level = b.max_level ∙ ap Some v.max_level;
+      tag = f.tag ∙ ap Some v.tag;
+      n_error_buf = f.n_error_buf ∙ ap Some v.n_error_buf;
+      efficiency = f.efficiency ∙ ap Some v.efficiency;
+      min_width = f.min_width ∙ ap Some v.min_width;
+      regrid_int = f.regrid_int ∙ ap Some v.regrid_int;
+      max_grid_size = f.max_grid_size ∙ ap Some v.max_grid_size;
+      blocks = o.blocks ∙ ap Some v.blocks;
+      shear_x = rw v.ny at (o.shear_x ∙ ap Some v.shear_x);
+      shear_y = rw v.nx at (o.shear_y ∙ ap Some v.shear_y);
+      blocking = o.blocking ∙ ap Some v.blocking;
     }

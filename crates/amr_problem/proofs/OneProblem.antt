@@ -1,5 +1,5 @@
 -- Two problems of the same bytes are the same.
-use Rattle.std.proofs.Common.{◌≡◌, ◌∙◌, sym, ap, refl, subst, ℕ, ℤ, pos, List, [], ◌∷◌, ◌++◌, map, arith}
+use Rattle.std.proofs.Common.{◌≡◌, ◌∙◌, sym, ap, refl, subst, ℕ, ℤ, pos, Option, Some, List, [], ◌∷◌, ◌++◌, map, arith}
 use Rattle.std.proofs.Props.{props}
 use Rattle.std.proofs.lemmas.Int.{ints}
 use Rattle.std.proofs.lemmas.List.{append-nil}
@@ -10,69 +10,22 @@ use Rattle.amr_def.specs.declared.problem.Block.{Block}
 use Rattle.amr_def.specs.declared.problem.Sides.{Sides}
 use Rattle.amr_def.specs.declared.problem.Sides.TheVariants.{Periodic, Open}
 use Rattle.amr_def.specs.Limits.{Limits}
+use Rattle.amr_problem.specs.declared.parts.Parts.{Parts}
+use Rattle.amr_problem.specs.declared.scope.Scope.{Scope}
 use Rattle.amr_problem.specs.Document.{table_of}
-use Rattle.amr_problem.specs.Fields.{sides_numbers, block_numbers}
+use Rattle.amr_problem.specs.Fields.{sides_numbers, block_numbers, parts_of}
 use Rattle.amr_problem.specs.Judgement.{HasKeys, IsProblemOf}
 
--- ---- a problem by its fields
+-- ---- a problem by its parts
 
--- what a problem has beside its limits
-record Fields : Type 0 where
-  version : ℕ
-  name : List ℕ
-  nx : ℕ
-  ny : ℕ
-  steps : ℕ
-  cx : ℤ
-  cy : ℤ
-  d : ℕ
-  shear_x : List ℤ
-  shear_y : List ℤ
-  x_sides : Sides
-  y_sides : Sides
-  max_level : ℕ
-  tag : List ℕ
-  n_error_buf : ℕ
-  efficiency : ℕ
-  min_width : ℕ
-  regrid_int : ℕ
-  blocking : ℕ
-  max_grid_size : ℕ
-  blocks : List Block
-
-fields : Problem → Fields
-fields p = record {
-  version = p.version;
-  name = p.name;
-  nx = p.nx;
-  ny = p.ny;
-  steps = p.steps;
-  cx = p.cx;
-  cy = p.cy;
-  d = p.d;
-  shear_x = p.shear_x;
-  shear_y = p.shear_y;
-  x_sides = p.x_sides;
-  y_sides = p.y_sides;
-  max_level = p.max_level;
-  tag = p.tag;
-  n_error_buf = p.n_error_buf;
-  efficiency = p.efficiency;
-  min_width = p.min_width;
-  regrid_int = p.regrid_int;
-  blocking = p.blocking;
-  max_grid_size = p.max_grid_size;
-  blocks = p.blocks;
-}
-
-abbrev LimitsOf : Fields → Type 0
+abbrev LimitsOf : Parts → Type 0
 LimitsOf f = Limits f.version f.name f.nx f.ny f.steps f.cx f.cy f.d f.shear_x f.shear_y f.x_sides f.y_sides f.max_level f.tag f.n_error_buf f.efficiency f.min_width f.regrid_int f.blocking f.max_grid_size f.blocks
 
 -- limits have one proof
-limits_once : (f : Fields) → (l k : LimitsOf f) → l ≡ k
+limits_once : (f : Parts) → (l k : LimitsOf f) → l ≡ k
 limits_once f = hlevel props
 
-abbrev made : (f : Fields) → LimitsOf f → Problem
+abbrev made : (f : Parts) → LimitsOf f → Problem
 made f l = record {
   version = f.version;
   name = f.name;
@@ -98,12 +51,12 @@ made f l = record {
   limits = l;
 }
 
-same_made : (f g : Fields) → f ≡ g → (l : LimitsOf f) → (k : LimitsOf g) → made f l ≡ made g k
-same_made f g is l = subst (λ (h : Fields). (k : LimitsOf h) → made f l ≡ made h k) is (λ k. ap (made f) (limits_once f l k))
+same_made : (f g : Parts) → f ≡ g → (l : LimitsOf f) → (k : LimitsOf g) → made f l ≡ made g k
+same_made f g is l = subst (λ (h : Parts). (k : LimitsOf h) → made f l ≡ made h k) is (λ k. ap (made f) (limits_once f l k))
 
-same_fields : (p q : Problem) → fields p ≡ fields q → p ≡ q
-unfolding fields
-same_fields p q is = same_made (fields p) (fields q) is p.limits q.limits
+same_parts : (p q : Problem) → parts_of p ≡ parts_of q → p ≡ q
+unfolding parts_of
+same_parts p q is = same_made (parts_of p) (parts_of q) is p.limits q.limits
 
 -- ---- what its text says of the fields
 
@@ -147,13 +100,33 @@ same_blocks (b ∷ bs) (c ∷ cs) is =
     let others : bs ≡ cs = same_blocks bs cs (grind arith) in
     rw (here, others)
 
+same_numbers : (ms ns : List ℕ) → map pos ms ≡ map pos ns → ms ≡ ns
+same_numbers [] [] is = refl
+same_numbers [] (n ∷ ns) is = absurd (grind arith)
+same_numbers (m ∷ ms) [] is = absurd (grind arith)
+same_numbers (m ∷ ms) (n ∷ ns) is =
+    let here : m ≡ n = grind (arith, ints) in
+    let others : ms ≡ ns = same_numbers ms ns (grind arith) in
+    rw (here, others)
+
 -- ---- the problem of bytes
 
--- two problems of the same table have the same fields
-one_of_keys : (table : Members) (p q : Problem) → HasKeys table p → HasKeys table q → fields p ≡ fields q
-unfolding fields
+-- what stands at a key is one number
+one_number : (at_key : Option ℤ) (m n : ℕ) → at_key ≡ Some (pos m) → at_key ≡ Some (pos n) → m ≡ n
+one_number at_key m n is_m is_n = same_pos (same_Some _ _ (sym is_m ∙ is_n))
+
+copy_of : Parts → Parts
+copy_of q = record { version = q.version; name = q.name; nx = q.nx; ny = q.ny; steps = q.steps; cx = q.cx; cy = q.cy; d = q.d; shear_x = q.shear_x; shear_y = q.shear_y; x_sides = q.x_sides; y_sides = q.y_sides; max_level = q.max_level; tag = q.tag; n_error_buf = q.n_error_buf; efficiency = q.efficiency; min_width = q.min_width; regrid_int = q.regrid_int; blocking = q.blocking; max_grid_size = q.max_grid_size; blocks = q.blocks }
+
+rebuilt : (p q : Parts) → copy_of p ≡ copy_of q → p ≡ q
+unfolding copy_of
+rebuilt p q is = is
+
+-- two lists of parts of the same table are the same
+one_of_keys : (table : Members) (p q : Parts) → HasKeys table p → HasKeys table q → p ≡ q
+unfolding copy_of
 one_of_keys table p q h k =
-    let version : p.version ≡ q.version = same_pos (same_Some _ _ (sym h.version ∙ k.version)) in
+    let version : p.version ≡ q.version = one_number _ _ _ h.version k.version in
     let cells : pos p.nx ∷ pos p.ny ∷ [] ≡ pos q.nx ∷ pos q.ny ∷ [] = same_Some _ _ (sym h.cells ∙ k.cells) in
     let courant : p.cx ∷ p.cy ∷ pos p.d ∷ [] ≡ q.cx ∷ q.cy ∷ pos q.d ∷ [] = same_Some _ _ (sym h.courant ∙ k.courant) in
     let sides = same_front p.x_sides q.x_sides _ _ (same_Some _ _ (sym h.sides ∙ k.sides)) in
@@ -161,16 +134,22 @@ one_of_keys table p q h k =
     let name : p.name ≡ q.name = same_Some _ _ (sym h.name ∙ k.name) in
     let nx : p.nx ≡ q.nx = grind (arith, ints) in
     let ny : p.ny ≡ q.ny = grind (arith, ints) in
-    let steps : p.steps ≡ q.steps = same_pos (same_Some _ _ (sym h.steps ∙ k.steps)) in
+    let steps : p.steps ≡ q.steps = one_number _ _ _ h.steps k.steps in
     let cx : p.cx ≡ q.cx = grind arith in
     let cy : p.cy ≡ q.cy = grind arith in
     let d : p.d ≡ q.d = grind (arith, ints) in
-    let max_level : p.max_level ≡ q.max_level = same_pos (same_Some _ _ (sym h.max_level ∙ k.max_level)) in
-    let max_grid_size : p.max_grid_size ≡ q.max_grid_size = same_pos (same_Some _ _ (sym h.max_grid_size ∙ k.max_grid_size)) in
+    let max_level : p.max_level ≡ q.max_level = one_number _ _ _ h.max_level k.max_level in
+    let tag : p.tag ≡ q.tag = same_numbers _ _ (same_Some _ _ (sym h.tag ∙ k.tag)) in
+    let n_error_buf : p.n_error_buf ≡ q.n_error_buf = one_number _ _ _ h.n_error_buf k.n_error_buf in
+    let efficiency : p.efficiency ≡ q.efficiency = one_number _ _ _ h.efficiency k.efficiency in
+    let min_width : p.min_width ≡ q.min_width = one_number _ _ _ h.min_width k.min_width in
+    let regrid_int : p.regrid_int ≡ q.regrid_int = one_number _ _ _ h.regrid_int k.regrid_int in
+    let max_grid_size : p.max_grid_size ≡ q.max_grid_size = one_number _ _ _ h.max_grid_size k.max_grid_size in
     let blocks : p.blocks ≡ q.blocks = same_blocks _ _ (same_Some _ _ (sym h.blocks ∙ k.blocks)) in
-    let a = h.absent in
-    let b = k.absent in
-    rw (version, name, nx, ny, steps, cx, cy, d, sides.front, y.front, max_level, max_grid_size, blocks, a.shear_x, a.shear_y, a.tag, a.n_error_buf, a.efficiency, a.min_width, a.regrid_int, a.blocking, b.shear_x, b.shear_y, b.tag, b.n_error_buf, b.efficiency, b.min_width, b.regrid_int, b.blocking)
+    let shear_x : p.shear_x ≡ q.shear_x = same_Some _ _ (sym h.shear_x ∙ (rw ny k.shear_x)) in
+    let shear_y : p.shear_y ≡ q.shear_y = same_Some _ _ (sym h.shear_y ∙ (rw nx k.shear_y)) in
+    let blocking : p.blocking ≡ q.blocking = one_number _ _ _ h.blocking k.blocking in
+    rebuilt p q (rw (version, name, nx, ny, steps, cx, cy, d, shear_x, shear_y, sides.front, y.front, max_level, tag, n_error_buf, efficiency, min_width, regrid_int, blocking, max_grid_size, blocks) refl)
 
-pub one_problem : (bytes : List ℕ) (p q : Problem) → IsProblemOf bytes p → IsProblemOf bytes q → p ≡ q
-one_problem bytes p q is_p is_q = same_fields p q (one_of_keys (table_of bytes) p q is_p.keys is_q.keys)
+pub one_problem : (scope : Scope) (bytes : List ℕ) (p q : Problem) → IsProblemOf scope bytes p → IsProblemOf scope bytes q → p ≡ q
+one_problem scope bytes p q is_p is_q = same_parts p q (one_of_keys (table_of bytes) (parts_of p) (parts_of q) is_p.keys is_q.keys)

@@ -1,34 +1,94 @@
 -- From entries without a fault to the limits of a problem.
-use Rattle.std.proofs.Common.{◌≡◌, ◌∙◌, sym, refl, ℕ, ◌+◌, ◌%◌, ◌≤◌, ◌^◌, true, false, le-leb, ℤ, pos, ◌≤ℤ◌, int_lt, unsigned_abs, inl, inr, List, [], ◌∷◌, map, length, None, is_none, arith}
+use Rattle.std.proofs.Common.{◌≡◌, ◌∙◌, sym, refl, ℕ, ◌+◌, ◌/◌, ◌%◌, ◌==◌, ◌≤◌, ◌^◌, true, false, ◌||◌, le-leb, eq-eqb, ℤ, pos, ◌≤ℤ◌, int_lt, unsigned_abs, inl, inr, List, [], ◌∷◌, map, length, None, is_none, arith}
 use Rattle.std.proofs.lemmas.Bool.{cases_Bool, and_parts, eqb-true}
+use Rattle.std.proofs.lemmas.Bool.Decides.{Decides-int_eq}
 use Rattle.std.proofs.lemmas.Int.{ints}
 use Rattle.std.proofs.lemmas.List.{length-map}
-use Rattle.std.proofs.Math.Nat.{mod-one}
 use Rattle.std.specs.List.{list_all}
+use Rattle.std.specs.Ordering.{int_eq}
 use Rattle.amr_def.specs.declared.problem.Block.{Block}
 use Rattle.amr_def.specs.declared.problem.Sides.{Sides}
 use Rattle.amr_def.specs.declared.problem.Sides.TheVariants.{Periodic, Open}
-use Rattle.amr_def.specs.Limits.{is_block, has_inflows}
+use Rattle.amr_def.specs.Limits.{is_block, has_inflows, greatest_size, in_use, is_shear, between, greatest_given, is_blocking}
 use Rattle.amr_problem.specs.declared.entries.Entries.{Entries}
-use Rattle.amr_problem.specs.declared.problem.Parts.{Parts}
+use Rattle.amr_problem.specs.declared.parts.Parts.{Parts}
 use Rattle.amr_problem.specs.declared.key.Key.TheVariants.{Blocks}
-use Rattle.amr_problem.specs.Keys.{ranges_of, range, coordinate, is_even, first_outside}
-use Rattle.amr_problem.specs.Fields.{sides_numbers, block_numbers}
-use Rattle.amr_problem.specs.Faults.{courant_over, is_periodic, differ, sides_differ, is_inside}
-use Rattle.amr_problem.specs.Entries.{IsSide, IsClean, AreValues, AreWithinLimits}
+use Rattle.amr_problem.specs.declared.scope.Scope.{Scope}
+use Rattle.amr_problem.specs.declared.scope.Scope.TheVariants.{OneLevel, FirstVersion, Whole}
+use Rattle.amr_problem.specs.Keys.{ranges_of, range, coordinate, threshold, courant_number, blocking_factor, is_even, holds, first_outside, greatest_version, greatest_level}
+use Rattle.amr_problem.specs.Fields.{sides_numbers, block_numbers, HasLimits, IsInScope}
+use Rattle.amr_problem.specs.Faults.{over_by, is_periodic, differ, sides_differ, is_inside, tag_count, fits, blocking_misfit}
+use Rattle.amr_problem.specs.Entries.{IsSide, is_for_lines, HasShears, IsClean, AreValues}
 use Rattle.amr_problem.proofs.FirstSome.{option_map-none}
-use Rattle.amr_problem.proofs.RangeLaws.{first_outside-none}
+use Rattle.amr_problem.proofs.RangeLaws.{holds-IsIn, first_outside-none}
+use Rattle.amr_problem.proofs.EntryLaws.{size_within}
 use Rattle.amr_problem.proofs.Shapes.{none_from_test, position-none}
 
 not_below : (a : ℤ) (n : ℕ) → int_lt a (pos n) ≡ false → pos n ≤ℤ a
 not_below a n h = grind (arith, ints)
 
--- the sizes of the two Courant numbers' numerators add up to at most d
-pub stable-from_none : (cx cy d : ℤ) → courant_over (cx ∷ cy ∷ d ∷ []) ≡ None → pos (unsigned_abs cx + unsigned_abs cy) ≤ℤ d
-stable-from_none cx cy d h =
-    elim (cases_Bool (int_lt d (pos (unsigned_abs cx + unsigned_abs cy)))) [
+-- the greatest sizes of the numerators in use add up to at most d
+stable-from_none : (sum : ℕ) (d : ℤ) → over_by sum d ≡ None → pos sum ≤ℤ d
+stable-from_none sum d h =
+    elim (cases_Bool (int_lt d (pos sum))) [
       | inl over ↦ absurd (let e = rw over at h in cc)
-      | inr within ↦ not_below d _ within
+      | inr within ↦ not_below d sum within
+    ]
+
+-- numerators in their range
+pub sizes_within : (zs : List ℤ) → list_all (holds courant_number) zs ≡ true → greatest_size zs ≤ 1024
+sizes_within [] h = omega arith
+sizes_within (z ∷ zs) h =
+    let (here, others) = and_parts (holds courant_number z) (list_all (holds courant_number) zs) h in
+    let this : unsigned_abs z ≤ 1024 = size_within z (holds-IsIn courant_number z here) in
+    let rest : greatest_size zs ≤ 1024 = sizes_within zs others in
+    omega arith
+
+-- the numerators in use
+pub in_use_within : (c : ℤ) (zs : List ℤ) → unsigned_abs c ≤ 1024 → list_all (holds courant_number) zs ≡ true → greatest_size (in_use c zs) ≤ 1024
+in_use_within c [] one all = omega (arith, one)
+in_use_within c (z ∷ zs) one all = sizes_within (z ∷ zs) all
+
+same_pos : (m n : ℕ) → int_eq (pos m) (pos n) ≡ true → m ≡ n
+same_pos m n h = let same : pos m ≡ pos n = (Decides-int_eq (pos m) (pos n)).0 h in omega (arith, ints)
+
+-- a shear of none, or of one number for each line, in their range
+shear_fits : (n : ℕ) (zs : List ℤ) → is_for_lines (pos n) zs ≡ true → list_all (holds courant_number) zs ≡ true → is_shear n zs ≡ true
+shear_fits n zs lines inside =
+    rw (le-leb (greatest_size zs) 1024 (sizes_within zs inside))
+    (elim (cases_Bool (length zs == 0)) [
+      | inl none ↦ rw none refl
+      | inr some ↦ let many : length zs ≡ n = same_pos (length zs) n (rw some at lines) in rw (some, eq-eqb (length zs) n many) refl
+    ])
+
+-- thresholds in their range
+thresholds_fit : (ns : List ℕ) → list_all (holds threshold) (map pos ns) ≡ true → list_all (between 1 greatest_given) ns ≡ true
+thresholds_fit [] h = refl
+thresholds_fit (n ∷ ns) h =
+    let (here, others) = and_parts (holds threshold (pos n)) (list_all (holds threshold) (map pos ns)) h in
+    let within = holds-IsIn threshold (pos n) here in
+    let least : pos 1 ≤ℤ pos n = within.least in
+    let greatest : pos n ≤ℤ pos 1073741824 = within.greatest in
+    let low : 1 ≤ n = omega (arith, ints) in
+    let high : n ≤ 2 ^ 30 = omega (arith, ints) in
+    rw (le-leb 1 n low, le-leb n (2 ^ 30) high, thresholds_fit ns others) refl
+
+-- as many as the finest level says
+counted : (level : ℕ) (ns : List ℕ) → tag_count (pos level) (map pos ns) ≡ None → length ns ≡ level
+counted level ns h =
+    elim (cases_Bool (int_eq (pos (length (map pos ns))) (pos level))) [
+      | inl same ↦ sym (length-map ns pos) ∙ same_pos (length (map pos ns)) level same
+      | inr other ↦ absurd (let e = rw other at h in cc)
+    ]
+
+is_factor : (b : ℕ) → int_eq (pos b) (pos 2) || int_eq (pos b) (pos 4) || int_eq (pos b) (pos 8) ≡ true → is_blocking b ≡ true
+is_factor b h =
+    elim (cases_Bool (int_eq (pos b) (pos 2))) [
+      | inl two ↦ rw (same_pos b 2 two) refl
+      | inr not_two ↦ elim (cases_Bool (int_eq (pos b) (pos 4))) [
+        | inl four ↦ rw (same_pos b 4 four) refl
+        | inr not_four ↦ rw (same_pos b 8 (rw (not_two, not_four) at h)) refl
+      ]
     ]
 
 -- both sides of each axis are periodic, or neither
@@ -56,6 +116,21 @@ alike_from_none a b c d h =
       ]
     ]
 
+-- half of the blocking factor divides both numbers of cells
+pub record AreMultiples (nx ny b : ℤ) : Type 0 where
+  pub x : fits b nx ≡ true
+  pub y : fits b ny ≡ true
+
+pub fits_from_none : (nx ny b : ℤ) → blocking_misfit (nx ∷ ny ∷ []) b ≡ None → AreMultiples nx ny b
+fits_from_none nx ny b h =
+    elim (cases_Bool (fits b nx)) [
+      | inr x ↦ absurd (let e = rw x at h in cc)
+      | inl x ↦ elim (cases_Bool (fits b ny)) [
+        | inr y ↦ absurd (let e = rw (x, y) at h in cc)
+        | inl y ↦ record { x = x; y = y }
+      ]
+    ]
+
 -- the inflows of an axis in their range
 inflows_fit : (s : Sides) (low high : ℤ) → low ∷ high ∷ [] ≡ sides_numbers s → IsSide low → IsSide high → has_inflows s ≡ true
 inflows_fit Periodic low high is in_low in_high = refl
@@ -69,7 +144,7 @@ inflows_fit (Open l h) low high is in_low in_high =
     rw (le-leb l (2 ^ 30) low_in, le-leb h (2 ^ 30) high_in)
 
 -- the mass of a block in its range
-mass_fits : (b : Block) → first_outside (ranges_of Blocks) (block_numbers b) ≡ None → b.mass ≤ 2 ^ 30
+mass_fits : (b : Block) → first_outside (ranges_of Whole Blocks) (block_numbers b) ≡ None → b.mass ≤ 2 ^ 30
 mass_fits b h =
     let x0 = first_outside-none coordinate (coordinate ∷ coordinate ∷ coordinate ∷ range (pos 0) (pos 1073741824) ∷ []) (pos b.x0) (pos b.y0 ∷ pos b.x1 ∷ pos b.y1 ∷ pos b.mass ∷ []) h in
     let y0 = first_outside-none coordinate (coordinate ∷ coordinate ∷ range (pos 0) (pos 1073741824) ∷ []) (pos b.y0) (pos b.x1 ∷ pos b.y1 ∷ pos b.mass ∷ []) x0.others in
@@ -79,70 +154,102 @@ mass_fits b h =
     let fits : pos b.mass ≤ℤ pos 1073741824 = mass.here.greatest in
     omega (arith, ints)
 
-one_block : (nx ny : ℕ) (b : Block) → is_inside (pos nx ∷ pos ny ∷ []) (block_numbers b) ≡ true → first_outside (ranges_of Blocks) (block_numbers b) ≡ None → is_block nx ny b ≡ true
+one_block : (nx ny : ℕ) (b : Block) → is_inside (pos nx ∷ pos ny ∷ []) (block_numbers b) ≡ true → first_outside (ranges_of Whole Blocks) (block_numbers b) ≡ None → is_block nx ny b ≡ true
 one_block nx ny b inside in_range = rw (inside, le-leb b.mass (2 ^ 30) (mass_fits b in_range))
 
-pub blocks_inside : (nx ny : ℕ) (bs : List Block) → list_all (is_inside (pos nx ∷ pos ny ∷ [])) (map block_numbers bs) ≡ true → list_all (λ row. is_none (first_outside (ranges_of Blocks) row)) (map block_numbers bs) ≡ true → list_all (is_block nx ny) bs ≡ true
+pub blocks_inside : (nx ny : ℕ) (bs : List Block) → list_all (is_inside (pos nx ∷ pos ny ∷ [])) (map block_numbers bs) ≡ true → list_all (λ row. is_none (first_outside (ranges_of Whole Blocks) row)) (map block_numbers bs) ≡ true → list_all (is_block nx ny) bs ≡ true
 blocks_inside nx ny [] inside in_range = refl
 blocks_inside nx ny (b ∷ bs) inside in_range =
     let (here, others) = and_parts (is_inside (pos nx ∷ pos ny ∷ []) (block_numbers b)) (list_all (is_inside (pos nx ∷ pos ny ∷ [])) (map block_numbers bs)) inside in
-    let (here', others') = and_parts (is_none (first_outside (ranges_of Blocks) (block_numbers b))) (list_all (λ row. is_none (first_outside (ranges_of Blocks) row)) (map block_numbers bs)) in_range in
+    let (here', others') = and_parts (is_none (first_outside (ranges_of Whole Blocks) (block_numbers b))) (list_all (λ row. is_none (first_outside (ranges_of Whole Blocks) row)) (map block_numbers bs)) in_range in
     rw (one_block nx ny b here (none_from_test _ here'), blocks_inside nx ny bs others others')
 
-pub limits : (e : Entries) (parts : Parts) → IsClean e → AreValues e parts → AreWithinLimits parts
-limits e parts clean v =
-    let r = clean.in_range in
-    let inside : list_all (is_inside (e.nx ∷ e.ny ∷ [])) e.blocks.items ≡ true = position-none (is_inside (e.nx ∷ e.ny ∷ [])) e.blocks.items (option_map-none _ _ clean.inside) in
-    let inside' : list_all (is_inside (pos parts.nx ∷ pos parts.ny ∷ [])) (map block_numbers parts.blocks) ≡ true = rw (v.nx, v.ny, v.blocks) at inside in
-    let in_range' : list_all (λ row. is_none (first_outside (ranges_of Blocks) row)) (map block_numbers parts.blocks) ≡ true = rw v.blocks at r.blocks in
-    let stable : pos (unsigned_abs parts.cx + unsigned_abs parts.cy) ≤ℤ pos parts.d = rw (v.cx, v.cy, v.d) at (stable-from_none e.cx e.cy e.d clean.stable) in
-    let least_nx : pos 2 ≤ℤ pos parts.nx = rw v.nx at r.least_nx in
-    let greatest_nx : pos parts.nx ≤ℤ pos 256 = rw v.nx at r.greatest_nx in
-    let least_ny : pos 2 ≤ℤ pos parts.ny = rw v.ny at r.least_ny in
-    let greatest_ny : pos parts.ny ≤ℤ pos 256 = rw v.ny at r.greatest_ny in
-    let greatest_steps : pos parts.steps ≤ℤ pos 4096 = rw v.steps at r.greatest_steps in
-    let least_d : pos 1 ≤ℤ pos parts.d = rw v.d at r.least_d in
-    let greatest_d : pos parts.d ≤ℤ pos 1024 = rw v.d at r.greatest_d in
-    let least_grid : pos 4 ≤ℤ pos parts.max_grid_size = rw v.max_grid_size at r.least_max_grid_size in
-    let greatest_grid : pos parts.max_grid_size ≤ℤ pos 256 = rw v.max_grid_size at r.greatest_max_grid_size in
-    let even : is_even (pos parts.max_grid_size) ≡ true = rw v.max_grid_size at r.even_max_grid_size in
-    let many : length (map block_numbers parts.blocks) ≤ 256 = rw v.blocks at r.block_count in
-    let version : pos parts.version ≡ pos 1 = rw v.version at r.version in
+pub greatest_of : (scope : Scope) → greatest_version scope ≤ 2
+greatest_of OneLevel = omega arith
+greatest_of FirstVersion = omega arith
+greatest_of Whole = omega arith
+
+pub level_of : (scope : Scope) → greatest_level scope ≤ 4
+level_of OneLevel = omega arith
+level_of FirstVersion = omega arith
+level_of Whole = omega arith
+
+pub in_scope : (scope : Scope) (e : Entries) (q : Parts) → IsClean scope e → AreValues e q → IsInScope scope q
+in_scope scope e q clean v =
+    let b = clean.in_range.basics in
+    let least : pos 1 ≤ℤ pos q.version = rw v.version at b.least_version in
+    let greatest : pos q.version ≤ℤ pos (greatest_version scope) = rw v.version at b.greatest_version in
+    let level : pos q.max_level ≤ℤ pos (greatest_level scope) = rw v.max_level at b.greatest_max_level in
+    record { least_version = omega (arith, ints); last_version = omega (arith, ints); last_level = omega (arith, ints) }
+
+pub has_limits : (scope : Scope) (e : Entries) (q : Parts) → IsClean scope e → HasShears e.basics.nx e.basics.ny e.overlay → AreValues e q → HasLimits q
+has_limits scope e q clean shears v =
+    let b = clean.in_range.basics in
+    let r = clean.in_range.refining in
+    let o = clean.in_range.overlay in
+    let inside : list_all (is_inside (e.basics.nx ∷ e.basics.ny ∷ [])) e.overlay.blocks.items ≡ true = position-none (is_inside (e.basics.nx ∷ e.basics.ny ∷ [])) e.overlay.blocks.items (option_map-none _ _ clean.inside) in
+    let inside' : list_all (is_inside (pos q.nx ∷ pos q.ny ∷ [])) (map block_numbers q.blocks) ≡ true = rw (v.nx, v.ny, v.blocks) at inside in
+    let in_range' : list_all (λ row. is_none (first_outside (ranges_of Whole Blocks) row)) (map block_numbers q.blocks) ≡ true = rw v.blocks at o.blocks in
+    let over : over_by (greatest_size (in_use q.cx q.shear_x) + greatest_size (in_use q.cy q.shear_y)) (pos q.d) ≡ None = rw (v.cx, v.cy, v.d, v.shear_x, v.shear_y) at clean.stable in
+    let stable : pos (greatest_size (in_use q.cx q.shear_x) + greatest_size (in_use q.cy q.shear_y)) ≤ℤ pos q.d = stable-from_none _ (pos q.d) over in
+    let least_nx : pos 2 ≤ℤ pos q.nx = rw v.nx at b.least_nx in
+    let greatest_nx : pos q.nx ≤ℤ pos 256 = rw v.nx at b.greatest_nx in
+    let least_ny : pos 2 ≤ℤ pos q.ny = rw v.ny at b.least_ny in
+    let greatest_ny : pos q.ny ≤ℤ pos 256 = rw v.ny at b.greatest_ny in
+    let greatest_steps : pos q.steps ≤ℤ pos 4096 = rw v.steps at b.greatest_steps in
+    let least_d : pos 1 ≤ℤ pos q.d = rw v.d at b.least_d in
+    let greatest_d : pos q.d ≤ℤ pos 1024 = rw v.d at b.greatest_d in
+    let greatest_max_level : pos q.max_level ≤ℤ pos (greatest_level scope) = rw v.max_level at b.greatest_max_level in
+    let four : greatest_level scope ≤ 4 = level_of scope in
+    let greatest_buf : pos q.n_error_buf ≤ℤ pos 8 = rw v.n_error_buf at r.greatest_n_error_buf in
+    let least_share : pos 1 ≤ℤ pos q.efficiency = rw v.efficiency at r.least_efficiency in
+    let greatest_share : pos q.efficiency ≤ℤ pos 100 = rw v.efficiency at r.greatest_efficiency in
+    let least_width : pos 1 ≤ℤ pos q.min_width = rw v.min_width at r.least_min_width in
+    let greatest_width : pos q.min_width ≤ℤ pos 16 = rw v.min_width at r.greatest_min_width in
+    let least_interval : pos 1 ≤ℤ pos q.regrid_int = rw v.regrid_int at r.least_regrid_int in
+    let greatest_interval : pos q.regrid_int ≤ℤ pos 4096 = rw v.regrid_int at r.greatest_regrid_int in
+    let least_grid : pos 4 ≤ℤ pos q.max_grid_size = rw v.max_grid_size at r.least_max_grid_size in
+    let greatest_grid : pos q.max_grid_size ≤ℤ pos 256 = rw v.max_grid_size at r.greatest_max_grid_size in
+    let even : is_even (pos q.max_grid_size) ≡ true = rw v.max_grid_size at r.even_max_grid_size in
+    let many : length (map block_numbers q.blocks) ≤ 256 = rw v.blocks at o.block_count in
+    let blocking : holds blocking_factor (pos q.blocking) ≡ true = rw v.blocking at o.blocking in
+    let x_fits : fits (pos q.blocking) (pos q.nx) ≡ true = rw (v.blocking, v.nx) at clean.x_fits in
+    let y_fits : fits (pos q.blocking) (pos q.ny) ≡ true = rw (v.blocking, v.ny) at clean.y_fits in
     record {
-      known_version = omega (arith, ints);
-      named = rw v.name at r.named;
-      short_name = rw v.name at r.short_name;
-      name_bytes = rw v.name at r.name_bytes;
+      known_version = refl;
+      named = rw v.name at b.named;
+      short_name = rw v.name at b.short_name;
+      name_bytes = rw v.name at b.name_bytes;
       least_nx = omega (arith, ints);
       greatest_nx = omega (arith, ints);
       least_ny = omega (arith, ints);
       greatest_ny = omega (arith, ints);
       greatest_steps = omega (arith, ints);
-      greatest_cx = rw v.cx at r.size_cx;
-      greatest_cy = rw v.cy at r.size_cy;
+      greatest_cx = rw v.cx at b.size_cx;
+      greatest_cy = rw v.cy at b.size_cy;
       least_d = omega (arith, ints);
       greatest_d = omega (arith, ints);
-      rows_shear = refl;
-      columns_shear = refl;
+      rows_shear = shear_fits q.ny q.shear_x (rw (v.ny, v.shear_x) at shears.rows) (rw v.shear_x at o.shear_x);
+      columns_shear = shear_fits q.nx q.shear_y (rw (v.nx, v.shear_y) at shears.columns) (rw v.shear_y at o.shear_y);
       stable = omega (arith, ints);
-      x_inflows = inflows_fit parts.x_sides e.x_low e.x_high v.x_sides r.x_low r.x_high;
-      y_inflows = inflows_fit parts.y_sides e.y_low e.y_high v.y_sides r.y_low r.y_high;
-      greatest_max_level = omega arith;
-      tag_count = refl;
-      thresholds = refl;
-      greatest_n_error_buf = omega arith;
-      least_efficiency = omega arith;
-      greatest_efficiency = omega arith;
-      least_min_width = omega arith;
-      greatest_min_width = omega arith;
-      least_regrid_int = omega arith;
-      greatest_regrid_int = omega arith;
-      blocking_factor = refl;
-      x_blocks = mod-one parts.nx;
-      y_blocks = mod-one parts.ny;
+      x_inflows = inflows_fit q.x_sides e.basics.x_low e.basics.x_high v.x_sides b.x_low b.x_high;
+      y_inflows = inflows_fit q.y_sides e.basics.y_low e.basics.y_high v.y_sides b.y_low b.y_high;
+      greatest_max_level = omega (arith, ints);
+      tag_count = counted q.max_level q.tag (rw (v.max_level, v.tag) at clean.counted);
+      thresholds = thresholds_fit q.tag (rw v.tag at r.tag);
+      greatest_n_error_buf = omega (arith, ints);
+      least_efficiency = omega (arith, ints);
+      greatest_efficiency = omega (arith, ints);
+      least_min_width = omega (arith, ints);
+      greatest_min_width = omega (arith, ints);
+      least_regrid_int = omega (arith, ints);
+      greatest_regrid_int = omega (arith, ints);
+      blocking_factor = is_factor q.blocking (holds-IsIn blocking_factor (pos q.blocking) blocking).among;
+      x_blocks = eqb-true (q.nx % (q.blocking / 2)) 0 x_fits;
+      y_blocks = eqb-true (q.ny % (q.blocking / 2)) 0 y_fits;
       least_max_grid_size = omega (arith, ints);
       greatest_max_grid_size = omega (arith, ints);
-      even_max_grid_size = eqb-true (parts.max_grid_size % 2) 0 even;
-      block_count = omega (arith, length-map parts.blocks block_numbers);
-      blocks_inside = blocks_inside parts.nx parts.ny parts.blocks inside' in_range';
+      even_max_grid_size = eqb-true (q.max_grid_size % 2) 0 even;
+      block_count = omega (arith, length-map q.blocks block_numbers);
+      blocks_inside = blocks_inside q.nx q.ny q.blocks inside' in_range';
     }

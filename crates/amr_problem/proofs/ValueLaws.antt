@@ -1,12 +1,16 @@
 -- Laws of the readers of a document's values.
-use Rattle.std.proofs.Common.{◌≡◌, ◌∙◌, ap, refl, ℕ, ◌+◌, ◌<◌, ◌≤◌, ◌≢◌, ℤ, eq-eqb, List, [], ◌∷◌, ◌++◌, length, drop, take, get_or, set, append_assoc, Option, Some, None, option_map, arith, append-nil}
-use Rattle.std.proofs.lemmas.Bool.{ne_eqb}
+use Rattle.std.proofs.Common.{◌≡◌, ◌∙◌, sym, ap, refl, ℕ, ◌+◌, ◌<◌, ◌≤◌, ◌≢◌, Bool, true, false, ◌||◌, ◌==◌, ℤ, pos, inl, inr, eq-eqb, List, [], ◌∷◌, ◌++◌, length, drop, take, get_or, set, append_assoc, Option, Some, None, option_map, arith, append-nil}
+use Rattle.std.specs.Ordering.{int_eq}
+use Rattle.std.proofs.lemmas.Bool.{ne_eqb, cases_Bool}
+use Rattle.std.proofs.lemmas.Option.{same_Some}
 use Rattle.std.proofs.lemmas.List.{take_more_set, drop_all, take_all}
-use Rattle.toml.specs.Data.{as_integer}
+use Rattle.toml.specs.Data.{Data, as_integer, as_array, Items, no_items, item, Members}
 use Rattle.toml.specs.View.{view, items_view}
 use Rattle.toml.specs.declared.value.Value.{Value}
 use Rattle.toml.proofs.Views.{items_view-drop}
-use Rattle.amr_problem.specs.Values.{count, integers, numbers_in}
+use Rattle.amr_problem.specs.declared.key.Key.{Key}
+use Rattle.amr_problem.specs.Values.{◌>>=◌, count, integers, numbers_in, shear_in, shear_written, shear_at, written_at}
+use Rattle.amr_problem.specs.Entries.{is_for_lines}
 
 pub count_view : (vs : List Value) → count (items_view vs) ≡ length vs
 count_view [] = refl
@@ -54,3 +58,42 @@ numbers_in_whole many vs same = rw (count_view vs, eq-eqb (length vs) many same)
 -- other than so many
 pub numbers_in_other : (many : ℕ) (vs : List Value) → length vs ≢ many → numbers_in many (items_view vs) ≡ None
 numbers_in_other many vs other = rw (count_view vs, ne_eqb (length vs) many other)
+
+-- ---- one for each of so many lines
+
+-- as many integers are read as there are items
+length-integers : (items : Items) (zs : List ℤ) → integers items ≡ Some zs → length zs ≡ count items
+length-integers no_items zs h = let same = same_Some [] zs h in ap length (sym same)
+length-integers (item d rest) zs h = length-read (as_integer d) (integers rest) zs (count rest) (λ ys is. length-integers rest ys is) h
+  where
+    length-read : (first : Option ℤ) (others : Option (List ℤ)) (zs : List ℤ) (n : ℕ) → ((ys : List ℤ) → others ≡ Some ys → length ys ≡ n) → first >>= (λ z. option_map (λ ys. z ∷ ys) others) ≡ Some zs → length zs ≡ n + 1
+    length-read None others zs n rest h = absurd (cc)
+    length-read (Some z) None zs n rest h = absurd (cc)
+    length-read (Some z) (Some ys) zs n rest h = let same = same_Some (z ∷ ys) zs h in ap length (sym same) ∙ omega (arith, rest ys refl)
+
+shear_in-lines : (many : ℤ) (items : Items) (zs : List ℤ) → shear_in many items ≡ Some zs → is_for_lines many zs ≡ true
+shear_in-lines many items zs h =
+    elim (cases_Bool (int_eq (pos (count items)) many)) [
+      | inl same ↦
+          let read : integers items ≡ Some zs = rw same at h in
+          let length_is : length zs ≡ count items = length-integers items zs read in
+          or_second (length zs == 0) (int_eq (pos (length zs)) many) (rw length_is same)
+      | inr other ↦ absurd (let e = rw other at h in cc)
+    ]
+  where
+    or_second : (a b : Bool) → b ≡ true → a || b ≡ true
+    or_second true b h = refl
+    or_second false b h = h
+
+shear_of-lines : (many : ℤ) (d : Option Items) (zs : List ℤ) → d >>= shear_in many ≡ Some zs → is_for_lines many zs ≡ true
+shear_of-lines many None zs h = absurd (cc)
+shear_of-lines many (Some items) zs h = shear_in-lines many items zs h
+
+shear_written-lines : (many : ℤ) (d : Option Data) (zs : List ℤ) → shear_written many d ≡ Some zs → is_for_lines many zs ≡ true
+shear_written-lines many None zs h = let same = same_Some [] zs h in rw (← same) refl
+shear_written-lines many (Some d) zs h = shear_of-lines many (as_array d) zs h
+
+-- a shear has no numbers, or one for each line
+pub shear_at-lines : (many : ℤ) (table : Members) (key : Key) (zs : List ℤ) → shear_at many table key ≡ Some zs → is_for_lines many zs ≡ true
+unfolding shear_at
+shear_at-lines many table key zs h = shear_written-lines many (written_at table key) zs h

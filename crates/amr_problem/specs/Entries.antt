@@ -1,141 +1,218 @@
 -- What a problem writes at its keys.
-use Rattle.std.specs.Prelude.{◌≡◌, ◌≤◌, ℤ, pos, negsuc, ◌≤ℤ◌, unsigned_abs, true, Option, Some, None, map, option_map, is_none, List, [], ◌∷◌, length}
+use Rattle.std.specs.Prelude.{◌≡◌, ◌≤◌, ◌||◌, ◌==◌, ℤ, pos, negsuc, ◌≤ℤ◌, unsigned_abs, Bool, true, Option, Some, None, map, option_map, is_none, List, [], ◌∷◌, length}
+use Rattle.std.specs.Ordering.{int_eq}
 use Rattle.std.specs.List.{list_all}
 use Rattle.std.specs.Option.{option_or}
 use Rattle.toml.specs.Data.{Members}
+use Rattle.amr_def.specs.Limits.{is_name_byte}
+use Rattle.amr_problem.specs.declared.entries.Basics.{Basics}
+use Rattle.amr_problem.specs.declared.entries.Refining.{Refining}
+use Rattle.amr_problem.specs.declared.entries.Overlay.{Overlay}
 use Rattle.amr_problem.specs.declared.entries.Entries.{Entries}
 use Rattle.amr_problem.specs.declared.fault.ProblemFault.{ProblemFault}
 use Rattle.amr_problem.specs.declared.fault.ProblemFault.TheVariants.{OutOfRange}
 use Rattle.amr_problem.specs.declared.key.Key.{Key}
-use Rattle.amr_problem.specs.declared.key.Key.TheVariants.{Version, Name, Cells, Steps, Courant, Sides, MaxLevel, MaxGridSize, Blocks}
-use Rattle.amr_def.specs.declared.problem.Problem.{Problem}
-use Rattle.amr_def.specs.Limits.{Limits, is_name_byte}
-use Rattle.amr_problem.specs.declared.problem.Parts.{Parts}
-use Rattle.amr_problem.specs.Keys.{range, ranges_of, first_outside, is_even}
-use Rattle.amr_problem.specs.Fields.{sides_numbers, block_numbers, HasDefaults}
-use Rattle.amr_problem.specs.Faults.{courant_over, is_periodic, sides_differ, block_outside, first_some, text_outside, rows_outside}
-use Rattle.amr_problem.specs.Values.{number_at, text_at, numbers_at, rows_at}
+use Rattle.amr_problem.specs.declared.key.Key.TheVariants.{Version, Name, Cells, Steps, Courant, Sides, MaxLevel, Tag, NErrorBuf, Efficiency, MinWidth, RegridInt, MaxGridSize, Blocks, ShearX, ShearY, Blocking}
+use Rattle.amr_problem.specs.declared.parts.Parts.{Parts}
+use Rattle.amr_problem.specs.declared.scope.Scope.{Scope}
+use Rattle.amr_problem.specs.declared.scope.Scope.TheVariants.{Whole}
+use Rattle.amr_problem.specs.Keys.{range, ranges_of, first_outside, first_beyond, is_even, holds, threshold, courant_number, blocking_factor, greatest_version, greatest_level}
+use Rattle.amr_problem.specs.Fields.{sides_numbers, block_numbers}
+use Rattle.amr_problem.specs.Faults.{courant_over, is_periodic, sides_differ, block_outside, tag_count, blocking_misfit, fits, first_some, text_outside, rows_outside}
+use Rattle.amr_problem.specs.Values.{number_at, text_at, numbers_at, integers_at, shear_at, rows_at}
 
--- the entries are those of the table
+-- ---- the entries are those of the table
+
+abbrev pub basic_keys : List Key
+basic_keys = Version ∷ Name ∷ Cells ∷ Steps ∷ Courant ∷ Sides ∷ MaxLevel ∷ []
+
+pub record AreBasicsOf (table : Members) (b : Basics) : Type 0 where
+  pub version : number_at table Version ≡ Some b.version
+  pub name : text_at table Name ≡ Some b.name.items
+  pub cells : numbers_at 2 table Cells ≡ Some (b.nx ∷ b.ny ∷ [])
+  pub steps : number_at table Steps ≡ Some b.steps
+  pub courant : numbers_at 3 table Courant ≡ Some (b.cx ∷ b.cy ∷ b.d ∷ [])
+  pub sides : numbers_at 4 table Sides ≡ Some (b.x_low ∷ b.x_high ∷ b.y_low ∷ b.y_high ∷ [])
+  pub max_level : number_at table MaxLevel ≡ Some b.max_level
+
+abbrev pub refining_keys : List Key
+refining_keys = Tag ∷ NErrorBuf ∷ Efficiency ∷ MinWidth ∷ RegridInt ∷ MaxGridSize ∷ []
+
+pub record AreRefiningOf (table : Members) (r : Refining) : Type 0 where
+  pub tag : integers_at table Tag ≡ Some r.tag.items
+  pub n_error_buf : number_at table NErrorBuf ≡ Some r.n_error_buf
+  pub efficiency : number_at table Efficiency ≡ Some r.efficiency
+  pub min_width : number_at table MinWidth ≡ Some r.min_width
+  pub regrid_int : number_at table RegridInt ≡ Some r.regrid_int
+  pub max_grid_size : number_at table MaxGridSize ≡ Some r.max_grid_size
+
+abbrev pub overlay_keys : List Key
+overlay_keys = Blocks ∷ ShearX ∷ ShearY ∷ Blocking ∷ []
+
+-- over a level 0 of nx by ny cells
+pub record IsOverlayOf (nx ny : ℤ) (table : Members) (o : Overlay) : Type 0 where
+  pub blocks : rows_at 5 table Blocks ≡ Some o.blocks.items
+  pub shear_x : shear_at ny table ShearX ≡ Some o.shear_x.items
+  pub shear_y : shear_at nx table ShearY ≡ Some o.shear_y.items
+  pub blocking : number_at table Blocking ≡ Some o.blocking
+
 pub record IsReadOf (table : Members) (e : Entries) : Type 0 where
-  pub version : number_at table Version ≡ Some e.version
-  pub name : text_at table Name ≡ Some e.name.items
-  pub cells : numbers_at 2 table Cells ≡ Some (e.nx ∷ e.ny ∷ [])
-  pub steps : number_at table Steps ≡ Some e.steps
-  pub courant : numbers_at 3 table Courant ≡ Some (e.cx ∷ e.cy ∷ e.d ∷ [])
-  pub sides : numbers_at 4 table Sides ≡ Some (e.x_low ∷ e.x_high ∷ e.y_low ∷ e.y_high ∷ [])
-  pub max_level : number_at table MaxLevel ≡ Some e.max_level
-  pub max_grid_size : number_at table MaxGridSize ≡ Some e.max_grid_size
-  pub blocks : rows_at 5 table Blocks ≡ Some e.blocks.items
+  pub basics : AreBasicsOf table e.basics
+  pub refining : AreRefiningOf table e.refining
+  pub overlay : IsOverlayOf e.basics.nx e.basics.ny table e.overlay
 
--- the first of a key's numbers that is out of its range
-abbrev pub numbers_outside : Key → List ℤ → Option ProblemFault
-numbers_outside key zs = option_map (OutOfRange key) (first_outside (ranges_of key) zs)
+-- ---- the first number, in the order of the keys, that is out of its range
 
--- the first number, in the order of the keys, that is out of its range
-unfoldable pub range_fault : Entries → Option ProblemFault
-range_fault e = first_some
-    (numbers_outside Version (e.version ∷ [])
-    ∷ option_map (OutOfRange Name) (text_outside (range (pos 1) (pos 32)) e.name.items)
-    ∷ numbers_outside Cells (e.nx ∷ e.ny ∷ [])
-    ∷ numbers_outside Steps (e.steps ∷ [])
-    ∷ numbers_outside Courant (e.cx ∷ e.cy ∷ e.d ∷ [])
-    ∷ numbers_outside Sides (e.x_low ∷ e.x_high ∷ e.y_low ∷ e.y_high ∷ [])
-    ∷ numbers_outside MaxLevel (e.max_level ∷ [])
-    ∷ numbers_outside MaxGridSize (e.max_grid_size ∷ [])
-    ∷ option_map (OutOfRange Blocks) (rows_outside 256 (ranges_of Blocks) e.blocks.items)
+-- of a key's numbers, each with its own range
+abbrev pub numbers_outside : Scope → Key → List ℤ → Option ProblemFault
+numbers_outside scope key zs = option_map (OutOfRange key) (first_outside (ranges_of scope key) zs)
+
+unfoldable pub basics_outside : Scope → Basics → Option ProblemFault
+basics_outside scope b = first_some
+    (numbers_outside scope Version (b.version ∷ [])
+    ∷ option_map (OutOfRange Name) (text_outside (range (pos 1) (pos 32)) b.name.items)
+    ∷ numbers_outside scope Cells (b.nx ∷ b.ny ∷ [])
+    ∷ numbers_outside scope Steps (b.steps ∷ [])
+    ∷ numbers_outside scope Courant (b.cx ∷ b.cy ∷ b.d ∷ [])
+    ∷ numbers_outside scope Sides (b.x_low ∷ b.x_high ∷ b.y_low ∷ b.y_high ∷ [])
+    ∷ numbers_outside scope MaxLevel (b.max_level ∷ [])
     ∷ [])
 
--- the first fault of entries within their ranges
+unfoldable pub refining_outside : Scope → Refining → Option ProblemFault
+refining_outside scope r = first_some
+    (option_map (OutOfRange Tag) (first_beyond threshold r.tag.items)
+    ∷ numbers_outside scope NErrorBuf (r.n_error_buf ∷ [])
+    ∷ numbers_outside scope Efficiency (r.efficiency ∷ [])
+    ∷ numbers_outside scope MinWidth (r.min_width ∷ [])
+    ∷ numbers_outside scope RegridInt (r.regrid_int ∷ [])
+    ∷ numbers_outside scope MaxGridSize (r.max_grid_size ∷ [])
+    ∷ [])
+
+unfoldable pub overlay_outside : Scope → Overlay → Option ProblemFault
+overlay_outside scope o = first_some
+    (option_map (OutOfRange Blocks) (rows_outside 256 (ranges_of scope Blocks) o.blocks.items)
+    ∷ option_map (OutOfRange ShearX) (first_beyond courant_number o.shear_x.items)
+    ∷ option_map (OutOfRange ShearY) (first_beyond courant_number o.shear_y.items)
+    ∷ numbers_outside scope Blocking (o.blocking ∷ [])
+    ∷ [])
+
+abbrev pub range_fault : Scope → Entries → Option ProblemFault
+range_fault scope e = first_some (basics_outside scope e.basics ∷ refining_outside scope e.refining ∷ overlay_outside scope e.overlay ∷ [])
+
+-- ---- and the first fault of entries within their ranges
+
 abbrev pub in_range_fault : Entries → Option ProblemFault
 in_range_fault e = first_some
-    (courant_over (e.cx ∷ e.cy ∷ e.d ∷ [])
-    ∷ sides_differ (e.x_low ∷ e.x_high ∷ e.y_low ∷ e.y_high ∷ [])
-    ∷ block_outside (e.nx ∷ e.ny ∷ []) e.blocks.items
+    (courant_over (e.basics.cx ∷ e.basics.cy ∷ e.basics.d ∷ []) e.overlay.shear_x.items e.overlay.shear_y.items
+    ∷ sides_differ (e.basics.x_low ∷ e.basics.x_high ∷ e.basics.y_low ∷ e.basics.y_high ∷ [])
+    ∷ block_outside (e.basics.nx ∷ e.basics.ny ∷ []) e.overlay.blocks.items
+    ∷ tag_count e.basics.max_level e.refining.tag.items
+    ∷ blocking_misfit (e.basics.nx ∷ e.basics.ny ∷ []) e.overlay.blocking
     ∷ [])
 
 -- the first fault from the ranges on
-abbrev pub entry_fault : Entries → Option ProblemFault
-entry_fault e = option_or (range_fault e) (in_range_fault e)
+abbrev pub entry_fault : Scope → Entries → Option ProblemFault
+entry_fault scope e = option_or (range_fault scope e) (in_range_fault e)
+
+-- ---- entries in their ranges
 
 -- -1 or an inflow
 pub record IsSide (side : ℤ) : Type 0 where
   pub least : negsuc 0 ≤ℤ side
   pub greatest : side ≤ℤ pos 1073741824
 
--- every entry that is used further on is in its range
-pub record IsInRange (e : Entries) : Type 0 where
-  pub version : e.version ≡ pos 1
-  pub named : 1 ≤ length e.name.items
-  pub short_name : length e.name.items ≤ 32
-  pub name_bytes : list_all is_name_byte e.name.items ≡ true
-  pub least_nx : pos 2 ≤ℤ e.nx
-  pub greatest_nx : e.nx ≤ℤ pos 256
-  pub least_ny : pos 2 ≤ℤ e.ny
-  pub greatest_ny : e.ny ≤ℤ pos 256
-  pub least_steps : pos 0 ≤ℤ e.steps
-  pub greatest_steps : e.steps ≤ℤ pos 4096
-  pub size_cx : unsigned_abs e.cx ≤ 1024
-  pub size_cy : unsigned_abs e.cy ≤ 1024
-  pub least_d : pos 1 ≤ℤ e.d
-  pub greatest_d : e.d ≤ℤ pos 1024
-  pub x_low : IsSide e.x_low
-  pub x_high : IsSide e.x_high
-  pub y_low : IsSide e.y_low
-  pub y_high : IsSide e.y_high
-  pub max_level : e.max_level ≡ pos 0
-  pub least_max_grid_size : pos 4 ≤ℤ e.max_grid_size
-  pub greatest_max_grid_size : e.max_grid_size ≤ℤ pos 256
-  pub even_max_grid_size : is_even e.max_grid_size ≡ true
-  pub block_count : length e.blocks.items ≤ 256
-  pub blocks : list_all (λ row. is_none (first_outside (ranges_of Blocks) row)) e.blocks.items ≡ true
+pub record AreBasicsInRange (scope : Scope) (b : Basics) : Type 0 where
+  pub least_version : pos 1 ≤ℤ b.version
+  pub greatest_version : b.version ≤ℤ pos (greatest_version scope)
+  pub named : 1 ≤ length b.name.items
+  pub short_name : length b.name.items ≤ 32
+  pub name_bytes : list_all is_name_byte b.name.items ≡ true
+  pub least_nx : pos 2 ≤ℤ b.nx
+  pub greatest_nx : b.nx ≤ℤ pos 256
+  pub least_ny : pos 2 ≤ℤ b.ny
+  pub greatest_ny : b.ny ≤ℤ pos 256
+  pub least_steps : pos 0 ≤ℤ b.steps
+  pub greatest_steps : b.steps ≤ℤ pos 4096
+  pub size_cx : unsigned_abs b.cx ≤ 1024
+  pub size_cy : unsigned_abs b.cy ≤ 1024
+  pub least_d : pos 1 ≤ℤ b.d
+  pub greatest_d : b.d ≤ℤ pos 1024
+  pub x_low : IsSide b.x_low
+  pub x_high : IsSide b.x_high
+  pub y_low : IsSide b.y_low
+  pub y_high : IsSide b.y_high
+  pub least_max_level : pos 0 ≤ℤ b.max_level
+  pub greatest_max_level : b.max_level ≤ℤ pos (greatest_level scope)
+
+pub record AreRefiningInRange (r : Refining) : Type 0 where
+  pub tag : list_all (holds threshold) r.tag.items ≡ true
+  pub least_n_error_buf : pos 0 ≤ℤ r.n_error_buf
+  pub greatest_n_error_buf : r.n_error_buf ≤ℤ pos 8
+  pub least_efficiency : pos 1 ≤ℤ r.efficiency
+  pub greatest_efficiency : r.efficiency ≤ℤ pos 100
+  pub least_min_width : pos 1 ≤ℤ r.min_width
+  pub greatest_min_width : r.min_width ≤ℤ pos 16
+  pub least_regrid_int : pos 1 ≤ℤ r.regrid_int
+  pub greatest_regrid_int : r.regrid_int ≤ℤ pos 4096
+  pub least_max_grid_size : pos 4 ≤ℤ r.max_grid_size
+  pub greatest_max_grid_size : r.max_grid_size ≤ℤ pos 256
+  pub even_max_grid_size : is_even r.max_grid_size ≡ true
+
+pub record IsOverlayInRange (o : Overlay) : Type 0 where
+  pub block_count : length o.blocks.items ≤ 256
+  pub blocks : list_all (λ row. is_none (first_outside (ranges_of Whole Blocks) row)) o.blocks.items ≡ true
+  pub shear_x : list_all (holds courant_number) o.shear_x.items ≡ true
+  pub shear_y : list_all (holds courant_number) o.shear_y.items ≡ true
+  pub blocking : holds blocking_factor o.blocking ≡ true
+
+pub record IsInRange (scope : Scope) (e : Entries) : Type 0 where
+  pub basics : AreBasicsInRange scope e.basics
+  pub refining : AreRefiningInRange e.refining
+  pub overlay : IsOverlayInRange e.overlay
+
+-- ---- entries without a fault
+
+-- none, or one for each of so many lines
+abbrev pub is_for_lines : ℤ → List ℤ → Bool
+is_for_lines many zs = (length zs == 0) || int_eq (pos (length zs)) many
+
+pub record HasShears (nx ny : ℤ) (o : Overlay) : Type 0 where
+  pub rows : is_for_lines ny o.shear_x.items ≡ true
+  pub columns : is_for_lines nx o.shear_y.items ≡ true
 
 -- the entries have no fault from their ranges on
-pub record IsClean (e : Entries) : Type 0 where
-  pub in_range : IsInRange e
-  pub stable : courant_over (e.cx ∷ e.cy ∷ e.d ∷ []) ≡ None
-  pub x_alike : is_periodic e.x_low ≡ is_periodic e.x_high
-  pub y_alike : is_periodic e.y_low ≡ is_periodic e.y_high
-  pub inside : block_outside (e.nx ∷ e.ny ∷ []) e.blocks.items ≡ None
+pub record IsClean (scope : Scope) (e : Entries) : Type 0 where
+  pub in_range : IsInRange scope e
+  pub stable : courant_over (e.basics.cx ∷ e.basics.cy ∷ e.basics.d ∷ []) e.overlay.shear_x.items e.overlay.shear_y.items ≡ None
+  pub x_alike : is_periodic e.basics.x_low ≡ is_periodic e.basics.x_high
+  pub y_alike : is_periodic e.basics.y_low ≡ is_periodic e.basics.y_high
+  pub inside : block_outside (e.basics.nx ∷ e.basics.ny ∷ []) e.overlay.blocks.items ≡ None
+  pub counted : tag_count e.basics.max_level e.refining.tag.items ≡ None
+  pub x_fits : fits e.overlay.blocking e.basics.nx ≡ true
+  pub y_fits : fits e.overlay.blocking e.basics.ny ≡ true
+
+-- ---- parts
 
 -- the parts are what the entries say
-pub record AreValues (e : Entries) (parts : Parts) : Type 0 where
-  pub version : e.version ≡ pos parts.version
-  pub name : e.name.items ≡ parts.name
-  pub nx : e.nx ≡ pos parts.nx
-  pub ny : e.ny ≡ pos parts.ny
-  pub steps : e.steps ≡ pos parts.steps
-  pub cx : e.cx ≡ parts.cx
-  pub cy : e.cy ≡ parts.cy
-  pub d : e.d ≡ pos parts.d
-  pub x_sides : e.x_low ∷ e.x_high ∷ [] ≡ sides_numbers parts.x_sides
-  pub y_sides : e.y_low ∷ e.y_high ∷ [] ≡ sides_numbers parts.y_sides
-  pub max_grid_size : e.max_grid_size ≡ pos parts.max_grid_size
-  pub blocks : e.blocks.items ≡ map block_numbers parts.blocks
-
--- the parts are within the limits of a problem of one level
-abbrev pub AreWithinLimits : Parts → Type 0
-AreWithinLimits q = Limits q.version q.name q.nx q.ny q.steps q.cx q.cy q.d [] [] q.x_sides q.y_sides 0 [] 1 70 2 2 2 q.max_grid_size q.blocks
-
--- the problem of one level that has these parts
-pub record HasParts (parts : Parts) (p : Problem) : Type 0 where
-  pub version : p.version ≡ parts.version
-  pub name : p.name ≡ parts.name
-  pub nx : p.nx ≡ parts.nx
-  pub ny : p.ny ≡ parts.ny
-  pub steps : p.steps ≡ parts.steps
-  pub cx : p.cx ≡ parts.cx
-  pub cy : p.cy ≡ parts.cy
-  pub d : p.d ≡ parts.d
-  pub x_sides : p.x_sides ≡ parts.x_sides
-  pub y_sides : p.y_sides ≡ parts.y_sides
-  pub max_level : p.max_level ≡ 0
-  pub max_grid_size : p.max_grid_size ≡ parts.max_grid_size
-  pub blocks : p.blocks ≡ parts.blocks
-  pub absent : HasDefaults p
-
--- the problem has what the entries say
-pub record HasEntries (e : Entries) (p : Problem) : Type 0 where
-  pub parts : Parts
-  pub values : AreValues e parts
-  pub has : HasParts parts p
+pub record AreValues (e : Entries) (q : Parts) : Type 0 where
+  pub version : e.basics.version ≡ pos q.version
+  pub name : e.basics.name.items ≡ q.name
+  pub nx : e.basics.nx ≡ pos q.nx
+  pub ny : e.basics.ny ≡ pos q.ny
+  pub steps : e.basics.steps ≡ pos q.steps
+  pub cx : e.basics.cx ≡ q.cx
+  pub cy : e.basics.cy ≡ q.cy
+  pub d : e.basics.d ≡ pos q.d
+  pub x_sides : e.basics.x_low ∷ e.basics.x_high ∷ [] ≡ sides_numbers q.x_sides
+  pub y_sides : e.basics.y_low ∷ e.basics.y_high ∷ [] ≡ sides_numbers q.y_sides
+  pub max_level : e.basics.max_level ≡ pos q.max_level
+  pub tag : e.refining.tag.items ≡ map pos q.tag
+  pub n_error_buf : e.refining.n_error_buf ≡ pos q.n_error_buf
+  pub efficiency : e.refining.efficiency ≡ pos q.efficiency
+  pub min_width : e.refining.min_width ≡ pos q.min_width
+  pub regrid_int : e.refining.regrid_int ≡ pos q.regrid_int
+  pub max_grid_size : e.refining.max_grid_size ≡ pos q.max_grid_size
+  pub blocks : e.overlay.blocks.items ≡ map block_numbers q.blocks
+  pub shear_x : e.overlay.shear_x.items ≡ q.shear_x
+  pub shear_y : e.overlay.shear_y.items ≡ q.shear_y
+  pub blocking : e.overlay.blocking ≡ pos q.blocking

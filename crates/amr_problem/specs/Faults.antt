@@ -1,19 +1,23 @@
 -- The faults of a problem, in the order in which they are looked for. (profile)
-use Rattle.std.specs.Prelude.{ℕ, ◌+◌, ℤ, pos, Bool, ◌&&◌, not, nat_lt, int_le, int_lt, unsigned_abs, List, [], ◌∷◌, length, map, find, fold, true, position, Option, Some, None, option_map, is_some, if◌then◌else◌}
+use Rattle.std.specs.Prelude.{ℕ, ◌+◌, ◌/◌, ◌%◌, ◌==◌, ℤ, pos, Bool, ◌&&◌, not, nat_lt, int_le, int_lt, unsigned_abs, List, [], ◌∷◌, length, map, find, fold, true, false, position, Option, Some, None, option_map, is_some, if◌then◌else◌}
+use Rattle.std.specs.Ordering.{int_eq}
 use Rattle.std.specs.List.{list_all}
 use Rattle.std.specs.Option.{option_or}
+use Rattle.amr_box.specs.declared.Axis.{Axis}
 use Rattle.amr_box.specs.declared.Axis.TheVariants.{X, Y}
-use Rattle.amr_def.specs.Limits.{is_name_byte}
+use Rattle.amr_def.specs.Limits.{is_name_byte, in_use, greatest_size}
 use Rattle.toml.specs.Data.{Members, no_members, member}
 use Rattle.amr_problem.specs.declared.fault.ProblemFault.{ProblemFault}
-use Rattle.amr_problem.specs.declared.fault.ProblemFault.TheVariants.{TooLong, NotToml, UnknownKey, Missing, WrongKind, OutOfRange, SidesDiffer, BlockOutside}
+use Rattle.amr_problem.specs.declared.fault.ProblemFault.TheVariants.{TooLong, NotToml, UnknownKey, Missing, WrongKind, OutOfRange, SidesDiffer, BlockOutside, TagCount}
 use Rattle.amr_problem.specs.declared.fault.ProblemFault.TheVariants as fault
 use Rattle.amr_problem.specs.declared.key.Key.{Key}
-use Rattle.amr_problem.specs.declared.key.Key.TheVariants.{Cells, Courant, Sides, Blocks}
-use Rattle.amr_problem.specs.declared.key.Range.{Range}
+use Rattle.amr_problem.specs.declared.key.Key.TheVariants.{Version, Cells, Courant, Sides, MaxLevel, Tag, Blocks, ShearX, ShearY, Blocking}
+use Rattle.amr_problem.specs.declared.range.Range.{Range}
+use Rattle.amr_problem.specs.declared.scope.Scope.{Scope}
+use Rattle.amr_problem.specs.declared.scope.Scope.TheVariants.{Whole}
 use Rattle.amr_problem.specs.Document.{document, table_of}
-use Rattle.amr_problem.specs.Keys.{Kind, number, text, numbers, rows, kind_of, keys, is_known, holds, first_outside}
-use Rattle.amr_problem.specs.Values.{◌>>=◌, is_there, number_at, text_at, numbers_at, rows_at}
+use Rattle.amr_problem.specs.Keys.{Kind, number, text, numbers, list, lines, rows, kind_of, keys, is_known, greatest_version, holds, first_outside, first_beyond}
+use Rattle.amr_problem.specs.Values.{◌>>=◌, is_there, number_at, text_at, numbers_at, integers_at, shear_at, rows_at}
 
 -- the first that is some
 abbrev pub first_some : {A : Type 0} → List (Option A) → Option A
@@ -36,23 +40,45 @@ abbrev pub keys_in : Members → List (List ℕ)
 keys_in no_members = []
 keys_in (member key value rest) = key ∷ keys_in rest
 
--- 3: a key is none of the table's. The members stand in the order of their bytes, so this is the least such key.
-abbrev pub unknown_key : Members → Option ProblemFault
-unknown_key table = option_map UnknownKey (find (λ key. not (is_known key)) (keys_in table))
+abbrev pub is_two : Option ℤ → Bool
+is_two (Some z) = int_eq z (pos 2)
+is_two None = false
+
+-- the version whose keys are known: 2 where a problem says so and the scope has it, else 1
+abbrev pub version_in : Scope → Members → ℕ
+version_in scope table = if is_two (number_at table Version) then greatest_version scope else 1
+
+-- 3: a key is none of the version's. The members stand in the order of their bytes, so this is the least such key.
+abbrev pub unknown_key : Scope → Members → Option ProblemFault
+unknown_key scope table = option_map UnknownKey (find (λ key. not (is_known (version_in scope table) key)) (keys_in table))
 
 -- 4: a key is absent, and nothing stands where it is
 abbrev pub missing_key : Members → Option ProblemFault
 missing_key table = option_map Missing (find (λ key. not (is_there table key)) keys)
 
+-- how many lines of level 0 lie along an axis, by its columns and rows
+abbrev pub line_count : Axis → List ℤ → Option ℤ
+line_count X (nx ∷ ny ∷ []) = Some ny
+line_count Y (nx ∷ ny ∷ []) = Some nx
+line_count _ _ = None
+
+abbrev pub shear_along : Axis → Members → Key → Option (List ℤ)
+shear_along axis table key = numbers_at 2 table Cells >>= line_count axis >>= (λ count. shear_at count table key)
+
 abbrev pub is_read : Members → Key → Kind → Bool
 is_read table key (number r) = is_some (number_at table key)
 is_read table key (text r) = is_some (text_at table key)
 is_read table key (numbers rs) = is_some (numbers_at (length rs) table key)
+is_read table key (list r) = is_some (integers_at table key)
+is_read table key (lines axis r) = is_some (shear_along axis table key)
 is_read table key (rows most rs) = is_some (rows_at (length rs) table key)
 
--- 5: a value is of another kind
+-- 5: a value is of another kind. The kinds are the same in each scope.
+abbrev pub first_wrong : Members → List Key → Option ProblemFault
+first_wrong table ks = option_map WrongKind (find (λ key. not (is_read table key (kind_of Whole key))) ks)
+
 abbrev pub wrong_kind : Members → Option ProblemFault
-wrong_kind table = option_map WrongKind (find (λ key. not (is_read table key (kind_of key))) keys)
+wrong_kind table = first_wrong table keys
 
 -- a text is too short or too long, or has other bytes than a name: then its length
 abbrev pub text_outside : Range → List ℕ → Option ℤ
@@ -66,18 +92,26 @@ abbrev pub outside : Members → Key → Kind → Option ℤ
 outside table key (number r) = number_at table key >>= (λ z. first_outside (r ∷ []) (z ∷ []))
 outside table key (text r) = text_at table key >>= text_outside r
 outside table key (numbers rs) = numbers_at (length rs) table key >>= first_outside rs
+outside table key (list r) = integers_at table key >>= first_beyond r
+outside table key (lines axis r) = shear_along axis table key >>= first_beyond r
 outside table key (rows most rs) = rows_at (length rs) table key >>= rows_outside most rs
 
--- 6: a number is out of its range
-abbrev pub out_of_range : Members → Option ProblemFault
-out_of_range table = first_some (map (λ key. option_map (OutOfRange key) (outside table key (kind_of key))) keys)
+abbrev pub key_outside : Scope → Members → Key → Option ProblemFault
+key_outside scope table key = option_map (OutOfRange key) (outside table key (kind_of scope key))
 
--- 7: more than a whole cell flows out of it in a step
-abbrev pub courant_over : List ℤ → Option ProblemFault
-courant_over (cx ∷ cy ∷ d ∷ []) =
-    let sum = pos (unsigned_abs cx + unsigned_abs cy) in
-    if int_lt d sum then Some (fault.Courant sum d) else None
-courant_over _ = None
+-- 6: a number is out of its range
+abbrev pub out_of_range : Scope → Members → Option ProblemFault
+out_of_range scope table = first_some (map (key_outside scope table) keys)
+
+-- a sum that exceeds d
+abbrev pub over_by : ℕ → ℤ → Option ProblemFault
+over_by sum d = if int_lt d (pos sum) then Some (fault.Courant (pos sum) d) else None
+
+-- 7: more than a whole cell flows out of it in a step: the greatest sizes of the numbers that are in use along x and along y
+-- add up to more than d
+abbrev pub courant_over : List ℤ → List ℤ → List ℤ → Option ProblemFault
+courant_over (cx ∷ cy ∷ d ∷ []) xs ys = over_by (greatest_size (in_use cx xs) + greatest_size (in_use cy ys)) d
+courant_over _ xs ys = None
 
 -- a side below 0 is the -1 of a periodic axis
 abbrev pub is_periodic : ℤ → Bool
@@ -101,20 +135,40 @@ is_inside _ _ = true
 abbrev pub block_outside : List ℤ → List (List ℤ) → Option ProblemFault
 block_outside cells blocks = option_map BlockOutside (position (λ block. not (is_inside cells block)) blocks)
 
+-- 10: tag has not one threshold for each level below the finest
+abbrev pub tag_count : ℤ → List ℤ → Option ProblemFault
+tag_count max_level tag = if int_eq (pos (length tag)) max_level then None else Some (TagCount (pos (length tag)) max_level)
+
+-- half of the blocking factor divides the number of cells
+abbrev pub fits : ℤ → ℤ → Bool
+fits blocking cells = unsigned_abs cells % (unsigned_abs blocking / 2) == 0
+
+-- 11: the blocking factor does not fit level 0 along an axis
+abbrev pub blocking_misfit : List ℤ → ℤ → Option ProblemFault
+blocking_misfit (nx ∷ ny ∷ []) b =
+    if fits b nx then (if fits b ny then None else Some (fault.Blocking Y b)) else Some (fault.Blocking X b)
+blocking_misfit _ b = None
+
 -- ---- the first of them
 
+abbrev pub courant_fault : Members → Option ProblemFault
+courant_fault table =
+    numbers_at 3 table Courant >>= (λ c. shear_along X table ShearX >>= (λ xs. shear_along Y table ShearY >>= (λ ys. courant_over c xs ys)))
+
 -- of a table
-abbrev pub fault_in : Members → Option ProblemFault
-fault_in table = first_some
-    (unknown_key table
+abbrev pub fault_in : Scope → Members → Option ProblemFault
+fault_in scope table = first_some
+    (unknown_key scope table
     ∷ missing_key table
     ∷ wrong_kind table
-    ∷ out_of_range table
-    ∷ (numbers_at 3 table Courant >>= courant_over)
+    ∷ out_of_range scope table
+    ∷ courant_fault table
     ∷ (numbers_at 4 table Sides >>= sides_differ)
     ∷ (numbers_at 2 table Cells >>= (λ cells. rows_at 5 table Blocks >>= block_outside cells))
+    ∷ (number_at table MaxLevel >>= (λ levels. integers_at table Tag >>= tag_count levels))
+    ∷ (numbers_at 2 table Cells >>= (λ cells. number_at table Blocking >>= blocking_misfit cells))
     ∷ [])
 
 -- of bytes
-abbrev pub first_fault : List ℕ → Option ProblemFault
-first_fault bytes = first_some (too_long bytes ∷ not_toml bytes ∷ fault_in (table_of bytes) ∷ [])
+abbrev pub first_fault : Scope → List ℕ → Option ProblemFault
+first_fault scope bytes = first_some (too_long bytes ∷ not_toml bytes ∷ fault_in scope (table_of bytes) ∷ [])

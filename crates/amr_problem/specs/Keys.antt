@@ -1,13 +1,34 @@
 -- The table of keys. (profile)
-use Rattle.std.specs.Prelude.{ℕ, ◌%◌, ◌==◌, ℤ, pos, negsuc, unsigned_abs, Bool, true, false, ◌&&◌, ◌||◌, not, List, [], ◌∷◌, Option, Some, None, option_map, codes, find, int_le}
+use Rattle.std.specs.Prelude.{ℕ, ◌%◌, ◌==◌, ℤ, pos, negsuc, unsigned_abs, Bool, true, ◌&&◌, ◌||◌, not, List, [], ◌∷◌, Option, Some, None, option_map, codes, find, int_le, nat_le}
+use Rattle.std.specs.Ordering.{int_eq}
 use Rattle.std.specs.List.{zip, list_any}
 use Rattle.std.specs.Str.{bytes_eq}
-use Rattle.toml.specs.Data.{Data, integer}
+use Rattle.toml.specs.Data.{Data, integer, array, no_items}
+use Rattle.amr_box.specs.declared.Axis.{Axis}
+use Rattle.amr_box.specs.declared.Axis.TheVariants as axis
 use Rattle.amr_problem.specs.declared.key.Key.{Key}
-use Rattle.amr_problem.specs.declared.key.Key.TheVariants.{Version, Name, Cells, Steps, Courant, Sides, MaxLevel, MaxGridSize, Blocks}
-use Rattle.amr_problem.specs.declared.key.Range.{Range}
+use Rattle.amr_problem.specs.declared.key.Key.TheVariants.{Version, Name, Cells, Steps, Courant, Sides, MaxLevel, Tag, NErrorBuf, Efficiency, MinWidth, RegridInt, MaxGridSize, Blocks, ShearX, ShearY, Blocking}
+use Rattle.amr_problem.specs.declared.range.Range.{Range}
+use Rattle.amr_problem.specs.declared.range.Among.{Among}
+use Rattle.amr_problem.specs.declared.range.Among.TheVariants.{Every, Even, TwoFourEight}
 use Rattle.amr_problem.specs.declared.key.Absent.{Absent}
-use Rattle.amr_problem.specs.declared.key.Absent.TheVariants.{Required, Number}
+use Rattle.amr_problem.specs.declared.key.Absent.TheVariants.{Required, Number, Empty}
+use Rattle.amr_problem.specs.declared.scope.Scope.{Scope}
+use Rattle.amr_problem.specs.declared.scope.Scope.TheVariants.{OneLevel, FirstVersion, Whole}
+
+-- ---- how much of the format is taken
+
+abbrev pub greatest_version : Scope → ℕ
+greatest_version OneLevel = 1
+greatest_version FirstVersion = 1
+greatest_version Whole = 2
+
+abbrev pub greatest_level : Scope → ℕ
+greatest_level OneLevel = 0
+greatest_level FirstVersion = 4
+greatest_level Whole = 4
+
+-- ---- rows of the table
 
 -- what the value of a key is, with the range of each of its numbers
 pub data Kind : Type 0 where
@@ -17,25 +38,37 @@ pub data Kind : Type 0 where
   text : Range → Kind
   -- an array of integers, one for each range
   numbers : List Range → Kind
+  -- an array of any number of integers, each of the range
+  list : Range → Kind
+  -- an array of integers of the range, one for each line of level 0 along the axis: for x its rows, for y its columns
+  lines : Axis → Range → Kind
   -- an array of at most so many arrays of integers, each with one for each range
   rows : ℕ → List Range → Kind
 
--- a row of the table: the key as a problem writes it, its value, and what stands where the key is absent
+-- a row of the table: the key as a problem writes it, its value, what stands where the key is absent, and the first version
+-- of the format that has it
 pub record Row : Type 0 where
   pub key : List ℕ
   pub value : Kind
   pub absent : Absent
+  pub version : ℕ
 
 abbrev pub row : List ℕ → Kind → Absent → Row
-row key value absent = record { key = key; value = value; absent = absent }
+row key value absent = record { key = key; value = value; absent = absent; version = 1 }
+
+abbrev pub row_2 : List ℕ → Kind → Absent → Row
+row_2 key value absent = record { key = key; value = value; absent = absent; version = 2 }
 
 -- the whole numbers from low to high, both inside
 abbrev pub range : ℤ → ℤ → Range
-range low high = record { low = low; high = high; even = false }
+range low high = record { low = low; high = high; among = Every }
 
 -- the even ones of them
 abbrev pub even_range : ℤ → ℤ → Range
-even_range low high = record { low = low; high = high; even = true }
+even_range low high = record { low = low; high = high; among = Even }
+
+abbrev pub blocking_factor : Range
+blocking_factor = record { low = pos 2; high = pos 8; among = TwoFourEight }
 
 abbrev pub cell_count : Range
 cell_count = range (pos 2) (pos 256)
@@ -47,61 +80,87 @@ courant_number = range (negsuc 1023) (pos 1024)
 abbrev pub side : Range
 side = range (negsuc 0) (pos 1073741824)
 
+abbrev pub threshold : Range
+threshold = range (pos 1) (pos 1073741824)
+
 abbrev pub coordinate : Range
 coordinate = range (pos 0) (pos 255)
 
 -- ---- the table
 
-abbrev pub row_of : Key → Row
-row_of Version = row (codes "version") (number (range (pos 1) (pos 1))) Required
-row_of Name = row (codes "name") (text (range (pos 1) (pos 32))) Required
-row_of Cells = row (codes "cells") (numbers (cell_count ∷ cell_count ∷ [])) Required
-row_of Steps = row (codes "steps") (number (range (pos 0) (pos 4096))) Required
-row_of Courant = row (codes "courant") (numbers (courant_number ∷ courant_number ∷ range (pos 1) (pos 1024) ∷ [])) Required
-row_of Sides = row (codes "sides") (numbers (side ∷ side ∷ side ∷ side ∷ [])) Required
-row_of MaxLevel = row (codes "max_level") (number (range (pos 0) (pos 0))) Required
-row_of MaxGridSize = row (codes "max_grid_size") (number (even_range (pos 4) (pos 256))) (Number (pos 32))
-row_of Blocks = row (codes "blocks") (rows 256 (coordinate ∷ coordinate ∷ coordinate ∷ coordinate ∷ range (pos 0) (pos 1073741824) ∷ [])) Required
+abbrev pub row_of : Scope → Key → Row
+row_of scope Version = row (codes "version") (number (range (pos 1) (pos (greatest_version scope)))) Required
+row_of scope Name = row (codes "name") (text (range (pos 1) (pos 32))) Required
+row_of scope Cells = row (codes "cells") (numbers (cell_count ∷ cell_count ∷ [])) Required
+row_of scope Steps = row (codes "steps") (number (range (pos 0) (pos 4096))) Required
+row_of scope Courant = row (codes "courant") (numbers (courant_number ∷ courant_number ∷ range (pos 1) (pos 1024) ∷ [])) Required
+row_of scope Sides = row (codes "sides") (numbers (side ∷ side ∷ side ∷ side ∷ [])) Required
+row_of scope MaxLevel = row (codes "max_level") (number (range (pos 0) (pos (greatest_level scope)))) Required
+row_of scope Tag = row (codes "tag") (list threshold) Empty
+row_of scope NErrorBuf = row (codes "n_error_buf") (number (range (pos 0) (pos 8))) (Number (pos 1))
+row_of scope Efficiency = row (codes "efficiency") (number (range (pos 1) (pos 100))) (Number (pos 70))
+row_of scope MinWidth = row (codes "min_width") (number (range (pos 1) (pos 16))) (Number (pos 2))
+row_of scope RegridInt = row (codes "regrid_int") (number (range (pos 1) (pos 4096))) (Number (pos 2))
+row_of scope MaxGridSize = row (codes "max_grid_size") (number (even_range (pos 4) (pos 256))) (Number (pos 32))
+row_of scope Blocks = row (codes "blocks") (rows 256 (coordinate ∷ coordinate ∷ coordinate ∷ coordinate ∷ range (pos 0) (pos 1073741824) ∷ [])) Required
+row_of scope ShearX = row_2 (codes "shear_x") (lines axis.X courant_number) Empty
+row_of scope ShearY = row_2 (codes "shear_y") (lines axis.Y courant_number) Empty
+row_of scope Blocking = row_2 (codes "blocking") (number blocking_factor) (Number (pos 2))
 
 -- every key, in the table's order
 abbrev pub keys : List Key
-keys = Version ∷ Name ∷ Cells ∷ Steps ∷ Courant ∷ Sides ∷ MaxLevel ∷ MaxGridSize ∷ Blocks ∷ []
+keys = Version ∷ Name ∷ Cells ∷ Steps ∷ Courant ∷ Sides ∷ MaxLevel ∷ Tag ∷ NErrorBuf ∷ Efficiency ∷ MinWidth ∷ RegridInt ∷ MaxGridSize ∷ Blocks ∷ ShearX ∷ ShearY ∷ Blocking ∷ []
 
--- ---- what is read of it
+-- ---- what is read of it: of all but the ranges it is the same in each scope
 
 abbrev pub text_of : Key → List ℕ
-text_of key = (row_of key).key
-
-abbrev pub kind_of : Key → Kind
-kind_of key = (row_of key).value
+text_of key = (row_of Whole key).key
 
 abbrev pub absent_of : Key → Absent
-absent_of key = (row_of key).absent
+absent_of key = (row_of Whole key).absent
+
+abbrev pub version_of : Key → ℕ
+version_of key = (row_of Whole key).version
+
+abbrev pub kind_of : Scope → Key → Kind
+kind_of scope key = (row_of scope key).value
 
 -- what stands where a key is absent: none where the key is required
 abbrev pub stands : Absent → Option Data
 stands Required = None
 stands (Number z) = Some (integer z)
+stands Empty = Some (array no_items)
 
 abbrev pub ranges_in : Kind → List Range
 ranges_in (number r) = r ∷ []
 ranges_in (text r) = r ∷ []
 ranges_in (numbers rs) = rs
+ranges_in (list r) = r ∷ []
+ranges_in (lines a r) = r ∷ []
 ranges_in (rows most rs) = rs
 
-abbrev pub ranges_of : Key → List Range
-ranges_of key = ranges_in (kind_of key)
+abbrev pub ranges_of : Scope → Key → List Range
+ranges_of scope key = ranges_in (kind_of scope key)
 
--- whether some key is written so
-abbrev pub is_known : List ℕ → Bool
-is_known written = list_any (λ key. bytes_eq (text_of key) written) keys
+-- whether some key of the version is written so
+abbrev pub is_known : ℕ → List ℕ → Bool
+is_known version written = list_any (λ key. nat_le (version_of key) version && bytes_eq (text_of key) written) keys
 
 abbrev pub is_even : ℤ → Bool
 is_even z = unsigned_abs z % 2 == 0
 
+abbrev pub is_among : Among → ℤ → Bool
+is_among Every z = true
+is_among Even z = is_even z
+is_among TwoFourEight z = int_eq z (pos 2) || int_eq z (pos 4) || int_eq z (pos 8)
+
 abbrev pub holds : Range → ℤ → Bool
-holds r z = int_le r.low z && int_le z r.high && (not r.even || is_even z)
+holds r z = int_le r.low z && int_le z r.high && is_among r.among z
 
 -- the first of the numbers that is out of its range
 abbrev pub first_outside : List Range → List ℤ → Option ℤ
 first_outside ranges zs = option_map (λ e. e.1) (find (λ e. not (holds e.0 e.1)) (zip ranges zs))
+
+-- the first of the numbers that is out of the one range of all
+abbrev pub first_beyond : Range → List ℤ → Option ℤ
+first_beyond r zs = find (λ z. not (holds r z)) zs

@@ -1,6 +1,8 @@
 -- The values of a document, each read by the kind of its key.
---     number_at, text_at, numbers_at, rows_at      the value that stands at a key: none where there is none, or one of another kind
-use Rattle.std.specs.Prelude.{ℕ, ◌+◌, ℤ, Bool, ◌==◌, List, [], ◌∷◌, Option, Some, None, option_map, option_and_then, is_some, if◌then◌else◌}
+--     number_at, text_at, numbers_at, integers_at, shear_at, rows_at
+--         the value that stands at a key: none where there is none, or one of another kind
+use Rattle.std.specs.Prelude.{ℕ, ◌+◌, ℤ, pos, Bool, ◌==◌, List, [], ◌∷◌, Option, Some, None, option_map, option_and_then, is_some, if◌then◌else◌}
+use Rattle.std.specs.Ordering.{int_eq}
 use Rattle.std.specs.Option.{option_or}
 use Rattle.toml.specs.Data.{Data, as_integer, as_str, as_array, Items, no_items, item, Members, get_member}
 use Rattle.amr_problem.specs.declared.key.Key.{Key}
@@ -25,6 +27,16 @@ numbers_in many items = if count items == many then integers items else None
 
 abbrev pub numbers_of : ℕ → Data → Option (List ℤ)
 numbers_of many d = as_array d >>= numbers_in many
+
+abbrev pub integers_of : Data → Option (List ℤ)
+integers_of d = as_array d >>= integers
+
+-- the integers of an array that has one for each line
+abbrev pub shear_in : ℤ → Items → Option (List ℤ)
+shear_in many items = if int_eq (pos (count items)) many then integers items else None
+
+abbrev pub shear_of : ℤ → Data → Option (List ℤ)
+shear_of many d = as_array d >>= shear_in many
 
 -- the rows of an array of arrays, each of so many integers
 abbrev pub rows_in : ℕ → Items → Option (List (List ℤ))
@@ -58,3 +70,15 @@ numbers_at many table key = value_at table key >>= numbers_of many
 
 unfoldable pub rows_at : ℕ → Members → Key → Option (List (List ℤ))
 rows_at many table key = value_at table key >>= rows_of many
+
+unfoldable pub integers_at : Members → Key → Option (List ℤ)
+integers_at table key = value_at table key >>= integers_of
+
+-- as it is written
+abbrev pub shear_written : ℤ → Option Data → Option (List ℤ)
+shear_written many None = Some []
+shear_written many (Some d) = shear_of many d
+
+-- one number for each of so many lines, or none at all where the key is absent
+unfoldable pub shear_at : ℤ → Members → Key → Option (List ℤ)
+shear_at many table key = shear_written many (written_at table key)

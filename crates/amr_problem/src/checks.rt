@@ -1,23 +1,46 @@
 //! What entries within their ranges must fulfil together.
 
-ghost use Rattle.std.specs.Prelude.{◌≡◌, ◌≤◌, [], ◌∷◌, length, not, position, unsigned_abs, option_map};
-ghost use Rattle.amr_problem.specs.Faults.{courant_over, is_periodic, differ, sides_differ, block_outside, is_inside};
+ghost use Rattle.std.specs.Prelude.{◌≡◌, ◌≤◌, ◌+◌, pos, ◌≤ℤ◌, [], ◌∷◌, length, not, position, option_map};
+ghost use Rattle.amr_def.specs.Limits.{greatest_size, in_use};
+ghost use Rattle.amr_problem.specs.Faults.{over_by, is_periodic, differ, sides_differ, block_outside, is_inside, tag_count, fits, blocking_misfit};
 
 use crate::fault::ProblemFault;
 use amr_box::Axis;
 
-/// Whether more than a whole cell would flow out of it in a step: the sum of the numerators' sizes exceeds `d`.
-pub fn courant_over(cx: i64, cy: i64, d: i64) -> Option<ProblemFault>
-    requires x { unsigned_abs cx ≤ 1024 }
-    requires y { unsigned_abs cy ≤ 1024 }
-    ensures { result ≡ courant_over (cx ∷ cy ∷ d ∷ []) }
+/// Whether more than a whole cell would flow out of it in a step: the greatest sizes of the numerators that are in use along
+/// x and along y add up to more than `d`. Each is at most 1,024.
+pub fn courant_over(x_size: u64, y_size: u64, d: i64) -> Option<ProblemFault>
+    requires x { x_size ≤ 1024 }
+    requires y { y_size ≤ 1024 }
+    ensures { result ≡ over_by (x_size + y_size) d }
 {
-    let sum = cx.abs() + cy.abs();
+    let sum = (x_size + y_size) as i64;
     if d < sum {
         Some(ProblemFault::Courant(sum, d))
     } else {
         None
     }
+}
+
+/// The greatest size of the numerators in use on an axis: of `c`, or of those that the shear puts in its place.
+pub fn size_in_use(c: i64, shear: &[i64]) -> u64
+    ensures { result ≡ greatest_size (in_use c shear.now) }
+{
+    if shear.is_empty() {
+        c.unsigned_abs()
+    } else {
+        greatest_size(shear)
+    }
+}
+
+fn greatest_size(numbers: &[i64]) -> u64
+    ensures { result ≡ greatest_size numbers.now }
+{
+    let mut greatest = 0;
+    for number in numbers {
+        greatest = number.unsigned_abs().max(greatest);
+    }
+    greatest
 }
 
 /// Whether a side, which is -1 or an inflow, is that of a periodic axis.
@@ -72,4 +95,37 @@ fn is_inside(nx: i64, ny: i64, block: &[i64; 5]) -> bool
 {
     let [x0, y0, x1, y1, _] = *block;
     x0 <= x1 && x1 < nx && y0 <= y1 && y1 < ny
+}
+
+/// Whether there is not one threshold for each level below the finest.
+pub fn tag_count(max_level: i64, tag: &[i64]) -> Option<ProblemFault>
+    ensures { result ≡ tag_count max_level tag.now }
+{
+    let given = tag.len() as i64;
+    if given == max_level {
+        None
+    } else {
+        Some(ProblemFault::TagCount(given, max_level))
+    }
+}
+
+/// The first axis along which half of the blocking factor doesn't divide the number of cells.
+pub fn blocking_misfit(nx: i64, ny: i64, blocking: i64) -> Option<ProblemFault>
+    requires { pos 2 ≤ℤ blocking }
+    ensures { result ≡ blocking_misfit (nx ∷ ny ∷ []) blocking }
+{
+    if !fits(blocking, nx) {
+        Some(ProblemFault::Blocking(Axis::X, blocking))
+    } else if !fits(blocking, ny) {
+        Some(ProblemFault::Blocking(Axis::Y, blocking))
+    } else {
+        None
+    }
+}
+
+fn fits(blocking: i64, cells: i64) -> bool
+    requires { pos 2 ≤ℤ blocking }
+    ensures { result ≡ fits blocking cells }
+{
+    cells.unsigned_abs() % (blocking.unsigned_abs() / 2) == 0
 }

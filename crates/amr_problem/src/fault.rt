@@ -12,20 +12,24 @@ pub enum ProblemFault {
     TooLong,
     /// The bytes are no TOML.
     NotToml,
-    /// A key of the top level is none of the table's: the least such key, by its bytes.
+    /// A key of the top level is none that the table has for the problem's version: the least such key, by its bytes.
     UnknownKey(KeyText),
     /// A key is absent that has to be there.
     Missing(Key),
-    /// A value isn't of its key's kind.
+    /// A value isn't of its key's kind. A shear that hasn't one number for each line of level 0 isn't.
     WrongKind(Key),
     /// A number of a value is out of its range: that number, the length of a text in bytes, or how many rows there are.
     OutOfRange(Key, i64),
-    /// The sizes of the two Courant numbers' numerators have this sum, which exceeds this denominator.
+    /// The greatest sizes of the numerators in use along x and along y have this sum, which exceeds this denominator.
     Courant(i64, i64),
     /// One side of the axis is periodic and the other isn't.
     SidesDiffer(Axis),
     /// The block with this index, counted from 0, has its corners out of order, or lies outside of the cells.
     BlockOutside(u32),
+    /// There are so many thresholds, and this finest level, which isn't their number.
+    TagCount(i64, i64),
+    /// Half of this blocking factor doesn't divide the number of cells of level 0 along the axis.
+    Blocking(Axis, i64),
 }
 
 /// Why `judge` gives no problem.

@@ -1,18 +1,24 @@
 //! The judgement.
 
-ghost use Rattle.std.specs.Prelude.{◌≡◌, Some, None, IfOk, OnOk, IsErrOf};
+ghost use Rattle.std.specs.Prelude.{◌≡◌, ◌≤◌, Some, None, IfOk, OnOk, IsErrOf, unsigned_abs, [], ◌∷◌};
 ghost use Rattle.std.specs.Option.{option_or};
 ghost use Rattle.toml.specs.View.{table_view};
-ghost use Rattle.amr_problem.specs.Faults.{unknown_key, missing_key, fault_in};
-ghost use Rattle.amr_problem.specs.Entries.{entry_fault, in_range_fault, IsInRange, IsClean, HasEntries};
-ghost use Rattle.amr_problem.specs.Judgement.{fault_of, HasKeys, IsProblemOf};
+ghost use Rattle.amr_problem.specs.Keys.{greatest_version};
+ghost use Rattle.amr_problem.specs.Faults.{unknown_key, missing_key, courant_over, fault_in};
+ghost use Rattle.amr_problem.specs.Entries.{entry_fault, in_range_fault, HasShears, IsOverlayInRange, IsClean, AreValues};
+ghost use Rattle.amr_problem.specs.Fields.{HasLimits, IsInScope};
+ghost use Rattle.amr_problem.specs.Judgement.{fault_of, HasKeys, ArePartsOf, IsProblemOf};
 
-use crate::checks::{block_outside, courant_over, sides_differ};
+use crate::checks::{
+    block_outside, blocking_misfit, courant_over, sides_differ, size_in_use, tag_count,
+};
 use crate::document::{missing_key, read, unknown_key};
-use crate::entries::Entries;
+use crate::entries::{Basics, Entries, Overlay};
 use crate::fault::{JudgeFault, ProblemFault};
-use crate::problem::problem;
+use crate::parts::Parts;
+use crate::problem::{parts, problem};
 use crate::ranges::out_of_range;
+use crate::scope::Scope;
 use amr_def::Problem;
 use std::alloc::{AllocError, Global};
 use toml::Table;
@@ -23,66 +29,99 @@ mod tests;
 /// The greatest number of bytes of a problem.
 pub const MOST_BYTES: usize = 65536;
 
-/// The problem that the bytes are, or their fault. Memory may run out at any bytes.
+/// The problem that the bytes are, or their fault, by the part of the format that the scope takes. Memory may run out at any
+/// bytes. A [`Problem`] has version 1 so far; [`judge_parts`] takes both versions.
 ///
 /// A problem is UTF-8 TOML with the keys of the table and no other. Of several faults the first in their order comes. (profile)
+pub fn judge(alloc: Global, scope: Scope, bytes: &[u8]) -> Result<Problem, JudgeFault>
+    requires { greatest_version scope ≡ 1 }
+    ensures accepted { IfOk result (IsProblemOf scope bytes.now) }
+    ensures refused { (f : _) → IsErrOf result (JudgeFault.Fault f) → fault_of scope bytes.now ≡ Some f }
+{
+    let parts = judge_parts(alloc, scope, bytes)?;
+    Ok(problem(parts))
+}
+
+/// The parts of the problem that the bytes are, or their fault, by the part of the format that the scope takes. Memory may run
+/// out at any bytes.
 #[tactic(auto, unfolding(crate::specs::Judgement::fault_of))]
-pub fn judge(alloc: Global, bytes: &[u8]) -> Result<Problem, JudgeFault>
-    ensures accepted { IfOk result (IsProblemOf bytes.now) }
-    ensures refused { (f : _) → IsErrOf result (JudgeFault.Fault f) → fault_of bytes.now ≡ Some f }
+pub fn judge_parts(alloc: Global, scope: Scope, bytes: &[u8]) -> Result<Parts, JudgeFault>
+    ensures accepted { IfOk result (ArePartsOf scope bytes.now) }
+    ensures refused { (f : _) → IsErrOf result (JudgeFault.Fault f) → fault_of scope bytes.now ≡ Some f }
 {
     if bytes.len() > MOST_BYTES {
         return Err(JudgeFault::Fault(ProblemFault::TooLong));
     }
     let table = read(alloc, bytes)?;
-    of_table(alloc, &table)
+    of_table(alloc, scope, &table)
 }
 
-fn of_table(alloc: Global, table: &Table) -> Result<Problem, JudgeFault>
-    ensures clean { IfOk result (λ _. fault_in (table_view table.now) ≡ None) }
+fn of_table(alloc: Global, scope: Scope, table: &Table) -> Result<Parts, JudgeFault>
+    ensures clean { IfOk result (λ _. fault_in scope (table_view table.now) ≡ None) }
     ensures keys { IfOk result (HasKeys (table_view table.now)) }
-    ensures refused { (f : _) → IsErrOf result (JudgeFault.Fault f) → fault_in (table_view table.now) ≡ Some f }
+    ensures limits { IfOk result HasLimits }
+    ensures in_scope { IfOk result (IsInScope scope) }
+    ensures refused { (f : _) → IsErrOf result (JudgeFault.Fault f) → fault_in scope (table_view table.now) ≡ Some f }
 {
-    if let Some(fault) = key_fault(alloc, table)? {
+    if let Some(fault) = key_fault(alloc, scope, table)? {
         return Err(JudgeFault::Fault(fault));
     }
-    of_entries(alloc, Entries::read(alloc, table)?)
+    of_entries(alloc, scope, Entries::read(alloc, table)?)
 }
 
-fn key_fault(alloc: Global, table: &Table) -> Result<Option<ProblemFault>, AllocError>
-    ensures { IfOk result (λ fault. fault ≡ option_or (unknown_key (table_view table.now)) (missing_key (table_view table.now))) }
+fn key_fault(alloc: Global, scope: Scope, table: &Table) -> Result<Option<ProblemFault>, AllocError>
+    ensures { IfOk result (λ fault. fault ≡ option_or (unknown_key scope (table_view table.now)) (missing_key (table_view table.now))) }
 {
-    let unknown = unknown_key(alloc, table)?;
+    let unknown = unknown_key(alloc, scope, table)?;
     Ok(unknown.or(missing_key(table)))
 }
 
-fn of_entries(alloc: Global, entries: Entries) -> Result<Problem, JudgeFault>
-    ensures clean { OnOk result (entry_fault entries ≡ None) }
-    ensures in_range { OnOk result (IsInRange entries) }
-    ensures entries { IfOk result (HasEntries entries) }
-    ensures refused { (f : _) → IsErrOf result (JudgeFault.Fault f) → entry_fault entries ≡ Some f }
+fn of_entries(alloc: Global, scope: Scope, entries: Entries) -> Result<Parts, JudgeFault>
+    requires { HasShears entries.basics.nx entries.basics.ny entries.overlay }
+    ensures clean { OnOk result (entry_fault scope entries ≡ None) }
+    ensures values { IfOk result (AreValues entries) }
+    ensures limits { IfOk result HasLimits }
+    ensures in_scope { IfOk result (IsInScope scope) }
+    ensures refused { (f : _) → IsErrOf result (JudgeFault.Fault f) → entry_fault scope entries ≡ Some f }
 {
-    if let Some(fault) = entry_fault(&entries) {
+    if let Some(fault) = entry_fault(scope, &entries) {
         return Err(JudgeFault::Fault(fault));
     }
-    Ok(problem(alloc, entries)?)
+    Ok(parts(alloc, scope, entries)?)
 }
 
-fn entry_fault(entries: &Entries) -> Option<ProblemFault>
-    ensures first { result ≡ entry_fault entries.now }
-    ensures clean { result ≡ None → IsClean entries.now }
+fn entry_fault(scope: Scope, entries: &Entries) -> Option<ProblemFault>
+    ensures first { result ≡ entry_fault scope entries.now }
+    ensures clean { result ≡ None → IsClean scope entries.now }
 {
-    match out_of_range(entries) {
+    match out_of_range(scope, entries) {
         Some(fault) => Some(fault),
         None => in_range_fault(entries),
     }
 }
 
 fn in_range_fault(entries: &Entries) -> Option<ProblemFault>
-    requires { IsInRange entries.now }
+    requires cx { unsigned_abs entries.now.basics.cx ≤ 1024 }
+    requires cy { unsigned_abs entries.now.basics.cy ≤ 1024 }
+    requires overlay { IsOverlayInRange entries.now.overlay }
     ensures { result ≡ in_range_fault entries.now }
 {
-    courant_over(entries.cx, entries.cy, entries.d)
-        .or(sides_differ(entries.x_low, entries.x_high, entries.y_low, entries.y_high))
-        .or(block_outside(entries.nx, entries.ny, entries.blocks.as_slice()))
+    let basics = &entries.basics;
+    let overlay = &entries.overlay;
+    courant_fault(basics, overlay)
+        .or(sides_differ(basics.x_low, basics.x_high, basics.y_low, basics.y_high))
+        .or(block_outside(basics.nx, basics.ny, overlay.blocks.as_slice()))
+        .or(tag_count(basics.max_level, entries.refining.tag.as_slice()))
+        .or(blocking_misfit(basics.nx, basics.ny, overlay.blocking))
+}
+
+fn courant_fault(basics: &Basics, overlay: &Overlay) -> Option<ProblemFault>
+    requires cx { unsigned_abs basics.now.cx ≤ 1024 }
+    requires cy { unsigned_abs basics.now.cy ≤ 1024 }
+    requires overlay { IsOverlayInRange overlay.now }
+    ensures { result ≡ courant_over (basics.now.cx ∷ basics.now.cy ∷ basics.now.d ∷ []) overlay.now.shear_x.items overlay.now.shear_y.items }
+{
+    let x_size = size_in_use(basics.cx, overlay.shear_x.as_slice());
+    let y_size = size_in_use(basics.cy, overlay.shear_y.as_slice());
+    courant_over(x_size, y_size, basics.d)
 }

@@ -1,17 +1,11 @@
 //! The table of keys.
 
-ghost use Rattle.std.specs.Prelude.{◌≡◌, option_map, option_and_then, find, not, is_none};
-ghost use Rattle.std.specs.List.{zip};
+ghost use Rattle.std.specs.Prelude.{◌≡◌, option_map, option_and_then, is_none};
 ghost use Rattle.toml.specs.Data.{as_integer};
-ghost use Rattle.amr_problem.specs.Keys.{is_even, holds, ranges_of, text_of, absent_of, stands, is_known, first_outside};
+ghost use Rattle.amr_problem.specs.Keys.{text_of, absent_of, version_of, stands, is_known};
+ghost use Rattle.amr_problem.specs.Values.{integers_of};
 
-/// The whole numbers from `low` to `high`, both inside, or the even ones of them.
-#[derive(Clone, Copy, Debug, PartialEq, Eq)]
-pub struct Range {
-    pub low: i64,
-    pub high: i64,
-    pub even: bool,
-}
+use std::alloc::Global;
 
 /// What stands where a key is absent.
 #[derive(Clone, Copy, Debug, PartialEq, Eq)]
@@ -20,6 +14,8 @@ pub enum Absent {
     Required,
     /// This integer.
     Number(i64),
+    /// The empty array.
+    Empty,
 }
 
 /// A key of a problem.
@@ -40,49 +36,30 @@ pub enum Key {
     Sides,
     /// The finest level that there may be.
     MaxLevel,
+    /// For each level below `max_level` the difference of values that tags a cell.
+    Tag,
+    /// By how many cells tags are grown; 1 where it is absent.
+    NErrorBuf,
+    /// Of 100 cells of a new box, how many are to be tagged; 70 where it is absent.
+    Efficiency,
+    /// The least width of a part of a box that is cut; 2 where it is absent.
+    MinWidth,
+    /// How many steps lie between two regrids; 2 where it is absent.
+    RegridInt,
     /// The greatest side of a patch that a box is chopped into; 32 where it is absent.
     MaxGridSize,
     /// The rectangles that start with mass: low column, low row, high column, high row, and the mass of each cell.
     Blocks,
+    /// Of version 2: for each row of level 0 what stands in the place of the x axis's numerator.
+    ShearX,
+    /// Of version 2: for each column of level 0 what stands in the place of the y axis's numerator.
+    ShearY,
+    /// Of version 2: the multiple that corners of boxes above level 0 lie on; 2 where it is absent.
+    Blocking,
 }
 
-// How many columns or rows there are.
-const CELLS: Range = Range {
-    low: 2,
-    high: 256,
-    even: false,
-};
-
-// The numerator of a Courant number.
-const COURANT: Range = Range {
-    low: -1024,
-    high: 1024,
-    even: false,
-};
-
-// -1, which says that the axis is periodic, or the mass of a cell beyond the side.
-const SIDE: Range = Range {
-    low: -1,
-    high: 1073741824,
-    even: false,
-};
-
-// A column or a row of a block.
-const COORDINATE: Range = Range {
-    low: 0,
-    high: 255,
-    even: false,
-};
-
-// The mass of a cell at the start.
-const MASS: Range = Range {
-    low: 0,
-    high: 1073741824,
-    even: false,
-};
-
 /// Every key, in the table's order.
-pub static KEYS: [Key; 9] = [
+pub static KEYS: [Key; 17] = [
     Key::Version,
     Key::Name,
     Key::Cells,
@@ -90,23 +67,17 @@ pub static KEYS: [Key; 9] = [
     Key::Courant,
     Key::Sides,
     Key::MaxLevel,
+    Key::Tag,
+    Key::NErrorBuf,
+    Key::Efficiency,
+    Key::MinWidth,
+    Key::RegridInt,
     Key::MaxGridSize,
     Key::Blocks,
+    Key::ShearX,
+    Key::ShearY,
+    Key::Blocking,
 ];
-
-impl Range {
-    pub fn holds(self, number: i64) -> bool
-        ensures { result ≡ holds self number }
-    {
-        self.low <= number && number <= self.high && (!self.even || is_even(number))
-    }
-}
-
-fn is_even(number: i64) -> bool
-    ensures { result ≡ is_even number }
-{
-    number.unsigned_abs() % 2 == 0
-}
 
 impl Absent {
     pub fn is_required(self) -> bool
@@ -120,8 +91,18 @@ impl Absent {
         ensures { result ≡ option_and_then as_integer (stands self) }
     {
         match self {
-            Absent::Required => None,
             Absent::Number(number) => Some(number),
+            Absent::Required | Absent::Empty => None,
+        }
+    }
+
+    /// The integers of the array that stands there, if one does.
+    pub fn integers(self, alloc: Global) -> Option<Vec<i64>>
+        ensures { option_map (λ v. v.items) result ≡ option_and_then integers_of (stands self) }
+    {
+        match self {
+            Absent::Empty => Some(Vec::new(alloc)),
+            Absent::Required | Absent::Number(_) => None,
         }
     }
 }
@@ -139,53 +120,26 @@ impl Key {
             Key::Courant => "courant",
             Key::Sides => "sides",
             Key::MaxLevel => "max_level",
+            Key::Tag => "tag",
+            Key::NErrorBuf => "n_error_buf",
+            Key::Efficiency => "efficiency",
+            Key::MinWidth => "min_width",
+            Key::RegridInt => "regrid_int",
             Key::MaxGridSize => "max_grid_size",
             Key::Blocks => "blocks",
+            Key::ShearX => "shear_x",
+            Key::ShearY => "shear_y",
+            Key::Blocking => "blocking",
         }
     }
 
-    /// The ranges of its numbers, in order: of a value, of the length of a text, or of each row of many.
-    pub(crate) fn ranges(self) -> &'static [Range]
-        ensures { result.now ≡ ranges_of self }
+    /// The first version of the format that has it.
+    pub fn version(self) -> u32
+        ensures { result ≡ version_of self }
     {
         match self {
-            Key::Version => &[Range {
-                low: 1,
-                high: 1,
-                even: false,
-            }],
-            Key::Name => &[Range {
-                low: 1,
-                high: 32,
-                even: false,
-            }],
-            Key::Cells => &[CELLS, CELLS],
-            Key::Steps => &[Range {
-                low: 0,
-                high: 4096,
-                even: false,
-            }],
-            Key::Courant => &[
-                COURANT,
-                COURANT,
-                Range {
-                    low: 1,
-                    high: 1024,
-                    even: false,
-                },
-            ],
-            Key::Sides => &[SIDE, SIDE, SIDE, SIDE],
-            Key::MaxLevel => &[Range {
-                low: 0,
-                high: 0,
-                even: false,
-            }],
-            Key::MaxGridSize => &[Range {
-                low: 4,
-                high: 256,
-                even: true,
-            }],
-            Key::Blocks => &[COORDINATE, COORDINATE, COORDINATE, COORDINATE, MASS],
+            Key::ShearX | Key::ShearY | Key::Blocking => 2,
+            _ => 1,
         }
     }
 
@@ -194,34 +148,20 @@ impl Key {
         ensures { result ≡ absent_of self }
     {
         match self {
+            Key::Tag | Key::ShearX | Key::ShearY => Absent::Empty,
+            Key::NErrorBuf => Absent::Number(1),
+            Key::Efficiency => Absent::Number(70),
+            Key::MinWidth | Key::RegridInt | Key::Blocking => Absent::Number(2),
             Key::MaxGridSize => Absent::Number(32),
             _ => Absent::Required,
         }
     }
 }
 
-/// Whether some key is written so.
-pub fn is_known(text: &str) -> bool
-    ensures { result ≡ is_known text.now }
+/// Whether some key of the version is written so.
+pub fn is_known(version: u32, text: &str) -> bool
+    ensures { result ≡ is_known version text.now }
 {
-    KEYS.iter().any(|key| key.text() == text)
-}
-
-/// The first of the numbers that is out of its range.
-pub fn first_outside(ranges: &[Range], numbers: &[i64]) -> Option<i64>
-    ensures { result ≡ first_outside ranges.now numbers.now }
-{
-    match outside(ranges, numbers) {
-        Some((_, number)) => Some(*number),
-        None => None,
-    }
-}
-
-fn outside<'a>(ranges: &'a [Range], numbers: &'a [i64]) -> Option<(&'a Range, &'a i64)>
-    ensures { option_map (λ e. (e.0.now, e.1.now)) result ≡ find (λ e. not (holds e.0 e.1)) (zip ranges.now numbers.now) }
-{
-    ranges
-        .iter()
-        .zip(numbers)
-        .find(|(range, number)| !range.holds(**number))
+    KEYS.iter()
+        .any(|key| key.version() <= version && key.text() == text)
 }

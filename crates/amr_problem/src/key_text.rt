@@ -5,7 +5,7 @@ ghost use Rattle.std.specs.Prelude.{◌≡◌, IfOk};
 use std::alloc::{AllocError, Global};
 use std::marker::Model;
 
-/// The text of a key that is none of the table's; contracts see its bytes.
+/// The text of a key that is none of the version's; contracts see its bytes.
 #[derive(Debug, Drop)]
 pub struct KeyText {
     text: String,

@@ -1,69 +1,64 @@
-//! From entries without a fault to the problem.
+//! From entries without a fault to the parts of a problem, and to the problem.
 
 ghost use Rattle.std.specs.Prelude.{◌≡◌, ◌≤◌, ◌≤ℤ◌, unsigned_abs, None, true, pos, IfOk, [], ◌∷◌, map, is_none};
 ghost use Rattle.std.specs.List.{list_all};
-ghost use Rattle.amr_problem.specs.Keys.{ranges_of, first_outside};
-ghost use Rattle.amr_problem.specs.Fields.{sides_numbers, block_numbers};
+ghost use Rattle.amr_problem.specs.Keys.{ranges_of, first_outside, holds, threshold, courant_number};
+ghost use Rattle.amr_problem.specs.Fields.{sides_numbers, block_numbers, parts_of, HasLimits};
 ghost use Rattle.amr_problem.specs.Faults.{is_periodic};
-ghost use Rattle.amr_problem.specs.Entries.{IsSide, IsClean, HasEntries, AreValues, AreWithinLimits, HasParts};
+ghost use Rattle.amr_problem.specs.Entries.{IsSide, IsClean, AreValues};
 
 use crate::checks::is_periodic;
 use crate::entries::Entries;
 use crate::key::Key;
+use crate::parts::Parts;
+use crate::scope::Scope;
 use amr_def::{Block, Blocks, Name, Problem, Shear, Sides, Thresholds};
 use std::alloc::{AllocError, Global};
 
-/// What a problem of one level has beside what stands for the keys that there are none of yet.
-#[derive(Drop)]
-pub struct Parts {
-    pub version: u32,
-    pub name: Name,
-    pub nx: u32,
-    pub ny: u32,
-    pub steps: u32,
-    pub cx: i32,
-    pub cy: i32,
-    pub d: u32,
-    pub x_sides: Sides,
-    pub y_sides: Sides,
-    pub max_grid_size: u32,
-    pub blocks: Blocks,
-}
-
-/// The problem that the entries are.
-pub fn problem(alloc: Global, entries: Entries) -> Result<Problem, AllocError>
-    requires { IsClean entries }
-    ensures { IfOk result (HasEntries entries) }
-{
-    let parts = parts_of(alloc, entries)?;
-    Ok(assemble(alloc, parts))
-}
-
-fn parts_of(alloc: Global, entries: Entries) -> Result<Parts, AllocError>
-    requires { IsClean entries }
+/// The parts that the entries are.
+pub fn parts(alloc: Global, scope: Scope, entries: Entries) -> Result<Parts, AllocError>
+    requires { IsClean scope entries }
     ensures { IfOk result (AreValues entries) }
 {
-    let blocks = blocks(alloc, entries.blocks.as_slice())?;
+    let Entries {
+        basics,
+        refining,
+        overlay,
+    } = entries;
+    let tag = thresholds(alloc, refining.tag.as_slice())?;
+    let blocks = blocks(alloc, overlay.blocks.as_slice())?;
+    let shear_x = numerators(alloc, overlay.shear_x.as_slice())?;
+    let shear_y = numerators(alloc, overlay.shear_y.as_slice())?;
     Ok(Parts {
-        version: small(entries.version),
-        name: Name::make(entries.name),
-        nx: small(entries.nx),
-        ny: small(entries.ny),
-        steps: small(entries.steps),
-        cx: signed(entries.cx),
-        cy: signed(entries.cy),
-        d: small(entries.d),
-        x_sides: sides(entries.x_low, entries.x_high),
-        y_sides: sides(entries.y_low, entries.y_high),
-        max_grid_size: small(entries.max_grid_size),
+        version: small(basics.version),
+        name: Name::make(basics.name),
+        nx: small(basics.nx),
+        ny: small(basics.ny),
+        steps: small(basics.steps),
+        cx: signed(basics.cx),
+        cy: signed(basics.cy),
+        d: small(basics.d),
+        shear_x: Shear::make(shear_x),
+        shear_y: Shear::make(shear_y),
+        x_sides: sides(basics.x_low, basics.x_high),
+        y_sides: sides(basics.y_low, basics.y_high),
+        max_level: small(basics.max_level),
+        tag: Thresholds::make(tag),
+        n_error_buf: small(refining.n_error_buf),
+        efficiency: small(refining.efficiency),
+        min_width: small(refining.min_width),
+        regrid_int: small(refining.regrid_int),
+        blocking: small(overlay.blocking),
+        max_grid_size: small(refining.max_grid_size),
         blocks: Blocks::make(blocks),
     })
 }
 
-// The problem of these parts, with one level.
-fn assemble(alloc: Global, parts: Parts) -> Problem
-    requires { AreWithinLimits parts }
-    ensures { HasParts parts result }
+/// The problem of these parts.
+pub fn problem(parts: Parts) -> Problem
+    requires limits { HasLimits parts }
+    requires first_version { parts.version ≡ 1 }
+    ensures { parts_of result ≡ parts }
 {
     Problem {
         version: parts.version,
@@ -74,17 +69,17 @@ fn assemble(alloc: Global, parts: Parts) -> Problem
         cx: parts.cx,
         cy: parts.cy,
         d: parts.d,
-        shear_x: Shear::make(Vec::new(alloc)),
-        shear_y: Shear::make(Vec::new(alloc)),
+        shear_x: parts.shear_x,
+        shear_y: parts.shear_y,
         x_sides: parts.x_sides,
         y_sides: parts.y_sides,
-        max_level: 0,
-        tag: Thresholds::make(Vec::new(alloc)),
-        n_error_buf: 1,
-        efficiency: 70,
-        min_width: 2,
-        regrid_int: 2,
-        blocking: 2,
+        max_level: parts.max_level,
+        tag: parts.tag,
+        n_error_buf: parts.n_error_buf,
+        efficiency: parts.efficiency,
+        min_width: parts.min_width,
+        regrid_int: parts.regrid_int,
+        blocking: parts.blocking,
         max_grid_size: parts.max_grid_size,
         blocks: parts.blocks,
     }
@@ -118,8 +113,44 @@ fn sides(low: i64, high: i64) -> Sides
     }
 }
 
+fn thresholds(alloc: Global, numbers: &[i64]) -> Result<Vec<u64>, AllocError>
+    requires { list_all (holds threshold) numbers.now ≡ true }
+    ensures { IfOk result (λ tag. map pos tag.items ≡ numbers.now) }
+{
+    let mut tag = Vec::new(alloc);
+    for number in numbers {
+        tag.push(whole(*number))?;
+    }
+    Ok(tag)
+}
+
+fn whole(number: i64) -> u64
+    requires { holds threshold number ≡ true }
+    ensures { pos result ≡ number }
+{
+    number as u64
+}
+
+fn numerators(alloc: Global, numbers: &[i64]) -> Result<Vec<i32>, AllocError>
+    requires { list_all (holds courant_number) numbers.now ≡ true }
+    ensures { IfOk result (λ numerators. numerators.items ≡ numbers.now) }
+{
+    let mut numerators = Vec::new(alloc);
+    for number in numbers {
+        numerators.push(numerator(*number))?;
+    }
+    Ok(numerators)
+}
+
+fn numerator(number: i64) -> i32
+    requires { holds courant_number number ≡ true }
+    ensures { result ≡ number }
+{
+    number as i32
+}
+
 fn blocks(alloc: Global, rows: &[[i64; 5]]) -> Result<Vec<Block>, AllocError>
-    requires { list_all (λ row. is_none (first_outside (ranges_of Key.Blocks) row)) rows.now ≡ true }
+    requires { list_all (λ row. is_none (first_outside (ranges_of Scope.Whole Key.Blocks) row)) rows.now ≡ true }
     ensures { IfOk result (λ blocks. map block_numbers blocks.items ≡ rows.now) }
 {
     let mut blocks = Vec::new(alloc);
@@ -130,7 +161,7 @@ fn blocks(alloc: Global, rows: &[[i64; 5]]) -> Result<Vec<Block>, AllocError>
 }
 
 fn block_of(row: &[i64; 5]) -> Block
-    requires { first_outside (ranges_of Key.Blocks) row.now ≡ None }
+    requires { first_outside (ranges_of Scope.Whole Key.Blocks) row.now ≡ None }
     ensures { block_numbers result ≡ row.now }
 {
     let [x0, y0, x1, y1, mass] = *row;
@@ -138,7 +169,7 @@ fn block_of(row: &[i64; 5]) -> Block
 }
 
 fn block(x0: i64, y0: i64, x1: i64, y1: i64, mass: i64) -> Block
-    requires { first_outside (ranges_of Key.Blocks) (x0 ∷ y0 ∷ x1 ∷ y1 ∷ mass ∷ []) ≡ None }
+    requires { first_outside (ranges_of Scope.Whole Key.Blocks) (x0 ∷ y0 ∷ x1 ∷ y1 ∷ mass ∷ []) ≡ None }
     ensures { block_numbers result ≡ x0 ∷ y0 ∷ x1 ∷ y1 ∷ mass ∷ [] }
 {
     Block {

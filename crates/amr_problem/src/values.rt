@@ -1,8 +1,9 @@
 //! The values of a document, each read as its key's kind has it.
 
-ghost use Rattle.std.specs.Prelude.{◌≡◌, length, Some, None, option_map, IfOk};
+ghost use Rattle.std.specs.Prelude.{◌≡◌, length, pos, Some, None, option_map, IfOk};
+ghost use Rattle.std.specs.Ordering.{int_eq};
 ghost use Rattle.toml.specs.View.{view, items_view};
-ghost use Rattle.amr_problem.specs.Values.{integers, numbers_in, numbers_of, rows_in, rows_of};
+ghost use Rattle.amr_problem.specs.Values.{count, integers, integers_of, numbers_in, numbers_of, shear_in, shear_of, rows_in, rows_of};
 
 use std::alloc::{AllocError, Global};
 use toml::Value;
@@ -27,6 +28,39 @@ fn integers<const N: usize>(items: &[Value]) -> Option<[i64; N]>
         numbers[place] = item.as_integer()?;
     }
     Some(numbers)
+}
+
+/// The integers of an array that has nothing else.
+pub fn integers_in(alloc: Global, items: &[Value]) -> Result<Option<Vec<i64>>, AllocError>
+    ensures { IfOk result (λ o. option_map (λ v. v.items) o ≡ integers (items_view items.now)) }
+{
+    let mut numbers = Vec::new(alloc);
+    for item in items {
+        let Some(number) = item.as_integer() else {
+            return Ok(None);
+        };
+        numbers.push(number)?;
+    }
+    Ok(Some(numbers))
+}
+
+#[tactic(auto, using(crate::proofs::ValueLaws::count_view))]
+fn has_count(items: &[Value], many: i64) -> bool
+    ensures { result ≡ int_eq (pos (count (items_view items.now))) many }
+{
+    let count = items.len() as i64;
+    count == many
+}
+
+/// The integers of an array that has as many as there are lines, and nothing else.
+pub fn shear_in(alloc: Global, items: &[Value], lines: i64) -> Result<Option<Vec<i64>>, AllocError>
+    ensures { IfOk result (λ o. option_map (λ v. v.items) o ≡ shear_in lines (items_view items.now)) }
+{
+    if has_count(items, lines) {
+        integers_in(alloc, items)
+    } else {
+        Ok(None)
+    }
 }
 
 /// The rows of an array of arrays, each of `N` integers.
@@ -65,6 +99,26 @@ pub fn rows_of<const N: usize>(
 {
     match value.as_array() {
         Some(items) => rows_in(alloc, items),
+        None => Ok(None),
+    }
+}
+
+/// The integers of a value that is an array of them.
+pub fn integers_of(alloc: Global, value: &Value) -> Result<Option<Vec<i64>>, AllocError>
+    ensures { IfOk result (λ o. option_map (λ v. v.items) o ≡ integers_of (view value.now)) }
+{
+    match value.as_array() {
+        Some(items) => integers_in(alloc, items),
+        None => Ok(None),
+    }
+}
+
+/// The integers of a value that is an array of as many as there are lines.
+pub fn shear_of(alloc: Global, value: &Value, lines: i64) -> Result<Option<Vec<i64>>, AllocError>
+    ensures { IfOk result (λ o. option_map (λ v. v.items) o ≡ shear_of lines (view value.now)) }
+{
+    match value.as_array() {
+        Some(items) => shear_in(alloc, items, lines),
         None => Ok(None),
     }
 }

@@ -5,11 +5,12 @@ use Rattle.std.specs.Fmt.{signed_decimal}
 use Rattle.amr_causes.specs.Bytes.{Grows}
 use Rattle.amr_io.specs.Short.{FallsShort}
 use Rattle.amr_def.specs.Plot.{line}
+use Rattle.amr_box.specs.declared.Axis.{Axis}
 use Rattle.amr_problem.specs.declared.fault.ProblemFault.{ProblemFault}
 use Rattle.amr_problem.specs.declared.fault.ProblemFault.TheVariants as problem
 use Rattle.amr_problem.specs.declared.key.Key.{Key}
 use Rattle.amr_problem.specs.Keys.{text_of}
-use Rattle.amr_run.specs.Texts.{fault_text, refusal, sign_text}
+use Rattle.amr_run.specs.Texts.{axis_text, fault_text, refusal, sign_text}
 
 -- another text for the same bytes
 module _ {S : Type 0} (holds : S → List ℕ → Type 0) (old new : S) where
@@ -41,6 +42,18 @@ pub courant_line : (z y : ℤ) (sign other_sign : List ℕ) (size other_size : �
 courant_line z y sign other_sign size other_size sign_is size_is other_sign_is other_size_is =
     ap (λ (t : List ℕ). line (codes "amr: problem: courant " ++ t)) (sign_and_digits sign size z _ sign_is size_is)
     ∙ ap (λ (t : List ℕ). line (codes "amr: problem: courant " ++ (signed_decimal z ++ (codes " over " ++ t)))) (sign_and_digits other_sign other_size y [] other_sign_is other_size_is)
+
+pub tag_count_line : (z y : ℤ) (sign other_sign : List ℕ) (size other_size : ℕ) → sign ≡ sign_text z → size ≡ unsigned_abs z → other_sign ≡ sign_text y → other_size ≡ unsigned_abs y
+    → line (codes "amr: problem: " ++ (sign ++ (decimal size ++ (codes " tags for " ++ (other_sign ++ (decimal other_size ++ (codes " levels" ++ []))))))) ≡ refusal (fault_text (problem.TagCount z y))
+tag_count_line z y sign other_sign size other_size sign_is size_is other_sign_is other_size_is =
+    ap (λ (t : List ℕ). line (codes "amr: problem: " ++ t)) (sign_and_digits sign size z _ sign_is size_is)
+    ∙ ap (λ (t : List ℕ). line (codes "amr: problem: " ++ (signed_decimal z ++ (codes " tags for " ++ t)))) (sign_and_digits other_sign other_size y (codes " levels" ++ []) other_sign_is other_size_is)
+
+pub blocking_line : (axis : Axis) (z : ℤ) (sign name : List ℕ) (size : ℕ) → sign ≡ sign_text z → size ≡ unsigned_abs z → name ≡ axis_text axis
+    → line (codes "amr: problem: blocking " ++ (sign ++ (decimal size ++ (codes " does not fit " ++ (name ++ []))))) ≡ refusal (fault_text (problem.Blocking axis z))
+blocking_line axis z sign name size sign_is size_is name_is =
+    ap (λ (t : List ℕ). line (codes "amr: problem: blocking " ++ t)) (sign_and_digits sign size z _ sign_is size_is)
+    ∙ ap (λ (n : List ℕ). line (codes "amr: problem: blocking " ++ (signed_decimal z ++ (codes " does not fit " ++ (n ++ []))))) name_is
 
 -- the line of a fault that is this one
 pub refusal_of : (fault same : ProblemFault) → fault ≡ same → refusal (fault_text same) ≡ refusal (fault_text fault)

@@ -14,13 +14,16 @@ use crate::line::put_line;
 use amr_def::Problem;
 use amr_io::{Fragment, Sink, Source, WriteFault, read_all};
 use amr_plot::plot;
-use amr_problem::judge;
+use amr_problem::{Scope, judge};
 use amr_runs::run_to;
 use amr_start::start;
 use std::alloc::Global;
 
 /// The most bytes that a problem has.
 const MOST_BYTES: usize = 65536;
+
+/// How much of the format of problems is taken.
+const SCOPE: Scope = Scope::OneLevel;
 
 /// The command `run`: the plot of the run of the problem on the source, or the status that refuses it.
 pub(crate) fn run<S: Source, O: Sink>(alloc: Global, src: &mut S, out: &mut O) -> Result<(), Status>
@@ -71,7 +74,7 @@ fn read_problem<S: Source>(alloc: Global, src: &mut S) -> Result<Problem, Status
     ensures no_read_fault { result ≢ Err Status.ReadFault → S.faults src.new ≡ S.faults src.old }
 {
     let bytes = read_all(alloc, src, MOST_BYTES)?;
-    let problem = judge(alloc, &bytes)?;
+    let problem = judge(alloc, SCOPE, &bytes)?;
     Ok(problem)
 }
 

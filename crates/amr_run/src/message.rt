@@ -77,6 +77,8 @@ fn put_fault<E: Sink>(err: &mut E, fault: &ProblemFault) -> Result<(), WriteFaul
                 Fragment::Str(" outside"),
             ],
         ),
+        ProblemFault::TagCount(given, max_level) => put_tag_count(err, given, max_level),
+        ProblemFault::Blocking(axis, blocking) => put_blocking(err, *axis, blocking),
     }
 }
 
@@ -111,6 +113,42 @@ fn put_courant<E: Sink>(err: &mut E, sum: &i64, d: &i64) -> Result<(), WriteFaul
             Fragment::Str(" over "),
             Fragment::Str(sign(d)),
             Fragment::Number(size(d)),
+        ],
+    )
+}
+
+fn put_tag_count<E: Sink>(err: &mut E, given: &i64, max_level: &i64) -> Result<(), WriteFault>
+    ensures whole { OnOk result (Grows E.holds err.old err.new (refusal (fault_text (ProblemFault.TagCount given.now max_level.now)))) }
+    ensures short { OnErr result (FallsShort E.holds err.old err.new (refusal (fault_text (ProblemFault.TagCount given.now max_level.now)))) }
+    ensures cause { HasCause (E.faults err.old) (E.faults err.new) result }
+{
+    put_line(
+        err,
+        &[
+            Fragment::Str("amr: problem: "),
+            Fragment::Str(sign(given)),
+            Fragment::Number(size(given)),
+            Fragment::Str(" tags for "),
+            Fragment::Str(sign(max_level)),
+            Fragment::Number(size(max_level)),
+            Fragment::Str(" levels"),
+        ],
+    )
+}
+
+fn put_blocking<E: Sink>(err: &mut E, axis: Axis, blocking: &i64) -> Result<(), WriteFault>
+    ensures whole { OnOk result (Grows E.holds err.old err.new (refusal (fault_text (ProblemFault.Blocking axis blocking.now)))) }
+    ensures short { OnErr result (FallsShort E.holds err.old err.new (refusal (fault_text (ProblemFault.Blocking axis blocking.now)))) }
+    ensures cause { HasCause (E.faults err.old) (E.faults err.new) result }
+{
+    put_line(
+        err,
+        &[
+            Fragment::Str("amr: problem: blocking "),
+            Fragment::Str(sign(blocking)),
+            Fragment::Number(size(blocking)),
+            Fragment::Str(" does not fit "),
+            Fragment::Str(axis_name(axis)),
         ],
     )
 }

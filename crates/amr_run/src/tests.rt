@@ -1,8 +1,11 @@
 // What no clause says: that the call succeeds, worked plots, and the text of each refusal.
 
-use crate::amr;
+use crate::message::tell;
+use crate::{Status, amr};
+use amr_box::Axis;
 use amr_cli::Line;
 use amr_io::{MemSink, MemSource};
+use amr_problem::ProblemFault;
 use std::alloc::{AllocError, Global};
 use std::fmt::Write as _;
 use std::process::Abort;
@@ -298,6 +301,10 @@ sides|sides = [-1, 0, -1, -1]|sides differ x
 sides|sides = [-1, -1, 0, -1]|sides differ y
 blocks|blocks = [[0, 0, 4, 0, 8]]|block 0 outside
 blocks|blocks = [[0, 0, 0, 0, 8], [1, 0, 0, 0, 8]]|block 1 outside
+max_level|max_level = 0;tag = [4, 2]|2 tags for 0 levels
+max_level|max_level = 0;efficiency = 101|out of range efficiency 101
+version|version = 1;shear_x = [1, 1]|unknown key shear_x
+version|version = 2;blocking = 2|unknown key blocking
 steps|steps = 1;zebra = 1;alpha = 1|unknown key alpha
 steps|steps = 1;steps = 1|not TOML
 steps|steps 1|not TOML";
@@ -327,6 +334,31 @@ fn faults_of_the_problem(rt: HostRuntime) -> Result<(), Fail> {
         Case::run(text.as_bytes()).ends(&rt, 3, "", line.as_str());
         Case::of("check", text.as_bytes()).ends(&rt, 3, "", line.as_str());
     }
+    Ok(())
+}
+
+/// What the program can't meet yet.
+#[test]
+fn the_line_of_a_blocking_that_does_not_fit(rt: HostRuntime) {
+    let alloc = rt.alloc();
+    let mut lines = MemSink::make(alloc, 1000, 40, &[]).expect(&rt, "memory");
+    let status = Status::Problem(ProblemFault::Blocking(Axis::X, 4));
+    assert!(rt; tell(&mut lines, &status).is_ok());
+    assert_eq!(rt;
+        lines.bytes(),
+        b"amr: problem: blocking 4 does not fit x\n".as_slice()
+    );
+}
+
+/// The keys of finer levels change nothing on one level.
+#[test]
+fn ring_with_the_keys_of_finer_levels(rt: HostRuntime) -> Result<(), Fail> {
+    let text = ring_with_lines(
+        rt.alloc(),
+        "max_level",
+        "max_level = 0;tag = [];n_error_buf = 2;efficiency = 100;min_width = 4;regrid_int = 1",
+    )?;
+    Case::run(text.as_bytes()).ends(&rt, 0, RING_PLOT, "");
     Ok(())
 }
 

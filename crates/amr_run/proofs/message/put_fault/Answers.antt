@@ -28,3 +28,15 @@ pub returns-in-SidesDiffer-clause-short : goal.returns-in-SidesDiffer-clause-sho
 returns-in-SidesDiffer-clause-short g c =
     short_as g.E.Sink.holds c.args.err.now c.put_line-in-SidesDiffer.new.sink c.put_line-in-SidesDiffer.result _ _
     (ap (λ (t : List ℕ). line (codes "amr: problem: sides differ " ++ (t ++ []))) c.axis_name.ensures ∙ refusal_of _ _ c.in-SidesDiffer.is) c.put_line-in-SidesDiffer.ensures.short
+
+pub returns-in-TagCount-clause-whole : goal.returns-in-TagCount-clause-whole
+returns-in-TagCount-clause-whole g c = whole_as g.E.Sink.holds c.args.err.now c.put_tag_count.new.err c.put_tag_count.result _ _ (refusal_of _ _ c.in-TagCount.is) c.put_tag_count.ensures.whole
+
+pub returns-in-TagCount-clause-short : goal.returns-in-TagCount-clause-short
+returns-in-TagCount-clause-short g c = short_as g.E.Sink.holds c.args.err.now c.put_tag_count.new.err c.put_tag_count.result _ _ (refusal_of _ _ c.in-TagCount.is) c.put_tag_count.ensures.short
+
+pub returns-in-Blocking-clause-whole : goal.returns-in-Blocking-clause-whole
+returns-in-Blocking-clause-whole g c = whole_as g.E.Sink.holds c.args.err.now c.put_blocking.new.err c.put_blocking.result _ _ (refusal_of _ _ c.in-Blocking.is) c.put_blocking.ensures.whole
+
+pub returns-in-Blocking-clause-short : goal.returns-in-Blocking-clause-short
+returns-in-Blocking-clause-short g c = short_as g.E.Sink.holds c.args.err.now c.put_blocking.new.err c.put_blocking.result _ _ (refusal_of _ _ c.in-Blocking.is) c.put_blocking.ensures.short

@@ -2,7 +2,7 @@ use Rattle.std.proofs.Common.{rules, tests, not}
 use Rattle.std.proofs.lemmas.Iterator.{YieldsList-from_slice, YieldsList-from_zip}
 use Rattle.std.proofs.lemmas.Iterator.Search.{find_from_yields_List}
 use Rattle.amr_problem.specs.Keys.{holds}
-use Rattle.amr_problem.proofs.key.outside.Goals as goal
+use Rattle.amr_problem.proofs.range.outside.Goals as goal
 
 pub returns : goal.returns
 returns c =

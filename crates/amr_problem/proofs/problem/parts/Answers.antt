@@ -1,0 +1,91 @@
+use Rattle.std.proofs.Common.{◌∙◌, sym, pos, ◌≤ℤ◌, w32, w64, rules, arith}
+use Rattle.std.proofs.lemmas.Int.{ints, to_z-of_z}
+use Rattle.amr_problem.specs.Keys.{blocking_factor}
+use Rattle.amr_problem.proofs.RangeLaws.{holds-IsIn}
+use Rattle.amr_problem.proofs.ProblemLaws.{greatest_of, level_of}
+use Rattle.amr_problem.proofs.problem.parts.Goals as goal
+
+pub small-requires-clause-greatest : goal.small-requires-clause-greatest
+small-requires-clause-greatest c = rw (to_z-of_z w64 c.args.entries.basics.version (search rules)) (omega (arith, ints, c.requires.in_range.basics.greatest_version, greatest_of c.args.scope))
+
+pub small-requires-4-clause-greatest : goal.small-requires-4-clause-greatest
+small-requires-4-clause-greatest c = rw (to_z-of_z w64 c.args.entries.basics.steps (search rules)) (omega (arith, ints, c.requires.in_range.basics.greatest_steps))
+
+pub small-requires-5-clause-least : goal.small-requires-5-clause-least
+small-requires-5-clause-least c = rw (to_z-of_z w64 c.args.entries.basics.d (search rules)) (omega (arith, ints, c.requires.in_range.basics.least_d))
+
+pub small-requires-5-clause-greatest : goal.small-requires-5-clause-greatest
+small-requires-5-clause-greatest c = rw (to_z-of_z w64 c.args.entries.basics.d (search rules)) (omega (arith, ints, c.requires.in_range.basics.greatest_d))
+
+pub small-requires-6-clause-greatest : goal.small-requires-6-clause-greatest
+small-requires-6-clause-greatest c = rw (to_z-of_z w64 c.args.entries.basics.max_level (search rules)) (omega (arith, ints, c.requires.in_range.basics.greatest_max_level, level_of c.args.scope))
+
+pub small-requires-7-clause-greatest : goal.small-requires-7-clause-greatest
+small-requires-7-clause-greatest c = rw (to_z-of_z w64 c.args.entries.refining.n_error_buf (search rules)) (omega (arith, ints, c.requires.in_range.refining.greatest_n_error_buf))
+
+pub small-requires-8-clause-least : goal.small-requires-8-clause-least
+small-requires-8-clause-least c = rw (to_z-of_z w64 c.args.entries.refining.efficiency (search rules)) (omega (arith, ints, c.requires.in_range.refining.least_efficiency))
+
+pub small-requires-8-clause-greatest : goal.small-requires-8-clause-greatest
+small-requires-8-clause-greatest c = rw (to_z-of_z w64 c.args.entries.refining.efficiency (search rules)) (omega (arith, ints, c.requires.in_range.refining.greatest_efficiency))
+
+pub small-requires-9-clause-least : goal.small-requires-9-clause-least
+small-requires-9-clause-least c = rw (to_z-of_z w64 c.args.entries.refining.min_width (search rules)) (omega (arith, ints, c.requires.in_range.refining.least_min_width))
+
+pub small-requires-9-clause-greatest : goal.small-requires-9-clause-greatest
+small-requires-9-clause-greatest c = rw (to_z-of_z w64 c.args.entries.refining.min_width (search rules)) (omega (arith, ints, c.requires.in_range.refining.greatest_min_width))
+
+pub small-requires-10-clause-least : goal.small-requires-10-clause-least
+small-requires-10-clause-least c = rw (to_z-of_z w64 c.args.entries.refining.regrid_int (search rules)) (omega (arith, ints, c.requires.in_range.refining.least_regrid_int))
+
+pub small-requires-10-clause-greatest : goal.small-requires-10-clause-greatest
+small-requires-10-clause-greatest c = rw (to_z-of_z w64 c.args.entries.refining.regrid_int (search rules)) (omega (arith, ints, c.requires.in_range.refining.greatest_regrid_int))
+
+pub small-requires-12-clause-least : goal.small-requires-12-clause-least
+small-requires-12-clause-least c = rw (to_z-of_z w64 c.args.entries.refining.max_grid_size (search rules)) (omega (arith, ints, c.requires.in_range.refining.least_max_grid_size))
+
+pub small-requires-12-clause-greatest : goal.small-requires-12-clause-greatest
+small-requires-12-clause-greatest c = rw (to_z-of_z w64 c.args.entries.refining.max_grid_size (search rules)) (omega (arith, ints, c.requires.in_range.refining.greatest_max_grid_size))
+
+pub small-requires-11-clause-least : goal.small-requires-11-clause-least
+small-requires-11-clause-least c =
+    let b = c.args.entries.overlay.blocking in
+    let within = holds-IsIn blocking_factor b c.requires.in_range.overlay.blocking in
+    let low : pos 2 ≤ℤ b = within.least in
+    rw (to_z-of_z w64 b (search rules)) (omega (arith, ints))
+
+pub small-requires-11-clause-greatest : goal.small-requires-11-clause-greatest
+small-requires-11-clause-greatest c =
+    let b = c.args.entries.overlay.blocking in
+    let within = holds-IsIn blocking_factor b c.requires.in_range.overlay.blocking in
+    let high : b ≤ℤ pos 8 = within.greatest in
+    rw (to_z-of_z w64 b (search rules)) (omega (arith, ints))
+
+pub returns : goal.returns
+returns c =
+    let b = c.args.entries.basics in
+    let r = c.args.entries.refining in
+    let o = c.args.entries.overlay in
+    record {
+      version = rw (to_z-of_z w64 b.version (search rules)) at c.small.ensures;
+      name = sym c.make.ensures;
+      nx = rw (to_z-of_z w64 b.nx (search rules)) at c.small-2.ensures;
+      ny = rw (to_z-of_z w64 b.ny (search rules)) at c.small-3.ensures;
+      steps = rw (to_z-of_z w64 b.steps (search rules)) at c.small-4.ensures;
+      cx = rw (to_z-of_z w32 c.signed.result (search rules)) (sym (rw (to_z-of_z w64 b.cx (search rules)) at c.signed.ensures));
+      cy = rw (to_z-of_z w32 c.signed-2.result (search rules)) (sym (rw (to_z-of_z w64 b.cy (search rules)) at c.signed-2.ensures));
+      d = rw (to_z-of_z w64 b.d (search rules)) at c.small-5.ensures;
+      x_sides = sym (rw (to_z-of_z w64 b.x_low (search rules), to_z-of_z w64 b.x_high (search rules)) at c.sides.ensures);
+      y_sides = sym (rw (to_z-of_z w64 b.y_low (search rules), to_z-of_z w64 b.y_high (search rules)) at c.sides-2.ensures);
+      max_level = rw (to_z-of_z w64 b.max_level (search rules)) at c.small-6.ensures;
+      tag = sym (rw c.make-4.ensures (c.in_ok-tag.ensures ∙ c.as_slice.ensures.value));
+      n_error_buf = rw (to_z-of_z w64 r.n_error_buf (search rules)) at c.small-7.ensures;
+      efficiency = rw (to_z-of_z w64 r.efficiency (search rules)) at c.small-8.ensures;
+      min_width = rw (to_z-of_z w64 r.min_width (search rules)) at c.small-9.ensures;
+      regrid_int = rw (to_z-of_z w64 r.regrid_int (search rules)) at c.small-10.ensures;
+      max_grid_size = rw (to_z-of_z w64 r.max_grid_size (search rules)) at c.small-12.ensures;
+      blocks = sym (rw c.make-5.ensures (c.in_ok-blocks.ensures ∙ c.as_slice-2.ensures.value));
+      shear_x = sym (c.make-2.ensures ∙ c.in_ok-shear_x.ensures ∙ c.as_slice-3.ensures.value);
+      shear_y = sym (c.make-3.ensures ∙ c.in_ok-shear_y.ensures ∙ c.as_slice-4.ensures.value);
+      blocking = rw (to_z-of_z w64 o.blocking (search rules)) at c.small-11.ensures;
+    }
