@@ -40,3 +40,23 @@ returns-in-Blocking-clause-whole g c = whole_as g.E.Sink.holds c.args.err.now c.
 
 pub returns-in-Blocking-clause-short : goal.returns-in-Blocking-clause-short
 returns-in-Blocking-clause-short g c = short_as g.E.Sink.holds c.args.err.now c.put_blocking.new.err c.put_blocking.result _ _ (refusal_of _ _ c.in-Blocking.is) c.put_blocking.ensures.short
+
+pub returns-in-Missing-clause-whole : goal.returns-in-Missing-clause-whole
+returns-in-Missing-clause-whole g c =
+    whole_as g.E.Sink.holds c.args.err.now c.put_line-in-Missing.new.sink c.put_line-in-Missing.result _ _
+    (ap (λ (t : List ℕ). line (codes "amr: problem: missing key " ++ (t ++ []))) c.text-in-Missing.ensures ∙ refusal_of _ _ c.in-Missing.is) c.put_line-in-Missing.ensures.whole
+
+pub returns-in-Missing-clause-short : goal.returns-in-Missing-clause-short
+returns-in-Missing-clause-short g c =
+    short_as g.E.Sink.holds c.args.err.now c.put_line-in-Missing.new.sink c.put_line-in-Missing.result _ _
+    (ap (λ (t : List ℕ). line (codes "amr: problem: missing key " ++ (t ++ []))) c.text-in-Missing.ensures ∙ refusal_of _ _ c.in-Missing.is) c.put_line-in-Missing.ensures.short
+
+pub returns-in-WrongKind-clause-whole : goal.returns-in-WrongKind-clause-whole
+returns-in-WrongKind-clause-whole g c =
+    whole_as g.E.Sink.holds c.args.err.now c.put_line-in-WrongKind.new.sink c.put_line-in-WrongKind.result _ _
+    (ap (λ (t : List ℕ). line (codes "amr: problem: wrong kind " ++ (t ++ []))) c.text-in-WrongKind.ensures ∙ refusal_of _ _ c.in-WrongKind.is) c.put_line-in-WrongKind.ensures.whole
+
+pub returns-in-WrongKind-clause-short : goal.returns-in-WrongKind-clause-short
+returns-in-WrongKind-clause-short g c =
+    short_as g.E.Sink.holds c.args.err.now c.put_line-in-WrongKind.new.sink c.put_line-in-WrongKind.result _ _
+    (ap (λ (t : List ℕ). line (codes "amr: problem: wrong kind " ++ (t ++ []))) c.text-in-WrongKind.ensures ∙ refusal_of _ _ c.in-WrongKind.is) c.put_line-in-WrongKind.ensures.short
