@@ -4,13 +4,17 @@ pub mod FaceSides
 mod Given
 mod Numbers
 mod Owned
+pub mod Paces
 mod Parts
+pub mod PatchSteps
 mod Places
 pub mod Reciprocals
 pub mod Shown
+pub mod RowOrder
+pub mod RowSteps
 mod Sized
 mod Steps
-mod Swept
+pub mod Swept
 mod Throughs
 mod Updates
 mod Words

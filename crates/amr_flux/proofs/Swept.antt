@@ -52,7 +52,7 @@ module _ (p : Problem) (l : ℕ) (q new : Patch) (column row : ℕ) (s : Stands 
       y_high_here new x y i j (there x y i j f.at) (e ∙ ap (λ (b : Extent). b.hi.y +ℤ pos 1) (sym same)) ∙ is ∙ ap (λ n. y_flux p l column (width q.bx) q.values.items i n) (sym last) ∙ y_beside p l q column row s x y i j f.at f.column
 
 -- a face on an edge line is a face of the box
-edge_face : (b : Extent) (a : Axis) (x y : ℤ) → IsNear b → on_edge a b (cell x y) ≡ true → on_box a b (cell x y) ≡ true
+pub edge_face : (b : Extent) (a : Axis) (x y : ℤ) → IsNear b → on_edge a b (cell x y) ≡ true → on_box a b (cell x y) ≡ true
 edge_face b X x y near e = at_each (at_end b.lo.x b.hi.x x (x_edge b (cell x y) e).ends)
   where
     at_each : (x ≡ b.lo.x) ⊎ (x ≡ b.hi.x +ℤ pos 1) → on_box X b (cell x y) ≡ true

@@ -145,7 +145,7 @@ other_place b c i j near at narrow out i' j' hi hj e =
     let wrong : true ≡ false = sym in_box ∙ out in
     cc
 
-whole : (z : ℤ) → pos 0 ≤ℤ z → pos (at_least_zero z) ≡ z
+pub whole : (z : ℤ) → pos 0 ≤ℤ z → pos (at_least_zero z) ≡ z
 whole (pos n) p = refl
 whole (negsuc n) p = absurd (omega (arith, ints))
 

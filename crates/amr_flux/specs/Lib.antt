@@ -1,4 +1,5 @@
 pub mod Faces
+pub mod Paces
 pub mod Rooms
 pub mod Rows
 pub mod Shares

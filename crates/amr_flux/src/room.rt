@@ -18,10 +18,13 @@ pub struct Room {
     pub(crate) low: Vec<i32>,
     /// Through the y faces at the high side of the row.
     pub(crate) high: Vec<i32>,
+    /// What flows out of the cells of the row across its y faces.
+    pub(crate) across: Vec<u32>,
     /// The shares at the Courant numbers of the columns that were worked on last, where each column has its own.
     pub(crate) shares: Vec<Share>,
     pub ghost x_count: { length x.items ≡ length low.items + 1 },
     pub ghost high_count: { length high.items ≡ length low.items },
+    pub ghost across_count: { length across.items ≡ length low.items },
     pub ghost share_count: { length shares.items ≡ length low.items },
 }
 
@@ -38,6 +41,7 @@ impl Room {
         let x = vec![in alloc; 0i32; columns + 1]?;
         let low = vec![in alloc; 0i32; columns]?;
         let high = vec![in alloc; 0i32; columns]?;
+        let across = vec![in alloc; 0u32; columns]?;
         let shares = vec![in alloc; Share::make(0, 1); columns]?;
         Ok(Room {
             x_share: Share::make(0, 1),
@@ -45,6 +49,7 @@ impl Room {
             x,
             low,
             high,
+            across,
             shares,
         })
     }

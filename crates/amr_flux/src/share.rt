@@ -1,6 +1,6 @@
 //! How much of a cell's mass flows out of it in a step.
 
-ghost use Rattle.std.specs.Prelude.{◌≡◌, ◌+◌, ◌*◌, ◌/◌, ◌^◌, ◌<◌, ◌≤◌, IsTrue, unsigned_abs};
+ghost use Rattle.std.specs.Prelude.{◌≡◌, ℕ, length, slice_index, ◌+◌, ◌*◌, ◌/◌, ◌^◌, ◌<◌, ◌≤◌, IsTrue, unsigned_abs};
 ghost use Rattle.amr_def.specs.Flux.{flow};
 ghost use Rattle.amr_flux.specs.Shares.{AreBelow, AreSmall, IsNearReciprocal, IsReciprocal, share_of};
 
@@ -29,7 +29,7 @@ pub struct Share {
     whole: u32,
     rest: u32,
     near: u32,
-    limit: u32,
+    pub(crate) limit: u32,
     ghost reciprocal: { IsReciprocal number parts whole rest },
     ghost near_reciprocal: { IsNearReciprocal number parts near limit },
 }
@@ -43,6 +43,20 @@ fn limit_of(error: u64) -> u32
         return WHOLE as u32;
     }
     (WHOLE / error) as u32
+}
+
+/// Whether each of these masses is below a limit, or not below 2^31. Where the limit is 2^31, none is looked at.
+pub(crate) fn are_near(limit: u32, masses: &[u32]) -> bool
+    ensures { IsTrue result → (k : ℕ) → k < length masses.now → slice_index masses.now k < 2 ^ 31 → slice_index masses.now k < limit }
+{
+    if limit == 2147483648 {
+        return true;
+    }
+    let mut most = 0;
+    for k in 0..masses.len() {
+        most = masses[k].max(most);
+    }
+    most < limit
 }
 
 impl Share {
@@ -124,6 +138,21 @@ impl Share {
     {
         let mass = u64::from(mass);
         ((mass * u64::from(self.whole) + mass * u64::from(self.rest) / REST) / WHOLE) as u32
+    }
+
+    /// The same, by one product if that is said to do.
+    #[inline(always)]
+    pub(crate) fn size_by(&self, by_one: bool, mass: u32) -> u32
+        requires small { mass < 2 ^ 31 }
+        requires near { IsTrue by_one → mass < self.now.limit }
+        ensures value { result ≡ share_of self.now.number self.now.parts mass }
+        ensures bound { result ≤ mass }
+    {
+        if by_one {
+            self.near_size(mass)
+        } else {
+            self.size(mass)
+        }
     }
 
     /// The flux through a face between cells of these values, above 0 from the low side to the high one.

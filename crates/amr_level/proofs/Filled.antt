@@ -1,4 +1,4 @@
--- The patches of level 0 in a step: filled, swept, updated.
+-- The patches of level 0 in a step: filled, then stepped.
 use Rattle.std.proofs.Common.{◌≡◌, ℕ, ◌<◌, ◌^◌, Bool, true, false, ◌&&◌, ◌||◌, pos, ◌+ℤ◌, List, length, get_or, map, IsSome, refl, sym, ap, subst, ◌∙◌, arith}
 use Rattle.std.specs.Prelude.{is_some, not}
 use Rattle.std.specs.declared.option.Option.{Option}
@@ -29,7 +29,7 @@ use Rattle.amr_ghost.specs.Frames.{AreInDomain, HasGhostMarks, HasGhostValues, S
 use Rattle.amr_ghost.proofs.Zips.{some_mass}
 use Rattle.amr_flux.specs.Faces.{IsInDomain, ShowsValues, in_reach, is_border, owns}
 use Rattle.amr_flux.proofs.Shown.{flux_is}
-use Rattle.amr_level.specs.Steps.{HasFluxes, IsReadyToUpdate, IsShown, IsSwept, IsUpdated, base_fluxes}
+use Rattle.amr_level.specs.Steps.{HasFluxes, IsReadyToStep, IsStepped, base_fluxes}
 use Rattle.amr_level.proofs.Lists.{HasMasses, apart_from, boxes_at, boxes_from, zip_from, zip_map, zip_masses}
 use Rattle.amr_level.proofs.Values.{value_small}
 
@@ -84,20 +84,7 @@ module _ (p : Problem) (ps : List Patch) (apart : ArePatchesApart ps) (inside : 
     pub shows : HasGhostValues p 0 (masses_in ps) no_masses q → ShowsValues p 0 (masses_in ps) no_masses q
     shows ghosts = record { at = λ c e. bool_cases (holds (box q) c) (λ h. own_value c h) (λ h. ghosts c (is_beside_of (box q) c e h)) }
 
--- ---- a fill, and a sweep
-
-left : (a b : Bool) → (a && b) ≡ true → a ≡ true
-left true b e = refl
-left false b e = e
-
-face_owned : (q : Patch) (f : Face) → owns q f ≡ true → is_face_of q.bx f ≡ true
-unfolding owns
-face_owned q f e = left (is_face_of q.bx f) (not (is_border q f)) e
-
--- a patch that keeps its box and its marks owns the same faces
-owned_same : (q r : Patch) → box r ≡ box q → SameMarks q r → (f : Face) → owns r f ≡ owns q f
-unfolding owns is_border
-owned_same q r b marks f i = is_face_of (b i) f && not (is_face_of (b i) f && not (holds (b i) (high_cell f)) && marks (high_cell f) i)
+-- ---- a fill
 
 module _ (p : Problem) (ps fs : List Patch) (apart : ArePatchesApart ps) (inside : AreInDomain (domain p 0) ps) (small : (c : Cell) → mass_of (masses_in ps) c < 2 ^ 31)
     (filled : All (HasGhostValues p 0 (masses_in ps) no_masses) fs) (marked : All (HasGhostMarks p 0 (masses_in ps)) fs) (masses : AllZip SameMasses ps fs) (boxes : map box fs ≡ map box ps) where
@@ -113,98 +100,62 @@ module _ (p : Problem) (ps fs : List Patch) (apart : ArePatchesApart ps) (inside
   shows_at : (k : ℕ) (r : Patch) → k < length ps → ShowsValues p 0 (masses_in ps) no_masses (get_or fs k r)
   shows_at k r lt = shows p ps apart inside k r (get_or fs k r) lt (box_at k r lt) (masses_at k r lt) (filled k r (omega (arith, lt, fill_count)))
 
-  pub all_shown : All (IsShown p) fs
-  all_shown = λ k r h.
-      let lt : k < length ps = omega (arith, h, fill_count) in
-      record {
-        inside = lies p ps apart inside k r (get_or fs k r) lt (box_at k r lt);
-        small = λ c e. omega (arith, (shows_at k r lt).at c e, value_small p (masses_in ps) small c);
-      }
+  same_map : (o : Option ℕ) → option_map (λ v. v) o ≡ o
+  same_map None = refl
+  same_map (Some v) = refl
 
-  module _ (ss : List Patch) (swept : AllZip (IsSwept p) fs ss) where
-    sweep_count : length fs ≡ length ss
-    sweep_count = length_all_zip (IsSwept p) fs ss swept
+  pub filled_masses : masses_in fs ≡ masses_in ps
+  filled_masses = λ i c. (zip_masses (λ c v. v) ps fs c (zip_from (HasMasses (λ c v. v)) ps fs fill_count (λ k r lt. record { of_box = box_at k r lt; masses = masses_at k r lt })) ∙ same_map (masses_in ps c)) i
 
-    swept_at : (k : ℕ) (r : Patch) → k < length ps → IsSwept p (get_or fs k r) (get_or ss k r)
-    swept_at k r lt = AllZip-get_or (IsSwept p) fs ss k r r swept (omega (arith, lt, fill_count))
+  ready_at : (k : ℕ) (r : Patch) → k < length ps → IsReadyToStep p (masses_in ps) (get_or fs k r)
+  ready_at k r lt = record {
+    inside = lies p ps apart inside k r (get_or fs k r) lt (box_at k r lt);
+    masses = mass_here p ps apart inside k r (get_or fs k r) lt (box_at k r lt) (masses_at k r lt);
+    marks = marked k r (omega (arith, lt, fill_count));
+    shows = shows_at k r lt;
+  }
 
-    box_there : (k : ℕ) (r : Patch) → k < length ps → box (get_or ss k r) ≡ box (get_or ps k r)
-    box_there k r lt = (swept_at k r lt).of_box ∙ box_at k r lt
+  pub ready_then : All (IsReadyToStep p (masses_in ps)) fs
+  ready_then = λ k r h. ready_at k r (omega (arith, h, fill_count))
 
-    masses_there : (k : ℕ) (r : Patch) → k < length ps → SameMasses (get_or ps k r) (get_or ss k r)
-    masses_there k r lt = λ c h. (swept_at k r lt).values c ∙ masses_at k r lt c h
+  pub all_ready : All (IsReadyToStep p (masses_in fs)) fs
+  all_ready = λ k r h. subst (λ (m : Masses). IsReadyToStep p m (get_or fs k r)) (sym filled_masses) (ready_at k r (omega (arith, h, fill_count)))
 
-    pub swept_count : length ps ≡ length ss
-    swept_count = fill_count ∙ sweep_count
+  pub filled_inside : AreInDomain (domain p 0) fs
+  filled_inside = λ c h. inside c (sym (some_mass ps c) ∙ ap (λ (m : Masses). is_some (m c)) (sym filled_masses) ∙ some_mass fs c ∙ h)
 
-    same_map : (o : Option ℕ) → option_map (λ v. v) o ≡ o
-    same_map None = refl
-    same_map (Some v) = refl
+  pub filled_small : (c : Cell) → mass_of (masses_in fs) c < 2 ^ 31
+  filled_small c = subst (λ (m : Masses). mass_of m c < 2 ^ 31) (sym filled_masses) (small c)
 
-    pub swept_masses : masses_in ss ≡ masses_in ps
-    swept_masses = λ i c. (zip_masses (λ c v. v) ps ss c (zip_from (HasMasses (λ c v. v)) ps ss swept_count (λ k r lt. record { of_box = box_there k r lt; masses = masses_there k r lt })) ∙ same_map (masses_in ps c)) i
+  pub filled_apart : ArePatchesApart fs
+  filled_apart = apart_from ps fs fill_count box_at apart
 
-    pub swept_boxes : map box ss ≡ map box ps
-    swept_boxes = boxes_from ps ss (zip_from (λ q r. box r ≡ box q) ps ss swept_count box_there)
+-- ---- a step
 
-    ready_at : (k : ℕ) (r : Patch) → k < length ps → IsReadyToUpdate p (masses_in ps) (get_or ss k r)
-    ready_at k r lt =
-        let s = swept_at k r lt in
-        let q = get_or fs k r in
-        let here : k < length fs = omega (arith, lt, fill_count) in
-        record {
-          inside = lies p ps apart inside k r (get_or ss k r) lt (box_there k r lt);
-          masses = mass_here p ps apart inside k r (get_or ss k r) lt (box_there k r lt) (masses_there k r lt);
-          marks = λ c h. s.marks c ∙ marked k r here c (subst (λ (b : Extent). is_beside b c ≡ true) s.of_box h);
-          shows = record { at = λ c e. s.values c ∙ (shows_at k r lt).at c (ap (λ (b : Extent). in_reach b c) (sym s.of_box) ∙ e) };
-          fluxes = λ f edge h.
-              let own : owns q f ≡ true = sym (owned_same q (get_or ss k r) s.of_box s.marks f) ∙ h in
-              s.fluxes f (ap (λ (b : Extent). is_edge_face b f) (sym s.of_box) ∙ edge) own ∙ flux_is p 0 (masses_in ps) no_masses q (shows_at k r lt) f (face_owned q f own);
-        }
-
-    pub all_ready_then : All (IsReadyToUpdate p (masses_in ps)) ss
-    all_ready_then = λ k r h. ready_at k r (omega (arith, h, swept_count))
-
-    pub all_ready : All (IsReadyToUpdate p (masses_in ss)) ss
-    all_ready = λ k r h. subst (λ (m : Masses). IsReadyToUpdate p m (get_or ss k r)) (sym swept_masses) (ready_at k r (omega (arith, h, swept_count)))
-
-    pub swept_inside : AreInDomain (domain p 0) ss
-    swept_inside = λ c h. inside c (sym (some_mass ps c) ∙ ap (λ (m : Masses). is_some (m c)) (sym swept_masses) ∙ some_mass ss c ∙ h)
-
-    pub swept_small : (c : Cell) → mass_of (masses_in ss) c < 2 ^ 31
-    swept_small c = subst (λ (m : Masses). mass_of m c < 2 ^ 31) (sym swept_masses) (small c)
-
-    pub swept_apart : ArePatchesApart ss
-    swept_apart = apart_from ps ss swept_count box_there apart
-
--- ---- new masses
-
-module _ (p : Problem) (e : Fluxes) (ps qs : List Patch) (done : AllZip (IsUpdated e) ps qs) where
+module _ (p : Problem) (e : Fluxes) (ps qs : List Patch) (done : AllZip (IsStepped e) ps qs) where
   count : length ps ≡ length qs
-  count = length_all_zip (IsUpdated e) ps qs done
+  count = length_all_zip (IsStepped e) ps qs done
 
-  pub updated_boxes : map box qs ≡ map box ps
-  updated_boxes = boxes_from ps qs (zip_map (IsUpdated e) (λ q r. box r ≡ box q) (λ q r u. u.kept.of_box) ps qs done)
+  pub stepped_boxes : map box qs ≡ map box ps
+  stepped_boxes = boxes_from ps qs (zip_map (IsStepped e) (λ q r. box r ≡ box q) (λ q r u. u.of_box) ps qs done)
 
-  at : (k : ℕ) (r : Patch) → k < length ps → IsUpdated e (get_or ps k r) (get_or qs k r)
-  at k r lt = AllZip-get_or (IsUpdated e) ps qs k r r done lt
+  at : (k : ℕ) (r : Patch) → k < length ps → IsStepped e (get_or ps k r) (get_or qs k r)
+  at k r lt = AllZip-get_or (IsStepped e) ps qs k r r done lt
 
-  pub updated_apart : ArePatchesApart ps → ArePatchesApart qs
-  updated_apart apart = apart_from ps qs count (λ k r lt. (at k r lt).kept.of_box) apart
+  pub stepped_apart : ArePatchesApart ps → ArePatchesApart qs
+  stepped_apart apart = apart_from ps qs count (λ k r lt. (at k r lt).of_box) apart
 
-  pub updated_masses : masses_in qs ≡ updated (masses_in ps) e
+  pub stepped_masses : masses_in qs ≡ updated (masses_in ps) e
   unfolding updated
-  updated_masses = λ i c. zip_masses (λ c v. at_least_zero (pos v +ℤ net e c)) ps qs c (zip_map (IsUpdated e) (HasMasses (λ c v. at_least_zero (pos v +ℤ net e c))) (λ q r u. record { of_box = u.kept.of_box; masses = λ c h. ap at_least_zero (u.masses c h) }) ps qs done) i
+  stepped_masses = λ i c. zip_masses (λ c v. at_least_zero (pos v +ℤ net e c)) ps qs c (zip_map (IsStepped e) (HasMasses (λ c v. at_least_zero (pos v +ℤ net e c))) (λ q r u. record { of_box = u.of_box; masses = λ c h. ap at_least_zero (u.masses c h) }) ps qs done) i
 
-  pub updated_fluxes : (m : Masses) → All (IsReadyToUpdate p m) ps → HasFluxes (base_fluxes p m) qs
-  updated_fluxes m ready = λ k r h f edge own.
-      let lt : k < length ps = omega (arith, h, count) in
-      let u = (at k r lt).kept in
-      let before : owns (get_or ps k r) f ≡ true = sym (owned_same (get_or ps k r) (get_or qs k r) u.of_box u.marks f) ∙ own in
-      u.fluxes f ∙ (ready k r lt).fluxes f (ap (λ (b : Extent). is_edge_face b f) (sym u.of_box) ∙ edge) before
+  pub stepped_fluxes : HasFluxes e qs
+  stepped_fluxes = λ k r h f edge own.
+      let u = at k r (omega (arith, h, count)) in
+      u.fluxes f (ap (λ (b : Extent). is_edge_face b f) (sym u.of_box) ∙ edge)
 
-  pub updated_marks : (m : Masses) → All (IsReadyToUpdate p m) ps → All (HasGhostMarks p 0 m) qs
-  updated_marks m ready = λ k r h c b.
+  pub stepped_marks : (m : Masses) → All (IsReadyToStep p m) ps → All (HasGhostMarks p 0 m) qs
+  stepped_marks m ready = λ k r h c b.
       let lt : k < length ps = omega (arith, h, count) in
-      let u = (at k r lt).kept in
+      let u = at k r lt in
       u.marks c ∙ (ready k r lt).marks c (subst (λ (b : Extent). is_beside b c ≡ true) u.of_box b)

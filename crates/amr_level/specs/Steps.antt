@@ -23,38 +23,18 @@ HasFluxes e ps = All (λ q. (f : Face) → IsTrue (is_edge_face (box q) f) → I
 abbrev pub base_fluxes : Problem → Masses → Fluxes
 base_fluxes p m = flux_at p 0 m no_masses
 
--- ---- a sweep
+-- ---- a step of one patch
 
--- a patch in the domain whose values in reach are below 2^31
-pub record IsShown (p : Problem) (q : Patch) : Type 0 where
-  pub inside : IsInDomain (domain p 0) (box q)
-  pub small : (c : Cell) → IsTrue (in_reach (box q) c) → value_in q c < 2 ^ 31
-
--- a patch got the fluxes of the faces on its edges that it owns, and nothing else changed
-pub record IsSwept (p : Problem) (q r : Patch) : Type 0 where
-  pub of_box : box r ≡ box q
-  pub values : SameValues q r
-  pub marks : SameMarks q r
-  pub fluxes : (f : Face) → IsTrue (is_edge_face (box q) f) → IsTrue (owns q f) → flux_in r f ≡ flux_beside p 0 q f
-
--- ---- new masses
-
--- a patch of level 0 with the masses m of its cells, with the values and marks of its frame, and with the fluxes of the faces on
--- its edges that it owns
-pub record IsReadyToUpdate (p : Problem) (m : Masses) (q : Patch) : Type 0 where
+-- a patch of level 0 with the masses m of its cells, and with the values and marks of its frame
+pub record IsReadyToStep (p : Problem) (m : Masses) (q : Patch) : Type 0 where
   pub inside : IsInDomain (domain p 0) (box q)
   pub masses : (c : Cell) → IsTrue (holds (box q) c) → m c ≡ Some (mass_in q c)
   pub marks : HasGhostMarks p 0 m q
   pub shows : ShowsValues p 0 m no_masses q
-  pub fluxes : (f : Face) → IsTrue (is_edge_face (box q) f) → IsTrue (owns q f) → flux_in q f ≡ base_fluxes p m f
 
--- a patch has the marks and the fluxes of before
-pub record KeepsFluxes (q r : Patch) : Type 0 where
+-- a patch keeps its box and its marks, has the fluxes of the faces on its edges, and its cells got what flows in
+pub record IsStepped (e : Fluxes) (q r : Patch) : Type 0 where
   pub of_box : box r ≡ box q
   pub marks : SameMarks q r
-  pub fluxes : SameFluxes q r
-
--- and its cells got what flows in
-pub record IsUpdated (e : Fluxes) (q r : Patch) : Type 0 where
-  pub kept : KeepsFluxes q r
+  pub fluxes : (f : Face) → IsTrue (is_edge_face (box q) f) → flux_in r f ≡ e f
   pub masses : (c : Cell) → IsTrue (holds (box q) c) → pos (mass_in r c) ≡ pos (mass_in q c) +ℤ net e c

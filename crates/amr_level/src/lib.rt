@@ -2,6 +2,5 @@
 #![tactic(auto)]
 
 mod step;
-mod updates;
 
 pub use crate::step::advance;

@@ -12,22 +12,25 @@ ghost use Rattle.amr_patch.specs.Orders.{IsOrderOf};
 ghost use Rattle.amr_patch.specs.Patches.{ArePatchesApart, box, masses_in};
 ghost use Rattle.amr_ghost.specs.Frames.{AreInDomain, HasGhostMarks};
 ghost use Rattle.amr_flux.specs.Rooms.{widest};
-ghost use Rattle.amr_level.specs.Steps.{HasFluxes, IsShown, IsSwept, base_fluxes};
+ghost use Rattle.amr_level.specs.Steps.{HasFluxes, IsReadyToStep, IsStepped, base_fluxes};
 
-use crate::updates::update_all;
 use amr_def::Problem;
-use amr_flux::{Room, sweep_by_frame};
+use amr_flux::{Room, step_by_frame};
 use amr_ghost::fill_in_order;
 use amr_patch::{Level, Order, Patch};
 
-/// Works out the fluxes on the edges of each patch.
-fn sweep_all(p: &Problem, patches: &mut [Patch], room: &mut Room)
-    requires { All (IsShown p.now) patches.old }
-    ensures swept { AllZip (IsSwept p.now) patches.old patches.new }
+/// Makes a step of each patch: the fluxes on its edges, and its new masses. The patches have the values of the level in their
+/// frames, so that all fluxes follow from the frames.
+fn step_all(p: &Problem, patches: &mut [Patch], room: &mut Room)
+    requires ready { All (IsReadyToStep p.now (masses_in patches.old)) patches.old }
+    requires inside { AreInDomain (domain p.now 0) patches.old }
+    requires small { (c : Cell) → mass_of (masses_in patches.old) c < 2 ^ 31 }
+    requires row { 256 ≤ widest room.old }
+    ensures stepped { AllZip (IsStepped (base_fluxes p.now (masses_in patches.old))) patches.old patches.new }
     ensures row { widest room.new ≡ widest room.old }
 {
     for i in 0..patches.len() {
-        sweep_by_frame(p, 0, &mut patches[i], room);
+        step_by_frame(p, 0, &mut patches[i], room);
     }
 }
 
@@ -46,8 +49,7 @@ fn step_patches(p: &Problem, patches: &mut [Patch], order: Order, room: &mut Roo
     ensures row { widest room.new ≡ widest room.old }
 {
     fill_in_order(p, 0, patches, order, None);
-    sweep_all(p, patches, room);
-    update_all(p, patches, room);
+    step_all(p, patches, room);
 }
 
 /// Makes a step of level 0, where it is the only level: each cell gets what flows in through its faces (donor cell; Berger and
