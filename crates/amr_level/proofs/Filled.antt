@@ -7,13 +7,12 @@ use Rattle.std.specs.Option.{option_map, unwrap_or}
 use Rattle.std.specs.List.{All, AllZip}
 use Rattle.std.proofs.lemmas.List.Elements.{AllZip-get_or, length_all_zip}
 use Rattle.amr_box.specs.declared.Cell.{Cell}
-use Rattle.amr_box.specs.declared.Face.{Face}
 use Rattle.amr_box.specs.Cells.{Extent, at_least_zero, holds, within}
 use Rattle.amr_def.specs.declared.problem.Problem.{Problem}
 use Rattle.amr_def.specs.Domain.{domain, home_cell, in_domain}
 use Rattle.amr_def.specs.State.{Level, Masses, mass_of, no_masses}
 use Rattle.amr_def.specs.Value.{value_at}
-use Rattle.amr_def.specs.Flux.{Fluxes, high_cell, net, updated}
+use Rattle.amr_def.specs.Flux.{Fluxes, net, updated}
 use Rattle.amr_def.specs.Facts.{IsLevel}
 use Rattle.amr_def.proofs.LevelLists.{IsInside}
 use Rattle.amr_def.proofs.Nesting.{in_domain-inside}
@@ -21,17 +20,15 @@ use Rattle.amr_def.proofs.Subcycle.{bool_cases}
 use Rattle.amr_def.proofs.Uncovered.{home_at}
 use Rattle.amr_def.proofs.Values.{value_here}
 use Rattle.amr_patch.specs.declared.patches.Patch.{Patch}
-use Rattle.amr_patch.specs.Places.{grown, is_edge_face, is_face_of}
-use Rattle.amr_patch.specs.Patches.{ArePatchesApart, SameMarks, box, mass_in, masses_in, value_in}
+use Rattle.amr_patch.specs.Places.{grown, is_edge_face}
+use Rattle.amr_patch.specs.Patches.{ArePatchesApart, box, mass_in, masses_in, value_in}
 use Rattle.amr_patch.specs.Orders.{IsHolder}
 use Rattle.amr_patch.proofs.Lookups.{in_one, masses_in-at, same_default}
 use Rattle.amr_ghost.specs.Frames.{AreInDomain, HasGhostMarks, HasGhostValues, SameMasses, is_beside}
 use Rattle.amr_ghost.proofs.Zips.{some_mass}
-use Rattle.amr_flux.specs.Faces.{IsInDomain, ShowsValues, in_reach, is_border, owns}
-use Rattle.amr_flux.proofs.Shown.{flux_is}
-use Rattle.amr_level.specs.Steps.{HasFluxes, IsReadyToStep, IsStepped, base_fluxes}
+use Rattle.amr_flux.specs.Faces.{IsInDomain, ShowsValues, in_reach}
+use Rattle.amr_level.specs.Steps.{HasFluxes, IsReadyToStep, IsStepped}
 use Rattle.amr_level.proofs.Lists.{HasMasses, apart_from, boxes_at, boxes_from, zip_from, zip_map, zip_masses}
-use Rattle.amr_level.proofs.Values.{value_small}
 
 -- ---- a level in its domain
 

@@ -1,5 +1,5 @@
 -- What patches have in a step of level 0.
-use Rattle.std.specs.Prelude.{◌≡◌, ◌<◌, ◌^◌, pos, ◌+ℤ◌, List, IsTrue}
+use Rattle.std.specs.Prelude.{◌≡◌, pos, ◌+ℤ◌, List, IsTrue}
 use Rattle.std.specs.declared.option.Option.TheVariants.{Some}
 use Rattle.std.specs.List.{All}
 use Rattle.amr_box.specs.declared.Cell.{Cell}
@@ -11,9 +11,9 @@ use Rattle.amr_def.specs.State.{Masses, no_masses}
 use Rattle.amr_def.specs.Flux.{Fluxes, flux_at, net}
 use Rattle.amr_patch.specs.declared.patches.Patch.{Patch}
 use Rattle.amr_patch.specs.Places.{is_edge_face}
-use Rattle.amr_patch.specs.Patches.{SameFluxes, SameMarks, SameValues, box, flux_in, mass_in, value_in}
+use Rattle.amr_patch.specs.Patches.{SameMarks, box, flux_in, mass_in}
 use Rattle.amr_ghost.specs.Frames.{HasGhostMarks}
-use Rattle.amr_flux.specs.Faces.{IsInDomain, ShowsValues, flux_beside, in_reach, owns}
+use Rattle.amr_flux.specs.Faces.{IsInDomain, ShowsValues, owns}
 
 -- each patch has, at each face on its edges that it owns, this flux
 abbrev pub HasFluxes : Fluxes → List Patch → Type 0

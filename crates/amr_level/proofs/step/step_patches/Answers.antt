@@ -1,4 +1,4 @@
-use Rattle.std.proofs.Common.{◌≡◌, ◌∙◌, ap, subst}
+use Rattle.std.proofs.Common.{◌≡◌, ◌∙◌, subst}
 use Rattle.amr_def.specs.Flux.{updated}
 use Rattle.amr_def.specs.State.{Masses}
 use Rattle.amr_patch.specs.Patches.{masses_in}
