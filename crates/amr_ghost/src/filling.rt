@@ -53,6 +53,7 @@ fn holder(patches: &[Patch], order: Order, dom: &Dom, near: &mut usize, c: Cell)
 
 /// Gives the first ghost cells of a strip beside a patch their values, and answers how many. They are as many as stand for
 /// cells of one patch, or one that stands for no cell of the level.
+#[inline(always)]
 fn fill_span(
     p: &Problem,
     old: Option<&Level>,
@@ -97,6 +98,7 @@ fn fill_span(
 }
 
 /// Gives the ghost cells of a strip beside a patch their values, span by span.
+#[inline(always)]
 fn fill_strip(
     p: &Problem,
     old: Option<&Level>,
@@ -127,6 +129,7 @@ fn fill_strip(
 }
 
 /// Gives the ghost cells on a side of a patch their values.
+#[inline(always)]
 fn fill_side(
     p: &Problem,
     old: Option<&Level>,

@@ -48,6 +48,7 @@ fn set_entry(patch: &mut Patch, at: usize, mass: u32)
 
 /// Gives the ghost cells of a strip beside patch `i` masses of patch `j`, and marks them as cells of the level. The masses are
 /// those of as many cells along the same axis, from a cell on. `j` may be `i`.
+#[inline(always)]
 pub(crate) fn copy_strip(patches: &mut [Patch], i: usize, strip: Strip, j: usize, from: Cell)
     requires there { i < length patches.old }
     requires source { j < length patches.old }
