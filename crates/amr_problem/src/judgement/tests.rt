@@ -195,7 +195,11 @@ max_level = 0 => max_level = 2/tag = [4] => TagCount(1, 2)
 max_level = 0 => max_level = 1 => TagCount(0, 1)
 max_level = 0 => max_level = 1/n_error_buf = 9/tag = [0] => OutOfRange(Tag, 0)
 max_level = 0/blocks = [[0, => max_level = 1/blocks = [[9, => BlockOutside(0)
-version = 1 => version = 2/blocking = 8/tag = [1] => TagCount(1, 0)";
+version = 1 => version = 2/blocking = 8/tag = [1] => TagCount(1, 0)
+cells = [4, 2]/steps = 1/courant = [1, 1, 4]/sides = [-1, -1, -1, -1]/max_level = 0/blocks = [[0, 0, 0, 0, 8]] => cells = [2, 2]/steps = 0/courant = [0, 0, 1]/sides = [-1, -1, -1, -1]/max_level = 2/tag = [1, 1]/n_error_buf = 0/blocks = [[0, 0, 0, 1, 64]] => accepted
+cells = [4, 2]/steps = 1/courant = [1, 1, 4]/sides = [-1, -1, -1, -1]/max_level = 0/blocks = [[0, 0, 0, 0, 8]] => cells = [2, 2]/steps = 0/courant = [0, 0, 1]/sides = [-1, -1, -1, -1]/max_level = 5/tag = [1, 1]/n_error_buf = 0/blocks = [[0, 0, 0, 1, 64]] => OutOfRange(MaxLevel, 5)
+version = 1/name = \"ring\"/cells = [4, 2]/steps = 1/courant = [1, 1, 4] => version = 2/shear_x = [1, -1]/name = \"ring\"/cells = [4, 2]/steps = 1/courant = [0, 0, 2] => accepted
+version = 1/name = \"ring\"/cells = [4, 2]/steps = 1/courant = [1, 1, 4] => version = 2/shear_x = [1, -3]/name = \"ring\"/cells = [4, 2]/steps = 1/courant = [0, 0, 2] => Courant(3, 2)";
 
 /// A shear along both axes in the place of numerators that would be too great.
 const SHEARED: &str =
