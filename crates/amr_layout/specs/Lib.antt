@@ -3,3 +3,4 @@ pub mod Places
 pub mod Adds
 pub mod Flows
 pub mod Posts
+pub mod Gaps

@@ -9,12 +9,14 @@ ghost use Rattle.amr_patch.specs.Patches.{ArePatchesApart, in_patches};
 ghost use Rattle.amr_patch.specs.Orders.{IsOrderOf};
 ghost use Rattle.amr_flux.specs.Faces.{IsInDomain};
 ghost use Rattle.amr_layout.specs.Surroundings.{IsInLines, IsNearFace, around, is_coarse_fine};
+ghost use Rattle.amr_layout.specs.Gaps.{HasStarts, IsGap};
 ghost use Rattle.amr_layout.specs.Adds.{AreInOrder, HasCellsBeyond, cell_beyond, flow_to, flows_in, flows_of, inflow_faces, is_exchange_face, is_inflow_face, is_outflow_face, number_of, outflow_faces, register_flows, word_of};
 ghost use Rattle.amr_layout.specs.Flows.{IsAtHome, IsToWord, is_coarser, is_inflow, is_outflow, is_outside, is_register, word_in};
 
 use crate::AddAt;
 use crate::faces::{edge_count, edge_face, inside, inward, outside};
-use crate::lookup::{is_covered, look_up};
+use crate::gaps::Starts;
+use crate::lookup::{Trace, is_covered, look_beside};
 use crate::registers::number_of;
 use amr_box::{Bx, Cell, Face, parent};
 use amr_causes::NoMemory;
@@ -29,6 +31,7 @@ pub(crate) struct Surroundings<'a> {
     pub(crate) level: u32,
     pub(crate) patches: &'a [Patch],
     pub(crate) order: Order,
+    pub(crate) starts: &'a Starts,
     /// The register cells of the next coarser level, in their order.
     pub(crate) cells: &'a [Cell],
     pub(crate) finer: Option<&'a Level>,
@@ -37,7 +40,7 @@ pub(crate) struct Surroundings<'a> {
 /// Where the look-ups for a patch begin: among the patches of its level, and among those of the next finer one.
 #[derive(Clone, Copy)]
 pub(crate) struct Near {
-    pub(crate) level: usize,
+    pub(crate) level: Trace,
     pub(crate) finer: usize,
 }
 
@@ -78,8 +81,11 @@ pub(crate) fn beyond(s: Surroundings<'_>, near: &mut Near, c: Cell) -> Across
     requires level { s.level ≤ 4 }
     requires order { IsOrderOf s.order s.patches.now }
     requires apart { ArePatchesApart s.patches.now }
+    requires starts { HasStarts s.patches.now s.starts.now }
+    requires gap { IsGap s.patches.now near.old.level.gap }
     ensures outside { is_outside result ≡ not (in_domain (domain s.entry.problem.now s.entry.level) (home_cell (domain s.entry.problem.now s.entry.level) c)) }
     ensures coarser { is_coarser result ≡ (in_domain (domain s.entry.problem.now s.entry.level) (home_cell (domain s.entry.problem.now s.entry.level) c) && not (in_patches s.entry.patches.now (home_cell (domain s.entry.problem.now s.entry.level) c))) }
+    ensures gap { IsGap s.entry.patches.now near.new.level.gap }
     ensures home { IsAtHome result (home_cell (domain s.entry.problem.now s.entry.level) c) }
 {
     let dom = s.problem.domain(s.level);
@@ -87,7 +93,7 @@ pub(crate) fn beyond(s: Surroundings<'_>, near: &mut Near, c: Cell) -> Across
     if !dom.in_domain(home) {
         return Across::Outside;
     }
-    match look_up(s.patches, s.order, &mut near.level, home) {
+    match look_beside(s.patches, s.order, s.starts, &mut near.level, home) {
         Some(_) => Across::Level,
         None => Across::Coarser(home),
     }
@@ -126,6 +132,8 @@ fn flow_of(s: Surroundings<'_>, near: &mut Near, b: &Bx, f: Face) -> Flow
     requires level { s.level ≤ 4 }
     requires order { IsOrderOf s.order s.patches.now }
     requires apart { ArePatchesApart s.patches.now }
+    requires starts { HasStarts s.patches.now s.starts.now }
+    requires gap { IsGap s.patches.now near.old.level.gap }
     requires ordered { AreInOrder s.cells.now }
     requires few { length s.cells.now ≤ 2 ^ 30 }
     requires line { IsInLines s.problem.now s.level f }
@@ -134,6 +142,7 @@ fn flow_of(s: Surroundings<'_>, near: &mut Near, b: &Bx, f: Face) -> Flow
     ensures inflow { is_inflow result ≡ is_inflow_face (around s.entry.problem.now s.entry.level s.entry.patches.now s.entry.cells.now (option_copied s.entry.finer)) b.now f }
     ensures outflow { is_outflow result ≡ is_outflow_face (around s.entry.problem.now s.entry.level s.entry.patches.now s.entry.cells.now (option_copied s.entry.finer)) b.now f }
     ensures register { is_register result ≡ is_exchange_face (around s.entry.problem.now s.entry.level s.entry.patches.now s.entry.cells.now (option_copied s.entry.finer)) b.now f }
+    ensures gap { IsGap s.entry.patches.now near.new.level.gap }
     ensures within { word_in result < 2 + 2 * length s.entry.cells.now }
     ensures word { IsToWord result (word_of (around s.entry.problem.now s.entry.level s.entry.patches.now s.entry.cells.now (option_copied s.entry.finer)) b.now f) }
 {
@@ -189,11 +198,14 @@ fn flows_beside(
     requires level { s.level ≤ 4 }
     requires order { IsOrderOf s.order s.patches.now }
     requires apart { ArePatchesApart s.patches.now }
+    requires starts { HasStarts s.patches.now s.starts.now }
+    requires gap { IsGap s.patches.now near.old.level.gap }
     requires ordered { AreInOrder s.cells.now }
     requires few { length s.cells.now ≤ 2 ^ 30 }
     requires near { IsNear b.now }
     requires inside { IsInDomain (domain s.problem.now s.level) b.now }
     requires there { HasCellsBeyond (around s.problem.now s.level s.patches.now s.cells.now (option_copied s.finer)) b.now }
+    ensures gap { OnOk result (IsGap s.entry.patches.now near.new.level.gap) }
     ensures inflow { IfOk result (λ adds. adds.inflow.items ≡ inflow_faces (around s.entry.problem.now s.entry.level s.entry.patches.now s.entry.cells.now (option_copied s.entry.finer)) b.now) }
     ensures outflow { IfOk result (λ adds. adds.outflow.items ≡ outflow_faces (around s.entry.problem.now s.entry.level s.entry.patches.now s.entry.cells.now (option_copied s.entry.finer)) b.now) }
     ensures register { IfOk result (λ adds. flows_in adds.register.items ≡ register_flows (around s.entry.problem.now s.entry.level s.entry.patches.now s.entry.cells.now (option_copied s.entry.finer)) b.now) }
@@ -222,11 +234,14 @@ pub(crate) fn adds_of(
     requires level { s.level ≤ 4 }
     requires order { IsOrderOf s.order s.patches.now }
     requires apart { ArePatchesApart s.patches.now }
+    requires starts { HasStarts s.patches.now s.starts.now }
+    requires gap { IsGap s.patches.now near.old.level.gap }
     requires ordered { AreInOrder s.cells.now }
     requires few { length s.cells.now ≤ 2 ^ 30 }
     requires near { IsNear b.now }
     requires inside { IsInDomain (domain s.problem.now s.level) b.now }
     requires there { HasCellsBeyond (around s.problem.now s.level s.patches.now s.cells.now (option_copied s.finer)) b.now }
+    ensures gap { OnOk result (IsGap s.entry.patches.now near.new.level.gap) }
     ensures flows { IfOk result (λ adds. flows_in adds.items ≡ flows_of (around s.entry.problem.now s.entry.level s.entry.patches.now s.entry.cells.now (option_copied s.entry.finer)) b.now) }
     ensures ledger { IfOk result (λ adds. take 2 (map (λ a. a.word) adds.items) ≡ 0 ∷ 1 ∷ []) }
     ensures words { IfOk result (λ adds. All (λ a. a.word < 2 + 2 * length s.entry.cells.now) adds.items) }

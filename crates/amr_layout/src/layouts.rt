@@ -9,12 +9,15 @@ ghost use Rattle.amr_patch.specs.Orders.{IsOrderOf};
 ghost use Rattle.amr_flux.specs.Faces.{IsInDomain};
 ghost use Rattle.amr_phase.specs.Plans.{IsPlan, total};
 ghost use Rattle.amr_layout.specs.Surroundings.{around, edge_count};
+ghost use Rattle.amr_layout.specs.Gaps.{HasStarts};
 ghost use Rattle.amr_layout.specs.Places.{border_places, level_borders, puts_of};
 ghost use Rattle.amr_layout.specs.Adds.{HasLedgerAdds, HasRegisterCells, flows_in, flows_of};
 ghost use Rattle.amr_layout.specs.Posts.{AreSmallSizes, Sizes, plan_of};
 
 use crate::adds::{Near, Surroundings, adds_of};
 use crate::faces::edge_count;
+use crate::gaps::starts_of;
+use crate::lookup::Trace;
 use crate::places::place_borders;
 use crate::{Layout, PutAt, TaskLayout};
 use amr_box::Cell;
@@ -50,6 +53,7 @@ fn tasks_of(
     requires level { s.level ≤ 4 }
     requires order { IsOrderOf s.order s.patches.now }
     requires apart { ArePatchesApart s.patches.now }
+    requires starts { HasStarts s.patches.now s.starts.now }
     requires few { length s.cells.now ≤ 2 ^ 30 }
     requires inside { All (λ q. IsInDomain (domain s.problem.now s.level) (box q)) s.patches.now }
     requires cells { HasRegisterCells (around s.problem.now s.level s.patches.now s.cells.now (option_copied s.finer)) }
@@ -61,7 +65,11 @@ fn tasks_of(
     ensures ledger { IfOk result (λ ts. All HasLedgerAdds ts.items) }
     ensures words { IfOk result (λ ts. All (λ t. All (λ a. a.word < 2 + 2 * length s.entry.cells.now) t.adds.items) ts.items) }
 {
-    let mut near = Near { level: 0, finer: 0 };
+    let level = Trace {
+        patch: 0,
+        gap: None,
+    };
+    let mut near = Near { level, finer: 0 };
     let mut tasks = Vec::new(alloc);
     for i in 0..s.patches.len() {
         let adds = adds_of(alloc, s, &mut near, &s.patches[i].bx())?;
@@ -82,7 +90,8 @@ fn tasks_of(
 ///   1989): each face of this level's coarse-fine edge is added to one of them, by the way of its Courant number.
 ///
 /// The patches are all those of the level. `cells` are the register cells of the next coarser level, none at level 0, by y, then
-/// by x. Time and memory grow with the faces on the patches' edges; a span of faces beside one patch takes one search.
+/// by x. Time and memory grow with the faces on the patches' edges; a span of faces beside one patch takes one search, and so does one
+/// beside a gap between the columns and rows where patches start.
 ///
 /// `NoMemory` is the only refusal; it also stands for more than 2^30 faces or cells.
 pub fn plan(
@@ -110,15 +119,17 @@ pub fn plan(
         return Err(NoMemory);
     }
     let order = order_of(patches);
+    let starts = starts_of(alloc, patches)?;
     let surroundings = Surroundings {
         problem: p,
         level: l,
         patches,
         order,
+        starts: &starts,
         cells,
         finer,
     };
-    let (mut places, mut borders) = place_borders(alloc, &p.domain(l), patches, order)?;
+    let (mut places, mut borders) = place_borders(alloc, &p.domain(l), patches, order, &starts)?;
     let tasks = tasks_of(alloc, surroundings, &mut places.lots, &mut borders)?;
     Ok(Layout {
         places: places.count,

@@ -5,6 +5,7 @@
 
 mod adds;
 mod faces;
+mod gaps;
 mod layouts;
 mod lookup;
 mod places;

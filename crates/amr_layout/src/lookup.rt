@@ -7,9 +7,11 @@ ghost use Rattle.amr_def.specs.State.{is_covered};
 ghost use Rattle.amr_patch.specs.Levels.{level_of};
 ghost use Rattle.amr_patch.specs.Patches.{ArePatchesApart, in_patches};
 ghost use Rattle.amr_patch.specs.Orders.{IsHolder, IsOrderOf};
+ghost use Rattle.amr_layout.specs.Gaps.{HasStarts, IsGap};
 ghost use Rattle.amr_layout.specs.Surroundings.{IsReachable, finer_masses};
 
-use amr_box::Cell;
+use crate::gaps::{Starts, gap_from, is_in_gap};
+use amr_box::{Bx, Cell};
 use amr_patch::{Level, Order, Patch, find};
 
 /// The number of the patch that has a cell, None exactly where none has it. It looks at patch `near` first, and leaves there
@@ -26,6 +28,39 @@ pub(crate) fn look_up(patches: &[Patch], order: Order, near: &mut usize, c: Cell
     let found = find(patches, order, c);
     if let Some(k) = found {
         *near = k;
+    }
+    found
+}
+
+/// What the last look-ups among the patches of a level found: the number of a patch, and a box of cells that none of them has.
+#[derive(Clone, Copy)]
+pub(crate) struct Trace {
+    pub(crate) patch: usize,
+    pub(crate) gap: Option<Bx>,
+}
+
+/// The same as `look_up`, where many of the cells are of no patch: it looks at the last gap too, and leaves the next one there.
+pub(crate) fn look_beside(
+    patches: &[Patch],
+    order: Order,
+    starts: &Starts,
+    trace: &mut Trace,
+    c: Cell,
+) -> Option<usize>
+    requires order { IsOrderOf order patches.now }
+    requires apart { ArePatchesApart patches.now }
+    requires starts { HasStarts patches.now starts.now }
+    requires gap { IsGap patches.now trace.old.gap }
+    ensures some { is_some result ≡ in_patches patches.now c }
+    ensures found { IfSome result (IsHolder patches.now c) }
+    ensures gap { IsGap patches.now trace.new.gap }
+{
+    if is_in_gap(trace.gap, c) {
+        return None;
+    }
+    let found = look_up(patches, order, &mut trace.patch, c);
+    if found.is_none() {
+        trace.gap = gap_from(starts, c);
     }
     found
 }

@@ -7,11 +7,13 @@ ghost use Rattle.amr_box.specs.Cells.{IsNear};
 ghost use Rattle.amr_def.specs.Domain.{domain_of};
 ghost use Rattle.amr_patch.specs.Patches.{ArePatchesApart};
 ghost use Rattle.amr_patch.specs.Orders.{IsOrderOf};
+ghost use Rattle.amr_layout.specs.Gaps.{HasStarts, IsGap};
 ghost use Rattle.amr_layout.specs.Places.{AreEmptyLots, ArePut, borders_of, border_places, leads_on, level_borders};
 
 use crate::PutAt;
 use crate::faces::{high_cell, home_face};
-use crate::lookup::look_up;
+use crate::gaps::Starts;
+use crate::lookup::{Trace, look_beside};
 use amr_box::{Bx, Face};
 use amr_causes::NoMemory;
 use amr_def::Dom;
@@ -24,7 +26,7 @@ use std::alloc::Global;
 pub(crate) struct Places {
     pub(crate) lots: Vec<Vec<PutAt>>,
     pub(crate) count: u32,
-    near: usize,
+    near: Trace,
 }
 
 /// No puts for any patch.
@@ -43,17 +45,21 @@ fn put_border(
     dom: &Dom,
     patches: &[Patch],
     order: Order,
+    starts: &Starts,
     places: &mut Places,
     f: Face,
 ) -> Result<(), NoMemory>
     requires order { IsOrderOf order patches.now }
     requires apart { ArePatchesApart patches.now }
+    requires starts { HasStarts patches.now starts.now }
+    requires gap { IsGap patches.now places.old.near.gap }
     requires lots { length places.old.lots.items ≡ length patches.now }
+    ensures gap { OnOk result (IsGap patches.now places.new.near.gap) }
     ensures lots { OnOk result (length places.new.lots.items ≡ length patches.now) }
     ensures put { OnOk result ((done : List Face) → ArePut (domain_of dom.now) patches.now done places.old.count places.old.lots.items → ArePut (domain_of dom.now) patches.now (done ++ cond (leads_on (domain_of dom.now) patches.now f) (f ∷ []) []) places.new.count places.new.lots.items) }
 {
     let face = home_face(dom, f);
-    let Some(owner) = look_up(patches, order, &mut places.near, high_cell(face)) else {
+    let Some(owner) = look_beside(patches, order, starts, &mut places.near, high_cell(face)) else {
         return Ok(());
     };
     if places.count == u32::MAX {
@@ -73,21 +79,25 @@ fn put_borders(
     dom: &Dom,
     patches: &[Patch],
     order: Order,
+    starts: &Starts,
     places: &mut Places,
     b: &Bx,
 ) -> Result<(), NoMemory>
     requires near { IsNear b.now }
     requires order { IsOrderOf order patches.now }
     requires apart { ArePatchesApart patches.now }
+    requires starts { HasStarts patches.now starts.now }
+    requires gap { IsGap patches.now places.old.near.gap }
     requires lots { length places.old.lots.items ≡ length patches.now }
+    ensures gap { OnOk result (IsGap patches.now places.new.near.gap) }
     ensures lots { OnOk result (length places.new.lots.items ≡ length patches.now) }
     ensures put { OnOk result ((done : List Face) → ArePut (domain_of dom.now) patches.now done places.old.count places.old.lots.items → ArePut (domain_of dom.now) patches.now (done ++ borders_of (domain_of dom.now) patches.now b.now) places.new.count places.new.lots.items) }
 {
     for j in 0..b.height() {
-        put_border(dom, patches, order, places, x_end(b, j))?;
+        put_border(dom, patches, order, starts, places, x_end(b, j))?;
     }
     for i in 0..b.width() {
-        put_border(dom, patches, order, places, y_end(b, i))?;
+        put_border(dom, patches, order, starts, places, y_end(b, i))?;
     }
     Ok(())
 }
@@ -110,21 +120,26 @@ pub(crate) fn place_borders(
     dom: &Dom,
     patches: &[Patch],
     order: Order,
+    starts: &Starts,
 ) -> Result<(Places, Vec<Vec<u32>>), NoMemory>
     requires order { IsOrderOf order patches.now }
     requires apart { ArePatchesApart patches.now }
+    requires starts { HasStarts patches.now starts.now }
     ensures put { IfOk result (λ r. ArePut (domain_of dom.now) patches.now (level_borders (domain_of dom.now) patches.now patches.now) r.0.count r.0.lots.items) }
     ensures borders { IfOk result (λ r. map (λ v. v.items) r.1.items ≡ map (border_places (domain_of dom.now) patches.now) (range_with_len 0 (length patches.now))) }
 {
     let mut places = Places {
         lots: no_puts(alloc, patches.len())?,
         count: 0,
-        near: 0,
+        near: Trace {
+            patch: 0,
+            gap: None,
+        },
     };
     let mut borders = Vec::new(alloc);
     for i in 0..patches.len() {
         let first = places.count;
-        put_borders(dom, patches, order, &mut places, &patches[i].bx())?;
+        put_borders(dom, patches, order, starts, &mut places, &patches[i].bx())?;
         borders.push(places_from(alloc, first, places.count)?)?;
     }
     Ok((places, borders))

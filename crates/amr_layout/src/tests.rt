@@ -9,12 +9,15 @@ ghost use Rattle.amr_def.specs.Limits.{has_inflows};
 ghost use Rattle.amr_patch.specs.Orders.{IsOrderOf, comes_first};
 ghost use Rattle.amr_patch.specs.Patches.{ArePatchesApart, box};
 ghost use Rattle.amr_flux.specs.Faces.{IsInDomain};
+ghost use Rattle.amr_layout.specs.Gaps.{HasStarts};
 ghost use Rattle.amr_layout.specs.Adds.{AreInOrder, HasCellsBeyond, cell_beyond, same_cell};
 ghost use Rattle.amr_layout.specs.Surroundings.{IsNearFace, around, is_coarse_fine};
 
 use super::*;
 use crate::adds::{Across, Near, Surroundings, beyond};
 use crate::faces::{edge_count, edge_face, outside};
+use crate::gaps::starts_of;
+use crate::lookup::Trace;
 use amr_box::{Axis, Bx, Cell, Face, parent};
 use amr_def::{Blocks, Dom, Name, Problem, Shear, Sides, Thresholds};
 use amr_patch::{Level, Patch};
@@ -163,14 +166,20 @@ fn has_cell(cells: &[Cell], c: Cell) -> bool
 }
 
 /// Whether the register cell on the other side of a face is in the list, if there is one.
-fn has_cell_beyond(s: Surroundings<'_>, near: &mut Near, b: &Bx, f: Face) -> bool
+fn has_cell_beyond(s: Surroundings<'_>, b: &Bx, f: Face) -> bool
     requires level { s.level ≤ 4 }
     requires order { IsOrderOf s.order s.patches.now }
     requires apart { ArePatchesApart s.patches.now }
+    requires starts { HasStarts s.patches.now s.starts.now }
     requires near { IsNearFace f }
     ensures { result ≡ true → IsTrue (is_coarse_fine (around s.entry.problem.now s.entry.level s.entry.patches.now s.entry.cells.now (option_copied s.entry.finer)) b.now f) → Contains s.entry.cells.now (cell_beyond (around s.entry.problem.now s.entry.level s.entry.patches.now s.entry.cells.now (option_copied s.entry.finer)) b.now f) }
 {
-    match beyond(s, near, outside(b, f)) {
+    let level = Trace {
+        patch: 0,
+        gap: None,
+    };
+    let mut near = Near { level, finer: 0 };
+    match beyond(s, &mut near, outside(b, f)) {
         Across::Outside => true,
         Across::Level => true,
         Across::Coarser(home) => has_cell(s.cells, parent(home)),
@@ -178,15 +187,16 @@ fn has_cell_beyond(s: Surroundings<'_>, near: &mut Near, b: &Bx, f: Face) -> boo
 }
 
 /// Whether each register cell beside a box is in the list.
-fn has_cells_beyond(s: Surroundings<'_>, near: &mut Near, b: &Bx) -> bool
+fn has_cells_beyond(s: Surroundings<'_>, b: &Bx) -> bool
     requires level { s.level ≤ 4 }
     requires order { IsOrderOf s.order s.patches.now }
     requires apart { ArePatchesApart s.patches.now }
+    requires starts { HasStarts s.patches.now s.starts.now }
     requires near { IsNear b.now }
     ensures { result ≡ true → HasCellsBeyond (around s.entry.problem.now s.entry.level s.entry.patches.now s.entry.cells.now (option_copied s.entry.finer)) b.now }
 {
     for n in 0..edge_count(b) {
-        if !has_cell_beyond(s, near, b, edge_face(b, n)) {
+        if !has_cell_beyond(s, b, edge_face(b, n)) {
             return false;
         }
     }
@@ -198,11 +208,11 @@ fn have_cells_beyond(s: Surroundings<'_>) -> bool
     requires level { s.level ≤ 4 }
     requires order { IsOrderOf s.order s.patches.now }
     requires apart { ArePatchesApart s.patches.now }
+    requires starts { HasStarts s.patches.now s.starts.now }
     ensures { result ≡ true → All (λ q. HasCellsBeyond (around s.entry.problem.now s.entry.level s.entry.patches.now s.entry.cells.now (option_copied s.entry.finer)) (box q)) s.entry.patches.now }
 {
-    let mut near = Near { level: 0, finer: 0 };
     for i in 0..s.patches.len() {
-        if !has_cells_beyond(s, &mut near, &s.patches[i].bx()) {
+        if !has_cells_beyond(s, &s.patches[i].bx()) {
             return false;
         }
     }
@@ -221,11 +231,13 @@ fn layout_of(
     requires { l ≤ 4 }
 {
     let patches = level.patches();
+    let starts = starts_of(alloc, patches)?;
     let s = Surroundings {
         problem: p,
         level: l,
         patches,
         order: level.order(),
+        starts: &starts,
         cells,
         finer,
     };

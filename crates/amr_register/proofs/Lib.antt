@@ -18,3 +18,4 @@ pub mod OneBox
 pub mod RowSpans
 pub mod NotBeside
 pub mod BesideTaken
+pub mod SameCells

@@ -1,5 +1,5 @@
--- A law of registers, which a call of this crate ensures.
-use Rattle.std.specs.Prelude.{◌≡◌, ℕ, suc, ◌≤◌, true, ℤ, pos, ◌+ℤ◌, List, [], ◌∷◌}
+-- Laws of registers, each of which a call of this crate ensures.
+use Rattle.std.specs.Prelude.{◌≡◌, ℕ, suc, ◌≤◌, true, ℤ, pos, ◌+ℤ◌, List, [], ◌∷◌, is_some}
 use Rattle.std.specs.List.{All}
 use Rattle.amr_box.specs.declared.Cell.{Cell}
 use Rattle.amr_def.specs.declared.problem.Problem.{Problem}
@@ -10,6 +10,8 @@ use Rattle.amr_def.specs.State.{Level, Masses}
 use Rattle.amr_patch.specs.declared.patches.Patch.{Patch}
 use Rattle.amr_patch.specs.Patches.{ArePatchesApart, masses_in}
 use Rattle.amr_flux.specs.Faces.{ShowsValues}
+use Rattle.amr_register.specs.declared.register.Register.{Register}
+use Rattle.amr_register.specs.Registers.{IsRegisterOf}
 use Rattle.amr_register.specs.CoarseFlows.{coarse_flows, edge_flows}
 use Rattle.amr_register.specs.RegisterCells.{is_register_cell}
 
@@ -24,3 +26,7 @@ net_of_all p l fine (q ∷ qs) c = net (coarse_flows p l fine q) c +ℤ net_of_a
 abbrev pub EdgesAreTakenOnce : Type 0
 EdgesAreTakenOnce = (p : Problem) (l : ℕ) (k fine : Level) (old : Masses) (ps : List Patch) → l ≤ 3 → IsLevel p l k → IsLevel p (suc l) fine → IsNestedLevel p l k fine → ArePatchesApart ps → masses_in ps ≡ k.masses → All (ShowsValues p l k.masses old) ps
     → (c : Cell) → is_register_cell (domain p l) k.masses fine.masses c ≡ true → net_of_all p l fine.masses ps c ≡ net (edge_flows p l k.masses old fine.masses) c
+
+-- a register over two levels is one over all levels with the same cells, whatever their masses are
+abbrev pub RegistersGoByCells : Type 0
+RegistersGoByCells = (p : Problem) (l : ℕ) (m fine m' fine' : Masses) (r : Register) → ((c : Cell) → is_some (m' c) ≡ is_some (m c)) → ((c : Cell) → is_some (fine' c) ≡ is_some (fine c)) → IsRegisterOf p l m fine r → IsRegisterOf p l m' fine' r

@@ -4,6 +4,7 @@
 //! A [`Register`] has an entry for each register cell, a cell that is not covered beside one that is. The coarse step takes
 //! its plain flows at the coarse-fine edges away, patch by patch ([`Register::coarse_part`]); what flowed through the finer
 //! faces there is added ([`Register::absorb`]); and in the end each entry is added to its cell ([`Register::reflux`]).
+//! [`Register::clear`] makes it ready for the next step.
 #![tactic(auto)]
 
 mod beside;
@@ -18,5 +19,5 @@ mod sides;
 #[cfg(test)]
 mod tests;
 
-pub use laws::edges_are_taken_once;
+pub use laws::{edges_are_taken_once, registers_go_by_cells};
 pub use register::Register;

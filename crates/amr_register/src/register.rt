@@ -128,6 +128,14 @@ impl Register {
         self.entries[k as usize] += gain as i64 - loss as i64;
     }
 
+    /// Puts each entry back to 0. The cells stay, so that a register serves each step of its level until the next regrid.
+    pub fn clear(&mut self)
+        ensures zero { (c : Cell) → entry_in self.new c ≡ pos 0 }
+        ensures cells { SameCells self.old self.new }
+    {
+        self.entries.fill(0);
+    }
+
     /// Adds each entry to the mass of its cell. The level has the boxes of the coarse level that the register was made over,
     /// and no sum is below 0, or 2^32 or more.
     pub fn reflux(&self, level: &mut Level)

@@ -23,6 +23,7 @@ loop-n-preserved c =
     let f = c.edge_face-f.result in
     let flow = c.flow_of-flow.result in
     record {
+      gap = c.flow_of-flow.ensures.gap;
       inflow = faces_more (is_inflow_face (around c.args.s.problem.now c.args.s.level c.args.s.patches.now c.args.s.cells.now (option_copied c.args.s.finer)) b) (edge_face b) c.loop-n.n c.loop-n.adds.inflow.items c.add_face.new.adds.inflow.items (is_inflow flow) f c.edge_face-f.ensures c.flow_of-flow.ensures.inflow c.loop-n.invariant.inflow c.in_ok-add_face.ensures.inflow;
       outflow = faces_more (is_outflow_face (around c.args.s.problem.now c.args.s.level c.args.s.patches.now c.args.s.cells.now (option_copied c.args.s.finer)) b) (edge_face b) c.loop-n.n c.loop-n.adds.outflow.items c.add_face.new.adds.outflow.items (is_outflow flow) f c.edge_face-f.ensures c.flow_of-flow.ensures.outflow c.loop-n.invariant.outflow c.in_ok-add_face.ensures.outflow;
       register = flows_more (is_exchange_face (around c.args.s.problem.now c.args.s.level c.args.s.patches.now c.args.s.cells.now (option_copied c.args.s.finer)) b) (edge_face b) c.loop-n.n (word_of (around c.args.s.problem.now c.args.s.level c.args.s.patches.now c.args.s.cells.now (option_copied c.args.s.finer)) b) (flows_in c.loop-n.adds.register.items) (flows_in c.add_face.new.adds.register.items) flow f c.edge_face-f.ensures c.flow_of-flow.ensures.register c.flow_of-flow.ensures.word c.loop-n.invariant.register c.in_ok-add_face.ensures.register;

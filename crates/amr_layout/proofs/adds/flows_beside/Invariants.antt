@@ -3,12 +3,14 @@ use Rattle.std.specs.Option.{option_copied}
 use Rattle.std.specs.List.{All}
 use Rattle.amr_flux.specs.Faces.{passing}
 use Rattle.amr_layout.specs.Surroundings.{around, edge_face}
+use Rattle.amr_layout.specs.Gaps.{IsGap}
 use Rattle.amr_layout.specs.Adds.{flow_to, flows_in, is_exchange_face, is_inflow_face, is_outflow_face, word_of}
 use Rattle.amr_layout.proofs.adds.flows_beside.Given as goal
 
 -- the first n faces go where they go
 abbrev pub invariant-loop-n : goal.invariant-loop-n
 invariant-loop-n l = record {
+  gap : IsGap l.s.patches.now l.near.level.gap;
   inflow : l.adds.inflow.items ≡ passing (is_inflow_face (around l.s.problem.now l.s.level l.s.patches.now l.s.cells.now (option_copied l.s.finer)) l.b) (edge_face l.b) l.n;
   outflow : l.adds.outflow.items ≡ passing (is_outflow_face (around l.s.problem.now l.s.level l.s.patches.now l.s.cells.now (option_copied l.s.finer)) l.b) (edge_face l.b) l.n;
   register : flows_in l.adds.register.items

@@ -32,6 +32,7 @@ loop-i-preserved c =
     let border_at : border ≡ get_or c.args.borders.now i border = c.replace-border.ensures.value ∙ c.loop-i.invariant.borders_left i c.index-borders-i.result (omega arith) ∙ ap (get_or c.args.borders.now i) (c.index-borders-i.is ∙ sym c.replace-border.ensures.value) in
     let flows : flows_in c.in_ok-adds.adds.items ≡ flows_of (around c.args.s.problem.now c.args.s.level c.args.s.patches.now c.args.s.cells.now (option_copied c.args.s.finer)) (box q) = c.in_ok-adds.ensures.flows ∙ ap (flows_of (around c.args.s.problem.now c.args.s.level c.args.s.patches.now c.args.s.cells.now (option_copied c.args.s.finer))) c.bx.ensures.value ∙ ap (λ (r : Patch). flows_of (around c.args.s.problem.now c.args.s.level c.args.s.patches.now c.args.s.cells.now (option_copied c.args.s.finer)) (box r)) (sym c.index-s-i.is) in
     record {
+      gap = c.in_ok-adds.ensures.gap;
       lot_count = length-set lots i c.replace-puts.new.dest ∙ c.loop-i.invariant.lot_count;
       border_count = length-set borders i c.replace-border.new.dest ∙ c.loop-i.invariant.border_count;
       lots_left = λ k v le. let other : k ≢ i = omega arith in get_or-set_other lots i k c.replace-puts.new.dest v other ∙ c.loop-i.invariant.lots_left k v (omega arith);

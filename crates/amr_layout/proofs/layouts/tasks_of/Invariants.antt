@@ -6,12 +6,14 @@ use Rattle.std.specs.Global.{Vec}
 use Rattle.amr_patch.specs.Patches.{box}
 use Rattle.amr_layout.specs.declared.PutAt.{PutAt}
 use Rattle.amr_layout.specs.Surroundings.{around}
+use Rattle.amr_layout.specs.Gaps.{IsGap}
 use Rattle.amr_layout.specs.Adds.{HasLedgerAdds, flows_in, flows_of}
 use Rattle.amr_layout.proofs.layouts.tasks_of.Given as goal
 
 -- the first tasks have what is theirs, and the lists of the others stand where they stood
 abbrev pub invariant-loop-i : goal.invariant-loop-i
 invariant-loop-i l = record {
+  gap : IsGap l.s.patches.now l.near.level.gap;
   lot_count : length l.lots ≡ length l.s.patches.now;
   border_count : length l.borders ≡ length l.s.patches.now;
   lots_left : (k : ℕ) (v : Vec PutAt) → l.i ≤ k → slice_index_or l.lots k v ≡ slice_index_or l.fn.lots k v;

@@ -15,6 +15,7 @@ loop-i-init c =
     let lots = c.in_ok-no_puts.field-0.items in
     let P : List Face → Type 0 = λ l. ArePut d ps l 0 lots in
     record {
+      gap = tt;
       put = subst P (sym (no_borders d ps)) (no_puts_yet d ps lots c.in_ok-no_puts.ensures.count c.in_ok-no_puts.ensures.empty);
       borders = ap (map (λ (v : Vec ℕ). v.items)) c.new-borders.ensures.items;
     }
@@ -31,6 +32,7 @@ loop-i-preserved c =
     let P : List Face → Type 0 = λ l. ArePut d ps l count lots in
     let more = subst P (ap (λ (b : Extent). level_borders d ps (take i ps) ++ borders_of d ps b) c.bx.ensures.value ∙ sym (level_more d ps i q lt c.index-patches-i.is)) (c.in_ok-put_borders.ensures.put (level_borders d ps (take i ps)) c.loop-i.invariant.put) in
     record {
+      gap = c.in_ok-put_borders.ensures.gap;
       put = more;
       borders = ap (map (λ (v : Vec ℕ). v.items)) c.in_ok-push.ensures.items ∙ places_more d ps i c.loop-i.places.count count c.loop-i.borders.items c.in_ok-places_from.field-0 c.loop-i.places.lots.items lots c.loop-i.invariant.put more c.in_ok-places_from.ensures c.loop-i.invariant.borders;
     }

@@ -20,7 +20,7 @@ returns-in_default-clause-put c = λ done put.
     let ps = c.args.patches.now in
     let face : c.home_face-face.result ≡ home_face d c.args.f = c.home_face-face.ensures in
     let at : c.high_cell.result ≡ home_cell d (high_cell c.args.f) = c.high_cell.ensures ∙ ap high_cell face in
-    let none : leads_on d ps c.args.f ≡ is_some c.look_up.result = ap (in_patches ps) (sym at) ∙ sym c.look_up.ensures.some in
+    let none : leads_on d ps c.args.f ≡ is_some c.look_beside.result = ap (in_patches ps) (sym at) ∙ sym c.look_beside.ensures.some in
     none_more d ps done c.args.f c.args.places.now.count c.args.places.now.lots.items (none ∙ ap is_some c.in_default.is) put
 
 pub returns-clause-put : goal.returns-clause-put

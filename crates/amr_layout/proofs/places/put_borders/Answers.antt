@@ -9,6 +9,7 @@ use Rattle.amr_layout.proofs.places.put_borders.Goals as goal
 
 pub loop-j-preserved : goal.loop-j-preserved
 loop-j-preserved c = record {
+  gap = c.in_ok-put_border.ensures.gap;
   lots = c.in_ok-put_border.ensures.lots;
   put = λ done h.
       let t = leads_on (domain_of c.args.dom.now) c.args.patches.now in
@@ -18,6 +19,7 @@ loop-j-preserved c = record {
 
 pub loop-i-init : goal.loop-i-init
 loop-i-init c = record {
+  gap = c.loop-j.invariant.gap;
   lots = c.loop-j.invariant.lots;
   put = λ done h.
       let t = leads_on (domain_of c.args.dom.now) c.args.patches.now in
@@ -28,6 +30,7 @@ loop-i-init c = record {
 
 pub loop-i-preserved : goal.loop-i-preserved
 loop-i-preserved c = record {
+  gap = c.in_ok-put_border-2.ensures.gap;
   lots = c.in_ok-put_border-2.ensures.lots;
   put = λ done h.
       let t = leads_on (domain_of c.args.dom.now) c.args.patches.now in
