@@ -1,5 +1,10 @@
+mod Documents
 mod Inside
+mod NameTexts
+mod PlainTexts
 mod Rows
+mod ShortTexts
 mod SummaryRows
 mod TextParts
 mod TextRows
+mod ValueTexts

@@ -1,7 +1,10 @@
 -- Laws of trials, each of which a call of this crate ensures.
-use Rattle.std.specs.Prelude.{ℕ, ◌+◌, ◌<◌, ◌≤◌}
+use Rattle.std.specs.Prelude.{◌≡◌, ℕ, ◌+◌, ◌^◌, ◌<◌, ◌≤◌, true, length, Some}
+use Rattle.std.specs.Str.{is_utf8}
 use Rattle.amr_def.specs.declared.problem.Block.{Block}
-use Rattle.amr_trial.specs.Trial.{IsSize, block, courant_x, courant_y}
+use Rattle.toml.specs.Parse.{parse_document}
+use Rattle.amr_trial.specs.Document.{document}
+use Rattle.amr_trial.specs.Trial.{IsSize, block, courant_x, courant_y, text}
 
 -- the Courant numbers of both axes, in eighths, add up to less than 1
 abbrev pub CourantNumbersFit : Type 0
@@ -17,3 +20,13 @@ pub record LiesInside (size : ℕ) (b : Block) : Type 0 where
 
 abbrev pub BlocksLieInside : Type 0
 BlocksLieInside = (number size k : ℕ) → IsSize size → LiesInside size (block number size k)
+
+-- the text of a trial is TOML, and the table that it is
+abbrev pub TextsAreDocuments : Type 0
+TextsAreDocuments = (number size : ℕ) → number < 2 ^ 32 → IsSize size → parse_document (text number size) ≡ Some (document number size)
+
+abbrev pub TextsAreUtf8 : Type 0
+TextsAreUtf8 = (number size : ℕ) → number < 2 ^ 32 → IsSize size → is_utf8 (text number size) ≡ true
+
+abbrev pub TextsAreShort : Type 0
+TextsAreShort = (number size : ℕ) → number < 2 ^ 32 → IsSize size → length (text number size) ≤ 512

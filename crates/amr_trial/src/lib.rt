@@ -2,7 +2,7 @@
 //! generator, the text of a trial's problem, and the definition of the line that a trial prints.
 #![tactic(auto)]
 
-ghost use Rattle.amr_trial.specs.Laws.{BlocksLieInside, CourantNumbersFit};
+ghost use Rattle.amr_trial.specs.Laws.{BlocksLieInside, CourantNumbersFit, TextsAreDocuments, TextsAreShort, TextsAreUtf8};
 
 mod generator;
 mod problem;
@@ -21,4 +21,11 @@ pub fn courant_numbers_fit()
 /// The blocks of a trial lie in its domain, with masses below 4,096.
 pub fn blocks_lie_inside()
     ensures { BlocksLieInside }
+{}
+
+/// The text of a trial is UTF-8 of at most 512 bytes, and as TOML it is the defined table.
+pub fn texts_are_documents()
+    ensures documents { TextsAreDocuments }
+    ensures utf8 { TextsAreUtf8 }
+    ensures short { TextsAreShort }
 {}
