@@ -1,3 +1,4 @@
+mod Accepted
 mod Documents
 mod Inside
 mod NameTexts

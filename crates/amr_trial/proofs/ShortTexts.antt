@@ -1,10 +1,11 @@
 -- The text of a trial is ASCII and short.
-use Rattle.std.proofs.Common.{ℕ, ◌+◌, ◌≤◌, ◌<◌, ◌^◌, List, [], ◌∷◌, ◌++◌, map, refl, arith}
+use Rattle.std.proofs.Common.{length, ℕ, ◌+◌, ◌≤◌, ◌<◌, ◌^◌, List, [], ◌∷◌, ◌++◌, map, refl, arith}
 use Rattle.std.specs.Prelude.{codes, decimal}
 use Rattle.std.specs.List.{flat_map, range_with_len}
 use Rattle.std.proofs.lemmas.Str.{IsUtf8-from_ascii, is_utf8-from_IsUtf8}
 use Rattle.amr_def.specs.declared.problem.Block.{Block}
 use Rattle.amr_def.specs.Plot.{line}
+use Rattle.amr_trial.specs.Document.{trial_name}
 use Rattle.amr_trial.specs.Laws.{LiesInside, TextsAreShort, TextsAreUtf8}
 use Rattle.amr_trial.specs.Parts.{head_lines}
 use Rattle.amr_trial.specs.Trial.{IsSize, array, block, block_text, blocks, courant_x, courant_y, text}
@@ -18,6 +19,15 @@ name_plain number size small is =
     (plain_append 24 1 (codes "name = \"trial-" ++ decimal number) (codes "-") (plain_append 14 10 (codes "name = \"trial-") (decimal number) (plain_codes (codes "name = \"trial-") refl) (plain_number 10 number (omega arith) (omega (arith, small)) (omega (arith, small)))) (plain_codes (codes "-") refl))
     (plain_number 3 size (omega arith) (omega (arith, is.greatest)) (omega (arith, is.greatest))))
     (plain_codes (codes "\"") refl)
+
+trial_name_plain : (number size : ℕ) → number < 2 ^ 32 → IsSize size → IsPlain 20 (trial_name number size)
+trial_name_plain number size small is =
+    plain_append 17 3 (codes "trial-" ++ decimal number ++ codes "-") (decimal size)
+    (plain_append 16 1 (codes "trial-" ++ decimal number) (codes "-") (plain_append 6 10 (codes "trial-") (decimal number) (plain_codes (codes "trial-") refl) (plain_number 10 number (omega arith) (omega (arith, small)) (omega (arith, small)))) (plain_codes (codes "-") refl))
+    (plain_number 3 size (omega arith) (omega (arith, is.greatest)) (omega (arith, is.greatest)))
+
+pub name_short : (number size : ℕ) → number < 2 ^ 32 → IsSize size → length (trial_name number size) ≤ 20
+name_short number size small is = (trial_name_plain number size small is).short
 
 cells_plain : (size : ℕ) → IsSize size → IsPlain 18 (codes "cells = " ++ array (decimal size ∷ decimal size ∷ []))
 cells_plain size is =

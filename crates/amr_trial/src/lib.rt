@@ -2,7 +2,7 @@
 //! generator, the text of a trial's problem, and the definition of the line that a trial prints.
 #![tactic(auto)]
 
-ghost use Rattle.amr_trial.specs.Laws.{BlocksLieInside, CourantNumbersFit, TextsAreDocuments, TextsAreShort, TextsAreUtf8};
+ghost use Rattle.amr_trial.specs.Laws.{BlocksLieInside, CourantNumbersFit, TextsAreAccepted, TextsAreDocuments, TextsAreShort, TextsAreUtf8};
 
 mod generator;
 mod problem;
@@ -28,4 +28,9 @@ pub fn texts_are_documents()
     ensures documents { TextsAreDocuments }
     ensures utf8 { TextsAreUtf8 }
     ensures short { TextsAreShort }
+{}
+
+/// The judgement finds no fault in the text of a trial, wherever it takes three levels.
+pub fn texts_are_accepted()
+    ensures { TextsAreAccepted }
 {}

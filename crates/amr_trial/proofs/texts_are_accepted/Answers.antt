@@ -1,0 +1,5 @@
+use Rattle.amr_trial.proofs.Accepted.{texts_are_accepted}
+use Rattle.amr_trial.proofs.texts_are_accepted.Goals as goal
+
+pub returns : goal.returns
+returns c = texts_are_accepted
