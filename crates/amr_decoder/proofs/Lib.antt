@@ -12,3 +12,4 @@ pub mod Stacked
 pub mod FinerLevels
 pub mod MassSums
 pub mod States
+pub mod Fours

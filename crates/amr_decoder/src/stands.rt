@@ -37,5 +37,5 @@ pub fn stands_over(p: &Problem, l: u32, coarse: &Level, fine: &Level) -> bool
     if !surrounds(p, l, coarse, fine) {
         return false;
     }
-    are_boxes_in_sync(coarse, fine)
+    are_boxes_in_sync(p, l, coarse, fine)
 }

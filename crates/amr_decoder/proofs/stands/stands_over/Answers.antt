@@ -1,11 +1,12 @@
-use Rattle.std.proofs.Common.{◌≡◌, ◌∙◌, ◌+◌, ◌&&◌, true, ℕ, suc, add-one, sym, ap, subst, arith}
+use Rattle.std.proofs.Common.{◌≡◌, ◌∙◌, ◌&&◌, Bool, true, ℕ, suc, add-one, sym, ap, subst}
+use Rattle.amr_box.specs.declared.Cell.{Cell}
 use Rattle.amr_def.specs.Domain.{domain}
 use Rattle.amr_def.specs.Facts.{IsLevel, IsNestedLevel}
+use Rattle.amr_def.proofs.Nesting.{covered_boxes, covered_there}
 use Rattle.amr_patch.specs.Levels.{level_of}
 use Rattle.amr_payload.specs.Tests.{is_in_sync, surrounds}
 use Rattle.amr_payload.proofs.ReadStates.{surrounds_at}
 use Rattle.amr_decoder.proofs.Bools.{same_bool}
-use Rattle.amr_decoder.proofs.LevelReadings.{all_placed}
 use Rattle.amr_decoder.proofs.Stacked.{sync_at, sync_from}
 use Rattle.amr_decoder.proofs.stands.stands_over.Goals as goal
 
@@ -17,8 +18,16 @@ returns-then-not-surrounds c =
     let f = level_of c.args.fine.now in
     sym (ap (λ t. t && is_in_sync d k.masses f.masses) (sym c.surrounds.ensures ∙ c.if-not-surrounds.true))
 
-pub are_boxes_in_sync-requires : goal.are_boxes_in_sync-requires
-are_boxes_in_sync-requires c = all_placed c.args.p.now (c.args.l + 1) (level_of c.args.fine.now) (omega (arith, c.requires.level)) c.requires.fine
+pub are_boxes_in_sync-requires-clause-parents : goal.are_boxes_in_sync-requires-clause-parents
+are_boxes_in_sync-requires-clause-parents c e covered =
+    let p = c.args.p.now in
+    let l = c.args.l in
+    let k = level_of c.args.coarse.now in
+    let f = level_of c.args.fine.now in
+    let around : surrounds (domain p l) k.boxes f.boxes ≡ true = sym c.surrounds.ensures ∙ c.if-not-surrounds.false in
+    let over : IsLevel p (suc l) f = subst (λ (n : ℕ). IsLevel p n f) (add-one l) c.requires.fine in
+    let nested : IsNestedLevel p l k f = record { aligned = c.requires.aligned; around = λ e inside near. surrounds_at (domain p l) k.boxes f.boxes e around inside near } in
+    covered_there p l k f c.requires.coarse over nested e (ap (λ (test : Cell → Bool). test e) (covered_boxes f.masses f.boxes over.filled) ∙ covered)
 
 pub returns : goal.returns
 returns c =
