@@ -11,3 +11,6 @@ pub mod Offsets
 pub mod Sides
 pub mod Grows
 pub mod Fills
+pub mod Joins
+pub mod Pairs
+pub mod Coarsens

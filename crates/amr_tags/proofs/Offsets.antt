@@ -18,7 +18,7 @@ use Rattle.amr_tags.proofs.Places.{in_holds, is_in}
 abbrev pub square_box : ℕ → Extent
 square_box n = extent (cell (pos 0 -ℤ pos n) (pos 0 -ℤ pos n)) (cell (pos n) (pos n))
 
-side-is : (lo hi : ℤ) → lo ≤ℤ hi → pos (at_least_zero (hi +ℤ pos 1 -ℤ lo)) ≡ hi +ℤ pos 1 -ℤ lo
+pub side-is : (lo hi : ℤ) → lo ≤ℤ hi → pos (at_least_zero (hi +ℤ pos 1 -ℤ lo)) ≡ hi +ℤ pos 1 -ℤ lo
 side-is lo hi h = grind (arith, ints)
 
 -- a cell beside one, from which the rest of the way leads on

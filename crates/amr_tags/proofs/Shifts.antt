@@ -87,7 +87,7 @@ down-others w r t i h e =
 less : (a b : ℕ) → a < b → nat_lt a b ≡ true
 less a b h = grind (arith, nat_tests)
 
-place-bit : (p : ℕ) (words : List ℕ) (k j b : ℕ) → b < 64 → bit (get_or words (j * p + k) 0) b ≡ bit_of p words (64 * k + b) j
+pub place-bit : (p : ℕ) (words : List ℕ) (k j b : ℕ) → b < 64 → bit (get_or words (j * p + k) 0) b ≡ bit_of p words (64 * k + b) j
 place-bit p words k j b h =
     let q : k ≡ (64 * k + b) / 64 = omega arith in
     let r : b ≡ (64 * k + b) % 64 = omega arith in

@@ -1,4 +1,5 @@
 pub mod Bits
+pub mod Coarse
 pub mod Edges
 pub mod Grown
 pub mod Parts

@@ -27,7 +27,7 @@ fn down(word: u64, last: bool) -> u64
 }
 
 /// A word, and one bit more if it is on.
-fn with_bit(word: u64, at: u32, on: bool) -> u64
+pub fn with_bit(word: u64, at: u32, on: bool) -> u64
     requires { at < 64 }
     ensures { (i : ℕ) → i < 64 → bit result i ≡ (bit word i || (on && (i == at))) }
 {

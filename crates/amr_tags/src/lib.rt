@@ -2,14 +2,17 @@
 #![tactic(auto)]
 
 ghost use Rattle.std.specs.Prelude.{◌≡◌, ◌↔◌, true, false, ◌||◌, ◌&&◌, IfOk, IfSome, IsNone, IsTrue, count_by};
-ghost use Rattle.amr_box.specs.Cells.{IsNear, cells_of, holds, width};
+ghost use Rattle.amr_box.specs.Cells.{IsNear, cells_of, has_child_where, holds, width};
 ghost use Rattle.amr_box.specs.declared.Cell.{Cell};
 ghost use Rattle.amr_tags.specs.Bits.{words_for};
+ghost use Rattle.amr_tags.specs.Coarse.{IsEvenCorner, parents_of};
 ghost use Rattle.amr_tags.specs.TagSets.{IsLaidOut, IsLeastBox, SameShape, has, is_near, same_cell};
 
+mod coarsen;
 mod edges;
 mod fill;
 mod grow;
+mod joining;
 mod rows;
 mod scan;
 
@@ -117,6 +120,30 @@ impl Tags {
     {
         let bx = self.bx;
         fill::set_common(&mut self.words, &bx, &b);
+    }
+
+    /// Adds the tags of another set over the same box, a word at a look.
+    pub fn join(&mut self, other: &Tags)
+        requires { other.now.bx ≡ self.old.bx }
+        ensures shape { SameShape self.old self.new }
+        ensures cells { (c : Cell) → has self.new c ≡ (has self.old c || has other.now c) }
+    {
+        joining::join_words(&mut self.words, other.words());
+    }
+
+    /// The parents of the tagged cells (BoxLib's tags, coarsened by 2), over the parents of the box's cells. The axes stay,
+    /// and the box begins in an even column and row. After `NoMemory` the set, which is only read, is as before.
+    pub fn coarsened(&self) -> Result<Tags, NoMemory>
+        requires { IsEvenCorner self.now.bx.lo }
+        ensures in_box { IfOk result (λ t. t.bx ≡ parents_of self.now.bx) }
+        ensures axes { IfOk result (λ t. (t.wrap_x ≡ self.now.wrap_x) × (t.wrap_y ≡ self.now.wrap_y)) }
+        ensures cells { IfOk result (λ t. (c : Cell) → has t c ≡ has_child_where (has self.now) c) }
+    {
+        let alloc = *self.words.allocator();
+        let bx = self.bx.coarsen2();
+        let mut coarse = Tags::make(alloc, bx, self.wrap_x, self.wrap_y)?;
+        coarsen::coarsen_box(&self.words, &self.bx, &mut coarse.words, &bx);
+        Ok(coarse)
     }
 
     /// Grows the set by `n` cells on all sides, at the corners too: past the end of a periodic axis it goes on at the

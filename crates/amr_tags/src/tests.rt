@@ -1,10 +1,12 @@
-ghost use Rattle.amr_box.specs.Cells.{IsNear};
+ghost use Rattle.std.specs.Prelude.{◌≡◌, pos};
+ghost use Rattle.amr_box.specs.Cells.{IsNear, cell};
 
 use super::*;
 
 /// The box from (0, 0) to (129, 1): two rows of three words.
 fn two_rows() -> Bx
-    ensures { IsNear result }
+    ensures near { IsNear result }
+    ensures low { result.lo ≡ cell (pos 0) (pos 0) }
 {
     let lo = Cell { x: 0, y: 0 };
     let hi = Cell { x: 129, y: 1 };
@@ -20,7 +22,9 @@ fn greatest() -> Bx
     Bx::try_new(lo, hi).unwrap()
 }
 
-fn tag(tags: &mut Tags, c: Cell) {
+fn tag(tags: &mut Tags, c: Cell)
+    ensures { tags.new.bx ≡ tags.old.bx }
+{
     if tags.bx().holds(c) {
         tags.set(c);
     }
@@ -137,5 +141,21 @@ fn tags_of_the_greatest_domain_grow_past_its_ends(rt: HostRuntime) -> Result<(),
     let mut same = tags.copy()?;
     same.set_in(whole);
     assert_eq!(rt; same.count_in(whole), 4096 * 4096);
+    Ok(())
+}
+
+#[test]
+fn sets_join_and_parents_are_tagged(rt: HostRuntime) -> Result<(), NoMemory> {
+    let whole = two_rows();
+    let mut tags = Tags::make(rt.alloc(), whole, false, false)?;
+    let mut others = Tags::make(rt.alloc(), whole, false, false)?;
+    tag(&mut tags, Cell { x: 3, y: 1 });
+    tag(&mut others, Cell { x: 128, y: 0 });
+    tags.join(&others);
+    let coarse = tags.coarsened()?;
+    assert_eq!(rt; coarse.bx(), whole.coarsen2());
+    for x in 0..65 {
+        assert_eq!(rt; coarse.has(Cell { x, y: 0 }), x == 1 || x == 64);
+    }
     Ok(())
 }
