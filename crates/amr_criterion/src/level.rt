@@ -4,8 +4,7 @@ ghost use Rattle.std.specs.Prelude.{◌≡◌, ◌<◌, IfOk, OnErr, OnOk, map};
 ghost use Rattle.std.specs.List.{All, AllZip};
 ghost use Rattle.std.specs.Option.{option_copied};
 ghost use Rattle.amr_box.specs.declared.Cell.{Cell};
-ghost use Rattle.amr_box.specs.Cells.{IsNear};
-ghost use Rattle.amr_def.specs.Domain.{domain, domain_box, domain_of};
+ghost use Rattle.amr_def.specs.Domain.{domain, domain_box};
 ghost use Rattle.amr_def.specs.Facts.{IsLevel};
 ghost use Rattle.amr_def.specs.Tags.{is_tagged_by};
 ghost use Rattle.amr_ghost.specs.Frames.{HasGhostMarks, HasGhostValues, old_masses};
@@ -15,26 +14,13 @@ ghost use Rattle.amr_tags.specs.TagSets.{has};
 ghost use Rattle.amr_criterion.specs.Pairs.{IsJoined};
 
 use crate::patches::tag_patches;
-use amr_box::{Bx, Cell};
 use amr_causes::NoMemory;
 use amr_def::{Dom, Problem};
 use amr_ghost::fill_in_order;
+use amr_nest::domain_box;
 use amr_patch::Level;
 use amr_tags::Tags;
 use std::alloc::Global;
-
-/// The domain as a box.
-#[tactic(auto, using(amr_nest::proofs::Sizes::two_doubled))]
-fn whole_box(dom: &Dom) -> Bx
-    ensures value { result ≡ domain_box (domain_of dom.now) }
-    ensures near { IsNear result }
-{
-    let hi = Cell {
-        x: dom.columns() as i32 - 1,
-        y: dom.rows() as i32 - 1,
-    };
-    Bx::try_new(Cell { x: 0, y: 0 }, hi).unwrap()
-}
 
 /// Tags the cells of a level that are to be refined, and fills the frames of its patches.
 fn tag_level(tags: &mut Tags, p: &Problem, l: u32, level: &mut Level, coarse: Option<&Level>)
@@ -84,7 +70,7 @@ pub fn tags(
     ensures refused { OnErr result (level.new ≡ level.old) }
 {
     let dom = p.domain(l);
-    let mut tags = Tags::make(alloc, whole_box(&dom), dom.wrap_x, dom.wrap_y)?;
+    let mut tags = Tags::make(alloc, domain_box(&dom), dom.wrap_x, dom.wrap_y)?;
     tag_level(&mut tags, p, l, level, coarse);
     Ok(tags)
 }

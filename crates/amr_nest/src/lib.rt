@@ -3,6 +3,7 @@
 //!
 //! - `project`: the cells that have to be covered so that the boxes two levels above are nested.
 //! - `nested`: whether the boxes of a level are nested in those of the level below.
+//! - `domain_box`: the domain of a level as a box.
 #![tactic(auto)]
 
 mod nesting;
@@ -13,3 +14,4 @@ mod tests;
 
 pub use nesting::nested;
 pub use projection::project;
+pub use reach::domain_box;

@@ -48,7 +48,7 @@ pub fn parents(b: &Bx, dom: &Dom) -> Bx
     Bx::try_new(lo, hi).unwrap()
 }
 
-/// The domain as a box.
+/// The domain as a box: its corners lie from 0 to 4095.
 #[tactic(auto, using(crate::proofs::Sizes::two_doubled))]
 pub fn domain_box(dom: &Dom) -> Bx
     ensures value { result ≡ domain_box (domain_of dom.now) }

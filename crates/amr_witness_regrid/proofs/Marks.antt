@@ -1,15 +1,12 @@
 -- Tags marked one by one, and the list of the cells that a set has.
 use Rattle.std.proofs.Common.{◌≡◌, ℕ, ◌+◌, ◌<◌, Bool, true, false, ◌&&◌, ◌||◌, refl, sym, ap, ◌∙◌, List, [], ◌∷◌, length, take, get_or}
-use Rattle.std.specs.List.{filter, list_any}
+use Rattle.std.specs.List.{list_any}
 use Rattle.std.proofs.lemmas.List.Folds.{list_any_more}
-use Rattle.amr_cluster.proofs.Rounds.{filter_same}
 use Rattle.amr_box.specs.declared.Cell.{Cell}
 use Rattle.amr_box.specs.Cells.{cells_of, Extent, holds}
 use Rattle.amr_box.proofs.CellLists.{among_cells_of}
-use Rattle.amr_def.proofs.ClusterLaws.{Each}
 use Rattle.amr_def.proofs.Subcycle.{bool_cases, is_false}
 use Rattle.amr_box.proofs.CellEquality.{cell_itself, cell_same, coordinates_itself, coordinates_same, is_cell}
-use Rattle.amr_laws.proofs.CellSets.{each_held}
 use Rattle.amr_tags.specs.TagSets.{same_cell}
 use Rattle.amr_witness.proofs.MapLaws.{apart}
 use Rattle.amr_witness_regrid.proofs.Filled.{among}
@@ -49,10 +46,3 @@ marks f (c ∷ cs) d =
 
 pub marked_box : (f : Cell → Bool) (b : Extent) (d : Cell) → marked f (cells_of b) d ≡ (holds b d && f d)
 marked_box f b d = marks f (cells_of b) d ∙ ap (λ (t : Bool). t && f d) (among_cells_of b d)
-
-pub filter_box : (f g : Cell → Bool) (b : Extent) → ((c : Cell) → holds b c ≡ true → f c ≡ g c) → filter f (cells_of b) ≡ filter g (cells_of b)
-filter_box f g b same = filter_same f g (cells_of b) (each_from (cells_of b) (each_held b))
-  where
-    each_from : (cs : List Cell) → Each (λ q. holds b q ≡ true) cs → Each (λ c. f c ≡ g c) cs
-    each_from [] e = tt
-    each_from (c ∷ cs) e = (same c e.0, each_from cs e.1)

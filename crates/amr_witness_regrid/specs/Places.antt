@@ -16,13 +16,6 @@ pub record IsUpTo (n : ℕ) (c : Cell) : Type 0 where
   pub south : neg_ℤ (pos n) ≤ℤ c.y
   pub north : c.y ≤ℤ pos n
 
--- a box whose corners lie from 0 to 4096
-pub record IsLow (b : Extent) : Type 0 where
-  pub west : pos 0 ≤ℤ b.lo.x
-  pub east : b.hi.x ≤ℤ pos 4096
-  pub south : pos 0 ≤ℤ b.lo.y
-  pub north : b.hi.y ≤ℤ pos 4096
-
 abbrev pub cell_in : Extent → ℕ → ℕ → Cell
 cell_in b i j = cell (b.lo.x +ℤ pos i) (b.lo.y +ℤ pos j)
 

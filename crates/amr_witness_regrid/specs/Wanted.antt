@@ -4,12 +4,13 @@ use Rattle.std.specs.Global.{Vec}
 use Rattle.amr_box.specs.declared.Cell.{Cell}
 use Rattle.amr_box.specs.Cells.{Extent}
 use Rattle.amr_def.specs.declared.problem.Problem.{Problem}
-use Rattle.amr_def.specs.Domain.{Domain, domain, home_cell, in_domain, moved, refined, in_blocks, has_cell_where, cells_where}
+use Rattle.amr_def.specs.Domain.{domain, home_cell, in_domain, moved, refined, has_cell_where, cells_where}
 use Rattle.amr_def.specs.State.{Masses, State}
 use Rattle.amr_def.specs.Value.{value_at}
 use Rattle.amr_def.specs.Tags.{differs_by, is_grown, is_tagged_by}
 use Rattle.amr_def.specs.NewBoxes.{block_side, is_projected}
 use Rattle.amr_def.specs.Cluster.{cluster}
+use Rattle.amr_regrid.specs.Blocks.{blocks_of}
 use Rattle.amr_witness.specs.declared.PlainLevel.{PlainLevel}
 use Rattle.amr_witness.specs.Maps.{levels_of}
 
@@ -20,10 +21,6 @@ is_steep p l m coarse c o =
 
 abbrev pub is_wanted_by : Problem → ℕ → Masses → Masses → List Extent → Cell → Bool
 is_wanted_by p l m coarse finer c = is_grown p l (is_tagged_by p l m coarse) c || is_projected (domain p (l + 1)) finer c
-
--- the domain of a level in blocks
-abbrev pub blocks_of : Problem → ℕ → Domain
-blocks_of p l = in_blocks (block_side p) (domain p l)
 
 abbrev pub is_wanted_block : Problem → ℕ → Masses → Masses → List Extent → Cell → Bool
 is_wanted_block p l m coarse finer = has_cell_where (block_side p) (is_wanted_by p l m coarse finer)

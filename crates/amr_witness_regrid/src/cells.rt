@@ -5,7 +5,8 @@ ghost use Rattle.std.specs.Int.{int_rem_euclid};
 ghost use Rattle.amr_box.specs.Cells.{IsNear, cells_of, child, extent, has_child_where, height, width};
 ghost use Rattle.amr_def.specs.Domain.{domain, home_cell, moved, refined, square, wrapped};
 ghost use Rattle.amr_def.specs.State.{in_boxes};
-ghost use Rattle.amr_witness_regrid.specs.Places.{AreOffsets, IsLow, IsUpTo, cell_in, row_of};
+ghost use Rattle.amr_regrid.specs.Blocks.{IsLow};
+ghost use Rattle.amr_witness_regrid.specs.Places.{AreOffsets, IsUpTo, cell_in, row_of};
 
 use amr_box::{Bx, Cell};
 use amr_causes::NoMemory;

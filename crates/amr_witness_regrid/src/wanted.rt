@@ -9,8 +9,9 @@ ghost use Rattle.amr_def.specs.State.{in_boxes};
 ghost use Rattle.amr_def.specs.NewBoxes.{is_projected};
 ghost use Rattle.amr_tags.specs.TagSets.{has, same_cell};
 ghost use Rattle.amr_witness.specs.Maps.{masses_of, old_of};
-ghost use Rattle.amr_witness_regrid.specs.Places.{AreOffsets, HasCellsInside, IsLow, IsUpTo};
-ghost use Rattle.amr_witness_regrid.specs.Wanted.{blocks_of, boxes_over, is_wanted_block, is_wanted_by};
+ghost use Rattle.amr_witness_regrid.specs.Places.{AreOffsets, HasCellsInside, IsUpTo};
+ghost use Rattle.amr_regrid.specs.Blocks.{IsLow, blocks_of};
+ghost use Rattle.amr_witness_regrid.specs.Wanted.{boxes_over, is_wanted_block, is_wanted_by};
 
 use crate::cells::{Offsets, cells_of, child, has_child_in, moved, refined, single};
 use crate::tagged::{LevelMasses, is_grown};

@@ -4,7 +4,7 @@ use Rattle.std.proofs.lemmas.List.{map_more, take_all}
 use Rattle.std.proofs.lemmas.List.Elements.{All-append}
 use Rattle.amr_box.specs.Cells.{Extent, IsNear}
 use Rattle.amr_def.specs.Domain.{refined}
-use Rattle.amr_witness_regrid.specs.Places.{IsLow}
+use Rattle.amr_regrid.specs.Blocks.{IsLow}
 use Rattle.amr_witness_regrid.proofs.wanted.all_refined.Goals as goal
 
 one_near : (b : Extent) → IsNear b → All IsNear (b ∷ [])

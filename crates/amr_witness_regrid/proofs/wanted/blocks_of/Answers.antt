@@ -3,9 +3,10 @@ use Rattle.std.proofs.lemmas.Int.{ints}
 use Rattle.std.proofs.Math.Nat.{div-le_self}
 use Rattle.amr_box.specs.Cells.{IsNear}
 use Rattle.amr_def.specs.NewBoxes.{block_side}
-use Rattle.amr_witness_regrid.specs.Wanted.{blocks_of}
-use Rattle.amr_witness_regrid.proofs.BlockPlaces.{columns_few, columns_some, rows_few, rows_some, side_some}
+use Rattle.amr_regrid.proofs.BlockPlaces.{columns_few, rows_few}
+use Rattle.amr_witness_regrid.proofs.BlockPlaces.{columns_some, rows_some, side_some}
 use Rattle.amr_witness_regrid.proofs.CellRows.{corners_are}
+use Rattle.amr_regrid.specs.Blocks.{blocks_of}
 use Rattle.amr_witness_regrid.proofs.wanted.blocks_of.Goals as goal
 
 pub nonzero_div-columns : goal.nonzero_div-columns

@@ -6,10 +6,11 @@ use Rattle.amr_def.specs.Domain.{domain_box, refined}
 use Rattle.amr_def.specs.Cluster.{cluster}
 use Rattle.amr_tags.specs.TagSets.{has}
 use Rattle.amr_witness.specs.Maps.{masses_of, old_of}
-use Rattle.amr_witness_regrid.specs.Places.{IsLow}
-use Rattle.amr_witness_regrid.specs.Wanted.{blocks_of, is_wanted_block}
-use Rattle.amr_witness_regrid.proofs.BlockPlaces.{blocking_few, blocking_some, clusters_low, columns_few, fine, rows_few}
-use Rattle.amr_witness_regrid.proofs.Marks.{filter_box}
+use Rattle.amr_witness_regrid.specs.Wanted.{is_wanted_block}
+use Rattle.amr_regrid.proofs.BlockPlaces.{clusters_low, columns_few, rows_few}
+use Rattle.amr_witness_regrid.proofs.BlockPlaces.{blocking_few, blocking_some, fine}
+use Rattle.amr_regrid.proofs.CellBlocks.{filter_box}
+use Rattle.amr_regrid.specs.Blocks.{IsLow, blocks_of}
 use Rattle.amr_witness_regrid.proofs.wanted.boxes_over.Goals as goal
 
 pub all_refined-requires-clause-some : goal.all_refined-requires-clause-some

@@ -4,9 +4,10 @@ use Rattle.amr_box.specs.Cells.{cells_of}
 use Rattle.amr_def.specs.Domain.{refined}
 use Rattle.amr_def.specs.NewBoxes.{block_side}
 use Rattle.amr_witness.specs.Maps.{masses_of, old_of}
-use Rattle.amr_witness_regrid.specs.Places.{IsLow, IsUpTo}
+use Rattle.amr_witness_regrid.specs.Places.{IsUpTo}
 use Rattle.amr_witness_regrid.specs.Wanted.{is_wanted_by}
 use Rattle.amr_witness_regrid.proofs.BlockPlaces.{block_cells, block_low, fine, side_few, side_some}
+use Rattle.amr_regrid.specs.Blocks.{IsLow}
 use Rattle.amr_witness_regrid.proofs.wanted.is_wanted_block.Goals as goal
 
 pub refined-requires-clause-some : goal.refined-requires-clause-some

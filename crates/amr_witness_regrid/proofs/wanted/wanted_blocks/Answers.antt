@@ -7,10 +7,11 @@ use Rattle.amr_def.proofs.ClusterLaws.{Each}
 use Rattle.amr_laws.proofs.CellSets.{each_held}
 use Rattle.amr_tags.specs.TagSets.{has}
 use Rattle.amr_witness.specs.Maps.{masses_of, old_of}
-use Rattle.amr_witness_regrid.specs.Wanted.{blocks_of, is_wanted_block}
+use Rattle.amr_witness_regrid.specs.Wanted.{is_wanted_block}
 use Rattle.amr_witness_regrid.proofs.BlockPlaces.{fine}
 use Rattle.amr_witness_regrid.proofs.Marks.{mark_more, marked, marked_box}
 use Rattle.amr_witness_regrid.proofs.Near.{each_get}
+use Rattle.amr_regrid.specs.Blocks.{blocks_of}
 use Rattle.amr_witness_regrid.proofs.wanted.wanted_blocks.Goals as goal
 
 pub blocks_of-whole-requires : goal.blocks_of-whole-requires

@@ -4,7 +4,8 @@ use Rattle.amr_box.specs.declared.Cell.{Cell}
 use Rattle.amr_def.specs.Domain.{domain_box}
 use Rattle.amr_tags.specs.TagSets.{has, same_cell}
 use Rattle.amr_witness.specs.Maps.{masses_of, old_of}
-use Rattle.amr_witness_regrid.specs.Wanted.{blocks_of, is_wanted_block}
+use Rattle.amr_witness_regrid.specs.Wanted.{is_wanted_block}
+use Rattle.amr_regrid.specs.Blocks.{blocks_of}
 use Rattle.amr_witness_regrid.proofs.wanted.wanted_blocks.Given as goal
 
 abbrev pub invariant-loop-b : goal.invariant-loop-b

@@ -1,0 +1,90 @@
+-- The levels of a sound state, and those that a regrid leaves.
+use Rattle.std.proofs.Common.{◌≡◌, ℕ, zero, suc, ◌+◌, ◌<◌, ◌≤◌, refl, sym, ap, subst, ◌∙◌, arith, List, [], ◌∷◌, length, map}
+use Rattle.std.specs.Prelude.{min, slice_index_or}
+use Rattle.std.specs.Global.{Vec}
+use Rattle.std.specs.List.{All}
+use Rattle.std.proofs.lemmas.List.{get_or_default}
+use Rattle.amr_box.specs.Cells.{Extent}
+use Rattle.amr_def.specs.declared.problem.Problem.{Problem}
+use Rattle.amr_def.specs.Domain.{domain, domain_box}
+use Rattle.amr_def.specs.Facts.{IsLevel}
+use Rattle.amr_def.specs.NewBoxes.{new_boxes}
+use Rattle.amr_def.specs.Regrid.{new_level_count}
+use Rattle.amr_def.specs.State as defined
+use Rattle.amr_def.specs.State.{level_at, no_level}
+use Rattle.amr_def.specs.Tags.{is_tagged}
+use Rattle.amr_laws.proofs.SoundRegrid.{new_boxes_count}
+use Rattle.amr_patch.specs.declared.levels.Level.{Level}
+use Rattle.amr_patch.specs.Levels.{level_of}
+use Rattle.amr_regrid.specs.declared.masses.Remade.{Remade}
+use Rattle.amr_regrid.specs.declared.masses.Remade.TheVariants.{Kept, Made}
+use Rattle.amr_regrid.specs.Outlines.{IsChopped, IsSoundWith, lists_in, outlines, regridded_boxes, with_levels}
+use Rattle.amr_regrid.specs.Remade.{IsChoppedIfMade, IsFilled, remade_levels}
+use Rattle.amr_regrid.proofs.OutlineLaws.{same_levels}
+
+pub level_count : (ks : List Level) → length (map level_of ks) ≡ length ks
+level_count [] = refl
+level_count (k ∷ ks) = ap suc (level_count ks)
+
+list_count : (bs : List (Vec Extent)) → length (lists_in bs) ≡ length bs
+list_count [] = refl
+list_count (b ∷ bs) = ap suc (list_count bs)
+
+module _ (p : Problem) (ks : List Level) (sound : IsSoundWith p ks) where
+  pub many : length sound.state.levels ≡ length ks
+  many = ap length sound.levels_are ∙ level_count ks
+
+  pub few_levels : length ks ≤ 5
+  few_levels = omega (arith, many, sound.sound.few_levels, p.limits.greatest_max_level)
+
+  -- each level is one of its domain
+  pub each_level : (k : ℕ) → k < length ks → IsLevel p k (level_at (with_levels ks) k)
+  each_level k h = subst (λ (ls : List defined.Level). IsLevel p k (slice_index_or ls k no_level)) sound.levels_are (sound.sound.nested.each k (omega (arith, h, many)))
+
+  pub base_boxes : (level_at (with_levels ks) 0).boxes ≡ domain_box (domain p 0) ∷ []
+  base_boxes = subst (λ (ls : List defined.Level). (slice_index_or ls 0 no_level).boxes ≡ domain_box (domain p 0) ∷ []) sound.levels_are sound.sound.base
+
+  pub some_level : 0 < length ks
+  some_level = omega (arith, many, sound.sound.some_level)
+
+  module _ (base : Level) (olds : List Level) (parts : ks ≡ base ∷ olds) where
+    pub base_level : IsLevel p 0 (level_of base)
+    base_level = subst (λ (js : List Level). IsLevel p 0 (level_at (with_levels js) 0)) parts (each_level 0 some_level)
+
+    pub base_whole : (level_of base).boxes ≡ domain_box (domain p 0) ∷ []
+    base_whole = subst (λ (js : List Level). (level_at (with_levels js) 0).boxes ≡ domain_box (domain p 0) ∷ []) parts base_boxes
+
+    pub olds_filled : All IsFilled (map level_of olds)
+    olds_filled k d h =
+        let inside : suc k < length ks = (let e : length ks ≡ suc (length olds) = ap length parts in omega (arith, e, h, level_count olds)) in
+        let level : IsLevel p (suc k) (slice_index_or (map level_of olds) k no_level) = subst (λ (js : List Level). IsLevel p (suc k) (level_at (with_levels js) (suc k))) parts (each_level (suc k) inside) in
+        subst IsFilled (get_or_default (map level_of olds) k no_level d h) (record { at = level.filled })
+
+-- ---- levels that keep their outlines
+
+pub sound_stays : (p : Problem) (js ks : List Level) → outlines js ≡ outlines ks → IsSoundWith p ks → IsSoundWith p js
+sound_stays p js ks e s = record { state = s.state; levels_are = s.levels_are ∙ sym (same_levels js ks e); sound = s.sound }
+
+pub same_boxes : (p : Problem) (js ks : List Level) → outlines js ≡ outlines ks → regridded_boxes p ks ≡ regridded_boxes p js
+same_boxes p js ks e =
+    ap (λ (ls : List defined.Level). new_boxes p (is_tagged p (record { step = 0; rows = []; levels = ls })) (new_level_count p (record { step = 0; rows = []; levels = ls })) 0) (sym (same_levels js ks e))
+
+-- ---- how many there are
+
+pub few_remade : (p : Problem) (ks : List Level) (boxes : List (Vec Extent)) (rs : List Remade) → lists_in boxes ≡ regridded_boxes p ks → length rs ≤ length boxes → length rs + 1 ≤ length ks + 1
+few_remade p ks boxes rs is h =
+    let count : length (lists_in boxes) ≡ min (length (map level_of ks)) p.max_level = ap length is ∙ new_boxes_count p (is_tagged p (with_levels ks)) (new_level_count p (with_levels ks)) 0 in
+    omega (arith, count, list_count boxes, level_count ks, h)
+
+-- ---- patch boxes
+
+pub chopped_after : (max : ℕ) (ks : List Level) (rs : List Remade) → All (IsChopped max) ks → All (IsChoppedIfMade max) rs → All (IsChopped max) (remade_levels ks rs)
+unfolding remade_levels
+chopped_after max ks [] h m k d f = absurd (omega (arith, f))
+chopped_after max [] (Kept ∷ rs) h m k d f = chopped_after max [] rs h (λ i e g. m (suc i) e (omega (arith, g))) k d f
+chopped_after max [] (Made j ∷ rs) h m zero d f = m 0 (Made j) (omega arith)
+chopped_after max [] (Made j ∷ rs) h m (suc k) d f = chopped_after max [] rs h (λ i e g. m (suc i) e (omega (arith, g))) k d (omega (arith, f))
+chopped_after max (o ∷ os) (Kept ∷ rs) h m zero d f = h 0 o (omega arith)
+chopped_after max (o ∷ os) (Kept ∷ rs) h m (suc k) d f = chopped_after max os rs (λ i e g. h (suc i) e (omega (arith, g))) (λ i e g. m (suc i) e (omega (arith, g))) k d (omega (arith, f))
+chopped_after max (o ∷ os) (Made j ∷ rs) h m zero d f = m 0 (Made j) (omega arith)
+chopped_after max (o ∷ os) (Made j ∷ rs) h m (suc k) d f = chopped_after max os rs (λ i e g. h (suc i) e (omega (arith, g))) (λ i e g. m (suc i) e (omega (arith, g))) k d (omega (arith, f))

@@ -1,0 +1,13 @@
+pub mod BlockPlaces
+pub mod CellBlocks
+pub mod Gathered
+pub mod Placed
+pub mod Refilling
+pub mod Standing
+pub mod OutlineLaws
+pub mod ApartBoxes
+pub mod Remaking
+pub mod NewLists
+pub mod SameBoxes
+pub mod Bases
+pub mod MeshRegrids

@@ -1,0 +1,79 @@
+-- Levels of a list, by their outlines.
+use Rattle.std.proofs.Common.{◌≡◌, ℕ, zero, suc, ◌-◌, ◌<◌, refl, sym, ap, subst, ◌∙◌, arith, List, [], ◌∷◌, ◌++◌, length, map, set, take, get_or}
+use Rattle.std.specs.Prelude.{slice_index_or, slice_get}
+use Rattle.std.specs.declared.option.Option.{Option}
+use Rattle.std.specs.List.{All, flat_map}
+use Rattle.std.specs.List.Sorted.{IsPermutation}
+use Rattle.std.proofs.lemmas.List.{map-append}
+use Rattle.amr_boxlist.specs.Chopped.{chopped}
+use Rattle.amr_def.specs.State.{masses_below, no_level}
+use Rattle.amr_ghost.specs.Frames.{old_masses}
+use Rattle.amr_patch.specs.declared.levels.Level.{Level}
+use Rattle.amr_patch.specs.Levels.{level_of, patches_of}
+use Rattle.amr_patch.specs.Patches.{box}
+use Rattle.amr_regrid.specs.Outlines.{IsChopped, Outline, outline, outlines, with_levels}
+
+pub outline_is : (j k : Level) → level_of j ≡ level_of k → map box (patches_of j) ≡ map box (patches_of k) → outline j ≡ outline k
+outline_is j k levels boxes = λ i. record { level = levels i; patch_boxes = boxes i }
+
+-- levels that keep their outlines are the same levels
+levels_by : (ks : List Level) → map level_of ks ≡ map (λ (o : Outline). o.level) (outlines ks)
+levels_by [] = refl
+levels_by (k ∷ ks) = ap (λ t. level_of k ∷ t) (levels_by ks)
+
+pub same_levels : (js ks : List Level) → outlines js ≡ outlines ks → map level_of js ≡ map level_of ks
+same_levels js ks e = levels_by js ∙ ap (map (λ (o : Outline). o.level)) e ∙ sym (levels_by ks)
+
+pub same_count : (js ks : List Level) → outlines js ≡ outlines ks → length js ≡ length ks
+same_count js ks e = sym (many js) ∙ ap length e ∙ many ks
+  where
+    many : (ls : List Level) → length (outlines ls) ≡ length ls
+    many [] = refl
+    many (l ∷ ls) = ap suc (many ls)
+
+-- a level of a list
+pub level_at_is : (ks : List Level) (l : ℕ) (k : Level) → l < length ks → k ≡ get_or ks l k → slice_index_or (map level_of ks) l no_level ≡ level_of k
+level_at_is [] l k h e = absurd (omega (arith, h))
+level_at_is (x ∷ xs) zero k h e = ap level_of (sym e)
+level_at_is (x ∷ xs) (suc l) k h e = level_at_is xs l k (omega (arith, h)) e
+
+-- one level set in place of another
+pub outlines_set : (ks : List Level) (i : ℕ) (j k : Level) → i < length ks → k ≡ get_or ks i k → outline j ≡ outline k → outlines (set ks i j) ≡ outlines ks
+outlines_set [] i j k h e o = absurd (omega (arith, h))
+outlines_set (x ∷ xs) zero j k h e o = ap (λ t. t ∷ outlines xs) (o ∙ ap outline e)
+outlines_set (x ∷ xs) (suc i) j k h e o = ap (λ t. outline x ∷ t) (outlines_set xs i j k (omega (arith, h)) e o)
+
+pub outlines_append : (js ks js' ks' all : List Level) → outlines js' ≡ outlines js → outlines ks' ≡ outlines ks → all ≡ js ++ ks → outlines (js' ++ ks') ≡ outlines all
+outlines_append js ks js' ks' all e f parts =
+    map-append outline js' ks' ∙ (λ i. e i ++ f i) ∙ sym (map-append outline js ks) ∙ ap outlines (sym parts)
+
+-- the masses of the level below
+last_of : (ks : List Level) (l : ℕ) → suc l < length ks → old_masses (slice_get (take (suc l) ks) l) ≡ (slice_index_or (map level_of ks) l no_level).masses
+last_of [] l h = absurd (omega (arith, h))
+last_of (x ∷ xs) zero h = refl
+last_of (x ∷ xs) (suc l) h = last_of xs l (omega (arith, h))
+
+pub below_masses : (ks : List Level) (l : ℕ) (o : Option Level) → l < length ks → length (take l ks) ≡ l → o ≡ slice_get (take l ks) (length (take l ks) - 1) → old_masses o ≡ masses_below (with_levels ks) l
+below_masses ks zero o h n e = ap old_masses e
+below_masses ks (suc l) o h n e =
+    let last : length (take (suc l) ks) - 1 ≡ l = omega (arith, n) in
+    ap old_masses (e ∙ ap (slice_get (take (suc l) ks)) last) ∙ last_of ks l h
+
+-- ---- patch boxes
+
+chopped_by : (max : ℕ) (j k : Level) → outline j ≡ outline k → IsChopped max k → IsChopped max j
+chopped_by max j k e h = record { patches = subst (λ (o : Outline). IsPermutation (flat_map (chopped max) o.level.boxes) o.patch_boxes) (sym e) h.patches }
+
+pub all_chopped : (max : ℕ) (js ks : List Level) → outlines js ≡ outlines ks → All (IsChopped max) ks → All (IsChopped max) js
+all_chopped max [] ks e h i d fits = absurd (omega (arith, fits))
+all_chopped max (j ∷ js) [] e h i d fits = absurd (omega (arith, same_count (j ∷ js) [] e))
+all_chopped max (j ∷ js) (k ∷ ks) e h zero d fits = chopped_by max j k (ap (λ (os : List Outline). first os (outline j)) e) (h 0 d (omega arith))
+  where
+    first : List Outline → Outline → Outline
+    first [] o = o
+    first (x ∷ xs) o = x
+all_chopped max (j ∷ js) (k ∷ ks) e h (suc i) d fits = all_chopped max js ks (ap rest e) (λ m d' f. h (suc m) d' (omega (arith, f))) i d (omega (arith, fits))
+  where
+    rest : List Outline → List Outline
+    rest [] = []
+    rest (x ∷ xs) = xs

@@ -1,0 +1,35 @@
+use Rattle.std.proofs.Common.{◌∙◌, sym, ap, subst}
+use Rattle.std.specs.List.{All}
+use Rattle.amr_def.specs.Facts.{IsHeld, IsSound}
+use Rattle.amr_def.specs.State.{State}
+use Rattle.amr_laws.proofs.Held.{regrid-held}
+use Rattle.amr_laws.proofs.SoundRegrid.{regrid-sound}
+use Rattle.amr_patch.specs.Meshes.{state_of}
+use Rattle.amr_regrid.specs.Outlines.{IsChopped, outlines}
+use Rattle.amr_regrid.proofs.MeshRegrids.{as_before, is_regrid}
+use Rattle.amr_regrid.proofs.regrids.regrid.Goals as goal
+
+pub regrid_levels-requires : goal.regrid_levels-requires
+regrid_levels-requires c = record { state = state_of c.args.mesh.now; levels_are = sym c.take-rows.ensures.levels; sound = c.requires.sound }
+
+pub returns-in-Ok-clause-value : goal.returns-in-Ok-clause-value
+returns-in-Ok-clause-value c =
+    c.of.ensures.state ∙ is_regrid c.args.p.now (state_of c.args.mesh.now) c.take-rows.result.1.items c.regrid_levels.new.levels.items c.step-step.result c.take-rows.result.0.items c.step-step.ensures c.take-rows.ensures.rows c.take-rows.ensures.levels c.in-Ok.ensures.levels
+
+pub returns-in-Ok-clause-sound : goal.returns-in-Ok-clause-sound
+returns-in-Ok-clause-sound c = subst (λ (s : State). IsSound c.args.p.now s) (sym (returns-in-Ok-clause-value c)) (regrid-sound c.args.p.now (state_of c.args.mesh.now) c.requires.sound)
+
+pub returns-in-Ok-clause-held : goal.returns-in-Ok-clause-held
+returns-in-Ok-clause-held c = subst (λ (s : State). IsHeld c.args.p.now (state_of c.args.mesh.now) s) (sym (returns-in-Ok-clause-value c)) (regrid-held c.args.p.now (state_of c.args.mesh.now) c.requires.sound)
+
+pub returns-in-Ok-clause-patches : goal.returns-in-Ok-clause-patches
+returns-in-Ok-clause-patches c = λ h.
+    let max = c.args.p.now.max_grid_size in
+    subst (All (IsChopped max)) (sym c.of.ensures.levels) (c.in-Ok.ensures.chopped (subst (All (IsChopped max)) (sym c.take-rows.ensures.all) h))
+
+pub returns-in-Err-clause-refused : goal.returns-in-Err-clause-refused
+returns-in-Err-clause-refused c =
+    c.of-in-Err.ensures.state ∙ as_before (state_of c.args.mesh.now) c.take-rows.result.1.items c.regrid_levels.new.levels.items c.step-step.result c.take-rows.result.0.items c.step-step.ensures c.take-rows.ensures.rows c.take-rows.ensures.levels c.in-Err.ensures.refused
+
+pub returns-in-Err-clause-refused_patches : goal.returns-in-Err-clause-refused_patches
+returns-in-Err-clause-refused_patches c = ap outlines c.of-in-Err.ensures.levels ∙ c.in-Err.ensures.refused ∙ ap outlines c.take-rows.ensures.all

@@ -1,0 +1,13 @@
+//! Regrids (Berger and Colella 1989): new boxes above level 0, which cover the tags of a mesh and are nested, and the masses of
+//! their cells, kept or shared out.
+//!
+//! - [`regrid`]: a mesh regridded.
+#![tactic(auto)]
+
+mod blocks;
+mod boxes;
+mod levels;
+mod masses;
+mod regrids;
+
+pub use regrids::regrid;
