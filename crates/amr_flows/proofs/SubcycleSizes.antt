@@ -68,7 +68,7 @@ children_within n e Y x y h =
     let b = h (face Y (x +ℤ x +ℤ pos 1) (y +ℤ y)) in
     record { low = omega (arith, ints, a.low, b.low); high = omega (arith, ints, a.high, b.high) }
 
-children_size : (p : Problem) (l : ℕ) (fine : Masses) (e : Fluxes) (c : Cell) → ((f : Face) → unsigned_abs (e f) < 2 ^ 31) → unsigned_abs (net (child_flows p l fine e) c) < 2 ^ 34
+pub children_size : (p : Problem) (l : ℕ) (fine : Masses) (e : Fluxes) (c : Cell) → ((f : Face) → unsigned_abs (e f) < 2 ^ 31) → unsigned_abs (net (child_flows p l fine e) c) < 2 ^ 34
 unfolding child_flows
 children_size p l fine e c h = net_size (2 ^ 31 + 2 ^ 31) (child_flows p l fine e) c (λ f. cond_within _ (is_coarse_fine (domain p l) fine f) _ (children_within (2 ^ 31) e f.axis f.x f.y (λ g. within_from _ _ (h g))))
 

@@ -105,12 +105,12 @@ puts_rise own n (f ∷ fs) j k d h lt =
 
 -- ---- tasks
 
-at_task : (size : Sizes) (ts : List TaskLayout) (t : ℕ) (d : TaskLayout) → t < length ts → get_or (tasks_of size ts) t no_task ≡ posts_of (size t) (get_or ts t d)
+pub at_task : (size : Sizes) (ts : List TaskLayout) (t : ℕ) (d : TaskLayout) → t < length ts → get_or (tasks_of size ts) t no_task ≡ posts_of (size t) (get_or ts t d)
 at_task size [] t d lt = absurd (omega arith)
 at_task size (x ∷ xs) zero d lt = refl
 at_task size (x ∷ xs) (suc t) d lt = at_task (λ i. size (suc i)) xs t d (omega arith)
 
-task_count : (size : Sizes) (ts : List TaskLayout) → length (tasks_of size ts) ≡ length ts
+pub task_count : (size : Sizes) (ts : List TaskLayout) → length (tasks_of size ts) ≡ length ts
 task_count size [] = refl
 task_count size (x ∷ xs) = ap suc (task_count (λ i. size (suc i)) xs)
 
@@ -150,7 +150,7 @@ tasks_most size small w (t ∷ ts) =
     let r : total (added w) (map (post_of (size 0)) t.adds.items) + total (λ (t : Task). total (added w) t.adds) (tasks_of (λ i. size (suc i)) ts) ≤ 2 ^ 31 * (length (flows_in t.adds.items) + total (λ t. length (flows_in t.adds.items)) ts) = omega (arith, rest, here) in r
 
 -- a box has at most three flows for each face on its edges
-flows_few : (s : Around) (b : Extent) → length (flows_of s b) ≤ 3 * edge_count b
+pub flows_few : (s : Around) (b : Extent) → length (flows_of s b) ≤ 3 * edge_count b
 unfolding flows_of inflow_faces outflow_faces register_flows
 flows_few s b =
     let ins = passing (is_inflow_face s b) (edge_face b) (edge_count b) in

@@ -101,7 +101,7 @@ before s n z some = ap (wrapped s n) (minus (wrapped s n z)) ∙ wrapped_shift s
     minus : (z : ℤ) → z -ℤ pos 1 ≡ z +ℤ negsuc 0
     minus z = omega (arith, ints)
 
-low_home : (d : Domain) (a : Axis) (x y : ℤ) → HasSize d → home_cell d (low_cell (home_face d (face a x y))) ≡ home_cell d (low_cell (face a x y))
+pub low_home : (d : Domain) (a : Axis) (x y : ℤ) → HasSize d → home_cell d (low_cell (home_face d (face a x y))) ≡ home_cell d (low_cell (face a x y))
 low_home d X x y size = same_cell (before d.wrap_x d.columns x size.some_columns) (twice d.wrap_y d.rows y size.some_rows)
 low_home d Y x y size = same_cell (twice d.wrap_x d.columns x size.some_columns) (before d.wrap_y d.rows y size.some_rows)
 

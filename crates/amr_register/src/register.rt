@@ -96,6 +96,21 @@ impl Register {
         self.entries[k as usize]
     }
 
+    /// A register of the same cells with the same entries.
+    pub fn copy(&self, alloc: Global) -> Result<Register, NoMemory>
+        ensures cells { IfOk result (SameCells self.now) }
+        ensures entries { IfOk result (λ r. (c : Cell) → entry_in r c ≡ entry_in self.now c) }
+    {
+        let cells = Vec::from_slice(alloc, &self.cells)?;
+        let sides = Vec::from_slice(alloc, &self.sides)?;
+        let entries = Vec::from_slice(alloc, &self.entries)?;
+        Ok(Register {
+            cells,
+            sides,
+            entries,
+        })
+    }
+
     /// Takes away the plain flows through those coarse-fine edges that a patch of the level owns, by the patch's values before
     /// the step: an edge belongs to the patch that has the cell at its high side, so that over all patches each is taken away
     /// once. Entries lie between -2^62 and 2^62. It looks at the register cells in the rows of the patch and in the row below

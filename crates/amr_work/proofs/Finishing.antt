@@ -1,6 +1,6 @@
 -- A swept patch and the sizes that were read at its border.
 use Rattle.std.proofs.Common.{◌≡◌, ℕ, zero, suc, ◌+◌, ◌*◌, ◌/◌, ◌^◌, ◌<◌, ◌≤◌, Bool, true, false, ℤ, pos, negsuc, ◌+ℤ◌, ◌≤ℤ◌, ◌<ℤ◌, List, [], ◌∷◌, length, get_or, take, refl, sym, ap, ◌∙◌, subst, arith}
-use Rattle.std.specs.Prelude.{cond, neg_ℤ, slice_index, unsigned_abs}
+use Rattle.std.specs.Prelude.{◌≢◌, cond, neg_ℤ, slice_index, slice_index_or, unsigned_abs}
 use Rattle.std.specs.List.{All}
 use Rattle.std.proofs.lemmas.List.{get_or-take, length-take-le}
 use Rattle.std.proofs.lemmas.List.Elements.{All-append, All-get_or}
@@ -18,13 +18,12 @@ use Rattle.amr_flux.specs.Faces.{border_faces, border_place, flux_beside, fluxes
 use Rattle.amr_flux.specs.Rows.{signed}
 use Rattle.amr_flux.specs.Shares.{AreSmall}
 use Rattle.amr_flux.proofs.Shown.{border_of_box, border_placed, net_alike}
-use Rattle.amr_phase.specs.Plans.{PlanOf, planned_face}
-use Rattle.amr_work.specs.declared.work.Stage.TheVariants.{Swept, Finished}
+use Rattle.amr_work.specs.declared.work.Stage.TheVariants.{Finished}
 use Rattle.amr_work.specs.declared.work.Work.{Work}
-use Rattle.amr_work.specs.Ready.{HasBorderPlanned, IsReadyPiece}
+use Rattle.amr_work.specs.Ready.{IsReadyPiece}
 use Rattle.amr_work.specs.Works.{mass_after, plain}
 use Rattle.amr_work.proofs.Small.{beside_small}
-use Rattle.amr_work.proofs.Standing.{after_finished, after_swept}
+use Rattle.amr_work.proofs.Standing.{after_finished, after_unfinished}
 
 -- ---- border faces
 
@@ -43,7 +42,7 @@ passing_all test g (suc n) = All-append (λ f. test f ≡ true) (passing test g 
     last true e = single test (g n) e
     last false e = none test
 
-border_all : (q : Patch) → All (λ f. is_border q f ≡ true) (border_faces q)
+pub border_all : (q : Patch) → All (λ f. is_border q f ≡ true) (border_faces q)
 unfolding border_faces
 border_all q = All-append (λ f. is_border q f ≡ true) (passing (is_border q) (x_end q.bx) (height q.bx)) _ (passing_all (is_border q) (x_end q.bx) (height q.bx)) (passing_all (is_border q) (y_end q.bx) (width q.bx))
 
@@ -67,7 +66,8 @@ own_beside p l q border f e = ap (λ b. cond b (signed (courant p l f) (slice_in
 
 -- ---- with the sizes read
 
-module _ (plan : PlanOf) (w : Work) (ready : IsReadyPiece w) (planned : HasBorderPlanned plan w) where
+-- what stands at each place of the border: what flows there by the values, and 1
+module _ (word : ℕ → ℕ) (w : Work) (ready : IsReadyPiece w) (planned : (k : ℕ) (f : Face) → k < length w.workspace.layout.border.items → word (slice_index w.workspace.layout.border.items k) ≡ unsigned_abs (plain w (slice_index_or (border_faces w.patch) k f)) + 1) where
   abbrev places : List ℕ
   places = w.workspace.layout.border.items
 
@@ -79,17 +79,17 @@ module _ (plan : PlanOf) (w : Work) (ready : IsReadyPiece w) (planned : HasBorde
       let e = All-get_or (λ f. is_border w.patch f ≡ true) (border_faces w.patch) k no_face (omega (arith, lt, ready.border)) (border_all w.patch) in
       beside_small w.problem.value w.level w.patch ready.small (get_or (border_faces w.patch) k no_face) (border_of_box w.patch (get_or (border_faces w.patch) k no_face) e)
 
-  pub planned_small : (k : ℕ) → k < length places → planned_face plan (slice_index places k) ≤ 2 ^ 31
-  planned_small k lt = omega (arith, planned.sizes k no_face lt, face_small k lt)
+  pub planned_small : (k : ℕ) → k < length places → word (slice_index places k) ≤ 2 ^ 31
+  planned_small k lt = omega (arith, planned k no_face lt, face_small k lt)
 
-  module _ (sizes : List ℕ) (long : length places ≤ length sizes) (read : (k : ℕ) → k < length places → planned_face plan (slice_index places k) ≡ slice_index sizes k + 1) where
+  module _ (sizes : List ℕ) (long : length places ≤ length sizes) (read : (k : ℕ) → k < length places → word (slice_index places k) ≡ slice_index sizes k + 1) where
     abbrev border : List ℕ
     border = take (length places) sizes
 
     size_is : (k : ℕ) → k < length places → slice_index border k ≡ unsigned_abs (plain w (get_or (border_faces w.patch) k no_face))
     size_is k lt =
         let same : slice_index border k ≡ slice_index sizes k = get_or-take (length places) sizes k 0 lt in
-        omega (arith, same, read k lt, planned.sizes k no_face lt)
+        omega (arith, same, read k lt, planned k no_face lt)
 
     border_small : AreSmall border
     border_small = record {
@@ -126,5 +126,5 @@ module _ (plan : PlanOf) (w : Work) (ready : IsReadyPiece w) (planned : HasBorde
       pub fits_given : (c : Cell) → holds (box w.patch) c ≡ true → (pos (mass_in w.patch c) +ℤ net (fluxes_with p w.level w.patch given) c) <ℤ pos (2 ^ 32)
       fits_given c h = subst (λ z. z <ℤ pos (2 ^ 32)) (sym (sum_given c h)) (ready.fits c h)
 
-      pub finished_after : (v : Work) → w.stage ≡ Swept → v.stage ≡ Finished → (c : Cell) → holds (box w.patch) c ≡ true → pos (mass_in v.patch c) ≡ pos (mass_in w.patch c) +ℤ net (fluxes_with p w.level w.patch given) c → mass_after v c ≡ mass_after w c
-      finished_after v swept finished c h made = after_finished v finished c ∙ made ∙ sum_given c h ∙ sym (after_swept w swept c)
+      pub finished_after : (v : Work) → w.stage ≢ Finished → v.stage ≡ Finished → (c : Cell) → holds (box w.patch) c ≡ true → pos (mass_in v.patch c) ≡ pos (mass_in w.patch c) +ℤ net (fluxes_with p w.level w.patch given) c → mass_after v c ≡ mass_after w c
+      finished_after v unfinished finished c h made = after_finished v finished c ∙ made ∙ sum_given c h ∙ sym (after_unfinished w unfinished c)

@@ -21,15 +21,15 @@ use Rattle.amr_work.specs.Works.{StandsFor, add_of, adds_of_work, plain, put_of,
 use Rattle.amr_work.proofs.Small.{beside_small}
 use Rattle.amr_work.proofs.Standing.{through_raw, through_swept}
 
-map_same : {X Y : Type 0} (f g : X → Y) (xs : List X) → ((k : ℕ) (d : X) → k < length xs → f (get_or xs k d) ≡ g (get_or xs k d)) → map f xs ≡ map g xs
+pub map_same : {X Y : Type 0} (f g : X → Y) (xs : List X) → ((k : ℕ) (d : X) → k < length xs → f (get_or xs k d) ≡ g (get_or xs k d)) → map f xs ≡ map g xs
 map_same f g [] h = refl
 map_same f g (x ∷ xs) h = let first = h 0 x (omega arith) in let rest = map_same f g xs (λ k d lt. h (suc k) d (omega (arith, lt))) in λ t. first t ∷ rest t
 
-total_same : {X : Type 0} (f g : X → ℕ) (xs : List X) → ((k : ℕ) (d : X) → k < length xs → f (get_or xs k d) ≡ g (get_or xs k d)) → total f xs ≡ total g xs
+pub total_same : {X : Type 0} (f g : X → ℕ) (xs : List X) → ((k : ℕ) (d : X) → k < length xs → f (get_or xs k d) ≡ g (get_or xs k d)) → total f xs ≡ total g xs
 total_same f g [] h = refl
 total_same f g (x ∷ xs) h = let first = h 0 x (omega arith) in let rest = total_same f g xs (λ k d lt. h (suc k) d (omega (arith, lt))) in λ t. first t + rest t
 
-own_face : (q : Patch) (f : Face) → owns q f ≡ true → is_face_of (box q) f ≡ true
+pub own_face : (q : Patch) (f : Face) → owns q f ≡ true → is_face_of (box q) f ≡ true
 unfolding owns
 own_face q f e = first (is_face_of (box q) f) _ e
   where

@@ -7,6 +7,8 @@ use Rattle.amr_def.specs.Flux.{Fluxes, courant, flow, high_cell, low_cell, net}
 use Rattle.amr_patch.specs.declared.patches.Patch.{Patch}
 use Rattle.amr_patch.specs.Patches.{SameValues, flux_in, mass_in, value_in}
 use Rattle.amr_flux.specs.Faces.{flux_beside}
+use Rattle.std.specs.Prelude.{◌≢◌}
+use Rattle.amr_work.specs.declared.work.Stage.{Stage}
 use Rattle.amr_work.specs.declared.work.Stage.TheVariants.{Raw, Swept, Finished}
 use Rattle.amr_work.specs.declared.work.Work.{Work}
 use Rattle.amr_work.specs.Works.{mass_after, plain, through}
@@ -44,6 +46,14 @@ after_swept w e c = rw e refl
 pub after_finished : (w : Work) → w.stage ≡ Finished → (c : Cell) → mass_after w c ≡ pos (mass_in w.patch c)
 unfolding mass_after
 after_finished w e c = rw e refl
+
+pub after_unfinished : (w : Work) → w.stage ≢ Finished → (c : Cell) → mass_after w c ≡ pos (mass_in w.patch c) +ℤ net (plain w) c
+after_unfinished w un c = from w.stage refl
+  where
+    from : (s : Stage) → w.stage ≡ s → mass_after w c ≡ pos (mass_in w.patch c) +ℤ net (plain w) c
+    from Raw e = after_raw w e c
+    from Swept e = after_swept w e c
+    from Finished e = absurd (un e)
 
 -- where a raw patch is swept its masses to come stay
 pub swept_after : (w v : Work) → w.stage ≡ Raw → v.stage ≡ Swept → v.level ≡ w.level → v.problem.value ≡ w.problem.value → SameValues w.patch v.patch → (c : Cell) → mass_after v c ≡ mass_after w c

@@ -12,6 +12,7 @@ use Rattle.amr_patch.specs.Patches.{box, mass_in, value_in}
 use Rattle.amr_flux.specs.Faces.{IsInDomain, border_faces, in_reach, owns}
 use Rattle.amr_flux.specs.Rooms.{widest}
 use Rattle.amr_phase.specs.Plans.{PlanOf, planned_face}
+use Rattle.amr_board.specs.Ended.{EndedOf, face_of}
 use Rattle.amr_layout.specs.declared.TaskLayout.{TaskLayout}
 use Rattle.amr_def.specs.declared.problem.Problem.{Problem}
 use Rattle.amr_work.specs.declared.work.Stage.TheVariants.{Raw}
@@ -45,6 +46,12 @@ pub record HasBorderPlanned (plan : PlanOf) (w : Work) : Type 0 where
   pub places : All (λ place. place < plan.places) w.workspace.layout.border.items
   pub sizes : (k : ℕ) (f : Face) → k < length w.workspace.layout.border.items
       → planned_face plan (slice_index w.workspace.layout.border.items k) ≡ unsigned_abs (plain w (slice_index_or (border_faces w.patch) k f)) + 1
+
+-- and so has a board that is closed
+pub record HasBorderEnded (o : EndedOf Work) (w : Work) : Type 0 where
+  pub places : All (λ place. place < o.places) w.workspace.layout.border.items
+  pub sizes : (k : ℕ) (f : Face) → k < length w.workspace.layout.border.items
+      → face_of o (slice_index w.workspace.layout.border.items k) ≡ unsigned_abs (plain w (slice_index_or (border_faces w.patch) k f)) + 1
 
 -- a raw piece of this problem that is ready, whose border the plan has
 pub record MayBegin (p : Problem) (plan : PlanOf) (w : Work) : Type 0 where

@@ -3,11 +3,13 @@
 #![tactic(auto)]
 
 mod border;
+mod closing;
 mod job;
 mod posts;
 mod sweeping;
 mod work;
 
 pub use border::finish;
+pub use closing::complete;
 pub use job::{LevelWork, work_level};
 pub use work::{Stage, Work, Workspace};

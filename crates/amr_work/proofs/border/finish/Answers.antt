@@ -1,13 +1,18 @@
 use Rattle.std.proofs.Common.{◌≡◌, ◌≤◌, ◌^◌, ◌<◌, ◌+◌, ℕ, refl, sym, ap, ◌∙◌, subst, length, take, arith}
-use Rattle.std.specs.Prelude.{slice_index}
+use Rattle.std.specs.Prelude.{◌≢◌, slice_index}
 use Rattle.std.proofs.lemmas.List.{with_items_is}
 use Rattle.amr_phase.specs.Plans.{planned_face}
+use Rattle.amr_work.specs.declared.work.Stage.TheVariants.{Swept, Finished}
+use Rattle.amr_work.specs.declared.work.Work.{Work}
 use Rattle.amr_work.proofs.Finishing.{finished_after, fits_given, given_small, kept_given, planned_small}
 use Rattle.amr_work.proofs.Standing.{after_swept, through_finished, through_swept}
 use Rattle.amr_work.proofs.border.finish.Goals as goal
 
 pub read_border-requires-clause-small : goal.read_border-requires-clause-small
-read_border-requires-clause-small c = subst (λ places. (k : ℕ) → k < length places → planned_face c.args.board.now.plan (slice_index places k) ≤ 2 ^ 31) (sym c.deref.ensures.value) (planned_small c.args.board.now.plan c.args.work c.requires.ready c.requires.border)
+read_border-requires-clause-small c = subst (λ places. (k : ℕ) → k < length places → planned_face c.args.board.now.plan (slice_index places k) ≤ 2 ^ 31) (sym c.deref.ensures.value) (planned_small (planned_face c.args.board.now.plan) c.args.work c.requires.ready c.requires.border.sizes)
+
+not_finished : (w : Work) → w.stage ≡ Swept → w.stage ≢ Finished
+not_finished w e f = let wrong : Swept ≡ Finished = sym e ∙ f in cc
 
 -- what was read, at the places as the piece has them
 read_of : (c : goal.After-update-arg-then-read_border-1) → (k : ℕ) → k < length c.args.work.workspace.layout.border.items → planned_face c.args.board.now.plan (slice_index c.args.work.workspace.layout.border.items k) ≡ slice_index c.read_border.new.sizes k + 1
@@ -23,13 +28,13 @@ given_of c =
     λ t. take (count t) (items t)
 
 pub update-requires-clause-border_small : goal.update-requires-clause-border_small
-update-requires-clause-border_small c = given_small c.args.board.now.plan c.args.work c.requires.ready c.requires.border c.read_border.new.sizes (long_of c) (read_of c) c.args.p.now c.requires.problem _ (given_of c)
+update-requires-clause-border_small c = given_small (planned_face c.args.board.now.plan) c.args.work c.requires.ready c.requires.border.sizes c.read_border.new.sizes (long_of c) (read_of c) c.args.p.now c.requires.problem _ (given_of c)
 
 pub update-requires-clause-kept : goal.update-requires-clause-kept
-update-requires-clause-kept c = kept_given c.args.board.now.plan c.args.work c.requires.ready c.requires.border c.read_border.new.sizes (long_of c) (read_of c) c.args.p.now c.requires.problem _ (given_of c)
+update-requires-clause-kept c = kept_given (planned_face c.args.board.now.plan) c.args.work c.requires.ready c.requires.border.sizes c.read_border.new.sizes (long_of c) (read_of c) c.args.p.now c.requires.problem _ (given_of c)
 
 pub update-requires-clause-fits : goal.update-requires-clause-fits
-update-requires-clause-fits c = fits_given c.args.board.now.plan c.args.work c.requires.ready c.requires.border c.read_border.new.sizes (long_of c) (read_of c) c.args.p.now c.requires.problem _ (given_of c)
+update-requires-clause-fits c = fits_given (planned_face c.args.board.now.plan) c.args.work c.requires.ready c.requires.border.sizes c.read_border.new.sizes (long_of c) (read_of c) c.args.p.now c.requires.problem _ (given_of c)
 
 pub returns-then-read_border-clause-stands : goal.returns-then-read_border-clause-stands
 returns-then-read_border-clause-stands c =
@@ -45,7 +50,7 @@ returns-then-read_border-clause-stands c =
       of_box = u.of_box;
       marks = u.marks;
       unfinished = λ no. absurd (no refl);
-      masses = λ k h. finished_after c.args.board.now.plan w c.requires.ready c.requires.border c.read_border.new.sizes (long_of c.before) (read_of c.before) c.args.p.now c.requires.problem _ (given_of c.before) _ c.requires.swept refl k h (u.masses k h);
+      masses = λ k h. finished_after (planned_face c.args.board.now.plan) w c.requires.ready c.requires.border.sizes c.read_border.new.sizes (long_of c.before) (read_of c.before) c.args.p.now c.requires.problem _ (given_of c.before) _ (not_finished c.args.work c.requires.swept) refl k h (u.masses k h);
       fluxes = λ f edge own. through_finished _ refl f ∙ u.fluxes f ∙ sym (through_swept w c.requires.swept f);
     }
 

@@ -1,0 +1,152 @@
+-- The raw pieces of a level whose frames are filled may begin, and their posts are a plan.
+use Rattle.std.proofs.Common.{◌≡◌, ℕ, zero, suc, ◌+◌, ◌^◌, ◌<◌, ◌≤◌, true, pos, ◌+ℤ◌, ◌≤ℤ◌, ◌<ℤ◌, List, [], ◌∷◌, length, get_or, map, IsSome, refl, sym, ap, subst, ◌∙◌, arith}
+use Rattle.std.specs.declared.option.Option.{Option}
+use Rattle.std.specs.declared.option.Option.TheVariants.{Some}
+use Rattle.std.specs.Option.{unwrap_or}
+use Rattle.std.specs.List.{All, range_with_len}
+use Rattle.std.proofs.lemmas.List.{length-append, length-map}
+use Rattle.std.proofs.lemmas.List.FromFn.{get_or-range_with_len, length-range_with_len}
+use Rattle.amr_box.specs.declared.Cell.{Cell}
+use Rattle.amr_box.specs.declared.Face.{Face}
+use Rattle.amr_box.specs.Cells.{holds, width}
+use Rattle.amr_def.specs.declared.problem.Problem.{Problem}
+use Rattle.amr_def.specs.Domain.{Domain, domain}
+use Rattle.amr_def.specs.State.{Masses, mass_of}
+use Rattle.amr_def.specs.Flux.{Fluxes, flux_at, net}
+use Rattle.amr_patch.specs.declared.levels.Level.{Level as Held}
+use Rattle.amr_patch.specs.declared.patches.Patch.{Patch}
+use Rattle.amr_patch.specs.Patches.{box, mass_in, masses_in, value_in}
+use Rattle.amr_patch.specs.Places.{is_face_of}
+use Rattle.amr_patch.proofs.Lookups.{in_one, masses_in-at, same_default}
+use Rattle.amr_patch.proofs.Rows.{sides}
+use Rattle.amr_flux.specs.Faces.{IsInDomain, border_faces, flux_beside, in_reach}
+use Rattle.amr_flux.specs.Rooms.{widest}
+use Rattle.amr_flux.proofs.Shown.{flux_is, net_alike}
+use Rattle.amr_edges.specs.Borders.{IsOwnEdge}
+use Rattle.amr_edges.proofs.Joined.{adds_own}
+use Rattle.amr_edges.proofs.OwnEdges.{puts_owned}
+use Rattle.amr_edges.proofs.PutPlaces.{places_count}
+use Rattle.amr_layout.specs.declared.AddAt.{AddAt}
+use Rattle.amr_layout.specs.declared.PutAt.{PutAt}
+use Rattle.amr_layout.specs.declared.Layout.{Layout}
+use Rattle.amr_layout.specs.declared.TaskLayout.{TaskLayout}
+use Rattle.amr_layout.specs.Adds.{flow_to, flows_in, flows_of}
+use Rattle.amr_layout.specs.Places.{border_places, borders_of, places_before, puts_of}
+use Rattle.amr_layout.specs.Surroundings.{Around, around}
+use Rattle.amr_layout.proofs.Planned.{flows_few, image_at, image_length}
+use Rattle.amr_register.proofs.Homes.{HasSize, size_at}
+use Rattle.amr_work.specs.declared.work.Work.{Work}
+use Rattle.amr_work.specs.Ready.{HasOwnPosts, IsReadyPiece}
+use Rattle.amr_work.specs.Works.{plain}
+use Rattle.amr_advance.specs.Layouts.{IsLayoutOf}
+use Rattle.amr_advance.specs.Shown.{AreShown, StepFits}
+
+zero_more : (k : ℕ) → 0 + k ≡ k
+zero_more k = omega arith
+
+-- an add has no more faces than there are flows
+adds_few : (adds : List AddAt) → All (λ (a : AddAt). length a.faces.items ≤ length (flows_in adds)) adds
+adds_few [] k d lt = absurd (omega arith)
+adds_few (a ∷ adds) zero d lt = omega (arith, length-append (map (flow_to a.word) a.faces.items) (flows_in adds), length-map a.faces.items (flow_to a.word))
+adds_few (a ∷ adds) (suc k) d lt = let r = adds_few adds k d (omega (arith, lt)) in omega (arith, r, length-append (map (flow_to a.word) a.faces.items) (flows_in adds))
+
+module _ (p : Problem) (l : ℕ) (old : Masses) (qs : List Patch) (cells : List Cell) (next : Option Held) (shallow : l ≤ 4) (shown : AreShown p l old qs) (fits : StepFits p l (masses_in qs) old) where
+  abbrev d : Domain
+  d = domain p l
+
+  abbrev m : Masses
+  m = masses_in qs
+
+  abbrev e : Fluxes
+  e = flux_at p l (masses_in qs) old
+
+  abbrev s : Around
+  s = around p l qs cells next
+
+  pub size : HasSize (domain p l)
+  size = size_at p l shallow
+
+  -- ---- a patch of the level
+
+  module _ (k : ℕ) (r : Patch) (lt : k < length qs) where
+    abbrev q : Patch
+    q = get_or qs k r
+
+    pub lies : IsInDomain (domain p l) (box q)
+    lies = record { at = λ c h. shown.inside c (in_one qs c k (record { inside = lt; holds_it = λ g. ap (λ (x : Patch). holds (box x) c) (same_default qs k g r lt) ∙ h })) }
+
+    pub mass_here : (c : Cell) → holds (box q) c ≡ true → m c ≡ Some (mass_in q c)
+    mass_here c h = masses_in-at qs c k r shown.apart (record { inside = lt; holds_it = λ g. ap (λ (x : Patch). holds (box x) c) (same_default qs k g r lt) ∙ h })
+
+    pub plain_at : (f : Face) → is_face_of (box q) f ≡ true → flux_beside p l q f ≡ e f
+    plain_at f h = flux_is p l m old q (shown.shows k r lt) f h
+
+    small : (c : Cell) → in_reach (box q) c ≡ true → value_in q c < 2 ^ 31
+    small c h = subst (λ n. n < 2 ^ 31) (sym ((shown.shows k r lt).at c h)) (fits.values c)
+
+    -- its masses to come are the level's
+    pub sum_is : (c : Cell) → holds (box q) c ≡ true → pos (mass_in q c) +ℤ net (flux_beside p l q) c ≡ pos (mass_of m c) +ℤ net e c
+    sum_is c h =
+        let mass : mass_of m c ≡ mass_in q c = ap (λ (o : Option ℕ). unwrap_or o 0) (mass_here c h) in
+        λ i. pos (sym mass i) +ℤ net_alike (box q) (flux_beside p l q) e plain_at c h i
+
+    some : (c : Cell) → holds (box q) c ≡ true → IsSome (m c)
+    some c h = subst IsSome (sym (mass_here c h)) refl
+
+    -- what holds of a ready piece of the patch
+    pub ready_of : (w : Work) → w.level ≡ l → w.patch ≡ q → w.problem.value ≡ p → HasOwnPosts q w.workspace.layout → width (box q) ≤ widest w.workspace.room
+        → length w.workspace.layout.border.items ≡ length (border_faces q) → length w.workspace.layout.border.items ≤ length w.workspace.sizes.items → IsReadyPiece w
+    ready_of w level patch problem own room border sizes = record {
+      level = omega (arith, level, shallow);
+      inside = rw (problem, level, patch) lies;
+      small = rw (patch) small;
+      kept = λ c h. subst (λ z. pos 0 ≤ℤ z) (sym (whole c h)) (fits.kept c (some c (held c h)));
+      fits = λ c h. subst (λ z. z <ℤ pos (2 ^ 32)) (sym (whole c h)) (fits.fits c (some c (held c h)));
+      room = rw (patch) room;
+      posts = rw (patch) own;
+      border = rw (patch) border;
+      sizes = sizes;
+    }
+      where
+        held : (c : Cell) → holds (box w.patch) c ≡ true → holds (box q) c ≡ true
+        held c h = ap (λ (x : Patch). holds (box x) c) (sym patch) ∙ h
+
+        whole : (c : Cell) → holds (box w.patch) c ≡ true → pos (mass_in w.patch c) +ℤ net (plain w) c ≡ pos (mass_of m c) +ℤ net e c
+        whole c h = (λ i. pos (mass_in (patch i) c) +ℤ net (flux_beside (problem i) (level i) (patch i)) c) ∙ sum_is c (held c h)
+
+  pub all_lie : All (λ q. IsInDomain (domain p l) (box q)) qs
+  all_lie k r lt = lies k r lt
+
+  -- ---- its task
+
+  module _ (y : Layout) (layout : IsLayoutOf s y) where
+    pub task_count : length y.tasks.items ≡ length qs
+    task_count = image_length (λ (t : TaskLayout). t.puts.items) (λ q. puts_of d qs (box q)) y.tasks.items qs layout.puts
+
+    module _ (k : ℕ) (r : Patch) (t0 : TaskLayout) (lt : k < length qs) where
+      abbrev t : TaskLayout
+      t = get_or y.tasks.items k t0
+
+      pub puts_at : t.puts.items ≡ puts_of d qs (box (get_or qs k r))
+      puts_at = image_at (λ (x : TaskLayout). x.puts.items) (λ q. puts_of d qs (box q)) y.tasks.items qs k t0 r layout.puts (omega (arith, lt, task_count)) lt
+
+      pub adds_at : flows_in t.adds.items ≡ flows_of s (box (get_or qs k r))
+      adds_at = image_at (λ (x : TaskLayout). flows_in x.adds.items) (λ q. flows_of s (box q)) y.tasks.items qs k t0 r layout.adds (omega (arith, lt, task_count)) lt
+
+      pub border_at : t.border.items ≡ border_places d qs k
+      border_at =
+          image_at (λ (x : TaskLayout). x.border.items) (border_places d qs) y.tasks.items (range_with_len 0 (length qs)) k t0 k layout.border (omega (arith, lt, task_count)) (omega (arith, lt, length-range_with_len 0 (length qs)))
+          ∙ ap (border_places d qs) (get_or-range_with_len 0 (length qs) k k lt ∙ zero_more k)
+
+      -- as many places as the patch has border faces
+      pub border_count : length t.border.items ≡ length (borders_of d qs (box (get_or qs k r)))
+      border_count = ap length (border_at ∙ places_count d qs k r lt) ∙ length-range_with_len (places_before d qs k) (length (borders_of d qs (box (get_or qs k r))))
+
+      pub own : HasOwnPosts (get_or qs k r) t
+      own =
+          let q = get_or qs k r in
+          let b = sides (box q) q.near in
+          record {
+            puts = subst (All (λ (u : PutAt). IsOwnEdge q u.face)) (sym puts_at) (puts_owned p l qs shallow shown.apart all_lie k r lt);
+            adds = λ j a below. (adds_own p l qs cells next q t.adds.items all_lie (shown.marks k r lt) adds_at j a below, omega (arith, adds_few t.adds.items j a below, ap length adds_at, flows_few s (box q), b.narrow, b.flat));
+          }

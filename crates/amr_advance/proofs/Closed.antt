@@ -1,0 +1,137 @@
+-- What the closed board of a level gives: its patches with their new masses, and the totals of its words.
+use Rattle.std.proofs.Common.{◌≡◌, true, ℕ, suc, ◌<◌, ◌≤◌, pos, ◌+ℤ◌, List, [], ◌∷◌, length, get_or, map, refl, sym, ap, subst, ◌∙◌, arith}
+use Rattle.std.specs.Prelude.{slice_index}
+use Rattle.std.specs.declared.option.Option.{Option}
+use Rattle.std.specs.List.{All, AllZip}
+use Rattle.amr_box.specs.declared.Cell.{Cell}
+use Rattle.amr_box.specs.Cells.{Extent, holds}
+use Rattle.amr_def.specs.declared.problem.Problem.{Problem}
+use Rattle.amr_def.specs.State.{Masses}
+use Rattle.amr_def.specs.Flux.{Fluxes, flux_at, net}
+use Rattle.amr_patch.specs.declared.levels.Level.{Level as Held}
+use Rattle.amr_patch.specs.declared.patches.Patch.{Patch}
+use Rattle.amr_patch.specs.Patches.{box, mass_in, masses_in}
+use Rattle.amr_flux.specs.Faces.{flux_beside}
+use Rattle.amr_flux.proofs.Shown.{net_alike}
+use Rattle.amr_flows.specs.Laws.{plain_size}
+use Rattle.amr_flows.specs.Words.{level_total}
+use Rattle.amr_phase.specs.Plans.{PlanOf}
+use Rattle.amr_board.specs.Ended.{EndedOf, total_of}
+use Rattle.amr_board.specs.Piece.{AreNumbered, plan_of}
+use Rattle.amr_board.proofs.Sums.{got, in_range_at}
+use Rattle.amr_layout.specs.declared.Layout.{Layout}
+use Rattle.amr_layout.specs.Surroundings.{around}
+use Rattle.amr_layout.proofs.Planned.{nth}
+use Rattle.amr_work.specs.declared.work.Work.{Work}
+use Rattle.amr_work.specs.declared.work.Workspace.{Workspace}
+use Rattle.amr_work.specs.Ready.{HasBorderEnded, HasBorderPlanned, MayBegin}
+use Rattle.amr_work.specs.Works.{adds_of_work, mass_after, puts_of_work}
+use Rattle.amr_work.proofs.Sameness.{planned_same, ready_same}
+use Rattle.amr_work.proofs.Standing.{after_raw}
+use Rattle.amr_advance.specs.Collected.{AreCollected, HasMassesAfter, MayCollect}
+use Rattle.amr_advance.specs.Ended.{HasPiece, HasPieces, HasWords}
+use Rattle.amr_advance.specs.Layouts.{IsLayoutOf}
+use Rattle.amr_advance.specs.Pieces.{AreRawPieces, AreWorkspaces, IsRawPiece}
+use Rattle.amr_advance.specs.Shown.{AreShown, IsStepped, StepFits}
+use Rattle.amr_advance.proofs.Begun.{plain_at}
+use Rattle.amr_advance.proofs.Filled.{zip_from}
+use Rattle.amr_advance.proofs.Going.{all_begin, totals_are}
+
+-- ---- the pieces by themselves
+
+module _ (p : Problem) (l : ℕ) (qs : List Patch) (ss : List Workspace) (ws : List Work) (raw : AreRawPieces p l qs ss ws) where
+  pub numbered : AreNumbered (λ (w : Work). w.task) ws
+  numbered i w at =
+      let lt = in_range_at ws i w at in
+      let here : i < length qs = omega (arith, lt, raw.count) in
+      subst (λ (v : Work). v.task ≡ i) (got ws i w w at) (raw.each i (nth qs i here) w.workspace w here).of_task
+
+  -- their patches are those that they were made of
+  pub patches_back : map (λ (w : Work). w.patch) ws ≡ qs
+  patches_back = from qs ws raw.count (λ k q w lt. (raw.each k q w.workspace w lt).of_patch)
+    where
+      from : (qs : List Patch) (ws : List Work) → length ws ≡ length qs → ((k : ℕ) (q : Patch) (w : Work) → k < length qs → (get_or ws k w).patch ≡ get_or qs k q) → map (λ (w : Work). w.patch) ws ≡ qs
+      from [] [] e h = refl
+      from [] (w ∷ ws) e h = absurd (omega (arith, e))
+      from (q ∷ qs) [] e h = absurd (omega (arith, e))
+      from (q ∷ qs) (w ∷ ws) e h = let first = h 0 q w (omega arith) in let rest = from qs ws (omega (arith, e)) (λ k r v lt. h (suc k) r v (omega (arith, lt))) in λ i. first i ∷ rest i
+
+-- ---- on the closed board
+
+module _ (p : Problem) (l : ℕ) (old : Masses) (qs : List Patch) (cells : List Cell) (next : Option Held) (shallow : l ≤ 4) (shown : AreShown p l old qs) (fits : StepFits p l (masses_in qs) old)
+    (y : Layout) (layout : IsLayoutOf (around p l qs cells next) y)
+    (ss : List Workspace) (served : AreWorkspaces qs y.tasks.items ss) (ws : List Work) (raw : AreRawPieces p l qs ss ws)
+    (o : EndedOf Work) (words : HasWords (plan_of puts_of_work adds_of_work y.places y.words ws) o) (pieces : HasPieces o ws 0) where
+  abbrev plan : PlanOf
+  plan = plan_of puts_of_work adds_of_work y.places y.words ws
+
+  abbrev e : Fluxes
+  e = flux_at p l (masses_in qs) old
+
+  begin : All (MayBegin p plan) ws
+  begin = all_begin p l old qs cells next shallow shown fits y layout ss served ws raw
+
+  module _ (t : ℕ) (r : Patch) (w0 : Work) (lt : t < length qs) where
+    abbrev w : Work
+    w = get_or ws t w0
+
+    abbrev q : Patch
+    q = get_or qs t r
+
+    there : t < length ws
+    there = omega (arith, lt, raw.count)
+
+    one : IsRawPiece p l t q (get_or ss t w0.workspace) w
+    one = raw.each t r w0.workspace w0 lt
+
+    pub has : HasPiece o ws t w0
+    has = pieces t w0 (omega arith) there
+
+    may : MayBegin p plan w
+    may = begin t w0 there
+
+    border_ended : (v : Work) → HasBorderPlanned plan v → HasBorderEnded o v
+    border_ended v h = record {
+      places = subst (λ n. All (λ place. place < n) v.workspace.layout.border.items) (sym words.places) h.places;
+      sizes = λ k f below. words.faces (slice_index v.workspace.layout.border.items k) (below_places k below) ∙ h.sizes k f below;
+    }
+      where
+        below_places : (k : ℕ) → k < length v.workspace.layout.border.items → slice_index v.workspace.layout.border.items k < plan.places
+        below_places k below = h.places k 0 below
+
+    pub collects : MayCollect p o t
+    collects = record {
+      piece = has.piece;
+      given = has.given;
+      complete = record {
+        problem = has.stands.problem ∙ may.problem;
+        ready = λ no. ready_same w has.piece has.stands no may.ready;
+        border = λ no. border_ended has.piece (planned_same w has.piece has.stands no plan may.border);
+      };
+    }
+
+    -- the masses that it stands for
+    after_is : (c : Cell) → holds (box q) c ≡ true → mass_after w c ≡ pos (mass_in q c) +ℤ net e c
+    after_is c h =
+        after_raw w one.raw c
+        ∙ (λ i. pos (mass_in (one.of_patch i) c) +ℤ net (flux_beside (one.of_problem i) (one.of_level i) (one.of_patch i)) c)
+        ∙ ap (λ z. pos (mass_in q c) +ℤ z) (net_alike (box q) (flux_beside p l q) e (plain_at p l old qs cells next shallow shown fits t r lt) c h)
+
+    pub steps : (s : Patch) → HasMassesAfter has.piece s → IsStepped e q s
+    steps s h = record {
+      of_box = h.of_box ∙ has.stands.of_box ∙ ap box one.of_patch;
+      masses = λ c held.
+          let in_w : holds (box w.patch) c ≡ true = ap (λ (x : Patch). holds (box x) c) one.of_patch ∙ held in
+          h.masses c (ap (λ (b : Extent). holds b c) has.stands.of_box ∙ in_w) ∙ has.stands.masses c in_w ∙ after_is c held;
+    }
+
+  pub may_collect : (t : ℕ) → t < length qs → MayCollect p o t
+  may_collect t lt = collects t (nth qs t lt) (nth ws t (omega (arith, lt, raw.count))) lt
+
+  pub all_stepped : (rs : List Patch) → AreCollected o (length qs) rs → length rs ≡ length qs → AllZip (IsStepped e) qs rs
+  all_stepped rs h count = zip_from (IsStepped e) qs rs (sym count) (λ t d lt.
+      let w0 = nth ws t (omega (arith, lt, raw.count)) in
+      steps t d w0 lt (get_or rs t d) (h t (has t d w0 lt).piece d lt (has t d w0 lt).given))
+
+  pub level_totals : (o' : EndedOf Work) (word : ℕ) → total_of o' word ≡ total_of o word → word < y.words → total_of o' word ≡ level_total (around p l qs cells next) (plain_size p l (masses_in qs) old) word
+  level_totals o' word same below = same ∙ words.totals word below ∙ totals_are p l old qs cells next shallow shown fits y layout ss served ws raw word

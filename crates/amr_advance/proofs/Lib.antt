@@ -1,0 +1,12 @@
+mod Reversed
+mod Begun
+mod Filled
+mod Going
+mod Handed
+mod Closed
+mod CoarseParts
+mod Absorbed
+mod Parts
+mod Advancing
+mod EmptyRing
+mod Stepped

@@ -1,0 +1,40 @@
+-- The patches of a closed board.
+use Rattle.std.specs.Prelude.{◌≡◌, ◌≢◌, ℕ, ◌<◌, pos, List, slice_index_or, IsTrue}
+use Rattle.std.specs.declared.option.Option.TheVariants.{Some}
+use mathlib.Core.Option as lookup
+use lib.ListN.{get_elem?}
+use Rattle.amr_box.specs.declared.Cell.{Cell}
+use Rattle.amr_box.specs.Cells.{holds}
+use Rattle.amr_def.specs.declared.problem.Problem.{Problem}
+use Rattle.amr_patch.specs.declared.patches.Patch.{Patch}
+use Rattle.amr_patch.specs.Patches.{box, mass_in}
+use Rattle.amr_board.specs.Ended.{EndedOf}
+use Rattle.amr_work.specs.declared.work.Stage.TheVariants.{Finished}
+use Rattle.amr_work.specs.declared.work.Work.{Work}
+use Rattle.amr_work.specs.Ready.{HasBorderEnded, IsReadyPiece}
+use Rattle.amr_work.specs.Works.{mass_after}
+
+-- a piece that is finished, or can be from what stands on the closed board
+pub record MayComplete (p : Problem) (o : EndedOf Work) (w : Work) : Type 0 where
+  pub problem : w.problem.value ≡ p
+  pub ready : w.stage ≢ Finished → IsReadyPiece w
+  pub border : w.stage ≢ Finished → HasBorderEnded o w
+
+-- a patch with the masses after the step that a piece stands for
+pub record HasMassesAfter (w : Work) (q : Patch) : Type 0 where
+  pub of_box : box q ≡ box w.patch
+  pub masses : (c : Cell) → IsTrue (holds (box w.patch) c) → pos (mass_in q c) ≡ mass_after w c
+
+-- the piece of a task stands on the board
+abbrev pub IsPieceOf : EndedOf Work → ℕ → Work → Type 0
+IsPieceOf o t w = get_elem? o.pieces t ≡ lookup.some (Some w)
+
+-- and may be completed
+pub record MayCollect (p : Problem) (o : EndedOf Work) (t : ℕ) : Type 0 where
+  pub piece : Work
+  pub given : IsPieceOf o t piece
+  pub complete : MayComplete p o piece
+
+-- each patch has the masses that the piece of its task stood for
+abbrev pub AreCollected : EndedOf Work → ℕ → List Patch → Type 0
+AreCollected o count ps = (t : ℕ) (w : Work) (d : Patch) → t < count → IsPieceOf o t w → HasMassesAfter w (slice_index_or ps t d)

@@ -1,0 +1,7 @@
+pub mod Pieces
+pub mod Shown
+pub mod Layouts
+pub mod Ended
+pub mod Collected
+pub mod Registers
+pub mod Totals

@@ -1,0 +1,36 @@
+-- The pieces of a level: patches with workspaces, raw.
+use Rattle.std.specs.Prelude.{◌≡◌, ℕ, ◌<◌, List, length, slice_index_or}
+use Rattle.amr_box.specs.Cells.{width}
+use Rattle.amr_def.specs.declared.problem.Problem.{Problem}
+use Rattle.amr_patch.specs.declared.patches.Patch.{Patch}
+use Rattle.amr_patch.specs.Patches.{box}
+use Rattle.amr_flux.specs.Rooms.{widest}
+use Rattle.amr_layout.specs.declared.TaskLayout.{TaskLayout}
+use Rattle.amr_work.specs.declared.work.Stage.TheVariants.{Raw}
+use Rattle.amr_work.specs.declared.work.Work.{Work}
+use Rattle.amr_work.specs.declared.work.Workspace.{Workspace}
+
+-- a workspace with this layout, for a patch of so many columns
+pub record Serves (columns : ℕ) (layout : TaskLayout) (w : Workspace) : Type 0 where
+  pub of_layout : w.layout ≡ layout
+  pub sizes : length w.sizes.items ≡ length layout.border.items
+  pub room : widest w.room ≡ columns
+
+-- one for each patch
+pub record AreWorkspaces (qs : List Patch) (ts : List TaskLayout) (ws : List Workspace) : Type 0 where
+  pub count : length ws ≡ length qs
+  pub each : (k : ℕ) (q : Patch) (t : TaskLayout) (w : Workspace) → k < length qs → Serves (width (box (slice_index_or qs k q))) (slice_index_or ts k t) (slice_index_or ws k w)
+
+-- a raw piece
+pub record IsRawPiece (p : Problem) (l task : ℕ) (q : Patch) (s : Workspace) (w : Work) : Type 0 where
+  pub of_task : w.task ≡ task
+  pub of_level : w.level ≡ l
+  pub raw : w.stage ≡ Raw
+  pub of_patch : w.patch ≡ q
+  pub of_workspace : w.workspace ≡ s
+  pub of_problem : w.problem.value ≡ p
+
+-- one for each patch, by number
+pub record AreRawPieces (p : Problem) (l : ℕ) (qs : List Patch) (ss : List Workspace) (ws : List Work) : Type 0 where
+  pub count : length ws ≡ length qs
+  pub each : (k : ℕ) (q : Patch) (s : Workspace) (w : Work) → k < length qs → IsRawPiece p l k (slice_index_or qs k q) (slice_index_or ss k s) (slice_index_or ws k w)

@@ -1,0 +1,230 @@
+//! A step of a level.
+
+ghost use Rattle.std.specs.Prelude.{◌≡◌, ◌+◌, ◌*◌, ◌<◌, ◌≤◌, ◌^◌, ℕ, pos, List, IfOk, OnOk, OnErr, length, map};
+ghost use Rattle.std.specs.List.{All, AllZip};
+ghost use Rattle.std.specs.Option.{option_copied};
+ghost use Rattle.amr_def.specs.Domain.{domain};
+ghost use Rattle.amr_def.specs.Facts.{IsLevel};
+ghost use Rattle.amr_def.specs.Flux.{flux_at, updated};
+ghost use Rattle.amr_laws.specs.Sides.{inflow_beside, is_uncovered, outflow_beside};
+ghost use Rattle.amr_patch.specs.declared.patches.Patch.{Patch};
+ghost use Rattle.amr_patch.specs.Levels.{level_of, patches_of};
+ghost use Rattle.amr_patch.specs.Orders.{IsOrderOf};
+ghost use Rattle.amr_patch.specs.Patches.{ArePatchesApart, box, masses_in};
+ghost use Rattle.amr_ghost.specs.Frames.{AreInDomain, old_masses};
+ghost use Rattle.amr_layout.specs.Adds.{HasRegisterCells};
+ghost use Rattle.amr_layout.specs.Surroundings.{around, finer_masses};
+ghost use Rattle.amr_board.specs.Ended.{total_of};
+ghost use Rattle.amr_advance.specs.Registers.{BothChange, HasCoarser, HasEdges, HasFiner, cells_of, gained, taken};
+ghost use Rattle.amr_advance.specs.Totals.{HasTotals, SomeHasAbsorbed, SomeMayAbsorb};
+ghost use Rattle.amr_advance.specs.Layouts.{IsLayoutOf};
+ghost use Rattle.amr_advance.specs.Shown.{AreShown, StepFits};
+
+use crate::level::{Given, run_level};
+use crate::registers::{absorb_totals, take_coarse_parts};
+use crate::regs::{Crew, Regs};
+use crate::running::Workers;
+use amr_board::Ended;
+use amr_box::Cell;
+use amr_causes::NoMemory;
+use amr_def::Problem;
+use amr_ghost::fill_in_order;
+use amr_layout::{Layout, plan};
+use amr_patch::{Level, Order, Patch};
+use amr_register::Register;
+use amr_work::Work;
+use amr_workers::Gate;
+use std::alloc::Global;
+use std::thread::Threads;
+
+/// How many patches a level may have. More would take more memory than there is, and are refused as that.
+const MOST: usize = 1 << 26;
+
+/// Fills the frames of a level's patches, and lays out their step on a board.
+fn lay_out(given: Given<'_>, order: Order, patches: &mut [Patch]) -> Result<Layout, NoMemory>
+    requires level { given.level ≤ 4 }
+    requires order { IsOrderOf order patches.old }
+    requires apart { ArePatchesApart patches.old }
+    requires inside { AreInDomain (domain given.problem.now given.level) patches.old }
+    requires cells { (qs : List Patch) → masses_in qs ≡ masses_in patches.old → HasRegisterCells (around given.problem.now given.level qs given.cells.now (option_copied given.finer)) }
+    ensures masses { masses_in patches.new ≡ masses_in patches.old }
+    ensures boxes { map box patches.new ≡ map box patches.old }
+    ensures shown { AreShown given.entry.problem.now given.entry.level (old_masses (option_copied given.entry.old)) patches.new }
+    ensures layout { IfOk result (IsLayoutOf (around given.entry.problem.now given.entry.level patches.new given.entry.cells.now (option_copied given.entry.finer))) }
+{
+    fill_in_order(given.problem, given.level, patches, order, given.old);
+    plan(
+        given.alloc,
+        given.problem,
+        given.level,
+        patches,
+        given.cells,
+        given.finer,
+    )
+}
+
+/// The cells of a flux register, none where there is no register.
+fn cells_of(register: &Option<Register>) -> &[Cell]
+    ensures { result.now ≡ cells_of register.now }
+{
+    match register {
+        Some(register) => register.cells(),
+        None => &[],
+    }
+}
+
+/// A copy of a flux register, where there is one.
+fn copy_of(alloc: Global, register: &Option<Register>) -> Result<Option<Register>, NoMemory>
+    ensures { IfOk result (BothChange (λ c. pos 0) register.now) }
+{
+    match register {
+        Some(register) => Ok(Some(register.copy(alloc)?)),
+        None => Ok(None),
+    }
+}
+
+/// Takes the plain flows through a level's coarse-fine edges out of the register over it, where there is one.
+fn take_parts(given: Given<'_>, patches: &[Patch], register: &mut Option<Register>)
+    requires shown { AreShown given.problem.now given.level (old_masses (option_copied given.old)) patches.now }
+    requires fits { StepFits given.problem.now given.level (masses_in patches.now) (old_masses (option_copied given.old)) }
+    requires few { length patches.now ≤ 2 ^ 26 }
+    requires register { HasEdges given.problem.now given.level (masses_in patches.now) (option_copied given.finer) register.old }
+    ensures { BothChange (taken given.entry.problem.now given.entry.level (masses_in patches.now) (old_masses (option_copied given.entry.old)) (finer_masses (option_copied given.entry.finer))) register.old register.new }
+{
+    match register {
+        Some(register) => take_coarse_parts(given.problem, given.level, patches, register),
+        None => (),
+    }
+}
+
+/// Makes a step of the patches of a level on a board. If allocation fails the patches have the masses of before, and the register
+/// is as before.
+fn step_patches<R: Threads + Sync, G: Gate + Sync>(
+    workers: &Workers<'_, R, G>,
+    given: Given<'_>,
+    order: Order,
+    patches: &mut Vec<Patch>,
+    register: &mut Option<Register>,
+) -> Result<Ended<Work>, NoMemory>
+    requires level { given.level ≤ 4 }
+    requires order { IsOrderOf order patches.old.items }
+    requires apart { ArePatchesApart patches.old.items }
+    requires inside { AreInDomain (domain given.problem.now given.level) patches.old.items }
+    requires fits { StepFits given.problem.now given.level (masses_in patches.old.items) (old_masses (option_copied given.old)) }
+    requires cells { (qs : List Patch) → masses_in qs ≡ masses_in patches.old.items → HasRegisterCells (around given.problem.now given.level qs given.cells.now (option_copied given.finer)) }
+    requires register { HasEdges given.problem.now given.level (masses_in patches.old.items) (option_copied given.finer) register.old }
+    requires some_workers { 1 ≤ workers.now.count }
+    requires few_workers { workers.now.count ≤ 64 }
+    requires gate { (worker task : ℕ) → worker < workers.now.count → task < length patches.old.items → G.admits workers.now.gate.now worker task }
+    ensures masses { OnOk result (masses_in patches.new.items ≡ updated (masses_in patches.old.items) (flux_at given.entry.problem.now given.entry.level (masses_in patches.old.items) (old_masses (option_copied given.entry.old)))) }
+    ensures boxes { map box patches.new.items ≡ map box patches.old.items }
+    ensures apart { ArePatchesApart patches.new.items }
+    ensures registers { IfOk result (λ o. o.registers ≡ 2 + 2 * length given.entry.cells.now) }
+    ensures few { IfOk result (λ o. o.registers < 2 ^ 32) }
+    ensures small { IfOk result (λ o. (word : ℕ) → word < o.registers → total_of o word < 2 ^ 63) }
+    ensures totals { IfOk result (HasTotals given.entry.problem.now given.entry.level (masses_in patches.old.items) (old_masses (option_copied given.entry.old)) (finer_masses (option_copied given.entry.finer)) given.entry.cells.now) }
+    ensures register { OnOk result (BothChange (taken given.entry.problem.now given.entry.level (masses_in patches.old.items) (old_masses (option_copied given.entry.old)) (finer_masses (option_copied given.entry.finer))) register.old register.new) }
+    ensures same_masses { OnErr result (masses_in patches.new.items ≡ masses_in patches.old.items) }
+    ensures same_register { OnErr result (BothChange (λ c. pos 0) register.old register.new) }
+{
+    let layout = lay_out(given, order, patches)?;
+    if patches.len() > MOST {
+        return Err(NoMemory);
+    }
+    let saved = copy_of(given.alloc, register)?;
+    take_parts(given, patches, register);
+    match run_level(workers, given, patches, layout) {
+        Ok(ended) => Ok(ended),
+        Err(fault) => {
+            *register = saved;
+            Err(fault)
+        }
+    }
+}
+
+/// Adds the totals of a closed board: the ledger's words to the sums, and the others to the register of the next coarser level.
+fn add_totals(ended: &Ended<Work>, regs: &mut Regs)
+    requires registers { ended.now.registers ≡ 2 + 2 * length (cells_of regs.old.coarser) }
+    requires few { ended.now.registers < 2 ^ 32 }
+    requires small { (word : ℕ) → word < ended.now.registers → total_of ended.now word < 2 ^ 63 }
+    requires inflow { regs.old.inflow + total_of ended.now 0 < 2 ^ 63 }
+    requires outflow { regs.old.outflow + total_of ended.now 1 < 2 ^ 63 }
+    requires coarser { SomeMayAbsorb ended.now regs.old.coarser }
+    ensures inflow { regs.new.inflow ≡ regs.old.inflow + total_of ended.now 0 }
+    ensures outflow { regs.new.outflow ≡ regs.old.outflow + total_of ended.now 1 }
+    ensures coarser { SomeHasAbsorbed ended.now regs.old.coarser regs.new.coarser }
+    ensures finer { regs.new.finer ≡ regs.old.finer }
+{
+    regs.inflow += ended.total(0);
+    regs.outflow += ended.total(1);
+    match &mut regs.coarser {
+        Some(register) => absorb_totals(ended, register),
+        None => (),
+    }
+}
+
+/// Makes a step of level `l` by workers on a board (Berger and Colella 1989): each cell gets what flows in through its faces by the
+/// plain fluxes of the level, whatever a finer level covers. `old` is the next coarser level with the masses before its own step,
+/// `finer` the next finer one.
+///
+/// The register of the coarser level gains what flows through this level's faces beside its cells, and the one over the finer
+/// level loses the plain flows through the level's coarse-fine edges. The sums gain what flows in and out through open sides
+/// beside cells that no finer level covers. The outcome is the same for any number of workers, whoever draws which task.
+///
+/// The crew has one rank, and from 1 to 64 workers. All memory is taken before the first task is drawn. `NoMemory` is the only
+/// refusal, and also stands for more than 2^26 patches or 2^30 faces: then the level has the masses of before, and `regs` is as
+/// before. The call joins its workers, and keeps this promise if it returns.
+pub fn advance<R: Threads + Sync, G: Gate + Sync>(
+    rt: &R,
+    p: &Problem,
+    l: u32,
+    level: &mut Level,
+    old: Option<&Level>,
+    finer: Option<&Level>,
+    regs: &mut Regs,
+    crew: Crew,
+    gate: &G,
+) -> Result<(), NoMemory>
+    requires number { l ≤ 4 }
+    requires of_domain { IsLevel p.now l (level_of level.old) }
+    requires fits { StepFits p.now l (level_of level.old).masses (old_masses (option_copied old)) }
+    requires coarser { HasCoarser p.now l (level_of level.old) (option_copied old) regs.old.coarser }
+    requires finer { HasFiner p.now l (level_of level.old) (option_copied finer) regs.old.finer }
+    requires one_rank { crew.ranks ≡ 1 }
+    requires some_workers { 1 ≤ crew.workers }
+    requires few_workers { crew.workers ≤ 64 }
+    requires gate { (worker task : ℕ) → worker < crew.workers → task < length (patches_of level.old) → G.admits gate.now worker task }
+    requires inflow { regs.old.inflow + inflow_beside p.now l (is_uncovered (level_of level.old).masses (finer_masses (option_copied finer))) (flux_at p.now l (level_of level.old).masses (old_masses (option_copied old))) < 2 ^ 63 }
+    requires outflow { regs.old.outflow + outflow_beside p.now l (is_uncovered (level_of level.old).masses (finer_masses (option_copied finer))) (flux_at p.now l (level_of level.old).masses (old_masses (option_copied old))) < 2 ^ 63 }
+    ensures masses { OnOk result ((level_of level.new).masses ≡ updated (level_of level.old).masses (flux_at p.now l (level_of level.old).masses (old_masses (option_copied old.entry)))) }
+    ensures boxes { (level_of level.new).boxes ≡ (level_of level.old).boxes }
+    ensures patches { map box (patches_of level.new) ≡ map box (patches_of level.old) }
+    ensures coarser { OnOk result (BothChange (gained p.now l (level_of level.old).masses (flux_at p.now l (level_of level.old).masses (old_masses (option_copied old.entry)))) regs.old.coarser regs.new.coarser) }
+    ensures finer { OnOk result (BothChange (taken p.now l (level_of level.old).masses (old_masses (option_copied old.entry)) (finer_masses (option_copied finer.entry))) regs.old.finer regs.new.finer) }
+    ensures inflow { OnOk result (regs.new.inflow ≡ regs.old.inflow + inflow_beside p.now l (is_uncovered (level_of level.old).masses (finer_masses (option_copied finer.entry))) (flux_at p.now l (level_of level.old).masses (old_masses (option_copied old.entry)))) }
+    ensures outflow { OnOk result (regs.new.outflow ≡ regs.old.outflow + outflow_beside p.now l (is_uncovered (level_of level.old).masses (finer_masses (option_copied finer.entry))) (flux_at p.now l (level_of level.old).masses (old_masses (option_copied old.entry)))) }
+    ensures same_masses { OnErr result ((level_of level.new).masses ≡ (level_of level.old).masses) }
+    ensures same_coarser { OnErr result (regs.new.coarser ≡ regs.old.coarser) }
+    ensures same_finer { OnErr result (BothChange (λ c. pos 0) regs.old.finer regs.new.finer) }
+    ensures same_sums { OnErr result ((regs.new.inflow ≡ regs.old.inflow) × (regs.new.outflow ≡ regs.old.outflow)) }
+{
+    let order = level.order();
+    let mut patches = level.take_patches();
+    let workers = Workers {
+        runtime: rt,
+        gate,
+        count: crew.workers,
+    };
+    let given = Given {
+        alloc: *patches.allocator(),
+        problem: p,
+        level: l,
+        old,
+        finer,
+        cells: cells_of(&regs.coarser),
+    };
+    let stepped = step_patches(&workers, given, order, &mut patches, &mut regs.finer);
+    level.put_patches_in_order(patches, order);
+    add_totals(&stepped?, regs);
+    Ok(())
+}

@@ -1,0 +1,63 @@
+//! A piece that no look finished becomes a finished one when its board is closed.
+
+ghost use Rattle.std.specs.Prelude.{◌≡◌, ◌≢◌, ◌≤◌, ◌<◌, ◌+◌, ◌^◌, ℕ, IsTrue, length, slice_index};
+ghost use Rattle.std.specs.List.{All};
+ghost use Rattle.amr_box.specs.declared.Cell.{Cell};
+ghost use Rattle.amr_box.specs.Cells.{holds};
+ghost use Rattle.amr_patch.specs.Patches.{SameMarks, box};
+ghost use Rattle.amr_flux.specs.Rooms.{widest};
+ghost use Rattle.amr_board.specs.Ended.{face_of};
+ghost use Rattle.amr_work.specs.declared.work.Stage.TheVariants.{Finished};
+ghost use Rattle.amr_work.specs.Ready.{HasBorderEnded, IsReadyPiece};
+ghost use Rattle.amr_work.specs.Works.{mass_after};
+
+use crate::work::{Stage, Work};
+use amr_board::Ended;
+use amr_def::Problem;
+use amr_flux::update;
+
+/// Reads what was put at these places.
+fn read_ended(ended: &Ended<Work>, border: &[u32], sizes: &mut [u32])
+    requires room { length border.now ≤ length sizes.old }
+    requires places { All (λ k. k < ended.now.places) border.now }
+    requires planned { (k : ℕ) → k < length border.now → 0 < face_of ended.now (slice_index border.now k) }
+    requires small { (k : ℕ) → k < length border.now → face_of ended.now (slice_index border.now k) ≤ 2 ^ 31 }
+    ensures count { length sizes.new ≡ length sizes.old }
+    ensures all { (k : ℕ) → k < length border.now → face_of ended.now (slice_index border.now k) ≡ slice_index sizes.new k + 1 }
+{
+    for (k, place) in border.iter().enumerate() {
+        sizes[k] = ended.face(*place) as u32;
+    }
+}
+
+/// Makes the new masses of a patch that is not finished when the board is closed: what flows through its border faces stands
+/// on the closed board.
+pub fn complete(p: &Problem, ended: &Ended<Work>, mut work: Work) -> Work
+    requires unfinished { work.stage ≢ Finished }
+    requires problem { work.problem.value ≡ p.now }
+    requires ready { IsReadyPiece work }
+    requires border { HasBorderEnded ended.now work }
+    ensures stage { result.stage ≡ Finished }
+    ensures masses { (c : Cell) → IsTrue (holds (box work.patch) c) → mass_after result c ≡ mass_after work c }
+    ensures of_box { box result.patch ≡ box work.patch }
+    ensures marks { SameMarks work.patch result.patch }
+    ensures layout { result.workspace.layout ≡ work.workspace.layout }
+    ensures sizes { length result.workspace.sizes.items ≡ length work.workspace.sizes.items }
+    ensures room { widest result.workspace.room ≡ widest work.workspace.room }
+{
+    let count = work.workspace.layout.border.len();
+    read_ended(
+        ended,
+        &work.workspace.layout.border,
+        &mut work.workspace.sizes,
+    );
+    update(
+        p,
+        work.level,
+        &mut work.patch,
+        &work.workspace.sizes[..count],
+        &mut work.workspace.room,
+    );
+    work.stage = Stage::Finished;
+    work
+}
