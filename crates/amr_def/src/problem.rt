@@ -38,7 +38,7 @@ pub struct Row {
 /// What is computed: the keys of a problem file, within their limits.
 #[derive(Debug, Drop)]
 pub struct Problem {
-    /// The version of the problem file: 1.
+    /// The version of the problem file: 1 or 2.
     pub version: u32,
     /// 1 to 32 bytes, each of `a` to `z`, `0` to `9`, `-` and `_`.
     pub name: Name,

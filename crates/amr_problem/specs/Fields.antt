@@ -44,9 +44,9 @@ parts_of p = record {
   blocks = p.blocks;
 }
 
--- the limits of a problem, but for that of its version
+-- the limits of a problem
 abbrev pub HasLimits : Parts → Type 0
-HasLimits q = Limits 1 q.name q.nx q.ny q.steps q.cx q.cy q.d q.shear_x q.shear_y q.x_sides q.y_sides q.max_level q.tag q.n_error_buf q.efficiency q.min_width q.regrid_int q.blocking q.max_grid_size q.blocks
+HasLimits q = Limits q.version q.name q.nx q.ny q.steps q.cx q.cy q.d q.shear_x q.shear_y q.x_sides q.y_sides q.max_level q.tag q.n_error_buf q.efficiency q.min_width q.regrid_int q.blocking q.max_grid_size q.blocks
 
 -- the scope takes the version and the finest level
 pub record IsInScope (scope : Scope) (q : Parts) : Type 0 where

@@ -57,7 +57,6 @@ pub fn parts(alloc: Global, scope: Scope, entries: Entries) -> Result<Parts, All
 /// The problem of these parts.
 pub fn problem(parts: Parts) -> Problem
     requires limits { HasLimits parts }
-    requires first_version { parts.version ≡ 1 }
     ensures { parts_of result ≡ parts }
 {
     Problem {
