@@ -85,7 +85,7 @@ pub same_twice : (r s t : Register) → SameCells r s → SameCells s t → Same
 same_twice r s t a b = record { cells = b.cells ∙ a.cells; sides = b.sides ∙ a.sides }
 
 -- a cell that is not among its cells has no entry
-no_entry : (r : Register) (c : Cell) → (Contains (cells_in r) c → ⊥) → entry_in r c ≡ pos 0
+pub no_entry : (r : Register) (c : Cell) → (Contains (cells_in r) c → ⊥) → entry_in r c ≡ pos 0
 unfolding cells_in entry_in
 no_entry r c h = entry_of_none r.cells.items r.entries.items c h
 

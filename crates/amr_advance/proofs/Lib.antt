@@ -4,7 +4,7 @@ mod Filled
 mod Going
 mod Handed
 mod Closed
-mod CoarseParts
+pub mod CoarseParts
 mod Absorbed
 mod Parts
 mod Advancing

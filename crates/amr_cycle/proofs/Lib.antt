@@ -1,0 +1,7 @@
+pub mod Registers
+pub mod Cycling
+pub mod Corrections
+pub mod StateSteps
+pub mod Kept
+pub mod Coarsenable
+pub mod Whole

@@ -1,0 +1,25 @@
+use Rattle.std.proofs.Common.{◌≡◌, ◌^◌, subst, sym}
+use Rattle.std.specs.Prelude.{pos, ◌+ℤ◌, ◌≤ℤ◌, ◌<ℤ◌, IsSome}
+use Rattle.std.specs.declared.option.Option.{Option}
+use Rattle.std.specs.List.{Contains}
+use Rattle.amr_box.specs.declared.Cell.{Cell}
+use Rattle.amr_def.specs.State.{mass_of}
+use Rattle.amr_patch.specs.Levels.{level_of}
+use Rattle.amr_register.specs.declared.register.Register.{Register}
+use Rattle.amr_register.specs.Entries.{with_entries}
+use Rattle.amr_transfer.specs.Sums.{summed}
+use Rattle.amr_advance.specs.Registers.{cells_of}
+use Rattle.amr_cycle.specs.Cycles.{entries_of}
+use Rattle.amr_cycle.proofs.correction.correct.Goals as goal
+
+pub correct_by-requires-clause-of_level : goal.correct_by-requires-clause-of_level
+correct_by-requires-clause-of_level c = subst (λ (r : Option Register). (q : Cell) → Contains (cells_of r) q → IsSome ((level_of c.args.level.now).masses q)) c.in-Some.is c.requires.of_level
+
+pub correct_by-requires-clause-kept : goal.correct_by-requires-clause-kept
+correct_by-requires-clause-kept c = subst (λ (r : Option Register). (q : Cell) → Contains (cells_of r) q → pos 0 ≤ℤ (pos (mass_of (level_of c.args.level.now).masses q) +ℤ entries_of r q)) c.in-Some.is c.requires.kept
+
+pub correct_by-requires-clause-fits : goal.correct_by-requires-clause-fits
+correct_by-requires-clause-fits c = subst (λ (r : Option Register). (q : Cell) → Contains (cells_of r) q → (pos (mass_of (level_of c.args.level.now).masses q) +ℤ entries_of r q) <ℤ pos (2 ^ 32)) c.in-Some.is c.requires.fits
+
+pub returns-clause-masses : goal.returns-clause-masses
+returns-clause-masses c = subst (λ (r : Option Register). (level_of c.correct_by.new.level).masses ≡ summed (level_of c.args.finer.now).masses (with_entries (entries_of r) (level_of c.args.level.now).masses)) (sym c.in-Some.is) c.correct_by.ensures.masses

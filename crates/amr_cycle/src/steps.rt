@@ -1,0 +1,108 @@
+//! A step of a state.
+
+ghost use Rattle.std.specs.Prelude.{◌≡◌, ℕ, ◌+◌, ◌<◌, ◌≤◌, false, true, IfOk, OnErr, OnOk, map};
+ghost use Rattle.amr_def.specs.Facts.{IsSound};
+ghost use Rattle.amr_def.specs.Run.{stepped};
+ghost use Rattle.amr_def.specs.State.{no_masses};
+ghost use Rattle.amr_laws.specs.Sides.{inflow_beside, outflow_beside};
+ghost use Rattle.amr_laws.specs.Substeps.{after_step};
+ghost use Rattle.amr_patch.specs.Levels.{level_of};
+ghost use Rattle.amr_patch.specs.Meshes.{is_spent, levels_of, state_of};
+ghost use Rattle.amr_flows.specs.Subcycle.{flows_of_step};
+ghost use Rattle.amr_cycle.specs.Cycles.{AreCoarsenableAbove, HasStepToCome, patch_boxes};
+
+use crate::levels::step_levels;
+use crate::team::Team;
+use amr_advance::{Crew, Regs};
+use amr_causes::NoMemory;
+use amr_def::{Problem, Row};
+use amr_patch::{Level, Mesh};
+use amr_workers::Gate;
+use std::thread::Threads;
+
+/// What flowed through the open sides of the domain.
+#[derive(Clone, Copy, Debug)]
+struct Flows {
+    inflow: u64,
+    outflow: u64,
+}
+
+/// Makes a step of all levels of a state.
+fn step_all<R: Threads + Sync, G: Gate + Sync>(
+    team: &Team<'_, R, G>,
+    levels: &mut [Level],
+) -> Result<Flows, NoMemory>
+    requires to_come { HasStepToCome team.now.problem.now (map level_of levels.old) }
+    requires coarsenable { AreCoarsenableAbove levels.old }
+    requires one_rank { team.now.crew.ranks ≡ 1 }
+    requires some_workers { 1 ≤ team.now.crew.workers }
+    requires few_workers { team.now.crew.workers ≤ 64 }
+    requires gate { (worker task : ℕ) → worker < team.now.crew.workers → G.admits team.now.gate.now worker task }
+    ensures levels { OnOk result (map level_of levels.new ≡ after_step team.now.problem.now 0 (map level_of levels.old) no_masses) }
+    ensures patches { OnOk result (patch_boxes levels.new ≡ patch_boxes levels.old) }
+    ensures inflow { IfOk result (λ f. f.inflow ≡ flows_of_step (inflow_beside team.now.problem.now) team.now.problem.now 0 (map level_of levels.old) no_masses) }
+    ensures outflow { IfOk result (λ f. f.outflow ≡ flows_of_step (outflow_beside team.now.problem.now) team.now.problem.now 0 (map level_of levels.old) no_masses) }
+{
+    let mut regs = Regs {
+        coarser: None,
+        finer: None,
+        inflow: 0,
+        outflow: 0,
+    };
+    match levels.split_first_mut() {
+        None => unreachable!(),
+        Some((base, finer)) => step_levels(team, 0, base, finer, None, &mut regs)?,
+    }
+    Ok(Flows {
+        inflow: regs.inflow,
+        outflow: regs.outflow,
+    })
+}
+
+/// Makes the next step of a sound state that has a step to come (Berger and Colella 1989: subcycling, refluxing, averaging down). The
+/// ledger gets one more row: what flowed in and out, and the mass after it. The outcome is the same for any number of workers,
+/// whoever draws which task. The regrid that may be due before the step is `amr_regrid`'s.
+///
+/// No patch of a level above level 0 cuts a cell of the next coarser level. The crew has one rank, and from 1 to 64 workers.
+/// Boxes and patch boxes stay. After `NoMemory`, the only refusal, the mesh is spent. The call joins its workers, and keeps this
+/// promise if it returns.
+pub fn step<R: Threads + Sync, G: Gate + Sync>(
+    rt: &R,
+    p: &Problem,
+    mesh: &mut Mesh,
+    crew: Crew,
+    gate: &G,
+) -> Result<(), NoMemory>
+    requires whole { is_spent mesh.old ≡ false }
+    requires sound { IsSound p.now (state_of mesh.old) }
+    requires to_come { (state_of mesh.old).step < p.now.steps }
+    requires coarsenable { AreCoarsenableAbove (levels_of mesh.old) }
+    requires one_rank { crew.ranks ≡ 1 }
+    requires some_workers { 1 ≤ crew.workers }
+    requires few_workers { crew.workers ≤ 64 }
+    requires gate { (worker task : ℕ) → worker < crew.workers → G.admits gate.now worker task }
+    ensures value { OnOk result (state_of mesh.new ≡ stepped p.now (state_of mesh.old)) }
+    ensures sound { OnOk result (IsSound p.now (state_of mesh.new)) }
+    ensures patches { OnOk result (patch_boxes (levels_of mesh.new) ≡ patch_boxes (levels_of mesh.old)) }
+    ensures whole { OnOk result (is_spent mesh.new ≡ false) }
+    ensures spent { OnErr result (is_spent mesh.new ≡ true) }
+{
+    let number = mesh.step();
+    let (mut rows, mut levels) = mesh.take();
+    let team = Team {
+        alloc: *rows.allocator(),
+        runtime: rt,
+        problem: p,
+        crew,
+        gate,
+    };
+    let flows = step_all(&team, levels.as_mut_slice())?;
+    let last = rows[number as usize];
+    rows.push(Row {
+        mass: last.mass + flows.inflow - flows.outflow,
+        inflow: flows.inflow,
+        outflow: flows.outflow,
+    })?;
+    *mesh = Mesh::of(number + 1, rows, levels);
+    Ok(())
+}
