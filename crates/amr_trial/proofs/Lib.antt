@@ -1,6 +1,8 @@
 mod Accepted
+mod Boxes
 mod Documents
 mod Inside
+mod LineParts
 mod NameTexts
 mod PlainTexts
 mod Rows

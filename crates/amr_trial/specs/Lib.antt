@@ -4,3 +4,4 @@ pub mod Parts
 pub mod Document
 pub mod Laws
 pub mod Summary
+pub mod Digests

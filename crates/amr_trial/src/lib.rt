@@ -1,16 +1,20 @@
 //! Trials: problems that are drawn from two numbers, so that a run and its answer are told by one line. This crate has the
-//! generator, the text of a trial's problem, and the definition of the line that a trial prints.
+//! generator, the text of a trial's problem, and the line that a trial prints of a mesh's state.
 #![tactic(auto)]
 
 ghost use Rattle.amr_trial.specs.Laws.{BlocksLieInside, CourantNumbersFit, TextsAreAccepted, TextsAreDocuments, TextsAreShort, TextsAreUtf8};
 
+mod digest;
 mod generator;
+mod line;
 mod problem;
 #[cfg(test)]
 mod tests;
 mod writing;
 
+pub use digest::DigestSink;
 pub use generator::Generator;
+pub use line::summary;
 pub use problem::text;
 
 /// The Courant numbers of a trial add up to at most seven eighths.
