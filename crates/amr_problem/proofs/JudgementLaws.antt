@@ -3,15 +3,16 @@ use Rattle.std.proofs.Common.{◌≡◌, ◌∙◌, ap, refl, inl, inr, ℤ, Lis
 use Rattle.std.proofs.lemmas.Bool.{cases_Bool}
 use Rattle.std.specs.Option.{option_or}
 use Rattle.toml.specs.Data.{Members}
+use Rattle.amr_def.specs.declared.problem.Problem.{Problem}
 use Rattle.amr_problem.specs.declared.entries.Entries.{Entries}
 use Rattle.amr_problem.specs.declared.fault.ProblemFault.{ProblemFault}
 use Rattle.amr_problem.specs.declared.key.Key.{Key}
-use Rattle.amr_problem.specs.declared.parts.Parts.{Parts}
 use Rattle.amr_problem.specs.declared.scope.Scope.{Scope}
 use Rattle.amr_problem.specs.declared.scope.Scope.TheVariants.{Whole}
 use Rattle.amr_problem.specs.Keys.{kind_of}
 use Rattle.amr_problem.specs.Faults.{is_read, unknown_key, missing_key, wrong_kind, first_wrong, courant_over, sides_differ, block_outside, tag_count, blocking_misfit, fault_in}
-use Rattle.amr_problem.specs.Entries.{basic_keys, refining_keys, overlay_keys, IsReadOf, HasShears, AreValues, range_fault, entry_fault}
+use Rattle.amr_problem.specs.Entries.{basic_keys, refining_keys, overlay_keys, IsReadOf, HasShears, range_fault, entry_fault}
+use Rattle.amr_problem.specs.Fields.{IsOfEntries}
 use Rattle.amr_problem.specs.Judgement.{HasKeys}
 use Rattle.amr_problem.proofs.EntryLaws.{same_ranges}
 use Rattle.amr_problem.proofs.FirstSome.{first_some-cons}
@@ -62,27 +63,27 @@ has_shears table e r = record {
 four_sides : {a b c d : ℤ} {xs ys : List ℤ} → a ∷ b ∷ [] ≡ xs → c ∷ d ∷ [] ≡ ys → a ∷ b ∷ c ∷ d ∷ [] ≡ xs ++ ys
 four_sides x y = rw (← x, ← y)
 
-pub has_keys : (table : Members) (e : Entries) (q : Parts) → IsReadOf table e → AreValues e q → HasKeys table q
-has_keys table e q r v =
+pub has_keys : (table : Members) (e : Entries) (p : Problem) → IsReadOf table e → IsOfEntries e p → HasKeys table p
+has_keys table e p r v =
     let b = r.basics in
     let f = r.refining in
     let o = r.overlay in
     record {
-      version = b.version ∙ ap Some v.version;
-      name = b.name ∙ ap Some v.name;
-      cells = b.cells ∙ rw (v.nx, v.ny);
-      steps = b.steps ∙ ap Some v.steps;
-      courant = b.courant ∙ rw (v.cx, v.cy, v.d);
-      sides = b.sides ∙ ap Some (four_sides v.x_sides v.y_sides);
-      max_level = b.max_level ∙ ap Some v.max_level;
-      tag = f.tag ∙ ap Some v.tag;
-      n_error_buf = f.n_error_buf ∙ ap Some v.n_error_buf;
-      efficiency = f.efficiency ∙ ap Some v.efficiency;
-      min_width = f.min_width ∙ ap Some v.min_width;
-      regrid_int = f.regrid_int ∙ ap Some v.regrid_int;
-      max_grid_size = f.max_grid_size ∙ ap Some v.max_grid_size;
-      blocks = o.blocks ∙ ap Some v.blocks;
-      shear_x = rw v.ny at (o.shear_x ∙ ap Some v.shear_x);
-      shear_y = rw v.nx at (o.shear_y ∙ ap Some v.shear_y);
-      blocking = o.blocking ∙ ap Some v.blocking;
+      version = b.version ∙ ap Some v.version_is;
+      name = b.name ∙ ap Some v.name_is;
+      cells = b.cells ∙ rw (v.nx_is, v.ny_is);
+      steps = b.steps ∙ ap Some v.steps_is;
+      courant = b.courant ∙ rw (v.cx_is, v.cy_is, v.d_is);
+      sides = b.sides ∙ ap Some (four_sides v.x_sides_are v.y_sides_are);
+      max_level = b.max_level ∙ ap Some v.max_level_is;
+      tag = f.tag ∙ ap Some v.tag_is;
+      n_error_buf = f.n_error_buf ∙ ap Some v.n_error_buf_is;
+      efficiency = f.efficiency ∙ ap Some v.efficiency_is;
+      min_width = f.min_width ∙ ap Some v.min_width_is;
+      regrid_int = f.regrid_int ∙ ap Some v.regrid_int_is;
+      max_grid_size = f.max_grid_size ∙ ap Some v.max_grid_size_is;
+      blocks = o.blocks ∙ ap Some v.blocks_are;
+      shear_x = rw v.ny_is at (o.shear_x ∙ ap Some v.shear_x_is);
+      shear_y = rw v.nx_is at (o.shear_y ∙ ap Some v.shear_y_is);
+      blocking = o.blocking ∙ ap Some v.blocking_is;
     }

@@ -10,22 +10,48 @@ use Rattle.amr_def.specs.declared.problem.Block.{Block}
 use Rattle.amr_def.specs.declared.problem.Sides.{Sides}
 use Rattle.amr_def.specs.declared.problem.Sides.TheVariants.{Periodic, Open}
 use Rattle.amr_def.specs.Limits.{Limits}
-use Rattle.amr_problem.specs.declared.parts.Parts.{Parts}
 use Rattle.amr_problem.specs.declared.scope.Scope.{Scope}
 use Rattle.amr_problem.specs.Document.{table_of}
-use Rattle.amr_problem.specs.Fields.{sides_numbers, block_numbers, parts_of}
+use Rattle.amr_problem.specs.Fields.{sides_numbers, block_numbers}
 use Rattle.amr_problem.specs.Judgement.{HasKeys, IsProblemOf}
 
--- ---- a problem by its parts
+-- ---- a problem by its fields
 
-abbrev LimitsOf : Parts → Type 0
+-- the fields of a problem without the fact that they are within the limits
+record Fields : Type 0 where
+  version : ℕ
+  name : List ℕ
+  nx : ℕ
+  ny : ℕ
+  steps : ℕ
+  cx : ℤ
+  cy : ℤ
+  d : ℕ
+  shear_x : List ℤ
+  shear_y : List ℤ
+  x_sides : Sides
+  y_sides : Sides
+  max_level : ℕ
+  tag : List ℕ
+  n_error_buf : ℕ
+  efficiency : ℕ
+  min_width : ℕ
+  regrid_int : ℕ
+  blocking : ℕ
+  max_grid_size : ℕ
+  blocks : List Block
+
+fields_of : Problem → Fields
+fields_of p = record { version = p.version; name = p.name; nx = p.nx; ny = p.ny; steps = p.steps; cx = p.cx; cy = p.cy; d = p.d; shear_x = p.shear_x; shear_y = p.shear_y; x_sides = p.x_sides; y_sides = p.y_sides; max_level = p.max_level; tag = p.tag; n_error_buf = p.n_error_buf; efficiency = p.efficiency; min_width = p.min_width; regrid_int = p.regrid_int; blocking = p.blocking; max_grid_size = p.max_grid_size; blocks = p.blocks }
+
+abbrev LimitsOf : Fields → Type 0
 LimitsOf f = Limits f.version f.name f.nx f.ny f.steps f.cx f.cy f.d f.shear_x f.shear_y f.x_sides f.y_sides f.max_level f.tag f.n_error_buf f.efficiency f.min_width f.regrid_int f.blocking f.max_grid_size f.blocks
 
 -- limits have one proof
-limits_once : (f : Parts) → (l k : LimitsOf f) → l ≡ k
+limits_once : (f : Fields) → (l k : LimitsOf f) → l ≡ k
 limits_once f = hlevel props
 
-abbrev made : (f : Parts) → LimitsOf f → Problem
+abbrev made : (f : Fields) → LimitsOf f → Problem
 made f l = record {
   version = f.version;
   name = f.name;
@@ -51,12 +77,12 @@ made f l = record {
   limits = l;
 }
 
-same_made : (f g : Parts) → f ≡ g → (l : LimitsOf f) → (k : LimitsOf g) → made f l ≡ made g k
-same_made f g is l = subst (λ (h : Parts). (k : LimitsOf h) → made f l ≡ made h k) is (λ k. ap (made f) (limits_once f l k))
+same_made : (f g : Fields) → f ≡ g → (l : LimitsOf f) → (k : LimitsOf g) → made f l ≡ made g k
+same_made f g is l = subst (λ (h : Fields). (k : LimitsOf h) → made f l ≡ made h k) is (λ k. ap (made f) (limits_once f l k))
 
-same_parts : (p q : Problem) → parts_of p ≡ parts_of q → p ≡ q
-unfolding parts_of
-same_parts p q is = same_made (parts_of p) (parts_of q) is p.limits q.limits
+same_fields : (p q : Problem) → fields_of p ≡ fields_of q → p ≡ q
+unfolding fields_of
+same_fields p q is = same_made (fields_of p) (fields_of q) is p.limits q.limits
 
 -- ---- what its text says of the fields
 
@@ -115,16 +141,9 @@ same_numbers (m ∷ ms) (n ∷ ns) is =
 one_number : (at_key : Option ℤ) (m n : ℕ) → at_key ≡ Some (pos m) → at_key ≡ Some (pos n) → m ≡ n
 one_number at_key m n is_m is_n = same_pos (same_Some _ _ (sym is_m ∙ is_n))
 
-copy_of : Parts → Parts
-copy_of q = record { version = q.version; name = q.name; nx = q.nx; ny = q.ny; steps = q.steps; cx = q.cx; cy = q.cy; d = q.d; shear_x = q.shear_x; shear_y = q.shear_y; x_sides = q.x_sides; y_sides = q.y_sides; max_level = q.max_level; tag = q.tag; n_error_buf = q.n_error_buf; efficiency = q.efficiency; min_width = q.min_width; regrid_int = q.regrid_int; blocking = q.blocking; max_grid_size = q.max_grid_size; blocks = q.blocks }
-
-rebuilt : (p q : Parts) → copy_of p ≡ copy_of q → p ≡ q
-unfolding copy_of
-rebuilt p q is = is
-
--- two lists of parts of the same table are the same
-one_of_keys : (table : Members) (p q : Parts) → HasKeys table p → HasKeys table q → p ≡ q
-unfolding copy_of
+-- two problems of the same table have the same fields
+one_of_keys : (table : Members) (p q : Problem) → HasKeys table p → HasKeys table q → fields_of p ≡ fields_of q
+unfolding fields_of
 one_of_keys table p q h k =
     let version : p.version ≡ q.version = one_number _ _ _ h.version k.version in
     let cells : pos p.nx ∷ pos p.ny ∷ [] ≡ pos q.nx ∷ pos q.ny ∷ [] = same_Some _ _ (sym h.cells ∙ k.cells) in
@@ -149,7 +168,7 @@ one_of_keys table p q h k =
     let shear_x : p.shear_x ≡ q.shear_x = same_Some _ _ (sym h.shear_x ∙ (rw ny k.shear_x)) in
     let shear_y : p.shear_y ≡ q.shear_y = same_Some _ _ (sym h.shear_y ∙ (rw nx k.shear_y)) in
     let blocking : p.blocking ≡ q.blocking = one_number _ _ _ h.blocking k.blocking in
-    rebuilt p q (rw (version, name, nx, ny, steps, cx, cy, d, shear_x, shear_y, sides.front, y.front, max_level, tag, n_error_buf, efficiency, min_width, regrid_int, blocking, max_grid_size, blocks) refl)
+    rw (version, name, nx, ny, steps, cx, cy, d, shear_x, shear_y, sides.front, y.front, max_level, tag, n_error_buf, efficiency, min_width, regrid_int, blocking, max_grid_size, blocks) refl
 
 pub one_problem : (scope : Scope) (bytes : List ℕ) (p q : Problem) → IsProblemOf scope bytes p → IsProblemOf scope bytes q → p ≡ q
-one_problem scope bytes p q is_p is_q = same_parts p q (one_of_keys (table_of bytes) (parts_of p) (parts_of q) is_p.keys is_q.keys)
+one_problem scope bytes p q is_p is_q = same_fields p q (one_of_keys (table_of bytes) p q is_p.keys is_q.keys)

@@ -4,7 +4,6 @@ use Rattle.amr_def.specs.declared.problem.Problem.{Problem}
 use Rattle.amr_problem.specs.declared.fault.ProblemFault.TheVariants.{TooLong}
 use Rattle.amr_problem.specs.declared.scope.Scope.{Scope}
 use Rattle.amr_problem.specs.declared.scope.Scope.TheVariants.{OneLevel}
-use Rattle.amr_problem.specs.Fields.{parts_of}
 use Rattle.amr_problem.specs.Judgement.{IsProblemOf, fault_of}
 
 pub record HasOneLevel (p : Problem) : Type 0 where
@@ -12,7 +11,6 @@ pub record HasOneLevel (p : Problem) : Type 0 where
 
 -- where one level is taken, it has one
 pub has_one_level : (bytes : List ℕ) (p : Problem) → IsProblemOf OneLevel bytes p → HasOneLevel p
-unfolding parts_of
 has_one_level bytes p is = let last : p.max_level ≤ 0 = is.in_scope.last_level in record { one_level = omega (arith, last) }
 
 -- more bytes than a problem has are none

@@ -6,19 +6,20 @@ use Rattle.std.proofs.lemmas.Int.{ints}
 use Rattle.std.proofs.lemmas.List.{length-map}
 use Rattle.std.specs.List.{list_all}
 use Rattle.std.specs.Ordering.{int_eq}
+use Rattle.amr_def.specs.declared.problem.Problem.{Problem}
 use Rattle.amr_def.specs.declared.problem.Block.{Block}
 use Rattle.amr_def.specs.declared.problem.Sides.{Sides}
 use Rattle.amr_def.specs.declared.problem.Sides.TheVariants.{Periodic, Open}
-use Rattle.amr_def.specs.Limits.{is_block, has_inflows, greatest_size, in_use, is_shear, between, greatest_given, is_blocking}
+use Rattle.amr_def.specs.Limits.{Limits, is_block, has_inflows, greatest_size, in_use, is_shear, between, greatest_given, is_blocking}
 use Rattle.amr_problem.specs.declared.entries.Entries.{Entries}
-use Rattle.amr_problem.specs.declared.parts.Parts.{Parts}
 use Rattle.amr_problem.specs.declared.key.Key.TheVariants.{Blocks}
 use Rattle.amr_problem.specs.declared.scope.Scope.{Scope}
 use Rattle.amr_problem.specs.declared.scope.Scope.TheVariants.{OneLevel, FirstVersion, Whole}
 use Rattle.amr_problem.specs.Keys.{ranges_of, range, coordinate, threshold, courant_number, blocking_factor, is_even, holds, first_outside, greatest_version, greatest_level}
-use Rattle.amr_problem.specs.Fields.{sides_numbers, block_numbers, HasLimits, IsInScope}
+use Rattle.amr_problem.specs.Fields.{sides_numbers, block_numbers, AreValues, IsOfEntries}
 use Rattle.amr_problem.specs.Faults.{over_by, is_periodic, differ, sides_differ, is_inside, tag_count, fits, blocking_misfit}
-use Rattle.amr_problem.specs.Entries.{IsSide, is_for_lines, HasShears, IsClean, AreValues}
+use Rattle.amr_problem.specs.Entries.{IsSide, is_for_lines, HasShears, IsClean}
+use Rattle.amr_problem.specs.Judgement.{IsInScope}
 use Rattle.amr_problem.proofs.FirstSome.{option_map-none}
 use Rattle.amr_problem.proofs.RangeLaws.{holds-IsIn, first_outside-none}
 use Rattle.amr_problem.proofs.EntryLaws.{size_within}
@@ -174,73 +175,75 @@ level_of OneLevel = omega arith
 level_of FirstVersion = omega arith
 level_of Whole = omega arith
 
-pub in_scope : (scope : Scope) (e : Entries) (q : Parts) → IsClean scope e → AreValues e q → IsInScope scope q
-in_scope scope e q clean v =
+pub in_scope : (scope : Scope) (e : Entries) (p : Problem) → IsClean scope e → IsOfEntries e p → IsInScope scope p
+in_scope scope e p clean v =
     let b = clean.in_range.basics in
-    let least : pos 1 ≤ℤ pos q.version = rw v.version at b.least_version in
-    let greatest : pos q.version ≤ℤ pos (greatest_version scope) = rw v.version at b.greatest_version in
-    let level : pos q.max_level ≤ℤ pos (greatest_level scope) = rw v.max_level at b.greatest_max_level in
-    record { least_version = omega (arith, ints); last_version = omega (arith, ints); last_level = omega (arith, ints) }
+    let greatest : pos p.version ≤ℤ pos (greatest_version scope) = rw v.version_is at b.greatest_version in
+    let level : pos p.max_level ≤ℤ pos (greatest_level scope) = rw v.max_level_is at b.greatest_max_level in
+    record { last_version = omega (arith, ints); last_level = omega (arith, ints) }
 
-pub has_limits : (scope : Scope) (e : Entries) (q : Parts) → IsClean scope e → HasShears e.basics.nx e.basics.ny e.overlay → AreValues e q → HasLimits q
-has_limits scope e q clean shears v =
+pub has_limits : (scope : Scope) (e : Entries) {version : ℕ} {name : List ℕ} {nx ny steps : ℕ} {cx cy : ℤ} {d : ℕ} {shear_x shear_y : List ℤ} {x_sides y_sides : Sides} {max_level : ℕ} {tag : List ℕ} {n_error_buf efficiency min_width regrid_int blocking max_grid_size : ℕ} {blocks : List Block}
+    → IsClean scope e → HasShears e.basics.nx e.basics.ny e.overlay
+    → AreValues e version name nx ny steps cx cy d shear_x shear_y x_sides y_sides max_level tag n_error_buf efficiency min_width regrid_int blocking max_grid_size blocks
+    → Limits version name nx ny steps cx cy d shear_x shear_y x_sides y_sides max_level tag n_error_buf efficiency min_width regrid_int blocking max_grid_size blocks
+has_limits scope e {version} {name} {nx} {ny} {steps} {cx} {cy} {d} {shear_x} {shear_y} {x_sides} {y_sides} {max_level} {tag} {n_error_buf} {efficiency} {min_width} {regrid_int} {blocking} {max_grid_size} {blocks} clean shears v =
     let b = clean.in_range.basics in
     let r = clean.in_range.refining in
     let o = clean.in_range.overlay in
     let inside : list_all (is_inside (e.basics.nx ∷ e.basics.ny ∷ [])) e.overlay.blocks.items ≡ true = position-none (is_inside (e.basics.nx ∷ e.basics.ny ∷ [])) e.overlay.blocks.items (option_map-none _ _ clean.inside) in
-    let inside' : list_all (is_inside (pos q.nx ∷ pos q.ny ∷ [])) (map block_numbers q.blocks) ≡ true = rw (v.nx, v.ny, v.blocks) at inside in
-    let in_range' : list_all (λ row. is_none (first_outside (ranges_of Whole Blocks) row)) (map block_numbers q.blocks) ≡ true = rw v.blocks at o.blocks in
-    let over : over_by (greatest_size (in_use q.cx q.shear_x) + greatest_size (in_use q.cy q.shear_y)) (pos q.d) ≡ None = rw (v.cx, v.cy, v.d, v.shear_x, v.shear_y) at clean.stable in
-    let stable : pos (greatest_size (in_use q.cx q.shear_x) + greatest_size (in_use q.cy q.shear_y)) ≤ℤ pos q.d = stable-from_none _ (pos q.d) over in
+    let inside' : list_all (is_inside (pos nx ∷ pos ny ∷ [])) (map block_numbers blocks) ≡ true = rw (v.nx_is, v.ny_is, v.blocks_are) at inside in
+    let in_range' : list_all (λ row. is_none (first_outside (ranges_of Whole Blocks) row)) (map block_numbers blocks) ≡ true = rw v.blocks_are at o.blocks in
+    let over : over_by (greatest_size (in_use cx shear_x) + greatest_size (in_use cy shear_y)) (pos d) ≡ None = rw (v.cx_is, v.cy_is, v.d_is, v.shear_x_is, v.shear_y_is) at clean.stable in
+    let stable : pos (greatest_size (in_use cx shear_x) + greatest_size (in_use cy shear_y)) ≤ℤ pos d = stable-from_none _ (pos d) over in
     let two : greatest_version scope ≤ 2 = greatest_of scope in
-    let least_version : pos 1 ≤ℤ pos q.version = rw v.version at b.least_version in
-    let greatest : pos q.version ≤ℤ pos (greatest_version scope) = rw v.version at b.greatest_version in
-    let least_nx : pos 2 ≤ℤ pos q.nx = rw v.nx at b.least_nx in
-    let greatest_nx : pos q.nx ≤ℤ pos 256 = rw v.nx at b.greatest_nx in
-    let least_ny : pos 2 ≤ℤ pos q.ny = rw v.ny at b.least_ny in
-    let greatest_ny : pos q.ny ≤ℤ pos 256 = rw v.ny at b.greatest_ny in
-    let greatest_steps : pos q.steps ≤ℤ pos 4096 = rw v.steps at b.greatest_steps in
-    let least_d : pos 1 ≤ℤ pos q.d = rw v.d at b.least_d in
-    let greatest_d : pos q.d ≤ℤ pos 1024 = rw v.d at b.greatest_d in
-    let greatest_max_level : pos q.max_level ≤ℤ pos (greatest_level scope) = rw v.max_level at b.greatest_max_level in
+    let least_version : pos 1 ≤ℤ pos version = rw v.version_is at b.least_version in
+    let greatest : pos version ≤ℤ pos (greatest_version scope) = rw v.version_is at b.greatest_version in
+    let least_nx : pos 2 ≤ℤ pos nx = rw v.nx_is at b.least_nx in
+    let greatest_nx : pos nx ≤ℤ pos 256 = rw v.nx_is at b.greatest_nx in
+    let least_ny : pos 2 ≤ℤ pos ny = rw v.ny_is at b.least_ny in
+    let greatest_ny : pos ny ≤ℤ pos 256 = rw v.ny_is at b.greatest_ny in
+    let greatest_steps : pos steps ≤ℤ pos 4096 = rw v.steps_is at b.greatest_steps in
+    let least_d : pos 1 ≤ℤ pos d = rw v.d_is at b.least_d in
+    let greatest_d : pos d ≤ℤ pos 1024 = rw v.d_is at b.greatest_d in
+    let greatest_max_level : pos max_level ≤ℤ pos (greatest_level scope) = rw v.max_level_is at b.greatest_max_level in
     let four : greatest_level scope ≤ 4 = level_of scope in
-    let greatest_buf : pos q.n_error_buf ≤ℤ pos 8 = rw v.n_error_buf at r.greatest_n_error_buf in
-    let least_share : pos 1 ≤ℤ pos q.efficiency = rw v.efficiency at r.least_efficiency in
-    let greatest_share : pos q.efficiency ≤ℤ pos 100 = rw v.efficiency at r.greatest_efficiency in
-    let least_width : pos 1 ≤ℤ pos q.min_width = rw v.min_width at r.least_min_width in
-    let greatest_width : pos q.min_width ≤ℤ pos 16 = rw v.min_width at r.greatest_min_width in
-    let least_interval : pos 1 ≤ℤ pos q.regrid_int = rw v.regrid_int at r.least_regrid_int in
-    let greatest_interval : pos q.regrid_int ≤ℤ pos 4096 = rw v.regrid_int at r.greatest_regrid_int in
-    let least_grid : pos 4 ≤ℤ pos q.max_grid_size = rw v.max_grid_size at r.least_max_grid_size in
-    let greatest_grid : pos q.max_grid_size ≤ℤ pos 256 = rw v.max_grid_size at r.greatest_max_grid_size in
-    let even : is_even (pos q.max_grid_size) ≡ true = rw v.max_grid_size at r.even_max_grid_size in
-    let many : length (map block_numbers q.blocks) ≤ 256 = rw v.blocks at o.block_count in
-    let blocking : holds blocking_factor (pos q.blocking) ≡ true = rw v.blocking at o.blocking in
-    let x_fits : fits (pos q.blocking) (pos q.nx) ≡ true = rw (v.blocking, v.nx) at clean.x_fits in
-    let y_fits : fits (pos q.blocking) (pos q.ny) ≡ true = rw (v.blocking, v.ny) at clean.y_fits in
+    let greatest_buf : pos n_error_buf ≤ℤ pos 8 = rw v.n_error_buf_is at r.greatest_n_error_buf in
+    let least_share : pos 1 ≤ℤ pos efficiency = rw v.efficiency_is at r.least_efficiency in
+    let greatest_share : pos efficiency ≤ℤ pos 100 = rw v.efficiency_is at r.greatest_efficiency in
+    let least_width : pos 1 ≤ℤ pos min_width = rw v.min_width_is at r.least_min_width in
+    let greatest_width : pos min_width ≤ℤ pos 16 = rw v.min_width_is at r.greatest_min_width in
+    let least_interval : pos 1 ≤ℤ pos regrid_int = rw v.regrid_int_is at r.least_regrid_int in
+    let greatest_interval : pos regrid_int ≤ℤ pos 4096 = rw v.regrid_int_is at r.greatest_regrid_int in
+    let least_grid : pos 4 ≤ℤ pos max_grid_size = rw v.max_grid_size_is at r.least_max_grid_size in
+    let greatest_grid : pos max_grid_size ≤ℤ pos 256 = rw v.max_grid_size_is at r.greatest_max_grid_size in
+    let even : is_even (pos max_grid_size) ≡ true = rw v.max_grid_size_is at r.even_max_grid_size in
+    let many : length (map block_numbers blocks) ≤ 256 = rw v.blocks_are at o.block_count in
+    let factor : holds blocking_factor (pos blocking) ≡ true = rw v.blocking_is at o.blocking in
+    let x_fits : fits (pos blocking) (pos nx) ≡ true = rw (v.blocking_is, v.nx_is) at clean.x_fits in
+    let y_fits : fits (pos blocking) (pos ny) ≡ true = rw (v.blocking_is, v.ny_is) at clean.y_fits in
     record {
       first_version = omega (arith, ints);
       last_version = omega (arith, ints);
-      named = rw v.name at b.named;
-      short_name = rw v.name at b.short_name;
-      name_bytes = rw v.name at b.name_bytes;
+      named = rw v.name_is at b.named;
+      short_name = rw v.name_is at b.short_name;
+      name_bytes = rw v.name_is at b.name_bytes;
       least_nx = omega (arith, ints);
       greatest_nx = omega (arith, ints);
       least_ny = omega (arith, ints);
       greatest_ny = omega (arith, ints);
       greatest_steps = omega (arith, ints);
-      greatest_cx = rw v.cx at b.size_cx;
-      greatest_cy = rw v.cy at b.size_cy;
+      greatest_cx = rw v.cx_is at b.size_cx;
+      greatest_cy = rw v.cy_is at b.size_cy;
       least_d = omega (arith, ints);
       greatest_d = omega (arith, ints);
-      rows_shear = shear_fits q.ny q.shear_x (rw (v.ny, v.shear_x) at shears.rows) (rw v.shear_x at o.shear_x);
-      columns_shear = shear_fits q.nx q.shear_y (rw (v.nx, v.shear_y) at shears.columns) (rw v.shear_y at o.shear_y);
+      rows_shear = shear_fits ny shear_x (rw (v.ny_is, v.shear_x_is) at shears.rows) (rw v.shear_x_is at o.shear_x);
+      columns_shear = shear_fits nx shear_y (rw (v.nx_is, v.shear_y_is) at shears.columns) (rw v.shear_y_is at o.shear_y);
       stable = omega (arith, ints);
-      x_inflows = inflows_fit q.x_sides e.basics.x_low e.basics.x_high v.x_sides b.x_low b.x_high;
-      y_inflows = inflows_fit q.y_sides e.basics.y_low e.basics.y_high v.y_sides b.y_low b.y_high;
+      x_inflows = inflows_fit x_sides e.basics.x_low e.basics.x_high v.x_sides_are b.x_low b.x_high;
+      y_inflows = inflows_fit y_sides e.basics.y_low e.basics.y_high v.y_sides_are b.y_low b.y_high;
       greatest_max_level = omega (arith, ints);
-      tag_count = counted q.max_level q.tag (rw (v.max_level, v.tag) at clean.counted);
-      thresholds = thresholds_fit q.tag (rw v.tag at r.tag);
+      tag_count = counted max_level tag (rw (v.max_level_is, v.tag_is) at clean.counted);
+      thresholds = thresholds_fit tag (rw v.tag_is at r.tag);
       greatest_n_error_buf = omega (arith, ints);
       least_efficiency = omega (arith, ints);
       greatest_efficiency = omega (arith, ints);
@@ -248,12 +251,12 @@ has_limits scope e q clean shears v =
       greatest_min_width = omega (arith, ints);
       least_regrid_int = omega (arith, ints);
       greatest_regrid_int = omega (arith, ints);
-      blocking_factor = is_factor q.blocking (holds-IsIn blocking_factor (pos q.blocking) blocking).among;
-      x_blocks = eqb-true (q.nx % (q.blocking / 2)) 0 x_fits;
-      y_blocks = eqb-true (q.ny % (q.blocking / 2)) 0 y_fits;
+      blocking_factor = is_factor blocking (holds-IsIn blocking_factor (pos blocking) factor).among;
+      x_blocks = eqb-true (nx % (blocking / 2)) 0 x_fits;
+      y_blocks = eqb-true (ny % (blocking / 2)) 0 y_fits;
       least_max_grid_size = omega (arith, ints);
       greatest_max_grid_size = omega (arith, ints);
-      even_max_grid_size = eqb-true (q.max_grid_size % 2) 0 even;
-      block_count = omega (arith, length-map q.blocks block_numbers);
-      blocks_inside = blocks_inside q.nx q.ny q.blocks inside' in_range';
+      even_max_grid_size = eqb-true (max_grid_size % 2) 0 even;
+      block_count = omega (arith, length-map blocks block_numbers);
+      blocks_inside = blocks_inside nx ny blocks inside' in_range';
     }

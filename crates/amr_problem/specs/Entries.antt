@@ -1,5 +1,5 @@
 -- What a problem writes at its keys.
-use Rattle.std.specs.Prelude.{◌≡◌, ◌≤◌, ◌||◌, ◌==◌, ℤ, pos, negsuc, ◌≤ℤ◌, unsigned_abs, Bool, true, Option, Some, None, map, option_map, is_none, List, [], ◌∷◌, length}
+use Rattle.std.specs.Prelude.{◌≡◌, ◌≤◌, ◌||◌, ◌==◌, ℤ, pos, negsuc, ◌≤ℤ◌, unsigned_abs, Bool, true, Option, Some, None, option_map, is_none, List, [], ◌∷◌, length}
 use Rattle.std.specs.Ordering.{int_eq}
 use Rattle.std.specs.List.{list_all}
 use Rattle.std.specs.Option.{option_or}
@@ -13,11 +13,9 @@ use Rattle.amr_problem.specs.declared.fault.ProblemFault.{ProblemFault}
 use Rattle.amr_problem.specs.declared.fault.ProblemFault.TheVariants.{OutOfRange}
 use Rattle.amr_problem.specs.declared.key.Key.{Key}
 use Rattle.amr_problem.specs.declared.key.Key.TheVariants.{Version, Name, Cells, Steps, Courant, Sides, MaxLevel, Tag, NErrorBuf, Efficiency, MinWidth, RegridInt, MaxGridSize, Blocks, ShearX, ShearY, Blocking}
-use Rattle.amr_problem.specs.declared.parts.Parts.{Parts}
 use Rattle.amr_problem.specs.declared.scope.Scope.{Scope}
 use Rattle.amr_problem.specs.declared.scope.Scope.TheVariants.{Whole}
 use Rattle.amr_problem.specs.Keys.{range, ranges_of, first_outside, first_beyond, is_even, holds, threshold, courant_number, blocking_factor, greatest_version, greatest_level}
-use Rattle.amr_problem.specs.Fields.{sides_numbers, block_numbers}
 use Rattle.amr_problem.specs.Faults.{courant_over, is_periodic, sides_differ, block_outside, tag_count, blocking_misfit, fits, first_some, text_outside, rows_outside}
 use Rattle.amr_problem.specs.Values.{number_at, text_at, numbers_at, integers_at, shear_at, rows_at}
 
@@ -190,29 +188,3 @@ pub record IsClean (scope : Scope) (e : Entries) : Type 0 where
   pub counted : tag_count e.basics.max_level e.refining.tag.items ≡ None
   pub x_fits : fits e.overlay.blocking e.basics.nx ≡ true
   pub y_fits : fits e.overlay.blocking e.basics.ny ≡ true
-
--- ---- parts
-
--- the parts are what the entries say
-pub record AreValues (e : Entries) (q : Parts) : Type 0 where
-  pub version : e.basics.version ≡ pos q.version
-  pub name : e.basics.name.items ≡ q.name
-  pub nx : e.basics.nx ≡ pos q.nx
-  pub ny : e.basics.ny ≡ pos q.ny
-  pub steps : e.basics.steps ≡ pos q.steps
-  pub cx : e.basics.cx ≡ q.cx
-  pub cy : e.basics.cy ≡ q.cy
-  pub d : e.basics.d ≡ pos q.d
-  pub x_sides : e.basics.x_low ∷ e.basics.x_high ∷ [] ≡ sides_numbers q.x_sides
-  pub y_sides : e.basics.y_low ∷ e.basics.y_high ∷ [] ≡ sides_numbers q.y_sides
-  pub max_level : e.basics.max_level ≡ pos q.max_level
-  pub tag : e.refining.tag.items ≡ map pos q.tag
-  pub n_error_buf : e.refining.n_error_buf ≡ pos q.n_error_buf
-  pub efficiency : e.refining.efficiency ≡ pos q.efficiency
-  pub min_width : e.refining.min_width ≡ pos q.min_width
-  pub regrid_int : e.refining.regrid_int ≡ pos q.regrid_int
-  pub max_grid_size : e.refining.max_grid_size ≡ pos q.max_grid_size
-  pub blocks : e.overlay.blocks.items ≡ map block_numbers q.blocks
-  pub shear_x : e.overlay.shear_x.items ≡ q.shear_x
-  pub shear_y : e.overlay.shear_y.items ≡ q.shear_y
-  pub blocking : e.overlay.blocking ≡ pos q.blocking

@@ -1,13 +1,10 @@
--- The fields of a problem, as its text writes them, and their limits.
-use Rattle.std.specs.Prelude.{◌≤◌, ℤ, pos, negsuc, List, [], ◌∷◌}
+-- The fields of a problem, as its text writes them.
+use Rattle.std.specs.Prelude.{◌≡◌, ℕ, ℤ, pos, negsuc, List, [], ◌∷◌, map}
 use Rattle.amr_def.specs.declared.problem.Problem.{Problem}
 use Rattle.amr_def.specs.declared.problem.Block.{Block}
 use Rattle.amr_def.specs.declared.problem.Sides.{Sides}
 use Rattle.amr_def.specs.declared.problem.Sides.TheVariants.{Periodic, Open}
-use Rattle.amr_def.specs.Limits.{Limits}
-use Rattle.amr_problem.specs.declared.parts.Parts.{Parts}
-use Rattle.amr_problem.specs.declared.scope.Scope.{Scope}
-use Rattle.amr_problem.specs.Keys.{greatest_version, greatest_level}
+use Rattle.amr_problem.specs.declared.entries.Entries.{Entries}
 
 -- as a problem writes an axis's sides: -1 twice, or its inflows
 abbrev pub sides_numbers : Sides → List ℤ
@@ -18,38 +15,31 @@ sides_numbers (Open low high) = pos low ∷ pos high ∷ []
 abbrev pub block_numbers : Block → List ℤ
 block_numbers b = pos b.x0 ∷ pos b.y0 ∷ pos b.x1 ∷ pos b.y1 ∷ pos b.mass ∷ []
 
--- the parts of a problem: its fields
-unfoldable pub parts_of : Problem → Parts
-parts_of p = record {
-  version = p.version;
-  name = p.name;
-  nx = p.nx;
-  ny = p.ny;
-  steps = p.steps;
-  cx = p.cx;
-  cy = p.cy;
-  d = p.d;
-  shear_x = p.shear_x;
-  shear_y = p.shear_y;
-  x_sides = p.x_sides;
-  y_sides = p.y_sides;
-  max_level = p.max_level;
-  tag = p.tag;
-  n_error_buf = p.n_error_buf;
-  efficiency = p.efficiency;
-  min_width = p.min_width;
-  regrid_int = p.regrid_int;
-  blocking = p.blocking;
-  max_grid_size = p.max_grid_size;
-  blocks = p.blocks;
-}
+-- ---- from entries to a problem
 
--- the limits of a problem
-abbrev pub HasLimits : Parts → Type 0
-HasLimits q = Limits q.version q.name q.nx q.ny q.steps q.cx q.cy q.d q.shear_x q.shear_y q.x_sides q.y_sides q.max_level q.tag q.n_error_buf q.efficiency q.min_width q.regrid_int q.blocking q.max_grid_size q.blocks
+-- The fields of a problem are what the entries say. They stand in the order of its limits.
+pub record AreValues (e : Entries) (version : ℕ) (name : List ℕ) (nx ny steps : ℕ) (cx cy : ℤ) (d : ℕ) (shear_x shear_y : List ℤ) (x_sides y_sides : Sides) (max_level : ℕ) (tag : List ℕ) (n_error_buf efficiency min_width regrid_int blocking max_grid_size : ℕ) (blocks : List Block) : Type 0 where
+  pub version_is : e.basics.version ≡ pos version
+  pub name_is : e.basics.name.items ≡ name
+  pub nx_is : e.basics.nx ≡ pos nx
+  pub ny_is : e.basics.ny ≡ pos ny
+  pub steps_is : e.basics.steps ≡ pos steps
+  pub cx_is : e.basics.cx ≡ cx
+  pub cy_is : e.basics.cy ≡ cy
+  pub d_is : e.basics.d ≡ pos d
+  pub shear_x_is : e.overlay.shear_x.items ≡ shear_x
+  pub shear_y_is : e.overlay.shear_y.items ≡ shear_y
+  pub x_sides_are : e.basics.x_low ∷ e.basics.x_high ∷ [] ≡ sides_numbers x_sides
+  pub y_sides_are : e.basics.y_low ∷ e.basics.y_high ∷ [] ≡ sides_numbers y_sides
+  pub max_level_is : e.basics.max_level ≡ pos max_level
+  pub tag_is : e.refining.tag.items ≡ map pos tag
+  pub n_error_buf_is : e.refining.n_error_buf ≡ pos n_error_buf
+  pub efficiency_is : e.refining.efficiency ≡ pos efficiency
+  pub min_width_is : e.refining.min_width ≡ pos min_width
+  pub regrid_int_is : e.refining.regrid_int ≡ pos regrid_int
+  pub blocking_is : e.overlay.blocking ≡ pos blocking
+  pub max_grid_size_is : e.refining.max_grid_size ≡ pos max_grid_size
+  pub blocks_are : e.overlay.blocks.items ≡ map block_numbers blocks
 
--- the scope takes the version and the finest level
-pub record IsInScope (scope : Scope) (q : Parts) : Type 0 where
-  pub least_version : 1 ≤ q.version
-  pub last_version : q.version ≤ greatest_version scope
-  pub last_level : q.max_level ≤ greatest_level scope
+abbrev pub IsOfEntries : Entries → Problem → Type 0
+IsOfEntries e p = AreValues e p.version p.name p.nx p.ny p.steps p.cx p.cy p.d p.shear_x p.shear_y p.x_sides p.y_sides p.max_level p.tag p.n_error_buf p.efficiency p.min_width p.regrid_int p.blocking p.max_grid_size p.blocks

@@ -3,11 +3,10 @@
 ghost use Rattle.std.specs.Prelude.{◌≡◌, ◌≤◌, Some, None, IfOk, OnOk, IsErrOf, unsigned_abs, [], ◌∷◌};
 ghost use Rattle.std.specs.Option.{option_or};
 ghost use Rattle.toml.specs.View.{table_view};
-ghost use Rattle.amr_problem.specs.Keys.{greatest_version};
 ghost use Rattle.amr_problem.specs.Faults.{unknown_key, missing_key, courant_over, fault_in};
-ghost use Rattle.amr_problem.specs.Entries.{entry_fault, in_range_fault, HasShears, IsOverlayInRange, IsClean, AreValues};
-ghost use Rattle.amr_problem.specs.Fields.{HasLimits, IsInScope};
-ghost use Rattle.amr_problem.specs.Judgement.{fault_of, HasKeys, ArePartsOf, IsProblemOf};
+ghost use Rattle.amr_problem.specs.Entries.{entry_fault, in_range_fault, HasShears, IsOverlayInRange, IsClean};
+ghost use Rattle.amr_problem.specs.Fields.{IsOfEntries};
+ghost use Rattle.amr_problem.specs.Judgement.{fault_of, HasKeys, IsInScope, IsProblemOf};
 
 use crate::checks::{
     block_outside, blocking_misfit, courant_over, sides_differ, size_in_use, tag_count,
@@ -15,8 +14,7 @@ use crate::checks::{
 use crate::document::{missing_key, read, unknown_key};
 use crate::entries::{Basics, Entries, Overlay};
 use crate::fault::{JudgeFault, ProblemFault};
-use crate::parts::Parts;
-use crate::problem::{parts, problem};
+use crate::problem::problem;
 use crate::ranges::out_of_range;
 use crate::scope::Scope;
 use amr_def::Problem;
@@ -30,23 +28,12 @@ mod tests;
 pub const MOST_BYTES: usize = 65536;
 
 /// The problem that the bytes are, or their fault, by the part of the format that the scope takes. Memory may run out at any
-/// bytes. A [`Problem`] has version 1 so far; [`judge_parts`] takes both versions.
+/// bytes.
 ///
 /// A problem is UTF-8 TOML with the keys of the table and no other. Of several faults the first in their order comes. (profile)
-pub fn judge(alloc: Global, scope: Scope, bytes: &[u8]) -> Result<Problem, JudgeFault>
-    requires { greatest_version scope ≡ 1 }
-    ensures accepted { IfOk result (IsProblemOf scope bytes.now) }
-    ensures refused { (f : _) → IsErrOf result (JudgeFault.Fault f) → fault_of scope bytes.now ≡ Some f }
-{
-    let parts = judge_parts(alloc, scope, bytes)?;
-    Ok(problem(parts))
-}
-
-/// The parts of the problem that the bytes are, or their fault, by the part of the format that the scope takes. Memory may run
-/// out at any bytes.
 #[tactic(auto, unfolding(crate::specs::Judgement::fault_of))]
-pub fn judge_parts(alloc: Global, scope: Scope, bytes: &[u8]) -> Result<Parts, JudgeFault>
-    ensures accepted { IfOk result (ArePartsOf scope bytes.now) }
+pub fn judge(alloc: Global, scope: Scope, bytes: &[u8]) -> Result<Problem, JudgeFault>
+    ensures accepted { IfOk result (IsProblemOf scope bytes.now) }
     ensures refused { (f : _) → IsErrOf result (JudgeFault.Fault f) → fault_of scope bytes.now ≡ Some f }
 {
     if bytes.len() > MOST_BYTES {
@@ -56,10 +43,9 @@ pub fn judge_parts(alloc: Global, scope: Scope, bytes: &[u8]) -> Result<Parts, J
     of_table(alloc, scope, &table)
 }
 
-fn of_table(alloc: Global, scope: Scope, table: &Table) -> Result<Parts, JudgeFault>
+fn of_table(alloc: Global, scope: Scope, table: &Table) -> Result<Problem, JudgeFault>
     ensures clean { IfOk result (λ _. fault_in scope (table_view table.now) ≡ None) }
     ensures keys { IfOk result (HasKeys (table_view table.now)) }
-    ensures limits { IfOk result HasLimits }
     ensures in_scope { IfOk result (IsInScope scope) }
     ensures refused { (f : _) → IsErrOf result (JudgeFault.Fault f) → fault_in scope (table_view table.now) ≡ Some f }
 {
@@ -76,18 +62,17 @@ fn key_fault(alloc: Global, scope: Scope, table: &Table) -> Result<Option<Proble
     Ok(unknown.or(missing_key(table)))
 }
 
-fn of_entries(alloc: Global, scope: Scope, entries: Entries) -> Result<Parts, JudgeFault>
+fn of_entries(alloc: Global, scope: Scope, entries: Entries) -> Result<Problem, JudgeFault>
     requires { HasShears entries.basics.nx entries.basics.ny entries.overlay }
     ensures clean { OnOk result (entry_fault scope entries ≡ None) }
-    ensures values { IfOk result (AreValues entries) }
-    ensures limits { IfOk result HasLimits }
+    ensures values { IfOk result (IsOfEntries entries) }
     ensures in_scope { IfOk result (IsInScope scope) }
     ensures refused { (f : _) → IsErrOf result (JudgeFault.Fault f) → entry_fault scope entries ≡ Some f }
 {
     if let Some(fault) = entry_fault(scope, &entries) {
         return Err(JudgeFault::Fault(fault));
     }
-    Ok(parts(alloc, scope, entries)?)
+    Ok(problem(alloc, scope, entries)?)
 }
 
 fn entry_fault(scope: Scope, entries: &Entries) -> Option<ProblemFault>

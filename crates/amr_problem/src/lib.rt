@@ -16,7 +16,6 @@ mod key;
 mod key_text;
 mod laws;
 mod limits;
-mod parts;
 mod problem;
 mod range;
 mod ranges;
@@ -25,9 +24,8 @@ mod scope;
 mod values;
 
 pub use fault::{JudgeFault, ProblemFault};
-pub use judgement::{judge, judge_parts};
+pub use judgement::judge;
 pub use key::Key;
 pub use key_text::KeyText;
 pub use laws::bytes_are_one_problem;
-pub use parts::Parts;
 pub use scope::Scope;

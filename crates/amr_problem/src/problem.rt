@@ -1,24 +1,24 @@
-//! From entries without a fault to the parts of a problem, and to the problem.
+//! From entries without a fault to the problem.
 
 ghost use Rattle.std.specs.Prelude.{◌≡◌, ◌≤◌, ◌≤ℤ◌, unsigned_abs, None, true, pos, IfOk, [], ◌∷◌, map, is_none};
 ghost use Rattle.std.specs.List.{list_all};
 ghost use Rattle.amr_problem.specs.Keys.{ranges_of, first_outside, holds, threshold, courant_number};
-ghost use Rattle.amr_problem.specs.Fields.{sides_numbers, block_numbers, parts_of, HasLimits};
+ghost use Rattle.amr_problem.specs.Fields.{sides_numbers, block_numbers, IsOfEntries};
 ghost use Rattle.amr_problem.specs.Faults.{is_periodic};
-ghost use Rattle.amr_problem.specs.Entries.{IsSide, IsClean, AreValues};
+ghost use Rattle.amr_problem.specs.Entries.{IsSide, IsClean, HasShears};
 
 use crate::checks::is_periodic;
 use crate::entries::Entries;
 use crate::key::Key;
-use crate::parts::Parts;
 use crate::scope::Scope;
 use amr_def::{Block, Blocks, Name, Problem, Shear, Sides, Thresholds};
 use std::alloc::{AllocError, Global};
 
-/// The parts that the entries are.
-pub fn parts(alloc: Global, scope: Scope, entries: Entries) -> Result<Parts, AllocError>
-    requires { IsClean scope entries }
-    ensures { IfOk result (AreValues entries) }
+/// The problem that entries without a fault are.
+pub fn problem(alloc: Global, scope: Scope, entries: Entries) -> Result<Problem, AllocError>
+    requires clean { IsClean scope entries }
+    requires shears { HasShears entries.basics.nx entries.basics.ny entries.overlay }
+    ensures { IfOk result (IsOfEntries entries) }
 {
     let Entries {
         basics,
@@ -29,7 +29,7 @@ pub fn parts(alloc: Global, scope: Scope, entries: Entries) -> Result<Parts, All
     let blocks = blocks(alloc, overlay.blocks.as_slice())?;
     let shear_x = numerators(alloc, overlay.shear_x.as_slice())?;
     let shear_y = numerators(alloc, overlay.shear_y.as_slice())?;
-    Ok(Parts {
+    Ok(Problem {
         version: small(basics.version),
         name: Name::make(basics.name),
         nx: small(basics.nx),
@@ -52,36 +52,6 @@ pub fn parts(alloc: Global, scope: Scope, entries: Entries) -> Result<Parts, All
         max_grid_size: small(refining.max_grid_size),
         blocks: Blocks::make(blocks),
     })
-}
-
-/// The problem of these parts.
-pub fn problem(parts: Parts) -> Problem
-    requires limits { HasLimits parts }
-    ensures { parts_of result ≡ parts }
-{
-    Problem {
-        version: parts.version,
-        name: parts.name,
-        nx: parts.nx,
-        ny: parts.ny,
-        steps: parts.steps,
-        cx: parts.cx,
-        cy: parts.cy,
-        d: parts.d,
-        shear_x: parts.shear_x,
-        shear_y: parts.shear_y,
-        x_sides: parts.x_sides,
-        y_sides: parts.y_sides,
-        max_level: parts.max_level,
-        tag: parts.tag,
-        n_error_buf: parts.n_error_buf,
-        efficiency: parts.efficiency,
-        min_width: parts.min_width,
-        regrid_int: parts.regrid_int,
-        blocking: parts.blocking,
-        max_grid_size: parts.max_grid_size,
-        blocks: parts.blocks,
-    }
 }
 
 fn small(number: i64) -> u32

@@ -1,4 +1,4 @@
--- The judgement accepts the text of each trial.
+-- The text of a trial has no fault.
 use Rattle.std.proofs.Common.{◌≡◌, ◌∙◌, ℕ, ◌+◌, max, ◌%◌, ◌≤◌, ◌<◌, ◌^◌, pos, negsuc, true, false, List, [], ◌∷◌, length, map, fold, option_and_then, option_map, Option, Some, None, nat_lt, int_le, int_lt, refl, ap, arith}
 use Rattle.std.specs.Option.{option_or, unwrap_or}
 use Rattle.toml.specs.Data.{no_members}
@@ -17,7 +17,7 @@ use Rattle.amr_problem.specs.Judgement.{fault_of}
 use Rattle.amr_problem.specs.Keys.{keys, coordinate, first_outside, greatest_level, holds, range}
 use Rattle.amr_problem.specs.Values.{integers_at, is_there, number_at, numbers_at, rows_at, shear_at, text_at}
 use Rattle.amr_trial.specs.Document.{document, trial_name}
-use Rattle.amr_trial.specs.Laws.{LiesInside, TextsAreAccepted}
+use Rattle.amr_trial.specs.Laws.{LiesInside}
 use Rattle.amr_trial.specs.Trial.{IsSize, block, courant_x, courant_y, text}
 use Rattle.amr_trial.proofs.Documents.{texts_are_documents}
 use Rattle.amr_trial.proofs.Inside.{blocks_inside, courant_below}
@@ -171,7 +171,7 @@ sides_clean : (number size : ℕ) → option_and_then sides_differ (numbers_at 4
 unfolding document numbers_at
 sides_clean number size = refl
 
-block_inside : (size : ℕ) (b : Block) → LiesInside size b → is_inside (pos size ∷ pos size ∷ []) (block_numbers b) ≡ true
+pub block_inside : (size : ℕ) (b : Block) → LiesInside size b → is_inside (pos size ∷ pos size ∷ []) (block_numbers b) ≡ true
 block_inside size b is =
     let columns : int_le (pos b.x0) (pos b.x1) ≡ true = grind (arith, nat_tests, is.columns) in
     let rows : int_le (pos b.y0) (pos b.y1) ≡ true = grind (arith, nat_tests, is.rows) in
@@ -212,7 +212,7 @@ table_clean scope number size three small is =
     ) in
     none_first faults are
 
-is_document : (number size : ℕ) → number < 2 ^ 32 → IsSize size → bytes.document (text number size) ≡ Some (document number size)
+pub is_document : (number size : ℕ) → number < 2 ^ 32 → IsSize size → bytes.document (text number size) ≡ Some (document number size)
 unfolding bytes.document
 is_document number size small is = rw (texts_are_utf8 number size small is) (texts_are_documents number size small is)
 
@@ -230,9 +230,9 @@ is_toml number size small is = rw (is_document number size small is) refl
 no_fault_in_it : (scope : Scope) (number size : ℕ) → 2 ≤ greatest_level scope → number < 2 ^ 32 → IsSize size → fault_in scope (bytes.table_of (text number size)) ≡ None
 no_fault_in_it scope number size three small is = ap (λ o. fault_in scope (unwrap_or o no_members)) (is_document number size small is) ∙ table_clean scope number size three small is
 
-pub texts_are_accepted : TextsAreAccepted
+pub no_fault : (scope : Scope) (number size : ℕ) → 2 ≤ greatest_level scope → number < 2 ^ 32 → IsSize size → fault_of scope (text number size) ≡ None
 unfolding fault_of
-texts_are_accepted scope number size three small is =
+no_fault scope number size three small is =
     let t = text number size in
     let faults : List (Option ProblemFault) = too_long t ∷ not_toml t ∷ fault_in scope (bytes.table_of t) ∷ [] in
     let are : AllNone faults = (not_too_long number size small is, (is_toml number size small is, (no_fault_in_it scope number size three small is, tt))) in

@@ -1,4 +1,4 @@
-use Rattle.amr_trial.proofs.Accepted.{texts_are_accepted}
+use Rattle.amr_trial.proofs.Problems.{texts_are_accepted}
 use Rattle.amr_trial.proofs.texts_are_accepted.Goals as goal
 
 pub returns : goal.returns
