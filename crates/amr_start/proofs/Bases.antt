@@ -1,4 +1,4 @@
--- The start of a problem of one level, by the list of its masses.
+-- Level 0 before any regrid, by the list of its masses.
 use Rattle.std.proofs.Common.{◌≡◌, ℕ, zero, suc, ◌+◌, ◌*◌, ◌<◌, Bool, true, false, cond, ℤ, pos, negsuc, ◌-ℤ◌, List, [], ◌∷◌, refl, sym, ap, ◌∙◌, arith}
 use Rattle.std.specs.Prelude.{slice_index}
 use Rattle.std.specs.Option.{unwrap_or}
@@ -78,7 +78,7 @@ sum_to-same_below f g (suc n) h = omega (arith, sum_to-same_below f g n (λ k be
 pub whole_box : (p : Problem) → domain_box (domain p 0) ≡ box_of p.nx p.ny
 whole_box p = λ i. box_of (columns_0 p i) (rows_0 p i)
 
-module _ (p : Problem) (one : HasOneLevel p) (ms : List ℕ) (has : HasBlocks p ms) where
+module _ (p : Problem) (ms : List ℕ) (has : HasBlocks p ms) where
   base : Masses
   base = (base_level p).masses
 
@@ -103,8 +103,12 @@ module _ (p : Problem) (one : HasOneLevel p) (ms : List ℕ) (has : HasBlocks p 
       ∙ sum_to-same_below _ _ p.ny (λ y hy. ap (sum_to (λ x. mass_at base x y)) (columns_0 p)
       ∙ sum_to-same_below _ _ p.nx (λ x hx. ap (λ (o : Option ℕ). unwrap_or o 0) (base_on x y hx hy)))
 
-  pub start-state_with : (mass : ℕ) → mass ≡ sum_to (row_mass_in p.nx ms) p.ny → state_with p mass ms ≡ start p
-  unfolding start base
-  start-state_with mass is =
-      (λ i. record { step = 0; rows = record { mass = (is ∙ sym base_total) i; inflow = 0; outflow = 0 } ∷ []; levels = record { boxes = sym (whole_box p) i ∷ []; masses = sym base_masses i } ∷ [] })
-      ∙ ap (λ n. times (regrid p) n (plain_start p)) (sym one.one_level)
+  pub base-state_with : (mass : ℕ) → mass ≡ sum_to (row_mass_in p.nx ms) p.ny → state_with p mass ms ≡ plain_start p
+  unfolding base
+  base-state_with mass is =
+      λ i. record { step = 0; rows = record { mass = (is ∙ sym base_total) i; inflow = 0; outflow = 0 } ∷ []; levels = record { boxes = sym (whole_box p) i ∷ []; masses = sym base_masses i } ∷ [] }
+
+-- a problem of one level starts with level 0 alone
+pub start-alone : (p : Problem) → HasOneLevel p → plain_start p ≡ start p
+unfolding start
+start-alone p one = ap (λ n. times (regrid p) n (plain_start p)) (sym one.one_level)

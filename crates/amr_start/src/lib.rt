@@ -1,4 +1,4 @@
-//! The start of a problem of one level, over patches. Level 0 is chopped into patches of at most `max_grid_size` by
+//! Level 0 of a problem before any regrid, over patches. It is chopped into patches of at most `max_grid_size` by
 //! `max_grid_size` cells, which get the masses of the blocks; the ledger gets its row 0.
 #![tactic(auto)]
 
@@ -7,7 +7,7 @@ mod blocks;
 mod placed;
 mod starts;
 
-pub use starts::start;
+pub use starts::{base, start};
 
 #[cfg(test)]
 mod tests;

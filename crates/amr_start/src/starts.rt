@@ -1,8 +1,8 @@
-//! The start of a run.
+//! Level 0 of a problem, and the start of a run of one level.
 
 ghost use Rattle.std.specs.Prelude.{◌≡◌, ◌*◌, ◌≤◌, ◌∷◌, [], false, length, IfOk};
 ghost use Rattle.amr_def.specs.Facts.{IsSound};
-ghost use Rattle.amr_def.specs.Run.{start};
+ghost use Rattle.amr_def.specs.Run.{plain_start, start};
 ghost use Rattle.amr_patch.specs.Levels.{level_of};
 ghost use Rattle.amr_patch.specs.Meshes.{is_spent, levels_of, state_of};
 ghost use Rattle.amr_start.specs.OneLevel.{HasOneLevel};
@@ -42,12 +42,11 @@ fn level_with(
     Ok(level)
 }
 
-/// The start of a run of a problem of one level, at step 0, in patches of at most `max_grid_size` by `max_grid_size` cells. A
-/// cell has the mass of the last block that it lies in, and 0 where it lies in none. Row 0 of the ledger has the mass of level 0
-/// and no flows. `NoMemory` is the only refusal.
-pub fn start(alloc: Global, p: &Problem) -> Result<Mesh, NoMemory>
-    requires { HasOneLevel p.now }
-    ensures value { IfOk result (λ m. state_of m ≡ start p.now) }
+/// Level 0 of a problem at step 0, before any regrid, in patches of at most `max_grid_size` by `max_grid_size` cells. A cell has
+/// the mass of the last block that it lies in, and 0 where it lies in none. Row 0 of the ledger has the mass of level 0 and no
+/// flows. `NoMemory` is the only refusal.
+pub fn base(alloc: Global, p: &Problem) -> Result<Mesh, NoMemory>
+    ensures value { IfOk result (λ m. state_of m ≡ plain_start p.now) }
     ensures sound { IfOk result (λ m. IsSound p.now (state_of m)) }
     ensures at_start { IfOk result (λ m. (state_of m).step ≡ 0) }
     ensures patches { IfOk result (λ m. HasChoppedDomain p.now (levels_of m)) }
@@ -63,4 +62,16 @@ pub fn start(alloc: Global, p: &Problem) -> Result<Mesh, NoMemory>
     let rows = vec![in alloc; row]?;
     let levels = vec![in alloc; level]?;
     Ok(Mesh::of(0, rows, levels))
+}
+
+/// The start of a run of a problem of one level: level 0 alone. `NoMemory` is the only refusal.
+pub fn start(alloc: Global, p: &Problem) -> Result<Mesh, NoMemory>
+    requires { HasOneLevel p.now }
+    ensures value { IfOk result (λ m. state_of m ≡ start p.now) }
+    ensures sound { IfOk result (λ m. IsSound p.now (state_of m)) }
+    ensures at_start { IfOk result (λ m. (state_of m).step ≡ 0) }
+    ensures patches { IfOk result (λ m. HasChoppedDomain p.now (levels_of m)) }
+    ensures whole { IfOk result (λ m. is_spent m ≡ false) }
+{
+    base(alloc, p)
 }

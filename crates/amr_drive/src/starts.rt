@@ -1,0 +1,33 @@
+//! The start of a run.
+
+ghost use Rattle.std.specs.Prelude.{◌≡◌, false, IfOk};
+ghost use Rattle.std.specs.List.{All};
+ghost use Rattle.amr_def.specs.Facts.{IsSound};
+ghost use Rattle.amr_def.specs.Run.{start};
+ghost use Rattle.amr_patch.specs.Meshes.{is_spent, levels_of, state_of};
+ghost use Rattle.amr_regrid.specs.Outlines.{IsChopped};
+ghost use Rattle.amr_drive.specs.Regrids.{StartHoldsTags};
+
+use amr_causes::NoMemory;
+use amr_def::Problem;
+use amr_patch::Mesh;
+use amr_regrid::regrid;
+use amr_start::base;
+use std::alloc::Global;
+
+/// The start of a run (Berger and Colella 1989): level 0 with the masses of the blocks, regridded once for each level that the
+/// problem may have above it, so that each regrid may add one. It is at step 0. Each tagged cell of a regrid is covered after it,
+/// and each level is in patches of at most `max_grid_size` by `max_grid_size` cells. `NoMemory` is the only refusal.
+pub fn start(alloc: Global, p: &Problem) -> Result<Mesh, NoMemory>
+    ensures value { IfOk result (λ m. state_of m ≡ start p.now) }
+    ensures sound { IfOk result (λ m. IsSound p.now (state_of m)) }
+    ensures held { StartHoldsTags p.now }
+    ensures patches { IfOk result (λ m. All (IsChopped p.now.max_grid_size) (levels_of m)) }
+    ensures whole { IfOk result (λ m. is_spent m ≡ false) }
+{
+    let mut mesh = base(alloc, p)?;
+    for _regrid in 0..p.max_level {
+        regrid(alloc, p, &mut mesh)?;
+    }
+    Ok(mesh)
+}
