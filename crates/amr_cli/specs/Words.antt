@@ -1,5 +1,5 @@
 -- The command that the words are. (profile)
-use Rattle.std.specs.Prelude.{ℕ, Bool, ◌&&◌, ◌||◌, ◌==◌, not, List, [], ◌∷◌, length, Option, Some, None, codes, if◌then◌else◌, option_and_then, option_map}
+use Rattle.std.specs.Prelude.{ℕ, ◌≤◌, Bool, ◌&&◌, ◌||◌, ◌==◌, not, List, [], ◌∷◌, length, Option, Some, None, codes, if◌then◌else◌, option_and_then, option_map}
 use Rattle.std.specs.List.{list_any}
 use Rattle.std.specs.Str.{bytes_eq}
 use Rattle.clap.specs.Words.{Row, Text, first_of, subcommand_of, fault_of}
@@ -53,3 +53,8 @@ abbrev pub command_of : List Text → Option Command
 command_of words =
     if may_be_command words && (length (fault_of program_app words) == 0)
     then command_from (subcommand_of program_app words) else None
+
+-- a number of workers from 1 to 64, where the command has one
+abbrev pub HasWorkers : Command → Type 0
+HasWorkers (Run workers) = (1 ≤ workers) × (workers ≤ 64)
+HasWorkers Check = Unit {0}
