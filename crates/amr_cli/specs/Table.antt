@@ -14,7 +14,7 @@ pub record CommandRow : Type 0 where
 
 -- how many workers share a step
 abbrev pub workers : OptionRow
-workers = record { name = codes "workers"; low = 1; high = 1 }
+workers = record { name = codes "workers"; low = 1; high = 64 }
 
 abbrev pub commands : List CommandRow
 commands =

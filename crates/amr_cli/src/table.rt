@@ -20,7 +20,7 @@ pub(crate) struct CommandForm {
 pub(crate) const WORKERS: NumberOption = NumberOption {
     name: "workers",
     low: 1,
-    high: 1,
+    high: 64,
 };
 
 const COMMANDS: [CommandForm; 2] = [

@@ -31,7 +31,6 @@ const CHECKS: &str = "check
 check --";
 
 const NO_COMMANDS: &str = "run --workers 0
-run --workers 2
 run --workers 65
 run --workers=
 run --workers
@@ -67,6 +66,8 @@ fn words_that_are_a_command(rt: HostRuntime) {
     for words in RUNS.lines() {
         assert_eq!(&rt; parsed(&rt, words), one);
     }
+    let most = Ok(Command::Run { workers: 64 });
+    assert_eq!(&rt; parsed(&rt, "run --workers 64"), most);
     for words in CHECKS.lines() {
         assert_eq!(&rt; parsed(&rt, words), Ok(Command::Check));
     }

@@ -5,3 +5,4 @@ pub mod StateSteps
 pub mod Kept
 pub mod Coarsenable
 pub mod Whole
+pub mod Chopped

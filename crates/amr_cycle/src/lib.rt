@@ -9,3 +9,6 @@ mod steps;
 mod team;
 
 pub use steps::step;
+
+#[cfg(test)]
+mod tests;

@@ -1,1 +1,4 @@
 mod StartLaws
+mod Kept
+mod NextStates
+pub mod Finishes

@@ -1,1 +1,2 @@
 pub mod Regrids
+pub mod States

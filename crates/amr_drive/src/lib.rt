@@ -1,13 +1,17 @@
-//! Runs of a problem with any number of levels: their start, and what is called after each step.
+//! Runs of a problem with any number of levels: their start, their steps, and what is called after each step.
 //!
 //! - [`start`]: the start of a run, with its finer levels.
+//! - [`drive`]: the steps up to a given one, with the regrids that are due.
 //! - [`AfterStep`]: what is called after each step, and [`Nothing`], which does nothing.
 #![tactic(auto)]
 
 mod after;
+mod drives;
+mod nexts;
 mod starts;
 
 pub use after::{AfterStep, Nothing};
+pub use drives::{DriveFault, drive};
 pub use starts::start;
 
 #[cfg(test)]

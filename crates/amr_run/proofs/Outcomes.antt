@@ -18,8 +18,8 @@ use Rattle.amr_problem.specs.declared.fault.JudgeFault.{JudgeFault}
 use Rattle.amr_problem.specs.declared.fault.JudgeFault.TheVariants as judging
 use Rattle.amr_problem.specs.declared.fault.ProblemFault.{ProblemFault}
 use Rattle.amr_problem.specs.Judgement.{fault_of, IsProblemOf}
-use Rattle.amr_problem.proofs.PlainLaws.{too_many_bytes, has_one_level}
-use Rattle.amr_start.specs.OneLevel.{HasOneLevel}
+use Rattle.amr_problem.proofs.PlainLaws.{too_many_bytes}
+use Rattle.amr_drive.specs.Regrids.{RunHoldsTags, StartHoldsTags}
 use Rattle.amr_cli.specs.declared.command.Command.{Command}
 use Rattle.amr_run.specs.Answer.{program_scope, IsAnswer, IsLineOfProblem, IsPlotOfRun}
 use Rattle.amr_run.specs.Outcome.{Outcome, Replies, status_of}
@@ -95,17 +95,13 @@ unfolding run
 run_is p = refl
 
 -- the plot of the last state, made from the first one
-pub is_plot_of_run : (bytes : List ℕ) (p : Problem) (first last : State) → IsProblemOf program_scope bytes p → first ≡ start p → last ≡ finish p first p.steps → IsSound p last → IsPlotOfRun bytes (plot p last)
-is_plot_of_run bytes p first last accepted starts ends sound =
+pub is_plot_of_run : (bytes : List ℕ) (p : Problem) (first last : State) → IsProblemOf program_scope bytes p → first ≡ start p → last ≡ finish p first p.steps → IsSound p last → StartHoldsTags p → RunHoldsTags p first p.steps → IsPlotOfRun bytes (plot p last)
+is_plot_of_run bytes p first last accepted starts ends sound start_held held =
     let is : last ≡ run p p.steps = ends ∙ ap (λ (s : State). finish p s p.steps) starts ∙ run_is p in
-    record { problem = p; accepted = accepted; text = ap (λ (s : State). plot p s) is; sound = subst (λ (s : State). IsSound p s) is sound }
+    record { problem = p; accepted = accepted; text = ap (λ (s : State). plot p s) is; sound = subst (λ (s : State). IsSound p s) is sound; start_held = start_held; held = subst (λ (s : State). RunHoldsTags p s p.steps) starts held }
 
 pub is_line_of_problem : (bytes : List ℕ) (p : Problem) → IsProblemOf program_scope bytes p → IsLineOfProblem bytes (problem_line p)
 is_line_of_problem bytes p accepted = record { problem = p; accepted = accepted; text = refl }
-
--- the problem that bytes are has level 0 alone
-pub one_level : (bytes : List ℕ) (p : Problem) → IsProblemOf program_scope bytes p → HasOneLevel p
-one_level bytes p is = record { one_level = (has_one_level bytes p is).one_level }
 
 -- ---- the line on the stream of errors
 

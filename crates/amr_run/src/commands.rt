@@ -1,5 +1,5 @@
 //! The commands.
-ghost use Rattle.std.specs.Prelude.{◌≡◌, ◌≢◌, List, ℕ, Err, IfErr, OnOk, OnErr};
+ghost use Rattle.std.specs.Prelude.{◌≡◌, ◌≢◌, ◌<◌, ◌≤◌, List, ℕ, Err, IfErr, OnOk, OnErr};
 ghost use Rattle.std.specs.Io.KnownBytes.{IsAtEnd};
 ghost use Rattle.amr_causes.specs.Causes.{HasCause, Rose};
 ghost use Rattle.amr_causes.specs.Bytes.{Grows, WereLeft};
@@ -11,22 +11,40 @@ ghost use Rattle.amr_run.specs.Reading.{Reads, TakesAtMost};
 
 use crate::Status;
 use crate::line::put_line;
+use amr_advance::Crew;
 use amr_def::Problem;
+use amr_drive::{Nothing, drive, start};
 use amr_io::{Fragment, Sink, Source, WriteFault, read_all};
 use amr_plot::plot;
 use amr_problem::{Scope, judge};
-use amr_runs::run_to;
-use amr_start::start;
+use amr_workers::Gate;
 use std::alloc::Global;
+use std::thread::Threads;
 
 /// The most bytes that a problem has.
 const MOST_BYTES: usize = 65536;
 
 /// How much of the format of problems is taken.
-const SCOPE: Scope = Scope::OneLevel;
+const SCOPE: Scope = Scope::Whole;
+
+/// Who makes the steps of a run: so many workers on threads of a runtime, each of whom calls a gate around each task.
+#[derive(Clone, Copy)]
+pub(crate) struct Workers<'a, R, G> {
+    pub runtime: &'a R,
+    pub count: u32,
+    pub gate: &'a G,
+}
 
 /// The command `run`: the plot of the run of the problem on the source, or the status that refuses it.
-pub(crate) fn run<S: Source, O: Sink>(alloc: Global, src: &mut S, out: &mut O) -> Result<(), Status>
+pub(crate) fn run<R: Threads + Sync, S: Source, O: Sink, G: Gate + Sync>(
+    workers: &Workers<'_, R, G>,
+    alloc: Global,
+    src: &mut S,
+    out: &mut O,
+) -> Result<(), Status>
+    requires some_workers { 1 ≤ workers.now.count }
+    requires few_workers { workers.now.count ≤ 64 }
+    requires gate { (worker task : ℕ) → worker < workers.now.count → G.admits workers.now.gate.now worker task }
     ensures outcome { (bytes : List ℕ) × ((sent : List ℕ) × WereLeft (S.left src.old) bytes
         × Grows O.holds out.old out.new sent × Replies (status_of result) (IsPlotOfRun bytes) bytes sent) }
     ensures ended { OnOk result (IsAtEnd (S.left src.new)) }
@@ -39,7 +57,20 @@ pub(crate) fn run<S: Source, O: Sink>(alloc: Global, src: &mut S, out: &mut O) -
 {
     let problem = read_problem(alloc, src)?;
     let mut mesh = start(alloc, &problem)?;
-    run_to(alloc, &problem, &mut mesh, problem.steps)?;
+    let crew = Crew {
+        ranks: 1,
+        workers: workers.count,
+    };
+    drive(
+        workers.runtime,
+        alloc,
+        &problem,
+        &mut mesh,
+        problem.steps,
+        crew,
+        workers.gate,
+        &mut Nothing,
+    )?;
     plot(&problem, &mesh, out)?;
     Ok(())
 }

@@ -9,5 +9,5 @@ mod status;
 #[cfg(test)]
 mod tests;
 
-pub use run::amr;
+pub use run::{amr, amr_gated};
 pub use status::Status;

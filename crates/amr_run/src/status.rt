@@ -3,8 +3,10 @@ ghost use Rattle.std.specs.Prelude.{◌≡◌};
 ghost use Rattle.amr_run.specs.Texts.{exit_status};
 
 use amr_causes::NoMemory;
+use amr_drive::DriveFault;
 use amr_io::{ReadAll, WriteFault};
 use amr_problem::{JudgeFault, ProblemFault};
+use std::convert::Infallible;
 
 /// How a call of [`amr`](crate::amr) ended, in the order in which the causes are looked for.
 #[derive(Debug, Drop)]
@@ -73,6 +75,19 @@ impl From<NoMemory> for Status {
 
     fn from(_: NoMemory) -> Self {
         Status::NoMemory
+    }
+}
+
+impl From<DriveFault<Infallible>> for Status {
+    ghost use Rattle.amr_run.specs.declared.status.Status.TheVariants.{NoMemory as no_memory};
+
+    ghost from_gives = { λ e status. status ≡ no_memory };
+
+    fn from(fault: DriveFault<Infallible>) -> Self {
+        match fault {
+            DriveFault::After(never) => match never {},
+            DriveFault::NoMemory => Status::NoMemory,
+        }
     }
 }
 

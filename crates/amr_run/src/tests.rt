@@ -1,15 +1,15 @@
 // What no clause says: that the call succeeds, worked plots, and the text of each refusal.
 
-use crate::message::tell;
-use crate::{Status, amr};
-use amr_box::Axis;
+use crate::{Status, amr, amr_gated};
 use amr_cli::Line;
 use amr_io::{MemSink, MemSource};
-use amr_problem::ProblemFault;
+use amr_workers::Gate;
 use std::alloc::{AllocError, Global};
 use std::fmt::Write as _;
 use std::process::Abort;
+use std::sync::atomic::{AtomicBool, Ordering};
 use std::test::Fail;
+use std::thread::{self, Threads};
 
 /// The ring: a block of mass 8 that moves half a cell a step along a periodic axis.
 const RING: &str = "version = 1
@@ -104,7 +104,13 @@ impl<'a> Case<'a> {
     }
 
     /// The status and what went to the two sinks are as wanted.
-    fn ends<R: Abort + Alloc<A = Global>>(self, rt: &R, status: u8, out: &str, err: &str) {
+    fn ends<R: Abort + Alloc<A = Global> + Threads + Sync>(
+        self,
+        rt: &R,
+        status: u8,
+        out: &str,
+        err: &str,
+    ) {
         let alloc = rt.alloc();
         let line = line_of(alloc, self.words).expect(rt, "memory");
         let mut src = MemSource::make(alloc, self.bytes, 1000, self.reads_fail).expect(
@@ -182,10 +188,50 @@ fn ring_of_mass_7_and_no_steps(rt: HostRuntime) -> Result<(), Fail> {
     Ok(())
 }
 
+/// A column of mass 64 on 2 by 2 cells, refined twice: each difference tags.
+const REFINED: &str = "version = 1
+name = \"refined\"
+cells = [2, 2]
+steps = 0
+courant = [0, 0, 1]
+sides = [-1, -1, -1, -1]
+max_level = 2
+tag = [1, 1]
+n_error_buf = 0
+blocks = [[0, 0, 0, 1, 64]]
+";
+
+const REFINED_PLOT: &str = "amr-plot 1
+name refined
+step 0
+ledger 0 128 0 0
+level 0 1
+box 0 0 1 1
+64 0
+64 0
+level 1 1
+box 0 0 3 3
+16 16 0 0
+16 16 0 0
+16 16 0 0
+16 16 0 0
+level 2 1
+box 0 0 7 7
+4 4 4 4 0 0 0 0
+4 4 4 4 0 0 0 0
+4 4 4 4 0 0 0 0
+4 4 4 4 0 0 0 0
+4 4 4 4 0 0 0 0
+4 4 4 4 0 0 0 0
+4 4 4 4 0 0 0 0
+4 4 4 4 0 0 0 0
+end
+";
+
 #[test]
-fn ring_of_one_worker_and_its_line(rt: HostRuntime) {
-    Case::of("run --workers 1", RING.as_bytes()).ends(&rt, 0, RING_PLOT, "");
-    Case::of("check", RING.as_bytes()).ends(&rt, 0, "ok 4 2 1 0\n", "");
+fn a_column_refined_twice(rt: HostRuntime) {
+    Case::run(REFINED.as_bytes()).ends(&rt, 0, REFINED_PLOT, "");
+    Case::of("check", REFINED.as_bytes()).ends(&rt, 0, "ok 2 2 0 2\n", "");
 }
 
 #[test]
@@ -214,9 +260,9 @@ fn flows_through_open_sides(rt: HostRuntime) -> Result<(), Fail> {
     Ok(())
 }
 
-/// Nine columns in three patches, and in one: the patches leave no trace in the plot.
+/// Nine columns in three patches, and in one, by any number of workers: neither leaves a trace in the plot.
 #[test]
-fn nine_columns_in_three_patches_and_in_one(rt: HostRuntime) -> Result<(), Fail> {
+fn nine_columns_by_patches_and_workers(rt: HostRuntime) -> Result<(), Fail> {
     let alloc = rt.alloc();
     for steps in [
         "steps = 2\nmax_grid_size = 4",
@@ -231,7 +277,14 @@ fn nine_columns_in_three_patches_and_in_one(rt: HostRuntime) -> Result<(), Fail>
                 ("blocks", "blocks = [[8, 0, 8, 0, 8]]"),
             ],
         )?;
-        Case::run(text.as_bytes()).ends(&rt, 0, NINE_COLUMNS_PLOT, "");
+        for words in [
+            "run",
+            "run --workers 1",
+            "run --workers 3",
+            "run --workers 64",
+        ] {
+            Case::of(words, text.as_bytes()).ends(&rt, 0, NINE_COLUMNS_PLOT, "");
+        }
     }
     Ok(())
 }
@@ -285,14 +338,14 @@ name|name = 1|wrong kind name
 cells|cells = [4]|wrong kind cells
 max_level|max_level = false|wrong kind max_level
 blocks|blocks = [[0, 0, 0, 8]]|wrong kind blocks
-version|version = 2|out of range version 2
+version|version = 3|out of range version 3
 name|name = \"\"|out of range name 0
 name|name = \"Ring\"|out of range name 4
 cells|cells = [4, 257]|out of range cells 257
 steps|steps = -1|out of range steps -1
 steps|steps = 4097|out of range steps 4097
 sides|sides = [-1, -1, -2, -1]|out of range sides -2
-max_level|max_level = 1|out of range max_level 1
+max_level|max_level = 5|out of range max_level 5
 steps|steps = 1;max_grid_size = 5|out of range max_grid_size 5
 blocks|blocks = [[0, 0, 0, 0, 1073741825]]|out of range blocks 1073741825
 courant|courant = [3, 2, 4]|courant 5 over 4
@@ -304,7 +357,9 @@ blocks|blocks = [[0, 0, 0, 0, 8], [1, 0, 0, 0, 8]]|block 1 outside
 max_level|max_level = 0;tag = [4, 2]|2 tags for 0 levels
 max_level|max_level = 0;efficiency = 101|out of range efficiency 101
 version|version = 1;shear_x = [1, 1]|unknown key shear_x
-version|version = 2;blocking = 2|unknown key blocking
+version|version = 1;blocking = 2|unknown key blocking
+version|version = 2;blocking = 8|blocking 8 does not fit y
+version|version = 2;shear_x = [1, -3]|courant 3 over 2
 steps|steps = 1;zebra = 1;alpha = 1|unknown key alpha
 steps|steps = 1;steps = 1|not TOML
 steps|steps 1|not TOML";
@@ -335,19 +390,6 @@ fn faults_of_the_problem(rt: HostRuntime) -> Result<(), Fail> {
         Case::of("check", text.as_bytes()).ends(&rt, 3, "", line.as_str());
     }
     Ok(())
-}
-
-/// What the program can't meet yet.
-#[test]
-fn the_line_of_a_blocking_that_does_not_fit(rt: HostRuntime) {
-    let alloc = rt.alloc();
-    let mut lines = MemSink::make(alloc, 1000, 40, &[]).expect(&rt, "memory");
-    let status = Status::Problem(ProblemFault::Blocking(Axis::X, 4));
-    assert!(rt; tell(&mut lines, &status).is_ok());
-    assert_eq!(rt;
-        lines.bytes(),
-        b"amr: problem: blocking 4 does not fit x\n".as_slice()
-    );
 }
 
 /// The keys of finer levels change nothing on one level.
@@ -383,5 +425,67 @@ fn too_long_by_one_byte(rt: HostRuntime) -> Result<(), Fail> {
     Case::run(&text).ends(&rt, 0, RING_PLOT, "");
     text.push(b'x')?;
     Case::run(&text).ends(&rt, 3, "", "amr: problem: too long\n");
+    Ok(())
+}
+
+/// How often a worker at the gate looks whether it may go on.
+const TURNS: u32 = 10_000_000;
+
+/// Holds whoever comes first until another task is done, for so many turns at most.
+#[derive(Drop)]
+struct Turnstile {
+    entered: AtomicBool,
+    left: AtomicBool,
+    waited_in_vain: AtomicBool,
+}
+
+impl Gate for Turnstile {
+    ghost admits = { λ _ _ _. Unit {0} };
+
+    fn enter(&self, _worker: u32, _task: u32) {
+        if self.entered.swap(true, Ordering::SeqCst) {
+            return;
+        }
+        for _ in 0..TURNS {
+            if self.left.load(Ordering::SeqCst) {
+                return;
+            }
+            thread::yield_now();
+        }
+        self.waited_in_vain.store(true, Ordering::SeqCst);
+    }
+
+    fn leave(&self, _worker: u32, _task: u32) {
+        self.left.store(true, Ordering::SeqCst);
+    }
+}
+
+/// A task is held until another is done: so a second worker takes part in the steps of the program.
+#[test]
+fn second_task_first(rt: HostRuntime) -> Result<(), Fail> {
+    let alloc = rt.alloc();
+    let text = ring_with(
+        alloc,
+        &[
+            ("cells", "cells = [9, 3]"),
+            ("courant", "courant = [1, 0, 1]"),
+            ("steps", "steps = 2\nmax_grid_size = 4"),
+            ("blocks", "blocks = [[8, 0, 8, 0, 8]]"),
+        ],
+    )?;
+    let line = line_of(alloc, "run --workers 2")?;
+    let mut src = MemSource::make(alloc, text.as_bytes(), 1000, &[]).expect(&rt, "memory");
+    let mut plot = MemSink::make(alloc, 10_000, 16, &[]).expect(&rt, "memory");
+    let mut lines = MemSink::make(alloc, 1000, 40, &[]).expect(&rt, "memory");
+    let gate = Turnstile {
+        entered: AtomicBool::new(false),
+        left: AtomicBool::new(false),
+        waited_in_vain: AtomicBool::new(false),
+    };
+    let ended = amr_gated(&rt, alloc, &line, &mut src, &mut plot, &mut lines, &gate);
+    assert_eq!(rt; ended.code(), 0);
+    assert_eq!(rt; plot.bytes(), NINE_COLUMNS_PLOT.as_bytes());
+    assert!(rt; gate.entered.load(Ordering::SeqCst));
+    assert!(rt; !gate.waited_in_vain.load(Ordering::SeqCst));
     Ok(())
 }

@@ -1,0 +1,62 @@
+-- What a step keeps: levels that were chopped are, since boxes and patch boxes stay.
+use Rattle.std.proofs.Common.{◌≡◌, ◌∙◌, ℕ, suc, ◌<◌, List, [], ◌∷◌, length, map, refl, sym, ap, subst, arith}
+use Rattle.std.specs.Prelude.{slice_index_or}
+use Rattle.std.specs.List.{All, flat_map}
+use Rattle.std.specs.List.Sorted.{IsPermutation}
+use Rattle.std.proofs.lemmas.List.Elements.{All-cons, All-nil}
+use Rattle.amr_box.specs.Cells.{Extent}
+use Rattle.amr_boxlist.specs.Chopped.{chopped}
+use Rattle.amr_def.specs.declared.problem.Problem.{Problem}
+use Rattle.amr_def.specs.Facts.{IsSound}
+use Rattle.amr_def.specs.State.{Level, State, no_masses}
+use Rattle.amr_def.specs.LevelStep.{step}
+use Rattle.amr_def.specs.Run.{stepped}
+use Rattle.amr_def.proofs.Chain.{state_chain}
+use Rattle.amr_laws.specs.Levels.{AreLevels}
+use Rattle.amr_laws.proofs.Substeps.{keeps_boxes, levels_of as levels_from}
+use Rattle.amr_patch.specs.declared.levels.Level.{Level as Held}
+use Rattle.amr_patch.specs.declared.meshes.Mesh.{Mesh}
+use Rattle.amr_patch.specs.Levels.{level_of, patches_of}
+use Rattle.amr_patch.specs.Meshes.{levels_of, state_of}
+use Rattle.amr_patch.specs.Patches.{box}
+use Rattle.amr_regrid.specs.Outlines.{IsChopped}
+use Rattle.amr_cycle.specs.Cycles.{AreCoarsenableAbove, patch_boxes}
+use Rattle.amr_cycle.proofs.Chopped.{chopped_above}
+
+-- the levels of a mesh are those of its state
+pub levels_are : (m : Mesh) → (state_of m).levels ≡ map level_of (levels_of m)
+unfolding state_of levels_of
+levels_are m = refl
+
+pub coarsenable : (p : Problem) (m : Mesh) → IsSound p (state_of m) → All (IsChopped p.max_grid_size) (levels_of m) → AreCoarsenableAbove (levels_of m)
+coarsenable p m sound h = chopped_above p (state_of m) (levels_of m) sound (levels_are m) (λ n d lt. (h n d lt).patches)
+
+boxes_of : List Held → List (List Extent)
+boxes_of = map (λ k. (level_of k).boxes)
+
+all_kept : (n : ℕ) (hs ks : List Held) → patch_boxes hs ≡ patch_boxes ks → map (λ k. (level_of k).boxes) hs ≡ map (λ k. (level_of k).boxes) ks → All (IsChopped n) ks → All (IsChopped n) hs
+all_kept n [] ks ps bs h = All-nil (IsChopped n)
+all_kept n (j ∷ hs) [] ps bs h = cc
+all_kept n (j ∷ hs) (k ∷ ks) ps bs h =
+    let of_patches : map box (patches_of j) ≡ map box (patches_of k) = cc in
+    let of_boxes : (level_of j).boxes ≡ (level_of k).boxes = cc in
+    let more_patches : patch_boxes hs ≡ patch_boxes ks = cc in
+    let more_boxes : map (λ k. (level_of k).boxes) hs ≡ map (λ k. (level_of k).boxes) ks = cc in
+    let first : IsChopped n k = h 0 k (omega arith) in
+    All-cons (IsChopped n) j hs
+    (record { patches = subst (λ (xs : List Extent). IsPermutation (flat_map (chopped n) xs) (map box (patches_of j))) (sym of_boxes) (subst (λ (xs : List Extent). IsPermutation (flat_map (chopped n) (level_of k).boxes) xs) (sym of_patches) first.patches) })
+    (all_kept n hs ks more_patches more_boxes (λ i d lt. h (suc i) d (omega (arith, lt))))
+
+step_boxes : (p : Problem) (s : State) → IsSound p s → map (λ k. k.boxes) (stepped p s).levels ≡ map (λ k. k.boxes) s.levels
+unfolding stepped
+step_boxes p s sound = keeps_boxes p 0 s.levels no_masses (levels_from p 0 s.levels (state_chain p s sound.nested sound.synced))
+
+of_levels : (hs : List Held) → map (λ k. k.boxes) (map level_of hs) ≡ map (λ k. (level_of k).boxes) hs
+of_levels [] = refl
+of_levels (k ∷ hs) = ap (λ (rest : List (List Extent)). (level_of k).boxes ∷ rest) (of_levels hs)
+
+pub chopped_after : (p : Problem) (m n : Mesh) → IsSound p (state_of m) → state_of n ≡ stepped p (state_of m) → patch_boxes (levels_of n) ≡ patch_boxes (levels_of m) → All (IsChopped p.max_grid_size) (levels_of m) → All (IsChopped p.max_grid_size) (levels_of n)
+chopped_after p m n sound is ps h =
+    let boxes : map (λ k. (level_of k).boxes) (levels_of n) ≡ map (λ k. (level_of k).boxes) (levels_of m) =
+    sym (of_levels (levels_of n)) ∙ ap (map (λ k. k.boxes)) (sym (levels_are n) ∙ ap (λ (s : State). s.levels) is) ∙ step_boxes p (state_of m) sound ∙ ap (map (λ k. k.boxes)) (levels_are m) ∙ of_levels (levels_of m) in
+    all_kept p.max_grid_size (levels_of n) (levels_of m) ps boxes h

@@ -1,0 +1,119 @@
+//! A run up to a step.
+
+ghost use Rattle.std.specs.Prelude.{◌≡◌, ◌⊎◌, ◌+◌, ◌-◌, ◌<◌, ◌≤◌, ℕ, false, true, Ok, Err, OnOk, IsErrOf};
+ghost use Rattle.std.specs.List.{All};
+ghost use Rattle.amr_def.specs.Facts.{IsSound};
+ghost use Rattle.amr_def.specs.Run.{finish, next};
+ghost use Rattle.amr_def.specs.State.{State};
+ghost use Rattle.amr_patch.specs.Meshes.{is_spent, levels_of, state_of};
+ghost use Rattle.amr_regrid.specs.Outlines.{IsChopped};
+ghost use Rattle.amr_drive.specs.Regrids.{RunHoldsTags};
+ghost use Rattle.amr_drive.specs.States.{states_after};
+
+use crate::after::AfterStep;
+use crate::nexts::{Team, make_next};
+use amr_advance::Crew;
+use amr_causes::NoMemory;
+use amr_def::Problem;
+use amr_patch::Mesh;
+use amr_workers::Gate;
+use std::alloc::Global;
+use std::thread::Threads;
+
+/// Why a run was not made to its end.
+#[derive(Debug, Drop)]
+pub enum DriveFault<F> {
+    /// What is called after each step refused one.
+    After(F),
+    /// Memory ran out.
+    NoMemory,
+}
+
+impl<F> From<NoMemory> for DriveFault<F> {
+    ghost use Rattle.amr_drive.specs.declared.drives.DriveFault.TheVariants.{NoMemory as no_memory};
+
+    ghost from_gives = { λ _ fault. fault ≡ no_memory };
+
+    fn from(_: NoMemory) -> Self {
+        DriveFault::NoMemory
+    }
+}
+
+/// Makes the next state of a run, and has `after` called on it.
+fn make_step<R: Threads + Sync, G: Gate + Sync, A: AfterStep>(
+    team: &Team<'_, R, G>,
+    mesh: &mut Mesh,
+    after: &mut A,
+) -> Result<(), DriveFault<A::Fault>>
+    requires whole { is_spent mesh.old ≡ false }
+    requires sound { IsSound team.now.problem.now (state_of mesh.old) }
+    requires to_come { (state_of mesh.old).step < team.now.problem.now.steps }
+    requires patches { All (IsChopped team.now.problem.now.max_grid_size) (levels_of mesh.old) }
+    requires ready { A.ready after.old (next team.now.problem.now (state_of mesh.old)) }
+    requires one_rank { team.now.crew.ranks ≡ 1 }
+    requires some_workers { 1 ≤ team.now.crew.workers }
+    requires few_workers { team.now.crew.workers ≤ 64 }
+    requires gate { (worker task : ℕ) → worker < team.now.crew.workers → G.admits team.now.gate.now worker task }
+    ensures value { OnOk result (state_of mesh.new ≡ next team.now.problem.now (state_of mesh.old)) }
+    ensures patches { OnOk result (All (IsChopped team.now.problem.now.max_grid_size) (levels_of mesh.new)) }
+    ensures whole { OnOk result (is_spent mesh.new ≡ false) }
+    ensures answer { OnOk result (A.answers after.old (next team.now.problem.now (state_of mesh.old)) (Ok tt) after.new) }
+    ensures ready { OnOk result ((s : State) → (next team.now.problem.now (state_of mesh.old)).step < s.step → A.ready after.old s → A.ready after.new s) }
+    ensures refused { (f : _) → IsErrOf result (DriveFault.After f) → (state_of mesh.new ≡ next team.now.problem.now (state_of mesh.old)) × (is_spent mesh.new ≡ false) × A.answers after.old (next team.now.problem.now (state_of mesh.old)) (Err f) after.new }
+    ensures memory { IsErrOf result DriveFault.NoMemory → (after.new ≡ after.old) × ((is_spent mesh.new ≡ true) ⊎ ((is_spent mesh.new ≡ false) × (state_of mesh.new ≡ state_of mesh.old))) }
+{
+    make_next(team, mesh)?;
+    match after.after(mesh) {
+        Ok(()) => Ok(()),
+        Err(fault) => Err(DriveFault::After(fault)),
+    }
+}
+
+/// Makes the steps of a run up to step `target` (Berger and Colella 1989). Before a step the mesh is regridded, where that is due:
+/// at each step above 0 that is a multiple of `regrid_int`. After each step `after` is called once, with the mesh as it is then.
+/// The outcome is the same for any number of workers, whoever draws which task.
+///
+/// `After` comes exactly where a call of `after` was refused; the mesh is then as after that step. After `NoMemory` the mesh is
+/// spent, or as after the last step made, and `spent` tells which. The crew has one rank, and from 1 to 64 workers. The call
+/// joins its workers, and keeps this promise if it returns.
+pub fn drive<R: Threads + Sync, G: Gate + Sync, A: AfterStep>(
+    rt: &R,
+    alloc: Global,
+    p: &Problem,
+    mesh: &mut Mesh,
+    target: u32,
+    crew: Crew,
+    gate: &G,
+    after: &mut A,
+) -> Result<(), DriveFault<A::Fault>>
+    requires whole { is_spent mesh.old ≡ false }
+    requires sound { IsSound p.now (state_of mesh.old) }
+    requires ahead { (state_of mesh.old).step ≤ target }
+    requires within { target ≤ p.now.steps }
+    requires patches { All (IsChopped p.now.max_grid_size) (levels_of mesh.old) }
+    requires ready { (k : ℕ) → (state_of mesh.old).step < k → k ≤ target → A.ready after.old (finish p.now (state_of mesh.old) k) }
+    requires one_rank { crew.ranks ≡ 1 }
+    requires some_workers { 1 ≤ crew.workers }
+    requires few_workers { crew.workers ≤ 64 }
+    requires gate { (worker task : ℕ) → worker < crew.workers → G.admits gate.now worker task }
+    ensures value { OnOk result (state_of mesh.new ≡ finish p.now (state_of mesh.old) target) }
+    ensures sound { OnOk result (IsSound p.now (state_of mesh.new)) }
+    ensures patches { OnOk result (All (IsChopped p.now.max_grid_size) (levels_of mesh.new)) }
+    ensures whole { OnOk result (is_spent mesh.new ≡ false) }
+    ensures held { RunHoldsTags p.now (state_of mesh.old) target }
+    ensures made { OnOk result (A.made after.old (states_after p.now (state_of mesh.old) (target - (state_of mesh.old).step)) (Ok tt) after.new) }
+    ensures refused { (f : _) → IsErrOf result (DriveFault.After f) → (n : ℕ) × (0 < n) × ((state_of mesh.old).step + n ≤ target) × (is_spent mesh.new ≡ false) × (state_of mesh.new ≡ finish p.now (state_of mesh.old) ((state_of mesh.old).step + n)) × A.made after.old (states_after p.now (state_of mesh.old) n) (Err f) after.new }
+    ensures memory { IsErrOf result DriveFault.NoMemory → (n : ℕ) × ((state_of mesh.old).step + n < target) × ((is_spent mesh.new ≡ true) ⊎ ((is_spent mesh.new ≡ false) × (state_of mesh.new ≡ finish p.now (state_of mesh.old) ((state_of mesh.old).step + n)))) × A.made after.old (states_after p.now (state_of mesh.old) n) (Ok tt) after.new }
+{
+    let team = Team {
+        alloc,
+        runtime: rt,
+        problem: p,
+        crew,
+        gate,
+    };
+    for _step in mesh.step()..target {
+        make_step(&team, mesh, after)?;
+    }
+    Ok(())
+}

@@ -1,0 +1,78 @@
+//! The next state of a run: the regrid that is due, and a step.
+
+ghost use Rattle.std.specs.Prelude.{◌≡◌, ◌⊎◌, ◌<◌, ◌≤◌, ◌%◌, ◌&&◌, ◌==◌, ℕ, cond, false, true, nat_lt, OnErr, OnOk};
+ghost use Rattle.std.specs.List.{All};
+ghost use Rattle.amr_def.specs.Facts.{IsSound};
+ghost use Rattle.amr_def.specs.Regrid.{regrid};
+ghost use Rattle.amr_def.specs.Run.{next, regrid_is_due};
+ghost use Rattle.amr_patch.specs.Meshes.{is_spent, levels_of, state_of};
+ghost use Rattle.amr_regrid.specs.Outlines.{IsChopped};
+
+use amr_advance::Crew;
+use amr_causes::NoMemory;
+use amr_cycle::step;
+use amr_def::Problem;
+use amr_patch::Mesh;
+use amr_regrid::regrid;
+use amr_workers::Gate;
+use std::alloc::Global;
+use std::thread::Threads;
+
+/// What a run is made with: memory, threads, the problem, who works, and what is called around each task.
+#[derive(Clone, Copy)]
+pub(crate) struct Team<'a, R, G> {
+    pub alloc: Global,
+    pub runtime: &'a R,
+    pub problem: &'a Problem,
+    pub crew: Crew,
+    pub gate: &'a G,
+}
+
+/// Whether a regrid is due before the step from step `number` is made.
+fn is_due(p: &Problem, number: u32) -> bool
+    ensures { result ≡ (nat_lt 0 number && ((number % p.now.regrid_int) == 0)) }
+{
+    number > 0 && number % p.regrid_int == 0
+}
+
+/// Regrids a mesh where that is due. After `NoMemory` it has the state of before.
+fn regrid_if_due(alloc: Global, p: &Problem, mesh: &mut Mesh) -> Result<(), NoMemory>
+    requires whole { is_spent mesh.old ≡ false }
+    requires sound { IsSound p.now (state_of mesh.old) }
+    requires patches { All (IsChopped p.now.max_grid_size) (levels_of mesh.old) }
+    ensures value { OnOk result (state_of mesh.new ≡ cond (regrid_is_due p.now (state_of mesh.old)) (regrid p.now (state_of mesh.old)) (state_of mesh.old)) }
+    ensures sound { OnOk result (IsSound p.now (state_of mesh.new)) }
+    ensures patches { OnOk result (All (IsChopped p.now.max_grid_size) (levels_of mesh.new)) }
+    ensures whole { is_spent mesh.new ≡ false }
+    ensures refused { OnErr result (state_of mesh.new ≡ state_of mesh.old) }
+{
+    let number = mesh.step();
+    if is_due(p, number) {
+        regrid(alloc, p, mesh)
+    } else {
+        Ok(())
+    }
+}
+
+/// Makes the next state of a run. After `NoMemory` the mesh is spent, or has the state of before.
+pub(crate) fn make_next<R: Threads + Sync, G: Gate + Sync>(
+    team: &Team<'_, R, G>,
+    mesh: &mut Mesh,
+) -> Result<(), NoMemory>
+    requires whole { is_spent mesh.old ≡ false }
+    requires sound { IsSound team.now.problem.now (state_of mesh.old) }
+    requires to_come { (state_of mesh.old).step < team.now.problem.now.steps }
+    requires patches { All (IsChopped team.now.problem.now.max_grid_size) (levels_of mesh.old) }
+    requires one_rank { team.now.crew.ranks ≡ 1 }
+    requires some_workers { 1 ≤ team.now.crew.workers }
+    requires few_workers { team.now.crew.workers ≤ 64 }
+    requires gate { (worker task : ℕ) → worker < team.now.crew.workers → G.admits team.now.gate.now worker task }
+    ensures value { OnOk result (state_of mesh.new ≡ next team.now.problem.now (state_of mesh.old)) }
+    ensures sound { OnOk result (IsSound team.now.problem.now (state_of mesh.new)) }
+    ensures patches { OnOk result (All (IsChopped team.now.problem.now.max_grid_size) (levels_of mesh.new)) }
+    ensures whole { OnOk result (is_spent mesh.new ≡ false) }
+    ensures refused { OnErr result ((is_spent mesh.new ≡ true) ⊎ ((is_spent mesh.new ≡ false) × (state_of mesh.new ≡ state_of mesh.old))) }
+{
+    regrid_if_due(team.alloc, team.problem, mesh)?;
+    step(team.runtime, team.problem, mesh, team.crew, team.gate)
+}

@@ -1,5 +1,0 @@
-mod Boxes
-mod Filled
-mod Lists
-mod Updating
-pub mod Values
