@@ -1,26 +1,28 @@
 -- Each register cell lies beside the parents of a finer box.
-use Rattle.std.proofs.Common.{◌≡◌, ◌∙◌, ℕ, suc, ◌+◌, ◌<◌, ◌≤◌, Bool, true, false, ◌||◌, ◌⊎◌, inl, inr, ℤ, pos, negsuc, ◌+ℤ◌, ◌-ℤ◌, ◌≤ℤ◌, ◌<ℤ◌, List, length, refl, sym, ap, subst, arith}
-use Rattle.std.specs.Prelude.{is_some, slice_index_or}
+use Rattle.std.proofs.Common.{◌≡◌, ◌∙◌, ℕ, suc, ◌+◌, ◌<◌, ◌≤◌, Bool, true, false, ◌&&◌, ◌||◌, ◌⊎◌, inl, inr, ℤ, pos, negsuc, ◌+ℤ◌, ◌-ℤ◌, ◌≤ℤ◌, ◌<ℤ◌, List, length, refl, sym, ap, subst, arith}
+use Rattle.std.specs.Prelude.{is_some, not, slice_index_or}
+use Rattle.std.specs.Cmp.{both_ways}
 use Rattle.std.specs.List.{Any, Contains}
 use Rattle.std.proofs.lemmas.Int.{ints}
-use Rattle.std.proofs.lemmas.Bool.{cases_lt, or_cases, or_left, or_right}
+use Rattle.std.proofs.lemmas.Bool.{and_parts, cases_lt, or_cases, or_left, or_right}
 use Rattle.std.proofs.lemmas.List.Folds.{Any-from_list_any, list_any_at}
 use Rattle.amr_box.specs.declared.Cell.{Cell}
 use Rattle.amr_box.specs.Cells.{Extent, IsBoxOf, IsNear, IsProper, at_least_zero, cell, child, half, has_child_where, holds}
 use Rattle.amr_box.proofs.CellEquality.{same_cell}
 use Rattle.amr_def.specs.declared.problem.Problem.{Problem}
-use Rattle.amr_def.specs.Domain.{Domain, domain, home_cell, in_domain, moved, wrapped}
+use Rattle.amr_def.specs.Domain.{Domain, domain, home_cell, in_domain, is_near, moved, wrapped}
 use Rattle.amr_def.specs.State.{Level, Masses, is_covered}
 use Rattle.amr_def.specs.Facts.{IsLevel, IsNestedLevel}
 use Rattle.amr_def.proofs.Flows.{wrapped_before, wrapped_end, wrapped_inside}
 use Rattle.amr_def.proofs.LevelLists.{HasAllChildren, child_0}
-use Rattle.amr_def.proofs.Nesting.{aligned_even, children, covered_inside, odd_small}
-use Rattle.amr_def.proofs.Nests.{half_and_odd}
+use Rattle.amr_def.proofs.Nesting.{aligned_even, children, covered_inside, near_east, near_north, near_south, near_west, odd_small}
+use Rattle.amr_def.proofs.Nesting.{of_level as of_coarse}
+use Rattle.amr_def.proofs.Nests.{IsEven, half_and_odd}
 use Rattle.amr_def.proofs.Uncovered.{in_domain-yes, no_children}
 use Rattle.amr_patch.proofs.Rows.{inside, is_inside}
 use Rattle.amr_flux.specs.Faces.{IsInDomain}
 use Rattle.amr_register.specs.RegisterCells.{has_neighbour_where, is_register_cell}
-use Rattle.amr_register.specs.Beside.{HasFirstChildren}
+use Rattle.amr_register.specs.Beside.{stands_beside}
 use Rattle.amr_register.specs.Collecting.{FindsAround}
 use Rattle.amr_register.proofs.CellLists.{of_level}
 use Rattle.amr_register.proofs.CollectLaws.{BoxesDone, coarse_box, is_beside, none_covered}
@@ -197,12 +199,27 @@ halves_low low z h = omega (arith, ints, half_and_odd low, odd_small low)
 halves_high : (high z : ℤ) → (z +ℤ z) ≤ℤ high → z ≤ℤ half high
 halves_high high z h = omega (arith, ints, half_and_odd high, odd_small high)
 
-coarse_holds : (b : Extent) (c : Cell) → holds b (child_0 c) ≡ true → holds (coarse_box b) c ≡ true
+pub coarse_holds : (b : Extent) (c : Cell) → holds b (child_0 c) ≡ true → holds (coarse_box b) c ≡ true
 coarse_holds b c e =
     let h = inside b (child_0 c) e in
     is_inside (coarse_box b) c (record { west = halves_low b.lo.x c.x h.west; east = halves_high b.hi.x c.x h.east; south = halves_low b.lo.y c.y h.south; north = halves_high b.hi.y c.y h.north })
 
-first_tells : (fine : Masses) → HasAllChildren fine → HasFirstChildren fine
+-- and the other way round, of a box from even to odd coordinates
+pub even_holds : (b : Extent) (c : Cell) → IsEven b → holds (coarse_box b) c ≡ true → holds b (child_0 c) ≡ true
+even_holds b c even h =
+    let i = inside (coarse_box b) c h in
+    is_inside b (child_0 c) (record {
+      west = omega (arith, ints, i.west, half_and_odd b.lo.x, even.0);
+      east = omega (arith, ints, i.east, half_and_odd b.hi.x, even.2);
+      south = omega (arith, ints, i.south, half_and_odd b.lo.y, even.1);
+      north = omega (arith, ints, i.north, half_and_odd b.hi.y, even.3);
+    })
+
+-- a covered cell has all of its children, so that the first one tells
+pub record HasFirstChildren (fine : Masses) : Type 0 where
+  pub at : (c : Cell) → is_covered fine c ≡ is_some (fine (child_0 c))
+
+pub first_tells : (fine : Masses) → HasAllChildren fine → HasFirstChildren fine
 first_tells fine children = record { at = λ c. by_test c (is_covered fine c) refl }
   where
     by_test : (c : Cell) (t : Bool) → is_covered fine c ≡ t → is_covered fine c ≡ is_some (fine (child_0 c))
@@ -220,6 +237,13 @@ module _ (p : Problem) (l : ℕ) (k fine : Level) (klevel : IsLevel p l k) (flev
   pub covering_box : (c : Cell) → is_covered fine.masses c ≡ true → Any (λ b. holds b (child_0 c) ≡ true) fine.boxes
   covering_box c h = Any-from_list_any (λ b. holds b (child_0 c)) fine.boxes (sym (flevel.filled (child_0 c)) ∙ sym (first_children.at c) ∙ h)
 
+and_alike : (a b r : Bool) → (r ≡ true → a ≡ b) → (a && r) ≡ (b && r)
+and_alike a b true h = ap (λ (t : Bool). t && true) (h refl)
+and_alike true true false h = refl
+and_alike true false false h = refl
+and_alike false true false h = refl
+and_alike false false false h = refl
+
 or_more : (a a' b b' : Bool) → (a ≡ true → a' ≡ true) → (b ≡ true → b' ≡ true) → (a || b) ≡ true → (a' || b') ≡ true
 or_more a a' b b' f g h = by_case (or_cases a b h)
   where
@@ -234,6 +258,25 @@ has_child_more f g more c h =
 pub half_order : (a b : ℤ) → a ≤ℤ b → half a ≤ℤ half b
 half_order a b h = omega (arith, ints, half_and_odd a, odd_small a, half_and_odd b, odd_small b)
 
+sized_of : (d : Domain) (b : Extent) → IsProper b → IsInDomain d b → IsSized d b
+sized_of d b proper within =
+    let low = within_domain d b.lo (within.at b.lo (is_inside b b.lo (record { west = omega (arith, ints); east = proper.wide; south = omega (arith, ints); north = proper.high }))) in
+    let high = within_domain d b.hi (within.at b.hi (is_inside b b.hi (record { west = proper.wide; east = omega (arith, ints); south = proper.high; north = omega (arith, ints) }))) in
+    record { west = low.west; east = high.east; south = low.south; north = high.north; wide = proper.wide; high = proper.high }
+
+-- a box in a domain is near
+pub near_inside : (d : Domain) → HasSize d → (b : Extent) → IsProper b → IsInDomain d b → IsNear b
+near_inside d size b proper within =
+    let s = sized_of d b proper within in
+    record {
+      west = omega (arith, ints, s.west);
+      east = omega (arith, ints, s.east, size.few_columns);
+      south = omega (arith, ints, s.south);
+      north = omega (arith, ints, s.north, size.few_rows);
+      wide = proper.wide;
+      high = proper.high;
+    }
+
 module _ (p : Problem) (l : ℕ) (k fine : Level) (klevel : IsLevel p l k) (flevel : IsLevel p (suc l) fine) (nested : IsNestedLevel p l k fine) (few : l ≤ 3) where
   size : HasSize (domain p l)
   size = size_at p l (omega arith)
@@ -247,35 +290,14 @@ module _ (p : Problem) (l : ℕ) (k fine : Level) (klevel : IsLevel p l k) (flev
   pub parents_inside : (n : ℕ) (b c0 : Extent) → n < length fine.boxes → IsBoxOf b (has_child_where (holds (slice_index_or fine.boxes n c0))) → IsInDomain (domain p l) b
   parents_inside n b c0 lt cells = record { at = λ c h. covered_in_domain p l k fine klevel flevel nested few c (covered_parents n b c0 lt cells c h) }
 
-  sized_of : (b : Extent) → IsProper b → IsInDomain (domain p l) b → IsSized (domain p l) b
-  sized_of b proper within =
-      let low = within_domain (domain p l) b.lo (within.at b.lo (is_inside b b.lo (record { west = omega (arith, ints); east = proper.wide; south = omega (arith, ints); north = proper.high }))) in
-      let high = within_domain (domain p l) b.hi (within.at b.hi (is_inside b b.hi (record { west = proper.wide; east = omega (arith, ints); south = proper.high; north = omega (arith, ints) }))) in
-      record { west = low.west; east = high.east; south = low.south; north = high.north; wide = proper.wide; high = proper.high }
-
   pub near_parents : (b : Extent) → IsProper b → IsInDomain (domain p l) b → IsNear b
-  near_parents b proper within =
-      let s = sized_of b proper within in
-      record {
-        west = omega (arith, ints, s.west);
-        east = omega (arith, ints, s.east, size.few_columns);
-        south = omega (arith, ints, s.south);
-        north = omega (arith, ints, s.north, size.few_rows);
-        wide = proper.wide;
-        high = proper.high;
-      }
+  near_parents b proper within = near_inside (domain p l) size b proper within
 
   coarse_even : (n : ℕ) (c0 : Extent) → n < length fine.boxes → (c : Cell) → holds (coarse_box (slice_index_or fine.boxes n c0)) c ≡ true → is_covered fine.masses c ≡ true
   coarse_even n c0 lt c h =
       let e = slice_index_or fine.boxes n c0 in
       let even = aligned_even p.blocking e p.limits.blocking_factor (nested.aligned n c0 lt) in
-      let i = inside (coarse_box e) c h in
-      let first : holds e (child_0 c) ≡ true = is_inside e (child_0 c) (record {
-        west = omega (arith, ints, i.west, half_and_odd e.lo.x, even.0);
-        east = omega (arith, ints, i.east, half_and_odd e.hi.x, even.2);
-        south = omega (arith, ints, i.south, half_and_odd e.lo.y, even.1);
-        north = omega (arith, ints, i.north, half_and_odd e.hi.y, even.3);
-      }) in
+      let first : holds e (child_0 c) ≡ true = even_holds e c even h in
       (first_children p l k fine klevel flevel nested few).at c ∙ flevel.filled (child_0 c) ∙ list_any_at (λ b. holds b (child_0 c)) fine.boxes n c0 lt first
 
   module _ (cs : List Cell) (done : BoxesDone (domain p l) (is_register_cell (domain p l) k.masses fine.masses) fine.boxes cs (length fine.boxes)) (q : Cell) (passes : is_register_cell (domain p l) k.masses fine.masses q ≡ true) where
@@ -292,7 +314,7 @@ module _ (p : Problem) (l : ℕ) (k fine : Level) (klevel : IsLevel p l k) (flev
         let proper : IsProper (slice_index_or fine.boxes n b) = flevel.proper n b box.2 in
         let proper_parents : IsProper (coarse_box (slice_index_or fine.boxes n b)) = record { wide = half_order _ _ proper.wide; high = half_order _ _ proper.high } in
         let within : IsInDomain (domain p l) (coarse_box (slice_index_or fine.boxes n b)) = record { at = λ c t. covered_in_domain p l k fine klevel flevel nested few c (coarse_even n b box.2 c t) } in
-        find (coarse_box (slice_index_or fine.boxes n b)) (sized_of _ proper_parents within)
+        find (coarse_box (slice_index_or fine.boxes n b)) (sized_of (domain p l) _ proper_parents within)
         (λ t. none_covered (domain p l) k.masses fine.masses q (coarse_even n b box.2 q t) passes)
         (done.finds n b box.2 box.2)
         (coarse_holds (slice_index_or fine.boxes n b) (home_cell (domain p l) (moved q o)) (subst (λ (e : Extent). holds e (child_0 (home_cell (domain p l) (moved q o))) ≡ true) (sym is) box.4))
@@ -318,3 +340,41 @@ module _ (p : Problem) (l : ℕ) (k fine : Level) (klevel : IsLevel p l k) (flev
 
     pub all_found : Contains cs q
     all_found = by_neighbour (is_beside (domain p l) k.masses fine.masses q passes)
+
+  -- ---- by nesting the level has each cell of its domain beside a covered one
+
+  near_covered : (c : Cell) → has_neighbour_where (domain p l) (is_covered fine.masses) c ≡ true → is_near (domain p l) 1 (is_covered fine.masses) c ≡ true
+  near_covered c h = west (or_cases _ _ h)
+    where
+      d : Domain
+      d = domain p l
+
+      test : Cell → Bool
+      test = is_covered fine.masses
+
+      north : (test (home_cell d (moved c (cell (pos 0) (pos 1)))) ≡ true) ⊎ (false ≡ true) → is_near d 1 test c ≡ true
+      north (inl e) = near_north d test c e
+      north (inr e) = absurd (cc)
+
+      south : (test (home_cell d (moved c (cell (pos 0) (negsuc 0)))) ≡ true) ⊎ ((test (home_cell d (moved c (cell (pos 0) (pos 1)))) || false) ≡ true) → is_near d 1 test c ≡ true
+      south (inl e) = near_south d test c e
+      south (inr e) = north (or_cases _ _ e)
+
+      east : (test (home_cell d (moved c (cell (pos 1) (pos 0)))) ≡ true) ⊎ ((test (home_cell d (moved c (cell (pos 0) (negsuc 0)))) || (test (home_cell d (moved c (cell (pos 0) (pos 1)))) || false)) ≡ true) → is_near d 1 test c ≡ true
+      east (inl e) = near_east d test c e
+      east (inr e) = south (or_cases _ _ e)
+
+      west : (test (home_cell d (moved c (cell (negsuc 0) (pos 0)))) ≡ true) ⊎ ((test (home_cell d (moved c (cell (pos 1) (pos 0)))) || (test (home_cell d (moved c (cell (pos 0) (negsuc 0)))) || (test (home_cell d (moved c (cell (pos 0) (pos 1)))) || false))) ≡ true) → is_near d 1 test c ≡ true
+      west (inl e) = near_west d test c e
+      west (inr e) = east (or_cases _ _ e)
+
+  same_test : (c : Cell) → stands_beside (domain p l) (is_covered fine.masses) c ≡ is_register_cell (domain p l) k.masses fine.masses c
+  unfolding stands_beside is_register_cell
+  same_test c =
+      and_alike (in_domain (domain p l) c) (is_some (k.masses c)) _ (λ rest. both_ways (in_domain (domain p l) c) (is_some (k.masses c))
+      (λ inside. of_coarse p l k fine klevel flevel nested c inside (near_covered c (and_parts (not (is_covered fine.masses c)) _ rest).1))
+      (λ some. klevel.inside c (sym (klevel.filled c) ∙ some)))
+
+  -- so the cells that stand beside covered ones are the register cells
+  pub stand_beside : (covered : Cell → Bool) → ((c : Cell) → covered c ≡ is_covered fine.masses c) → stands_beside (domain p l) covered ≡ is_register_cell (domain p l) k.masses fine.masses
+  stand_beside covered same = ap (stands_beside (domain p l)) (λ i c. same c i) ∙ (λ i c. same_test c i)

@@ -3,8 +3,8 @@ use Rattle.std.proofs.Common.{◌≡◌, ◌∙◌, ℕ, ◌+◌, ◌<◌, Bool,
 use Rattle.std.specs.Prelude.{is_some, not, slice_index_or}
 use Rattle.std.specs.List.{Contains}
 use Rattle.std.proofs.lemmas.Int.{ints}
-use Rattle.std.proofs.lemmas.Bool.{and_from, and_parts, cases_eq, not-true, not_from_false}
-use Rattle.std.proofs.lemmas.List.Elements.{Contains-append_left, Contains-push, Contains-push_cases}
+use Rattle.std.proofs.lemmas.Bool.{and_from, and_parts, both_ways, cases_eq, not-true, not_from_false}
+use Rattle.std.proofs.lemmas.List.Elements.{Contains-append_left, Contains-push_cases}
 use Rattle.amr_box.specs.declared.Cell.{Cell}
 use Rattle.amr_box.specs.Cells.{Extent, IsNear, cell, extent, height, holds, parent, width}
 use Rattle.amr_box.proofs.CellEquality.{same_cell}
@@ -15,20 +15,13 @@ use Rattle.amr_def.proofs.Nesting.{any_at}
 use Rattle.amr_patch.proofs.Rows.{is_inside, sides}
 use Rattle.amr_flux.specs.Faces.{IsInDomain}
 use Rattle.amr_register.specs.RegisterCells.{has_neighbour_where, is_register_cell}
-use Rattle.amr_register.specs.Beside.{IsBesideDomain}
+use Rattle.amr_register.specs.Beside.{IsBesideDomain, stands_beside}
 use Rattle.amr_register.specs.Collecting.{Collects, Finds, FindsAround, FindsBelowAndAbove, FindsLeftAndRight}
 use Rattle.amr_register.proofs.RowOrder.{nothing_among}
 use Rattle.amr_register.proofs.Taken.{same_at}
 use Rattle.amr_register.proofs.Homes.{HasSize, beside_domain, domain_cell, home_inside, moved_home}
 
 -- ---- the test
-
-pub none_of_level : (d : Domain) (m fine : Masses) (c : Cell) → is_some (m c) ≡ false → is_register_cell d m fine c ≡ true → ⊥
-unfolding is_register_cell
-none_of_level d m fine c e h = clash (sym (and_parts (is_some (m c)) _ h).0 ∙ e)
-  where
-    clash : true ≡ false → ⊥
-    clash f = cc
 
 pub none_covered : (d : Domain) (m fine : Masses) (c : Cell) → is_covered fine c ≡ true → is_register_cell d m fine c ≡ true → ⊥
 unfolding is_register_cell
@@ -44,6 +37,20 @@ is_beside d m fine c h = (and_parts (not (is_covered fine c)) _ (and_parts (is_s
 pub passes : (d : Domain) (m fine : Masses) (c : Cell) → is_some (m c) ≡ true → is_covered fine c ≡ false → has_neighbour_where d (is_covered fine) c ≡ true → is_register_cell d m fine c ≡ true
 unfolding is_register_cell
 passes d m fine c h k b = and_from (is_some (m c)) _ h (and_from (not (is_covered fine c)) _ (not_from_false (is_covered fine c) k) b)
+
+-- ---- cells of the domain beside covered ones
+
+pub none_outside : (d : Domain) (covered : Cell → Bool) (c : Cell) → in_domain d c ≡ false → stands_beside d covered c ≡ true → ⊥
+unfolding stands_beside
+none_outside d covered c e h = both_ways (in_domain d c) e (and_parts (in_domain d c) _ h).0
+
+pub none_within : (d : Domain) (covered : Cell → Bool) (c : Cell) → covered c ≡ true → stands_beside d covered c ≡ true → ⊥
+unfolding stands_beside
+none_within d covered c e h = both_ways (covered c) (not-true (covered c) (and_parts (not (covered c)) _ (and_parts (in_domain d c) _ h).1).0) e
+
+pub stands : (d : Domain) (covered : Cell → Bool) (c : Cell) → in_domain d c ≡ true → covered c ≡ false → has_neighbour_where d covered c ≡ true → stands_beside d covered c ≡ true
+unfolding stands_beside
+stands d covered c h k b = and_from (in_domain d c) _ h (and_from (not (covered c)) _ (not_from_false (covered c) k) b)
 
 -- ---- what is added
 
@@ -67,51 +74,48 @@ more_added test a b c h k = record { kept = λ q t. k.kept q (h.kept q t); passi
     either q (inl t) = h.passing q t
     either q (inr t) = inr t
 
-pub pushed_there : (old new : List Cell) (c : Cell) → new ≡ old ++ c ∷ [] → Contains new c
-pushed_there old new c e = subst (λ (cs : List Cell). Contains cs c) (sym e) (Contains-push old c)
-
 -- ---- the cells beside a box of covered cells
 
-pub record IsReady (d : Domain) (fine : Masses) (q : Cell) : Type 0 where
+pub record IsReady (d : Domain) (covered : Cell → Bool) (q : Cell) : Type 0 where
   pub near : IsBesideDomain q
-  pub beside : has_neighbour_where d (is_covered fine) (home_cell d q) ≡ true
+  pub beside : has_neighbour_where d covered (home_cell d q) ≡ true
 
-module _ (d : Domain) (fine : Masses) (size : HasSize d) (c : Cell) (inside : in_domain d c ≡ true) (covered : is_covered fine c ≡ true) where
+module _ (d : Domain) (covered : Cell → Bool) (size : HasSize d) (c : Cell) (inside : in_domain d c ≡ true) (here : covered c ≡ true) where
   abbrev test : Cell → Bool
-  test o = is_covered fine (home_cell d o)
+  test o = covered (home_cell d o)
 
   -- the cell itself is the neighbour of each of its four neighbours
-  back_again : (x y i j : ℤ) (u v : ℕ) → i +ℤ pos 1 ≡ pos u → j +ℤ pos 1 ≡ pos v → x +ℤ i ≡ c.x → y +ℤ j ≡ c.y → is_covered fine (home_cell d (moved (home_cell d (cell x y)) (cell i j))) ≡ true
-  back_again x y i j u v hu hv ex ey = ap (is_covered fine) (moved_home d (cell x y) i j u v size hu hv ∙ ap (home_cell d) (same_cell ex ey) ∙ home_inside d c inside) ∙ covered
+  back_again : (x y i j : ℤ) (u v : ℕ) → i +ℤ pos 1 ≡ pos u → j +ℤ pos 1 ≡ pos v → x +ℤ i ≡ c.x → y +ℤ j ≡ c.y → covered (home_cell d (moved (home_cell d (cell x y)) (cell i j))) ≡ true
+  back_again x y i j u v hu hv ex ey = ap covered (moved_home d (cell x y) i j u v size hu hv ∙ ap (home_cell d) (same_cell ex ey) ∙ home_inside d c inside) ∙ here
 
-  pub west_ready : (q : Cell) → q ≡ cell (c.x -ℤ pos 1) c.y → IsReady d fine q
+  pub west_ready : (q : Cell) → q ≡ cell (c.x -ℤ pos 1) c.y → IsReady d covered q
   west_ready q e =
       let near = domain_cell d c size inside in
-      subst (λ (r : Cell). IsReady d fine r) (sym e) (record {
+      subst (λ (r : Cell). IsReady d covered r) (sym e) (record {
         near = record { west = omega (arith, ints, near.west); east = omega (arith, ints, near.east); south = omega (arith, ints, near.south); north = omega (arith, ints, near.north) };
         beside = any_at (λ o. test (moved (home_cell d (cell (c.x -ℤ pos 1) c.y)) o)) neighbours 1 c (omega arith) (back_again (c.x -ℤ pos 1) c.y (pos 1) (pos 0) 2 1 refl refl (omega (arith, ints)) (omega (arith, ints)));
       })
 
-  pub east_ready : (q : Cell) → q ≡ cell (c.x +ℤ pos 1) c.y → IsReady d fine q
+  pub east_ready : (q : Cell) → q ≡ cell (c.x +ℤ pos 1) c.y → IsReady d covered q
   east_ready q e =
       let near = domain_cell d c size inside in
-      subst (λ (r : Cell). IsReady d fine r) (sym e) (record {
+      subst (λ (r : Cell). IsReady d covered r) (sym e) (record {
         near = record { west = omega (arith, ints, near.west); east = omega (arith, ints, near.east); south = omega (arith, ints, near.south); north = omega (arith, ints, near.north) };
         beside = any_at (λ o. test (moved (home_cell d (cell (c.x +ℤ pos 1) c.y)) o)) neighbours 0 c (omega arith) (back_again (c.x +ℤ pos 1) c.y (negsuc 0) (pos 0) 0 1 refl refl (omega (arith, ints)) (omega (arith, ints)));
       })
 
-  pub south_ready : (q : Cell) → q ≡ cell c.x (c.y -ℤ pos 1) → IsReady d fine q
+  pub south_ready : (q : Cell) → q ≡ cell c.x (c.y -ℤ pos 1) → IsReady d covered q
   south_ready q e =
       let near = domain_cell d c size inside in
-      subst (λ (r : Cell). IsReady d fine r) (sym e) (record {
+      subst (λ (r : Cell). IsReady d covered r) (sym e) (record {
         near = record { west = omega (arith, ints, near.west); east = omega (arith, ints, near.east); south = omega (arith, ints, near.south); north = omega (arith, ints, near.north) };
         beside = any_at (λ o. test (moved (home_cell d (cell c.x (c.y -ℤ pos 1))) o)) neighbours 3 c (omega arith) (back_again c.x (c.y -ℤ pos 1) (pos 0) (pos 1) 1 2 refl refl (omega (arith, ints)) (omega (arith, ints)));
       })
 
-  pub north_ready : (q : Cell) → q ≡ cell c.x (c.y +ℤ pos 1) → IsReady d fine q
+  pub north_ready : (q : Cell) → q ≡ cell c.x (c.y +ℤ pos 1) → IsReady d covered q
   north_ready q e =
       let near = domain_cell d c size inside in
-      subst (λ (r : Cell). IsReady d fine r) (sym e) (record {
+      subst (λ (r : Cell). IsReady d covered r) (sym e) (record {
         near = record { west = omega (arith, ints, near.west); east = omega (arith, ints, near.east); south = omega (arith, ints, near.south); north = omega (arith, ints, near.north) };
         beside = any_at (λ o. test (moved (home_cell d (cell c.x (c.y +ℤ pos 1))) o)) neighbours 2 c (omega arith) (back_again c.x (c.y +ℤ pos 1) (pos 0) (negsuc 0) 1 0 refl refl (omega (arith, ints)) (omega (arith, ints)));
       })
@@ -131,17 +135,17 @@ pub column_high : (b : Extent) (i : ℕ) → IsNear b → i < width b → holds 
 column_high b i near lt = is_inside b (cell (b.lo.x +ℤ pos i) b.hi.y) (record { west = omega (arith, ints); east = omega (arith, ints, (sides b near).wide); south = near.high; north = omega (arith, ints) })
 
 -- such a cell is one of the domain, and covered
-pub record IsCoveredCell (d : Domain) (fine : Masses) (c : Cell) : Type 0 where
+pub record IsCoveredCell (d : Domain) (covered : Cell → Bool) (c : Cell) : Type 0 where
   pub inside : in_domain d c ≡ true
-  pub covered : is_covered fine c ≡ true
+  pub here : covered c ≡ true
 
-pub covered_at : (d : Domain) (fine : Masses) (b : Extent) (q r : Cell) → IsInDomain d b → ((c : Cell) → holds b c ≡ true → is_covered fine c ≡ true) → q ≡ r → holds b r ≡ true → IsCoveredCell d fine q
-covered_at d fine b q r inside covered e h =
+pub covered_at : (d : Domain) (covered : Cell → Bool) (b : Extent) (q r : Cell) → IsInDomain d b → ((c : Cell) → holds b c ≡ true → covered c ≡ true) → q ≡ r → holds b r ≡ true → IsCoveredCell d covered q
+covered_at d covered b q r inside all e h =
     let held : holds b q ≡ true = ap (holds b) e ∙ h in
-    record { inside = inside.at q held; covered = covered q held }
+    record { inside = inside.at q held; here = all q held }
 
-pub near_at : (d : Domain) (fine : Masses) (q : Cell) → HasSize d → IsCoveredCell d fine q → IsBesideDomain q
-near_at d fine q size h = beside_domain q (domain_cell d q size h.inside)
+pub near_at : (d : Domain) (covered : Cell → Bool) (q : Cell) → HasSize d → IsCoveredCell d covered q → IsBesideDomain q
+near_at d covered q size h = beside_domain q (domain_cell d q size h.inside)
 
 -- ---- box by box
 

@@ -1,8 +1,9 @@
 -- What a look at each box of the finer level has of it, and in the end.
-use Rattle.std.proofs.Common.{◌≡◌, ◌∙◌, ℕ, suc, ◌<◌, ◌≤◌, true, List, length, sym, ap, subst}
+use Rattle.std.proofs.Common.{◌≡◌, ◌∙◌, ℕ, suc, ◌<◌, ◌≤◌, Bool, true, List, length, sym, ap, subst, arith}
 use Rattle.std.specs.Prelude.{slice_index_or}
 use Rattle.std.specs.List.{All, Contains}
 use Rattle.std.proofs.lemmas.List.Elements.{Contains-get_or}
+use Rattle.std.proofs.lemmas.List.Folds.{list_any_at}
 use Rattle.amr_box.specs.declared.Cell.{Cell}
 use Rattle.amr_box.specs.Cells.{Extent, HasCorners, IsBoxOf, IsNear, IsProper, half, has_child_where, holds}
 use Rattle.amr_def.specs.declared.problem.Problem.{Problem}
@@ -11,9 +12,9 @@ use Rattle.amr_def.specs.State.{Level, Masses, is_covered}
 use Rattle.amr_def.specs.Facts.{IsLevel, IsNestedLevel}
 use Rattle.amr_flux.specs.Faces.{IsInDomain}
 use Rattle.amr_register.specs.RegisterCells.{is_register_cell, register_cells}
-use Rattle.amr_register.specs.Beside.{IsDomainCell}
+use Rattle.amr_register.specs.Beside.{IsDomainCell, stands_beside}
 use Rattle.amr_register.specs.Entries.{AreRising}
-use Rattle.amr_register.proofs.Around.{all_found, covered_parents, half_order, near_parents, parents_inside}
+use Rattle.amr_register.proofs.Around.{all_found, covered_parents, half_order, near_inside, near_parents, parents_inside, stand_beside}
 use Rattle.amr_register.proofs.CellLists.{are_register_cells, where_inside}
 use Rattle.amr_register.proofs.CollectLaws.{BoxesDone, coarse_box}
 use Rattle.amr_register.proofs.Homes.{domain_cell, size_at}
@@ -48,16 +49,26 @@ module _ (p : Problem) (l : ℕ) (k fine : Level) (klevel : IsLevel p l k) (flev
         let parents : IsProper (coarse_box e) = record { wide = half_order _ _ proper.wide; high = half_order _ _ proper.high } in
         near_parents p l k fine klevel flevel nested few b (subst IsProper (sym is_here) parents) within
 
-  pub all_boxes : (d : Domain) (cs : List Cell) (n : ℕ) → d ≡ domain p l → n ≡ length fine.boxes → BoxesDone d (is_register_cell d k.masses fine.masses) fine.boxes cs n → BoxesDone (domain p l) (is_register_cell (domain p l) k.masses fine.masses) fine.boxes cs (length fine.boxes)
-  all_boxes d cs n e m done = subst (λ (i : ℕ). BoxesDone (domain p l) (is_register_cell (domain p l) k.masses fine.masses) fine.boxes cs i) m (subst (λ (x : Domain). BoxesDone x (is_register_cell x k.masses fine.masses) fine.boxes cs n) e done)
+  pub all_near : All IsNear fine.boxes
+  all_near n e lt = near_inside (domain p (suc l)) (size_at p (suc l) (omega arith)) (slice_index_or fine.boxes n e) (flevel.proper n e lt) (record { at = λ c h. flevel.inside c (list_any_at (λ b. holds b c) fine.boxes n e lt h) })
 
-  pub in_the_end : (cs sorted : List Cell) → BoxesDone (domain p l) (is_register_cell (domain p l) k.masses fine.masses) fine.boxes cs (length fine.boxes) → AreRising sorted → ((c : Cell) → Contains cs c → Contains sorted c) → ((c : Cell) → Contains sorted c → Contains cs c) → sorted ≡ register_cells p l k.masses fine.masses
-  in_the_end cs sorted done rises kept none_added =
-      are_register_cells p l k.masses fine.masses sorted
-      (λ q h. klevel.inside q (sym (klevel.filled q) ∙ h))
-      (sorted_from_rising sorted rises)
-      (λ q h. done.passing q (none_added q h))
-      (λ q t. kept q (all_found p l k fine klevel flevel nested few cs done q t))
+  module _ (d : Domain) (covered : Cell → Bool) (cs : List Cell) (n : ℕ) (e : d ≡ domain p l) (same : (c : Cell) → covered c ≡ is_covered fine.masses c) (all : n ≡ length fine.boxes) (done : BoxesDone d (stands_beside d covered) fine.boxes cs n) where
+    abbrev test : Cell → Bool
+    test = is_register_cell (domain p l) k.masses fine.masses
+
+    tests : stands_beside d covered ≡ test
+    tests = ap (λ (x : Domain). stands_beside x covered) e ∙ stand_beside p l k fine klevel flevel nested few covered same
+
+    all_done : BoxesDone (domain p l) test fine.boxes cs (length fine.boxes)
+    all_done = subst (λ (i : ℕ). BoxesDone (domain p l) test fine.boxes cs i) all (subst (λ (t : Cell → Bool). BoxesDone (domain p l) t fine.boxes cs n) tests (subst (λ (x : Domain). BoxesDone x (stands_beside d covered) fine.boxes cs n) e done))
+
+    pub in_the_end : (sorted : List Cell) → AreRising sorted → ((c : Cell) → Contains cs c → Contains sorted c) → ((c : Cell) → Contains sorted c → Contains cs c) → sorted ≡ register_cells p l k.masses fine.masses
+    in_the_end sorted rises kept none_added =
+        are_register_cells p l k.masses fine.masses sorted
+        (λ q h. klevel.inside q (sym (klevel.filled q) ∙ h))
+        (sorted_from_rising sorted rises)
+        (λ q h. all_done.passing q (none_added q h))
+        (λ q t. kept q (all_found p l k fine klevel flevel nested few cs all_done q t))
 
 pub near_cells : (p : Problem) (l : ℕ) (m fine : Masses) (cs : List Cell) → l ≤ 4 → cs ≡ register_cells p l m fine → All IsDomainCell cs
 near_cells p l m fine cs few e n d lt =

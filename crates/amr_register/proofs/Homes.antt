@@ -1,5 +1,5 @@
 -- The cells that cells beside those of a domain stand for.
-use Rattle.std.proofs.Common.{◌≡◌, ℕ, zero, suc, ◌*◌, ◌^◌, ◌<◌, ◌≤◌, true, ℤ, pos, negsuc, ◌+ℤ◌, ◌≤ℤ◌, ◌<ℤ◌, arith}
+use Rattle.std.proofs.Common.{◌≡◌, ℕ, zero, suc, ◌*◌, ◌^◌, ◌<◌, ◌≤◌, true, ℤ, pos, ◌+ℤ◌, ◌≤ℤ◌, ◌<ℤ◌, arith}
 use Rattle.std.proofs.lemmas.Int.{ints}
 use Rattle.std.proofs.lemmas.Bool.{and_from, and_parts}
 use Rattle.std.proofs.lemmas.Nat.{mul-le}
@@ -9,7 +9,7 @@ use Rattle.amr_box.proofs.CellEquality.{same_cell}
 use Rattle.amr_def.specs.declared.problem.Problem.{Problem}
 use Rattle.amr_def.specs.declared.domain.Dom.{Dom}
 use Rattle.amr_def.specs.Domain.{Domain, domain, domain_of, home_cell, in_domain, is_inside, moved}
-use Rattle.amr_def.proofs.Homes.{inside-itself, wrapped_between}
+use Rattle.amr_def.proofs.Homes.{inside-itself}
 use Rattle.amr_def.proofs.Nesting.{wrapped_shift}
 use Rattle.amr_def.proofs.Sizes.{doubled_small}
 use Rattle.amr_register.specs.Beside.{IsBesideDomain, IsDomainCell}
@@ -47,12 +47,6 @@ size_at p l h = record {
   few_columns = doubled_small p.nx l p.limits.greatest_nx h;
   few_rows = doubled_small p.ny l p.limits.greatest_ny h;
 }
-
-pub home_beside : (d : Domain) (c : Cell) → HasSize d → IsBesideDomain c → IsBesideDomain (home_cell d c)
-home_beside d c size h =
-    let x = wrapped_between d.wrap_x d.columns c.x (negsuc 0) (pos 4096) size.some_columns (omega (arith, ints)) (omega (arith, ints, size.few_columns)) h.west h.east in
-    let y = wrapped_between d.wrap_y d.rows c.y (negsuc 0) (pos 4096) size.some_rows (omega (arith, ints)) (omega (arith, ints, size.few_rows)) h.south h.north in
-    record { west = x.0; east = x.1; south = y.0; north = y.1 }
 
 pub home_inside : (d : Domain) (c : Cell) → in_domain d c ≡ true → home_cell d c ≡ c
 unfolding in_domain

@@ -1,14 +1,16 @@
 -- Cells beside covered ones.
-use Rattle.std.specs.Prelude.{◌≡◌, ℕ, ◌<◌, Bool, pos, negsuc, ◌+ℤ◌, ◌-ℤ◌, ◌≤ℤ◌, List, length, slice_index_or, is_some}
+use Rattle.std.specs.Prelude.{◌≡◌, ℕ, ◌<◌, Bool, ◌&&◌, not, pos, negsuc, ◌+ℤ◌, ◌-ℤ◌, ◌≤ℤ◌, List, length, slice_index_or}
 use Rattle.amr_box.specs.declared.Cell.{Cell}
 use Rattle.amr_box.specs.Cells.{cell}
-use Rattle.amr_def.specs.Domain.{Domain, home_cell}
-use Rattle.amr_def.specs.State.{Masses, is_covered}
+use Rattle.amr_def.specs.Domain.{Domain, home_cell, in_domain}
 use Rattle.amr_register.specs.declared.sides.CoveredSides.{CoveredSides}
+use Rattle.amr_register.specs.declared.sides.Stretches.{Stretches}
+use Rattle.amr_register.specs.RegisterCells.{has_neighbour_where}
+use Rattle.amr_register.specs.Runs.{IsStretch}
 
--- a covered cell has all of its children, so that the first one tells
-pub record HasFirstChildren (fine : Masses) : Type 0 where
-  pub at : (c : Cell) → is_covered fine c ≡ is_some (fine (cell (c.x +ℤ c.x) (c.y +ℤ c.y)))
+-- a cell of the domain that is not covered, beside one that is
+unfoldable pub stands_beside : Domain → (Cell → Bool) → Cell → Bool
+stands_beside d covered c = in_domain d c && (not (covered c) && has_neighbour_where d covered c)
 
 -- as far as domains reach, which have at most 4096 columns and rows
 pub record IsDomainCell (c : Cell) : Type 0 where
@@ -34,3 +36,10 @@ pub record HasSides (d : Domain) (covered : Cell → Bool) (c : Cell) (s : Cover
 -- cell by cell
 abbrev pub HaveSides : Domain → (Cell → Bool) → List Cell → List CoveredSides → Type 0
 HaveSides d covered cs ss = (k : ℕ) (c : Cell) (s : CoveredSides) → k < length cs → HasSides d covered (slice_index_or cs k c) (slice_index_or ss k s)
+
+-- the stretches that were found last on each side, where one was
+pub record AreStretches (covered : Cell → Bool) (s : Stretches) : Type 0 where
+  pub west : IsStretch covered s.west
+  pub east : IsStretch covered s.east
+  pub south : IsStretch covered s.south
+  pub north : IsStretch covered s.north

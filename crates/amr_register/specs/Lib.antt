@@ -1,5 +1,7 @@
 pub mod RegisterCells
 pub mod Entries
+pub mod Runs
+pub mod Covers
 pub mod Beside
 pub mod Collecting
 pub mod Spans

@@ -9,12 +9,14 @@
 
 mod beside;
 mod cells;
+mod cover;
 mod flows;
 mod laws;
 mod order;
 mod reflux;
 mod register;
 mod rows;
+mod runs;
 mod sides;
 #[cfg(test)]
 mod tests;

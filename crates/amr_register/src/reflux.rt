@@ -1,17 +1,36 @@
 //! Entries added to the masses of their cells.
 
-ghost use Rattle.std.specs.Prelude.{◌≡◌, ℕ, ◌<◌, ◌^◌, pos, ◌+ℤ◌, ◌≤ℤ◌, ◌<ℤ◌, cond, Some, length, slice_index_or, IsSome};
+ghost use Rattle.std.specs.Prelude.{◌≡◌, ℕ, ◌<◌, ◌^◌, pos, ◌+ℤ◌, ◌≤ℤ◌, ◌<ℤ◌, cond, Some, length, slice_index_or, IsSome, IsTrue};
 ghost use Rattle.std.specs.Ordering.{eq_by_cmp};
 ghost use Rattle.amr_box.specs.declared.Cell.{Cell};
 ghost use Rattle.amr_box.specs.Cells.{at_least_zero, cell_cmp};
 ghost use Rattle.amr_def.specs.State.{mass_of};
 ghost use Rattle.amr_patch.specs.Levels.{level_of, patches_of};
+ghost use Rattle.amr_patch.specs.Orders.{IsHolder, IsOrderOf};
 ghost use Rattle.amr_patch.specs.Pairwise.{Pairwise};
-ghost use Rattle.amr_patch.specs.Patches.{KeepsFrameAndFluxes};
+ghost use Rattle.amr_patch.specs.Patches.{ArePatchesApart, KeepsFrameAndFluxes, in_patches, masses_in};
 ghost use Rattle.amr_register.specs.Entries.{AreRising, entry_at, with_entries};
 
 use amr_box::Cell;
-use amr_patch::Level;
+use amr_patch::{Level, Order, Patch, find};
+
+/// The number of the patch that has a cell. It is looked for only where patch `near` hasn't the cell.
+fn holder(patches: &[Patch], order: Order, near: usize, c: Cell) -> usize
+    requires order { IsOrderOf order patches.now }
+    requires apart { ArePatchesApart patches.now }
+    requires there { IsTrue (in_patches patches.now c) }
+    ensures { IsHolder patches.now c result }
+{
+    if near < patches.len() {
+        if patches[near].bx().holds(c) {
+            return near;
+        }
+    }
+    match find(patches, order, c) {
+        None => unreachable!(),
+        Some(found) => found,
+    }
+}
 
 /// A mass and an entry.
 fn with_entry(mass: u64, entry: i64) -> u64
@@ -26,18 +45,36 @@ fn with_entry(mass: u64, entry: i64) -> u64
     }
 }
 
-/// Adds an entry to the mass of a cell.
-fn add_entry(c: Cell, entry: i64, level: &mut Level)
-    requires of_level { IsSome ((level_of level.old).masses c) }
-    requires kept { pos 0 ≤ℤ (pos (mass_of (level_of level.old).masses c) +ℤ entry) }
-    requires fits { (pos (mass_of (level_of level.old).masses c) +ℤ entry) <ℤ pos (2 ^ 32) }
-    ensures masses { (d : Cell) → (level_of level.new).masses d ≡ cond (eq_by_cmp cell_cmp d c) (Some (at_least_zero (pos (mass_of (level_of level.old).masses c) +ℤ entry))) ((level_of level.old).masses d) }
-    ensures boxes { (level_of level.new).boxes ≡ (level_of level.old).boxes }
-    ensures patches { Pairwise KeepsFrameAndFluxes (patches_of level.old) (patches_of level.new) }
+/// Adds an entry to the mass of a cell, which patch `k` has.
+fn add_entry(patches: &mut [Patch], k: usize, c: Cell, entry: i64)
+    requires apart { ArePatchesApart patches.old }
+    requires holder { IsHolder patches.old c k }
+    requires kept { pos 0 ≤ℤ (pos (mass_of (masses_in patches.old) c) +ℤ entry) }
+    requires fits { (pos (mass_of (masses_in patches.old) c) +ℤ entry) <ℤ pos (2 ^ 32) }
+    ensures masses { (d : Cell) → masses_in patches.new d ≡ cond (eq_by_cmp cell_cmp d c) (Some (at_least_zero (pos (mass_of (masses_in patches.old) c) +ℤ entry))) (masses_in patches.old d) }
+    ensures kept { Pairwise KeepsFrameAndFluxes patches.old patches.new }
 {
-    match level.get(c) {
-        None => unreachable!(),
-        Some(mass) => level.set(c, with_entry(mass, entry)),
+    let patch = &mut patches[k];
+    let mass = patch.mass(c);
+    patch.set_mass(c, with_entry(mass, entry));
+}
+
+/// Adds entries to the masses of their cells. Cells of one patch, one after the other, take one look-up.
+fn add_all(cells: &[Cell], entries: &[i64], patches: &mut [Patch], order: Order)
+    requires rising { AreRising cells.now }
+    requires count { length entries.now ≡ length cells.now }
+    requires order { IsOrderOf order patches.old }
+    requires apart { ArePatchesApart patches.old }
+    requires there { (k : ℕ) (c : Cell) → k < length cells.now → IsSome (masses_in patches.old (slice_index_or cells.now k c)) }
+    requires kept { (k : ℕ) (c : Cell) → k < length cells.now → pos 0 ≤ℤ (pos (mass_of (masses_in patches.old) (slice_index_or cells.now k c)) +ℤ slice_index_or entries.now k (pos 0)) }
+    requires fits { (k : ℕ) (c : Cell) → k < length cells.now → (pos (mass_of (masses_in patches.old) (slice_index_or cells.now k c)) +ℤ slice_index_or entries.now k (pos 0)) <ℤ pos (2 ^ 32) }
+    ensures masses { (c : Cell) → masses_in patches.new c ≡ with_entries (entry_at cells.now entries.now) (masses_in patches.old) c }
+    ensures kept { Pairwise KeepsFrameAndFluxes patches.old patches.new }
+{
+    let mut near = 0;
+    for k in 0..cells.len() {
+        near = holder(patches, order, near, cells[k]);
+        add_entry(patches, near, cells[k], entries[k]);
     }
 }
 
@@ -52,7 +89,8 @@ pub(crate) fn add_entries(cells: &[Cell], entries: &[i64], level: &mut Level)
     ensures boxes { (level_of level.new).boxes ≡ (level_of level.old).boxes }
     ensures patches { Pairwise KeepsFrameAndFluxes (patches_of level.old) (patches_of level.new) }
 {
-    for k in 0..cells.len() {
-        add_entry(cells[k], entries[k], level);
-    }
+    let order = level.order();
+    let mut patches = level.take_patches();
+    add_all(cells, entries, &mut patches, order);
+    level.put_patches_in_order(patches, order);
 }

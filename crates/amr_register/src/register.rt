@@ -6,6 +6,7 @@ ghost use Rattle.amr_register.specs.Beside.{IsDomainCell};
 ghost use Rattle.amr_register.specs.Entries.{AreRising};
 
 use crate::beside::register_cells;
+use crate::cover::Cover;
 use crate::flows::{Edge, take_beside};
 use crate::reflux::add_entries;
 use crate::sides::{CoveredSides, sides_of_all};
@@ -56,7 +57,8 @@ impl Register {
     ghost use Rattle.amr_register.specs.Entries.{with_entries};
     ghost use Rattle.amr_register.specs.Registers.{IsRegisterOf, SameCells, cells_in, entry_in, sides_in};
 
-    /// The register of level `l`, 0 to 3, below the finer level `l + 1`. Each entry is 0. The two levels are nested.
+    /// The register of level `l`, 0 to 3, below the finer level `l + 1`. Each entry is 0. The two levels are nested. No cell of
+    /// their patches is looked up: the finer level's boxes tell which cells are covered, a stretch of a row at a look.
     pub fn make(
         alloc: Global,
         p: &Problem,
@@ -71,8 +73,9 @@ impl Register {
         ensures cells { IfOk result (IsRegisterOf p.now l (level_of coarse.now).masses (level_of fine.now).masses) }
         ensures zero { IfOk result (λ r. (c : Cell) → entry_in r c ≡ pos 0) }
     {
-        let cells = register_cells(alloc, p, l, coarse, fine)?;
-        let sides = sides_of_all(alloc, &p.domain(l), fine, &cells)?;
+        let cover = Cover::make(alloc, fine)?;
+        let cells = register_cells(alloc, p, l, coarse, fine, &cover)?;
+        let sides = sides_of_all(alloc, &p.domain(l), &cover, &cells)?;
         let entries = no_entries(alloc, cells.len())?;
         Ok(Register {
             cells,
@@ -152,7 +155,7 @@ impl Register {
     }
 
     /// Adds each entry to the mass of its cell. The level has the boxes of the coarse level that the register was made over,
-    /// and no sum is below 0, or 2^32 or more.
+    /// and no sum is below 0, or 2^32 or more. Register cells of one patch, one after the other, take one look-up.
     pub fn reflux(&self, level: &mut Level)
         requires of_level { (c : Cell) → Contains (cells_in self.now) c → IsSome ((level_of level.old).masses c) }
         requires kept { (c : Cell) → Contains (cells_in self.now) c → pos 0 ≤ℤ (pos (mass_of (level_of level.old).masses c) +ℤ entry_in self.now c) }

@@ -1,6 +1,6 @@
 //! The register of a ring.
 
-ghost use Rattle.std.specs.Prelude.{◌≡◌, [], ◌∷◌, pos, is_some, IfOk};
+ghost use Rattle.std.specs.Prelude.{◌≡◌, [], ◌∷◌, pos, cond, None, Some, IfOk};
 ghost use Rattle.amr_box.specs.declared.Cell.{Cell};
 ghost use Rattle.amr_box.specs.Cells.{IsNear, cell, extent};
 ghost use Rattle.amr_def.specs.State.{in_boxes};
@@ -69,26 +69,35 @@ fn fine_box() -> Bx
 fn empty_level(alloc: Global, b: Bx) -> Result<Level, NoMemory>
     requires { IsNear b }
     ensures boxes { IfOk result (λ l. (level_of l).boxes ≡ b ∷ []) }
-    ensures cells { IfOk result (λ l. (c : Cell) → is_some ((level_of l).masses c) ≡ in_boxes (b ∷ []) c) }
+    ensures masses { IfOk result (λ l. (c : Cell) → (level_of l).masses c ≡ cond (in_boxes (b ∷ []) c) (Some 0) None) }
 {
     let boxes = [b];
     let level = Level::make(alloc, &boxes, &boxes)?;
     Ok(level)
 }
 
+/// The wind carries each unit of mass one cell to the east in a step. So the 100 units of cell (1, 0) leave it through its
+/// coarse-fine edge.
 #[test]
 fn the_ring_has_three_register_cells(rt: HostRuntime) -> Result<(), Fail> {
     let p = ring(rt.alloc())?;
-    let coarse = empty_level(rt.alloc(), whole_box())?;
+    let mut coarse = empty_level(rt.alloc(), whole_box())?;
     let fine = empty_level(rt.alloc(), fine_box())?;
-    let register = Register::make(rt.alloc(), &p, 0, &coarse, &fine)?;
-    let beside = [
-        Cell { x: 1, y: 0 },
-        Cell { x: 3, y: 0 },
-        Cell { x: 2, y: 1 },
-    ];
+    let mut register = Register::make(rt.alloc(), &p, 0, &coarse, &fine)?;
+    let west = Cell { x: 1, y: 0 };
+    let beside = [west, Cell { x: 3, y: 0 }, Cell { x: 2, y: 1 }];
     assert_eq!(rt; register.cells(), beside.as_slice());
     assert_eq!(rt; register.cells().len(), 3);
-    assert_eq!(rt; register.entry(2), 0);
+    coarse.set(west, 100);
+    register.absorb(0, 7, 2);
+    let mut taken = register.copy(rt.alloc())?;
+    if let Some(patch) = coarse.patches().first() {
+        taken.coarse_part(&p, 0, patch);
+    }
+    assert_eq!(rt; taken.entry(0), 105);
+    taken.clear();
+    assert_eq!(rt; taken.entry(0), 0);
+    register.reflux(&mut coarse);
+    assert_eq!(rt; coarse.get(west), Some(105));
     Ok(())
 }

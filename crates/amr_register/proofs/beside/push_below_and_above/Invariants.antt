@@ -1,8 +1,13 @@
 use Rattle.amr_def.specs.Domain.{domain_of}
-use Rattle.amr_patch.specs.Levels.{level_of}
-use Rattle.amr_register.specs.RegisterCells.{is_register_cell}
+use Rattle.amr_register.specs.Beside.{stands_beside}
+use Rattle.amr_register.specs.Covers.{covers}
+use Rattle.amr_register.specs.Runs.{IsStretch}
 use Rattle.amr_register.proofs.CollectLaws.{ColumnsDone}
 use Rattle.amr_register.proofs.beside.push_below_and_above.Given as goal
 
 abbrev pub invariant-loop-i : goal.invariant-loop-i
-invariant-loop-i l = ColumnsDone (domain_of l.dom) (is_register_cell (domain_of l.dom) (level_of l.coarse).masses (level_of l.fine).masses) l.b l.initial.cells.items l.cells.items l.i
+invariant-loop-i l = record {
+  done : ColumnsDone (domain_of l.dom) (stands_beside (domain_of l.dom) (covers l.cover)) l.b l.initial.cells.items l.cells.items l.i;
+  south : IsStretch (covers l.cover) l.south;
+  north : IsStretch (covers l.cover) l.north;
+}

@@ -1,44 +1,35 @@
-use Rattle.std.proofs.Common.{◌≡◌, ◌∙◌, true, false, [], ◌∷◌, ◌++◌, ap, refl, subst, sym}
-use Rattle.std.specs.Prelude.{is_some}
+use Rattle.std.proofs.Common.{◌≡◌, ◌∙◌, true, false, [], ◌∷◌, ◌++◌, ap, refl, sym}
 use Rattle.amr_box.specs.declared.Cell.{Cell}
-use Rattle.amr_def.specs.Domain.{domain_of, home_cell}
-use Rattle.amr_def.specs.State.{is_covered}
-use Rattle.amr_patch.specs.Levels.{level_of}
-use Rattle.amr_register.specs.Beside.{IsBesideDomain}
-use Rattle.amr_register.specs.RegisterCells.{is_register_cell}
-use Rattle.amr_register.proofs.CollectLaws.{none_covered, none_of_level, nothing_added, one_added, passes, pushed_there}
-use Rattle.amr_register.proofs.Homes.{home_beside, size_of}
+use Rattle.amr_def.specs.Domain.{domain_of, home_cell, in_domain}
+use Rattle.amr_register.specs.Beside.{stands_beside}
+use Rattle.amr_register.specs.Covers.{covers}
+use Rattle.amr_register.proofs.CollectLaws.{none_outside, none_within, nothing_added, one_added, stands}
 use Rattle.amr_register.proofs.beside.push_uncovered.Goals as goal
 
-pub returns-then-is_none : goal.returns-then-is_none
-returns-then-is_none c =
-    let d = domain_of c.args.dom.now in
-    let m = (level_of c.args.coarse.now).masses in
-    let fine = (level_of c.args.fine.now).masses in
-    let none : is_some (m (home_cell d c.args.c)) ≡ false = ap (λ (q : Cell). is_some (m q)) (sym c.home_cell-home.ensures) ∙ ap is_some (sym c.get.ensures) ∙ c.if-is_none.ensures in
-    record { collects = nothing_added _ _ _ refl; finds = λ t. absurd (none_of_level d m fine (home_cell d c.args.c) none t) }
+pub returns-then-not-in_domain-clause-collects : goal.returns-then-not-in_domain-clause-collects
+returns-then-not-in_domain-clause-collects c = nothing_added _ _ _ refl
 
-pub is_covered-requires-clause-near : goal.is_covered-requires-clause-near
-is_covered-requires-clause-near c =
-    subst (λ (q : Cell). IsBesideDomain q) (sym c.home_cell-home.ensures) (home_beside (domain_of c.args.dom.now) c.args.c (size_of c.args.dom.now) c.requires.near)
-
-pub returns-then-is_covered : goal.returns-then-is_covered
-returns-then-is_covered c =
+pub returns-then-not-in_domain-clause-finds : goal.returns-then-not-in_domain-clause-finds
+returns-then-not-in_domain-clause-finds c = λ t.
     let d = domain_of c.args.dom.now in
-    let m = (level_of c.args.coarse.now).masses in
-    let fine = (level_of c.args.fine.now).masses in
-    let covered : is_covered fine (home_cell d c.args.c) ≡ true = ap (is_covered fine) (sym c.home_cell-home.ensures) ∙ sym c.is_covered.ensures ∙ c.if-is_covered.true in
-    record { collects = nothing_added _ _ _ refl; finds = λ t. absurd (none_covered d m fine (home_cell d c.args.c) covered t) }
+    let outside : in_domain d (home_cell d c.args.c) ≡ false = ap (in_domain d) (sym c.home_cell-home.ensures) ∙ sym c.if-not-in_domain.ensures in
+    absurd (none_outside d (covers c.args.cover.now) (home_cell d c.args.c) outside t)
 
-pub returns : goal.returns
-returns c =
+pub returns-then-covers-clause-collects : goal.returns-then-covers-clause-collects
+returns-then-covers-clause-collects c = nothing_added _ _ _ refl
+
+pub returns-then-covers-clause-finds : goal.returns-then-covers-clause-finds
+returns-then-covers-clause-finds c = λ t.
     let d = domain_of c.args.dom.now in
-    let m = (level_of c.args.coarse.now).masses in
-    let fine = (level_of c.args.fine.now).masses in
-    let some : is_some (m (home_cell d c.args.c)) ≡ true = ap (λ (q : Cell). is_some (m q)) (sym c.home_cell-home.ensures) ∙ ap is_some (sym c.get.ensures) ∙ c.if-is_none.ensures in
-    let free : is_covered fine (home_cell d c.args.c) ≡ false = ap (is_covered fine) (sym c.home_cell-home.ensures) ∙ sym c.is_covered.ensures ∙ c.if-is_covered.false in
-    let items : c.push.new.self.items ≡ c.args.cells.now.items ++ home_cell d c.args.c ∷ [] = c.in_ok-push.ensures.items ∙ ap (λ (q : Cell). c.args.cells.now.items ++ q ∷ []) c.home_cell-home.ensures in
-    record {
-      collects = one_added (is_register_cell d m fine) _ _ (home_cell d c.args.c) items (passes d m fine (home_cell d c.args.c) some free c.requires.beside);
-      finds = λ t. pushed_there _ _ (home_cell d c.args.c) items;
-    }
+    let covered : covers c.args.cover.now (home_cell d c.args.c) ≡ true = ap (covers c.args.cover.now) (sym c.home_cell-home.ensures) ∙ sym c.if-covers.ensures.value in
+    absurd (none_within d (covers c.args.cover.now) (home_cell d c.args.c) covered t)
+
+pub returns-clause-collects : goal.returns-clause-collects
+returns-clause-collects c =
+    let d = domain_of c.args.dom.now in
+    let test = covers c.args.cover.now in
+    let home = home_cell d c.args.c in
+    let within : in_domain d home ≡ true = ap (in_domain d) (sym c.home_cell-home.ensures) ∙ sym c.if-not-in_domain.ensures in
+    let free : test home ≡ false = ap test (sym c.home_cell-home.ensures) ∙ sym c.if-covers.ensures.value in
+    let items : c.push.new.self.items ≡ c.args.cells.now.items ++ home ∷ [] = c.in_ok-push.ensures.items ∙ ap (λ (q : Cell). c.args.cells.now.items ++ q ∷ []) c.home_cell-home.ensures in
+    one_added (stands_beside d test) _ _ home items (stands d test home within free c.requires.beside)

@@ -1,10 +1,10 @@
 use Rattle.std.proofs.Common.{◌≡◌, ◌∙◌, length, ap, subst, sym, arith}
-use Rattle.amr_def.specs.Domain.{Domain}
+use Rattle.amr_def.specs.Domain.{Domain, domain_of}
 use Rattle.amr_flux.specs.Faces.{IsInDomain}
 use Rattle.amr_patch.specs.Levels.{level_of}
-use Rattle.amr_register.proofs.Around.{first_children}
+use Rattle.amr_register.specs.Covers.{covers}
 use Rattle.amr_register.proofs.CollectLaws.{more_boxes, no_boxes}
-use Rattle.amr_register.proofs.FineBoxes.{all_boxes, covered, in_the_end, is, near, near_cells, there, within}
+use Rattle.amr_register.proofs.FineBoxes.{covered, in_the_end, is, near, near_cells, there, within}
 use Rattle.amr_register.proofs.beside.register_cells.Goals as goal
 
 pub domain-dom-requires : goal.domain-dom-requires
@@ -24,13 +24,11 @@ push_beside-requires-clause-inside c =
     (within c.args.p.now c.args.l (level_of c.args.coarse.now) (level_of c.args.fine.now) c.requires.coarse c.requires.fine c.requires.nested c.requires.level c.loop-b.b-index c.boxes-b-items.result.now c.b-item.result c.coarsen2.result
     c.boxes-b-items.ensures c.loop-b-test.true c.b-item.is c.coarsen2.ensures.corners c.coarsen2.ensures.cells)
 
-pub push_beside-requires-clause-children : goal.push_beside-requires-clause-children
-push_beside-requires-clause-children c = first_children c.args.p.now c.args.l (level_of c.args.coarse.now) (level_of c.args.fine.now) c.requires.coarse c.requires.fine c.requires.nested c.requires.level
-
 pub push_beside-requires-clause-covered : goal.push_beside-requires-clause-covered
-push_beside-requires-clause-covered c =
-    covered c.args.p.now c.args.l (level_of c.args.coarse.now) (level_of c.args.fine.now) c.requires.coarse c.requires.fine c.requires.nested c.requires.level c.loop-b.b-index c.boxes-b-items.result.now c.b-item.result c.coarsen2.result
-    c.boxes-b-items.ensures c.loop-b-test.true c.b-item.is c.coarsen2.ensures.corners c.coarsen2.ensures.cells
+push_beside-requires-clause-covered c = λ q h.
+    c.requires.cover q
+    ∙ covered c.args.p.now c.args.l (level_of c.args.coarse.now) (level_of c.args.fine.now) c.requires.coarse c.requires.fine c.requires.nested c.requires.level c.loop-b.b-index c.boxes-b-items.result.now c.b-item.result c.coarsen2.result
+    c.boxes-b-items.ensures c.loop-b-test.true c.b-item.is c.coarsen2.ensures.corners c.coarsen2.ensures.cells q h
 
 pub loop-b-preserved : goal.loop-b-preserved
 loop-b-preserved c =
@@ -47,23 +45,18 @@ loop-b-preserved c =
 
 pub returns-clause-cells : goal.returns-clause-cells
 returns-clause-cells c =
-    let p = c.args.p.now in
-    let k = level_of c.args.coarse.now in
     let fine = level_of c.args.fine.now in
     let counted : c.loop-b.b-index ≡ length c.boxes-b-items.result.now = omega arith in
     let n : c.loop-b.b-index ≡ length fine.boxes = counted ∙ ap length c.boxes-b-items.ensures in
-    in_the_end p c.args.l k fine c.requires.coarse c.requires.fine c.requires.nested c.requires.level c.loop-b.cells.items _
-    (all_boxes p c.args.l k fine c.requires.coarse c.requires.fine c.requires.nested c.requires.level _ c.loop-b.cells.items c.loop-b.b-index c.domain-dom.ensures n c.loop-b.invariant)
-    c.put_in_order.ensures.rising c.put_in_order.ensures.kept c.put_in_order.ensures.none_added
+    in_the_end c.args.p.now c.args.l (level_of c.args.coarse.now) fine c.requires.coarse c.requires.fine c.requires.nested c.requires.level (domain_of c.domain-dom.result) (covers c.args.cover.now) c.loop-b.cells.items c.loop-b.b-index c.domain-dom.ensures c.requires.cover n
+    c.loop-b.invariant c.put_in_order.new.cells.items c.put_in_order.ensures.rising c.put_in_order.ensures.kept c.put_in_order.ensures.none_added
 
 pub returns-clause-near : goal.returns-clause-near
 returns-clause-near c =
-    let p = c.args.p.now in
     let k = level_of c.args.coarse.now in
     let fine = level_of c.args.fine.now in
     let counted : c.loop-b.b-index ≡ length c.boxes-b-items.result.now = omega arith in
     let n : c.loop-b.b-index ≡ length fine.boxes = counted ∙ ap length c.boxes-b-items.ensures in
-    near_cells p c.args.l k.masses fine.masses _ (omega (arith, c.requires.level))
-    (in_the_end p c.args.l k fine c.requires.coarse c.requires.fine c.requires.nested c.requires.level c.loop-b.cells.items _
-    (all_boxes p c.args.l k fine c.requires.coarse c.requires.fine c.requires.nested c.requires.level _ c.loop-b.cells.items c.loop-b.b-index c.domain-dom.ensures n c.loop-b.invariant)
-    c.put_in_order.ensures.rising c.put_in_order.ensures.kept c.put_in_order.ensures.none_added)
+    near_cells c.args.p.now c.args.l k.masses fine.masses c.put_in_order.new.cells.items (omega (arith, c.requires.level))
+    (in_the_end c.args.p.now c.args.l k fine c.requires.coarse c.requires.fine c.requires.nested c.requires.level (domain_of c.domain-dom.result) (covers c.args.cover.now) c.loop-b.cells.items c.loop-b.b-index c.domain-dom.ensures c.requires.cover n
+    c.loop-b.invariant c.put_in_order.new.cells.items c.put_in_order.ensures.rising c.put_in_order.ensures.kept c.put_in_order.ensures.none_added)

@@ -1,42 +1,23 @@
-use Rattle.std.proofs.Common.{◌≡◌, ◌∙◌, ℕ, length, pos, ap, refl, arith}
-use Rattle.std.specs.Prelude.{is_some}
-use Rattle.std.specs.declared.option.Option.{Option}
-use Rattle.std.specs.Option.{unwrap_or}
-use Rattle.std.proofs.lemmas.Int.{ints}
-use Rattle.amr_box.specs.Cells.{cell}
-use Rattle.amr_register.proofs.CellLists.{is_or_not}
-use Rattle.amr_register.proofs.LevelRefluxes.{at_start, not_yet, one_further}
-use Rattle.amr_register.proofs.Refluxes.{all_added}
+use Rattle.std.proofs.Common.{◌∙◌, List, sym, subst}
+use Rattle.std.proofs.lemmas.List.{with_items_is}
+use Rattle.amr_patch.specs.declared.patches.Patch.{Patch}
+use Rattle.amr_patch.specs.Levels.{patches_of}
+use Rattle.amr_patch.specs.Orders.{IsOrderOf}
+use Rattle.amr_patch.specs.Pairwise.{Pairwise}
+use Rattle.amr_patch.specs.Patches.{ArePatchesApart, KeepsFrameAndFluxes}
+use Rattle.amr_register.proofs.Kept.{kept_apart, kept_order}
 use Rattle.amr_register.proofs.reflux.add_entries.Goals as goal
 
-pub loop-k-init : goal.loop-k-init
-loop-k-init c = at_start _ _ _
+pub put_patches_in_order-requires-clause-apart : goal.put_patches_in_order-requires-clause-apart
+put_patches_in_order-requires-clause-apart c =
+    let new = c.add_all.new.patches in
+    let items = with_items_is c.take_patches-patches.result new (c.add_all.auto.patches ∙ c.deref_mut.ensures.len) in
+    let kept = subst (λ (qs : List Patch). Pairwise KeepsFrameAndFluxes qs new) c.deref_mut.ensures.value c.add_all.ensures.kept in
+    subst (λ (qs : List Patch). ArePatchesApart qs) (sym items) (kept_apart c.take_patches-patches.result.items new kept c.take_patches-patches.ensures.apart)
 
-pub add_entry-requires-clause-of_level : goal.add_entry-requires-clause-of_level
-add_entry-requires-clause-of_level c =
-    let same = not_yet c.args.cells.now c.args.entries.now c.args.level.now c.loop-k.level c.loop-k.k (cell (pos 0) (pos 0)) c.requires.rising c.loop-k.invariant c.loop-k-test.true in
-    ap is_some same ∙ c.requires.of_level c.loop-k.k (cell (pos 0) (pos 0)) c.loop-k-test.true
-
-pub add_entry-requires-clause-kept : goal.add_entry-requires-clause-kept
-add_entry-requires-clause-kept c =
-    let same = not_yet c.args.cells.now c.args.entries.now c.args.level.now c.loop-k.level c.loop-k.k (cell (pos 0) (pos 0)) c.requires.rising c.loop-k.invariant c.loop-k-test.true in
-    let mass = ap (λ (o : Option ℕ). unwrap_or o 0) same in
-    let kept = c.requires.kept c.loop-k.k (cell (pos 0) (pos 0)) c.loop-k-test.true in
-    omega (arith, ints, mass, kept)
-
-pub add_entry-requires-clause-fits : goal.add_entry-requires-clause-fits
-add_entry-requires-clause-fits c =
-    let same = not_yet c.args.cells.now c.args.entries.now c.args.level.now c.loop-k.level c.loop-k.k (cell (pos 0) (pos 0)) c.requires.rising c.loop-k.invariant c.loop-k-test.true in
-    let mass = ap (λ (o : Option ℕ). unwrap_or o 0) same in
-    let fits = c.requires.fits c.loop-k.k (cell (pos 0) (pos 0)) c.loop-k-test.true in
-    omega (arith, ints, mass, fits)
-
-pub loop-k-preserved : goal.loop-k-preserved
-loop-k-preserved c =
-    one_further c.args.cells.now c.args.entries.now c.args.level.now c.loop-k.level c.add_entry.new.level c.loop-k.k _ (cell (pos 0) (pos 0)) _ c.requires.rising c.requires.count c.loop-k.invariant c.loop-k-test.true refl (omega (arith, ints))
-    (c.requires.of_level c.loop-k.k (cell (pos 0) (pos 0)) c.loop-k-test.true) c.add_entry.ensures.masses c.add_entry.ensures.boxes c.add_entry.ensures.patches
-
-pub returns-clause-masses : goal.returns-clause-masses
-returns-clause-masses c = λ q.
-    let n : c.loop-k.k ≡ length c.args.cells.now = omega arith in
-    all_added c.args.cells.now c.args.entries.now _ _ c.loop-k.k n c.loop-k.invariant.masses q (is_or_not q c.args.cells.now)
+pub put_patches_in_order-requires-clause-order : goal.put_patches_in_order-requires-clause-order
+put_patches_in_order-requires-clause-order c =
+    let new = c.add_all.new.patches in
+    let items = with_items_is c.take_patches-patches.result new (c.add_all.auto.patches ∙ c.deref_mut.ensures.len) in
+    let kept = subst (λ (qs : List Patch). Pairwise KeepsFrameAndFluxes qs new) (c.deref_mut.ensures.value ∙ c.take_patches-patches.ensures.all) c.add_all.ensures.kept in
+    subst (λ (qs : List Patch). IsOrderOf c.order-order.result qs) (sym items) (kept_order c.order-order.result (patches_of c.args.level.now) new kept c.order-order.ensures)

@@ -1,0 +1,9 @@
+-- The cells that a cover has.
+use Rattle.std.specs.Prelude.{Bool}
+use Rattle.amr_box.specs.declared.Cell.{Cell}
+use Rattle.amr_def.specs.State.{in_boxes}
+use Rattle.amr_register.specs.declared.cover.Cover.{Cover}
+
+-- whether it has a cell: one of its runs does
+unfoldable pub covers : Cover → Cell → Bool
+covers v c = in_boxes v.runs.items c
