@@ -3,6 +3,7 @@ pub mod Lists
 pub mod Rows
 pub mod BoxTests
 pub mod MassReadings
+pub mod MassRuns
 pub mod Bools
 pub mod GridReadings
 pub mod Filling
@@ -13,3 +14,4 @@ pub mod FinerLevels
 pub mod MassSums
 pub mod States
 pub mod Fours
+pub mod ParentSets

@@ -1,31 +1,16 @@
 -- Masses, read one after another.
-use Rattle.std.proofs.Common.{◌≡◌, ℕ, zero, suc, ◌+◌, ◌-◌, ◌*◌, ◌/◌, ◌^◌, ◌<◌, ◌≤◌, pow_pos, mul_comm, mul_assoc, mul-add, Bool, true, false, List, [], ◌∷◌, ◌++◌, length, drop, map, refl, sym, ap, ◌∙◌, arith, drop-drop}
+use Rattle.std.proofs.Common.{◌≡◌, ℕ, zero, suc, ◌+◌, ◌-◌, ◌*◌, ◌/◌, ◌^◌, ◌<◌, ◌≤◌, pow_pos, mul_comm, mul_assoc, mul-add, Bool, true, false, List, [], ◌∷◌, ◌++◌, drop, refl, sym, ap, ◌∙◌, arith, drop-drop}
 use Rattle.std.specs.Prelude.{nat_le, slice_index}
 use Rattle.std.specs.Int.{Width, byte_len, from_le_bytes}
-use Rattle.std.specs.List.{range_with_len}
 use Rattle.std.proofs.lemmas.Bool.{both_ways}
 use Rattle.std.proofs.lemmas.Nat.{div-add-mod', le-div}
 use Rattle.std.proofs.Math.Nat.{mul-le-mul_left, mul-le-mul_right}
-use Rattle.std.proofs.lemmas.List.FromFn.{get_or-map-range_with_len, length-map-range_with_len, map-range_with_len_more}
+use Rattle.std.proofs.lemmas.List.FromFn.{get_or-map-range_with_len, map-range_with_len_more}
 use Rattle.amr_def.specs.declared.problem.Problem.{Problem}
 use Rattle.amr_payload.specs.Tests.{Left, bad, read, then_read, tested, read_also, after, is_mass, read_number, read_mass, read_masses}
-use Rattle.amr_payload.proofs.Readings.{was_tested}
-use Rattle.amr_decoder.specs.declared.faults.CodecFault.{CodecFault}
-use Rattle.amr_decoder.specs.Faults.{IsFaultOf}
 use Rattle.amr_decoder.specs.Numbers.{number_at, numbers}
-use Rattle.amr_decoder.proofs.Readings.{fault_first, fault_same, le_is, le_no, le_yes}
+use Rattle.amr_decoder.proofs.Readings.{le_is, le_no, le_yes}
 use Rattle.amr_decoder.proofs.Lists.{also_all, one_left}
-
--- a number that was read, and what is left
-pub record WasNumber (w : Width) (r e : Left) (n : ℕ) : Type 0 where
-  pub value : from_le_bytes w r.bytes ≡ n
-  pub rest : after (byte_len w) r ≡ e
-
-pub was_number : (w : Width) (r e : Left) (n : ℕ) → read_number w r ≡ read n e → WasNumber w r e n
-unfolding read_number
-was_number w r e n h =
-    let t = was_tested (nat_le (byte_len w) (length r.bytes)) r.place (from_le_bytes w r.bytes) n (after (byte_len w) r) e h in
-    record { value = t.value; rest = t.rest }
 
 pub after_more : (w : Width) (k : ℕ) (r m e : Left) → m ≡ after (byte_len w * k) r → after (byte_len w) m ≡ e → e ≡ after (byte_len w * (k + 1)) r
 after_more w k r m e is rest =
@@ -33,15 +18,6 @@ after_more w k r m e is rest =
     ∙ (let place : r.place + byte_len w * k + byte_len w ≡ r.place + byte_len w * (k + 1) = omega arith in
     let count : byte_len w * k + byte_len w ≡ byte_len w * (k + 1) = omega arith in
     λ i. record { place = place i; bytes = (drop-drop (byte_len w) (byte_len w * k) r.bytes ∙ ap (λ n. drop n r.bytes) count) i })
-
-pub number_is : (w : Width) (k m : ℕ) (r l : Left) → l ≡ after (byte_len w * k) r → from_le_bytes w l.bytes ≡ m → number_at w r.bytes k ≡ m
-number_is w k m r l is value = sym (ap (λ (l : Left). from_le_bytes w l.bytes) is) ∙ value
-
-pub numbers_more : (w : Width) (k m : ℕ) (r l : Left) → l ≡ after (byte_len w * k) r → from_le_bytes w l.bytes ≡ m → numbers w k r.bytes ++ m ∷ [] ≡ numbers w (k + 1) r.bytes
-unfolding numbers
-numbers_more w k m r l is value =
-    let here : number_at w r.bytes k ≡ m = sym (ap (λ (l : Left). from_le_bytes w l.bytes) is) ∙ value in
-    ap (λ n. map (number_at w r.bytes) (range_with_len 0 k) ++ n ∷ []) (sym here) ∙ sym (map-range_with_len_more (number_at w r.bytes) 0 k k (omega arith))
 
 module _ (w : Width) (p : Problem) (n l : ℕ) where
   pub mass_next : (count k m : ℕ) (r e : Left) → k < count → read_number w r ≡ read m e → is_mass p n l m ≡ true → read_masses w p n l (count - k) r ≡ read_also m (read_masses w p n l (count - (k + 1)) e)
@@ -58,12 +34,11 @@ module _ (w : Width) (p : Problem) (n l : ℕ) where
       ∙ ap (λ q. then_read (then_read q (λ m a. tested (is_mass p n l m) r.place m a)) (λ m a. read_also m (read_masses w p n l (count - (k + 1)) a))) first
       ∙ ap (λ t. then_read (tested t r.place m e) (λ m a. read_also m (read_masses w p n l (count - (k + 1)) a))) fails
 
-  pub mass_cut : (count k : ℕ) (r : Left) (e : CodecFault) → k < count → IsFaultOf (read_number w r) e → IsFaultOf (read_masses w p n l (count - k) r) e
+  pub mass_cut : (count k place : ℕ) (r : Left) → k < count → read_number w r ≡ bad place → read_masses w p n l (count - k) r ≡ bad place
   unfolding read_mass
-  mass_cut count k r e inside h =
-      fault_same (read_masses w p n l (count - k) r) (read_masses w p n l (suc (count - (k + 1))) r) e (ap (λ j. read_masses w p n l j r) (one_left count k inside))
-      (fault_first (then_read (read_number w r) (λ m a. tested (is_mass p n l m) r.place m a)) (λ m a. read_also m (read_masses w p n l (count - (k + 1)) a)) e
-      (fault_first (read_number w r) (λ m a. tested (is_mass p n l m) r.place m a) e h))
+  mass_cut count k place r inside first =
+      ap (λ j. read_masses w p n l j r) (one_left count k inside)
+      ∙ ap (λ q. then_read (then_read q (λ m a. tested (is_mass p n l m) r.place m a)) (λ m a. read_also m (read_masses w p n l (count - (k + 1)) a))) first
 
   pub masses_end : (count k : ℕ) (r : Left) → count - k ≡ 0 → read_masses w p n l (count - k) r ≡ read [] r
   masses_end count k r none = ap (λ j. read_masses w p n l j r) none
@@ -77,12 +52,6 @@ after_none w r =
     let place : r.place ≡ r.place + byte_len w * 0 = omega arith in
     let zero_bytes : 0 ≡ byte_len w * 0 = omega arith in
     λ i. record { place = place i; bytes = drop (zero_bytes i) r.bytes }
-
-pub all_inside : (w : Width) (count k : ℕ) (r e : Left) (whole : List ℕ) → count ≡ k → e ≡ after (byte_len w * k) r → e.place ≤ length whole → r.place + byte_len w * count ≤ length whole
-all_inside w count k r e whole same is inside =
-    let place : e.place ≡ r.place + byte_len w * k = ap (λ (l : Left). l.place) is in
-    let product : byte_len w * count ≡ byte_len w * k = ap (λ n. byte_len w * n) same in
-    omega (arith, place, product, inside)
 
 -- ---- the greatest mass
 
@@ -120,10 +89,6 @@ number_here w from i bytes = ap (from_le_bytes w) (sym (drop-drop (byte_len w * 
 pub numbers_push : (w : Width) (k : ℕ) (bytes : List ℕ) → numbers w k bytes ++ number_at w bytes k ∷ [] ≡ numbers w (k + 1) bytes
 unfolding numbers
 numbers_push w k bytes = sym (map-range_with_len_more (number_at w bytes) 0 k k (omega arith))
-
-pub count_numbers : (w : Width) (n : ℕ) (bytes : List ℕ) → length (numbers w n bytes) ≡ n
-unfolding numbers
-count_numbers w n bytes = length-map-range_with_len (number_at w bytes) 0 n
 
 pub numbers_at : (w : Width) (n i : ℕ) (bytes : List ℕ) → i < n → slice_index (numbers w n bytes) i ≡ number_at w bytes i
 unfolding numbers

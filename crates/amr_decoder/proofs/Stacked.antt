@@ -1,10 +1,9 @@
 -- A level over another: in sync where each parent of a finer cell has the mass of its children.
-use Rattle.std.proofs.Common.{◌≡◌, ℕ, suc, ◌+◌, ◌<◌, Bool, true, false, ◌||◌, List, [], ◌∷◌, length, get_or, cond, refl, sym, ap, ◌∙◌, arith, ◌⊎◌, inl, inr}
+use Rattle.std.proofs.Common.{◌≡◌, ℕ, suc, ◌<◌, Bool, true, false, ◌||◌, List, [], ◌∷◌, length, get_or, refl, sym, ap, ◌∙◌, arith, ◌⊎◌, inl, inr}
 use Rattle.std.proofs.lemmas.Int.{ints}
 use Rattle.std.proofs.lemmas.Bool.{or_cases, or_left, or_right}
 use Rattle.amr_box.specs.declared.Cell.{Cell}
 use Rattle.amr_box.specs.Cells.{Extent, HasCorners, child, half, has_child_where, holds, parent}
-use Rattle.amr_boxlist.specs.Lists as lists
 use Rattle.amr_def.specs.declared.problem.Problem.{Problem}
 use Rattle.amr_def.specs.Domain.{domain, in_domain}
 use Rattle.amr_def.specs.Facts.{IsLevel, IsNestedLevel}
@@ -13,8 +12,7 @@ use Rattle.amr_def.proofs.Nesting.{covered_boxes, covered_inside, in_domain-insi
 use Rattle.amr_def.proofs.Nests.{half_and_odd}
 use Rattle.amr_def.proofs.Uncovered.{in_domain-yes}
 use Rattle.amr_def.specs.Regrid.{odd}
-use Rattle.amr_patch.specs.Patches.{AreApart}
-use Rattle.amr_patch.proofs.Apart.{holders, in_boxes_at, one_holder}
+use Rattle.amr_patch.proofs.Apart.{in_boxes_at}
 use Rattle.amr_payload.specs.Tests.{is_in_sync}
 use Rattle.amr_payload.proofs.ReadStates.{in_sync_at}
 use Rattle.amr_payload.proofs.WriteLevels.{in_sync_from}
@@ -121,10 +119,3 @@ module _ (p : Problem) (l : ℕ) (k fine : Level) (klevel : IsLevel p l k) (flev
 pub parents_inside : (p : Problem) (l : ℕ) (fine : Level) → IsLevel p (suc l) fine → (c : Cell) → in_boxes fine.boxes c ≡ true → in_domain (domain p l) (parent c) ≡ true
 parents_inside p l fine flevel c h =
     in_domain-yes p l (parent c) (parent_inside p l (parent c) c (odd c.x) (odd c.y) (odd_small c.x) (odd_small c.y) (half_and_odd c.x) (half_and_odd c.y) (in_domain-inside p (suc l) c (flevel.inside c h)))
-
-same_count : (bs : List Extent) (c : Cell) → lists.holders bs c ≡ holders bs c
-same_count [] c = refl
-same_count (b ∷ bs) c = ap (λ n. cond (holds b c) 1 0 + n) (same_count bs c)
-
-pub counted_apart : (bs : List Extent) → AreApart bs → lists.AreApart bs
-counted_apart bs apart c = let same = same_count bs c in omega (arith, same, one_holder bs apart c)

@@ -1,3 +1,4 @@
+pub mod Apart
 pub mod Boxes
 pub mod Chopped
 pub mod Faults

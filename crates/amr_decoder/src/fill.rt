@@ -1,9 +1,10 @@
 //! Masses of a payload, placed in the patches of a level. A row of a box is read at once, and a span of it is one look-up.
 
 ghost use Rattle.std.specs.Prelude.{◌≡◌, ℕ, ◌+◌, ◌*◌, ◌<◌, ◌≤◌, ◌^◌, pos, ◌+ℤ◌, ◌-ℤ◌, ◌≤ℤ◌, drop, length, map, IsTrue, OnOk};
-ghost use Rattle.std.specs.Int.{byte_len};
+ghost use Rattle.std.specs.Int.{byte_len, w32, w64};
 ghost use Rattle.std.specs.List.{All};
 ghost use Rattle.amr_box.specs.declared.Cell.{Cell};
+ghost use Rattle.amr_box.specs.Cells as boxes;
 ghost use Rattle.amr_box.specs.Cells.{cell, holds};
 ghost use Rattle.amr_codec.specs.MassWidths.{width_of};
 ghost use Rattle.amr_def.specs.State.{in_boxes};
@@ -14,7 +15,7 @@ ghost use Rattle.amr_decoder.specs.Grids.{HasSmallMasses, IsInside, boxes_of, gr
 ghost use Rattle.amr_decoder.specs.Numbers.{number_at, numbers};
 
 use crate::grid::Grid;
-use crate::reader::{mass_at, mass_len};
+use crate::reader::{long_at, mass_len, word_at};
 use amr_box::{Cell, distance};
 use amr_causes::NoMemory;
 use amr_codec::{MassWidth, cell_in};
@@ -71,27 +72,65 @@ fn set_row(patches: &mut [Patch], order: Order, c: Cell, masses: &[u32])
     }
 }
 
-/// The `count` masses from a place on, in place of what the row had.
-fn read_row(
-    bytes: &[u8],
-    width: MassWidth,
-    from: usize,
-    count: usize,
-    row: &mut Vec<u32>,
-) -> Result<(), NoMemory>
-    requires inside { from + byte_len (width_of width) * count ≤ length bytes.now }
-    requires small { (i : ℕ) → i < count → number_at (width_of width) (drop from bytes.now) i < 2 ^ 32 }
-    ensures { OnOk result (row.new.items ≡ numbers (width_of width) count (drop from bytes.now)) }
+/// A row of numbers of four bytes, from a place on.
+fn read_words(bytes: &[u8], from: usize, row: &mut [u32])
+    requires { from + 4 * length row.old ≤ length bytes.now }
+    ensures { row.new ≡ numbers w32 (length row.old) (drop from bytes.now) }
 {
-    row.clear();
-    let len = mass_len(width);
-    for i in 0..count {
-        row.push(mass_at(bytes, from + len * i, width) as u32)?;
+    for i in 0..row.len() {
+        row[i] = word_at(bytes, from + 4 * i);
     }
-    Ok(())
 }
 
-/// Gives the cells of a box their masses, row by row.
+/// The same of numbers of eight bytes, which are small.
+fn read_longs(bytes: &[u8], from: usize, row: &mut [u32])
+    requires inside { from + 8 * length row.old ≤ length bytes.now }
+    requires small { (i : ℕ) → i < length row.old → number_at w64 (drop from bytes.now) i < 2 ^ 32 }
+    ensures { row.new ≡ numbers w64 (length row.old) (drop from bytes.now) }
+{
+    for i in 0..row.len() {
+        row[i] = long_at(bytes, from + 8 * i) as u32;
+    }
+}
+
+/// A row of masses, from a place on.
+fn read_row(bytes: &[u8], width: MassWidth, from: usize, row: &mut [u32])
+    requires inside { from + byte_len (width_of width) * length row.old ≤ length bytes.now }
+    requires small { (i : ℕ) → i < length row.old → number_at (width_of width) (drop from bytes.now) i < 2 ^ 32 }
+    ensures { row.new ≡ numbers (width_of width) (length row.old) (drop from bytes.now) }
+{
+    match width {
+        MassWidth::Four => read_words(bytes, from, row),
+        MassWidth::Eight => read_longs(bytes, from, row),
+    }
+}
+
+/// Gives the cells of a box their masses, row by row, each through `row`.
+fn fill_rows(
+    patches: &mut [Patch],
+    order: Order,
+    bytes: &[u8],
+    width: MassWidth,
+    grid: &Grid,
+    row: &mut [u32],
+)
+    requires order { IsOrderOf order patches.old }
+    requires apart { ArePatchesApart patches.old }
+    requires cells { (c : Cell) → IsTrue (holds grid.now.bx c) → IsTrue (in_patches patches.old c) }
+    requires placed { IsPlaced grid.now.bx }
+    requires inside { IsInside (width_of width) bytes.now grid.now }
+    requires small { HasSmallMasses (width_of width) bytes.now grid.now }
+    requires row { length row.old ≡ boxes.width grid.now.bx }
+    ensures { IsFilled (grid_of (width_of width) bytes.now grid.now) patches.old patches.new }
+{
+    let len = mass_len(width) * row.len();
+    for j in 0..grid.bx.height() {
+        read_row(bytes, width, grid.from + len * j as usize, row);
+        set_row(patches, order, cell_in(&grid.bx, j, 0), row);
+    }
+}
+
+/// The same, where `row` is made as long as a row of the box.
 fn fill_box(
     patches: &mut [Patch],
     order: Order,
@@ -108,12 +147,8 @@ fn fill_box(
     requires small { HasSmallMasses (width_of width) bytes.now grid.now }
     ensures { OnOk result (IsFilled (grid_of (width_of width) bytes.now grid.now) patches.old patches.new) }
 {
-    let columns = grid.bx.width() as usize;
-    let len = mass_len(width) * columns;
-    for j in 0..grid.bx.height() {
-        read_row(bytes, width, grid.from + len * j as usize, columns, row)?;
-        set_row(patches, order, cell_in(&grid.bx, j, 0), row);
-    }
+    row.resize(grid.bx.width() as usize, 0)?;
+    fill_rows(patches, order, bytes, width, grid, row);
     Ok(())
 }
 

@@ -55,7 +55,8 @@ pub fn read_finer(
 {
     let place = r.place() as u64;
     let level = read_level(alloc, p, finer(kind), r)?;
-    if !stands_over(p, kind.level, below, &level) {
+    let stands = stands_over(alloc, p, kind.level, below, &level)?;
+    if !stands {
         return Err(CodecFault::Bad { place });
     }
     Ok(level)

@@ -1,13 +1,15 @@
 //! The boxes of a level with their masses.
 
-ghost use Rattle.std.specs.Prelude.{◌≡◌, ◌&&◌, ◌≤◌, nat_lt, true, false, [], map, IfOk, IfErr, IfSome, IfNone};
+ghost use Rattle.std.specs.Prelude.{◌≡◌, ◌&&◌, ◌≤◌, ◌-◌, ◌<◌, nat_lt, true, false, [], map, IfOk, IfErr, IfSome, IfNone};
 ghost use Rattle.std.specs.List.{All, list_any};
 ghost use Rattle.amr_box.specs.Cells.{IsNear};
 ghost use Rattle.amr_codec.specs.MassWidths.{width_of};
+ghost use Rattle.amr_def.specs.Domain.{domain, domain_box};
 ghost use Rattle.amr_payload.specs.Tests.{is_box_of, meets, read, read_grid, read_grids};
+ghost use Rattle.amr_decoder.specs.Apart.{AreOfLevel, IsOverParents, newest_first};
 ghost use Rattle.amr_decoder.specs.Boxes.{box_at};
 ghost use Rattle.amr_decoder.specs.Faults.{IsFaultOf};
-ghost use Rattle.amr_decoder.specs.Grids.{HasSmallMasses, IsInside, grid_of};
+ghost use Rattle.amr_decoder.specs.Grids.{HasSmallMasses, IsInside, boxes_of, grid_of};
 ghost use Rattle.amr_decoder.specs.Lefts.{left_of, whole_of};
 
 use crate::apart::Apart;
@@ -17,22 +19,27 @@ use crate::grid::Grid;
 use crate::masses::{MassKind, read_masses};
 use crate::reader::Reader;
 use amr_box::Bx;
-use amr_def::Problem;
+use amr_causes::NoMemory;
+use amr_def::{Dom, Problem};
 use std::alloc::Global;
 
 /// Whether a box of a finer level has a cell in common with an earlier one.
 fn is_in_the_way(l: u32, earlier: &Apart, b: &Bx) -> bool
-    ensures { result ≡ (nat_lt 0 l && list_any (meets b.now) earlier.now) }
+    requires new { 0 < l → IsOverParents earlier.now.below b.now }
+    requires earlier { 0 < l → All (IsOverParents earlier.now.below) (boxes_of earlier.now.grids) }
+    ensures { result ≡ (nat_lt 0 l && list_any (meets b.now) (newest_first earlier.now.grids)) }
 {
     l > 0 && earlier.meets(b)
 }
 
 /// The box with these corners, where it passes the tests on a box of level `l` after the earlier ones.
 fn tested_box(p: &Problem, l: u32, earlier: &Apart, b: Corners) -> Option<Bx>
-    requires { l ≤ 4 }
-    ensures some { IfSome result (λ e. (e ≡ box_at b) × (is_box_of p.now l earlier.now (box_at b) ≡ true)) }
+    requires level { l ≤ 4 }
+    requires earlier { AreOfLevel p.now l earlier.now }
+    ensures some { IfSome result (λ e. (e ≡ box_at b) × (is_box_of p.now l (newest_first earlier.now.grids) (box_at b) ≡ true)) }
+    ensures over { IfSome result (λ e. 0 < l → IsOverParents earlier.now.below e) }
     ensures near { IfSome result IsNear }
-    ensures none { IfNone result (is_box_of p.now l earlier.now (box_at b) ≡ false) }
+    ensures none { IfNone result (is_box_of p.now l (newest_first earlier.now.grids) (box_at b) ≡ false) }
 {
     if !is_fit(p, l, b) {
         return None;
@@ -54,8 +61,10 @@ fn read_grid(
 ) -> Result<Grid, CodecFault>
     requires step { kind.step ≤ 4096 }
     requires level { kind.level ≤ 4 }
-    ensures read { IfOk result (λ g. read_grid (width_of kind.width) p.now kind.step kind.level earlier.now (left_of r.old) ≡ read (grid_of (width_of kind.width) (whole_of r.old) g) (left_of r.new)) }
-    ensures bad { IfErr result (IsFaultOf (read_grid (width_of kind.width) p.now kind.step kind.level earlier.now (left_of r.old))) }
+    requires earlier { AreOfLevel p.now kind.level earlier.now }
+    ensures read { IfOk result (λ g. read_grid (width_of kind.width) p.now kind.step kind.level (newest_first earlier.now.grids) (left_of r.old) ≡ read (grid_of (width_of kind.width) (whole_of r.old) g) (left_of r.new)) }
+    ensures bad { IfErr result (IsFaultOf (read_grid (width_of kind.width) p.now kind.step kind.level (newest_first earlier.now.grids) (left_of r.old))) }
+    ensures over { IfOk result (λ g. 0 < kind.level → IsOverParents earlier.now.below g.bx) }
     ensures inside { IfOk result (IsInside (width_of kind.width) (whole_of r.old)) }
     ensures small { IfOk result (HasSmallMasses (width_of kind.width) (whole_of r.old)) }
     ensures whole { whole_of r.new ≡ whole_of r.old }
@@ -70,7 +79,28 @@ fn read_grid(
     Ok(Grid { bx, from })
 }
 
-/// `count` boxes with their masses, each apart from the earlier ones. Memory is taken as they are read.
+/// No boxes of level `l`. Level 0 has one box, which is compared with none, and no level below: the least domain stands for
+/// that, so that next to no memory is taken before its masses are read.
+fn none_of_level(alloc: Global, p: &Problem, l: u32) -> Result<Apart, NoMemory>
+    requires { l ≤ 4 }
+    ensures none { IfOk result (λ a. a.grids ≡ []) }
+    ensures below { IfOk result (λ a. 0 < l → a.below ≡ domain_box (domain p.now (l - 1))) }
+{
+    if l == 0 {
+        let least = Dom {
+            l: 0,
+            nx: 2,
+            ny: 2,
+            wrap_x: false,
+            wrap_y: false,
+        };
+        return Apart::make(alloc, &least);
+    }
+    Apart::make(alloc, &p.domain(l - 1))
+}
+
+/// `count` boxes with their masses, each apart from the earlier ones. Memory is taken as they are read, and above level 0 for
+/// two bits for each cell of the domain of the level below.
 pub(crate) fn read_grids(
     alloc: Global,
     p: &Problem,
@@ -86,12 +116,10 @@ pub(crate) fn read_grids(
     ensures small { IfOk result (λ gs. All (HasSmallMasses (width_of kind.width) (whole_of r.old)) gs.items) }
     ensures whole { whole_of r.new ≡ whole_of r.old }
 {
-    let mut grids = Vec::new(alloc);
-    let mut earlier = Apart::new(alloc);
+    let mut earlier = none_of_level(alloc, p, kind.level)?;
     for _k in 0..count {
         let grid = read_grid(p, kind, &earlier, r)?;
-        earlier.push(grid.bx)?;
-        grids.push(grid)?;
+        earlier.push(grid)?;
     }
-    Ok(grids)
+    Ok(earlier.into_grids())
 }

@@ -89,7 +89,8 @@ fn level_of_grids(
 
 /// Level `kind.level`: the number of its boxes, and the boxes with their masses, in patches of at most `max_grid_size` by
 /// `max_grid_size` cells. The reader then stands behind it. `Bad` is at the place of the first test that fails. Memory is
-/// taken only for boxes and masses that were read whole, whatever their number is said to be.
+/// taken only for boxes and masses that were read whole, whatever their number is said to be, and above level 0 for two
+/// bits for each cell of the domain of the level below.
 #[tactic(auto, unfolding(amr_payload::specs::Tests::read_level))]
 pub fn read_level(
     alloc: Global,

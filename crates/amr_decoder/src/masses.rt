@@ -44,8 +44,7 @@ fn greatest_mass(p: &Problem, kind: MassKind) -> u64
     bound >> (2 * kind.level)
 }
 
-/// Reads `count` masses, each of which is tested.
-#[tactic(auto, unfolding(amr_payload::specs::Tests::read_mass))]
+/// Reads `count` masses, each of which is tested, in one run over their bytes.
 pub(crate) fn read_masses(
     p: &Problem,
     kind: MassKind,
@@ -61,12 +60,10 @@ pub(crate) fn read_masses(
     ensures whole { whole_of r.new ≡ whole_of r.old }
 {
     let greatest = greatest_mass(p, kind);
-    for _k in 0..count {
+    let passed = r.pass_masses(kind.width, count, greatest);
+    if passed < count {
         let place = r.place() as u64;
-        let m = r.read_mass(kind.width)?;
-        if greatest < m {
-            return Err(CodecFault::Bad { place });
-        }
+        return Err(CodecFault::Bad { place });
     }
     Ok(())
 }

@@ -336,3 +336,36 @@ fn a_box_twice_is_bad_at_its_first_field(rt: HostRuntime) -> Result<(), Fail> {
     assert_eq!(rt; fault, Some(CodecFault::Bad { place: 325 }));
     Ok(())
 }
+
+/// Three levels of one box each whose masses are in sync wherever the box of level 2, of which the low corner is given, lies.
+fn even_state(alloc: Global, west: u32, south: u32) -> Result<Vec<u8>, Fail> {
+    let mut bytes = Vec::new(alloc);
+    for n in [0, 256, 0, 0, 0, 0, 0] {
+        put(&mut bytes, n)?;
+    }
+    bytes.push(3)?;
+    for (mass, x, y) in [(16u32, 0u32, 0u32), (4, 2, 2), (1, west, south)] {
+        put(&mut bytes, 1)?;
+        for corner in [x, y, x.saturating_add(3), y.saturating_add(3)] {
+            put(&mut bytes, corner)?;
+        }
+        for _k in 0..16 {
+            put_mass(&mut bytes, MassWidth::Eight, mass)?;
+        }
+    }
+    Ok(bytes)
+}
+
+#[test]
+fn a_level_that_is_not_nested_is_bad_at_its_number_of_boxes(rt: HostRuntime) -> Result<(), Fail> {
+    let alloc = rt.alloc();
+    let p = three_levels(alloc)?;
+    let nested = even_state(alloc, 6, 6)?;
+    assert_eq!(rt; fault_in(alloc, &p, MassWidth::Eight, &nested), None);
+    for (west, south) in [(4u32, 6u32), (8, 6), (6, 4), (6, 8), (8, 8), (12, 0)] {
+        let outside = even_state(alloc, west, south)?;
+        let fault = fault_in(alloc, &p, MassWidth::Eight, &outside);
+        assert_eq!(rt; fault, Some(CodecFault::Bad { place: 325 }));
+    }
+    Ok(())
+}

@@ -1,14 +1,15 @@
 //! The bytes of a payload, read number by number.
 
-ghost use Rattle.std.specs.Prelude.{◌≡◌, ◌+◌, ◌≤◌, length, drop};
+ghost use Rattle.std.specs.Prelude.{◌≡◌, ℕ, ◌+◌, ◌*◌, ◌<◌, ◌≤◌, length, drop};
 ghost use Rattle.std.specs.Int.{w32, w64, byte_len, from_le_bytes};
 ghost use Rattle.amr_codec.specs.MassWidths.{width_of};
+ghost use Rattle.amr_decoder.specs.Numbers.{number_at};
 
 use crate::faults::CodecFault;
 use amr_codec::MassWidth;
 
 /// The number of four bytes at a place.
-fn word_at(bytes: &[u8], at: usize) -> u32
+pub(crate) fn word_at(bytes: &[u8], at: usize) -> u32
     requires { at + 4 ≤ length bytes.now }
     ensures { result ≡ from_le_bytes w32 (drop at bytes.now) }
 {
@@ -16,7 +17,7 @@ fn word_at(bytes: &[u8], at: usize) -> u32
 }
 
 /// The number of eight bytes at a place.
-fn long_at(bytes: &[u8], at: usize) -> u64
+pub(crate) fn long_at(bytes: &[u8], at: usize) -> u64
     requires { at + 8 ≤ length bytes.now }
     ensures { result ≡ from_le_bytes w64 (drop at bytes.now) }
 {
@@ -32,17 +33,6 @@ fn long_at(bytes: &[u8], at: usize) -> u64
     ])
 }
 
-/// A mass at a place.
-pub(crate) fn mass_at(bytes: &[u8], at: usize, width: MassWidth) -> u64
-    requires { at + byte_len (width_of width) ≤ length bytes.now }
-    ensures { result ≡ from_le_bytes (width_of width) (drop at bytes.now) }
-{
-    match width {
-        MassWidth::Four => u64::from(word_at(bytes, at)),
-        MassWidth::Eight => long_at(bytes, at),
-    }
-}
-
 /// How many bytes a mass takes.
 pub(crate) fn mass_len(width: MassWidth) -> usize
     ensures { result ≡ byte_len (width_of width) }
@@ -50,6 +40,49 @@ pub(crate) fn mass_len(width: MassWidth) -> usize
     match width {
         MassWidth::Four => 4,
         MassWidth::Eight => 8,
+    }
+}
+
+/// How many of `count` numbers of four bytes come before the first that is greater than `greatest`, all where none is.
+fn words_within(bytes: &[u8], count: usize, greatest: u64) -> usize
+    requires { 4 * count ≤ length bytes.now }
+    ensures most { result ≤ count }
+    ensures within { (i : ℕ) → i < result → number_at w32 bytes.now i ≤ greatest }
+    ensures next { result < count → greatest < number_at w32 bytes.now result }
+{
+    for k in 0..count {
+        if greatest < u64::from(word_at(bytes, 4 * k)) {
+            return k;
+        }
+    }
+    count
+}
+
+/// The same of numbers of eight bytes.
+fn longs_within(bytes: &[u8], count: usize, greatest: u64) -> usize
+    requires { 8 * count ≤ length bytes.now }
+    ensures most { result ≤ count }
+    ensures within { (i : ℕ) → i < result → number_at w64 bytes.now i ≤ greatest }
+    ensures next { result < count → greatest < number_at w64 bytes.now result }
+{
+    for k in 0..count {
+        if greatest < long_at(bytes, 8 * k) {
+            return k;
+        }
+    }
+    count
+}
+
+/// The same of masses.
+fn count_within(bytes: &[u8], width: MassWidth, count: usize, greatest: u64) -> usize
+    requires { byte_len (width_of width) * count ≤ length bytes.now }
+    ensures most { result ≤ count }
+    ensures within { (i : ℕ) → i < result → number_at (width_of width) bytes.now i ≤ greatest }
+    ensures next { result < count → greatest < number_at (width_of width) bytes.now result }
+{
+    match width {
+        MassWidth::Four => words_within(bytes, count, greatest),
+        MassWidth::Eight => longs_within(bytes, count, greatest),
     }
 }
 
@@ -64,12 +97,13 @@ pub struct Reader<'a> {
 
 #[tactic(auto, unfolding(crate::specs::Lefts::left_of, crate::specs::Lefts::whole_of))]
 impl<'a> Reader<'a> {
-    ghost use Rattle.std.specs.Prelude.{◌≡◌, ◌<◌, ◌^◌, drop, length, IfOk, IfErr};
-    ghost use Rattle.std.specs.Int.{w8, w32, w64};
+    ghost use Rattle.std.specs.Prelude.{◌≡◌, ℕ, ◌*◌, ◌<◌, ◌≤◌, drop, length, IfOk, IfErr};
+    ghost use Rattle.std.specs.Int.{w8, w32, w64, byte_len};
     ghost use Rattle.amr_codec.specs.MassWidths.{width_of};
-    ghost use Rattle.amr_payload.specs.Tests.{read, read_number};
+    ghost use Rattle.amr_payload.specs.Tests.{after, read, read_number};
     ghost use Rattle.amr_decoder.specs.Faults.{IsFaultOf};
     ghost use Rattle.amr_decoder.specs.Lefts.{left_of, whole_of};
+    ghost use Rattle.amr_decoder.specs.Numbers.{IsNoMass, number_at};
 
     /// All of the bytes, from the first on.
     pub fn of(bytes: &'a [u8]) -> Reader<'a>
@@ -143,15 +177,21 @@ impl<'a> Reader<'a> {
         Ok(long_at(self.bytes, at))
     }
 
-    /// A mass.
-    pub fn read_mass(&mut self, width: MassWidth) -> Result<u64, CodecFault>
-        ensures read { IfOk result (λ n. read_number (width_of width) (left_of self.old) ≡ read n (left_of self.new)) }
-        ensures bad { IfErr result (IsFaultOf (read_number (width_of width) (left_of self.old))) }
+    /// Passes over masses in one run over their bytes: `count` of them, or as many as come before the first that doesn't lie
+    /// wholly inside the bytes or is greater than `greatest`. Says how many they are.
+    pub fn pass_masses(&mut self, width: MassWidth, count: u64, greatest: u64) -> u64
+        ensures left { left_of self.new ≡ after (byte_len (width_of width) * result) (left_of self.old) }
+        ensures most { result ≤ count }
+        ensures inside { byte_len (width_of width) * result ≤ length (left_of self.old).bytes }
+        ensures within { (i : ℕ) → i < result → number_at (width_of width) (left_of self.old).bytes i ≤ greatest }
+        ensures next { result < count → IsNoMass (width_of width) greatest (left_of self.old).bytes result }
         ensures whole { whole_of self.new ≡ whole_of self.old }
     {
-        match width {
-            MassWidth::Four => Ok(u64::from(self.read_u32()?)),
-            MassWidth::Eight => self.read_u64(),
-        }
+        let rest = &self.bytes[self.place..];
+        let len = mass_len(width);
+        let there = count.min((rest.len() / len) as u64);
+        let passed = count_within(rest, width, there as usize, greatest);
+        self.place += len * passed;
+        passed as u64
     }
 }

@@ -2,3 +2,4 @@ pub mod Turns
 pub mod Reaches
 pub mod Projected
 pub mod Sizes
+pub mod Added

@@ -13,13 +13,13 @@ stands_over-requires-clause-fine c = subst (λ (n : ℕ). IsLevel c.args.p.now n
 pub stands_over-requires-clause-aligned : goal.stands_over-requires-clause-aligned
 stands_over-requires-clause-aligned c = c.in_ok-level.ensures.aligned (omega (arith, c.finer.ensures.level))
 
-pub returns-then-not-stands_over-clause-bad : goal.returns-then-not-stands_over-clause-bad
-returns-then-not-stands_over-clause-bad c =
+pub returns-then-not-stands-clause-bad : goal.returns-then-not-stands-clause-bad
+returns-then-not-stands-clause-bad c =
     let kind = c.args.kind in
     let p = c.args.p.now in
     let f = c.finer.result in
     let first = (λ i. read_level (width_of (sym c.finer.ensures.width i)) p (sym c.finer.ensures.step i) f.level (left_of c.args.r.now)) ∙ c.in_ok-level.ensures.read in
-    finer_tested (width_of kind.width) p kind.step kind.level (level_of c.args.below.now) f.level (level_of c.in_ok-level.level) (left_of c.args.r.now) (left_of c.read_level.new.r) false c.finer.ensures.level first (sym c.stands_over.ensures ∙ c.if-not-stands_over.true)
+    finer_tested (width_of kind.width) p kind.step kind.level (level_of c.args.below.now) f.level (level_of c.in_ok-level.level) (left_of c.args.r.now) (left_of c.read_level.new.r) false c.finer.ensures.level first (sym c.in_ok-stands.ensures ∙ c.if-not-stands.true)
     ∙ ap (λ (k : ℕ). bad k) (sym c.place-place.ensures.place)
 
 pub returns-clause-read : goal.returns-clause-read
@@ -28,7 +28,7 @@ returns-clause-read c =
     let p = c.args.p.now in
     let f = c.finer.result in
     let first = (λ i. read_level (width_of (sym c.finer.ensures.width i)) p (sym c.finer.ensures.step i) f.level (left_of c.args.r.now)) ∙ c.in_ok-level.ensures.read in
-    finer_tested (width_of kind.width) p kind.step kind.level (level_of c.args.below.now) f.level (level_of c.in_ok-level.level) (left_of c.args.r.now) (left_of c.read_level.new.r) true c.finer.ensures.level first (sym c.stands_over.ensures ∙ c.if-not-stands_over.false)
+    finer_tested (width_of kind.width) p kind.step kind.level (level_of c.args.below.now) f.level (level_of c.in_ok-level.level) (left_of c.args.r.now) (left_of c.read_level.new.r) true c.finer.ensures.level first (sym c.in_ok-stands.ensures ∙ c.if-not-stands.false)
 
 pub returns-clause-level : goal.returns-clause-level
 returns-clause-level c = subst (λ (n : ℕ). IsLevel c.args.p.now n (level_of c.in_ok-level.level)) c.finer.ensures.level c.in_ok-level.ensures.level

@@ -10,13 +10,13 @@ use Rattle.amr_decoder.proofs.Bools.{same_bool}
 use Rattle.amr_decoder.proofs.Stacked.{sync_at, sync_from}
 use Rattle.amr_decoder.proofs.stands.stands_over.Goals as goal
 
-pub returns-then-not-surrounds : goal.returns-then-not-surrounds
-returns-then-not-surrounds c =
+pub returns-then-not-nested : goal.returns-then-not-nested
+returns-then-not-nested c =
     let p = c.args.p.now in
     let d = domain p c.args.l in
     let k = level_of c.args.coarse.now in
     let f = level_of c.args.fine.now in
-    sym (ap (λ t. t && is_in_sync d k.masses f.masses) (sym c.surrounds.ensures ∙ c.if-not-surrounds.true))
+    sym (ap (λ t. t && is_in_sync d k.masses f.masses) (sym c.in_ok-nested.ensures ∙ c.if-not-nested.true))
 
 pub are_boxes_in_sync-requires-clause-parents : goal.are_boxes_in_sync-requires-clause-parents
 are_boxes_in_sync-requires-clause-parents c e covered =
@@ -24,7 +24,7 @@ are_boxes_in_sync-requires-clause-parents c e covered =
     let l = c.args.l in
     let k = level_of c.args.coarse.now in
     let f = level_of c.args.fine.now in
-    let around : surrounds (domain p l) k.boxes f.boxes ≡ true = sym c.surrounds.ensures ∙ c.if-not-surrounds.false in
+    let around : surrounds (domain p l) k.boxes f.boxes ≡ true = sym c.in_ok-nested.ensures ∙ c.if-not-nested.false in
     let over : IsLevel p (suc l) f = subst (λ (n : ℕ). IsLevel p n f) (add-one l) c.requires.fine in
     let nested : IsNestedLevel p l k f = record { aligned = c.requires.aligned; around = λ e inside near. surrounds_at (domain p l) k.boxes f.boxes e around inside near } in
     covered_there p l k f c.requires.coarse over nested e (ap (λ (test : Cell → Bool). test e) (covered_boxes f.masses f.boxes over.filled) ∙ covered)
@@ -36,7 +36,7 @@ returns c =
     let d = domain p l in
     let k = level_of c.args.coarse.now in
     let f = level_of c.args.fine.now in
-    let around : surrounds d k.boxes f.boxes ≡ true = sym c.surrounds.ensures ∙ c.if-not-surrounds.false in
+    let around : surrounds d k.boxes f.boxes ≡ true = sym c.in_ok-nested.ensures ∙ c.if-not-nested.false in
     let over : IsLevel p (suc l) f = subst (λ (n : ℕ). IsLevel p n f) (add-one l) c.requires.fine in
     let nested : IsNestedLevel p l k f = record { aligned = c.requires.aligned; around = λ e inside near. surrounds_at d k.boxes f.boxes e around inside near } in
     same_bool c.are_boxes_in_sync.result (is_in_sync d k.masses f.masses)

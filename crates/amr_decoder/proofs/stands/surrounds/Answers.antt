@@ -1,6 +1,6 @@
 use Rattle.std.proofs.Common.{◌≡◌, ◌∙◌, true, ℕ, List, add-one, sym, ap, subst}
+use Rattle.std.proofs.lemmas.Result.{IfOk-weaker}
 use Rattle.amr_box.specs.Cells.{Extent, parent}
-use Rattle.amr_boxlist.specs.Lists as lists
 use Rattle.amr_def.specs.Domain.{Domain, domain, domain_of, in_domain}
 use Rattle.amr_def.specs.Facts.{IsLevel, IsNestedIn}
 use Rattle.amr_def.specs.State.{in_boxes}
@@ -10,7 +10,7 @@ use Rattle.amr_payload.proofs.ReadStates.{surrounds_at}
 use Rattle.amr_payload.proofs.WriteLevels.{surrounds_from}
 use Rattle.amr_decoder.proofs.Bools.{same_bool}
 use Rattle.amr_decoder.proofs.BoxTests.{blocking_some}
-use Rattle.amr_decoder.proofs.Stacked.{counted_apart, parents_inside}
+use Rattle.amr_decoder.proofs.Stacked.{parents_inside}
 use Rattle.amr_decoder.proofs.stands.surrounds.Goals as goal
 
 pub nested-requires-clause-some : goal.nested-requires-clause-some
@@ -24,10 +24,6 @@ nested-requires-clause-inside c d h =
     subst (λ (e : Domain). in_domain e (parent d) ≡ true) (sym c.domain-dom.ensures)
     (parents_inside p l f (subst (λ (n : ℕ). IsLevel p n f) (add-one l) c.requires.fine) d (ap (λ (bs : List Extent). in_boxes bs d) (sym c.boxes-fine_boxes.ensures) ∙ h))
 
-pub nested-requires-clause-apart : goal.nested-requires-clause-apart
-nested-requires-clause-apart c =
-    subst (λ (bs : List Extent). lists.AreApart bs) (sym c.boxes-coarse_boxes.ensures) (counted_apart (level_of c.args.coarse.now).boxes c.requires.coarse.disjoint)
-
 pub returns : goal.returns
 returns c =
     let p = c.args.p.now in
@@ -40,6 +36,7 @@ returns c =
     let back : IsNestedIn (domain_of c.domain-dom.result) p.blocking c.boxes-fine_boxes.result.now c.boxes-coarse_boxes.result.now → IsNestedIn d p.blocking f k =
     λ n. subst (λ (bs : List Extent). IsNestedIn d p.blocking f bs) c.boxes-coarse_boxes.ensures
     (subst (λ (bs : List Extent). IsNestedIn d p.blocking bs c.boxes-coarse_boxes.result.now) c.boxes-fine_boxes.ensures (subst (λ (e : Domain). IsNestedIn e p.blocking c.boxes-fine_boxes.result.now c.boxes-coarse_boxes.result.now) c.domain-dom.ensures n)) in
-    same_bool c.nested.result (surrounds d k f)
-    (λ h. surrounds_from d k f (λ e inside near. (back (c.nested.ensures.0 h)).around e inside near))
-    (λ h. c.nested.ensures.1 (there (record { aligned = c.requires.aligned; around = λ e inside near. surrounds_at d k f e h inside near })))
+    IfOk-weaker c.nested.result _ (λ yes. yes ≡ surrounds d k f)
+    (λ yes n. same_bool yes (surrounds d k f)
+    (λ h. surrounds_from d k f (λ e inside near. (back (n.0 h)).around e inside near))
+    (λ h. n.1 (there (record { aligned = c.requires.aligned; around = λ e inside near. surrounds_at d k f e h inside near })))) c.nested.ensures

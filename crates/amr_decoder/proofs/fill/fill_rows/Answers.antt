@@ -8,11 +8,12 @@ use Rattle.amr_codec.specs.MassWidths.{width_of}
 use Rattle.amr_patch.specs.Patches.{in_patches}
 use Rattle.amr_patch.proofs.Rows.{place_within}
 use Rattle.amr_patch.proofs.Standing.{order_of_boxes}
+use Rattle.amr_tags.proofs.Offsets.{side-is}
 use Rattle.amr_decoder.specs.Grids.{grid_of}
 use Rattle.amr_decoder.specs.Numbers.{number_at, numbers}
 use Rattle.amr_decoder.proofs.Filling.{all_rows, boxes_apart, held_at, in_same_boxes, no_rows, row_filled}
-use Rattle.amr_decoder.proofs.MassReadings.{count_numbers, numbers_at, row_number, row_place}
-use Rattle.amr_decoder.proofs.fill.fill_box.Goals as goal
+use Rattle.amr_decoder.proofs.MassReadings.{numbers_at, row_number, row_place}
+use Rattle.amr_decoder.proofs.fill.fill_rows.Goals as goal
 
 pub loop-j-init : goal.loop-j-init
 loop-j-init c = no_rows (grid_of (width_of c.args.width) c.args.bytes.now c.args.grid.now) c.args.patches.now
@@ -20,18 +21,18 @@ loop-j-init c = no_rows (grid_of (width_of c.args.width) c.args.bytes.now c.args
 pub overflow_mul-len-in-loop-j : goal.overflow_mul-len-in-loop-j
 overflow_mul-len-in-loop-j c =
     let g = c.args.grid.now in
-    let row = row_place c.mass_len.result c.width-columns.result c.height-j-end.result c.loop-j.j g.from (length c.args.bytes.now) c.loop-j-test.true
-    (subst (λ n. g.from + n * (c.width-columns.result * c.height-j-end.result) ≤ length c.args.bytes.now) (sym c.mass_len.ensures)
-    (subst (λ n. g.from + byte_len (width_of c.args.width) * (n * c.height-j-end.result) ≤ length c.args.bytes.now) (sym c.width-columns.ensures.value)
+    let row = row_place c.mass_len.result (length c.args.row.now) c.height-j-end.result c.loop-j.j g.from (length c.args.bytes.now) c.loop-j-test.true
+    (subst (λ n. g.from + n * (length c.args.row.now * c.height-j-end.result) ≤ length c.args.bytes.now) (sym c.mass_len.ensures)
+    (subst (λ n. g.from + byte_len (width_of c.args.width) * (n * c.height-j-end.result) ≤ length c.args.bytes.now) (sym c.requires.row)
     (subst (λ n. g.from + byte_len (width_of c.args.width) * (width g.bx * n) ≤ length c.args.bytes.now) (sym c.height-j-end.ensures.value) c.requires.inside.at))) in
     omega (arith, row)
 
 pub overflow_add-grid : goal.overflow_add-grid
 overflow_add-grid c =
     let g = c.args.grid.now in
-    let row = row_place c.mass_len.result c.width-columns.result c.height-j-end.result c.loop-j.j g.from (length c.args.bytes.now) c.loop-j-test.true
-    (subst (λ n. g.from + n * (c.width-columns.result * c.height-j-end.result) ≤ length c.args.bytes.now) (sym c.mass_len.ensures)
-    (subst (λ n. g.from + byte_len (width_of c.args.width) * (n * c.height-j-end.result) ≤ length c.args.bytes.now) (sym c.width-columns.ensures.value)
+    let row = row_place c.mass_len.result (length c.args.row.now) c.height-j-end.result c.loop-j.j g.from (length c.args.bytes.now) c.loop-j-test.true
+    (subst (λ n. g.from + n * (length c.args.row.now * c.height-j-end.result) ≤ length c.args.bytes.now) (sym c.mass_len.ensures)
+    (subst (λ n. g.from + byte_len (width_of c.args.width) * (n * c.height-j-end.result) ≤ length c.args.bytes.now) (sym c.requires.row)
     (subst (λ n. g.from + byte_len (width_of c.args.width) * (width g.bx * n) ≤ length c.args.bytes.now) (sym c.height-j-end.ensures.value) c.requires.inside.at))) in
     omega (arith, row)
 
@@ -40,8 +41,9 @@ read_row-requires-clause-inside c =
     let g = c.args.grid.now in
     let w = width_of c.args.width in
     let row = row_place (byte_len w) (width g.bx) (height g.bx) c.loop-j.j g.from (length c.args.bytes.now) (omega (arith, c.loop-j-test.true, c.height-j-end.ensures.value)) c.requires.inside.at in
-    subst (λ n. g.from + n * c.width-columns.result * c.loop-j.j + byte_len w * c.width-columns.result ≤ length c.args.bytes.now) (sym c.mass_len.ensures)
-    (subst (λ n. g.from + byte_len w * n * c.loop-j.j + byte_len w * n ≤ length c.args.bytes.now) (sym c.width-columns.ensures.value) row)
+    subst (λ n. g.from + c.mass_len.result * length c.args.row.now * c.loop-j.j + byte_len w * n ≤ length c.args.bytes.now) (sym c.loop-j.auto.row)
+    (subst (λ n. g.from + n * length c.args.row.now * c.loop-j.j + byte_len w * length c.args.row.now ≤ length c.args.bytes.now) (sym c.mass_len.ensures)
+    (subst (λ n. g.from + byte_len w * n * c.loop-j.j + byte_len w * n ≤ length c.args.bytes.now) (sym c.requires.row) row))
 
 pub read_row-requires-clause-small : goal.read_row-requires-clause-small
 read_row-requires-clause-small c i h =
@@ -49,10 +51,10 @@ read_row-requires-clause-small c i h =
     let w = width_of c.args.width in
     let bytes = c.args.bytes.now in
     let row : c.loop-j.j < height g.bx = omega (arith, c.loop-j-test.true, c.height-j-end.ensures.value) in
-    let column : i < width g.bx = omega (arith, h, c.width-columns.ensures.value) in
+    let column : i < width g.bx = omega (arith, h, c.requires.row) in
     let place : c.loop-j.j * width g.bx + i < width g.bx * height g.bx = subst (λ n. c.loop-j.j * width g.bx + i < n) (mul_comm (height g.bx) (width g.bx)) (place_within c.loop-j.j i (width g.bx) (height g.bx) row column) in
-    let same : number_at w (drop (g.from + c.mass_len.result * c.width-columns.result * c.loop-j.j) bytes) i ≡ number_at w (drop g.from bytes) (c.loop-j.j * width g.bx + i) =
-    (λ t. number_at w (drop (g.from + c.mass_len.ensures t * c.width-columns.ensures.value t * c.loop-j.j) bytes) i) ∙ row_number w g.from (width g.bx) c.loop-j.j i bytes in
+    let same : number_at w (drop (g.from + c.mass_len.result * length c.args.row.now * c.loop-j.j) bytes) i ≡ number_at w (drop g.from bytes) (c.loop-j.j * width g.bx + i) =
+    (λ t. number_at w (drop (g.from + c.mass_len.ensures t * c.requires.row t * c.loop-j.j) bytes) i) ∙ row_number w g.from (width g.bx) c.loop-j.j i bytes in
     subst (λ n. n < 2 ^ 32) (sym same) (c.requires.small.at (c.loop-j.j * width g.bx + i) place)
 
 pub cell_in-requires-clause-row : goal.cell_in-requires-clause-row
@@ -73,7 +75,7 @@ set_row-requires-clause-inside c k h =
     let b = g.bx in
     let j = c.loop-j.j in
     let row : j < height b = omega (arith, c.loop-j-test.true, c.height-j-end.ensures.value) in
-    let count : length c.deref.result.now ≡ width b = ap (λ (xs : List ℕ). length xs) (c.deref.ensures.value ∙ c.in_ok-read_row.ensures) ∙ count_numbers (width_of c.args.width) c.width-columns.result (drop (g.from + c.mass_len.result * c.width-columns.result * j) c.args.bytes.now) ∙ c.width-columns.ensures.value in
+    let count : length c.read_row.new.row ≡ width b = c.read_row.auto.row ∙ c.loop-j.auto.row ∙ c.requires.row in
     let held = held_at b k j c.requires.placed.near (omega (arith, h, count)) row in
     let x : b.lo.x +ℤ pos 0 +ℤ pos k ≡ b.lo.x +ℤ pos k = omega (arith, ints) in
     let same : cell (b.lo.x +ℤ pos k) (b.lo.y +ℤ pos j) ≡ cell (c.cell_in.result.x +ℤ pos k) c.cell_in.result.y = sym ((λ i. cell ((c.cell_in.ensures.place i).x +ℤ pos k) (c.cell_in.ensures.place i).y) ∙ (λ i. cell (x i) (b.lo.y +ℤ pos j))) in
@@ -86,9 +88,9 @@ set_row-requires-clause-west c = let x = ap (λ (d : Cell). d.x) c.cell_in.ensur
 pub set_row-requires-clause-east : goal.set_row-requires-clause-east
 set_row-requires-clause-east c =
     let g = c.args.grid.now in
-    let count : length c.deref.result.now ≡ c.width-columns.result = ap (λ (xs : List ℕ). length xs) (c.deref.ensures.value ∙ c.in_ok-read_row.ensures) ∙ count_numbers (width_of c.args.width) c.width-columns.result (drop (g.from + c.mass_len.result * c.width-columns.result * c.loop-j.j) c.args.bytes.now) in
+    let count : length c.read_row.new.row ≡ width g.bx = c.read_row.auto.row ∙ c.loop-j.auto.row ∙ c.requires.row in
     let x = ap (λ (d : Cell). d.x) c.cell_in.ensures.place in
-    omega (arith, ints, x, count, c.width-columns.ensures.corners, c.requires.placed.near.east)
+    omega (arith, ints, x, count, side-is g.bx.lo.x g.bx.hi.x c.requires.placed.near.wide, c.requires.placed.near.east)
 
 pub set_row-requires-clause-south : goal.set_row-requires-clause-south
 set_row-requires-clause-south c = let y = ap (λ (d : Cell). d.y) c.cell_in.ensures.place in omega (arith, ints, y, c.requires.placed.south)
@@ -103,15 +105,15 @@ loop-j-preserved c =
     let bytes = c.args.bytes.now in
     let b = g.bx in
     let j = c.loop-j.j in
-    let from = g.from + c.mass_len.result * c.width-columns.result * j in
+    let from = g.from + c.mass_len.result * length c.args.row.now * j in
     let row : j < height b = omega (arith, c.loop-j-test.true, c.height-j-end.ensures.value) in
-    let is : c.deref.result.now ≡ numbers w c.width-columns.result (drop from bytes) = c.deref.ensures.value ∙ c.in_ok-read_row.ensures in
-    let count : length c.deref.result.now ≡ width b = ap (λ (xs : List ℕ). length xs) is ∙ count_numbers w c.width-columns.result (drop from bytes) ∙ c.width-columns.ensures.value in
-    row_filled (grid_of w bytes g) j c.cell_in.result c.deref.result.now c.args.patches.now c.loop-j.patches c.set_row.new.patches c.requires.placed.near row c.cell_in.ensures.place count
+    let is : c.read_row.new.row ≡ numbers w (length c.args.row.now) (drop from bytes) = c.read_row.ensures ∙ ap (λ (n : ℕ). numbers w n (drop from bytes)) c.loop-j.auto.row in
+    let count : length c.read_row.new.row ≡ width b = c.read_row.auto.row ∙ c.loop-j.auto.row ∙ c.requires.row in
+    row_filled (grid_of w bytes g) j c.cell_in.result c.read_row.new.row c.args.patches.now c.loop-j.patches c.set_row.new.patches c.requires.placed.near row c.cell_in.ensures.place count
     (λ i h.
     let place : j * width b + i < width b * height b = subst (λ n. j * width b + i < n) (mul_comm (height b) (width b)) (place_within j i (width b) (height b) row h) in
-    ap (λ (xs : List ℕ). slice_index xs i) is ∙ numbers_at w c.width-columns.result i (drop from bytes) (omega (arith, h, c.width-columns.ensures.value))
-    ∙ (λ t. number_at w (drop (g.from + c.mass_len.ensures t * c.width-columns.ensures.value t * j) bytes) i) ∙ row_number w g.from (width b) j i bytes
+    ap (λ (xs : List ℕ). slice_index xs i) is ∙ numbers_at w (length c.args.row.now) i (drop from bytes) (omega (arith, h, c.requires.row))
+    ∙ (λ t. number_at w (drop (g.from + c.mass_len.ensures t * c.requires.row t * j) bytes) i) ∙ row_number w g.from (width b) j i bytes
     ∙ sym (numbers_at w (width b * height b) (j * width b + i) (drop g.from bytes) place))
     c.loop-j.invariant c.set_row.ensures
 

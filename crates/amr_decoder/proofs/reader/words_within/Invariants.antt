@@ -1,0 +1,8 @@
+use Rattle.std.proofs.Common.{ℕ, ◌<◌, ◌≤◌}
+use Rattle.std.specs.Int.{w32}
+use Rattle.amr_decoder.specs.Numbers.{number_at}
+use Rattle.amr_decoder.proofs.reader.words_within.Given as goal
+
+-- none of the numbers so far is greater
+abbrev pub invariant-loop-k : goal.invariant-loop-k
+invariant-loop-k l = (i : ℕ) → i < l.k → number_at w32 l.bytes i ≤ l.greatest
