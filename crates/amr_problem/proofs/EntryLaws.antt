@@ -14,9 +14,7 @@ use Rattle.amr_problem.specs.declared.entries.Entries.{Entries}
 use Rattle.amr_problem.specs.declared.fault.ProblemFault.{ProblemFault}
 use Rattle.amr_problem.specs.declared.fault.ProblemFault.TheVariants.{OutOfRange}
 use Rattle.amr_problem.specs.declared.key.Key.TheVariants.{Version, Name, Cells, Steps, Courant, Sides, MaxLevel, Tag, NErrorBuf, Efficiency, MinWidth, RegridInt, MaxGridSize, Blocks, ShearX, ShearY, Blocking}
-use Rattle.amr_problem.specs.declared.scope.Scope.{Scope}
-use Rattle.amr_problem.specs.declared.scope.Scope.TheVariants.{Whole}
-use Rattle.amr_problem.specs.Keys.{range, even_range, ranges_of, holds, first_outside, first_beyond, cell_count, courant_number, side, threshold, blocking_factor, greatest_version, greatest_level}
+use Rattle.amr_problem.specs.Keys.{range, even_range, ranges_of, holds, first_outside, first_beyond, cell_count, courant_number, side, threshold, blocking_factor}
 use Rattle.amr_problem.specs.Values.{numbers_at}
 use Rattle.amr_problem.specs.Faults.{first_some, key_outside, out_of_range, text_outside, rows_outside}
 use Rattle.amr_problem.specs.Entries.{basic_keys, refining_keys, overlay_keys, AreBasicsOf, AreRefiningOf, IsOverlayOf, IsReadOf, IsSide, AreBasicsInRange, AreRefiningInRange, IsOverlayInRange, IsInRange, numbers_outside, basics_outside, refining_outside, overlay_outside, range_fault}
@@ -25,24 +23,24 @@ use Rattle.amr_problem.proofs.RangeLaws.{IsIn, holds-IsIn, first_outside-none, f
 
 -- ---- the ranges of a table are those of its entries
 
-same_basics : (scope : Scope) (table : Members) (b : Basics) → AreBasicsOf table b → first_some (map (key_outside scope table) basic_keys) ≡ basics_outside scope b
+same_basics : (table : Members) (b : Basics) → AreBasicsOf table b → first_some (map (key_outside table) basic_keys) ≡ basics_outside b
 unfolding basics_outside
-same_basics scope table b r = rw (r.version, r.name, r.cells, r.steps, r.courant, r.sides, r.max_level)
+same_basics table b r = rw (r.version, r.name, r.cells, r.steps, r.courant, r.sides, r.max_level)
 
-same_refining : (scope : Scope) (table : Members) (r : Refining) → AreRefiningOf table r → first_some (map (key_outside scope table) refining_keys) ≡ refining_outside scope r
+same_refining : (table : Members) (r : Refining) → AreRefiningOf table r → first_some (map (key_outside table) refining_keys) ≡ refining_outside r
 unfolding refining_outside
-same_refining scope table r h = rw (h.tag, h.n_error_buf, h.efficiency, h.min_width, h.regrid_int, h.max_grid_size)
+same_refining table r h = rw (h.tag, h.n_error_buf, h.efficiency, h.min_width, h.regrid_int, h.max_grid_size)
 
-same_overlay : (scope : Scope) (table : Members) (nx ny : ℤ) (o : Overlay) → numbers_at 2 table Cells ≡ Some (nx ∷ ny ∷ []) → IsOverlayOf nx ny table o → first_some (map (key_outside scope table) overlay_keys) ≡ overlay_outside scope o
+same_overlay : (table : Members) (nx ny : ℤ) (o : Overlay) → numbers_at 2 table Cells ≡ Some (nx ∷ ny ∷ []) → IsOverlayOf nx ny table o → first_some (map (key_outside table) overlay_keys) ≡ overlay_outside o
 unfolding overlay_outside
-same_overlay scope table nx ny o cells h = rw (cells, h.blocks, h.shear_x, h.shear_y, h.blocking)
+same_overlay table nx ny o cells h = rw (cells, h.blocks, h.shear_x, h.shear_y, h.blocking)
 
-pub same_ranges : (scope : Scope) (table : Members) (e : Entries) → IsReadOf table e → out_of_range scope table ≡ range_fault scope e
-same_ranges scope table e r =
-    let f = key_outside scope table in
+pub same_ranges : (table : Members) (e : Entries) → IsReadOf table e → out_of_range table ≡ range_fault e
+same_ranges table e r =
+    let f = key_outside table in
     first_some-append (map f basic_keys) (map f refining_keys ++ map f overlay_keys)
     ∙ ap (option_or (first_some (map f basic_keys))) (first_some-append (map f refining_keys) (map f overlay_keys))
-    ∙ rw (same_basics scope table e.basics r.basics, same_refining scope table e.refining r.refining, same_overlay scope table e.basics.nx e.basics.ny e.overlay r.basics.cells r.overlay) (sym (or_or (basics_outside scope e.basics) (refining_outside scope e.refining) (overlay_outside scope e.overlay)))
+    ∙ rw (same_basics table e.basics r.basics, same_refining table e.refining r.refining, same_overlay table e.basics.nx e.basics.ny e.overlay r.basics.cells r.overlay) (sym (or_or (basics_outside e.basics) (refining_outside e.refining) (overlay_outside e.overlay)))
 
 -- ---- entries without a number out of its range
 
@@ -72,36 +70,36 @@ name_from_none bytes h =
 
 record AreRows (rows : List (List ℤ)) : Type 0 where
   many : length rows ≤ 256
-  inside : list_all (λ row. is_none (first_outside (ranges_of Whole Blocks) row)) rows ≡ true
+  inside : list_all (λ row. is_none (first_outside (ranges_of Blocks) row)) rows ≡ true
 
 all_none : {X A : Type 0} (f : X → Option A) (xs : List X) → first_some (map f xs) ≡ None → list_all (λ x. is_none (f x)) xs ≡ true
 all_none f [] h = refl
 all_none f (x ∷ xs) h = let none = fold-none (f x) (map f xs) h in rw (none.first, all_none f xs none.second)
 
-rows_from_none : (rows : List (List ℤ)) → rows_outside 256 (ranges_of Whole Blocks) rows ≡ None → AreRows rows
+rows_from_none : (rows : List (List ℤ)) → rows_outside 256 (ranges_of Blocks) rows ≡ None → AreRows rows
 rows_from_none rows h =
     elim (cases_Bool (nat_lt 256 (length rows))) [
       | inl over ↦ absurd (let e = rw over at h in cc)
-      | inr within ↦ record { many = grind (arith, nat_tests); inside = all_none (first_outside (ranges_of Whole Blocks)) rows (rw within at h) }
+      | inr within ↦ record { many = grind (arith, nat_tests); inside = all_none (first_outside (ranges_of Blocks)) rows (rw within at h) }
     ]
 
-basics_in_range : (scope : Scope) (b : Basics) → basics_outside scope b ≡ None → AreBasicsInRange scope b
+basics_in_range : (b : Basics) → basics_outside b ≡ None → AreBasicsInRange b
 unfolding basics_outside
-basics_in_range scope b none =
+basics_in_range b none =
     let name : Option ProblemFault = option_map (OutOfRange Name) (text_outside (range (pos 1) (pos 32)) b.name.items) in
-    let cells : Option ProblemFault = numbers_outside scope Cells (b.nx ∷ b.ny ∷ []) in
-    let steps : Option ProblemFault = numbers_outside scope Steps (b.steps ∷ []) in
-    let courant : Option ProblemFault = numbers_outside scope Courant (b.cx ∷ b.cy ∷ b.d ∷ []) in
-    let sides : Option ProblemFault = numbers_outside scope Sides (b.x_low ∷ b.x_high ∷ b.y_low ∷ b.y_high ∷ []) in
-    let max_level : Option ProblemFault = numbers_outside scope MaxLevel (b.max_level ∷ []) in
-    let n1 = fold-none (numbers_outside scope Version (b.version ∷ [])) (name ∷ cells ∷ steps ∷ courant ∷ sides ∷ max_level ∷ []) none in
+    let cells : Option ProblemFault = numbers_outside Cells (b.nx ∷ b.ny ∷ []) in
+    let steps : Option ProblemFault = numbers_outside Steps (b.steps ∷ []) in
+    let courant : Option ProblemFault = numbers_outside Courant (b.cx ∷ b.cy ∷ b.d ∷ []) in
+    let sides : Option ProblemFault = numbers_outside Sides (b.x_low ∷ b.x_high ∷ b.y_low ∷ b.y_high ∷ []) in
+    let max_level : Option ProblemFault = numbers_outside MaxLevel (b.max_level ∷ []) in
+    let n1 = fold-none (numbers_outside Version (b.version ∷ [])) (name ∷ cells ∷ steps ∷ courant ∷ sides ∷ max_level ∷ []) none in
     let n2 = fold-none name (cells ∷ steps ∷ courant ∷ sides ∷ max_level ∷ []) n1.second in
     let n3 = fold-none cells (steps ∷ courant ∷ sides ∷ max_level ∷ []) n2.second in
     let n4 = fold-none steps (courant ∷ sides ∷ max_level ∷ []) n3.second in
     let n5 = fold-none courant (sides ∷ max_level ∷ []) n4.second in
     let n6 = fold-none sides (max_level ∷ []) n5.second in
     let n7 = fold-none max_level [] n6.second in
-    let version_is = first_outside-none (range (pos 1) (pos (greatest_version scope))) [] b.version [] (option_map-none (OutOfRange Version) _ n1.first) in
+    let version_is = first_outside-none (range (pos 1) (pos 2)) [] b.version [] (option_map-none (OutOfRange Version) _ n1.first) in
     let named = name_from_none b.name.items (option_map-none (OutOfRange Name) _ n2.first) in
     let nx = first_outside-none cell_count (cell_count ∷ []) b.nx (b.ny ∷ []) (option_map-none (OutOfRange Cells) _ n3.first) in
     let ny = first_outside-none cell_count [] b.ny [] nx.others in
@@ -113,7 +111,7 @@ basics_in_range scope b none =
     let x_high = first_outside-none side (side ∷ side ∷ []) b.x_high (b.y_low ∷ b.y_high ∷ []) x_low.others in
     let y_low = first_outside-none side (side ∷ []) b.y_low (b.y_high ∷ []) x_high.others in
     let y_high = first_outside-none side [] b.y_high [] y_low.others in
-    let level = first_outside-none (range (pos 0) (pos (greatest_level scope))) [] b.max_level [] (option_map-none (OutOfRange MaxLevel) _ n7.first) in
+    let level = first_outside-none (range (pos 0) (pos 4)) [] b.max_level [] (option_map-none (OutOfRange MaxLevel) _ n7.first) in
     record {
       least_version = version_is.here.least;
       greatest_version = version_is.here.greatest;
@@ -138,14 +136,14 @@ basics_in_range scope b none =
       greatest_max_level = level.here.greatest;
     }
 
-refining_in_range : (scope : Scope) (r : Refining) → refining_outside scope r ≡ None → AreRefiningInRange r
+refining_in_range : (r : Refining) → refining_outside r ≡ None → AreRefiningInRange r
 unfolding refining_outside
-refining_in_range scope r none =
-    let n_error_buf : Option ProblemFault = numbers_outside scope NErrorBuf (r.n_error_buf ∷ []) in
-    let efficiency : Option ProblemFault = numbers_outside scope Efficiency (r.efficiency ∷ []) in
-    let min_width : Option ProblemFault = numbers_outside scope MinWidth (r.min_width ∷ []) in
-    let regrid_int : Option ProblemFault = numbers_outside scope RegridInt (r.regrid_int ∷ []) in
-    let max_grid_size : Option ProblemFault = numbers_outside scope MaxGridSize (r.max_grid_size ∷ []) in
+refining_in_range r none =
+    let n_error_buf : Option ProblemFault = numbers_outside NErrorBuf (r.n_error_buf ∷ []) in
+    let efficiency : Option ProblemFault = numbers_outside Efficiency (r.efficiency ∷ []) in
+    let min_width : Option ProblemFault = numbers_outside MinWidth (r.min_width ∷ []) in
+    let regrid_int : Option ProblemFault = numbers_outside RegridInt (r.regrid_int ∷ []) in
+    let max_grid_size : Option ProblemFault = numbers_outside MaxGridSize (r.max_grid_size ∷ []) in
     let n1 = fold-none (option_map (OutOfRange Tag) (first_beyond threshold r.tag.items)) (n_error_buf ∷ efficiency ∷ min_width ∷ regrid_int ∷ max_grid_size ∷ []) none in
     let n2 = fold-none n_error_buf (efficiency ∷ min_width ∷ regrid_int ∷ max_grid_size ∷ []) n1.second in
     let n3 = fold-none efficiency (min_width ∷ regrid_int ∷ max_grid_size ∷ []) n2.second in
@@ -172,13 +170,13 @@ refining_in_range scope r none =
       even_max_grid_size = grid.here.among;
     }
 
-overlay_in_range : (scope : Scope) (o : Overlay) → overlay_outside scope o ≡ None → IsOverlayInRange o
+overlay_in_range : (o : Overlay) → overlay_outside o ≡ None → IsOverlayInRange o
 unfolding overlay_outside
-overlay_in_range scope o none =
+overlay_in_range o none =
     let shear_x : Option ProblemFault = option_map (OutOfRange ShearX) (first_beyond courant_number o.shear_x.items) in
     let shear_y : Option ProblemFault = option_map (OutOfRange ShearY) (first_beyond courant_number o.shear_y.items) in
-    let blocking : Option ProblemFault = numbers_outside scope Blocking (o.blocking ∷ []) in
-    let n1 = fold-none (option_map (OutOfRange Blocks) (rows_outside 256 (ranges_of scope Blocks) o.blocks.items)) (shear_x ∷ shear_y ∷ blocking ∷ []) none in
+    let blocking : Option ProblemFault = numbers_outside Blocking (o.blocking ∷ []) in
+    let n1 = fold-none (option_map (OutOfRange Blocks) (rows_outside 256 (ranges_of Blocks) o.blocks.items)) (shear_x ∷ shear_y ∷ blocking ∷ []) none in
     let n2 = fold-none shear_x (shear_y ∷ blocking ∷ []) n1.second in
     let n3 = fold-none shear_y (blocking ∷ []) n2.second in
     let n4 = fold-none blocking [] n3.second in
@@ -191,13 +189,13 @@ overlay_in_range scope o none =
       blocking = first_outside-holds blocking_factor o.blocking (option_map-none (OutOfRange Blocking) _ n4.first);
     }
 
-pub in_range : (scope : Scope) (e : Entries) → range_fault scope e ≡ None → IsInRange scope e
-in_range scope e none =
-    let n1 = fold-none (basics_outside scope e.basics) (refining_outside scope e.refining ∷ overlay_outside scope e.overlay ∷ []) none in
-    let n2 = fold-none (refining_outside scope e.refining) (overlay_outside scope e.overlay ∷ []) n1.second in
-    let n3 = fold-none (overlay_outside scope e.overlay) [] n2.second in
+pub in_range : (e : Entries) → range_fault e ≡ None → IsInRange e
+in_range e none =
+    let n1 = fold-none (basics_outside e.basics) (refining_outside e.refining ∷ overlay_outside e.overlay ∷ []) none in
+    let n2 = fold-none (refining_outside e.refining) (overlay_outside e.overlay ∷ []) n1.second in
+    let n3 = fold-none (overlay_outside e.overlay) [] n2.second in
     record {
-      basics = basics_in_range scope e.basics n1.first;
-      refining = refining_in_range scope e.refining n2.first;
-      overlay = overlay_in_range scope e.overlay n3.first;
+      basics = basics_in_range e.basics n1.first;
+      refining = refining_in_range e.refining n2.first;
+      overlay = overlay_in_range e.overlay n3.first;
     }

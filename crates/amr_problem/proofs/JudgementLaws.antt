@@ -7,8 +7,6 @@ use Rattle.amr_def.specs.declared.problem.Problem.{Problem}
 use Rattle.amr_problem.specs.declared.entries.Entries.{Entries}
 use Rattle.amr_problem.specs.declared.fault.ProblemFault.{ProblemFault}
 use Rattle.amr_problem.specs.declared.key.Key.{Key}
-use Rattle.amr_problem.specs.declared.scope.Scope.{Scope}
-use Rattle.amr_problem.specs.declared.scope.Scope.TheVariants.{Whole}
 use Rattle.amr_problem.specs.Keys.{kind_of}
 use Rattle.amr_problem.specs.Faults.{is_read, unknown_key, missing_key, wrong_kind, first_wrong, courant_over, sides_differ, block_outside, tag_count, blocking_misfit, fault_in}
 use Rattle.amr_problem.specs.Entries.{basic_keys, refining_keys, overlay_keys, IsReadOf, HasShears, range_fault, entry_fault}
@@ -23,7 +21,7 @@ use Rattle.amr_problem.proofs.ValueLaws.{shear_at-lines}
 first_wrong-append : (table : Members) (ks ls : List Key) → first_wrong table (ks ++ ls) ≡ option_or (first_wrong table ks) (first_wrong table ls)
 first_wrong-append table [] ls = refl
 first_wrong-append table (k ∷ ks) ls =
-    elim (cases_Bool (is_read table k (kind_of Whole k))) [
+    elim (cases_Bool (is_read table k (kind_of k))) [
       | inl read ↦ rw read (first_wrong-append table ks ls)
       | inr unread ↦ rw unread refl
     ]
@@ -47,9 +45,9 @@ later_faults e =
     ∷ []
 
 -- where the keys are right, the fault is that of the entries
-pub fault_in-entries : (scope : Scope) (table : Members) (e : Entries) → option_or (unknown_key scope table) (missing_key table) ≡ None → wrong_kind table ≡ None → IsReadOf table e → fault_in scope table ≡ entry_fault scope e
-fault_in-entries scope table e absent kinds r =
-    rw (absent, kinds, same_ranges scope table e r, r.basics.courant, r.basics.sides, r.basics.cells, r.basics.max_level, r.refining.tag, r.overlay.blocks, r.overlay.shear_x, r.overlay.shear_y, r.overlay.blocking) (first_some-cons (range_fault scope e) (later_faults e))
+pub fault_in-entries : (table : Members) (e : Entries) → option_or (unknown_key table) (missing_key table) ≡ None → wrong_kind table ≡ None → IsReadOf table e → fault_in table ≡ entry_fault e
+fault_in-entries table e absent kinds r =
+    rw (absent, kinds, same_ranges table e r, r.basics.courant, r.basics.sides, r.basics.cells, r.basics.max_level, r.refining.tag, r.overlay.blocks, r.overlay.shear_x, r.overlay.shear_y, r.overlay.blocking) (first_some-cons (range_fault e) (later_faults e))
 
 -- ---- from entries to keys
 

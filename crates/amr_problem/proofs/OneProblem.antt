@@ -10,7 +10,6 @@ use Rattle.amr_def.specs.declared.problem.Block.{Block}
 use Rattle.amr_def.specs.declared.problem.Sides.{Sides}
 use Rattle.amr_def.specs.declared.problem.Sides.TheVariants.{Periodic, Open}
 use Rattle.amr_def.specs.Limits.{Limits}
-use Rattle.amr_problem.specs.declared.scope.Scope.{Scope}
 use Rattle.amr_problem.specs.Document.{table_of}
 use Rattle.amr_problem.specs.Fields.{sides_numbers, block_numbers}
 use Rattle.amr_problem.specs.Judgement.{HasKeys, IsProblemOf}
@@ -170,5 +169,5 @@ one_of_keys table p q h k =
     let blocking : p.blocking ≡ q.blocking = one_number _ _ _ h.blocking k.blocking in
     rw (version, name, nx, ny, steps, cx, cy, d, shear_x, shear_y, sides.front, y.front, max_level, tag, n_error_buf, efficiency, min_width, regrid_int, blocking, max_grid_size, blocks) refl
 
-pub one_problem : (scope : Scope) (bytes : List ℕ) (p q : Problem) → IsProblemOf scope bytes p → IsProblemOf scope bytes q → p ≡ q
-one_problem scope bytes p q is_p is_q = same_fields p q (one_of_keys (table_of bytes) p q is_p.keys is_q.keys)
+pub one_problem : (bytes : List ℕ) (p q : Problem) → IsProblemOf bytes p → IsProblemOf bytes q → p ≡ q
+one_problem bytes p q is_p is_q = same_fields p q (one_of_keys (table_of bytes) p q is_p.keys is_q.keys)

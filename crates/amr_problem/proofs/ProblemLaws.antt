@@ -6,20 +6,16 @@ use Rattle.std.proofs.lemmas.Int.{ints}
 use Rattle.std.proofs.lemmas.List.{length-map}
 use Rattle.std.specs.List.{list_all}
 use Rattle.std.specs.Ordering.{int_eq}
-use Rattle.amr_def.specs.declared.problem.Problem.{Problem}
 use Rattle.amr_def.specs.declared.problem.Block.{Block}
 use Rattle.amr_def.specs.declared.problem.Sides.{Sides}
 use Rattle.amr_def.specs.declared.problem.Sides.TheVariants.{Periodic, Open}
 use Rattle.amr_def.specs.Limits.{Limits, is_block, has_inflows, greatest_size, in_use, is_shear, between, greatest_given, is_blocking}
 use Rattle.amr_problem.specs.declared.entries.Entries.{Entries}
 use Rattle.amr_problem.specs.declared.key.Key.TheVariants.{Blocks}
-use Rattle.amr_problem.specs.declared.scope.Scope.{Scope}
-use Rattle.amr_problem.specs.declared.scope.Scope.TheVariants.{OneLevel, FirstVersion, Whole}
-use Rattle.amr_problem.specs.Keys.{ranges_of, range, coordinate, threshold, courant_number, blocking_factor, is_even, holds, first_outside, greatest_version, greatest_level}
-use Rattle.amr_problem.specs.Fields.{sides_numbers, block_numbers, AreValues, IsOfEntries}
+use Rattle.amr_problem.specs.Keys.{ranges_of, range, coordinate, threshold, courant_number, blocking_factor, is_even, holds, first_outside}
+use Rattle.amr_problem.specs.Fields.{sides_numbers, block_numbers, AreValues}
 use Rattle.amr_problem.specs.Faults.{over_by, is_periodic, differ, sides_differ, is_inside, tag_count, fits, blocking_misfit}
 use Rattle.amr_problem.specs.Entries.{IsSide, is_for_lines, HasShears, IsClean}
-use Rattle.amr_problem.specs.Judgement.{IsInScope}
 use Rattle.amr_problem.proofs.FirstSome.{option_map-none}
 use Rattle.amr_problem.proofs.RangeLaws.{holds-IsIn, first_outside-none}
 use Rattle.amr_problem.proofs.EntryLaws.{size_within}
@@ -145,7 +141,7 @@ inflows_fit (Open l h) low high is in_low in_high =
     rw (le-leb l (2 ^ 30) low_in, le-leb h (2 ^ 30) high_in)
 
 -- the mass of a block in its range
-mass_fits : (b : Block) → first_outside (ranges_of Whole Blocks) (block_numbers b) ≡ None → b.mass ≤ 2 ^ 30
+mass_fits : (b : Block) → first_outside (ranges_of Blocks) (block_numbers b) ≡ None → b.mass ≤ 2 ^ 30
 mass_fits b h =
     let x0 = first_outside-none coordinate (coordinate ∷ coordinate ∷ coordinate ∷ range (pos 0) (pos 1073741824) ∷ []) (pos b.x0) (pos b.y0 ∷ pos b.x1 ∷ pos b.y1 ∷ pos b.mass ∷ []) h in
     let y0 = first_outside-none coordinate (coordinate ∷ coordinate ∷ range (pos 0) (pos 1073741824) ∷ []) (pos b.y0) (pos b.x1 ∷ pos b.y1 ∷ pos b.mass ∷ []) x0.others in
@@ -155,49 +151,31 @@ mass_fits b h =
     let fits : pos b.mass ≤ℤ pos 1073741824 = mass.here.greatest in
     omega (arith, ints)
 
-one_block : (nx ny : ℕ) (b : Block) → is_inside (pos nx ∷ pos ny ∷ []) (block_numbers b) ≡ true → first_outside (ranges_of Whole Blocks) (block_numbers b) ≡ None → is_block nx ny b ≡ true
+one_block : (nx ny : ℕ) (b : Block) → is_inside (pos nx ∷ pos ny ∷ []) (block_numbers b) ≡ true → first_outside (ranges_of Blocks) (block_numbers b) ≡ None → is_block nx ny b ≡ true
 one_block nx ny b inside in_range = rw (inside, le-leb b.mass (2 ^ 30) (mass_fits b in_range))
 
-pub blocks_inside : (nx ny : ℕ) (bs : List Block) → list_all (is_inside (pos nx ∷ pos ny ∷ [])) (map block_numbers bs) ≡ true → list_all (λ row. is_none (first_outside (ranges_of Whole Blocks) row)) (map block_numbers bs) ≡ true → list_all (is_block nx ny) bs ≡ true
+pub blocks_inside : (nx ny : ℕ) (bs : List Block) → list_all (is_inside (pos nx ∷ pos ny ∷ [])) (map block_numbers bs) ≡ true → list_all (λ row. is_none (first_outside (ranges_of Blocks) row)) (map block_numbers bs) ≡ true → list_all (is_block nx ny) bs ≡ true
 blocks_inside nx ny [] inside in_range = refl
 blocks_inside nx ny (b ∷ bs) inside in_range =
     let (here, others) = and_parts (is_inside (pos nx ∷ pos ny ∷ []) (block_numbers b)) (list_all (is_inside (pos nx ∷ pos ny ∷ [])) (map block_numbers bs)) inside in
-    let (here', others') = and_parts (is_none (first_outside (ranges_of Whole Blocks) (block_numbers b))) (list_all (λ row. is_none (first_outside (ranges_of Whole Blocks) row)) (map block_numbers bs)) in_range in
+    let (here', others') = and_parts (is_none (first_outside (ranges_of Blocks) (block_numbers b))) (list_all (λ row. is_none (first_outside (ranges_of Blocks) row)) (map block_numbers bs)) in_range in
     rw (one_block nx ny b here (none_from_test _ here'), blocks_inside nx ny bs others others')
 
-pub greatest_of : (scope : Scope) → greatest_version scope ≤ 2
-greatest_of OneLevel = omega arith
-greatest_of FirstVersion = omega arith
-greatest_of Whole = omega arith
-
-pub level_of : (scope : Scope) → greatest_level scope ≤ 4
-level_of OneLevel = omega arith
-level_of FirstVersion = omega arith
-level_of Whole = omega arith
-
-pub in_scope : (scope : Scope) (e : Entries) (p : Problem) → IsClean scope e → IsOfEntries e p → IsInScope scope p
-in_scope scope e p clean v =
-    let b = clean.in_range.basics in
-    let greatest : pos p.version ≤ℤ pos (greatest_version scope) = rw v.version_is at b.greatest_version in
-    let level : pos p.max_level ≤ℤ pos (greatest_level scope) = rw v.max_level_is at b.greatest_max_level in
-    record { last_version = omega (arith, ints); last_level = omega (arith, ints) }
-
-pub has_limits : (scope : Scope) (e : Entries) {version : ℕ} {name : List ℕ} {nx ny steps : ℕ} {cx cy : ℤ} {d : ℕ} {shear_x shear_y : List ℤ} {x_sides y_sides : Sides} {max_level : ℕ} {tag : List ℕ} {n_error_buf efficiency min_width regrid_int blocking max_grid_size : ℕ} {blocks : List Block}
-    → IsClean scope e → HasShears e.basics.nx e.basics.ny e.overlay
+pub has_limits : (e : Entries) {version : ℕ} {name : List ℕ} {nx ny steps : ℕ} {cx cy : ℤ} {d : ℕ} {shear_x shear_y : List ℤ} {x_sides y_sides : Sides} {max_level : ℕ} {tag : List ℕ} {n_error_buf efficiency min_width regrid_int blocking max_grid_size : ℕ} {blocks : List Block}
+    → IsClean e → HasShears e.basics.nx e.basics.ny e.overlay
     → AreValues e version name nx ny steps cx cy d shear_x shear_y x_sides y_sides max_level tag n_error_buf efficiency min_width regrid_int blocking max_grid_size blocks
     → Limits version name nx ny steps cx cy d shear_x shear_y x_sides y_sides max_level tag n_error_buf efficiency min_width regrid_int blocking max_grid_size blocks
-has_limits scope e {version} {name} {nx} {ny} {steps} {cx} {cy} {d} {shear_x} {shear_y} {x_sides} {y_sides} {max_level} {tag} {n_error_buf} {efficiency} {min_width} {regrid_int} {blocking} {max_grid_size} {blocks} clean shears v =
+has_limits e {version} {name} {nx} {ny} {steps} {cx} {cy} {d} {shear_x} {shear_y} {x_sides} {y_sides} {max_level} {tag} {n_error_buf} {efficiency} {min_width} {regrid_int} {blocking} {max_grid_size} {blocks} clean shears v =
     let b = clean.in_range.basics in
     let r = clean.in_range.refining in
     let o = clean.in_range.overlay in
     let inside : list_all (is_inside (e.basics.nx ∷ e.basics.ny ∷ [])) e.overlay.blocks.items ≡ true = position-none (is_inside (e.basics.nx ∷ e.basics.ny ∷ [])) e.overlay.blocks.items (option_map-none _ _ clean.inside) in
     let inside' : list_all (is_inside (pos nx ∷ pos ny ∷ [])) (map block_numbers blocks) ≡ true = rw (v.nx_is, v.ny_is, v.blocks_are) at inside in
-    let in_range' : list_all (λ row. is_none (first_outside (ranges_of Whole Blocks) row)) (map block_numbers blocks) ≡ true = rw v.blocks_are at o.blocks in
+    let in_range' : list_all (λ row. is_none (first_outside (ranges_of Blocks) row)) (map block_numbers blocks) ≡ true = rw v.blocks_are at o.blocks in
     let over : over_by (greatest_size (in_use cx shear_x) + greatest_size (in_use cy shear_y)) (pos d) ≡ None = rw (v.cx_is, v.cy_is, v.d_is, v.shear_x_is, v.shear_y_is) at clean.stable in
     let stable : pos (greatest_size (in_use cx shear_x) + greatest_size (in_use cy shear_y)) ≤ℤ pos d = stable-from_none _ (pos d) over in
-    let two : greatest_version scope ≤ 2 = greatest_of scope in
     let least_version : pos 1 ≤ℤ pos version = rw v.version_is at b.least_version in
-    let greatest : pos version ≤ℤ pos (greatest_version scope) = rw v.version_is at b.greatest_version in
+    let greatest : pos version ≤ℤ pos 2 = rw v.version_is at b.greatest_version in
     let least_nx : pos 2 ≤ℤ pos nx = rw v.nx_is at b.least_nx in
     let greatest_nx : pos nx ≤ℤ pos 256 = rw v.nx_is at b.greatest_nx in
     let least_ny : pos 2 ≤ℤ pos ny = rw v.ny_is at b.least_ny in
@@ -205,8 +183,7 @@ has_limits scope e {version} {name} {nx} {ny} {steps} {cx} {cy} {d} {shear_x} {s
     let greatest_steps : pos steps ≤ℤ pos 4096 = rw v.steps_is at b.greatest_steps in
     let least_d : pos 1 ≤ℤ pos d = rw v.d_is at b.least_d in
     let greatest_d : pos d ≤ℤ pos 1024 = rw v.d_is at b.greatest_d in
-    let greatest_max_level : pos max_level ≤ℤ pos (greatest_level scope) = rw v.max_level_is at b.greatest_max_level in
-    let four : greatest_level scope ≤ 4 = level_of scope in
+    let greatest_max_level : pos max_level ≤ℤ pos 4 = rw v.max_level_is at b.greatest_max_level in
     let greatest_buf : pos n_error_buf ≤ℤ pos 8 = rw v.n_error_buf_is at r.greatest_n_error_buf in
     let least_share : pos 1 ≤ℤ pos efficiency = rw v.efficiency_is at r.least_efficiency in
     let greatest_share : pos efficiency ≤ℤ pos 100 = rw v.efficiency_is at r.greatest_efficiency in

@@ -13,9 +13,7 @@ use Rattle.amr_problem.specs.declared.fault.ProblemFault.{ProblemFault}
 use Rattle.amr_problem.specs.declared.fault.ProblemFault.TheVariants.{OutOfRange}
 use Rattle.amr_problem.specs.declared.key.Key.{Key}
 use Rattle.amr_problem.specs.declared.key.Key.TheVariants.{Version, Name, Cells, Steps, Courant, Sides, MaxLevel, Tag, NErrorBuf, Efficiency, MinWidth, RegridInt, MaxGridSize, Blocks, ShearX, ShearY, Blocking}
-use Rattle.amr_problem.specs.declared.scope.Scope.{Scope}
-use Rattle.amr_problem.specs.declared.scope.Scope.TheVariants.{Whole}
-use Rattle.amr_problem.specs.Keys.{range, ranges_of, first_outside, first_beyond, is_even, holds, threshold, courant_number, blocking_factor, greatest_version, greatest_level}
+use Rattle.amr_problem.specs.Keys.{range, ranges_of, first_outside, first_beyond, is_even, holds, threshold, courant_number, blocking_factor}
 use Rattle.amr_problem.specs.Faults.{courant_over, is_periodic, sides_differ, block_outside, tag_count, blocking_misfit, fits, first_some, text_outside, rows_outside}
 use Rattle.amr_problem.specs.Values.{number_at, text_at, numbers_at, integers_at, shear_at, rows_at}
 
@@ -62,40 +60,40 @@ pub record IsReadOf (table : Members) (e : Entries) : Type 0 where
 -- ---- the first number, in the order of the keys, that is out of its range
 
 -- of a key's numbers, each with its own range
-abbrev pub numbers_outside : Scope → Key → List ℤ → Option ProblemFault
-numbers_outside scope key zs = option_map (OutOfRange key) (first_outside (ranges_of scope key) zs)
+abbrev pub numbers_outside : Key → List ℤ → Option ProblemFault
+numbers_outside key zs = option_map (OutOfRange key) (first_outside (ranges_of key) zs)
 
-unfoldable pub basics_outside : Scope → Basics → Option ProblemFault
-basics_outside scope b = first_some
-    (numbers_outside scope Version (b.version ∷ [])
+unfoldable pub basics_outside : Basics → Option ProblemFault
+basics_outside b = first_some
+    (numbers_outside Version (b.version ∷ [])
     ∷ option_map (OutOfRange Name) (text_outside (range (pos 1) (pos 32)) b.name.items)
-    ∷ numbers_outside scope Cells (b.nx ∷ b.ny ∷ [])
-    ∷ numbers_outside scope Steps (b.steps ∷ [])
-    ∷ numbers_outside scope Courant (b.cx ∷ b.cy ∷ b.d ∷ [])
-    ∷ numbers_outside scope Sides (b.x_low ∷ b.x_high ∷ b.y_low ∷ b.y_high ∷ [])
-    ∷ numbers_outside scope MaxLevel (b.max_level ∷ [])
+    ∷ numbers_outside Cells (b.nx ∷ b.ny ∷ [])
+    ∷ numbers_outside Steps (b.steps ∷ [])
+    ∷ numbers_outside Courant (b.cx ∷ b.cy ∷ b.d ∷ [])
+    ∷ numbers_outside Sides (b.x_low ∷ b.x_high ∷ b.y_low ∷ b.y_high ∷ [])
+    ∷ numbers_outside MaxLevel (b.max_level ∷ [])
     ∷ [])
 
-unfoldable pub refining_outside : Scope → Refining → Option ProblemFault
-refining_outside scope r = first_some
+unfoldable pub refining_outside : Refining → Option ProblemFault
+refining_outside r = first_some
     (option_map (OutOfRange Tag) (first_beyond threshold r.tag.items)
-    ∷ numbers_outside scope NErrorBuf (r.n_error_buf ∷ [])
-    ∷ numbers_outside scope Efficiency (r.efficiency ∷ [])
-    ∷ numbers_outside scope MinWidth (r.min_width ∷ [])
-    ∷ numbers_outside scope RegridInt (r.regrid_int ∷ [])
-    ∷ numbers_outside scope MaxGridSize (r.max_grid_size ∷ [])
+    ∷ numbers_outside NErrorBuf (r.n_error_buf ∷ [])
+    ∷ numbers_outside Efficiency (r.efficiency ∷ [])
+    ∷ numbers_outside MinWidth (r.min_width ∷ [])
+    ∷ numbers_outside RegridInt (r.regrid_int ∷ [])
+    ∷ numbers_outside MaxGridSize (r.max_grid_size ∷ [])
     ∷ [])
 
-unfoldable pub overlay_outside : Scope → Overlay → Option ProblemFault
-overlay_outside scope o = first_some
-    (option_map (OutOfRange Blocks) (rows_outside 256 (ranges_of scope Blocks) o.blocks.items)
+unfoldable pub overlay_outside : Overlay → Option ProblemFault
+overlay_outside o = first_some
+    (option_map (OutOfRange Blocks) (rows_outside 256 (ranges_of Blocks) o.blocks.items)
     ∷ option_map (OutOfRange ShearX) (first_beyond courant_number o.shear_x.items)
     ∷ option_map (OutOfRange ShearY) (first_beyond courant_number o.shear_y.items)
-    ∷ numbers_outside scope Blocking (o.blocking ∷ [])
+    ∷ numbers_outside Blocking (o.blocking ∷ [])
     ∷ [])
 
-abbrev pub range_fault : Scope → Entries → Option ProblemFault
-range_fault scope e = first_some (basics_outside scope e.basics ∷ refining_outside scope e.refining ∷ overlay_outside scope e.overlay ∷ [])
+abbrev pub range_fault : Entries → Option ProblemFault
+range_fault e = first_some (basics_outside e.basics ∷ refining_outside e.refining ∷ overlay_outside e.overlay ∷ [])
 
 -- ---- and the first fault of entries within their ranges
 
@@ -109,8 +107,8 @@ in_range_fault e = first_some
     ∷ [])
 
 -- the first fault from the ranges on
-abbrev pub entry_fault : Scope → Entries → Option ProblemFault
-entry_fault scope e = option_or (range_fault scope e) (in_range_fault e)
+abbrev pub entry_fault : Entries → Option ProblemFault
+entry_fault e = option_or (range_fault e) (in_range_fault e)
 
 -- ---- entries in their ranges
 
@@ -119,9 +117,9 @@ pub record IsSide (side : ℤ) : Type 0 where
   pub least : negsuc 0 ≤ℤ side
   pub greatest : side ≤ℤ pos 1073741824
 
-pub record AreBasicsInRange (scope : Scope) (b : Basics) : Type 0 where
+pub record AreBasicsInRange (b : Basics) : Type 0 where
   pub least_version : pos 1 ≤ℤ b.version
-  pub greatest_version : b.version ≤ℤ pos (greatest_version scope)
+  pub greatest_version : b.version ≤ℤ pos 2
   pub named : 1 ≤ length b.name.items
   pub short_name : length b.name.items ≤ 32
   pub name_bytes : list_all is_name_byte b.name.items ≡ true
@@ -140,7 +138,7 @@ pub record AreBasicsInRange (scope : Scope) (b : Basics) : Type 0 where
   pub y_low : IsSide b.y_low
   pub y_high : IsSide b.y_high
   pub least_max_level : pos 0 ≤ℤ b.max_level
-  pub greatest_max_level : b.max_level ≤ℤ pos (greatest_level scope)
+  pub greatest_max_level : b.max_level ≤ℤ pos 4
 
 pub record AreRefiningInRange (r : Refining) : Type 0 where
   pub tag : list_all (holds threshold) r.tag.items ≡ true
@@ -158,13 +156,13 @@ pub record AreRefiningInRange (r : Refining) : Type 0 where
 
 pub record IsOverlayInRange (o : Overlay) : Type 0 where
   pub block_count : length o.blocks.items ≤ 256
-  pub blocks : list_all (λ row. is_none (first_outside (ranges_of Whole Blocks) row)) o.blocks.items ≡ true
+  pub blocks : list_all (λ row. is_none (first_outside (ranges_of Blocks) row)) o.blocks.items ≡ true
   pub shear_x : list_all (holds courant_number) o.shear_x.items ≡ true
   pub shear_y : list_all (holds courant_number) o.shear_y.items ≡ true
   pub blocking : holds blocking_factor o.blocking ≡ true
 
-pub record IsInRange (scope : Scope) (e : Entries) : Type 0 where
-  pub basics : AreBasicsInRange scope e.basics
+pub record IsInRange (e : Entries) : Type 0 where
+  pub basics : AreBasicsInRange e.basics
   pub refining : AreRefiningInRange e.refining
   pub overlay : IsOverlayInRange e.overlay
 
@@ -179,8 +177,8 @@ pub record HasShears (nx ny : ℤ) (o : Overlay) : Type 0 where
   pub columns : is_for_lines nx o.shear_y.items ≡ true
 
 -- the entries have no fault from their ranges on
-pub record IsClean (scope : Scope) (e : Entries) : Type 0 where
-  pub in_range : IsInRange scope e
+pub record IsClean (e : Entries) : Type 0 where
+  pub in_range : IsInRange e
   pub stable : courant_over (e.basics.cx ∷ e.basics.cy ∷ e.basics.d ∷ []) e.overlay.shear_x.items e.overlay.shear_y.items ≡ None
   pub x_alike : is_periodic e.basics.x_low ≡ is_periodic e.basics.x_high
   pub y_alike : is_periodic e.basics.y_low ≡ is_periodic e.basics.y_high

@@ -13,10 +13,8 @@ use Rattle.amr_problem.specs.declared.fault.ProblemFault.TheVariants as fault
 use Rattle.amr_problem.specs.declared.key.Key.{Key}
 use Rattle.amr_problem.specs.declared.key.Key.TheVariants.{Version, Cells, Courant, Sides, MaxLevel, Tag, Blocks, ShearX, ShearY, Blocking}
 use Rattle.amr_problem.specs.declared.range.Range.{Range}
-use Rattle.amr_problem.specs.declared.scope.Scope.{Scope}
-use Rattle.amr_problem.specs.declared.scope.Scope.TheVariants.{Whole}
 use Rattle.amr_problem.specs.Document.{document, table_of}
-use Rattle.amr_problem.specs.Keys.{Kind, number, text, numbers, list, lines, rows, kind_of, keys, is_known, greatest_version, holds, first_outside, first_beyond}
+use Rattle.amr_problem.specs.Keys.{Kind, number, text, numbers, list, lines, rows, kind_of, keys, is_known, holds, first_outside, first_beyond}
 use Rattle.amr_problem.specs.Values.{◌>>=◌, is_there, number_at, text_at, numbers_at, integers_at, shear_at, rows_at}
 
 -- the first that is some
@@ -44,13 +42,13 @@ abbrev pub is_two : Option ℤ → Bool
 is_two (Some z) = int_eq z (pos 2)
 is_two None = false
 
--- the version whose keys are known: 2 where a problem says so and the scope has it, else 1
-abbrev pub version_in : Scope → Members → ℕ
-version_in scope table = if is_two (number_at table Version) then greatest_version scope else 1
+-- the version whose keys are known: 2 where a problem says so, else 1
+abbrev pub version_in : Members → ℕ
+version_in table = if is_two (number_at table Version) then 2 else 1
 
 -- 3: a key is none of the version's. The members stand in the order of their bytes, so this is the least such key.
-abbrev pub unknown_key : Scope → Members → Option ProblemFault
-unknown_key scope table = option_map UnknownKey (find (λ key. not (is_known (version_in scope table) key)) (keys_in table))
+abbrev pub unknown_key : Members → Option ProblemFault
+unknown_key table = option_map UnknownKey (find (λ key. not (is_known (version_in table) key)) (keys_in table))
 
 -- 4: a key is absent, and nothing stands where it is
 abbrev pub missing_key : Members → Option ProblemFault
@@ -73,9 +71,9 @@ is_read table key (list r) = is_some (integers_at table key)
 is_read table key (lines axis r) = is_some (shear_along axis table key)
 is_read table key (rows most rs) = is_some (rows_at (length rs) table key)
 
--- 5: a value is of another kind. The kinds are the same in each scope.
+-- 5: a value is of another kind
 abbrev pub first_wrong : Members → List Key → Option ProblemFault
-first_wrong table ks = option_map WrongKind (find (λ key. not (is_read table key (kind_of Whole key))) ks)
+first_wrong table ks = option_map WrongKind (find (λ key. not (is_read table key (kind_of key))) ks)
 
 abbrev pub wrong_kind : Members → Option ProblemFault
 wrong_kind table = first_wrong table keys
@@ -96,12 +94,12 @@ outside table key (list r) = integers_at table key >>= first_beyond r
 outside table key (lines axis r) = shear_along axis table key >>= first_beyond r
 outside table key (rows most rs) = rows_at (length rs) table key >>= rows_outside most rs
 
-abbrev pub key_outside : Scope → Members → Key → Option ProblemFault
-key_outside scope table key = option_map (OutOfRange key) (outside table key (kind_of scope key))
+abbrev pub key_outside : Members → Key → Option ProblemFault
+key_outside table key = option_map (OutOfRange key) (outside table key (kind_of key))
 
 -- 6: a number is out of its range
-abbrev pub out_of_range : Scope → Members → Option ProblemFault
-out_of_range scope table = first_some (map (key_outside scope table) keys)
+abbrev pub out_of_range : Members → Option ProblemFault
+out_of_range table = first_some (map (key_outside table) keys)
 
 -- a sum that exceeds d
 abbrev pub over_by : ℕ → ℤ → Option ProblemFault
@@ -156,12 +154,12 @@ courant_fault table =
     numbers_at 3 table Courant >>= (λ c. shear_along X table ShearX >>= (λ xs. shear_along Y table ShearY >>= (λ ys. courant_over c xs ys)))
 
 -- of a table
-abbrev pub fault_in : Scope → Members → Option ProblemFault
-fault_in scope table = first_some
-    (unknown_key scope table
+abbrev pub fault_in : Members → Option ProblemFault
+fault_in table = first_some
+    (unknown_key table
     ∷ missing_key table
     ∷ wrong_kind table
-    ∷ out_of_range scope table
+    ∷ out_of_range table
     ∷ courant_fault table
     ∷ (numbers_at 4 table Sides >>= sides_differ)
     ∷ (numbers_at 2 table Cells >>= (λ cells. rows_at 5 table Blocks >>= block_outside cells))
@@ -170,5 +168,5 @@ fault_in scope table = first_some
     ∷ [])
 
 -- of bytes
-abbrev pub first_fault : Scope → List ℕ → Option ProblemFault
-first_fault scope bytes = first_some (too_long bytes ∷ not_toml bytes ∷ fault_in scope (table_of bytes) ∷ [])
+abbrev pub first_fault : List ℕ → Option ProblemFault
+first_fault bytes = first_some (too_long bytes ∷ not_toml bytes ∷ fault_in (table_of bytes) ∷ [])

@@ -1,13 +1,11 @@
 -- The judgement of bytes: the problem that they are, or their first fault. (profile)
-use Rattle.std.specs.Prelude.{◌≡◌, ◌≤◌, ℕ, pos, List, [], ◌∷◌, ◌++◌, map, Option, Some, None}
+use Rattle.std.specs.Prelude.{◌≡◌, ℕ, pos, List, [], ◌∷◌, ◌++◌, map, Option, Some, None}
 use Rattle.toml.specs.Data.{Members}
 use Rattle.amr_def.specs.declared.problem.Problem.{Problem}
 use Rattle.amr_problem.specs.declared.fault.ProblemFault.{ProblemFault}
 use Rattle.amr_problem.specs.declared.key.Key.TheVariants.{Version, Name, Cells, Steps, Courant, Sides, MaxLevel, Tag, NErrorBuf, Efficiency, MinWidth, RegridInt, MaxGridSize, Blocks, ShearX, ShearY, Blocking}
-use Rattle.amr_problem.specs.declared.scope.Scope.{Scope}
 use Rattle.amr_problem.specs.Document.{table_of}
 use Rattle.amr_problem.specs.Fields.{sides_numbers, block_numbers}
-use Rattle.amr_problem.specs.Keys.{greatest_version, greatest_level}
 use Rattle.amr_problem.specs.Values.{number_at, text_at, numbers_at, integers_at, shear_at, rows_at}
 use Rattle.amr_problem.specs.Faults.{first_fault}
 
@@ -34,16 +32,10 @@ pub record HasKeys (table : Members) (p : Problem) : Type 0 where
   pub blocking : number_at table Blocking ≡ Some (pos p.blocking)
 
 -- the fault of bytes: none exactly where they are those of a problem
-unfoldable pub fault_of : Scope → List ℕ → Option ProblemFault
-fault_of scope bytes = first_fault scope bytes
-
--- the scope takes the version and the finest level
-pub record IsInScope (scope : Scope) (p : Problem) : Type 0 where
-  pub last_version : p.version ≤ greatest_version scope
-  pub last_level : p.max_level ≤ greatest_level scope
+unfoldable pub fault_of : List ℕ → Option ProblemFault
+fault_of bytes = first_fault bytes
 
 -- the problem is the one that the bytes are; that it is within the limits is a fact of its type
-pub record IsProblemOf (scope : Scope) (bytes : List ℕ) (p : Problem) : Type 0 where
-  pub clean : fault_of scope bytes ≡ None
+pub record IsProblemOf (bytes : List ℕ) (p : Problem) : Type 0 where
+  pub clean : fault_of bytes ≡ None
   pub keys : HasKeys (table_of bytes) p
-  pub in_scope : IsInScope scope p

@@ -13,20 +13,6 @@ use Rattle.amr_problem.specs.declared.range.Among.{Among}
 use Rattle.amr_problem.specs.declared.range.Among.TheVariants.{Every, Even, TwoFourEight}
 use Rattle.amr_problem.specs.declared.key.Absent.{Absent}
 use Rattle.amr_problem.specs.declared.key.Absent.TheVariants.{Required, Number, Empty}
-use Rattle.amr_problem.specs.declared.scope.Scope.{Scope}
-use Rattle.amr_problem.specs.declared.scope.Scope.TheVariants.{OneLevel, FirstVersion, Whole}
-
--- ---- how much of the format is taken
-
-abbrev pub greatest_version : Scope → ℕ
-greatest_version OneLevel = 1
-greatest_version FirstVersion = 1
-greatest_version Whole = 2
-
-abbrev pub greatest_level : Scope → ℕ
-greatest_level OneLevel = 0
-greatest_level FirstVersion = 4
-greatest_level Whole = 4
 
 -- ---- rows of the table
 
@@ -88,42 +74,42 @@ coordinate = range (pos 0) (pos 255)
 
 -- ---- the table
 
-abbrev pub row_of : Scope → Key → Row
-row_of scope Version = row (codes "version") (number (range (pos 1) (pos (greatest_version scope)))) Required
-row_of scope Name = row (codes "name") (text (range (pos 1) (pos 32))) Required
-row_of scope Cells = row (codes "cells") (numbers (cell_count ∷ cell_count ∷ [])) Required
-row_of scope Steps = row (codes "steps") (number (range (pos 0) (pos 4096))) Required
-row_of scope Courant = row (codes "courant") (numbers (courant_number ∷ courant_number ∷ range (pos 1) (pos 1024) ∷ [])) Required
-row_of scope Sides = row (codes "sides") (numbers (side ∷ side ∷ side ∷ side ∷ [])) Required
-row_of scope MaxLevel = row (codes "max_level") (number (range (pos 0) (pos (greatest_level scope)))) Required
-row_of scope Tag = row (codes "tag") (list threshold) Empty
-row_of scope NErrorBuf = row (codes "n_error_buf") (number (range (pos 0) (pos 8))) (Number (pos 1))
-row_of scope Efficiency = row (codes "efficiency") (number (range (pos 1) (pos 100))) (Number (pos 70))
-row_of scope MinWidth = row (codes "min_width") (number (range (pos 1) (pos 16))) (Number (pos 2))
-row_of scope RegridInt = row (codes "regrid_int") (number (range (pos 1) (pos 4096))) (Number (pos 2))
-row_of scope MaxGridSize = row (codes "max_grid_size") (number (even_range (pos 4) (pos 256))) (Number (pos 32))
-row_of scope Blocks = row (codes "blocks") (rows 256 (coordinate ∷ coordinate ∷ coordinate ∷ coordinate ∷ range (pos 0) (pos 1073741824) ∷ [])) Required
-row_of scope ShearX = row_2 (codes "shear_x") (lines axis.X courant_number) Empty
-row_of scope ShearY = row_2 (codes "shear_y") (lines axis.Y courant_number) Empty
-row_of scope Blocking = row_2 (codes "blocking") (number blocking_factor) (Number (pos 2))
+abbrev pub row_of : Key → Row
+row_of Version = row (codes "version") (number (range (pos 1) (pos 2))) Required
+row_of Name = row (codes "name") (text (range (pos 1) (pos 32))) Required
+row_of Cells = row (codes "cells") (numbers (cell_count ∷ cell_count ∷ [])) Required
+row_of Steps = row (codes "steps") (number (range (pos 0) (pos 4096))) Required
+row_of Courant = row (codes "courant") (numbers (courant_number ∷ courant_number ∷ range (pos 1) (pos 1024) ∷ [])) Required
+row_of Sides = row (codes "sides") (numbers (side ∷ side ∷ side ∷ side ∷ [])) Required
+row_of MaxLevel = row (codes "max_level") (number (range (pos 0) (pos 4))) Required
+row_of Tag = row (codes "tag") (list threshold) Empty
+row_of NErrorBuf = row (codes "n_error_buf") (number (range (pos 0) (pos 8))) (Number (pos 1))
+row_of Efficiency = row (codes "efficiency") (number (range (pos 1) (pos 100))) (Number (pos 70))
+row_of MinWidth = row (codes "min_width") (number (range (pos 1) (pos 16))) (Number (pos 2))
+row_of RegridInt = row (codes "regrid_int") (number (range (pos 1) (pos 4096))) (Number (pos 2))
+row_of MaxGridSize = row (codes "max_grid_size") (number (even_range (pos 4) (pos 256))) (Number (pos 32))
+row_of Blocks = row (codes "blocks") (rows 256 (coordinate ∷ coordinate ∷ coordinate ∷ coordinate ∷ range (pos 0) (pos 1073741824) ∷ [])) Required
+row_of ShearX = row_2 (codes "shear_x") (lines axis.X courant_number) Empty
+row_of ShearY = row_2 (codes "shear_y") (lines axis.Y courant_number) Empty
+row_of Blocking = row_2 (codes "blocking") (number blocking_factor) (Number (pos 2))
 
 -- every key, in the table's order
 abbrev pub keys : List Key
 keys = Version ∷ Name ∷ Cells ∷ Steps ∷ Courant ∷ Sides ∷ MaxLevel ∷ Tag ∷ NErrorBuf ∷ Efficiency ∷ MinWidth ∷ RegridInt ∷ MaxGridSize ∷ Blocks ∷ ShearX ∷ ShearY ∷ Blocking ∷ []
 
--- ---- what is read of it: of all but the ranges it is the same in each scope
+-- ---- what is read of it
 
 abbrev pub text_of : Key → List ℕ
-text_of key = (row_of Whole key).key
+text_of key = (row_of key).key
 
 abbrev pub absent_of : Key → Absent
-absent_of key = (row_of Whole key).absent
+absent_of key = (row_of key).absent
 
 abbrev pub version_of : Key → ℕ
-version_of key = (row_of Whole key).version
+version_of key = (row_of key).version
 
-abbrev pub kind_of : Scope → Key → Kind
-kind_of scope key = (row_of scope key).value
+abbrev pub kind_of : Key → Kind
+kind_of key = (row_of key).value
 
 -- what stands where a key is absent: none where the key is required
 abbrev pub stands : Absent → Option Data
@@ -139,8 +125,8 @@ ranges_in (list r) = r ∷ []
 ranges_in (lines a r) = r ∷ []
 ranges_in (rows most rs) = rs
 
-abbrev pub ranges_of : Scope → Key → List Range
-ranges_of scope key = ranges_in (kind_of scope key)
+abbrev pub ranges_of : Key → List Range
+ranges_of key = ranges_in (kind_of key)
 
 -- whether some key of the version is written so
 abbrev pub is_known : ℕ → List ℕ → Bool

@@ -4,14 +4,13 @@ ghost use Rattle.std.specs.Prelude.{◌≡◌, Some, None, Ok, Err, IfOk, IfErr,
 ghost use Rattle.std.specs.BTreeMap.{keys as keys_of_map};
 ghost use Rattle.toml.specs.View.{table_view, view};
 ghost use Rattle.amr_problem.specs.Document.{document};
-ghost use Rattle.amr_problem.specs.Keys.{greatest_version, is_known, keys};
+ghost use Rattle.amr_problem.specs.Keys.{is_known, keys};
 ghost use Rattle.amr_problem.specs.Values.{written_at, is_there, number_at};
 ghost use Rattle.amr_problem.specs.Faults.{is_two, version_in, keys_in, unknown_key, missing_key};
 
 use crate::fault::{JudgeFault, ProblemFault};
 use crate::key::{KEYS, Key, is_known};
 use crate::key_text::KeyText;
-use crate::scope::Scope;
 use std::alloc::{AllocError, Global};
 use toml::{Table, Value};
 
@@ -57,15 +56,6 @@ pub fn number_at(table: &Table, key: Key) -> Option<i64>
     }
 }
 
-fn greatest_version(scope: Scope) -> u32
-    ensures { result ≡ greatest_version scope }
-{
-    match scope {
-        Scope::OneLevel | Scope::FirstVersion => 1,
-        Scope::Whole => 2,
-    }
-}
-
 fn is_second(table: &Table) -> bool
     ensures { result ≡ is_two (number_at (table_view table.now) Key.Version) }
 {
@@ -76,14 +66,10 @@ fn is_second(table: &Table) -> bool
 }
 
 /// The version whose keys are known.
-fn version_in(scope: Scope, table: &Table) -> u32
-    ensures { result ≡ version_in scope (table_view table.now) }
+fn version_in(table: &Table) -> u32
+    ensures { result ≡ version_in (table_view table.now) }
 {
-    if is_second(table) {
-        greatest_version(scope)
-    } else {
-        1
-    }
+    if is_second(table) { 2 } else { 1 }
 }
 
 fn unknown_text(version: u32, table: &Table) -> Option<&String>
@@ -92,21 +78,17 @@ fn unknown_text(version: u32, table: &Table) -> Option<&String>
     table.keys().find(|key| !is_known(version, key.as_str()))
 }
 
-fn unknown_in(scope: Scope, table: &Table) -> Option<&String>
-    ensures { option_map (λ s. string_bytes s.now) result ≡ find (λ key. not (is_known (version_in scope (table_view table.now)) key)) (keys_in (table_view table.now)) }
+fn unknown_in(table: &Table) -> Option<&String>
+    ensures { option_map (λ s. string_bytes s.now) result ≡ find (λ key. not (is_known (version_in (table_view table.now)) key)) (keys_in (table_view table.now)) }
 {
-    unknown_text(version_in(scope, table), table)
+    unknown_text(version_in(table), table)
 }
 
 /// The least key that is none of the version's.
-pub fn unknown_key(
-    alloc: Global,
-    scope: Scope,
-    table: &Table,
-) -> Result<Option<ProblemFault>, AllocError>
-    ensures { IfOk result (λ fault. fault ≡ unknown_key scope (table_view table.now)) }
+pub fn unknown_key(alloc: Global, table: &Table) -> Result<Option<ProblemFault>, AllocError>
+    ensures { IfOk result (λ fault. fault ≡ unknown_key (table_view table.now)) }
 {
-    match unknown_in(scope, table) {
+    match unknown_in(table) {
         Some(text) => Ok(Some(ProblemFault::UnknownKey(KeyText::make(alloc, text.as_str())?))),
         None => Ok(None),
     }

@@ -6,7 +6,7 @@ ghost use Rattle.toml.specs.View.{table_view};
 ghost use Rattle.amr_problem.specs.Faults.{unknown_key, missing_key, courant_over, fault_in};
 ghost use Rattle.amr_problem.specs.Entries.{entry_fault, in_range_fault, HasShears, IsOverlayInRange, IsClean};
 ghost use Rattle.amr_problem.specs.Fields.{IsOfEntries};
-ghost use Rattle.amr_problem.specs.Judgement.{fault_of, HasKeys, IsInScope, IsProblemOf};
+ghost use Rattle.amr_problem.specs.Judgement.{fault_of, HasKeys, IsProblemOf};
 
 use crate::checks::{
     block_outside, blocking_misfit, courant_over, sides_differ, size_in_use, tag_count,
@@ -16,7 +16,6 @@ use crate::entries::{Basics, Entries, Overlay};
 use crate::fault::{JudgeFault, ProblemFault};
 use crate::problem::problem;
 use crate::ranges::out_of_range;
-use crate::scope::Scope;
 use amr_def::Problem;
 use std::alloc::{AllocError, Global};
 use toml::Table;
@@ -27,59 +26,56 @@ mod tests;
 /// The greatest number of bytes of a problem.
 pub const MOST_BYTES: usize = 65536;
 
-/// The problem that the bytes are, or their fault, by the part of the format that the scope takes. Memory may run out at any
-/// bytes.
+/// The problem that the bytes are, or their fault. Memory may run out at any bytes.
 ///
 /// A problem is UTF-8 TOML with the keys of the table and no other. Of several faults the first in their order comes. (profile)
 #[tactic(auto, unfolding(crate::specs::Judgement::fault_of))]
-pub fn judge(alloc: Global, scope: Scope, bytes: &[u8]) -> Result<Problem, JudgeFault>
-    ensures accepted { IfOk result (IsProblemOf scope bytes.now) }
-    ensures refused { (f : _) → IsErrOf result (JudgeFault.Fault f) → fault_of scope bytes.now ≡ Some f }
+pub fn judge(alloc: Global, bytes: &[u8]) -> Result<Problem, JudgeFault>
+    ensures accepted { IfOk result (IsProblemOf bytes.now) }
+    ensures refused { (f : _) → IsErrOf result (JudgeFault.Fault f) → fault_of bytes.now ≡ Some f }
 {
     if bytes.len() > MOST_BYTES {
         return Err(JudgeFault::Fault(ProblemFault::TooLong));
     }
     let table = read(alloc, bytes)?;
-    of_table(alloc, scope, &table)
+    of_table(alloc, &table)
 }
 
-fn of_table(alloc: Global, scope: Scope, table: &Table) -> Result<Problem, JudgeFault>
-    ensures clean { IfOk result (λ _. fault_in scope (table_view table.now) ≡ None) }
+fn of_table(alloc: Global, table: &Table) -> Result<Problem, JudgeFault>
+    ensures clean { IfOk result (λ _. fault_in (table_view table.now) ≡ None) }
     ensures keys { IfOk result (HasKeys (table_view table.now)) }
-    ensures in_scope { IfOk result (IsInScope scope) }
-    ensures refused { (f : _) → IsErrOf result (JudgeFault.Fault f) → fault_in scope (table_view table.now) ≡ Some f }
+    ensures refused { (f : _) → IsErrOf result (JudgeFault.Fault f) → fault_in (table_view table.now) ≡ Some f }
 {
-    if let Some(fault) = key_fault(alloc, scope, table)? {
+    if let Some(fault) = key_fault(alloc, table)? {
         return Err(JudgeFault::Fault(fault));
     }
-    of_entries(alloc, scope, Entries::read(alloc, table)?)
+    of_entries(alloc, Entries::read(alloc, table)?)
 }
 
-fn key_fault(alloc: Global, scope: Scope, table: &Table) -> Result<Option<ProblemFault>, AllocError>
-    ensures { IfOk result (λ fault. fault ≡ option_or (unknown_key scope (table_view table.now)) (missing_key (table_view table.now))) }
+fn key_fault(alloc: Global, table: &Table) -> Result<Option<ProblemFault>, AllocError>
+    ensures { IfOk result (λ fault. fault ≡ option_or (unknown_key (table_view table.now)) (missing_key (table_view table.now))) }
 {
-    let unknown = unknown_key(alloc, scope, table)?;
+    let unknown = unknown_key(alloc, table)?;
     Ok(unknown.or(missing_key(table)))
 }
 
-fn of_entries(alloc: Global, scope: Scope, entries: Entries) -> Result<Problem, JudgeFault>
+fn of_entries(alloc: Global, entries: Entries) -> Result<Problem, JudgeFault>
     requires { HasShears entries.basics.nx entries.basics.ny entries.overlay }
-    ensures clean { OnOk result (entry_fault scope entries ≡ None) }
+    ensures clean { OnOk result (entry_fault entries ≡ None) }
     ensures values { IfOk result (IsOfEntries entries) }
-    ensures in_scope { IfOk result (IsInScope scope) }
-    ensures refused { (f : _) → IsErrOf result (JudgeFault.Fault f) → entry_fault scope entries ≡ Some f }
+    ensures refused { (f : _) → IsErrOf result (JudgeFault.Fault f) → entry_fault entries ≡ Some f }
 {
-    if let Some(fault) = entry_fault(scope, &entries) {
+    if let Some(fault) = entry_fault(&entries) {
         return Err(JudgeFault::Fault(fault));
     }
-    Ok(problem(alloc, scope, entries)?)
+    Ok(problem(alloc, entries)?)
 }
 
-fn entry_fault(scope: Scope, entries: &Entries) -> Option<ProblemFault>
-    ensures first { result ≡ entry_fault scope entries.now }
-    ensures clean { result ≡ None → IsClean scope entries.now }
+fn entry_fault(entries: &Entries) -> Option<ProblemFault>
+    ensures first { result ≡ entry_fault entries.now }
+    ensures clean { result ≡ None → IsClean entries.now }
 {
-    match out_of_range(scope, entries) {
+    match out_of_range(entries) {
         Some(fault) => Some(fault),
         None => in_range_fault(entries),
     }

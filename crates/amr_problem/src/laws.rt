@@ -2,7 +2,7 @@
 
 ghost use Rattle.amr_problem.specs.Laws.{BytesAreOneProblem};
 
-/// Bytes are one problem at most in a scope: two problems of the same bytes are equal, field by field.
+/// Bytes are one problem at most: two problems of the same bytes are equal, field by field.
 pub fn bytes_are_one_problem()
     ensures { BytesAreOneProblem }
 {}

@@ -1,6 +1,6 @@
 //! The judgement of problem bytes: the problem that they are, or the first fault of the table of faults that they have.
 //!
-//! - `specs/Keys.antt`: the table of keys, and how much of it a scope takes.
+//! - `specs/Keys.antt`: the table of keys.
 //! - `specs/Values.antt`: the values of a document, each read by the kind of its key.
 //! - `specs/Faults.antt`: the faults, in the order in which they are looked for.
 //! - `specs/Judgement.antt`: the fault of bytes, and the problem that they are.
@@ -20,7 +20,6 @@ mod problem;
 mod range;
 mod ranges;
 mod reading;
-mod scope;
 mod values;
 
 pub use fault::{JudgeFault, ProblemFault};
@@ -28,4 +27,3 @@ pub use judgement::judge;
 pub use key::Key;
 pub use key_text::KeyText;
 pub use laws::bytes_are_one_problem;
-pub use scope::Scope;

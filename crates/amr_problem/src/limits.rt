@@ -5,14 +5,6 @@ ghost use Rattle.amr_problem.specs.Keys.{ranges_of};
 
 use crate::key::Key;
 use crate::range::{Among, Range};
-use crate::scope::Scope;
-
-// Version 1 alone.
-const ONE: Range = Range {
-    low: 1,
-    high: 1,
-    among: Among::Every,
-};
 
 // The versions of the format.
 const VERSIONS: Range = Range {
@@ -60,13 +52,6 @@ const DENOMINATOR: Range = Range {
 const SIDE: Range = Range {
     low: -1,
     high: 1073741824,
-    among: Among::Every,
-};
-
-// Level 0 alone.
-const LEVEL_0: Range = Range {
-    low: 0,
-    high: 0,
     among: Among::Every,
 };
 
@@ -142,17 +127,17 @@ const BLOCKING: Range = Range {
 
 impl Key {
     /// The ranges of its numbers, in order: of a value, of the length of a text, of each of many numbers, or of each row of many.
-    pub(crate) fn ranges(self, scope: Scope) -> &'static [Range]
-        ensures { result.now ≡ ranges_of scope self }
+    pub(crate) fn ranges(self) -> &'static [Range]
+        ensures { result.now ≡ ranges_of self }
     {
         match self {
-            Key::Version => version_ranges(scope),
+            Key::Version => &[VERSIONS],
             Key::Name => &[NAME_LENGTH],
             Key::Cells => &[CELLS, CELLS],
             Key::Steps => &[STEPS],
             Key::Courant => &[COURANT, COURANT, DENOMINATOR],
             Key::Sides => &[SIDE, SIDE, SIDE, SIDE],
-            Key::MaxLevel => level_ranges(scope),
+            Key::MaxLevel => &[LEVELS],
             Key::Tag => &[THRESHOLD],
             Key::NErrorBuf => &[GROWTH],
             Key::Efficiency => &[EFFICIENCY],
@@ -164,23 +149,5 @@ impl Key {
             Key::ShearY => &[COURANT],
             Key::Blocking => &[BLOCKING],
         }
-    }
-}
-
-fn version_ranges(scope: Scope) -> &'static [Range]
-    ensures { result.now ≡ ranges_of scope Key.Version }
-{
-    match scope {
-        Scope::OneLevel | Scope::FirstVersion => &[ONE],
-        Scope::Whole => &[VERSIONS],
-    }
-}
-
-fn level_ranges(scope: Scope) -> &'static [Range]
-    ensures { result.now ≡ ranges_of scope Key.MaxLevel }
-{
-    match scope {
-        Scope::OneLevel => &[LEVEL_0],
-        Scope::FirstVersion | Scope::Whole => &[LEVELS],
     }
 }

@@ -10,13 +10,12 @@ ghost use Rattle.amr_problem.specs.Entries.{IsSide, IsClean, HasShears};
 use crate::checks::is_periodic;
 use crate::entries::Entries;
 use crate::key::Key;
-use crate::scope::Scope;
 use amr_def::{Block, Blocks, Name, Problem, Shear, Sides, Thresholds};
 use std::alloc::{AllocError, Global};
 
 /// The problem that entries without a fault are.
-pub fn problem(alloc: Global, scope: Scope, entries: Entries) -> Result<Problem, AllocError>
-    requires clean { IsClean scope entries }
+pub fn problem(alloc: Global, entries: Entries) -> Result<Problem, AllocError>
+    requires clean { IsClean entries }
     requires shears { HasShears entries.basics.nx entries.basics.ny entries.overlay }
     ensures { IfOk result (IsOfEntries entries) }
 {
@@ -119,7 +118,7 @@ fn numerator(number: i64) -> i32
 }
 
 fn blocks(alloc: Global, rows: &[[i64; 5]]) -> Result<Vec<Block>, AllocError>
-    requires { list_all (λ row. is_none (first_outside (ranges_of Scope.Whole Key.Blocks) row)) rows.now ≡ true }
+    requires { list_all (λ row. is_none (first_outside (ranges_of Key.Blocks) row)) rows.now ≡ true }
     ensures { IfOk result (λ blocks. map block_numbers blocks.items ≡ rows.now) }
 {
     let mut blocks = Vec::new(alloc);
@@ -130,7 +129,7 @@ fn blocks(alloc: Global, rows: &[[i64; 5]]) -> Result<Vec<Block>, AllocError>
 }
 
 fn block_of(row: &[i64; 5]) -> Block
-    requires { first_outside (ranges_of Scope.Whole Key.Blocks) row.now ≡ None }
+    requires { first_outside (ranges_of Key.Blocks) row.now ≡ None }
     ensures { block_numbers result ≡ row.now }
 {
     let [x0, y0, x1, y1, mass] = *row;
@@ -138,7 +137,7 @@ fn block_of(row: &[i64; 5]) -> Block
 }
 
 fn block(x0: i64, y0: i64, x1: i64, y1: i64, mass: i64) -> Block
-    requires { first_outside (ranges_of Scope.Whole Key.Blocks) (x0 ∷ y0 ∷ x1 ∷ y1 ∷ mass ∷ []) ≡ None }
+    requires { first_outside (ranges_of Key.Blocks) (x0 ∷ y0 ∷ x1 ∷ y1 ∷ mass ∷ []) ≡ None }
     ensures { block_numbers result ≡ x0 ∷ y0 ∷ x1 ∷ y1 ∷ mass ∷ [] }
 {
     Block {

@@ -12,61 +12,59 @@ use crate::fault::ProblemFault;
 use crate::key::Key;
 use crate::limits::{COURANT, THRESHOLD};
 use crate::range::{first_beyond, first_outside};
-use crate::scope::Scope;
 
 /// The greatest number of blocks.
 pub const MOST_BLOCKS: usize = 256;
 
 /// The first number, in the order of the keys, that is out of its range.
-pub fn out_of_range(scope: Scope, entries: &Entries) -> Option<ProblemFault>
-    ensures first { result ≡ range_fault scope entries.now }
-    ensures in_range { result ≡ None → IsInRange scope entries.now }
+pub fn out_of_range(entries: &Entries) -> Option<ProblemFault>
+    ensures first { result ≡ range_fault entries.now }
+    ensures in_range { result ≡ None → IsInRange entries.now }
 {
-    basics(scope, &entries.basics)
-        .or(refining(scope, &entries.refining))
-        .or(overlay(scope, &entries.overlay))
+    basics(&entries.basics)
+        .or(refining(&entries.refining))
+        .or(overlay(&entries.overlay))
 }
 
-fn basics(scope: Scope, basics: &Basics) -> Option<ProblemFault>
-    ensures { result ≡ basics_outside scope basics.now }
+fn basics(basics: &Basics) -> Option<ProblemFault>
+    ensures { result ≡ basics_outside basics.now }
 {
-    numbers(scope, Key::Version, &[basics.version])
-        .or(name(scope, basics.name.as_slice()))
-        .or(numbers(scope, Key::Cells, &[basics.nx, basics.ny]))
-        .or(numbers(scope, Key::Steps, &[basics.steps]))
-        .or(numbers(scope, Key::Courant, &[basics.cx, basics.cy, basics.d]))
+    numbers(Key::Version, &[basics.version])
+        .or(name(basics.name.as_slice()))
+        .or(numbers(Key::Cells, &[basics.nx, basics.ny]))
+        .or(numbers(Key::Steps, &[basics.steps]))
+        .or(numbers(Key::Courant, &[basics.cx, basics.cy, basics.d]))
         .or(numbers(
-            scope,
             Key::Sides,
             &[basics.x_low, basics.x_high, basics.y_low, basics.y_high],
         ))
-        .or(numbers(scope, Key::MaxLevel, &[basics.max_level]))
+        .or(numbers(Key::MaxLevel, &[basics.max_level]))
 }
 
-fn refining(scope: Scope, refining: &Refining) -> Option<ProblemFault>
-    ensures { result ≡ refining_outside scope refining.now }
+fn refining(refining: &Refining) -> Option<ProblemFault>
+    ensures { result ≡ refining_outside refining.now }
 {
     tag(refining.tag.as_slice())
-        .or(numbers(scope, Key::NErrorBuf, &[refining.n_error_buf]))
-        .or(numbers(scope, Key::Efficiency, &[refining.efficiency]))
-        .or(numbers(scope, Key::MinWidth, &[refining.min_width]))
-        .or(numbers(scope, Key::RegridInt, &[refining.regrid_int]))
-        .or(numbers(scope, Key::MaxGridSize, &[refining.max_grid_size]))
+        .or(numbers(Key::NErrorBuf, &[refining.n_error_buf]))
+        .or(numbers(Key::Efficiency, &[refining.efficiency]))
+        .or(numbers(Key::MinWidth, &[refining.min_width]))
+        .or(numbers(Key::RegridInt, &[refining.regrid_int]))
+        .or(numbers(Key::MaxGridSize, &[refining.max_grid_size]))
 }
 
-fn overlay(scope: Scope, overlay: &Overlay) -> Option<ProblemFault>
-    ensures { result ≡ overlay_outside scope overlay.now }
+fn overlay(overlay: &Overlay) -> Option<ProblemFault>
+    ensures { result ≡ overlay_outside overlay.now }
 {
-    blocks(scope, overlay.blocks.as_slice())
+    blocks(overlay.blocks.as_slice())
         .or(shear(Key::ShearX, overlay.shear_x.as_slice()))
         .or(shear(Key::ShearY, overlay.shear_y.as_slice()))
-        .or(numbers(scope, Key::Blocking, &[overlay.blocking]))
+        .or(numbers(Key::Blocking, &[overlay.blocking]))
 }
 
-fn numbers(scope: Scope, key: Key, numbers: &[i64]) -> Option<ProblemFault>
-    ensures { result ≡ numbers_outside scope key numbers.now }
+fn numbers(key: Key, numbers: &[i64]) -> Option<ProblemFault>
+    ensures { result ≡ numbers_outside key numbers.now }
 {
-    match first_outside(key.ranges(scope), numbers) {
+    match first_outside(key.ranges(), numbers) {
         Some(number) => Some(ProblemFault::OutOfRange(key, number)),
         None => None,
     }
@@ -90,11 +88,11 @@ fn shear(key: Key, numbers: &[i64]) -> Option<ProblemFault>
     }
 }
 
-fn name(scope: Scope, bytes: &[u8]) -> Option<ProblemFault>
+fn name(bytes: &[u8]) -> Option<ProblemFault>
     ensures { result ≡ option_map (ProblemFault.OutOfRange Key.Name) (text_outside (range (pos 1) (pos 32)) bytes.now) }
 {
     let length = bytes.len() as i64;
-    let fits = first_outside(Key::Name.ranges(scope), &[length]).is_none();
+    let fits = first_outside(Key::Name.ranges(), &[length]).is_none();
     if fits && is_name(bytes) {
         None
     } else {
@@ -114,13 +112,13 @@ fn is_name_byte(byte: u8) -> bool
     byte.is_ascii_lowercase() || byte.is_ascii_digit() || byte == b'-' || byte == b'_'
 }
 
-fn blocks(scope: Scope, rows: &[[i64; 5]]) -> Option<ProblemFault>
-    ensures { result ≡ option_map (ProblemFault.OutOfRange Key.Blocks) (rows_outside 256 (ranges_of scope Key.Blocks) rows.now) }
+fn blocks(rows: &[[i64; 5]]) -> Option<ProblemFault>
+    ensures { result ≡ option_map (ProblemFault.OutOfRange Key.Blocks) (rows_outside 256 (ranges_of Key.Blocks) rows.now) }
 {
     let outside = if rows.len() > MOST_BLOCKS {
         Some(rows.len() as i64)
     } else {
-        first_row_outside(scope, rows)
+        first_row_outside(rows)
     };
     match outside {
         Some(number) => Some(ProblemFault::OutOfRange(Key::Blocks, number)),
@@ -128,11 +126,11 @@ fn blocks(scope: Scope, rows: &[[i64; 5]]) -> Option<ProblemFault>
     }
 }
 
-fn first_row_outside(scope: Scope, rows: &[[i64; 5]]) -> Option<i64>
-    ensures { result ≡ first_some (map (first_outside (ranges_of scope Key.Blocks)) rows.now) }
+fn first_row_outside(rows: &[[i64; 5]]) -> Option<i64>
+    ensures { result ≡ first_some (map (first_outside (ranges_of Key.Blocks)) rows.now) }
 {
     for row in rows {
-        if let Some(number) = first_outside(Key::Blocks.ranges(scope), row) {
+        if let Some(number) = first_outside(Key::Blocks.ranges(), row) {
             return Some(number);
         }
     }

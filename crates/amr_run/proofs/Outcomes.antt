@@ -21,7 +21,7 @@ use Rattle.amr_problem.specs.Judgement.{fault_of, IsProblemOf}
 use Rattle.amr_problem.proofs.PlainLaws.{too_many_bytes}
 use Rattle.amr_drive.specs.Regrids.{RunHoldsTags, StartHoldsTags}
 use Rattle.amr_cli.specs.declared.command.Command.{Command}
-use Rattle.amr_run.specs.Answer.{program_scope, IsAnswer, IsLineOfProblem, IsPlotOfRun}
+use Rattle.amr_run.specs.Answer.{IsAnswer, IsLineOfProblem, IsPlotOfRun}
 use Rattle.amr_run.specs.Outcome.{Outcome, Replies, status_of}
 use Rattle.amr_run.specs.Reading.{Reads, Refuses}
 use Rattle.amr_run.specs.Refusals.{read_refused, judge_refused}
@@ -50,11 +50,11 @@ pub reading_refused : (old new : Option (List ℕ)) (e : ReadAll) → (e ≡ rea
 reading_refused old new reading.TooLong long =
     let taken = long refl in
     let front = front_taken old new taken.0 taken.1 in
-    (front.0, front.1, too_many_bytes program_scope front.0 (omega (arith, taken.2, front.2)))
+    (front.0, front.1, too_many_bytes front.0 (omega (arith, taken.2, front.2)))
 reading_refused old new reading.ReadFault long = let left = were_left old in (left.0, left.1, tt)
 reading_refused old new reading.NoMemory long = let left = were_left old in (left.0, left.1, tt)
 
-pub judging_refused : (bytes : List ℕ) (e : JudgeFault) → ((f : ProblemFault) → e ≡ judging.Fault f → fault_of program_scope bytes ≡ Some f) → Refuses (judge_refused e) bytes
+pub judging_refused : (bytes : List ℕ) (e : JudgeFault) → ((f : ProblemFault) → e ≡ judging.Fault f → fault_of bytes ≡ Some f) → Refuses (judge_refused e) bytes
 judging_refused bytes (judging.Fault f) fault = fault f refl
 judging_refused bytes judging.NoMemory fault = tt
 
@@ -95,12 +95,12 @@ unfolding run
 run_is p = refl
 
 -- the plot of the last state, made from the first one
-pub is_plot_of_run : (bytes : List ℕ) (p : Problem) (first last : State) → IsProblemOf program_scope bytes p → first ≡ start p → last ≡ finish p first p.steps → IsSound p last → StartHoldsTags p → RunHoldsTags p first p.steps → IsPlotOfRun bytes (plot p last)
+pub is_plot_of_run : (bytes : List ℕ) (p : Problem) (first last : State) → IsProblemOf bytes p → first ≡ start p → last ≡ finish p first p.steps → IsSound p last → StartHoldsTags p → RunHoldsTags p first p.steps → IsPlotOfRun bytes (plot p last)
 is_plot_of_run bytes p first last accepted starts ends sound start_held held =
     let is : last ≡ run p p.steps = ends ∙ ap (λ (s : State). finish p s p.steps) starts ∙ run_is p in
     record { problem = p; accepted = accepted; text = ap (λ (s : State). plot p s) is; sound = subst (λ (s : State). IsSound p s) is sound; start_held = start_held; held = subst (λ (s : State). RunHoldsTags p s p.steps) starts held }
 
-pub is_line_of_problem : (bytes : List ℕ) (p : Problem) → IsProblemOf program_scope bytes p → IsLineOfProblem bytes (problem_line p)
+pub is_line_of_problem : (bytes : List ℕ) (p : Problem) → IsProblemOf bytes p → IsLineOfProblem bytes (problem_line p)
 is_line_of_problem bytes p accepted = record { problem = p; accepted = accepted; text = refl }
 
 -- ---- the line on the stream of errors

@@ -2,7 +2,7 @@
 use Rattle.std.specs.Prelude.{ℕ, ◌≡◌, List, [], Option, None, Some, Result, Ok, Err}
 use Rattle.amr_io.specs.Short.{IsProperPrefix}
 use Rattle.amr_problem.specs.Judgement.{fault_of}
-use Rattle.amr_run.specs.Answer.{program_scope, IsAnswer}
+use Rattle.amr_run.specs.Answer.{IsAnswer}
 use Rattle.amr_cli.specs.declared.command.Command.{Command}
 use Rattle.amr_run.specs.declared.status.Status.{Status}
 use Rattle.amr_run.specs.declared.status.Status.TheVariants.{Done, Usage, ReadFault, Problem, WriteFault, NoMemory}
@@ -16,7 +16,7 @@ status_of (Err status) = status
 -- fault in writing, and else nothing. A problem is refused exactly by its fault, and a command is never refused as none.
 abbrev pub Replies : Status → (List ℕ → Type 0) → List ℕ → List ℕ → Type 0
 Replies Done answers bytes out = answers out
-Replies (Problem fault) answers bytes out = (fault_of program_scope bytes ≡ Some fault) × (out ≡ [])
+Replies (Problem fault) answers bytes out = (fault_of bytes ≡ Some fault) × (out ≡ [])
 Replies WriteFault answers bytes out = (whole : List ℕ) × answers whole × IsProperPrefix out whole
 Replies ReadFault answers bytes out = out ≡ []
 Replies NoMemory answers bytes out = out ≡ []

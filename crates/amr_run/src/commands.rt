@@ -16,16 +16,13 @@ use amr_def::Problem;
 use amr_drive::{Nothing, drive, start};
 use amr_io::{Fragment, Sink, Source, WriteFault, read_all};
 use amr_plot::plot;
-use amr_problem::{Scope, judge};
+use amr_problem::judge;
 use amr_workers::Gate;
 use std::alloc::Global;
 use std::thread::Threads;
 
 /// The most bytes that a problem has.
 const MOST_BYTES: usize = 65536;
-
-/// How much of the format of problems is taken.
-const SCOPE: Scope = Scope::Whole;
 
 /// Who makes the steps of a run: so many workers on threads of a runtime, each of whom calls a gate around each task.
 #[derive(Clone, Copy)]
@@ -105,7 +102,7 @@ fn read_problem<S: Source>(alloc: Global, src: &mut S) -> Result<Problem, Status
     ensures no_read_fault { result ≢ Err Status.ReadFault → S.faults src.new ≡ S.faults src.old }
 {
     let bytes = read_all(alloc, src, MOST_BYTES)?;
-    let problem = judge(alloc, SCOPE, &bytes)?;
+    let problem = judge(alloc, &bytes)?;
     Ok(problem)
 }
 

@@ -8,13 +8,11 @@ use Rattle.amr_def.specs.declared.problem.Block.{Block}
 use Rattle.amr_problem.specs.declared.fault.ProblemFault.{ProblemFault}
 use Rattle.amr_problem.specs.declared.fault.ProblemFault.TheVariants.{OutOfRange}
 use Rattle.amr_problem.specs.declared.key.Key.TheVariants.{Version, Name, Cells, Courant, Sides, MaxLevel, Tag, Blocks, Blocking}
-use Rattle.amr_problem.specs.declared.scope.Scope.{Scope}
-use Rattle.amr_problem.specs.declared.scope.Scope.TheVariants.{OneLevel, FirstVersion, Whole}
 use Rattle.amr_problem.specs.Document as bytes
 use Rattle.amr_problem.specs.Faults.{too_long, not_toml, over_by, sides_differ, tag_count, block_outside, blocking_misfit, courant_fault, fault_in, first_some, is_inside, key_outside, missing_key, out_of_range, unknown_key, wrong_kind}
 use Rattle.amr_problem.specs.Fields.{block_numbers}
 use Rattle.amr_problem.specs.Judgement.{fault_of}
-use Rattle.amr_problem.specs.Keys.{keys, coordinate, first_outside, greatest_level, holds, range}
+use Rattle.amr_problem.specs.Keys.{keys, coordinate, first_outside, holds, range}
 use Rattle.amr_problem.specs.Values.{integers_at, is_there, number_at, numbers_at, rows_at, shear_at, text_at}
 use Rattle.amr_trial.specs.Document.{document, trial_name}
 use Rattle.amr_trial.specs.Laws.{LiesInside}
@@ -41,9 +39,9 @@ within low high n least most = grind (arith, nat_tests)
 
 -- ---- the keys
 
-unknown : (scope : Scope) (number size : ℕ) → unknown_key scope (document number size) ≡ None
+unknown : (number size : ℕ) → unknown_key (document number size) ≡ None
 unfolding document number_at
-unknown scope number size = refl
+unknown number size = refl
 
 missing : (number size : ℕ) → missing_key (document number size) ≡ None
 unfolding document is_there
@@ -55,35 +53,31 @@ wrong number size = refl
 
 -- ---- numbers in their ranges
 
-version_fits : (scope : Scope) (number size : ℕ) → key_outside scope (document number size) Version ≡ None
+version_fits : (number size : ℕ) → key_outside (document number size) Version ≡ None
 unfolding document number_at
-version_fits OneLevel number size = refl
-version_fits FirstVersion number size = refl
-version_fits Whole number size = refl
+version_fits number size = refl
 
-levels_fit : (scope : Scope) (number size : ℕ) → 2 ≤ greatest_level scope → key_outside scope (document number size) MaxLevel ≡ None
+levels_fit : (number size : ℕ) → key_outside (document number size) MaxLevel ≡ None
 unfolding document number_at
-levels_fit OneLevel number size three = absurd (omega (arith, three))
-levels_fit FirstVersion number size three = refl
-levels_fit Whole number size three = refl
+levels_fit number size = refl
 
-name_fits : (scope : Scope) (number size : ℕ) → number < 2 ^ 32 → IsSize size → key_outside scope (document number size) Name ≡ None
+name_fits : (number size : ℕ) → number < 2 ^ 32 → IsSize size → key_outside (document number size) Name ≡ None
 unfolding document text_at
-name_fits scope number size small is =
+name_fits number size small is =
     let bytes = trial_name_bytes number size (omega (arith, small)) (omega (arith, is.greatest)) in
     let long = within 1 32 (length (trial_name number size)) (omega arith) (omega (arith, name_short number size small is)) in
     rw (long, bytes) refl
 
-cells_fit : (scope : Scope) (number size : ℕ) → IsSize size → key_outside scope (document number size) Cells ≡ None
+cells_fit : (number size : ℕ) → IsSize size → key_outside (document number size) Cells ≡ None
 unfolding document numbers_at
-cells_fit scope number size is = rw (within 2 256 size (omega (arith, is.least)) is.greatest) refl
+cells_fit number size is = rw (within 2 256 size (omega (arith, is.least)) is.greatest) refl
 
 small_number : (n : ℕ) → n ≤ 1024 → holds (range (negsuc 1023) (pos 1024)) (pos n) ≡ true
 small_number n most = grind (arith, nat_tests)
 
-courant_fits : (scope : Scope) (number size : ℕ) → key_outside scope (document number size) Courant ≡ None
+courant_fits : (number size : ℕ) → key_outside (document number size) Courant ≡ None
 unfolding document numbers_at
-courant_fits scope number size =
+courant_fits number size =
     let few = courant_below number in
     rw (small_number (courant_x number) (omega (arith, few.0)), small_number (courant_y number) (omega (arith, few.1))) refl
 
@@ -100,31 +94,31 @@ all_none_of : {A : Type 0} {B : Type 0} (f : A → Option B) (xs : List A) → (
 all_none_of f [] h = tt
 all_none_of f (x ∷ xs) h = (h x, all_none_of f xs h)
 
-blocks_fit : (scope : Scope) (number size : ℕ) → IsSize size → key_outside scope (document number size) Blocks ≡ None
+blocks_fit : (number size : ℕ) → IsSize size → key_outside (document number size) Blocks ≡ None
 unfolding document rows_at
-blocks_fit scope number size is =
+blocks_fit number size is =
     let each : (k : ℕ) → first_outside (coordinate ∷ coordinate ∷ coordinate ∷ coordinate ∷ range (pos 0) (pos 1073741824) ∷ []) (block_numbers (block number size k)) ≡ None = λ k. block_fits size (block number size k) is.greatest (blocks_inside number size k is) in
     let none = none_first (map (λ k. first_outside (coordinate ∷ coordinate ∷ coordinate ∷ coordinate ∷ range (pos 0) (pos 1073741824) ∷ []) (block_numbers (block number size k))) (range_with_len 0 8)) (all_none_of _ (range_with_len 0 8) each) in
     ap (option_map (λ z. OutOfRange Blocks z)) none
 
-ranges_fit : (scope : Scope) (number size : ℕ) → 2 ≤ greatest_level scope → number < 2 ^ 32 → IsSize size → out_of_range scope (document number size) ≡ None
+ranges_fit : (number size : ℕ) → number < 2 ^ 32 → IsSize size → out_of_range (document number size) ≡ None
 unfolding document number_at numbers_at integers_at shear_at
-ranges_fit scope number size three small is =
+ranges_fit number size small is =
     let t = document number size in
-    let are : AllNone (map (key_outside scope t) keys) = (
-      version_fits scope number size,
+    let are : AllNone (map (key_outside t) keys) = (
+      version_fits number size,
       (
-        name_fits scope number size small is,
+        name_fits number size small is,
         (
-          cells_fit scope number size is,
+          cells_fit number size is,
           (
             refl,
             (
-              courant_fits scope number size,
+              courant_fits number size,
               (
                 refl,
                 (
-                  levels_fit scope number size three,
+                  levels_fit number size,
                   (
                     refl,
                     (
@@ -137,7 +131,7 @@ ranges_fit scope number size three small is =
                             refl,
                             (
                               refl,
-                              (blocks_fit scope number size is, (refl, (refl, (refl, tt)))),
+                              (blocks_fit number size is, (refl, (refl, (refl, tt)))),
                             ),
                           ),
                         ),
@@ -151,7 +145,7 @@ ranges_fit scope number size three small is =
         ),
       ),
     ) in
-    none_first (map (key_outside scope t) keys) are
+    none_first (map (key_outside t) keys) are
 
 -- ---- what the numbers say together
 
@@ -197,18 +191,18 @@ blocking_clean number size =
 
 -- ---- the judgement
 
-table_clean : (scope : Scope) (number size : ℕ) → 2 ≤ greatest_level scope → number < 2 ^ 32 → IsSize size → fault_in scope (document number size) ≡ None
-table_clean scope number size three small is =
+table_clean : (number size : ℕ) → number < 2 ^ 32 → IsSize size → fault_in (document number size) ≡ None
+table_clean number size small is =
     let t = document number size in
     let cells = numbers_at 2 t Cells in
-    let faults : List (Option ProblemFault) = unknown_key scope t ∷ missing_key t ∷ wrong_kind t ∷ out_of_range scope t ∷ courant_fault t
+    let faults : List (Option ProblemFault) = unknown_key t ∷ missing_key t ∷ wrong_kind t ∷ out_of_range t ∷ courant_fault t
     ∷ option_and_then sides_differ (numbers_at 4 t Sides)
     ∷ option_and_then (λ cells. option_and_then (block_outside cells) (rows_at 5 t Blocks)) cells
     ∷ option_and_then (λ levels. option_and_then (tag_count levels) (integers_at t Tag)) (number_at t MaxLevel)
     ∷ option_and_then (λ cells. option_and_then (blocking_misfit cells) (number_at t Blocking)) cells ∷ [] in
     let are : AllNone faults = (
-      unknown scope number size,
-      (missing number size, (wrong number size, (ranges_fit scope number size three small is, (courant_clean number size, (sides_clean number size, (blocks_clean number size is, (tags_clean number size, (blocking_clean number size, tt)))))))),
+      unknown number size,
+      (missing number size, (wrong number size, (ranges_fit number size small is, (courant_clean number size, (sides_clean number size, (blocks_clean number size is, (tags_clean number size, (blocking_clean number size, tt)))))))),
     ) in
     none_first faults are
 
@@ -227,13 +221,13 @@ not_too_long number size small is = rw (short_enough number size small is) refl
 is_toml : (number size : ℕ) → number < 2 ^ 32 → IsSize size → not_toml (text number size) ≡ None
 is_toml number size small is = rw (is_document number size small is) refl
 
-no_fault_in_it : (scope : Scope) (number size : ℕ) → 2 ≤ greatest_level scope → number < 2 ^ 32 → IsSize size → fault_in scope (bytes.table_of (text number size)) ≡ None
-no_fault_in_it scope number size three small is = ap (λ o. fault_in scope (unwrap_or o no_members)) (is_document number size small is) ∙ table_clean scope number size three small is
+no_fault_in_it : (number size : ℕ) → number < 2 ^ 32 → IsSize size → fault_in (bytes.table_of (text number size)) ≡ None
+no_fault_in_it number size small is = ap (λ o. fault_in (unwrap_or o no_members)) (is_document number size small is) ∙ table_clean number size small is
 
-pub no_fault : (scope : Scope) (number size : ℕ) → 2 ≤ greatest_level scope → number < 2 ^ 32 → IsSize size → fault_of scope (text number size) ≡ None
+pub no_fault : (number size : ℕ) → number < 2 ^ 32 → IsSize size → fault_of (text number size) ≡ None
 unfolding fault_of
-no_fault scope number size three small is =
+no_fault number size small is =
     let t = text number size in
-    let faults : List (Option ProblemFault) = too_long t ∷ not_toml t ∷ fault_in scope (bytes.table_of t) ∷ [] in
-    let are : AllNone faults = (not_too_long number size small is, (is_toml number size small is, (no_fault_in_it scope number size three small is, tt))) in
+    let faults : List (Option ProblemFault) = too_long t ∷ not_toml t ∷ fault_in (bytes.table_of t) ∷ [] in
+    let are : AllNone faults = (not_too_long number size small is, (is_toml number size small is, (no_fault_in_it number size small is, tt))) in
     none_first faults are

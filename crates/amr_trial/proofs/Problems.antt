@@ -6,11 +6,8 @@ use Rattle.amr_def.specs.declared.problem.Problem.{Problem}
 use Rattle.amr_def.specs.declared.problem.Block.{Block}
 use Rattle.amr_def.specs.declared.problem.Sides.TheVariants.{Periodic, Open}
 use Rattle.amr_def.specs.Limits.{Limits, is_block}
-use Rattle.amr_problem.specs.declared.scope.Scope.{Scope}
-use Rattle.amr_problem.specs.declared.scope.Scope.TheVariants.{OneLevel, FirstVersion, Whole}
 use Rattle.amr_problem.specs.Document.{table_of}
 use Rattle.amr_problem.specs.Judgement.{HasKeys}
-use Rattle.amr_problem.specs.Keys.{greatest_version}
 use Rattle.amr_problem.specs.Values.{integers_at, number_at, numbers_at, rows_at, shear_at, text_at}
 use Rattle.amr_trial.specs.Document.{document, trial_name}
 use Rattle.amr_trial.specs.Laws.{LiesInside, TextsAreAccepted}
@@ -138,22 +135,16 @@ has_keys number size limits = record {
   blocking = refl;
 }
 
-first_version : (scope : Scope) → 1 ≤ greatest_version scope
-first_version OneLevel = omega arith
-first_version FirstVersion = omega arith
-first_version Whole = omega arith
-
 is_table : (number size : ℕ) → number < 2 ^ 32 → IsSize size → table_of (text number size) ≡ document number size
 is_table number size small is = rw (is_document number size small is) refl
 
 pub texts_are_accepted : TextsAreAccepted
-texts_are_accepted scope number size three small is =
+texts_are_accepted number size small is =
     let p : Problem = problem number size (limits number size small is) in
     let keys : HasKeys (table_of (text number size)) p = subst (λ (t : Members). HasKeys t p) (sym (is_table number size small is)) (has_keys number size (limits number size small is)) in (
       p,
       record {
-        clean = no_fault scope number size three small is;
+        clean = no_fault number size small is;
         keys = keys;
-        in_scope = record { last_version = first_version scope; last_level = three };
       },
     )

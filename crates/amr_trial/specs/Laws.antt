@@ -3,9 +3,7 @@ use Rattle.std.specs.Prelude.{◌≡◌, ℕ, ◌+◌, ◌^◌, ◌<◌, ◌≤�
 use Rattle.std.specs.Str.{is_utf8}
 use Rattle.amr_def.specs.declared.problem.Problem.{Problem}
 use Rattle.amr_def.specs.declared.problem.Block.{Block}
-use Rattle.amr_problem.specs.declared.scope.Scope.{Scope}
 use Rattle.amr_problem.specs.Judgement.{IsProblemOf}
-use Rattle.amr_problem.specs.Keys.{greatest_level}
 use Rattle.toml.specs.Parse.{parse_document}
 use Rattle.amr_trial.specs.Document.{document}
 use Rattle.amr_trial.specs.Trial.{IsSize, block, courant_x, courant_y, text}
@@ -35,6 +33,6 @@ TextsAreUtf8 = (number size : ℕ) → number < 2 ^ 32 → IsSize size → is_ut
 abbrev pub TextsAreShort : Type 0
 TextsAreShort = (number size : ℕ) → number < 2 ^ 32 → IsSize size → length (text number size) ≤ 512
 
--- The judgement accepts the text of a trial wherever it takes three levels: the text has no fault, and is a problem.
+-- The judgement accepts the text of a trial: the text has no fault, and is a problem.
 abbrev pub TextsAreAccepted : Type 0
-TextsAreAccepted = (scope : Scope) (number size : ℕ) → 2 ≤ greatest_level scope → number < 2 ^ 32 → IsSize size → (p : Problem) × IsProblemOf scope (text number size) p
+TextsAreAccepted = (number size : ℕ) → number < 2 ^ 32 → IsSize size → (p : Problem) × IsProblemOf (text number size) p

@@ -34,7 +34,7 @@ pub fn texts_are_documents()
     ensures short { TextsAreShort }
 {}
 
-/// The judgement accepts the text of a trial as a problem, wherever it takes three levels.
+/// The judgement accepts the text of a trial as a problem.
 pub fn texts_are_accepted()
     ensures { TextsAreAccepted }
 {}

@@ -2,7 +2,6 @@
 
 use super::{MOST_BYTES, judge};
 use crate::fault::{JudgeFault, ProblemFault};
-use crate::scope::Scope;
 use amr_def::Sides;
 use std::alloc::Global;
 use std::fmt::Write as _;
@@ -18,8 +17,7 @@ max_level = 0
 blocks = [[0, 0, 0, 0, 8]]
 ";
 
-/// Lines for the ring, each in the place of the one with its key (a key alone takes its line away), the verdict where the whole
-/// format is taken, and the verdict where one level is taken, if that is another.
+/// Lines for the ring, each in the place of the one with its key (a key alone takes its line away), and the verdict.
 const TABLE: &str = "version|Missing(Version)
 name|Missing(Name)
 cells|Missing(Cells)
@@ -52,7 +50,7 @@ blocks = [0, 0, 0, 0, 8]|WrongKind(Blocks)
 blocks = [[0, 0, 0, 0]]|WrongKind(Blocks)
 blocks = [[0, 0, 0, 0, true]]|WrongKind(Blocks)
 version = 0|OutOfRange(Version, 0)
-version = 2|accepted|OutOfRange(Version, 2)
+version = 2|accepted
 version = 3|OutOfRange(Version, 3)
 name = \"\"|OutOfRange(Name, 0)
 name = \"r\"|accepted
@@ -85,8 +83,8 @@ sides = [0, 1073741825, -1, -1]|OutOfRange(Sides, 1073741825)
 sides = [0, 1073741824, -1, -1]|accepted
 sides = [-1, -1, 1073741824, 0]|accepted
 max_level = -1|OutOfRange(MaxLevel, -1)
-max_level = 1;tag = [1]|accepted|OutOfRange(MaxLevel, 1)
-max_level = 4;tag = [1, 1, 1, 1073741824]|accepted|OutOfRange(MaxLevel, 4)
+max_level = 1;tag = [1]|accepted
+max_level = 4;tag = [1, 1, 1, 1073741824]|accepted
 cells = [2, 2];steps = 0;courant = [0, 0, 1];max_level = 5;tag = [1, 1]|OutOfRange(MaxLevel, 5)
 n_error_buf = 9;tag = [1, 0]|OutOfRange(Tag, 0)
 tag = [1073741825]|OutOfRange(Tag, 1073741825)
@@ -122,7 +120,7 @@ blocks = [[0, 1, 0, 0, 8]]|BlockOutside(0)
 blocks = [[0, 0, 4, 0, 8]]|BlockOutside(0)
 blocks = [[0, 0, 0, 0, 8], [0, 0, 0, 2, 8]]|BlockOutside(1)
 tag = [4]|TagCount(1, 0)
-max_level = 2;tag = [4]|TagCount(1, 2)|OutOfRange(MaxLevel, 2)
+max_level = 2;tag = [4]|TagCount(1, 2)
 version =|NotToml
 version = 1;version = 1|NotToml
 version;vers = 1|UnknownKey(vers)
@@ -132,33 +130,33 @@ shear_y = [1, 1, 1, 1]|UnknownKey(shear_y)
 version;blocking = 2|UnknownKey(blocking)
 version = 3;blocking = 2|UnknownKey(blocking)
 version = 2.0;blocking = 2|UnknownKey(blocking)
-version = 2;shear_x = []|WrongKind(ShearX)|UnknownKey(shear_x)
-version = 2;shear_x = [1, 1]|accepted|UnknownKey(shear_x)
-version = 2;shear_x = [1, 1, 1, 1]|WrongKind(ShearX)|UnknownKey(shear_x)
-version = 2;shear_x = 1|WrongKind(ShearX)|UnknownKey(shear_x)
-version = 2;shear_x = [1, 1.0]|WrongKind(ShearX)|UnknownKey(shear_x)
-version = 2;shear_y = [1, 1, 1, 1]|accepted|UnknownKey(shear_y)
-version = 2;shear_y = [1, 1]|WrongKind(ShearY)|UnknownKey(shear_y)
-version = 2;cells = [4, 1];shear_x = [1]|OutOfRange(Cells, 1)|UnknownKey(shear_x)
-version = 2;cells = [4, 2.0];shear_x = [1]|WrongKind(Cells)|UnknownKey(shear_x)
-version = 2;shear_x = [1024, -1025]|OutOfRange(ShearX, -1025)|UnknownKey(shear_x)
-version = 2;shear_y = [0, 0, 0, 1025]|OutOfRange(ShearY, 1025)|UnknownKey(shear_y)
-version = 2;blocking = [2]|WrongKind(Blocking)|UnknownKey(blocking)
-version = 2;blocking = 1|OutOfRange(Blocking, 1)|UnknownKey(blocking)
-version = 2;blocking = 2;cells = [3, 3];blocks = []|accepted|UnknownKey(blocking)
-version = 2;blocking = 4|accepted|UnknownKey(blocking)
-version = 2;blocking = 6|OutOfRange(Blocking, 6)|UnknownKey(blocking)
-version = 2;blocking = 8;cells = [8, 4]|accepted|UnknownKey(blocking)
-version = 2;blocking = 16|OutOfRange(Blocking, 16)|UnknownKey(blocking)
-version = 2;blocking = 8;tag = [1]|TagCount(1, 0)|UnknownKey(blocking)
-version = 2;blocking = 8|Blocking(Y, 8)|UnknownKey(blocking)
-version = 2;blocking = 4;cells = [3, 2]|Blocking(X, 4)|UnknownKey(blocking)
-version = 2;blocking = 4;cells = [3, 3]|Blocking(X, 4)|UnknownKey(blocking)
-version = 2;courant = [0, 0, 2];shear_x = [1, -1]|accepted|UnknownKey(shear_x)
-version = 2;courant = [0, 0, 2];shear_x = [1, -3]|Courant(3, 2)|UnknownKey(shear_x)
-version = 2;shear_x = [1, -4]|Courant(5, 4)|UnknownKey(shear_x)
-version = 2;shear_y = [0, -4, 1, 0]|Courant(5, 4)|UnknownKey(shear_y)
-version = 2;courant = [9, 9, 4];shear_x = [1, 2];shear_y = [2, 1, 0, -2]|accepted|UnknownKey(shear_x)";
+version = 2;shear_x = []|WrongKind(ShearX)
+version = 2;shear_x = [1, 1]|accepted
+version = 2;shear_x = [1, 1, 1, 1]|WrongKind(ShearX)
+version = 2;shear_x = 1|WrongKind(ShearX)
+version = 2;shear_x = [1, 1.0]|WrongKind(ShearX)
+version = 2;shear_y = [1, 1, 1, 1]|accepted
+version = 2;shear_y = [1, 1]|WrongKind(ShearY)
+version = 2;cells = [4, 1];shear_x = [1]|OutOfRange(Cells, 1)
+version = 2;cells = [4, 2.0];shear_x = [1]|WrongKind(Cells)
+version = 2;shear_x = [1024, -1025]|OutOfRange(ShearX, -1025)
+version = 2;shear_y = [0, 0, 0, 1025]|OutOfRange(ShearY, 1025)
+version = 2;blocking = [2]|WrongKind(Blocking)
+version = 2;blocking = 1|OutOfRange(Blocking, 1)
+version = 2;blocking = 2;cells = [3, 3];blocks = []|accepted
+version = 2;blocking = 4|accepted
+version = 2;blocking = 6|OutOfRange(Blocking, 6)
+version = 2;blocking = 8;cells = [8, 4]|accepted
+version = 2;blocking = 16|OutOfRange(Blocking, 16)
+version = 2;blocking = 8;tag = [1]|TagCount(1, 0)
+version = 2;blocking = 8|Blocking(Y, 8)
+version = 2;blocking = 4;cells = [3, 2]|Blocking(X, 4)
+version = 2;blocking = 4;cells = [3, 3]|Blocking(X, 4)
+version = 2;courant = [0, 0, 2];shear_x = [1, -1]|accepted
+version = 2;courant = [0, 0, 2];shear_x = [1, -3]|Courant(3, 2)
+version = 2;shear_x = [1, -4]|Courant(5, 4)
+version = 2;shear_y = [0, -4, 1, 0]|Courant(5, 4)
+version = 2;courant = [9, 9, 4];shear_x = [1, 2];shear_y = [2, 1, 0, -2]|accepted";
 
 fn key_of(line: &str) -> &str {
     line.split(' ').next().unwrap_or("")
@@ -185,8 +183,8 @@ fn ring_with(alloc: Global, lines: &str) -> Result<String, Fail> {
 }
 
 /// The fault of bytes; `accepted` where they have none.
-fn verdict(alloc: Global, scope: Scope, bytes: &[u8]) -> Result<String, Fail> {
-    match judge(alloc, scope, bytes) {
+fn verdict(alloc: Global, bytes: &[u8]) -> Result<String, Fail> {
+    match judge(alloc, bytes) {
         Ok(_) => Ok(String::from_str(alloc, "accepted")?),
         Err(JudgeFault::Fault(ProblemFault::UnknownKey(key))) => {
             Ok(format!(in alloc; "UnknownKey({})", key.text())?)
@@ -200,14 +198,10 @@ fn verdict(alloc: Global, scope: Scope, bytes: &[u8]) -> Result<String, Fail> {
 fn each_fault_comes_where_it_applies(rt: HostRuntime) -> Result<(), Fail> {
     let alloc = rt.alloc();
     for row in TABLE.lines() {
-        let mut parts = row.split('|');
-        let text = ring_with(alloc, parts.next().unwrap_or(""))?;
-        let whole = parts.next().unwrap_or("");
-        let one_level = parts.next().unwrap_or(whole);
-        let told = verdict(alloc, Scope::Whole, text.as_bytes())?;
-        assert_eq!(rt; told.as_str(), whole, "{text}");
-        let told = verdict(alloc, Scope::OneLevel, text.as_bytes())?;
-        assert_eq!(rt; told.as_str(), one_level, "{text}");
+        let (lines, want) = row.split_once('|').unwrap_or((row, ""));
+        let text = ring_with(alloc, lines)?;
+        let told = verdict(alloc, text.as_bytes())?;
+        assert_eq!(rt; told.as_str(), want, "{text}");
     }
     Ok(())
 }
@@ -216,8 +210,7 @@ fn each_fault_comes_where_it_applies(rt: HostRuntime) -> Result<(), Fail> {
 #[test]
 fn long_texts(rt: HostRuntime) -> Result<(), Fail> {
     let alloc = rt.alloc();
-    let scope = Scope::OneLevel;
-    assert_eq!(rt; verdict(alloc, scope, b"\xff")?.as_str(), "NotToml");
+    assert_eq!(rt; verdict(alloc, b"\xff")?.as_str(), "NotToml");
     let mut text = ring_with(alloc, "blocks")?;
     text.push_str("blocks = [")?;
     for _ in 0..256 {
@@ -225,19 +218,16 @@ fn long_texts(rt: HostRuntime) -> Result<(), Fail> {
     }
     let rows = format!(in alloc; "{text}[0, 0, 0, 0, 1]]")?;
     assert_eq!(rt;
-        verdict(alloc, scope, rows.as_bytes())?.as_str(),
+        verdict(alloc, rows.as_bytes())?.as_str(),
         "OutOfRange(Blocks, 257)"
     );
     text.push_str("]\n#")?;
     for _ in text.len()..MOST_BYTES {
         text.push('x')?;
     }
-    assert_eq!(rt;
-        verdict(alloc, scope, text.as_bytes())?.as_str(),
-        "accepted"
-    );
+    assert_eq!(rt; verdict(alloc, text.as_bytes())?.as_str(), "accepted");
     text.push('x')?;
-    assert_eq!(rt; verdict(alloc, scope, text.as_bytes())?.as_str(), "TooLong");
+    assert_eq!(rt; verdict(alloc, text.as_bytes())?.as_str(), "TooLong");
     Ok(())
 }
 
@@ -249,7 +239,7 @@ fn fields_stand(rt: HostRuntime) -> Result<(), Fail> {
         alloc,
         "version = 2;name = \"wind\";courant = [9, -9, 4];sides = [6, 1073741824, 1, 2];max_level = 1;tag = [7];shear_x = [1, -2];shear_y = [2, 1, 0, -2];blocking = 4;max_grid_size = 6",
     )?;
-    let wind = judge(alloc, Scope::Whole, text.as_bytes()).expect(&rt, "the wind");
+    let wind = judge(alloc, text.as_bytes()).expect(&rt, "the wind");
     assert_eq!(rt; (wind.version, wind.nx, wind.ny, wind.steps), (2, 4, 2, 1));
     assert_eq!(rt; wind.name.bytes(), b"wind".as_slice());
     assert_eq!(rt; (wind.cx, wind.cy, wind.d), (9, -9, 4));
@@ -265,7 +255,7 @@ fn fields_stand(rt: HostRuntime) -> Result<(), Fail> {
     );
     assert_eq!(rt; wind.tag.entries(), [7].as_slice());
     assert_eq!(rt; wind.blocks.entries().len(), 1);
-    let ring = judge(alloc, Scope::OneLevel, RING.as_bytes()).expect(&rt, "the ring");
+    let ring = judge(alloc, RING.as_bytes()).expect(&rt, "the ring");
     assert_eq!(rt;
         (ring.n_error_buf, ring.efficiency, ring.min_width),
         (1, 70, 2)

@@ -17,11 +17,11 @@ IfOk-map (Err e) p f = tt
 pub of_entries-requires : goal.of_entries-requires
 of_entries-requires c = has_shears (table_view c.args.table.now) c.in_ok-read.field-0 c.in_ok-read.ensures.read
 
-same : (c : goal.After-of_entries) → fault_in c.args.scope (table_view c.args.table.now) ≡ entry_fault c.args.scope c.in_ok-read.field-0
+same : (c : goal.After-of_entries) → fault_in (table_view c.args.table.now) ≡ entry_fault c.in_ok-read.field-0
 same c =
-    let absent : option_or (unknown_key c.args.scope (table_view c.args.table.now)) (missing_key (table_view c.args.table.now)) ≡ None =
+    let absent : option_or (unknown_key (table_view c.args.table.now)) (missing_key (table_view c.args.table.now)) ≡ None =
     sym c.in_ok-fault.ensures ∙ c.in_default.is in
-    fault_in-entries c.args.scope (table_view c.args.table.now) c.in_ok-read.field-0 absent c.in_ok-read.ensures.kinds c.in_ok-read.ensures.read
+    fault_in-entries (table_view c.args.table.now) c.in_ok-read.field-0 absent c.in_ok-read.ensures.kinds c.in_ok-read.ensures.read
 
 pub returns-clause-clean : goal.returns-clause-clean
 returns-clause-clean c = IfOk-from_OnOk c.of_entries.result c.of_entries.ensures.clean (λ none. same c ∙ none)

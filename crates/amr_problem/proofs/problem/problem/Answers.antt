@@ -3,12 +3,12 @@ use Rattle.std.proofs.lemmas.Int.{ints, to_z-of_z}
 use Rattle.amr_problem.specs.Keys.{blocking_factor}
 use Rattle.amr_problem.proofs.RangeLaws.{holds-IsIn}
 use Rattle.amr_problem.specs.Fields.{AreValues}
-use Rattle.amr_problem.proofs.ProblemLaws.{greatest_of, has_limits, level_of}
+use Rattle.amr_problem.proofs.ProblemLaws.{has_limits}
 use Rattle.amr_problem.proofs.problem.problem.Goals as goal
 use Rattle.amr_problem.proofs.problem.problem.Goals.{After-make-5}
 
 pub small-requires-clause-greatest : goal.small-requires-clause-greatest
-small-requires-clause-greatest c = rw (to_z-of_z w64 c.args.entries.basics.version (search rules)) (omega (arith, ints, c.requires.clean.in_range.basics.greatest_version, greatest_of c.args.scope))
+small-requires-clause-greatest c = rw (to_z-of_z w64 c.args.entries.basics.version (search rules)) (omega (arith, ints, c.requires.clean.in_range.basics.greatest_version))
 
 pub small-requires-4-clause-greatest : goal.small-requires-4-clause-greatest
 small-requires-4-clause-greatest c = rw (to_z-of_z w64 c.args.entries.basics.steps (search rules)) (omega (arith, ints, c.requires.clean.in_range.basics.greatest_steps))
@@ -20,7 +20,7 @@ pub small-requires-5-clause-greatest : goal.small-requires-5-clause-greatest
 small-requires-5-clause-greatest c = rw (to_z-of_z w64 c.args.entries.basics.d (search rules)) (omega (arith, ints, c.requires.clean.in_range.basics.greatest_d))
 
 pub small-requires-6-clause-greatest : goal.small-requires-6-clause-greatest
-small-requires-6-clause-greatest c = rw (to_z-of_z w64 c.args.entries.basics.max_level (search rules)) (omega (arith, ints, c.requires.clean.in_range.basics.greatest_max_level, level_of c.args.scope))
+small-requires-6-clause-greatest c = rw (to_z-of_z w64 c.args.entries.basics.max_level (search rules)) (omega (arith, ints, c.requires.clean.in_range.basics.greatest_max_level))
 
 pub small-requires-7-clause-greatest : goal.small-requires-7-clause-greatest
 small-requires-7-clause-greatest c = rw (to_z-of_z w64 c.args.entries.refining.n_error_buf (search rules)) (omega (arith, ints, c.requires.clean.in_range.refining.greatest_n_error_buf))
@@ -95,7 +95,7 @@ values c =
 
 pub invariant_of-result : goal.invariant_of-result
 invariant_of-result c =
-    rw (to_z-of_z w32 c.signed.result (search rules), to_z-of_z w32 c.signed-2.result (search rules)) (record { limits = has_limits c.args.scope c.args.entries c.requires.clean c.requires.shears (values c) })
+    rw (to_z-of_z w32 c.signed.result (search rules), to_z-of_z w32 c.signed-2.result (search rules)) (record { limits = has_limits c.args.entries c.requires.clean c.requires.shears (values c) })
 
 pub returns : goal.returns
 returns c = rw (to_z-of_z w32 c.signed.result (search rules), to_z-of_z w32 c.signed-2.result (search rules)) (values (goal.at.returns c).After-make-5)

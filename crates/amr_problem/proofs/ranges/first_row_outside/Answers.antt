@@ -11,5 +11,5 @@ returns-in-Some c =
     let i = c.loop-row.row-index in
     let z = c.in-Some.number in
     let fits : SFits w64 z = search rules in
-    let here : first_outside (ranges_of c.args.scope Blocks) (get_or rows i []) ≡ Some z = sym (rw c.ranges-in-loop-row.ensures at c.in-Some.ensures) in
-    rw (to_z-of_z w64 z fits) (sym (c.loop-row.invariant ∙ first_some-at (first_outside (ranges_of c.args.scope Blocks)) rows i [] z c.loop-row-test.true here))
+    let here : first_outside (ranges_of Blocks) (get_or rows i []) ≡ Some z = sym (rw c.ranges-in-loop-row.ensures at c.in-Some.ensures) in
+    rw (to_z-of_z w64 z fits) (sym (c.loop-row.invariant ∙ first_some-at (first_outside (ranges_of Blocks)) rows i [] z c.loop-row-test.true here))

@@ -6,4 +6,4 @@ use Rattle.amr_problem.proofs.ranges.first_row_outside.Given as goal
 
 abbrev pub invariant-loop-row : goal.invariant-loop-row
 invariant-loop-row l =
-    first_some (map (first_outside (ranges_of l.scope Blocks)) l.rows) ≡ first_some (map (first_outside (ranges_of l.scope Blocks)) (drop l.row-index l.rows))
+    first_some (map (first_outside (ranges_of Blocks)) l.rows) ≡ first_some (map (first_outside (ranges_of Blocks)) (drop l.row-index l.rows))

@@ -11,9 +11,8 @@ pub returns : goal.returns
 unfolding overlay_outside
 returns c =
     let o = c.args.overlay.now in
-    let s = c.args.scope in
-    let blocks : c.blocks-2.result ≡ option_map (OutOfRange Blocks) (rows_outside 256 (ranges_of s Blocks) o.blocks.items) = rw (← c.as_slice.ensures.value) c.blocks-2.ensures in
+    let blocks : c.blocks-2.result ≡ option_map (OutOfRange Blocks) (rows_outside 256 (ranges_of Blocks) o.blocks.items) = rw (← c.as_slice.ensures.value) c.blocks-2.ensures in
     let shear_x : c.shear.result ≡ option_map (OutOfRange ShearX) (first_beyond courant_number o.shear_x.items) = rw (← c.as_slice-2.ensures.value) c.shear.ensures in
     let shear_y : c.shear-2.result ≡ option_map (OutOfRange ShearY) (first_beyond courant_number o.shear_y.items) = rw (← c.as_slice-3.ensures.value) c.shear-2.ensures in
-    let blocking : c.numbers.result ≡ numbers_outside s Blocking (o.blocking ∷ []) = rw (to_z-of_z w64 o.blocking (search rules)) at c.numbers.ensures in
+    let blocking : c.numbers.result ≡ numbers_outside Blocking (o.blocking ∷ []) = rw (to_z-of_z w64 o.blocking (search rules)) at c.numbers.ensures in
     rw (c.or-3.ensures, c.or-2.ensures, c.or.ensures, blocks, shear_x, shear_y, blocking)
