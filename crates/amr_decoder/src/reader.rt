@@ -1,4 +1,4 @@
-//! The bytes of a payload, read number by number.
+//! The bytes of a payload, read number by number, and masses in a run.
 
 ghost use Rattle.std.specs.Prelude.{◌≡◌, ℕ, ◌+◌, ◌*◌, ◌<◌, ◌≤◌, length, drop};
 ghost use Rattle.std.specs.Int.{w32, w64, byte_len, from_le_bytes};
@@ -177,9 +177,21 @@ impl<'a> Reader<'a> {
         Ok(long_at(self.bytes, at))
     }
 
+    /// A mass.
+    pub fn read_mass(&mut self, width: MassWidth) -> Result<u64, CodecFault>
+        ensures read { IfOk result (λ n. read_number (width_of width) (left_of self.old) ≡ read n (left_of self.new)) }
+        ensures bad { IfErr result (IsFaultOf (read_number (width_of width) (left_of self.old))) }
+        ensures whole { whole_of self.new ≡ whole_of self.old }
+    {
+        match width {
+            MassWidth::Four => Ok(u64::from(self.read_u32()?)),
+            MassWidth::Eight => self.read_u64(),
+        }
+    }
+
     /// Passes over masses in one run over their bytes: `count` of them, or as many as come before the first that doesn't lie
     /// wholly inside the bytes or is greater than `greatest`. Says how many they are.
-    pub fn pass_masses(&mut self, width: MassWidth, count: u64, greatest: u64) -> u64
+    pub(crate) fn pass_masses(&mut self, width: MassWidth, count: u64, greatest: u64) -> u64
         ensures left { left_of self.new ≡ after (byte_len (width_of width) * result) (left_of self.old) }
         ensures most { result ≤ count }
         ensures inside { byte_len (width_of width) * result ≤ length (left_of self.old).bytes }
