@@ -9,5 +9,7 @@ mod boxes;
 mod levels;
 mod masses;
 mod regrids;
+#[cfg(test)]
+mod tests;
 
 pub use regrids::regrid;

@@ -1,7 +1,8 @@
 -- Masses of boxes, filled a cell and a box at a time.
-use Rattle.std.proofs.Common.{◌≡◌, ◌≢◌, ℕ, zero, suc, ◌+◌, ◌-◌, ◌<◌, Bool, true, false, ◌||◌, cond, refl, sym, ap, ◌∙◌, arith, List, [], ◌∷◌, length, take, get_or, map, slice_index_or}
+use Rattle.std.proofs.Common.{◌≡◌, ◌≢◌, ℕ, zero, suc, ◌+◌, ◌-◌, ◌<◌, Bool, true, false, ◌||◌, cond, is_some, refl, sym, ap, ◌∙◌, arith, List, [], ◌∷◌, length, take, get_or, map, slice_index_or}
 use Rattle.std.specs.declared.option.Option.{Option}
-use Rattle.std.specs.declared.option.Option.TheVariants.{Some}
+use Rattle.std.specs.declared.option.Option.TheVariants.{None, Some}
+use Rattle.std.specs.Option.{unwrap_or}
 use Rattle.std.specs.List.{list_any}
 use Rattle.std.specs.Ordering.{eq_by_cmp}
 use Rattle.std.proofs.lemmas.List.Folds.{list_any_more}
@@ -39,6 +40,13 @@ cell_more f before next next' cs i d w inside left put value q =
     (λ e.
     put q ∙ ap (λ (b : Bool). cond b (Some w) (next q)) e ∙ left q
     ∙ box_more (among q (take i cs)) false (among q (take (i + 1) cs)) (Some (f q)) (before q) (more ∙ ap (λ (b : Bool). among q (take i cs) || b) (other k q e)))
+
+-- a mass that is there exactly where a test holds
+pub given_there : (o : Option ℕ) (t : Bool) → is_some o ≡ t → cond t (Some (unwrap_or o 0)) None ≡ o
+given_there (Some m) true e = refl
+given_there (Some m) false e = cc
+given_there None true e = cc
+given_there None false e = refl
 
 -- ---- a level of a list
 

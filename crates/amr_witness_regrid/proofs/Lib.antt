@@ -5,3 +5,4 @@ pub mod Filled
 pub mod BlockPlaces
 pub mod Marks
 pub mod Regridded
+mod SameLists

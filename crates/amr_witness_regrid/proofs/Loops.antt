@@ -1,7 +1,7 @@
--- Loops that look for an element which passes a test, over a list that is another.
-use Rattle.std.proofs.Common.{◌≡◌, ℕ, ◌+◌, ◌<◌, ◌≤◌, Bool, true, false, ◌&&◌, ◌||◌, refl, sym, ap, ◌∙◌, List, length, take, get_or}
+-- Loops that look for an element which passes a test, over a list that is another; and those that copy a list.
+use Rattle.std.proofs.Common.{◌≡◌, ℕ, ◌+◌, ◌<◌, ◌≤◌, Bool, true, false, ◌&&◌, ◌||◌, refl, sym, ap, ◌∙◌, List, [], ◌∷◌, ◌++◌, length, take, get_or}
 use Rattle.std.specs.List.{list_any}
-use Rattle.std.proofs.lemmas.List.{take_all}
+use Rattle.std.proofs.lemmas.List.{take_all, take_more}
 use Rattle.std.proofs.lemmas.List.Folds.{list_any_at, list_any_more}
 
 pub found : {X : Type 0} (g : X → Bool) (xs ys : List X) (i : ℕ) (d : X) → xs ≡ ys → i < length xs → g (get_or xs i d) ≡ true → true ≡ list_any g ys
@@ -25,3 +25,6 @@ fails s t e = sym (ap (λ (b : Bool). b && t) e)
 
 pub passes : (s t : Bool) → s ≡ true → t ≡ (s && t)
 passes s t e = sym (ap (λ (b : Bool). b && t) e)
+
+pub taken_more : {X : Type 0} (xs ys : List X) (k : ℕ) (x d : X) → ys ≡ take k xs → k < length xs → x ≡ get_or xs k d → ys ++ x ∷ [] ≡ take (k + 1) xs
+taken_more xs ys k x d so_far inside is = (λ t. so_far t ++ is t ∷ []) ∙ sym (take_more xs k d inside)

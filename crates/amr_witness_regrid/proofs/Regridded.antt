@@ -1,21 +1,23 @@
 -- The parts of a regrid, a level at a time.
-use Rattle.std.proofs.Common.{◌≡◌, ℕ, zero, suc, ◌<◌, refl, sym, ap, subst, ◌∙◌, arith, List, [], ◌∷◌, length}
+use Rattle.std.proofs.Common.{◌≡◌, ℕ, zero, suc, ◌<◌, ◌≤◌, refl, sym, ap, subst, ◌∙◌, arith, List, [], ◌∷◌, length, slice_index_or}
 use Rattle.std.specs.List.{All, AllZip}
 use Rattle.std.specs.Map.{lookup}
+use Rattle.std.proofs.lemmas.List.{get_or_default}
 use Rattle.std.specs.BTreeMap.{BTreeMap, IsClone, is_at}
 use Rattle.amr_box.specs.declared.Cell.{Cell}
 use Rattle.amr_box.specs.Cells.{cell_cmp, Extent, IsNear}
 use Rattle.amr_def.specs.declared.problem.Problem.{Problem}
-use Rattle.amr_def.specs.State.{Level, Masses, State}
+use Rattle.amr_def.specs.State.{Level, Masses, State, level_at, no_level}
 use Rattle.amr_def.specs.Facts.{IsSound}
 use Rattle.amr_def.proofs.Nesting.{in_domain-inside}
 use Rattle.amr_def.specs.Regrid.{first_masses, refill, refilled, regridded_levels, rest_of}
+use Rattle.amr_laws.proofs.NearBoxes.{boxes_near}
 use Rattle.amr_witness.specs.declared.PlainLevel.{PlainLevel}
 use Rattle.std.specs.Global.{Vec}
 use Rattle.amr_witness.specs.Maps.{levels_of, masses_of}
 pub use Rattle.amr_regrid.proofs.Refilling.{boxes_more, items_empty, items_some, nil_of, no_boxes, refill_empty, refill_none, regrid_is}
 use Rattle.amr_regrid.proofs.Refilling.{refill_more}
-use Rattle.amr_witness_regrid.specs.Places.{AreInside}
+use Rattle.amr_witness_regrid.specs.Places.{AreInside, HasBoxes}
 use Rattle.amr_witness_regrid.specs.Wanted.{lists_in}
 
 -- ---- levels
@@ -69,6 +71,13 @@ sound_inside p s sound = record {
         record { west = inside.west; south = inside.south; east = inside.east; north = inside.north };
   };
 }
+
+pub sound_boxes : (p : Problem) (s : State) → IsSound p s → All HasBoxes s.levels
+sound_boxes p s sound = λ l d h.
+    let known : l ≤ 4 = omega (arith, h, sound.few_levels, p.limits.greatest_max_level) in
+    let level = sound.nested.each l h in
+    let same : level_at s l ≡ slice_index_or s.levels l d = get_or_default s.levels l no_level d h in
+    subst HasBoxes same (record { near = λ j b fits. (boxes_near p l (level_at s l) known level j b fits).near; at = level.filled })
 
 -- ---- empty lists
 

@@ -1,11 +1,11 @@
 -- Where cells and boxes lie, as private calls need it.
 use Rattle.std.specs.Prelude.{◌≡◌, ℕ, ◌<◌, true, pos, neg_ℤ, ◌+ℤ◌, ◌≤ℤ◌, List, length, map, slice_index_or, is_some}
-use Rattle.std.specs.List.{range_with_len}
+use Rattle.std.specs.List.{All, range_with_len}
 use Rattle.amr_box.specs.declared.Cell.{Cell}
-use Rattle.amr_box.specs.Cells.{cell, Extent, width}
+use Rattle.amr_box.specs.Cells.{cell, Extent, IsNear, width}
 use Rattle.amr_def.specs.declared.problem.Problem.{Problem}
 use Rattle.amr_def.specs.Domain.{square}
-use Rattle.amr_def.specs.State.{Masses, Level, no_level}
+use Rattle.amr_def.specs.State.{Masses, Level, in_boxes, no_level}
 use Rattle.amr_witness.specs.Parts.{IsInDomain}
 use Rattle.amr_witness_regrid.specs.declared.cells.Offsets.{Offsets}
 
@@ -34,3 +34,8 @@ pub record AreInside (p : Problem) (ks : List Level) : Type 0 where
 pub record AreOffsets (p : Problem) (o : Offsets) : Type 0 where
   pub buffer : o.buffer.items ≡ square p.n_error_buf
   pub ring : o.ring.items ≡ square 1
+
+-- the masses of a level are those of its boxes' cells, and its boxes lie near 0
+pub record HasBoxes (k : Level) : Type 0 where
+  pub near : All IsNear k.boxes
+  pub at : (c : Cell) → is_some (k.masses c) ≡ in_boxes k.boxes c

@@ -3,12 +3,18 @@
 //! calls it.
 #![tactic(auto)]
 
+mod both;
 mod cells;
 mod masses;
+mod mesh;
 mod regrid;
+mod same;
 mod tagged;
 #[cfg(test)]
 mod tests;
 mod wanted;
 
+pub use both::regrid_both;
+pub use mesh::plain_of;
 pub use regrid::slow_regrid;
+pub use same::are_same;

@@ -1,22 +1,18 @@
-//! Worked regrids, and a step on three levels.
-ghost use Rattle.std.specs.Prelude.{◌≡◌, ◌≤◌, true, length, [], ◌∷◌, IfOk, pos};
+//! Worked regrids, and a step on three levels. A mesh is regridded to the same states.
+ghost use Rattle.std.specs.Prelude.{◌≡◌, ◌≤◌, true, length, IfOk};
 ghost use Rattle.std.specs.List.{list_all};
-ghost use Rattle.amr_box.specs.Cells.{holds, within};
-ghost use Rattle.amr_def.specs.Domain.{domain, domain_box};
 ghost use Rattle.amr_def.specs.Facts.{IsSound};
 ghost use Rattle.amr_def.specs.Limits.{between, greatest_given, is_block};
-ghost use Rattle.amr_def.specs.Run.{base_level, block_extent, block_mass, plain_start};
 ghost use Rattle.amr_witness.specs.Maps.{state_of};
-ghost use Rattle.amr_witness.specs.Ready.{HasMasses};
 
 use super::*;
-use crate::cells::cells_of;
-use amr_box::{Bx, Cell};
+use amr_box::Cell;
 use amr_causes::NoMemory;
 use amr_def::{Block, Blocks, Name, Problem, Row, Shear, Sides, Thresholds};
-use amr_witness::{Masses, Plain, PlainLevel, slow_step, total_mass};
+use amr_start::base;
+use amr_witness::{Plain, slow_step};
 use std::alloc::Global;
-use std::collections::BTreeMap;
+use std::process::Abort;
 
 /// A periodic problem of `nx` by 2 cells and one block, with Courant number 1/2 on the x axis. It may have
 /// a finer level for each threshold.
@@ -34,8 +30,7 @@ fn problem(
     requires some_efficiency { 1 ≤ efficiency }
     requires most_efficiency { efficiency ≤ 100 }
     requires block { is_block nx 2 block ≡ true }
-    ensures steps { IfOk result (λ p. p.steps ≡ 1) }
-    ensures blocks { IfOk result (λ p. p.blocks ≡ block ∷ []) }
+    ensures { IfOk result (λ p. p.steps ≡ 1) }
 {
     Ok(Problem {
         version: 1,
@@ -62,83 +57,16 @@ fn problem(
     })
 }
 
-/// The box of the domain of level 0.
-fn whole(p: &Problem) -> Bx
-    ensures { result ≡ domain_box (domain p.now 0) }
-{
-    let low = Cell { x: 0, y: 0 };
-    let high = Cell {
-        x: p.nx as i32 - 1,
-        y: p.ny as i32 - 1,
-    };
-    Bx::try_new(low, high).unwrap()
-}
-
-fn is_between(low: u32, high: u32, z: i32) -> bool
-    ensures { result ≡ within (pos low) (pos high) z }
-{
-    low as i64 <= z as i64 && z as i64 <= high as i64
-}
-
-fn is_in_block(b: Block, c: Cell) -> bool
-    ensures { result ≡ holds (block_extent b) c }
-{
-    is_between(b.x0, b.x1, c.x) && is_between(b.y0, b.y1, c.y)
-}
-
-/// The mass that a block gives to a cell.
-fn block_mass(b: Block, c: Cell) -> u64
-    ensures { result ≡ block_mass (b ∷ []) c }
-{
-    if is_in_block(b, c) { b.mass } else { 0 }
-}
-
-/// The masses of level 0 at the start.
-fn base_masses(alloc: Global, p: &Problem, b: Block) -> Result<Masses, NoMemory>
-    requires { p.now.blocks ≡ b ∷ [] }
-    ensures { IfOk result (λ m. HasMasses m (base_level p.now).masses) }
-{
-    let mut masses = BTreeMap::new(alloc);
-    let cells = cells_of(alloc, &whole(p))?;
-    for c in cells.as_slice() {
-        masses.insert(*c, block_mass(b, *c))?;
-    }
-    Ok(masses)
-}
-
-/// Level 0 alone at the start.
-fn plain_start(alloc: Global, p: &Problem, b: Block) -> Result<Plain, NoMemory>
-    requires { p.now.blocks ≡ b ∷ [] }
-    ensures { IfOk result (λ s. state_of s ≡ plain_start p.now) }
-{
-    let masses = base_masses(alloc, p, b)?;
-    let row = Row {
-        mass: total_mass(p, &masses),
-        inflow: 0,
-        outflow: 0,
-    };
-    let rows = Vec::from_slice(alloc, [row].as_slice())?;
-    let boxes = Vec::from_slice(alloc, [whole(p)].as_slice())?;
-    let mut levels = Vec::new(alloc);
-    levels.push(PlainLevel { boxes, masses })?;
-    Ok(Plain {
-        step: 0,
-        rows,
-        levels,
-    })
-}
-
-/// The start, regridded once for each level that the problem may have above level 0.
-fn start(alloc: Global, p: &Problem, b: Block) -> Result<Plain, NoMemory>
-    requires { p.now.blocks ≡ b ∷ [] }
+/// The start, regridded once for each level that the problem may have above level 0, as a mesh and as ordered maps.
+fn start(rt: &impl Abort, alloc: Global, p: &Problem) -> Result<Plain, NoMemory>
     ensures sound { IfOk result (λ s. IsSound p.now (state_of s)) }
     ensures step { IfOk result (λ s. s.step ≡ 0) }
 {
-    let mut s = plain_start(alloc, p, b)?;
+    let mut mesh = base(alloc, p)?;
     for _ in 0..p.max_level {
-        s = slow_regrid(alloc, p, &s)?;
+        assert!(rt; regrid_both(alloc, p, &mut mesh)?);
     }
-    Ok(s)
+    plain_of(alloc, p, &mesh)
 }
 
 /// The corners of the boxes of a level.
@@ -167,7 +95,12 @@ fn row(alloc: Global, s: &Plain, l: usize, y: i32, n: u32) -> Result<Vec<u64>, N
 }
 
 /// A ring of 2 by 2 cells with `mass` in column 0, refined everywhere, and what a step leaves of it.
-fn refined_and_stepped(alloc: Global, tag: &[u64], mass: u64) -> Result<(Plain, Plain), NoMemory>
+fn refined_and_stepped(
+    rt: &impl Abort,
+    alloc: Global,
+    tag: &[u64],
+    mass: u64,
+) -> Result<(Plain, Plain), NoMemory>
     requires few_levels { length tag.now ≤ 4 }
     requires thresholds { list_all (between 1 greatest_given) tag.now ≡ true }
     requires small { mass ≤ 64 }
@@ -180,13 +113,13 @@ fn refined_and_stepped(alloc: Global, tag: &[u64], mass: u64) -> Result<(Plain, 
         mass,
     };
     let p = problem(alloc, 2, tag, 70, b)?;
-    let s = start(alloc, &p, b)?;
+    let s = start(rt, alloc, &p)?;
     let next = slow_step(alloc, &p, &s)?;
     Ok((s, next))
 }
 
 /// A ring of 4 by 2 cells with mass 7 in cell (1, 0), regridded.
-fn odd_mass(alloc: Global, efficiency: u32) -> Result<Plain, NoMemory>
+fn odd_mass(rt: &impl Abort, alloc: Global, efficiency: u32) -> Result<Plain, NoMemory>
     requires some { 1 ≤ efficiency }
     requires most { efficiency ≤ 100 }
 {
@@ -198,13 +131,13 @@ fn odd_mass(alloc: Global, efficiency: u32) -> Result<Plain, NoMemory>
         mass: 7,
     };
     let p = problem(alloc, 4, [4].as_slice(), efficiency, b)?;
-    start(alloc, &p, b)
+    start(rt, alloc, &p)
 }
 
 #[test]
 fn three_boxes_over_an_odd_mass(rt: HostRuntime) -> Result<(), NoMemory> {
     let a = rt.alloc();
-    let s = odd_mass(a, 100)?;
+    let s = odd_mass(&rt, a, 100)?;
     let boxes = corners(a, &s, 1)?;
     assert_eq!(rt;
         boxes.as_slice(),
@@ -233,7 +166,7 @@ fn three_boxes_over_an_odd_mass(rt: HostRuntime) -> Result<(), NoMemory> {
 #[test]
 fn one_box_over_an_odd_mass(rt: HostRuntime) -> Result<(), NoMemory> {
     let a = rt.alloc();
-    let s = odd_mass(a, 60)?;
+    let s = odd_mass(&rt, a, 60)?;
     assert_eq!(rt; corners(a, &s, 1)?.as_slice(), [[0, 0, 5, 3]].as_slice());
     Ok(())
 }
@@ -241,7 +174,7 @@ fn one_box_over_an_odd_mass(rt: HostRuntime) -> Result<(), NoMemory> {
 #[test]
 fn two_levels_step(rt: HostRuntime) -> Result<(), NoMemory> {
     let a = rt.alloc();
-    let (s, next) = refined_and_stepped(a, [1].as_slice(), 8)?;
+    let (s, next) = refined_and_stepped(&rt, a, [1].as_slice(), 8)?;
     assert_eq!(rt; corners(a, &s, 1)?.as_slice(), [[0, 0, 3, 3]].as_slice());
     for y in 0..2 {
         assert_eq!(rt; row(a, &next, 0, y, 3)?.as_slice(), [4, 4, 99].as_slice());
@@ -266,7 +199,7 @@ fn two_levels_step(rt: HostRuntime) -> Result<(), NoMemory> {
 #[test]
 fn three_levels_step(rt: HostRuntime) -> Result<(), NoMemory> {
     let a = rt.alloc();
-    let (s, next) = refined_and_stepped(a, [1, 1].as_slice(), 64)?;
+    let (s, next) = refined_and_stepped(&rt, a, [1, 1].as_slice(), 64)?;
     assert_eq!(rt; s.levels.len(), 3);
     assert_eq!(rt; corners(a, &s, 1)?.as_slice(), [[0, 0, 3, 3]].as_slice());
     assert_eq!(rt; corners(a, &s, 2)?.as_slice(), [[0, 0, 7, 7]].as_slice());
