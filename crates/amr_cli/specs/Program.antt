@@ -2,13 +2,22 @@
 use Rattle.std.specs.Prelude.{true, Some, fold, map, codes}
 use Rattle.clap.specs.Words.{App, Rule, new_app, new_rule, with_rule, with_subcommand}
 use Rattle.clap.specs.declared.builder.value_parser.ValueParser.TheVariants as parser
-use Rattle.amr_cli.specs.Table.{OptionRow, CommandRow, commands}
+use Rattle.amr_cli.specs.Table.{NumberRow, CommandRow, commands}
 
-abbrev pub option_rule : OptionRow → Rule
+-- a number that has to stand in its place
+abbrev pub place_rule : NumberRow → Rule
+place_rule row = record (new_rule row.name) { required = true; parser = Some (parser.Unsigned row.low row.high) }
+
+-- a number that may be given by name
+abbrev pub option_rule : NumberRow → Rule
 option_rule row = record (new_rule row.name) { long = Some row.name; parser = Some (parser.Unsigned row.low row.high) }
 
+-- the command before it has options
+abbrev pub placed_app : CommandRow → App
+placed_app row = fold with_rule (new_app row.name) (map place_rule row.places)
+
 abbrev pub command_app : CommandRow → App
-command_app row = fold with_rule (new_app row.name) (map option_rule row.options)
+command_app row = fold with_rule (placed_app row) (map option_rule row.options)
 
 -- the program before it has commands: all words are arguments, and one of them has to name a command
 abbrev pub bare_app : App

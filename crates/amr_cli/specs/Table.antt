@@ -1,23 +1,38 @@
 -- The command set, as a table. (profile)
 use Rattle.std.specs.Prelude.{ℕ, List, [], ◌∷◌, codes}
 
--- a number that a command takes as an option, `--NAME N` or `--NAME=N`, from `low` to `high`
-pub record OptionRow : Type 0 where
+-- a number that a command takes, from `low` to `high`, with its name
+pub record NumberRow : Type 0 where
   pub name : List ℕ
   pub low : ℕ
   pub high : ℕ
 
--- a command with its options
+-- a command with its numbers: those that have to stand in their places, in order, and those that may be given by name, as
+-- `--NAME N` or `--NAME=N`
 pub record CommandRow : Type 0 where
   pub name : List ℕ
-  pub options : List OptionRow
+  pub places : List NumberRow
+  pub options : List NumberRow
 
 -- how many workers share a step
-abbrev pub workers : OptionRow
+abbrev pub workers : NumberRow
 workers = record { name = codes "workers"; low = 1; high = 64 }
+
+-- the step that a run stops at
+abbrev pub to : NumberRow
+to = record { name = codes "to"; low = 0; high = 4096 }
+
+-- where a trial's draws begin
+abbrev pub number : NumberRow
+number = record { name = codes "number"; low = 0; high = 4294967295 }
+
+-- a trial's cells along each axis
+abbrev pub size : NumberRow
+size = record { name = codes "size"; low = 8; high = 256 }
 
 abbrev pub commands : List CommandRow
 commands =
-    record { name = codes "run"; options = workers ∷ [] }
-    ∷ record { name = codes "check"; options = [] }
+    record { name = codes "run"; places = []; options = workers ∷ to ∷ [] }
+    ∷ record { name = codes "check"; places = []; options = [] }
+    ∷ record { name = codes "trial"; places = number ∷ size ∷ []; options = workers ∷ [] }
     ∷ []

@@ -1,13 +1,13 @@
 -- The command that the words are. (profile)
-use Rattle.std.specs.Prelude.{ℕ, ◌≤◌, Bool, ◌&&◌, ◌||◌, ◌==◌, not, List, [], ◌∷◌, length, Option, Some, None, codes, if◌then◌else◌, option_and_then, option_map}
+use Rattle.std.specs.Prelude.{ℕ, ◌≤◌, ◌<◌, ◌^◌, IfSome, Bool, ◌&&◌, ◌||◌, ◌==◌, not, List, [], ◌∷◌, length, Option, Some, None, codes, if◌then◌else◌, option_and_then, option_map}
 use Rattle.std.specs.List.{list_any}
 use Rattle.std.specs.Str.{bytes_eq}
 use Rattle.clap.specs.Words.{Row, Text, first_of, subcommand_of, fault_of}
-use Rattle.amr_cli.specs.Table.{OptionRow, commands, workers}
+use Rattle.amr_cli.specs.Table.{NumberRow, commands, number, size, to, workers}
 use Rattle.amr_cli.specs.Program.{program_app}
 use Rattle.amr_cli.specs.Numbers.{number_of, in_range}
 use Rattle.amr_cli.specs.declared.command.Command.{Command}
-use Rattle.amr_cli.specs.declared.command.Command.TheVariants.{Run, Check}
+use Rattle.amr_cli.specs.declared.command.Command.TheVariants.{Run, Check, Trial}
 
 -- ---- by this program's own rule, before `clap` is asked
 
@@ -26,25 +26,38 @@ may_be_command (word ∷ rest) = is_command_name word && not (list_any is_help (
 -- ---- what the rows of a command's matches say
 
 -- the value of an option that may be absent: none where its text is no number in its range
-abbrev pub option_of : OptionRow → List Row → Option (Option ℕ)
+abbrev pub option_of : NumberRow → List Row → Option (Option ℕ)
 option_of option rows = value_of (first_of option.name rows)
   where
     value_of : Option Text → Option (Option ℕ)
     value_of None = Some None
     value_of (Some text) = option_map (λ n. Some n) (option_and_then (in_range option.low option.high) (number_of text))
 
+-- the number in a place: none where none stands there, or its text is no number in its range
+abbrev pub place_of : NumberRow → List Row → Option ℕ
+place_of place rows = option_and_then (λ text. option_and_then (in_range place.low place.high) (number_of text)) (first_of place.name rows)
+
 abbrev pub or_one : Option ℕ → ℕ
 or_one None = 1
 or_one (Some n) = n
 
+-- the number of workers, 1 where none is given
+abbrev pub workers_of : List Row → Option ℕ
+workers_of rows = option_map or_one (option_of workers rows)
+
 abbrev pub run_of : List Row → Option Command
-run_of rows = option_map (λ n. Run (or_one n)) (option_of workers rows)
+run_of rows = option_and_then (λ w. option_map (λ k. Run w k) (option_of to rows)) (workers_of rows)
+
+abbrev pub trial_of : List Row → Option Command
+trial_of rows =
+    option_and_then (λ n. option_and_then (λ m. option_map (λ w. Trial n m w) (workers_of rows)) (place_of size rows)) (place_of number rows)
 
 abbrev pub command_from : Option (Text × List Row) → Option Command
 command_from None = None
 command_from (Some found) =
     if bytes_eq found.0 (codes "run") then run_of found.1
-    else (if bytes_eq found.0 (codes "check") then Some Check else None)
+    else (if bytes_eq found.0 (codes "check") then Some Check
+    else (if bytes_eq found.0 (codes "trial") then trial_of found.1 else None))
 
 -- ---- the whole
 
@@ -54,7 +67,16 @@ command_of words =
     if may_be_command words && (length (fault_of program_app words) == 0)
     then command_from (subcommand_of program_app words) else None
 
+-- ---- how large a command's numbers are
+
 -- a number of workers from 1 to 64, where the command has one
 abbrev pub HasWorkers : Command → Type 0
-HasWorkers (Run workers) = (1 ≤ workers) × (workers ≤ 64)
+HasWorkers (Run w _) = (1 ≤ w) × (w ≤ 64)
 HasWorkers Check = Unit {0}
+HasWorkers (Trial _ _ w) = (1 ≤ w) × (w ≤ 64)
+
+-- a run stops at a step up to 4096; a trial is drawn from a number of 32 bits, with from 8 to 256 cells along each axis
+abbrev pub HasRanges : Command → Type 0
+HasRanges (Run _ stop) = IfSome stop (λ k. k ≤ 4096)
+HasRanges Check = Unit {0}
+HasRanges (Trial n m _) = (n < 2 ^ 32) × (8 ≤ m) × (m ≤ 256)

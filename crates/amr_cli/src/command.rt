@@ -5,9 +5,20 @@
 pub enum Command {
     /// Reads a problem and writes the plot of its run.
     Run {
-        /// How many workers share a step.
+        /// How many workers share a step, from 1 to 64.
         workers: u32,
+        /// The step to stop at, up to 4096. None: the problem's last step.
+        to: Option<u32>,
     },
     /// Reads a problem and says what it is.
     Check,
+    /// Runs a drawn problem and writes one line on how it ended.
+    Trial {
+        /// Where the draws begin: any number of 32 bits.
+        number: u32,
+        /// The cells along each axis, from 8 to 256.
+        size: u32,
+        /// How many workers share a step, from 1 to 64.
+        workers: u32,
+    },
 }

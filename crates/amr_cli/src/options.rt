@@ -1,15 +1,15 @@
 //! What the matches of `clap` say.
 ghost use Rattle.std.specs.Prelude.{◌≡◌, ◌<◌, ◌^◌, option_map};
 ghost use Rattle.clap.specs.Words.{first_of, found_of, rows_of, subcommand_rows_of};
-ghost use Rattle.amr_cli.specs.Rows.{option_row};
-ghost use Rattle.amr_cli.specs.Words.{command_from, option_of, run_of};
+ghost use Rattle.amr_cli.specs.Rows.{number_row};
+ghost use Rattle.amr_cli.specs.Words.{command_from, option_of, place_of, run_of, trial_of, workers_of};
 
 use crate::Command;
 use crate::number::number_between;
-use crate::table::{NumberOption, WORKERS};
+use crate::table::{NUMBER, NumberForm, SIZE, TO, WORKERS};
 use clap::ArgMatches;
 
-/// The command that was found, with the values of its options. None where a value is no number in its option's range.
+/// The command that was found, with its numbers. None where a text is no number in its range.
 pub(crate) fn command_from(matches: &ArgMatches) -> Option<Command>
     ensures { result ≡ command_from (subcommand_rows_of matches.now) }
 {
@@ -17,6 +17,7 @@ pub(crate) fn command_from(matches: &ArgMatches) -> Option<Command>
     match name {
         "run" => run_from(found),
         "check" => Some(Command::Check),
+        "trial" => trial_from(found),
         _ => None,
     }
 }
@@ -24,14 +25,35 @@ pub(crate) fn command_from(matches: &ArgMatches) -> Option<Command>
 fn run_from(matches: &ArgMatches) -> Option<Command>
     ensures { result ≡ run_of (rows_of (found_of matches.now)) }
 {
-    let workers = option_from(matches, &WORKERS)?.unwrap_or(1);
-    Some(Command::Run { workers })
+    let workers = workers_from(matches)?;
+    let to = option_from(matches, &TO)?;
+    Some(Command::Run { workers, to })
+}
+
+fn trial_from(matches: &ArgMatches) -> Option<Command>
+    ensures { result ≡ trial_of (rows_of (found_of matches.now)) }
+{
+    let number = place_from(matches, &NUMBER)?;
+    let size = place_from(matches, &SIZE)?;
+    let workers = workers_from(matches)?;
+    Some(Command::Trial {
+        number,
+        size,
+        workers,
+    })
+}
+
+// The number of workers, 1 where none is given.
+fn workers_from(matches: &ArgMatches) -> Option<u32>
+    ensures { result ≡ workers_of (rows_of (found_of matches.now)) }
+{
+    Some(option_from(matches, &WORKERS)?.unwrap_or(1))
 }
 
 // The value of an option that may be absent. None where its text is no number in its range.
-fn option_from(matches: &ArgMatches, option: &NumberOption) -> Option<Option<u32>>
+fn option_from(matches: &ArgMatches, option: &NumberForm) -> Option<Option<u32>>
     requires { option.now.high < 2 ^ 32 }
-    ensures { result ≡ option_of (option_row option.now) (rows_of (found_of matches.now)) }
+    ensures { result ≡ option_of (number_row option.now) (rows_of (found_of matches.now)) }
 {
     match text_of(matches, option.name) {
         None => Some(None),
@@ -39,6 +61,17 @@ fn option_from(matches: &ArgMatches, option: &NumberOption) -> Option<Option<u32
             Some(n) => Some(Some(n)),
             None => None,
         },
+    }
+}
+
+// The number in a place. None where none stands there, or its text is no number in its range.
+fn place_from(matches: &ArgMatches, place: &NumberForm) -> Option<u32>
+    requires { place.now.high < 2 ^ 32 }
+    ensures { result ≡ place_of (number_row place.now) (rows_of (found_of matches.now)) }
+{
+    match text_of(matches, place.name) {
+        None => None,
+        Some(text) => number_between(text, place.low, place.high),
     }
 }
 

@@ -2,10 +2,10 @@
 ghost use Rattle.std.specs.Prelude.{◌≡◌, false, IfOk};
 ghost use Rattle.clap.specs.Words.{app_of, rule_of};
 ghost use Rattle.clap.specs.declared.builder.command.Command.TheViews.{out-Command as fields_of};
-ghost use Rattle.amr_cli.specs.Rows.{command_row, option_row};
-ghost use Rattle.amr_cli.specs.Program.{bare_app, command_app, option_rule, program_app};
+ghost use Rattle.amr_cli.specs.Rows.{command_row, number_row};
+ghost use Rattle.amr_cli.specs.Program.{bare_app, command_app, option_rule, place_rule, placed_app, program_app};
 
-use crate::table::{CommandForm, NumberOption, command_forms};
+use crate::table::{CommandForm, NumberForm, command_forms};
 use clap::builder::ValueParser;
 use clap::{Arg, Command};
 use std::alloc::{AllocError, Global};
@@ -35,18 +35,39 @@ fn command_from<'a>(alloc: Global, form: &CommandForm) -> Result<Command<'a>, Al
     ensures app { IfOk result (λ command. app_of command ≡ command_app (command_row form.now)) }
     ensures local { IfOk result (λ command. (fields_of command).has_globals ≡ false) }
 {
-    let mut command = Command::new(alloc, form.name);
-    for option in form.options {
-        command = command.arg(argument(alloc, option))?;
+    let mut command = placed_command(alloc, form)?;
+    for number in form.options {
+        command = command.arg(option_argument(alloc, number))?;
     }
     Ok(command)
 }
 
-fn argument<'a>(alloc: Global, option: &NumberOption) -> Arg<'a>
-    ensures rule { rule_of result ≡ option_rule (option_row option.now) }
+// The command before it has options.
+fn placed_command<'a>(alloc: Global, form: &CommandForm) -> Result<Command<'a>, AllocError>
+    ensures app { IfOk result (λ command. app_of command ≡ placed_app (command_row form.now)) }
+    ensures local { IfOk result (λ command. (fields_of command).has_globals ≡ false) }
+{
+    let mut command = Command::new(alloc, form.name);
+    for number in form.places {
+        command = command.arg(place_argument(alloc, number))?;
+    }
+    Ok(command)
+}
+
+fn place_argument<'a>(alloc: Global, number: &NumberForm) -> Arg<'a>
+    ensures rule { rule_of result ≡ place_rule (number_row number.now) }
     ensures local { result.global ≡ false }
 {
-    Arg::new(alloc, option.name)
-        .long(option.name)
-        .value_parser(ValueParser::Unsigned(option.low, option.high))
+    Arg::new(alloc, number.name)
+        .required(true)
+        .value_parser(ValueParser::Unsigned(number.low, number.high))
+}
+
+fn option_argument<'a>(alloc: Global, number: &NumberForm) -> Arg<'a>
+    ensures rule { rule_of result ≡ option_rule (number_row number.now) }
+    ensures local { result.global ≡ false }
+{
+    Arg::new(alloc, number.name)
+        .long(number.name)
+        .value_parser(ValueParser::Unsigned(number.low, number.high))
 }

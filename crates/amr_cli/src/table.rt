@@ -3,34 +3,64 @@ ghost use Rattle.std.specs.Prelude.{◌≡◌, map};
 ghost use Rattle.amr_cli.specs.Table.{commands};
 ghost use Rattle.amr_cli.specs.Rows.{command_row};
 
-/// A number that a command takes as an option, `--NAME N` or `--NAME=N`, from `low` to `high`.
-pub(crate) struct NumberOption {
+/// A number that a command takes, from `low` to `high`, with its name.
+pub(crate) struct NumberForm {
     pub name: &'static str,
     pub low: u64,
     pub high: u64,
 }
 
-/// A command with its options.
+/// A command with its numbers: those that have to stand in their places, in order, and those that may be given by name, as
+/// `--NAME N` or `--NAME=N`.
 pub(crate) struct CommandForm {
     pub name: &'static str,
-    pub options: &'static [NumberOption],
+    pub places: &'static [NumberForm],
+    pub options: &'static [NumberForm],
 }
 
 /// How many workers share a step.
-pub(crate) const WORKERS: NumberOption = NumberOption {
+pub(crate) const WORKERS: NumberForm = NumberForm {
     name: "workers",
     low: 1,
     high: 64,
 };
 
-const COMMANDS: [CommandForm; 2] = [
+/// The step that a run stops at.
+pub(crate) const TO: NumberForm = NumberForm {
+    name: "to",
+    low: 0,
+    high: 4096,
+};
+
+/// Where a trial's draws begin.
+pub(crate) const NUMBER: NumberForm = NumberForm {
+    name: "number",
+    low: 0,
+    high: 4294967295,
+};
+
+/// A trial's cells along each axis.
+pub(crate) const SIZE: NumberForm = NumberForm {
+    name: "size",
+    low: 8,
+    high: 256,
+};
+
+const COMMANDS: [CommandForm; 3] = [
     CommandForm {
         name: "run",
-        options: &[WORKERS],
+        places: &[],
+        options: &[WORKERS, TO],
     },
     CommandForm {
         name: "check",
+        places: &[],
         options: &[],
+    },
+    CommandForm {
+        name: "trial",
+        places: &[NUMBER, SIZE],
+        options: &[WORKERS],
     },
 ];
 

@@ -19,17 +19,23 @@ fn parsed<R: Abort + Alloc<A = Global>>(rt: &R, words: &str) -> Result<Command, 
     parse(alloc, &line)
 }
 
-const RUNS: &str = "run
-run --workers 1
-run --workers=1
-run --workers 01
-run --workers +1
-run --workers 1 --
-run --";
+// Words that are a command, a line each, with the command that they are.
+const COMMANDS: &str = "run => Run { workers: 1, to: None }
+run --workers 2 => Run { workers: 2, to: None }
+run --workers=64 => Run { workers: 64, to: None }
+run --workers 007 => Run { workers: 7, to: None }
+run --workers +1 => Run { workers: 1, to: None }
+run --to 0 => Run { workers: 1, to: Some(0) }
+run --workers 3 --to=4096 => Run { workers: 3, to: Some(4096) }
+run --to 2 -- => Run { workers: 1, to: Some(2) }
+check => Check
+check -- => Check
+trial 1 64 => Trial { number: 1, size: 64, workers: 1 }
+trial 0 8 --workers 2 => Trial { number: 0, size: 8, workers: 2 }
+trial --workers=64 4294967295 256 => Trial { number: 4294967295, size: 256, workers: 64 }
+trial 1 --workers 2 -- 64 => Trial { number: 1, size: 64, workers: 2 }";
 
-const CHECKS: &str = "check
-check --";
-
+// Words that are none.
 const NO_COMMANDS: &str = "run --workers 0
 run --workers 65
 run --workers=
@@ -40,7 +46,8 @@ run --workers 1 --workers 1
 run --workers 18446744073709551617
 run --work 1
 run -- --workers 1
-run --to 1
+run --to 4097
+run --to 1 --to 1
 run --keep 1
 run x
 run check
@@ -50,7 +57,16 @@ Run
 check x
 check --workers 1
 show
-trial 1 64
+trial
+trial 1
+trial 1 7
+trial 1 257
+trial 4294967296 64
+trial -1 64
+trial x 64
+trial 1 64 2
+trial 1 64 --workers 65
+trial 1 64 --to 1
 help
 help run
 run help
@@ -62,14 +78,12 @@ run --workers --help";
 
 #[test]
 fn words_that_are_a_command(rt: HostRuntime) {
-    let one = Ok(Command::Run { workers: 1 });
-    for words in RUNS.lines() {
-        assert_eq!(&rt; parsed(&rt, words), one);
-    }
-    let most = Ok(Command::Run { workers: 64 });
-    assert_eq!(&rt; parsed(&rt, "run --workers 64"), most);
-    for words in CHECKS.lines() {
-        assert_eq!(&rt; parsed(&rt, words), Ok(Command::Check));
+    let alloc = rt.alloc();
+    for case in COMMANDS.lines() {
+        let (words, wanted) = case.split_once(" => ").expect(&rt, "a case");
+        let command = parsed(&rt, words).expect(&rt, "a command");
+        let shown = format!(in alloc; "{command:?}").expect(&rt, "memory");
+        assert_eq!(&rt; shown.as_str(), wanted);
     }
 }
 

@@ -4,7 +4,7 @@ ghost use Rattle.std.specs.List.{list_any};
 ghost use Rattle.std.specs.Str.{bytes_eq};
 ghost use Rattle.clap.specs.Words.{fault_of, subcommand_of, subcommand_rows_of};
 ghost use Rattle.amr_cli.specs.Program.{program_app};
-ghost use Rattle.amr_cli.specs.Words.{HasWorkers, command_of, is_command_name, is_help, may_be_command};
+ghost use Rattle.amr_cli.specs.Words.{HasRanges, HasWorkers, command_of, is_command_name, is_help, may_be_command};
 
 use crate::options::command_from;
 use crate::program::program;
@@ -33,12 +33,13 @@ impl From<AllocError> for CliFault {
     }
 }
 
-/// The command that the words are, with 1 to 64 workers where it has some. `Usage` comes exactly where they are none of the
+/// The command that the words are, each of its numbers in its range. `Usage` comes exactly where they are none of the
 /// set. Memory may run out at any time; that is tied to no cause.
 pub fn parse(alloc: Global, line: &Line) -> Result<Command, CliFault>
     ensures command { IfOk result (λ command. command_of line.now ≡ Some command) }
     ensures usage { IsErrOf result CliFault.Usage → command_of line.now ≡ None }
     ensures workers { IfOk result HasWorkers }
+    ensures ranges { IfOk result HasRanges }
 {
     let words = line.words();
     if !may_be_command(words) {

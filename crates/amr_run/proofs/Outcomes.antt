@@ -1,6 +1,7 @@
 -- The outcome at each exit, by what the layers below say of it.
-use Rattle.std.proofs.Common.{◌≡◌, ◌≤◌, ◌⊎◌, inl, inr, ℕ, List, [], ◌++◌, length, Option, Some, None, Result, Ok, Err, OnErr, refl, sym, ◌∙◌, ap, subst, arith, length-append, OnOk}
+use Rattle.std.proofs.Common.{◌≡◌, ◌≤◌, ◌<◌, ◌^◌, ◌⊎◌, inl, inr, ℕ, zero, suc, List, [], ◌++◌, length, Option, Some, None, Result, Ok, Err, OnErr, refl, sym, ◌∙◌, ap, subst, arith, length-append, OnOk}
 use Rattle.std.proofs.lemmas.List.{append-nil}
+use Rattle.std.proofs.lemmas.Option.{none-some}
 use Rattle.std.specs.Prelude.{IsErrAnd}
 use Rattle.std.specs.Io.KnownBytes.{Consumes, IsAtEnd}
 use Rattle.amr_causes.specs.Causes.{HasCause, Rose}
@@ -9,7 +10,8 @@ use Rattle.amr_io.specs.Short.{FallsShort}
 use Rattle.amr_causes.proofs.ByteLaws.{prefix_whole, were_left}
 use Rattle.amr_def.specs.declared.problem.Problem.{Problem}
 use Rattle.amr_def.specs.State.{State}
-use Rattle.amr_def.specs.Run.{start, finish, run}
+use Rattle.amr_def.specs.Regrid.{regrid}
+use Rattle.amr_def.specs.Run.{start, finish, plain_start, run, times}
 use Rattle.amr_def.specs.Plot.{plot}
 use Rattle.amr_def.specs.Facts.{IsSound}
 use Rattle.amr_io.specs.declared.source.ReadAll.{ReadAll}
@@ -21,8 +23,12 @@ use Rattle.amr_problem.specs.Judgement.{fault_of, IsProblemOf}
 use Rattle.amr_problem.proofs.PlainLaws.{too_many_bytes}
 use Rattle.amr_drive.specs.Regrids.{RunHoldsTags, StartHoldsTags}
 use Rattle.amr_cli.specs.declared.command.Command.{Command}
-use Rattle.amr_run.specs.Answer.{IsAnswer, IsLineOfProblem, IsPlotOfRun}
-use Rattle.amr_run.specs.Outcome.{Outcome, Replies, status_of}
+use Rattle.amr_cli.specs.declared.command.Command.TheVariants.{Run, Check, Trial}
+use Rattle.amr_trial.specs.Summary.{summary}
+use Rattle.amr_trial.specs.Trial.{IsSize, text}
+use Rattle.amr_trial.proofs.Problems.{sixteen_steps, texts_are_accepted}
+use Rattle.amr_run.specs.Answer.{IsLineOfProblem, IsLineOfTrial, IsPlotOfRun, IsSoundRun, stop_of}
+use Rattle.amr_run.specs.Outcome.{Outcome, Replies, RepliesTo, RepliesUnread, status_of}
 use Rattle.amr_run.specs.Reading.{Reads, Refuses}
 use Rattle.amr_run.specs.Refusals.{read_refused, judge_refused}
 use Rattle.amr_run.specs.Texts.{problem_line}
@@ -79,26 +85,96 @@ pub refused_by : (answers : List ℕ → Type 0) (r : Result Unit Status) (s : S
 refused_by answers (Ok done) s bytes out is replies = absurd is
 refused_by answers (Err x) s bytes out is replies = subst (λ (t : Status). Replies t answers bytes out) (sym is) replies
 
+-- of a call that only memory refuses
+pub out_of_memory : (answers : List ℕ → Type 0) (r : Result Unit Status) (s : Status) (bytes : List ℕ) → IsErrAnd r (λ x. x ≡ s) → s ≡ status.NoMemory → Replies (status_of r) answers bytes []
+out_of_memory answers r s bytes is none = refused_by answers r s bytes [] is (subst (λ (t : Status). Replies t answers bytes []) (sym none) refl)
+
 -- of the command that the words are
-pub of_command : (status : Status) (asked : Option Command) (command : Command) (bytes out : List ℕ) → asked ≡ Some command → Replies status (IsAnswer command bytes) bytes out → Outcome status asked bytes out
+pub of_command : (status : Status) (asked : Option Command) (command : Command) (bytes out : List ℕ) → asked ≡ Some command → RepliesTo status command bytes out → Outcome status asked bytes out
 of_command status asked command bytes out is replies = subst (λ (o : Option Command). Outcome status o bytes out) (sym is) replies
 
 -- of words that were not read, as memory ran out
 pub of_no_memory : (asked : Option Command) (bytes : List ℕ) → Outcome status.NoMemory asked bytes []
 of_no_memory None bytes = refl
-of_no_memory (Some command) bytes = refl
+of_no_memory (Some (Run workers to)) bytes = refl
+of_no_memory (Some Check) bytes = refl
+of_no_memory (Some (Trial number size workers)) bytes = refl
 
 -- ---- the answer
 
-run_is : (p : Problem) → finish p (start p) p.steps ≡ run p p.steps
-unfolding run
-run_is p = refl
+-- the start is at step 0
+regrid_step : (p : Problem) (s : State) → (regrid p s).step ≡ s.step
+unfolding regrid
+regrid_step p s = refl
 
--- the plot of the last state, made from the first one
-pub is_plot_of_run : (bytes : List ℕ) (p : Problem) (first last : State) → IsProblemOf bytes p → first ≡ start p → last ≡ finish p first p.steps → IsSound p last → StartHoldsTags p → RunHoldsTags p first p.steps → IsPlotOfRun bytes (plot p last)
-is_plot_of_run bytes p first last accepted starts ends sound start_held held =
-    let is : last ≡ run p p.steps = ends ∙ ap (λ (s : State). finish p s p.steps) starts ∙ run_is p in
-    record { problem = p; accepted = accepted; text = ap (λ (s : State). plot p s) is; sound = subst (λ (s : State). IsSound p s) is sound; start_held = start_held; held = subst (λ (s : State). RunHoldsTags p s p.steps) starts held }
+regrids_step : (p : Problem) (n : ℕ) (s : State) → (times (regrid p) n s).step ≡ s.step
+regrids_step p zero s = refl
+regrids_step p (suc n) s = regrids_step p n (regrid p s) ∙ regrid_step p s
+
+start_step : (p : Problem) → (start p).step ≡ 0
+unfolding start
+start_step p = regrids_step p p.max_level (plain_start p)
+
+pub starts_at : (p : Problem) (first : State) (k : ℕ) → first ≡ start p → first.step ≤ k
+starts_at p first k starts = let at : first.step ≡ 0 = ap (λ (s : State). s.step) starts ∙ start_step p in omega (arith, at)
+
+-- a run from its start
+pub run_is : (p : Problem) (first last : State) (k : ℕ) → first ≡ start p → last ≡ finish p first k → last ≡ run p k
+unfolding run
+run_is p first last k starts ends = ends ∙ ap (λ (s : State). finish p s k) starts
+
+pub is_sound_run : (p : Problem) (first last : State) (k : ℕ) → first ≡ start p → last ≡ finish p first k → IsSound p last → StartHoldsTags p → RunHoldsTags p first k → IsSoundRun p k
+is_sound_run p first last k starts ends sound start_held held = record {
+  sound = subst (λ (s : State). IsSound p s) (run_is p first last k starts ends) sound;
+  start_held = start_held;
+  held = subst (λ (s : State). RunHoldsTags p s k) starts held;
+}
+
+-- within the problem's steps
+pub stops_within : (to : Option ℕ) (p : Problem) (k : ℕ) → k ≡ stop_of to p → k ≤ p.steps
+stops_within None p k is = omega (arith, is)
+stops_within (Some n) p k is = omega (arith, is)
+
+-- the plot of the state that a run stops at
+pub is_plot_of_run : (bytes : List ℕ) (to : Option ℕ) (p : Problem) (last : State) (k : ℕ) → IsProblemOf bytes p → k ≡ stop_of to p → last ≡ run p k → IsSoundRun p k → IsPlotOfRun bytes to (plot p last)
+is_plot_of_run bytes to p last k accepted stops is sound = record {
+  problem = p;
+  accepted = accepted;
+  text = ap (λ (s : State). plot p s) (is ∙ ap (run p) stops);
+  run = subst (λ n. IsSoundRun p n) stops sound;
+}
+
+-- ---- a trial
+
+-- its problem is never refused
+pub trial_accepted : (number size : ℕ) → number < 2 ^ 32 → IsSize size → fault_of (text number size) ≡ None
+trial_accepted number size small is = (texts_are_accepted number size small is).1.clean
+
+pub trial_unread : (number size : ℕ) (bytes : List ℕ) (e : JudgeFault) → number < 2 ^ 32 → IsSize size → bytes ≡ text number size → ((f : ProblemFault) → e ≡ judging.Fault f → fault_of bytes ≡ Some f) → RepliesUnread (judge_refused e) (IsLineOfTrial number size) []
+trial_unread number size bytes (judging.Fault f) small is same fault = let wrong : Some f ≡ None = sym (fault f refl) ∙ ap fault_of same ∙ trial_accepted number size small is in absurd (none-some f (sym wrong))
+trial_unread number size bytes judging.NoMemory small is same fault = refl
+
+pub trial_steps : (number size : ℕ) (bytes : List ℕ) (p : Problem) → number < 2 ^ 32 → IsSize size → bytes ≡ text number size → IsProblemOf bytes p → p.steps ≡ 16
+trial_steps number size bytes p small is same accepted = sixteen_steps number size p small is (subst (λ (bs : List ℕ). IsProblemOf bs p) same accepted)
+
+-- by the status that an error became
+pub trial_refused_by : (answers : List ℕ → Type 0) (r : Result Unit Status) (s : Status) (out : List ℕ) → IsErrAnd r (λ x. x ≡ s) → RepliesUnread s answers out → RepliesUnread (status_of r) answers out
+trial_refused_by answers (Ok done) s out is replies = absurd is
+trial_refused_by answers (Err x) s out is replies = subst (λ (t : Status). RepliesUnread t answers out) (sym is) replies
+
+-- where only memory refuses
+pub trial_out_of_memory : (answers : List ℕ → Type 0) (r : Result Unit Status) (s : Status) → IsErrAnd r (λ x. x ≡ s) → s ≡ status.NoMemory → RepliesUnread (status_of r) answers []
+trial_out_of_memory answers r s is none = trial_refused_by answers r s [] is (subst (λ (t : Status). RepliesUnread t answers []) (sym none) refl)
+
+pub is_line_of_trial : (number size : ℕ) (bytes line : List ℕ) (p : Problem) (last : State) → bytes ≡ text number size → IsProblemOf bytes p → last ≡ run p 16 → IsSoundRun p 16 → line ≡ summary number size p last → IsLineOfTrial number size line
+is_line_of_trial number size bytes line p last same accepted is sound said = record {
+  problem = p;
+  accepted = subst (λ (bs : List ℕ). IsProblemOf bs p) same accepted;
+  line = said ∙ ap (λ (s : State). summary number size p s) is;
+  run = sound;
+}
+
+-- ---- a problem's line
 
 pub is_line_of_problem : (bytes : List ℕ) (p : Problem) → IsProblemOf bytes p → IsLineOfProblem bytes (problem_line p)
 is_line_of_problem bytes p accepted = record { problem = p; accepted = accepted; text = refl }

@@ -3,14 +3,14 @@ ghost use Rattle.std.specs.Prelude.{◌≡◌, ◌≢◌, ◌⊎◌, ◌<◌, Li
 ghost use Rattle.std.specs.Io.KnownBytes.{IsAtEnd};
 ghost use Rattle.amr_causes.specs.Causes.{Rose};
 ghost use Rattle.amr_causes.specs.Bytes.{Grows, IsPrefix, WereLeft};
-ghost use Rattle.amr_cli.specs.Words.{HasWorkers, command_of};
+ghost use Rattle.amr_cli.specs.Words.{HasRanges, HasWorkers, command_of};
 ghost use Rattle.amr_run.specs.Texts.{message};
-ghost use Rattle.amr_run.specs.Answer.{HasAnswer, IsAnswer};
-ghost use Rattle.amr_run.specs.Outcome.{Outcome, Replies, status_of};
+ghost use Rattle.amr_run.specs.Answer.{HasAnswer, ReadsSource};
+ghost use Rattle.amr_run.specs.Outcome.{Outcome, RepliesTo, status_of};
 ghost use Rattle.amr_run.specs.Reading.{TakesAtMost};
 
 use crate::Status;
-use crate::commands::{Workers, check, run};
+use crate::commands::{Workers, check, run, trial};
 use crate::message::tell;
 use amr_cli::{CliFault, Command, Line, parse};
 use amr_io::{Sink, Source};
@@ -36,10 +36,11 @@ pub fn amr<R: Threads + Sync, S: Source, O: Sink, E: Sink>(
     ensures outcome { (bytes : List ℕ) × ((sent : List ℕ) × WereLeft (S.left src.old) bytes
         × Grows O.holds out.old out.new sent × Outcome result (command_of words.now) bytes sent) }
 
-    // Where all is done, nothing of the source is left.
-    ensures ended { result ≡ Status.Done → IsAtEnd (S.left src.new) }
+    // Where a command that reads its source is done, nothing of it is left. Any other leaves it as it was.
+    ensures ended { (command : _) → command_of words.now ≡ Some command → ReadsSource command → result ≡ Status.Done → IsAtEnd (S.left src.new) }
 
     // Whatever the answer, at most one byte more than a problem has was taken, from the front.
+    ensures unread { (command : _) → command_of words.now ≡ Some command → ¬ (ReadsSource command) → src.new ≡ src.old }
     ensures taken { TakesAtMost 65537 (S.left src.old) (S.left src.new) }
 
     // Words that are no command leave the source and `out` as they were.
@@ -80,7 +81,8 @@ pub fn amr_gated<R: Threads + Sync, S: Source, O: Sink, E: Sink, G: Gate + Sync>
     requires gate { (worker task : ℕ) → worker < 64 → G.admits gate.now worker task }
     ensures outcome { (bytes : List ℕ) × ((sent : List ℕ) × WereLeft (S.left src.old) bytes
         × Grows O.holds out.old out.new sent × Outcome result (command_of words.now) bytes sent) }
-    ensures ended { result ≡ Status.Done → IsAtEnd (S.left src.new) }
+    ensures ended { (command : _) → command_of words.now ≡ Some command → ReadsSource command → result ≡ Status.Done → IsAtEnd (S.left src.new) }
+    ensures unread { (command : _) → command_of words.now ≡ Some command → ¬ (ReadsSource command) → src.new ≡ src.old }
     ensures taken { TakesAtMost 65537 (S.left src.old) (S.left src.new) }
     ensures untouched { result ≡ Status.Usage → (src.new ≡ src.old) × (out.new ≡ out.old) }
     ensures message { (part : List ℕ) × Grows E.holds err.old err.new part × IsPrefix part (message result)
@@ -122,7 +124,8 @@ fn serve<R: Threads + Sync, S: Source, O: Sink, G: Gate + Sync>(
     requires gate { (worker task : ℕ) → worker < 64 → G.admits shell.now.gate.now worker task }
     ensures outcome { (bytes : List ℕ) × ((sent : List ℕ) × WereLeft (S.left src.old) bytes
         × Grows O.holds out.old out.new sent × Outcome result (command_of words.now) bytes sent) }
-    ensures ended { result ≡ Status.Done → IsAtEnd (S.left src.new) }
+    ensures ended { (command : _) → command_of words.now ≡ Some command → ReadsSource command → result ≡ Status.Done → IsAtEnd (S.left src.new) }
+    ensures unread { (command : _) → command_of words.now ≡ Some command → ¬ (ReadsSource command) → src.new ≡ src.old }
     ensures taken { TakesAtMost 65537 (S.left src.old) (S.left src.new) }
     ensures untouched { result ≡ Status.Usage → (src.new ≡ src.old) × (out.new ≡ out.old) }
     ensures read_fault { result ≡ Status.ReadFault → Rose (S.faults src.old) (S.faults src.new) }
@@ -148,10 +151,12 @@ fn answer<R: Threads + Sync, S: Source, O: Sink, G: Gate + Sync>(
     out: &mut O,
 ) -> Result<(), Status>
     requires workers { HasWorkers command }
+    requires ranges { HasRanges command }
     requires gate { (worker task : ℕ) → worker < 64 → G.admits shell.now.gate.now worker task }
     ensures outcome { (bytes : List ℕ) × ((sent : List ℕ) × WereLeft (S.left src.old) bytes
-        × Grows O.holds out.old out.new sent × Replies (status_of result) (IsAnswer command bytes) bytes sent) }
-    ensures ended { OnOk result (IsAtEnd (S.left src.new)) }
+        × Grows O.holds out.old out.new sent × RepliesTo (status_of result) command bytes sent) }
+    ensures ended { ReadsSource command → OnOk result (IsAtEnd (S.left src.new)) }
+    ensures unread { ¬ (ReadsSource command) → src.new ≡ src.old }
     ensures taken { TakesAtMost 65537 (S.left src.old) (S.left src.new) }
     ensures refused { IfErr result (λ status. status ≢ Status.Done) }
     ensures read_fault { result ≡ Err Status.ReadFault → Rose (S.faults src.old) (S.faults src.new) }
@@ -160,14 +165,30 @@ fn answer<R: Threads + Sync, S: Source, O: Sink, G: Gate + Sync>(
     ensures no_write_fault { result ≢ Err Status.WriteFault → O.faults out.new ≡ O.faults out.old }
 {
     match command {
-        Command::Run { workers } => {
-            let workers = Workers {
-                runtime: shell.runtime,
-                count: workers,
-                gate: shell.gate,
-            };
-            run(&workers, shell.alloc, src, out)
+        Command::Run { workers, to } => {
+            let workers = workers_of(shell, workers);
+            run(&workers, shell.alloc, to, src, out)
         }
         Command::Check => check(shell.alloc, src, out),
+        Command::Trial {
+            number,
+            size,
+            workers,
+        } => {
+            let workers = workers_of(shell, workers);
+            trial(&workers, shell.alloc, number, size, out)
+        }
+    }
+}
+
+/// So many workers on the threads of a call.
+fn workers_of<'a, R, G>(shell: &Shell<'a, R, G>, count: u32) -> Workers<'a, R, G>
+    ensures count { result.count ≡ count }
+    ensures gate { result.gate.now ≡ shell.now.gate.now }
+{
+    Workers {
+        runtime: shell.runtime,
+        count,
+        gate: shell.gate,
     }
 }

@@ -260,6 +260,32 @@ fn flows_through_open_sides(rt: HostRuntime) -> Result<(), Fail> {
     Ok(())
 }
 
+/// A run stops at the step that is asked for, or at its last one.
+#[test]
+fn ring_to_a_step(rt: HostRuntime) {
+    let start =
+        "amr-plot 1\nname ring\nstep 0\nledger 0 8 0 0\nlevel 0 1\nbox 0 0 3 1\n8 0 0 0\n0 0 0 0\nend\n";
+    Case::of("run --to 0", RING.as_bytes()).ends(&rt, 0, start, "");
+    Case::of("run --to 7 --workers 2", RING.as_bytes()).ends(&rt, 0, RING_PLOT, "");
+}
+
+const TRIAL: &str =
+    "trial 1 64 step 16 levels 3 boxes 16 mass 1501170 sha256 b10ee6787cb6ad3e832772c1cd56fc3516691143d250f1d82867fbe5b0a60a5d\n";
+
+/// The line of a trial, by any number of workers. It reads no source.
+#[test]
+fn a_trial(rt: HostRuntime) {
+    for words in [
+        "trial 1 64",
+        "trial 1 64 --workers 2",
+        "trial 1 64 --workers 64",
+    ] {
+        let mut case = Case::of(words, b"");
+        case.reads_fail = &[1];
+        case.ends(&rt, 0, TRIAL, "");
+    }
+}
+
 /// Nine columns in three patches, and in one, by any number of workers: neither leaves a trace in the plot.
 #[test]
 fn nine_columns_by_patches_and_workers(rt: HostRuntime) -> Result<(), Fail> {
@@ -301,8 +327,9 @@ fn words_that_are_no_command(rt: HostRuntime) {
         "run --help",
         "run --workers 0",
         "run --workers 65",
-        "run --to 1",
+        "run --keep 1",
         "show",
+        "trial 1 7",
     ] {
         Case::of(words, RING.as_bytes()).ends(&rt, 2, "", USAGE);
     }

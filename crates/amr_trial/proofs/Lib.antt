@@ -5,7 +5,7 @@ mod Inside
 mod LineParts
 mod NameTexts
 mod PlainTexts
-mod Problems
+pub mod Problems
 mod Rows
 mod ShortTexts
 mod SummaryRows

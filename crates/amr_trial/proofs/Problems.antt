@@ -1,13 +1,16 @@
 -- The text of a trial is a problem.
 use Rattle.std.proofs.Common.{◌≡◌, ◌≤◌, ◌<◌, ◌^◌, ◌+◌, max, ℕ, pos, true, nat_le, nat_lt, le-leb, lt-ltb, [], ◌∷◌, length, refl, sym, subst, arith}
 use Rattle.std.specs.List.{list_all}
+use Rattle.std.specs.Prelude.{Some}
+use Rattle.std.proofs.lemmas.Int.{ints}
 use Rattle.toml.specs.Data.{Members}
+use Rattle.amr_problem.specs.declared.key.Key.TheVariants.{Steps}
 use Rattle.amr_def.specs.declared.problem.Problem.{Problem}
 use Rattle.amr_def.specs.declared.problem.Block.{Block}
 use Rattle.amr_def.specs.declared.problem.Sides.TheVariants.{Periodic, Open}
 use Rattle.amr_def.specs.Limits.{Limits, is_block}
 use Rattle.amr_problem.specs.Document.{table_of}
-use Rattle.amr_problem.specs.Judgement.{HasKeys}
+use Rattle.amr_problem.specs.Judgement.{HasKeys, IsProblemOf}
 use Rattle.amr_problem.specs.Values.{integers_at, number_at, numbers_at, rows_at, shear_at, text_at}
 use Rattle.amr_trial.specs.Document.{document, trial_name}
 use Rattle.amr_trial.specs.Laws.{LiesInside, TextsAreAccepted}
@@ -148,3 +151,12 @@ texts_are_accepted number size small is =
         keys = keys;
       },
     )
+
+-- ---- its steps
+
+pub sixteen_steps : (number size : ℕ) (p : Problem) → number < 2 ^ 32 → IsSize size → IsProblemOf (text number size) p → p.steps ≡ 16
+sixteen_steps number size p small is problem =
+    let own : number_at (document number size) Steps ≡ Some (pos p.steps) = subst (λ (t : Members). number_at t Steps ≡ Some (pos p.steps)) (is_table number size small is) problem.keys.steps in
+    let defined : number_at (document number size) Steps ≡ Some (pos 16) = (has_keys number size (limits number size small is)).steps in
+    let same : pos p.steps ≡ pos 16 = cc in
+    omega (arith, ints, same)

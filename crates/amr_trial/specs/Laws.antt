@@ -36,3 +36,7 @@ TextsAreShort = (number size : ℕ) → number < 2 ^ 32 → IsSize size → leng
 -- The judgement accepts the text of a trial: the text has no fault, and is a problem.
 abbrev pub TextsAreAccepted : Type 0
 TextsAreAccepted = (number size : ℕ) → number < 2 ^ 32 → IsSize size → (p : Problem) × IsProblemOf (text number size) p
+
+-- and that problem has 16 steps
+abbrev pub TrialsHaveSixteenSteps : Type 0
+TrialsHaveSixteenSteps = (number size : ℕ) (p : Problem) → number < 2 ^ 32 → IsSize size → IsProblemOf (text number size) p → p.steps ≡ 16

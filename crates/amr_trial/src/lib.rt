@@ -2,7 +2,7 @@
 //! generator, the text of a trial's problem, and the line that a trial prints of a mesh's state.
 #![tactic(auto)]
 
-ghost use Rattle.amr_trial.specs.Laws.{BlocksLieInside, CourantNumbersFit, TextsAreAccepted, TextsAreDocuments, TextsAreShort, TextsAreUtf8};
+ghost use Rattle.amr_trial.specs.Laws.{BlocksLieInside, CourantNumbersFit, TextsAreAccepted, TextsAreDocuments, TextsAreShort, TextsAreUtf8, TrialsHaveSixteenSteps};
 
 mod digest;
 mod generator;
@@ -37,4 +37,9 @@ pub fn texts_are_documents()
 /// The judgement accepts the text of a trial as a problem.
 pub fn texts_are_accepted()
     ensures { TextsAreAccepted }
+{}
+
+/// The problem of a trial has 16 steps, after which its line is told.
+pub fn trials_have_sixteen_steps()
+    ensures { TrialsHaveSixteenSteps }
 {}

@@ -16,7 +16,7 @@ next_form forms i none old new whole within is before =
 
 -- what stands past the end of the table
 no_form : CommandForm
-no_form = record { name = record { ref_ptr = (0, 0); now = [] }; options = record { ref_ptr = (0, 0); now = [] } }
+no_form = record { name = record { ref_ptr = (0, 0); now = [] }; places = record { ref_ptr = (0, 0); now = [] }; options = record { ref_ptr = (0, 0); now = [] } }
 
 pub loop-form-preserved : goal.loop-form-preserved
 unfolding no_form
