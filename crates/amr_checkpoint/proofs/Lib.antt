@@ -1,0 +1,10 @@
+pub mod Readings
+pub mod Making
+pub mod Stepping
+pub mod Going
+pub mod Progress
+pub mod Stopping
+pub mod Written
+pub mod FromDisk
+pub mod Puts
+mod Rows

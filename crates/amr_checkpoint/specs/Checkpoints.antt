@@ -1,0 +1,100 @@
+-- What reading a disk gives, and what a run goes on from. (profile)
+use Rattle.std.specs.Prelude.{ℕ, ◌≡◌, ◌+◌, ◌≤◌, ⊤, false, List, Option, Some, None}
+use Rattle.std.specs.List.{All}
+use Rattle.amr_decoder.specs.Chopped.{IsChopped}
+use Rattle.amr_def.specs.declared.problem.Problem.{Problem}
+use Rattle.amr_def.specs.Facts.{IsSound}
+use Rattle.amr_patch.specs.declared.meshes.Mesh.{Mesh}
+use Rattle.amr_patch.specs.Meshes.{is_spent, levels_of, state_of}
+use Rattle.amr_payload.specs.Payload.{slot_size}
+use Rattle.amr_problem.specs.Judgement.{IsProblemOf}
+use Rattle.amr_store.specs.declared.store.Store.{Store}
+use Rattle.amr_store.specs.Stands.{IsStoreReady, is_shut, last_in, problem_in, slot_size_in, version_in}
+use Rattle.amr_checkpoint.specs.declared.reading.Checkpoint.{Checkpoint}
+use Rattle.amr_checkpoint.specs.declared.reading.Checkpoint.TheVariants as read
+use Rattle.amr_checkpoint.specs.declared.resuming.Resumed.{Resumed}
+use Rattle.amr_checkpoint.specs.declared.resuming.Resumed.TheVariants as resumed
+use Rattle.amr_checkpoint.specs.Contents.{Content, Empty, Damaged, Fresh, At, mass_width}
+
+-- a mesh holds a state with the sequence of its step and one
+abbrev pub content_at_mesh : List ℕ → Problem → Mesh → Content
+content_at_mesh bytes p mesh = At bytes p (state_of mesh) ((state_of mesh).step + 1)
+
+-- the content that was read
+abbrev pub content_of : Checkpoint → Content
+content_of read.Empty = Empty
+content_of (read.Damaged damage) = Damaged damage
+content_of (read.Fresh store p) = Fresh (problem_in store) p
+content_of (read.At store p mesh) = content_at_mesh (problem_in store) p mesh
+
+-- the content that a run of this problem goes on from
+abbrev pub content_resumed : List ℕ → Problem → Resumed → Content
+content_resumed bytes p resumed.Nothing = Empty
+content_resumed bytes p (resumed.Fresh store) = Fresh bytes p
+content_resumed bytes p (resumed.At store mesh) = content_at_mesh bytes p mesh
+
+-- a store of the problem, with room for its states, that is not shut
+pub record IsStoreFor (p : Problem) (store : Store) : Type 0 where
+  pub accepted : IsProblemOf (problem_in store) p
+  pub room : slot_size_in store ≡ slot_size (mass_width (version_in store)) p
+  pub unshut : is_shut store ≡ false
+
+-- a mesh of the problem: its state is sound, and it is in patches
+pub record IsMeshFor (p : Problem) (mesh : Mesh) : Type 0 where
+  pub whole : is_spent mesh ≡ false
+  pub sound : IsSound p (state_of mesh)
+  pub chopped : All (IsChopped p.max_grid_size) (levels_of mesh)
+
+-- a store without a state
+pub record IsFreshStore (p : Problem) (store : Store) : Type 0 where
+  pub store_is : IsStoreFor p store
+  pub none : last_in store ≡ None
+
+-- a store whose latest state has this sequence
+pub record IsStorePast (p : Problem) (sequence : ℕ) (store : Store) : Type 0 where
+  pub store_is : IsStoreFor p store
+  pub last : last_in store ≡ Some sequence
+
+-- a store at the mesh's state
+pub record IsStoreAt (p : Problem) (store : Store) (mesh : Mesh) : Type 0 where
+  pub past : IsStorePast p ((state_of mesh).step + 1) store
+  pub mesh_is : IsMeshFor p mesh
+
+-- whatever the disk tells, what was read can be used
+abbrev pub IsUsable : Checkpoint → Type 0
+IsUsable read.Empty = ⊤
+IsUsable (read.Damaged damage) = ⊤
+IsUsable (read.Fresh store p) = IsFreshStore p store
+IsUsable (read.At store p mesh) = IsStoreAt p store mesh
+
+-- and a run of the problem that these bytes are goes on from it
+abbrev pub CanGoOn : List ℕ → Problem → ℕ → Resumed → Type 0
+CanGoOn bytes p target resumed.Nothing = ⊤
+CanGoOn bytes p target (resumed.Fresh store) = (problem_in store ≡ bytes) × IsFreshStore p store
+CanGoOn bytes p target (resumed.At store mesh) = (problem_in store ≡ bytes) × IsStoreAt p store mesh × ((state_of mesh).step ≤ target)
+
+-- the store in it stands for what the disk holds
+abbrev pub IsReadReady : {D : Type 0} → (D → Option (List ℕ)) → (D → ℕ) → (D → ℕ → List ℕ → Type 0) → Checkpoint → D → Type 0
+IsReadReady seen moment leaves read.Empty disk = ⊤
+IsReadReady seen moment leaves (read.Damaged damage) disk = ⊤
+IsReadReady seen moment leaves (read.Fresh store p) disk = IsStoreReady seen moment leaves store disk
+IsReadReady seen moment leaves (read.At store p mesh) disk = IsStoreReady seen moment leaves store disk
+
+abbrev pub IsResumedReady : {D : Type 0} → (D → Option (List ℕ)) → (D → ℕ) → (D → ℕ → List ℕ → Type 0) → Resumed → D → Type 0
+IsResumedReady seen moment leaves resumed.Nothing disk = ⊤
+IsResumedReady seen moment leaves (resumed.Fresh store) disk = IsStoreReady seen moment leaves store disk
+IsResumedReady seen moment leaves (resumed.At store mesh) disk = IsStoreReady seen moment leaves store disk
+
+-- the store in it is this one
+abbrev pub HasStore : Store → Checkpoint → Type 0
+HasStore store read.Empty = ⊤
+HasStore store (read.Damaged damage) = ⊤
+HasStore store (read.Fresh other p) = other ≡ store
+HasStore store (read.At other p mesh) = other ≡ store
+
+-- a run goes on with the store that was read
+abbrev pub TakesStore : Checkpoint → Resumed → Type 0
+TakesStore read.Empty resumed.Nothing = ⊤
+TakesStore (read.Fresh store p) (resumed.Fresh other) = other ≡ store
+TakesStore (read.At store p mesh) (resumed.At other same) = (other ≡ store) × (same ≡ mesh)
+TakesStore _ _ = ⊥

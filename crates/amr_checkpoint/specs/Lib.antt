@@ -1,0 +1,7 @@
+pub mod Contents
+pub mod Marks
+pub mod Refusals
+pub mod Times
+pub mod Reasons
+pub mod Checkpoints
+pub mod Laws
