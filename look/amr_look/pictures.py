@@ -59,7 +59,7 @@ def draw(plot: Plot, style: Style) -> Figure:
     ratio = 0.35 if long else plot.rows / plot.columns
     width = 7.5 if ratio <= 1 else max(4.5, 7.5 / ratio)
     height = min(max(width * ratio, 1.6), 7.5)
-    figure, (above, below) = pyplot.subplots(2, 1, figsize=(width + 1.2, height + 2.9), height_ratios=[height, 1.7], layout="constrained")
+    figure, (above, below) = pyplot.subplots(2, 1, figsize=(width + 1.2, height + 2.9), height_ratios=[height, 1.7], layout="compressed")
     figure.suptitle(f"{plot.name}, step {plot.step}")
     draw_masses(figure, above, plot, style, long)
     draw_ledger(below, plot)
@@ -81,7 +81,9 @@ def draw_masses(figure: Figure, axes: pyplot.Axes, plot: Plot, style: Style, lon
     )
     image.cmap.set_bad("#dddddd")
     image.cmap.set_under("black")
-    bar = figure.colorbar(image, ax=axes, extend="min" if style.log else "neither")
+    # beside the picture and as high as it, whatever its sides
+    beside = axes.inset_axes([1.02, 0, 0.03, 1])
+    bar = figure.colorbar(image, cax=beside, extend="min" if style.log else "neither")
     bar.set_label("mass in a cell of level 0" + (" (black: none)" if style.log else ""))
     if style.boxes:
         draw_boxes(axes, plot, style)
@@ -124,10 +126,12 @@ def draw_ledger(axes: pyplot.Axes, plot: Plot) -> None:
     mass, inflow, outflow = plot.ledger.T
     mark = "." if plot.step < 60 else ""
     lines = axes.plot(steps, mass, color="black", marker=mark, label="mass")
+    room = 0.04 * plot.step or 0.5
+    axes.set_xlim(-room, plot.step + room)
     axes.set_ylim(0, max(mass.max() * 1.15, 1))
     axes.set_xlabel("step")
     axes.set_ylabel("mass of level 0")
-    axes.xaxis.set_major_locator(MaxNLocator(integer=True))
+    axes.xaxis.set_major_locator(MaxNLocator(integer=True, min_n_ticks=1))
     if inflow.any() or outflow.any():
         # row 0 of the ledger has no flows: no step came before it
         beside = axes.twinx()
@@ -135,7 +139,8 @@ def draw_ledger(axes: pyplot.Axes, plot: Plot) -> None:
         lines += beside.plot(steps[1:], outflow[1:], color="#b3261e", marker=mark, linewidth=1, label="out, a step")
         beside.set_ylim(0, max(inflow.max(), outflow.max(), 1) * 1.15)
         beside.set_ylabel("flow a step")
-    axes.legend(handles=lines, loc="lower right", bbox_to_anchor=(1, 1), ncols=3, fontsize="small", frameon=False)
+    # in the middle: the axes' powers of ten stand at both ends
+    axes.legend(handles=lines, loc="lower center", bbox_to_anchor=(0.5, 1), ncols=3, fontsize="small", frameon=False)
 
 
 def save(plot: Plot, path: str, style: Style) -> None:

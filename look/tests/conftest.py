@@ -22,4 +22,4 @@ def plot_file(request) -> Path:
 
 @pytest.fixture
 def disc() -> Path:
-    return PLOTS / "disc.plot"
+    return EXAMPLES / "3_disc.plot"

@@ -5,7 +5,7 @@ import sys
 
 import numpy
 import pytest
-from conftest import LOOK, PLOTS
+from conftest import EXAMPLES, LOOK, PLOTS
 from matplotlib import image, pyplot
 from matplotlib.text import Text
 
@@ -29,6 +29,25 @@ def test_a_picture_of_each_plot_is_not_blank(plot_file, tmp_path):
     assert colours_of(path) > 20
 
 
+def test_nothing_of_a_picture_is_cut_off(plot_file):
+    figure = pictures.draw(read_plot(plot_file), pictures.Style())
+    try:
+        figure.draw_without_rendering()
+        drawn, (width, height) = figure.get_tightbbox(), figure.get_size_inches()
+        assert drawn.x0 >= 0 and drawn.y0 >= 0 and drawn.x1 <= width and drawn.y1 <= height
+    finally:
+        pyplot.close(figure)
+
+
+def test_the_ledger_of_a_start_has_one_step():
+    figure = pictures.draw(read_plot(EXAMPLES / "7_clusters_60.plot"), pictures.Style())
+    try:
+        low, high = figure.axes[1].get_xlim()
+        assert [step for step in figure.axes[1].get_xticks() if low <= step <= high] == [0]
+    finally:
+        pyplot.close(figure)
+
+
 def test_the_colours_are_those_of_the_finest_masses(disc):
     plot = read_plot(disc)
     figure = pictures.draw(plot, pictures.Style())
@@ -36,7 +55,7 @@ def test_the_colours_are_those_of_the_finest_masses(disc):
         (drawn,) = figure.axes[0].get_images()
         cells = 4 ** (len(plot.levels) - 1)
         assert int(drawn.get_array().sum()) == cells * plot.ledger[-1][0]
-        assert "disc, step 40" in [text.get_text() for text in figure.findobj(Text)]
+        assert "disc, step 20" in [text.get_text() for text in figure.findobj(Text)]
     finally:
         pyplot.close(figure)
 

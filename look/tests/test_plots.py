@@ -64,14 +64,15 @@ def test_the_finest_mass_of_each_place_is_that_of_the_finest_box(disc):
 
 
 def test_the_stored_plots_have_what_they_are_there_for():
-    from conftest import PLOTS
+    from conftest import stored
 
-    plots = {path.stem: read_plot(path) for path in PLOTS.glob("*.plot")}
-    assert len(plots["disc"].levels) == 3 and len(plots["disc"].levels[2].boxes) > 1
+    plots = {path.stem: read_plot(path) for path in stored()}
+    assert len(plots["3_disc"].levels) == 3 and len(plots["3_disc"].levels[2].boxes) > 1
     assert plots["open_sides"].ledger[:, 1:].any(axis=0).all()
     assert len(plots["long_name"].name) == 32
     assert (plots["strip"].columns, plots["strip"].rows) == (256, 2)
-    assert len(plots["five_levels"].levels) == 5
+    assert len(plots["5_levels"].levels) == 5
+    assert plots["7_clusters_60"].step == 0
 
 
 FAULTS = {
