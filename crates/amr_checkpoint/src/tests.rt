@@ -258,3 +258,28 @@ fn store_made_and_a_checkpoint_put(rt: HostRuntime) -> Result<(), Fail> {
     assert_eq!(rt; lines.bytes(), b"checkpoint 2\n".as_slice());
     Ok(())
 }
+
+#[test]
+fn first_checkpoint_renews_a_store_of_version_1(rt: HostRuntime) -> Result<(), Fail> {
+    let alloc = rt.alloc();
+    let text = RING.as_bytes();
+    let problem = judge(alloc, text)?;
+    let bytes = fresh(alloc, b'1', 241, RING)?;
+    let mut disk = MemDisk::make(alloc, &bytes, 2000, 64, &[], None)?;
+    let payload = ring_payload(alloc, 2, [2, 4, 2, 0, 0, 0, 0, 0])?;
+    let mesh = decode2(alloc, &problem, &payload)?;
+    match resume(alloc, text, 4, &mut disk) {
+        Ok(Resumed::Fresh(store)) => {
+            assert_eq!(rt; store.version(), 1);
+            let store = put_checkpoint(alloc, &problem, &mesh, store, &mut disk)?;
+            assert_eq!(rt; store.version(), 2);
+            assert_eq!(rt; store.slot_size(), 209);
+        }
+        Ok(Resumed::At(_store, _mesh)) => assert!(rt; false),
+        Ok(Resumed::Nothing) => assert!(rt; false),
+        Err(_fault) => assert!(rt; false),
+    }
+    let lines = said_of(alloc, &mut disk, RING, 4)?;
+    assert_eq!(rt; lines.bytes(), b"checkpoint 2\n".as_slice());
+    Ok(())
+}
