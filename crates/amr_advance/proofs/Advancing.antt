@@ -11,12 +11,12 @@ use Rattle.amr_def.specs.State.{Level, Masses}
 use Rattle.amr_def.specs.Flux.{flux_at, net}
 use Rattle.amr_def.specs.Facts.{IsLevel}
 use Rattle.amr_laws.specs.Sides.{inflow_beside, is_uncovered, outflow_beside}
+use Rattle.amr_patch.proofs.Lookups.{some_mass}
 use Rattle.amr_patch.specs.declared.levels.Level.{Level as Held}
 use Rattle.amr_patch.specs.declared.patches.Patch.{Patch}
 use Rattle.amr_patch.specs.Levels.{level_of}
 use Rattle.amr_patch.specs.Patches.{masses_in}
 use Rattle.amr_ghost.specs.Frames.{AreInDomain}
-use Rattle.amr_ghost.proofs.Zips.{some_mass}
 use Rattle.amr_layout.specs.Adds.{HasRegisterCells}
 use Rattle.amr_layout.specs.Surroundings.{around}
 use Rattle.amr_edges.proofs.Ordered.{serve, serve_base}

@@ -11,6 +11,7 @@ use Rattle.amr_def.specs.declared.problem.Problem.{Problem}
 use Rattle.amr_def.specs.Domain.{domain}
 use Rattle.amr_def.specs.State.{Masses}
 use Rattle.amr_def.specs.Flux.{net}
+use Rattle.amr_patch.proofs.Lookups.{some_mass}
 use Rattle.amr_patch.specs.declared.levels.Level.{Level as Held}
 use Rattle.amr_patch.specs.declared.patches.Patch.{Patch}
 use Rattle.amr_patch.specs.Levels.{level_of}
@@ -18,7 +19,6 @@ use Rattle.amr_patch.specs.Patches.{masses_in}
 use Rattle.amr_flux.specs.Faces.{ShowsValues}
 use Rattle.amr_flows.specs.Laws.{plain_size}
 use Rattle.amr_flows.specs.Words.{level_total}
-use Rattle.amr_ghost.proofs.Zips.{some_mass}
 use Rattle.amr_register.specs.declared.register.Register.{Register}
 use Rattle.amr_register.specs.CoarseFlows.{edge_flows}
 use Rattle.amr_register.specs.Laws.{net_of_all}

@@ -1,7 +1,7 @@
 -- What reading a disk gives, and what a run goes on from. (profile)
 use Rattle.std.specs.Prelude.{ℕ, ◌≡◌, ◌+◌, ◌≤◌, ⊤, false, List, Option, Some, None}
 use Rattle.std.specs.List.{All}
-use Rattle.amr_decoder.specs.Chopped.{IsChopped}
+use Rattle.amr_start.specs.PatchBoxes.{IsChopped}
 use Rattle.amr_def.specs.declared.problem.Problem.{Problem}
 use Rattle.amr_def.specs.Facts.{IsSound}
 use Rattle.amr_patch.specs.declared.meshes.Mesh.{Mesh}

@@ -3,7 +3,7 @@ ghost use Rattle.std.specs.Prelude.{◌≡◌, ◌+◌, ◌≤◌, ◌↔◌, �
 ghost use Rattle.std.specs.List.{All};
 ghost use Rattle.std.specs.declared.result.Result.TheVariants.{Ok};
 ghost use Rattle.amr_causes.specs.Causes.{Rose};
-ghost use Rattle.amr_decoder.specs.Chopped.{IsChopped};
+ghost use Rattle.amr_start.specs.PatchBoxes.{IsChopped};
 ghost use Rattle.amr_decoder.specs.Faults.{IsRefusalOf};
 ghost use Rattle.amr_def.specs.Facts.{IsSound};
 ghost use Rattle.amr_disk.specs.Image.{Only};

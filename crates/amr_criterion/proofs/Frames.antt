@@ -11,10 +11,10 @@ use Rattle.amr_def.specs.declared.problem.Problem.{Problem}
 use Rattle.amr_def.specs.Domain.{domain}
 use Rattle.amr_def.specs.State.{Level, Masses}
 use Rattle.amr_def.specs.Facts.{IsLevel}
+use Rattle.amr_patch.proofs.Lookups.{some_mass}
 use Rattle.amr_patch.specs.declared.patches.Patch.{Patch}
 use Rattle.amr_patch.specs.Patches.{ArePatchesApart, box, mass_in, masses_in}
 use Rattle.amr_ghost.specs.Frames.{AreInDomain, SameMasses}
-use Rattle.amr_ghost.proofs.Zips.{some_mass}
 
 -- the patches of a level lie in its domain
 pub patches_inside : (p : Problem) (l : ℕ) (k : Level) (ps : List Patch) → IsLevel p l k → k.masses ≡ masses_in ps → AreInDomain (domain p l) ps

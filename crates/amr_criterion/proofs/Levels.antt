@@ -12,13 +12,13 @@ use Rattle.amr_def.specs.Facts.{IsLevel}
 use Rattle.amr_def.specs.State.{Level, Masses}
 use Rattle.amr_def.specs.Tags.{differs_by, is_tagged_by, neighbours}
 use Rattle.amr_def.specs.Value.{value_at}
+use Rattle.amr_patch.proofs.Lookups.{some_mass}
 use Rattle.amr_patch.specs.declared.patches.Patch.{Patch}
 use Rattle.amr_patch.specs.Places.{grown}
 use Rattle.amr_patch.specs.Patches.{ArePatchesApart, box, in_patches, masses_in, value_in}
 use Rattle.amr_patch.proofs.Rows.{IsIn, inside, is_between}
 use Rattle.amr_ghost.specs.Frames.{AreInDomain, HasGhostValues, SameMasses}
 use Rattle.amr_ghost.proofs.Reach.{reach_values}
-use Rattle.amr_ghost.proofs.Zips.{some_mass}
 use Rattle.amr_nest.proofs.Reaches.{domain_is}
 use Rattle.amr_tags.specs.TagSets.{TagSet, has}
 use Rattle.amr_criterion.specs.Tagged.{is_tagged_in}

@@ -1,6 +1,5 @@
 pub mod Apart
 pub mod Boxes
-pub mod Chopped
 pub mod Faults
 pub mod Filled
 pub mod Grids

@@ -10,7 +10,7 @@ ghost use Rattle.amr_def.specs.State.{State};
 ghost use Rattle.amr_patch.specs.Meshes.{is_spent, levels_of, state_of};
 ghost use Rattle.amr_payload.specs.Payload.{payload};
 ghost use Rattle.amr_payload.specs.Tests.{decoded, read, read_state, row_place};
-ghost use Rattle.amr_decoder.specs.Chopped.{IsChopped};
+ghost use Rattle.amr_start.specs.PatchBoxes.{IsChopped};
 ghost use Rattle.amr_decoder.specs.Faults.{IsFaultOf, IsRefusalOf};
 ghost use Rattle.amr_decoder.specs.Lefts.{left_of};
 ghost use Rattle.amr_decoder.specs.declared.faults.CodecFault.TheVariants.{NoMemory};

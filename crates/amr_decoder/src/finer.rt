@@ -6,7 +6,7 @@ ghost use Rattle.amr_codec.specs.MassWidths.{width_of};
 ghost use Rattle.amr_def.specs.Facts.{IsLevel};
 ghost use Rattle.amr_patch.specs.Levels.{level_of};
 ghost use Rattle.amr_payload.specs.Tests.{read, read_finer, read_levels};
-ghost use Rattle.amr_decoder.specs.Chopped.{IsChopped};
+ghost use Rattle.amr_start.specs.PatchBoxes.{IsChopped};
 ghost use Rattle.amr_decoder.specs.Faults.{IsFaultOf};
 ghost use Rattle.amr_decoder.specs.Lefts.{left_of};
 ghost use Rattle.amr_decoder.specs.ReadLevels.{HasBase, read_level_count, read_over};

@@ -9,7 +9,7 @@ ghost use Rattle.amr_def.specs.Limits.{between};
 ghost use Rattle.amr_patch.specs.Levels.{level_of};
 ghost use Rattle.amr_payload.specs.Payload.{level_cells};
 ghost use Rattle.amr_payload.specs.Tests.{is_box_count, read, read_level};
-ghost use Rattle.amr_decoder.specs.Chopped.{IsChopped};
+ghost use Rattle.amr_start.specs.PatchBoxes.{IsChopped};
 ghost use Rattle.amr_decoder.specs.Faults.{IsFaultOf};
 ghost use Rattle.amr_decoder.specs.Grids.{HasSmallMasses, IsInside, grid_of};
 ghost use Rattle.amr_decoder.specs.Lefts.{left_of};

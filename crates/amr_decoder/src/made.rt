@@ -8,7 +8,7 @@ ghost use Rattle.amr_def.specs.State.{in_boxes};
 ghost use Rattle.amr_patch.specs.Levels.{level_of};
 ghost use Rattle.amr_patch.specs.Patches.{AreApart, AreNear};
 ghost use Rattle.amr_payload.specs.Tests as tests;
-ghost use Rattle.amr_decoder.specs.Chopped.{IsChopped};
+ghost use Rattle.amr_start.specs.PatchBoxes.{IsChopped};
 ghost use Rattle.amr_decoder.specs.Filled.{IsPlaced};
 ghost use Rattle.amr_decoder.specs.Grids.{HasSmallMasses, IsInside, boxes_of, grid_of};
 

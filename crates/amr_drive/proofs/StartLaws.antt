@@ -22,7 +22,7 @@ use Rattle.amr_patch.specs.declared.meshes.Mesh.{Mesh}
 use Rattle.amr_patch.specs.Levels.{level_of, patches_of}
 use Rattle.amr_patch.specs.Meshes.{levels_of, state_of}
 use Rattle.amr_patch.specs.Patches.{box}
-use Rattle.amr_regrid.specs.Outlines.{IsChopped}
+use Rattle.amr_start.specs.PatchBoxes.{IsChopped}
 use Rattle.amr_start.specs.PatchBoxes.{HasChoppedDomain}
 use Rattle.amr_drive.specs.Regrids.{StartHoldsTags}
 

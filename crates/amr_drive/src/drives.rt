@@ -6,7 +6,7 @@ ghost use Rattle.amr_def.specs.Facts.{IsSound};
 ghost use Rattle.amr_def.specs.Run.{finish, next};
 ghost use Rattle.amr_def.specs.State.{State};
 ghost use Rattle.amr_patch.specs.Meshes.{is_spent, levels_of, state_of};
-ghost use Rattle.amr_regrid.specs.Outlines.{IsChopped};
+ghost use Rattle.amr_start.specs.PatchBoxes.{IsChopped};
 ghost use Rattle.amr_drive.specs.Regrids.{RunHoldsTags};
 ghost use Rattle.amr_drive.specs.States.{states_after};
 

@@ -6,7 +6,7 @@ ghost use Rattle.amr_def.specs.Facts.{IsSound};
 ghost use Rattle.amr_def.specs.Regrid.{regrid};
 ghost use Rattle.amr_def.specs.Run.{next, regrid_is_due};
 ghost use Rattle.amr_patch.specs.Meshes.{is_spent, levels_of, state_of};
-ghost use Rattle.amr_regrid.specs.Outlines.{IsChopped};
+ghost use Rattle.amr_start.specs.PatchBoxes.{IsChopped};
 
 use amr_advance::Crew;
 use amr_causes::NoMemory;

@@ -5,7 +5,7 @@ ghost use Rattle.std.specs.List.{All};
 ghost use Rattle.amr_def.specs.Facts.{IsSound};
 ghost use Rattle.amr_def.specs.Run.{start};
 ghost use Rattle.amr_patch.specs.Meshes.{is_spent, levels_of, state_of};
-ghost use Rattle.amr_regrid.specs.Outlines.{IsChopped};
+ghost use Rattle.amr_start.specs.PatchBoxes.{IsChopped};
 ghost use Rattle.amr_drive.specs.Regrids.{StartHoldsTags};
 
 use amr_causes::NoMemory;

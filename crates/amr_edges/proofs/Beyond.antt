@@ -21,10 +21,10 @@ use Rattle.amr_def.proofs.LevelLists.{IsCellInside}
 use Rattle.amr_def.proofs.Nesting.{any_at, children, covered_inside, home_shift, in_domain-inside, odd_small, of_level, parent_inside}
 use Rattle.amr_def.proofs.Nests.{half_and_odd}
 use Rattle.amr_def.proofs.Uncovered.{home_at, in_domain-yes}
+use Rattle.amr_patch.proofs.Lookups.{some_mass}
 use Rattle.amr_patch.specs.declared.patches.Patch.{Patch}
 use Rattle.amr_patch.specs.declared.levels.Level.{Level as Held}
 use Rattle.amr_patch.specs.Patches.{box, in_patches, masses_in}
-use Rattle.amr_ghost.proofs.Zips.{some_mass}
 use Rattle.amr_flux.specs.Faces.{x_end, y_end}
 use Rattle.amr_register.specs.RegisterCells.{is_register_cell, register_cells}
 use Rattle.amr_register.proofs.CellLists.{where_among}

@@ -13,6 +13,7 @@ use Rattle.amr_def.specs.Domain.{Domain, domain}
 use Rattle.amr_def.proofs.Sizes.{doubled_small}
 use Rattle.amr_def.specs.State.{Masses}
 use Rattle.amr_def.specs.Value.{value_at}
+use Rattle.amr_patch.proofs.Lookups.{some_mass}
 use Rattle.amr_patch.specs.declared.patches.Patch.{Patch}
 use Rattle.amr_patch.specs.declared.lookup.Order.{Order}
 use Rattle.amr_patch.specs.Places.{in_frame}
@@ -24,7 +25,7 @@ use Rattle.amr_ghost.specs.declared.sides.Side.{Side}
 use Rattle.amr_ghost.specs.declared.sides.Side.TheVariants.{East, North, South, West}
 use Rattle.amr_ghost.specs.Filling.{HasFrame, HasGhost, HasSideValues, HasValues, IsLevelInOrder, KeepsCells, KeepsGhosts, KeepsValues, LiesInDomain, side_axis, side_count, side_from, size_along}
 use Rattle.amr_ghost.proofs.BoxSides.{beside_of, side_ghost}
-use Rattle.amr_ghost.proofs.Zips.{some_mass, zip_apart, zip_box, zip_boxes, zip_ghosts, zip_masses}
+use Rattle.amr_ghost.proofs.Zips.{zip_apart, zip_box, zip_boxes, zip_ghosts, zip_masses}
 use Rattle.amr_ghost.proofs.GhostStrips.{still_ghosts}
 
 pub zip_in_patches : (ps qs : List Patch) (c : Cell) → AllZip KeepsCells ps qs → in_patches qs c ≡ in_patches ps c

@@ -86,15 +86,6 @@ zip_mass (p ∷ ps) (q ∷ qs) c h =
 pub zip_masses : (ps qs : List Patch) → AllZip KeepsCells ps qs → masses_in qs ≡ masses_in ps
 zip_masses ps qs h i c = zip_mass ps qs c h i
 
--- whether a cell has a mass
-some_cases : (t : Bool) (a : ℕ) (x : Option ℕ) (r : Bool) → is_some x ≡ r → is_some (cond t (Some a) x) ≡ (t || r)
-some_cases true a x r e = refl
-some_cases false a x r e = e
-
-pub some_mass : (ps : List Patch) (c : Cell) → is_some (masses_in ps c) ≡ in_patches ps c
-some_mass [] c = refl
-some_mass (p ∷ ps) c = some_cases (holds (box p) c) (mass_in p c) (masses_in ps c) (in_patches ps c) (some_mass ps c)
-
 -- a cell of a patch's box stays one
 pub still_held : (ps qs : List Patch) (i : ℕ) (d e : Patch) (c c' : Cell) → AllZip KeepsCells ps qs → i < length ps → c' ≡ c → IsTrue (holds (box (get_or ps i d)) c) → IsTrue (holds (box (get_or qs i e)) c')
 still_held ps qs i d e c c' h there is t = rw (is, zip_box ps qs i d e h there) t

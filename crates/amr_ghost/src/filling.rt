@@ -14,13 +14,13 @@ ghost use Rattle.amr_ghost.specs.Frames.{AreInDomain, HasGhostMarks, HasGhostVal
 ghost use Rattle.amr_ghost.specs.Filling.{HasFrame, HasSideValues, HasValues, IsGhostStrip, IsLevelInOrder, KeepsCells, KeepsValues, LiesInDomain};
 
 use crate::ghosts::{copy_strip, set_ghost};
-use crate::lookup::{Near, look_up};
+use crate::lookup::Near;
 use crate::places::{cells_ahead, step};
 use crate::sides::{Side, Strip, side_strip};
 use crate::values::outer_value;
 use amr_box::Cell;
 use amr_def::{Dom, Problem};
-use amr_patch::{Level, Order, Patch, order_of};
+use amr_patch::{Level, Order, Patch, find_near, order_of};
 
 /// The patch whose frame is filled: the number of its level, how that level's patches stand, and its own number among them.
 #[derive(Clone, Copy, Debug)]
@@ -48,7 +48,7 @@ fn holder(patches: &[Patch], order: Order, dom: &Dom, near: &mut usize, c: Cell)
     if !dom.in_domain(c) {
         return None;
     }
-    look_up(patches, order, near, c)
+    find_near(patches, order, near, c)
 }
 
 /// Gives the first ghost cells of a strip beside a patch their values, and answers how many. They are as many as stand for

@@ -9,11 +9,10 @@ ghost use Rattle.amr_def.specs.Value.{inflow_at};
 ghost use Rattle.amr_patch.specs.Levels.{level_of};
 ghost use Rattle.amr_ghost.specs.Frames.{old_masses};
 
-use crate::lookup::look_up;
 use crate::outside::outside_value;
 use amr_box::{Cell, parent};
 use amr_def::Problem;
-use amr_patch::Level;
+use amr_patch::{Level, find_near};
 
 /// The mass of a cell of a level, 0 where it is no cell of it.
 fn mass_in_level(level: &Level, near: &mut usize, c: Cell) -> u64
@@ -21,7 +20,7 @@ fn mass_in_level(level: &Level, near: &mut usize, c: Cell) -> u64
     ensures small { result < 2 ^ 32 }
 {
     let patches = level.patches();
-    match look_up(patches, level.order(), near, c) {
+    match find_near(patches, level.order(), near, c) {
         None => 0,
         Some(k) => patches[k].mass(c),
     }

@@ -12,25 +12,7 @@ ghost use Rattle.amr_layout.specs.Surroundings.{IsReachable, finer_masses};
 
 use crate::gaps::{Starts, gap_from, is_in_gap};
 use amr_box::{Bx, Cell};
-use amr_patch::{Level, Order, Patch, find};
-
-/// The number of the patch that has a cell, None exactly where none has it. It looks at patch `near` first, and leaves there
-/// what it found.
-pub(crate) fn look_up(patches: &[Patch], order: Order, near: &mut usize, c: Cell) -> Option<usize>
-    requires order { IsOrderOf order patches.now }
-    requires apart { ArePatchesApart patches.now }
-    ensures some { is_some result ≡ in_patches patches.now c }
-    ensures found { IfSome result (IsHolder patches.now c) }
-{
-    if let Some(k) = near_holder(patches, *near, c) {
-        return Some(k);
-    }
-    let found = find(patches, order, c);
-    if let Some(k) = found {
-        *near = k;
-    }
-    found
-}
+use amr_patch::{Level, Order, Patch, find_near};
 
 /// What the last look-ups among the patches of a level found: the number of a patch, and a box of cells that none of them has.
 #[derive(Clone, Copy)]
@@ -39,7 +21,7 @@ pub(crate) struct Trace {
     pub(crate) gap: Option<Bx>,
 }
 
-/// The same as `look_up`, where many of the cells are of no patch: it looks at the last gap too, and leaves the next one there.
+/// The same as `find_near`, where many of the cells are of no patch: it looks at the last gap too, and leaves the next one there.
 pub(crate) fn look_beside(
     patches: &[Patch],
     order: Order,
@@ -58,31 +40,18 @@ pub(crate) fn look_beside(
     if is_in_gap(trace.gap, c) {
         return None;
     }
-    let found = look_up(patches, order, &mut trace.patch, c);
+    let found = find_near(patches, order, &mut trace.patch, c);
     if found.is_none() {
         trace.gap = gap_from(starts, c);
     }
     found
 }
 
-/// The number of the patch that has a cell, where that is `near`.
-fn near_holder(patches: &[Patch], near: usize, c: Cell) -> Option<usize>
-    ensures { IfSome result (IsHolder patches.now c) }
-{
-    if near >= patches.len() {
-        return None;
-    }
-    if patches[near].bx().holds(c) {
-        return Some(near);
-    }
-    None
-}
-
 /// Whether a level has the cell.
 fn has(level: &Level, near: &mut usize, x: i32, y: i32) -> bool
     ensures { result ≡ is_some ((level_of level.now).masses (cell x y)) }
 {
-    look_up(level.patches(), level.order(), near, Cell { x, y }).is_some()
+    find_near(level.patches(), level.order(), near, Cell { x, y }).is_some()
 }
 
 /// Whether a cell is the parent of one of the level.

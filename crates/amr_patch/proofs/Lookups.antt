@@ -1,7 +1,8 @@
 -- Which of several patches has a cell.
 use Rattle.std.proofs.Common.{◌≡◌, ◌∙◌, ℕ, zero, suc, ◌+◌, ◌-◌, ◌<◌, ◌≤◌, ◌⊎◌, inl, inr, below_more, Bool, true, false, ◌||◌, ℤ, pos, negsuc, ◌-ℤ◌, ◌≤ℤ◌, ◌<ℤ◌, List, [], ◌∷◌, length, cond, refl, sym, ap, arith}
-use Rattle.std.specs.Prelude.{int_le, slice_index_or, IsTrue}
+use Rattle.std.specs.Prelude.{int_le, is_some, slice_index_or, IsTrue}
 use Rattle.std.specs.List.{All}
+use Rattle.std.specs.declared.option.Option.{Option}
 use Rattle.std.specs.declared.option.Option.TheVariants.{None, Some}
 use Rattle.std.proofs.lemmas.Int.{ints, clamps}
 use Rattle.std.proofs.lemmas.Bool.{or_right, cases_lt, cases_eq, false_from_ne_true}
@@ -23,6 +24,15 @@ pub in_one : (ps : List Patch) (c : Cell) (i : ℕ) → IsHolder ps c i → in_p
 in_one [] c i h = let lt : i < 0 = h.inside in absurd (omega arith)
 in_one (p ∷ ps) c zero h = rw (h.holds_it p) refl
 in_one (p ∷ ps) c (suc i) h = or_right (holds (box p) c) (in_patches ps c) (in_one ps c i (record { inside = let lt : suc i < suc (length ps) = h.inside in omega arith; holds_it = λ d. h.holds_it d }))
+
+-- whether a cell has a mass
+some_cases : (t : Bool) (a : ℕ) (x : Option ℕ) (r : Bool) → is_some x ≡ r → is_some (cond t (Some a) x) ≡ (t || r)
+some_cases true a x r e = refl
+some_cases false a x r e = e
+
+pub some_mass : (ps : List Patch) (c : Cell) → is_some (masses_in ps c) ≡ in_patches ps c
+some_mass [] c = refl
+some_mass (p ∷ ps) c = some_cases (holds (box p) c) (mass_in p c) (masses_in ps c) (in_patches ps c) (some_mass ps c)
 
 apart_tail : (p : Patch) (ps : List Patch) → ArePatchesApart (p ∷ ps) → ArePatchesApart ps
 apart_tail p ps h = λ i j d lt k. h (suc i) (suc j) d (omega arith) (omega arith)

@@ -17,7 +17,7 @@ mod places;
 
 pub use amr_def::Row;
 pub use levels::Level;
-pub use lookup::{Order, find, mass_at, order_of};
+pub use lookup::{Order, find, find_near, mass_at, order_of};
 pub use meshes::Mesh;
 pub use patches::Patch;
 

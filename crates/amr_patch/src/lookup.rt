@@ -133,6 +133,45 @@ fn count_up_to(patches: &[Patch], y: i64, x: i32) -> usize
     patches.partition_point(|p| starts_up_to(p, y, x))
 }
 
+/// The number of the patch that has a cell, where that is `near` or the next.
+fn near_holder(patches: &[Patch], near: usize, c: Cell) -> Option<usize>
+    ensures { IfSome result (IsHolder patches.now c) }
+{
+    if near >= patches.len() {
+        return None;
+    }
+    if patches[near].bx().holds(c) {
+        return Some(near);
+    }
+    let next = near + 1;
+    if next >= patches.len() {
+        return None;
+    }
+    if patches[next].bx().holds(c) {
+        return Some(next);
+    }
+    None
+}
+
+/// The same as `find`, for look-ups of cells that lie side by side: it looks at patch `near` and the next first, and leaves in
+/// `near` what it found.
+pub fn find_near(patches: &[Patch], order: Order, near: &mut usize, c: Cell) -> Option<usize>
+    requires order { IsOrderOf order patches.now }
+    requires apart { ArePatchesApart patches.now }
+    ensures some { is_some result ≡ in_patches patches.now c }
+    ensures found { IfSome result (IsHolder patches.now c) }
+{
+    if let Some(k) = near_holder(patches, *near, c) {
+        *near = k;
+        return Some(k);
+    }
+    let found = find(patches, order, c);
+    if let Some(k) = found {
+        *near = k;
+    }
+    found
+}
+
 /// The mass of a cell, None exactly where it is in none of the patches. No cell is in two of them.
 pub fn mass_at(patches: &[Patch], order: Order, c: Cell) -> Option<u64>
     requires order { IsOrderOf order patches.now }

@@ -80,10 +80,3 @@ not_yet cs es o old now n c0 rises h lt = h.masses.left (slice_index_or cs n c0)
 
 -- ---- cells of patches
 
-some_cases : (t : Bool) (a : ℕ) (x : Option ℕ) (r : Bool) → is_some x ≡ r → is_some (cond t (Some a) x) ≡ (t || r)
-some_cases true a x r e = refl
-some_cases false a x r e = e
-
-pub some_mass : (ps : List Patch) (c : Cell) → is_some (masses_in ps c) ≡ in_patches ps c
-some_mass [] c = refl
-some_mass (p ∷ ps) c = some_cases (holds (box p) c) (mass_in p c) (masses_in ps c) (in_patches ps c) (some_mass ps c)

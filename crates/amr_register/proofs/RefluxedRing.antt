@@ -12,10 +12,10 @@ use Rattle.amr_box.specs.Cells.{Extent, holds}
 use Rattle.amr_box.proofs.CellEquality.{cell_itself, cell_same, is_cell}
 use Rattle.amr_def.specs.Domain.{Domain, in_domain}
 use Rattle.amr_def.specs.State.{Masses, in_boxes, mass_of}
+use Rattle.amr_patch.proofs.Lookups.{some_mass}
 use Rattle.amr_patch.specs.declared.patches.Patch.{Patch}
 use Rattle.amr_patch.specs.Patches.{box, masses_in}
 use Rattle.amr_flux.specs.Faces.{IsInDomain}
-use Rattle.amr_register.proofs.PatchRefluxes.{some_mass}
 
 -- ---- masses
 

@@ -18,7 +18,8 @@ use Rattle.amr_patch.specs.declared.levels.Level.{Level}
 use Rattle.amr_patch.specs.Levels.{level_of}
 use Rattle.amr_regrid.specs.declared.masses.Remade.{Remade}
 use Rattle.amr_regrid.specs.declared.masses.Remade.TheVariants.{Kept, Made}
-use Rattle.amr_regrid.specs.Outlines.{IsChopped, IsSoundWith, lists_in, outlines, regridded_boxes, with_levels}
+use Rattle.amr_start.specs.PatchBoxes.{IsChopped}
+use Rattle.amr_regrid.specs.Outlines.{IsSoundWith, lists_in, outlines, regridded_boxes, with_levels}
 use Rattle.amr_regrid.specs.Remade.{IsChoppedIfMade, IsFilled, remade_levels}
 use Rattle.amr_regrid.proofs.OutlineLaws.{same_levels}
 

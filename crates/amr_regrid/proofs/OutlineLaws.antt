@@ -11,7 +11,8 @@ use Rattle.amr_ghost.specs.Frames.{old_masses}
 use Rattle.amr_patch.specs.declared.levels.Level.{Level}
 use Rattle.amr_patch.specs.Levels.{level_of, patches_of}
 use Rattle.amr_patch.specs.Patches.{box}
-use Rattle.amr_regrid.specs.Outlines.{IsChopped, Outline, outline, outlines, with_levels}
+use Rattle.amr_start.specs.PatchBoxes.{IsChopped}
+use Rattle.amr_regrid.specs.Outlines.{Outline, outline, outlines, with_levels}
 
 pub outline_is : (j k : Level) → level_of j ≡ level_of k → map box (patches_of j) ≡ map box (patches_of k) → outline j ≡ outline k
 outline_is j k levels boxes = λ i. record { level = levels i; patch_boxes = boxes i }

@@ -42,7 +42,3 @@ lists_in = map (λ v. v.items)
 -- the new boxes at a regrid of these levels
 abbrev pub regridded_boxes : Problem → List Level → List (List Extent)
 regridded_boxes p ks = new_boxes p (is_tagged p (with_levels ks)) (new_level_count p (with_levels ks)) 0
-
--- the level has a patch for each box of at most max by max cells that its boxes are chopped into, and no other (BoxLib: maxSize)
-pub record IsChopped (max : ℕ) (k : Level) : Type 0 where
-  pub patches : IsPermutation (flat_map (chopped max) (level_of k).boxes) (map box (patches_of k))

@@ -11,7 +11,7 @@ use Rattle.amr_def.specs.State.{in_boxes}
 use Rattle.amr_patch.specs.declared.levels.Level.{Level}
 use Rattle.amr_regrid.specs.declared.masses.Remade.{Remade}
 use Rattle.amr_regrid.specs.declared.masses.Remade.TheVariants.{Kept, Made}
-use Rattle.amr_regrid.specs.Outlines.{IsChopped}
+use Rattle.amr_start.specs.PatchBoxes.{IsChopped}
 
 -- the levels that there will be: a level that was made, or the one that was kept
 unfoldable pub remade_levels : List Level → List Remade → List Level

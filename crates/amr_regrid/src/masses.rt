@@ -11,7 +11,8 @@ ghost use Rattle.amr_def.specs.State.{in_boxes};
 ghost use Rattle.amr_patch.specs.Levels.{level_of};
 ghost use Rattle.amr_patch.specs.Patches.{AreApart, AreNear};
 ghost use Rattle.amr_patch.specs.declared.levels.Level.{Level};
-ghost use Rattle.amr_regrid.specs.Outlines.{IsChopped, lists_in};
+ghost use Rattle.amr_start.specs.PatchBoxes.{IsChopped};
+ghost use Rattle.amr_regrid.specs.Outlines.{lists_in};
 ghost use Rattle.amr_regrid.specs.Remade.{IsChoppedIfMade, IsFilled, Stands, remade_levels};
 ghost use Rattle.amr_transfer.specs.Shares.{masses_before};
 

@@ -7,7 +7,8 @@ ghost use Rattle.amr_def.specs.Regrid.{new_level_count, regrid, regridded_levels
 ghost use Rattle.amr_def.specs.State.{State};
 ghost use Rattle.amr_patch.specs.Levels.{level_of};
 ghost use Rattle.amr_patch.specs.Meshes.{is_spent, levels_of, state_of};
-ghost use Rattle.amr_regrid.specs.Outlines.{IsChopped, IsSoundWith, lists_in, outlines, regridded_boxes, with_levels};
+ghost use Rattle.amr_start.specs.PatchBoxes.{IsChopped};
+ghost use Rattle.amr_regrid.specs.Outlines.{IsSoundWith, lists_in, outlines, regridded_boxes, with_levels};
 ghost use Rattle.amr_regrid.specs.Remade.{IsChoppedIfMade, remade_levels};
 
 use crate::boxes::new_boxes;

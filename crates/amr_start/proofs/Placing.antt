@@ -12,6 +12,7 @@ use Rattle.std.proofs.Math.Bool.{or-false}
 use Rattle.amr_box.specs.declared.Cell.{Cell}
 use Rattle.amr_box.specs.Cells.{Extent, IsNear, cell, holds, within}
 use Rattle.amr_def.specs.State.{Masses, in_boxes}
+use Rattle.amr_patch.proofs.Lookups.{some_mass}
 use Rattle.amr_patch.specs.declared.patches.Patch.{Patch}
 use Rattle.amr_patch.specs.Patches.{AreNear, ArePatchesApart, box, in_patches, mass_in, masses_in}
 use Rattle.amr_patch.proofs.Rows.{inside, is_between}
@@ -158,14 +159,6 @@ zip_in [] [] c h = refl
 zip_in [] (q ∷ qs) c h = absurd h
 zip_in (p ∷ ps) [] c h = absurd h
 zip_in (p ∷ ps) (q ∷ qs) c h = λ i. holds (h.0.of_box i) c || zip_in ps qs c h.1 i
-
-some_cases : (t : Bool) (a : ℕ) (x : Option ℕ) (r : Bool) → is_some x ≡ r → is_some (cond t (Some a) x) ≡ (t || r)
-some_cases true a x r e = refl
-some_cases false a x r e = e
-
-some_mass : (ps : List Patch) (c : Cell) → is_some (masses_in ps c) ≡ in_patches ps c
-some_mass [] c = refl
-some_mass (p ∷ ps) c = some_cases (holds (box p) c) (mass_in p c) (masses_in ps c) (in_patches ps c) (some_mass ps c)
 
 -- ---- a list of patches, one by one
 

@@ -4,7 +4,7 @@ ghost use Rattle.std.specs.Prelude.{◌≡◌, ◌≤◌, ◌<◌, cond, None, S
 ghost use Rattle.amr_box.specs.declared.Cell.{Cell};
 ghost use Rattle.amr_box.specs.Cells.{IsNear, holds};
 ghost use Rattle.amr_patch.specs.Levels.{level_of};
-ghost use Rattle.amr_start.specs.PatchBoxes.{IsChopped};
+ghost use Rattle.amr_start.specs.PatchBoxes.{IsBoxChopped};
 ghost use Rattle.amr_start.specs.Rows.{box_of};
 
 use amr_box::{Bx, Cell};
@@ -39,7 +39,7 @@ pub(crate) fn blank_level(alloc: Global, whole: Bx, max: u32) -> Result<Level, N
     requires some { 1 ≤ max }
     ensures boxes { IfOk result (λ l. (level_of l).boxes ≡ whole ∷ []) }
     ensures masses { IfOk result (λ l. (c : Cell) → (level_of l).masses c ≡ cond (holds whole c) (Some 0) None) }
-    ensures patches { IfOk result (IsChopped max whole) }
+    ensures patches { IfOk result (IsBoxChopped max whole) }
 {
     let boxes = vec![in alloc; whole]?;
     let mut chopped = BoxList::make(alloc);

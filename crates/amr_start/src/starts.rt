@@ -6,7 +6,7 @@ ghost use Rattle.amr_def.specs.Run.{plain_start, start};
 ghost use Rattle.amr_patch.specs.Levels.{level_of};
 ghost use Rattle.amr_patch.specs.Meshes.{is_spent, levels_of, state_of};
 ghost use Rattle.amr_start.specs.OneLevel.{HasOneLevel};
-ghost use Rattle.amr_start.specs.PatchBoxes.{HasChoppedDomain, IsChopped};
+ghost use Rattle.amr_start.specs.PatchBoxes.{HasChoppedDomain, IsBoxChopped};
 ghost use Rattle.amr_start.specs.Rows.{box_of, masses_on};
 
 use crate::blank::{blank_level, whole_box};
@@ -33,7 +33,7 @@ fn level_with(
     requires count { length masses.now ≡ rows * columns }
     ensures boxes { IfOk result (λ l. (level_of l).boxes ≡ box_of columns rows ∷ []) }
     ensures masses { IfOk result (λ l. (level_of l).masses ≡ masses_on columns rows masses.now) }
-    ensures patches { IfOk result (IsChopped max (box_of columns rows)) }
+    ensures patches { IfOk result (IsBoxChopped max (box_of columns rows)) }
 {
     let mut level = blank_level(alloc, whole_box(columns, rows), max)?;
     let mut patches = level.take_patches();

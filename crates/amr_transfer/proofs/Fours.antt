@@ -7,6 +7,7 @@ use Rattle.std.proofs.lemmas.Bool.{or_cases}
 use Rattle.std.proofs.lemmas.List.{get_or-drop, length-drop, take_all}
 use Rattle.amr_box.specs.declared.Cell.{Cell}
 use Rattle.amr_box.specs.Cells.{Extent, cell, child, has_child_where, holds, parent}
+use Rattle.amr_patch.proofs.Lookups.{some_mass}
 use Rattle.amr_patch.proofs.Rows.{inside, is_inside}
 use Rattle.amr_def.specs.Facts.{IsAligned}
 use Rattle.amr_def.specs.State.{children_mass, is_covered}
@@ -18,7 +19,7 @@ use Rattle.amr_patch.specs.Patches.{ArePatchesApart, box, in_patches, mass_in, m
 use Rattle.amr_patch.specs.Pairwise.{Pairwise}
 use Rattle.amr_transfer.specs.Given.{IsGiven}
 use Rattle.amr_transfer.proofs.Halves.{parent_child}
-use Rattle.amr_transfer.proofs.PatchLists.{in_more, mass_there, masses_given, some_mass}
+use Rattle.amr_transfer.proofs.PatchLists.{in_more, mass_there, masses_given}
 use Rattle.amr_transfer.specs.Sums.{IsRow, children_in, four_at, summed}
 
 -- ---- fours of two rows

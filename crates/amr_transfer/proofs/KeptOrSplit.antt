@@ -10,11 +10,12 @@ use Rattle.amr_def.specs.State.{Masses, children_mass, in_boxes, is_covered, mas
 use Rattle.amr_def.proofs.Children.{first_child, fourth_child, second_child, third_child}
 use Rattle.amr_def.proofs.Nests.{shares_sum}
 use Rattle.amr_def.proofs.Uncovered.{no_children}
+use Rattle.amr_patch.proofs.Lookups.{some_mass}
 use Rattle.amr_patch.specs.declared.patches.Patch.{Patch}
 use Rattle.std.specs.List.{All}
 use Rattle.amr_patch.specs.Pairwise.{Pairwise}
 use Rattle.amr_patch.specs.Patches.{KeepsFrameAndFluxes, box, mass_in, masses_in}
-use Rattle.amr_transfer.proofs.PatchLists.{kept_in, masses_had, some_mass}
+use Rattle.amr_transfer.proofs.PatchLists.{kept_in, masses_had}
 use Rattle.amr_transfer.specs.Given.{HasMasses, IsGiven}
 use Rattle.amr_transfer.specs.Shares.{HasChildren, IsInSync, kept_or_split}
 use Rattle.amr_transfer.proofs.Halves.{share_child}

@@ -90,14 +90,6 @@ all_as cells other mass value ps qs same is = pairwise_map (IsGiven cells mass) 
 
 -- ---- masses of lists
 
-some_cases : (t : Bool) (a : ℕ) (x : Option ℕ) (r : Bool) → is_some x ≡ r → is_some (cond t (Some a) x) ≡ (t || r)
-some_cases true a x r e = refl
-some_cases false a x r e = e
-
-pub some_mass : (ps : List Patch) (c : Cell) → is_some (masses_in ps c) ≡ in_patches ps c
-some_mass [] c = refl
-some_mass (p ∷ ps) c = some_cases (holds (box p) c) (mass_in p c) (masses_in ps c) (in_patches ps c) (some_mass ps c)
-
 -- the mass of a cell of one of the patches
 pub mass_there : (ps : List Patch) (i : ℕ) (p : Patch) (c : Cell) → ArePatchesApart ps → i < length ps → p ≡ slice_index_or ps i p → holds (box p) c ≡ true → mass_in p c ≡ mass_of (masses_in ps) c
 mass_there ps i p c apart lt at h = sym (ap (λ (o : Option ℕ). unwrap_or o 0) (masses_in-at ps c i p apart (holder ps c i p lt at h)) ∙ ap (λ (q : Patch). mass_in q c) (sym at))

@@ -7,7 +7,7 @@ use Rattle.amr_def.specs.State as defined
 use Rattle.amr_patch.specs.declared.levels.Level.{Level}
 use Rattle.amr_patch.specs.Levels.{level_of}
 use Rattle.amr_payload.specs.Tests.{read, read_all_finer, read_also}
-use Rattle.amr_decoder.specs.Chopped.{IsChopped}
+use Rattle.amr_start.specs.PatchBoxes.{IsChopped}
 use Rattle.amr_decoder.specs.Lefts.{left_of}
 use Rattle.amr_decoder.specs.ReadLevels.{read_over}
 use Rattle.amr_decoder.proofs.FinerLevels.{over_bad, over_end, over_next}

@@ -4,7 +4,7 @@ use Rattle.amr_codec.specs.MassWidths.{width_of}
 use Rattle.amr_def.specs.Facts.{IsLevel}
 use Rattle.amr_patch.specs.Levels.{level_of}
 use Rattle.amr_payload.specs.Tests.{read_all_finer, read_also}
-use Rattle.amr_decoder.specs.Chopped.{IsChopped}
+use Rattle.amr_start.specs.PatchBoxes.{IsChopped}
 use Rattle.amr_decoder.specs.Lefts.{left_of}
 use Rattle.amr_decoder.specs.ReadLevels.{read_over}
 use Rattle.amr_decoder.proofs.Lists.{also_all}

@@ -2,7 +2,7 @@ use Rattle.std.proofs.Common.{◌≡◌, ◌-◌, ◌<◌, ◌≤◌, ℕ, false
 use Rattle.std.specs.List.{All}
 use Rattle.amr_def.specs.Run.{finish}
 use Rattle.amr_patch.specs.Meshes.{is_spent, levels_of, state_of}
-use Rattle.amr_regrid.specs.Outlines.{IsChopped}
+use Rattle.amr_start.specs.PatchBoxes.{IsChopped}
 use Rattle.amr_drive.specs.States.{states_after}
 use Rattle.amr_drive.proofs.drives.drive.Given as goal
 

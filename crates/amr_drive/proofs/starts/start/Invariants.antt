@@ -4,7 +4,7 @@ use Rattle.amr_def.specs.Facts.{IsSound}
 use Rattle.amr_def.specs.Regrid.{regrid}
 use Rattle.amr_def.specs.Run.{start, times}
 use Rattle.amr_patch.specs.Meshes.{is_spent, levels_of, state_of}
-use Rattle.amr_regrid.specs.Outlines.{IsChopped}
+use Rattle.amr_start.specs.PatchBoxes.{IsChopped}
 use Rattle.amr_drive.proofs.starts.start.Given as goal
 
 -- the regrids that are left make the start

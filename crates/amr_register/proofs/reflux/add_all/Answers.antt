@@ -4,8 +4,9 @@ use Rattle.std.specs.declared.option.Option.{Option}
 use Rattle.std.specs.Option.{unwrap_or}
 use Rattle.std.proofs.lemmas.Int.{ints}
 use Rattle.amr_box.specs.Cells.{cell}
+use Rattle.amr_patch.proofs.Lookups.{some_mass}
 use Rattle.amr_register.proofs.CellLists.{is_or_not}
-use Rattle.amr_register.proofs.PatchRefluxes.{at_start, not_yet, one_further, some_mass}
+use Rattle.amr_register.proofs.PatchRefluxes.{at_start, not_yet, one_further}
 use Rattle.amr_register.proofs.Refluxes.{all_added}
 use Rattle.amr_register.proofs.reflux.add_all.Goals as goal
 

@@ -5,7 +5,8 @@ use Rattle.amr_def.specs.State.{State}
 use Rattle.amr_laws.proofs.Held.{regrid-held}
 use Rattle.amr_laws.proofs.SoundRegrid.{regrid-sound}
 use Rattle.amr_patch.specs.Meshes.{state_of}
-use Rattle.amr_regrid.specs.Outlines.{IsChopped, outlines}
+use Rattle.amr_start.specs.PatchBoxes.{IsChopped}
+use Rattle.amr_regrid.specs.Outlines.{outlines}
 use Rattle.amr_regrid.proofs.MeshRegrids.{as_before, is_regrid}
 use Rattle.amr_regrid.proofs.regrids.regrid.Goals as goal
 

@@ -4,7 +4,8 @@ use Rattle.amr_def.specs.Regrid.{regridded_levels}
 use Rattle.amr_def.specs.State as defined
 use Rattle.amr_patch.specs.declared.levels.Level.{Level}
 use Rattle.amr_patch.specs.Levels.{level_of}
-use Rattle.amr_regrid.specs.Outlines.{IsChopped, IsSoundWith, lists_in, regridded_boxes}
+use Rattle.amr_start.specs.PatchBoxes.{IsChopped}
+use Rattle.amr_regrid.specs.Outlines.{IsSoundWith, lists_in, regridded_boxes}
 use Rattle.amr_regrid.specs.Remade.{remade_levels}
 use Rattle.amr_regrid.proofs.Bases.{chopped_after, same_boxes, sound_stays}
 use Rattle.amr_regrid.proofs.OutlineLaws.{all_chopped, same_levels}

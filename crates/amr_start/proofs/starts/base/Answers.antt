@@ -6,7 +6,7 @@ use Rattle.amr_def.specs.State.{State}
 use Rattle.amr_box.specs.Cells.{Extent}
 use Rattle.amr_def.proofs.SoundRun.{plain_start-sound}
 use Rattle.amr_patch.specs.Levels.{level_of}
-use Rattle.amr_start.specs.PatchBoxes.{IsChopped}
+use Rattle.amr_start.specs.PatchBoxes.{IsBoxChopped}
 use Rattle.amr_start.specs.Rows.{box_of, masses_on, row_mass_in}
 use Rattle.amr_start.proofs.Bases.{base-state_with, whole_box}
 use Rattle.amr_start.proofs.starts.base.Goals as goal
@@ -50,5 +50,5 @@ returns-clause-patches c =
     record {
       base = c.in_ok-level.level;
       alone = c.of.ensures.levels ∙ levels;
-      chopped = subst (λ (b : Extent). IsChopped p.max_grid_size b c.in_ok-level.level) (sym (whole_box p)) c.in_ok-level.ensures.patches;
+      chopped = subst (λ (b : Extent). IsBoxChopped p.max_grid_size b c.in_ok-level.level) (sym (whole_box p)) c.in_ok-level.ensures.patches;
     }

@@ -11,7 +11,7 @@ use Rattle.amr_def.specs.State.{Masses}
 use Rattle.amr_patch.specs.declared.patches.Patch.{Patch}
 use Rattle.amr_patch.specs.Patches.{ArePatchesApart, box, masses_in}
 use Rattle.amr_start.specs.Placed.{HasBoxOf, LiesInBox}
-use Rattle.amr_start.specs.PatchBoxes.{IsChopped}
+use Rattle.amr_start.specs.PatchBoxes.{IsBoxChopped}
 use Rattle.amr_start.specs.Rows.{box_of, masses_on}
 use Rattle.amr_start.proofs.Placing.{all_lie_in, all_masses, off_box, zip_apart, zip_boxes}
 use Rattle.amr_start.proofs.starts.level_with.Goals as goal
@@ -53,5 +53,5 @@ returns-clause-patches c =
     let items = with_items_is c.take_patches-patches.result new (c.place_all.auto.patches ∙ c.deref_mut.ensures.len) in
     let zip : AllZip HasBoxOf ps new = subst (λ (qs : List Patch). AllZip HasBoxOf qs new) c.deref_mut.ensures.value c.place_all.ensures.boxes in
     let boxes = ap (map box) c.put_patches.ensures.all ∙ ap (map box) items ∙ zip_boxes ps new zip ∙ ap (map box) c.take_patches-patches.ensures.all in
-    let blank = subst (λ (b : Extent). IsChopped c.args.max b c.in_ok-level.level) c.whole_box.ensures.value c.in_ok-level.ensures.patches in
+    let blank = subst (λ (b : Extent). IsBoxChopped c.args.max b c.in_ok-level.level) c.whole_box.ensures.value c.in_ok-level.ensures.patches in
     record { patches = subst (λ (bs : List Extent). IsPermutation (chopped c.args.max (box_of c.args.columns c.args.rows)) bs) (sym boxes) blank.patches }

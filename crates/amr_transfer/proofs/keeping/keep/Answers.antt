@@ -5,10 +5,11 @@ use Rattle.std.specs.Option.{unwrap_or}
 use Rattle.std.proofs.lemmas.List.{take_all}
 use Rattle.amr_box.specs.Cells.{Extent, IsNear, holds}
 use Rattle.amr_def.specs.State.{mass_of}
+use Rattle.amr_patch.proofs.Lookups.{some_mass}
 use Rattle.amr_patch.specs.declared.patches.Patch.{Patch}
 use Rattle.amr_patch.specs.Patches.{box, in_patches, mass_in, masses_in}
 use Rattle.amr_transfer.proofs.GivenCells.{given_as, given_more, given_none}
-use Rattle.amr_transfer.proofs.PatchLists.{in_more, mass_there, some_mass}
+use Rattle.amr_transfer.proofs.PatchLists.{in_more, mass_there}
 use Rattle.amr_transfer.proofs.keeping.keep.Goals as goal
 
 pub reaching-q-items-requires-clause-near : goal.reaching-q-items-requires-clause-near

@@ -4,13 +4,14 @@ use Rattle.std.proofs.lemmas.List.{with_items_is}
 use Rattle.amr_box.specs.declared.Cell.{Cell}
 use Rattle.amr_def.specs.Regrid.{refilled}
 use Rattle.amr_def.specs.State.{Masses, children_mass, in_boxes}
+use Rattle.amr_patch.proofs.Lookups.{some_mass}
 use Rattle.amr_patch.specs.declared.patches.Patch.{Patch}
 use Rattle.amr_patch.specs.Levels.{level_of, patches_of}
 use Rattle.amr_patch.specs.Orders.{IsOrderOf}
 use Rattle.amr_patch.specs.Pairwise.{Pairwise}
 use Rattle.amr_patch.specs.Patches.{ArePatchesApart, KeepsFrameAndFluxes, in_patches, masses_in}
 use Rattle.amr_transfer.specs.Shares.{masses_before}
-use Rattle.amr_transfer.proofs.PatchLists.{kept_apart, kept_order, some_mass}
+use Rattle.amr_transfer.proofs.PatchLists.{kept_apart, kept_order}
 use Rattle.amr_transfer.proofs.KeptOrSplit.{adds_up, filled_level}
 use Rattle.amr_transfer.proofs.splitting.split_into.Goals as goal
 

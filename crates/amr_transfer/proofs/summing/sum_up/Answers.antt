@@ -3,6 +3,7 @@ use Rattle.std.proofs.lemmas.List.{with_items_is}
 use Rattle.amr_box.specs.declared.Cell.{Cell}
 use Rattle.amr_box.specs.Cells.{has_child_where, parent}
 use Rattle.amr_def.specs.State.{Masses, children_mass}
+use Rattle.amr_patch.proofs.Lookups.{some_mass}
 use Rattle.amr_patch.specs.declared.patches.Patch.{Patch}
 use Rattle.amr_patch.specs.Levels.{level_of, patches_of}
 use Rattle.amr_patch.specs.Orders.{IsOrderOf}
@@ -10,7 +11,7 @@ use Rattle.amr_patch.specs.Pairwise.{Pairwise}
 use Rattle.amr_patch.specs.Patches.{ArePatchesApart, KeepsFrameAndFluxes, in_patches, masses_in}
 use Rattle.amr_transfer.specs.Sums.{summed}
 use Rattle.amr_transfer.proofs.Fours.{summed_level}
-use Rattle.amr_transfer.proofs.PatchLists.{all_kept, kept_apart, kept_order, some_mass}
+use Rattle.amr_transfer.proofs.PatchLists.{all_kept, kept_apart, kept_order}
 use Rattle.amr_transfer.proofs.summing.sum_up.Goals as goal
 
 -- each cell of fine patches has its parent in the coarse ones
