@@ -9,3 +9,4 @@ pub mod Planned
 pub mod Taken
 pub mod Samples
 pub mod GapLaws
+pub mod ByBoxes

@@ -1,4 +1,5 @@
 pub mod Surroundings
+pub mod Grounds
 pub mod Places
 pub mod Adds
 pub mod Flows

@@ -1,15 +1,10 @@
-use Rattle.std.proofs.Common.{◌≡◌, ◌∙◌, Bool, true, false, ℕ, List, [], ◌∷◌, sym, ap, refl, to_z, of_z, w32, arith}
-use Rattle.std.specs.Prelude.{is_some, cond, ◌||◌}
-use Rattle.std.specs.declared.option.Option.{Option}
-use Rattle.std.specs.declared.option.Option.TheVariants.{Some}
+use Rattle.std.proofs.Common.{◌≡◌, ◌∙◌, sym, ap, to_z, of_z, w32, arith}
+use Rattle.std.specs.Prelude.{is_some}
 use Rattle.std.proofs.lemmas.Int.{ints}
-use Rattle.amr_box.specs.declared.Cell.{Cell}
-use Rattle.amr_box.specs.Cells.{cell, holds}
+use Rattle.amr_box.specs.Cells.{cell}
 use Rattle.amr_def.specs.State.{Masses}
 use Rattle.amr_patch.proofs.Lookups.{some_mass}
 use Rattle.amr_patch.specs.Levels.{level_of}
-use Rattle.amr_patch.specs.declared.patches.Patch.{Patch}
-use Rattle.amr_patch.specs.Patches.{box, in_patches, mass_in, masses_in}
 use Rattle.amr_layout.proofs.lookup.has.Goals as goal
 
 pub returns : goal.returns

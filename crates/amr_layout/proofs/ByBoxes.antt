@@ -1,0 +1,180 @@
+-- The layout of a level goes by boxes: two levels on the same ones have the same places, puts, reads and flows, whatever their
+-- masses are.
+use Rattle.std.proofs.Common.{◌≡◌, ◌∙◌, ℕ, suc, ◌+◌, ◌-◌, ◌*◌, ◌<◌, ◌&&◌, ◌||◌, not, cond, pos, int_lt, List, [], ◌∷◌, ◌++◌, length, get_or, map, take, refl, sym, ap, subst}
+use Rattle.std.specs.Prelude.{Contains, is_some}
+use Rattle.std.specs.List.{flat_map, range_with_len}
+use Rattle.std.specs.Ordering.{int_eq}
+use Rattle.std.proofs.Math.ListN.{get_or-map}
+use Rattle.std.proofs.lemmas.List.{length-map, take-map}
+use Rattle.std.proofs.lemmas.List.Folds.{flat_map-map}
+use Rattle.std.proofs.lemmas.Simd.{map-map}
+use Rattle.amr_box.specs.declared.Cell.{Cell}
+use Rattle.amr_box.specs.Cells.{Extent, has_child_where, height, holds, parent, width}
+use Rattle.amr_def.specs.Domain.{Domain, domain, home_cell, in_domain}
+use Rattle.amr_def.specs.Flux.{high_cell}
+use Rattle.amr_def.specs.State.{in_boxes, is_covered}
+use Rattle.amr_patch.specs.declared.patches.Patch.{Patch}
+use Rattle.amr_patch.specs.Patches.{box, in_patches}
+use Rattle.amr_flux.specs.Faces.{passing, x_end, y_end}
+use Rattle.amr_layout.specs.Adds.{AreInOrder, HasCellsBeyond, HasRegisterCells, cell_beyond, flow_to, flows_of, inflow_faces, is_exchange_face, is_inflow_face, is_ledger_face, is_outflow_face, number_of, outflow_faces, register_flows, word_of}
+use Rattle.amr_layout.specs.Grounds.{SameGround}
+use Rattle.amr_layout.specs.Places.{border_places, borders_of, leads_on, level_borders, places_before, puts_among, puts_of}
+use Rattle.amr_layout.specs.Surroundings.{Around, domain_around, edge_count, edge_face, inside, inward, is_coarse_fine, is_open, outside}
+
+-- ---- patches with the same boxes
+
+in_mapped : (ps : List Patch) (c : Cell) → in_patches ps c ≡ in_boxes (map box ps) c
+in_mapped [] c = refl
+in_mapped (q ∷ qs) c = ap (λ b. holds (box q) c || b) (in_mapped qs c)
+
+-- have the same cells
+same_cells : (ps qs : List Patch) → map box ps ≡ map box qs → in_patches ps ≡ in_patches qs
+same_cells ps qs e =
+    let at : (c : Cell) → in_patches ps c ≡ in_patches qs c = λ c. in_mapped ps c ∙ ap (λ (bs : List Extent). in_boxes bs c) e ∙ sym (in_mapped qs c) in
+    λ i c. at c i
+
+same_count : (ps qs : List Patch) → map box ps ≡ map box qs → length ps ≡ length qs
+same_count ps qs e = sym (length-map ps box) ∙ ap (λ (bs : List Extent). length bs) e ∙ length-map qs box
+
+same_box : (ps qs : List Patch) → map box ps ≡ map box qs → (k : ℕ) (d : Patch) → box (get_or ps k d) ≡ box (get_or qs k d)
+same_box ps qs e k d = sym (get_or-map box ps k d) ∙ ap (λ (bs : List Extent). get_or bs k (box d)) e ∙ get_or-map box qs k d
+
+first_boxes : (ps qs : List Patch) → map box ps ≡ map box qs → (k : ℕ) → map box (take k ps) ≡ map box (take k qs)
+first_boxes ps qs e k = sym (take-map box k ps) ∙ ap (λ (bs : List Extent). take k bs) e ∙ take-map box k qs
+
+-- and the same list of what is worked out from each box
+over_boxes : {A : Type 0} (f g : Extent → A) → f ≡ g → (ps qs : List Patch) → map box ps ≡ map box qs → map (λ q. f (box q)) ps ≡ map (λ q. g (box q)) qs
+over_boxes f g same ps qs e = sym (map-map f box ps) ∙ (λ i. map (same i) (e i)) ∙ map-map g box qs
+
+-- ---- border faces and their places
+
+module _ (d e : Domain) (domains : d ≡ e) (ps qs : List Patch) (boxes : map box ps ≡ map box qs) where
+  leads_same : leads_on d ps ≡ leads_on e qs
+  unfolding leads_on
+  leads_same = let in_level = same_cells ps qs boxes in λ i f. in_level i (home_cell (domains i) (high_cell f))
+
+  borders_same : borders_of d ps ≡ borders_of e qs
+  unfolding borders_of
+  borders_same = λ i b. passing (leads_same i) (x_end b) (height b) ++ passing (leads_same i) (y_end b) (width b)
+
+  level_same : (rs ts : List Patch) → map box rs ≡ map box ts → level_borders d ps rs ≡ level_borders e qs ts
+  unfolding level_borders
+  level_same rs ts same = sym (flat_map-map (borders_of d ps) box rs) ∙ (λ i. flat_map (borders_same i) (same i)) ∙ flat_map-map (borders_of e qs) box ts
+
+  puts_same : puts_of d ps ≡ puts_of e qs
+  unfolding puts_of
+  puts_same = λ i b. puts_among (domains i) b (level_same ps qs boxes i)
+
+  before_same : places_before d ps ≡ places_before e qs
+  unfolding places_before
+  before_same = λ i k. length (level_same (take k ps) (take k qs) (first_boxes ps qs boxes k) i)
+
+  places_same : border_places d ps ≡ border_places e qs
+  unfolding border_places
+  places_same = λ i k. range_with_len (before_same i k) (before_same i (suc k) - before_same i k)
+
+-- ---- flows to words
+
+module _ (s t : Around) (g : SameGround s t) where
+  domains : domain_around s ≡ domain_around t
+  domains = λ i. domain (g.problem i) (g.level i)
+
+  covered : is_covered s.finer ≡ is_covered t.finer
+  unfolding is_covered
+  covered =
+      let has : (λ (k : Cell). is_some (s.finer k)) ≡ (λ (k : Cell). is_some (t.finer k)) = λ i k. g.finer k i in
+      ap has_child_where has
+
+  open_same : is_open s ≡ is_open t
+  unfolding is_open
+  open_same = λ i b f. not (in_domain (domains i) (home_cell (domains i) (outside b f)))
+
+  coarse_fine_same : is_coarse_fine s ≡ is_coarse_fine t
+  unfolding is_coarse_fine
+  coarse_fine_same =
+      let in_level = same_cells s.patches t.patches g.boxes in
+      λ i b f. in_domain (domains i) (home_cell (domains i) (outside b f)) && not (in_level i (home_cell (domains i) (outside b f)))
+
+  ledger_same : is_ledger_face s ≡ is_ledger_face t
+  unfolding is_ledger_face
+  ledger_same = λ i b f. open_same i b f && not (covered i (inside b f))
+
+  inflow_face_same : is_inflow_face s ≡ is_inflow_face t
+  unfolding is_inflow_face
+  inflow_face_same = λ i b f. ledger_same i b f && int_lt (pos 0) (inward (g.problem i) (g.level i) b f)
+
+  outflow_face_same : is_outflow_face s ≡ is_outflow_face t
+  unfolding is_outflow_face
+  outflow_face_same = λ i b f. ledger_same i b f && int_lt (inward (g.problem i) (g.level i) b f) (pos 0)
+
+  inflow_faces_same : inflow_faces s ≡ inflow_faces t
+  unfolding inflow_faces
+  inflow_faces_same = λ i b. passing (inflow_face_same i b) (edge_face b) (edge_count b)
+
+  outflow_faces_same : outflow_faces s ≡ outflow_faces t
+  unfolding outflow_faces
+  outflow_faces_same = λ i b. passing (outflow_face_same i b) (edge_face b) (edge_count b)
+
+  beyond_same : cell_beyond s ≡ cell_beyond t
+  unfolding cell_beyond
+  beyond_same = λ i b f. parent (home_cell (domains i) (outside b f))
+
+  word_same : word_of s ≡ word_of t
+  unfolding word_of
+  word_same =
+      λ i b f. cond (int_lt (inward (g.problem i) (g.level i) b f) (pos 0)) (2 + 2 * number_of (g.cells i) (beyond_same i b f)) (3 + 2 * number_of (g.cells i) (beyond_same i b f))
+
+  exchange_same : is_exchange_face s ≡ is_exchange_face t
+  unfolding is_exchange_face
+  exchange_same = λ i b f. coarse_fine_same i b f && not (int_eq (inward (g.problem i) (g.level i) b f) (pos 0))
+
+  register_flows_same : register_flows s ≡ register_flows t
+  unfolding register_flows
+  register_flows_same = λ i b. map (λ f. flow_to (word_same i b f) f) (passing (exchange_same i b) (edge_face b) (edge_count b))
+
+  flows_same : flows_of s ≡ flows_of t
+  unfolding flows_of
+  flows_same = λ i b. map (flow_to 0) (inflow_faces_same i b) ++ (map (flow_to 1) (outflow_faces_same i b) ++ register_flows_same i b)
+
+  -- ---- the laws
+
+  pub same_borders : level_borders (domain_around s) s.patches s.patches ≡ level_borders (domain_around t) t.patches t.patches
+  same_borders = level_same (domain_around s) (domain_around t) domains s.patches t.patches g.boxes s.patches t.patches g.boxes
+
+  pub same_puts : (b : Extent) → puts_of (domain_around s) s.patches b ≡ puts_of (domain_around t) t.patches b
+  same_puts b = λ i. puts_same (domain_around s) (domain_around t) domains s.patches t.patches g.boxes i b
+
+  pub same_border_places : (k : ℕ) → border_places (domain_around s) s.patches k ≡ border_places (domain_around t) t.patches k
+  same_border_places k = λ i. places_same (domain_around s) (domain_around t) domains s.patches t.patches g.boxes i k
+
+  pub same_flows : (b : Extent) → flows_of s b ≡ flows_of t b
+  same_flows b = λ i. flows_same i b
+
+  pub all_puts : map (λ q. puts_of (domain_around s) s.patches (box q)) s.patches ≡ map (λ q. puts_of (domain_around t) t.patches (box q)) t.patches
+  all_puts =
+      over_boxes (puts_of (domain_around s) s.patches) (puts_of (domain_around t) t.patches) (puts_same (domain_around s) (domain_around t) domains s.patches t.patches g.boxes) s.patches t.patches g.boxes
+
+  pub all_border_places : map (border_places (domain_around s) s.patches) (range_with_len 0 (length s.patches)) ≡ map (border_places (domain_around t) t.patches) (range_with_len 0 (length t.patches))
+  all_border_places =
+      let places = places_same (domain_around s) (domain_around t) domains s.patches t.patches g.boxes in
+      let count = same_count s.patches t.patches g.boxes in
+      λ i. map (places i) (range_with_len 0 (count i))
+
+  pub all_flows : map (λ q. flows_of s (box q)) s.patches ≡ map (λ q. flows_of t (box q)) t.patches
+  all_flows = over_boxes (flows_of s) (flows_of t) flows_same s.patches t.patches g.boxes
+
+  -- ---- register cells
+
+  cells_beyond : (b : Extent) → HasCellsBeyond s b → HasCellsBeyond t b
+  cells_beyond b h n lt edge =
+      let f = edge_face b n in
+      let there : Contains s.cells (cell_beyond s b f) = h n lt ((λ i. coarse_fine_same i b f) ∙ edge) in
+      subst (λ (cs : List Cell). Contains cs (cell_beyond t b f)) g.cells (subst (λ (c : Cell). Contains s.cells c) (λ i. beyond_same i b f) there)
+
+  pub same_register_cells : HasRegisterCells s → HasRegisterCells t
+  same_register_cells h = record {
+    ordered = subst (λ (cs : List Cell). AreInOrder cs) g.cells h.ordered;
+    each = λ k d lt.
+        subst (λ (b : Extent). HasCellsBeyond t b) (same_box s.patches t.patches g.boxes k d)
+        (cells_beyond (box (get_or s.patches k d)) (h.each k d (subst (λ n. k < n) (sym (same_count s.patches t.patches g.boxes)) lt)));
+  }
