@@ -10,3 +10,4 @@ mod Parts
 mod Advancing
 mod EmptyRing
 mod Stepped
+pub mod SameLayouts
