@@ -1,5 +1,6 @@
 mod BorderSizes
 mod Borders
+mod Exchanged
 pub mod FaceSides
 mod Given
 mod Numbers

@@ -1,32 +1,18 @@
 -- A patch's step where one Courant number holds along each axis: shares shown to be fluxes.
-use Rattle.std.proofs.Common.{◌≡◌, ℕ, suc, ◌+◌, ◌-◌, ◌*◌, ◌/◌, ◌^◌, ◌<◌, ◌≤◌, Bool, true, false, ℤ, pos, negsuc, ◌+ℤ◌, ◌-ℤ◌, ◌≤ℤ◌, ◌<ℤ◌, [], List, length, take, drop, length-take, refl, sym, ap, subst, ◌∙◌, arith}
-use Rattle.std.specs.Prelude.{IsTrue, slice_index, slice_index_or, neg_ℤ}
+use Rattle.std.proofs.Common.{◌≡◌, ℕ, suc, ◌+◌, ◌-◌, ◌*◌, ◌/◌, ◌^◌, ◌<◌, ◌≤◌, Bool, true, false, ◌&&◌, ℤ, pos, negsuc, ◌+ℤ◌, ◌-ℤ◌, ◌≤ℤ◌, ◌<ℤ◌, [], List, length, take, drop, length-take, refl, sym, ap, ◌∙◌, arith}
+use Rattle.std.specs.Prelude.{cond, nat_eq, slice_index, neg_ℤ}
 use Rattle.std.proofs.lemmas.Int.{ints}
 use Rattle.std.proofs.Math.Nat.{mul-le-mul_right}
-use Rattle.amr_box.specs.declared.Cell.{Cell}
-use Rattle.amr_box.specs.declared.Face.{Face}
-use Rattle.amr_box.specs.Cells.{at_least_zero, height, holds, width}
 use Rattle.amr_def.specs.declared.problem.Problem.{Problem}
-use Rattle.amr_def.specs.Domain.{domain}
-use Rattle.amr_def.specs.Flux.{courant, flow, high_cell, low_cell, net}
-use Rattle.amr_patch.specs.declared.patches.Patch.{Patch}
-use Rattle.amr_patch.specs.Places.{in_frame, is_edge_face, place}
-use Rattle.amr_patch.specs.Patches.{SameMarks, SameValues, box, flux_in, mark_in, mass_in, value_in}
-use Rattle.amr_flux.specs.Faces.{IsInDomain, flux_beside}
 use Rattle.amr_flux.proofs.Numbers.{unsheared, x_unsheared}
-use Rattle.amr_flux.proofs.Owned.{x_beside, y_beside}
 use Rattle.amr_flux.proofs.Steps.{x_flux_is, y_flux_is}
-use Rattle.amr_flux.proofs.Swept.{all_swept}
-use Rattle.amr_flux.proofs.Places.{corner, stands}
-use Rattle.amr_flux.proofs.Updates.{frame_stays, masses_are, whole}
 use Rattle.amr_flux.specs.declared.pace.Pace.{Pace}
-use Rattle.amr_flux.specs.Shares.{AreSmall, share_of}
+use Rattle.amr_flux.specs.Shares.{share_of}
 use Rattle.amr_flux.specs.Rows.{signed}
-use Rattle.amr_flux.specs.Paces.{AreFit, IsFit, IsFitPatch, IsStepped, IsSteppedPatch, x_before, x_between, x_donor, y_before, y_between, y_share}
-use Rattle.amr_flux.specs.Tables.{AreXSmall, AreYSmall, Stands, net_inflow, value, x_flux, y_flux}
+use Rattle.amr_flux.specs.Paces.{AreFit, GoesWith, IsFit, IsFitPatch, IsStepped, mass_with, x_before, x_between, x_donor, x_with, row_before, top_share, y_before, y_between, y_share, y_with}
+use Rattle.amr_flux.specs.Tables.{AreXSmall, AreYSmall, count_below, net_inflow, value, x_flux, x_marked, x_through, y_flux, y_marked, y_through}
 use Rattle.amr_flux.proofs.Parts.{read}
 use Rattle.amr_flux.proofs.Paces.{fits_still}
-use Rattle.amr_flux.proofs.Reciprocals.{share_within}
 
 -- ---- a flux is a share with the sign of the Courant number
 
@@ -80,17 +66,12 @@ module _ (pace : Pace) (w : ℕ) (old new : List ℕ) (i j : ℕ) where
   pub cell_down : pace.y.number <ℤ pos 0 → IsStepped pace true w old new i j → pos (value w new (i + 1) (j + 1)) ≡ pos (value w old (i + 1) (j + 1)) +ℤ net_inflow (x_between pace.x.number pace.x.parts w old) (y_between pace.y.number pace.y.parts w old) i j
   cell_down h s = sum_is _ _ _ _ _ _ _ _ s.total (x_net pace.x.parts w old i j pace.x.number) (y_net_down pace.y.parts w old i j pace.y.number h)
 
-pub stepped_of : {pace : Pace} {b : Bool} {w w' : ℕ} {old old' new : List ℕ} {i j : ℕ} → w ≡ w' → old ≡ old' → IsStepped pace b w old new i j → IsStepped pace b w' old' new i j
-stepped_of {pace = pace} {b = b} {w = w} {w' = w'} {old = old} {new = new} {i = i} {j = j} ew eo s = subst (λ o. IsStepped pace b w' o new i j) eo (subst (λ n. IsStepped pace b n old new i j) ew s)
+-- either way
+pub cell_either : (pace : Pace) (w : ℕ) (old new : List ℕ) (i j : ℕ) (b : Bool) → GoesWith b pace.y.number → IsStepped pace b w old new i j → pos (value w new (i + 1) (j + 1)) ≡ pos (value w old (i + 1) (j + 1)) +ℤ net_inflow (x_between pace.x.number pace.x.parts w old) (y_between pace.y.number pace.y.parts w old) i j
+cell_either pace w old new i j false h s = cell_up pace w old new i j h s
+cell_either pace w old new i j true h s = cell_down pace w old new i j h s
 
 -- ---- sizes across a row
-
-pub sizes_small : (pace : Pace) (sizes : List ℕ) (f : ℕ → ℕ) → ((i : ℕ) → i < length sizes → slice_index sizes i ≡ y_share pace (f i)) → ((i : ℕ) → i < length sizes → IsFit pace (f i)) → AreSmall sizes
-sizes_small pace sizes f are fit = record {
-  at = λ i h.
-      let most : y_share pace (f i) ≤ f i = share_within pace.y.number pace.y.parts (f i) pace.y.reciprocal.slow in
-      omega (arith, are i h, most, (fit i h).small);
-}
 
 -- row r of the values, from the column of the first cell on
 module _ (w h r a b : ℕ) (values : List ℕ) (start : a ≡ r * (w + 2) + 1) (end : b ≡ a + w) where
@@ -103,6 +84,13 @@ module _ (w h r a b : ℕ) (values : List ℕ) (start : a ≡ r * (w + 2) + 1) (
         let under : t < w = omega (arith, below, end, length-take (b - a) (drop a values)) in
         fits_still pace _ _ (row_at_edge t under) (fit.y t r under inside);
   }
+
+-- what flows through a top face by the values beside it, after the rows are gone over
+pub top_flux : (pace : Pace) (b : Bool) (w h : ℕ) (old ended across : List ℕ) → GoesWith b pace.y.number
+    → ((i : ℕ) → i < w → slice_index across i ≡ y_share pace (value w old (i + 1) (row_before b h h))) → ((i : ℕ) → i < w → value w ended (i + 1) (h + 1) ≡ value w old (i + 1) (h + 1))
+    → (i : ℕ) → i < w → signed pace.y.number (top_share b pace w h ended across i) ≡ y_between pace.y.number pace.y.parts w old i h
+top_flux pace false w h old ended across way leaving above i inside = ap (signed pace.y.number) (leaving i inside) ∙ y_signed_up pace.y.parts w old i h pace.y.number way
+top_flux pace true w h old ended across way leaving above i inside = ap (λ v. signed pace.y.number (y_share pace v)) (above i inside) ∙ y_signed_down pace.y.parts w old i h pace.y.number way
 
 -- ---- the cells of a patch and those beside them are fit
 
@@ -126,48 +114,16 @@ module _ (p : Problem) (l : ℕ) (pace : Pace) (w : ℕ) (values : List ℕ) (i 
   pub y_is : (column : ℕ) → p.shear_y ≡ [] → pace.y.number ≡ p.cy → pace.y.parts ≡ p.d → y_between pace.y.number pace.y.parts w values i j ≡ y_flux p l column w values i j
   y_is column none number parts = y_flux_is p l column w values i j (number ∙ sym (unsheared p l (column + i) none)) parts refl refl
 
-module _ (p : Problem) (l : ℕ) (q new : Patch) (inside : IsInDomain (domain p l) (box q)) (pace : Pace)
-    (none_x : p.shear_x ≡ []) (none_y : p.shear_y ≡ []) (x_number : pace.x.number ≡ p.cx) (x_parts : pace.x.parts ≡ p.d) (y_number : pace.y.number ≡ p.cy) (y_parts : pace.y.parts ≡ p.d)
-    (made : IsSteppedPatch pace (width q.bx) (height q.bx) q new) where
-  abbrev column : ℕ
-  column = at_least_zero q.bx.lo.x
+-- with the sizes of border faces, too
+module _ (p : Problem) (l : ℕ) (pace : Pace) (w h column row : ℕ) (marks : List Bool) (border values : List ℕ)
+    (none_x : p.shear_x ≡ []) (none_y : p.shear_y ≡ []) (x_number : pace.x.number ≡ p.cx) (x_parts : pace.x.parts ≡ p.d) (y_number : pace.y.number ≡ p.cy) (y_parts : pace.y.parts ≡ p.d) where
+  x_through_is : (i j : ℕ) → x_with pace w marks border values i j ≡ x_through p l row w marks border values i j
+  unfolding x_with x_through
+  x_through_is i j = λ t. cond (nat_eq i w && x_marked w marks j) (signed ((x_number ∙ sym (x_unsheared p l (row + j) none_x)) t) (slice_index border (count_below (x_marked w marks) j))) (x_is p l pace w values i j row none_x x_number x_parts t)
 
-  abbrev row : ℕ
-  row = at_least_zero q.bx.lo.y
+  y_through_is : (i j : ℕ) → y_with pace w h marks border values i j ≡ y_through p l column w h marks border values i j
+  unfolding y_with y_through
+  y_through_is i j = λ t. cond (nat_eq j h && y_marked w h marks i) (signed ((y_number ∙ sym (unsheared p l (column + i) none_y)) t) (slice_index border (count_below (x_marked w marks) h + count_below (y_marked w h marks) i))) (y_is p l pace w values i j column none_y y_number y_parts t)
 
-  here : Stands p l q.bx column row
-  here =
-      let k = corner p l q.bx q.near inside in
-      stands p l q.bx column row q.near inside (whole q.bx.lo.x (omega (arith, ints, k.west))) (whole q.bx.lo.y (omega (arith, ints, k.south)))
-
-  pub plain_fluxes : (f : Face) → IsTrue (is_edge_face (box q) f) → flux_in new f ≡ flux_beside p l q f
-  plain_fluxes = all_swept p l q new column row here made.of_box
-      (λ j h. made.x_low j h ∙ x_is p l pace (width q.bx) q.values.items 0 j row none_x x_number x_parts)
-      (λ j h. made.x_high j h ∙ x_is p l pace (width q.bx) q.values.items (width q.bx) j row none_x x_number x_parts)
-      (λ i h. made.y_low i h ∙ y_is p l pace (width q.bx) q.values.items i 0 column none_y y_number y_parts)
-      (λ i h. made.y_high i h ∙ y_is p l pace (width q.bx) q.values.items i (height q.bx) column none_y y_number y_parts)
-
-  pub plain_masses : (c : Cell) → IsTrue (holds q.bx c) → pos (mass_in new c) ≡ pos (mass_in q c) +ℤ net (flux_beside p l q) c
-  plain_masses = masses_are q (flux_beside p l q) (x_between pace.x.number pace.x.parts (width q.bx) q.values.items) (y_between pace.y.number pace.y.parts (width q.bx) q.values.items)
-      (record {
-        x = λ x y i j at hi hj. x_is p l pace (width q.bx) q.values.items i j row none_x x_number x_parts ∙ x_beside p l q column row here x y i j at hj;
-        y = λ x y i j at hi hj. y_is p l pace (width q.bx) q.values.items i j column none_y y_number y_parts ∙ y_beside p l q column row here x y i j at hi;
-      })
-      new made.of_box new.values.items refl made.cells
-
-  pub plain_frame : (c : Cell) → IsTrue (in_frame q.bx c) → value_in new c ≡ value_in q c
-  plain_frame = frame_stays q new new.values.items made.of_box refl made.others
-
-  pub plain_marks : SameMarks q new
-  unfolding mark_in
-  plain_marks c = λ i. slice_index_or (made.marks i) (place (made.of_box i) c) false
-
--- ---- after a sweep
-
-module _ (p : Problem) (l : ℕ) (q r : Patch) (same : SameValues q r) where
-  same_flux : (f : Face) → flux_beside p l r f ≡ flux_beside p l q f
-  unfolding flux_beside
-  same_flux f = λ i. flow (courant p l f) p.d (same (low_cell f) i) (same (high_cell f) i)
-
-  pub same_net : (c : Cell) → net (flux_beside p l r) c ≡ net (flux_beside p l q) c
-  same_net c = λ i. net (λ f. same_flux f i) c
+  pub mass_is : (i j : ℕ) → mass_with pace w h marks border values i j ≡ pos (value w values (i + 1) (j + 1)) +ℤ net_inflow (x_through p l row w marks border values) (y_through p l column w h marks border values) i j
+  mass_is i j = λ t. pos (value w values (i + 1) (j + 1)) +ℤ ((x_through_is i j t -ℤ x_through_is (i + 1) j t) +ℤ (y_through_is i j t -ℤ y_through_is i (j + 1) t))

@@ -1,14 +1,14 @@
 -- The rows of a patch, gone over from the low one up or from the high one down.
-use Rattle.std.proofs.Common.{◌≡◌, ◌≢◌, ℕ, ◌+◌, ◌-◌, ◌*◌, ◌^◌, ◌<◌, ◌≤◌, ◌⊎◌, inl, inr, Bool, true, false, ℤ, pos, negsuc, List, length, set, get_or-set_same, get_or-set_other, refl, sym, ap, subst, ◌∙◌, arith}
-use Rattle.std.specs.Prelude.{slice_index, slice_index_or}
+use Rattle.std.proofs.Common.{◌≡◌, ◌≢◌, ℕ, ◌+◌, ◌-◌, ◌*◌, ◌<◌, ◌≤◌, ◌⊎◌, inl, inr, Bool, true, false, ℤ, pos, negsuc, List, length, refl, sym, ap, subst, ◌∙◌, arith}
+use Rattle.std.specs.Prelude.{slice_index}
 use Rattle.std.proofs.Math.Nat.{mul-le-mul_right}
 use Rattle.std.proofs.lemmas.Bool.{cases_eq, cases_lt}
 use Rattle.std.proofs.lemmas.Nat.{same_from_place}
 use Rattle.amr_flux.specs.declared.pace.Pace.{Pace}
-use Rattle.amr_flux.specs.Paces.{IsDone, IsFit, IsFitPatch, IsReadyRow, IsStepped, IsSteppedRow, IsUndone, gone, row_at, row_before, x_before, x_donor, x_share, y_before, y_share}
-use Rattle.amr_flux.specs.Tables.{value}
+use Rattle.amr_flux.specs.Paces.{IsDone, IsFit, IsFitPatch, IsReadyRow, IsStepped, IsSteppedRow, IsUndone, IsWordOf, row_at, row_before, x_before, x_donor, x_share, y_before, y_share}
+use Rattle.amr_flux.specs.Tables.{count_below, value}
+use Rattle.amr_flux.proofs.Borders.{count_less, count_next, count_same}
 use Rattle.amr_flux.proofs.Paces.{come_below, fits_still}
-use Rattle.amr_flux.proofs.Reciprocals.{share_within}
 use Rattle.amr_flux.proofs.RowSteps.{cell_moved}
 
 pub moved2 : (P : ℕ → ℕ → Type 0) {a a' b b' : ℕ} → a ≡ a' → b ≡ b' → P a b → P a' b'
@@ -117,7 +117,7 @@ module _ (pace : Pace) (b : Bool) (w h k : ℕ) (below : k < h) (values old ente
       omega (arith, m, count)
 
   module _ (new : List ℕ) (row : IsSteppedRow pace w (row_at b h k) values new entering) where
-    stepped_here : (i : ℕ) → i < w → IsStepped pace b w old new i (row_at b h k)
+    pub stepped_here : (i : ℕ) → i < w → IsStepped pace b w old new i (row_at b h k)
     stepped_here i inside = record {
       total = cell_moved pace refl (row_value (i + 1) (omega (arith, inside)))
           (ap (x_share pace) (before_same w (row_at b h k) values old row_value pace.x.number i inside))
@@ -128,45 +128,74 @@ module _ (pace : Pace) (b : Bool) (w h k : ℕ) (below : k < h) (values old ente
     other_cell : (i j : ℕ) → i < w → (j ≢ row_at b h k) → value w new (i + 1) (j + 1) ≡ value w values (i + 1) (j + 1)
     other_cell i j inside ne = row.others ((j + 1) * (w + 2) + (i + 1)) (λ i' hi e. ne (omega (arith, (same_from_place (j + 1) (i + 1) (row_at b h k + 1) (i' + 1) (w + 2) (omega (arith, inside)) (omega (arith, hi)) e).0)))
 
-    stepped_still : (i j : ℕ) → i < w → (j ≢ row_at b h k) → IsStepped pace b w old values i j → IsStepped pace b w old new i j
-    stepped_still i j inside ne s = record { total = ap (λ n. n + gone pace (value w old (i + 1) (j + 1))) (other_cell i j inside ne) ∙ s.total }
+    -- after the flow through the row's end was exchanged
+    module _ (some : 0 < w) (ended : List ℕ) (stays : (q : ℕ) → q ≢ (row_at b h k + 1) * (w + 2) + w → slice_index ended q ≡ slice_index new q) where
+      ended_cell : (i j : ℕ) → i < w → (j ≢ row_at b h k) → value w ended (i + 1) (j + 1) ≡ value w values (i + 1) (j + 1)
+      ended_cell i j inside ne = stays ((j + 1) * (w + 2) + (i + 1)) (λ e. ne (omega (arith, (same_from_place (j + 1) (i + 1) (row_at b h k + 1) w (w + 2) (omega (arith, inside)) (omega arith) e).0))) ∙ other_cell i j inside ne
 
-    pub cells_more : ((i j : ℕ) → i < w → j < h → IsDone b h k j → IsStepped pace b w old values i j) → (i j : ℕ) → i < w → j < h → IsDone b h (k + 1) j → IsStepped pace b w old new i j
-    cells_more made i j inside under d = at_each (cases_eq j (row_at b h k)) (done_split b h k j below under d)
-      where
-        at_each : (j ≡ row_at b h k) ⊎ (j ≢ row_at b h k) → IsDone b h k j ⊎ (j ≡ row_at b h k) → IsStepped pace b w old new i j
-        at_each (inl e) s = subst (λ n. IsStepped pace b w old new i n) (sym e) (stepped_here i inside)
-        at_each (inr ne) (inl d) = stepped_still i j inside ne (made i j inside under d)
-        at_each (inr ne) (inr e) = absurd (ne e)
+      pub cells_more : (f : ℕ → ℕ → ℤ) → ((i : ℕ) → i < w → IsWordOf (f i (row_at b h k)) (value w ended (i + 1) (row_at b h k + 1))) → ((i j : ℕ) → i < w → j < h → IsDone b h k j → IsWordOf (f i j) (value w values (i + 1) (j + 1))) → (i j : ℕ) → i < w → j < h → IsDone b h (k + 1) j → IsWordOf (f i j) (value w ended (i + 1) (j + 1))
+      cells_more f here made i j inside under d = at_each (cases_eq j (row_at b h k)) (done_split b h k j below under d)
+        where
+          at_each : (j ≡ row_at b h k) ⊎ (j ≢ row_at b h k) → IsDone b h k j ⊎ (j ≡ row_at b h k) → IsWordOf (f i j) (value w ended (i + 1) (j + 1))
+          at_each (inl e) s = subst (λ n. IsWordOf (f i n) (value w ended (i + 1) (n + 1))) (sym e) (here i inside)
+          at_each (inr ne) (inl d) = subst (λ n. IsWordOf (f i j) n) (sym (ended_cell i j inside ne)) (made i j inside under d)
+          at_each (inr ne) (inr e) = absurd (ne e)
 
-    pub others_more : (q : ℕ) → IsUndone b w h (k + 1) q → slice_index new q ≡ slice_index old q
-    others_more q undone =
-        row.others q (λ i hi. undone i (row_at b h k) hi (row_inside b h k below) (done_here b h k below))
-        ∙ before q (λ i j hi hj d. undone i j hi hj (done_still b h k j d))
+      pub others_more : (q : ℕ) → IsUndone b w h (k + 1) q → slice_index ended q ≡ slice_index old q
+      others_more q undone =
+          stays q (λ e. undone (w - 1) (row_at b h k) (omega (arith, some)) (row_inside b h k below) (done_here b h k below) (e ∙ ap (λ n. (row_at b h k + 1) * (w + 2) + n) (omega (arith, some))))
+          ∙ row.others q (λ i hi. undone i (row_at b h k) hi (row_inside b h k below) (done_here b h k below))
+          ∙ before q (λ i j hi hj d. undone i j hi hj (done_still b h k j d))
 
     pub passed_more : (after : List ℕ) → ((i : ℕ) → i < w → slice_index after i ≡ y_share pace (value w values (i + 1) (row_at b h k + 1))) → (i : ℕ) → i < w → slice_index after i ≡ y_share pace (value w old (i + 1) (row_before b h (k + 1)))
     passed_more after is i inside = is i inside ∙ ap (y_share pace) (row_value (i + 1) (omega (arith, inside)) ∙ ap (value w old (i + 1)) (sym (before_next b h k below)))
 
-  -- one entry more of a list by rows
-  pub entry_more : (fluxes : List ℤ) (f : ℕ → ℤ) (v : ℤ) → length fluxes ≡ h → v ≡ f (row_at b h k) → ((j : ℕ) → j < h → IsDone b h k j → slice_index_or fluxes j (pos 0) ≡ f j) → (j : ℕ) → j < h → IsDone b h (k + 1) j → slice_index_or (set fluxes (row_at b h k) v) j (pos 0) ≡ f j
-  entry_more fluxes f v count is made j under d = at_each (cases_eq j (row_at b h k)) (done_split b h k j below under d)
-    where
-      at_each : (j ≡ row_at b h k) ⊎ (j ≢ row_at b h k) → IsDone b h k j ⊎ (j ≡ row_at b h k) → slice_index_or (set fluxes (row_at b h k) v) j (pos 0) ≡ f j
-      at_each (inl e) s = ap (λ n. slice_index_or (set fluxes (row_at b h k) v) n (pos 0)) e ∙ get_or-set_same fluxes (row_at b h k) v (pos 0) (omega (arith, count, row_inside b h k below)) ∙ is ∙ ap f (sym e)
-      at_each (inr ne) (inl d) = get_or-set_other fluxes (row_at b h k) j v (pos 0) ne ∙ made j under d
-      at_each (inr ne) (inr e) = absurd (ne e)
+-- ---- border sizes of rows, one after another
 
--- ---- sizes of flows
+-- how many of the marked rows are done
+abbrev pub IsCounted : Bool → (ℕ → Bool) → ℕ → ℕ → ℕ → Type 0
+IsCounted false test h k used = used ≡ count_below test k
+IsCounted true test h k used = used + count_below test (h - k) ≡ count_below test h
 
-donor_fit : (pace : Pace) (w j : ℕ) (values : List ℕ) → ((i : ℕ) → i < w + 2 → IsFit pace (value w values i (j + 1))) → (c : ℤ) (i : ℕ) → i < w + 1 → IsFit pace (x_donor c w values i j)
-donor_fit pace w j values fit (pos n) i h = fit i (omega (arith, h))
-donor_fit pace w j values fit (negsuc n) i h = fit (i + 1) (omega (arith, h))
+pub counted_none : (b : Bool) (test : ℕ → Bool) (h : ℕ) → IsCounted b test h 0 0
+counted_none false test h = refl
+counted_none true test h = let e : h - 0 ≡ h = omega arith in omega (arith, ap (count_below test) e)
 
-pub donor_small : (pace : Pace) (w j : ℕ) (values : List ℕ) → ((i : ℕ) → i < w + 2 → IsFit pace (value w values i (j + 1))) → (i : ℕ) → i < w + 1 → x_share pace (x_donor pace.x.number w values i j) < 2 ^ 31
-donor_small pace w j values fit i h =
-    let v : IsFit pace (x_donor pace.x.number w values i j) = donor_fit pace w j values fit pace.x.number i h in
-    let most = share_within pace.x.number pace.x.parts (x_donor pace.x.number w values i j) pace.x.reciprocal.slow in
-    omega (arith, most, v.small)
+pub record IsPlaced (b : Bool) (test : ℕ → Bool) (h k used : ℕ) : Type 0 where
+  pub inside : used < count_below test h
+  pub place : row_at b (count_below test h) used ≡ count_below test (row_at b h k)
+  pub next : IsCounted b test h (k + 1) (used + 1)
+
+-- a marked row's size stands at the place that as many marked rows before it say
+pub counted_marked : (b : Bool) (test : ℕ → Bool) (h k used : ℕ) → k < h → IsCounted b test h k used → test (row_at b h k) ≡ true → IsPlaced b test h k used
+counted_marked false test h k used below is marked = record {
+  inside = count_less test k h (count_below test h) used marked below (omega arith) is;
+  place = is;
+  next = ap (λ n. n + 1) is ∙ sym (count_next test k marked);
+}
+counted_marked true test h k used below is marked =
+    let here : h - k ≡ h - 1 - k + 1 = omega (arith, below) in
+    let count : count_below test (h - k) ≡ count_below test (h - 1 - k) + 1 = ap (count_below test) here ∙ count_next test (h - 1 - k) marked in
+    let less : h - (k + 1) ≡ h - 1 - k = omega arith in
+    record {
+      inside = omega (arith, is, count);
+      place = omega (arith, is, count);
+      next = omega (arith, is, count, ap (count_below test) less);
+    }
+
+pub counted_free : (b : Bool) (test : ℕ → Bool) (h k used : ℕ) → k < h → IsCounted b test h k used → test (row_at b h k) ≡ false → IsCounted b test h (k + 1) used
+counted_free false test h k used below is free = is ∙ sym (count_same test k free)
+counted_free true test h k used below is free =
+    let here : h - k ≡ h - 1 - k + 1 = omega (arith, below) in
+    let count : count_below test (h - k) ≡ count_below test (h - 1 - k) = ap (count_below test) here ∙ count_same test (h - 1 - k) free in
+    let less : h - (k + 1) ≡ h - 1 - k = omega arith in
+    omega (arith, is, count, ap (count_below test) less)
+
+-- the last cell of a row stands among the values
+pub end_inside : (w h r n : ℕ) → r < h → n ≡ (h + 2) * (w + 2) → (r + 1) * (w + 2) + w < n
+end_inside w h r n below count =
+    let m : (r + 2) * (w + 2) ≤ (h + 2) * (w + 2) = mul-le-mul_right (w + 2) (omega (arith, below)) in
+    omega (arith, m, count)
 
 -- ---- after all rows
 

@@ -64,27 +64,6 @@ edge_face b Y x y near e = at_each (at_end b.lo.y b.hi.y y (y_edge b (cell x y) 
     at_each (inl at) = let line = y_edge b (cell x y) e in is_inside (extent b.lo (cell b.hi.x (b.hi.y +ℤ pos 1))) (cell x y) (record { west = line.from; east = line.to; south = omega (arith, ints, at); north = omega (arith, ints, at, near.high) })
     at_each (inr at) = let line = y_edge b (cell x y) e in is_inside (extent b.lo (cell b.hi.x (b.hi.y +ℤ pos 1))) (cell x y) (record { west = line.from; east = line.to; south = omega (arith, ints, at, near.high); north = omega (arith, ints, at) })
 
--- where all lists are worked out from the values, each face on the edges has its flux
-module _ (p : Problem) (l : ℕ) (q new : Patch) (column row : ℕ) (s : Stands p l q.bx column row) (same : new.bx ≡ q.bx)
-    (x_low : (j : ℕ) → j < height q.bx → slice_index_or new.x_low.items j (pos 0) ≡ x_flux p l row (width q.bx) q.values.items 0 j)
-    (x_high : (j : ℕ) → j < height q.bx → slice_index_or new.x_high.items j (pos 0) ≡ x_flux p l row (width q.bx) q.values.items (width q.bx) j)
-    (y_low : (i : ℕ) → i < width q.bx → slice_index_or new.y_low.items i (pos 0) ≡ y_flux p l column (width q.bx) q.values.items i 0)
-    (y_high : (i : ℕ) → i < width q.bx → slice_index_or new.y_high.items i (pos 0) ≡ y_flux p l column (width q.bx) q.values.items i (height q.bx)) where
-  framed_by : (a : Axis) (x y : ℤ) → on_edge a q.bx (cell x y) ≡ true → flux_in new (face a x y) ≡ flux_beside p l q (face a x y)
-  framed_by X x y e = at_each (at_end q.bx.lo.x q.bx.hi.x x (x_edge q.bx (cell x y) e).ends)
-    where
-      at_each : (x ≡ q.bx.lo.x) ⊎ (x ≡ q.bx.hi.x +ℤ pos 1) → flux_in new (face X x y) ≡ flux_beside p l q (face X x y)
-      at_each (inl at) = let f = x_face_at q.bx x y q.near (edge_face q.bx X x y q.near e) in x_low_is p l q new column row s same x y _ _ f at (x_low _ f.row)
-      at_each (inr at) = let f = x_face_at q.bx x y q.near (edge_face q.bx X x y q.near e) in x_high_is p l q new column row s same x y _ _ f at (x_high _ f.row)
-  framed_by Y x y e = at_each (at_end q.bx.lo.y q.bx.hi.y y (y_edge q.bx (cell x y) e).ends)
-    where
-      at_each : (y ≡ q.bx.lo.y) ⊎ (y ≡ q.bx.hi.y +ℤ pos 1) → flux_in new (face Y x y) ≡ flux_beside p l q (face Y x y)
-      at_each (inl at) = let f = y_face_at q.bx x y q.near (edge_face q.bx Y x y q.near e) in y_low_is p l q new column row s same x y _ _ f at (y_low _ f.column)
-      at_each (inr at) = let f = y_face_at q.bx x y q.near (edge_face q.bx Y x y q.near e) in y_high_is p l q new column row s same x y _ _ f at (y_high _ f.column)
-
-  pub all_swept : (f : Face) → IsTrue (is_edge_face (box q) f) → flux_in new f ≡ flux_beside p l q f
-  all_swept f e = framed_by f.axis f.x f.y e
-
 module _ (p : Problem) (l : ℕ) (q new : Patch) (column row : ℕ) (s : Stands p l q.bx column row) (same : new.bx ≡ q.bx)
     (x_low : (j : ℕ) → j < height q.bx → slice_index_or new.x_low.items j (pos 0) ≡ x_flux p l row (width q.bx) q.values.items 0 j)
     (x_made : (j : ℕ) → j < height q.bx → x_marked (width q.bx) q.marks.items j ≡ false → slice_index_or new.x_high.items j (pos 0) ≡ x_flux p l row (width q.bx) q.values.items (width q.bx) j)

@@ -1,8 +1,8 @@
 -- What the rows of an update read and give.
-use Rattle.std.proofs.Common.{◌≡◌, ◌≢◌, ℕ, zero, suc, ◌+◌, ◌*◌, ◌<◌, ◌≤◌, ◌⊎◌, inl, inr, Bool, true, false, ◌&&◌, ℤ, pos, ◌+ℤ◌, ◌-ℤ◌, List, [], drop, refl, sym, ap, subst, ◌∙◌, arith}
+use Rattle.std.proofs.Common.{◌≡◌, ◌≢◌, ℕ, ◌+◌, ◌*◌, ◌<◌, ◌≤◌, ◌⊎◌, inl, inr, Bool, true, false, ◌&&◌, ℤ, pos, ◌+ℤ◌, ◌-ℤ◌, List, drop, refl, sym, ap, subst, ◌∙◌, arith}
 use Rattle.std.specs.Prelude.{cond, nat_eq, slice_index, slice_index_or}
 use Rattle.std.proofs.lemmas.Bool.{cases_eq, cases_lt, eq-eqb, eqb-true}
-use Rattle.std.proofs.lemmas.List.{get_or-drop, get_or_past}
+use Rattle.std.proofs.lemmas.List.{get_or-drop}
 use Rattle.std.proofs.lemmas.Nat.{same_from_place}
 use Rattle.amr_def.specs.declared.problem.Problem.{Problem}
 use Rattle.amr_def.specs.Flux.{flow}
@@ -20,7 +20,7 @@ module _ (w j : ℕ) (values old : List ℕ) (before : (q : ℕ) → IsOtherPlac
 
 -- ---- fluxes of the faces of a row
 
-not_last : (a b : ℕ) → a < b → nat_eq a b ≡ false
+pub not_last : (a b : ℕ) → a < b → nat_eq a b ≡ false
 not_last a b h = at_each (nat_eq a b) refl
   where
     at_each : (t : Bool) → nat_eq a b ≡ t → nat_eq a b ≡ false
@@ -86,37 +86,6 @@ module _ (p : Problem) (l first w h : ℕ) (marks : List Bool) (border old : Lis
           ap (λ b. cond (b && y_marked w h marks i) (signed (y_number p l (first + i)) (slice_index (drop used border) (count_below (y_marked w h marks) i))) v) e
           ∙ ev
           ∙ sym (ap (λ b. cond (b && y_marked w h marks i) (signed (y_number p l (first + i)) (slice_index border (count_below (x_marked w marks) h + count_below (y_marked w h marks) i))) (y_flux p l first w old i (j + 1))) e)
-
--- ---- where there are no marks
-
-never : (a b : Bool) → b ≡ false → (a && b) ≡ false
-never true b e = e
-never false b e = refl
-
-unmarked : (n : ℕ) → slice_index_or {A = Bool} [] n false ≡ false
-unmarked n = get_or_past {X = Bool} [] n false (omega arith)
-
-module _ (p : Problem) (l first w : ℕ) (border old : List ℕ) (i j : ℕ) where
-  pub x_unmarked : x_through p l first w [] border old i j ≡ x_flux p l first w old i j
-  unfolding x_through
-  x_unmarked = ap (λ b. cond b (signed (x_number p l (first + j)) (slice_index border (count_below (x_marked w []) j))) (x_flux p l first w old i j)) (never (nat_eq i w) (x_marked w [] j) (unmarked ((j + 1) * (w + 2) + (w + 1))))
-
-  pub y_unmarked : (h : ℕ) → y_through p l first w h [] border old i j ≡ y_flux p l first w old i j
-  unfolding y_through
-  y_unmarked h = ap (λ b. cond b (signed (y_number p l (first + i)) (slice_index border (count_below (x_marked w []) h + count_below (y_marked w h []) i))) (y_flux p l first w old i j)) (never (nat_eq j h) (y_marked w h [] i) (unmarked ((h + 1) * (w + 2) + (i + 1))))
-
-none_below : (test : ℕ → Bool) (n : ℕ) → ((k : ℕ) → test k ≡ false) → count_below test n ≡ 0
-none_below test zero none = refl
-none_below test (suc n) none =
-    let before : count_below test n ≡ 0 = none_below test n none in
-    omega (arith, before, ap {B = ℕ} (λ b. cond b 1 0) (none n))
-
--- no sizes are needed there
-pub no_sizes : (w h : ℕ) → count_below (x_marked w []) h + count_below (y_marked w h []) w ≡ 0
-no_sizes w h =
-    let x : count_below (x_marked w []) h ≡ 0 = none_below (x_marked w []) h (λ j. unmarked ((j + 1) * (w + 2) + (w + 1))) in
-    let y : count_below (y_marked w h []) w ≡ 0 = none_below (y_marked w h []) w (λ i. unmarked ((h + 1) * (w + 2) + (i + 1))) in
-    omega (arith, x, y)
 
 -- a flux that is the one by the size where a face of the last row is marked, and else the one of before
 pub top_by : {a b v : ℤ} (last marked : Bool) → last ≡ true → (marked ≡ true → a ≡ b) → (marked ≡ false → a ≡ v) → a ≡ cond (last && marked) b v

@@ -1,5 +1,5 @@
 -- What an update needs and gives, by the cells and faces of the patch.
-use Rattle.std.proofs.Common.{◌≡◌, ℕ, ◌+◌, ◌*◌, ◌<◌, ◌≤◌, Bool, true, false, ℤ, pos, negsuc, ◌+ℤ◌, ◌-ℤ◌, ◌≤ℤ◌, List, [], length, refl, sym, ap, subst, ◌∙◌, arith}
+use Rattle.std.proofs.Common.{◌≡◌, ℕ, ◌+◌, ◌*◌, ◌<◌, ◌≤◌, Bool, true, false, ℤ, pos, negsuc, ◌+ℤ◌, ◌-ℤ◌, ◌≤ℤ◌, List, length, refl, sym, ap, subst, ◌∙◌, arith}
 use Rattle.std.specs.Prelude.{IsTrue, cond, not, slice_index, slice_index_or}
 use Rattle.std.specs.Ordering.{int_eq}
 use Rattle.std.proofs.lemmas.Bool.{and_parts}
@@ -15,12 +15,10 @@ use Rattle.amr_patch.specs.declared.patches.Patch.{Patch}
 use Rattle.amr_patch.specs.Places.{column_of, grown, in_frame, is_face_of, row_of}
 use Rattle.amr_patch.specs.Patches.{flux_along, mass_in, value_in}
 use Rattle.amr_patch.proofs.Rows.{inside, is_inside, sides, zero-cut}
-use Rattle.amr_flux.specs.Faces.{border_faces, flux_beside, fluxes_with}
+use Rattle.amr_flux.specs.Faces.{border_faces, fluxes_with}
 use Rattle.amr_flux.specs.Tables.{IsOtherPlace, Stands, count_below, net_inflow, value, x_marked, x_through, y_marked, y_through}
 use Rattle.amr_flux.proofs.Places.{IsAt, IsFaceAt, high_at, offset, value_here}
 use Rattle.amr_flux.proofs.Given.{border_count, x_given, y_given}
-use Rattle.amr_flux.proofs.Owned.{x_beside, y_beside}
-use Rattle.amr_flux.proofs.Throughs.{x_unmarked, y_unmarked}
 
 not_true : (b : Bool) → not b ≡ true → b ≡ false
 not_true true e = cc
@@ -92,13 +90,6 @@ module _ (p : Problem) (l : ℕ) (q : Patch) (column row : ℕ) (s : Stands p l 
     y = λ x y i j at hi hj.
         (λ t. y_through p l column (width q.bx) (height q.bx) q.marks.items border q.values.items (sym (offset_is q.bx.lo.x x i at.column) t) (sym (offset_is q.bx.lo.y y j at.row) t))
         ∙ y_given p l q column row s border x y (y_is_face q.bx x y i j q.near at hi hj);
-  }
-
-  -- all by the values, where no face is marked
-  pub frame_fluxes : AreFluxes q (flux_beside p l q) (x_through p l row (width q.bx) [] [] q.values.items) (y_through p l column (width q.bx) (height q.bx) [] [] q.values.items)
-  frame_fluxes = record {
-    x = λ x y i j at hi hj. x_unmarked p l row (width q.bx) [] q.values.items i j ∙ x_beside p l q column row s x y i j at hj;
-    y = λ x y i j at hi hj. y_unmarked p l column (width q.bx) [] q.values.items i j (height q.bx) ∙ y_beside p l q column row s x y i j at hi;
   }
 
 module _ (q : Patch) (e : Fluxes) (xs ys : ℕ → ℕ → ℤ) (are : AreFluxes q e xs ys) where

@@ -1,11 +1,11 @@
 -- A step of a patch where one Courant number holds along each axis: each cell gives its shares and gets those of the cells that
 -- flow into it (donor cell), told by masses alone.
-use Rattle.std.specs.Prelude.{◌≡◌, ◌≢◌, ℕ, zero, suc, ◌+◌, ◌-◌, ◌*◌, ◌^◌, ◌<◌, ◌≤◌, Bool, true, false, ℤ, pos, negsuc, ◌+ℤ◌, List, length, slice_index, slice_index_or, IsTrue}
+use Rattle.std.specs.Prelude.{◌≡◌, ◌≢◌, ℕ, zero, suc, ◌+◌, ◌-◌, ◌*◌, ◌^◌, ◌<◌, ◌≤◌, Bool, true, false, ◌&&◌, cond, nat_eq, ℤ, pos, negsuc, ◌+ℤ◌, ◌≤ℤ◌, ◌<ℤ◌, List, length, slice_index, IsTrue}
 use Rattle.amr_flux.specs.declared.pace.Pace.{Pace}
+use Rattle.amr_flux.specs.Rows.{signed}
 use Rattle.amr_flux.specs.Shares.{share_of}
-use Rattle.amr_flux.specs.Tables.{IsOtherPlace, net_inflow, value}
+use Rattle.amr_flux.specs.Tables.{count_below, net_inflow, value, x_marked, y_marked}
 use Rattle.amr_def.specs.Flux.{flow}
-use Rattle.amr_patch.specs.declared.patches.Patch.{Patch}
 
 -- ---- masses that a pace is for
 
@@ -93,17 +93,47 @@ x_between c d w values i j = flow c d (value w values i (j + 1)) (value w values
 abbrev pub y_between : ℤ → ℕ → ℕ → List ℕ → ℕ → ℕ → ℤ
 y_between c d w values i j = flow c d (value w values (i + 1) j) (value w values (i + 1) (j + 1))
 
--- a patch of w columns and h rows has the fluxes of its edge lines, and its cells got what flows in
-pub record IsSteppedPatch (pace : Pace) (w h : ℕ) (p q : Patch) : Type 0 where
-  pub of_box : q.bx ≡ p.bx
-  pub marks : q.marks.items ≡ p.marks.items
-  pub x_low : (j : ℕ) → j < h → slice_index_or q.x_low.items j (pos 0) ≡ x_between pace.x.number pace.x.parts w p.values.items 0 j
-  pub x_high : (j : ℕ) → j < h → slice_index_or q.x_high.items j (pos 0) ≡ x_between pace.x.number pace.x.parts w p.values.items w j
-  pub y_low : (i : ℕ) → i < w → slice_index_or q.y_low.items i (pos 0) ≡ y_between pace.y.number pace.y.parts w p.values.items i 0
-  pub y_high : (i : ℕ) → i < w → slice_index_or q.y_high.items i (pos 0) ≡ y_between pace.y.number pace.y.parts w p.values.items i h
-  pub cells : (i j : ℕ) → i < w → j < h → pos (value w q.values.items (i + 1) (j + 1)) ≡ pos (value w p.values.items (i + 1) (j + 1)) +ℤ net_inflow (x_between pace.x.number pace.x.parts w p.values.items) (y_between pace.y.number pace.y.parts w p.values.items) i j
-  pub others : (k : ℕ) → IsOtherPlace w h k → slice_index q.values.items k ≡ slice_index p.values.items k
-
 -- a place that is no cell's of the first k rows
 abbrev pub IsUndone : Bool → ℕ → ℕ → ℕ → ℕ → Type 0
 IsUndone down w h k q = (i j : ℕ) → i < w → j < h → IsDone down h k j → q ≢ (j + 1) * (w + 2) + (i + 1)
+
+-- rows go the way of the flow across them: down where it is towards the low side
+abbrev pub GoesWith : Bool → ℤ → Type 0
+GoesWith false c = pos 0 ≤ℤ c
+GoesWith true c = c <ℤ pos 0
+
+-- ---- border faces, by the sizes handed in: first of the x faces by y, then of the y faces by x
+
+-- what flows through x face i of row j, and y face j of column i
+unfoldable pub x_with : Pace → ℕ → List Bool → List ℕ → List ℕ → ℕ → ℕ → ℤ
+x_with pace w marks border values i j =
+    cond (nat_eq i w && x_marked w marks j)
+    (signed pace.x.number (slice_index border (count_below (x_marked w marks) j)))
+    (x_between pace.x.number pace.x.parts w values i j)
+
+unfoldable pub y_with : Pace → ℕ → ℕ → List Bool → List ℕ → List ℕ → ℕ → ℕ → ℤ
+y_with pace w h marks border values i j =
+    cond (nat_eq j h && y_marked w h marks i)
+    (signed pace.y.number (slice_index border (count_below (x_marked w marks) h + count_below (y_marked w h marks) i)))
+    (y_between pace.y.number pace.y.parts w values i j)
+
+-- the new mass of cell (i, j), where the ends of rows have the sizes handed in, and where all border faces have
+abbrev pub mass_by_ends : Pace → ℕ → List Bool → List ℕ → List ℕ → ℕ → ℕ → ℤ
+mass_by_ends pace w marks border values i j =
+    pos (value w values (i + 1) (j + 1)) +ℤ net_inflow (x_with pace w marks border values) (y_between pace.y.number pace.y.parts w values) i j
+
+abbrev pub mass_with : Pace → ℕ → ℕ → List Bool → List ℕ → List ℕ → ℕ → ℕ → ℤ
+mass_with pace w h marks border values i j =
+    pos (value w values (i + 1) (j + 1)) +ℤ net_inflow (x_with pace w marks border values) (y_with pace w h marks border values) i j
+
+-- n is z but for a multiple of 2^32, as sums that wrap leave it
+pub record IsWordOf (z : ℤ) (n : ℕ) : Type 0 where
+  pub over : ℕ
+  pub under : ℕ
+  pub same : pos n +ℤ pos (over * 2 ^ 32) ≡ z +ℤ pos (under * 2 ^ 32)
+
+-- what flows across through the top face of column i by the values beside it, after the rows are gone over: out of the last row
+-- done, or into the first one
+abbrev pub top_share : Bool → Pace → ℕ → ℕ → List ℕ → List ℕ → ℕ → ℕ
+top_share false pace w h values across i = slice_index across i
+top_share true pace w h values across i = y_share pace (value w values (i + 1) (h + 1))

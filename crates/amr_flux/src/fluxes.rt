@@ -47,26 +47,3 @@ pub fn sweep(p: &Problem, l: u32, patch: &mut Patch, room: &mut Room)
         &mut patch.y_high,
     );
 }
-
-/// Works out the fluxes through all faces on the edges of a patch of level `l`, from its masses and the frame beside it: also
-/// those through its border faces, which are what their owners find where the frame has the values of the level.
-pub fn sweep_by_frame(p: &Problem, l: u32, patch: &mut Patch, room: &mut Room)
-    requires level { l ≤ 4 }
-    requires inside { IsInDomain (domain p.now l) (box patch.old) }
-    requires small { (c : Cell) → IsTrue (in_reach (box patch.old) c) → value_in patch.old c < 2 ^ 31 }
-    ensures fluxes { (f : Face) → IsTrue (is_edge_face (box patch.old) f) → flux_in patch.new f ≡ flux_beside p.now l patch.old f }
-    ensures of_box { box patch.new ≡ box patch.old }
-    ensures values { SameValues patch.old patch.new }
-    ensures marks { SameMarks patch.old patch.new }
-    ensures room { widest room.new ≡ widest room.old }
-{
-    let shape = shape_of(p, l, &patch.bx, room);
-    room.x_share = shape.x;
-    room.y_share = shape.y;
-    set_shares(p, shape, &mut room.shares);
-    let shares = &room.shares;
-    column_fluxes(p, shape, &patch.values, 0, &mut patch.x_low);
-    column_fluxes(p, shape, &patch.values, shape.w, &mut patch.x_high);
-    y_row(p, shape, &patch.values, 0, shares, &mut patch.y_low);
-    y_row(p, shape, &patch.values, shape.h, shares, &mut patch.y_high);
-}

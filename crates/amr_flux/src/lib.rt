@@ -1,19 +1,17 @@
 //! Donor-cell fluxes through the faces of a patch, and the new masses of its cells.
 //!
 //! - [`sweep`]: the fluxes through the faces on a patch's edges that it owns.
-//! - [`sweep_by_frame`]: the fluxes through all faces on a patch's edges, as they follow from the frame.
 //! - [`face_flux`]: the flux through any one face of a patch's cells, by the values on its two sides.
 //! - [`update`]: the new masses, in one pass row by row; what flows inside is worked out and used there, and kept nowhere.
-//! - [`update_by_frame`]: the same where all fluxes follow from the frame.
-//! - [`step_by_frame`]: both at once, in one pass.
 //! - [`border_faces`]: the faces on a patch's edges that others own, in the order in which `update` takes their fluxes.
 //! - [`Share`]: how much of a mass flows out of a cell, by products in place of a division.
 #![tactic(auto)]
 
-mod by_frame;
+mod exchanges;
 mod faces;
 mod fluxes;
 mod masses;
+mod one_pass;
 mod order;
 mod pace;
 mod patch_steps;
@@ -29,10 +27,9 @@ mod update_rows;
 mod x_faces;
 mod y_faces;
 
-pub use crate::by_frame::step_by_frame;
 pub use crate::faces::face_flux;
-pub use crate::fluxes::{sweep, sweep_by_frame};
-pub use crate::masses::{update, update_by_frame};
+pub use crate::fluxes::sweep;
+pub use crate::masses::update;
 pub use crate::order::{border_faces, x_end, y_end};
 pub use crate::room::Room;
 pub use crate::share::Share;

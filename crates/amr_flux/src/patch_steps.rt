@@ -1,18 +1,14 @@
-//! The new masses of a patch and what flows through the faces on its edges, in one pass row by row, where one Courant number
-//! holds along each axis.
+//! The new masses of a patch in one pass row by row, where one Courant number holds along each axis.
 
-ghost use Rattle.std.specs.Prelude.{◌≡◌, ℕ, ◌+◌, ◌*◌, ◌<◌, ◌≤ℤ◌, ◌<ℤ◌, length, pos, slice_index, slice_index_or};
-ghost use Rattle.amr_box.specs.Cells.{height, width};
-ghost use Rattle.amr_patch.specs.Patches.{box};
-ghost use Rattle.amr_flux.specs.Paces.{AreFit, IsFitPatch, IsStepped, IsSteppedPatch, row_at, row_before, x_donor, x_share, y_share};
-ghost use Rattle.amr_flux.specs.Rows.{signed};
-ghost use Rattle.amr_flux.specs.Shares.{AreSmall};
-ghost use Rattle.amr_flux.specs.Tables.{IsOtherPlace, value};
+ghost use Rattle.std.specs.Prelude.{◌≡◌, ◌≢◌, ℕ, ◌+◌, ◌*◌, ◌<◌, ◌≤◌, ◌^◌, pos, ◌≤ℤ◌, ◌<ℤ◌, length, slice_index};
+ghost use Rattle.amr_flux.specs.Paces.{AreFit, GoesWith, IsFitPatch, IsWordOf, mass_by_ends, mass_with, row_at, row_before, y_share};
+ghost use Rattle.amr_flux.specs.Tables.{IsOtherPlace, count_below, value, x_marked, y_marked};
 
+use crate::exchanges::{count_ends, exchange_tops, exchanged};
 use crate::pace::Pace;
 use crate::row_steps::step_row_in;
-use crate::y_faces::signed_flux;
-use amr_patch::Patch;
+use crate::shape::Shape;
+use crate::x_faces::is_end_marked;
 
 /// Which row comes after `k` others, from the low row up or from the high one down.
 #[inline(always)]
@@ -24,34 +20,45 @@ fn row_at(down: bool, h: usize, k: usize) -> usize
     if down { h - 1 - k } else { k }
 }
 
-/// Makes the new masses of all cells of a patch, which has as many columns as `across` and as many rows as `x_low`, and the fluxes
-/// through the first and the last x face of each row. Rows go the way of the flow across them: `across` has what comes into the
-/// first of them, and gets what goes out of the last.
+/// Makes the new masses of all cells of a patch, but for what flows through its marked top faces. Rows go the way of the flow
+/// across them: `across` has what comes into the first of them, and gets what goes out of the last. Each row is made by the values
+/// beside it, and then what flows through its end, if that is marked, is exchanged for the size handed in. Answers how many ends
+/// are marked.
 #[inline(always)]
-pub(crate) fn step_rows(
+fn step_rows(
     down: bool,
     pace: Pace,
-    values: &mut [u32],
+    shape: Shape,
+    marks: &[bool],
+    border: &[u32],
     across: &mut [u32],
-    x_low: &mut [i32],
-    x_high: &mut [i32],
-)
-    requires row_count { length x_high.old ≡ length x_low.old }
-    requires value_count { length values.old ≡ (length x_low.old + 2) * (length across.old + 2) }
-    requires fit { IsFitPatch pace (length across.old) (length x_low.old) values.old }
-    requires entering { (i : ℕ) → i < length across.old → slice_index across.old i ≡ y_share pace (value (length across.old) values.old (i + 1) (row_before down (length x_low.old) 0)) }
-    ensures cells { (i j : ℕ) → i < length across.old → j < length x_low.old → IsStepped pace down (length across.old) values.old values.new i j }
-    ensures leaving { (i : ℕ) → i < length across.old → slice_index across.new i ≡ y_share pace (value (length across.old) values.old (i + 1) (row_before down (length x_low.old) (length x_low.old))) }
-    ensures low { (j : ℕ) → j < length x_low.old → slice_index_or x_low.new j (pos 0) ≡ signed pace.x.number (x_share pace (x_donor pace.x.number (length across.old) values.old 0 j)) }
-    ensures high { (j : ℕ) → j < length x_low.old → slice_index_or x_high.new j (pos 0) ≡ signed pace.x.number (x_share pace (x_donor pace.x.number (length across.old) values.old (length across.old) j)) }
-    ensures others { (k : ℕ) → IsOtherPlace (length across.old) (length x_low.old) k → slice_index values.new k ≡ slice_index values.old k }
+    values: &mut [u32],
+) -> usize
+    requires width { length across.old ≡ shape.w }
+    requires some { 0 < shape.w }
+    requires value_count { length values.old ≡ (shape.h + 2) * (shape.w + 2) }
+    requires way { GoesWith down pace.y.number }
+    requires fit { IsFitPatch pace shape.w shape.h values.old }
+    requires enough { count_below (x_marked shape.w marks.now) shape.h ≤ length border.now }
+    requires entering { (i : ℕ) → i < shape.w → slice_index across.old i ≡ y_share pace (value shape.w values.old (i + 1) (row_before down shape.h 0)) }
+    ensures ends { result ≡ count_below (x_marked shape.w marks.now) shape.h }
+    ensures cells { (i j : ℕ) → i < shape.w → j < shape.h → IsWordOf (mass_by_ends pace shape.w marks.now border.now values.old i j) (value shape.w values.new (i + 1) (j + 1)) }
+    ensures leaving { (i : ℕ) → i < shape.w → slice_index across.new i ≡ y_share pace (value shape.w values.old (i + 1) (row_before down shape.h shape.h)) }
+    ensures others { (k : ℕ) → IsOtherPlace shape.w shape.h k → slice_index values.new k ≡ slice_index values.old k }
 {
-    for k in 0..x_low.len() {
-        let j = row_at(down, x_low.len(), k);
-        let (low, high) = step_row_in(down, pace, j, values, across);
-        x_low[j] = signed_flux(pace.x.number, low);
-        x_high[j] = signed_flux(pace.x.number, high);
+    let ends = count_ends(shape, marks);
+    let mut used = 0;
+    for k in 0..shape.h {
+        let j = row_at(down, shape.h, k);
+        let share = step_row_in(down, pace, j, values, across);
+        if is_end_marked(shape, marks, j) {
+            let size = border[row_at(down, ends, used)];
+            let at = (j + 1) * (shape.w + 2) + shape.w;
+            values[at] = exchanged(pace.x.number, share, size, values[at]);
+            used += 1;
+        }
     }
+    ends
 }
 
 /// What flows across out of each cell of a row.
@@ -66,70 +73,69 @@ fn row_sizes(pace: Pace, cells: &[u32], sizes: &mut [u32])
     }
 }
 
-/// Fluxes of these sizes, each the way of a Courant number.
+/// The row of values that the flow across into the first row comes from.
 #[inline(always)]
-fn signed_row(number: i32, sizes: &[u32], fluxes: &mut [i32])
-    requires count { length sizes.now ≡ length fluxes.old }
-    requires small { AreSmall sizes.now }
-    ensures { (k : ℕ) → k < length fluxes.old → slice_index_or fluxes.new k (pos 0) ≡ signed number (slice_index sizes.now k) }
+fn first_row(down: bool, h: usize) -> usize
+    requires { h < 2 ^ 62 }
+    ensures value { result ≡ row_before down h 0 }
+    ensures inside { result < h + 2 }
 {
-    for k in 0..fluxes.len() {
-        fluxes[k] = signed_flux(number, sizes[k]);
-    }
+    if down { h + 1 } else { 0 }
 }
 
-/// Makes a step of a patch as wide as `across`, where it flows across rows towards the high side.
-fn step_up(pace: Pace, patch: &mut Patch, across: &mut [u32])
-    requires width { length across.old ≡ width (box patch.old) }
-    requires fit { IsFitPatch pace (length across.old) (height (box patch.old)) patch.old.values.items }
-    requires upward { pos 0 ≤ℤ pace.y.number }
-    ensures { IsSteppedPatch pace (length across.old) (height (box patch.old)) patch.old patch.new }
+/// Makes the new masses of all cells of a patch as wide as `across`, which is room for a row. Rows go down or up.
+#[inline(always)]
+fn step_in_order(
+    down: bool,
+    pace: Pace,
+    shape: Shape,
+    marks: &[bool],
+    border: &[u32],
+    across: &mut [u32],
+    values: &mut [u32],
+)
+    requires width { length across.old ≡ shape.w }
+    requires some_columns { 0 < shape.w }
+    requires some_rows { 0 < shape.h }
+    requires value_count { length values.old ≡ (shape.h + 2) * (shape.w + 2) }
+    requires way { GoesWith down pace.y.number }
+    requires fit { IsFitPatch pace shape.w shape.h values.old }
+    requires enough { count_below (x_marked shape.w marks.now) shape.h + count_below (y_marked shape.w shape.h marks.now) shape.w ≤ length border.now }
+    requires kept { (i j : ℕ) → i < shape.w → j < shape.h → pos 0 ≤ℤ mass_with pace shape.w shape.h marks.now border.now values.old i j }
+    requires fits { (i j : ℕ) → i < shape.w → j < shape.h → mass_with pace shape.w shape.h marks.now border.now values.old i j <ℤ pos (2 ^ 32) }
+    ensures made { (i j : ℕ) → i < shape.w → j < shape.h → pos (value shape.w values.new (i + 1) (j + 1)) ≡ mass_with pace shape.w shape.h marks.now border.now values.old i j }
+    ensures others { (k : ℕ) → IsOtherPlace shape.w shape.h k → slice_index values.new k ≡ slice_index values.old k }
 {
-    let w = across.len();
-    row_sizes(pace, &patch.values[1..1 + w], across);
-    signed_row(pace.y.number, across, &mut patch.y_low);
-    step_rows(
-        false,
-        pace,
-        &mut patch.values,
-        across,
-        &mut patch.x_low,
-        &mut patch.x_high,
-    );
-    signed_row(pace.y.number, across, &mut patch.y_high);
+    let from = first_row(down, shape.h) * (shape.w + 2) + 1;
+    row_sizes(pace, &values[from..from + shape.w], across);
+    let ends = step_rows(down, pace, shape, marks, border, across, values);
+    exchange_tops(down, pace, shape, marks, &border[ends..], across, values);
 }
 
-/// The same where it flows towards the low side.
-fn step_down(pace: Pace, patch: &mut Patch, across: &mut [u32])
-    requires width { length across.old ≡ width (box patch.old) }
-    requires fit { IsFitPatch pace (length across.old) (height (box patch.old)) patch.old.values.items }
-    requires downward { pace.y.number <ℤ pos 0 }
-    ensures { IsSteppedPatch pace (length across.old) (height (box patch.old)) patch.old patch.new }
-{
-    let w = across.len();
-    let top = (patch.x_low.len() + 1) * (w + 2) + 1;
-    row_sizes(pace, &patch.values[top..top + w], across);
-    signed_row(pace.y.number, across, &mut patch.y_high);
-    step_rows(
-        true,
-        pace,
-        &mut patch.values,
-        across,
-        &mut patch.x_low,
-        &mut patch.x_high,
-    );
-    signed_row(pace.y.number, across, &mut patch.y_low);
-}
-
-/// Makes a step of a patch: the fluxes of its edge lines, and the new masses of its cells. `across` is room for a row.
-pub(crate) fn step_patch(pace: Pace, patch: &mut Patch, across: &mut [u32])
-    requires width { length across.old ≡ width (box patch.old) }
-    requires fit { IsFitPatch pace (length across.old) (height (box patch.old)) patch.old.values.items }
-    ensures { IsSteppedPatch pace (length across.old) (height (box patch.old)) patch.old patch.new }
+/// Gives each cell of a patch what comes in through its faces, in one pass over its rows: by the values on their two sides, and for
+/// border faces by the sizes handed in. `across` is room for a row.
+pub(crate) fn step_cells(
+    pace: Pace,
+    shape: Shape,
+    marks: &[bool],
+    border: &[u32],
+    across: &mut [u32],
+    values: &mut [u32],
+)
+    requires width { length across.old ≡ shape.w }
+    requires some_columns { 0 < shape.w }
+    requires some_rows { 0 < shape.h }
+    requires value_count { length values.old ≡ (shape.h + 2) * (shape.w + 2) }
+    requires fit { IsFitPatch pace shape.w shape.h values.old }
+    requires enough { count_below (x_marked shape.w marks.now) shape.h + count_below (y_marked shape.w shape.h marks.now) shape.w ≤ length border.now }
+    requires kept { (i j : ℕ) → i < shape.w → j < shape.h → pos 0 ≤ℤ mass_with pace shape.w shape.h marks.now border.now values.old i j }
+    requires fits { (i j : ℕ) → i < shape.w → j < shape.h → mass_with pace shape.w shape.h marks.now border.now values.old i j <ℤ pos (2 ^ 32) }
+    ensures made { (i j : ℕ) → i < shape.w → j < shape.h → pos (value shape.w values.new (i + 1) (j + 1)) ≡ mass_with pace shape.w shape.h marks.now border.now values.old i j }
+    ensures others { (k : ℕ) → IsOtherPlace shape.w shape.h k → slice_index values.new k ≡ slice_index values.old k }
 {
     if pace.y.number < 0 {
-        step_down(pace, patch, across);
+        step_in_order(true, pace, shape, marks, border, across, values);
     } else {
-        step_up(pace, patch, across);
+        step_in_order(false, pace, shape, marks, border, across, values);
     }
 }

@@ -61,53 +61,48 @@ fn back(pace: Pace, across: &mut [u32], row: &mut [u32])
 }
 
 /// Makes the new masses of row `j` of a patch, as wide as `across`, which has what comes into each cell from the row before, and
-/// gets what goes out of each into the row after. The row flows towards its high end. Answers the sizes of what flows through its
-/// first and its last x face.
+/// gets what goes out of each into the row after. The row flows towards its high end. Answers the size of what flows through its
+/// last x face.
 #[inline(always)]
-fn step_row_ahead(pace: Pace, j: usize, values: &mut [u32], across: &mut [u32]) -> (u32, u32)
+fn step_row_ahead(pace: Pace, j: usize, values: &mut [u32], across: &mut [u32]) -> u32
     requires forward { pos 0 ≤ℤ pace.x.number }
     requires inside { (j + 2) * (length across.old + 2) ≤ length values.old }
     requires ready { IsReadyRow pace (length across.old) j values.old across.old }
     ensures cells { IsSteppedRow pace (length across.old) j values.old values.new across.old }
     ensures across { (i : ℕ) → i < length across.old → slice_index across.new i ≡ y_share pace (value (length across.old) values.old (i + 1) (j + 1)) }
-    ensures first { result.0 ≡ x_share pace (x_donor pace.x.number (length across.old) values.old 0 j) }
-    ensures last { result.1 ≡ x_share pace (x_donor pace.x.number (length across.old) values.old (length across.old) j) }
+    ensures end { result ≡ x_share pace (x_donor pace.x.number (length across.old) values.old (length across.old) j) }
 {
     let w = across.len();
     let from = (j + 1) * (w + 2) + 1;
-    let low = pace.along(values[from - 1]);
-    let high = ahead(pace, low, across, &mut values[from..from + w]);
-    (low, high)
+    let first = pace.along(values[from - 1]);
+    ahead(pace, first, across, &mut values[from..from + w])
 }
 
 /// The same of a row that flows towards its low end.
 #[inline(always)]
-fn step_row_back(pace: Pace, j: usize, values: &mut [u32], across: &mut [u32]) -> (u32, u32)
+fn step_row_back(pace: Pace, j: usize, values: &mut [u32], across: &mut [u32]) -> u32
     requires backward { pace.x.number <ℤ pos 0 }
     requires inside { (j + 2) * (length across.old + 2) ≤ length values.old }
     requires ready { IsReadyRow pace (length across.old) j values.old across.old }
     ensures cells { IsSteppedRow pace (length across.old) j values.old values.new across.old }
     ensures across { (i : ℕ) → i < length across.old → slice_index across.new i ≡ y_share pace (value (length across.old) values.old (i + 1) (j + 1)) }
-    ensures first { result.0 ≡ x_share pace (x_donor pace.x.number (length across.old) values.old 0 j) }
-    ensures last { result.1 ≡ x_share pace (x_donor pace.x.number (length across.old) values.old (length across.old) j) }
+    ensures end { result ≡ x_share pace (x_donor pace.x.number (length across.old) values.old (length across.old) j) }
 {
     let w = across.len();
     let from = (j + 1) * (w + 2) + 1;
-    let low = pace.along(values[from]);
-    let high = pace.along(values[from + w]);
+    let end = pace.along(values[from + w]);
     back(pace, across, &mut values[from..from + w + 1]);
-    (low, high)
+    end
 }
 
 /// The same of any row.
 #[inline(always)]
-fn step_row(pace: Pace, j: usize, values: &mut [u32], across: &mut [u32]) -> (u32, u32)
+fn step_row(pace: Pace, j: usize, values: &mut [u32], across: &mut [u32]) -> u32
     requires inside { (j + 2) * (length across.old + 2) ≤ length values.old }
     requires ready { IsReadyRow pace (length across.old) j values.old across.old }
     ensures cells { IsSteppedRow pace (length across.old) j values.old values.new across.old }
     ensures across { (i : ℕ) → i < length across.old → slice_index across.new i ≡ y_share pace (value (length across.old) values.old (i + 1) (j + 1)) }
-    ensures first { result.0 ≡ x_share pace (x_donor pace.x.number (length across.old) values.old 0 j) }
-    ensures last { result.1 ≡ x_share pace (x_donor pace.x.number (length across.old) values.old (length across.old) j) }
+    ensures end { result ≡ x_share pace (x_donor pace.x.number (length across.old) values.old (length across.old) j) }
 {
     if pace.x.number < 0 {
         step_row_back(pace, j, values, across)
@@ -118,13 +113,12 @@ fn step_row(pace: Pace, j: usize, values: &mut [u32], across: &mut [u32]) -> (u3
 
 /// The same, in a call of its own: where rows go down, the compiler makes no vectors of a loop that stands in the caller's.
 #[inline(never)]
-fn step_row_alone(pace: Pace, j: usize, values: &mut [u32], across: &mut [u32]) -> (u32, u32)
+fn step_row_alone(pace: Pace, j: usize, values: &mut [u32], across: &mut [u32]) -> u32
     requires inside { (j + 2) * (length across.old + 2) ≤ length values.old }
     requires ready { IsReadyRow pace (length across.old) j values.old across.old }
     ensures cells { IsSteppedRow pace (length across.old) j values.old values.new across.old }
     ensures across { (i : ℕ) → i < length across.old → slice_index across.new i ≡ y_share pace (value (length across.old) values.old (i + 1) (j + 1)) }
-    ensures first { result.0 ≡ x_share pace (x_donor pace.x.number (length across.old) values.old 0 j) }
-    ensures last { result.1 ≡ x_share pace (x_donor pace.x.number (length across.old) values.old (length across.old) j) }
+    ensures end { result ≡ x_share pace (x_donor pace.x.number (length across.old) values.old (length across.old) j) }
 {
     step_row(pace, j, values, across)
 }
@@ -137,13 +131,12 @@ pub(crate) fn step_row_in(
     j: usize,
     values: &mut [u32],
     across: &mut [u32],
-) -> (u32, u32)
+) -> u32
     requires inside { (j + 2) * (length across.old + 2) ≤ length values.old }
     requires ready { IsReadyRow pace (length across.old) j values.old across.old }
     ensures cells { IsSteppedRow pace (length across.old) j values.old values.new across.old }
     ensures across { (i : ℕ) → i < length across.old → slice_index across.new i ≡ y_share pace (value (length across.old) values.old (i + 1) (j + 1)) }
-    ensures first { result.0 ≡ x_share pace (x_donor pace.x.number (length across.old) values.old 0 j) }
-    ensures last { result.1 ≡ x_share pace (x_donor pace.x.number (length across.old) values.old (length across.old) j) }
+    ensures end { result ≡ x_share pace (x_donor pace.x.number (length across.old) values.old (length across.old) j) }
 {
     if down {
         step_row_alone(pace, j, values, across)

@@ -14,8 +14,7 @@ use crate::y_faces::{set_shares, set_top, y_row};
 use amr_def::Problem;
 
 /// Gives each cell of a patch what comes in through its faces: by the values on their two sides, and for border faces by the sizes
-/// handed in. All is worked out and used row by row, in one pass over the masses. Where there are no marks, no face is a border
-/// face, and all fluxes follow from the values.
+/// handed in. Rows and columns may have Courant numbers of their own. The fluxes of a row are worked out and used before the next.
 #[tactic(auto, using(crate::proofs::Numbers::x_slow), unfolding(crate::specs::Rooms::widest))]
 pub(crate) fn update_rows(
     p: &Problem,

@@ -1,17 +1,16 @@
-use Rattle.std.proofs.Common.{◌≡◌, ℕ, ◌+◌, ◌<◌, length, pos}
-use Rattle.std.specs.Prelude.{slice_index, slice_index_or}
-use Rattle.amr_flux.specs.Paces.{IsDone, IsStepped, IsUndone, row_before, x_donor, x_share, y_share}
-use Rattle.amr_flux.specs.Rows.{signed}
-use Rattle.amr_flux.specs.Tables.{value}
+use Rattle.std.proofs.Common.{◌≡◌, ℕ, ◌+◌, ◌<◌}
+use Rattle.std.specs.Prelude.{slice_index}
+use Rattle.amr_flux.specs.Paces.{IsDone, IsUndone, IsWordOf, mass_by_ends, row_before, y_share}
+use Rattle.amr_flux.specs.Tables.{value, x_marked}
+use Rattle.amr_flux.proofs.RowOrder.{IsCounted}
 use Rattle.amr_flux.proofs.patch_steps.step_rows.Given as goal
 
--- the rows that are done have their new masses and their fluxes, all else is as before, and what flows across into the next row
--- is known
+-- the rows that are done have their new masses, all else is as before, what flows across into the next row is known, and the
+-- marked rows that are done are counted
 abbrev pub invariant-loop-k : goal.invariant-loop-k
 invariant-loop-k l = record {
-  made : (i j : ℕ) → i < length l.fn.across → j < length l.fn.x_low → IsDone l.down (length l.fn.x_low) l.k j → IsStepped l.pace l.down (length l.fn.across) l.fn.values l.values i j;
-  others : (q : ℕ) → IsUndone l.down (length l.fn.across) (length l.fn.x_low) l.k q → slice_index l.values q ≡ slice_index l.fn.values q;
-  passed : (i : ℕ) → i < length l.fn.across → slice_index l.across i ≡ y_share l.pace (value (length l.fn.across) l.fn.values (i + 1) (row_before l.down (length l.fn.x_low) l.k));
-  low : (j : ℕ) → j < length l.fn.x_low → IsDone l.down (length l.fn.x_low) l.k j → slice_index_or l.x_low j (pos 0) ≡ signed l.pace.x.number (x_share l.pace (x_donor l.pace.x.number (length l.fn.across) l.fn.values 0 j));
-  high : (j : ℕ) → j < length l.fn.x_low → IsDone l.down (length l.fn.x_low) l.k j → slice_index_or l.x_high j (pos 0) ≡ signed l.pace.x.number (x_share l.pace (x_donor l.pace.x.number (length l.fn.across) l.fn.values (length l.fn.across) j));
+  made : (i j : ℕ) → i < l.shape.w → j < l.shape.h → IsDone l.down l.shape.h l.k j → IsWordOf (mass_by_ends l.pace l.shape.w l.marks l.border l.fn.values i j) (value l.shape.w l.values (i + 1) (j + 1));
+  others : (q : ℕ) → IsUndone l.down l.shape.w l.shape.h l.k q → slice_index l.values q ≡ slice_index l.fn.values q;
+  passed : (i : ℕ) → i < l.shape.w → slice_index l.across i ≡ y_share l.pace (value l.shape.w l.fn.values (i + 1) (row_before l.down l.shape.h l.k));
+  used : IsCounted l.down (x_marked l.shape.w l.marks) l.shape.h l.k l.used;
 }

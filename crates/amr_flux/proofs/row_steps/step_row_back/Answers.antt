@@ -6,13 +6,8 @@ use Rattle.amr_flux.proofs.Paces.{fits_still}
 use Rattle.amr_flux.proofs.RowSteps.{before_back, cell_moved, donor_back, made_here, others_beyond, row_fits, row_here}
 use Rattle.amr_flux.proofs.row_steps.step_row_back.Goals as goal
 
-pub along-low-requires : goal.along-low-requires
-along-low-requires c =
-    let w = length c.args.across.now in
-    fits_still c.args.pace _ _ (ap (slice_index c.args.values.now) (omega arith)) (c.requires.ready.fit 1 (omega arith))
-
-pub along-high-requires : goal.along-high-requires
-along-high-requires c =
+pub along-end-requires : goal.along-end-requires
+along-end-requires c =
     let w = length c.args.across.now in
     fits_still c.args.pace _ _ (ap (slice_index c.args.values.now) (omega arith)) (c.requires.ready.fit (w + 1) (omega arith))
 
@@ -56,16 +51,9 @@ returns-clause-across c = λ i h.
     let from = (j + 1) * (w + 2) + 1 in
     c.back.ensures.across i h ∙ ap (y_share c.args.pace) (row_here w j from (from + w + 1) (w + 1) values refl (omega arith) (omega arith) i (omega (arith, h)))
 
-pub returns-clause-first : goal.returns-clause-first
-returns-clause-first c =
+pub returns-clause-end : goal.returns-clause-end
+returns-clause-end c =
     let w = length c.args.across.now in
     let j = c.args.j in
     let values = c.args.values.now in
-    c.along-low.ensures.value ∙ ap (λ n. x_share c.args.pace (slice_index values n)) (omega arith) ∙ ap (x_share c.args.pace) (sym (donor_back w values 0 j c.args.pace.x.number c.requires.backward))
-
-pub returns-clause-last : goal.returns-clause-last
-returns-clause-last c =
-    let w = length c.args.across.now in
-    let j = c.args.j in
-    let values = c.args.values.now in
-    c.along-high.ensures.value ∙ ap (λ n. x_share c.args.pace (slice_index values n)) (omega arith) ∙ ap (x_share c.args.pace) (sym (donor_back w values w j c.args.pace.x.number c.requires.backward))
+    c.along-end.ensures.value ∙ ap (λ n. x_share c.args.pace (slice_index values n)) (omega arith) ∙ ap (x_share c.args.pace) (sym (donor_back w values w j c.args.pace.x.number c.requires.backward))
