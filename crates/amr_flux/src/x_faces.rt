@@ -61,7 +61,24 @@ pub(crate) fn column_fluxes(p: &Problem, shape: Shape, values: &[u32], i: usize,
     }
 }
 
+/// The flux through the x face at the high side of each row whose cell beyond it is not marked, where one Courant number holds in
+/// all rows.
+fn high_at(shape: Shape, share: Share, values: &[u32], marks: &[bool], fluxes: &mut [i32])
+    requires value_count { length values.now ≡ (shape.h + 2) * (shape.w + 2) }
+    requires flux_count { length fluxes.old ≡ shape.h }
+    requires small { AreXSmall shape.w shape.h values.now }
+    ensures made { (j : ℕ) → j < shape.h → x_marked shape.w marks.now j ≡ false → slice_index_or fluxes.new j (pos 0) ≡ flow share.number share.parts (value shape.w values.now shape.w (j + 1)) (value shape.w values.now (shape.w + 1) (j + 1)) }
+    ensures others { (j : ℕ) → x_marked shape.w marks.now j ≡ true → slice_index_or fluxes.new j (pos 0) ≡ slice_index_or fluxes.old j (pos 0) }
+{
+    for j in 0..fluxes.len() {
+        if !is_end_marked(shape, marks, j) {
+            fluxes[j] = x_face_flux(shape, share, values, shape.w, j);
+        }
+    }
+}
+
 /// The flux through the x face at the high side of each row, where the cell beyond it is not marked.
+#[tactic(auto, using(crate::proofs::Numbers::plain_x_slow))]
 pub(crate) fn high_fluxes(
     p: &Problem,
     shape: Shape,
@@ -78,6 +95,11 @@ pub(crate) fn high_fluxes(
     ensures made { (j : ℕ) → j < shape.h → x_marked shape.w marks.now j ≡ false → slice_index_or fluxes.new j (pos 0) ≡ x_flux p.now shape.level shape.row shape.w values.now shape.w j }
     ensures others { (j : ℕ) → x_marked shape.w marks.now j ≡ true → slice_index_or fluxes.new j (pos 0) ≡ slice_index_or fluxes.old j (pos 0) }
 {
+    if p.shear_x.entries().is_empty() {
+        let share = shape.x.with(p.cx, p.d);
+        high_at(shape, share, values, marks, fluxes);
+        return;
+    }
     let mut share = shape.x;
     for j in 0..fluxes.len() {
         if !is_end_marked(shape, marks, j) {

@@ -96,8 +96,24 @@ pub(crate) fn y_row(
     );
 }
 
+/// The fluxes through the y faces at the high side of a patch whose cell beyond is not marked, where one Courant number holds in
+/// all columns.
+fn top_at(shape: Shape, share: Share, values: &[u32], marks: &[bool], fluxes: &mut [i32])
+    requires value_count { length values.now ≡ (shape.h + 2) * (shape.w + 2) }
+    requires flux_count { length fluxes.old ≡ shape.w }
+    requires small { AreYSmall shape.w shape.h values.now }
+    ensures made { (i : ℕ) → i < shape.w → y_marked shape.w shape.h marks.now i ≡ false → slice_index_or fluxes.new i (pos 0) ≡ flow share.number share.parts (value shape.w values.now (i + 1) shape.h) (value shape.w values.now (i + 1) (shape.h + 1)) }
+    ensures others { (i : ℕ) → i < shape.w → y_marked shape.w shape.h marks.now i ≡ true → slice_index_or fluxes.new i (pos 0) ≡ slice_index_or fluxes.old i (pos 0) }
+{
+    for i in 0..fluxes.len() {
+        if !is_top_marked(shape, marks, i) {
+            fluxes[i] = top_flux(shape, share, values, i);
+        }
+    }
+}
+
 /// The fluxes through the y faces at the high side of a patch, where the cell beyond is not marked.
-#[tactic(auto, using(crate::proofs::Numbers::y_slow))]
+#[tactic(auto, using(crate::proofs::Numbers::y_slow, crate::proofs::Paces::plain_y_slow))]
 pub(crate) fn top_fluxes(
     p: &Problem,
     shape: Shape,
@@ -114,6 +130,11 @@ pub(crate) fn top_fluxes(
     ensures made { (i : ℕ) → i < shape.w → y_marked shape.w shape.h marks.now i ≡ false → slice_index_or fluxes.new i (pos 0) ≡ y_flux p.now shape.level shape.column shape.w values.now i shape.h }
     ensures others { (i : ℕ) → i < shape.w → y_marked shape.w shape.h marks.now i ≡ true → slice_index_or fluxes.new i (pos 0) ≡ slice_index_or fluxes.old i (pos 0) }
 {
+    if p.shear_y.entries().is_empty() {
+        let share = shape.y.with(p.cy, p.d);
+        top_at(shape, share, values, marks, fluxes);
+        return;
+    }
     for i in 0..fluxes.len() {
         if !is_top_marked(shape, marks, i) {
             let last = share_at(shares, i, shape.y);

@@ -1,9 +1,10 @@
-use Rattle.std.proofs.Common.{◌≡◌, ℕ, ◌+◌, ◌<◌, ◌∙◌, false, true, pos, sym, refl, subst, rules, ℤ, List, Bool}
+use Rattle.std.proofs.Common.{◌≡◌, ℕ, ◌+◌, ◌<◌, ◌∙◌, false, true, [], pos, sym, refl, subst, rules, ℤ, List, Bool}
 use mir.Val.{SFits}
 use mir.Syntax.{w32}
 use Rattle.std.proofs.lemmas.Int.{to_z-of_z}
 use Rattle.std.specs.Prelude.{slice_index_or}
 use Rattle.amr_flux.specs.Tables.{x_flux, x_marked}
+use Rattle.amr_flux.proofs.Numbers.{x_unsheared}
 use Rattle.amr_flux.proofs.Steps.{not_false, not_true, one_left, one_made, others_kept, x_flux_is}
 use Rattle.amr_flux.proofs.x_faces.high_fluxes.Goals as goal
 use Rattle.amr_flux.proofs.x_faces.high_fluxes.Goals.{then-not-is_end_marked, else-not-is_end_marked}
@@ -32,3 +33,12 @@ loop-j-preserved c =
             others = subst Q (sym b.fluxes-is) c.loop-j.invariant.others;
           }
     ]
+
+pub returns-then-is_empty-clause-made : goal.returns-then-is_empty-clause-made
+returns-then-is_empty-clause-made c = λ j h free.
+    let p = c.args.p.now in
+    let s = c.args.shape in
+    let empty : p.shear_x ≡ [] = search rules in
+    let number : c.with-share.result.number ≡ p.cx = search rules in
+    let parts : c.with-share.result.parts ≡ p.d = search rules in
+    c.high_at.ensures.made j h free ∙ x_flux_is p s.level s.row s.w c.args.values.now s.w j (number ∙ sym (x_unsheared p s.level (s.row + j) empty)) parts refl refl

@@ -1,9 +1,12 @@
-use Rattle.std.proofs.Common.{◌≡◌, ℕ, ◌+◌, ◌<◌, ◌∙◌, false, true, pos, sym, refl, subst, rules, ℤ, List, Bool}
+use Rattle.std.proofs.Common.{◌≡◌, ℕ, ◌+◌, ◌<◌, ◌≤◌, ◌∙◌, false, true, [], pos, sym, refl, subst, rules, ℤ, List, Bool, arith}
 use mir.Val.{SFits}
 use mir.Syntax.{w32}
 use Rattle.std.proofs.lemmas.Int.{to_z-of_z}
 use Rattle.std.specs.Prelude.{slice_index_or}
+use Rattle.amr_def.specs.Domain.{columns}
+use Rattle.amr_def.proofs.Sizes.{doubled_small}
 use Rattle.amr_flux.specs.Tables.{y_flux, y_marked}
+use Rattle.amr_flux.proofs.Numbers.{unsheared}
 use Rattle.amr_flux.proofs.Steps.{not_false, not_true, one_left, one_made, others_kept, y_flux_is}
 use Rattle.amr_flux.proofs.y_faces.top_fluxes.Goals as goal
 use Rattle.amr_flux.proofs.y_faces.top_fluxes.Goals.{then-not-is_top_marked, else-not-is_top_marked}
@@ -33,3 +36,17 @@ loop-i-preserved c =
             others = subst Q (sym b.fluxes-is) c.loop-i.invariant.others;
           }
     ]
+
+pub returns-then-is_empty-clause-made : goal.returns-then-is_empty-clause-made
+returns-then-is_empty-clause-made c = λ i h free.
+    let p = c.args.p.now in
+    let s = c.args.shape in
+    let empty : p.shear_y ≡ [] = search rules in
+    let number : c.with-share.result.number ≡ p.cy = search rules in
+    let parts : c.with-share.result.parts ≡ p.d = search rules in
+    c.top_at.ensures.made i h free ∙ y_flux_is p s.level s.column s.w c.args.values.now i s.h (number ∙ sym (unsheared p s.level (s.column + i) empty)) parts refl refl
+
+pub overflow_add-shape : goal.overflow_add-shape
+overflow_add-shape c =
+    let few : columns c.args.p.now c.args.shape.level ≤ 4096 = doubled_small c.args.p.now.nx c.args.shape.level c.args.p.now.limits.greatest_nx c.requires.level in
+    record { fits = omega (arith, few, c.requires.inside, c.requires.flux_count, c.loop-i-test.true, c.loop-i.auto.fluxes) }

@@ -1,0 +1,35 @@
+use Rattle.std.proofs.Common.{◌≡◌, ℕ, ◌+◌, ◌<◌, false, true, pos, sym, subst, rules, ℤ, List, Bool}
+use mir.Val.{SFits}
+use mir.Syntax.{w32}
+use Rattle.std.proofs.lemmas.Int.{to_z-of_z}
+use Rattle.std.specs.Prelude.{slice_index_or}
+use Rattle.amr_def.specs.Flux.{flow}
+use Rattle.amr_flux.specs.Tables.{value, x_marked}
+use Rattle.amr_flux.proofs.Steps.{not_false, not_true, one_left, one_made, others_kept}
+use Rattle.amr_flux.proofs.x_faces.high_at.Goals as goal
+use Rattle.amr_flux.proofs.x_faces.high_at.Goals.{then-not-is_end_marked, else-not-is_end_marked}
+
+pub loop-j-preserved : goal.loop-j-preserved
+loop-j-preserved c =
+    let j = c.loop-j.j in
+    let w = c.args.shape.w in
+    let test : ℕ → Bool = λ n. x_marked w c.args.marks.now n in
+    let f : ℕ → ℤ = λ n. flow c.args.share.number c.args.share.parts (value w c.args.values.now w (n + 1)) (value w c.args.values.now (w + 1) (n + 1)) in
+    let P : List ℤ → Type 0 = λ es. (n : ℕ) → n < j + 1 → x_marked w c.args.marks.now n ≡ false → slice_index_or es n (pos 0) ≡ f n in
+    let Q : List ℤ → Type 0 = λ es. (n : ℕ) → x_marked w c.args.marks.now n ≡ true → slice_index_or es n (pos 0) ≡ slice_index_or c.args.fluxes.now n (pos 0) in
+    elim c.if-not-is_end_marked.branch [
+      | then-not-is_end_marked b ↦
+          let fits : SFits w32 b.x_face_flux.result = search rules in
+          let is : b.x_face_flux.result ≡ f j = b.x_face_flux.ensures.value in
+          let free : test j ≡ false = search rules in
+          record {
+            made = subst P (sym b.fluxes-is) (one_made test false c.loop-j.fluxes j f _ (search rules) (rw to_z-of_z is) c.loop-j.invariant.made);
+            others = subst Q (sym b.fluxes-is) (others_kept test false c.loop-j.fluxes j f c.args.fluxes.now _ true (not_true free) c.loop-j.invariant.others);
+          }
+      | else-not-is_end_marked b ↦
+          let marked : test j ≡ true = search rules in
+          record {
+            made = subst P (sym b.fluxes-is) (one_left test false c.loop-j.fluxes j f (not_false marked) c.loop-j.invariant.made);
+            others = subst Q (sym b.fluxes-is) c.loop-j.invariant.others;
+          }
+    ]

@@ -1,0 +1,36 @@
+use Rattle.std.proofs.Common.{◌≡◌, ℕ, ◌+◌, ◌<◌, false, true, pos, sym, subst, rules, ℤ, List, Bool}
+use mir.Val.{SFits}
+use mir.Syntax.{w32}
+use Rattle.std.proofs.lemmas.Int.{to_z-of_z}
+use Rattle.std.specs.Prelude.{slice_index_or}
+use Rattle.amr_def.specs.Flux.{flow}
+use Rattle.amr_flux.specs.Tables.{value, y_marked}
+use Rattle.amr_flux.proofs.Steps.{not_false, not_true, one_left, one_made, others_kept}
+use Rattle.amr_flux.proofs.y_faces.top_at.Goals as goal
+use Rattle.amr_flux.proofs.y_faces.top_at.Goals.{then-not-is_top_marked, else-not-is_top_marked}
+
+pub loop-i-preserved : goal.loop-i-preserved
+loop-i-preserved c =
+    let i = c.loop-i.i in
+    let w = c.args.shape.w in
+    let h = c.args.shape.h in
+    let test : ℕ → Bool = λ n. y_marked w h c.args.marks.now n in
+    let f : ℕ → ℤ = λ n. flow c.args.share.number c.args.share.parts (value w c.args.values.now (n + 1) h) (value w c.args.values.now (n + 1) (h + 1)) in
+    let P : List ℤ → Type 0 = λ es. (n : ℕ) → n < i + 1 → y_marked w h c.args.marks.now n ≡ false → slice_index_or es n (pos 0) ≡ f n in
+    let Q : List ℤ → Type 0 = λ es. (n : ℕ) → y_marked w h c.args.marks.now n ≡ true → slice_index_or es n (pos 0) ≡ slice_index_or c.args.fluxes.now n (pos 0) in
+    elim c.if-not-is_top_marked.branch [
+      | then-not-is_top_marked b ↦
+          let fits : SFits w32 b.top_flux.result = search rules in
+          let is : b.top_flux.result ≡ f i = b.top_flux.ensures.value in
+          let free : test i ≡ false = search rules in
+          record {
+            made = subst P (sym b.fluxes-is) (one_made test false c.loop-i.fluxes i f _ (search rules) (rw to_z-of_z is) c.loop-i.invariant.made);
+            others = subst Q (sym b.fluxes-is) (others_kept test false c.loop-i.fluxes i f c.args.fluxes.now _ true (not_true free) c.loop-i.invariant.others);
+          }
+      | else-not-is_top_marked b ↦
+          let marked : test i ≡ true = search rules in
+          record {
+            made = subst P (sym b.fluxes-is) (one_left test false c.loop-i.fluxes i f (not_false marked) c.loop-i.invariant.made);
+            others = subst Q (sym b.fluxes-is) c.loop-i.invariant.others;
+          }
+    ]
