@@ -1,6 +1,6 @@
 -- Patches to whose masses entries are added.
-use Rattle.std.proofs.Common.{◌≡◌, ◌∙◌, ℕ, ◌+◌, ◌<◌, Bool, true, false, ◌||◌, cond, ℤ, pos, ◌+ℤ◌, List, [], ◌∷◌, length, IsSome, refl, sym, ap, subst}
-use Rattle.std.specs.Prelude.{is_some, slice_index_or, slice_set}
+use Rattle.std.proofs.Common.{◌≡◌, ◌∙◌, ℕ, ◌+◌, ◌<◌, Bool, true, false, cond, ℤ, pos, ◌+ℤ◌, List, length, IsSome, refl, sym, ap, subst}
+use Rattle.std.specs.Prelude.{slice_index_or, slice_set}
 use Rattle.std.specs.Option.{unwrap_or}
 use Rattle.std.specs.declared.option.Option.{Option}
 use Rattle.std.proofs.lemmas.Bool.{both_ways}
@@ -13,7 +13,7 @@ use Rattle.amr_patch.specs.declared.lookup.Order.{Order}
 use Rattle.amr_patch.specs.declared.patches.Patch.{Patch}
 use Rattle.amr_patch.specs.Orders.{IsHolder, IsOrderOf}
 use Rattle.amr_patch.specs.Pairwise.{Pairwise}
-use Rattle.amr_patch.specs.Patches.{ArePatchesApart, KeepsFrameAndFluxes, SameFluxes, SameMarks, SameOtherValues, box, in_patches, mass_in, masses_in}
+use Rattle.amr_patch.specs.Patches.{ArePatchesApart, KeepsFrameAndFluxes, SameFluxes, SameMarks, SameOtherValues, box, mass_in, masses_in}
 use Rattle.amr_patch.proofs.LevelLaws.{frames_set, ghosts_stay, masses_set_other, masses_set_same}
 use Rattle.amr_patch.proofs.Lookups.{masses_in-at, same_default}
 use Rattle.amr_patch.proofs.Rows.{zero-cut}
@@ -77,6 +77,3 @@ one_further cs es o old now new n q c0 e rises count h lt is_q is_e some wrote k
 -- the mass of a later cell is as it was
 pub not_yet : (cs : List Cell) (es : List ℤ) (o : Order) (old now : List Patch) (n : ℕ) (c0 : Cell) → AreRising cs → IsPartly cs es o old now n → n < length cs → masses_in now (slice_index_or cs n c0) ≡ masses_in old (slice_index_or cs n c0)
 not_yet cs es o old now n c0 rises h lt = h.masses.left (slice_index_or cs n c0) (λ k c below there s. apart_places cs k n c c0 rises below lt (sym s))
-
--- ---- cells of patches
-

@@ -12,21 +12,17 @@ ghost use Rattle.amr_patch.specs.Patches.{ArePatchesApart, KeepsFrameAndFluxes, 
 ghost use Rattle.amr_register.specs.Entries.{AreRising, entry_at, with_entries};
 
 use amr_box::Cell;
-use amr_patch::{Level, Order, Patch, find};
+use amr_patch::{Level, Order, Patch, find_near};
 
-/// The number of the patch that has a cell. It is looked for only where patch `near` hasn't the cell.
-fn holder(patches: &[Patch], order: Order, near: usize, c: Cell) -> usize
+/// The number of the patch that has a cell. It is looked for only where neither patch `near` nor the next has the cell; `near`
+/// becomes that number.
+fn holder(patches: &[Patch], order: Order, near: &mut usize, c: Cell) -> usize
     requires order { IsOrderOf order patches.now }
     requires apart { ArePatchesApart patches.now }
     requires there { IsTrue (in_patches patches.now c) }
     ensures { IsHolder patches.now c result }
 {
-    if near < patches.len() {
-        if patches[near].bx().holds(c) {
-            return near;
-        }
-    }
-    match find(patches, order, c) {
+    match find_near(patches, order, near, c) {
         None => unreachable!(),
         Some(found) => found,
     }
@@ -73,8 +69,8 @@ fn add_all(cells: &[Cell], entries: &[i64], patches: &mut [Patch], order: Order)
 {
     let mut near = 0;
     for k in 0..cells.len() {
-        near = holder(patches, order, near, cells[k]);
-        add_entry(patches, near, cells[k], entries[k]);
+        let found = holder(patches, order, &mut near, cells[k]);
+        add_entry(patches, found, cells[k], entries[k]);
     }
 }
 

@@ -13,8 +13,8 @@ use Rattle.amr_register.proofs.reflux.add_all.Goals as goal
 pub loop-k-init : goal.loop-k-init
 loop-k-init c = at_start _ _ _ _ c.requires.order c.requires.apart
 
-pub holder-near-requires-clause-there : goal.holder-near-requires-clause-there
-holder-near-requires-clause-there c =
+pub holder-found-requires-clause-there : goal.holder-found-requires-clause-there
+holder-found-requires-clause-there c =
     let same = not_yet c.args.cells.now c.args.entries.now c.args.order c.args.patches.now c.loop-k.patches c.loop-k.k (cell (pos 0) (pos 0)) c.requires.rising c.loop-k.invariant c.loop-k-test.true in
     sym (some_mass c.loop-k.patches _) ∙ ap is_some same ∙ c.requires.there c.loop-k.k (cell (pos 0) (pos 0)) c.loop-k-test.true
 
