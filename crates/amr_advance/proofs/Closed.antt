@@ -4,7 +4,7 @@ use Rattle.std.specs.Prelude.{slice_index}
 use Rattle.std.specs.declared.option.Option.{Option}
 use Rattle.std.specs.List.{All, AllZip}
 use Rattle.amr_box.specs.declared.Cell.{Cell}
-use Rattle.amr_box.specs.Cells.{Extent, holds}
+use Rattle.amr_box.specs.Cells.{Extent, holds, width}
 use Rattle.amr_def.specs.declared.problem.Problem.{Problem}
 use Rattle.amr_def.specs.State.{Masses}
 use Rattle.amr_def.specs.Flux.{Fluxes, flux_at, net}
@@ -12,6 +12,7 @@ use Rattle.amr_patch.specs.declared.levels.Level.{Level as Held}
 use Rattle.amr_patch.specs.declared.patches.Patch.{Patch}
 use Rattle.amr_patch.specs.Patches.{box, mass_in, masses_in}
 use Rattle.amr_flux.specs.Faces.{flux_beside}
+use Rattle.amr_flux.specs.Rooms.{widest}
 use Rattle.amr_flux.proofs.Shown.{net_alike}
 use Rattle.amr_flows.specs.Laws.{plain_size}
 use Rattle.amr_flows.specs.Words.{level_total}
@@ -20,6 +21,7 @@ use Rattle.amr_board.specs.Ended.{EndedOf, total_of}
 use Rattle.amr_board.specs.Piece.{AreNumbered, plan_of}
 use Rattle.amr_board.proofs.Sums.{got, in_range_at}
 use Rattle.amr_layout.specs.declared.Layout.{Layout}
+use Rattle.amr_layout.specs.declared.TaskLayout.{TaskLayout}
 use Rattle.amr_layout.specs.Surroundings.{around}
 use Rattle.amr_layout.proofs.Planned.{nth}
 use Rattle.amr_work.specs.declared.work.Work.{Work}
@@ -28,10 +30,10 @@ use Rattle.amr_work.specs.Ready.{HasBorderEnded, HasBorderPlanned, MayBegin}
 use Rattle.amr_work.specs.Works.{adds_of_work, mass_after, puts_of_work}
 use Rattle.amr_work.proofs.Sameness.{planned_same, ready_same}
 use Rattle.amr_work.proofs.Standing.{after_raw}
-use Rattle.amr_advance.specs.Collected.{AreCollected, HasMassesAfter, MayCollect}
+use Rattle.amr_advance.specs.Collected.{AreCollected, AreReturned, HasMassesAfter, MayCollect, ServesAgain}
 use Rattle.amr_advance.specs.Ended.{HasPiece, HasPieces, HasWords}
 use Rattle.amr_advance.specs.Layouts.{IsLayoutOf}
-use Rattle.amr_advance.specs.Pieces.{AreRawPieces, AreWorkspaces, IsRawPiece}
+use Rattle.amr_advance.specs.Pieces.{AreRawPieces, AreWorkspaces, IsRawPiece, Serves}
 use Rattle.amr_advance.specs.Shown.{AreShown, IsStepped, StepFits}
 use Rattle.amr_advance.proofs.Begun.{plain_at}
 use Rattle.amr_advance.proofs.Filled.{zip_from}
@@ -125,6 +127,16 @@ module _ (p : Problem) (l : ℕ) (old : Masses) (qs : List Patch) (cells : List 
           h.masses c (ap (λ (b : Extent). holds b c) has.stands.of_box ∙ in_w) ∙ has.stands.masses c in_w ∙ after_is c held;
     }
 
+    -- and the workspace serves its task again
+    pub serves_again : (b : TaskLayout) (x : Workspace) → ServesAgain has.piece.workspace x → Serves (width (box q)) (get_or y.tasks.items t b) x
+    serves_again b x h =
+        let serves = served.each t r b w0.workspace lt in
+        record {
+          of_layout = h.of_layout ∙ has.stands.layout ∙ ap (λ (z : Workspace). z.layout) one.of_workspace ∙ serves.of_layout;
+          sizes = h.sizes ∙ has.stands.sizes ∙ ap (λ (z : Workspace). length z.sizes.items) one.of_workspace ∙ serves.sizes;
+          room = h.room ∙ has.stands.room ∙ ap (λ (z : Workspace). widest z.room) one.of_workspace ∙ serves.room;
+        }
+
   pub may_collect : (t : ℕ) → t < length qs → MayCollect p o t
   may_collect t lt = collects t (nth qs t lt) (nth ws t (omega (arith, lt, raw.count))) lt
 
@@ -132,6 +144,14 @@ module _ (p : Problem) (l : ℕ) (old : Masses) (qs : List Patch) (cells : List 
   all_stepped rs h count = zip_from (IsStepped e) qs rs (sym count) (λ t d lt.
       let w0 = nth ws t (omega (arith, lt, raw.count)) in
       steps t d w0 lt (get_or rs t d) (h t (has t d w0 lt).piece d lt (has t d w0 lt).given))
+
+  pub all_returned : (rs : List Workspace) → AreReturned o (length qs) rs → length rs ≡ length qs → AreWorkspaces qs y.tasks.items rs
+  all_returned rs h count = record {
+    count = count;
+    each = λ k r b x lt.
+        let w0 = nth ws k (omega (arith, lt, raw.count)) in
+        serves_again k r w0 lt b (get_or rs k x) (h k (has k r w0 lt).piece x lt (has k r w0 lt).given);
+  }
 
   pub level_totals : (o' : EndedOf Work) (word : ℕ) → total_of o' word ≡ total_of o word → word < y.words → total_of o' word ≡ level_total (around p l qs cells next) (plain_size p l (masses_in qs) old) word
   level_totals o' word same below = same ∙ words.totals word below ∙ totals_are p l old qs cells next shallow shown fits y layout ss served ws raw word

@@ -11,3 +11,4 @@ mod Advancing
 mod EmptyRing
 mod Stepped
 pub mod SameLayouts
+mod KeptLaws

@@ -1,5 +1,5 @@
 -- The patches of a closed board.
-use Rattle.std.specs.Prelude.{◌≡◌, ◌≢◌, ℕ, ◌<◌, pos, List, slice_index_or, IsTrue}
+use Rattle.std.specs.Prelude.{◌≡◌, ◌≢◌, ℕ, ◌<◌, pos, List, length, slice_index_or, IsTrue}
 use Rattle.std.specs.declared.option.Option.TheVariants.{Some}
 use mathlib.Core.Option as lookup
 use lib.ListN.{get_elem?}
@@ -8,9 +8,11 @@ use Rattle.amr_box.specs.Cells.{holds}
 use Rattle.amr_def.specs.declared.problem.Problem.{Problem}
 use Rattle.amr_patch.specs.declared.patches.Patch.{Patch}
 use Rattle.amr_patch.specs.Patches.{box, mass_in}
+use Rattle.amr_flux.specs.Rooms.{widest}
 use Rattle.amr_board.specs.Ended.{EndedOf}
 use Rattle.amr_work.specs.declared.work.Stage.TheVariants.{Finished}
 use Rattle.amr_work.specs.declared.work.Work.{Work}
+use Rattle.amr_work.specs.declared.work.Workspace.{Workspace}
 use Rattle.amr_work.specs.Ready.{HasBorderEnded, IsReadyPiece}
 use Rattle.amr_work.specs.Works.{mass_after}
 
@@ -38,3 +40,13 @@ pub record MayCollect (p : Problem) (o : EndedOf Work) (t : ℕ) : Type 0 where
 -- each patch has the masses that the piece of its task stood for
 abbrev pub AreCollected : EndedOf Work → ℕ → List Patch → Type 0
 AreCollected o count ps = (t : ℕ) (w : Work) (d : Patch) → t < count → IsPieceOf o t w → HasMassesAfter w (slice_index_or ps t d)
+
+-- a workspace with the layout of another, and as much room
+pub record ServesAgain (v w : Workspace) : Type 0 where
+  pub of_layout : w.layout ≡ v.layout
+  pub sizes : length w.sizes.items ≡ length v.sizes.items
+  pub room : widest w.room ≡ widest v.room
+
+-- each serves as that of the piece of its task did
+abbrev pub AreReturned : EndedOf Work → ℕ → List Workspace → Type 0
+AreReturned o count ss = (t : ℕ) (w : Work) (d : Workspace) → t < count → IsPieceOf o t w → ServesAgain w.workspace (slice_index_or ss t d)

@@ -10,17 +10,17 @@ ghost use Rattle.amr_board.specs.Ended.{total_of};
 ghost use Rattle.amr_layout.specs.Surroundings.{around};
 ghost use Rattle.amr_flows.specs.Laws.{plain_size};
 ghost use Rattle.amr_flows.specs.Words.{level_total};
-ghost use Rattle.amr_advance.specs.Layouts.{IsLayoutOf};
+ghost use Rattle.amr_advance.specs.Kept.{IsLaidOut};
 ghost use Rattle.amr_advance.specs.Shown.{AreShown, IsStepped, StepFits};
 
 use crate::collecting::collect;
-use crate::pieces::{to_patches, to_pieces, workspaces_of};
+use crate::kept::KeptLayout;
+use crate::pieces::{to_patches, to_pieces};
 use crate::running::{Workers, run_pieces};
-use amr_board::{Ended, Shape};
+use amr_board::Ended;
 use amr_box::Cell;
 use amr_causes::NoMemory;
 use amr_def::Problem;
-use amr_layout::Layout;
 use amr_patch::{Level, Patch};
 use amr_work::Work;
 use amr_workers::Gate;
@@ -40,19 +40,20 @@ pub(crate) struct Given<'a> {
 }
 
 /// Makes a step of the patches of a level, whose frames are filled, by workers on a board with this layout: each cell gets what
-/// flows in through its faces. The closed board has the totals of the ledger's words and of the register's.
+/// flows in through its faces. The closed board has the totals of the ledger's words and of the register's, and the layout serves
+/// the next step.
 ///
 /// All memory is taken before the first task is drawn. If allocation fails the patches are as before.
 pub(crate) fn run_level<R: Threads + Sync, G: Gate + Sync>(
     workers: &Workers<'_, R, G>,
     given: Given<'_>,
     patches: &mut Vec<Patch>,
-    layout: Layout,
+    layout: &mut KeptLayout,
 ) -> Result<Ended<Work>, NoMemory>
     requires level { given.level ≤ 4 }
     requires shown { AreShown given.problem.now given.level (old_masses (option_copied given.old)) patches.old.items }
     requires fits { StepFits given.problem.now given.level (masses_in patches.old.items) (old_masses (option_copied given.old)) }
-    requires layout { IsLayoutOf (around given.problem.now given.level patches.old.items given.cells.now (option_copied given.finer)) layout }
+    requires layout { IsLaidOut (around given.problem.now given.level patches.old.items given.cells.now (option_copied given.finer)) layout.old }
     requires few { length patches.old.items ≤ 2 ^ 26 }
     requires some_workers { 1 ≤ workers.now.count }
     requires few_workers { workers.now.count ≤ 64 }
@@ -62,20 +63,18 @@ pub(crate) fn run_level<R: Threads + Sync, G: Gate + Sync>(
     ensures totals { IfOk result (λ o. (word : ℕ) → word < 2 + 2 * length given.entry.cells.now → total_of o word ≡ level_total (around given.entry.problem.now given.entry.level patches.old.items given.entry.cells.now (option_copied given.entry.finer)) (plain_size given.entry.problem.now given.entry.level (masses_in patches.old.items) (old_masses (option_copied given.entry.old))) word) }
     ensures few { IfOk result (λ o. o.registers < 2 ^ 32) }
     ensures small { IfOk result (λ o. (word : ℕ) → word < o.registers → total_of o word < 2 ^ 63) }
+    ensures layout { OnOk result (IsLaidOut (around given.entry.problem.now given.entry.level patches.old.items given.entry.cells.now (option_copied given.entry.finer)) layout.new) }
     ensures same { OnErr result (patches.new.items ≡ patches.old.items) }
 {
     let alloc = given.alloc;
     let count = patches.len() as u32;
-    let shape = Shape {
-        places: layout.places,
-        words: layout.words,
-    };
-    let workspaces = workspaces_of(alloc, patches, layout.tasks)?;
     let pieces = Vec::with_capacity(alloc, patches.len())?;
+    let workspaces = &mut layout.workspaces;
     let pieces = to_pieces(given.problem, given.level, patches, workspaces, pieces);
-    match run_pieces(workers, alloc, given.problem, shape, pieces) {
+    match run_pieces(workers, alloc, given.problem, layout.shape, pieces) {
         Ok(mut ended) => {
-            collect(given.problem, &mut ended, count, patches);
+            let workspaces = &mut layout.workspaces;
+            collect(given.problem, &mut ended, count, patches, workspaces);
             Ok(ended)
         }
         Err(pieces) => {

@@ -4,6 +4,7 @@
 #![tactic(auto)]
 
 mod collecting;
+mod kept;
 mod level;
 mod pieces;
 mod registers;
@@ -11,8 +12,10 @@ mod regs;
 mod running;
 mod steps;
 
+pub use kept::KeptLayout;
 pub use regs::{Crew, Regs};
-pub use steps::advance;
+pub use running::Workers;
+pub use steps::{LevelStep, advance, advance_kept};
 
 #[cfg(test)]
 mod tests;

@@ -43,21 +43,23 @@ pub(crate) fn workspaces_of(
     Ok(made)
 }
 
-/// Makes pieces of patches, in a list that has room for them. Piece `i` is that of task `i`.
+/// Makes pieces of patches and workspaces, in a list that has room for them. Piece `i` is that of task `i`.
 pub(crate) fn to_pieces(
     p: &Problem,
     level: u32,
     patches: &mut Vec<Patch>,
-    mut workspaces: Vec<Workspace>,
+    workspaces: &mut Vec<Workspace>,
     mut pieces: Vec<Work>,
 ) -> Vec<Work>
-    requires count { length workspaces.items ≡ length patches.old.items }
+    requires count { length workspaces.old.items ≡ length patches.old.items }
     requires few { length patches.old.items < 2 ^ 32 }
     requires empty { pieces.items ≡ [] }
     requires room { length patches.old.items ≤ vec_capacity pieces }
-    ensures pieces { AreRawPieces p.now level patches.old.items workspaces.items result.items }
+    ensures pieces { AreRawPieces p.now level patches.old.items workspaces.old.items result.items }
     ensures empty { patches.new.items ≡ [] }
     ensures capacity { vec_capacity patches.new ≡ vec_capacity patches.old }
+    ensures no_workspaces { workspaces.new.items ≡ [] }
+    ensures workspace_capacity { vec_capacity workspaces.new ≡ vec_capacity workspaces.old }
 {
     'patches: while let Some(patch) = patches.pop() {
         let Some(workspace) = workspaces.pop() else {

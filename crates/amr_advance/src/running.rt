@@ -17,7 +17,7 @@ use std::thread::Threads;
 
 /// Who works on a board: so many workers, each of whom calls a gate around each task.
 #[derive(Clone, Copy)]
-pub(crate) struct Workers<'a, R, G> {
+pub struct Workers<'a, R, G> {
     pub runtime: &'a R,
     pub gate: &'a G,
     pub count: u32,

@@ -1,6 +1,6 @@
 //! A step of a level.
 
-ghost use Rattle.std.specs.Prelude.{◌≡◌, ◌+◌, ◌*◌, ◌<◌, ◌≤◌, ◌^◌, ℕ, pos, List, IfOk, OnOk, OnErr, length, map};
+ghost use Rattle.std.specs.Prelude.{◌≡◌, ◌+◌, ◌*◌, ◌<◌, ◌≤◌, ◌^◌, ℕ, pos, List, IfOk, IfSome, OnOk, OnErr, length, map};
 ghost use Rattle.std.specs.List.{All, AllZip};
 ghost use Rattle.std.specs.Option.{option_copied};
 ghost use Rattle.amr_def.specs.Domain.{domain};
@@ -17,9 +17,10 @@ ghost use Rattle.amr_layout.specs.Surroundings.{around, finer_masses};
 ghost use Rattle.amr_board.specs.Ended.{total_of};
 ghost use Rattle.amr_advance.specs.Registers.{BothChange, HasCoarser, HasEdges, HasFiner, cells_of, gained, taken};
 ghost use Rattle.amr_advance.specs.Totals.{HasTotals, SomeHasAbsorbed, SomeMayAbsorb};
-ghost use Rattle.amr_advance.specs.Layouts.{IsLayoutOf};
+ghost use Rattle.amr_advance.specs.Kept.{IsKept, IsLaidOut};
 ghost use Rattle.amr_advance.specs.Shown.{AreShown, StepFits};
 
+use crate::kept::{KeptLayout, layout_for};
 use crate::level::{Given, run_level};
 use crate::registers::{absorb_totals, take_coarse_parts};
 use crate::regs::{Crew, Regs};
@@ -29,7 +30,6 @@ use amr_box::Cell;
 use amr_causes::NoMemory;
 use amr_def::Problem;
 use amr_ghost::fill_in_order;
-use amr_layout::{Layout, plan};
 use amr_patch::{Level, Order, Patch};
 use amr_register::Register;
 use amr_work::Work;
@@ -40,27 +40,27 @@ use std::thread::Threads;
 /// How many patches a level may have. More would take more memory than there is, and are refused as that.
 const MOST: usize = 1 << 26;
 
-/// Fills the frames of a level's patches, and lays out their step on a board.
-fn lay_out(given: Given<'_>, order: Order, patches: &mut [Patch]) -> Result<Layout, NoMemory>
+/// Fills the frames of a level's patches, and lays out their step on a board, as it is kept or anew.
+fn lay_out(
+    given: Given<'_>,
+    order: Order,
+    patches: &mut [Patch],
+    kept: &mut Option<KeptLayout>,
+) -> Result<KeptLayout, NoMemory>
     requires level { given.level ≤ 4 }
     requires order { IsOrderOf order patches.old }
     requires apart { ArePatchesApart patches.old }
     requires inside { AreInDomain (domain given.problem.now given.level) patches.old }
     requires cells { (qs : List Patch) → masses_in qs ≡ masses_in patches.old → HasRegisterCells (around given.problem.now given.level qs given.cells.now (option_copied given.finer)) }
+    requires kept { IfSome kept.old (IsKept given.problem.now) }
     ensures masses { masses_in patches.new ≡ masses_in patches.old }
     ensures boxes { map box patches.new ≡ map box patches.old }
+    ensures kept { kept.new ≡ None }
     ensures shown { AreShown given.entry.problem.now given.entry.level (old_masses (option_copied given.entry.old)) patches.new }
-    ensures layout { IfOk result (IsLayoutOf (around given.entry.problem.now given.entry.level patches.new given.entry.cells.now (option_copied given.entry.finer))) }
+    ensures layout { IfOk result (IsLaidOut (around given.entry.problem.now given.entry.level patches.new given.entry.cells.now (option_copied given.entry.finer))) }
 {
     fill_in_order(given.problem, given.level, patches, order, given.old);
-    plan(
-        given.alloc,
-        given.problem,
-        given.level,
-        patches,
-        given.cells,
-        given.finer,
-    )
+    layout_for(given, patches, kept)
 }
 
 /// The cells of a flux register, none where there is no register.
@@ -105,6 +105,7 @@ fn step_patches<R: Threads + Sync, G: Gate + Sync>(
     order: Order,
     patches: &mut Vec<Patch>,
     register: &mut Option<Register>,
+    kept: &mut Option<KeptLayout>,
 ) -> Result<Ended<Work>, NoMemory>
     requires level { given.level ≤ 4 }
     requires order { IsOrderOf order patches.old.items }
@@ -113,6 +114,7 @@ fn step_patches<R: Threads + Sync, G: Gate + Sync>(
     requires fits { StepFits given.problem.now given.level (masses_in patches.old.items) (old_masses (option_copied given.old)) }
     requires cells { (qs : List Patch) → masses_in qs ≡ masses_in patches.old.items → HasRegisterCells (around given.problem.now given.level qs given.cells.now (option_copied given.finer)) }
     requires register { HasEdges given.problem.now given.level (masses_in patches.old.items) (option_copied given.finer) register.old }
+    requires kept { IfSome kept.old (IsKept given.problem.now) }
     requires some_workers { 1 ≤ workers.now.count }
     requires few_workers { workers.now.count ≤ 64 }
     requires gate { (worker task : ℕ) → worker < workers.now.count → task < length patches.old.items → G.admits workers.now.gate.now worker task }
@@ -126,15 +128,19 @@ fn step_patches<R: Threads + Sync, G: Gate + Sync>(
     ensures register { OnOk result (BothChange (taken given.entry.problem.now given.entry.level (masses_in patches.old.items) (old_masses (option_copied given.entry.old)) (finer_masses (option_copied given.entry.finer))) register.old register.new) }
     ensures same_masses { OnErr result (masses_in patches.new.items ≡ masses_in patches.old.items) }
     ensures same_register { OnErr result (BothChange (λ c. pos 0) register.old register.new) }
+    ensures kept { IfSome kept.new (IsKept given.entry.problem.now) }
 {
-    let layout = lay_out(given, order, patches)?;
+    let mut layout = lay_out(given, order, patches, kept)?;
     if patches.len() > MOST {
         return Err(NoMemory);
     }
     let saved = copy_of(given.alloc, register)?;
     take_parts(given, patches, register);
-    match run_level(workers, given, patches, layout) {
-        Ok(ended) => Ok(ended),
+    match run_level(workers, given, patches, &mut layout) {
+        Ok(ended) => {
+            *kept = Some(layout);
+            Ok(ended)
+        }
         Err(fault) => {
             *register = saved;
             Err(fault)
@@ -161,6 +167,69 @@ fn add_totals(ended: &Ended<Work>, regs: &mut Regs)
         Some(register) => absorb_totals(ended, register),
         None => (),
     }
+}
+
+/// Which step of a level is made: that of level `level` of a problem, beside the next coarser level with the masses before its own
+/// step, and the next finer one.
+#[derive(Clone, Copy)]
+pub struct LevelStep<'a> {
+    pub problem: &'a Problem,
+    /// From 0 to 4.
+    pub level: u32,
+    pub old: Option<&'a Level>,
+    pub finer: Option<&'a Level>,
+}
+
+/// The same as `advance`, for a level that makes many steps: what depends on boxes alone, the layout of the step on a board and the
+/// workspaces of its tasks, is taken from `kept` where it was made for the same boxes, else made anew. It is kept afterwards, but
+/// not after `NoMemory`.
+///
+/// There are from 1 to 64 workers. `kept` is of the same problem.
+pub fn advance_kept<R: Threads + Sync, G: Gate + Sync>(
+    workers: &Workers<'_, R, G>,
+    of: LevelStep<'_>,
+    level: &mut Level,
+    regs: &mut Regs,
+    kept: &mut Option<KeptLayout>,
+) -> Result<(), NoMemory>
+    requires number { of.level ≤ 4 }
+    requires of_domain { IsLevel of.problem.now of.level (level_of level.old) }
+    requires fits { StepFits of.problem.now of.level (level_of level.old).masses (old_masses (option_copied of.old)) }
+    requires coarser { HasCoarser of.problem.now of.level (level_of level.old) (option_copied of.old) regs.old.coarser }
+    requires finer { HasFiner of.problem.now of.level (level_of level.old) (option_copied of.finer) regs.old.finer }
+    requires some_workers { 1 ≤ workers.now.count }
+    requires few_workers { workers.now.count ≤ 64 }
+    requires gate { (worker task : ℕ) → worker < workers.now.count → task < length (patches_of level.old) → G.admits workers.now.gate.now worker task }
+    requires inflow { regs.old.inflow + inflow_beside of.problem.now of.level (is_uncovered (level_of level.old).masses (finer_masses (option_copied of.finer))) (flux_at of.problem.now of.level (level_of level.old).masses (old_masses (option_copied of.old))) < 2 ^ 63 }
+    requires outflow { regs.old.outflow + outflow_beside of.problem.now of.level (is_uncovered (level_of level.old).masses (finer_masses (option_copied of.finer))) (flux_at of.problem.now of.level (level_of level.old).masses (old_masses (option_copied of.old))) < 2 ^ 63 }
+    requires kept { IfSome kept.old (IsKept of.problem.now) }
+    ensures masses { OnOk result ((level_of level.new).masses ≡ updated (level_of level.old).masses (flux_at of.entry.problem.now of.entry.level (level_of level.old).masses (old_masses (option_copied of.entry.old)))) }
+    ensures boxes { (level_of level.new).boxes ≡ (level_of level.old).boxes }
+    ensures patches { map box (patches_of level.new) ≡ map box (patches_of level.old) }
+    ensures coarser { OnOk result (BothChange (gained of.entry.problem.now of.entry.level (level_of level.old).masses (flux_at of.entry.problem.now of.entry.level (level_of level.old).masses (old_masses (option_copied of.entry.old)))) regs.old.coarser regs.new.coarser) }
+    ensures finer { OnOk result (BothChange (taken of.entry.problem.now of.entry.level (level_of level.old).masses (old_masses (option_copied of.entry.old)) (finer_masses (option_copied of.entry.finer))) regs.old.finer regs.new.finer) }
+    ensures inflow { OnOk result (regs.new.inflow ≡ regs.old.inflow + inflow_beside of.entry.problem.now of.entry.level (is_uncovered (level_of level.old).masses (finer_masses (option_copied of.entry.finer))) (flux_at of.entry.problem.now of.entry.level (level_of level.old).masses (old_masses (option_copied of.entry.old)))) }
+    ensures outflow { OnOk result (regs.new.outflow ≡ regs.old.outflow + outflow_beside of.entry.problem.now of.entry.level (is_uncovered (level_of level.old).masses (finer_masses (option_copied of.entry.finer))) (flux_at of.entry.problem.now of.entry.level (level_of level.old).masses (old_masses (option_copied of.entry.old)))) }
+    ensures same_masses { OnErr result ((level_of level.new).masses ≡ (level_of level.old).masses) }
+    ensures same_coarser { OnErr result (regs.new.coarser ≡ regs.old.coarser) }
+    ensures same_finer { OnErr result (BothChange (λ c. pos 0) regs.old.finer regs.new.finer) }
+    ensures same_sums { OnErr result ((regs.new.inflow ≡ regs.old.inflow) × (regs.new.outflow ≡ regs.old.outflow)) }
+    ensures kept { IfSome kept.new (IsKept of.entry.problem.now) }
+{
+    let order = level.order();
+    let mut patches = level.take_patches();
+    let given = Given {
+        alloc: *patches.allocator(),
+        problem: of.problem,
+        level: of.level,
+        old: of.old,
+        finer: of.finer,
+        cells: cells_of(&regs.coarser),
+    };
+    let stepped = step_patches(workers, given, order, &mut patches, &mut regs.finer, kept);
+    level.put_patches_in_order(patches, order);
+    add_totals(&stepped?, regs);
+    Ok(())
 }
 
 /// Makes a step of level `l` by workers on a board (Berger and Colella 1989): each cell gets what flows in through its faces by the
@@ -208,23 +277,16 @@ pub fn advance<R: Threads + Sync, G: Gate + Sync>(
     ensures same_finer { OnErr result (BothChange (λ c. pos 0) regs.old.finer regs.new.finer) }
     ensures same_sums { OnErr result ((regs.new.inflow ≡ regs.old.inflow) × (regs.new.outflow ≡ regs.old.outflow)) }
 {
-    let order = level.order();
-    let mut patches = level.take_patches();
     let workers = Workers {
         runtime: rt,
         gate,
         count: crew.workers,
     };
-    let given = Given {
-        alloc: *patches.allocator(),
+    let of = LevelStep {
         problem: p,
         level: l,
         old,
         finer,
-        cells: cells_of(&regs.coarser),
     };
-    let stepped = step_patches(&workers, given, order, &mut patches, &mut regs.finer);
-    level.put_patches_in_order(patches, order);
-    add_totals(&stepped?, regs);
-    Ok(())
+    advance_kept(&workers, of, level, regs, &mut None)
 }

@@ -8,6 +8,5 @@ pub mod OutlineLaws
 pub mod ApartBoxes
 pub mod Remaking
 pub mod NewLists
-pub mod SameBoxes
 pub mod Bases
 pub mod MeshRegrids

@@ -16,6 +16,7 @@ ghost use Rattle.amr_regrid.specs.Outlines.{lists_in};
 ghost use Rattle.amr_regrid.specs.Remade.{IsChoppedIfMade, IsFilled, Stands, remade_levels};
 ghost use Rattle.amr_transfer.specs.Shares.{masses_before};
 
+use amr_alike::are_same;
 use amr_box::Bx;
 use amr_boxlist::BoxList;
 use amr_causes::NoMemory;
@@ -68,42 +69,6 @@ fn made(
     let mut level = Level::make(alloc, boxes, patch_boxes.list())?;
     split_into(coarse, old, &mut level);
     Ok(level)
-}
-
-/// Whether two boxes are one.
-fn is_same(a: &Bx, b: &Bx) -> bool
-    ensures { IsTrue result → a.now ≡ b.now }
-{
-    let (low, high) = (a.lo(), a.hi());
-    let (other_low, other_high) = (b.lo(), b.hi());
-    if low.x != other_low.x {
-        return false;
-    }
-    if low.y != other_low.y {
-        return false;
-    }
-    if high.x != other_high.x {
-        return false;
-    }
-    if high.y != other_high.y {
-        return false;
-    }
-    true
-}
-
-/// Whether two lists have the same boxes in the same order.
-fn are_same(a: &[Bx], b: &[Bx]) -> bool
-    ensures { IsTrue result → a.now ≡ b.now }
-{
-    if a.len() != b.len() {
-        return false;
-    }
-    for k in 0..a.len() {
-        if !is_same(&a[k], &b[k]) {
-            return false;
-        }
-    }
-    true
 }
 
 /// The first of the levels, where its boxes are these.

@@ -13,7 +13,7 @@ use Rattle.amr_advance.proofs.pieces.to_pieces.Goals as goal
 pub patches-preserved : goal.patches-preserved
 patches-preserved c =
     let qs = c.args.patches.now.items in
-    let ss = c.args.workspaces.items in
+    let ss = c.args.workspaces.now.items in
     let old = c.patches.patches.items in
     let rest = c.patches.workspaces.items in
     let made = c.patches.pieces.items in
@@ -39,6 +39,7 @@ patches-preserved c =
       count = omega (arith, inv.count, fewer, ap length c.push_reserved.ensures.items, length_push made (record { task = c.len.result; level = c.args.level; stage = Raw; patch = c.in-Some.patch; workspace = c.in-Some-pop.workspace; problem = c.of.result }));
       room = omega (arith, inv.room, c.push_reserved.ensures.capacity);
       capacity = c.in-Some.ensures.capacity ∙ inv.capacity;
+      workspace_capacity = c.in-Some-pop.ensures.capacity ∙ inv.workspace_capacity;
       done = subst (λ xs. (j : ℕ) (w : Work) → j < length xs → (q : Patch) (s : Workspace) → IsRawPiece c.args.p.now c.args.level (n - 1 - j) (get_or qs (n - 1 - j) q) (get_or ss (n - 1 - j) s) (get_or xs j w)) (sym c.push_reserved.ensures.items)
           (push_done (λ j w. (q : Patch) (s : Workspace) → IsRawPiece c.args.p.now c.args.level (n - 1 - j) (get_or qs (n - 1 - j) q) (get_or ss (n - 1 - j) s) w) made _ inv.done
           (λ q s. record { of_task = omega (arith, c.len.ensures, short, fewer, inv.count); of_level = refl; raw = refl; of_patch = sym (patch q); of_workspace = sym (workspace s); of_problem = c.of.ensures }));
@@ -53,8 +54,8 @@ returns-clause-pieces c =
     let all : length c.patches.pieces.items ≡ n = omega (arith, inv.count, none) in
     let turn : c.reverse.new.self ≡ reverse c.patches.pieces.items = c.reverse.ensures.after ∙ ap reverse c.as_mut_slice.ensures.value in
     let items = with_items_is c.patches.pieces c.reverse.new.self (omega (arith, c.reverse.ensures.len, c.as_mut_slice.ensures.len)) in
-    subst (AreRawPieces c.args.p.now c.args.level c.args.patches.now.items c.args.workspaces.items) (sym (items ∙ turn))
+    subst (AreRawPieces c.args.p.now c.args.level c.args.patches.now.items c.args.workspaces.now.items) (sym (items ∙ turn))
     (record {
       count = omega (arith, length-reverse c.patches.pieces.items, all);
-      each = λ k q s w lt. turned (λ k w. (q : Patch) (s : Workspace) → IsRawPiece c.args.p.now c.args.level k (get_or c.args.patches.now.items k q) (get_or c.args.workspaces.items k s) w) c.patches.pieces.items n all inv.done k w lt q s;
+      each = λ k q s w lt. turned (λ k w. (q : Patch) (s : Workspace) → IsRawPiece c.args.p.now c.args.level k (get_or c.args.patches.now.items k q) (get_or c.args.workspaces.now.items k s) w) c.patches.pieces.items n all inv.done k w lt q s;
     })

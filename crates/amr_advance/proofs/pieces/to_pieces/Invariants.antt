@@ -16,6 +16,7 @@ invariant-patches l = record {
   count : length l.patches.items + length l.pieces.items ≡ length l.initial.patches.items;
   room : length l.initial.patches.items ≤ vec_capacity l.pieces;
   capacity : vec_capacity l.patches ≡ vec_capacity l.initial.patches;
+  workspace_capacity : vec_capacity l.workspaces ≡ vec_capacity l.initial.workspaces;
   done : (j : ℕ) (w : Work) → j < length l.pieces.items → (q : Patch) (s : Workspace) → IsRawPiece l.p l.level (length l.initial.patches.items - 1 - j) (slice_index_or l.initial.patches.items (length l.initial.patches.items - 1 - j) q) (slice_index_or l.initial.workspaces.items (length l.initial.patches.items - 1 - j) s) (slice_index_or l.pieces.items j w);
 }
 

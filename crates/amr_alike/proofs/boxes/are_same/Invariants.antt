@@ -1,5 +1,5 @@
 use Rattle.std.proofs.Common.{◌≡◌, take}
-use Rattle.amr_regrid.proofs.masses.are_same.Given as goal
+use Rattle.amr_alike.proofs.boxes.are_same.Given as goal
 
 abbrev pub invariant-loop-k : goal.invariant-loop-k
 invariant-loop-k l = take l.k l.a ≡ take l.k l.b

@@ -1,7 +1,7 @@
 use Rattle.std.proofs.Common.{arith, ◌≡◌}
 use Rattle.std.proofs.lemmas.Int.{ints}
-use Rattle.amr_regrid.proofs.SameBoxes.{same_box}
-use Rattle.amr_regrid.proofs.masses.is_same.Goals as goal
+use Rattle.amr_alike.proofs.SameBoxes.{same_box}
+use Rattle.amr_alike.proofs.boxes.is_same.Goals as goal
 
 pub returns : goal.returns
 returns c = λ h.

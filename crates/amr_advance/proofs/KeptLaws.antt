@@ -1,0 +1,46 @@
+-- A layout that is kept serves each level with the same boxes beside levels with the same boxes.
+use Rattle.std.proofs.Common.{◌≡◌, ◌∙◌, ℕ, List, length, get_or, map, sym, ap, subst, arith}
+use Rattle.std.specs.Prelude.{is_some}
+use Rattle.std.proofs.Math.ListN.{get_or-map}
+use Rattle.std.proofs.lemmas.List.{length-map}
+use Rattle.amr_box.specs.declared.Cell.{Cell}
+use Rattle.amr_box.specs.Cells.{Extent, width}
+use Rattle.amr_def.specs.State.{in_boxes}
+use Rattle.amr_patch.specs.declared.patches.Patch.{Patch}
+use Rattle.amr_patch.specs.Patches.{box}
+use Rattle.amr_layout.specs.declared.TaskLayout.{TaskLayout}
+use Rattle.amr_layout.specs.Surroundings.{Around}
+use Rattle.amr_work.specs.declared.work.Workspace.{Workspace}
+use Rattle.amr_advance.specs.declared.kept.KeptLayout.{KeptLayout}
+use Rattle.amr_advance.specs.Kept.{IsKept, IsLaidOut}
+use Rattle.amr_advance.specs.Pieces.{AreWorkspaces, Serves}
+use Rattle.amr_advance.proofs.SameLayouts.{same_layout}
+
+same_length : (ps qs : List Patch) → map box ps ≡ map box qs → length ps ≡ length qs
+same_length ps qs e = sym (length-map ps box) ∙ ap (λ (bs : List Extent). length bs) e ∙ length-map qs box
+
+same_box_at : (ps qs : List Patch) (k : ℕ) (d : Patch) → map box ps ≡ map box qs → box (get_or ps k d) ≡ box (get_or qs k d)
+same_box_at ps qs k d e = sym (get_or-map box ps k d) ∙ ap (λ (bs : List Extent). get_or bs k (box d)) e ∙ get_or-map box qs k d
+
+-- workspaces serve patches by their boxes alone
+pub same_workspaces : (ps qs : List Patch) (ts : List TaskLayout) (ws : List Workspace) → map box ps ≡ map box qs → AreWorkspaces ps ts ws → AreWorkspaces qs ts ws
+same_workspaces ps qs ts ws e h = record {
+  count = h.count ∙ same_length ps qs e;
+  each = λ k q t w lt. subst (λ (b : Extent). Serves (width b) (get_or ts k t) (get_or ws k w)) (same_box_at ps qs k q e) (h.each k q t w (omega (arith, lt, same_length ps qs e)));
+}
+
+-- a layout made for the same ground serves here
+pub serves_here : (t : Around) (k : KeptLayout) → IsKept t.problem k → k.level ≡ t.level → map box t.patches ≡ k.boxes.items → k.cells.items ≡ t.cells → ((c : Cell) → is_some (t.finer c) ≡ in_boxes k.finer.items c) → IsLaidOut t k
+serves_here t k h level boxes cells finer =
+    let s = h.made_for in
+    let made = h.laid_out in
+    let same : map box s.patches ≡ map box t.patches = sym made.boxes ∙ sym boxes in
+    record {
+      level = level;
+      boxes = sym boxes;
+      cells = cells;
+      finer = finer;
+      layout = same_layout s t k.layout.value (record { problem = h.of_problem; level = sym made.level ∙ level; boxes = same; cells = sym made.cells ∙ cells; finer = λ c. made.finer c ∙ sym (finer c) }) made.layout;
+      shape = made.shape;
+      workspaces = same_workspaces s.patches t.patches k.layout.value.tasks.items k.workspaces.items same made.workspaces;
+    }

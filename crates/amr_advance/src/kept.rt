@@ -1,0 +1,158 @@
+//! What a level's step stands on that depends on boxes alone: worked out once, and kept until boxes change.
+
+ghost use Rattle.std.specs.Prelude.{◌≡◌, ◌≤◌, ◌^◌, true, List, length, map, is_some, IfOk, IfSome, IsTrue};
+ghost use Rattle.std.specs.List.{All};
+ghost use Rattle.std.specs.Option.{option_copied};
+ghost use Rattle.amr_box.specs.declared.Cell.{Cell};
+ghost use Rattle.amr_def.specs.Domain.{domain};
+ghost use Rattle.amr_def.specs.State.{in_boxes};
+ghost use Rattle.amr_patch.specs.Patches.{ArePatchesApart, box};
+ghost use Rattle.amr_flux.specs.Faces.{IsInDomain};
+ghost use Rattle.amr_layout.specs.Adds.{HasRegisterCells};
+ghost use Rattle.amr_layout.specs.Surroundings.{around, finer_masses};
+ghost use Rattle.amr_advance.specs.Kept.{IsKept, IsLaidOut};
+
+use crate::level::Given;
+use crate::pieces::workspaces_of;
+use amr_alike::{boxes_of, have_boxes};
+use amr_board::Shape;
+use amr_box::{Bx, Cell};
+use amr_causes::NoMemory;
+use amr_layout::{Layout, plan};
+use amr_patch::{Level, Patch};
+use amr_work::Workspace;
+use std::alloc::Global;
+use std::snapshot::Snapshot;
+
+/// The layout of a level's step on a board, with a workspace for each task, and what both were made for: the boxes of the level's
+/// patches, the register cells of the next coarser level, and the patch boxes of the next finer one. While these stay, each step
+/// of the level takes it as it is.
+#[derive(Drop)]
+pub struct KeptLayout {
+    level: u32,
+    boxes: Vec<Bx>,
+    cells: Vec<Cell>,
+    finer: Vec<Bx>,
+    pub(crate) shape: Shape,
+    pub(crate) workspaces: Vec<Workspace>,
+    pub(crate) layout: Snapshot<Layout>,
+}
+
+/// Whether two cells are one.
+fn is_same_cell(a: &Cell, b: &Cell) -> bool
+    ensures { IsTrue result → a.now ≡ b.now }
+{
+    if a.x != b.x {
+        return false;
+    }
+    if a.y != b.y {
+        return false;
+    }
+    true
+}
+
+/// Whether two lists have the same cells in the same order.
+fn are_same_cells(a: &[Cell], b: &[Cell]) -> bool
+    ensures { IsTrue result → a.now ≡ b.now }
+{
+    if a.len() != b.len() {
+        return false;
+    }
+    for k in 0..a.len() {
+        if !is_same_cell(&a[k], &b[k]) {
+            return false;
+        }
+    }
+    true
+}
+
+/// Whether the patches of the finer level have these boxes. There are none where there is no such level.
+fn has_finer_boxes(finer: Option<&Level>, boxes: &[Bx]) -> bool
+    ensures { IsTrue result → (c : Cell) → is_some (finer_masses (option_copied finer.entry) c) ≡ in_boxes boxes.now c }
+{
+    match finer {
+        None => boxes.is_empty(),
+        Some(level) => have_boxes(level.patches(), boxes),
+    }
+}
+
+/// The boxes of the finer level's patches, none where there is no such level.
+fn finer_boxes(alloc: Global, finer: Option<&Level>) -> Result<Vec<Bx>, NoMemory>
+    ensures { IfOk result (λ bs. (c : Cell) → is_some (finer_masses (option_copied finer.entry) c) ≡ in_boxes bs.items c) }
+{
+    match finer {
+        None => Ok(Vec::new(alloc)),
+        Some(level) => boxes_of(alloc, level.patches()),
+    }
+}
+
+/// Whether a layout that is kept is that of these patches.
+fn serves(kept: &KeptLayout, given: Given<'_>, patches: &[Patch]) -> bool
+    ensures { IsTrue result → IsKept given.entry.problem.now kept.now → IsLaidOut (around given.entry.problem.now given.entry.level patches.now given.entry.cells.now (option_copied given.entry.finer)) kept.now }
+{
+    if kept.level != given.level {
+        return false;
+    }
+    if !have_boxes(patches, &kept.boxes) {
+        return false;
+    }
+    if !are_same_cells(&kept.cells, given.cells) {
+        return false;
+    }
+    has_finer_boxes(given.finer, &kept.finer)
+}
+
+/// Lays out the step of these patches anew.
+fn lay_out_anew(given: Given<'_>, patches: &[Patch]) -> Result<KeptLayout, NoMemory>
+    requires level { given.level ≤ 4 }
+    requires apart { ArePatchesApart patches.now }
+    requires inside { All (λ q. IsInDomain (domain given.problem.now given.level) (box q)) patches.now }
+    requires cells { HasRegisterCells (around given.problem.now given.level patches.now given.cells.now (option_copied given.finer)) }
+    ensures { IfOk result (IsLaidOut (around given.entry.problem.now given.entry.level patches.now given.entry.cells.now (option_copied given.entry.finer))) }
+{
+    let alloc = given.alloc;
+    let layout = plan(
+        alloc,
+        given.problem,
+        given.level,
+        patches,
+        given.cells,
+        given.finer,
+    )?;
+    let made = Snapshot::of(&layout);
+    let shape = Shape {
+        places: layout.places,
+        words: layout.words,
+    };
+    Ok(KeptLayout {
+        level: given.level,
+        boxes: boxes_of(alloc, patches)?,
+        cells: Vec::from_slice(alloc, given.cells)?,
+        finer: finer_boxes(alloc, given.finer)?,
+        shape,
+        workspaces: workspaces_of(alloc, patches, layout.tasks)?,
+        layout: made,
+    })
+}
+
+/// The layout of the step of these patches: the one that is kept, where it serves, else a new one. None is kept afterwards.
+pub(crate) fn layout_for(
+    given: Given<'_>,
+    patches: &[Patch],
+    kept: &mut Option<KeptLayout>,
+) -> Result<KeptLayout, NoMemory>
+    requires level { given.level ≤ 4 }
+    requires apart { ArePatchesApart patches.now }
+    requires inside { All (λ q. IsInDomain (domain given.problem.now given.level) (box q)) patches.now }
+    requires cells { HasRegisterCells (around given.problem.now given.level patches.now given.cells.now (option_copied given.finer)) }
+    requires kept { IfSome kept.old (IsKept given.problem.now) }
+    ensures laid_out { IfOk result (IsLaidOut (around given.entry.problem.now given.entry.level patches.now given.entry.cells.now (option_copied given.entry.finer))) }
+    ensures kept { kept.new ≡ None }
+{
+    if let Some(layout) = kept.take() {
+        if serves(&layout, given, patches) {
+            return Ok(layout);
+        }
+    }
+    lay_out_anew(given, patches)
+}

@@ -1,0 +1,2 @@
+pub mod SameBoxes
+mod Copying

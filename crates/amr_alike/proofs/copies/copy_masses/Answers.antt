@@ -1,0 +1,22 @@
+use Rattle.std.proofs.Common.{◌≡◌, ◌∙◌, map, sym, ap, subst, arith}
+use Rattle.std.specs.Vec.{with_items}
+use Rattle.std.proofs.lemmas.List.{with_items_is}
+use Rattle.amr_patch.specs.Orders.{IsOrderOf}
+use Rattle.amr_patch.specs.Patches.{ArePatchesApart, box}
+use Rattle.amr_patch.proofs.Standing.{order_of_boxes}
+use Rattle.amr_alike.proofs.SameBoxes.{apart_alike, same_length}
+use Rattle.amr_alike.proofs.copies.copy_masses.Goals as goal
+
+-- the list after the patches were written
+listed : (c : goal.After-put_patches_in_order-arg-1) → (with_items c.take_patches-patches.result c.copy_all.new.to).items ≡ c.copy_all.new.to
+listed c = with_items_is c.take_patches-patches.result c.copy_all.new.to (omega (arith, same_length c.copy_all.new.to c.as_mut_slice.result.now c.copy_all.ensures.boxes, c.as_mut_slice.ensures.len))
+
+boxes : (c : goal.After-put_patches_in_order-arg-1) → map box c.copy_all.new.to ≡ map box c.take_patches-patches.result.items
+boxes c = c.copy_all.ensures.boxes ∙ ap (map box) c.as_mut_slice.ensures.value
+
+pub put_patches_in_order-requires-clause-apart : goal.put_patches_in_order-requires-clause-apart
+put_patches_in_order-requires-clause-apart c = subst ArePatchesApart (sym (listed c)) (apart_alike c.take_patches-patches.result.items c.copy_all.new.to (boxes c) c.take_patches-patches.ensures.apart)
+
+pub put_patches_in_order-requires-clause-order : goal.put_patches_in_order-requires-clause-order
+put_patches_in_order-requires-clause-order c =
+    subst (IsOrderOf c.order-order.result) (sym (listed c)) (order_of_boxes c.order-order.result c.take_patches-patches.result.items c.copy_all.new.to (boxes c) (subst (IsOrderOf c.order-order.result) (sym c.take_patches-patches.ensures.all) c.order-order.ensures))
