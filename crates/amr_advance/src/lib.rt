@@ -15,7 +15,7 @@ mod steps;
 pub use kept::KeptLayout;
 pub use regs::{Crew, Regs};
 pub use running::Workers;
-pub use steps::{LevelStep, advance, advance_kept};
+pub use steps::{advance, advance_kept};
 
 #[cfg(test)]
 mod tests;

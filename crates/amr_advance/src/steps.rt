@@ -169,17 +169,6 @@ fn add_totals(ended: &Ended<Work>, regs: &mut Regs)
     }
 }
 
-/// Which step of a level is made: that of level `level` of a problem, beside the next coarser level with the masses before its own
-/// step, and the next finer one.
-#[derive(Clone, Copy)]
-pub struct LevelStep<'a> {
-    pub problem: &'a Problem,
-    /// From 0 to 4.
-    pub level: u32,
-    pub old: Option<&'a Level>,
-    pub finer: Option<&'a Level>,
-}
-
 /// The same as `advance`, for a level that makes many steps: what depends on boxes alone, the layout of the step on a board and the
 /// workspaces of its tasks, is taken from `kept` where it was made for the same boxes, else made anew. It is kept afterwards, but
 /// not after `NoMemory`.
@@ -187,43 +176,46 @@ pub struct LevelStep<'a> {
 /// There are from 1 to 64 workers. `kept` is of the same problem.
 pub fn advance_kept<R: Threads + Sync, G: Gate + Sync>(
     workers: &Workers<'_, R, G>,
-    of: LevelStep<'_>,
+    p: &Problem,
+    l: u32,
     level: &mut Level,
+    old: Option<&Level>,
+    finer: Option<&Level>,
     regs: &mut Regs,
     kept: &mut Option<KeptLayout>,
 ) -> Result<(), NoMemory>
-    requires number { of.level ≤ 4 }
-    requires of_domain { IsLevel of.problem.now of.level (level_of level.old) }
-    requires fits { StepFits of.problem.now of.level (level_of level.old).masses (old_masses (option_copied of.old)) }
-    requires coarser { HasCoarser of.problem.now of.level (level_of level.old) (option_copied of.old) regs.old.coarser }
-    requires finer { HasFiner of.problem.now of.level (level_of level.old) (option_copied of.finer) regs.old.finer }
+    requires number { l ≤ 4 }
+    requires of_domain { IsLevel p.now l (level_of level.old) }
+    requires fits { StepFits p.now l (level_of level.old).masses (old_masses (option_copied old)) }
+    requires coarser { HasCoarser p.now l (level_of level.old) (option_copied old) regs.old.coarser }
+    requires finer { HasFiner p.now l (level_of level.old) (option_copied finer) regs.old.finer }
     requires some_workers { 1 ≤ workers.now.count }
     requires few_workers { workers.now.count ≤ 64 }
     requires gate { (worker task : ℕ) → worker < workers.now.count → task < length (patches_of level.old) → G.admits workers.now.gate.now worker task }
-    requires inflow { regs.old.inflow + inflow_beside of.problem.now of.level (is_uncovered (level_of level.old).masses (finer_masses (option_copied of.finer))) (flux_at of.problem.now of.level (level_of level.old).masses (old_masses (option_copied of.old))) < 2 ^ 63 }
-    requires outflow { regs.old.outflow + outflow_beside of.problem.now of.level (is_uncovered (level_of level.old).masses (finer_masses (option_copied of.finer))) (flux_at of.problem.now of.level (level_of level.old).masses (old_masses (option_copied of.old))) < 2 ^ 63 }
-    requires kept { IfSome kept.old (IsKept of.problem.now) }
-    ensures masses { OnOk result ((level_of level.new).masses ≡ updated (level_of level.old).masses (flux_at of.entry.problem.now of.entry.level (level_of level.old).masses (old_masses (option_copied of.entry.old)))) }
+    requires inflow { regs.old.inflow + inflow_beside p.now l (is_uncovered (level_of level.old).masses (finer_masses (option_copied finer))) (flux_at p.now l (level_of level.old).masses (old_masses (option_copied old))) < 2 ^ 63 }
+    requires outflow { regs.old.outflow + outflow_beside p.now l (is_uncovered (level_of level.old).masses (finer_masses (option_copied finer))) (flux_at p.now l (level_of level.old).masses (old_masses (option_copied old))) < 2 ^ 63 }
+    requires kept { IfSome kept.old (IsKept p.now) }
+    ensures masses { OnOk result ((level_of level.new).masses ≡ updated (level_of level.old).masses (flux_at p.now l (level_of level.old).masses (old_masses (option_copied old.entry)))) }
     ensures boxes { (level_of level.new).boxes ≡ (level_of level.old).boxes }
     ensures patches { map box (patches_of level.new) ≡ map box (patches_of level.old) }
-    ensures coarser { OnOk result (BothChange (gained of.entry.problem.now of.entry.level (level_of level.old).masses (flux_at of.entry.problem.now of.entry.level (level_of level.old).masses (old_masses (option_copied of.entry.old)))) regs.old.coarser regs.new.coarser) }
-    ensures finer { OnOk result (BothChange (taken of.entry.problem.now of.entry.level (level_of level.old).masses (old_masses (option_copied of.entry.old)) (finer_masses (option_copied of.entry.finer))) regs.old.finer regs.new.finer) }
-    ensures inflow { OnOk result (regs.new.inflow ≡ regs.old.inflow + inflow_beside of.entry.problem.now of.entry.level (is_uncovered (level_of level.old).masses (finer_masses (option_copied of.entry.finer))) (flux_at of.entry.problem.now of.entry.level (level_of level.old).masses (old_masses (option_copied of.entry.old)))) }
-    ensures outflow { OnOk result (regs.new.outflow ≡ regs.old.outflow + outflow_beside of.entry.problem.now of.entry.level (is_uncovered (level_of level.old).masses (finer_masses (option_copied of.entry.finer))) (flux_at of.entry.problem.now of.entry.level (level_of level.old).masses (old_masses (option_copied of.entry.old)))) }
+    ensures coarser { OnOk result (BothChange (gained p.now l (level_of level.old).masses (flux_at p.now l (level_of level.old).masses (old_masses (option_copied old.entry)))) regs.old.coarser regs.new.coarser) }
+    ensures finer { OnOk result (BothChange (taken p.now l (level_of level.old).masses (old_masses (option_copied old.entry)) (finer_masses (option_copied finer.entry))) regs.old.finer regs.new.finer) }
+    ensures inflow { OnOk result (regs.new.inflow ≡ regs.old.inflow + inflow_beside p.now l (is_uncovered (level_of level.old).masses (finer_masses (option_copied finer.entry))) (flux_at p.now l (level_of level.old).masses (old_masses (option_copied old.entry)))) }
+    ensures outflow { OnOk result (regs.new.outflow ≡ regs.old.outflow + outflow_beside p.now l (is_uncovered (level_of level.old).masses (finer_masses (option_copied finer.entry))) (flux_at p.now l (level_of level.old).masses (old_masses (option_copied old.entry)))) }
     ensures same_masses { OnErr result ((level_of level.new).masses ≡ (level_of level.old).masses) }
     ensures same_coarser { OnErr result (regs.new.coarser ≡ regs.old.coarser) }
     ensures same_finer { OnErr result (BothChange (λ c. pos 0) regs.old.finer regs.new.finer) }
     ensures same_sums { OnErr result ((regs.new.inflow ≡ regs.old.inflow) × (regs.new.outflow ≡ regs.old.outflow)) }
-    ensures kept { IfSome kept.new (IsKept of.entry.problem.now) }
+    ensures kept { IfSome kept.new (IsKept p.now) }
 {
     let order = level.order();
     let mut patches = level.take_patches();
     let given = Given {
         alloc: *patches.allocator(),
-        problem: of.problem,
-        level: of.level,
-        old: of.old,
-        finer: of.finer,
+        problem: p,
+        level: l,
+        old,
+        finer,
         cells: cells_of(&regs.coarser),
     };
     let stepped = step_patches(workers, given, order, &mut patches, &mut regs.finer, kept);
@@ -282,11 +274,5 @@ pub fn advance<R: Threads + Sync, G: Gate + Sync>(
         gate,
         count: crew.workers,
     };
-    let of = LevelStep {
-        problem: p,
-        level: l,
-        old,
-        finer,
-    };
-    advance_kept(&workers, of, level, regs, &mut None)
+    advance_kept(&workers, p, l, level, old, finer, regs, &mut None)
 }

@@ -24,6 +24,21 @@ pub fn have_boxes(patches: &[Patch], boxes: &[Bx]) -> bool
     true
 }
 
+/// Whether two lists of patches have the same boxes, in the same order. It says yes of no others.
+pub fn have_same_boxes(a: &[Patch], b: &[Patch]) -> bool
+    ensures { IsTrue result → map box a.now ≡ map box b.now }
+{
+    if a.len() != b.len() {
+        return false;
+    }
+    for k in 0..a.len() {
+        if !is_same(&a[k].bx(), &b[k].bx()) {
+            return false;
+        }
+    }
+    true
+}
+
 /// The boxes of patches, in their order. `NoMemory` is the only refusal.
 pub fn boxes_of(alloc: Global, patches: &[Patch]) -> Result<Vec<Bx>, NoMemory>
     ensures { IfOk result (λ bs. bs.items ≡ map box patches.now) }

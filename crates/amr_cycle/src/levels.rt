@@ -1,9 +1,11 @@
 //! Steps of levels: of one level and of those finer than it, each of which makes twice as many.
 
-ghost use Rattle.std.specs.Prelude.{◌≡◌, ◌≢◌, ℕ, [], ◌∷◌, ◌+◌, ◌<◌, ◌≤◌, ◌^◌, IfOk, OnOk, None, Some, length, map, neg_ℤ};
+ghost use Rattle.std.specs.Prelude.{◌≡◌, ◌≢◌, ℕ, [], ◌∷◌, ◌+◌, ◌<◌, ◌≤◌, ◌^◌, IfOk, IfSome, OnOk, None, Some, is_some, length, map, neg_ℤ};
 ghost use Rattle.std.specs.List.{All};
 ghost use Rattle.std.specs.Option.{option_copied};
+ghost use Rattle.amr_box.specs.declared.Cell.{Cell};
 ghost use Rattle.amr_def.specs.Flux.{flux_at, updated};
+ghost use Rattle.amr_def.specs.State.{in_boxes};
 ghost use Rattle.amr_laws.specs.Sides.{inflow_beside, is_uncovered, outflow_beside};
 ghost use Rattle.amr_laws.specs.Substeps.{after_step};
 ghost use Rattle.amr_patch.specs.Levels.{level_of, patches_of};
@@ -12,22 +14,26 @@ ghost use Rattle.amr_ghost.specs.Frames.{old_masses};
 ghost use Rattle.amr_transfer.specs.Sums.{AreCoarsenable};
 ghost use Rattle.amr_flows.specs.Subcycle.{edge_part, flows_of_step};
 ghost use Rattle.amr_advance.specs.Registers.{BothChange, HasCoarser, gained};
+ghost use Rattle.amr_advance.specs.Kept.{IsKept};
 ghost use Rattle.amr_cycle.specs.Cycles.{IsCoarsePart, IsPartOfStep, SomeHasEntries, patch_boxes};
+ghost use Rattle.amr_cycle.specs.Kept.{AreKept, IsKeptLevel};
 
 use crate::correction::correct;
+use crate::kept::{KeptBelow, KeptLevel, below_for};
 use crate::team::Team;
-use amr_advance::{Regs, advance};
+use amr_advance::{Regs, advance_kept};
+use amr_box::Bx;
 use amr_causes::NoMemory;
 use amr_patch::Level;
-use amr_register::Register;
 use amr_workers::Gate;
 use std::thread::Threads;
 
-/// What both steps of the next finer level stand on: the level with the masses before its own step, and what those steps add to,
-/// the level's register among them.
+/// What both steps of the next finer level stand on: the level with the masses before its own step, the finer level's patch boxes, and
+/// what those steps add to, the level's register among them.
 #[derive(Drop)]
 struct Below {
     before: Level,
+    finer: Vec<Bx>,
     regs: Regs,
 }
 
@@ -38,17 +44,19 @@ fn step_finest<R: Threads + Sync, G: Gate + Sync>(
     level: &mut Level,
     old: Option<&Level>,
     regs: &mut Regs,
+    own: &mut KeptLevel,
 ) -> Result<(), NoMemory>
     requires number { l ≤ 4 }
     requires part { IsPartOfStep team.now.problem.now l (level_of level.old ∷ []) (old_masses (option_copied old)) }
     requires coarser { HasCoarser team.now.problem.now l (level_of level.old) (option_copied old) regs.old.coarser }
     requires finer { regs.old.finer ≡ None }
-    requires one_rank { team.now.crew.ranks ≡ 1 }
-    requires some_workers { 1 ≤ team.now.crew.workers }
-    requires few_workers { team.now.crew.workers ≤ 64 }
-    requires gate { (worker task : ℕ) → worker < team.now.crew.workers → G.admits team.now.gate.now worker task }
+    requires some_workers { 1 ≤ team.now.workers.count }
+    requires few_workers { team.now.workers.count ≤ 64 }
+    requires gate { (worker task : ℕ) → worker < team.now.workers.count → G.admits team.now.workers.gate.now worker task }
     requires inflow { regs.old.inflow + flows_of_step (inflow_beside team.now.problem.now) team.now.problem.now l (level_of level.old ∷ []) (old_masses (option_copied old)) < 2 ^ 63 }
     requires outflow { regs.old.outflow + flows_of_step (outflow_beside team.now.problem.now) team.now.problem.now l (level_of level.old ∷ []) (old_masses (option_copied old)) < 2 ^ 63 }
+    requires kept { IsKeptLevel team.now.problem.now l own.old }
+    ensures kept { OnOk result (IsKeptLevel team.now.problem.now l own.new) }
     ensures level { OnOk result (level_of level.new ∷ [] ≡ after_step team.now.problem.now l (level_of level.old ∷ []) (old_masses (option_copied old.entry))) }
     ensures patches { OnOk result (map box (patches_of level.new) ≡ map box (patches_of level.old)) }
     ensures coarser { OnOk result (BothChange (gained team.now.problem.now l (level_of level.old).masses (flux_at team.now.problem.now l (level_of level.old).masses (old_masses (option_copied old.entry)))) regs.old.coarser regs.new.coarser) }
@@ -56,16 +64,15 @@ fn step_finest<R: Threads + Sync, G: Gate + Sync>(
     ensures inflow { OnOk result (regs.new.inflow ≡ regs.old.inflow + flows_of_step (inflow_beside team.now.problem.now) team.now.problem.now l (level_of level.old ∷ []) (old_masses (option_copied old.entry))) }
     ensures outflow { OnOk result (regs.new.outflow ≡ regs.old.outflow + flows_of_step (outflow_beside team.now.problem.now) team.now.problem.now l (level_of level.old ∷ []) (old_masses (option_copied old.entry))) }
 {
-    advance(
-        team.runtime,
+    advance_kept(
+        &team.workers,
         team.problem,
         l,
         level,
         old,
         None,
         regs,
-        team.crew,
-        team.gate,
+        &mut own.layout,
     )
 }
 
@@ -78,17 +85,20 @@ fn step_coarse<R: Threads + Sync, G: Gate + Sync>(
     next: &Level,
     old: Option<&Level>,
     regs: &mut Regs,
+    own: &mut KeptLevel,
 ) -> Result<Below, NoMemory>
     requires number { l ≤ 3 }
     requires part { IsCoarsePart team.now.problem.now l (level_of level.old) (level_of next.now) (old_masses (option_copied old)) }
     requires coarser { HasCoarser team.now.problem.now l (level_of level.old) (option_copied old) regs.old.coarser }
-    requires one_rank { team.now.crew.ranks ≡ 1 }
-    requires some_workers { 1 ≤ team.now.crew.workers }
-    requires few_workers { team.now.crew.workers ≤ 64 }
-    requires gate { (worker task : ℕ) → worker < team.now.crew.workers → G.admits team.now.gate.now worker task }
+    requires some_workers { 1 ≤ team.now.workers.count }
+    requires few_workers { team.now.workers.count ≤ 64 }
+    requires gate { (worker task : ℕ) → worker < team.now.workers.count → G.admits team.now.workers.gate.now worker task }
     requires inflow { regs.old.inflow + inflow_beside team.now.problem.now l (is_uncovered (level_of level.old).masses (level_of next.now).masses) (flux_at team.now.problem.now l (level_of level.old).masses (old_masses (option_copied old))) < 2 ^ 63 }
     requires outflow { regs.old.outflow + outflow_beside team.now.problem.now l (is_uncovered (level_of level.old).masses (level_of next.now).masses) (flux_at team.now.problem.now l (level_of level.old).masses (old_masses (option_copied old))) < 2 ^ 63 }
+    requires kept { IsKeptLevel team.now.problem.now l own.old }
+    ensures layout { OnOk result (IfSome own.new.layout (IsKept team.now.problem.now)) }
     ensures before { IfOk result (λ b. level_of b.before ≡ level_of level.old) }
+    ensures finer_boxes { IfOk result (λ b. (c : Cell) → is_some ((level_of next.now).masses c) ≡ in_boxes b.finer.items c) }
     ensures masses { OnOk result ((level_of level.new).masses ≡ updated (level_of level.old).masses (flux_at team.now.problem.now l (level_of level.old).masses (old_masses (option_copied old.entry)))) }
     ensures boxes { OnOk result ((level_of level.new).boxes ≡ (level_of level.old).boxes) }
     ensures patches { OnOk result (map box (patches_of level.new) ≡ map box (patches_of level.old)) }
@@ -99,21 +109,32 @@ fn step_coarse<R: Threads + Sync, G: Gate + Sync>(
     ensures inflow { IfOk result (λ b. b.regs.inflow ≡ regs.old.inflow + inflow_beside team.now.problem.now l (is_uncovered (level_of level.old).masses (level_of next.now).masses) (flux_at team.now.problem.now l (level_of level.old).masses (old_masses (option_copied old.entry)))) }
     ensures outflow { IfOk result (λ b. b.regs.outflow ≡ regs.old.outflow + outflow_beside team.now.problem.now l (is_uncovered (level_of level.old).masses (level_of next.now).masses) (flux_at team.now.problem.now l (level_of level.old).masses (old_masses (option_copied old.entry)))) }
 {
-    let before = level.copy()?;
-    regs.finer = Some(Register::make(team.alloc, team.problem, l, level, next)?);
-    advance(
-        team.runtime,
+    let KeptBelow {
+        before,
+        finer,
+        register,
+    } = below_for(
+        team.alloc,
+        team.problem,
+        l,
+        level,
+        next,
+        &mut own.below,
+    )?;
+    regs.finer = Some(register);
+    advance_kept(
+        &team.workers,
         team.problem,
         l,
         level,
         old,
         Some(next),
         regs,
-        team.crew,
-        team.gate,
+        &mut own.layout,
     )?;
     Ok(Below {
         before,
+        finer,
         regs: Regs {
             coarser: regs.finer.take(),
             finer: None,
@@ -123,8 +144,25 @@ fn step_coarse<R: Threads + Sync, G: Gate + Sync>(
     })
 }
 
-/// Makes a step of level `l` and of the levels finer than it, each of which makes two for each of the next coarser one. `old` is the
-/// next coarser level with the masses before its own step.
+/// What is kept of it when both steps are made.
+fn kept_of(below: Below) -> Option<KeptBelow>
+    ensures { IfSome result (λ b. (b.before ≡ below.before) × (b.finer ≡ below.finer) × (Some b.register ≡ below.regs.coarser)) }
+{
+    let Below {
+        before,
+        finer,
+        regs,
+    } = below;
+    let register = regs.coarser?;
+    Some(KeptBelow {
+        before,
+        finer,
+        register,
+    })
+}
+
+/// Makes a step of a level and of the levels finer than it, each of which makes two for each of the next coarser one. `kept` is what
+/// they keep from one step to the next, from this level on.
 ///
 /// The register of the coarser level gains what flows through this level's faces beside its cells, and the sums what flows through
 /// open sides beside cells that no finer level covers, in all steps that are made.
@@ -135,18 +173,22 @@ pub(crate) fn step_levels<R: Threads + Sync, G: Gate + Sync>(
     finer: &mut [Level],
     old: Option<&Level>,
     regs: &mut Regs,
+    kept: &mut [KeptLevel],
 ) -> Result<(), NoMemory>
     requires few { l + length finer.old ≤ 4 }
     requires part { IsPartOfStep team.now.problem.now l (level_of level.old ∷ map level_of finer.old) (old_masses (option_copied old)) }
     requires coarser { HasCoarser team.now.problem.now l (level_of level.old) (option_copied old) regs.old.coarser }
     requires finer { regs.old.finer ≡ None }
     requires coarsenable { All (λ k. AreCoarsenable (patches_of k)) finer.old }
-    requires one_rank { team.now.crew.ranks ≡ 1 }
-    requires some_workers { 1 ≤ team.now.crew.workers }
-    requires few_workers { team.now.crew.workers ≤ 64 }
-    requires gate { (worker task : ℕ) → worker < team.now.crew.workers → G.admits team.now.gate.now worker task }
+    requires some_workers { 1 ≤ team.now.workers.count }
+    requires few_workers { team.now.workers.count ≤ 64 }
+    requires gate { (worker task : ℕ) → worker < team.now.workers.count → G.admits team.now.workers.gate.now worker task }
     requires inflow { regs.old.inflow + flows_of_step (inflow_beside team.now.problem.now) team.now.problem.now l (level_of level.old ∷ map level_of finer.old) (old_masses (option_copied old)) < 2 ^ 63 }
     requires outflow { regs.old.outflow + flows_of_step (outflow_beside team.now.problem.now) team.now.problem.now l (level_of level.old ∷ map level_of finer.old) (old_masses (option_copied old)) < 2 ^ 63 }
+    requires kept { AreKept team.now.problem.now l kept.old }
+    requires room { length finer.old < length kept.old }
+    ensures kept { OnOk result (AreKept team.now.problem.now l kept.new) }
+    ensures kept_count { OnOk result (length kept.new ≡ length kept.old) }
     ensures levels { OnOk result (level_of level.new ∷ map level_of finer.new ≡ after_step team.now.problem.now l (level_of level.old ∷ map level_of finer.old) (old_masses (option_copied old.entry))) }
     ensures patches { OnOk result (patch_boxes (level.new ∷ finer.new) ≡ patch_boxes (level.old ∷ finer.old)) }
     ensures coarser { OnOk result (BothChange (gained team.now.problem.now l (level_of level.old).masses (flux_at team.now.problem.now l (level_of level.old).masses (old_masses (option_copied old.entry)))) regs.old.coarser regs.new.coarser) }
@@ -154,15 +196,19 @@ pub(crate) fn step_levels<R: Threads + Sync, G: Gate + Sync>(
     ensures inflow { OnOk result (regs.new.inflow ≡ regs.old.inflow + flows_of_step (inflow_beside team.now.problem.now) team.now.problem.now l (level_of level.old ∷ map level_of finer.old) (old_masses (option_copied old.entry))) }
     ensures outflow { OnOk result (regs.new.outflow ≡ regs.old.outflow + flows_of_step (outflow_beside team.now.problem.now) team.now.problem.now l (level_of level.old ∷ map level_of finer.old) (old_masses (option_copied old.entry))) }
 {
-    let Some((next, finest)) = finer.split_first_mut() else {
-        return step_finest(team, l, level, old, regs);
+    let Some((own, others)) = kept.split_first_mut() else {
+        unreachable!()
     };
-    let mut below = step_coarse(team, l, level, next, old, regs)?;
+    let Some((next, finest)) = finer.split_first_mut() else {
+        return step_finest(team, l, level, old, regs, own);
+    };
+    let mut below = step_coarse(team, l, level, next, old, regs, own)?;
     let before = Some(&below.before);
-    step_levels(team, l + 1, next, finest, before, &mut below.regs)?;
-    step_levels(team, l + 1, next, finest, before, &mut below.regs)?;
+    step_levels(team, l + 1, next, finest, before, &mut below.regs, others)?;
+    step_levels(team, l + 1, next, finest, before, &mut below.regs, others)?;
     correct(level, &below.regs.coarser, next);
     regs.inflow = below.regs.inflow;
     regs.outflow = below.regs.outflow;
+    own.below = kept_of(below);
     Ok(())
 }

@@ -4,11 +4,13 @@
 #![tactic(auto)]
 
 mod correction;
+mod kept;
 mod levels;
 mod steps;
 mod team;
 
-pub use steps::step;
+pub use kept::Kept;
+pub use steps::{step, step_kept};
 
 #[cfg(test)]
 mod tests;

@@ -1,6 +1,6 @@
 //! A step of a state.
 
-ghost use Rattle.std.specs.Prelude.{◌≡◌, ℕ, ◌+◌, ◌<◌, ◌≤◌, false, true, IfOk, OnErr, OnOk, map};
+ghost use Rattle.std.specs.Prelude.{◌≡◌, ℕ, ◌+◌, ◌<◌, ◌≤◌, false, true, IfOk, OnErr, OnOk, length, map};
 ghost use Rattle.amr_def.specs.Facts.{IsSound};
 ghost use Rattle.amr_def.specs.Run.{stepped};
 ghost use Rattle.amr_def.specs.State.{no_masses};
@@ -9,11 +9,13 @@ ghost use Rattle.amr_laws.specs.Substeps.{after_step};
 ghost use Rattle.amr_patch.specs.Levels.{level_of};
 ghost use Rattle.amr_patch.specs.Meshes.{is_spent, levels_of, state_of};
 ghost use Rattle.amr_flows.specs.Subcycle.{flows_of_step};
+ghost use Rattle.amr_cycle.specs.Kept.{AreKept, IsKept};
 ghost use Rattle.amr_cycle.specs.Cycles.{AreCoarsenableAbove, HasStepToCome, patch_boxes};
 
+use crate::kept::{Kept, KeptLevel, make_room};
 use crate::levels::step_levels;
 use crate::team::Team;
-use amr_advance::{Crew, Regs};
+use amr_advance::{Crew, Regs, Workers};
 use amr_causes::NoMemory;
 use amr_def::{Problem, Row};
 use amr_patch::{Level, Mesh};
@@ -31,13 +33,17 @@ struct Flows {
 fn step_all<R: Threads + Sync, G: Gate + Sync>(
     team: &Team<'_, R, G>,
     levels: &mut [Level],
+    kept: &mut [KeptLevel],
 ) -> Result<Flows, NoMemory>
     requires to_come { HasStepToCome team.now.problem.now (map level_of levels.old) }
     requires coarsenable { AreCoarsenableAbove levels.old }
-    requires one_rank { team.now.crew.ranks ≡ 1 }
-    requires some_workers { 1 ≤ team.now.crew.workers }
-    requires few_workers { team.now.crew.workers ≤ 64 }
-    requires gate { (worker task : ℕ) → worker < team.now.crew.workers → G.admits team.now.gate.now worker task }
+    requires some_workers { 1 ≤ team.now.workers.count }
+    requires few_workers { team.now.workers.count ≤ 64 }
+    requires gate { (worker task : ℕ) → worker < team.now.workers.count → G.admits team.now.workers.gate.now worker task }
+    requires kept { AreKept team.now.problem.now 0 kept.old }
+    requires room { length levels.old ≤ length kept.old }
+    ensures kept { OnOk result (AreKept team.now.problem.now 0 kept.new) }
+    ensures kept_count { OnOk result (length kept.new ≡ length kept.old) }
     ensures levels { OnOk result (map level_of levels.new ≡ after_step team.now.problem.now 0 (map level_of levels.old) no_masses) }
     ensures patches { OnOk result (patch_boxes levels.new ≡ patch_boxes levels.old) }
     ensures inflow { IfOk result (λ f. f.inflow ≡ flows_of_step (inflow_beside team.now.problem.now) team.now.problem.now 0 (map level_of levels.old) no_masses) }
@@ -51,7 +57,7 @@ fn step_all<R: Threads + Sync, G: Gate + Sync>(
     };
     match levels.split_first_mut() {
         None => unreachable!(),
-        Some((base, finer)) => step_levels(team, 0, base, finer, None, &mut regs)?,
+        Some((base, finer)) => step_levels(team, 0, base, finer, None, &mut regs, kept)?,
     }
     Ok(Flows {
         inflow: regs.inflow,
@@ -87,16 +93,49 @@ pub fn step<R: Threads + Sync, G: Gate + Sync>(
     ensures whole { OnOk result (is_spent mesh.new ≡ false) }
     ensures spent { OnErr result (is_spent mesh.new ≡ true) }
 {
+    step_kept(rt, p, mesh, crew, gate, &mut Kept::nothing())
+}
+
+/// The same as `step`, for a run of many steps: what depends on boxes alone is taken from `kept`, and left there for the next step. What
+/// no longer fits the boxes is made anew. `kept` is of the same problem; after `NoMemory` it is only dropped.
+pub fn step_kept<R: Threads + Sync, G: Gate + Sync>(
+    rt: &R,
+    p: &Problem,
+    mesh: &mut Mesh,
+    crew: Crew,
+    gate: &G,
+    kept: &mut Kept,
+) -> Result<(), NoMemory>
+    requires whole { is_spent mesh.old ≡ false }
+    requires sound { IsSound p.now (state_of mesh.old) }
+    requires to_come { (state_of mesh.old).step < p.now.steps }
+    requires coarsenable { AreCoarsenableAbove (levels_of mesh.old) }
+    requires one_rank { crew.ranks ≡ 1 }
+    requires some_workers { 1 ≤ crew.workers }
+    requires few_workers { crew.workers ≤ 64 }
+    requires gate { (worker task : ℕ) → worker < crew.workers → G.admits gate.now worker task }
+    requires kept { IsKept p.now kept.old }
+    ensures value { OnOk result (state_of mesh.new ≡ stepped p.now (state_of mesh.old)) }
+    ensures sound { OnOk result (IsSound p.now (state_of mesh.new)) }
+    ensures patches { OnOk result (patch_boxes (levels_of mesh.new) ≡ patch_boxes (levels_of mesh.old)) }
+    ensures whole { OnOk result (is_spent mesh.new ≡ false) }
+    ensures spent { OnErr result (is_spent mesh.new ≡ true) }
+    ensures kept { OnOk result (IsKept p.now kept.new) }
+{
     let number = mesh.step();
     let (mut rows, mut levels) = mesh.take();
     let team = Team {
         alloc: *rows.allocator(),
-        runtime: rt,
         problem: p,
-        crew,
-        gate,
+        workers: Workers {
+            runtime: rt,
+            gate,
+            count: crew.workers,
+        },
     };
-    let flows = step_all(&team, levels.as_mut_slice())?;
+    let mut of_levels = make_room(team.alloc, kept.levels.take(), levels.len())?;
+    let flows = step_all(&team, levels.as_mut_slice(), of_levels.as_mut_slice())?;
+    kept.levels = Some(of_levels);
     let last = rows[number as usize];
     rows.push(Row {
         mass: last.mass + flows.inflow - flows.outflow,

@@ -1,15 +1,13 @@
 //! What steps of levels are made with.
 
-use amr_advance::Crew;
+use amr_advance::Workers;
 use amr_def::Problem;
 use std::alloc::Global;
 
-/// What each step of a level is made with: memory, threads, the problem, who works, and what is called around each task.
+/// What each step of a level is made with: memory, the problem, and the workers with what they call around each task.
 #[derive(Clone, Copy)]
 pub(crate) struct Team<'a, R, G> {
     pub alloc: Global,
-    pub runtime: &'a R,
     pub problem: &'a Problem,
-    pub crew: Crew,
-    pub gate: &'a G,
+    pub workers: Workers<'a, R, G>,
 }

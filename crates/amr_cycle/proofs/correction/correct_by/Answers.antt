@@ -4,7 +4,7 @@ use Rattle.amr_box.specs.Cells.{parent}
 use Rattle.amr_def.specs.State.{Masses}
 use Rattle.amr_patch.specs.Levels.{level_of, patches_of}
 use Rattle.amr_register.specs.Registers.{entry_in}
-use Rattle.amr_cycle.proofs.Kept.{same_boxes, some_with_entries}
+use Rattle.amr_cycle.proofs.Keeping.{same_boxes, some_with_entries}
 use Rattle.amr_cycle.proofs.correction.correct_by.Goals as goal
 
 pub sum_up-requires-clause-parents : goal.sum_up-requires-clause-parents

@@ -10,23 +10,23 @@ use Rattle.amr_cycle.proofs.Cycling.{coarse_fits, coarse_level, coarse_nested, f
 use Rattle.amr_cycle.proofs.Registers.{has_finer, lost}
 use Rattle.amr_cycle.proofs.levels.step_coarse.Goals as goal
 
-pub make-requires-clause-coarse : goal.make-requires-clause-coarse
-make-requires-clause-coarse g c = coarse_level c.args.team.now.problem.now c.args.l (level_of c.args.level.now) (level_of c.args.next.now) (old_masses (option_copied c.args.old)) c.requires.part
+pub below_for-requires-clause-coarse : goal.below_for-requires-clause-coarse
+below_for-requires-clause-coarse g c = coarse_level c.args.team.now.problem.now c.args.l (level_of c.args.level.now) (level_of c.args.next.now) (old_masses (option_copied c.args.old)) c.requires.part
 
-pub make-requires-clause-fine : goal.make-requires-clause-fine
-make-requires-clause-fine g c = fine_level c.args.team.now.problem.now c.args.l (level_of c.args.level.now) (level_of c.args.next.now) (old_masses (option_copied c.args.old)) c.requires.part
+pub below_for-requires-clause-fine : goal.below_for-requires-clause-fine
+below_for-requires-clause-fine g c = fine_level c.args.team.now.problem.now c.args.l (level_of c.args.level.now) (level_of c.args.next.now) (old_masses (option_copied c.args.old)) c.requires.part
 
-pub make-requires-clause-nested : goal.make-requires-clause-nested
-make-requires-clause-nested g c = coarse_nested c.args.team.now.problem.now c.args.l (level_of c.args.level.now) (level_of c.args.next.now) (old_masses (option_copied c.args.old)) c.requires.part
+pub below_for-requires-clause-nested : goal.below_for-requires-clause-nested
+below_for-requires-clause-nested g c = coarse_nested c.args.team.now.problem.now c.args.l (level_of c.args.level.now) (level_of c.args.next.now) (old_masses (option_copied c.args.old)) c.requires.part
 
-pub advance-requires-clause-of_domain : goal.advance-requires-clause-of_domain
-advance-requires-clause-of_domain g c κs within = coarse_level c.args.team.now.problem.now c.args.l (level_of c.args.level.now) (level_of c.args.next.now) (old_masses (option_copied c.args.old)) c.requires.part
+pub advance_kept-requires-clause-of_domain : goal.advance_kept-requires-clause-of_domain
+advance_kept-requires-clause-of_domain g c κs within = coarse_level c.args.team.now.problem.now c.args.l (level_of c.args.level.now) (level_of c.args.next.now) (old_masses (option_copied c.args.old)) c.requires.part
 
-pub advance-requires-clause-fits : goal.advance-requires-clause-fits
-advance-requires-clause-fits g c κs within = coarse_fits c.args.team.now.problem.now c.args.l (level_of c.args.level.now) (level_of c.args.next.now) (old_masses (option_copied c.args.old)) c.requires.part
+pub advance_kept-requires-clause-fits : goal.advance_kept-requires-clause-fits
+advance_kept-requires-clause-fits g c κs within = coarse_fits c.args.team.now.problem.now c.args.l (level_of c.args.level.now) (level_of c.args.next.now) (old_masses (option_copied c.args.old)) c.requires.part
 
-pub advance-requires-clause-finer : goal.advance-requires-clause-finer
-advance-requires-clause-finer g c κs within =
+pub advance_kept-requires-clause-finer : goal.advance_kept-requires-clause-finer
+advance_kept-requires-clause-finer g c κs within =
     let p = c.args.team.now.problem.now in
     let k = level_of c.args.level.now in
     let fine = level_of c.args.next.now in
@@ -36,4 +36,4 @@ advance-requires-clause-finer g c κs within =
 pub returns-clause-register : goal.returns-clause-register
 returns-clause-register g c =
     lost c.args.team.now.problem.now c.args.l (level_of c.args.level.now) (level_of c.args.next.now) (old_masses (option_copied c.args.old)) c.in_ok-make.field-0 c.take.result c.in_ok-make.ensures.cells c.in_ok-make.ensures.zero
-    (subst (λ (s : Option Register). BothChange (taken c.args.team.now.problem.now c.args.l (level_of c.args.level.now).masses (old_masses (option_copied c.args.old)) (level_of c.args.next.now).masses) (Some c.in_ok-make.field-0) s) (sym c.take.ensures.value) c.in_ok-advance.ensures.finer)
+    (subst (λ (s : Option Register). BothChange (taken c.args.team.now.problem.now c.args.l (level_of c.args.level.now).masses (old_masses (option_copied c.args.old)) (level_of c.args.next.now).masses) (Some c.in_ok-make.field-0) s) (sym c.take.ensures.value) c.in_ok-advance_kept.ensures.finer)

@@ -1,6 +1,6 @@
 use Rattle.std.proofs.Common.{arith, ◌∙◌}
 use Rattle.amr_patch.specs.Meshes.{state_of}
-use Rattle.amr_cycle.proofs.Kept.{on_ok_both, on_ok_map}
+use Rattle.amr_cycle.proofs.Keeping.{on_ok_both, on_ok_map}
 use Rattle.amr_drive.proofs.Kept.{chopped_after, coarsenable}
 use Rattle.amr_drive.proofs.NextStates.{next_is, same_step}
 use Rattle.amr_drive.proofs.nexts.make_next.Goals as goal

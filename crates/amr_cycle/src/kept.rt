@@ -1,0 +1,149 @@
+//! What the steps of levels keep from one to the next, until boxes change.
+
+ghost use Rattle.std.specs.Prelude.{◌≡◌, ◌≤◌, suc, pos, IfOk, IfSome, IsTrue, None, length, map};
+ghost use Rattle.amr_box.specs.declared.Cell.{Cell};
+ghost use Rattle.amr_def.specs.declared.problem.Problem.{Problem};
+ghost use Rattle.amr_def.specs.Facts.{IsLevel, IsNestedLevel};
+ghost use Rattle.amr_patch.specs.Levels.{level_of, patches_of};
+ghost use Rattle.amr_patch.specs.Patches.{box};
+ghost use Rattle.amr_register.specs.Registers.{SameCells, entry_in};
+ghost use Rattle.amr_cycle.specs.Kept.{AreKept, IsBelow, IsKeptBelow, IsOnSameBoxes};
+
+use amr_advance::KeptLayout;
+use amr_alike::{are_same, boxes_of, copy_masses, have_boxes, have_same_boxes};
+use amr_box::Bx;
+use amr_causes::NoMemory;
+use amr_def::Problem;
+use amr_patch::Level;
+use amr_register::Register;
+use std::alloc::Global;
+
+/// What a level keeps for both steps of the next finer one: a level on its own boxes, in which its masses before its step stand;
+/// the patch boxes of the finer level; and its flux register.
+#[derive(Drop)]
+pub(crate) struct KeptBelow {
+    pub(crate) before: Level,
+    pub(crate) finer: Vec<Bx>,
+    pub(crate) register: Register,
+}
+
+/// What the step of a level keeps for its next one. Each part is made anew where boxes have changed.
+#[derive(Drop)]
+pub(crate) struct KeptLevel {
+    pub(crate) layout: Option<KeptLayout>,
+    pub(crate) below: Option<KeptBelow>,
+}
+
+/// What the steps of a run keep from one to the next: layouts, workspaces, flux registers, and room for the masses before a step.
+/// All of it depends on boxes alone, and what no longer fits them is made anew.
+#[derive(Drop)]
+pub struct Kept {
+    pub(crate) levels: Option<Vec<KeptLevel>>,
+}
+
+impl Kept {
+    /// Nothing yet.
+    pub const fn nothing() -> Kept
+        ensures { result.levels ≡ None }
+    {
+        Kept { levels: None }
+    }
+}
+
+/// Whether what is kept was made over the boxes of a level and of the next finer one.
+fn serves(kept: &KeptBelow, level: &Level, next: &Level) -> bool
+    ensures { IsTrue result → IsOnSameBoxes kept.now level.now next.now }
+{
+    if !are_same(kept.before.boxes(), level.boxes()) {
+        return false;
+    }
+    if !have_same_boxes(kept.before.patches(), level.patches()) {
+        return false;
+    }
+    have_boxes(next.patches(), &kept.finer)
+}
+
+/// Brings up to date what was kept over the same boxes: the masses of the level, and a register of zeros.
+fn renew(kept: &mut KeptBelow, level: &Level)
+    requires { map box (patches_of kept.old.before) ≡ map box (patches_of level.now) }
+    ensures before { (level_of kept.new.before).masses ≡ (level_of level.now).masses }
+    ensures boxes { (level_of kept.new.before).boxes ≡ (level_of kept.old.before).boxes }
+    ensures finer { kept.new.finer ≡ kept.old.finer }
+    ensures cells { SameCells kept.old.register kept.new.register }
+    ensures zero { (c : Cell) → entry_in kept.new.register c ≡ pos 0 }
+{
+    copy_masses(level, &mut kept.before);
+    kept.register.clear();
+}
+
+/// What both steps of the next finer level stand on, made anew: a copy of the level, and a register of zeros.
+fn make_below(
+    alloc: Global,
+    p: &Problem,
+    l: u32,
+    level: &Level,
+    next: &Level,
+) -> Result<KeptBelow, NoMemory>
+    requires number { l ≤ 3 }
+    requires coarse { IsLevel p.now l (level_of level.now) }
+    requires fine { IsLevel p.now (suc l) (level_of next.now) }
+    requires nested { IsNestedLevel p.now l (level_of level.now) (level_of next.now) }
+    ensures below { IfOk result (IsBelow p.now l (level_of level.now) (level_of next.now)) }
+    ensures zero { IfOk result (λ b. (c : Cell) → entry_in b.register c ≡ pos 0) }
+{
+    Ok(KeptBelow {
+        before: level.copy()?,
+        finer: boxes_of(alloc, next.patches())?,
+        register: Register::make(alloc, p, l, level, next)?,
+    })
+}
+
+/// What both steps of the next finer level stand on: the level's masses as they are now, and a register of zeros. It is what is kept,
+/// where boxes have not changed, else made anew. Nothing is kept afterwards.
+pub(crate) fn below_for(
+    alloc: Global,
+    p: &Problem,
+    l: u32,
+    level: &Level,
+    next: &Level,
+    kept: &mut Option<KeptBelow>,
+) -> Result<KeptBelow, NoMemory>
+    requires number { l ≤ 3 }
+    requires coarse { IsLevel p.now l (level_of level.now) }
+    requires fine { IsLevel p.now (suc l) (level_of next.now) }
+    requires nested { IsNestedLevel p.now l (level_of level.now) (level_of next.now) }
+    requires kept { IfSome kept.old (IsKeptBelow p.now l) }
+    ensures below { IfOk result (IsBelow p.now l (level_of level.now) (level_of next.now)) }
+    ensures zero { IfOk result (λ b. (c : Cell) → entry_in b.register c ≡ pos 0) }
+    ensures none { kept.new ≡ None }
+{
+    if let Some(mut below) = kept.take() {
+        if serves(&below, level, next) {
+            renew(&mut below, level);
+            return Ok(below);
+        }
+    }
+    make_below(alloc, p, l, level, next)
+}
+
+/// Makes room for what so many levels keep.
+pub(crate) fn make_room(
+    alloc: Global,
+    kept: Option<Vec<KeptLevel>>,
+    count: usize,
+) -> Result<Vec<KeptLevel>, NoMemory>
+    ensures room { IfOk result (λ ks. count ≤ length ks.items) }
+    ensures kept { (p : Problem) → IfSome kept (λ ks. AreKept p 0 ks.items) → IfOk result (λ ks. AreKept p 0 ks.items) }
+{
+    let mut levels = match kept {
+        Some(levels) => levels,
+        None => Vec::new(alloc),
+    };
+    while levels.len() < count {
+        levels.push(KeptLevel {
+            layout: None,
+            below: None,
+        })?;
+    }
+    Ok(levels)
+}
