@@ -6,3 +6,4 @@ pub mod Keeping
 pub mod Coarsenable
 pub mod Whole
 pub mod Chopped
+pub mod KeptLaws

@@ -2,7 +2,7 @@
 use Rattle.std.specs.Prelude.{◌≡◌, ℕ, ◌+◌, ◌<◌, List, length, map, slice_index_or, is_some, IfSome}
 use Rattle.amr_box.specs.declared.Cell.{Cell}
 use Rattle.amr_def.specs.declared.problem.Problem.{Problem}
-use Rattle.amr_def.specs.State.{Level, Masses, in_boxes}
+use Rattle.amr_def.specs.State.{Level, in_boxes}
 use Rattle.amr_patch.specs.declared.levels.Level.{Level as Held}
 use Rattle.amr_patch.specs.Levels.{level_of, patches_of}
 use Rattle.amr_patch.specs.Patches.{box}
@@ -28,6 +28,7 @@ pub record IsKeptBelow (p : Problem) (l : ℕ) (b : KeptBelow) : Type 0 where
 pub record IsOnSameBoxes (b : KeptBelow) (level next : Held) : Type 0 where
   pub boxes : (level_of b.before).boxes ≡ (level_of level).boxes
   pub patches : map box (patches_of b.before) ≡ map box (patches_of level)
+  pub cells : (c : Cell) → is_some ((level_of level).masses c) ≡ is_some ((level_of b.before).masses c)
   pub finer : (c : Cell) → is_some ((level_of next).masses c) ≡ in_boxes b.finer.items c
 
 pub record IsKeptLevel (p : Problem) (l : ℕ) (k : KeptLevel) : Type 0 where

@@ -1,6 +1,5 @@
 -- What a step keeps: levels that were chopped are, since boxes and patch boxes stay.
-use Rattle.std.proofs.Common.{◌≡◌, ◌∙◌, ℕ, suc, ◌<◌, List, [], ◌∷◌, length, map, refl, sym, ap, subst, arith}
-use Rattle.std.specs.Prelude.{slice_index_or}
+use Rattle.std.proofs.Common.{◌≡◌, ◌∙◌, ℕ, suc, List, [], ◌∷◌, map, refl, sym, ap, subst, arith}
 use Rattle.std.specs.List.{All, flat_map}
 use Rattle.std.specs.List.Sorted.{IsPermutation}
 use Rattle.std.proofs.lemmas.List.Elements.{All-cons, All-nil}
@@ -8,11 +7,9 @@ use Rattle.amr_box.specs.Cells.{Extent}
 use Rattle.amr_boxlist.specs.Chopped.{chopped}
 use Rattle.amr_def.specs.declared.problem.Problem.{Problem}
 use Rattle.amr_def.specs.Facts.{IsSound}
-use Rattle.amr_def.specs.State.{Level, State, no_masses}
-use Rattle.amr_def.specs.LevelStep.{step}
+use Rattle.amr_def.specs.State.{State, no_masses}
 use Rattle.amr_def.specs.Run.{stepped}
 use Rattle.amr_def.proofs.Chain.{state_chain}
-use Rattle.amr_laws.specs.Levels.{AreLevels}
 use Rattle.amr_laws.proofs.Substeps.{keeps_boxes, levels_of as levels_from}
 use Rattle.amr_patch.specs.declared.levels.Level.{Level as Held}
 use Rattle.amr_patch.specs.declared.meshes.Mesh.{Mesh}

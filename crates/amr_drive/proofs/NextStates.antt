@@ -1,7 +1,6 @@
 -- The next state, by its regrid and its step.
-use Rattle.std.proofs.Common.{◌≡◌, ◌∙◌, ℕ, ◌<◌, Bool, true, false, cond, refl, sym, ap, subst, ◌+◌, arith}
+use Rattle.std.proofs.Common.{◌≡◌, ◌∙◌, Bool, true, false, cond, refl, ap}
 use Rattle.amr_def.specs.declared.problem.Problem.{Problem}
-use Rattle.amr_def.specs.Facts.{IsSound}
 use Rattle.amr_def.specs.Regrid.{regrid}
 use Rattle.amr_def.specs.Run.{next, regrid_is_due, stepped}
 use Rattle.amr_def.specs.State.{State}

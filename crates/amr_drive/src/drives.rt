@@ -7,6 +7,7 @@ ghost use Rattle.amr_def.specs.Run.{finish, next};
 ghost use Rattle.amr_def.specs.State.{State};
 ghost use Rattle.amr_patch.specs.Meshes.{is_spent, levels_of, state_of};
 ghost use Rattle.amr_start.specs.PatchBoxes.{IsChopped};
+ghost use Rattle.amr_cycle.specs.Kept.{IsKept};
 ghost use Rattle.amr_drive.specs.Regrids.{RunHoldsTags};
 ghost use Rattle.amr_drive.specs.States.{states_after};
 
@@ -14,6 +15,7 @@ use crate::after::AfterStep;
 use crate::nexts::{Team, make_next};
 use amr_advance::Crew;
 use amr_causes::NoMemory;
+use amr_cycle::Kept;
 use amr_def::Problem;
 use amr_patch::Mesh;
 use amr_workers::Gate;
@@ -43,6 +45,7 @@ impl<F> From<NoMemory> for DriveFault<F> {
 fn make_step<R: Threads + Sync, G: Gate + Sync, A: AfterStep>(
     team: &Team<'_, R, G>,
     mesh: &mut Mesh,
+    kept: &mut Kept,
     after: &mut A,
 ) -> Result<(), DriveFault<A::Fault>>
     requires whole { is_spent mesh.old ≡ false }
@@ -50,6 +53,7 @@ fn make_step<R: Threads + Sync, G: Gate + Sync, A: AfterStep>(
     requires to_come { (state_of mesh.old).step < team.now.problem.now.steps }
     requires patches { All (IsChopped team.now.problem.now.max_grid_size) (levels_of mesh.old) }
     requires ready { A.ready after.old (next team.now.problem.now (state_of mesh.old)) }
+    requires kept { IsKept team.now.problem.now kept.old }
     requires one_rank { team.now.crew.ranks ≡ 1 }
     requires some_workers { 1 ≤ team.now.crew.workers }
     requires few_workers { team.now.crew.workers ≤ 64 }
@@ -59,10 +63,11 @@ fn make_step<R: Threads + Sync, G: Gate + Sync, A: AfterStep>(
     ensures whole { OnOk result (is_spent mesh.new ≡ false) }
     ensures answer { OnOk result (A.answers after.old (next team.now.problem.now (state_of mesh.old)) (Ok tt) after.new) }
     ensures ready { OnOk result ((s : State) → (next team.now.problem.now (state_of mesh.old)).step < s.step → A.ready after.old s → A.ready after.new s) }
+    ensures kept { OnOk result (IsKept team.now.problem.now kept.new) }
     ensures refused { (f : _) → IsErrOf result (DriveFault.After f) → (state_of mesh.new ≡ next team.now.problem.now (state_of mesh.old)) × (is_spent mesh.new ≡ false) × A.answers after.old (next team.now.problem.now (state_of mesh.old)) (Err f) after.new }
     ensures memory { IsErrOf result DriveFault.NoMemory → (after.new ≡ after.old) × ((is_spent mesh.new ≡ true) ⊎ ((is_spent mesh.new ≡ false) × (state_of mesh.new ≡ state_of mesh.old))) }
 {
-    make_next(team, mesh)?;
+    make_next(team, mesh, kept)?;
     match after.after(mesh) {
         Ok(()) => Ok(()),
         Err(fault) => Err(DriveFault::After(fault)),
@@ -112,8 +117,9 @@ pub fn drive<R: Threads + Sync, G: Gate + Sync, A: AfterStep>(
         crew,
         gate,
     };
+    let mut kept = Kept::nothing();
     for _step in mesh.step()..target {
-        make_step(&team, mesh, after)?;
+        make_step(&team, mesh, &mut kept, after)?;
     }
     Ok(())
 }

@@ -7,10 +7,11 @@ ghost use Rattle.amr_def.specs.Regrid.{regrid};
 ghost use Rattle.amr_def.specs.Run.{next, regrid_is_due};
 ghost use Rattle.amr_patch.specs.Meshes.{is_spent, levels_of, state_of};
 ghost use Rattle.amr_start.specs.PatchBoxes.{IsChopped};
+ghost use Rattle.amr_cycle.specs.Kept.{IsKept};
 
 use amr_advance::Crew;
 use amr_causes::NoMemory;
-use amr_cycle::step;
+use amr_cycle::{Kept, step_kept};
 use amr_def::Problem;
 use amr_patch::Mesh;
 use amr_regrid::regrid;
@@ -54,15 +55,17 @@ fn regrid_if_due(alloc: Global, p: &Problem, mesh: &mut Mesh) -> Result<(), NoMe
     }
 }
 
-/// Makes the next state of a run. After `NoMemory` the mesh is spent, or has the state of before.
+/// Makes the next state of a run. `kept` is what steps keep from one to the next. After `NoMemory` the mesh is spent, or has the state of before.
 pub(crate) fn make_next<R: Threads + Sync, G: Gate + Sync>(
     team: &Team<'_, R, G>,
     mesh: &mut Mesh,
+    kept: &mut Kept,
 ) -> Result<(), NoMemory>
     requires whole { is_spent mesh.old ≡ false }
     requires sound { IsSound team.now.problem.now (state_of mesh.old) }
     requires to_come { (state_of mesh.old).step < team.now.problem.now.steps }
     requires patches { All (IsChopped team.now.problem.now.max_grid_size) (levels_of mesh.old) }
+    requires kept { IsKept team.now.problem.now kept.old }
     requires one_rank { team.now.crew.ranks ≡ 1 }
     requires some_workers { 1 ≤ team.now.crew.workers }
     requires few_workers { team.now.crew.workers ≤ 64 }
@@ -71,8 +74,16 @@ pub(crate) fn make_next<R: Threads + Sync, G: Gate + Sync>(
     ensures sound { OnOk result (IsSound team.now.problem.now (state_of mesh.new)) }
     ensures patches { OnOk result (All (IsChopped team.now.problem.now.max_grid_size) (levels_of mesh.new)) }
     ensures whole { OnOk result (is_spent mesh.new ≡ false) }
+    ensures kept { OnOk result (IsKept team.now.problem.now kept.new) }
     ensures refused { OnErr result ((is_spent mesh.new ≡ true) ⊎ ((is_spent mesh.new ≡ false) × (state_of mesh.new ≡ state_of mesh.old))) }
 {
     regrid_if_due(team.alloc, team.problem, mesh)?;
-    step(team.runtime, team.problem, mesh, team.crew, team.gate)
+    step_kept(
+        team.runtime,
+        team.problem,
+        mesh,
+        team.crew,
+        team.gate,
+        kept,
+    )
 }

@@ -31,9 +31,9 @@ advance_kept-requires-clause-finer g c κs within =
     let k = level_of c.args.level.now in
     let fine = level_of c.args.next.now in
     let old = old_masses (option_copied c.args.old) in
-    has_finer p c.args.l k c.args.next.now c.in_ok-make.field-0 c.requires.number (fine_level p c.args.l k fine old c.requires.part) (coarse_nested p c.args.l k fine old c.requires.part) c.in_ok-make.ensures.cells c.in_ok-make.ensures.zero
+    has_finer p c.args.l k c.args.next.now c.in_ok-before.field-0.register c.requires.number (fine_level p c.args.l k fine old c.requires.part) (coarse_nested p c.args.l k fine old c.requires.part) c.in_ok-before.ensures.below.register c.in_ok-before.ensures.zero
 
 pub returns-clause-register : goal.returns-clause-register
 returns-clause-register g c =
-    lost c.args.team.now.problem.now c.args.l (level_of c.args.level.now) (level_of c.args.next.now) (old_masses (option_copied c.args.old)) c.in_ok-make.field-0 c.take.result c.in_ok-make.ensures.cells c.in_ok-make.ensures.zero
-    (subst (λ (s : Option Register). BothChange (taken c.args.team.now.problem.now c.args.l (level_of c.args.level.now).masses (old_masses (option_copied c.args.old)) (level_of c.args.next.now).masses) (Some c.in_ok-make.field-0) s) (sym c.take.ensures.value) c.in_ok-advance_kept.ensures.finer)
+    lost c.args.team.now.problem.now c.args.l (level_of c.args.level.now) (level_of c.args.next.now) (old_masses (option_copied c.args.old)) c.in_ok-before.field-0.register c.take.result c.in_ok-before.ensures.below.register c.in_ok-before.ensures.zero
+    (subst (λ (s : Option Register). BothChange (taken c.args.team.now.problem.now c.args.l (level_of c.args.level.now).masses (old_masses (option_copied c.args.old)) (level_of c.args.next.now).masses) (Some c.in_ok-before.field-0.register) s) (sym c.take.ensures.value) c.in_ok-advance_kept.ensures.finer)

@@ -1,43 +1,7 @@
-use Rattle.std.proofs.Common.{◌≡◌, ◌+◌, List, length, map, sym, ap, subst, ◌∙◌, arith}
-use Rattle.std.proofs.lemmas.List.{with_items_is}
-use Rattle.amr_def.specs.declared.problem.Row.{Row}
-use Rattle.amr_def.specs.Facts.{IsSound}
-use Rattle.amr_def.specs.Run.{stepped}
-use Rattle.amr_def.specs.State.{State}
-use Rattle.amr_def.proofs.SoundStep.{step-sound}
-use Rattle.amr_patch.specs.declared.levels.Level.{Level as Held}
-use Rattle.amr_patch.specs.Levels.{level_of}
-use Rattle.amr_patch.specs.Meshes.{state_of}
-use Rattle.amr_cycle.proofs.Coarsenable.{same_count}
-use Rattle.amr_cycle.proofs.StateSteps.{adds, is_stepped, subtracts}
-use Rattle.amr_cycle.proofs.steps.step.Given as given
+use Rattle.std.proofs.Common.{sym, subst}
+use Rattle.std.specs.Prelude.{IfSome}
+use Rattle.amr_cycle.specs.Kept.{AreKept}
 use Rattle.amr_cycle.proofs.steps.step.Goals as goal
 
-pub overflow_add-last : goal.overflow_add-last
-overflow_add-last g c =
-    let small = adds c.args.p.now (state_of c.args.mesh.now) c.requires.sound c.step-number.result c.step-number.ensures c.take-rows.result.0.items c.take-rows.ensures.rows (map level_of c.as_mut_slice.result.now) (ap (map level_of) c.as_mut_slice.ensures.value ∙ c.take-rows.ensures.levels)
-    c.index-last.result.now c.index-last.ensures c.in_ok-flows.flows.inflow c.in_ok-flows.flows.outflow c.in_ok-flows.ensures.inflow c.in_ok-flows.ensures.outflow c.requires.to_come in
-    omega (arith, small)
-
-pub overflow_sub-last : goal.overflow_sub-last
-overflow_sub-last g c =
-    subtracts c.args.p.now (state_of c.args.mesh.now) c.requires.sound c.step-number.result c.step-number.ensures c.take-rows.result.0.items c.take-rows.ensures.rows (map level_of c.as_mut_slice.result.now) (ap (map level_of) c.as_mut_slice.ensures.value ∙ c.take-rows.ensures.levels)
-    c.index-last.result.now c.index-last.ensures c.in_ok-flows.flows.inflow c.in_ok-flows.flows.outflow c.in_ok-flows.ensures.inflow c.in_ok-flows.ensures.outflow
-
-value_of : (g : given.Over) (c : goal.After-drop-mesh-2 g) → state_of c.of.result ≡ stepped c.args.p.now (state_of c.args.mesh.now)
-value_of g c =
-    let with_levels : List Held → State = λ hs. record { step = c.step-number.result + 1; rows = c.push.new.self.items; levels = map level_of hs } in
-    let with_rows : List Row → State = λ rs. record { step = c.step-number.result + 1; rows = rs; levels = map level_of c.step_all.new.levels } in
-    let count = same_count c.step_all.new.levels c.as_mut_slice.result.now c.in_ok-flows.ensures.patches in
-    let levels = with_items_is c.take-rows.result.1 c.step_all.new.levels (omega (arith, count, ap length c.as_mut_slice.ensures.value)) in
-    c.of.ensures.state
-    ∙ ap with_levels levels
-    ∙ ap with_rows c.in_ok-push.ensures.items
-    ∙ is_stepped c.args.p.now (state_of c.args.mesh.now) c.requires.sound c.step-number.result c.step-number.ensures c.take-rows.result.0.items c.take-rows.ensures.rows (map level_of c.as_mut_slice.result.now) (ap (map level_of) c.as_mut_slice.ensures.value ∙ c.take-rows.ensures.levels)
-    c.index-last.result.now c.index-last.ensures c.in_ok-flows.flows.inflow c.in_ok-flows.flows.outflow c.in_ok-flows.ensures.inflow c.in_ok-flows.ensures.outflow (map level_of c.step_all.new.levels) c.in_ok-flows.ensures.levels
-
-pub returns-clause-value : goal.returns-clause-value
-returns-clause-value g c = value_of g c
-
-pub returns-clause-sound : goal.returns-clause-sound
-returns-clause-sound g c = subst (IsSound c.args.p.now) (sym (value_of g c)) (step-sound c.args.p.now (state_of c.args.mesh.now) c.requires.sound c.requires.to_come)
+pub step_kept-requires-clause-kept : goal.step_kept-requires-clause-kept
+step_kept-requires-clause-kept g c κs within = record { levels = subst (λ ks. IfSome ks (λ xs. AreKept c.args.p.now 0 xs.items)) (sym c.nothing.ensures) tt }

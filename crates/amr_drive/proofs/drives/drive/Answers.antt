@@ -1,8 +1,9 @@
-use Rattle.std.proofs.Common.{◌≡◌, ◌∙◌, ◌⊎◌, inl, inr, ℕ, suc, ◌+◌, ◌-◌, ◌<◌, ◌≤◌, List, Ok, Err, sym, ap, subst, arith, false, true}
-use Rattle.std.specs.Prelude.{IsErrAnd, Result}
+use Rattle.std.proofs.Common.{◌≡◌, ◌∙◌, ◌⊎◌, inl, inr, suc, ◌+◌, ◌-◌, ◌≤◌, List, Ok, Err, sym, ap, subst, arith, false, true}
+use Rattle.std.specs.Prelude.{IfSome}
 use Rattle.amr_def.specs.State.{State}
 use Rattle.amr_def.specs.Facts.{IsSound}
 use Rattle.amr_def.specs.Run.{finish, next}
+use Rattle.amr_cycle.specs.Kept.{AreKept}
 use Rattle.amr_patch.specs.Meshes.{is_spent, state_of}
 use Rattle.amr_drive.specs.States.{states_after}
 use Rattle.amr_drive.specs.declared.drives.DriveFault.TheVariants.{After, NoMemory}
@@ -16,6 +17,7 @@ loop-step-init g c =
     record {
       whole = c.requires.whole;
       value = sym (finish_here p s c.step-step.result (sym c.step-step.ensures));
+      kept = record { levels = subst (λ ks. IfSome ks (λ xs. AreKept p 0 xs.items)) (sym c.nothing-kept.ensures) tt };
       patches = c.requires.patches;
       made = subst (λ (ss : List State). g.A.AfterStep.made c.args.after.now ss (Ok tt) c.args.after.now) (sym (none_after p s c.step-step.result c.step-step.ensures)) (g.met.A.AfterStep.made_none c.args.after.now);
       ready = λ k more upto. c.requires.ready k (omega (arith, c.step-step.ensures, more)) upto;
@@ -36,6 +38,9 @@ make_step-requires-clause-to_come g c κs within =
 
 pub make_step-requires-clause-patches : goal.make_step-requires-clause-patches
 make_step-requires-clause-patches g c κs within = c.loop-step.invariant.patches
+
+pub make_step-requires-clause-kept : goal.make_step-requires-clause-kept
+make_step-requires-clause-kept g c κs within = c.loop-step.invariant.kept
 
 pub make_step-requires-clause-ready : goal.make_step-requires-clause-ready
 make_step-requires-clause-ready g c κs within =
@@ -92,6 +97,7 @@ loop-step-preserved g c =
     record {
       whole = said.whole;
       value = said.value ∙ state;
+      kept = said.kept;
       patches = said.patches;
       made = subst (λ (ss : List State). g.A.AfterStep.made c.args.after.now ss (Ok tt) c.make_step.new.after) (after_more p s k (next p (state_of c.loop-step.mesh)) from state ∙ ap (states_after p s) count)
           (g.met.A.AfterStep.made_more c.args.after.now c.loop-step.after c.make_step.new.after (states_after p s (k - s.step)) (next p (state_of c.loop-step.mesh)) (Ok tt) c.loop-step.invariant.made said.answer);

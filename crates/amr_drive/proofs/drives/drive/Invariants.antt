@@ -3,6 +3,7 @@ use Rattle.std.specs.List.{All}
 use Rattle.amr_def.specs.Run.{finish}
 use Rattle.amr_patch.specs.Meshes.{is_spent, levels_of, state_of}
 use Rattle.amr_start.specs.PatchBoxes.{IsChopped}
+use Rattle.amr_cycle.specs.Kept.{IsKept}
 use Rattle.amr_drive.specs.States.{states_after}
 use Rattle.amr_drive.proofs.drives.drive.Given as goal
 
@@ -11,6 +12,7 @@ abbrev pub invariant-loop-step : goal.invariant-loop-step
 invariant-loop-step g l = record {
   whole : is_spent l.mesh ≡ false;
   value : state_of l.mesh ≡ finish l.p (state_of l.fn.mesh) l._step;
+  kept : IsKept l.p l.kept;
   patches : All (IsChopped l.p.max_grid_size) (levels_of l.mesh);
   made : g.A.AfterStep.made l.fn.after (states_after l.p (state_of l.fn.mesh) (l._step - (state_of l.fn.mesh).step)) (Ok tt) l.after;
   ready : (k : ℕ) → l._step < k → k ≤ l.target → g.A.AfterStep.ready l.after (finish l.p (state_of l.fn.mesh) k);

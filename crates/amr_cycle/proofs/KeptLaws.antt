@@ -1,0 +1,68 @@
+-- What is kept serves levels with the same boxes.
+use Rattle.std.proofs.Common.{◌≡◌, ◌∙◌, ℕ, zero, suc, ◌+◌, ℤ, List, ◌∷◌, get_or, map, refl, sym, ap, subst, arith}
+use Rattle.std.specs.Prelude.{is_some, IfSome}
+use Rattle.std.specs.declared.option.Option.{Option}
+use Rattle.std.specs.declared.option.Option.TheVariants.{None, Some}
+use Rattle.std.specs.Global.{Vec}
+use Rattle.amr_box.specs.declared.Cell.{Cell}
+use Rattle.amr_box.specs.Cells.{Extent}
+use Rattle.amr_def.specs.declared.problem.Problem.{Problem}
+use Rattle.amr_def.specs.State.{Level, in_boxes}
+use Rattle.amr_patch.specs.declared.levels.Level.{Level as Held}
+use Rattle.amr_patch.specs.declared.patches.Patch.{Patch}
+use Rattle.amr_patch.specs.Levels.{level_of}
+use Rattle.amr_patch.specs.Patches.{box, masses_in}
+use Rattle.amr_alike.proofs.SameBoxes.{some_in_boxes}
+use Rattle.amr_register.specs.declared.register.Register.{Register}
+use Rattle.amr_register.specs.Registers.{SameCells}
+use Rattle.amr_register.proofs.SameCells.{same_register}
+use Rattle.amr_advance.proofs.CoarseParts.{register_kept}
+use Rattle.amr_cycle.specs.declared.kept.KeptBelow.{KeptBelow}
+use Rattle.amr_cycle.specs.declared.kept.KeptLevel.{KeptLevel}
+use Rattle.amr_cycle.specs.Cycles.{SomeHasEntries}
+use Rattle.amr_cycle.specs.Kept.{AreKept, IsBelow, IsKeptBelow, IsKeptLevel, IsOnSameBoxes}
+use Rattle.amr_cycle.proofs.Cycling.{same_level}
+
+-- the cells of a level are those of its patches' boxes
+pub cells_alike : (a b : Held) (ps qs : List Patch) → (level_of a).masses ≡ masses_in ps → (level_of b).masses ≡ masses_in qs → map box ps ≡ map box qs → (c : Cell) → is_some ((level_of a).masses c) ≡ is_some ((level_of b).masses c)
+cells_alike a b ps qs of_a of_b same c = some_in_boxes (level_of a).masses ps (map box qs) of_a same c ∙ sym (some_in_boxes (level_of b).masses qs (map box qs) of_b refl c)
+
+-- brought up to date, what was kept is what both finer steps stand on
+pub renewed : (p : Problem) (l : ℕ) (b b' : KeptBelow) (level next : Held) → IsKeptBelow p l b → IsOnSameBoxes b level next
+    → (level_of b'.before).masses ≡ (level_of level).masses → (level_of b'.before).boxes ≡ (level_of b.before).boxes → b'.finer ≡ b.finer → SameCells b.register b'.register → IsBelow p l (level_of level) (level_of next) b'
+renewed p l b b' level next kept on masses boxes finer register = record {
+  before = same_level (level_of b'.before) (level_of level) (boxes ∙ on.boxes) masses;
+  finer = λ c. on.finer c ∙ ap (λ bs. in_boxes bs.items c) (sym finer);
+  register =
+      let fine_cells : (c : Cell) → is_some ((level_of next).masses c) ≡ is_some (kept.fine.masses c) = λ c. on.finer c ∙ sym (kept.below.finer c) in
+      let coarse_cells : (c : Cell) → is_some ((level_of level).masses c) ≡ is_some (kept.level.masses c) = λ c. on.cells c ∙ ap (λ (k : Level). is_some (k.masses c)) kept.below.before in
+      same_register p l kept.level.masses kept.fine.masses (level_of level).masses (level_of next).masses b'.register coarse_cells fine_cells
+      (register_kept p l kept.level.masses kept.fine.masses b.register b'.register register kept.below.register);
+}
+
+-- ---- lists
+
+pub kept_first : (p : Problem) (l : ℕ) (k : KeptLevel) (ks ls : List KeptLevel) → ls ≡ k ∷ ks → AreKept p l ls → IsKeptLevel p l k
+kept_first p l k ks ls is h = subst (λ n. IsKeptLevel p n k) (let e : l + 0 ≡ l = omega arith in e) (subst (AreKept p l) is h 0 k (omega arith))
+
+pub kept_rest : (p : Problem) (l : ℕ) (k : KeptLevel) (ks ls : List KeptLevel) → ls ≡ k ∷ ks → AreKept p l ls → AreKept p (l + 1) ks
+kept_rest p l k ks ls is h n d lt = subst (λ i. IsKeptLevel p i (get_or ks n d)) (let e : l + suc n ≡ l + 1 + n = omega arith in e) (subst (AreKept p l) is h (suc n) d (omega (arith, lt)))
+
+pub kept_all : (p : Problem) (l : ℕ) (k : KeptLevel) (ks : List KeptLevel) → IsKeptLevel p l k → AreKept p (l + 1) ks → AreKept p l (k ∷ ks)
+kept_all p l k ks first rest zero d lt = subst (λ n. IsKeptLevel p n k) (let e : l ≡ l + 0 = omega arith in e) first
+kept_all p l k ks first rest (suc n) d lt = subst (λ i. IsKeptLevel p i (get_or ks n d)) (let e : l + 1 + n ≡ l + suc n = omega arith in e) (rest n d (omega (arith, lt)))
+
+-- ---- what is left when both finer steps are made
+
+pub all_below_after : (p : Problem) (l : ℕ) (k fine : Level) (e : Cell → ℤ) (o : Option KeptBelow) (before : Held) (finer : Vec Extent) (r : Option Register) → level_of before ≡ k → ((c : Cell) → is_some (fine.masses c) ≡ in_boxes finer.items c)
+    → IfSome o (λ b. (b.before ≡ before) × (b.finer ≡ finer) × (Some b.register ≡ r)) → SomeHasEntries p l k.masses fine.masses e r → IfSome o (IsKeptBelow p l)
+all_below_after p l k fine e None before finer r is cells same has = tt
+all_below_after p l k fine e (Some b) before finer r is cells same has = record {
+  level = k;
+  fine = fine;
+  below = record {
+    before = ap level_of same.0 ∙ is;
+    finer = λ c. cells c ∙ ap (λ (v : Vec Extent). in_boxes v.items c) (sym same.1);
+    register = (subst (SomeHasEntries p l k.masses fine.masses e) (sym same.2) has).of_levels;
+  };
+}
