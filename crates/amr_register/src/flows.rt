@@ -3,7 +3,7 @@
 ghost use Rattle.std.specs.Prelude.{◌≡◌, ℕ, ◌<◌, ◌≤◌, ◌^◌, ◌-ℤ◌, ◌<ℤ◌, cond, pos, negsuc, length, slice_index_or, unsigned_abs, IsTrue};
 ghost use Rattle.std.specs.List.{All};
 ghost use Rattle.amr_box.specs.declared.Cell.{Cell};
-ghost use Rattle.amr_def.specs.Domain.{domain, in_domain};
+ghost use Rattle.amr_def.specs.Domain.{domain, domain_of, home_cell, in_domain};
 ghost use Rattle.amr_def.specs.Flux.{high_cell};
 ghost use Rattle.amr_patch.specs.Patches.{box};
 ghost use Rattle.amr_flux.specs.Faces.{IsInDomain};
@@ -16,7 +16,7 @@ ghost use Rattle.amr_register.specs.CoarseFlows.{high_face, low_face, net_over, 
 use crate::rows::{Span, span_below, span_in_rows};
 use crate::sides::CoveredSides;
 use amr_box::{Axis, Cell, Face};
-use amr_def::Problem;
+use amr_def::{Dom, Problem};
 use amr_flux::face_flux;
 use amr_patch::Patch;
 
@@ -64,7 +64,19 @@ fn high_face(axis: Axis, c: Cell) -> Face
     }
 }
 
+/// The cell of the domain that a cell stands for. Most are of the domain, and stand for themselves.
+#[inline(always)]
+fn home_of(dom: &Dom, c: Cell) -> Cell
+    ensures { result ≡ home_cell (domain_of dom.now) c }
+{
+    if dom.in_domain(c) {
+        return c;
+    }
+    dom.home_cell(c)
+}
+
 /// The flow through a face that the patch owns, if it counts; 0 through any other.
+#[inline(always)]
 fn owned_flow(p: &Problem, l: u32, patch: &Patch, counts: bool, f: Face) -> i64
     requires level { l ≤ 4 }
     requires inside { IsInDomain (domain p.now l) (box patch.now) }
@@ -75,7 +87,7 @@ fn owned_flow(p: &Problem, l: u32, patch: &Patch, counts: bool, f: Face) -> i64
     if !counts {
         return 0;
     }
-    let high = p.domain(l).home_cell(high_cell(f));
+    let high = home_of(&p.domain(l), high_cell(f));
     if !patch.bx().holds(high) {
         return 0;
     }
