@@ -5,6 +5,7 @@ from __future__ import annotations
 import re
 import subprocess
 import sys
+import tempfile
 import tomllib
 from collections.abc import Iterator
 from pathlib import Path
@@ -22,6 +23,8 @@ PROGRAM = Path(__file__).resolve().parents[2] / "amr"
 STEPS = re.compile(r"^[ \t]*steps[ \t]*=[ \t]*[0-9_]+", re.MULTILINE)
 # what the program says of words that are none of its own
 USAGE = 2
+# a checkpoint at the step that a run goes to, and at no other of a movie's
+AT_ITS_END = "4096"
 
 
 def steps_of(path: Path) -> tuple[str, int]:
@@ -38,10 +41,10 @@ def steps_of(path: Path) -> tuple[str, int]:
     return text, steps
 
 
-def plot_after(program: str, text: str, words: list[str]) -> Plot | None:
-    """The plot that the program writes; None where it takes no such words."""
+def plot_after(program: str, text: str, words: list[str], folder: str | None = None) -> Plot | None:
+    """The plot that the program writes, run in a folder; None where it takes no such words."""
     try:
-        done = subprocess.run([program, "run", *words], input=text.encode(), capture_output=True)
+        done = subprocess.run([program, "run", *words], input=text.encode(), capture_output=True, cwd=folder)
     except OSError as fault:
         raise Refusal(f"{program}: {fault.strerror}") from None
     if done.returncode == USAGE and words:
@@ -55,22 +58,34 @@ def plot_after(program: str, text: str, words: list[str]) -> Plot | None:
         raise Refusal(f"{program}: {fault}") from None
 
 
-def plots_of_run(program: str, path: Path, every: int) -> list[Plot]:
-    """The plots of the steps 0, `every`, twice `every` and so on, and of the last step.
+def plot_of_step(program: str, text: str, k: int, folder: str) -> Plot | None:
+    """The plot of a step.
 
-    Each is a run of its own: by `--to` where the program has it, else of the problem with fewer steps, which is the same
-    state, since nothing of a step depends on how many follow it.
+    The run goes on from the checkpoint of the last one, in the store of a folder, where the program keeps checkpoints. Else it
+    starts anew, by `--to` where the program has it. Else it is that of the problem with fewer steps, which is the same state,
+    since nothing of a step depends on how many follow it.
     """
+    to = ["--to", str(k)]
+    return (
+        plot_after(program, text, [*to, "--keep", AT_ITS_END], folder)
+        or plot_after(program, text, to)
+        or plot_after(program, STEPS.sub(f"steps = {k}", text, count=1), [])
+    )
+
+
+def plots_of_run(program: str, path: Path, every: int) -> list[Plot]:
+    """The plots of the steps 0, `every`, twice `every` and so on, and of the last step. Each is a run of its own."""
     text, steps = steps_of(path)
+    if "/" in program:
+        program = str(Path(program).resolve())
     wanted = sorted({*range(0, steps + 1, every), steps})
     plots = []
-    for k in progress(wanted):
-        plot = plot_after(program, text, ["--to", str(k)])
-        if plot is None:
-            plot = plot_after(program, STEPS.sub(f"steps = {k}", text, count=1), [])
-        if plot is None or plot.step != k:
-            raise Refusal(f"{program}: no plot of step {k}")
-        plots.append(plot)
+    with tempfile.TemporaryDirectory() as folder:
+        for k in progress(wanted):
+            plot = plot_of_step(program, text, k, folder)
+            if plot is None or plot.step != k:
+                raise Refusal(f"{program}: no plot of step {k}")
+            plots.append(plot)
     return plots
 
 

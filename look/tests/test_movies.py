@@ -8,14 +8,22 @@ import pytest
 from conftest import LOOK
 from PIL import Image
 
-# what stands for amr: one cell's mass goes round a ring, by the number of steps
+# what stands for amr: one cell's mass goes round a ring, by the number of steps. Where it keeps checkpoints it tells in the file
+# `made` how many steps each run made.
 PROGRAM = """#!{python}
-import sys, tomllib
+import pathlib, sys, tomllib
 text = sys.stdin.read()
 words = sys.argv[1:]
-if words[0] != "run" or (len(words) > 1 and not {knows_to}):
+if words[0] != "run" or any(word.startswith("--") and word not in {knows} for word in words):
     sys.exit(2)
 steps = int(words[2]) if len(words) > 1 else tomllib.loads(text)["steps"]
+if "--keep" in words:
+    store = pathlib.Path("mesh.store")
+    last = int(store.read_text()) if store.exists() else 0
+    store.write_text(str(steps))
+    with open({made!r}, "a") as made:
+        print(steps - last, file=made)
+    print("checkpoint", steps, file=sys.stderr)
 print("amr-plot 1\\nname ring\\nstep", steps)
 for k in range(steps + 1):
     print("ledger", k, "8 0 0")
@@ -26,10 +34,10 @@ print("0 0 0 0\\nend")
 PROBLEM = 'version = 1\nname = "ring"\ncells = [4, 2]\nsteps = 7 # seven\ncourant = [1, 0, 1]\n'
 
 
-@pytest.fixture(params=[True, False], ids=["with --to", "without --to"])
+@pytest.fixture(params=[["--to", "--keep"], ["--to"], []], ids=["with checkpoints", "with --to", "without --to"])
 def program(request, tmp_path) -> Path:
     path = tmp_path / "program"
-    path.write_text(PROGRAM.format(python=sys.executable, knows_to=request.param))
+    path.write_text(PROGRAM.format(python=sys.executable, knows=request.param, made=str(tmp_path / "made")))
     path.chmod(0o755)
     return path
 
@@ -48,6 +56,10 @@ def test_a_movie_has_a_frame_for_each_step_asked_for(program, tmp_path):
         # the steps 0, 3, 6 and 7
         assert film.n_frames == 4
         assert min(film.size) > 200
+    made = tmp_path / "made"
+    if made.exists():
+        # each run goes on from the last one's checkpoint
+        assert made.read_text().split() == ["0", "3", "3", "1"]
 
 
 def test_what_the_program_refuses_is_told(tmp_path):
