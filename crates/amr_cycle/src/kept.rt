@@ -7,7 +7,7 @@ ghost use Rattle.amr_def.specs.Facts.{IsLevel, IsNestedLevel};
 ghost use Rattle.amr_patch.specs.Levels.{level_of, patches_of};
 ghost use Rattle.amr_patch.specs.Patches.{box};
 ghost use Rattle.amr_register.specs.Registers.{SameCells, entry_in};
-ghost use Rattle.amr_cycle.specs.Kept.{AreKept, IsBelow, IsKeptBelow, IsOnSameBoxes};
+ghost use Rattle.amr_cycle.specs.Kept.{AreKept, IsBelow, IsKept, IsKeptBelow, IsOnSameBoxes};
 
 use amr_advance::KeptLayout;
 use amr_alike::{are_same, boxes_of, copy_masses, have_boxes, have_same_boxes};
@@ -42,9 +42,9 @@ pub struct Kept {
 }
 
 impl Kept {
-    /// Nothing yet.
+    /// Nothing yet, of any problem.
     pub const fn nothing() -> Kept
-        ensures { result.levels ≡ None }
+        ensures { (p : Problem) → IsKept p result }
     {
         Kept { levels: None }
     }

@@ -113,14 +113,7 @@ fn step_coarse<R: Threads + Sync, G: Gate + Sync>(
         before,
         finer,
         register,
-    } = below_for(
-        team.alloc,
-        team.problem,
-        l,
-        level,
-        next,
-        &mut own.below,
-    )?;
+    } = below_for(team.alloc, team.problem, l, level, next, &mut own.below)?;
     regs.finer = Some(register);
     advance_kept(
         &team.workers,

@@ -96,8 +96,8 @@ pub fn step<R: Threads + Sync, G: Gate + Sync>(
     step_kept(rt, p, mesh, crew, gate, &mut Kept::nothing())
 }
 
-/// The same as `step`, for a run of many steps: what depends on boxes alone is taken from `kept`, and left there for the next step. What
-/// no longer fits the boxes is made anew. `kept` is of the same problem; after `NoMemory` it is only dropped.
+/// The same as `step`, for a run of many steps: what depends on boxes alone is taken from `kept`, and left there for the next step.
+/// What no longer fits the boxes is made anew. `kept` is of the same problem; after `NoMemory` it is only dropped.
 pub fn step_kept<R: Threads + Sync, G: Gate + Sync>(
     rt: &R,
     p: &Problem,

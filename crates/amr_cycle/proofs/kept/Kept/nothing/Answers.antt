@@ -1,0 +1,4 @@
+use Rattle.amr_cycle.proofs.kept.Kept.nothing.Goals as goal
+
+pub returns : goal.returns
+returns c = λ p. record { levels = tt }
