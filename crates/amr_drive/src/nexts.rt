@@ -55,7 +55,8 @@ fn regrid_if_due(alloc: Global, p: &Problem, mesh: &mut Mesh) -> Result<(), NoMe
     }
 }
 
-/// Makes the next state of a run. `kept` is what steps keep from one to the next. After `NoMemory` the mesh is spent, or has the state of before.
+/// Makes the next state of a run. `kept` is what steps keep from one to the next. After `NoMemory` the mesh is spent, or has the
+/// state of before.
 pub(crate) fn make_next<R: Threads + Sync, G: Gate + Sync>(
     team: &Team<'_, R, G>,
     mesh: &mut Mesh,
@@ -78,12 +79,5 @@ pub(crate) fn make_next<R: Threads + Sync, G: Gate + Sync>(
     ensures refused { OnErr result ((is_spent mesh.new ≡ true) ⊎ ((is_spent mesh.new ≡ false) × (state_of mesh.new ≡ state_of mesh.old))) }
 {
     regrid_if_due(team.alloc, team.problem, mesh)?;
-    step_kept(
-        team.runtime,
-        team.problem,
-        mesh,
-        team.crew,
-        team.gate,
-        kept,
-    )
+    step_kept(team.runtime, team.problem, mesh, team.crew, team.gate, kept)
 }

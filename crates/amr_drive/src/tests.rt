@@ -1,14 +1,18 @@
-//! The start of a problem that is refined twice.
+//! The start of a problem that is refined twice, and steps by two workers.
 
 ghost use Rattle.std.specs.Prelude.{◌≤◌};
 
 use super::*;
+use amr_advance::Crew;
 use amr_box::Cell;
 use amr_causes::NoMemory;
 use amr_def::{Block, Blocks, Name, Problem, Shear, Sides, Thresholds};
 use amr_patch::Level;
+use amr_workers::Gate;
 use std::alloc::Global;
+use std::sync::atomic::{AtomicBool, Ordering};
 use std::test::Fail;
+use std::thread;
 
 const BLOCK: Block = Block {
     x0: 0,
@@ -92,5 +96,108 @@ fn start_of_three_levels(rt: HostRuntime) -> Result<(), Fail> {
     );
     assert_eq!(rt; counts(&levels, 1), (1, 1));
     assert_eq!(rt; counts(&levels, 2), (1, 4));
+    Ok(())
+}
+
+/// A ring of 9 by 3 cells on one level, in patches of at most 4 by 4, with a mass of 8 in cell (8, 0). In each of its two steps all
+/// that a cell has flows one column on.
+fn nine_columns(alloc: Global) -> Result<Problem, Fail> {
+    let block = Block {
+        x0: 8,
+        y0: 0,
+        x1: 8,
+        y1: 0,
+        mass: 8,
+    };
+    Ok(Problem {
+        version: 1,
+        name: Name::make(Vec::from_slice(alloc, b"ring")?),
+        nx: 9,
+        ny: 3,
+        steps: 2,
+        cx: 1,
+        cy: 0,
+        d: 1,
+        shear_x: Shear::make(Vec::new(alloc)),
+        shear_y: Shear::make(Vec::new(alloc)),
+        x_sides: Sides::Periodic,
+        y_sides: Sides::Periodic,
+        max_level: 0,
+        tag: Thresholds::make(Vec::new(alloc)),
+        n_error_buf: 0,
+        efficiency: 70,
+        min_width: 2,
+        regrid_int: 2,
+        blocking: 2,
+        max_grid_size: 4,
+        blocks: Blocks::make(Vec::from_slice(alloc, [block].as_slice())?),
+    })
+}
+
+/// How often a worker at the gate looks whether it may go on.
+const TURNS: u32 = 10_000_000;
+
+/// Holds whoever comes first until another task is done, for so many turns at most.
+#[derive(Drop)]
+struct Turnstile {
+    entered: AtomicBool,
+    left: AtomicBool,
+    waited_in_vain: AtomicBool,
+}
+
+impl Gate for Turnstile {
+    ghost admits = { λ _ _ _. Unit {0} };
+
+    fn enter(&self, _worker: u32, _task: u32) {
+        if self.entered.swap(true, Ordering::SeqCst) {
+            return;
+        }
+        for _ in 0..TURNS {
+            if self.left.load(Ordering::SeqCst) {
+                return;
+            }
+            thread::yield_now();
+        }
+        self.waited_in_vain.store(true, Ordering::SeqCst);
+    }
+
+    fn leave(&self, _worker: u32, _task: u32) {
+        self.left.store(true, Ordering::SeqCst);
+    }
+}
+
+/// The first task is held until another is done, so a second worker takes part; the mass is two columns on all the same.
+#[test]
+fn second_task_first(rt: HostRuntime) -> Result<(), Fail> {
+    let alloc = rt.alloc();
+    let p = nine_columns(alloc)?;
+    let mut mesh = start(alloc, &p)?;
+    let crew = Crew {
+        ranks: 1,
+        workers: 2,
+    };
+    let gate = Turnstile {
+        entered: AtomicBool::new(false),
+        left: AtomicBool::new(false),
+        waited_in_vain: AtomicBool::new(false),
+    };
+    let target = p.steps;
+    let ahead = mesh.step() <= target;
+    assert!(rt; ahead);
+    if ahead {
+        let driven = drive(&rt, alloc, &p, &mut mesh, target, crew, &gate, &mut Nothing);
+        let done = driven.is_ok();
+        assert!(rt; done);
+        if done {
+            let (rows, levels) = mesh.take();
+            assert_eq!(rt; rows.len(), 3);
+            assert_eq!(rt;
+                row(alloc, &levels, 0, 0, 9)?.as_slice(),
+                [0, 8, 0, 0, 0, 0, 0, 0, 0].as_slice()
+            );
+        }
+    }
+    assert!(rt; gate.entered.load(Ordering::SeqCst));
+    assert!(rt; !gate.waited_in_vain.load(Ordering::SeqCst));
     Ok(())
 }

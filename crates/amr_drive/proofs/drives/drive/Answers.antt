@@ -1,9 +1,7 @@
 use Rattle.std.proofs.Common.{◌≡◌, ◌∙◌, ◌⊎◌, inl, inr, suc, ◌+◌, ◌-◌, ◌≤◌, List, Ok, Err, sym, ap, subst, arith, false, true}
-use Rattle.std.specs.Prelude.{IfSome}
 use Rattle.amr_def.specs.State.{State}
 use Rattle.amr_def.specs.Facts.{IsSound}
 use Rattle.amr_def.specs.Run.{finish, next}
-use Rattle.amr_cycle.specs.Kept.{AreKept}
 use Rattle.amr_patch.specs.Meshes.{is_spent, state_of}
 use Rattle.amr_drive.specs.States.{states_after}
 use Rattle.amr_drive.specs.declared.drives.DriveFault.TheVariants.{After, NoMemory}
@@ -17,7 +15,7 @@ loop-step-init g c =
     record {
       whole = c.requires.whole;
       value = sym (finish_here p s c.step-step.result (sym c.step-step.ensures));
-      kept = record { levels = subst (λ ks. IfSome ks (λ xs. AreKept p 0 xs.items)) (sym c.nothing-kept.ensures) tt };
+      kept = c.nothing-kept.ensures p;
       patches = c.requires.patches;
       made = subst (λ (ss : List State). g.A.AfterStep.made c.args.after.now ss (Ok tt) c.args.after.now) (sym (none_after p s c.step-step.result c.step-step.ensures)) (g.met.A.AfterStep.made_none c.args.after.now);
       ready = λ k more upto. c.requires.ready k (omega (arith, c.step-step.ensures, more)) upto;
