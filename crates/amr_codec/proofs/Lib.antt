@@ -1,4 +1,3 @@
 mod Appending
-pub mod Corners
 mod Domains
 mod Entries

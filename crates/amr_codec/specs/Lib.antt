@@ -1,2 +1,1 @@
 pub mod MassWidths
-pub mod Masses

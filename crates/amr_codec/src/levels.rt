@@ -10,7 +10,7 @@ ghost use Rattle.amr_def.specs.State.{no_level};
 ghost use Rattle.amr_patch.specs.Levels.{level_of};
 ghost use Rattle.amr_payload.specs.Payload.{box_bytes, level_bytes};
 ghost use Rattle.amr_codec.specs.MassWidths.{width_of};
-ghost use Rattle.amr_codec.specs.Masses.{HasCellsOf};
+ghost use Rattle.amr_patch.specs.BoxRows.{HasCellsOf};
 
 use crate::numbers::{MassWidth, put_corners, put_count_of_boxes};
 use crate::rows::put_rows;

@@ -10,7 +10,6 @@ mod sizes;
 
 pub use encoders::{encode, encode2};
 pub use numbers::MassWidth;
-pub use rows::{cell_in, masses_from};
 pub use sizes::{slot_size, slot_size2};
 
 #[cfg(test)]

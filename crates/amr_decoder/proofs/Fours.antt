@@ -8,7 +8,7 @@ use Rattle.std.proofs.lemmas.Bool.{cases_lt}
 use Rattle.std.proofs.lemmas.Int.{ints}
 use Rattle.amr_box.specs.Cells.{Extent, HasCorners, cell, child, half}
 use Rattle.amr_box.proofs.CellEquality.{same_cell}
-use Rattle.amr_codec.specs.Masses.{HasCellsOf, mass_in}
+use Rattle.amr_patch.specs.BoxRows.{HasCellsOf, mass_in}
 use Rattle.amr_def.specs.State.{children_mass, mass_of}
 use Rattle.amr_def.specs.Facts.{IsAligned}
 use Rattle.amr_def.specs.Limits.{is_blocking}

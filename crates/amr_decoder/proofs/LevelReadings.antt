@@ -9,7 +9,7 @@ use Rattle.std.proofs.lemmas.List.{get_or-drop}
 use Rattle.amr_codec.specs.declared.numbers.MassWidth.{MassWidth}
 use Rattle.amr_codec.specs.declared.numbers.MassWidth.TheVariants.{Four, Eight}
 use Rattle.amr_codec.specs.MassWidths.{width_of}
-use Rattle.amr_codec.proofs.Corners.{corners}
+use Rattle.amr_patch.proofs.Corners.{corners}
 use Rattle.amr_def.specs.declared.problem.Problem.{Problem}
 use Rattle.amr_def.specs.Domain.{domain, domain_box}
 use Rattle.amr_def.specs.Facts.{IsAligned, IsLevel}

@@ -4,7 +4,7 @@ use Rattle.std.specs.Prelude.{is_some}
 use Rattle.std.proofs.lemmas.Int.{ints}
 use Rattle.amr_box.specs.declared.Cell.{Cell}
 use Rattle.amr_box.specs.Cells.{Extent, IsNear, at_least_zero, cell, height, width}
-use Rattle.amr_codec.specs.Masses.{HasCellsOf, mass_in}
+use Rattle.amr_patch.specs.BoxRows.{HasCellsOf, mass_in}
 use Rattle.amr_def.specs.declared.problem.Problem.{Problem}
 use Rattle.amr_def.specs.Domain.{columns, domain, domain_box, rows}
 use Rattle.amr_def.specs.Ledger.{sum_to, total_mass}

@@ -2,7 +2,7 @@
 use Rattle.std.specs.Prelude.{◌≡◌, ℕ, ◌+◌, ◌*◌, pos, ◌+ℤ◌, List, slice_index}
 use Rattle.amr_box.specs.declared.Cell.{Cell}
 use Rattle.amr_box.specs.Cells.{Extent, cell}
-use Rattle.amr_codec.specs.Masses.{HasCellsOf}
+use Rattle.amr_patch.specs.BoxRows.{HasCellsOf}
 use Rattle.amr_def.specs.State.{Masses, children_mass, mass_of}
 use Rattle.amr_patch.specs.declared.levels.Level.{Level}
 use Rattle.amr_patch.specs.Levels.{level_of}

@@ -18,8 +18,8 @@ use crate::grid::Grid;
 use crate::reader::{long_at, mass_len, word_at};
 use amr_box::{Cell, distance};
 use amr_causes::NoMemory;
-use amr_codec::{MassWidth, cell_in};
-use amr_patch::{Order, Patch, find};
+use amr_codec::MassWidth;
+use amr_patch::{Order, Patch, cell_in, find};
 use std::alloc::Global;
 
 /// How many cells of the patch's row there are from a cell of it on.

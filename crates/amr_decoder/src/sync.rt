@@ -5,7 +5,7 @@ ghost use Rattle.std.specs.Prelude.{◌≡◌, ℕ, ◌+◌, ◌*◌, ◌<◌, �
 ghost use Rattle.std.specs.List.{All};
 ghost use Rattle.amr_box.specs.declared.Cell.{Cell};
 ghost use Rattle.amr_box.specs.Cells.{Extent, cell, child, has_child_where, holds, width};
-ghost use Rattle.amr_codec.specs.Masses.{HasCellsOf};
+ghost use Rattle.amr_patch.specs.BoxRows.{HasCellsOf};
 ghost use Rattle.amr_def.specs.Facts.{IsAligned, IsLevel};
 ghost use Rattle.amr_def.specs.State.{children_mass, is_covered_by, mass_of};
 ghost use Rattle.amr_patch.specs.Levels.{level_of};
@@ -13,9 +13,8 @@ ghost use Rattle.amr_decoder.specs.Filled.{IsPlaced};
 ghost use Rattle.amr_decoder.specs.Synced.{IsOver, IsSum, IsSumAt, four_at};
 
 use amr_box::{Bx, Cell};
-use amr_codec::{cell_in, masses_from};
 use amr_def::Problem;
-use amr_patch::Level;
+use amr_patch::{Level, cell_in, masses_from};
 
 /// The mass of a cell, 0 where it is none of the level.
 fn mass_of(level: &Level, c: Cell) -> u64

@@ -2,7 +2,7 @@
 
 ghost use Rattle.std.specs.Prelude.{◌≡◌, ◌*◌, ◌^◌, ◌≤◌, ◌==◌, pos, ◌+ℤ◌, ◌≤ℤ◌, [], ◌∷◌, length, map, slice_index, slice_index_or};
 ghost use Rattle.amr_box.specs.Cells.{IsNear, height, width};
-ghost use Rattle.amr_codec.specs.Masses.{HasCellsOf, mass_in};
+ghost use Rattle.amr_patch.specs.BoxRows.{HasCellsOf, mass_in};
 ghost use Rattle.amr_def.specs.Domain.{domain, domain_box};
 ghost use Rattle.amr_def.specs.Facts.{IsLevel};
 ghost use Rattle.amr_def.specs.Ledger.{sum_to, total_mass};
@@ -11,9 +11,8 @@ ghost use Rattle.amr_patch.specs.Levels.{level_of};
 ghost use Rattle.amr_decoder.specs.ReadLevels.{HasBase};
 
 use amr_box::Bx;
-use amr_codec::masses_from;
 use amr_def::{Problem, Row};
-use amr_patch::Level;
+use amr_patch::{Level, masses_from};
 
 /// The sum of the masses of a span.
 fn span_mass(masses: &[u32]) -> u64

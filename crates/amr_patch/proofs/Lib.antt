@@ -6,3 +6,5 @@ pub mod Standing
 pub mod LevelLaws
 pub mod Apart
 pub mod Conditions
+pub mod Corners
+pub mod BoxEntries

@@ -4,3 +4,4 @@ pub mod Orders
 pub mod Pairwise
 pub mod Levels
 pub mod Meshes
+pub mod BoxRows

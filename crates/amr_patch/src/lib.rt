@@ -7,6 +7,7 @@
 //! - [`Mesh`]: the step, the rows of the ledger and the levels.
 #![tactic(auto)]
 
+mod box_rows;
 mod copies;
 mod levels;
 mod lists;
@@ -16,6 +17,7 @@ mod patches;
 mod places;
 
 pub use amr_def::Row;
+pub use box_rows::{cell_in, masses_from};
 pub use levels::Level;
 pub use lookup::{Order, find, find_near, mass_at, order_of};
 pub use meshes::Mesh;

@@ -1,6 +1,4 @@
-mod Corners
 mod Items
-mod LevelBoxes
 mod Fragments
 mod Putting
 mod Words

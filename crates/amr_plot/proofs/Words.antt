@@ -9,7 +9,8 @@ use Rattle.amr_def.specs.Plot.{line, mass_line, spaced}
 use Rattle.amr_patch.specs.declared.levels.Level.{Level}
 use Rattle.amr_patch.specs.Levels.{level_of}
 use Rattle.amr_plot.specs.Puts.{masses_text, texts, word}
-use Rattle.amr_plot.specs.Rows.{mass_in, row_word}
+use Rattle.amr_patch.specs.BoxRows.{mass_in}
+use Rattle.amr_plot.specs.Rows.{row_word}
 use Rattle.amr_plot.proofs.Putting.{texts_front, texts_same}
 
 words_texts : (f : ℕ → List ℕ) (a n : ℕ) → flat_map (λ w. 32 ∷ w) (map f (range_with_len a n)) ≡ texts (λ i. 32 ∷ f (a + i)) n

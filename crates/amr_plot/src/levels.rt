@@ -10,7 +10,7 @@ ghost use Rattle.amr_def.specs.Plot.{box_text, level_text, numbered};
 ghost use Rattle.amr_def.specs.State.{no_level};
 ghost use Rattle.amr_patch.specs.Levels.{level_of};
 ghost use Rattle.amr_plot.specs.Puts.{Puts};
-ghost use Rattle.amr_plot.specs.Rows.{HasCellsOf};
+ghost use Rattle.amr_patch.specs.BoxRows.{HasCellsOf};
 
 use crate::lines::{put_box_line, put_level_line};
 use crate::rows::put_rows;

@@ -6,11 +6,12 @@ ghost use Rattle.amr_box.specs.Cells.{IsNear, cell, height, holds, width, within
 ghost use Rattle.amr_def.specs.Plot.{mass_line};
 ghost use Rattle.amr_patch.specs.Levels.{level_of};
 ghost use Rattle.amr_plot.specs.Puts.{Puts, masses_text, texts, word};
-ghost use Rattle.amr_plot.specs.Rows.{HasCellsOf, mass_in, row_word};
+ghost use Rattle.amr_patch.specs.BoxRows.{HasCellsOf, mass_in};
+ghost use Rattle.amr_plot.specs.Rows.{row_word};
 
-use amr_box::{Bx, Cell};
+use amr_box::Bx;
 use amr_io::{Fragment, Sink, Text, WriteFault};
-use amr_patch::Level;
+use amr_patch::{Level, masses_from};
 
 /// What stands before the mass in a column of the box.
 fn separator(column: usize) -> &'static str
@@ -47,37 +48,6 @@ fn put_masses<O: Sink>(
         put_mass(first + k, u64::from(*mass), text, sink)?;
     }
     Ok(())
-}
-
-/// The cell in a row and column of the box, each counted from its low corner.
-fn cell_in(b: &Bx, row: u32, column: u32) -> Cell
-    requires near { IsNear b.now }
-    requires row { (b.now.lo.y +ℤ pos row) ≤ℤ b.now.hi.y }
-    requires column { (b.now.lo.x +ℤ pos column) ≤ℤ b.now.hi.x }
-    ensures place { result ≡ cell (b.now.lo.x +ℤ pos column) (b.now.lo.y +ℤ pos row) }
-    ensures inside { IsTrue (holds b.now result) }
-{
-    let lo = b.lo();
-    Cell {
-        x: lo.x + column as i32,
-        y: lo.y + row as i32,
-    }
-}
-
-/// The masses of a row of the box from column `first` on, as far as they stand in one patch of the level, and no further
-/// than the box.
-fn masses_from<'a>(level: &'a Level, b: &Bx, row: u32, first: u32) -> &'a [u32]
-    requires near { IsNear b.now }
-    requires row { (b.now.lo.y +ℤ pos row) ≤ℤ b.now.hi.y }
-    requires column { (b.now.lo.x +ℤ pos first) ≤ℤ b.now.hi.x }
-    requires cells { HasCellsOf level.now b.now }
-    ensures some { 0 < length result.now }
-    ensures inside { first + length result.now ≤ width b.now }
-    ensures masses { (k : ℕ) → k < length result.now → slice_index result.now k ≡ mass_in level.now b.now row (first + k) }
-{
-    let span = level.span(cell_in(b, row, first));
-    let left = (b.width() - first) as usize;
-    &span[..span.len().min(left)]
 }
 
 /// A row of masses, from the low column on.

@@ -7,7 +7,7 @@ use Rattle.amr_patch.specs.Levels.{level_of}
 use Rattle.amr_payload.specs.Payload.{box_bytes, corner_bytes, number_bytes}
 use Rattle.amr_codec.specs.MassWidths.{width_of}
 use Rattle.amr_codec.proofs.Appending.{put_twice}
-use Rattle.amr_codec.proofs.Corners.{corners}
+use Rattle.amr_patch.proofs.Corners.{corners}
 use Rattle.amr_codec.proofs.levels.put_box.Goals as goal
 
 pub put_corners-requires-clause-west : goal.put_corners-requires-clause-west

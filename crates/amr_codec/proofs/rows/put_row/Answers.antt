@@ -4,7 +4,7 @@ use Rattle.std.proofs.lemmas.Int.{ints}
 use Rattle.amr_box.specs.Cells.{width}
 use Rattle.amr_payload.specs.Payload.{number_bytes}
 use Rattle.amr_codec.specs.MassWidths.{width_of}
-use Rattle.amr_codec.specs.Masses.{mass_in}
+use Rattle.amr_patch.specs.BoxRows.{mass_in}
 use Rattle.amr_codec.proofs.Appending.{range_more, span_bytes}
 use Rattle.amr_codec.proofs.rows.put_row.Goals as goal
 

@@ -7,7 +7,7 @@ use Rattle.amr_def.specs.State.{mass_of}
 use Rattle.amr_patch.specs.Levels.{level_of}
 use Rattle.amr_payload.specs.Payload.{number_bytes}
 use Rattle.amr_codec.specs.MassWidths.{width_of}
-use Rattle.amr_codec.specs.Masses.{mass_in}
+use Rattle.amr_patch.specs.BoxRows.{mass_in}
 use Rattle.amr_codec.proofs.Appending.{number_more, rows_of_cells}
 use Rattle.amr_codec.proofs.rows.put_rows.Goals as goal
 

@@ -3,7 +3,7 @@ use Rattle.std.specs.List.{flat_map, range_with_len}
 use Rattle.amr_box.specs.Cells.{width}
 use Rattle.amr_payload.specs.Payload.{number_bytes}
 use Rattle.amr_codec.specs.MassWidths.{width_of}
-use Rattle.amr_codec.specs.Masses.{mass_in}
+use Rattle.amr_patch.specs.BoxRows.{mass_in}
 use Rattle.amr_codec.proofs.rows.put_rows.Given as goal
 
 -- the rows before `row` are put

@@ -1,7 +1,7 @@
 use Rattle.std.proofs.Common.{◌≡◌, ◌∙◌, ap, arith}
 use Rattle.std.proofs.lemmas.Int.{ints}
 use Rattle.amr_box.specs.Cells.{width}
-use Rattle.amr_codec.specs.Masses.{mass_in}
+use Rattle.amr_patch.specs.BoxRows.{mass_in}
 use Rattle.amr_def.specs.Ledger.{sum_to}
 use Rattle.amr_decoder.proofs.MassSums.{span_more}
 use Rattle.amr_decoder.proofs.totals.row_mass.Goals as goal

@@ -1,6 +1,6 @@
 use Rattle.std.proofs.Common.{◌≡◌, ◌*◌, ◌-◌, ◌^◌, ◌≤◌}
 use Rattle.amr_box.specs.Cells.{width}
-use Rattle.amr_codec.specs.Masses.{mass_in}
+use Rattle.amr_patch.specs.BoxRows.{mass_in}
 use Rattle.amr_def.specs.Ledger.{sum_to}
 use Rattle.amr_decoder.proofs.totals.row_mass.Given as goal
 

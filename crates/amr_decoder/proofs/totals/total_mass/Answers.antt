@@ -1,6 +1,6 @@
 use Rattle.std.proofs.Common.{◌≤◌, ◌∙◌, sym, subst}
 use Rattle.amr_box.specs.Cells.{Extent, IsNear, height, width}
-use Rattle.amr_codec.specs.Masses.{HasCellsOf}
+use Rattle.amr_patch.specs.BoxRows.{HasCellsOf}
 use Rattle.amr_def.specs.Domain.{domain, domain_box}
 use Rattle.amr_decoder.proofs.MassSums.{box_cells, box_is, flat, narrow, near, total_is}
 use Rattle.amr_decoder.proofs.totals.total_mass.Goals as goal

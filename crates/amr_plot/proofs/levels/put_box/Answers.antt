@@ -4,7 +4,7 @@ use Rattle.amr_box.specs.Cells.{extent, height}
 use Rattle.amr_def.specs.Plot.{box_line, box_text, mass_line}
 use Rattle.amr_patch.specs.Levels.{level_of}
 use Rattle.amr_plot.specs.Puts.{texts}
-use Rattle.amr_plot.proofs.Corners.{corners}
+use Rattle.amr_patch.proofs.Corners.{corners}
 use Rattle.amr_plot.proofs.Putting.{puts_first, puts_same, puts_then, texts_of_range}
 use Rattle.amr_plot.proofs.levels.put_box.Goals as goal
 

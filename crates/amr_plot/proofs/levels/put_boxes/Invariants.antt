@@ -3,7 +3,7 @@ use Rattle.amr_io.specs.Kept.{Sent}
 use Rattle.amr_def.specs.Plot.{box_text}
 use Rattle.amr_patch.specs.Levels.{level_of}
 use Rattle.amr_plot.specs.Puts.{texts}
-use Rattle.amr_plot.proofs.LevelBoxes.{no_box}
+use Rattle.amr_patch.proofs.BoxEntries.{no_box}
 use Rattle.amr_plot.proofs.levels.put_boxes.Given as goal
 
 -- the boxes so far are put

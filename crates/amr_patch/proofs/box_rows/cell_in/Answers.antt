@@ -6,7 +6,7 @@ use Rattle.std.proofs.lemmas.Int.{ints}
 use Rattle.amr_box.specs.declared.Cell.{Cell}
 use Rattle.amr_box.specs.Cells.{cell, holds}
 use Rattle.amr_patch.proofs.Rows.{is_inside}
-use Rattle.amr_codec.proofs.rows.cell_in.Goals as goal
+use Rattle.amr_patch.proofs.box_rows.cell_in.Goals as goal
 
 pub returns-clause-place : goal.returns-clause-place
 returns-clause-place c =

@@ -10,7 +10,7 @@ use Rattle.amr_def.specs.Facts.{IsLevel}
 use Rattle.amr_def.specs.State.{in_boxes}
 use Rattle.amr_patch.specs.declared.levels.Level.{Level}
 use Rattle.amr_patch.specs.Levels.{level_of}
-use Rattle.amr_plot.specs.Rows.{HasCellsOf}
+use Rattle.amr_patch.specs.BoxRows.{HasCellsOf}
 
 abbrev pub no_box : Extent
 no_box = extent (cell (pos 0) (pos 0)) (cell (pos 0) (pos 0))

@@ -1,4 +1,4 @@
--- The masses of the cells of a box, by row and column.
+-- The masses of the cells of a box of a level, by row and column.
 use Rattle.std.specs.Prelude.{ℕ, pos, ◌+ℤ◌, IsTrue, IsSome}
 use Rattle.amr_box.specs.declared.Cell.{Cell}
 use Rattle.amr_box.specs.Cells.{Extent, cell, holds}

@@ -6,7 +6,7 @@ use Rattle.std.proofs.lemmas.List.{get_or-take, length-take}
 use Rattle.amr_box.specs.Cells.{cell}
 use Rattle.amr_def.specs.State.{mass_of}
 use Rattle.amr_patch.specs.Levels.{level_of}
-use Rattle.amr_codec.proofs.rows.masses_from.Goals as goal
+use Rattle.amr_patch.proofs.box_rows.masses_from.Goals as goal
 
 pub span-span-requires : goal.span-span-requires
 span-span-requires c = c.requires.cells.at c.cell_in.result c.cell_in.ensures.inside
