@@ -8,5 +8,4 @@ pub mod Joined
 pub mod Planned
 pub mod Taken
 pub mod Samples
-pub mod GapLaws
 pub mod ByBoxes

@@ -4,4 +4,3 @@ pub mod Places
 pub mod Adds
 pub mod Flows
 pub mod Posts
-pub mod Gaps

@@ -9,20 +9,20 @@ ghost use Rattle.amr_patch.specs.Orders.{IsOrderOf};
 ghost use Rattle.amr_flux.specs.Faces.{IsInDomain};
 ghost use Rattle.amr_phase.specs.Plans.{IsPlan, total};
 ghost use Rattle.amr_layout.specs.Surroundings.{around, edge_count};
-ghost use Rattle.amr_layout.specs.Gaps.{HasStarts};
+ghost use Rattle.amr_gaps.specs.Gaps.{HasStarts};
 ghost use Rattle.amr_layout.specs.Places.{border_places, level_borders, puts_of};
 ghost use Rattle.amr_layout.specs.Adds.{HasLedgerAdds, HasRegisterCells, flows_in, flows_of};
 ghost use Rattle.amr_layout.specs.Posts.{AreSmallSizes, Sizes, plan_of};
 
 use crate::adds::{Near, Surroundings, adds_of};
 use crate::faces::edge_count;
-use crate::gaps::starts_of;
 use crate::lookup::Trace;
 use crate::places::place_borders;
 use crate::{Layout, PutAt, TaskLayout};
 use amr_box::Cell;
 use amr_causes::NoMemory;
 use amr_def::Problem;
+use amr_gaps::starts_of;
 use amr_patch::{Level, Patch, order_of};
 use std::alloc::Global;
 

@@ -5,7 +5,6 @@
 
 mod adds;
 mod faces;
-mod gaps;
 mod layouts;
 mod lookup;
 mod places;

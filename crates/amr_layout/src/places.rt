@@ -7,17 +7,17 @@ ghost use Rattle.amr_box.specs.Cells.{IsNear};
 ghost use Rattle.amr_def.specs.Domain.{domain_of};
 ghost use Rattle.amr_patch.specs.Patches.{ArePatchesApart};
 ghost use Rattle.amr_patch.specs.Orders.{IsOrderOf};
-ghost use Rattle.amr_layout.specs.Gaps.{HasStarts, IsGap};
+ghost use Rattle.amr_gaps.specs.Gaps.{HasStarts, IsGap};
 ghost use Rattle.amr_layout.specs.Places.{AreEmptyLots, ArePut, borders_of, border_places, leads_on, level_borders};
 
 use crate::PutAt;
 use crate::faces::{high_cell, home_face};
-use crate::gaps::Starts;
 use crate::lookup::{Trace, look_beside};
 use amr_box::{Bx, Face};
 use amr_causes::NoMemory;
 use amr_def::Dom;
 use amr_flux::{x_end, y_end};
+use amr_gaps::Starts;
 use amr_patch::{Order, Patch};
 use std::alloc::Global;
 

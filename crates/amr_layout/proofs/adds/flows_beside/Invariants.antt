@@ -3,7 +3,7 @@ use Rattle.std.specs.Option.{option_copied}
 use Rattle.std.specs.List.{All}
 use Rattle.amr_flux.specs.Faces.{passing}
 use Rattle.amr_layout.specs.Surroundings.{around, edge_face}
-use Rattle.amr_layout.specs.Gaps.{IsGap}
+use Rattle.amr_gaps.specs.Gaps.{IsGap}
 use Rattle.amr_layout.specs.Adds.{flow_to, flows_in, is_exchange_face, is_inflow_face, is_outflow_face, word_of}
 use Rattle.amr_layout.proofs.adds.flows_beside.Given as goal
 

@@ -2,8 +2,8 @@ use Rattle.std.proofs.Common.{◌≡◌, ◌<◌, ◌+ℤ◌, ◌-ℤ◌, ◌<�
 use Rattle.std.specs.Prelude.{slice_index_or}
 use Rattle.std.proofs.lemmas.Int.{ints, to_z-of_z}
 use Rattle.std.proofs.lemmas.List.{get_or_default}
-use Rattle.amr_layout.proofs.GapLaws.{next_above, none_between, same_none}
-use Rattle.amr_layout.proofs.gaps.last_before.Goals as goal
+use Rattle.amr_gaps.proofs.GapLaws.{next_above, none_between, same_none}
+use Rattle.amr_gaps.proofs.gaps.last_before.Goals as goal
 
 pub returns-clause-none : goal.returns-clause-none
 returns-clause-none c =

@@ -1,6 +1,6 @@
 use Rattle.std.proofs.Common.{◌≡◌, map, take}
 use Rattle.amr_patch.specs.Patches.{box}
-use Rattle.amr_layout.proofs.gaps.starts_of.Given as goal
+use Rattle.amr_gaps.proofs.gaps.starts_of.Given as goal
 
 -- the columns and the rows of the first patches
 abbrev pub invariant-loop-patch : goal.invariant-loop-patch

@@ -7,7 +7,7 @@ use Rattle.amr_box.specs.declared.Cell.{Cell}
 use Rattle.amr_box.specs.Cells.{Extent, holds}
 use Rattle.amr_patch.specs.declared.patches.Patch.{Patch}
 use Rattle.amr_patch.specs.Patches.{box, in_patches}
-use Rattle.amr_layout.specs.declared.gaps.Starts.{Starts}
+use Rattle.amr_gaps.specs.declared.gaps.Starts.{Starts}
 
 -- no patch has a cell of the box
 abbrev pub IsGap : List Patch → Option Extent → Type 0

@@ -1,8 +1,8 @@
 use Rattle.std.proofs.Common.{ℤ, rules}
 use Rattle.std.specs.Prelude.{int_le}
 use Rattle.std.proofs.lemmas.List.Sorted.{IsPartitionPoint-from_clause}
-use Rattle.amr_layout.proofs.GapLaws.{parted}
-use Rattle.amr_layout.proofs.gaps.count_up_to.Goals as goal
+use Rattle.amr_gaps.proofs.GapLaws.{parted}
+use Rattle.amr_gaps.proofs.gaps.count_up_to.Goals as goal
 
 pub returns-clause-parts : goal.returns-clause-parts
 returns-clause-parts c =

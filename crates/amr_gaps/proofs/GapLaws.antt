@@ -20,8 +20,8 @@ use Rattle.amr_box.specs.Cells.{Extent, cell, extent, holds}
 use Rattle.amr_patch.specs.declared.patches.Patch.{Patch}
 use Rattle.amr_patch.specs.Patches.{box, in_patches}
 use Rattle.amr_patch.proofs.Rows.{inside, is_inside}
-use Rattle.amr_layout.specs.declared.gaps.Starts.{Starts}
-use Rattle.amr_layout.specs.Gaps.{Ascends, HasStarts, IsGap}
+use Rattle.amr_gaps.specs.declared.gaps.Starts.{Starts}
+use Rattle.amr_gaps.specs.Gaps.{Ascends, HasStarts, IsGap}
 
 le_is : (a b : ℤ) → int_le a b ≡ true → a ≤ℤ b
 le_is a b h = grind (arith, ints)

@@ -3,8 +3,8 @@ use Rattle.std.proofs.lemmas.Int.{ints}
 use Rattle.amr_box.specs.Cells.{Extent}
 use Rattle.amr_patch.specs.declared.patches.Patch.{Patch}
 use Rattle.amr_patch.specs.Patches.{box}
-use Rattle.amr_layout.proofs.GapLaws.{ascends, begins_among, one_begins}
-use Rattle.amr_layout.proofs.gaps.starts_of.Goals as goal
+use Rattle.amr_gaps.proofs.GapLaws.{ascends, begins_among, one_begins}
+use Rattle.amr_gaps.proofs.gaps.starts_of.Goals as goal
 
 pub loop-patch-preserved : goal.loop-patch-preserved
 loop-patch-preserved c =

@@ -1,9 +1,9 @@
 use Rattle.std.proofs.Common.{arith, of_z, subst, sym, to_z, w32, ℤ, List}
 use Rattle.std.proofs.lemmas.Int.{ints}
 use Rattle.amr_box.specs.Cells.{cell, extent}
-use Rattle.amr_layout.specs.Gaps.{Ascends}
-use Rattle.amr_layout.proofs.GapLaws.{gap_is, gap_of, same_none}
-use Rattle.amr_layout.proofs.gaps.gap_from.Goals as goal
+use Rattle.amr_gaps.specs.Gaps.{Ascends}
+use Rattle.amr_gaps.proofs.GapLaws.{gap_is, gap_of, same_none}
+use Rattle.amr_gaps.proofs.gaps.gap_from.Goals as goal
 
 pub last_before-x-requires : goal.last_before-x-requires
 last_before-x-requires c = subst (λ (zs : List ℤ). Ascends zs) (sym c.deref.ensures.value) c.requires.columns
@@ -11,8 +11,8 @@ last_before-x-requires c = subst (λ (zs : List ℤ). Ascends zs) (sym c.deref.e
 pub last_before-y-requires : goal.last_before-y-requires
 last_before-y-requires c = subst (λ (zs : List ℤ). Ascends zs) (sym c.deref-2.ensures.value) c.requires.rows
 
-pub returns : goal.returns
-returns c = λ ps starts none.
+pub returns-clause-gap : goal.returns-clause-gap
+returns-clause-gap c = λ ps starts none.
     let k = c.args.c in
     let x = to_z w32 (of_z w32 c.last_before-x.result) in
     let y = to_z w32 (of_z w32 c.last_before-y.result) in

@@ -1,26 +1,29 @@
-//! Boxes of cells that no patch of a level has, so that the faces of a coarse-fine edge take one search a span.
+//! Where patches start, and the gaps between those columns and rows.
 
-ghost use Rattle.std.specs.Prelude.{◌≡◌, ◌≤◌, ◌⊎◌, ◌≤ℤ◌, ◌<ℤ◌, false, int_le, true, length, IfOk, List};
+ghost use Rattle.std.specs.Prelude.{◌≡◌, ◌≤◌, ◌⊎◌, ◌≤ℤ◌, ◌<ℤ◌, false, int_le, true, length, IfOk, IfSome, IsTrue, List};
 ghost use Rattle.std.specs.List.{All};
 ghost use Rattle.std.specs.List.Sorted.{IsPartitionPoint};
+ghost use Rattle.amr_box.specs.Cells.{holds};
 ghost use Rattle.amr_patch.specs.declared.patches.Patch.{Patch};
 ghost use Rattle.amr_patch.specs.Patches.{in_patches};
-ghost use Rattle.amr_layout.specs.Gaps.{Ascends, HasStarts, IsGap};
+ghost use Rattle.amr_gaps.specs.Gaps.{Ascends, HasStarts, IsGap};
 
 use amr_box::{Bx, Cell};
 use amr_causes::NoMemory;
 use amr_patch::Patch;
 use std::alloc::Global;
 
-/// Where the patches of a level start: the columns and the rows of their low corners, each list in order.
+/// Where the patches of a level start. It depends on their boxes alone, so it serves until a regrid.
 #[derive(Drop)]
-pub(crate) struct Starts {
-    pub(crate) columns: Vec<i32>,
-    pub(crate) rows: Vec<i32>,
+pub struct Starts {
+    /// The columns of their low corners, in order.
+    pub columns: Vec<i32>,
+    /// The rows of their low corners, in order.
+    pub rows: Vec<i32>,
 }
 
-/// Where these patches start.
-pub(crate) fn starts_of(alloc: Global, patches: &[Patch]) -> Result<Starts, NoMemory>
+/// Where these patches start. `NoMemory` is the only refusal.
+pub fn starts_of(alloc: Global, patches: &[Patch]) -> Result<Starts, NoMemory>
     ensures { IfOk result (HasStarts patches.now) }
 {
     let mut columns = Vec::new(alloc);
@@ -58,19 +61,21 @@ fn last_before(starts: &[i32], z: i32) -> i32
     next - 1
 }
 
-/// The cells from one that no patch has up to where the next column and the next row of patches start: no patch has any.
-pub(crate) fn gap_from(starts: &Starts, c: Cell) -> Option<Bx>
+/// The box of cells from `c` up to where the next column and the next row of patches start. If no patch has `c`, none has any
+/// cell of it.
+pub fn gap_from(starts: &Starts, c: Cell) -> Option<Bx>
     requires columns { Ascends starts.now.columns.items }
     requires rows { Ascends starts.now.rows.items }
-    ensures { (ps : List Patch) → HasStarts ps starts.now → in_patches ps c ≡ false → IsGap ps result }
+    ensures begins { IfSome result (λ b. IsTrue (holds b c)) }
+    ensures gap { (ps : List Patch) → HasStarts ps starts.now → in_patches ps c ≡ false → IsGap ps result }
 {
     let x = last_before(&starts.columns, c.x);
     let y = last_before(&starts.rows, c.y);
     Bx::try_new(c, Cell { x, y })
 }
 
-/// Whether a cell lies in a gap.
-pub(crate) fn is_in_gap(gap: Option<Bx>, c: Cell) -> bool
+/// Whether a cell lies in a gap. In None lies no cell.
+pub fn is_in_gap(gap: Option<Bx>, c: Cell) -> bool
     ensures { (ps : List Patch) → IsGap ps gap → result ≡ true → in_patches ps c ≡ false }
 {
     match gap {
