@@ -133,3 +133,15 @@ one_begins f ps i q zs z lt at before is =
     (λ j. before j ++ (is ∙ ap f at) j ∷ [])
     ∙ sym (map-append f (take i ps) (slice_index_or ps i q ∷ []))
     ∙ ap (map f) (sym (take_more ps i q lt))
+
+-- patches with the boxes of others start where those do
+pub starts_of_boxes : (ps qs : List Patch) (s : Starts) → map box qs ≡ map box ps → HasStarts ps s → HasStarts qs s
+starts_of_boxes ps qs s e h = record { columns = h.columns; rows = h.rows; each = each }
+  where
+    each : All (λ q. Contains s.columns.items (box q).lo.x × Contains s.rows.items (box q).lo.y) qs
+    each k q lt =
+        let n : length qs ≡ length ps = sym (length-map qs box) ∙ ap length e ∙ length-map ps box in
+        let there : k < length ps = omega (arith, n, lt) in
+        let b : box (slice_index_or ps k q) ≡ box (slice_index_or qs k q) = sym (get_or-map box ps k q (box q) there) ∙ ap (λ (bs : List Extent). slice_index_or bs k (box q)) (sym e) ∙ get_or-map box qs k q (box q) lt in
+        let begins = h.each k q there in
+        (subst (λ (t : Extent). Contains s.columns.items t.lo.x) b begins.0, subst (λ (t : Extent). Contains s.rows.items t.lo.y) b begins.1)

@@ -1,5 +1,5 @@
 -- Gaps between patches: boxes of cells that none of them has.
-use Rattle.std.specs.Prelude.{◌≡◌, false, ℤ, ◌≤ℤ◌, List, Contains, IsTrue}
+use Rattle.std.specs.Prelude.{◌≡◌, Bool, false, ℤ, ◌≤ℤ◌, List, Contains, IsTrue}
 use Rattle.std.specs.declared.option.Option.{Option}
 use Rattle.std.specs.declared.option.Option.TheVariants.{None, Some}
 use Rattle.std.specs.List.{All, AllPairs}
@@ -13,6 +13,11 @@ use Rattle.amr_gaps.specs.declared.gaps.Starts.{Starts}
 abbrev pub IsGap : List Patch → Option Extent → Type 0
 IsGap ps None = Unit {0}
 IsGap ps (Some b) = (c : Cell) → IsTrue (holds b c) → in_patches ps c ≡ false
+
+-- whether a cell lies in it
+abbrev pub in_gap : Option Extent → Cell → Bool
+in_gap None c = false
+in_gap (Some b) c = holds b c
 
 -- numbers in order
 abbrev pub Ascends : List ℤ → Type 0

@@ -1,12 +1,12 @@
 //! Where patches start, and the gaps between those columns and rows.
 
-ghost use Rattle.std.specs.Prelude.{◌≡◌, ◌≤◌, ◌⊎◌, ◌≤ℤ◌, ◌<ℤ◌, false, int_le, true, length, IfOk, IfSome, IsTrue, List};
+ghost use Rattle.std.specs.Prelude.{◌≡◌, ◌≤◌, ◌⊎◌, ◌≤ℤ◌, ◌<ℤ◌, false, int_le, true, length, IfOk, IfSome, IsSome, IsTrue, List};
 ghost use Rattle.std.specs.List.{All};
 ghost use Rattle.std.specs.List.Sorted.{IsPartitionPoint};
 ghost use Rattle.amr_box.specs.Cells.{holds};
 ghost use Rattle.amr_patch.specs.declared.patches.Patch.{Patch};
 ghost use Rattle.amr_patch.specs.Patches.{in_patches};
-ghost use Rattle.amr_gaps.specs.Gaps.{Ascends, HasStarts, IsGap};
+ghost use Rattle.amr_gaps.specs.Gaps.{Ascends, HasStarts, IsGap, in_gap};
 
 use amr_box::{Bx, Cell};
 use amr_causes::NoMemory;
@@ -66,6 +66,7 @@ fn last_before(starts: &[i32], z: i32) -> i32
 pub fn gap_from(starts: &Starts, c: Cell) -> Option<Bx>
     requires columns { Ascends starts.now.columns.items }
     requires rows { Ascends starts.now.rows.items }
+    ensures some { IsSome result }
     ensures begins { IfSome result (λ b. IsTrue (holds b c)) }
     ensures gap { (ps : List Patch) → HasStarts ps starts.now → in_patches ps c ≡ false → IsGap ps result }
 {
@@ -76,7 +77,8 @@ pub fn gap_from(starts: &Starts, c: Cell) -> Option<Bx>
 
 /// Whether a cell lies in a gap. In None lies no cell.
 pub fn is_in_gap(gap: Option<Bx>, c: Cell) -> bool
-    ensures { (ps : List Patch) → IsGap ps gap → result ≡ true → in_patches ps c ≡ false }
+    ensures inside { result ≡ in_gap gap c }
+    ensures none { (ps : List Patch) → IsGap ps gap → result ≡ true → in_patches ps c ≡ false }
 {
     match gap {
         None => false,

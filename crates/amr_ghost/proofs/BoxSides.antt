@@ -29,10 +29,10 @@ has_low b wide high = rw (le_self b.lo.x, int_le-yes b.lo.x b.hi.x wide, le_self
 has_high : (b : Extent) → b.lo.x ≤ℤ b.hi.x → b.lo.y ≤ℤ b.hi.y → holds b b.hi ≡ true
 has_high b wide high = rw (int_le-yes b.lo.x b.hi.x wide, le_self b.hi.x, int_le-yes b.lo.y b.hi.y high, le_self b.hi.y)
 
-low_inside : (n : ℕ) (z : ℤ) → IsTrue (is_inside n z) → pos 0 ≤ℤ z
+pub low_inside : (n : ℕ) (z : ℤ) → IsTrue (is_inside n z) → pos 0 ≤ℤ z
 low_inside n z h = grind (arith, ints)
 
-high_inside : (n : ℕ) (z : ℤ) → IsTrue (is_inside n z) → z <ℤ pos n
+pub high_inside : (n : ℕ) (z : ℤ) → IsTrue (is_inside n z) → z <ℤ pos n
 high_inside n z h = grind (arith, ints)
 
 -- the sides of a domain round a cell
@@ -119,7 +119,7 @@ side_beside b East k wide high t = in_a_row (in_frame b (cell (b.hi.x +ℤ pos 1
 side_beside b South k wide high t = in_a_column (in_frame b (cell (b.lo.x +ℤ pos k) (b.lo.y -ℤ pos 1))) (within b.lo.x b.hi.x (b.lo.x +ℤ pos k)) (within b.lo.y b.hi.y (b.lo.y -ℤ pos 1)) (side_ghost b South k wide high t) (in_range b.lo.x b.hi.x k t)
 side_beside b North k wide high t = in_a_column (in_frame b (cell (b.lo.x +ℤ pos k) (b.hi.y +ℤ pos 1))) (within b.lo.x b.hi.x (b.lo.x +ℤ pos k)) (within b.lo.y b.hi.y (b.hi.y +ℤ pos 1)) (side_ghost b North k wide high t) (in_range b.lo.x b.hi.x k t)
 
-inside_of : (n : ℕ) (z : ℤ) → pos 0 ≤ℤ z → z <ℤ pos n → IsTrue (is_inside n z)
+pub inside_of : (n : ℕ) (z : ℤ) → pos 0 ≤ℤ z → z <ℤ pos n → IsTrue (is_inside n z)
 inside_of n z from to = grind (arith, ints)
 
 along_side : (d : Domain) (b : Extent) (side : Side) (k : ℕ) → LiesInDomain d b → k < side_count b side → IsTrue (is_inside (size_along (side_axis side) d) (along (side_axis side) (side_from b side) +ℤ pos k))

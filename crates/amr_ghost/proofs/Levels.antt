@@ -1,6 +1,8 @@
 -- The patches of a level while their frames are filled: they stay a level, and the values of its cells stay.
 use Rattle.std.proofs.Common.{◌≡◌, ℕ, ◌<◌, ◌≤◌, ◌||◌, List, [], ◌∷◌, length, get_or, IsTrue, sym, ap, subst, ◌∙◌, arith}
-use Rattle.std.specs.Prelude.{is_some}
+use Rattle.std.specs.Prelude.{is_some, IfSome}
+use Rattle.std.specs.declared.option.Option.{Option}
+use Rattle.std.specs.declared.option.Option.TheVariants.{None, Some}
 use Rattle.std.specs.List.{AllZip}
 use Rattle.std.proofs.lemmas.List.Elements.{AllZip-get_or, length_all_zip}
 use Rattle.std.proofs.lemmas.Bool.{and_parts}
@@ -19,11 +21,14 @@ use Rattle.amr_patch.specs.declared.lookup.Order.{Order}
 use Rattle.amr_patch.specs.Places.{in_frame}
 use Rattle.amr_patch.specs.Patches.{box, in_patches, masses_in}
 use Rattle.amr_patch.proofs.Standing.{order_of_boxes}
+use Rattle.amr_gaps.specs.declared.gaps.Starts.{Starts}
+use Rattle.amr_gaps.specs.Gaps.{HasStarts}
+use Rattle.amr_gaps.proofs.GapLaws.{starts_of_boxes}
 use Rattle.amr_ghost.specs.Strips.{step}
 use Rattle.amr_ghost.specs.Frames.{AreInDomain, is_beside, is_of_level}
 use Rattle.amr_ghost.specs.declared.sides.Side.{Side}
 use Rattle.amr_ghost.specs.declared.sides.Side.TheVariants.{East, North, South, West}
-use Rattle.amr_ghost.specs.Filling.{HasFrame, HasGhost, HasSideValues, HasValues, IsLevelInOrder, KeepsCells, KeepsGhosts, KeepsValues, LiesInDomain, side_axis, side_count, side_from, size_along}
+use Rattle.amr_ghost.specs.Filling.{AreOrdered, HasFrame, HasGhost, HasSideValues, HasValues, IsLevelInOrder, KeepsCells, KeepsGhosts, KeepsValues, LiesInDomain, side_axis, side_count, side_from, size_along}
 use Rattle.amr_ghost.proofs.BoxSides.{beside_of, side_ghost}
 use Rattle.amr_ghost.proofs.Zips.{zip_apart, zip_box, zip_boxes, zip_ghosts, zip_masses}
 use Rattle.amr_ghost.proofs.GhostStrips.{still_ghosts}
@@ -34,12 +39,22 @@ zip_in_patches ps qs c kept = sym (some_mass qs c) ∙ ap (λ (m : Masses). is_s
 zip_inside : (d : Domain) (ps qs : List Patch) → AllZip KeepsCells ps qs → AreInDomain d ps → AreInDomain d qs
 zip_inside d ps qs kept inside = λ c h. inside c (sym (zip_in_patches ps qs c kept) ∙ h)
 
-pub still_level : (d : Domain) (o : Order) (ps qs : List Patch) → AllZip KeepsCells ps qs → IsLevelInOrder d o ps → IsLevelInOrder d o qs
-still_level d o ps qs kept level = record {
+still_starts : (s : Option Starts) (ps qs : List Patch) → AllZip KeepsCells ps qs → IfSome s (HasStarts ps) → IfSome s (HasStarts qs)
+still_starts None ps qs kept h = tt
+still_starts (Some s) ps qs kept h = starts_of_boxes ps qs s (zip_boxes ps qs kept) h
+
+pub still_level : (d : Domain) (o : Order) (s : Option Starts) (ps qs : List Patch) → AllZip KeepsCells ps qs → IsLevelInOrder d o s ps → IsLevelInOrder d o s qs
+still_level d o s ps qs kept level = record {
   ordered = order_of_boxes o ps qs (zip_boxes ps qs kept) level.ordered;
   apart = zip_apart ps qs kept level.apart;
   inside = zip_inside d ps qs kept level.inside;
+  starting = still_starts s ps qs kept level.starting;
 }
+
+-- columns and rows where patches start stand in order
+pub starts_ordered : (s : Option Starts) (ps : List Patch) → IfSome s (HasStarts ps) → IfSome s AreOrdered
+starts_ordered None ps h = tt
+starts_ordered (Some s) ps h = record { columns = h.columns; rows = h.rows }
 
 -- the values of the level's cells are those of before
 same_keeps : (p : Problem) (l : ℕ) (old : Masses) (ps qs rs : List Patch) → AllZip KeepsCells ps qs → KeepsValues p l old qs rs → AllZip (KeepsGhosts (value_at p l (masses_in ps) old) (is_of_level p l (masses_in ps))) qs rs

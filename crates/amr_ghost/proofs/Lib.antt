@@ -4,7 +4,9 @@ pub mod Steps
 pub mod GhostStrips
 pub mod StripPlaces
 pub mod Homes
+pub mod Parents
 pub mod Spans
+pub mod Beyond
 pub mod BoxSides
 pub mod Levels
 pub mod Samples

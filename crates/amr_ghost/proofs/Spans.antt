@@ -31,7 +31,7 @@ room_inside b c near h =
     let n : c.y ≤ℤ b.hi.y = k.north in
     record { x = omega (arith, ints); y = omega (arith, ints) }
 
-step_none : (axis : Axis) (c : Cell) → step axis c 0 ≡ c
+pub step_none : (axis : Axis) (c : Cell) → step axis c 0 ≡ c
 step_none X c = λ i. record { x = none c.x i; y = c.y }
   where
     none : (z : ℤ) → z +ℤ pos 0 ≡ z
@@ -44,12 +44,6 @@ step_none Y c = λ i. record { x = c.x; y = none c.y i }
 pub first_ghost : (P : Cell → Type 0) (axis : Axis) (c : Cell) → P (step axis c 0) → P c
 first_ghost P axis c h = subst P (step_none axis c) h
 
-pub one_ghost : (value : Cell → ℕ) (mark : Cell → Bool) (q : Patch) (axis : Axis) (c : Cell) → HasGhost value mark q c → HasGhosts value mark q axis c 1
-one_ghost value mark q axis c h = record { at = λ k t. at_first k (omega arith) }
-  where
-    at_first : (k : ℕ) → k ≡ 0 → HasGhost value mark q (step axis c k)
-    at_first k e = rw (e, step_none axis c) h
-
 -- ---- the cells that a patch has from one on
 
 last_ahead : (z h : ℤ) (n k : ℕ) → z +ℤ pos n ≡ h +ℤ pos 1 → k < n → (z +ℤ pos k) ≤ℤ h
@@ -61,20 +55,24 @@ span_held ps j e q axis h n k holder end t =
     let ahead : along axis h +ℤ pos n ≡ along axis (box (get_or ps j q)).hi +ℤ pos 1 = subst (λ (p : Patch). along axis h +ℤ pos n ≡ along axis (box p).hi +ℤ pos 1) same end in
     held_ahead (box (get_or ps j q)) axis h k (holder.holds_it q) (last_ahead (along axis h) (along axis (box (get_or ps j q)).hi) n k ahead t)
 
+-- the cells of a strip stand for those of a strip
+pub first_inside : (d : Domain) (b : Extent) (axis : Axis) (c : Cell) (count : ℕ) → 0 < count → IsGhostStrip d b axis c count → IsTrue (is_inside (size_along axis d) (along axis c))
+first_inside d b axis c count some strip = subst (λ (z : ℤ). IsTrue (is_inside (size_along axis d) z)) (none (along axis c)) (strip.inside 0 some)
+  where
+    none : (z : ℤ) → z +ℤ pos 0 ≡ z
+    none z = omega (arith, ints)
+
+pub strip_home : (d : Domain) (b : Extent) (axis : Axis) (c h : Cell) (count k : ℕ) → h ≡ home_cell d c → 0 < count → k < count → IsGhostStrip d b axis c count → home_cell d (step axis c k) ≡ step axis h k
+strip_home d b axis c h count k home some t strip = home_step d axis c k (first_inside d b axis c count some strip) (strip.inside k t) ∙ ap (λ (s : Cell). step axis s k) (sym home)
+
 pub span_copied : (p : Problem) (l : ℕ) (ps : List Patch) (old : Masses) (j : ℕ) (d : Patch) (b : Extent) (axis : Axis) (c h : Cell) (count n : ℕ) → ArePatchesApart ps → j < length ps → h ≡ home_cell (domain p l) c → 0 < count → n ≤ count → IsGhostStrip (domain p l) b axis c count → ((q : Patch) (k : ℕ) → k < n → IsTrue (holds (box (get_or ps j q)) (step axis h k))) → AreCopied (value_at p l (masses_in ps) old) (is_of_level p l (masses_in ps)) (get_or ps j d) axis c h n
 span_copied p l ps old j d b axis c h count n apart there home some few strip held = record {
   values = λ k t. value_here p l (masses_in ps) old (step axis c k) (step axis h k) (home_is k t) (ap is_some (mass_is k t)) ∙ ap (λ (o : Option ℕ). unwrap_or o 0) (mass_is k t);
   marks = λ k t. ap (λ (s : Cell). is_some (masses_in ps s)) (home_is k t) ∙ ap is_some (mass_is k t);
 }
   where
-    from_low : IsTrue (is_inside (size_along axis (domain p l)) (along axis c +ℤ pos 0)) → IsTrue (is_inside (size_along axis (domain p l)) (along axis c))
-    from_low = subst (λ (z : ℤ). IsTrue (is_inside (size_along axis (domain p l)) z)) (none (along axis c))
-      where
-        none : (z : ℤ) → z +ℤ pos 0 ≡ z
-        none z = omega (arith, ints)
-
     home_is : (k : ℕ) → k < n → home_cell (domain p l) (step axis c k) ≡ step axis h k
-    home_is k t = home_step (domain p l) axis c k (from_low (strip.inside 0 some)) (strip.inside k (omega arith)) ∙ ap (λ (s : Cell). step axis s k) (sym home)
+    home_is k t = strip_home (domain p l) b axis c h count k home some (omega arith) strip
 
     mass_is : (k : ℕ) → k < n → masses_in ps (step axis h k) ≡ Some (mass_in (get_or ps j d) (step axis h k))
     mass_is k t = masses_in-at ps (step axis h k) j d apart (record { inside = there; holds_it = λ q. held q k t })

@@ -1,5 +1,6 @@
 -- What stays and what is gained while frames are filled, a cell at a time.
-use Rattle.std.specs.Prelude.{◌≡◌, ℕ, ◌<◌, Bool, true, pos, ◌+ℤ◌, ◌-ℤ◌, ◌≤ℤ◌, ◌<ℤ◌, List, IsTrue}
+use Rattle.std.specs.Prelude.{◌≡◌, ℕ, ◌<◌, Bool, true, pos, ◌+ℤ◌, ◌-ℤ◌, ◌≤ℤ◌, ◌<ℤ◌, List, IfSome, IsTrue}
+use Rattle.std.specs.declared.option.Option.{Option}
 use Rattle.std.specs.List.{AllZip}
 use Rattle.amr_box.specs.declared.Cell.{Cell}
 use Rattle.amr_box.specs.declared.Axis.{Axis}
@@ -14,6 +15,8 @@ use Rattle.amr_patch.specs.Places.{in_frame}
 use Rattle.amr_patch.specs.Patches.{ArePatchesApart, SameFluxes, SameOtherMarks, SameOtherValues, box, mark_in, mass_in, masses_in, value_in}
 use Rattle.amr_patch.specs.declared.lookup.Order.{Order}
 use Rattle.amr_patch.specs.Orders.{IsOrderOf}
+use Rattle.amr_gaps.specs.declared.gaps.Starts.{Starts}
+use Rattle.amr_gaps.specs.Gaps.{Ascends, HasStarts}
 use Rattle.amr_ghost.specs.Frames.{AreInDomain, KeepsCorners, SameMasses, is_beside, is_of_level}
 use Rattle.amr_ghost.specs.Strips.{step}
 use Rattle.amr_ghost.specs.declared.sides.Side.{Side}
@@ -59,16 +62,26 @@ pub record IsGhostStrip (d : Domain) (b : Extent) (axis : Axis) (c : Cell) (coun
 pub record HasGhosts (value : Cell → ℕ) (mark : Cell → Bool) (q : Patch) (axis : Axis) (c : Cell) (count : ℕ) : Type 0 where
   pub at : (k : ℕ) → k < count → HasGhost value mark q (step axis c k)
 
--- the first cells of a strip have as values the masses that a patch has along another strip, and are marked
-pub record AreCopied (value : Cell → ℕ) (mark : Cell → Bool) (q : Patch) (axis : Axis) (to from : Cell) (count : ℕ) : Type 0 where
-  pub values : (k : ℕ) → k < count → value (step axis to k) ≡ mass_in q (step axis from k)
-  pub marks : (k : ℕ) → k < count → mark (step axis to k) ≡ true
+-- the first cells of a strip have these values, and all of them this mark
+pub record AreGiven (value : Cell → ℕ) (mark : Cell → Bool) (axis : Axis) (to : Cell) (count : ℕ) (given : ℕ → ℕ) (of_level : Bool) : Type 0 where
+  pub values : (k : ℕ) → k < count → value (step axis to k) ≡ given k
+  pub marks : (k : ℕ) → k < count → mark (step axis to k) ≡ of_level
 
--- the patches are those of a level in a domain, and stand in this order
-pub record IsLevelInOrder (d : Domain) (o : Order) (ps : List Patch) : Type 0 where
+-- the first cells of a strip have as values the masses that a patch has along another strip, and are marked
+abbrev pub AreCopied : (Cell → ℕ) → (Cell → Bool) → Patch → Axis → Cell → Cell → ℕ → Type 0
+AreCopied value mark q axis to from count = AreGiven value mark axis to count (λ k. mass_in q (step axis from k)) true
+
+-- columns and rows that stand in order
+pub record AreOrdered (s : Starts) : Type 0 where
+  pub columns : Ascends s.columns.items
+  pub rows : Ascends s.rows.items
+
+-- the patches are those of a level in a domain, stand in this order, and start in these columns and rows, if any are told
+pub record IsLevelInOrder (d : Domain) (o : Order) (starts : Option Starts) (ps : List Patch) : Type 0 where
   pub ordered : IsOrderOf o ps
   pub apart : ArePatchesApart ps
   pub inside : AreInDomain d ps
+  pub starting : IfSome starts (HasStarts ps)
 
 -- the ghost cells of the patches that have the value and the mark of their cell keep them
 abbrev pub KeepsValues : Problem → ℕ → Masses → List Patch → List Patch → Type 0

@@ -9,24 +9,28 @@ ghost use Rattle.amr_def.specs.Value.{value_at};
 ghost use Rattle.amr_patch.specs.declared.patches.Patch.{Patch};
 ghost use Rattle.amr_patch.specs.Patches.{ArePatchesApart, SameFluxes, box, in_patches, masses_in};
 ghost use Rattle.amr_patch.specs.Orders.{IsHolder, IsOrderOf};
+ghost use Rattle.amr_gaps.specs.Gaps.{HasStarts};
 ghost use Rattle.amr_ghost.specs.Strips.{HasRoom};
 ghost use Rattle.amr_ghost.specs.Frames.{AreInDomain, HasGhostMarks, HasGhostValues, KeepsCorners, SameMasses, is_of_level, old_masses};
 ghost use Rattle.amr_ghost.specs.Filling.{HasFrame, HasSideValues, HasValues, IsGhostStrip, IsLevelInOrder, KeepsCells, KeepsValues, LiesInDomain};
 
-use crate::ghosts::{copy_strip, set_ghost};
+use crate::ghosts::{copy_strip, set_strip};
 use crate::lookup::Near;
+use crate::outside::outside_value;
 use crate::places::{cells_ahead, step};
+use crate::runs::{gap_ahead, quarter_run};
 use crate::sides::{Side, Strip, side_strip};
-use crate::values::outer_value;
-use amr_box::Cell;
-use amr_def::{Dom, Problem};
+use amr_def::Problem;
+use amr_gaps::Starts;
 use amr_patch::{Level, Order, Patch, find_near, order_of};
 
-/// The patch whose frame is filled: the number of its level, how that level's patches stand, and its own number among them.
-#[derive(Clone, Copy, Debug)]
-struct Target {
+/// The patch whose frame is filled: the number of its level, how that level's patches stand, where they start, if that is known,
+/// and its own number among them.
+#[derive(Clone, Copy)]
+struct Target<'a> {
     level: u32,
     order: Order,
+    starts: Option<&'a Starts>,
     patch: usize,
 }
 
@@ -39,31 +43,19 @@ struct NearSides {
     north: Near,
 }
 
-/// The number of the patch that has a cell. None has one outside the domain.
-fn holder(patches: &[Patch], order: Order, dom: &Dom, near: &mut usize, c: Cell) -> Option<usize>
-    requires { IsLevelInOrder (domain_of dom.now) order patches.now }
-    ensures some { is_some result ≡ in_patches patches.now c }
-    ensures found { IfSome result (IsHolder patches.now c) }
-{
-    if !dom.in_domain(c) {
-        return None;
-    }
-    find_near(patches, order, near, c)
-}
-
-/// Gives the first ghost cells of a strip beside a patch their values, and answers how many. They are as many as stand for
-/// cells of one patch, or one that stands for no cell of the level.
+/// Gives the first ghost cells of a strip beside a patch their values, and answers how many. They stand for cells of one patch,
+/// lie in a gap between patches over one coarser patch, or are the whole strip where it lies outside an open side.
 #[inline(always)]
 fn fill_span(
     p: &Problem,
     old: Option<&Level>,
     patches: &mut [Patch],
-    target: Target,
+    target: Target<'_>,
     strip: Strip,
     near: &mut Near,
 ) -> u32
     requires level { target.level ≤ 4 }
-    requires patches { IsLevelInOrder (domain p.now target.level) target.order patches.old }
+    requires patches { IsLevelInOrder (domain p.now target.level) target.order (option_copied target.starts) patches.old }
     requires there { target.patch < length patches.old }
     requires some { 0 < strip.count }
     requires small { strip.count ≤ 8192 }
@@ -72,12 +64,17 @@ fn fill_span(
     ensures some { 0 < result }
     ensures within { result ≤ strip.count }
     ensures kept { AllZip KeepsCells patches.old patches.new }
-    ensures ghosts { KeepsValues p.now target.level (old_masses (option_copied old.entry)) patches.old patches.new }
-    ensures set { (q : Patch) → HasValues p.now target.level (masses_in patches.old) (old_masses (option_copied old.entry)) (slice_index_or patches.new target.patch q) strip.axis strip.from result }
+    ensures ghosts { KeepsValues p.now target.entry.level (old_masses (option_copied old.entry)) patches.old patches.new }
+    ensures set { (q : Patch) → HasValues p.now target.entry.level (masses_in patches.old) (old_masses (option_copied old.entry)) (slice_index_or patches.new target.entry.patch q) strip.axis strip.from result }
 {
     let dom = p.domain(target.level);
     let home = dom.home_cell(strip.from);
-    match holder(patches, target.order, &dom, &mut near.level, home) {
+    if !dom.in_domain(home) {
+        let value = outside_value(p, target.level, home) as u32;
+        set_strip(patches, target.patch, strip, value);
+        return strip.count;
+    }
+    match find_near(patches, target.order, &mut near.level, home) {
         Some(j) => {
             let source = patches[j].bx();
             let count = cells_ahead(&source, strip.axis, home).min(strip.count);
@@ -90,9 +87,13 @@ fn fill_span(
             count
         }
         None => {
-            let value = outer_value(p, target.level, old, &mut near.coarser, home);
-            set_ghost(patches, target.patch, strip.from, value, false);
-            1
+            let most = gap_ahead(target.starts, strip.axis, home, strip.count);
+            let run = Strip {
+                axis: strip.axis,
+                from: strip.from,
+                count: most,
+            };
+            quarter_run(old, patches, target.patch, run, home, &mut near.coarser)
         }
     }
 }
@@ -103,19 +104,19 @@ fn fill_strip(
     p: &Problem,
     old: Option<&Level>,
     patches: &mut [Patch],
-    target: Target,
+    target: Target<'_>,
     strip: Strip,
     near: &mut Near,
 )
     requires level { target.level ≤ 4 }
-    requires patches { IsLevelInOrder (domain p.now target.level) target.order patches.old }
+    requires patches { IsLevelInOrder (domain p.now target.level) target.order (option_copied target.starts) patches.old }
     requires there { target.patch < length patches.old }
     requires small { strip.count ≤ 8192 }
     requires room { HasRoom strip.from }
     requires ghost_strip { (q : Patch) → IsGhostStrip (domain p.now target.level) (box (slice_index_or patches.old target.patch q)) strip.axis strip.from strip.count }
     ensures kept { AllZip KeepsCells patches.old patches.new }
-    ensures ghosts { KeepsValues p.now target.level (old_masses (option_copied old.entry)) patches.old patches.new }
-    ensures set { (q : Patch) → HasValues p.now target.level (masses_in patches.old) (old_masses (option_copied old.entry)) (slice_index_or patches.new target.patch q) strip.axis strip.from strip.count }
+    ensures ghosts { KeepsValues p.now target.entry.level (old_masses (option_copied old.entry)) patches.old patches.new }
+    ensures set { (q : Patch) → HasValues p.now target.entry.level (masses_in patches.old) (old_masses (option_copied old.entry)) (slice_index_or patches.new target.entry.patch q) strip.axis strip.from strip.count }
 {
     let mut done = 0;
     while done < strip.count {
@@ -134,17 +135,17 @@ fn fill_side(
     p: &Problem,
     old: Option<&Level>,
     patches: &mut [Patch],
-    target: Target,
+    target: Target<'_>,
     side: Side,
     near: &mut Near,
 )
     requires level { target.level ≤ 4 }
-    requires patches { IsLevelInOrder (domain p.now target.level) target.order patches.old }
+    requires patches { IsLevelInOrder (domain p.now target.level) target.order (option_copied target.starts) patches.old }
     requires there { target.patch < length patches.old }
     ensures kept { AllZip KeepsCells patches.old patches.new }
-    ensures ghosts { KeepsValues p.now target.level (old_masses (option_copied old.entry)) patches.old patches.new }
-    ensures set { (q : Patch) → HasSideValues p.now target.level (masses_in patches.old) (old_masses (option_copied old.entry)) (slice_index_or patches.new target.patch q) side }
-    ensures inside { (q : Patch) → LiesInDomain (domain p.now target.level) (box (slice_index_or patches.new target.patch q)) }
+    ensures ghosts { KeepsValues p.now target.entry.level (old_masses (option_copied old.entry)) patches.old patches.new }
+    ensures set { (q : Patch) → HasSideValues p.now target.entry.level (masses_in patches.old) (old_masses (option_copied old.entry)) (slice_index_or patches.new target.entry.patch q) side }
+    ensures inside { (q : Patch) → LiesInDomain (domain p.now target.entry.level) (box (slice_index_or patches.new target.entry.patch q)) }
 {
     let strip = side_strip(&patches[target.patch].bx(), side);
     fill_strip(p, old, patches, target, strip, near);
@@ -155,15 +156,15 @@ fn fill_frame(
     p: &Problem,
     old: Option<&Level>,
     patches: &mut [Patch],
-    target: Target,
+    target: Target<'_>,
     near: &mut NearSides,
 )
     requires level { target.level ≤ 4 }
-    requires patches { IsLevelInOrder (domain p.now target.level) target.order patches.old }
+    requires patches { IsLevelInOrder (domain p.now target.level) target.order (option_copied target.starts) patches.old }
     requires there { target.patch < length patches.old }
     ensures kept { AllZip KeepsCells patches.old patches.new }
-    ensures ghosts { KeepsValues p.now target.level (old_masses (option_copied old.entry)) patches.old patches.new }
-    ensures set { (q : Patch) → HasFrame p.now target.level (masses_in patches.old) (old_masses (option_copied old.entry)) (slice_index_or patches.new target.patch q) }
+    ensures ghosts { KeepsValues p.now target.entry.level (old_masses (option_copied old.entry)) patches.old patches.new }
+    ensures set { (q : Patch) → HasFrame p.now target.entry.level (masses_in patches.old) (old_masses (option_copied old.entry)) (slice_index_or patches.new target.entry.patch q) }
 {
     fill_side(p, old, patches, target, Side::West, &mut near.west);
     fill_side(p, old, patches, target, Side::East, &mut near.east);
@@ -193,13 +194,24 @@ pub fn fill(p: &Problem, l: u32, patches: &mut [Patch], old: Option<&Level>)
     ensures boxes { map box patches.new ≡ map box patches.old }
 {
     let order = order_of(patches);
-    fill_in_order(p, l, patches, order, old);
+    fill_in_order(p, l, patches, order, None, old);
 }
 
 /// The same, where it is known how the patches stand, as where they were taken from a level and each kept its box.
-pub fn fill_in_order(p: &Problem, l: u32, patches: &mut [Patch], order: Order, old: Option<&Level>)
+///
+/// Where `starts` tells where they start, a run of ghost cells in a gap between patches takes one search among them, not one a
+/// cell. It ends where the next column or row of patches starts, or the patch of `old` that its parents are in.
+pub fn fill_in_order(
+    p: &Problem,
+    l: u32,
+    patches: &mut [Patch],
+    order: Order,
+    starts: Option<&Starts>,
+    old: Option<&Level>,
+)
     requires level { l ≤ 4 }
     requires order { IsOrderOf order patches.old }
+    requires starts { IfSome (option_copied starts) (HasStarts patches.old) }
     requires apart { ArePatchesApart patches.old }
     requires inside { AreInDomain (domain p.now l) patches.old }
     ensures filled { All (HasGhostValues p.now l (masses_in patches.old) (old_masses (option_copied old.entry))) patches.new }
@@ -223,6 +235,7 @@ pub fn fill_in_order(p: &Problem, l: u32, patches: &mut [Patch], order: Order, o
         let target = Target {
             level: l,
             order,
+            starts,
             patch: i,
         };
         fill_frame(p, old, patches, target, &mut near);

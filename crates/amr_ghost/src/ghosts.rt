@@ -1,33 +1,21 @@
 //! Ghost cells of a patch, given their values.
 
-ghost use Rattle.std.specs.Prelude.{◌≡◌, ℕ, ◌+◌, ◌^◌, ◌<◌, ◌≤◌, length, slice_index, slice_index_or, slice_set, true, Bool, IsTrue};
+ghost use Rattle.std.specs.Prelude.{◌≡◌, ℕ, ◌+◌, ◌/◌, ◌^◌, ◌<◌, ◌≤◌, length, slice_index, slice_index_or, slice_set, false, true, Bool, IsTrue};
 ghost use Rattle.std.specs.List.{AllZip};
 ghost use Rattle.amr_box.specs.declared.Cell.{Cell};
-ghost use Rattle.amr_box.specs.Cells.{holds};
+ghost use Rattle.amr_box.specs.Cells.{holds, parent};
 ghost use Rattle.amr_patch.specs.declared.patches.Patch.{Patch};
 ghost use Rattle.amr_patch.specs.Places.{in_frame, place};
 ghost use Rattle.amr_patch.specs.Patches.{box, mass_in};
 ghost use Rattle.amr_ghost.specs.Strips.{HasRoom, step};
 ghost use Rattle.amr_ghost.specs.Frames.{is_beside};
-ghost use Rattle.amr_ghost.specs.Filling.{AreCopied, HasGhost, HasGhosts, IsGhostSet, KeepsCells, KeepsGhosts};
+ghost use Rattle.amr_ghost.specs.Filling.{AreCopied, AreGiven, HasGhost, HasGhosts, IsGhostSet, KeepsCells, KeepsGhosts};
 
 use crate::entries::{entries_of, nth};
+use crate::places::odd_along;
 use crate::sides::Strip;
-use amr_box::Cell;
+use amr_box::{Cell, parent};
 use amr_patch::Patch;
-
-/// Gives a ghost cell of patch `i` a value and a mark.
-pub(crate) fn set_ghost(patches: &mut [Patch], i: usize, c: Cell, v: u64, of_level: bool)
-    requires there { i < length patches.old }
-    requires ghost_cell { (q : Patch) → IsTrue (in_frame (box (slice_index_or patches.old i q)) c) }
-    requires beside { (q : Patch) → IsTrue (is_beside (box (slice_index_or patches.old i q)) c) }
-    requires small { v < 2 ^ 32 }
-    ensures kept { AllZip KeepsCells patches.old patches.new }
-    ensures ghosts { (value : Cell → ℕ) (mark : Cell → Bool) → value c ≡ v → mark c ≡ of_level → AllZip (KeepsGhosts value mark) patches.old patches.new }
-    ensures set { (value : Cell → ℕ) (mark : Cell → Bool) (q : Patch) → value c ≡ v → mark c ≡ of_level → HasGhost value mark (slice_index_or patches.new i q) c }
-{
-    patches[i].set_ghost(c, v, of_level);
-}
 
 /// The mass at a place.
 fn entry(patch: &Patch, at: usize) -> u32
@@ -37,13 +25,61 @@ fn entry(patch: &Patch, at: usize) -> u32
     patch.values[at]
 }
 
-/// Gives the ghost cell whose entries stand at a place a mass, and marks it as a cell of the level.
-fn set_entry(patch: &mut Patch, at: usize, mass: u32)
+/// Gives the ghost cell whose entries stand at a place a value and a mark.
+#[inline(always)]
+fn set_entry(patch: &mut Patch, at: usize, value: u32, of_level: bool)
     requires { at < length patch.old.values.items }
-    ensures { (c : Cell) → IsTrue (in_frame (box patch.old) c) → at ≡ place (box patch.old) c → IsGhostSet patch.old patch.new c mass true }
+    ensures { (c : Cell) → IsTrue (in_frame (box patch.old) c) → at ≡ place (box patch.old) c → IsGhostSet patch.old patch.new c value of_level }
 {
-    patch.values[at] = mass;
-    patch.marks[at] = true;
+    patch.values[at] = value;
+    patch.marks[at] = of_level;
+}
+
+/// Gives the ghost cells of a strip beside patch `i` one value. None is marked as a cell of the level.
+pub(crate) fn set_strip(patches: &mut [Patch], i: usize, strip: Strip, value: u32)
+    requires there { i < length patches.old }
+    requires some { 0 < strip.count }
+    requires small { strip.count ≤ 8192 }
+    requires ghost_cells { (q : Patch) (k : ℕ) → k < strip.count → IsTrue (in_frame (box (slice_index_or patches.old i q)) (step strip.axis strip.from k)) }
+    requires beside { (q : Patch) (k : ℕ) → k < strip.count → IsTrue (is_beside (box (slice_index_or patches.old i q)) (step strip.axis strip.from k)) }
+    ensures kept { AllZip KeepsCells patches.old patches.new }
+    ensures ghosts { (value_of : Cell → ℕ) (mark : Cell → Bool) → AreGiven value_of mark strip.axis strip.from strip.count (λ k. value) false → AllZip (KeepsGhosts value_of mark) patches.old patches.new }
+    ensures set { (value_of : Cell → ℕ) (mark : Cell → Bool) (q : Patch) → AreGiven value_of mark strip.axis strip.from strip.count (λ k. value) false → HasGhosts value_of mark (slice_index_or patches.new i q) strip.axis strip.from strip.count }
+{
+    let target = entries_of(&patches[i].bx(), strip.axis, strip.from);
+    for k in 0..strip.count {
+        let at = nth(target, k);
+        set_entry(&mut patches[i], at, value, false);
+    }
+}
+
+/// Gives the ghost cells of a strip beside patch `i` quarters of masses of a coarser patch. None is marked as a cell of the level. The
+/// masses are those of the parents of as many cells along the same axis, from a cell on.
+pub(crate) fn quarter_strip(
+    patches: &mut [Patch],
+    i: usize,
+    strip: Strip,
+    source: &Patch,
+    from: Cell,
+)
+    requires there { i < length patches.old }
+    requires some { 0 < strip.count }
+    requires small { strip.count ≤ 8192 }
+    requires ghost_cells { (q : Patch) (k : ℕ) → k < strip.count → IsTrue (in_frame (box (slice_index_or patches.old i q)) (step strip.axis strip.from k)) }
+    requires beside { (q : Patch) (k : ℕ) → k < strip.count → IsTrue (is_beside (box (slice_index_or patches.old i q)) (step strip.axis strip.from k)) }
+    requires masses { (k : ℕ) → k < strip.count → IsTrue (holds (box source.now) (parent (step strip.axis from k))) }
+    ensures kept { AllZip KeepsCells patches.old patches.new }
+    ensures ghosts { (value : Cell → ℕ) (mark : Cell → Bool) → AreGiven value mark strip.axis strip.from strip.count (λ k. mass_in source.now (parent (step strip.axis from k)) / 4) false → AllZip (KeepsGhosts value mark) patches.old patches.new }
+    ensures set { (value : Cell → ℕ) (mark : Cell → Bool) (q : Patch) → AreGiven value mark strip.axis strip.from strip.count (λ k. mass_in source.now (parent (step strip.axis from k)) / 4) false → HasGhosts value mark (slice_index_or patches.new i q) strip.axis strip.from strip.count }
+{
+    let parents = entries_of(&source.bx(), strip.axis, parent(from));
+    let skipped = odd_along(strip.axis, from);
+    let target = entries_of(&patches[i].bx(), strip.axis, strip.from);
+    for k in 0..strip.count {
+        let mass = entry(source, nth(parents, (skipped + k) / 2));
+        let at = nth(target, k);
+        set_entry(&mut patches[i], at, mass / 4, false);
+    }
 }
 
 /// Gives the ghost cells of a strip beside patch `i` masses of patch `j`, and marks them as cells of the level. The masses are
@@ -70,6 +106,6 @@ pub(crate) fn copy_strip(patches: &mut [Patch], i: usize, strip: Strip, j: usize
     for k in 0..strip.count {
         let mass = entry(&patches[j], nth(source, k));
         let at = nth(target, k);
-        set_entry(&mut patches[i], at, mass);
+        set_entry(&mut patches[i], at, mass, true);
     }
 }

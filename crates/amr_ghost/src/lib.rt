@@ -7,8 +7,8 @@ mod ghosts;
 mod lookup;
 mod outside;
 mod places;
+mod runs;
 mod sides;
-mod values;
 
 pub use filling::{fill, fill_in_order};
 

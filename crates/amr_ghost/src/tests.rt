@@ -1,4 +1,5 @@
-//! Frames of small levels: a ring in three patches, a patch beside itself, open sides, and a fine box in a coarse level.
+//! Frames of small levels: a ring in three patches, a patch beside itself, open sides, a fine box in a coarse level, and runs in
+//! gaps between patches.
 
 ghost use Rattle.std.specs.Prelude.{◌≡◌, ℕ, ◌<◌, ◌≤◌, length, slice_index_or, IfOk, IsTrue, true, false};
 ghost use Rattle.amr_box.specs.declared.Cell.{Cell};
@@ -12,7 +13,8 @@ ghost use Rattle.amr_ghost.specs.Frames.{AreInDomain};
 use super::*;
 use amr_box::{Bx, Cell};
 use amr_def::{Blocks, Dom, Name, Problem, Shear, Sides, Thresholds};
-use amr_patch::{Level, Patch};
+use amr_gaps::starts_of;
+use amr_patch::{Level, Patch, order_of};
 use std::alloc::Global;
 use std::test::Fail;
 
@@ -165,6 +167,28 @@ fn fill_level(p: &Problem, l: u32, patches: &mut [Patch], old: Option<&Level>) -
     true
 }
 
+/// The same, where it is known where the patches start.
+fn fill_by_starts(
+    alloc: Global,
+    p: &Problem,
+    l: u32,
+    patches: &mut [Patch],
+    old: Option<&Level>,
+) -> Result<bool, Fail>
+    requires { l ≤ 4 }
+{
+    if !are_apart(patches) {
+        return Ok(false);
+    }
+    if !are_in_domain(p, l, patches) {
+        return Ok(false);
+    }
+    let starts = starts_of(alloc, patches)?;
+    let order = order_of(patches);
+    fill_in_order(p, l, patches, order, Some(&starts), old);
+    Ok(true)
+}
+
 #[test]
 fn ring_in_three_patches(rt: HostRuntime) -> Result<(), Fail> {
     let alloc = rt.alloc();
@@ -248,5 +272,66 @@ fn quarters_of_the_coarser_level(rt: HostRuntime) -> Result<(), Fail> {
     assert_eq!(rt; ghost_at(&fine, 0, cell(6, 0)), Some((0, false)));
     assert_eq!(rt; ghost_at(&fine, 0, cell(4, 2)), Some((2, false)));
     assert_eq!(rt; ghost_at(&fine, 0, cell(5, -1)), Some((2, false)));
+    Ok(())
+}
+
+#[test]
+fn runs_over_two_coarse_patches(rt: HostRuntime) -> Result<(), Fail> {
+    let alloc = rt.alloc();
+    let p = problem(alloc, 8, 2, Sides::Periodic, Sides::Periodic)?;
+    let mut coarse = Vec::new(alloc);
+    coarse.push(patch(alloc, 0, 0, 3, 1)?)?;
+    coarse.push(patch(alloc, 4, 0, 7, 1)?)?;
+    assert!(rt; set(&mut coarse, 0, cell(1, 0), 5));
+    assert!(rt; set(&mut coarse, 0, cell(2, 1), 9));
+    assert!(rt; set(&mut coarse, 0, cell(3, 1), 16));
+    assert!(rt; set(&mut coarse, 1, cell(4, 1), 21));
+    assert!(rt; set(&mut coarse, 1, cell(6, 0), 31));
+    assert!(rt; are_apart(&coarse));
+    let mut old = Level::make(alloc, &[], &[])?;
+    old.put_patches(coarse);
+
+    let mut fine = Vec::new(alloc);
+    fine.push(patch(alloc, 4, 0, 11, 1)?)?;
+    fine.push(patch(alloc, 10, 2, 11, 3)?)?;
+    assert!(rt; set(&mut fine, 1, cell(10, 2), 13));
+    assert!(rt; set(&mut fine, 1, cell(11, 3), 15));
+    assert!(rt; fill_by_starts(alloc, &p, 1, &mut fine, Some(&old))?);
+    assert_eq!(rt; ghost_at(&fine, 0, cell(4, 2)), Some((2, false)));
+    assert_eq!(rt; ghost_at(&fine, 0, cell(5, 2)), Some((2, false)));
+    assert_eq!(rt; ghost_at(&fine, 0, cell(6, 2)), Some((4, false)));
+    assert_eq!(rt; ghost_at(&fine, 0, cell(7, -1)), Some((4, false)));
+    assert_eq!(rt; ghost_at(&fine, 0, cell(8, 2)), Some((5, false)));
+    assert_eq!(rt; ghost_at(&fine, 0, cell(9, -1)), Some((5, false)));
+    assert_eq!(rt; ghost_at(&fine, 0, cell(10, 2)), Some((13, true)));
+    assert_eq!(rt; ghost_at(&fine, 0, cell(11, -1)), Some((15, true)));
+    assert_eq!(rt; ghost_at(&fine, 0, cell(3, 1)), Some((1, false)));
+    assert_eq!(rt; ghost_at(&fine, 0, cell(12, 0)), Some((7, false)));
+    assert_eq!(rt; ghost_at(&fine, 1, cell(9, 3)), Some((5, false)));
+    Ok(())
+}
+
+#[test]
+fn runs_beside_an_open_side(rt: HostRuntime) -> Result<(), Fail> {
+    let alloc = rt.alloc();
+    let p = problem(alloc, 4, 2, Sides::Open(6, 40), Sides::Periodic)?;
+    let mut coarse = Vec::new(alloc);
+    coarse.push(patch(alloc, 0, 0, 3, 1)?)?;
+    assert!(rt; set(&mut coarse, 0, cell(2, 0), 7));
+    assert!(rt; set(&mut coarse, 0, cell(2, 1), 9));
+    assert!(rt; are_apart(&coarse));
+    let mut old = Level::make(alloc, &[], &[])?;
+    old.put_patches(coarse);
+
+    let mut fine = Vec::new(alloc);
+    fine.push(patch(alloc, 0, 0, 3, 3)?)?;
+    fine.push(patch(alloc, 6, 0, 7, 3)?)?;
+    assert!(rt; fill_by_starts(alloc, &p, 1, &mut fine, Some(&old))?);
+    assert_eq!(rt; ghost_at(&fine, 0, cell(-1, 0)), Some((1, false)));
+    assert_eq!(rt; ghost_at(&fine, 0, cell(-1, 3)), Some((1, false)));
+    assert_eq!(rt; ghost_at(&fine, 1, cell(8, 0)), Some((10, false)));
+    assert_eq!(rt; ghost_at(&fine, 1, cell(8, 3)), Some((10, false)));
+    assert_eq!(rt; ghost_at(&fine, 0, cell(4, 1)), Some((1, false)));
+    assert_eq!(rt; ghost_at(&fine, 0, cell(4, 2)), Some((2, false)));
     Ok(())
 }

@@ -11,20 +11,20 @@ use Rattle.amr_ghost.proofs.Levels.{keeps_values, same_side, still_level, still_
 use Rattle.amr_ghost.proofs.filling.fill_frame.Goals as goal
 
 pub fill_side-requires-2-clause-patches : goal.fill_side-requires-2-clause-patches
-fill_side-requires-2-clause-patches c = still_level (domain c.args.p.now c.args.target.level) c.args.target.order c.args.patches.now c.fill_side.new.patches c.fill_side.ensures.kept c.requires.patches
+fill_side-requires-2-clause-patches c = still_level (domain c.args.p.now c.args.target.level) c.args.target.order (option_copied c.args.target.starts) c.args.patches.now c.fill_side.new.patches c.fill_side.ensures.kept c.requires.patches
 
 pub fill_side-requires-3-clause-patches : goal.fill_side-requires-3-clause-patches
 fill_side-requires-3-clause-patches c =
     let ps = c.args.patches.now in
     let two = zip_trans KeepsCells keeps_trans ps c.fill_side.new.patches c.fill_side-2.new.patches c.fill_side.ensures.kept c.fill_side-2.ensures.kept in
-    still_level (domain c.args.p.now c.args.target.level) c.args.target.order ps c.fill_side-2.new.patches two c.requires.patches
+    still_level (domain c.args.p.now c.args.target.level) c.args.target.order (option_copied c.args.target.starts) ps c.fill_side-2.new.patches two c.requires.patches
 
 pub fill_side-requires-4-clause-patches : goal.fill_side-requires-4-clause-patches
 fill_side-requires-4-clause-patches c =
     let ps = c.args.patches.now in
     let two = zip_trans KeepsCells keeps_trans ps c.fill_side.new.patches c.fill_side-2.new.patches c.fill_side.ensures.kept c.fill_side-2.ensures.kept in
     let three = zip_trans KeepsCells keeps_trans ps c.fill_side-2.new.patches c.fill_side-3.new.patches two c.fill_side-3.ensures.kept in
-    still_level (domain c.args.p.now c.args.target.level) c.args.target.order ps c.fill_side-3.new.patches three c.requires.patches
+    still_level (domain c.args.p.now c.args.target.level) c.args.target.order (option_copied c.args.target.starts) ps c.fill_side-3.new.patches three c.requires.patches
 
 pub returns-clause-kept : goal.returns-clause-kept
 returns-clause-kept c =

@@ -18,8 +18,8 @@ loop-i-init c = record {
 
 pub fill_frame-requires-clause-patches : goal.fill_frame-requires-clause-patches
 fill_frame-requires-clause-patches c =
-    let level : IsLevelInOrder (domain c.args.p.now c.args.l) c.args.order c.args.patches.now = record { ordered = c.requires.order; apart = c.requires.apart; inside = c.requires.inside } in
-    still_level (domain c.args.p.now c.args.l) c.args.order c.args.patches.now c.loop-i.patches c.loop-i.invariant.kept level
+    let level : IsLevelInOrder (domain c.args.p.now c.args.l) c.args.order (option_copied c.args.starts) c.args.patches.now = record { ordered = c.requires.order; apart = c.requires.apart; inside = c.requires.inside; starting = c.requires.starts } in
+    still_level (domain c.args.p.now c.args.l) c.args.order (option_copied c.args.starts) c.args.patches.now c.loop-i.patches c.loop-i.invariant.kept level
 
 pub loop-i-preserved : goal.loop-i-preserved
 loop-i-preserved c =

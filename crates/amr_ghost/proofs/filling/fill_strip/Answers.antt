@@ -26,7 +26,7 @@ loop-done-init c =
     }
 
 pub fill_span-done-requires-clause-patches : goal.fill_span-done-requires-clause-patches
-fill_span-done-requires-clause-patches c = still_level (domain c.args.p.now c.args.target.level) c.args.target.order c.args.patches.now c.loop-done.patches c.loop-done.invariant.kept c.requires.patches
+fill_span-done-requires-clause-patches c = still_level (domain c.args.p.now c.args.target.level) c.args.target.order (option_copied c.args.target.starts) c.args.patches.now c.loop-done.patches c.loop-done.invariant.kept c.requires.patches
 
 pub fill_span-done-requires-clause-room : goal.fill_span-done-requires-clause-room
 fill_span-done-requires-clause-room c = rw c.step.ensures (room_ahead (domain c.args.p.now c.args.target.level) c.args.strip.axis c.args.strip.from c.loop-done.done c.requires.room (few_along c.args.p.now c.args.target.level c.args.strip.axis c.requires.level) ((c.requires.ghost_strip (some_patch c.args.patches.now c.args.target.patch c.requires.there)).inside c.loop-done.done (omega arith)))

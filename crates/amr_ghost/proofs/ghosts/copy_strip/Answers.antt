@@ -11,9 +11,9 @@ use Rattle.amr_patch.proofs.Entries.{in_grown}
 use Rattle.amr_ghost.specs.Strips.{step}
 use Rattle.amr_ghost.specs.Frames.{is_beside}
 use Rattle.amr_ghost.specs.Filling.{AreCopied, HasGhost, IsGhostSet, KeepsCells, KeepsGhosts}
-use Rattle.amr_ghost.proofs.Zips.{keeps_refl, keeps_trans, still_ghost, still_held, zip_box, zip_ghosts, zip_refl, zip_set, zip_trans}
-use Rattle.amr_ghost.proofs.Steps.{frame_grown, ghost_is_set, ghost_keeps_cells, ghost_keeps_ghosts, ghosts_refl}
-use Rattle.amr_ghost.proofs.GhostStrips.{copied_mark, copied_value, fewer_ghosts, more_ghosts, no_ghosts, still_ghosts}
+use Rattle.amr_ghost.proofs.Zips.{keeps_refl, still_ghost, still_held, still_mass, zip_refl}
+use Rattle.amr_ghost.proofs.Steps.{frame_grown, ghosts_refl}
+use Rattle.amr_ghost.proofs.GhostStrips.{fewer_ghosts, next_ghosts, next_kept, next_set, no_ghosts}
 use Rattle.amr_ghost.proofs.StripPlaces.{entry_in_list, entry_is, entry_small, still_place}
 use Rattle.amr_ghost.proofs.Spans.{first_ghost}
 use Rattle.amr_ghost.proofs.ghosts.copy_strip.Goals as goal
@@ -81,30 +81,26 @@ pub loop-k-preserved : goal.loop-k-preserved
 loop-k-preserved c =
     let ps = c.args.patches.now in
     let qs = c.loop-k.patches in
+    let i = c.args.i in
     let r = c.set_entry.new.patch in
-    let rs = set qs c.args.i r in
+    let axis = c.args.strip.axis in
     let k = c.loop-k.k in
+    let n = c.args.strip.count in
     let mass = c.entry-mass.result in
     let d = c.index-patches-i-in-loop-k.result in
     let e = c.index-patches-j-in-loop-k.result in
-    let q = get_or qs c.args.i d in
-    let f = step c.args.strip.axis c.args.from k in
-    let t = step c.args.strip.axis c.args.strip.from k in
+    let f = step axis c.args.from k in
+    let t = step axis c.args.strip.from k in
+    let lt : k < n = omega arith in
     let kept : AllZip KeepsCells ps qs = c.loop-k.invariant.kept in
-    let there : c.args.i < length qs = let n : length ps ≡ length qs = length_all_zip KeepsCells ps qs kept in omega arith in
-    let ghost : IsTrue (in_frame (box q) t) = still_ghost ps qs c.args.i d d t t kept c.requires.there refl (c.requires.ghost_cells d k (omega arith)) in
-    let beside : IsTrue (is_beside (box q) t) = subst (λ (b : Extent). IsTrue (is_beside b t)) (sym (zip_box ps qs c.args.i d d kept c.requires.there)) (c.requires.beside d k (omega arith)) in
-    let s : IsGhostSet q r t mass true = c.set_entry.ensures t ghost (still_place ps qs c.args.i c.index-patches-i.result d c.bx-2.result t c.nth-at.result kept c.requires.there c.bx-2.ensures.value (c.nth-at.ensures ∙ c.entries_of-target.ensures k)) in
+    let ghost : IsTrue (in_frame (box (get_or qs i d)) t) = still_ghost ps qs i d d t t kept c.requires.there refl (c.requires.ghost_cells d k lt) in
+    let s : IsGhostSet (get_or qs i d) r t mass true = c.set_entry.ensures t ghost (still_place ps qs i c.index-patches-i.result d c.bx-2.result t c.nth-at.result kept c.requires.there c.bx-2.ensures.value (c.nth-at.ensures ∙ c.entries_of-target.ensures k)) in
     let now : mass ≡ mass_in (get_or qs c.args.j e) f = entry_is (get_or qs c.args.j e) (box (get_or qs c.args.j e)) f c.nth.result mass refl (still_place ps qs c.args.j c.index-patches-j.result e c.bx.result f c.nth.result kept c.requires.source c.bx.ensures.value (c.nth.ensures ∙ c.entries_of-source.ensures k)) c.entry-mass.ensures in
-    let value_is : (value : Cell → ℕ) (mark : Cell → Bool) (p : Patch) → AreCopied value mark (get_or ps c.args.j p) c.args.strip.axis c.args.strip.from c.args.from c.args.strip.count → value t ≡ mass = λ value mark p copied. copied_value value mark ps qs c.args.j p e c.args.strip.axis c.args.strip.from c.args.from c.args.strip.count k mass t f kept c.requires.source (omega arith) (c.requires.masses p k (omega arith)) copied refl refl now in
-    let mark_is : (value : Cell → ℕ) (mark : Cell → Bool) (p : Patch) → AreCopied value mark (get_or ps c.args.j p) c.args.strip.axis c.args.strip.from c.args.from c.args.strip.count → mark t ≡ true = λ value mark p copied. copied_mark value mark (get_or ps c.args.j p) c.args.strip.axis c.args.strip.from c.args.from c.args.strip.count k t (omega arith) copied refl in
-    let one : (value : Cell → ℕ) (mark : Cell → Bool) (p : Patch) → AreCopied value mark (get_or ps c.args.j p) c.args.strip.axis c.args.strip.from c.args.from c.args.strip.count → AllZip (KeepsGhosts value mark) qs rs = λ value mark p copied. zip_set (KeepsGhosts value mark) (ghosts_refl value mark) qs c.args.i d r (ghost_keeps_ghosts value mark q r t mass true (value_is value mark p copied) (mark_is value mark p copied) s) in
+    let was : (p : Patch) → mass_in (get_or ps c.args.j p) f ≡ mass = λ p. sym (still_mass ps qs c.args.j p e f f kept c.requires.source refl (c.requires.masses p k lt)) ∙ sym now in
     record {
-      kept = zip_trans KeepsCells keeps_trans ps qs rs kept (zip_set KeepsCells keeps_refl qs c.args.i d r (ghost_keeps_cells q r t mass true ghost beside s));
-      ghosts = λ value mark p copied. zip_ghosts value mark ps qs rs kept (c.loop-k.invariant.ghosts value mark p copied) (one value mark p copied);
-      set = λ value mark o p copied. more_ghosts value mark (get_or rs c.args.i o) c.args.strip.axis c.args.strip.from k
-          (still_ghosts value mark qs rs c.args.i o o c.args.strip.axis c.args.strip.from k there (one value mark p copied) (λ m h. still_ghost ps qs c.args.i o o (step c.args.strip.axis c.args.strip.from m) (step c.args.strip.axis c.args.strip.from m) kept c.requires.there refl (c.requires.ghost_cells o m (omega arith))) (c.loop-k.invariant.set value mark o p copied))
-          (subst (λ (u : Patch). HasGhost value mark u t) (sym (get_or-set_same qs c.args.i r o there)) (ghost_is_set value mark q r t mass true (value_is value mark p copied) (mark_is value mark p copied) s));
+      kept = next_kept ps qs i d r axis c.args.strip.from k n mass true kept c.requires.there lt c.requires.ghost_cells c.requires.beside s;
+      ghosts = λ value mark p copied. next_ghosts ps qs i d r axis c.args.strip.from k n mass true kept c.requires.there lt c.requires.ghost_cells c.requires.beside s value mark (copied.values k lt ∙ was p) (copied.marks k lt) (c.loop-k.invariant.ghosts value mark p copied);
+      set = λ value mark o p copied. next_set ps qs i d r axis c.args.strip.from k n mass true kept c.requires.there lt c.requires.ghost_cells c.requires.beside s value mark (copied.values k lt ∙ was p) (copied.marks k lt) o (c.loop-k.invariant.set value mark o p copied);
     }
 
 pub returns-clause-set : goal.returns-clause-set

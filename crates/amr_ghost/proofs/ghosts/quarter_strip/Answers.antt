@@ -1,0 +1,95 @@
+use Rattle.std.proofs.Common.{◌≡◌, ℕ, ◌/◌, ◌+◌, ◌<◌, get_or, false, IsTrue, refl, sym, ap, subst, ◌∙◌, arith}
+use Rattle.std.specs.List.{AllZip}
+use Rattle.amr_box.specs.declared.Cell.{Cell}
+use Rattle.amr_box.specs.Cells.{Extent, holds, parent}
+use Rattle.amr_patch.specs.declared.patches.Patch.{Patch}
+use Rattle.amr_patch.specs.Places.{grown, in_frame, place}
+use Rattle.amr_patch.specs.Patches.{box, mass_in}
+use Rattle.amr_patch.proofs.Entries.{in_grown}
+use Rattle.amr_ghost.specs.Strips.{step}
+use Rattle.amr_ghost.specs.Filling.{IsGhostSet, KeepsCells, KeepsGhosts}
+use Rattle.amr_ghost.proofs.Zips.{keeps_refl, still_ghost, zip_refl}
+use Rattle.amr_ghost.proofs.Steps.{frame_grown, ghosts_refl}
+use Rattle.amr_ghost.proofs.GhostStrips.{fewer_ghosts, next_ghosts, next_kept, next_set, no_ghosts}
+use Rattle.amr_ghost.proofs.StripPlaces.{entry_in_list, entry_is, entry_small, still_place}
+use Rattle.amr_ghost.proofs.Parents.{parent_place}
+use Rattle.amr_ghost.proofs.Spans.{first_ghost}
+use Rattle.amr_ghost.proofs.ghosts.quarter_strip.Goals as goal
+
+pub entries_of-target-requires-clause-inside : goal.entries_of-target-requires-clause-inside
+entries_of-target-requires-clause-inside c =
+    let b = box (get_or c.args.patches.now c.args.i c.index-patches-i.result) in
+    let ghost : IsTrue (in_frame b c.args.strip.from) = first_ghost (λ (s : Cell). IsTrue (in_frame b s)) c.args.strip.axis c.args.strip.from (c.requires.ghost_cells c.index-patches-i.result 0 c.requires.some) in
+    subst (λ (t : Extent). IsTrue (holds (grown t) c.args.strip.from)) (sym c.bx-2.ensures.value) (frame_grown b c.args.strip.from ghost)
+
+pub nth-at-requires : goal.nth-at-requires
+nth-at-requires c =
+    let q = get_or c.args.patches.now c.args.i c.index-patches-i.result in
+    let t = step c.args.strip.axis c.args.strip.from c.loop-k.k in
+    entry_small q t _ (c.entries_of-target.ensures c.loop-k.k ∙ ap (λ (b : Extent). place b t) c.bx-2.ensures.value) (frame_grown (box q) t (c.requires.ghost_cells c.index-patches-i.result c.loop-k.k (omega arith)))
+
+pub set_entry-requires : goal.set_entry-requires
+set_entry-requires c =
+    let ps = c.args.patches.now in
+    let qs = c.loop-k.patches in
+    let d = c.index-patches-i.result in
+    let e = c.index-patches-i-in-loop-k.result in
+    let t = step c.args.strip.axis c.args.strip.from c.loop-k.k in
+    entry_in_list (get_or qs c.args.i e) t c.nth-at.result
+    (still_place ps qs c.args.i d e c.bx-2.result t c.nth-at.result c.loop-k.invariant.kept c.requires.there c.bx-2.ensures.value (c.nth-at.ensures ∙ c.entries_of-target.ensures c.loop-k.k))
+    (frame_grown (box (get_or qs c.args.i e)) t (still_ghost ps qs c.args.i d e t t c.loop-k.invariant.kept c.requires.there refl (c.requires.ghost_cells d c.loop-k.k (omega arith))))
+
+pub loop-k-init : goal.loop-k-init
+loop-k-init c = record {
+  kept = zip_refl KeepsCells keeps_refl c.args.patches.now;
+  ghosts = λ value mark given. zip_refl (KeepsGhosts value mark) (ghosts_refl value mark) c.args.patches.now;
+  set = λ value mark q given. no_ghosts value mark (get_or c.args.patches.now c.args.i q) c.args.strip.axis c.args.strip.from;
+}
+
+pub loop-k-preserved : goal.loop-k-preserved
+loop-k-preserved c =
+    let ps = c.args.patches.now in
+    let qs = c.loop-k.patches in
+    let i = c.args.i in
+    let r = c.set_entry.new.patch in
+    let axis = c.args.strip.axis in
+    let k = c.loop-k.k in
+    let n = c.args.strip.count in
+    let d = c.index-patches-i-in-loop-k.result in
+    let t = step axis c.args.strip.from k in
+    let lt : k < n = omega arith in
+    let kept : AllZip KeepsCells ps qs = c.loop-k.invariant.kept in
+    let ghost : IsTrue (in_frame (box (get_or qs i d)) t) = still_ghost ps qs i d d t t kept c.requires.there refl (c.requires.ghost_cells d k lt) in
+    let v = c.entry-mass.result / 4 in
+    let s : IsGhostSet (get_or qs i d) r t v false = c.set_entry.ensures t ghost (still_place ps qs i c.index-patches-i.result d c.bx-2.result t c.nth-at.result kept c.requires.there c.bx-2.ensures.value (c.nth-at.ensures ∙ c.entries_of-target.ensures k)) in
+    let is : mass_in c.args.source.now (parent (step axis c.args.from k)) / 4 ≡ v = ap (λ (m : ℕ). m / 4) (sym (entry_is c.args.source.now (box c.args.source.now) (parent (step axis c.args.from k)) c.nth.result c.entry-mass.result refl (parent_place c.args.source.now c.bx.result axis c.args.from c.parent.result c.entries_of-parents.result.first c.entries_of-parents.result.stride c.odd_along-skipped.result k c.nth.result c.bx.ensures.value c.parent.ensures.value c.odd_along-skipped.ensures c.entries_of-parents.ensures c.nth.ensures) c.entry-mass.ensures)) in
+    record {
+      kept = next_kept ps qs i d r axis c.args.strip.from k n v false kept c.requires.there lt c.requires.ghost_cells c.requires.beside s;
+      ghosts = λ value mark given. next_ghosts ps qs i d r axis c.args.strip.from k n v false kept c.requires.there lt c.requires.ghost_cells c.requires.beside s value mark (given.values k lt ∙ is) (given.marks k lt) (c.loop-k.invariant.ghosts value mark given);
+      set = λ value mark o given. next_set ps qs i d r axis c.args.strip.from k n v false kept c.requires.there lt c.requires.ghost_cells c.requires.beside s value mark (given.values k lt ∙ is) (given.marks k lt) o (c.loop-k.invariant.set value mark o given);
+    }
+
+pub returns-clause-set : goal.returns-clause-set
+returns-clause-set c value mark q given = fewer_ghosts value mark (get_or c.loop-k.patches c.args.i q) c.args.strip.axis c.args.strip.from c.loop-k.k c.args.strip.count (omega arith) (c.loop-k.invariant.set value mark q given)
+
+pub entries_of-parents-requires-clause-inside : goal.entries_of-parents-requires-clause-inside
+entries_of-parents-requires-clause-inside c =
+    let b = box c.args.source.now in
+    let held : IsTrue (holds b (parent c.args.from)) = first_ghost (λ (s : Cell). IsTrue (holds b (parent s))) c.args.strip.axis c.args.from (c.requires.masses 0 c.requires.some) in
+    rw (c.bx.ensures.value, c.parent.ensures.value) (in_grown b (parent c.args.from) held)
+
+pub nth-requires : goal.nth-requires
+nth-requires c =
+    let q = c.args.source.now in
+    let axis = c.args.strip.axis in
+    let k = c.loop-k.k in
+    let f = parent (step axis c.args.from k) in
+    entry_small q f _ (parent_place q c.bx.result axis c.args.from c.parent.result c.entries_of-parents.result.first c.entries_of-parents.result.stride c.odd_along-skipped.result k _ c.bx.ensures.value c.parent.ensures.value c.odd_along-skipped.ensures c.entries_of-parents.ensures refl) (in_grown (box q) f (c.requires.masses k (omega arith)))
+
+pub entry-mass-requires : goal.entry-mass-requires
+entry-mass-requires c =
+    let q = c.args.source.now in
+    let axis = c.args.strip.axis in
+    let k = c.loop-k.k in
+    let f = parent (step axis c.args.from k) in
+    entry_in_list q f c.nth.result (parent_place q c.bx.result axis c.args.from c.parent.result c.entries_of-parents.result.first c.entries_of-parents.result.stride c.odd_along-skipped.result k c.nth.result c.bx.ensures.value c.parent.ensures.value c.odd_along-skipped.ensures c.entries_of-parents.ensures c.nth.ensures) (in_grown (box q) f (c.requires.masses k (omega arith)))
