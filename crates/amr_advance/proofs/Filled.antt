@@ -1,5 +1,6 @@
 -- The patches of a level whose frames were filled show its values.
 use Rattle.std.proofs.Common.{◌≡◌, ℕ, zero, suc, ◌<◌, List, [], ◌∷◌, length, get_or, map, sym, ap, subst, ◌∙◌, arith}
+use Rattle.std.specs.declared.option.Option.TheVariants.{None}
 use Rattle.std.specs.List.{All, AllZip}
 use Rattle.std.proofs.lemmas.List.Elements.{AllZip-get_or, length_all_zip}
 use Rattle.amr_box.specs.Cells.{Extent, holds}
@@ -60,7 +61,7 @@ module _ (p : Problem) (l : ℕ) (old : Masses) (o : Order) (ps qs : List Patch)
 
   pub all_shown : AreShown p l old qs
   all_shown =
-      let level = still_level (domain p l) o ps qs keeps (record { ordered = ordered; apart = apart; inside = inside }) in
+      let level = still_level (domain p l) o None ps qs keeps (record { ordered = ordered; apart = apart; inside = inside; starting = tt }) in
       record {
         apart = level.apart;
         inside = level.inside;

@@ -59,7 +59,14 @@ fn lay_out(
     ensures shown { AreShown given.entry.problem.now given.entry.level (old_masses (option_copied given.entry.old)) patches.new }
     ensures layout { IfOk result (IsLaidOut (around given.entry.problem.now given.entry.level patches.new given.entry.cells.now (option_copied given.entry.finer))) }
 {
-    fill_in_order(given.problem, given.level, patches, order, given.old);
+    fill_in_order(
+        given.problem,
+        given.level,
+        patches,
+        order,
+        None,
+        given.old,
+    );
     layout_for(given, patches, kept)
 }
 

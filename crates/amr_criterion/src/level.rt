@@ -7,6 +7,7 @@ ghost use Rattle.amr_box.specs.declared.Cell.{Cell};
 ghost use Rattle.amr_def.specs.Domain.{domain, domain_box};
 ghost use Rattle.amr_def.specs.Facts.{IsLevel};
 ghost use Rattle.amr_def.specs.Tags.{is_tagged_by};
+ghost use Rattle.amr_gaps.specs.Gaps.{HasStarts};
 ghost use Rattle.amr_ghost.specs.Frames.{HasGhostMarks, HasGhostValues, old_masses};
 ghost use Rattle.amr_patch.specs.Levels.{level_of, patches_of};
 ghost use Rattle.amr_patch.specs.Patches.{SameFluxes, box};
@@ -16,6 +17,7 @@ ghost use Rattle.amr_criterion.specs.Pairs.{IsJoined};
 use crate::patches::tag_patches;
 use amr_causes::NoMemory;
 use amr_def::{Dom, Problem};
+use amr_gaps::{Starts, starts_of};
 use amr_ghost::fill_in_order;
 use amr_nest::domain_box;
 use amr_patch::Level;
@@ -23,9 +25,17 @@ use amr_tags::Tags;
 use std::alloc::Global;
 
 /// Tags the cells of a level that are to be refined, and fills the frames of its patches.
-fn tag_level(tags: &mut Tags, p: &Problem, l: u32, level: &mut Level, coarse: Option<&Level>)
+fn tag_level(
+    tags: &mut Tags,
+    p: &Problem,
+    l: u32,
+    level: &mut Level,
+    starts: &Starts,
+    coarse: Option<&Level>,
+)
     requires below { l < p.now.max_level }
     requires of_domain { IsLevel p.now l (level_of level.old) }
+    requires starts { HasStarts (patches_of level.old) starts.now }
     ensures tags { IsJoined (is_tagged_by p.now l (level_of level.old).masses (old_masses (option_copied coarse.entry))) tags.old tags.new }
     ensures level { level_of level.new ≡ level_of level.old }
     ensures patches { map box (patches_of level.new) ≡ map box (patches_of level.old) }
@@ -37,7 +47,7 @@ fn tag_level(tags: &mut Tags, p: &Problem, l: u32, level: &mut Level, coarse: Op
     let threshold = p.tag.entries()[l as usize];
     let order = level.order();
     let mut patches = level.take_patches();
-    fill_in_order(p, l, &mut patches, order, coarse);
+    fill_in_order(p, l, &mut patches, order, Some(starts), coarse);
     tag_patches(tags, &patches, &dom, threshold);
     level.put_patches_in_order(patches, order);
 }
@@ -71,6 +81,7 @@ pub fn tags(
 {
     let dom = p.domain(l);
     let mut tags = Tags::make(alloc, domain_box(&dom), dom.wrap_x, dom.wrap_y)?;
-    tag_level(&mut tags, p, l, level, coarse);
+    let starts = starts_of(alloc, level.patches())?;
+    tag_level(&mut tags, p, l, level, &starts, coarse);
     Ok(tags)
 }

@@ -11,6 +11,7 @@ use Rattle.amr_patch.specs.Levels.{level_of, patches_of}
 use Rattle.amr_patch.specs.Orders.{IsOrderOf}
 use Rattle.amr_patch.specs.Patches.{ArePatchesApart, SameFluxes, masses_in}
 use Rattle.amr_patch.proofs.Standing.{order_of_boxes}
+use Rattle.amr_gaps.specs.Gaps.{HasStarts}
 use Rattle.amr_ghost.specs.Frames.{AreInDomain, HasGhostMarks, HasGhostValues, old_masses}
 use Rattle.amr_criterion.specs.Tagged.{is_tagged_in}
 use Rattle.amr_criterion.proofs.Frames.{patches_inside, same_masses, still_apart}
@@ -20,6 +21,9 @@ use Rattle.amr_criterion.proofs.level.tag_level.Goals as goal
 
 pub fill_in_order-requires-clause-order : goal.fill_in_order-requires-clause-order
 fill_in_order-requires-clause-order c = subst (λ (ps : List Patch). IsOrderOf c.order-order.result ps) (sym (c.deref_mut.ensures.value ∙ c.take_patches-patches.ensures.all)) c.order-order.ensures
+
+pub fill_in_order-requires-clause-starts : goal.fill_in_order-requires-clause-starts
+fill_in_order-requires-clause-starts c = subst (λ (ps : List Patch). HasStarts ps c.args.starts.now) (sym (c.deref_mut.ensures.value ∙ c.take_patches-patches.ensures.all)) c.requires.starts
 
 pub fill_in_order-requires-clause-inside : goal.fill_in_order-requires-clause-inside
 fill_in_order-requires-clause-inside c = subst (λ (ps : List Patch). AreInDomain (domain c.args.p.now c.args.l) ps) (sym c.deref_mut.ensures.value) (patches_inside c.args.p.now c.args.l (level_of c.args.level.now) c.take_patches-patches.result.items c.requires.of_domain c.take_patches-patches.ensures.masses)
