@@ -9,6 +9,8 @@ use Rattle.amr_def.specs.State.{in_boxes}
 use Rattle.amr_patch.specs.declared.patches.Patch.{Patch}
 use Rattle.amr_patch.specs.Patches.{box}
 use Rattle.amr_layout.specs.declared.TaskLayout.{TaskLayout}
+use Rattle.amr_gaps.proofs.GapLaws.{starts_of_boxes}
+use Rattle.amr_layout.specs.Grounds.{SameGround}
 use Rattle.amr_layout.specs.Surroundings.{Around}
 use Rattle.amr_work.specs.declared.work.Workspace.{Workspace}
 use Rattle.amr_advance.specs.declared.kept.KeptLayout.{KeptLayout}
@@ -40,7 +42,21 @@ serves_here t k h level boxes cells finer =
       boxes = sym boxes;
       cells = cells;
       finer = finer;
+      starts = starts_of_boxes s.patches t.patches k.starts (sym same) made.starts;
       layout = same_layout s t k.layout.value (record { problem = h.of_problem; level = sym made.level ∙ level; boxes = same; cells = sym made.cells ∙ cells; finer = λ c. made.finer c ∙ sym (finer c) }) made.layout;
       shape = made.shape;
       workspaces = same_workspaces s.patches t.patches k.layout.value.tasks.items k.workspaces.items same made.workspaces;
     }
+
+-- and patches that keep their boxes
+pub still_here : (s t : Around) (k : KeptLayout) → SameGround s t → IsLaidOut s k → IsLaidOut t k
+still_here s t k g h = record {
+  level = h.level ∙ g.level;
+  boxes = h.boxes ∙ g.boxes;
+  cells = h.cells ∙ g.cells;
+  finer = λ c. sym (g.finer c) ∙ h.finer c;
+  starts = starts_of_boxes s.patches t.patches k.starts (sym g.boxes) h.starts;
+  layout = same_layout s t k.layout.value g h.layout;
+  shape = h.shape;
+  workspaces = same_workspaces s.patches t.patches k.layout.value.tasks.items k.workspaces.items g.boxes h.workspaces;
+}

@@ -5,6 +5,7 @@ use Rattle.amr_def.specs.declared.problem.Problem.{Problem}
 use Rattle.amr_def.specs.State.{in_boxes}
 use Rattle.amr_patch.specs.Patches.{box}
 use Rattle.amr_board.specs.declared.board.Shape.{Shape}
+use Rattle.amr_gaps.specs.Gaps.{HasStarts}
 use Rattle.amr_layout.specs.declared.Layout.{Layout}
 use Rattle.amr_layout.specs.Surroundings.{Around}
 use Rattle.amr_advance.specs.declared.kept.KeptLayout.{KeptLayout}
@@ -14,13 +15,14 @@ use Rattle.amr_advance.specs.Pieces.{AreWorkspaces}
 abbrev pub shape_of : Layout → Shape
 shape_of y = record { places = y.places; words = y.words }
 
--- it was made for the boxes of this level, of its register cells and of the next finer level, and its workspaces are those of its
--- tasks
+-- it was made for the boxes of this level, of its register cells and of the next finer level, tells where the level's patches
+-- start, and its workspaces are those of its tasks
 pub record IsLaidOut (s : Around) (k : KeptLayout) : Type 0 where
   pub level : k.level ≡ s.level
   pub boxes : k.boxes.items ≡ map box s.patches
   pub cells : k.cells.items ≡ s.cells
   pub finer : (c : Cell) → is_some (s.finer c) ≡ in_boxes k.finer.items c
+  pub starts : HasStarts s.patches k.starts
   pub layout : IsLayoutOf s k.layout.value
   pub shape : k.shape ≡ shape_of k.layout.value
   pub workspaces : AreWorkspaces s.patches k.layout.value.tasks.items k.workspaces.items

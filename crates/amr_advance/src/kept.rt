@@ -18,13 +18,14 @@ use amr_alike::{boxes_of, have_boxes};
 use amr_board::Shape;
 use amr_box::{Bx, Cell};
 use amr_causes::NoMemory;
+use amr_gaps::{Starts, starts_of};
 use amr_layout::{Layout, plan};
 use amr_patch::{Level, Patch};
 use amr_work::Workspace;
 use std::alloc::Global;
 use std::snapshot::Snapshot;
 
-/// The layout of a level's step on a board, with a workspace for each task, and what both were made for: the boxes of the level's
+/// The layout of a level's step on a board, with a workspace for each task and where patches start, and what they were made for: the boxes of the level's
 /// patches, the register cells of the next coarser level, and the patch boxes of the next finer one. While these stay, each step
 /// of the level takes it as it is.
 #[derive(Drop)]
@@ -33,6 +34,7 @@ pub struct KeptLayout {
     boxes: Vec<Bx>,
     cells: Vec<Cell>,
     finer: Vec<Bx>,
+    pub(crate) starts: Starts,
     pub(crate) shape: Shape,
     pub(crate) workspaces: Vec<Workspace>,
     pub(crate) layout: Snapshot<Layout>,
@@ -111,11 +113,13 @@ fn lay_out_anew(given: Given<'_>, patches: &[Patch]) -> Result<KeptLayout, NoMem
     ensures { IfOk result (IsLaidOut (around given.entry.problem.now given.entry.level patches.now given.entry.cells.now (option_copied given.entry.finer))) }
 {
     let alloc = given.alloc;
+    let starts = starts_of(alloc, patches)?;
     let layout = plan(
         alloc,
         given.problem,
         given.level,
         patches,
+        &starts,
         given.cells,
         given.finer,
     )?;
@@ -129,6 +133,7 @@ fn lay_out_anew(given: Given<'_>, patches: &[Patch]) -> Result<KeptLayout, NoMem
         boxes: boxes_of(alloc, patches)?,
         cells: Vec::from_slice(alloc, given.cells)?,
         finer: finer_boxes(alloc, given.finer)?,
+        starts,
         shape,
         workspaces: workspaces_of(alloc, patches, layout.tasks)?,
         layout: made,

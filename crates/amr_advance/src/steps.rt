@@ -40,7 +40,8 @@ use std::thread::Threads;
 /// How many patches a level may have. More would take more memory than there is, and are refused as that.
 const MOST: usize = 1 << 26;
 
-/// Fills the frames of a level's patches, and lays out their step on a board, as it is kept or anew.
+/// Lays out the step of a level's patches on a board, as it is kept or anew, and fills their frames. After a refusal the patches are
+/// as before.
 fn lay_out(
     given: Given<'_>,
     order: Order,
@@ -56,18 +57,21 @@ fn lay_out(
     ensures masses { masses_in patches.new ≡ masses_in patches.old }
     ensures boxes { map box patches.new ≡ map box patches.old }
     ensures kept { kept.new ≡ None }
-    ensures shown { AreShown given.entry.problem.now given.entry.level (old_masses (option_copied given.entry.old)) patches.new }
+    ensures apart { ArePatchesApart patches.new }
+    ensures refused { OnErr result (patches.new ≡ patches.old) }
+    ensures shown { OnOk result (AreShown given.entry.problem.now given.entry.level (old_masses (option_copied given.entry.old)) patches.new) }
     ensures layout { IfOk result (IsLaidOut (around given.entry.problem.now given.entry.level patches.new given.entry.cells.now (option_copied given.entry.finer))) }
 {
+    let layout = layout_for(given, patches, kept)?;
     fill_in_order(
         given.problem,
         given.level,
         patches,
         order,
-        None,
+        Some(&layout.starts),
         given.old,
     );
-    layout_for(given, patches, kept)
+    Ok(layout)
 }
 
 /// The cells of a flux register, none where there is no register.

@@ -275,24 +275,42 @@ fn quarters_of_the_coarser_level(rt: HostRuntime) -> Result<(), Fail> {
     Ok(())
 }
 
-/// Two patches of a finer level over two coarse ones of four columns, filled.
+/// A level of these patches, if they are apart.
+fn level_with(alloc: Global, patches: Vec<Patch>) -> Result<Option<Level>, Fail> {
+    if !are_apart(&patches) {
+        return Ok(None);
+    }
+    let mut level = Level::make(alloc, &[], &[])?;
+    level.put_patches(patches);
+    Ok(Some(level))
+}
+
+/// Two coarse patches of four columns.
+fn two_coarse_patches(alloc: Global) -> Result<Vec<Patch>, Fail> {
+    let mut patches = Vec::new(alloc);
+    patches.push(patch(alloc, 0, 0, 3, 1)?)?;
+    patches.push(patch(alloc, 4, 0, 7, 1)?)?;
+    let _second = set(&mut patches, 0, cell(2, 1), 9);
+    let _third = set(&mut patches, 0, cell(3, 1), 16);
+    let _fourth = set(&mut patches, 1, cell(4, 1), 21);
+    Ok(patches)
+}
+
+/// Two patches of the next finer level over both.
+fn two_fine_patches(alloc: Global) -> Result<Vec<Patch>, Fail> {
+    let mut patches = Vec::new(alloc);
+    patches.push(patch(alloc, 4, 0, 11, 1)?)?;
+    patches.push(patch(alloc, 10, 2, 11, 3)?)?;
+    let _low = set(&mut patches, 1, cell(10, 2), 13);
+    Ok(patches)
+}
+
+/// These, filled.
 fn over_two_coarse_patches(alloc: Global) -> Result<Vec<Patch>, Fail> {
     let p = problem(alloc, 8, 2, Sides::Periodic, Sides::Periodic)?;
-    let mut coarse = Vec::new(alloc);
-    coarse.push(patch(alloc, 0, 0, 3, 1)?)?;
-    coarse.push(patch(alloc, 4, 0, 7, 1)?)?;
-    let _second = set(&mut coarse, 0, cell(2, 1), 9);
-    let _third = set(&mut coarse, 0, cell(3, 1), 16);
-    let _fourth = set(&mut coarse, 1, cell(4, 1), 21);
-    let mut fine = Vec::new(alloc);
-    fine.push(patch(alloc, 4, 0, 11, 1)?)?;
-    fine.push(patch(alloc, 10, 2, 11, 3)?)?;
-    let _low = set(&mut fine, 1, cell(10, 2), 13);
-    if are_apart(&coarse) {
-        let mut old = Level::make(alloc, &[], &[])?;
-        old.put_patches(coarse);
-        let _filled = fill_by_starts(alloc, &p, 1, &mut fine, Some(&old))?;
-    }
+    let old = level_with(alloc, two_coarse_patches(alloc)?)?;
+    let mut fine = two_fine_patches(alloc)?;
+    let _filled = fill_by_starts(alloc, &p, 1, &mut fine, old.as_ref())?;
     Ok(fine)
 }
 

@@ -22,7 +22,7 @@ use crate::{Layout, PutAt, TaskLayout};
 use amr_box::Cell;
 use amr_causes::NoMemory;
 use amr_def::Problem;
-use amr_gaps::starts_of;
+use amr_gaps::Starts;
 use amr_patch::{Level, Patch, order_of};
 use std::alloc::Global;
 
@@ -89,7 +89,7 @@ fn tasks_of(
 /// - Words `2 + 2k` and `3 + 2k` are the gain and the loss of register cell `k` of the next coarser level (Berger and Colella
 ///   1989): each face of this level's coarse-fine edge is added to one of them, by the way of its Courant number.
 ///
-/// The patches are all those of the level. `cells` are the register cells of the next coarser level, none at level 0, by y, then
+/// The patches are all those of the level, and `starts` tells where they start. `cells` are the register cells of the next coarser level, none at level 0, by y, then
 /// by x. Time and memory grow with the faces on the patches' edges; a span of faces beside one patch takes one search, and so does one
 /// beside a gap between the columns and rows where patches start.
 ///
@@ -99,11 +99,13 @@ pub fn plan(
     p: &Problem,
     l: u32,
     patches: &[Patch],
+    starts: &Starts,
     cells: &[Cell],
     finer: Option<&Level>,
 ) -> Result<Layout, NoMemory>
     requires level { l ≤ 4 }
     requires apart { ArePatchesApart patches.now }
+    requires starts { HasStarts patches.now starts.now }
     requires inside { All (λ q. IsInDomain (domain p.now l) (box q)) patches.now }
     requires cells { HasRegisterCells (around p.now l patches.now cells.now (option_copied finer)) }
     ensures places { IfOk result (λ y. y.places ≡ length (level_borders (domain p.now l) patches.now patches.now)) }
@@ -119,17 +121,16 @@ pub fn plan(
         return Err(NoMemory);
     }
     let order = order_of(patches);
-    let starts = starts_of(alloc, patches)?;
     let surroundings = Surroundings {
         problem: p,
         level: l,
         patches,
         order,
-        starts: &starts,
+        starts,
         cells,
         finer,
     };
-    let (mut places, mut borders) = place_borders(alloc, &p.domain(l), patches, order, &starts)?;
+    let (mut places, mut borders) = place_borders(alloc, &p.domain(l), patches, order, starts)?;
     let tasks = tasks_of(alloc, surroundings, &mut places.lots, &mut borders)?;
     Ok(Layout {
         places: places.count,

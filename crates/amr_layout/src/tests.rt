@@ -250,7 +250,8 @@ fn layout_of(
     if !have_cells_beyond(s) {
         return Ok(None);
     }
-    Ok(Some(plan(alloc, p, l, patches, cells, finer)?))
+    let starts = starts_of(alloc, patches)?;
+    Ok(Some(plan(alloc, p, l, patches, &starts, cells, finer)?))
 }
 
 fn puts_are(task: &TaskLayout, k: usize, place: u32, face: Face) -> bool {

@@ -62,11 +62,12 @@ returns-in-Ok-clause-layout g c =
       boxes = c.requires.layout.boxes;
       cells = c.requires.layout.cells;
       finer = c.requires.layout.finer;
+      starts = c.requires.layout.starts;
       layout = c.requires.layout.layout;
       shape = c.requires.layout.shape;
       workspaces =
           all_returned c.args.given.problem.now c.args.given.level (old_masses (option_copied c.args.given.old)) c.args.patches.now.items c.args.given.cells.now (option_copied c.args.given.finer) c.requires.level c.requires.shown c.requires.fits
-    c.args.layout.now.layout.value c.requires.layout.layout c.args.layout.now.workspaces.items c.requires.layout.workspaces c.to_pieces-pieces.result.items c.to_pieces-pieces.ensures.pieces c.in-Ok.ended (words_by c.args.layout.now.shape (shape_of c.args.layout.now.layout.value) c.requires.layout.shape c.to_pieces-pieces.result.items c.in-Ok.ended c.in-Ok.ensures.words) c.in-Ok.ensures.pieces
+          c.args.layout.now.layout.value c.requires.layout.layout c.args.layout.now.workspaces.items c.requires.layout.workspaces c.to_pieces-pieces.result.items c.to_pieces-pieces.ensures.pieces c.in-Ok.ended (words_by c.args.layout.now.shape (shape_of c.args.layout.now.layout.value) c.requires.layout.shape c.to_pieces-pieces.result.items c.in-Ok.ended c.in-Ok.ensures.words) c.in-Ok.ensures.pieces
           c.collect.new.workspaces.items (subst (λ n. AreReturned c.in-Ok.ended n c.collect.new.workspaces.items) count c.collect.ensures.workspaces) (c.collect.ensures.workspace_count ∙ count);
     }
 

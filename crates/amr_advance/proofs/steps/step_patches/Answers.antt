@@ -23,19 +23,19 @@ pub lay_out-requires-clause-cells : goal.lay_out-requires-clause-cells
 lay_out-requires-clause-cells g c = λ qs e. c.requires.cells qs (e ∙ ap masses_in c.deref_mut.ensures.value)
 
 pub returns-in_err-layout-clause-apart : goal.returns-in_err-layout-clause-apart
-returns-in_err-layout-clause-apart g c = apart_in c.args.patches.now c.lay_out.new.patches (omega (arith, c.lay_out.auto.patches, c.deref_mut.ensures.len)) c.lay_out.ensures.shown.apart
+returns-in_err-layout-clause-apart g c = apart_in c.args.patches.now c.lay_out.new.patches (omega (arith, c.lay_out.auto.patches, c.deref_mut.ensures.len)) c.lay_out.ensures.apart
 
 pub returns-in_err-layout-clause-same_register : goal.returns-in_err-layout-clause-same_register
 returns-in_err-layout-clause-same_register g c = on_err c.from_residual.result (unchanged c.args.register.now)
 
 pub returns-then-len-gt-MOST-clause-apart : goal.returns-then-len-gt-MOST-clause-apart
-returns-then-len-gt-MOST-clause-apart g c = apart_in c.args.patches.now c.lay_out.new.patches (omega (arith, c.lay_out.auto.patches, c.deref_mut.ensures.len)) c.lay_out.ensures.shown.apart
+returns-then-len-gt-MOST-clause-apart g c = apart_in c.args.patches.now c.lay_out.new.patches (omega (arith, c.lay_out.auto.patches, c.deref_mut.ensures.len)) c.lay_out.ensures.apart
 
 pub returns-then-len-gt-MOST-clause-same_register : goal.returns-then-len-gt-MOST-clause-same_register
 returns-then-len-gt-MOST-clause-same_register g c = unchanged c.args.register.now
 
 pub returns-in_err-saved-clause-apart : goal.returns-in_err-saved-clause-apart
-returns-in_err-saved-clause-apart g c = apart_in c.args.patches.now c.lay_out.new.patches (omega (arith, c.lay_out.auto.patches, c.deref_mut.ensures.len)) c.lay_out.ensures.shown.apart
+returns-in_err-saved-clause-apart g c = apart_in c.args.patches.now c.lay_out.new.patches (omega (arith, c.lay_out.auto.patches, c.deref_mut.ensures.len)) c.lay_out.ensures.apart
 
 pub returns-in_err-saved-clause-same_register : goal.returns-in_err-saved-clause-same_register
 returns-in_err-saved-clause-same_register g c = on_err c.from_residual-in_err-saved.result (unchanged c.args.register.now)
@@ -57,7 +57,7 @@ returns-in-Ok-clause-boxes g c =
 pub returns-in-Ok-clause-apart : goal.returns-in-Ok-clause-apart
 returns-in-Ok-clause-apart g c =
     stepped_apart _ _ c.run_level.new.patches.items c.in-Ok.ensures.stepped
-    (apart_in c.args.patches.now c.lay_out.new.patches (omega (arith, c.lay_out.auto.patches, c.deref_mut.ensures.len)) c.lay_out.ensures.shown.apart)
+    (apart_in c.args.patches.now c.lay_out.new.patches (omega (arith, c.lay_out.auto.patches, c.deref_mut.ensures.len)) c.lay_out.ensures.apart)
 
 pub returns-in-Ok-clause-totals : goal.returns-in-Ok-clause-totals
 returns-in-Ok-clause-totals g c =
@@ -67,7 +67,7 @@ returns-in-Ok-clause-totals g c =
     let listed = with_items_is c.args.patches.now c.lay_out.new.patches (omega (arith, c.lay_out.auto.patches, c.deref_mut.ensures.len)) in
     let qs = (with_items c.args.patches.now c.lay_out.new.patches).items in
     let same : masses_in qs ≡ masses_in c.args.patches.now.items = ap masses_in listed ∙ c.lay_out.ensures.masses ∙ ap masses_in c.deref_mut.ensures.value in
-    totals_of p l (masses_in c.args.patches.now.items) old qs c.args.given.cells.now (option_copied c.args.given.finer) c.in-Ok.ended (subst (λ (xs : List Patch). AreShown p l old xs) (sym listed) c.lay_out.ensures.shown) same c.in-Ok.ensures.registers c.in-Ok.ensures.totals
+    totals_of p l (masses_in c.args.patches.now.items) old qs c.args.given.cells.now (option_copied c.args.given.finer) c.in-Ok.ended (subst (λ (xs : List Patch). AreShown p l old xs) (sym listed) c.in_ok-layout.ensures.shown) same c.in-Ok.ensures.registers c.in-Ok.ensures.totals
 
 pub returns-in-Ok-clause-register : goal.returns-in-Ok-clause-register
 returns-in-Ok-clause-register g c =
@@ -81,4 +81,4 @@ returns-in-Ok-clause-register g c =
 pub returns-in-Err-clause-apart : goal.returns-in-Err-clause-apart
 returns-in-Err-clause-apart g c =
     subst ArePatchesApart (sym c.in-Err.ensures.same)
-    (apart_in c.args.patches.now c.lay_out.new.patches (omega (arith, c.lay_out.auto.patches, c.deref_mut.ensures.len)) c.lay_out.ensures.shown.apart)
+    (apart_in c.args.patches.now c.lay_out.new.patches (omega (arith, c.lay_out.auto.patches, c.deref_mut.ensures.len)) c.lay_out.ensures.apart)

@@ -1,3 +1,4 @@
+use Rattle.std.proofs.Common.{sym}
 use Rattle.amr_layout.proofs.lookup.look_beside.Goals as goal
 
 pub gap_from-trace-requires-clause-columns : goal.gap_from-trace-requires-clause-columns
@@ -5,3 +6,6 @@ gap_from-trace-requires-clause-columns c = c.requires.starts.columns
 
 pub gap_from-trace-requires-clause-rows : goal.gap_from-trace-requires-clause-rows
 gap_from-trace-requires-clause-rows c = c.requires.starts.rows
+
+pub returns-then-is_in_gap-clause-some : goal.returns-then-is_in_gap-clause-some
+returns-then-is_in_gap-clause-some c = sym (c.is_in_gap.ensures.none c.args.patches.now c.requires.gap c.if-is_in_gap.true)
