@@ -11,6 +11,3 @@ mod sizes;
 pub use encoders::{encode, encode2};
 pub use numbers::MassWidth;
 pub use sizes::{slot_size, slot_size2};
-
-#[cfg(test)]
-mod tests;

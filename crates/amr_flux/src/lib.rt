@@ -21,8 +21,6 @@ mod rows;
 mod shape;
 mod share;
 mod sizes;
-#[cfg(test)]
-mod tests;
 mod update_rows;
 mod x_faces;
 mod y_faces;

@@ -20,9 +20,6 @@ use amr_def::Problem;
 use std::alloc::{AllocError, Global};
 use toml::Table;
 
-#[cfg(test)]
-mod tests;
-
 /// The greatest number of bytes of a problem.
 pub const MOST_BYTES: usize = 65536;
 

@@ -17,7 +17,6 @@ pub mod NetOver
 pub mod RegisterRows
 pub mod Once
 pub mod OneBox
-pub mod RefluxedRing
 pub mod RowSpans
 pub mod NotBeside
 pub mod BesideTaken

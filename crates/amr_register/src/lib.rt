@@ -18,8 +18,6 @@ mod register;
 mod rows;
 mod runs;
 mod sides;
-#[cfg(test)]
-mod tests;
 
 pub use laws::{edges_are_taken_once, registers_go_by_cells};
 pub use register::Register;

@@ -8,6 +8,3 @@ mod placed;
 mod starts;
 
 pub use starts::{base, start};
-
-#[cfg(test)]
-mod tests;

@@ -4,8 +4,6 @@
 
 mod check;
 mod create;
-#[cfg(test)]
-mod damaged;
 mod device;
 mod found;
 mod latest;
@@ -16,8 +14,6 @@ mod reading;
 mod renew;
 mod slot;
 mod store;
-#[cfg(test)]
-mod tests;
 
 pub use found::Found;
 pub use part::{Part, StoreFault};

@@ -6,11 +6,11 @@ ghost use Rattle.amr_box.specs.Cells.{IsNear, cell, extent};
 ghost use Rattle.amr_def.specs.State.{in_boxes};
 ghost use Rattle.amr_patch.specs.Levels.{level_of};
 
-use super::*;
 use amr_box::{Bx, Cell};
 use amr_causes::NoMemory;
 use amr_def::{Blocks, Name, Problem, Shear, Sides, Thresholds};
 use amr_patch::Level;
+use amr_register::Register;
 use std::alloc::Global;
 use std::test::Fail;
 

@@ -1,7 +1,7 @@
 //! Images that are cut or changed, and the part that a damage is found in.
-use crate::tests::{IMAGE, Seen, renewed, shown, stopped};
-use crate::{Part, Store};
+use crate::store::{IMAGE, Seen, renewed, shown, stopped};
 use amr_disk::{Disk, Leave, MemDisk};
+use amr_store::{Part, Store};
 use std::alloc::Global;
 use std::test::Fail;
 

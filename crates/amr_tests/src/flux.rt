@@ -1,17 +1,9 @@
-ghost use Rattle.std.specs.Prelude.{◌↔◌, ◌<◌, EachIndex, IsTrue, slice_index};
+//! Shares of masses by hand, and the border faces of a patch.
 
-use super::*;
-use crate::rows::{face_fluxes, mass_after};
 use amr_box::{Axis, Bx, Cell, Face};
 use amr_causes::NoMemory;
+use amr_flux::{Room, Share, border_faces};
 use amr_patch::Patch;
-
-/// Whether all values are below 2^31.
-fn are_small(values: &[u32]) -> bool
-    ensures { IsTrue result ↔ EachIndex values.now (λ k. slice_index values.now k < 2147483648) }
-{
-    values.iter().all(|v| *v < 2147483648)
-}
 
 #[test]
 fn shares_are_rounded_down(rt: HostRuntime) {
@@ -36,39 +28,9 @@ fn flows_come_from_the_cell_upwind(rt: HostRuntime) {
     assert_eq!(rt; sevenths.flow(7, 100), 3);
     assert_eq!(rt; sevenths.with(-3, 7).flow(7, 100), -42);
     assert_eq!(rt; sevenths.with(0, 7).flow(7, 100), 0);
-}
-
-#[test]
-fn ring_with_mass_7_passes_on_3(rt: HostRuntime) {
-    let low = [0, 7, 0, 0, 0];
-    let high = [7, 0, 0, 0, 7];
-    let mut fluxes = [0; 5];
-    assert!(rt; are_small(&low));
-    assert!(rt; are_small(&high));
-    face_fluxes(Share::make(1, 2), &low, &high, &mut fluxes);
-    assert_eq!(rt; fluxes, [0, 3, 0, 0, 0]);
-    face_fluxes(Share::make(-1, 2), &low, &high, &mut fluxes);
-    assert_eq!(rt; fluxes, [-3, 0, 0, 0, -3]);
-}
-
-#[test]
-fn large_masses_take_two_products(rt: HostRuntime) {
-    let cells = [2147483647, 2147483646, 2147483645, 7, 0];
-    let mut fluxes = [0; 5];
-    assert!(rt; are_small(&cells));
-    face_fluxes(Share::make(2, 3), &cells, &cells, &mut fluxes);
-    assert_eq!(rt; fluxes, [1431655764, 1431655764, 1431655763, 4, 0]);
-    face_fluxes(Share::make(-1, 1000), &cells, &cells, &mut fluxes);
-    assert_eq!(rt; fluxes, [-2147483, -2147483, -2147483, 0, 0]);
-}
-
-#[test]
-fn a_row_gets_what_comes_in(rt: HostRuntime) {
-    let mut masses = [10, 20, 30];
-    masses[0] = mass_after(masses[0], 3, 5, 0, 1);
-    assert_eq!(rt; masses[0], 7);
-    masses[1] = mass_after(masses[1], -4, -6, 2, -2);
-    assert_eq!(rt; masses[1], 26);
+    let halves = Share::make(1, 2);
+    assert_eq!(rt; halves.flow(7, 0), 3);
+    assert_eq!(rt; halves.with(-1, 2).flow(0, 7), -3);
 }
 
 #[test]

@@ -1,9 +1,11 @@
+//! The start of a problem with two blocks.
+
 ghost use Rattle.std.specs.Prelude.{◌≡◌, IfOk};
 
-use super::*;
 use amr_box::Cell;
 use amr_def::{Block, Blocks, Name, Problem, Row, Shear, Sides, Thresholds};
 use amr_patch::Level;
+use amr_start::start;
 use std::alloc::Global;
 use std::test::Fail;
 

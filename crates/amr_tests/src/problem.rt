@@ -1,11 +1,13 @@
 //! Which texts are accepted and which refused: each fault, and the ends of each range.
 
-use super::{MOST_BYTES, judge};
-use crate::fault::{JudgeFault, ProblemFault};
 use amr_def::Sides;
+use amr_problem::{JudgeFault, ProblemFault, judge};
 use std::alloc::Global;
 use std::fmt::Write as _;
 use std::test::Fail;
+
+/// The greatest number of bytes of a problem.
+const MOST_BYTES: usize = 65536;
 
 const RING: &str = "version = 1
 name = \"ring\"

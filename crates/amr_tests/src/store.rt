@@ -3,8 +3,8 @@ ghost use Rattle.std.specs.Prelude.{◌≡◌, None};
 ghost use Rattle.amr_store.specs.Created.{IsVersion};
 ghost use Rattle.amr_store.specs.Stands.{IsStoreReady, last_in, slot_size_in};
 
-use crate::{Found, Part, Store, StoreFault};
 use amr_disk::{Disk, FileDisk, Leave, MemDisk};
+use amr_store::{Found, Part, Store, StoreFault};
 use std::alloc::Global;
 use std::fs;
 use std::test::Fail;

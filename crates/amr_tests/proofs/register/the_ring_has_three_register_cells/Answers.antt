@@ -11,8 +11,8 @@ use Rattle.amr_register.specs.RegisterCells.{is_register_cell}
 use Rattle.amr_register.specs.Registers.{cells_in, entry_in}
 use Rattle.amr_register.proofs.CellLists.{of_level, where_passes}
 use Rattle.amr_register.proofs.OneBox.{finer_ring, nested_ring, whole_ring}
-use Rattle.amr_register.proofs.RefluxedRing.{at_most, cells_of, entries_small, patch_inside, same_cells}
-use Rattle.amr_register.proofs.tests.the_ring_has_three_register_cells.Goals as goal
+use Rattle.amr_tests.proofs.RefluxedRing.{at_most, cells_of, entries_small, patch_inside, same_cells}
+use Rattle.amr_tests.proofs.register.the_ring_has_three_register_cells.Goals as goal
 
 pub make-requires-clause-coarse : goal.make-requires-clause-coarse
 make-requires-clause-coarse g c =
