@@ -1,14 +1,14 @@
 //! A small board, stepped by hand.
 ghost use Rattle.std.specs.Prelude.{◌≡◌, ◌+◌, ◌<◌, [], ◌∷◌, true, false, Some, IfOk};
 ghost use Rattle.amr_phase.specs.Plans.{planned_face};
-ghost use Rattle.amr_tests.specs.declared.board.Simple.{Simple};
+ghost use Rattle.amr_board.specs.declared.tests.Simple.{Simple};
 ghost use Rattle.amr_board.specs.Views.{first_view, HoldsNone};
 ghost use Rattle.amr_board.specs.Ended.{face_of};
 ghost use Rattle.amr_board.specs.BoardOf.{IsSeatOf, view};
 ghost use mathlib.Core.Option.{some};
 ghost use lib.ListN.{get_elem?};
 
-use amr_board::{Board, Ended, MakeFault, Piece, Seat, Shape};
+use crate::{Board, Ended, MakeFault, Piece, Seat, Shape};
 use std::alloc::{AllocError, Global};
 use std::process::Abort;
 use std::test::Fail;
