@@ -1,5 +1,5 @@
 -- A layout serves each step of its level until a regrid: it goes by boxes, and not by masses.
-use Rattle.std.proofs.Common.{◌≡◌, ◌∙◌, ◌+◌, ◌*◌, List, length, ap}
+use Rattle.std.proofs.Common.{◌∙◌, ◌+◌, ◌*◌, List, length, ap}
 use Rattle.amr_box.specs.declared.Cell.{Cell}
 use Rattle.amr_box.specs.declared.Face.{Face}
 use Rattle.amr_layout.specs.declared.Layout.{Layout}

@@ -1,6 +1,5 @@
 -- Lists of patches, patch by patch: one patch that changes, what is kept over two changes, and what the patches have together.
-use Rattle.std.proofs.Common.{◌≡◌, ℕ, zero, suc, ◌<◌, Bool, true, false, cond, ◌||◌, List, [], ◌∷◌, length, set, get_or, map, IsTrue, refl, sym, ap, subst, ◌∙◌, arith}
-use Rattle.std.specs.Prelude.{is_some}
+use Rattle.std.proofs.Common.{◌≡◌, ℕ, zero, suc, ◌<◌, Bool, true, false, cond, List, [], ◌∷◌, length, set, get_or, map, IsTrue, refl, sym, ap, subst, ◌∙◌, arith}
 use Rattle.std.specs.declared.option.Option.{Option}
 use Rattle.std.specs.declared.option.Option.TheVariants.{Some}
 use Rattle.std.specs.List.{AllZip}
@@ -9,7 +8,7 @@ use Rattle.amr_box.specs.declared.Cell.{Cell}
 use Rattle.amr_box.specs.Cells.{Extent, holds}
 use Rattle.amr_patch.specs.declared.patches.Patch.{Patch}
 use Rattle.amr_patch.specs.Places.{in_frame}
-use Rattle.amr_patch.specs.Patches.{ArePatchesApart, box, in_patches, masses_in, mass_in}
+use Rattle.amr_patch.specs.Patches.{ArePatchesApart, box, masses_in, mass_in}
 use Rattle.amr_ghost.specs.Frames.{is_corner}
 use Rattle.amr_ghost.specs.Filling.{KeepsCells, KeepsGhosts}
 

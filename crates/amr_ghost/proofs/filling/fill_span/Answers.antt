@@ -1,14 +1,10 @@
-use Rattle.std.proofs.Common.{◌≡◌, pos, ◌+ℤ◌, get_or, IsTrue, false, true, sym, subst, ◌∙◌, arith}
-use Rattle.std.specs.declared.option.Option.TheVariants.{None}
+use Rattle.std.proofs.Common.{◌≡◌, pos, ◌+ℤ◌, get_or, false, true, sym, subst, ◌∙◌, arith}
 use Rattle.std.specs.Option.{option_copied}
-use Rattle.amr_box.specs.declared.Cell.{Cell}
 use Rattle.amr_box.specs.Cells.{Extent, along}
 use Rattle.amr_def.specs.Domain.{domain, home_cell, in_domain}
 use Rattle.amr_def.specs.Value.{value_at}
-use Rattle.amr_patch.specs.Places.{in_frame}
 use Rattle.amr_patch.specs.Patches.{box, masses_in}
-use Rattle.amr_patch.proofs.Lookups.{masses_in-none}
-use Rattle.amr_ghost.specs.Frames.{is_beside, is_of_level, old_masses}
+use Rattle.amr_ghost.specs.Frames.{is_of_level, old_masses}
 use Rattle.amr_ghost.proofs.Spans.{room_inside, span_copied, span_held}
 use Rattle.amr_ghost.proofs.Beyond.{gap_given, outside_given}
 use Rattle.amr_ghost.proofs.Levels.{some_patch}

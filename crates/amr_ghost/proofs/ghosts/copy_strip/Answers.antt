@@ -1,7 +1,5 @@
-use Rattle.std.proofs.Common.{◌≡◌, ℕ, ◌<◌, length, get_or, set, true, Bool, IsTrue, refl, sym, ap, subst, ◌∙◌, arith}
+use Rattle.std.proofs.Common.{◌≡◌, ◌<◌, get_or, true, IsTrue, refl, sym, ap, subst, ◌∙◌, arith}
 use Rattle.std.specs.List.{AllZip}
-use Rattle.std.proofs.lemmas.List.{get_or-set_same}
-use Rattle.std.proofs.lemmas.List.Elements.{length_all_zip}
 use Rattle.amr_box.specs.declared.Cell.{Cell}
 use Rattle.amr_box.specs.Cells.{Extent, holds}
 use Rattle.amr_patch.specs.declared.patches.Patch.{Patch}
@@ -9,8 +7,7 @@ use Rattle.amr_patch.specs.Places.{grown, in_frame, place}
 use Rattle.amr_patch.specs.Patches.{box, mass_in}
 use Rattle.amr_patch.proofs.Entries.{in_grown}
 use Rattle.amr_ghost.specs.Strips.{step}
-use Rattle.amr_ghost.specs.Frames.{is_beside}
-use Rattle.amr_ghost.specs.Filling.{AreCopied, HasGhost, IsGhostSet, KeepsCells, KeepsGhosts}
+use Rattle.amr_ghost.specs.Filling.{IsGhostSet, KeepsCells, KeepsGhosts}
 use Rattle.amr_ghost.proofs.Zips.{keeps_refl, still_ghost, still_held, still_mass, zip_refl}
 use Rattle.amr_ghost.proofs.Steps.{frame_grown, ghosts_refl}
 use Rattle.amr_ghost.proofs.GhostStrips.{fewer_ghosts, next_ghosts, next_kept, next_set, no_ghosts}

@@ -1,18 +1,15 @@
-use Rattle.std.proofs.Common.{◌≡◌, ℕ, ◌/◌, ◌+◌, ◌<◌, get_or, false, IsTrue, refl, sym, ap, subst, ◌∙◌, arith}
+use Rattle.std.proofs.Common.{◌<◌, get_or, false, IsTrue, refl, sym, ap, subst, ◌∙◌, arith}
 use Rattle.std.specs.List.{AllZip}
 use Rattle.amr_box.specs.declared.Cell.{Cell}
-use Rattle.amr_box.specs.Cells.{Extent, holds, parent}
-use Rattle.amr_patch.specs.declared.patches.Patch.{Patch}
+use Rattle.amr_box.specs.Cells.{Extent, holds}
 use Rattle.amr_patch.specs.Places.{grown, in_frame, place}
-use Rattle.amr_patch.specs.Patches.{box, mass_in}
-use Rattle.amr_patch.proofs.Entries.{in_grown}
+use Rattle.amr_patch.specs.Patches.{box}
 use Rattle.amr_ghost.specs.Strips.{step}
 use Rattle.amr_ghost.specs.Filling.{IsGhostSet, KeepsCells, KeepsGhosts}
 use Rattle.amr_ghost.proofs.Zips.{keeps_refl, still_ghost, zip_refl}
 use Rattle.amr_ghost.proofs.Steps.{frame_grown, ghosts_refl}
 use Rattle.amr_ghost.proofs.GhostStrips.{fewer_ghosts, next_ghosts, next_kept, next_set, no_ghosts}
-use Rattle.amr_ghost.proofs.StripPlaces.{entry_in_list, entry_is, entry_small, still_place}
-use Rattle.amr_ghost.proofs.Parents.{parent_place}
+use Rattle.amr_ghost.proofs.StripPlaces.{entry_in_list, entry_small, still_place}
 use Rattle.amr_ghost.proofs.Spans.{first_ghost}
 use Rattle.amr_ghost.proofs.ghosts.set_strip.Goals as goal
 

@@ -1,4 +1,4 @@
-use Rattle.std.proofs.Common.{◌≡◌, false, arith}
+use Rattle.std.proofs.Common.{◌≡◌, false}
 use Rattle.amr_box.specs.declared.Cell.{Cell}
 use Rattle.amr_patch.specs.Patches.{in_patches}
 use Rattle.amr_ghost.proofs.Beyond.{only_first}
