@@ -4,6 +4,8 @@ pub mod Stepping
 pub mod Going
 pub mod Progress
 pub mod Stopping
+pub mod KeptStates
+pub mod KeptRuns
 pub mod Written
 pub mod FromDisk
 pub mod Puts

@@ -1,5 +1,5 @@
 -- Worked rows: what a few bytes hold, the marks of runs, where two problems differ, and the lines.
-use Rattle.std.proofs.Common.{◌≡◌, inr, ℕ, ◌-◌, List, [], ◌∷◌, Some, refl, ap, arith}
+use Rattle.std.proofs.Common.{◌≡◌, inr, ℕ, ◌-◌, List, [], ◌∷◌, refl, ap, arith}
 use Rattle.std.proofs.lemmas.Option.{same_Some}
 use Rattle.std.specs.Prelude.{codes}
 use Rattle.std.specs.Fmt.{digits}

@@ -10,12 +10,7 @@ use Rattle.amr_disk.specs.Moments.{StopsIn}
 use Rattle.amr_store.proofs.Runs.{only_at}
 use Rattle.amr_checkpoint.specs.Laws.{AreRising}
 use Rattle.amr_checkpoint.specs.Contents.{Content, Holds, rank}
-use Rattle.amr_checkpoint.specs.Times.{HoldsOneOf, IsFrontOf, Time, StopsAlong, StopsBetween, StopsLeave, contents_of}
-
--- the last time of some
-abbrev pub last_of : Time → List Time → Content
-last_of time [] = time.content
-last_of time (next ∷ rest) = last_of next rest
+use Rattle.amr_checkpoint.specs.Times.{HoldsOneOf, IsFrontOf, Time, StopsAlong, StopsBetween, StopsLeave, contents_of, last_of}
 
 one_of : (content : Content) (attempt : Option Content) (image : List ℕ) → Holds image content → HoldsOneOf content attempt image
 one_of content None image h = h

@@ -33,6 +33,10 @@ content_resumed bytes p resumed.Nothing = Empty
 content_resumed bytes p (resumed.Fresh store) = Fresh bytes p
 content_resumed bytes p (resumed.At store mesh) = content_at_mesh bytes p mesh
 
+-- a disk that tells what it reads goes on telling it
+abbrev pub StaysTold : Option (List ℕ) → Option (List ℕ) → Type 0
+StaysTold old new = (s : List ℕ) → old ≡ Some s → (t : List ℕ) × (new ≡ Some t)
+
 -- a store of the problem, with room for its states, that is not shut
 pub record IsStoreFor (p : Problem) (store : Store) : Type 0 where
   pub accepted : IsProblemOf (problem_in store) p

@@ -5,3 +5,4 @@ pub mod Times
 pub mod Reasons
 pub mod Checkpoints
 pub mod Laws
+pub mod Kept

@@ -10,6 +10,11 @@ pub record Time : Type 0 where
 abbrev pub contents_of : List Time → List Content
 contents_of times = map (λ time. time.content) times
 
+-- what was found, or made last
+abbrev pub last_of : Time → List Time → Content
+last_of time [] = time.content
+last_of time (next ∷ rest) = last_of next rest
+
 -- the image holds the one, or the other where there is another
 abbrev pub HoldsOneOf : Content → Option Content → List ℕ → Type 0
 HoldsOneOf content None image = Holds image content

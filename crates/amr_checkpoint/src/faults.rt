@@ -12,6 +12,17 @@ pub enum CheckpointFault {
     NoMemory,
 }
 
+/// Why a state of a run is not kept.
+#[derive(Clone, Copy, Debug, PartialEq, Eq, Drop)]
+pub enum KeepFault {
+    /// The disk failed in this call; its count of faults rose.
+    DiskFault,
+    /// The stream of errors failed in this call; its count of faults rose. The checkpoint stands.
+    WriteFault,
+    /// Memory ran out.
+    NoMemory,
+}
+
 /// Why a run does not go on from a store, or nothing of it is shown.
 #[derive(Clone, Copy, Debug, PartialEq, Eq, Drop)]
 pub enum ResumeFault {

@@ -9,7 +9,7 @@ ghost use Rattle.amr_patch.specs.Meshes.{is_spent, state_of};
 ghost use Rattle.amr_payload.specs.Payload.{slot_size};
 ghost use Rattle.amr_problem.specs.Judgement.{IsProblemOf};
 ghost use Rattle.amr_store.specs.Stands.{IsStoreReady, last_in, problem_in};
-ghost use Rattle.amr_checkpoint.specs.Checkpoints.{IsFreshStore, IsStoreFor, IsStorePast, content_at_mesh};
+ghost use Rattle.amr_checkpoint.specs.Checkpoints.{IsFreshStore, IsStoreFor, IsStorePast, StaysTold, content_at_mesh};
 ghost use Rattle.amr_checkpoint.specs.Contents.{Content, Empty, Fresh, Holds};
 
 use crate::faults::CheckpointFault;
@@ -45,6 +45,7 @@ pub fn make_store<D: Disk>(
     ensures problem { IfOk result (λ store. problem_in store ≡ bytes.now) }
     ensures ready { IfOk result (λ store. IsStoreReady D.seen D.moment D.leaves store disk.new) }
     ensures holds { OnOk result ((t : List ℕ) → D.seen disk.new ≡ Some t → Holds t (Fresh bytes.now p.now)) }
+    ensures told { OnOk result (StaysTold (D.seen disk.old) (D.seen disk.new)) }
     ensures stops { (s : List ℕ) → D.seen disk.old ≡ Some s → StopsIn D.moment D.leaves disk.old disk.new (λ c. Holds c Empty ⊎ Holds c (Fresh bytes.now p.now)) }
     ensures memory { IsErrOf result CheckpointFault.NoMemory → disk.new ≡ disk.old }
     ensures later { D.faults disk.old ≤ D.faults disk.new }
@@ -76,6 +77,7 @@ pub fn put_checkpoint<D: Disk>(
     ensures problem { IfOk result (λ kept. problem_in kept ≡ problem_in store) }
     ensures ready { IfOk result (λ store. IsStoreReady D.seen D.moment D.leaves store disk.new) }
     ensures holds { OnOk result ((t : List ℕ) → D.seen disk.new ≡ Some t → Holds t (content_at_mesh (problem_in store) p.now mesh.now)) }
+    ensures told { OnOk result (StaysTold (D.seen disk.old) (D.seen disk.new)) }
     ensures stops { (s : List ℕ) (content : Content) → D.seen disk.old ≡ Some s → Holds s content → StopsIn D.moment D.leaves disk.old disk.new (λ c. Holds c content ⊎ Holds c (content_at_mesh (problem_in store) p.now mesh.now)) }
     ensures memory { IsErrOf result CheckpointFault.NoMemory → disk.new ≡ disk.old }
     ensures later { D.faults disk.old ≤ D.faults disk.new }

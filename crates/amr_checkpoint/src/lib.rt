@@ -4,9 +4,11 @@
 //! - `specs/Marks.antt`: the steps at which a checkpoint is put, what a run makes of a store, and the answers.
 //! - `specs/Refusals.antt`: why a run does not go on, why nothing is shown, and the texts.
 //! - `specs/Times.antt`: a stop at any moment of a run.
+//! - `specs/Kept.antt`: which checkpoints of a run stand, what was said of them, and what a stop leaves.
 //! - `specs/Laws.antt`: laws of these, each of which a call with an empty body ensures.
 #![tactic(auto)]
 
+mod acknowledging;
 mod difference;
 mod faults;
 mod keeping;
@@ -19,8 +21,9 @@ mod resuming;
 #[cfg(test)]
 mod tests;
 
+pub use acknowledging::{Keeping, keep_state};
 pub use difference::first_difference;
-pub use faults::{CheckpointFault, ResumeFault};
+pub use faults::{CheckpointFault, KeepFault, ResumeFault};
 pub use keeping::{make_store, put_checkpoint};
 pub use laws::{
     checkpoints_rise, image_holds_one, run_goes_on_or_is_refused, same_run, stops_leave_the_run,

@@ -4,11 +4,11 @@ use Rattle.std.specs.Str.{bytes_eq}
 use Rattle.std.proofs.lemmas.Bool.{and_parts}
 use Rattle.std.proofs.lemmas.Option.{cond_some, none-some, same_Some, IfSome_then, option_and_then_some}
 use Rattle.clap.specs.Words.{Row, Text, first_of}
-use Rattle.amr_cli.specs.Table.{NumberRow, number, size, to, workers}
+use Rattle.amr_cli.specs.Table.{NumberRow, keep, number, size, to, workers}
 use Rattle.amr_cli.specs.Numbers.{in_range, number_of}
 use Rattle.amr_cli.specs.Words.{HasRanges, HasWorkers, command_from, option_of, or_one, place_of, run_of, trial_of, workers_of}
 use Rattle.amr_cli.specs.declared.command.Command.{Command}
-use Rattle.amr_cli.specs.declared.command.Command.TheVariants.{Run, Check, Trial}
+use Rattle.amr_cli.specs.declared.command.Command.TheVariants.{Run, Check, Show, Trial}
 
 -- a number that was taken lies in the range
 in_range_within : (low high n m : ℕ) → in_range low high n ≡ Some m → (low ≤ m) × (m ≤ high)
@@ -68,10 +68,11 @@ Has command = HasWorkers command × HasRanges command
 
 run_has : (command : Command) (rows : List Row) → run_of rows ≡ Some command → Has command
 run_has command rows is =
-    option_and_then_some (λ (w : ℕ). option_map (λ (k : Option ℕ). Run w k) (option_of to rows)) (workers_of rows) command is
-    (λ w w_is last. mapped_some (λ (k : Option ℕ). Run w k) (option_of to rows) command last
-    (λ k k_is made. subst Has made
-    (workers_within rows w w_is, IfSome_then k (option_ranged to rows k k_is) (λ _ p. p.1))))
+    option_and_then_some (λ (w : ℕ). option_and_then (λ (k : Option ℕ). option_map (λ (e : Option ℕ). Run w k e) (option_of keep rows)) (option_of to rows)) (workers_of rows) command is
+    (λ w w_is rest. option_and_then_some (λ (k : Option ℕ). option_map (λ (e : Option ℕ). Run w k e) (option_of keep rows)) (option_of to rows) command rest
+    (λ k k_is last. mapped_some (λ (e : Option ℕ). Run w k e) (option_of keep rows) command last
+    (λ e e_is made. subst Has made
+    (workers_within rows w w_is, (IfSome_then k (option_ranged to rows k k_is) (λ _ p. p.1), option_ranged keep rows e e_is)))))
 
 trial_has : (command : Command) (rows : List Row) → trial_of rows ≡ Some command → Has command
 trial_has command rows is =
@@ -87,10 +88,11 @@ trial_has command rows is =
 -- what was found in the words is a command whose numbers lie in their ranges
 pub found_has : (command : Command) (found : Option (Text × List Row)) → command_from found ≡ Some command → Has command
 found_has command None is = absurd (none-some command is)
-found_has command (Some found) is = named (bytes_eq found.0 (codes "run")) (bytes_eq found.0 (codes "check")) (bytes_eq found.0 (codes "trial")) is
+found_has command (Some found) is = named (bytes_eq found.0 (codes "run")) (bytes_eq found.0 (codes "check")) (bytes_eq found.0 (codes "show")) (bytes_eq found.0 (codes "trial")) is
   where
-    named : (run check trial : Bool) → cond run (run_of found.1) (cond check (Some Check) (cond trial (trial_of found.1) None)) ≡ Some command → Has command
-    named true check trial is = run_has command found.1 is
-    named false true trial is = subst Has (same_Some Check command is) (tt, tt)
-    named false false true is = trial_has command found.1 is
-    named false false false is = absurd (none-some command is)
+    named : (run check show trial : Bool) → cond run (run_of found.1) (cond check (Some Check) (cond show (Some Show) (cond trial (trial_of found.1) None))) ≡ Some command → Has command
+    named true check show trial is = run_has command found.1 is
+    named false true show trial is = subst Has (same_Some Check command is) (tt, tt)
+    named false false true trial is = subst Has (same_Some Show command is) (tt, tt)
+    named false false false true is = trial_has command found.1 is
+    named false false false false is = absurd (none-some command is)

@@ -22,6 +22,10 @@ workers = record { name = codes "workers"; low = 1; high = 64 }
 abbrev pub to : NumberRow
 to = record { name = codes "to"; low = 0; high = 4096 }
 
+-- how many steps lie between two checkpoints
+abbrev pub keep : NumberRow
+keep = record { name = codes "keep"; low = 1; high = 4096 }
+
 -- where a trial's draws begin
 abbrev pub number : NumberRow
 number = record { name = codes "number"; low = 0; high = 4294967295 }
@@ -32,7 +36,8 @@ size = record { name = codes "size"; low = 8; high = 256 }
 
 abbrev pub commands : List CommandRow
 commands =
-    record { name = codes "run"; places = []; options = workers ∷ to ∷ [] }
+    record { name = codes "run"; places = []; options = workers ∷ to ∷ keep ∷ [] }
     ∷ record { name = codes "check"; places = []; options = [] }
+    ∷ record { name = codes "show"; places = []; options = [] }
     ∷ record { name = codes "trial"; places = number ∷ size ∷ []; options = workers ∷ [] }
     ∷ []

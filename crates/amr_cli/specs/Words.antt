@@ -3,11 +3,11 @@ use Rattle.std.specs.Prelude.{ℕ, ◌≤◌, ◌<◌, ◌^◌, IfSome, Bool, �
 use Rattle.std.specs.List.{list_any}
 use Rattle.std.specs.Str.{bytes_eq}
 use Rattle.clap.specs.Words.{Row, Text, first_of, subcommand_of, fault_of}
-use Rattle.amr_cli.specs.Table.{NumberRow, commands, number, size, to, workers}
+use Rattle.amr_cli.specs.Table.{NumberRow, commands, keep, number, size, to, workers}
 use Rattle.amr_cli.specs.Program.{program_app}
 use Rattle.amr_cli.specs.Numbers.{number_of, in_range}
 use Rattle.amr_cli.specs.declared.command.Command.{Command}
-use Rattle.amr_cli.specs.declared.command.Command.TheVariants.{Run, Check, Trial}
+use Rattle.amr_cli.specs.declared.command.Command.TheVariants.{Run, Check, Show, Trial}
 
 -- ---- by this program's own rule, before `clap` is asked
 
@@ -46,7 +46,8 @@ abbrev pub workers_of : List Row → Option ℕ
 workers_of rows = option_map or_one (option_of workers rows)
 
 abbrev pub run_of : List Row → Option Command
-run_of rows = option_and_then (λ w. option_map (λ k. Run w k) (option_of to rows)) (workers_of rows)
+run_of rows =
+    option_and_then (λ w. option_and_then (λ k. option_map (λ e. Run w k e) (option_of keep rows)) (option_of to rows)) (workers_of rows)
 
 abbrev pub trial_of : List Row → Option Command
 trial_of rows =
@@ -57,7 +58,8 @@ command_from None = None
 command_from (Some found) =
     if bytes_eq found.0 (codes "run") then run_of found.1
     else (if bytes_eq found.0 (codes "check") then Some Check
-    else (if bytes_eq found.0 (codes "trial") then trial_of found.1 else None))
+    else (if bytes_eq found.0 (codes "show") then Some Show
+    else (if bytes_eq found.0 (codes "trial") then trial_of found.1 else None)))
 
 -- ---- the whole
 
@@ -71,12 +73,15 @@ command_of words =
 
 -- a number of workers from 1 to 64, where the command has one
 abbrev pub HasWorkers : Command → Type 0
-HasWorkers (Run w _) = (1 ≤ w) × (w ≤ 64)
+HasWorkers (Run w _ _) = (1 ≤ w) × (w ≤ 64)
 HasWorkers Check = Unit {0}
+HasWorkers Show = Unit {0}
 HasWorkers (Trial _ _ w) = (1 ≤ w) × (w ≤ 64)
 
--- a run stops at a step up to 4096; a trial is drawn from a number of 32 bits, with from 8 to 256 cells along each axis
+-- a run stops at a step up to 4096, and from 1 to 4096 steps lie between two checkpoints; a trial is drawn from a number of
+-- 32 bits, with from 8 to 256 cells along each axis
 abbrev pub HasRanges : Command → Type 0
-HasRanges (Run _ stop) = IfSome stop (λ k. k ≤ 4096)
+HasRanges (Run _ stop every) = IfSome stop (λ k. k ≤ 4096) × IfSome every (λ e. (1 ≤ e) × (e ≤ 4096))
 HasRanges Check = Unit {0}
+HasRanges Show = Unit {0}
 HasRanges (Trial n m _) = (n < 2 ^ 32) × (8 ≤ m) × (m ≤ 256)

@@ -9,9 +9,13 @@ pub enum Command {
         workers: u32,
         /// The step to stop at, up to 4096. None: the problem's last step.
         to: Option<u32>,
+        /// A checkpoint is kept each time that so many steps are made, from 1 to 4096. None: none is kept.
+        keep: Option<u32>,
     },
     /// Reads a problem and says what it is.
     Check,
+    /// Writes the plot of the state that the store holds.
+    Show,
     /// Runs a drawn problem and writes one line on how it ended.
     Trial {
         /// Where the draws begin: any number of 32 bits.

@@ -6,7 +6,7 @@ ghost use Rattle.amr_cli.specs.Words.{command_from, option_of, place_of, run_of,
 
 use crate::Command;
 use crate::number::number_between;
-use crate::table::{NUMBER, NumberForm, SIZE, TO, WORKERS};
+use crate::table::{KEEP, NUMBER, NumberForm, SIZE, TO, WORKERS};
 use clap::ArgMatches;
 
 /// The command that was found, with its numbers. None where a text is no number in its range.
@@ -17,6 +17,7 @@ pub(crate) fn command_from(matches: &ArgMatches) -> Option<Command>
     match name {
         "run" => run_from(found),
         "check" => Some(Command::Check),
+        "show" => Some(Command::Show),
         "trial" => trial_from(found),
         _ => None,
     }
@@ -27,7 +28,8 @@ fn run_from(matches: &ArgMatches) -> Option<Command>
 {
     let workers = workers_from(matches)?;
     let to = option_from(matches, &TO)?;
-    Some(Command::Run { workers, to })
+    let keep = option_from(matches, &KEEP)?;
+    Some(Command::Run { workers, to, keep })
 }
 
 fn trial_from(matches: &ArgMatches) -> Option<Command>

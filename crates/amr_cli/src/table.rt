@@ -32,6 +32,13 @@ pub(crate) const TO: NumberForm = NumberForm {
     high: 4096,
 };
 
+/// How many steps lie between two checkpoints.
+pub(crate) const KEEP: NumberForm = NumberForm {
+    name: "keep",
+    low: 1,
+    high: 4096,
+};
+
 /// Where a trial's draws begin.
 pub(crate) const NUMBER: NumberForm = NumberForm {
     name: "number",
@@ -46,14 +53,19 @@ pub(crate) const SIZE: NumberForm = NumberForm {
     high: 256,
 };
 
-const COMMANDS: [CommandForm; 3] = [
+const COMMANDS: [CommandForm; 4] = [
     CommandForm {
         name: "run",
         places: &[],
-        options: &[WORKERS, TO],
+        options: &[WORKERS, TO, KEEP],
     },
     CommandForm {
         name: "check",
+        places: &[],
+        options: &[],
+    },
+    CommandForm {
+        name: "show",
         places: &[],
         options: &[],
     },

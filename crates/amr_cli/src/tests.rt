@@ -20,16 +20,18 @@ fn parsed<R: Abort + Alloc<A = Global>>(rt: &R, words: &str) -> Result<Command, 
 }
 
 // Words that are a command, a line each, with the command that they are.
-const COMMANDS: &str = "run => Run { workers: 1, to: None }
-run --workers 2 => Run { workers: 2, to: None }
-run --workers=64 => Run { workers: 64, to: None }
-run --workers 007 => Run { workers: 7, to: None }
-run --workers +1 => Run { workers: 1, to: None }
-run --to 0 => Run { workers: 1, to: Some(0) }
-run --workers 3 --to=4096 => Run { workers: 3, to: Some(4096) }
-run --to 2 -- => Run { workers: 1, to: Some(2) }
+const COMMANDS: &str = "run => Run { workers: 1, to: None, keep: None }
+run --workers 2 => Run { workers: 2, to: None, keep: None }
+run --workers=64 => Run { workers: 64, to: None, keep: None }
+run --workers 007 => Run { workers: 7, to: None, keep: None }
+run --workers +1 => Run { workers: 1, to: None, keep: None }
+run --to 0 => Run { workers: 1, to: Some(0), keep: None }
+run --to 2 --keep 1 => Run { workers: 1, to: Some(2), keep: Some(1) }
+run --keep 4096 --workers 3 --to=4096 => Run { workers: 3, to: Some(4096), keep: Some(4096) }
+run --keep 1 -- => Run { workers: 1, to: None, keep: Some(1) }
 check => Check
 check -- => Check
+show => Show
 trial 1 64 => Trial { number: 1, size: 64, workers: 1 }
 trial 0 8 --workers 2 => Trial { number: 0, size: 8, workers: 2 }
 trial --workers=64 4294967295 256 => Trial { number: 4294967295, size: 256, workers: 64 }
@@ -48,7 +50,8 @@ run --work 1
 run -- --workers 1
 run --to 4097
 run --to 1 --to 1
-run --keep 1
+run --keep 0
+run --keep 4097
 run x
 run check
 run \x20
@@ -56,7 +59,8 @@ Run
 -- run
 check x
 check --workers 1
-show
+show x
+show --to 1
 trial
 trial 1
 trial 1 7

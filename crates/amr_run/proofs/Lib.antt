@@ -1,2 +1,5 @@
 pub mod Outcomes
+pub mod StoreOutcomes
+pub mod RunStates
+pub mod KeptOutcomes
 pub mod Messages

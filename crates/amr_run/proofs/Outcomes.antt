@@ -1,7 +1,7 @@
 -- The outcome at each exit, by what the layers below say of it.
-use Rattle.std.proofs.Common.{◌≡◌, ◌≤◌, ◌<◌, ◌^◌, ◌⊎◌, inl, inr, ℕ, zero, suc, List, [], ◌++◌, length, Option, Some, None, Result, Ok, Err, OnErr, refl, sym, ◌∙◌, ap, subst, arith, length-append, OnOk}
+use Rattle.std.proofs.Common.{◌≡◌, ◌≤◌, ◌<◌, ◌^◌, ◌⊎◌, inl, inr, ⊎_elim, IfSome, ℕ, zero, suc, List, [], ◌++◌, length, Option, Some, None, Result, Ok, Err, OnErr, refl, sym, ◌∙◌, ap, subst, arith, length-append, OnOk}
 use Rattle.std.proofs.lemmas.List.{append-nil}
-use Rattle.std.proofs.lemmas.Option.{none-some}
+use Rattle.std.proofs.lemmas.Option.{none-some, same_Some}
 use Rattle.std.specs.Prelude.{IsErrAnd}
 use Rattle.std.specs.Io.KnownBytes.{Consumes, IsAtEnd}
 use Rattle.amr_causes.specs.Causes.{HasCause, Rose}
@@ -23,15 +23,20 @@ use Rattle.amr_problem.specs.Judgement.{fault_of, IsProblemOf}
 use Rattle.amr_problem.proofs.PlainLaws.{too_many_bytes}
 use Rattle.amr_drive.specs.Regrids.{RunHoldsTags, StartHoldsTags}
 use Rattle.amr_cli.specs.declared.command.Command.{Command}
-use Rattle.amr_cli.specs.declared.command.Command.TheVariants.{Run, Check, Trial}
+use Rattle.amr_cli.specs.declared.command.Command.TheVariants.{Run, Check, Show, Trial}
 use Rattle.amr_trial.specs.Summary.{summary}
 use Rattle.amr_trial.specs.Trial.{IsSize, text}
 use Rattle.amr_trial.proofs.Problems.{sixteen_steps, texts_are_accepted}
-use Rattle.amr_run.specs.Answer.{IsLineOfProblem, IsLineOfTrial, IsPlotOfRun, IsSoundRun, stop_of}
-use Rattle.amr_run.specs.Outcome.{Outcome, Replies, RepliesTo, RepliesUnread, status_of}
+use Rattle.amr_checkpoint.specs.declared.refusal.Refusal.{Refusal}
+use Rattle.amr_checkpoint.specs.Contents.{Content, Holds}
+use Rattle.amr_checkpoint.specs.Refusals.{CanShow, GoesOn}
+use Rattle.amr_checkpoint.proofs.Going.{not_both, not_both_shown}
+use Rattle.amr_run.specs.Answer.{HasAnswer, TellsOne, IsLineOfProblem, IsLineOfTrial, IsPlotOfRun, IsSoundRun, stop_of}
+use Rattle.amr_run.specs.Outcome.{EndsByLine, Outcome, RefusesRunTo, RefusesStore, Replies, RepliesTo, RepliesUnread, status_of}
 use Rattle.amr_run.specs.Reading.{Reads, Refuses}
 use Rattle.amr_run.specs.Refusals.{read_refused, judge_refused}
-use Rattle.amr_run.specs.Texts.{problem_line}
+use Rattle.amr_run.specs.Texts.{message, problem_line}
+use Rattle.amr_run.specs.declared.reading.Given.{Given}
 use Rattle.amr_run.specs.declared.status.Status.{Status}
 use Rattle.amr_run.specs.declared.status.Status.TheVariants as status
 
@@ -65,8 +70,8 @@ judging_refused bytes (judging.Fault f) fault = fault f refl
 judging_refused bytes judging.NoMemory fault = tt
 
 -- by the status that an error became
-pub reads_refused : (r : Result Problem Status) (s : Status) (bytes : List ℕ) → IsErrAnd r (λ x. x ≡ s) → Refuses s bytes → Reads r bytes
-reads_refused (Ok problem) s bytes is refuses = absurd is
+pub reads_refused : (r : Result Given Status) (s : Status) (bytes : List ℕ) → IsErrAnd r (λ x. x ≡ s) → Refuses s bytes → Reads r bytes
+reads_refused (Ok given) s bytes is refuses = absurd is
 reads_refused (Err x) s bytes is refuses = subst (λ (t : Status). Refuses t bytes) (sym is) refuses
 
 -- ---- exits of a command
@@ -79,6 +84,8 @@ unread answers status.NoMemory bytes refuses = refl
 unread answers status.Done bytes refuses = absurd refuses
 unread answers status.Usage bytes refuses = absurd refuses
 unread answers status.WriteFault bytes refuses = absurd refuses
+unread answers status.DiskFault bytes refuses = absurd refuses
+unread answers (status.Store reason) bytes refuses = absurd refuses
 
 -- by the status that an error became
 pub refused_by : (answers : List ℕ → Type 0) (r : Result Unit Status) (s : Status) (bytes out : List ℕ) → IsErrAnd r (λ x. x ≡ s) → Replies s answers bytes out → Replies (status_of r) answers bytes out
@@ -90,15 +97,17 @@ pub out_of_memory : (answers : List ℕ → Type 0) (r : Result Unit Status) (s 
 out_of_memory answers r s bytes is none = refused_by answers r s bytes [] is (subst (λ (t : Status). Replies t answers bytes []) (sym none) refl)
 
 -- of the command that the words are
-pub of_command : (status : Status) (asked : Option Command) (command : Command) (bytes out : List ℕ) → asked ≡ Some command → RepliesTo status command bytes out → Outcome status asked bytes out
-of_command status asked command bytes out is replies = subst (λ (o : Option Command). Outcome status o bytes out) (sym is) replies
+pub of_command : (status : Status) (asked : Option Command) (command : Command) (bytes : List ℕ) (seen : Option (List ℕ)) (out said : List ℕ) → asked ≡ Some command → RepliesTo status command bytes seen out said → Outcome status asked bytes seen out said
+of_command status asked command bytes seen out said is replies = subst (λ (o : Option Command). Outcome status o bytes seen out said) (sym is) replies
 
 -- of words that were not read, as memory ran out
-pub of_no_memory : (asked : Option Command) (bytes : List ℕ) → Outcome status.NoMemory asked bytes []
-of_no_memory None bytes = refl
-of_no_memory (Some (Run workers to)) bytes = refl
-of_no_memory (Some Check) bytes = refl
-of_no_memory (Some (Trial number size workers)) bytes = refl
+pub of_no_memory : (asked : Option Command) (bytes : List ℕ) (seen : Option (List ℕ)) → Outcome status.NoMemory asked bytes seen [] []
+of_no_memory None bytes seen = (refl, refl)
+of_no_memory (Some (Run workers to None)) bytes seen = (refl, refl)
+of_no_memory (Some (Run workers to (Some every))) bytes seen = (refl, inl refl)
+of_no_memory (Some Check) bytes seen = (refl, refl)
+of_no_memory (Some Show) bytes seen = (refl, refl)
+of_no_memory (Some (Trial number size workers)) bytes seen = (refl, refl)
 
 -- ---- the answer
 
@@ -179,7 +188,83 @@ is_line_of_trial number size bytes line p last same accepted is sound said = rec
 pub is_line_of_problem : (bytes : List ℕ) (p : Problem) → IsProblemOf bytes p → IsLineOfProblem bytes (problem_line p)
 is_line_of_problem bytes p accepted = record { problem = p; accepted = accepted; text = refl }
 
+-- ---- all is done, or memory ran out
+
+clash : (image : List ℕ) (P : Content → Type 0) (content : Content) → TellsOne P (Some image) → Holds image content → P content
+clash image P content tells held = let same : image ≡ tells.image = same_Some image tells.image tells.told in tells.each content (subst (λ (i : List ℕ). Holds i content) same held)
+
+refused_run : (bytes : List ℕ) (to : Option ℕ) (seen : Option (List ℕ)) (refusal : Refusal) → TellsOne (λ content. (p : Problem) → IsProblemOf bytes p → GoesOn bytes (stop_of to p) content) seen → IfSome seen (RefusesRunTo bytes to refusal) → ⊥
+refused_run bytes to None refusal tells refuses = absurd (none-some tells.image tells.told)
+refused_run bytes to (Some image) refusal tells refuses =
+    not_both bytes (stop_of to refuses.problem) refuses.refuses.content refusal
+    (clash image (λ content. (p : Problem) → IsProblemOf bytes p → GoesOn bytes (stop_of to p) content) refuses.refuses.content tells refuses.refuses.held refuses.problem refuses.accepted) refuses.refuses.refuses
+
+refused_show : (seen : Option (List ℕ)) (refusal : Refusal) → TellsOne CanShow seen → IfSome seen (RefusesStore refusal) → ⊥
+refused_show None refusal tells refuses = absurd (none-some tells.image tells.told)
+refused_show (Some image) refusal tells refuses = not_both_shown refuses.content refusal (clash image CanShow refuses.content tells refuses.held) refuses.refuses
+
+not_usage : (command : Command) (bytes : List ℕ) (seen : Option (List ℕ)) (out said : List ℕ) → RepliesTo status.Usage command bytes seen out said → ⊥
+not_usage (Run workers to None) bytes seen out said h = h.0
+not_usage (Run workers to (Some every)) bytes seen out said h = h
+not_usage Check bytes seen out said h = h.0
+not_usage Show bytes seen out said h = h.0
+not_usage (Trial number size workers) bytes seen out said h = h.0
+
+not_problem : (command : Command) (reason : ProblemFault) (bytes : List ℕ) (seen : Option (List ℕ)) (out said : List ℕ) → HasAnswer command bytes seen → RepliesTo (status.Problem reason) command bytes seen out said → ⊥
+not_problem (Run workers to None) reason bytes seen out said has h = none-some reason (sym has ∙ h.0.0)
+not_problem (Run workers to (Some every)) reason bytes seen out said has h = none-some reason (sym has.0 ∙ h.0)
+not_problem Check reason bytes seen out said has h = none-some reason (sym has ∙ h.0.0)
+not_problem Show reason bytes seen out said has h = h.0
+not_problem (Trial number size workers) reason bytes seen out said has h = h.0
+
+not_store : (command : Command) (refusal : Refusal) (bytes : List ℕ) (seen : Option (List ℕ)) (out said : List ℕ) → HasAnswer command bytes seen → RepliesTo (status.Store refusal) command bytes seen out said → ⊥
+not_store (Run workers to None) refusal bytes seen out said has h = h.0
+not_store (Run workers to (Some every)) refusal bytes seen out said has h = refused_run bytes to seen refusal has.1 h.0
+not_store Check refusal bytes seen out said has h = h.0
+not_store Show refusal bytes seen out said has h = refused_show seen refusal has h.0.0
+not_store (Trial number size workers) refusal bytes seen out said has h = h.0
+
+completed : (s : Status) (command : Command) (bytes : List ℕ) (seen : Option (List ℕ)) (out said : List ℕ) → HasAnswer command bytes seen → RepliesTo s command bytes seen out said
+    → (s ≡ status.ReadFault → ⊥) → (s ≡ status.WriteFault → ⊥) → (s ≡ status.DiskFault → ⊥) → (s ≡ status.Done) ⊎ (s ≡ status.NoMemory)
+completed status.Done command bytes seen out said has h read write disk = inl refl
+completed status.NoMemory command bytes seen out said has h read write disk = inr refl
+completed status.ReadFault command bytes seen out said has h read write disk = absurd (read refl)
+completed status.WriteFault command bytes seen out said has h read write disk = absurd (write refl)
+completed status.DiskFault command bytes seen out said has h read write disk = absurd (disk refl)
+completed status.Usage command bytes seen out said has h read write disk = absurd (not_usage command bytes seen out said h)
+completed (status.Problem reason) command bytes seen out said has h read write disk = absurd (not_problem command reason bytes seen out said has h)
+completed (status.Store refusal) command bytes seen out said has h read write disk = absurd (not_store command refusal bytes seen out said has h)
+
+pub is_complete : (s : Status) (asked : Option Command) (command : Command) (bytes : List ℕ) (seen : Option (List ℕ)) (out said : List ℕ) → asked ≡ Some command → HasAnswer command bytes seen → Outcome s asked bytes seen out said
+    → (s ≡ status.ReadFault → ⊥) → (s ≡ status.WriteFault → ⊥) → (s ≡ status.DiskFault → ⊥) → (s ≡ status.Done) ⊎ (s ≡ status.NoMemory)
+is_complete s asked command bytes seen out said is has h read write disk =
+    completed s command bytes seen out said has (subst (λ (o : Option Command). Outcome s o bytes seen out said) is h) read write disk
+
 -- ---- the line on the stream of errors
+
+-- `err` failed before its last line, or did not
+pub err_before : (s : Status) (P : Type 0) (old now : ℕ) → ((s ≡ status.WriteFault → ⊥) → now ≡ old) → (s ≡ status.WriteFault → P × (now ≡ old) ⊎ Rose old now) → (now ≡ old) ⊎ Rose old now
+err_before status.Done P old now other write = inl (other (λ is. cc))
+err_before status.Usage P old now other write = inl (other (λ is. cc))
+err_before status.ReadFault P old now other write = inl (other (λ is. cc))
+err_before (status.Problem reason) P old now other write = inl (other (λ is. cc))
+err_before status.DiskFault P old now other write = inl (other (λ is. cc))
+err_before (status.Store refusal) P old now other write = inl (other (λ is. cc))
+err_before status.NoMemory P old now other write = inl (other (λ is. cc))
+err_before status.WriteFault P old now other write = ⊎_elim (λ h. inl h.1) (λ h. inr h) (write refl)
+
+rose_on : (old mid now : ℕ) → (mid ≡ old) ⊎ Rose old mid → Rose mid now → Rose old now
+rose_on old mid now (inl same) rose = subst (λ n. Rose n now) same rose
+rose_on old mid now (inr first) rose = omega (arith, first, rose)
+
+-- the line of a refusal after the lines of checkpoints
+pub ends_by_line : (s : Status) (said part : List ℕ) (old mid now : ℕ) → (mid ≡ old) ⊎ Rose old mid → IsPrefix part (message s) → (part ≡ message s) ⊎ Rose mid now → EndsByLine s said (said ++ part) old now
+ends_by_line s said part old mid now before is whole = record {
+  line = part;
+  after = refl;
+  prefix = is;
+  whole = ⊎_elim (λ same. inl same) (λ rose. inr (rose_on old mid now before rose)) whole;
+}
 
 -- it went out whole, or less than the whole with a fault that has its cause
 pub told : {S F : Type 0} (holds : S → List ℕ → Type 0) (old new : S) (before now : ℕ) (text : List ℕ) (r : Result Unit F) → OnOk r (Grows holds old new text) → OnErr r (FallsShort holds old new text) → HasCause before now r

@@ -1,14 +1,19 @@
--- The defined answer of a command: by the bytes of its source, or of a trial by its two numbers alone.
-use Rattle.std.specs.Prelude.{ℕ, ◌≡◌, List, Option, None, Some, min}
+-- The defined answer of a command: by the bytes of its source, by what its disk holds, or of a trial by its two numbers alone.
+use Rattle.std.specs.Prelude.{ℕ, ◌≡◌, ◌+◌, ⊤, List, [], Option, None, Some, IfSome, min}
+use Rattle.std.specs.List.{flat_map}
 use Rattle.amr_def.specs.declared.problem.Problem.{Problem}
 use Rattle.amr_def.specs.Run as runs
 use Rattle.amr_def.specs.Plot as plots
 use Rattle.amr_def.specs.Facts.{IsSound}
+use Rattle.amr_def.specs.State.{State}
 use Rattle.amr_problem.specs.Judgement.{fault_of, IsProblemOf}
 use Rattle.amr_trial.specs.Summary.{summary_line}
 use Rattle.amr_trial.specs.Trial.{text}
+use Rattle.amr_checkpoint.specs.Contents.{Content, At, Holds, state_from}
+use Rattle.amr_checkpoint.specs.Marks.{answer_of_run, checkpoint_line, marks}
+use Rattle.amr_checkpoint.specs.Refusals.{CanShow, GoesOn}
 use Rattle.amr_cli.specs.declared.command.Command.{Command}
-use Rattle.amr_cli.specs.declared.command.Command.TheVariants.{Run, Check, Trial}
+use Rattle.amr_cli.specs.declared.command.Command.TheVariants.{Run, Check, Show, Trial}
 use Rattle.amr_drive.specs.Regrids.{RunHoldsTags, StartHoldsTags}
 use Rattle.amr_run.specs.Texts.{problem_line}
 
@@ -24,12 +29,47 @@ pub record IsSoundRun (p : Problem) (k : ℕ) : Type 0 where
   pub start_held : StartHoldsTags p
   pub held : RunHoldsTags p (runs.start p) k
 
+-- the same of a run from a state
+pub record IsSoundRunFrom (p : Problem) (s : State) (k : ℕ) : Type 0 where
+  pub sound : IsSound p (runs.finish p s k)
+  pub start_held : StartHoldsTags p
+  pub held : RunHoldsTags p s k
+
 -- These bytes are the plot of the run of the problem that the bytes of the source are, at the step that it stops at.
 pub record IsPlotOfRun (bytes : List ℕ) (to : Option ℕ) (out : List ℕ) : Type 0 where
   pub problem : Problem
   pub accepted : IsProblemOf bytes problem
   pub text : out ≡ plots.plot problem (runs.run problem (stop_of to problem))
   pub run : IsSoundRun problem (stop_of to problem)
+
+-- what a disk holds, where it tells what it reads
+abbrev pub WasFound : Option (List ℕ) → Content → Type 0
+WasFound seen content = IfSome seen (λ image. Holds image content)
+
+-- These bytes are the plot of a problem's run that goes on from what the disk holds to a step, and these lines acknowledge a checkpoint
+-- at each of its marks.
+pub record IsKeptRun (bytes : List ℕ) (p : Problem) (every target : ℕ) (seen : Option (List ℕ)) (out lines : List ℕ) : Type 0 where
+  pub found : Content
+  pub held : WasFound seen found
+  pub on : GoesOn bytes target found
+  pub text : out ≡ answer_of_run p found target
+  pub acknowledged : lines ≡ flat_map checkpoint_line (marks every found target)
+  pub run : IsSoundRunFrom p (state_from p found) target
+
+-- of the problem that the bytes of the source are, at the step that it stops at
+pub record IsPlotOfKeptRun (bytes : List ℕ) (to : Option ℕ) (every : ℕ) (seen : Option (List ℕ)) (out lines : List ℕ) : Type 0 where
+  pub problem : Problem
+  pub accepted : IsProblemOf bytes problem
+  pub kept : IsKeptRun bytes problem every (stop_of to problem) seen out lines
+
+-- These bytes are the plot of the state that the disk holds, which is sound.
+pub record IsPlotOfStore (seen : Option (List ℕ)) (out : List ℕ) : Type 0 where
+  pub bytes : List ℕ
+  pub problem : Problem
+  pub state : State
+  pub held : WasFound seen (At bytes problem state (state.step + 1))
+  pub text : out ≡ plots.plot problem state
+  pub sound : IsSound problem state
 
 -- These bytes are the line of the problem that the bytes of the source are.
 pub record IsLineOfProblem (bytes out : List ℕ) : Type 0 where
@@ -48,17 +88,38 @@ pub record IsLineOfTrial (number size : ℕ) (out : List ℕ) : Type 0 where
 
 -- the command reads a problem from its source
 abbrev pub ReadsSource : Command → Type 0
-ReadsSource (Run workers to) = Unit {0}
+ReadsSource (Run workers to keep) = Unit {0}
 ReadsSource Check = Unit {0}
+ReadsSource Show = ⊥
 ReadsSource (Trial number size workers) = ⊥
 
-abbrev pub IsAnswer : Command → List ℕ → List ℕ → Type 0
-IsAnswer (Run workers to) bytes = IsPlotOfRun bytes to
-IsAnswer Check bytes = IsLineOfProblem bytes
-IsAnswer (Trial number size workers) bytes = IsLineOfTrial number size
+-- the command opens the store
+abbrev pub OpensStore : Command → Type 0
+OpensStore (Run workers to None) = ⊥
+OpensStore (Run workers to (Some every)) = Unit {0}
+OpensStore Check = ⊥
+OpensStore Show = Unit {0}
+OpensStore (Trial number size workers) = ⊥
 
--- the command has an answer: where it reads a problem, the bytes of the source are one without fault
-abbrev pub HasAnswer : Command → List ℕ → Type 0
-HasAnswer (Run workers to) bytes = fault_of bytes ≡ None
-HasAnswer Check bytes = fault_of bytes ≡ None
-HasAnswer (Trial number size workers) bytes = Unit {0}
+-- and writes to it, and acknowledges what it keeps
+abbrev pub KeepsCheckpoints : Command → Type 0
+KeepsCheckpoints (Run workers to None) = ⊥
+KeepsCheckpoints (Run workers to (Some every)) = Unit {0}
+KeepsCheckpoints Check = ⊥
+KeepsCheckpoints Show = ⊥
+KeepsCheckpoints (Trial number size workers) = ⊥
+
+-- the disk tells what it reads, and what that holds has P
+pub record TellsOne (P : Content → Type 0) (seen : Option (List ℕ)) : Type 0 where
+  pub image : List ℕ
+  pub told : seen ≡ Some image
+  pub each : (content : Content) → Holds image content → P content
+
+-- The command has an answer: where it reads a problem, the bytes of the source are one without fault. A run that keeps checkpoints can go
+-- on from what is stored, and what is shown is stored.
+abbrev pub HasAnswer : Command → List ℕ → Option (List ℕ) → Type 0
+HasAnswer (Run workers to None) bytes seen = fault_of bytes ≡ None
+HasAnswer (Run workers to (Some every)) bytes seen = (fault_of bytes ≡ None) × TellsOne (λ content. (p : Problem) → IsProblemOf bytes p → GoesOn bytes (stop_of to p) content) seen
+HasAnswer Check bytes seen = fault_of bytes ≡ None
+HasAnswer Show bytes seen = TellsOne CanShow seen
+HasAnswer (Trial number size workers) bytes seen = Unit {0}

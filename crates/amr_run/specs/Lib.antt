@@ -3,3 +3,5 @@ pub mod Reading
 pub mod Answer
 pub mod Outcome
 pub mod Refusals
+pub mod Keeper
+pub mod Kept

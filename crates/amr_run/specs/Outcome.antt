@@ -1,12 +1,23 @@
--- What a status says of the words, of the bytes of the source and of what went out.
-use Rattle.std.specs.Prelude.{ℕ, ◌≡◌, List, [], Option, None, Some, Result, Ok, Err}
+-- What a status says of the words, of the bytes of the source, of what the disk holds, and of what went out.
+use Rattle.std.specs.Prelude.{ℕ, ◌≡◌, ◌≤◌, ◌⊎◌, List, [], ◌++◌, Option, None, Some, IfSome, Result, Ok, Err}
+use Rattle.amr_causes.specs.Bytes.{IsPrefix}
+use Rattle.amr_causes.specs.Causes.{Rose}
 use Rattle.amr_io.specs.Short.{IsProperPrefix}
-use Rattle.amr_problem.specs.Judgement.{fault_of}
-use Rattle.amr_run.specs.Answer.{IsAnswer}
+use Rattle.amr_def.specs.declared.problem.Problem.{Problem}
+use Rattle.amr_problem.specs.Judgement.{fault_of, IsProblemOf}
+use Rattle.amr_checkpoint.specs.declared.refusal.Refusal.{Refusal}
+use Rattle.amr_checkpoint.specs.Contents.{Content, Holds}
+use Rattle.amr_checkpoint.specs.Kept.{StopsOfRun}
+use Rattle.amr_checkpoint.specs.Marks.{to_make}
+use Rattle.amr_checkpoint.specs.Refusals.{GoesOn, RefusesRun, RefusesShow}
+use Rattle.amr_checkpoint.specs.Times.{Time}
+use Rattle.amr_store.specs.Phases.{OnlyReads}
+use Rattle.amr_run.specs.Answer.{IsLineOfProblem, IsLineOfTrial, IsPlotOfKeptRun, IsPlotOfRun, IsPlotOfStore, stop_of}
+use Rattle.amr_run.specs.Texts.{message}
 use Rattle.amr_cli.specs.declared.command.Command.{Command}
-use Rattle.amr_cli.specs.declared.command.Command.TheVariants.{Run, Check, Trial}
+use Rattle.amr_cli.specs.declared.command.Command.TheVariants.{Run, Check, Show, Trial}
 use Rattle.amr_run.specs.declared.status.Status.{Status}
-use Rattle.amr_run.specs.declared.status.Status.TheVariants.{Done, Usage, ReadFault, Problem, WriteFault, NoMemory}
+use Rattle.amr_run.specs.declared.status.Status.TheVariants.{Done, Usage, ReadFault, Problem as BadProblem, DiskFault, Store, WriteFault, NoMemory}
 
 -- how a command ended: with its answer, or with the status that refuses it
 abbrev pub status_of : Result Unit Status → Status
@@ -17,11 +28,13 @@ status_of (Err status) = status
 -- fault in writing, and else nothing. A problem is refused exactly by its fault, and a command is never refused as none.
 abbrev pub Replies : Status → (List ℕ → Type 0) → List ℕ → List ℕ → Type 0
 Replies Done answers bytes out = answers out
-Replies (Problem fault) answers bytes out = (fault_of bytes ≡ Some fault) × (out ≡ [])
+Replies (BadProblem fault) answers bytes out = (fault_of bytes ≡ Some fault) × (out ≡ [])
 Replies WriteFault answers bytes out = (whole : List ℕ) × answers whole × IsProperPrefix out whole
 Replies ReadFault answers bytes out = out ≡ []
 Replies NoMemory answers bytes out = out ≡ []
 Replies Usage answers bytes out = ⊥
+Replies DiskFault answers bytes out = ⊥
+Replies (Store refusal) answers bytes out = ⊥
 
 -- Of a command that reads no source: it is never refused by one.
 abbrev pub RepliesUnread : Status → (List ℕ → Type 0) → List ℕ → Type 0
@@ -30,15 +43,114 @@ RepliesUnread WriteFault answers out = (whole : List ℕ) × answers whole × Is
 RepliesUnread NoMemory answers out = out ≡ []
 RepliesUnread _ answers out = ⊥
 
--- By the command.
-abbrev pub RepliesTo : Status → Command → List ℕ → List ℕ → Type 0
-RepliesTo status (Run workers to) bytes out = Replies status (IsAnswer (Run workers to) bytes) bytes out
-RepliesTo status Check bytes out = Replies status (IsAnswer Check bytes) bytes out
-RepliesTo status (Trial number size workers) bytes out = RepliesUnread status (IsAnswer (Trial number size workers) bytes) out
+-- what is stored refuses to be shown
+pub record RefusesStore (refusal : Refusal) (image : List ℕ) : Type 0 where
+  pub content : Content
+  pub held : Holds image content
+  pub refuses : RefusesShow content refusal
+
+-- Of a command that shows what the disk holds: it is refused exactly by that, where the disk tells it.
+abbrev pub RepliesShowing : Status → Option (List ℕ) → List ℕ → Type 0
+RepliesShowing Done seen out = IsPlotOfStore seen out
+RepliesShowing DiskFault seen out = out ≡ []
+RepliesShowing (Store refusal) seen out = IfSome seen (RefusesStore refusal) × (out ≡ [])
+RepliesShowing WriteFault seen out = (whole : List ℕ) × IsPlotOfStore seen whole × IsProperPrefix out whole
+RepliesShowing NoMemory seen out = out ≡ []
+RepliesShowing _ seen out = ⊥
+
+-- ---- a run that keeps checkpoints
+
+-- what is stored refuses a run of the problem
+pub record RefusesKept (bytes : List ℕ) (target : ℕ) (refusal : Refusal) (image : List ℕ) : Type 0 where
+  pub content : Content
+  pub held : Holds image content
+  pub refuses : RefusesRun bytes target content refusal
+
+-- at the step that it stops at
+pub record RefusesRunTo (bytes : List ℕ) (to : Option ℕ) (refusal : Refusal) (image : List ℕ) : Type 0 where
+  pub problem : Problem
+  pub accepted : IsProblemOf bytes problem
+  pub refuses : RefusesKept bytes (stop_of to problem) refusal image
+
+-- the lines of an answer, or the first bytes of them
+pub record BeginsLines (answers : List ℕ → List ℕ → Type 0) (said : List ℕ) : Type 0 where
+  pub whole : List ℕ
+  pub lines : List ℕ
+  pub answer : answers whole lines
+  pub prefix : IsPrefix said lines
+
+-- an answer of which not all went out: less than the whole after all lines, or less than all lines
+pub record IsCutShort (answers : List ℕ → List ℕ → Type 0) (out said : List ℕ) : Type 0 where
+  pub whole : List ℕ
+  pub lines : List ℕ
+  pub answer : answers whole lines
+  pub cut : (IsProperPrefix out whole × (said ≡ lines)) ⊎ ((out ≡ []) × IsProperPrefix said lines)
+
+-- By what its answers are, with the lines that acknowledge checkpoints, and by what refuses it.
+abbrev pub RepliesKeeping : Status → (List ℕ → List ℕ → Type 0) → (Refusal → Type 0) → List ℕ → List ℕ → List ℕ → Type 0
+RepliesKeeping Done answers refuses bytes out said = answers out said
+RepliesKeeping (BadProblem fault) answers refuses bytes out said = (fault_of bytes ≡ Some fault) × (out ≡ []) × (said ≡ [])
+RepliesKeeping ReadFault answers refuses bytes out said = (out ≡ []) × (said ≡ [])
+RepliesKeeping (Store refusal) answers refuses bytes out said = refuses refusal × (out ≡ []) × (said ≡ [])
+RepliesKeeping DiskFault answers refuses bytes out said = (out ≡ []) × ((said ≡ []) ⊎ BeginsLines answers said)
+RepliesKeeping WriteFault answers refuses bytes out said = IsCutShort answers out said
+RepliesKeeping NoMemory answers refuses bytes out said = (out ≡ []) × ((said ≡ []) ⊎ BeginsLines answers said)
+RepliesKeeping Usage answers refuses bytes out said = ⊥
+
+-- ---- by the command
+
+abbrev pub RepliesTo : Status → Command → List ℕ → Option (List ℕ) → List ℕ → List ℕ → Type 0
+RepliesTo status (Run workers to None) bytes seen out said = Replies status (IsPlotOfRun bytes to) bytes out × (said ≡ [])
+RepliesTo status (Run workers to (Some every)) bytes seen out said =
+    RepliesKeeping status (IsPlotOfKeptRun bytes to every seen) (λ refusal. IfSome seen (RefusesRunTo bytes to refusal)) bytes out said
+RepliesTo status Check bytes seen out said = Replies status (IsLineOfProblem bytes) bytes out × (said ≡ [])
+RepliesTo status Show bytes seen out said = RepliesShowing status seen out × (said ≡ [])
+RepliesTo status (Trial number size workers) bytes seen out said = RepliesUnread status (IsLineOfTrial number size) out × (said ≡ [])
 
 -- Of the command that the words are. Where they are none, the status is that, unless memory ran out.
-abbrev pub Outcome : Status → Option Command → List ℕ → List ℕ → Type 0
-Outcome status (Some command) bytes out = RepliesTo status command bytes out
-Outcome Usage None bytes out = out ≡ []
-Outcome NoMemory None bytes out = out ≡ []
-Outcome _ None bytes out = ⊥
+abbrev pub Outcome : Status → Option Command → List ℕ → Option (List ℕ) → List ℕ → List ℕ → Type 0
+Outcome status (Some command) bytes seen out said = RepliesTo status command bytes seen out said
+Outcome Usage None bytes seen out said = (out ≡ []) × (said ≡ [])
+Outcome NoMemory None bytes seen out said = (out ≡ []) × (said ≡ [])
+Outcome _ None bytes seen out said = ⊥
+
+-- After the lines of checkpoints comes the line of a refusal, whole unless `err` failed: `before` and `now` count its faults.
+pub record EndsByLine (status : Status) (said all : List ℕ) (before now : ℕ) : Type 0 where
+  pub line : List ℕ
+  pub after : said ++ line ≡ all
+  pub prefix : IsPrefix line (message status)
+  pub whole : (line ≡ message status) ⊎ Rose before now
+
+-- ---- stops
+
+-- A run found this on a disk that reads as the image, and goes on from it. A stop since leaves it, or what the run made last or makes next.
+pub record RunsThrough (leaves : ℕ → List ℕ → Type 0) (before now : ℕ) (image bytes : List ℕ) (p : Problem) (every target : ℕ) (said : List ℕ) : Type 0 where
+  pub found : Time
+  pub since : before ≤ found.moment
+  pub held : Holds image found.content
+  pub on : GoesOn bytes target found.content
+  pub stops : StopsOfRun leaves found now (to_make bytes p every found.content target) said
+
+-- where the disk tells what it reads, it was only read, or a run went on from it
+abbrev pub StopsKept : {D : Type 0} → (D → Option (List ℕ)) → (D → ℕ) → (D → ℕ → List ℕ → Type 0) → D → D → List ℕ → Problem → ℕ → ℕ → List ℕ → Type 0
+StopsKept seen moment leaves disk later_disk bytes p every target said =
+    (image : List ℕ) → seen disk ≡ Some image → OnlyReads seen moment leaves disk later_disk ⊎ RunsThrough (leaves later_disk) (moment disk) (moment later_disk) image bytes p every target said
+
+-- of the problem that the bytes of the source are, at the step that it stops at
+pub record RunsThroughTo (leaves : ℕ → List ℕ → Type 0) (before now : ℕ) (image bytes : List ℕ) (to : Option ℕ) (every : ℕ) (said : List ℕ) : Type 0 where
+  pub problem : Problem
+  pub accepted : IsProblemOf bytes problem
+  pub through : RunsThrough leaves before now image bytes problem every (stop_of to problem) said
+
+abbrev pub StopsRun : {D : Type 0} → (D → Option (List ℕ)) → (D → ℕ) → (D → ℕ → List ℕ → Type 0) → D → D → List ℕ → Option ℕ → ℕ → List ℕ → Type 0
+StopsRun seen moment leaves disk later_disk bytes to every said =
+    (image : List ℕ) → seen disk ≡ Some image → OnlyReads seen moment leaves disk later_disk ⊎ RunsThroughTo (leaves later_disk) (moment disk) (moment later_disk) image bytes to every said
+
+-- By the command: any other than a run that keeps checkpoints only reads.
+abbrev pub StopsTo : {D : Type 0} → (D → Option (List ℕ)) → (D → ℕ) → (D → ℕ → List ℕ → Type 0) → D → D → Option Command → List ℕ → List ℕ → Type 0
+StopsTo seen moment leaves disk later_disk None bytes said = OnlyReads seen moment leaves disk later_disk
+StopsTo seen moment leaves disk later_disk (Some (Run workers to None)) bytes said = OnlyReads seen moment leaves disk later_disk
+StopsTo seen moment leaves disk later_disk (Some (Run workers to (Some every))) bytes said = StopsRun seen moment leaves disk later_disk bytes to every said
+StopsTo seen moment leaves disk later_disk (Some Check) bytes said = OnlyReads seen moment leaves disk later_disk
+StopsTo seen moment leaves disk later_disk (Some Show) bytes said = OnlyReads seen moment leaves disk later_disk
+StopsTo seen moment leaves disk later_disk (Some (Trial number size workers)) bytes said = OnlyReads seen moment leaves disk later_disk

@@ -1,8 +1,8 @@
 -- How the bytes of the source were read as a problem.
 use Rattle.std.specs.Prelude.{ℕ, ◌≡◌, ◌≤◌, List, length, Option, Some, Result, Ok, Err}
 use Rattle.std.specs.Io.KnownBytes.{Consumes}
-use Rattle.amr_def.specs.declared.problem.Problem.{Problem}
 use Rattle.amr_problem.specs.Judgement.{fault_of, IsProblemOf}
+use Rattle.amr_run.specs.declared.reading.Given.{Given}
 use Rattle.amr_run.specs.declared.status.Status.{Status}
 use Rattle.amr_run.specs.declared.status.Status.TheVariants as status
 
@@ -14,9 +14,11 @@ Refuses status.NoMemory bytes = Unit {0}
 Refuses status.Done bytes = ⊥
 Refuses status.Usage bytes = ⊥
 Refuses status.WriteFault bytes = ⊥
+Refuses status.DiskFault bytes = ⊥
+Refuses (status.Store reason) bytes = ⊥
 
-abbrev pub Reads : Result Problem Status → List ℕ → Type 0
-Reads (Ok problem) bytes = IsProblemOf bytes problem
+abbrev pub Reads : Result Given Status → List ℕ → Type 0
+Reads (Ok given) bytes = (given.bytes.items ≡ bytes) × IsProblemOf bytes given.problem
 Reads (Err refusal) bytes = Refuses refusal bytes
 
 -- at most so many bytes were taken, from the front of those that were left

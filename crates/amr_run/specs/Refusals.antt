@@ -4,8 +4,12 @@ use Rattle.amr_io.specs.declared.source.ReadAll.TheVariants as reading
 use Rattle.amr_problem.specs.declared.fault.JudgeFault.{JudgeFault}
 use Rattle.amr_problem.specs.declared.fault.JudgeFault.TheVariants as judging
 use Rattle.amr_problem.specs.declared.fault.ProblemFault.TheVariants.{TooLong}
+use Rattle.amr_checkpoint.specs.declared.faults.KeepFault.{KeepFault}
+use Rattle.amr_checkpoint.specs.declared.faults.KeepFault.TheVariants as keeping
+use Rattle.amr_checkpoint.specs.declared.faults.ResumeFault.{ResumeFault}
+use Rattle.amr_checkpoint.specs.declared.faults.ResumeFault.TheVariants as resuming
 use Rattle.amr_run.specs.declared.status.Status.{Status}
-use Rattle.amr_run.specs.declared.status.Status.TheVariants.{ReadFault, Problem, NoMemory}
+use Rattle.amr_run.specs.declared.status.Status.TheVariants.{ReadFault, Problem, DiskFault, Store, WriteFault, NoMemory}
 
 -- more bytes than a problem has are its first fault
 abbrev pub read_refused : ReadAll → Status
@@ -16,3 +20,14 @@ read_refused reading.NoMemory = NoMemory
 abbrev pub judge_refused : JudgeFault → Status
 judge_refused (judging.Fault fault) = Problem fault
 judge_refused judging.NoMemory = NoMemory
+
+abbrev pub keep_refused : KeepFault → Status
+keep_refused keeping.DiskFault = DiskFault
+keep_refused keeping.WriteFault = WriteFault
+keep_refused keeping.NoMemory = NoMemory
+
+-- what is stored refuses a run, or has nothing to show
+abbrev pub resume_refused : ResumeFault → Status
+resume_refused resuming.DiskFault = DiskFault
+resume_refused (resuming.Refused reason) = Store reason
+resume_refused resuming.NoMemory = NoMemory

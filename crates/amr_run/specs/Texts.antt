@@ -9,6 +9,7 @@ use Rattle.amr_def.specs.Plot.{line, spaced}
 use Rattle.amr_problem.specs.declared.fault.ProblemFault.{ProblemFault}
 use Rattle.amr_problem.specs.declared.fault.ProblemFault.TheVariants as problem
 use Rattle.amr_problem.specs.Keys.{text_of}
+use Rattle.amr_checkpoint.specs.Refusals.{disk_text, refusal_line}
 use Rattle.amr_run.specs.declared.status.Status.{Status}
 use Rattle.amr_run.specs.declared.status.Status.TheVariants as status
 
@@ -22,6 +23,8 @@ exit_status status.Usage = 2
 exit_status (status.Problem fault) = 3
 exit_status status.ReadFault = 4
 exit_status status.WriteFault = 5
+exit_status status.DiskFault = 6
+exit_status (status.Store reason) = 7
 exit_status status.NoMemory = 9
 
 abbrev pub usage_text : List ℕ
@@ -53,11 +56,13 @@ fault_text (problem.Blocking axis b) = spaced (codes "problem: blocking" ∷ sig
 abbrev pub refusal : List ℕ → List ℕ
 refusal text = line (codes "amr: " ++ text)
 
--- what a call writes to `err`: nothing where all is done
+-- the line that a call writes to `err` last: none where all is done
 abbrev pub message : Status → List ℕ
 message status.Done = []
 message status.Usage = refusal usage_text
 message status.ReadFault = refusal (codes "read failed")
 message (status.Problem fault) = refusal (fault_text fault)
+message status.DiskFault = refusal disk_text
+message (status.Store reason) = refusal_line reason
 message status.WriteFault = refusal (codes "write failed")
 message status.NoMemory = refusal (codes "out of memory")

@@ -1,5 +1,5 @@
 //! The commands.
-ghost use Rattle.std.specs.Prelude.{◌≡◌, ◌≢◌, ◌<◌, ◌≤◌, List, ℕ, Err, false, IfErr, IfOk, OnOk, OnErr};
+ghost use Rattle.std.specs.Prelude.{◌≡◌, ◌≢◌, ◌<◌, ◌≤◌, ◌⊎◌, List, ℕ, Some, Err, false, IfErr, IfOk, IfSome, OnOk, OnErr};
 ghost use Rattle.std.specs.Io.KnownBytes.{IsAtEnd};
 ghost use Rattle.amr_causes.specs.Causes.{HasCause, Rose};
 ghost use Rattle.amr_causes.specs.Bytes.{Grows, WereLeft};
@@ -9,16 +9,21 @@ ghost use Rattle.amr_def.specs.Facts.{IsSound};
 ghost use Rattle.amr_def.specs.Run.{run};
 ghost use Rattle.amr_patch.specs.Meshes.{is_spent, state_of};
 ghost use Rattle.amr_trial.specs.Trial.{IsSize};
-ghost use Rattle.amr_run.specs.Answer.{IsLineOfProblem, IsLineOfTrial, IsPlotOfRun, IsSoundRun, stop_of};
-ghost use Rattle.amr_run.specs.Outcome.{Replies, RepliesUnread, status_of};
-ghost use Rattle.amr_run.specs.Reading.{Reads, TakesAtMost};
+ghost use Rattle.amr_store.specs.Phases.{OnlyReads};
+ghost use Rattle.amr_run.specs.Answer.{IsLineOfProblem, IsLineOfTrial, IsPlotOfKeptRun, IsPlotOfRun, IsSoundRun, stop_of};
+ghost use Rattle.amr_run.specs.Outcome.{RefusesRunTo, Replies, RepliesKeeping, RepliesShowing, RepliesUnread, StopsRun, status_of};
+ghost use Rattle.amr_run.specs.Reading.{TakesAtMost};
 
 use crate::Status;
+use crate::keeping::keep_run;
 use crate::line::put_line;
+use crate::reading::read_problem;
 use amr_advance::Crew;
+use amr_checkpoint::Keeping;
 use amr_def::Problem;
+use amr_disk::Disk;
 use amr_drive::{Nothing, drive, start};
-use amr_io::{Fragment, Sink, Source, WriteFault, read_all, write_whole};
+use amr_io::{Fragment, Sink, Source, WriteFault, write_whole};
 use amr_patch::Mesh;
 use amr_plot::plot;
 use amr_problem::judge;
@@ -26,9 +31,6 @@ use amr_trial::{summary, text};
 use amr_workers::Gate;
 use std::alloc::Global;
 use std::thread::Threads;
-
-/// The most bytes that a problem has.
-const MOST_BYTES: usize = 65536;
 
 /// How many steps a trial makes.
 const TRIAL_STEPS: u32 = 16;
@@ -107,10 +109,71 @@ pub(crate) fn run<R: Threads + Sync, S: Source, O: Sink, G: Gate + Sync>(
     ensures write_fault { result ≡ Err Status.WriteFault → Rose (O.faults out.old) (O.faults out.new) }
     ensures no_write_fault { result ≢ Err Status.WriteFault → O.faults out.new ≡ O.faults out.old }
 {
-    let problem = read_problem(alloc, src)?;
-    let target = stop_of(&problem, to);
-    let mesh = run_to(workers, alloc, &problem, target)?;
-    plot(&problem, &mesh, out)?;
+    let given = read_problem(alloc, src)?;
+    let target = stop_of(&given.problem, to);
+    let mesh = run_to(workers, alloc, &given.problem, target)?;
+    plot(&given.problem, &mesh, out)?;
+    Ok(())
+}
+
+/// The command `run` with checkpoints: the plot of the run of the problem on the source, which goes on from what the disk holds, or
+/// the status that refuses it. Each checkpoint is acknowledged on `err` once it stands; the plot is written last.
+pub(crate) fn keep<R: Threads + Sync, S: Source, O: Sink, E: Sink, D: Disk, G: Gate + Sync>(
+    workers: &Workers<'_, R, G>,
+    alloc: Global,
+    to: Option<u32>,
+    every: u32,
+    src: &mut S,
+    out: &mut O,
+    err: &mut E,
+    disk: &mut D,
+) -> Result<(), Status>
+    requires some { 1 ≤ every }
+    requires some_workers { 1 ≤ workers.now.count }
+    requires few_workers { workers.now.count ≤ 64 }
+    requires gate { (worker task : ℕ) → worker < workers.now.count → G.admits workers.now.gate.now worker task }
+    ensures outcome { (bytes : List ℕ) × ((sent : List ℕ) × ((said : List ℕ) × WereLeft (S.left src.old) bytes
+        × Grows O.holds out.old out.new sent × Grows E.holds err.old err.new said
+        × RepliesKeeping (status_of result) (IsPlotOfKeptRun bytes to every (D.seen disk.old)) (λ refusal. IfSome (D.seen disk.old) (RefusesRunTo bytes to refusal)) bytes sent said
+        × StopsRun D.seen D.moment D.leaves disk.old disk.new bytes to every said)) }
+    ensures ended { OnOk result (IsAtEnd (S.left src.new)) }
+    ensures taken { TakesAtMost 65537 (S.left src.old) (S.left src.new) }
+    ensures refused { IfErr result (λ status. status ≢ Status.Done) }
+    ensures read_fault { result ≡ Err Status.ReadFault → Rose (S.faults src.old) (S.faults src.new) }
+    ensures no_read_fault { result ≢ Err Status.ReadFault → S.faults src.new ≡ S.faults src.old }
+    ensures disk_fault { result ≡ Err Status.DiskFault → Rose (D.faults disk.old) (D.faults disk.new) }
+    ensures write_fault { result ≡ Err Status.WriteFault → (Rose (O.faults out.old) (O.faults out.new) × (E.faults err.new ≡ E.faults err.old)) ⊎ Rose (E.faults err.old) (E.faults err.new) }
+    ensures no_write_fault { result ≢ Err Status.WriteFault → (O.faults out.new ≡ O.faults out.old) × (E.faults err.new ≡ E.faults err.old) }
+    ensures unwritten { (refusal : _) → result ≡ Err (Status.Store refusal) → OnlyReads D.seen D.moment D.leaves disk.old disk.new }
+{
+    let given = read_problem(alloc, src)?;
+    let keeping = Keeping {
+        alloc,
+        problem: &given.problem,
+        every,
+        target: stop_of(&given.problem, to),
+    };
+    let mesh = keep_run(workers, &keeping, &given.bytes, err, disk)?;
+    plot(&given.problem, &mesh, out)?;
+    Ok(())
+}
+
+/// The command `show`: the plot of the state that the disk holds, or the status that refuses it.
+pub(crate) fn show<O: Sink, D: Disk>(
+    alloc: Global,
+    out: &mut O,
+    disk: &mut D,
+) -> Result<(), Status>
+    ensures outcome { (sent : List ℕ) × Grows O.holds out.old out.new sent × RepliesShowing (status_of result) (D.seen disk.old) sent }
+    ensures refused { IfErr result (λ status. status ≢ Status.Done) }
+    ensures no_read_fault { result ≢ Err Status.ReadFault }
+    ensures reads { OnlyReads D.seen D.moment D.leaves disk.old disk.new }
+    ensures disk_fault { result ≡ Err Status.DiskFault → Rose (D.faults disk.old) (D.faults disk.new) }
+    ensures write_fault { result ≡ Err Status.WriteFault → Rose (O.faults out.old) (O.faults out.new) }
+    ensures no_write_fault { result ≢ Err Status.WriteFault → O.faults out.new ≡ O.faults out.old }
+{
+    let shown = amr_checkpoint::show(alloc, disk)?;
+    plot(&shown.problem, &shown.mesh, out)?;
     Ok(())
 }
 
@@ -157,22 +220,9 @@ pub(crate) fn check<S: Source, O: Sink>(
     ensures write_fault { result ≡ Err Status.WriteFault → Rose (O.faults out.old) (O.faults out.new) }
     ensures no_write_fault { result ≢ Err Status.WriteFault → O.faults out.new ≡ O.faults out.old }
 {
-    let problem = read_problem(alloc, src)?;
-    put_problem(out, &problem)?;
+    let given = read_problem(alloc, src)?;
+    put_problem(out, &given.problem)?;
     Ok(())
-}
-
-/// The problem that the source gives, read to its end.
-fn read_problem<S: Source>(alloc: Global, src: &mut S) -> Result<Problem, Status>
-    ensures problem { (bytes : List ℕ) × WereLeft (S.left src.old) bytes × Reads result bytes }
-    ensures ended { OnOk result (IsAtEnd (S.left src.new)) }
-    ensures taken { TakesAtMost 65537 (S.left src.old) (S.left src.new) }
-    ensures read_fault { result ≡ Err Status.ReadFault → Rose (S.faults src.old) (S.faults src.new) }
-    ensures no_read_fault { result ≢ Err Status.ReadFault → S.faults src.new ≡ S.faults src.old }
-{
-    let bytes = read_all(alloc, src, MOST_BYTES)?;
-    let problem = judge(alloc, &bytes)?;
-    Ok(problem)
 }
 
 fn put_problem<O: Sink>(out: &mut O, problem: &Problem) -> Result<(), WriteFault>

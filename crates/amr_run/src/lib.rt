@@ -2,8 +2,11 @@
 #![tactic(auto)]
 
 mod commands;
+mod keeper;
+mod keeping;
 mod line;
 mod message;
+mod reading;
 mod run;
 mod status;
 #[cfg(test)]

@@ -8,6 +8,7 @@ ghost use Rattle.amr_run.specs.Texts.{axis_text, fault_text, message, refusal, s
 use crate::Status;
 use crate::line::put_line;
 use amr_box::Axis;
+use amr_checkpoint::put_refusal;
 use amr_io::{Fragment, Sink, WriteFault};
 use amr_problem::{Key, ProblemFault};
 
@@ -26,6 +27,8 @@ pub(crate) fn tell<E: Sink>(err: &mut E, status: &Status) -> Result<(), WriteFau
         Status::Usage => put_line(err, &[Fragment::Str(USAGE)]),
         Status::ReadFault => put_line(err, &[Fragment::Str("amr: read failed")]),
         Status::Problem(fault) => put_fault(err, fault),
+        Status::DiskFault => put_line(err, &[Fragment::Str("amr: disk failed")]),
+        Status::Store(refusal) => put_refusal(err, *refusal),
         Status::WriteFault => put_line(err, &[Fragment::Str("amr: write failed")]),
         Status::NoMemory => put_line(err, &[Fragment::Str("amr: out of memory")]),
     }

@@ -3,6 +3,7 @@ ghost use Rattle.std.specs.Prelude.{◌≡◌};
 ghost use Rattle.amr_run.specs.Texts.{exit_status};
 
 use amr_causes::NoMemory;
+use amr_checkpoint::{KeepFault, Refusal, ResumeFault};
 use amr_drive::DriveFault;
 use amr_io::{ReadAll, WriteFault};
 use amr_problem::{JudgeFault, ProblemFault};
@@ -19,7 +20,11 @@ pub enum Status {
     ReadFault,
     /// The bytes of the source are no problem.
     Problem(ProblemFault),
-    /// The sink of the answer failed.
+    /// The disk failed.
+    DiskFault,
+    /// What is stored refuses the command.
+    Store(Refusal),
+    /// The sink of the answer failed, or the stream of errors where it was to acknowledge a checkpoint.
     WriteFault,
     /// Memory ran out.
     NoMemory,
@@ -36,6 +41,8 @@ impl Status {
             Status::Problem(_) => 3,
             Status::ReadFault => 4,
             Status::WriteFault => 5,
+            Status::DiskFault => 6,
+            Status::Store(_) => 7,
             Status::NoMemory => 9,
         }
     }
@@ -98,5 +105,33 @@ impl From<WriteFault> for Status {
 
     fn from(_: WriteFault) -> Self {
         Status::WriteFault
+    }
+}
+
+impl From<KeepFault> for Status {
+    ghost use Rattle.amr_run.specs.Refusals.{keep_refused};
+
+    ghost from_gives = { λ e status. status ≡ keep_refused e };
+
+    fn from(fault: KeepFault) -> Self {
+        match fault {
+            KeepFault::DiskFault => Status::DiskFault,
+            KeepFault::WriteFault => Status::WriteFault,
+            KeepFault::NoMemory => Status::NoMemory,
+        }
+    }
+}
+
+impl From<ResumeFault> for Status {
+    ghost use Rattle.amr_run.specs.Refusals.{resume_refused};
+
+    ghost from_gives = { λ e status. status ≡ resume_refused e };
+
+    fn from(fault: ResumeFault) -> Self {
+        match fault {
+            ResumeFault::DiskFault => Status::DiskFault,
+            ResumeFault::Refused(refusal) => Status::Store(refusal),
+            ResumeFault::NoMemory => Status::NoMemory,
+        }
     }
 }

@@ -1,6 +1,4 @@
-use Rattle.std.proofs.Common.{◌≡◌, inr, refl, ap, sym, ◌∙◌}
-use Rattle.amr_payload.specs.Payload.{slot_size}
-use Rattle.amr_checkpoint.specs.Contents.{mass_width}
+use Rattle.std.proofs.Common.{◌≡◌, inr, refl, sym, ◌∙◌}
 use Rattle.amr_store.proofs.Runs.{weaker}
 use Rattle.amr_store.specs.declared.store.Store.{Store}
 use Rattle.amr_store.specs.Stored as store

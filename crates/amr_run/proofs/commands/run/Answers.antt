@@ -7,14 +7,14 @@ use Rattle.amr_run.proofs.Outcomes.{is_plot_of_run, out_of_memory, refused_by, s
 use Rattle.amr_run.specs.declared.status.Status.TheVariants.{WriteFault}
 use Rattle.amr_run.proofs.commands.run.Goals as goal
 
-pub returns-in_err-problem-clause-outcome : goal.returns-in_err-problem-clause-outcome
-returns-in_err-problem-clause-outcome g c =
-    let read = c.in_err-problem.ensures.problem in
+pub returns-in_err-given-clause-outcome : goal.returns-in_err-given-clause-outcome
+returns-in_err-given-clause-outcome g c =
+    let read = c.in_err-given.ensures.problem in
     let answers = IsPlotOfRun read.0 c.args.to in
     (read.0, ([], read.1, grows_none g.O.Sink.holds c.args.out.now, refused_by answers c.from_residual.result _ read.0 [] c.from_residual.ensures.1 (unread answers _ read.0 read.2)))
 
 pub run_to-requires-clause-within : goal.run_to-requires-clause-within
-run_to-requires-clause-within g c κs within = stops_within c.args.to c.in_ok-problem.problem c.stop_of-target.result c.stop_of-target.ensures
+run_to-requires-clause-within g c κs within = stops_within c.args.to c.in_ok-given.given.problem c.stop_of-target.result c.stop_of-target.ensures
 
 pub returns-in_err-mesh-clause-outcome : goal.returns-in_err-mesh-clause-outcome
 returns-in_err-mesh-clause-outcome g c =
@@ -23,13 +23,13 @@ returns-in_err-mesh-clause-outcome g c =
 
 pub returns-in_err-plot-clause-outcome : goal.returns-in_err-plot-clause-outcome
 returns-in_err-plot-clause-outcome g c =
-    let read = c.in_ok-problem.ensures.problem in
-    let answer = is_plot_of_run read.0 c.args.to c.in_ok-problem.problem (state_of c.in_ok-mesh.mesh) c.stop_of-target.result read.2 c.stop_of-target.ensures c.in_ok-mesh.ensures.value c.in_ok-mesh.ensures.run in
+    let read = c.in_ok-given.ensures.problem in
+    let answer = is_plot_of_run read.0 c.args.to c.in_ok-given.given.problem (state_of c.in_ok-mesh.mesh) c.stop_of-target.result read.2.1 c.stop_of-target.ensures c.in_ok-mesh.ensures.value c.in_ok-mesh.ensures.run in
     let part = c.in_err-plot.ensures.short in
-    (read.0, (part.0, read.1, part.2, refused_by (IsPlotOfRun read.0 c.args.to) c.from_residual-in_err-plot.result WriteFault read.0 part.0 c.from_residual-in_err-plot.ensures.1 (plot c.in_ok-problem.problem (state_of c.in_ok-mesh.mesh), answer, part.1)))
+    (read.0, (part.0, read.1, part.2, refused_by (IsPlotOfRun read.0 c.args.to) c.from_residual-in_err-plot.result WriteFault read.0 part.0 c.from_residual-in_err-plot.ensures.1 (plot c.in_ok-given.given.problem (state_of c.in_ok-mesh.mesh), answer, part.1)))
 
 pub returns-clause-outcome : goal.returns-clause-outcome
 returns-clause-outcome g c =
-    let read = c.in_ok-problem.ensures.problem in
-    let answer = is_plot_of_run read.0 c.args.to c.in_ok-problem.problem (state_of c.in_ok-mesh.mesh) c.stop_of-target.result read.2 c.stop_of-target.ensures c.in_ok-mesh.ensures.value c.in_ok-mesh.ensures.run in
-    (read.0, (plot c.in_ok-problem.problem (state_of c.in_ok-mesh.mesh), read.1, c.in_ok-plot.ensures.whole, answer))
+    let read = c.in_ok-given.ensures.problem in
+    let answer = is_plot_of_run read.0 c.args.to c.in_ok-given.given.problem (state_of c.in_ok-mesh.mesh) c.stop_of-target.result read.2.1 c.stop_of-target.ensures c.in_ok-mesh.ensures.value c.in_ok-mesh.ensures.run in
+    (read.0, (plot c.in_ok-given.given.problem (state_of c.in_ok-mesh.mesh), read.1, c.in_ok-plot.ensures.whole, answer))

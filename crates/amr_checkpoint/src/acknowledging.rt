@@ -1,0 +1,67 @@
+//! Keeping a state of a run: a checkpoint where its step is a mark, and the line that acknowledges it.
+ghost use Rattle.std.specs.Prelude.{◌≡◌, ◌+◌, ◌<◌, ◌∷◌, [], false, IfOk, IfSome};
+ghost use Rattle.amr_def.specs.Facts.{IsSound};
+ghost use Rattle.amr_patch.specs.Meshes.{is_spent, state_of};
+ghost use Rattle.amr_store.specs.Stands.{IsStoreReady, last_in, problem_in};
+ghost use Rattle.amr_checkpoint.specs.Checkpoints.{IsStoreFor};
+ghost use Rattle.amr_checkpoint.specs.Kept.{Keeps, fault_in};
+
+use crate::faults::{CheckpointFault, KeepFault};
+use crate::keeping::put_checkpoint;
+use crate::lines::put_checkpoint_line;
+use crate::marks::is_mark;
+use amr_def::Problem;
+use amr_disk::Disk;
+use amr_io::Sink;
+use amr_patch::Mesh;
+use amr_store::Store;
+use std::alloc::Global;
+
+/// What a run keeps its checkpoints by: memory, its problem, and the steps that are marks.
+#[derive(Clone, Copy)]
+pub struct Keeping<'a> {
+    /// Memory for the bytes of a state.
+    pub alloc: Global,
+    /// The problem of the run.
+    pub problem: &'a Problem,
+    /// Each multiple of so many steps is a mark, at least 1.
+    pub every: u32,
+    /// The step that the run goes to, which is a mark too.
+    pub target: u32,
+}
+
+/// Keeps the state of a mesh where its step is a mark: puts it into the store, and then, once it stands, writes its line to `err`.
+/// A stop at any moment leaves what the disk held, or the new checkpoint. All memory is taken before the disk is written. A refusal
+/// drops the store; `WriteFault` comes after the checkpoint stands.
+pub fn keep_state<E: Sink, D: Disk>(
+    keeping: &Keeping<'_>,
+    mesh: &Mesh,
+    store: Store,
+    err: &mut E,
+    disk: &mut D,
+) -> Result<Store, KeepFault>
+    requires whole { is_spent mesh.now ≡ false }
+    requires sound { IsSound keeping.now.problem.now (state_of mesh.now) }
+    requires some { 0 < keeping.now.every }
+    requires store { IsStoreFor keeping.now.problem.now store }
+    requires above { IfSome (last_in store) (λ last. last < (state_of mesh.now).step + 1) }
+    requires ready { IsStoreReady D.seen D.moment D.leaves store disk.old }
+    ensures store { IfOk result (IsStoreFor keeping.now.problem.now) }
+    ensures problem { IfOk result (λ kept. problem_in kept ≡ problem_in store) }
+    ensures above { IfOk result (λ kept. IfSome (last_in kept) (λ last. last < (state_of mesh.now).step + 2)) }
+    ensures ready { IfOk result (λ kept. IsStoreReady D.seen D.moment D.leaves kept disk.new) }
+    ensures kept { Keeps D.seen D.moment D.leaves D.faults E.holds E.faults (problem_in store) keeping.now.problem.now keeping.now.every keeping.now.target disk.old disk.new err.old err.new (state_of mesh.now ∷ []) (fault_in result) }
+{
+    let step = mesh.step();
+    if !is_mark(keeping.every, keeping.target, step) {
+        return Ok(store);
+    }
+    match put_checkpoint(keeping.alloc, keeping.problem, mesh, store, disk) {
+        Ok(kept) => match put_checkpoint_line(err, step) {
+            Ok(()) => Ok(kept),
+            Err(_) => Err(KeepFault::WriteFault),
+        },
+        Err(CheckpointFault::DiskFault) => Err(KeepFault::DiskFault),
+        Err(CheckpointFault::NoMemory) => Err(KeepFault::NoMemory),
+    }
+}

@@ -1,0 +1,232 @@
+-- The outcome of a run that keeps checkpoints, by what its calls kept.
+use Rattle.std.proofs.Common.{◌≡◌, ℕ, zero, suc, ◌<◌, ◌≤◌, List, [], ◌∷◌, ◌++◌, Option, Some, None, IfSome, Result, Ok, Err, inl, inr, refl, sym, ◌∙◌, ap, subst, arith}
+use Rattle.std.specs.List.{flat_map}
+use Rattle.std.specs.Prelude.{◌⊎◌, IsErrAnd}
+use Rattle.amr_causes.specs.Bytes.{Grows, IsPrefix}
+use Rattle.amr_causes.specs.Causes.{Rose}
+use Rattle.amr_io.specs.Short.{IsProperPrefix}
+use Rattle.amr_def.specs.declared.problem.Problem.{Problem}
+use Rattle.amr_def.specs.Facts.{IsSound}
+use Rattle.amr_def.specs.Plot.{plot}
+use Rattle.amr_def.specs.Regrid.{regrid}
+use Rattle.amr_def.specs.Run.{finish, plain_start, start, times}
+use Rattle.amr_def.specs.State.{State}
+use Rattle.amr_def.proofs.SoundRun.{plain_start-sound, start-sound}
+use Rattle.amr_disk.specs.Image.{Only}
+use Rattle.amr_drive.proofs.Finishes.{finish_sound, run_holds}
+use Rattle.amr_drive.specs.Regrids.{StartHoldsTags}
+use Rattle.amr_laws.proofs.Held.{regrid-held}
+use Rattle.amr_laws.proofs.SoundRegrid.{regrid-sound}
+use Rattle.amr_patch.specs.declared.meshes.Mesh.{Mesh}
+use Rattle.amr_patch.specs.Meshes.{state_of}
+use Rattle.amr_problem.specs.Judgement.{IsProblemOf, fault_of}
+use Rattle.amr_store.specs.Phases.{OnlyReads}
+use Rattle.amr_checkpoint.specs.declared.faults.KeepFault.{KeepFault}
+use Rattle.amr_checkpoint.specs.declared.faults.KeepFault.TheVariants as fault
+use Rattle.amr_checkpoint.specs.declared.faults.ResumeFault.{ResumeFault}
+use Rattle.amr_checkpoint.specs.declared.faults.ResumeFault.TheVariants as resuming
+use Rattle.amr_checkpoint.specs.declared.refusal.Refusal.{Refusal}
+use Rattle.amr_checkpoint.specs.declared.resuming.Resumed.{Resumed}
+use Rattle.amr_checkpoint.specs.declared.resuming.Resumed.TheVariants as resumed
+use Rattle.amr_checkpoint.specs.Checkpoints.{CanGoOn, content_resumed}
+use Rattle.amr_checkpoint.specs.Contents.{Content, Empty, Fresh, Holds, state_from}
+use Rattle.amr_checkpoint.specs.Kept.{KeepsRun, SaysOfRun}
+use Rattle.amr_checkpoint.specs.Laws.{IsInSequence}
+use Rattle.amr_checkpoint.specs.Marks.{answer_of_run, checkpoint_line, marks}
+use Rattle.amr_checkpoint.specs.Refusals.{GoesOn, RefusesRun}
+use Rattle.amr_cli.specs.declared.command.Command.{Command}
+use Rattle.amr_cli.specs.declared.command.Command.TheVariants.{Run, Check, Show, Trial}
+use Rattle.amr_run.specs.Answer.{IsKeptRun, IsPlotOfKeptRun, IsSoundRunFrom, WasFound, stop_of}
+use Rattle.amr_run.specs.Kept.{KeptReplies}
+use Rattle.amr_run.specs.Outcome.{BeginsLines, IsCutShort, RefusesKept, RefusesRunTo, RepliesKeeping, RunsThrough, StopsKept, StopsRun, StopsTo, status_of}
+use Rattle.amr_run.specs.Reading.{Refuses}
+use Rattle.amr_run.specs.Refusals.{keep_refused, resume_refused}
+use Rattle.amr_run.specs.declared.status.Status.{Status}
+use Rattle.amr_run.specs.declared.status.Status.TheVariants as status
+use Rattle.amr_run.proofs.StoreOutcomes.{if_told}
+
+-- ---- what was found
+
+pub goes_on : (bytes : List ℕ) (p : Problem) (target : ℕ) (r : Resumed) → CanGoOn bytes p target r → GoesOn bytes target (content_resumed bytes p r)
+goes_on bytes p target resumed.Nothing can = tt
+goes_on bytes p target (resumed.Fresh store) can = refl
+goes_on bytes p target (resumed.At store mesh) can = (refl, can.2)
+
+pub in_sequence : (bytes : List ℕ) (p : Problem) (r : Resumed) → IsInSequence (content_resumed bytes p r)
+in_sequence bytes p resumed.Nothing = tt
+in_sequence bytes p (resumed.Fresh store) = tt
+in_sequence bytes p (resumed.At store mesh) = refl
+
+pub found_sound : (bytes : List ℕ) (p : Problem) (target : ℕ) (r : Resumed) → CanGoOn bytes p target r → IsSound p (state_from p (content_resumed bytes p r))
+found_sound bytes p target resumed.Nothing can = start-sound p (regrid-sound p)
+found_sound bytes p target (resumed.Fresh store) can = start-sound p (regrid-sound p)
+found_sound bytes p target (resumed.At store mesh) can = can.1.mesh_is.sound
+
+regrids_sound : (p : Problem) (n : ℕ) (s : State) → IsSound p s → IsSound p (times (regrid p) n s)
+regrids_sound p zero s sound = sound
+regrids_sound p (suc n) s sound = regrids_sound p n (regrid p s) (regrid-sound p s sound)
+
+start_holds : (p : Problem) → StartHoldsTags p
+start_holds p k below = regrid-held p (times (regrid p) k (plain_start p)) (regrids_sound p k (plain_start p) (plain_start-sound p))
+
+-- the answer of a run from it
+pub is_kept_run : (bytes : List ℕ) (p : Problem) (every target : ℕ) (seen : Option (List ℕ)) (r : Resumed) (out lines : List ℕ) → CanGoOn bytes p target r → WasFound seen (content_resumed bytes p r) → target ≤ p.steps
+    → out ≡ answer_of_run p (content_resumed bytes p r) target → lines ≡ flat_map checkpoint_line (marks every (content_resumed bytes p r) target) → IsKeptRun bytes p every target seen out lines
+is_kept_run bytes p every target seen r out lines can held within text said =
+    let found : Content = content_resumed bytes p r in
+    let sound = found_sound bytes p target r can in
+    record {
+      found = found;
+      held = held;
+      on = goes_on bytes p target r can;
+      text = text;
+      acknowledged = said;
+      run = record {
+        sound = finish_sound p (state_from p found) target sound within;
+        start_held = start_holds p;
+        held = run_holds p (state_from p found) target sound within;
+      };
+    }
+
+-- ---- exits of the run
+
+-- what is stored could not be read, or refuses the run
+pub unresumed : (bytes : List ℕ) (p : Problem) (every target : ℕ) (seen : Option (List ℕ)) (e : ResumeFault)
+    → ((refusal : Refusal) (image : List ℕ) → e ≡ resuming.Refused refusal → seen ≡ Some image → (content : Content) × Holds image content × RefusesRun bytes target content refusal)
+    → KeptReplies (Err (resume_refused e)) bytes p every target seen []
+unresumed bytes p every target seen resuming.DiskFault refused = (refl, inl refl)
+unresumed bytes p every target seen (resuming.Refused refusal) refused =
+    (if_told (RefusesKept bytes target refusal) seen (λ image told. let by = refused refusal image refl told in record { content = by.0; held = by.1; refuses = by.2 }), refl, refl)
+unresumed bytes p every target seen resuming.NoMemory refused = (refl, inl refl)
+
+-- a state was not kept
+pub unkept : (bytes : List ℕ) (p : Problem) (every target : ℕ) (seen : Option (List ℕ)) (whole lines said : List ℕ) (before now : ℕ) (e : KeepFault) → IsKeptRun bytes p every target seen whole lines → SaysOfRun (Some e) said lines before now
+    → KeptReplies (Err (keep_refused e)) bytes p every target seen said
+unkept bytes p every target seen whole lines said before now fault.DiskFault answer says = (refl, inr record { whole = whole; lines = lines; answer = answer; prefix = says.0 })
+unkept bytes p every target seen whole lines said before now fault.NoMemory answer says = (refl, inr record { whole = whole; lines = lines; answer = answer; prefix = says.0 })
+unkept bytes p every target seen whole lines said before now fault.WriteFault answer says = record { whole = whole; lines = lines; answer = answer; cut = inr (refl, says.0) }
+
+-- the causes of a state that was not kept
+pub write_cause : (e : KeepFault) (said lines : List ℕ) (before now : ℕ) → SaysOfRun (Some e) said lines before now → keep_refused e ≡ status.WriteFault → Rose before now
+write_cause fault.DiskFault said lines before now says is = absurd (cc)
+write_cause fault.NoMemory said lines before now says is = absurd (cc)
+write_cause fault.WriteFault said lines before now says is = says.1
+
+pub no_write_cause : (e : KeepFault) (said lines : List ℕ) (before now : ℕ) → SaysOfRun (Some e) said lines before now → (keep_refused e ≡ status.WriteFault → ⊥) → now ≡ before
+no_write_cause fault.DiskFault said lines before now says other = says.1
+no_write_cause fault.NoMemory said lines before now says other = says.1
+no_write_cause fault.WriteFault said lines before now says other = absurd (other refl)
+
+pub disk_cause : (e : KeepFault) (P : Type 0) → (Some e ≡ Some fault.DiskFault → P) → keep_refused e ≡ status.DiskFault → P
+disk_cause fault.DiskFault P cause is = cause refl
+disk_cause fault.NoMemory P cause is = absurd (cc)
+disk_cause fault.WriteFault P cause is = absurd (cc)
+
+pub no_store : (e : KeepFault) (refusal : Refusal) (P : Type 0) → keep_refused e ≡ status.Store refusal → P
+no_store fault.DiskFault refusal P is = absurd (cc)
+no_store fault.NoMemory refusal P is = absurd (cc)
+no_store fault.WriteFault refusal P is = absurd (cc)
+
+-- ---- of the problem that the source gave, at the step that it stops at
+
+if_still : (P Q : List ℕ → Type 0) (seen : Option (List ℕ)) → ((image : List ℕ) → P image → Q image) → IfSome seen P → IfSome seen Q
+if_still P Q None still h = tt
+if_still P Q (Some image) still h = still image h
+
+pub plot_of_kept : (given bytes : List ℕ) (to : Option ℕ) (p : Problem) (every target : ℕ) (seen : Option (List ℕ)) (out lines : List ℕ) → given ≡ bytes → target ≡ stop_of to p → IsProblemOf bytes p
+    → IsKeptRun given p every target seen out lines → IsPlotOfKeptRun bytes to every seen out lines
+plot_of_kept given bytes to p every target seen out lines same stops accepted kept = record {
+  problem = p;
+  accepted = accepted;
+  kept = subst (λ n. IsKeptRun bytes p every n seen out lines) stops (subst (λ (b : List ℕ). IsKeptRun b p every target seen out lines) same kept);
+}
+
+refuses_to : (given bytes : List ℕ) (to : Option ℕ) (p : Problem) (target : ℕ) (seen : Option (List ℕ)) (refusal : Refusal) → given ≡ bytes → target ≡ stop_of to p → IsProblemOf bytes p
+    → IfSome seen (RefusesKept given target refusal) → IfSome seen (RefusesRunTo bytes to refusal)
+refuses_to given bytes to p target seen refusal same stops accepted refuses =
+    if_still (RefusesKept given target refusal) (RefusesRunTo bytes to refusal) seen
+    (λ image h. record { problem = p; accepted = accepted; refuses = subst (λ n. RefusesKept bytes n refusal image) stops (subst (λ (b : List ℕ). RefusesKept b target refusal image) same h) }) refuses
+
+begun : (given bytes : List ℕ) (to : Option ℕ) (p : Problem) (every target : ℕ) (seen : Option (List ℕ)) (said : List ℕ) → given ≡ bytes → target ≡ stop_of to p → IsProblemOf bytes p
+    → (said ≡ []) ⊎ BeginsLines (IsKeptRun given p every target seen) said → (said ≡ []) ⊎ BeginsLines (IsPlotOfKeptRun bytes to every seen) said
+begun given bytes to p every target seen said same stops accepted (inl none) = inl none
+begun given bytes to p every target seen said same stops accepted (inr h) =
+    inr record { whole = h.whole; lines = h.lines; answer = plot_of_kept given bytes to p every target seen h.whole h.lines same stops accepted h.answer; prefix = h.prefix }
+
+pub kept_replies : (s : Status) (given bytes : List ℕ) (to : Option ℕ) (p : Problem) (every target : ℕ) (seen : Option (List ℕ)) (said : List ℕ) → given ≡ bytes → target ≡ stop_of to p → IsProblemOf bytes p
+    → KeptReplies (Err s) given p every target seen said → RepliesKeeping s (IsPlotOfKeptRun bytes to every seen) (λ refusal. IfSome seen (RefusesRunTo bytes to refusal)) bytes [] said
+kept_replies status.Done given bytes to p every target seen said same stops accepted h = plot_of_kept given bytes to p every target seen [] said same stops accepted h
+kept_replies (status.Problem reason) given bytes to p every target seen said same stops accepted h = (subst (λ (b : List ℕ). fault_of b ≡ Some reason) same h.0, h.1, h.2)
+kept_replies status.ReadFault given bytes to p every target seen said same stops accepted h = h
+kept_replies (status.Store refusal) given bytes to p every target seen said same stops accepted h = (refuses_to given bytes to p target seen refusal same stops accepted h.0, h.1, h.2)
+kept_replies status.DiskFault given bytes to p every target seen said same stops accepted h = (h.0, begun given bytes to p every target seen said same stops accepted h.1)
+kept_replies status.NoMemory given bytes to p every target seen said same stops accepted h = (h.0, begun given bytes to p every target seen said same stops accepted h.1)
+kept_replies status.WriteFault given bytes to p every target seen said same stops accepted h =
+    record { whole = h.whole; lines = h.lines; answer = plot_of_kept given bytes to p every target seen h.whole h.lines same stops accepted h.answer; cut = h.cut }
+kept_replies status.Usage given bytes to p every target seen said same stops accepted h = h
+
+-- where the problem was not read
+pub unread_kept : (answers : List ℕ → List ℕ → Type 0) (refuses : Refusal → Type 0) (s : Status) (bytes : List ℕ) → Refuses s bytes → RepliesKeeping s answers refuses bytes [] []
+unread_kept answers refuses (status.Problem reason) bytes h = (h, refl, refl)
+unread_kept answers refuses status.ReadFault bytes h = (refl, refl)
+unread_kept answers refuses status.NoMemory bytes h = (refl, inl refl)
+unread_kept answers refuses status.Done bytes h = absurd h
+unread_kept answers refuses status.Usage bytes h = absurd h
+unread_kept answers refuses status.WriteFault bytes h = absurd h
+unread_kept answers refuses status.DiskFault bytes h = absurd h
+unread_kept answers refuses (status.Store refusal) bytes h = absurd h
+
+-- by the status that an error became
+pub kept_by : (answers : List ℕ → List ℕ → Type 0) (refuses : Refusal → Type 0) (r : Result Unit Status) (s : Status) (bytes out said : List ℕ) → IsErrAnd r (λ x. x ≡ s) → RepliesKeeping s answers refuses bytes out said
+    → RepliesKeeping (status_of r) answers refuses bytes out said
+kept_by answers refuses (Ok done) s bytes out said is replies = absurd is
+kept_by answers refuses (Err x) s bytes out said is replies = subst (λ (t : Status). RepliesKeeping t answers refuses bytes out said) (sym is) replies
+
+-- ---- stops
+
+module _ {D : Type 0} (seen : D → Option (List ℕ)) (moment : D → ℕ) (leaves : D → ℕ → List ℕ → Type 0) where
+  -- the run went on from what was read
+  pub stops_kept : {E : Type 0} (disk_faults : D → ℕ) (holds : E → List ℕ → Type 0) (err_faults : E → ℕ) (bytes : List ℕ) (p : Problem) (every target : ℕ) (r : Resumed) (d read later_d : D) (e later_e : E) (ended : Option KeepFault)
+      → OnlyReads seen moment leaves d read → Only (seen read) (leaves read (moment read)) → ((image : List ℕ) → seen d ≡ Some image → Holds image (content_resumed bytes p r)) → CanGoOn bytes p target r
+      → (h : KeepsRun seen moment leaves disk_faults holds err_faults bytes p every target (content_resumed bytes p r) read later_d e later_e ended) → StopsKept seen moment leaves d later_d bytes p every target h.said
+  stops_kept disk_faults holds err_faults bytes p every target r d read later_d e later_e ended reads settled held can h image told = inr record {
+    found = record { moment = moment read; content = content_resumed bytes p r };
+    since = reads.images.later;
+    held = held image told;
+    on = goes_on bytes p target r can;
+    stops = h.stops image (reads.same ∙ told) (held image told) settled;
+  }
+
+  -- of the problem that the source gave
+  pub stops_run : (d later_d : D) (given bytes : List ℕ) (to : Option ℕ) (p : Problem) (every target : ℕ) (said : List ℕ) → given ≡ bytes → target ≡ stop_of to p → IsProblemOf bytes p
+      → StopsKept seen moment leaves d later_d given p every target said → StopsRun seen moment leaves d later_d bytes to every said
+  stops_run d later_d given bytes to p every target said same stops accepted h image told = elim (h image told) [
+    | inl reads ↦ inl reads
+    | inr through ↦ inr record {
+        problem = p;
+        accepted = accepted;
+        through = subst (λ n. RunsThrough (leaves later_d) (moment d) (moment later_d) image bytes p every n said) stops
+            (subst (λ (b : List ℕ). RunsThrough (leaves later_d) (moment d) (moment later_d) image b p every target said) same through);
+      }
+  ]
+
+  -- a disk that was not called
+  pub only_reads_none : (d : D) → OnlyReads seen moment leaves d d
+  only_reads_none d = record {
+    same = refl;
+    images = record {
+      later = omega arith;
+      kept = λ t c to left. left;
+      still = λ t c to left. left;
+      between = λ t c from to left. let now : t ≡ moment d = omega arith in inl (subst (λ n. leaves d n c) now left);
+      after = λ c left. (c, left, refl);
+    };
+  }
+
+  pub stops_none : (d : D) (asked : Option Command) (bytes said : List ℕ) → StopsTo seen moment leaves d d asked bytes said
+  stops_none d None bytes said = only_reads_none d
+  stops_none d (Some (Run workers to None)) bytes said = only_reads_none d
+  stops_none d (Some (Run workers to (Some every))) bytes said = λ image told. inl (only_reads_none d)
+  stops_none d (Some Check) bytes said = only_reads_none d
+  stops_none d (Some Show) bytes said = only_reads_none d
+  stops_none d (Some (Trial number size workers)) bytes said = only_reads_none d

@@ -1,0 +1,74 @@
+use Rattle.std.proofs.Common.{◌≡◌, [], Some, None, Err, refl, sym, ◌∙◌, ap, subst, inl}
+use Rattle.std.specs.List.{flat_map}
+use Rattle.amr_causes.proofs.ByteLaws.{grows_none}
+use Rattle.amr_checkpoint.specs.Checkpoints.{content_resumed}
+use Rattle.amr_checkpoint.specs.Contents.{Holds, state_from}
+use Rattle.amr_checkpoint.specs.Marks.{answer_of_run, checkpoint_line, marks}
+use Rattle.amr_def.specs.Facts.{IsSound}
+use Rattle.amr_def.specs.Plot.{plot}
+use Rattle.amr_drive.proofs.Finishes.{finish_sound}
+use Rattle.amr_patch.specs.Meshes.{state_of}
+use Rattle.amr_store.specs.Phases.{OnlyReads}
+use Rattle.amr_run.specs.Kept.{KeptReplies}
+use Rattle.amr_run.specs.Refusals.{keep_refused, resume_refused}
+use Rattle.amr_run.specs.declared.status.Status.{Status}
+use Rattle.amr_run.proofs.KeptOutcomes.{found_sound, is_kept_run, no_store, no_write_cause, stops_kept, unkept, unresumed}
+use Rattle.amr_run.proofs.StoreOutcomes.{if_told}
+use Rattle.amr_run.proofs.keeping.keep_run.Goals as goal
+
+pub returns-in-Err-clause-outcome : goal.returns-in-Err-clause-outcome
+returns-in-Err-clause-outcome g c =
+    let is : c.from.result ≡ resume_refused c.in-Err.fault = c.from.ensures in (
+      [],
+      grows_none g.E.Sink.holds c.args.err.now,
+      subst (λ (s : Status). KeptReplies (Err s) c.args.bytes.now c.args.keeping.now.problem.now c.args.keeping.now.every c.args.keeping.now.target (g.D.Disk.seen c.args.disk.now) []) (sym is) (unresumed c.args.bytes.now c.args.keeping.now.problem.now c.args.keeping.now.every c.args.keeping.now.target (g.D.Disk.seen c.args.disk.now) c.in-Err.fault (λ refusal image same told. c.in-Err.ensures.refused refusal image (ap Err same) told)),
+      λ image told. inl c.in-Err.ensures.reads,
+    )
+
+pub run_from-requires-clause-holds : goal.run_from-requires-clause-holds
+run_from-requires-clause-holds g c κs within = λ image told. c.in-Ok.ensures.holds image c.args.keeping.now.problem.now (sym c.in-Ok.ensures.reads.same ∙ told) c.requires.accepted
+
+pub returns-in-Ok-run_from-clause-sound : goal.returns-in-Ok-run_from-clause-sound
+returns-in-Ok-run_from-clause-sound g c =
+    let p = c.args.keeping.now.problem.now in
+    let can = c.in-Ok.ensures.can_go_on p c.requires.accepted in
+    subst (IsSound p) (sym c.in-Ok-run_from.ensures.value) (finish_sound p (state_from p (content_resumed c.args.bytes.now p c.in-Ok.resumed)) c.args.keeping.now.target (found_sound c.args.bytes.now p c.args.keeping.now.target c.in-Ok.resumed can) c.requires.within)
+
+pub returns-in-Ok-run_from-clause-outcome : goal.returns-in-Ok-run_from-clause-outcome
+returns-in-Ok-run_from-clause-outcome g c =
+    let p = c.args.keeping.now.problem.now in
+    let can = c.in-Ok.ensures.can_go_on p c.requires.accepted in
+    let held = if_told (λ image. Holds image (content_resumed c.args.bytes.now p c.in-Ok.resumed)) (g.D.Disk.seen c.args.disk.now) (λ image told. c.in-Ok.ensures.holds image p told c.requires.accepted) in
+    let run = c.in-Ok-run_from.ensures.kept in (
+      run.said,
+      run.grows,
+      is_kept_run c.args.bytes.now c.args.keeping.now.problem.now c.args.keeping.now.every c.args.keeping.now.target (g.D.Disk.seen c.args.disk.now) c.in-Ok.resumed _ run.said can held c.requires.within (ap (plot p) c.in-Ok-run_from.ensures.value) run.says.0,
+      stops_kept g.D.Disk.seen g.D.Disk.moment g.D.Disk.leaves g.D.Disk.faults g.E.Sink.holds g.E.Sink.faults c.args.bytes.now c.args.keeping.now.problem.now c.args.keeping.now.every c.args.keeping.now.target c.in-Ok.resumed c.args.disk.now c.resume.new.disk c.run_from.new.disk c.args.err.now c.run_from.new.err None c.in-Ok.ensures.reads c.in-Ok.ensures.settled (λ image told. c.in-Ok.ensures.holds image p told c.requires.accepted) can run,
+    )
+
+pub returns-in-Err-run_from-clause-outcome : goal.returns-in-Err-run_from-clause-outcome
+returns-in-Err-run_from-clause-outcome g c =
+    let p = c.args.keeping.now.problem.now in
+    let can = c.in-Ok.ensures.can_go_on p c.requires.accepted in
+    let held = if_told (λ image. Holds image (content_resumed c.args.bytes.now p c.in-Ok.resumed)) (g.D.Disk.seen c.args.disk.now) (λ image told. c.in-Ok.ensures.holds image p told c.requires.accepted) in
+    let run = c.in-Err-run_from.ensures.kept in
+    let found = content_resumed c.args.bytes.now p c.in-Ok.resumed in
+    let target = c.args.keeping.now.target in
+    let lines = flat_map checkpoint_line (marks c.args.keeping.now.every found target) in
+    let answer = is_kept_run c.args.bytes.now c.args.keeping.now.problem.now c.args.keeping.now.every c.args.keeping.now.target (g.D.Disk.seen c.args.disk.now) c.in-Ok.resumed (answer_of_run p found target) lines can held c.requires.within refl refl in
+    let is : c.from-in-Err-run_from.result ≡ keep_refused c.in-Err-run_from.fault = c.from-in-Err-run_from.ensures in (
+      run.said,
+      run.grows,
+      subst (λ (s : Status). KeptReplies (Err s) c.args.bytes.now c.args.keeping.now.problem.now c.args.keeping.now.every c.args.keeping.now.target (g.D.Disk.seen c.args.disk.now) run.said) (sym is)
+          (unkept c.args.bytes.now c.args.keeping.now.problem.now c.args.keeping.now.every c.args.keeping.now.target (g.D.Disk.seen c.args.disk.now) (answer_of_run p found target) lines run.said (g.E.Sink.faults c.args.err.now) (g.E.Sink.faults c.run_from.new.err) c.in-Err-run_from.fault answer run.says),
+      stops_kept g.D.Disk.seen g.D.Disk.moment g.D.Disk.leaves g.D.Disk.faults g.E.Sink.holds g.E.Sink.faults c.args.bytes.now c.args.keeping.now.problem.now c.args.keeping.now.every c.args.keeping.now.target c.in-Ok.resumed c.args.disk.now c.resume.new.disk c.run_from.new.disk c.args.err.now c.run_from.new.err (Some c.in-Err-run_from.fault) c.in-Ok.ensures.reads c.in-Ok.ensures.settled (λ image told. c.in-Ok.ensures.holds image p told c.requires.accepted) can run,
+    )
+
+pub returns-in-Err-run_from-clause-no_write_fault : goal.returns-in-Err-run_from-clause-no_write_fault
+returns-in-Err-run_from-clause-no_write_fault g c other =
+    let run = c.in-Err-run_from.ensures.kept in
+    no_write_cause c.in-Err-run_from.fault run.said _ (g.E.Sink.faults c.args.err.now) (g.E.Sink.faults c.run_from.new.err) run.says (λ is. other (ap Err (c.from-in-Err-run_from.ensures ∙ is)))
+
+pub returns-in-Err-run_from-clause-unwritten : goal.returns-in-Err-run_from-clause-unwritten
+returns-in-Err-run_from-clause-unwritten g c refusal is =
+    no_store c.in-Err-run_from.fault refusal (OnlyReads g.D.Disk.seen g.D.Disk.moment g.D.Disk.leaves c.args.disk.now c.run_from.new.disk) (sym c.from-in-Err-run_from.ensures ∙ (cc))

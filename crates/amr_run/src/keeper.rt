@@ -1,0 +1,60 @@
+//! What a run that keeps checkpoints calls after each step.
+ghost use Rattle.std.specs.Prelude.{◌≡◌, ◌∷◌, [], List, ℕ, OnOk};
+ghost use Rattle.amr_checkpoint.specs.Kept.{Keeps, fault_in};
+ghost use Rattle.amr_run.specs.Keeper.{HasProblem, MayKeep};
+
+use amr_checkpoint::{KeepFault, Keeping, keep_state};
+use amr_disk::Disk;
+use amr_drive::AfterStep;
+use amr_io::Sink;
+use amr_patch::Mesh;
+use amr_store::Store;
+
+/// Keeps the states of a run at its marks, in a lent store on a lent disk, and acknowledges them on a lent stream of errors. After
+/// a refusal there is no store.
+#[derive(Drop)]
+pub(crate) struct Keeper<'p, 's, 'e, 'd, E: Sink, D: Disk> {
+    pub keeping: Keeping<'p>,
+    pub store: &'s mut Option<Store>,
+    pub err: &'e mut E,
+    pub disk: &'d mut D,
+}
+
+impl<'p, 's, 'e, 'd, E: Sink, D: Disk> AfterStep for Keeper<'p, 's, 'e, 'd, E, D> {
+    ghost use Rattle.std.specs.Prelude.{refl};
+    ghost use Rattle.std.proofs.Common.{◌∙◌, subst};
+    ghost use Rattle.amr_checkpoint.proofs.KeptStates.{keeps_none, keeps_on};
+    ghost use Rattle.amr_checkpoint.specs.declared.acknowledging.Keeping.{Keeping};
+
+    type Fault = KeepFault;
+
+    ghost ready = { λ keeper s. MayKeep D.seen D.moment D.leaves keeper.keeping.problem.now keeper.keeping.every keeper.store.now keeper.disk.now s };
+
+    // The disk and the stream are those of before, and what was called keeps the state.
+    ghost answers = { λ a s answer b. (b.keeping ≡ a.keeping) × (b.store.ghost_name ≡ a.store.ghost_name) × (b.err.ghost_name ≡ a.err.ghost_name) × (b.disk.ghost_name ≡ a.disk.ghost_name)
+        × ((bytes : List ℕ) → HasProblem a.store.now bytes → OnOk answer (HasProblem b.store.now bytes) × Keeps D.seen D.moment D.leaves D.faults E.holds E.faults bytes a.keeping.problem.now a.keeping.every a.keeping.target a.disk.now b.disk.now a.err.now b.err.now (s ∷ []) (fault_in answer)) };
+
+    ghost made = { λ a states answer b. (b.keeping ≡ a.keeping) × (b.store.ghost_name ≡ a.store.ghost_name) × (b.err.ghost_name ≡ a.err.ghost_name) × (b.disk.ghost_name ≡ a.disk.ghost_name)
+        × ((bytes : List ℕ) → HasProblem a.store.now bytes → OnOk answer (HasProblem b.store.now bytes) × Keeps D.seen D.moment D.leaves D.faults E.holds E.faults bytes a.keeping.problem.now a.keeping.every a.keeping.target a.disk.now b.disk.now a.err.now b.err.now states (fault_in answer)) };
+
+    ghost made_none = { λ a. (refl, refl, refl, refl, λ bytes has. (has, keeps_none D.seen D.moment D.leaves D.faults E.holds E.faults bytes a.keeping.problem.now a.keeping.every a.keeping.target a.disk.now a.err.now)) };
+
+    ghost made_more = { λ a b c states s answer so_far one. (one.0 ∙ so_far.0, one.1 ∙ so_far.1, one.2 ∙ so_far.2, one.3 ∙ so_far.3, λ bytes has.
+        let first = so_far.4 bytes has in
+        let next = one.4 bytes first.0 in
+        (next.0, keeps_on D.seen D.moment D.leaves D.faults E.holds E.faults bytes a.keeping.problem.now a.keeping.every a.keeping.target a.disk.now b.disk.now c.disk.now a.err.now b.err.now c.err.now states (s ∷ []) (fault_in answer) first.1
+            (subst (λ (k : Keeping). Keeps D.seen D.moment D.leaves D.faults E.holds E.faults bytes k.problem.now k.every k.target b.disk.now c.disk.now b.err.now c.err.now (s ∷ []) (fault_in answer)) so_far.0 next.1))) };
+
+    fn after(&mut self, mesh: &Mesh) -> Result<(), KeepFault> {
+        match self.store.take() {
+            Some(store) => match keep_state(&self.keeping, mesh, store, self.err, self.disk) {
+                Ok(kept) => {
+                    *self.store = Some(kept);
+                    Ok(())
+                }
+                Err(fault) => Err(fault),
+            },
+            None => Ok(()),
+        }
+    }
+}
