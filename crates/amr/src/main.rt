@@ -1,8 +1,9 @@
-//! The program `amr`: it makes the real source and sinks, calls the top call, and ends with its status.
+//! The program `amr`: it makes the real source, sinks and disk, calls the top call, and ends with its status.
 #![tactic(auto)]
 
 use amr_causes::NoMemory;
 use amr_cli::Line;
+use amr_disk::FileDisk;
 use amr_io::{StdSink, StdSource};
 use amr_run::{Status, amr};
 use std::env;
@@ -10,16 +11,32 @@ use std::io::ErrorKind;
 use std::process::ExitCode;
 
 fn main(rt: HostRuntime) -> ExitCode {
-    let status = match words_of(&rt) {
-        Ok(words) => {
+    let status = match (words_of(&rt), disk_of(&rt)) {
+        (Ok(words), Ok(mut disk)) => {
             let mut src = StdSource::make(rt.stdin());
             let mut out = StdSink::make(rt.stdout());
             let mut err = StdSink::make(rt.stderr());
-            amr(&rt, rt.alloc(), &words, &mut src, &mut out, &mut err)
+            amr(
+                &rt,
+                rt.alloc(),
+                &words,
+                &mut src,
+                &mut out,
+                &mut err,
+                &mut disk,
+            )
         }
-        Err(NoMemory) => Status::NoMemory,
+        _ => Status::NoMemory,
     };
     ExitCode::from(status.code())
+}
+
+// The disk of the store: a file of the current folder.
+fn disk_of(rt: &HostRuntime) -> Result<FileDisk<HostRuntime>, NoMemory> {
+    match rt.clone() {
+        Ok(files) => Ok(FileDisk::make(files)),
+        Err(_) => Err(NoMemory),
+    }
 }
 
 // The words after the program's name. Where one of them is no text they are no command, as no words are.

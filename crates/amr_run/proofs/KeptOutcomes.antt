@@ -203,11 +203,11 @@ module _ {D : Type 0} (seen : D → Option (List ℕ)) (moment : D → ℕ) (lea
   stops_run d later_d given bytes to p every target said same stops accepted h image told = elim (h image told) [
     | inl reads ↦ inl reads
     | inr through ↦ inr record {
-        problem = p;
-        accepted = accepted;
-        through = subst (λ n. RunsThrough (leaves later_d) (moment d) (moment later_d) image bytes p every n said) stops
-            (subst (λ (b : List ℕ). RunsThrough (leaves later_d) (moment d) (moment later_d) image b p every target said) same through);
-      }
+      problem = p;
+      accepted = accepted;
+      through = subst (λ n. RunsThrough (leaves later_d) (moment d) (moment later_d) image bytes p every n said) stops
+          (subst (λ (b : List ℕ). RunsThrough (leaves later_d) (moment d) (moment later_d) image b p every target said) same through);
+    }
   ]
 
   -- a disk that was not called

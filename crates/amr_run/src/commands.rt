@@ -159,11 +159,7 @@ pub(crate) fn keep<R: Threads + Sync, S: Source, O: Sink, E: Sink, D: Disk, G: G
 }
 
 /// The command `show`: the plot of the state that the disk holds, or the status that refuses it.
-pub(crate) fn show<O: Sink, D: Disk>(
-    alloc: Global,
-    out: &mut O,
-    disk: &mut D,
-) -> Result<(), Status>
+pub(crate) fn show<O: Sink, D: Disk>(alloc: Global, out: &mut O, disk: &mut D) -> Result<(), Status>
     ensures outcome { (sent : List ℕ) × Grows O.holds out.old out.new sent × RepliesShowing (status_of result) (D.seen disk.old) sent }
     ensures refused { IfErr result (λ status. status ≢ Status.Done) }
     ensures no_read_fault { result ≢ Err Status.ReadFault }

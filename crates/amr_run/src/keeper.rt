@@ -39,11 +39,19 @@ impl<'p, 's, 'e, 'd, E: Sink, D: Disk> AfterStep for Keeper<'p, 's, 'e, 'd, E, D
 
     ghost made_none = { λ a. (refl, refl, refl, refl, λ bytes has. (has, keeps_none D.seen D.moment D.leaves D.faults E.holds E.faults bytes a.keeping.problem.now a.keeping.every a.keeping.target a.disk.now a.err.now)) };
 
-    ghost made_more = { λ a b c states s answer so_far one. (one.0 ∙ so_far.0, one.1 ∙ so_far.1, one.2 ∙ so_far.2, one.3 ∙ so_far.3, λ bytes has.
-        let first = so_far.4 bytes has in
-        let next = one.4 bytes first.0 in
-        (next.0, keeps_on D.seen D.moment D.leaves D.faults E.holds E.faults bytes a.keeping.problem.now a.keeping.every a.keeping.target a.disk.now b.disk.now c.disk.now a.err.now b.err.now c.err.now states (s ∷ []) (fault_in answer) first.1
-            (subst (λ (k : Keeping). Keeps D.seen D.moment D.leaves D.faults E.holds E.faults bytes k.problem.now k.every k.target b.disk.now c.disk.now b.err.now c.err.now (s ∷ []) (fault_in answer)) so_far.0 next.1))) };
+    ghost made_more = { λ a b c states s answer so_far one. (
+      one.0 ∙ so_far.0,
+      one.1 ∙ so_far.1,
+      one.2 ∙ so_far.2,
+      one.3 ∙ so_far.3,
+      λ bytes has.
+          let first = so_far.4 bytes has in
+          let next = one.4 bytes first.0 in (
+            next.0,
+            keeps_on D.seen D.moment D.leaves D.faults E.holds E.faults bytes a.keeping.problem.now a.keeping.every a.keeping.target a.disk.now b.disk.now c.disk.now a.err.now b.err.now c.err.now states (s ∷ []) (fault_in answer) first.1
+                (subst (λ (k : Keeping). Keeps D.seen D.moment D.leaves D.faults E.holds E.faults bytes k.problem.now k.every k.target b.disk.now c.disk.now b.err.now c.err.now (s ∷ []) (fault_in answer)) so_far.0 next.1),
+          ),
+    ) };
 
     fn after(&mut self, mesh: &Mesh) -> Result<(), KeepFault> {
         match self.store.take() {

@@ -84,14 +84,7 @@ pub fn amr<R: Threads + Sync, S: Source, O: Sink, E: Sink, D: Disk>(
 }
 
 /// The same with a gate that each worker calls before and after each task.
-pub fn amr_gated<
-    R: Threads + Sync,
-    S: Source,
-    O: Sink,
-    E: Sink,
-    D: Disk,
-    G: Gate + Sync,
->(
+pub fn amr_gated<R: Threads + Sync, S: Source, O: Sink, E: Sink, D: Disk, G: Gate + Sync>(
     rt: &R,
     alloc: Global,
     words: &Line,

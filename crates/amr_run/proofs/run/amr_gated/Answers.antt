@@ -16,8 +16,21 @@ returns-clause-outcome g c =
     let line = told holds c.serve-status.new.err c.tell.new.err (faults c.serve-status.new.err) (faults c.tell.new.err) (message status) c.tell.result c.tell.ensures.whole c.tell.ensures.short c.tell.ensures.cause in
     let before = err_before status _ (faults c.args.err.now) (faults c.serve-status.new.err) (λ other. (c.serve-status.ensures.no_write_fault other).1) c.serve-status.ensures.write_fault in (
       done.0,
-      (done.1.0, (all.0, (all.0 ++ line.0, all.1, all.2, grows_more holds c.args.err.now c.serve-status.new.err c.tell.new.err all.0 line.0 all.3 line.1, all.4,
-          ends_by_line status all.0 line.0 (faults c.args.err.now) (faults c.serve-status.new.err) (faults c.tell.new.err) before line.2 line.3, all.5))),
+      (
+        done.1.0,
+        (
+          all.0,
+          (
+            all.0 ++ line.0,
+            all.1,
+            all.2,
+            grows_more holds c.args.err.now c.serve-status.new.err c.tell.new.err all.0 line.0 all.3 line.1,
+            all.4,
+            ends_by_line status all.0 line.0 (faults c.args.err.now) (faults c.serve-status.new.err) (faults c.tell.new.err) before line.2 line.3,
+            all.5,
+          ),
+        ),
+      ),
     )
 
 pub returns-clause-write_fault : goal.returns-clause-write_fault

@@ -13,9 +13,17 @@ returns-in-Run-clause-outcome g c =
     let seen = g.D.Disk.seen c.args.disk.now in
     let is : Run c.workers_of-workers.result.count c.in-Run.to c.in-Run.keep ≡ c.args.command = ap (λ n. Run n c.in-Run.to c.in-Run.keep) c.workers_of-workers.ensures.count ∙ sym c.in-Run.is in (
       done.0,
-      (done.1.0, (all.0, all.1, all.2, all.3,
+      (
+        done.1.0,
+        (
+          all.0,
+          all.1,
+          all.2,
+          all.3,
           subst (λ (command : Command). RepliesTo (status_of c.run_command.result) command done.0 seen done.1.0 all.0) is all.4,
-          subst (λ (command : Command). StopsTo g.D.Disk.seen g.D.Disk.moment g.D.Disk.leaves c.args.disk.now c.run_command.new.disk (Some command) done.0 all.0) is all.5)),
+          subst (λ (command : Command). StopsTo g.D.Disk.seen g.D.Disk.moment g.D.Disk.leaves c.args.disk.now c.run_command.new.disk (Some command) done.0 all.0) is all.5,
+        ),
+      ),
     )
 
 pub returns-in-Check-clause-outcome : goal.returns-in-Check-clause-outcome
@@ -23,9 +31,17 @@ returns-in-Check-clause-outcome g c =
     let done = c.check.ensures.outcome in
     let seen = g.D.Disk.seen c.args.disk.now in (
       done.0,
-      (done.1.0, ([], done.1.1, done.1.2, grows_none g.E.Sink.holds c.args.err.now,
+      (
+        done.1.0,
+        (
+          [],
+          done.1.1,
+          done.1.2,
+          grows_none g.E.Sink.holds c.args.err.now,
           subst (λ (command : Command). RepliesTo (status_of c.check.result) command done.0 seen done.1.0 []) (sym c.in-Check.is) (done.1.3, refl),
-          stops_none g.D.Disk.seen g.D.Disk.moment g.D.Disk.leaves c.args.disk.now (Some c.args.command) done.0 [])),
+          stops_none g.D.Disk.seen g.D.Disk.moment g.D.Disk.leaves c.args.disk.now (Some c.args.command) done.0 [],
+        ),
+      ),
     )
 
 pub returns-in-Show-clause-outcome : goal.returns-in-Show-clause-outcome
@@ -34,9 +50,17 @@ returns-in-Show-clause-outcome g c =
     let said = c.show.ensures.outcome in
     let seen = g.D.Disk.seen c.args.disk.now in (
       left.0,
-      (said.0, ([], left.1, said.1, grows_none g.E.Sink.holds c.args.err.now,
+      (
+        said.0,
+        (
+          [],
+          left.1,
+          said.1,
+          grows_none g.E.Sink.holds c.args.err.now,
           subst (λ (command : Command). RepliesTo (status_of c.show.result) command left.0 seen said.0 []) (sym c.in-Show.is) (said.2, refl),
-          subst (λ (command : Command). StopsTo g.D.Disk.seen g.D.Disk.moment g.D.Disk.leaves c.args.disk.now c.show.new.disk (Some command) left.0 []) (sym c.in-Show.is) c.show.ensures.reads)),
+          subst (λ (command : Command). StopsTo g.D.Disk.seen g.D.Disk.moment g.D.Disk.leaves c.args.disk.now c.show.new.disk (Some command) left.0 []) (sym c.in-Show.is) c.show.ensures.reads,
+        ),
+      ),
     )
 
 pub returns-in-Trial-clause-outcome : goal.returns-in-Trial-clause-outcome
@@ -45,7 +69,15 @@ returns-in-Trial-clause-outcome g c =
     let said = c.trial.ensures.outcome in
     let seen = g.D.Disk.seen c.args.disk.now in (
       left.0,
-      (said.0, ([], left.1, said.1, grows_none g.E.Sink.holds c.args.err.now,
+      (
+        said.0,
+        (
+          [],
+          left.1,
+          said.1,
+          grows_none g.E.Sink.holds c.args.err.now,
           subst (λ (command : Command). RepliesTo (status_of c.trial.result) command left.0 seen said.0 []) (sym c.in-Trial.is) (said.2, refl),
-          stops_none g.D.Disk.seen g.D.Disk.moment g.D.Disk.leaves c.args.disk.now (Some c.args.command) left.0 [])),
+          stops_none g.D.Disk.seen g.D.Disk.moment g.D.Disk.leaves c.args.disk.now (Some c.args.command) left.0 [],
+        ),
+      ),
     )

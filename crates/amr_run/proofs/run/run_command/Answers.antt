@@ -11,9 +11,17 @@ returns-in-None-clause-outcome g c =
     let count = c.args.workers.now.count in
     let seen = g.D.Disk.seen c.args.disk.now in (
       done.0,
-      (done.1.0, ([], done.1.1, done.1.2, grows_none g.E.Sink.holds c.args.err.now,
+      (
+        done.1.0,
+        (
+          [],
+          done.1.1,
+          done.1.2,
+          grows_none g.E.Sink.holds c.args.err.now,
           subst (λ (k : Option ℕ). RepliesTo (status_of c.run.result) (Run count c.args.to k) done.0 seen done.1.0 []) (sym c.in-None.is) (done.1.3, refl),
-          stops_none g.D.Disk.seen g.D.Disk.moment g.D.Disk.leaves c.args.disk.now (Some (Run count c.args.to c.args.keep_each)) done.0 [])),
+          stops_none g.D.Disk.seen g.D.Disk.moment g.D.Disk.leaves c.args.disk.now (Some (Run count c.args.to c.args.keep_each)) done.0 [],
+        ),
+      ),
     )
 
 pub returns-in-Some-clause-outcome : goal.returns-in-Some-clause-outcome
@@ -23,7 +31,15 @@ returns-in-Some-clause-outcome g c =
     let count = c.args.workers.now.count in
     let seen = g.D.Disk.seen c.args.disk.now in (
       done.0,
-      (done.1.0, (all.0, all.1, all.2, all.3,
+      (
+        done.1.0,
+        (
+          all.0,
+          all.1,
+          all.2,
+          all.3,
           subst (λ (k : Option ℕ). RepliesTo (status_of c.keep.result) (Run count c.args.to k) done.0 seen done.1.0 all.0) (sym c.in-Some.is) all.4,
-          subst (λ (k : Option ℕ). StopsTo g.D.Disk.seen g.D.Disk.moment g.D.Disk.leaves c.args.disk.now c.keep.new.disk (Some (Run count c.args.to k)) done.0 all.0) (sym c.in-Some.is) all.5)),
+          subst (λ (k : Option ℕ). StopsTo g.D.Disk.seen g.D.Disk.moment g.D.Disk.leaves c.args.disk.now c.keep.new.disk (Some (Run count c.args.to k)) done.0 all.0) (sym c.in-Some.is) all.5,
+        ),
+      ),
     )

@@ -14,16 +14,34 @@ returns-in-Err-Usage-clause-outcome g c =
     let none = c.in-Err-Usage.ensures.usage (ap Err c.in-Err-Usage.field-0-is) in
     let seen = g.D.Disk.seen c.args.disk.now in (
       left.0,
-      ([], ([], left.1, grows_none g.O.Sink.holds c.args.out.now, grows_none g.E.Sink.holds c.args.err.now, subst (λ (o : Option Command). Outcome Usage o left.0 seen [] []) (sym none) (refl, refl),
-          stops_none g.D.Disk.seen g.D.Disk.moment g.D.Disk.leaves c.args.disk.now (command_of c.args.words.now) left.0 [])),
+      (
+        [],
+        (
+          [],
+          left.1,
+          grows_none g.O.Sink.holds c.args.out.now,
+          grows_none g.E.Sink.holds c.args.err.now,
+          subst (λ (o : Option Command). Outcome Usage o left.0 seen [] []) (sym none) (refl, refl),
+          stops_none g.D.Disk.seen g.D.Disk.moment g.D.Disk.leaves c.args.disk.now (command_of c.args.words.now) left.0 [],
+        ),
+      ),
     )
 
 pub returns-in-Err-NoMemory-clause-outcome : goal.returns-in-Err-NoMemory-clause-outcome
 returns-in-Err-NoMemory-clause-outcome g c =
     let left = were_left (g.S.Source.left c.args.src.now) in (
       left.0,
-      ([], ([], left.1, grows_none g.O.Sink.holds c.args.out.now, grows_none g.E.Sink.holds c.args.err.now, of_no_memory (command_of c.args.words.now) left.0 (g.D.Disk.seen c.args.disk.now),
-          stops_none g.D.Disk.seen g.D.Disk.moment g.D.Disk.leaves c.args.disk.now (command_of c.args.words.now) left.0 [])),
+      (
+        [],
+        (
+          [],
+          left.1,
+          grows_none g.O.Sink.holds c.args.out.now,
+          grows_none g.E.Sink.holds c.args.err.now,
+          of_no_memory (command_of c.args.words.now) left.0 (g.D.Disk.seen c.args.disk.now),
+          stops_none g.D.Disk.seen g.D.Disk.moment g.D.Disk.leaves c.args.disk.now (command_of c.args.words.now) left.0 [],
+        ),
+      ),
     )
 
 pub returns-in-Ok-answer-clause-outcome : goal.returns-in-Ok-answer-clause-outcome
@@ -31,8 +49,17 @@ returns-in-Ok-answer-clause-outcome g c =
     let done = c.in-Ok-answer.ensures.outcome in
     let all = done.1.1 in (
       done.0,
-      (done.1.0, (all.0, all.1, all.2, all.3, of_command Done (command_of c.args.words.now) c.in-Ok.command done.0 (g.D.Disk.seen c.args.disk.now) done.1.0 all.0 c.in-Ok.ensures.command all.4,
-          subst (λ (o : Option Command). StopsTo g.D.Disk.seen g.D.Disk.moment g.D.Disk.leaves c.args.disk.now c.answer.new.disk o done.0 all.0) (sym c.in-Ok.ensures.command) all.5)),
+      (
+        done.1.0,
+        (
+          all.0,
+          all.1,
+          all.2,
+          all.3,
+          of_command Done (command_of c.args.words.now) c.in-Ok.command done.0 (g.D.Disk.seen c.args.disk.now) done.1.0 all.0 c.in-Ok.ensures.command all.4,
+          subst (λ (o : Option Command). StopsTo g.D.Disk.seen g.D.Disk.moment g.D.Disk.leaves c.args.disk.now c.answer.new.disk o done.0 all.0) (sym c.in-Ok.ensures.command) all.5,
+        ),
+      ),
     )
 
 pub returns-in-Err-clause-outcome : goal.returns-in-Err-clause-outcome
@@ -40,6 +67,15 @@ returns-in-Err-clause-outcome g c =
     let done = c.in-Err.ensures.outcome in
     let all = done.1.1 in (
       done.0,
-      (done.1.0, (all.0, all.1, all.2, all.3, of_command c.in-Err.refusal (command_of c.args.words.now) c.in-Ok.command done.0 (g.D.Disk.seen c.args.disk.now) done.1.0 all.0 c.in-Ok.ensures.command all.4,
-          subst (λ (o : Option Command). StopsTo g.D.Disk.seen g.D.Disk.moment g.D.Disk.leaves c.args.disk.now c.answer.new.disk o done.0 all.0) (sym c.in-Ok.ensures.command) all.5)),
+      (
+        done.1.0,
+        (
+          all.0,
+          all.1,
+          all.2,
+          all.3,
+          of_command c.in-Err.refusal (command_of c.args.words.now) c.in-Ok.command done.0 (g.D.Disk.seen c.args.disk.now) done.1.0 all.0 c.in-Ok.ensures.command all.4,
+          subst (λ (o : Option Command). StopsTo g.D.Disk.seen g.D.Disk.moment g.D.Disk.leaves c.args.disk.now c.answer.new.disk o done.0 all.0) (sym c.in-Ok.ensures.command) all.5,
+        ),
+      ),
     )
