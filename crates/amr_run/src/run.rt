@@ -38,12 +38,17 @@ pub fn amr<R: Threads + Sync, S: Source, O: Sink, E: Sink, D: Disk>(
     disk: &mut D,
 ) -> Status
     // The status, and what went to `out` and to `err`, are those of the words, of the bytes that the source had left and of what the
-    // disk holds. `err` gets the lines of checkpoints, and then the line of a refusal. What a stop leaves of the disk.
+    // disk holds. `err` gets the lines of checkpoints, and then the line of a refusal, whole unless `err` failed.
     ensures outcome { (bytes : List ℕ) × ((sent : List ℕ) × ((said : List ℕ) × ((all : List ℕ) × WereLeft (S.left src.old) bytes
         × Grows O.holds out.old out.new sent × Grows E.holds err.old err.new all
         × Outcome result (command_of words.now) bytes (D.seen disk.old) sent said
+        × EndsByLine result said all (E.faults err.old) (E.faults err.new)))) }
+
+    // A stop at any moment leaves what was found on the disk, or what the run put last or puts next, from which its bytes follow. Each
+    // line on `err` is of a checkpoint that stands.
+    ensures stops { (bytes : List ℕ) × ((said : List ℕ) × ((all : List ℕ) × WereLeft (S.left src.old) bytes × Grows E.holds err.old err.new all
         × EndsByLine result said all (E.faults err.old) (E.faults err.new)
-        × StopsTo D.seen D.moment D.leaves disk.old disk.new (command_of words.now) bytes said))) }
+        × StopsTo D.seen D.moment D.leaves disk.old disk.new (command_of words.now) bytes said)) }
 
     // Where a command that reads its source is done, nothing of it is left. Any other leaves it as it was.
     ensures ended { (command : _) → command_of words.now ≡ Some command → ReadsSource command → result ≡ Status.Done → IsAtEnd (S.left src.new) }
@@ -98,8 +103,10 @@ pub fn amr_gated<R: Threads + Sync, S: Source, O: Sink, E: Sink, D: Disk, G: Gat
     ensures outcome { (bytes : List ℕ) × ((sent : List ℕ) × ((said : List ℕ) × ((all : List ℕ) × WereLeft (S.left src.old) bytes
         × Grows O.holds out.old out.new sent × Grows E.holds err.old err.new all
         × Outcome result (command_of words.now) bytes (D.seen disk.old) sent said
+        × EndsByLine result said all (E.faults err.old) (E.faults err.new)))) }
+    ensures stops { (bytes : List ℕ) × ((said : List ℕ) × ((all : List ℕ) × WereLeft (S.left src.old) bytes × Grows E.holds err.old err.new all
         × EndsByLine result said all (E.faults err.old) (E.faults err.new)
-        × StopsTo D.seen D.moment D.leaves disk.old disk.new (command_of words.now) bytes said))) }
+        × StopsTo D.seen D.moment D.leaves disk.old disk.new (command_of words.now) bytes said)) }
     ensures ended { (command : _) → command_of words.now ≡ Some command → ReadsSource command → result ≡ Status.Done → IsAtEnd (S.left src.new) }
     ensures unread { (command : _) → command_of words.now ≡ Some command → ¬ (ReadsSource command) → src.new ≡ src.old }
     ensures taken { TakesAtMost 65537 (S.left src.old) (S.left src.new) }
@@ -225,23 +232,23 @@ fn run_command<R: Threads + Sync, S: Source, O: Sink, E: Sink, D: Disk, G: Gate 
     workers: &Workers<'_, R, G>,
     alloc: Global,
     to: Option<u32>,
-    keep_each: Option<u32>,
+    every: Option<u32>,
     src: &mut S,
     out: &mut O,
     err: &mut E,
     disk: &mut D,
 ) -> Result<(), Status>
-    requires some { IfSome keep_each (λ every. 1 ≤ every) }
+    requires some { IfSome every (λ every. 1 ≤ every) }
     requires some_workers { 1 ≤ workers.now.count }
     requires few_workers { workers.now.count ≤ 64 }
     requires gate { (worker task : ℕ) → worker < workers.now.count → G.admits workers.now.gate.now worker task }
     ensures outcome { (bytes : List ℕ) × ((sent : List ℕ) × ((said : List ℕ) × WereLeft (S.left src.old) bytes
         × Grows O.holds out.old out.new sent × Grows E.holds err.old err.new said
-        × RepliesTo (status_of result) (Command.Run workers.now.count to keep_each) bytes (D.seen disk.old) sent said
-        × StopsTo D.seen D.moment D.leaves disk.old disk.new (Some (Command.Run workers.now.count to keep_each)) bytes said)) }
+        × RepliesTo (status_of result) (Command.Run workers.now.count to every) bytes (D.seen disk.old) sent said
+        × StopsTo D.seen D.moment D.leaves disk.old disk.new (Some (Command.Run workers.now.count to every)) bytes said)) }
     ensures ended { OnOk result (IsAtEnd (S.left src.new)) }
-    ensures unopened { ¬ (OpensStore (Command.Run workers.now.count to keep_each)) → disk.new ≡ disk.old }
-    ensures silent { ¬ (KeepsCheckpoints (Command.Run workers.now.count to keep_each)) → err.new ≡ err.old }
+    ensures unopened { ¬ (OpensStore (Command.Run workers.now.count to every)) → disk.new ≡ disk.old }
+    ensures silent { ¬ (KeepsCheckpoints (Command.Run workers.now.count to every)) → err.new ≡ err.old }
     ensures taken { TakesAtMost 65537 (S.left src.old) (S.left src.new) }
     ensures refused { IfErr result (λ status. (status ≢ Status.Done) × (status ≢ Status.Usage)) }
     ensures unwritten { (refusal : _) → result ≡ Err (Status.Store refusal) → OnlyReads D.seen D.moment D.leaves disk.old disk.new }
@@ -251,7 +258,7 @@ fn run_command<R: Threads + Sync, S: Source, O: Sink, E: Sink, D: Disk, G: Gate 
     ensures write_fault { result ≡ Err Status.WriteFault → (Rose (O.faults out.old) (O.faults out.new) × (E.faults err.new ≡ E.faults err.old)) ⊎ Rose (E.faults err.old) (E.faults err.new) }
     ensures no_write_fault { result ≢ Err Status.WriteFault → (O.faults out.new ≡ O.faults out.old) × (E.faults err.new ≡ E.faults err.old) }
 {
-    match keep_each {
+    match every {
         None => run(workers, alloc, to, src, out),
         Some(every) => keep(workers, alloc, to, every, src, out, err, disk),
     }

@@ -27,8 +27,29 @@ returns-clause-outcome g c =
             grows_more holds c.args.err.now c.serve-status.new.err c.tell.new.err all.0 line.0 all.3 line.1,
             all.4,
             ends_by_line status all.0 line.0 (faults c.args.err.now) (faults c.serve-status.new.err) (faults c.tell.new.err) before line.2 line.3,
-            all.5,
           ),
+        ),
+      ),
+    )
+
+pub returns-clause-stops : goal.returns-clause-stops
+returns-clause-stops g c =
+    let holds = g.E.Sink.holds in
+    let faults = g.E.Sink.faults in
+    let status = c.serve-status.result in
+    let done = c.serve-status.ensures.outcome in
+    let all = done.1.1 in
+    let line = told holds c.serve-status.new.err c.tell.new.err (faults c.serve-status.new.err) (faults c.tell.new.err) (message status) c.tell.result c.tell.ensures.whole c.tell.ensures.short c.tell.ensures.cause in
+    let before = err_before status _ (faults c.args.err.now) (faults c.serve-status.new.err) (λ other. (c.serve-status.ensures.no_write_fault other).1) c.serve-status.ensures.write_fault in (
+      done.0,
+      (
+        all.0,
+        (
+          all.0 ++ line.0,
+          all.1,
+          grows_more holds c.args.err.now c.serve-status.new.err c.tell.new.err all.0 line.0 all.3 line.1,
+          ends_by_line status all.0 line.0 (faults c.args.err.now) (faults c.serve-status.new.err) (faults c.tell.new.err) before line.2 line.3,
+          all.5,
         ),
       ),
     )

@@ -19,7 +19,7 @@ returns-in-None-clause-outcome g c =
           done.1.2,
           grows_none g.E.Sink.holds c.args.err.now,
           subst (λ (k : Option ℕ). RepliesTo (status_of c.run.result) (Run count c.args.to k) done.0 seen done.1.0 []) (sym c.in-None.is) (done.1.3, refl),
-          stops_none g.D.Disk.seen g.D.Disk.moment g.D.Disk.leaves c.args.disk.now (Some (Run count c.args.to c.args.keep_each)) done.0 [],
+          stops_none g.D.Disk.seen g.D.Disk.moment g.D.Disk.leaves c.args.disk.now (Some (Run count c.args.to c.args.every)) done.0 [],
         ),
       ),
     )
