@@ -96,9 +96,11 @@ module _ {D E : Type 0} (seen : D → Option (List ℕ)) (moment : D → ℕ) (l
     stops = λ found all rest times at split rising. (
       [],
       refl,
-      (Some (At bytes p s (s.step + 1)),
-          subst (λ (ts : List Time). StopsLeave (leaves later_d) found (moment later_d) all ts (Some (At bytes p s (s.step + 1)))) (sym (append-nil times))
-          (leave_tried moment leaves d later_d found all times (At bytes p s (s.step + 1)) rest at.leave (next_made s all rest times mark split) (stops at.image (last_of found times) at.told at.held))),
+      (
+        Some (At bytes p s (s.step + 1)),
+        subst (λ (ts : List Time). StopsLeave (leaves later_d) found (moment later_d) all ts (Some (At bytes p s (s.step + 1)))) (sym (append-nil times))
+            (leave_tried moment leaves d later_d found all times (At bytes p s (s.step + 1)) rest at.leave (next_made s all rest times mark split) (stops at.image (last_of found times) at.told at.held)),
+      ),
     );
   }
 

@@ -139,4 +139,3 @@ fn too_long_by_one_byte(rt: HostRuntime) -> Result<(), Fail> {
     Case::run(&text).ends(&rt, 3, "", "amr: problem: too long\n");
     Ok(())
 }
-

@@ -69,7 +69,9 @@ fn second_task_first(rt: HostRuntime) -> Result<(), Fail> {
         waited_in_vain: AtomicBool::new(false),
     };
     let mut disk = MemDisk::make(alloc, &[], 0, 0, &[], Some(1)).expect(&rt, "memory");
-    let ended = amr_gated(&rt, alloc, &line, &mut src, &mut plot, &mut lines, &mut disk, &gate);
+    let ended = amr_gated(
+        &rt, alloc, &line, &mut src, &mut plot, &mut lines, &mut disk, &gate,
+    );
     assert_eq!(rt; ended.code(), 0);
     assert_eq!(rt; plot.bytes(), NINE_COLUMNS_PLOT.as_bytes());
     assert!(rt; gate.entered.load(Ordering::SeqCst));

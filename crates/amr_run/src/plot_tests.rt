@@ -201,4 +201,3 @@ fn ring_with_the_keys_of_finer_levels(rt: HostRuntime) -> Result<(), Fail> {
     Case::run(text.as_bytes()).ends(&rt, 0, RING_PLOT, "");
     Ok(())
 }
-

@@ -82,7 +82,12 @@ fn goes_on<R: Abort + Alloc<A = Global> + Threads + Sync>(
     assert_eq!(rt; ended.status, 0);
     assert_eq!(rt; ended.out.bytes(), FOUR_STEPS.as_bytes());
     let said = ended.err.bytes();
-    assert!(rt; said.len() <= LINES.len().saturating_sub(acknowledged.saturating_mul(LINE)));
+    assert!(rt;
+        said.len()
+            <= LINES
+                .len()
+                .saturating_sub(acknowledged.saturating_mul(LINE))
+    );
     assert!(rt; LINES.as_bytes().ends_with(said));
 }
 
@@ -113,7 +118,11 @@ fn stops<R: Abort + Alloc<A = Global> + Threads + Sync>(
             }
             assert_eq!(rt; ended.status, 6);
             assert_eq!(rt; ended.out.bytes().len(), 0);
-            goes_on(rt, disk.leave(way), kept.saturating_add(acknowledged(&ended)));
+            goes_on(
+                rt,
+                disk.leave(way),
+                kept.saturating_add(acknowledged(&ended)),
+            );
         }
         stopped = call;
     }
