@@ -18,6 +18,7 @@ pub mod RegisterRows
 pub mod Once
 pub mod OneBox
 pub mod RowSpans
+pub mod ColumnSkips
 pub mod NotBeside
 pub mod BesideTaken
 pub mod SameCells

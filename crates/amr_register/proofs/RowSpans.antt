@@ -14,7 +14,7 @@ use Rattle.amr_def.specs.Domain.{Domain, home_cell, wrapped}
 use Rattle.amr_patch.proofs.Rows.{IsBetween, between, is_between}
 use Rattle.amr_register.specs.declared.rows.Span.{Span}
 use Rattle.amr_register.specs.Entries.{AreRising, row_cmp}
-use Rattle.amr_register.specs.Spans.{IsSpanOf, is_place_of, row_below}
+use Rattle.amr_register.specs.Spans.{IsSpanOf, column_left, is_place_of, row_below}
 
 -- ---- cells in order stand by rows
 
@@ -106,6 +106,10 @@ not_from_test a b low high t e f h = clash (is_le a b (omega (arith, ints, e, f,
 -- the row below a box, by the cell that a cell there stands for
 pub row_is : (d : Domain) (b : Extent) (q r : Cell) → q.y ≡ b.lo.y -ℤ pos 1 → r ≡ home_cell d q → r.y ≡ row_below d b
 row_is d b q r h e = ap (λ (k : Cell). k.y) e ∙ ap (wrapped d.wrap_y d.rows) h
+
+-- and the column left of it
+pub column_is : (d : Domain) (b : Extent) (q r : Cell) → q.x ≡ b.lo.x -ℤ pos 1 → r ≡ home_cell d q → r.x ≡ column_left d b
+column_is d b q r h e = ap (λ (k : Cell). k.x) e ∙ ap (wrapped d.wrap_x d.columns) h
 
 -- ---- the row below
 

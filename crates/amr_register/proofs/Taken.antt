@@ -44,6 +44,25 @@ one_taken part cs ss before after from n v r c0 s0 is_r taken up lt in_cells in_
         ∙ ap (λ (i : ℕ). slice_index_or before i (pos 0) -ℤ part (slice_index_or ss i s) (slice_index_or cs i c)) (sym e)
     by_place k c s le below there (inr ne) = get_or-set_other after n k v (pos 0) ne ∙ taken.done k c s le (omega arith) there
 
+minus_none : (z : ℤ) → z ≡ z -ℤ pos 0
+minus_none z = omega (arith, ints)
+
+-- cells that are passed give nothing
+pub passed_taken : (part : CoveredSides → Cell → ℤ) (cs : List Cell) (ss : List CoveredSides) (before after : List ℤ) (from n m : ℕ) → AreTaken part cs ss before after from n → n ≤ m → ((k : ℕ) (c : Cell) (s : CoveredSides) → n ≤ k → k < m → part (slice_index_or ss k s) (slice_index_or cs k c) ≡ pos 0)
+    → AreTaken part cs ss before after from m
+passed_taken part cs ss before after from n m taken up none = record {
+  done = λ k c s le below there. by_place k c s le below there (cases_lt k n);
+  left = left_out;
+}
+  where
+    left_out : (k : ℕ) → (k < from) ⊎ (m ≤ k) → slice_index_or after k (pos 0) ≡ slice_index_or before k (pos 0)
+    left_out k (inl h) = taken.left k (inl h)
+    left_out k (inr h) = taken.left k (inr (omega arith))
+
+    by_place : (k : ℕ) (c : Cell) (s : CoveredSides) → from ≤ k → k < m → k < length cs → (k < n) ⊎ (n ≤ k) → slice_index_or after k (pos 0) ≡ slice_index_or before k (pos 0) -ℤ part (slice_index_or ss k s) (slice_index_or cs k c)
+    by_place k c s le below there (inl lt) = taken.done k c s le lt there
+    by_place k c s le below there (inr past) = taken.left k (inr past) ∙ minus_none (slice_index_or before k (pos 0)) ∙ ap (λ (z : ℤ). slice_index_or before k (pos 0) -ℤ z) (sym (none k c s past below))
+
 -- ---- by spans
 
 place_from : (s : Span) (k : ℕ) → is_place_of s k ≡ true → (k < s.from) ⊎ (s.from ≤ k) → (k < s.to) ⊎ (s.to ≤ k) → (s.from ≤ k) × (k < s.to)
@@ -62,9 +81,6 @@ place_parts s k h = place_from s k h (cases_lt k s.from) (cases_lt k s.to)
 
 pub place_is : (s : Span) (k : ℕ) → s.from ≤ k → k < s.to → is_place_of s k ≡ true
 place_is s k a b = λ i. not (le-ltb k s.from a i) && lt-ltb k s.to b i
-
-minus_none : (z : ℤ) → z ≡ z -ℤ pos 0
-minus_none z = omega (arith, ints)
 
 -- the entries at the places of a span
 pub span_taken : (part : CoveredSides → Cell → ℤ) (cs : List Cell) (ss : List CoveredSides) (before after : List ℤ) (s : Span) → AreTaken part cs ss before after s.from s.to

@@ -14,6 +14,7 @@ use Rattle.amr_patch.specs.Patches.{box}
 use Rattle.amr_flux.specs.Faces.{flux_beside}
 use Rattle.amr_register.specs.declared.sides.CoveredSides.{CoveredSides}
 use Rattle.amr_register.specs.RegisterCells.{is_coarse_fine}
+use Rattle.amr_register.specs.Spans.{is_in_columns}
 
 -- the face at the low side of a cell
 abbrev pub low_face : Axis → Cell → Face
@@ -45,6 +46,10 @@ coarse_flows p l fine q f = owned_flow p l q (is_coarse_fine (domain p l) fine f
 abbrev pub net_over : Problem → ℕ → Patch → CoveredSides → Cell → ℤ
 net_over p l q s c =
     (owned_flow p l q s.west (low_face X c) -ℤ owned_flow p l q s.east (high_face X c)) +ℤ (owned_flow p l q s.south (low_face Y c) -ℤ owned_flow p l q s.north (high_face Y c))
+
+-- the same, and 0 of a cell that lies in none of the patch's columns, nor in the one left of them
+abbrev pub net_beside : Problem → ℕ → Patch → CoveredSides → Cell → ℤ
+net_beside p l q s c = cond (is_in_columns (domain p l) (box q) c) (net_over p l q s c) (pos 0)
 
 -- the plain flows through all coarse-fine edges of a level with masses m, and 0 through all other faces
 unfoldable pub edge_flows : Problem → ℕ → Masses → Masses → Masses → Fluxes

@@ -11,8 +11,9 @@ ghost use Rattle.amr_register.specs.declared.sides.CoveredSides.{CoveredSides};
 ghost use Rattle.amr_register.specs.Beside.{IsDomainCell};
 ghost use Rattle.amr_register.specs.Entries.{AreRising};
 ghost use Rattle.amr_register.specs.Spans.{is_place_of};
-ghost use Rattle.amr_register.specs.CoarseFlows.{high_face, low_face, net_over, owned_flow};
+ghost use Rattle.amr_register.specs.CoarseFlows.{high_face, low_face, net_beside, net_over, owned_flow};
 
+use crate::columns::{columns_beside, next_in_columns};
 use crate::rows::{Span, span_below, span_in_rows};
 use crate::sides::CoveredSides;
 use amr_box::{Axis, Cell, Face};
@@ -111,20 +112,25 @@ fn net_over(p: &Problem, l: u32, patch: &Patch, sides: CoveredSides, c: Cell) ->
 }
 
 /// Takes away from the entries at the places of a span what comes into their cells by the flows through those of their faces that
-/// lie on their sides and that the patch owns.
+/// lie on their sides and that the patch owns. It passes cells that lie neither in the patch's columns nor in the one left of
+/// them, which have no such faces.
 fn take_away(p: &Problem, l: u32, patch: &Patch, edge: Edge<'_>, span: Span, entries: &mut [i64])
     requires level { l ≤ 4 }
     requires inside { IsInDomain (domain p.now l) (box patch.now) }
+    requires rising { AreRising edge.cells.now }
     requires near { All IsDomainCell edge.cells.now }
     requires side_count { length edge.sides.now ≡ length edge.cells.now }
     requires entry_count { length entries.old ≡ length edge.cells.now }
     requires ordered { span.from ≤ span.to }
     requires within { span.to ≤ length edge.cells.now }
     requires room { (k : ℕ) → span.from ≤ k → k < span.to → unsigned_abs (slice_index_or entries.old k (pos 0)) < 2 ^ 62 }
-    ensures { (k : ℕ) (c : Cell) (s : CoveredSides) → k < length edge.entry.cells.now → slice_index_or entries.new k (pos 0) ≡ slice_index_or entries.old k (pos 0) -ℤ cond (is_place_of span k) (net_over p.now l patch.now (slice_index_or edge.entry.sides.now k s) (slice_index_or edge.entry.cells.now k c)) (pos 0) }
+    ensures { (k : ℕ) (c : Cell) (s : CoveredSides) → k < length edge.entry.cells.now → slice_index_or entries.new k (pos 0) ≡ slice_index_or entries.old k (pos 0) -ℤ cond (is_place_of span k) (net_beside p.now l patch.now (slice_index_or edge.entry.sides.now k s) (slice_index_or edge.entry.cells.now k c)) (pos 0) }
 {
-    for k in span.from..span.to {
+    let columns = columns_beside(&p.domain(l), &patch.bx());
+    let mut k = next_in_columns(edge.cells, columns, span.from, span.to);
+    while k < span.to {
         entries[k] -= net_over(p, l, patch, edge.sides[k], edge.cells[k]);
+        k = next_in_columns(edge.cells, columns, k + 1, span.to);
     }
 }
 

@@ -9,6 +9,7 @@
 
 mod beside;
 mod cells;
+mod columns;
 mod cover;
 mod flows;
 mod laws;

@@ -116,8 +116,8 @@ impl Register {
 
     /// Takes away the plain flows through those coarse-fine edges that a patch of the level owns, by the patch's values before
     /// the step: an edge belongs to the patch that has the cell at its high side, so that over all patches each is taken away
-    /// once. Entries lie between -2^62 and 2^62. It looks at the register cells in the rows of the patch and in the row below
-    /// it alone.
+    /// once. Entries lie between -2^62 and 2^62. Only register cells in the rows of the patch and in the row below it are gone over.
+    /// Those that lie neither in its columns nor in the one left of them are passed by halving.
     pub fn coarse_part(&mut self, p: &Problem, l: u32, patch: &Patch)
         requires level { l ≤ 3 }
         requires inside { IsInDomain (domain p.now l) (box patch.now) }
