@@ -1,6 +1,6 @@
 -- Lists of patches, in which cells are given masses.
 use Rattle.std.proofs.Common.{◌≡◌, ◌∙◌, ℕ, zero, suc, ◌+◌, ◌<◌, take, Bool, true, false, cond, ◌||◌, List, [], ◌∷◌, length, map, IsTrue, refl, sym, ap, arith}
-use Rattle.std.specs.Prelude.{is_some, slice_index_or, slice_set}
+use Rattle.std.specs.Prelude.{slice_index_or, slice_set}
 use Rattle.std.specs.List.{All}
 use Rattle.std.specs.declared.option.Option.{Option}
 use Rattle.std.specs.declared.option.Option.TheVariants.{None, Some}

@@ -15,7 +15,7 @@ ghost use Rattle.amr_transfer.specs.Sums.{AreCoarsenable, IsRow, children_in, fo
 use crate::cells::{ROOM, above, ahead, cells_from};
 use crate::giving::give;
 use amr_box::Cell;
-use amr_patch::{Level, Order, Patch, find};
+use amr_patch::{Level, Order, Patch, find_near};
 
 /// Adds up fours of children: two neighbours of the lower row and the two above them.
 fn sum_rows(lower: &[u32], upper: &[u32], sums: &mut [u32])
@@ -52,10 +52,12 @@ fn sum_in_patch(patch: &mut Patch, c: Cell, lower: &[u32], upper: &[u32], room: 
     count
 }
 
-/// The same in the patch of a level that has the first of the cells.
+/// The same in the patch of a level that has the first of the cells. It is looked for only where neither patch `near` nor the
+/// next has that cell; `near` becomes its number.
 fn sum_span(
     patches: &mut [Patch],
     order: Order,
+    near: &mut usize,
     c: Cell,
     lower: &[u32],
     upper: &[u32],
@@ -72,7 +74,7 @@ fn sum_span(
     ensures within { 2 * result ≤ length lower.now }
     ensures given { (mass : Cell → ℕ) → ((k : ℕ) → 2 * k + 1 < length lower.now → four_at lower.now upper.now k ≡ mass (cell (c.x +ℤ pos k) c.y)) → Pairwise (IsGiven (holds (span c result)) mass) patches.old patches.new }
 {
-    match find(patches, order, c) {
+    match find_near(patches, order, near, c) {
         None => unreachable!(),
         Some(j) => sum_in_patch(&mut patches[j], c, lower, upper, room),
     }
@@ -90,7 +92,14 @@ fn children_row(fine: &Patch, c: Cell, k: u32) -> &[u32]
 }
 
 /// Gives the cells of a row of which a fine patch has the children their sums, from the first of them on.
-fn sum_row(fine: &Patch, patches: &mut [Patch], order: Order, c: Cell, room: &mut [u32])
+fn sum_row(
+    fine: &Patch,
+    patches: &mut [Patch],
+    order: Order,
+    near: &mut usize,
+    c: Cell,
+    room: &mut [u32],
+)
     requires order { IsOrderOf order patches.old }
     requires apart { ArePatchesApart patches.old }
     requires aligned { IsAligned 2 (box fine.now) }
@@ -110,6 +119,7 @@ fn sum_row(fine: &Patch, patches: &mut [Patch], order: Order, c: Cell, room: &mu
         done += sum_span(
             patches,
             order,
+            near,
             ahead(c, done as u32),
             &lower[from..],
             &upper[from..],
@@ -119,7 +129,7 @@ fn sum_row(fine: &Patch, patches: &mut [Patch], order: Order, c: Cell, room: &mu
 }
 
 /// Gives the cells of which a fine patch has the children their sums.
-fn sum_patch(fine: &Patch, patches: &mut [Patch], order: Order, room: &mut [u32])
+fn sum_patch(fine: &Patch, patches: &mut [Patch], order: Order, near: &mut usize, room: &mut [u32])
     requires order { IsOrderOf order patches.old }
     requires apart { ArePatchesApart patches.old }
     requires aligned { IsAligned 2 (box fine.now) }
@@ -130,7 +140,7 @@ fn sum_patch(fine: &Patch, patches: &mut [Patch], order: Order, room: &mut [u32]
 {
     let b = fine.bx().coarsen2();
     for k in 0..b.height() {
-        sum_row(fine, patches, order, above(b.lo(), k), room);
+        sum_row(fine, patches, order, near, above(b.lo(), k), room);
     }
 }
 
@@ -144,9 +154,10 @@ fn sum_all(fine: &[Patch], patches: &mut [Patch], order: Order)
     requires small { (c : Cell) → children_mass (masses_in fine.now) c < 2 ^ 32 }
     ensures { Pairwise (IsGiven (has_child_where (in_patches fine.now)) (children_mass (masses_in fine.now))) patches.old patches.new }
 {
+    let mut near = 0;
     let mut room = [0u32; ROOM];
     for q in fine {
-        sum_patch(q, patches, order, &mut room);
+        sum_patch(q, patches, order, &mut near, &mut room);
     }
 }
 
