@@ -4,9 +4,7 @@ use Rattle.std.proofs.lemmas.List.{append-nil}
 use Rattle.std.specs.List.{flat_map}
 use Rattle.std.specs.Prelude.{◌⊎◌}
 use Rattle.amr_causes.specs.Bytes.{IsPrefix}
-use Rattle.amr_causes.specs.Causes.{Rose}
 use Rattle.amr_causes.proofs.ByteLaws.{grows_none, prefix_none, prefix_whole}
-use Rattle.amr_causes.proofs.CauseLaws.{rose_after}
 use Rattle.amr_io.specs.Short.{IsProperPrefix}
 use Rattle.amr_io.proofs.Shorter.{proper_longer}
 use Rattle.amr_def.specs.declared.problem.Problem.{Problem}
@@ -18,7 +16,7 @@ use Rattle.amr_checkpoint.specs.declared.faults.KeepFault.{KeepFault}
 use Rattle.amr_checkpoint.specs.declared.faults.KeepFault.TheVariants as fault
 use Rattle.amr_checkpoint.specs.Checkpoints.{StaysTold}
 use Rattle.amr_checkpoint.specs.Contents.{Content, Empty, Fresh, Holds}
-use Rattle.amr_checkpoint.specs.Kept.{AreFirstOf, EndsAt, Keeps, KeepsRun, SaysBy, SaysOfRun, StandsAt, StandsBy, contents_at, lines_of, marked}
+use Rattle.amr_checkpoint.specs.Kept.{AreFirstOf, EndsAt, FailsBy, Keeps, KeepsRun, SameUntil, SaysBy, SaysOfRun, StandsAt, StandsBy, contents_at, lines_of, marked}
 use Rattle.amr_checkpoint.specs.Laws.{IsInSequence}
 use Rattle.amr_checkpoint.specs.Marks.{acknowledgements, checkpoint_line, marks, to_make}
 use Rattle.amr_checkpoint.specs.Refusals.{GoesOn}
@@ -53,12 +51,35 @@ said_stands (Some fault.NoMemory) said lines before now says = subst (λ (t : Li
 said_stands (Some fault.WriteFault) said lines before now says = record { rest = says.0.rest; split = says.0.split }
 
 module _ {D E : Type 0} (seen : D → Option (List ℕ)) (moment : D → ℕ) (leaves : D → ℕ → List ℕ → Type 0) (disk_faults : D → ℕ) (holds : E → List ℕ → Type 0) (err_faults : E → ℕ) (bytes : List ℕ) (p : Problem) (every target : ℕ) where
-  ends_leave : (ended : Option KeepFault) (d : D) (found : Time) (all : List Content) (times : List Time) → EndsAt seen moment leaves ended d found all times → (attempt : Option Content) × StopsLeave (leaves d) found (moment d) all times attempt
-  ends_leave None d found all times ends = (None, ends.leave)
-  ends_leave (Some reason) d found all times ends = ends
+  ends_leave : (old : D) (ended : Option KeepFault) (d : D) (found : Time) (all : List Content) (times : List Time) → EndsAt seen moment leaves old ended d found all times
+      → (attempt : Option Content) × StopsLeave (leaves d) found (moment d) all times attempt × SameUntil found.moment (leaves old) (leaves d)
+  ends_leave old None d found all times ends = (None, ends.leave, ends.past)
+  ends_leave old (Some reason) d found all times ends = ends
+
+  -- before any call
+  same_now : (d : D) → SameUntil (moment d) (leaves d) (leaves d)
+  same_now d = record { still = λ t image le left. left; kept = λ t image le left. left }
+
+  -- after calls
+  same_after : {P : List ℕ → Type 0} (d later_d : D) → StopsIn moment leaves d later_d P → SameUntil (moment d) (leaves d) (leaves later_d)
+  same_after d later_d run = record { still = run.still; kept = run.kept }
 
   acknowledged : (said : List ℕ) (stood : List State) (times : List Time) → IsPrefix said (lines_of stood) → contents_of times ≡ contents_at bytes p stood → IsPrefix said (acknowledgements (contents_of times))
   acknowledged said stood times is made = subst (IsPrefix said) (sym (ap acknowledgements made ∙ acks_of bytes p stood)) is
+
+  -- how calls end from a store that is there
+  run_ends : (d later_d : D) (e later_e : E) (found : Content) (states : List State) (ended : Option KeepFault) → (h : Keeps seen moment leaves disk_faults holds err_faults bytes p every target d later_d e later_e states ended)
+      → contents_at bytes p (marked every target states) ≡ to_make bytes p every found target → GoesOn bytes target found → IsInSequence found
+      → (image : List ℕ) → seen d ≡ Some image → Holds image found → Only (seen d) (leaves d (moment d))
+      → (times : List Time) × (contents_of times ≡ contents_at bytes p h.stood) × (attempt : Option Content)
+      × StopsLeave (leaves later_d) (record { moment = moment d; content = found }) (moment later_d) (to_make bytes p every found target) times attempt × SameUntil (moment d) (leaves d) (leaves later_d)
+  run_ends d later_d e later_e found states ended h made on order image told held settled =
+      let all : List Content = to_make bytes p every found target in
+      let first : Time = record { moment = moment d; content = found } in
+      let at : StandsAt seen moment leaves d d first all [] = record { image = image; told = told; held = held; leave = leave_begun moment leaves d (seen d) image found all told settled held; past = same_now d } in
+      let end = h.stops d first all [] [] at (append-nil (contents_at bytes p (marked every target states)) ∙ made) (checkpoints_rise bytes p every target found on order) in
+      let ends = ends_leave d ended later_d first all end.0 end.2 in
+      (end.0, end.1, ends.0, ends.1, ends.2)
 
   -- from a store that is there
   pub run_kept : (d later_d : D) (e later_e : E) (found : Content) (states : List State) (ended : Option KeepFault) → Keeps seen moment leaves disk_faults holds err_faults bytes p every target d later_d e later_e states ended
@@ -70,68 +91,79 @@ module _ {D E : Type 0} (seen : D → Option (List ℕ)) (moment : D → ℕ) (l
     says = run_says ended (marked every target states) h.stood h.said (flat_map checkpoint_line (marks every found target)) (err_faults e) (err_faults later_e) h.stands h.says
         (sym (acks_of bytes p (marked every target states)) ∙ ap acknowledgements made ∙ acknowledges_marks bytes p every target found on);
     later = h.later;
-    cause = h.cause;
+    fails = h.fails;
     stops = λ image told held settled.
-        let all : List Content = to_make bytes p every found target in
-        let first : Time = record { moment = moment d; content = found } in
-        let at : StandsAt seen moment leaves d first all [] = record { image = image; told = told; held = held; leave = leave_begun moment leaves d (seen d) image found all told settled held } in
-        let end = h.stops first all [] [] at (append-nil (contents_at bytes p (marked every target states)) ∙ made) (checkpoints_rise bytes p every target found on order) in
-        let leave = ends_leave ended later_d first all end.0 end.2 in
+        let end = run_ends d later_d e later_e found states ended h made on order image told held settled in
         record {
           times = end.0;
-          attempt = leave.0;
-          leave = leave.1;
+          attempt = end.2;
+          leave = end.3;
           acknowledged = acknowledged h.said h.stood end.0 (said_stands ended h.said (lines_of h.stood) (err_faults e) (err_faults later_e) h.says) end.1;
         };
+    past = λ image told held settled. (run_ends d later_d e later_e found states ended h made on order image told held settled).4;
   }
+
+  -- and from one that was made
+  run_ends_new : (d made_d later_d : D) (e later_e : E) (states : List State) (ended : Option KeepFault) → (h : Keeps seen moment leaves disk_faults holds err_faults bytes p every target made_d later_d e later_e states ended)
+      → Fresh bytes p ∷ contents_at bytes p (marked every target states) ≡ to_make bytes p every Empty target → StaysTold (seen d) (seen made_d) → Only (seen made_d) (leaves made_d (moment made_d))
+      → ((t : List ℕ) → seen made_d ≡ Some t → Holds t (Fresh bytes p)) → ((s : List ℕ) → seen d ≡ Some s → StopsIn moment leaves d made_d (λ c. Holds c Empty ⊎ Holds c (Fresh bytes p)))
+      → (image : List ℕ) → seen d ≡ Some image → Holds image Empty → Only (seen d) (leaves d (moment d))
+      → (times : List Time) × (contents_of times ≡ contents_at bytes p h.stood) × (attempt : Option Content)
+      × StopsLeave (leaves later_d) (record { moment = moment d; content = Empty }) (moment later_d) (to_make bytes p every Empty target) (record { moment = moment made_d; content = Fresh bytes p } ∷ times) attempt
+      × SameUntil (moment d) (leaves d) (leaves later_d)
+  run_ends_new d made_d later_d e later_e states ended h made told_on settled_on holds_fresh stops image told held settled =
+      let all : List Content = to_make bytes p every Empty target in
+      let rest : List Content = contents_at bytes p (marked every target states) in
+      let first : Time = record { moment = moment d; content = Empty } in
+      let fresh : Time = record { moment = moment made_d; content = Fresh bytes p } in
+      let now = told_on image told in
+      let held_now = holds_fresh now.0 now.1 in
+      let at : StandsAt seen moment leaves d made_d first all (fresh ∷ []) = record {
+        image = now.0;
+        told = now.1;
+        held = held_now;
+        leave = leave_done moment leaves d made_d first all [] (Fresh bytes p) rest (leave_begun moment leaves d (seen d) image Empty all told settled held) made (stops image told) (omega arith)
+            (λ c left. subst (λ (i : List ℕ). Holds i (Fresh bytes p)) (sym (only_at moment leaves made_d (seen made_d) now.0 now.1 settled_on c left)) held_now);
+        past = same_after d made_d (stops image told);
+      } in
+      let end = h.stops d first all [] (fresh ∷ []) at (ap (λ (t : List Content). Fresh bytes p ∷ t) (append-nil rest) ∙ made) (checkpoints_rise bytes p every target Empty tt tt) in
+      let ends = ends_leave d ended later_d first all (fresh ∷ end.0) end.2 in
+      (end.0, end.1, ends.0, ends.1, ends.2)
 
   -- from one that was made
   pub run_kept_new : (d made_d later_d : D) (e later_e : E) (states : List State) (ended : Option KeepFault) → Keeps seen moment leaves disk_faults holds err_faults bytes p every target made_d later_d e later_e states ended
-      → Fresh bytes p ∷ contents_at bytes p (marked every target states) ≡ to_make bytes p every Empty target → disk_faults d ≤ disk_faults made_d → StaysTold (seen d) (seen made_d) → Only (seen made_d) (leaves made_d (moment made_d))
+      → Fresh bytes p ∷ contents_at bytes p (marked every target states) ≡ to_make bytes p every Empty target → disk_faults made_d ≡ disk_faults d → StaysTold (seen d) (seen made_d) → Only (seen made_d) (leaves made_d (moment made_d))
       → ((t : List ℕ) → seen made_d ≡ Some t → Holds t (Fresh bytes p)) → ((s : List ℕ) → seen d ≡ Some s → StopsIn moment leaves d made_d (λ c. Holds c Empty ⊎ Holds c (Fresh bytes p)))
       → KeepsRun seen moment leaves disk_faults holds err_faults bytes p every target Empty d later_d e later_e ended
-  run_kept_new d made_d later_d e later_e states ended h made before told_on settled_on holds_fresh stops = record {
+  run_kept_new d made_d later_d e later_e states ended h made same told_on settled_on holds_fresh stops = record {
     said = h.said;
     grows = h.grows;
     says = run_says ended (marked every target states) h.stood h.said (flat_map checkpoint_line (marks every Empty target)) (err_faults e) (err_faults later_e) h.stands h.says
         (sym (acks_of bytes p (marked every target states)) ∙ ap acknowledgements made ∙ acknowledges_marks bytes p every target Empty tt);
-    later = omega (arith, before, h.later);
-    cause = λ is. rose_after (disk_faults d) (disk_faults made_d) (disk_faults later_d) before (h.cause is);
+    later = omega (arith, same, h.later);
+    fails = subst (λ n. FailsBy ended n (disk_faults later_d)) same h.fails;
     stops = λ image told held settled.
-        let all : List Content = to_make bytes p every Empty target in
-        let rest : List Content = contents_at bytes p (marked every target states) in
-        let first : Time = record { moment = moment d; content = Empty } in
-        let fresh : Time = record { moment = moment made_d; content = Fresh bytes p } in
-        let now = told_on image told in
-        let held_now = holds_fresh now.0 now.1 in
-        let at : StandsAt seen moment leaves made_d first all (fresh ∷ []) = record {
-          image = now.0;
-          told = now.1;
-          held = held_now;
-          leave = leave_done moment leaves d made_d first all [] (Fresh bytes p) rest (leave_begun moment leaves d (seen d) image Empty all told settled held) made (stops image told) (omega arith)
-              (λ c left. subst (λ (i : List ℕ). Holds i (Fresh bytes p)) (sym (only_at moment leaves made_d (seen made_d) now.0 now.1 settled_on c left)) held_now);
-        } in
-        let end = h.stops first all [] (fresh ∷ []) at (ap (λ (t : List Content). Fresh bytes p ∷ t) (append-nil rest) ∙ made) (checkpoints_rise bytes p every target Empty tt tt) in
-        let leave = ends_leave ended later_d first all (fresh ∷ end.0) end.2 in
+        let end = run_ends_new d made_d later_d e later_e states ended h made told_on settled_on holds_fresh stops image told held settled in
         record {
-          times = fresh ∷ end.0;
-          attempt = leave.0;
-          leave = leave.1;
+          times = record { moment = moment made_d; content = Fresh bytes p } ∷ end.0;
+          attempt = end.2;
+          leave = end.3;
           acknowledged = acknowledged h.said h.stood end.0 (said_stands ended h.said (lines_of h.stood) (err_faults e) (err_faults later_e) h.says) end.1;
         };
+    past = λ image told held settled. (run_ends_new d made_d later_d e later_e states ended h made told_on settled_on holds_fresh stops image told held settled).4;
   }
 
   -- where it was not made
   pub run_unmade : (d later_d : D) (e : E) (rest : List Content) (reason : KeepFault) → Fresh bytes p ∷ rest ≡ to_make bytes p every Empty target → SaysOfRun (Some reason) [] (flat_map checkpoint_line (marks every Empty target)) (err_faults e) (err_faults e)
-      → disk_faults d ≤ disk_faults later_d → (reason ≡ fault.DiskFault → Rose (disk_faults d) (disk_faults later_d))
+      → disk_faults d ≤ disk_faults later_d → FailsBy (Some reason) (disk_faults d) (disk_faults later_d)
       → ((s : List ℕ) → seen d ≡ Some s → StopsIn moment leaves d later_d (λ c. Holds c Empty ⊎ Holds c (Fresh bytes p)))
       → KeepsRun seen moment leaves disk_faults holds err_faults bytes p every target Empty d later_d e e (Some reason)
-  run_unmade d later_d e rest reason made says later cause stops = record {
+  run_unmade d later_d e rest reason made says later fails stops = record {
     said = [];
     grows = grows_none holds e;
     says = says;
     later = later;
-    cause = λ is. cause (cc);
+    fails = fails;
     stops = λ image told held settled.
         let all : List Content = to_make bytes p every Empty target in
         let first : Time = record { moment = moment d; content = Empty } in
@@ -141,4 +173,5 @@ module _ {D E : Type 0} (seen : D → Option (List ℕ)) (moment : D → ℕ) (l
           leave = leave_tried moment leaves d later_d first all [] (Fresh bytes p) rest (leave_begun moment leaves d (seen d) image Empty all told settled held) made (stops image told);
           acknowledged = prefix_none (acknowledgements (contents_of []));
         };
+    past = λ image told held settled. same_after d later_d (stops image told);
   }

@@ -6,7 +6,6 @@ use Rattle.std.specs.Prelude.{◌⊎◌}
 use Rattle.amr_causes.specs.Bytes.{Grows}
 use Rattle.amr_causes.specs.Causes.{Rose}
 use Rattle.amr_causes.proofs.ByteLaws.{grows_more, grows_none}
-use Rattle.amr_causes.proofs.CauseLaws.{rose_after}
 use Rattle.amr_io.specs.Short.{FallsShort, IsProperPrefix}
 use Rattle.amr_io.proofs.Shorter.{proper_after}
 use Rattle.amr_def.specs.declared.problem.Problem.{Problem}
@@ -18,11 +17,11 @@ use Rattle.amr_checkpoint.specs.declared.faults.KeepFault.{KeepFault}
 use Rattle.amr_checkpoint.specs.declared.faults.KeepFault.TheVariants as fault
 use Rattle.amr_checkpoint.specs.Checkpoints.{StaysTold}
 use Rattle.amr_checkpoint.specs.Contents.{Content, At, Holds}
-use Rattle.amr_checkpoint.specs.Kept.{EndsAt, Keeps, SaysBy, StandsAt, StandsBy, contents_at, lines_of, marked}
+use Rattle.amr_checkpoint.specs.Kept.{EndsAt, FailsBy, Keeps, SameUntil, SaysBy, StandsAt, StandsBy, contents_at, lines_of, marked}
 use Rattle.amr_checkpoint.specs.Laws.{AreRising}
 use Rattle.amr_checkpoint.specs.Marks.{checkpoint_line, is_mark}
 use Rattle.amr_checkpoint.specs.Times.{StopsLeave, Time, contents_of, last_of}
-use Rattle.amr_checkpoint.proofs.Stopping.{leave_done, leave_tried, rises_at}
+use Rattle.amr_checkpoint.proofs.Stopping.{along_now, leave_done, leave_tried, rises_at}
 
 -- ---- lists
 
@@ -71,8 +70,8 @@ module _ {D E : Type 0} (seen : D → Option (List ℕ)) (moment : D → ℕ) (l
     grows = grows_none holds e;
     says = (refl, refl);
     later = omega arith;
-    cause = λ is. absurd (cc);
-    stops = λ found all rest times at split rising. ([], refl, subst (λ (ts : List Time). StandsAt seen moment leaves d found all ts) (sym (append-nil times)) at);
+    fails = refl;
+    stops = λ old found all rest times at split rising. ([], refl, subst (λ (ts : List Time). StandsAt seen moment leaves old d found all ts) (sym (append-nil times)) at);
   }
 
   -- a mark is the next to be made
@@ -80,36 +79,47 @@ module _ {D E : Type 0} (seen : D → Option (List ℕ)) (moment : D → ℕ) (l
       → contents_of times ++ At bytes p s (s.step + 1) ∷ rest ≡ all
   next_made s all rest times mark split = ap (λ (b : Bool). contents_of times ++ (contents_at bytes p (cond b (s ∷ []) []) ++ rest)) (sym mark) ∙ split
 
+  -- calls after that of what was found change nothing before
+  past_on : {P : List ℕ → Type 0} (old : D) (d later_d : D) (found : Time) (all : List Content) (times : List Time) → StandsAt seen moment leaves old d found all times → StopsIn moment leaves d later_d P
+      → SameUntil found.moment (leaves old) (leaves later_d)
+  past_on old d later_d found all times at run =
+      let before : found.moment ≤ moment d = along_now (leaves d) found times (moment d) None at.leave.along in
+      record {
+        still = λ t image le left. run.still t image (omega (arith, le, before)) (at.past.still t image le left);
+        kept = λ t image le left. at.past.kept t image le (run.kept t image (omega (arith, le, before)) left);
+      }
+
   -- a put that was refused
   pub keeps_refused : (d later_d : D) (e : E) (s : State) (reason : KeepFault) → is_mark every target s.step ≡ true → SaysBy (Some reason) [] [] (err_faults e) (err_faults e) → disk_faults d ≤ disk_faults later_d
-      → (reason ≡ fault.DiskFault → Rose (disk_faults d) (disk_faults later_d))
+      → FailsBy (Some reason) (disk_faults d) (disk_faults later_d)
       → ((image : List ℕ) (content : Content) → seen d ≡ Some image → Holds image content → StopsIn moment leaves d later_d (λ c. Holds c content ⊎ Holds c (At bytes p s (s.step + 1))))
       → Keeps seen moment leaves disk_faults holds err_faults bytes p every target d later_d e e (s ∷ []) (Some reason)
-  keeps_refused d later_d e s reason mark says later cause stops = record {
+  keeps_refused d later_d e s reason mark says later fails stops = record {
     stood = [];
     said = [];
     stands = record { rest = marked every target (s ∷ []); split = refl };
     grows = grows_none holds e;
     says = says;
     later = later;
-    cause = λ is. cause (cc);
-    stops = λ found all rest times at split rising. (
+    fails = fails;
+    stops = λ old found all rest times at split rising. (
       [],
       refl,
       (
         Some (At bytes p s (s.step + 1)),
         subst (λ (ts : List Time). StopsLeave (leaves later_d) found (moment later_d) all ts (Some (At bytes p s (s.step + 1)))) (sym (append-nil times))
             (leave_tried moment leaves d later_d found all times (At bytes p s (s.step + 1)) rest at.leave (next_made s all rest times mark split) (stops at.image (last_of found times) at.told at.held)),
+        past_on old d later_d found all times at (stops at.image (last_of found times) at.told at.held),
       ),
     );
   }
 
   -- a put that is done adds its time
-  stands_put : (d later_d : D) (s : State) (found : Time) (all rest : List Content) (times : List Time) → StandsAt seen moment leaves d found all times → contents_of times ++ At bytes p s (s.step + 1) ∷ rest ≡ all
+  stands_put : (old : D) (d later_d : D) (s : State) (found : Time) (all rest : List Content) (times : List Time) → StandsAt seen moment leaves old d found all times → contents_of times ++ At bytes p s (s.step + 1) ∷ rest ≡ all
       → AreRising found.content all → StaysTold (seen d) (seen later_d) → Only (seen later_d) (leaves later_d (moment later_d)) → ((t : List ℕ) → seen later_d ≡ Some t → Holds t (At bytes p s (s.step + 1)))
       → ((image : List ℕ) (content : Content) → seen d ≡ Some image → Holds image content → StopsIn moment leaves d later_d (λ c. Holds c content ⊎ Holds c (At bytes p s (s.step + 1))))
-      → StandsAt seen moment leaves later_d found all (times ++ record { moment = moment later_d; content = At bytes p s (s.step + 1) } ∷ [])
-  stands_put d later_d s found all rest times at split rising told settled held stops =
+      → StandsAt seen moment leaves old later_d found all (times ++ record { moment = moment later_d; content = At bytes p s (s.step + 1) } ∷ [])
+  stands_put old d later_d s found all rest times at split rising told settled held stops =
       let content : Content = At bytes p s (s.step + 1) in
       let now = told at.image at.told in
       record {
@@ -119,46 +129,48 @@ module _ {D E : Type 0} (seen : D → Option (List ℕ)) (moment : D → ℕ) (l
         leave = leave_done moment leaves d later_d found all times content rest at.leave split (stops at.image (last_of found times) at.told at.held)
             (rises_at found times content rest (subst (AreRising found.content) (sym split) rising))
             (λ image left. subst (λ (c : List ℕ). Holds c content) (sym (only_at moment leaves later_d (seen later_d) now.0 now.1 settled image left)) (held now.0 now.1));
+        past = past_on old d later_d found all times at (stops at.image (last_of found times) at.told at.held);
       }
 
   -- a checkpoint that stands and was acknowledged
-  pub keeps_stood : (d later_d : D) (e later_e : E) (s : State) → is_mark every target s.step ≡ true → Grows holds e later_e (checkpoint_line s.step) → err_faults later_e ≡ err_faults e → disk_faults d ≤ disk_faults later_d
+  pub keeps_stood : (d later_d : D) (e later_e : E) (s : State) → is_mark every target s.step ≡ true → Grows holds e later_e (checkpoint_line s.step) → err_faults later_e ≡ err_faults e → disk_faults later_d ≡ disk_faults d
       → StaysTold (seen d) (seen later_d) → Only (seen later_d) (leaves later_d (moment later_d)) → ((t : List ℕ) → seen later_d ≡ Some t → Holds t (At bytes p s (s.step + 1)))
       → ((image : List ℕ) (content : Content) → seen d ≡ Some image → Holds image content → StopsIn moment leaves d later_d (λ c. Holds c content ⊎ Holds c (At bytes p s (s.step + 1))))
       → Keeps seen moment leaves disk_faults holds err_faults bytes p every target d later_d e later_e (s ∷ []) None
-  keeps_stood d later_d e later_e s mark grows no_fault later told settled held stops = record {
+  keeps_stood d later_d e later_e s mark grows no_fault same told settled held stops = record {
     stood = s ∷ [];
     said = checkpoint_line s.step;
     stands = ap (λ (b : Bool). cond b (s ∷ []) []) (sym mark);
     grows = grows;
     says = (sym (append-nil (checkpoint_line s.step)), no_fault);
-    later = later;
-    cause = λ is. absurd (cc);
-    stops = λ found all rest times at split rising. (
+    later = omega (arith, same);
+    fails = same;
+    stops = λ old found all rest times at split rising. (
       record { moment = moment later_d; content = At bytes p s (s.step + 1) } ∷ [],
       refl,
-      stands_put d later_d s found all rest times at (next_made s all rest times mark split) rising told settled held stops,
+      stands_put old d later_d s found all rest times at (next_made s all rest times mark split) rising told settled held stops,
     );
   }
 
   -- one that stands, whose line did not go out whole
-  pub keeps_unsaid : (d later_d : D) (e later_e : E) (s : State) → is_mark every target s.step ≡ true → FallsShort holds e later_e (checkpoint_line s.step) → Rose (err_faults e) (err_faults later_e) → disk_faults d ≤ disk_faults later_d
+  pub keeps_unsaid : (d later_d : D) (e later_e : E) (s : State) → is_mark every target s.step ≡ true → FallsShort holds e later_e (checkpoint_line s.step) → Rose (err_faults e) (err_faults later_e) → disk_faults later_d ≡ disk_faults d
       → StaysTold (seen d) (seen later_d) → Only (seen later_d) (leaves later_d (moment later_d)) → ((t : List ℕ) → seen later_d ≡ Some t → Holds t (At bytes p s (s.step + 1)))
       → ((image : List ℕ) (content : Content) → seen d ≡ Some image → Holds image content → StopsIn moment leaves d later_d (λ c. Holds c content ⊎ Holds c (At bytes p s (s.step + 1))))
       → Keeps seen moment leaves disk_faults holds err_faults bytes p every target d later_d e later_e (s ∷ []) (Some fault.WriteFault)
-  keeps_unsaid d later_d e later_e s mark short rose later told settled held stops = record {
+  keeps_unsaid d later_d e later_e s mark short rose same told settled held stops = record {
     stood = s ∷ [];
     said = short.0;
     stands = record { rest = []; split = ap (λ (b : Bool). cond b (s ∷ []) []) (sym mark) };
     grows = short.2;
     says = (subst (IsProperPrefix short.0) (sym (append-nil (checkpoint_line s.step))) short.1, rose);
-    later = later;
-    cause = λ is. absurd (cc);
-    stops = λ found all rest times at split rising. (
-      record { moment = moment later_d; content = At bytes p s (s.step + 1) } ∷ [],
-      refl,
-      (None, (stands_put d later_d s found all rest times at (next_made s all rest times mark split) rising told settled held stops).leave),
-    );
+    later = omega (arith, same);
+    fails = same;
+    stops = λ old found all rest times at split rising.
+        let stands = stands_put old d later_d s found all rest times at (next_made s all rest times mark split) rising told settled held stops in (
+          record { moment = moment later_d; content = At bytes p s (s.step + 1) } ∷ [],
+          refl,
+          (None, stands.leave, stands.past),
+        );
   }
 
   -- ---- several
@@ -191,16 +203,16 @@ module _ {D E : Type 0} (seen : D → Option (List ℕ)) (moment : D → ℕ) (l
     says = subst (λ (t : List ℕ). SaysBy ended (h.said ++ k.said) t (err_faults e0) (err_faults e2)) (sym (lines_on h.stood k.stood))
         (says_on ended h.said k.said (lines_of h.stood) (lines_of k.stood) (err_faults e0) (err_faults e1) (err_faults e2) h.says.0 h.says.1 k.says);
     later = omega (arith, h.later, k.later);
-    cause = λ is. rose_after (disk_faults d0) (disk_faults d1) (disk_faults d2) h.later (k.cause is);
-    stops = λ found all rest times at split rising.
-        let first = h.stops found all (contents_at bytes p (marked every target ys) ++ rest) times at (split_on xs ys all rest times split) rising in
-        let next = k.stops found all rest (times ++ first.0) first.2 (split_made xs h.stood all (contents_at bytes p (marked every target ys) ++ rest) times first.0 h.stands first.1 (split_on xs ys all rest times split)) rising in (
+    fails = subst (λ n. FailsBy ended n (disk_faults d2)) h.fails k.fails;
+    stops = λ old found all rest times at split rising.
+        let first = h.stops old found all (contents_at bytes p (marked every target ys) ++ rest) times at (split_on xs ys all rest times split) rising in
+        let next = k.stops old found all rest (times ++ first.0) first.2 (split_made xs h.stood all (contents_at bytes p (marked every target ys) ++ rest) times first.0 h.stands first.1 (split_on xs ys all rest times split)) rising in (
           first.0 ++ next.0,
           times_on first.0 next.0
               ∙ ap (λ (t : List Content). t ++ contents_of next.0) first.1
               ∙ ap (λ (t : List Content). contents_at bytes p h.stood ++ t) next.1
               ∙ sym (contents_on bytes p h.stood k.stood),
-          subst (λ (ts : List Time). EndsAt seen moment leaves ended d2 found all ts) (append_assoc times first.0 next.0) next.2,
+          subst (λ (ts : List Time). EndsAt seen moment leaves old ended d2 found all ts) (append_assoc times first.0 next.0) next.2,
         );
   }
 
@@ -214,8 +226,8 @@ module _ {D E : Type 0} (seen : D → Option (List ℕ)) (moment : D → ℕ) (l
     grows = h.grows;
     says = h.says;
     later = h.later;
-    cause = λ is. absurd (cc);
-    stops = λ found all rest times at split rising. let first = h.stops found all rest times at split rising in (first.0, first.1, (None, first.2.leave));
+    fails = h.fails;
+    stops = λ old found all rest times at split rising. let first = h.stops old found all rest times at split rising in (first.0, first.1, (None, first.2.leave, first.2.past));
   }
 
   -- and more of them were to be made
@@ -231,8 +243,8 @@ module _ {D E : Type 0} (seen : D → Option (List ℕ)) (moment : D → ℕ) (l
     grows = h.grows;
     says = h.says;
     later = h.later;
-    cause = h.cause;
-    stops = λ found all rest times at split rising. h.stops found all (contents_at bytes p (marked every target ys) ++ rest) times at (split_on xs ys all rest times split) rising;
+    fails = h.fails;
+    stops = λ old found all rest times at split rising. h.stops old found all (contents_at bytes p (marked every target ys) ++ rest) times at (split_on xs ys all rest times split) rising;
   }
 
   -- memory ran out before
@@ -244,8 +256,8 @@ module _ {D E : Type 0} (seen : D → Option (List ℕ)) (moment : D → ℕ) (l
     grows = grows_none holds e;
     says = (refl, refl);
     later = omega arith;
-    cause = λ is. absurd (cc);
-    stops = λ found all rest times at split rising. ([], refl, (None, subst (λ (ts : List Time). StopsLeave (leaves d) found (moment d) all ts None) (sym (append-nil times)) at.leave));
+    fails = refl;
+    stops = λ old found all rest times at split rising. ([], refl, (None, subst (λ (ts : List Time). StopsLeave (leaves d) found (moment d) all ts None) (sym (append-nil times)) at.leave, at.past));
   }
 
   -- no state
@@ -257,6 +269,6 @@ module _ {D E : Type 0} (seen : D → Option (List ℕ)) (moment : D → ℕ) (l
     grows = grows_none holds e;
     says = (refl, refl);
     later = omega arith;
-    cause = λ is. absurd (cc);
-    stops = λ found all rest times at split rising. ([], refl, subst (λ (ts : List Time). StandsAt seen moment leaves d found all ts) (sym (append-nil times)) at);
+    fails = refl;
+    stops = λ old found all rest times at split rising. ([], refl, subst (λ (ts : List Time). StandsAt seen moment leaves old d found all ts) (sym (append-nil times)) at);
   }

@@ -131,6 +131,11 @@ disk_fault_of T call.DiskFault is unshut = refl
 disk_fault_of T call.Shut is unshut = let clash : true ≡ false = unshut in cc
 disk_fault_of T call.NoMemory is unshut = let clash : NoMemory ≡ DiskFault = is in cc
 
+pub other_fault_of : (T : Type 0) (fault : StoreFault) → (fault_of_call fault ≡ DiskFault → ⊥) → is_disk_fault {T = T} (Err fault) ≡ false
+other_fault_of T call.DiskFault other = absurd (other refl)
+other_fault_of T call.Shut other = refl
+other_fault_of T call.NoMemory other = refl
+
 -- ---- a disk
 
 -- a call that does not reach the disk

@@ -48,17 +48,31 @@ SaysBy (Some fault.DiskFault) said lines before now = (said ≡ lines) × (now �
 SaysBy (Some fault.NoMemory) said lines before now = (said ≡ lines) × (now ≡ before)
 SaysBy (Some fault.WriteFault) said lines before now = IsProperPrefix said lines × Rose before now
 
--- a disk that reads as what was found or made last; until now a stop left what the times say
-pub record StandsAt {D : Type 0} (seen : D → Option (List ℕ)) (moment : D → ℕ) (leaves : D → ℕ → List ℕ → Type 0) (disk : D) (found : Time) (all : List Content) (times : List Time) : Type 0 where
+-- the disk failed exactly where calls ended by its fault; `before` and `now` count its faults
+abbrev pub FailsBy : Option KeepFault → ℕ → ℕ → Type 0
+FailsBy None before now = now ≡ before
+FailsBy (Some fault.DiskFault) before now = Rose before now
+FailsBy (Some fault.NoMemory) before now = now ≡ before
+FailsBy (Some fault.WriteFault) before now = now ≡ before
+
+-- up to a moment a stop leaves the same images
+pub record SameUntil (until : ℕ) (was leaves : ℕ → List ℕ → Type 0) : Type 0 where
+  pub still : (t : ℕ) (image : List ℕ) → t ≤ until → was t image → leaves t image
+  pub kept : (t : ℕ) (image : List ℕ) → t ≤ until → leaves t image → was t image
+
+-- A disk that reads as what was found or made last. Until now a stop left what the times say; up to the first it left what it left of the disk
+-- that was found.
+pub record StandsAt {D : Type 0} (seen : D → Option (List ℕ)) (moment : D → ℕ) (leaves : D → ℕ → List ℕ → Type 0) (found_disk disk : D) (found : Time) (all : List Content) (times : List Time) : Type 0 where
   pub image : List ℕ
   pub told : seen disk ≡ Some image
   pub held : Holds image (last_of found times)
   pub leave : StopsLeave (leaves disk) found (moment disk) all times None
+  pub past : SameUntil found.moment (leaves found_disk) (leaves disk)
 
 -- or, where calls ended by a fault, with what one of them was about to make
-abbrev pub EndsAt : {D : Type 0} → (D → Option (List ℕ)) → (D → ℕ) → (D → ℕ → List ℕ → Type 0) → Option KeepFault → D → Time → List Content → List Time → Type 0
-EndsAt seen moment leaves None disk found all times = StandsAt seen moment leaves disk found all times
-EndsAt seen moment leaves (Some reason) disk found all times = (attempt : Option Content) × StopsLeave (leaves disk) found (moment disk) all times attempt
+abbrev pub EndsAt : {D : Type 0} → (D → Option (List ℕ)) → (D → ℕ) → (D → ℕ → List ℕ → Type 0) → D → Option KeepFault → D → Time → List Content → List Time → Type 0
+EndsAt seen moment leaves found_disk None disk found all times = StandsAt seen moment leaves found_disk disk found all times
+EndsAt seen moment leaves found_disk (Some reason) disk found all times = (attempt : Option Content) × StopsLeave (leaves disk) found (moment disk) all times attempt × SameUntil found.moment (leaves found_disk) (leaves disk)
 
 -- Calls that keep some states in their order, from one disk and one stream of errors to another. Of those whose steps are marks all stand
 -- at the end, or the first ones, and are acknowledged. Each that stands adds one time to those of before.
@@ -70,10 +84,10 @@ pub record Keeps {D E : Type 0} (seen : D → Option (List ℕ)) (moment : D →
   pub grows : Grows holds err later_err said
   pub says : SaysBy ended said (lines_of stood) (err_faults err) (err_faults later_err)
   pub later : disk_faults disk ≤ disk_faults later_disk
-  pub cause : ended ≡ Some fault.DiskFault → Rose (disk_faults disk) (disk_faults later_disk)
-  pub stops : (found : Time) (all rest : List Content) (times : List Time) → StandsAt seen moment leaves disk found all times
+  pub fails : FailsBy ended (disk_faults disk) (disk_faults later_disk)
+  pub stops : (found_disk : D) (found : Time) (all rest : List Content) (times : List Time) → StandsAt seen moment leaves found_disk disk found all times
       → contents_of times ++ (contents_at bytes p (marked every target states) ++ rest) ≡ all → AreRising found.content all
-      → (more : List Time) × (contents_of more ≡ contents_at bytes p stood) × EndsAt seen moment leaves ended later_disk found all (times ++ more)
+      → (more : List Time) × (contents_of more ≡ contents_at bytes p stood) × EndsAt seen moment leaves found_disk ended later_disk found all (times ++ more)
 
 -- ---- a whole run
 
@@ -98,6 +112,7 @@ pub record KeepsRun {D E : Type 0} (seen : D → Option (List ℕ)) (moment : D 
   pub grows : Grows holds err later_err said
   pub says : SaysOfRun ended said (flat_map checkpoint_line (marks every found target)) (err_faults err) (err_faults later_err)
   pub later : disk_faults disk ≤ disk_faults later_disk
-  pub cause : ended ≡ Some fault.DiskFault → Rose (disk_faults disk) (disk_faults later_disk)
+  pub fails : FailsBy ended (disk_faults disk) (disk_faults later_disk)
   pub stops : (image : List ℕ) → seen disk ≡ Some image → Holds image found → Only (seen disk) (leaves disk (moment disk))
       → StopsOfRun (leaves later_disk) (record { moment = moment disk; content = found }) (moment later_disk) (to_make bytes p every found target) said
+  pub past : (image : List ℕ) → seen disk ≡ Some image → Holds image found → Only (seen disk) (leaves disk (moment disk)) → SameUntil (moment disk) (leaves disk) (leaves later_disk)

@@ -50,6 +50,7 @@ pub fn make_store<D: Disk>(
     ensures memory { IsErrOf result CheckpointFault.NoMemory → disk.new ≡ disk.old }
     ensures later { D.faults disk.old ≤ D.faults disk.new }
     ensures disk_fault { IsErrOf result CheckpointFault.DiskFault → Rose (D.faults disk.old) (D.faults disk.new) }
+    ensures no_disk_fault { ¬ (IsErrOf result CheckpointFault.DiskFault) → D.faults disk.new ≡ D.faults disk.old }
 {
     let size = room(p);
     match Store::create(alloc, disk, bytes, size, 2) {
@@ -82,6 +83,7 @@ pub fn put_checkpoint<D: Disk>(
     ensures memory { IsErrOf result CheckpointFault.NoMemory → disk.new ≡ disk.old }
     ensures later { D.faults disk.old ≤ D.faults disk.new }
     ensures disk_fault { IsErrOf result CheckpointFault.DiskFault → Rose (D.faults disk.old) (D.faults disk.new) }
+    ensures no_disk_fault { ¬ (IsErrOf result CheckpointFault.DiskFault) → D.faults disk.new ≡ D.faults disk.old }
 {
     let bytes = match encode2(alloc, p, mesh) {
         Ok(bytes) => bytes,

@@ -126,6 +126,7 @@ fn read_latest<D: Disk>(
     ensures reads { OnlyReads D.seen D.moment D.leaves disk.old disk.new }
     ensures later { D.faults disk.old ≤ D.faults disk.new }
     ensures disk_fault { IsErrOf result CheckpointFault.DiskFault → Rose (D.faults disk.old) (D.faults disk.new) }
+    ensures no_disk_fault { ¬ (IsErrOf result CheckpointFault.DiskFault) → D.faults disk.new ≡ D.faults disk.old }
 {
     match store.latest(alloc, disk) {
         Ok(Some(bytes)) => match read_payload(alloc, store, problem, &bytes) {
@@ -152,6 +153,7 @@ fn read_store<D: Disk>(
     ensures reads { OnlyReads D.seen D.moment D.leaves disk.old disk.new }
     ensures later { D.faults disk.old ≤ D.faults disk.new }
     ensures disk_fault { IsErrOf result CheckpointFault.DiskFault → Rose (D.faults disk.old) (D.faults disk.new) }
+    ensures no_disk_fault { ¬ (IsErrOf result CheckpointFault.DiskFault) → D.faults disk.new ≡ D.faults disk.old }
 {
     let problem = match judge(alloc, store.problem()) {
         Ok(problem) => problem,
@@ -174,6 +176,7 @@ pub fn read_checkpoint<D: Disk>(alloc: Global, disk: &mut D) -> Result<Checkpoin
     ensures reads { OnlyReads D.seen D.moment D.leaves disk.old disk.new }
     ensures later { D.faults disk.old ≤ D.faults disk.new }
     ensures disk_fault { IsErrOf result CheckpointFault.DiskFault → Rose (D.faults disk.old) (D.faults disk.new) }
+    ensures no_disk_fault { ¬ (IsErrOf result CheckpointFault.DiskFault) → D.faults disk.new ≡ D.faults disk.old }
 {
     match Store::open(alloc, disk) {
         Ok(Found::Ready(store)) => read_store(alloc, store, disk),

@@ -123,6 +123,7 @@ pub fn resume<D: Disk>(
     ensures reads { OnlyReads D.seen D.moment D.leaves disk.old disk.new }
     ensures later { D.faults disk.old ≤ D.faults disk.new }
     ensures disk_fault { IsErrOf result ResumeFault.DiskFault → Rose (D.faults disk.old) (D.faults disk.new) }
+    ensures no_disk_fault { ¬ (IsErrOf result ResumeFault.DiskFault) → D.faults disk.new ≡ D.faults disk.old }
 {
     match read_checkpoint(alloc, disk) {
         Ok(found) => match go_on(found, bytes, target) {
@@ -142,6 +143,7 @@ pub fn show<D: Disk>(alloc: Global, disk: &mut D) -> Result<Shown, ResumeFault>
     ensures reads { OnlyReads D.seen D.moment D.leaves disk.old disk.new }
     ensures later { D.faults disk.old ≤ D.faults disk.new }
     ensures disk_fault { IsErrOf result ResumeFault.DiskFault → Rose (D.faults disk.old) (D.faults disk.new) }
+    ensures no_disk_fault { ¬ (IsErrOf result ResumeFault.DiskFault) → D.faults disk.new ≡ D.faults disk.old }
 {
     match read_checkpoint(alloc, disk) {
         Ok(found) => match shown_of(found) {

@@ -1,11 +1,11 @@
 -- A log with one call more.
-use Rattle.std.proofs.Common.{◌≡◌, inl, inr, ℕ, ◌+◌, ◌-◌, ◌≤◌, ◌<◌, max, List, [], ◌∷◌, ◌++◌, length, take, drop, replicate, nat_le, Bool, true, false, Some, refl, sym, ◌∙◌, ap, subst, arith, length-append}
+use Rattle.std.proofs.Common.{◌≡◌, inl, inr, ℕ, ◌+◌, ◌-◌, ◌≤◌, ◌<◌, max, List, [], ◌∷◌, ◌++◌, length, take, drop, replicate, nat_le, Bool, true, false, Option, Some, refl, sym, ◌∙◌, ap, subst, arith, length-append}
 use Rattle.std.proofs.lemmas.List.{take-append-le, take_all}
 use Rattle.std.proofs.lemmas.Grind.{common_steps}
 use Rattle.std.proofs.lemmas.Bool.{cases_Bool, leb-true, leb-false}
 use Rattle.std.specs.Prelude.{slice_index}
-use Rattle.amr_disk.specs.Image.{Torn, Same, placed, written_at}
-use Rattle.amr_disk.specs.Moments.{Passes}
+use Rattle.amr_disk.specs.Image.{Torn, Same, Only, placed, written_at}
+use Rattle.amr_disk.specs.Moments.{Passes, Rests, StaysDurable}
 use Rattle.std.specs.Prelude.{if◌then◌else◌}
 use Rattle.amr_disk.specs.Limits.{Limits, has_room, with_write}
 use Rattle.amr_disk.specs.Calls.{Call, Wrote, Synced, seen_after, Leaves, LeavesAt, left_after}
@@ -87,6 +87,21 @@ passes_same now leaves step stays = record {
   after = λ c left. (c, left, stays c);
 }
 
+-- within a moment
+stays_still : (seen : Option (List ℕ)) (now : ℕ) (leaves : ℕ → List ℕ → Type 0) → StaysDurable seen now now leaves
+stays_still seen now leaves = λ k t from order to settled. let is : k ≡ t = omega arith in subst (λ (n : ℕ). Only seen (leaves n)) is settled
+
+-- from one moment to the next, where a stop leaves what a read gives at the end
+stays_next : (seen : Option (List ℕ)) (before now : ℕ) (leaves : ℕ → List ℕ → Type 0) → now ≤ before + 1 → Only seen (leaves now) → StaysDurable seen before now leaves
+stays_next seen before now leaves next durable = λ k t from order to settled. elim (cases_Bool (nat_le now t)) [
+  | inl last ↦ let is : now ≡ t = omega (arith, leb-true now t last) in subst (λ (n : ℕ). Only seen (leaves n)) is durable
+  | inr earlier ↦ let is : k ≡ t = omega (arith, leb-false now t earlier) in subst (λ (n : ℕ). Only seen (leaves n)) is settled
+]
+
+-- a call that changed nothing
+pub rests_same : (seen : Option (List ℕ)) (now : ℕ) (leaves : ℕ → List ℕ → Type 0) → Rests seen now now leaves leaves
+rests_same seen now leaves = record { passes = passes_same now leaves Same (λ c. refl); stays = stays_still seen now leaves }
+
 pub passes_push : (base : List ℕ) (log later : List Call) (e : Call) (step : List ℕ → List ℕ → Type 0) → later ≡ log ++ e ∷ []
     → ((c : List ℕ) → Leaves (λ x. x ≡ base) base (log ++ e ∷ []) c → (d : List ℕ) × Leaves (λ x. x ≡ base) base log d × step d c)
     → Passes (length log) (length later) (LeavesAt base log) (LeavesAt base later) step
@@ -130,14 +145,15 @@ durable base bytes log later c is pushed left =
 synced : (base : List ℕ) (log : List Call) (c : List ℕ) → Leaves (λ x. x ≡ base) base (log ++ Synced ∷ []) c → (d : List ℕ) × Leaves (λ x. x ≡ base) base log d × Same d c
 synced base log c left = (seen_after base log, reads (λ x. x ≡ base) base log refl, leaves_sync (λ x. x ≡ base) base log c left)
 
--- a sync, which the log takes or not
-pub passes_sync : (taken : Bool) (base later_base : List ℕ) (log later : List Call) → later_base ≡ base → later ≡ (if taken then log ++ Synced ∷ [] else log)
-    → Passes (length log) (length later) (LeavesAt base log) (LeavesAt later_base later) Same
-passes_sync true base later_base log later same is =
-    subst (λ (b : List ℕ). Passes (length log) (length later) (LeavesAt base log) (LeavesAt b later) Same) (sym same) (passes_push base log later Synced Same is (synced base log))
-passes_sync false base later_base log later same is =
-    subst (λ (b : List ℕ). Passes (length log) (length later) (LeavesAt base log) (LeavesAt b later) Same) (sym same)
-    (subst (λ (l : List Call). Passes (length log) (length l) (LeavesAt base log) (LeavesAt base l) Same) (sym is) (passes_same (length log) (LeavesAt base log) Same (λ c. refl)))
+-- a sync that the log took
+pub rests_sync : (base later_base bytes : List ℕ) (log later : List Call) → bytes ≡ seen_after base log → later_base ≡ base → later ≡ log ++ Synced ∷ []
+    → Rests (Some bytes) (length log) (length later) (LeavesAt base log) (LeavesAt later_base later)
+rests_sync base later_base bytes log later replayed same is =
+    let size : length later ≡ length log + 1 = ap (λ (l : List Call). length l) is ∙ length-append log (Synced ∷ []) in
+    subst (λ (b : List ℕ). Rests (Some bytes) (length log) (length later) (LeavesAt base log) (LeavesAt b later)) (sym same) (record {
+      passes = passes_push base log later Synced Same is (synced base log);
+      stays = stays_next (Some bytes) (length log) (length later) (LeavesAt base later) (omega (arith, size)) (λ c left. durable base bytes log later c replayed is left);
+    })
 
 passes_taken : (taken : Bool) (base : List ℕ) (log later : List Call) (at : ℕ) (v : List ℕ) → later ≡ (if taken then log ++ Wrote at v ∷ [] else log)
     → Passes (length log) (length later) (LeavesAt base log) (LeavesAt base later) (Torn at (length v))

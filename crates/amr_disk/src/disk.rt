@@ -2,8 +2,8 @@
 ghost use Rattle.std.specs.Prelude.{◌≡◌, ◌≤◌, ◌<◌, ◌+◌, ◌^◌, List, ℕ, Option, Some, length, IfOk, OnOk, option_map};
 ghost use Rattle.std.specs.Io.{ReadsAtMost};
 ghost use Rattle.amr_causes.specs.Causes.{HasCause};
-ghost use Rattle.amr_disk.specs.Image.{written_at, Torn, Same, ReadsAt, Only};
-ghost use Rattle.amr_disk.specs.Moments.{Passes};
+ghost use Rattle.amr_disk.specs.Image.{written_at, Torn, ReadsAt, Only};
+ghost use Rattle.amr_disk.specs.Moments.{Passes, Rests};
 
 /// The disk failed.
 #[derive(Clone, Copy, Debug, PartialEq, Eq, Drop)]
@@ -29,7 +29,7 @@ pub trait Disk {
         ensures bound { ReadsAtMost result into.new }
         ensures bytes { IfOk result (ReadsAt (seen self.old) at into.new) }
         ensures seen { seen self.new ≡ seen self.old }
-        ensures images { Passes (moment self.old) (moment self.new) (leaves self.old) (leaves self.new) Same }
+        ensures images { Rests (seen self.old) (moment self.old) (moment self.new) (leaves self.old) (leaves self.new) }
         ensures cause { HasCause (faults self.old) (faults self.new) result }
         ensures no_fault { OnOk result (faults self.new ≡ faults self.old) };
 
@@ -45,7 +45,7 @@ pub trait Disk {
     fn sync(&mut self) -> Result<(), DiskFault>
         ensures seen { seen self.new ≡ seen self.old }
         ensures durable { OnOk result (Only (seen self.old) (leaves self.new (moment self.new))) }
-        ensures images { Passes (moment self.old) (moment self.new) (leaves self.old) (leaves self.new) Same }
+        ensures images { Rests (seen self.old) (moment self.old) (moment self.new) (leaves self.old) (leaves self.new) }
         ensures cause { HasCause (faults self.old) (faults self.new) result }
         ensures no_fault { OnOk result (faults self.new ≡ faults self.old) };
 

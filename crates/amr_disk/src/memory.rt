@@ -3,11 +3,11 @@ ghost use Rattle.std.specs.Prelude.{◌≡◌, ◌≤◌, ◌<◌, ◌+◌, ◌^
 ghost use Rattle.std.specs.Io.{ReadsAtMost};
 ghost use Rattle.amr_causes.specs.Causes.{HasCause, Rose};
 ghost use Rattle.amr_disk.specs.Calls.{Synced, seen_after, left_after, LeavesAt};
-ghost use Rattle.amr_disk.specs.Image.{placed, written_at, Torn, Same, ReadsAt, Only};
+ghost use Rattle.amr_disk.specs.Image.{placed, written_at, Torn, ReadsAt, Only};
 ghost use Rattle.amr_disk.specs.Left.{part_of};
 ghost use Rattle.amr_disk.specs.Limits.{is_refused, has_room, has_call, with_write};
 ghost use Rattle.amr_disk.specs.Log.{calls_of, size_of, reach_of};
-ghost use Rattle.amr_disk.specs.Moments.{Passes};
+ghost use Rattle.amr_disk.specs.Moments.{Passes, Rests};
 
 use crate::buffer::{append, copy_with_room, place, refill};
 use crate::leave::{Leave, replay};
@@ -232,7 +232,7 @@ impl Disk for MemDisk {
         ensures bound { ReadsAtMost result into.new }
         ensures bytes { IfOk result (ReadsAt (seen_of self.old) at into.new) }
         ensures seen { seen_of self.new ≡ seen_of self.old }
-        ensures images { Passes (moment_of self.old) (moment_of self.new) (leaves_of self.old) (leaves_of self.new) Same }
+        ensures images { Rests (seen_of self.old) (moment_of self.old) (moment_of self.new) (leaves_of self.old) (leaves_of self.new) }
         ensures cause { HasCause (faults_of self.old) (faults_of self.new) result }
         ensures no_fault { OnOk result (faults_of self.new ≡ faults_of self.old) }
         ensures one_fault { OnErr result (faults_of self.new ≡ min (faults_of self.old + 1) (2 ^ 64 - 1)) }
@@ -278,7 +278,7 @@ impl Disk for MemDisk {
     fn sync(&mut self) -> Result<(), DiskFault>
         ensures seen { seen_of self.new ≡ seen_of self.old }
         ensures durable { OnOk result (Only (seen_of self.old) (leaves_of self.new (moment_of self.new))) }
-        ensures images { Passes (moment_of self.old) (moment_of self.new) (leaves_of self.old) (leaves_of self.new) Same }
+        ensures images { Rests (seen_of self.old) (moment_of self.old) (moment_of self.new) (leaves_of self.old) (leaves_of self.new) }
         ensures cause { HasCause (faults_of self.old) (faults_of self.new) result }
         ensures no_fault { OnOk result (faults_of self.new ≡ faults_of self.old) }
         ensures one_fault { OnErr result (faults_of self.new ≡ min (faults_of self.old + 1) (2 ^ 64 - 1)) }

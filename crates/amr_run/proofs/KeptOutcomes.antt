@@ -1,24 +1,21 @@
 -- The outcome of a run that keeps checkpoints, by what its calls kept.
-use Rattle.std.proofs.Common.{◌≡◌, ℕ, zero, suc, ◌<◌, ◌≤◌, List, [], ◌∷◌, ◌++◌, Option, Some, None, IfSome, Result, Ok, Err, inl, inr, refl, sym, ◌∙◌, ap, subst, arith}
+use Rattle.std.proofs.Common.{◌≡◌, ℕ, zero, suc, ◌≤◌, List, [], Option, Some, None, IfSome, Result, Ok, Err, inl, inr, refl, sym, ◌∙◌, subst, arith}
 use Rattle.std.specs.List.{flat_map}
 use Rattle.std.specs.Prelude.{◌⊎◌, IsErrAnd}
-use Rattle.amr_causes.specs.Bytes.{Grows, IsPrefix}
 use Rattle.amr_causes.specs.Causes.{Rose}
-use Rattle.amr_io.specs.Short.{IsProperPrefix}
 use Rattle.amr_def.specs.declared.problem.Problem.{Problem}
 use Rattle.amr_def.specs.Facts.{IsSound}
-use Rattle.amr_def.specs.Plot.{plot}
 use Rattle.amr_def.specs.Regrid.{regrid}
-use Rattle.amr_def.specs.Run.{finish, plain_start, start, times}
+use Rattle.amr_def.specs.Run.{plain_start, times}
 use Rattle.amr_def.specs.State.{State}
 use Rattle.amr_def.proofs.SoundRun.{plain_start-sound, start-sound}
 use Rattle.amr_disk.specs.Image.{Only}
+use Rattle.amr_disk.specs.Moments.{StaysDurable}
+use Rattle.amr_disk.specs.Replay.{rests_same}
 use Rattle.amr_drive.proofs.Finishes.{finish_sound, run_holds}
 use Rattle.amr_drive.specs.Regrids.{StartHoldsTags}
 use Rattle.amr_laws.proofs.Held.{regrid-held}
 use Rattle.amr_laws.proofs.SoundRegrid.{regrid-sound}
-use Rattle.amr_patch.specs.declared.meshes.Mesh.{Mesh}
-use Rattle.amr_patch.specs.Meshes.{state_of}
 use Rattle.amr_problem.specs.Judgement.{IsProblemOf, fault_of}
 use Rattle.amr_store.specs.Phases.{OnlyReads}
 use Rattle.amr_checkpoint.specs.declared.faults.KeepFault.{KeepFault}
@@ -29,16 +26,16 @@ use Rattle.amr_checkpoint.specs.declared.refusal.Refusal.{Refusal}
 use Rattle.amr_checkpoint.specs.declared.resuming.Resumed.{Resumed}
 use Rattle.amr_checkpoint.specs.declared.resuming.Resumed.TheVariants as resumed
 use Rattle.amr_checkpoint.specs.Checkpoints.{CanGoOn, content_resumed}
-use Rattle.amr_checkpoint.specs.Contents.{Content, Empty, Fresh, Holds, state_from}
-use Rattle.amr_checkpoint.specs.Kept.{KeepsRun, SaysOfRun}
+use Rattle.amr_checkpoint.specs.Contents.{Content, Holds, state_from}
+use Rattle.amr_checkpoint.specs.Kept.{FailsBy, KeepsRun, SameUntil, SaysOfRun}
 use Rattle.amr_checkpoint.specs.Laws.{IsInSequence}
 use Rattle.amr_checkpoint.specs.Marks.{answer_of_run, checkpoint_line, marks}
 use Rattle.amr_checkpoint.specs.Refusals.{GoesOn, RefusesRun}
 use Rattle.amr_cli.specs.declared.command.Command.{Command}
 use Rattle.amr_cli.specs.declared.command.Command.TheVariants.{Run, Check, Show, Trial}
-use Rattle.amr_run.specs.Answer.{IsKeptRun, IsPlotOfKeptRun, IsSoundRunFrom, WasFound, stop_of}
+use Rattle.amr_run.specs.Answer.{IsKeptRun, IsPlotOfKeptRun, WasFound, stop_of}
 use Rattle.amr_run.specs.Kept.{KeptReplies}
-use Rattle.amr_run.specs.Outcome.{BeginsLines, IsCutShort, RefusesKept, RefusesRunTo, RepliesKeeping, RunsThrough, StopsKept, StopsRun, StopsTo, status_of}
+use Rattle.amr_run.specs.Outcome.{BeginsLines, RefusesKept, RefusesRunTo, RepliesKeeping, RunsThrough, StopsKept, StopsRun, StopsTo, status_of}
 use Rattle.amr_run.specs.Reading.{Refuses}
 use Rattle.amr_run.specs.Refusals.{keep_refused, resume_refused}
 use Rattle.amr_run.specs.declared.status.Status.{Status}
@@ -117,10 +114,15 @@ no_write_cause fault.DiskFault said lines before now says other = says.1
 no_write_cause fault.NoMemory said lines before now says other = says.1
 no_write_cause fault.WriteFault said lines before now says other = absurd (other refl)
 
-pub disk_cause : (e : KeepFault) (P : Type 0) → (Some e ≡ Some fault.DiskFault → P) → keep_refused e ≡ status.DiskFault → P
-disk_cause fault.DiskFault P cause is = cause refl
-disk_cause fault.NoMemory P cause is = absurd (cc)
-disk_cause fault.WriteFault P cause is = absurd (cc)
+pub disk_cause : (e : KeepFault) (before now : ℕ) → FailsBy (Some e) before now → keep_refused e ≡ status.DiskFault → Rose before now
+disk_cause fault.DiskFault before now fails is = fails
+disk_cause fault.NoMemory before now fails is = absurd (cc)
+disk_cause fault.WriteFault before now fails is = absurd (cc)
+
+pub no_disk_cause : (e : KeepFault) (before now : ℕ) → FailsBy (Some e) before now → (keep_refused e ≡ status.DiskFault → ⊥) → now ≡ before
+no_disk_cause fault.DiskFault before now fails other = absurd (other refl)
+no_disk_cause fault.NoMemory before now fails other = fails
+no_disk_cause fault.WriteFault before now fails other = fails
 
 pub no_store : (e : KeepFault) (refusal : Refusal) (P : Type 0) → keep_refused e ≡ status.Store refusal → P
 no_store fault.DiskFault refusal P is = absurd (cc)
@@ -184,6 +186,11 @@ kept_by answers refuses (Err x) s bytes out said is replies = subst (λ (t : Sta
 
 -- ---- stops
 
+-- what a stop left while the disk was read, it leaves on the later disk
+stays_past : (image : List ℕ) (first last : ℕ) (was leaves : ℕ → List ℕ → Type 0) → SameUntil last was leaves → StaysDurable (Some image) first last was → StaysDurable (Some image) first last leaves
+stays_past image first last was leaves same stays = λ k t from order to settled c left.
+    stays k t from order to (λ e there. settled e (same.still k e (omega (arith, order, to)) there)) c (same.kept t c to left)
+
 module _ {D : Type 0} (seen : D → Option (List ℕ)) (moment : D → ℕ) (leaves : D → ℕ → List ℕ → Type 0) where
   -- the run went on from what was read
   pub stops_kept : {E : Type 0} (disk_faults : D → ℕ) (holds : E → List ℕ → Type 0) (err_faults : E → ℕ) (bytes : List ℕ) (p : Problem) (every target : ℕ) (r : Resumed) (d read later_d : D) (e later_e : E) (ended : Option KeepFault)
@@ -191,7 +198,9 @@ module _ {D : Type 0} (seen : D → Option (List ℕ)) (moment : D → ℕ) (lea
       → (h : KeepsRun seen moment leaves disk_faults holds err_faults bytes p every target (content_resumed bytes p r) read later_d e later_e ended) → StopsKept seen moment leaves d later_d bytes p every target h.said
   stops_kept disk_faults holds err_faults bytes p every target r d read later_d e later_e ended reads settled held can h image told = inr record {
     found = record { moment = moment read; content = content_resumed bytes p r };
-    since = reads.images.later;
+    since = reads.images.passes.later;
+    stays = stays_past image (moment d) (moment read) (leaves read) (leaves later_d) (h.past image (reads.same ∙ told) (held image told) settled)
+        (subst (λ (o : Option (List ℕ)). StaysDurable o (moment d) (moment read) (leaves read)) told reads.images.stays);
     held = held image told;
     on = goes_on bytes p target r can;
     stops = h.stops image (reads.same ∙ told) (held image told) settled;
@@ -212,16 +221,7 @@ module _ {D : Type 0} (seen : D → Option (List ℕ)) (moment : D → ℕ) (lea
 
   -- a disk that was not called
   pub only_reads_none : (d : D) → OnlyReads seen moment leaves d d
-  only_reads_none d = record {
-    same = refl;
-    images = record {
-      later = omega arith;
-      kept = λ t c to left. left;
-      still = λ t c to left. left;
-      between = λ t c from to left. let now : t ≡ moment d = omega arith in inl (subst (λ n. leaves d n c) now left);
-      after = λ c left. (c, left, refl);
-    };
-  }
+  only_reads_none d = record { same = refl; images = rests_same (seen d) (moment d) (leaves d) }
 
   pub stops_none : (d : D) (asked : Option Command) (bytes said : List ℕ) → StopsTo seen moment leaves d d asked bytes said
   stops_none d None bytes said = only_reads_none d

@@ -1,5 +1,5 @@
 -- The defined answer of a command: by the bytes of its source, by what its disk holds, or of a trial by its two numbers alone.
-use Rattle.std.specs.Prelude.{ℕ, ◌≡◌, ◌+◌, ⊤, List, [], Option, None, Some, IfSome, min}
+use Rattle.std.specs.Prelude.{ℕ, ◌≡◌, ◌+◌, List, Option, None, Some, IfSome, min}
 use Rattle.std.specs.List.{flat_map}
 use Rattle.amr_def.specs.declared.problem.Problem.{Problem}
 use Rattle.amr_def.specs.Run as runs

@@ -11,6 +11,7 @@ use Rattle.amr_checkpoint.specs.Kept.{StopsOfRun}
 use Rattle.amr_checkpoint.specs.Marks.{to_make}
 use Rattle.amr_checkpoint.specs.Refusals.{GoesOn, RefusesRun, RefusesShow}
 use Rattle.amr_checkpoint.specs.Times.{Time}
+use Rattle.amr_disk.specs.Moments.{StaysDurable}
 use Rattle.amr_store.specs.Phases.{OnlyReads}
 use Rattle.amr_run.specs.Answer.{IsLineOfProblem, IsLineOfTrial, IsPlotOfKeptRun, IsPlotOfRun, IsPlotOfStore, stop_of}
 use Rattle.amr_run.specs.Texts.{message}
@@ -124,9 +125,11 @@ pub record EndsByLine (status : Status) (said all : List ℕ) (before now : ℕ)
 -- ---- stops
 
 -- A run found this on a disk that reads as the image, and goes on from it. A stop since leaves it, or what the run made last or makes next.
+-- Before that time the disk was only read: from a moment on at which a stop leaves nothing but the image, as where a sync returns, it leaves that.
 pub record RunsThrough (leaves : ℕ → List ℕ → Type 0) (before now : ℕ) (image bytes : List ℕ) (p : Problem) (every target : ℕ) (said : List ℕ) : Type 0 where
   pub found : Time
   pub since : before ≤ found.moment
+  pub stays : StaysDurable (Some image) before found.moment leaves
   pub held : Holds image found.content
   pub on : GoesOn bytes target found.content
   pub stops : StopsOfRun leaves found now (to_make bytes p every found.content target) said

@@ -168,6 +168,7 @@ pub(crate) fn keep_run<R: Threads + Sync, E: Sink, D: Disk, G: Gate + Sync>(
         × StopsKept D.seen D.moment D.leaves disk.old disk.new bytes.now keeping.now.problem.now keeping.now.every keeping.now.target said }
     ensures refused { IfErr result (λ status. (status ≢ Status.Done) × (status ≢ Status.ReadFault)) }
     ensures disk_fault { result ≡ Err Status.DiskFault → Rose (D.faults disk.old) (D.faults disk.new) }
+    ensures no_disk_fault { result ≢ Err Status.DiskFault → D.faults disk.new ≡ D.faults disk.old }
     ensures write_fault { result ≡ Err Status.WriteFault → Rose (E.faults err.old) (E.faults err.new) }
     ensures no_write_fault { result ≢ Err Status.WriteFault → E.faults err.new ≡ E.faults err.old }
     ensures unwritten { (refusal : _) → result ≡ Err (Status.Store refusal) → OnlyReads D.seen D.moment D.leaves disk.old disk.new }

@@ -72,8 +72,9 @@ pub fn amr<R: Threads + Sync, S: Source, O: Sink, E: Sink, D: Disk>(
     ensures disk_fault { result ≡ Status.DiskFault → Rose (D.faults disk.old) (D.faults disk.new) }
     ensures write_fault { result ≡ Status.WriteFault → Rose (O.faults out.old) (O.faults out.new) ⊎ Rose (E.faults err.old) (E.faults err.new) }
 
-    // With any other answer the source and `out` didn't fail, and where all is done `err` didn't either.
+    // With any other answer the source, the disk and `out` didn't fail, and where all is done `err` didn't either.
     ensures no_read_fault { result ≢ Status.ReadFault → S.faults src.new ≡ S.faults src.old }
+    ensures no_disk_fault { result ≢ Status.DiskFault → D.faults disk.new ≡ D.faults disk.old }
     ensures no_write_fault { result ≢ Status.WriteFault → O.faults out.new ≡ O.faults out.old }
     ensures no_line_fault { result ≡ Status.Done → E.faults err.new ≡ E.faults err.old }
 
@@ -118,6 +119,7 @@ pub fn amr_gated<R: Threads + Sync, S: Source, O: Sink, E: Sink, D: Disk, G: Gat
     ensures disk_fault { result ≡ Status.DiskFault → Rose (D.faults disk.old) (D.faults disk.new) }
     ensures write_fault { result ≡ Status.WriteFault → Rose (O.faults out.old) (O.faults out.new) ⊎ Rose (E.faults err.old) (E.faults err.new) }
     ensures no_read_fault { result ≢ Status.ReadFault → S.faults src.new ≡ S.faults src.old }
+    ensures no_disk_fault { result ≢ Status.DiskFault → D.faults disk.new ≡ D.faults disk.old }
     ensures no_write_fault { result ≢ Status.WriteFault → O.faults out.new ≡ O.faults out.old }
     ensures no_line_fault { result ≡ Status.Done → E.faults err.new ≡ E.faults err.old }
     ensures complete { (command : _) → command_of words.now ≡ Some command
@@ -168,6 +170,7 @@ fn serve<R: Threads + Sync, S: Source, O: Sink, E: Sink, D: Disk, G: Gate + Sync
     ensures disk_fault { result ≡ Status.DiskFault → Rose (D.faults disk.old) (D.faults disk.new) }
     ensures write_fault { result ≡ Status.WriteFault → (Rose (O.faults out.old) (O.faults out.new) × (E.faults err.new ≡ E.faults err.old)) ⊎ Rose (E.faults err.old) (E.faults err.new) }
     ensures no_read_fault { result ≢ Status.ReadFault → S.faults src.new ≡ S.faults src.old }
+    ensures no_disk_fault { result ≢ Status.DiskFault → D.faults disk.new ≡ D.faults disk.old }
     ensures no_write_fault { result ≢ Status.WriteFault → (O.faults out.new ≡ O.faults out.old) × (E.faults err.new ≡ E.faults err.old) }
 {
     match parse(shell.alloc, words) {
@@ -206,6 +209,7 @@ fn answer<R: Threads + Sync, S: Source, O: Sink, E: Sink, D: Disk, G: Gate + Syn
     ensures read_fault { result ≡ Err Status.ReadFault → Rose (S.faults src.old) (S.faults src.new) }
     ensures no_read_fault { result ≢ Err Status.ReadFault → S.faults src.new ≡ S.faults src.old }
     ensures disk_fault { result ≡ Err Status.DiskFault → Rose (D.faults disk.old) (D.faults disk.new) }
+    ensures no_disk_fault { result ≢ Err Status.DiskFault → D.faults disk.new ≡ D.faults disk.old }
     ensures write_fault { result ≡ Err Status.WriteFault → (Rose (O.faults out.old) (O.faults out.new) × (E.faults err.new ≡ E.faults err.old)) ⊎ Rose (E.faults err.old) (E.faults err.new) }
     ensures no_write_fault { result ≢ Err Status.WriteFault → (O.faults out.new ≡ O.faults out.old) × (E.faults err.new ≡ E.faults err.old) }
 {
@@ -255,6 +259,7 @@ fn run_command<R: Threads + Sync, S: Source, O: Sink, E: Sink, D: Disk, G: Gate 
     ensures read_fault { result ≡ Err Status.ReadFault → Rose (S.faults src.old) (S.faults src.new) }
     ensures no_read_fault { result ≢ Err Status.ReadFault → S.faults src.new ≡ S.faults src.old }
     ensures disk_fault { result ≡ Err Status.DiskFault → Rose (D.faults disk.old) (D.faults disk.new) }
+    ensures no_disk_fault { result ≢ Err Status.DiskFault → D.faults disk.new ≡ D.faults disk.old }
     ensures write_fault { result ≡ Err Status.WriteFault → (Rose (O.faults out.old) (O.faults out.new) × (E.faults err.new ≡ E.faults err.old)) ⊎ Rose (E.faults err.old) (E.faults err.new) }
     ensures no_write_fault { result ≢ Err Status.WriteFault → (O.faults out.new ≡ O.faults out.old) × (E.faults err.new ≡ E.faults err.old) }
 {

@@ -13,6 +13,7 @@ module _ {D : Type 0} (moment : D → ℕ) (leaves : D → ℕ → List ℕ → 
   started old P here = record {
     later = omega arith;
     kept = λ t c le left. left;
+    still = λ t c le left. left;
     each = λ t c ge le left. let is : t ≡ moment old = omega arith in here c (subst (λ (k : ℕ). leaves old k c) is left);
   }
 
@@ -22,6 +23,7 @@ module _ {D : Type 0} (moment : D → ℕ) (leaves : D → ℕ → List ℕ → 
   goes_on old mid new P step so_far call here = record {
     later = omega (arith, so_far.later, call.later);
     kept = λ t c le left. so_far.kept t c le (call.kept t c (omega (arith, so_far.later)) left);
+    still = λ t c le left. call.still t c (omega (arith, so_far.later)) (so_far.still t c le left);
     each = λ t c ge le left. elim (cases_Bool (nat_le t (moment mid))) [
       | inl early ↦ so_far.each t c ge (leb-true t (moment mid) early) (call.kept t c (leb-true t (moment mid) early) left)
       | inr late ↦ ⊎_elim (λ before. so_far.each (moment mid) c so_far.later (omega arith) before) (here c) (call.between t c (omega (arith, leb-false t (moment mid) late)) le left)
@@ -33,6 +35,7 @@ module _ {D : Type 0} (moment : D → ℕ) (leaves : D → ℕ → List ℕ → 
   joins old mid new P Q R first second p q = record {
     later = omega (arith, first.later, second.later);
     kept = λ t c le left. first.kept t c le (second.kept t c (omega (arith, first.later)) left);
+    still = λ t c le left. second.still t c (omega (arith, first.later)) (first.still t c le left);
     each = λ t c ge le left. elim (cases_Bool (nat_le t (moment mid))) [
       | inl early ↦ p c (first.each t c ge (leb-true t (moment mid) early) (second.kept t c (leb-true t (moment mid) early) left))
       | inr late ↦ q c (second.each t c (omega (arith, leb-false t (moment mid) late)) le left)
@@ -40,7 +43,7 @@ module _ {D : Type 0} (moment : D → ℕ) (leaves : D → ℕ → List ℕ → 
   }
 
   pub weaker : (old new : D) (P Q : List ℕ → Type 0) → ((c : List ℕ) → P c → Q c) → StopsIn moment leaves old new P → StopsIn moment leaves old new Q
-  weaker old new P Q to run = record { later = run.later; kept = run.kept; each = λ t c ge le left. to c (run.each t c ge le left) }
+  weaker old new P Q to run = record { later = run.later; kept = run.kept; still = run.still; each = λ t c ge le left. to c (run.each t c ge le left) }
 
   pub only_at : (old : D) (seen : Option (List ℕ)) (s : List ℕ) → seen ≡ Some s → Only seen (leaves old (moment old)) → (c : List ℕ) → leaves old (moment old) c → c ≡ s
   only_at old seen s is settled = subst (λ (o : Option (List ℕ)). Only o (leaves old (moment old))) is settled

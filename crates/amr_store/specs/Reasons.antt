@@ -22,10 +22,11 @@ is_no_memory (Err Shut) = false
 is_no_memory (Err NoMemory) = true
 is_no_memory (Ok value) = false
 
--- DiskFault comes only where the disk's count of faults rose
+-- DiskFault comes only where the disk's count of faults rose. With any other answer it is as it was.
 pub record HasReason {T : Type 0} (before now : ℕ) (result : Result T StoreFault) : Type 0 where
   pub later : before ≤ now
   pub failed : is_disk_fault result ≡ true → Rose before now
+  pub no_fault : is_disk_fault result ≡ false → now ≡ before
 
 -- Shut comes exactly where the store was shut, and a DiskFault alone shuts it
 pub record Shuts {T : Type 0} (was is : Bool) (result : Result T StoreFault) : Type 0 where

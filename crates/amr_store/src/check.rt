@@ -1,5 +1,5 @@
 //! The tests on the store at a base, in their order.
-ghost use Rattle.std.specs.Prelude.{◌≡◌, ◌≤◌, ◌^◌, List, ℕ, Some, drop, IfOk};
+ghost use Rattle.std.specs.Prelude.{◌≡◌, ◌≤◌, ◌^◌, List, ℕ, Some, drop, IfOk, OnOk};
 ghost use Rattle.amr_causes.specs.Causes.{HasCause};
 ghost use Rattle.amr_store.specs.Checking.{Checks, HasRoom, is_slot_tie, joined};
 ghost use Rattle.amr_store.specs.Phases.{OnlyReads};
@@ -65,6 +65,7 @@ fn check_slots<D: Disk>(disk: &mut D, base: u64, head: Head) -> Result<Checked, 
     ensures fits { IfOk result (λ checked. HasRoom checked) }
     ensures reads { OnlyReads D.seen D.moment D.leaves disk.old disk.new }
     ensures cause { HasCause (D.faults disk.old) (D.faults disk.new) result }
+    ensures no_fault { OnOk result (D.faults disk.new ≡ D.faults disk.old) }
 {
     let gate = 21 + head.text as u64;
     match read_slot(disk, base, gate, head.slot_size)? {
@@ -85,6 +86,7 @@ fn check_text<D: Disk>(disk: &mut D, base: u64, head: Head) -> Result<Checked, D
     ensures fits { IfOk result (λ checked. HasRoom checked) }
     ensures reads { OnlyReads D.seen D.moment D.leaves disk.old disk.new }
     ensures cause { HasCause (D.faults disk.old) (D.faults disk.new) result }
+    ensures no_fault { OnOk result (D.faults disk.new ≡ D.faults disk.old) }
 {
     if 65536 < head.text {
         return Ok(Checked::Faulty(Part::Text));
@@ -107,6 +109,7 @@ pub fn check<D: Disk>(disk: &mut D, base: u64, takes_first: bool) -> Result<Chec
     ensures fits { IfOk result (λ checked. HasRoom checked) }
     ensures reads { OnlyReads D.seen D.moment D.leaves disk.old disk.new }
     ensures cause { HasCause (D.faults disk.old) (D.faults disk.new) result }
+    ensures no_fault { OnOk result (D.faults disk.new ≡ D.faults disk.old) }
 {
     match read_head(disk, base, takes_first)? {
         None => Ok(Checked::Faulty(Part::Head)),

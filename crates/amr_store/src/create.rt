@@ -66,6 +66,7 @@ fn close_first<D: Disk>(disk: &mut D) -> Result<(), DiskFault>
     ensures stops { StopsFrom D.seen D.moment D.leaves disk.old disk.new (λ s c. stored c ≡ Empty) }
     ensures settled { OnOk result (Only (D.seen disk.new) (D.leaves disk.new (D.moment disk.new))) }
     ensures cause { HasCause (D.faults disk.old) (D.faults disk.new) result }
+    ensures no_fault { OnOk result (D.faults disk.new ≡ D.faults disk.old) }
 {
     match has_byte(disk, 1) {
         Ok(true) => Ok(()),
@@ -80,6 +81,7 @@ fn has_renewal_gate<D: Disk>(disk: &mut D, version: u32, end: u64) -> Result<boo
     ensures told { IfOk result (λ has. (s : List ℕ) → D.seen disk.old ≡ Some s → has ≡ (version == 1 && nat_lt end (length s))) }
     ensures reads { OnlyReads D.seen D.moment D.leaves disk.old disk.new }
     ensures cause { HasCause (D.faults disk.old) (D.faults disk.new) result }
+    ensures no_fault { OnOk result (D.faults disk.new ≡ D.faults disk.old) }
 {
     if version == 1 {
         has_byte(disk, end)
@@ -108,6 +110,7 @@ fn lay<D: Disk>(
     ensures stops { StopsFrom D.seen D.moment D.leaves disk.old disk.new (λ s c. IsShutFirst s → IsShutFirst c) }
     ensures settled { OnOk result (Only (D.seen disk.new) (D.leaves disk.new (D.moment disk.new))) }
     ensures cause { HasCause (D.faults disk.old) (D.faults disk.new) result }
+    ensures no_fault { OnOk result (D.faults disk.new ≡ D.faults disk.old) }
 {
     let text = problem.len() as u64;
     let gate = 21 + text + (17 + slot_size);
@@ -150,6 +153,7 @@ fn write_store<D: Disk>(
     ensures stops { StopsFrom D.seen D.moment D.leaves disk.old disk.new (λ s c. stored c ≡ Empty ⊎ stored c ≡ Held (new_state version problem.now slot_size)) }
     ensures settled { OnOk result (Only (D.seen disk.new) (D.leaves disk.new (D.moment disk.new))) }
     ensures cause { HasCause (D.faults disk.old) (D.faults disk.new) result }
+    ensures no_fault { OnOk result (D.faults disk.new ≡ D.faults disk.old) }
 {
     match close_first(disk) {
         Ok(()) => match lay(disk, version, problem, slot_size, head) {

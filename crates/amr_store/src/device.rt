@@ -22,6 +22,7 @@ pub fn has_byte<D: Disk>(disk: &mut D, at: u64) -> Result<bool, DiskFault>
     ensures told { IfOk result (λ has. (s : List ℕ) → D.seen disk.old ≡ Some s → has ≡ nat_lt at (length s)) }
     ensures reads { OnlyReads D.seen D.moment D.leaves disk.old disk.new }
     ensures cause { HasCause (D.faults disk.old) (D.faults disk.new) result }
+    ensures no_fault { OnOk result (D.faults disk.new ≡ D.faults disk.old) }
 {
     let mut byte = [0u8];
     let n = disk.read_at(at, &mut byte)?;
@@ -34,6 +35,7 @@ pub fn has_byte_from<D: Disk>(disk: &mut D, base: u64, at: u64) -> Result<bool, 
     ensures told { IfOk result (λ has. (s : List ℕ) → D.seen disk.old ≡ Some s → has ≡ nat_lt at (length (drop base s))) }
     ensures reads { OnlyReads D.seen D.moment D.leaves disk.old disk.new }
     ensures cause { HasCause (D.faults disk.old) (D.faults disk.new) result }
+    ensures no_fault { OnOk result (D.faults disk.new ≡ D.faults disk.old) }
 {
     has_byte(disk, base + at)
 }
@@ -49,6 +51,7 @@ pub fn read_from<D: Disk>(
     ensures told { IfOk result (λ n. (s : List ℕ) → D.seen disk.old ≡ Some s → IsRead (drop base s) at into.new n) }
     ensures reads { OnlyReads D.seen D.moment D.leaves disk.old disk.new }
     ensures cause { HasCause (D.faults disk.old) (D.faults disk.new) result }
+    ensures no_fault { OnOk result (D.faults disk.new ≡ D.faults disk.old) }
 {
     disk.read_at(base + at, into)
 }
@@ -59,6 +62,7 @@ pub fn has_open_gate<D: Disk>(disk: &mut D, at: u64) -> Result<bool, DiskFault>
     ensures told { IfOk result (λ has. (s : List ℕ) → D.seen disk.old ≡ Some s → has ≡ (nat_lt (at + 1) (length s) && is_open s at)) }
     ensures reads { OnlyReads D.seen D.moment D.leaves disk.old disk.new }
     ensures cause { HasCause (D.faults disk.old) (D.faults disk.new) result }
+    ensures no_fault { OnOk result (D.faults disk.new ≡ D.faults disk.old) }
 {
     let mut bytes = [0u8; 2];
     let n = disk.read_at(at, &mut bytes)?;
@@ -76,6 +80,7 @@ pub fn write_synced<D: Disk>(disk: &mut D, at: u64, piece: &[u8]) -> Result<(), 
     ensures seen { OnOk result (D.seen disk.new ≡ option_map (written_at at piece.now) (D.seen disk.old)) }
     ensures settled { OnOk result (Only (D.seen disk.new) (D.leaves disk.new (D.moment disk.new))) }
     ensures cause { HasCause (D.faults disk.old) (D.faults disk.new) result }
+    ensures no_fault { OnOk result (D.faults disk.new ≡ D.faults disk.old) }
 {
     disk.write_at(at, piece)?;
     disk.sync()
@@ -96,6 +101,7 @@ pub fn write_two_synced<D: Disk>(
     ensures seen { OnOk result (D.seen disk.new ≡ option_map (λ s. written_at last_at last.now (written_at first_at first.now s)) (D.seen disk.old)) }
     ensures settled { OnOk result (Only (D.seen disk.new) (D.leaves disk.new (D.moment disk.new))) }
     ensures cause { HasCause (D.faults disk.old) (D.faults disk.new) result }
+    ensures no_fault { OnOk result (D.faults disk.new ≡ D.faults disk.old) }
 {
     disk.write_at(first_at, first)?;
     disk.write_at(last_at, last)?;
@@ -118,6 +124,7 @@ pub fn write_three_synced<D: Disk>(
     ensures seen { OnOk result (D.seen disk.new ≡ option_map (λ s. written_at third.entry.at third.entry.bytes.now (written_at second.entry.at second.entry.bytes.now (written_at first.entry.at first.entry.bytes.now s))) (D.seen disk.old)) }
     ensures settled { OnOk result (Only (D.seen disk.new) (D.leaves disk.new (D.moment disk.new))) }
     ensures cause { HasCause (D.faults disk.old) (D.faults disk.new) result }
+    ensures no_fault { OnOk result (D.faults disk.new ≡ D.faults disk.old) }
 {
     disk.write_at(first.at, first.bytes)?;
     disk.write_at(second.at, second.bytes)?;

@@ -149,6 +149,7 @@ fn was_renewed<D: Disk>(disk: &mut D, outline: Outline) -> Result<bool, DiskFaul
     ensures told { IfOk result (λ has. (s : List ℕ) → D.seen disk.old ≡ Some s → IsOutline outline s → has ≡ is_renewed s) }
     ensures reads { OnlyReads D.seen D.moment D.leaves disk.old disk.new }
     ensures cause { HasCause (D.faults disk.old) (D.faults disk.new) result }
+    ensures no_fault { OnOk result (D.faults disk.new ≡ D.faults disk.old) }
 {
     if outline.version != 1 {
         return Ok(false);
@@ -211,6 +212,7 @@ fn settle<D: Disk>(disk: &mut D) -> Result<(), DiskFault>
     ensures settled { OnOk result (Only (D.seen disk.new) (D.leaves disk.new (D.moment disk.new))) }
     ensures reads { OnlyReads D.seen D.moment D.leaves disk.old disk.new }
     ensures cause { HasCause (D.faults disk.old) (D.faults disk.new) result }
+    ensures no_fault { OnOk result (D.faults disk.new ≡ D.faults disk.old) }
 {
     disk.sync()
 }

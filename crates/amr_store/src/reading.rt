@@ -1,5 +1,5 @@
 //! The parts of a store, as they are read.
-ghost use Rattle.std.specs.Prelude.{◌≡◌, ◌≤◌, ◌<◌, ◌+◌, ◌^◌, List, ℕ, Some, length, drop, IfOk};
+ghost use Rattle.std.specs.Prelude.{◌≡◌, ◌≤◌, ◌<◌, ◌+◌, ◌^◌, List, ℕ, Some, length, drop, IfOk, OnOk};
 ghost use Rattle.amr_causes.specs.Causes.{HasCause};
 ghost use Rattle.amr_store.specs.Layout.{long_at, word_at};
 ghost use Rattle.amr_store.specs.Phases.{OnlyReads};
@@ -97,6 +97,7 @@ pub fn read_head<D: Disk>(
     ensures told { IfOk result (λ head. (s : List ℕ) → D.seen disk.old ≡ Some s → IsHeadOf head takes_first (drop base s)) }
     ensures reads { OnlyReads D.seen D.moment D.leaves disk.old disk.new }
     ensures cause { HasCause (D.faults disk.old) (D.faults disk.new) result }
+    ensures no_fault { OnOk result (D.faults disk.new ≡ D.faults disk.old) }
 {
     let mut bytes = [0u8; 21];
     let n = read_from(disk, base, 0, &mut bytes)?;
@@ -140,6 +141,7 @@ pub fn read_slot<D: Disk>(
     ensures told { IfOk result (λ slot. (s : List ℕ) → D.seen disk.old ≡ Some s → IsSlot slot (drop base s) gate size) }
     ensures reads { OnlyReads D.seen D.moment D.leaves disk.old disk.new }
     ensures cause { HasCause (D.faults disk.old) (D.faults disk.new) result }
+    ensures no_fault { OnOk result (D.faults disk.new ≡ D.faults disk.old) }
 {
     let mut bytes = [0u8; 17];
     let n = read_from(disk, base, gate, &mut bytes)?;

@@ -53,6 +53,7 @@ fn shut_end<D: Disk>(disk: &mut D, end: u64) -> Result<(), DiskFault>
     ensures stops { (s problem : List ℕ) → D.seen disk.old ≡ Some s → IsOld end problem s → StopsIn D.moment D.leaves disk.old disk.new (λ c. stored c ≡ stored s) }
     ensures settled { OnOk result (Only (D.seen disk.new) (D.leaves disk.new (D.moment disk.new))) }
     ensures cause { HasCause (D.faults disk.old) (D.faults disk.new) result }
+    ensures no_fault { OnOk result (D.faults disk.new ≡ D.faults disk.old) }
 {
     match has_byte(disk, end + 1) {
         Ok(true) => Ok(()),
@@ -92,6 +93,7 @@ fn write_renewal<D: Disk>(
     ensures stops { StopsFrom D.seen D.moment D.leaves disk.old disk.new (λ s c. stored c ≡ stored s ⊎ stored c ≡ Held (renewed_state problem.now slot_size state.entry.sequence state.entry.payload.now)) }
     ensures settled { OnOk result (Only (D.seen disk.new) (D.leaves disk.new (D.moment disk.new))) }
     ensures cause { HasCause (D.faults disk.old) (D.faults disk.new) result }
+    ensures no_fault { OnOk result (D.faults disk.new ≡ D.faults disk.old) }
 {
     let text = problem.len() as u64;
     let gate = end + (21 + text + (17 + slot_size));

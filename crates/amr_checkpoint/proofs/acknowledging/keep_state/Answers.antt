@@ -22,7 +22,7 @@ returns-in-Ok-put_checkpoint_line-clause-kept g c =
     let mark : is_mark every target (state_of c.args.mesh.now).step ≡ true = ap (λ n. is_mark every target n) (sym c.step-step.ensures) ∙ sym c.is_mark.ensures ∙ c.if-not-is_mark.false in
     let whole = subst (λ n. Grows g.E.Sink.holds c.args.err.now c.put_checkpoint_line.new.err (checkpoint_line n)) c.step-step.ensures c.in-Ok-put_checkpoint_line.ensures.whole in
     keeps_stood g.D.Disk.seen g.D.Disk.moment g.D.Disk.leaves g.D.Disk.faults g.E.Sink.holds g.E.Sink.faults (problem_in c.args.store) c.args.keeping.now.problem.now every target c.args.disk.now c.put_checkpoint.new.disk c.args.err.now c.put_checkpoint_line.new.err (state_of c.args.mesh.now)
-    mark whole c.in-Ok-put_checkpoint_line.ensures.no_fault c.in-Ok.ensures.later c.in-Ok.ensures.told (c.in-Ok.ensures.ready.settled c.in-Ok.ensures.store.store_is.unshut) c.in-Ok.ensures.holds
+    mark whole c.in-Ok-put_checkpoint_line.ensures.no_fault (c.in-Ok.ensures.no_disk_fault (λ is. absurd (cc))) c.in-Ok.ensures.told (c.in-Ok.ensures.ready.settled c.in-Ok.ensures.store.store_is.unshut) c.in-Ok.ensures.holds
     (λ image content. c.in-Ok.ensures.stops image content)
 
 pub returns-in-Err-clause-kept : goal.returns-in-Err-clause-kept
@@ -32,7 +32,7 @@ returns-in-Err-clause-kept g c =
     let mark : is_mark every target (state_of c.args.mesh.now).step ≡ true = ap (λ n. is_mark every target n) (sym c.step-step.ensures) ∙ sym c.is_mark.ensures ∙ c.if-not-is_mark.false in
     let short = subst (λ n. FallsShort g.E.Sink.holds c.args.err.now c.put_checkpoint_line.new.err (checkpoint_line n)) c.step-step.ensures c.in-Err.ensures.short in
     keeps_unsaid g.D.Disk.seen g.D.Disk.moment g.D.Disk.leaves g.D.Disk.faults g.E.Sink.holds g.E.Sink.faults (problem_in c.args.store) c.args.keeping.now.problem.now every target c.args.disk.now c.put_checkpoint.new.disk c.args.err.now c.put_checkpoint_line.new.err (state_of c.args.mesh.now)
-    mark short c.in-Err.ensures.cause.failed c.in-Ok.ensures.later c.in-Ok.ensures.told (c.in-Ok.ensures.ready.settled c.in-Ok.ensures.store.store_is.unshut) c.in-Ok.ensures.holds
+    mark short c.in-Err.ensures.cause.failed (c.in-Ok.ensures.no_disk_fault (λ is. absurd (cc))) c.in-Ok.ensures.told (c.in-Ok.ensures.ready.settled c.in-Ok.ensures.store.store_is.unshut) c.in-Ok.ensures.holds
     (λ image content. c.in-Ok.ensures.stops image content)
 
 pub returns-in-Err-DiskFault-clause-kept : goal.returns-in-Err-DiskFault-clause-kept
@@ -41,7 +41,7 @@ returns-in-Err-DiskFault-clause-kept g c =
     let target = c.args.keeping.now.target in
     let mark : is_mark every target (state_of c.args.mesh.now).step ≡ true = ap (λ n. is_mark every target n) (sym c.step-step.ensures) ∙ sym c.is_mark.ensures ∙ c.if-not-is_mark.false in
     keeps_refused g.D.Disk.seen g.D.Disk.moment g.D.Disk.leaves g.D.Disk.faults g.E.Sink.holds g.E.Sink.faults (problem_in c.args.store) c.args.keeping.now.problem.now every target c.args.disk.now c.put_checkpoint.new.disk c.args.err.now (state_of c.args.mesh.now) fault.DiskFault
-    mark (refl, refl) c.in-Err-DiskFault.ensures.later (λ is. c.in-Err-DiskFault.ensures.disk_fault (cc)) (λ image content. c.in-Err-DiskFault.ensures.stops image content)
+    mark (refl, refl) c.in-Err-DiskFault.ensures.later (c.in-Err-DiskFault.ensures.disk_fault (cc)) (λ image content. c.in-Err-DiskFault.ensures.stops image content)
 
 pub returns-in-Err-NoMemory-clause-kept : goal.returns-in-Err-NoMemory-clause-kept
 returns-in-Err-NoMemory-clause-kept g c =
@@ -49,4 +49,4 @@ returns-in-Err-NoMemory-clause-kept g c =
     let target = c.args.keeping.now.target in
     let mark : is_mark every target (state_of c.args.mesh.now).step ≡ true = ap (λ n. is_mark every target n) (sym c.step-step.ensures) ∙ sym c.is_mark.ensures ∙ c.if-not-is_mark.false in
     keeps_refused g.D.Disk.seen g.D.Disk.moment g.D.Disk.leaves g.D.Disk.faults g.E.Sink.holds g.E.Sink.faults (problem_in c.args.store) c.args.keeping.now.problem.now every target c.args.disk.now c.put_checkpoint.new.disk c.args.err.now (state_of c.args.mesh.now) fault.NoMemory
-    mark (refl, refl) c.in-Err-NoMemory.ensures.later (λ is. absurd (cc)) (λ image content. c.in-Err-NoMemory.ensures.stops image content)
+    mark (refl, refl) c.in-Err-NoMemory.ensures.later (c.in-Err-NoMemory.ensures.no_disk_fault (λ is. absurd (cc))) (λ image content. c.in-Err-NoMemory.ensures.stops image content)

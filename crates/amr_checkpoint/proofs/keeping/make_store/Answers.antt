@@ -1,9 +1,9 @@
-use Rattle.std.proofs.Common.{◌≡◌, inr, refl, sym, ◌∙◌}
+use Rattle.std.proofs.Common.{◌≡◌, inr, refl, sym, ◌∙◌, ap, Err}
 use Rattle.amr_store.proofs.Runs.{weaker}
 use Rattle.amr_store.specs.declared.store.Store.{Store}
 use Rattle.amr_store.specs.Stored as store
 use Rattle.amr_checkpoint.specs.declared.faults.CheckpointFault.TheVariants.{DiskFault, NoMemory}
-use Rattle.amr_checkpoint.proofs.Puts.{creation_made, creation_stop, disk_fault_of, no_memory_of, store_made, text_short}
+use Rattle.amr_checkpoint.proofs.Puts.{creation_made, creation_stop, disk_fault_of, no_memory_of, other_fault_of, store_made, text_short}
 use Rattle.amr_checkpoint.proofs.Readings.{empty_of}
 use Rattle.amr_checkpoint.proofs.keeping.make_store.Goals as goal
 
@@ -44,3 +44,10 @@ pub returns-in-Err-clause-disk_fault : goal.returns-in-Err-clause-disk_fault
 returns-in-Err-clause-disk_fault g c is =
     let fault : c.fault_of_call.result ≡ DiskFault = cc in
     c.in-Err.ensures.reason.failed (disk_fault_of Store c.in-Err.fault (sym c.fault_of_call.ensures ∙ fault) c.in-Err.ensures.unshut)
+
+pub returns-in-Ok-clause-no_disk_fault : goal.returns-in-Ok-clause-no_disk_fault
+returns-in-Ok-clause-no_disk_fault g c other = c.in-Ok.ensures.reason.no_fault refl
+
+pub returns-in-Err-clause-no_disk_fault : goal.returns-in-Err-clause-no_disk_fault
+returns-in-Err-clause-no_disk_fault g c other =
+    c.in-Err.ensures.reason.no_fault (other_fault_of Store c.in-Err.fault (λ fault. other (ap Err (c.fault_of_call.ensures ∙ fault))))

@@ -1,4 +1,4 @@
-use Rattle.std.proofs.Common.{◌≡◌, ◌<◌, ◌≤◌, ◌+◌, ℕ, List, Some, IfSome, true, false, length, ap, sym, subst, ◌∙◌}
+use Rattle.std.proofs.Common.{◌≡◌, ◌<◌, ◌≤◌, ◌+◌, ℕ, List, Some, IfSome, true, false, length, ap, Err, sym, subst, ◌∙◌}
 use Rattle.std.specs.Int.{w32}
 use Rattle.amr_patch.specs.Meshes.{state_of}
 use Rattle.amr_payload.specs.Payload.{slot_size}
@@ -7,7 +7,7 @@ use Rattle.amr_store.specs.declared.store.Store.{Store}
 use Rattle.amr_store.specs.Stands.{last_in, problem_in, put_image}
 use Rattle.amr_checkpoint.specs.declared.faults.CheckpointFault.TheVariants.{DiskFault, NoMemory}
 use Rattle.amr_checkpoint.proofs.FromDisk.{second_width}
-use Rattle.amr_checkpoint.proofs.Puts.{disk_fault_of, no_memory_of, put_held, put_stop, renewal_made, renewal_stop, store_after, store_made, untouched_stop}
+use Rattle.amr_checkpoint.proofs.Puts.{disk_fault_of, no_memory_of, other_fault_of, put_held, put_stop, renewal_made, renewal_stop, store_after, store_made, untouched_stop}
 use Rattle.amr_checkpoint.proofs.keeping.put_checkpoint.Goals as goal
 
 pub returns-in-Err-clause-stops : goal.returns-in-Err-clause-stops
@@ -58,6 +58,10 @@ returns-then-version-eq1-clause-disk_fault g c is =
     let fault : c.fault_of_call.result ≡ DiskFault = cc in
     c.in-Err-renew.ensures.reason.failed (disk_fault_of Store c.in-Err-renew.fault (sym c.fault_of_call.ensures ∙ fault) (c.in-Err-renew.ensures.shuts ∙ c.requires.store.unshut))
 
+pub returns-then-version-eq1-clause-no_disk_fault : goal.returns-then-version-eq1-clause-no_disk_fault
+returns-then-version-eq1-clause-no_disk_fault g c other =
+    c.in-Err-renew.ensures.reason.no_fault (other_fault_of Store c.in-Err-renew.fault (λ fault. other (ap Err (c.fault_of_call.ensures ∙ fault))))
+
 -- ---- one of version 2
 
 pub put-requires-clause-above : goal.put-requires-clause-above
@@ -105,3 +109,7 @@ pub returns-clause-disk_fault : goal.returns-clause-disk_fault
 returns-clause-disk_fault g c is =
     let fault : c.fault_of_call-in-Err-put.result ≡ DiskFault = cc in
     c.in-Err-put.ensures.reason.failed (disk_fault_of Unit c.in-Err-put.fault (sym c.fault_of_call-in-Err-put.ensures ∙ fault) (c.in-Err-put.ensures.shuts.refused ∙ c.requires.store.unshut))
+
+pub returns-clause-no_disk_fault : goal.returns-clause-no_disk_fault
+returns-clause-no_disk_fault g c other =
+    c.in-Err-put.ensures.reason.no_fault (other_fault_of Unit c.in-Err-put.fault (λ fault. other (ap Err (c.fault_of_call-in-Err-put.ensures ∙ fault))))

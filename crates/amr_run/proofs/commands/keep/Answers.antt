@@ -1,5 +1,5 @@
-use Rattle.std.proofs.Common.{◌≡◌, IfSome, [], sym, ◌∙◌, refl, subst, inl, List, ℕ}
-use Rattle.amr_causes.proofs.ByteLaws.{grows_none, were_left}
+use Rattle.std.proofs.Common.{IfSome, [], sym, ◌∙◌, refl, subst, inl, List, ℕ}
+use Rattle.amr_causes.proofs.ByteLaws.{grows_none}
 use Rattle.amr_checkpoint.specs.declared.refusal.Refusal.{Refusal}
 use Rattle.amr_def.specs.Plot.{plot}
 use Rattle.amr_patch.specs.Meshes.{state_of}

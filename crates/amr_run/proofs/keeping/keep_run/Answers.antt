@@ -1,18 +1,18 @@
 use Rattle.std.proofs.Common.{◌≡◌, [], Some, None, Err, refl, sym, ◌∙◌, ap, subst, inl}
 use Rattle.std.specs.List.{flat_map}
 use Rattle.amr_causes.proofs.ByteLaws.{grows_none}
+use Rattle.amr_causes.specs.Causes.{Rose}
 use Rattle.amr_checkpoint.specs.Checkpoints.{content_resumed}
 use Rattle.amr_checkpoint.specs.Contents.{Holds, state_from}
 use Rattle.amr_checkpoint.specs.Marks.{answer_of_run, checkpoint_line, marks}
 use Rattle.amr_def.specs.Facts.{IsSound}
 use Rattle.amr_def.specs.Plot.{plot}
 use Rattle.amr_drive.proofs.Finishes.{finish_sound}
-use Rattle.amr_patch.specs.Meshes.{state_of}
 use Rattle.amr_store.specs.Phases.{OnlyReads}
 use Rattle.amr_run.specs.Kept.{KeptReplies}
 use Rattle.amr_run.specs.Refusals.{keep_refused, resume_refused}
 use Rattle.amr_run.specs.declared.status.Status.{Status}
-use Rattle.amr_run.proofs.KeptOutcomes.{found_sound, is_kept_run, no_store, no_write_cause, stops_kept, unkept, unresumed}
+use Rattle.amr_run.proofs.KeptOutcomes.{disk_cause, found_sound, is_kept_run, no_disk_cause, no_store, no_write_cause, stops_kept, unkept, unresumed}
 use Rattle.amr_run.proofs.StoreOutcomes.{if_told}
 use Rattle.amr_run.proofs.keeping.keep_run.Goals as goal
 
@@ -63,6 +63,20 @@ returns-in-Err-run_from-clause-outcome g c =
           (unkept c.args.bytes.now c.args.keeping.now.problem.now c.args.keeping.now.every c.args.keeping.now.target (g.D.Disk.seen c.args.disk.now) (answer_of_run p found target) lines run.said (g.E.Sink.faults c.args.err.now) (g.E.Sink.faults c.run_from.new.err) c.in-Err-run_from.fault answer run.says),
       stops_kept g.D.Disk.seen g.D.Disk.moment g.D.Disk.leaves g.D.Disk.faults g.E.Sink.holds g.E.Sink.faults c.args.bytes.now c.args.keeping.now.problem.now c.args.keeping.now.every c.args.keeping.now.target c.in-Ok.resumed c.args.disk.now c.resume.new.disk c.run_from.new.disk c.args.err.now c.run_from.new.err (Some c.in-Err-run_from.fault) c.in-Ok.ensures.reads c.in-Ok.ensures.settled (λ image told. c.in-Ok.ensures.holds image p told c.requires.accepted) can run,
     )
+
+pub returns-in-Err-run_from-clause-disk_fault : goal.returns-in-Err-run_from-clause-disk_fault
+returns-in-Err-run_from-clause-disk_fault g c is =
+    let same = c.in-Ok.ensures.no_disk_fault (λ failed. absurd (cc)) in
+    subst (λ n. Rose n (g.D.Disk.faults c.run_from.new.disk)) same
+    (disk_cause c.in-Err-run_from.fault (g.D.Disk.faults c.resume.new.disk) (g.D.Disk.faults c.run_from.new.disk) c.in-Err-run_from.ensures.kept.fails (sym c.from-in-Err-run_from.ensures ∙ (cc)))
+
+pub returns-in-Ok-run_from-clause-no_disk_fault : goal.returns-in-Ok-run_from-clause-no_disk_fault
+returns-in-Ok-run_from-clause-no_disk_fault g c other = c.in-Ok-run_from.ensures.kept.fails ∙ c.in-Ok.ensures.no_disk_fault (λ failed. absurd (cc))
+
+pub returns-in-Err-run_from-clause-no_disk_fault : goal.returns-in-Err-run_from-clause-no_disk_fault
+returns-in-Err-run_from-clause-no_disk_fault g c other =
+    no_disk_cause c.in-Err-run_from.fault (g.D.Disk.faults c.resume.new.disk) (g.D.Disk.faults c.run_from.new.disk) c.in-Err-run_from.ensures.kept.fails (λ is. other (ap Err (c.from-in-Err-run_from.ensures ∙ is)))
+    ∙ c.in-Ok.ensures.no_disk_fault (λ failed. absurd (cc))
 
 pub returns-in-Err-run_from-clause-no_write_fault : goal.returns-in-Err-run_from-clause-no_write_fault
 returns-in-Err-run_from-clause-no_write_fault g c other =

@@ -1,4 +1,4 @@
-use Rattle.std.proofs.Common.{◌≡◌, ◌+◌, ◌∷◌, refl, sym, subst, Some}
+use Rattle.std.proofs.Common.{◌+◌, ◌∷◌, refl, sym, subst, Some}
 use Rattle.std.specs.List.{flat_map}
 use Rattle.amr_causes.proofs.ByteLaws.{prefix_none}
 use Rattle.amr_checkpoint.specs.declared.faults.KeepFault.TheVariants as fault
@@ -22,7 +22,7 @@ returns-in-Ok-clause-kept g c =
     let target = c.args.keeping.now.target in
     let states = start p ∷ states_after p (start p) target in
     let kept = keeps_of g.D.Disk.seen g.D.Disk.moment g.D.Disk.leaves g.D.Disk.faults g.E.Sink.holds g.E.Sink.faults c.args.bytes.now c.args.keeping.now.problem.now c.args.keeping.now.every c.args.keeping.now.target (problem_in c.in-Ok.store) c.make_store.new.disk c.run_new.new.disk c.args.err.now c.run_new.new.err states (fault_in c.run_new.result) c.in-Ok.ensures.problem c.run_new.ensures.kept in
-    let run = run_kept_new g.D.Disk.seen g.D.Disk.moment g.D.Disk.leaves g.D.Disk.faults g.E.Sink.holds g.E.Sink.faults c.args.bytes.now c.args.keeping.now.problem.now c.args.keeping.now.every c.args.keeping.now.target c.args.disk.now c.make_store.new.disk c.run_new.new.disk c.args.err.now c.run_new.new.err states (fault_in c.run_new.result) kept (made_first c.args.bytes.now p every target) c.in-Ok.ensures.later c.in-Ok.ensures.told
+    let run = run_kept_new g.D.Disk.seen g.D.Disk.moment g.D.Disk.leaves g.D.Disk.faults g.E.Sink.holds g.E.Sink.faults c.args.bytes.now c.args.keeping.now.problem.now c.args.keeping.now.every c.args.keeping.now.target c.args.disk.now c.make_store.new.disk c.run_new.new.disk c.args.err.now c.run_new.new.err states (fault_in c.run_new.result) kept (made_first c.args.bytes.now p every target) (c.in-Ok.ensures.no_disk_fault (λ is. absurd (cc))) c.in-Ok.ensures.told
     (c.in-Ok.ensures.ready.settled c.in-Ok.ensures.store.store_is.unshut) c.in-Ok.ensures.holds c.in-Ok.ensures.stops in
     subst (λ (r : Resumed). KeepsRun g.D.Disk.seen g.D.Disk.moment g.D.Disk.leaves g.D.Disk.faults g.E.Sink.holds g.E.Sink.faults c.args.bytes.now c.args.keeping.now.problem.now c.args.keeping.now.every c.args.keeping.now.target (content_resumed c.args.bytes.now p r) c.args.disk.now c.run_new.new.disk c.args.err.now c.run_new.new.err (fault_in c.run_new.result)) (sym c.in-Nothing.is) run
 
@@ -33,7 +33,7 @@ returns-in-Err-DiskFault-clause-kept g c =
     let target = c.args.keeping.now.target in
     let states = start p ∷ states_after p (start p) target in
     let run = run_unmade g.D.Disk.seen g.D.Disk.moment g.D.Disk.leaves g.D.Disk.faults g.E.Sink.holds g.E.Sink.faults c.args.bytes.now c.args.keeping.now.problem.now c.args.keeping.now.every c.args.keeping.now.target c.args.disk.now c.make_store.new.disk c.args.err.now (contents_at c.args.bytes.now p (marked every target states)) fault.DiskFault (made_first c.args.bytes.now p every target)
-    (prefix_none (flat_map checkpoint_line (marks every Empty target)), refl) c.in-Err-DiskFault.ensures.later (λ is. c.in-Err-DiskFault.ensures.disk_fault (cc)) c.in-Err-DiskFault.ensures.stops in
+    (prefix_none (flat_map checkpoint_line (marks every Empty target)), refl) c.in-Err-DiskFault.ensures.later (c.in-Err-DiskFault.ensures.disk_fault (cc)) c.in-Err-DiskFault.ensures.stops in
     subst (λ (r : Resumed). KeepsRun g.D.Disk.seen g.D.Disk.moment g.D.Disk.leaves g.D.Disk.faults g.E.Sink.holds g.E.Sink.faults c.args.bytes.now c.args.keeping.now.problem.now c.args.keeping.now.every c.args.keeping.now.target (content_resumed c.args.bytes.now p r) c.args.disk.now c.make_store.new.disk c.args.err.now c.args.err.now (Some fault.DiskFault)) (sym c.in-Nothing.is) run
 
 pub returns-in-Err-NoMemory-clause-kept : goal.returns-in-Err-NoMemory-clause-kept
@@ -43,7 +43,7 @@ returns-in-Err-NoMemory-clause-kept g c =
     let target = c.args.keeping.now.target in
     let states = start p ∷ states_after p (start p) target in
     let run = run_unmade g.D.Disk.seen g.D.Disk.moment g.D.Disk.leaves g.D.Disk.faults g.E.Sink.holds g.E.Sink.faults c.args.bytes.now c.args.keeping.now.problem.now c.args.keeping.now.every c.args.keeping.now.target c.args.disk.now c.make_store.new.disk c.args.err.now (contents_at c.args.bytes.now p (marked every target states)) fault.NoMemory (made_first c.args.bytes.now p every target)
-    (prefix_none (flat_map checkpoint_line (marks every Empty target)), refl) c.in-Err-NoMemory.ensures.later (λ is. absurd (cc)) c.in-Err-NoMemory.ensures.stops in
+    (prefix_none (flat_map checkpoint_line (marks every Empty target)), refl) c.in-Err-NoMemory.ensures.later (c.in-Err-NoMemory.ensures.no_disk_fault (λ is. absurd (cc))) c.in-Err-NoMemory.ensures.stops in
     subst (λ (r : Resumed). KeepsRun g.D.Disk.seen g.D.Disk.moment g.D.Disk.leaves g.D.Disk.faults g.E.Sink.holds g.E.Sink.faults c.args.bytes.now c.args.keeping.now.problem.now c.args.keeping.now.every c.args.keeping.now.target (content_resumed c.args.bytes.now p r) c.args.disk.now c.make_store.new.disk c.args.err.now c.args.err.now (Some fault.NoMemory)) (sym c.in-Nothing.is) run
 
 pub returns-in-Fresh-clause-kept : goal.returns-in-Fresh-clause-kept

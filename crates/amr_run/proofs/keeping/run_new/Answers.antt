@@ -1,4 +1,4 @@
-use Rattle.std.proofs.Common.{◌≡◌, ◌∷◌, ap, arith}
+use Rattle.std.proofs.Common.{◌∷◌, ap, arith}
 use Rattle.amr_checkpoint.specs.Kept.{fault_in}
 use Rattle.amr_checkpoint.proofs.KeptStates.{keeps_nothing}
 use Rattle.amr_checkpoint.proofs.Stepping.{start_step}

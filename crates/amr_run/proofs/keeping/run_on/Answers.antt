@@ -1,4 +1,4 @@
-use Rattle.std.proofs.Common.{◌≡◌, ◌≤◌, ◌+◌, refl, sym, arith}
+use Rattle.std.proofs.Common.{◌≤◌, ◌+◌, refl, sym, arith}
 use Rattle.std.proofs.lemmas.Option.{IfSome_then}
 use Rattle.amr_drive.proofs.Finishes.{finish_sound, finish_step}
 use Rattle.amr_patch.specs.Meshes.{state_of}

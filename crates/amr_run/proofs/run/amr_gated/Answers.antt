@@ -1,4 +1,4 @@
-use Rattle.std.proofs.Common.{◌≡◌, ◌++◌, ⊎_elim, inl, inr, arith}
+use Rattle.std.proofs.Common.{◌++◌, ⊎_elim, inl, inr}
 use Rattle.amr_causes.proofs.ByteLaws.{grows_more}
 use Rattle.amr_causes.proofs.CauseLaws.{rose_before}
 use Rattle.amr_cli.specs.Words.{command_of}

@@ -1,4 +1,4 @@
-use Rattle.std.proofs.Common.{◌≡◌, Some, None, [], refl, sym, subst, Option, ℕ}
+use Rattle.std.proofs.Common.{Some, [], refl, sym, subst, Option, ℕ}
 use Rattle.amr_causes.proofs.ByteLaws.{grows_none}
 use Rattle.amr_cli.specs.declared.command.Command.TheVariants.{Run}
 use Rattle.amr_run.specs.Outcome.{RepliesTo, StopsTo, status_of}

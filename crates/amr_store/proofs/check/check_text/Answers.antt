@@ -4,6 +4,7 @@ use Rattle.amr_store.proofs.Pieces.{if_ok_map, more_tests, first_test, next_test
 use Rattle.amr_store.specs.declared.part.Part.TheVariants.{Text, Size}
 use Rattle.amr_store.specs.Layout.{size_of, text_length}
 use Rattle.amr_store.specs.Reading.{slot_tests}
+use Rattle.amr_store.proofs.Readings.{reads_on}
 use Rattle.amr_store.proofs.check.check_text.Goals as goal
 
 pub returns-in-Ok-false-clause-told : goal.returns-in-Ok-false-clause-told
@@ -31,3 +32,6 @@ returns-clause-told g c =
     (or_from (nat_lt 65536 (text_length part)) (nat_lt (length part) (21 + text_length part)) (le-ltb 65536 (text_length part) (omega (arith, says.text_is, c.if-head-gt65536.false)))
     (le-ltb (length part) (21 + text_length part) (omega (arith, says.text_is, ltb-true (20 + c.args.head.text) (length part) long))))
     (more_tests checked (nat_lt (2 ^ 40) (size_of part)) Size (slot_tests part) part (le-ltb (2 ^ 40) (size_of part) (omega (arith, says.size_is, c.if-head.false))) (told s (c.has_byte_from.ensures.reads.same ∙ is) says)))
+
+pub returns-clause-reads : goal.returns-clause-reads
+returns-clause-reads g c = reads_on g.D.Disk.seen g.D.Disk.moment g.D.Disk.leaves c.args.disk.now c.has_byte_from.new.disk c.check_slots.new.disk c.has_byte_from.ensures.reads c.check_slots.ensures.reads

@@ -32,7 +32,7 @@ returns-in_err-sync-clause-stops g c s is =
     let l = g.D.Disk.leaves in
     let written = three_writes m l c.args.disk.now c.write_at.new.self c.write_at-2.new.self c.write_at-3.new.self c.args.first.at (length c.args.first.bytes.now) c.args.second.at (length c.args.second.bytes.now) c.args.third.at (length c.args.third.bytes.now) s
     (only_at m l c.args.disk.now _ s is c.requires.settled) c.write_at.ensures.images c.write_at-2.ensures.images c.write_at-3.ensures.images in
-    syncs m l c.args.disk.now c.write_at-3.new.self c.sync.new.self (TornThrice c.args.first.at (length c.args.first.bytes.now) c.args.second.at (length c.args.second.bytes.now) c.args.third.at (length c.args.third.bytes.now) s) written c.sync.ensures.images
+    syncs m l c.args.disk.now c.write_at-3.new.self c.sync.new.self (TornThrice c.args.first.at (length c.args.first.bytes.now) c.args.second.at (length c.args.second.bytes.now) c.args.third.at (length c.args.third.bytes.now) s) written c.sync.ensures.images.passes
 
 pub returns-clause-stops : goal.returns-clause-stops
 returns-clause-stops g c s is =
@@ -40,4 +40,4 @@ returns-clause-stops g c s is =
     let l = g.D.Disk.leaves in
     let written = three_writes m l c.args.disk.now c.write_at.new.self c.write_at-2.new.self c.write_at-3.new.self c.args.first.at (length c.args.first.bytes.now) c.args.second.at (length c.args.second.bytes.now) c.args.third.at (length c.args.third.bytes.now) s
     (only_at m l c.args.disk.now _ s is c.requires.settled) c.write_at.ensures.images c.write_at-2.ensures.images c.write_at-3.ensures.images in
-    syncs m l c.args.disk.now c.write_at-3.new.self c.sync.new.self (TornThrice c.args.first.at (length c.args.first.bytes.now) c.args.second.at (length c.args.second.bytes.now) c.args.third.at (length c.args.third.bytes.now) s) written c.sync.ensures.images
+    syncs m l c.args.disk.now c.write_at-3.new.self c.sync.new.self (TornThrice c.args.first.at (length c.args.first.bytes.now) c.args.second.at (length c.args.second.bytes.now) c.args.third.at (length c.args.third.bytes.now) s) written c.sync.ensures.images.passes

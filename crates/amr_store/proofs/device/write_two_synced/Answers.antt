@@ -25,7 +25,7 @@ returns-in_err-sync-clause-stops g c s is =
     let l = g.D.Disk.leaves in
     let written = two_writes m l c.args.disk.now c.write_at.new.self c.write_at-2.new.self c.args.first_at (length c.args.first.now) c.args.last_at (length c.args.last.now) s
     (only_at m l c.args.disk.now _ s is c.requires.settled) c.write_at.ensures.images c.write_at-2.ensures.images in
-    syncs m l c.args.disk.now c.write_at-2.new.self c.sync.new.self (TornTwice c.args.first_at (length c.args.first.now) c.args.last_at (length c.args.last.now) s) written c.sync.ensures.images
+    syncs m l c.args.disk.now c.write_at-2.new.self c.sync.new.self (TornTwice c.args.first_at (length c.args.first.now) c.args.last_at (length c.args.last.now) s) written c.sync.ensures.images.passes
 
 pub returns-clause-stops : goal.returns-clause-stops
 returns-clause-stops g c s is =
@@ -33,4 +33,4 @@ returns-clause-stops g c s is =
     let l = g.D.Disk.leaves in
     let written = two_writes m l c.args.disk.now c.write_at.new.self c.write_at-2.new.self c.args.first_at (length c.args.first.now) c.args.last_at (length c.args.last.now) s
     (only_at m l c.args.disk.now _ s is c.requires.settled) c.write_at.ensures.images c.write_at-2.ensures.images in
-    syncs m l c.args.disk.now c.write_at-2.new.self c.sync.new.self (TornTwice c.args.first_at (length c.args.first.now) c.args.last_at (length c.args.last.now) s) written c.sync.ensures.images
+    syncs m l c.args.disk.now c.write_at-2.new.self c.sync.new.self (TornTwice c.args.first_at (length c.args.first.now) c.args.last_at (length c.args.last.now) s) written c.sync.ensures.images.passes

@@ -1,6 +1,7 @@
 use Rattle.std.proofs.Common.{◌∙◌}
 use Rattle.amr_store.proofs.Openings.{empty_is, held_is}
 use Rattle.amr_store.proofs.Pieces.{if_ok_map}
+use Rattle.amr_store.proofs.Readings.{reads_on}
 use Rattle.amr_store.proofs.open.find.Goals as goal
 
 pub returns-in-Ok-true-clause-told : goal.returns-in-Ok-true-clause-told
@@ -10,3 +11,6 @@ returns-in-Ok-true-clause-told g c =
 
 pub returns-in-Ok-false-clause-told : goal.returns-in-Ok-false-clause-told
 returns-in-Ok-false-clause-told g c s is = empty_is s c.in-Ok-false.field-0 (c.in-Ok-false.ensures.told s is) c.in-Ok-false.field-0-test
+
+pub returns-in-Ok-true-clause-reads : goal.returns-in-Ok-true-clause-reads
+returns-in-Ok-true-clause-reads g c = reads_on g.D.Disk.seen g.D.Disk.moment g.D.Disk.leaves c.args.disk.now c.has_open_gate.new.disk c.open_held.new.disk c.has_open_gate.ensures.reads c.open_held.ensures.reads

@@ -5,6 +5,7 @@ use Rattle.amr_store.specs.declared.check.Checked.TheVariants.{Whole, Faulty}
 use Rattle.amr_store.specs.Checking.{Checks}
 use Rattle.amr_store.specs.Reading.{magic_in}
 use Rattle.amr_store.specs.Stored.{tests}
+use Rattle.amr_store.proofs.Readings.{reads_on}
 use Rattle.amr_store.proofs.open.open_renewed.Goals as goal
 
 pub returns-in-Ok-Whole-clause-told : goal.returns-in-Ok-Whole-clause-told
@@ -22,3 +23,6 @@ returns-in-Ok-Faulty-clause-told g c s is held renewed =
     let checked : Checks (Faulty c.in-Ok-Faulty.part) (tests (magic_in false part) part) part = (rw c.in-Ok-Faulty.field-0-is at c.in-Ok-Faulty.ensures.told) s is in
     inner_damaged c.args.outline s c.in-Ok-Faulty.part held renewed
     (subst (λ (b : ℕ). Checks (Faulty c.in-Ok-Faulty.part) (tests (magic_in false (drop b s)) (drop b s)) (drop b s)) (sym (end_is c.args.outline s held.outline_is)) checked)
+
+pub returns-in-Ok-Whole-clause-reads : goal.returns-in-Ok-Whole-clause-reads
+returns-in-Ok-Whole-clause-reads g c = reads_on g.D.Disk.seen g.D.Disk.moment g.D.Disk.leaves c.args.disk.now c.check.new.disk c.open_inner.new.disk c.check.ensures.reads c.open_inner.ensures.reads
