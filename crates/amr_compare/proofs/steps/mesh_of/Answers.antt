@@ -1,0 +1,15 @@
+use Rattle.std.proofs.Common.{◌≡◌, map, refl}
+use Rattle.amr_patch.specs.declared.meshes.Mesh.{Mesh}
+use Rattle.amr_patch.specs.Levels.{level_of}
+use Rattle.amr_patch.specs.Meshes.{levels_of, state_of}
+use Rattle.amr_cycle.proofs.Chopped.{chopped_above}
+use Rattle.amr_compare.proofs.steps.mesh_of.Goals as goal
+
+levels_are : (m : Mesh) → (state_of m).levels ≡ map level_of (levels_of m)
+unfolding state_of levels_of
+levels_are m = refl
+
+pub returns-clause-coarsenable : goal.returns-clause-coarsenable
+returns-clause-coarsenable c =
+    let m = c.in-Ok.mesh in
+    chopped_above c.args.p.now (state_of m) (levels_of m) c.in-Ok.ensures.sound (levels_are m) (λ n d lt. (c.in-Ok.ensures.chopped n d lt).patches)
