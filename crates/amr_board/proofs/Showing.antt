@@ -39,12 +39,6 @@ not_with id k e ne =
       | false ↦ elim (e.taken) as (λ b. is_with id (cond b (Held k e.puts e.adds) (Drawn k)) ≡ false) [ true ↦ ne_eqb k id ne | false ↦ ne_eqb k id ne ]
     ]
 
-not_given : (s : Stage) (id : ℕ) → is_with id s ≡ true → s ≢ Given
-not_given s id w e = absurd_with (ap (is_with id) e) w
-  where
-    absurd_with : is_with id s ≡ false → is_with id s ≡ true → ⊥
-    absurd_with f t = true≢false (sym t ∙ f)
-
 module _ {P : Type 0} (plan : PlanOf) (pieces : List P) (becomes : P → P → Type 0) (s : State (Option P) (View P)) (h : Sentences plan pieces becomes s)
     (c : CoreOf) (good : IsConsistent c) (shows : Shows plan s c) (id : ℕ) (v : View P) (at : get_elem? s.views id ≡ lookup.some v) (live : v.spent ≡ false) where
   pub here : nat_lt id (length c.past) ≡ true

@@ -39,10 +39,6 @@ module _ {X : Type 0} where
       (λ (t : (k ≢ id) × (get_elem? vs k ≡ some u)). all k u t.1)
       (at_set vs id k w u e)
 
-pub weigh_ext : (h g : ℕ → ℕ) (t n : ℕ) → ((k : ℕ) → h k ≡ g k) → weigh h t n ≡ weigh g t n
-weigh_ext h g t zero same = refl
-weigh_ext h g t (suc n) same = let k = same t in let r = weigh_ext h g (suc t) n same in omega arith
-
 pub weigh_shift : (h : ℕ → ℕ) (t n : ℕ) → weigh h (suc t) n ≡ weigh (λ k. h (suc k)) t n
 weigh_shift h t zero = refl
 weigh_shift h t (suc n) = let r = weigh_shift h (suc t) n in omega arith

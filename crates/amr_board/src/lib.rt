@@ -19,6 +19,3 @@ pub use laws::{
 pub use piece::Piece;
 pub use rule::{About, Kept};
 pub use view::{Deed, Look, Progress, View};
-
-#[cfg(test)]
-mod tests;

@@ -49,14 +49,6 @@ abbrev pub size_along : Axis → Extent → ℕ
 size_along X b = width b
 size_along Y b = height b
 
-pub signature-short : (axis : Axis) (cells : List Cell) (b : Extent) → IsNear b → length (signature axis cells b) < 2 ^ 32
-signature-short X cells b near =
-    let size : pos (width b) ≡ b.hi.x +ℤ pos 1 -ℤ b.lo.x = size-is b.lo.x b.hi.x near.wide in
-    rw length-map-range_with_len (omega (arith, ints, size, near.west, near.east))
-signature-short Y cells b near =
-    let size : pos (height b) ≡ b.hi.y +ℤ pos 1 -ℤ b.lo.y = size-is b.lo.y b.hi.y near.high in
-    rw length-map-range_with_len (omega (arith, ints, size, near.south, near.north))
-
 -- the signature is as long as the box, and its entries add up to the cells
 pub signature-length : (a : Axis) (cells : List Cell) (b : Extent) → length (signature a cells b) ≡ size_along a b
 signature-length X cells b = length-map-range_with_len _ 0 (width b)

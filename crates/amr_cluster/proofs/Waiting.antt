@@ -84,13 +84,6 @@ pub cluster-none : (efficiency w : ℕ) → cluster efficiency w [] ≡ []
 unfolding cluster cluster_within
 cluster-none efficiency w = refl
 
-pub cut-small : (b : Extent) (k : Cut) → IsNear b → IsInside b k → k.at < 2 ^ 26
-cut-small b k near inside = choose k.axis k.at inside.to
-  where
-    choose : (a : Axis) (n : ℕ) → (along a b.lo +ℤ pos n) ≤ℤ along a b.hi → n < 2 ^ 26
-    choose X n h = omega (arith, ints, near.west, near.east)
-    choose Y n h = omega (arith, ints, near.south, near.north)
-
 -- ---- one turn of the loop
 
 int_lt-not : (z e : ℤ) → int_le e z ≡ not (int_lt z e)
@@ -126,13 +119,6 @@ empty_of (x ∷ xs) e = absurd (omega arith)
 pub record IsTurn (efficiency w : ℕ) (has : Cell → Bool) (larger : Extent) (boxes : List Extent) (work : List CutBox) : Type 0 where
   pub total : boxes ++ waiting efficiency w has work ≡ cluster efficiency w (cells_in has larger)
   pub listed : IsWork efficiency w has larger work
-
-pub turn_first : (efficiency w : ℕ) (has : Cell → Bool) (larger : Extent) (work : List CutBox) → waiting efficiency w has work ≡ cluster efficiency w (cells_in has larger) ++ [] → IsWork efficiency w has larger work → IsTurn efficiency w has larger [] work
-turn_first efficiency w has larger work e listed = record { total = e ∙ append-nil (cluster efficiency w (cells_in has larger)); listed = listed }
-
-pub turn_last : (efficiency w : ℕ) (has : Cell → Bool) (larger : Extent) (boxes : List Extent) (work : List CutBox) → IsTurn efficiency w has larger boxes work → length work ≡ 0 → boxes ≡ cluster efficiency w (cells_in has larger)
-turn_last efficiency w has larger boxes work turn none =
-    sym (ap (λ (ds : List CutBox). boxes ++ waiting efficiency w has ds) (empty_of work none) ∙ append-nil boxes) ∙ turn.total
 
 -- the box that is next, and the others
 module _ (efficiency w : ℕ) (has : Cell → Bool) (larger : Extent) (least : 1 ≤ w) (boxes : List Extent) (old work : List CutBox) (p : CutBox) (turn : IsTurn efficiency w has larger boxes old) (popped : old ≡ work ++ p ∷ []) where

@@ -26,10 +26,6 @@ filter-none : {A : Type 0} (xs : List A) → filter (λ x. false) xs ≡ []
 filter-none [] = refl
 filter-none (x ∷ xs) = filter-none xs
 
-flat_map-none : {A B : Type 0} (xs : List A) → flat_map {X = A} {A = B} (λ x. []) xs ≡ []
-flat_map-none [] = refl
-flat_map-none (x ∷ xs) = flat_map-none xs
-
 flat_map-same : {B : Type 0} (f g : ℕ → List B) (a n : ℕ) → ((k : ℕ) → a ≤ k → k < a + n → f k ≡ g k) → flat_map f (range_with_len a n) ≡ flat_map g (range_with_len a n)
 flat_map-same {B = B} f g a zero same = refl
 flat_map-same {B = B} f g a (suc n) same =

@@ -9,10 +9,6 @@ mod boxes;
 mod cut_boxes;
 mod laws;
 mod parts;
-#[cfg(test)]
-mod plain;
-#[cfg(test)]
-mod table;
 
 pub use boxes::cluster;
 pub use laws::{cluster_is_recursive, clusters_are_sound, tags_grow_as_defined};

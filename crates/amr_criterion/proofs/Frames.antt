@@ -11,7 +11,8 @@ use Rattle.amr_def.specs.declared.problem.Problem.{Problem}
 use Rattle.amr_def.specs.Domain.{domain}
 use Rattle.amr_def.specs.State.{Level, Masses}
 use Rattle.amr_def.specs.Facts.{IsLevel}
-use Rattle.amr_patch.proofs.Lookups.{some_mass}
+use Rattle.amr_patch.proofs.Lookups.{same_default, some_mass}
+use Rattle.amr_patch.proofs.SameBoxes.{box_at, same_length}
 use Rattle.amr_patch.specs.declared.patches.Patch.{Patch}
 use Rattle.amr_patch.specs.Patches.{ArePatchesApart, box, mass_in, masses_in}
 use Rattle.amr_ghost.specs.Frames.{AreInDomain, SameMasses}
@@ -22,24 +23,8 @@ patches_inside p l k ps level is = λ c h. level.inside c (sym (level.filled c) 
 
 -- ---- patches with the boxes of others
 
-map_length : (ps : List Patch) → length (map box ps) ≡ length ps
-map_length [] = refl
-map_length (p ∷ ps) = ap suc (map_length ps)
-
-pub same_count : (ps qs : List Patch) → map box qs ≡ map box ps → length qs ≡ length ps
-same_count ps qs e = sym (map_length qs) ∙ ap length e ∙ map_length ps
-
-pub box_at : (ps qs : List Patch) (k : ℕ) (d e : Patch) → map box qs ≡ map box ps → k < length qs → box (get_or qs k d) ≡ box (get_or ps k e)
-box_at ps qs k d e same h =
-    let n = same_count ps qs same in
-    let here : k < length ps = omega arith in
-    sym (get_or-map box qs k d (box d) h) ∙ ap (λ (bs : List Extent). get_or bs k (box d)) same ∙ get_or-map box ps k e (box d) here
-
-pub still_apart : (ps qs : List Patch) → map box qs ≡ map box ps → ArePatchesApart ps → ArePatchesApart qs
-still_apart ps qs same apart = λ i j d below there c a b.
-    let n = same_count ps qs same in
-    let low : i < length qs = omega arith in
-    apart i j d below (omega arith) c (subst (λ (t : Extent). IsTrue (holds t c)) (box_at ps qs i d d same low) a) (subst (λ (t : Extent). IsTrue (holds t c)) (box_at ps qs j d d same there) b)
+pub box_of_other : (ps qs : List Patch) (k : ℕ) (d e : Patch) → map box qs ≡ map box ps → k < length qs → box (get_or qs k d) ≡ box (get_or ps k e)
+box_of_other ps qs k d e same h = box_at qs ps k d same ∙ ap box (same_default ps k d e (omega (arith, h, same_length qs ps same)))
 
 first_box : List Extent → Extent → Extent
 first_box [] b = b

@@ -23,7 +23,7 @@ use Rattle.amr_nest.proofs.Reaches.{domain_is}
 use Rattle.amr_tags.specs.TagSets.{TagSet, has}
 use Rattle.amr_criterion.specs.Tagged.{is_tagged_in}
 use Rattle.amr_criterion.specs.Pairs.{IsJoined}
-use Rattle.amr_criterion.proofs.Frames.{box_at, same_masses}
+use Rattle.amr_criterion.proofs.Frames.{box_of_other, same_masses}
 
 -- ---- a test of the patch that has a cell
 
@@ -76,7 +76,7 @@ same_compares t d v w c here west east south north =
 
 module _ (p : Problem) (l : ℕ) (old : Masses) (ps qs : List Patch) (apart : ArePatchesApart ps) (lies : AreInDomain (domain p l) ps) (masses : AllZip SameMasses ps qs) (boxes : map box qs ≡ map box ps) (filled : All (HasGhostValues p l (masses_in ps) old) qs) where
   value_of : (k : ℕ) (d : Patch) (c : Cell) → k < length qs → IsTrue (holds (grown (box (get_or qs k d))) c && (within (box (get_or qs k d)).lo.x (box (get_or qs k d)).hi.x c.x || within (box (get_or qs k d)).lo.y (box (get_or qs k d)).hi.y c.y)) → value_in (get_or qs k d) c ≡ value_at p l (masses_in ps) old c
-  value_of k d c lt reach = reach_values p l old ps qs k d c apart lies masses (λ e. box_at ps qs k d e boxes lt) filled lt reach
+  value_of k d c lt reach = reach_values p l old ps qs k d c apart lies masses (λ e. box_of_other ps qs k d e boxes lt) filled lt reach
 
   compared : (c : Cell) (k : ℕ) (d : Patch) → k < length qs → holds (box (get_or qs k d)) c ≡ true → compares (slice_index p.tag l) (domain p l) (value_in (get_or qs k d)) c ≡ compares (slice_index p.tag l) (domain p l) (value_at p l (masses_in ps) old) c
   compared c k d lt held =

@@ -5,4 +5,3 @@ pub mod Compared
 pub mod TaggedIn
 pub mod Frames
 pub mod Levels
-pub mod Samples

@@ -10,6 +10,3 @@ mod lines;
 mod patches;
 
 pub use level::tags;
-
-#[cfg(test)]
-mod tests;

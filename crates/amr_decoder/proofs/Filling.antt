@@ -23,9 +23,6 @@ use Rattle.amr_decoder.specs.Filled.{AreFilled, IsFilled, IsSpanSet}
 
 -- ---- spans
 
-pub span_none : (c : Cell) (ms : List ℕ) (ps : List Patch) → IsSpanSet c ms 0 ps ps
-span_none c ms ps = record { boxes = refl; set = λ k h. absurd (omega arith); others = λ d h. refl }
-
 pub span_more : (c e : Cell) (ms : List ℕ) (a b : ℕ) (ps qs rs : List Patch) → e ≡ cell (c.x +ℤ pos a) c.y → IsSpanSet c ms a ps qs → IsSpanSet e (drop a ms) b qs rs → IsSpanSet c ms (a + b) ps rs
 span_more c e ms a b ps qs rs is first second = record {
   boxes = second.boxes ∙ first.boxes;
@@ -77,23 +74,6 @@ span_set ps k d p c ms n lt of_box apart held room few made beside = record {
         let b = box (slice_index_or ps k d) in
         let i = inside b c held in
         is_inside b (cell (c.x +ℤ pos j) c.y) (record { west = omega (arith, ints, i.west); east = omega (arith, ints, room, h); south = i.south; north = i.north })
-
--- ---- the same boxes
-
-pub in_same_boxes : (ps qs : List Patch) (c : Cell) → map box qs ≡ map box ps → in_patches qs c ≡ in_patches ps c
-in_same_boxes ps qs c same = in_mapped qs ∙ ap (λ (bs : List Extent). in_boxes bs c) same ∙ sym (in_mapped ps)
-  where
-    in_mapped : (ps : List Patch) → in_patches ps c ≡ in_boxes (map box ps) c
-    in_mapped [] = refl
-    in_mapped (p ∷ ps) = ap (λ t. holds (box p) c || t) (in_mapped ps)
-
-pub boxes_apart : (ps qs : List Patch) → map box qs ≡ map box ps → ArePatchesApart ps → ArePatchesApart qs
-boxes_apart ps qs same apart i j d before there c in_i in_j =
-    let count : length qs ≡ length ps = sym (length-map qs box) ∙ ap length same ∙ length-map ps box in
-    apart i j d before (omega (arith, there, count)) c (ap (λ (b : Extent). holds b c) (sym (same_box ps qs i d same)) ∙ in_i) (ap (λ (b : Extent). holds b c) (sym (same_box ps qs j d same)) ∙ in_j)
-  where
-    same_box : (ps qs : List Patch) (k : ℕ) (d : Patch) → map box qs ≡ map box ps → box (slice_index_or qs k d) ≡ box (slice_index_or ps k d)
-    same_box ps qs k d e = sym (get_or-map box qs k d) ∙ ap (λ (bs : List Extent). slice_index_or bs k (box d)) e ∙ get_or-map box ps k d
 
 -- ---- rows of a box
 
@@ -176,9 +156,6 @@ last_has [] g d h held = ap (λ (t : Bool). if t then Some (slice_index g.masses
 last_has (h ∷ gs) g d none held =
     let parts = or_parts (holds h.box d) (in_boxes (map (λ g. g.box) gs) d) none in
     ap (λ (t : Bool). if t then Some (slice_index h.masses (place_in h.box d)) else tests.masses_in (gs ++ g ∷ []) d) parts.0 ∙ last_has gs g d parts.1 held
-
-pub none_filled : (ps : List Patch) → AreFilled [] ps ps
-none_filled ps = record { boxes = refl; set = λ d h. absurd (cc) }
 
 pub box_filled : (gs : List Grid) (g : Grid) (ps qs rs : List Patch) → ((d : Cell) → in_boxes (map (λ g. g.box) gs) d ≡ true → holds g.box d ≡ true → ⊥) → AreFilled gs ps qs → IsFilled g qs rs → AreFilled (gs ++ g ∷ []) ps rs
 box_filled gs g ps qs rs apart so_far filled = record {

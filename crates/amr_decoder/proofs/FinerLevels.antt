@@ -24,12 +24,6 @@ module _ (w : Width) (p : Problem) (n l : ℕ) (below : Level) where
       ∙ ap (λ (q : Reading Level). then_read q (λ k a. tested (stands p l below k) r.place k a)) first
       ∙ ap (λ t. tested t r.place k e) test
 
-  pub finer_bad : (m : ℕ) (r : Left) (e : CodecFault) → m ≡ l + 1 → IsFaultOf (read_level w p n m r) e → IsFaultOf (read_finer w p n l below r) e
-  unfolding read_finer
-  finer_bad m r e is h =
-      fault_first (read_level w p n (suc l) r) (λ k a. tested (stands p l below k) r.place k a) e
-      (fault_same (read_level w p n (suc l) r) (read_level w p n m r) e (ap (λ (m : ℕ). read_level w p n m r) (sym (add-one l) ∙ sym is)) h)
-
 module _ (w : Width) (p : Problem) (n t l : ℕ) (below : Level) where
   pub over_next : (k : Level) (r e : Left) → l < t → read_finer w p n l below r ≡ read k e → read_all_finer w p n (t - l) l below r ≡ read_also k (read_all_finer w p n (t - (l + 1)) (l + 1) k e)
   over_next k r e inside first =

@@ -20,7 +20,7 @@ use Rattle.amr_payload.proofs.GridLevels.{has_masses}
 use Rattle.amr_decoder.specs.declared.grid.Grid.{Grid}
 use Rattle.amr_decoder.specs.Filled.{AreFilled}
 use Rattle.amr_decoder.specs.Grids.{boxes_of, grid_of}
-use Rattle.amr_decoder.proofs.Filling.{in_same_boxes}
+use Rattle.amr_patch.proofs.SameBoxes.{in_same_boxes}
 
 pub boxes_of_grids : (w : Width) (bytes : List ℕ) (gs : List Grid) → map (λ g. g.box) (map (grid_of w bytes) gs) ≡ boxes_of gs
 boxes_of_grids w bytes [] = refl
@@ -75,7 +75,7 @@ all_masses gs ps qs filled inside = λ i d. at d (in_boxes (map (λ g. g.box) gs
     at : (d : Cell) (t : Bool) → in_boxes (map (λ g. g.box) gs) d ≡ t → masses_in qs d ≡ tests.masses_in gs d
     at d true e = filled.set d e
     at d false e =
-        masses_in-none qs d (in_same_boxes ps qs d filled.boxes ∙ false_from_ne_true (in_patches ps d) (λ h. both_ways (in_boxes (map (λ g. g.box) gs) d) e (inside d h)))
+        masses_in-none qs d (in_same_boxes qs ps d filled.boxes ∙ false_from_ne_true (in_patches ps d) (λ h. both_ways (in_boxes (map (λ g. g.box) gs) d) e (inside d h)))
         ∙ sym (none_from (tests.masses_in gs d) (has_masses gs d ∙ e))
 
 -- ---- a level that is made of them

@@ -31,18 +31,11 @@ unfolding read_number
 number_bad w k bytes h =
     ap (λ t. tested t k (from_le_bytes w (drop k bytes)) (after (byte_len w) (left_at k bytes))) (le_no (byte_len w) (length (drop k bytes)) (omega (arith, length-drop k bytes)))
 
-pub then_is : {A B : Type 0} (q : Reading A) (next : A → Left → Reading B) (a : A) (l : Left) (b : Reading B) → q ≡ read a l → next a l ≡ b → then_read q next ≡ b
-then_is q next a l b first second = ap (λ q. then_read q next) first ∙ second
-
 -- ---- faults
 
 pub fault_same : {A : Type 0} (q r : Reading A) (e : CodecFault) → q ≡ r → IsFaultOf r e → IsFaultOf q e
 fault_same q r (Bad place) same h = same ∙ h
 fault_same q r NoMemory same h = tt
-
-pub fault_free : {A : Type 0} (q : Reading A) (e : CodecFault) → e ≡ NoMemory → IsFaultOf q e
-fault_free q (Bad place) h = absurd (cc)
-fault_free q NoMemory h = tt
 
 -- what is read next goes by what is read first: the first is bad, or the next is
 pub fault_first : {A B : Type 0} (q : Reading A) (next : A → Left → Reading B) (e : CodecFault) → IsFaultOf q e → IsFaultOf (then_read q next) e

@@ -35,8 +35,3 @@ pub use levels::read_level;
 pub use masses::MassKind;
 pub use reader::Reader;
 pub use stands::stands_over;
-
-#[cfg(test)]
-mod payload_tests;
-#[cfg(test)]
-mod tests;

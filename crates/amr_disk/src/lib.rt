@@ -7,8 +7,6 @@ mod file;
 mod leave;
 mod memory;
 mod step;
-#[cfg(test)]
-mod tests;
 
 pub use disk::{Disk, DiskFault};
 pub use file::FileDisk;

@@ -27,10 +27,3 @@ pub count_less : (test : ℕ → Bool) (n m k used : ℕ) → test n ≡ true �
 count_less test n m k used e h enough is =
     let more : count_below test (n + 1) ≤ count_below test m = count_grows test (n + 1) m (omega arith) in
     omega (arith, enough, is, more, count_next test n e)
-
-pub count_alike : (f g : ℕ → Bool) (n : ℕ) → ((k : ℕ) → k < n → f k ≡ g k) → count_below f n ≡ count_below g n
-count_alike f g zero same = refl
-count_alike f g (suc n) same =
-    let before : count_below f n ≡ count_below g n = count_alike f g n (λ k h. same k (omega arith)) in
-    let here : f n ≡ g n = same n (omega arith) in
-    λ i. before i + cond (here i) 1 0

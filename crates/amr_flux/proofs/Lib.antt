@@ -1,4 +1,3 @@
-mod BorderSizes
 mod Borders
 mod Exchanged
 pub mod FaceSides
@@ -13,7 +12,6 @@ pub mod Reciprocals
 pub mod Shown
 pub mod RowOrder
 pub mod RowSteps
-mod Sized
 mod Steps
 pub mod Swept
 mod Throughs

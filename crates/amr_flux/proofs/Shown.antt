@@ -72,26 +72,6 @@ pub flux_is : (p : Problem) (l : ℕ) (m old : Masses) (q : Patch) → ShowsValu
 unfolding flux_beside flux_at
 flux_is p l m old q shows f e = flow_of refl refl (shows.at (low_cell f) (low_in_reach q.bx f.axis f.x f.y e)) (shows.at (high_cell f) (high_in_reach q.bx f.axis f.x f.y e))
 
--- ---- border faces
-
-size_of_negative : (n : ℕ) → unsigned_abs (neg_ℤ (pos n)) ≡ n
-size_of_negative zero = refl
-size_of_negative (suc n) = refl
-
-signed_size : (c : ℤ) (d low high : ℕ) → signed c (unsigned_abs (flow c d low high)) ≡ flow c d low high
-signed_size (pos c) d low high = refl
-signed_size (negsuc c) d low high = ap (λ n. neg_ℤ (pos n)) (size_of_negative (suc c * high / d))
-
--- a border face whose entry has the size of the defined flux gets the defined flux
-pub border_is : (p : Problem) (l : ℕ) (m old : Masses) (q : Patch) (border : List ℕ) (f : Face) → is_border q f ≡ true → slice_index border (border_place q f) ≡ unsigned_abs (flux_at p l m old f) → fluxes_with p l q border f ≡ flux_at p l m old f
-unfolding flux_at
-border_is p l m old q border f e is =
-    with_border p l q border f e ∙ ap (signed (courant p l f)) is ∙ signed_size (courant p l f) p.d (value_at p l m old (low_cell f)) (value_at p l m old (high_cell f))
-
--- a face that the patch owns has the flux by the values beside it
-pub own_is : (p : Problem) (l : ℕ) (q : Patch) (border : List ℕ) (f : Face) → is_border q f ≡ false → fluxes_with p l q border f ≡ flux_beside p l q f
-own_is p l q border f e = with_own p l q border f e
-
 -- ---- new masses
 
 -- the net inflow of a cell of the box by fluxes that agree on the faces of the box
@@ -104,11 +84,6 @@ net_alike b e e' same c h =
     let south = same (face Y c.x c.y) (is_inside (extent b.lo (cell b.hi.x (b.hi.y +ℤ pos 1))) (cell c.x c.y) (record { west = k.west; east = k.east; south = k.south; north = omega (arith, ints, k.north) })) in
     let north = same (face Y c.x (c.y +ℤ pos 1)) (is_inside (extent b.lo (cell b.hi.x (b.hi.y +ℤ pos 1))) (cell c.x (c.y +ℤ pos 1)) (record { west = k.west; east = k.east; south = omega (arith, ints, k.south); north = omega (arith, ints, k.north) })) in
     λ t. (west t -ℤ east t) +ℤ (south t -ℤ north t)
-
--- a mass and its net inflow are the updated mass
-pub updated_is : (m : Masses) (e : Fluxes) (c : Cell) (old new : ℕ) → m c ≡ Some old → pos new ≡ pos old +ℤ net e c → updated m e c ≡ Some new
-unfolding updated
-updated_is m e c old new here is = ap (option_map (λ v. at_least_zero (pos v +ℤ net e c))) here ∙ ap (λ z. Some (at_least_zero z)) (sym is)
 
 -- ---- the place of a border face
 

@@ -8,8 +8,6 @@ mod memory_source;
 mod sink;
 mod source;
 mod standard;
-#[cfg(test)]
-mod tests;
 mod text;
 
 pub use fragment::Fragment;

@@ -15,6 +15,7 @@ use Rattle.amr_def.specs.Flux.{high_cell}
 use Rattle.amr_def.specs.State.{in_boxes, is_covered}
 use Rattle.amr_patch.specs.declared.patches.Patch.{Patch}
 use Rattle.amr_patch.specs.Patches.{box, in_patches}
+use Rattle.amr_patch.proofs.SameBoxes.{box_at, in_same_boxes, same_length}
 use Rattle.amr_flux.specs.Faces.{passing, x_end, y_end}
 use Rattle.amr_layout.specs.Adds.{AreInOrder, HasCellsBeyond, HasRegisterCells, cell_beyond, flow_to, flows_of, inflow_faces, is_exchange_face, is_inflow_face, is_ledger_face, is_outflow_face, number_of, outflow_faces, register_flows, word_of}
 use Rattle.amr_layout.specs.Grounds.{SameGround}
@@ -23,21 +24,11 @@ use Rattle.amr_layout.specs.Surroundings.{Around, domain_around, edge_count, edg
 
 -- ---- patches with the same boxes
 
-in_mapped : (ps : List Patch) (c : Cell) → in_patches ps c ≡ in_boxes (map box ps) c
-in_mapped [] c = refl
-in_mapped (q ∷ qs) c = ap (λ b. holds (box q) c || b) (in_mapped qs c)
-
 -- have the same cells
 same_cells : (ps qs : List Patch) → map box ps ≡ map box qs → in_patches ps ≡ in_patches qs
 same_cells ps qs e =
-    let at : (c : Cell) → in_patches ps c ≡ in_patches qs c = λ c. in_mapped ps c ∙ ap (λ (bs : List Extent). in_boxes bs c) e ∙ sym (in_mapped qs c) in
+    let at : (c : Cell) → in_patches ps c ≡ in_patches qs c = λ c. in_same_boxes ps qs c e in
     λ i c. at c i
-
-same_count : (ps qs : List Patch) → map box ps ≡ map box qs → length ps ≡ length qs
-same_count ps qs e = sym (length-map ps box) ∙ ap (λ (bs : List Extent). length bs) e ∙ length-map qs box
-
-same_box : (ps qs : List Patch) → map box ps ≡ map box qs → (k : ℕ) (d : Patch) → box (get_or ps k d) ≡ box (get_or qs k d)
-same_box ps qs e k d = sym (get_or-map box ps k d) ∙ ap (λ (bs : List Extent). get_or bs k (box d)) e ∙ get_or-map box qs k d
 
 first_boxes : (ps qs : List Patch) → map box ps ≡ map box qs → (k : ℕ) → map box (take k ps) ≡ map box (take k qs)
 first_boxes ps qs e k = sym (take-map box k ps) ∙ ap (λ (bs : List Extent). take k bs) e ∙ take-map box k qs
@@ -157,7 +148,7 @@ module _ (s t : Around) (g : SameGround s t) where
   pub all_border_places : map (border_places (domain_around s) s.patches) (range_with_len 0 (length s.patches)) ≡ map (border_places (domain_around t) t.patches) (range_with_len 0 (length t.patches))
   all_border_places =
       let places = places_same (domain_around s) (domain_around t) domains s.patches t.patches g.boxes in
-      let count = same_count s.patches t.patches g.boxes in
+      let count = same_length s.patches t.patches g.boxes in
       λ i. map (places i) (range_with_len 0 (count i))
 
   pub all_flows : map (λ q. flows_of s (box q)) s.patches ≡ map (λ q. flows_of t (box q)) t.patches
@@ -175,6 +166,6 @@ module _ (s t : Around) (g : SameGround s t) where
   same_register_cells h = record {
     ordered = subst (λ (cs : List Cell). AreInOrder cs) g.cells h.ordered;
     each = λ k d lt.
-        subst (λ (b : Extent). HasCellsBeyond t b) (same_box s.patches t.patches g.boxes k d)
-        (cells_beyond (box (get_or s.patches k d)) (h.each k d (subst (λ n. k < n) (sym (same_count s.patches t.patches g.boxes)) lt)));
+        subst (λ (b : Extent). HasCellsBeyond t b) (box_at s.patches t.patches k d g.boxes)
+        (cells_beyond (box (get_or s.patches k d)) (h.each k d (subst (λ n. k < n) (sym (same_length s.patches t.patches g.boxes)) lt)));
   }

@@ -2,6 +2,7 @@ pub mod Rows
 pub mod Entries
 pub mod Edges
 pub mod Lookups
+pub mod SameBoxes
 pub mod Standing
 pub mod LevelLaws
 pub mod Apart

@@ -10,25 +10,18 @@ use Rattle.std.proofs.lemmas.Bool.{cases_eq}
 use Rattle.amr_box.specs.declared.Cell.{Cell}
 use Rattle.amr_patch.proofs.Lookups.{comes_first-below, comes_first-trans, comes_first-yes}
 use Rattle.std.specs.Prelude.{slice_index_or}
-use Rattle.std.proofs.Math.ListN.{get_or-map}
-use Rattle.std.proofs.lemmas.List.{length-map}
 use Rattle.amr_box.specs.Cells.{Extent, height}
 use Rattle.amr_patch.specs.declared.patches.Patch.{Patch}
 use Rattle.amr_patch.specs.declared.lookup.Order.{Order}
+use Rattle.amr_patch.proofs.SameBoxes.{box_at, same_length}
 use Rattle.amr_patch.specs.Patches.{box}
 use Rattle.amr_patch.specs.Orders.{AreAtMostHigh, AreBoxesInRows, AreInRows, IsOrderOf, comes_first}
 
-same_length : (ps qs : List Patch) → map box qs ≡ map box ps → length qs ≡ length ps
-same_length ps qs e = sym (length-map qs box) ∙ ap (λ (bs : List Extent). length bs) e ∙ length-map ps box
-
-same_box : (ps qs : List Patch) (k : ℕ) (d : Patch) → map box qs ≡ map box ps → box (slice_index_or qs k d) ≡ box (slice_index_or ps k d)
-same_box ps qs k d e = sym (get_or-map box qs k d) ∙ ap (λ (bs : List Extent). slice_index_or bs k (box d)) e ∙ get_or-map box ps k d
-
 rows_of_boxes : (ps qs : List Patch) → map box qs ≡ map box ps → AreInRows ps → AreInRows qs
-rows_of_boxes ps qs e h i j d lt l = (λ t. comes_first (same_box ps qs i d e t).lo (same_box ps qs j d e t).lo) ∙ h i j d lt (omega (arith, same_length ps qs e))
+rows_of_boxes ps qs e h i j d lt l = (λ t. comes_first (box_at qs ps i d e t).lo (box_at qs ps j d e t).lo) ∙ h i j d lt (omega (arith, same_length qs ps e))
 
 heights_of_boxes : (n : ℕ) (ps qs : List Patch) → map box qs ≡ map box ps → AreAtMostHigh n ps → AreAtMostHigh n qs
-heights_of_boxes n ps qs e h i d lt = omega (arith, ap (λ (b : Extent). height b) (same_box ps qs i d e), h i d (omega (arith, same_length ps qs e)))
+heights_of_boxes n ps qs e h i d lt = omega (arith, ap (λ (b : Extent). height b) (box_at qs ps i d e), h i d (omega (arith, same_length qs ps e)))
 
 -- patches with the boxes of others stand as those do
 pub order_of_boxes : (o : Order) (ps qs : List Patch) → map box qs ≡ map box ps → IsOrderOf o ps → IsOrderOf o qs

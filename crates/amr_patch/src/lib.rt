@@ -22,6 +22,3 @@ pub use levels::Level;
 pub use lookup::{Order, find, find_near, mass_at, order_of};
 pub use meshes::Mesh;
 pub use patches::Patch;
-
-#[cfg(test)]
-mod tests;

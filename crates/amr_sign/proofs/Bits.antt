@@ -17,16 +17,6 @@ use Rattle.amr_sign.specs.Words.{row_bit, word_bit}
 use Rattle.amr_sign.proofs.Places.{range_with_len-more}
 use Rattle.amr_sign.proofs.Counts.{count_to_more, count_to-same}
 
--- the count of a test on n numbers from a on
-count_by-from : (test : ℕ → Bool) (a n : ℕ) → count_by test (range_with_len a n) ≡ count_to (λ i. test (a + i)) n
-count_by-from test a zero = refl
-count_by-from test a (suc n) =
-    ap (count_by test) (range_with_len-more a n)
-    ∙ sum_by_push (λ k. bit (test k)) (range_with_len a n) (a + n)
-    ∙ ap (λ (m : ℕ). m + bit (test (a + n))) (count_by-from test a n)
-    ∙ sym (count_to_more (λ i. test (a + i)) n)
-    ∙ ap (count_to (λ i. test (a + i))) (add-one n)
-
 pub count_to-same_below : (f g : ℕ → Bool) (n : ℕ) → ((k : ℕ) → k < n → f k ≡ g k) → count_to f n ≡ count_to g n
 count_to-same_below f g zero same = refl
 count_to-same_below f g (suc n) same =
@@ -344,15 +334,6 @@ word-counted test k word x old now new bits so_far added = choose (side (64 * k)
         let here : bit (word_bit word (64 * k) x) ≡ bit (test x) = ap bit (ap (word_bit word (64 * k)) e ∙ word_bit-at word (64 * k) i h ∙ bits i h ∙ ap test (sym e)) in
         omega arith
 
--- the bits of a masked word lie in the window
-pub window-inside : (row : List ℕ) (low high k word size i : ℕ) → ((i : ℕ) → i < 64 → (bit_at word i == 1) ≡ window row low high (64 * k + i)) → size ≡ high + 1 - low → i < 64 → (bit_at word i == 1) ≡ true → (low ≤ 64 * k + i) × (64 * k + i < low + size)
-window-inside row low high k word size i bits whole h on = choose (cases_lt (64 * k + i) low) (cases_lt high (64 * k + i))
-  where
-    choose : (64 * k + i < low) ⊎ (low ≤ 64 * k + i) → (high < 64 * k + i) ⊎ (64 * k + i ≤ high) → (low ≤ 64 * k + i) × (64 * k + i < low + size)
-    choose (inl a) b = absurd (false≢true (sym (below-window row low high (64 * k + i) a) ∙ sym (bits i h) ∙ on))
-    choose (inr a) (inl b) = absurd (false≢true (sym (above-window row low high (64 * k + i) b) ∙ sym (bits i h) ∙ on))
-    choose (inr a) (inr b) = (a, omega arith)
-
 none-before : (test : ℕ → Bool) (x first old : ℕ) → first ≤ x → old ≡ old + bit (nat_lt x first && test x)
 none-before test x first old h =
     let no : nat_lt x first ≡ false = grind (arith, nat_tests) in
@@ -361,17 +342,3 @@ none-before test x first old h =
 
 pub counted-first : (test : ℕ → Bool) (low x old : ℕ) → low ≤ x → old ≡ old + bit (nat_lt x (64 * (low / 64)) && test x)
 counted-first test low x old h = none-before test x (64 * (low / 64)) old (omega arith)
-
-pub counted-whole : (test : ℕ → Bool) (x last now old : ℕ) → x < last → now ≡ old + bit (nat_lt x last && test x) → now ≡ old + bit (test x)
-counted-whole test x last now old h so_far =
-    let yes : nat_lt x last ≡ true = grind (arith, nat_tests) in
-    let same : bit (nat_lt x last && test x) ≡ bit (test x) = ap (λ (t : Bool). bit (t && test x)) yes in
-    omega arith
-
-pub counted-room : (t : Bool) (now old : ℕ) → now ≡ old + bit t → old < 2 ^ 31 → now + 1 < 2 ^ 32
-counted-room true now old e h = omega arith
-counted-room false now old e h = omega arith
-
-pub counted-more : (t : Bool) (now old : ℕ) → now ≡ old + bit t → now ≤ old + 1
-counted-more true now old e = omega arith
-counted-more false now old e = omega arith

@@ -22,21 +22,6 @@ row_bit-slice words per_row y x inside =
     let short : x / 64 < (y + 1) * per_row - y * per_row = omega arith in
     ap (λ (w : ℕ). bit_at w (x % 64) == 1) (get_or-take ((y + 1) * per_row - y * per_row) (drop (y * per_row) words) (x / 64) 0 short ∙ get_or-drop (y * per_row) words (x / 64) 0)
 
--- the rows up to the one that a loop has come to
-pub rows-before : (y north per_row size : ℕ) → y < north + 1 → (north + 1) * per_row ≤ size → (y + 1) * per_row ≤ size
-rows-before y north per_row size h fits = let more : (y + 1) * per_row ≤ (north + 1) * per_row = mul-le-mul_right per_row (omega arith) in omega arith
-
-pub column-added : (words : List ℕ) (per_row west south y i now new : ℕ) → south ≤ y → west + i < 64 * per_row → now ≡ count_to (λ j. bit_of per_row words (west + i) (south + j)) (y - south)
-    → new ≡ now + bit (row_bit (slice_range words (y * per_row) ((y + 1) * per_row)) (west + i)) → new ≡ count_to (λ j. bit_of per_row words (west + i) (south + j)) (y + 1 - south)
-column-added words per_row west south y i now new from inside so_far added =
-    let test : ℕ → Bool = λ j. bit_of per_row words (west + i) (south + j) in
-    let place : y ≡ south + (y - south) = omega arith in
-    let next : y + 1 - south ≡ (y - south) + 1 = omega arith in
-    let here : bit (row_bit (slice_range words (y * per_row) ((y + 1) * per_row)) (west + i)) ≡ bit (test (y - south)) = ap bit (row_bit-slice words per_row y (west + i) inside ∙ ap (bit_of per_row words (west + i)) place) in
-    let more : count_to test ((y - south) + 1) ≡ count_to test (y - south) + bit (test (y - south)) = count_to_more test (y - south) in
-    let whole : count_to test (y + 1 - south) ≡ count_to test ((y - south) + 1) = ap (count_to test) next in
-    omega arith
-
 pub row-count : (words : List ℕ) (per_row west east south y : ℕ) → south ≤ y → east < 64 * per_row → count_to (λ i. row_bit (slice_range words (y * per_row) ((y + 1) * per_row)) (west + i)) (east + 1 - west) ≡ count_to (λ i. bit_of per_row words (west + i) (south + (y - south))) (east + 1 - west)
 row-count words per_row west east south y from inside =
     let place : y ≡ south + (y - south) = omega arith in
@@ -85,10 +70,3 @@ module _ (words : List ℕ) (per_row : ℕ) (part : Extent) (west east south nor
       ∙ ap (λ (n : ℕ). map (λ j. count_to (λ i. at (is_bit_set words per_row) part i j) n) (range_with_len 0 (height part))) (size-of west east part.lo.x part.hi.x window.west_is window.east_is window.wide)
       ∙ ap (λ (n : ℕ). map (λ j. count_to (λ i. at (is_bit_set words per_row) part i j) (east + 1 - west)) (range_with_len 0 n)) (size-of south north part.lo.y part.hi.y window.south_is window.north_is window.high)
       ∙ map_to-same _ _ (north + 1 - south) (λ j h. count_to-same _ _ (east + 1 - west) (λ i. at-window i j))
-
--- the rows of a box that lies in them
-pub rows-inside : (size per_row north : ℕ) (hi : ℤ) → pos north ≡ hi → hi <ℤ pos (size / per_row) → (north + 1) * per_row ≤ size
-rows-inside size per_row north hi e h =
-    let below : north + 1 ≤ size / per_row = omega (arith, ints) in
-    let fits : (north + 1) * per_row ≤ (size / per_row) * per_row = mul-le-mul_right per_row below in
-    omega (arith, fits, div-mul-le_self size per_row)

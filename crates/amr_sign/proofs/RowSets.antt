@@ -32,13 +32,6 @@ column_more rows j row bits i old new inside is same so_far added =
     ∙ ap (λ (t : Bool). count_to test j + bit t) (sym (entry_at rows j row inside is i))
     ∙ sym (count_to_more test j)
 
--- the count of row j
-pub row_whole : (rows : Rows) (j : ℕ) (row : Vec Bool) (bits : List Bool) → HasEvenRows rows → j < length rows → row ≡ slice_index_or rows j row → bits ≡ row.items → count_to (λ i. slice_index_or bits i false) (length bits) ≡ count_to (λ i. entry rows j i) (columns_of rows)
-row_whole rows j row bits even inside is same =
-    ap (λ (bs : List Bool). count_to (λ i. slice_index_or bs i false) (length bs)) same
-    ∙ ap (λ (n : ℕ). count_to (λ i. slice_index_or row.items i false) n) (sym row.ok.0 ∙ row_len rows j row even inside is)
-    ∙ count_to-same (λ i. slice_index_or row.items i false) (λ i. entry rows j i) (columns_of rows) (λ i. sym (entry_at rows j row inside is i))
-
 -- what a slice of a whole list of counts leaves in the list
 pub written_back : (f : ℕ → ℕ) (n m : ℕ) (new old : List ℕ) → length new ≡ n → n ≡ m → ((k : ℕ) → k < length new → slice_index new k ≡ f k) → take n (new ++ drop (length new) old) ≡ map f (range_with_len 0 m)
 written_back f n m new old whole fits each =

@@ -70,36 +70,3 @@ pub fn both_signatures(
     count_window(&mut columns, &mut ended, &mut rows, words, per_row, at);
     Ok(Signatures { columns, rows })
 }
-
-#[cfg(test)]
-mod tests {
-    use super::*;
-    use amr_box::Cell;
-    use std::test::Fail;
-
-    /// Two rows of three words: bits 0, 63, 64 and 129 of the first, bits 63 and 191 of the second.
-    const WORDS: [u64; 6] = [1 | 1 << 63, 1, 2, 1 << 63, 0, 1 << 63];
-
-    fn part(lo: Cell, hi: Cell) -> Result<Bx, &'static str>
-        ensures { IfOk result (λ b. (b.lo ≡ lo) × (b.hi ≡ hi)) }
-    {
-        Bx::try_new(lo, hi).ok_or("no box")
-    }
-
-    #[test]
-    fn columns_and_rows_across_words(rt: HostRuntime) -> Result<(), Fail> {
-        let part = part(Cell { x: 62, y: 0 }, Cell { x: 129, y: 1 })?;
-        let counts = both_signatures(rt.alloc(), &WORDS, 3, part)?;
-        assert_eq!(rt; counts.rows.as_slice(), [3, 1].as_slice());
-        assert_eq!(rt; counts.columns.len(), 68);
-        for (i, count) in counts.columns.iter().enumerate() {
-            let want = match i {
-                1 => 2,
-                2 | 67 => 1,
-                _ => 0,
-            };
-            assert_eq!(rt; *count, want, "column {i} of the part");
-        }
-        Ok(())
-    }
-}

@@ -104,27 +104,3 @@ pub fn signature(alloc: Global, rows: &[Vec<bool>], axis: Axis) -> Result<Vec<u3
         Axis::Y => row_counts(alloc, rows),
     }
 }
-
-#[cfg(test)]
-mod tests {
-    use super::*;
-    use std::test::Fail;
-
-    #[test]
-    fn counts_columns_and_rows(rt: HostRuntime) -> Result<(), Fail> {
-        let alloc = rt.alloc();
-        let low = [true, false, true].to_vec(alloc)?;
-        let high = [false, false, true].to_vec(alloc)?;
-        assert_eq!(rt; low.len(), 3);
-        assert_eq!(rt; high.len(), 3);
-        let rows = [low, high];
-        let columns = signature(alloc, &rows, Axis::X)?;
-        assert_eq!(rt; columns.as_slice(), [1, 0, 2].as_slice());
-        let counts = signature(alloc, &rows, Axis::Y)?;
-        assert_eq!(rt; counts.as_slice(), [2, 1].as_slice());
-        let none: [Vec<bool>; 0] = [];
-        let empty = signature(alloc, &none, Axis::X)?;
-        assert_eq!(rt; empty.len(), 0);
-        Ok(())
-    }
-}

@@ -34,9 +34,6 @@ same_span a b s x = λ i. le i && lt i
 
 -- ---- a span of the list
 
-pub span_none : (low k mass old : ℕ) → cond (nat_le low k && nat_lt k low) mass old ≡ old
-span_none low k mass old = grind (arith, nat_tests)
-
 pub span_more : (ms first : List ℕ) (low k mass : ℕ) → low ≤ k → k < length ms → ((j : ℕ) → get_or ms j 0 ≡ cond (nat_le low j && nat_lt j k) mass (get_or first j 0))
     → (j : ℕ) → get_or (set ms k mass) j 0 ≡ cond (nat_le low j && nat_lt j (k + 1)) mass (get_or first j 0)
 span_more ms first low k mass above inside before j = at_each (cases_eq j k)

@@ -116,18 +116,11 @@ module _ (b : Extent) (near : IsNear b) (words : List ℕ) (rows : AreRows (widt
     up_to_half (pos n) = omega (arith, ints)
     up_to_half (negsuc n) = omega (arith, ints)
 
-    half_up : (z : ℤ) → (half z +ℤ half z) ≤ℤ z
-    half_up (pos n) = omega (arith, ints)
-    half_up (negsuc n) = omega (arith, ints)
-
     pub twice_wide : width b ≤ 2 * width coarse
     twice_wide =
         let w = side-is b.lo.x b.hi.x near.wide in
         let v = side-is coarse.lo.x coarse.hi.x coarse_near.wide in
         omega (arith, ints, w, v, west, east, even.x, up_to_half b.hi.x)
-
-    coarse_bit_of : ℕ → ℕ → Bool
-    coarse_bit_of = coarse_bit (words_for (width b)) (height b) words
 
     -- no bit beyond the coarse columns
     pub coarse-unused : (i j : ℕ) → width coarse ≤ i → coarse_bit (words_for (width b)) (height b) words i j ≡ false

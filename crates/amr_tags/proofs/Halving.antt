@@ -74,19 +74,8 @@ part-holds b part c k h =
     wider : (lo hi l h z : ℤ) → lo ≤ℤ l → h ≤ℤ hi → within l h z ≡ true → within lo hi z ≡ true
     wider lo hi l h z e f g = grind (arith, ints)
 
-pub part-below : (b part : Extent) (axis : Axis) (i : ℤ) → IsPart b part → along axis part.lo <ℤ i → i ≤ℤ along axis part.hi → IsPart b (below_cut axis i part)
-part-below b part X i k low high = record { west = k.west; south = k.south; east = omega (arith, ints, k.east); north = k.north; wide = omega (arith, ints); high = k.high }
-part-below b part Y i k low high = record { west = k.west; south = k.south; east = k.east; north = omega (arith, ints, k.north); wide = k.wide; high = omega (arith, ints) }
-
-pub part-from : (b part : Extent) (axis : Axis) (i : ℤ) → IsPart b part → along axis part.lo <ℤ i → i ≤ℤ along axis part.hi → IsPart b (from_cut axis i part)
-part-from b part X i k low high = record { west = omega (arith, ints, k.west); south = k.south; east = k.east; north = k.north; wide = high; high = k.high }
-part-from b part Y i k low high = record { west = k.west; south = omega (arith, ints, k.south); east = k.east; north = k.north; wide = k.wide; high = high }
-
 lt-yes : (a b : ℤ) → int_lt a b ≡ true → a <ℤ b
 lt-yes a b h = grind (arith, ints)
-
-lt-is : (a b : ℤ) → a <ℤ b → int_lt a b ≡ true
-lt-is a b h = grind (arith, ints)
 
 le-yes : (a b : ℤ) → int_le a b ≡ true → a ≤ℤ b
 le-yes a b h = grind (arith, ints)

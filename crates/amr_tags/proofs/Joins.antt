@@ -42,13 +42,3 @@ next-word words other now k within done i h v is = split (nat_lt i k) refl
         let past : k ≤ i = grind (arith, nat_tests) in
         let same : i ≡ k = omega (arith, h, past) in
         ap (λ (m : ℕ). get_or (set now k v) m 0) same ∙ get_or-set_same now k v 0 within ∙ is ∙ ap (λ (m : ℕ). bit_or (get_or words m 0) (get_or other m 0)) (sym same)
-
--- beyond the words there is nothing
-pub all-words : (words other new : List ℕ) → length new ≡ length words → length other ≡ length words → ((i : ℕ) → i < length words → get_or new i 0 ≡ bit_or (get_or words i 0) (get_or other i 0)) → (i : ℕ) → get_or new i 0 ≡ bit_or (get_or words i 0) (get_or other i 0)
-all-words words other new count count' done i = split (nat_lt i (length words)) refl
-  where
-    split : (t : Bool) → nat_lt i (length words) ≡ t → get_or new i 0 ≡ bit_or (get_or words i 0) (get_or other i 0)
-    split true e = done i (grind (arith, nat_tests))
-    split false e =
-        let past : length words ≤ i = grind (arith, nat_tests) in
-        get_or_past new i 0 (omega (arith, past, count)) ∙ sym (λ k. bit_or (get_or_past words i 0 past k) (get_or_past other i 0 (omega (arith, past, count')) k))

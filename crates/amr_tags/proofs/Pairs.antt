@@ -134,34 +134,9 @@ all-pairs k i w h = ap (λ (t : Bool). t && w) (fits (k % 32) (omega arith))
 
 -- ---- words of rows
 
-pub word-there : (p height : ℕ) (words : List ℕ) (k j b v : ℕ) → k < p → j < height → b < 64 → v ≡ get_or words (j * p + k) 0 → bit v b ≡ there p height words (64 * k + b) j
-word-there p height words k j b v inside row small is =
-    ap (λ (w : ℕ). bit w b) is ∙ place-bit p words k j b small
-    ∙ sym (ap (λ (t : Bool). t && bit_of p words (64 * k + b) j) (λ i. column ((64 * k + b) / 64) (omega (arith, small)) i && line i))
-  where
-    column : (m : ℕ) → m ≡ k → nat_lt m p ≡ true
-    column m e = grind (arith, nat_tests)
-
-    line : nat_lt j height ≡ true
-    line = grind (arith, nat_tests)
-
-pub beyond-column : (p height : ℕ) (words : List ℕ) (k j b : ℕ) → p ≤ k → b < 64 → bit 0 b ≡ there p height words (64 * k + b) j
-beyond-column p height words k j b past small = zero-bit b ∙ sym (ap (λ (t : Bool). (t && nat_lt j height) && bit_of p words (64 * k + b) j) (column ((64 * k + b) / 64) (omega (arith, small))))
-  where
-    column : (m : ℕ) → m ≡ k → nat_lt m p ≡ false
-    column m e = grind (arith, nat_tests)
-
 not-both : (s t : Bool) → ((s && false) && t) ≡ false
 not-both true t = refl
 not-both false t = refl
-
-pub beyond-row : (p height : ℕ) (words : List ℕ) (k j b : ℕ) → height ≤ j → bit 0 b ≡ there p height words (64 * k + b) j
-beyond-row p height words k j b past =
-    zero-bit b
-    ∙ sym (ap (λ (t : Bool). (nat_lt ((64 * k + b) / 64) p && t) && bit_of p words (64 * k + b) j) line ∙ not-both (nat_lt ((64 * k + b) / 64) p) (bit_of p words (64 * k + b) j))
-  where
-    line : nat_lt j height ≡ false
-    line = grind (arith, nat_tests)
 
 abbrev in_rows_two : ℕ → ℕ → List ℕ → ℕ → ℕ → Bool
 in_rows_two p height words j n = there p height words n (2 * j) || there p height words n (2 * j + 1)

@@ -7,12 +7,6 @@ use Rattle.amr_tags.specs.Bits.{bit, bit_of}
 use Rattle.amr_tags.specs.Grown.{AreBits}
 use Rattle.amr_tags.proofs.Places.{apart, equal}
 
-pub no-bits : (p : ℕ) (words : List ℕ) (test : ℕ → ℕ → Bool) → AreBits p words test 0
-no-bits p words test = λ i j _ h. absurd (none (j * p + i / 64) h)
-  where
-    none : (m : ℕ) → m < 0 → ⊥
-    none m h = omega arith
-
 -- one word more
 pub next-bits : (p : ℕ) (words : List ℕ) (test : ℕ → ℕ → Bool) (k c v : ℕ) → k < p → c * p + k < length words → AreBits p words test (c * p + k) → ((b : ℕ) → b < 64 → bit v b ≡ test (64 * k + b) c) → AreBits p (set words (c * p + k) v) test (c * p + (k + 1))
 next-bits p words test k c v hk within done new = λ i j hi h. step i j hi (shift i j h) ((j * p + i / 64) == (c * p + k)) refl
@@ -39,13 +33,6 @@ next-bits p words test k c v hk within done new = λ i j hi h. step i j hi (shif
       where
         less : (a b : ℕ) → a < b + 1 → (a ≡ b → ⊥) → a < b
         less a b h n = grind arith
-
--- a whole row more
-pub row-bits : (p : ℕ) (words : List ℕ) (test : ℕ → ℕ → Bool) (j k : ℕ) → k ≡ p → AreBits p words test (j * p + k) → AreBits p words test ((j + 1) * p)
-row-bits p words test j k e done = subst (AreBits p words test) (ap (λ t. j * p + t) e ∙ grind arith) done
-
-pub first-bits : (p : ℕ) (words : List ℕ) (test : ℕ → ℕ → Bool) (j : ℕ) → AreBits p words test (j * p) → AreBits p words test (j * p + 0)
-first-bits p words test j done = subst (AreBits p words test) (omega arith) done
 
 pub all-bits : (p : ℕ) (words : List ℕ) (test : ℕ → ℕ → Bool) (j height count : ℕ) → j ≡ height → count ≡ height * p → AreBits p words test (j * p) → AreBits p words test count
 all-bits p words test j height count e f done = subst (AreBits p words test) (ap (λ t. t * p) e ∙ sym f) done

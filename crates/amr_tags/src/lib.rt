@@ -211,6 +211,3 @@ impl Tags {
         }
     }
 }
-
-#[cfg(test)]
-mod tests;

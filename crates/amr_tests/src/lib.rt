@@ -1,20 +1,26 @@
-//! Tests of the crates below by their public items alone, a module for each crate. They stand here and not beside what they
-//! test, so that no crate is proved a second time with its tests.
+//! Tests of bytes, their places and the board, by public items alone: a module for each crate. They stand here and not beside
+//! what they test, so that no crate is proved a second time with its tests.
 #![tactic(auto)]
 
+#[cfg(test)]
+mod board;
 #[cfg(test)]
 mod codec;
 #[cfg(test)]
 mod damage;
 #[cfg(test)]
-mod flux;
+mod decoder;
+#[cfg(test)]
+mod disk;
+#[cfg(test)]
+mod fields;
+#[cfg(test)]
+mod io;
+#[cfg(test)]
+mod payloads;
 #[cfg(test)]
 mod problem;
 #[cfg(test)]
 mod problems;
-#[cfg(test)]
-mod register;
-#[cfg(test)]
-mod start;
 #[cfg(test)]
 mod store;

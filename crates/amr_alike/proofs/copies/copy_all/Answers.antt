@@ -6,7 +6,7 @@ use Rattle.amr_patch.specs.Patches.{box}
 use Rattle.amr_patch.proofs.Lookups.{same_default}
 use Rattle.amr_alike.specs.Copied.{IsCopied}
 use Rattle.amr_alike.proofs.Copying.{same_boxes, same_masses}
-use Rattle.amr_alike.proofs.SameBoxes.{box_at, same_length}
+use Rattle.amr_patch.proofs.SameBoxes.{box_at, same_length}
 use Rattle.amr_alike.proofs.copies.copy_all.Goals as goal
 
 pub loop-k-init : goal.loop-k-init

@@ -4,7 +4,7 @@ use Rattle.std.proofs.lemmas.List.{with_items_is}
 use Rattle.amr_patch.specs.Orders.{IsOrderOf}
 use Rattle.amr_patch.specs.Patches.{ArePatchesApart, box}
 use Rattle.amr_patch.proofs.Standing.{order_of_boxes}
-use Rattle.amr_alike.proofs.SameBoxes.{apart_alike, same_length}
+use Rattle.amr_patch.proofs.SameBoxes.{apart_alike, same_length}
 use Rattle.amr_alike.proofs.copies.copy_masses.Goals as goal
 
 -- the list after the patches were written

@@ -14,7 +14,8 @@ use Rattle.amr_patch.proofs.Standing.{order_of_boxes}
 use Rattle.amr_gaps.specs.Gaps.{HasStarts}
 use Rattle.amr_ghost.specs.Frames.{AreInDomain, HasGhostMarks, HasGhostValues, old_masses}
 use Rattle.amr_criterion.specs.Tagged.{is_tagged_in}
-use Rattle.amr_criterion.proofs.Frames.{patches_inside, same_masses, still_apart}
+use Rattle.amr_patch.proofs.SameBoxes.{apart_alike}
+use Rattle.amr_criterion.proofs.Frames.{patches_inside, same_masses}
 use Rattle.amr_criterion.proofs.Joins.{joined_as}
 use Rattle.amr_criterion.proofs.Levels.{tagged_is}
 use Rattle.amr_criterion.proofs.level.tag_level.Goals as goal
@@ -41,7 +42,7 @@ pub put_patches_in_order-requires-clause-apart : goal.put_patches_in_order-requi
 put_patches_in_order-requires-clause-apart c =
     let after = with_items_is c.take_patches-patches.result c.fill_in_order.new.patches (search rules) in
     let apart : ArePatchesApart c.deref_mut.result.now = subst (λ (ps : List Patch). ArePatchesApart ps) (sym c.deref_mut.ensures.value) c.take_patches-patches.ensures.apart in
-    subst (λ (ps : List Patch). ArePatchesApart ps) (sym after) (still_apart c.deref_mut.result.now c.fill_in_order.new.patches c.fill_in_order.ensures.boxes apart)
+    subst (λ (ps : List Patch). ArePatchesApart ps) (sym after) (apart_alike c.deref_mut.result.now c.fill_in_order.new.patches c.fill_in_order.ensures.boxes apart)
 
 pub put_patches_in_order-requires-clause-order : goal.put_patches_in_order-requires-clause-order
 put_patches_in_order-requires-clause-order c =

@@ -8,7 +8,8 @@ use Rattle.amr_payload.specs.Tests as tests
 use Rattle.amr_decoder.specs.declared.grid.Grid.{Grid}
 use Rattle.amr_decoder.specs.Filled.{AreFilled, IsPlaced}
 use Rattle.amr_decoder.specs.Grids.{grid_of}
-use Rattle.amr_decoder.proofs.Filling.{box_filled, boxes_apart, in_same_boxes}
+use Rattle.amr_patch.proofs.SameBoxes.{apart_alike, in_same_boxes}
+use Rattle.amr_decoder.proofs.Filling.{box_filled}
 use Rattle.amr_decoder.proofs.GridBoxes.{apart_before, box_at_place, boxes_of_grids, in_grids, one_more}
 use Rattle.amr_decoder.proofs.fill.fill_boxes.Goals as goal
 
@@ -16,11 +17,11 @@ pub fill_box-requires-clause-order : goal.fill_box-requires-clause-order
 fill_box-requires-clause-order c = order_of_boxes c.args.order c.args.patches.now c.loop-grid.patches c.loop-grid.invariant.boxes c.requires.order
 
 pub fill_box-requires-clause-apart : goal.fill_box-requires-clause-apart
-fill_box-requires-clause-apart c = boxes_apart c.args.patches.now c.loop-grid.patches c.loop-grid.invariant.boxes c.requires.apart
+fill_box-requires-clause-apart c = apart_alike c.args.patches.now c.loop-grid.patches c.loop-grid.invariant.boxes c.requires.apart
 
 pub fill_box-requires-clause-cells : goal.fill_box-requires-clause-cells
 fill_box-requires-clause-cells c d held =
-    in_same_boxes c.args.patches.now c.loop-grid.patches d c.loop-grid.invariant.boxes
+    in_same_boxes c.loop-grid.patches c.args.patches.now d c.loop-grid.invariant.boxes
     ∙ c.requires.cells d (in_grids c.args.grids.now c.loop-grid.grid-index c.grid-item.result d c.loop-grid-test.true c.grid-item.is held)
 
 pub fill_box-requires-clause-placed : goal.fill_box-requires-clause-placed

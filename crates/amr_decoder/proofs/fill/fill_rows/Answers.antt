@@ -11,7 +11,8 @@ use Rattle.amr_patch.proofs.Standing.{order_of_boxes}
 use Rattle.amr_tags.proofs.Offsets.{side-is}
 use Rattle.amr_decoder.specs.Grids.{grid_of}
 use Rattle.amr_decoder.specs.Numbers.{number_at, numbers}
-use Rattle.amr_decoder.proofs.Filling.{all_rows, boxes_apart, held_at, in_same_boxes, no_rows, row_filled}
+use Rattle.amr_patch.proofs.SameBoxes.{apart_alike, in_same_boxes}
+use Rattle.amr_decoder.proofs.Filling.{all_rows, held_at, no_rows, row_filled}
 use Rattle.amr_decoder.proofs.MassReadings.{numbers_at, row_number, row_place}
 use Rattle.amr_decoder.proofs.fill.fill_rows.Goals as goal
 
@@ -67,7 +68,7 @@ pub set_row-requires-clause-order : goal.set_row-requires-clause-order
 set_row-requires-clause-order c = order_of_boxes c.args.order c.args.patches.now c.loop-j.patches c.loop-j.invariant.boxes c.requires.order
 
 pub set_row-requires-clause-apart : goal.set_row-requires-clause-apart
-set_row-requires-clause-apart c = boxes_apart c.args.patches.now c.loop-j.patches c.loop-j.invariant.boxes c.requires.apart
+set_row-requires-clause-apart c = apart_alike c.args.patches.now c.loop-j.patches c.loop-j.invariant.boxes c.requires.apart
 
 pub set_row-requires-clause-inside : goal.set_row-requires-clause-inside
 set_row-requires-clause-inside c k h =
@@ -80,7 +81,7 @@ set_row-requires-clause-inside c k h =
     let x : b.lo.x +ℤ pos 0 +ℤ pos k ≡ b.lo.x +ℤ pos k = omega (arith, ints) in
     let same : cell (b.lo.x +ℤ pos k) (b.lo.y +ℤ pos j) ≡ cell (c.cell_in.result.x +ℤ pos k) c.cell_in.result.y = sym ((λ i. cell ((c.cell_in.ensures.place i).x +ℤ pos k) (c.cell_in.ensures.place i).y) ∙ (λ i. cell (x i) (b.lo.y +ℤ pos j))) in
     subst (λ (d : Cell). IsTrue (in_patches c.loop-j.patches d)) same
-    (in_same_boxes c.args.patches.now c.loop-j.patches (cell (b.lo.x +ℤ pos k) (b.lo.y +ℤ pos j)) c.loop-j.invariant.boxes ∙ c.requires.cells (cell (b.lo.x +ℤ pos k) (b.lo.y +ℤ pos j)) held)
+    (in_same_boxes c.loop-j.patches c.args.patches.now (cell (b.lo.x +ℤ pos k) (b.lo.y +ℤ pos j)) c.loop-j.invariant.boxes ∙ c.requires.cells (cell (b.lo.x +ℤ pos k) (b.lo.y +ℤ pos j)) held)
 
 pub set_row-requires-clause-west : goal.set_row-requires-clause-west
 set_row-requires-clause-west c = let x = ap (λ (d : Cell). d.x) c.cell_in.ensures.place in omega (arith, ints, x, c.requires.placed.west)

@@ -9,14 +9,15 @@ use Rattle.amr_box.specs.declared.Cell.{Cell}
 use Rattle.amr_box.specs.Cells.{cell}
 use Rattle.amr_patch.specs.Patches.{in_patches}
 use Rattle.amr_patch.proofs.Standing.{order_of_boxes}
-use Rattle.amr_decoder.proofs.Filling.{boxes_apart, in_same_boxes, span_more}
+use Rattle.amr_patch.proofs.SameBoxes.{apart_alike, in_same_boxes}
+use Rattle.amr_decoder.proofs.Filling.{span_more}
 use Rattle.amr_decoder.proofs.fill.set_row.Goals as goal
 
 pub set_span-first-requires-clause-order : goal.set_span-first-requires-clause-order
 set_span-first-requires-clause-order c = order_of_boxes c.args.order c.args.patches.now c.loop-first.patches c.loop-first.invariant.set.boxes c.requires.order
 
 pub set_span-first-requires-clause-apart : goal.set_span-first-requires-clause-apart
-set_span-first-requires-clause-apart c = boxes_apart c.args.patches.now c.loop-first.patches c.loop-first.invariant.set.boxes c.requires.apart
+set_span-first-requires-clause-apart c = apart_alike c.args.patches.now c.loop-first.patches c.loop-first.invariant.set.boxes c.requires.apart
 
 pub set_span-first-requires-clause-inside : goal.set_span-first-requires-clause-inside
 set_span-first-requires-clause-inside c =
@@ -24,7 +25,7 @@ set_span-first-requires-clause-inside c =
     let n = c.loop-first.first in
     let x : to_z w32 (of_z w32 (to_z w32 (of_z w32 d.x) +ℤ to_z w32 n)) ≡ d.x +ℤ pos n = omega (arith, ints, c.requires.west, c.requires.east, c.loop-first-test.true) in
     let y : to_z w32 (of_z w32 d.y) ≡ d.y = omega (arith, ints, c.requires.south, c.requires.north) in
-    let there : IsTrue (in_patches c.loop-first.patches (cell (d.x +ℤ pos n) d.y)) = in_same_boxes c.args.patches.now c.loop-first.patches (cell (d.x +ℤ pos n) d.y) c.loop-first.invariant.set.boxes ∙ c.requires.inside n c.loop-first-test.true in
+    let there : IsTrue (in_patches c.loop-first.patches (cell (d.x +ℤ pos n) d.y)) = in_same_boxes c.loop-first.patches c.args.patches.now (cell (d.x +ℤ pos n) d.y) c.loop-first.invariant.set.boxes ∙ c.requires.inside n c.loop-first-test.true in
     let same : cell (d.x +ℤ pos n) d.y ≡ cell (to_z w32 (of_z w32 (to_z w32 (of_z w32 d.x) +ℤ to_z w32 n))) (to_z w32 (of_z w32 d.y)) = λ i. cell (sym x i) (sym y i) in
     subst (λ (e : Cell). IsTrue (in_patches c.loop-first.patches e)) same there
 

@@ -18,7 +18,7 @@ use Rattle.amr_patch.specs.Patches.{ArePatchesApart, box, in_patches, masses_in}
 use Rattle.amr_patch.proofs.Standing.{order_of_boxes}
 use Rattle.amr_decoder.specs.Filled.{AreFilled}
 use Rattle.amr_decoder.specs.Grids.{boxes_of, grid_of}
-use Rattle.amr_decoder.proofs.Filling.{boxes_apart}
+use Rattle.amr_patch.proofs.SameBoxes.{apart_alike}
 use Rattle.amr_decoder.proofs.GridBoxes.{in_from_some, made_level}
 use Rattle.amr_decoder.proofs.made.make_level.Goals as goal
 
@@ -41,7 +41,7 @@ put_patches_in_order-requires-clause-apart c =
     let new = c.fill_boxes.new.patches in
     let items = with_items_is c.take_patches-patches.result new (c.fill_boxes.auto.patches ∙ c.deref_mut.ensures.len) in
     let boxes = c.in_ok-fill_boxes.ensures.boxes ∙ ap (map box) c.deref_mut.ensures.value in
-    subst (λ (qs : List Patch). ArePatchesApart qs) (sym items) (boxes_apart ps new boxes c.take_patches-patches.ensures.apart)
+    subst (λ (qs : List Patch). ArePatchesApart qs) (sym items) (apart_alike ps new boxes c.take_patches-patches.ensures.apart)
 
 pub put_patches_in_order-requires-clause-order : goal.put_patches_in_order-requires-clause-order
 put_patches_in_order-requires-clause-order c =

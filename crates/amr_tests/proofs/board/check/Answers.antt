@@ -1,0 +1,12 @@
+use Rattle.std.proofs.Common.{◌≡◌, ◌≢◌, ℕ, List, Some, None, ap, ◌∙◌, arith}
+use Rattle.std.specs.Prelude.{Option}
+use lib.ListN.{get_elem?}
+use Rattle.atomic_table.proofs.Lists.{set_else}
+use Rattle.amr_board.specs.Ended.{EndedOf}
+use Rattle.amr_tests.specs.declared.board.Simple.{Simple}
+use Rattle.amr_tests.proofs.board.check.Goals as goal
+
+pub hand-first-requires : goal.hand-first-requires
+hand-first-requires g c =
+    let apart : ◌≢◌ {A = ℕ} 0 1 = λ e. absurd (omega arith) in
+    (c.requires.first.0, ap (λ (o : EndedOf Simple). get_elem? o.pieces 0) c.hand-second.ensures.gone ∙ (set_else c.args.ended.pieces 1 0 None apart ∙ c.requires.first.1))

@@ -1,0 +1,132 @@
+//! Stops, refusals, and the file.
+ghost use Rattle.std.specs.Prelude.{◌≡◌, Some, IfOk};
+ghost use Rattle.amr_disk.specs.Memory.{seen_of};
+
+use amr_causes::NoMemory;
+use amr_disk::{Disk, DiskFault, FileDisk, Leave, MemDisk};
+use std::alloc::Global;
+use std::fs;
+use std::os::unix::fs::symlink;
+use std::test::Fail;
+
+// What a disk reads, up to its first sixteen bytes.
+fn read_all<D: Disk>(alloc: Global, disk: &mut D) -> Result<Vec<u8>, Fail> {
+    let mut bytes = [0u8; 16];
+    let n = disk.read_at(0, &mut bytes)?;
+    Ok(bytes[..n.min(16)].to_vec(alloc)?)
+}
+
+// A disk that was only read, after a stop: the clauses of the calls say what the stop leaves.
+fn only_read(alloc: Global, bytes: &[u8], mode: Leave) -> Result<MemDisk, NoMemory>
+    ensures { IfOk result (λ d. seen_of d ≡ Some bytes.now) }
+{
+    let mut disk = MemDisk::make(alloc, bytes, 16, 8, &[2], None)?;
+    let _ = disk.read_at(0, &mut [0]);
+    let _ = disk.read_at(1, &mut [0]);
+    Ok(disk.leave(mode))
+}
+
+// Three bytes, one of which is written over, and two beyond a gap, with a sync between where asked.
+fn two_writes(alloc: Global, is_synced: bool) -> Result<MemDisk, Fail> {
+    let mut disk = MemDisk::make(alloc, &[1, 2, 3], 16, 8, &[], None)?;
+    disk.write_at(1, &[9])?;
+    if is_synced {
+        disk.sync()?;
+    }
+    disk.write_at(5, &[7, 7])?;
+    Ok(disk)
+}
+
+#[test]
+fn stop_leaves_old_new_or_filled(rt: HostRuntime) -> Result<(), Fail> {
+    let alloc = rt.alloc();
+    let cases: [(bool, Leave, &[u8]); 5] = [
+        (false, Leave::Old, &[1, 2, 3]),
+        (false, Leave::New, &[1, 9, 3, 0, 0, 7, 7]),
+        (
+            false,
+            Leave::Filled(0xA5),
+            &[1, 0xA5, 3, 0xA5, 0xA5, 0xA5, 0xA5],
+        ),
+        (true, Leave::Old, &[1, 9, 3]),
+        (true, Leave::Filled(4), &[1, 9, 3, 4, 4, 4, 4]),
+    ];
+    for (is_synced, mode, want) in cases {
+        let mut left = two_writes(alloc, is_synced)?.leave(mode);
+        let bytes = read_all(alloc, &mut left)?;
+        assert_eq!(rt; bytes.as_slice(), want, "{mode:?}");
+    }
+    Ok(())
+}
+
+#[test]
+fn fails_by_list_stop_and_room(rt: HostRuntime) -> Result<(), Fail> {
+    let alloc = rt.alloc();
+    let mut disk = MemDisk::make(alloc, &[], 4, 8, &[2, 3], Some(6))?;
+    assert_eq!(rt; disk.write_at(0, &[1, 2]), Ok(()));
+    assert_eq!(rt; disk.write_at(2, &[3]), Err(DiskFault), "by the list");
+    assert_eq!(rt; disk.sync(), Err(DiskFault), "by the list");
+    assert_eq!(rt; disk.write_at(4, &[5]), Err(DiskFault), "past the capacity");
+    assert_eq!(rt; disk.write_at(40, &[]), Ok(()), "an empty piece");
+    assert_eq!(rt; disk.sync(), Err(DiskFault), "stopped");
+    assert_eq!(rt; disk.read_at(0, &mut [0]), Err(DiskFault), "stopped");
+    let mut left = disk.leave(Leave::Filled(8));
+    assert_eq!(rt;
+        read_all(alloc, &mut left)?.as_slice(),
+        [8, 8, 8].as_slice()
+    );
+    assert_eq!(rt; left.sync(), Ok(()));
+    Ok(())
+}
+
+#[test]
+fn file_keeps_what_was_written(rt: HostRuntime) -> Result<(), Fail> {
+    let alloc = rt.alloc();
+    let _ = fs::remove_file(&rt, "mesh.store");
+    let _ = fs::remove_dir(&rt, "mesh.store");
+    {
+        let mut absent = FileDisk::make(rt.clone()?);
+        assert_eq!(rt; read_all(alloc, &mut absent)?.len(), 0);
+        assert_eq!(rt; absent.sync(), Ok(()));
+        assert_eq!(rt; absent.write_at(2, &[]), Ok(()));
+        assert!(rt;
+            fs::metadata(&rt, "mesh.store").is_err(),
+            "an empty write makes no file"
+        );
+        assert_eq!(rt; absent.write_at(2, &[7]), Ok(()));
+        assert_eq!(rt; absent.sync(), Ok(()));
+    }
+    let mut again = FileDisk::make(rt.clone()?);
+    assert_eq!(rt;
+        read_all(alloc, &mut again)?.as_slice(),
+        [0, 0, 7].as_slice()
+    );
+    fs::remove_file(&rt, "mesh.store")?;
+
+    // A name that can't be opened is a fault, and no absent file.
+    fs::create_dir(&rt, "mesh.store")?;
+    let mut unopened = FileDisk::make(rt.clone()?);
+    assert_eq!(rt; unopened.read_at(0, &mut [0]), Err(DiskFault), "read");
+    assert_eq!(rt; unopened.write_at(0, &[1]), Err(DiskFault), "write");
+    assert_eq!(rt; unopened.sync(), Err(DiskFault), "sync");
+    fs::remove_dir(&rt, "mesh.store")?;
+
+    // A sync reaches the file: a device behind its name takes each write and can't be synced.
+    symlink(&rt, "/dev/null", "mesh.store")?;
+    let mut unsynced = FileDisk::make(rt.clone()?);
+    assert_eq!(rt; unsynced.write_at(0, &[1]), Ok(()));
+    assert_eq!(rt; unsynced.sync(), Err(DiskFault));
+    fs::remove_file(&rt, "mesh.store")?;
+    Ok(())
+}
+
+#[test]
+fn reads_leave_the_bytes(rt: HostRuntime) -> Result<(), Fail> {
+    let alloc = rt.alloc();
+    let mut left = only_read(alloc, &[1, 2, 3], Leave::New)?;
+    assert_eq!(rt;
+        read_all(alloc, &mut left)?.as_slice(),
+        [1, 2, 3].as_slice()
+    );
+    Ok(())
+}

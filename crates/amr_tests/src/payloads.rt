@@ -1,0 +1,259 @@
+//! Whole payloads: bytes and places worked out by hand from the table of fields.
+
+ghost use Rattle.std.specs.Prelude.{◌≡◌, false};
+ghost use Rattle.amr_patch.specs.Meshes.{is_spent};
+
+use crate::problems::two_by_two;
+use amr_box::Cell;
+use amr_codec::{MassWidth, encode, encode2};
+use amr_decoder::{CodecFault, decode, decode2};
+use amr_def::{Blocks, Name, Problem, Shear, Sides, Thresholds};
+use amr_patch::Mesh;
+use std::alloc::Global;
+use std::test::Fail;
+
+/// The bytes from one place on up to another, as far as there are any.
+pub(crate) fn part(bytes: &[u8], from: usize, to: usize) -> &[u8] {
+    let to = to.min(bytes.len());
+    let from = from.min(to);
+    &bytes[from..to]
+}
+
+/// Sets a byte, where there is one.
+pub(crate) fn set(bytes: &mut [u8], place: usize, byte: u8) {
+    if place < bytes.len() {
+        bytes[place] = byte;
+    }
+}
+
+/// The mass of a cell of level `l`.
+fn mass_at(mesh: &Mesh, l: usize, x: i32, y: i32) -> Option<u64>
+    requires { is_spent mesh.now ≡ false }
+{
+    match mesh.levels().get(l) {
+        None => None,
+        Some(level) => level.get(Cell { x, y }),
+    }
+}
+
+/// What a decoder says: nothing where it gives a mesh, else its fault.
+pub(crate) fn fault_in(alloc: Global, p: &Problem, width: MassWidth, bytes: &[u8]) -> Option<CodecFault> {
+    let read = match width {
+        MassWidth::Four => decode2(alloc, p, bytes),
+        MassWidth::Eight => decode(alloc, p, bytes),
+    };
+    match read {
+        Ok(_mesh) => None,
+        Err(fault) => Some(fault),
+    }
+}
+
+/// The payload of the start of 2 by 2 cells without blocks: 81 bytes, or 65.
+fn empty_square(alloc: Global, len: usize) -> Result<Vec<u8>, Fail> {
+    let mut bytes = vec![in alloc; 0u8; len]?;
+    for place in [28usize, 29, 41, 45] {
+        set(&mut bytes, place, 1);
+    }
+    Ok(bytes)
+}
+
+#[test]
+fn the_start_of_two_by_two_cells(rt: HostRuntime) -> Result<(), Fail> {
+    let alloc = rt.alloc();
+    let p = two_by_two(alloc, 1)?;
+    let mut bytes = empty_square(alloc, 81)?;
+    let mesh = decode(alloc, &p, &bytes)?;
+    assert_eq!(rt; mesh.step(), 0);
+    assert_eq!(rt; mesh.levels().len(), 1);
+    let again = encode(alloc, &p, &mesh)?;
+    assert_eq!(rt; again.as_slice(), bytes.as_slice());
+    set(&mut bytes, 28, 2);
+    let levels = fault_in(alloc, &p, MassWidth::Eight, &bytes);
+    assert_eq!(rt; levels, Some(CodecFault::Bad { place: 28 }));
+    set(&mut bytes, 28, 1);
+    let cut = fault_in(alloc, &p, MassWidth::Eight, part(&bytes, 0, 80));
+    assert_eq!(rt; cut, Some(CodecFault::Bad { place: 73 }));
+    bytes.push(0)?;
+    let longer = fault_in(alloc, &p, MassWidth::Eight, &bytes);
+    assert_eq!(rt; longer, Some(CodecFault::Bad { place: 81 }));
+    Ok(())
+}
+
+#[test]
+fn the_same_by_four_bytes(rt: HostRuntime) -> Result<(), Fail> {
+    let alloc = rt.alloc();
+    let p = two_by_two(alloc, 1)?;
+    let bytes = empty_square(alloc, 65)?;
+    let mesh = decode2(alloc, &p, &bytes)?;
+    let again = encode2(alloc, &p, &mesh)?;
+    assert_eq!(rt; again.as_slice(), bytes.as_slice());
+    let cut = fault_in(alloc, &p, MassWidth::Four, part(&bytes, 0, 64));
+    assert_eq!(rt; cut, Some(CodecFault::Bad { place: 61 }));
+    let as_eight = fault_in(alloc, &p, MassWidth::Eight, &bytes);
+    assert_eq!(rt; as_eight, Some(CodecFault::Bad { place: 65 }));
+    Ok(())
+}
+
+/// A problem of 4 by 4 cells and up to three levels, of one step.
+pub(crate) fn three_levels(alloc: Global) -> Result<Problem, Fail> {
+    Ok(Problem {
+        version: 1,
+        name: Name::make(Vec::from_slice(alloc, b"three")?),
+        nx: 4,
+        ny: 4,
+        steps: 1,
+        cx: 0,
+        cy: 0,
+        d: 1,
+        shear_x: Shear::make(Vec::new(alloc)),
+        shear_y: Shear::make(Vec::new(alloc)),
+        x_sides: Sides::Periodic,
+        y_sides: Sides::Periodic,
+        max_level: 2,
+        tag: Thresholds::make(Vec::from_slice(alloc, [9, 9].as_slice())?),
+        n_error_buf: 0,
+        efficiency: 80,
+        min_width: 1,
+        regrid_int: 4096,
+        blocking: 2,
+        max_grid_size: 4,
+        blocks: Blocks::make(Vec::new(alloc)),
+    })
+}
+
+/// The masses of the levels, 16 of each: the cells in the middle of the coarser ones are covered.
+const LEVELS: [[u32; 16]; 3] = [
+    [7, 7, 7, 7, 7, 19, 19, 7, 7, 19, 19, 7, 7, 7, 7, 7],
+    [5, 5, 5, 5, 5, 4, 4, 5, 5, 4, 4, 5, 5, 5, 5, 5],
+    [1, 1, 1, 1, 1, 1, 1, 1, 1, 1, 1, 1, 1, 1, 1, 1],
+];
+
+fn put(bytes: &mut Vec<u8>, n: u32) -> Result<(), Fail> {
+    bytes.extend_from_slice(&n.to_le_bytes())?;
+    Ok(())
+}
+
+fn put_mass(bytes: &mut Vec<u8>, width: MassWidth, mass: u32) -> Result<(), Fail> {
+    put(bytes, mass)?;
+    match width {
+        MassWidth::Four => Ok(()),
+        MassWidth::Eight => put(bytes, 0),
+    }
+}
+
+/// A state of three levels, each of one box: columns and rows 0 to 3, 2 to 5 and 6 to 9.
+pub(crate) fn state_bytes(alloc: Global, width: MassWidth) -> Result<Vec<u8>, Fail> {
+    let mut bytes = Vec::new(alloc);
+    for n in [0, 160, 0, 0, 0, 0, 0] {
+        put(&mut bytes, n)?;
+    }
+    bytes.push(3)?;
+    for (level, (low, high)) in LEVELS.iter().zip([(0u32, 3u32), (2, 5), (6, 9)]) {
+        put(&mut bytes, 1)?;
+        for corner in [low, low, high, high] {
+            put(&mut bytes, corner)?;
+        }
+        for mass in level {
+            put_mass(&mut bytes, width, *mass)?;
+        }
+    }
+    Ok(bytes)
+}
+
+#[test]
+fn three_levels_there_and_back(rt: HostRuntime) -> Result<(), Fail> {
+    let alloc = rt.alloc();
+    let p = three_levels(alloc)?;
+    let first = state_bytes(alloc, MassWidth::Eight)?;
+    let mesh = decode(alloc, &p, &first)?;
+    assert_eq!(rt; first.len(), 473);
+    assert_eq!(rt; mesh.levels().len(), 3);
+    assert_eq!(rt; mass_at(&mesh, 1, 2, 2), Some(5));
+    assert_eq!(rt; mass_at(&mesh, 1, 3, 4), Some(4));
+    let again = encode(alloc, &p, &mesh)?;
+    assert_eq!(rt; again.as_slice(), first.as_slice());
+    let second = state_bytes(alloc, MassWidth::Four)?;
+    let shorter = encode2(alloc, &p, &mesh)?;
+    assert_eq!(rt; shorter.as_slice(), second.as_slice());
+    let from_second = decode2(alloc, &p, &second)?;
+    let once_more = encode(alloc, &p, &from_second)?;
+    assert_eq!(rt; once_more.as_slice(), first.as_slice());
+    Ok(())
+}
+
+/// The payload of a square after a step in which 3 came in and 1 went out.
+fn square_after_a_step(alloc: Global) -> Result<Vec<u8>, Fail> {
+    let mut bytes = Vec::new(alloc);
+    put(&mut bytes, 1)?;
+    for n in [7u32, 0, 0, 9, 3, 1] {
+        put_mass(&mut bytes, MassWidth::Eight, n)?;
+    }
+    bytes.push(1)?;
+    for n in [1u32, 0, 0, 1, 1] {
+        put(&mut bytes, n)?;
+    }
+    for mass in [9u32, 0, 0, 0] {
+        put_mass(&mut bytes, MassWidth::Eight, mass)?;
+    }
+    Ok(bytes)
+}
+
+#[test]
+fn rows_of_the_ledger_there_and_back(rt: HostRuntime) -> Result<(), Fail> {
+    let alloc = rt.alloc();
+    let p = two_by_two(alloc, 1)?;
+    let bytes = square_after_a_step(alloc)?;
+    let mesh = decode(alloc, &p, &bytes)?;
+    assert_eq!(rt; mesh.step(), 1);
+    let again = encode(alloc, &p, &mesh)?;
+    assert_eq!(rt; again.as_slice(), bytes.as_slice());
+    Ok(())
+}
+
+#[test]
+fn a_box_twice_is_bad_at_its_first_field(rt: HostRuntime) -> Result<(), Fail> {
+    let alloc = rt.alloc();
+    let p = three_levels(alloc)?;
+    let whole = state_bytes(alloc, MassWidth::Eight)?;
+    let mut bytes = Vec::new(alloc);
+    bytes.extend_from_slice(part(&whole, 0, 325))?;
+    bytes.extend_from_slice(part(&whole, 181, 325))?;
+    set(&mut bytes, 28, 2);
+    set(&mut bytes, 177, 2);
+    let fault = fault_in(alloc, &p, MassWidth::Eight, &bytes);
+    assert_eq!(rt; fault, Some(CodecFault::Bad { place: 325 }));
+    Ok(())
+}
+
+/// Three levels of one box each whose masses are in sync wherever the box of level 2, of which the low corner is given, lies.
+fn even_state(alloc: Global, west: u32, south: u32) -> Result<Vec<u8>, Fail> {
+    let mut bytes = Vec::new(alloc);
+    for n in [0, 256, 0, 0, 0, 0, 0] {
+        put(&mut bytes, n)?;
+    }
+    bytes.push(3)?;
+    for (mass, x, y) in [(16u32, 0u32, 0u32), (4, 2, 2), (1, west, south)] {
+        put(&mut bytes, 1)?;
+        for corner in [x, y, x.saturating_add(3), y.saturating_add(3)] {
+            put(&mut bytes, corner)?;
+        }
+        for _k in 0..16 {
+            put_mass(&mut bytes, MassWidth::Eight, mass)?;
+        }
+    }
+    Ok(bytes)
+}
+
+#[test]
+fn a_level_that_is_not_nested_is_bad_at_its_number_of_boxes(rt: HostRuntime) -> Result<(), Fail> {
+    let alloc = rt.alloc();
+    let p = three_levels(alloc)?;
+    let nested = even_state(alloc, 6, 6)?;
+    assert_eq!(rt; fault_in(alloc, &p, MassWidth::Eight, &nested), None);
+    for (west, south) in [(4u32, 6u32), (8, 6), (6, 4), (6, 8), (8, 8), (12, 0)] {
+        let outside = even_state(alloc, west, south)?;
+        let fault = fault_in(alloc, &p, MassWidth::Eight, &outside);
+        assert_eq!(rt; fault, Some(CodecFault::Bad { place: 325 }));
+    }
+    Ok(())
+}

@@ -1,0 +1,2 @@
+mod OneBoxLevels
+mod RefluxedRing
