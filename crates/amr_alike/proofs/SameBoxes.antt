@@ -1,14 +1,12 @@
 -- Boxes that have the same corners, and the masses of patches that have the same boxes.
-use Rattle.std.proofs.Common.{◌≡◌, ◌∙◌, ◌||◌, ℕ, Bool, List, [], ◌∷◌, length, get_or, map, refl, sym, ap, arith}
+use Rattle.std.proofs.Common.{◌≡◌, ◌∙◌, List, map, ap}
 use Rattle.std.specs.Prelude.{is_some}
-use Rattle.std.proofs.Math.ListN.{get_or-map}
-use Rattle.std.proofs.lemmas.List.{length-map}
 use Rattle.amr_box.specs.declared.Cell.{Cell}
-use Rattle.amr_box.specs.Cells.{Extent, holds}
+use Rattle.amr_box.specs.Cells.{Extent}
 use Rattle.amr_box.proofs.CellEquality.{same_cells}
 use Rattle.amr_def.specs.State.{Masses, in_boxes}
 use Rattle.amr_patch.specs.declared.patches.Patch.{Patch}
-use Rattle.amr_patch.specs.Patches.{ArePatchesApart, box, in_patches, masses_in}
+use Rattle.amr_patch.specs.Patches.{box, masses_in}
 use Rattle.amr_patch.proofs.Lookups.{some_mass}
 use Rattle.amr_patch.proofs.SameBoxes.{in_mapped}
 

@@ -1,10 +1,9 @@
 -- Patches whose frames are filled: their boxes and masses are those of before.
-use Rattle.std.proofs.Common.{◌≡◌, ℕ, suc, ◌<◌, Bool, true, false, cond, List, [], ◌∷◌, length, get_or, map, IsTrue, refl, sym, ap, subst, ◌∙◌, arith}
+use Rattle.std.proofs.Common.{◌≡◌, ℕ, ◌<◌, Bool, true, false, cond, List, [], ◌∷◌, length, get_or, map, refl, sym, ap, ◌∙◌, arith}
 use Rattle.std.specs.Prelude.{is_some}
 use Rattle.std.specs.declared.option.Option.{Option}
 use Rattle.std.specs.declared.option.Option.TheVariants.{Some}
 use Rattle.std.specs.List.{AllZip}
-use Rattle.std.proofs.lemmas.List.{get_or-map}
 use Rattle.amr_box.specs.declared.Cell.{Cell}
 use Rattle.amr_box.specs.Cells.{Extent, holds}
 use Rattle.amr_def.specs.declared.problem.Problem.{Problem}
@@ -14,7 +13,7 @@ use Rattle.amr_def.specs.Facts.{IsLevel}
 use Rattle.amr_patch.proofs.Lookups.{same_default, some_mass}
 use Rattle.amr_patch.proofs.SameBoxes.{box_at, same_length}
 use Rattle.amr_patch.specs.declared.patches.Patch.{Patch}
-use Rattle.amr_patch.specs.Patches.{ArePatchesApart, box, mass_in, masses_in}
+use Rattle.amr_patch.specs.Patches.{box, mass_in, masses_in}
 use Rattle.amr_ghost.specs.Frames.{AreInDomain, SameMasses}
 
 -- the patches of a level lie in its domain

@@ -5,13 +5,12 @@ use Rattle.std.specs.declared.option.Option.{Option}
 use Rattle.std.specs.declared.option.Option.TheVariants.{None, Some}
 use Rattle.std.proofs.lemmas.Int.{ints}
 use Rattle.std.proofs.lemmas.Bool.{both_ways, cases_lt, false_from_ne_true, or_parts}
-use Rattle.std.proofs.lemmas.List.{get_or-drop, get_or-take, length-map}
-use Rattle.std.proofs.Math.ListN.{get_or-map}
+use Rattle.std.proofs.lemmas.List.{get_or-drop, get_or-take}
 use Rattle.amr_box.specs.declared.Cell.{Cell}
 use Rattle.amr_box.specs.Cells.{Extent, IsNear, cell, holds, height, width}
 use Rattle.amr_patch.specs.declared.patches.Patch.{Patch}
 use Rattle.amr_def.specs.State.{in_boxes}
-use Rattle.amr_patch.specs.Patches.{ArePatchesApart, SameBeside, box, in_patches, mass_in, masses_in}
+use Rattle.amr_patch.specs.Patches.{ArePatchesApart, SameBeside, box, mass_in, masses_in}
 use Rattle.amr_patch.proofs.Entries.{in_grown}
 use Rattle.amr_patch.proofs.LevelLaws.{boxes_set, masses_set_same}
 use Rattle.amr_patch.proofs.Lookups.{same_default}

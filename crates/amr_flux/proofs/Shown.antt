@@ -1,8 +1,6 @@
 -- For callers: a patch that shows the values of a level gives the fluxes and the new masses of the level.
-use Rattle.std.proofs.Common.{◌≡◌, ℕ, zero, suc, ◌-◌, ◌*◌, ◌/◌, ◌<◌, ◌≤◌, ◌⊎◌, inl, inr, Bool, true, false, ◌&&◌, ℤ, pos, negsuc, ◌+ℤ◌, ◌-ℤ◌, ◌≤ℤ◌, List, [], ◌∷◌, ◌++◌, length, length-append, get_or, refl, sym, ap, ◌∙◌, arith}
-use Rattle.std.specs.Prelude.{not, cond, neg_ℤ, unsigned_abs, slice_index, ◌||◌}
-use Rattle.std.specs.declared.option.Option.TheVariants.{Some}
-use Rattle.std.specs.Option.{option_map}
+use Rattle.std.proofs.Common.{◌≡◌, ℕ, zero, suc, ◌-◌, ◌<◌, ◌≤◌, ◌⊎◌, inl, inr, Bool, true, false, ◌&&◌, ℤ, pos, ◌+ℤ◌, ◌-ℤ◌, ◌≤ℤ◌, [], ◌∷◌, ◌++◌, length, length-append, get_or, refl, sym, ap, ◌∙◌, arith}
+use Rattle.std.specs.Prelude.{not, cond, ◌||◌}
 use Rattle.std.proofs.lemmas.Int.{ints}
 use Rattle.std.proofs.lemmas.Bool.{cases_lt}
 use Rattle.std.proofs.Math.ListN.{get_or-append}
@@ -14,16 +12,14 @@ use Rattle.amr_box.specs.declared.Axis.TheVariants.{X, Y}
 use Rattle.amr_box.specs.Cells.{Extent, at_least_zero, cell, extent, height, holds, width, within}
 use Rattle.amr_def.specs.declared.problem.Problem.{Problem}
 use Rattle.amr_def.specs.State.{Masses}
-use Rattle.amr_def.specs.Value.{value_at}
-use Rattle.amr_def.specs.Flux.{Fluxes, courant, face, flow, flux_at, high_cell, low_cell, net, updated}
+use Rattle.amr_def.specs.Flux.{Fluxes, face, flux_at, high_cell, low_cell, net}
 use Rattle.amr_patch.specs.declared.patches.Patch.{Patch}
 use Rattle.amr_patch.specs.Places.{grown, is_face_of}
 use Rattle.amr_patch.proofs.Rows.{inside, is_between, is_inside, sides}
-use Rattle.amr_flux.specs.Faces.{ShowsValues, border_faces, border_place, flux_beside, fluxes_with, in_reach, is_border, passing, x_end, y_end}
-use Rattle.amr_flux.specs.Rows.{signed}
+use Rattle.amr_flux.specs.Faces.{ShowsValues, border_faces, border_place, flux_beside, in_reach, is_border, passing, x_end, y_end}
 use Rattle.amr_flux.proofs.Steps.{flow_of}
 use Rattle.amr_flux.proofs.Places.{around, IsXFace, IsYFace, offset, x_face_at, y_face_at}
-use Rattle.amr_flux.proofs.Given.{same_face, with_border, with_own, x_inner, y_inner}
+use Rattle.amr_flux.proofs.Given.{same_face, x_inner, y_inner}
 
 -- ---- fluxes
 

@@ -1,18 +1,17 @@
 -- The layout of a level goes by boxes: two levels on the same ones have the same places, puts, reads and flows, whatever their
 -- masses are.
-use Rattle.std.proofs.Common.{◌≡◌, ◌∙◌, ℕ, suc, ◌+◌, ◌-◌, ◌*◌, ◌<◌, ◌&&◌, ◌||◌, not, cond, pos, int_lt, List, [], ◌∷◌, ◌++◌, length, get_or, map, take, refl, sym, ap, subst}
+use Rattle.std.proofs.Common.{◌≡◌, ◌∙◌, ℕ, suc, ◌+◌, ◌-◌, ◌*◌, ◌<◌, ◌&&◌, not, cond, pos, int_lt, List, ◌++◌, length, get_or, map, take, sym, ap, subst}
 use Rattle.std.specs.Prelude.{Contains, is_some}
 use Rattle.std.specs.List.{flat_map, range_with_len}
 use Rattle.std.specs.Ordering.{int_eq}
-use Rattle.std.proofs.Math.ListN.{get_or-map}
-use Rattle.std.proofs.lemmas.List.{length-map, take-map}
+use Rattle.std.proofs.lemmas.List.{take-map}
 use Rattle.std.proofs.lemmas.List.Folds.{flat_map-map}
 use Rattle.std.proofs.lemmas.Simd.{map-map}
 use Rattle.amr_box.specs.declared.Cell.{Cell}
-use Rattle.amr_box.specs.Cells.{Extent, has_child_where, height, holds, parent, width}
+use Rattle.amr_box.specs.Cells.{Extent, has_child_where, height, parent, width}
 use Rattle.amr_def.specs.Domain.{Domain, domain, home_cell, in_domain}
 use Rattle.amr_def.specs.Flux.{high_cell}
-use Rattle.amr_def.specs.State.{in_boxes, is_covered}
+use Rattle.amr_def.specs.State.{is_covered}
 use Rattle.amr_patch.specs.declared.patches.Patch.{Patch}
 use Rattle.amr_patch.specs.Patches.{box, in_patches}
 use Rattle.amr_patch.proofs.SameBoxes.{box_at, in_same_boxes, same_length}

@@ -5,8 +5,6 @@ use Rattle.std.proofs.lemmas.Bool.{cases_lt, cases_eq, false≢true}
 use Rattle.std.proofs.lemmas.Bool.Decides.{nat_tests}
 use Rattle.std.specs.Prelude.{slice_index, slice_set, length, ◌==◌, nat_le, nat_lt, count_ones, bit_and}
 use Rattle.std.specs.Int.{bit_at, bit_not, trailing_zeros}
-use Rattle.std.specs.List.{count_by, range_with_len}
-use Rattle.std.proofs.lemmas.List.Sums.{sum_by_push}
 use Rattle.std.proofs.lemmas.Nat.Bits.{bit_at-lt, bit_at-suc, bit_at-zero, bit_at_lowest, bit_at_and, bit_at_mask_inside, bit_at_mask_below, bit_at_ones, bit_at_ones_above, ones_shl, ones_shr, and_pow, bit_at-trailing_zeros, bit_at_clear_same, bit_at_clear_other}
 use lib.Count.{ones_step, ones-le}
 use Rattle.std.proofs.Math.Pow.{pow-lt}
@@ -14,7 +12,6 @@ use Rattle.std.proofs.lemmas.Nat.{and-not, and_comm}
 use Rattle.std.proofs.lemmas.List.{get_or-set_same, get_or-set_other}
 use Rattle.amr_sign.specs.Counts.{bit, count_to}
 use Rattle.amr_sign.specs.Words.{row_bit, word_bit}
-use Rattle.amr_sign.proofs.Places.{range_with_len-more}
 use Rattle.amr_sign.proofs.Counts.{count_to_more, count_to-same}
 
 pub count_to-same_below : (f g : ℕ → Bool) (n : ℕ) → ((k : ℕ) → k < n → f k ≡ g k) → count_to f n ≡ count_to g n

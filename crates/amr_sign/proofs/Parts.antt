@@ -1,18 +1,17 @@
 -- Signatures of a box of rows of bits.
-use Rattle.std.proofs.Common.{◌≡◌, ◌≢◌, ◌⊎◌, inl, inr, length, ℕ, ◌+◌, ◌-◌, ◌*◌, ◌/◌, ◌%◌, ◌<◌, ◌≤◌, Bool, ℤ, pos, ◌+ℤ◌, ◌-ℤ◌, ◌<ℤ◌, List, map, drop, sym, ap, ◌∙◌, arith}
+use Rattle.std.proofs.Common.{◌≡◌, ◌≢◌, ◌⊎◌, inl, inr, length, ℕ, ◌+◌, ◌-◌, ◌*◌, ◌/◌, ◌%◌, ◌<◌, ◌≤◌, ℤ, pos, ◌+ℤ◌, ◌-ℤ◌, List, map, drop, sym, ap, ◌∙◌, arith}
 use Rattle.std.specs.Prelude.{◌==◌, slice_index, slice_set}
 use Rattle.std.specs.Int.{bit_at}
 use Rattle.std.specs.List.{range_with_len, slice_range}
 use Rattle.std.proofs.lemmas.Int.{ints}
 use Rattle.std.proofs.lemmas.List.{get_or-take, get_or-drop, get_or-set_same, get_or-set_other}
 use Rattle.std.proofs.lemmas.Bool.{cases_lt}
-use Rattle.std.proofs.Math.Nat.{mul-le-mul_right, div-mul-le_self}
 use Rattle.amr_box.specs.declared.Axis.TheVariants.{X, Y}
 use Rattle.amr_box.specs.Cells.{Extent, at_least_zero, width, height}
 use Rattle.amr_def.specs.Signature.{signature}
-use Rattle.amr_sign.specs.Counts.{bit, count_to}
+use Rattle.amr_sign.specs.Counts.{count_to}
 use Rattle.amr_sign.specs.Words.{bit_cells, bit_of, is_bit_set, row_bit}
-use Rattle.amr_sign.proofs.Counts.{at, columns-are, rows-are, count_to-same, count_to_more, map_to-same}
+use Rattle.amr_sign.proofs.Counts.{at, columns-are, rows-are, count_to-same, map_to-same}
 use Rattle.amr_sign.proofs.Bits.{count_to-same_below}
 
 -- a bit of the row that a loop has come to

@@ -9,7 +9,7 @@ use Rattle.std.proofs.lemmas.List.Sums.{sum_by-cons}
 use Rattle.amr_box.specs.declared.Cell.{Cell}
 use Rattle.amr_box.specs.declared.Axis.{Axis}
 use Rattle.amr_box.specs.declared.Axis.TheVariants.{X, Y}
-use Rattle.amr_box.specs.Cells.{AreDisjoint, Extent, IsBoxOf, IsNear, along, below_cut, cell, cells_of, from_cut, height, holds, width, within}
+use Rattle.amr_box.specs.Cells.{AreDisjoint, Extent, IsBoxOf, IsNear, along, cell, cells_of, height, holds, width, within}
 use Rattle.amr_tags.specs.Bits.{bit_of, words_for}
 use Rattle.amr_tags.specs.Parts.{count_from, rows_from}
 use Rattle.amr_tags.specs.Stored.{IsIn, IsPart}

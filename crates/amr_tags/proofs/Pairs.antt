@@ -1,12 +1,12 @@
 -- Words of bits, a bit for each two.
-use Rattle.std.proofs.Common.{◌≡◌, ℕ, ◌+◌, ◌-◌, ◌*◌, ◌/◌, ◌%◌, ◌<◌, ◌≤◌, Bool, true, false, ◌&&◌, ◌||◌, cond, refl, sym, ap, ◌∙◌, arith, List, get_or}
+use Rattle.std.proofs.Common.{◌≡◌, ℕ, ◌+◌, ◌-◌, ◌*◌, ◌%◌, ◌<◌, ◌≤◌, Bool, true, false, ◌&&◌, ◌||◌, cond, refl, sym, ap, ◌∙◌, arith, List}
 use Rattle.std.specs.Prelude.{◌==◌, bit_or, nat_lt}
 use Rattle.std.proofs.lemmas.Nat.Bits.{bit_at-zero}
 use Rattle.std.proofs.lemmas.Bool.Decides.{nat_tests}
-use Rattle.amr_tags.specs.Bits.{bit, bit_of}
+use Rattle.amr_tags.specs.Bits.{bit}
 use Rattle.amr_tags.specs.Coarse.{coarse_bit, pair, paired, there}
 use Rattle.amr_tags.proofs.Places.{equal}
-use Rattle.amr_tags.proofs.Shifts.{or-bit, place-bit}
+use Rattle.amr_tags.proofs.Shifts.{or-bit}
 
 -- ---- a word that is 0
 

@@ -37,7 +37,12 @@ fn mass_at(mesh: &Mesh, l: usize, x: i32, y: i32) -> Option<u64>
 }
 
 /// What a decoder says: nothing where it gives a mesh, else its fault.
-pub(crate) fn fault_in(alloc: Global, p: &Problem, width: MassWidth, bytes: &[u8]) -> Option<CodecFault> {
+pub(crate) fn fault_in(
+    alloc: Global,
+    p: &Problem,
+    width: MassWidth,
+    bytes: &[u8],
+) -> Option<CodecFault> {
     let read = match width {
         MassWidth::Four => decode2(alloc, p, bytes),
         MassWidth::Eight => decode(alloc, p, bytes),
