@@ -94,8 +94,8 @@ module _ (p : Problem) (l : ℕ) (old : Masses) (qs : List Patch) (cells : List 
     some c h = subst IsSome (sym (mass_here c h)) refl
 
     -- what holds of a ready piece of the patch
-    pub ready_of : (w : Work) → w.level ≡ l → w.patch ≡ q → w.problem.value ≡ p → HasOwnPosts q w.workspace.layout → width (box q) ≤ widest w.workspace.room
-        → length w.workspace.layout.border.items ≡ length (border_faces q) → length w.workspace.layout.border.items ≤ length w.workspace.sizes.items → IsReadyPiece w
+    pub ready_of : (w : Work) → w.level ≡ l → w.body.value.patch ≡ q → w.problem.value ≡ p → HasOwnPosts q w.body.value.workspace.layout → width (box q) ≤ widest w.body.value.workspace.room
+        → length w.body.value.workspace.layout.border.items ≡ length (border_faces q) → length w.body.value.workspace.layout.border.items ≤ length w.body.value.workspace.sizes.items → IsReadyPiece w
     ready_of w level patch problem own room border sizes = record {
       level = omega (arith, level, shallow);
       inside = rw (problem, level, patch) lies;
@@ -108,10 +108,10 @@ module _ (p : Problem) (l : ℕ) (old : Masses) (qs : List Patch) (cells : List 
       sizes = sizes;
     }
       where
-        held : (c : Cell) → holds (box w.patch) c ≡ true → holds (box q) c ≡ true
+        held : (c : Cell) → holds (box w.body.value.patch) c ≡ true → holds (box q) c ≡ true
         held c h = ap (λ (x : Patch). holds (box x) c) (sym patch) ∙ h
 
-        whole : (c : Cell) → holds (box w.patch) c ≡ true → pos (mass_in w.patch c) +ℤ net (plain w) c ≡ pos (mass_of m c) +ℤ net e c
+        whole : (c : Cell) → holds (box w.body.value.patch) c ≡ true → pos (mass_in w.body.value.patch c) +ℤ net (plain w) c ≡ pos (mass_of m c) +ℤ net e c
         whole c h = (λ i. pos (mass_in (patch i) c) +ℤ net (flux_beside (problem i) (level i) (patch i)) c) ∙ sum_is c (held c h)
 
   pub all_lie : All (λ q. IsInDomain (domain p l) (box q)) qs

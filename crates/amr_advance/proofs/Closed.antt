@@ -46,13 +46,13 @@ module _ (p : Problem) (l : ℕ) (qs : List Patch) (ss : List Workspace) (ws : L
   numbered i w at =
       let lt = in_range_at ws i w at in
       let here : i < length qs = omega (arith, lt, raw.count) in
-      subst (λ (v : Work). v.task ≡ i) (got ws i w w at) (raw.each i (nth qs i here) w.workspace w here).of_task
+      subst (λ (v : Work). v.task ≡ i) (got ws i w w at) (raw.each i (nth qs i here) w.body.value.workspace w here).of_task
 
   -- their patches are those that they were made of
-  pub patches_back : map (λ (w : Work). w.patch) ws ≡ qs
-  patches_back = from qs ws raw.count (λ k q w lt. (raw.each k q w.workspace w lt).of_patch)
+  pub patches_back : map (λ (w : Work). w.body.value.patch) ws ≡ qs
+  patches_back = from qs ws raw.count (λ k q w lt. (raw.each k q w.body.value.workspace w lt).of_patch)
     where
-      from : (qs : List Patch) (ws : List Work) → length ws ≡ length qs → ((k : ℕ) (q : Patch) (w : Work) → k < length qs → (get_or ws k w).patch ≡ get_or qs k q) → map (λ (w : Work). w.patch) ws ≡ qs
+      from : (qs : List Patch) (ws : List Work) → length ws ≡ length qs → ((k : ℕ) (q : Patch) (w : Work) → k < length qs → (get_or ws k w).body.value.patch ≡ get_or qs k q) → map (λ (w : Work). w.body.value.patch) ws ≡ qs
       from [] [] e h = refl
       from [] (w ∷ ws) e h = absurd (omega (arith, e))
       from (q ∷ qs) [] e h = absurd (omega (arith, e))
@@ -83,8 +83,8 @@ module _ (p : Problem) (l : ℕ) (old : Masses) (qs : List Patch) (cells : List 
     there : t < length ws
     there = omega (arith, lt, raw.count)
 
-    one : IsRawPiece p l t q (get_or ss t w0.workspace) w
-    one = raw.each t r w0.workspace w0 lt
+    one : IsRawPiece p l t q (get_or ss t w0.body.value.workspace) w
+    one = raw.each t r w0.body.value.workspace w0 lt
 
     pub has : HasPiece o ws t w0
     has = pieces t w0 (omega arith) there
@@ -94,11 +94,11 @@ module _ (p : Problem) (l : ℕ) (old : Masses) (qs : List Patch) (cells : List 
 
     border_ended : (v : Work) → HasBorderPlanned plan v → HasBorderEnded o v
     border_ended v h = record {
-      places = subst (λ n. All (λ place. place < n) v.workspace.layout.border.items) (sym words.places) h.places;
-      sizes = λ k f below. words.faces (slice_index v.workspace.layout.border.items k) (below_places k below) ∙ h.sizes k f below;
+      places = subst (λ n. All (λ place. place < n) v.body.value.workspace.layout.border.items) (sym words.places) h.places;
+      sizes = λ k f below. words.faces (slice_index v.body.value.workspace.layout.border.items k) (below_places k below) ∙ h.sizes k f below;
     }
       where
-        below_places : (k : ℕ) → k < length v.workspace.layout.border.items → slice_index v.workspace.layout.border.items k < plan.places
+        below_places : (k : ℕ) → k < length v.body.value.workspace.layout.border.items → slice_index v.body.value.workspace.layout.border.items k < plan.places
         below_places k below = h.places k 0 below
 
     pub collects : MayCollect p o t
@@ -123,14 +123,14 @@ module _ (p : Problem) (l : ℕ) (old : Masses) (qs : List Patch) (cells : List 
     steps s h = record {
       of_box = h.of_box ∙ has.stands.of_box ∙ ap box one.of_patch;
       masses = λ c held.
-          let in_w : holds (box w.patch) c ≡ true = ap (λ (x : Patch). holds (box x) c) one.of_patch ∙ held in
+          let in_w : holds (box w.body.value.patch) c ≡ true = ap (λ (x : Patch). holds (box x) c) one.of_patch ∙ held in
           h.masses c (ap (λ (b : Extent). holds b c) has.stands.of_box ∙ in_w) ∙ has.stands.masses c in_w ∙ after_is c held;
     }
 
     -- and the workspace serves its task again
-    pub serves_again : (b : TaskLayout) (x : Workspace) → ServesAgain has.piece.workspace x → Serves (width (box q)) (get_or y.tasks.items t b) x
+    pub serves_again : (b : TaskLayout) (x : Workspace) → ServesAgain has.piece.body.value.workspace x → Serves (width (box q)) (get_or y.tasks.items t b) x
     serves_again b x h =
-        let serves = served.each t r b w0.workspace lt in
+        let serves = served.each t r b w0.body.value.workspace lt in
         record {
           of_layout = h.of_layout ∙ has.stands.layout ∙ ap (λ (z : Workspace). z.layout) one.of_workspace ∙ serves.of_layout;
           sizes = h.sizes ∙ has.stands.sizes ∙ ap (λ (z : Workspace). length z.sizes.items) one.of_workspace ∙ serves.sizes;

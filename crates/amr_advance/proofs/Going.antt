@@ -152,22 +152,22 @@ module _ (p : Problem) (l : ℕ) (old : Masses) (qs : List Patch) (cells : List 
     w = get_or ws k w0
 
     abbrev t : TaskLayout
-    t = get_or y.tasks.items k w0.workspace.layout
+    t = get_or y.tasks.items k w0.body.value.workspace.layout
 
-    piece : IsRawPiece p l k q (get_or ss k w0.workspace) w
-    piece = raw.each k r w0.workspace w0 lt
+    piece : IsRawPiece p l k q (get_or ss k w0.body.value.workspace) w
+    piece = raw.each k r w0.body.value.workspace w0 lt
 
-    serves : Serves (width (box q)) t (get_or ss k w0.workspace)
-    serves = served.each k r w0.workspace.layout w0.workspace lt
+    serves : Serves (width (box q)) t (get_or ss k w0.body.value.workspace)
+    serves = served.each k r w0.body.value.workspace.layout w0.body.value.workspace lt
 
-    layout_is : w.workspace.layout ≡ t
+    layout_is : w.body.value.workspace.layout ≡ t
     layout_is = ap (λ (x : Workspace). x.layout) piece.of_workspace ∙ serves.of_layout
 
-    own_here : HasOwnPosts q w.workspace.layout
-    own_here = subst (HasOwnPosts q) (sym layout_is) (own p l old qs cells next shallow shown fits y layout k r w0.workspace.layout lt)
+    own_here : HasOwnPosts q w.body.value.workspace.layout
+    own_here = subst (HasOwnPosts q) (sym layout_is) (own p l old qs cells next shallow shown fits y layout k r w0.body.value.workspace.layout lt)
 
-    border_there : length w.workspace.layout.border.items ≡ length (border_faces q)
-    border_there = ap (λ (x : TaskLayout). length x.border.items) layout_is ∙ border_count p l old qs cells next shallow shown fits y layout k r w0.workspace.layout lt ∙ ap length (sym (borders k r lt))
+    border_there : length w.body.value.workspace.layout.border.items ≡ length (border_faces q)
+    border_there = ap (λ (x : TaskLayout). length x.border.items) layout_is ∙ border_count p l old qs cells next shallow shown fits y layout k r w0.body.value.workspace.layout lt ∙ ap length (sym (borders k r lt))
 
     pub ready : IsReadyPiece w
     ready =
@@ -185,17 +185,17 @@ module _ (p : Problem) (l : ℕ) (old : Masses) (qs : List Patch) (cells : List 
     pub own_through : (f : Face) → IsOwnEdge q f → through w f ≡ e f
     own_through f h = through_here f (own_face q f h.1)
 
-    puts_are : w.workspace.layout.puts.items ≡ puts_of d qs (box q)
-    puts_are = ap (λ (x : TaskLayout). x.puts.items) layout_is ∙ puts_at p l old qs cells next shallow shown fits y layout k r w0.workspace.layout lt
+    puts_are : w.body.value.workspace.layout.puts.items ≡ puts_of d qs (box q)
+    puts_are = ap (λ (x : TaskLayout). x.puts.items) layout_is ∙ puts_at p l old qs cells next shallow shown fits y layout k r w0.body.value.workspace.layout lt
 
-    adds_are : flows_in w.workspace.layout.adds.items ≡ flows_of s (box q)
-    adds_are = ap (λ (x : TaskLayout). flows_in x.adds.items) layout_is ∙ adds_at p l old qs cells next shallow shown fits y layout k r w0.workspace.layout lt
+    adds_are : flows_in w.body.value.workspace.layout.adds.items ≡ flows_of s (box q)
+    adds_are = ap (λ (x : TaskLayout). flows_in x.adds.items) layout_is ∙ adds_at p l old qs cells next shallow shown fits y layout k r w0.body.value.workspace.layout lt
 
     -- ---- what it adds
 
     pub word_here : (word : ℕ) → total (added word) (adds_of_work w) ≡ word_total (plain_size p l m old) word (flows_of s (box q))
     word_here word =
-        words_of_adds w word w.workspace.layout.adds.items
+        words_of_adds w word w.body.value.workspace.layout.adds.items
         ∙ ap (word_total (λ f. unsigned_abs (through w f)) word) adds_are
         ∙ same_words (λ f. unsigned_abs (through w f)) (plain_size p l m old) word (flows_of s (box q)) (λ j x below. ap unsigned_abs (own_through (get_or (flows_of s (box q)) j x).face (flows_owned p l qs cells next q (all_lie p l old qs cells next shallow shown fits) (shown.marks k r lt) j x below)))
 
@@ -208,7 +208,7 @@ module _ (p : Problem) (l : ℕ) (old : Masses) (qs : List Patch) (cells : List 
     small_here f = from (is_edge_face (box q) f && owns q f) refl
       where
         from : (b : Bool) → (is_edge_face (box q) f && owns q f) ≡ b → size_here f < 2 ^ 31
-        from true h = rw h (beside_small w.problem.value w.level w.patch ready.small f (rw (piece.of_patch) (own_face q f (and_parts (is_edge_face (box q) f) (owns q f) h).1)))
+        from true h = rw h (beside_small w.problem.value w.level w.body.value.patch ready.small f (rw (piece.of_patch) (own_face q f (and_parts (is_edge_face (box q) f) (owns q f) h).1)))
         from false h = rw h (omega arith)
 
     size_own : (f : Face) → IsOwnEdge q f → unsigned_abs (through w f) ≡ size_here f
@@ -216,15 +216,15 @@ module _ (p : Problem) (l : ℕ) (old : Masses) (qs : List Patch) (cells : List 
 
     pub puts_sized : puts_of_work w ≡ map (λ (x : PutAt). record { at = x.place; amount = size_here x.face }) t.puts.items
     puts_sized =
-        map_same (put_of w) (λ (x : PutAt). record { at = x.place; amount = size_here x.face }) w.workspace.layout.puts.items
-        (λ j u below. ap (λ n. record { at = (get_or w.workspace.layout.puts.items j u).place; amount = n }) (size_own (get_or w.workspace.layout.puts.items j u).face (own_here.puts j u below)))
+        map_same (put_of w) (λ (x : PutAt). record { at = x.place; amount = size_here x.face }) w.body.value.workspace.layout.puts.items
+        (λ j u below. ap (λ n. record { at = (get_or w.body.value.workspace.layout.puts.items j u).place; amount = n }) (size_own (get_or w.body.value.workspace.layout.puts.items j u).face (own_here.puts j u below)))
         ∙ ap (λ (x : TaskLayout). map (λ (u : PutAt). record { at = u.place; amount = size_here u.face }) x.puts.items) layout_is
 
     pub adds_sized : adds_of_work w ≡ map (λ (a : AddAt). record { at = a.word; amount = total size_here a.faces.items }) t.adds.items
     adds_sized =
-        map_same (add_of w) (λ (a : AddAt). record { at = a.word; amount = total size_here a.faces.items }) w.workspace.layout.adds.items
+        map_same (add_of w) (λ (a : AddAt). record { at = a.word; amount = total size_here a.faces.items }) w.body.value.workspace.layout.adds.items
         (λ j u below.
-        let a = get_or w.workspace.layout.adds.items j u in
+        let a = get_or w.body.value.workspace.layout.adds.items j u in
         ap (λ n. record { at = a.word; amount = n }) (total_same (λ f. unsigned_abs (through w f)) size_here a.faces.items (λ i f under. size_own (get_or a.faces.items i f) ((own_here.adds j u below).0 i f under))))
         ∙ ap (λ (x : TaskLayout). map (λ (a : AddAt). record { at = a.word; amount = total size_here a.faces.items }) x.adds.items) layout_is
 
@@ -241,7 +241,7 @@ module _ (p : Problem) (l : ℕ) (old : Masses) (qs : List Patch) (cells : List 
       let lt : k < length qs = omega (arith, below, piece_count) in
       let r = nth qs k lt in
       let w0 = nth ws k below in
-      let t0 = w0.workspace.layout in
+      let t0 = w0.body.value.workspace.layout in
       let at : (f : Face) → size_here k r w0 lt f ≡ sizes_of qs ws k f = λ f. sym (sizes_at qs ws k r w0 lt below f) in
       get_or-map (λ (w : Work). record { puts = puts_of_work w; adds = adds_of_work w }) ws k w0 no_task below
       ∙ (λ i. record { puts = puts_sized k r w0 lt i; adds = adds_sized k r w0 lt i })
@@ -268,15 +268,15 @@ module _ (p : Problem) (l : ℕ) (old : Masses) (qs : List Patch) (cells : List 
 
   -- ---- what each reads
 
-  module _ (k : ℕ) (r : Patch) (w0 : Work) (lt : k < length qs) (j : ℕ) (z : Face) (below : j < length (get_or ws k w0).workspace.layout.border.items) where
+  module _ (k : ℕ) (r : Patch) (w0 : Work) (lt : k < length qs) (j : ℕ) (z : Face) (below : j < length (get_or ws k w0).body.value.workspace.layout.border.items) where
     abbrev reader : Patch
     reader = get_or qs k r
 
     abbrev reads : List ℕ
-    reads = (get_or ws k w0).workspace.layout.border.items
+    reads = (get_or ws k w0).body.value.workspace.layout.border.items
 
     reads_are : reads ≡ border_places d qs k
-    reads_are = ap (λ (x : TaskLayout). x.border.items) (layout_is k r w0 lt) ∙ border_at p l old qs cells next shallow shown fits y layout k r w0.workspace.layout lt
+    reads_are = ap (λ (x : TaskLayout). x.border.items) (layout_is k r w0 lt) ∙ border_at p l old qs cells next shallow shown fits y layout k r w0.body.value.workspace.layout lt
 
     count : length reads ≡ length (borders_of d qs (box reader))
     count = border_there k r w0 lt ∙ ap length (borders k r lt)
@@ -314,7 +314,7 @@ module _ (p : Problem) (l : ℕ) (old : Masses) (qs : List Patch) (cells : List 
       owner_there : i < length ws
       owner_there = omega (arith, put_by.there, piece_count)
 
-      found : Contains poster.workspace.layout.puts.items put
+      found : Contains poster.body.value.workspace.layout.puts.items put
       found = subst (λ (xs : List PutAt). Contains xs put) (sym (puts_are i r1 w1 put_by.there)) (put_by.put r1)
 
       abbrev u : ℕ
@@ -324,10 +324,10 @@ module _ (p : Problem) (l : ℕ) (old : Masses) (qs : List Patch) (cells : List 
       task = ap (λ (x : Task). x.puts) (get_or-map (λ (v : Work). record { puts = puts_of_work v; adds = adds_of_work v }) ws i w1 no_task owner_there)
 
       inside : u < length (posts_at plan i)
-      inside = omega (arith, found.1, ap length task, length-map poster.workspace.layout.puts.items (put_of poster))
+      inside = omega (arith, found.1, ap length task, length-map poster.body.value.workspace.layout.puts.items (put_of poster))
 
       post : put_at plan i u ≡ record { at = slice_index reads j; amount = unsigned_abs (through poster (home_face d g)) }
-      post = ap (λ xs. get_or xs u no_post) task ∙ get_or-map (put_of poster) poster.workspace.layout.puts.items u put no_post found.1 ∙ ap (put_of poster) found.2
+      post = ap (λ xs. get_or xs u no_post) task ∙ get_or-map (put_of poster) poster.body.value.workspace.layout.puts.items u put no_post found.1 ∙ ap (put_of poster) found.2
 
       edge : IsOwnEdge owner (home_face d g)
       edge = subst (λ (x : PutAt). IsOwnEdge owner x.face) found.2 (subst (λ (xs : List PutAt). All (λ (x : PutAt). IsOwnEdge owner x.face) xs) (sym (puts_are i r1 w1 put_by.there)) (puts_owned p l qs shallow shown.apart (all_lie p l old qs cells next shallow shown fits) i r1 put_by.there) u put found.1)
@@ -351,7 +351,7 @@ module _ (p : Problem) (l : ℕ) (old : Masses) (qs : List Patch) (cells : List 
 
   border_planned : (k : ℕ) (r : Patch) (w0 : Work) (lt : k < length qs) → HasBorderPlanned plan (get_or ws k w0)
   border_planned k r w0 lt = record {
-    places = λ j x below. subst (λ v. v < y.places) (same_numbers (get_or ws k w0).workspace.layout.border.items j x below) (read_there k r w0 lt j x_face below);
+    places = λ j x below. subst (λ v. v < y.places) (same_numbers (get_or ws k w0).body.value.workspace.layout.border.items j x below) (read_there k r w0 lt j x_face below);
     sizes = λ j f below. read_planned k r w0 lt j f below ∙ ap (λ (q : Patch). unsigned_abs (plain (get_or ws k w0) (get_or (border_faces q) j f)) + 1) (sym (piece k r w0 lt).of_patch);
   }
     where

@@ -16,11 +16,11 @@ use Rattle.amr_box.specs.declared.Cell.{Cell}
 use Rattle.amr_advance.specs.Collected.{HasMassesAfter, IsPieceOf, MayComplete}
 
 -- a finished piece has its masses after the step
-pub finished_has : (w : Work) → w.stage ≡ Finished → HasMassesAfter w w.patch
+pub finished_has : (w : Work) → w.stage ≡ Finished → HasMassesAfter w w.body.value.patch
 finished_has w e = record { of_box = refl; masses = λ c h. sym (after_finished w e c) }
 
 -- and so has one that was made of it
-pub made_has : (w v : Work) → v.stage ≡ Finished → box v.patch ≡ box w.patch → ((c : Cell) → holds (box w.patch) c ≡ true → mass_after v c ≡ mass_after w c) → HasMassesAfter w v.patch
+pub made_has : (w v : Work) → v.stage ≡ Finished → box v.body.value.patch ≡ box w.body.value.patch → ((c : Cell) → holds (box w.body.value.patch) c ≡ true → mass_after v c ≡ mass_after w c) → HasMassesAfter w v.body.value.patch
 made_has w v e same masses = record { of_box = same; masses = λ c h. sym (after_finished v e c) ∙ masses c h }
 
 -- what completes a piece are the words of the board alone
@@ -29,8 +29,8 @@ same_words p o q w places words h = record {
   problem = h.problem;
   ready = h.ready;
   border = λ no. let b = h.border no in record {
-    places = subst (λ n. All (λ place. place < n) w.workspace.layout.border.items) (sym places) b.places;
-    sizes = λ k f lt. (λ i. slice_index (words i) (1 + slice_index w.workspace.layout.border.items k)) ∙ b.sizes k f lt;
+    places = subst (λ n. All (λ place. place < n) w.body.value.workspace.layout.border.items) (sym places) b.places;
+    sizes = λ k f lt. (λ i. slice_index (words i) (1 + slice_index w.body.value.workspace.layout.border.items k)) ∙ b.sizes k f lt;
   };
 }
 

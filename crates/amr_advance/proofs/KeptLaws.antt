@@ -15,7 +15,7 @@ use Rattle.amr_layout.specs.Surroundings.{Around}
 use Rattle.amr_work.specs.declared.work.Workspace.{Workspace}
 use Rattle.amr_advance.specs.declared.kept.KeptLayout.{KeptLayout}
 use Rattle.amr_advance.specs.Kept.{IsKept, IsLaidOut}
-use Rattle.amr_advance.specs.Pieces.{AreWorkspaces, Serves}
+use Rattle.amr_advance.specs.Pieces.{AreWorkspaces, Serves, workspaces_in}
 use Rattle.amr_advance.proofs.SameLayouts.{same_layout}
 
 same_length : (ps qs : List Patch) → map box ps ≡ map box qs → length ps ≡ length qs
@@ -45,7 +45,7 @@ serves_here t k h level boxes cells finer =
       starts = starts_of_boxes s.patches t.patches k.starts (sym same) made.starts;
       layout = same_layout s t k.layout.value (record { problem = h.of_problem; level = sym made.level ∙ level; boxes = same; cells = sym made.cells ∙ cells; finer = λ c. made.finer c ∙ sym (finer c) }) made.layout;
       shape = made.shape;
-      workspaces = same_workspaces s.patches t.patches k.layout.value.tasks.items k.workspaces.items same made.workspaces;
+      workspaces = same_workspaces s.patches t.patches k.layout.value.tasks.items (workspaces_in k.bodies.items) same made.workspaces;
     }
 
 -- and patches that keep their boxes
@@ -58,5 +58,5 @@ still_here s t k g h = record {
   starts = starts_of_boxes s.patches t.patches k.starts (sym g.boxes) h.starts;
   layout = same_layout s t k.layout.value g h.layout;
   shape = h.shape;
-  workspaces = same_workspaces s.patches t.patches k.layout.value.tasks.items k.workspaces.items g.boxes h.workspaces;
+  workspaces = same_workspaces s.patches t.patches k.layout.value.tasks.items (workspaces_in k.bodies.items) g.boxes h.workspaces;
 }

@@ -1,3 +1,4 @@
+mod Bodies
 mod Reversed
 mod Begun
 mod Filled

@@ -24,8 +24,8 @@ pub record MayComplete (p : Problem) (o : EndedOf Work) (w : Work) : Type 0 wher
 
 -- a patch with the masses after the step that a piece stands for
 pub record HasMassesAfter (w : Work) (q : Patch) : Type 0 where
-  pub of_box : box q ≡ box w.patch
-  pub masses : (c : Cell) → IsTrue (holds (box w.patch) c) → pos (mass_in q c) ≡ mass_after w c
+  pub of_box : box q ≡ box w.body.value.patch
+  pub masses : (c : Cell) → IsTrue (holds (box w.body.value.patch) c) → pos (mass_in q c) ≡ mass_after w c
 
 -- the piece of a task stands on the board
 abbrev pub IsPieceOf : EndedOf Work → ℕ → Work → Type 0
@@ -49,4 +49,4 @@ pub record ServesAgain (v w : Workspace) : Type 0 where
 
 -- each serves as that of the piece of its task did
 abbrev pub AreReturned : EndedOf Work → ℕ → List Workspace → Type 0
-AreReturned o count ss = (t : ℕ) (w : Work) (d : Workspace) → t < count → IsPieceOf o t w → ServesAgain w.workspace (slice_index_or ss t d)
+AreReturned o count ss = (t : ℕ) (w : Work) (d : Workspace) → t < count → IsPieceOf o t w → ServesAgain w.body.value.workspace (slice_index_or ss t d)

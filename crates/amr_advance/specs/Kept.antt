@@ -10,7 +10,7 @@ use Rattle.amr_layout.specs.declared.Layout.{Layout}
 use Rattle.amr_layout.specs.Surroundings.{Around}
 use Rattle.amr_advance.specs.declared.kept.KeptLayout.{KeptLayout}
 use Rattle.amr_advance.specs.Layouts.{IsLayoutOf}
-use Rattle.amr_advance.specs.Pieces.{AreWorkspaces}
+use Rattle.amr_advance.specs.Pieces.{AreWorkspaces, workspaces_in}
 
 abbrev pub shape_of : Layout → Shape
 shape_of y = record { places = y.places; words = y.words }
@@ -25,7 +25,7 @@ pub record IsLaidOut (s : Around) (k : KeptLayout) : Type 0 where
   pub starts : HasStarts s.patches k.starts
   pub layout : IsLayoutOf s k.layout.value
   pub shape : k.shape ≡ shape_of k.layout.value
-  pub workspaces : AreWorkspaces s.patches k.layout.value.tasks.items k.workspaces.items
+  pub workspaces : AreWorkspaces s.patches k.layout.value.tasks.items (workspaces_in k.bodies.items)
 
 -- it was made for a level of this problem
 pub record IsKept (p : Problem) (k : KeptLayout) : Type 0 where

@@ -1,5 +1,6 @@
 -- The pieces of a level: patches with workspaces, raw.
-use Rattle.std.specs.Prelude.{◌≡◌, ℕ, ◌<◌, List, length, slice_index_or}
+use Rattle.std.specs.Prelude.{◌≡◌, ℕ, ◌<◌, List, length, map, slice_index_or}
+use Rattle.std.specs.Global.{Box}
 use Rattle.amr_box.specs.Cells.{width}
 use Rattle.amr_def.specs.declared.problem.Problem.{Problem}
 use Rattle.amr_patch.specs.declared.patches.Patch.{Patch}
@@ -7,6 +8,7 @@ use Rattle.amr_patch.specs.Patches.{box}
 use Rattle.amr_flux.specs.Rooms.{widest}
 use Rattle.amr_layout.specs.declared.TaskLayout.{TaskLayout}
 use Rattle.amr_work.specs.declared.work.Stage.TheVariants.{Raw}
+use Rattle.amr_work.specs.declared.work.Body.{Body}
 use Rattle.amr_work.specs.declared.work.Work.{Work}
 use Rattle.amr_work.specs.declared.work.Workspace.{Workspace}
 
@@ -15,6 +17,10 @@ pub record Serves (columns : ℕ) (layout : TaskLayout) (w : Workspace) : Type 0
   pub of_layout : w.layout ≡ layout
   pub sizes : length w.sizes.items ≡ length layout.border.items
   pub room : widest w.room ≡ columns
+
+-- those of bodies
+abbrev pub workspaces_in : List (Box Body) → List Workspace
+workspaces_in bodies = map (λ (b : Box Body). b.value.workspace) bodies
 
 -- one for each patch
 pub record AreWorkspaces (qs : List Patch) (ts : List TaskLayout) (ws : List Workspace) : Type 0 where
@@ -26,8 +32,8 @@ pub record IsRawPiece (p : Problem) (l task : ℕ) (q : Patch) (s : Workspace) (
   pub of_task : w.task ≡ task
   pub of_level : w.level ≡ l
   pub raw : w.stage ≡ Raw
-  pub of_patch : w.patch ≡ q
-  pub of_workspace : w.workspace ≡ s
+  pub of_patch : w.body.value.patch ≡ q
+  pub of_workspace : w.body.value.workspace ≡ s
   pub of_problem : w.problem.value ≡ p
 
 -- one for each patch, by number

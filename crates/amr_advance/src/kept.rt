@@ -13,7 +13,7 @@ ghost use Rattle.amr_layout.specs.Surroundings.{around, finer_masses};
 ghost use Rattle.amr_advance.specs.Kept.{IsKept, IsLaidOut};
 
 use crate::level::Given;
-use crate::pieces::workspaces_of;
+use crate::pieces::bodies_of;
 use amr_alike::{boxes_of, have_boxes};
 use amr_board::Shape;
 use amr_box::{Bx, Cell};
@@ -21,13 +21,14 @@ use amr_causes::NoMemory;
 use amr_gaps::{Starts, starts_of};
 use amr_layout::{Layout, plan};
 use amr_patch::{Level, Patch};
-use amr_work::Workspace;
+use amr_work::Body;
 use std::alloc::Global;
+use std::boxed::Box;
 use std::snapshot::Snapshot;
 
-/// The layout of a level's step on a board, with a workspace for each task and where patches start, and what they were made for: the boxes of the level's
-/// patches, the register cells of the next coarser level, and the patch boxes of the next finer one. While these stay, each step
-/// of the level takes it as it is.
+/// The layout of a level's step on a board, with a body for each task and where patches start, and what they were made for: the boxes
+/// of the level's patches, the register cells of the next coarser level, and the patch boxes of the next finer one. While these stay,
+/// each step of the level takes it as it is.
 #[derive(Drop)]
 pub struct KeptLayout {
     level: u32,
@@ -36,7 +37,7 @@ pub struct KeptLayout {
     finer: Vec<Bx>,
     pub(crate) starts: Starts,
     pub(crate) shape: Shape,
-    pub(crate) workspaces: Vec<Workspace>,
+    pub(crate) bodies: Vec<Box<Body>>,
     pub(crate) layout: Snapshot<Layout>,
 }
 
@@ -135,7 +136,7 @@ fn lay_out_anew(given: Given<'_>, patches: &[Patch]) -> Result<KeptLayout, NoMem
         finer: finer_boxes(alloc, given.finer)?,
         starts,
         shape,
-        workspaces: workspaces_of(alloc, patches, layout.tasks)?,
+        bodies: bodies_of(alloc, patches, layout.tasks)?,
         layout: made,
     })
 }

@@ -47,34 +47,34 @@ pub(crate) struct Given<'a> {
 pub(crate) fn run_level<R: Threads + Sync, G: Gate + Sync>(
     workers: &Workers<'_, R, G>,
     given: Given<'_>,
-    patches: &mut Vec<Patch>,
+    patches: &mut [Patch],
     layout: &mut KeptLayout,
 ) -> Result<Ended<Work>, NoMemory>
     requires level { given.level ≤ 4 }
-    requires shown { AreShown given.problem.now given.level (old_masses (option_copied given.old)) patches.old.items }
-    requires fits { StepFits given.problem.now given.level (masses_in patches.old.items) (old_masses (option_copied given.old)) }
-    requires layout { IsLaidOut (around given.problem.now given.level patches.old.items given.cells.now (option_copied given.finer)) layout.old }
-    requires few { length patches.old.items ≤ 2 ^ 26 }
+    requires shown { AreShown given.problem.now given.level (old_masses (option_copied given.old)) patches.old }
+    requires fits { StepFits given.problem.now given.level (masses_in patches.old) (old_masses (option_copied given.old)) }
+    requires layout { IsLaidOut (around given.problem.now given.level patches.old given.cells.now (option_copied given.finer)) layout.old }
+    requires few { length patches.old ≤ 2 ^ 26 }
     requires some_workers { 1 ≤ workers.now.count }
     requires few_workers { workers.now.count ≤ 64 }
-    requires gate { (worker task : ℕ) → worker < workers.now.count → task < length patches.old.items → G.admits workers.now.gate.now worker task }
-    ensures stepped { OnOk result (AllZip (IsStepped (flux_at given.entry.problem.now given.entry.level (masses_in patches.old.items) (old_masses (option_copied given.entry.old)))) patches.old.items patches.new.items) }
+    requires gate { (worker task : ℕ) → worker < workers.now.count → task < length patches.old → G.admits workers.now.gate.now worker task }
+    ensures stepped { OnOk result (AllZip (IsStepped (flux_at given.entry.problem.now given.entry.level (masses_in patches.old) (old_masses (option_copied given.entry.old)))) patches.old patches.new) }
     ensures registers { IfOk result (λ o. o.registers ≡ 2 + 2 * length given.entry.cells.now) }
-    ensures totals { IfOk result (λ o. (word : ℕ) → word < 2 + 2 * length given.entry.cells.now → total_of o word ≡ level_total (around given.entry.problem.now given.entry.level patches.old.items given.entry.cells.now (option_copied given.entry.finer)) (plain_size given.entry.problem.now given.entry.level (masses_in patches.old.items) (old_masses (option_copied given.entry.old))) word) }
+    ensures totals { IfOk result (λ o. (word : ℕ) → word < 2 + 2 * length given.entry.cells.now → total_of o word ≡ level_total (around given.entry.problem.now given.entry.level patches.old given.entry.cells.now (option_copied given.entry.finer)) (plain_size given.entry.problem.now given.entry.level (masses_in patches.old) (old_masses (option_copied given.entry.old))) word) }
     ensures few { IfOk result (λ o. o.registers < 2 ^ 32) }
     ensures small { IfOk result (λ o. (word : ℕ) → word < o.registers → total_of o word < 2 ^ 63) }
-    ensures layout { OnOk result (IsLaidOut (around given.entry.problem.now given.entry.level patches.old.items given.entry.cells.now (option_copied given.entry.finer)) layout.new) }
-    ensures same { OnErr result (patches.new.items ≡ patches.old.items) }
+    ensures layout { OnOk result (IsLaidOut (around given.entry.problem.now given.entry.level patches.old given.entry.cells.now (option_copied given.entry.finer)) layout.new) }
+    ensures same { OnErr result (patches.new ≡ patches.old) }
 {
     let alloc = given.alloc;
     let count = patches.len() as u32;
     let pieces = Vec::with_capacity(alloc, patches.len())?;
-    let workspaces = &mut layout.workspaces;
-    let pieces = to_pieces(given.problem, given.level, patches, workspaces, pieces);
+    let bodies = &mut layout.bodies;
+    let pieces = to_pieces(given.problem, given.level, patches, bodies, pieces);
     match run_pieces(workers, alloc, given.problem, layout.shape, pieces) {
         Ok(mut ended) => {
-            let workspaces = &mut layout.workspaces;
-            collect(given.problem, &mut ended, count, patches, workspaces);
+            let bodies = &mut layout.bodies;
+            collect(given.problem, &mut ended, count, patches, bodies);
             Ok(ended)
         }
         Err(pieces) => {

@@ -1,76 +1,92 @@
 //! The pieces of a level's tasks: its patches, raw, each with a workspace.
 
 ghost use Rattle.std.specs.Prelude.{◌≡◌, ◌≤◌, ◌<◌, ◌^◌, [], length, map, vec_capacity, IfOk};
-ghost use Rattle.amr_advance.specs.Pieces.{AreRawPieces, AreWorkspaces, Serves};
+ghost use Rattle.amr_box.specs.Cells.{IsNear};
+ghost use Rattle.amr_advance.specs.Pieces.{AreRawPieces, AreWorkspaces, Serves, workspaces_in};
 
+use amr_box::{Bx, Cell};
 use amr_causes::NoMemory;
 use amr_def::Problem;
 use amr_flux::Room;
 use amr_layout::TaskLayout;
 use amr_patch::Patch;
-use amr_work::{Stage, Work, Workspace};
+use amr_work::{Body, Stage, Work, Workspace};
 use std::alloc::Global;
+use std::boxed::Box;
+use std::mem::swap;
 use std::snapshot::Snapshot;
 
-/// A workspace for a task whose patch has so many columns.
-fn workspace_of(alloc: Global, columns: u32, layout: TaskLayout) -> Result<Workspace, NoMemory>
-    ensures { IfOk result (Serves columns layout) }
+/// A box of one cell.
+fn one_cell() -> Bx
+    ensures { IsNear result }
+{
+    let cell = Cell { x: 0, y: 0 };
+    let Some(b) = Bx::try_new(cell, cell) else {
+        unreachable!()
+    };
+    b
+}
+
+/// A body for a task whose patch has so many columns. It has a patch of one cell, which takes the place of the task's own in the
+/// level while the step is made.
+fn body_of(alloc: Global, columns: u32, layout: TaskLayout) -> Result<Box<Body>, NoMemory>
+    ensures { IfOk result (λ b. Serves columns layout b.value.workspace) }
 {
     let sizes = vec![in alloc; 0u32; layout.border.len()]?;
     let room = Room::make(alloc, columns)?;
-    Ok(Workspace {
+    let workspace = Workspace {
         layout,
         sizes,
         room,
-    })
+    };
+    let patch = Patch::make(alloc, one_cell())?;
+    Ok(Box::new(alloc, Body { patch, workspace })?)
 }
 
-/// A workspace for each task: task `i` is that of patch `i`.
-pub(crate) fn workspaces_of(
+/// A body for each task: task `i` is that of patch `i`.
+pub(crate) fn bodies_of(
     alloc: Global,
     patches: &[Patch],
     mut tasks: Vec<TaskLayout>,
-) -> Result<Vec<Workspace>, NoMemory>
+) -> Result<Vec<Box<Body>>, NoMemory>
     requires { length tasks.items ≡ length patches.now }
-    ensures { IfOk result (λ ws. AreWorkspaces patches.now tasks.items ws.items) }
+    ensures { IfOk result (λ bs. AreWorkspaces patches.now tasks.items (workspaces_in bs.items)) }
 {
     let mut made = Vec::with_capacity(alloc, tasks.len())?;
     'tasks: while let Some(layout) = tasks.pop() {
         let columns = patches[tasks.len()].bx().width();
-        made.push_reserved(workspace_of(alloc, columns, layout)?);
+        made.push_reserved(body_of(alloc, columns, layout)?);
     }
     made.as_mut_slice().reverse();
     Ok(made)
 }
 
-/// Makes pieces of patches and workspaces, in a list that has room for them. Piece `i` is that of task `i`.
+/// Makes pieces of patches and bodies, in a list that has room for them. Piece `i` is that of task `i`, with patch `i`, in whose
+/// place stands the patch that the body had.
 pub(crate) fn to_pieces(
     p: &Problem,
     level: u32,
-    patches: &mut Vec<Patch>,
-    workspaces: &mut Vec<Workspace>,
+    patches: &mut [Patch],
+    bodies: &mut Vec<Box<Body>>,
     mut pieces: Vec<Work>,
 ) -> Vec<Work>
-    requires count { length workspaces.old.items ≡ length patches.old.items }
-    requires few { length patches.old.items < 2 ^ 32 }
+    requires count { length bodies.old.items ≡ length patches.old }
+    requires few { length patches.old < 2 ^ 32 }
     requires empty { pieces.items ≡ [] }
-    requires room { length patches.old.items ≤ vec_capacity pieces }
-    ensures pieces { AreRawPieces p.now level patches.old.items workspaces.old.items result.items }
-    ensures empty { patches.new.items ≡ [] }
-    ensures capacity { vec_capacity patches.new ≡ vec_capacity patches.old }
-    ensures no_workspaces { workspaces.new.items ≡ [] }
-    ensures workspace_capacity { vec_capacity workspaces.new ≡ vec_capacity workspaces.old }
+    requires room { length patches.old ≤ vec_capacity pieces }
+    ensures pieces { AreRawPieces p.now level patches.old (workspaces_in bodies.old.items) result.items }
+    ensures count { length patches.new ≡ length patches.old }
+    ensures no_bodies { bodies.new.items ≡ [] }
+    ensures capacity { vec_capacity bodies.new ≡ vec_capacity bodies.old }
 {
-    'patches: while let Some(patch) = patches.pop() {
-        let Some(workspace) = workspaces.pop() else {
-            unreachable!()
-        };
+    'bodies: while let Some(mut body) = bodies.pop() {
+        let task = bodies.len();
+        swap(&mut body.patch, &mut patches[task]);
         pieces.push_reserved(Work {
-            task: patches.len() as u32,
+            task: task as u32,
             level,
             stage: Stage::Raw,
-            patch,
-            workspace,
+            body,
             problem: Snapshot::of(p),
         });
     }
@@ -78,22 +94,13 @@ pub(crate) fn to_pieces(
     pieces
 }
 
-/// Takes the patches out of pieces, into a list that has room for them.
-pub(crate) fn to_patches(mut pieces: Vec<Work>, patches: &mut Vec<Patch>)
-    requires empty { patches.old.items ≡ [] }
-    requires room { length pieces.items ≤ vec_capacity patches.old }
-    ensures patches { patches.new.items ≡ map (λ w. w.patch) pieces.items }
+/// Puts the patches of pieces back into their places.
+pub(crate) fn to_patches(mut pieces: Vec<Work>, patches: &mut [Patch])
+    requires count { length pieces.items ≡ length patches.old }
+    ensures patches { patches.new ≡ map (λ w. w.body.value.patch) pieces.items }
 {
-    'pieces: while let Some(work) = pieces.pop() {
-        let Work {
-            task: _,
-            level: _,
-            stage: _,
-            patch,
-            workspace: _,
-            problem: _,
-        } = work;
-        patches.push_reserved(patch);
+    'pieces: while let Some(mut work) = pieces.pop() {
+        let task = pieces.len();
+        swap(&mut work.body.patch, &mut patches[task]);
     }
-    patches.as_mut_slice().reverse();
 }

@@ -114,30 +114,30 @@ fn step_patches<R: Threads + Sync, G: Gate + Sync>(
     workers: &Workers<'_, R, G>,
     given: Given<'_>,
     order: Order,
-    patches: &mut Vec<Patch>,
+    patches: &mut [Patch],
     register: &mut Option<Register>,
     kept: &mut Option<KeptLayout>,
 ) -> Result<Ended<Work>, NoMemory>
     requires level { given.level ≤ 4 }
-    requires order { IsOrderOf order patches.old.items }
-    requires apart { ArePatchesApart patches.old.items }
-    requires inside { AreInDomain (domain given.problem.now given.level) patches.old.items }
-    requires fits { StepFits given.problem.now given.level (masses_in patches.old.items) (old_masses (option_copied given.old)) }
-    requires cells { (qs : List Patch) → masses_in qs ≡ masses_in patches.old.items → HasRegisterCells (around given.problem.now given.level qs given.cells.now (option_copied given.finer)) }
-    requires register { HasEdges given.problem.now given.level (masses_in patches.old.items) (option_copied given.finer) register.old }
+    requires order { IsOrderOf order patches.old }
+    requires apart { ArePatchesApart patches.old }
+    requires inside { AreInDomain (domain given.problem.now given.level) patches.old }
+    requires fits { StepFits given.problem.now given.level (masses_in patches.old) (old_masses (option_copied given.old)) }
+    requires cells { (qs : List Patch) → masses_in qs ≡ masses_in patches.old → HasRegisterCells (around given.problem.now given.level qs given.cells.now (option_copied given.finer)) }
+    requires register { HasEdges given.problem.now given.level (masses_in patches.old) (option_copied given.finer) register.old }
     requires kept { IfSome kept.old (IsKept given.problem.now) }
     requires some_workers { 1 ≤ workers.now.count }
     requires few_workers { workers.now.count ≤ 64 }
-    requires gate { (worker task : ℕ) → worker < workers.now.count → task < length patches.old.items → G.admits workers.now.gate.now worker task }
-    ensures masses { OnOk result (masses_in patches.new.items ≡ updated (masses_in patches.old.items) (flux_at given.entry.problem.now given.entry.level (masses_in patches.old.items) (old_masses (option_copied given.entry.old)))) }
-    ensures boxes { map box patches.new.items ≡ map box patches.old.items }
-    ensures apart { ArePatchesApart patches.new.items }
+    requires gate { (worker task : ℕ) → worker < workers.now.count → task < length patches.old → G.admits workers.now.gate.now worker task }
+    ensures masses { OnOk result (masses_in patches.new ≡ updated (masses_in patches.old) (flux_at given.entry.problem.now given.entry.level (masses_in patches.old) (old_masses (option_copied given.entry.old)))) }
+    ensures boxes { map box patches.new ≡ map box patches.old }
+    ensures apart { ArePatchesApart patches.new }
     ensures registers { IfOk result (λ o. o.registers ≡ 2 + 2 * length given.entry.cells.now) }
     ensures few { IfOk result (λ o. o.registers < 2 ^ 32) }
     ensures small { IfOk result (λ o. (word : ℕ) → word < o.registers → total_of o word < 2 ^ 63) }
-    ensures totals { IfOk result (HasTotals given.entry.problem.now given.entry.level (masses_in patches.old.items) (old_masses (option_copied given.entry.old)) (finer_masses (option_copied given.entry.finer)) given.entry.cells.now) }
-    ensures register { OnOk result (BothChange (taken given.entry.problem.now given.entry.level (masses_in patches.old.items) (old_masses (option_copied given.entry.old)) (finer_masses (option_copied given.entry.finer))) register.old register.new) }
-    ensures same_masses { OnErr result (masses_in patches.new.items ≡ masses_in patches.old.items) }
+    ensures totals { IfOk result (HasTotals given.entry.problem.now given.entry.level (masses_in patches.old) (old_masses (option_copied given.entry.old)) (finer_masses (option_copied given.entry.finer)) given.entry.cells.now) }
+    ensures register { OnOk result (BothChange (taken given.entry.problem.now given.entry.level (masses_in patches.old) (old_masses (option_copied given.entry.old)) (finer_masses (option_copied given.entry.finer))) register.old register.new) }
+    ensures same_masses { OnErr result (masses_in patches.new ≡ masses_in patches.old) }
     ensures same_register { OnErr result (BothChange (λ c. pos 0) register.old register.new) }
     ensures kept { IfSome kept.new (IsKept given.entry.problem.now) }
 {

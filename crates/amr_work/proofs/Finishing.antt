@@ -67,17 +67,17 @@ own_beside p l q border f e = ap (λ b. cond b (signed (courant p l f) (slice_in
 -- ---- with the sizes read
 
 -- what stands at each place of the border: what flows there by the values, and 1
-module _ (word : ℕ → ℕ) (w : Work) (ready : IsReadyPiece w) (planned : (k : ℕ) (f : Face) → k < length w.workspace.layout.border.items → word (slice_index w.workspace.layout.border.items k) ≡ unsigned_abs (plain w (slice_index_or (border_faces w.patch) k f)) + 1) where
+module _ (word : ℕ → ℕ) (w : Work) (ready : IsReadyPiece w) (planned : (k : ℕ) (f : Face) → k < length w.body.value.workspace.layout.border.items → word (slice_index w.body.value.workspace.layout.border.items k) ≡ unsigned_abs (plain w (slice_index_or (border_faces w.body.value.patch) k f)) + 1) where
   abbrev places : List ℕ
-  places = w.workspace.layout.border.items
+  places = w.body.value.workspace.layout.border.items
 
   no_face : Face
   no_face = face X (pos 0) (pos 0)
 
-  face_small : (k : ℕ) → k < length places → unsigned_abs (plain w (get_or (border_faces w.patch) k no_face)) < 2 ^ 31
+  face_small : (k : ℕ) → k < length places → unsigned_abs (plain w (get_or (border_faces w.body.value.patch) k no_face)) < 2 ^ 31
   face_small k lt =
-      let e = All-get_or (λ f. is_border w.patch f ≡ true) (border_faces w.patch) k no_face (omega (arith, lt, ready.border)) (border_all w.patch) in
-      beside_small w.problem.value w.level w.patch ready.small (get_or (border_faces w.patch) k no_face) (border_of_box w.patch (get_or (border_faces w.patch) k no_face) e)
+      let e = All-get_or (λ f. is_border w.body.value.patch f ≡ true) (border_faces w.body.value.patch) k no_face (omega (arith, lt, ready.border)) (border_all w.body.value.patch) in
+      beside_small w.problem.value w.level w.body.value.patch ready.small (get_or (border_faces w.body.value.patch) k no_face) (border_of_box w.body.value.patch (get_or (border_faces w.body.value.patch) k no_face) e)
 
   pub planned_small : (k : ℕ) → k < length places → word (slice_index places k) ≤ 2 ^ 31
   planned_small k lt = omega (arith, planned k no_face lt, face_small k lt)
@@ -86,7 +86,7 @@ module _ (word : ℕ → ℕ) (w : Work) (ready : IsReadyPiece w) (planned : (k 
     abbrev border : List ℕ
     border = take (length places) sizes
 
-    size_is : (k : ℕ) → k < length places → slice_index border k ≡ unsigned_abs (plain w (get_or (border_faces w.patch) k no_face))
+    size_is : (k : ℕ) → k < length places → slice_index border k ≡ unsigned_abs (plain w (get_or (border_faces w.body.value.patch) k no_face))
     size_is k lt =
         let same : slice_index border k ≡ slice_index sizes k = get_or-take (length places) sizes k 0 lt in
         omega (arith, same, read k lt, planned k no_face lt)
@@ -98,33 +98,33 @@ module _ (word : ℕ → ℕ) (w : Work) (ready : IsReadyPiece w) (planned : (k 
           omega (arith, size_is k lt, face_small k lt);
     }
 
-    all_fluxes : (f : Face) → is_face_of (box w.patch) f ≡ true → fluxes_with w.problem.value w.level w.patch border f ≡ plain w f
-    all_fluxes f e = bool_cases (is_border w.patch f)
+    all_fluxes : (f : Face) → is_face_of (box w.body.value.patch) f ≡ true → fluxes_with w.problem.value w.level w.body.value.patch border f ≡ plain w f
+    all_fluxes f e = bool_cases (is_border w.body.value.patch f)
         (λ b.
-        let place = border_placed w.patch f b in
-        border_beside w.problem.value w.level w.patch border f b
-        (size_is (border_place w.patch f) (omega (arith, place.inside, ready.border)) ∙ ap (λ g. unsigned_abs (plain w g)) (place.at no_face)))
-        (λ b. own_beside w.problem.value w.level w.patch border f b)
+        let place = border_placed w.body.value.patch f b in
+        border_beside w.problem.value w.level w.body.value.patch border f b
+        (size_is (border_place w.body.value.patch f) (omega (arith, place.inside, ready.border)) ∙ ap (λ g. unsigned_abs (plain w g)) (place.at no_face)))
+        (λ b. own_beside w.problem.value w.level w.body.value.patch border f b)
 
-    net_is : (c : Cell) → holds (box w.patch) c ≡ true → net (fluxes_with w.problem.value w.level w.patch border) c ≡ net (plain w) c
-    net_is c h = net_alike (box w.patch) (fluxes_with w.problem.value w.level w.patch border) (plain w) all_fluxes c h
+    net_is : (c : Cell) → holds (box w.body.value.patch) c ≡ true → net (fluxes_with w.problem.value w.level w.body.value.patch border) c ≡ net (plain w) c
+    net_is c h = net_alike (box w.body.value.patch) (fluxes_with w.problem.value w.level w.body.value.patch border) (plain w) all_fluxes c h
 
-    sum_is : (c : Cell) → holds (box w.patch) c ≡ true → pos (mass_in w.patch c) +ℤ net (fluxes_with w.problem.value w.level w.patch border) c ≡ pos (mass_in w.patch c) +ℤ net (plain w) c
-    sum_is c h = ap (λ z. pos (mass_in w.patch c) +ℤ z) (net_is c h)
+    sum_is : (c : Cell) → holds (box w.body.value.patch) c ≡ true → pos (mass_in w.body.value.patch c) +ℤ net (fluxes_with w.problem.value w.level w.body.value.patch border) c ≡ pos (mass_in w.body.value.patch c) +ℤ net (plain w) c
+    sum_is c h = ap (λ z. pos (mass_in w.body.value.patch c) +ℤ z) (net_is c h)
 
     -- as the code hands them on: the problem by reference, and the list cut from the room for sizes
     module _ (p : Problem) (of_problem : w.problem.value ≡ p) (given : List ℕ) (is_border : given ≡ border) where
       pub given_small : AreSmall given
       given_small = subst AreSmall (sym is_border) border_small
 
-      sum_given : (c : Cell) → holds (box w.patch) c ≡ true → pos (mass_in w.patch c) +ℤ net (fluxes_with p w.level w.patch given) c ≡ pos (mass_in w.patch c) +ℤ net (plain w) c
-      sum_given c h = (λ t. pos (mass_in w.patch c) +ℤ net (fluxes_with (sym of_problem t) w.level w.patch (is_border t)) c) ∙ sum_is c h
+      sum_given : (c : Cell) → holds (box w.body.value.patch) c ≡ true → pos (mass_in w.body.value.patch c) +ℤ net (fluxes_with p w.level w.body.value.patch given) c ≡ pos (mass_in w.body.value.patch c) +ℤ net (plain w) c
+      sum_given c h = (λ t. pos (mass_in w.body.value.patch c) +ℤ net (fluxes_with (sym of_problem t) w.level w.body.value.patch (is_border t)) c) ∙ sum_is c h
 
-      pub kept_given : (c : Cell) → holds (box w.patch) c ≡ true → pos 0 ≤ℤ (pos (mass_in w.patch c) +ℤ net (fluxes_with p w.level w.patch given) c)
+      pub kept_given : (c : Cell) → holds (box w.body.value.patch) c ≡ true → pos 0 ≤ℤ (pos (mass_in w.body.value.patch c) +ℤ net (fluxes_with p w.level w.body.value.patch given) c)
       kept_given c h = subst (λ z. pos 0 ≤ℤ z) (sym (sum_given c h)) (ready.kept c h)
 
-      pub fits_given : (c : Cell) → holds (box w.patch) c ≡ true → (pos (mass_in w.patch c) +ℤ net (fluxes_with p w.level w.patch given) c) <ℤ pos (2 ^ 32)
+      pub fits_given : (c : Cell) → holds (box w.body.value.patch) c ≡ true → (pos (mass_in w.body.value.patch c) +ℤ net (fluxes_with p w.level w.body.value.patch given) c) <ℤ pos (2 ^ 32)
       fits_given c h = subst (λ z. z <ℤ pos (2 ^ 32)) (sym (sum_given c h)) (ready.fits c h)
 
-      pub finished_after : (v : Work) → w.stage ≢ Finished → v.stage ≡ Finished → (c : Cell) → holds (box w.patch) c ≡ true → pos (mass_in v.patch c) ≡ pos (mass_in w.patch c) +ℤ net (fluxes_with p w.level w.patch given) c → mass_after v c ≡ mass_after w c
+      pub finished_after : (v : Work) → w.stage ≢ Finished → v.stage ≡ Finished → (c : Cell) → holds (box w.body.value.patch) c ≡ true → pos (mass_in v.body.value.patch c) ≡ pos (mass_in w.body.value.patch c) +ℤ net (fluxes_with p w.level w.body.value.patch given) c → mass_after v c ≡ mass_after w c
       finished_after v unfinished finished c h made = after_finished v finished c ∙ made ∙ sum_given c h ∙ sym (after_unfinished w unfinished c)

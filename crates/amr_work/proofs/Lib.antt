@@ -3,3 +3,4 @@ pub mod Standing
 pub mod Posting
 pub mod Finishing
 pub mod Sameness
+pub mod Bodies

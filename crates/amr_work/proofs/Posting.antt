@@ -23,13 +23,13 @@ pub own_adds : (v : View Work) (plan : PlanOf) (posts : List Post) → v.plan �
 own_adds v plan posts e h = ap (λ (q : PlanOf). adds_of q (current v).task) e ∙ h
 
 module _ (w : Work) (swept : w.stage ≡ Swept) where
-  pub put_is : (us : List PutAt) (k size : ℕ) (d : PutAt) → us ≡ w.workspace.layout.puts.items → k < length us → size ≡ unsigned_abs (flux_in w.patch (get_or us k d).face)
+  pub put_is : (us : List PutAt) (k size : ℕ) (d : PutAt) → us ≡ w.body.value.workspace.layout.puts.items → k < length us → size ≡ unsigned_abs (flux_in w.body.value.patch (get_or us k d).face)
       → get_or (puts_of_work w) k no_post ≡ record { at = (get_or us k d).place; amount = size }
   put_is us k size d e lt is =
       ap (λ xs. get_or (map (put_of w) xs) k no_post) (sym e) ∙ get_or-map (put_of w) us k d no_post lt
       ∙ ap (λ n. record { at = (get_or us k d).place; amount = n }) (ap unsigned_abs (through_swept w swept (get_or us k d).face) ∙ sym is)
 
-  pub add_is : (us : List AddAt) (k sum : ℕ) (a : AddAt) → us ≡ w.workspace.layout.adds.items → k < length us → a ≡ get_or us k a → sum ≡ total (λ (f : Face). unsigned_abs (flux_in w.patch f)) a.faces.items
+  pub add_is : (us : List AddAt) (k sum : ℕ) (a : AddAt) → us ≡ w.body.value.workspace.layout.adds.items → k < length us → a ≡ get_or us k a → sum ≡ total (λ (f : Face). unsigned_abs (flux_in w.body.value.patch f)) a.faces.items
       → get_or (adds_of_work w) k no_post ≡ record { at = a.word; amount = sum }
   add_is us k sum a e lt here is =
       ap (λ xs. get_or (map (add_of w) xs) k no_post) (sym e) ∙ get_or-map (add_of w) us k a no_post lt ∙ ap (add_of w) (sym here)

@@ -38,56 +38,56 @@ own_face q f e = first (is_face_of (box q) f) _ e
     first false b e = e
 
 module _ (w v : Work) (s : StandsFor w v) where
-  marks : mark_in v.patch ≡ mark_in w.patch
+  marks : mark_in v.body.value.patch ≡ mark_in w.body.value.patch
   marks = λ t c. s.marks c t
 
-  border_same : (f : Face) → is_border v.patch f ≡ is_border w.patch f
+  border_same : (f : Face) → is_border v.body.value.patch f ≡ is_border w.body.value.patch f
   unfolding is_border
   border_same f = λ t. is_face_of (s.of_box t) f && not (holds (s.of_box t) (high_cell f)) && marks t (high_cell f)
 
-  owns_same : (f : Face) → owns v.patch f ≡ owns w.patch f
+  owns_same : (f : Face) → owns v.body.value.patch f ≡ owns w.body.value.patch f
   unfolding owns
   owns_same f = λ t. is_face_of (s.of_box t) f && not (border_same f t)
 
-  faces_same : border_faces v.patch ≡ border_faces w.patch
+  faces_same : border_faces v.body.value.patch ≡ border_faces w.body.value.patch
   unfolding border_faces
   faces_same = λ t. passing (λ f. border_same f t) (x_end (s.of_box t)) (height (s.of_box t)) ++ passing (λ f. border_same f t) (y_end (s.of_box t)) (width (s.of_box t))
 
   -- ---- posts
 
-  pub posts_owned : HasOwnPosts w.patch w.workspace.layout → HasOwnPosts v.patch v.workspace.layout
-  posts_owned h = subst (HasOwnPosts v.patch) (sym s.layout) (record {
-    puts = λ k d lt. let e = h.puts k d lt in owned (get_or w.workspace.layout.puts.items k d).face e;
-    adds = λ k d lt. let e = h.adds k d lt in (λ j f below. owned (get_or (get_or w.workspace.layout.adds.items k d).faces.items j f) (e.0 j f below), e.1);
+  pub posts_owned : HasOwnPosts w.body.value.patch w.body.value.workspace.layout → HasOwnPosts v.body.value.patch v.body.value.workspace.layout
+  posts_owned h = subst (HasOwnPosts v.body.value.patch) (sym s.layout) (record {
+    puts = λ k d lt. let e = h.puts k d lt in owned (get_or w.body.value.workspace.layout.puts.items k d).face e;
+    adds = λ k d lt. let e = h.adds k d lt in (λ j f below. owned (get_or (get_or w.body.value.workspace.layout.adds.items k d).faces.items j f) (e.0 j f below), e.1);
   })
     where
-      owned : (f : Face) → (is_edge_face (box w.patch) f ≡ true) × (owns w.patch f ≡ true) → (is_edge_face (box v.patch) f ≡ true) × (owns v.patch f ≡ true)
+      owned : (f : Face) → (is_edge_face (box w.body.value.patch) f ≡ true) × (owns w.body.value.patch f ≡ true) → (is_edge_face (box v.body.value.patch) f ≡ true) × (owns v.body.value.patch f ≡ true)
       owned f e = (ap (λ (b : Extent). is_edge_face b f) s.of_box ∙ e.0, owns_same f ∙ e.1)
 
-  pub puts_same : HasOwnPosts w.patch w.workspace.layout → puts_of_work w ≡ puts_of_work v
+  pub puts_same : HasOwnPosts w.body.value.patch w.body.value.workspace.layout → puts_of_work w ≡ puts_of_work v
   puts_same h =
-      map_same (put_of w) (put_of v) w.workspace.layout.puts.items (λ k d lt.
+      map_same (put_of w) (put_of v) w.body.value.workspace.layout.puts.items (λ k d lt.
       let e = h.puts k d lt in
-      let u = get_or w.workspace.layout.puts.items k d in
+      let u = get_or w.body.value.workspace.layout.puts.items k d in
       ap (λ z. record { at = u.place; amount = unsigned_abs z }) (sym (s.fluxes u.face e.0 e.1)))
       ∙ ap (λ (y : TaskLayout). map (put_of v) y.puts.items) (sym s.layout)
 
-  pub adds_same : HasOwnPosts w.patch w.workspace.layout → adds_of_work w ≡ adds_of_work v
+  pub adds_same : HasOwnPosts w.body.value.patch w.body.value.workspace.layout → adds_of_work w ≡ adds_of_work v
   adds_same h =
-      map_same (add_of w) (add_of v) w.workspace.layout.adds.items (λ k d lt.
+      map_same (add_of w) (add_of v) w.body.value.workspace.layout.adds.items (λ k d lt.
       let e = h.adds k d lt in
-      let a = get_or w.workspace.layout.adds.items k d in
+      let a = get_or w.body.value.workspace.layout.adds.items k d in
       ap (λ n. record { at = a.word; amount = n }) (total_same (λ f. unsigned_abs (through w f)) (λ f. unsigned_abs (through v f)) a.faces.items (λ j f below.
       let o = e.0 j f below in
       ap unsigned_abs (sym (s.fluxes (get_or a.faces.items j f) o.0 o.1)))))
       ∙ ap (λ (y : TaskLayout). map (add_of v) y.adds.items) (sym s.layout)
 
   -- what flows through its own edges is as small as what flows by the values
-  pub flows_small : w.stage ≡ Raw → v.stage ≡ Swept → IsReadyPiece w → (f : Face) → is_edge_face (box v.patch) f ≡ true → owns v.patch f ≡ true → unsigned_abs (flux_in v.patch f) < 2 ^ 31
+  pub flows_small : w.stage ≡ Raw → v.stage ≡ Swept → IsReadyPiece w → (f : Face) → is_edge_face (box v.body.value.patch) f ≡ true → owns v.body.value.patch f ≡ true → unsigned_abs (flux_in v.body.value.patch f) < 2 ^ 31
   flows_small raw swept r f edge own =
-      let mine : owns w.patch f ≡ true = sym (owns_same f) ∙ own in
-      let same : flux_in v.patch f ≡ plain w f = sym (through_swept v swept f) ∙ s.fluxes f (ap (λ (b : Extent). is_edge_face b f) (sym s.of_box) ∙ edge) mine ∙ through_raw w raw f in
-      subst (λ z. unsigned_abs z < 2 ^ 31) (sym same) (beside_small w.problem.value w.level w.patch r.small f (own_face w.patch f mine))
+      let mine : owns w.body.value.patch f ≡ true = sym (owns_same f) ∙ own in
+      let same : flux_in v.body.value.patch f ≡ plain w f = sym (through_swept v swept f) ∙ s.fluxes f (ap (λ (b : Extent). is_edge_face b f) (sym s.of_box) ∙ edge) mine ∙ through_raw w raw f in
+      subst (λ z. unsigned_abs z < 2 ^ 31) (sym same) (beside_small w.problem.value w.level w.body.value.patch r.small f (own_face w.body.value.patch f mine))
 
   -- ---- what it stands for goes on
 
@@ -112,20 +112,20 @@ module _ (w v : Work) (s : StandsFor w v) where
   -- ---- a patch that is not finished has the values of before
 
   module _ (unfinished : v.stage ≢ Finished) where
-    values : value_in v.patch ≡ value_in w.patch
+    values : value_in v.body.value.patch ≡ value_in w.body.value.patch
     values = λ t c. s.unfinished unfinished c t
 
     pub plain_same : (f : Face) → plain v f ≡ plain w f
     unfolding flux_beside
     plain_same f = λ t. flow (courant (s.problem t) (s.level t) f) (s.problem t).d (values t (low_cell f)) (values t (high_cell f))
 
-    after_same : (c : Cell) → pos (mass_in v.patch c) +ℤ net (plain v) c ≡ pos (mass_in w.patch c) +ℤ net (plain w) c
+    after_same : (c : Cell) → pos (mass_in v.body.value.patch c) +ℤ net (plain v) c ≡ pos (mass_in w.body.value.patch c) +ℤ net (plain w) c
     after_same c = λ t. pos (values t c) +ℤ net (λ f. plain_same f t) c
 
     pub ready_same : IsReadyPiece w → IsReadyPiece v
     ready_same r = record {
       level = subst (λ n. n ≤ 4) (sym s.level) r.level;
-      inside = subst (λ (b : Extent). IsInDomain (domain v.problem.value v.level) b) (sym s.of_box) (subst (λ (p : Problem). IsInDomain (domain p v.level) (box w.patch)) (sym s.problem) (subst (λ n. IsInDomain (domain w.problem.value n) (box w.patch)) (sym s.level) r.inside));
+      inside = subst (λ (b : Extent). IsInDomain (domain v.problem.value v.level) b) (sym s.of_box) (subst (λ (p : Problem). IsInDomain (domain p v.level) (box w.body.value.patch)) (sym s.problem) (subst (λ n. IsInDomain (domain w.problem.value n) (box w.body.value.patch)) (sym s.level) r.inside));
       small = λ c h. subst (λ n. n < 2 ^ 31) (sym (s.unfinished unfinished c)) (r.small c (ap (λ (b : Extent). in_reach b c) (sym s.of_box) ∙ h));
       kept = λ c h. subst (λ z. pos 0 ≤ℤ z) (sym (after_same c)) (r.kept c (ap (λ (b : Extent). holds b c) (sym s.of_box) ∙ h));
       fits = λ c h. subst (λ z. z <ℤ pos (2 ^ 32)) (sym (after_same c)) (r.fits c (ap (λ (b : Extent). holds b c) (sym s.of_box) ∙ h));
@@ -139,7 +139,7 @@ module _ (w v : Work) (s : StandsFor w v) where
     planned_same plan h = record {
       places = subst (λ (y : TaskLayout). All (λ place. place < plan.places) y.border.items) (sym s.layout) h.places;
       sizes = λ k f lt.
-          let below : k < length w.workspace.layout.border.items = omega (arith, lt, ap (λ (y : TaskLayout). length y.border.items) s.layout) in
-          let amount : unsigned_abs (plain v (get_or (border_faces v.patch) k f)) ≡ unsigned_abs (plain w (get_or (border_faces w.patch) k f)) = λ t. unsigned_abs (plain_same (get_or (faces_same t) k f) t) in
+          let below : k < length w.body.value.workspace.layout.border.items = omega (arith, lt, ap (λ (y : TaskLayout). length y.border.items) s.layout) in
+          let amount : unsigned_abs (plain v (get_or (border_faces v.body.value.patch) k f)) ≡ unsigned_abs (plain w (get_or (border_faces w.body.value.patch) k f)) = λ t. unsigned_abs (plain_same (get_or (faces_same t) k f) t) in
           ap (λ (y : TaskLayout). planned_face plan (slice_index y.border.items k)) s.layout ∙ h.sizes k f below ∙ ap (λ n. n + 1) (sym amount);
     }

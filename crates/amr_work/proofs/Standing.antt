@@ -27,36 +27,36 @@ pub through_raw : (w : Work) → w.stage ≡ Raw → (f : Face) → through w f 
 unfolding through
 through_raw w e f = rw e refl
 
-pub through_swept : (w : Work) → w.stage ≡ Swept → (f : Face) → through w f ≡ flux_in w.patch f
+pub through_swept : (w : Work) → w.stage ≡ Swept → (f : Face) → through w f ≡ flux_in w.body.value.patch f
 unfolding through
 through_swept w e f = rw e refl
 
-pub through_finished : (w : Work) → w.stage ≡ Finished → (f : Face) → through w f ≡ flux_in w.patch f
+pub through_finished : (w : Work) → w.stage ≡ Finished → (f : Face) → through w f ≡ flux_in w.body.value.patch f
 unfolding through
 through_finished w e f = rw e refl
 
-pub after_raw : (w : Work) → w.stage ≡ Raw → (c : Cell) → mass_after w c ≡ pos (mass_in w.patch c) +ℤ net (plain w) c
+pub after_raw : (w : Work) → w.stage ≡ Raw → (c : Cell) → mass_after w c ≡ pos (mass_in w.body.value.patch c) +ℤ net (plain w) c
 unfolding mass_after
 after_raw w e c = rw e refl
 
-pub after_swept : (w : Work) → w.stage ≡ Swept → (c : Cell) → mass_after w c ≡ pos (mass_in w.patch c) +ℤ net (plain w) c
+pub after_swept : (w : Work) → w.stage ≡ Swept → (c : Cell) → mass_after w c ≡ pos (mass_in w.body.value.patch c) +ℤ net (plain w) c
 unfolding mass_after
 after_swept w e c = rw e refl
 
-pub after_finished : (w : Work) → w.stage ≡ Finished → (c : Cell) → mass_after w c ≡ pos (mass_in w.patch c)
+pub after_finished : (w : Work) → w.stage ≡ Finished → (c : Cell) → mass_after w c ≡ pos (mass_in w.body.value.patch c)
 unfolding mass_after
 after_finished w e c = rw e refl
 
-pub after_unfinished : (w : Work) → w.stage ≢ Finished → (c : Cell) → mass_after w c ≡ pos (mass_in w.patch c) +ℤ net (plain w) c
+pub after_unfinished : (w : Work) → w.stage ≢ Finished → (c : Cell) → mass_after w c ≡ pos (mass_in w.body.value.patch c) +ℤ net (plain w) c
 after_unfinished w un c = from w.stage refl
   where
-    from : (s : Stage) → w.stage ≡ s → mass_after w c ≡ pos (mass_in w.patch c) +ℤ net (plain w) c
+    from : (s : Stage) → w.stage ≡ s → mass_after w c ≡ pos (mass_in w.body.value.patch c) +ℤ net (plain w) c
     from Raw e = after_raw w e c
     from Swept e = after_swept w e c
     from Finished e = absurd (un e)
 
 -- where a raw patch is swept its masses to come stay
-pub swept_after : (w v : Work) → w.stage ≡ Raw → v.stage ≡ Swept → v.level ≡ w.level → v.problem.value ≡ w.problem.value → SameValues w.patch v.patch → (c : Cell) → mass_after v c ≡ mass_after w c
+pub swept_after : (w v : Work) → w.stage ≡ Raw → v.stage ≡ Swept → v.level ≡ w.level → v.problem.value ≡ w.problem.value → SameValues w.body.value.patch v.body.value.patch → (c : Cell) → mass_after v c ≡ mass_after w c
 swept_after w v raw swept level problem same c =
-    let fluxes : (f : Face) → plain v f ≡ plain w f = λ f. beside_same v.problem.value v.level w.patch v.patch same f ∙ ap (λ (p : Problem). flux_beside p v.level w.patch f) problem ∙ ap (λ n. flux_beside w.problem.value n w.patch f) level in
-    after_swept v swept c ∙ ap (λ n. pos n +ℤ net (plain v) c) (same c) ∙ ap (λ z. pos (mass_in w.patch c) +ℤ z) (net_same (plain v) (plain w) fluxes c) ∙ sym (after_raw w raw c)
+    let fluxes : (f : Face) → plain v f ≡ plain w f = λ f. beside_same v.problem.value v.level w.body.value.patch v.body.value.patch same f ∙ ap (λ (p : Problem). flux_beside p v.level w.body.value.patch f) problem ∙ ap (λ n. flux_beside w.problem.value n w.body.value.patch f) level in
+    after_swept v swept c ∙ ap (λ n. pos n +ℤ net (plain v) c) (same c) ∙ ap (λ z. pos (mass_in w.body.value.patch c) +ℤ z) (net_same (plain v) (plain w) fluxes c) ∙ sym (after_raw w raw c)

@@ -32,26 +32,26 @@ pub record HasOwnPosts (q : Patch) (layout : TaskLayout) : Type 0 where
 -- workspace that serves it
 pub record IsReadyPiece (w : Work) : Type 0 where
   pub level : w.level ≤ 4
-  pub inside : IsInDomain (domain w.problem.value w.level) (box w.patch)
-  pub small : (c : Cell) → IsTrue (in_reach (box w.patch) c) → value_in w.patch c < 2 ^ 31
-  pub kept : (c : Cell) → IsTrue (holds (box w.patch) c) → pos 0 ≤ℤ (pos (mass_in w.patch c) +ℤ net (plain w) c)
-  pub fits : (c : Cell) → IsTrue (holds (box w.patch) c) → (pos (mass_in w.patch c) +ℤ net (plain w) c) <ℤ pos (2 ^ 32)
-  pub room : width (box w.patch) ≤ widest w.workspace.room
-  pub posts : HasOwnPosts w.patch w.workspace.layout
-  pub border : length w.workspace.layout.border.items ≡ length (border_faces w.patch)
-  pub sizes : length w.workspace.layout.border.items ≤ length w.workspace.sizes.items
+  pub inside : IsInDomain (domain w.problem.value w.level) (box w.body.value.patch)
+  pub small : (c : Cell) → IsTrue (in_reach (box w.body.value.patch) c) → value_in w.body.value.patch c < 2 ^ 31
+  pub kept : (c : Cell) → IsTrue (holds (box w.body.value.patch) c) → pos 0 ≤ℤ (pos (mass_in w.body.value.patch c) +ℤ net (plain w) c)
+  pub fits : (c : Cell) → IsTrue (holds (box w.body.value.patch) c) → (pos (mass_in w.body.value.patch c) +ℤ net (plain w) c) <ℤ pos (2 ^ 32)
+  pub room : width (box w.body.value.patch) ≤ widest w.body.value.workspace.room
+  pub posts : HasOwnPosts w.body.value.patch w.body.value.workspace.layout
+  pub border : length w.body.value.workspace.layout.border.items ≡ length (border_faces w.body.value.patch)
+  pub sizes : length w.body.value.workspace.layout.border.items ≤ length w.body.value.workspace.sizes.items
 
 -- at the place of each of its border faces the plan has what flows through it
 pub record HasBorderPlanned (plan : PlanOf) (w : Work) : Type 0 where
-  pub places : All (λ place. place < plan.places) w.workspace.layout.border.items
-  pub sizes : (k : ℕ) (f : Face) → k < length w.workspace.layout.border.items
-      → planned_face plan (slice_index w.workspace.layout.border.items k) ≡ unsigned_abs (plain w (slice_index_or (border_faces w.patch) k f)) + 1
+  pub places : All (λ place. place < plan.places) w.body.value.workspace.layout.border.items
+  pub sizes : (k : ℕ) (f : Face) → k < length w.body.value.workspace.layout.border.items
+      → planned_face plan (slice_index w.body.value.workspace.layout.border.items k) ≡ unsigned_abs (plain w (slice_index_or (border_faces w.body.value.patch) k f)) + 1
 
 -- and so has a board that is closed
 pub record HasBorderEnded (o : EndedOf Work) (w : Work) : Type 0 where
-  pub places : All (λ place. place < o.places) w.workspace.layout.border.items
-  pub sizes : (k : ℕ) (f : Face) → k < length w.workspace.layout.border.items
-      → face_of o (slice_index w.workspace.layout.border.items k) ≡ unsigned_abs (plain w (slice_index_or (border_faces w.patch) k f)) + 1
+  pub places : All (λ place. place < o.places) w.body.value.workspace.layout.border.items
+  pub sizes : (k : ℕ) (f : Face) → k < length w.body.value.workspace.layout.border.items
+      → face_of o (slice_index w.body.value.workspace.layout.border.items k) ≡ unsigned_abs (plain w (slice_index_or (border_faces w.body.value.patch) k f)) + 1
 
 -- a raw piece of this problem that is ready, whose border the plan has
 pub record MayBegin (p : Problem) (plan : PlanOf) (w : Work) : Type 0 where

@@ -19,7 +19,7 @@ use Rattle.amr_work.specs.declared.work.Work.{Work}
 
 -- what flows through the faces of its level, by the values of the patch and its frame
 abbrev pub plain : Work → Fluxes
-plain w = flux_beside w.problem.value w.level w.patch
+plain w = flux_beside w.problem.value w.level w.body.value.patch
 
 -- ---- what it stands for
 
@@ -30,7 +30,7 @@ through_at Finished by_values on_edge = on_edge
 
 -- what flows through a face on its edges that it owns
 unfoldable pub through : Work → Fluxes
-through w f = through_at w.stage (plain w f) (flux_in w.patch f)
+through w f = through_at w.stage (plain w f) (flux_in w.body.value.patch f)
 
 abbrev after_at : Stage → ℤ → ℤ → ℤ
 after_at Raw mass flows_in = mass +ℤ flows_in
@@ -39,21 +39,21 @@ after_at Finished mass flows_in = mass
 
 -- the mass of a cell after the step
 unfoldable pub mass_after : Work → Cell → ℤ
-mass_after w c = after_at w.stage (pos (mass_in w.patch c)) (net (plain w) c)
+mass_after w c = after_at w.stage (pos (mass_in w.body.value.patch c)) (net (plain w) c)
 
 -- the patch has the values of before, and no task but this
 pub record StandsFor (w v : Work) : Type 0 where
   pub task : v.task ≡ w.task
   pub level : v.level ≡ w.level
   pub problem : v.problem.value ≡ w.problem.value
-  pub layout : v.workspace.layout ≡ w.workspace.layout
-  pub sizes : length v.workspace.sizes.items ≡ length w.workspace.sizes.items
-  pub room : widest v.workspace.room ≡ widest w.workspace.room
-  pub of_box : box v.patch ≡ box w.patch
-  pub marks : SameMarks w.patch v.patch
-  pub unfinished : v.stage ≢ Finished → SameValues w.patch v.patch
-  pub masses : (c : Cell) → IsTrue (holds (box w.patch) c) → mass_after v c ≡ mass_after w c
-  pub fluxes : (f : Face) → IsTrue (is_edge_face (box w.patch) f) → IsTrue (owns w.patch f) → through v f ≡ through w f
+  pub layout : v.body.value.workspace.layout ≡ w.body.value.workspace.layout
+  pub sizes : length v.body.value.workspace.sizes.items ≡ length w.body.value.workspace.sizes.items
+  pub room : widest v.body.value.workspace.room ≡ widest w.body.value.workspace.room
+  pub of_box : box v.body.value.patch ≡ box w.body.value.patch
+  pub marks : SameMarks w.body.value.patch v.body.value.patch
+  pub unfinished : v.stage ≢ Finished → SameValues w.body.value.patch v.body.value.patch
+  pub masses : (c : Cell) → IsTrue (holds (box w.body.value.patch) c) → mass_after v c ≡ mass_after w c
+  pub fluxes : (f : Face) → IsTrue (is_edge_face (box w.body.value.patch) f) → IsTrue (owns w.body.value.patch f) → through v f ≡ through w f
 
 -- ---- its posts
 
@@ -65,8 +65,8 @@ add_of w a = record { at = a.word; amount = total (λ (f : Face). unsigned_abs (
 
 -- the size of what flows through each face that other patches read
 abbrev pub puts_of_work : Work → List Post
-puts_of_work w = map (put_of w) w.workspace.layout.puts.items
+puts_of_work w = map (put_of w) w.body.value.workspace.layout.puts.items
 
 -- the sums of what flows through the faces of each word
 abbrev pub adds_of_work : Work → List Post
-adds_of_work w = map (add_of w) w.workspace.layout.adds.items
+adds_of_work w = map (add_of w) w.body.value.workspace.layout.adds.items

@@ -9,7 +9,7 @@ ghost use Rattle.amr_work.specs.Looks.{HasLookedOnly, HasLookedInVain};
 ghost use Rattle.amr_work.specs.Ready.{HasBorderPlanned, IsReadyPiece};
 ghost use Rattle.amr_work.specs.Works.{StandsFor};
 
-use crate::work::{Stage, Work};
+use crate::work::{Stage, Work, Workspace};
 use amr_board::{Board, Seat};
 use amr_def::Problem;
 use amr_flux::update;
@@ -52,22 +52,17 @@ pub fn finish(p: &Problem, board: &Board<Work>, seat: &mut Seat<Work>, mut work:
     ensures looked { HasLookedOnly (view seat.old) (view seat.new) }
     ensures stands { StandsFor work result }
     ensures stage { result.stage ≢ Raw }
-    ensures missing { result.stage ≡ Swept → HasLookedInVain work.workspace.layout.border.items (view seat.old) (view seat.new) }
+    ensures missing { result.stage ≡ Swept → HasLookedInVain work.body.value.workspace.layout.border.items (view seat.old) (view seat.new) }
 {
-    let count = work.workspace.layout.border.len();
-    if read_border(
-        board,
-        seat,
-        &work.workspace.layout.border,
-        &mut work.workspace.sizes,
-    ) {
-        update(
-            p,
-            work.level,
-            &mut work.patch,
-            &work.workspace.sizes[..count],
-            &mut work.workspace.room,
-        );
+    let body = &mut *work.body;
+    let Workspace {
+        layout,
+        sizes,
+        room,
+    } = &mut body.workspace;
+    if read_border(board, seat, &layout.border, sizes) {
+        let count = layout.border.len();
+        update(p, work.level, &mut body.patch, &sizes[..count], room);
         work.stage = Stage::Finished;
     }
     work

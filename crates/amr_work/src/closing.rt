@@ -11,7 +11,7 @@ ghost use Rattle.amr_work.specs.declared.work.Stage.TheVariants.{Finished};
 ghost use Rattle.amr_work.specs.Ready.{HasBorderEnded, IsReadyPiece};
 ghost use Rattle.amr_work.specs.Works.{mass_after};
 
-use crate::work::{Stage, Work};
+use crate::work::{Stage, Work, Workspace};
 use amr_board::Ended;
 use amr_def::Problem;
 use amr_flux::update;
@@ -38,26 +38,22 @@ pub fn complete(p: &Problem, ended: &Ended<Work>, mut work: Work) -> Work
     requires ready { IsReadyPiece work }
     requires border { HasBorderEnded ended.now work }
     ensures stage { result.stage ≡ Finished }
-    ensures masses { (c : Cell) → IsTrue (holds (box work.patch) c) → mass_after result c ≡ mass_after work c }
-    ensures of_box { box result.patch ≡ box work.patch }
-    ensures marks { SameMarks work.patch result.patch }
-    ensures layout { result.workspace.layout ≡ work.workspace.layout }
-    ensures sizes { length result.workspace.sizes.items ≡ length work.workspace.sizes.items }
-    ensures room { widest result.workspace.room ≡ widest work.workspace.room }
+    ensures masses { (c : Cell) → IsTrue (holds (box work.body.value.patch) c) → mass_after result c ≡ mass_after work c }
+    ensures of_box { box result.body.value.patch ≡ box work.body.value.patch }
+    ensures marks { SameMarks work.body.value.patch result.body.value.patch }
+    ensures layout { result.body.value.workspace.layout ≡ work.body.value.workspace.layout }
+    ensures sizes { length result.body.value.workspace.sizes.items ≡ length work.body.value.workspace.sizes.items }
+    ensures room { widest result.body.value.workspace.room ≡ widest work.body.value.workspace.room }
 {
-    let count = work.workspace.layout.border.len();
-    read_ended(
-        ended,
-        &work.workspace.layout.border,
-        &mut work.workspace.sizes,
-    );
-    update(
-        p,
-        work.level,
-        &mut work.patch,
-        &work.workspace.sizes[..count],
-        &mut work.workspace.room,
-    );
+    let body = &mut *work.body;
+    let Workspace {
+        layout,
+        sizes,
+        room,
+    } = &mut body.workspace;
+    read_ended(ended, &layout.border, sizes);
+    let count = layout.border.len();
+    update(p, work.level, &mut body.patch, &sizes[..count], room);
     work.stage = Stage::Finished;
     work
 }

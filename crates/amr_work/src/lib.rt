@@ -12,4 +12,4 @@ mod work;
 pub use border::finish;
 pub use closing::complete;
 pub use job::{LevelWork, work_level};
-pub use work::{Stage, Work, Workspace};
+pub use work::{Body, Stage, Work, Workspace};

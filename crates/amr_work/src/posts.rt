@@ -38,17 +38,18 @@ pub(crate) fn make_posts(board: &Board<Work>, seat: &mut Seat<Work>, work: &Work
     requires seat { IsSeatOf board.now seat.old }
     requires fresh { IsFresh (view seat.old) }
     requires swept { work.now.stage ≡ Swept }
-    requires posts { HasOwnPosts work.now.patch work.now.workspace.layout }
-    requires small { (f : Face) → IsTrue (is_edge_face (box work.now.patch) f) → IsTrue (owns work.now.patch f) → unsigned_abs (flux_in work.now.patch f) < 2 ^ 31 }
+    requires posts { HasOwnPosts work.now.body.value.patch work.now.body.value.workspace.layout }
+    requires small { (f : Face) → IsTrue (is_edge_face (box work.now.body.value.patch) f) → IsTrue (owns work.now.body.value.patch f) → unsigned_abs (flux_in work.now.body.value.patch f) < 2 ^ 31 }
     requires puts { puts_of board.now.plan (current (view seat.old)).task ≡ puts_of_work work.now }
     requires adds { adds_of board.now.plan (current (view seat.old)).task ≡ adds_of_work work.now }
     ensures seat { IsSeatOf board.now seat.new }
     ensures posted { HasPosted (view seat.old) (view seat.new) (length (puts_of_work work.now)) (length (adds_of_work work.now)) }
 {
-    for put in &work.workspace.layout.puts {
-        board.put(seat, put.place, work.patch.flux(put.face).unsigned_abs());
+    let body = &*work.body;
+    for put in &body.workspace.layout.puts {
+        board.put(seat, put.place, body.patch.flux(put.face).unsigned_abs());
     }
-    for add in &work.workspace.layout.adds {
-        board.add(seat, add.word, sum_through(&work.patch, &add.faces));
+    for add in &body.workspace.layout.adds {
+        board.add(seat, add.word, sum_through(&body.patch, &add.faces));
     }
 }

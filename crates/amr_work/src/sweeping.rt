@@ -17,6 +17,7 @@ pub(crate) fn sweep_work(p: &Problem, work: &mut Work)
     ensures swept { work.new.stage ≡ Swept }
     ensures stands { StandsFor work.old work.new }
 {
-    sweep(p, work.level, &mut work.patch, &mut work.workspace.room);
+    let body = &mut *work.body;
+    sweep(p, work.level, &mut body.patch, &mut body.workspace.room);
     work.stage = Stage::Swept;
 }

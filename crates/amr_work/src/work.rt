@@ -5,6 +5,7 @@ use amr_def::Problem;
 use amr_flux::Room;
 use amr_layout::TaskLayout;
 use amr_patch::Patch;
+use std::boxed::Box;
 use std::snapshot::Snapshot;
 
 /// How far a patch is in a step.
@@ -29,6 +30,14 @@ pub struct Workspace {
     pub room: Room,
 }
 
+/// A patch and the workspace of its task. They lie in a block of their own, which stays where it is while the piece moves over the
+/// board.
+#[derive(Drop)]
+pub struct Body {
+    pub patch: Patch,
+    pub workspace: Workspace,
+}
+
 /// The piece of a task: a patch of a level of a problem, how far it is, and its workspace. What it means follows from it alone.
 #[derive(Drop)]
 pub struct Work {
@@ -37,8 +46,7 @@ pub struct Work {
     /// The level, from 0 to 4.
     pub level: u32,
     pub stage: Stage,
-    pub patch: Patch,
-    pub workspace: Workspace,
+    pub body: Box<Body>,
     /// The problem, which no byte stands for.
     pub problem: Snapshot<Problem>,
 }

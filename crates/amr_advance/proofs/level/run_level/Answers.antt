@@ -1,6 +1,7 @@
-use Rattle.std.proofs.Common.{◌≡◌, List, length, map, sym, ap, subst, ◌∙◌, arith}
+use Rattle.std.proofs.Common.{◌≡◌, List, map, sym, ap, subst, ◌∙◌, arith}
 use Rattle.std.specs.Option.{option_copied}
 use Rattle.std.specs.List.{All}
+use Rattle.std.proofs.lemmas.List.{length-map}
 use Rattle.amr_def.specs.declared.problem.Problem.{Problem}
 use Rattle.amr_ghost.specs.Frames.{old_masses}
 use Rattle.amr_phase.specs.Plans.{IsPlan}
@@ -10,9 +11,10 @@ use Rattle.amr_board.specs.Piece.{plan_of}
 use Rattle.amr_work.specs.declared.work.Work.{Work}
 use Rattle.amr_work.specs.Ready.{MayBegin}
 use Rattle.amr_work.specs.Works.{adds_of_work, puts_of_work}
-use Rattle.amr_advance.specs.Collected.{AreCollected, AreReturned}
 use Rattle.amr_advance.specs.Ended.{HasWords}
 use Rattle.amr_advance.specs.Kept.{shape_of}
+use Rattle.amr_advance.specs.Pieces.{workspaces_in}
+use Rattle.amr_advance.proofs.Bodies.{workspace_in}
 use Rattle.amr_advance.proofs.Closed.{all_returned, all_stepped, level_totals, may_collect, numbered, patches_back}
 use Rattle.amr_advance.proofs.Going.{all_begin, is_plan}
 use Rattle.amr_advance.proofs.level.run_level.Goals as goal
@@ -30,33 +32,31 @@ words_by h g e ws o = subst (λ (x : Shape). HasWords (plan_of puts_of_work adds
 pub run_pieces-requires-clause-plan : goal.run_pieces-requires-clause-plan
 run_pieces-requires-clause-plan g c = λ _ _.
     plan_by c.args.layout.now.shape (shape_of c.args.layout.now.layout.value) c.requires.layout.shape c.to_pieces-pieces.result.items
-    (is_plan c.args.given.problem.now c.args.given.level (old_masses (option_copied c.args.given.old)) c.args.patches.now.items c.args.given.cells.now (option_copied c.args.given.finer) c.requires.level c.requires.shown c.requires.fits
-    c.args.layout.now.layout.value c.requires.layout.layout c.args.layout.now.workspaces.items c.requires.layout.workspaces c.to_pieces-pieces.result.items c.to_pieces-pieces.ensures.pieces)
+    (is_plan c.args.given.problem.now c.args.given.level (old_masses (option_copied c.args.given.old)) c.args.patches.now c.args.given.cells.now (option_copied c.args.given.finer) c.requires.level c.requires.shown c.requires.fits
+    c.args.layout.now.layout.value c.requires.layout.layout (workspaces_in c.args.layout.now.bodies.items) c.requires.layout.workspaces c.to_pieces-pieces.result.items c.to_pieces-pieces.ensures.pieces)
 
 pub run_pieces-requires-clause-numbered : goal.run_pieces-requires-clause-numbered
-run_pieces-requires-clause-numbered g c = λ _ _. numbered c.args.given.problem.now c.args.given.level c.args.patches.now.items c.args.layout.now.workspaces.items c.to_pieces-pieces.result.items c.to_pieces-pieces.ensures.pieces
+run_pieces-requires-clause-numbered g c = λ _ _. numbered c.args.given.problem.now c.args.given.level c.args.patches.now (workspaces_in c.args.layout.now.bodies.items) c.to_pieces-pieces.result.items c.to_pieces-pieces.ensures.pieces
 
 pub run_pieces-requires-clause-begin : goal.run_pieces-requires-clause-begin
 run_pieces-requires-clause-begin g c = λ _ _.
     begin_by c.args.given.problem.now c.args.layout.now.shape (shape_of c.args.layout.now.layout.value) c.requires.layout.shape c.to_pieces-pieces.result.items
-    (all_begin c.args.given.problem.now c.args.given.level (old_masses (option_copied c.args.given.old)) c.args.patches.now.items c.args.given.cells.now (option_copied c.args.given.finer) c.requires.level c.requires.shown c.requires.fits
-    c.args.layout.now.layout.value c.requires.layout.layout c.args.layout.now.workspaces.items c.requires.layout.workspaces c.to_pieces-pieces.result.items c.to_pieces-pieces.ensures.pieces)
+    (all_begin c.args.given.problem.now c.args.given.level (old_masses (option_copied c.args.given.old)) c.args.patches.now c.args.given.cells.now (option_copied c.args.given.finer) c.requires.level c.requires.shown c.requires.fits
+    c.args.layout.now.layout.value c.requires.layout.layout (workspaces_in c.args.layout.now.bodies.items) c.requires.layout.workspaces c.to_pieces-pieces.result.items c.to_pieces-pieces.ensures.pieces)
 
 pub collect-requires-clause-pieces : goal.collect-requires-clause-pieces
 collect-requires-clause-pieces g c = λ t lt.
-    may_collect c.args.given.problem.now c.args.given.level (old_masses (option_copied c.args.given.old)) c.args.patches.now.items c.args.given.cells.now (option_copied c.args.given.finer) c.requires.level c.requires.shown c.requires.fits
-    c.args.layout.now.layout.value c.requires.layout.layout c.args.layout.now.workspaces.items c.requires.layout.workspaces c.to_pieces-pieces.result.items c.to_pieces-pieces.ensures.pieces c.in-Ok.ended (words_by c.args.layout.now.shape (shape_of c.args.layout.now.layout.value) c.requires.layout.shape c.to_pieces-pieces.result.items c.in-Ok.ended c.in-Ok.ensures.words) c.in-Ok.ensures.pieces t (omega (arith, lt, c.len-count.ensures, c.args.patches.now.ok.0))
+    may_collect c.args.given.problem.now c.args.given.level (old_masses (option_copied c.args.given.old)) c.args.patches.now c.args.given.cells.now (option_copied c.args.given.finer) c.requires.level c.requires.shown c.requires.fits
+    c.args.layout.now.layout.value c.requires.layout.layout (workspaces_in c.args.layout.now.bodies.items) c.requires.layout.workspaces c.to_pieces-pieces.result.items c.to_pieces-pieces.ensures.pieces c.in-Ok.ended (words_by c.args.layout.now.shape (shape_of c.args.layout.now.layout.value) c.requires.layout.shape c.to_pieces-pieces.result.items c.in-Ok.ended c.in-Ok.ensures.words) c.in-Ok.ensures.pieces t lt
 
 pub returns-in-Ok-clause-stepped : goal.returns-in-Ok-clause-stepped
 returns-in-Ok-clause-stepped g c =
-    let count : c.len-count.result ≡ length c.args.patches.now.items = omega (arith, c.len-count.ensures, c.args.patches.now.ok.0) in
-    all_stepped c.args.given.problem.now c.args.given.level (old_masses (option_copied c.args.given.old)) c.args.patches.now.items c.args.given.cells.now (option_copied c.args.given.finer) c.requires.level c.requires.shown c.requires.fits
-    c.args.layout.now.layout.value c.requires.layout.layout c.args.layout.now.workspaces.items c.requires.layout.workspaces c.to_pieces-pieces.result.items c.to_pieces-pieces.ensures.pieces c.in-Ok.ended (words_by c.args.layout.now.shape (shape_of c.args.layout.now.layout.value) c.requires.layout.shape c.to_pieces-pieces.result.items c.in-Ok.ended c.in-Ok.ensures.words) c.in-Ok.ensures.pieces
-    c.collect.new.patches.items (subst (λ n. AreCollected c.in-Ok.ended n c.collect.new.patches.items) count c.collect.ensures.all) (c.collect.ensures.count ∙ count)
+    all_stepped c.args.given.problem.now c.args.given.level (old_masses (option_copied c.args.given.old)) c.args.patches.now c.args.given.cells.now (option_copied c.args.given.finer) c.requires.level c.requires.shown c.requires.fits
+    c.args.layout.now.layout.value c.requires.layout.layout (workspaces_in c.args.layout.now.bodies.items) c.requires.layout.workspaces c.to_pieces-pieces.result.items c.to_pieces-pieces.ensures.pieces c.in-Ok.ended (words_by c.args.layout.now.shape (shape_of c.args.layout.now.layout.value) c.requires.layout.shape c.to_pieces-pieces.result.items c.in-Ok.ended c.in-Ok.ensures.words) c.in-Ok.ensures.pieces
+    c.collect.new.patches c.collect.ensures.all c.collect.ensures.count
 
 pub returns-in-Ok-clause-layout : goal.returns-in-Ok-clause-layout
 returns-in-Ok-clause-layout g c =
-    let count : c.len-count.result ≡ length c.args.patches.now.items = omega (arith, c.len-count.ensures, c.args.patches.now.ok.0) in
     record {
       level = c.requires.layout.level;
       boxes = c.requires.layout.boxes;
@@ -66,27 +66,27 @@ returns-in-Ok-clause-layout g c =
       layout = c.requires.layout.layout;
       shape = c.requires.layout.shape;
       workspaces =
-          all_returned c.args.given.problem.now c.args.given.level (old_masses (option_copied c.args.given.old)) c.args.patches.now.items c.args.given.cells.now (option_copied c.args.given.finer) c.requires.level c.requires.shown c.requires.fits
-          c.args.layout.now.layout.value c.requires.layout.layout c.args.layout.now.workspaces.items c.requires.layout.workspaces c.to_pieces-pieces.result.items c.to_pieces-pieces.ensures.pieces c.in-Ok.ended (words_by c.args.layout.now.shape (shape_of c.args.layout.now.layout.value) c.requires.layout.shape c.to_pieces-pieces.result.items c.in-Ok.ended c.in-Ok.ensures.words) c.in-Ok.ensures.pieces
-          c.collect.new.workspaces.items (subst (λ n. AreReturned c.in-Ok.ended n c.collect.new.workspaces.items) count c.collect.ensures.workspaces) (c.collect.ensures.workspace_count ∙ count);
+          all_returned c.args.given.problem.now c.args.given.level (old_masses (option_copied c.args.given.old)) c.args.patches.now c.args.given.cells.now (option_copied c.args.given.finer) c.requires.level c.requires.shown c.requires.fits
+          c.args.layout.now.layout.value c.requires.layout.layout (workspaces_in c.args.layout.now.bodies.items) c.requires.layout.workspaces c.to_pieces-pieces.result.items c.to_pieces-pieces.ensures.pieces c.in-Ok.ended (words_by c.args.layout.now.shape (shape_of c.args.layout.now.layout.value) c.requires.layout.shape c.to_pieces-pieces.result.items c.in-Ok.ended c.in-Ok.ensures.words) c.in-Ok.ensures.pieces
+          (workspaces_in c.collect.new.bodies.items) c.collect.ensures.bodies (length-map c.collect.new.bodies.items workspace_in ∙ c.collect.ensures.body_count);
     }
 
 pub returns-in-Ok-clause-totals : goal.returns-in-Ok-clause-totals
 returns-in-Ok-clause-totals g c = λ word below.
-    level_totals c.args.given.problem.now c.args.given.level (old_masses (option_copied c.args.given.old)) c.args.patches.now.items c.args.given.cells.now (option_copied c.args.given.finer) c.requires.level c.requires.shown c.requires.fits
-    c.args.layout.now.layout.value c.requires.layout.layout c.args.layout.now.workspaces.items c.requires.layout.workspaces c.to_pieces-pieces.result.items c.to_pieces-pieces.ensures.pieces c.in-Ok.ended (words_by c.args.layout.now.shape (shape_of c.args.layout.now.layout.value) c.requires.layout.shape c.to_pieces-pieces.result.items c.in-Ok.ended c.in-Ok.ensures.words) c.in-Ok.ensures.pieces
+    level_totals c.args.given.problem.now c.args.given.level (old_masses (option_copied c.args.given.old)) c.args.patches.now c.args.given.cells.now (option_copied c.args.given.finer) c.requires.level c.requires.shown c.requires.fits
+    c.args.layout.now.layout.value c.requires.layout.layout (workspaces_in c.args.layout.now.bodies.items) c.requires.layout.workspaces c.to_pieces-pieces.result.items c.to_pieces-pieces.ensures.pieces c.in-Ok.ended (words_by c.args.layout.now.shape (shape_of c.args.layout.now.layout.value) c.requires.layout.shape c.to_pieces-pieces.result.items c.in-Ok.ended c.in-Ok.ensures.words) c.in-Ok.ensures.pieces
     c.collect.new.ended word (c.collect.ensures.totals word) (omega (arith, below, c.requires.layout.layout.words))
 
 pub returns-in-Err-clause-same : goal.returns-in-Err-clause-same
 returns-in-Err-clause-same g c =
-    c.to_patches.ensures.patches ∙ ap (λ (ws : List Work). map (λ (w : Work). w.patch) ws) c.in-Err.ensures.back
-    ∙ patches_back c.args.given.problem.now c.args.given.level c.args.patches.now.items c.args.layout.now.workspaces.items c.to_pieces-pieces.result.items c.to_pieces-pieces.ensures.pieces
+    c.to_patches.ensures.patches ∙ ap (λ (ws : List Work). map (λ (w : Work). w.body.value.patch) ws) c.in-Err.ensures.back
+    ∙ patches_back c.args.given.problem.now c.args.given.level c.args.patches.now (workspaces_in c.args.layout.now.bodies.items) c.to_pieces-pieces.result.items c.to_pieces-pieces.ensures.pieces
 
 pub returns-in-Ok-clause-small : goal.returns-in-Ok-clause-small
 returns-in-Ok-clause-small g c = λ word below.
     let ended = c.in-Ok.ensures.words in
     let plan =
-    is_plan c.args.given.problem.now c.args.given.level (old_masses (option_copied c.args.given.old)) c.args.patches.now.items c.args.given.cells.now (option_copied c.args.given.finer) c.requires.level c.requires.shown c.requires.fits
-    c.args.layout.now.layout.value c.requires.layout.layout c.args.layout.now.workspaces.items c.requires.layout.workspaces c.to_pieces-pieces.result.items c.to_pieces-pieces.ensures.pieces in
+    is_plan c.args.given.problem.now c.args.given.level (old_masses (option_copied c.args.given.old)) c.args.patches.now c.args.given.cells.now (option_copied c.args.given.finer) c.requires.level c.requires.shown c.requires.fits
+    c.args.layout.now.layout.value c.requires.layout.layout (workspaces_in c.args.layout.now.bodies.items) c.requires.layout.workspaces c.to_pieces-pieces.result.items c.to_pieces-pieces.ensures.pieces in
     let shape = c.requires.layout.shape in
     omega (arith, c.collect.ensures.totals word, ended.totals word (omega (arith, below, c.collect.ensures.registers, ended.registers)), (plan_by c.args.layout.now.shape (shape_of c.args.layout.now.layout.value) shape c.to_pieces-pieces.result.items plan).totals_fit word)

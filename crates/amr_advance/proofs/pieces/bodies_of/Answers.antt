@@ -1,16 +1,19 @@
 use Rattle.std.proofs.Common.{◌≡◌, ◌<◌, ◌+◌, ◌-◌, ℕ, length, get_or, reverse, sym, ap, subst, ◌∙◌, arith}
 use Rattle.std.specs.declared.option.Option.{Option}
+use Rattle.std.specs.Global.{Box}
 use Rattle.std.specs.Option.{unwrap_or}
-use Rattle.std.proofs.lemmas.List.{get_or-take, length-reverse, length_push, with_items_is}
+use Rattle.std.proofs.lemmas.List.{get_or-take, length-map, length-reverse, length_push, with_items_is}
 use Rattle.amr_box.specs.Cells.{width}
 use Rattle.amr_patch.specs.declared.patches.Patch.{Patch}
 use Rattle.amr_patch.specs.Patches.{box}
 use Rattle.amr_patch.proofs.Lookups.{same_default}
 use Rattle.amr_layout.specs.declared.TaskLayout.{TaskLayout}
-use Rattle.amr_work.specs.declared.work.Workspace.{Workspace}
-use Rattle.amr_advance.specs.Pieces.{AreWorkspaces, Serves}
+use Rattle.amr_work.specs.declared.work.Body.{Body}
+use Rattle.amr_advance.specs.Pieces.{AreWorkspaces, Serves, workspaces_in}
+use Rattle.amr_advance.proofs.Bodies.{workspace_at}
+use Rattle.amr_layout.proofs.Planned.{nth}
 use Rattle.amr_advance.proofs.Reversed.{push_done, turned}
-use Rattle.amr_advance.proofs.pieces.workspaces_of.Goals as goal
+use Rattle.amr_advance.proofs.pieces.bodies_of.Goals as goal
 
 pub tasks-preserved : goal.tasks-preserved
 tasks-preserved c =
@@ -29,13 +32,13 @@ tasks-preserved c =
     λ q. ap (λ k. get_or c.args.patches.now k q) (omega (arith, place, c.len-in-Some.ensures, fewer, long)) ∙ same_default c.args.patches.now c.len-in-Some.result q c.index-patches-len.result (omega (arith, there, place, c.len-in-Some.ensures, fewer, long)) ∙ sym c.index-patches-len.is in
     record {
       rest = λ k t lt. ap (λ xs. get_or xs k t) c.in-Some.ensures.rest ∙ get_or-take (c.tasks.tasks.len - 1) old k t (omega (arith, lt, fewer, long)) ∙ inv.rest k t (omega (arith, lt, fewer));
-      count = omega (arith, inv.count, fewer, ap length c.push_reserved.ensures.items, length_push made c.in_ok-workspace_of.field-0);
+      count = omega (arith, inv.count, fewer, ap length c.push_reserved.ensures.items, length_push made c.in_ok-body_of.field-0);
       room = omega (arith, inv.room, c.push_reserved.ensures.capacity);
-      done = subst (λ xs. (j : ℕ) (w : Workspace) → j < length xs → (q : Patch) (t : TaskLayout) → Serves (width (box (get_or c.args.patches.now (n - 1 - j) q))) (get_or c.args.tasks.items (n - 1 - j) t) (get_or xs j w)) (sym c.push_reserved.ensures.items)
-          (push_done (λ j w. (q : Patch) (t : TaskLayout) → Serves (width (box (get_or c.args.patches.now (n - 1 - j) q))) (get_or c.args.tasks.items (n - 1 - j) t) w) made c.in_ok-workspace_of.field-0 inv.done
-          (λ q t. subst (λ (x : Patch). Serves (width (box x)) (get_or c.args.tasks.items (n - 1 - length made) t) c.in_ok-workspace_of.field-0) (sym (patch q))
-          (subst (λ (x : TaskLayout). Serves (width (box c.index-patches-len.result)) x c.in_ok-workspace_of.field-0) (sym (layout t))
-          (subst (λ v. Serves v c.in-Some.layout c.in_ok-workspace_of.field-0) (c.width-columns.ensures.value ∙ ap width c.bx.ensures.value) c.in_ok-workspace_of.ensures))));
+      done = subst (λ xs. (j : ℕ) (w : Box Body) → j < length xs → (q : Patch) (t : TaskLayout) → Serves (width (box (get_or c.args.patches.now (n - 1 - j) q))) (get_or c.args.tasks.items (n - 1 - j) t) (get_or xs j w).value.workspace) (sym c.push_reserved.ensures.items)
+          (push_done (λ j (w : Box Body). (q : Patch) (t : TaskLayout) → Serves (width (box (get_or c.args.patches.now (n - 1 - j) q))) (get_or c.args.tasks.items (n - 1 - j) t) w.value.workspace) made c.in_ok-body_of.field-0 inv.done
+          (λ q t. subst (λ (x : Patch). Serves (width (box x)) (get_or c.args.tasks.items (n - 1 - length made) t) c.in_ok-body_of.field-0.value.workspace) (sym (patch q))
+          (subst (λ (x : TaskLayout). Serves (width (box c.index-patches-len.result)) x c.in_ok-body_of.field-0.value.workspace) (sym (layout t))
+          (subst (λ v. Serves v c.in-Some.layout c.in_ok-body_of.field-0.value.workspace) (c.width-columns.ensures.value ∙ ap width c.bx.ensures.value) c.in_ok-body_of.ensures))));
     }
 
 pub returns : goal.returns
@@ -47,8 +50,12 @@ returns c =
     let all : length c.tasks.made.items ≡ n = omega (arith, inv.count, none) in
     let turn : c.reverse.new.self ≡ reverse c.tasks.made.items = c.reverse.ensures.after ∙ ap reverse c.as_mut_slice.ensures.value in
     let items = with_items_is c.tasks.made c.reverse.new.self (omega (arith, c.reverse.ensures.len, c.as_mut_slice.ensures.len)) in
-    subst (AreWorkspaces c.args.patches.now c.args.tasks.items) (sym (items ∙ turn))
+    subst (λ bs. AreWorkspaces c.args.patches.now c.args.tasks.items (workspaces_in bs)) (sym (items ∙ turn))
     (record {
-      count = omega (arith, length-reverse c.tasks.made.items, all, c.requires);
-      each = λ k q t w lt. turned (λ k w. (q : Patch) (t : TaskLayout) → Serves (width (box (get_or c.args.patches.now k q))) (get_or c.args.tasks.items k t) w) c.tasks.made.items n all inv.done k w (omega (arith, lt, c.requires)) q t;
+      count = length-map (reverse c.tasks.made.items) (λ (b : Box Body). b.value.workspace) ∙ omega (arith, length-reverse c.tasks.made.items, all, c.requires);
+      each = λ k q t w lt.
+          let here : k < length (reverse c.tasks.made.items) = omega (arith, lt, c.requires, length-reverse c.tasks.made.items, all) in
+          let b = nth (reverse c.tasks.made.items) k here in
+          let one = turned (λ k (b : Box Body). (q : Patch) (t : TaskLayout) → Serves (width (box (get_or c.args.patches.now k q))) (get_or c.args.tasks.items k t) b.value.workspace) c.tasks.made.items n all inv.done k b (omega (arith, lt, c.requires)) q t in
+          subst (Serves (width (box (get_or c.args.patches.now k q))) (get_or c.args.tasks.items k t)) (sym (workspace_at (reverse c.tasks.made.items) k b w here)) one;
     })
