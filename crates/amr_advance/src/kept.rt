@@ -105,8 +105,12 @@ fn serves(kept: &KeptLayout, given: Given<'_>, patches: &[Patch]) -> bool
     has_finer_boxes(given.finer, &kept.finer)
 }
 
-/// Lays out the step of these patches anew.
-fn lay_out_anew(given: Given<'_>, patches: &[Patch]) -> Result<KeptLayout, NoMemory>
+/// Lays out the step of these patches anew, with old bodies as far as they go.
+fn lay_out_anew(
+    given: Given<'_>,
+    patches: &[Patch],
+    olds: Vec<Box<Body>>,
+) -> Result<KeptLayout, NoMemory>
     requires level { given.level ≤ 4 }
     requires apart { ArePatchesApart patches.now }
     requires inside { All (λ q. IsInDomain (domain given.problem.now given.level) (box q)) patches.now }
@@ -136,9 +140,24 @@ fn lay_out_anew(given: Given<'_>, patches: &[Patch]) -> Result<KeptLayout, NoMem
         finer: finer_boxes(alloc, given.finer)?,
         starts,
         shape,
-        bodies: bodies_of(alloc, patches, layout.tasks)?,
+        bodies: bodies_of(alloc, patches, layout.tasks, olds)?,
         layout: made,
     })
+}
+
+/// The bodies of a layout that serves no more.
+fn bodies_from(layout: KeptLayout) -> Vec<Box<Body>> {
+    let KeptLayout {
+        level: _,
+        boxes: _,
+        cells: _,
+        finer: _,
+        starts: _,
+        shape: _,
+        bodies,
+        layout: _,
+    } = layout;
+    bodies
 }
 
 /// The layout of the step of these patches: the one that is kept, where it serves, else a new one. None is kept afterwards.
@@ -155,10 +174,11 @@ pub(crate) fn layout_for(
     ensures laid_out { IfOk result (IsLaidOut (around given.entry.problem.now given.entry.level patches.now given.entry.cells.now (option_copied given.entry.finer))) }
     ensures kept { kept.new ≡ None }
 {
-    if let Some(layout) = kept.take() {
-        if serves(&layout, given, patches) {
-            return Ok(layout);
-        }
+    let Some(layout) = kept.take() else {
+        return lay_out_anew(given, patches, Vec::new(given.alloc));
+    };
+    if serves(&layout, given, patches) {
+        return Ok(layout);
     }
-    lay_out_anew(given, patches)
+    lay_out_anew(given, patches, bodies_from(layout))
 }

@@ -27,27 +27,46 @@ fn one_cell() -> Bx
     b
 }
 
-/// A body for a task whose patch has so many columns. It has a patch of one cell, which takes the place of the task's own in the
-/// level while the step is made.
-fn body_of(alloc: Global, columns: u32, layout: TaskLayout) -> Result<Box<Body>, NoMemory>
-    ensures { IfOk result (λ b. Serves columns layout b.value.workspace) }
+/// A workspace for a task whose patch has so many columns.
+fn workspace_of(alloc: Global, columns: u32, layout: TaskLayout) -> Result<Workspace, NoMemory>
+    ensures { IfOk result (Serves columns layout) }
 {
     let sizes = vec![in alloc; 0u32; layout.border.len()]?;
     let room = Room::make(alloc, columns)?;
-    let workspace = Workspace {
+    Ok(Workspace {
         layout,
         sizes,
         room,
-    };
-    let patch = Patch::make(alloc, one_cell())?;
-    Ok(Box::new(alloc, Body { patch, workspace })?)
+    })
 }
 
-/// A body for each task: task `i` is that of patch `i`.
+/// A body with this workspace: an old one, or a new one where there is none. A new one has a patch of one cell, which takes the place
+/// of the task's own in the level while the step is made.
+fn body_with(
+    alloc: Global,
+    old: Option<Box<Body>>,
+    workspace: Workspace,
+) -> Result<Box<Body>, NoMemory>
+    ensures { IfOk result (λ b. b.value.workspace ≡ workspace) }
+{
+    match old {
+        Some(mut body) => {
+            body.workspace = workspace;
+            Ok(body)
+        }
+        None => {
+            let patch = Patch::make(alloc, one_cell())?;
+            Ok(Box::new(alloc, Body { patch, workspace })?)
+        }
+    }
+}
+
+/// A body for each task, of old ones as far as they go: task `i` is that of patch `i`.
 pub(crate) fn bodies_of(
     alloc: Global,
     patches: &[Patch],
     mut tasks: Vec<TaskLayout>,
+    mut olds: Vec<Box<Body>>,
 ) -> Result<Vec<Box<Body>>, NoMemory>
     requires { length tasks.items ≡ length patches.now }
     ensures { IfOk result (λ bs. AreWorkspaces patches.now tasks.items (workspaces_in bs.items)) }
@@ -55,7 +74,8 @@ pub(crate) fn bodies_of(
     let mut made = Vec::with_capacity(alloc, tasks.len())?;
     'tasks: while let Some(layout) = tasks.pop() {
         let columns = patches[tasks.len()].bx().width();
-        made.push_reserved(body_of(alloc, columns, layout)?);
+        let workspace = workspace_of(alloc, columns, layout)?;
+        made.push_reserved(body_with(alloc, olds.pop(), workspace)?);
     }
     made.as_mut_slice().reverse();
     Ok(made)
