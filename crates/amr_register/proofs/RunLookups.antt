@@ -1,5 +1,5 @@
 -- Look-ups among runs in order.
-use Rattle.std.proofs.Common.{◌≡◌, ◌∙◌, ℕ, ◌+◌, ◌<◌, ◌≤◌, true, false, ◌⊎◌, inl, inr, ℤ, ◌≤ℤ◌, ◌<ℤ◌, List, length, refl, sym, ap, arith}
+use Rattle.std.proofs.Common.{◌≡◌, ◌∙◌, ℕ, ◌+◌, ◌-◌, ◌<◌, ◌≤◌, true, false, ◌⊎◌, inl, inr, ℤ, ◌≤ℤ◌, ◌<ℤ◌, List, length, refl, sym, ap, arith}
 use Rattle.std.specs.Prelude.{slice_index_or}
 use Rattle.std.specs.List.Sorted.{IsPartitionPoint, IsPartitionedBy}
 use Rattle.std.proofs.lemmas.Int.{ints}
@@ -34,6 +34,17 @@ parted rs c in_rows i j d le lt h = by_place (cases_eq i j)
     by_place : (i ≡ j) ⊎ (i ≡ j → ⊥) → comes_first (slice_index_or rs i d).lo c ≡ true
     by_place (inl e) = ap (λ (n : ℕ). comes_first (slice_index_or rs n d).lo c) e ∙ h
     by_place (inr ne) = comes_first-trans (slice_index_or rs i d).lo (slice_index_or rs j d).lo c (in_rows i j d (omega arith) lt) h
+
+-- so many do, where the last of them does and the next one doesn't
+pub is_point : (rs : List Extent) (c : Cell) (n : ℕ) → AreBoxesInRows rs → ((r : Extent) → 0 < n → comes_first (slice_index_or rs (n - 1) r).lo c ≡ true) → ((r : Extent) → n < length rs → comes_first (slice_index_or rs n r).lo c ≡ false) → n ≤ length rs
+    → IsPartitionPoint (λ r. comes_first r.lo c ≡ true) (λ r. comes_first r.lo c ≡ false) rs n
+is_point rs c n in_rows last next within = (λ k d from lt. early k d lt, λ k d from lt. late k d from lt)
+  where
+    early : (k : ℕ) (d : Extent) → k < n → comes_first (slice_index_or rs k d).lo c ≡ true
+    early k d lt = parted rs c in_rows k (n - 1) d (omega arith) (omega arith) (last d (omega arith))
+
+    late : (k : ℕ) (d : Extent) → n ≤ k → k < length rs → comes_first (slice_index_or rs k d).lo c ≡ false
+    late k d from lt = false_from_ne_true _ (λ h. both_ways (comes_first (slice_index_or rs n d).lo c) (next d (omega arith)) (parted rs c in_rows n k d from lt h))
 
 -- a run that has a cell starts in the cell's row, at or left of it
 row_of_run : (r : Extent) (c : Cell) → IsRun r → holds r c ≡ true → r.lo.y ≡ c.y

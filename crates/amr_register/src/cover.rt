@@ -2,14 +2,14 @@
 
 ghost use Rattle.amr_register.specs.Runs.{AreRuns};
 
-use crate::runs::{Stretch, push_rows, stretch_at, told};
+use crate::runs::{Stretch, count_of, push_rows, stretch_at, told};
 use amr_box::{Bx, Cell};
 use amr_causes::NoMemory;
 use amr_patch::Level;
 use std::alloc::Global;
 
 /// The cells of a level that a finer one covers, as runs along rows: so a stretch of a row that is covered, or of which no
-/// cell is, takes one look-up. There are as many runs as the parents of the finer level's boxes have rows.
+/// cell is, takes one look-up, and a search only where it is neither the last one's nor beside it. There are as many runs as the parents of the finer level's boxes have rows.
 #[derive(Drop)]
 pub(crate) struct Cover {
     runs: Vec<Bx>,
@@ -57,7 +57,7 @@ impl Cover {
         if let Some(covered) = told(*last, c) {
             return covered;
         }
-        let found = stretch_at(&self.runs, c);
+        let found = stretch_at(&self.runs, count_of(*last), c);
         let covered = found.covered;
         *last = Some(found);
         covered

@@ -1,10 +1,10 @@
 //! Runs: cells of one row, one after the other. A look-up among runs in order finds how far along the row its answer goes.
 
-ghost use Rattle.std.specs.Prelude.{◌≡◌, Bool, ◌<◌, ◌≤◌, true, false, ◌||◌, ℤ, pos, ◌+ℤ◌, ◌≤ℤ◌, length, is_some, Contains, IfSome, IsTrue, OnOk, Some};
+ghost use Rattle.std.specs.Prelude.{◌≡◌, Bool, ◌-◌, ◌<◌, ◌≤◌, true, false, ◌||◌, ℤ, pos, ◌+ℤ◌, ◌≤ℤ◌, length, slice_index_or, is_some, Contains, IfSome, IsTrue, OnOk, Some};
 ghost use Rattle.std.specs.List.{All};
 ghost use Rattle.std.specs.List.Sorted.{IsPartitionPoint};
 ghost use Rattle.amr_box.specs.declared.Cell.{Cell};
-ghost use Rattle.amr_box.specs.Cells.{IsNear, cell, extent, height, holds};
+ghost use Rattle.amr_box.specs.Cells.{Extent, IsNear, cell, extent, height, holds};
 ghost use Rattle.amr_def.specs.State.{in_boxes};
 ghost use Rattle.amr_patch.specs.Orders.{comes_first};
 ghost use Rattle.amr_patch.specs.Patches.{AreApart};
@@ -14,11 +14,12 @@ use crate::cells::{row_first, row_last};
 use amr_box::{Bx, Cell};
 use amr_causes::NoMemory;
 
-/// Cells of one row, one after the other, that are all covered, or none of which is.
+/// Cells of one row, one after the other, that are all covered, or none of which is. `count` runs start up to the first of them.
 #[derive(Clone, Copy)]
 pub(crate) struct Stretch {
     pub(crate) cells: Bx,
     pub(crate) covered: bool,
+    pub(crate) count: usize,
 }
 
 /// Row `j` of a box, counted from its low row.
@@ -66,6 +67,58 @@ fn count_up_to(runs: &[Bx], c: Cell) -> usize
     runs.partition_point(|r| starts_up_to(r, c))
 }
 
+/// Whether the last of so many runs, if there is one, starts up to a cell.
+fn starts_last(runs: &[Bx], count: usize, c: Cell) -> bool
+    requires within { count ≤ length runs.now }
+    ensures { result ≡ true → (r : Extent) → 0 < count → comes_first (slice_index_or runs.now (count - 1) r).lo c ≡ true }
+{
+    if count == 0 {
+        return true;
+    }
+    starts_up_to(&runs[count - 1], c)
+}
+
+/// Whether the run after so many, if there is one, starts later than a cell.
+fn starts_later(runs: &[Bx], count: usize, c: Cell) -> bool
+    ensures { result ≡ true → (r : Extent) → count < length runs.now → comes_first (slice_index_or runs.now count r).lo c ≡ false }
+{
+    if count >= runs.len() {
+        return true;
+    }
+    !starts_up_to(&runs[count], c)
+}
+
+/// Whether so many runs start up to a cell. A yes is right.
+fn is_count(runs: &[Bx], count: usize, c: Cell) -> bool
+    requires { AreRuns runs.now }
+    ensures within { result ≡ true → count ≤ length runs.now }
+    ensures parts { result ≡ true → IsPartitionPoint (λ r. comes_first r.lo c ≡ true) (λ r. comes_first r.lo c ≡ false) runs.now count }
+{
+    if runs.len() < count {
+        return false;
+    }
+    if !starts_last(runs, count, c) {
+        return false;
+    }
+    starts_later(runs, count, c)
+}
+
+/// The same as `count_up_to`, for look-ups of cells along the rows: it tries the count `near` and the next first.
+fn count_near(runs: &[Bx], near: usize, c: Cell) -> usize
+    requires { AreRuns runs.now }
+    ensures within { result ≤ length runs.now }
+    ensures parts { IsPartitionPoint (λ r. comes_first r.lo c ≡ true) (λ r. comes_first r.lo c ≡ false) runs.now result }
+{
+    if is_count(runs, near, c) {
+        return near;
+    }
+    let next = near.saturating_add(1);
+    if is_count(runs, next, c) {
+        return next;
+    }
+    count_up_to(runs, c)
+}
+
 /// The run that has a cell, None exactly where none has it. It is the last of those that start up to the cell.
 fn run_with(runs: &[Bx], count: usize, c: Cell) -> Option<Bx>
     requires runs { AreRuns runs.now }
@@ -104,17 +157,19 @@ fn last_without(runs: &[Bx], count: usize, c: Cell) -> i32
     next.x - 1
 }
 
-/// The stretch of a row that has a cell: its run, or the cells from it on up to the next run.
-pub(crate) fn stretch_at(runs: &[Bx], c: Cell) -> Stretch
+/// The stretch of a row that has a cell: its run, or the cells from it on up to the next run. A search is made only where
+/// neither `near` runs nor one more start up to the cell.
+pub(crate) fn stretch_at(runs: &[Bx], near: usize, c: Cell) -> Stretch
     requires { AreRuns runs.now }
     ensures has { IsTrue (holds result.cells c) }
     ensures same { IsStretch (in_boxes runs.now) (Some result) }
 {
-    let count = count_up_to(runs, c);
+    let count = count_near(runs, near, c);
     if let Some(cells) = run_with(runs, count, c) {
         return Stretch {
             cells,
             covered: true,
+            count,
         };
     }
     let end = Cell {
@@ -124,6 +179,15 @@ pub(crate) fn stretch_at(runs: &[Bx], c: Cell) -> Stretch
     Stretch {
         cells: Bx::try_new(c, end).unwrap(),
         covered: false,
+        count,
+    }
+}
+
+/// How many runs start up to the last stretch, 0 if there is none.
+pub(crate) fn count_of(last: Option<Stretch>) -> usize {
+    match last {
+        None => 0,
+        Some(stretch) => stretch.count,
     }
 }
 

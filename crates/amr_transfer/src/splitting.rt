@@ -1,6 +1,6 @@
 //! The masses of a level that is made anew.
 
-ghost use Rattle.std.specs.Prelude.{◌≡◌, ℕ, ◌+◌, ◌*◌, ◌/◌, ◌%◌, ◌<◌, ◌≤◌, pos, ◌+ℤ◌, ◌-ℤ◌, ◌≤ℤ◌, length, slice_index, is_some, IsSome, IsTrue};
+ghost use Rattle.std.specs.Prelude.{◌≡◌, ℕ, ◌+◌, ◌*◌, ◌/◌, ◌%◌, ◌<◌, ◌≤◌, pos, ◌+ℤ◌, ◌-ℤ◌, ◌≤ℤ◌, Some, length, slice_index, is_some, IsSome, IsTrue};
 ghost use Rattle.std.specs.Option.{option_copied};
 ghost use Rattle.std.specs.List.{All};
 ghost use Rattle.amr_box.specs.declared.Cell.{Cell};
@@ -19,7 +19,7 @@ use crate::giving::give;
 use crate::keeping::keep;
 use crate::windows::{Rows, rows_of};
 use amr_box::{Cell, parent};
-use amr_patch::{Level, Patch};
+use amr_patch::{Level, Patch, find_near};
 
 /// What child `k` gets of its parent's mass: a quarter, and one more for the first of the four.
 fn share(mass: u32, k: u32) -> u32
@@ -43,9 +43,23 @@ fn share_row(parents: &[u32], first: usize, row: usize, shares: &mut [u32])
     }
 }
 
+/// The masses of a row from a cell of a level on, to the high end of the patch that has the cell. It is looked for only where
+/// neither patch `near` nor the next has the cell; `near` becomes its number.
+fn parents_from<'a>(coarse: &'a Level, near: &mut usize, c: Cell) -> &'a [u32]
+    requires { IsSome ((level_of coarse.now).masses c) }
+    ensures some { 0 < length result.now }
+    ensures masses { (k : ℕ) → k < length result.now → (level_of coarse.now).masses (cell (c.x +ℤ pos k) c.y) ≡ Some (slice_index result.now k) }
+{
+    let patches = coarse.patches();
+    match find_near(patches, coarse.order(), near, c) {
+        None => unreachable!(),
+        Some(k) => patches[k].masses_from(c),
+    }
+}
+
 /// Gives cells of a row of a patch, from one of them on, their shares. It stops where the parents leave one coarse patch, and
 /// after as many as there is room for. Answers how many it gave.
-fn split_span(coarse: &Level, patch: &mut Patch, c: Cell, room: &mut [u32]) -> u32
+fn split_span(coarse: &Level, near: &mut usize, patch: &mut Patch, c: Cell, room: &mut [u32]) -> u32
     requires parent { IsSome ((level_of coarse.now).masses (parent c)) }
     requires inside { IsTrue (holds (box patch.old) c) }
     requires room { length room.old ≡ 256 }
@@ -53,7 +67,7 @@ fn split_span(coarse: &Level, patch: &mut Patch, c: Cell, room: &mut [u32]) -> u
     ensures within { (c.x +ℤ pos result) ≤ℤ ((box patch.old).hi.x +ℤ pos 1) }
     ensures given { IsGiven (holds (span c result)) (split_mass (level_of coarse.now).masses) patch.old patch.new }
 {
-    let parents = coarse.span(parent(c));
+    let parents = parents_from(coarse, near, parent(c));
     let first = odd(c.x);
     let reach = 2 * parents.len().min(room.len()) - first;
     let count = reach.min(room.len()).min(cells_from(&patch.bx(), c));
@@ -63,7 +77,7 @@ fn split_span(coarse: &Level, patch: &mut Patch, c: Cell, room: &mut [u32]) -> u
 }
 
 /// Gives the cells of a row of a patch, from its low column on, their shares.
-fn split_row(coarse: &Level, patch: &mut Patch, low: Cell, room: &mut [u32])
+fn split_row(coarse: &Level, near: &mut usize, patch: &mut Patch, low: Cell, room: &mut [u32])
     requires parents { (c : Cell) → IsTrue (holds (box patch.old) c) → IsSome ((level_of coarse.now).masses (parent c)) }
     requires inside { IsTrue (holds (box patch.old) low) }
     requires room { length room.old ≡ 256 }
@@ -72,24 +86,31 @@ fn split_row(coarse: &Level, patch: &mut Patch, low: Cell, room: &mut [u32])
     let width = cells_from(&patch.bx(), low) as u32;
     let mut done = 0;
     while done < width {
-        done += split_span(coarse, patch, ahead(low, done), room);
+        done += split_span(coarse, near, patch, ahead(low, done), room);
     }
 }
 
 /// Gives the cells of a patch their shares.
-fn split_patch(coarse: &Level, patch: &mut Patch, room: &mut [u32])
+fn split_patch(coarse: &Level, near: &mut usize, patch: &mut Patch, room: &mut [u32])
     requires parents { (c : Cell) → IsTrue (holds (box patch.old) c) → IsSome ((level_of coarse.now).masses (parent c)) }
     requires room { length room.old ≡ 256 }
     ensures { IsGiven (holds (box patch.old)) (split_mass (level_of coarse.now).masses) patch.old patch.new }
 {
     let b = patch.bx();
     for k in 0..b.height() {
-        split_row(coarse, patch, above(b.lo(), k), room);
+        split_row(coarse, near, patch, above(b.lo(), k), room);
     }
 }
 
 /// Gives the cells of a patch their masses: those that the old patches have, else their shares.
-fn fill_patch(coarse: &Level, old: &[Patch], rows: Rows, patch: &mut Patch, room: &mut [u32])
+fn fill_patch(
+    coarse: &Level,
+    near: &mut usize,
+    old: &[Patch],
+    rows: Rows,
+    patch: &mut Patch,
+    room: &mut [u32],
+)
     requires parents { (c : Cell) → IsTrue (holds (box patch.old) c) → IsSome ((level_of coarse.now).masses (parent c)) }
     requires rows { AreRowsOf rows old.now }
     requires apart { ArePatchesApart old.now }
@@ -97,7 +118,7 @@ fn fill_patch(coarse: &Level, old: &[Patch], rows: Rows, patch: &mut Patch, room
     ensures kept { KeepsFrameAndFluxes patch.old patch.new }
     ensures masses { HasMasses (kept_or_split (level_of coarse.now).masses (masses_in old.now)) patch.new }
 {
-    split_patch(coarse, patch, room);
+    split_patch(coarse, near, patch, room);
     keep(old, rows, patch);
 }
 
@@ -109,9 +130,10 @@ fn fill_all(coarse: &Level, old: &[Patch], patches: &mut [Patch])
     ensures masses { All (HasMasses (kept_or_split (level_of coarse.now).masses (masses_in old.now))) patches.new }
 {
     let rows = rows_of(old);
+    let mut near = 0;
     let mut room = [0u32; ROOM];
     for i in 0..patches.len() {
-        fill_patch(coarse, old, rows, &mut patches[i], &mut room);
+        fill_patch(coarse, &mut near, old, rows, &mut patches[i], &mut room);
     }
 }
 

@@ -14,14 +14,14 @@ use Rattle.amr_transfer.proofs.GivenCells.{written}
 use Rattle.amr_transfer.proofs.Halves.{share_is}
 use Rattle.amr_transfer.proofs.splitting.split_span.Goals as goal
 
-pub span-parents-requires : goal.span-parents-requires
-span-parents-requires c = ap (λ (d : Cell). is_some ((level_of c.args.coarse.now).masses d)) c.parent.ensures.value ∙ c.requires.parent
+pub parents_from-parents-requires : goal.parents_from-parents-requires
+parents_from-parents-requires c = ap (λ (d : Cell). is_some ((level_of c.args.coarse.now).masses d)) c.parent.ensures.value ∙ c.requires.parent
 
 pub overflow_mul-reach : goal.overflow_mul-reach
 overflow_mul-reach c = omega (arith, c.min.ensures, c.requires.room)
 
 pub overflow_sub-reach : goal.overflow_sub-reach
-overflow_sub-reach c = omega (arith, c.min.ensures, c.requires.room, c.span-parents.ensures.some, c.odd-first.ensures.bit)
+overflow_sub-reach c = omega (arith, c.min.ensures, c.requires.room, c.parents_from-parents.ensures.some, c.odd-first.ensures.bit)
 
 pub cells_from-requires-clause-near : goal.cells_from-requires-clause-near
 cells_from-requires-clause-near c = subst (λ (b : Extent). IsNear b) (sym c.bx.ensures.value) c.bx.ensures.near
@@ -33,7 +33,7 @@ pub share_row-requires-clause-small : goal.share_row-requires-clause-small
 share_row-requires-clause-small c = omega (arith, length-take c.min-count.result c.args.room.now, c.requires.room)
 
 pub share_row-requires-clause-enough : goal.share_row-requires-clause-enough
-share_row-requires-clause-enough c = omega (arith, length-take c.min-count.result c.args.room.now, c.requires.room, c.min-count.ensures, c.min-2.ensures, c.min.ensures, c.span-parents.ensures.some, c.odd-first.ensures.bit)
+share_row-requires-clause-enough c = omega (arith, length-take c.min-count.result c.args.room.now, c.requires.room, c.min-count.ensures, c.min-2.ensures, c.min.ensures, c.parents_from-parents.ensures.some, c.odd-first.ensures.bit)
 
 pub give-requires-clause-room : goal.give-requires-clause-room
 give-requires-clause-room c =
@@ -50,7 +50,7 @@ pub returns-clause-given : goal.returns-clause-given
 returns-clause-given c =
     let n = c.min-count.result in
     let room = c.args.room.now in
-    let parents = c.span-parents.result.now in
+    let parents = c.parents_from-parents.result.now in
     let coarse = (level_of c.args.coarse.now).masses in
     let near = c.bx.ensures.near in
     let at = inside (box c.args.patch.now) c.args.c c.requires.inside in
@@ -62,9 +62,9 @@ returns-clause-given c =
     let y : to_z w32 (of_z w32 c.args.c.y) ≡ c.args.c.y = omega (arith, ints, at.south, at.north, near.south, near.north) in
     let first : c.odd-first.result ≡ odd c.args.c.x = c.odd-first.ensures.value ∙ ap odd x in
     let second : c.odd.result ≡ odd c.args.c.y = c.odd.ensures.value ∙ ap odd y in
-    let reach : c.odd-first.result + n ≤ 2 * length parents = omega (arith, c.requires.room, c.min-count.ensures, c.min-2.ensures, c.min.ensures, c.span-parents.ensures.some, c.odd-first.ensures.bit) in
+    let reach : c.odd-first.result + n ≤ 2 * length parents = omega (arith, c.requires.room, c.min-count.ensures, c.min-2.ensures, c.min.ensures, c.parents_from-parents.ensures.some, c.odd-first.ensures.bit) in
     let masses : (j : ℕ) → j < length parents → coarse (cell ((parent c.args.c).x +ℤ pos j) (parent c.args.c).y) ≡ Some (slice_index parents j) =
-    λ j lt. ap (λ (d : Cell). coarse (cell (d.x +ℤ pos j) d.y)) (sym c.parent.ensures.value) ∙ c.span-parents.ensures.masses j lt in
+    λ j lt. ap (λ (d : Cell). coarse (cell (d.x +ℤ pos j) d.y)) (sym c.parent.ensures.value) ∙ c.parents_from-parents.ensures.masses j lt in
     let shares : (k : ℕ) → k < length (take n (c.share_row.new.shares ++ drop n room)) → slice_index (take n (c.share_row.new.shares ++ drop n room)) k ≡ split_mass coarse (cell (c.args.c.x +ℤ pos k) c.args.c.y) =
     λ k lt.
     ap (λ (xs : List ℕ). slice_index xs k) row
