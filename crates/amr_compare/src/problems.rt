@@ -20,7 +20,8 @@ pub(crate) fn between(g: &mut Generator, low: u32, high: u32) -> u32
 fn signed(g: &mut Generator, size: u32) -> i32
     requires { size ≤ 16 }
 {
-    between(g, 0, 2 * size) as i32 - size as i32
+    let number = between(g, 0, size) as i32;
+    if g.draw(2) == 0 { number } else { -number }
 }
 
 /// So many Courant numbers under a key, or no line.

@@ -32,12 +32,21 @@ const SEEDS: u32 = 100_000;
 /// The most work for the witness, which takes steps of all finer levels for each face beside a covered cell.
 const MOST_WORK: u64 = 5_000;
 
+/// How many columns or rows there are from one to another.
+fn count_between(low: i32, high: i32) -> u64 {
+    u64::from(high.abs_diff(low)).saturating_add(1)
+}
+
+fn area(b: &Bx) -> u64 {
+    let columns = count_between(b.lo().x, b.hi().x);
+    let rows = count_between(b.lo().y, b.hi().y);
+    columns.saturating_mul(rows)
+}
+
 fn cells_in(boxes: &[Bx]) -> u64 {
     let mut cells = 0u64;
     for b in boxes {
-        let columns = b.hi().x.abs_diff(b.lo().x).saturating_add(1);
-        let rows = b.hi().y.abs_diff(b.lo().y).saturating_add(1);
-        cells = cells.saturating_add(u64::from(columns).saturating_mul(u64::from(rows)));
+        cells = cells.saturating_add(area(b));
     }
     cells
 }
