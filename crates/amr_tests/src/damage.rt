@@ -52,14 +52,18 @@ fn cuts_and_changes_are_damage(rt: HostRuntime) -> Result<(), Fail> {
         );
     }
     assert_eq!(rt; shown_in(alloc, &[0xA5, 0])?, Seen::Damaged(Part::Head));
-    assert_eq!(rt; shown_with(alloc, 0, 0)?, Seen::Nothing);
-    assert_eq!(rt; shown_with(alloc, 8, 50)?, Seen::Ready);
-    assert_eq!(rt; shown_with(alloc, 8, 51)?, Seen::Damaged(Part::Head));
-    assert_eq!(rt; shown_with(alloc, 19, 1)?, Seen::Damaged(Part::Text));
-    assert_eq!(rt; shown_with(alloc, 15, 1)?, Seen::Damaged(Part::Size));
-    assert_eq!(rt; shown_with(alloc, 23, 0)?, Seen::Damaged(Part::Slot(0)));
-    assert_eq!(rt; shown_with(alloc, 31, 3)?, Seen::Damaged(Part::Slot(0)));
-    assert_eq!(rt; shown_with(alloc, 41, 0xA5)?, Seen::Damaged(Part::Slot(1)));
+    for (at, byte, want) in [
+        (0, 0, Seen::Nothing),
+        (8, 50, Seen::Ready),
+        (8, 51, Seen::Damaged(Part::Head)),
+        (19, 1, Seen::Damaged(Part::Text)),
+        (15, 1, Seen::Damaged(Part::Size)),
+        (23, 0, Seen::Damaged(Part::Slot(0))),
+        (31, 3, Seen::Damaged(Part::Slot(0))),
+        (41, 0xA5, Seen::Damaged(Part::Slot(1))),
+    ] {
+        assert_eq!(rt; shown_with(alloc, at, byte)?, want, "{byte} at {at}");
+    }
     Ok(())
 }
 

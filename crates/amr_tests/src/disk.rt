@@ -7,6 +7,7 @@ use amr_disk::{Disk, DiskFault, FileDisk, Leave, MemDisk};
 use std::alloc::Global;
 use std::fs;
 use std::os::unix::fs::symlink;
+use std::process::Abort;
 use std::test::Fail;
 
 // What a disk reads, up to its first sixteen bytes.
@@ -59,65 +60,77 @@ fn stop_leaves_old_new_or_filled(rt: HostRuntime) -> Result<(), Fail> {
     Ok(())
 }
 
-#[test]
-fn fails_by_list_stop_and_room(rt: HostRuntime) -> Result<(), Fail> {
-    let alloc = rt.alloc();
-    let mut disk = MemDisk::make(alloc, &[], 4, 8, &[2, 3], Some(6))?;
+/// A disk of four bytes after six calls: the second and the third fail by the list, the fourth for want of room, and the sixth
+/// is where it stops.
+fn stopped(rt: &(impl Abort + AllocGlobal)) -> Result<MemDisk, NoMemory> {
+    let mut disk = MemDisk::make(rt.alloc(), &[], 4, 8, &[2, 3], Some(6))?;
     assert_eq!(rt; disk.write_at(0, &[1, 2]), Ok(()));
     assert_eq!(rt; disk.write_at(2, &[3]), Err(DiskFault), "by the list");
     assert_eq!(rt; disk.sync(), Err(DiskFault), "by the list");
     assert_eq!(rt; disk.write_at(4, &[5]), Err(DiskFault), "past the capacity");
     assert_eq!(rt; disk.write_at(40, &[]), Ok(()), "an empty piece");
     assert_eq!(rt; disk.sync(), Err(DiskFault), "stopped");
+    Ok(disk)
+}
+
+#[test]
+fn fails_by_list_stop_and_room(rt: HostRuntime) -> Result<(), Fail> {
+    let mut disk = stopped(&rt)?;
     assert_eq!(rt; disk.read_at(0, &mut [0]), Err(DiskFault), "stopped");
     let mut left = disk.leave(Leave::Filled(8));
-    assert_eq!(rt;
-        read_all(alloc, &mut left)?.as_slice(),
-        [8, 8, 8].as_slice()
-    );
+    let bytes = read_all(rt.alloc(), &mut left)?;
+    assert_eq!(rt; bytes.as_slice(), [8, 8, 8].as_slice());
     assert_eq!(rt; left.sync(), Ok(()));
+    Ok(())
+}
+
+/// A file that is absent has no bytes, and is made by the first write that has some.
+fn absent_file(rt: &impl Abort, files: &HostRuntime) -> Result<(), Fail> {
+    let mut absent = FileDisk::make(files.clone()?);
+    assert_eq!(rt; read_all(files.alloc(), &mut absent)?.len(), 0);
+    assert_eq!(rt; absent.sync(), Ok(()));
+    assert_eq!(rt; absent.write_at(2, &[]), Ok(()));
+    assert!(rt;
+        fs::metadata(files, "mesh.store").is_err(),
+        "an empty write makes no file"
+    );
+    assert_eq!(rt; absent.write_at(2, &[7]), Ok(()));
+    assert_eq!(rt; absent.sync(), Ok(()));
+    Ok(())
+}
+
+/// A name that can't be opened is a fault, and no absent file.
+fn unopened_file(rt: &impl Abort, files: &HostRuntime) -> Result<(), Fail> {
+    fs::create_dir(files, "mesh.store")?;
+    let mut unopened = FileDisk::make(files.clone()?);
+    assert_eq!(rt; unopened.read_at(0, &mut [0]), Err(DiskFault), "read");
+    assert_eq!(rt; unopened.write_at(0, &[1]), Err(DiskFault), "write");
+    assert_eq!(rt; unopened.sync(), Err(DiskFault), "sync");
+    fs::remove_dir(files, "mesh.store")?;
+    Ok(())
+}
+
+/// A sync reaches the file: a device behind its name takes each write and can't be synced.
+fn unsynced_file(rt: &impl Abort, files: &HostRuntime) -> Result<(), Fail> {
+    symlink(files, "/dev/null", "mesh.store")?;
+    let mut unsynced = FileDisk::make(files.clone()?);
+    assert_eq!(rt; unsynced.write_at(0, &[1]), Ok(()));
+    assert_eq!(rt; unsynced.sync(), Err(DiskFault));
+    fs::remove_file(files, "mesh.store")?;
     Ok(())
 }
 
 #[test]
 fn file_keeps_what_was_written(rt: HostRuntime) -> Result<(), Fail> {
-    let alloc = rt.alloc();
     let _ = fs::remove_file(&rt, "mesh.store");
     let _ = fs::remove_dir(&rt, "mesh.store");
-    {
-        let mut absent = FileDisk::make(rt.clone()?);
-        assert_eq!(rt; read_all(alloc, &mut absent)?.len(), 0);
-        assert_eq!(rt; absent.sync(), Ok(()));
-        assert_eq!(rt; absent.write_at(2, &[]), Ok(()));
-        assert!(rt;
-            fs::metadata(&rt, "mesh.store").is_err(),
-            "an empty write makes no file"
-        );
-        assert_eq!(rt; absent.write_at(2, &[7]), Ok(()));
-        assert_eq!(rt; absent.sync(), Ok(()));
-    }
+    absent_file(&rt, &rt)?;
     let mut again = FileDisk::make(rt.clone()?);
-    assert_eq!(rt;
-        read_all(alloc, &mut again)?.as_slice(),
-        [0, 0, 7].as_slice()
-    );
+    let bytes = read_all(rt.alloc(), &mut again)?;
+    assert_eq!(rt; bytes.as_slice(), [0, 0, 7].as_slice());
     fs::remove_file(&rt, "mesh.store")?;
-
-    // A name that can't be opened is a fault, and no absent file.
-    fs::create_dir(&rt, "mesh.store")?;
-    let mut unopened = FileDisk::make(rt.clone()?);
-    assert_eq!(rt; unopened.read_at(0, &mut [0]), Err(DiskFault), "read");
-    assert_eq!(rt; unopened.write_at(0, &[1]), Err(DiskFault), "write");
-    assert_eq!(rt; unopened.sync(), Err(DiskFault), "sync");
-    fs::remove_dir(&rt, "mesh.store")?;
-
-    // A sync reaches the file: a device behind its name takes each write and can't be synced.
-    symlink(&rt, "/dev/null", "mesh.store")?;
-    let mut unsynced = FileDisk::make(rt.clone()?);
-    assert_eq!(rt; unsynced.write_at(0, &[1]), Ok(()));
-    assert_eq!(rt; unsynced.sync(), Err(DiskFault));
-    fs::remove_file(&rt, "mesh.store")?;
-    Ok(())
+    unopened_file(&rt, &rt)?;
+    unsynced_file(&rt, &rt)
 }
 
 #[test]

@@ -7,6 +7,7 @@ use amr_io::{
 use std::alloc::Global;
 use std::fmt::Write as _;
 use std::io::{self, Read, Write};
+use std::process::Abort;
 use std::test::Fail;
 
 const BYTES: &[u8] = b"block-structured";
@@ -81,27 +82,38 @@ fn too_long_by_one_byte(rt: HostRuntime) -> Result<(), Fail> {
     Ok(())
 }
 
-#[test]
-fn text_past_its_buffer(rt: HostRuntime) -> Result<(), Fail> {
-    let alloc = rt.alloc();
-    let mut want = String::new(alloc);
-    let mut sink = MemSink::make(alloc, 40_000, 700, &[]).expect(&rt, "memory");
-    let mut text = Text::make();
-    for i in 0..1500u64 {
+/// The lines of so many cells.
+fn lines(alloc: Global, count: u64) -> Result<String, Fail> {
+    let mut lines = String::new(alloc);
+    for i in 0..count {
+        write!(lines, "cell {i}\n")?;
+    }
+    Ok(lines)
+}
+
+/// Puts the same lines in fragments.
+fn put_lines(rt: &impl Abort, text: &mut Text, sink: &mut MemSink, count: u64) {
+    for i in 0..count {
         let line = [
             Fragment::Str("cell "),
             Fragment::Number(i),
             Fragment::Str("\n"),
         ];
-        text.put_fragments(&mut sink, &line).expect(&rt, "room");
-        write!(want, "cell {i}\n")?;
+        text.put_fragments(sink, &line).expect(rt, "room");
     }
-    let long = want.clone()?;
+}
+
+#[test]
+fn text_past_its_buffer(rt: HostRuntime) -> Result<(), Fail> {
+    let long = lines(rt.alloc(), 1500)?;
+    let mut sink = MemSink::make(rt.alloc(), 40_000, 700, &[]).expect(&rt, "memory");
+    let mut text = Text::make();
+    put_lines(&rt, &mut text, &mut sink, 1500);
     text.put_str(&mut sink, long.as_str()).expect(&rt, "room");
     text.put_number(&mut sink, u64::MAX).expect(&rt, "room");
     text.put_number(&mut sink, 0).expect(&rt, "room");
     text.flush(&mut sink).expect(&rt, "room");
-    write!(want, "{long}184467440737095516150")?;
+    let want = format!(in rt.alloc(); "{long}{long}184467440737095516150")?;
     assert_eq!(rt; sink.bytes(), want.as_bytes());
     Ok(())
 }

@@ -10,6 +10,7 @@ use amr_decoder::{CodecFault, decode, decode2};
 use amr_def::{Blocks, Name, Problem, Shear, Sides, Thresholds};
 use amr_patch::Mesh;
 use std::alloc::Global;
+use std::process::Abort;
 use std::test::Fail;
 
 /// The bytes from one place on up to another, as far as there are any.
@@ -62,16 +63,72 @@ fn empty_square(alloc: Global, len: usize) -> Result<Vec<u8>, Fail> {
     Ok(bytes)
 }
 
+/// Payload 1 is read, and written again as it stood.
+fn wide_comes_back(rt: &(impl Abort + AllocGlobal), p: &Problem, bytes: &[u8]) -> Result<(), Fail> {
+    let mesh = decode(rt.alloc(), p, bytes)?;
+    let again = encode(rt.alloc(), p, &mesh)?;
+    assert_eq!(rt; again.as_slice(), bytes);
+    Ok(())
+}
+
+/// Payload 2 is read, and written again as it stood.
+fn narrow_comes_back(
+    rt: &(impl Abort + AllocGlobal),
+    p: &Problem,
+    bytes: &[u8],
+) -> Result<(), Fail> {
+    let mesh = decode2(rt.alloc(), p, bytes)?;
+    let again = encode2(rt.alloc(), p, &mesh)?;
+    assert_eq!(rt; again.as_slice(), bytes);
+    Ok(())
+}
+
+/// Payload 1 is read, and its state is written as this payload 2.
+fn wide_as_narrow(
+    rt: &(impl Abort + AllocGlobal),
+    p: &Problem,
+    wide: &[u8],
+    narrow: &[u8],
+) -> Result<(), Fail> {
+    let mesh = decode(rt.alloc(), p, wide)?;
+    let other = encode2(rt.alloc(), p, &mesh)?;
+    assert_eq!(rt; other.as_slice(), narrow);
+    Ok(())
+}
+
+/// Payload 2 is read, and its state is written as this payload 1.
+fn narrow_as_wide(
+    rt: &(impl Abort + AllocGlobal),
+    p: &Problem,
+    narrow: &[u8],
+    wide: &[u8],
+) -> Result<(), Fail> {
+    let mesh = decode2(rt.alloc(), p, narrow)?;
+    let other = encode(rt.alloc(), p, &mesh)?;
+    assert_eq!(rt; other.as_slice(), wide);
+    Ok(())
+}
+
+/// How many steps were made of the mesh whose payload 1 this is, and how many levels it has.
+fn step_and_levels(alloc: Global, p: &Problem, bytes: &[u8]) -> Result<(u32, usize), CodecFault> {
+    let mesh = decode(alloc, p, bytes)?;
+    Ok((mesh.step(), mesh.levels().len()))
+}
+
 #[test]
 fn the_start_of_two_by_two_cells(rt: HostRuntime) -> Result<(), Fail> {
+    let p = two_by_two(rt.alloc(), 1)?;
+    let bytes = empty_square(rt.alloc(), 81)?;
+    wide_comes_back(&rt, &p, &bytes)?;
+    assert_eq!(rt; step_and_levels(rt.alloc(), &p, &bytes), Ok((0, 1)));
+    Ok(())
+}
+
+#[test]
+fn faults_of_two_by_two_cells(rt: HostRuntime) -> Result<(), Fail> {
     let alloc = rt.alloc();
     let p = two_by_two(alloc, 1)?;
     let mut bytes = empty_square(alloc, 81)?;
-    let mesh = decode(alloc, &p, &bytes)?;
-    assert_eq!(rt; mesh.step(), 0);
-    assert_eq!(rt; mesh.levels().len(), 1);
-    let again = encode(alloc, &p, &mesh)?;
-    assert_eq!(rt; again.as_slice(), bytes.as_slice());
     set(&mut bytes, 28, 2);
     let levels = fault_in(alloc, &p, MassWidth::Eight, &bytes);
     assert_eq!(rt; levels, Some(CodecFault::Bad { place: 28 }));
@@ -89,9 +146,7 @@ fn the_same_by_four_bytes(rt: HostRuntime) -> Result<(), Fail> {
     let alloc = rt.alloc();
     let p = two_by_two(alloc, 1)?;
     let bytes = empty_square(alloc, 65)?;
-    let mesh = decode2(alloc, &p, &bytes)?;
-    let again = encode2(alloc, &p, &mesh)?;
-    assert_eq!(rt; again.as_slice(), bytes.as_slice());
+    narrow_comes_back(&rt, &p, &bytes)?;
     let cut = fault_in(alloc, &p, MassWidth::Four, part(&bytes, 0, 64));
     assert_eq!(rt; cut, Some(CodecFault::Bad { place: 61 }));
     let as_eight = fault_in(alloc, &p, MassWidth::Eight, &bytes);
@@ -165,25 +220,37 @@ pub(crate) fn state_bytes(alloc: Global, width: MassWidth) -> Result<Vec<u8>, Fa
     Ok(bytes)
 }
 
+/// The masses of two cells of level 1 of the mesh whose payload 1 this is.
+fn masses_of_level_1(
+    alloc: Global,
+    p: &Problem,
+    bytes: &[u8],
+) -> Result<(Option<u64>, Option<u64>), CodecFault> {
+    let mesh = decode(alloc, p, bytes)?;
+    Ok((mass_at(&mesh, 1, 2, 2), mass_at(&mesh, 1, 3, 4)))
+}
+
+#[test]
+fn three_levels_are_read(rt: HostRuntime) -> Result<(), Fail> {
+    let p = three_levels(rt.alloc())?;
+    let bytes = state_bytes(rt.alloc(), MassWidth::Eight)?;
+    assert_eq!(rt; bytes.len(), 473);
+    assert_eq!(rt; step_and_levels(rt.alloc(), &p, &bytes), Ok((0, 3)));
+    assert_eq!(rt;
+        masses_of_level_1(rt.alloc(), &p, &bytes),
+        Ok((Some(5), Some(4)))
+    );
+    Ok(())
+}
+
 #[test]
 fn three_levels_there_and_back(rt: HostRuntime) -> Result<(), Fail> {
-    let alloc = rt.alloc();
-    let p = three_levels(alloc)?;
-    let first = state_bytes(alloc, MassWidth::Eight)?;
-    let mesh = decode(alloc, &p, &first)?;
-    assert_eq!(rt; first.len(), 473);
-    assert_eq!(rt; mesh.levels().len(), 3);
-    assert_eq!(rt; mass_at(&mesh, 1, 2, 2), Some(5));
-    assert_eq!(rt; mass_at(&mesh, 1, 3, 4), Some(4));
-    let again = encode(alloc, &p, &mesh)?;
-    assert_eq!(rt; again.as_slice(), first.as_slice());
-    let second = state_bytes(alloc, MassWidth::Four)?;
-    let shorter = encode2(alloc, &p, &mesh)?;
-    assert_eq!(rt; shorter.as_slice(), second.as_slice());
-    let from_second = decode2(alloc, &p, &second)?;
-    let once_more = encode(alloc, &p, &from_second)?;
-    assert_eq!(rt; once_more.as_slice(), first.as_slice());
-    Ok(())
+    let p = three_levels(rt.alloc())?;
+    let wide = state_bytes(rt.alloc(), MassWidth::Eight)?;
+    let narrow = state_bytes(rt.alloc(), MassWidth::Four)?;
+    wide_comes_back(&rt, &p, &wide)?;
+    wide_as_narrow(&rt, &p, &wide, &narrow)?;
+    narrow_as_wide(&rt, &p, &narrow, &wide)
 }
 
 /// The payload of a square after a step in which 3 came in and 1 went out.
@@ -205,27 +272,29 @@ fn square_after_a_step(alloc: Global) -> Result<Vec<u8>, Fail> {
 
 #[test]
 fn rows_of_the_ledger_there_and_back(rt: HostRuntime) -> Result<(), Fail> {
-    let alloc = rt.alloc();
-    let p = two_by_two(alloc, 1)?;
-    let bytes = square_after_a_step(alloc)?;
-    let mesh = decode(alloc, &p, &bytes)?;
-    assert_eq!(rt; mesh.step(), 1);
-    let again = encode(alloc, &p, &mesh)?;
-    assert_eq!(rt; again.as_slice(), bytes.as_slice());
+    let p = two_by_two(rt.alloc(), 1)?;
+    let bytes = square_after_a_step(rt.alloc())?;
+    wide_comes_back(&rt, &p, &bytes)?;
+    assert_eq!(rt; step_and_levels(rt.alloc(), &p, &bytes), Ok((1, 1)));
     Ok(())
 }
 
-#[test]
-fn a_box_twice_is_bad_at_its_first_field(rt: HostRuntime) -> Result<(), Fail> {
-    let alloc = rt.alloc();
-    let p = three_levels(alloc)?;
+/// The payload of two levels, the finer of which has its box twice.
+fn box_twice(alloc: Global) -> Result<Vec<u8>, Fail> {
     let whole = state_bytes(alloc, MassWidth::Eight)?;
     let mut bytes = Vec::new(alloc);
     bytes.extend_from_slice(part(&whole, 0, 325))?;
     bytes.extend_from_slice(part(&whole, 181, 325))?;
     set(&mut bytes, 28, 2);
     set(&mut bytes, 177, 2);
-    let fault = fault_in(alloc, &p, MassWidth::Eight, &bytes);
+    Ok(bytes)
+}
+
+#[test]
+fn a_box_twice_is_bad_at_its_first_field(rt: HostRuntime) -> Result<(), Fail> {
+    let p = three_levels(rt.alloc())?;
+    let bytes = box_twice(rt.alloc())?;
+    let fault = fault_in(rt.alloc(), &p, MassWidth::Eight, &bytes);
     assert_eq!(rt; fault, Some(CodecFault::Bad { place: 325 }));
     Ok(())
 }

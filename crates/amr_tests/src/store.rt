@@ -7,6 +7,7 @@ use amr_disk::{Disk, FileDisk, Leave, MemDisk};
 use amr_store::{Found, Part, Store, StoreFault};
 use std::alloc::Global;
 use std::fs;
+use std::process::Abort;
 use std::test::Fail;
 
 // A store of version 1 with one state in its first slot.
@@ -44,6 +45,14 @@ fn latest_on(alloc: Global, mut disk: MemDisk) -> Result<Option<Vec<u8>>, Fail> 
         Found::Ready(mut store) => Ok(store.latest(alloc, &mut disk)?),
         Found::Nothing => Ok(None),
         Found::Damaged(_) => Ok(None),
+    }
+}
+
+// Whether a state was found that has these bytes.
+fn is_state(found: &Option<Vec<u8>>, want: &[u8]) -> bool {
+    match found {
+        Some(bytes) => bytes.as_slice() == want,
+        None => false,
     }
 }
 
@@ -88,9 +97,8 @@ fn stops_find_one_state_or_the_next(rt: HostRuntime) -> Result<(), Fail> {
         }
         for call in 16..23 {
             let latest = latest_on(alloc, stopped(alloc, Some(call), 2, mode)?)?;
-            let bytes = latest.unwrap_or(Vec::new(alloc));
             assert!(rt;
-                bytes.as_slice() == [8, 9].as_slice() || bytes.as_slice() == [7].as_slice(),
+                is_state(&latest, &[8, 9]) || is_state(&latest, &[7]),
                 "the second put stopped at {call}"
             );
         }
@@ -119,39 +127,63 @@ fn last_before(alloc: Global, stop: u64) -> Result<Option<u64>, Fail> {
 
 #[test]
 fn put_is_seven_calls(rt: HostRuntime) -> Result<(), Fail> {
-    let alloc = rt.alloc();
     // Creation is eight calls. Each put needs its seventh call, and makes no eighth.
-    assert_eq!(rt; last_before(alloc, 15)?, None);
-    assert_eq!(rt; last_before(alloc, 16)?, Some(1));
-    assert_eq!(rt; last_before(alloc, 22)?, Some(1));
-    assert_eq!(rt; last_before(alloc, 23)?, Some(2));
-    assert_eq!(rt; last_before(alloc, 29)?, Some(2));
-    assert_eq!(rt; last_before(alloc, 30)?, Some(3));
+    for (stop, last) in [
+        (15, None),
+        (16, Some(1)),
+        (22, Some(1)),
+        (23, Some(2)),
+        (29, Some(2)),
+        (30, Some(3)),
+    ] {
+        assert_eq!(rt; last_before(rt.alloc(), stop)?, last, "stopped at {stop}");
+    }
+    Ok(())
+}
+
+// A store that is new, and then has two states.
+fn twice_put(rt: &(impl Abort + AllocGlobal), version: u32) -> Result<MemDisk, Fail>
+    requires { IsVersion version }
+{
+    let alloc = rt.alloc();
+    let mut disk = MemDisk::make(alloc, &[], 128, 64, &[], None)?;
+    let mut store = Store::create(alloc, &mut disk, &[112], 2, version)?;
+    assert!(rt; store.latest(alloc, &mut disk)?.is_none());
+    store.put(&mut disk, 1, &[8, 9])?;
+    store.put(&mut disk, 2, &[7])?;
+    assert_eq!(rt; store.last(), Some(2));
+    Ok(disk)
+}
+
+// A store of the one problem is found, with a second state that is the latest.
+fn is_found(
+    rt: &(impl Abort + AllocGlobal),
+    mut disk: MemDisk,
+    version: u32,
+    slot_size: u64,
+    latest: &[u8],
+) -> Result<(), Fail> {
+    match Store::open(rt.alloc(), &mut disk)? {
+        Found::Ready(mut store) => {
+            assert_eq!(rt;
+                (store.version(), store.slot_size(), store.last()),
+                (version, slot_size, Some(2))
+            );
+            assert_eq!(rt; store.problem(), [112].as_slice());
+            let bytes = store.latest(rt.alloc(), &mut disk)?;
+            assert!(rt; is_state(&bytes, latest));
+        }
+        Found::Nothing => assert!(rt; false),
+        Found::Damaged(_) => assert!(rt; false),
+    }
     Ok(())
 }
 
 #[test]
 fn puts_are_found_again(rt: HostRuntime) -> Result<(), Fail> {
-    let alloc = rt.alloc();
     for version in [1, 2] {
-        let mut disk = MemDisk::make(alloc, &[], 128, 64, &[], None)?;
-        let mut store = Store::create(alloc, &mut disk, &[112], 2, version)?;
-        assert!(rt; store.latest(alloc, &mut disk)?.is_none());
-        store.put(&mut disk, 1, &[8, 9])?;
-        store.put(&mut disk, 2, &[7])?;
-        assert_eq!(rt; store.last(), Some(2));
-        match Store::open(alloc, &mut disk)? {
-            Found::Ready(mut again) => {
-                assert_eq!(rt; again.version(), version);
-                assert_eq!(rt; again.slot_size(), 2);
-                assert_eq!(rt; again.last(), Some(2));
-                assert_eq!(rt; again.problem(), [112].as_slice());
-                let latest = again.latest(alloc, &mut disk)?.unwrap_or(Vec::new(alloc));
-                assert_eq!(rt; latest.as_slice(), [7].as_slice());
-            }
-            Found::Nothing => assert!(rt; false),
-            Found::Damaged(_) => assert!(rt; false),
-        }
+        let disk = twice_put(&rt, version)?;
+        is_found(&rt, disk, version, 2, &[7])?;
     }
     Ok(())
 }
@@ -177,27 +209,14 @@ fn renewal_finds_the_old_state_or_the_new(rt: HostRuntime) -> Result<(), Fail> {
     for mode in [Leave::Old, Leave::New, Leave::Filled(0xA5)] {
         for call in 17..25 {
             let latest = latest_on(alloc, renewed(alloc, Some(call), mode)?)?;
-            let bytes = latest.unwrap_or(Vec::new(alloc));
             assert!(rt;
-                bytes.as_slice() == [8, 9].as_slice() || bytes.as_slice() == [1, 2, 3].as_slice(),
+                is_state(&latest, &[8, 9]) || is_state(&latest, &[1, 2, 3]),
                 "the renewal stopped at {call}"
             );
         }
     }
-    let mut disk = renewed(alloc, None, Leave::Old)?;
-    match Store::open(alloc, &mut disk)? {
-        Found::Ready(mut store) => {
-            assert_eq!(rt; store.version(), 2);
-            assert_eq!(rt; store.slot_size(), 3);
-            assert_eq!(rt; store.last(), Some(2));
-            assert_eq!(rt; store.problem(), [112].as_slice());
-            let latest = store.latest(alloc, &mut disk)?.unwrap_or(Vec::new(alloc));
-            assert_eq!(rt; latest.as_slice(), [1, 2, 3].as_slice());
-        }
-        Found::Nothing => assert!(rt; false),
-        Found::Damaged(_) => assert!(rt; false),
-    }
-    Ok(())
+    let disk = renewed(alloc, None, Leave::Old)?;
+    is_found(&rt, disk, 2, 3, &[1, 2, 3])
 }
 
 // A new store over the older bytes, with one state where asked.
@@ -251,52 +270,75 @@ fn older_bytes_stay_and_do_not_count(rt: HostRuntime) -> Result<(), Fail> {
     Ok(())
 }
 
+// The latest state after a second put in which a sync fails: the store takes no put from then on.
+fn latest_after_a_failed_sync(
+    rt: &(impl Abort + AllocGlobal),
+    call: u64,
+) -> Result<Option<Vec<u8>>, Fail> {
+    let alloc = rt.alloc();
+    let mut disk = MemDisk::make(alloc, &[], 128, 64, &[call], None)?;
+    let mut store = Store::create(alloc, &mut disk, &[112], 2, 2)?;
+    store.put(&mut disk, 1, &[8, 9])?;
+    match store.put(&mut disk, 2, &[7]) {
+        Err(StoreFault::DiskFault) => {
+            let third = store.put(&mut disk, 3, &[6]);
+            assert_eq!(rt; third, Err(StoreFault::Shut), "after a failed sync");
+        }
+        Err(_) => assert!(rt; false),
+        Ok(()) => assert!(rt; false, "the sync failed at {call}"),
+    }
+    assert_eq!(rt; store.last(), Some(1));
+    latest_on(alloc, disk)
+}
+
 #[test]
 fn failed_sync_shuts_the_store(rt: HostRuntime) -> Result<(), Fail> {
-    let alloc = rt.alloc();
-    for call in [17, 20, 22] {
-        let mut disk = MemDisk::make(alloc, &[], 128, 64, &[call], None)?;
-        let mut store = Store::create(alloc, &mut disk, &[112], 2, 2)?;
-        store.put(&mut disk, 1, &[8, 9])?;
-        match store.put(&mut disk, 2, &[7]) {
-            Err(StoreFault::DiskFault) => {
-                let later = store.put(&mut disk, 3, &[6]);
-                assert_eq!(rt; later, Err(StoreFault::Shut), "after a failed sync");
-            }
-            Err(_) => assert!(rt; false),
-            Ok(()) => assert!(rt; false, "the sync failed at {call}"),
-        }
-        assert_eq!(rt; store.last(), Some(1));
-        let latest = latest_on(alloc, disk)?.unwrap_or(Vec::new(alloc));
-        if call == 22 {
-            assert_eq!(rt; latest.as_slice(), [7].as_slice());
-        } else {
-            assert_eq!(rt; latest.as_slice(), [8, 9].as_slice());
-        }
+    for (call, want) in [
+        (17, [8, 9].as_slice()),
+        (20, [8, 9].as_slice()),
+        (22, [7].as_slice()),
+    ] {
+        let latest = latest_after_a_failed_sync(&rt, call)?;
+        assert!(rt; is_state(&latest, want), "call {call}");
     }
+    Ok(())
+}
+
+#[test]
+fn failed_read_is_no_damage(rt: HostRuntime) -> Result<(), Fail> {
+    let alloc = rt.alloc();
     let mut disk = MemDisk::make(alloc, &IMAGE, 128, 8, &[1], None)?;
     assert!(rt; matches!(Store::open(alloc, &mut disk), Err(StoreFault::DiskFault)));
     assert_eq!(rt; shown(&Store::open(alloc, &mut disk)?), Seen::Ready);
     Ok(())
 }
 
-#[test]
-fn file_holds_a_store(rt: HostRuntime) -> Result<(), Fail> {
+// Makes a store of one state in the file, and says what was found there before.
+fn make_in_file(rt: &HostRuntime) -> Result<Seen, Fail> {
     let alloc = rt.alloc();
-    let _ = fs::remove_file(&rt, "mesh.store");
     let mut disk = FileDisk::make(rt.clone()?);
-    assert_eq!(rt; shown(&Store::open(alloc, &mut disk)?), Seen::Nothing);
+    let before = shown(&Store::open(alloc, &mut disk)?);
     let mut store = Store::create(alloc, &mut disk, &[112], 2, 2)?;
     store.put(&mut disk, 1, &[8, 9])?;
-    let mut again = FileDisk::make(rt.clone()?);
-    match Store::open(alloc, &mut again)? {
-        Found::Ready(mut store) => {
-            let latest = store.latest(alloc, &mut again)?.unwrap_or(Vec::new(alloc));
-            assert_eq!(rt; latest.as_slice(), [8, 9].as_slice());
-        }
-        Found::Nothing => assert!(rt; false),
-        Found::Damaged(_) => assert!(rt; false),
+    Ok(before)
+}
+
+// The latest state of the store in the file.
+fn latest_in_file(rt: &HostRuntime) -> Result<Option<Vec<u8>>, Fail> {
+    let mut disk = FileDisk::make(rt.clone()?);
+    match Store::open(rt.alloc(), &mut disk)? {
+        Found::Ready(mut store) => Ok(store.latest(rt.alloc(), &mut disk)?),
+        Found::Nothing => Ok(None),
+        Found::Damaged(_) => Ok(None),
     }
+}
+
+#[test]
+fn file_holds_a_store(rt: HostRuntime) -> Result<(), Fail> {
+    let _ = fs::remove_file(&rt, "mesh.store");
+    assert_eq!(rt; make_in_file(&rt)?, Seen::Nothing);
+    let latest = latest_in_file(&rt)?;
+    assert!(rt; is_state(&latest, &[8, 9]));
     fs::remove_file(&rt, "mesh.store")?;
     Ok(())
 }

@@ -9,7 +9,36 @@ use amr_tags::Tags;
 use std::process::Abort;
 use std::test::Fail;
 
-/// The corners of the boxes, with the tags at these columns and rows of a box of 130 by 5 cells.
+/// Tags the cells at these columns and rows, where the set has them.
+fn tag(tags: &mut Tags, cells: &[(i32, i32)]) {
+    for (x, y) in cells {
+        let cell = Cell { x: *x, y: *y };
+        if tags.bx().holds(cell) {
+            tags.set(cell);
+        }
+    }
+}
+
+/// The boxes round the tags have these corners.
+fn has_clusters(
+    rt: &(impl Abort + AllocGlobal),
+    tags: &Tags,
+    efficiency: u32,
+    w: u32,
+    want: &[(i32, i32, i32, i32)],
+) -> Result<(), Fail>
+    requires { 1 ≤ w }
+{
+    let boxes = cluster(rt.alloc(), tags, efficiency, w)?;
+    assert_eq!(rt; boxes.list().len(), want.len());
+    for (b, corners) in boxes.list().iter().zip(want) {
+        let (lo, hi) = (b.lo(), b.hi());
+        assert_eq!(rt; (lo.x, lo.y, hi.x, hi.y), *corners);
+    }
+    Ok(())
+}
+
+/// The same with tags in a box of 130 by 5 cells.
 fn clustered(
     rt: &(impl Abort + AllocGlobal),
     cells: &[(i32, i32)],
@@ -19,43 +48,24 @@ fn clustered(
 ) -> Result<(), Fail>
     requires { 1 ≤ w }
 {
-    let alloc = rt.alloc();
     let field = box_of(Cell { x: 0, y: 0 }, Cell { x: 129, y: 4 })?;
-    let mut tags = Tags::make(alloc, field, false, false)?;
-    for (x, y) in cells {
-        let cell = Cell { x: *x, y: *y };
-        if tags.bx().holds(cell) {
-            tags.set(cell);
-        }
-    }
-    let boxes = cluster(alloc, &tags, efficiency, w)?;
-    assert_eq!(rt; boxes.list().len(), want.len());
-    for (b, corners) in boxes.list().iter().zip(want) {
-        let (lo, hi) = (b.lo(), b.hi());
-        assert_eq!(rt; (lo.x, lo.y, hi.x, hi.y), *corners);
-    }
-    Ok(())
+    let mut tags = Tags::make(rt.alloc(), field, false, false)?;
+    tag(&mut tags, cells);
+    has_clusters(rt, &tags, efficiency, w, want)
 }
 
 #[test]
 fn clusters_of_the_greatest_domain(rt: HostRuntime) -> Result<(), Fail> {
-    let alloc = rt.alloc();
     let field = box_of(Cell { x: 0, y: 0 }, Cell { x: 4095, y: 4095 })?;
-    let mut tags = Tags::make(alloc, field, false, false)?;
-    for (x, y) in [(0, 0), (1, 0), (4094, 4095), (4095, 4095)] {
-        let cell = Cell { x, y };
-        if tags.bx().holds(cell) {
-            tags.set(cell);
-        }
-    }
-    let boxes = cluster(alloc, &tags, 100, 1)?;
-    let want = [(0, 0, 1, 0), (4094, 4095, 4095, 4095)];
-    assert_eq!(rt; boxes.list().len(), want.len());
-    for (b, corners) in boxes.list().iter().zip(want.iter()) {
-        let (lo, hi) = (b.lo(), b.hi());
-        assert_eq!(rt; (lo.x, lo.y, hi.x, hi.y), *corners);
-    }
-    Ok(())
+    let mut tags = Tags::make(rt.alloc(), field, false, false)?;
+    tag(&mut tags, &[(0, 0), (1, 0), (4094, 4095), (4095, 4095)]);
+    has_clusters(
+        &rt,
+        &tags,
+        100,
+        1,
+        &[(0, 0, 1, 0), (4094, 4095, 4095, 4095)],
+    )
 }
 
 #[test]

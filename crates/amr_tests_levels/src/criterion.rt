@@ -1,6 +1,6 @@
 //! The tags of small levels: worked examples, open sides, and a fine box in a coarse level.
 
-ghost use Rattle.std.specs.Prelude.{◌≡◌, ◌≤◌, ◌≤ℤ◌, true, IfOk};
+ghost use Rattle.std.specs.Prelude.{◌≡◌, ◌≤◌, ◌≤ℤ◌, pos, true, IfOk};
 ghost use Rattle.amr_box.specs.Cells.{IsNear};
 ghost use Rattle.amr_def.specs.Domain.{domain};
 ghost use Rattle.amr_def.specs.Facts.{IsLevel};
@@ -15,6 +15,7 @@ use amr_def::{Blocks, Name, Problem, Shear, Sides, Thresholds};
 use amr_patch::Level;
 use amr_tags::Tags;
 use std::alloc::Global;
+use std::process::Abort;
 use std::test::Fail;
 
 /// A problem of 4 by 2 cells with this threshold on levels 0 and 1.
@@ -102,54 +103,78 @@ fn tagged(alloc: Global, tags: &Tags) -> Result<Vec<(i32, i32)>, NoMemory> {
     Ok(cells)
 }
 
+/// All cells of level 0.
+fn whole() -> Bx
+    ensures west { result.lo.x ≡ pos 0 }
+    ensures south { result.lo.y ≡ pos 0 }
+    ensures east { result.hi.x ≡ pos 3 }
+    ensures north { result.hi.y ≡ pos 1 }
+{
+    corners(Cell { x: 0, y: 0 }, Cell { x: 3, y: 1 })
+}
+
+/// The tagged cells of a level of 4 by 2 cells that alone is there, in which one cell may have a mass.
+fn tagged_alone(
+    rt: &(impl Abort + AllocGlobal),
+    p: &Problem,
+    c: Cell,
+    m: u32,
+) -> Result<Vec<(i32, i32)>, NoMemory>
+    requires levels { p.now.max_level ≡ 2 }
+    requires columns { p.now.nx ≡ 4 }
+    requires rows { p.now.ny ≡ 2 }
+{
+    let mut level = blank(rt.alloc(), p, 0, whole())?;
+    assert!(rt; set(p, 0, &mut level, c, m));
+    let tags = tags(rt.alloc(), p, 0, &mut level, None)?;
+    tagged(rt.alloc(), &tags)
+}
+
 #[test]
 fn a_spot_tags_its_neighbours_across_a_periodic_axis(rt: HostRuntime) -> Result<(), Fail> {
-    let alloc = rt.alloc();
-    let p = problem(alloc, Sides::Periodic, Sides::Periodic, 4)?;
-    let whole = corners(Cell { x: 0, y: 0 }, Cell { x: 3, y: 1 });
-    let mut level = blank(alloc, &p, 0, whole)?;
-    assert!(rt; set(&p, 0, &mut level, Cell { x: 0, y: 0 }, 7));
-    let spot = tags(alloc, &p, 0, &mut level, None)?;
+    let p = problem(rt.alloc(), Sides::Periodic, Sides::Periodic, 4)?;
+    let spot = tagged_alone(&rt, &p, Cell { x: 0, y: 0 }, 7)?;
     assert_eq!(rt;
-        tagged(alloc, &spot)?.as_slice(),
+        spot.as_slice(),
         [(0, 0), (1, 0), (3, 0), (0, 1)].as_slice()
     );
-    assert!(rt; set(&p, 0, &mut level, Cell { x: 0, y: 0 }, 3));
-    let none = tags(alloc, &p, 0, &mut level, None)?;
-    assert_eq!(rt; none.bounding(), None);
+    let none = tagged_alone(&rt, &p, Cell { x: 0, y: 0 }, 3)?;
+    assert_eq!(rt; none.len(), 0);
     Ok(())
 }
 
 #[test]
 fn nothing_is_compared_with_an_inflow(rt: HostRuntime) -> Result<(), Fail> {
-    let alloc = rt.alloc();
-    let p = problem(alloc, Sides::Open(50, 50), Sides::Open(50, 50), 1)?;
-    let whole = corners(Cell { x: 0, y: 0 }, Cell { x: 3, y: 1 });
-    let mut level = blank(alloc, &p, 0, whole)?;
-    let none = tags(alloc, &p, 0, &mut level, None)?;
-    assert_eq!(rt; none.bounding(), None);
-    assert!(rt; set(&p, 0, &mut level, Cell { x: 3, y: 1 }, 1));
-    let corner = tags(alloc, &p, 0, &mut level, None)?;
-    assert_eq!(rt;
-        tagged(alloc, &corner)?.as_slice(),
-        [(3, 0), (2, 1), (3, 1)].as_slice()
-    );
+    let p = problem(rt.alloc(), Sides::Open(50, 50), Sides::Open(50, 50), 1)?;
+    let none = tagged_alone(&rt, &p, Cell { x: 3, y: 1 }, 0)?;
+    assert_eq!(rt; none.len(), 0);
+    let corner = tagged_alone(&rt, &p, Cell { x: 3, y: 1 }, 1)?;
+    assert_eq!(rt; corner.as_slice(), [(3, 0), (2, 1), (3, 1)].as_slice());
     Ok(())
+}
+
+/// The tagged cells of a box of level 1 with no mass, over this level 0.
+fn tagged_over(
+    rt: &(impl Abort + AllocGlobal),
+    p: &Problem,
+    coarse: &Level,
+) -> Result<Vec<(i32, i32)>, NoMemory>
+    requires levels { p.now.max_level ≡ 2 }
+    requires columns { p.now.nx ≡ 4 }
+    requires rows { p.now.ny ≡ 2 }
+{
+    let part = corners(Cell { x: 4, y: 0 }, Cell { x: 5, y: 1 });
+    let mut fine = blank(rt.alloc(), p, 1, part)?;
+    let tags = tags(rt.alloc(), p, 1, &mut fine, Some(coarse))?;
+    tagged(rt.alloc(), &tags)
 }
 
 #[test]
 fn a_fine_box_is_compared_with_quarters(rt: HostRuntime) -> Result<(), Fail> {
-    let alloc = rt.alloc();
-    let p = problem(alloc, Sides::Periodic, Sides::Periodic, 1)?;
-    let whole = corners(Cell { x: 0, y: 0 }, Cell { x: 3, y: 1 });
-    let part = corners(Cell { x: 4, y: 0 }, Cell { x: 5, y: 1 });
-    let mut coarse = blank(alloc, &p, 0, whole)?;
-    let mut fine = blank(alloc, &p, 1, part)?;
+    let p = problem(rt.alloc(), Sides::Periodic, Sides::Periodic, 1)?;
+    let mut coarse = blank(rt.alloc(), &p, 0, whole())?;
     assert!(rt; set(&p, 0, &mut coarse, Cell { x: 1, y: 0 }, 7));
-    let beside = tags(alloc, &p, 1, &mut fine, Some(&coarse))?;
-    assert_eq!(rt;
-        tagged(alloc, &beside)?.as_slice(),
-        [(4, 0), (4, 1)].as_slice()
-    );
+    let beside = tagged_over(&rt, &p, &coarse)?;
+    assert_eq!(rt; beside.as_slice(), [(4, 0), (4, 1)].as_slice());
     Ok(())
 }

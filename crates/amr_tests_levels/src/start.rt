@@ -71,23 +71,38 @@ fn patch_count(levels: &[Level]) -> usize {
     }
 }
 
-#[test]
-fn blocks_in_four_patches(rt: HostRuntime) -> Result<(), Fail> {
-    let alloc = rt.alloc();
+/// The rows of the ledger and the levels at the start.
+fn started(alloc: Global) -> Result<(Vec<Row>, Vec<Level>), Fail> {
     let p = problem(alloc)?;
     let mut mesh = start(alloc, &p)?;
-    let (rows, levels) = mesh.take();
-    assert_eq!(rt; levels.len(), 1);
-    assert_eq!(rt; patch_count(&levels), 4);
-    assert_eq!(rt; mass_at(&levels, 0, 0), Some(0));
-    assert_eq!(rt; mass_at(&levels, 1, 0), Some(7));
-    assert_eq!(rt; mass_at(&levels, 4, 0), Some(7));
-    assert_eq!(rt; mass_at(&levels, 4, 1), Some(3));
-    assert_eq!(rt; mass_at(&levels, 5, 4), Some(3));
-    assert_eq!(rt; mass_at(&levels, 6, 4), None);
-    assert_eq!(rt; rows.len(), 1);
-    let row = rows.first().copied();
-    assert_eq!(rt; row.map(|r| r.mass), Some(73));
-    assert_eq!(rt; row.map(|r| r.inflow), Some(0));
+    Ok(mesh.take())
+}
+
+#[test]
+fn blocks_in_four_patches(rt: HostRuntime) -> Result<(), Fail> {
+    let (_rows, levels) = started(rt.alloc())?;
+    assert_eq!(rt; (levels.len(), patch_count(&levels)), (1, 4));
+    for (x, y, mass) in [
+        (0, 0, Some(0)),
+        (1, 0, Some(7)),
+        (4, 0, Some(7)),
+        (4, 1, Some(3)),
+        (5, 4, Some(3)),
+        (6, 4, None),
+    ] {
+        assert_eq!(rt; mass_at(&levels, x, y), mass, "cell {x} {y}");
+    }
+    Ok(())
+}
+
+#[test]
+fn first_row_of_the_ledger(rt: HostRuntime) -> Result<(), Fail> {
+    let (rows, _levels) = started(rt.alloc())?;
+    let first = Row {
+        mass: 73,
+        inflow: 0,
+        outflow: 0,
+    };
+    assert_eq!(rt; rows.as_slice(), [first].as_slice());
     Ok(())
 }

@@ -6,6 +6,7 @@ ghost use Rattle.amr_box.specs.Cells.{IsNear, cell};
 use amr_box::{Bx, Cell};
 use amr_causes::NoMemory;
 use amr_tags::Tags;
+use std::alloc::Global;
 
 /// The box from (0, 0) to (129, 1): two rows of three words.
 fn two_rows() -> Bx
@@ -49,33 +50,50 @@ fn bounds_within(tags: &Tags, west: i32, east: i32) -> Option<Bx> {
     }
 }
 
+/// Four tags, in both rows and in each word.
+fn four_tags(alloc: Global) -> Result<Tags, NoMemory> {
+    let mut tags = Tags::make(alloc, two_rows(), false, false)?;
+    for (x, y) in [(3, 1), (63, 1), (64, 0), (128, 1)] {
+        tag(&mut tags, Cell { x, y });
+    }
+    Ok(tags)
+}
+
 #[test]
 fn the_least_box_goes_round_the_tags_of_a_box(rt: HostRuntime) -> Result<(), NoMemory> {
-    let mut tags = Tags::make(rt.alloc(), two_rows(), false, false)?;
-    assert_eq!(rt; tags.bounding(), None);
-    for c in [
-        Cell { x: 3, y: 1 },
-        Cell { x: 63, y: 1 },
-        Cell { x: 64, y: 0 },
-        Cell { x: 128, y: 1 },
-    ] {
-        tag(&mut tags, c);
-    }
+    let tags = four_tags(rt.alloc())?;
     let whole = Bx::try_new(Cell { x: 3, y: 0 }, Cell { x: 128, y: 1 });
     assert_eq!(rt; tags.bounding(), whole);
     let middle = Bx::try_new(Cell { x: 63, y: 0 }, Cell { x: 64, y: 1 });
-    assert_eq!(rt; bounds_within(&tags, 4, 127), middle);
-    assert_eq!(rt; bounds_within(&tags, 65, 127), None);
-    assert_eq!(rt; bounds_within(&tags, 130, 200), None);
+    for (west, east, want) in [(4, 127, middle), (65, 127, None), (130, 200, None)] {
+        assert_eq!(rt;
+            bounds_within(&tags, west, east),
+            want,
+            "columns {west} to {east}"
+        );
+    }
     Ok(())
 }
 
 #[test]
-fn columns_of_one_row_stand_in_their_words(rt: HostRuntime) -> Result<(), NoMemory> {
-    let mut tags = Tags::make(rt.alloc(), two_rows(), false, false)?;
+fn no_box_goes_round_no_tags(rt: HostRuntime) -> Result<(), NoMemory> {
+    let tags = Tags::make(rt.alloc(), two_rows(), false, false)?;
+    assert_eq!(rt; tags.bounding(), None);
+    Ok(())
+}
+
+/// Tags at both ends of the first row, and on each side of the end of a word.
+fn tags_of_one_row(alloc: Global) -> Result<Tags, NoMemory> {
+    let mut tags = Tags::make(alloc, two_rows(), false, false)?;
     for x in [0, 63, 64, 129] {
         tag(&mut tags, Cell { x, y: 0 });
     }
+    Ok(tags)
+}
+
+#[test]
+fn columns_of_one_row_stand_in_their_words(rt: HostRuntime) -> Result<(), NoMemory> {
+    let tags = tags_of_one_row(rt.alloc())?;
     assert_eq!(rt; tags.per_row(), 3);
     assert_eq!(rt; tags.words(), [(1 << 63) + 1, 1, 2, 0, 0, 0].as_slice());
     for x in 0..130 {
@@ -83,6 +101,12 @@ fn columns_of_one_row_stand_in_their_words(rt: HostRuntime) -> Result<(), NoMemo
         assert_eq!(rt; tags.has(Cell { x, y: 0 }), tagged);
         assert!(rt; !tags.has(Cell { x, y: 1 }));
     }
+    Ok(())
+}
+
+#[test]
+fn tags_are_copied_and_counted(rt: HostRuntime) -> Result<(), NoMemory> {
+    let tags = tags_of_one_row(rt.alloc())?;
     let same = tags.copy()?;
     assert_eq!(rt; same.words(), tags.words());
     for (west, east, wanted) in [
@@ -107,6 +131,11 @@ fn grown_tags_cross_words_and_ends(rt: HostRuntime) -> Result<(), NoMemory> {
         ring.words(),
         [(1 << 63) + 3, 3, 2, (1 << 63) + 3, 3, 2].as_slice()
     );
+    Ok(())
+}
+
+#[test]
+fn grown_tags_stop_at_open_ends(rt: HostRuntime) -> Result<(), NoMemory> {
     let mut open = Tags::make(rt.alloc(), two_rows(), false, false)?;
     tag(&mut open, Cell { x: 129, y: 1 });
     open.grow(2);
