@@ -36,7 +36,7 @@ pub high_inside : (n : ℕ) (z : ℤ) → IsTrue (is_inside n z) → z <ℤ pos 
 high_inside n z h = grind (arith, ints)
 
 -- the sides of a domain round a cell
-parts_of : (d : Domain) (c : Cell) → IsTrue (in_domain d c) → IsTrue (is_inside d.columns c.x) × IsTrue (is_inside d.rows c.y)
+pub parts_of : (d : Domain) (c : Cell) → IsTrue (in_domain d c) → IsTrue (is_inside d.columns c.x) × IsTrue (is_inside d.rows c.y)
 unfolding in_domain
 parts_of d c h = ((and_parts (is_inside d.columns c.x) (is_inside d.rows c.y) h).0, (and_parts (is_inside d.columns c.x) (is_inside d.rows c.y) h).1)
 

@@ -36,7 +36,7 @@ use Rattle.amr_ghost.proofs.GhostStrips.{still_ghosts}
 pub zip_in_patches : (ps qs : List Patch) (c : Cell) → AllZip KeepsCells ps qs → in_patches qs c ≡ in_patches ps c
 zip_in_patches ps qs c kept = sym (some_mass qs c) ∙ ap (λ (m : Masses). is_some (m c)) (zip_masses ps qs kept) ∙ some_mass ps c
 
-zip_inside : (d : Domain) (ps qs : List Patch) → AllZip KeepsCells ps qs → AreInDomain d ps → AreInDomain d qs
+pub zip_inside : (d : Domain) (ps qs : List Patch) → AllZip KeepsCells ps qs → AreInDomain d ps → AreInDomain d qs
 zip_inside d ps qs kept inside = λ c h. inside c (sym (zip_in_patches ps qs c kept) ∙ h)
 
 still_starts : (s : Option Starts) (ps qs : List Patch) → AllZip KeepsCells ps qs → IfSome s (HasStarts ps) → IfSome s (HasStarts qs)

@@ -9,5 +9,7 @@ pub mod Spans
 pub mod Beyond
 pub mod BoxSides
 pub mod Levels
+pub mod PlannedSpans
+pub mod PlanLaws
 pub mod Samples
 pub mod Reach

@@ -1,3 +1,4 @@
 pub mod Strips
 pub mod Frames
 pub mod Filling
+pub mod Plans

@@ -14,34 +14,13 @@ ghost use Rattle.amr_ghost.specs.Strips.{HasRoom};
 ghost use Rattle.amr_ghost.specs.Frames.{AreInDomain, HasGhostMarks, HasGhostValues, KeepsCorners, SameMasses, is_of_level, old_masses};
 ghost use Rattle.amr_ghost.specs.Filling.{HasFrame, HasSideValues, HasValues, IsGhostStrip, IsLevelInOrder, KeepsCells, KeepsValues, LiesInDomain};
 
-use crate::ghosts::{copy_strip, set_strip};
-use crate::lookup::Near;
-use crate::outside::outside_value;
-use crate::places::{cells_ahead, step};
-use crate::runs::{gap_ahead, quarter_run};
+use crate::lookup::{Near, NearSides, Target, near_first};
+use crate::places::step;
 use crate::sides::{Side, Strip, side_strip};
+use crate::sources::{place_span, span_ahead};
 use amr_def::Problem;
 use amr_gaps::Starts;
-use amr_patch::{Level, Order, Patch, find_near, order_of};
-
-/// The patch whose frame is filled: the number of its level, how that level's patches stand, where they start, if that is known,
-/// and its own number among them.
-#[derive(Clone, Copy)]
-struct Target<'a> {
-    level: u32,
-    order: Order,
-    starts: Option<&'a Starts>,
-    patch: usize,
-}
-
-/// Where the look-ups for each side of a patch begin.
-#[derive(Clone, Copy, Debug)]
-struct NearSides {
-    west: Near,
-    east: Near,
-    south: Near,
-    north: Near,
-}
+use amr_patch::{Level, Order, Patch, order_of};
 
 /// Gives the first ghost cells of a strip beside a patch their values, and answers how many. They stand for cells of one patch,
 /// lie in a gap between patches over one coarser patch, or are the whole strip where it lies outside an open side.
@@ -67,35 +46,9 @@ fn fill_span(
     ensures ghosts { KeepsValues p.now target.entry.level (old_masses (option_copied old.entry)) patches.old patches.new }
     ensures set { (q : Patch) → HasValues p.now target.entry.level (masses_in patches.old) (old_masses (option_copied old.entry)) (slice_index_or patches.new target.entry.patch q) strip.axis strip.from result }
 {
-    let dom = p.domain(target.level);
-    let home = dom.home_cell(strip.from);
-    if !dom.in_domain(home) {
-        let value = outside_value(p, target.level, home) as u32;
-        set_strip(patches, target.patch, strip, value);
-        return strip.count;
-    }
-    match find_near(patches, target.order, &mut near.level, home) {
-        Some(j) => {
-            let source = patches[j].bx();
-            let count = cells_ahead(&source, strip.axis, home).min(strip.count);
-            let span = Strip {
-                axis: strip.axis,
-                from: strip.from,
-                count,
-            };
-            copy_strip(patches, target.patch, span, j, home);
-            count
-        }
-        None => {
-            let most = gap_ahead(target.starts, strip.axis, home, strip.count);
-            let run = Strip {
-                axis: strip.axis,
-                from: strip.from,
-                count: most,
-            };
-            quarter_run(old, patches, target.patch, run, home, &mut near.coarser)
-        }
-    }
+    let span = span_ahead(p, patches, target, strip, &mut near.level);
+    place_span(p, target.level, patches, span, old, &mut near.coarser);
+    span.strip.count
 }
 
 /// Gives the ghost cells of a strip beside a patch their values, span by span.
@@ -221,16 +174,7 @@ pub fn fill_in_order(
     ensures fluxes { AllZip SameFluxes patches.old patches.new }
     ensures boxes { map box patches.new ≡ map box patches.old }
 {
-    let first = Near {
-        level: 0,
-        coarser: 0,
-    };
-    let mut near = NearSides {
-        west: first,
-        east: first,
-        south: first,
-        north: first,
-    };
+    let mut near = near_first();
     for i in 0..patches.len() {
         let target = Target {
             level: l,

@@ -7,10 +7,15 @@ mod ghosts;
 mod lookup;
 mod outside;
 mod places;
+mod plan;
+mod planned;
 mod runs;
 mod sides;
+mod sources;
 
 pub use filling::{fill, fill_in_order};
+pub use plan::{FramePlan, plan_frames};
+pub use planned::fill_planned;
 
 #[cfg(test)]
 mod tests;

@@ -1,0 +1,191 @@
+-- Spans of ghost cells: what a look-up tells of one, what its values are, and that spans together have each ghost cell.
+use Rattle.std.proofs.Common.{◌≡◌, ℕ, ◌+◌, ◌-◌, ◌/◌, ◌<◌, ◌≤◌, Bool, true, false, ℤ, pos, ◌+ℤ◌, ◌<ℤ◌, List, [], ◌∷◌, ◌++◌, length, get_or, IsTrue, refl, sym, ap, subst, ◌∙◌, arith}
+use Rattle.std.specs.Prelude.{nat_lt, OnOk, Result, Ok, Err}
+use Rattle.std.specs.List.{AllZip, Any}
+use Rattle.std.proofs.lemmas.Bool.Decides.{nat_tests}
+use Rattle.std.proofs.lemmas.Int.{ints}
+use Rattle.std.proofs.lemmas.List.{get_or_append_left, length-append}
+use Rattle.std.proofs.lemmas.List.Quantifiers.{Any-push}
+use Rattle.amr_box.specs.declared.Cell.{Cell}
+use Rattle.amr_box.specs.declared.Axis.{Axis}
+use Rattle.amr_box.specs.Cells.{Extent, IsNear, along, parent}
+use Rattle.amr_def.specs.declared.problem.Problem.{Problem}
+use Rattle.amr_def.specs.Domain.{Domain, domain, home_cell, in_domain}
+use Rattle.amr_def.specs.State.{Masses, mass_of}
+use Rattle.amr_def.specs.Value.{value_at}
+use Rattle.amr_patch.specs.declared.patches.Patch.{Patch}
+use Rattle.amr_patch.specs.Patches.{box, in_patches}
+use Rattle.amr_patch.specs.Orders.{IsHolder}
+use Rattle.amr_ghost.specs.Strips.{HasRoom, step}
+use Rattle.amr_ghost.specs.Filling.{AreGiven, HasFrame, HasGhost, HasGhosts, HasValues, IsGhostStrip, KeepsCells, side_axis, side_count, side_from}
+use Rattle.amr_ghost.specs.Plans.{HasCell, HaveFrame, HaveStrip, IsSource, IsSpan, KeepSpans, StandForHeld, StandInGap, PlansFrames}
+use Rattle.amr_ghost.specs.Frames.{is_beside, is_of_level}
+use Rattle.amr_ghost.specs.declared.sides.Side.{Side}
+use Rattle.amr_ghost.specs.declared.sides.Side.TheVariants.{East, North, South, West}
+use Rattle.amr_ghost.specs.declared.sides.Strip.{Strip}
+use Rattle.amr_ghost.specs.declared.sources.Source.{Source}
+use Rattle.amr_ghost.specs.declared.sources.Span.{Span}
+use Rattle.amr_ghost.specs.declared.plan.FramePlan.{FramePlan}
+use Rattle.amr_ghost.proofs.BoxSides.{beside_of, high_inside, parts_of}
+use Rattle.amr_ghost.proofs.Homes.{step_step}
+use Rattle.amr_ghost.proofs.Levels.{few_along}
+use Rattle.amr_ghost.proofs.Spans.{room_inside, span_held}
+use Rattle.amr_ghost.proofs.Zips.{zip_box}
+use Rattle.amr_box.specs.declared.Axis.TheVariants.{X, Y}
+
+-- ---- what a look-up tells
+
+pub room_in_domain : (p : Problem) (l : ℕ) (h : Cell) → l ≤ 4 → in_domain (domain p l) h ≡ true → HasRoom h
+room_in_domain p l h few here =
+    let parts = parts_of (domain p l) h here in
+    record {
+      x = below (domain p l).columns h.x (few_along p l X few) (high_inside (domain p l).columns h.x parts.0);
+      y = below (domain p l).rows h.y (few_along p l Y few) (high_inside (domain p l).rows h.y parts.1);
+    }
+  where
+    below : (n : ℕ) (z : ℤ) → n ≤ 4096 → z <ℤ pos n → z <ℤ pos 33554433
+    below n z s h = omega (arith, ints)
+
+module _ (d : Domain) (ps : List Patch) (i : ℕ) (s t : Strip) (axis : t.axis ≡ s.axis) (from : t.from ≡ s.from) where
+  pub first_span : (source : Source) → 0 < t.count → t.count ≤ s.count → i < length ps → s.count ≤ 8192 → HasRoom s.from → ((q : Patch) → IsGhostStrip d (box (get_or ps i q)) s.axis s.from s.count) → IsSource d ps t source → IsSpan d ps (record { patch = i; strip = t; source = source })
+  first_span source some few there small room strip h = record {
+    there = there;
+    some = some;
+    small = omega (arith, few, small);
+    room = rw from room;
+    ghost_strip = λ q. rw (axis, from) (first_of_strip q);
+    source = h;
+  }
+    where
+      first_of_strip : (q : Patch) → IsGhostStrip d (box (get_or ps i q)) s.axis s.from t.count
+      first_of_strip q = record {
+        ghosts = λ k lt. (strip q).ghosts k (omega (arith, lt, few));
+        beside = λ k lt. (strip q).beside k (omega (arith, lt, few));
+        inside = λ k lt. (strip q).inside k (omega (arith, lt, few));
+      }
+
+  pub held_source : (j n : ℕ) (e : Patch) (b : Extent) (h : Cell) → h ≡ home_cell d s.from → e ≡ get_or ps j e → b ≡ box e → IsNear (box e) → IsHolder ps h j → along s.axis h +ℤ pos n ≡ along s.axis b.hi +ℤ pos 1 → t.count ≤ n → StandForHeld d ps t j h
+  held_source j n e b h home is same near holder end most =
+      let one : b ≡ box (get_or ps j e) = same ∙ ap box is in
+      let ahead : along s.axis h +ℤ pos n ≡ along s.axis (box (get_or ps j e)).hi +ℤ pos 1 = subst (λ (x : Extent). along s.axis h +ℤ pos n ≡ along s.axis x.hi +ℤ pos 1) one end in
+      record {
+        home = rw from home;
+        room = room_inside (box (get_or ps j e)) h (subst (λ (x : Patch). IsNear (box x)) is near) (holder.holds_it e);
+        there = holder.inside;
+        held = λ q k lt. rw axis (span_held ps j e q s.axis h n k holder ahead (omega (arith, lt, most)));
+      }
+
+  pub gap_source : (h : Cell) → h ≡ home_cell d s.from → HasRoom h → in_domain d h ≡ true → ((k : ℕ) → k < t.count → in_patches ps (step s.axis h k) ≡ false) → StandInGap d ps t h
+  gap_source h home room here gap = record {
+    home = rw from home;
+    room = room;
+    inside = here;
+    gap = λ k lt. rw axis (gap k lt);
+  }
+
+-- ---- the values of a span
+
+-- a strip that goes on from a later cell
+pub further : (axis : Axis) (c c' : Cell) (done k : ℕ) → c' ≡ step axis c done → step axis c' k ≡ step axis c (done + k)
+further axis c c' done k is = ap (λ (s : Cell). step axis s k) is ∙ step_step axis c done k
+
+-- what holds of the cells of a strip beside a patch holds of those from a later one on
+pub rest_cells : (P : Extent → Cell → Bool) (ps qs : List Patch) (i : ℕ) (axis : Axis) (c c' : Cell) (count done : ℕ) → AllZip KeepsCells ps qs → i < length ps → c' ≡ step axis c done → ((q : Patch) (k : ℕ) → k < count → IsTrue (P (box (get_or ps i q)) (step axis c k))) → (q : Patch) (k : ℕ) → k < count - done → IsTrue (P (box (get_or qs i q)) (step axis c' k))
+rest_cells P ps qs i axis c c' count done kept there is h q k lt = subst (λ (b : Extent). IsTrue (P b (step axis c' k))) (sym (zip_box ps qs i q q kept there)) (subst (λ (s : Cell). IsTrue (P (box (get_or ps i q)) s)) (sym (further axis c c' done k is)) (h q (done + k) (omega (arith, lt))))
+
+pub rest_given : (value : Cell → ℕ) (mark : Cell → Bool) (m : Masses) (axis : Axis) (to to' from from' : Cell) (count done n : ℕ) → to' ≡ step axis to done → from' ≡ step axis from done → done + n ≤ count → AreGiven value mark axis to count (λ k. mass_of m (parent (step axis from k)) / 4) false → AreGiven value mark axis to' n (λ k. mass_of m (parent (step axis from' k)) / 4) false
+rest_given value mark m axis to to' from from' count done n is from_is few g = record {
+  values = λ k lt. ap value (further axis to to' done k is) ∙ g.values (done + k) (omega (arith, lt, few)) ∙ ap (λ (s : Cell). mass_of m (parent s) / 4) (sym (further axis from from' done k from_is));
+  marks = λ k lt. ap mark (further axis to to' done k is) ∙ g.marks (done + k) (omega (arith, lt, few));
+}
+
+pub ghosts_there : (value : Cell → ℕ) (mark : Cell → Bool) (rs : List Patch) (i j : ℕ) (q : Patch) (a b : Axis) (c e : Cell) (n : ℕ) → i ≡ j → a ≡ b → c ≡ e → HasGhosts value mark (get_or rs i q) a c n → HasGhosts value mark (get_or rs j q) b e n
+ghosts_there value mark rs i j q a b c e n same axis from h = rw (← same, ← axis, ← from) h
+
+-- ---- spans one after the other
+
+any_more : {A : Type 0} (P : A → Type 0) (xs : List A) (y : A) → Any P xs → Any P (xs ++ y ∷ [])
+any_more P xs y a = (a.0, a.1, omega (arith, a.2, length-append xs (y ∷ [])), get_or_append_left xs (y ∷ []) a.1 a.0 a.2 ∙ a.3, a.4)
+
+pub keep_refl : (ss : List Span) → KeepSpans ss ss
+keep_refl ss = record { at = λ i c h. h }
+
+pub keep_trans : (ss ts us : List Span) → KeepSpans ss ts → KeepSpans ts us → KeepSpans ss us
+keep_trans ss ts us first then = record { at = λ i c h. then.at i c (first.at i c h) }
+
+pub keep_push : (ss : List Span) (s : Span) → KeepSpans ss (ss ++ s ∷ [])
+keep_push ss s = record { at = λ i c h. any_more (HasCell i c) ss s h }
+
+pub still_strip : (ss ts : List Span) (i : ℕ) (axis : Axis) (c : Cell) (count : ℕ) → KeepSpans ss ts → HaveStrip ss i axis c count → HaveStrip ts i axis c count
+still_strip ss ts i axis c count kept h = record { at = λ k lt. kept.at i (step axis c k) (h.at k lt) }
+
+pub no_strip : (ss : List Span) (i : ℕ) (axis : Axis) (c : Cell) → HaveStrip ss i axis c 0
+no_strip ss i axis c = record { at = λ k lt. absurd (omega arith) }
+
+-- a strip is had up to a place, and the next span begins there
+pub strip_push : (ss : List Span) (s : Span) (i : ℕ) (axis : Axis) (c c' : Cell) (done : ℕ) → s.patch ≡ i → s.strip.axis ≡ axis → s.strip.from ≡ c' → c' ≡ step axis c done → HaveStrip ss i axis c done → HaveStrip (ss ++ s ∷ []) i axis c (done + s.strip.count)
+strip_push ss s i axis c c' done patch along_it from is h = record { at = λ k lt. by_place k lt (nat_lt k done) refl }
+  where
+    later : (k j : ℕ) → k ≡ done + j → j < s.strip.count → HasCell i (step axis c k) s
+    later k j e lt = record {
+      of_patch = patch;
+      place = j;
+      within = lt;
+      is = ap (step axis c) e ∙ sym (further axis c c' done j is) ∙ ap (λ (t : Cell). step axis t j) (sym from) ∙ ap (λ (a : Axis). step a s.strip.from j) (sym along_it);
+    }
+
+    by_place : (k : ℕ) → k < done + s.strip.count → (b : Bool) → nat_lt k done ≡ b → Any (HasCell i (step axis c k)) (ss ++ s ∷ [])
+    by_place k lt true e = any_more (HasCell i (step axis c k)) ss s (h.at k (grind arith))
+    by_place k lt false e = Any-push (HasCell i (step axis c k)) ss s (later k (k - done) (past e) (omega (arith, lt, past e)))
+      where
+        past : nat_lt k done ≡ false → k ≡ done + (k - done)
+        past e = grind (arith, nat_tests)
+
+-- ---- the sides of a patch, one after the other
+
+abbrev pub HaveSide : List Patch → List Span → ℕ → Side → Type 0
+HaveSide ps ss i side = (q : Patch) → HaveStrip ss i (side_axis side) (side_from (box (get_or ps i q)) side) (side_count (box (get_or ps i q)) side)
+
+-- the strip that a call answers is the side
+pub side_strips : (ps : List Patch) (ss : List Span) (i : ℕ) (side : Side) (axis : Axis) (from : Cell) (count : ℕ) (b : Extent) → ((q : Patch) → box (get_or ps i q) ≡ b) → axis ≡ side_axis side → from ≡ side_from b side → count ≡ side_count b side → HaveStrip ss i axis from count → HaveSide ps ss i side
+side_strips ps ss i side axis from count b same a f n h q = rw (same q, ← a, ← f, ← n) h
+
+pub still_have : (ps : List Patch) (ss ts : List Span) (i : ℕ) (side : Side) → KeepSpans ss ts → HaveSide ps ss i side → HaveSide ps ts i side
+still_have ps ss ts i side kept h q = still_strip ss ts i (side_axis side) (side_from (box (get_or ps i q)) side) (side_count (box (get_or ps i q)) side) kept (h q)
+
+pub whole_spans : (ps : List Patch) (ss : List Span) (i : ℕ) → HaveSide ps ss i West → HaveSide ps ss i East → HaveSide ps ss i South → HaveSide ps ss i North → HaveFrame ps ss i
+whole_spans ps ss i west east south north = record { at = λ q c h. beside_of (λ s. Any (HasCell i s) ss) (box (get_or ps i q)) (each q) c h }
+  where
+    each : (q : Patch) (side : Side) (k : ℕ) → k < side_count (box (get_or ps i q)) side → Any (HasCell i (step (side_axis side) (side_from (box (get_or ps i q)) side) k)) ss
+    each q West k t = (west q).at k t
+    each q East k t = (east q).at k t
+    each q South k t = (south q).at k t
+    each q North k t = (north q).at k t
+
+pub still_whole : (ps : List Patch) (ss ts : List Span) (i : ℕ) → KeepSpans ss ts → HaveFrame ps ss i → HaveFrame ps ts i
+still_whole ps ss ts i kept h = record { at = λ q c t. kept.at i c (h.at q c t) }
+
+pub on_ok_map : {T E : Type 0} (r : Result T E) (P Q : Type 0) → (P → Q) → OnOk r P → OnOk r Q
+on_ok_map (Ok x) P Q f h = f h
+on_ok_map (Err e) P Q f h = tt
+
+pub on_ok_both : {T E : Type 0} (r : Result T E) (P Q R : Type 0) → (P → Q → R) → OnOk r P → OnOk r Q → OnOk r R
+on_ok_both (Ok x) P Q R f h k = f h k
+on_ok_both (Err e) P Q R f h k = tt
+
+-- ---- frames filled span by span
+
+abbrev pub HasSpan : Problem → ℕ → Masses → Masses → List Patch → Span → Type 0
+HasSpan p l m old qs s = (q : Patch) → HasValues p l m old (get_or qs s.patch q) s.strip.axis s.strip.from s.strip.count
+
+-- where all spans have their values, so has each frame
+pub frames_done : (p : Problem) (l : ℕ) (m old : Masses) (ps qs : List Patch) (plan : FramePlan) → AllZip KeepsCells ps qs → PlansFrames (domain p l) ps plan → ((j : ℕ) (s : Span) → j < length plan.spans.items → HasSpan p l m old qs (get_or plan.spans.items j s)) → (k : ℕ) (q : Patch) → k < length ps → HasFrame p l m old (get_or qs k q)
+frames_done p l m old ps qs plan kept planned set k q lt = record { at = λ c h. by_span c ((planned.frames k lt).at q c (subst (λ (b : Extent). IsTrue (is_beside b c)) (zip_box ps qs k q q kept lt) h)) }
+  where
+    by_span : (c : Cell) → Any (HasCell k c) plan.spans.items → HasGhost (value_at p l m old) (is_of_level p l m) (get_or qs k q) c
+    by_span c a =
+        let s = a.1 in
+        let has = a.4 in
+        let values : HasSpan p l m old qs s = subst (HasSpan p l m old qs) a.3 (set a.0 a.1 a.2) in
+        subst (λ (i : ℕ). HasGhost (value_at p l m old) (is_of_level p l m) (get_or qs i q) c) has.of_patch
+        (subst (λ (t : Cell). HasGhost (value_at p l m old) (is_of_level p l m) (get_or qs s.patch q) t) (sym has.is) ((values q).at has.place has.within))

@@ -1,0 +1,154 @@
+//! Plans of frames: where each ghost cell gets its value from, worked out once for boxes that stay.
+
+ghost use Rattle.std.specs.Prelude.{◌≡◌, ℕ, ◌<◌, ◌≤◌, length, slice_index_or, IfOk, OnOk};
+ghost use Rattle.std.specs.Option.{option_copied};
+ghost use Rattle.std.specs.List.{All};
+ghost use Rattle.amr_def.specs.Domain.{domain};
+ghost use Rattle.amr_patch.specs.declared.patches.Patch.{Patch};
+ghost use Rattle.amr_patch.specs.Orders.{IsOrderOf};
+ghost use Rattle.amr_patch.specs.Patches.{ArePatchesApart, box};
+ghost use Rattle.amr_gaps.specs.Gaps.{HasStarts};
+ghost use Rattle.amr_ghost.specs.Strips.{HasRoom};
+ghost use Rattle.amr_ghost.specs.Frames.{AreInDomain};
+ghost use Rattle.amr_ghost.specs.Filling.{IsGhostStrip, IsLevelInOrder, side_axis, side_count, side_from};
+ghost use Rattle.amr_ghost.specs.Plans.{HaveFrame, HaveStrip, IsSpan, KeepSpans, PlansFrames};
+
+use crate::lookup::{NearSides, Target, near_first};
+use crate::places::step;
+use crate::sides::{Side, Strip, side_strip};
+use crate::sources::{Span, span_ahead};
+use amr_causes::NoMemory;
+use amr_def::Problem;
+use amr_gaps::Starts;
+use amr_patch::{Order, Patch};
+use std::alloc::Global;
+
+/// Where each ghost cell beside each patch of a level gets its value from. It depends on boxes alone, so it serves until a regrid.
+#[derive(Drop)]
+pub struct FramePlan {
+    pub(crate) spans: Vec<Span>,
+}
+
+/// Adds the spans of the ghost cells of a strip beside a patch.
+fn plan_strip(
+    p: &Problem,
+    patches: &[Patch],
+    target: Target<'_>,
+    strip: Strip,
+    near: &mut usize,
+    spans: &mut Vec<Span>,
+) -> Result<(), NoMemory>
+    requires level { target.level ≤ 4 }
+    requires patches { IsLevelInOrder (domain p.now target.level) target.order (option_copied target.starts) patches.now }
+    requires there { target.patch < length patches.now }
+    requires small { strip.count ≤ 8192 }
+    requires room { HasRoom strip.from }
+    requires ghost_strip { (q : Patch) → IsGhostStrip (domain p.now target.level) (box (slice_index_or patches.now target.patch q)) strip.axis strip.from strip.count }
+    requires spans { All (IsSpan (domain p.now target.level) patches.now) spans.old.items }
+    ensures spans { OnOk result (All (IsSpan (domain p.now target.entry.level) patches.now) spans.new.items) }
+    ensures kept { OnOk result (KeepSpans spans.old.items spans.new.items) }
+    ensures made { OnOk result (HaveStrip spans.new.items target.entry.patch strip.axis strip.from strip.count) }
+{
+    let mut done = 0;
+    while done < strip.count {
+        let rest = Strip {
+            axis: strip.axis,
+            from: step(strip.axis, strip.from, done),
+            count: strip.count - done,
+        };
+        let span = span_ahead(p, patches, target, rest, near);
+        spans.push(span)?;
+        done += span.strip.count;
+    }
+    Ok(())
+}
+
+/// Adds the spans of the ghost cells on a side of a patch.
+fn plan_side(
+    p: &Problem,
+    patches: &[Patch],
+    target: Target<'_>,
+    side: Side,
+    near: &mut usize,
+    spans: &mut Vec<Span>,
+) -> Result<(), NoMemory>
+    requires level { target.level ≤ 4 }
+    requires patches { IsLevelInOrder (domain p.now target.level) target.order (option_copied target.starts) patches.now }
+    requires there { target.patch < length patches.now }
+    requires spans { All (IsSpan (domain p.now target.level) patches.now) spans.old.items }
+    ensures spans { OnOk result (All (IsSpan (domain p.now target.entry.level) patches.now) spans.new.items) }
+    ensures kept { OnOk result (KeepSpans spans.old.items spans.new.items) }
+    ensures made { OnOk result ((q : Patch) → HaveStrip spans.new.items target.entry.patch (side_axis side) (side_from (box (slice_index_or patches.now target.entry.patch q)) side) (side_count (box (slice_index_or patches.now target.entry.patch q)) side)) }
+{
+    let strip = side_strip(&patches[target.patch].bx(), side);
+    plan_strip(p, patches, target, strip, near, spans)
+}
+
+/// Adds the spans of the ghost cells beside a patch.
+fn plan_frame(
+    p: &Problem,
+    patches: &[Patch],
+    target: Target<'_>,
+    near: &mut NearSides,
+    spans: &mut Vec<Span>,
+) -> Result<(), NoMemory>
+    requires level { target.level ≤ 4 }
+    requires patches { IsLevelInOrder (domain p.now target.level) target.order (option_copied target.starts) patches.now }
+    requires there { target.patch < length patches.now }
+    requires spans { All (IsSpan (domain p.now target.level) patches.now) spans.old.items }
+    ensures spans { OnOk result (All (IsSpan (domain p.now target.entry.level) patches.now) spans.new.items) }
+    ensures kept { OnOk result (KeepSpans spans.old.items spans.new.items) }
+    ensures made { OnOk result (HaveFrame patches.now spans.new.items target.entry.patch) }
+{
+    plan_side(p, patches, target, Side::West, &mut near.west.level, spans)?;
+    plan_side(p, patches, target, Side::East, &mut near.east.level, spans)?;
+    plan_side(
+        p,
+        patches,
+        target,
+        Side::South,
+        &mut near.south.level,
+        spans,
+    )?;
+    plan_side(
+        p,
+        patches,
+        target,
+        Side::North,
+        &mut near.north.level,
+        spans,
+    )
+}
+
+/// Where the ghost cells beside the patches of level `l`, from 0 to 4, get their values from. `NoMemory` is the only refusal.
+///
+/// The patches are those of the whole level: no cell is in two of them, and each is a cell of the domain. `starts` tells where they
+/// start, and `order` how they stand.
+pub fn plan_frames(
+    alloc: Global,
+    p: &Problem,
+    l: u32,
+    patches: &[Patch],
+    order: Order,
+    starts: &Starts,
+) -> Result<FramePlan, NoMemory>
+    requires level { l ≤ 4 }
+    requires order { IsOrderOf order patches.now }
+    requires starts { HasStarts patches.now starts.now }
+    requires apart { ArePatchesApart patches.now }
+    requires inside { AreInDomain (domain p.now l) patches.now }
+    ensures { IfOk result (PlansFrames (domain p.now l) patches.now) }
+{
+    let mut near = near_first();
+    let mut spans = Vec::new(alloc);
+    for i in 0..patches.len() {
+        let target = Target {
+            level: l,
+            order,
+            starts: Some(starts),
+            patch: i,
+        };
+        plan_frame(p, patches, target, &mut near, &mut spans)?;
+    }
+    Ok(FramePlan { spans })
+}
