@@ -5,11 +5,15 @@ use Rattle.std.proofs.Math.ListN.{get_or-map}
 use Rattle.std.proofs.lemmas.List.{length-map}
 use Rattle.amr_box.specs.declared.Cell.{Cell}
 use Rattle.amr_box.specs.Cells.{Extent, width}
+use Rattle.amr_def.specs.Domain.{domain}
+use Rattle.amr_def.specs.declared.problem.Problem.{Problem}
 use Rattle.amr_def.specs.State.{in_boxes}
 use Rattle.amr_patch.specs.declared.patches.Patch.{Patch}
 use Rattle.amr_patch.specs.Patches.{box}
 use Rattle.amr_layout.specs.declared.TaskLayout.{TaskLayout}
-use Rattle.amr_gaps.proofs.GapLaws.{starts_of_boxes}
+use Rattle.amr_ghost.specs.Plans.{PlansFrames}
+use Rattle.amr_ghost.specs.declared.plan.FramePlan.{FramePlan}
+use Rattle.amr_ghost.proofs.PlanLaws.{plan_of_boxes}
 use Rattle.amr_layout.specs.Grounds.{SameGround}
 use Rattle.amr_layout.specs.Surroundings.{Around}
 use Rattle.amr_work.specs.declared.work.Workspace.{Workspace}
@@ -31,6 +35,10 @@ same_workspaces ps qs ts ws e h = record {
   each = λ k q t w lt. subst (λ (b : Extent). Serves (width b) (get_or ts k t) (get_or ws k w)) (same_box_at ps qs k q e) (h.each k q t w (omega (arith, lt, same_length ps qs e)));
 }
 
+-- a plan of frames serves patches by their boxes alone
+same_frames : (p r : Problem) (l m : ℕ) (ps qs : List Patch) (f : FramePlan) → p ≡ r → l ≡ m → map box ps ≡ map box qs → PlansFrames (domain p l) ps f → PlansFrames (domain r m) qs f
+same_frames p r l m ps qs f problem level boxes h = plan_of_boxes (domain r m) ps qs boxes f (subst (λ d. PlansFrames d ps f) (λ i. domain (problem i) (level i)) h)
+
 -- a layout made for the same ground serves here
 pub serves_here : (t : Around) (k : KeptLayout) → IsKept t.problem k → k.level ≡ t.level → map box t.patches ≡ k.boxes.items → k.cells.items ≡ t.cells → ((c : Cell) → is_some (t.finer c) ≡ in_boxes k.finer.items c) → IsLaidOut t k
 serves_here t k h level boxes cells finer =
@@ -42,7 +50,7 @@ serves_here t k h level boxes cells finer =
       boxes = sym boxes;
       cells = cells;
       finer = finer;
-      starts = starts_of_boxes s.patches t.patches k.starts (sym same) made.starts;
+      frames = same_frames s.problem t.problem s.level t.level s.patches t.patches k.frames h.of_problem (sym made.level ∙ level) same made.frames;
       layout = same_layout s t k.layout.value (record { problem = h.of_problem; level = sym made.level ∙ level; boxes = same; cells = sym made.cells ∙ cells; finer = λ c. made.finer c ∙ sym (finer c) }) made.layout;
       shape = made.shape;
       workspaces = same_workspaces s.patches t.patches k.layout.value.tasks.items (workspaces_in k.bodies.items) same made.workspaces;
@@ -55,7 +63,7 @@ still_here s t k g h = record {
   boxes = h.boxes ∙ g.boxes;
   cells = h.cells ∙ g.cells;
   finer = λ c. sym (g.finer c) ∙ h.finer c;
-  starts = starts_of_boxes s.patches t.patches k.starts (sym g.boxes) h.starts;
+  frames = same_frames s.problem t.problem s.level t.level s.patches t.patches k.frames g.problem g.level g.boxes h.frames;
   layout = same_layout s t k.layout.value g h.layout;
   shape = h.shape;
   workspaces = same_workspaces s.patches t.patches k.layout.value.tasks.items (workspaces_in k.bodies.items) g.boxes h.workspaces;

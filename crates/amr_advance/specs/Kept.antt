@@ -2,10 +2,11 @@
 use Rattle.std.specs.Prelude.{◌≡◌, map, is_some}
 use Rattle.amr_box.specs.declared.Cell.{Cell}
 use Rattle.amr_def.specs.declared.problem.Problem.{Problem}
+use Rattle.amr_def.specs.Domain.{domain}
 use Rattle.amr_def.specs.State.{in_boxes}
 use Rattle.amr_patch.specs.Patches.{box}
 use Rattle.amr_board.specs.declared.board.Shape.{Shape}
-use Rattle.amr_gaps.specs.Gaps.{HasStarts}
+use Rattle.amr_ghost.specs.Plans.{PlansFrames}
 use Rattle.amr_layout.specs.declared.Layout.{Layout}
 use Rattle.amr_layout.specs.Surroundings.{Around}
 use Rattle.amr_advance.specs.declared.kept.KeptLayout.{KeptLayout}
@@ -22,7 +23,7 @@ pub record IsLaidOut (s : Around) (k : KeptLayout) : Type 0 where
   pub boxes : k.boxes.items ≡ map box s.patches
   pub cells : k.cells.items ≡ s.cells
   pub finer : (c : Cell) → is_some (s.finer c) ≡ in_boxes k.finer.items c
-  pub starts : HasStarts s.patches k.starts
+  pub frames : PlansFrames (domain s.problem s.level) s.patches k.frames
   pub layout : IsLayoutOf s k.layout.value
   pub shape : k.shape ≡ shape_of k.layout.value
   pub workspaces : AreWorkspaces s.patches k.layout.value.tasks.items (workspaces_in k.bodies.items)

@@ -6,8 +6,9 @@ ghost use Rattle.std.specs.Option.{option_copied};
 ghost use Rattle.amr_box.specs.declared.Cell.{Cell};
 ghost use Rattle.amr_def.specs.Domain.{domain};
 ghost use Rattle.amr_def.specs.State.{in_boxes};
+ghost use Rattle.amr_patch.specs.Orders.{IsOrderOf};
 ghost use Rattle.amr_patch.specs.Patches.{ArePatchesApart, box};
-ghost use Rattle.amr_flux.specs.Faces.{IsInDomain};
+ghost use Rattle.amr_ghost.specs.Frames.{AreInDomain};
 ghost use Rattle.amr_layout.specs.Adds.{HasRegisterCells};
 ghost use Rattle.amr_layout.specs.Surroundings.{around, finer_masses};
 ghost use Rattle.amr_advance.specs.Kept.{IsKept, IsLaidOut};
@@ -18,15 +19,16 @@ use amr_alike::{boxes_of, have_boxes};
 use amr_board::Shape;
 use amr_box::{Bx, Cell};
 use amr_causes::NoMemory;
-use amr_gaps::{Starts, starts_of};
+use amr_gaps::starts_of;
+use amr_ghost::{FramePlan, plan_frames};
 use amr_layout::{Layout, plan};
-use amr_patch::{Level, Patch};
+use amr_patch::{Level, Order, Patch};
 use amr_work::Body;
 use std::alloc::Global;
 use std::boxed::Box;
 use std::snapshot::Snapshot;
 
-/// The layout of a level's step on a board, with a body for each task and where patches start, and what they were made for: the boxes
+/// The layout of a level's step on a board, with a body for each task and a plan of the frames, and what they were made for: the boxes
 /// of the level's patches, the register cells of the next coarser level, and the patch boxes of the next finer one. While these stay,
 /// each step of the level takes it as it is.
 #[derive(Drop)]
@@ -35,7 +37,7 @@ pub struct KeptLayout {
     boxes: Vec<Bx>,
     cells: Vec<Cell>,
     finer: Vec<Bx>,
-    pub(crate) starts: Starts,
+    pub(crate) frames: FramePlan,
     pub(crate) shape: Shape,
     pub(crate) bodies: Vec<Box<Body>>,
     pub(crate) layout: Snapshot<Layout>,
@@ -108,12 +110,14 @@ fn serves(kept: &KeptLayout, given: Given<'_>, patches: &[Patch]) -> bool
 /// Lays out the step of these patches anew, with old bodies as far as they go.
 fn lay_out_anew(
     given: Given<'_>,
+    order: Order,
     patches: &[Patch],
     olds: Vec<Box<Body>>,
 ) -> Result<KeptLayout, NoMemory>
     requires level { given.level ≤ 4 }
+    requires order { IsOrderOf order patches.now }
     requires apart { ArePatchesApart patches.now }
-    requires inside { All (λ q. IsInDomain (domain given.problem.now given.level) (box q)) patches.now }
+    requires inside { AreInDomain (domain given.problem.now given.level) patches.now }
     requires cells { HasRegisterCells (around given.problem.now given.level patches.now given.cells.now (option_copied given.finer)) }
     ensures { IfOk result (IsLaidOut (around given.entry.problem.now given.entry.level patches.now given.entry.cells.now (option_copied given.entry.finer))) }
 {
@@ -138,7 +142,7 @@ fn lay_out_anew(
         boxes: boxes_of(alloc, patches)?,
         cells: Vec::from_slice(alloc, given.cells)?,
         finer: finer_boxes(alloc, given.finer)?,
-        starts,
+        frames: plan_frames(alloc, given.problem, given.level, patches, order, &starts)?,
         shape,
         bodies: bodies_of(alloc, patches, layout.tasks, olds)?,
         layout: made,
@@ -152,7 +156,7 @@ fn bodies_from(layout: KeptLayout) -> Vec<Box<Body>> {
         boxes: _,
         cells: _,
         finer: _,
-        starts: _,
+        frames: _,
         shape: _,
         bodies,
         layout: _,
@@ -163,22 +167,24 @@ fn bodies_from(layout: KeptLayout) -> Vec<Box<Body>> {
 /// The layout of the step of these patches: the one that is kept, where it serves, else a new one. None is kept afterwards.
 pub(crate) fn layout_for(
     given: Given<'_>,
+    order: Order,
     patches: &[Patch],
     kept: &mut Option<KeptLayout>,
 ) -> Result<KeptLayout, NoMemory>
     requires level { given.level ≤ 4 }
+    requires order { IsOrderOf order patches.now }
     requires apart { ArePatchesApart patches.now }
-    requires inside { All (λ q. IsInDomain (domain given.problem.now given.level) (box q)) patches.now }
+    requires inside { AreInDomain (domain given.problem.now given.level) patches.now }
     requires cells { HasRegisterCells (around given.problem.now given.level patches.now given.cells.now (option_copied given.finer)) }
     requires kept { IfSome kept.old (IsKept given.problem.now) }
     ensures laid_out { IfOk result (IsLaidOut (around given.entry.problem.now given.entry.level patches.now given.entry.cells.now (option_copied given.entry.finer))) }
     ensures kept { kept.new ≡ None }
 {
     let Some(layout) = kept.take() else {
-        return lay_out_anew(given, patches, Vec::new(given.alloc));
+        return lay_out_anew(given, order, patches, Vec::new(given.alloc));
     };
     if serves(&layout, given, patches) {
         return Ok(layout);
     }
-    lay_out_anew(given, patches, bodies_from(layout))
+    lay_out_anew(given, order, patches, bodies_from(layout))
 }

@@ -29,7 +29,7 @@ use amr_board::Ended;
 use amr_box::Cell;
 use amr_causes::NoMemory;
 use amr_def::Problem;
-use amr_ghost::fill_in_order;
+use amr_ghost::fill_planned;
 use amr_patch::{Level, Order, Patch};
 use amr_register::Register;
 use amr_work::Work;
@@ -62,13 +62,12 @@ fn lay_out(
     ensures shown { OnOk result (AreShown given.entry.problem.now given.entry.level (old_masses (option_copied given.entry.old)) patches.new) }
     ensures layout { IfOk result (IsLaidOut (around given.entry.problem.now given.entry.level patches.new given.entry.cells.now (option_copied given.entry.finer))) }
 {
-    let layout = layout_for(given, patches, kept)?;
-    fill_in_order(
+    let layout = layout_for(given, order, patches, kept)?;
+    fill_planned(
         given.problem,
         given.level,
         patches,
-        order,
-        Some(&layout.starts),
+        &layout.frames,
         given.old,
     );
     Ok(layout)
