@@ -326,18 +326,54 @@ fn runs_over_two_coarse_patches(rt: HostRuntime) -> Result<(), Fail> {
     Ok(())
 }
 
+/// Fills frames by a plan that was made for the patches as they stand.
+fn fill_by_plan(
+    alloc: Global,
+    p: &Problem,
+    l: u32,
+    patches: &mut [Patch],
+    old: Option<&Level>,
+) -> Result<bool, Fail>
+    requires { l ≤ 4 }
+{
+    if !are_apart(patches) {
+        return Ok(false);
+    }
+    if !are_in_domain(p, l, patches) {
+        return Ok(false);
+    }
+    let starts = starts_of(alloc, patches)?;
+    let plan = plan_frames(alloc, p, l, patches, order_of(patches), &starts)?;
+    fill_planned(p, l, patches, &plan, old);
+    Ok(true)
+}
+
+#[test]
+fn planned_over_two_coarse_patches(rt: HostRuntime) -> Result<(), Fail> {
+    let alloc = rt.alloc();
+    let p = problem(alloc, 8, 2, Sides::Periodic, Sides::Periodic)?;
+    let old = level_with(alloc, two_coarse_patches(alloc)?)?;
+    let mut fine = two_fine_patches(alloc)?;
+    assert!(rt; fill_by_plan(alloc, &p, 1, &mut fine, old.as_ref())?);
+    assert_eq!(rt; ghost_at(&fine, 0, cell(7, 2)), Some((4, false)));
+    assert_eq!(rt; ghost_at(&fine, 0, cell(8, 2)), Some((5, false)));
+    assert_eq!(rt; ghost_at(&fine, 0, cell(10, 2)), Some((13, true)));
+    assert_eq!(rt; ghost_at(&fine, 1, cell(9, 3)), Some((5, false)));
+    Ok(())
+}
+
 /// Two patches of a finer level at the open sides of its columns, filled.
 fn at_open_sides(alloc: Global) -> Result<Vec<Patch>, Fail> {
     let p = problem(alloc, 4, 2, Sides::Open(6, 40), Sides::Periodic)?;
     let mut fine = Vec::new(alloc);
     fine.push(patch(alloc, 0, 0, 3, 3)?)?;
     fine.push(patch(alloc, 6, 0, 7, 3)?)?;
-    let _filled = fill_by_starts(alloc, &p, 1, &mut fine, None)?;
+    let _filled = fill_by_plan(alloc, &p, 1, &mut fine, None)?;
     Ok(fine)
 }
 
 #[test]
-fn runs_beside_open_sides(rt: HostRuntime) -> Result<(), Fail> {
+fn planned_beside_open_sides(rt: HostRuntime) -> Result<(), Fail> {
     let fine = at_open_sides(rt.alloc())?;
     assert_eq!(rt; ghost_at(&fine, 0, cell(-1, 0)), Some((1, false)));
     assert_eq!(rt; ghost_at(&fine, 0, cell(-1, 3)), Some((1, false)));
