@@ -90,7 +90,8 @@ pub fn put_checkpoint<D: Disk>(
         Err(NoMemory) => return Err(CheckpointFault::NoMemory),
     };
     let sequence = u64::from(mesh.step()) + 1;
-    if store.version() == 1 {
+    let must_renew = store.version() == 1;
+    if must_renew {
         match store.renew(alloc, disk, sequence, &bytes, room(p)) {
             Ok(renewed) => Ok(renewed),
             Err(fault) => Err(fault_of_call(fault)),

@@ -41,25 +41,25 @@ returns-in-Ok-renew-clause-stops g c s content seen h =
     (ap (λ n. n + 1) (c.from-sequence.ensures ∙ c.step.ensures)) (c.deref.ensures.value ∙ c.in-Ok.ensures.bytes) either)
     (c.in-Ok-renew.ensures.stops c.requires.store.unshut s seen)
 
-pub returns-then-version-eq1-clause-stops : goal.returns-then-version-eq1-clause-stops
-returns-then-version-eq1-clause-stops g c s content seen h =
+pub returns-then-must_renew-clause-stops : goal.returns-then-must_renew-clause-stops
+returns-then-must_renew-clause-stops g c s content seen h =
     weaker g.D.Disk.moment g.D.Disk.leaves c.args.disk.now c.renew.new.disk _ _
     (λ image either. renewal_stop s image (problem_in c.args.store) c.deref.result.now c.args.p.now (state_of c.args.mesh.now) content c.room.result (c.from-sequence.result + 1) c.requires.store.accepted c.requires.sound h c.room.ensures.value
     (ap (λ n. n + 1) (c.from-sequence.ensures ∙ c.step.ensures)) (c.deref.ensures.value ∙ c.in-Ok.ensures.bytes) either)
     (c.in-Err-renew.ensures.stops c.requires.store.unshut s seen)
 
-pub returns-then-version-eq1-clause-memory : goal.returns-then-version-eq1-clause-memory
-returns-then-version-eq1-clause-memory g c is =
+pub returns-then-must_renew-clause-memory : goal.returns-then-must_renew-clause-memory
+returns-then-must_renew-clause-memory g c is =
     let fault : c.fault_of_call.result ≡ NoMemory = cc in
     c.in-Err-renew.ensures.memory (no_memory_of Store c.in-Err-renew.fault (sym c.fault_of_call.ensures ∙ fault))
 
-pub returns-then-version-eq1-clause-disk_fault : goal.returns-then-version-eq1-clause-disk_fault
-returns-then-version-eq1-clause-disk_fault g c is =
+pub returns-then-must_renew-clause-disk_fault : goal.returns-then-must_renew-clause-disk_fault
+returns-then-must_renew-clause-disk_fault g c is =
     let fault : c.fault_of_call.result ≡ DiskFault = cc in
     c.in-Err-renew.ensures.reason.failed (disk_fault_of Store c.in-Err-renew.fault (sym c.fault_of_call.ensures ∙ fault) (c.in-Err-renew.ensures.shuts ∙ c.requires.store.unshut))
 
-pub returns-then-version-eq1-clause-no_disk_fault : goal.returns-then-version-eq1-clause-no_disk_fault
-returns-then-version-eq1-clause-no_disk_fault g c other =
+pub returns-then-must_renew-clause-no_disk_fault : goal.returns-then-must_renew-clause-no_disk_fault
+returns-then-must_renew-clause-no_disk_fault g c other =
     c.in-Err-renew.ensures.reason.no_fault (other_fault_of Store c.in-Err-renew.fault (λ fault. other (ap Err (c.fault_of_call.ensures ∙ fault))))
 
 -- ---- one of version 2
@@ -69,9 +69,9 @@ put-requires-clause-above g c = subst (λ n. IfSome (last_in c.args.store) (λ l
 
 pub put-requires-clause-fits : goal.put-requires-clause-fits
 put-requires-clause-fits g c =
-    let width = second_width c.args.store.version (λ one. c.if-version-eq1.false (c.version.ensures ∙ one)) in
-    subst (λ n. length c.deref-else-version-eq1.result.now ≤ n) (sym (c.requires.store.room ∙ ap (λ w. slot_size w c.args.p.now) width))
-    (subst (λ (b : List ℕ). length b ≤ slot_size w32 c.args.p.now) (sym c.deref-else-version-eq1.ensures.value) c.in-Ok.ensures.fits)
+    let width = second_width c.args.store.version (λ one. c.if-must_renew.false (c.version-must_renew.ensures ∙ one)) in
+    subst (λ n. length c.deref-else-must_renew.result.now ≤ n) (sym (c.requires.store.room ∙ ap (λ w. slot_size w c.args.p.now) width))
+    (subst (λ (b : List ℕ). length b ≤ slot_size w32 c.args.p.now) (sym c.deref-else-must_renew.ensures.value) c.in-Ok.ensures.fits)
 
 pub returns-in-Ok-put-clause-store : goal.returns-in-Ok-put-clause-store
 returns-in-Ok-put-clause-store g c = record {
@@ -81,22 +81,22 @@ returns-in-Ok-put-clause-store g c = record {
 
 pub returns-in-Ok-put-clause-holds : goal.returns-in-Ok-put-clause-holds
 returns-in-Ok-put-clause-holds g c t seen =
-    put_held (put_image c.args.store (c.from-sequence.result + 1) c.deref-else-version-eq1.result.now) (g.D.Disk.seen c.args.disk.now) (g.D.Disk.seen c.put.new.disk) c.args.store t c.deref-else-version-eq1.result.now c.args.p.now
-    (state_of c.args.mesh.now) (c.from-sequence.result + 1) c.in-Ok-put.ensures.seen (c.requires.ready.stands c.requires.store.unshut) c.requires.store (λ one. c.if-version-eq1.false (c.version.ensures ∙ one)) c.requires.sound
-    (ap (λ n. n + 1) (c.from-sequence.ensures ∙ c.step.ensures)) (c.deref-else-version-eq1.ensures.value ∙ c.in-Ok.ensures.bytes) (c.in-Ok-put.ensures.put c.requires.store.unshut) seen
+    put_held (put_image c.args.store (c.from-sequence.result + 1) c.deref-else-must_renew.result.now) (g.D.Disk.seen c.args.disk.now) (g.D.Disk.seen c.put.new.disk) c.args.store t c.deref-else-must_renew.result.now c.args.p.now
+    (state_of c.args.mesh.now) (c.from-sequence.result + 1) c.in-Ok-put.ensures.seen (c.requires.ready.stands c.requires.store.unshut) c.requires.store (λ one. c.if-must_renew.false (c.version-must_renew.ensures ∙ one)) c.requires.sound
+    (ap (λ n. n + 1) (c.from-sequence.ensures ∙ c.step.ensures)) (c.deref-else-must_renew.ensures.value ∙ c.in-Ok.ensures.bytes) (c.in-Ok-put.ensures.put c.requires.store.unshut) seen
 
 pub returns-in-Ok-put-clause-stops : goal.returns-in-Ok-put-clause-stops
 returns-in-Ok-put-clause-stops g c s content seen h =
     weaker g.D.Disk.moment g.D.Disk.leaves c.args.disk.now c.put.new.disk _ _
-    (λ image either. put_stop c.args.store s image c.deref-else-version-eq1.result.now c.args.p.now (state_of c.args.mesh.now) content (c.from-sequence.result + 1) (c.requires.ready.stands c.requires.store.unshut s seen) c.requires.store
-    (λ one. c.if-version-eq1.false (c.version.ensures ∙ one)) c.requires.sound h (ap (λ n. n + 1) (c.from-sequence.ensures ∙ c.step.ensures)) (c.deref-else-version-eq1.ensures.value ∙ c.in-Ok.ensures.bytes) either)
+    (λ image either. put_stop c.args.store s image c.deref-else-must_renew.result.now c.args.p.now (state_of c.args.mesh.now) content (c.from-sequence.result + 1) (c.requires.ready.stands c.requires.store.unshut s seen) c.requires.store
+    (λ one. c.if-must_renew.false (c.version-must_renew.ensures ∙ one)) c.requires.sound h (ap (λ n. n + 1) (c.from-sequence.ensures ∙ c.step.ensures)) (c.deref-else-must_renew.ensures.value ∙ c.in-Ok.ensures.bytes) either)
     (c.in-Ok-put.ensures.stops c.requires.store.unshut s seen)
 
 pub returns-clause-stops : goal.returns-clause-stops
 returns-clause-stops g c s content seen h =
     weaker g.D.Disk.moment g.D.Disk.leaves c.args.disk.now c.put.new.disk _ _
-    (λ image either. put_stop c.args.store s image c.deref-else-version-eq1.result.now c.args.p.now (state_of c.args.mesh.now) content (c.from-sequence.result + 1) (c.requires.ready.stands c.requires.store.unshut s seen) c.requires.store
-    (λ one. c.if-version-eq1.false (c.version.ensures ∙ one)) c.requires.sound h (ap (λ n. n + 1) (c.from-sequence.ensures ∙ c.step.ensures)) (c.deref-else-version-eq1.ensures.value ∙ c.in-Ok.ensures.bytes) either)
+    (λ image either. put_stop c.args.store s image c.deref-else-must_renew.result.now c.args.p.now (state_of c.args.mesh.now) content (c.from-sequence.result + 1) (c.requires.ready.stands c.requires.store.unshut s seen) c.requires.store
+    (λ one. c.if-must_renew.false (c.version-must_renew.ensures ∙ one)) c.requires.sound h (ap (λ n. n + 1) (c.from-sequence.ensures ∙ c.step.ensures)) (c.deref-else-must_renew.ensures.value ∙ c.in-Ok.ensures.bytes) either)
     (c.in-Err-put.ensures.stops c.requires.store.unshut s seen)
 
 pub returns-clause-memory : goal.returns-clause-memory
