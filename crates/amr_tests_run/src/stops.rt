@@ -1,4 +1,4 @@
-// Each call of an object fails once, and each call of the disk is the last: what the run says, and what the next one finds.
+//! Each call of an object fails once, and each call of the disk is the last: what the run says, and what the next one finds.
 
 use crate::cases::{Case, Ended, FOUR_STEPS, LONG_RING, TWO_STEPS, empty_disk};
 use amr_causes::NoMemory;

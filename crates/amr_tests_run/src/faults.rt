@@ -1,4 +1,4 @@
-// The text of each refusal that needs no store, and the trial, which reads nothing.
+//! The text of each refusal that needs no store, and the trial, which reads nothing.
 
 use crate::cases::{Case, RING, RING_PLOT, ring_with_lines};
 use std::test::Fail;

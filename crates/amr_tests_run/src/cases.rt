@@ -1,10 +1,10 @@
-// What the tests share: calls on objects in memory, and problems.
+//! What the tests share: calls on objects in memory, and problems.
 
-use crate::amr;
 use amr_causes::NoMemory;
 use amr_cli::Line;
 use amr_disk::MemDisk;
 use amr_io::{MemSink, MemSource};
+use amr_run::amr;
 use std::alloc::Global;
 use std::fmt::Write as _;
 use std::process::Abort;

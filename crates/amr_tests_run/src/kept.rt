@@ -1,4 +1,4 @@
-// Runs that keep checkpoints, and what is shown of a store: worked plots, lines and refusals.
+//! Runs that keep checkpoints, and what is shown of a store: worked plots, lines and refusals.
 
 use crate::cases::{Case, FOUR_STEPS, LONG_RING, RING, TWO_STEPS, empty_disk};
 use amr_disk::{Disk, DiskFault, MemDisk};

@@ -1,11 +1,11 @@
-// Two workers take part.
+//! Two workers take part.
 
-use crate::amr_gated;
 use crate::cases::ring_with;
-use crate::plot_tests::NINE_COLUMNS_PLOT;
+use crate::plots::NINE_COLUMNS_PLOT;
 use amr_cli::Line;
 use amr_disk::MemDisk;
 use amr_io::{MemSink, MemSource};
+use amr_run::amr_gated;
 use amr_workers::Gate;
 use std::sync::atomic::{AtomicBool, Ordering};
 use std::test::Fail;

@@ -1,4 +1,4 @@
-// Worked plots.
+//! Worked plots.
 
 use crate::cases::{Case, RING, RING_PLOT, ring_with, ring_with_lines};
 use std::test::Fail;
