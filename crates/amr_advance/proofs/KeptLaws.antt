@@ -1,8 +1,6 @@
 -- A layout that is kept serves each level with the same boxes beside levels with the same boxes.
-use Rattle.std.proofs.Common.{◌≡◌, ◌∙◌, ℕ, List, length, get_or, map, sym, ap, subst, arith}
+use Rattle.std.proofs.Common.{◌≡◌, ◌∙◌, ℕ, List, get_or, map, sym, subst, arith}
 use Rattle.std.specs.Prelude.{is_some}
-use Rattle.std.proofs.Math.ListN.{get_or-map}
-use Rattle.std.proofs.lemmas.List.{length-map}
 use Rattle.amr_box.specs.declared.Cell.{Cell}
 use Rattle.amr_box.specs.Cells.{Extent, width}
 use Rattle.amr_def.specs.Domain.{domain}
@@ -10,6 +8,7 @@ use Rattle.amr_def.specs.declared.problem.Problem.{Problem}
 use Rattle.amr_def.specs.State.{in_boxes}
 use Rattle.amr_patch.specs.declared.patches.Patch.{Patch}
 use Rattle.amr_patch.specs.Patches.{box}
+use Rattle.amr_patch.proofs.SameBoxes.{box_at, same_length}
 use Rattle.amr_layout.specs.declared.TaskLayout.{TaskLayout}
 use Rattle.amr_ghost.specs.Plans.{PlansFrames}
 use Rattle.amr_ghost.specs.declared.plan.FramePlan.{FramePlan}
@@ -22,17 +21,11 @@ use Rattle.amr_advance.specs.Kept.{IsKept, IsLaidOut}
 use Rattle.amr_advance.specs.Pieces.{AreWorkspaces, Serves, workspaces_in}
 use Rattle.amr_advance.proofs.SameLayouts.{same_layout}
 
-same_length : (ps qs : List Patch) → map box ps ≡ map box qs → length ps ≡ length qs
-same_length ps qs e = sym (length-map ps box) ∙ ap (λ (bs : List Extent). length bs) e ∙ length-map qs box
-
-same_box_at : (ps qs : List Patch) (k : ℕ) (d : Patch) → map box ps ≡ map box qs → box (get_or ps k d) ≡ box (get_or qs k d)
-same_box_at ps qs k d e = sym (get_or-map box ps k d) ∙ ap (λ (bs : List Extent). get_or bs k (box d)) e ∙ get_or-map box qs k d
-
 -- workspaces serve patches by their boxes alone
 pub same_workspaces : (ps qs : List Patch) (ts : List TaskLayout) (ws : List Workspace) → map box ps ≡ map box qs → AreWorkspaces ps ts ws → AreWorkspaces qs ts ws
 same_workspaces ps qs ts ws e h = record {
   count = h.count ∙ same_length ps qs e;
-  each = λ k q t w lt. subst (λ (b : Extent). Serves (width b) (get_or ts k t) (get_or ws k w)) (same_box_at ps qs k q e) (h.each k q t w (omega (arith, lt, same_length ps qs e)));
+  each = λ k q t w lt. subst (λ (b : Extent). Serves (width b) (get_or ts k t) (get_or ws k w)) (box_at ps qs k q e) (h.each k q t w (omega (arith, lt, same_length ps qs e)));
 }
 
 -- a plan of frames serves patches by their boxes alone
