@@ -1,3 +1,4 @@
+mod Alone
 mod Borders
 mod Exchanged
 pub mod FaceSides

@@ -7,7 +7,7 @@ ghost use Rattle.amr_def.specs.Domain.{domain};
 ghost use Rattle.amr_def.specs.Flux.{net};
 ghost use Rattle.amr_patch.specs.Places.{in_frame};
 ghost use Rattle.amr_patch.specs.Patches.{SameFluxes, SameMarks, box, mass_in, value_in};
-ghost use Rattle.amr_flux.specs.Faces.{IsInDomain, border_faces, fluxes_with, in_reach};
+ghost use Rattle.amr_flux.specs.Faces.{IsInDomain, border_faces, flux_beside, fluxes_with, in_reach};
 ghost use Rattle.amr_flux.specs.Rooms.{widest};
 ghost use Rattle.amr_flux.specs.Shares.{AreSmall};
 
@@ -40,4 +40,26 @@ pub fn update(p: &Problem, l: u32, patch: &mut Patch, border: &[u32], room: &mut
     room.x_share = shape.x;
     room.y_share = shape.y;
     update_cells(p, shape, &mut patch.values, &patch.marks, border, room);
+}
+
+/// Makes the new masses of a patch of level `l` by its own masses and its frame alone: each cell gets what flows in through its
+/// faces. What flows through its border faces follows from the frame too, and is what the patches that own them work out.
+pub fn update_alone(p: &Problem, l: u32, patch: &mut Patch, room: &mut Room)
+    requires level { l ≤ 4 }
+    requires inside { IsInDomain (domain p.now l) (box patch.old) }
+    requires small { (c : Cell) → IsTrue (in_reach (box patch.old) c) → value_in patch.old c < 2 ^ 31 }
+    requires kept { (c : Cell) → IsTrue (holds (box patch.old) c) → pos 0 ≤ℤ (pos (mass_in patch.old c) +ℤ net (flux_beside p.now l patch.old) c) }
+    requires fits { (c : Cell) → IsTrue (holds (box patch.old) c) → (pos (mass_in patch.old c) +ℤ net (flux_beside p.now l patch.old) c) <ℤ pos (2 ^ 32) }
+    requires room { width (box patch.old) ≤ widest room.old }
+    ensures masses { (c : Cell) → IsTrue (holds (box patch.old) c) → pos (mass_in patch.new c) ≡ pos (mass_in patch.old c) +ℤ net (flux_beside p.now l patch.old) c }
+    ensures of_box { box patch.new ≡ box patch.old }
+    ensures frame { (c : Cell) → IsTrue (in_frame (box patch.old) c) → value_in patch.new c ≡ value_in patch.old c }
+    ensures marks { SameMarks patch.old patch.new }
+    ensures fluxes { SameFluxes patch.old patch.new }
+    ensures room { widest room.new ≡ widest room.old }
+{
+    let shape = shape_of(p, l, &patch.bx, room);
+    room.x_share = shape.x;
+    room.y_share = shape.y;
+    update_cells(p, shape, &mut patch.values, &[], &[], room);
 }
