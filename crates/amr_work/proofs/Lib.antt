@@ -4,3 +4,5 @@ pub mod Posting
 pub mod Finishing
 pub mod Sameness
 pub mod Bodies
+pub mod Adding
+pub mod SweptPatch

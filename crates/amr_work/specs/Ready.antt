@@ -9,7 +9,7 @@ use Rattle.amr_def.specs.Flux.{net}
 use Rattle.amr_patch.specs.declared.patches.Patch.{Patch}
 use Rattle.amr_patch.specs.Places.{is_edge_face}
 use Rattle.amr_patch.specs.Patches.{box, mass_in, value_in}
-use Rattle.amr_flux.specs.Faces.{IsInDomain, border_faces, in_reach, owns}
+use Rattle.amr_flux.specs.Faces.{IsInDomain, border_faces, flux_beside, in_reach, owns}
 use Rattle.amr_flux.specs.Rooms.{widest}
 use Rattle.amr_phase.specs.Plans.{PlanOf, planned_face}
 use Rattle.amr_board.specs.Ended.{EndedOf, face_of}
@@ -17,6 +17,7 @@ use Rattle.amr_layout.specs.declared.TaskLayout.{TaskLayout}
 use Rattle.amr_def.specs.declared.problem.Problem.{Problem}
 use Rattle.amr_work.specs.declared.work.Stage.TheVariants.{Raw}
 use Rattle.amr_work.specs.declared.work.Work.{Work}
+use Rattle.amr_work.specs.declared.work.Workspace.{Workspace}
 use Rattle.amr_work.specs.Works.{plain}
 
 -- faces on the edges of a patch that it owns
@@ -28,18 +29,22 @@ pub record HasOwnPosts (q : Patch) (layout : TaskLayout) : Type 0 where
   pub puts : All (λ u. IsTrue (is_edge_face (box q) u.face) × IsTrue (owns q u.face)) layout.puts.items
   pub adds : All (λ a. AreOwnEdges q a.faces.items × (length a.faces.items < 2 ^ 31)) layout.adds.items
 
--- a patch of its level with values below 2^31 in reach, of which no step makes a mass below 0 or one that does not fit, with a
+-- a patch of level l with values below 2^31 in reach, of which no step makes a mass below 0 or one that does not fit, with a
 -- workspace that serves it
-pub record IsReadyPiece (w : Work) : Type 0 where
-  pub level : w.level ≤ 4
-  pub inside : IsInDomain (domain w.problem.value w.level) (box w.body.value.patch)
-  pub small : (c : Cell) → IsTrue (in_reach (box w.body.value.patch) c) → value_in w.body.value.patch c < 2 ^ 31
-  pub kept : (c : Cell) → IsTrue (holds (box w.body.value.patch) c) → pos 0 ≤ℤ (pos (mass_in w.body.value.patch c) +ℤ net (plain w) c)
-  pub fits : (c : Cell) → IsTrue (holds (box w.body.value.patch) c) → (pos (mass_in w.body.value.patch c) +ℤ net (plain w) c) <ℤ pos (2 ^ 32)
-  pub room : width (box w.body.value.patch) ≤ widest w.body.value.workspace.room
-  pub posts : HasOwnPosts w.body.value.patch w.body.value.workspace.layout
-  pub border : length w.body.value.workspace.layout.border.items ≡ length (border_faces w.body.value.patch)
-  pub sizes : length w.body.value.workspace.layout.border.items ≤ length w.body.value.workspace.sizes.items
+pub record IsReady (p : Problem) (l : ℕ) (q : Patch) (s : Workspace) : Type 0 where
+  pub level : l ≤ 4
+  pub inside : IsInDomain (domain p l) (box q)
+  pub small : (c : Cell) → IsTrue (in_reach (box q) c) → value_in q c < 2 ^ 31
+  pub kept : (c : Cell) → IsTrue (holds (box q) c) → pos 0 ≤ℤ (pos (mass_in q c) +ℤ net (flux_beside p l q) c)
+  pub fits : (c : Cell) → IsTrue (holds (box q) c) → (pos (mass_in q c) +ℤ net (flux_beside p l q) c) <ℤ pos (2 ^ 32)
+  pub room : width (box q) ≤ widest s.room
+  pub posts : HasOwnPosts q s.layout
+  pub border : length s.layout.border.items ≡ length (border_faces q)
+  pub sizes : length s.layout.border.items ≤ length s.sizes.items
+
+-- and a piece with such a patch
+abbrev pub IsReadyPiece : Work → Type 0
+IsReadyPiece w = IsReady w.problem.value w.level w.body.value.patch w.body.value.workspace
 
 -- at the place of each of its border faces the plan has what flows through it
 pub record HasBorderPlanned (plan : PlanOf) (w : Work) : Type 0 where

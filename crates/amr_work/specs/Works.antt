@@ -70,3 +70,7 @@ puts_of_work w = map (put_of w) w.body.value.workspace.layout.puts.items
 -- the sums of what flows through the faces of each word
 abbrev pub adds_of_work : Work → List Post
 adds_of_work w = map (add_of w) w.body.value.workspace.layout.adds.items
+
+-- the same by any fluxes e
+abbrev pub adds_by : Fluxes → List AddAt → List Post
+adds_by e adds = map (λ a. record { at = a.word; amount = total (λ (f : Face). unsigned_abs (e f)) a.faces.items }) adds

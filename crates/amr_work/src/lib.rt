@@ -2,6 +2,7 @@
 //! the integration of one grid)
 #![tactic(auto)]
 
+mod alone;
 mod border;
 mod closing;
 mod job;
@@ -9,6 +10,7 @@ mod posts;
 mod sweeping;
 mod work;
 
+pub use alone::step_alone;
 pub use border::finish;
 pub use closing::complete;
 pub use job::{LevelWork, work_level};

@@ -20,7 +20,7 @@ use amr_box::Face;
 use amr_patch::Patch;
 
 /// The sum of the sizes of what flows through faces on the edges of a patch.
-fn sum_through(patch: &Patch, faces: &[Face]) -> u64
+pub(crate) fn sum_through(patch: &Patch, faces: &[Face]) -> u64
     requires edges { All (λ f. IsTrue (is_edge_face (box patch.now) f)) faces.now }
     requires small { All (λ f. unsigned_abs (flux_in patch.now f) < 2 ^ 31) faces.now }
     requires few { length faces.now < 2 ^ 31 }
