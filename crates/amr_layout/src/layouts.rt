@@ -27,10 +27,10 @@ use amr_patch::{Level, Patch, order_of};
 use std::alloc::Global;
 
 /// How many faces or cells a layout may have. More would take more memory than there is, and are refused as that.
-const MOST: u32 = 1 << 30;
+pub(crate) const MOST: u32 = 1 << 30;
 
 /// Counts the faces on the edges of all patches, so that the flows through them add up to less than 2^63.
-fn check_faces(patches: &[Patch]) -> Result<(), NoMemory>
+pub(crate) fn check_faces(patches: &[Patch]) -> Result<(), NoMemory>
     ensures { OnOk result (total (λ q. edge_count (box q)) patches.now ≤ 2 ^ 30) }
 {
     let mut sum = 0;

@@ -4,6 +4,7 @@
 #![tactic(auto)]
 
 mod adds;
+mod alone;
 mod faces;
 mod layouts;
 mod lookup;
@@ -12,6 +13,7 @@ mod registers;
 #[cfg(test)]
 mod tests;
 
+pub use crate::alone::plan_adds;
 pub use crate::layouts::plan;
 use amr_box::Face;
 
