@@ -21,7 +21,7 @@ ghost use Rattle.amr_cycle.specs.Kept.{AreKept, IsKeptLevel};
 use crate::correction::correct;
 use crate::kept::{KeptBelow, KeptLevel, below_for};
 use crate::team::Team;
-use amr_advance::{Regs, advance_kept};
+use amr_advance::{Regs, Workers, advance_kept};
 use amr_box::Bx;
 use amr_causes::NoMemory;
 use amr_patch::Level;
@@ -40,34 +40,33 @@ struct Below {
 /// Makes a step of the finest level.
 fn step_finest<R: Threads + Sync, G: Gate + Sync>(
     team: &Team<'_, R, G>,
-    l: u32,
     level: &mut Level,
     old: Option<&Level>,
     regs: &mut Regs,
     own: &mut KeptLevel,
 ) -> Result<(), NoMemory>
-    requires number { l ≤ 4 }
-    requires part { IsPartOfStep team.now.problem.now l (level_of level.old ∷ []) (old_masses (option_copied old)) }
-    requires coarser { HasCoarser team.now.problem.now l (level_of level.old) (option_copied old) regs.old.coarser }
+    requires number { team.now.level ≤ 4 }
+    requires part { IsPartOfStep team.now.problem.now team.now.level (level_of level.old ∷ []) (old_masses (option_copied old)) }
+    requires coarser { HasCoarser team.now.problem.now team.now.level (level_of level.old) (option_copied old) regs.old.coarser }
     requires finer { regs.old.finer ≡ None }
     requires some_workers { 1 ≤ team.now.workers.count }
     requires few_workers { team.now.workers.count ≤ 64 }
     requires gate { (worker task : ℕ) → worker < team.now.workers.count → G.admits team.now.workers.gate.now worker task }
-    requires inflow { regs.old.inflow + flows_of_step (inflow_beside team.now.problem.now) team.now.problem.now l (level_of level.old ∷ []) (old_masses (option_copied old)) < 2 ^ 63 }
-    requires outflow { regs.old.outflow + flows_of_step (outflow_beside team.now.problem.now) team.now.problem.now l (level_of level.old ∷ []) (old_masses (option_copied old)) < 2 ^ 63 }
-    requires kept { IsKeptLevel team.now.problem.now l own.old }
-    ensures kept { OnOk result (IsKeptLevel team.now.problem.now l own.new) }
-    ensures level { OnOk result (level_of level.new ∷ [] ≡ after_step team.now.problem.now l (level_of level.old ∷ []) (old_masses (option_copied old.entry))) }
+    requires inflow { regs.old.inflow + flows_of_step (inflow_beside team.now.problem.now) team.now.problem.now team.now.level (level_of level.old ∷ []) (old_masses (option_copied old)) < 2 ^ 63 }
+    requires outflow { regs.old.outflow + flows_of_step (outflow_beside team.now.problem.now) team.now.problem.now team.now.level (level_of level.old ∷ []) (old_masses (option_copied old)) < 2 ^ 63 }
+    requires kept { IsKeptLevel team.now.problem.now team.now.level own.old }
+    ensures kept { OnOk result (IsKeptLevel team.now.problem.now team.now.level own.new) }
+    ensures level { OnOk result (level_of level.new ∷ [] ≡ after_step team.now.problem.now team.now.level (level_of level.old ∷ []) (old_masses (option_copied old.entry))) }
     ensures patches { OnOk result (map box (patches_of level.new) ≡ map box (patches_of level.old)) }
-    ensures coarser { OnOk result (BothChange (gained team.now.problem.now l (level_of level.old).masses (flux_at team.now.problem.now l (level_of level.old).masses (old_masses (option_copied old.entry)))) regs.old.coarser regs.new.coarser) }
+    ensures coarser { OnOk result (BothChange (gained team.now.problem.now team.now.level (level_of level.old).masses (flux_at team.now.problem.now team.now.level (level_of level.old).masses (old_masses (option_copied old.entry)))) regs.old.coarser regs.new.coarser) }
     ensures finer { OnOk result (regs.new.finer ≡ None) }
-    ensures inflow { OnOk result (regs.new.inflow ≡ regs.old.inflow + flows_of_step (inflow_beside team.now.problem.now) team.now.problem.now l (level_of level.old ∷ []) (old_masses (option_copied old.entry))) }
-    ensures outflow { OnOk result (regs.new.outflow ≡ regs.old.outflow + flows_of_step (outflow_beside team.now.problem.now) team.now.problem.now l (level_of level.old ∷ []) (old_masses (option_copied old.entry))) }
+    ensures inflow { OnOk result (regs.new.inflow ≡ regs.old.inflow + flows_of_step (inflow_beside team.now.problem.now) team.now.problem.now team.now.level (level_of level.old ∷ []) (old_masses (option_copied old.entry))) }
+    ensures outflow { OnOk result (regs.new.outflow ≡ regs.old.outflow + flows_of_step (outflow_beside team.now.problem.now) team.now.problem.now team.now.level (level_of level.old ∷ []) (old_masses (option_copied old.entry))) }
 {
     advance_kept(
         &team.workers,
         team.problem,
-        l,
+        team.level,
         level,
         old,
         None,
@@ -80,45 +79,51 @@ fn step_finest<R: Threads + Sync, G: Gate + Sync>(
 /// coarse-fine edges.
 fn step_coarse<R: Threads + Sync, G: Gate + Sync>(
     team: &Team<'_, R, G>,
-    l: u32,
     level: &mut Level,
     next: &Level,
     old: Option<&Level>,
     regs: &mut Regs,
     own: &mut KeptLevel,
 ) -> Result<Below, NoMemory>
-    requires number { l ≤ 3 }
-    requires part { IsCoarsePart team.now.problem.now l (level_of level.old) (level_of next.now) (old_masses (option_copied old)) }
-    requires coarser { HasCoarser team.now.problem.now l (level_of level.old) (option_copied old) regs.old.coarser }
+    requires number { team.now.level ≤ 3 }
+    requires part { IsCoarsePart team.now.problem.now team.now.level (level_of level.old) (level_of next.now) (old_masses (option_copied old)) }
+    requires coarser { HasCoarser team.now.problem.now team.now.level (level_of level.old) (option_copied old) regs.old.coarser }
     requires some_workers { 1 ≤ team.now.workers.count }
     requires few_workers { team.now.workers.count ≤ 64 }
     requires gate { (worker task : ℕ) → worker < team.now.workers.count → G.admits team.now.workers.gate.now worker task }
-    requires inflow { regs.old.inflow + inflow_beside team.now.problem.now l (is_uncovered (level_of level.old).masses (level_of next.now).masses) (flux_at team.now.problem.now l (level_of level.old).masses (old_masses (option_copied old))) < 2 ^ 63 }
-    requires outflow { regs.old.outflow + outflow_beside team.now.problem.now l (is_uncovered (level_of level.old).masses (level_of next.now).masses) (flux_at team.now.problem.now l (level_of level.old).masses (old_masses (option_copied old))) < 2 ^ 63 }
-    requires kept { IsKeptLevel team.now.problem.now l own.old }
+    requires inflow { regs.old.inflow + inflow_beside team.now.problem.now team.now.level (is_uncovered (level_of level.old).masses (level_of next.now).masses) (flux_at team.now.problem.now team.now.level (level_of level.old).masses (old_masses (option_copied old))) < 2 ^ 63 }
+    requires outflow { regs.old.outflow + outflow_beside team.now.problem.now team.now.level (is_uncovered (level_of level.old).masses (level_of next.now).masses) (flux_at team.now.problem.now team.now.level (level_of level.old).masses (old_masses (option_copied old))) < 2 ^ 63 }
+    requires kept { IsKeptLevel team.now.problem.now team.now.level own.old }
     ensures layout { OnOk result (IfSome own.new.layout (IsKept team.now.problem.now)) }
     ensures before { IfOk result (λ b. level_of b.before ≡ level_of level.old) }
     ensures finer_boxes { IfOk result (λ b. (c : Cell) → is_some ((level_of next.now).masses c) ≡ in_boxes b.finer.items c) }
-    ensures masses { OnOk result ((level_of level.new).masses ≡ updated (level_of level.old).masses (flux_at team.now.problem.now l (level_of level.old).masses (old_masses (option_copied old.entry)))) }
+    ensures masses { OnOk result ((level_of level.new).masses ≡ updated (level_of level.old).masses (flux_at team.now.problem.now team.now.level (level_of level.old).masses (old_masses (option_copied old.entry)))) }
     ensures boxes { OnOk result ((level_of level.new).boxes ≡ (level_of level.old).boxes) }
     ensures patches { OnOk result (map box (patches_of level.new) ≡ map box (patches_of level.old)) }
-    ensures register { IfOk result (λ b. SomeHasEntries team.now.problem.now l (level_of level.old).masses (level_of next.now).masses (λ c. neg_ℤ (edge_part team.now.problem.now l (level_of level.old) (old_masses (option_copied old.entry)) (level_of next.now).masses c)) b.regs.coarser) }
-    ensures coarser { OnOk result (BothChange (gained team.now.problem.now l (level_of level.old).masses (flux_at team.now.problem.now l (level_of level.old).masses (old_masses (option_copied old.entry)))) regs.old.coarser regs.new.coarser) }
+    ensures register { IfOk result (λ b. SomeHasEntries team.now.problem.now team.now.level (level_of level.old).masses (level_of next.now).masses (λ c. neg_ℤ (edge_part team.now.problem.now team.now.level (level_of level.old) (old_masses (option_copied old.entry)) (level_of next.now).masses c)) b.regs.coarser) }
+    ensures coarser { OnOk result (BothChange (gained team.now.problem.now team.now.level (level_of level.old).masses (flux_at team.now.problem.now team.now.level (level_of level.old).masses (old_masses (option_copied old.entry)))) regs.old.coarser regs.new.coarser) }
     ensures finer { OnOk result (regs.new.finer ≡ None) }
     ensures no_finer { IfOk result (λ b. b.regs.finer ≡ None) }
-    ensures inflow { IfOk result (λ b. b.regs.inflow ≡ regs.old.inflow + inflow_beside team.now.problem.now l (is_uncovered (level_of level.old).masses (level_of next.now).masses) (flux_at team.now.problem.now l (level_of level.old).masses (old_masses (option_copied old.entry)))) }
-    ensures outflow { IfOk result (λ b. b.regs.outflow ≡ regs.old.outflow + outflow_beside team.now.problem.now l (is_uncovered (level_of level.old).masses (level_of next.now).masses) (flux_at team.now.problem.now l (level_of level.old).masses (old_masses (option_copied old.entry)))) }
+    ensures inflow { IfOk result (λ b. b.regs.inflow ≡ regs.old.inflow + inflow_beside team.now.problem.now team.now.level (is_uncovered (level_of level.old).masses (level_of next.now).masses) (flux_at team.now.problem.now team.now.level (level_of level.old).masses (old_masses (option_copied old.entry)))) }
+    ensures outflow { IfOk result (λ b. b.regs.outflow ≡ regs.old.outflow + outflow_beside team.now.problem.now team.now.level (is_uncovered (level_of level.old).masses (level_of next.now).masses) (flux_at team.now.problem.now team.now.level (level_of level.old).masses (old_masses (option_copied old.entry)))) }
 {
     let KeptBelow {
         before,
         finer,
         register,
-    } = below_for(team.alloc, team.problem, l, level, next, &mut own.below)?;
+    } = below_for(
+        team.alloc,
+        team.problem,
+        team.level,
+        level,
+        next,
+        &mut own.below,
+    )?;
     regs.finer = Some(register);
     advance_kept(
         &team.workers,
         team.problem,
-        l,
+        team.level,
         level,
         old,
         Some(next),
@@ -161,44 +166,48 @@ fn kept_of(below: Below) -> Option<KeptBelow>
 /// open sides beside cells that no finer level covers, in all steps that are made.
 pub(crate) fn step_levels<R: Threads + Sync, G: Gate + Sync>(
     team: &Team<'_, R, G>,
-    l: u32,
     level: &mut Level,
     finer: &mut [Level],
     old: Option<&Level>,
     regs: &mut Regs,
     kept: &mut [KeptLevel],
 ) -> Result<(), NoMemory>
-    requires few { l + length finer.old ≤ 4 }
-    requires part { IsPartOfStep team.now.problem.now l (level_of level.old ∷ map level_of finer.old) (old_masses (option_copied old)) }
-    requires coarser { HasCoarser team.now.problem.now l (level_of level.old) (option_copied old) regs.old.coarser }
+    requires few { team.now.level + length finer.old ≤ 4 }
+    requires part { IsPartOfStep team.now.problem.now team.now.level (level_of level.old ∷ map level_of finer.old) (old_masses (option_copied old)) }
+    requires coarser { HasCoarser team.now.problem.now team.now.level (level_of level.old) (option_copied old) regs.old.coarser }
     requires finer { regs.old.finer ≡ None }
     requires coarsenable { All (λ k. AreCoarsenable (patches_of k)) finer.old }
     requires some_workers { 1 ≤ team.now.workers.count }
     requires few_workers { team.now.workers.count ≤ 64 }
     requires gate { (worker task : ℕ) → worker < team.now.workers.count → G.admits team.now.workers.gate.now worker task }
-    requires inflow { regs.old.inflow + flows_of_step (inflow_beside team.now.problem.now) team.now.problem.now l (level_of level.old ∷ map level_of finer.old) (old_masses (option_copied old)) < 2 ^ 63 }
-    requires outflow { regs.old.outflow + flows_of_step (outflow_beside team.now.problem.now) team.now.problem.now l (level_of level.old ∷ map level_of finer.old) (old_masses (option_copied old)) < 2 ^ 63 }
-    requires kept { AreKept team.now.problem.now l kept.old }
+    requires inflow { regs.old.inflow + flows_of_step (inflow_beside team.now.problem.now) team.now.problem.now team.now.level (level_of level.old ∷ map level_of finer.old) (old_masses (option_copied old)) < 2 ^ 63 }
+    requires outflow { regs.old.outflow + flows_of_step (outflow_beside team.now.problem.now) team.now.problem.now team.now.level (level_of level.old ∷ map level_of finer.old) (old_masses (option_copied old)) < 2 ^ 63 }
+    requires kept { AreKept team.now.problem.now team.now.level kept.old }
     requires room { length finer.old < length kept.old }
-    ensures kept { OnOk result (AreKept team.now.problem.now l kept.new) }
+    ensures kept { OnOk result (AreKept team.now.problem.now team.now.level kept.new) }
     ensures kept_count { OnOk result (length kept.new ≡ length kept.old) }
-    ensures levels { OnOk result (level_of level.new ∷ map level_of finer.new ≡ after_step team.now.problem.now l (level_of level.old ∷ map level_of finer.old) (old_masses (option_copied old.entry))) }
+    ensures levels { OnOk result (level_of level.new ∷ map level_of finer.new ≡ after_step team.now.problem.now team.now.level (level_of level.old ∷ map level_of finer.old) (old_masses (option_copied old.entry))) }
     ensures patches { OnOk result (patch_boxes (level.new ∷ finer.new) ≡ patch_boxes (level.old ∷ finer.old)) }
-    ensures coarser { OnOk result (BothChange (gained team.now.problem.now l (level_of level.old).masses (flux_at team.now.problem.now l (level_of level.old).masses (old_masses (option_copied old.entry)))) regs.old.coarser regs.new.coarser) }
+    ensures coarser { OnOk result (BothChange (gained team.now.problem.now team.now.level (level_of level.old).masses (flux_at team.now.problem.now team.now.level (level_of level.old).masses (old_masses (option_copied old.entry)))) regs.old.coarser regs.new.coarser) }
     ensures finer { OnOk result (regs.new.finer ≡ None) }
-    ensures inflow { OnOk result (regs.new.inflow ≡ regs.old.inflow + flows_of_step (inflow_beside team.now.problem.now) team.now.problem.now l (level_of level.old ∷ map level_of finer.old) (old_masses (option_copied old.entry))) }
-    ensures outflow { OnOk result (regs.new.outflow ≡ regs.old.outflow + flows_of_step (outflow_beside team.now.problem.now) team.now.problem.now l (level_of level.old ∷ map level_of finer.old) (old_masses (option_copied old.entry))) }
+    ensures inflow { OnOk result (regs.new.inflow ≡ regs.old.inflow + flows_of_step (inflow_beside team.now.problem.now) team.now.problem.now team.now.level (level_of level.old ∷ map level_of finer.old) (old_masses (option_copied old.entry))) }
+    ensures outflow { OnOk result (regs.new.outflow ≡ regs.old.outflow + flows_of_step (outflow_beside team.now.problem.now) team.now.problem.now team.now.level (level_of level.old ∷ map level_of finer.old) (old_masses (option_copied old.entry))) }
 {
     let Some((own, others)) = kept.split_first_mut() else {
         unreachable!()
     };
     let Some((next, finest)) = finer.split_first_mut() else {
-        return step_finest(team, l, level, old, regs, own);
+        return step_finest(team, level, old, regs, own);
     };
-    let mut below = step_coarse(team, l, level, next, old, regs, own)?;
+    let mut below = step_coarse(team, level, next, old, regs, own)?;
     let before = Some(&below.before);
-    step_levels(team, l + 1, next, finest, before, &mut below.regs, others)?;
-    step_levels(team, l + 1, next, finest, before, &mut below.regs, others)?;
+    let finer_team = Team {
+        level: team.level + 1,
+        workers: Workers { ..team.workers },
+        ..*team
+    };
+    step_levels(&finer_team, next, finest, before, &mut below.regs, others)?;
+    step_levels(&finer_team, next, finest, before, &mut below.regs, others)?;
     correct(level, &below.regs.coarser, next);
     regs.inflow = below.regs.inflow;
     regs.outflow = below.regs.outflow;

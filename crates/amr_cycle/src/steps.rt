@@ -20,6 +20,7 @@ use amr_causes::NoMemory;
 use amr_def::{Problem, Row};
 use amr_patch::{Level, Mesh};
 use amr_workers::Gate;
+use std::alloc::Global;
 use std::thread::Threads;
 
 /// What flowed through the open sides of the domain.
@@ -31,24 +32,32 @@ struct Flows {
 
 /// Makes a step of all levels of a state.
 fn step_all<R: Threads + Sync, G: Gate + Sync>(
-    team: &Team<'_, R, G>,
+    alloc: Global,
+    p: &Problem,
+    workers: Workers<'_, R, G>,
     levels: &mut [Level],
     kept: &mut [KeptLevel],
 ) -> Result<Flows, NoMemory>
-    requires to_come { HasStepToCome team.now.problem.now (map level_of levels.old) }
+    requires to_come { HasStepToCome p.now (map level_of levels.old) }
     requires coarsenable { AreCoarsenableAbove levels.old }
-    requires some_workers { 1 ≤ team.now.workers.count }
-    requires few_workers { team.now.workers.count ≤ 64 }
-    requires gate { (worker task : ℕ) → worker < team.now.workers.count → G.admits team.now.workers.gate.now worker task }
-    requires kept { AreKept team.now.problem.now 0 kept.old }
+    requires some_workers { 1 ≤ workers.count }
+    requires few_workers { workers.count ≤ 64 }
+    requires gate { (worker task : ℕ) → worker < workers.count → G.admits workers.gate.now worker task }
+    requires kept { AreKept p.now 0 kept.old }
     requires room { length levels.old ≤ length kept.old }
-    ensures kept { OnOk result (AreKept team.now.problem.now 0 kept.new) }
+    ensures kept { OnOk result (AreKept p.now 0 kept.new) }
     ensures kept_count { OnOk result (length kept.new ≡ length kept.old) }
-    ensures levels { OnOk result (map level_of levels.new ≡ after_step team.now.problem.now 0 (map level_of levels.old) no_masses) }
+    ensures levels { OnOk result (map level_of levels.new ≡ after_step p.now 0 (map level_of levels.old) no_masses) }
     ensures patches { OnOk result (patch_boxes levels.new ≡ patch_boxes levels.old) }
-    ensures inflow { IfOk result (λ f. f.inflow ≡ flows_of_step (inflow_beside team.now.problem.now) team.now.problem.now 0 (map level_of levels.old) no_masses) }
-    ensures outflow { IfOk result (λ f. f.outflow ≡ flows_of_step (outflow_beside team.now.problem.now) team.now.problem.now 0 (map level_of levels.old) no_masses) }
+    ensures inflow { IfOk result (λ f. f.inflow ≡ flows_of_step (inflow_beside p.now) p.now 0 (map level_of levels.old) no_masses) }
+    ensures outflow { IfOk result (λ f. f.outflow ≡ flows_of_step (outflow_beside p.now) p.now 0 (map level_of levels.old) no_masses) }
 {
+    let team = Team {
+        alloc,
+        problem: p,
+        level: 0,
+        workers,
+    };
     let mut regs = Regs {
         coarser: None,
         finer: None,
@@ -57,7 +66,7 @@ fn step_all<R: Threads + Sync, G: Gate + Sync>(
     };
     match levels.split_first_mut() {
         None => unreachable!(),
-        Some((base, finer)) => step_levels(team, 0, base, finer, None, &mut regs, kept)?,
+        Some((base, finer)) => step_levels(&team, base, finer, None, &mut regs, kept)?,
     }
     Ok(Flows {
         inflow: regs.inflow,
@@ -124,17 +133,20 @@ pub fn step_kept<R: Threads + Sync, G: Gate + Sync>(
 {
     let number = mesh.step();
     let (mut rows, mut levels) = mesh.take();
-    let team = Team {
-        alloc: *rows.allocator(),
-        problem: p,
-        workers: Workers {
-            runtime: rt,
-            gate,
-            count: crew.workers,
-        },
+    let workers = Workers {
+        runtime: rt,
+        gate,
+        count: crew.workers,
     };
-    let mut of_levels = make_room(team.alloc, kept.levels.take(), levels.len())?;
-    let flows = step_all(&team, levels.as_mut_slice(), of_levels.as_mut_slice())?;
+    let alloc = *rows.allocator();
+    let mut of_levels = make_room(alloc, kept.levels.take(), levels.len())?;
+    let flows = step_all(
+        alloc,
+        p,
+        workers,
+        levels.as_mut_slice(),
+        of_levels.as_mut_slice(),
+    )?;
     kept.levels = Some(of_levels);
     let last = rows[number as usize];
     rows.push(Row {

@@ -17,6 +17,13 @@ use crate::giving::give;
 use amr_box::Cell;
 use amr_patch::{Level, Order, Patch, find_near};
 
+/// The masses of the children of cells of a row: those of their lower row, and those of the upper one.
+#[derive(Clone, Copy)]
+struct Children<'a> {
+    lower: &'a [u32],
+    upper: &'a [u32],
+}
+
 /// Adds up fours of children: two neighbours of the lower row and the two above them.
 fn sum_rows(lower: &[u32], upper: &[u32], sums: &mut [u32])
     requires lower { 2 * length sums.old ≤ length lower.now }
@@ -33,21 +40,21 @@ fn sum_rows(lower: &[u32], upper: &[u32], sums: &mut [u32])
 
 /// Gives cells of a row of a patch, from one of them on, the sums of their children. It stops at the patch's high end, and after
 /// as many as there is room for. Answers how many it gave.
-fn sum_in_patch(patch: &mut Patch, c: Cell, lower: &[u32], upper: &[u32], room: &mut [u32]) -> usize
+fn sum_in_patch(patch: &mut Patch, c: Cell, children: Children<'_>, room: &mut [u32]) -> usize
     requires inside { IsTrue (holds (box patch.old) c) }
-    requires some { 2 ≤ length lower.now }
-    requires same { length upper.now ≡ length lower.now }
-    requires fits { (k : ℕ) → 2 * k + 1 < length lower.now → four_at lower.now upper.now k < 2 ^ 32 }
+    requires some { 2 ≤ length children.lower.now }
+    requires same { length children.upper.now ≡ length children.lower.now }
+    requires fits { (k : ℕ) → 2 * k + 1 < length children.lower.now → four_at children.lower.now children.upper.now k < 2 ^ 32 }
     requires room { length room.old ≡ 256 }
     ensures some { 0 < result }
-    ensures within { 2 * result ≤ length lower.now }
+    ensures within { 2 * result ≤ length children.entry.lower.now }
     ensures inside { (c.x +ℤ pos result) ≤ℤ ((box patch.old).hi.x +ℤ pos 1) }
-    ensures given { (mass : Cell → ℕ) → ((k : ℕ) → 2 * k + 1 < length lower.now → four_at lower.now upper.now k ≡ mass (cell (c.x +ℤ pos k) c.y)) → IsGiven (holds (span c result)) mass patch.old patch.new }
+    ensures given { (mass : Cell → ℕ) → ((k : ℕ) → 2 * k + 1 < length children.entry.lower.now → four_at children.entry.lower.now children.entry.upper.now k ≡ mass (cell (c.x +ℤ pos k) c.y)) → IsGiven (holds (span c result)) mass patch.old patch.new }
 {
-    let count = (lower.len() / 2)
+    let count = (children.lower.len() / 2)
         .min(room.len())
         .min(cells_from(&patch.bx(), c));
-    sum_rows(lower, upper, &mut room[..count]);
+    sum_rows(children.lower, children.upper, &mut room[..count]);
     give(patch, c, &room[..count]);
     count
 }
@@ -59,24 +66,23 @@ fn sum_span(
     order: Order,
     near: &mut usize,
     c: Cell,
-    lower: &[u32],
-    upper: &[u32],
+    children: Children<'_>,
     room: &mut [u32],
 ) -> usize
     requires order { IsOrderOf order patches.old }
     requires apart { ArePatchesApart patches.old }
     requires there { IsTrue (in_patches patches.old c) }
-    requires some { 2 ≤ length lower.now }
-    requires same { length upper.now ≡ length lower.now }
-    requires fits { (k : ℕ) → 2 * k + 1 < length lower.now → four_at lower.now upper.now k < 2 ^ 32 }
+    requires some { 2 ≤ length children.lower.now }
+    requires same { length children.upper.now ≡ length children.lower.now }
+    requires fits { (k : ℕ) → 2 * k + 1 < length children.lower.now → four_at children.lower.now children.upper.now k < 2 ^ 32 }
     requires room { length room.old ≡ 256 }
     ensures some { 0 < result }
-    ensures within { 2 * result ≤ length lower.now }
-    ensures given { (mass : Cell → ℕ) → ((k : ℕ) → 2 * k + 1 < length lower.now → four_at lower.now upper.now k ≡ mass (cell (c.x +ℤ pos k) c.y)) → Pairwise (IsGiven (holds (span c result)) mass) patches.old patches.new }
+    ensures within { 2 * result ≤ length children.entry.lower.now }
+    ensures given { (mass : Cell → ℕ) → ((k : ℕ) → 2 * k + 1 < length children.entry.lower.now → four_at children.entry.lower.now children.entry.upper.now k ≡ mass (cell (c.x +ℤ pos k) c.y)) → Pairwise (IsGiven (holds (span c result)) mass) patches.old patches.new }
 {
     match find_near(patches, order, near, c) {
         None => unreachable!(),
-        Some(j) => sum_in_patch(&mut patches[j], c, lower, upper, room),
+        Some(j) => sum_in_patch(&mut patches[j], c, children, room),
     }
 }
 
@@ -116,15 +122,11 @@ fn sum_row(
     let mut done = 0;
     while done < count {
         let from = 2 * done;
-        done += sum_span(
-            patches,
-            order,
-            near,
-            ahead(c, done as u32),
-            &lower[from..],
-            &upper[from..],
-            room,
-        );
+        let rest = Children {
+            lower: &lower[from..],
+            upper: &upper[from..],
+        };
+        done += sum_span(patches, order, near, ahead(c, done as u32), rest, room);
     }
 }
 

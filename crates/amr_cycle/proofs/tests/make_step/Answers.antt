@@ -2,7 +2,7 @@ use Rattle.std.proofs.Common.{◌≡◌, List, [], ◌∷◌, ap, arith}
 use Rattle.amr_patch.specs.declared.levels.Level.{Level as Held}
 use Rattle.amr_cycle.specs.Cycles.{AreCoarsenableAbove, patch_boxes}
 use Rattle.amr_cycle.proofs.Coarsenable.{all_coarsenable, same_count}
-use Rattle.amr_cycle.proofs.Keeping.{on_ok_map}
+use Rattle.std.proofs.lemmas.Result.{on_ok_weaker}
 use Rattle.amr_cycle.proofs.tests.make_step.Goals as goal
 
 rest : {X : Type 0} → List X → List X
@@ -18,4 +18,4 @@ above_alike (x ∷ hs) (y ∷ gs) e h = all_coarsenable hs gs (ap rest e) h
 
 pub returns-then-step-p-clause-coarsenable : goal.returns-then-step-p-clause-coarsenable
 returns-then-step-p-clause-coarsenable g c =
-    on_ok_map c.step_kept.result (λ e. above_alike _ _ e c.requires.coarsenable) c.step_kept.ensures.patches
+    on_ok_weaker c.step_kept.result (λ e. above_alike _ _ e c.requires.coarsenable) c.step_kept.ensures.patches

@@ -1,6 +1,7 @@
 use Rattle.std.proofs.Common.{arith, ◌∙◌}
 use Rattle.amr_patch.specs.Meshes.{state_of}
-use Rattle.amr_cycle.proofs.Keeping.{on_ok_both, on_ok_map}
+use Rattle.std.proofs.lemmas.Result.{on_ok_weaker}
+use Rattle.amr_cycle.proofs.Keeping.{on_ok_both}
 use Rattle.amr_drive.proofs.Kept.{chopped_after, coarsenable}
 use Rattle.amr_drive.proofs.NextStates.{next_is, same_step}
 use Rattle.amr_drive.proofs.nexts.make_next.Goals as goal
@@ -15,7 +16,7 @@ step_kept-requires-clause-coarsenable g c κs within =
 
 pub returns-clause-value : goal.returns-clause-value
 returns-clause-value g c =
-    on_ok_map c.step_kept.result (λ e. e ∙ next_is c.args.team.now.problem.now (state_of c.args.mesh.now) (state_of c.regrid_if_due.new.mesh) c.in_ok-regrid_if_due.ensures.value) c.step_kept.ensures.value
+    on_ok_weaker c.step_kept.result (λ e. e ∙ next_is c.args.team.now.problem.now (state_of c.args.mesh.now) (state_of c.regrid_if_due.new.mesh) c.in_ok-regrid_if_due.ensures.value) c.step_kept.ensures.value
 
 pub returns-clause-patches : goal.returns-clause-patches
 returns-clause-patches g c =

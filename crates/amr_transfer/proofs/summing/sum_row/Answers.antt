@@ -52,11 +52,11 @@ ahead-requires-clause-small c = let s = sides (box c.args.fine.now) c.args.fine.
 pub overflow_cast-done : goal.overflow_cast-done
 overflow_cast-done c = let s = sides (box c.args.fine.now) c.args.fine.now.near in omega (arith, c.loop-done-test.true, c.children_row-lower.ensures.count, s.narrow)
 
-pub slice_bounds-sum_span-count-in-loop-done : goal.slice_bounds-sum_span-count-in-loop-done
-slice_bounds-sum_span-count-in-loop-done c = omega (arith, c.loop-done-test.true, c.children_row-lower.ensures.count, c.children_row-upper.ensures.count)
+pub slice_bounds-rest-count-in-loop-done : goal.slice_bounds-rest-count-in-loop-done
+slice_bounds-rest-count-in-loop-done c = omega (arith, c.loop-done-test.true, c.children_row-lower.ensures.count, c.children_row-upper.ensures.count)
 
-pub slice_bounds-sum_span-start-in-loop-done : goal.slice_bounds-sum_span-start-in-loop-done
-slice_bounds-sum_span-start-in-loop-done c = omega (arith, c.loop-done-test.true, c.children_row-lower.ensures.count, c.children_row-upper.ensures.count)
+pub slice_bounds-rest-start-in-loop-done : goal.slice_bounds-rest-start-in-loop-done
+slice_bounds-rest-start-in-loop-done c = omega (arith, c.loop-done-test.true, c.children_row-lower.ensures.count, c.children_row-upper.ensures.count)
 
 pub sum_span-done-requires-clause-order : goal.sum_span-done-requires-clause-order
 sum_span-done-requires-clause-order c = kept_order c.args.order c.args.patches.now c.loop-done.patches (all_kept (holds (span c.args.c c.loop-done.done)) (children_in c.args.fine.now) c.args.patches.now c.loop-done.patches c.loop-done.invariant.given) c.requires.order
