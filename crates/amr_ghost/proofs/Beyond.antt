@@ -5,7 +5,7 @@ use Rattle.std.specs.declared.option.Option.{Option}
 use Rattle.std.specs.declared.option.Option.TheVariants.{None}
 use Rattle.std.specs.Option.{unwrap_or}
 use Rattle.std.proofs.lemmas.Int.{ints}
-use Rattle.std.proofs.lemmas.Bool.{false_from_ne_true}
+use Rattle.std.proofs.lemmas.Bool.{cond-false, cond-true, false_from_ne_true}
 use Rattle.amr_box.specs.declared.Cell.{Cell}
 use Rattle.amr_box.specs.declared.Axis.{Axis}
 use Rattle.amr_box.specs.declared.Axis.TheVariants.{X, Y}
@@ -65,14 +65,6 @@ inflow_ahead p l Y h k first here out = by_column (below_or_not h.x (pos 0)) (be
     by_column (inr from) (inr above) = east_inflow p l (step Y h k) from above ∙ sym (east_inflow p l h from above)
     by_column (inr from) (inl to) = absurd (clash (in_both (domain p l) h (inside_of (columns p l) h.x from to) first) out)
 
-cond_true : (t : Bool) (a b : ℕ) → t ≡ true → cond t a b ≡ a
-cond_true true a b e = refl
-cond_true false a b e = absurd (cc)
-
-cond_false : (t : Bool) (a b : ℕ) → t ≡ false → cond t a b ≡ b
-cond_false false a b e = refl
-cond_false true a b e = absurd (cc)
-
 module _ (p : Problem) (l : ℕ) (ps : List Patch) (old : Masses) (b : Extent) (axis : Axis) (c h : Cell) (count : ℕ) (home : h ≡ home_cell (domain p l) c) (some : 0 < count) (strip : IsGhostStrip (domain p l) b axis c count) where
   home_is : (k : ℕ) → k < count → step axis h k ≡ home_cell (domain p l) (step axis c k)
   home_is k t = sym (strip_home (domain p l) b axis c h count k home some t strip)
@@ -108,7 +100,7 @@ module _ (p : Problem) (l : ℕ) (ps : List Patch) (old : Masses) (b : Extent) (
       value k t =
           is
           ∙ ap (λ (n : ℕ). n / 4 ^ l) (sym (inflow_ahead p l axis h k home_in (further_in k t) out))
-          ∙ sym (cond_false (in_domain (domain p l) (step axis h k)) (mass_of old (parent (step axis h k)) / 4) (inflow_at p l (step axis h k) / 4 ^ l) (same_domain k t ∙ out))
+          ∙ sym (cond-false (in_domain (domain p l) (step axis h k)) (mass_of old (parent (step axis h k)) / 4) (inflow_at p l (step axis h k) / 4 ^ l) (same_domain k t ∙ out))
 
   -- in a gap of the domain each cell has a quarter of what its parent had
   pub gap_given : (n : ℕ) → n ≤ count → in_domain (domain p l) h ≡ true → ((k : ℕ) → k < n → in_patches ps (step axis h k) ≡ false) → AreGiven (value_at p l (masses_in ps) old) (is_of_level p l (masses_in ps)) axis c n (λ k. mass_of old (parent (step axis h k)) / 4) false
@@ -124,7 +116,7 @@ module _ (p : Problem) (l : ℕ) (ps : List Patch) (old : Masses) (b : Extent) (
       none k t = masses_in-none ps (step axis h k) (gap k t)
 
       value : (k : ℕ) → k < count → mass_of old (parent (step axis h k)) / 4 ≡ cond (in_domain (domain p l) (step axis h k)) (mass_of old (parent (step axis h k)) / 4) (inflow_at p l (step axis h k) / 4 ^ l)
-      value k t = sym (cond_true (in_domain (domain p l) (step axis h k)) (mass_of old (parent (step axis h k)) / 4) (inflow_at p l (step axis h k) / 4 ^ l) (same_domain k t ∙ here))
+      value k t = sym (cond-true (in_domain (domain p l) (step axis h k)) (mass_of old (parent (step axis h k)) / 4) (inflow_at p l (step axis h k) / 4 ^ l) (same_domain k t ∙ here))
 
 -- ---- the masses of the coarser level
 

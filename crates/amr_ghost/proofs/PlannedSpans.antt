@@ -165,10 +165,6 @@ whole_spans ps ss i west east south north = record { at = λ q c h. beside_of (�
 pub still_whole : (ps : List Patch) (ss ts : List Span) (i : ℕ) → KeepSpans ss ts → HaveFrame ps ss i → HaveFrame ps ts i
 still_whole ps ss ts i kept h = record { at = λ q c t. kept.at i c (h.at q c t) }
 
-pub on_ok_map : {T E : Type 0} (r : Result T E) (P Q : Type 0) → (P → Q) → OnOk r P → OnOk r Q
-on_ok_map (Ok x) P Q f h = f h
-on_ok_map (Err e) P Q f h = tt
-
 pub on_ok_both : {T E : Type 0} (r : Result T E) (P Q R : Type 0) → (P → Q → R) → OnOk r P → OnOk r Q → OnOk r R
 on_ok_both (Ok x) P Q R f h k = f h k
 on_ok_both (Err e) P Q R f h k = tt

@@ -1,5 +1,6 @@
 use Rattle.std.proofs.Common.{◌≡◌, ◌∙◌, map, sym, ap}
-use Rattle.std.specs.Prelude.{Result, Ok, Err, IfOk, is_some}
+use Rattle.std.proofs.lemmas.Result.{IfOk-weaker}
+use Rattle.std.specs.Prelude.{is_some}
 use Rattle.std.specs.Option.{option_copied}
 use Rattle.amr_box.specs.declared.Cell.{Cell}
 use Rattle.amr_def.specs.State.{in_boxes}
@@ -9,13 +10,9 @@ use Rattle.amr_patch.specs.Patches.{box}
 use Rattle.amr_alike.proofs.SameBoxes.{some_in_boxes}
 use Rattle.amr_advance.proofs.kept.finer_boxes.Goals as goal
 
-if_ok_map : {T E : Type 0} (r : Result T E) (P Q : T → Type 0) → ((x : T) → P x → Q x) → IfOk r P → IfOk r Q
-if_ok_map (Ok x) P Q f h = f x h
-if_ok_map (Err e) P Q f h = tt
-
 pub returns-in-Some : goal.returns-in-Some
 returns-in-Some c =
-    if_ok_map c.boxes_of.result (λ bs. bs.items ≡ map box c.patches.result.now) (λ bs. (k : Cell) → is_some (finer_masses (option_copied c.args.finer) k) ≡ in_boxes bs.items k)
+    IfOk-weaker c.boxes_of.result (λ bs. bs.items ≡ map box c.patches.result.now) (λ bs. (k : Cell) → is_some (finer_masses (option_copied c.args.finer) k) ≡ in_boxes bs.items k)
     (λ bs e k.
     ap (λ o. is_some (finer_masses (option_copied o) k)) c.in-Some.is
     ∙ some_in_boxes (level_of c.in-Some.level.now).masses c.patches.result.now bs.items c.patches.ensures.masses (sym e) k)

@@ -1,6 +1,7 @@
 use Rattle.amr_ghost.specs.declared.sides.Side.TheVariants.{East, North, South, West}
 use Rattle.amr_ghost.specs.Plans.{HaveFrame, KeepSpans}
-use Rattle.amr_ghost.proofs.PlannedSpans.{HaveSide, keep_trans, on_ok_both, on_ok_map, still_have, whole_spans}
+use Rattle.std.proofs.lemmas.Result.{on_ok_weaker}
+use Rattle.amr_ghost.proofs.PlannedSpans.{HaveSide, keep_trans, on_ok_both, still_have, whole_spans}
 use Rattle.amr_ghost.proofs.plan.plan_frame.Goals as goal
 
 pub returns-clause-kept : goal.returns-clause-kept
@@ -12,7 +13,7 @@ returns-clause-kept c =
     let s4 = c.plan_side-4.new.spans.items in
     let two = keep_trans s0 s1 s2 c.in_ok-plan_side.ensures.kept c.in_ok-plan_side-2.ensures.kept in
     let three = keep_trans s0 s2 s3 two c.in_ok-plan_side-3.ensures.kept in
-    on_ok_map c.plan_side-4.result (KeepSpans s3 s4) (KeepSpans s0 s4) (λ h. keep_trans s0 s3 s4 three h) c.plan_side-4.ensures.kept
+    on_ok_weaker {P = KeepSpans s3 s4} {Q = KeepSpans s0 s4} c.plan_side-4.result (λ h. keep_trans s0 s3 s4 three h) c.plan_side-4.ensures.kept
 
 pub returns-clause-made : goal.returns-clause-made
 returns-clause-made c =

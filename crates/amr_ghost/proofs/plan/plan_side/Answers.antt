@@ -7,7 +7,8 @@ use Rattle.amr_ghost.specs.Filling.{LiesInDomain, side_axis, side_count, size_al
 use Rattle.amr_ghost.specs.Plans.{HaveStrip}
 use Rattle.amr_ghost.proofs.Levels.{few_along}
 use Rattle.amr_ghost.proofs.BoxSides.{box_lies, same_box, side_few, strip_of}
-use Rattle.amr_ghost.proofs.PlannedSpans.{HaveSide, on_ok_map, side_strips}
+use Rattle.std.proofs.lemmas.Result.{on_ok_weaker}
+use Rattle.amr_ghost.proofs.PlannedSpans.{HaveSide, side_strips}
 use Rattle.amr_ghost.proofs.plan.plan_side.Goals as goal
 
 pub plan_strip-requires-clause-small : goal.plan_strip-requires-clause-small
@@ -35,6 +36,6 @@ returns-clause-made c =
     let i = c.args.target.patch in
     let ss = c.plan_strip.new.spans.items in
     let strip = c.side_strip-strip.result in
-    on_ok_map c.plan_strip.result (HaveStrip ss i strip.axis strip.from strip.count) (HaveSide ps ss i c.args.side)
+    on_ok_weaker {P = HaveStrip ss i strip.axis strip.from strip.count} {Q = HaveSide ps ss i c.args.side} c.plan_strip.result
     (λ h. side_strips ps ss i c.args.side strip.axis strip.from strip.count c.bx.result (λ q. same_box ps i c.index-patches-target.result q c.bx.result c.requires.there (c.bx.ensures.value ∙ ap box c.index-patches-target.is)) c.side_strip-strip.ensures.axis c.side_strip-strip.ensures.from c.side_strip-strip.ensures.count h)
     c.plan_strip.ensures.made
