@@ -1,7 +1,7 @@
 //! Cells of a strip.
 
-ghost use Rattle.std.specs.Prelude.{◌≡◌, ◌<◌, ◌≤◌, pos, negsuc, ◌+ℤ◌, ◌≤ℤ◌, ◌<ℤ◌, IsTrue};
-ghost use Rattle.amr_box.specs.Cells.{IsNear, along, holds, parent};
+ghost use Rattle.std.specs.Prelude.{◌≡◌, ◌+◌, ◌*◌, ◌<◌, ◌≤◌, pos, negsuc, ◌+ℤ◌, ◌≤ℤ◌, ◌<ℤ◌, IsTrue};
+ghost use Rattle.amr_box.specs.Cells.{IsNear, along, holds, near_limit, parent};
 ghost use Rattle.amr_def.specs.Regrid.{odd};
 ghost use Rattle.amr_ghost.specs.Strips.{HasRoom, step};
 
@@ -27,9 +27,9 @@ pub(crate) fn step(axis: Axis, c: Cell, k: u32) -> Cell
 
 /// How many numbers there are from one to another, both of them counted.
 fn count_to(low: i32, high: i32) -> u32
-    requires from { negsuc 33554432 <ℤ low }
+    requires from { negsuc (2 * near_limit) <ℤ low }
     requires order { low ≤ℤ high }
-    requires to { high <ℤ pos 33554436 }
+    requires to { high <ℤ pos (2 * near_limit + 4) }
     ensures some { 0 < result }
     ensures end { (low +ℤ pos result) ≡ high +ℤ pos 1 }
 {

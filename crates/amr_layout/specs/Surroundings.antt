@@ -6,7 +6,7 @@ use Rattle.amr_box.specs.declared.Cell.{Cell}
 use Rattle.amr_box.specs.declared.Face.{Face}
 use Rattle.amr_box.specs.declared.Axis.{Axis}
 use Rattle.amr_box.specs.declared.Axis.TheVariants.{X, Y}
-use Rattle.amr_box.specs.Cells.{Extent, height, holds, width}
+use Rattle.amr_box.specs.Cells.{Extent, height, holds, near_limit, width}
 use Rattle.amr_def.specs.declared.problem.Problem.{Problem}
 use Rattle.amr_def.specs.Domain.{Domain, columns, domain, home_cell, in_domain, is_inside, rows}
 use Rattle.amr_def.specs.State.{Masses, no_masses}
@@ -87,17 +87,17 @@ is_coarse_fine s b f =
 
 -- coordinates lie between -2^25 and 2^25, so that those of children fit 32 bits
 pub record IsReachable (c : Cell) : Type 0 where
-  pub west : negsuc 33554432 <ℤ c.x
-  pub east : c.x <ℤ pos 33554433
-  pub south : negsuc 33554432 <ℤ c.y
-  pub north : c.y <ℤ pos 33554433
+  pub west : negsuc (2 * near_limit) <ℤ c.x
+  pub east : c.x <ℤ pos (2 * near_limit + 1)
+  pub south : negsuc (2 * near_limit) <ℤ c.y
+  pub north : c.y <ℤ pos (2 * near_limit + 1)
 
 -- a face of a cell whose coordinates lie between -2^24 and 2^24
 pub record IsNearFace (f : Face) : Type 0 where
-  pub west : negsuc 16777216 <ℤ f.x
-  pub east : f.x <ℤ pos 16777218
-  pub south : negsuc 16777216 <ℤ f.y
-  pub north : f.y <ℤ pos 16777218
+  pub west : negsuc near_limit <ℤ f.x
+  pub east : f.x <ℤ pos (near_limit + 2)
+  pub south : negsuc near_limit <ℤ f.y
+  pub north : f.y <ℤ pos (near_limit + 2)
 
 -- ---- rows and columns
 

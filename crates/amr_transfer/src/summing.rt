@@ -2,7 +2,7 @@
 
 ghost use Rattle.std.specs.Prelude.{◌≡◌, ℕ, ◌+◌, ◌*◌, ◌<◌, ◌≤◌, ◌^◌, pos, negsuc, ◌+ℤ◌, ◌≤ℤ◌, ◌<ℤ◌, length, slice_index, IsSome, IsTrue};
 ghost use Rattle.amr_box.specs.declared.Cell.{Cell};
-ghost use Rattle.amr_box.specs.Cells.{cell, child, has_child_where, holds, parent, width, within};
+ghost use Rattle.amr_box.specs.Cells.{cell, child, has_child_where, holds, near_limit, parent, width, within};
 ghost use Rattle.amr_def.specs.Facts.{IsAligned};
 ghost use Rattle.amr_def.specs.State.{children_mass};
 ghost use Rattle.amr_patch.specs.Levels.{level_of, patches_of};
@@ -88,8 +88,8 @@ fn sum_span(
 
 /// The masses of a row of a fine patch over a row of cells: the lower row of their children for `k` 0, the upper one for 1.
 fn children_row(fine: &Patch, c: Cell, k: u32) -> &[u32]
-    requires from { negsuc 16777216 <ℤ c.y }
-    requires to { c.y <ℤ pos 16777217 }
+    requires from { negsuc near_limit <ℤ c.y }
+    requires to { c.y <ℤ pos (near_limit + 1) }
     requires of_row { k ≤ 1 }
     requires there { IsTrue (within (box fine.now).lo.y (box fine.now).hi.y (c.y +ℤ c.y +ℤ pos k)) }
     ensures { IsRow fine.now (c.y +ℤ c.y +ℤ pos k) result.now }
