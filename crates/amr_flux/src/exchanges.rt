@@ -10,6 +10,14 @@ use crate::shape::Shape;
 use crate::x_faces::is_end_marked;
 use crate::y_faces::is_top_marked;
 
+/// The border faces of a patch: the marks that tell which they are, and the sizes of what flows through them, first of the x faces
+/// by y, then of the y faces by x.
+#[derive(Clone, Copy)]
+pub(crate) struct Border<'a> {
+    pub(crate) marks: &'a [bool],
+    pub(crate) sizes: &'a [u32],
+}
+
 /// The mass of a cell, where `size` is to flow through the face at its high side in place of `share`, each the way of a Courant
 /// number. Sums wrap at 2^32: both high faces of a corner cell may be exchanged, and only after both is its mass known to fit.
 #[inline(always)]
@@ -55,30 +63,31 @@ fn top_share(down: bool, pace: Pace, shape: Shape, values: &[u32], across: &[u32
     }
 }
 
-/// Exchanges what flows through the marked faces at the top of a patch for the sizes handed in, after its rows are gone over.
+/// Exchanges what flows through the marked faces at the top of a patch for the sizes handed in, of these faces alone, after its
+/// rows are gone over.
+#[inline(always)]
 pub(crate) fn exchange_tops(
     down: bool,
     pace: Pace,
     shape: Shape,
-    marks: &[bool],
-    sizes: &[u32],
+    border: Border<'_>,
     across: &[u32],
     values: &mut [u32],
 )
     requires value_count { length values.old ≡ (shape.h + 2) * (shape.w + 2) }
     requires width { length across.now ≡ shape.w }
     requires fit { (i : ℕ) → i < shape.w → IsFit pace (value shape.w values.old (i + 1) (shape.h + 1)) }
-    requires enough { count_below (y_marked shape.w shape.h marks.now) shape.w ≤ length sizes.now }
-    ensures tops { (i : ℕ) (z : ℤ) → i < shape.w → IsWordOf z (value shape.w values.old (i + 1) shape.h) → IsWordOf (z +ℤ (signed pace.y.number (top_share down pace shape.w shape.h values.old across.now i) -ℤ cond (y_marked shape.w shape.h marks.now i) (signed pace.y.number (slice_index sizes.now (count_below (y_marked shape.w shape.h marks.now) i))) (signed pace.y.number (top_share down pace shape.w shape.h values.old across.now i)))) (value shape.w values.new (i + 1) shape.h) }
+    requires enough { count_below (y_marked shape.w shape.h border.marks.now) shape.w ≤ length border.sizes.now }
+    ensures tops { (i : ℕ) (z : ℤ) → i < shape.w → IsWordOf z (value shape.w values.old (i + 1) shape.h) → IsWordOf (z +ℤ (signed pace.y.number (top_share down pace shape.w shape.h values.old across.now i) -ℤ cond (y_marked shape.w shape.h border.entry.marks.now i) (signed pace.y.number (slice_index border.entry.sizes.now (count_below (y_marked shape.w shape.h border.entry.marks.now) i))) (signed pace.y.number (top_share down pace shape.w shape.h values.old across.now i)))) (value shape.w values.new (i + 1) shape.h) }
     ensures others { (k : ℕ) → ((i : ℕ) → i < shape.w → k ≢ shape.h * (shape.w + 2) + (i + 1)) → slice_index values.new k ≡ slice_index values.old k }
 {
     let mut used = 0;
     let row = shape.h * (shape.w + 2);
     for i in 0..shape.w {
-        if is_top_marked(shape, marks, i) {
+        if is_top_marked(shape, border.marks, i) {
             let share = top_share(down, pace, shape, values, across, i);
             let at = row + (i + 1);
-            values[at] = exchanged(pace.y.number, share, sizes[used], values[at]);
+            values[at] = exchanged(pace.y.number, share, border.sizes[used], values[at]);
             used += 1;
         }
     }

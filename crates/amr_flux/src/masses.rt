@@ -11,6 +11,7 @@ ghost use Rattle.amr_flux.specs.Faces.{IsInDomain, border_faces, flux_beside, fl
 ghost use Rattle.amr_flux.specs.Rooms.{widest};
 ghost use Rattle.amr_flux.specs.Shares.{AreSmall};
 
+use crate::exchanges::Border;
 use crate::one_pass::update_cells;
 use crate::room::Room;
 use crate::shape::shape_of;
@@ -39,7 +40,11 @@ pub fn update(p: &Problem, l: u32, patch: &mut Patch, border: &[u32], room: &mut
     let shape = shape_of(p, l, &patch.bx, room);
     room.x_share = shape.x;
     room.y_share = shape.y;
-    update_cells(p, shape, &mut patch.values, &patch.marks, border, room);
+    let border = Border {
+        marks: &patch.marks,
+        sizes: border,
+    };
+    update_cells(p, shape, &mut patch.values, border, room);
 }
 
 /// Makes the new masses of a patch of level `l` by its own masses and its frame alone: each cell gets what flows in through its
@@ -61,5 +66,9 @@ pub fn update_alone(p: &Problem, l: u32, patch: &mut Patch, room: &mut Room)
     let shape = shape_of(p, l, &patch.bx, room);
     room.x_share = shape.x;
     room.y_share = shape.y;
-    update_cells(p, shape, &mut patch.values, &[], &[], room);
+    let none = Border {
+        marks: &[],
+        sizes: &[],
+    };
+    update_cells(p, shape, &mut patch.values, none, room);
 }

@@ -4,7 +4,7 @@ ghost use Rattle.std.specs.Prelude.{◌≡◌, ◌≢◌, ℕ, ◌+◌, ◌*◌,
 ghost use Rattle.amr_flux.specs.Paces.{AreFit, GoesWith, IsFitPatch, IsWordOf, mass_by_ends, mass_with, row_at, row_before, y_share};
 ghost use Rattle.amr_flux.specs.Tables.{IsOtherPlace, count_below, value, x_marked, y_marked};
 
-use crate::exchanges::{count_ends, exchange_tops, exchanged};
+use crate::exchanges::{Border, count_ends, exchange_tops, exchanged};
 use crate::pace::Pace;
 use crate::row_steps::step_row_in;
 use crate::shape::Shape;
@@ -29,8 +29,7 @@ fn step_rows(
     down: bool,
     pace: Pace,
     shape: Shape,
-    marks: &[bool],
-    border: &[u32],
+    border: Border<'_>,
     across: &mut [u32],
     values: &mut [u32],
 ) -> usize
@@ -39,20 +38,20 @@ fn step_rows(
     requires value_count { length values.old ≡ (shape.h + 2) * (shape.w + 2) }
     requires way { GoesWith down pace.y.number }
     requires fit { IsFitPatch pace shape.w shape.h values.old }
-    requires enough { count_below (x_marked shape.w marks.now) shape.h ≤ length border.now }
+    requires enough { count_below (x_marked shape.w border.marks.now) shape.h ≤ length border.sizes.now }
     requires entering { (i : ℕ) → i < shape.w → slice_index across.old i ≡ y_share pace (value shape.w values.old (i + 1) (row_before down shape.h 0)) }
-    ensures ends { result ≡ count_below (x_marked shape.w marks.now) shape.h }
-    ensures cells { (i j : ℕ) → i < shape.w → j < shape.h → IsWordOf (mass_by_ends pace shape.w marks.now border.now values.old i j) (value shape.w values.new (i + 1) (j + 1)) }
+    ensures ends { result ≡ count_below (x_marked shape.w border.entry.marks.now) shape.h }
+    ensures cells { (i j : ℕ) → i < shape.w → j < shape.h → IsWordOf (mass_by_ends pace shape.w border.entry.marks.now border.entry.sizes.now values.old i j) (value shape.w values.new (i + 1) (j + 1)) }
     ensures leaving { (i : ℕ) → i < shape.w → slice_index across.new i ≡ y_share pace (value shape.w values.old (i + 1) (row_before down shape.h shape.h)) }
     ensures others { (k : ℕ) → IsOtherPlace shape.w shape.h k → slice_index values.new k ≡ slice_index values.old k }
 {
-    let ends = count_ends(shape, marks);
+    let ends = count_ends(shape, border.marks);
     let mut used = 0;
     for k in 0..shape.h {
         let j = row_at(down, shape.h, k);
         let share = step_row_in(down, pace, j, values, across);
-        if is_end_marked(shape, marks, j) {
-            let size = border[row_at(down, ends, used)];
+        if is_end_marked(shape, border.marks, j) {
+            let size = border.sizes[row_at(down, ends, used)];
             let at = (j + 1) * (shape.w + 2) + shape.w;
             values[at] = exchanged(pace.x.number, share, size, values[at]);
             used += 1;
@@ -89,8 +88,7 @@ fn step_in_order(
     down: bool,
     pace: Pace,
     shape: Shape,
-    marks: &[bool],
-    border: &[u32],
+    border: Border<'_>,
     across: &mut [u32],
     values: &mut [u32],
 )
@@ -100,25 +98,29 @@ fn step_in_order(
     requires value_count { length values.old ≡ (shape.h + 2) * (shape.w + 2) }
     requires way { GoesWith down pace.y.number }
     requires fit { IsFitPatch pace shape.w shape.h values.old }
-    requires enough { count_below (x_marked shape.w marks.now) shape.h + count_below (y_marked shape.w shape.h marks.now) shape.w ≤ length border.now }
-    requires kept { (i j : ℕ) → i < shape.w → j < shape.h → pos 0 ≤ℤ mass_with pace shape.w shape.h marks.now border.now values.old i j }
-    requires fits { (i j : ℕ) → i < shape.w → j < shape.h → mass_with pace shape.w shape.h marks.now border.now values.old i j <ℤ pos (2 ^ 32) }
-    ensures made { (i j : ℕ) → i < shape.w → j < shape.h → pos (value shape.w values.new (i + 1) (j + 1)) ≡ mass_with pace shape.w shape.h marks.now border.now values.old i j }
+    requires enough { count_below (x_marked shape.w border.marks.now) shape.h + count_below (y_marked shape.w shape.h border.marks.now) shape.w ≤ length border.sizes.now }
+    requires kept { (i j : ℕ) → i < shape.w → j < shape.h → pos 0 ≤ℤ mass_with pace shape.w shape.h border.marks.now border.sizes.now values.old i j }
+    requires fits { (i j : ℕ) → i < shape.w → j < shape.h → mass_with pace shape.w shape.h border.marks.now border.sizes.now values.old i j <ℤ pos (2 ^ 32) }
+    ensures made { (i j : ℕ) → i < shape.w → j < shape.h → pos (value shape.w values.new (i + 1) (j + 1)) ≡ mass_with pace shape.w shape.h border.entry.marks.now border.entry.sizes.now values.old i j }
     ensures others { (k : ℕ) → IsOtherPlace shape.w shape.h k → slice_index values.new k ≡ slice_index values.old k }
 {
     let from = first_row(down, shape.h) * (shape.w + 2) + 1;
     row_sizes(pace, &values[from..from + shape.w], across);
-    let ends = step_rows(down, pace, shape, marks, border, across, values);
-    exchange_tops(down, pace, shape, marks, &border[ends..], across, values);
+    let ends = step_rows(down, pace, shape, border, across, values);
+    let tops = Border {
+        marks: border.marks,
+        sizes: &border.sizes[ends..],
+    };
+    exchange_tops(down, pace, shape, tops, across, values);
 }
 
 /// Gives each cell of a patch what comes in through its faces, in one pass over its rows: by the values on their two sides, and for
 /// border faces by the sizes handed in. `across` is room for a row.
+#[inline(always)]
 pub(crate) fn step_cells(
     pace: Pace,
     shape: Shape,
-    marks: &[bool],
-    border: &[u32],
+    border: Border<'_>,
     across: &mut [u32],
     values: &mut [u32],
 )
@@ -127,15 +129,15 @@ pub(crate) fn step_cells(
     requires some_rows { 0 < shape.h }
     requires value_count { length values.old ≡ (shape.h + 2) * (shape.w + 2) }
     requires fit { IsFitPatch pace shape.w shape.h values.old }
-    requires enough { count_below (x_marked shape.w marks.now) shape.h + count_below (y_marked shape.w shape.h marks.now) shape.w ≤ length border.now }
-    requires kept { (i j : ℕ) → i < shape.w → j < shape.h → pos 0 ≤ℤ mass_with pace shape.w shape.h marks.now border.now values.old i j }
-    requires fits { (i j : ℕ) → i < shape.w → j < shape.h → mass_with pace shape.w shape.h marks.now border.now values.old i j <ℤ pos (2 ^ 32) }
-    ensures made { (i j : ℕ) → i < shape.w → j < shape.h → pos (value shape.w values.new (i + 1) (j + 1)) ≡ mass_with pace shape.w shape.h marks.now border.now values.old i j }
+    requires enough { count_below (x_marked shape.w border.marks.now) shape.h + count_below (y_marked shape.w shape.h border.marks.now) shape.w ≤ length border.sizes.now }
+    requires kept { (i j : ℕ) → i < shape.w → j < shape.h → pos 0 ≤ℤ mass_with pace shape.w shape.h border.marks.now border.sizes.now values.old i j }
+    requires fits { (i j : ℕ) → i < shape.w → j < shape.h → mass_with pace shape.w shape.h border.marks.now border.sizes.now values.old i j <ℤ pos (2 ^ 32) }
+    ensures made { (i j : ℕ) → i < shape.w → j < shape.h → pos (value shape.w values.new (i + 1) (j + 1)) ≡ mass_with pace shape.w shape.h border.entry.marks.now border.entry.sizes.now values.old i j }
     ensures others { (k : ℕ) → IsOtherPlace shape.w shape.h k → slice_index values.new k ≡ slice_index values.old k }
 {
     if pace.y.number < 0 {
-        step_in_order(true, pace, shape, marks, border, across, values);
+        step_in_order(true, pace, shape, border, across, values);
     } else {
-        step_in_order(false, pace, shape, marks, border, across, values);
+        step_in_order(false, pace, shape, border, across, values);
     }
 }

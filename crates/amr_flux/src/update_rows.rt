@@ -6,6 +6,7 @@ ghost use Rattle.amr_flux.specs.Rooms.{widest};
 ghost use Rattle.amr_flux.specs.Shares.{AreSmall};
 ghost use Rattle.amr_flux.specs.Tables.{AreXSmall, AreYSmall, IsOtherPlace, count_below, net_inflow, value, x_marked, x_through, y_marked, y_through};
 
+use crate::exchanges::Border;
 use crate::room::Room;
 use crate::rows::update_patch_row;
 use crate::shape::Shape;
@@ -20,8 +21,7 @@ pub(crate) fn update_rows(
     p: &Problem,
     shape: Shape,
     values: &mut [u32],
-    marks: &[bool],
-    border: &[u32],
+    border: Border<'_>,
     room: &mut Room,
 )
     requires level { shape.level ≤ 4 }
@@ -30,13 +30,13 @@ pub(crate) fn update_rows(
     requires value_count { length values.old ≡ (shape.h + 2) * (shape.w + 2) }
     requires some { 0 < shape.h }
     requires room { shape.w ≤ widest room.old }
-    requires enough { count_below (x_marked shape.w marks.now) shape.h + count_below (y_marked shape.w shape.h marks.now) shape.w ≤ length border.now }
-    requires border_small { AreSmall border.now }
+    requires enough { count_below (x_marked shape.w border.marks.now) shape.h + count_below (y_marked shape.w shape.h border.marks.now) shape.w ≤ length border.sizes.now }
+    requires border_small { AreSmall border.sizes.now }
     requires x_small { AreXSmall shape.w shape.h values.old }
     requires y_small { AreYSmall shape.w shape.h values.old }
-    requires kept { (i j : ℕ) → i < shape.w → j < shape.h → pos 0 ≤ℤ (pos (value shape.w values.old (i + 1) (j + 1)) +ℤ net_inflow (x_through p.now shape.level shape.row shape.w marks.now border.now values.old) (y_through p.now shape.level shape.column shape.w shape.h marks.now border.now values.old) i j) }
-    requires fits { (i j : ℕ) → i < shape.w → j < shape.h → (pos (value shape.w values.old (i + 1) (j + 1)) +ℤ net_inflow (x_through p.now shape.level shape.row shape.w marks.now border.now values.old) (y_through p.now shape.level shape.column shape.w shape.h marks.now border.now values.old) i j) <ℤ pos (2 ^ 32) }
-    ensures made { (i j : ℕ) → i < shape.w → j < shape.h → pos (value shape.w values.new (i + 1) (j + 1)) ≡ pos (value shape.w values.old (i + 1) (j + 1)) +ℤ net_inflow (x_through p.now shape.level shape.row shape.w marks.now border.now values.old) (y_through p.now shape.level shape.column shape.w shape.h marks.now border.now values.old) i j }
+    requires kept { (i j : ℕ) → i < shape.w → j < shape.h → pos 0 ≤ℤ (pos (value shape.w values.old (i + 1) (j + 1)) +ℤ net_inflow (x_through p.now shape.level shape.row shape.w border.marks.now border.sizes.now values.old) (y_through p.now shape.level shape.column shape.w shape.h border.marks.now border.sizes.now values.old) i j) }
+    requires fits { (i j : ℕ) → i < shape.w → j < shape.h → (pos (value shape.w values.old (i + 1) (j + 1)) +ℤ net_inflow (x_through p.now shape.level shape.row shape.w border.marks.now border.sizes.now values.old) (y_through p.now shape.level shape.column shape.w shape.h border.marks.now border.sizes.now values.old) i j) <ℤ pos (2 ^ 32) }
+    ensures made { (i j : ℕ) → i < shape.w → j < shape.h → pos (value shape.w values.new (i + 1) (j + 1)) ≡ pos (value shape.w values.old (i + 1) (j + 1)) +ℤ net_inflow (x_through p.now shape.level shape.row shape.w border.entry.marks.now border.entry.sizes.now values.old) (y_through p.now shape.level shape.column shape.w shape.h border.entry.marks.now border.entry.sizes.now values.old) i j }
     ensures others { (k : ℕ) → IsOtherPlace shape.w shape.h k → slice_index values.new k ≡ slice_index values.old k }
     ensures room { widest room.new ≡ widest room.old }
 {
@@ -47,10 +47,24 @@ pub(crate) fn update_rows(
     for j in 0..shape.h {
         share = share.with(p.x_courant(shape.level, shape.row + j as u32), p.d);
         x_row(p, shape, share, values, j, &mut room.x);
-        let marked = is_end_marked(shape, marks, j);
-        used = set_end(share.number, marked, border, used, shape.w, &mut room.x);
+        let marked = is_end_marked(shape, border.marks, j);
+        used = set_end(
+            share.number,
+            marked,
+            border.sizes,
+            used,
+            shape.w,
+            &mut room.x,
+        );
         y_row(p, shape, values, j + 1, &room.shares, &mut room.high);
-        set_top(p, shape, j, marks, &border[used..], &mut room.high);
+        set_top(
+            p,
+            shape,
+            j,
+            border.marks,
+            &border.sizes[used..],
+            &mut room.high,
+        );
         update_patch_row(shape, j, values, room);
         std::mem::swap(&mut room.low, &mut room.high);
     }

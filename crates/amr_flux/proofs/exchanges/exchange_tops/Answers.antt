@@ -11,24 +11,24 @@ use Rattle.amr_flux.proofs.Exchanged.{others_more, share_still, still, tops_more
 use Rattle.amr_flux.proofs.exchanges.exchange_tops.Goals as goal
 use Rattle.amr_flux.proofs.exchanges.exchange_tops.Goals.{then-is_top_marked, else-is_top_marked}
 
-pub bounds-sizes-used : goal.bounds-sizes-used
-bounds-sizes-used c =
-    let test : ℕ → Bool = y_marked c.args.shape.w c.args.shape.h c.args.marks.now in
+pub bounds-border-used : goal.bounds-border-used
+bounds-border-used c =
+    let test : ℕ → Bool = y_marked c.args.shape.w c.args.shape.h c.args.border.marks.now in
     let is : test c.loop-i.i ≡ true = search rules in
     count_less test c.loop-i.i c.args.shape.w _ _ is (search rules) c.requires.enough c.loop-i.invariant.used
 
-pub offset_bounds-sizes-used : goal.offset_bounds-sizes-used
-offset_bounds-sizes-used c =
-    let test : ℕ → Bool = y_marked c.args.shape.w c.args.shape.h c.args.marks.now in
+pub offset_bounds-border-used : goal.offset_bounds-border-used
+offset_bounds-border-used c =
+    let test : ℕ → Bool = y_marked c.args.shape.w c.args.shape.h c.args.border.marks.now in
     let is : test c.loop-i.i ≡ true = search rules in
-    let below : c.loop-i.used < length c.args.sizes.now = count_less test c.loop-i.i c.args.shape.w _ _ is (search rules) c.requires.enough c.loop-i.invariant.used in
+    let below : c.loop-i.used < length c.args.border.sizes.now = count_less test c.loop-i.i c.args.shape.w _ _ is (search rules) c.requires.enough c.loop-i.invariant.used in
     search rules
 
 pub overflow_add-used : goal.overflow_add-used
 overflow_add-used c =
-    let test : ℕ → Bool = y_marked c.args.shape.w c.args.shape.h c.args.marks.now in
+    let test : ℕ → Bool = y_marked c.args.shape.w c.args.shape.h c.args.border.marks.now in
     let is : test c.loop-i.i ≡ true = search rules in
-    let below : c.loop-i.used < length c.args.sizes.now = count_less test c.loop-i.i c.args.shape.w _ _ is (search rules) c.requires.enough c.loop-i.invariant.used in
+    let below : c.loop-i.used < length c.args.border.sizes.now = count_less test c.loop-i.i c.args.shape.w _ _ is (search rules) c.requires.enough c.loop-i.invariant.used in
     search rules
 
 pub loop-i-preserved : goal.loop-i-preserved
@@ -39,13 +39,13 @@ loop-i-preserved c =
     let h = c.args.shape.h in
     let i = c.loop-i.i in
     let across = c.args.across.now in
-    let test : ℕ → Bool = y_marked w h c.args.marks.now in
+    let test : ℕ → Bool = y_marked w h c.args.border.marks.now in
     let old = c.args.values.now in
     let values = c.loop-i.values in
     let new = c.if-is_top_marked.values in
     let at = h * (w + 2) + (i + 1) in
     let frame : ℕ → ℤ = λ t. signed pace.y.number (top_share b pace w h old across t) in
-    let size : ℕ → ℤ = λ t. signed pace.y.number (slice_index c.args.sizes.now (count_below test t)) in
+    let size : ℕ → ℤ = λ t. signed pace.y.number (slice_index c.args.border.sizes.now (count_below test t)) in
     let f : ℕ → ℤ = λ t. frame t -ℤ cond (test t) (size t) (frame t) in
     let column : i < w = c.loop-i-test.true in
     let before = c.loop-i.invariant.others in
@@ -60,7 +60,7 @@ loop-i-preserved c =
           let share : e.top_share-share.result ≡ top_share b pace w h old across i = e.top_share-share.ensures ∙ share_still w h i values old new f column before stays b pace across in
           let number_fits : SFits w32 pace.y.number = search rules in
           let exchanged = rw to_z-of_z at e.exchanged.ensures in
-          let here : turned = λ z has. word_same ((λ t. z +ℤ (signed pace.y.number (share t) -ℤ signed pace.y.number (slice_index c.args.sizes.now (c.loop-i.invariant.used t)))) ∙ ap (λ m. z +ℤ (frame i -ℤ cond m (size i) (frame i))) (sym marked)) is (exchanged z has) in
+          let here : turned = λ z has. word_same ((λ t. z +ℤ (signed pace.y.number (share t) -ℤ signed pace.y.number (slice_index c.args.border.sizes.now (c.loop-i.invariant.used t)))) ∙ ap (λ m. z +ℤ (frame i -ℤ cond m (size i) (frame i))) (sym marked)) is (exchanged z has) in
           record {
             used = e.used-is ∙ ap (λ n. n + 1) c.loop-i.invariant.used ∙ sym (count_next test i marked);
             tops = tops_more w h i values old new f column before stays here c.loop-i.invariant.tops;

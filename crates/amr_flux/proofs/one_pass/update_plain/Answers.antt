@@ -12,18 +12,18 @@ step_cells-requires-clause-kept c = λ i j hi hj.
     let s = c.args.shape in
     let e = c.of-pace.ensures in
     let P : ℤ → Type 0 = λ z. pos 0 ≤ℤ z in
-    subst P (sym (mass_is c.args.p.now s.level c.of-pace.result s.w s.h s.column s.row c.args.marks.now c.args.border.now c.args.values.now c.requires.one_x c.requires.one_y e.x_number e.x_parts e.y_number e.y_parts i j)) (c.requires.kept i j hi hj)
+    subst P (sym (mass_is c.args.p.now s.level c.of-pace.result s.w s.h s.column s.row c.args.border.marks.now c.args.border.sizes.now c.args.values.now c.requires.one_x c.requires.one_y e.x_number e.x_parts e.y_number e.y_parts i j)) (c.requires.kept i j hi hj)
 
 pub step_cells-requires-clause-fits : goal.step_cells-requires-clause-fits
 step_cells-requires-clause-fits c = λ i j hi hj.
     let s = c.args.shape in
     let e = c.of-pace.ensures in
     let P : ℤ → Type 0 = λ z. z <ℤ pos (2 ^ 32) in
-    subst P (sym (mass_is c.args.p.now s.level c.of-pace.result s.w s.h s.column s.row c.args.marks.now c.args.border.now c.args.values.now c.requires.one_x c.requires.one_y e.x_number e.x_parts e.y_number e.y_parts i j)) (c.requires.fits i j hi hj)
+    subst P (sym (mass_is c.args.p.now s.level c.of-pace.result s.w s.h s.column s.row c.args.border.marks.now c.args.border.sizes.now c.args.values.now c.requires.one_x c.requires.one_y e.x_number e.x_parts e.y_number e.y_parts i j)) (c.requires.fits i j hi hj)
 
 pub returns-clause-made : goal.returns-clause-made
 returns-clause-made c = λ i j hi hj.
     let s = c.args.shape in
     let e = c.of-pace.ensures in
     c.step_cells.ensures.made i j hi hj
-    ∙ mass_is c.args.p.now s.level c.of-pace.result s.w s.h s.column s.row c.args.marks.now c.args.border.now c.args.values.now c.requires.one_x c.requires.one_y e.x_number e.x_parts e.y_number e.y_parts i j
+    ∙ mass_is c.args.p.now s.level c.of-pace.result s.w s.h s.column s.row c.args.border.marks.now c.args.border.sizes.now c.args.values.now c.requires.one_x c.requires.one_y e.x_number e.x_parts e.y_number e.y_parts i j

@@ -29,15 +29,15 @@ exchange_tops-requires-clause-fit c = λ i hi.
     fits_still c.args.pace _ _ (later w h c.step_rows-ends.new.values c.args.values.now c.step_rows-ends.ensures.others (h + 1) (i + 1) _ (omega arith) (omega (arith, hi)) refl) (c.requires.fit.y i (h + 1) hi (omega arith))
 
 pub exchange_tops-requires-clause-enough : goal.exchange_tops-requires-clause-enough
-exchange_tops-requires-clause-enough c = omega (arith, c.requires.enough, c.step_rows-ends.ensures.ends, length-drop c.step_rows-ends.result c.args.border.now)
+exchange_tops-requires-clause-enough c = omega (arith, c.requires.enough, c.step_rows-ends.ensures.ends, length-drop c.step_rows-ends.result c.args.border.sizes.now)
 
 pub returns-clause-made : goal.returns-clause-made
 returns-clause-made c = λ i j hi hj.
     let pace = c.args.pace in
     let w = c.args.shape.w in
     let h = c.args.shape.h in
-    let marks = c.args.marks.now in
-    let border = c.args.border.now in
+    let marks = c.args.border.marks.now in
+    let border = c.args.border.sizes.now in
     let old = c.args.values.now in
     let ended = c.step_rows-ends.new.values in
     let rest = take (length border - c.step_rows-ends.result) (drop c.step_rows-ends.result border) in

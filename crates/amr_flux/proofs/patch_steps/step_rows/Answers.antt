@@ -17,7 +17,7 @@ loop-k-init c = record {
   made = λ i j hi hj d. absurd (none_done c.args.down _ j hj d);
   others = λ q undone. refl;
   passed = c.requires.entering;
-  used = counted_none c.args.down (x_marked c.args.shape.w c.args.marks.now) c.args.shape.h;
+  used = counted_none c.args.down (x_marked c.args.shape.w c.args.border.marks.now) c.args.shape.h;
 }
 
 pub step_row_in-share-requires-clause-inside : goal.step_row_in-share-requires-clause-inside
@@ -46,8 +46,8 @@ loop-k-preserved c =
     let w = c.args.shape.w in
     let h = c.args.shape.h in
     let k = c.loop-k.k in
-    let marks = c.args.marks.now in
-    let border = c.args.border.now in
+    let marks = c.args.border.marks.now in
+    let border = c.args.border.sizes.now in
     let test : ℕ → Bool = x_marked w marks in
     let old = c.args.values.now in
     let values = c.loop-k.values in
@@ -106,7 +106,7 @@ row_at-requires c =
     let b = c.args.down in
     let w = c.args.shape.w in
     let h = c.args.shape.h in
-    let test : ℕ → Bool = x_marked w c.args.marks.now in
+    let test : ℕ → Bool = x_marked w c.args.border.marks.now in
     let here : test c.row_at-j.result ≡ true = search rules in
     let marked : test (row_at b h c.loop-k.k) ≡ true = ap test (sym c.row_at-j.ensures.value) ∙ here in
     omega (arith, (counted_marked b test h c.loop-k.k c.loop-k.used c.loop-k-test.true c.loop-k.invariant.used marked).inside, c.count_ends-ends.ensures)

@@ -21,7 +21,7 @@ loop-j-init c =
     record {
       width = ap length low ∙ search rules;
       used = refl;
-      low = λ i h. ap (λ es. slice_index_or es i (pos 0)) low ∙ c.y_row.ensures i h ∙ y_flux_inner c.args.p.now c.args.shape.level c.args.shape.column c.args.shape.w c.args.shape.h c.args.marks.now c.args.border.now c.args.values.now i 0 c.requires.some;
+      low = λ i h. ap (λ es. slice_index_or es i (pos 0)) low ∙ c.y_row.ensures i h ∙ y_flux_inner c.args.p.now c.args.shape.level c.args.shape.column c.args.shape.w c.args.shape.h c.args.border.marks.now c.args.border.sizes.now c.args.values.now i 0 c.requires.some;
       made = λ i j inside below. absurd (omega arith);
       others = λ k other. refl;
     }
@@ -36,7 +36,7 @@ pub set_end-used-requires-clause-enough : goal.set_end-used-requires-clause-enou
 set_end-used-requires-clause-enough c =
     let w = c.args.shape.w in
     let j = c.loop-j.j in
-    let marks = c.args.marks.now in
+    let marks = c.args.border.marks.now in
     let all : count_below (x_marked w marks) (j + 1) ≤ count_below (x_marked w marks) c.args.shape.h = count_grows (x_marked w marks) (j + 1) c.args.shape.h (omega (arith, c.loop-j-test.true)) in
     omega (arith, all, c.loop-j.invariant.used, count_more (x_marked w marks) j, c.requires.enough, ap {B = ℕ} (λ b. cond b 1 0) c.is_end_marked-marked.ensures)
 
@@ -55,20 +55,20 @@ y_row-requires-in-loop-j-clause-high_small c = λ i h.
 pub set_top-requires-clause-enough : goal.set_top-requires-clause-enough
 set_top-requires-clause-enough c = λ last.
     let w = c.args.shape.w in
-    let marks = c.args.marks.now in
+    let marks = c.args.border.marks.now in
     let used : c.set_end-used.result ≡ count_below (x_marked w marks) c.args.shape.h = c.set_end-used.ensures.count ∙ (λ t. c.loop-j.invariant.used t + cond (c.is_end_marked-marked.ensures t) 1 0) ∙ sym (count_more (x_marked w marks) c.loop-j.j) ∙ ap (count_below (x_marked w marks)) last in
-    omega (arith, used, c.requires.enough, length-drop c.set_end-used.result c.args.border.now)
+    omega (arith, used, c.requires.enough, length-drop c.set_end-used.result c.args.border.sizes.now)
 
 pub set_top-requires-clause-small : goal.set_top-requires-clause-small
-set_top-requires-clause-small c = rest_small c.args.border.now c.set_end-used.result c.requires.border_small
+set_top-requires-clause-small c = rest_small c.args.border.sizes.now c.set_end-used.result c.requires.border_small
 
 pub update_patch_row-requires-clause-kept : goal.update_patch_row-requires-clause-kept
 update_patch_row-requires-clause-kept c = λ t below.
     let p = c.args.p.now in
     let s = c.args.shape in
     let w = s.w in
-    let marks = c.args.marks.now in
-    let border = c.args.border.now in
+    let marks = c.args.border.marks.now in
+    let border = c.args.border.sizes.now in
     let old = c.args.values.now in
     let j = c.loop-j.j in
     let before = c.loop-j.invariant.others in
@@ -89,8 +89,8 @@ update_patch_row-requires-clause-fits c = λ t below.
     let p = c.args.p.now in
     let s = c.args.shape in
     let w = s.w in
-    let marks = c.args.marks.now in
-    let border = c.args.border.now in
+    let marks = c.args.border.marks.now in
+    let border = c.args.border.sizes.now in
     let old = c.args.values.now in
     let j = c.loop-j.j in
     let before = c.loop-j.invariant.others in
@@ -111,8 +111,8 @@ loop-j-preserved c =
     let p = c.args.p.now in
     let s = c.args.shape in
     let w = s.w in
-    let marks = c.args.marks.now in
-    let border = c.args.border.now in
+    let marks = c.args.border.marks.now in
+    let border = c.args.border.sizes.now in
     let old = c.args.values.now in
     let j = c.loop-j.j in
     let before = c.loop-j.invariant.others in
