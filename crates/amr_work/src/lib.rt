@@ -1,5 +1,5 @@
-//! The work on one patch in a step of its level: the piece of a task, and what a worker does with it. (Berger and Colella 1989:
-//! the integration of one grid)
+//! The work on one patch in a step of its level: the piece of a task, and what a worker does with it. A lone worker makes the step
+//! of a patch without a board ([`step_alone`]). (Berger and Colella 1989: the integration of one grid)
 #![tactic(auto)]
 
 mod alone;
