@@ -131,10 +131,11 @@ module _ (p : Problem) (l : ℕ) (old : Masses) (qs : List Patch) (cells : List 
     pub serves_again : (b : TaskLayout) (x : Workspace) → ServesAgain has.piece.body.value.workspace x → Serves (width (box q)) (get_or y.tasks.items t b) x
     serves_again b x h =
         let serves = served.each t r b w0.body.value.workspace lt in
+        let same_room : widest x.room ≡ widest (get_or ss t w0.body.value.workspace).room = h.room ∙ has.stands.room ∙ ap (λ (z : Workspace). widest z.room) one.of_workspace in
         record {
           of_layout = h.of_layout ∙ has.stands.layout ∙ ap (λ (z : Workspace). z.layout) one.of_workspace ∙ serves.of_layout;
           sizes = h.sizes ∙ has.stands.sizes ∙ ap (λ (z : Workspace). length z.sizes.items) one.of_workspace ∙ serves.sizes;
-          room = h.room ∙ has.stands.room ∙ ap (λ (z : Workspace). widest z.room) one.of_workspace ∙ serves.room;
+          room = omega (arith, serves.room, same_room);
         }
 
   pub may_collect : (t : ℕ) → t < length qs → MayCollect p o t

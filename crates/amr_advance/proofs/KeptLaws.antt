@@ -1,5 +1,5 @@
 -- A layout that is kept serves each level with the same boxes beside levels with the same boxes.
-use Rattle.std.proofs.Common.{◌≡◌, ◌∙◌, ℕ, List, get_or, map, sym, subst, arith}
+use Rattle.std.proofs.Common.{◌≡◌, ◌∙◌, ℕ, true, List, get_or, map, sym, ap, subst, arith}
 use Rattle.std.specs.Prelude.{is_some}
 use Rattle.amr_box.specs.declared.Cell.{Cell}
 use Rattle.amr_box.specs.Cells.{Extent, width}
@@ -13,7 +13,7 @@ use Rattle.amr_layout.specs.declared.TaskLayout.{TaskLayout}
 use Rattle.amr_ghost.specs.Plans.{PlansFrames}
 use Rattle.amr_ghost.specs.declared.plan.FramePlan.{FramePlan}
 use Rattle.amr_ghost.proofs.PlanLaws.{plan_of_boxes}
-use Rattle.amr_layout.specs.Grounds.{SameGround}
+use Rattle.amr_layout.specs.Grounds.{SameGround, has_open_side}
 use Rattle.amr_layout.specs.Surroundings.{Around}
 use Rattle.amr_work.specs.declared.work.Workspace.{Workspace}
 use Rattle.amr_advance.specs.declared.kept.KeptLayout.{KeptLayout}
@@ -33,18 +33,19 @@ same_frames : (p r : Problem) (l m : ℕ) (ps qs : List Patch) (f : FramePlan) �
 same_frames p r l m ps qs f problem level boxes h = plan_of_boxes (domain r m) ps qs boxes f (subst (λ d. PlansFrames d ps f) (λ i. domain (problem i) (level i)) h)
 
 -- a layout made for the same ground serves here
-pub serves_here : (t : Around) (k : KeptLayout) → IsKept t.problem k → k.level ≡ t.level → map box t.patches ≡ k.boxes.items → k.cells.items ≡ t.cells → ((c : Cell) → is_some (t.finer c) ≡ in_boxes k.finer.items c) → IsLaidOut t k
+pub serves_here : (t : Around) (k : KeptLayout) → IsKept t.problem k → k.level ≡ t.level → map box t.patches ≡ k.boxes.items → k.cells.items ≡ t.cells → (has_open_side t.problem ≡ true → (c : Cell) → is_some (t.finer c) ≡ in_boxes k.finer.items c) → IsLaidOut t k
 serves_here t k h level boxes cells finer =
     let s = h.made_for in
     let made = h.laid_out in
     let same : map box s.patches ≡ map box t.patches = sym made.boxes ∙ sym boxes in
+    let opened : has_open_side t.problem ≡ has_open_side s.problem = ap has_open_side (sym h.of_problem) in
     record {
       level = level;
       boxes = sym boxes;
       cells = cells;
       finer = finer;
       frames = same_frames s.problem t.problem s.level t.level s.patches t.patches k.frames h.of_problem (sym made.level ∙ level) same made.frames;
-      layout = same_layout s t k.layout.value (record { problem = h.of_problem; level = sym made.level ∙ level; boxes = same; cells = sym made.cells ∙ cells; finer = λ c. made.finer c ∙ sym (finer c) }) made.layout;
+      layout = same_layout s t k.layout.value (record { problem = h.of_problem; level = sym made.level ∙ level; boxes = same; cells = sym made.cells ∙ cells; finer = λ e c. made.finer e c ∙ sym (finer (opened ∙ e) c) }) made.layout;
       shape = made.shape;
       workspaces = same_workspaces s.patches t.patches k.layout.value.tasks.items (workspaces_in k.bodies.items) same made.workspaces;
     }
@@ -55,7 +56,7 @@ still_here s t k g h = record {
   level = h.level ∙ g.level;
   boxes = h.boxes ∙ g.boxes;
   cells = h.cells ∙ g.cells;
-  finer = λ c. sym (g.finer c) ∙ h.finer c;
+  finer = λ e c. let here : has_open_side s.problem ≡ true = ap has_open_side g.problem ∙ e in sym (g.finer here c) ∙ h.finer here c;
   frames = same_frames s.problem t.problem s.level t.level s.patches t.patches k.frames g.problem g.level g.boxes h.frames;
   layout = same_layout s t k.layout.value g h.layout;
   shape = h.shape;

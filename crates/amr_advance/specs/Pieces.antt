@@ -1,5 +1,5 @@
 -- The pieces of a level: patches with workspaces, raw.
-use Rattle.std.specs.Prelude.{◌≡◌, ℕ, ◌<◌, List, length, map, slice_index_or}
+use Rattle.std.specs.Prelude.{◌≡◌, ℕ, ◌<◌, ◌≤◌, List, length, map, slice_index_or}
 use Rattle.std.specs.Global.{Box}
 use Rattle.amr_box.specs.Cells.{width}
 use Rattle.amr_def.specs.declared.problem.Problem.{Problem}
@@ -12,11 +12,11 @@ use Rattle.amr_work.specs.declared.work.Body.{Body}
 use Rattle.amr_work.specs.declared.work.Work.{Work}
 use Rattle.amr_work.specs.declared.work.Workspace.{Workspace}
 
--- a workspace with this layout, for a patch of so many columns
+-- a workspace with this layout, for a patch of so many columns. A wider room serves as well.
 pub record Serves (columns : ℕ) (layout : TaskLayout) (w : Workspace) : Type 0 where
   pub of_layout : w.layout ≡ layout
   pub sizes : length w.sizes.items ≡ length layout.border.items
-  pub room : widest w.room ≡ columns
+  pub room : columns ≤ widest w.room
 
 -- those of bodies
 abbrev pub workspaces_in : List (Box Body) → List Workspace

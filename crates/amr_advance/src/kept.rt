@@ -10,6 +10,7 @@ ghost use Rattle.amr_patch.specs.Orders.{IsOrderOf};
 ghost use Rattle.amr_patch.specs.Patches.{ArePatchesApart, box};
 ghost use Rattle.amr_ghost.specs.Frames.{AreInDomain};
 ghost use Rattle.amr_layout.specs.Adds.{HasRegisterCells};
+ghost use Rattle.amr_layout.specs.Grounds.{has_open_side};
 ghost use Rattle.amr_layout.specs.Surroundings.{around, finer_masses};
 ghost use Rattle.amr_advance.specs.Kept.{IsKept, IsLaidOut};
 
@@ -19,6 +20,7 @@ use amr_alike::{boxes_of, have_boxes};
 use amr_board::Shape;
 use amr_box::{Bx, Cell};
 use amr_causes::NoMemory;
+use amr_def::Problem;
 use amr_gaps::starts_of;
 use amr_ghost::{FramePlan, plan_frames};
 use amr_layout::{Layout, plan};
@@ -29,8 +31,8 @@ use std::boxed::Box;
 use std::snapshot::Snapshot;
 
 /// The layout of a level's step on a board, with a body for each task and a plan of the frames, and what they were made for: the boxes
-/// of the level's patches, the register cells of the next coarser level, and the patch boxes of the next finer one. While these stay,
-/// each step of the level takes it as it is.
+/// of the level's patches, the register cells of the next coarser level, and the patch boxes of the next finer one, which matter
+/// only beside open sides. While these stay, each step of the level takes it as it is.
 #[derive(Drop)]
 pub struct KeptLayout {
     level: u32,
@@ -81,6 +83,24 @@ fn has_finer_boxes(finer: Option<&Level>, boxes: &[Bx]) -> bool
     }
 }
 
+/// Whether a side of the domain is open.
+fn has_open_side(p: &Problem) -> bool
+    ensures { result ≡ has_open_side p.now }
+{
+    !p.x_sides.is_periodic() | !p.y_sides.is_periodic()
+}
+
+/// Whether a layout made beside a finer level with these boxes serves beside this one. A layout goes by them only where a side of
+/// the domain is open.
+fn serves_beside(p: &Problem, finer: Option<&Level>, boxes: &[Bx]) -> bool
+    ensures { IsTrue result → has_open_side p.now ≡ true → (c : Cell) → is_some (finer_masses (option_copied finer.entry) c) ≡ in_boxes boxes.now c }
+{
+    if !has_open_side(p) {
+        return true;
+    }
+    has_finer_boxes(finer, boxes)
+}
+
 /// The boxes of the finer level's patches, none where there is no such level.
 fn finer_boxes(alloc: Global, finer: Option<&Level>) -> Result<Vec<Bx>, NoMemory>
     ensures { IfOk result (λ bs. (c : Cell) → is_some (finer_masses (option_copied finer.entry) c) ≡ in_boxes bs.items c) }
@@ -104,7 +124,7 @@ fn serves(kept: &KeptLayout, given: Given<'_>, patches: &[Patch]) -> bool
     if !are_same_cells(&kept.cells, given.cells) {
         return false;
     }
-    has_finer_boxes(given.finer, &kept.finer)
+    serves_beside(given.problem, given.finer, &kept.finer)
 }
 
 /// Lays out the step of these patches anew, with old bodies as far as they go.

@@ -1,6 +1,6 @@
 //! The pieces of a level's tasks: its patches, raw, each with a workspace.
 
-ghost use Rattle.std.specs.Prelude.{◌≡◌, ◌≤◌, ◌<◌, ◌^◌, [], length, map, vec_capacity, IfOk};
+ghost use Rattle.std.specs.Prelude.{◌≡◌, ◌≤◌, ◌<◌, ◌^◌, [], length, map, vec_capacity, IfOk, OnOk};
 ghost use Rattle.amr_box.specs.Cells.{IsNear};
 ghost use Rattle.amr_advance.specs.Pieces.{AreRawPieces, AreWorkspaces, Serves, workspaces_in};
 
@@ -40,21 +40,40 @@ fn workspace_of(alloc: Global, columns: u32, layout: TaskLayout) -> Result<Works
     })
 }
 
-/// A body with this workspace: an old one, or a new one where there is none. A new one has a patch of one cell, which takes the place
-/// of the task's own in the level while the step is made.
-fn body_with(
+/// Makes a workspace serve another task, whose patch has so many columns. Memory is taken only where it had too little.
+fn hand_over(
+    alloc: Global,
+    workspace: &mut Workspace,
+    columns: u32,
+    layout: TaskLayout,
+) -> Result<(), NoMemory>
+    ensures { OnOk result (Serves columns layout workspace.new) }
+{
+    workspace.sizes.resize(layout.border.len(), 0)?;
+    if !workspace.room.serves(columns) {
+        workspace.room = Room::make(alloc, columns)?;
+    }
+    workspace.layout = layout;
+    Ok(())
+}
+
+/// A body for a task whose patch has so many columns: an old one, or a new one where there is none. A new one has a patch of one
+/// cell, which takes the place of the task's own in the level while the step is made.
+fn body_for(
     alloc: Global,
     old: Option<Box<Body>>,
-    workspace: Workspace,
+    columns: u32,
+    layout: TaskLayout,
 ) -> Result<Box<Body>, NoMemory>
-    ensures { IfOk result (λ b. b.value.workspace ≡ workspace) }
+    ensures { IfOk result (λ b. Serves columns layout b.value.workspace) }
 {
     match old {
         Some(mut body) => {
-            body.workspace = workspace;
+            hand_over(alloc, &mut body.workspace, columns, layout)?;
             Ok(body)
         }
         None => {
+            let workspace = workspace_of(alloc, columns, layout)?;
             let patch = Patch::make(alloc, one_cell())?;
             Ok(Box::new(alloc, Body { patch, workspace })?)
         }
@@ -74,8 +93,7 @@ pub(crate) fn bodies_of(
     let mut made = Vec::with_capacity(alloc, tasks.len())?;
     'tasks: while let Some(layout) = tasks.pop() {
         let columns = patches[tasks.len()].bx().width();
-        let workspace = workspace_of(alloc, columns, layout)?;
-        made.push_reserved(body_with(alloc, olds.pop(), workspace)?);
+        made.push_reserved(body_for(alloc, olds.pop(), columns, layout)?);
     }
     made.as_mut_slice().reverse();
     Ok(made)

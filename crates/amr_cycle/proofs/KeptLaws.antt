@@ -31,11 +31,11 @@ cells_alike a b ps qs of_a of_b same c = some_in_boxes (level_of a).masses ps (m
 pub renewed : (p : Problem) (l : ℕ) (b b' : KeptBelow) (level next : Held) → IsKeptBelow p l b → IsOnSameBoxes b level next
     → (level_of b'.before).masses ≡ (level_of level).masses → (level_of b'.before).boxes ≡ (level_of b.before).boxes → b'.finer ≡ b.finer → SameCells b.register b'.register → IsBelow p l (level_of level) (level_of next) b'
 renewed p l b b' level next kept on masses boxes finer register = record {
-  before = same_level (level_of b'.before) (level_of level) (boxes ∙ on.boxes) masses;
+  before = same_level (level_of b'.before) (level_of level) (boxes ∙ on.before.boxes) masses;
   finer = λ c. on.finer c ∙ ap (λ bs. in_boxes bs.items c) (sym finer);
   register =
       let fine_cells : (c : Cell) → is_some ((level_of next).masses c) ≡ is_some (kept.fine.masses c) = λ c. on.finer c ∙ sym (kept.below.finer c) in
-      let coarse_cells : (c : Cell) → is_some ((level_of level).masses c) ≡ is_some (kept.level.masses c) = λ c. on.cells c ∙ ap (λ (k : Level). is_some (k.masses c)) kept.below.before in
+      let coarse_cells : (c : Cell) → is_some ((level_of level).masses c) ≡ is_some (kept.level.masses c) = λ c. on.before.cells c ∙ ap (λ (k : Level). is_some (k.masses c)) kept.below.before in
       same_register p l kept.level.masses kept.fine.masses (level_of level).masses (level_of next).masses b'.register coarse_cells fine_cells
       (register_kept p l kept.level.masses kept.fine.masses b.register b'.register register kept.below.register);
 }

@@ -24,11 +24,15 @@ pub record IsKeptBelow (p : Problem) (l : ℕ) (b : KeptBelow) : Type 0 where
   pub fine : Level
   pub below : IsBelow p l level fine b
 
+-- a level has the boxes of another one, its patches have theirs, and so it has the same cells
+pub record HasBoxesOf (k level : Held) : Type 0 where
+  pub boxes : (level_of k).boxes ≡ (level_of level).boxes
+  pub patches : map box (patches_of k) ≡ map box (patches_of level)
+  pub cells : (c : Cell) → is_some ((level_of level).masses c) ≡ is_some ((level_of k).masses c)
+
 -- it was made over these boxes
 pub record IsOnSameBoxes (b : KeptBelow) (level next : Held) : Type 0 where
-  pub boxes : (level_of b.before).boxes ≡ (level_of level).boxes
-  pub patches : map box (patches_of b.before) ≡ map box (patches_of level)
-  pub cells : (c : Cell) → is_some ((level_of level).masses c) ≡ is_some ((level_of b.before).masses c)
+  pub before : HasBoxesOf b.before level
   pub finer : (c : Cell) → is_some ((level_of next).masses c) ≡ in_boxes b.finer.items c
 
 pub record IsKeptLevel (p : Problem) (l : ℕ) (k : KeptLevel) : Type 0 where

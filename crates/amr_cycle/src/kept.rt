@@ -7,7 +7,7 @@ ghost use Rattle.amr_def.specs.Facts.{IsLevel, IsNestedLevel};
 ghost use Rattle.amr_patch.specs.Levels.{level_of, patches_of};
 ghost use Rattle.amr_patch.specs.Patches.{box};
 ghost use Rattle.amr_register.specs.Registers.{SameCells, entry_in};
-ghost use Rattle.amr_cycle.specs.Kept.{AreKept, IsBelow, IsKept, IsKeptBelow, IsOnSameBoxes};
+ghost use Rattle.amr_cycle.specs.Kept.{AreKept, HasBoxesOf, IsBelow, IsKept, IsKeptBelow, IsOnSameBoxes};
 
 use amr_advance::KeptLayout;
 use amr_alike::{are_same, boxes_of, copy_masses, have_boxes, have_same_boxes};
@@ -50,14 +50,21 @@ impl Kept {
     }
 }
 
+/// Whether a level that is kept has the boxes of another one, and its patches have theirs.
+fn is_on_boxes_of(kept: &Level, level: &Level) -> bool
+    ensures { IsTrue result → HasBoxesOf kept.now level.now }
+{
+    if !are_same(kept.boxes(), level.boxes()) {
+        return false;
+    }
+    have_same_boxes(kept.patches(), level.patches())
+}
+
 /// Whether what is kept was made over the boxes of a level and of the next finer one.
 fn serves(kept: &KeptBelow, level: &Level, next: &Level) -> bool
     ensures { IsTrue result → IsOnSameBoxes kept.now level.now next.now }
 {
-    if !are_same(kept.before.boxes(), level.boxes()) {
-        return false;
-    }
-    if !have_same_boxes(kept.before.patches(), level.patches()) {
+    if !is_on_boxes_of(&kept.before, level) {
         return false;
     }
     have_boxes(next.patches(), &kept.finer)
@@ -76,14 +83,27 @@ fn renew(kept: &mut KeptBelow, level: &Level)
     kept.register.clear();
 }
 
-/// What both steps of the next finer level stand on, made anew: a copy of the level, and a register of zeros.
+/// A level as it is before its step: in the level that is kept, where it has the same boxes, else in a copy.
+fn before_in(mut kept: Level, level: &Level) -> Result<Level, NoMemory>
+    ensures { IfOk result (λ k. level_of k ≡ level_of level.now) }
+{
+    if !is_on_boxes_of(&kept, level) {
+        return level.copy();
+    }
+    copy_masses(level, &mut kept);
+    Ok(kept)
+}
+
+/// What both steps of the next finer level stand on, made anew: the level as it is before its step, and a register of zeros.
 fn make_below(
     alloc: Global,
     p: &Problem,
     l: u32,
+    before: Level,
     level: &Level,
     next: &Level,
 ) -> Result<KeptBelow, NoMemory>
+    requires before { level_of before ≡ level_of level.now }
     requires number { l ≤ 3 }
     requires coarse { IsLevel p.now l (level_of level.now) }
     requires fine { IsLevel p.now (suc l) (level_of next.now) }
@@ -92,14 +112,15 @@ fn make_below(
     ensures zero { IfOk result (λ b. (c : Cell) → entry_in b.register c ≡ pos 0) }
 {
     Ok(KeptBelow {
-        before: level.copy()?,
+        before,
         finer: boxes_of(alloc, next.patches())?,
         register: Register::make(alloc, p, l, level, next)?,
     })
 }
 
 /// What both steps of the next finer level stand on: the level's masses as they are now, and a register of zeros. It is what is kept,
-/// where boxes have not changed, else made anew. Nothing is kept afterwards.
+/// where boxes have not changed, else made anew; room for the masses stays where the level's own boxes have not changed. Nothing is
+/// kept afterwards.
 pub(crate) fn below_for(
     alloc: Global,
     p: &Problem,
@@ -117,13 +138,15 @@ pub(crate) fn below_for(
     ensures zero { IfOk result (λ b. (c : Cell) → entry_in b.register c ≡ pos 0) }
     ensures none { kept.new ≡ None }
 {
-    if let Some(mut below) = kept.take() {
-        if serves(&below, level, next) {
-            renew(&mut below, level);
-            return Ok(below);
-        }
+    let Some(mut below) = kept.take() else {
+        return make_below(alloc, p, l, level.copy()?, level, next);
+    };
+    if serves(&below, level, next) {
+        renew(&mut below, level);
+        return Ok(below);
     }
-    make_below(alloc, p, l, level, next)
+    let before = before_in(below.before, level)?;
+    make_below(alloc, p, l, before, level, next)
 }
 
 /// Makes room for what so many levels keep.

@@ -8,9 +8,9 @@ use Rattle.amr_box.specs.Cells.{Extent, IsNear, height, width}
 use Rattle.amr_def.specs.declared.problem.Problem.{Problem}
 use Rattle.amr_def.specs.Domain.{columns, domain, home_cell, in_domain, is_periodic, rows, wrapped}
 use Rattle.amr_def.proofs.Nesting.{in_domain-inside}
-use Rattle.amr_def.proofs.Uncovered.{in_domain-yes}
 use Rattle.amr_patch.proofs.Rows.{is_inside, sides}
 use Rattle.amr_flux.specs.Faces.{IsInDomain}
+use Rattle.amr_layout.proofs.OpenSides.{IsAmong, has}
 
 -- ---- a box of the domain, by whole numbers
 
@@ -52,17 +52,8 @@ placed p l b near lies =
 
 -- ---- cells that the domain has, and cells past an open side
 
-abbrev pub IsAmong : ℕ → ℤ → Type 0
-IsAmong n z = (pos 0 ≤ℤ z) × (z <ℤ pos n)
-
 abbrev pub IsPast : ℕ → ℤ → Type 0
 IsPast n z = (z <ℤ pos 0) ⊎ (pos n ≤ℤ z)
-
-wrapped_among : (wrap : Bool) (n : ℕ) (z : ℤ) → 0 < n → (wrap ≡ true) ⊎ IsAmong n z → IsAmong n (wrapped wrap n z)
-wrapped_among true n (pos a) some h = (omega (arith, ints), omega (arith, ints, some))
-wrapped_among true n (negsuc a) some h = (omega (arith, ints), omega (arith, ints, some))
-wrapped_among false n z some (inl e) = absurd (cc)
-wrapped_among false n z some (inr h) = h
 
 -- where an open axis ends
 stays : (b : Bool) (n : ℕ) (z : ℤ) → b ≡ false → wrapped b n z ≡ z
@@ -73,12 +64,6 @@ not_both n z w e h (inl k) = omega (arith, ints, e, h.0, k)
 not_both n z w e h (inr k) = omega (arith, ints, e, h.1, k)
 
 module _ (p : Problem) (l : ℕ) (some_x : 0 < columns p l) (some_y : 0 < rows p l) where
-  has : (k : Cell) → (is_periodic p.x_sides ≡ true) ⊎ IsAmong (columns p l) k.x → (is_periodic p.y_sides ≡ true) ⊎ IsAmong (rows p l) k.y → in_domain (domain p l) (home_cell (domain p l) k) ≡ true
-  has k x y =
-      let a = wrapped_among (is_periodic p.x_sides) (columns p l) k.x some_x x in
-      let b = wrapped_among (is_periodic p.y_sides) (rows p l) k.y some_y y in
-      in_domain-yes p l (home_cell (domain p l) k) (record { west = a.0; east = a.1; south = b.0; north = b.1 })
-
   past_x : (k : Cell) → is_periodic p.x_sides ≡ false → IsPast (columns p l) k.x → in_domain (domain p l) (home_cell (domain p l) k) ≡ false
   past_x k e past = false_from_ne_true (in_domain (domain p l) (home_cell (domain p l) k)) (λ h.
       let at = in_domain-inside p l (home_cell (domain p l) k) h in
@@ -94,14 +79,14 @@ module _ (p : Problem) (l : ℕ) (some_x : 0 < columns p l) (some_y : 0 < rows p
   lacks_x k t y past among = from (is_periodic p.x_sides) refl t refl
     where
       from : (u : Bool) → is_periodic p.x_sides ≡ u → (v : Bool) → t ≡ v → (not u && v) ≡ not (in_domain (domain p l) (home_cell (domain p l) k))
-      from true e v g = sym (ap not (has k (inl e) (inr y)))
+      from true e v g = sym (ap not (has p l some_x some_y k (inl e) (inr y)))
       from false e true g = sym (ap not (past_x k e (past g)))
-      from false e false g = sym (ap not (has k (inr (among g)) (inr y)))
+      from false e false g = sym (ap not (has p l some_x some_y k (inr (among g)) (inr y)))
 
   pub lacks_y : (k : Cell) (t : Bool) → IsAmong (columns p l) k.x → (t ≡ true → IsPast (rows p l) k.y) → (t ≡ false → IsAmong (rows p l) k.y) → (not (is_periodic p.y_sides) && t) ≡ not (in_domain (domain p l) (home_cell (domain p l) k))
   lacks_y k t x past among = from (is_periodic p.y_sides) refl t refl
     where
       from : (u : Bool) → is_periodic p.y_sides ≡ u → (v : Bool) → t ≡ v → (not u && v) ≡ not (in_domain (domain p l) (home_cell (domain p l) k))
-      from true e v g = sym (ap not (has k (inr x) (inl e)))
+      from true e v g = sym (ap not (has p l some_x some_y k (inr x) (inl e)))
       from false e true g = sym (ap not (past_y k e (past g)))
-      from false e false g = sym (ap not (has k (inr x) (inr (among g))))
+      from false e false g = sym (ap not (has p l some_x some_y k (inr x) (inr (among g))))

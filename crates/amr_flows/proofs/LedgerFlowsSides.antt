@@ -18,7 +18,8 @@ use Rattle.amr_layout.specs.Surroundings.{Around, inside, inward, is_open, outsi
 use Rattle.amr_layout.specs.Adds.{is_ledger_face}
 use Rattle.amr_layout.proofs.Going.{open_is}
 use Rattle.amr_flows.proofs.LedgerFlowsWays.{IsWay, flux_high, flux_low}
-use Rattle.amr_flows.proofs.LedgerFlowsOpen.{IsAmong, IsPlaced, lacks_x, lacks_y}
+use Rattle.amr_layout.proofs.OpenSides.{IsAmong}
+use Rattle.amr_flows.proofs.LedgerFlowsOpen.{IsPlaced, lacks_x, lacks_y}
 
 -- ---- one face
 

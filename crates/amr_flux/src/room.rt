@@ -30,7 +30,7 @@ pub struct Room {
 
 #[tactic(auto, unfolding(crate::specs::Rooms::widest))]
 impl Room {
-    ghost use Rattle.std.specs.Prelude.{◌<◌, ◌≤◌, ◌^◌, IfOk};
+    ghost use Rattle.std.specs.Prelude.{◌<◌, ◌≤◌, ◌^◌, IfOk, nat_le};
     ghost use Rattle.amr_flux.specs.Rooms.{widest};
 
     /// Room for patches of at most so many columns.
@@ -52,5 +52,12 @@ impl Room {
             across,
             shares,
         })
+    }
+
+    /// Whether it serves patches of so many columns.
+    pub fn serves(&self, columns: u32) -> bool
+        ensures { result ≡ nat_le columns (widest self.now) }
+    {
+        columns as usize <= self.low.len()
     }
 }

@@ -1,6 +1,6 @@
 -- The layout of a level goes by boxes: two levels on the same ones have the same places, puts, reads and flows, whatever their
 -- masses are.
-use Rattle.std.proofs.Common.{◌≡◌, ◌∙◌, ℕ, suc, ◌+◌, ◌-◌, ◌*◌, ◌<◌, ◌&&◌, not, cond, pos, int_lt, List, ◌++◌, length, get_or, map, take, sym, ap, subst}
+use Rattle.std.proofs.Common.{◌≡◌, ◌∙◌, ℕ, Bool, true, false, refl, suc, ◌+◌, ◌-◌, ◌*◌, ◌<◌, ◌&&◌, not, cond, pos, int_lt, List, ◌++◌, length, get_or, map, take, sym, ap, subst}
 use Rattle.std.specs.Prelude.{Contains, is_some}
 use Rattle.std.specs.List.{flat_map, range_with_len}
 use Rattle.std.specs.Ordering.{int_eq}
@@ -8,6 +8,7 @@ use Rattle.std.proofs.lemmas.List.{take-map}
 use Rattle.std.proofs.lemmas.List.Folds.{flat_map-map}
 use Rattle.std.proofs.lemmas.Simd.{map-map}
 use Rattle.amr_box.specs.declared.Cell.{Cell}
+use Rattle.amr_box.specs.declared.Face.{Face}
 use Rattle.amr_box.specs.Cells.{Extent, has_child_where, height, parent, width}
 use Rattle.amr_def.specs.Domain.{Domain, domain, home_cell, in_domain}
 use Rattle.amr_def.specs.Flux.{high_cell}
@@ -17,9 +18,10 @@ use Rattle.amr_patch.specs.Patches.{box, in_patches}
 use Rattle.amr_patch.proofs.SameBoxes.{box_at, in_same_boxes, same_length}
 use Rattle.amr_flux.specs.Faces.{passing, x_end, y_end}
 use Rattle.amr_layout.specs.Adds.{AreInOrder, HasCellsBeyond, HasRegisterCells, cell_beyond, flow_to, flows_of, inflow_faces, is_exchange_face, is_inflow_face, is_ledger_face, is_outflow_face, number_of, outflow_faces, register_flows, word_of}
-use Rattle.amr_layout.specs.Grounds.{SameGround}
+use Rattle.amr_layout.specs.Grounds.{SameGround, has_open_side}
 use Rattle.amr_layout.specs.Places.{border_places, borders_of, leads_on, level_borders, places_before, puts_among, puts_of}
 use Rattle.amr_layout.specs.Surroundings.{Around, domain_around, edge_count, edge_face, inside, inward, is_coarse_fine, is_open, outside}
+use Rattle.amr_layout.proofs.OpenSides.{none_open}
 
 -- ---- patches with the same boxes
 
@@ -69,10 +71,10 @@ module _ (s t : Around) (g : SameGround s t) where
   domains : domain_around s ≡ domain_around t
   domains = λ i. domain (g.problem i) (g.level i)
 
-  covered : is_covered s.finer ≡ is_covered t.finer
+  covered : has_open_side s.problem ≡ true → is_covered s.finer ≡ is_covered t.finer
   unfolding is_covered
-  covered =
-      let has : (λ (k : Cell). is_some (s.finer k)) ≡ (λ (k : Cell). is_some (t.finer k)) = λ i k. g.finer k i in
+  covered open_side =
+      let has : (λ (k : Cell). is_some (s.finer k)) ≡ (λ (k : Cell). is_some (t.finer k)) = λ i k. g.finer open_side k i in
       ap has_child_where has
 
   open_same : is_open s ≡ is_open t
@@ -85,9 +87,23 @@ module _ (s t : Around) (g : SameGround s t) where
       let in_level = same_cells s.patches t.patches g.boxes in
       λ i b f. in_domain (domains i) (home_cell (domains i) (outside b f)) && not (in_level i (home_cell (domains i) (outside b f)))
 
-  ledger_same : is_ledger_face s ≡ is_ledger_face t
+  ledger_open : has_open_side s.problem ≡ true → is_ledger_face s ≡ is_ledger_face t
   unfolding is_ledger_face
-  ledger_same = λ i b f. open_same i b f && not (covered i (inside b f))
+  ledger_open open_side = λ i b f. open_same i b f && not (covered open_side i (inside b f))
+
+  ledger_closed : has_open_side s.problem ≡ false → is_ledger_face s ≡ is_ledger_face t
+  unfolding is_ledger_face
+  ledger_closed closed =
+      let at : (b : Extent) (f : Face) → (is_open s b f && not (is_covered s.finer (inside b f))) ≡ (is_open t b f && not (is_covered t.finer (inside b f))) =
+      λ b f. ap (λ u. u && not (is_covered s.finer (inside b f))) (none_open s closed b f) ∙ sym (ap (λ u. u && not (is_covered t.finer (inside b f))) (sym (λ i. open_same i b f) ∙ none_open s closed b f)) in
+      λ i b f. at b f i
+
+  ledger_same : is_ledger_face s ≡ is_ledger_face t
+  ledger_same = by_sides (has_open_side s.problem) refl
+    where
+      by_sides : (u : Bool) → has_open_side s.problem ≡ u → is_ledger_face s ≡ is_ledger_face t
+      by_sides true e = ledger_open e
+      by_sides false e = ledger_closed e
 
   inflow_face_same : is_inflow_face s ≡ is_inflow_face t
   unfolding is_inflow_face

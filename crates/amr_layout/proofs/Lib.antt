@@ -8,4 +8,6 @@ pub mod Joined
 pub mod Planned
 pub mod Taken
 pub mod Samples
+pub mod Lasts
+pub mod OpenSides
 pub mod ByBoxes

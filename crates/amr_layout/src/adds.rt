@@ -1,6 +1,6 @@
 //! The faces of a patch whose flows go to the ledger or to register cells.
 
-ghost use Rattle.std.specs.Prelude.{◌≡◌, ℕ, ◌+◌, ◌*◌, ◌≤◌, ◌<◌, ◌++◌, ◌^◌, ◌&&◌, not, [], ◌∷◌, cond, pos, int_lt, false, length, map, take, IfOk, OnOk, IsTrue, Contains};
+ghost use Rattle.std.specs.Prelude.{◌≡◌, ℕ, ◌+◌, ◌-◌, ◌*◌, ◌≤◌, ◌<◌, ◌++◌, ◌^◌, ◌&&◌, not, [], ◌∷◌, cond, pos, int_lt, false, length, map, slice_index_or, take, true, IfOk, OnOk, IsTrue, Contains};
 ghost use Rattle.std.specs.Option.{option_copied};
 ghost use Rattle.std.specs.List.{All};
 ghost use Rattle.amr_box.specs.Cells.{IsNear};
@@ -172,6 +172,41 @@ fn register_add(alloc: Global, word: u32, f: Face) -> Result<AddAt, NoMemory>
     Ok(AddAt { word, faces })
 }
 
+/// Whether the last of these adds goes to this word.
+fn ends_with(adds: &[AddAt], word: u32) -> bool
+    ensures some { result ≡ true → 0 < length adds.now }
+    ensures word { result ≡ true → (a : AddAt) → (slice_index_or adds.now (length adds.now - 1) a).word ≡ word }
+{
+    match adds.last() {
+        None => false,
+        Some(add) => add.word == word,
+    }
+}
+
+/// Adds a face to the last of these adds.
+fn extend_last(adds: &mut [AddAt], f: Face) -> Result<(), NoMemory>
+    requires { 0 < length adds.old }
+    ensures flows { OnOk result ((word : ℕ) → ((a : AddAt) → (slice_index_or adds.old (length adds.old - 1) a).word ≡ word) → flows_in adds.new ≡ flows_in adds.old ++ flow_to word f ∷ []) }
+    ensures words { (n : ℕ) → All (λ a. a.word < n) adds.old → All (λ a. a.word < n) adds.new }
+{
+    let last = adds.len() - 1;
+    adds[last].faces.push(f)?;
+    Ok(())
+}
+
+/// Adds a face to the word of a register cell: to the last add where that goes to the word, else as a new one. The faces of a
+/// box beside one register cell stand side by side, so each has one add.
+fn add_to_word(alloc: Global, adds: &mut Vec<AddAt>, word: u32, f: Face) -> Result<(), NoMemory>
+    ensures flows { OnOk result (flows_in adds.new.items ≡ flows_in adds.old.items ++ flow_to word f ∷ []) }
+    ensures words { (n : ℕ) → word < n → All (λ a. a.word < n) adds.old.items → OnOk result (All (λ a. a.word < n) adds.new.items) }
+{
+    if ends_with(adds, word) {
+        return extend_last(adds, f);
+    }
+    adds.push(register_add(alloc, word, f)?)?;
+    Ok(())
+}
+
 /// Adds a face to the list that its flow goes to.
 fn add_face(alloc: Global, adds: &mut Adds, flow: Flow, f: Face) -> Result<(), NoMemory>
     ensures inflow { OnOk result (adds.new.inflow.items ≡ adds.old.inflow.items ++ cond (is_inflow flow) (f ∷ []) []) }
@@ -183,7 +218,7 @@ fn add_face(alloc: Global, adds: &mut Adds, flow: Flow, f: Face) -> Result<(), N
         Flow::Kept => {}
         Flow::Inflow => adds.inflow.push(f)?,
         Flow::Outflow => adds.outflow.push(f)?,
-        Flow::Register(word) => adds.register.push(register_add(alloc, word, f)?)?,
+        Flow::Register(word) => add_to_word(alloc, &mut adds.register, word, f)?,
     }
     Ok(())
 }

@@ -70,7 +70,7 @@ fn tasks_of(
         gap: None,
     };
     let mut near = Near { level, finer: 0 };
-    let mut tasks = Vec::new(alloc);
+    let mut tasks = Vec::with_capacity(alloc, s.patches.len())?;
     for i in 0..s.patches.len() {
         let adds = adds_of(alloc, s, &mut near, &s.patches[i].bx())?;
         let puts = std::mem::replace(&mut lots[i], Vec::new(alloc));

@@ -29,13 +29,14 @@ pub(crate) struct Places {
     near: Trace,
 }
 
-/// No puts for any patch.
-fn no_puts(alloc: Global, patches: usize) -> Result<Vec<Vec<PutAt>>, NoMemory>
-    ensures { IfOk result (λ lots. AreEmptyLots patches lots.items) }
+/// No puts for any patch, and room for as many as it may have: one for each row and column.
+fn no_puts(alloc: Global, patches: &[Patch]) -> Result<Vec<Vec<PutAt>>, NoMemory>
+    ensures { IfOk result (λ lots. AreEmptyLots (length patches.now) lots.items) }
 {
-    let mut lots = Vec::new(alloc);
-    for _ in 0..patches {
-        lots.push(Vec::new(alloc))?;
+    let mut lots = Vec::with_capacity(alloc, patches.len())?;
+    for i in 0..patches.len() {
+        let b = patches[i].bx();
+        lots.push(Vec::with_capacity(alloc, (b.height() + b.width()) as usize)?)?;
     }
     Ok(lots)
 }
@@ -107,7 +108,7 @@ fn places_from(alloc: Global, first: u32, end: u32) -> Result<Vec<u32>, NoMemory
     requires { first ≤ end }
     ensures { IfOk result (λ v. v.items ≡ range_with_len first (end - first)) }
 {
-    let mut places = Vec::new(alloc);
+    let mut places = Vec::with_capacity(alloc, (end - first) as usize)?;
     for place in first..end {
         places.push(place)?;
     }
@@ -129,14 +130,14 @@ pub(crate) fn place_borders(
     ensures borders { IfOk result (λ r. map (λ v. v.items) r.1.items ≡ map (border_places (domain_of dom.now) patches.now) (range_with_len 0 (length patches.now))) }
 {
     let mut places = Places {
-        lots: no_puts(alloc, patches.len())?,
+        lots: no_puts(alloc, patches)?,
         count: 0,
         near: Trace {
             patch: 0,
             gap: None,
         },
     };
-    let mut borders = Vec::new(alloc);
+    let mut borders = Vec::with_capacity(alloc, patches.len())?;
     for i in 0..patches.len() {
         let first = places.count;
         put_borders(dom, patches, order, starts, &mut places, &patches[i].bx())?;

@@ -32,13 +32,13 @@ tasks-preserved c =
     λ q. ap (λ k. get_or c.args.patches.now k q) (omega (arith, place, c.len-in-Some.ensures, fewer, long)) ∙ same_default c.args.patches.now c.len-in-Some.result q c.index-patches-len.result (omega (arith, there, place, c.len-in-Some.ensures, fewer, long)) ∙ sym c.index-patches-len.is in
     record {
       rest = λ k t lt. ap (λ xs. get_or xs k t) c.in-Some.ensures.rest ∙ get_or-take (c.tasks.tasks.len - 1) old k t (omega (arith, lt, fewer, long)) ∙ inv.rest k t (omega (arith, lt, fewer));
-      count = omega (arith, inv.count, fewer, ap length c.push_reserved.ensures.items, length_push made c.in_ok-body_with.field-0);
+      count = omega (arith, inv.count, fewer, ap length c.push_reserved.ensures.items, length_push made c.in_ok-body_for.field-0);
       room = omega (arith, inv.room, c.push_reserved.ensures.capacity);
       done = subst (λ xs. (j : ℕ) (w : Box Body) → j < length xs → (q : Patch) (t : TaskLayout) → Serves (width (box (get_or c.args.patches.now (n - 1 - j) q))) (get_or c.args.tasks.items (n - 1 - j) t) (get_or xs j w).value.workspace) (sym c.push_reserved.ensures.items)
-          (push_done (λ j (w : Box Body). (q : Patch) (t : TaskLayout) → Serves (width (box (get_or c.args.patches.now (n - 1 - j) q))) (get_or c.args.tasks.items (n - 1 - j) t) w.value.workspace) made c.in_ok-body_with.field-0 inv.done
-          (λ q t. subst (λ (x : Patch). Serves (width (box x)) (get_or c.args.tasks.items (n - 1 - length made) t) c.in_ok-body_with.field-0.value.workspace) (sym (patch q))
-          (subst (λ (x : TaskLayout). Serves (width (box c.index-patches-len.result)) x c.in_ok-body_with.field-0.value.workspace) (sym (layout t))
-          (subst (λ v. Serves v c.in-Some.layout c.in_ok-body_with.field-0.value.workspace) (c.width-columns.ensures.value ∙ ap width c.bx.ensures.value) (subst (λ w. Serves c.width-columns.result c.in-Some.layout w) (sym c.in_ok-body_with.ensures) c.in_ok-workspace.ensures)))));
+          (push_done (λ j (w : Box Body). (q : Patch) (t : TaskLayout) → Serves (width (box (get_or c.args.patches.now (n - 1 - j) q))) (get_or c.args.tasks.items (n - 1 - j) t) w.value.workspace) made c.in_ok-body_for.field-0 inv.done
+          (λ q t. subst (λ (x : Patch). Serves (width (box x)) (get_or c.args.tasks.items (n - 1 - length made) t) c.in_ok-body_for.field-0.value.workspace) (sym (patch q))
+          (subst (λ (x : TaskLayout). Serves (width (box c.index-patches-len.result)) x c.in_ok-body_for.field-0.value.workspace) (sym (layout t))
+          (subst (λ v. Serves v c.in-Some.layout c.in_ok-body_for.field-0.value.workspace) (c.width-columns.ensures.value ∙ ap width c.bx.ensures.value) c.in_ok-body_for.ensures))));
     }
 
 pub returns : goal.returns

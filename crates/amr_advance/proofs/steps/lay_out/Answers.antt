@@ -33,5 +33,5 @@ pub returns-clause-layout : goal.returns-clause-layout
 returns-clause-layout c =
     let g = c.args.given in
     still_here (around g.problem.now g.level c.args.patches.now g.cells.now (option_copied g.finer)) (around g.problem.now g.level c.fill_planned.new.patches g.cells.now (option_copied g.finer)) c.in_ok-layout.layout
-    (record { problem = refl; level = refl; boxes = sym c.fill_planned.ensures.boxes; cells = refl; finer = λ k. refl })
+    (record { problem = refl; level = refl; boxes = sym c.fill_planned.ensures.boxes; cells = refl; finer = λ e k. refl })
     c.in_ok-layout.ensures.laid_out

@@ -5,7 +5,7 @@ use Rattle.amr_cycle.proofs.kept.make_below.Goals as goal
 
 pub returns-clause-below : goal.returns-clause-below
 returns-clause-below c = record {
-  before = c.in_ok-copy.ensures.level;
+  before = c.requires.before;
   finer = some_in_boxes (level_of c.args.next.now).masses c.patches.result.now c.in_ok-boxes_of.field-0.items c.patches.ensures.masses (sym c.in_ok-boxes_of.ensures);
   register = c.in_ok-make.ensures.cells;
 }

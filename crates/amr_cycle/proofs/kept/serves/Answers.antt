@@ -1,15 +1,10 @@
-use Rattle.std.proofs.Common.{◌≡◌, ◌∙◌, sym, ap, map}
+use Rattle.std.proofs.Common.{◌∙◌}
 use Rattle.amr_patch.specs.Levels.{level_of}
-use Rattle.amr_patch.specs.Patches.{box}
 use Rattle.amr_alike.proofs.SameBoxes.{some_in_boxes}
-use Rattle.amr_cycle.proofs.KeptLaws.{cells_alike}
 use Rattle.amr_cycle.proofs.kept.serves.Goals as goal
 
 pub returns : goal.returns
-returns c = λ yes.
-    let same : map box c.patches.result.now ≡ map box c.patches-2.result.now = c.have_same_boxes.ensures c.if-not-have_same_boxes.false in record {
-      boxes = sym c.boxes.ensures ∙ c.are_same.ensures c.if-not-are_same.false ∙ c.boxes-2.ensures;
-      patches = ap (map box) (sym c.patches.ensures.all) ∙ same ∙ ap (map box) c.patches-2.ensures.all;
-      cells = cells_alike c.args.level.now c.args.kept.now.before c.patches-2.result.now c.patches.result.now c.patches-2.ensures.masses c.patches.ensures.masses (sym same);
-      finer = some_in_boxes (level_of c.args.next.now).masses c.patches-3.result.now c.args.kept.now.finer.items c.patches-3.ensures.masses (c.have_boxes.ensures yes ∙ c.deref.ensures.value);
-    }
+returns c = λ yes. record {
+  before = c.is_on_boxes_of.ensures c.if-not-is_on_boxes_of.false;
+  finer = some_in_boxes (level_of c.args.next.now).masses c.patches.result.now c.args.kept.now.finer.items c.patches.ensures.masses (c.have_boxes.ensures yes ∙ c.deref.ensures.value);
+}

@@ -17,7 +17,7 @@ loop-i-init c =
     record {
       gap = tt;
       put = subst P (sym (no_borders d ps)) (no_puts_yet d ps lots c.in_ok-no_puts.ensures.count c.in_ok-no_puts.ensures.empty);
-      borders = ap (map (λ (v : Vec ℕ). v.items)) c.new-borders.ensures.items;
+      borders = ap (map (λ (v : Vec ℕ). v.items)) c.in_ok-borders.ensures.items;
     }
 
 pub loop-i-preserved : goal.loop-i-preserved
