@@ -35,12 +35,22 @@ use std::thread::Threads;
 /// How many steps a trial makes.
 const TRIAL_STEPS: u32 = 16;
 
-/// Who makes the steps of a run: so many workers on threads of a runtime, each of whom calls a gate around each task.
+/// Who makes the steps of a run, and with what memory: so many workers on threads of a runtime, each of whom calls a gate around
+/// each task.
 #[derive(Clone, Copy)]
 pub(crate) struct Workers<'a, R, G> {
     pub runtime: &'a R,
     pub count: u32,
     pub gate: &'a G,
+    pub alloc: Global,
+}
+
+/// Where a run puts its checkpoints: after each step whose number `every` divides, and at its last step. That is `to`, or the
+/// problem's last where none is asked for or that comes first.
+#[derive(Clone, Copy)]
+pub(crate) struct Marks {
+    pub to: Option<u32>,
+    pub every: u32,
 }
 
 /// The step that a run stops at: one that is asked for, and at most the problem's last.
@@ -56,7 +66,6 @@ fn stop_of(problem: &Problem, to: Option<u32>) -> u32
 /// The state of a problem's run at step `target`. Out of memory is the only refusal.
 fn run_to<R: Threads + Sync, G: Gate + Sync>(
     workers: &Workers<'_, R, G>,
-    alloc: Global,
     problem: &Problem,
     target: u32,
 ) -> Result<Mesh, Status>
@@ -70,14 +79,14 @@ fn run_to<R: Threads + Sync, G: Gate + Sync>(
     ensures run { OnOk result (IsSoundRun problem.now target) }
     ensures refused { IfErr result (λ status. status ≡ Status.NoMemory) }
 {
-    let mut mesh = start(alloc, problem)?;
+    let mut mesh = start(workers.alloc, problem)?;
     let crew = Crew {
         ranks: 1,
         workers: workers.count,
     };
     drive(
         workers.runtime,
-        alloc,
+        workers.alloc,
         problem,
         &mut mesh,
         target,
@@ -91,7 +100,6 @@ fn run_to<R: Threads + Sync, G: Gate + Sync>(
 /// The command `run`: the plot of the run of the problem on the source, or the status that refuses it.
 pub(crate) fn run<R: Threads + Sync, S: Source, O: Sink, G: Gate + Sync>(
     workers: &Workers<'_, R, G>,
-    alloc: Global,
     to: Option<u32>,
     src: &mut S,
     out: &mut O,
@@ -109,9 +117,9 @@ pub(crate) fn run<R: Threads + Sync, S: Source, O: Sink, G: Gate + Sync>(
     ensures write_fault { result ≡ Err Status.WriteFault → Rose (O.faults out.old) (O.faults out.new) }
     ensures no_write_fault { result ≢ Err Status.WriteFault → O.faults out.new ≡ O.faults out.old }
 {
-    let given = read_problem(alloc, src)?;
+    let given = read_problem(workers.alloc, src)?;
     let target = stop_of(&given.problem, to);
-    let mesh = run_to(workers, alloc, &given.problem, target)?;
+    let mesh = run_to(workers, &given.problem, target)?;
     plot(&given.problem, &mesh, out)?;
     Ok(())
 }
@@ -120,22 +128,20 @@ pub(crate) fn run<R: Threads + Sync, S: Source, O: Sink, G: Gate + Sync>(
 /// the status that refuses it. Each checkpoint is acknowledged on `err` once it stands; the plot is written last.
 pub(crate) fn keep<R: Threads + Sync, S: Source, O: Sink, E: Sink, D: Disk, G: Gate + Sync>(
     workers: &Workers<'_, R, G>,
-    alloc: Global,
-    to: Option<u32>,
-    every: u32,
+    marks: Marks,
     src: &mut S,
     out: &mut O,
     err: &mut E,
     disk: &mut D,
 ) -> Result<(), Status>
-    requires some { 1 ≤ every }
+    requires some { 1 ≤ marks.every }
     requires some_workers { 1 ≤ workers.now.count }
     requires few_workers { workers.now.count ≤ 64 }
     requires gate { (worker task : ℕ) → worker < workers.now.count → G.admits workers.now.gate.now worker task }
     ensures outcome { (bytes : List ℕ) × ((sent : List ℕ) × ((said : List ℕ) × WereLeft (S.left src.old) bytes
         × Grows O.holds out.old out.new sent × Grows E.holds err.old err.new said
-        × RepliesKeeping (status_of result) (IsPlotOfKeptRun bytes to every (D.seen disk.old)) (λ refusal. IfSome (D.seen disk.old) (RefusesRunTo bytes to refusal)) bytes sent said
-        × StopsRun D.seen D.moment D.leaves disk.old disk.new bytes to every said)) }
+        × RepliesKeeping (status_of result) (IsPlotOfKeptRun bytes marks.to marks.every (D.seen disk.old)) (λ refusal. IfSome (D.seen disk.old) (RefusesRunTo bytes marks.to refusal)) bytes sent said
+        × StopsRun D.seen D.moment D.leaves disk.old disk.new bytes marks.to marks.every said)) }
     ensures ended { OnOk result (IsAtEnd (S.left src.new)) }
     ensures taken { TakesAtMost 65537 (S.left src.old) (S.left src.new) }
     ensures refused { IfErr result (λ status. status ≢ Status.Done) }
@@ -147,12 +153,12 @@ pub(crate) fn keep<R: Threads + Sync, S: Source, O: Sink, E: Sink, D: Disk, G: G
     ensures no_write_fault { result ≢ Err Status.WriteFault → (O.faults out.new ≡ O.faults out.old) × (E.faults err.new ≡ E.faults err.old) }
     ensures unwritten { (refusal : _) → result ≡ Err (Status.Store refusal) → OnlyReads D.seen D.moment D.leaves disk.old disk.new }
 {
-    let given = read_problem(alloc, src)?;
+    let given = read_problem(workers.alloc, src)?;
     let keeping = Keeping {
-        alloc,
+        alloc: workers.alloc,
         problem: &given.problem,
-        every,
-        target: stop_of(&given.problem, to),
+        every: marks.every,
+        target: stop_of(&given.problem, marks.to),
     };
     let mesh = keep_run(workers, &keeping, &given.bytes, err, disk)?;
     plot(&given.problem, &mesh, out)?;
@@ -179,7 +185,6 @@ pub(crate) fn show<O: Sink, D: Disk>(alloc: Global, out: &mut O, disk: &mut D) -
 /// accepted.
 pub(crate) fn trial<R: Threads + Sync, O: Sink, G: Gate + Sync>(
     workers: &Workers<'_, R, G>,
-    alloc: Global,
     number: u32,
     size: u32,
     out: &mut O,
@@ -194,9 +199,10 @@ pub(crate) fn trial<R: Threads + Sync, O: Sink, G: Gate + Sync>(
     ensures write_fault { result ≡ Err Status.WriteFault → Rose (O.faults out.old) (O.faults out.new) }
     ensures no_write_fault { result ≢ Err Status.WriteFault → O.faults out.new ≡ O.faults out.old }
 {
+    let alloc = workers.alloc;
     let bytes = text(alloc, number, size)?;
     let problem = judge(alloc, &bytes)?;
-    let mesh = run_to(workers, alloc, &problem, TRIAL_STEPS)?;
+    let mesh = run_to(workers, &problem, TRIAL_STEPS)?;
     let line = summary(alloc, number, size, &problem, &mesh)?;
     write_whole(out, &line)?;
     Ok(())

@@ -10,7 +10,7 @@ ghost use Rattle.amr_run.specs.Reading.{TakesAtMost};
 ghost use Rattle.amr_store.specs.Phases.{OnlyReads};
 
 use crate::Status;
-use crate::commands::{Workers, check, keep, run, show, trial};
+use crate::commands::{Marks, Workers, check, keep, run, show, trial};
 use crate::message::tell;
 use amr_cli::{CliFault, Command, Line, parse};
 use amr_disk::Disk;
@@ -214,9 +214,18 @@ fn answer<R: Threads + Sync, S: Source, O: Sink, E: Sink, D: Disk, G: Gate + Syn
     ensures no_write_fault { result ≢ Err Status.WriteFault → (O.faults out.new ≡ O.faults out.old) × (E.faults err.new ≡ E.faults err.old) }
 {
     match command {
-        Command::Run { workers, to, keep } => {
-            let workers = workers_of(shell, workers);
-            run_command(&workers, shell.alloc, to, keep, src, out, err, disk)
+        Command::Run {
+            workers,
+            to,
+            keep: None,
+        } => run(&workers_of(shell, workers), to, src, out),
+        Command::Run {
+            workers,
+            to,
+            keep: Some(every),
+        } => {
+            let marks = Marks { to, every };
+            keep(&workers_of(shell, workers), marks, src, out, err, disk)
         }
         Command::Check => check(shell.alloc, src, out),
         Command::Show => show(shell.alloc, out, disk),
@@ -224,52 +233,11 @@ fn answer<R: Threads + Sync, S: Source, O: Sink, E: Sink, D: Disk, G: Gate + Syn
             number,
             size,
             workers,
-        } => {
-            let workers = workers_of(shell, workers);
-            trial(&workers, shell.alloc, number, size, out)
-        }
+        } => trial(&workers_of(shell, workers), number, size, out),
     }
 }
 
-/// The command `run`, with checkpoints or without.
-fn run_command<R: Threads + Sync, S: Source, O: Sink, E: Sink, D: Disk, G: Gate + Sync>(
-    workers: &Workers<'_, R, G>,
-    alloc: Global,
-    to: Option<u32>,
-    every: Option<u32>,
-    src: &mut S,
-    out: &mut O,
-    err: &mut E,
-    disk: &mut D,
-) -> Result<(), Status>
-    requires some { IfSome every (λ every. 1 ≤ every) }
-    requires some_workers { 1 ≤ workers.now.count }
-    requires few_workers { workers.now.count ≤ 64 }
-    requires gate { (worker task : ℕ) → worker < workers.now.count → G.admits workers.now.gate.now worker task }
-    ensures outcome { (bytes : List ℕ) × ((sent : List ℕ) × ((said : List ℕ) × WereLeft (S.left src.old) bytes
-        × Grows O.holds out.old out.new sent × Grows E.holds err.old err.new said
-        × RepliesTo (status_of result) (Command.Run workers.now.count to every) bytes (D.seen disk.old) sent said
-        × StopsTo D.seen D.moment D.leaves disk.old disk.new (Some (Command.Run workers.now.count to every)) bytes said)) }
-    ensures ended { OnOk result (IsAtEnd (S.left src.new)) }
-    ensures unopened { ¬ (OpensStore (Command.Run workers.now.count to every)) → disk.new ≡ disk.old }
-    ensures silent { ¬ (KeepsCheckpoints (Command.Run workers.now.count to every)) → err.new ≡ err.old }
-    ensures taken { TakesAtMost 65537 (S.left src.old) (S.left src.new) }
-    ensures refused { IfErr result (λ status. (status ≢ Status.Done) × (status ≢ Status.Usage)) }
-    ensures unwritten { (refusal : _) → result ≡ Err (Status.Store refusal) → OnlyReads D.seen D.moment D.leaves disk.old disk.new }
-    ensures read_fault { result ≡ Err Status.ReadFault → Rose (S.faults src.old) (S.faults src.new) }
-    ensures no_read_fault { result ≢ Err Status.ReadFault → S.faults src.new ≡ S.faults src.old }
-    ensures disk_fault { result ≡ Err Status.DiskFault → Rose (D.faults disk.old) (D.faults disk.new) }
-    ensures no_disk_fault { result ≢ Err Status.DiskFault → D.faults disk.new ≡ D.faults disk.old }
-    ensures write_fault { result ≡ Err Status.WriteFault → (Rose (O.faults out.old) (O.faults out.new) × (E.faults err.new ≡ E.faults err.old)) ⊎ Rose (E.faults err.old) (E.faults err.new) }
-    ensures no_write_fault { result ≢ Err Status.WriteFault → (O.faults out.new ≡ O.faults out.old) × (E.faults err.new ≡ E.faults err.old) }
-{
-    match every {
-        None => run(workers, alloc, to, src, out),
-        Some(every) => keep(workers, alloc, to, every, src, out, err, disk),
-    }
-}
-
-/// So many workers on the threads of a call.
+/// So many workers on the threads of a call, with its memory.
 fn workers_of<'a, R, G>(shell: &Shell<'a, R, G>, count: u32) -> Workers<'a, R, G>
     ensures count { result.count ≡ count }
     ensures gate { result.gate.now ≡ shell.now.gate.now }
@@ -278,5 +246,6 @@ fn workers_of<'a, R, G>(shell: &Shell<'a, R, G>, count: u32) -> Workers<'a, R, G
         runtime: shell.runtime,
         count,
         gate: shell.gate,
+        alloc: shell.alloc,
     }
 }

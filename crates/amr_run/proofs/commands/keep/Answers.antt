@@ -22,7 +22,7 @@ returns-in_err-given-clause-outcome g c =
           read.1,
           grows_none g.O.Sink.holds c.args.out.now,
           grows_none g.E.Sink.holds c.args.err.now,
-          kept_by (IsPlotOfKeptRun read.0 c.args.to c.args.every (g.D.Disk.seen c.args.disk.now)) (λ (refusal : Refusal). IfSome (g.D.Disk.seen c.args.disk.now) (RefusesRunTo read.0 c.args.to refusal)) c.from_residual.result _ read.0 [] [] c.from_residual.ensures.1 (unread_kept (IsPlotOfKeptRun read.0 c.args.to c.args.every (g.D.Disk.seen c.args.disk.now)) (λ (refusal : Refusal). IfSome (g.D.Disk.seen c.args.disk.now) (RefusesRunTo read.0 c.args.to refusal)) _ read.0 read.2),
+          kept_by (IsPlotOfKeptRun read.0 c.args.marks.to c.args.marks.every (g.D.Disk.seen c.args.disk.now)) (λ (refusal : Refusal). IfSome (g.D.Disk.seen c.args.disk.now) (RefusesRunTo read.0 c.args.marks.to refusal)) c.from_residual.result _ read.0 [] [] c.from_residual.ensures.1 (unread_kept (IsPlotOfKeptRun read.0 c.args.marks.to c.args.marks.every (g.D.Disk.seen c.args.disk.now)) (λ (refusal : Refusal). IfSome (g.D.Disk.seen c.args.disk.now) (RefusesRunTo read.0 c.args.marks.to refusal)) _ read.0 read.2),
           λ image told. inl (only_reads_none g.D.Disk.seen g.D.Disk.moment g.D.Disk.leaves c.args.disk.now),
         ),
       ),
@@ -34,7 +34,7 @@ keep_run-requires-clause-accepted g c κs within =
     subst (λ (b : List ℕ). IsProblemOf b c.in_ok-given.given.problem) (sym (c.deref.ensures.value ∙ read.2.0)) read.2.1
 
 pub keep_run-requires-clause-within : goal.keep_run-requires-clause-within
-keep_run-requires-clause-within g c κs within = stops_within c.args.to c.in_ok-given.given.problem c.stop_of.result c.stop_of.ensures
+keep_run-requires-clause-within g c κs within = stops_within c.args.marks.to c.in_ok-given.given.problem c.stop_of.result c.stop_of.ensures
 
 pub returns-in_err-mesh-clause-outcome : goal.returns-in_err-mesh-clause-outcome
 returns-in_err-mesh-clause-outcome g c =
@@ -50,8 +50,8 @@ returns-in_err-mesh-clause-outcome g c =
           read.1,
           grows_none g.O.Sink.holds c.args.out.now,
           run.1,
-          kept_by (IsPlotOfKeptRun read.0 c.args.to c.args.every (g.D.Disk.seen c.args.disk.now)) (λ (refusal : Refusal). IfSome (g.D.Disk.seen c.args.disk.now) (RefusesRunTo read.0 c.args.to refusal)) c.from_residual-in_err-mesh.result _ read.0 [] run.0 c.from_residual-in_err-mesh.ensures.1 (kept_replies _ c.deref.result.now read.0 c.args.to p c.args.every c.stop_of.result (g.D.Disk.seen c.args.disk.now) run.0 same c.stop_of.ensures read.2.1 run.2),
-          stops_run g.D.Disk.seen g.D.Disk.moment g.D.Disk.leaves c.args.disk.now c.keep_run.new.disk c.deref.result.now read.0 c.args.to p c.args.every c.stop_of.result run.0 same c.stop_of.ensures read.2.1 run.3,
+          kept_by (IsPlotOfKeptRun read.0 c.args.marks.to c.args.marks.every (g.D.Disk.seen c.args.disk.now)) (λ (refusal : Refusal). IfSome (g.D.Disk.seen c.args.disk.now) (RefusesRunTo read.0 c.args.marks.to refusal)) c.from_residual-in_err-mesh.result _ read.0 [] run.0 c.from_residual-in_err-mesh.ensures.1 (kept_replies _ c.deref.result.now read.0 c.args.marks.to p c.args.marks.every c.stop_of.result (g.D.Disk.seen c.args.disk.now) run.0 same c.stop_of.ensures read.2.1 run.2),
+          stops_run g.D.Disk.seen g.D.Disk.moment g.D.Disk.leaves c.args.disk.now c.keep_run.new.disk c.deref.result.now read.0 c.args.marks.to p c.args.marks.every c.stop_of.result run.0 same c.stop_of.ensures read.2.1 run.3,
         ),
       ),
     )
@@ -64,7 +64,7 @@ returns-in_err-plot-clause-outcome g c =
     let same = c.deref.ensures.value ∙ read.2.0 in
     let part = c.in_err-plot.ensures.short in
     let whole = plot p (state_of c.in_ok-mesh.mesh) in
-    let answer = plot_of_kept c.deref.result.now read.0 c.args.to p c.args.every c.stop_of.result (g.D.Disk.seen c.args.disk.now) whole run.0 same c.stop_of.ensures read.2.1 run.2 in (
+    let answer = plot_of_kept c.deref.result.now read.0 c.args.marks.to p c.args.marks.every c.stop_of.result (g.D.Disk.seen c.args.disk.now) whole run.0 same c.stop_of.ensures read.2.1 run.2 in (
       read.0,
       (
         part.0,
@@ -73,8 +73,8 @@ returns-in_err-plot-clause-outcome g c =
           read.1,
           part.2,
           run.1,
-          kept_by (IsPlotOfKeptRun read.0 c.args.to c.args.every (g.D.Disk.seen c.args.disk.now)) (λ (refusal : Refusal). IfSome (g.D.Disk.seen c.args.disk.now) (RefusesRunTo read.0 c.args.to refusal)) c.from_residual-in_err-plot.result WriteFault read.0 part.0 run.0 c.from_residual-in_err-plot.ensures.1 (record { whole = whole; lines = run.0; answer = answer; cut = inl (part.1, refl) }),
-          stops_run g.D.Disk.seen g.D.Disk.moment g.D.Disk.leaves c.args.disk.now c.keep_run.new.disk c.deref.result.now read.0 c.args.to p c.args.every c.stop_of.result run.0 same c.stop_of.ensures read.2.1 run.3,
+          kept_by (IsPlotOfKeptRun read.0 c.args.marks.to c.args.marks.every (g.D.Disk.seen c.args.disk.now)) (λ (refusal : Refusal). IfSome (g.D.Disk.seen c.args.disk.now) (RefusesRunTo read.0 c.args.marks.to refusal)) c.from_residual-in_err-plot.result WriteFault read.0 part.0 run.0 c.from_residual-in_err-plot.ensures.1 (record { whole = whole; lines = run.0; answer = answer; cut = inl (part.1, refl) }),
+          stops_run g.D.Disk.seen g.D.Disk.moment g.D.Disk.leaves c.args.disk.now c.keep_run.new.disk c.deref.result.now read.0 c.args.marks.to p c.args.marks.every c.stop_of.result run.0 same c.stop_of.ensures read.2.1 run.3,
         ),
       ),
     )
@@ -94,8 +94,8 @@ returns-clause-outcome g c =
           read.1,
           c.in_ok-plot.ensures.whole,
           run.1,
-          plot_of_kept c.deref.result.now read.0 c.args.to p c.args.every c.stop_of.result (g.D.Disk.seen c.args.disk.now) whole run.0 same c.stop_of.ensures read.2.1 run.2,
-          stops_run g.D.Disk.seen g.D.Disk.moment g.D.Disk.leaves c.args.disk.now c.keep_run.new.disk c.deref.result.now read.0 c.args.to p c.args.every c.stop_of.result run.0 same c.stop_of.ensures read.2.1 run.3,
+          plot_of_kept c.deref.result.now read.0 c.args.marks.to p c.args.marks.every c.stop_of.result (g.D.Disk.seen c.args.disk.now) whole run.0 same c.stop_of.ensures read.2.1 run.2,
+          stops_run g.D.Disk.seen g.D.Disk.moment g.D.Disk.leaves c.args.disk.now c.keep_run.new.disk c.deref.result.now read.0 c.args.marks.to p c.args.marks.every c.stop_of.result run.0 same c.stop_of.ensures read.2.1 run.3,
         ),
       ),
     )

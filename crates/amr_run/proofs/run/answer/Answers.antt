@@ -1,4 +1,4 @@
-use Rattle.std.proofs.Common.{◌≡◌, ◌∙◌, ap, refl, sym, subst, Some, []}
+use Rattle.std.proofs.Common.{◌≡◌, ◌∙◌, ap, refl, sym, subst, Some, None, []}
 use Rattle.amr_causes.proofs.ByteLaws.{grows_none, were_left}
 use Rattle.amr_cli.specs.declared.command.Command.{Command}
 use Rattle.amr_cli.specs.declared.command.Command.TheVariants.{Run}
@@ -6,12 +6,33 @@ use Rattle.amr_run.specs.Outcome.{RepliesTo, StopsTo, status_of}
 use Rattle.amr_run.proofs.KeptOutcomes.{stops_none}
 use Rattle.amr_run.proofs.run.answer.Goals as goal
 
-pub returns-in-Run-clause-outcome : goal.returns-in-Run-clause-outcome
-returns-in-Run-clause-outcome g c =
-    let done = c.run_command.ensures.outcome in
+pub returns-in-Run-default-default-None-clause-outcome : goal.returns-in-Run-default-default-None-clause-outcome
+returns-in-Run-default-default-None-clause-outcome g c =
+    let done = c.run.ensures.outcome in
+    let kept : c.in-Run-default-default-None.keep ≡ None = rw c.in-Run-default-default-None.is at c.in-Run-default-default-None.keep-is in
+    let is : Run c.in-Run-default-default-None.workers c.in-Run-default-default-None.to None ≡ c.args.command = ap (λ k. Run c.in-Run-default-default-None.workers c.in-Run-default-default-None.to k) (sym kept) ∙ sym c.in-Run-default-default-None.is in
+    let seen = g.D.Disk.seen c.args.disk.now in (
+      done.0,
+      (
+        done.1.0,
+        (
+          [],
+          done.1.1,
+          done.1.2,
+          grows_none g.E.Sink.holds c.args.err.now,
+          subst (λ (command : Command). RepliesTo (status_of c.run.result) command done.0 seen done.1.0 []) is (done.1.3, refl),
+          stops_none g.D.Disk.seen g.D.Disk.moment g.D.Disk.leaves c.args.disk.now (Some c.args.command) done.0 [],
+        ),
+      ),
+    )
+
+pub returns-in-Run-default-default-Some-clause-outcome : goal.returns-in-Run-default-default-Some-clause-outcome
+returns-in-Run-default-default-Some-clause-outcome g c =
+    let done = c.keep.ensures.outcome in
     let all = done.1.1 in
-    let seen = g.D.Disk.seen c.args.disk.now in
-    let is : Run c.workers_of-workers.result.count c.in-Run.to c.in-Run.keep ≡ c.args.command = ap (λ n. Run n c.in-Run.to c.in-Run.keep) c.workers_of-workers.ensures.count ∙ sym c.in-Run.is in (
+    let kept : c.in-Run-default-default-Some.keep ≡ Some c.in-Run-default-default-Some.every = rw c.in-Run-default-default-Some.is at c.in-Run-default-default-Some.keep-is in
+    let is : Run c.in-Run-default-default-Some.workers c.in-Run-default-default-Some.to (Some c.in-Run-default-default-Some.every) ≡ c.args.command = ap (λ k. Run c.in-Run-default-default-Some.workers c.in-Run-default-default-Some.to k) (sym kept) ∙ sym c.in-Run-default-default-Some.is in
+    let seen = g.D.Disk.seen c.args.disk.now in (
       done.0,
       (
         done.1.0,
@@ -20,8 +41,8 @@ returns-in-Run-clause-outcome g c =
           all.1,
           all.2,
           all.3,
-          subst (λ (command : Command). RepliesTo (status_of c.run_command.result) command done.0 seen done.1.0 all.0) is all.4,
-          subst (λ (command : Command). StopsTo g.D.Disk.seen g.D.Disk.moment g.D.Disk.leaves c.args.disk.now c.run_command.new.disk (Some command) done.0 all.0) is all.5,
+          subst (λ (command : Command). RepliesTo (status_of c.keep.result) command done.0 seen done.1.0 all.0) is all.4,
+          subst (λ (command : Command). StopsTo g.D.Disk.seen g.D.Disk.moment g.D.Disk.leaves c.args.disk.now c.keep.new.disk (Some command) done.0 all.0) is all.5,
         ),
       ),
     )
