@@ -1,6 +1,6 @@
--- The entries of a register to which the totals of a closed board are added, cell by cell.
+-- The entries of a register to which the totals of a level's step are added, cell by cell.
 use Rattle.std.proofs.Common.{◌≡◌, ◌∙◌, ℕ, ◌+◌, ◌*◌, ◌^◌, ◌<◌, ◌≤◌, ◌⊎◌, inl, inr, ℤ, pos, negsuc, ◌+ℤ◌, ◌-ℤ◌, ◌<ℤ◌, List, length, refl, sym, ap, subst, arith}
-use Rattle.std.specs.Prelude.{slice_index_or, unsigned_abs}
+use Rattle.std.specs.Prelude.{slice_index, slice_index_or, unsigned_abs}
 use Rattle.std.proofs.lemmas.Bool.{cases_eq, cases_lt}
 use Rattle.std.proofs.lemmas.Int.{ints}
 use Rattle.std.proofs.lemmas.List.Sums.{count_by-le-length, length-filter}
@@ -11,7 +11,6 @@ use Rattle.amr_box.proofs.Parts.{length-cells_of}
 use Rattle.amr_def.specs.declared.problem.Problem.{Problem}
 use Rattle.amr_def.specs.Domain.{domain, domain_box}
 use Rattle.amr_def.specs.State.{Masses}
-use Rattle.amr_board.specs.Ended.{EndedOf, total_of}
 use Rattle.amr_flows.proofs.RegisterFlowsSigns.{register_cells_rise}
 use Rattle.amr_flows.proofs.SubcycleSizes.{within_from}
 use Rattle.amr_register.specs.declared.register.Register.{Register}
@@ -21,21 +20,20 @@ use Rattle.amr_register.specs.Registers.{IsRegisterOf, SameCells, cells_in, entr
 use Rattle.amr_register.proofs.Homes.{size_at}
 use Rattle.amr_register.proofs.Refluxes.{apart_places}
 use Rattle.amr_register.proofs.Taken.{same_at}
-use Rattle.amr_work.specs.declared.work.Work.{Work}
 use Rattle.amr_advance.proofs.CoarseParts.{same_twice}
 
 -- what flowed into register cell k less what flowed out of it
-abbrev pub gain_of : EndedOf Work → ℕ → ℤ
-gain_of o k = pos (total_of o (2 + 2 * k)) -ℤ pos (total_of o (3 + 2 * k))
+abbrev pub gain_of : List ℕ → ℕ → ℤ
+gain_of ws k = pos (slice_index ws (2 + 2 * k)) -ℤ pos (slice_index ws (3 + 2 * k))
 
 -- the entries of the first n cells have their gains, those of the others are as they were
-pub record AreAbsorbedUpTo (o : EndedOf Work) (old now : Register) (n : ℕ) : Type 0 where
-  pub done : (k : ℕ) (c : Cell) → k < n → k < length (cells_in old) → c ≡ slice_index_or (cells_in old) k c → entry_in now c ≡ entry_in old c +ℤ gain_of o k
+pub record AreAbsorbedUpTo (ws : List ℕ) (old now : Register) (n : ℕ) : Type 0 where
+  pub done : (k : ℕ) (c : Cell) → k < n → k < length (cells_in old) → c ≡ slice_index_or (cells_in old) k c → entry_in now c ≡ entry_in old c +ℤ gain_of ws k
   pub left : (k : ℕ) (c : Cell) → n ≤ k → k < length (cells_in old) → c ≡ slice_index_or (cells_in old) k c → entry_in now c ≡ entry_in old c
   pub cells : SameCells old now
 
-pub none_absorbed : (o : EndedOf Work) (r : Register) → AreAbsorbedUpTo o r r 0
-none_absorbed o r = record { done = λ k c lt. absurd (omega (arith, lt)); left = λ k c le there at. refl; cells = record { cells = refl; sides = refl } }
+pub none_absorbed : (ws : List ℕ) (r : Register) → AreAbsorbedUpTo ws r r 0
+none_absorbed ws r = record { done = λ k c lt. absurd (omega (arith, lt)); left = λ k c le there at. refl; cells = record { cells = refl; sides = refl } }
 
 abbrev pub IsOfLevels : Register → Type 0
 IsOfLevels r = (p : Problem) × ((l : ℕ) × ((m : Masses) × ((fine : Masses) × IsRegisterOf p l m fine r)))
@@ -62,7 +60,7 @@ few_cells p l m fine shallow =
 
 -- ---- the entry of the next cell
 
-module _ (o : EndedOf Work) (old now : Register) (n : ℕ) (up : AreAbsorbedUpTo o old now n) (lt : n < length (cells_in old)) where
+module _ (ws : List ℕ) (old now : Register) (n : ℕ) (up : AreAbsorbedUpTo ws old now n) (lt : n < length (cells_in old)) where
   -- the cell at place n, whatever would stand past the end
   itself : (c : Cell) → slice_index_or (cells_in now) n c ≡ slice_index_or (cells_in old) n c
   itself c = ap (λ (cs : List Cell). slice_index_or cs n c) up.cells.cells
@@ -87,9 +85,9 @@ module _ (o : EndedOf Work) (old now : Register) (n : ℕ) (up : AreAbsorbedUpTo
 
   -- ---- one more
 
-  pub one_absorbed : (new : Register) (gain loss : ℕ) → IsOfLevels old → gain ≡ total_of o (2 + 2 * n) → loss ≡ total_of o (3 + 2 * n)
+  pub one_absorbed : (new : Register) (gain loss : ℕ) → IsOfLevels old → gain ≡ slice_index ws (2 + 2 * n) → loss ≡ slice_index ws (3 + 2 * n)
       → ((c : Cell) → c ≡ slice_index_or (cells_in now) n c → entry_in new c ≡ entry_in now c +ℤ pos gain -ℤ pos loss)
-      → ((c : Cell) → (c ≡ slice_index_or (cells_in now) n c → ⊥) → entry_in new c ≡ entry_in now c) → SameCells now new → AreAbsorbedUpTo o old new (n + 1)
+      → ((c : Cell) → (c ≡ slice_index_or (cells_in now) n c → ⊥) → entry_in new c ≡ entry_in now c) → SameCells now new → AreAbsorbedUpTo ws old new (n + 1)
   one_absorbed new gain loss made is_gain is_loss added others same = record {
     done = λ k c less there at. by_place k c less there at (cases_eq k n);
     left = λ k c le there at. others c (apart k c there at (λ e. omega (arith, le, e))) ∙ up.left k c (omega (arith, le)) there at;
@@ -111,11 +109,11 @@ module _ (o : EndedOf Work) (old now : Register) (n : ℕ) (up : AreAbsorbedUpTo
               by_order (inl j) = apart_places (cells_in old) n k c c (rises old made) j there (sym same_cell)
               by_order (inr j) = ne (omega (arith, h, j))
 
-      by_place : (k : ℕ) (c : Cell) → k < n + 1 → k < length (cells_in old) → c ≡ slice_index_or (cells_in old) k c → (k ≡ n) ⊎ (k ≡ n → ⊥) → entry_in new c ≡ entry_in old c +ℤ gain_of o k
+      by_place : (k : ℕ) (c : Cell) → k < n + 1 → k < length (cells_in old) → c ≡ slice_index_or (cells_in old) k c → (k ≡ n) ⊎ (k ≡ n → ⊥) → entry_in new c ≡ entry_in old c +ℤ gain_of ws k
       by_place k c less there at (inl e) =
           let here : c ≡ slice_index_or (cells_in old) n c = at ∙ ap (λ (i : ℕ). slice_index_or (cells_in old) i c) e in
           let step = added c (here ∙ sym (itself c)) in
           let before = up.left n c (omega arith) lt here in
           let sum : entry_in new c ≡ entry_in old c +ℤ (pos gain -ℤ pos loss) = omega (arith, ints, step, before) in
-          sum ∙ (λ i. entry_in old c +ℤ (pos (is_gain i) -ℤ pos (is_loss i))) ∙ ap (λ (i : ℕ). entry_in old c +ℤ gain_of o i) (sym e)
+          sum ∙ (λ i. entry_in old c +ℤ (pos (is_gain i) -ℤ pos (is_loss i))) ∙ ap (λ (i : ℕ). entry_in old c +ℤ gain_of ws i) (sym e)
       by_place k c less there at (inr ne) = others c (apart k c there at ne) ∙ up.done k c (omega (arith, less, ne)) there at

@@ -1,6 +1,6 @@
 -- What a step of a level's patches gives to the level and to what the step adds to.
 use Rattle.std.proofs.Common.{◌≡◌, ℕ, zero, suc, ◌+◌, ◌*◌, ◌^◌, ◌<◌, pos, ◌+ℤ◌, ◌-ℤ◌, List, length, sym, ap, subst, ◌∙◌, arith}
-use Rattle.std.specs.Prelude.{is_some, slice_index_or, unsigned_abs}
+use Rattle.std.specs.Prelude.{is_some, slice_index, slice_index_or, unsigned_abs}
 use Rattle.std.specs.declared.option.Option.{Option}
 use Rattle.std.specs.declared.option.Option.TheVariants.{None, Some}
 use Rattle.amr_box.specs.declared.Cell.{Cell}
@@ -28,8 +28,6 @@ use Rattle.amr_flows.proofs.SubcycleSizes.{children_size}
 use Rattle.amr_register.specs.declared.register.Register.{Register}
 use Rattle.amr_register.specs.RegisterCells.{register_cells}
 use Rattle.amr_register.specs.Registers.{cells_in, entry_in}
-use Rattle.amr_board.specs.Ended.{EndedOf, total_of}
-use Rattle.amr_work.specs.declared.work.Work.{Work}
 use Rattle.amr_advance.specs.Registers.{BothChange, Changes, HasCoarser, cells_of, gained}
 use Rattle.amr_advance.specs.Totals.{HasTotals, HasAbsorbed, MayAbsorb, SomeHasAbsorbed, SomeMayAbsorb}
 
@@ -50,40 +48,40 @@ cells_serve p (suc l) k (Some coarse) (Some r) qs next h level same =
 
 -- ---- the sums
 
-module _ (p : Problem) (l : ℕ) (m old fine : Masses) (cells : List Cell) (o : EndedOf Work) (totals : HasTotals p l m old fine cells o) (count : o.registers ≡ 2 + 2 * length cells) where
-  pub inflow_is : total_of o 0 ≡ inflow_beside p l (is_uncovered m fine) (flux_at p l m old)
+module _ (p : Problem) (l : ℕ) (m old fine : Masses) (cells : List Cell) (ws : List ℕ) (totals : HasTotals p l m old fine cells ws) (count : length ws ≡ 2 + 2 * length cells) where
+  pub inflow_is : slice_index ws 0 ≡ inflow_beside p l (is_uncovered m fine) (flux_at p l m old)
   inflow_is = totals.words 0 (omega (arith, count)) ∙ inflow_of_level p l m old fine totals.patches cells totals.of_level
 
-  pub outflow_is : total_of o 1 ≡ outflow_beside p l (is_uncovered m fine) (flux_at p l m old)
+  pub outflow_is : slice_index ws 1 ≡ outflow_beside p l (is_uncovered m fine) (flux_at p l m old)
   outflow_is = totals.words 1 (omega (arith, count)) ∙ outflow_of_level p l m old fine totals.patches cells totals.of_level
 
 -- ---- the register of the next coarser level
 
-module _ (p : Problem) (l : ℕ) (k : Level) (coarse : Held) (r : Register) (old fine : Masses) (o : EndedOf Work) (h : HasCoarser p (suc l) k (Some coarse) (Some r)) (level : IsLevel p (suc l) k)
-    (totals : HasTotals p (suc l) k.masses old fine (cells_in r) o) (count : o.registers ≡ 2 + 2 * length (cells_in r)) where
+module _ (p : Problem) (l : ℕ) (k : Level) (coarse : Held) (r : Register) (old fine : Masses) (ws : List ℕ) (h : HasCoarser p (suc l) k (Some coarse) (Some r)) (level : IsLevel p (suc l) k)
+    (totals : HasTotals p (suc l) k.masses old fine (cells_in r) ws) (count : length ws ≡ 2 + 2 * length (cells_in r)) where
   abbrev listed : List Cell
   listed = register_cells p l (level_of coarse).masses k.masses
 
   in_list : (n : ℕ) → n < length (cells_in r) → n < length listed
   in_list n lt = omega (arith, lt, ap length h.2.cells)
 
-  pub word_is : (n : ℕ) (c : Cell) → n < length (cells_in r) → pos (total_of o (2 + 2 * n)) -ℤ pos (total_of o (3 + 2 * n)) ≡ net (child_flows p l k.masses (flux_at p (suc l) k.masses old)) (slice_index_or (cells_in r) n c)
+  pub word_is : (n : ℕ) (c : Cell) → n < length (cells_in r) → pos (slice_index ws (2 + 2 * n)) -ℤ pos (slice_index ws (3 + 2 * n)) ≡ net (child_flows p l k.masses (flux_at p (suc l) k.masses old)) (slice_index_or (cells_in r) n c)
   word_is n c lt =
       (λ i. pos (totals.words (2 + 2 * n) (omega (arith, lt, count)) i) -ℤ pos (totals.words (3 + 2 * n) (omega (arith, lt, count)) i))
       ∙ (λ i. pos (level_total (record { problem = p; level = suc l; patches = totals.patches; cells = h.2.cells i; finer = fine }) (plain_size p (suc l) k.masses old) (2 + 2 * n)) -ℤ pos (level_total (record { problem = p; level = suc l; patches = totals.patches; cells = h.2.cells i; finer = fine }) (plain_size p (suc l) k.masses old) (3 + 2 * n)))
       ∙ words_are_of_children p l (level_of coarse) k old fine totals.patches n c h.0 level h.1 totals.of_level (in_list n lt)
       ∙ ap (λ (xs : List Cell). net (child_flows p l k.masses (flux_at p (suc l) k.masses old)) (slice_index_or xs n c)) (sym h.2.cells)
 
-  word_small : ((f : Face) → unsigned_abs (flux_at p (suc l) k.masses old f) < 2 ^ 31) → (n : ℕ) → n < length (cells_in r) → unsigned_abs (pos (total_of o (2 + 2 * n)) -ℤ pos (total_of o (3 + 2 * n))) < 2 ^ 61
+  word_small : ((f : Face) → unsigned_abs (flux_at p (suc l) k.masses old f) < 2 ^ 31) → (n : ℕ) → n < length (cells_in r) → unsigned_abs (pos (slice_index ws (2 + 2 * n)) -ℤ pos (slice_index ws (3 + 2 * n))) < 2 ^ 61
   word_small small n lt =
       let c : Cell = record { x = pos 0; y = pos 0 } in
       let size = children_size p l k.masses (flux_at p (suc l) k.masses old) (slice_index_or (cells_in r) n c) small in
       subst (λ z. unsigned_abs z < 2 ^ 61) (sym (word_is n c lt)) (omega (arith, size))
 
-  pub may_absorb : ((f : Face) → unsigned_abs (flux_at p (suc l) k.masses old f) < 2 ^ 31) → MayAbsorb o r
+  pub may_absorb : ((f : Face) → unsigned_abs (flux_at p (suc l) k.masses old f) < 2 ^ 31) → MayAbsorb ws r
   may_absorb small = record { made = (p, (l, ((level_of coarse).masses, (k.masses, h.2)))); room = h.3; net = word_small small }
 
-  pub has_changed : (s : Register) → HasAbsorbed o r s → Changes (gained p (suc l) k.masses (flux_at p (suc l) k.masses old)) r s
+  pub has_changed : (s : Register) → HasAbsorbed ws r s → Changes (gained p (suc l) k.masses (flux_at p (suc l) k.masses old)) r s
   has_changed s a = record {
     cells = a.cells;
     entries = λ c there.
@@ -92,22 +90,22 @@ module _ (p : Problem) (l : ℕ) (k : Level) (coarse : Held) (r : Register) (old
   }
 
 -- where there is one
-pub some_may_absorb : (p : Problem) (l : ℕ) (k : Level) (below : Option Held) (r : Option Register) (old fine : Masses) (o : EndedOf Work) → HasCoarser p l k below r → IsLevel p l k → HasTotals p l k.masses old fine (cells_of r) o → o.registers ≡ 2 + 2 * length (cells_of r)
-    → ((f : Face) → unsigned_abs (flux_at p l k.masses old f) < 2 ^ 31) → SomeMayAbsorb o r
-some_may_absorb p zero k None None old fine o h level totals count small = tt
-some_may_absorb p zero k None (Some r) old fine o h level totals count small = absurd h
-some_may_absorb p zero k (Some coarse) r old fine o h level totals count small = absurd h
-some_may_absorb p (suc l) k None r old fine o h level totals count small = absurd h
-some_may_absorb p (suc l) k (Some coarse) None old fine o h level totals count small = absurd h
-some_may_absorb p (suc l) k (Some coarse) (Some r) old fine o h level totals count small = may_absorb p l k coarse r old fine o h level totals count small
+pub some_may_absorb : (p : Problem) (l : ℕ) (k : Level) (below : Option Held) (r : Option Register) (old fine : Masses) (ws : List ℕ) → HasCoarser p l k below r → IsLevel p l k → HasTotals p l k.masses old fine (cells_of r) ws → length ws ≡ 2 + 2 * length (cells_of r)
+    → ((f : Face) → unsigned_abs (flux_at p l k.masses old f) < 2 ^ 31) → SomeMayAbsorb ws r
+some_may_absorb p zero k None None old fine ws h level totals count small = tt
+some_may_absorb p zero k None (Some r) old fine ws h level totals count small = absurd h
+some_may_absorb p zero k (Some coarse) r old fine ws h level totals count small = absurd h
+some_may_absorb p (suc l) k None r old fine ws h level totals count small = absurd h
+some_may_absorb p (suc l) k (Some coarse) None old fine ws h level totals count small = absurd h
+some_may_absorb p (suc l) k (Some coarse) (Some r) old fine ws h level totals count small = may_absorb p l k coarse r old fine ws h level totals count small
 
-pub both_changed : (p : Problem) (l : ℕ) (k : Level) (below : Option Held) (r s : Option Register) (old fine : Masses) (o : EndedOf Work) → HasCoarser p l k below r → IsLevel p l k → HasTotals p l k.masses old fine (cells_of r) o → o.registers ≡ 2 + 2 * length (cells_of r)
-    → SomeHasAbsorbed o r s → BothChange (gained p l k.masses (flux_at p l k.masses old)) r s
-both_changed p zero k None None None old fine o h level totals count a = tt
-both_changed p zero k None None (Some s) old fine o h level totals count a = absurd a
-both_changed p zero k None (Some r) s old fine o h level totals count a = absurd h
-both_changed p zero k (Some coarse) r s old fine o h level totals count a = absurd h
-both_changed p (suc l) k None r s old fine o h level totals count a = absurd h
-both_changed p (suc l) k (Some coarse) None s old fine o h level totals count a = absurd h
-both_changed p (suc l) k (Some coarse) (Some r) None old fine o h level totals count a = absurd a
-both_changed p (suc l) k (Some coarse) (Some r) (Some s) old fine o h level totals count a = has_changed p l k coarse r old fine o h level totals count s a
+pub both_changed : (p : Problem) (l : ℕ) (k : Level) (below : Option Held) (r s : Option Register) (old fine : Masses) (ws : List ℕ) → HasCoarser p l k below r → IsLevel p l k → HasTotals p l k.masses old fine (cells_of r) ws → length ws ≡ 2 + 2 * length (cells_of r)
+    → SomeHasAbsorbed ws r s → BothChange (gained p l k.masses (flux_at p l k.masses old)) r s
+both_changed p zero k None None None old fine ws h level totals count a = tt
+both_changed p zero k None None (Some s) old fine ws h level totals count a = absurd a
+both_changed p zero k None (Some r) s old fine ws h level totals count a = absurd h
+both_changed p zero k (Some coarse) r s old fine ws h level totals count a = absurd h
+both_changed p (suc l) k None r s old fine ws h level totals count a = absurd h
+both_changed p (suc l) k (Some coarse) None s old fine ws h level totals count a = absurd h
+both_changed p (suc l) k (Some coarse) (Some r) None old fine ws h level totals count a = absurd a
+both_changed p (suc l) k (Some coarse) (Some r) (Some s) old fine ws h level totals count a = has_changed p l k coarse r old fine ws h level totals count s a

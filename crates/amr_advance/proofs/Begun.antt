@@ -1,4 +1,4 @@
--- The raw pieces of a level whose frames are filled may begin, and their posts are a plan.
+-- The patches of a level whose frames are filled are ready for its step, with what its layout has for each.
 use Rattle.std.proofs.Common.{◌≡◌, ℕ, zero, suc, ◌+◌, ◌^◌, ◌<◌, ◌≤◌, true, pos, ◌+ℤ◌, ◌≤ℤ◌, ◌<ℤ◌, List, [], ◌∷◌, length, get_or, map, IsSome, refl, sym, ap, subst, ◌∙◌, arith}
 use Rattle.std.specs.declared.option.Option.{Option}
 use Rattle.std.specs.declared.option.Option.TheVariants.{Some}
@@ -35,9 +35,8 @@ use Rattle.amr_layout.specs.Places.{border_places, borders_of, places_before, pu
 use Rattle.amr_layout.specs.Surroundings.{Around, around}
 use Rattle.amr_layout.proofs.Planned.{flows_few, image_at, image_length}
 use Rattle.amr_register.proofs.Homes.{HasSize, size_at}
-use Rattle.amr_work.specs.declared.work.Work.{Work}
-use Rattle.amr_work.specs.Ready.{HasOwnPosts, IsReadyPiece}
-use Rattle.amr_work.specs.Works.{plain}
+use Rattle.amr_work.specs.declared.work.Workspace.{Workspace}
+use Rattle.amr_work.specs.Ready.{HasOwnPosts, IsReady}
 use Rattle.amr_advance.specs.Layouts.{IsLayoutOf}
 use Rattle.amr_advance.specs.Shown.{AreShown, StepFits}
 
@@ -90,29 +89,22 @@ module _ (p : Problem) (l : ℕ) (old : Masses) (qs : List Patch) (cells : List 
         let mass : mass_of m c ≡ mass_in q c = ap (λ (o : Option ℕ). unwrap_or o 0) (mass_here c h) in
         λ i. pos (sym mass i) +ℤ net_alike (box q) (flux_beside p l q) e plain_at c h i
 
-    some : (c : Cell) → holds (box q) c ≡ true → IsSome (m c)
-    some c h = subst IsSome (sym (mass_here c h)) refl
+    is_there : (c : Cell) → holds (box q) c ≡ true → IsSome (m c)
+    is_there c h = subst IsSome (sym (mass_here c h)) refl
 
-    -- what holds of a ready piece of the patch
-    pub ready_of : (w : Work) → w.level ≡ l → w.body.value.patch ≡ q → w.problem.value ≡ p → HasOwnPosts q w.body.value.workspace.layout → width (box q) ≤ widest w.body.value.workspace.room
-        → length w.body.value.workspace.layout.border.items ≡ length (border_faces q) → length w.body.value.workspace.layout.border.items ≤ length w.body.value.workspace.sizes.items → IsReadyPiece w
-    ready_of w level patch problem own room border sizes = record {
-      level = omega (arith, level, shallow);
-      inside = rw (problem, level, patch) lies;
-      small = rw (patch) small;
-      kept = λ c h. subst (λ z. pos 0 ≤ℤ z) (sym (whole c h)) (fits.kept c (some c (held c h)));
-      fits = λ c h. subst (λ z. z <ℤ pos (2 ^ 32)) (sym (whole c h)) (fits.fits c (some c (held c h)));
-      room = rw (patch) room;
-      posts = rw (patch) own;
-      border = rw (patch) border;
+    -- it is ready with a workspace that serves it
+    pub ready_of : (w : Workspace) → HasOwnPosts q w.layout → width (box q) ≤ widest w.room → length w.layout.border.items ≡ length (border_faces q) → length w.layout.border.items ≤ length w.sizes.items → IsReady p l q w
+    ready_of w own room border sizes = record {
+      level = shallow;
+      inside = lies;
+      small = small;
+      kept = λ c h. subst (λ z. pos 0 ≤ℤ z) (sym (sum_is c h)) (fits.kept c (is_there c h));
+      fits = λ c h. subst (λ z. z <ℤ pos (2 ^ 32)) (sym (sum_is c h)) (fits.fits c (is_there c h));
+      room = room;
+      posts = own;
+      border = border;
       sizes = sizes;
     }
-      where
-        held : (c : Cell) → holds (box w.body.value.patch) c ≡ true → holds (box q) c ≡ true
-        held c h = ap (λ (x : Patch). holds (box x) c) (sym patch) ∙ h
-
-        whole : (c : Cell) → holds (box w.body.value.patch) c ≡ true → pos (mass_in w.body.value.patch c) +ℤ net (plain w) c ≡ pos (mass_of m c) +ℤ net e c
-        whole c h = (λ i. pos (mass_in (patch i) c) +ℤ net (flux_beside (problem i) (level i) (patch i)) c) ∙ sum_is c (held c h)
 
   pub all_lie : All (λ q. IsInDomain (domain p l) (box q)) qs
   all_lie k r lt = lies k r lt

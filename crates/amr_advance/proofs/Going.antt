@@ -49,8 +49,8 @@ use Rattle.amr_layout.proofs.Planned.{at_task, nth, task_count as tasks_counted}
 use Rattle.amr_register.proofs.Once.{same_flux}
 use Rattle.amr_work.specs.declared.work.Work.{Work}
 use Rattle.amr_work.specs.declared.work.Workspace.{Workspace}
-use Rattle.amr_work.specs.Ready.{HasBorderPlanned, HasOwnPosts, IsReadyPiece, MayBegin}
-use Rattle.amr_work.specs.Works.{add_of, adds_of_work, plain, put_of, puts_of_work, through}
+use Rattle.amr_work.specs.Ready.{HasBorderPlanned, HasOwnPosts, IsReady, IsReadyPiece, MayBegin}
+use Rattle.amr_work.specs.Works.{add_of, adds_by, adds_of_work, plain, put_of, puts_of_work, through}
 use Rattle.amr_work.proofs.Finishing.{border_all}
 use Rattle.amr_work.proofs.Sameness.{map_same, own_face, total_same}
 use Rattle.amr_work.proofs.Small.{beside_small}
@@ -81,15 +81,15 @@ one_word flow word at fs = from (at == word) refl
     from : (t : Bool) → (at == word) ≡ t → (if at == word then total flow fs else 0) ≡ word_total flow word (map (flow_to at) fs)
     from t e = ap (λ (b : Bool). if b then total flow fs else 0) e ∙ sym (each t e fs)
 
-words_of_adds : (w : Work) (word : ℕ) (adds : List AddAt) → total (added word) (map (add_of w) adds) ≡ word_total (λ f. unsigned_abs (through w f)) word (flows_in adds)
-words_of_adds w word [] = refl
-words_of_adds w word (a ∷ adds) =
-    let flow : Face → ℕ = λ f. unsigned_abs (through w f) in
+pub words_by : (e : Fluxes) (word : ℕ) (adds : List AddAt) → total (added word) (adds_by e adds) ≡ word_total (λ f. unsigned_abs (e f)) word (flows_in adds)
+words_by e word [] = refl
+words_by e word (a ∷ adds) =
+    let flow : Face → ℕ = λ f. unsigned_abs (e f) in
     let first = one_word flow word a.word a.faces.items in
-    let rest = words_of_adds w word adds in
+    let rest = words_by e word adds in
     (λ i. first i + rest i) ∙ sym (total_append (size_to flow word) (map (flow_to a.word) a.faces.items) (flows_in adds))
 
-same_words : (f g : Face → ℕ) (word : ℕ) (xs : List FlowTo) → All (λ (x : FlowTo). f x.face ≡ g x.face) xs → word_total f word xs ≡ word_total g word xs
+pub same_words : (f g : Face → ℕ) (word : ℕ) (xs : List FlowTo) → All (λ (x : FlowTo). f x.face ≡ g x.face) xs → word_total f word xs ≡ word_total g word xs
 same_words f g word [] h = refl
 same_words f g word (x ∷ xs) h =
     let here : f x.face ≡ g x.face = h 0 x (omega arith) in
@@ -171,9 +171,12 @@ module _ (p : Problem) (l : ℕ) (old : Masses) (qs : List Patch) (cells : List 
 
     pub ready : IsReadyPiece w
     ready =
-        ready_of p l old qs cells next shallow shown fits k r lt w piece.of_level piece.of_patch piece.of_problem own_here
+        subst (λ (x : Problem). IsReady x w.level w.body.value.patch w.body.value.workspace) (sym piece.of_problem)
+        (subst (λ n. IsReady p n w.body.value.patch w.body.value.workspace) (sym piece.of_level)
+        (subst (λ (x : Patch). IsReady p l x w.body.value.workspace) (sym piece.of_patch)
+        (ready_of p l old qs cells next shallow shown fits k r lt w.body.value.workspace own_here
         (omega (arith, serves.room, ap (λ (x : Workspace). widest x.room) piece.of_workspace)) border_there
-        (omega (arith, serves.sizes, ap (λ (x : TaskLayout). length x.border.items) layout_is, ap (λ (x : Workspace). length x.sizes.items) piece.of_workspace))
+        (omega (arith, serves.sizes, ap (λ (x : TaskLayout). length x.border.items) layout_is, ap (λ (x : Workspace). length x.sizes.items) piece.of_workspace)))))
 
     -- what flows by its values is what flows in the level
     plain_here : (f : Face) → is_face_of (box q) f ≡ true → plain w f ≡ e f
@@ -195,7 +198,7 @@ module _ (p : Problem) (l : ℕ) (old : Masses) (qs : List Patch) (cells : List 
 
     pub word_here : (word : ℕ) → total (added word) (adds_of_work w) ≡ word_total (plain_size p l m old) word (flows_of s (box q))
     word_here word =
-        words_of_adds w word w.body.value.workspace.layout.adds.items
+        words_by (through w) word w.body.value.workspace.layout.adds.items
         ∙ ap (word_total (λ f. unsigned_abs (through w f)) word) adds_are
         ∙ same_words (λ f. unsigned_abs (through w f)) (plain_size p l m old) word (flows_of s (box q)) (λ j x below. ap unsigned_abs (own_through (get_or (flows_of s (box q)) j x).face (flows_owned p l qs cells next q (all_lie p l old qs cells next shallow shown fits) (shown.marks k r lt) j x below)))
 

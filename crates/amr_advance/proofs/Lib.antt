@@ -3,6 +3,7 @@ mod Reversed
 mod Begun
 mod Filled
 mod Going
+mod Lone
 mod Handed
 mod Closed
 pub mod CoarseParts

@@ -1,6 +1,6 @@
--- What a step of patches leaves in its registers, and the totals of its board.
-use Rattle.std.proofs.Common.{◌≡◌, ℕ, ◌+◌, ◌*◌, ◌<◌, ◌≤◌, true, pos, ◌+ℤ◌, ◌-ℤ◌, List, length, get_or, refl, sym, ap, subst, ◌∙◌, arith}
-use Rattle.std.specs.Prelude.{Ok, Err, OnErr, is_some, neg_ℤ}
+-- What a step of patches leaves in its registers, and its totals.
+use Rattle.std.proofs.Common.{◌≡◌, ℕ, ◌<◌, ◌≤◌, true, pos, ◌+ℤ◌, ◌-ℤ◌, List, length, get_or, refl, sym, ap, subst, ◌∙◌, arith}
+use Rattle.std.specs.Prelude.{Ok, Err, OnErr, is_some, neg_ℤ, slice_index}
 use Rattle.std.specs.declared.option.Option.{Option}
 use Rattle.std.specs.declared.option.Option.TheVariants.{None, Some}
 use Rattle.std.specs.declared.result.Result.{Result}
@@ -26,9 +26,7 @@ use Rattle.amr_register.specs.RegisterCells.{is_register_cell}
 use Rattle.amr_register.specs.Registers.{IsRegisterOf, SameCells, cells_in, entry_in}
 use Rattle.amr_register.proofs.CellLists.{where_passes}
 use Rattle.amr_register.proofs.Once.{taken_once}
-use Rattle.amr_board.specs.Ended.{EndedOf, total_of}
 use Rattle.amr_layout.specs.Surroundings.{around, finer_masses}
-use Rattle.amr_work.specs.declared.work.Work.{Work}
 use Rattle.amr_advance.specs.Registers.{BothChange, Changes, HasEdges, taken}
 use Rattle.amr_advance.specs.Shown.{AreShown}
 use Rattle.amr_advance.specs.Totals.{HasTotals}
@@ -69,10 +67,10 @@ parts_taken p l old qs (Some fine) r s shown h done same =
 
 -- ---- totals
 
-pub totals_of : (p : Problem) (l : ℕ) (m old : Masses) (qs : List Patch) (cells : List Cell) (next : Option Held) (o : EndedOf Work) → AreShown p l old qs → masses_in qs ≡ m → o.registers ≡ 2 + 2 * length cells
-    → ((word : ℕ) → word < 2 + 2 * length cells → total_of o word ≡ level_total (around p l qs cells next) (plain_size p l (masses_in qs) old) word) → HasTotals p l m old (finer_masses next) cells o
-totals_of p l m old qs cells next o shown same count h = record {
+pub totals_of : (p : Problem) (l : ℕ) (m old : Masses) (qs : List Patch) (cells : List Cell) (next : Option Held) (ws : List ℕ) → AreShown p l old qs → masses_in qs ≡ m
+    → ((word : ℕ) → word < length ws → slice_index ws word ≡ level_total (around p l qs cells next) (plain_size p l (masses_in qs) old) word) → HasTotals p l m old (finer_masses next) cells ws
+totals_of p l m old qs cells next ws shown same h = record {
   patches = qs;
   of_level = record { inside = all_lie p l qs shown.inside; apart = shown.apart; cells = λ c. sym (some_mass qs c) ∙ ap (λ (n : Masses). is_some (n c)) same };
-  words = λ word below. h word (omega (arith, below, count)) ∙ ap (λ (n : Masses). level_total (around p l qs cells next) (plain_size p l n old) word) same;
+  words = λ word below. h word below ∙ ap (λ (n : Masses). level_total (around p l qs cells next) (plain_size p l n old) word) same;
 }

@@ -1,6 +1,6 @@
-//! The patches of a closed board, with their new masses, and the bodies of its tasks.
+//! The patches of a closed board, with their new masses, the bodies of its tasks, and the totals of its words.
 
-ghost use Rattle.std.specs.Prelude.{◌≡◌, ◌≤◌, ◌<◌, ℕ, [], length, vec_capacity};
+ghost use Rattle.std.specs.Prelude.{◌≡◌, ◌≤◌, ◌<◌, ◌^◌, ℕ, [], length, slice_index, vec_capacity};
 ghost use Rattle.amr_board.specs.Ended.{total_of};
 ghost use Rattle.amr_advance.specs.Collected.{AreCollected, AreReturned, HasMassesAfter, MayCollect, MayComplete, ServesAgain};
 ghost use Rattle.amr_advance.specs.Pieces.{workspaces_in};
@@ -57,5 +57,17 @@ pub(crate) fn collect(
         let mut body = body_after(p, ended, work);
         swap(&mut body.patch, &mut patches[task as usize]);
         bodies.push_reserved(body);
+    }
+}
+
+/// Copies the totals of all words out of a closed board.
+pub(crate) fn take_totals(ended: &Ended<Work>, totals: &mut [u64])
+    requires count { length totals.old ≡ ended.now.registers }
+    requires few { ended.now.registers < 2 ^ 32 }
+    ensures count { length totals.new ≡ length totals.old }
+    ensures all { (word : ℕ) → word < length totals.new → slice_index totals.new word ≡ total_of ended.now word }
+{
+    for word in 0..totals.len() as u32 {
+        totals[word as usize] = ended.total(word);
     }
 }

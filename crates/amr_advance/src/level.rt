@@ -1,28 +1,26 @@
-//! The step of a level's patches on a board.
+//! The step of a level's patches: on a board where several work, else one after another.
 
-ghost use Rattle.std.specs.Prelude.{◌≡◌, ◌+◌, ◌*◌, ◌<◌, ◌≤◌, ◌^◌, ℕ, IfOk, OnOk, OnErr, length};
+ghost use Rattle.std.specs.Prelude.{◌≡◌, ◌+◌, ◌*◌, ◌<◌, ◌≤◌, ◌^◌, ℕ, IfOk, OnOk, OnErr, length, slice_index};
 ghost use Rattle.std.specs.List.{AllZip};
 ghost use Rattle.std.specs.Option.{option_copied};
 ghost use Rattle.amr_def.specs.Flux.{flux_at};
 ghost use Rattle.amr_patch.specs.Patches.{masses_in};
 ghost use Rattle.amr_ghost.specs.Frames.{old_masses};
-ghost use Rattle.amr_board.specs.Ended.{total_of};
 ghost use Rattle.amr_layout.specs.Surroundings.{around};
 ghost use Rattle.amr_flows.specs.Laws.{plain_size};
 ghost use Rattle.amr_flows.specs.Words.{level_total};
 ghost use Rattle.amr_advance.specs.Kept.{IsLaidOut};
 ghost use Rattle.amr_advance.specs.Shown.{AreShown, IsStepped, StepFits};
 
-use crate::collecting::collect;
+use crate::alone::step_each;
+use crate::collecting::{collect, take_totals};
 use crate::kept::KeptLayout;
 use crate::pieces::{to_patches, to_pieces};
 use crate::running::{Workers, run_pieces};
-use amr_board::Ended;
 use amr_box::Cell;
 use amr_causes::NoMemory;
 use amr_def::Problem;
 use amr_patch::{Level, Patch};
-use amr_work::Work;
 use amr_workers::Gate;
 use std::alloc::Global;
 use std::thread::Threads;
@@ -39,17 +37,17 @@ pub(crate) struct Given<'a> {
     pub cells: &'a [Cell],
 }
 
-/// Makes a step of the patches of a level, whose frames are filled, by workers on a board with this layout: each cell gets what
-/// flows in through its faces. The closed board has the totals of the ledger's words and of the register's, and the layout serves
-/// the next step.
+/// Makes a step of the patches of a level, whose frames are filled, by workers on a board with this layout, and takes the totals of
+/// its words from the closed board. The layout serves the next step.
 ///
 /// All memory is taken before the first task is drawn. If allocation fails the patches are as before.
-pub(crate) fn run_level<R: Threads + Sync, G: Gate + Sync>(
+fn run_on_board<R: Threads + Sync, G: Gate + Sync>(
     workers: &Workers<'_, R, G>,
     given: Given<'_>,
     patches: &mut [Patch],
     layout: &mut KeptLayout,
-) -> Result<Ended<Work>, NoMemory>
+    totals: &mut [u64],
+) -> Result<(), NoMemory>
     requires level { given.level ≤ 4 }
     requires shown { AreShown given.problem.now given.level (old_masses (option_copied given.old)) patches.old }
     requires fits { StepFits given.problem.now given.level (masses_in patches.old) (old_masses (option_copied given.old)) }
@@ -58,11 +56,11 @@ pub(crate) fn run_level<R: Threads + Sync, G: Gate + Sync>(
     requires some_workers { 1 ≤ workers.now.count }
     requires few_workers { workers.now.count ≤ 64 }
     requires gate { (worker task : ℕ) → worker < workers.now.count → task < length patches.old → G.admits workers.now.gate.now worker task }
+    requires words { length totals.old ≡ layout.old.shape.words }
     ensures stepped { OnOk result (AllZip (IsStepped (flux_at given.entry.problem.now given.entry.level (masses_in patches.old) (old_masses (option_copied given.entry.old)))) patches.old patches.new) }
-    ensures registers { IfOk result (λ o. o.registers ≡ 2 + 2 * length given.entry.cells.now) }
-    ensures totals { IfOk result (λ o. (word : ℕ) → word < 2 + 2 * length given.entry.cells.now → total_of o word ≡ level_total (around given.entry.problem.now given.entry.level patches.old given.entry.cells.now (option_copied given.entry.finer)) (plain_size given.entry.problem.now given.entry.level (masses_in patches.old) (old_masses (option_copied given.entry.old))) word) }
-    ensures few { IfOk result (λ o. o.registers < 2 ^ 32) }
-    ensures small { IfOk result (λ o. (word : ℕ) → word < o.registers → total_of o word < 2 ^ 63) }
+    ensures words { length totals.new ≡ length totals.old }
+    ensures totals { OnOk result ((word : ℕ) → word < length totals.new → slice_index totals.new word ≡ level_total (around given.entry.problem.now given.entry.level patches.old given.entry.cells.now (option_copied given.entry.finer)) (plain_size given.entry.problem.now given.entry.level (masses_in patches.old) (old_masses (option_copied given.entry.old))) word) }
+    ensures small { OnOk result ((word : ℕ) → word < length totals.new → slice_index totals.new word < 2 ^ 63) }
     ensures layout { OnOk result (IsLaidOut (around given.entry.problem.now given.entry.level patches.old given.entry.cells.now (option_copied given.entry.finer)) layout.new) }
     ensures same { OnErr result (patches.new ≡ patches.old) }
 {
@@ -75,11 +73,48 @@ pub(crate) fn run_level<R: Threads + Sync, G: Gate + Sync>(
         Ok(mut ended) => {
             let bodies = &mut layout.bodies;
             collect(given.problem, &mut ended, count, patches, bodies);
-            Ok(ended)
+            take_totals(&ended, totals);
+            Ok(())
         }
         Err(pieces) => {
             to_patches(pieces, patches);
             Err(NoMemory)
         }
     }
+}
+
+/// Makes a step of the patches of a level, whose frames are filled: each cell gets what flows in through its faces. Several workers
+/// work on a board with this layout, a lone one goes over the patches in order. Answers the totals of the ledger's words and of the
+/// register's, and the layout serves the next step.
+///
+/// All memory is taken before the first task is begun. If allocation fails the patches are as before.
+pub(crate) fn run_level<R: Threads + Sync, G: Gate + Sync>(
+    workers: &Workers<'_, R, G>,
+    given: Given<'_>,
+    patches: &mut [Patch],
+    layout: &mut KeptLayout,
+) -> Result<Vec<u64>, NoMemory>
+    requires level { given.level ≤ 4 }
+    requires shown { AreShown given.problem.now given.level (old_masses (option_copied given.old)) patches.old }
+    requires fits { StepFits given.problem.now given.level (masses_in patches.old) (old_masses (option_copied given.old)) }
+    requires layout { IsLaidOut (around given.problem.now given.level patches.old given.cells.now (option_copied given.finer)) layout.old }
+    requires few { length patches.old ≤ 2 ^ 26 }
+    requires some_workers { 1 ≤ workers.now.count }
+    requires few_workers { workers.now.count ≤ 64 }
+    requires gate { (worker task : ℕ) → worker < workers.now.count → task < length patches.old → G.admits workers.now.gate.now worker task }
+    ensures stepped { OnOk result (AllZip (IsStepped (flux_at given.entry.problem.now given.entry.level (masses_in patches.old) (old_masses (option_copied given.entry.old)))) patches.old patches.new) }
+    ensures count { IfOk result (λ ws. length ws.items ≡ 2 + 2 * length given.entry.cells.now) }
+    ensures few { IfOk result (λ ws. length ws.items < 2 ^ 32) }
+    ensures totals { IfOk result (λ ws. (word : ℕ) → word < length ws.items → slice_index ws.items word ≡ level_total (around given.entry.problem.now given.entry.level patches.old given.entry.cells.now (option_copied given.entry.finer)) (plain_size given.entry.problem.now given.entry.level (masses_in patches.old) (old_masses (option_copied given.entry.old))) word) }
+    ensures small { IfOk result (λ ws. (word : ℕ) → word < length ws.items → slice_index ws.items word < 2 ^ 63) }
+    ensures layout { OnOk result (IsLaidOut (around given.entry.problem.now given.entry.level patches.old given.entry.cells.now (option_copied given.entry.finer)) layout.new) }
+    ensures same { OnErr result (patches.new ≡ patches.old) }
+{
+    let mut totals = vec![in given.alloc; 0u64; layout.shape.words as usize]?;
+    if workers.count == 1 {
+        step_each(workers.gate, given, patches, layout, &mut totals);
+        return Ok(totals);
+    }
+    run_on_board(workers, given, patches, layout, &mut totals)?;
+    Ok(totals)
 }

@@ -1,7 +1,7 @@
-//! What a step of a level gives to flux registers: its own plain flows to the one over it, and the totals of its closed board to
-//! the one of the next coarser level (Berger and Colella 1989).
+//! What a step of a level gives to flux registers: its own plain flows to the one over it, and the totals of its words to the one
+//! of the next coarser level (Berger and Colella 1989).
 
-ghost use Rattle.std.specs.Prelude.{◌≡◌, ℕ, ◌+◌, ◌*◌, ◌<◌, ◌≤◌, ◌^◌, pos, ◌+ℤ◌, ◌-ℤ◌, length, slice_index_or, unsigned_abs, IsTrue};
+ghost use Rattle.std.specs.Prelude.{◌≡◌, ℕ, ◌+◌, ◌*◌, ◌<◌, ◌≤◌, ◌^◌, pos, ◌+ℤ◌, ◌-ℤ◌, length, slice_index, slice_index_or, unsigned_abs, IsTrue};
 ghost use Rattle.std.specs.List.{All, Contains};
 ghost use Rattle.amr_box.specs.declared.Cell.{Cell};
 ghost use Rattle.amr_def.specs.declared.problem.Problem.{Problem};
@@ -11,13 +11,10 @@ ghost use Rattle.amr_patch.specs.Patches.{box, value_in};
 ghost use Rattle.amr_flux.specs.Faces.{IsInDomain, in_reach};
 ghost use Rattle.amr_register.specs.Laws.{net_of_all};
 ghost use Rattle.amr_register.specs.Registers.{IsRegisterOf, SameCells, cells_in, entry_in};
-ghost use Rattle.amr_board.specs.Ended.{total_of};
 
-use amr_board::Ended;
 use amr_def::Problem;
 use amr_patch::Patch;
 use amr_register::Register;
-use amr_work::Work;
 
 /// Takes the plain flows through a level's coarse-fine edges out of the register over it, patch by patch. Level `l`, 0 to 3, has at
 /// most 2^26 patches with values below 2^31, each as its cells stood before the step; entries are below 2^61 in size.
@@ -36,19 +33,20 @@ pub(crate) fn take_coarse_parts(p: &Problem, l: u32, patches: &[Patch], register
     }
 }
 
-/// Adds what flowed into each register cell of the next coarser level, less what flowed out of it, as the words of a closed board
-/// have it: words `2 + 2 * k` and `3 + 2 * k` are those of cell `k`. Entries are below 2^61 in size, and so is what is added.
-pub(crate) fn absorb_totals(ended: &Ended<Work>, register: &mut Register)
-    requires registers { ended.now.registers ≡ 2 + 2 * length (cells_in register.old) }
-    requires few { ended.now.registers < 2 ^ 32 }
-    requires small { (word : ℕ) → word < ended.now.registers → total_of ended.now word < 2 ^ 63 }
+/// Adds what flowed into each register cell of the next coarser level, less what flowed out of it, as the totals of the words have
+/// it: words `2 + 2 * k` and `3 + 2 * k` are those of cell `k`. Entries are below 2^61 in size, and so is what is added.
+pub(crate) fn absorb_totals(totals: &[u64], register: &mut Register)
+    requires count { length totals.now ≡ 2 + 2 * length (cells_in register.old) }
+    requires few { length totals.now < 2 ^ 32 }
+    requires small { (word : ℕ) → word < length totals.now → slice_index totals.now word < 2 ^ 63 }
     requires made { (p : Problem) × ((l : ℕ) × ((m : Masses) × ((fine : Masses) × IsRegisterOf p l m fine register.old))) }
     requires room { (c : Cell) → unsigned_abs (entry_in register.old c) < 2 ^ 61 }
-    requires net { (k : ℕ) → k < length (cells_in register.old) → unsigned_abs (pos (total_of ended.now (2 + 2 * k)) -ℤ pos (total_of ended.now (3 + 2 * k))) < 2 ^ 61 }
-    ensures gained { (k : ℕ) (c : Cell) → k < length (cells_in register.old) → c ≡ slice_index_or (cells_in register.old) k c → entry_in register.new c ≡ entry_in register.old c +ℤ (pos (total_of ended.now (2 + 2 * k)) -ℤ pos (total_of ended.now (3 + 2 * k))) }
+    requires net { (k : ℕ) → k < length (cells_in register.old) → unsigned_abs (pos (slice_index totals.now (2 + 2 * k)) -ℤ pos (slice_index totals.now (3 + 2 * k))) < 2 ^ 61 }
+    ensures gained { (k : ℕ) (c : Cell) → k < length (cells_in register.old) → c ≡ slice_index_or (cells_in register.old) k c → entry_in register.new c ≡ entry_in register.old c +ℤ (pos (slice_index totals.now (2 + 2 * k)) -ℤ pos (slice_index totals.now (3 + 2 * k))) }
     ensures cells { SameCells register.old register.new }
 {
     for k in 0..register.cells().len() as u32 {
-        register.absorb(k, ended.total(2 + 2 * k), ended.total(3 + 2 * k));
+        let at = k as usize;
+        register.absorb(k, totals[2 + 2 * at], totals[3 + 2 * at]);
     }
 }

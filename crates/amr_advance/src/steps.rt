@@ -1,6 +1,6 @@
 //! A step of a level.
 
-ghost use Rattle.std.specs.Prelude.{◌≡◌, ◌+◌, ◌*◌, ◌<◌, ◌≤◌, ◌^◌, ℕ, pos, List, IfOk, IfSome, OnOk, OnErr, length, map};
+ghost use Rattle.std.specs.Prelude.{◌≡◌, ◌+◌, ◌*◌, ◌<◌, ◌≤◌, ◌^◌, ℕ, pos, List, IfOk, IfSome, OnOk, OnErr, length, map, slice_index};
 ghost use Rattle.std.specs.List.{All, AllZip};
 ghost use Rattle.std.specs.Option.{option_copied};
 ghost use Rattle.amr_def.specs.Domain.{domain};
@@ -14,7 +14,6 @@ ghost use Rattle.amr_patch.specs.Patches.{ArePatchesApart, box, masses_in};
 ghost use Rattle.amr_ghost.specs.Frames.{AreInDomain, old_masses};
 ghost use Rattle.amr_layout.specs.Adds.{HasRegisterCells};
 ghost use Rattle.amr_layout.specs.Surroundings.{around, finer_masses};
-ghost use Rattle.amr_board.specs.Ended.{total_of};
 ghost use Rattle.amr_advance.specs.Registers.{BothChange, HasCoarser, HasEdges, HasFiner, cells_of, gained, taken};
 ghost use Rattle.amr_advance.specs.Totals.{HasTotals, SomeHasAbsorbed, SomeMayAbsorb};
 ghost use Rattle.amr_advance.specs.Kept.{IsKept, IsLaidOut};
@@ -25,14 +24,12 @@ use crate::level::{Given, run_level};
 use crate::registers::{absorb_totals, take_coarse_parts};
 use crate::regs::{Crew, Regs};
 use crate::running::Workers;
-use amr_board::Ended;
 use amr_box::Cell;
 use amr_causes::NoMemory;
 use amr_def::Problem;
 use amr_ghost::fill_planned;
 use amr_patch::{Level, Order, Patch};
 use amr_register::Register;
-use amr_work::Work;
 use amr_workers::Gate;
 use std::alloc::Global;
 use std::thread::Threads;
@@ -107,8 +104,8 @@ fn take_parts(given: Given<'_>, patches: &[Patch], register: &mut Option<Registe
     }
 }
 
-/// Makes a step of the patches of a level on a board. If allocation fails the patches have the masses of before, and the register
-/// is as before.
+/// Makes a step of the patches of a level, and tells the totals of its words. If allocation fails the patches have the masses of
+/// before, and the register is as before.
 fn step_patches<R: Threads + Sync, G: Gate + Sync>(
     workers: &Workers<'_, R, G>,
     given: Given<'_>,
@@ -116,7 +113,7 @@ fn step_patches<R: Threads + Sync, G: Gate + Sync>(
     patches: &mut [Patch],
     register: &mut Option<Register>,
     kept: &mut Option<KeptLayout>,
-) -> Result<Ended<Work>, NoMemory>
+) -> Result<Vec<u64>, NoMemory>
     requires level { given.level ≤ 4 }
     requires order { IsOrderOf order patches.old }
     requires apart { ArePatchesApart patches.old }
@@ -131,10 +128,10 @@ fn step_patches<R: Threads + Sync, G: Gate + Sync>(
     ensures masses { OnOk result (masses_in patches.new ≡ updated (masses_in patches.old) (flux_at given.entry.problem.now given.entry.level (masses_in patches.old) (old_masses (option_copied given.entry.old)))) }
     ensures boxes { map box patches.new ≡ map box patches.old }
     ensures apart { ArePatchesApart patches.new }
-    ensures registers { IfOk result (λ o. o.registers ≡ 2 + 2 * length given.entry.cells.now) }
-    ensures few { IfOk result (λ o. o.registers < 2 ^ 32) }
-    ensures small { IfOk result (λ o. (word : ℕ) → word < o.registers → total_of o word < 2 ^ 63) }
-    ensures totals { IfOk result (HasTotals given.entry.problem.now given.entry.level (masses_in patches.old) (old_masses (option_copied given.entry.old)) (finer_masses (option_copied given.entry.finer)) given.entry.cells.now) }
+    ensures count { IfOk result (λ ws. length ws.items ≡ 2 + 2 * length given.entry.cells.now) }
+    ensures few { IfOk result (λ ws. length ws.items < 2 ^ 32) }
+    ensures small { IfOk result (λ ws. (word : ℕ) → word < length ws.items → slice_index ws.items word < 2 ^ 63) }
+    ensures totals { IfOk result (λ ws. HasTotals given.entry.problem.now given.entry.level (masses_in patches.old) (old_masses (option_copied given.entry.old)) (finer_masses (option_copied given.entry.finer)) given.entry.cells.now ws.items) }
     ensures register { OnOk result (BothChange (taken given.entry.problem.now given.entry.level (masses_in patches.old) (old_masses (option_copied given.entry.old)) (finer_masses (option_copied given.entry.finer))) register.old register.new) }
     ensures same_masses { OnErr result (masses_in patches.new ≡ masses_in patches.old) }
     ensures same_register { OnErr result (BothChange (λ c. pos 0) register.old register.new) }
@@ -147,9 +144,9 @@ fn step_patches<R: Threads + Sync, G: Gate + Sync>(
     let saved = copy_of(given.alloc, register)?;
     take_parts(given, patches, register);
     match run_level(workers, given, patches, &mut layout) {
-        Ok(ended) => {
+        Ok(totals) => {
             *kept = Some(layout);
-            Ok(ended)
+            Ok(totals)
         }
         Err(fault) => {
             *register = saved;
@@ -158,23 +155,23 @@ fn step_patches<R: Threads + Sync, G: Gate + Sync>(
     }
 }
 
-/// Adds the totals of a closed board: the ledger's words to the sums, and the others to the register of the next coarser level.
-fn add_totals(ended: &Ended<Work>, regs: &mut Regs)
-    requires registers { ended.now.registers ≡ 2 + 2 * length (cells_of regs.old.coarser) }
-    requires few { ended.now.registers < 2 ^ 32 }
-    requires small { (word : ℕ) → word < ended.now.registers → total_of ended.now word < 2 ^ 63 }
-    requires inflow { regs.old.inflow + total_of ended.now 0 < 2 ^ 63 }
-    requires outflow { regs.old.outflow + total_of ended.now 1 < 2 ^ 63 }
-    requires coarser { SomeMayAbsorb ended.now regs.old.coarser }
-    ensures inflow { regs.new.inflow ≡ regs.old.inflow + total_of ended.now 0 }
-    ensures outflow { regs.new.outflow ≡ regs.old.outflow + total_of ended.now 1 }
-    ensures coarser { SomeHasAbsorbed ended.now regs.old.coarser regs.new.coarser }
+/// Adds the totals of a step: the ledger's words to the sums, and the others to the register of the next coarser level.
+fn add_totals(totals: &[u64], regs: &mut Regs)
+    requires count { length totals.now ≡ 2 + 2 * length (cells_of regs.old.coarser) }
+    requires few { length totals.now < 2 ^ 32 }
+    requires small { (word : ℕ) → word < length totals.now → slice_index totals.now word < 2 ^ 63 }
+    requires inflow { regs.old.inflow + slice_index totals.now 0 < 2 ^ 63 }
+    requires outflow { regs.old.outflow + slice_index totals.now 1 < 2 ^ 63 }
+    requires coarser { SomeMayAbsorb totals.now regs.old.coarser }
+    ensures inflow { regs.new.inflow ≡ regs.old.inflow + slice_index totals.now 0 }
+    ensures outflow { regs.new.outflow ≡ regs.old.outflow + slice_index totals.now 1 }
+    ensures coarser { SomeHasAbsorbed totals.now regs.old.coarser regs.new.coarser }
     ensures finer { regs.new.finer ≡ regs.old.finer }
 {
-    regs.inflow += ended.total(0);
-    regs.outflow += ended.total(1);
+    regs.inflow += totals[0];
+    regs.outflow += totals[1];
     match &mut regs.coarser {
-        Some(register) => absorb_totals(ended, register),
+        Some(register) => absorb_totals(totals, register),
         None => (),
     }
 }
@@ -230,13 +227,14 @@ pub fn advance_kept<R: Threads + Sync, G: Gate + Sync>(
     };
     let stepped = step_patches(workers, given, order, &mut patches, &mut regs.finer, kept);
     level.put_patches_in_order(patches, order);
-    add_totals(&stepped?, regs);
+    let totals = stepped?;
+    add_totals(&totals, regs);
     Ok(())
 }
 
-/// Makes a step of level `l` by workers on a board (Berger and Colella 1989): each cell gets what flows in through its faces by the
-/// plain fluxes of the level, whatever a finer level covers. `old` is the next coarser level with the masses before its own step,
-/// `finer` the next finer one.
+/// Makes a step of level `l` by workers (Berger and Colella 1989): each cell gets what flows in through its faces by the plain fluxes
+/// of the level, whatever a finer level covers. `old` is the next coarser level with the masses before its own step, `finer` the
+/// next finer one. Several workers work on a board, a lone one goes over the patches in order.
 ///
 /// The register of the coarser level gains what flows through this level's faces beside its cells, and the one over the finer
 /// level loses the plain flows through the level's coarse-fine edges. The sums gain what flows in and out through open sides

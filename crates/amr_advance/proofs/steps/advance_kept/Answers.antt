@@ -1,4 +1,4 @@
-use Rattle.std.proofs.Common.{◌≡◌, ◌+◌, ◌*◌, List, length, map, sym, ap, subst, ◌∙◌, arith}
+use Rattle.std.proofs.Common.{◌≡◌, ◌+◌, ◌*◌, ℕ, List, length, map, sym, ap, subst, ◌∙◌, arith}
 use Rattle.std.specs.declared.option.Option.{Option}
 use Rattle.std.specs.Option.{option_copied}
 use Rattle.std.specs.Vec.{with_items}
@@ -38,26 +38,41 @@ add_totals-requires-clause-inflow g c =
     let m = (level_of c.args.level.now).masses in
     let old = old_masses (option_copied c.args.old) in
     let fine = finer_masses (option_copied c.args.finer) in
-    let totals : HasTotals c.args.p.now c.args.l m old fine c.cells_of.result.now c.in_ok-stepped.field-0 = subst (λ (n : Masses). HasTotals c.args.p.now c.args.l n old fine c.cells_of.result.now c.in_ok-stepped.field-0) (ap masses_in c.deref_mut.ensures.value ∙ sym c.take_patches-patches.ensures.masses) c.in_ok-stepped.ensures.totals in
-    omega (arith, c.requires.inflow, inflow_is c.args.p.now c.args.l m old fine c.cells_of.result.now c.in_ok-stepped.field-0 totals c.in_ok-stepped.ensures.registers)
+    let ws = c.deref.result.now in
+    let read : ws ≡ c.in_ok-totals.totals.items = c.deref.ensures.value in
+    let count : length ws ≡ 2 + 2 * length c.cells_of.result.now = ap length read ∙ c.in_ok-totals.ensures.count in
+    let totals : HasTotals c.args.p.now c.args.l m old fine c.cells_of.result.now ws =
+    subst (λ (xs : List ℕ). HasTotals c.args.p.now c.args.l m old fine c.cells_of.result.now xs) (sym read)
+    (subst (λ (n : Masses). HasTotals c.args.p.now c.args.l n old fine c.cells_of.result.now c.in_ok-totals.totals.items) (ap masses_in c.deref_mut.ensures.value ∙ sym c.take_patches-patches.ensures.masses) c.in_ok-totals.ensures.totals) in
+    omega (arith, c.requires.inflow, inflow_is c.args.p.now c.args.l m old fine c.cells_of.result.now ws totals count)
 
 pub add_totals-requires-clause-outflow : goal.add_totals-requires-clause-outflow
 add_totals-requires-clause-outflow g c =
     let m = (level_of c.args.level.now).masses in
     let old = old_masses (option_copied c.args.old) in
     let fine = finer_masses (option_copied c.args.finer) in
-    let totals : HasTotals c.args.p.now c.args.l m old fine c.cells_of.result.now c.in_ok-stepped.field-0 = subst (λ (n : Masses). HasTotals c.args.p.now c.args.l n old fine c.cells_of.result.now c.in_ok-stepped.field-0) (ap masses_in c.deref_mut.ensures.value ∙ sym c.take_patches-patches.ensures.masses) c.in_ok-stepped.ensures.totals in
-    omega (arith, c.requires.outflow, outflow_is c.args.p.now c.args.l m old fine c.cells_of.result.now c.in_ok-stepped.field-0 totals c.in_ok-stepped.ensures.registers)
+    let ws = c.deref.result.now in
+    let read : ws ≡ c.in_ok-totals.totals.items = c.deref.ensures.value in
+    let count : length ws ≡ 2 + 2 * length c.cells_of.result.now = ap length read ∙ c.in_ok-totals.ensures.count in
+    let totals : HasTotals c.args.p.now c.args.l m old fine c.cells_of.result.now ws =
+    subst (λ (xs : List ℕ). HasTotals c.args.p.now c.args.l m old fine c.cells_of.result.now xs) (sym read)
+    (subst (λ (n : Masses). HasTotals c.args.p.now c.args.l n old fine c.cells_of.result.now c.in_ok-totals.totals.items) (ap masses_in c.deref_mut.ensures.value ∙ sym c.take_patches-patches.ensures.masses) c.in_ok-totals.ensures.totals) in
+    omega (arith, c.requires.outflow, outflow_is c.args.p.now c.args.l m old fine c.cells_of.result.now ws totals count)
 
 pub add_totals-requires-clause-coarser : goal.add_totals-requires-clause-coarser
 add_totals-requires-clause-coarser g c =
     let k = level_of c.args.level.now in
     let old = old_masses (option_copied c.args.old) in
     let fine = finer_masses (option_copied c.args.finer) in
-    let o = c.in_ok-stepped.field-0 in
-    some_may_absorb c.args.p.now c.args.l k (option_copied c.args.old) c.args.regs.now.coarser old fine o c.requires.coarser c.requires.of_domain
-    (subst (λ (xs : List Cell). HasTotals c.args.p.now c.args.l k.masses old fine xs o) c.cells_of.ensures (subst (λ (n : Masses). HasTotals c.args.p.now c.args.l n old fine c.cells_of.result.now o) (ap masses_in c.deref_mut.ensures.value ∙ sym c.take_patches-patches.ensures.masses) c.in_ok-stepped.ensures.totals))
-    (c.in_ok-stepped.ensures.registers ∙ ap (λ (xs : List Cell). 2 + 2 * length xs) c.cells_of.ensures) c.requires.fits.fluxes
+    let ws = c.deref.result.now in
+    let read : ws ≡ c.in_ok-totals.totals.items = c.deref.ensures.value in
+    let count : length ws ≡ 2 + 2 * length c.cells_of.result.now = ap length read ∙ c.in_ok-totals.ensures.count in
+    let totals : HasTotals c.args.p.now c.args.l k.masses old fine c.cells_of.result.now ws =
+    subst (λ (xs : List ℕ). HasTotals c.args.p.now c.args.l k.masses old fine c.cells_of.result.now xs) (sym read)
+    (subst (λ (n : Masses). HasTotals c.args.p.now c.args.l n old fine c.cells_of.result.now c.in_ok-totals.totals.items) (ap masses_in c.deref_mut.ensures.value ∙ sym c.take_patches-patches.ensures.masses) c.in_ok-totals.ensures.totals) in
+    some_may_absorb c.args.p.now c.args.l k (option_copied c.args.old) c.args.regs.now.coarser old fine ws c.requires.coarser c.requires.of_domain
+    (subst (λ (xs : List Cell). HasTotals c.args.p.now c.args.l k.masses old fine xs ws) c.cells_of.ensures totals)
+    (count ∙ ap (λ (xs : List Cell). 2 + 2 * length xs) c.cells_of.ensures) c.requires.fits.fluxes
 
 pub returns-clause-masses : goal.returns-clause-masses
 returns-clause-masses g c =
@@ -66,37 +81,52 @@ returns-clause-masses g c =
     let old = old_masses (option_copied c.args.old) in
     let m : masses_in c.deref_mut.result.now ≡ (level_of c.args.level.now).masses = ap masses_in c.deref_mut.ensures.value ∙ sym c.take_patches-patches.ensures.masses in
     let listed = with_items_is c.take_patches-patches.result c.step_patches-stepped.new.patches (sym (length-map c.step_patches-stepped.new.patches box) ∙ ap length c.step_patches-stepped.ensures.boxes ∙ length-map c.deref_mut.result.now box ∙ c.deref_mut.ensures.len) in
-    c.put_patches_in_order.ensures.masses ∙ ap masses_in listed ∙ c.in_ok-stepped.ensures.masses ∙ (λ i. updated (m i) (flux_at p l (m i) old))
+    c.put_patches_in_order.ensures.masses ∙ ap masses_in listed ∙ c.in_ok-totals.ensures.masses ∙ (λ i. updated (m i) (flux_at p l (m i) old))
 
 pub returns-clause-coarser : goal.returns-clause-coarser
 returns-clause-coarser g c =
     let k = level_of c.args.level.now in
     let old = old_masses (option_copied c.args.old) in
     let fine = finer_masses (option_copied c.args.finer) in
-    let o = c.in_ok-stepped.field-0 in
-    both_changed c.args.p.now c.args.l k (option_copied c.args.old) c.args.regs.now.coarser c.add_totals.new.regs.coarser old fine o c.requires.coarser c.requires.of_domain
-    (subst (λ (xs : List Cell). HasTotals c.args.p.now c.args.l k.masses old fine xs o) c.cells_of.ensures (subst (λ (n : Masses). HasTotals c.args.p.now c.args.l n old fine c.cells_of.result.now o) (ap masses_in c.deref_mut.ensures.value ∙ sym c.take_patches-patches.ensures.masses) c.in_ok-stepped.ensures.totals))
-    (c.in_ok-stepped.ensures.registers ∙ ap (λ (xs : List Cell). 2 + 2 * length xs) c.cells_of.ensures) c.add_totals.ensures.coarser
+    let ws = c.deref.result.now in
+    let read : ws ≡ c.in_ok-totals.totals.items = c.deref.ensures.value in
+    let count : length ws ≡ 2 + 2 * length c.cells_of.result.now = ap length read ∙ c.in_ok-totals.ensures.count in
+    let totals : HasTotals c.args.p.now c.args.l k.masses old fine c.cells_of.result.now ws =
+    subst (λ (xs : List ℕ). HasTotals c.args.p.now c.args.l k.masses old fine c.cells_of.result.now xs) (sym read)
+    (subst (λ (n : Masses). HasTotals c.args.p.now c.args.l n old fine c.cells_of.result.now c.in_ok-totals.totals.items) (ap masses_in c.deref_mut.ensures.value ∙ sym c.take_patches-patches.ensures.masses) c.in_ok-totals.ensures.totals) in
+    both_changed c.args.p.now c.args.l k (option_copied c.args.old) c.args.regs.now.coarser c.add_totals.new.regs.coarser old fine ws c.requires.coarser c.requires.of_domain
+    (subst (λ (xs : List Cell). HasTotals c.args.p.now c.args.l k.masses old fine xs ws) c.cells_of.ensures totals)
+    (count ∙ ap (λ (xs : List Cell). 2 + 2 * length xs) c.cells_of.ensures) c.add_totals.ensures.coarser
 
 pub returns-clause-finer : goal.returns-clause-finer
 returns-clause-finer g c =
     let old = old_masses (option_copied c.args.old) in
     let fine = finer_masses (option_copied c.args.finer) in
     subst (λ (r : Option Register). BothChange (taken c.args.p.now c.args.l (level_of c.args.level.now).masses old fine) c.args.regs.now.finer r) (sym c.add_totals.ensures.finer)
-    (subst (λ (m : Masses). BothChange (taken c.args.p.now c.args.l m old fine) c.args.regs.now.finer c.step_patches-stepped.new.register) (ap masses_in c.deref_mut.ensures.value ∙ sym c.take_patches-patches.ensures.masses) c.in_ok-stepped.ensures.register)
+    (subst (λ (m : Masses). BothChange (taken c.args.p.now c.args.l m old fine) c.args.regs.now.finer c.step_patches-stepped.new.register) (ap masses_in c.deref_mut.ensures.value ∙ sym c.take_patches-patches.ensures.masses) c.in_ok-totals.ensures.register)
 
 pub returns-clause-inflow : goal.returns-clause-inflow
 returns-clause-inflow g c =
     let m = (level_of c.args.level.now).masses in
     let old = old_masses (option_copied c.args.old) in
     let fine = finer_masses (option_copied c.args.finer) in
-    let totals : HasTotals c.args.p.now c.args.l m old fine c.cells_of.result.now c.in_ok-stepped.field-0 = subst (λ (n : Masses). HasTotals c.args.p.now c.args.l n old fine c.cells_of.result.now c.in_ok-stepped.field-0) (ap masses_in c.deref_mut.ensures.value ∙ sym c.take_patches-patches.ensures.masses) c.in_ok-stepped.ensures.totals in
-    c.add_totals.ensures.inflow ∙ ap (λ n. c.args.regs.now.inflow + n) (inflow_is c.args.p.now c.args.l m old fine c.cells_of.result.now c.in_ok-stepped.field-0 totals c.in_ok-stepped.ensures.registers)
+    let ws = c.deref.result.now in
+    let read : ws ≡ c.in_ok-totals.totals.items = c.deref.ensures.value in
+    let count : length ws ≡ 2 + 2 * length c.cells_of.result.now = ap length read ∙ c.in_ok-totals.ensures.count in
+    let totals : HasTotals c.args.p.now c.args.l m old fine c.cells_of.result.now ws =
+    subst (λ (xs : List ℕ). HasTotals c.args.p.now c.args.l m old fine c.cells_of.result.now xs) (sym read)
+    (subst (λ (n : Masses). HasTotals c.args.p.now c.args.l n old fine c.cells_of.result.now c.in_ok-totals.totals.items) (ap masses_in c.deref_mut.ensures.value ∙ sym c.take_patches-patches.ensures.masses) c.in_ok-totals.ensures.totals) in
+    c.add_totals.ensures.inflow ∙ ap (λ n. c.args.regs.now.inflow + n) (inflow_is c.args.p.now c.args.l m old fine c.cells_of.result.now ws totals count)
 
 pub returns-clause-outflow : goal.returns-clause-outflow
 returns-clause-outflow g c =
     let m = (level_of c.args.level.now).masses in
     let old = old_masses (option_copied c.args.old) in
     let fine = finer_masses (option_copied c.args.finer) in
-    let totals : HasTotals c.args.p.now c.args.l m old fine c.cells_of.result.now c.in_ok-stepped.field-0 = subst (λ (n : Masses). HasTotals c.args.p.now c.args.l n old fine c.cells_of.result.now c.in_ok-stepped.field-0) (ap masses_in c.deref_mut.ensures.value ∙ sym c.take_patches-patches.ensures.masses) c.in_ok-stepped.ensures.totals in
-    c.add_totals.ensures.outflow ∙ ap (λ n. c.args.regs.now.outflow + n) (outflow_is c.args.p.now c.args.l m old fine c.cells_of.result.now c.in_ok-stepped.field-0 totals c.in_ok-stepped.ensures.registers)
+    let ws = c.deref.result.now in
+    let read : ws ≡ c.in_ok-totals.totals.items = c.deref.ensures.value in
+    let count : length ws ≡ 2 + 2 * length c.cells_of.result.now = ap length read ∙ c.in_ok-totals.ensures.count in
+    let totals : HasTotals c.args.p.now c.args.l m old fine c.cells_of.result.now ws =
+    subst (λ (xs : List ℕ). HasTotals c.args.p.now c.args.l m old fine c.cells_of.result.now xs) (sym read)
+    (subst (λ (n : Masses). HasTotals c.args.p.now c.args.l n old fine c.cells_of.result.now c.in_ok-totals.totals.items) (ap masses_in c.deref_mut.ensures.value ∙ sym c.take_patches-patches.ensures.masses) c.in_ok-totals.ensures.totals) in
+    c.add_totals.ensures.outflow ∙ ap (λ n. c.args.regs.now.outflow + n) (outflow_is c.args.p.now c.args.l m old fine c.cells_of.result.now ws totals count)

@@ -38,7 +38,7 @@ returns-in-Ok-clause-totals g c =
     let p = c.args.given.problem.now in
     let l = c.args.given.level in
     let old = old_masses (option_copied c.args.given.old) in
-    totals_of p l (masses_in c.args.patches.now) old c.lay_out.new.patches c.args.given.cells.now (option_copied c.args.given.finer) c.in-Ok.ended c.in_ok-layout.ensures.shown c.lay_out.ensures.masses c.in-Ok.ensures.registers c.in-Ok.ensures.totals
+    totals_of p l (masses_in c.args.patches.now) old c.lay_out.new.patches c.args.given.cells.now (option_copied c.args.given.finer) c.in-Ok.totals.items c.in_ok-layout.ensures.shown c.lay_out.ensures.masses c.in-Ok.ensures.totals
 
 pub returns-in-Ok-clause-register : goal.returns-in-Ok-clause-register
 returns-in-Ok-clause-register g c =

@@ -1,4 +1,4 @@
-use Rattle.std.proofs.Common.{◌≡◌, List, map, sym, ap, subst, ◌∙◌, arith}
+use Rattle.std.proofs.Common.{◌≡◌, ◌<◌, ℕ, List, length, map, sym, ap, subst, ◌∙◌, arith}
 use Rattle.std.specs.Option.{option_copied}
 use Rattle.std.specs.List.{All}
 use Rattle.std.proofs.lemmas.List.{length-map}
@@ -17,7 +17,7 @@ use Rattle.amr_advance.specs.Pieces.{workspaces_in}
 use Rattle.amr_advance.proofs.Bodies.{workspace_in}
 use Rattle.amr_advance.proofs.Closed.{all_returned, all_stepped, level_totals, may_collect, numbered, patches_back}
 use Rattle.amr_advance.proofs.Going.{all_begin, is_plan}
-use Rattle.amr_advance.proofs.level.run_level.Goals as goal
+use Rattle.amr_advance.proofs.level.run_on_board.Goals as goal
 
 -- a board of the layout's shape has the layout's places and words
 plan_by : (h g : Shape) → h ≡ g → (ws : List Work) → IsPlan (plan_of puts_of_work adds_of_work g.places g.words ws) → IsPlan (plan_of puts_of_work adds_of_work h.places h.words ws)
@@ -28,6 +28,10 @@ begin_by p h g e ws = subst (λ (x : Shape). All (MayBegin p (plan_of puts_of_wo
 
 words_by : (h g : Shape) → h ≡ g → (ws : List Work) (o : EndedOf Work) → HasWords (plan_of puts_of_work adds_of_work h.places h.words ws) o → HasWords (plan_of puts_of_work adds_of_work g.places g.words ws) o
 words_by h g e ws o = subst (λ (x : Shape). HasWords (plan_of puts_of_work adds_of_work x.places x.words ws) o) e
+
+-- a word of the board is one of the layout
+in_layout : (g h : Shape) → h ≡ g → (m n word : ℕ) → m ≡ h.words → n ≡ m → word < n → word < g.words
+in_layout g h e m n word long same below = omega (arith, long, same, below, ap (λ (x : Shape). x.words) e)
 
 pub run_pieces-requires-clause-plan : goal.run_pieces-requires-clause-plan
 run_pieces-requires-clause-plan g c = λ _ _.
@@ -73,9 +77,10 @@ returns-in-Ok-clause-layout g c =
 
 pub returns-in-Ok-clause-totals : goal.returns-in-Ok-clause-totals
 returns-in-Ok-clause-totals g c = λ word below.
-    level_totals c.args.given.problem.now c.args.given.level (old_masses (option_copied c.args.given.old)) c.args.patches.now c.args.given.cells.now (option_copied c.args.given.finer) c.requires.level c.requires.shown c.requires.fits
+    c.take_totals.ensures.all word below
+    ∙ level_totals c.args.given.problem.now c.args.given.level (old_masses (option_copied c.args.given.old)) c.args.patches.now c.args.given.cells.now (option_copied c.args.given.finer) c.requires.level c.requires.shown c.requires.fits
     c.args.layout.now.layout.value c.requires.layout.layout (workspaces_in c.args.layout.now.bodies.items) c.requires.layout.workspaces c.to_pieces-pieces.result.items c.to_pieces-pieces.ensures.pieces c.in-Ok.ended (words_by c.args.layout.now.shape (shape_of c.args.layout.now.layout.value) c.requires.layout.shape c.to_pieces-pieces.result.items c.in-Ok.ended c.in-Ok.ensures.words) c.in-Ok.ensures.pieces
-    c.collect.new.ended word (c.collect.ensures.totals word) (omega (arith, below, c.requires.layout.layout.words))
+    c.collect.new.ended word (c.collect.ensures.totals word) (in_layout (shape_of c.args.layout.now.layout.value) c.args.layout.now.shape c.requires.layout.shape (length c.args.totals.now) (length c.take_totals.new.totals) word c.requires.words c.take_totals.ensures.count below)
 
 pub returns-in-Err-clause-same : goal.returns-in-Err-clause-same
 returns-in-Err-clause-same g c =
@@ -89,4 +94,4 @@ returns-in-Ok-clause-small g c = λ word below.
     is_plan c.args.given.problem.now c.args.given.level (old_masses (option_copied c.args.given.old)) c.args.patches.now c.args.given.cells.now (option_copied c.args.given.finer) c.requires.level c.requires.shown c.requires.fits
     c.args.layout.now.layout.value c.requires.layout.layout (workspaces_in c.args.layout.now.bodies.items) c.requires.layout.workspaces c.to_pieces-pieces.result.items c.to_pieces-pieces.ensures.pieces in
     let shape = c.requires.layout.shape in
-    omega (arith, c.collect.ensures.totals word, ended.totals word (omega (arith, below, c.collect.ensures.registers, ended.registers)), (plan_by c.args.layout.now.shape (shape_of c.args.layout.now.layout.value) shape c.to_pieces-pieces.result.items plan).totals_fit word)
+    omega (arith, c.take_totals.ensures.all word below, c.collect.ensures.totals word, ended.totals word (omega (arith, below, c.take_totals.ensures.count, c.requires.words)), (plan_by c.args.layout.now.shape (shape_of c.args.layout.now.layout.value) shape c.to_pieces-pieces.result.items plan).totals_fit word)
