@@ -36,7 +36,7 @@ use Rattle.amr_layout.specs.Surroundings.{Around, around}
 use Rattle.amr_layout.proofs.Planned.{flows_few, image_at, image_length}
 use Rattle.amr_register.proofs.Homes.{HasSize, size_at}
 use Rattle.amr_work.specs.declared.work.Workspace.{Workspace}
-use Rattle.amr_work.specs.Ready.{HasOwnPosts, IsReady}
+use Rattle.amr_work.specs.Ready.{AreOwnAdds, HasOwnPosts, IsReady, MayStep}
 use Rattle.amr_advance.specs.Layouts.{IsLayoutOf}
 use Rattle.amr_advance.specs.Shown.{AreShown, StepFits}
 
@@ -92,22 +92,29 @@ module _ (p : Problem) (l : ℕ) (old : Masses) (qs : List Patch) (cells : List 
     is_there : (c : Cell) → holds (box q) c ≡ true → IsSome (m c)
     is_there c h = subst IsSome (sym (mass_here c h)) refl
 
-    -- it is ready with a workspace that serves it
-    pub ready_of : (w : Workspace) → HasOwnPosts q w.layout → width (box q) ≤ widest w.room → length w.layout.border.items ≡ length (border_faces q) → length w.layout.border.items ≤ length w.sizes.items → IsReady p l q w
-    ready_of w own room border sizes = record {
+    -- so its step may be made
+    pub may_step : MayStep p l q
+    may_step = record {
       level = shallow;
       inside = lies;
       small = small;
       kept = λ c h. subst (λ z. pos 0 ≤ℤ z) (sym (sum_is c h)) (fits.kept c (is_there c h));
       fits = λ c h. subst (λ z. z <ℤ pos (2 ^ 32)) (sym (sum_is c h)) (fits.fits c (is_there c h));
-      room = room;
-      posts = own;
-      border = border;
-      sizes = sizes;
     }
+
+    -- it is ready with a workspace that serves it
+    pub ready_of : (w : Workspace) → HasOwnPosts q w.layout → width (box q) ≤ widest w.room → length w.layout.border.items ≡ length (border_faces q) → length w.layout.border.items ≤ length w.sizes.items → IsReady p l q w
+    ready_of w own room border sizes = record { step = may_step; room = room; posts = own; border = border; sizes = sizes }
 
   pub all_lie : All (λ q. IsInDomain (domain p l) (box q)) qs
   all_lie k r lt = lies k r lt
+
+  -- adds of its flows are its own
+  pub own_adds : (k : ℕ) (r : Patch) (adds : List AddAt) → k < length qs → flows_in adds ≡ flows_of s (box (get_or qs k r)) → AreOwnAdds (get_or qs k r) adds
+  own_adds k r adds lt of =
+      let q = get_or qs k r in
+      let b = sides (box q) q.near in
+      λ j a below. (adds_own p l qs cells next q adds all_lie (shown.marks k r lt) of j a below, omega (arith, adds_few adds j a below, ap length of, flows_few s (box q), b.narrow, b.flat))
 
   -- ---- its task
 
@@ -135,10 +142,7 @@ module _ (p : Problem) (l : ℕ) (old : Masses) (qs : List Patch) (cells : List 
       border_count = ap length (border_at ∙ places_count d qs k r lt) ∙ length-range_with_len (places_before d qs k) (length (borders_of d qs (box (get_or qs k r))))
 
       pub own : HasOwnPosts (get_or qs k r) t
-      own =
-          let q = get_or qs k r in
-          let b = sides (box q) q.near in
-          record {
-            puts = subst (All (λ (u : PutAt). IsOwnEdge q u.face)) (sym puts_at) (puts_owned p l qs shallow shown.apart all_lie k r lt);
-            adds = λ j a below. (adds_own p l qs cells next q t.adds.items all_lie (shown.marks k r lt) adds_at j a below, omega (arith, adds_few t.adds.items j a below, ap length adds_at, flows_few s (box q), b.narrow, b.flat));
-          }
+      own = record {
+        puts = subst (All (λ (u : PutAt). IsOwnEdge (get_or qs k r) u.face)) (sym puts_at) (puts_owned p l qs shallow shown.apart all_lie k r lt);
+        adds = own_adds k r t.adds.items lt adds_at;
+      }

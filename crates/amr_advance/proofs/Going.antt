@@ -211,7 +211,7 @@ module _ (p : Problem) (l : ℕ) (old : Masses) (qs : List Patch) (cells : List 
     small_here f = from (is_edge_face (box q) f && owns q f) refl
       where
         from : (b : Bool) → (is_edge_face (box q) f && owns q f) ≡ b → size_here f < 2 ^ 31
-        from true h = rw h (beside_small w.problem.value w.level w.body.value.patch ready.small f (rw (piece.of_patch) (own_face q f (and_parts (is_edge_face (box q) f) (owns q f) h).1)))
+        from true h = rw h (beside_small w.problem.value w.level w.body.value.patch ready.step.small f (rw (piece.of_patch) (own_face q f (and_parts (is_edge_face (box q) f) (owns q f) h).1)))
         from false h = rw h (omega arith)
 
     size_own : (f : Face) → IsOwnEdge q f → unsigned_abs (through w f) ≡ size_here f

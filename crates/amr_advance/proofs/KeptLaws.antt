@@ -1,6 +1,8 @@
 -- A layout that is kept serves each level with the same boxes beside levels with the same boxes.
-use Rattle.std.proofs.Common.{◌≡◌, ◌∙◌, ℕ, true, List, get_or, map, sym, ap, subst, arith}
+use Rattle.std.proofs.Common.{◌≡◌, ◌∙◌, ℕ, ◌+◌, ◌*◌, ◌^◌, ◌<◌, ◌≤◌, true, List, [], ◌∷◌, length, get_or, map, refl, sym, ap, subst, arith}
 use Rattle.std.specs.Prelude.{is_some}
+use Rattle.std.specs.List.{All}
+use Rattle.std.specs.Global.{Vec}
 use Rattle.amr_box.specs.declared.Cell.{Cell}
 use Rattle.amr_box.specs.Cells.{Extent, width}
 use Rattle.amr_def.specs.Domain.{domain}
@@ -14,10 +16,18 @@ use Rattle.amr_ghost.specs.Plans.{PlansFrames}
 use Rattle.amr_ghost.specs.declared.plan.FramePlan.{FramePlan}
 use Rattle.amr_ghost.proofs.PlanLaws.{plan_of_boxes}
 use Rattle.amr_layout.specs.Grounds.{SameGround, has_open_side}
-use Rattle.amr_layout.specs.Surroundings.{Around}
+use Rattle.amr_layout.specs.Surroundings.{Around, edge_count}
+use Rattle.amr_layout.specs.declared.AddAt.{AddAt}
+use Rattle.amr_layout.proofs.ByBoxes.{all_flows}
+use Rattle.amr_phase.specs.Plans.{total}
+use Rattle.amr_flux.specs.Rooms.{widest}
 use Rattle.amr_work.specs.declared.work.Workspace.{Workspace}
 use Rattle.amr_advance.specs.declared.kept.KeptLayout.{KeptLayout}
 use Rattle.amr_advance.specs.Kept.{IsKept, IsLaidOut}
+use Rattle.amr_advance.specs.Layouts.{AreAddsOf}
+use Rattle.amr_advance.specs.Tasks.{AreTasks}
+use Rattle.amr_advance.specs.declared.tasks.Tasks.{Tasks}
+use Rattle.amr_advance.specs.declared.tasks.Tasks.TheVariants.{Board, Lone}
 use Rattle.amr_advance.specs.Pieces.{AreWorkspaces, Serves, workspaces_in}
 use Rattle.amr_advance.proofs.SameLayouts.{same_layout}
 
@@ -32,6 +42,34 @@ same_workspaces ps qs ts ws e h = record {
 same_frames : (p r : Problem) (l m : ℕ) (ps qs : List Patch) (f : FramePlan) → p ≡ r → l ≡ m → map box ps ≡ map box qs → PlansFrames (domain p l) ps f → PlansFrames (domain r m) qs f
 same_frames p r l m ps qs f problem level boxes h = plan_of_boxes (domain r m) ps qs boxes f (subst (λ d. PlansFrames d ps f) (λ i. domain (problem i) (level i)) h)
 
+-- what each patch adds goes by boxes alone
+edges_of_boxes : (qs : List Patch) → total (λ (b : Extent). edge_count b) (map box qs) ≡ total (λ q. edge_count (box q)) qs
+edges_of_boxes [] = refl
+edges_of_boxes (q ∷ qs) = ap (λ n. edge_count (box q) + n) (edges_of_boxes qs)
+
+same_edges : (ps qs : List Patch) → map box ps ≡ map box qs → total (λ q. edge_count (box q)) ps ≡ total (λ q. edge_count (box q)) qs
+same_edges ps qs e = sym (edges_of_boxes ps) ∙ ap (total (λ (b : Extent). edge_count b)) e ∙ edges_of_boxes qs
+
+same_adds : (s t : Around) (adds : List (Vec AddAt)) → SameGround s t → AreAddsOf s adds → AreAddsOf t adds
+same_adds s t adds g of = record {
+  flows = of.flows ∙ all_flows s t g;
+  words = subst (λ (cs : List Cell). All (λ (v : Vec AddAt). All (λ (a : AddAt). a.word < 2 + 2 * length cs) v.items) adds) g.cells of.words;
+  edges = subst (λ n. n ≤ 2 ^ 30) (same_edges s.patches t.patches g.boxes) of.edges;
+}
+
+-- a room that is wide enough
+same_room : (ps qs : List Patch) (n : ℕ) → map box ps ≡ map box qs → All (λ q. width (box q) ≤ n) ps → All (λ q. width (box q) ≤ n) qs
+same_room ps qs n e h k q lt = subst (λ (b : Extent). width b ≤ n) (box_at ps qs k q e) (h k q (omega (arith, lt, same_length ps qs e)))
+
+-- and so the tasks
+same_tasks : (s t : Around) (tasks : Tasks) → SameGround s t → AreTasks s tasks → AreTasks t tasks
+same_tasks s t (Lone x) g h = record { adds = same_adds s t x.adds.items g h.adds; room = same_room s.patches t.patches (widest x.room) g.boxes h.room }
+same_tasks s t (Board x) g h = record {
+  layout = same_layout s t x.layout.value g h.layout;
+  shape = h.shape;
+  workspaces = same_workspaces s.patches t.patches x.layout.value.tasks.items (workspaces_in x.bodies.items) g.boxes h.workspaces;
+}
+
 -- a layout made for the same ground serves here
 pub serves_here : (t : Around) (k : KeptLayout) → IsKept t.problem k → k.level ≡ t.level → map box t.patches ≡ k.boxes.items → k.cells.items ≡ t.cells → (has_open_side t.problem ≡ true → (c : Cell) → is_some (t.finer c) ≡ in_boxes k.finer.items c) → IsLaidOut t k
 serves_here t k h level boxes cells finer =
@@ -45,9 +83,8 @@ serves_here t k h level boxes cells finer =
       cells = cells;
       finer = finer;
       frames = same_frames s.problem t.problem s.level t.level s.patches t.patches k.frames h.of_problem (sym made.level ∙ level) same made.frames;
-      layout = same_layout s t k.layout.value (record { problem = h.of_problem; level = sym made.level ∙ level; boxes = same; cells = sym made.cells ∙ cells; finer = λ e c. made.finer e c ∙ sym (finer (opened ∙ e) c) }) made.layout;
-      shape = made.shape;
-      workspaces = same_workspaces s.patches t.patches k.layout.value.tasks.items (workspaces_in k.bodies.items) same made.workspaces;
+      words = made.words ∙ ap (λ (cs : List Cell). 2 + 2 * length cs) (sym made.cells ∙ cells);
+      tasks = same_tasks s t k.tasks (record { problem = h.of_problem; level = sym made.level ∙ level; boxes = same; cells = sym made.cells ∙ cells; finer = λ e c. made.finer e c ∙ sym (finer (opened ∙ e) c) }) made.tasks;
     }
 
 -- and patches that keep their boxes
@@ -58,7 +95,6 @@ still_here s t k g h = record {
   cells = h.cells ∙ g.cells;
   finer = λ e c. let here : has_open_side s.problem ≡ true = ap has_open_side g.problem ∙ e in sym (g.finer here c) ∙ h.finer here c;
   frames = same_frames s.problem t.problem s.level t.level s.patches t.patches k.frames g.problem g.level g.boxes h.frames;
-  layout = same_layout s t k.layout.value g h.layout;
-  shape = h.shape;
-  workspaces = same_workspaces s.patches t.patches k.layout.value.tasks.items (workspaces_in k.bodies.items) g.boxes h.workspaces;
+  words = h.words ∙ ap (λ (cs : List Cell). 2 + 2 * length cs) g.cells;
+  tasks = same_tasks s t k.tasks g h.tasks;
 }

@@ -1,33 +1,26 @@
 -- A level's layout that is kept from step to step.
-use Rattle.std.specs.Prelude.{◌≡◌, true, map, is_some}
+use Rattle.std.specs.Prelude.{◌≡◌, ◌+◌, ◌*◌, true, length, map, is_some}
 use Rattle.amr_box.specs.declared.Cell.{Cell}
 use Rattle.amr_def.specs.declared.problem.Problem.{Problem}
 use Rattle.amr_def.specs.Domain.{domain}
 use Rattle.amr_def.specs.State.{in_boxes}
 use Rattle.amr_patch.specs.Patches.{box}
-use Rattle.amr_board.specs.declared.board.Shape.{Shape}
 use Rattle.amr_ghost.specs.Plans.{PlansFrames}
-use Rattle.amr_layout.specs.declared.Layout.{Layout}
 use Rattle.amr_layout.specs.Grounds.{has_open_side}
 use Rattle.amr_layout.specs.Surroundings.{Around}
 use Rattle.amr_advance.specs.declared.kept.KeptLayout.{KeptLayout}
-use Rattle.amr_advance.specs.Layouts.{IsLayoutOf}
-use Rattle.amr_advance.specs.Pieces.{AreWorkspaces, workspaces_in}
-
-abbrev pub shape_of : Layout → Shape
-shape_of y = record { places = y.places; words = y.words }
+use Rattle.amr_advance.specs.Tasks.{AreTasks}
 
 -- it was made for the boxes of this level and for its register cells, and where a side of the domain is open for the boxes of the
--- next finer level. It has a plan of the level's frames, and its workspaces are those of its tasks.
+-- next finer level. It has a plan of the level's frames, and its tasks are those of the level's patches.
 pub record IsLaidOut (s : Around) (k : KeptLayout) : Type 0 where
   pub level : k.level ≡ s.level
   pub boxes : k.boxes.items ≡ map box s.patches
   pub cells : k.cells.items ≡ s.cells
   pub finer : has_open_side s.problem ≡ true → (c : Cell) → is_some (s.finer c) ≡ in_boxes k.finer.items c
   pub frames : PlansFrames (domain s.problem s.level) s.patches k.frames
-  pub layout : IsLayoutOf s k.layout.value
-  pub shape : k.shape ≡ shape_of k.layout.value
-  pub workspaces : AreWorkspaces s.patches k.layout.value.tasks.items (workspaces_in k.bodies.items)
+  pub words : k.words ≡ 2 + 2 * length s.cells
+  pub tasks : AreTasks s k.tasks
 
 -- it was made for a level of this problem
 pub record IsKept (p : Problem) (k : KeptLayout) : Type 0 where

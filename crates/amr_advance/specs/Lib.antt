@@ -1,6 +1,7 @@
 pub mod Pieces
 pub mod Shown
 pub mod Layouts
+pub mod Tasks
 pub mod Kept
 pub mod Ended
 pub mod Collected

@@ -9,49 +9,50 @@ ghost use Rattle.amr_ghost.specs.Frames.{old_masses};
 ghost use Rattle.amr_layout.specs.Surroundings.{around};
 ghost use Rattle.amr_flows.specs.Laws.{plain_size};
 ghost use Rattle.amr_flows.specs.Words.{level_total};
-ghost use Rattle.amr_advance.specs.Kept.{IsLaidOut};
+ghost use Rattle.amr_advance.specs.Tasks.{AreLoneTasks};
 ghost use Rattle.amr_advance.specs.Shown.{AreShown, IsStepped, StepFits};
 
-use crate::kept::KeptLayout;
 use crate::level::Given;
+use crate::tasks::LoneTasks;
 use amr_patch::Patch;
 use amr_work::step_alone;
 use amr_workers::Gate;
 
 /// Makes a step of the patches of a level, whose frames are filled, one after another. Each follows from its own values and those of
-/// its frame, so it needs nothing of the others, and no board. The words, all 0 before, get the totals of the level, and the layout
-/// serves the next step.
+/// its frame, so it needs nothing of the others, and no board. The words, all 0 before, get the totals of the level, and the tasks
+/// serve the next step.
 pub(crate) fn step_each<G: Gate>(
     gate: &G,
     given: Given<'_>,
     patches: &mut [Patch],
-    layout: &mut KeptLayout,
+    tasks: &mut LoneTasks,
     totals: &mut [u64],
 )
     requires level { given.level ≤ 4 }
     requires shown { AreShown given.problem.now given.level (old_masses (option_copied given.old)) patches.old }
     requires fits { StepFits given.problem.now given.level (masses_in patches.old) (old_masses (option_copied given.old)) }
-    requires layout { IsLaidOut (around given.problem.now given.level patches.old given.cells.now (option_copied given.finer)) layout.old }
+    requires tasks { AreLoneTasks (around given.problem.now given.level patches.old given.cells.now (option_copied given.finer)) tasks.old }
     requires few { length patches.old ≤ 2 ^ 26 }
     requires gate { (task : ℕ) → task < length patches.old → G.admits gate.now 0 task }
-    requires words { length totals.old ≡ layout.old.shape.words }
+    requires words { length totals.old ≡ 2 + 2 * length given.cells.now }
     requires none { (word : ℕ) → slice_index totals.old word ≡ 0 }
     ensures stepped { AllZip (IsStepped (flux_at given.entry.problem.now given.entry.level (masses_in patches.old) (old_masses (option_copied given.entry.old)))) patches.old patches.new }
     ensures words { length totals.new ≡ length totals.old }
     ensures totals { (word : ℕ) → slice_index totals.new word ≡ level_total (around given.entry.problem.now given.entry.level patches.old given.entry.cells.now (option_copied given.entry.finer)) (plain_size given.entry.problem.now given.entry.level (masses_in patches.old) (old_masses (option_copied given.entry.old))) word }
     ensures small { (word : ℕ) → slice_index totals.new word < 2 ^ 63 }
-    ensures layout { IsLaidOut (around given.entry.problem.now given.entry.level patches.old given.entry.cells.now (option_copied given.entry.finer)) layout.new }
+    ensures tasks { AreLoneTasks (around given.entry.problem.now given.entry.level patches.old given.entry.cells.now (option_copied given.entry.finer)) tasks.new }
 {
-    let bodies = &mut layout.bodies;
+    let adds = &tasks.adds;
+    let room = &mut tasks.room;
     for task in 0..patches.len() as u32 {
         let at = task as usize;
-        let body = &mut *bodies[at];
         gate.enter(0, task);
         step_alone(
             given.problem,
             given.level,
             &mut patches[at],
-            &mut body.workspace,
+            &adds[at],
+            room,
             totals,
         );
         gate.leave(0, task);

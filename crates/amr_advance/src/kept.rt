@@ -15,24 +15,19 @@ ghost use Rattle.amr_layout.specs.Surroundings.{around, finer_masses};
 ghost use Rattle.amr_advance.specs.Kept.{IsKept, IsLaidOut};
 
 use crate::level::Given;
-use crate::pieces::bodies_of;
+use crate::tasks::{Tasks, are_for, tasks_for};
 use amr_alike::{boxes_of, have_boxes};
-use amr_board::Shape;
 use amr_box::{Bx, Cell};
 use amr_causes::NoMemory;
 use amr_def::Problem;
 use amr_gaps::starts_of;
 use amr_ghost::{FramePlan, plan_frames};
-use amr_layout::{Layout, plan};
 use amr_patch::{Level, Order, Patch};
-use amr_work::Body;
 use std::alloc::Global;
-use std::boxed::Box;
-use std::snapshot::Snapshot;
 
-/// The layout of a level's step on a board, with a body for each task and a plan of the frames, and what they were made for: the boxes
-/// of the level's patches, the register cells of the next coarser level, and the patch boxes of the next finer one, which matter
-/// only beside open sides. While these stay, each step of the level takes it as it is.
+/// The layout of a level's step, with a plan of the frames, and what it was made for: the boxes of the level's patches, the register
+/// cells of the next coarser level, and the patch boxes of the next finer one, which matter only beside open sides. While these stay,
+/// each step of the level by as many workers takes it as it is.
 #[derive(Drop)]
 pub struct KeptLayout {
     level: u32,
@@ -40,9 +35,9 @@ pub struct KeptLayout {
     cells: Vec<Cell>,
     finer: Vec<Bx>,
     pub(crate) frames: FramePlan,
-    pub(crate) shape: Shape,
-    pub(crate) bodies: Vec<Box<Body>>,
-    pub(crate) layout: Snapshot<Layout>,
+    /// How many words its tasks add to.
+    pub(crate) words: u32,
+    pub(crate) tasks: Tasks,
 }
 
 /// Whether two cells are one.
@@ -111,10 +106,13 @@ fn finer_boxes(alloc: Global, finer: Option<&Level>) -> Result<Vec<Bx>, NoMemory
     }
 }
 
-/// Whether a layout that is kept is that of these patches.
-fn serves(kept: &KeptLayout, given: Given<'_>, patches: &[Patch]) -> bool
+/// Whether a layout that is kept is that of these patches, for a lone worker or for several.
+fn serves(kept: &KeptLayout, given: Given<'_>, patches: &[Patch], alone: bool) -> bool
     ensures { IsTrue result → IsKept given.entry.problem.now kept.now → IsLaidOut (around given.entry.problem.now given.entry.level patches.now given.entry.cells.now (option_copied given.entry.finer)) kept.now }
 {
+    if !are_for(&kept.tasks, alone) {
+        return false;
+    }
     if kept.level != given.level {
         return false;
     }
@@ -127,12 +125,13 @@ fn serves(kept: &KeptLayout, given: Given<'_>, patches: &[Patch]) -> bool
     serves_beside(given.problem, given.finer, &kept.finer)
 }
 
-/// Lays out the step of these patches anew, with old bodies as far as they go.
+/// Lays out the step of these patches anew, for a lone worker or for several, with what old tasks leave as far as it goes.
 fn lay_out_anew(
     given: Given<'_>,
     order: Order,
     patches: &[Patch],
-    olds: Vec<Box<Body>>,
+    alone: bool,
+    old: Option<Tasks>,
 ) -> Result<KeptLayout, NoMemory>
     requires level { given.level ≤ 4 }
     requires order { IsOrderOf order patches.now }
@@ -143,52 +142,39 @@ fn lay_out_anew(
 {
     let alloc = given.alloc;
     let starts = starts_of(alloc, patches)?;
-    let layout = plan(
-        alloc,
-        given.problem,
-        given.level,
-        patches,
-        &starts,
-        given.cells,
-        given.finer,
-    )?;
-    let made = Snapshot::of(&layout);
-    let shape = Shape {
-        places: layout.places,
-        words: layout.words,
-    };
+    let tasks = tasks_for(given, patches, &starts, alone, old)?;
     Ok(KeptLayout {
         level: given.level,
         boxes: boxes_of(alloc, patches)?,
         cells: Vec::from_slice(alloc, given.cells)?,
         finer: finer_boxes(alloc, given.finer)?,
         frames: plan_frames(alloc, given.problem, given.level, patches, order, &starts)?,
-        shape,
-        bodies: bodies_of(alloc, patches, layout.tasks, olds)?,
-        layout: made,
+        words: 2 + 2 * given.cells.len() as u32,
+        tasks,
     })
 }
 
-/// The bodies of a layout that serves no more.
-fn bodies_from(layout: KeptLayout) -> Vec<Box<Body>> {
+/// The tasks of a layout that serves no more.
+fn tasks_from(layout: KeptLayout) -> Tasks {
     let KeptLayout {
         level: _,
         boxes: _,
         cells: _,
         finer: _,
         frames: _,
-        shape: _,
-        bodies,
-        layout: _,
+        words: _,
+        tasks,
     } = layout;
-    bodies
+    tasks
 }
 
-/// The layout of the step of these patches: the one that is kept, where it serves, else a new one. None is kept afterwards.
+/// The layout of the step of these patches, for a lone worker or for several: the one that is kept, where it serves, else a new one.
+/// None is kept afterwards.
 pub(crate) fn layout_for(
     given: Given<'_>,
     order: Order,
     patches: &[Patch],
+    alone: bool,
     kept: &mut Option<KeptLayout>,
 ) -> Result<KeptLayout, NoMemory>
     requires level { given.level ≤ 4 }
@@ -201,10 +187,10 @@ pub(crate) fn layout_for(
     ensures kept { kept.new ≡ None }
 {
     let Some(layout) = kept.take() else {
-        return lay_out_anew(given, order, patches, Vec::new(given.alloc));
+        return lay_out_anew(given, order, patches, alone, None);
     };
-    if serves(&layout, given, patches) {
+    if serves(&layout, given, patches, alone) {
         return Ok(layout);
     }
-    lay_out_anew(given, order, patches, bodies_from(layout))
+    lay_out_anew(given, order, patches, alone, Some(tasks_from(layout)))
 }

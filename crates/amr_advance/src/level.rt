@@ -11,12 +11,14 @@ ghost use Rattle.amr_flows.specs.Laws.{plain_size};
 ghost use Rattle.amr_flows.specs.Words.{level_total};
 ghost use Rattle.amr_advance.specs.Kept.{IsLaidOut};
 ghost use Rattle.amr_advance.specs.Shown.{AreShown, IsStepped, StepFits};
+ghost use Rattle.amr_advance.specs.Tasks.{AreBoardTasks};
 
 use crate::alone::step_each;
 use crate::collecting::{collect, take_totals};
 use crate::kept::KeptLayout;
 use crate::pieces::{to_patches, to_pieces};
 use crate::running::{Workers, run_pieces};
+use crate::tasks::{BoardTasks, Tasks};
 use amr_box::Cell;
 use amr_causes::NoMemory;
 use amr_def::Problem;
@@ -37,41 +39,41 @@ pub(crate) struct Given<'a> {
     pub cells: &'a [Cell],
 }
 
-/// Makes a step of the patches of a level, whose frames are filled, by workers on a board with this layout, and takes the totals of
-/// its words from the closed board. The layout serves the next step.
+/// Makes a step of the patches of a level, whose frames are filled, by workers on a board with these tasks, and takes the totals of
+/// its words from the closed board. The tasks serve the next step.
 ///
 /// All memory is taken before the first task is drawn. If allocation fails the patches are as before.
 fn run_on_board<R: Threads + Sync, G: Gate + Sync>(
     workers: &Workers<'_, R, G>,
     given: Given<'_>,
     patches: &mut [Patch],
-    layout: &mut KeptLayout,
+    tasks: &mut BoardTasks,
     totals: &mut [u64],
 ) -> Result<(), NoMemory>
     requires level { given.level ≤ 4 }
     requires shown { AreShown given.problem.now given.level (old_masses (option_copied given.old)) patches.old }
     requires fits { StepFits given.problem.now given.level (masses_in patches.old) (old_masses (option_copied given.old)) }
-    requires layout { IsLaidOut (around given.problem.now given.level patches.old given.cells.now (option_copied given.finer)) layout.old }
+    requires tasks { AreBoardTasks (around given.problem.now given.level patches.old given.cells.now (option_copied given.finer)) tasks.old }
     requires few { length patches.old ≤ 2 ^ 26 }
     requires some_workers { 1 ≤ workers.now.count }
     requires few_workers { workers.now.count ≤ 64 }
     requires gate { (worker task : ℕ) → worker < workers.now.count → task < length patches.old → G.admits workers.now.gate.now worker task }
-    requires words { length totals.old ≡ layout.old.shape.words }
+    requires words { length totals.old ≡ tasks.old.shape.words }
     ensures stepped { OnOk result (AllZip (IsStepped (flux_at given.entry.problem.now given.entry.level (masses_in patches.old) (old_masses (option_copied given.entry.old)))) patches.old patches.new) }
     ensures words { length totals.new ≡ length totals.old }
     ensures totals { OnOk result ((word : ℕ) → word < length totals.new → slice_index totals.new word ≡ level_total (around given.entry.problem.now given.entry.level patches.old given.entry.cells.now (option_copied given.entry.finer)) (plain_size given.entry.problem.now given.entry.level (masses_in patches.old) (old_masses (option_copied given.entry.old))) word) }
     ensures small { OnOk result ((word : ℕ) → word < length totals.new → slice_index totals.new word < 2 ^ 63) }
-    ensures layout { OnOk result (IsLaidOut (around given.entry.problem.now given.entry.level patches.old given.entry.cells.now (option_copied given.entry.finer)) layout.new) }
+    ensures tasks { OnOk result (AreBoardTasks (around given.entry.problem.now given.entry.level patches.old given.entry.cells.now (option_copied given.entry.finer)) tasks.new) }
     ensures same { OnErr result (patches.new ≡ patches.old) }
 {
     let alloc = given.alloc;
     let count = patches.len() as u32;
     let pieces = Vec::with_capacity(alloc, patches.len())?;
-    let bodies = &mut layout.bodies;
+    let bodies = &mut tasks.bodies;
     let pieces = to_pieces(given.problem, given.level, patches, bodies, pieces);
-    match run_pieces(workers, alloc, given.problem, layout.shape, pieces) {
+    match run_pieces(workers, alloc, given.problem, tasks.shape, pieces) {
         Ok(mut ended) => {
-            let bodies = &mut layout.bodies;
+            let bodies = &mut tasks.bodies;
             collect(given.problem, &mut ended, count, patches, bodies);
             take_totals(&ended, totals);
             Ok(())
@@ -84,7 +86,7 @@ fn run_on_board<R: Threads + Sync, G: Gate + Sync>(
 }
 
 /// Makes a step of the patches of a level, whose frames are filled: each cell gets what flows in through its faces. Several workers
-/// work on a board with this layout, a lone one goes over the patches in order. Answers the totals of the ledger's words and of the
+/// work on a board, a lone one goes over the patches in order, as the layout was made for. Answers the totals of the ledger's words and of the
 /// register's, and the layout serves the next step.
 ///
 /// All memory is taken before the first task is begun. If allocation fails the patches are as before.
@@ -110,11 +112,15 @@ pub(crate) fn run_level<R: Threads + Sync, G: Gate + Sync>(
     ensures layout { OnOk result (IsLaidOut (around given.entry.problem.now given.entry.level patches.old given.entry.cells.now (option_copied given.entry.finer)) layout.new) }
     ensures same { OnErr result (patches.new ≡ patches.old) }
 {
-    let mut totals = vec![in given.alloc; 0u64; layout.shape.words as usize]?;
-    if workers.count == 1 {
-        step_each(workers.gate, given, patches, layout, &mut totals);
-        return Ok(totals);
+    let mut totals = vec![in given.alloc; 0u64; layout.words as usize]?;
+    match &mut layout.tasks {
+        Tasks::Lone(tasks) => {
+            step_each(workers.gate, given, patches, tasks, &mut totals);
+            Ok(totals)
+        }
+        Tasks::Board(tasks) => {
+            run_on_board(workers, given, patches, tasks, &mut totals)?;
+            Ok(totals)
+        }
     }
-    run_on_board(workers, given, patches, layout, &mut totals)?;
-    Ok(totals)
 }

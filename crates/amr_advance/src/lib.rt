@@ -13,6 +13,7 @@ mod registers;
 mod regs;
 mod running;
 mod steps;
+mod tasks;
 
 pub use kept::KeptLayout;
 pub use regs::{Crew, Regs};

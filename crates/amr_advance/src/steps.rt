@@ -37,12 +37,13 @@ use std::thread::Threads;
 /// How many patches a level may have. More would take more memory than there is, and are refused as that.
 const MOST: usize = 1 << 26;
 
-/// Lays out the step of a level's patches on a board, as it is kept or anew, and fills their frames. After a refusal the patches are
-/// as before.
+/// Lays out the step of a level's patches, for a lone worker or for several, as it is kept or anew, and fills their frames. After a
+/// refusal the patches are as before.
 fn lay_out(
     given: Given<'_>,
     order: Order,
     patches: &mut [Patch],
+    alone: bool,
     kept: &mut Option<KeptLayout>,
 ) -> Result<KeptLayout, NoMemory>
     requires level { given.level ≤ 4 }
@@ -59,7 +60,7 @@ fn lay_out(
     ensures shown { OnOk result (AreShown given.entry.problem.now given.entry.level (old_masses (option_copied given.entry.old)) patches.new) }
     ensures layout { IfOk result (IsLaidOut (around given.entry.problem.now given.entry.level patches.new given.entry.cells.now (option_copied given.entry.finer))) }
 {
-    let layout = layout_for(given, order, patches, kept)?;
+    let layout = layout_for(given, order, patches, alone, kept)?;
     fill_planned(
         given.problem,
         given.level,
@@ -137,7 +138,7 @@ fn step_patches<R: Threads + Sync, G: Gate + Sync>(
     ensures same_register { OnErr result (BothChange (λ c. pos 0) register.old register.new) }
     ensures kept { IfSome kept.new (IsKept given.entry.problem.now) }
 {
-    let mut layout = lay_out(given, order, patches, kept)?;
+    let mut layout = lay_out(given, order, patches, workers.count == 1, kept)?;
     if patches.len() > MOST {
         return Err(NoMemory);
     }

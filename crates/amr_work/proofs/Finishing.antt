@@ -77,7 +77,7 @@ module _ (word : ℕ → ℕ) (w : Work) (ready : IsReadyPiece w) (planned : (k 
   face_small : (k : ℕ) → k < length places → unsigned_abs (plain w (get_or (border_faces w.body.value.patch) k no_face)) < 2 ^ 31
   face_small k lt =
       let e = All-get_or (λ f. is_border w.body.value.patch f ≡ true) (border_faces w.body.value.patch) k no_face (omega (arith, lt, ready.border)) (border_all w.body.value.patch) in
-      beside_small w.problem.value w.level w.body.value.patch ready.small (get_or (border_faces w.body.value.patch) k no_face) (border_of_box w.body.value.patch (get_or (border_faces w.body.value.patch) k no_face) e)
+      beside_small w.problem.value w.level w.body.value.patch ready.step.small (get_or (border_faces w.body.value.patch) k no_face) (border_of_box w.body.value.patch (get_or (border_faces w.body.value.patch) k no_face) e)
 
   pub planned_small : (k : ℕ) → k < length places → word (slice_index places k) ≤ 2 ^ 31
   planned_small k lt = omega (arith, planned k no_face lt, face_small k lt)
@@ -121,10 +121,10 @@ module _ (word : ℕ → ℕ) (w : Work) (ready : IsReadyPiece w) (planned : (k 
       sum_given c h = (λ t. pos (mass_in w.body.value.patch c) +ℤ net (fluxes_with (sym of_problem t) w.level w.body.value.patch (is_border t)) c) ∙ sum_is c h
 
       pub kept_given : (c : Cell) → holds (box w.body.value.patch) c ≡ true → pos 0 ≤ℤ (pos (mass_in w.body.value.patch c) +ℤ net (fluxes_with p w.level w.body.value.patch given) c)
-      kept_given c h = subst (λ z. pos 0 ≤ℤ z) (sym (sum_given c h)) (ready.kept c h)
+      kept_given c h = subst (λ z. pos 0 ≤ℤ z) (sym (sum_given c h)) (ready.step.kept c h)
 
       pub fits_given : (c : Cell) → holds (box w.body.value.patch) c ≡ true → (pos (mass_in w.body.value.patch c) +ℤ net (fluxes_with p w.level w.body.value.patch given) c) <ℤ pos (2 ^ 32)
-      fits_given c h = subst (λ z. z <ℤ pos (2 ^ 32)) (sym (sum_given c h)) (ready.fits c h)
+      fits_given c h = subst (λ z. z <ℤ pos (2 ^ 32)) (sym (sum_given c h)) (ready.step.fits c h)
 
       pub finished_after : (v : Work) → w.stage ≢ Finished → v.stage ≡ Finished → (c : Cell) → holds (box w.body.value.patch) c ≡ true → pos (mass_in v.body.value.patch c) ≡ pos (mass_in w.body.value.patch c) +ℤ net (fluxes_with p w.level w.body.value.patch given) c → mass_after v c ≡ mass_after w c
       finished_after v unfinished finished c h made = after_finished v finished c ∙ made ∙ sum_given c h ∙ sym (after_unfinished w unfinished c)

@@ -87,7 +87,7 @@ module _ (w v : Work) (s : StandsFor w v) where
   flows_small raw swept r f edge own =
       let mine : owns w.body.value.patch f ≡ true = sym (owns_same f) ∙ own in
       let same : flux_in v.body.value.patch f ≡ plain w f = sym (through_swept v swept f) ∙ s.fluxes f (ap (λ (b : Extent). is_edge_face b f) (sym s.of_box) ∙ edge) mine ∙ through_raw w raw f in
-      subst (λ z. unsigned_abs z < 2 ^ 31) (sym same) (beside_small w.problem.value w.level w.body.value.patch r.small f (own_face w.body.value.patch f mine))
+      subst (λ z. unsigned_abs z < 2 ^ 31) (sym same) (beside_small w.problem.value w.level w.body.value.patch r.step.small f (own_face w.body.value.patch f mine))
 
   -- ---- what it stands for goes on
 
@@ -124,11 +124,13 @@ module _ (w v : Work) (s : StandsFor w v) where
 
     pub ready_same : IsReadyPiece w → IsReadyPiece v
     ready_same r = record {
-      level = subst (λ n. n ≤ 4) (sym s.level) r.level;
-      inside = subst (λ (b : Extent). IsInDomain (domain v.problem.value v.level) b) (sym s.of_box) (subst (λ (p : Problem). IsInDomain (domain p v.level) (box w.body.value.patch)) (sym s.problem) (subst (λ n. IsInDomain (domain w.problem.value n) (box w.body.value.patch)) (sym s.level) r.inside));
-      small = λ c h. subst (λ n. n < 2 ^ 31) (sym (s.unfinished unfinished c)) (r.small c (ap (λ (b : Extent). in_reach b c) (sym s.of_box) ∙ h));
-      kept = λ c h. subst (λ z. pos 0 ≤ℤ z) (sym (after_same c)) (r.kept c (ap (λ (b : Extent). holds b c) (sym s.of_box) ∙ h));
-      fits = λ c h. subst (λ z. z <ℤ pos (2 ^ 32)) (sym (after_same c)) (r.fits c (ap (λ (b : Extent). holds b c) (sym s.of_box) ∙ h));
+      step = record {
+        level = subst (λ n. n ≤ 4) (sym s.level) r.step.level;
+        inside = subst (λ (b : Extent). IsInDomain (domain v.problem.value v.level) b) (sym s.of_box) (subst (λ (p : Problem). IsInDomain (domain p v.level) (box w.body.value.patch)) (sym s.problem) (subst (λ n. IsInDomain (domain w.problem.value n) (box w.body.value.patch)) (sym s.level) r.step.inside));
+        small = λ c h. subst (λ n. n < 2 ^ 31) (sym (s.unfinished unfinished c)) (r.step.small c (ap (λ (b : Extent). in_reach b c) (sym s.of_box) ∙ h));
+        kept = λ c h. subst (λ z. pos 0 ≤ℤ z) (sym (after_same c)) (r.step.kept c (ap (λ (b : Extent). holds b c) (sym s.of_box) ∙ h));
+        fits = λ c h. subst (λ z. z <ℤ pos (2 ^ 32)) (sym (after_same c)) (r.step.fits c (ap (λ (b : Extent). holds b c) (sym s.of_box) ∙ h));
+      };
       room = omega (arith, r.room, s.room, ap width s.of_box);
       posts = posts_owned r.posts;
       border = ap (λ (y : TaskLayout). length y.border.items) s.layout ∙ r.border ∙ sym (ap length faces_same);

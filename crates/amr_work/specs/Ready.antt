@@ -13,6 +13,7 @@ use Rattle.amr_flux.specs.Faces.{IsInDomain, border_faces, flux_beside, in_reach
 use Rattle.amr_flux.specs.Rooms.{widest}
 use Rattle.amr_phase.specs.Plans.{PlanOf, planned_face}
 use Rattle.amr_board.specs.Ended.{EndedOf, face_of}
+use Rattle.amr_layout.specs.declared.AddAt.{AddAt}
 use Rattle.amr_layout.specs.declared.TaskLayout.{TaskLayout}
 use Rattle.amr_def.specs.declared.problem.Problem.{Problem}
 use Rattle.amr_work.specs.declared.work.Stage.TheVariants.{Raw}
@@ -24,19 +25,26 @@ use Rattle.amr_work.specs.Works.{plain}
 abbrev pub AreOwnEdges : Patch → List Face → Type 0
 AreOwnEdges q = All (λ (f : Face). IsTrue (is_edge_face (box q) f) × IsTrue (owns q f))
 
+-- adds of what flows through such faces
+abbrev pub AreOwnAdds : Patch → List AddAt → Type 0
+AreOwnAdds q = All (λ (a : AddAt). AreOwnEdges q a.faces.items × (length a.faces.items < 2 ^ 31))
+
 -- a task posts only what flows through faces on the edges of its patch that the patch owns
 pub record HasOwnPosts (q : Patch) (layout : TaskLayout) : Type 0 where
   pub puts : All (λ u. IsTrue (is_edge_face (box q) u.face) × IsTrue (owns q u.face)) layout.puts.items
-  pub adds : All (λ a. AreOwnEdges q a.faces.items × (length a.faces.items < 2 ^ 31)) layout.adds.items
+  pub adds : AreOwnAdds q layout.adds.items
 
--- a patch of level l with values below 2^31 in reach, of which no step makes a mass below 0 or one that does not fit, with a
--- workspace that serves it
-pub record IsReady (p : Problem) (l : ℕ) (q : Patch) (s : Workspace) : Type 0 where
+-- a patch of level l with values below 2^31 in reach, of which no step makes a mass below 0 or one that does not fit
+pub record MayStep (p : Problem) (l : ℕ) (q : Patch) : Type 0 where
   pub level : l ≤ 4
   pub inside : IsInDomain (domain p l) (box q)
   pub small : (c : Cell) → IsTrue (in_reach (box q) c) → value_in q c < 2 ^ 31
   pub kept : (c : Cell) → IsTrue (holds (box q) c) → pos 0 ≤ℤ (pos (mass_in q c) +ℤ net (flux_beside p l q) c)
   pub fits : (c : Cell) → IsTrue (holds (box q) c) → (pos (mass_in q c) +ℤ net (flux_beside p l q) c) <ℤ pos (2 ^ 32)
+
+-- with a workspace that serves it
+pub record IsReady (p : Problem) (l : ℕ) (q : Patch) (s : Workspace) : Type 0 where
+  pub step : MayStep p l q
   pub room : width (box q) ≤ widest s.room
   pub posts : HasOwnPosts q s.layout
   pub border : length s.layout.border.items ≡ length (border_faces q)

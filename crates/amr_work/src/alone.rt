@@ -4,7 +4,7 @@ ghost use Rattle.std.specs.Prelude.{◌≡◌, ◌≤◌, ℕ, ◌+◌, ◌<◌,
 ghost use Rattle.std.specs.List.{All};
 ghost use Rattle.amr_box.specs.declared.Cell.{Cell};
 ghost use Rattle.amr_box.specs.declared.Face.{Face};
-ghost use Rattle.amr_box.specs.Cells.{holds};
+ghost use Rattle.amr_box.specs.Cells.{holds, width};
 ghost use Rattle.amr_def.specs.Domain.{domain};
 ghost use Rattle.amr_def.specs.Flux.{net};
 ghost use Rattle.amr_patch.specs.Patches.{SameMarks, SameValues, box, flux_in, mass_in, value_in};
@@ -12,11 +12,10 @@ ghost use Rattle.amr_patch.specs.Places.{is_edge_face};
 ghost use Rattle.amr_flux.specs.Faces.{IsInDomain, flux_beside, in_reach};
 ghost use Rattle.amr_flux.specs.Rooms.{widest};
 ghost use Rattle.amr_phase.specs.Plans.{added, total};
-ghost use Rattle.amr_work.specs.Ready.{AreOwnEdges, IsReady};
+ghost use Rattle.amr_work.specs.Ready.{AreOwnAdds, MayStep};
 ghost use Rattle.amr_work.specs.Works.{adds_by};
 
 use crate::posts::sum_through;
-use crate::work::Workspace;
 use amr_def::Problem;
 use amr_flux::{Room, sweep, update_alone};
 use amr_layout::AddAt;
@@ -62,7 +61,7 @@ fn add_flows(
     requires level { l ≤ 4 }
     requires inside { IsInDomain (domain p.now l) (box patch.old) }
     requires small { (c : Cell) → IsTrue (in_reach (box patch.old) c) → value_in patch.old c < 2 ^ 31 }
-    requires adds { All (λ a. AreOwnEdges patch.old a.faces.items × (length a.faces.items < 2 ^ 31)) adds.now }
+    requires adds { AreOwnAdds patch.old adds.now }
     requires words { All (λ a. a.word < length words.old) adds.now }
     requires fits { (word : ℕ) → slice_index words.old word + total (added word) (adds_by (flux_beside p.now l patch.old) adds.now) < 2 ^ 63 }
     ensures of_box { box patch.new ≡ box patch.old }
@@ -85,28 +84,22 @@ pub fn step_alone(
     p: &Problem,
     l: u32,
     patch: &mut Patch,
-    workspace: &mut Workspace,
+    adds: &[AddAt],
+    room: &mut Room,
     words: &mut [u64],
 )
-    requires ready { IsReady p.now l patch.old workspace.old }
-    requires words { All (λ a. a.word < length words.old) workspace.old.layout.adds.items }
-    requires fits { (word : ℕ) → slice_index words.old word + total (added word) (adds_by (flux_beside p.now l patch.old) workspace.old.layout.adds.items) < 2 ^ 63 }
+    requires step { MayStep p.now l patch.old }
+    requires adds { AreOwnAdds patch.old adds.now }
+    requires room { width (box patch.old) ≤ widest room.old }
+    requires words { All (λ a. a.word < length words.old) adds.now }
+    requires fits { (word : ℕ) → slice_index words.old word + total (added word) (adds_by (flux_beside p.now l patch.old) adds.now) < 2 ^ 63 }
     ensures masses { (c : Cell) → IsTrue (holds (box patch.old) c) → pos (mass_in patch.new c) ≡ pos (mass_in patch.old c) +ℤ net (flux_beside p.now l patch.old) c }
     ensures of_box { box patch.new ≡ box patch.old }
     ensures marks { SameMarks patch.old patch.new }
-    ensures layout { workspace.new.layout ≡ workspace.old.layout }
-    ensures sizes { length workspace.new.sizes.items ≡ length workspace.old.sizes.items }
-    ensures room { widest workspace.new.room ≡ widest workspace.old.room }
+    ensures room { widest room.new ≡ widest room.old }
     ensures count { length words.new ≡ length words.old }
-    ensures totals { (word : ℕ) → slice_index words.new word ≡ slice_index words.old word + total (added word) (adds_by (flux_beside p.now l patch.old) workspace.old.layout.adds.items) }
+    ensures totals { (word : ℕ) → slice_index words.new word ≡ slice_index words.old word + total (added word) (adds_by (flux_beside p.now l patch.old) adds.now) }
 {
-    add_flows(
-        p,
-        l,
-        patch,
-        &workspace.layout.adds,
-        &mut workspace.room,
-        words,
-    );
-    update_alone(p, l, patch, &mut workspace.room);
+    add_flows(p, l, patch, adds, room, words);
+    update_alone(p, l, patch, room);
 }

@@ -1,120 +1,105 @@
-use Rattle.std.proofs.Common.{◌≡◌, ◌<◌, ◌+◌, ◌^◌, ℕ, length, get_or, refl, sym, ap, subst, ◌∙◌, arith}
+use Rattle.std.proofs.Common.{◌≡◌, ◌<◌, ◌+◌, ◌^◌, ℕ, List, length, get_or, refl, sym, ap, subst, ◌∙◌, arith}
 use Rattle.std.specs.Prelude.{slice_index}
 use Rattle.std.specs.List.{All}
-use Rattle.std.specs.Global.{Box}
 use Rattle.std.specs.Option.{option_copied}
-use Rattle.std.specs.Box.{with_value}
-use Rattle.std.proofs.lemmas.List.{length-map}
-use Rattle.amr_board.specs.declared.board.Shape.{Shape}
+use Rattle.std.specs.Global.{Vec}
+use Rattle.amr_box.specs.Cells.{width}
+use Rattle.amr_patch.specs.declared.patches.Patch.{Patch}
+use Rattle.amr_patch.specs.Patches.{box}
+use Rattle.amr_work.specs.Ready.{AreOwnAdds}
 use Rattle.amr_flux.specs.Faces.{flux_beside}
-use Rattle.amr_flux.specs.Rooms.{widest}
 use Rattle.amr_ghost.specs.Frames.{old_masses}
 use Rattle.amr_layout.specs.declared.AddAt.{AddAt}
 use Rattle.amr_phase.specs.Plans.{added, total}
-use Rattle.amr_work.specs.declared.work.Body.{Body}
-use Rattle.amr_work.specs.declared.work.Workspace.{Workspace}
-use Rattle.amr_work.specs.Ready.{IsReady}
 use Rattle.amr_work.specs.Works.{adds_by}
-use Rattle.amr_advance.proofs.Bodies.{workspace_in}
-use Rattle.amr_advance.proofs.Lone.{all_added, all_stepped, fits_here, next_stepped, none_stepped, ready_here, served_again, totals_small, words_there}
+use Rattle.amr_advance.proofs.Lone.{add_count, all_added, all_stepped, fits_here, may_step_here, next_stepped, none_stepped, owned_here, patch_here, totals_small, words_there}
 use Rattle.amr_advance.proofs.alone.step_each.Goals as goal
 
 pub loop-task-init : goal.loop-task-init
 loop-task-init g c = record {
   stepped =
       none_stepped c.args.given.problem.now c.args.given.level (old_masses (option_copied c.args.given.old)) c.args.patches.now c.args.given.cells.now (option_copied c.args.given.finer) c.requires.level c.requires.shown c.requires.fits
-      c.args.layout.now.layout.value c.requires.layout.layout c.args.totals.now c.requires.none;
-  served = c.requires.layout.workspaces;
+      c.args.tasks.now.adds.items c.requires.tasks.adds c.args.totals.now c.requires.none;
   words = refl;
+  room = refl;
 }
-
-pub index_mut-requires : goal.index_mut-requires
-index_mut-requires g c = omega (arith, c.loop-task-test.true, length-map c.loop-task.bodies.items workspace_in, c.loop-task.invariant.served.count, c.loop-task.bodies.ok.0)
-
-pub step_alone-requires-clause-ready : goal.step_alone-requires-clause-ready
-step_alone-requires-clause-ready g c =
-    let b = c.index_mut.result.now in
-    let inv = c.loop-task.invariant in
-    let same : c.deref_mut-body.result.now.workspace ≡ (get_or c.loop-task.bodies.items c.loop-task.task b).value.workspace = ap (λ (x : Body). x.workspace) c.deref_mut-body.ensures.value ∙ ap workspace_in c.index_mut.ensures.value in
-    subst (λ (x : Workspace). IsReady c.args.given.problem.now c.args.given.level (get_or c.loop-task.patches c.loop-task.task c.index-patches-at.result) x) (sym same)
-    (ready_here c.args.given.problem.now c.args.given.level (old_masses (option_copied c.args.given.old)) c.args.patches.now c.args.given.cells.now (option_copied c.args.given.finer) c.requires.level c.requires.shown c.requires.fits
-    c.args.layout.now.layout.value c.requires.layout.layout c.loop-task.bodies.items inv.served c.loop-task.patches c.loop-task.totals c.loop-task.task inv.stepped c.index-patches-at.result b c.loop-task-test.true)
-
-pub step_alone-requires-clause-words : goal.step_alone-requires-clause-words
-step_alone-requires-clause-words g c =
-    let b = c.index_mut.result.now in
-    let inv = c.loop-task.invariant in
-    let same : c.deref_mut-body.result.now.workspace ≡ (get_or c.loop-task.bodies.items c.loop-task.task b).value.workspace = ap (λ (x : Body). x.workspace) c.deref_mut-body.ensures.value ∙ ap workspace_in c.index_mut.ensures.value in
-    subst (λ (x : Workspace). All (λ (a : AddAt). a.word < length c.loop-task.totals) x.layout.adds.items) (sym same)
-    (λ j a below. omega (
-      arith,
-      inv.words,
-      c.requires.words,
-      ap (λ (x : Shape). x.words) c.requires.layout.shape,
-      words_there c.args.given.problem.now c.args.given.level (old_masses (option_copied c.args.given.old)) c.args.patches.now c.args.given.cells.now (option_copied c.args.given.finer) c.requires.level c.requires.shown c.requires.fits
-          c.args.layout.now.layout.value c.requires.layout.layout c.loop-task.bodies.items inv.served c.loop-task.task c.index-patches-at.result b c.loop-task-test.true j a below,
-    ))
-
-pub step_alone-requires-clause-fits : goal.step_alone-requires-clause-fits
-step_alone-requires-clause-fits g c =
-    let b = c.index_mut.result.now in
-    let inv = c.loop-task.invariant in
-    let same : c.deref_mut-body.result.now.workspace ≡ (get_or c.loop-task.bodies.items c.loop-task.task b).value.workspace = ap (λ (x : Body). x.workspace) c.deref_mut-body.ensures.value ∙ ap workspace_in c.index_mut.ensures.value in
-    subst (λ (x : Workspace). (word : ℕ) → slice_index c.loop-task.totals word + total (added word) (adds_by (flux_beside c.args.given.problem.now c.args.given.level (get_or c.loop-task.patches c.loop-task.task c.index-patches-at.result)) x.layout.adds.items) < 2 ^ 63) (sym same)
-    (fits_here c.args.given.problem.now c.args.given.level (old_masses (option_copied c.args.given.old)) c.args.patches.now c.args.given.cells.now (option_copied c.args.given.finer) c.requires.level c.requires.shown c.requires.fits
-    c.args.layout.now.layout.value c.requires.layout.layout c.loop-task.bodies.items inv.served c.loop-task.patches c.loop-task.totals c.loop-task.task inv.stepped c.index-patches-at.result b c.loop-task-test.true)
-
-pub loop-task-preserved : goal.loop-task-preserved
-loop-task-preserved g c =
-    let b = c.index_mut.result.now in
-    let inv = c.loop-task.invariant in
-    let made = c.step_alone.new.workspace in
-    let same : c.deref_mut-body.result.now.workspace ≡ (get_or c.loop-task.bodies.items c.loop-task.task b).value.workspace = ap (λ (x : Body). x.workspace) c.deref_mut-body.ensures.value ∙ ap workspace_in c.index_mut.ensures.value in
-    let after : Box Body = with_value b (record { patch = c.deref_mut-body.result.now.patch; workspace = made }) in
-    record {
-      stepped =
-          next_stepped c.args.given.problem.now c.args.given.level (old_masses (option_copied c.args.given.old)) c.args.patches.now c.args.given.cells.now (option_copied c.args.given.finer) c.requires.level c.requires.shown c.requires.fits
-          c.args.layout.now.layout.value c.requires.layout.layout c.loop-task.bodies.items inv.served c.loop-task.patches c.loop-task.totals c.loop-task.task inv.stepped c.index-patches-at.result b c.loop-task-test.true
-          c.step_alone.new.patch c.step_alone.new.words c.step_alone.ensures.of_box c.step_alone.ensures.masses
-          (λ word. c.step_alone.ensures.totals word ∙ ap (λ (x : Workspace). slice_index c.loop-task.totals word + total (added word) (adds_by (flux_beside c.args.given.problem.now c.args.given.level (get_or c.loop-task.patches c.loop-task.task c.index-patches-at.result)) x.layout.adds.items)) same);
-      served =
-          served_again c.args.patches.now c.args.layout.now.layout.value.tasks.items c.loop-task.bodies.items c.loop-task.task b after c.loop-task-test.true inv.served
-          (record {
-            of_layout = c.step_alone.ensures.layout ∙ ap (λ (x : Workspace). x.layout) same;
-            sizes = c.step_alone.ensures.sizes ∙ ap (λ (x : Workspace). length x.sizes.items) same;
-            room = c.step_alone.ensures.room ∙ ap (λ (x : Workspace). widest x.room) same;
-          });
-      words = c.step_alone.ensures.count ∙ inv.words;
-    }
 
 pub returns-clause-stepped : goal.returns-clause-stepped
 returns-clause-stepped g c =
     all_stepped c.args.given.problem.now c.args.given.level (old_masses (option_copied c.args.given.old)) c.args.patches.now c.args.given.cells.now (option_copied c.args.given.finer) c.requires.level c.requires.shown c.requires.fits
-    c.args.layout.now.layout.value c.requires.layout.layout c.loop-task.patches c.loop-task.totals c.loop-task.task (omega (arith, c.loop-task-test.false)) c.loop-task.invariant.stepped
+    c.args.tasks.now.adds.items c.requires.tasks.adds c.loop-task.patches c.loop-task.totals c.loop-task.task (omega (arith, c.loop-task-test.false)) c.loop-task.invariant.stepped
 
 pub returns-clause-totals : goal.returns-clause-totals
 returns-clause-totals g c =
     all_added c.args.given.problem.now c.args.given.level (old_masses (option_copied c.args.given.old)) c.args.patches.now c.args.given.cells.now (option_copied c.args.given.finer) c.requires.level c.requires.shown c.requires.fits
-    c.args.layout.now.layout.value c.requires.layout.layout c.loop-task.patches c.loop-task.totals c.loop-task.task (omega (arith, c.loop-task-test.false)) c.loop-task.invariant.stepped
+    c.args.tasks.now.adds.items c.requires.tasks.adds c.loop-task.patches c.loop-task.totals c.loop-task.task (omega (arith, c.loop-task-test.false)) c.loop-task.invariant.stepped
 
 pub returns-clause-small : goal.returns-clause-small
 returns-clause-small g c = λ word.
     omega (
       arith,
       all_added c.args.given.problem.now c.args.given.level (old_masses (option_copied c.args.given.old)) c.args.patches.now c.args.given.cells.now (option_copied c.args.given.finer) c.requires.level c.requires.shown c.requires.fits
-          c.args.layout.now.layout.value c.requires.layout.layout c.loop-task.patches c.loop-task.totals c.loop-task.task (omega (arith, c.loop-task-test.false)) c.loop-task.invariant.stepped word,
+          c.args.tasks.now.adds.items c.requires.tasks.adds c.loop-task.patches c.loop-task.totals c.loop-task.task (omega (arith, c.loop-task-test.false)) c.loop-task.invariant.stepped word,
       totals_small c.args.given.problem.now c.args.given.level (old_masses (option_copied c.args.given.old)) c.args.patches.now c.args.given.cells.now (option_copied c.args.given.finer) c.requires.level c.requires.shown c.requires.fits
-          c.args.layout.now.layout.value c.requires.layout.layout c.loop-task.bodies.items c.loop-task.invariant.served word,
+          c.args.tasks.now.adds.items c.requires.tasks.adds word,
     )
 
-pub returns-clause-layout : goal.returns-clause-layout
-returns-clause-layout g c = record {
-  level = c.requires.layout.level;
-  boxes = c.requires.layout.boxes;
-  cells = c.requires.layout.cells;
-  finer = c.requires.layout.finer;
-  frames = c.requires.layout.frames;
-  layout = c.requires.layout.layout;
-  shape = c.requires.layout.shape;
-  workspaces = c.loop-task.invariant.served;
+pub index-requires : goal.index-requires
+index-requires g c =
+    omega (
+      arith,
+      c.loop-task-test.true,
+      add_count c.args.given.problem.now c.args.given.level (old_masses (option_copied c.args.given.old)) c.args.patches.now c.args.given.cells.now (option_copied c.args.given.finer) c.requires.level c.requires.shown c.requires.fits
+          c.args.tasks.now.adds.items c.requires.tasks.adds,
+    )
+
+pub step_alone-requires-clause-step : goal.step_alone-requires-clause-step
+step_alone-requires-clause-step g c =
+    may_step_here c.args.given.problem.now c.args.given.level (old_masses (option_copied c.args.given.old)) c.args.patches.now c.args.given.cells.now (option_copied c.args.given.finer) c.requires.level c.requires.shown c.requires.fits
+    c.args.tasks.now.adds.items c.requires.tasks.adds c.loop-task.patches c.loop-task.totals c.loop-task.task c.loop-task.invariant.stepped c.index-patches-at.result c.index.result.now c.loop-task-test.true
+
+pub step_alone-requires-clause-adds : goal.step_alone-requires-clause-adds
+step_alone-requires-clause-adds g c =
+    subst (AreOwnAdds (get_or c.loop-task.patches c.loop-task.task c.index-patches-at.result)) (sym (c.deref.ensures.value ∙ ap (λ (v : Vec AddAt). v.items) c.index.ensures))
+    (owned_here c.args.given.problem.now c.args.given.level (old_masses (option_copied c.args.given.old)) c.args.patches.now c.args.given.cells.now (option_copied c.args.given.finer) c.requires.level c.requires.shown c.requires.fits
+    c.args.tasks.now.adds.items c.requires.tasks.adds c.loop-task.patches c.loop-task.totals c.loop-task.task c.loop-task.invariant.stepped c.index-patches-at.result c.index.result.now c.loop-task-test.true)
+
+pub step_alone-requires-clause-room : goal.step_alone-requires-clause-room
+step_alone-requires-clause-room g c =
+    let q = c.index-patches-at.result in
+    let here : get_or c.loop-task.patches c.loop-task.task q ≡ get_or c.args.patches.now c.loop-task.task q =
+    patch_here c.args.given.problem.now c.args.given.level (old_masses (option_copied c.args.given.old)) c.args.patches.now c.args.given.cells.now (option_copied c.args.given.finer) c.requires.level c.requires.shown c.requires.fits
+    c.args.tasks.now.adds.items c.requires.tasks.adds c.loop-task.patches c.loop-task.totals c.loop-task.task c.loop-task.invariant.stepped c.index-patches-at.result c.index.result.now c.loop-task-test.true in
+    omega (arith, c.requires.tasks.room c.loop-task.task q c.loop-task-test.true, ap (λ (x : Patch). width (box x)) here, c.loop-task.invariant.room)
+
+pub step_alone-requires-clause-words : goal.step_alone-requires-clause-words
+step_alone-requires-clause-words g c =
+    subst (All (λ (a : AddAt). a.word < length c.loop-task.totals)) (sym (c.deref.ensures.value ∙ ap (λ (v : Vec AddAt). v.items) c.index.ensures))
+    (λ j a below. omega (
+      arith,
+      c.loop-task.invariant.words,
+      c.requires.words,
+      words_there c.args.given.problem.now c.args.given.level (old_masses (option_copied c.args.given.old)) c.args.patches.now c.args.given.cells.now (option_copied c.args.given.finer) c.requires.level c.requires.shown c.requires.fits
+          c.args.tasks.now.adds.items c.requires.tasks.adds c.loop-task.task c.index-patches-at.result c.index.result.now c.loop-task-test.true j a below,
+    ))
+
+pub step_alone-requires-clause-fits : goal.step_alone-requires-clause-fits
+step_alone-requires-clause-fits g c =
+    subst (λ (adds : List AddAt). (word : ℕ) → slice_index c.loop-task.totals word + total (added word) (adds_by (flux_beside c.args.given.problem.now c.args.given.level (get_or c.loop-task.patches c.loop-task.task c.index-patches-at.result)) adds) < 2 ^ 63) (sym (c.deref.ensures.value ∙ ap (λ (v : Vec AddAt). v.items) c.index.ensures))
+    (fits_here c.args.given.problem.now c.args.given.level (old_masses (option_copied c.args.given.old)) c.args.patches.now c.args.given.cells.now (option_copied c.args.given.finer) c.requires.level c.requires.shown c.requires.fits
+    c.args.tasks.now.adds.items c.requires.tasks.adds c.loop-task.patches c.loop-task.totals c.loop-task.task c.loop-task.invariant.stepped c.index-patches-at.result c.index.result.now c.loop-task-test.true)
+
+pub loop-task-preserved : goal.loop-task-preserved
+loop-task-preserved g c = record {
+  stepped =
+      next_stepped c.args.given.problem.now c.args.given.level (old_masses (option_copied c.args.given.old)) c.args.patches.now c.args.given.cells.now (option_copied c.args.given.finer) c.requires.level c.requires.shown c.requires.fits
+      c.args.tasks.now.adds.items c.requires.tasks.adds c.loop-task.patches c.loop-task.totals c.loop-task.task c.loop-task.invariant.stepped c.index-patches-at.result c.index.result.now c.loop-task-test.true
+      c.step_alone.new.patch c.step_alone.new.words c.step_alone.ensures.of_box c.step_alone.ensures.masses
+      (subst (λ (adds : List AddAt). (word : ℕ) → slice_index c.step_alone.new.words word ≡ slice_index c.loop-task.totals word + total (added word) (adds_by (flux_beside c.args.given.problem.now c.args.given.level (get_or c.loop-task.patches c.loop-task.task c.index-patches-at.result)) adds)) (c.deref.ensures.value ∙ ap (λ (v : Vec AddAt). v.items) c.index.ensures)
+      c.step_alone.ensures.totals);
+  words = c.step_alone.ensures.count ∙ c.loop-task.invariant.words;
+  room = c.step_alone.ensures.room ∙ c.loop-task.invariant.room;
 }
+
+pub returns-clause-tasks : goal.returns-clause-tasks
+returns-clause-tasks g c = record { adds = c.requires.tasks.adds; room = λ k q lt. omega (arith, c.requires.tasks.room k q lt, c.loop-task.invariant.room) }

@@ -12,7 +12,7 @@ use Rattle.amr_work.specs.declared.work.Work.{Work}
 use Rattle.amr_work.specs.Ready.{MayBegin}
 use Rattle.amr_work.specs.Works.{adds_of_work, puts_of_work}
 use Rattle.amr_advance.specs.Ended.{HasWords}
-use Rattle.amr_advance.specs.Kept.{shape_of}
+use Rattle.amr_advance.specs.Tasks.{shape_of}
 use Rattle.amr_advance.specs.Pieces.{workspaces_in}
 use Rattle.amr_advance.proofs.Bodies.{workspace_in}
 use Rattle.amr_advance.proofs.Closed.{all_returned, all_stepped, level_totals, may_collect, numbered, patches_back}
@@ -35,43 +35,38 @@ in_layout g h e m n word long same below = omega (arith, long, same, below, ap (
 
 pub run_pieces-requires-clause-plan : goal.run_pieces-requires-clause-plan
 run_pieces-requires-clause-plan g c = λ _ _.
-    plan_by c.args.layout.now.shape (shape_of c.args.layout.now.layout.value) c.requires.layout.shape c.to_pieces-pieces.result.items
+    plan_by c.args.tasks.now.shape (shape_of c.args.tasks.now.layout.value) c.requires.tasks.shape c.to_pieces-pieces.result.items
     (is_plan c.args.given.problem.now c.args.given.level (old_masses (option_copied c.args.given.old)) c.args.patches.now c.args.given.cells.now (option_copied c.args.given.finer) c.requires.level c.requires.shown c.requires.fits
-    c.args.layout.now.layout.value c.requires.layout.layout (workspaces_in c.args.layout.now.bodies.items) c.requires.layout.workspaces c.to_pieces-pieces.result.items c.to_pieces-pieces.ensures.pieces)
+    c.args.tasks.now.layout.value c.requires.tasks.layout (workspaces_in c.args.tasks.now.bodies.items) c.requires.tasks.workspaces c.to_pieces-pieces.result.items c.to_pieces-pieces.ensures.pieces)
 
 pub run_pieces-requires-clause-numbered : goal.run_pieces-requires-clause-numbered
-run_pieces-requires-clause-numbered g c = λ _ _. numbered c.args.given.problem.now c.args.given.level c.args.patches.now (workspaces_in c.args.layout.now.bodies.items) c.to_pieces-pieces.result.items c.to_pieces-pieces.ensures.pieces
+run_pieces-requires-clause-numbered g c = λ _ _. numbered c.args.given.problem.now c.args.given.level c.args.patches.now (workspaces_in c.args.tasks.now.bodies.items) c.to_pieces-pieces.result.items c.to_pieces-pieces.ensures.pieces
 
 pub run_pieces-requires-clause-begin : goal.run_pieces-requires-clause-begin
 run_pieces-requires-clause-begin g c = λ _ _.
-    begin_by c.args.given.problem.now c.args.layout.now.shape (shape_of c.args.layout.now.layout.value) c.requires.layout.shape c.to_pieces-pieces.result.items
+    begin_by c.args.given.problem.now c.args.tasks.now.shape (shape_of c.args.tasks.now.layout.value) c.requires.tasks.shape c.to_pieces-pieces.result.items
     (all_begin c.args.given.problem.now c.args.given.level (old_masses (option_copied c.args.given.old)) c.args.patches.now c.args.given.cells.now (option_copied c.args.given.finer) c.requires.level c.requires.shown c.requires.fits
-    c.args.layout.now.layout.value c.requires.layout.layout (workspaces_in c.args.layout.now.bodies.items) c.requires.layout.workspaces c.to_pieces-pieces.result.items c.to_pieces-pieces.ensures.pieces)
+    c.args.tasks.now.layout.value c.requires.tasks.layout (workspaces_in c.args.tasks.now.bodies.items) c.requires.tasks.workspaces c.to_pieces-pieces.result.items c.to_pieces-pieces.ensures.pieces)
 
 pub collect-requires-clause-pieces : goal.collect-requires-clause-pieces
 collect-requires-clause-pieces g c = λ t lt.
     may_collect c.args.given.problem.now c.args.given.level (old_masses (option_copied c.args.given.old)) c.args.patches.now c.args.given.cells.now (option_copied c.args.given.finer) c.requires.level c.requires.shown c.requires.fits
-    c.args.layout.now.layout.value c.requires.layout.layout (workspaces_in c.args.layout.now.bodies.items) c.requires.layout.workspaces c.to_pieces-pieces.result.items c.to_pieces-pieces.ensures.pieces c.in-Ok.ended (words_by c.args.layout.now.shape (shape_of c.args.layout.now.layout.value) c.requires.layout.shape c.to_pieces-pieces.result.items c.in-Ok.ended c.in-Ok.ensures.words) c.in-Ok.ensures.pieces t lt
+    c.args.tasks.now.layout.value c.requires.tasks.layout (workspaces_in c.args.tasks.now.bodies.items) c.requires.tasks.workspaces c.to_pieces-pieces.result.items c.to_pieces-pieces.ensures.pieces c.in-Ok.ended (words_by c.args.tasks.now.shape (shape_of c.args.tasks.now.layout.value) c.requires.tasks.shape c.to_pieces-pieces.result.items c.in-Ok.ended c.in-Ok.ensures.words) c.in-Ok.ensures.pieces t lt
 
 pub returns-in-Ok-clause-stepped : goal.returns-in-Ok-clause-stepped
 returns-in-Ok-clause-stepped g c =
     all_stepped c.args.given.problem.now c.args.given.level (old_masses (option_copied c.args.given.old)) c.args.patches.now c.args.given.cells.now (option_copied c.args.given.finer) c.requires.level c.requires.shown c.requires.fits
-    c.args.layout.now.layout.value c.requires.layout.layout (workspaces_in c.args.layout.now.bodies.items) c.requires.layout.workspaces c.to_pieces-pieces.result.items c.to_pieces-pieces.ensures.pieces c.in-Ok.ended (words_by c.args.layout.now.shape (shape_of c.args.layout.now.layout.value) c.requires.layout.shape c.to_pieces-pieces.result.items c.in-Ok.ended c.in-Ok.ensures.words) c.in-Ok.ensures.pieces
+    c.args.tasks.now.layout.value c.requires.tasks.layout (workspaces_in c.args.tasks.now.bodies.items) c.requires.tasks.workspaces c.to_pieces-pieces.result.items c.to_pieces-pieces.ensures.pieces c.in-Ok.ended (words_by c.args.tasks.now.shape (shape_of c.args.tasks.now.layout.value) c.requires.tasks.shape c.to_pieces-pieces.result.items c.in-Ok.ended c.in-Ok.ensures.words) c.in-Ok.ensures.pieces
     c.collect.new.patches c.collect.ensures.all c.collect.ensures.count
 
-pub returns-in-Ok-clause-layout : goal.returns-in-Ok-clause-layout
-returns-in-Ok-clause-layout g c =
+pub returns-in-Ok-clause-tasks : goal.returns-in-Ok-clause-tasks
+returns-in-Ok-clause-tasks g c =
     record {
-      level = c.requires.layout.level;
-      boxes = c.requires.layout.boxes;
-      cells = c.requires.layout.cells;
-      finer = c.requires.layout.finer;
-      frames = c.requires.layout.frames;
-      layout = c.requires.layout.layout;
-      shape = c.requires.layout.shape;
+      layout = c.requires.tasks.layout;
+      shape = c.requires.tasks.shape;
       workspaces =
           all_returned c.args.given.problem.now c.args.given.level (old_masses (option_copied c.args.given.old)) c.args.patches.now c.args.given.cells.now (option_copied c.args.given.finer) c.requires.level c.requires.shown c.requires.fits
-          c.args.layout.now.layout.value c.requires.layout.layout (workspaces_in c.args.layout.now.bodies.items) c.requires.layout.workspaces c.to_pieces-pieces.result.items c.to_pieces-pieces.ensures.pieces c.in-Ok.ended (words_by c.args.layout.now.shape (shape_of c.args.layout.now.layout.value) c.requires.layout.shape c.to_pieces-pieces.result.items c.in-Ok.ended c.in-Ok.ensures.words) c.in-Ok.ensures.pieces
+          c.args.tasks.now.layout.value c.requires.tasks.layout (workspaces_in c.args.tasks.now.bodies.items) c.requires.tasks.workspaces c.to_pieces-pieces.result.items c.to_pieces-pieces.ensures.pieces c.in-Ok.ended (words_by c.args.tasks.now.shape (shape_of c.args.tasks.now.layout.value) c.requires.tasks.shape c.to_pieces-pieces.result.items c.in-Ok.ended c.in-Ok.ensures.words) c.in-Ok.ensures.pieces
           (workspaces_in c.collect.new.bodies.items) c.collect.ensures.bodies (length-map c.collect.new.bodies.items workspace_in ∙ c.collect.ensures.body_count);
     }
 
@@ -79,19 +74,19 @@ pub returns-in-Ok-clause-totals : goal.returns-in-Ok-clause-totals
 returns-in-Ok-clause-totals g c = λ word below.
     c.take_totals.ensures.all word below
     ∙ level_totals c.args.given.problem.now c.args.given.level (old_masses (option_copied c.args.given.old)) c.args.patches.now c.args.given.cells.now (option_copied c.args.given.finer) c.requires.level c.requires.shown c.requires.fits
-    c.args.layout.now.layout.value c.requires.layout.layout (workspaces_in c.args.layout.now.bodies.items) c.requires.layout.workspaces c.to_pieces-pieces.result.items c.to_pieces-pieces.ensures.pieces c.in-Ok.ended (words_by c.args.layout.now.shape (shape_of c.args.layout.now.layout.value) c.requires.layout.shape c.to_pieces-pieces.result.items c.in-Ok.ended c.in-Ok.ensures.words) c.in-Ok.ensures.pieces
-    c.collect.new.ended word (c.collect.ensures.totals word) (in_layout (shape_of c.args.layout.now.layout.value) c.args.layout.now.shape c.requires.layout.shape (length c.args.totals.now) (length c.take_totals.new.totals) word c.requires.words c.take_totals.ensures.count below)
+    c.args.tasks.now.layout.value c.requires.tasks.layout (workspaces_in c.args.tasks.now.bodies.items) c.requires.tasks.workspaces c.to_pieces-pieces.result.items c.to_pieces-pieces.ensures.pieces c.in-Ok.ended (words_by c.args.tasks.now.shape (shape_of c.args.tasks.now.layout.value) c.requires.tasks.shape c.to_pieces-pieces.result.items c.in-Ok.ended c.in-Ok.ensures.words) c.in-Ok.ensures.pieces
+    c.collect.new.ended word (c.collect.ensures.totals word) (in_layout (shape_of c.args.tasks.now.layout.value) c.args.tasks.now.shape c.requires.tasks.shape (length c.args.totals.now) (length c.take_totals.new.totals) word c.requires.words c.take_totals.ensures.count below)
 
 pub returns-in-Err-clause-same : goal.returns-in-Err-clause-same
 returns-in-Err-clause-same g c =
     c.to_patches.ensures.patches ∙ ap (λ (ws : List Work). map (λ (w : Work). w.body.value.patch) ws) c.in-Err.ensures.back
-    ∙ patches_back c.args.given.problem.now c.args.given.level c.args.patches.now (workspaces_in c.args.layout.now.bodies.items) c.to_pieces-pieces.result.items c.to_pieces-pieces.ensures.pieces
+    ∙ patches_back c.args.given.problem.now c.args.given.level c.args.patches.now (workspaces_in c.args.tasks.now.bodies.items) c.to_pieces-pieces.result.items c.to_pieces-pieces.ensures.pieces
 
 pub returns-in-Ok-clause-small : goal.returns-in-Ok-clause-small
 returns-in-Ok-clause-small g c = λ word below.
     let ended = c.in-Ok.ensures.words in
     let plan =
     is_plan c.args.given.problem.now c.args.given.level (old_masses (option_copied c.args.given.old)) c.args.patches.now c.args.given.cells.now (option_copied c.args.given.finer) c.requires.level c.requires.shown c.requires.fits
-    c.args.layout.now.layout.value c.requires.layout.layout (workspaces_in c.args.layout.now.bodies.items) c.requires.layout.workspaces c.to_pieces-pieces.result.items c.to_pieces-pieces.ensures.pieces in
-    let shape = c.requires.layout.shape in
-    omega (arith, c.take_totals.ensures.all word below, c.collect.ensures.totals word, ended.totals word (omega (arith, below, c.take_totals.ensures.count, c.requires.words)), (plan_by c.args.layout.now.shape (shape_of c.args.layout.now.layout.value) shape c.to_pieces-pieces.result.items plan).totals_fit word)
+    c.args.tasks.now.layout.value c.requires.tasks.layout (workspaces_in c.args.tasks.now.bodies.items) c.requires.tasks.workspaces c.to_pieces-pieces.result.items c.to_pieces-pieces.ensures.pieces in
+    let shape = c.requires.tasks.shape in
+    omega (arith, c.take_totals.ensures.all word below, c.collect.ensures.totals word, ended.totals word (omega (arith, below, c.take_totals.ensures.count, c.requires.words)), (plan_by c.args.tasks.now.shape (shape_of c.args.tasks.now.layout.value) shape c.to_pieces-pieces.result.items plan).totals_fit word)

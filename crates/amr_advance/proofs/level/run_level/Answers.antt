@@ -1,0 +1,42 @@
+use Rattle.std.proofs.Common.{length, subst, ap, arith}
+use Rattle.std.specs.Option.{option_copied}
+use Rattle.amr_board.specs.declared.board.Shape.{Shape}
+use Rattle.amr_layout.specs.Surroundings.{around}
+use Rattle.amr_advance.specs.Tasks.{AreBoardTasks, AreTasks}
+use Rattle.amr_advance.proofs.level.run_level.Goals as goal
+
+pub step_each-requires-clause-tasks : goal.step_each-requires-clause-tasks
+step_each-requires-clause-tasks g c =
+    subst (AreTasks (around c.args.given.problem.now c.args.given.level c.args.patches.now c.args.given.cells.now (option_copied c.args.given.finer))) c.in-Lone.is c.requires.layout.tasks
+
+pub run_on_board-requires-clause-tasks : goal.run_on_board-requires-clause-tasks
+run_on_board-requires-clause-tasks g c = λ _ _.
+    subst (AreTasks (around c.args.given.problem.now c.args.given.level c.args.patches.now c.args.given.cells.now (option_copied c.args.given.finer))) c.in-Board.is c.requires.layout.tasks
+
+pub run_on_board-requires-clause-words : goal.run_on_board-requires-clause-words
+run_on_board-requires-clause-words g c = λ _ _.
+    let board : AreBoardTasks (around c.args.given.problem.now c.args.given.level c.args.patches.now c.args.given.cells.now (option_copied c.args.given.finer)) c.in-Board.tasks =
+    subst (AreTasks (around c.args.given.problem.now c.args.given.level c.args.patches.now c.args.given.cells.now (option_copied c.args.given.finer))) c.in-Board.is c.requires.layout.tasks in
+    omega (arith, ap length c.deref_mut-in-Board.ensures.value, c.in_ok-totals.ensures.len, c.requires.layout.words, board.layout.words, ap (λ (x : Shape). x.words) board.shape)
+
+pub returns-in-Lone-clause-layout : goal.returns-in-Lone-clause-layout
+returns-in-Lone-clause-layout g c = record {
+  level = c.requires.layout.level;
+  boxes = c.requires.layout.boxes;
+  cells = c.requires.layout.cells;
+  finer = c.requires.layout.finer;
+  frames = c.requires.layout.frames;
+  words = c.requires.layout.words;
+  tasks = c.step_each.ensures.tasks;
+}
+
+pub returns-in_ok-run_on_board-in-Board-clause-layout : goal.returns-in_ok-run_on_board-in-Board-clause-layout
+returns-in_ok-run_on_board-in-Board-clause-layout g c = record {
+  level = c.requires.layout.level;
+  boxes = c.requires.layout.boxes;
+  cells = c.requires.layout.cells;
+  finer = c.requires.layout.finer;
+  frames = c.requires.layout.frames;
+  words = c.requires.layout.words;
+  tasks = c.in_ok-run_on_board-in-Board.ensures.tasks;
+}

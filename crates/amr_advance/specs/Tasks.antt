@@ -1,0 +1,33 @@
+-- What workers work with in a step of a level.
+use Rattle.std.specs.Prelude.{◌≡◌, ◌≤◌}
+use Rattle.std.specs.List.{All}
+use Rattle.amr_box.specs.Cells.{width}
+use Rattle.amr_board.specs.declared.board.Shape.{Shape}
+use Rattle.amr_flux.specs.Rooms.{widest}
+use Rattle.amr_layout.specs.declared.Layout.{Layout}
+use Rattle.amr_layout.specs.Surroundings.{Around}
+use Rattle.amr_patch.specs.Patches.{box}
+use Rattle.amr_advance.specs.declared.tasks.BoardTasks.{BoardTasks}
+use Rattle.amr_advance.specs.declared.tasks.LoneTasks.{LoneTasks}
+use Rattle.amr_advance.specs.declared.tasks.Tasks.{Tasks}
+use Rattle.amr_advance.specs.declared.tasks.Tasks.TheVariants.{Board, Lone}
+use Rattle.amr_advance.specs.Layouts.{AreAddsOf, IsLayoutOf}
+use Rattle.amr_advance.specs.Pieces.{AreWorkspaces, workspaces_in}
+
+abbrev pub shape_of : Layout → Shape
+shape_of y = record { places = y.places; words = y.words }
+
+-- what each patch adds, and room for a row of the widest
+pub record AreLoneTasks (s : Around) (t : LoneTasks) : Type 0 where
+  pub adds : AreAddsOf s t.adds.items
+  pub room : All (λ q. width (box q) ≤ widest t.room) s.patches
+
+-- the layout on a board, with a workspace for each of its tasks
+pub record AreBoardTasks (s : Around) (t : BoardTasks) : Type 0 where
+  pub layout : IsLayoutOf s t.layout.value
+  pub shape : t.shape ≡ shape_of t.layout.value
+  pub workspaces : AreWorkspaces s.patches t.layout.value.tasks.items (workspaces_in t.bodies.items)
+
+abbrev pub AreTasks : Around → Tasks → Type 0
+AreTasks s (Lone t) = AreLoneTasks s t
+AreTasks s (Board t) = AreBoardTasks s t

@@ -1,0 +1,205 @@
+//! What workers work with in a step of a level besides its patches: a lone one by itself, or several on a board.
+
+ghost use Rattle.std.specs.Prelude.{◌≡◌, ◌+◌, ◌*◌, ◌≤◌, ◌<◌, ◌^◌, length, IfOk, OnOk};
+ghost use Rattle.std.specs.List.{All};
+ghost use Rattle.std.specs.Option.{option_copied};
+ghost use Rattle.amr_box.specs.Cells.{width};
+ghost use Rattle.amr_def.specs.Domain.{domain};
+ghost use Rattle.amr_flux.specs.Rooms.{widest};
+ghost use Rattle.amr_gaps.specs.Gaps.{HasStarts};
+ghost use Rattle.amr_ghost.specs.Frames.{AreInDomain};
+ghost use Rattle.amr_layout.specs.Adds.{HasRegisterCells};
+ghost use Rattle.amr_layout.specs.Surroundings.{around};
+ghost use Rattle.amr_patch.specs.Patches.{ArePatchesApart, box};
+ghost use Rattle.amr_advance.specs.Tasks.{AreBoardTasks, AreLoneTasks, AreTasks};
+
+use crate::level::Given;
+use crate::pieces::bodies_of;
+use amr_board::Shape;
+use amr_causes::NoMemory;
+use amr_flux::Room;
+use amr_gaps::Starts;
+use amr_layout::{AddAt, Layout, plan, plan_adds};
+use amr_patch::Patch;
+use amr_work::Body;
+use std::alloc::Global;
+use std::boxed::Box;
+use std::snapshot::Snapshot;
+
+/// What a lone worker works with.
+#[derive(Drop)]
+pub(crate) struct LoneTasks {
+    /// What each patch adds.
+    pub(crate) adds: Vec<Vec<AddAt>>,
+    /// Room for a row of fluxes of the widest patch.
+    pub(crate) room: Room,
+}
+
+/// What several workers work with on a board.
+#[derive(Drop)]
+pub(crate) struct BoardTasks {
+    pub(crate) shape: Shape,
+    /// A body for each task.
+    pub(crate) bodies: Vec<Box<Body>>,
+    pub(crate) layout: Snapshot<Layout>,
+}
+
+/// What workers work with.
+#[derive(Drop)]
+pub(crate) enum Tasks {
+    Lone(LoneTasks),
+    Board(BoardTasks),
+}
+
+/// Whether a lone worker works with these tasks.
+fn are_lone(tasks: &Tasks) -> bool {
+    match tasks {
+        Tasks::Lone(_) => true,
+        Tasks::Board(_) => false,
+    }
+}
+
+/// Whether these tasks are for a lone worker or for several, as is asked for.
+pub(crate) fn are_for(tasks: &Tasks, alone: bool) -> bool {
+    are_lone(tasks) == alone
+}
+
+/// How many columns the widest of these patches has.
+fn widest_of(patches: &[Patch]) -> u32
+    ensures { All (λ q. width (box q) ≤ result) patches.now }
+{
+    let mut widest = 0;
+    for patch in patches {
+        widest = widest.max(patch.bx().width());
+    }
+    widest
+}
+
+/// The room of old tasks, none where several workers worked.
+fn room_from(old: Option<Tasks>) -> Option<Room> {
+    match old {
+        Some(Tasks::Lone(tasks)) => {
+            let LoneTasks { adds: _, room } = tasks;
+            Some(room)
+        }
+        _ => None,
+    }
+}
+
+/// Room for a row of so many columns: an old one where it is wide enough, else a new one.
+fn room_for(alloc: Global, columns: u32, old: Option<Room>) -> Result<Room, NoMemory>
+    ensures { IfOk result (λ r. columns ≤ widest r) }
+{
+    if let Some(room) = old {
+        if room.serves(columns) {
+            return Ok(room);
+        }
+    }
+    let room = Room::make(alloc, columns)?;
+    Ok(room)
+}
+
+/// What a lone worker works with in the step of these patches, with an old room where it is wide enough.
+fn lone_tasks(
+    given: Given<'_>,
+    patches: &[Patch],
+    starts: &Starts,
+    old: Option<Room>,
+) -> Result<LoneTasks, NoMemory>
+    requires level { given.level ≤ 4 }
+    requires apart { ArePatchesApart patches.now }
+    requires starts { HasStarts patches.now starts.now }
+    requires inside { AreInDomain (domain given.problem.now given.level) patches.now }
+    requires cells { HasRegisterCells (around given.problem.now given.level patches.now given.cells.now (option_copied given.finer)) }
+    ensures tasks { IfOk result (AreLoneTasks (around given.entry.problem.now given.entry.level patches.now given.entry.cells.now (option_copied given.entry.finer))) }
+    ensures few { OnOk result (2 + 2 * length given.entry.cells.now < 2 ^ 32) }
+{
+    let room = room_for(given.alloc, widest_of(patches), old)?;
+    let adds = plan_adds(
+        given.alloc,
+        given.problem,
+        given.level,
+        patches,
+        starts,
+        given.cells,
+        given.finer,
+    )?;
+    Ok(LoneTasks { adds, room })
+}
+
+/// What several workers work with in the step of these patches, with old bodies as far as they go.
+fn board_tasks(
+    given: Given<'_>,
+    patches: &[Patch],
+    starts: &Starts,
+    olds: Vec<Box<Body>>,
+) -> Result<BoardTasks, NoMemory>
+    requires level { given.level ≤ 4 }
+    requires apart { ArePatchesApart patches.now }
+    requires starts { HasStarts patches.now starts.now }
+    requires inside { AreInDomain (domain given.problem.now given.level) patches.now }
+    requires cells { HasRegisterCells (around given.problem.now given.level patches.now given.cells.now (option_copied given.finer)) }
+    ensures tasks { IfOk result (AreBoardTasks (around given.entry.problem.now given.entry.level patches.now given.entry.cells.now (option_copied given.entry.finer))) }
+    ensures few { OnOk result (2 + 2 * length given.entry.cells.now < 2 ^ 32) }
+{
+    let alloc = given.alloc;
+    let layout = plan(
+        alloc,
+        given.problem,
+        given.level,
+        patches,
+        starts,
+        given.cells,
+        given.finer,
+    )?;
+    let made = Snapshot::of(&layout);
+    let shape = Shape {
+        places: layout.places,
+        words: layout.words,
+    };
+    Ok(BoardTasks {
+        shape,
+        bodies: bodies_of(alloc, patches, layout.tasks, olds)?,
+        layout: made,
+    })
+}
+
+/// The bodies of old tasks, none where a lone worker worked.
+fn bodies_from(alloc: Global, old: Option<Tasks>) -> Vec<Box<Body>> {
+    match old {
+        Some(Tasks::Board(tasks)) => {
+            let BoardTasks {
+                shape: _,
+                bodies,
+                layout: _,
+            } = tasks;
+            bodies
+        }
+        _ => Vec::new(alloc),
+    }
+}
+
+/// What workers work with in the step of these patches, a lone one or several, with what old tasks leave.
+pub(crate) fn tasks_for(
+    given: Given<'_>,
+    patches: &[Patch],
+    starts: &Starts,
+    alone: bool,
+    old: Option<Tasks>,
+) -> Result<Tasks, NoMemory>
+    requires level { given.level ≤ 4 }
+    requires apart { ArePatchesApart patches.now }
+    requires starts { HasStarts patches.now starts.now }
+    requires inside { AreInDomain (domain given.problem.now given.level) patches.now }
+    requires cells { HasRegisterCells (around given.problem.now given.level patches.now given.cells.now (option_copied given.finer)) }
+    ensures tasks { IfOk result (AreTasks (around given.entry.problem.now given.entry.level patches.now given.entry.cells.now (option_copied given.entry.finer))) }
+    ensures few { OnOk result (2 + 2 * length given.entry.cells.now < 2 ^ 32) }
+{
+    if alone {
+        let tasks = lone_tasks(given, patches, starts, room_from(old))?;
+        return Ok(Tasks::Lone(tasks));
+    }
+    let olds = bodies_from(given.alloc, old);
+    let tasks = board_tasks(given, patches, starts, olds)?;
+    Ok(Tasks::Board(tasks))
+}
