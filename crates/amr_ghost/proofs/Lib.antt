@@ -11,5 +11,4 @@ pub mod BoxSides
 pub mod Levels
 pub mod PlannedSpans
 pub mod PlanLaws
-pub mod Samples
 pub mod Reach

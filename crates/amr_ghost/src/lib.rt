@@ -16,6 +16,3 @@ mod sources;
 pub use filling::{fill, fill_in_order};
 pub use plan::{FramePlan, plan_frames};
 pub use planned::fill_planned;
-
-#[cfg(test)]
-mod tests;

@@ -1,2 +1,4 @@
 mod OneBoxLevels
 mod RefluxedRing
+mod ApartPatches
+mod CoveredCells

@@ -1,7 +1,9 @@
 -- Levels of one box, for the tests.
 use Rattle.std.proofs.Common.{◌≡◌, ◌≢◌, ℕ, ◌<◌, Bool, true, false, cond, ℤ, pos, ◌≤ℤ◌, ◌<ℤ◌, List, [], ◌∷◌, refl, sym, ap, subst, ◌∙◌, arith}
 use Rattle.std.specs.Prelude.{is_some}
+use Rattle.std.specs.declared.option.Option.{Option}
 use Rattle.std.specs.declared.option.Option.TheVariants.{None, Some}
+use Rattle.std.specs.Option.{unwrap_or}
 use Rattle.std.specs.List.{All}
 use Rattle.std.proofs.lemmas.Grind.{get_or_head}
 use Rattle.std.proofs.lemmas.Bool.{and_from}
@@ -13,7 +15,7 @@ use Rattle.amr_box.proofs.CellEquality.{coordinates_itself, coordinates_same, ha
 use Rattle.amr_def.specs.declared.problem.Problem.{Problem}
 use Rattle.amr_def.specs.Domain.{domain, in_domain, is_inside}
 use Rattle.amr_def.specs.Facts.{IsLevel}
-use Rattle.amr_def.specs.State.{Level, in_boxes}
+use Rattle.amr_def.specs.State.{Level, Masses, in_boxes}
 use Rattle.amr_def.proofs.Stepping.{level_kept}
 use Rattle.amr_ghost.specs.Filling.{LiesInDomain}
 use Rattle.amr_patch.specs.Patches.{AreApart, AreNear}
@@ -40,9 +42,18 @@ in_whole p l b c lies h =
     within_side : (n : ℕ) (z : ℤ) → pos 0 ≤ℤ z → z <ℤ pos n → is_inside n z ≡ true
     within_side n z h k = grind (arith, ints)
 
-some_in : (t : Bool) → is_some {T = ℕ} (cond t (Some 0) None) ≡ t
+-- which cells a level has, where each mass is 0, and these masses
+pub some_in : (t : Bool) → is_some {T = ℕ} (cond t (Some 0) None) ≡ t
 some_in true = refl
 some_in false = refl
+
+pub none_in : (t : Bool) → unwrap_or (cond {A = Option ℕ} t (Some 0) None) 0 ≡ 0
+none_in true = refl
+none_in false = refl
+
+-- the cells of a level that has mass 0 in each cell of its boxes
+pub cells_of : (m : Masses) (bs : List Extent) → ((c : Cell) → m c ≡ cond (in_boxes bs c) (Some 0) None) → (c : Cell) → is_some (m c) ≡ in_boxes bs c
+cells_of m bs zero c = ap is_some (zero c) ∙ some_in (in_boxes bs c)
 
 -- a level of one box, with no mass
 pub one_level : (p : Problem) (l : ℕ) (b : Extent) (k : Level) → LiesInDomain (domain p l) b → k.boxes ≡ b ∷ [] → ((c : Cell) → k.masses c ≡ cond (in_boxes (b ∷ []) c) (Some 0) None) → IsLevel p l k

@@ -16,20 +16,9 @@ use Rattle.amr_patch.proofs.Lookups.{some_mass}
 use Rattle.amr_patch.specs.declared.patches.Patch.{Patch}
 use Rattle.amr_patch.specs.Patches.{box, masses_in}
 use Rattle.amr_flux.specs.Faces.{IsInDomain}
+use Rattle.amr_tests_levels.proofs.OneBoxLevels.{none_in}
 
 -- ---- masses
-
-some_where : (b : Bool) → is_some (cond {A = Option ℕ} b (Some 0) None) ≡ b
-some_where true = refl
-some_where false = refl
-
-nothing_where : (b : Bool) → unwrap_or (cond {A = Option ℕ} b (Some 0) None) 0 ≡ 0
-nothing_where true = refl
-nothing_where false = refl
-
--- the cells of a level that has mass 0 in each cell of its box
-pub cells_of : (m : Masses) (b : Extent) → ((c : Cell) → m c ≡ cond (in_boxes (b ∷ []) c) (Some 0) None) → (c : Cell) → is_some (m c) ≡ in_boxes (b ∷ []) c
-cells_of m b zero c = ap is_some (zero c) ∙ some_where (in_boxes (b ∷ []) c)
 
 module _ (before after : Masses) (w : Cell) (v : ℕ) (there : is_some (before w) ≡ true) (set : after w ≡ Some v) (others : (c : Cell) → (c ≡ w → ⊥) → after c ≡ before c) where
   either : (c : Cell) → (c ≡ w) ⊎ (after c ≡ before c)
@@ -51,7 +40,7 @@ module _ (before after : Masses) (w : Cell) (v : ℕ) (there : is_some (before w
     where
       by_case : (c ≡ w) ⊎ (after c ≡ before c) → mass_of after c ≤ v
       by_case (inl e) = omega (arith, ap (mass_of after) e, ap (λ (o : Option ℕ). unwrap_or o 0) set)
-      by_case (inr e) = omega (arith, ap (λ (o : Option ℕ). unwrap_or o 0) (e ∙ zero c), nothing_where (in_boxes (b ∷ []) c))
+      by_case (inr e) = omega (arith, ap (λ (o : Option ℕ). unwrap_or o 0) (e ∙ zero c), none_in (in_boxes (b ∷ []) c))
 
 -- a patch of a level whose cells are of the domain
 pub patch_inside : (d : Domain) (m : Masses) (ps : List Patch) (i : ℕ) (q : Patch) → m ≡ masses_in ps → ((c : Cell) → is_some (m c) ≡ true → in_domain d c ≡ true) → i < length ps → q ≡ slice_index_or ps i q → IsInDomain d (box q)

@@ -11,6 +11,8 @@ mod criterion;
 #[cfg(test)]
 mod flux;
 #[cfg(test)]
+mod frames;
+#[cfg(test)]
 mod patch;
 #[cfg(test)]
 mod plain_cluster;
@@ -19,8 +21,12 @@ mod random_sets;
 #[cfg(test)]
 mod register;
 #[cfg(test)]
+mod ring;
+#[cfg(test)]
 mod sign;
 #[cfg(test)]
 mod start;
 #[cfg(test)]
 mod tags;
+#[cfg(test)]
+mod transfer;

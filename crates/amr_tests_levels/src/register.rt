@@ -1,80 +1,9 @@
 //! The register of a ring.
 
-ghost use Rattle.std.specs.Prelude.{◌≡◌, [], ◌∷◌, pos, cond, None, Some, IfOk};
-ghost use Rattle.amr_box.specs.declared.Cell.{Cell};
-ghost use Rattle.amr_box.specs.Cells.{IsNear, cell, extent};
-ghost use Rattle.amr_def.specs.State.{in_boxes};
-ghost use Rattle.amr_patch.specs.Levels.{level_of};
-
-use amr_box::{Bx, Cell};
-use amr_causes::NoMemory;
-use amr_def::{Blocks, Name, Problem, Shear, Sides, Thresholds};
-use amr_patch::Level;
+use crate::ring::{empty_level, fine_box, ring, whole_box};
+use amr_box::Cell;
 use amr_register::Register;
-use std::alloc::Global;
 use std::test::Fail;
-
-/// A ring of 4 by 2 cells.
-fn ring(alloc: Global) -> Result<Problem, Fail>
-    ensures columns { IfOk result (λ p. p.nx ≡ 4) }
-    ensures rows { IfOk result (λ p. p.ny ≡ 2) }
-    ensures blocking { IfOk result (λ p. p.blocking ≡ 2) }
-{
-    Ok(Problem {
-        version: 1,
-        name: Name::make(Vec::from_slice(alloc, b"ring")?),
-        nx: 4,
-        ny: 2,
-        steps: 1,
-        cx: 1,
-        cy: 0,
-        d: 1,
-        shear_x: Shear::make(Vec::new(alloc)),
-        shear_y: Shear::make(Vec::new(alloc)),
-        x_sides: Sides::Periodic,
-        y_sides: Sides::Periodic,
-        max_level: 1,
-        tag: Thresholds::make(Vec::from_slice(alloc, [9].as_slice())?),
-        n_error_buf: 0,
-        efficiency: 80,
-        min_width: 1,
-        regrid_int: 4096,
-        blocking: 2,
-        max_grid_size: 4,
-        blocks: Blocks::make(Vec::new(alloc)),
-    })
-}
-
-/// All cells of the ring.
-fn whole_box() -> Bx
-    ensures value { result ≡ extent (cell (pos 0) (pos 0)) (cell (pos 3) (pos 1)) }
-    ensures near { IsNear result }
-{
-    let lo = Cell { x: 0, y: 0 };
-    let hi = Cell { x: 3, y: 1 };
-    Bx::try_new(lo, hi).unwrap()
-}
-
-/// The children of cell (2, 0).
-fn fine_box() -> Bx
-    ensures value { result ≡ extent (cell (pos 4) (pos 0)) (cell (pos 5) (pos 1)) }
-    ensures near { IsNear result }
-{
-    let lo = Cell { x: 4, y: 0 };
-    let hi = Cell { x: 5, y: 1 };
-    Bx::try_new(lo, hi).unwrap()
-}
-
-/// The level of a box, where each mass is 0.
-fn empty_level(alloc: Global, b: Bx) -> Result<Level, NoMemory>
-    requires { IsNear b }
-    ensures boxes { IfOk result (λ l. (level_of l).boxes ≡ b ∷ []) }
-    ensures masses { IfOk result (λ l. (c : Cell) → (level_of l).masses c ≡ cond (in_boxes (b ∷ []) c) (Some 0) None) }
-{
-    let boxes = [b];
-    let level = Level::make(alloc, &boxes, &boxes)?;
-    Ok(level)
-}
 
 /// The wind carries each unit of mass one cell to the east in a step. So the 100 units of cell (1, 0) leave it through its
 /// coarse-fine edge.

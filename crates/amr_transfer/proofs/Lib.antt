@@ -6,4 +6,3 @@ pub mod Halves
 pub mod Fours
 pub mod KeptOrSplit
 pub mod BoxRows
-pub mod Samples

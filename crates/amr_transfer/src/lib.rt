@@ -15,6 +15,3 @@ mod windows;
 
 pub use splitting::split_into;
 pub use summing::sum_up;
-
-#[cfg(test)]
-mod tests;

@@ -11,7 +11,8 @@ use Rattle.amr_register.specs.RegisterCells.{is_register_cell}
 use Rattle.amr_register.specs.Registers.{cells_in, entry_in}
 use Rattle.amr_register.proofs.CellLists.{of_level, where_passes}
 use Rattle.amr_register.proofs.OneBox.{finer_ring, nested_ring, whole_ring}
-use Rattle.amr_tests_levels.proofs.RefluxedRing.{at_most, cells_of, entries_small, patch_inside, same_cells}
+use Rattle.amr_tests_levels.proofs.OneBoxLevels.{cells_of}
+use Rattle.amr_tests_levels.proofs.RefluxedRing.{at_most, entries_small, patch_inside, same_cells}
 use Rattle.amr_tests_levels.proofs.register.the_ring_has_three_register_cells.Goals as goal
 
 pub make-requires-clause-coarse : goal.make-requires-clause-coarse
@@ -20,7 +21,7 @@ make-requires-clause-coarse g c =
     let f = level_of c.in_ok-fine.fine in
     let b = c.whole_box.result in
     let e = c.fine_box.result in
-    whole_ring c.in_ok-p.p k f b e c.in_ok-p.ensures.columns c.in_ok-p.ensures.rows c.in_ok-p.ensures.blocking c.whole_box.ensures.value c.fine_box.ensures.value c.in_ok-coarse.ensures.boxes (cells_of k.masses b c.in_ok-coarse.ensures.masses) c.in_ok-fine.ensures.boxes (cells_of f.masses e c.in_ok-fine.ensures.masses)
+    whole_ring c.in_ok-p.p k f b e c.in_ok-p.ensures.columns c.in_ok-p.ensures.rows c.in_ok-p.ensures.blocking c.whole_box.ensures.value c.fine_box.ensures.value c.in_ok-coarse.ensures.boxes (cells_of k.masses (b ∷ []) c.in_ok-coarse.ensures.masses) c.in_ok-fine.ensures.boxes (cells_of f.masses (e ∷ []) c.in_ok-fine.ensures.masses)
 
 pub make-requires-clause-fine : goal.make-requires-clause-fine
 make-requires-clause-fine g c =
@@ -28,7 +29,7 @@ make-requires-clause-fine g c =
     let f = level_of c.in_ok-fine.fine in
     let b = c.whole_box.result in
     let e = c.fine_box.result in
-    finer_ring c.in_ok-p.p k f b e c.in_ok-p.ensures.columns c.in_ok-p.ensures.rows c.in_ok-p.ensures.blocking c.whole_box.ensures.value c.fine_box.ensures.value c.in_ok-coarse.ensures.boxes (cells_of k.masses b c.in_ok-coarse.ensures.masses) c.in_ok-fine.ensures.boxes (cells_of f.masses e c.in_ok-fine.ensures.masses)
+    finer_ring c.in_ok-p.p k f b e c.in_ok-p.ensures.columns c.in_ok-p.ensures.rows c.in_ok-p.ensures.blocking c.whole_box.ensures.value c.fine_box.ensures.value c.in_ok-coarse.ensures.boxes (cells_of k.masses (b ∷ []) c.in_ok-coarse.ensures.masses) c.in_ok-fine.ensures.boxes (cells_of f.masses (e ∷ []) c.in_ok-fine.ensures.masses)
 
 pub make-requires-clause-nested : goal.make-requires-clause-nested
 make-requires-clause-nested g c =
@@ -36,7 +37,7 @@ make-requires-clause-nested g c =
     let f = level_of c.in_ok-fine.fine in
     let b = c.whole_box.result in
     let e = c.fine_box.result in
-    nested_ring c.in_ok-p.p k f b e c.in_ok-p.ensures.columns c.in_ok-p.ensures.rows c.in_ok-p.ensures.blocking c.whole_box.ensures.value c.fine_box.ensures.value c.in_ok-coarse.ensures.boxes (cells_of k.masses b c.in_ok-coarse.ensures.masses) c.in_ok-fine.ensures.boxes (cells_of f.masses e c.in_ok-fine.ensures.masses)
+    nested_ring c.in_ok-p.p k f b e c.in_ok-p.ensures.columns c.in_ok-p.ensures.rows c.in_ok-p.ensures.blocking c.whole_box.ensures.value c.fine_box.ensures.value c.in_ok-coarse.ensures.boxes (cells_of k.masses (b ∷ []) c.in_ok-coarse.ensures.masses) c.in_ok-fine.ensures.boxes (cells_of f.masses (e ∷ []) c.in_ok-fine.ensures.masses)
 
 pub absorb-requires-clause-low : goal.absorb-requires-clause-low
 absorb-requires-clause-low g c = λ q. let zero = c.in_ok-register.ensures.zero (slice_index_or (cells_in c.in_ok-register.register) 0 q) in omega (arith, ints, zero)
@@ -52,8 +53,8 @@ coarse_part-requires-clause-inside g c =
     let after = (level_of c.set.new.self).masses in
     let f = level_of c.in_ok-fine.fine in
     let e = c.fine_box.result in
-    let ring = whole_ring c.in_ok-p.p k f b e c.in_ok-p.ensures.columns c.in_ok-p.ensures.rows c.in_ok-p.ensures.blocking c.whole_box.ensures.value c.fine_box.ensures.value c.in_ok-coarse.ensures.boxes (cells_of k.masses b c.in_ok-coarse.ensures.masses) c.in_ok-fine.ensures.boxes (cells_of f.masses e c.in_ok-fine.ensures.masses) in
-    let same = same_cells k.masses after w 100 (cells_of k.masses b c.in_ok-coarse.ensures.masses w ∙ ap (λ (x : Extent). in_boxes (x ∷ []) w) c.whole_box.ensures.value) c.set.ensures.set c.set.ensures.others in
+    let ring = whole_ring c.in_ok-p.p k f b e c.in_ok-p.ensures.columns c.in_ok-p.ensures.rows c.in_ok-p.ensures.blocking c.whole_box.ensures.value c.fine_box.ensures.value c.in_ok-coarse.ensures.boxes (cells_of k.masses (b ∷ []) c.in_ok-coarse.ensures.masses) c.in_ok-fine.ensures.boxes (cells_of f.masses (e ∷ []) c.in_ok-fine.ensures.masses) in
+    let same = same_cells k.masses after w 100 (cells_of k.masses (b ∷ []) c.in_ok-coarse.ensures.masses w ∙ ap (λ (x : Extent). in_boxes (x ∷ []) w) c.whole_box.ensures.value) c.set.ensures.set c.set.ensures.others in
     patch_inside (domain c.in_ok-p.p 0) after c.patches.result.now 0 c.in-Some.patch.now c.patches.ensures.masses (λ q h. ring.inside q (sym (ring.filled q) ∙ sym (same q) ∙ h)) c.in-Some.ensures.item.3.0 c.in-Some.ensures.item.1
 
 pub coarse_part-requires-clause-room : goal.coarse_part-requires-clause-room
@@ -71,7 +72,7 @@ reflux-requires-clause-of_level g c = λ q h.
     let after = (level_of c.set.new.self).masses in
     let f = level_of c.in_ok-fine.fine in
     let d = domain c.in_ok-p.p 0 in
-    let same = same_cells k.masses after w 100 (cells_of k.masses b c.in_ok-coarse.ensures.masses w ∙ ap (λ (x : Extent). in_boxes (x ∷ []) w) c.whole_box.ensures.value) c.set.ensures.set c.set.ensures.others in
+    let same = same_cells k.masses after w 100 (cells_of k.masses (b ∷ []) c.in_ok-coarse.ensures.masses w ∙ ap (λ (x : Extent). in_boxes (x ∷ []) w) c.whole_box.ensures.value) c.set.ensures.set c.set.ensures.others in
     let passes = where_passes d (is_register_cell d k.masses f.masses) q (subst (λ (cs : List Cell). Contains cs q) (c.absorb.ensures.cells.cells ∙ c.in_ok-register.ensures.cells.cells) h) in
     same q ∙ of_level d k.masses f.masses q passes
 
@@ -91,5 +92,5 @@ reflux-requires-clause-fits g c = λ q h.
     let old = c.in_ok-register.register in
     let new = c.absorb.new.self in
     let small = entries_small (cells_in old) (entry_in old) (entry_in new) c.in_ok-register.ensures.zero c.absorb.ensures.added c.absorb.ensures.others q in
-    let most = at_most k.masses after w 100 (cells_of k.masses b c.in_ok-coarse.ensures.masses w ∙ ap (λ (x : Extent). in_boxes (x ∷ []) w) c.whole_box.ensures.value) c.set.ensures.set c.set.ensures.others b c.in_ok-coarse.ensures.masses q in
+    let most = at_most k.masses after w 100 (cells_of k.masses (b ∷ []) c.in_ok-coarse.ensures.masses w ∙ ap (λ (x : Extent). in_boxes (x ∷ []) w) c.whole_box.ensures.value) c.set.ensures.set c.set.ensures.others b c.in_ok-coarse.ensures.masses q in
     omega (arith, ints, small.1, most)

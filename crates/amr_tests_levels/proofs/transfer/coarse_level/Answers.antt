@@ -1,7 +1,7 @@
 use Rattle.std.proofs.Common.{List, ◌∙◌, ap}
 use Rattle.amr_box.specs.Cells.{Extent}
 use Rattle.amr_def.specs.State.{in_boxes}
-use Rattle.amr_transfer.proofs.tests.coarse_level.Goals as goal
+use Rattle.amr_tests_levels.proofs.transfer.coarse_level.Goals as goal
 
 pub returns : goal.returns
 returns c d = c.put-3.ensures.cells d ∙ c.put-2.ensures.cells d ∙ c.put.ensures.cells d ∙ c.in_ok-level.ensures.cells d ∙ ap (λ (bs : List Extent). in_boxes bs d) c.coarse_boxes-boxes.ensures.are

@@ -26,14 +26,6 @@ use Rattle.amr_transfer.specs.Sums.{AreCoarsenable}
 
 -- ---- masses
 
-pub some_of : (t : Bool) → is_some (cond {A = Option ℕ} t (Some 0) None) ≡ t
-some_of true = refl
-some_of false = refl
-
-pub none_of : (t : Bool) → unwrap_or (cond {A = Option ℕ} t (Some 0) None) 0 ≡ 0
-none_of true = refl
-none_of false = refl
-
 -- a fact of each cell, from the one that was set and from all others
 pub set_or_other : (P : Cell → Type 0) (c d : Cell) → P c → (d ≢ c → P d) → P d
 set_or_other P c d here other = cases (have_same_coordinates d c) refl

@@ -10,10 +10,10 @@ ghost use Rattle.amr_patch.specs.declared.patches.Patch.{Patch};
 ghost use Rattle.amr_patch.specs.Patches.{ArePatchesApart, box};
 ghost use Rattle.amr_ghost.specs.Frames.{AreInDomain};
 
-use super::*;
 use amr_box::{Bx, Cell};
 use amr_def::{Blocks, Dom, Name, Problem, Shear, Sides, Thresholds};
 use amr_gaps::starts_of;
+use amr_ghost::{fill, fill_in_order, fill_planned, plan_frames};
 use amr_patch::{Level, Patch, order_of};
 use std::alloc::Global;
 use std::test::Fail;

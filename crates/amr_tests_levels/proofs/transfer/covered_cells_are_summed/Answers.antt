@@ -1,8 +1,8 @@
 use Rattle.std.proofs.Common.{◌∙◌, sym}
 use Rattle.amr_box.specs.Cells.{parent}
 use Rattle.amr_patch.specs.Levels.{level_of, patches_of}
-use Rattle.amr_transfer.proofs.Samples.{coarsenable_still, parents_there, small_sums}
-use Rattle.amr_transfer.proofs.tests.covered_cells_are_summed.Goals as goal
+use Rattle.amr_tests_levels.proofs.CoveredCells.{coarsenable_still, parents_there, small_sums}
+use Rattle.amr_tests_levels.proofs.transfer.covered_cells_are_summed.Goals as goal
 
 pub sum_up-requires-clause-parents : goal.sum_up-requires-clause-parents
 sum_up-requires-clause-parents g c d h =

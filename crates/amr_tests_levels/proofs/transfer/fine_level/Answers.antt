@@ -2,8 +2,8 @@ use Rattle.std.proofs.Common.{List, ◌∙◌, sym, ap}
 use Rattle.amr_box.specs.Cells.{Extent}
 use Rattle.amr_def.specs.State.{in_boxes}
 use Rattle.amr_patch.specs.Levels.{patches_of}
-use Rattle.amr_transfer.proofs.Samples.{coarsenable_from}
-use Rattle.amr_transfer.proofs.tests.fine_level.Goals as goal
+use Rattle.amr_tests_levels.proofs.CoveredCells.{coarsenable_from}
+use Rattle.amr_tests_levels.proofs.transfer.fine_level.Goals as goal
 
 pub returns-clause-filled : goal.returns-clause-filled
 returns-clause-filled c d = c.in_ok-level.ensures.cells d ∙ ap (λ (bs : List Extent). in_boxes bs d) (sym c.in_ok-level.ensures.boxes)

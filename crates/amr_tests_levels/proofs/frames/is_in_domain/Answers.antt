@@ -1,8 +1,8 @@
 use Rattle.std.proofs.Common.{◌≡◌, true, sym, subst, ◌∙◌}
 use Rattle.amr_box.specs.declared.Cell.{Cell}
 use Rattle.amr_def.specs.Domain.{domain_of, in_domain}
-use Rattle.amr_ghost.proofs.Samples.{box_in_domain}
-use Rattle.amr_ghost.proofs.tests.is_in_domain.Goals as goal
+use Rattle.amr_tests_levels.proofs.ApartPatches.{box_in_domain}
+use Rattle.amr_tests_levels.proofs.frames.is_in_domain.Goals as goal
 
 pub returns : goal.returns
 returns c top k s =

@@ -5,8 +5,8 @@ use Rattle.amr_patch.specs.declared.patches.Patch.{Patch}
 use Rattle.amr_patch.specs.Patches.{box}
 use Rattle.amr_patch.proofs.Lookups.{same_default}
 use Rattle.amr_ghost.specs.Frames.{AreInDomain}
-use Rattle.amr_ghost.proofs.Samples.{patches_in_domain}
-use Rattle.amr_ghost.proofs.tests.are_in_domain.Goals as goal
+use Rattle.amr_tests_levels.proofs.ApartPatches.{patches_in_domain}
+use Rattle.amr_tests_levels.proofs.frames.are_in_domain.Goals as goal
 
 pub loop-patch-preserved : goal.loop-patch-preserved
 loop-patch-preserved c i q t k s =

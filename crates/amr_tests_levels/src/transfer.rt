@@ -1,3 +1,5 @@
+//! Masses between two small levels.
+
 ghost use Rattle.std.specs.Prelude.{◌≡◌, ◌<◌, [], ◌∷◌, pos, map, is_some, IfOk};
 ghost use Rattle.std.specs.List.Sorted.{IsPermutation};
 ghost use Rattle.amr_box.specs.declared.Cell.{Cell};
@@ -7,10 +9,10 @@ ghost use Rattle.amr_patch.specs.Levels.{level_of, patches_of};
 ghost use Rattle.amr_patch.specs.Patches.{AreApart, AreNear, box};
 ghost use Rattle.amr_transfer.specs.Sums.{AreCoarsenable};
 
-use super::*;
 use amr_box::{Bx, Cell};
 use amr_causes::NoMemory;
 use amr_patch::Level;
+use amr_transfer::{split_into, sum_up};
 use std::alloc::Global;
 
 /// The boxes (0, 0) to (0, 0) and (1, 0) to (3, 0).

@@ -3,7 +3,7 @@ use Rattle.amr_box.specs.Cells.{holds}
 use Rattle.amr_patch.specs.declared.patches.Patch.{Patch}
 use Rattle.amr_patch.specs.Patches.{box}
 use Rattle.amr_patch.proofs.Lookups.{same_default}
-use Rattle.amr_ghost.proofs.tests.meets_earlier.Goals as goal
+use Rattle.amr_tests_levels.proofs.frames.meets_earlier.Goals as goal
 
 pub loop-j-preserved : goal.loop-j-preserved
 loop-j-preserved c i d t k s u =

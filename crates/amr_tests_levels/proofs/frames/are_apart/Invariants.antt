@@ -3,7 +3,7 @@ use Rattle.amr_box.specs.declared.Cell.{Cell}
 use Rattle.amr_box.specs.Cells.{holds}
 use Rattle.amr_patch.specs.declared.patches.Patch.{Patch}
 use Rattle.amr_patch.specs.Patches.{box}
-use Rattle.amr_ghost.proofs.tests.are_apart.Given as goal
+use Rattle.amr_tests_levels.proofs.frames.are_apart.Given as goal
 
 abbrev pub invariant-loop-k : goal.invariant-loop-k
 invariant-loop-k l = (i j : ℕ) (d : Patch) → i < j → j < l.k → (c : Cell) → IsTrue (holds (box (slice_index_or l.patches i d)) c) → IsTrue (holds (box (slice_index_or l.patches j d)) c) → ⊥
