@@ -1,3 +1,5 @@
+//! Tests of pieces of work shared out.
+
 use super::*;
 
 /// Whether each lot has these pieces.

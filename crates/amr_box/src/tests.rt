@@ -1,3 +1,4 @@
+//! Tests of the box calculus.
 ghost use Rattle.std.specs.Prelude.{◌≡◌, negsuc, pos};
 
 use super::*;

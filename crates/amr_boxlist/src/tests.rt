@@ -1,3 +1,4 @@
+//! Tests of lists of boxes.
 ghost use Rattle.std.specs.Prelude.{pos, ◌≤ℤ◌};
 ghost use Rattle.amr_box.specs.Cells.{IsNear};
 

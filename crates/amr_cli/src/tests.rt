@@ -1,3 +1,5 @@
+//! Tests of the words of the command line.
+
 // What no clause says: that words that are a command are read, and which words are none, by name.
 
 use crate::{CliFault, Command, Line, parse};

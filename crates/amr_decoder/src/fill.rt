@@ -5,7 +5,7 @@ ghost use Rattle.std.specs.Int.{byte_len, w32, w64};
 ghost use Rattle.std.specs.List.{All};
 ghost use Rattle.amr_box.specs.declared.Cell.{Cell};
 ghost use Rattle.amr_box.specs.Cells as boxes;
-ghost use Rattle.amr_box.specs.Cells.{cell, holds};
+ghost use Rattle.amr_box.specs.Cells.{cell, holds, near_limit};
 ghost use Rattle.amr_codec.specs.MassWidths.{width_of};
 ghost use Rattle.amr_def.specs.State.{in_boxes};
 ghost use Rattle.amr_patch.specs.Orders.{IsOrderOf};
@@ -57,9 +57,9 @@ fn set_row(patches: &mut [Patch], order: Order, c: Cell, masses: &[u32])
     requires apart { ArePatchesApart patches.old }
     requires inside { (k : ℕ) → k < length masses.now → IsTrue (in_patches patches.old (cell (c.x +ℤ pos k) c.y)) }
     requires west { pos 0 ≤ℤ c.x }
-    requires east { (c.x +ℤ pos (length masses.now)) ≤ℤ pos 16777217 }
+    requires east { (c.x +ℤ pos (length masses.now)) ≤ℤ pos (near_limit + 1) }
     requires south { pos 0 ≤ℤ c.y }
-    requires north { c.y ≤ℤ pos 16777217 }
+    requires north { c.y ≤ℤ pos (near_limit + 1) }
     ensures { IsSpanSet c masses.now (length masses.now) patches.old patches.new }
 {
     let mut first = 0;

@@ -4,7 +4,7 @@
 ghost use Rattle.std.specs.Prelude.{◌≡◌, ℕ, ◌+◌, ◌*◌, ◌<◌, ◌≤◌, ◌↔◌, pos, ◌+ℤ◌, ◌≤ℤ◌, length, slice_index, slice_index_or, IsNone, IsSome, IsTrue, IfSome};
 ghost use Rattle.std.specs.List.{All};
 ghost use Rattle.amr_box.specs.declared.Cell.{Cell};
-ghost use Rattle.amr_box.specs.Cells.{Extent, cell, child, has_child_where, holds, width};
+ghost use Rattle.amr_box.specs.Cells.{Extent, cell, child, has_child_where, holds, near_limit, width};
 ghost use Rattle.amr_patch.specs.BoxRows.{HasCellsOf};
 ghost use Rattle.amr_def.specs.Facts.{IsAligned, IsLevel};
 ghost use Rattle.amr_def.specs.State.{children_mass, is_covered_by, mass_of};
@@ -26,9 +26,9 @@ fn mass_of(level: &Level, c: Cell) -> u64
 /// Child `k` of a cell.
 fn child(c: Cell, k: u32) -> Cell
     requires west { pos 0 ≤ℤ c.x }
-    requires east { c.x ≤ℤ pos 16777217 }
+    requires east { c.x ≤ℤ pos (near_limit + 1) }
     requires south { pos 0 ≤ℤ c.y }
-    requires north { c.y ≤ℤ pos 16777217 }
+    requires north { c.y ≤ℤ pos (near_limit + 1) }
     requires one_of_four { k < 4 }
     ensures { result ≡ child c k }
 {
@@ -41,9 +41,9 @@ fn child(c: Cell, k: u32) -> Cell
 /// The mass of the children of a cell.
 fn children_mass(level: &Level, c: Cell) -> u128
     requires west { pos 0 ≤ℤ c.x }
-    requires east { c.x ≤ℤ pos 16777217 }
+    requires east { c.x ≤ℤ pos (near_limit + 1) }
     requires south { pos 0 ≤ℤ c.y }
-    requires north { c.y ≤ℤ pos 16777217 }
+    requires north { c.y ≤ℤ pos (near_limit + 1) }
     ensures { result ≡ children_mass (level_of level.now).masses c }
 {
     let first = u128::from(mass_of(level, child(c, 0)));
@@ -56,9 +56,9 @@ fn children_mass(level: &Level, c: Cell) -> u128
 /// Whether a cell has the mass of its children.
 fn is_sum(coarse: &Level, fine: &Level, c: Cell) -> bool
     requires west { pos 0 ≤ℤ c.x }
-    requires east { c.x ≤ℤ pos 16777217 }
+    requires east { c.x ≤ℤ pos (near_limit + 1) }
     requires south { pos 0 ≤ℤ c.y }
-    requires north { c.y ≤ℤ pos 16777217 }
+    requires north { c.y ≤ℤ pos (near_limit + 1) }
     ensures { IsTrue result ↔ IsSum (level_of coarse.now).masses (level_of fine.now).masses c }
 {
     u128::from(mass_of(coarse, c)) == children_mass(fine, c)
@@ -95,9 +95,9 @@ fn are_sums(masses: &[u32], lower: &[u32], upper: &[u32]) -> bool
 /// 1 where a cell has the mass of its children, else None.
 fn one_sum(coarse: &Level, fine: &Level, c: Cell) -> Option<u32>
     requires west { pos 0 ≤ℤ c.x }
-    requires east { c.x ≤ℤ pos 16777217 }
+    requires east { c.x ≤ℤ pos (near_limit + 1) }
     requires south { pos 0 ≤ℤ c.y }
-    requires north { c.y ≤ℤ pos 16777217 }
+    requires north { c.y ≤ℤ pos (near_limit + 1) }
     ensures some { IfSome result (λ n. (n ≡ 1) × IsSum (level_of coarse.now).masses (level_of fine.now).masses c) }
     ensures none { IsNone result → IsSum (level_of coarse.now).masses (level_of fine.now).masses c → ⊥ }
 {

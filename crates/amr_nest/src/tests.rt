@@ -1,3 +1,4 @@
+//! Tests of projection and nesting.
 ghost use Rattle.std.specs.Prelude.{pos, ◌≤◌, ◌≤ℤ◌};
 
 use super::*;

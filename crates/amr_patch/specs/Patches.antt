@@ -1,6 +1,6 @@
 -- What a patch holds: a value for each cell of its box (a mass) and of the frame round it (a ghost cell's value), a mark for
 -- each cell of the frame, and a flux for each face on the edge lines of its box.
-use Rattle.std.specs.Prelude.{◌≡◌, ◌≢◌, ℕ, ◌<◌, Bool, false, cond, ℤ, pos, negsuc, ◌+ℤ◌, ◌<ℤ◌, List, [], ◌∷◌, slice_index, slice_index_or, IsTrue}
+use Rattle.std.specs.Prelude.{◌≡◌, ◌≢◌, ℕ, ◌+◌, ◌<◌, Bool, false, cond, ℤ, pos, negsuc, ◌+ℤ◌, ◌<ℤ◌, List, [], ◌∷◌, slice_index, slice_index_or, IsTrue}
 use Rattle.std.specs.declared.option.Option.TheVariants.{None, Some}
 use Rattle.std.specs.List.{AllPairs, list_any}
 use Rattle.std.specs.Ordering.{int_eq}
@@ -8,7 +8,7 @@ use Rattle.amr_box.specs.declared.Cell.{Cell}
 use Rattle.amr_box.specs.declared.Face.{Face}
 use Rattle.amr_box.specs.declared.Axis.{Axis}
 use Rattle.amr_box.specs.declared.Axis.TheVariants.{X, Y}
-use Rattle.amr_box.specs.Cells.{Extent, cell, holds}
+use Rattle.amr_box.specs.Cells.{Extent, cell, holds, near_limit}
 use Rattle.amr_def.specs.State.{Masses, in_boxes}
 use Rattle.amr_patch.specs.declared.patches.Patch.{Patch}
 use Rattle.amr_patch.specs.Places.{column_of, grown, in_frame, is_edge_face, place, row_of}
@@ -104,10 +104,10 @@ pub record IsCopy (p q : Patch) : Type 0 where
 
 -- coordinates lie between -2^24 and 2^24
 pub record IsNearCell (c : Cell) : Type 0 where
-  pub west : negsuc 16777216 <ℤ c.x
-  pub east : c.x <ℤ pos 16777217
-  pub south : negsuc 16777216 <ℤ c.y
-  pub north : c.y <ℤ pos 16777217
+  pub west : negsuc near_limit <ℤ c.x
+  pub east : c.x <ℤ pos (near_limit + 1)
+  pub south : negsuc near_limit <ℤ c.y
+  pub north : c.y <ℤ pos (near_limit + 1)
 
 abbrev pub AreNear : List Extent → Type 0
 AreNear bs = (c : Cell) → IsTrue (in_boxes bs c) → IsNearCell c

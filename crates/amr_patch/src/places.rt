@@ -2,7 +2,7 @@
 
 ghost use Rattle.std.specs.Prelude.{◌≡◌, ◌+◌, ◌*◌, ◌<◌, ◌≤◌, pos, ◌+ℤ◌, ◌-ℤ◌, ◌≤ℤ◌, ◌<ℤ◌, IsTrue};
 ghost use Rattle.amr_box.specs.declared.Axis.TheVariants.{X, Y};
-ghost use Rattle.amr_box.specs.Cells.{IsNear, height, holds, width};
+ghost use Rattle.amr_box.specs.Cells.{IsNear, height, holds, near_limit, width};
 ghost use Rattle.amr_patch.specs.Places.{column_of, grown, in_frame, is_end, on_edge, place, row_of};
 
 use amr_box::{Axis, Bx, Cell, distance, is_within};
@@ -56,7 +56,7 @@ pub(crate) fn columns_from(b: &Bx, c: Cell) -> u32
 
 /// Whether a line of faces is the one at the low side of the cells from `low` to `high`, or the one at their high side.
 fn is_end(low: i32, high: i32, z: i32) -> bool
-    requires { high <ℤ pos 16777217 }
+    requires { high <ℤ pos (near_limit + 1) }
     ensures { result ≡ is_end low high z }
 {
     z == low || z == high + 1

@@ -3,7 +3,7 @@
 ghost use Rattle.std.specs.Prelude.{◌≡◌, ◌≢◌, ◌+◌, ◌*◌, ◌<◌, ◌≤◌, pos, negsuc, ◌+ℤ◌, ◌<ℤ◌, length, slice_index, unsigned_abs, Some, IsTrue};
 ghost use Rattle.std.specs.List.{All, AllZip};
 ghost use Rattle.amr_box.specs.declared.Cell.{Cell};
-ghost use Rattle.amr_box.specs.Cells.{holds, within};
+ghost use Rattle.amr_box.specs.Cells.{holds, near_limit, within};
 ghost use Rattle.amr_patch.specs.Patches.{box, mass_in};
 ghost use Rattle.amr_start.specs.Placed.{HasBoxOf, HasMassesOf, LiesInBox};
 ghost use Rattle.amr_start.specs.Rows.{box_of, masses_on};
@@ -23,9 +23,9 @@ fn place_of(c: Cell, columns: usize, rows: usize) -> usize
 
 /// The number that lies `k` above another.
 fn ahead(z: i32, k: u32) -> i32
-    requires from { negsuc 16777216 <ℤ z }
-    requires to { z <ℤ pos 16777217 }
-    requires small { k ≤ 33554432 }
+    requires from { negsuc near_limit <ℤ z }
+    requires to { z <ℤ pos (near_limit + 1) }
+    requires small { k ≤ 2 * near_limit }
     ensures { result ≡ z +ℤ pos k }
 {
     z + k as i32
