@@ -70,3 +70,12 @@ module _ (cells : List Cell) (c : Cell) (ordered : AreInOrder cells) (there : Co
           let before : comes_first c (get_or cells (number_of cells c + 1) c) ≡ true = ap (λ (a : Cell). comes_first a (get_or cells (number_of cells c + 1) c)) (sym number_at) ∙ up.0 in
           let after : comes_first (get_or cells (number_of cells c + 1) c) c ≡ true = parts.0 (number_of cells c + 1) c (omega arith) e in
           absurd (up.1 (ap (λ (a : Cell). same_cell a (get_or cells (number_of cells c + 1) c)) number_at ∙ both_first c (get_or cells (number_of cells c + 1) c) before after))
+
+  -- it stands there alone
+  pub number_alone : (k : ℕ) → k < length cells → get_or cells k c ≡ c → k ≡ number_of cells c
+  number_alone k lt at = from (cases_lt k (number_of cells c)) (cases_lt (number_of cells c) k)
+    where
+      from : ((k < number_of cells c) ⊎ (number_of cells c ≤ k)) → ((number_of cells c < k) ⊎ (k ≤ number_of cells c)) → k ≡ number_of cells c
+      from (inl h) e = absurd ((ordered k (number_of cells c) c h number_within).1 ((λ i. same_cell (at i) (number_at i)) ∙ itself c))
+      from (inr h) (inl e) = absurd ((ordered (number_of cells c) k c e lt).1 ((λ i. same_cell (number_at i) (at i)) ∙ itself c))
+      from (inr h) (inr e) = omega (arith, h, e)

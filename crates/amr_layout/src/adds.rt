@@ -16,7 +16,7 @@ ghost use Rattle.amr_layout.specs.Flows.{IsAtHome, IsToWord, is_coarser, is_infl
 use crate::AddAt;
 use crate::faces::{edge_count, edge_face, inside, inward, outside};
 use crate::lookup::{Trace, is_covered, look_beside};
-use crate::registers::number_of;
+use crate::registers::next_number;
 use amr_box::{Bx, Cell, Face, parent};
 use amr_causes::NoMemory;
 use amr_def::Problem;
@@ -37,11 +37,13 @@ pub(crate) struct Surroundings<'a> {
     pub(crate) finer: Option<&'a Level>,
 }
 
-/// Where the look-ups for a patch begin: among the patches of its level, and among those of the next finer one.
+/// Where the look-ups for a patch begin: among the patches of its level, among those of the next finer one, and among register
+/// cells.
 #[derive(Clone, Copy)]
 pub(crate) struct Near {
     pub(crate) level: Trace,
     pub(crate) finer: usize,
+    pub(crate) register: usize,
 }
 
 /// What a patch adds, as in its task's layout.
@@ -100,14 +102,14 @@ pub(crate) fn beyond(s: Surroundings<'_>, near: &mut Near, c: Cell) -> Across
 }
 
 /// The word of a register cell for a flow out of the patch, its gain, or into the patch, its loss.
-fn word_of(cells: &[Cell], inward: i64, c: Cell) -> u32
+fn word_of(cells: &[Cell], near: &mut usize, inward: i64, c: Cell) -> u32
     requires ordered { AreInOrder cells.now }
     requires few { length cells.now ≤ 2 ^ 30 }
     requires there { Contains cells.now c }
     ensures word { result ≡ cond (int_lt inward (pos 0)) (2 + 2 * number_of cells.now c) (3 + 2 * number_of cells.now c) }
     ensures within { result < 2 + 2 * length cells.now }
 {
-    let k = number_of(cells, c) as u32;
+    let k = next_number(cells, near, c) as u32;
     if inward < 0 { 2 + 2 * k } else { 3 + 2 * k }
 }
 
@@ -157,7 +159,8 @@ fn flow_of(s: Surroundings<'_>, near: &mut Near, b: &Bx, f: Face) -> Flow
             if inward == 0 {
                 return Flow::Kept;
             }
-            Flow::Register(word_of(s.cells, inward, parent(home)))
+            let word = word_of(s.cells, &mut near.register, inward, parent(home));
+            Flow::Register(word)
         }
     }
 }

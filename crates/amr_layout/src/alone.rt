@@ -39,7 +39,11 @@ fn adds_of_all(alloc: Global, s: Surroundings<'_>) -> Result<Vec<Vec<AddAt>>, No
         patch: 0,
         gap: None,
     };
-    let mut near = Near { level, finer: 0 };
+    let mut near = Near {
+        level,
+        finer: 0,
+        register: 0,
+    };
     let mut all = Vec::with_capacity(alloc, s.patches.len())?;
     for i in 0..s.patches.len() {
         let adds = adds_of(alloc, s, &mut near, &s.patches[i].bx())?;

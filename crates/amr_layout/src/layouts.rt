@@ -69,7 +69,11 @@ fn tasks_of(
         patch: 0,
         gap: None,
     };
-    let mut near = Near { level, finer: 0 };
+    let mut near = Near {
+        level,
+        finer: 0,
+        register: 0,
+    };
     let mut tasks = Vec::with_capacity(alloc, s.patches.len())?;
     for i in 0..s.patches.len() {
         let adds = adds_of(alloc, s, &mut near, &s.patches[i].bx())?;

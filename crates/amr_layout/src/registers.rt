@@ -1,6 +1,6 @@
 //! The number of a register cell.
 
-ghost use Rattle.std.specs.Prelude.{◌≡◌, ◌<◌, ◌≤◌, length, true, false, Contains};
+ghost use Rattle.std.specs.Prelude.{◌≡◌, ◌<◌, ◌≤◌, length, true, false, Contains, IsTrue, slice_index_or};
 ghost use Rattle.std.specs.List.Sorted.{IsPartitionPoint};
 ghost use Rattle.amr_patch.specs.Orders.{comes_first};
 ghost use Rattle.amr_layout.specs.Adds.{AreInOrder, number_of};
@@ -30,11 +30,56 @@ fn count_up_to(cells: &[Cell], c: Cell) -> usize
 }
 
 /// The number of a cell of the list, by halving.
-pub(crate) fn number_of(cells: &[Cell], c: Cell) -> usize
+fn number_of(cells: &[Cell], c: Cell) -> usize
     requires ordered { AreInOrder cells.now }
     requires there { Contains cells.now c }
     ensures number { result ≡ number_of cells.now c }
     ensures within { result < length cells.now }
 {
     count_up_to(cells, c) - 1
+}
+
+/// Whether this cell stands at place `k` of the list.
+fn is_at(cells: &[Cell], k: usize, c: Cell) -> bool
+    ensures { IsTrue result → (k < length cells.now) × (slice_index_or cells.now k c ≡ c) }
+{
+    if k >= cells.len() {
+        return false;
+    }
+    let a = cells[k];
+    if a.x != c.x {
+        return false;
+    }
+    if a.y != c.y {
+        return false;
+    }
+    true
+}
+
+/// The same as `number_of`, for cells that lie side by side: it looks at place `near` and the next first.
+fn number_near(cells: &[Cell], near: usize, c: Cell) -> usize
+    requires ordered { AreInOrder cells.now }
+    requires there { Contains cells.now c }
+    ensures number { result ≡ number_of cells.now c }
+    ensures within { result < length cells.now }
+{
+    if is_at(cells, near, c) {
+        return near;
+    }
+    let next = near.saturating_add(1);
+    if is_at(cells, next, c) {
+        return next;
+    }
+    number_of(cells, c)
+}
+
+/// The same, which leaves in `near` what it found.
+pub(crate) fn next_number(cells: &[Cell], near: &mut usize, c: Cell) -> usize
+    requires ordered { AreInOrder cells.now }
+    requires there { Contains cells.now c }
+    ensures number { result ≡ number_of cells.now c }
+    ensures within { result < length cells.now }
+{
+    *near = number_near(cells, *near, c);
+    *near
 }

@@ -178,7 +178,11 @@ fn has_cell_beyond(s: Surroundings<'_>, b: &Bx, f: Face) -> bool
         patch: 0,
         gap: None,
     };
-    let mut near = Near { level, finer: 0 };
+    let mut near = Near {
+        level,
+        finer: 0,
+        register: 0,
+    };
     match beyond(s, &mut near, outside(b, f)) {
         Across::Outside => true,
         Across::Level => true,

@@ -39,17 +39,17 @@ returns-then-inward-eq0-clause-register c = sym (none_flows (around c.args.s.pro
 pub returns-else-inward-eq0-clause-register : goal.returns-else-inward-eq0-clause-register
 returns-else-inward-eq0-clause-register c = sym (some_flows (around c.args.s.problem.now c.args.s.level c.args.s.patches.now c.args.s.cells.now (option_copied c.args.s.finer)) c.args.b.now c.args.f c.inward-inward.result c.inward-inward.ensures (λ z. c.if-inward-eq0.false (omega (arith, ints, z))) (coarse_is (around c.args.s.problem.now c.args.s.level c.args.s.patches.now c.args.s.cells.now (option_copied c.args.s.finer)) c.args.b.now c.args.f c.outside.result _ c.outside.ensures c.in-Coarser.ensures.coarser))
 
-pub word_of-requires-clause-there : goal.word_of-requires-clause-there
-word_of-requires-clause-there c =
+pub word_of-word-requires-clause-there : goal.word_of-word-requires-clause-there
+word_of-word-requires-clause-there c =
     let at : c.parent.result ≡ cell_beyond (around c.args.s.problem.now c.args.s.level c.args.s.patches.now c.args.s.cells.now (option_copied c.args.s.finer)) c.args.b.now c.args.f = beyond_is (around c.args.s.problem.now c.args.s.level c.args.s.patches.now c.args.s.cells.now (option_copied c.args.s.finer)) c.args.b.now c.args.f c.outside.result c.in-Coarser.home c.parent.result c.outside.ensures c.in-Coarser.ensures.home c.parent.ensures.value in
     subst (λ (k : Cell). Contains c.args.s.cells.now k) (sym at) (c.requires.there (coarse_is (around c.args.s.problem.now c.args.s.level c.args.s.patches.now c.args.s.cells.now (option_copied c.args.s.finer)) c.args.b.now c.args.f c.outside.result _ c.outside.ensures c.in-Coarser.ensures.coarser))
 
 pub returns-else-inward-eq0-clause-word : goal.returns-else-inward-eq0-clause-word
 returns-else-inward-eq0-clause-word c =
-    word_is (around c.args.s.problem.now c.args.s.level c.args.s.patches.now c.args.s.cells.now (option_copied c.args.s.finer)) c.args.b.now c.args.f c.word_of.result (to_z w64 (of_z w64 c.inward-inward.result)) c.parent.result
+    word_is (around c.args.s.problem.now c.args.s.level c.args.s.patches.now c.args.s.cells.now (option_copied c.args.s.finer)) c.args.b.now c.args.f c.word_of-word.result (to_z w64 (of_z w64 c.inward-inward.result)) c.parent.result
     (let read : to_z w64 (of_z w64 c.inward-inward.result) ≡ c.inward-inward.result = omega (arith, ints) in read ∙ c.inward-inward.ensures)
     (beyond_is (around c.args.s.problem.now c.args.s.level c.args.s.patches.now c.args.s.cells.now (option_copied c.args.s.finer)) c.args.b.now c.args.f c.outside.result c.in-Coarser.home c.parent.result c.outside.ensures c.in-Coarser.ensures.home c.parent.ensures.value)
-    c.word_of.ensures.word
+    c.word_of-word.ensures.word
 
 pub returns-in-Outside-clause-inflow : goal.returns-in-Outside-clause-inflow
 returns-in-Outside-clause-inflow c =
