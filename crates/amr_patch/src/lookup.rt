@@ -133,28 +133,35 @@ fn count_up_to(patches: &[Patch], y: i64, x: i32) -> usize
     patches.partition_point(|p| starts_up_to(p, y, x))
 }
 
-/// The number of the patch that has a cell, where that is `near` or the next.
-fn near_holder(patches: &[Patch], near: usize, c: Cell) -> Option<usize>
+/// The number `k`, where there is such a patch and it has the cell.
+#[inline(always)]
+fn holder_at(patches: &[Patch], k: usize, c: Cell) -> Option<usize>
     ensures { IfSome result (IsHolder patches.now c) }
 {
-    if near >= patches.len() {
+    if k >= patches.len() {
         return None;
     }
-    if patches[near].bx().holds(c) {
-        return Some(near);
-    }
-    let next = near + 1;
-    if next >= patches.len() {
-        return None;
-    }
-    if patches[next].bx().holds(c) {
-        return Some(next);
+    if patches[k].bx().holds(c) {
+        return Some(k);
     }
     None
 }
 
-/// The same as `find`, for look-ups of cells that lie side by side: it looks at patch `near` and the next first, and leaves in
-/// `near` what it found.
+/// The number of the patch that has a cell, where that is `near`, the next or the one before.
+fn near_holder(patches: &[Patch], near: usize, c: Cell) -> Option<usize>
+    ensures { IfSome result (IsHolder patches.now c) }
+{
+    if let Some(k) = holder_at(patches, near, c) {
+        return Some(k);
+    }
+    if let Some(k) = holder_at(patches, near.saturating_add(1), c) {
+        return Some(k);
+    }
+    holder_at(patches, near.saturating_sub(1), c)
+}
+
+/// The same as `find`, for look-ups of cells that lie side by side: it looks at patch `near` and those beside it in the list
+/// first, and leaves in `near` what it found.
 pub fn find_near(patches: &[Patch], order: Order, near: &mut usize, c: Cell) -> Option<usize>
     requires order { IsOrderOf order patches.now }
     requires apart { ArePatchesApart patches.now }

@@ -14,8 +14,8 @@ ghost use Rattle.amr_register.specs.Entries.{AreRising, entry_at, with_entries};
 use amr_box::Cell;
 use amr_patch::{Level, Order, Patch, find_near};
 
-/// The number of the patch that has a cell. It is looked for only where neither patch `near` nor the next has the cell; `near`
-/// becomes that number.
+/// The number of the patch that has a cell. It is looked for only where neither patch `near` nor one beside it in the list has the
+/// cell; `near` becomes that number.
 fn holder(patches: &[Patch], order: Order, near: &mut usize, c: Cell) -> usize
     requires order { IsOrderOf order patches.now }
     requires apart { ArePatchesApart patches.now }

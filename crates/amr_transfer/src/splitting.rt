@@ -44,7 +44,7 @@ fn share_row(parents: &[u32], first: usize, row: usize, shares: &mut [u32])
 }
 
 /// The masses of a row from a cell of a level on, to the high end of the patch that has the cell. It is looked for only where
-/// neither patch `near` nor the next has the cell; `near` becomes its number.
+/// neither patch `near` nor one beside it in the list has the cell; `near` becomes its number.
 fn parents_from<'a>(coarse: &'a Level, near: &mut usize, c: Cell) -> &'a [u32]
     requires { IsSome ((level_of coarse.now).masses c) }
     ensures some { 0 < length result.now }

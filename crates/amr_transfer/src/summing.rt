@@ -59,8 +59,8 @@ fn sum_in_patch(patch: &mut Patch, c: Cell, children: Children<'_>, room: &mut [
     count
 }
 
-/// The same in the patch of a level that has the first of the cells. It is looked for only where neither patch `near` nor the
-/// next has that cell; `near` becomes its number.
+/// The same in the patch of a level that has the first of the cells. It is looked for only where neither patch `near` nor
+/// one beside it in the list has that cell; `near` becomes its number.
 fn sum_span(
     patches: &mut [Patch],
     order: Order,
