@@ -36,7 +36,7 @@ use Rattle.amr_layout.specs.Surroundings.{Around, around}
 use Rattle.amr_layout.proofs.Planned.{flows_few, image_at, image_length}
 use Rattle.amr_register.proofs.Homes.{HasSize, size_at}
 use Rattle.amr_work.specs.declared.work.Workspace.{Workspace}
-use Rattle.amr_work.specs.Ready.{AreOwnAdds, HasOwnPosts, IsReady, MayStep}
+use Rattle.amr_work.specs.Ready.{AreOwnAdds, HasOwnPosts, MayStepWith, MayStep}
 use Rattle.amr_advance.specs.Layouts.{IsLayoutOf}
 use Rattle.amr_advance.specs.Shown.{AreShown, StepFits}
 
@@ -103,7 +103,7 @@ module _ (p : Problem) (l : ℕ) (old : Masses) (qs : List Patch) (cells : List 
     }
 
     -- it is ready with a workspace that serves it
-    pub ready_of : (w : Workspace) → HasOwnPosts q w.layout → width (box q) ≤ widest w.room → length w.layout.border.items ≡ length (border_faces q) → length w.layout.border.items ≤ length w.sizes.items → IsReady p l q w
+    pub ready_of : (w : Workspace) → HasOwnPosts q w.layout → width (box q) ≤ widest w.room → length w.layout.border.items ≡ length (border_faces q) → length w.layout.border.items ≤ length w.sizes.items → MayStepWith p l q w
     ready_of w own room border sizes = record { step = may_step; room = room; posts = own; border = border; sizes = sizes }
 
   pub all_lie : All (λ q. IsInDomain (domain p l) (box q)) qs

@@ -49,7 +49,7 @@ use Rattle.amr_layout.proofs.Planned.{at_task, nth, task_count as tasks_counted}
 use Rattle.amr_register.proofs.Once.{same_flux}
 use Rattle.amr_work.specs.declared.work.Work.{Work}
 use Rattle.amr_work.specs.declared.work.Workspace.{Workspace}
-use Rattle.amr_work.specs.Ready.{HasBorderPlanned, HasOwnPosts, IsReady, IsReadyPiece, MayBegin}
+use Rattle.amr_work.specs.Ready.{HasBorderPlanned, HasOwnPosts, MayStepWith, IsReadyPiece, MayBegin}
 use Rattle.amr_work.specs.Works.{add_of, adds_by, adds_of_work, plain, put_of, puts_of_work, through}
 use Rattle.amr_work.proofs.Finishing.{border_all}
 use Rattle.amr_work.proofs.Sameness.{map_same, own_face, total_same}
@@ -171,9 +171,9 @@ module _ (p : Problem) (l : ℕ) (old : Masses) (qs : List Patch) (cells : List 
 
     pub ready : IsReadyPiece w
     ready =
-        subst (λ (x : Problem). IsReady x w.level w.body.value.patch w.body.value.workspace) (sym piece.of_problem)
-        (subst (λ n. IsReady p n w.body.value.patch w.body.value.workspace) (sym piece.of_level)
-        (subst (λ (x : Patch). IsReady p l x w.body.value.workspace) (sym piece.of_patch)
+        subst (λ (x : Problem). MayStepWith x w.level w.body.value.patch w.body.value.workspace) (sym piece.of_problem)
+        (subst (λ n. MayStepWith p n w.body.value.patch w.body.value.workspace) (sym piece.of_level)
+        (subst (λ (x : Patch). MayStepWith p l x w.body.value.workspace) (sym piece.of_patch)
         (ready_of p l old qs cells next shallow shown fits k r lt w.body.value.workspace own_here
         (omega (arith, serves.room, ap (λ (x : Workspace). widest x.room) piece.of_workspace)) border_there
         (omega (arith, serves.sizes, ap (λ (x : TaskLayout). length x.border.items) layout_is, ap (λ (x : Workspace). length x.sizes.items) piece.of_workspace)))))

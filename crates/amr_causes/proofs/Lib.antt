@@ -1,2 +1,3 @@
 pub mod CauseLaws
 pub mod ByteLaws
+pub mod Results

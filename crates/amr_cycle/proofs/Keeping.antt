@@ -1,6 +1,6 @@
 -- What calls on a level keep.
 use Rattle.std.proofs.Common.{◌≡◌, ℕ, List, [], ◌∷◌, map, refl}
-use Rattle.std.specs.Prelude.{Result, Ok, Err, OnOk, is_some, pos, ◌+ℤ◌, ℤ}
+use Rattle.std.specs.Prelude.{is_some, pos, ◌+ℤ◌, ℤ}
 use Rattle.std.specs.declared.option.Option.{Option}
 use Rattle.std.specs.declared.option.Option.TheVariants.{None, Some}
 use Rattle.std.specs.Option.{option_map}
@@ -24,7 +24,3 @@ some_with_entries e m c = of_option (m c)
     of_option : (o : Option ℕ) → is_some (option_map (λ v. at_least_zero (pos v +ℤ e c)) o) ≡ is_some o
     of_option None = refl
     of_option (Some v) = refl
-
-pub on_ok_both : {T E P Q R : Type 0} (r : Result T E) → (P → Q → R) → OnOk r P → OnOk r Q → OnOk r R
-on_ok_both (Ok x) f p q = f p q
-on_ok_both (Err e) f p q = tt

@@ -1,6 +1,6 @@
 -- Spans of ghost cells: what a look-up tells of one, what its values are, and that spans together have each ghost cell.
 use Rattle.std.proofs.Common.{◌≡◌, ℕ, ◌+◌, ◌-◌, ◌/◌, ◌<◌, ◌≤◌, Bool, true, false, ℤ, pos, ◌+ℤ◌, ◌<ℤ◌, List, [], ◌∷◌, ◌++◌, length, get_or, IsTrue, refl, sym, ap, subst, ◌∙◌, arith}
-use Rattle.std.specs.Prelude.{nat_lt, OnOk, Result, Ok, Err}
+use Rattle.std.specs.Prelude.{nat_lt}
 use Rattle.std.specs.List.{AllZip, Any}
 use Rattle.std.proofs.lemmas.Bool.Decides.{nat_tests}
 use Rattle.std.proofs.lemmas.Int.{ints}
@@ -164,10 +164,6 @@ whole_spans ps ss i west east south north = record { at = λ q c h. beside_of (�
 
 pub still_whole : (ps : List Patch) (ss ts : List Span) (i : ℕ) → KeepSpans ss ts → HaveFrame ps ss i → HaveFrame ps ts i
 still_whole ps ss ts i kept h = record { at = λ q c t. kept.at i c (h.at q c t) }
-
-pub on_ok_both : {T E : Type 0} (r : Result T E) (P Q R : Type 0) → (P → Q → R) → OnOk r P → OnOk r Q → OnOk r R
-on_ok_both (Ok x) P Q R f h k = f h k
-on_ok_both (Err e) P Q R f h k = tt
 
 -- ---- frames filled span by span
 

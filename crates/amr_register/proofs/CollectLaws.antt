@@ -76,7 +76,7 @@ more_added test a b c h k = record { kept = λ q t. k.kept q (h.kept q t); passi
 
 -- ---- the cells beside a box of covered cells
 
-pub record IsReady (d : Domain) (covered : Cell → Bool) (q : Cell) : Type 0 where
+pub record IsBesideCovered (d : Domain) (covered : Cell → Bool) (q : Cell) : Type 0 where
   pub near : IsBesideDomain q
   pub beside : has_neighbour_where d covered (home_cell d q) ≡ true
 
@@ -88,34 +88,34 @@ module _ (d : Domain) (covered : Cell → Bool) (size : HasSize d) (c : Cell) (i
   back_again : (x y i j : ℤ) (u v : ℕ) → i +ℤ pos 1 ≡ pos u → j +ℤ pos 1 ≡ pos v → x +ℤ i ≡ c.x → y +ℤ j ≡ c.y → covered (home_cell d (moved (home_cell d (cell x y)) (cell i j))) ≡ true
   back_again x y i j u v hu hv ex ey = ap covered (moved_home d (cell x y) i j u v size hu hv ∙ ap (home_cell d) (same_cell ex ey) ∙ home_inside d c inside) ∙ here
 
-  pub west_ready : (q : Cell) → q ≡ cell (c.x -ℤ pos 1) c.y → IsReady d covered q
+  pub west_ready : (q : Cell) → q ≡ cell (c.x -ℤ pos 1) c.y → IsBesideCovered d covered q
   west_ready q e =
       let near = domain_cell d c size inside in
-      subst (λ (r : Cell). IsReady d covered r) (sym e) (record {
+      subst (λ (r : Cell). IsBesideCovered d covered r) (sym e) (record {
         near = record { west = omega (arith, ints, near.west); east = omega (arith, ints, near.east); south = omega (arith, ints, near.south); north = omega (arith, ints, near.north) };
         beside = any_at (λ o. test (moved (home_cell d (cell (c.x -ℤ pos 1) c.y)) o)) neighbours 1 c (omega arith) (back_again (c.x -ℤ pos 1) c.y (pos 1) (pos 0) 2 1 refl refl (omega (arith, ints)) (omega (arith, ints)));
       })
 
-  pub east_ready : (q : Cell) → q ≡ cell (c.x +ℤ pos 1) c.y → IsReady d covered q
+  pub east_ready : (q : Cell) → q ≡ cell (c.x +ℤ pos 1) c.y → IsBesideCovered d covered q
   east_ready q e =
       let near = domain_cell d c size inside in
-      subst (λ (r : Cell). IsReady d covered r) (sym e) (record {
+      subst (λ (r : Cell). IsBesideCovered d covered r) (sym e) (record {
         near = record { west = omega (arith, ints, near.west); east = omega (arith, ints, near.east); south = omega (arith, ints, near.south); north = omega (arith, ints, near.north) };
         beside = any_at (λ o. test (moved (home_cell d (cell (c.x +ℤ pos 1) c.y)) o)) neighbours 0 c (omega arith) (back_again (c.x +ℤ pos 1) c.y (negsuc 0) (pos 0) 0 1 refl refl (omega (arith, ints)) (omega (arith, ints)));
       })
 
-  pub south_ready : (q : Cell) → q ≡ cell c.x (c.y -ℤ pos 1) → IsReady d covered q
+  pub south_ready : (q : Cell) → q ≡ cell c.x (c.y -ℤ pos 1) → IsBesideCovered d covered q
   south_ready q e =
       let near = domain_cell d c size inside in
-      subst (λ (r : Cell). IsReady d covered r) (sym e) (record {
+      subst (λ (r : Cell). IsBesideCovered d covered r) (sym e) (record {
         near = record { west = omega (arith, ints, near.west); east = omega (arith, ints, near.east); south = omega (arith, ints, near.south); north = omega (arith, ints, near.north) };
         beside = any_at (λ o. test (moved (home_cell d (cell c.x (c.y -ℤ pos 1))) o)) neighbours 3 c (omega arith) (back_again c.x (c.y -ℤ pos 1) (pos 0) (pos 1) 1 2 refl refl (omega (arith, ints)) (omega (arith, ints)));
       })
 
-  pub north_ready : (q : Cell) → q ≡ cell c.x (c.y +ℤ pos 1) → IsReady d covered q
+  pub north_ready : (q : Cell) → q ≡ cell c.x (c.y +ℤ pos 1) → IsBesideCovered d covered q
   north_ready q e =
       let near = domain_cell d c size inside in
-      subst (λ (r : Cell). IsReady d covered r) (sym e) (record {
+      subst (λ (r : Cell). IsBesideCovered d covered r) (sym e) (record {
         near = record { west = omega (arith, ints, near.west); east = omega (arith, ints, near.east); south = omega (arith, ints, near.south); north = omega (arith, ints, near.north) };
         beside = any_at (λ o. test (moved (home_cell d (cell c.x (c.y +ℤ pos 1))) o)) neighbours 2 c (omega arith) (back_again c.x (c.y +ℤ pos 1) (pos 0) (negsuc 0) 1 0 refl refl (omega (arith, ints)) (omega (arith, ints)));
       })

@@ -1,6 +1,6 @@
 -- The steps of a put in turn.
 use Rattle.std.proofs.Common.{◌≡◌, ◌⊎◌, inl, inr, ⊎_elim, ℕ, Bool, true, false, ◌||◌, List, Option, Some, None, refl, ◌∙◌, ap, arith}
-use Rattle.std.specs.Prelude.{IsSome, option_map, Result, Ok, Err, OnOk}
+use Rattle.std.specs.Prelude.{IsSome, option_map}
 use Rattle.amr_disk.specs.Moments.{StopsIn}
 use Rattle.amr_store.proofs.Runs.{joins, weaker}
 use Rattle.amr_store.specs.Stored.{Stored, stored}
@@ -34,14 +34,6 @@ module _ {D : Type 0} (moment : D → ℕ) (leaves : D → ℕ → List ℕ → 
       joins moment leaves old mid new (λ c. stored c ≡ stored s) (λ c. (stored c ≡ stored t) ⊎ (stored c ≡ W (stored t))) (λ c. (stored c ≡ stored s) ⊎ (stored c ≡ W (stored s))) first second
       (λ c e. inl e) (λ c either. ⊎_elim (λ e. inl (e ∙ same)) (λ e. inr (e ∙ ap W same)) either)
 
-pub on_ok_both : {T E : Type 0} (r : Result T E) (P Q R : Type 0) → (P → Q → R) → OnOk r P → OnOk r Q → OnOk r R
-on_ok_both (Ok x) P Q R f p q = f p q
-on_ok_both (Err e) P Q R f p q = tt
-
 pub some_of : (o : Option (List ℕ)) → IsSome o → (t : List ℕ) × (o ≡ Some t)
 some_of None is = let wrong : false ≡ true = is in cc
 some_of (Some t) is = (t, refl)
-
-pub on_ok_map : {T E : Type 0} (r : Result T E) (P Q : Type 0) → (P → Q) → OnOk r P → OnOk r Q
-on_ok_map (Ok x) P Q f p = f p
-on_ok_map (Err e) P Q f p = tt

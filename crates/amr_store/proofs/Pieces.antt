@@ -21,10 +21,6 @@ use Rattle.amr_store.specs.Reading.{IsRead, IsHeadOf, SaysHead, IsBegun, IsOpene
 use Rattle.amr_store.specs.Stands.{slot_of}
 use Rattle.amr_store.specs.Stored.{Entry, is_open, is_broken, first_of, second_of, is_tie, first_found}
 
-pub if_ok_map : {T E : Type 0} (r : Result T E) (P Q : T → Type 0) → IfOk r P → ((x : T) → P x → Q x) → IfOk r Q
-if_ok_map (Ok x) P Q is f = f x is
-if_ok_map (Err e) P Q is f = tt
-
 pub if_ok_both : {T E : Type 0} (r : Result T E) (P Q R : T → Type 0) → IfOk r P → IfOk r Q → ((x : T) → P x → Q x → R x) → IfOk r R
 if_ok_both (Ok x) P Q R p q f = f x p q
 if_ok_both (Err e) P Q R p q f = tt

@@ -17,7 +17,7 @@ use Rattle.amr_def.specs.Ledger.{first_of}
 use Rattle.amr_def.proofs.LevelLists.{Nested, IsInside}
 use Rattle.amr_witness.specs.declared.PlainLevel.{PlainLevel}
 use Rattle.amr_witness.specs.Maps.{boxes_in, masses_in, masses_of}
-use Rattle.amr_witness.specs.Ready.{IsReady, HasMasses, flux_bound}
+use Rattle.amr_witness.specs.Ready.{AreReadyToStep, HasMasses, flux_bound}
 use Rattle.amr_witness.specs.Parts.{IsInDomain, beside_covered, new_mass, through_both}
 use Rattle.amr_witness.proofs.StepLaws.{plain_flux, refluxed, levels_after}
 use Rattle.amr_witness.proofs.Readiness.{finer_ready, middle_ready}
@@ -47,14 +47,14 @@ no_masses_updated next (k ∷ ks) e empty none = absurd (omega arith)
 -- ---- a first level
 
 module _ (p : Problem) (l : ℕ) (ks : List PlainLevel) (k : PlainLevel) (rest : List PlainLevel) (old : Masses) (parts : ks ≡ k ∷ rest) where
-  pub first_ready : IsReady p l (masses_in ks) old → IsReady p l (masses_of k.masses ∷ masses_in rest) old
-  first_ready r = subst (λ (xs : List PlainLevel). IsReady p l (masses_in xs) old) parts r
+  pub first_ready : AreReadyToStep p l (masses_in ks) old → AreReadyToStep p l (masses_of k.masses ∷ masses_in rest) old
+  first_ready r = subst (λ (xs : List PlainLevel). AreReadyToStep p l (masses_in xs) old) parts r
 
-  pub rest_ready : IsReady p l (masses_in ks) old → IsReady p (l + 1) (masses_in rest) (masses_of k.masses)
-  rest_ready r = subst (λ i. IsReady p i (masses_in rest) (masses_of k.masses)) (sym (add-one l)) (finer_ready p l (masses_of k.masses) (masses_in rest) old (first_ready r))
+  pub rest_ready : AreReadyToStep p l (masses_in ks) old → AreReadyToStep p (l + 1) (masses_in rest) (masses_of k.masses)
+  rest_ready r = subst (λ i. AreReadyToStep p i (masses_in rest) (masses_of k.masses)) (sym (add-one l)) (finer_ready p l (masses_of k.masses) (masses_in rest) old (first_ready r))
 
-  pub rest_middle_ready : IsReady p l (masses_in ks) old → IsReady p (l + 1) (step p (l + 1) (masses_in rest) (masses_of k.masses)).levels (masses_of k.masses)
-  rest_middle_ready r = subst (λ i. IsReady p i (step p i (masses_in rest) (masses_of k.masses)).levels (masses_of k.masses)) (sym (add-one l)) (middle_ready p l (masses_of k.masses) (masses_in rest) old (first_ready r))
+  pub rest_middle_ready : AreReadyToStep p l (masses_in ks) old → AreReadyToStep p (l + 1) (step p (l + 1) (masses_in rest) (masses_of k.masses)).levels (masses_of k.masses)
+  rest_middle_ready r = subst (λ i. AreReadyToStep p i (step p i (masses_in rest) (masses_of k.masses)).levels (masses_of k.masses)) (sym (add-one l)) (middle_ready p l (masses_of k.masses) (masses_in rest) old (first_ready r))
 
   pub plain_in : (f : Face) → beside_covered p l (masses_in rest) f ≡ false → flux_at p l (masses_of k.masses) old f ≡ (step p l (masses_in ks) old).fluxes f
   plain_in f none =
@@ -96,12 +96,12 @@ inside_first p l m (fine ∷ finer) n = n.0
 is_there : (o : Option ℕ) (v : ℕ) → o ≡ Some v → is_some o ≡ true
 is_there o v e = ap is_some e
 
-pub cell_inside : (p : Problem) (l : ℕ) (m : Masses) (ms : List Masses) (old : Masses) (c : Cell) (v : ℕ) → IsReady p l (m ∷ ms) old → m c ≡ Some v → IsInDomain p l c
+pub cell_inside : (p : Problem) (l : ℕ) (m : Masses) (ms : List Masses) (old : Masses) (c : Cell) (v : ℕ) → AreReadyToStep p l (m ∷ ms) old → m c ≡ Some v → IsInDomain p l c
 cell_inside p l m ms old c v r there =
     let inside = (inside_first p l m ms r.nested).at c (is_there (m c) v there) in
     record { west = inside.west; south = inside.south; east = inside.east; north = inside.north }
 
-pub mass_small : (p : Problem) (l : ℕ) (m : Masses) (ms : List Masses) (old : Masses) (c : Cell) (v : ℕ) → IsReady p l (m ∷ ms) old → m c ≡ Some v → v < 2 ^ 31
+pub mass_small : (p : Problem) (l : ℕ) (m : Masses) (ms : List Masses) (old : Masses) (c : Cell) (v : ℕ) → AreReadyToStep p l (m ∷ ms) old → m c ≡ Some v → v < 2 ^ 31
 mass_small p l m ms old c v r there =
     let is : mass_of m c ≡ v = ap (λ (o : Option ℕ). unwrap_or o 0) there in
     omega (arith, is, mass_up p l m old ms r c, r.room)

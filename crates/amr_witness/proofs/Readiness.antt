@@ -13,7 +13,7 @@ use Rattle.amr_def.proofs.Greatest.{MassesUpTo, OldUpTo, rise, step-raises}
 use Rattle.amr_def.proofs.Chain.{nth, state_chain}
 use Rattle.amr_def.proofs.Stepping.{masses_in, chain_lists, sides_up, all_up, rise_within}
 use Rattle.amr_witness.proofs.StepLaws.{step_length}
-use Rattle.amr_witness.specs.Ready.{IsReady}
+use Rattle.amr_witness.specs.Ready.{AreReadyToStep}
 
 nested_finer : (p : Problem) (l : ℕ) (m : Masses) (ms : List Masses) → Nested p l (m ∷ ms) → Nested p (suc l) ms
 nested_finer p l m [] n = tt
@@ -30,8 +30,8 @@ finer_old l m a b more masses = record {
       rw (pow-suc 4 l) (omega (arith, quarter, masses.at k, more));
 }
 
-module _ (p : Problem) (l : ℕ) (m : Masses) (ms : List Masses) (old : Masses) (r : IsReady p l (m ∷ ms) old) where
-  pub finer_ready : IsReady p (suc l) ms m
+module _ (p : Problem) (l : ℕ) (m : Masses) (ms : List Masses) (old : Masses) (r : AreReadyToStep p l (m ∷ ms) old) where
+  pub finer_ready : AreReadyToStep p (suc l) ms m
   finer_ready = record {
     bound = r.bound;
     least = r.least;
@@ -42,7 +42,7 @@ module _ (p : Problem) (l : ℕ) (m : Masses) (ms : List Masses) (old : Masses) 
     olds = finer_old l m r.bound r.bound (omega arith) r.masses.0;
   }
 
-  pub middle_ready : IsReady p (suc l) (step p (suc l) ms m).levels m
+  pub middle_ready : AreReadyToStep p (suc l) (step p (suc l) ms m).levels m
   middle_ready =
       let nested = nested_finer p l m ms r.nested in
       let synced = synced_finer m ms r.synced in
@@ -69,7 +69,7 @@ map_length (k ∷ ks) = ap suc (map_length ks)
 growth_most : (m : ℕ) → growth m ≤ 131072
 growth_most m = grind (arith, nat_tests)
 
-pub state_ready : (p : Problem) (s : State) → IsSound p s → s.step < p.steps → IsReady p 0 (masses_in s.levels) no_masses
+pub state_ready : (p : Problem) (s : State) → IsSound p s → s.step < p.steps → AreReadyToStep p 0 (masses_in s.levels) no_masses
 state_ready p s sound before =
     let lists = chain_lists p 0 s.levels (state_chain p s sound.nested sound.synced) in
     let g = growth p.max_level in

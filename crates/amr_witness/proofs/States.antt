@@ -15,7 +15,7 @@ use Rattle.amr_def.proofs.Greatest.{AllUpTo, rise, step-raises}
 use Rattle.amr_def.proofs.Stepping.{sides_up}
 use Rattle.amr_witness.specs.declared.PlainLevel.{PlainLevel}
 use Rattle.amr_witness.specs.Maps.{boxes_in, levels_of, masses_in, masses_of}
-use Rattle.amr_witness.specs.Ready.{IsReady, HasSmallMasses}
+use Rattle.amr_witness.specs.Ready.{AreReadyToStep, HasSmallMasses}
 use Rattle.amr_witness.proofs.Readiness.{state_ready}
 
 -- ---- levels as maps
@@ -44,9 +44,9 @@ first_masses (r ∷ ks) k some is = ap (λ (x : PlainLevel). masses_of x.masses)
 
 -- ---- readiness
 
-pub plain_ready : (p : Problem) (s : State) (ks : List PlainLevel) → s.levels ≡ levels_of ks → IsSound p s → s.step < p.steps → IsReady p 0 (masses_in ks) no_masses
+pub plain_ready : (p : Problem) (s : State) (ks : List PlainLevel) → s.levels ≡ levels_of ks → IsSound p s → s.step < p.steps → AreReadyToStep p 0 (masses_in ks) no_masses
 plain_ready p s ks is sound before =
-    subst (λ (ms : List Masses). IsReady p 0 ms no_masses) (ap (λ (xs : List Level). map (λ (k : Level). k.masses) xs) is ∙ masses_same ks) (state_ready p s sound before)
+    subst (λ (ms : List Masses). AreReadyToStep p 0 ms no_masses) (ap (λ (xs : List Level). map (λ (k : Level). k.masses) xs) is ∙ masses_same ks) (state_ready p s sound before)
 
 pub few_levels : (p : Problem) (s : State) (ks : List PlainLevel) → s.levels ≡ levels_of ks → IsSound p s → length ks ≤ 5
 few_levels p s ks is sound = omega (arith, ap (λ (xs : List Level). length xs) is, count_same ks, sound.few_levels, p.limits.greatest_max_level)
@@ -63,7 +63,7 @@ first_small : (ms : List Masses) (b : ℕ) → AllUpTo 0 ms b → b < 2 ^ 31 →
 first_small [] b up room = record { at = λ c v is. cc }
 first_small (m ∷ ms) b up room = record { at = λ c v is. alone (m c) v b (up.0.at c) room is }
 
-pub small_after : (p : Problem) (ms : List Masses) → IsReady p 0 ms no_masses → HasSmallMasses (first_of (step p 0 ms no_masses).levels)
+pub small_after : (p : Problem) (ms : List Masses) → AreReadyToStep p 0 ms no_masses → HasSmallMasses (first_of (step p 0 ms no_masses).levels)
 small_after p ms r =
     first_small (step p 0 ms no_masses).levels (r.bound + rise (length ms) 0) (step-raises p (length ms) 0 ms no_masses r.bound (omega arith) (stable p) r.nested r.synced r.masses r.olds (sides_up p r.bound r.least)).masses (omega (arith, r.room))
 

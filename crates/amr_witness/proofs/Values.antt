@@ -20,7 +20,7 @@ use Rattle.amr_def.proofs.Flows.{wrapped_inside}
 use Rattle.amr_def.proofs.Homes.{wrapped_between}
 use Rattle.amr_def.proofs.Greatest.{SidesUpTo}
 use Rattle.amr_def.proofs.Stepping.{sides_up}
-use Rattle.amr_witness.specs.Ready.{IsReady, IsFace, IsNearby, HasSmallValues}
+use Rattle.amr_witness.specs.Ready.{AreReadyToStep, IsFace, IsNearby, HasSmallValues}
 use Rattle.std.proofs.lemmas.Int.{ints}
 use Rattle.amr_def.proofs.Sizes.{doubled_small}
 use Rattle.amr_witness.proofs.Sizes.{level_some}
@@ -57,10 +57,10 @@ chosen (Some v) t x y b h i k = h
 chosen None true x y b h i k = i
 chosen None false x y b h i k = k
 
-pub mass_up : (p : Problem) (l : ℕ) (m old : Masses) (ms : List Masses) (r : IsReady p l (m ∷ ms) old) (c : Cell) → mass_of m c ≤ r.bound
+pub mass_up : (p : Problem) (l : ℕ) (m old : Masses) (ms : List Masses) (r : AreReadyToStep p l (m ∷ ms) old) (c : Cell) → mass_of m c ≤ r.bound
 mass_up p l m old ms r c = scaled l _ _ (r.masses.0.at c)
 
-pub small_values : (p : Problem) (l : ℕ) (m old : Masses) (ms : List Masses) → IsReady p l (m ∷ ms) old → HasSmallValues p l m old
+pub small_values : (p : Problem) (l : ℕ) (m old : Masses) (ms : List Masses) → AreReadyToStep p l (m ∷ ms) old → HasSmallValues p l m old
 unfolding value_at
 small_values p l m old ms r = record {
   at = λ c.

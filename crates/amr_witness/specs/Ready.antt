@@ -15,7 +15,7 @@ use Rattle.amr_witness.specs.Maps.{masses_of}
 
 -- levels from l on, the coarsest first, above one that held `old`: nested and synced, and with room for
 -- as much as a step may raise their masses
-pub record IsReady (p : Problem) (l : ℕ) (ms : List Masses) (old : Masses) : Type 0 where
+pub record AreReadyToStep (p : Problem) (l : ℕ) (ms : List Masses) (old : Masses) : Type 0 where
   pub bound : ℕ
   pub least : 2 ^ 30 ≤ bound
   pub room : bound + rise (length ms) l < 2 ^ 31

@@ -8,7 +8,7 @@ ghost use Rattle.amr_def.specs.Ledger.{first_of};
 ghost use Rattle.amr_def.specs.Run.{stepped};
 ghost use Rattle.amr_def.specs.Facts.{IsSound};
 ghost use Rattle.amr_witness.specs.Maps.{boxes_in, masses_in, masses_of, old_of, state_of};
-ghost use Rattle.amr_witness.specs.Ready.{HasMasses, IsFace, IsReady, IsWithin, flux_bound};
+ghost use Rattle.amr_witness.specs.Ready.{HasMasses, IsFace, AreReadyToStep, IsWithin, flux_bound};
 ghost use Rattle.amr_witness.specs.Parts.{beside_covered, IsInDomain, new_mass, through_both};
 
 use crate::faces::{east_face, high_child, low_child, north_face, south_face, west_face};
@@ -50,7 +50,7 @@ pub fn step_levels(
     old: Option<&Masses>,
 ) -> Result<Vec<PlainLevel>, NoMemory>
     requires known { level + length levels.now ≤ 5 }
-    requires ready { IsReady p.now level (masses_in levels.now) (old_of old) }
+    requires ready { AreReadyToStep p.now level (masses_in levels.now) (old_of old) }
     ensures masses { IfOk result (λ r. masses_in r.items ≡ (step p.now level (masses_in levels.now) (old_of old.entry)).levels) }
     ensures boxes { IfOk result (λ r. boxes_in r.items ≡ boxes_in levels.now) }
     ensures count { IfOk result (λ r. length r.items ≡ length levels.now) }
@@ -76,7 +76,7 @@ fn new_masses(
     old: Option<&Masses>,
 ) -> Result<Masses, NoMemory>
     requires known { level + length levels.now ≤ 5 }
-    requires ready { IsReady p.now level (masses_in levels.now) (old_of old) }
+    requires ready { AreReadyToStep p.now level (masses_in levels.now) (old_of old) }
     ensures { IfOk result (λ r. HasMasses r (updated (first_of (masses_in levels.now)) (step p.now level (masses_in levels.now) (old_of old.entry)).fluxes)) }
 {
     let mut next = BTreeMap::new(alloc);
@@ -111,7 +111,7 @@ fn net(
 ) -> Result<i64, NoMemory>
     requires known { level ≤ 4 }
     requires few { level + length levels.now ≤ 5 }
-    requires ready { IsReady p.now level (masses_in levels.now) (old_of old) }
+    requires ready { AreReadyToStep p.now level (masses_in levels.now) (old_of old) }
     requires inside { IsInDomain p.now level c }
     ensures value { IfOk result (λ z. z ≡ net (step p.now level (masses_in levels.now) (old_of old.entry)).fluxes c) }
     ensures within { IfOk result (λ z. IsWithin (2 ^ 52) z) }
@@ -135,7 +135,7 @@ pub fn flux(
     f: Face,
 ) -> Result<i64, NoMemory>
     requires known { level + length levels.now ≤ 5 }
-    requires ready { IsReady p.now level (masses_in levels.now) (old_of old) }
+    requires ready { AreReadyToStep p.now level (masses_in levels.now) (old_of old) }
     requires inside { IsFace p.now level f }
     ensures value { IfOk result (λ z. z ≡ (step p.now level (masses_in levels.now) (old_of old.entry)).fluxes f) }
     ensures bound { IfOk result (λ z. IsWithin (flux_bound (length levels.now)) z) }
@@ -178,8 +178,8 @@ fn through_both(
     f: Face,
 ) -> Result<i64, NoMemory>
     requires known { level + 1 + length finer.now ≤ 5 }
-    requires ready { IsReady p.now (level + 1) (masses_in finer.now) (masses_of m.now) }
-    requires middle { IsReady p.now (level + 1) (step p.now (level + 1) (masses_in finer.now) (masses_of m.now)).levels (masses_of m.now) }
+    requires ready { AreReadyToStep p.now (level + 1) (masses_in finer.now) (masses_of m.now) }
+    requires middle { AreReadyToStep p.now (level + 1) (step p.now (level + 1) (masses_in finer.now) (masses_of m.now)).levels (masses_of m.now) }
     requires inside { IsFace p.now level f }
     ensures value { IfOk result (λ z. z ≡ through_both p.now (level + 1) (masses_in finer.now) (masses_of m.now) f) }
     ensures bound { IfOk result (λ z. IsWithin (flux_bound (length finer.now + 1)) z) }
@@ -201,7 +201,7 @@ fn through_children(
     f: Face,
 ) -> Result<i64, NoMemory>
     requires known { level + 1 + length finer.now ≤ 5 }
-    requires ready { IsReady p.now (level + 1) (masses_in finer.now) (masses_of m.now) }
+    requires ready { AreReadyToStep p.now (level + 1) (masses_in finer.now) (masses_of m.now) }
     requires inside { IsFace p.now level f }
     ensures value { IfOk result (λ z. z ≡ through_children (step p.now (level + 1) (masses_in finer.now) (masses_of m.now)).fluxes f.axis f.x f.y) }
     ensures bound { IfOk result (λ z. IsWithin (2 * flux_bound (length finer.now)) z) }

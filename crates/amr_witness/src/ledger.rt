@@ -6,7 +6,7 @@ ghost use Rattle.amr_def.specs.State.{no_masses};
 ghost use Rattle.amr_def.specs.LevelStep.{step};
 ghost use Rattle.amr_def.specs.Ledger.{above_zero, below_zero, if_open, inflow, mass_at, outflow, row_after, row_mass, total_mass, x_through, y_through};
 ghost use Rattle.amr_witness.specs.Maps.{masses_in, masses_of};
-ghost use Rattle.amr_witness.specs.Ready.{HasSmallMasses, IsFace, IsReady, IsWithin};
+ghost use Rattle.amr_witness.specs.Ready.{HasSmallMasses, IsFace, AreReadyToStep, IsWithin};
 
 use crate::PlainLevel;
 use crate::advance::flux;
@@ -33,7 +33,7 @@ pub fn row_after(
     after: &Masses,
 ) -> Result<Row, NoMemory>
     requires few { length before.now ≤ 5 }
-    requires ready { IsReady p.now 0 (masses_in before.now) no_masses }
+    requires ready { AreReadyToStep p.now 0 (masses_in before.now) no_masses }
     requires small { HasSmallMasses (masses_of after.now) }
     ensures mass { IfOk result (λ r. r.mass ≡ total_mass p.now (masses_of after.now)) }
     ensures inflow { IfOk result (λ r. r.inflow ≡ inflow p.now (step p.now 0 (masses_in before.now) no_masses).fluxes) }
@@ -129,7 +129,7 @@ fn through_ends(
     high: Face,
 ) -> Result<Through, NoMemory>
     requires few { length levels.now ≤ 5 }
-    requires ready { IsReady p.now 0 (masses_in levels.now) no_masses }
+    requires ready { AreReadyToStep p.now 0 (masses_in levels.now) no_masses }
     requires low { IsFace p.now 0 low }
     requires high { IsFace p.now 0 high }
     ensures inflow { IfOk result (λ t. let e = (step p.now 0 (masses_in levels.now) no_masses).fluxes in t.inflow ≡ above_zero (e low) + below_zero (e high)) }
@@ -145,7 +145,7 @@ fn through_ends(
 /// What flows through the low and the high end of the x axis, where it is open.
 fn through_x(alloc: Global, p: &Problem, levels: &[PlainLevel]) -> Result<Through, NoMemory>
     requires few { length levels.now ≤ 5 }
-    requires ready { IsReady p.now 0 (masses_in levels.now) no_masses }
+    requires ready { AreReadyToStep p.now 0 (masses_in levels.now) no_masses }
     ensures inflow { IfOk result (λ t. t.inflow ≡ if_open p.now.x_sides (x_through p.now above_zero below_zero (step p.now 0 (masses_in levels.now) no_masses).fluxes)) }
     ensures outflow { IfOk result (λ t. t.outflow ≡ if_open p.now.x_sides (x_through p.now below_zero above_zero (step p.now 0 (masses_in levels.now) no_masses).fluxes)) }
     ensures inflow_small { IfOk result (λ t. t.inflow ≤ 2 ^ 59) }
@@ -174,7 +174,7 @@ fn through_x(alloc: Global, p: &Problem, levels: &[PlainLevel]) -> Result<Throug
 /// What flows through the low and the high end of the y axis, where it is open.
 fn through_y(alloc: Global, p: &Problem, levels: &[PlainLevel]) -> Result<Through, NoMemory>
     requires few { length levels.now ≤ 5 }
-    requires ready { IsReady p.now 0 (masses_in levels.now) no_masses }
+    requires ready { AreReadyToStep p.now 0 (masses_in levels.now) no_masses }
     ensures inflow { IfOk result (λ t. t.inflow ≡ if_open p.now.y_sides (y_through p.now above_zero below_zero (step p.now 0 (masses_in levels.now) no_masses).fluxes)) }
     ensures outflow { IfOk result (λ t. t.outflow ≡ if_open p.now.y_sides (y_through p.now below_zero above_zero (step p.now 0 (masses_in levels.now) no_masses).fluxes)) }
     ensures inflow_small { IfOk result (λ t. t.inflow ≤ 2 ^ 59) }

@@ -42,8 +42,8 @@ pub record MayStep (p : Problem) (l : ℕ) (q : Patch) : Type 0 where
   pub kept : (c : Cell) → IsTrue (holds (box q) c) → pos 0 ≤ℤ (pos (mass_in q c) +ℤ net (flux_beside p l q) c)
   pub fits : (c : Cell) → IsTrue (holds (box q) c) → (pos (mass_in q c) +ℤ net (flux_beside p l q) c) <ℤ pos (2 ^ 32)
 
--- with a workspace that serves it
-pub record IsReady (p : Problem) (l : ℕ) (q : Patch) (s : Workspace) : Type 0 where
+-- such a patch, with a workspace that serves it
+pub record MayStepWith (p : Problem) (l : ℕ) (q : Patch) (s : Workspace) : Type 0 where
   pub step : MayStep p l q
   pub room : width (box q) ≤ widest s.room
   pub posts : HasOwnPosts q s.layout
@@ -52,7 +52,7 @@ pub record IsReady (p : Problem) (l : ℕ) (q : Patch) (s : Workspace) : Type 0 
 
 -- and a piece with such a patch
 abbrev pub IsReadyPiece : Work → Type 0
-IsReadyPiece w = IsReady w.problem.value w.level w.body.value.patch w.body.value.workspace
+IsReadyPiece w = MayStepWith w.problem.value w.level w.body.value.patch w.body.value.workspace
 
 -- at the place of each of its border faces the plan has what flows through it
 pub record HasBorderPlanned (plan : PlanOf) (w : Work) : Type 0 where

@@ -1,7 +1,7 @@
 use Rattle.std.proofs.Common.{arith, ◌∙◌}
 use Rattle.amr_patch.specs.Meshes.{state_of}
 use Rattle.std.proofs.lemmas.Result.{on_ok_weaker}
-use Rattle.amr_cycle.proofs.Keeping.{on_ok_both}
+use Rattle.amr_causes.proofs.Results.{on_ok_both}
 use Rattle.amr_drive.proofs.Kept.{chopped_after, coarsenable}
 use Rattle.amr_drive.proofs.NextStates.{next_is, same_step}
 use Rattle.amr_drive.proofs.nexts.make_next.Goals as goal

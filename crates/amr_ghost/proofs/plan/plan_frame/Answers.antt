@@ -1,7 +1,8 @@
 use Rattle.amr_ghost.specs.declared.sides.Side.TheVariants.{East, North, South, West}
 use Rattle.amr_ghost.specs.Plans.{HaveFrame, KeepSpans}
 use Rattle.std.proofs.lemmas.Result.{on_ok_weaker}
-use Rattle.amr_ghost.proofs.PlannedSpans.{HaveSide, keep_trans, on_ok_both, still_have, whole_spans}
+use Rattle.amr_causes.proofs.Results.{on_ok_both}
+use Rattle.amr_ghost.proofs.PlannedSpans.{HaveSide, keep_trans, still_have, whole_spans}
 use Rattle.amr_ghost.proofs.plan.plan_frame.Goals as goal
 
 pub returns-clause-kept : goal.returns-clause-kept
@@ -26,6 +27,6 @@ returns-clause-made c =
     let west2 = still_have ps s1 s2 i West c.in_ok-plan_side-2.ensures.kept c.in_ok-plan_side.ensures.made in
     let west3 = still_have ps s2 s3 i West c.in_ok-plan_side-3.ensures.kept west2 in
     let east3 = still_have ps s2 s3 i East c.in_ok-plan_side-3.ensures.kept c.in_ok-plan_side-2.ensures.made in
-    on_ok_both c.plan_side-4.result (KeepSpans s3 s4) (HaveSide ps s4 i North) (HaveFrame ps s4 i)
+    on_ok_both {P = KeepSpans s3 s4} {Q = HaveSide ps s4 i North} {R = HaveFrame ps s4 i} c.plan_side-4.result
     (λ kept north. whole_spans ps s4 i (still_have ps s3 s4 i West kept west3) (still_have ps s3 s4 i East kept east3) (still_have ps s3 s4 i South kept c.in_ok-plan_side-3.ensures.made) north)
     c.plan_side-4.ensures.kept c.plan_side-4.ensures.made

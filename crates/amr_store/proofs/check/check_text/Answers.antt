@@ -1,6 +1,7 @@
 use Rattle.std.proofs.Common.{◌≡◌, ◌∙◌, ◌+◌, ◌^◌, nat_lt, true, false, ◌||◌, ◌∷◌, sym, drop, length, arith}
 use Rattle.std.proofs.lemmas.Bool.{ltb-true, ltb-false, lt-ltb, le-ltb, or_right, or_from}
-use Rattle.amr_store.proofs.Pieces.{if_ok_map, more_tests, first_test, next_test}
+use Rattle.std.proofs.lemmas.Result.{IfOk-weaker}
+use Rattle.amr_store.proofs.Pieces.{more_tests, first_test, next_test}
 use Rattle.amr_store.specs.declared.part.Part.TheVariants.{Text, Size}
 use Rattle.amr_store.specs.Layout.{size_of, text_length}
 use Rattle.amr_store.specs.Reading.{slot_tests}
@@ -25,13 +26,13 @@ returns-then-head-clause-told g c s is says =
 
 pub returns-clause-told : goal.returns-clause-told
 returns-clause-told g c =
-    if_ok_map c.check_slots.result _ _ c.check_slots.ensures.told (λ checked told s is says.
+    IfOk-weaker c.check_slots.result _ _ (λ checked told s is says.
     let part = drop c.args.base s in
     let long : nat_lt (20 + c.args.head.text) (length part) ≡ true = sym (c.in-Ok-true.ensures.told s is) ∙ c.in-Ok-true.field-0-test in
     more_tests checked (nat_lt 65536 (text_length part) || nat_lt (length part) (21 + text_length part)) Text ((nat_lt (2 ^ 40) (size_of part), Size) ∷ slot_tests part) part
     (or_from (nat_lt 65536 (text_length part)) (nat_lt (length part) (21 + text_length part)) (le-ltb 65536 (text_length part) (omega (arith, says.text_is, c.if-head-gt65536.false)))
     (le-ltb (length part) (21 + text_length part) (omega (arith, says.text_is, ltb-true (20 + c.args.head.text) (length part) long))))
-    (more_tests checked (nat_lt (2 ^ 40) (size_of part)) Size (slot_tests part) part (le-ltb (2 ^ 40) (size_of part) (omega (arith, says.size_is, c.if-head.false))) (told s (c.has_byte_from.ensures.reads.same ∙ is) says)))
+    (more_tests checked (nat_lt (2 ^ 40) (size_of part)) Size (slot_tests part) part (le-ltb (2 ^ 40) (size_of part) (omega (arith, says.size_is, c.if-head.false))) (told s (c.has_byte_from.ensures.reads.same ∙ is) says))) c.check_slots.ensures.told
 
 pub returns-clause-reads : goal.returns-clause-reads
 returns-clause-reads g c = reads_on g.D.Disk.seen g.D.Disk.moment g.D.Disk.leaves c.args.disk.now c.has_byte_from.new.disk c.check_slots.new.disk c.has_byte_from.ensures.reads c.check_slots.ensures.reads

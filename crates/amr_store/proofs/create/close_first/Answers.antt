@@ -2,7 +2,7 @@ use Rattle.std.proofs.Common.{◌≡◌, ◌∙◌, ◌≤◌, ◌∷◌, [], sy
 use Rattle.std.proofs.lemmas.Bool.{ltb-false}
 use Rattle.amr_disk.specs.Image.{Torn, Same, written_at}
 use Rattle.amr_store.proofs.Creation.{empty_stored, short_stop}
-use Rattle.amr_store.proofs.Joins.{on_ok_map}
+use Rattle.std.proofs.lemmas.Result.{on_ok_weaker}
 use Rattle.amr_store.proofs.Readings.{reads_settled, reads_stops}
 use Rattle.amr_store.proofs.Runs.{joins, weaker}
 use Rattle.amr_store.proofs.Seen.{unchanged, written_as, first_stays, first_written}
@@ -42,5 +42,5 @@ returns-in-Ok-true-clause-seen g c =
 
 pub returns-in-Ok-false-clause-seen : goal.returns-in-Ok-false-clause-seen
 returns-in-Ok-false-clause-seen g c =
-    on_ok_map c.write_synced.result _ _ (λ seen. written_as (written_at 0 (0 ∷ [])) shut_first (g.D.Disk.seen c.args.disk.now) (g.D.Disk.seen c.has_byte.new.disk) (g.D.Disk.seen c.write_synced.new.disk) c.has_byte.ensures.reads.same seen
+    on_ok_weaker c.write_synced.result (λ seen. written_as (written_at 0 (0 ∷ [])) shut_first (g.D.Disk.seen c.args.disk.now) (g.D.Disk.seen c.has_byte.new.disk) (g.D.Disk.seen c.write_synced.new.disk) c.has_byte.ensures.reads.same seen
     (λ s is. first_written s (sym (c.in-Ok-false.ensures.told s is) ∙ c.in-Ok-false.field-0-test))) c.write_synced.ensures.seen

@@ -2,7 +2,7 @@ use Rattle.std.proofs.Common.{◌∙◌, ◌∷◌, [], sym, subst, ℕ, List, l
 use Rattle.amr_disk.specs.Image.{Same, written_at}
 use Rattle.amr_store.proofs.Calls.{mapped_some}
 use Rattle.amr_store.proofs.Creation.{laid_twice, laid_thrice, first_kept_twice, first_kept_thrice}
-use Rattle.amr_store.proofs.Joins.{on_ok_map}
+use Rattle.std.proofs.lemmas.Result.{on_ok_weaker}
 use Rattle.amr_store.proofs.Readings.{reads_stops}
 use Rattle.amr_store.proofs.Runs.{joins, weaker}
 use Rattle.amr_store.proofs.Seen.{written_as, laid_past, laid_short}
@@ -18,7 +18,7 @@ returns-in-Ok-true-clause-laid g c =
     let head = c.args.head.now in
     let gate = gate_1 (length problem) size in
     let end = end_of (length problem) size in
-    on_ok_map c.write_three_synced.result _ _ (λ seen t is.
+    on_ok_weaker c.write_three_synced.result (λ seen t is.
     let from = mapped_some (λ s. written_at end (0 ∷ []) (written_at gate (0 ∷ []) (written_at 1 head s))) (g.D.Disk.seen c.has_renewal_gate.new.disk) t (sym seen ∙ is) in
     subst (λ (i : List ℕ). IsLaid c.args.version problem size i) from.2 (laid_thrice c.args.version from.0 head problem size c.requires.head c.requires.text c.requires.size)) c.write_three_synced.ensures.seen
 
@@ -28,7 +28,7 @@ returns-in-Ok-false-clause-laid g c =
     let size = c.args.slot_size in
     let head = c.args.head.now in
     let gate = gate_1 (length problem) size in
-    on_ok_map c.write_two_synced.result _ _ (λ seen t is.
+    on_ok_weaker c.write_two_synced.result (λ seen t is.
     let from = mapped_some (λ s. written_at gate (0 ∷ []) (written_at 1 head s)) (g.D.Disk.seen c.has_renewal_gate.new.disk) t (sym seen ∙ is) in
     let short = sym (c.in-Ok-false.ensures.told from.0 (sym c.has_renewal_gate.ensures.reads.same ∙ from.1)) ∙ c.in-Ok-false.field-0-test in
     subst (λ (i : List ℕ). IsLaid c.args.version problem size i) from.2 (laid_twice c.args.version from.0 head problem size c.requires.head c.requires.text c.requires.size short)) c.write_two_synced.ensures.seen
@@ -71,7 +71,7 @@ returns-in-Ok-true-clause-seen g c =
     let head = c.args.head.now in
     let gate = gate_1 (length problem) size in
     let end = end_of (length problem) size in
-    on_ok_map c.write_three_synced.result _ _ (λ seen.
+    on_ok_weaker c.write_three_synced.result (λ seen.
     written_as (λ s. written_at end (0 ∷ []) (written_at gate (0 ∷ []) (written_at 1 head s))) (laid_image v problem size) (g.D.Disk.seen c.args.disk.now) (g.D.Disk.seen c.has_renewal_gate.new.disk) (g.D.Disk.seen c.write_three_synced.new.disk) c.has_renewal_gate.ensures.reads.same seen
     (λ s is. laid_past v problem size head s c.requires.head (sym (c.in-Ok-true.ensures.told s is) ∙ c.in-Ok-true.field-0-test))) c.write_three_synced.ensures.seen
 
@@ -82,6 +82,6 @@ returns-in-Ok-false-clause-seen g c =
     let size = c.args.slot_size in
     let head = c.args.head.now in
     let gate = gate_1 (length problem) size in
-    on_ok_map c.write_two_synced.result _ _ (λ seen.
+    on_ok_weaker c.write_two_synced.result (λ seen.
     written_as (λ s. written_at gate (0 ∷ []) (written_at 1 head s)) (laid_image v problem size) (g.D.Disk.seen c.args.disk.now) (g.D.Disk.seen c.has_renewal_gate.new.disk) (g.D.Disk.seen c.write_two_synced.new.disk) c.has_renewal_gate.ensures.reads.same seen
     (λ s is. laid_short v problem size head s c.requires.head (sym (c.in-Ok-false.ensures.told s is) ∙ c.in-Ok-false.field-0-test))) c.write_two_synced.ensures.seen

@@ -2,7 +2,8 @@ use Rattle.std.proofs.Common.{◌≡◌, ◌⊎◌, inl, ◌∙◌, ◌∷◌, [
 use Rattle.amr_disk.specs.Image.{Torn, written_at}
 use Rattle.amr_store.proofs.Calls.{mapped_some}
 use Rattle.amr_store.proofs.Creation.{shut_empty, made_stop, made_after}
-use Rattle.amr_store.proofs.Joins.{some_of, on_ok_map}
+use Rattle.amr_store.proofs.Joins.{some_of}
+use Rattle.std.proofs.lemmas.Result.{on_ok_weaker}
 use Rattle.amr_store.proofs.Runs.{joins, weaker}
 use Rattle.amr_store.proofs.Seen.{written_thrice}
 use Rattle.amr_store.specs.Created.{IsMade, IsShutFirst, new_state, laid_image, shut_first}
@@ -30,7 +31,7 @@ returns-in-Ok-lay-clause-stops g c s is =
 
 pub returns-in-Ok-lay-clause-made : goal.returns-in-Ok-lay-clause-made
 returns-in-Ok-lay-clause-made g c =
-    on_ok_map c.write_synced.result _ _ (λ seen t is.
+    on_ok_weaker c.write_synced.result (λ seen t is.
     let from = mapped_some (written_at 0 (165 ∷ [])) (g.D.Disk.seen c.lay.new.disk) t (sym seen ∙ is) in
     subst (λ (i : List ℕ). IsMade c.args.version c.args.problem.now c.args.slot_size i) from.2
     (made_after c.args.version c.args.problem.now c.args.slot_size from.0 (c.in-Ok-lay.ensures.laid from.0 from.1))) c.write_synced.ensures.seen
@@ -53,5 +54,5 @@ returns-in-Err-clause-stops g c s is =
 pub returns-in-Ok-lay-clause-seen : goal.returns-in-Ok-lay-clause-seen
 returns-in-Ok-lay-clause-seen g c =
     let seen = g.D.Disk.seen in
-    on_ok_map c.write_synced.result _ _ (written_thrice shut_first (laid_image c.args.version c.args.problem.now c.args.slot_size) (written_at 0 (165 ∷ [])) (seen c.args.disk.now) (seen c.close_first.new.disk) (seen c.lay.new.disk) (seen c.write_synced.new.disk)
+    on_ok_weaker c.write_synced.result (written_thrice shut_first (laid_image c.args.version c.args.problem.now c.args.slot_size) (written_at 0 (165 ∷ [])) (seen c.args.disk.now) (seen c.close_first.new.disk) (seen c.lay.new.disk) (seen c.write_synced.new.disk)
     c.in-Ok.ensures.seen c.in-Ok-lay.ensures.seen) c.write_synced.ensures.seen

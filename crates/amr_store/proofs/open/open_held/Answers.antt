@@ -1,6 +1,6 @@
 use Rattle.std.proofs.Common.{◌∙◌, true}
 use Rattle.amr_store.proofs.Openings.{outer_damaged}
-use Rattle.amr_store.proofs.Pieces.{if_ok_map}
+use Rattle.std.proofs.lemmas.Result.{IfOk-weaker}
 use Rattle.amr_store.specs.declared.check.Checked.TheVariants.{Whole, Faulty}
 use Rattle.amr_store.specs.Checking.{Checks}
 use Rattle.amr_store.specs.Reading.{magic_in}
@@ -10,9 +10,9 @@ use Rattle.amr_store.proofs.open.open_held.Goals as goal
 
 pub returns-in-Ok-Whole-clause-told : goal.returns-in-Ok-Whole-clause-told
 returns-in-Ok-Whole-clause-told g c =
-    if_ok_map c.open_whole.result _ _ c.open_whole.ensures.told (λ found told s is held.
+    IfOk-weaker c.open_whole.result _ _ (λ found told s is held.
     let checked : Checks (Whole c.in-Ok-Whole.outline) (tests (magic_in true s) s) s = (rw c.in-Ok-Whole.field-0-is at c.in-Ok-Whole.ensures.told) s is in
-    told s (c.check.ensures.reads.same ∙ is) record { held = held; sound = checked.0; outline_is = checked.1 })
+    told s (c.check.ensures.reads.same ∙ is) record { held = held; sound = checked.0; outline_is = checked.1 }) c.open_whole.ensures.told
 
 pub returns-in-Ok-Faulty-clause-told : goal.returns-in-Ok-Faulty-clause-told
 returns-in-Ok-Faulty-clause-told g c s is held =

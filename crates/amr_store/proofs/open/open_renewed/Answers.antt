@@ -1,6 +1,6 @@
 use Rattle.std.proofs.Common.{◌∙◌, ◌+◌, ◌*◌, ℕ, false, drop, sym, subst}
 use Rattle.amr_store.proofs.Openings.{end_is, inner_damaged}
-use Rattle.amr_store.proofs.Pieces.{if_ok_map}
+use Rattle.std.proofs.lemmas.Result.{IfOk-weaker}
 use Rattle.amr_store.specs.declared.check.Checked.TheVariants.{Whole, Faulty}
 use Rattle.amr_store.specs.Checking.{Checks}
 use Rattle.amr_store.specs.Reading.{magic_in}
@@ -10,11 +10,11 @@ use Rattle.amr_store.proofs.open.open_renewed.Goals as goal
 
 pub returns-in-Ok-Whole-clause-told : goal.returns-in-Ok-Whole-clause-told
 returns-in-Ok-Whole-clause-told g c =
-    if_ok_map c.open_inner.result _ _ c.open_inner.ensures.told (λ found told s is held renewed.
+    IfOk-weaker c.open_inner.result _ _ (λ found told s is held renewed.
     let base = 21 + c.args.outline.text + 2 * (17 + c.args.outline.slot_size) in
     let part = drop base s in
     let checked : Checks (Whole c.in-Ok-Whole.inner) (tests (magic_in false part) part) part = (rw c.in-Ok-Whole.field-0-is at c.in-Ok-Whole.ensures.told) s is in
-    told s (c.check.ensures.reads.same ∙ is) held renewed (sym (end_is c.args.outline s held.outline_is)) record { sound = checked.0; outline_is = checked.1 })
+    told s (c.check.ensures.reads.same ∙ is) held renewed (sym (end_is c.args.outline s held.outline_is)) record { sound = checked.0; outline_is = checked.1 }) c.open_inner.ensures.told
 
 pub returns-in-Ok-Faulty-clause-told : goal.returns-in-Ok-Faulty-clause-told
 returns-in-Ok-Faulty-clause-told g c s is held renewed =

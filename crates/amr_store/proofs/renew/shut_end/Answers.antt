@@ -1,7 +1,7 @@
 use Rattle.std.proofs.Common.{◌≡◌, ◌∙◌, ◌∷◌, [], sym, subst, ap, ℕ, List}
 use Rattle.amr_disk.specs.Image.{Torn, Same, written_at}
 use Rattle.amr_store.proofs.Calls.{mapped_some}
-use Rattle.amr_store.proofs.Joins.{on_ok_map}
+use Rattle.std.proofs.lemmas.Result.{on_ok_weaker}
 use Rattle.amr_store.proofs.Readings.{reads_stops}
 use Rattle.amr_store.proofs.Renewals.{shut_already, shut_after, shut_same}
 use Rattle.amr_store.proofs.Runs.{joins, weaker}
@@ -17,7 +17,7 @@ returns-in-Ok-true-clause-shut g c t problem is old =
 
 pub returns-in-Ok-false-clause-shut : goal.returns-in-Ok-false-clause-shut
 returns-in-Ok-false-clause-shut g c =
-    on_ok_map c.write_synced.result _ _ (λ seen t problem is old.
+    on_ok_weaker c.write_synced.result (λ seen t problem is old.
     let from = mapped_some (written_at c.args.end (0 ∷ [])) (g.D.Disk.seen c.has_byte.new.disk) t (sym seen ∙ is) in
     let was = sym c.has_byte.ensures.reads.same ∙ from.1 in
     subst (λ (i : List ℕ). IsOldShut c.args.end problem i) from.2 (shut_after c.args.end problem from.0 (old from.0 was) (sym (c.in-Ok-false.ensures.told from.0 was) ∙ c.in-Ok-false.field-0-test))) c.write_synced.ensures.seen
@@ -47,5 +47,5 @@ returns-in-Ok-true-clause-seen g c =
 
 pub returns-in-Ok-false-clause-seen : goal.returns-in-Ok-false-clause-seen
 returns-in-Ok-false-clause-seen g c =
-    on_ok_map c.write_synced.result _ _ (λ seen. written_as (written_at c.args.end (0 ∷ [])) (shut_past c.args.end) (g.D.Disk.seen c.args.disk.now) (g.D.Disk.seen c.has_byte.new.disk) (g.D.Disk.seen c.write_synced.new.disk) c.has_byte.ensures.reads.same seen
+    on_ok_weaker c.write_synced.result (λ seen. written_as (written_at c.args.end (0 ∷ [])) (shut_past c.args.end) (g.D.Disk.seen c.args.disk.now) (g.D.Disk.seen c.has_byte.new.disk) (g.D.Disk.seen c.write_synced.new.disk) c.has_byte.ensures.reads.same seen
     (λ s is. past_written c.args.end s (sym (c.in-Ok-false.ensures.told s is) ∙ c.in-Ok-false.field-0-test))) c.write_synced.ensures.seen

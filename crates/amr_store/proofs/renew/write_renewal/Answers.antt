@@ -2,7 +2,8 @@ use Rattle.std.proofs.Common.{◌≡◌, ◌⊎◌, ◌∙◌, ◌+◌, ◌<◌,
 use Rattle.std.specs.Prelude.{OnOk, option_map}
 use Rattle.amr_disk.specs.Image.{Torn, written_at}
 use Rattle.amr_store.proofs.Calls.{mapped_some}
-use Rattle.amr_store.proofs.Joins.{mapped_on, some_of, on_ok_map, one, two, three}
+use Rattle.amr_store.proofs.Joins.{mapped_on, some_of, one, two, three}
+use Rattle.std.proofs.lemmas.Result.{on_ok_weaker}
 use Rattle.amr_store.proofs.Renewals.{laid_same, laid_shut, renewal_written, renewed_stop, renewed_after}
 use Rattle.amr_store.proofs.Runs.{weaker}
 use Rattle.amr_store.specs.Layout.{gate_1}
@@ -49,7 +50,7 @@ returns-in-Ok-write_two_synced-clause-made g c =
     let all = c.args.all.now in
     let beyond = end + gate_1 (length problem) size in
     let past : end < beyond = omega arith in
-    on_ok_map c.write_synced.result _ _ (λ seen t is.
+    on_ok_weaker c.write_synced.result (λ seen t is.
     let from_2 = mapped_some (written_at end (165 ∷ [])) (g.D.Disk.seen c.write_two_synced.new.disk) t (sym seen ∙ is) in
     let from_1 = mapped_some (λ i. written_at beyond (0 ∷ []) (written_at (end + 1) all i)) (g.D.Disk.seen c.shut_end.new.disk) from_2.0 (sym c.in-Ok-write_two_synced.ensures.seen ∙ from_2.1) in
     let shut_1 = c.in-Ok.ensures.shut from_1.0 problem from_1.1 c.requires.old in
@@ -89,5 +90,5 @@ returns-in-Ok-write_two_synced-clause-seen g c =
     let all = c.args.all.now in
     let beyond = end + gate_1 (length c.args.problem.now) c.args.slot_size in
     subst (λ (a : List ℕ). OnOk c.write_synced.result (seen c.write_synced.new.disk ≡ option_map (λ s. written_at end (165 ∷ []) (written_at beyond (0 ∷ []) (written_at (end + 1) a (shut_past end s)))) (seen c.args.disk.now))) c.requires.all
-    (on_ok_map c.write_synced.result _ _ (written_thrice (shut_past end) (λ i. written_at beyond (0 ∷ []) (written_at (end + 1) all i)) (written_at end (165 ∷ [])) (seen c.args.disk.now) (seen c.shut_end.new.disk) (seen c.write_two_synced.new.disk) (seen c.write_synced.new.disk)
+    (on_ok_weaker c.write_synced.result (written_thrice (shut_past end) (λ i. written_at beyond (0 ∷ []) (written_at (end + 1) all i)) (written_at end (165 ∷ [])) (seen c.args.disk.now) (seen c.shut_end.new.disk) (seen c.write_two_synced.new.disk) (seen c.write_synced.new.disk)
     c.in-Ok.ensures.seen c.in-Ok-write_two_synced.ensures.seen) c.write_synced.ensures.seen)

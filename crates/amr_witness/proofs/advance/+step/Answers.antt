@@ -17,7 +17,7 @@ use Rattle.amr_def.specs.Ledger.{first_of}
 use Rattle.amr_def.proofs.Flows.{net_is}
 use Rattle.amr_witness.specs.declared.PlainLevel.{PlainLevel}
 use Rattle.amr_witness.specs.Maps.{boxes_in, masses_in, masses_of, old_of}
-use Rattle.amr_witness.specs.Ready.{IsFace, IsReady, IsWithin, flux_bound}
+use Rattle.amr_witness.specs.Ready.{IsFace, AreReadyToStep, IsWithin, flux_bound}
 use Rattle.amr_witness.specs.Parts.{new_mass, through_both, west_face, east_face, south_face, north_face, low_child, high_child}
 use Rattle.amr_witness.proofs.MapLaws.{cell_cmp_total, none_updated, put_more}
 use Rattle.amr_witness.proofs.Sizes.{power_of_four_high}
@@ -244,7 +244,7 @@ step_levels-step_levels-requires-2 t c =
     let masses = ap masses_in c.as_slice-2.ensures.value ∙ c.in_ok-first.ensures.masses in
     let middle = rest_middle_ready c.args.p.now c.args.level c.args.levels.now c.in-Some.here.now c.in-Some.finer.now (old_of c.args.old) parts.0 c.requires.ready in (
       omega (arith, c.decreases, parts.1, lens),
-      (omega (arith, c.requires.known, parts.1, lens), subst (λ (ms : List Masses). IsReady c.args.p.now (c.args.level + 1) ms (masses_of c.in-Some.here.now.masses)) (sym masses) middle),
+      (omega (arith, c.requires.known, parts.1, lens), subst (λ (ms : List Masses). AreReadyToStep c.args.p.now (c.args.level + 1) ms (masses_of c.in-Some.here.now.masses)) (sym masses) middle),
     )
 
 pub step_levels-returns-clause-masses : goal.step_levels-returns-clause-masses
@@ -281,7 +281,7 @@ through_both-through_children-requires-2 t c =
     let lens : length c.as_slice.result.now ≡ length c.args.finer.now = ap length c.as_slice.ensures.value ∙ c.in_ok-middle.ensures.count in
     let masses = ap masses_in c.as_slice.ensures.value ∙ c.in_ok-middle.ensures.masses in (
       omega (arith, c.decreases, lens),
-      (omega (arith, c.requires.known, lens), (subst (λ (ms : List Masses). IsReady c.args.p.now (c.args.level + 1) ms (masses_of c.args.m.now)) (sym masses) c.requires.middle, c.requires.inside)),
+      (omega (arith, c.requires.known, lens), (subst (λ (ms : List Masses). AreReadyToStep c.args.p.now (c.args.level + 1) ms (masses_of c.args.m.now)) (sym masses) c.requires.middle, c.requires.inside)),
     )
 
 pub through_both-overflow_add-result : goal.through_both-overflow_add-result

@@ -5,17 +5,17 @@ use Rattle.amr_def.specs.LevelStep.{step}
 use Rattle.amr_def.specs.Ledger.{first_of, inflow, outflow, row_after}
 use Rattle.amr_witness.specs.declared.PlainLevel.{PlainLevel}
 use Rattle.amr_witness.specs.Maps.{boxes_in, masses_in, masses_of, state_of}
-use Rattle.amr_witness.specs.Ready.{IsReady, HasSmallMasses}
+use Rattle.amr_witness.specs.Ready.{AreReadyToStep, HasSmallMasses}
 use Rattle.amr_witness.proofs.States.{plain_ready, some_level, first_masses, small_after, state_after, row_is}
 use Rattle.amr_witness.proofs.advance.slow_step.Goals as goal
 
 pub step_levels-requires-clause-ready : goal.step_levels-requires-clause-ready
 step_levels-requires-clause-ready c =
-    subst (λ (ks : List PlainLevel). IsReady c.args.p.now 0 (masses_in ks) no_masses) (sym c.as_slice.ensures.value) (plain_ready c.args.p.now (state_of c.args.state.now) c.args.state.now.levels.items refl c.requires.sound c.requires.before)
+    subst (λ (ks : List PlainLevel). AreReadyToStep c.args.p.now 0 (masses_in ks) no_masses) (sym c.as_slice.ensures.value) (plain_ready c.args.p.now (state_of c.args.state.now) c.args.state.now.levels.items refl c.requires.sound c.requires.before)
 
 pub row_after-requires-clause-ready : goal.row_after-requires-clause-ready
 row_after-requires-clause-ready c =
-    subst (λ (ks : List PlainLevel). IsReady c.args.p.now 0 (masses_in ks) no_masses) (sym c.as_slice-2.ensures.value) (plain_ready c.args.p.now (state_of c.args.state.now) c.args.state.now.levels.items refl c.requires.sound c.requires.before)
+    subst (λ (ks : List PlainLevel). AreReadyToStep c.args.p.now 0 (masses_in ks) no_masses) (sym c.as_slice-2.ensures.value) (plain_ready c.args.p.now (state_of c.args.state.now) c.args.state.now.levels.items refl c.requires.sound c.requires.before)
 
 pub row_after-requires-clause-small : goal.row_after-requires-clause-small
 row_after-requires-clause-small c =

@@ -1,12 +1,13 @@
 use Rattle.std.proofs.Common.{◌∙◌, sym}
 use Rattle.amr_store.proofs.Openings.{finds_of, ready_found}
-use Rattle.amr_store.proofs.Pieces.{if_ok_map, if_ok_both}
+use Rattle.std.proofs.lemmas.Result.{IfOk-weaker}
+use Rattle.amr_store.proofs.Pieces.{if_ok_both}
 use Rattle.amr_store.proofs.Readings.{reads_settled}
 use Rattle.amr_store.proofs.Readings.{reads_on}
 use Rattle.amr_store.proofs.store.Store.open.Goals as goal
 
 pub returns-in-Ok-clause-finds : goal.returns-in-Ok-clause-finds
-returns-in-Ok-clause-finds g c = if_ok_map c.find.result _ _ c.find.ensures.told (λ found told s is. finds_of found s (told s (c.settle.ensures.reads.same ∙ is)))
+returns-in-Ok-clause-finds g c = IfOk-weaker c.find.result _ _ (λ found told s is. finds_of found s (told s (c.settle.ensures.reads.same ∙ is))) c.find.ensures.told
 
 pub returns-in-Ok-clause-ready : goal.returns-in-Ok-clause-ready
 returns-in-Ok-clause-ready g c =

@@ -1,7 +1,8 @@
 use Rattle.std.proofs.Common.{◌≡◌, ◌⊎◌, sym, ◌∙◌, ap, subst, ℕ, false}
 use Rattle.amr_disk.specs.Moments.{StopsIn}
-use Rattle.amr_store.proofs.Joins.{shut_stays, mapped_on, here, one, two, three, on_ok_both}
-use Rattle.amr_store.proofs.Joins.{on_ok_map}
+use Rattle.amr_store.proofs.Joins.{shut_stays, mapped_on, here, one, two, three}
+use Rattle.amr_causes.proofs.Results.{on_ok_both}
+use Rattle.std.proofs.lemmas.Result.{on_ok_weaker}
 use Rattle.amr_store.proofs.Puts.{put_seen, other_stays}
 use Rattle.amr_store.specs.declared.store.Store.{Store}
 use Rattle.amr_store.specs.Next.{first_with, second_with}
@@ -23,7 +24,7 @@ open_gate-requires-clause-filled g c shut s is =
     )
 
 pub returns-in-Ok-fill-clause-put : goal.returns-in-Ok-fill-clause-put
-returns-in-Ok-fill-clause-put g c shut = on_ok_both c.open_gate.result _ _ _ (λ seen put s is.
+returns-in-Ok-fill-clause-put g c shut = on_ok_both c.open_gate.result (λ seen put s is.
     let bytes = c.args.bytes.now in
     let store = c.args.self.now in
     let store_1 = c.close_gate.new.self in
@@ -98,7 +99,7 @@ pub returns-in-Ok-fill-clause-seen : goal.returns-in-Ok-fill-clause-seen
 returns-in-Ok-fill-clause-seen g c =
     let seen = g.D.Disk.seen in
     let fill = c.in-Ok-fill.ensures in
-    on_ok_map c.open_gate.result _ _
+    on_ok_weaker c.open_gate.result
     (put_seen c.args.self.now c.close_gate.new.self c.fill.new.store c.in-Ok.closed.which c.in-Ok-fill.filled.which c.args.sequence c.args.bytes.now (seen c.args.disk.now) (seen c.close_gate.new.disk) (seen c.fill.new.disk) (seen c.open_gate.new.disk)
     c.close_gate.ensures.same fill.store c.in-Ok.ensures.which fill.filled.0 c.in-Ok.ensures.seen fill.seen) c.open_gate.ensures.seen
 
@@ -109,7 +110,7 @@ returns-in-Ok-fill-clause-other g c =
     let later = c.open_gate.new.store in
     let slot = opened_slot c.in-Ok-fill.filled in
     let which : c.in-Ok-fill.filled.which ≡ next_in store = fill.filled.0 ∙ c.in-Ok.ensures.which in
-    on_ok_both c.open_gate.result _ _ _ (λ first second.
+    on_ok_both c.open_gate.result (λ first second.
     other_stays store c.close_gate.new.self later (next_in store) slot c.in-Ok.ensures.first c.in-Ok.ensures.second
     (subst (λ (x : Store). first_in later ≡ first_with (next_in store) slot (first_in x)) fill.store (subst (λ (w : Which). first_in later ≡ first_with w slot (first_in c.fill.new.store)) which first))
     (subst (λ (x : Store). second_in later ≡ second_with (next_in store) slot (second_in x)) fill.store (subst (λ (w : Which). second_in later ≡ second_with w slot (second_in c.fill.new.store)) which second))
