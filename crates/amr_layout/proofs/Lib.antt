@@ -11,3 +11,4 @@ pub mod Samples
 pub mod Lasts
 pub mod OpenSides
 pub mod ByBoxes
+pub mod AlongSides

@@ -1,5 +1,5 @@
 -- The faces on the edges of a patch, and what lies on their other side.
-use Rattle.std.specs.Prelude.{ℕ, ◌+◌, ◌-◌, ◌*◌, Bool, ◌&&◌, not, cond, nat_lt, ℤ, pos, negsuc, neg_ℤ, ◌+ℤ◌, ◌<ℤ◌, List, IsTrue}
+use Rattle.std.specs.Prelude.{◌≡◌, ℕ, ◌+◌, ◌-◌, ◌*◌, Bool, false, ◌&&◌, not, cond, nat_lt, ℤ, pos, negsuc, neg_ℤ, ◌+ℤ◌, ◌<ℤ◌, List, IsTrue}
 use Rattle.std.specs.declared.option.Option.{Option}
 use Rattle.std.specs.declared.option.Option.TheVariants.{None, Some}
 use Rattle.amr_box.specs.declared.Cell.{Cell}
@@ -82,6 +82,11 @@ is_open s b f = not (in_domain (domain_around s) (home_cell (domain_around s) (o
 unfoldable pub is_coarse_fine : Around → Extent → Face → Bool
 is_coarse_fine s b f =
     in_domain (domain_around s) (home_cell (domain_around s) (outside b f)) && not (in_patches s.patches (home_cell (domain_around s) (outside b f)))
+
+-- a cell of the level
+pub record LiesBesideLevel (s : Around) (b : Extent) (f : Face) : Type 0 where
+  pub not_open : is_open s b f ≡ false
+  pub not_coarse_fine : is_coarse_fine s b f ≡ false
 
 -- ---- numbers that fit
 

@@ -8,7 +8,7 @@ ghost use Rattle.amr_def.specs.Domain.{domain, home_cell, in_domain};
 ghost use Rattle.amr_patch.specs.Patches.{ArePatchesApart, in_patches};
 ghost use Rattle.amr_patch.specs.Orders.{IsOrderOf};
 ghost use Rattle.amr_flux.specs.Faces.{IsInDomain};
-ghost use Rattle.amr_layout.specs.Surroundings.{IsInLines, IsNearFace, around, is_coarse_fine};
+ghost use Rattle.amr_layout.specs.Surroundings.{IsInLines, IsNearFace, LiesBesideLevel, around, edge_count, edge_face, is_coarse_fine};
 ghost use Rattle.amr_gaps.specs.Gaps.{HasStarts, IsGap};
 ghost use Rattle.amr_layout.specs.Adds.{AreInOrder, HasCellsBeyond, cell_beyond, flow_to, flows_in, flows_of, inflow_faces, is_exchange_face, is_inflow_face, is_outflow_face, number_of, outflow_faces, register_flows, word_of};
 ghost use Rattle.amr_layout.specs.Flows.{IsAtHome, IsToWord, is_coarser, is_inflow, is_outflow, is_outside, is_register, word_in};
@@ -17,6 +17,7 @@ use crate::AddAt;
 use crate::faces::{edge_count, edge_face, inside, inward, outside};
 use crate::lookup::{Trace, is_covered, look_beside};
 use crate::registers::next_number;
+use crate::stretches::more_beside;
 use amr_box::{Bx, Cell, Face, parent};
 use amr_causes::NoMemory;
 use amr_def::Problem;
@@ -165,6 +166,21 @@ fn flow_of(s: Surroundings<'_>, near: &mut Near, b: &Bx, f: Face) -> Flow
     }
 }
 
+/// How many of the faces after face `n`, where that one's flow goes, lie beside the patch found last: their flows go nowhere.
+fn more_kept(s: Surroundings<'_>, at: usize, b: &Bx, n: u32, flow: Flow) -> u32
+    requires level { s.level ≤ 4 }
+    requires near { IsNear b.now }
+    requires inside { IsInDomain (domain s.problem.now s.level) b.now }
+    requires there { n < edge_count b.now }
+    ensures count { n + result < edge_count b.now }
+    ensures beside { (m : ℕ) → n < m → m ≤ n + result → LiesBesideLevel (around s.entry.problem.now s.entry.level s.entry.patches.now s.entry.cells.now (option_copied s.entry.finer)) b.now (edge_face b.now m) }
+{
+    match flow {
+        Flow::Kept => more_beside(s, at, b, n),
+        _ => 0,
+    }
+}
+
 /// The add of a face to the word of a register cell.
 fn register_add(alloc: Global, word: u32, f: Face) -> Result<AddAt, NoMemory>
     ensures word { IfOk result (λ a. a.word ≡ word) }
@@ -254,10 +270,13 @@ fn flows_beside(
         outflow: Vec::new(alloc),
         register: Vec::new(alloc),
     };
-    for n in 0..edge_count(b) {
+    let count = edge_count(b);
+    let mut n = 0;
+    'faces: while n < count {
         let f = edge_face(b, n);
         let flow = flow_of(s, near, b, f);
         add_face(alloc, &mut adds, flow, f)?;
+        n = n + 1 + more_kept(s, near.level.patch, b, n, flow);
     }
     Ok(adds)
 }

@@ -10,6 +10,7 @@ mod layouts;
 mod lookup;
 mod places;
 mod registers;
+mod stretches;
 #[cfg(test)]
 mod tests;
 

@@ -1,15 +1,19 @@
-use Rattle.std.proofs.Common.{◌≡◌, ◌+◌, ◌*◌, ◌<◌, length, map}
+use Rattle.std.proofs.Common.{◌≡◌, ◌+◌, ◌*◌, ◌-◌, ◌≤◌, ◌<◌, length, map}
 use Rattle.std.specs.Option.{option_copied}
 use Rattle.std.specs.List.{All}
 use Rattle.amr_flux.specs.Faces.{passing}
-use Rattle.amr_layout.specs.Surroundings.{around, edge_face}
+use Rattle.amr_layout.specs.Surroundings.{around, edge_count, edge_face}
 use Rattle.amr_gaps.specs.Gaps.{IsGap}
 use Rattle.amr_layout.specs.Adds.{flow_to, flows_in, is_exchange_face, is_inflow_face, is_outflow_face, word_of}
 use Rattle.amr_layout.proofs.adds.flows_beside.Given as goal
 
+abbrev pub decreases-faces : goal.decreases-faces
+decreases-faces l = l.count - l.n
+
 -- the first n faces go where they go
-abbrev pub invariant-loop-n : goal.invariant-loop-n
-invariant-loop-n l = record {
+abbrev pub invariant-faces : goal.invariant-faces
+invariant-faces l = record {
+  within : l.n ≤ edge_count l.b;
   gap : IsGap l.s.patches.now l.near.level.gap;
   inflow : l.adds.inflow.items ≡ passing (is_inflow_face (around l.s.problem.now l.s.level l.s.patches.now l.s.cells.now (option_copied l.s.finer)) l.b) (edge_face l.b) l.n;
   outflow : l.adds.outflow.items ≡ passing (is_outflow_face (around l.s.problem.now l.s.level l.s.patches.now l.s.cells.now (option_copied l.s.finer)) l.b) (edge_face l.b) l.n;
