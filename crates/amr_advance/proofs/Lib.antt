@@ -10,7 +10,6 @@ pub mod CoarseParts
 mod Absorbed
 mod Parts
 mod Advancing
-mod EmptyRing
 mod Stepped
 pub mod SameLayouts
 mod KeptLaws

@@ -19,6 +19,3 @@ pub use kept::KeptLayout;
 pub use regs::{Crew, Regs};
 pub use running::Workers;
 pub use steps::{advance, advance_kept};
-
-#[cfg(test)]
-mod tests;

@@ -8,6 +8,3 @@ mod patches;
 pub use boxes::are_same;
 pub use copies::copy_masses;
 pub use patches::{boxes_of, have_boxes, have_same_boxes};
-
-#[cfg(test)]
-mod tests;

@@ -11,6 +11,3 @@ mod team;
 
 pub use kept::Kept;
 pub use steps::{step, step_kept};
-
-#[cfg(test)]
-mod tests;

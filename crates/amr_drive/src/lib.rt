@@ -13,6 +13,3 @@ mod starts;
 pub use after::{AfterStep, Nothing};
 pub use drives::{DriveFault, drive};
 pub use starts::start;
-
-#[cfg(test)]
-mod tests;

@@ -16,7 +16,6 @@ pub mod PatchRefluxes
 pub mod NetOver
 pub mod RegisterRows
 pub mod Once
-pub mod OneBox
 pub mod RowSpans
 pub mod ColumnSkips
 pub mod NotBeside

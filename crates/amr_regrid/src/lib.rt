@@ -9,7 +9,5 @@ mod boxes;
 mod levels;
 mod masses;
 mod regrids;
-#[cfg(test)]
-mod tests;
 
 pub use regrids::regrid;

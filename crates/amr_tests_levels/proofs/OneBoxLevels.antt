@@ -1,12 +1,12 @@
 -- Levels of one box, for the tests.
-use Rattle.std.proofs.Common.{◌≡◌, ◌≢◌, ℕ, ◌<◌, Bool, true, false, cond, ℤ, pos, ◌≤ℤ◌, ◌<ℤ◌, List, [], ◌∷◌, refl, sym, ap, subst, ◌∙◌, arith}
+use Rattle.std.proofs.Common.{◌≡◌, ◌≢◌, ◌⊎◌, inl, inr, ℕ, ◌<◌, Bool, true, false, cond, ℤ, pos, ◌≤ℤ◌, ◌<ℤ◌, List, [], ◌∷◌, refl, sym, ap, subst, ◌∙◌, arith}
 use Rattle.std.specs.Prelude.{is_some}
 use Rattle.std.specs.declared.option.Option.{Option}
 use Rattle.std.specs.declared.option.Option.TheVariants.{None, Some}
 use Rattle.std.specs.Option.{unwrap_or}
 use Rattle.std.specs.List.{All}
 use Rattle.std.proofs.lemmas.Grind.{get_or_head}
-use Rattle.std.proofs.lemmas.Bool.{and_from}
+use Rattle.std.proofs.lemmas.Bool.{and_from, or_cases}
 use Rattle.std.proofs.lemmas.Int.{ints}
 use Rattle.std.proofs.Math.Bool.{or-false}
 use Rattle.amr_box.specs.declared.Cell.{Cell}
@@ -18,7 +18,7 @@ use Rattle.amr_def.specs.Facts.{IsLevel}
 use Rattle.amr_def.specs.State.{Level, Masses, in_boxes}
 use Rattle.amr_def.proofs.Stepping.{level_kept}
 use Rattle.amr_ghost.specs.Filling.{LiesInDomain}
-use Rattle.amr_patch.specs.Patches.{AreApart, AreNear}
+use Rattle.amr_patch.specs.Patches.{AreApart, AreNear, IsNearCell}
 use Rattle.amr_patch.proofs.Rows.{inside}
 
 pub in_one : (b : Extent) (c : Cell) → in_boxes (b ∷ []) c ≡ holds b c
@@ -32,6 +32,14 @@ one_apart b = λ i j d below there c x y. absurd (too_many i j below there)
 
 pub one_near : (b : Extent) → IsNear b → AreNear (b ∷ [])
 one_near b near = λ c h. let here = inside b c (sym (in_one b c) ∙ h) in record { west = omega (arith, ints, near.west, here.west); east = omega (arith, ints, near.east, here.east); south = omega (arith, ints, near.south, here.south); north = omega (arith, ints, near.north, here.north) }
+
+-- two boxes, each near
+pub two_near : (a b : Extent) → IsNear a → IsNear b → AreNear (a ∷ b ∷ [])
+two_near a b near_a near_b = λ c h. either c (or_cases (holds a c) (in_boxes (b ∷ []) c) h)
+  where
+    either : (c : Cell) → (holds a c ≡ true) ⊎ (in_boxes (b ∷ []) c ≡ true) → IsNearCell c
+    either c (inl e) = one_near a near_a c (in_one a c ∙ e)
+    either c (inr e) = one_near b near_b c e
 
 in_whole : (p : Problem) (l : ℕ) (b : Extent) (c : Cell) → LiesInDomain (domain p l) b → holds b c ≡ true → in_domain (domain p l) c ≡ true
 unfolding in_domain

@@ -5,55 +5,21 @@ ghost use Rattle.std.specs.Prelude.{◌≡◌, ℕ, ◌<◌, ◌≤◌, length, 
 ghost use Rattle.amr_box.specs.declared.Cell.{Cell};
 ghost use Rattle.amr_box.specs.Cells.{holds};
 ghost use Rattle.amr_def.specs.Domain.{domain, domain_of, in_domain};
-ghost use Rattle.amr_def.specs.Limits.{has_inflows};
 ghost use Rattle.amr_patch.specs.declared.patches.Patch.{Patch};
 ghost use Rattle.amr_patch.specs.Patches.{ArePatchesApart, box};
 ghost use Rattle.amr_ghost.specs.Frames.{AreInDomain};
 
 use amr_box::{Bx, Cell};
-use amr_def::{Blocks, Dom, Name, Problem, Shear, Sides, Thresholds};
+use amr_def::{Dom, Problem, Sides};
 use amr_gaps::starts_of;
 use amr_ghost::{fill, fill_in_order, fill_planned, plan_frames};
 use amr_patch::{Level, Patch, order_of};
+use amr_samples::problem;
 use std::alloc::Global;
 use std::test::Fail;
 
 const fn cell(x: i32, y: i32) -> Cell {
     Cell { x, y }
-}
-
-/// A problem of `nx` by `ny` cells.
-fn problem(alloc: Global, nx: u32, ny: u32, x: Sides, y: Sides) -> Result<Problem, Fail>
-    requires some_columns { 2 ≤ nx }
-    requires few_columns { nx ≤ 16 }
-    requires some_rows { 2 ≤ ny }
-    requires few_rows { ny ≤ 16 }
-    requires x_inflows { has_inflows x ≡ true }
-    requires y_inflows { has_inflows y ≡ true }
-{
-    Ok(Problem {
-        version: 1,
-        name: Name::make(Vec::from_slice(alloc, b"ghosts")?),
-        nx,
-        ny,
-        steps: 2,
-        cx: 1,
-        cy: 0,
-        d: 1,
-        shear_x: Shear::make(Vec::new(alloc)),
-        shear_y: Shear::make(Vec::new(alloc)),
-        x_sides: x,
-        y_sides: y,
-        max_level: 1,
-        tag: Thresholds::make(Vec::from_slice(alloc, [9].as_slice())?),
-        n_error_buf: 0,
-        efficiency: 80,
-        min_width: 1,
-        regrid_int: 4096,
-        blocking: 2,
-        max_grid_size: 4,
-        blocks: Blocks::make(Vec::new(alloc)),
-    })
 }
 
 /// The patch from column `x0` to `x1` and from row `y0` to `y1`, where there is such a box.
@@ -153,39 +119,56 @@ fn are_in_domain(p: &Problem, l: u32, patches: &[Patch]) -> bool
     true
 }
 
-/// Fills the frames of the patches of level `l`, if they are those of a level.
-fn fill_level(p: &Problem, l: u32, patches: &mut [Patch], old: Option<&Level>) -> bool
+/// Whether the patches are apart and lie in the domain of level `l`.
+fn are_of_level(p: &Problem, l: u32, patches: &[Patch]) -> bool
     requires { l ≤ 4 }
+    ensures apart { result ≡ true → ArePatchesApart patches.now }
+    ensures inside { result ≡ true → AreInDomain (domain p.now l) patches.now }
 {
     if !are_apart(patches) {
         return false;
     }
-    if !are_in_domain(p, l, patches) {
-        return false;
-    }
-    fill(p, l, patches, old);
-    true
+    are_in_domain(p, l, patches)
 }
 
-/// The same, where it is known where the patches start.
-fn fill_by_starts(
+/// How frames are filled.
+#[derive(Clone, Copy)]
+enum Way {
+    /// Cell by cell.
+    Search,
+    /// Where it is known where the patches start.
+    Starts,
+    /// By a plan that was made for the patches as they stand.
+    Plan,
+}
+
+/// Fills the frames of the patches of level `l`, if they are those of a level.
+fn fill_level(
     alloc: Global,
     p: &Problem,
     l: u32,
     patches: &mut [Patch],
     old: Option<&Level>,
+    way: Way,
 ) -> Result<bool, Fail>
     requires { l ≤ 4 }
 {
-    if !are_apart(patches) {
+    if !are_of_level(p, l, patches) {
         return Ok(false);
     }
-    if !are_in_domain(p, l, patches) {
-        return Ok(false);
+    match way {
+        Way::Search => fill(p, l, patches, old),
+        Way::Starts => {
+            let starts = starts_of(alloc, patches)?;
+            let order = order_of(patches);
+            fill_in_order(p, l, patches, order, Some(&starts), old);
+        }
+        Way::Plan => {
+            let starts = starts_of(alloc, patches)?;
+            let plan = plan_frames(alloc, p, l, patches, order_of(patches), &starts)?;
+            fill_planned(p, l, patches, &plan, old);
+        }
     }
-    let starts = starts_of(alloc, patches)?;
-    let order = order_of(patches);
-    fill_in_order(p, l, patches, order, Some(&starts), old);
     Ok(true)
 }
 
@@ -201,7 +184,7 @@ fn ring_in_three_patches(rt: HostRuntime) -> Result<(), Fail> {
     assert!(rt; set(&mut patches, 1, cell(4, 0), 5));
     assert!(rt; set(&mut patches, 2, cell(8, 0), 8));
     assert!(rt; set(&mut patches, 2, cell(8, 2), 9));
-    assert!(rt; fill_level(&p, 0, &mut patches, None));
+    assert!(rt; fill_level(alloc, &p, 0, &mut patches, None, Way::Search)?);
     assert_eq!(rt; ghost_at(&patches, 0, cell(-1, 0)), Some((8, true)));
     assert_eq!(rt; ghost_at(&patches, 0, cell(-1, 2)), Some((9, true)));
     assert_eq!(rt; ghost_at(&patches, 0, cell(4, 0)), Some((5, true)));
@@ -221,7 +204,7 @@ fn one_patch_beside_itself(rt: HostRuntime) -> Result<(), Fail> {
     patches.push(patch(alloc, 0, 0, 3, 1)?)?;
     assert!(rt; set(&mut patches, 0, cell(3, 0), 7));
     assert!(rt; set(&mut patches, 0, cell(0, 1), 6));
-    assert!(rt; fill_level(&p, 0, &mut patches, None));
+    assert!(rt; fill_level(alloc, &p, 0, &mut patches, None, Way::Search)?);
     assert_eq!(rt; ghost_at(&patches, 0, cell(-1, 0)), Some((7, true)));
     assert_eq!(rt; ghost_at(&patches, 0, cell(4, 1)), Some((6, true)));
     assert_eq!(rt; ghost_at(&patches, 0, cell(3, 2)), Some((7, true)));
@@ -235,7 +218,7 @@ fn beyond_open_sides(rt: HostRuntime) -> Result<(), Fail> {
     let p = problem(alloc, 2, 2, Sides::Open(6, 40), Sides::Open(17, 3))?;
     let mut patches = Vec::new(alloc);
     patches.push(patch(alloc, 0, 0, 1, 1)?)?;
-    assert!(rt; fill_level(&p, 0, &mut patches, None));
+    assert!(rt; fill_level(alloc, &p, 0, &mut patches, None, Way::Search)?);
     assert_eq!(rt; ghost_at(&patches, 0, cell(-1, 1)), Some((6, false)));
     assert_eq!(rt; ghost_at(&patches, 0, cell(2, 0)), Some((40, false)));
     assert_eq!(rt; ghost_at(&patches, 0, cell(0, -1)), Some((17, false)));
@@ -243,7 +226,7 @@ fn beyond_open_sides(rt: HostRuntime) -> Result<(), Fail> {
 
     let mut fine = Vec::new(alloc);
     fine.push(patch(alloc, 0, 0, 3, 3)?)?;
-    assert!(rt; fill_level(&p, 1, &mut fine, None));
+    assert!(rt; fill_level(alloc, &p, 1, &mut fine, None, Way::Search)?);
     assert_eq!(rt; ghost_at(&fine, 0, cell(-1, 1)), Some((1, false)));
     assert_eq!(rt; ghost_at(&fine, 0, cell(4, 0)), Some((10, false)));
     assert_eq!(rt; ghost_at(&fine, 0, cell(0, -1)), Some((4, false)));
@@ -266,7 +249,7 @@ fn quarters_of_the_coarser_level(rt: HostRuntime) -> Result<(), Fail> {
 
     let mut fine = Vec::new(alloc);
     fine.push(patch(alloc, 4, 0, 5, 1)?)?;
-    assert!(rt; fill_level(&p, 1, &mut fine, Some(&old)));
+    assert!(rt; fill_level(alloc, &p, 1, &mut fine, Some(&old), Way::Search)?);
     assert_eq!(rt; ghost_at(&fine, 0, cell(3, 0)), Some((1, false)));
     assert_eq!(rt; ghost_at(&fine, 0, cell(3, 1)), Some((1, false)));
     assert_eq!(rt; ghost_at(&fine, 0, cell(6, 0)), Some((0, false)));
@@ -310,7 +293,7 @@ fn over_two_coarse_patches(alloc: Global) -> Result<Vec<Patch>, Fail> {
     let p = problem(alloc, 8, 2, Sides::Periodic, Sides::Periodic)?;
     let old = level_with(alloc, two_coarse_patches(alloc)?)?;
     let mut fine = two_fine_patches(alloc)?;
-    let _filled = fill_by_starts(alloc, &p, 1, &mut fine, old.as_ref())?;
+    let _filled = fill_level(alloc, &p, 1, &mut fine, old.as_ref(), Way::Starts)?;
     Ok(fine)
 }
 
@@ -326,35 +309,13 @@ fn runs_over_two_coarse_patches(rt: HostRuntime) -> Result<(), Fail> {
     Ok(())
 }
 
-/// Fills frames by a plan that was made for the patches as they stand.
-fn fill_by_plan(
-    alloc: Global,
-    p: &Problem,
-    l: u32,
-    patches: &mut [Patch],
-    old: Option<&Level>,
-) -> Result<bool, Fail>
-    requires { l ≤ 4 }
-{
-    if !are_apart(patches) {
-        return Ok(false);
-    }
-    if !are_in_domain(p, l, patches) {
-        return Ok(false);
-    }
-    let starts = starts_of(alloc, patches)?;
-    let plan = plan_frames(alloc, p, l, patches, order_of(patches), &starts)?;
-    fill_planned(p, l, patches, &plan, old);
-    Ok(true)
-}
-
 #[test]
 fn planned_over_two_coarse_patches(rt: HostRuntime) -> Result<(), Fail> {
     let alloc = rt.alloc();
     let p = problem(alloc, 8, 2, Sides::Periodic, Sides::Periodic)?;
     let old = level_with(alloc, two_coarse_patches(alloc)?)?;
     let mut fine = two_fine_patches(alloc)?;
-    assert!(rt; fill_by_plan(alloc, &p, 1, &mut fine, old.as_ref())?);
+    assert!(rt; fill_level(alloc, &p, 1, &mut fine, old.as_ref(), Way::Plan)?);
     assert_eq!(rt; ghost_at(&fine, 0, cell(7, 2)), Some((4, false)));
     assert_eq!(rt; ghost_at(&fine, 0, cell(8, 2)), Some((5, false)));
     assert_eq!(rt; ghost_at(&fine, 0, cell(10, 2)), Some((13, true)));
@@ -368,7 +329,7 @@ fn at_open_sides(alloc: Global) -> Result<Vec<Patch>, Fail> {
     let mut fine = Vec::new(alloc);
     fine.push(patch(alloc, 0, 0, 3, 3)?)?;
     fine.push(patch(alloc, 6, 0, 7, 3)?)?;
-    let _filled = fill_by_plan(alloc, &p, 1, &mut fine, None)?;
+    let _filled = fill_level(alloc, &p, 1, &mut fine, None, Way::Plan)?;
     Ok(fine)
 }
 

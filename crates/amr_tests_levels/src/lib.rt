@@ -3,6 +3,8 @@
 #![tactic(auto)]
 
 #[cfg(test)]
+mod alike;
+#[cfg(test)]
 mod boxes;
 #[cfg(test)]
 mod cluster;
@@ -20,8 +22,6 @@ mod plain_cluster;
 mod random_sets;
 #[cfg(test)]
 mod register;
-#[cfg(test)]
-mod ring;
 #[cfg(test)]
 mod sign;
 #[cfg(test)]

@@ -1,8 +1,8 @@
 //! The register of a ring.
 
-use crate::ring::{empty_level, fine_box, ring, whole_box};
 use amr_box::Cell;
 use amr_register::Register;
+use amr_samples::{empty_level, fine_box, ring, whole_box};
 use std::test::Fail;
 
 /// The wind carries each unit of mass one cell to the east in a step. So the 100 units of cell (1, 0) leave it through its

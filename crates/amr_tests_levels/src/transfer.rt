@@ -9,55 +9,12 @@ ghost use Rattle.amr_patch.specs.Levels.{level_of, patches_of};
 ghost use Rattle.amr_patch.specs.Patches.{AreApart, AreNear, box};
 ghost use Rattle.amr_transfer.specs.Sums.{AreCoarsenable};
 
+use crate::boxes::side_by_side;
 use amr_box::{Bx, Cell};
 use amr_causes::NoMemory;
 use amr_patch::Level;
 use amr_transfer::{split_into, sum_up};
 use std::alloc::Global;
-
-/// The boxes (0, 0) to (0, 0) and (1, 0) to (3, 0).
-fn coarse_boxes() -> [Bx; 2]
-    ensures are { result ≡ extent (cell (pos 0) (pos 0)) (cell (pos 0) (pos 0)) ∷ extent (cell (pos 1) (pos 0)) (cell (pos 3) (pos 0)) ∷ [] }
-    ensures apart { AreApart result }
-    ensures near { AreNear result }
-{
-    let first_lo = Cell { x: 0, y: 0 };
-    let first_hi = Cell { x: 0, y: 0 };
-    let last_lo = Cell { x: 1, y: 0 };
-    let last_hi = Cell { x: 3, y: 0 };
-    let first = Bx::try_new(first_lo, first_hi).unwrap();
-    let last = Bx::try_new(last_lo, last_hi).unwrap();
-    [first, last]
-}
-
-/// The boxes (0, 0) to (1, 1) and (2, 0) to (5, 1).
-fn fine_boxes() -> [Bx; 2]
-    ensures are { result ≡ extent (cell (pos 0) (pos 0)) (cell (pos 1) (pos 1)) ∷ extent (cell (pos 2) (pos 0)) (cell (pos 5) (pos 1)) ∷ [] }
-    ensures apart { AreApart result }
-    ensures near { AreNear result }
-{
-    let first_lo = Cell { x: 0, y: 0 };
-    let first_hi = Cell { x: 1, y: 1 };
-    let last_lo = Cell { x: 2, y: 0 };
-    let last_hi = Cell { x: 5, y: 1 };
-    let first = Bx::try_new(first_lo, first_hi).unwrap();
-    let last = Bx::try_new(last_lo, last_hi).unwrap();
-    [first, last]
-}
-
-/// The boxes (2, 0) to (2, 1) and (3, 0) to (3, 1).
-fn old_boxes() -> [Bx; 2]
-    ensures apart { AreApart result }
-    ensures near { AreNear result }
-{
-    let first_lo = Cell { x: 2, y: 0 };
-    let first_hi = Cell { x: 2, y: 1 };
-    let last_lo = Cell { x: 3, y: 0 };
-    let last_hi = Cell { x: 3, y: 1 };
-    let first = Bx::try_new(first_lo, first_hi).unwrap();
-    let last = Bx::try_new(last_lo, last_hi).unwrap();
-    [first, last]
-}
 
 /// The level of these boxes, each of them a patch, where each mass is 0.
 fn empty_level(alloc: Global, boxes: &[Bx]) -> Result<Level, NoMemory>
@@ -85,11 +42,11 @@ fn put(level: &mut Level, c: Cell, m: u8)
     level.set(c, u64::from(m));
 }
 
-/// A coarse level of the masses 7, 2, 0 and 5.
+/// A coarse level of the boxes (0, 0) to (0, 0) and (1, 0) to (3, 0), with the masses 7, 2, 0 and 5.
 fn coarse_level(alloc: Global) -> Result<Level, NoMemory>
     ensures { IfOk result (λ l. (c : Cell) → is_some ((level_of l).masses c) ≡ in_boxes (extent (cell (pos 0) (pos 0)) (cell (pos 0) (pos 0)) ∷ extent (cell (pos 1) (pos 0)) (cell (pos 3) (pos 0)) ∷ []) c) }
 {
-    let boxes = coarse_boxes();
+    let boxes = side_by_side(0, 0, 3, 0);
     let mut level = empty_level(alloc, &boxes)?;
     put(&mut level, Cell { x: 0, y: 0 }, 7);
     put(&mut level, Cell { x: 1, y: 0 }, 2);
@@ -97,14 +54,14 @@ fn coarse_level(alloc: Global) -> Result<Level, NoMemory>
     Ok(level)
 }
 
-/// A fine level without masses.
+/// A fine level of the boxes (0, 0) to (1, 1) and (2, 0) to (5, 1), without masses.
 fn fine_level(alloc: Global) -> Result<Level, NoMemory>
     ensures filled { IfOk result (λ l. (c : Cell) → is_some ((level_of l).masses c) ≡ in_boxes (level_of l).boxes c) }
     ensures cells { IfOk result (λ l. (c : Cell) → is_some ((level_of l).masses c) ≡ in_boxes (extent (cell (pos 0) (pos 0)) (cell (pos 1) (pos 1)) ∷ extent (cell (pos 2) (pos 0)) (cell (pos 5) (pos 1)) ∷ []) c) }
     ensures small { IfOk result (λ l. (c : Cell) → mass_of (level_of l).masses c < 256) }
     ensures coarsenable { IfOk result (λ l. AreCoarsenable (patches_of l)) }
 {
-    let boxes = fine_boxes();
+    let boxes = side_by_side(0, 1, 5, 1);
     let level = empty_level(alloc, &boxes)?;
     Ok(level)
 }
@@ -140,7 +97,7 @@ fn children_share_their_parents_mass(rt: HostRuntime) -> Result<(), NoMemory> {
 #[test]
 fn old_cells_keep_their_masses(rt: HostRuntime) -> Result<(), NoMemory> {
     let coarse = coarse_level(rt.alloc())?;
-    let boxes = old_boxes();
+    let boxes = side_by_side(2, 2, 3, 1);
     let mut old = empty_level(rt.alloc(), &boxes)?;
     put(&mut old, Cell { x: 2, y: 0 }, 9);
     put(&mut old, Cell { x: 3, y: 1 }, 6);

@@ -10,7 +10,7 @@ use Rattle.amr_patch.specs.Levels.{level_of}
 use Rattle.amr_register.specs.RegisterCells.{is_register_cell}
 use Rattle.amr_register.specs.Registers.{cells_in, entry_in}
 use Rattle.amr_register.proofs.CellLists.{of_level, where_passes}
-use Rattle.amr_register.proofs.OneBox.{finer_ring, nested_ring, whole_ring}
+use Rattle.amr_samples.proofs.OneBox.{finer_ring, nested_ring, whole_ring}
 use Rattle.amr_tests_levels.proofs.OneBoxLevels.{cells_of}
 use Rattle.amr_tests_levels.proofs.RefluxedRing.{at_most, entries_small, patch_inside, same_cells}
 use Rattle.amr_tests_levels.proofs.register.the_ring_has_three_register_cells.Goals as goal

@@ -9,7 +9,7 @@ pub returns-clause-filled : goal.returns-clause-filled
 returns-clause-filled c d = c.in_ok-level.ensures.cells d ∙ ap (λ (bs : List Extent). in_boxes bs d) (sym c.in_ok-level.ensures.boxes)
 
 pub returns-clause-cells : goal.returns-clause-cells
-returns-clause-cells c d = c.in_ok-level.ensures.cells d ∙ ap (λ (bs : List Extent). in_boxes bs d) c.fine_boxes-boxes.ensures.are
+returns-clause-cells c d = c.in_ok-level.ensures.cells d ∙ ap (λ (bs : List Extent). in_boxes bs d) c.side_by_side-boxes.ensures.are
 
 pub returns-clause-coarsenable : goal.returns-clause-coarsenable
-returns-clause-coarsenable c = coarsenable_from c.fine_boxes-boxes.result (patches_of c.in_ok-level.level) c.fine_boxes-boxes.ensures.are c.in_ok-level.ensures.patches
+returns-clause-coarsenable c = coarsenable_from c.side_by_side-boxes.result (patches_of c.in_ok-level.level) c.side_by_side-boxes.ensures.are c.in_ok-level.ensures.patches

@@ -1,30 +1,20 @@
 //! Boxes compared, and masses copied.
 
-ghost use Rattle.amr_patch.specs.Patches.{AreApart, AreNear};
-
-use super::*;
+use crate::boxes::side_by_side;
+use amr_alike::{are_same, boxes_of, copy_masses, have_boxes, have_same_boxes};
 use amr_box::{Bx, Cell};
 use amr_causes::NoMemory;
 use amr_patch::Level;
 use std::alloc::Global;
 
 /// Columns 0 and 1 of rows 0 and 1.
-fn two_columns() -> [Bx; 2]
-    ensures apart { AreApart result }
-    ensures near { AreNear result }
-{
-    let west_lo = Cell { x: 0, y: 0 };
-    let west_hi = Cell { x: 0, y: 1 };
-    let east_lo = Cell { x: 1, y: 0 };
-    let east_hi = Cell { x: 1, y: 1 };
-    let west = Bx::try_new(west_lo, west_hi).unwrap();
-    let east = Bx::try_new(east_lo, east_hi).unwrap();
-    [west, east]
+fn two_columns() -> [Bx; 2] {
+    side_by_side(0, 0, 1, 1)
 }
 
 /// A level of both columns, with this mass in the cell (1, 1).
 fn level_with(alloc: Global, mass: u8) -> Result<Level, NoMemory> {
-    let boxes = two_columns();
+    let boxes = side_by_side(0, 0, 1, 1);
     let mut level = Level::make(alloc, &boxes, &boxes)?;
     let c = Cell { x: 1, y: 1 };
     if level.get(c).is_some() {

@@ -3,7 +3,7 @@ use Rattle.amr_patch.specs.declared.levels.Level.{Level as Held}
 use Rattle.amr_cycle.specs.Cycles.{AreCoarsenableAbove, patch_boxes}
 use Rattle.amr_cycle.proofs.Coarsenable.{all_coarsenable, same_count}
 use Rattle.std.proofs.lemmas.Result.{on_ok_weaker}
-use Rattle.amr_cycle.proofs.tests.make_step.Goals as goal
+use Rattle.amr_tests_steps.proofs.cycle.make_step.Goals as goal
 
 rest : {X : Type 0} → List X → List X
 rest [] = []

@@ -7,11 +7,12 @@ use Rattle.std.proofs.lemmas.List.Elements.{All-cons, All-nil}
 use Rattle.amr_box.specs.declared.Cell.{Cell}
 use Rattle.amr_box.specs.Cells.{Extent, IsProper, cell, extent, holds}
 use Rattle.amr_def.specs.declared.problem.Problem.{Problem}
-use Rattle.amr_def.specs.Domain.{columns, domain, rows}
+use Rattle.amr_def.specs.Domain.{columns, rows}
 use Rattle.amr_def.specs.Facts.{IsAligned, IsLevel, IsNestedLevel}
 use Rattle.amr_def.specs.State.{Level, in_boxes}
 use Rattle.amr_patch.proofs.Rows.{inside, is_inside}
-use Rattle.amr_register.proofs.Homes.{in_domain-yes, within_domain}
+use Rattle.amr_def.proofs.Nesting.{in_domain-inside}
+use Rattle.amr_def.proofs.Uncovered.{in_domain-yes}
 
 in_one : (b : Extent) (c : Cell) → in_boxes (b ∷ []) c ≡ true → holds b c ≡ true
 in_one b c h = plain (holds b c) h
@@ -30,7 +31,7 @@ one_box p l k b boxes cells proper west south east north = record {
   disjoint = subst (AllPairs (λ (a e : Extent). (c : Cell) → holds a c ≡ true → holds e c ≡ true → ⊥)) (sym boxes) (λ i j d g lt. absurd (omega arith));
   inside = λ c h.
       let i = inside b c (in_one b c (subst (λ (bs : List Extent). in_boxes bs c ≡ true) boxes h)) in
-      in_domain-yes (domain p l) c (record { west = omega (arith, ints, i.west); east = omega (arith, ints, i.east); south = omega (arith, ints, i.south); north = omega (arith, ints, i.north) });
+      in_domain-yes p l c (record { west = omega (arith, ints, i.west); east = omega (arith, ints, i.east); south = omega (arith, ints, i.south); north = omega (arith, ints, i.north) });
   filled = λ c. cells c ∙ sym (ap (λ (bs : List Extent). in_boxes bs c) boxes);
 }
 
@@ -76,6 +77,6 @@ module _ (p : Problem) (coarse fine : Level) (b e : Extent) (nx : p.nx ≡ 4) (n
   nested_ring = record {
     aligned = subst (λ (n : ℕ). All (IsAligned n) fine.boxes) (sym blocking) (subst (All (IsAligned 2)) (sym (fine_boxes ∙ ap (λ (x : Extent). x ∷ []) is_e)) (All-cons (IsAligned 2) small [] aligned (All-nil (IsAligned 2))));
     around = λ c h near.
-        let w = within_domain (domain p 0) c h in
+        let w = in_domain-inside p 0 c h in
         subst (λ (bs : List Extent). in_boxes bs c ≡ true) (sym (coarse_boxes ∙ ap (λ (x : Extent). x ∷ []) is_b)) (one_in whole c (is_inside whole c (record { west = w.west; east = omega (arith, ints, w.east, four); south = w.south; north = omega (arith, ints, w.north, two) })));
   }

@@ -1,11 +1,11 @@
-use Rattle.std.proofs.Common.{◌≡◌, ◌<◌, ◌^◌, ◌∷◌, [], List, refl, sym, ap, subst, ◌∙◌, arith}
-use Rattle.std.specs.Prelude.{pos, unsigned_abs}
-use Rattle.amr_box.specs.Cells.{Extent, cell, extent}
+use Rattle.std.proofs.Common.{◌<◌, ◌^◌, ◌∷◌, [], sym, ap, subst, ◌∙◌, arith}
+use Rattle.std.specs.Prelude.{unsigned_abs}
+use Rattle.amr_box.specs.Cells.{Extent}
 use Rattle.amr_def.specs.State.{in_boxes}
 use Rattle.amr_patch.specs.Levels.{level_of}
-use Rattle.amr_register.proofs.OneBox.{finer_ring, nested_ring, whole_ring}
-use Rattle.amr_advance.proofs.EmptyRing.{cells_of_empty, empty_fits, no_inflow_beside, no_outflow_beside, whole_has}
-use Rattle.amr_advance.proofs.tests.an_empty_ring_stays_empty.Goals as goal
+use Rattle.amr_samples.proofs.OneBox.{finer_ring, nested_ring, whole_ring}
+use Rattle.amr_tests_steps.proofs.EmptyRing.{cells_of_empty, empty_fits, no_inflow_beside, no_outflow_beside, whole_has}
+use Rattle.amr_tests_steps.proofs.advance.an_empty_ring_stays_empty.Goals as goal
 
 pub make-requires-clause-coarse : goal.make-requires-clause-coarse
 make-requires-clause-coarse g c =

@@ -1,12 +1,12 @@
 //! A worked regrid: level 0 alone, then two levels, then three.
 
-ghost use Rattle.std.specs.Prelude.{◌≡◌, ◌≤◌, false};
+ghost use Rattle.std.specs.Prelude.{◌≡◌, false};
 ghost use Rattle.amr_patch.specs.Meshes.{is_spent};
 
-use super::*;
-use amr_box::Cell;
+use crate::rows::{corners, row};
 use amr_def::{Block, Blocks, Name, Problem, Shear, Sides, Thresholds};
 use amr_patch::Mesh;
+use amr_regrid::regrid;
 use amr_start::base;
 use std::alloc::Global;
 use std::process::Abort;
@@ -46,52 +46,25 @@ fn ring(alloc: Global) -> Result<Problem, Fail> {
     })
 }
 
-/// The corners of the boxes of a level.
-fn corners(alloc: Global, mesh: &Mesh, l: usize) -> Result<Vec<[i32; 4]>, Fail>
-    requires { is_spent mesh.now ≡ false }
-{
-    let mut all = Vec::new(alloc);
-    if let Some(level) = mesh.levels().get(l) {
-        for b in level.boxes() {
-            all.push([b.lo().x, b.lo().y, b.hi().x, b.hi().y])?;
-        }
-    }
-    Ok(all)
-}
-
-/// The masses of the first `n` cells of a row of a level, 99 for one that is no cell of the level.
-fn row(alloc: Global, mesh: &Mesh, l: usize, y: i32, n: u32) -> Result<Vec<u64>, Fail>
-    requires whole { is_spent mesh.now ≡ false }
-    requires few { n ≤ 11 }
-{
-    let mut all = Vec::new(alloc);
-    if let Some(level) = mesh.levels().get(l) {
-        for x in 0..n {
-            all.push(level.get(Cell { x: x as i32, y }).unwrap_or(99))?;
-        }
-    }
-    Ok(all)
-}
-
 /// The boxes of three levels, and masses that those of two had.
 fn assert_three_levels(rt: &impl Abort, alloc: Global, mesh: &Mesh) -> Result<(), Fail>
     requires { is_spent mesh.now ≡ false }
 {
     assert_eq!(rt; mesh.levels().len(), 3);
     assert_eq!(rt;
-        corners(alloc, mesh, 1)?.as_slice(),
+        corners(alloc, mesh.levels(), 1)?.as_slice(),
         [[0, 0, 5, 3]].as_slice()
     );
     assert_eq!(rt;
-        corners(alloc, mesh, 2)?.as_slice(),
+        corners(alloc, mesh.levels(), 2)?.as_slice(),
         [[2, 0, 5, 3], [4, 4, 5, 7], [6, 0, 9, 1], [6, 6, 7, 7]].as_slice()
     );
     assert_eq!(rt;
-        row(alloc, mesh, 1, 1, 7)?.as_slice(),
+        row(alloc, mesh.levels(), 1, 1, 7)?.as_slice(),
         [0, 0, 2, 1, 0, 0, 99].as_slice()
     );
     assert_eq!(rt;
-        row(alloc, mesh, 2, 2, 7)?.as_slice(),
+        row(alloc, mesh.levels(), 2, 2, 7)?.as_slice(),
         [99, 99, 0, 0, 1, 1, 99].as_slice()
     );
     Ok(())
@@ -106,11 +79,11 @@ fn levels_are_added_one_by_one(rt: HostRuntime) -> Result<(), Fail> {
     regrid(alloc, &p, &mut mesh)?;
     assert_eq!(rt; mesh.levels().len(), 2);
     assert_eq!(rt;
-        corners(alloc, &mesh, 1)?.as_slice(),
+        corners(alloc, mesh.levels(), 1)?.as_slice(),
         [[0, 0, 1, 1], [2, 0, 3, 3], [4, 0, 5, 1]].as_slice()
     );
     assert_eq!(rt;
-        row(alloc, &mesh, 1, 1, 7)?.as_slice(),
+        row(alloc, mesh.levels(), 1, 1, 7)?.as_slice(),
         [0, 0, 2, 1, 0, 0, 99].as_slice()
     );
     regrid(alloc, &p, &mut mesh)?;

@@ -7,15 +7,15 @@ ghost use Rattle.amr_def.specs.State.{in_boxes};
 ghost use Rattle.amr_def.specs.declared.problem.Sides.TheVariants.{Periodic};
 ghost use Rattle.amr_patch.specs.Levels.{level_of};
 
+use crate::problems::problem;
 use amr_box::{Bx, Cell};
 use amr_causes::NoMemory;
-use amr_def::{Blocks, Name, Problem, Shear, Sides, Thresholds};
+use amr_def::{Problem, Sides};
 use amr_patch::Level;
 use std::alloc::Global;
-use std::test::Fail;
 
 /// A ring of 4 by 2 cells, where all that a cell has flows one column on in a step.
-pub(crate) fn ring(alloc: Global) -> Result<Problem, Fail>
+pub fn ring(alloc: Global) -> Result<Problem, NoMemory>
     ensures columns { IfOk result (λ p. p.nx ≡ 4) }
     ensures rows { IfOk result (λ p. p.ny ≡ 2) }
     ensures steps { IfOk result (λ p. p.steps ≡ 2) }
@@ -23,33 +23,11 @@ pub(crate) fn ring(alloc: Global) -> Result<Problem, Fail>
     ensures x_sides { IfOk result (λ p. p.x_sides ≡ Periodic) }
     ensures y_sides { IfOk result (λ p. p.y_sides ≡ Periodic) }
 {
-    Ok(Problem {
-        version: 1,
-        name: Name::make(Vec::from_slice(alloc, b"ring")?),
-        nx: 4,
-        ny: 2,
-        steps: 2,
-        cx: 1,
-        cy: 0,
-        d: 1,
-        shear_x: Shear::make(Vec::new(alloc)),
-        shear_y: Shear::make(Vec::new(alloc)),
-        x_sides: Sides::Periodic,
-        y_sides: Sides::Periodic,
-        max_level: 1,
-        tag: Thresholds::make(Vec::from_slice(alloc, [9].as_slice())?),
-        n_error_buf: 0,
-        efficiency: 80,
-        min_width: 1,
-        regrid_int: 4096,
-        blocking: 2,
-        max_grid_size: 4,
-        blocks: Blocks::make(Vec::new(alloc)),
-    })
+    problem(alloc, 4, 2, Sides::Periodic, Sides::Periodic)
 }
 
 /// All cells of the ring.
-pub(crate) fn whole_box() -> Bx
+pub fn whole_box() -> Bx
     ensures value { result ≡ extent (cell (pos 0) (pos 0)) (cell (pos 3) (pos 1)) }
     ensures near { IsNear result }
 {
@@ -59,7 +37,7 @@ pub(crate) fn whole_box() -> Bx
 }
 
 /// The children of cell (2, 0).
-pub(crate) fn fine_box() -> Bx
+pub fn fine_box() -> Bx
     ensures value { result ≡ extent (cell (pos 4) (pos 0)) (cell (pos 5) (pos 1)) }
     ensures near { IsNear result }
 {
@@ -69,7 +47,7 @@ pub(crate) fn fine_box() -> Bx
 }
 
 /// The level of a box, where each mass is 0.
-pub(crate) fn empty_level(alloc: Global, b: Bx) -> Result<Level, NoMemory>
+pub fn empty_level(alloc: Global, b: Bx) -> Result<Level, NoMemory>
     requires { IsNear b }
     ensures boxes { IfOk result (λ l. (level_of l).boxes ≡ b ∷ []) }
     ensures masses { IfOk result (λ l. (c : Cell) → (level_of l).masses c ≡ cond (in_boxes (b ∷ []) c) (Some 0) None) }

@@ -6,13 +6,14 @@ ghost use Rattle.amr_patch.specs.Meshes.{is_spent, levels_of, state_of};
 ghost use Rattle.amr_cycle.specs.Cycles.{AreCoarsenableAbove};
 ghost use Rattle.amr_cycle.specs.Kept.{IsKept};
 
-use super::*;
+use crate::rows::mass_at;
 use amr_advance::Crew;
-use amr_box::Cell;
 use amr_causes::NoMemory;
+use amr_cycle::{Kept, step, step_kept};
 use amr_decoder::decode2;
-use amr_def::{Blocks, Name, Problem, Shear, Sides, Thresholds};
+use amr_def::Problem;
 use amr_patch::{Level, Mesh};
+use amr_samples::ring;
 use amr_workers::OpenGate;
 use std::alloc::Global;
 use std::test::Fail;
@@ -23,35 +24,6 @@ const CREW: Crew = Crew {
     ranks: 1,
     workers: 2,
 };
-
-/// A ring of 4 by 2 cells, where all that a cell has flows one column on in a step.
-fn ring(alloc: Global) -> Result<Problem, Fail>
-    ensures { IfOk result (λ p. p.steps ≡ 2) }
-{
-    Ok(Problem {
-        version: 1,
-        name: Name::make(Vec::from_slice(alloc, b"ring")?),
-        nx: 4,
-        ny: 2,
-        steps: 2,
-        cx: 1,
-        cy: 0,
-        d: 1,
-        shear_x: Shear::make(Vec::new(alloc)),
-        shear_y: Shear::make(Vec::new(alloc)),
-        x_sides: Sides::Periodic,
-        y_sides: Sides::Periodic,
-        max_level: 1,
-        tag: Thresholds::make(Vec::from_slice(alloc, [9].as_slice())?),
-        n_error_buf: 0,
-        efficiency: 80,
-        min_width: 1,
-        regrid_int: 4096,
-        blocking: 2,
-        max_grid_size: 4,
-        blocks: Blocks::make(Vec::new(alloc)),
-    })
-}
 
 /// The payload of step 0 with a mass of 7 in cell (1, 0), and with one box of columns `x` and `x + 1` on level 1: the step, the row,
 /// two levels.
@@ -78,14 +50,6 @@ fn mesh_of(alloc: Global, p: &Problem, bytes: &[u8]) -> Result<Mesh, Fail>
     ensures coarsenable { IfOk result (λ m. AreCoarsenableAbove (levels_of m)) }
 {
     Ok(decode2(alloc, p, bytes)?)
-}
-
-/// The mass of a cell of level `l`.
-fn mass_at(levels: &[Level], l: usize, x: i32, y: i32) -> Option<u64> {
-    match levels.get(l) {
-        None => None,
-        Some(level) => level.get(Cell { x, y }),
-    }
 }
 
 /// The fine cells take a quarter of 7 each, cut to 1, in both of their steps; the plain coarse flux was 7, so the register gives 3
