@@ -13,7 +13,7 @@ use Rattle.amr_def.specs.declared.problem.Problem.{Problem}
 use Rattle.amr_def.proofs.Flows.{net_is}
 use Rattle.amr_def.proofs.Values.{same_cell, value_here}
 use Rattle.amr_def.proofs.TwoLevels.{together}
-use Rattle.amr_def.proofs.Uncovered.{cond_both, half-double, half-double_next, child_inside, plus_none, home_at, in_domain-yes, HasNoChildren}
+use Rattle.amr_def.proofs.Uncovered.{cond_both, half-double, half-double_next, child_inside, plus_none, home_at, in_domain-yes, HasNoChildren, parent_0, parent_1, parent_2, parent_3, inside_0, inside_1, inside_2, inside_3, before_double, back}
 use Rattle.amr_def.proofs.Courants.{courant_x_first, courant_x_second, courant_y_first, courant_y_second}
 use Rattle.amr_def.proofs.Bounds.{AxisGain, new_mass_bounded}
 use Rattle.amr_def.specs.State.{Masses, mass_of}
@@ -182,36 +182,6 @@ module _ (p : Problem) (l : ℕ) (m old fine fine' : Masses) (b : ℕ) (e1 e2 : 
       low2 : high_cell f ≡ k → IsBackward s → e2 f ≡ quarter s
       low2 e = subst (λ (t : ℤ). IsBackward t → e2 f ≡ quarter t) is (λ h. exact (e2 f) (flows2.low f k (at_home _ e) (same k knone) (in_domain-yes p (suc l) k kinside) h))
 
-    parent_0 : parent (child_0 c) ≡ c
-    parent_0 = same_cell (half-double c.x) (half-double c.y)
-
-    parent_1 : parent (child_1 c) ≡ c
-    parent_1 = same_cell (half-double_next c.x) (half-double c.y)
-
-    parent_2 : parent (child_2 c) ≡ c
-    parent_2 = same_cell (half-double c.x) (half-double_next c.y)
-
-    parent_3 : parent (child_3 c) ≡ c
-    parent_3 = same_cell (half-double_next c.x) (half-double_next c.y)
-
-    inside_0 : IsCellInside p (suc l) (child_0 c)
-    inside_0 = child_inside p l c (child_0 c) 0 0 (omega arith) (omega arith) (same_cell (plus_none _) (plus_none _)) inside
-
-    inside_1 : IsCellInside p (suc l) (child_1 c)
-    inside_1 = child_inside p l c (child_1 c) 1 0 (omega arith) (omega arith) (same_cell refl (plus_none _)) inside
-
-    inside_2 : IsCellInside p (suc l) (child_2 c)
-    inside_2 = child_inside p l c (child_2 c) 0 1 (omega arith) (omega arith) (same_cell (plus_none _) refl) inside
-
-    inside_3 : IsCellInside p (suc l) (child_3 c)
-    inside_3 = child_inside p l c (child_3 c) 1 1 (omega arith) (omega arith) refl inside
-
-    before_double : (z : ℤ) → (z +ℤ pos 1) +ℤ (z +ℤ pos 1) -ℤ pos 1 ≡ z +ℤ z +ℤ pos 1
-    before_double z = omega (arith, ints)
-
-    back : (z : ℤ) → z +ℤ pos 1 -ℤ pos 1 ≡ z
-    back z = omega (arith, ints)
-
     plain_high : (f : Face) → low_cell f ≡ c → IsForward (courant p l f) → Takes (courant p l f) p.d (mass_of m c) (flux_at p l m old f)
     unfolding flux_at
     plain_high f is fwd =
@@ -241,8 +211,8 @@ module _ (p : Problem) (l : ℕ) (m old fine fine' : Masses) (b : ℕ) (e1 e2 : 
           let k1 : low_cell f1 ≡ child_3 c = same_cell (before_double c.x) refl in
           cond_both (Takes cx p.d (mass_of m c)) _ _ _
           (four_take cx p.d (mass_of m c) (e1 f0) (e1 f1) (e2 f0) (e2 f1) stable.some small_x
-          (high1 f0 (child_1 c) inside_1 parent_1 none.k1 cx (courant_x_first p l c.x c.x c.y c.y) k0 fwd) (high1 f1 (child_3 c) inside_3 parent_3 none.k3 cx (courant_x_second p l c.x c.x c.y c.y) k1 fwd)
-          (high2 f0 (child_1 c) inside_1 parent_1 none.k1 cx (courant_x_first p l c.x c.x c.y c.y) k0 fwd) (high2 f1 (child_3 c) inside_3 parent_3 none.k3 cx (courant_x_second p l c.x c.x c.y c.y) k1 fwd))
+          (high1 f0 (child_1 c) (inside_1 p l c inside) (parent_1 c) none.k1 cx (courant_x_first p l c.x c.x c.y c.y) k0 fwd) (high1 f1 (child_3 c) (inside_3 p l c inside) (parent_3 c) none.k3 cx (courant_x_second p l c.x c.x c.y c.y) k1 fwd)
+          (high2 f0 (child_1 c) (inside_1 p l c inside) (parent_1 c) none.k1 cx (courant_x_first p l c.x c.x c.y c.y) k0 fwd) (high2 f1 (child_3 c) (inside_3 p l c inside) (parent_3 c) none.k3 cx (courant_x_second p l c.x c.x c.y c.y) k1 fwd))
           (plain_high (face X (c.x +ℤ pos 1) c.y) (same_cell (back c.x) refl) fwd);
     }
 
@@ -254,8 +224,8 @@ module _ (p : Problem) (l : ℕ) (m old fine fine' : Masses) (b : ℕ) (e1 e2 : 
           let f1 = face X (c.x +ℤ c.x) (c.y +ℤ c.y +ℤ pos 1) in
           cond_both (Takes cx p.d (mass_of m c)) _ _ _
           (four_take cx p.d (mass_of m c) (e1 f0) (e1 f1) (e2 f0) (e2 f1) stable.some small_x
-          (low1 f0 (child_0 c) inside_0 parent_0 none.k0 cx (courant_x_first p l c.x c.x c.y c.y) refl bwd) (low1 f1 (child_2 c) inside_2 parent_2 none.k2 cx (courant_x_second p l c.x c.x c.y c.y) refl bwd)
-          (low2 f0 (child_0 c) inside_0 parent_0 none.k0 cx (courant_x_first p l c.x c.x c.y c.y) refl bwd) (low2 f1 (child_2 c) inside_2 parent_2 none.k2 cx (courant_x_second p l c.x c.x c.y c.y) refl bwd))
+          (low1 f0 (child_0 c) (inside_0 p l c inside) (parent_0 c) none.k0 cx (courant_x_first p l c.x c.x c.y c.y) refl bwd) (low1 f1 (child_2 c) (inside_2 p l c inside) (parent_2 c) none.k2 cx (courant_x_second p l c.x c.x c.y c.y) refl bwd)
+          (low2 f0 (child_0 c) (inside_0 p l c inside) (parent_0 c) none.k0 cx (courant_x_first p l c.x c.x c.y c.y) refl bwd) (low2 f1 (child_2 c) (inside_2 p l c inside) (parent_2 c) none.k2 cx (courant_x_second p l c.x c.x c.y c.y) refl bwd))
           (plain_low (face X c.x c.y) refl bwd);
     }
 
@@ -270,8 +240,8 @@ module _ (p : Problem) (l : ℕ) (m old fine fine' : Masses) (b : ℕ) (e1 e2 : 
           let k1 : low_cell f1 ≡ child_3 c = same_cell refl (before_double c.y) in
           cond_both (Takes cy p.d (mass_of m c)) _ _ _
           (four_take cy p.d (mass_of m c) (e1 f0) (e1 f1) (e2 f0) (e2 f1) stable.some small_y
-          (high1 f0 (child_2 c) inside_2 parent_2 none.k2 cy (courant_y_first p l c.x c.x c.y c.y) k0 fwd) (high1 f1 (child_3 c) inside_3 parent_3 none.k3 cy (courant_y_second p l c.x c.x c.y c.y) k1 fwd)
-          (high2 f0 (child_2 c) inside_2 parent_2 none.k2 cy (courant_y_first p l c.x c.x c.y c.y) k0 fwd) (high2 f1 (child_3 c) inside_3 parent_3 none.k3 cy (courant_y_second p l c.x c.x c.y c.y) k1 fwd))
+          (high1 f0 (child_2 c) (inside_2 p l c inside) (parent_2 c) none.k2 cy (courant_y_first p l c.x c.x c.y c.y) k0 fwd) (high1 f1 (child_3 c) (inside_3 p l c inside) (parent_3 c) none.k3 cy (courant_y_second p l c.x c.x c.y c.y) k1 fwd)
+          (high2 f0 (child_2 c) (inside_2 p l c inside) (parent_2 c) none.k2 cy (courant_y_first p l c.x c.x c.y c.y) k0 fwd) (high2 f1 (child_3 c) (inside_3 p l c inside) (parent_3 c) none.k3 cy (courant_y_second p l c.x c.x c.y c.y) k1 fwd))
           (plain_high (face Y c.x (c.y +ℤ pos 1)) (same_cell refl (back c.y)) fwd);
     }
 
@@ -283,8 +253,8 @@ module _ (p : Problem) (l : ℕ) (m old fine fine' : Masses) (b : ℕ) (e1 e2 : 
           let f1 = face Y (c.x +ℤ c.x +ℤ pos 1) (c.y +ℤ c.y) in
           cond_both (Takes cy p.d (mass_of m c)) _ _ _
           (four_take cy p.d (mass_of m c) (e1 f0) (e1 f1) (e2 f0) (e2 f1) stable.some small_y
-          (low1 f0 (child_0 c) inside_0 parent_0 none.k0 cy (courant_y_first p l c.x c.x c.y c.y) refl bwd) (low1 f1 (child_1 c) inside_1 parent_1 none.k1 cy (courant_y_second p l c.x c.x c.y c.y) refl bwd)
-          (low2 f0 (child_0 c) inside_0 parent_0 none.k0 cy (courant_y_first p l c.x c.x c.y c.y) refl bwd) (low2 f1 (child_1 c) inside_1 parent_1 none.k1 cy (courant_y_second p l c.x c.x c.y c.y) refl bwd))
+          (low1 f0 (child_0 c) (inside_0 p l c inside) (parent_0 c) none.k0 cy (courant_y_first p l c.x c.x c.y c.y) refl bwd) (low1 f1 (child_1 c) (inside_1 p l c inside) (parent_1 c) none.k1 cy (courant_y_second p l c.x c.x c.y c.y) refl bwd)
+          (low2 f0 (child_0 c) (inside_0 p l c inside) (parent_0 c) none.k0 cy (courant_y_first p l c.x c.x c.y c.y) refl bwd) (low2 f1 (child_1 c) (inside_1 p l c inside) (parent_1 c) none.k1 cy (courant_y_second p l c.x c.x c.y c.y) refl bwd))
           (plain_low (face Y c.x c.y) refl bwd);
     }
 

@@ -92,6 +92,40 @@ pub cond_both : (P : ℤ → Type 0) (b : Bool) (x y : ℤ) → P x → P y → 
 cond_both P true x y h k = h
 cond_both P false x y h k = k
 
+-- ---- the children of a cell
+
+module _ (c : Cell) where
+  pub parent_0 : parent (child_0 c) ≡ c
+  parent_0 = same_cell (half-double c.x) (half-double c.y)
+
+  pub parent_1 : parent (child_1 c) ≡ c
+  parent_1 = same_cell (half-double_next c.x) (half-double c.y)
+
+  pub parent_2 : parent (child_2 c) ≡ c
+  parent_2 = same_cell (half-double c.x) (half-double_next c.y)
+
+  pub parent_3 : parent (child_3 c) ≡ c
+  parent_3 = same_cell (half-double_next c.x) (half-double_next c.y)
+
+module _ (p : Problem) (l : ℕ) (c : Cell) (inside : IsCellInside p l c) where
+  pub inside_0 : IsCellInside p (suc l) (child_0 c)
+  inside_0 = child_inside p l c (child_0 c) 0 0 (omega arith) (omega arith) (same_cell (plus_none _) (plus_none _)) inside
+
+  pub inside_1 : IsCellInside p (suc l) (child_1 c)
+  inside_1 = child_inside p l c (child_1 c) 1 0 (omega arith) (omega arith) (same_cell refl (plus_none _)) inside
+
+  pub inside_2 : IsCellInside p (suc l) (child_2 c)
+  inside_2 = child_inside p l c (child_2 c) 0 1 (omega arith) (omega arith) (same_cell (plus_none _) refl) inside
+
+  pub inside_3 : IsCellInside p (suc l) (child_3 c)
+  inside_3 = child_inside p l c (child_3 c) 1 1 (omega arith) (omega arith) refl inside
+
+pub before_double : (z : ℤ) → (z +ℤ pos 1) +ℤ (z +ℤ pos 1) -ℤ pos 1 ≡ z +ℤ z +ℤ pos 1
+before_double z = omega (arith, ints)
+
+pub back : (z : ℤ) → z +ℤ pos 1 -ℤ pos 1 ≡ z
+back z = omega (arith, ints)
+
 -- ---- the four faces of a cell that is not covered
 
 module _ (p : Problem) (l : ℕ) (m old fine fine' : Masses) (e1 e2 : Fluxes) (stable : IsStable p)
@@ -136,36 +170,6 @@ module _ (p : Problem) (l : ℕ) (m old fine fine' : Masses) (e1 e2 : Fluxes) (s
         let own : LeavesLow (courant p (suc l) f) p.d (mass_of m (parent k) / 4) (e2 f) = ghosts2.low f k (ap (home_cell (domain p (suc l))) e ∙ home_at p (suc l) k kinside) (same k knone) (in_domain-yes p (suc l) k kinside) in
         subst (λ (t : ℤ). LeavesLow t p.d (mass_of m c / 4) (e2 f)) is (subst (λ (j : Cell). LeavesLow (courant p (suc l) f) p.d (mass_of m j / 4) (e2 f)) kparent own)
 
-  parent_0 : parent (child_0 c) ≡ c
-  parent_0 = same_cell (half-double c.x) (half-double c.y)
-
-  parent_1 : parent (child_1 c) ≡ c
-  parent_1 = same_cell (half-double_next c.x) (half-double c.y)
-
-  parent_2 : parent (child_2 c) ≡ c
-  parent_2 = same_cell (half-double c.x) (half-double_next c.y)
-
-  parent_3 : parent (child_3 c) ≡ c
-  parent_3 = same_cell (half-double_next c.x) (half-double_next c.y)
-
-  inside_0 : IsCellInside p (suc l) (child_0 c)
-  inside_0 = child_inside p l c (child_0 c) 0 0 (omega arith) (omega arith) (same_cell (plus_none _) (plus_none _)) inside
-
-  inside_1 : IsCellInside p (suc l) (child_1 c)
-  inside_1 = child_inside p l c (child_1 c) 1 0 (omega arith) (omega arith) (same_cell refl (plus_none _)) inside
-
-  inside_2 : IsCellInside p (suc l) (child_2 c)
-  inside_2 = child_inside p l c (child_2 c) 0 1 (omega arith) (omega arith) (same_cell (plus_none _) refl) inside
-
-  inside_3 : IsCellInside p (suc l) (child_3 c)
-  inside_3 = child_inside p l c (child_3 c) 1 1 (omega arith) (omega arith) refl inside
-
-  before_double : (z : ℤ) → (z +ℤ pos 1) +ℤ (z +ℤ pos 1) -ℤ pos 1 ≡ z +ℤ z +ℤ pos 1
-  before_double z = omega (arith, ints)
-
-  back : (z : ℤ) → z +ℤ pos 1 -ℤ pos 1 ≡ z
-  back z = omega (arith, ints)
-
   e : Fluxes
   e = together p l m old fine e1 e2
 
@@ -192,8 +196,8 @@ module _ (p : Problem) (l : ℕ) (m old fine fine' : Masses) (e1 e2 : Fluxes) (s
       let k1 : low_cell f1 ≡ child_3 c = same_cell (before_double c.x) refl in
       cond_both (LeavesHigh cx p.d v) _ _ _
       (four_leave_high cx p.d v (e1 f0) (e1 f1) (e2 f0) (e2 f1) stable.some
-      (high1 f0 (child_1 c) inside_1 parent_1 none.k1 cx (courant_x_first p l c.x c.x c.y c.y) k0) (high1 f1 (child_3 c) inside_3 parent_3 none.k3 cx (courant_x_second p l c.x c.x c.y c.y) k1)
-      (high2 f0 (child_1 c) inside_1 parent_1 none.k1 cx (courant_x_first p l c.x c.x c.y c.y) k0) (high2 f1 (child_3 c) inside_3 parent_3 none.k3 cx (courant_x_second p l c.x c.x c.y c.y) k1))
+      (high1 f0 (child_1 c) (inside_1 p l c inside) (parent_1 c) none.k1 cx (courant_x_first p l c.x c.x c.y c.y) k0) (high1 f1 (child_3 c) (inside_3 p l c inside) (parent_3 c) none.k3 cx (courant_x_second p l c.x c.x c.y c.y) k1)
+      (high2 f0 (child_1 c) (inside_1 p l c inside) (parent_1 c) none.k1 cx (courant_x_first p l c.x c.x c.y c.y) k0) (high2 f1 (child_3 c) (inside_3 p l c inside) (parent_3 c) none.k3 cx (courant_x_second p l c.x c.x c.y c.y) k1))
       (plain_high (face X (c.x +ℤ pos 1) c.y) (same_cell (back c.x) refl))
 
   low_x : LeavesLow cx p.d v (e (face X c.x c.y))
@@ -203,8 +207,8 @@ module _ (p : Problem) (l : ℕ) (m old fine fine' : Masses) (e1 e2 : Fluxes) (s
       let f1 = face X (c.x +ℤ c.x) (c.y +ℤ c.y +ℤ pos 1) in
       cond_both (LeavesLow cx p.d v) _ _ _
       (four_leave_low cx p.d v (e1 f0) (e1 f1) (e2 f0) (e2 f1) stable.some
-      (low1 f0 (child_0 c) inside_0 parent_0 none.k0 cx (courant_x_first p l c.x c.x c.y c.y) refl) (low1 f1 (child_2 c) inside_2 parent_2 none.k2 cx (courant_x_second p l c.x c.x c.y c.y) refl)
-      (low2 f0 (child_0 c) inside_0 parent_0 none.k0 cx (courant_x_first p l c.x c.x c.y c.y) refl) (low2 f1 (child_2 c) inside_2 parent_2 none.k2 cx (courant_x_second p l c.x c.x c.y c.y) refl))
+      (low1 f0 (child_0 c) (inside_0 p l c inside) (parent_0 c) none.k0 cx (courant_x_first p l c.x c.x c.y c.y) refl) (low1 f1 (child_2 c) (inside_2 p l c inside) (parent_2 c) none.k2 cx (courant_x_second p l c.x c.x c.y c.y) refl)
+      (low2 f0 (child_0 c) (inside_0 p l c inside) (parent_0 c) none.k0 cx (courant_x_first p l c.x c.x c.y c.y) refl) (low2 f1 (child_2 c) (inside_2 p l c inside) (parent_2 c) none.k2 cx (courant_x_second p l c.x c.x c.y c.y) refl))
       (plain_low (face X c.x c.y) refl)
 
   high_y : LeavesHigh cy p.d v (e (face Y c.x (c.y +ℤ pos 1)))
@@ -218,8 +222,8 @@ module _ (p : Problem) (l : ℕ) (m old fine fine' : Masses) (e1 e2 : Fluxes) (s
       let k1 : low_cell f1 ≡ child_3 c = same_cell refl (before_double c.y) in
       cond_both (LeavesHigh cy p.d v) _ _ _
       (four_leave_high cy p.d v (e1 f0) (e1 f1) (e2 f0) (e2 f1) stable.some
-      (high1 f0 (child_2 c) inside_2 parent_2 none.k2 cy (courant_y_first p l c.x c.x c.y c.y) k0) (high1 f1 (child_3 c) inside_3 parent_3 none.k3 cy (courant_y_second p l c.x c.x c.y c.y) k1)
-      (high2 f0 (child_2 c) inside_2 parent_2 none.k2 cy (courant_y_first p l c.x c.x c.y c.y) k0) (high2 f1 (child_3 c) inside_3 parent_3 none.k3 cy (courant_y_second p l c.x c.x c.y c.y) k1))
+      (high1 f0 (child_2 c) (inside_2 p l c inside) (parent_2 c) none.k2 cy (courant_y_first p l c.x c.x c.y c.y) k0) (high1 f1 (child_3 c) (inside_3 p l c inside) (parent_3 c) none.k3 cy (courant_y_second p l c.x c.x c.y c.y) k1)
+      (high2 f0 (child_2 c) (inside_2 p l c inside) (parent_2 c) none.k2 cy (courant_y_first p l c.x c.x c.y c.y) k0) (high2 f1 (child_3 c) (inside_3 p l c inside) (parent_3 c) none.k3 cy (courant_y_second p l c.x c.x c.y c.y) k1))
       (plain_high (face Y c.x (c.y +ℤ pos 1)) (same_cell refl (back c.y)))
 
   low_y : LeavesLow cy p.d v (e (face Y c.x c.y))
@@ -229,8 +233,8 @@ module _ (p : Problem) (l : ℕ) (m old fine fine' : Masses) (e1 e2 : Fluxes) (s
       let f1 = face Y (c.x +ℤ c.x +ℤ pos 1) (c.y +ℤ c.y) in
       cond_both (LeavesLow cy p.d v) _ _ _
       (four_leave_low cy p.d v (e1 f0) (e1 f1) (e2 f0) (e2 f1) stable.some
-      (low1 f0 (child_0 c) inside_0 parent_0 none.k0 cy (courant_y_first p l c.x c.x c.y c.y) refl) (low1 f1 (child_1 c) inside_1 parent_1 none.k1 cy (courant_y_second p l c.x c.x c.y c.y) refl)
-      (low2 f0 (child_0 c) inside_0 parent_0 none.k0 cy (courant_y_first p l c.x c.x c.y c.y) refl) (low2 f1 (child_1 c) inside_1 parent_1 none.k1 cy (courant_y_second p l c.x c.x c.y c.y) refl))
+      (low1 f0 (child_0 c) (inside_0 p l c inside) (parent_0 c) none.k0 cy (courant_y_first p l c.x c.x c.y c.y) refl) (low1 f1 (child_1 c) (inside_1 p l c inside) (parent_1 c) none.k1 cy (courant_y_second p l c.x c.x c.y c.y) refl)
+      (low2 f0 (child_0 c) (inside_0 p l c inside) (parent_0 c) none.k0 cy (courant_y_first p l c.x c.x c.y c.y) refl) (low2 f1 (child_1 c) (inside_1 p l c inside) (parent_1 c) none.k1 cy (courant_y_second p l c.x c.x c.y c.y) refl))
       (plain_low (face Y c.x c.y) refl)
 
   -- a cell that is not covered loses no more than it has
