@@ -3,8 +3,7 @@ pub mod Lists
 pub mod Rows
 pub mod BoxTests
 pub mod MassReadings
-pub mod MassRuns
-pub mod Bools
+pub mod TestedMasses
 pub mod GridReadings
 pub mod Filling
 pub mod GridBoxes

@@ -44,7 +44,7 @@ fn greatest_mass(p: &Problem, kind: MassKind) -> u64
     bound >> (2 * kind.level)
 }
 
-/// Reads `count` masses, each of which is tested, in one run over their bytes.
+/// Reads `count` masses, each of which is tested, in one pass over their bytes.
 pub(crate) fn read_masses(
     p: &Problem,
     kind: MassKind,

@@ -1,4 +1,4 @@
-//! The bytes of a payload, read number by number, and masses in a run.
+//! The bytes of a payload, read number by number, and masses one after the other.
 
 ghost use Rattle.std.specs.Prelude.{◌≡◌, ℕ, ◌+◌, ◌*◌, ◌<◌, ◌≤◌, length, drop};
 ghost use Rattle.std.specs.Int.{w32, w64, byte_len, from_le_bytes};
@@ -189,7 +189,7 @@ impl<'a> Reader<'a> {
         }
     }
 
-    /// Passes over masses in one run over their bytes: `count` of them, or as many as come before the first that doesn't lie
+    /// Goes over the bytes of masses once: `count` of them, or as many as come before the first that doesn't lie
     /// wholly inside the bytes or is greater than `greatest`. Says how many they are.
     pub(crate) fn pass_masses(&mut self, width: MassWidth, count: u64, greatest: u64) -> u64
         ensures left { left_of self.new ≡ after (byte_len (width_of width) * result) (left_of self.old) }

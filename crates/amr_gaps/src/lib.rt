@@ -1,4 +1,4 @@
-//! Gaps of a level: boxes of cells that no patch of it has. One search then serves a whole run of such cells.
+//! Gaps of a level: boxes of cells that no patch of it has. One search then serves all such cells that stand side by side.
 #![tactic(auto)]
 
 mod gaps;

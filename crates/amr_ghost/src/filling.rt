@@ -152,7 +152,7 @@ pub fn fill(p: &Problem, l: u32, patches: &mut [Patch], old: Option<&Level>)
 
 /// The same, where it is known how the patches stand, as where they were taken from a level and each kept its box.
 ///
-/// Where `starts` tells where they start, a run of ghost cells in a gap between patches takes one search among them, not one a
+/// Where `starts` tells where they start, ghost cells side by side in a gap between patches take one search among them, not one a
 /// cell. It ends where the next column or row of patches starts, or the patch of `old` that its parents are in.
 pub fn fill_in_order(
     p: &Problem,

@@ -3,13 +3,13 @@
 
 mod entries;
 mod filling;
+mod gap_cells;
 mod ghosts;
 mod lookup;
 mod outside;
 mod places;
 mod plan;
 mod planned;
-mod runs;
 mod sides;
 mod sources;
 

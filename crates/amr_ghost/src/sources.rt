@@ -19,7 +19,7 @@ use crate::ghosts::{copy_strip, set_strip};
 use crate::lookup::Target;
 use crate::outside::outside_value;
 use crate::places::{cells_ahead, step};
-use crate::runs::{gap_ahead, quarter_run};
+use crate::gap_cells::{gap_ahead, quarter_ahead};
 use crate::sides::Strip;
 use amr_box::Cell;
 use amr_def::Problem;
@@ -111,7 +111,7 @@ fn first_of(strip: Strip, count: u32) -> Strip
 
 /// Gives the ghost cells of a strip beside patch `i` quarters of masses of the next coarser level at the start of its step: those of
 /// the parents of the cells from `from` on. All get 0 where there is no such level.
-fn quarter_runs(
+fn quarter_spans(
     old: Option<&Level>,
     patches: &mut [Patch],
     i: usize,
@@ -137,7 +137,7 @@ fn quarter_runs(
             count: strip.count - done,
         };
         let first = step(strip.axis, from, done);
-        done += quarter_run(old, patches, i, rest, first, near);
+        done += quarter_ahead(old, patches, i, rest, first, near);
     }
 }
 
@@ -167,7 +167,7 @@ pub(crate) fn place_span(
         }
         Source::Beside(j, home) => copy_strip(patches, span.patch, span.strip, j, home),
         Source::Coarser(home) => {
-            quarter_runs(old, patches, span.patch, span.strip, home, near);
+            quarter_spans(old, patches, span.patch, span.strip, home, near);
         }
     }
 }

@@ -1,5 +1,6 @@
 -- Counts of the bits of words.
 use Rattle.std.proofs.Common.{◌≡◌, ◌≢◌, ℕ, zero, suc, ◌+◌, ◌-◌, ◌*◌, ◌/◌, ◌%◌, ◌^◌, ◌<◌, ◌≤◌, min, Bool, true, false, ◌&&◌, List, refl, sym, ap, ◌∙◌, arith, w64, lit<, lit≤, add-one, add-zero, zero-add, ◌⊎◌, inl, inr}
+use Rattle.std.proofs.Math.Bool.{and-false}
 use Rattle.std.proofs.Math.Nat.{pow-suc}
 use Rattle.std.proofs.lemmas.Bool.{cases_lt, cases_eq, false≢true}
 use Rattle.std.proofs.lemmas.Bool.Decides.{nat_tests}
@@ -222,11 +223,7 @@ word_bit-above word base x h =
     no-and (nat_le base x) (nat_lt x (base + 64)) (bit_at word (x - base) == 1) no
 
 pub word_bit-zero : (base x : ℕ) → word_bit 0 base x ≡ false
-word_bit-zero base x = ap (λ (b : ℕ). (nat_le base x && nat_lt x (base + 64)) && (b == 1)) (bit_at-zero (x - base)) ∙ and-no (nat_le base x && nat_lt x (base + 64))
-  where
-    and-no : (t : Bool) → (t && false) ≡ false
-    and-no true = refl
-    and-no false = refl
+word_bit-zero base x = ap (λ (b : ℕ). (nat_le base x && nat_lt x (base + 64)) && (b == 1)) (bit_at-zero (x - base)) ∙ and-false (nat_le base x && nat_lt x (base + 64))
 
 -- a place is below the word, in it or above it
 data Side (base x : ℕ) : Type 0 where

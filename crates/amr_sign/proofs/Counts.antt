@@ -1,5 +1,6 @@
 -- The signature of the cells of a box that pass a test, as counts over the places of each column and of each row.
 use Rattle.std.proofs.Common.{◌≡◌, ◌≢◌, ℕ, zero, suc, ◌+◌, ◌<◌, ◌≤◌, Bool, true, false, cond, ◌&&◌, ℤ, pos, ◌+ℤ◌, List, [], ◌∷◌, map, length, refl, sym, ap, ◌∙◌, arith, add-one, ◌⊎◌, inl, inr}
+use Rattle.std.proofs.Math.Bool.{and-false, and-true}
 use Rattle.std.specs.List.{count_by, filter, flat_map, range_with_len, sum_by}
 use Rattle.std.specs.Ordering.{int_eq}
 use Rattle.std.proofs.lemmas.Int.{ints}
@@ -91,14 +92,6 @@ apart lo i k h = grind (arith, ints)
 together : (lo : ℤ) (k : ℕ) → int_eq (lo +ℤ pos k) (lo +ℤ pos k) ≡ true
 together lo k = grind (arith, ints)
 
-and-no : (t : Bool) → (t && false) ≡ false
-and-no true = refl
-and-no false = refl
-
-and-yes : (t : Bool) → (t && true) ≡ t
-and-yes true = refl
-and-yes false = refl
-
 module _ (test : Cell → Bool) (b : Extent) where
   -- whether the cell in column i and row j of the box passes
   abbrev pub at : ℕ → ℕ → Bool
@@ -117,8 +110,8 @@ module _ (test : Cell → Bool) (b : Extent) where
   column k inside =
       by_rows (λ c. int_eq c.x (b.lo.x +ℤ pos k))
       ∙ sum_by-same _ (λ j. bit (at k j))
-      (λ j. sum_one (λ i. bit (at i j && int_eq (b.lo.x +ℤ pos i) (b.lo.x +ℤ pos k))) 0 (width b) k (omega arith) (omega arith) (λ i ne. ap (λ (t : Bool). bit (at i j && t)) (apart b.lo.x i k ne) ∙ ap bit (and-no (at i j)))
-      ∙ ap (λ (t : Bool). bit (at k j && t)) (together b.lo.x k) ∙ ap bit (and-yes (at k j)))
+      (λ j. sum_one (λ i. bit (at i j && int_eq (b.lo.x +ℤ pos i) (b.lo.x +ℤ pos k))) 0 (width b) k (omega arith) (omega arith) (λ i ne. ap (λ (t : Bool). bit (at i j && t)) (apart b.lo.x i k ne) ∙ ap bit (and-false (at i j)))
+      ∙ ap (λ (t : Bool). bit (at k j && t)) (together b.lo.x k) ∙ ap bit (and-true (at k j)))
       (range_with_len 0 (height b))
 
   row : (k : ℕ) → k < height b → count_by (λ c. int_eq c.y (b.lo.y +ℤ pos k)) (filter test (cells_of b)) ≡ count_to (λ i. at i k) (width b)
@@ -126,8 +119,8 @@ module _ (test : Cell → Bool) (b : Extent) where
       let term : ℕ → ℕ → ℕ = λ j i. bit (at i j && int_eq (b.lo.y +ℤ pos j) (b.lo.y +ℤ pos k)) in
       by_rows (λ c. int_eq c.y (b.lo.y +ℤ pos k))
       ∙ sum_one (λ j. sum_by (term j) (range_with_len 0 (width b))) 0 (height b) k (omega arith) (omega arith)
-      (λ j ne. sum_by-same (term j) (λ i. 0) (λ i. ap (λ (t : Bool). bit (at i j && t)) (apart b.lo.y j k ne) ∙ ap bit (and-no (at i j))) (range_with_len 0 (width b)) ∙ zeros (range_with_len 0 (width b)))
-      ∙ sum_by-same (term k) (λ i. bit (at i k)) (λ i. ap (λ (t : Bool). bit (at i k && t)) (together b.lo.y k) ∙ ap bit (and-yes (at i k))) (range_with_len 0 (width b))
+      (λ j ne. sum_by-same (term j) (λ i. 0) (λ i. ap (λ (t : Bool). bit (at i j && t)) (apart b.lo.y j k ne) ∙ ap bit (and-false (at i j))) (range_with_len 0 (width b)) ∙ zeros (range_with_len 0 (width b)))
+      ∙ sum_by-same (term k) (λ i. bit (at i k)) (λ i. ap (λ (t : Bool). bit (at i k && t)) (together b.lo.y k) ∙ ap bit (and-true (at i k))) (range_with_len 0 (width b))
 
   pub columns-are : signature X (filter test (cells_of b)) b ≡ map (λ i. count_to (at i) (height b)) (range_with_len 0 (width b))
   columns-are = map_to-same _ _ (width b) column

@@ -3,4 +3,4 @@ pub mod Counts
 pub mod RowSets
 pub mod Bits
 pub mod Parts
-pub mod RunCounts
+pub mod StretchCounts

@@ -1,5 +1,5 @@
 pub mod Counts
 pub mod Rows
-pub mod Runs
+pub mod Stretches
 pub mod Scan
 pub mod Words

@@ -6,7 +6,7 @@ ghost use Rattle.amr_def.specs.Signature.{signature};
 ghost use Rattle.amr_sign.specs.Counts.{count_to};
 ghost use Rattle.amr_sign.specs.Words.{LiesInRows, bit_cells, bit_of};
 
-use crate::runs::{add_row_runs, count_open};
+use crate::stretches::{add_row_stretches, count_open};
 use crate::words::{Window, window_of};
 use amr_box::Bx;
 use amr_causes::NoMemory;
@@ -46,13 +46,13 @@ fn count_window(
 {
     for y in at.south..at.north + 1 {
         let row = &words[y * per_row..(y + 1) * per_row];
-        rows[y - at.south] = add_row_runs(columns, ended, row, at.west, at.east);
+        rows[y - at.south] = add_row_stretches(columns, ended, row, at.west, at.east);
     }
     count_open(columns, ended);
 }
 
 /// How many bits of a box are 1 in each of its columns and in each of its rows, as `signature_bits` has them for one
-/// axis. The words are gone over once; a run of bits takes as long as a single one.
+/// axis. The words are gone over once; a stretch of bits takes as long as a single one.
 pub fn both_signatures(
     alloc: Global,
     words: &[u64],

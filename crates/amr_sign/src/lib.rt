@@ -10,7 +10,7 @@
 mod both;
 mod cuts;
 mod rows;
-mod runs;
+mod stretches;
 mod words;
 
 pub use crate::both::{Signatures, both_signatures};

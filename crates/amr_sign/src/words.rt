@@ -91,6 +91,7 @@ fn place(z: i32) -> usize
     z as usize
 }
 
+/// The columns and rows of a box as a window.
 pub fn window_of(part: Bx) -> Window
     requires west_inside { pos 0 ≤ℤ part.lo.x }
     requires south_inside { pos 0 ≤ℤ part.lo.y }

@@ -2,7 +2,7 @@ use Rattle.std.proofs.Common.{◌∙◌, ◌≡◌, drop, length, arith}
 use Rattle.std.specs.Int.{w64}
 use Rattle.amr_decoder.specs.Numbers.{number_at}
 use Rattle.amr_decoder.proofs.MassReadings.{number_here}
-use Rattle.amr_decoder.proofs.MassRuns.{all_numbers}
+use Rattle.amr_decoder.proofs.TestedMasses.{all_numbers}
 use Rattle.amr_decoder.proofs.fill.read_longs.Goals as goal
 
 pub returns : goal.returns

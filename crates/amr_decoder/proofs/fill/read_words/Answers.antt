@@ -1,6 +1,6 @@
 use Rattle.std.proofs.Common.{drop, length, arith}
 use Rattle.std.specs.Int.{w32}
-use Rattle.amr_decoder.proofs.MassRuns.{all_numbers}
+use Rattle.amr_decoder.proofs.TestedMasses.{all_numbers}
 use Rattle.amr_decoder.proofs.fill.read_words.Goals as goal
 
 pub returns : goal.returns

@@ -4,7 +4,7 @@ use Rattle.amr_codec.specs.MassWidths.{width_of}
 use Rattle.amr_payload.specs.Tests.{Left, after, bad, read}
 use Rattle.amr_decoder.specs.Lefts.{left_of, whole_of}
 use Rattle.amr_decoder.specs.Numbers.{numbers}
-use Rattle.amr_decoder.proofs.MassRuns.{run_bad, run_read}
+use Rattle.amr_decoder.proofs.TestedMasses.{tested_bad, tested_read}
 use Rattle.amr_decoder.proofs.masses.read_masses.Goals as goal
 
 pub returns-clause-read : goal.returns-clause-read
@@ -14,7 +14,7 @@ returns-clause-read c =
     let k = c.pass_masses-passed.result in
     let e = c.pass_masses-passed.ensures in
     let all : k ≡ c.args.count = omega (arith, e.most, c.if-passed-count.false) in
-    run_read w c.args.p.now c.args.kind.step c.args.kind.level c.greatest_mass-greatest.result c.args.count k r0 c.greatest_mass-greatest.ensures.value e.most e.inside e.within all
+    tested_read w c.args.p.now c.args.kind.step c.args.kind.level c.greatest_mass-greatest.result c.args.count k r0 c.greatest_mass-greatest.ensures.value e.most e.inside e.within all
     ∙ ap (λ j. read (numbers w j r0.bytes) (after (byte_len w * k) r0)) all
     ∙ ap (λ (f : Left). read (numbers w c.args.count r0.bytes) f) (sym e.left)
 
@@ -24,7 +24,7 @@ returns-then-passed-count-clause-bad c =
     let r0 = left_of c.args.r.now in
     let k = c.pass_masses-passed.result in
     let e = c.pass_masses-passed.ensures in
-    run_bad w c.args.p.now c.args.kind.step c.args.kind.level c.greatest_mass-greatest.result c.args.count k r0 c.greatest_mass-greatest.ensures.value e.most e.inside e.within c.if-passed-count.true (e.next c.if-passed-count.true)
+    tested_bad w c.args.p.now c.args.kind.step c.args.kind.level c.greatest_mass-greatest.result c.args.count k r0 c.greatest_mass-greatest.ensures.value e.most e.inside e.within c.if-passed-count.true (e.next c.if-passed-count.true)
     ∙ ap (λ (j : ℕ). bad j) (sym (c.place-place.ensures.place ∙ ap (λ (f : Left). f.place) e.left))
 
 pub returns-clause-inside : goal.returns-clause-inside

@@ -38,16 +38,16 @@ copy_strip-requires-clause-ghost_cells c q k t = (c.requires.span.ghost_strip q)
 pub copy_strip-requires-clause-beside : goal.copy_strip-requires-clause-beside
 copy_strip-requires-clause-beside c q k t = (c.requires.span.ghost_strip q).beside k t
 
-pub quarter_runs-requires-clause-from_room : goal.quarter_runs-requires-clause-from_room
-quarter_runs-requires-clause-from_room c =
+pub quarter_spans-requires-clause-from_room : goal.quarter_spans-requires-clause-from_room
+quarter_spans-requires-clause-from_room c =
     let gap : StandInGap (domain c.args.p.now c.args.l) c.args.patches.now c.args.span.strip c.in-Coarser.home = subst (IsSource (domain c.args.p.now c.args.l) c.args.patches.now c.args.span.strip) c.in-Coarser.is c.requires.span.source in
     gap.room
 
-pub quarter_runs-requires-clause-ghost_cells : goal.quarter_runs-requires-clause-ghost_cells
-quarter_runs-requires-clause-ghost_cells c q k t = (c.requires.span.ghost_strip q).ghosts k t
+pub quarter_spans-requires-clause-ghost_cells : goal.quarter_spans-requires-clause-ghost_cells
+quarter_spans-requires-clause-ghost_cells c q k t = (c.requires.span.ghost_strip q).ghosts k t
 
-pub quarter_runs-requires-clause-beside : goal.quarter_runs-requires-clause-beside
-quarter_runs-requires-clause-beside c q k t = (c.requires.span.ghost_strip q).beside k t
+pub quarter_spans-requires-clause-beside : goal.quarter_spans-requires-clause-beside
+quarter_spans-requires-clause-beside c q k t = (c.requires.span.ghost_strip q).beside k t
 
 pub returns-in-Outside-clause-ghosts : goal.returns-in-Outside-clause-ghosts
 returns-in-Outside-clause-ghosts c =
@@ -101,7 +101,7 @@ returns-in-Coarser-clause-ghosts c =
     let old = old_masses (option_copied c.args.old) in
     let gap : StandInGap d ps s.strip c.in-Coarser.home = subst (IsSource d ps s.strip) c.in-Coarser.is c.requires.span.source in
     let q : Patch = some_patch ps s.patch c.requires.span.there in
-    c.quarter_runs.ensures.ghosts (value_at c.args.p.now c.args.l (masses_in ps) old) (is_of_level c.args.p.now c.args.l (masses_in ps))
+    c.quarter_spans.ensures.ghosts (value_at c.args.p.now c.args.l (masses_in ps) old) (is_of_level c.args.p.now c.args.l (masses_in ps))
     (gap_given c.args.p.now c.args.l ps old (box (get_or ps s.patch q)) s.strip.axis s.strip.from c.in-Coarser.home s.strip.count gap.home c.requires.span.some (c.requires.span.ghost_strip q) s.strip.count (omega arith) gap.inside gap.gap)
 
 pub returns-in-Coarser-clause-set : goal.returns-in-Coarser-clause-set
@@ -111,5 +111,5 @@ returns-in-Coarser-clause-set c q =
     let s = c.args.span in
     let old = old_masses (option_copied c.args.old) in
     let gap : StandInGap d ps s.strip c.in-Coarser.home = subst (IsSource d ps s.strip) c.in-Coarser.is c.requires.span.source in
-    c.quarter_runs.ensures.set (value_at c.args.p.now c.args.l (masses_in ps) old) (is_of_level c.args.p.now c.args.l (masses_in ps)) q
+    c.quarter_spans.ensures.set (value_at c.args.p.now c.args.l (masses_in ps) old) (is_of_level c.args.p.now c.args.l (masses_in ps)) q
     (gap_given c.args.p.now c.args.l ps old (box (get_or ps s.patch q)) s.strip.axis s.strip.from c.in-Coarser.home s.strip.count gap.home c.requires.span.some (c.requires.span.ghost_strip q) s.strip.count (omega arith) gap.inside gap.gap)

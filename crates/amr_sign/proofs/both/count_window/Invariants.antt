@@ -1,7 +1,7 @@
 use Rattle.std.proofs.Common.{◌≡◌, ℕ, ◌+◌, ◌-◌, ◌<◌, ◌≤◌, length}
 use Rattle.std.specs.Prelude.{slice_index}
 use Rattle.amr_sign.specs.Counts.{count_to}
-use Rattle.amr_sign.specs.Runs.{begins, ends}
+use Rattle.amr_sign.specs.Stretches.{begins, ends}
 use Rattle.amr_sign.specs.Words.{bit_of}
 use Rattle.amr_sign.proofs.both.count_window.Given as goal
 

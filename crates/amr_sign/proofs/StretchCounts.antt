@@ -1,4 +1,4 @@
--- Counts of the bits of columns by the runs of bits that begin and end in each row.
+-- Counts of the bits of columns by the stretches of bits that begin and end in each row.
 use Rattle.std.proofs.Common.{◌≡◌, ℕ, zero, suc, ◌+◌, ◌-◌, ◌*◌, ◌/◌, ◌%◌, ◌^◌, ◌<◌, ◌≤◌, ◌⊎◌, inl, inr, min, max, Bool, true, false, ◌&&◌, not, List, refl, sym, ap, ◌∙◌, arith, add-one, add-zero}
 use lib.Count.{ones-le}
 use Rattle.std.specs.Prelude.{◌==◌, bit_and, bit_or, bit_xor, count_ones}
@@ -8,7 +8,7 @@ use Rattle.std.specs.List.{slice_range}
 use Rattle.std.proofs.lemmas.Bool.{cases_lt, false≢true}
 use Rattle.std.proofs.lemmas.Nat.Bits.{bit_at-lt, bit_at-suc, bit_at-zero, bit_at_and, bit_at_cat_low, bit_at_lowest, bit_at_or, bit_at_xor}
 use Rattle.amr_sign.specs.Counts.{bit, count_to}
-use Rattle.amr_sign.specs.Runs.{begins, ends, in_span, open_runs, preceding}
+use Rattle.amr_sign.specs.Stretches.{begins, ends, in_span, open_stretches, preceding}
 use Rattle.amr_sign.specs.Words.{bit_of, word_bit}
 use Rattle.amr_sign.proofs.Bits.{above-window, below-window, count_to-none, in-window, word_bit-zero}
 use Rattle.amr_sign.proofs.Counts.{count_to_bound, count_to_more}
@@ -67,7 +67,7 @@ raised-others w i t h =
     let top : max (bit_at (w * 2 % 18446744073709551616) (i + 1)) (bit_at (bool_byte t) (i + 1)) ≡ bit_at w i = omega arith in
     ap (λ (b : ℕ). b == 1) (bit_at_or (w * 2 % 18446744073709551616) (bool_byte t) (i + 1) ∙ top)
 
--- ---- the runs of a word
+-- ---- the stretches of a word
 
 module _ (p : ℕ → Bool) (k word : ℕ) (bits : (i : ℕ) → i < 64 → (bit_at word i == 1) ≡ p (64 * k + i)) where
   pub lifted-is : (lifted : ℕ) (first : Bool) → first ≡ preceding p (64 * k) → (bit_at lifted 0 == 1) ≡ first → ((i : ℕ) → i < 63 → (bit_at lifted (i + 1) == 1) ≡ (bit_at word i == 1)) → (i : ℕ) → i < 64 → (bit_at lifted i == 1) ≡ preceding p (64 * k + i)
@@ -141,7 +141,7 @@ module _ (row : List ℕ) (low high : ℕ) where
   none-preceding zero h = refl
   none-preceding (suc x) h = below-window row low high x (omega arith)
 
--- ---- the runs of a row, column by column
+-- ---- the stretches of a row, column by column
 
 module _ (words : List ℕ) (per_row west east south y : ℕ) (from : south ≤ y) (inside : east < 64 * per_row) where
   abbrev pub row_words : List ℕ
@@ -181,7 +181,7 @@ counted-next test south y now new t from same so_far added =
     let whole : count_to test (y + 1 - south) ≡ count_to test ((y - south) + 1) = ap (count_to test) next in
     omega arith
 
--- ---- the runs that are open
+-- ---- the stretches that are open
 
 step : (p q : Bool) → bit p + bit (q && not p) ≡ bit q + bit (p && not q)
 step true true = refl
@@ -217,30 +217,30 @@ fewer p q (suc n) =
     let rest : count_to (λ j. p j && not (q j)) n ≤ count_to p n = fewer p q n in
     omega arith
 
--- the bits of n rows: in each of the first columns so many runs begin, and so many end before it
-pub record AreRuns (test : ℕ → ℕ → Bool) (begun ended : ℕ → ℕ) (n size : ℕ) : Type 0 where
+-- the bits of n rows: in each of the first columns so many stretches begin, and so many end before it
+pub record AreStretches (test : ℕ → ℕ → Bool) (begun ended : ℕ → ℕ) (n size : ℕ) : Type 0 where
   pub begin : (c : ℕ) → c < size → begun c ≡ count_to (λ j. begins (λ i. test i j) c) n
   pub end : (c : ℕ) → c < size → ended c ≡ count_to (λ j. ends (λ i. test i j) c) n
 
-module _ (test : ℕ → ℕ → Bool) (begun ended : ℕ → ℕ) (n size : ℕ) (runs : AreRuns test begun ended n size) where
-  open-is : (c : ℕ) → c ≤ size → open_runs begun ended c ≡ count_to (λ j. preceding (λ i. test i j) c) n
+module _ (test : ℕ → ℕ → Bool) (begun ended : ℕ → ℕ) (n size : ℕ) (stretches : AreStretches test begun ended n size) where
+  open-is : (c : ℕ) → c ≤ size → open_stretches begun ended c ≡ count_to (λ j. preceding (λ i. test i j) c) n
   open-is zero h = sym (count_to-none (λ j. false) n (λ k below. refl))
   open-is (suc c) h =
-      let before : open_runs begun ended c ≡ count_to (λ j. preceding (λ i. test i j) c) n = open-is c (omega arith) in
-      let up : begun c ≡ count_to (λ j. test c j && not (preceding (λ i. test i j) c)) n = runs.begin c (omega arith) in
-      let down : ended c ≡ count_to (λ j. preceding (λ i. test i j) c && not (test c j)) n = runs.end c (omega arith) in
+      let before : open_stretches begun ended c ≡ count_to (λ j. preceding (λ i. test i j) c) n = open-is c (omega arith) in
+      let up : begun c ≡ count_to (λ j. test c j && not (preceding (λ i. test i j) c)) n = stretches.begin c (omega arith) in
+      let down : ended c ≡ count_to (λ j. preceding (λ i. test i j) c && not (test c j)) n = stretches.end c (omega arith) in
       let all : count_to (λ j. preceding (λ i. test i j) c) n + count_to (λ j. test c j && not (preceding (λ i. test i j) c)) n ≡ count_to (λ j. test c j) n + count_to (λ j. preceding (λ i. test i j) c && not (test c j)) n = steps (λ j. preceding (λ i. test i j) c) (λ j. test c j) n in
       let part : count_to (λ j. preceding (λ i. test i j) c && not (test c j)) n ≤ count_to (λ j. preceding (λ i. test i j) c) n = fewer (λ j. preceding (λ i. test i j) c) (λ j. test c j) n in
       omega arith
 
-  pub open-next : (c : ℕ) → c < size → open_runs begun ended (c + 1) ≡ count_to (λ j. test c j) n
-  open-next c h = ap (open_runs begun ended) (add-one c) ∙ open-is (suc c) (omega arith)
+  pub open-next : (c : ℕ) → c < size → open_stretches begun ended (c + 1) ≡ count_to (λ j. test c j) n
+  open-next c h = ap (open_stretches begun ended) (add-one c) ∙ open-is (suc c) (omega arith)
 
-  pub open-fits : (c : ℕ) → c < size → n ≤ 2 ^ 31 → (ended c ≤ open_runs begun ended c) × ((open_runs begun ended c - ended c) + begun c < 2 ^ 32)
+  pub open-fits : (c : ℕ) → c < size → n ≤ 2 ^ 31 → (ended c ≤ open_stretches begun ended c) × ((open_stretches begun ended c - ended c) + begun c < 2 ^ 32)
   open-fits c h fits =
-      let before : open_runs begun ended c ≡ count_to (λ j. preceding (λ i. test i j) c) n = open-is c (omega arith) in
-      let after : (open_runs begun ended c - ended c) + begun c ≡ count_to (λ j. test c j) n = open-is (suc c) (omega arith) in
-      let down : ended c ≡ count_to (λ j. preceding (λ i. test i j) c && not (test c j)) n = runs.end c h in
+      let before : open_stretches begun ended c ≡ count_to (λ j. preceding (λ i. test i j) c) n = open-is c (omega arith) in
+      let after : (open_stretches begun ended c - ended c) + begun c ≡ count_to (λ j. test c j) n = open-is (suc c) (omega arith) in
+      let down : ended c ≡ count_to (λ j. preceding (λ i. test i j) c && not (test c j)) n = stretches.end c h in
       let part : count_to (λ j. preceding (λ i. test i j) c && not (test c j)) n ≤ count_to (λ j. preceding (λ i. test i j) c) n = fewer (λ j. preceding (λ i. test i j) c) (λ j. test c j) n in
       let few : count_to (λ j. test c j) n ≤ n = count_to_bound (λ j. test c j) n in
       (omega arith, omega arith)

@@ -6,7 +6,7 @@ use Rattle.amr_patch.specs.Levels.{level_of}
 use Rattle.amr_ghost.specs.Strips.{step}
 use Rattle.amr_ghost.specs.Frames.{old_masses}
 use Rattle.amr_ghost.proofs.GhostStrips.{same_given}
-use Rattle.amr_ghost.proofs.runs.quarter_run.Goals as goal
+use Rattle.amr_ghost.proofs.gap_cells.quarter_ahead.Goals as goal
 
 pub returns-in-Some-clause-ghosts : goal.returns-in-Some-clause-ghosts
 returns-in-Some-clause-ghosts c value mark given =

@@ -1,4 +1,4 @@
--- Runs of places that pass a test, by the places where they begin and those after their ends.
+-- Stretches of places that pass a test, by the places where they begin and those after their ends.
 use Rattle.std.specs.Prelude.{ℕ, zero, suc, ◌+◌, ◌-◌, Bool, false, ◌&&◌, not, nat_le, List}
 use Rattle.amr_sign.specs.Words.{row_bit}
 
@@ -7,11 +7,11 @@ abbrev pub preceding : (ℕ → Bool) → ℕ → Bool
 preceding p zero = false
 preceding p (suc x) = p x
 
--- whether a run begins at a place
+-- whether a stretch begins at a place
 abbrev pub begins : (ℕ → Bool) → ℕ → Bool
 begins p x = p x && not (preceding p x)
 
--- whether a run has its end just before a place
+-- whether a stretch has its end just before a place
 abbrev pub ends : (ℕ → Bool) → ℕ → Bool
 ends p x = preceding p x && not (p x)
 
@@ -19,7 +19,7 @@ ends p x = preceding p x && not (p x)
 abbrev pub in_span : List ℕ → ℕ → ℕ → ℕ → Bool
 in_span row low high x = (nat_le low x && nat_le x high) && row_bit row x
 
--- how many runs are open before place i, where `begun i` begin at a place i and `ended i` have their end before it
-abbrev pub open_runs : (ℕ → ℕ) → (ℕ → ℕ) → ℕ → ℕ
-open_runs begun ended zero = 0
-open_runs begun ended (suc i) = (open_runs begun ended i - ended i) + begun i
+-- how many stretches are open before place i, where `begun i` begin at a place i and `ended i` have their end before it
+abbrev pub open_stretches : (ℕ → ℕ) → (ℕ → ℕ) → ℕ → ℕ
+open_stretches begun ended zero = 0
+open_stretches begun ended (suc i) = (open_stretches begun ended i - ended i) + begun i

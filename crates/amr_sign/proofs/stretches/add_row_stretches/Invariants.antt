@@ -1,8 +1,8 @@
 use Rattle.std.proofs.Common.{◌≡◌, ℕ, ◌+◌, ◌*◌, ◌<◌, ◌&&◌, length}
 use Rattle.std.specs.Prelude.{nat_lt, slice_index}
 use Rattle.amr_sign.specs.Counts.{bit, count_to}
-use Rattle.amr_sign.specs.Runs.{begins, ends, in_span, preceding}
-use Rattle.amr_sign.proofs.runs.add_row_runs.Given as goal
+use Rattle.amr_sign.specs.Stretches.{begins, ends, in_span, preceding}
+use Rattle.amr_sign.proofs.stretches.add_row_stretches.Given as goal
 
 abbrev pub invariant-loop-k : goal.invariant-loop-k
 invariant-loop-k l = record {

@@ -1,4 +1,4 @@
--- Masses, read in one run over their bytes.
+-- Masses, read in one pass over their bytes.
 use Rattle.std.proofs.Common.{◌≡◌, ℕ, zero, suc, ◌+◌, ◌-◌, ◌*◌, ◌<◌, ◌≤◌, add-one, get_or, true, inl, inr, List, length, ap, ◌∙◌, arith, length-drop}
 use Rattle.std.specs.Prelude.{nat_le}
 use Rattle.std.specs.Int.{Width, byte_len, from_le_bytes}
@@ -27,7 +27,7 @@ number_short w k r inside short =
     let more : byte_len w * (k + 1) ≡ byte_len w * k + byte_len w = omega arith in
     ap (λ t. tested t m.place (from_le_bytes w m.bytes) (after (byte_len w) m)) (le_no (byte_len w) (length m.bytes) (omega (arith, length-drop (byte_len w * k) r.bytes, inside, more)))
 
--- ---- a run of masses
+-- ---- masses one after the other
 
 module _ (w : Width) (p : Problem) (n l : ℕ) where
   -- those that lie inside and are within the bound are read
@@ -43,18 +43,18 @@ module _ (w : Width) (p : Problem) (n l : ℕ) where
       ∙ ap (λ (ms : List ℕ). also_all ms (read_masses w p n l (count - (k + 1)) (after (byte_len w * (k + 1)) r))) (numbers_push w k r.bytes)
       ∙ ap (λ j. also_all (numbers w j r.bytes) (read_masses w p n l (count - j) (after (byte_len w * j) r))) next
 
-  -- the masses of a run, none of which is greater than the greatest
+  -- masses one after the other, none of which is greater than the greatest
   module _ (greatest count k : ℕ) (r : Left) (test : (m : ℕ) → is_mass p n l m ≡ nat_le m greatest) (most : k ≤ count) (inside : byte_len w * k ≤ length r.bytes) (within : (i : ℕ) → i < k → number_at w r.bytes i ≤ greatest) where
     so_far : read_masses w p n l count r ≡ also_all (numbers w k r.bytes) (read_masses w p n l (count - k) (after (byte_len w * k) r))
     so_far = masses_run count k r most inside (λ i h. test (number_at w r.bytes i) ∙ le_yes (number_at w r.bytes i) greatest (within i h))
 
-    pub run_read : k ≡ count → read_masses w p n l count r ≡ read (numbers w k r.bytes) (after (byte_len w * k) r)
-    run_read all =
+    pub tested_read : k ≡ count → read_masses w p n l count r ≡ read (numbers w k r.bytes) (after (byte_len w * k) r)
+    tested_read all =
         all_read (read_masses w p n l count r) (numbers w k r.bytes) (read_masses w p n l (count - k) (after (byte_len w * k) r)) (after (byte_len w * k) r) so_far
         (masses_end w p n l count k (after (byte_len w * k) r) (omega arith))
 
-    pub run_bad : k < count → IsNoMass w greatest r.bytes k → read_masses w p n l count r ≡ bad (r.place + byte_len w * k)
-    run_bad few stop = so_far ∙ ap (also_all (numbers w k r.bytes)) (stopped stop) ∙ also_bad (numbers w k r.bytes) (r.place + byte_len w * k)
+    pub tested_bad : k < count → IsNoMass w greatest r.bytes k → read_masses w p n l count r ≡ bad (r.place + byte_len w * k)
+    tested_bad few stop = so_far ∙ ap (also_all (numbers w k r.bytes)) (stopped stop) ∙ also_bad (numbers w k r.bytes) (r.place + byte_len w * k)
       where
         stopped : IsNoMass w greatest r.bytes k → read_masses w p n l (count - k) (after (byte_len w * k) r) ≡ bad (r.place + byte_len w * k)
         stopped (inl short) = mass_cut w p n l count k (r.place + byte_len w * k) (after (byte_len w * k) r) few (number_short w k r inside short)

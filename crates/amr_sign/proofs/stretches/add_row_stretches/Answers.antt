@@ -2,11 +2,11 @@ use Rattle.std.proofs.Common.{◌≡◌, ℕ, ◌+◌, ◌*◌, ◌/◌, ◌<◌
 use lib.Count.{ones-le}
 use Rattle.std.specs.Prelude.{◌==◌}
 use Rattle.std.specs.Int.{bit_at}
-use Rattle.amr_sign.specs.Runs.{begins, ends, in_span, preceding}
+use Rattle.amr_sign.specs.Stretches.{begins, ends, in_span, preceding}
 use Rattle.amr_sign.proofs.Counts.{count_to_bound}
 use Rattle.amr_sign.proofs.Bits.{counted-first, none-below, window-whole, word-counted, word-more}
-use Rattle.amr_sign.proofs.RunCounts.{begins-inside, begun-bits, ended-bits, ends-inside, lifted-is, next-first, no-more, no-ones, none-preceding, quiet-begins, quiet-ends, quiet-next}
-use Rattle.amr_sign.proofs.runs.add_row_runs.Goals as goal
+use Rattle.amr_sign.proofs.StretchCounts.{begins-inside, begun-bits, ended-bits, ends-inside, lifted-is, next-first, no-more, no-ones, none-preceding, quiet-begins, quiet-ends, quiet-next}
+use Rattle.amr_sign.proofs.stretches.add_row_stretches.Goals as goal
 
 pub overflow_add-count : goal.overflow_add-count
 overflow_add-count c =

@@ -8,7 +8,7 @@ use Rattle.amr_patch.specs.Levels.{level_of}
 use Rattle.amr_ghost.specs.Strips.{step}
 use Rattle.amr_ghost.proofs.Beyond.{level_mass, no_mass, only_first, over_patch}
 use Rattle.amr_ghost.proofs.GhostStrips.{same_given}
-use Rattle.amr_ghost.proofs.runs.quarter_span.Goals as goal
+use Rattle.amr_ghost.proofs.gap_cells.quarter_span.Goals as goal
 
 pub quarter_strip-requires-clause-masses : goal.quarter_strip-requires-clause-masses
 quarter_strip-requires-clause-masses c k t =

@@ -8,7 +8,7 @@ use Rattle.amr_patch.specs.declared.patches.Patch.{Patch}
 use Rattle.amr_ghost.specs.Strips.{step}
 use Rattle.amr_ghost.specs.Frames.{old_masses}
 use Rattle.amr_ghost.specs.Filling.{AreGiven, HasGhosts, KeepsCells, KeepsGhosts}
-use Rattle.amr_ghost.proofs.sources.quarter_runs.Given as goal
+use Rattle.amr_ghost.proofs.sources.quarter_spans.Given as goal
 
 abbrev pub invariant-loop-done : goal.invariant-loop-done
 invariant-loop-done l = record {

@@ -1,9 +1,9 @@
-//! Counts of the bits of each column by runs: a run of bits of a row takes two steps, however long it is.
+//! Counts of the bits of each column by stretches: a stretch of bits of a row takes two steps, however long it is.
 
 ghost use Rattle.std.specs.Prelude.{◌≡◌, ℕ, ◌+◌, ◌-◌, ◌*◌, ◌^◌, ◌<◌, ◌≤◌, ◌&&◌, ◌==◌, not, length, EachIndex, slice_index};
 ghost use Rattle.std.specs.Int.{bit_at};
 ghost use Rattle.amr_sign.specs.Counts.{bit, count_to};
-ghost use Rattle.amr_sign.specs.Runs.{begins, ends, in_span, open_runs};
+ghost use Rattle.amr_sign.specs.Stretches.{begins, ends, in_span, open_stretches};
 ghost use Rattle.amr_sign.specs.Words.{row_bit};
 
 use crate::words::{BITS, add_word, masked_word};
@@ -30,9 +30,9 @@ fn apart_from(word: u64, other: u64) -> u64
     word & (word ^ other)
 }
 
-/// Counts the bits of a row from `low` to `high`, both inside, and in each column, of which 0 is `low`, the runs of bits
+/// Counts the bits of a row from `low` to `high`, both inside, and in each column, of which 0 is `low`, the stretches of bits
 /// that begin there, and those that end in the column before: one look at each word.
-pub fn add_row_runs(
+pub fn add_row_stretches(
     begun: &mut [u32],
     ended: &mut [u32],
     row: &[u64],
@@ -69,12 +69,12 @@ pub fn add_row_runs(
     count
 }
 
-/// How many runs go through each column, from those that begin there and those that end in the column before.
+/// How many stretches go through each column, from those that begin there and those that end in the column before.
 pub fn count_open(counts: &mut [u32], ended: &[u32])
     requires enough { length counts.old ≤ length ended.now }
-    requires fits { EachIndex counts.old (λ i. (slice_index ended.now i ≤ open_runs (slice_index counts.old) (slice_index ended.now) i)
-        × ((open_runs (slice_index counts.old) (slice_index ended.now) i - slice_index ended.now i) + slice_index counts.old i < 2 ^ 32)) }
-    ensures { EachIndex counts.new (λ i. slice_index counts.new i ≡ open_runs (slice_index counts.old) (slice_index ended.now) (i + 1)) }
+    requires fits { EachIndex counts.old (λ i. (slice_index ended.now i ≤ open_stretches (slice_index counts.old) (slice_index ended.now) i)
+        × ((open_stretches (slice_index counts.old) (slice_index ended.now) i - slice_index ended.now i) + slice_index counts.old i < 2 ^ 32)) }
+    ensures { EachIndex counts.new (λ i. slice_index counts.new i ≡ open_stretches (slice_index counts.old) (slice_index ended.now) (i + 1)) }
 {
     let mut count = 0;
     for i in 0..counts.len() {

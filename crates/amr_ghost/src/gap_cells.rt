@@ -1,4 +1,4 @@
-//! Runs of ghost cells in a gap between patches: a quarter of the mass of each one's parent.
+//! Ghost cells in a gap between patches: a quarter of the mass of each one's parent.
 
 ghost use Rattle.std.specs.Prelude.{◌≡◌, ℕ, ◌/◌, ◌<◌, ◌≤◌, false, length, slice_index_or, Bool, IfSome, IsTrue, List};
 ghost use Rattle.std.specs.Option.{option_copied};
@@ -86,7 +86,7 @@ fn quarter_span(
 }
 
 /// The same from the next coarser level at the start of its step. All get 0 where there is none.
-pub(crate) fn quarter_run(
+pub(crate) fn quarter_ahead(
     old: Option<&Level>,
     patches: &mut [Patch],
     i: usize,

@@ -1,5 +1,5 @@
-use Rattle.amr_sign.proofs.RunCounts.{raised-first, raised-others}
-use Rattle.amr_sign.proofs.runs.raised.Goals as goal
+use Rattle.amr_sign.proofs.StretchCounts.{raised-first, raised-others}
+use Rattle.amr_sign.proofs.stretches.raised.Goals as goal
 
 pub returns-clause-first : goal.returns-clause-first
 returns-clause-first c = rw c.from.ensures (raised-first c.args.word c.args.first)

@@ -1,5 +1,0 @@
-use Rattle.amr_sign.proofs.RunCounts.{apart-bit}
-use Rattle.amr_sign.proofs.runs.apart_from.Goals as goal
-
-pub returns : goal.returns
-returns c = λ i. apart-bit c.args.word c.args.other i
