@@ -1,5 +1,6 @@
 -- Tests of coordinates, what is in both of two boxes, and the width and height of a near box.
 use Rattle.std.proofs.Common.{◌≡◌, ℕ, ◌+◌, ◌*◌, ◌≤◌, ◌+ℤ◌, ◌-ℤ◌, Bool, true, false, ◌&&◌, ℤ, pos, negsuc, ◌≤ℤ◌, ◌<ℤ◌, int_le, refl, sym, ap, ◌∙◌, subst, arith}
+use Rattle.std.proofs.Math.Bool.{and-false}
 use Rattle.std.specs.Prelude.{IfSome, IsNone, IsSome, ◌↔◌}
 use Rattle.std.specs.declared.option.Option.{Option}
 use Rattle.std.specs.declared.option.Option.TheVariants.{None, Some}
@@ -54,10 +55,6 @@ half_le (negsuc a) (pos b) h = omega (arith, ints)
 half_le (negsuc a) (negsuc b) h = omega (arith, ints)
 
 pub ruleset calls = (holds-common, area_is, and-yes, to_z-of_z)
-
-and-false : (t : Bool) → (t && false) ≡ false
-and-false true = refl
-and-false false = refl
 
 -- ---- `meet`, by what `try_new` answers
 

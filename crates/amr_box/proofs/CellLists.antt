@@ -1,5 +1,6 @@
 -- The list of a box's cells holds exactly the cells of the box; a cell of a box that passes a test.
 use Rattle.std.proofs.Common.{◌≡◌, ℕ, zero, suc, ◌+◌, Bool, true, false, ◌&&◌, ◌||◌, ◌⊎◌, inl, inr, ℤ, pos, negsuc, ◌+ℤ◌, ◌-ℤ◌, ◌<ℤ◌, refl, sym, ap, subst, ◌∙◌, arith, List, [], ◌∷◌, map}
+use Rattle.std.proofs.Math.Bool.{or-false}
 use Rattle.std.specs.Prelude.{int_le, int_lt}
 use Rattle.std.specs.Ordering.{int_eq, eq_by_cmp}
 use Rattle.std.specs.List.{range_with_len, flat_map, list_any}
@@ -35,10 +36,6 @@ or-and : (a b c : Bool) → ((a && c) || (b && c)) ≡ ((a || b) && c)
 or-and true true true = refl
 or-and true true false = refl
 or-and true false c = or-false c
-  where
-    or-false : (c : Bool) → (c || false) ≡ c
-    or-false true = refl
-    or-false false = refl
 or-and false true c = refl
 or-and false false c = refl
 

@@ -1,5 +1,6 @@
 -- The parents and the children of a box's cells, and the cells near it.
 use Rattle.std.proofs.Common.{◌≡◌, ℕ, Bool, true, false, ◌&&◌, ◌||◌, ◌⊎◌, ℤ, pos, negsuc, ◌+ℤ◌, ◌-ℤ◌, ◌≤ℤ◌, refl, sym, ap, ◌∙◌, arith}
+use Rattle.std.proofs.lemmas.Bool.{and_from, and_parts}
 use Rattle.std.specs.Prelude.{IsTrue, ◌↔◌}
 use Rattle.std.specs.Int.{int_max, int_min}
 use Rattle.std.proofs.lemmas.Int.{ints, clamps}
@@ -10,11 +11,6 @@ use Rattle.amr_box.specs.Cells.{Extent, HasCorners, HoldsNear, IsBoxOf, IsProper
 half_is : (z : ℤ) → (z ≡ half z +ℤ half z) ⊎ (z ≡ half z +ℤ half z +ℤ pos 1)
 half_is (pos n) = grind (arith, ints)
 half_is (negsuc n) = grind (arith, ints)
-
-either : (a b : Bool) → (a ≡ true → b ≡ true) → (b ≡ true → a ≡ true) → a ≡ b
-either true b f g = sym (f refl)
-either false true f g = g refl
-either false false f g = refl
 
 within_halves : (lo hi h k z : ℤ) → lo ≤ℤ hi → (lo ≡ h +ℤ h) ⊎ (lo ≡ h +ℤ h +ℤ pos 1) → (hi ≡ k +ℤ k) ⊎ (hi ≡ k +ℤ k +ℤ pos 1) → within h k z ≡ (within lo hi (z +ℤ z +ℤ pos 0) || within lo hi (z +ℤ z +ℤ pos 1))
 within_halves lo hi h k z order e f = grind (arith, ints)
@@ -62,13 +58,6 @@ refined a b k = record {
 
 -- ---- the cells near a box
 
-and-true : (a b : Bool) → (a && b) ≡ true → (a ≡ true) × (b ≡ true)
-and-true true b h = (refl, h)
-and-true false b h = absurd (cc)
-
-both-true : (a b : Bool) → a ≡ true → b ≡ true → (a && b) ≡ true
-both-true a b e f = rw (e, f)
-
 -- the number of a range that is nearest to one
 nearest : ℤ → ℤ → ℤ → ℤ
 nearest lo hi z = int_max lo (int_min z hi)
@@ -93,14 +82,14 @@ grown_cells n a b p k c = (to, from)
     to : IsTrue (holds b c) → HoldsNear n a c
     to h =
         let s : pos 0 ≤ℤ pos n = omega (arith, ints) in
-        let t = and-true _ _ (sym corners ∙ h) in (
+        let t = and_parts _ _ (sym corners ∙ h) in (
           cell (nearest a.lo.x a.hi.x c.x) (nearest a.lo.y a.hi.y c.y),
-          both-true _ _ (nearest-within a.lo.x a.hi.x c.x p.wide) (nearest-within a.lo.y a.hi.y c.y p.high),
-          both-true _ _ (nearest-near a.lo.x a.hi.x c.x (pos n) p.wide s t.0) (nearest-near a.lo.y a.hi.y c.y (pos n) p.high s t.1),
+          and_from _ _ (nearest-within a.lo.x a.hi.x c.x p.wide) (nearest-within a.lo.y a.hi.y c.y p.high),
+          and_from _ _ (nearest-near a.lo.x a.hi.x c.x (pos n) p.wide s t.0) (nearest-near a.lo.y a.hi.y c.y (pos n) p.high s t.1),
         )
 
     from : HoldsNear n a c → IsTrue (holds b c)
     from h =
-        let t = and-true _ _ h.1 in
-        let u = and-true _ _ h.2 in
-        corners ∙ both-true _ _ (from_near a.lo.x a.hi.x h.0.x c.x (pos n) t.0 u.0) (from_near a.lo.y a.hi.y h.0.y c.y (pos n) t.1 u.1)
+        let t = and_parts _ _ h.1 in
+        let u = and_parts _ _ h.2 in
+        corners ∙ and_from _ _ (from_near a.lo.x a.hi.x h.0.x c.x (pos n) t.0 u.0) (from_near a.lo.y a.hi.y h.0.y c.y (pos n) t.1 u.1)

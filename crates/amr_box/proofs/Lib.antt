@@ -3,4 +3,5 @@ pub mod CellEquality
 pub mod CellLists
 pub mod Halves
 pub mod Parts
+pub mod Tests
 mod WorkedRows

@@ -1,6 +1,6 @@
 -- Sets of tags to which cells are added, more than once.
 use Rattle.std.proofs.Common.{◌≡◌, Bool, true, false, ◌&&◌, ◌||◌, refl, sym, ap, ◌∙◌}
-use Rattle.std.proofs.Math.Bool.{and-false, or-false}
+use Rattle.std.proofs.Math.Bool.{and-false, or-false, and-or_distrib_left}
 use Rattle.amr_box.specs.declared.Cell.{Cell}
 use Rattle.amr_box.specs.Cells.{Extent, holds}
 use Rattle.amr_tags.specs.TagSets.{SameShape, TagSet, has}
@@ -40,13 +40,9 @@ joined_twice v w both s t u same first second = record {
       ∙ sym (ap (λ (b : Bool). has s c || (holds s.bx c && b)) (same c));
 }
 
-and_or : (p a b : Bool) → (p && (a || b)) ≡ ((p && a) || (p && b))
-and_or true a b = refl
-and_or false a b = refl
-
 -- within a part
 pub joined_within : (part : Extent) (v w both : Cell → Bool) (s t u : TagSet) → ((c : Cell) → both c ≡ (v c || w c)) → IsJoined (λ c. holds part c && v c) s t → IsJoined (λ c. holds part c && w c) t u → IsJoined (λ c. holds part c && both c) s u
-joined_within part v w both s t u same = joined_twice (λ c. holds part c && v c) (λ c. holds part c && w c) (λ c. holds part c && both c) s t u (λ c. ap (λ (b : Bool). holds part c && b) (same c) ∙ and_or (holds part c) (v c) (w c))
+joined_within part v w both s t u same = joined_twice (λ c. holds part c && v c) (λ c. holds part c && w c) (λ c. holds part c && both c) s t u (λ c. ap (λ (b : Bool). holds part c && b) (same c) ∙ and-or_distrib_left (holds part c) (v c) (w c))
 
 pub joined_none_within : (part : Extent) (w : Cell → Bool) (s : TagSet) → ((c : Cell) → w c ≡ false) → IsJoined (λ c. holds part c && w c) s s
 joined_none_within part w s none = joined_none (λ c. holds part c && w c) s (λ c. ap (λ (b : Bool). holds part c && b) (none c) ∙ and-false (holds part c))

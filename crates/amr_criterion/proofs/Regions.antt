@@ -3,7 +3,7 @@ use Rattle.std.proofs.Common.{◌≡◌, ℕ, ◌+◌, ◌<◌, ◌≤◌, Bool,
 use Rattle.std.specs.Prelude.{unsigned_abs}
 use Rattle.std.proofs.lemmas.Int.{ints}
 use Rattle.std.proofs.lemmas.Bool.{and_parts}
-use Rattle.std.proofs.Math.Bool.{and-false}
+use Rattle.std.proofs.Math.Bool.{and-false, and-or_distrib_right, and-or_distrib_left}
 use Rattle.amr_box.specs.declared.Cell.{Cell}
 use Rattle.amr_box.specs.declared.Axis.{Axis}
 use Rattle.amr_box.specs.declared.Axis.TheVariants.{X, Y}
@@ -19,28 +19,17 @@ one_more low high z h = grind (arith, ints)
 pub two_parts : (low z : ℤ) (m n t : ℕ) → t ≡ m + n → within low (low +ℤ pos t -ℤ pos 1) z ≡ (within low (low +ℤ pos m -ℤ pos 1) z || within (low +ℤ pos m) (low +ℤ pos m +ℤ pos n -ℤ pos 1) z)
 two_parts low z m n t e = grind (arith, ints)
 
-pub and_or : (a b c : Bool) → ((a || b) && c) ≡ ((a && c) || (b && c))
-and_or true true true = refl
-and_or true true false = refl
-and_or true false true = refl
-and_or true false false = refl
-and_or false b c = refl
-
-or_and : (a b c : Bool) → (a && (b || c)) ≡ ((a && b) || (a && c))
-or_and true b c = refl
-or_and false b c = refl
-
 -- a row of cells, in two parts
 pub row_parts : (from : Cell) (m n t : ℕ) (c : Cell) → t ≡ m + n → holds (region from t 1) c ≡ (holds (region from m 1) c || holds (region (ahead from m) n 1) c)
 row_parts from m n t c e =
     let y = within from.y (from.y +ℤ pos 1 -ℤ pos 1) c.y in
-    ap (λ (b : Bool). b && y) (two_parts from.x c.x m n t e) ∙ and_or (within from.x (from.x +ℤ pos m -ℤ pos 1) c.x) (within (from.x +ℤ pos m) (from.x +ℤ pos m +ℤ pos n -ℤ pos 1) c.x) y
+    ap (λ (b : Bool). b && y) (two_parts from.x c.x m n t e) ∙ and-or_distrib_right (within from.x (from.x +ℤ pos m -ℤ pos 1) c.x) (within (from.x +ℤ pos m) (from.x +ℤ pos m +ℤ pos n -ℤ pos 1) c.x) y
 
 -- rows of cells, and one row more
 pub rows_parts : (from : Cell) (n m k t : ℕ) (c : Cell) → t ≡ m + k → holds (region from n t) c ≡ (holds (region from n m) c || holds (region (cell from.x (from.y +ℤ pos m)) n k) c)
 rows_parts from n m k t c e =
     let x = within from.x (from.x +ℤ pos n -ℤ pos 1) c.x in
-    ap (λ (b : Bool). x && b) (two_parts from.y c.y m k t e) ∙ or_and x (within from.y (from.y +ℤ pos m -ℤ pos 1) c.y) (within (from.y +ℤ pos m) (from.y +ℤ pos m +ℤ pos k -ℤ pos 1) c.y)
+    ap (λ (b : Bool). x && b) (two_parts from.y c.y m k t e) ∙ and-or_distrib_left x (within from.y (from.y +ℤ pos m -ℤ pos 1) c.y) (within (from.y +ℤ pos m) (from.y +ℤ pos m +ℤ pos k -ℤ pos 1) c.y)
 
 -- no columns, no rows
 none_within : (low z : ℤ) → within low (low +ℤ pos 0 -ℤ pos 1) z ≡ false
@@ -56,10 +45,10 @@ no_rows from n c = ap (λ (b : Bool). within from.x (from.x +ℤ pos n -ℤ pos 
 pub cells_after : (axis : Axis) (b : Extent) (c : Cell) → b.lo.x ≤ℤ b.hi.x → b.lo.y ≤ℤ b.hi.y → holds (with_after axis b) c ≡ (holds b c || holds b (before axis c))
 cells_after X b c wide high =
     let y = within b.lo.y b.hi.y c.y in
-    ap (λ (t : Bool). t && y) (one_more b.lo.x b.hi.x c.x wide) ∙ and_or (within b.lo.x b.hi.x c.x) (within b.lo.x b.hi.x (c.x -ℤ pos 1)) y
+    ap (λ (t : Bool). t && y) (one_more b.lo.x b.hi.x c.x wide) ∙ and-or_distrib_right (within b.lo.x b.hi.x c.x) (within b.lo.x b.hi.x (c.x -ℤ pos 1)) y
 cells_after Y b c wide high =
     let x = within b.lo.x b.hi.x c.x in
-    ap (λ (t : Bool). x && t) (one_more b.lo.y b.hi.y c.y high) ∙ or_and x (within b.lo.y b.hi.y c.y) (within b.lo.y b.hi.y (c.y -ℤ pos 1))
+    ap (λ (t : Bool). x && t) (one_more b.lo.y b.hi.y c.y high) ∙ and-or_distrib_left x (within b.lo.y b.hi.y c.y) (within b.lo.y b.hi.y (c.y -ℤ pos 1))
 
 -- a cell of a row stands so far on
 pub record IsAhead (from : Cell) (a n : ℕ) (c : Cell) : Type 0 where

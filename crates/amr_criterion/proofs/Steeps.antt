@@ -7,7 +7,8 @@ use Rattle.amr_box.specs.declared.Axis.{Axis}
 use Rattle.amr_box.specs.Cells.{Extent, holds}
 use Rattle.amr_def.specs.Tags.{differs_by}
 use Rattle.amr_criterion.specs.Pairs.{AreAlong, ahead, before, in_steep_pair, is_steep, region, with_after}
-use Rattle.amr_criterion.proofs.Regions.{ahead_of, and_or, cells_after, row_parts}
+use Rattle.std.proofs.Math.Bool.{and-or_distrib_right}
+use Rattle.amr_criterion.proofs.Regions.{ahead_of, cells_after, row_parts}
 
 shuffle : (a b c d : Bool) → ((a || b) || (c || d)) ≡ ((a || c) || (b || d))
 shuffle true b c d = refl
@@ -21,7 +22,7 @@ steep_union threshold value axis a b r union c =
     let s = is_steep threshold value axis c in
     let t = is_steep threshold value axis (before axis c) in
     (λ i. (union c i && s) || (union (before axis c) i && t))
-    ∙ (λ i. and_or (holds a c) (holds b c) s i || and_or (holds a (before axis c)) (holds b (before axis c)) t i)
+    ∙ (λ i. and-or_distrib_right (holds a c) (holds b c) s i || and-or_distrib_right (holds a (before axis c)) (holds b (before axis c)) t i)
     ∙ shuffle (holds a c && s) (holds b c && s) (holds a (before axis c) && t) (holds b (before axis c) && t)
 
 none_of : (h s : Bool) → (h ≡ true → s ≡ false) → (h && s) ≡ false

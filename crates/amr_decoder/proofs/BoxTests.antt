@@ -1,5 +1,6 @@
 -- The tests on a box, apart from those against earlier ones.
-use Rattle.std.proofs.Common.{◌≡◌, ℕ, zero, suc, ◌-◌, ◌*◌, ◌^◌, ◌≤◌, ◌<◌, Bool, true, false, ◌&&◌, not, pos, ◌-ℤ◌, List, [], refl, sym, ap, ◌∙◌, arith, pow_pos}
+use Rattle.std.proofs.Common.{◌≡◌, ℕ, zero, suc, ◌-◌, ◌*◌, ◌^◌, ◌≤◌, ◌<◌, true, ◌&&◌, not, pos, ◌-ℤ◌, List, [], refl, sym, ap, ◌∙◌, arith, pow_pos}
+use Rattle.std.proofs.Math.Bool.{and-true}
 use Rattle.std.specs.Prelude.{nat_eq}
 use Rattle.std.specs.Ordering.{int_eq}
 use Rattle.std.proofs.lemmas.Int.{ints}
@@ -26,14 +27,10 @@ unfolding is_box_of
 base_is p zero b h = refl
 base_is p (suc l) b h = absurd (omega arith)
 
-and_true : (t : Bool) → (t && true) ≡ t
-and_true true = refl
-and_true false = refl
-
 pub fine_is : (p : Problem) (l : ℕ) (b : Extent) → (l ≡ 0 → ⊥) → is_box_of p l [] b ≡ (lies_in (domain p l) b && is_proper b && is_aligned p.blocking b)
 unfolding is_box_of
 fine_is p zero b h = absurd (h refl)
-fine_is p (suc l) b h = and_true (lies_in (domain p (suc l)) b && is_proper b && is_aligned p.blocking b)
+fine_is p (suc l) b h = and-true (lies_in (domain p (suc l)) b && is_proper b && is_aligned p.blocking b)
 
 -- with the earlier ones
 pub base_with : (p : Problem) (l : ℕ) (earlier : List Extent) (b : Extent) → l ≡ 0 → is_box_of p l earlier b ≡ is_box_of p l [] b
@@ -44,7 +41,7 @@ base_with p (suc l) earlier b h = absurd (omega arith)
 pub fine_with : (p : Problem) (l : ℕ) (earlier : List Extent) (b : Extent) → (l ≡ 0 → ⊥) → is_box_of p l earlier b ≡ (is_box_of p l [] b && not (list_any (meets b) earlier))
 unfolding is_box_of
 fine_with p zero earlier b h = absurd (h refl)
-fine_with p (suc l) earlier b h = ap (λ t. t && not (list_any (meets b) earlier)) (sym (and_true (lies_in (domain p (suc l)) b && is_proper b && is_aligned p.blocking b)))
+fine_with p (suc l) earlier b h = ap (λ t. t && not (list_any (meets b) earlier)) (sym (and-true (lies_in (domain p (suc l)) b && is_proper b && is_aligned p.blocking b)))
 
 -- ---- the corners of a domain
 

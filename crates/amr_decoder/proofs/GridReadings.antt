@@ -1,5 +1,6 @@
 -- Boxes with their masses, read one after another.
 use Rattle.std.proofs.Common.{◌≡◌, ℕ, zero, suc, ◌+◌, ◌-◌, ◌<◌, Bool, true, false, ◌&&◌, ◌||◌, not, List, [], ◌∷◌, refl, sym, ap, ◌∙◌, arith}
+use Rattle.std.proofs.Math.Bool.{or-false, or_comm}
 use Rattle.std.specs.Prelude.{nat_lt, reverse}
 use Rattle.std.specs.Int.{Width}
 use Rattle.std.specs.List.{list_any}
@@ -15,22 +16,12 @@ use Rattle.amr_decoder.proofs.BoxTests.{base_with, fine_with}
 use Rattle.amr_decoder.proofs.Lists.{one_left}
 use Rattle.amr_decoder.proofs.Readings.{fault_first, fault_same}
 
-or_none : (t : Bool) → (t || false) ≡ t
-or_none true = refl
-or_none false = refl
-
-or_swap : (a b : Bool) → (a || b) ≡ (b || a)
-or_swap true true = refl
-or_swap true false = refl
-or_swap false true = refl
-or_swap false false = refl
-
 pub any-reverse : {A : Type 0} (test : A → Bool) (xs : List A) → list_any test xs ≡ list_any test (reverse xs)
 any-reverse test [] = refl
 any-reverse test (x ∷ xs) =
-    or_swap (test x) (list_any test xs)
+    or_comm (test x) (list_any test xs)
     ∙ ap (λ t. t || test x) (any-reverse test xs)
-    ∙ ap (λ t. list_any test (reverse xs) || t) (sym (or_none (test x)))
+    ∙ ap (λ t. list_any test (reverse xs) || t) (sym (or-false (test x)))
     ∙ sym (list_any-append test (reverse xs) (x ∷ []))
     ∙ ap (list_any test) (sym (reverse-append (x ∷ []) xs))
 

@@ -6,7 +6,7 @@ use Rattle.std.specs.Ordering.{int_eq}
 use Rattle.std.specs.List.{All, list_any}
 use Rattle.std.specs.declared.option.Option.{Option}
 use Rattle.std.proofs.lemmas.Int.{ints, clamps}
-use Rattle.std.proofs.lemmas.Bool.{and_from, and_parts, both_ways, or_cases, or_left, or_right}
+use Rattle.std.proofs.lemmas.Bool.{and_from, and_parts, both_ways, or_cases, or_left, or_right, true_from_ne_false}
 use Rattle.std.proofs.lemmas.List.{map-append, reverse-append}
 use Rattle.std.proofs.lemmas.List.Folds.{list_any-append}
 use Rattle.amr_box.specs.declared.Cell.{Cell}
@@ -25,7 +25,7 @@ use Rattle.amr_payload.proofs.GridLevels.{fine_box, is_proper_from, meeting_cell
 use Rattle.amr_decoder.specs.declared.grid.Grid.{Grid}
 use Rattle.amr_decoder.specs.Apart.{IsOverParents, newest_first}
 use Rattle.amr_decoder.specs.Grids.{boxes_of}
-use Rattle.amr_decoder.proofs.Bools.{same_bool}
+use Rattle.amr_box.proofs.Tests.{same_test}
 
 -- ---- two boxes
 
@@ -137,14 +137,10 @@ module _ (below b : Extent) (q : IsOverParents below b) where
   pub met_by_tags : {A : Type 0} (found : Option A) (bs : List Extent) (tags : Cell → Bool) → All (IsOverParents below) bs → ((c : Cell) → tags c ≡ (holds below c && in_boxes (map parents_of bs) c))
       → (IsNone found ↔ ((c : Cell) → (holds (parents_of b) c && tags c) ≡ false)) → is_some found ≡ list_any (meets b) bs
   met_by_tags found bs tags all are none =
-      same_bool (is_some found) (list_any (meets b) bs)
-      (λ h. by_test (list_any (meets b) bs) (λ e. both_ways (is_some found) (none.1 (no_tag e)) h))
-      (λ h. by_test (is_some found) (λ e. both_ways (list_any (meets b) bs) (none_met bs all (no_cell (none.0 e))) h))
+      same_test (is_some found) (list_any (meets b) bs)
+      (λ h. true_from_ne_false (list_any (meets b) bs) (λ e. both_ways (is_some found) (none.1 (no_tag e)) h))
+      (λ h. true_from_ne_false (is_some found) (λ e. both_ways (list_any (meets b) bs) (none_met bs all (no_cell (none.0 e))) h))
     where
-      by_test : (t : Bool) → (t ≡ false → ⊥) → t ≡ true
-      by_test true n = refl
-      by_test false n = absurd (n refl)
-
       no_tag : list_any (meets b) bs ≡ false → (c : Cell) → (holds (parents_of b) c && tags c) ≡ false
       no_tag e c = both_false (holds (parents_of b) c) (tags c) (λ here tagged. none_common bs all e c here (and_parts (holds below c) (in_boxes (map parents_of bs) c) (sym (are c) ∙ tagged)).1)
 

@@ -1,5 +1,6 @@
 -- Where no face is marked, what flows through the faces of a patch follows from its values.
-use Rattle.std.proofs.Common.{◌≡◌, ℕ, zero, suc, ◌+◌, Bool, true, false, ◌&&◌, List, [], refl, ap, ◌∙◌, arith}
+use Rattle.std.proofs.Common.{◌≡◌, ℕ, zero, suc, ◌+◌, List, [], refl, ap, ◌∙◌, arith}
+use Rattle.std.proofs.Math.Bool.{and-false}
 use Rattle.std.specs.Prelude.{cond, nat_eq, slice_index}
 use Rattle.amr_box.specs.Cells.{height, width}
 use Rattle.amr_def.specs.declared.problem.Problem.{Problem}
@@ -9,10 +10,6 @@ use Rattle.amr_flux.specs.Rows.{signed}
 use Rattle.amr_flux.specs.Tables.{Stands, count_below, x_flux, x_marked, x_number, x_through, y_flux, y_marked, y_number, y_through}
 use Rattle.amr_flux.proofs.Owned.{x_beside, y_beside}
 use Rattle.amr_flux.proofs.Updates.{AreFluxes}
-
-no_and : (b : Bool) → (b && false) ≡ false
-no_and true = refl
-no_and false = refl
 
 -- no face is counted
 no_ends : (w n : ℕ) → count_below (x_marked w []) n ≡ 0
@@ -28,11 +25,11 @@ none_marked w h = omega (arith, no_ends w h, no_tops w h w)
 
 x_alone : (p : Problem) (l first w : ℕ) (border values : List ℕ) (i j : ℕ) → x_through p l first w [] border values i j ≡ x_flux p l first w values i j
 unfolding x_through
-x_alone p l first w border values i j = ap (λ b. cond b (signed (x_number p l (first + j)) (slice_index border (count_below (x_marked w []) j))) (x_flux p l first w values i j)) (no_and (nat_eq i w))
+x_alone p l first w border values i j = ap (λ b. cond b (signed (x_number p l (first + j)) (slice_index border (count_below (x_marked w []) j))) (x_flux p l first w values i j)) (and-false (nat_eq i w))
 
 y_alone : (p : Problem) (l first w h : ℕ) (border values : List ℕ) (i j : ℕ) → y_through p l first w h [] border values i j ≡ y_flux p l first w values i j
 unfolding y_through
-y_alone p l first w h border values i j = ap (λ b. cond b (signed (y_number p l (first + i)) (slice_index border (count_below (x_marked w []) h + count_below (y_marked w h []) i))) (y_flux p l first w values i j)) (no_and (nat_eq j h))
+y_alone p l first w h border values i j = ap (λ b. cond b (signed (y_number p l (first + i)) (slice_index border (count_below (x_marked w []) h + count_below (y_marked w h []) i))) (y_flux p l first w values i j)) (and-false (nat_eq j h))
 
 pub alone_fluxes : (p : Problem) (l : ℕ) (q : Patch) (column row : ℕ) → Stands p l q.bx column row → AreFluxes q (flux_beside p l q) (x_through p l row (width q.bx) [] [] q.values.items) (y_through p l column (width q.bx) (height q.bx) [] [] q.values.items)
 alone_fluxes p l q column row s = record {

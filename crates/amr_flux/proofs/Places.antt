@@ -1,5 +1,6 @@
 -- The entries of a patch's lists, and its cells and faces.
 use Rattle.std.proofs.Common.{◌≡◌, ℕ, ◌+◌, ◌<◌, ◌≤◌, Bool, true, false, ◌&&◌, ℤ, pos, negsuc, ◌+ℤ◌, ◌-ℤ◌, ◌≤ℤ◌, ◌<ℤ◌, refl, sym, ap, ◌∙◌, arith}
+use Rattle.std.proofs.lemmas.Bool.{false_from_ne_true}
 use Rattle.std.specs.Prelude.{not, slice_index, slice_index_or}
 use Rattle.std.proofs.lemmas.Int.{ints}
 use Rattle.amr_box.specs.declared.Cell.{Cell}
@@ -158,10 +159,6 @@ y_face_at b x y near e =
     let ey : pos (at_least_zero (y -ℤ b.lo.y)) ≡ y -ℤ b.lo.y = whole (y -ℤ b.lo.y) (omega (arith, ints, k.south)) in
     record { at = record { column = ex; row = ey }; column = omega (arith, ints, ex, k.east, s.wide); row = omega (arith, ints, ey, k.north, s.high) }
 
-not_true : (a : Bool) → (a ≡ true → ⊥) → a ≡ false
-not_true true f = absurd (f refl)
-not_true false f = refl
-
 not_false : (a : Bool) → not a ≡ true → a ≡ false
 not_false true e = cc
 not_false false e = refl
@@ -170,12 +167,12 @@ not_false false e = refl
 pub x_beyond : (b : Extent) (x y : ℤ) (i j : ℕ) → IsNear b → IsXFace b x y i j → i ≡ width b → holds b (cell x y) ≡ false
 x_beyond b x y i j near f last =
     let s = sides b near in
-    not_true (holds b (cell x y)) (λ e. let k = inside b (cell x y) e in let east : x ≤ℤ b.hi.x = k.east in omega (arith, ints, east, f.at.column, s.wide))
+    false_from_ne_true (holds b (cell x y)) (λ e. let k = inside b (cell x y) e in let east : x ≤ℤ b.hi.x = k.east in omega (arith, ints, east, f.at.column, s.wide))
 
 pub y_beyond : (b : Extent) (x y : ℤ) (i j : ℕ) → IsNear b → IsYFace b x y i j → j ≡ height b → holds b (cell x y) ≡ false
 y_beyond b x y i j near f last =
     let s = sides b near in
-    not_true (holds b (cell x y)) (λ e. let k = inside b (cell x y) e in let north : y ≤ℤ b.hi.y = k.north in omega (arith, ints, north, f.at.row, s.high))
+    false_from_ne_true (holds b (cell x y)) (λ e. let k = inside b (cell x y) e in let north : y ≤ℤ b.hi.y = k.north in omega (arith, ints, north, f.at.row, s.high))
 
 unmarked : (a b m : Bool) → (a && not (a && not b && m)) ≡ true → b ≡ false → m ≡ false
 unmarked true true m e h = cc

@@ -1,5 +1,6 @@
 -- After a regrid each tagged cell is covered.
-use Rattle.std.proofs.Common.{◌≡◌, ℕ, zero, suc, ◌+◌, ◌<◌, Bool, true, false, ◌&&◌, pos, ◌-ℤ◌, is_some, IsSome, sym, ap, subst, ◌∙◌, arith, List, [], ◌∷◌, length, add-one}
+use Rattle.std.proofs.Common.{◌≡◌, ℕ, zero, suc, ◌+◌, ◌<◌, Bool, true, false, pos, ◌-ℤ◌, is_some, IsSome, sym, ap, subst, ◌∙◌, arith, List, [], ◌∷◌, length, add-one}
+use Rattle.std.proofs.lemmas.Bool.{and_from}
 use Rattle.std.specs.Prelude.{slice_index_or}
 use Rattle.std.specs.Option.{unwrap_or}
 use Rattle.std.proofs.lemmas.Int.{ints}
@@ -35,14 +36,11 @@ itself p l c i = ap (home_cell (domain p l)) (same_cell (plus_none c.x) (plus_no
 none_away : (n : ℕ) → within (pos 0 -ℤ pos n) (pos n) (pos 0) ≡ true
 none_away n = grind (arith, ints)
 
-both_hold : (a b : Bool) → a ≡ true → b ≡ true → (a && b) ≡ true
-both_hold a b e f = rw (e, f)
-
 grown_itself : (p : Problem) (l : ℕ) (tagged : Cell → Bool) (c : Cell) → IsCellInside p l c → tagged c ≡ true → is_grown p l tagged c ≡ true
 grown_itself p l tagged c i h =
     let n = p.n_error_buf in
     any_in_box (λ o. tagged (home_cell (domain p l) (moved c o))) (extent (cell (pos 0 -ℤ pos n) (pos 0 -ℤ pos n)) (cell (pos n) (pos n))) (cell (pos 0) (pos 0))
-    (both_hold _ _ (none_away n) (none_away n)) (ap tagged (itself p l c i) ∙ h)
+    (and_from _ _ (none_away n) (none_away n)) (ap tagged (itself p l c i) ∙ h)
 
 -- ---- where a level has a box, those below it have one
 

@@ -1,5 +1,6 @@
 -- Where the flow through a face on the edges of a box goes.
 use Rattle.std.proofs.Common.{◌≡◌, ℕ, ◌+◌, ◌*◌, Bool, true, false, ◌&&◌, cond, ℤ, pos, List, [], ◌∷◌, ◌++◌, map, refl, sym, ap, ◌∙◌}
+use Rattle.std.proofs.lemmas.Bool.{and_from, and_left, and_right}
 use Rattle.std.specs.Prelude.{not, int_lt}
 use Rattle.std.specs.Ordering.{int_eq}
 use Rattle.std.proofs.lemmas.List.{map-append}
@@ -49,18 +50,6 @@ both_true : (a b c : Bool) → a ≡ true → (b && c) ≡ ((a && b) && c)
 both_true true b c e = refl
 both_true false b c e = cc
 
-first_false : (a b : Bool) → a ≡ false → (a && b) ≡ false
-first_false true b e = cc
-first_false false b e = refl
-
-first_true : (a b : Bool) → a ≡ true → b ≡ true → (a && b) ≡ true
-first_true true b e f = f
-first_true false b e f = cc
-
-second_false : (a b : Bool) → b ≡ false → (a && b) ≡ false
-second_false true b e = e
-second_false false b e = refl
-
 is_not_zero : (z : ℤ) → (z ≡ pos 0 → ⊥) → not (int_eq z (pos 0)) ≡ true
 is_not_zero z ne = from (int_eq z (pos 0)) refl
   where
@@ -90,15 +79,15 @@ module _ (s : Around) (b : Extent) (f : Face) where
 
   pub no_exchange : is_coarse_fine s b f ≡ false → is_exchange_face s b f ≡ false
   unfolding is_exchange_face
-  no_exchange e = first_false (is_coarse_fine s b f) (not (int_eq (inward s.problem s.level b f) (pos 0))) e
+  no_exchange e = and_left (is_coarse_fine s b f) (not (int_eq (inward s.problem s.level b f) (pos 0))) e
 
   pub none_flows : (i : ℤ) → i ≡ inward s.problem s.level b f → i ≡ pos 0 → is_exchange_face s b f ≡ false
   unfolding is_exchange_face
-  none_flows i at e = second_false (is_coarse_fine s b f) (not (int_eq (inward s.problem s.level b f) (pos 0))) (is_zero (inward s.problem s.level b f) (sym at ∙ e))
+  none_flows i at e = and_right (is_coarse_fine s b f) (not (int_eq (inward s.problem s.level b f) (pos 0))) (is_zero (inward s.problem s.level b f) (sym at ∙ e))
 
   pub some_flows : (i : ℤ) → i ≡ inward s.problem s.level b f → (i ≡ pos 0 → ⊥) → is_coarse_fine s b f ≡ true → is_exchange_face s b f ≡ true
   unfolding is_exchange_face
-  some_flows i at ne e = first_true (is_coarse_fine s b f) (not (int_eq (inward s.problem s.level b f) (pos 0))) e (is_not_zero (inward s.problem s.level b f) (λ z. ne (at ∙ z)))
+  some_flows i at ne e = and_from (is_coarse_fine s b f) (not (int_eq (inward s.problem s.level b f) (pos 0))) e (is_not_zero (inward s.problem s.level b f) (λ z. ne (at ∙ z)))
 
   pub ledger_in : (t : Bool) (k : Cell) (i : ℤ) → t ≡ is_covered s.finer k → k ≡ inside b f → i ≡ inward s.problem s.level b f → is_open s b f ≡ true → (not t && int_lt (pos 0) i) ≡ is_inflow_face s b f
   unfolding is_inflow_face is_ledger_face

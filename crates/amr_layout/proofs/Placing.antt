@@ -1,5 +1,6 @@
 -- One more border face gets a place, and the patch that owns it the put.
 use Rattle.std.proofs.Common.{◌≡◌, ℕ, suc, ◌+◌, ◌<◌, Bool, true, false, cond, List, [], ◌∷◌, ◌++◌, length, length-append, get_or, set, map, refl, sym, ap, subst, ◌∙◌, inl, inr, arith, append-nil}
+use Rattle.std.proofs.lemmas.Bool.{false_from_ne_true}
 use Rattle.std.specs.List.{filter}
 use Rattle.std.specs.Global.{Vec}
 use Rattle.std.proofs.lemmas.Bool.Decides.{eqb_tells}
@@ -60,14 +61,10 @@ one_lot d ps done f n lots j new apart own there is put k v q below =
           ∙ sym (more ∙ ap (λ t. puts_among d b done ++ cond t (put_of d (length done) f ∷ []) []) mine)
       | inr other ↦
           let at : get_or (set lots j new) k v ≡ get_or lots k v = get_or-set_other lots j k new v other.1 in
-          let not_mine : holds b c ≡ false = not_true (holds b c) (λ e. other.1 (one_patch ps c k j q apart below there e (own q))) in
+          let not_mine : holds b c ≡ false = false_from_ne_true (holds b c) (λ e. other.1 (one_patch ps c k j q apart below there e (own q))) in
           ap (λ (w : Vec PutAt). w.items) at ∙ put.each k v q below ∙ sym (append-nil (puts_among d b done))
           ∙ sym (more ∙ ap (λ t. puts_among d b done ++ cond t (put_of d (length done) f ∷ []) []) not_mine)
     ]
-  where
-    not_true : (b : Bool) → (b ≡ true → ⊥) → b ≡ false
-    not_true true h = absurd (h refl)
-    not_true false h = refl
 
 pub one_more : (d : Domain) (ps : List Patch) (done : List Face) (f : Face) (n : ℕ) (lots : List (Vec PutAt)) (j : ℕ) (new : Vec PutAt)
     → ArePatchesApart ps → leads_on d ps f ≡ true → ((e : Patch) → holds (box (get_or ps j e)) (high_cell (home_face d f)) ≡ true) → j < length ps

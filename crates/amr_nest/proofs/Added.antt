@@ -5,6 +5,7 @@ use Rattle.std.specs.List.{count_by, list_any}
 use Rattle.std.proofs.lemmas.Bool.{and_from, and_parts, both_ways, eqb-true, or_cases, or_left, or_right}
 use Rattle.std.proofs.lemmas.List.Sums.{sum_by-cons}
 use Rattle.amr_box.specs.declared.Cell.{Cell}
+use Rattle.amr_box.proofs.Tests.{same_test}
 use Rattle.amr_box.specs.Cells.{Extent, cells_of, holds}
 use Rattle.amr_box.proofs.CellLists.{any_in_box}
 use Rattle.amr_def.specs.Domain.{Domain, domain_box, in_domain, is_near}
@@ -48,11 +49,6 @@ had f g b wider same c held passes = choose (f c) refl
     choose true e = e
     choose false e = absurd (both_ways (list_any (λ x. g x && not (f x)) (cells_of b)) (none_further f g (cells_of b) wider same) (any_in_box (λ x. g x && not (f x)) b c held (and_from (g c) (not (f c)) passes (ap not e))))
 
-same_bool : (a b : Bool) → (a ≡ true → b ≡ true) → (b ≡ true → a ≡ true) → a ≡ b
-same_bool true b there back = sym (there refl)
-same_bool false true there back = back refl
-same_bool false false there back = refl
-
 -- ---- boxes of a level, and the cells around finer ones
 
 -- the cells of the coarse boxes were tagged, m of them, and then those around the fine ones, together n
@@ -85,7 +81,7 @@ module _ (d : Domain) (before after : Cell → Bool) (fine coarse : List Extent)
   same_count : ((c : Cell) → in_domain d c ≡ true → is_near d 1 (is_covered_by fine) c ≡ true → in_boxes coarse c ≡ true) → n ≡ m
   same_count all =
       let same : (λ (c : Cell). holds b c && after c) ≡ (λ (c : Cell). holds b c && before c) = λ i c.
-      same_bool (holds b c && after c) (holds b c && before c) (λ h. let k = and_parts (holds b c) (after c) h in and_from (holds b c) (before c) k.0 (earlier all c k.1)) (wider c) i in
+      same_test (holds b c && after c) (holds b c && before c) (λ h. let k = and_parts (holds b c) (after c) h in and_from (holds b c) (before c) k.0 (earlier all c k.1)) (wider c) i in
       n_is ∙ ap (λ (test : Cell → Bool). count_by test (cells_of b)) same ∙ sym m_is
 
   pub surrounded_by_counts : IsTrue (nat_eq n m) ↔ ((c : Cell) → IsTrue (in_domain d c) → IsTrue (is_near d 1 (is_covered_by fine) c) → IsTrue (in_boxes coarse c))

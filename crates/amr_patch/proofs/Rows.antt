@@ -1,8 +1,8 @@
 -- Where a cell stands among the cells of a box, in rows.
-use Rattle.std.proofs.Common.{◌≡◌, ℕ, ◌+◌, ◌*◌, ◌<◌, ◌≤◌, Bool, true, ◌&&◌, ℤ, pos, negsuc, ◌+ℤ◌, ◌-ℤ◌, ◌≤ℤ◌, refl, arith}
+use Rattle.std.proofs.Common.{◌≡◌, ℕ, ◌+◌, ◌*◌, ◌<◌, ◌≤◌, true, ℤ, pos, negsuc, ◌+ℤ◌, ◌-ℤ◌, ◌≤ℤ◌, refl, arith}
 use Rattle.std.specs.Prelude.{int_le}
 use Rattle.std.proofs.lemmas.Int.{ints}
-use Rattle.std.proofs.lemmas.Bool.{and_parts}
+use Rattle.std.proofs.lemmas.Bool.{and_parts, and_from}
 use Rattle.std.proofs.lemmas.Nat.{rows}
 use Rattle.std.proofs.Math.Nat.{mul-le-mul_right}
 use Rattle.amr_box.specs.declared.Cell.{Cell}
@@ -40,11 +40,8 @@ inside b c e =
     let y = between b.lo.y b.hi.y c.y t.1 in
     record { west = x.from; east = x.to; south = y.from; north = y.to }
 
-both : (a b : Bool) → a ≡ true → b ≡ true → (a && b) ≡ true
-both a b e f = rw e f
-
 pub is_inside : (b : Extent) (c : Cell) → IsIn b c → holds b c ≡ true
-is_inside b c h = both (within b.lo.x b.hi.x c.x) (within b.lo.y b.hi.y c.y) (is_between b.lo.x b.hi.x c.x h.west h.east) (is_between b.lo.y b.hi.y c.y h.south h.north)
+is_inside b c h = and_from (within b.lo.x b.hi.x c.x) (within b.lo.y b.hi.y c.y) (is_between b.lo.x b.hi.x c.x h.west h.east) (is_between b.lo.y b.hi.y c.y h.south h.north)
 
 -- ---- places
 

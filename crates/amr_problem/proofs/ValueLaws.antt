@@ -1,7 +1,7 @@
 -- Laws of the readers of a document's values.
-use Rattle.std.proofs.Common.{◌≡◌, ◌∙◌, sym, ap, refl, ℕ, ◌+◌, ◌<◌, ◌≤◌, ◌≢◌, Bool, true, false, ◌||◌, ◌==◌, ℤ, pos, inl, inr, eq-eqb, List, [], ◌∷◌, ◌++◌, length, drop, take, get_or, set, append_assoc, Option, Some, None, option_map, arith, append-nil}
+use Rattle.std.proofs.Common.{◌≡◌, ◌∙◌, sym, ap, refl, ℕ, ◌+◌, ◌<◌, ◌≤◌, ◌≢◌, true, ◌==◌, ℤ, pos, inl, inr, eq-eqb, List, [], ◌∷◌, ◌++◌, length, drop, take, get_or, set, append_assoc, Option, Some, None, option_map, arith, append-nil}
 use Rattle.std.specs.Ordering.{int_eq}
-use Rattle.std.proofs.lemmas.Bool.{ne_eqb, cases_Bool}
+use Rattle.std.proofs.lemmas.Bool.{ne_eqb, cases_Bool, or_right}
 use Rattle.std.proofs.lemmas.Option.{same_Some}
 use Rattle.std.proofs.lemmas.List.{take_more_set, drop_all, take_all}
 use Rattle.toml.specs.Data.{Data, as_integer, as_array, Items, no_items, item, Members}
@@ -77,13 +77,9 @@ shear_in-lines many items zs h =
       | inl same ↦
           let read : integers items ≡ Some zs = rw same at h in
           let length_is : length zs ≡ count items = length-integers items zs read in
-          or_second (length zs == 0) (int_eq (pos (length zs)) many) (rw length_is same)
+          or_right (length zs == 0) (int_eq (pos (length zs)) many) (rw length_is same)
       | inr other ↦ absurd (let e = rw other at h in cc)
     ]
-  where
-    or_second : (a b : Bool) → b ≡ true → a || b ≡ true
-    or_second true b h = refl
-    or_second false b h = h
 
 shear_of-lines : (many : ℤ) (d : Option Items) (zs : List ℤ) → d >>= shear_in many ≡ Some zs → is_for_lines many zs ≡ true
 shear_of-lines many None zs h = absurd (cc)

@@ -1,5 +1,6 @@
 -- The order of cells by row, within a row by column.
 use Rattle.std.proofs.Common.{◌≡◌, ◌∙◌, ℕ, zero, suc, ◌+◌, Bool, true, false, ◌&&◌, ◌⊎◌, inl, inr, ℤ, pos, ◌+ℤ◌, ◌<ℤ◌, List, [], ◌∷◌, ◌++◌, map, refl, sym, ap, subst, int_cmp, arith}
+use Rattle.std.proofs.Math.Bool.{and_comm}
 use Rattle.std.specs.List.{AllByRecursion, AllPairs, Contains, flat_map, range_with_len}
 use Rattle.std.specs.List.Sorted.{IsStrictlySortedBy}
 use Rattle.std.specs.Ordering.{MatchOrdering, eq_by_cmp, int_eq, ordering_then}
@@ -152,14 +153,9 @@ same_sorted (x ∷ xs) (y ∷ ys) s t f g = λ i. heads i ∷ same_sorted xs ys 
 -- ---- sorted, and each once
 
 -- cells that the order doesn't tell apart are one
-and_turned : (a b : Bool) → (a && b) ≡ (b && a)
-and_turned true true = refl
-and_turned true false = refl
-and_turned false true = refl
-and_turned false false = refl
 
 pub ties : (a b : Cell) → have_same_coordinates a b ≡ eq_by_cmp row_cmp a b
-ties a b = and_turned (int_eq a.x b.x) (int_eq a.y b.y) ∙ tied_then (int_cmp a.y b.y) (int_cmp a.x b.x)
+ties a b = and_comm (int_eq a.x b.x) (int_eq a.y b.y) ∙ tied_then (int_cmp a.y b.y) (int_cmp a.x b.x)
 
 pub rising : (cs : List Cell) → IsStrictlySortedBy row_cmp cs → AllPairs (λ a b. row_cmp a b ≡ Less) cs
 rising cs h i j d lt l = Less-from_sorted row_cmp cs i j d h lt l

@@ -1,5 +1,6 @@
 -- Cells in order stand by rows, so that those of some rows are a span.
 use Rattle.std.proofs.Common.{◌≡◌, ◌∙◌, ℕ, ◌<◌, ◌≤◌, Bool, true, false, ◌&&◌, ◌⊎◌, inl, inr, ℤ, pos, ◌-ℤ◌, ◌≤ℤ◌, ◌<ℤ◌, List, length, refl, sym, ap, subst, arith}
+use Rattle.std.proofs.Math.Bool.{and-false}
 use Rattle.std.specs.Prelude.{int_le, int_lt, nat_lt, not, slice_index_or}
 use Rattle.std.specs.List.Sorted.{IsPartitionPoint, IsPartitionedBy}
 use Rattle.std.specs.Cmp.{int_ranks}
@@ -152,9 +153,5 @@ no_row_span low high w cs s from to h k = record {
   at = λ j c lt. empty j ∙ sym (both_out low high w (slice_index_or cs j c).y h k);
 }
   where
-    and_false : (a : Bool) → (a && false) ≡ false
-    and_false true = refl
-    and_false false = refl
-
     empty : (j : ℕ) → is_place_of s j ≡ false
-    empty j = (λ i. not (nat_lt j s.from) && (ap (nat_lt j) to ∙ le-ltb j 0 (omega arith)) i) ∙ and_false (not (nat_lt j s.from))
+    empty j = (λ i. not (nat_lt j s.from) && (ap (nat_lt j) to ∙ le-ltb j 0 (omega arith)) i) ∙ and-false (not (nat_lt j s.from))

@@ -1,5 +1,6 @@
 -- Lists of runs to which the rows of boxes are added.
 use Rattle.std.proofs.Common.{◌≡◌, ◌∙◌, ℕ, suc, ◌+◌, ◌<◌, ◌≤◌, Bool, true, false, ◌&&◌, ◌||◌, ◌⊎◌, inl, inr, ℤ, pos, negsuc, ◌+ℤ◌, ◌-ℤ◌, ◌≤ℤ◌, ◌<ℤ◌, List, [], ◌∷◌, ◌++◌, length, take, refl, sym, ap, subst, arith}
+use Rattle.std.proofs.Math.Bool.{and-false, or-false, or_assoc}
 use Rattle.std.specs.Prelude.{is_some, slice_index_or}
 use Rattle.std.specs.List.{All}
 use Rattle.std.specs.List.Sorted.{IsPermutation}
@@ -46,12 +47,8 @@ none_within low y = grind (arith, ints)
 one_within : (low y : ℤ) (n : ℕ) → (within low (low +ℤ pos n -ℤ pos 1) y || within (low +ℤ pos n) (low +ℤ pos n) y) ≡ within low (low +ℤ pos (n + 1) -ℤ pos 1) y
 one_within low y n = grind (arith, ints)
 
-and_false : (x : Bool) → (x && false) ≡ false
-and_false true = refl
-and_false false = refl
-
 no_row_holds : (b : Extent) (c : Cell) → holds (first_rows b 0) c ≡ false
-no_row_holds b c = ap (λ (t : Bool). within b.lo.x b.hi.x c.x && t) (none_within b.lo.y c.y) ∙ and_false (within b.lo.x b.hi.x c.x)
+no_row_holds b c = ap (λ (t : Bool). within b.lo.x b.hi.x c.x && t) (none_within b.lo.y c.y) ∙ and-false (within b.lo.x b.hi.x c.x)
 
 one_row_holds : (b : Extent) (n : ℕ) (c : Cell) → (holds (first_rows b n) c || holds (row_at b n) c) ≡ holds (first_rows b (n + 1)) c
 one_row_holds b n c =
@@ -70,24 +67,16 @@ pub record AddsBox (b : Extent) (old new : List Extent) : Type 0 where
   pub cells : (c : Cell) → in_boxes new c ≡ (in_boxes old c || holds b c)
   pub apart : AreApart old → ((c : Cell) → in_boxes old c ≡ true → holds b c ≡ true → ⊥) → AreApart new
 
-or_false : (x : Bool) → (x || false) ≡ x
-or_false true = refl
-or_false false = refl
-
-or_three : (x a b : Bool) → ((x || a) || b) ≡ (x || (a || b))
-or_three true a b = refl
-or_three false a b = refl
-
 pub no_rows_added : (b : Extent) (rs : List Extent) → AddsBox (first_rows b 0) rs rs
 no_rows_added b rs = record {
   each = λ h. h;
-  cells = λ c. sym (or_false (in_boxes rs c)) ∙ ap (λ (t : Bool). in_boxes rs c || t) (sym (no_row_holds b c));
+  cells = λ c. sym (or-false (in_boxes rs c)) ∙ ap (λ (t : Bool). in_boxes rs c || t) (sym (no_row_holds b c));
   apart = λ h k. h;
 }
 
 -- what a list with one box more holds
 in_pushed : (rs : List Extent) (r : Extent) (c : Cell) → in_boxes (rs ++ r ∷ []) c ≡ (in_boxes rs c || holds r c)
-in_pushed rs r c = list_any-append (λ (b : Extent). holds b c) rs (r ∷ []) ∙ ap (λ (t : Bool). in_boxes rs c || t) (or_false (holds r c))
+in_pushed rs r c = list_any-append (λ (b : Extent). holds b c) rs (r ∷ []) ∙ ap (λ (t : Bool). in_boxes rs c || t) (or-false (holds r c))
 
 pub one_row_added : (b : Extent) (old now new : List Extent) (n : ℕ) (r : Extent) → AddsBox (first_rows b n) old now → r ≡ row_at b n → b.lo.x ≤ℤ b.hi.x → new ≡ now ++ r ∷ [] → AddsBox (first_rows b (n + 1)) old new
 one_row_added b old now new n r done is_row wide is_new =
@@ -100,7 +89,7 @@ one_row_added b old now new n r done is_row wide is_new =
     cells_of c =
         in_pushed now (row_at b n) c
         ∙ ap (λ (t : Bool). t || holds (row_at b n) c) (done.cells c)
-        ∙ or_three (in_boxes old c) (holds (first_rows b n) c) (holds (row_at b n) c)
+        ∙ or_assoc (in_boxes old c) (holds (first_rows b n) c) (holds (row_at b n) c)
         ∙ ap (λ (t : Bool). in_boxes old c || t) (one_row_holds b n c)
 
     more : (c : Cell) → holds (first_rows b n) c ≡ true → holds (first_rows b (n + 1)) c ≡ true

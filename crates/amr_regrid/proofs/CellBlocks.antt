@@ -3,6 +3,7 @@ use Rattle.std.proofs.Common.{◌≡◌, ℕ, Bool, true, false, ◌||◌, inl, 
 use Rattle.std.specs.List.{filter, list_any}
 use Rattle.std.proofs.lemmas.Int.{ints}
 use Rattle.amr_box.specs.declared.Cell.{Cell}
+use Rattle.amr_box.proofs.Tests.{same_test}
 use Rattle.amr_box.specs.Cells.{cells_of, child, Extent, extent, half, has_child_where, holds, parent, within}
 use Rattle.amr_box.proofs.CellEquality.{same_cells}
 use Rattle.amr_box.proofs.CellLists.{any_in_box, found_in_box}
@@ -80,11 +81,6 @@ child_found test c h = first (test (child c 0)) refl (sym (from_first (test (chi
     first : (t : Bool) → test (child c 0) ≡ t → (t || (test (child c 1) || (test (child c 2) || test (child c 3)))) ≡ true → HasChild test c
     first true e h = record { one = child c 0; of_parent = parent_0 c; passes = e }
     first false e h = second (test (child c 1)) refl h
-
-same_test : (a b : Bool) → (a ≡ true → b ≡ true) → (b ≡ true → a ≡ true) → a ≡ b
-same_test true b to from = sym (to refl)
-same_test false true to from = from refl
-same_test false false to from = refl
 
 -- ---- blocks of one cell, of two by two, and of four by four
 

@@ -1,7 +1,7 @@
 -- Bits of a part of the rows that are set, word by word and row by row.
 use Rattle.std.proofs.Common.{◌≡◌, ℕ, ◌+◌, ◌*◌, ◌/◌, ◌%◌, ◌<◌, ◌≤◌, Bool, true, false, ◌&&◌, ◌||◌, ℤ, pos, ◌+ℤ◌, ◌-ℤ◌, ◌≤ℤ◌, refl, sym, ap, ◌∙◌, arith, List, length, set, get_or}
 use Rattle.std.specs.Prelude.{◌==◌, bit_or, nat_le, nat_lt, unsigned_abs}
-use Rattle.std.proofs.Math.Bool.{or-false}
+use Rattle.std.proofs.Math.Bool.{or-false, and-false, and-true, and_comm}
 use Rattle.std.proofs.lemmas.Bool.Decides.{nat_tests}
 use Rattle.std.proofs.lemmas.Int.{ints}
 use Rattle.std.proofs.lemmas.List.{get_or-set_same, get_or-set_other}
@@ -73,17 +73,13 @@ abbrev pub up_to_word : ℕ → ℕ → ℕ → ℕ → ℕ → ℕ → Bool
 up_to_word j from to w i r = (r == j) && (in_span from to i && nat_lt (i / 64) w)
 
 pub first-word : (a : Bool) (j from to i r : ℕ) → a ≡ (a || up_to_word j from to (from / 64) i r)
-first-word a j from to i r = sym (ap (λ t. a || ((r == j) && t)) (none (nat_le from i) refl) ∙ ap (λ t. a || t) (and_false (r == j)) ∙ or-false a)
+first-word a j from to i r = sym (ap (λ t. a || ((r == j) && t)) (none (nat_le from i) refl) ∙ ap (λ t. a || t) (and-false (r == j)) ∙ or-false a)
   where
-    and_false : (s : Bool) → (s && false) ≡ false
-    and_false true = refl
-    and_false false = refl
-
     not_below : nat_le from i ≡ true → nat_lt (i / 64) (from / 64) ≡ false
     not_below h = grind (arith, nat_tests)
 
     none : (t : Bool) → nat_le from i ≡ t → ((nat_le from i && nat_le i to) && nat_lt (i / 64) (from / 64)) ≡ false
-    none true e = ap (λ t. (nat_le from i && nat_le i to) && t) (not_below e) ∙ and_false (nat_le from i && nat_le i to)
+    none true e = ap (λ t. (nat_le from i && nat_le i to) && t) (not_below e) ∙ and-false (nat_le from i && nat_le i to)
     none false e = ap (λ t. (t && nat_le i to) && nat_lt (i / 64) (from / 64)) e
 
 pub next-word : (p : ℕ) (words : List ℕ) (j w from to mask i r : ℕ) (a : Bool) → w < p → i / 64 < p → j * p + w < length words → ((b : ℕ) → b < 64 → bit mask b ≡ (bit 18446744073709551615 b && in_span from to (w * 64 + b))) → bit_of p words i r ≡ (a || up_to_word j from to w i r) → bit_of p (set words (j * p + w) (bit_or (get_or words (j * p + w) 0) mask)) i r ≡ (a || up_to_word j from to (w + 1) i r)
@@ -112,16 +108,12 @@ last-word a j from to i r w e = ap (λ n. a || up_to_word j from to n i r) e ∙
     below : nat_le i to ≡ true → nat_lt (i / 64) (to / 64 + 1) ≡ true
     below h = grind (arith, nat_tests)
 
-    with_true : (s : Bool) → (s && true) ≡ s
-    with_true true = refl
-    with_true false = refl
-
     never : (s t : Bool) → ((s && false) && t) ≡ (s && false)
     never true t = refl
     never false t = refl
 
     all : (t : Bool) → nat_le i to ≡ t → ((nat_le from i && nat_le i to) && nat_lt (i / 64) (to / 64 + 1)) ≡ (nat_le from i && nat_le i to)
-    all true e = ap (λ t. in_span from to i && t) (below e) ∙ with_true (in_span from to i)
+    all true e = ap (λ t. in_span from to i && t) (below e) ∙ and-true (in_span from to i)
     all false e = ap (λ t. (nat_le from i && t) && nat_lt (i / 64) (to / 64 + 1)) e ∙ never (nat_le from i) (nat_lt (i / 64) (to / 64 + 1)) ∙ ap (λ t. nat_le from i && t) (sym e)
 
 -- ---- rows
@@ -191,15 +183,9 @@ cells_after_part b part old words west south east north k bits c = step (holds b
     from_low : (lo z : ℤ) → lo ≤ℤ z → lo +ℤ pos (unsigned_abs (z -ℤ lo)) ≡ z
     from_low lo z h = omega (arith, ints)
 
-    swapped : (s t : Bool) → (s && t) ≡ (t && s)
-    swapped true true = refl
-    swapped true false = refl
-    swapped false true = refl
-    swapped false false = refl
-
     in_part : IsIn b c → ((nat_le south (row_in b c) && nat_le (row_in b c) north) && in_span west east (column_in b c)) ≡ holds part c
     in_part there =
-        swapped (nat_le south (row_in b c) && nat_le (row_in b c) north) (in_span west east (column_in b c))
+        and_comm (nat_le south (row_in b c) && nat_le (row_in b c) north) (in_span west east (column_in b c))
         ∙ ap (λ t. t && (nat_le south (row_in b c) && nat_le (row_in b c) north)) (sym (in_range b.lo.x part.lo.x part.hi.x west east (column_in b c) k.west_is k.east_is) ∙ ap (within part.lo.x part.hi.x) (from_low b.lo.x c.x there.west))
         ∙ ap (λ t. within part.lo.x part.hi.x c.x && t) (sym (in_range b.lo.y part.lo.y part.hi.y south north (row_in b c) k.south_is k.north_is) ∙ ap (within part.lo.y part.hi.y) (from_low b.lo.y c.y there.south))
 

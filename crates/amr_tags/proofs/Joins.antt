@@ -1,5 +1,6 @@
 -- Two sets of rows together.
 use Rattle.std.proofs.Common.{◌≡◌, ℕ, ◌+◌, ◌*◌, ◌/◌, ◌%◌, ◌<◌, ◌≤◌, ◌≢◌, Bool, true, false, ◌&&◌, ◌||◌, refl, sym, ap, ◌∙◌, arith, List, length, set, get_or}
+use Rattle.std.proofs.Math.Bool.{and-or_distrib_left}
 use Rattle.std.specs.Prelude.{bit_or, nat_lt}
 use Rattle.std.proofs.lemmas.Bool.Decides.{nat_tests}
 use Rattle.std.proofs.lemmas.List.{get_or-set_same, get_or-set_other}
@@ -18,14 +19,10 @@ joined-rows w h words other new rows rows' count each = record {
   unused = λ i j past below there. joined-bit (words_for w) words other new i j each ∙ (λ k. rows.unused i j past below there k || rows'.unused i j past below there k);
 }
 
-shared : (s a b : Bool) → (s && (a || b)) ≡ ((s && a) || (s && b))
-shared true a b = refl
-shared false a b = refl
-
 pub joined-cells : (b : Extent) (words other new : List ℕ) → ((k : ℕ) → get_or new k 0 ≡ bit_or (get_or words k 0) (get_or other k 0)) → (c : Cell) → (holds b c && bit_of (words_for (width b)) new (column_in b c) (row_in b c)) ≡ ((holds b c && bit_of (words_for (width b)) words (column_in b c) (row_in b c)) || (holds b c && bit_of (words_for (width b)) other (column_in b c) (row_in b c)))
 joined-cells b words other new each c =
     ap (λ (t : Bool). holds b c && t) (joined-bit (words_for (width b)) words other new (column_in b c) (row_in b c) each)
-    ∙ shared (holds b c) (bit_of (words_for (width b)) words (column_in b c) (row_in b c)) (bit_of (words_for (width b)) other (column_in b c) (row_in b c))
+    ∙ and-or_distrib_left (holds b c) (bit_of (words_for (width b)) words (column_in b c) (row_in b c)) (bit_of (words_for (width b)) other (column_in b c) (row_in b c))
 
 -- one word more
 pub next-word : (words other now : List ℕ) (k : ℕ) → k < length now → ((i : ℕ) → i < k → get_or now i 0 ≡ bit_or (get_or words i 0) (get_or other i 0)) → (i : ℕ) → i < k + 1 → (v : ℕ) → v ≡ bit_or (get_or words k 0) (get_or other k 0) → get_or (set now k v) i 0 ≡ bit_or (get_or words i 0) (get_or other i 0)

@@ -53,11 +53,6 @@ four_of_rest p c e lower upper from k low l u is lt =
 
 -- ---- children that a patch has
 
-pub either : (a b : Bool) → (a ≡ true → b ≡ true) → (b ≡ true → a ≡ true) → a ≡ b
-either true b f g = sym (f refl)
-either false true f g = g refl
-either false false f g = refl
-
 -- a patch that is coarsenable has all children of a cell or none
 pub record HasFour (p : Patch) (c : Cell) : Type 0 where
   pub first : holds (box p) (child c 0) ≡ true

@@ -1,5 +1,6 @@
 -- Spans of a row, and rows of a box, one after the other.
 use Rattle.std.proofs.Common.{◌≡◌, ◌∙◌, ℕ, ◌+◌, ◌<◌, Bool, true, false, ◌&&◌, ◌||◌, ℤ, pos, ◌+ℤ◌, ◌-ℤ◌, ◌≤ℤ◌, refl, sym, ap, arith}
+use Rattle.std.proofs.Math.Bool.{and-or_distrib_right}
 use Rattle.std.proofs.lemmas.Int.{ints}
 use Rattle.std.proofs.lemmas.Bool.{false_from_ne_true}
 use Rattle.amr_box.specs.declared.Cell.{Cell}
@@ -17,21 +18,11 @@ span_none c d = false_from_ne_true (holds (span c 0) d) (λ h. let i = inside (s
 within_more : (a m n x : ℤ) → pos 0 ≤ℤ m → pos 0 ≤ℤ n → within a (a +ℤ (m +ℤ n) -ℤ pos 1) x ≡ (within a (a +ℤ m -ℤ pos 1) x || within (a +ℤ m) (a +ℤ m +ℤ n -ℤ pos 1) x)
 within_more a m n x h k = grind (arith, ints)
 
-share_and : (a b r : Bool) → ((a || b) && r) ≡ ((a && r) || (b && r))
-share_and true true true = refl
-share_and true true false = refl
-share_and true false true = refl
-share_and true false false = refl
-share_and false true true = refl
-share_and false true false = refl
-share_and false false true = refl
-share_and false false false = refl
-
 pub span_more : (c e d : Cell) (m n : ℕ) → e ≡ cell (c.x +ℤ pos m) c.y → holds (span c (m + n)) d ≡ (holds (span c m) d || holds (span e n) d)
 span_more c e d m n is =
     let more = within_more c.x (pos m) (pos n) d.x (omega (arith, ints)) (omega (arith, ints)) in
     ap (λ (t : Bool). t && within c.y c.y d.y) more
-    ∙ share_and (within c.x (c.x +ℤ pos m -ℤ pos 1) d.x) (within (c.x +ℤ pos m) (c.x +ℤ pos m +ℤ pos n -ℤ pos 1) d.x) (within c.y c.y d.y)
+    ∙ and-or_distrib_right (within c.x (c.x +ℤ pos m -ℤ pos 1) d.x) (within (c.x +ℤ pos m) (c.x +ℤ pos m +ℤ pos n -ℤ pos 1) d.x) (within c.y c.y d.y)
     ∙ ap (λ (k : Cell). holds (span c m) d || holds (span k n) d) (sym is)
 
 -- the cell of a span at its place

@@ -6,7 +6,7 @@ use Rattle.amr_def.proofs.Nesting.{covered_boxes, covered_there}
 use Rattle.amr_patch.specs.Levels.{level_of}
 use Rattle.amr_payload.specs.Tests.{is_in_sync, surrounds}
 use Rattle.amr_payload.proofs.ReadStates.{surrounds_at}
-use Rattle.amr_decoder.proofs.Bools.{same_bool}
+use Rattle.amr_box.proofs.Tests.{same_test}
 use Rattle.amr_decoder.proofs.Stacked.{sync_at, sync_from}
 use Rattle.amr_decoder.proofs.stands.stands_over.Goals as goal
 
@@ -39,7 +39,7 @@ returns c =
     let around : surrounds d k.boxes f.boxes ≡ true = sym c.in_ok-nested.ensures ∙ c.if-not-nested.false in
     let over : IsLevel p (suc l) f = subst (λ (n : ℕ). IsLevel p n f) (add-one l) c.requires.fine in
     let nested : IsNestedLevel p l k f = record { aligned = c.requires.aligned; around = λ e inside near. surrounds_at d k.boxes f.boxes e around inside near } in
-    same_bool c.are_boxes_in_sync.result (is_in_sync d k.masses f.masses)
+    same_test c.are_boxes_in_sync.result (is_in_sync d k.masses f.masses)
     (λ h. sync_from p l k f c.requires.coarse over (c.are_boxes_in_sync.ensures.0 h))
     (λ h. c.are_boxes_in_sync.ensures.1 (sync_at p l k f c.requires.coarse over nested h))
     ∙ sym (ap (λ t. t && is_in_sync d k.masses f.masses) around)

@@ -8,7 +8,7 @@ use Rattle.amr_patch.specs.Levels.{level_of}
 use Rattle.amr_payload.specs.Tests.{surrounds}
 use Rattle.amr_payload.proofs.ReadStates.{surrounds_at}
 use Rattle.amr_payload.proofs.WriteLevels.{surrounds_from}
-use Rattle.amr_decoder.proofs.Bools.{same_bool}
+use Rattle.amr_box.proofs.Tests.{same_test}
 use Rattle.amr_decoder.proofs.BoxTests.{blocking_some}
 use Rattle.amr_decoder.proofs.Stacked.{parents_inside}
 use Rattle.amr_decoder.proofs.stands.surrounds.Goals as goal
@@ -37,6 +37,6 @@ returns c =
     λ n. subst (λ (bs : List Extent). IsNestedIn d p.blocking f bs) c.boxes-coarse_boxes.ensures
     (subst (λ (bs : List Extent). IsNestedIn d p.blocking bs c.boxes-coarse_boxes.result.now) c.boxes-fine_boxes.ensures (subst (λ (e : Domain). IsNestedIn e p.blocking c.boxes-fine_boxes.result.now c.boxes-coarse_boxes.result.now) c.domain-dom.ensures n)) in
     IfOk-weaker c.nested.result _ (λ yes. yes ≡ surrounds d k f)
-    (λ yes n. same_bool yes (surrounds d k f)
+    (λ yes n. same_test yes (surrounds d k f)
     (λ h. surrounds_from d k f (λ e inside near. (back (n.0 h)).around e inside near))
     (λ h. n.1 (there (record { aligned = c.requires.aligned; around = λ e inside near. surrounds_at d k f e h inside near })))) c.nested.ensures

@@ -1,4 +1,5 @@
-use Rattle.std.proofs.Common.{◌∙◌, ◌&&◌, ap, List, ℕ, true, false, Bool, ◌≡◌, refl}
+use Rattle.std.proofs.Common.{◌∙◌, ◌&&◌, ap, List, ℕ}
+use Rattle.std.proofs.Math.Bool.{and-false}
 use Rattle.amr_box.specs.Cells.{holds, width}
 use Rattle.amr_tags.specs.Bits.{bit_of, words_for}
 use Rattle.amr_tags.specs.TagSets.{column_in, row_in}
@@ -9,8 +10,4 @@ pub returns-clause-empty : goal.returns-clause-empty
 returns-clause-empty c = λ k.
     ap (λ (words : List ℕ). holds c.args.b k && bit_of (words_for (width c.args.b)) words (column_in c.args.b k) (row_in c.args.b k)) c.in_ok-words.ensures
     ∙ ap (λ t. holds c.args.b k && t) (empty-bit_of (words_for (width c.args.b)) _ (column_in c.args.b k) (row_in c.args.b k))
-    ∙ none (holds c.args.b k)
-  where
-    none : (t : Bool) → (t && false) ≡ false
-    none true = refl
-    none false = refl
+    ∙ and-false (holds c.args.b k)
