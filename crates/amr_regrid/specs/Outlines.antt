@@ -1,10 +1,7 @@
 -- Levels by their boxes, masses and patch boxes.
-use Rattle.std.specs.Prelude.{◌≡◌, ℕ, List, [], map}
-use Rattle.std.specs.List.{flat_map}
-use Rattle.std.specs.List.Sorted.{IsPermutation}
+use Rattle.std.specs.Prelude.{◌≡◌, List, [], map}
 use Rattle.std.specs.Global.{Vec}
 use Rattle.amr_box.specs.Cells.{Extent}
-use Rattle.amr_boxlist.specs.Chopped.{chopped}
 use Rattle.amr_def.specs.declared.problem.Problem.{Problem}
 use Rattle.amr_def.specs.Facts.{IsSound}
 use Rattle.amr_def.specs.NewBoxes.{new_boxes}
