@@ -7,6 +7,9 @@ ghost use Rattle.amr_layout.specs.Adds.{AreInOrder, number_of};
 
 use amr_box::Cell;
 
+/// How many places are tried near the last one before a search by halving.
+const TRIES: usize = 8;
+
 /// Whether a cell comes before another, or is it, where cells go by y, then by x.
 fn comes_first(a: &Cell, b: Cell) -> bool
     ensures { result ≡ comes_first a.now b }
@@ -56,19 +59,18 @@ fn is_at(cells: &[Cell], k: usize, c: Cell) -> bool
     true
 }
 
-/// The same as `number_of`, for cells that lie side by side: it looks at place `near` and the next first.
+/// The same as `number_of`, for cells that lie side by side: it looks at place `near` and a few after it first.
 fn number_near(cells: &[Cell], near: usize, c: Cell) -> usize
     requires ordered { AreInOrder cells.now }
     requires there { Contains cells.now c }
     ensures number { result ≡ number_of cells.now c }
     ensures within { result < length cells.now }
 {
-    if is_at(cells, near, c) {
-        return near;
-    }
-    let next = near.saturating_add(1);
-    if is_at(cells, next, c) {
-        return next;
+    for more in 0..TRIES {
+        let place = near.saturating_add(more);
+        if is_at(cells, place, c) {
+            return place;
+        }
     }
     number_of(cells, c)
 }

@@ -2,6 +2,7 @@
 use Rattle.std.proofs.Common.{◌≡◌, ◌∙◌, ℕ, zero, suc, ◌+◌, ◌-◌, ◌<◌, ◌≤◌, ◌⊎◌, inl, inr, below_more, Bool, true, false, ◌||◌, ℤ, pos, negsuc, ◌-ℤ◌, ◌≤ℤ◌, ◌<ℤ◌, List, [], ◌∷◌, length, cond, refl, sym, ap, arith}
 use Rattle.std.specs.Prelude.{int_le, is_some, slice_index_or, IsTrue}
 use Rattle.std.specs.List.{All}
+use Rattle.std.specs.List.Sorted.{IsPartitionPoint}
 use Rattle.std.specs.declared.option.Option.{Option}
 use Rattle.std.specs.declared.option.Option.TheVariants.{None, Some}
 use Rattle.std.proofs.lemmas.Int.{ints, clamps}
@@ -109,6 +110,20 @@ parted ps c sorted i j d h l e = cases (cases_eq i j)
     cases : ((i ≡ j) ⊎ (i ≡ j → ⊥)) → comes_first (box (slice_index_or ps i d)).lo c ≡ true
     cases (inl k) = ap (λ (n : ℕ). comes_first (box (slice_index_or ps n d)).lo c) k ∙ e
     cases (inr k) = comes_first-trans (box (slice_index_or ps i d)).lo (box (slice_index_or ps j d)).lo c (sorted i j d (omega arith) l) e
+
+-- so many do, where the last of them does and the next one doesn't
+pub is_point : (ps : List Patch) (c : Cell) (n : ℕ) → AreInRows ps → ((p : Patch) → 0 < n → comes_first (box (slice_index_or ps (n - 1) p)).lo c ≡ true) → ((p : Patch) → n < length ps → comes_first (box (slice_index_or ps n p)).lo c ≡ false) → n ≤ length ps
+    → IsPartitionPoint (λ p. comes_first (box p).lo c ≡ true) (λ p. comes_first (box p).lo c ≡ false) ps n
+is_point ps c n sorted last next within = (λ k d from lt. early k d lt, λ k d from lt. late k d from lt)
+  where
+    both_ways : (t : Bool) → t ≡ false → t ≡ true → ⊥
+    both_ways t e f = cc
+
+    early : (k : ℕ) (d : Patch) → k < n → comes_first (box (slice_index_or ps k d)).lo c ≡ true
+    early k d lt = parted ps c sorted k (n - 1) d (omega arith) (omega arith) (last d (omega arith))
+
+    late : (k : ℕ) (d : Patch) → n ≤ k → k < length ps → comes_first (box (slice_index_or ps k d)).lo c ≡ false
+    late k d from lt = false_from_ne_true _ (λ h. both_ways (comes_first (box (slice_index_or ps n d)).lo c) (next d (omega arith)) (parted ps c sorted n k d from lt h))
 
 -- ---- the search
 

@@ -1,13 +1,17 @@
 //! Which of several patches has a cell.
 
-ghost use Rattle.std.specs.Prelude.{◌≡◌, ◌<◌, ◌≤◌, ◌↔◌, true, false, IfSome, IsTrue, length, is_some};
+ghost use Rattle.std.specs.Prelude.{◌≡◌, ◌-◌, ◌<◌, ◌≤◌, ◌↔◌, true, false, IfSome, IsTrue, length, is_some, slice_index_or};
 ghost use Rattle.std.specs.List.Sorted.{IsPartitionPoint};
 ghost use Rattle.amr_box.specs.Cells.{cell, holds};
+ghost use Rattle.amr_patch.specs.declared.patches.Patch.{Patch};
 ghost use Rattle.amr_patch.specs.Patches.{ArePatchesApart, box, in_patches, masses_in};
 ghost use Rattle.amr_patch.specs.Orders.{AreAtMostHigh, AreInRows, FollowsLast, IsHolder, IsOrderOf, comes_first};
 
 use crate::patches::Patch;
 use amr_box::Cell;
+
+/// How many places are tried near the last one before a search by halving.
+const TRIES: usize = 8;
 
 /// How a list of patches stands: whether their low corners go row by row from the low row, within a row from the low column;
 /// and how many rows the tallest patch has.
@@ -95,8 +99,9 @@ fn find_in_rows(patches: &[Patch], tallest: u32, c: Cell) -> Option<usize>
 {
     let mut y = i64::from(c.y);
     let bottom = y - i64::from(tallest);
+    let mut near = patches.len();
     while y > bottom {
-        let count = count_up_to(patches, y, c.x);
+        let count = count_below(patches, near, y, c.x);
         if count == 0 {
             return None;
         }
@@ -105,6 +110,7 @@ fn find_in_rows(patches: &[Patch], tallest: u32, c: Cell) -> Option<usize>
             return Some(count - 1);
         }
         y = i64::from(b.lo().y).min(y - 1);
+        near = count;
     }
     None
 }
@@ -131,6 +137,61 @@ fn count_up_to(patches: &[Patch], y: i64, x: i32) -> usize
     ensures parts { IsPartitionPoint (λ p. comes_first (box p).lo (cell x y) ≡ true) (λ p. comes_first (box p).lo (cell x y) ≡ false) patches.now result }
 {
     patches.partition_point(|p| starts_up_to(p, y, x))
+}
+
+/// Whether the last of so many patches, if there is one, starts in a row below `y`, or in that row at or left of column `x`.
+fn starts_last(patches: &[Patch], count: usize, y: i64, x: i32) -> bool
+    requires within { count ≤ length patches.now }
+    ensures { result ≡ true → (p : Patch) → 0 < count → comes_first (box (slice_index_or patches.now (count - 1) p)).lo (cell x y) ≡ true }
+{
+    if count == 0 {
+        return true;
+    }
+    starts_up_to(&patches[count - 1], y, x)
+}
+
+/// Whether the patch after so many, if there is one, starts later.
+fn starts_later(patches: &[Patch], count: usize, y: i64, x: i32) -> bool
+    ensures { result ≡ true → (p : Patch) → count < length patches.now → comes_first (box (slice_index_or patches.now count p)).lo (cell x y) ≡ false }
+{
+    if count >= patches.len() {
+        return true;
+    }
+    !starts_up_to(&patches[count], y, x)
+}
+
+/// Whether so many patches start in a row below `y`, or in that row at or left of column `x`. A yes is right.
+fn is_count(patches: &[Patch], count: usize, y: i64, x: i32) -> bool
+    requires { AreInRows patches.now }
+    ensures within { result ≡ true → count ≤ length patches.now }
+    ensures parts { result ≡ true → IsPartitionPoint (λ p. comes_first (box p).lo (cell x y) ≡ true) (λ p. comes_first (box p).lo (cell x y) ≡ false) patches.now count }
+{
+    if patches.len() < count {
+        return false;
+    }
+    if !starts_last(patches, count, y, x) {
+        return false;
+    }
+    starts_later(patches, count, y, x)
+}
+
+/// The same as `count_up_to`, where the count is mostly a few less than `near`: these are tried first. Nothing is tried where
+/// `near` is the number of all patches.
+fn count_below(patches: &[Patch], near: usize, y: i64, x: i32) -> usize
+    requires { AreInRows patches.now }
+    ensures within { result ≤ length patches.now }
+    ensures parts { IsPartitionPoint (λ p. comes_first (box p).lo (cell x y) ≡ true) (λ p. comes_first (box p).lo (cell x y) ≡ false) patches.now result }
+{
+    if near >= patches.len() {
+        return count_up_to(patches, y, x);
+    }
+    for less in 0..TRIES {
+        let count = near.saturating_sub(less);
+        if is_count(patches, count, y, x) {
+            return count;
+        }
+    }
+    count_up_to(patches, y, x)
 }
 
 /// The number `k`, where there is such a patch and it has the cell.

@@ -13,6 +13,9 @@ ghost use Rattle.amr_register.specs.Spans.{comes_before, has_column, is_in_colum
 use amr_box::{Bx, Cell};
 use amr_def::Dom;
 
+/// How many cells are looked at one by one before a search by halving.
+const LOOKS: usize = 8;
+
 /// The columns of a box, `low` to `high`, and the one left of them.
 #[derive(Clone, Copy, Debug)]
 pub(crate) struct Columns {
@@ -86,6 +89,24 @@ fn first_from(cells: &[Cell], from: usize, to: usize, begin: Cell) -> usize
     from + cells[from..to].partition_point(|c| comes_before(*c, begin))
 }
 
+/// The same as `first_from`, where it is mostly a few places on: these are looked at first.
+fn first_near(cells: &[Cell], from: usize, to: usize, begin: Cell) -> usize
+    requires rising { AreRising cells.now }
+    requires order { from ≤ to }
+    requires within { to ≤ length cells.now }
+    ensures from { from ≤ result }
+    ensures to { result ≤ to }
+    ensures passed { (k : ℕ) (c : Cell) → from ≤ k → k < result → comes_before (slice_index_or cells.now k c) begin ≡ true }
+    ensures found { (c : Cell) → result < to → comes_before (slice_index_or cells.now result c) begin ≡ false }
+{
+    for place in from..to.min(from.saturating_add(LOOKS)) {
+        if !comes_before(cells[place], begin) {
+            return place;
+        }
+    }
+    first_from(cells, from, to, begin)
+}
+
 /// The first place from `from` on whose cell lies in the columns; `to` where there is none before `to`.
 pub(crate) fn next_in_columns(cells: &[Cell], columns: Columns, from: usize, to: usize) -> usize
     requires rising { AreRising cells.now }
@@ -103,7 +124,7 @@ pub(crate) fn next_in_columns(cells: &[Cell], columns: Columns, from: usize, to:
         if has_column(columns, c) {
             return place;
         }
-        place = first_from(cells, place, to, next_begin(columns, c));
+        place = first_near(cells, place, to, next_begin(columns, c));
     }
     to
 }

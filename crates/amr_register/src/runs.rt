@@ -14,6 +14,9 @@ use crate::cells::{row_first, row_last};
 use amr_box::{Bx, Cell};
 use amr_causes::NoMemory;
 
+/// How many counts are tried near the last one before a search by halving.
+const TRIES: usize = 8;
+
 /// Cells of one row, one after the other, that are all covered, or none of which is. `count` runs start up to the first of them.
 #[derive(Clone, Copy)]
 pub(crate) struct Stretch {
@@ -103,18 +106,17 @@ fn is_count(runs: &[Bx], count: usize, c: Cell) -> bool
     starts_later(runs, count, c)
 }
 
-/// The same as `count_up_to`, for look-ups of cells along the rows: it tries the count `near` and the next first.
+/// The same as `count_up_to`, for look-ups of cells side by side: it tries the count `near` and a few more first.
 fn count_near(runs: &[Bx], near: usize, c: Cell) -> usize
     requires { AreRuns runs.now }
     ensures within { result ≤ length runs.now }
     ensures parts { IsPartitionPoint (λ r. comes_first r.lo c ≡ true) (λ r. comes_first r.lo c ≡ false) runs.now result }
 {
-    if is_count(runs, near, c) {
-        return near;
-    }
-    let next = near.saturating_add(1);
-    if is_count(runs, next, c) {
-        return next;
+    for more in 0..TRIES {
+        let count = near.saturating_add(more);
+        if is_count(runs, count, c) {
+            return count;
+        }
     }
     count_up_to(runs, c)
 }

@@ -20,14 +20,14 @@ returns-then-count-eq0-clause-some c =
     let y = to_z w64 c.loop-y.y-bits in
     let x : c.args.c.x ≡ to_z w32 (of_z w32 c.args.c.x) = omega (arith, ints) in
     let zero = c.if-count-eq0.true in
-    sym (none_starts ps c.args.c y c.loop-y.invariant.reach (λ i d z lt. ap (λ (x : ℤ). comes_first (box (slice_index_or ps i d)).lo (cell x y)) x ∙ c.count_up_to-count.ensures.parts.1 i d (omega arith) lt))
+    sym (none_starts ps c.args.c y c.loop-y.invariant.reach (λ i d z lt. ap (λ (x : ℤ). comes_first (box (slice_index_or ps i d)).lo (cell x y)) x ∙ c.count_below-count.ensures.parts.1 i d (omega arith) lt))
 
 pub returns-then-holds-clause-found : goal.returns-then-holds-clause-found
 returns-then-holds-clause-found c =
-    holder c.args.patches.now c.args.c (c.count_up_to-count.result - 1) c.index-patches-count.result (omega arith) c.index-patches-count.is (ap (λ (b : Extent). holds b c.args.c) (sym c.bx-b.ensures.value) ∙ sym c.holds.ensures ∙ c.if-holds.true)
+    holder c.args.patches.now c.args.c (c.count_below-count.result - 1) c.index-patches-count.result (omega arith) c.index-patches-count.is (ap (λ (b : Extent). holds b c.args.c) (sym c.bx-b.ensures.value) ∙ sym c.holds.ensures ∙ c.if-holds.true)
 
 pub returns-then-holds-clause-some : goal.returns-then-holds-clause-some
-returns-then-holds-clause-some c = sym (in_one c.args.patches.now c.args.c (c.count_up_to-count.result - 1) (returns-then-holds-clause-found c))
+returns-then-holds-clause-some c = sym (in_one c.args.patches.now c.args.c (c.count_below-count.result - 1) (returns-then-holds-clause-found c))
 
 pub loop-y-smaller : goal.loop-y-smaller
 loop-y-smaller c =
@@ -39,8 +39,8 @@ loop-y-preserved c =
     let y = to_z w64 c.loop-y.y-bits in
     let z = to_z w64 (of_z w64 c.min-y.result) in
     let q = c.index-patches-count.result in
-    let n : ℕ = c.count_up_to-count.result - 1 in
-    let some : n + 1 ≡ c.count_up_to-count.result = omega arith in
+    let n : ℕ = c.count_below-count.result - 1 in
+    let some : n + 1 ≡ c.count_below-count.result = omega arith in
     let x : c.args.c.x ≡ to_z w32 (of_z w32 c.args.c.x) = omega (arith, ints) in
     let start : c.from-in-loop-y.result ≡ (box q).lo.y = omega (arith, ints, c.from-in-loop-y.ensures, c.lo.ensures.y, ap (λ (b : Extent). b.lo.y) c.bx-b.ensures.value) in
     let a : to_z w64 (of_z w64 c.from-in-loop-y.result) ≡ (box q).lo.y = omega (arith, ints, start) in
@@ -48,8 +48,8 @@ loop-y-preserved c =
     let least : z ≡ c.min-y.result = omega (arith, ints) in
     record {
       reach = goes_down ps c.args.c y z n q c.requires.sorted c.requires.apart c.loop-y.invariant.reach (omega arith) c.index-patches-count.is
-          (λ i d g lt. ap (λ (x : ℤ). comes_first (box (slice_index_or ps i d)).lo (cell x y)) x ∙ c.count_up_to-count.ensures.parts.0 i d g (omega arith))
-          (λ i d g lt. ap (λ (x : ℤ). comes_first (box (slice_index_or ps i d)).lo (cell x y)) x ∙ c.count_up_to-count.ensures.parts.1 i d (omega arith) lt)
+          (λ i d g lt. ap (λ (x : ℤ). comes_first (box (slice_index_or ps i d)).lo (cell x y)) x ∙ c.count_below-count.ensures.parts.0 i d g (omega arith))
+          (λ i d g lt. ap (λ (x : ℤ). comes_first (box (slice_index_or ps i d)).lo (cell x y)) x ∙ c.count_below-count.ensures.parts.1 i d (omega arith) lt)
           (ap (λ (e : Extent). holds e c.args.c) (sym c.bx-b.ensures.value) ∙ sym c.holds.ensures ∙ c.if-holds.false)
           (going_down (box q).lo.y y (to_z w64 (of_z w64 c.from-in-loop-y.result)) (to_z w64 (of_z w64 (y -ℤ pos 1))) z (least ∙ c.min-y.ensures.value) a b);
       high = omega (arith, ints, c.min-y.ensures.other_bound, c.loop-y.invariant.high);
