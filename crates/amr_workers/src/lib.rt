@@ -2,12 +2,20 @@
 #![tactic(auto)]
 
 mod gate;
+mod helper;
 mod job;
+mod kept;
+mod order;
 mod phase;
+mod team;
 
 pub use gate::{Gate, OpenGate};
+pub use helper::Helper;
 pub use job::Job;
+pub use kept::{OrderAsker, OrderBox, OrderWorker, serve};
+pub use order::{About, Drawing, Order};
 pub use phase::run_phase;
+pub use team::Team;
 
 #[cfg(test)]
 mod tests;

@@ -97,7 +97,7 @@ fn run_workers<R: Threads + Sync, P: Piece + Send, J: Job<P> + Sync, G: Gate + S
 }
 
 // Draws tasks until none is left.
-fn draw_all<P: Piece, J: Job<P>, G: Gate>(
+pub(crate) fn draw_all<P: Piece, J: Job<P>, G: Gate>(
     board: &Board<P>,
     seat: &mut Seat<P>,
     job: &J,

@@ -1,0 +1,24 @@
+use Rattle.std.proofs.Common.{◌≡◌, sym, ap, ◌∙◌, subst, arith}
+use Rattle.atomic_table.specs.Table.{Allows, Me}
+use Rattle.amr_mailbox.specs.declared.letter.Letter.{Letter}
+use Rattle.amr_mailbox.specs.declared.view.Role.TheVariants.{Asks}
+use Rattle.amr_mailbox.specs.declared.view.Turn.TheVariants.{Free, Over}
+use Rattle.amr_mailbox.specs.declared.view.View.{View}
+use Rattle.amr_mailbox.specs.Views.{view_of}
+use Rattle.amr_mailbox.specs.MailboxOf.{MailboxOf, end_of}
+use Rattle.amr_mailbox.specs.Rule.{Rule}
+use Rattle.amr_mailbox.proofs.Steps.{dismisses}
+use Rattle.amr_mailbox.proofs.Called.{asker_knows}
+use Rattle.amr_mailbox.proofs.mailbox.Mailbox.dismiss.Goals as goal
+
+pub store-requires : goal.store-requires
+store-requires g c =
+    let shared = c.self.inside.table.shared in
+    let seat = c.asker.inside.seat in
+    let k = asker_knows shared.table_id shared.key Free seat (c.asker.view_is ∙ (c.requires.free ∙ ap (λ (m : MailboxOf g.row.K.Denot). end_of m Free) (sym c.self.view_is))) c.asker.invariant in (
+      k.table,
+      (let n = c.self.invariant.0 in omega arith),
+      subst
+          (λ (m : Me (Letter g.row.O.Denot g.row.A.Denot) (View g.row.O.Denot g.row.K.Denot)). Allows (Rule g.E.Errand.may g.E.Errand.serves shared.key) shared.table_id.slots seat.id m 0 (λ _. 2) (λ _ w. w ≡ (view_of m.0.key Asks Over, m.1)))
+          (sym k.me) (dismisses g.E.Errand.may g.E.Errand.serves shared.key shared.table_id.slots seat.id),
+    )

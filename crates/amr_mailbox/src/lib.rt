@@ -1,0 +1,21 @@
+//! A mailbox between an asker and a worker in two threads: it holds one order or its answer, and passes them by single
+//! atomic steps and without a lock. (profile)
+#![tactic(auto)]
+
+mod ends;
+mod errand;
+mod letter;
+mod mailbox;
+mod patience;
+mod rule;
+mod view;
+
+pub use ends::{Asker, Worker};
+pub use errand::Errand;
+pub use letter::Letter;
+pub use mailbox::Mailbox;
+pub use rule::Kept;
+pub use view::{Role, Turn, View};
+
+#[cfg(test)]
+mod tests;

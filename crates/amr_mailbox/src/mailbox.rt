@@ -1,0 +1,175 @@
+//! The mailbox and its calls: word 0 says whose turn it is, slot 0 holds the letter while it is at home.
+ghost use Rattle.std.specs.Prelude.{◌≡◌, IfOk, IfSome, MatchOption};
+ghost use Rattle.amr_mailbox.specs.declared.view.Turn.TheVariants.{Free, Busy, Over};
+ghost use Rattle.amr_mailbox.specs.MailboxOf.{end_of, IsBusy};
+ghost use Rattle.amr_mailbox.specs.Found.{IsFound};
+
+use crate::ends::{Asker, Worker};
+use crate::errand::Errand;
+use crate::letter::Letter;
+use crate::patience::Patience;
+use crate::rule::{Answering, Collecting, Dismissing, Halves, Kept, Looking, Opening, Posting};
+use crate::view::View;
+use atomic_table::{Refused, Table};
+use std::alloc::{AllocError, Global};
+use std::marker::Model;
+use std::sync::Wait;
+
+// What the word says.
+const ASKERS_TURN: u64 = 0;
+
+const WORKERS_TURN: u64 = 1;
+
+const DISMISSED: u64 = 2;
+
+/// What a worker finds in one look.
+#[derive(Drop)]
+enum Found<O> {
+    Nothing,
+    Order(O),
+    Dismissal,
+}
+
+/// A place for one order and then its answer. It is shared by `&`, and each call takes the caller's own end. Who drops
+/// an end makes nobody wrong: the other end then waits.
+#[derive(Drop)]
+pub struct Mailbox<O, A, K, E: Errand<O, A, K>> {
+    table: Table<Letter<O, A>, View<O, K>, K, Kept<E>, Global>,
+}
+
+impl<O, A, K, E: Errand<O, A, K>> Model for Mailbox<O, A, K, E> {
+    ghost use Rattle.std.specs.Prelude.{◌≡◌};
+    ghost use Rattle.amr_mailbox.specs.MailboxOf.{MailboxOf};
+
+    ghost Value = { MailboxOf K };
+
+    ghost view = { λ m. record { id = m.table.shared.table_id; key = m.table.shared.key } };
+
+    ghost invariant = { λ m. (m.table.shared.table_id.words ≡ 1) × (m.table.shared.table_id.slots ≡ 1) };
+}
+
+impl<O: Drop, A: Drop, K, E: Errand<O, A, K>> Mailbox<O, A, K, E> {
+    /// A mailbox that is told this key, and its two ends. It is refused only if allocation fails.
+    pub fn make(
+        alloc: Global,
+        key: &K,
+    ) -> Result<(Mailbox<O, A, K, E>, Asker<O, A, K>, Worker<O, A, K>), AllocError>
+        ensures key { IfOk result (λ r. r.0.key ≡ key.now) }
+        ensures asker { IfOk result (λ r. r.1 ≡ end_of r.0 Free) }
+        ensures worker { IfOk result (λ r. r.2 ≡ end_of r.0 Free) }
+    {
+        let mut slots = Vec::with_capacity(alloc, 1)?;
+        slots.push_reserved(Letter::Empty);
+        let (table, mut seat) = match Table::new(alloc, &[ASKERS_TURN], slots, key) {
+            Ok(made) => made,
+            Err(Refused { slots: _ }) => return Err(AllocError),
+        };
+        table.shared.load::<Opening>(&mut seat, 0);
+        let other = table.shared.split_seat::<Halves>(&mut seat);
+        Ok((Mailbox { table }, Asker { seat }, Worker { seat: other }))
+    }
+
+    /// Posts an order, which is the worker's from then on.
+    pub fn post(&self, asker: &mut Asker<O, A, K>, order: O)
+        requires free { asker.old ≡ end_of self.now Free }
+        requires may { E.may self.now.key order }
+        ensures { asker.new ≡ end_of self.now (Busy order) }
+    {
+        let shared = &self.table.shared;
+        let Letter::Empty = shared.exchange(&mut asker.seat, 0, Letter::Order(order)) else {
+            unreachable!()
+        };
+        shared.store::<Posting>(&mut asker.seat, 0, WORKERS_TURN);
+    }
+
+    /// Waits for the answer, which serves the order that was posted.
+    pub fn collect(&self, rt: &impl Wait, asker: &mut Asker<O, A, K>) -> A
+        requires asked { IsBusy self.now asker.old }
+        ensures serves { (order : O) → asker.old.turn ≡ Busy order → E.serves order result }
+        ensures free { asker.new ≡ end_of self.now Free }
+    {
+        let mut patience = Patience::new();
+        'looks: for _ in rt.forever() {
+            if let Some(answer) = self.try_collect(asker) {
+                return answer;
+            }
+            patience.pause();
+        }
+        unreachable!()
+    }
+
+    // One look for the answer.
+    fn try_collect(&self, asker: &mut Asker<O, A, K>) -> Option<A>
+        requires asked { IsBusy self.now asker.old }
+        ensures serves { MatchOption result (asker.new ≡ asker.old) (λ a. (order : O) → asker.old.turn ≡ Busy order → E.serves order a) }
+        ensures free { MatchOption result (asker.new ≡ asker.old) (λ _. asker.new ≡ end_of self.now Free) }
+    {
+        let shared = &self.table.shared;
+        if shared.load::<Collecting<E>>(&mut asker.seat, 0) != ASKERS_TURN {
+            return None;
+        }
+        let Letter::Answer(answer) = shared.exchange(&mut asker.seat, 0, Letter::Empty) else {
+            unreachable!()
+        };
+        Some(answer)
+    }
+
+    /// Lets the worker go: no order comes any more.
+    pub fn dismiss(&self, asker: &mut Asker<O, A, K>)
+        requires free { asker.old ≡ end_of self.now Free }
+        ensures { asker.new ≡ end_of self.now Over }
+    {
+        self.table
+            .shared
+            .store::<Dismissing>(&mut asker.seat, 0, DISMISSED);
+    }
+
+    /// Waits for the next order. None once the worker is dismissed.
+    pub fn next(&self, rt: &impl Wait, worker: &mut Worker<O, A, K>) -> Option<O>
+        requires free { worker.old ≡ end_of self.now Free }
+        ensures may { IfSome result (λ order. E.may self.now.key order) }
+        ensures turn { MatchOption result (worker.new ≡ end_of self.now Over) (λ order. worker.new ≡ end_of self.now (Busy order)) }
+    {
+        let mut patience = Patience::new();
+        'looks: for _ in rt.forever() {
+            match self.look(worker) {
+                Found::Order(order) => return Some(order),
+                Found::Dismissal => return None,
+                Found::Nothing => patience.pause(),
+            }
+        }
+        unreachable!()
+    }
+
+    // One look for an order.
+    fn look(&self, worker: &mut Worker<O, A, K>) -> Found<O>
+        requires free { worker.old ≡ end_of self.now Free }
+        ensures { IsFound E.may self.now worker.new result }
+    {
+        let shared = &self.table.shared;
+        match shared.load::<Looking<E>>(&mut worker.seat, 0) {
+            ASKERS_TURN => Found::Nothing,
+            WORKERS_TURN => {
+                let Letter::Order(order) = shared.exchange(&mut worker.seat, 0, Letter::Empty)
+                else {
+                    unreachable!()
+                };
+                Found::Order(order)
+            }
+            _ => Found::Dismissal,
+        }
+    }
+
+    /// Gives the answer, which serves the order that the worker took.
+    pub fn answer(&self, worker: &mut Worker<O, A, K>, answer: A)
+        requires busy { IsBusy self.now worker.old }
+        requires serves { (order : O) → worker.old.turn ≡ Busy order → E.serves order answer }
+        ensures { worker.new ≡ end_of self.now Free }
+    {
+        let shared = &self.table.shared;
+        let Letter::Empty = shared.exchange(&mut worker.seat, 0, Letter::Answer(answer)) else {
+            unreachable!()
+        };
+        shared.store::<Answering>(&mut worker.seat, 0, ASKERS_TURN);
+    }
+}

@@ -1,0 +1,32 @@
+-- What a kept worker is asked, and what it answers.
+use Rattle.std.specs.Prelude.{ℕ, ◌≡◌, ◌<◌, true, false, length}
+use mathlib.Core.Option as lookup
+use lib.ListN.{get_elem?}
+use Rattle.amr_phase.specs.Plans.{PlanOf}
+use Rattle.atomic_table.specs.declared.shared.Seat.{Seat}
+use Rattle.amr_board.specs.declared.view.View.{View}
+use Rattle.amr_board.specs.BoardOf.{BoardOf, IsSeatOf, view}
+use Rattle.amr_board.specs.Views.{HoldsNone}
+use Rattle.std.specs.Prelude.{Option}
+
+module _ {P : Type 0} where
+  -- a seat with which tasks of this board may be drawn
+  pub record MayDraw (board : BoardOf P) (seat : Seat (Option P) (View P)) : Type 0 where
+    pub seat_of : IsSeatOf board seat
+    pub none : HoldsNone (view seat)
+    pub here : (view seat).past ≡ false
+
+  -- a seat that found no task left, with the share of this one
+  pub record HasDrawn (board : BoardOf P) (before seat : Seat (Option P) (View P)) : Type 0 where
+    pub seat_of : IsSeatOf board seat
+    pub none : HoldsNone (view seat)
+    pub past : (view seat).past ≡ true
+    pub share : (view seat).share ≡ (view before).share
+
+  -- the job is ready for each piece of a board
+  abbrev pub IsReady : (PlanOf → P → Type 0) → BoardOf P → Type 0
+  IsReady ready board = (t : ℕ) (p : P) → get_elem? board.pieces t ≡ lookup.some p → ready board.plan p
+
+  -- the gate admits a worker to each task of a board
+  abbrev pub Admits : (ℕ → Type 0) → BoardOf P → Type 0
+  Admits admits board = (task : ℕ) → task < length board.plan.tasks → admits task

@@ -1,0 +1,178 @@
+//! Workers in threads that last from one phase to the next, and the phases that they run.
+ghost use Rattle.std.specs.Prelude.{◌≡◌, ℕ, ◌+◌, ◌<◌, ◌≤◌, ◌^◌, true, false, length, Some};
+ghost use Rattle.std.specs.List.{All};
+ghost use Rattle.std.specs.Arc.{arc_value};
+ghost use Rattle.std.specs.Vec.{vec_capacity};
+ghost use mathlib.Core.Option.{some};
+ghost use lib.ListN.{get_elem?};
+ghost use Rattle.amr_phase.specs.Plans.{planned_total, planned_face};
+ghost use Rattle.amr_board.specs.Views.{HoldsNone};
+ghost use Rattle.amr_board.specs.BoardOf.{IsSeatOf, view};
+ghost use Rattle.amr_board.specs.Ended.{total_of, face_of};
+ghost use Rattle.amr_mailbox.specs.declared.view.Turn.TheVariants.{Free, Over};
+ghost use Rattle.amr_mailbox.specs.MailboxOf.{end_of};
+ghost use Rattle.amr_workers.specs.Orders.{MayDraw, HasDrawn, IsReady, Admits};
+ghost use Rattle.amr_workers.specs.Helpers.{IsHelper};
+
+use crate::gate::Gate;
+use crate::helper::Helper;
+use crate::job::Job;
+use crate::order::Order;
+use crate::phase::draw_all;
+use amr_board::{Board, Ended, Piece, Seat};
+use std::alloc::{AllocFailed, Global};
+use std::marker::Model;
+use std::sync::{Arc, Wait};
+use std::thread::yield_now;
+
+/// A team of kept workers for phases of one job under one gate. Its caller works too, as worker 0.
+#[derive(Drop)]
+pub struct Team<'a, P: Piece, J: Job<P>, G: Gate> {
+    helpers: Vec<Helper<'a, P, J, G>>,
+    job: &'a J,
+    gate: &'a G,
+}
+
+impl<'a, P: Piece, J: Job<P>, G: Gate> Model for Team<'a, P, J, G> {
+    ghost use Rattle.std.specs.Prelude.{◌≡◌, ◌+◌, ◌<◌, length};
+    ghost use Rattle.std.specs.List.{All};
+    ghost use Rattle.amr_workers.specs.Helpers.{IsHelper};
+    ghost use Rattle.amr_workers.specs.TeamOf.{TeamOf};
+
+    ghost Value = { TeamOf J G };
+
+    ghost view = { λ t. record { job = t.job.now; gate = t.gate.now; workers = 1 + length t.helpers.items } };
+
+    ghost invariant = { λ t. All (λ h. IsHelper t.job.now t.gate.now (1 + length t.helpers.items) h.mailbox.now h.asker) t.helpers.items × (length t.helpers.items < 32) };
+}
+
+impl<'a, P: Piece, J: Job<P>, G: Gate> Team<'a, P, J, G> {
+    /// A team of these kept workers, each of whom waits for an order, and its caller.
+    pub fn new(job: &'a J, gate: &'a G, helpers: Vec<Helper<'a, P, J, G>>) -> Team<'a, P, J, G>
+        requires helpers { All (λ h. IsHelper job.now gate.now (1 + length helpers.items) h.mailbox.now h.asker) helpers.items }
+        requires few { length helpers.items < 32 }
+        ensures { result ≡ record { job = job.now; gate = gate.now; workers = 1 + length helpers.entry.items } }
+    {
+        Team { helpers, job, gate }
+    }
+
+    /// Runs all tasks of a board and closes it. The seat is its only one, and holds no task. The gate is handed the
+    /// numbers of the team's workers, and of tasks of the plan. Where there is no memory to share the board, the
+    /// caller draws all tasks itself.
+    pub fn run_phase<W: Wait>(
+        &mut self,
+        rt: &W,
+        alloc: Global,
+        board: Board<P>,
+        seat: Seat<P>,
+    ) -> Ended<P>
+        requires seat { IsSeatOf board seat }
+        requires none { HoldsNone (view seat) }
+        requires here { (view seat).past ≡ false }
+        requires alone { (view seat).share ≡ 2 ^ 32 }
+        requires ready { (t : ℕ) (p : P) → get_elem? board.pieces t ≡ some p → J.ready self.old.job board.plan p }
+        requires gate { (worker task : ℕ) → worker < self.old.workers → task < length board.plan.tasks → G.admits self.old.gate worker task }
+        ensures team { self.new ≡ self.old }
+        ensures shape { (result.places ≡ board.plan.places) × (result.registers ≡ board.plan.words) }
+        ensures totals { (w : ℕ) → w < board.plan.words → total_of result w ≡ planned_total board.plan w }
+        ensures faces { (p : ℕ) → p < board.plan.places → face_of result p ≡ planned_face board.plan p }
+        ensures pieces { (t : ℕ) (p : P) → get_elem? board.pieces t ≡ some p → (y : P) × P.becomes p y × (get_elem? result.pieces t ≡ some (Some y)) }
+    {
+        let shared = match Arc::new(alloc, board) {
+            Ok(shared) => shared,
+            Err(AllocFailed { value: board }) => {
+                let mut seat = seat;
+                draw_all(&board, &mut seat, self.job, self.gate, 0);
+                return board.close(seat);
+            }
+        };
+        let seat = run_with(rt, &mut self.helpers, &shared, seat, self.job, self.gate);
+        sole(rt, shared).close(seat)
+    }
+
+    /// Lets the kept workers go, each of whom then returns.
+    pub fn dismiss(self) -> Vec<Helper<'a, P, J, G>>
+        ensures over { All (λ h. h.asker ≡ end_of h.mailbox.now Over) result.items }
+        ensures count { 1 + length result.items ≡ self.entry.workers }
+    {
+        let Team {
+            mut helpers,
+            job: _,
+            gate: _,
+        } = self;
+        dismiss_all(&mut helpers);
+        helpers
+    }
+}
+
+// Dismisses each kept worker.
+fn dismiss_all<P: Piece, J: Job<P>, G: Gate>(helpers: &mut Vec<Helper<'_, P, J, G>>)
+    requires { All (λ h. h.asker ≡ end_of h.mailbox.now Free) helpers.old.items }
+    ensures over { All (λ h. h.asker ≡ end_of h.mailbox.now Over) helpers.new.items }
+    ensures count { length helpers.new.items ≡ length helpers.old.items }
+    ensures room { vec_capacity helpers.new ≡ vec_capacity helpers.old }
+{
+    let Some(mut helper) = helpers.pop() else {
+        return;
+    };
+    dismiss_all(helpers);
+    helper.mailbox.dismiss(&mut helper.asker);
+    helpers.push_reserved(helper);
+}
+
+// The caller and these kept workers draw the tasks of a board until none is left. Half the seat's share is the last
+// one's, and so on.
+fn run_with<W: Wait, P: Piece, J: Job<P>, G: Gate>(
+    rt: &W,
+    helpers: &mut Vec<Helper<'_, P, J, G>>,
+    board: &Arc<Board<P>, Global>,
+    mut seat: Seat<P>,
+    job: &J,
+    gate: &G,
+) -> Seat<P>
+    requires seat { MayDraw (arc_value board.now) seat }
+    requires share { 2 ^ length helpers.old.items ≤ (view seat).share }
+    requires helpers { All (λ h. IsHelper job.now gate.now 64 h.mailbox.now h.asker) helpers.old.items }
+    requires ready { IsReady (J.ready job.now) (arc_value board.now) }
+    requires gate { All (λ h. Admits (G.admits gate.now h.mailbox.now.key.number) (arc_value board.now)) helpers.old.items }
+    requires caller { Admits (G.admits gate.now 0) (arc_value board.now) }
+    ensures seat { HasDrawn (arc_value board.now) seat result }
+    ensures helpers { helpers.new.items ≡ helpers.old.items }
+    ensures room { vec_capacity helpers.new ≡ vec_capacity helpers.old }
+{
+    let Some(mut helper) = helpers.pop() else {
+        draw_all(board, &mut seat, job, gate, 0);
+        return seat;
+    };
+    let Ok(shared) = Arc::try_clone(board) else {
+        let seat = run_with(rt, helpers, board, seat, job, gate);
+        helpers.push_reserved(helper);
+        return seat;
+    };
+    let other = board.split(&mut seat);
+    let order = Order {
+        board: shared,
+        seat: other,
+    };
+    helper.mailbox.post(&mut helper.asker, order);
+    let mut all = run_with(rt, helpers, board, seat, job, gate);
+    let back = helper.mailbox.collect(rt, &mut helper.asker);
+    board.join(&mut all, back);
+    helpers.push_reserved(helper);
+    all
+}
+
+// The board, once nobody else has it any more.
+fn sole<W: Wait, P: Piece>(rt: &W, shared: Arc<Board<P>, Global>) -> Board<P>
+    ensures { result ≡ arc_value shared }
+{
+    let mut shared = shared;
+    'turns: for _ in rt.forever() {
+        match Arc::try_unwrap(shared) {
+            Ok(board) => return board,
+            Err(again) => shared = again,
+        }
+        yield_now();
+    }
+    unreachable!()
+}
