@@ -32,8 +32,8 @@ fn body_after(p: &Problem, ended: &Ended<Work>, work: Work) -> Box<Body>
     body
 }
 
-/// Takes the patches of so many tasks out of a closed board, each with its masses after the step, into their places, and the bodies
-/// into a list that has room for them. The board's words stay.
+/// Takes the patches of so many tasks out of a closed board, each with its masses after the step. They go into their
+/// places, and the bodies into a list that has room for them. The board's words stay.
 pub(crate) fn collect(
     p: &Problem,
     ended: &mut Ended<Work>,

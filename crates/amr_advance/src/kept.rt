@@ -25,9 +25,9 @@ use amr_ghost::{FramePlan, plan_frames};
 use amr_patch::{Level, Order, Patch};
 use std::alloc::Global;
 
-/// The layout of a level's step, with a plan of the frames, and what it was made for: the boxes of the level's patches, the register
-/// cells of the next coarser level, and the patch boxes of the next finer one, which matter only beside open sides. While these stay,
-/// each step of the level by as many workers takes it as it is.
+/// The layout of a level's step, with a plan of the frames, and what it was made for. That is the boxes of the level's
+/// patches, the register cells of the next coarser level, and the patch boxes of the next finer one. Those matter only
+/// beside open sides. While these stay, each step of the level by as many workers takes it as it is.
 #[derive(Drop)]
 pub struct KeptLayout {
     level: u32,

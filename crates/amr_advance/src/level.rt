@@ -27,8 +27,9 @@ use amr_workers::Gate;
 use std::alloc::Global;
 use std::thread::Threads;
 
-/// What a step of a level is made from besides its patches: the problem and the number of the level; the next coarser level with
-/// the masses before its step; the next finer level; and the cells of the flux register of the coarser level.
+/// What a step of a level is made from besides its patches. There are the problem and the number of the level, and the
+/// next coarser level with the masses before its step. There are the next finer level, and the cells of the coarser
+/// level's flux register.
 #[derive(Clone, Copy)]
 pub(crate) struct Given<'a> {
     pub alloc: Global,
@@ -39,8 +40,8 @@ pub(crate) struct Given<'a> {
     pub cells: &'a [Cell],
 }
 
-/// Makes a step of the patches of a level, whose frames are filled, by workers on a board with these tasks, and takes the totals of
-/// its words from the closed board. The tasks serve the next step.
+/// Makes a step of the patches of a level, whose frames are filled, by workers on a board with these tasks. It takes
+/// the totals of the words from the closed board. The tasks serve the next step.
 ///
 /// All memory is taken before the first task is drawn. If allocation fails the patches are as before.
 fn run_on_board<R: Threads + Sync, G: Gate + Sync>(

@@ -1,7 +1,7 @@
-//! A step of a level by workers (Berger and Colella 1989: the integration of the grids of one level). Where several work, each
-//! patch is the piece of a task on a board; what flows through the faces between patches goes over the board, and so do the sums
-//! for the ledger and for the flux register of the next coarser level. A lone worker makes the step of one patch after another,
-//! each by its own values and those of its frame.
+//! A step of a level by workers (Berger and Colella 1989: the integration of the grids of one level). Where several
+//! work, each patch is the piece of a task on a board. What flows through the faces between patches goes over the
+//! board. So do the sums for the ledger and for the flux register of the next coarser level. A lone worker makes the
+//! step of one patch after another, each by its own values and those of its frame.
 #![tactic(auto)]
 
 mod alone;

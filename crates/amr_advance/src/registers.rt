@@ -1,5 +1,5 @@
-//! What a step of a level gives to flux registers: its own plain flows to the one over it, and the totals of its words to the one
-//! of the next coarser level (Berger and Colella 1989).
+//! What a step of a level gives to flux registers (Berger and Colella 1989). The one over it gets its own plain flows,
+//! the one of the next coarser level the totals of its words.
 
 ghost use Rattle.std.specs.Prelude.{◌≡◌, ℕ, ◌+◌, ◌*◌, ◌<◌, ◌≤◌, ◌^◌, pos, ◌+ℤ◌, ◌-ℤ◌, length, slice_index, slice_index_or, unsigned_abs, IsTrue};
 ghost use Rattle.std.specs.List.{All, Contains};
@@ -33,8 +33,9 @@ pub(crate) fn take_coarse_parts(p: &Problem, l: u32, patches: &[Patch], register
     }
 }
 
-/// Adds what flowed into each register cell of the next coarser level, less what flowed out of it, as the totals of the words have
-/// it: words `2 + 2 * k` and `3 + 2 * k` are those of cell `k`. Entries are below 2^61 in size, and so is what is added.
+/// Adds what flowed into each register cell of the next coarser level, less what flowed out of it, by the totals of the
+/// words. Words `2 + 2 * k` and `3 + 2 * k` are those of cell `k`. Entries are below 2^61 in size, and so is what is
+/// added.
 pub(crate) fn absorb_totals(totals: &[u64], register: &mut Register)
     requires count { length totals.now ≡ 2 + 2 * length (cells_in register.old) }
     requires few { length totals.now < 2 ^ 32 }

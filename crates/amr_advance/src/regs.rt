@@ -2,9 +2,9 @@
 
 use amr_register::Register;
 
-/// What a step of a level adds to: the flux register of the next coarser level, which gains what flows through this level's faces
-/// beside its cells; the one over the next finer level, which loses the level's own flows there; and what flowed into the domain
-/// and out of it beside cells that no finer level covers. (Berger and Colella 1989)
+/// What a step of a level adds to. The flux register of the next coarser level gains what flows through this level's
+/// faces beside its cells. The one over the next finer level loses the level's own flows there. And two sums get what
+/// flowed into the domain and out of it beside cells that no finer level covers. (Berger and Colella 1989)
 #[derive(Drop)]
 pub struct Regs {
     /// Of the next coarser level, where there is one.

@@ -177,9 +177,9 @@ fn add_totals(totals: &[u64], regs: &mut Regs)
     }
 }
 
-/// The same as `advance`, for a level that makes many steps: what depends on boxes alone, the layout of the step on a board and the
-/// workspaces of its tasks, is taken from `kept` where it was made for the same boxes, else made anew. It is kept afterwards, but
-/// not after `NoMemory`.
+/// The same as `advance`, for a level that makes many steps. What depends on boxes alone, the layout of the step and
+/// the workspaces of its tasks, is taken from `kept` where it was made for the same boxes. Else it is made anew. It is
+/// kept afterwards, but not after `NoMemory`.
 ///
 /// There are from 1 to 64 workers. `kept` is of the same problem.
 pub fn advance_kept<R: Threads + Sync, G: Gate + Sync>(
@@ -233,13 +233,15 @@ pub fn advance_kept<R: Threads + Sync, G: Gate + Sync>(
     Ok(())
 }
 
-/// Makes a step of level `l` by workers (Berger and Colella 1989): each cell gets what flows in through its faces by the plain fluxes
-/// of the level, whatever a finer level covers. `old` is the next coarser level with the masses before its own step, `finer` the
-/// next finer one. Several workers work on a board, a lone one goes over the patches in order.
+/// Makes a step of level `l` by workers (Berger and Colella 1989). Each cell gets what flows in through its faces by
+/// the plain fluxes of the level, whatever a finer level covers. `old` is the next coarser level with the masses before
+/// its own step, `finer` the next finer one. Several workers work on a board, a lone one goes over the patches in
+/// order.
 ///
-/// The register of the coarser level gains what flows through this level's faces beside its cells, and the one over the finer
-/// level loses the plain flows through the level's coarse-fine edges. The sums gain what flows in and out through open sides
-/// beside cells that no finer level covers. The outcome is the same for any number of workers, whoever draws which task.
+/// The register of the coarser level gains what flows through this level's faces beside its cells. The one over the
+/// finer level loses the plain flows through the level's coarse-fine edges. The sums gain what flows in and out through
+/// open sides beside cells that no finer level covers. The outcome is the same for any number of workers, whoever draws
+/// which task.
 ///
 /// The crew has one rank, and from 1 to 64 workers. All memory is taken before the first task is drawn. `NoMemory` is the only
 /// refusal, and also stands for more than 2^26 patches or 2^30 faces: then the level has the masses of before, and `regs` is as

@@ -36,9 +36,10 @@ fn empty_lots(alloc: Global, workers: usize) -> Result<Vec<Vec<u32>>, NoMemory>
     Ok(lots)
 }
 
-/// Shares pieces of work of these areas (cells, say) out among workers: each piece in turn to the worker with the least to do, the
-/// lowest number on a tie. Lot `w` has the numbers of the pieces of worker `w`, in order; each piece is in one lot. So a worker has
-/// at most the average and, but for one worker's part of it, the largest piece (Graham 1966).
+/// Shares pieces of work of these areas (cells, say) out among workers. Each piece in turn goes to the worker with the
+/// least to do, the lowest number on a tie. Lot `w` has the numbers of the pieces of worker `w`, in order; each piece
+/// is in one lot. So a worker has at most the average and, but for one worker's part of it, the largest piece (Graham
+/// 1966).
 ///
 /// There are 1 to 64 workers and fewer than 2^32 pieces, which add up to less than 2^48. `NoMemory` is the only refusal.
 pub fn share(alloc: Global, areas: &[u64], workers: u32) -> Result<Vec<Vec<u32>>, NoMemory>

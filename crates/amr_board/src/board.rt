@@ -165,7 +165,7 @@ impl<P: Piece> Board<P> {
         self.table.shared.fetch_add::<Adding>(seat, at, amount);
     }
 
-    /// What was put at a place. None exactly where the word that this look found, which the seat notes, is empty; it
+    /// What was put at a place. None exactly where the word that this look found, which the seat notes, is empty. It
     /// isn't where the seat made the put or knows it by a join or an earlier look.
     pub fn face(&self, seat: &mut Seat<P>, place: u32) -> Option<u64>
         requires seat { IsSeatOf self.now seat.old }
@@ -225,8 +225,8 @@ impl<P: Piece> Board<P> {
         self.table.shared.join_seat::<Halves>(seat, other);
     }
 
-    /// Ends the board. The seat is the only one left, is past, and holds no task: all tasks are done, the words have
-    /// the plan's totals and faces, and for each task there is a piece that its piece may become.
+    /// Ends the board. The seat is the only one left, is past, and holds no task. So all tasks are done, and the words
+    /// have the plan's totals and faces. For each task there is a piece that its piece may become.
     pub fn close(self, seat: Seat<P>) -> Ended<P>
         requires seat { IsSeatOf self seat }
         requires none { HoldsNone (view seat) }

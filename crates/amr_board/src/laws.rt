@@ -23,8 +23,8 @@ use crate::view::View;
 use atomic_table::TableRule;
 
 /// Whatever workers do on a board: what its table keeps at each moment is the rule, so each number drawn stands in one
-/// view. Words, slots and views that meet the rule show a state of the machine that the events made so far lead to, each
-/// enabled where it came; and that state is a reached one, so each law of the machine over every list of events holds
+/// view. Words, slots and views that meet the rule show a state of the machine that the events made so far lead to,
+/// each enabled where it came. That state is a reached one, so each law of the machine over every list of events holds
 /// of it. It does nothing: it stands for its contract.
 pub fn running_board_is_the_core<P: Piece>()
     ensures kept { (about : About P) (s : State (Option P) (View P)) → ⟦<Kept<P> as TableRule<Option<P>, View<P>, About<P>>>⟧.holds about s → Rule (plan_of P.puts P.adds about.shape.places about.shape.words about.pieces.value.items) about.pieces.value.items P.becomes s }
@@ -61,7 +61,7 @@ pub fn looks_alone<P: Piece>()
     ensures more { (v w u : View P) (m n : ℕ) → HasLooked v w m → HasLooked w u n → HasLooked v u (m + n) }
 {}
 
-/// The plan of a list of pieces: what is planned at a word or a place is a sum over the pieces, and at the place of a
+/// The plan of a list of pieces. What is planned at a word or a place is a sum over the pieces, and at the place of a
 /// piece's put it is what that put stores. It does nothing: it stands for its contract.
 pub fn plans_of_pieces<P: Piece>()
     ensures totals { (places words : ℕ) (pieces : List P) (word : ℕ) → planned_total (plan_of P.puts P.adds places words pieces) word ≡ total (λ (p : P). total (added word) (P.adds p)) pieces }

@@ -2,8 +2,8 @@
 ghost use Rattle.std.specs.Prelude.{ℕ, List};
 ghost use Rattle.amr_phase.specs.declared.plan.Post.{Post};
 
-/// The piece of a task. Its meaning is a function of the piece as handed in: the number of its task, the puts and adds
-/// that the task makes, and which pieces may be given back in its place. That is a relation, so that pieces of
+/// The piece of a task. Its meaning is a function of the piece as handed in. It has the number of its task, the puts
+/// and adds that it makes, and which pieces may be given back in its place. That is a relation, so that pieces of
 /// several forms may stand for the same values.
 pub trait Piece: Drop {
     ghost task: { Self → ℕ };

@@ -1,5 +1,5 @@
-//! Cells, faces and boxes of cells, after BoxLib's box calculus: a box is its low and its high corner, both inside, and
-//! each call on boxes is told twice, by its corners and by its set of cells.
+//! Cells, faces and boxes of cells, after BoxLib's box calculus. A box is its low and its high corner, both inside.
+//! Each call on boxes is told twice, by its corners and by its set of cells.
 #![tactic(auto)]
 
 ghost use Rattle.std.specs.Prelude.{◌≡◌, ◌&&◌, ◌⊎◌, ℕ, ◌*◌, ◌<◌, ◌≤◌, ◌^◌, ◌↔◌, pos, negsuc, ◌+ℤ◌, ◌-ℤ◌, ◌≤ℤ◌, ◌<ℤ◌, int_le, int_lt, length, IsTrue, IfSome, IsSome, IsNone};

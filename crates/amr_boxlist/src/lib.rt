@@ -65,9 +65,9 @@ impl BoxList {
         Ok(())
     }
 
-    /// Takes the cells of a box away: each box of the list gives way to the at most four boxes that are left of it, the
-    /// rows below what both have in common, the rows above, and what lies left and right (BoxLib's `boxDiff`). After
-    /// `NoMemory` the list is as before.
+    /// Takes the cells of a box away (BoxLib's `boxDiff`). Each box of the list gives way to the at most four boxes
+    /// that are left of it. They are the rows below what both have in common, the rows above, and what lies left and
+    /// right. After `NoMemory` the list is as before.
     pub fn minus(&mut self, b: Bx) -> Result<(), NoMemory>
         ensures remnants { OnOk result (self.new ≡ flat_map (remnants b) self.old) }
         ensures cells { OnOk result ((c : Cell) → in_boxes self.new c ≡ (in_boxes self.old c && not (holds b c))) }
@@ -89,8 +89,8 @@ impl BoxList {
         sharing::covers(self.boxes.as_slice(), b)
     }
 
-    /// Chops each box, from its low corner, into patch boxes of `max` by `max` cells, the last ones shorter, rows of patch boxes
-    /// from the low row, within a row from the low column (BoxLib's `maxSize`). The cells stay the same. After
+    /// Chops each box, from its low corner, into patch boxes of `max` by `max` cells, the last ones shorter (BoxLib's
+    /// `maxSize`). They go by rows from the low row, within a row from the low column. The cells stay the same. After
     /// `NoMemory` the list is as before.
     pub fn chop(&mut self, max: u32) -> Result<(), NoMemory>
         requires { 1 ≤ max }

@@ -111,8 +111,8 @@ fn image(
     Ok(bytes)
 }
 
-/// What a run of the problem to a target says of a disk: the line of the checkpoint that it goes on from, of its refusal, or none where
-/// it begins at the start.
+/// What a run of the problem to a target says of a disk. That is the line of the checkpoint that it goes on from, or of
+/// its refusal. There is none where it begins at the start.
 fn said_of(alloc: Global, disk: &mut MemDisk, problem: &str, target: u32) -> Result<MemSink, Fail> {
     let mut lines = MemSink::make(alloc, 100, 100, &[])?;
     match resume(alloc, problem.as_bytes(), target, disk) {

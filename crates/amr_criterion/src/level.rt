@@ -52,10 +52,10 @@ fn tag_level(
     level.put_patches_in_order(patches, order);
 }
 
-/// The cells of level `l` that are to be refined: those with a neighbour in the domain, past the end of a periodic axis too,
-/// whose value differs from theirs by the level's threshold or more. The level is below the greatest and lies in its domain;
-/// `coarse` is the next coarser level, whose masses stand for a quarter each in the cells beside the level (Berger and Colella's
-/// tags; the criterion is this program's own).
+/// The cells of level `l` that are to be refined: those whose value differs from a neighbour's by the level's threshold
+/// or more. The neighbour lies in the domain, past the end of a periodic axis too. The level is below the greatest and
+/// lies in its domain. `coarse` is the next coarser level, whose masses stand for a quarter each in the cells beside
+/// the level. (Tags are Berger and Colella's; the criterion is this program's own.)
 ///
 /// The frames of the patches are filled first. Then each patch is gone over row by row, and what is tagged is set span by span.
 /// The boxes and masses of the level stay, and so do its patch boxes and its fluxes. After `NoMemory`, the only refusal, the level is

@@ -9,7 +9,7 @@ ghost use Rattle.amr_criterion.specs.Pairs.{AreAlong, IsBelow, IsJoined, after, 
 use amr_box::{Axis, Bx, Cell};
 use amr_tags::Tags;
 
-/// A line of pairs of neighbours: their first cells go along a row, from the low end on, and the second cell of each lies
+/// A line of pairs of neighbours. Their first cells go along a row, from the low end on. The second cell of each lies
 /// beside the first along the axis. Only cells of `part` are tagged.
 #[derive(Clone, Copy, Debug)]
 pub(crate) struct Line {

@@ -17,8 +17,8 @@ use amr_patch::Level;
 use amr_register::Register;
 use amr_transfer::sum_up;
 
-/// Gives each register cell its entry, and each covered cell the sum of its children (Berger and Colella 1989: the coarse level is
-/// corrected at the edges of the finer one, and under it takes the finer one's values).
+/// Gives each register cell its entry, and each covered cell the sum of its children. (Berger and Colella 1989: the
+/// coarse level is corrected at the edges of the finer one, and under it takes the finer one's values.)
 fn correct_by(level: &mut Level, register: &Register, finer: &Level)
     requires of_level { (c : Cell) → Contains (cells_in register.now) c → IsSome ((level_of level.old).masses c) }
     requires kept { (c : Cell) → Contains (cells_in register.now) c → pos 0 ≤ℤ (pos (mass_of (level_of level.old).masses c) +ℤ entry_in register.now c) }

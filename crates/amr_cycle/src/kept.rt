@@ -18,8 +18,8 @@ use amr_patch::Level;
 use amr_register::Register;
 use std::alloc::Global;
 
-/// What a level keeps for both steps of the next finer one: a level on its own boxes, in which its masses before its step stand;
-/// the patch boxes of the finer level; and its flux register.
+/// What a level keeps for both steps of the next finer one. There is a level on its own boxes, in which its masses
+/// before its step stand, the patch boxes of the finer level, and its flux register.
 #[derive(Drop)]
 pub(crate) struct KeptBelow {
     pub(crate) before: Level,

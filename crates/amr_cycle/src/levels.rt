@@ -28,8 +28,8 @@ use amr_patch::Level;
 use amr_workers::Gate;
 use std::thread::Threads;
 
-/// What both steps of the next finer level stand on: the level with the masses before its own step, the finer level's patch boxes, and
-/// what those steps add to, the level's register among them.
+/// What both steps of the next finer level stand on: the level with the masses before its own step, and the finer
+/// level's patch boxes. And what those steps add to, the level's register among them.
 #[derive(Drop)]
 struct Below {
     before: Level,
@@ -162,8 +162,8 @@ fn kept_of(below: Below) -> Option<KeptBelow>
 /// Makes a step of a level and of the levels finer than it, each of which makes two for each of the next coarser one. `kept` is what
 /// they keep from one step to the next, from this level on.
 ///
-/// The register of the coarser level gains what flows through this level's faces beside its cells, and the sums what flows through
-/// open sides beside cells that no finer level covers, in all steps that are made.
+/// The register of the coarser level gains what flows through this level's faces beside its cells. The sums gain what
+/// flows through open sides beside cells that no finer level covers, in all steps that are made.
 pub(crate) fn step_levels<R: Threads + Sync, G: Gate + Sync>(
     team: &Team<'_, R, G>,
     level: &mut Level,

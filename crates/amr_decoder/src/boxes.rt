@@ -142,8 +142,8 @@ fn is_fine(dom: &Dom, blocking: u32, b: Corners) -> bool
     proper & aligned
 }
 
-/// Whether a box of level `l` passes the tests on itself: that of level 0 is the domain, one of a finer level lies in the
-/// domain, is proper and aligned.
+/// Whether a box of level `l` passes the tests on itself. That of level 0 is the domain. One of a finer level lies in
+/// the domain, is proper and aligned.
 pub(crate) fn is_fit(p: &Problem, l: u32, b: Corners) -> bool
     requires { l ≤ 4 }
     ensures value { result ≡ is_box_of p.now l [] (box_at b) }

@@ -79,8 +79,8 @@ fn read_grid(
     Ok(Grid { bx, from })
 }
 
-/// No boxes of level `l`. Level 0 has one box, which is compared with none, and no level below: the least domain stands for
-/// that, so that next to no memory is taken before its masses are read.
+/// No boxes of level `l`. Level 0 has one box, which is compared with none, and no level below. The least domain stands
+/// for that, so that next to no memory is taken before its masses are read.
 fn none_of_level(alloc: Global, p: &Problem, l: u32) -> Result<Apart, NoMemory>
     requires { l ≤ 4 }
     ensures none { IfOk result (λ a. a.grids ≡ []) }

@@ -54,8 +54,8 @@ pub(crate) fn is_between(k: u64, high: u64) -> bool
     1 <= k && k <= high
 }
 
-/// Whether level `l` may have so many boxes: one at level 0, at a finer level at most one for each four cells of its
-/// domain, as many as the domain of the level below has.
+/// Whether level `l` may have so many boxes. That is one at level 0. At a finer level it is at most one for each four
+/// cells of its domain, as many as the domain of the level below has.
 fn is_box_count(p: &Problem, l: u32, k: u32) -> bool
     requires { l ≤ 4 }
     ensures { result ≡ is_box_count p.now l k }
@@ -87,10 +87,10 @@ fn level_of_grids(
     make_level(alloc, p.max_grid_size, kind.width, bytes, grids)
 }
 
-/// Level `kind.level`: the number of its boxes, and the boxes with their masses, in patches of at most `max_grid_size` by
-/// `max_grid_size` cells. The reader then stands behind it. `Bad` is at the place of the first test that fails. Memory is
-/// taken only for boxes and masses that were read whole, whatever their number is said to be, and above level 0 for two
-/// bits for each cell of the domain of the level below.
+/// Level `kind.level`: the number of its boxes, and the boxes with their masses, in patches of at most `max_grid_size`
+/// by `max_grid_size` cells. The reader then stands behind it. `Bad` is at the place of the first test that fails.
+/// Memory is taken only for boxes and masses that were read whole, whatever their number is said to be. Above level 0
+/// it is taken for two bits for each cell of the domain of the level below.
 #[tactic(auto, unfolding(amr_payload::specs::Tests::read_level))]
 pub fn read_level(
     alloc: Global,

@@ -189,8 +189,8 @@ impl<'a> Reader<'a> {
         }
     }
 
-    /// Goes over the bytes of masses once: `count` of them, or as many as come before the first that doesn't lie
-    /// wholly inside the bytes or is greater than `greatest`. Says how many they are.
+    /// Goes over the bytes of masses once. It passes `count` of them, or those before the first that doesn't lie wholly
+    /// inside the bytes or is greater than `greatest`. Says how many they are.
     pub(crate) fn pass_masses(&mut self, width: MassWidth, count: u64, greatest: u64) -> u64
         ensures left { left_of self.new ≡ after (byte_len (width_of width) * result) (left_of self.old) }
         ensures most { result ≤ count }

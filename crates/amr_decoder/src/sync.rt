@@ -108,8 +108,8 @@ fn one_sum(coarse: &Level, fine: &Level, c: Cell) -> Option<u32>
     }
 }
 
-/// How many cells have the mass of their children, of those that stand in one patch with all their children in two rows of
-/// patches: None where one of them has not.
+/// How many cells have the mass of their children, of those that stand in one patch with all their children in two rows
+/// of patches. None where one of them has not.
 fn span_sums(masses: &[u32], lower: &[u32], upper: &[u32]) -> Option<usize>
     ensures within { IfSome result (λ n. n ≤ length masses.now) }
     ensures lower { IfSome result (λ n. 2 * n ≤ length lower.now) }
@@ -125,8 +125,8 @@ fn span_sums(masses: &[u32], lower: &[u32], upper: &[u32]) -> Option<usize>
     }
 }
 
-/// Of a row of the parents of a box, how many cells from column `first` on have the mass of their children, as far as they and
-/// the children stand in one patch each. None where one has not.
+/// Goes over a row of the parents of a box, from column `first` on, as far as they and the children stand in one patch
+/// each. It answers how many have the mass of their children. None where one has not.
 fn sums_from(
     coarse: &Level,
     fine: &Level,

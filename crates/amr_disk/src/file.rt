@@ -10,9 +10,9 @@ use std::rt::Files;
 
 const NAME: &str = "mesh.store";
 
-/// The file `mesh.store` of the current folder, opened at first use. An absent file reads as empty and syncs with Ok; the first write
-/// makes it. The first sync of a file that was opened or made makes its entry in the folder durable too, where the system lets it: an
-/// earlier run may have ended before it did. It tells nothing of its bytes.
+/// The file `mesh.store` of the current folder, opened at first use. An absent file reads as empty and syncs with Ok;
+/// the first write makes it. The first sync of a file that was opened or made makes its entry in the folder durable
+/// too, where the system lets it. An earlier run may have ended before it did. It tells nothing of its bytes.
 #[derive(Drop)]
 pub struct FileDisk<R> {
     rt: R,

@@ -15,9 +15,10 @@ use amr_regrid::regrid;
 use amr_start::base;
 use std::alloc::Global;
 
-/// The start of a run (Berger and Colella 1989): level 0 with the masses of the blocks, regridded once for each level that the
-/// problem may have above it, so that each regrid may add one. It is at step 0. Each tagged cell of a regrid is covered after it,
-/// and each level is in patches of at most `max_grid_size` by `max_grid_size` cells. `NoMemory` is the only refusal.
+/// The start of a run (Berger and Colella 1989): level 0 with the masses of the blocks, regridded once for each level
+/// that the problem may have above it. So each regrid may add one. It is at step 0. Each tagged cell of a regrid is
+/// covered after it, and each level is in patches of at most `max_grid_size` by `max_grid_size` cells. `NoMemory` is
+/// the only refusal.
 pub fn start(alloc: Global, p: &Problem) -> Result<Mesh, NoMemory>
     ensures value { IfOk result (λ m. state_of m ≡ start p.now) }
     ensures sound { IfOk result (λ m. IsSound p.now (state_of m)) }

@@ -10,21 +10,21 @@ pub fn borders_are_marked()
     ensures { BordersAreMarked }
 {}
 
-/// A patch owns a face of its cells where it has the cell at the face's high side, or where no patch of the level has the cell
-/// that this one stands for.
+/// A patch owns a face of its cells where it has the cell at the face's high side. It owns it, too, where no patch of
+/// the level has the cell that this one stands for.
 pub fn owners_are_told()
     ensures { OwnersAreTold }
 {}
 
-/// What the layout has a patch put, the size of what flows through a face, is of a face on the patch's edges that it owns; so is
-/// each face of its adds.
+/// What the layout has a patch put, the size of what flows through a face, is of a face on the patch's edges that it
+/// owns. So is each face of its adds.
 pub fn posts_are_of_own_edges()
     ensures puts { PutsAreOwnEdges }
     ensures adds { AddsAreOwnEdges }
 {}
 
-/// Where a patch reads a border face, the patch that owns it puts the flux through the face that it stands for, past the end
-/// of a periodic axis too. Both find one flux there, where their frames have the values of the level.
+/// Where a patch reads a border face, its owner puts the flux through the face that it stands for, past the end of a
+/// periodic axis too. Both find one flux there, where their frames have the values of the level.
 pub fn borders_are_put()
     ensures put { BordersArePut }
     ensures flux { FluxesAgree }

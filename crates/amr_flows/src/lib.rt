@@ -1,5 +1,5 @@
-//! Laws of what a layout's words hold: over the patches of a level, what they add up to is what flows through the level's open
-//! sides, and into and out of each register cell of the next coarser level. And laws of what registers and sums over children
+//! Laws of what a layout's words hold. Over the patches of a level they add up to what flows through its open sides,
+//! and into and out of each register cell of the next coarser level. And laws of what registers and sums over children
 //! make of them: the step of a level over finer ones. Each call has an empty body, and what it ensures is the law.
 #![tactic(auto)]
 
@@ -35,8 +35,8 @@ pub fn step_keeps_cover()
     ensures { StepKeepsCover }
 {}
 
-/// In each step of levels within the step from a sound state a register cell's mass and entry add up to at least 0 and below
-/// 2^31, and the parts of the entry are below 2^34.
+/// In each step of levels within the step from a sound state a register cell's mass and entry add up to at least 0 and
+/// below 2^31. The parts of the entry are below 2^34.
 pub fn reflux_fits()
     ensures { RefluxFits }
 {}

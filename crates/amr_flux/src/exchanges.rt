@@ -10,8 +10,8 @@ use crate::shape::Shape;
 use crate::x_faces::is_end_marked;
 use crate::y_faces::is_top_marked;
 
-/// The border faces of a patch: the marks that tell which they are, and the sizes of what flows through them, first of the x faces
-/// by y, then of the y faces by x.
+/// The border faces of a patch: the marks that tell which they are, and the sizes of what flows through them. The x
+/// faces come first, by y, then the y faces, by x.
 #[derive(Clone, Copy)]
 pub(crate) struct Border<'a> {
     pub(crate) marks: &'a [bool],
@@ -46,8 +46,8 @@ pub(crate) fn count_ends(shape: Shape, marks: &[bool]) -> usize
     count
 }
 
-/// What flows across through the top face of column `i` by the values beside it, after the rows are gone over: `across` has what
-/// went out of the last row done.
+/// What flows across through the top face of column `i` by the values beside it, after the rows are gone over. Then
+/// `across` has what went out of the last row done.
 fn top_share(down: bool, pace: Pace, shape: Shape, values: &[u32], across: &[u32], i: usize) -> u32
     requires value_count { length values.now ≡ (shape.h + 2) * (shape.w + 2) }
     requires width { length across.now ≡ shape.w }

@@ -76,10 +76,10 @@ fn courant(p: &Problem, l: u32, b: &Bx, f: Face) -> i32
     }
 }
 
-/// What flows through a face of a cell of a patch of level `l`, above 0 towards the high side, by the values on its two sides,
-/// which stand in the patch or in its frame (donor cell; Berger and Colella 1989). The face may lie inside the patch or on its
-/// edge, and may belong to another patch. Before an update this is what flows in the level itself, where the frame is filled.
-/// It takes no memory.
+/// What flows through a face of a cell of a patch of level `l`, above 0 towards the high side. It follows from the
+/// values on its two sides, in the patch or in its frame (donor cell; Berger and Colella 1989). The face may lie inside
+/// the patch or on its edge, and may belong to another patch. Before an update this is what flows in the level itself,
+/// where the frame is filled. It takes no memory.
 pub fn face_flux(p: &Problem, l: u32, patch: &Patch, f: Face) -> i64
     requires level { l ≤ 4 }
     requires inside { IsInDomain (domain p.now l) (box patch.now) }

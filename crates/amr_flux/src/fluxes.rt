@@ -16,9 +16,9 @@ use crate::y_faces::{set_shares, top_fluxes, y_row};
 use amr_def::Problem;
 use amr_patch::Patch;
 
-/// Works out the fluxes through the faces on the edges of a patch of level `l` that it owns, from its masses and the frame
-/// beside it (donor cell; Berger and Colella 1989). The other faces on its edges, its border faces, keep what they have: other
-/// patches own them.
+/// Works out the fluxes through those faces on the edges of a patch of level `l` that it owns. They follow from its
+/// masses and the frame beside it (donor cell; Berger and Colella 1989). The other faces on its edges, its border
+/// faces, keep what they have: other patches own them.
 pub fn sweep(p: &Problem, l: u32, patch: &mut Patch, room: &mut Room)
     requires level { l ≤ 4 }
     requires inside { IsInDomain (domain p.now l) (box patch.old) }

@@ -18,9 +18,9 @@ use crate::shape::shape_of;
 use amr_def::Problem;
 use amr_patch::Patch;
 
-/// Makes the new masses of a patch of level `l`: each cell gets what flows in through its faces. The fluxes follow from the
-/// masses and the frame; `border` has the sizes of those through the patch's border faces, first of the x faces by y, then of
-/// the y faces by x, and each of these flows the way of the Courant number at its face.
+/// Makes the new masses of a patch of level `l`: each cell gets what flows in through its faces. The fluxes follow from
+/// the masses and the frame. `border` has the sizes of those through the patch's border faces, first of the x faces by
+/// y, then of the y faces by x. Each of these flows the way of the Courant number at its face.
 pub fn update(p: &Problem, l: u32, patch: &mut Patch, border: &[u32], room: &mut Room)
     requires level { l ≤ 4 }
     requires inside { IsInDomain (domain p.now l) (box patch.old) }

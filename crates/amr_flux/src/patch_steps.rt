@@ -114,8 +114,8 @@ fn step_in_order(
     exchange_tops(down, pace, shape, tops, across, values);
 }
 
-/// Gives each cell of a patch what comes in through its faces, in one pass over its rows: by the values on their two sides, and for
-/// border faces by the sizes handed in. `across` is room for a row.
+/// Gives each cell of a patch what comes in through its faces, in one pass over its rows. It goes by the values on
+/// their two sides, and for border faces by the sizes handed in. `across` is room for a row.
 #[inline(always)]
 pub(crate) fn step_cells(
     pace: Pace,

@@ -60,9 +60,9 @@ fn back(pace: Pace, across: &mut [u32], row: &mut [u32])
     }
 }
 
-/// Makes the new masses of row `j` of a patch, as wide as `across`, which has what comes into each cell from the row before, and
-/// gets what goes out of each into the row after. The row flows towards its high end. Answers the size of what flows through its
-/// last x face.
+/// Makes the new masses of row `j` of a patch, as wide as `across`. That has what comes into each cell from the row
+/// before, and gets what goes out of each into the row after. The row flows towards its high end. Answers the size of
+/// what flows through its last x face.
 #[inline(always)]
 fn step_row_ahead(pace: Pace, j: usize, values: &mut [u32], across: &mut [u32]) -> u32
     requires forward { pos 0 ≤ℤ pace.x.number }

@@ -84,8 +84,8 @@ pub(crate) fn mass_after(mass: u32, west: i32, east: i32, south: i32, north: i32
     (i64::from(mass) + net_inflow(west, east, south, north)) as u32
 }
 
-/// Makes the new masses of a row: each gets what comes in through its faces, given the fluxes through
-/// the row's x faces and through the y faces at its low and at its high side.
+/// Makes the new masses of a row. Each gets what comes in through its faces, by the fluxes through the row's x faces
+/// and through the y faces at its low and at its high side.
 pub(crate) fn update_row(masses: &mut [u32], x: &[i32], low: &[i32], high: &[i32])
     requires x_count { length x.now ≡ length masses.old + 1 }
     requires low_count { length low.now ≡ length masses.old }

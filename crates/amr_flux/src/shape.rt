@@ -11,8 +11,8 @@ use crate::share::Share;
 use amr_box::Bx;
 use amr_def::Problem;
 
-/// A patch of a level: how many columns and rows it has, which column and row of the level its first cell lies in, and the
-/// shares at the Courant numbers of that row and that column.
+/// A patch of a level: how many columns and rows it has, and which column and row of the level its first cell lies in.
+/// And the shares at the Courant numbers of that row and that column.
 #[derive(Clone, Copy, Debug)]
 pub(crate) struct Shape {
     pub(crate) w: usize,

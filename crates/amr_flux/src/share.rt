@@ -13,11 +13,10 @@ const DOUBLE: u64 = 4294967296;
 /// 2 to the 10.
 const REST: u64 = 1024;
 
-/// What flows out of a cell in a step at a Courant number `c / d` from -1 to 1: the cell's mass times
-/// `|c| / d`, rounded down. The division is made once, for the number: a mass is multiplied by `|c| / d`
-/// with 41 binary places, rounded up, which gives the same for each mass below 2^31 (Granlund and
-/// Montgomery, "Division by invariant integers using multiplication", 1994). The places stand in two
-/// numbers, so that each product fits 64 bits.
+/// What flows out of a cell in a step at a Courant number `c / d` from -1 to 1: the cell's mass times `|c| / d`,
+/// rounded down. The division is made once, for the number. A mass is multiplied by `|c| / d` with 41 binary places,
+/// rounded up, which gives the same for each mass below 2^31. (Granlund and Montgomery, "Division by invariant integers
+/// using multiplication", 1994.) The places stand in two numbers, so that each product fits 64 bits.
 ///
 /// For masses below a limit 31 places do, and one product. There is no limit where `d` is a power of two.
 #[derive(Clone, Copy, Debug)]

@@ -40,8 +40,9 @@ pub(crate) fn gap_ahead(starts: Option<&Starts>, axis: Axis, c: Cell, most: u32)
     }
 }
 
-/// Gives the first ghost cells of a strip beside patch `i` quarters of masses of a level, and answers how many: as many as lie over
-/// one patch of it. The masses are those of the parents of the cells from `from` on, 0 where the level has no such cell.
+/// Gives the first ghost cells of a strip beside patch `i` quarters of masses of a level. It answers how many: as many
+/// as lie over one patch of it. The masses are those of the parents of the cells from `from` on, 0 where the level has
+/// no such cell.
 fn quarter_span(
     level: &Level,
     patches: &mut [Patch],

@@ -15,11 +15,11 @@ ghost use Rattle.amr_ghost.specs.Frames.{AreInDomain, is_beside, old_masses};
 ghost use Rattle.amr_ghost.specs.Filling.{AreGiven, HasGhosts, HasValues, IsGhostStrip, IsLevelInOrder, KeepsCells, KeepsGhosts, KeepsValues};
 ghost use Rattle.amr_ghost.specs.Plans.{IsSpan};
 
+use crate::gap_cells::{gap_ahead, quarter_ahead};
 use crate::ghosts::{copy_strip, set_strip};
 use crate::lookup::Target;
 use crate::outside::outside_value;
 use crate::places::{cells_ahead, step};
-use crate::gap_cells::{gap_ahead, quarter_ahead};
 use crate::sides::Strip;
 use amr_box::Cell;
 use amr_def::Problem;
@@ -109,8 +109,8 @@ fn first_of(strip: Strip, count: u32) -> Strip
     }
 }
 
-/// Gives the ghost cells of a strip beside patch `i` quarters of masses of the next coarser level at the start of its step: those of
-/// the parents of the cells from `from` on. All get 0 where there is no such level.
+/// Gives the ghost cells of a strip beside patch `i`, from `from` on, quarters of the masses of their parents. Those
+/// are masses of the next coarser level at the start of its step. All get 0 where there is no such level.
 fn quarter_spans(
     old: Option<&Level>,
     patches: &mut [Patch],

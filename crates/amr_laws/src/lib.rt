@@ -9,9 +9,8 @@ pub fn start_is_sound()
     ensures { StartIsSound }
 {}
 
-/// A regrid of a sound state gives a sound state: its new boxes are disjoint, in the domain, aligned to
-/// the blocking factor and nested, covered cells stay the sums of their children, and masses stay within
-/// their bound.
+/// A regrid of a sound state gives a sound state. Its new boxes are disjoint, in the domain, aligned to the blocking
+/// factor and nested. Covered cells stay the sums of their children, and masses stay within their bound.
 pub fn regrid_keeps_sound()
     ensures { RegridKeepsSound }
 {}
@@ -71,14 +70,14 @@ pub fn plot_ignores_grid_size()
     ensures { PlotIgnoresGridSize }
 {}
 
-/// In a step of a level and of those finer than it no mass falls below 0: as whole numbers the new mass
-/// is the old one and the net inflow.
+/// In a step of a level and of those finer than it no mass falls below 0. As whole numbers the new mass is the old one
+/// and the net inflow.
 pub fn level_step_is_exact()
     ensures { LevelStepIsExact }
 {}
 
-/// Four fluxes out of ghost cells of a quarter of a coarse mass, through the child faces of one face and
-/// over both finer steps, are at most the coarse cell's share at that face.
+/// Take four fluxes out of ghost cells of a quarter of a coarse mass, through the child faces of one face and over both
+/// finer steps. They are at most the coarse cell's share at that face.
 pub fn four_fluxes_are_within_share()
     ensures { FourFluxesAreWithinShare }
 {}
@@ -93,8 +92,8 @@ pub fn registers_lie_beside_covered()
     ensures { RegistersLieBesideCovered }
 {}
 
-/// The level step of a level over finer ones, at each of its cells: at a cell that is not covered what a
-/// step with plain fluxes and the registers of its faces make, at a covered one the sum of its children.
+/// The level step of a level over finer ones, at each of its cells. At a cell that is not covered it is what a step
+/// with plain fluxes and the registers of its faces make. At a covered one it is the sum of its children.
 pub fn level_step_by_registers()
     ensures { LevelStepByRegisters }
 {}
@@ -119,13 +118,13 @@ pub fn substeps_are_of_levels()
 {}
 
 /// In each step of levels within the step from a sound state masses, values and fluxes are below 2^31, products below
-/// 2^42 and sums below 2^52, and four fluxes take no more than a cell has.
+/// 2^42 and sums below 2^52. Four fluxes take no more than a cell has.
 pub fn substeps_fit()
     ensures { SubstepsFit }
 {}
 
 /// What flows through open sides in the step from a sound state is what flows there beside cells that no finer level
-/// covers, over all levels and the steps that each makes. So the ledger's row is a sum of plain fluxes.
+/// covers. It is summed over all levels and the steps that each makes. So the ledger's row is a sum of plain fluxes.
 pub fn ledger_by_levels()
     ensures inflow { InflowByLevels }
     ensures outflow { OutflowByLevels }

@@ -52,8 +52,8 @@ fn adds_of_all(alloc: Global, s: Surroundings<'_>) -> Result<Vec<Vec<AddAt>>, No
     Ok(all)
 }
 
-/// What each patch of level `l` adds, as in the tasks of `plan`, where one worker makes the step alone: then no border face has a
-/// place, and no patch puts or reads. List `i` is that of patch `i`.
+/// What each patch of level `l` adds, as in the tasks of `plan`, where one worker makes the step alone. Then no border
+/// face has a place, and no patch puts or reads. List `i` is that of patch `i`.
 ///
 /// `NoMemory` is the only refusal; it also stands for more than 2^30 faces or cells.
 pub fn plan_adds(

@@ -86,16 +86,18 @@ fn tasks_of(
 
 /// The layout of a step of level `l` of a problem on a board: what each task puts, reads and adds. Task `i` is that of patch `i`.
 ///
-/// - Each border face of the level has a place of its own. The patch that owns it puts its flux there, and the one that reads it
-///   has the place in its list, in the order in which `amr_flux::update` takes border fluxes.
-/// - Words 0 and 1 are the ledger's inflow and outflow: a face of an open side is added where the cell beside it isn't covered by
-///   the finer level, which adds the flow beside a covered one.
-/// - Words `2 + 2k` and `3 + 2k` are the gain and the loss of register cell `k` of the next coarser level (Berger and Colella
-///   1989): each face of this level's coarse-fine edge is added to one of them, by the way of its Courant number.
+/// - Each border face of the level has a place of its own. The patch that owns it puts its flux there, and the one that
+///   reads it has the place in its list. The list goes in the order in which `amr_flux::update` takes border fluxes.
+/// - Words 0 and 1 are the ledger's inflow and outflow. A face of an open side is added where the cell beside it isn't
+///   covered by the finer level, which adds the flow beside a covered one.
+/// - Words `2 + 2k` and `3 + 2k` are the gain and the loss of register cell `k` of the next coarser level (Berger and
+///   Colella 1989). Each face of this level's coarse-fine edge is added to one of them, by the way of its Courant
+///   number.
 ///
-/// The patches are all those of the level, and `starts` tells where they start. `cells` are the register cells of the next coarser level, none at level 0, by y, then
-/// by x. Time and memory grow with the faces on the patches' edges; a span of faces beside one patch takes one search, and so does one
-/// beside a gap between the columns and rows where patches start.
+/// The patches are all those of the level, and `starts` tells where they start. `cells` are the register cells of the
+/// next coarser level, none at level 0, by y, then by x. Time and memory grow with the faces on the patches' edges. A
+/// span of faces beside one patch takes one search. So does one beside a gap between the columns and rows where patches
+/// start.
 ///
 /// `NoMemory` is the only refusal; it also stands for more than 2^30 faces or cells.
 pub fn plan(

@@ -21,8 +21,8 @@ fn steps_to(z: i32, end: i32, other: i32, other_end: i32) -> u32
     distance(z, end).min(distance(other, other_end)) as u32
 }
 
-/// How many of the faces that come after face `n` on the same side of a box lie beside cells of patch `at`, as face `n` does, one
-/// after another. It may be 0; then face `n` need not lie beside that patch.
+/// How many of the faces that come after face `n` on the same side of a box lie, one after another, beside cells of
+/// patch `at`, as face `n` does. It may be 0; then face `n` need not lie beside that patch.
 pub(crate) fn more_beside(s: Surroundings<'_>, at: usize, b: &Bx, n: u32) -> u32
     requires level { s.level ≤ 4 }
     requires near { IsNear b.now }

@@ -18,10 +18,10 @@ use amr_def::Dom;
 use amr_tags::Tags;
 use std::alloc::Global;
 
-/// Whether the `fine` boxes are nested in the `coarse` ones, where `dom` is the domain of the coarse level: each fine box
-/// begins and ends on multiples of the blocking factor, and each cell of the domain at most one away from a parent of a fine
-/// cell, at a corner too, is in a coarse box. Past the end of a periodic axis the other end is looked at; past the end of an
-/// open one there is nothing to cover (Berger and Colella).
+/// Whether the `fine` boxes are nested in the `coarse` ones, where `dom` is the domain of the coarse level. Then each
+/// fine box begins and ends on multiples of the blocking factor. And each cell of the domain at most one away from a
+/// parent of a fine cell, at a corner too, is in a coarse box. Past the end of a periodic axis the other end is looked
+/// at; past the end of an open one there is nothing to cover (Berger and Colella).
 ///
 /// The fine boxes lie in their domain. The coarse boxes are tagged and then the cells around the fine ones, which are to add
 /// none: each box is gone over by rows of words. Memory is taken for two bits for each cell of the domain.

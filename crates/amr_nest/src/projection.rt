@@ -16,9 +16,10 @@ use amr_def::Dom;
 use amr_tags::Tags;
 use std::alloc::Global;
 
-/// The projection of the boxes of level `l + 2`, where `dom` is the domain of level `l + 1`: the cells of level `l` that are
-/// parents of cells at most one away from a parent of a cell of the boxes. Past the end of a periodic axis that goes on at
-/// the other end. Tagged, they make new boxes of level `l + 1` in which those of `l + 2` are nested (Berger and Colella).
+/// The projection of the boxes of level `l + 2`, where `dom` is the domain of level `l + 1`. It is the cells of level
+/// `l` that are parents of cells at most one away from a parent of a cell of the boxes. Past the end of a periodic axis
+/// that goes on at the other end. Tagged, they make new boxes of level `l + 1` in which those of `l + 2` are nested
+/// (Berger and Colella).
 ///
 /// The boxes lie in their domain. A box is gone over by at most nine boxes of words, and no cell by itself.
 pub fn project(alloc: Global, boxes: &[Bx], dom: &Dom) -> Result<Tags, NoMemory>

@@ -1,5 +1,5 @@
-//! The cells of a domain at most one away from a box of it, by boxes: past the end of a periodic axis the box is moved by a
-//! whole domain.
+//! The cells of a domain at most one away from a box of it, by boxes. Past the end of a periodic axis the box is moved
+//! by a whole domain.
 
 ghost use Rattle.std.specs.Prelude.{◌≡◌, ◌<◌, ◌≤◌, ◌%◌, ◌/◌, ◌&&◌, false, pos, negsuc, ◌≤ℤ◌, IfNone, IfSome, IsTrue};
 ghost use Rattle.amr_box.specs.declared.Cell.{Cell};

@@ -42,8 +42,8 @@ fn a_box_projects_past_the_ends_of_periodic_axes(rt: HostRuntime) -> Result<(), 
     Ok(())
 }
 
-/// Whether a box over two coarse ones of a level of 16 by 16 cells, on open axes, is nested in them: columns 4 to 11 of the
-/// rows 4 to 7, and columns 4 to 10 of the rows 8 to 11.
+/// Whether a box over two coarse ones of a level of 16 by 16 cells, on open axes, is nested in them. They have columns
+/// 4 to 11 of the rows 4 to 7, and columns 4 to 10 of the rows 8 to 11.
 fn nests(alloc: Global, lo: Cell, hi: Cell, blocking: u32) -> Result<bool, NoMemory>
     requires west { pos 0 ≤ℤ lo.x }
     requires south { pos 0 ≤ℤ lo.y }

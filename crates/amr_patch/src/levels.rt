@@ -11,8 +11,8 @@ use amr_box::{Bx, Cell};
 use amr_causes::NoMemory;
 use std::alloc::Global;
 
-/// A level of the mesh: its boxes, in order, and the masses of their cells, which patches hold, each of them for a patch box
-/// (a box, or a part of one). Contracts see it as a level of the definitions, by `level_of`.
+/// A level of the mesh: its boxes, in order, and the masses of their cells. Patches hold them, each for a patch box (a
+/// box, or a part of one). Contracts see it as a level of the definitions, by `level_of`.
 #[derive(Drop)]
 pub struct Level {
     boxes: Vec<Bx>,

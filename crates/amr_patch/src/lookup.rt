@@ -13,8 +13,8 @@ use amr_box::Cell;
 /// How many places are tried near the last one before a search by halving.
 const TRIES: usize = 8;
 
-/// How a list of patches stands: whether their low corners go row by row from the low row, within a row from the low column;
-/// and how many rows the tallest patch has.
+/// How a list of patches stands: whether their low corners go row by row from the low row, within a row from the low
+/// column. And how many rows the tallest patch has.
 #[derive(Clone, Copy, Debug)]
 pub struct Order {
     sorted: bool,
@@ -60,9 +60,10 @@ fn is_in_order(patches: &[Patch], k: usize) -> bool
 
 /// The number of the patch that has the cell, None exactly where none has it. No cell is in two of the patches.
 ///
-/// Where the patches go row by row, it looks by halving for the last one that starts in a row at or below the cell's, in that
-/// row at or left of the cell; if that one doesn't have the cell, no other of its row does, and it goes on with the rows below, as far down
-/// as the tallest patch reaches. So a list of patches in rows costs two searches. Elsewhere it goes over them all.
+/// Where the patches go row by row, it looks by halving. It looks for the last one that starts in a row at or below the
+/// cell's, in that row at or left of the cell. If that one doesn't have the cell, no other of its row does. Then it
+/// goes on with the rows below, as far down as the tallest patch reaches. So a list of patches in rows costs two
+/// searches. Elsewhere it goes over them all.
 pub fn find(patches: &[Patch], order: Order, c: Cell) -> Option<usize>
     requires order { IsOrderOf order patches.now }
     requires apart { ArePatchesApart patches.now }
@@ -221,8 +222,8 @@ fn near_holder(patches: &[Patch], near: usize, c: Cell) -> Option<usize>
     holder_at(patches, near.saturating_sub(1), c)
 }
 
-/// The same as `find`, for look-ups of cells that lie side by side: it looks at patch `near` and those beside it in the list
-/// first, and leaves in `near` what it found.
+/// The same as `find`, for look-ups of cells that lie side by side. It looks at patch `near` and those beside it in the
+/// list first, and leaves in `near` what it found.
 pub fn find_near(patches: &[Patch], order: Order, near: &mut usize, c: Cell) -> Option<usize>
     requires order { IsOrderOf order patches.now }
     requires apart { ArePatchesApart patches.now }

@@ -9,10 +9,11 @@ use amr_box::{Axis, Bx, Cell, Face};
 use amr_causes::NoMemory;
 use std::alloc::Global;
 
-/// A box of cells with what a step needs of them (BoxLib's FAB with one ghost cell): a value for each cell of the box, its
-/// mass, and of the frame one cell wide round it, each of these marked where it is a cell of the level; and a flux for each
-/// face on the four edge lines of the box, above 0 towards the high side. Other patches, registers and the ledger read these
-/// fluxes. Coordinates lie between -2^24 and 2^24, masses are below 2^32, and fluxes of a size below 2^31.
+/// A box of cells with what a step needs of them (BoxLib's FAB with one ghost cell). Each cell of the box has a value,
+/// its mass, and so has each of the frame one cell wide round it. Each of the frame is marked where it is a cell of the
+/// level. Each face on the four edge lines of the box has a flux, above 0 towards the high side. Other patches,
+/// registers and the ledger read these fluxes. Coordinates lie between -2^24 and 2^24, masses are below 2^32, and
+/// fluxes of a size below 2^31.
 ///
 /// `values` and `marks` go row by row from the low row, within a row from the low column. A row of them is a row of the grown
 /// box, two cells wider than the box; there are two rows more than the box has. `x_low` has the flux through the x face at the

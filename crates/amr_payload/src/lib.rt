@@ -1,6 +1,6 @@
 //! The payload of a state: the bytes that a state is kept as, the tests that bytes are read by, and the laws of both.
 //! The definitions stand in `specs/Payload` and `specs/Tests`. Each call has an empty body, and what it ensures is the
-//! law, for every problem and for masses of 64 bits (payload 1) and of 32 bits (payload 2).
+//! law. It holds for every problem, and for masses of 64 bits (payload 1) and of 32 bits (payload 2).
 #![tactic(auto)]
 
 ghost use Rattle.amr_payload.specs.Laws.{PayloadFitsSlot, PayloadHasOneState, PayloadIsBytes, ReadExactlyWhereSound};

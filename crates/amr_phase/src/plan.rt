@@ -26,8 +26,8 @@ pub struct Task {
     pub adds: List<Post>,
 }
 
-/// What the tasks of a phase post in all: each number in range, no place named by two puts, and what is put or added
-/// at one place or word below 2^63.
+/// What the tasks of a phase post in all. Each number is in range, no place is named by two puts, and what is put or
+/// added at one place or word is below 2^63.
 #[derive(Drop)]
 pub struct Plan {
     places: u32,
@@ -48,7 +48,7 @@ impl Model for Plan {
 
 impl Plan {
     /// The plan of these tasks, with places and words numbered from 0. None exactly where a post names a number out of
-    /// range, two puts name one place, or what is put or added at one place or word reaches 2^63; the tasks are then
+    /// range, two puts name one place, or what is put or added at one place or word reaches 2^63. The tasks are then
     /// dropped. It takes no memory, and compares each post with all others.
     pub fn try_new(places: u32, words: u32, tasks: List<Task>) -> Option<Plan>
         ensures { let asked : PlanOf = record { places = places; words = words; tasks = tasks } in MatchOption result (is_plan asked ≡ false) (λ p. (p ≡ asked) × IsPlan p) }

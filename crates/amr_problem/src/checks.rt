@@ -7,8 +7,8 @@ ghost use Rattle.amr_problem.specs.Faults.{over_by, is_periodic, differ, sides_d
 use crate::fault::ProblemFault;
 use amr_box::Axis;
 
-/// Whether more than a whole cell would flow out of it in a step: the greatest sizes of the numerators that are in use along
-/// x and along y add up to more than `d`. Each is at most 1,024.
+/// Whether more than a whole cell would flow out of it in a step. That is where the greatest sizes of the numerators in
+/// use along x and along y add up to more than `d`. Each is at most 1,024.
 pub fn courant_over(x_size: u64, y_size: u64, d: i64) -> Option<ProblemFault>
     requires x { x_size ≤ 1024 }
     requires y { y_size ≤ 1024 }

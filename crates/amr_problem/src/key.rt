@@ -31,8 +31,8 @@ pub enum Key {
     Steps,
     /// The Courant numbers of both axes, and their denominator.
     Courant,
-    /// The low and the high side of the x axis, then those of the y axis: -1 where the axis is periodic, else what a cell
-    /// of level 0 would hold beyond the side.
+    /// The low and the high side of the x axis, then those of the y axis. A side is -1 where the axis is periodic, else
+    /// what a cell of level 0 would hold beyond it.
     Sides,
     /// The finest level that there may be.
     MaxLevel,

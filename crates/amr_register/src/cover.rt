@@ -8,8 +8,9 @@ use amr_causes::NoMemory;
 use amr_patch::Level;
 use std::alloc::Global;
 
-/// The cells of a level that a finer one covers, as runs along rows: so a stretch of a row that is covered, or of which no
-/// cell is, takes one look-up, and a search only where it is neither the last one's nor beside it. There are as many runs as the parents of the finer level's boxes have rows.
+/// The cells of a level that a finer one covers, as stretches along rows. So a stretch of a row that is covered, or of
+/// which no cell is, takes one look-up. A search is made only where it is neither the last one's nor beside it. There
+/// are as many runs as the parents of the finer level's boxes have rows.
 #[derive(Drop)]
 pub(crate) struct Cover {
     runs: Vec<Bx>,

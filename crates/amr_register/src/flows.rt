@@ -111,9 +111,9 @@ fn net_over(p: &Problem, l: u32, patch: &Patch, sides: CoveredSides, c: Cell) ->
     (west - east) + (south - north)
 }
 
-/// Takes away from the entries at the places of a span what comes into their cells by the flows through those of their faces that
-/// lie on their sides and that the patch owns. It passes cells that lie neither in the patch's columns nor in the one left of
-/// them, which have no such faces.
+/// Takes flows away from the entries at the places of a span. They are what comes into their cells through those faces
+/// that lie on their sides and that the patch owns. It passes cells that lie neither in the patch's columns nor in the
+/// one left of them, which have no such faces.
 fn take_away(p: &Problem, l: u32, patch: &Patch, edge: Edge<'_>, span: Span, entries: &mut [i64])
     requires level { l ≤ 4 }
     requires inside { IsInDomain (domain p.now l) (box patch.now) }

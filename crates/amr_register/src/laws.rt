@@ -2,8 +2,8 @@
 
 ghost use Rattle.amr_register.specs.Laws.{EdgesAreTakenOnce, RegistersGoByCells};
 
-/// The patches of a level together take the plain flow through each of its coarse-fine edges away once, whoever owns it: what
-/// they take from the entry of a register cell is its net plain flow through its edges.
+/// The patches of a level together take the plain flow through each of its coarse-fine edges away once, whoever owns
+/// it. What they take from the entry of a register cell is its net plain flow through its edges.
 pub fn edges_are_taken_once()
     ensures { EdgesAreTakenOnce }
 {}

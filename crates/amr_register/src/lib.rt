@@ -1,10 +1,10 @@
-//! Flux registers: what corrects the step of a level beside the cells that a finer level covers, so that each unit of mass
-//! that the finer faces carried is accounted for (Berger and Colella 1989; AMReX's `FluxRegister`).
+//! Flux registers (Berger and Colella 1989; AMReX's `FluxRegister`): what corrects the step of a level beside the cells
+//! that a finer level covers. So each unit of mass that the finer faces carried is accounted for.
 //!
-//! A [`Register`] has an entry for each register cell, a cell that is not covered beside one that is. The coarse step takes
-//! its plain flows at the coarse-fine edges away, patch by patch ([`Register::coarse_part`]); what flowed through the finer
-//! faces there is added ([`Register::absorb`]); and in the end each entry is added to its cell ([`Register::reflux`]).
-//! [`Register::clear`] makes it ready for the next step.
+//! A [`Register`] has an entry for each register cell, a cell that is not covered beside one that is. The coarse step
+//! takes its plain flows at the coarse-fine edges away, patch by patch ([`Register::coarse_part`]). What flowed through
+//! the finer faces there is added ([`Register::absorb`]). In the end each entry is added to its cell
+//! ([`Register::reflux`]). [`Register::clear`] makes it ready for the next step.
 #![tactic(auto)]
 
 mod beside;

@@ -25,10 +25,10 @@ fn no_entries(alloc: Global, count: usize) -> Result<Vec<i64>, NoMemory>
     Ok(entries)
 }
 
-/// A flux register of a level below a finer one: an entry for each register cell, a cell of the level that is not covered,
-/// beside a covered one, past the end of a periodic axis too. The cells stand by row, within a row by column. An entry is
-/// what the step of the level leaves out at its cell's coarse-fine edges, in units of mass, above 0 towards the cell
-/// (Berger and Colella 1989).
+/// A flux register of a level below a finer one: an entry for each register cell. That is a cell of the level that is
+/// not covered, beside a covered one, past the end of a periodic axis too. The cells stand by row, within a row by
+/// column. An entry is what the step of the level leaves out at its cell's coarse-fine edges, in units of mass, above 0
+/// towards the cell (Berger and Colella 1989).
 #[derive(Drop)]
 pub struct Register {
     cells: Vec<Cell>,
@@ -114,10 +114,10 @@ impl Register {
         })
     }
 
-    /// Takes away the plain flows through those coarse-fine edges that a patch of the level owns, by the patch's values before
-    /// the step: an edge belongs to the patch that has the cell at its high side, so that over all patches each is taken away
-    /// once. Entries lie between -2^62 and 2^62. Only register cells in the rows of the patch and in the row below it are gone over.
-    /// Those that lie neither in its columns nor in the one left of them are passed by halving.
+    /// Takes away the plain flows through those coarse-fine edges that a patch of the level owns, by the patch's values
+    /// before the step. An edge belongs to the patch that has the cell at its high side. So over all patches each is
+    /// taken away once. Entries lie between -2^62 and 2^62. Only register cells in the rows of the patch and in the row
+    /// below it are gone over. Those that lie neither in its columns nor in the one left of them are passed by halving.
     pub fn coarse_part(&mut self, p: &Problem, l: u32, patch: &Patch)
         requires level { l ≤ 3 }
         requires inside { IsInDomain (domain p.now l) (box patch.now) }

@@ -105,8 +105,9 @@ fn all_refined(alloc: Global, boxes: &[Bx], blocking: u32) -> Result<Vec<Bx>, No
     Ok(all)
 }
 
-/// The new boxes of level `l + 1`, by the tags of level `l` and the new boxes of level `l + 2`: grown tags and the projection
-/// of the finer boxes, in blocks, in clusters (Berger and Colella; Berger and Rigoutsos).
+/// The new boxes of level `l + 1`, by the tags of level `l` and the new boxes of level `l + 2`. Grown tags and the
+/// projection of the finer boxes are gathered into blocks, and those into clusters (Berger and Colella; Berger and
+/// Rigoutsos).
 pub(crate) fn boxes_over(
     alloc: Global,
     p: &Problem,

@@ -1,5 +1,5 @@
-//! Regrids (Berger and Colella 1989): new boxes above level 0, which cover the tags of a mesh and are nested, and the masses of
-//! their cells, kept or shared out.
+//! Regrids (Berger and Colella 1989): new boxes above level 0, which cover the tags of a mesh and are nested. The
+//! masses of their cells are kept or shared out.
 //!
 //! - [`regrid`]: a mesh regridded.
 #![tactic(auto)]

@@ -78,10 +78,11 @@ fn regrid_levels(alloc: Global, p: &Problem, levels: &mut Vec<Level>) -> Result<
     Ok(())
 }
 
-/// Regrids a mesh (Berger and Colella 1989). From the finest level that may be refined down to level 0 the tags are grown,
-/// joined with what nests the new boxes two levels up, gathered into blocks and clustered; a cluster, refined, is a box of
-/// the next level. A cell of a new box keeps the mass that it has on its level, any other gets its share of its parent's.
-/// Each tagged cell below the greatest level is covered afterwards. The step and the rows of the ledger stay.
+/// Regrids a mesh (Berger and Colella 1989). From the finest level that may be refined down to level 0 the tags are
+/// grown and joined with what nests the new boxes two levels up. They are gathered into blocks and clustered. A
+/// cluster, refined, is a box of the next level. A cell of a new box keeps the mass that it has on its level, any other
+/// gets its share of its parent's. Each tagged cell below the greatest level is covered afterwards. The step and the
+/// rows of the ledger stay.
 ///
 /// New boxes are chopped into patches of at most `max_grid_size` by `max_grid_size` cells. A level whose boxes stay keeps its
 /// patches, with no look at its cells. After `NoMemory`, the only refusal, the mesh has its state, boxes and patch boxes as

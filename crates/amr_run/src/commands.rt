@@ -124,8 +124,9 @@ pub(crate) fn run<R: Threads + Sync, S: Source, O: Sink, G: Gate + Sync>(
     Ok(())
 }
 
-/// The command `run` with checkpoints: the plot of the run of the problem on the source, which goes on from what the disk holds, or
-/// the status that refuses it. Each checkpoint is acknowledged on `err` once it stands; the plot is written last.
+/// The command `run` with checkpoints, which goes on from what the disk holds. It answers the plot of the run of the
+/// problem on the source, or the status that refuses it. Each checkpoint is acknowledged on `err` once it stands; the
+/// plot is written last.
 pub(crate) fn keep<R: Threads + Sync, S: Source, O: Sink, E: Sink, D: Disk, G: Gate + Sync>(
     workers: &Workers<'_, R, G>,
     marks: Marks,

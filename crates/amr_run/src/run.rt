@@ -19,13 +19,15 @@ use amr_workers::{Gate, OpenGate};
 use std::alloc::Global;
 use std::thread::Threads;
 
-/// Does what the words ask for: reads a problem from `src` and writes the answer of the command to `out`, or says on `err` why
-/// not. The answer of `run` is the plot of the problem's run, that of `check` the line of the problem, and that of `show` the plot of
-/// the state that `disk` holds. The steps of a run are made by as many workers as the words say, on threads of the runtime; the
-/// answer is the same for any number. The call joins them, and keeps its promise if it returns.
+/// Does what the words ask for: reads a problem from `src` and writes the answer of the command to `out`, or says on
+/// `err` why not. The answer of `run` is the plot of the problem's run, and that of `check` the line of the problem.
+/// That of `show` is the plot of the state that `disk` holds. The steps of a run are made by as many workers as the
+/// words say, on threads of the runtime; the answer is the same for any number. The call joins them, and keeps its
+/// promise if it returns.
 ///
-/// With `--keep` a run goes on from the state that `disk` holds, puts a checkpoint there at each mark, and acknowledges it on `err`
-/// by a line once it stands. A stop at any moment leaves the last checkpoint that stands, or the one that is put.
+/// With `--keep` a run goes on from the state that `disk` holds, and puts a checkpoint there at each mark. It
+/// acknowledges it on `err` by a line once it stands. A stop at any moment leaves the last checkpoint that stands, or
+/// the one that is put.
 ///
 /// Clauses on bytes hold of objects that tell them. Memory may run out at any time; that is tied to no cause.
 pub fn amr<R: Threads + Sync, S: Source, O: Sink, E: Sink, D: Disk>(

@@ -30,8 +30,8 @@ fn apart_from(word: u64, other: u64) -> u64
     word & (word ^ other)
 }
 
-/// Counts the bits of a row from `low` to `high`, both inside, and in each column, of which 0 is `low`, the stretches of bits
-/// that begin there, and those that end in the column before: one look at each word.
+/// Counts the bits of a row from `low` to `high`, both inside. In each column, of which 0 is `low`, it counts the
+/// stretches of bits that begin there, and those that end in the column before. It takes one look at each word.
 pub fn add_row_stretches(
     begun: &mut [u32],
     ended: &mut [u32],

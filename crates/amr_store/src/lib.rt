@@ -1,5 +1,5 @@
-//! A checkpoint store over a disk: one problem and two slots, written in turn so that a stop within any write leaves the last state put
-//! or the one being written.
+//! A checkpoint store over a disk: one problem and two slots, written in turn. A stop within any write leaves the last
+//! state put, or the one being written.
 #![tactic(auto)]
 
 mod check;

@@ -1,5 +1,6 @@
-//! The three steps of a put. A stop in the first leaves a closed gate closed, and an open one any byte over a slot that is as it was; in
-//! the second the gate is closed on the disk; in the third the gate is any byte over a slot that is synced.
+//! The three steps of a put. A stop in the first leaves a closed gate closed, and an open one any byte over a slot that
+//! is as it was. In the second the gate is closed on the disk. In the third the gate is any byte over a slot that is
+//! synced.
 ghost use Rattle.std.specs.Prelude.{◌≡◌, ◌≤◌, ◌<◌, ◌+◌, ◌^◌, ◌++◌, ◌∷◌, [], ◌⊎◌, false, true, List, ℕ, Some, None, is_some, length, IfOk, IfSome, OnOk, OnErr, option_map, if◌then◌else◌};
 ghost use Rattle.std.specs.Int.{to_le_bytes, w64};
 ghost use Rattle.amr_store.specs.Next.{first_with, second_with, other_than};

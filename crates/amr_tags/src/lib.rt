@@ -22,7 +22,7 @@ use std::alloc::Global;
 use std::marker::Model;
 
 /// A set of cells of a box, whose axes are periodic (`wrap_x`, `wrap_y`) or open. A row of cells is a row of bits in
-/// words of 64: the cell in column i of the box is bit `i mod 64` of the row's word `i div 64`, and unused bits are 0.
+/// words of 64. The cell in column i of the box is bit `i mod 64` of the row's word `i div 64`. Unused bits are 0.
 #[derive(Drop)]
 pub struct Tags {
     bx: Bx,
@@ -146,7 +146,7 @@ impl Tags {
         Ok(coarse)
     }
 
-    /// Grows the set by `n` cells on all sides, at the corners too: past the end of a periodic axis it goes on at the
+    /// Grows the set by `n` cells on all sides, at the corners too. Past the end of a periodic axis it goes on at the
     /// other end, and at the end of an open one it stops. The buffer of Berger and Colella's tags: it is meant for a
     /// problem's buffer, 0 to 8 cells, but any `n` is allowed, and the time grows with `n`.
     pub fn grow(&mut self, n: u32)

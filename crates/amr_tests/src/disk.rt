@@ -60,8 +60,8 @@ fn stop_leaves_old_new_or_filled(rt: HostRuntime) -> Result<(), Fail> {
     Ok(())
 }
 
-/// A disk of four bytes after six calls: the second and the third fail by the list, the fourth for want of room, and the sixth
-/// is where it stops.
+/// A disk of four bytes after six calls. The second and the third fail by the list, the fourth for want of room, and
+/// the sixth is where it stops.
 fn stopped(rt: &(impl Abort + AllocGlobal)) -> Result<MemDisk, NoMemory> {
     let mut disk = MemDisk::make(rt.alloc(), &[], 4, 8, &[2, 3], Some(6))?;
     assert_eq!(rt; disk.write_at(0, &[1, 2]), Ok(()));

@@ -6,8 +6,8 @@ use amr_decoder::CodecFault;
 use std::alloc::Global;
 use std::test::Fail;
 
-/// The place of a number, what is put there in four bytes (at 28 in one), and where the payload is then bad: each field at
-/// its bounds and one past them.
+/// The place of a number, what is put there in four bytes (at 28 in one), and where the payload is then bad. Each field
+/// is tried at its bounds and one past them.
 const TABLE: &str = "0 => 0 => good
 0 => 1 => 28
 0 => 2 => 0

@@ -63,8 +63,8 @@ fn set_two(p: &mut Patch, c: Cell, right: Cell, masses: &[u32])
     }
 }
 
-/// The box with masses 6 and 7 at the end of its high row, the ghost cell right of them marked with value 5, and flux -4 into
-/// the row from there.
+/// The box with masses 6 and 7 at the end of its high row. The ghost cell right of them is marked with value 5, and
+/// flux -4 goes into the row from there.
 fn small_patch(alloc: std::alloc::Global) -> Result<Patch, NoMemory> {
     let mut p = Patch::make(alloc, small_box())?;
     let corner = Cell { x: 2, y: 1 };

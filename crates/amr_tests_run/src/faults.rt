@@ -44,8 +44,8 @@ fn words_that_are_no_command(rt: HostRuntime) {
     }
 }
 
-/// A plot that goes out 16 bytes at a time and whose second write fails; a source that fails at once or at its end; a line
-/// whose second write fails.
+/// A plot that goes out 16 bytes at a time and whose second write fails. A source that fails at once or at its end. A
+/// line whose second write fails.
 #[test]
 fn faults_of_the_outside(rt: HostRuntime) {
     let ring = Case::run(RING.as_bytes());

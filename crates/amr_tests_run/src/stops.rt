@@ -96,7 +96,8 @@ fn acknowledged(ended: &Ended) -> usize {
     (ended.err.bytes().len() / LINE).saturating_sub(1)
 }
 
-/// A run of the ring on a disk that stops at each of its calls in turn, and is left in each way: the next one goes on from there.
+/// A run of the ring on a disk that stops at each of its calls in turn, and is left in each way. The next one goes on
+/// from there.
 fn stops<R: Abort + Alloc<A = Global> + Threads + Sync>(
     rt: &R,
     words: &str,

@@ -25,8 +25,8 @@ const CREW: Crew = Crew {
     workers: 2,
 };
 
-/// The payload of step 0 with a mass of 7 in cell (1, 0), and with one box of columns `x` and `x + 1` on level 1: the step, the row,
-/// two levels.
+/// The payload of step 0 with a mass of 7 in cell (1, 0), and with one box of columns `x` and `x + 1` on level 1. It
+/// has the step, the row, and two levels.
 fn seven(alloc: Global, x: u8) -> Result<Vec<u8>, Fail> {
     let low = u32::from(x);
     let mut bytes = Vec::new(alloc);

@@ -44,9 +44,10 @@ fn box_count(mesh: &Mesh) -> u64
     count
 }
 
-/// The line on the state of the mesh, which is a sound state of the problem and not spent: the trial's number and size, the
-/// step, how many levels there are and how many boxes all of them have, the mass in the ledger's row of this step, and the
-/// SHA-256 of the state's plot in lower-case hexadecimal digits. `NoMemory` is the only refusal.
+/// The line on the state of the mesh, which is a sound state of the problem and not spent. It has the trial's number
+/// and size, the step, how many levels there are, and how many boxes all of them have. Then come the mass in the
+/// ledger's row of this step, and the SHA-256 of the state's plot in lower-case hexadecimal digits. `NoMemory` is the
+/// only refusal.
 pub fn summary(
     alloc: Global,
     number: u32,

@@ -110,8 +110,9 @@ fn put_head(number: u32, size: u32, cx: u32, cy: u32, out: &mut Vec<u8>) -> Resu
     )
 }
 
-/// The text of the problem of a trial, whose `size` is 8 to 256: a problem file of `size` by `size` cells, three levels and 16
-/// steps, with Courant numbers and eight blocks that its `number` draws. Memory for the whole is taken first.
+/// The text of the problem of a trial, whose `size` is 8 to 256. It is a problem file of `size` by `size` cells, three
+/// levels and 16 steps, with Courant numbers and eight blocks that its `number` draws. Memory for the whole is taken
+/// first.
 pub fn text(alloc: Global, number: u32, size: u32) -> Result<Vec<u8>, NoMemory>
     requires { IsSize size }
     ensures { IfOk result (λ bytes. bytes.items ≡ text number size) }

@@ -78,8 +78,8 @@ fn add_flows(
     add_through(patch, adds, words);
 }
 
-/// Makes the step of a patch where nobody else works on its level: gives each cell what flows in through its faces, and adds what
-/// flows through its faces to the words of its adds. All that flows follows from the values of before.
+/// Makes the step of a patch where nobody else works on its level. It gives each cell what flows in through its faces,
+/// and adds what flows through the faces of its adds to their words. All that flows follows from the values of before.
 pub fn step_alone(
     p: &Problem,
     l: u32,

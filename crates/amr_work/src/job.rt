@@ -16,8 +16,8 @@ use amr_def::Problem;
 use amr_workers::{Gate, Job, run_phase};
 use std::thread::Threads;
 
-/// The work of a step of a level on each of its patches: it sweeps the patch, posts what flows through the faces that the patch
-/// owns, and makes the new masses where all that it reads is on the board.
+/// The work of a step of a level on each of its patches. It sweeps the patch and posts what flows through the faces
+/// that the patch owns. It makes the new masses where all that it reads is on the board.
 #[derive(Clone, Copy)]
 pub struct LevelWork<'a> {
     pub problem: &'a Problem,
@@ -35,9 +35,10 @@ impl Job<Work> for LevelWork<'_> {
     }
 }
 
-/// Has so many workers, each in a thread of its own where one can be had, do the work of a step on all patches of a level, in
-/// whatever order they draw them. The seat is the only one before and after, and then the board may be closed with it. Each
-/// patch comes back as one that stands for what it stood for: swept, or finished where all that it reads was there in time.
+/// Has so many workers, each in a thread of its own where one can be had, do the work of a step on all patches of a
+/// level. They draw them in whatever order. The seat is the only one before and after, and then the board may be closed
+/// with it. Each patch comes back as one that stands for what it stood for: swept, or finished where all that it reads
+/// was there in time.
 pub fn work_level<R: Threads + Sync, G: Gate + Sync>(
     rt: &R,
     p: &Problem,

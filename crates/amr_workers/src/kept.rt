@@ -22,7 +22,7 @@ pub type OrderAsker<P, J, G> = Asker<Order<P>, Seat<P>, About<J, G>>;
 /// The end of a mailbox that a kept worker serves.
 pub type OrderWorker<P, J, G> = Worker<Order<P>, Seat<P>, About<J, G>>;
 
-/// The life of a kept worker, in a thread of its own: it takes an order, draws tasks on its seat until none is left,
+/// The life of a kept worker, in a thread of its own. It takes an order, draws tasks on its seat until none is left,
 /// and answers with the seat. It returns once it is dismissed.
 pub fn serve<W: Wait, P: Piece, J: Job<P>, G: Gate>(
     rt: &W,
