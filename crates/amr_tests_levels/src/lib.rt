@@ -5,6 +5,8 @@
 #[cfg(test)]
 mod alike;
 #[cfg(test)]
+mod box_calculus;
+#[cfg(test)]
 mod boxes;
 #[cfg(test)]
 mod cluster;
