@@ -260,6 +260,3 @@ pub fn parent(c: Cell) -> Cell
         y: c.y.div_euclid(2),
     }
 }
-
-#[cfg(test)]
-mod tests;

@@ -1,1 +1,0 @@
-//! The tests of these calls stand in `amr_tests_levels`.
