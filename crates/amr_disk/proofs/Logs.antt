@@ -12,20 +12,20 @@ use Rattle.amr_disk.specs.Log.{calls_of, size_of, reach_of}
 use Rattle.amr_disk.specs.declared.step.Step.{Step}
 use Rattle.amr_disk.specs.declared.step.Step.TheVariants.{Write, Sync}
 
-pub calls_of-write : (steps : List Step) (written piece : List ℕ) (at : ℕ) → size_of steps ≡ length written
-    → calls_of (steps ++ Write at (length piece) ∷ []) (written ++ piece) ≡ calls_of steps written ++ Wrote at piece ∷ []
-calls_of-write [] [] piece at whole = ap (λ (p : List ℕ). Wrote at p ∷ []) (take_all (length piece) piece (omega arith))
-calls_of-write [] (b ∷ bs) piece at whole = absurd (zero_is_no_suc (length bs) whole)
+pub calls_of-write : (steps : List Step) (written chunk : List ℕ) (at : ℕ) → size_of steps ≡ length written
+    → calls_of (steps ++ Write at (length chunk) ∷ []) (written ++ chunk) ≡ calls_of steps written ++ Wrote at chunk ∷ []
+calls_of-write [] [] chunk at whole = ap (λ (p : List ℕ). Wrote at p ∷ []) (take_all (length chunk) chunk (omega arith))
+calls_of-write [] (b ∷ bs) chunk at whole = absurd (zero_is_no_suc (length bs) whole)
   where
     zero_is_no_suc : (n : ℕ) → 0 ≡ suc n → ⊥
     zero_is_no_suc n e = cc
-calls_of-write (Write p len ∷ rest) written piece at whole =
-    let front : take len (written ++ piece) ≡ take len written = take-append-le len written piece (omega arith) in
-    let back : drop len (written ++ piece) ≡ drop len written ++ piece = drop-append-le len written piece (omega arith) in
+calls_of-write (Write p len ∷ rest) written chunk at whole =
+    let front : take len (written ++ chunk) ≡ take len written = take-append-le len written chunk (omega arith) in
+    let back : drop len (written ++ chunk) ≡ drop len written ++ chunk = drop-append-le len written chunk (omega arith) in
     let left : size_of rest ≡ length (drop len written) = grind (arith, common_steps) in
-    let later = calls_of-write rest (drop len written) piece at left in
+    let later = calls_of-write rest (drop len written) chunk at left in
     rw (front, back, later) refl
-calls_of-write (Sync ∷ rest) written piece at whole = ap (λ (l : List Call). Synced ∷ l) (calls_of-write rest written piece at whole)
+calls_of-write (Sync ∷ rest) written chunk at whole = ap (λ (l : List Call). Synced ∷ l) (calls_of-write rest written chunk at whole)
 
 pub calls_of-sync : (steps : List Step) (written : List ℕ) → calls_of (steps ++ Sync ∷ []) written ≡ calls_of steps written ++ Synced ∷ []
 calls_of-sync [] written = refl
@@ -66,8 +66,8 @@ bytes_in-calls_of (Write p n ∷ rest) written whole =
 bytes_in-calls_of (Sync ∷ rest) written whole = bytes_in-calls_of rest written whole
 
 -- the test of room, by the lengths of the log
-pub room_is : (limits : Limits) (steps : List Step) (written : List ℕ) (at w s : ℕ) (piece : List ℕ) → 0 < length piece → size_of steps ≡ w → w ≡ length written → s ≡ length steps
-    → has_room limits (calls_of steps written) at piece ≡ (nat_le (at + length piece) limits.capacity && nat_le (w + length piece) limits.capacity && nat_lt s limits.calls)
+pub room_is : (limits : Limits) (steps : List Step) (written : List ℕ) (at w s : ℕ) (chunk : List ℕ) → 0 < length chunk → size_of steps ≡ w → w ≡ length written → s ≡ length steps
+    → has_room limits (calls_of steps written) at chunk ≡ (nat_le (at + length chunk) limits.capacity && nat_le (w + length chunk) limits.capacity && nat_lt s limits.calls)
 room_is limits steps written at w s [] some whole is count = absurd (omega arith)
 room_is limits steps written at w s (b ∷ bs) some whole is count =
     let bytes : bytes_in (calls_of steps written) ≡ w = bytes_in-calls_of steps written (omega arith) ∙ whole in
@@ -77,33 +77,33 @@ room_is limits steps written at w s (b ∷ bs) some whole is count =
 pub call_is : (limits : Limits) (steps : List Step) (written : List ℕ) (s : ℕ) → s ≡ length steps → has_call limits (calls_of steps written) ≡ nat_lt s limits.calls
 call_is limits steps written s count = ap (λ (n : ℕ). nat_lt n limits.calls) (length-calls_of steps written ∙ sym count)
 
-pub with_write-room : (limits : Limits) (calls : List Call) (at : ℕ) (piece : List ℕ) → 0 < length piece → has_room limits calls at piece ≡ true → with_write limits calls at piece ≡ calls ++ Wrote at piece ∷ []
+pub with_write-room : (limits : Limits) (calls : List Call) (at : ℕ) (chunk : List ℕ) → 0 < length chunk → has_room limits calls at chunk ≡ true → with_write limits calls at chunk ≡ calls ++ Wrote at chunk ∷ []
 with_write-room limits calls at [] some room = absurd (omega arith)
 with_write-room limits calls at (b ∷ bs) some room = rw room refl
 
-pub with_write-none : (limits : Limits) (calls : List Call) (at : ℕ) (piece : List ℕ) → 0 < length piece → has_room limits calls at piece ≡ false → with_write limits calls at piece ≡ calls
+pub with_write-none : (limits : Limits) (calls : List Call) (at : ℕ) (chunk : List ℕ) → 0 < length chunk → has_room limits calls at chunk ≡ false → with_write limits calls at chunk ≡ calls
 with_write-none limits calls at [] some room = absurd (omega arith)
 with_write-none limits calls at (b ∷ bs) some room = rw room refl
 
 pub log_sync : (steps later : List Step) (written : List ℕ) → later ≡ steps ++ Sync ∷ [] → calls_of later written ≡ calls_of steps written ++ Synced ∷ []
 log_sync steps later written is = ap (λ (l : List Step). calls_of l written) is ∙ calls_of-sync steps written
 
-pub log_write : (steps later : List Step) (written grown piece : List ℕ) (at len w : ℕ) → size_of steps ≡ w → w ≡ length written → len ≡ length piece → later ≡ steps ++ Write at len ∷ [] → grown ≡ written ++ piece
-    → calls_of later grown ≡ calls_of steps written ++ Wrote at piece ∷ []
-log_write steps later written grown piece at len w size whole is pushed longer =
-    rw (pushed, longer, is) (calls_of-write steps written piece at (size ∙ whole))
+pub log_write : (steps later : List Step) (written grown chunk : List ℕ) (at len w : ℕ) → size_of steps ≡ w → w ≡ length written → len ≡ length chunk → later ≡ steps ++ Write at len ∷ [] → grown ≡ written ++ chunk
+    → calls_of later grown ≡ calls_of steps written ++ Wrote at chunk ∷ []
+log_write steps later written grown chunk at len w size whole is pushed longer =
+    rw (pushed, longer, is) (calls_of-write steps written chunk at (size ∙ whole))
 
 pub replayed_sync : (made bytes : List ℕ) (steps later : List Step) (written : List ℕ) → bytes ≡ seen_after made (calls_of steps written) → later ≡ steps ++ Sync ∷ [] → bytes ≡ seen_after made (calls_of later written)
 replayed_sync made bytes steps later written is pushed =
     is ∙ sym (seen_sync made (calls_of steps written)) ∙ ap (λ (l : List Call). seen_after made l) (sym (log_sync steps later written pushed))
 
-pub replayed_write : (made bytes next : List ℕ) (steps later : List Step) (written grown piece : List ℕ) (at len w : ℕ) → bytes ≡ seen_after made (calls_of steps written)
-    → size_of steps ≡ w → w ≡ length written → len ≡ length piece → later ≡ steps ++ Write at len ∷ [] → grown ≡ written ++ piece → next ≡ written_at at piece bytes → next ≡ seen_after made (calls_of later grown)
-replayed_write made bytes next steps later written grown piece at len w is size whole n pushed longer placed =
-    placed ∙ ap (λ (b : List ℕ). written_at at piece b) is ∙ sym (seen_write made (calls_of steps written) at piece)
-    ∙ ap (λ (l : List Call). seen_after made l) (sym (log_write steps later written grown piece at len w size whole n pushed longer))
+pub replayed_write : (made bytes next : List ℕ) (steps later : List Step) (written grown chunk : List ℕ) (at len w : ℕ) → bytes ≡ seen_after made (calls_of steps written)
+    → size_of steps ≡ w → w ≡ length written → len ≡ length chunk → later ≡ steps ++ Write at len ∷ [] → grown ≡ written ++ chunk → next ≡ written_at at chunk bytes → next ≡ seen_after made (calls_of later grown)
+replayed_write made bytes next steps later written grown chunk at len w is size whole n pushed longer placed =
+    placed ∙ ap (λ (b : List ℕ). written_at at chunk b) is ∙ sym (seen_write made (calls_of steps written) at chunk)
+    ∙ ap (λ (l : List Call). seen_after made l) (sym (log_write steps later written grown chunk at len w size whole n pushed longer))
 
-pub length_written : (at : ℕ) (piece old : List ℕ) → length (written_at at piece old) ≤ max (length old) (at + length piece)
+pub length_written : (at : ℕ) (chunk old : List ℕ) → length (written_at at chunk old) ≤ max (length old) (at + length chunk)
 length_written at [] old = omega arith
 length_written at (b ∷ bs) old = omega (arith, (torn_written at (b ∷ bs) old).no_longer)
 
@@ -129,12 +129,12 @@ room_ends x y p q is = elim (cases_Bool (nat_le x y)) [
     two_truths : true ≡ false → ⊥
     two_truths e = cc
 
-pub whole_after : (steps later : List Step) (at : ℕ) (written grown : Vec ℕ Global) (piece : List ℕ) → later ≡ steps ++ Write at (length piece) ∷ [] → size_of steps ≡ written.len → grown.items ≡ written.items ++ piece → size_of later ≡ grown.len
-whole_after steps later at written grown piece is whole longer =
-    let size = ap (λ (l : List ℕ). length l) longer ∙ length-append written.items piece in
-    omega (arith, size_after_write steps later at (length piece) is, size, written.ok.0, grown.ok.0)
+pub whole_after : (steps later : List Step) (at : ℕ) (written grown : Vec ℕ Global) (chunk : List ℕ) → later ≡ steps ++ Write at (length chunk) ∷ [] → size_of steps ≡ written.len → grown.items ≡ written.items ++ chunk → size_of later ≡ grown.len
+whole_after steps later at written grown chunk is whole longer =
+    let size = ap (λ (l : List ℕ). length l) longer ∙ length-append written.items chunk in
+    omega (arith, size_after_write steps later at (length chunk) is, size, written.ok.0, grown.ok.0)
 
-pub fits_after : (at end : ℕ) (piece : List ℕ) (old new : Vec ℕ Global) → at + length piece ≤ end → old.len ≤ end → new.items ≡ written_at at piece old.items → new.len ≤ end
-fits_after at end piece old new ends fits placed =
+pub fits_after : (at end : ℕ) (chunk : List ℕ) (old new : Vec ℕ Global) → at + length chunk ≤ end → old.len ≤ end → new.items ≡ written_at at chunk old.items → new.len ≤ end
+fits_after at end chunk old new ends fits placed =
     let size = ap (λ (l : List ℕ). length l) placed in
-    omega (arith, size, length_written at piece old.items, old.ok.0, new.ok.0)
+    omega (arith, size, length_written at chunk old.items, old.ok.0, new.ok.0)

@@ -7,8 +7,8 @@ use Rattle.std.proofs.lemmas.List.{take_all, take-replicate, length-replicate}
 use Rattle.std.proofs.lemmas.Grind.{common_steps}
 use Rattle.amr_disk.specs.Image.{placed}
 
-over_within : (gap at : ℕ) (piece old : List ℕ) → at + length piece ≤ length old → take at old ++ piece ++ drop (at + length piece) old ≡ take at old ++ replicate (at - length old) gap ++ piece ++ drop (at + length piece) old
-over_within gap at piece old fits = grind (arith, common_steps)
+over_within : (gap at : ℕ) (chunk old : List ℕ) → at + length chunk ≤ length old → take at old ++ chunk ++ drop (at + length chunk) old ≡ take at old ++ replicate (at - length old) gap ++ chunk ++ drop (at + length chunk) old
+over_within gap at chunk old fits = grind (arith, common_steps)
 
 front_within : (gap at end : ℕ) (old : List ℕ) → at ≤ length old → length old < end → take at (old ++ replicate (end - length old) gap) ≡ take at old ++ replicate (at - length old) gap
 front_within gap at end old within past = grind (arith, common_steps)
@@ -30,20 +30,20 @@ front_past gap at end old before past = elim (cases_Bool (nat_le at (length old)
 back_past : (gap end : ℕ) (old : List ℕ) → length old < end → drop end (old ++ replicate (end - length old) gap) ≡ drop end old
 back_past gap end old past = grind (arith, common_steps)
 
-over_past : (gap at : ℕ) (piece old : List ℕ) → length old < at + length piece
-    → take at (old ++ replicate (at + length piece - length old) gap) ++ piece ++ drop (at + length piece) (old ++ replicate (at + length piece - length old) gap)
-    ≡ take at old ++ replicate (at - length old) gap ++ piece ++ drop (at + length piece) old
-over_past gap at piece old past =
-    let front = front_past gap at (at + length piece) old (omega arith) past in
-    let back = back_past gap (at + length piece) old past in
+over_past : (gap at : ℕ) (chunk old : List ℕ) → length old < at + length chunk
+    → take at (old ++ replicate (at + length chunk - length old) gap) ++ chunk ++ drop (at + length chunk) (old ++ replicate (at + length chunk - length old) gap)
+    ≡ take at old ++ replicate (at - length old) gap ++ chunk ++ drop (at + length chunk) old
+over_past gap at chunk old past =
+    let front = front_past gap at (at + length chunk) old (omega arith) past in
+    let back = back_past gap (at + length chunk) old past in
     cc
 
-pub placed_within : (gap at : ℕ) (piece old : List ℕ) → 0 < length piece → at + length piece ≤ length old → take at old ++ piece ++ drop (at + length piece) old ≡ placed gap at piece old
+pub placed_within : (gap at : ℕ) (chunk old : List ℕ) → 0 < length chunk → at + length chunk ≤ length old → take at old ++ chunk ++ drop (at + length chunk) old ≡ placed gap at chunk old
 placed_within gap at [] old some fits = grind (arith, common_steps)
 placed_within gap at (b ∷ bs) old some fits = over_within gap at (b ∷ bs) old fits
 
-pub placed_past : (gap at size : ℕ) (piece old grown : List ℕ) → 0 < length piece → size ≡ length old → size < at + length piece → grown ≡ old ++ replicate (at + length piece - size) gap
-    → take at grown ++ piece ++ drop (at + length piece) grown ≡ placed gap at piece old
+pub placed_past : (gap at size : ℕ) (chunk old grown : List ℕ) → 0 < length chunk → size ≡ length old → size < at + length chunk → grown ≡ old ++ replicate (at + length chunk - size) gap
+    → take at grown ++ chunk ++ drop (at + length chunk) grown ≡ placed gap at chunk old
 placed_past gap at size [] old grown some is past longer = grind (arith, common_steps)
 placed_past gap at size (b ∷ bs) old grown some is past longer = rw (longer, is) (over_past gap at (b ∷ bs) old (omega arith))
 
@@ -60,7 +60,7 @@ filled_past byte at len size old grown some is past longer =
     subst (λ (n : ℕ). take at grown ++ replicate len byte ++ drop (at + n) grown ≡ placed byte at (replicate len byte) old) n_is
     (placed_past byte at size (replicate len byte) old grown (omega (arith, n_is)) is (omega (arith, n_is)) (rw n_is longer))
 
--- an empty piece changes nothing
-pub placed_none : (gap at : ℕ) (piece old : List ℕ) → length piece ≡ 0 → old ≡ placed gap at piece old
+-- an empty chunk changes nothing
+pub placed_none : (gap at : ℕ) (chunk old : List ℕ) → length chunk ≡ 0 → old ≡ placed gap at chunk old
 placed_none gap at [] old none = refl
 placed_none gap at (b ∷ bs) old none = absurd (omega arith)

@@ -7,7 +7,7 @@ abbrev pub reach : ℕ → ℕ → ℕ
 reach at zero = 0
 reach at (suc n) = at + suc n
 
--- these bytes at this place; a gap before them is filled up, and an empty piece writes nothing
+-- these bytes at this place; a gap before them is filled up, and an empty chunk writes nothing
 abbrev pub placed : ℕ → ℕ → List ℕ → List ℕ → List ℕ
 placed gap at [] old = old
 placed gap at (b ∷ bs) old = take at old ++ replicate (at - length old) gap ++ (b ∷ bs) ++ drop (at + length (b ∷ bs)) old

@@ -31,7 +31,7 @@ bytes_in (Synced ∷ rest) = bytes_in rest
 abbrev pub has_call : Limits → List Call → Bool
 has_call limits calls = nat_lt (length calls) limits.calls
 
--- after these calls there is room for a write; an empty piece needs none
+-- after these calls there is room for a write; an empty chunk needs none
 abbrev pub has_room : Limits → List Call → ℕ → List ℕ → Bool
 has_room limits calls at [] = true
 has_room limits calls at (b ∷ bs) = nat_le (at + length (b ∷ bs)) limits.capacity && nat_le (bytes_in calls + length (b ∷ bs)) limits.capacity && has_call limits calls

@@ -37,12 +37,12 @@ fn lengthen(buffer: &mut Vec<u8>, end: usize, gap: u8)
     }
 }
 
-// Writes a piece over a part of the bytes.
-fn overwrite(bytes: &mut [u8], at: usize, piece: &[u8])
-    requires within { at + length piece.now ≤ length bytes.old }
-    ensures { bytes.new ≡ take at bytes.old ++ piece.now ++ drop (at + length piece.now) bytes.old }
+// Writes a chunk over a part of the bytes.
+fn overwrite(bytes: &mut [u8], at: usize, chunk: &[u8])
+    requires within { at + length chunk.now ≤ length bytes.old }
+    ensures { bytes.new ≡ take at bytes.old ++ chunk.now ++ drop (at + length chunk.now) bytes.old }
 {
-    bytes[at..at + piece.len()].copy_from_slice(piece);
+    bytes[at..at + chunk.len()].copy_from_slice(chunk);
 }
 
 // Fills a part of the bytes.
@@ -53,21 +53,21 @@ fn fill_part(bytes: &mut [u8], at: usize, len: usize, byte: u8)
     bytes[at..at + len].fill(byte);
 }
 
-// Writes a piece into a buffer that has room for it.
-pub fn place(buffer: &mut Vec<u8>, at: usize, piece: &[u8])
-    requires room { at + length piece.now ≤ vec_capacity buffer.old }
-    requires small { at + length piece.now < 2 ^ 64 }
-    ensures items { buffer.new.items ≡ written_at at piece.now buffer.old.items }
+// Writes a chunk into a buffer that has room for it.
+pub fn place(buffer: &mut Vec<u8>, at: usize, chunk: &[u8])
+    requires room { at + length chunk.now ≤ vec_capacity buffer.old }
+    requires small { at + length chunk.now < 2 ^ 64 }
+    ensures items { buffer.new.items ≡ written_at at chunk.now buffer.old.items }
     ensures room { vec_capacity buffer.old ≤ vec_capacity buffer.new }
 {
-    if piece.len() == 0 {
+    if chunk.len() == 0 {
         return;
     }
-    let end = at + piece.len();
+    let end = at + chunk.len();
     if buffer.len() < end {
         lengthen(buffer, end, 0);
     }
-    overwrite(buffer, at, piece);
+    overwrite(buffer, at, chunk);
 }
 
 // Fills a range of a buffer that has room for it, and a gap before it.
@@ -88,12 +88,12 @@ pub fn fill(buffer: &mut Vec<u8>, at: usize, len: usize, byte: u8)
 }
 
 // Adds to the end of a vector that has room for it.
-pub fn append(buffer: &mut Vec<u8>, piece: &[u8])
-    requires room { vec_len buffer.old + length piece.now ≤ vec_capacity buffer.old }
-    ensures items { buffer.new.items ≡ buffer.old.items ++ piece.now }
+pub fn append(buffer: &mut Vec<u8>, chunk: &[u8])
+    requires room { vec_len buffer.old + length chunk.now ≤ vec_capacity buffer.old }
+    ensures items { buffer.new.items ≡ buffer.old.items ++ chunk.now }
     ensures room { vec_capacity buffer.old ≤ vec_capacity buffer.new }
 {
-    match buffer.extend_from_slice(piece) {
+    match buffer.extend_from_slice(chunk) {
         Ok(()) => {}
         Err(_) => unreachable!(),
     }

@@ -20,15 +20,15 @@ pub enum Leave {
 }
 
 // Leaves a write as the mode says.
-fn leave_part(mode: Leave, image: &mut Vec<u8>, at: usize, piece: &[u8])
-    requires room { at + length piece.now ≤ vec_capacity image.old }
-    ensures items { image.new.items ≡ part_of mode at piece.now image.old.items }
+fn leave_part(mode: Leave, image: &mut Vec<u8>, at: usize, chunk: &[u8])
+    requires room { at + length chunk.now ≤ vec_capacity image.old }
+    ensures items { image.new.items ≡ part_of mode at chunk.now image.old.items }
     ensures room { vec_capacity image.old ≤ vec_capacity image.new }
 {
     match mode {
         Leave::Old => {}
-        Leave::New => place(image, at, piece),
-        Leave::Filled(byte) => fill(image, at, piece.len(), byte),
+        Leave::New => place(image, at, chunk),
+        Leave::Filled(byte) => fill(image, at, chunk.len(), byte),
     }
 }
 
@@ -56,9 +56,9 @@ pub fn replay(
 {
     match step {
         Step::Write { at, len } => {
-            let piece = &written[start..start + len];
-            leave_part(mode, image, at, piece);
-            place(made, at, piece);
+            let chunk = &written[start..start + len];
+            leave_part(mode, image, at, chunk);
+            place(made, at, chunk);
             start + len
         }
         Step::Sync => {

@@ -172,26 +172,26 @@ impl MemDisk {
     }
 
     // Takes a write, where there is room for it.
-    fn note(&mut self, at: usize, piece: &[u8]) -> bool
-        requires small { at + length piece.now < 2 ^ 48 }
-        ensures taken { result ≡ has_room (limits_of self.old) (calls_in self.old) at piece.now }
-        ensures log { calls_in self.new ≡ with_write (limits_of self.old) (calls_in self.old) at piece.now }
+    fn note(&mut self, at: usize, chunk: &[u8]) -> bool
+        requires small { at + length chunk.now < 2 ^ 48 }
+        ensures taken { result ≡ has_room (limits_of self.old) (calls_in self.old) at chunk.now }
+        ensures log { calls_in self.new ≡ with_write (limits_of self.old) (calls_in self.old) at chunk.now }
         ensures made { made_of self.new ≡ made_of self.old }
         ensures limits { limits_of self.new ≡ limits_of self.old }
         ensures asked { asked_of self.new ≡ asked_of self.old }
         ensures faults { faults_of self.new ≡ faults_of self.old }
-        ensures seen { result ≡ true → seen_of self.new ≡ option_map (written_at at piece.now) (seen_of self.old) }
+        ensures seen { result ≡ true → seen_of self.new ≡ option_map (written_at at chunk.now) (seen_of self.old) }
     {
-        let len = piece.len();
+        let len = chunk.len();
         if len == 0 {
             return true;
         }
         if !self.fits(at, len) {
             return false;
         }
-        append(&mut self.written, piece);
+        append(&mut self.written, chunk);
         keep(&mut self.steps, Step::Write { at, len });
-        place(&mut self.bytes, at, piece);
+        place(&mut self.bytes, at, chunk);
         true
     }
 

@@ -21,7 +21,7 @@ use Rattle.amr_store.specs.declared.slot.Which.TheVariants.{First, Second}
 use Rattle.amr_store.specs.declared.store.Store.{Store}
 use Rattle.amr_store.specs.Layout.{open_gate, magic_1, size_of, text_length, problem_of}
 use Rattle.amr_store.specs.Next.{sequence_of, is_latest, IsAbove, gate_at, first_with, second_with, next_after}
-use Rattle.amr_store.specs.Stands.{Stands, slot_of, problem_in, slot_size_in, base_in, first_in, second_in, version_in, sequence_in, next_in, gate_in, slot_in, last_of, last_in, closing_piece, closed_image, filled_image, opened_image, IsClosed, IsFilledIn, SameStore}
+use Rattle.amr_store.specs.Stands.{Stands, slot_of, problem_in, slot_size_in, base_in, first_in, second_in, version_in, sequence_in, next_in, gate_in, slot_in, last_of, last_in, closing_chunk, closed_image, filled_image, opened_image, IsClosed, IsFilledIn, SameStore}
 use Rattle.amr_store.specs.Stored.{Entry, Stored, Held, Reads, IsFilled, with_latest, stored, state_of, first_of, second_of, is_open, entry_at, latest_of}
 
 -- the problem's length is the one that the head tells
@@ -99,25 +99,25 @@ shut_of image gate none = elim (cases_Bool (is_open image gate)) [
   | inl opened ↦ let wrong = sym (entry_open image gate opened) ∙ none in cc
 ]
 
-piece_short : (o : Option Slot) → length (closing_piece o) ≤ 1
-piece_short None = omega arith
-piece_short (Some slot) = omega arith
+chunk_short : (o : Option Slot) → length (closing_chunk o) ≤ 1
+chunk_short None = omega arith
+chunk_short (Some slot) = omega arith
 
-piece_none : (o : Option Slot) → o ≡ None → length (closing_piece o) ≡ 0
-piece_none None is = refl
-piece_none (Some slot) is = let wrong : Some slot ≡ None = is in cc
+chunk_none : (o : Option Slot) → o ≡ None → length (closing_chunk o) ≡ 0
+chunk_none None is = refl
+chunk_none (Some slot) is = let wrong : Some slot ≡ None = is in cc
 
 -- a stop while the gate of the next slot is closed
-pub close_stop : (store : Store) (s c : List ℕ) → Stands store s → Torn (gate_in store (next_in store)) (length (closing_piece (slot_in store (next_in store)))) s c → Closing (next_in store) s c (base_in store)
+pub close_stop : (store : Store) (s c : List ℕ) → Stands store s → Torn (gate_in store (next_in store)) (length (closing_chunk (slot_in store (next_in store)))) s c → Closing (next_in store) s c (base_in store)
 close_stop store s c stands torn =
     let which = next_in store in
     let part = drop (base_in store) s in
     let gate = gate_at which (text_length part) (size_of part) in
-    closing which s c (base_in store) (length (closing_piece (slot_in store which))) stands.reads (next_is store s stands) (piece_short (slot_in store which))
-    (λ shut. piece_none (slot_in store which) (slot_is store s which stands ∙ ap (λ (o : Option Entry). option_map slot_of o) (entry_closed part gate shut)))
-    (subst (λ (g : ℕ). Torn (base_in store + g) (length (closing_piece (slot_in store which))) s c) (gate_is store s which stands) torn)
+    closing which s c (base_in store) (length (closing_chunk (slot_in store which))) stands.reads (next_is store s stands) (chunk_short (slot_in store which))
+    (λ shut. chunk_none (slot_in store which) (slot_is store s which stands ∙ ap (λ (o : Option Entry). option_map slot_of o) (entry_closed part gate shut)))
+    (subst (λ (g : ℕ). Torn (base_in store + g) (length (closing_chunk (slot_in store which))) s c) (gate_is store s which stands) torn)
 
-closed_byte : (base gate : ℕ) (s : List ℕ) (o : Option Slot) → o ≡ option_map slot_of (entry_at (drop base s) gate) → entry_at (drop base (written_at (base + gate) (closing_piece o) s)) gate ≡ None
+closed_byte : (base gate : ℕ) (s : List ℕ) (o : Option Slot) → o ≡ option_map slot_of (entry_at (drop base s) gate) → entry_at (drop base (written_at (base + gate) (closing_chunk o) s)) gate ≡ None
 closed_byte base gate s None is = none_of _ (sym is)
 closed_byte base gate s (Some slot) is =
     entry_closed (drop base (written_at (base + gate) (0 ∷ []) s)) gate
@@ -130,9 +130,9 @@ close_after store s stands =
     let c = closed_image store s in
     let part = drop (base_in store) s in
     let gate = gate_at which (text_length part) (size_of part) in
-    let torn : Torn (gate_in store which) (length (closing_piece (slot_in store which))) s c = torn_written (gate_in store which) (closing_piece (slot_in store which)) s in
+    let torn : Torn (gate_in store which) (length (closing_chunk (slot_in store which))) s c = torn_written (gate_in store which) (closing_chunk (slot_in store which)) s in
     let none : entry_at (drop (base_in store) c) gate ≡ None =
-    subst (λ (g : ℕ). entry_at (drop (base_in store) (written_at (base_in store + g) (closing_piece (slot_in store which)) s)) gate ≡ None) (sym (gate_is store s which stands))
+    subst (λ (g : ℕ). entry_at (drop (base_in store) (written_at (base_in store + g) (closing_chunk (slot_in store which)) s)) gate ≡ None) (sym (gate_is store s which stands))
     (closed_byte (base_in store) gate s (slot_in store which) (slot_is store s which stands)) in
     subst (λ (e : Option Entry). Moved which s c (base_in store) e) none (close_stop store s c stands torn).moves
 
@@ -252,29 +252,29 @@ torn_at at at' n n' s c e f torn = subst (λ (x : ℕ). Torn x n' s c) e (subst 
 gate_of_next : (store : Store) (which : Which) (at : ℕ) → which ≡ next_in store → at ≡ gate_in store which → at ≡ gate_in store (next_in store)
 gate_of_next store which at next is = is ∙ ap (λ (w : Which). gate_in store w) next
 
-piece_of_next : (store : Store) (which : Which) (slot : Option Slot) (piece : List ℕ) → which ≡ next_in store → slot ≡ slot_in store which → piece ≡ closing_piece slot → piece ≡ closing_piece (slot_in store (next_in store))
-piece_of_next store which slot piece next held is = is ∙ ap closing_piece (held ∙ ap (λ (w : Which). slot_in store w) next)
+chunk_of_next : (store : Store) (which : Which) (slot : Option Slot) (chunk : List ℕ) → which ≡ next_in store → slot ≡ slot_in store which → chunk ≡ closing_chunk slot → chunk ≡ closing_chunk (slot_in store (next_in store))
+chunk_of_next store which slot chunk next held is = is ∙ ap closing_chunk (held ∙ ap (λ (w : Which). slot_in store w) next)
 
 -- closing the gate of the next slot, by what the code works out
-pub record ClosesNext (store : Store) (which : Which) (at : ℕ) (piece : List ℕ) : Type 0 where
+pub record ClosesNext (store : Store) (which : Which) (at : ℕ) (chunk : List ℕ) : Type 0 where
   pub next : which ≡ next_in store
   pub at_is : at ≡ gate_in store (next_in store)
-  pub piece_is : piece ≡ closing_piece (slot_in store (next_in store))
+  pub chunk_is : chunk ≡ closing_chunk (slot_in store (next_in store))
 
-pub closes_next : (store : Store) (which : Which) (at : ℕ) (slot : Option Slot) (piece : List ℕ) → which ≡ next_in store → at ≡ gate_in store which → slot ≡ slot_in store which → piece ≡ closing_piece slot → ClosesNext store which at piece
-closes_next store which at slot piece next place held is = record {
+pub closes_next : (store : Store) (which : Which) (at : ℕ) (slot : Option Slot) (chunk : List ℕ) → which ≡ next_in store → at ≡ gate_in store which → slot ≡ slot_in store which → chunk ≡ closing_chunk slot → ClosesNext store which at chunk
+closes_next store which at slot chunk next place held is = record {
   next = next;
   at_is = gate_of_next store which at next place;
-  piece_is = piece_of_next store which slot piece next held is;
+  chunk_is = chunk_of_next store which slot chunk next held is;
 }
 
-pub close_same : (store : Store) (s c : List ℕ) (which : Which) (at : ℕ) (piece : List ℕ) → ClosesNext store which at piece → Stands store s → Torn at (length piece) s c → stored c ≡ stored s
-close_same store s c which at piece closes stands torn = (close_stop store s c stands (torn_at _ _ _ _ s c closes.at_is (ap (λ (l : List ℕ). length l) closes.piece_is) torn)).same
+pub close_same : (store : Store) (s c : List ℕ) (which : Which) (at : ℕ) (chunk : List ℕ) → ClosesNext store which at chunk → Stands store s → Torn at (length chunk) s c → stored c ≡ stored s
+close_same store s c which at chunk closes stands torn = (close_stop store s c stands (torn_at _ _ _ _ s c closes.at_is (ap (λ (l : List ℕ). length l) closes.chunk_is) torn)).same
 
-pub close_stands : (store later : Store) (s : List ℕ) (which : Which) (at : ℕ) (piece : List ℕ) → ClosesNext store which at piece → Stands store s → SameStore store later
-    → first_in later ≡ first_with which None (first_in store) → second_in later ≡ second_with which None (second_in store) → Stands later (written_at at piece s)
-close_stands store later s which at piece closes stands same first second =
-    let image : closed_image store s ≡ written_at at piece s = sym (written_same _ _ _ _ closes.at_is closes.piece_is) in
+pub close_stands : (store later : Store) (s : List ℕ) (which : Which) (at : ℕ) (chunk : List ℕ) → ClosesNext store which at chunk → Stands store s → SameStore store later
+    → first_in later ≡ first_with which None (first_in store) → second_in later ≡ second_with which None (second_in store) → Stands later (written_at at chunk s)
+close_stands store later s which at chunk closes stands same first second =
+    let image : closed_image store s ≡ written_at at chunk s = sym (written_same _ _ _ _ closes.at_is closes.chunk_is) in
     subst (λ (c : List ℕ). Stands later c) image
     (stands_moved store later s (closed_image store s) (next_in store) None stands same (close_after store s stands)
     (first ∙ ap (λ (w : Which). first_with w None (first_in store)) closes.next) (second ∙ ap (λ (w : Which). second_with w None (second_in store)) closes.next))

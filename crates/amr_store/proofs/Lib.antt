@@ -13,7 +13,7 @@ pub mod Calls
 pub mod Joins
 pub mod Creation
 pub mod Readings
-pub mod Pieces
+pub mod PartsRead
 pub mod Openings
 pub mod Entries
 pub mod Renewals

@@ -6,7 +6,7 @@ use Rattle.std.specs.Prelude.{slice_range, option_map, nat_eq, if◌then◌else�
 use Rattle.std.specs.Cmp.Lexicographic.{pointwise}
 use Rattle.amr_store.proofs.Calls.{stands_at}
 use Rattle.amr_store.proofs.Images.{base_plain, base_renewed, stored_is}
-use Rattle.amr_store.proofs.Pieces.{equals, not_both}
+use Rattle.amr_store.proofs.PartsRead.{equals, not_both}
 use Rattle.amr_store.proofs.Whole.{found_append, whole_of}
 use Rattle.amr_store.specs.declared.check.Outline.{Outline}
 use Rattle.amr_store.specs.declared.found.Found.{Found}

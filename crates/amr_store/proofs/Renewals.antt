@@ -15,7 +15,7 @@ use Rattle.amr_store.proofs.Gates.{entry_is, state_kept}
 use Rattle.amr_store.proofs.Images.{true_whole, outer_whole, base_plain, base_renewed, plain_sound, renewed_of, renewed_moved, renewed_sound, stored_is, and_second, and_third, third_false, all_true, end_kept, magic_1_kept, some_magic_kept, held_kept}
 use Rattle.amr_store.proofs.Parts.{Kept, beyond_changed}
 use Rattle.amr_store.proofs.Phases.{no_tie_none}
-use Rattle.amr_store.proofs.Pieces.{not_both}
+use Rattle.amr_store.proofs.PartsRead.{not_both}
 use Rattle.amr_store.proofs.Places.{Outside, torn_outside, outside_twice, long_same, word_same, range_same}
 use Rattle.amr_store.proofs.Slots.{sound_full, sound_closed, entry_closed, entry_open}
 use Rattle.amr_store.proofs.Whole.{Whole}

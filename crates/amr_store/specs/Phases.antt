@@ -1,4 +1,4 @@
--- The images while pieces are written to a disk.
+-- The images while chunks are written to a disk.
 use Rattle.std.specs.Prelude.{ℕ, ◌≡◌, List, Option, Some}
 use Rattle.amr_disk.specs.Image.{Torn}
 use Rattle.amr_disk.specs.Moments.{StopsIn, Rests}

@@ -79,12 +79,12 @@ pub record IsStoreReady {D : Type 0} (seen : D → Option (List ℕ)) (moment : 
   pub stands : is_shut store ≡ false → (s : List ℕ) → seen disk ≡ Some s → Stands store s
 
 -- the bytes that the three steps of a put write
-abbrev pub closing_piece : Option Slot → List ℕ
-closing_piece None = []
-closing_piece (Some slot) = 0 ∷ []
+abbrev pub closing_chunk : Option Slot → List ℕ
+closing_chunk None = []
+closing_chunk (Some slot) = 0 ∷ []
 
 abbrev pub closed_image : Store → List ℕ → List ℕ
-closed_image store image = written_at (gate_in store (next_in store)) (closing_piece (slot_in store (next_in store))) image
+closed_image store image = written_at (gate_in store (next_in store)) (closing_chunk (slot_in store (next_in store))) image
 
 abbrev pub filled_image : Store → Which → ℕ → List ℕ → List ℕ → List ℕ
 filled_image store which sequence payload image =

@@ -72,21 +72,21 @@ pub fn has_open_gate<D: Disk>(disk: &mut D, at: u64) -> Result<bool, DiskFault>
     Ok(bytes[0] == OPEN)
 }
 
-// Writes a piece and syncs it.
-pub fn write_synced<D: Disk>(disk: &mut D, at: u64, piece: &[u8]) -> Result<(), DiskFault>
-    requires small { at + length piece.now < 2 ^ 48 }
+// Writes a chunk and syncs it.
+pub fn write_synced<D: Disk>(disk: &mut D, at: u64, chunk: &[u8]) -> Result<(), DiskFault>
+    requires small { at + length chunk.now < 2 ^ 48 }
     requires settled { Only (D.seen disk.old) (D.leaves disk.old (D.moment disk.old)) }
-    ensures stops { StopsFrom D.seen D.moment D.leaves disk.old disk.new (Torn at (length piece.now)) }
-    ensures seen { OnOk result (D.seen disk.new ≡ option_map (written_at at piece.now) (D.seen disk.old)) }
+    ensures stops { StopsFrom D.seen D.moment D.leaves disk.old disk.new (Torn at (length chunk.now)) }
+    ensures seen { OnOk result (D.seen disk.new ≡ option_map (written_at at chunk.now) (D.seen disk.old)) }
     ensures settled { OnOk result (Only (D.seen disk.new) (D.leaves disk.new (D.moment disk.new))) }
     ensures cause { HasCause (D.faults disk.old) (D.faults disk.new) result }
     ensures no_fault { OnOk result (D.faults disk.new ≡ D.faults disk.old) }
 {
-    disk.write_at(at, piece)?;
+    disk.write_at(at, chunk)?;
     disk.sync()
 }
 
-// Writes two pieces and syncs them.
+// Writes two chunks and syncs them.
 pub fn write_two_synced<D: Disk>(
     disk: &mut D,
     first_at: u64,
@@ -109,7 +109,7 @@ pub fn write_two_synced<D: Disk>(
     Ok(())
 }
 
-// Writes three pieces and syncs them.
+// Writes three chunks and syncs them.
 pub fn write_three_synced<D: Disk>(
     disk: &mut D,
     first: Write<'_>,

@@ -7,7 +7,7 @@ ghost use Rattle.amr_store.specs.Next.{first_with, second_with, other_than};
 ghost use Rattle.amr_disk.specs.Moments.{StopsIn};
 ghost use Rattle.amr_store.specs.Phases.{StopsFrom};
 ghost use Rattle.amr_store.specs.Reasons.{HasReason, Shuts, is_no_memory};
-ghost use Rattle.amr_store.specs.Stands.{IsStoreReady, IsClosed, IsFilledIn, SameStore, Stands, is_shut, next_in, gate_in, slot_in, last_in, first_in, second_in, slot_size_in, closed_image, filled_image, opened_image, put_image, closing_piece, slot_closed, slot_filled, sequence_filled, length_filled, opened_slot};
+ghost use Rattle.amr_store.specs.Stands.{IsStoreReady, IsClosed, IsFilledIn, SameStore, Stands, is_shut, next_in, gate_in, slot_in, last_in, first_in, second_in, slot_size_in, closed_image, filled_image, opened_image, put_image, closing_chunk, slot_closed, slot_filled, sequence_filled, length_filled, opened_slot};
 ghost use Rattle.amr_store.specs.Stored.{stored, with_latest};
 
 use crate::device::{write_synced, write_two_synced};
@@ -45,8 +45,8 @@ pub fn slot_head(sequence: u64, length: u64) -> [u8; 16]
 }
 
 // What is written at a gate to close it: nothing where it is closed already.
-fn piece_to_close(slot: Option<Slot>) -> &'static [u8]
-    ensures { result.now ≡ closing_piece slot }
+fn chunk_to_close(slot: Option<Slot>) -> &'static [u8]
+    ensures { result.now ≡ closing_chunk slot }
 {
     match slot {
         Some(_) => &[0],
@@ -77,8 +77,8 @@ impl Store {
             return Err(StoreFault::Shut);
         }
         let which = self.next();
-        let piece = piece_to_close(self.slot(which));
-        match write_synced(disk, self.gate(which), piece) {
+        let chunk = chunk_to_close(self.slot(which));
+        match write_synced(disk, self.gate(which), chunk) {
             Ok(()) => {
                 self.set_slot(which, None);
                 Ok(Closed { which })

@@ -1,5 +1,5 @@
 use Rattle.std.proofs.Common.{◌∙◌, ◌+◌, sym, subst, drop}
-use Rattle.amr_store.proofs.Pieces.{joined_checks}
+use Rattle.amr_store.proofs.PartsRead.{joined_checks}
 use Rattle.amr_store.specs.declared.check.Checked.{Checked}
 use Rattle.amr_store.specs.declared.reading.SlotFound.{SlotFound}
 use Rattle.amr_store.specs.Checking.{Checks}

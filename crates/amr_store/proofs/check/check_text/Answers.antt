@@ -1,7 +1,7 @@
 use Rattle.std.proofs.Common.{◌≡◌, ◌∙◌, ◌+◌, ◌^◌, nat_lt, true, false, ◌||◌, ◌∷◌, sym, drop, length, arith}
 use Rattle.std.proofs.lemmas.Bool.{ltb-true, ltb-false, lt-ltb, le-ltb, or_right, or_from}
 use Rattle.std.proofs.lemmas.Result.{IfOk-weaker}
-use Rattle.amr_store.proofs.Pieces.{more_tests, first_test, next_test}
+use Rattle.amr_store.proofs.PartsRead.{more_tests, first_test, next_test}
 use Rattle.amr_store.specs.declared.part.Part.TheVariants.{Text, Size}
 use Rattle.amr_store.specs.Layout.{size_of, text_length}
 use Rattle.amr_store.specs.Reading.{slot_tests}

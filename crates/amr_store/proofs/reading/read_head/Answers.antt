@@ -1,5 +1,5 @@
 use Rattle.std.proofs.Common.{sym, subst, drop, Option}
-use Rattle.amr_store.proofs.Pieces.{head_told}
+use Rattle.amr_store.proofs.PartsRead.{head_told}
 use Rattle.amr_store.specs.declared.reading.Head.{Head}
 use Rattle.amr_store.specs.Reading.{IsHeadOf}
 use Rattle.amr_store.proofs.reading.read_head.Goals as goal

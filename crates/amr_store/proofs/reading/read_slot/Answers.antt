@@ -1,5 +1,5 @@
 use Rattle.std.proofs.Common.{◌∙◌, sym, subst, drop}
-use Rattle.amr_store.proofs.Pieces.{slot_begun, slot_cut, slot_whole}
+use Rattle.amr_store.proofs.PartsRead.{slot_begun, slot_cut, slot_whole}
 use Rattle.amr_store.specs.declared.reading.SlotFound.{SlotFound}
 use Rattle.amr_store.specs.Reading.{IsBegun}
 use Rattle.amr_store.proofs.Readings.{reads_on}

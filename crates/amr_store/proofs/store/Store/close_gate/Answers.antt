@@ -10,13 +10,13 @@ pub returns-in-Ok-clause-ready : goal.returns-in-Ok-clause-ready
 returns-in-Ok-clause-ready g c =
     let store = c.args.self.now in
     let later = c.set_slot.new.self in
-    let closes = closes_next store c.next-which.result c.gate.result c.slot.result c.piece_to_close-piece.result.now c.next-which.ensures c.gate.ensures.place c.slot.ensures c.piece_to_close-piece.ensures in
+    let closes = closes_next store c.next-which.result c.gate.result c.slot.result c.chunk_to_close-chunk.result.now c.next-which.ensures c.gate.ensures.place c.slot.ensures c.chunk_to_close-chunk.ensures in
     record {
       settled = λ shut. c.in-Ok.ensures.settled;
       stands = λ shut t is.
-          let from = mapped_some (written_at c.gate.result c.piece_to_close-piece.result.now) (g.D.Disk.seen c.args.disk.now) t (sym c.in-Ok.ensures.seen ∙ is) in
+          let from = mapped_some (written_at c.gate.result c.chunk_to_close-chunk.result.now) (g.D.Disk.seen c.args.disk.now) t (sym c.in-Ok.ensures.seen ∙ is) in
           subst (λ (x : List ℕ). Stands later x) from.2
-          (close_stands store later from.0 c.next-which.result c.gate.result c.piece_to_close-piece.result.now closes (c.requires.ready.stands c.if-self.false from.0 from.1)
+          (close_stands store later from.0 c.next-which.result c.gate.result c.chunk_to_close-chunk.result.now closes (c.requires.ready.stands c.if-self.false from.0 from.1)
           record { version = c.set_slot.ensures.version; problem = c.set_slot.ensures.problem; slot_size = c.set_slot.ensures.slot_size; base = c.set_slot.ensures.base }
           c.set_slot.ensures.first c.set_slot.ensures.second);
     }
@@ -24,9 +24,9 @@ returns-in-Ok-clause-ready g c =
 pub returns-in-Ok-clause-stops : goal.returns-in-Ok-clause-stops
 returns-in-Ok-clause-stops g c shut s is =
     let store = c.args.self.now in
-    let closes = closes_next store c.next-which.result c.gate.result c.slot.result c.piece_to_close-piece.result.now c.next-which.ensures c.gate.ensures.place c.slot.ensures c.piece_to_close-piece.ensures in
-    weaker g.D.Disk.moment g.D.Disk.leaves c.args.disk.now c.write_synced.new.disk (Torn c.gate.result (length c.piece_to_close-piece.result.now) s) (λ image. stored image ≡ stored s)
-    (λ image torn. close_same store s image c.next-which.result c.gate.result c.piece_to_close-piece.result.now closes (c.requires.ready.stands shut s is) torn) (c.write_synced.ensures.stops s is)
+    let closes = closes_next store c.next-which.result c.gate.result c.slot.result c.chunk_to_close-chunk.result.now c.next-which.ensures c.gate.ensures.place c.slot.ensures c.chunk_to_close-chunk.ensures in
+    weaker g.D.Disk.moment g.D.Disk.leaves c.args.disk.now c.write_synced.new.disk (Torn c.gate.result (length c.chunk_to_close-chunk.result.now) s) (λ image. stored image ≡ stored s)
+    (λ image torn. close_same store s image c.next-which.result c.gate.result c.chunk_to_close-chunk.result.now closes (c.requires.ready.stands shut s is) torn) (c.write_synced.ensures.stops s is)
 
 pub returns-in-Ok-clause-last : goal.returns-in-Ok-clause-last
 returns-in-Ok-clause-last g c = last_closed c.args.self.now c.set_slot.new.self c.next-which.result c.next-which.ensures c.set_slot.ensures.first c.set_slot.ensures.second
@@ -34,6 +34,6 @@ returns-in-Ok-clause-last g c = last_closed c.args.self.now c.set_slot.new.self 
 pub returns-in-Err-clause-stops : goal.returns-in-Err-clause-stops
 returns-in-Err-clause-stops g c shut s is =
     let store = c.args.self.now in
-    let closes = closes_next store c.next-which.result c.gate.result c.slot.result c.piece_to_close-piece.result.now c.next-which.ensures c.gate.ensures.place c.slot.ensures c.piece_to_close-piece.ensures in
-    weaker g.D.Disk.moment g.D.Disk.leaves c.args.disk.now c.write_synced.new.disk (Torn c.gate.result (length c.piece_to_close-piece.result.now) s) (λ image. stored image ≡ stored s)
-    (λ image torn. close_same store s image c.next-which.result c.gate.result c.piece_to_close-piece.result.now closes (c.requires.ready.stands shut s is) torn) (c.write_synced.ensures.stops s is)
+    let closes = closes_next store c.next-which.result c.gate.result c.slot.result c.chunk_to_close-chunk.result.now c.next-which.ensures c.gate.ensures.place c.slot.ensures c.chunk_to_close-chunk.ensures in
+    weaker g.D.Disk.moment g.D.Disk.leaves c.args.disk.now c.write_synced.new.disk (Torn c.gate.result (length c.chunk_to_close-chunk.result.now) s) (λ image. stored image ≡ stored s)
+    (λ image torn. close_same store s image c.next-which.result c.gate.result c.chunk_to_close-chunk.result.now closes (c.requires.ready.stands shut s is) torn) (c.write_synced.ensures.stops s is)

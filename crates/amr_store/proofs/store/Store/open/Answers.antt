@@ -1,7 +1,7 @@
 use Rattle.std.proofs.Common.{◌∙◌, sym}
 use Rattle.amr_store.proofs.Openings.{finds_of, ready_found}
 use Rattle.std.proofs.lemmas.Result.{IfOk-weaker}
-use Rattle.amr_store.proofs.Pieces.{if_ok_both}
+use Rattle.amr_store.proofs.PartsRead.{if_ok_both}
 use Rattle.amr_store.proofs.Readings.{reads_settled}
 use Rattle.amr_store.proofs.Readings.{reads_on}
 use Rattle.amr_store.proofs.store.Store.open.Goals as goal
