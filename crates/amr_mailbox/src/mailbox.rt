@@ -14,6 +14,7 @@ use atomic_table::{Refused, Table};
 use std::alloc::{AllocError, Global};
 use std::marker::Model;
 use std::sync::Wait;
+use std::sync::atomic::{AtomicBool, Ordering};
 
 // What the word says.
 const ASKERS_TURN: u64 = 0;
@@ -35,6 +36,7 @@ enum Found<O> {
 #[derive(Drop)]
 pub struct Mailbox<O, A, K, E: Errand<O, A, K>> {
     table: Table<Letter<O, A>, View<O, K>, K, Kept<E>, Global>,
+    attended: AtomicBool,
 }
 
 impl<O, A, K, E: Errand<O, A, K>> Model for Mailbox<O, A, K, E> {
@@ -66,10 +68,24 @@ impl<O: Drop, A: Drop, K, E: Errand<O, A, K>> Mailbox<O, A, K, E> {
         };
         table.shared.load::<Opening>(&mut seat, 0);
         let other = table.shared.split_seat::<Halves>(&mut seat);
-        Ok((Mailbox { table }, Asker { seat }, Worker { seat: other }))
+        let mailbox = Mailbox {
+            table,
+            attended: AtomicBool::new(false),
+        };
+        Ok((mailbox, Asker { seat }, Worker { seat: other }))
     }
 
-    /// Posts an order, which is the worker's from then on.
+    /// Tells the asker that the worker is there. An order that is posted before has to wait until it is.
+    pub fn attend(&self) {
+        self.attended.store(true, Ordering::SeqCst);
+    }
+
+    /// Whether the worker has told that it is there.
+    pub fn is_attended(&self) -> bool {
+        self.attended.load(Ordering::SeqCst)
+    }
+
+    /// Posts an order, which is the worker's from then on, and wakes the worker.
     pub fn post(&self, asker: &mut Asker<O, A, K>, order: O)
         requires free { asker.old ≡ end_of self.now Free }
         requires may { E.may self.now.key order }
@@ -80,6 +96,7 @@ impl<O: Drop, A: Drop, K, E: Errand<O, A, K>> Mailbox<O, A, K, E> {
             unreachable!()
         };
         shared.store::<Posting>(&mut asker.seat, 0, WORKERS_TURN);
+        shared.wake_one(0);
     }
 
     /// Waits for the answer, which serves the order that was posted.
@@ -114,17 +131,18 @@ impl<O: Drop, A: Drop, K, E: Errand<O, A, K>> Mailbox<O, A, K, E> {
         Some(answer)
     }
 
-    /// Lets the worker go: no order comes any more.
+    /// Lets the worker go, and wakes it: no order comes any more.
     pub fn dismiss(&self, asker: &mut Asker<O, A, K>)
         requires free { asker.old ≡ end_of self.now Free }
         ensures { asker.new ≡ end_of self.now Over }
     {
-        self.table
-            .shared
-            .store::<Dismissing>(&mut asker.seat, 0, DISMISSED);
+        let shared = &self.table.shared;
+        shared.store::<Dismissing>(&mut asker.seat, 0, DISMISSED);
+        shared.wake_one(0);
     }
 
-    /// Waits for the next order. None once the worker is dismissed.
+    /// Waits for the next order. None once the worker is dismissed. After some looks the thread sleeps until the asker
+    /// wakes it.
     pub fn next(&self, rt: &impl Wait, worker: &mut Worker<O, A, K>) -> Option<O>
         requires free { worker.old ≡ end_of self.now Free }
         ensures may { IfSome result (λ order. E.may self.now.key order) }
@@ -135,7 +153,8 @@ impl<O: Drop, A: Drop, K, E: Errand<O, A, K>> Mailbox<O, A, K, E> {
             match self.look(worker) {
                 Found::Order(order) => return Some(order),
                 Found::Dismissal => return None,
-                Found::Nothing => patience.pause(),
+                Found::Nothing if patience.spend() => (),
+                Found::Nothing => self.table.shared.park(rt, 0, ASKERS_TURN as u32),
             }
         }
         unreachable!()

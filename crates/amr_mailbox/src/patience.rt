@@ -3,10 +3,10 @@
 use std::hint::spin_loop;
 use std::thread::yield_now;
 
-// Looks after which the processor is let go between two of them.
-const SPINS: u32 = 4096;
+// Looks that come one at once after the other: they take some 10 microseconds.
+const SPINS: u32 = 2048;
 
-/// Counts the looks of one wait: the first ones come at once, and the later ones each let another thread run.
+/// Counts the looks of one wait. The first ones come at once; before a later one another thread has to run.
 #[derive(Drop)]
 pub struct Patience {
     looks: u32,
@@ -17,12 +17,19 @@ impl Patience {
         Patience { looks: 0 }
     }
 
-    /// Passes the time until the next look.
-    pub fn pause(&mut self) {
+    /// Spends a look. Whether there was one left, so that the next look comes at once.
+    pub fn spend(&mut self) -> bool {
         if self.looks < SPINS {
             self.looks += 1;
             spin_loop();
-        } else {
+            return true;
+        }
+        false
+    }
+
+    /// Passes the time until the next look: where it does not come at once, another thread runs before.
+    pub fn pause(&mut self) {
+        if !self.spend() {
             yield_now();
         }
     }

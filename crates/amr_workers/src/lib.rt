@@ -10,9 +10,9 @@ mod phase;
 mod team;
 
 pub use gate::{Gate, OpenGate};
-pub use helper::Helper;
+pub use helper::{Helper, Recruit};
 pub use job::Job;
-pub use kept::{OrderAsker, OrderBox, OrderWorker, serve};
+pub use kept::{OrderAsker, OrderBox, OrderWorker, serve_all};
 pub use order::{About, Drawing, Order};
 pub use phase::run_phase;
 pub use team::Team;

@@ -1,5 +1,5 @@
 //! Workers in threads that last from one phase to the next, and the phases that they run.
-ghost use Rattle.std.specs.Prelude.{◌≡◌, ℕ, ◌+◌, ◌<◌, ◌≤◌, ◌^◌, true, false, length, Some};
+ghost use Rattle.std.specs.Prelude.{◌≡◌, ℕ, ◌+◌, ◌<◌, ◌≤◌, ◌^◌, true, false, length, IfOk, Some};
 ghost use Rattle.std.specs.List.{All};
 ghost use Rattle.std.specs.Arc.{arc_value};
 ghost use Rattle.std.specs.Vec.{vec_capacity};
@@ -12,23 +12,24 @@ ghost use Rattle.amr_board.specs.Ended.{total_of, face_of};
 ghost use Rattle.amr_mailbox.specs.declared.view.Turn.TheVariants.{Free, Over};
 ghost use Rattle.amr_mailbox.specs.MailboxOf.{end_of};
 ghost use Rattle.amr_workers.specs.Orders.{MayDraw, HasDrawn, IsReady, Admits};
-ghost use Rattle.amr_workers.specs.Helpers.{IsHelper};
+ghost use Rattle.amr_workers.specs.Helpers.{AdmitsWorker, IsHelper, IsRecruit};
 
 use crate::gate::Gate;
-use crate::helper::Helper;
+use crate::helper::{Helper, Recruit, new_worker};
 use crate::job::Job;
 use crate::order::Order;
 use crate::phase::draw_all;
 use amr_board::{Board, Ended, Piece, Seat};
-use std::alloc::{AllocFailed, Global};
+use std::alloc::{AllocError, AllocFailed, Global};
 use std::marker::Model;
+use std::mem::replace;
 use std::sync::{Arc, Wait};
 use std::thread::yield_now;
 
 /// A team of kept workers for phases of one job under one gate. Its caller works too, as worker 0.
 #[derive(Drop)]
 pub struct Team<'a, P: Piece, J: Job<P>, G: Gate> {
-    helpers: Vec<Helper<'a, P, J, G>>,
+    helpers: Vec<Helper<P, J, G>>,
     job: &'a J,
     gate: &'a G,
 }
@@ -36,6 +37,7 @@ pub struct Team<'a, P: Piece, J: Job<P>, G: Gate> {
 impl<'a, P: Piece, J: Job<P>, G: Gate> Model for Team<'a, P, J, G> {
     ghost use Rattle.std.specs.Prelude.{◌≡◌, ◌+◌, ◌<◌, length};
     ghost use Rattle.std.specs.List.{All};
+    ghost use Rattle.std.specs.Arc.{arc_value};
     ghost use Rattle.amr_workers.specs.Helpers.{IsHelper};
     ghost use Rattle.amr_workers.specs.TeamOf.{TeamOf};
 
@@ -43,15 +45,38 @@ impl<'a, P: Piece, J: Job<P>, G: Gate> Model for Team<'a, P, J, G> {
 
     ghost view = { λ t. record { job = t.job.now; gate = t.gate.now; workers = 1 + length t.helpers.items } };
 
-    ghost invariant = { λ t. All (λ h. IsHelper t.job.now t.gate.now (1 + length t.helpers.items) h.mailbox.now h.asker) t.helpers.items × (length t.helpers.items < 32) };
+    ghost invariant = { λ t. All (λ h. IsHelper t.job.now t.gate.now (1 + length t.helpers.items) (arc_value h.mailbox) h.asker) t.helpers.items × (length t.helpers.items < 32) };
 }
 
 impl<'a, P: Piece, J: Job<P>, G: Gate> Team<'a, P, J, G> {
-    /// A team of these kept workers, each of whom waits for an order, and its caller.
-    pub fn new(job: &'a J, gate: &'a G, helpers: Vec<Helper<'a, P, J, G>>) -> Team<'a, P, J, G>
-        requires helpers { All (λ h. IsHelper job.now gate.now (1 + length helpers.items) h.mailbox.now h.asker) helpers.items }
+    /// A team of so many workers, its caller among them, and those that have to begin ([`serve_all`](crate::serve_all)).
+    /// All memory is taken here.
+    pub fn hire(
+        alloc: Global,
+        job: &'a J,
+        gate: &'a G,
+        workers: u32,
+    ) -> Result<(Team<'a, P, J, G>, Vec<Recruit<P, J, G>>), AllocError>
+        requires some { 1 ≤ workers }
+        requires few { workers ≤ 32 }
+        ensures team { IfOk result (λ r. r.0 ≡ record { job = job.now; gate = gate.now; workers = workers }) }
+        ensures recruits { IfOk result (λ r. All (λ h. IsRecruit job.now gate.now (arc_value h.mailbox) h.worker h.number) r.1.items) }
+    {
+        let mut helpers = Vec::new(alloc);
+        let mut recruits = Vec::new(alloc);
+        for number in 1..workers {
+            let (helper, recruit) = new_worker(alloc, job, gate, number)?;
+            helpers.push(helper)?;
+            recruits.push(recruit)?;
+        }
+        Ok((Team::new(job, gate, helpers), recruits))
+    }
+
+    // A team of these kept workers, each of whom waits for an order, and its caller.
+    fn new(job: &'a J, gate: &'a G, helpers: Vec<Helper<P, J, G>>) -> Team<'a, P, J, G>
+        requires helpers { All (λ h. IsHelper job.now gate.now (1 + length helpers.items) (arc_value h.mailbox) h.asker) helpers.items }
         requires few { length helpers.items < 32 }
-        ensures { result ≡ record { job = job.now; gate = gate.now; workers = 1 + length helpers.entry.items } }
+        ensures { result ≡ record { job = job.now; gate = gate.now; workers = 1 + length helpers.items } }
     {
         Team { helpers, job, gate }
     }
@@ -90,25 +115,23 @@ impl<'a, P: Piece, J: Job<P>, G: Gate> Team<'a, P, J, G> {
         sole(rt, shared).close(seat)
     }
 
-    /// Lets the kept workers go, each of whom then returns.
-    pub fn dismiss(self) -> Vec<Helper<'a, P, J, G>>
-        ensures over { All (λ h. h.asker ≡ end_of h.mailbox.now Over) result.items }
-        ensures count { 1 + length result.items ≡ self.entry.workers }
+    /// Lets the kept workers go, each of whom then returns. The caller stays alone.
+    pub fn dismiss(&mut self) -> Vec<Helper<P, J, G>>
+        ensures alone { self.new ≡ record { job = self.old.job; gate = self.old.gate; workers = 1 } }
+        ensures over { All (λ h. h.asker ≡ end_of (arc_value h.mailbox) Over) result.items }
+        ensures count { 1 + length result.items ≡ self.old.workers }
     {
-        let Team {
-            mut helpers,
-            job: _,
-            gate: _,
-        } = self;
+        let alloc = *self.helpers.allocator();
+        let mut helpers = replace(&mut self.helpers, Vec::new(alloc));
         dismiss_all(&mut helpers);
         helpers
     }
 }
 
 // Dismisses each kept worker.
-fn dismiss_all<P: Piece, J: Job<P>, G: Gate>(helpers: &mut Vec<Helper<'_, P, J, G>>)
-    requires { All (λ h. h.asker ≡ end_of h.mailbox.now Free) helpers.old.items }
-    ensures over { All (λ h. h.asker ≡ end_of h.mailbox.now Over) helpers.new.items }
+fn dismiss_all<P: Piece, J: Job<P>, G: Gate>(helpers: &mut Vec<Helper<P, J, G>>)
+    requires { All (λ h. h.asker ≡ end_of (arc_value h.mailbox) Free) helpers.old.items }
+    ensures over { All (λ h. h.asker ≡ end_of (arc_value h.mailbox) Over) helpers.new.items }
     ensures count { length helpers.new.items ≡ length helpers.old.items }
     ensures room { vec_capacity helpers.new ≡ vec_capacity helpers.old }
 {
@@ -116,7 +139,7 @@ fn dismiss_all<P: Piece, J: Job<P>, G: Gate>(helpers: &mut Vec<Helper<'_, P, J, 
         return;
     };
     dismiss_all(helpers);
-    helper.mailbox.dismiss(&mut helper.asker);
+    helper.dismiss();
     helpers.push_reserved(helper);
 }
 
@@ -124,7 +147,7 @@ fn dismiss_all<P: Piece, J: Job<P>, G: Gate>(helpers: &mut Vec<Helper<'_, P, J, 
 // one's, and so on.
 fn run_with<W: Wait, P: Piece, J: Job<P>, G: Gate>(
     rt: &W,
-    helpers: &mut Vec<Helper<'_, P, J, G>>,
+    helpers: &mut Vec<Helper<P, J, G>>,
     board: &Arc<Board<P>, Global>,
     mut seat: Seat<P>,
     job: &J,
@@ -132,9 +155,9 @@ fn run_with<W: Wait, P: Piece, J: Job<P>, G: Gate>(
 ) -> Seat<P>
     requires seat { MayDraw (arc_value board.now) seat }
     requires share { 2 ^ length helpers.old.items ≤ (view seat).share }
-    requires helpers { All (λ h. IsHelper job.now gate.now 64 h.mailbox.now h.asker) helpers.old.items }
+    requires helpers { All (λ h. IsHelper job.now gate.now 64 (arc_value h.mailbox) h.asker) helpers.old.items }
     requires ready { IsReady (J.ready job.now) (arc_value board.now) }
-    requires gate { All (λ h. Admits (G.admits gate.now h.mailbox.now.key.number) (arc_value board.now)) helpers.old.items }
+    requires gate { All (λ h. AdmitsWorker (G.admits gate.now) (arc_value h.mailbox) (arc_value board.now)) helpers.old.items }
     requires caller { Admits (G.admits gate.now 0) (arc_value board.now) }
     ensures seat { HasDrawn (arc_value board.now) seat result }
     ensures helpers { helpers.new.items ≡ helpers.old.items }
@@ -144,7 +167,7 @@ fn run_with<W: Wait, P: Piece, J: Job<P>, G: Gate>(
         draw_all(board, &mut seat, job, gate, 0);
         return seat;
     };
-    let Ok(shared) = Arc::try_clone(board) else {
+    let Ok(shared) = helper.share(board) else {
         let seat = run_with(rt, helpers, board, seat, job, gate);
         helpers.push_reserved(helper);
         return seat;
@@ -154,9 +177,9 @@ fn run_with<W: Wait, P: Piece, J: Job<P>, G: Gate>(
         board: shared,
         seat: other,
     };
-    helper.mailbox.post(&mut helper.asker, order);
+    helper.post(order);
     let mut all = run_with(rt, helpers, board, seat, job, gate);
-    let back = helper.mailbox.collect(rt, &mut helper.asker);
+    let back = helper.collect(rt);
     board.join(&mut all, back);
     helpers.push_reserved(helper);
     all

@@ -2,16 +2,11 @@
 ghost use Rattle.std.specs.Prelude.{◌≡◌, ◌<◌, [], ◌∷◌, false, IfOk, length};
 ghost use Rattle.amr_board.specs.Views.{first_view};
 ghost use Rattle.amr_board.specs.BoardOf.{IsSeatOf, view};
-ghost use Rattle.amr_mailbox.specs.declared.view.Turn.TheVariants.{Free};
-ghost use Rattle.amr_mailbox.specs.MailboxOf.{end_of};
 
-use crate::{
-    About, Gate, Helper, Job, OpenGate, OrderAsker, OrderBox, OrderWorker, Team, run_phase, serve,
-};
+use crate::{Gate, Job, OpenGate, Team, run_phase, serve_all};
 use amr_board::{Board, Ended, MakeFault, Piece, Seat, Shape};
-use std::alloc::{AllocError, AllocFailed, Global};
+use std::alloc::{AllocError, Global};
 use std::process::Abort;
-use std::snapshot::Snapshot;
 use std::sync::Wait;
 use std::sync::atomic::{AtomicBool, AtomicU64, Ordering};
 use std::test::Fail;
@@ -265,27 +260,6 @@ impl Job<Counted> for Posting {
     }
 }
 
-type Orders = OrderBox<Counted, Posting, OpenGate>;
-
-type Kept = (
-    Orders,
-    OrderAsker<Counted, Posting, OpenGate>,
-    OrderWorker<Counted, Posting, OpenGate>,
-);
-
-// The mailbox of a kept worker.
-fn kept(alloc: Global, job: &Posting, gate: &OpenGate, number: u32) -> Result<Kept, AllocError>
-    ensures key { IfOk result (λ r. (r.0.key.job.value ≡ job.now) × (r.0.key.gate.value ≡ gate.now) × (r.0.key.number ≡ number)) }
-    ensures ends { IfOk result (λ r. (r.1 ≡ end_of r.0 Free) × (r.2 ≡ end_of r.0 Free)) }
-{
-    let about = About {
-        job: Snapshot::of(job),
-        gate: Snapshot::of(gate),
-        number,
-    };
-    Orders::make(alloc, &about)
-}
-
 // Runs three boards one after another.
 fn run_three<R: Wait + Abort>(
     rt: &R,
@@ -299,44 +273,21 @@ fn run_three<R: Wait + Abort>(
     Ok(())
 }
 
-// A team of this kept worker and its caller, for three boards.
-fn lead<R: Wait + Abort>(
-    rt: &R,
-    alloc: Global,
-    job: &Posting,
-    gate: &OpenGate,
-    mailbox: &Orders,
-    asker: OrderAsker<Counted, Posting, OpenGate>,
-) -> Result<(), AllocError>
-    requires end { asker ≡ end_of mailbox.now Free }
-    requires key { (mailbox.now.key.job.value ≡ job.now) × (mailbox.now.key.gate.value ≡ gate.now) × (mailbox.now.key.number ≡ 1) }
-{
-    let mut helpers = Vec::new(alloc);
-    if let Err(AllocFailed { value: mut helper }) = helpers.push(Helper { mailbox, asker }) {
-        helper.mailbox.dismiss(&mut helper.asker);
-        return Err(AllocError);
-    }
-    let mut team = Team::new(job, gate, helpers);
-    let done = run_three(rt, alloc, &mut team);
-    drop(team.dismiss());
-    done
-}
-
-// One kept worker and its caller run three boards, one after another.
+// Three kept workers and their caller run three boards, one after another.
 #[test]
 fn a_team_over_three_boards(rt: HostRuntime) -> Result<(), Fail> {
     let alloc: Global = rt.alloc();
     let (job, gate) = (Posting, OpenGate);
-    let (mailbox, asker, worker) = kept(alloc, &job, &gate, 1)?;
-    let (host, orders, job, gate) = (&rt, &mailbox, &job, &gate);
-    let (done, _left) = thread::join(
+    let (mut team, mut recruits) = Team::hire(alloc, &job, &gate, 4)?;
+    let (host, job, gate) = (&rt, &job, &gate);
+    let ((), done) = thread::join_mut(
         host,
-        move || -> Result<(), AllocError>
-            requires { (asker ≡ end_of orders.now Free) × (orders.now.key.job.value ≡ job.now) × (orders.now.key.gate.value ≡ gate.now) × (orders.now.key.number ≡ 1) }
-        { lead(host, alloc, job, gate, orders, asker) },
-        move || -> OrderWorker<Counted, Posting, OpenGate>
-            requires { (worker ≡ end_of orders.now Free) × (orders.now.key.job.value ≡ job.now) × (orders.now.key.gate.value ≡ gate.now) × (orders.now.key.number ≡ 1) }
-        { serve(host, orders, worker, job, gate, 1) },
+        &mut || serve_all(host, &mut recruits, job, gate),
+        &mut || {
+            let done = run_three(host, alloc, &mut team);
+            drop(team.dismiss());
+            done
+        },
     );
     done?;
     Ok(())
