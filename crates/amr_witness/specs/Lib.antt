@@ -1,3 +1,4 @@
+pub mod Ends
 pub mod Given
 pub mod Maps
 pub mod Parts

@@ -1,10 +1,11 @@
 //! The row of the ledger after a step.
 
 ghost use Rattle.std.specs.Prelude.{◌≡◌, ℕ, ◌+◌, ◌*◌, ◌<◌, ◌≤◌, ◌^◌, length, IfOk};
-ghost use Rattle.amr_def.specs.Domain.{columns, rows};
+ghost use Rattle.amr_def.specs.Domain.{columns, is_periodic};
 ghost use Rattle.amr_def.specs.State.{no_masses};
 ghost use Rattle.amr_def.specs.LevelStep.{step};
-ghost use Rattle.amr_def.specs.Ledger.{above_zero, below_zero, if_open, inflow, mass_at, outflow, row_after, row_mass, total_mass, x_through, y_through};
+ghost use Rattle.amr_def.specs.Ledger.{above_zero, below_zero, if_open, inflow, mass_at, outflow, row_after, row_mass, total_mass};
+ghost use Rattle.amr_witness.specs.Ends.{across, along, end_face, sides_of, through_axis};
 ghost use Rattle.amr_witness.specs.Maps.{masses_in, masses_of};
 ghost use Rattle.amr_witness.specs.Ready.{HasSmallMasses, IsFace, AreReadyToStep, IsWithin};
 
@@ -39,8 +40,8 @@ pub fn row_after(
     ensures inflow { IfOk result (λ r. r.inflow ≡ inflow p.now (step p.now 0 (masses_in before.now) no_masses).fluxes) }
     ensures outflow { IfOk result (λ r. r.outflow ≡ outflow p.now (step p.now 0 (masses_in before.now) no_masses).fluxes) }
 {
-    let x = through_x(alloc, p, before)?;
-    let y = through_y(alloc, p, before)?;
+    let x = through_axis(alloc, p, before, Axis::X)?;
+    let y = through_axis(alloc, p, before, Axis::Y)?;
     Ok(Row {
         mass: total_mass(p, after),
         inflow: x.inflow + y.inflow,
@@ -142,57 +143,77 @@ fn through_ends(
     Ok(between(low_flux, high_flux))
 }
 
-/// What flows through the low and the high end of the x axis, where it is open.
-fn through_x(alloc: Global, p: &Problem, levels: &[PlainLevel]) -> Result<Through, NoMemory>
-    requires few { length levels.now ≤ 5 }
-    requires ready { AreReadyToStep p.now 0 (masses_in levels.now) no_masses }
-    ensures inflow { IfOk result (λ t. t.inflow ≡ if_open p.now.x_sides (x_through p.now above_zero below_zero (step p.now 0 (masses_in levels.now) no_masses).fluxes)) }
-    ensures outflow { IfOk result (λ t. t.outflow ≡ if_open p.now.x_sides (x_through p.now below_zero above_zero (step p.now 0 (masses_in levels.now) no_masses).fluxes)) }
-    ensures inflow_small { IfOk result (λ t. t.inflow ≤ 2 ^ 59) }
-    ensures outflow_small { IfOk result (λ t. t.outflow ≤ 2 ^ 59) }
+/// Whether an axis is periodic.
+fn is_periodic(p: &Problem, axis: Axis) -> bool
+    ensures { result ≡ is_periodic (sides_of p.now axis) }
 {
-    let mut inflow = 0;
-    let mut outflow = 0;
-    if p.x_sides.is_periodic() {
-        return Ok(Through { inflow, outflow });
+    match axis {
+        Axis::X => p.x_sides.is_periodic(),
+        Axis::Y => p.y_sides.is_periodic(),
     }
-    let end = columns(p, 0);
-    for y in 0..rows(p, 0) {
-        let ends = through_ends(
-            alloc,
-            p,
-            levels,
-            face_at(Axis::X, 0, y),
-            face_at(Axis::X, end, y),
-        )?;
-        inflow += ends.inflow;
-        outflow += ends.outflow;
-    }
-    Ok(Through { inflow, outflow })
 }
 
-/// What flows through the low and the high end of the y axis, where it is open.
-fn through_y(alloc: Global, p: &Problem, levels: &[PlainLevel]) -> Result<Through, NoMemory>
+/// How many cells of level 0 lie along an axis.
+fn along(p: &Problem, axis: Axis) -> u32
+    ensures value { result ≡ along p.now axis }
+    ensures small { result ≤ 4096 }
+{
+    match axis {
+        Axis::X => columns(p, 0),
+        Axis::Y => rows(p, 0),
+    }
+}
+
+/// How many faces of level 0 lie at an end of an axis.
+fn across(p: &Problem, axis: Axis) -> u32
+    ensures value { result ≡ across p.now axis }
+    ensures small { result ≤ 4096 }
+{
+    match axis {
+        Axis::X => rows(p, 0),
+        Axis::Y => columns(p, 0),
+    }
+}
+
+/// The face before place `at` along an axis, in row `k` (on x) or in column `k` (on y).
+fn end_face(axis: Axis, at: u32, k: u32) -> Face
+    requires place { at ≤ 4096 }
+    requires number { k ≤ 4096 }
+    ensures { result ≡ end_face axis at k }
+{
+    match axis {
+        Axis::X => face_at(Axis::X, at, k),
+        Axis::Y => face_at(Axis::Y, k, at),
+    }
+}
+
+/// What flows through the low and the high end of an axis, where it is open.
+fn through_axis(
+    alloc: Global,
+    p: &Problem,
+    levels: &[PlainLevel],
+    axis: Axis,
+) -> Result<Through, NoMemory>
     requires few { length levels.now ≤ 5 }
     requires ready { AreReadyToStep p.now 0 (masses_in levels.now) no_masses }
-    ensures inflow { IfOk result (λ t. t.inflow ≡ if_open p.now.y_sides (y_through p.now above_zero below_zero (step p.now 0 (masses_in levels.now) no_masses).fluxes)) }
-    ensures outflow { IfOk result (λ t. t.outflow ≡ if_open p.now.y_sides (y_through p.now below_zero above_zero (step p.now 0 (masses_in levels.now) no_masses).fluxes)) }
+    ensures inflow { IfOk result (λ t. t.inflow ≡ if_open (sides_of p.now axis) (through_axis p.now axis above_zero below_zero (step p.now 0 (masses_in levels.now) no_masses).fluxes)) }
+    ensures outflow { IfOk result (λ t. t.outflow ≡ if_open (sides_of p.now axis) (through_axis p.now axis below_zero above_zero (step p.now 0 (masses_in levels.now) no_masses).fluxes)) }
     ensures inflow_small { IfOk result (λ t. t.inflow ≤ 2 ^ 59) }
     ensures outflow_small { IfOk result (λ t. t.outflow ≤ 2 ^ 59) }
 {
     let mut inflow = 0;
     let mut outflow = 0;
-    if p.y_sides.is_periodic() {
+    if is_periodic(p, axis) {
         return Ok(Through { inflow, outflow });
     }
-    let end = rows(p, 0);
-    for x in 0..columns(p, 0) {
+    let end = along(p, axis);
+    for k in 0..across(p, axis) {
         let ends = through_ends(
             alloc,
             p,
             levels,
-            face_at(Axis::Y, x, 0),
-            face_at(Axis::Y, x, end),
+            end_face(axis, 0, k),
+            end_face(axis, end, k),
         )?;
         inflow += ends.inflow;
         outflow += ends.outflow;
