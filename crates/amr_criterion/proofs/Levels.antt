@@ -50,9 +50,9 @@ reached false a e h l = h
 
 -- within a row or a column of the box, at most one beyond it
 in_reach : (b : Extent) (q : Cell) → (b.lo.x -ℤ pos 1) ≤ℤ q.x → q.x ≤ℤ (b.hi.x +ℤ pos 1) → (b.lo.y -ℤ pos 1) ≤ℤ q.y → q.y ≤ℤ (b.hi.y +ℤ pos 1) → (within b.lo.x b.hi.x q.x ≡ true) ⊎ (within b.lo.y b.hi.y q.y ≡ true) → IsTrue (holds (grown b) q && (within b.lo.x b.hi.x q.x || within b.lo.y b.hi.y q.y))
-in_reach b q west east south north line =
+in_reach b q west east south north flat =
     reached (holds (grown b) q) (within b.lo.x b.hi.x q.x) (within b.lo.y b.hi.y q.y)
-    (and_from (within (b.lo.x -ℤ pos 1) (b.hi.x +ℤ pos 1) q.x) (within (b.lo.y -ℤ pos 1) (b.hi.y +ℤ pos 1) q.y) (is_between (b.lo.x -ℤ pos 1) (b.hi.x +ℤ pos 1) q.x west east) (is_between (b.lo.y -ℤ pos 1) (b.hi.y +ℤ pos 1) q.y south north)) line
+    (and_from (within (b.lo.x -ℤ pos 1) (b.hi.x +ℤ pos 1) q.x) (within (b.lo.y -ℤ pos 1) (b.hi.y +ℤ pos 1) q.y) (is_between (b.lo.x -ℤ pos 1) (b.hi.x +ℤ pos 1) q.x west east) (is_between (b.lo.y -ℤ pos 1) (b.hi.y +ℤ pos 1) q.y south north)) flat
 
 beside_x : (b : Extent) (c : Cell) (x y : ℤ) → IsIn b c → (c.x -ℤ pos 1) ≤ℤ x → x ≤ℤ (c.x +ℤ pos 1) → y ≡ c.y → IsTrue (holds (grown b) (cell x y) && (within b.lo.x b.hi.x x || within b.lo.y b.hi.y y))
 beside_x b c x y here from to e = in_reach b (cell x y) (omega (arith, ints, here.west)) (omega (arith, ints, here.east)) (omega (arith, ints, e, here.south)) (omega (arith, ints, e, here.north)) (inr (is_between b.lo.y b.hi.y y (omega (arith, ints, e, here.south)) (omega (arith, ints, e, here.north))))

@@ -1,4 +1,4 @@
--- Steep pairs whose first cells are in a region: of two regions, of none, and of a line's next ones.
+-- Steep pairs whose first cells are in a region: of two regions, of none, and of a row's next ones.
 use Rattle.std.proofs.Common.{◌≡◌, ℕ, ◌+◌, ◌-◌, ◌<◌, ◌≤◌, Bool, true, false, ◌&&◌, ◌||◌, ℤ, pos, ◌+ℤ◌, ◌-ℤ◌, ◌≤ℤ◌, List, length, refl, sym, ap, ◌∙◌, arith}
 use Rattle.std.specs.Prelude.{slice_index}
 use Rattle.std.proofs.lemmas.Int.{ints}
@@ -54,15 +54,15 @@ steep_empty threshold value axis r empty = steep_none threshold value axis r (λ
     apart : true ≡ false → ⊥
     apart e = cc
 
--- what the values of a line say of the steepness of a cell of it
-line_steep : (threshold : ℕ) (value : Cell → ℕ) (axis : Axis) (from : Cell) (first second : List ℕ) (k : ℕ) (t : Bool) → AreAlong value axis from first second → k < length first → differs_by threshold (slice_index first k) (slice_index second k) ≡ t → is_steep threshold value axis (ahead from k) ≡ t
-line_steep threshold value axis from first second k t along inside h =
+-- what the values of a row of pairs say of the steepness of a cell of it
+pair_steep : (threshold : ℕ) (value : Cell → ℕ) (axis : Axis) (from : Cell) (first second : List ℕ) (k : ℕ) (t : Bool) → AreAlong value axis from first second → k < length first → differs_by threshold (slice_index first k) (slice_index second k) ≡ t → is_steep threshold value axis (ahead from k) ≡ t
+pair_steep threshold value axis from first second k t along inside h =
     sym (λ i. differs_by threshold (along.firsts k inside i) (along.seconds k inside i)) ∙ h
 
 stretch_steep : (threshold : ℕ) (value : Cell → ℕ) (axis : Axis) (from : Cell) (first second : List ℕ) (a n : ℕ) (t : Bool) → AreAlong value axis from first second → a + n ≤ length first → ((k : ℕ) → a ≤ k → k < a + n → differs_by threshold (slice_index first k) (slice_index second k) ≡ t) → (c : Cell) → holds (region (ahead from a) n 1) c ≡ true → is_steep threshold value axis c ≡ t
 stretch_steep threshold value axis from first second a n t along fits all c h =
     let place = ahead_of from a n c h in
-    ap (is_steep threshold value axis) place.is ∙ line_steep threshold value axis from first second place.k t along (below place.k (a + n) (length first) place.to_n fits) (all place.k place.from_a place.to_n)
+    ap (is_steep threshold value axis) place.is ∙ pair_steep threshold value axis from first second place.k t along (below place.k (a + n) (length first) place.to_n fits) (all place.k place.from_a place.to_n)
   where
     below : (k m n : ℕ) → k < m → m ≤ n → k < n
     below k m n h g = omega arith
@@ -81,7 +81,7 @@ steep_stretch threshold value axis from first second start end along order fits 
     wide : (z : ℤ) (n : ℕ) → 1 ≤ n → z ≤ℤ (z +ℤ pos n -ℤ pos 1)
     wide z n h = omega (arith, ints)
 
--- the pairs of a line from `done` on: none is steep up to `start`, and then each up to `end`
+-- the pairs of a row from `done` on: none is steep up to `start`, and then each up to `end`
 pub next_stretch : (threshold : ℕ) (value : Cell → ℕ) (axis : Axis) (from : Cell) (first second : List ℕ) (done start end : ℕ) → AreAlong value axis from first second → done ≤ start → start < end → end ≤ length first → ((k : ℕ) → done ≤ k → k < start → differs_by threshold (slice_index first k) (slice_index second k) ≡ false) → ((k : ℕ) → start ≤ k → k < end → differs_by threshold (slice_index first k) (slice_index second k) ≡ true) → (c : Cell) → in_steep_pair threshold value axis (region (ahead from done) (end - done) 1) c ≡ holds (with_after axis (region (ahead from start) (end - start) 1)) c
 next_stretch threshold value axis from first second done start end along order some fits even steep c =
     let even_part = even_stretch threshold value axis from first second done start along order (omega arith) even c in

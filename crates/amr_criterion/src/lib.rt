@@ -6,7 +6,7 @@
 
 mod firsts;
 mod level;
-mod lines;
+mod pair_rows;
 mod patches;
 
 pub use level::tags;

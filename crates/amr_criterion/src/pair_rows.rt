@@ -1,4 +1,4 @@
-//! Tags along a line of pairs of neighbours, span by span.
+//! Tags along a row of pairs of neighbours, span by span.
 
 ghost use Rattle.std.specs.Prelude.{◌≡◌, true, false, ℕ, ◌-◌, ◌<◌, ◌≤◌, ◌&&◌, length, slice_index};
 ghost use Rattle.amr_box.specs.declared.Cell.{Cell};
@@ -9,10 +9,10 @@ ghost use Rattle.amr_criterion.specs.Pairs.{AreAlong, IsBelow, IsJoined, after, 
 use amr_box::{Axis, Bx, Cell};
 use amr_tags::Tags;
 
-/// A line of pairs of neighbours. Their first cells go along a row, from the low end on. The second cell of each lies
+/// A row of pairs of neighbours. Their first cells go along a row, from the low end on. The second cell of each lies
 /// beside the first along the axis. Only cells of `part` are tagged.
 #[derive(Clone, Copy, Debug)]
-pub(crate) struct Line {
+pub(crate) struct PairRow {
     pub(crate) axis: Axis,
     pub(crate) from: Cell,
     pub(crate) part: Bx,
@@ -38,7 +38,7 @@ fn differs_by(threshold: u64, a: u32, b: u32) -> bool
     threshold <= u64::from(a.abs_diff(b))
 }
 
-/// The first place from `from` on where the values of a pair differ by the threshold or more, and the end of the line where
+/// The first place from `from` on where the values of a pair differ by the threshold or more, and the end of the row where
 /// there is none.
 fn next_steep(threshold: u64, first: &[u32], second: &[u32], from: usize) -> usize
     requires same { length second.now ≡ length first.now }
@@ -56,7 +56,7 @@ fn next_steep(threshold: u64, first: &[u32], second: &[u32], from: usize) -> usi
     first.len()
 }
 
-/// The first place from `from` on where the values of a pair differ by less than the threshold, and the end of the line where
+/// The first place from `from` on where the values of a pair differ by less than the threshold, and the end of the row where
 /// there is none.
 fn next_even(threshold: u64, first: &[u32], second: &[u32], from: usize) -> usize
     requires same { length second.now ≡ length first.now }
@@ -74,22 +74,22 @@ fn next_even(threshold: u64, first: &[u32], second: &[u32], from: usize) -> usiz
 }
 
 /// Tags both cells of the pairs from `start` to before `end`, as far as they lie in the part.
-fn tag_span(tags: &mut Tags, line: &Line, start: usize, end: usize)
+fn tag_span(tags: &mut Tags, pairs: &PairRow, start: usize, end: usize)
     requires some { start < end }
     requires small { end ≤ 67108864 }
-    requires room { IsBelow 536870912 line.now.from }
-    ensures { IsJoined (λ c. holds line.now.part c && holds (with_after line.now.axis (region (ahead line.now.from start) (end - start) 1)) c) tags.old tags.new }
+    requires room { IsBelow 536870912 pairs.now.from }
+    ensures { IsJoined (λ c. holds pairs.now.part c && holds (with_after pairs.now.axis (region (ahead pairs.now.from start) (end - start) 1)) c) tags.old tags.new }
 {
     let low = Cell {
-        x: line.from.x + start as i32,
-        y: line.from.y,
+        x: pairs.from.x + start as i32,
+        y: pairs.from.y,
     };
     let last = Cell {
-        x: line.from.x + (end - 1) as i32,
-        y: line.from.y,
+        x: pairs.from.x + (end - 1) as i32,
+        y: pairs.from.y,
     };
-    let both = Bx::try_new(low, after(line.axis, last)).unwrap();
-    match line.part.meet(&both) {
+    let both = Bx::try_new(low, after(pairs.axis, last)).unwrap();
+    match pairs.part.meet(&both) {
         None => {}
         Some(here) => tags.set_in(here),
     }
@@ -97,34 +97,34 @@ fn tag_span(tags: &mut Tags, line: &Line, start: usize, end: usize)
 
 /// Tags the cells of the next pairs from `done` on whose values differ by the threshold or more, as many of them as follow one
 /// another. Answers where they end.
-fn tag_next(tags: &mut Tags, line: &Line, first: &[u32], second: &[u32], done: usize) -> usize
+fn tag_next(tags: &mut Tags, pairs: &PairRow, first: &[u32], second: &[u32], done: usize) -> usize
     requires same { length second.now ≡ length first.now }
     requires more { done < length first.now }
     requires small { length first.now ≤ 67108864 }
-    requires room { IsBelow 536870912 line.now.from }
+    requires room { IsBelow 536870912 pairs.now.from }
     ensures order { done < result }
     ensures within { result ≤ length first.now }
-    ensures joined { (value : Cell → ℕ) → AreAlong value line.now.axis line.now.from first.now second.now → IsJoined (λ c. holds line.now.part c && in_steep_pair line.now.threshold value line.now.axis (region (ahead line.now.from done) (result - done) 1) c) tags.old tags.new }
+    ensures joined { (value : Cell → ℕ) → AreAlong value pairs.now.axis pairs.now.from first.now second.now → IsJoined (λ c. holds pairs.now.part c && in_steep_pair pairs.now.threshold value pairs.now.axis (region (ahead pairs.now.from done) (result - done) 1) c) tags.old tags.new }
 {
-    let start = next_steep(line.threshold, first, second, done);
+    let start = next_steep(pairs.threshold, first, second, done);
     if start == first.len() {
         return start;
     }
-    let end = next_even(line.threshold, first, second, start + 1);
-    tag_span(tags, line, start, end);
+    let end = next_even(pairs.threshold, first, second, start + 1);
+    tag_span(tags, pairs, start, end);
     end
 }
 
-/// Tags the cells of the pairs of a line whose values differ by the threshold or more. The values of the first cells and those
-/// of the second cells are given, in the order of the line.
-pub(crate) fn tag_line(tags: &mut Tags, line: &Line, first: &[u32], second: &[u32])
+/// Tags the cells of the pairs of a row whose values differ by the threshold or more. The values of the first cells and those
+/// of the second cells are given, in the order of the row.
+pub(crate) fn tag_pairs(tags: &mut Tags, pairs: &PairRow, first: &[u32], second: &[u32])
     requires same { length second.now ≡ length first.now }
     requires small { length first.now ≤ 67108864 }
-    requires room { IsBelow 536870912 line.now.from }
-    ensures { (value : Cell → ℕ) → AreAlong value line.now.axis line.now.from first.now second.now → IsJoined (λ c. holds line.now.part c && in_steep_pair line.now.threshold value line.now.axis (region line.now.from (length first.now) 1) c) tags.old tags.new }
+    requires room { IsBelow 536870912 pairs.now.from }
+    ensures { (value : Cell → ℕ) → AreAlong value pairs.now.axis pairs.now.from first.now second.now → IsJoined (λ c. holds pairs.now.part c && in_steep_pair pairs.now.threshold value pairs.now.axis (region pairs.now.from (length first.now) 1) c) tags.old tags.new }
 {
     let mut done = 0;
     while done < first.len() {
-        done = tag_next(tags, line, first, second, done);
+        done = tag_next(tags, pairs, first, second, done);
     }
 }

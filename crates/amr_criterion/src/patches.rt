@@ -11,7 +11,7 @@ ghost use Rattle.amr_criterion.specs.Pairs.{IsJoined, in_steep_pair, region};
 ghost use Rattle.amr_criterion.specs.Tagged.{AreReached, IsRowOf, is_tagged_in};
 
 use crate::firsts::{Firsts, across, upward};
-use crate::lines::{Line, after, tag_line};
+use crate::pair_rows::{PairRow, after, tag_pairs};
 use amr_box::{Bx, Cell, distance};
 use amr_def::Dom;
 use amr_patch::Patch;
@@ -61,7 +61,7 @@ fn tag_row(tags: &mut Tags, patch: &Patch, threshold: u64, firsts: &Firsts, k: u
         x: firsts.from.x,
         y: above(firsts.from.y, k),
     };
-    let line = Line {
+    let pairs = PairRow {
         axis: firsts.axis,
         from,
         part: bx,
@@ -69,7 +69,7 @@ fn tag_row(tags: &mut Tags, patch: &Patch, threshold: u64, firsts: &Firsts, k: u
     };
     let first = values_from(patch, from, firsts.columns);
     let second = values_from(patch, after(firsts.axis, from), firsts.columns);
-    tag_line(tags, &line, first, second);
+    tag_pairs(tags, &pairs, first, second);
 }
 
 /// Tags the cells of all pairs along an axis whose values differ by the threshold or more.

@@ -36,13 +36,13 @@ values_from-second-requires c =
     let y : to_z w32 (of_z w32 c.above.result) ≡ f.from.y +ℤ pos c.args.k = omega (arith, ints, c.above.ensures) in
     subst (λ (q : Cell). IsRowOf (box c.args.patch.now) q f.columns) (sym (c.after.ensures ∙ (λ i. after f.axis (cell (x i) (y i))))) (c.requires.reached.seconds c.args.k c.requires.inside)
 
-pub tag_line-requires-clause-small : goal.tag_line-requires-clause-small
-tag_line-requires-clause-small c =
+pub tag_pairs-requires-clause-small : goal.tag_pairs-requires-clause-small
+tag_pairs-requires-clause-small c =
     let r = c.requires.reached.firsts c.args.k c.requires.inside in
     omega (arith, ints, c.values_from-first.ensures.count, r.west, r.east, c.bx-bx.ensures.near.west, c.bx-bx.ensures.near.east)
 
-pub tag_line-requires-clause-room : goal.tag_line-requires-clause-room
-tag_line-requires-clause-room c =
+pub tag_pairs-requires-clause-room : goal.tag_pairs-requires-clause-room
+tag_pairs-requires-clause-room c =
     let r = c.requires.reached.firsts c.args.k c.requires.inside in
     record { x = omega (arith, ints, r.east, c.bx-bx.ensures.near.east); y = omega (arith, ints, r.north, c.above.ensures, c.bx-bx.ensures.near.north) }
 
@@ -58,7 +58,7 @@ returns c =
       firsts = λ k h. c.values_from-first.ensures.values k (omega (arith, h, c.values_from-first.ensures.count));
       seconds = λ k h. c.values_from-second.ensures.values k (omega (arith, h, c.values_from-first.ensures.count)) ∙ ap (value_in q) (ap (λ (a : Cell). ahead a k) c.after.ensures ∙ after_ahead f.axis from k);
     } in
-    subst (λ (b : Extent). IsJoined (λ d. holds b d && in_steep_pair t (value_in q) f.axis (region (cell f.from.x (f.from.y +ℤ pos c.args.k)) f.columns 1) d) c.args.tags.now c.tag_line.new.tags) c.bx-bx.ensures.value
-    (subst (λ (n : ℕ). IsJoined (λ d. holds c.bx-bx.result d && in_steep_pair t (value_in q) f.axis (region (cell f.from.x (f.from.y +ℤ pos c.args.k)) n 1) d) c.args.tags.now c.tag_line.new.tags) c.values_from-first.ensures.count
-    (subst (λ (a : Cell). IsJoined (λ d. holds c.bx-bx.result d && in_steep_pair t (value_in q) f.axis (region a (length c.values_from-first.result.now) 1) d) c.args.tags.now c.tag_line.new.tags) (λ i. cell (x i) (y i))
-    (c.tag_line.ensures (value_in q) along)))
+    subst (λ (b : Extent). IsJoined (λ d. holds b d && in_steep_pair t (value_in q) f.axis (region (cell f.from.x (f.from.y +ℤ pos c.args.k)) f.columns 1) d) c.args.tags.now c.tag_pairs.new.tags) c.bx-bx.ensures.value
+    (subst (λ (n : ℕ). IsJoined (λ d. holds c.bx-bx.result d && in_steep_pair t (value_in q) f.axis (region (cell f.from.x (f.from.y +ℤ pos c.args.k)) n 1) d) c.args.tags.now c.tag_pairs.new.tags) c.values_from-first.ensures.count
+    (subst (λ (a : Cell). IsJoined (λ d. holds c.bx-bx.result d && in_steep_pair t (value_in q) f.axis (region a (length c.values_from-first.result.now) 1) d) c.args.tags.now c.tag_pairs.new.tags) (λ i. cell (x i) (y i))
+    (c.tag_pairs.ensures (value_in q) along)))
