@@ -14,7 +14,7 @@ use Rattle.amr_problem.specs.Fields.{IsOfEntries}
 use Rattle.amr_problem.specs.Judgement.{HasKeys}
 use Rattle.amr_problem.proofs.EntryLaws.{same_ranges}
 use Rattle.amr_problem.proofs.FirstSome.{first_some-cons}
-use Rattle.amr_problem.proofs.ValueLaws.{shear_at-lines}
+use Rattle.amr_problem.proofs.ValueLaws.{shear_at-for_each}
 
 -- ---- the first key of another kind
 
@@ -53,8 +53,8 @@ fault_in-entries table e absent kinds r =
 
 pub has_shears : (table : Members) (e : Entries) → IsReadOf table e → HasShears e.basics.nx e.basics.ny e.overlay
 has_shears table e r = record {
-  rows = shear_at-lines e.basics.ny table _ _ r.overlay.shear_x;
-  columns = shear_at-lines e.basics.nx table _ _ r.overlay.shear_y;
+  rows = shear_at-for_each e.basics.ny table _ _ r.overlay.shear_x;
+  columns = shear_at-for_each e.basics.nx table _ _ r.overlay.shear_y;
 }
 
 -- the sides of both axes

@@ -15,7 +15,7 @@ use Rattle.amr_problem.specs.declared.key.Key.TheVariants.{Blocks}
 use Rattle.amr_problem.specs.Keys.{ranges_of, range, coordinate, threshold, courant_number, blocking_factor, is_even, holds, first_outside}
 use Rattle.amr_problem.specs.Fields.{sides_numbers, block_numbers, AreValues}
 use Rattle.amr_problem.specs.Faults.{over_by, is_periodic, differ, sides_differ, is_inside, tag_count, fits, blocking_misfit}
-use Rattle.amr_problem.specs.Entries.{IsSide, is_for_lines, HasShears, IsClean}
+use Rattle.amr_problem.specs.Entries.{IsSide, is_for_each, HasShears, IsClean}
 use Rattle.amr_problem.proofs.FirstSome.{option_map-none}
 use Rattle.amr_problem.proofs.RangeLaws.{holds-IsIn, first_outside-none}
 use Rattle.amr_problem.proofs.EntryLaws.{size_within}
@@ -49,13 +49,13 @@ in_use_within c (z ∷ zs) one all = sizes_within (z ∷ zs) all
 same_pos : (m n : ℕ) → int_eq (pos m) (pos n) ≡ true → m ≡ n
 same_pos m n h = let same : pos m ≡ pos n = (Decides-int_eq (pos m) (pos n)).0 h in omega (arith, ints)
 
--- a shear of none, or of one number for each line, in their range
-shear_fits : (n : ℕ) (zs : List ℤ) → is_for_lines (pos n) zs ≡ true → list_all (holds courant_number) zs ≡ true → is_shear n zs ≡ true
-shear_fits n zs lines inside =
+-- a shear of none, or of one number for each row or column, in their range
+shear_fits : (n : ℕ) (zs : List ℤ) → is_for_each (pos n) zs ≡ true → list_all (holds courant_number) zs ≡ true → is_shear n zs ≡ true
+shear_fits n zs each inside =
     rw (le-leb (greatest_size zs) 1024 (sizes_within zs inside))
     (elim (cases_Bool (length zs == 0)) [
       | inl none ↦ rw none refl
-      | inr some ↦ let many : length zs ≡ n = same_pos (length zs) n (rw some at lines) in rw (some, eq-eqb (length zs) n many) refl
+      | inr some ↦ let many : length zs ≡ n = same_pos (length zs) n (rw some at each) in rw (some, eq-eqb (length zs) n many) refl
     ])
 
 -- thresholds in their range

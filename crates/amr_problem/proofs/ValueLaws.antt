@@ -10,7 +10,7 @@ use Rattle.toml.specs.declared.value.Value.{Value}
 use Rattle.toml.proofs.Views.{items_view-drop}
 use Rattle.amr_problem.specs.declared.key.Key.{Key}
 use Rattle.amr_problem.specs.Values.{◌>>=◌, count, integers, numbers_in, shear_in, shear_written, shear_at, written_at}
-use Rattle.amr_problem.specs.Entries.{is_for_lines}
+use Rattle.amr_problem.specs.Entries.{is_for_each}
 
 pub count_view : (vs : List Value) → count (items_view vs) ≡ length vs
 count_view [] = refl
@@ -59,7 +59,7 @@ numbers_in_whole many vs same = rw (count_view vs, eq-eqb (length vs) many same)
 pub numbers_in_other : (many : ℕ) (vs : List Value) → length vs ≢ many → numbers_in many (items_view vs) ≡ None
 numbers_in_other many vs other = rw (count_view vs, ne_eqb (length vs) many other)
 
--- ---- one for each of so many lines
+-- ---- one for each of so many rows or columns
 
 -- as many integers are read as there are items
 length-integers : (items : Items) (zs : List ℤ) → integers items ≡ Some zs → length zs ≡ count items
@@ -71,8 +71,8 @@ length-integers (item d rest) zs h = length-read (as_integer d) (integers rest) 
     length-read (Some z) None zs n rest h = absurd (cc)
     length-read (Some z) (Some ys) zs n rest h = let same = same_Some (z ∷ ys) zs h in ap length (sym same) ∙ omega (arith, rest ys refl)
 
-shear_in-lines : (many : ℤ) (items : Items) (zs : List ℤ) → shear_in many items ≡ Some zs → is_for_lines many zs ≡ true
-shear_in-lines many items zs h =
+shear_in-for_each : (many : ℤ) (items : Items) (zs : List ℤ) → shear_in many items ≡ Some zs → is_for_each many zs ≡ true
+shear_in-for_each many items zs h =
     elim (cases_Bool (int_eq (pos (count items)) many)) [
       | inl same ↦
           let read : integers items ≡ Some zs = rw same at h in
@@ -81,15 +81,15 @@ shear_in-lines many items zs h =
       | inr other ↦ absurd (let e = rw other at h in cc)
     ]
 
-shear_of-lines : (many : ℤ) (d : Option Items) (zs : List ℤ) → d >>= shear_in many ≡ Some zs → is_for_lines many zs ≡ true
-shear_of-lines many None zs h = absurd (cc)
-shear_of-lines many (Some items) zs h = shear_in-lines many items zs h
+shear_of-for_each : (many : ℤ) (d : Option Items) (zs : List ℤ) → d >>= shear_in many ≡ Some zs → is_for_each many zs ≡ true
+shear_of-for_each many None zs h = absurd (cc)
+shear_of-for_each many (Some items) zs h = shear_in-for_each many items zs h
 
-shear_written-lines : (many : ℤ) (d : Option Data) (zs : List ℤ) → shear_written many d ≡ Some zs → is_for_lines many zs ≡ true
-shear_written-lines many None zs h = let same = same_Some [] zs h in rw (← same) refl
-shear_written-lines many (Some d) zs h = shear_of-lines many (as_array d) zs h
+shear_written-for_each : (many : ℤ) (d : Option Data) (zs : List ℤ) → shear_written many d ≡ Some zs → is_for_each many zs ≡ true
+shear_written-for_each many None zs h = let same = same_Some [] zs h in rw (← same) refl
+shear_written-for_each many (Some d) zs h = shear_of-for_each many (as_array d) zs h
 
--- a shear has no numbers, or one for each line
-pub shear_at-lines : (many : ℤ) (table : Members) (key : Key) (zs : List ℤ) → shear_at many table key ≡ Some zs → is_for_lines many zs ≡ true
+-- a shear has no numbers, or one for each row or column
+pub shear_at-for_each : (many : ℤ) (table : Members) (key : Key) (zs : List ℤ) → shear_at many table key ≡ Some zs → is_for_each many zs ≡ true
 unfolding shear_at
-shear_at-lines many table key zs h = shear_written-lines many (written_at table key) zs h
+shear_at-for_each many table key zs h = shear_written-for_each many (written_at table key) zs h

@@ -168,13 +168,13 @@ pub record IsInRange (e : Entries) : Type 0 where
 
 -- ---- entries without a fault
 
--- none, or one for each of so many lines
-abbrev pub is_for_lines : ℤ → List ℤ → Bool
-is_for_lines many zs = (length zs == 0) || int_eq (pos (length zs)) many
+-- none, or one for each of so many rows or columns
+abbrev pub is_for_each : ℤ → List ℤ → Bool
+is_for_each many zs = (length zs == 0) || int_eq (pos (length zs)) many
 
 pub record HasShears (nx ny : ℤ) (o : Overlay) : Type 0 where
-  pub rows : is_for_lines ny o.shear_x.items ≡ true
-  pub columns : is_for_lines nx o.shear_y.items ≡ true
+  pub rows : is_for_each ny o.shear_x.items ≡ true
+  pub columns : is_for_each nx o.shear_y.items ≡ true
 
 -- the entries have no fault from their ranges on
 pub record IsClean (e : Entries) : Type 0 where

@@ -14,7 +14,7 @@ use Rattle.amr_problem.specs.declared.key.Key.{Key}
 use Rattle.amr_problem.specs.declared.key.Key.TheVariants.{Version, Cells, Courant, Sides, MaxLevel, Tag, Blocks, ShearX, ShearY, Blocking}
 use Rattle.amr_problem.specs.declared.range.Range.{Range}
 use Rattle.amr_problem.specs.Document.{document, table_of}
-use Rattle.amr_problem.specs.Keys.{Kind, number, text, numbers, list, lines, rows, kind_of, keys, is_known, holds, first_outside, first_beyond}
+use Rattle.amr_problem.specs.Keys.{Kind, number, text, numbers, list, shear, rows, kind_of, keys, is_known, holds, first_outside, first_beyond}
 use Rattle.amr_problem.specs.Values.{◌>>=◌, is_there, number_at, text_at, numbers_at, integers_at, shear_at, rows_at}
 
 -- the first that is some
@@ -54,21 +54,21 @@ unknown_key table = option_map UnknownKey (find (λ key. not (is_known (version_
 abbrev pub missing_key : Members → Option ProblemFault
 missing_key table = option_map Missing (find (λ key. not (is_there table key)) keys)
 
--- how many lines of level 0 lie along an axis, by its columns and rows
-abbrev pub line_count : Axis → List ℤ → Option ℤ
-line_count X (nx ∷ ny ∷ []) = Some ny
-line_count Y (nx ∷ ny ∷ []) = Some nx
-line_count _ _ = None
+-- how many numbers a shear of an axis has, by the columns and rows of level 0
+abbrev pub shear_count : Axis → List ℤ → Option ℤ
+shear_count X (nx ∷ ny ∷ []) = Some ny
+shear_count Y (nx ∷ ny ∷ []) = Some nx
+shear_count _ _ = None
 
 abbrev pub shear_along : Axis → Members → Key → Option (List ℤ)
-shear_along axis table key = numbers_at 2 table Cells >>= line_count axis >>= (λ count. shear_at count table key)
+shear_along axis table key = numbers_at 2 table Cells >>= shear_count axis >>= (λ count. shear_at count table key)
 
 abbrev pub is_read : Members → Key → Kind → Bool
 is_read table key (number r) = is_some (number_at table key)
 is_read table key (text r) = is_some (text_at table key)
 is_read table key (numbers rs) = is_some (numbers_at (length rs) table key)
 is_read table key (list r) = is_some (integers_at table key)
-is_read table key (lines axis r) = is_some (shear_along axis table key)
+is_read table key (shear axis r) = is_some (shear_along axis table key)
 is_read table key (rows most rs) = is_some (rows_at (length rs) table key)
 
 -- 5: a value is of another kind
@@ -91,7 +91,7 @@ outside table key (number r) = number_at table key >>= (λ z. first_outside (r �
 outside table key (text r) = text_at table key >>= text_outside r
 outside table key (numbers rs) = numbers_at (length rs) table key >>= first_outside rs
 outside table key (list r) = integers_at table key >>= first_beyond r
-outside table key (lines axis r) = shear_along axis table key >>= first_beyond r
+outside table key (shear axis r) = shear_along axis table key >>= first_beyond r
 outside table key (rows most rs) = rows_at (length rs) table key >>= rows_outside most rs
 
 abbrev pub key_outside : Members → Key → Option ProblemFault

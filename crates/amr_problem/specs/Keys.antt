@@ -26,8 +26,8 @@ pub data Kind : Type 0 where
   numbers : List Range → Kind
   -- an array of any number of integers, each of the range
   list : Range → Kind
-  -- an array of integers of the range, one for each line of level 0 along the axis: for x its rows, for y its columns
-  lines : Axis → Range → Kind
+  -- an array of integers of the range, one for each row of level 0 (on the x axis) or each column (on y)
+  shear : Axis → Range → Kind
   -- an array of at most so many arrays of integers, each with one for each range
   rows : ℕ → List Range → Kind
 
@@ -89,8 +89,8 @@ row_of MinWidth = row (codes "min_width") (number (range (pos 1) (pos 16))) (Num
 row_of RegridInt = row (codes "regrid_int") (number (range (pos 1) (pos 4096))) (Number (pos 2))
 row_of MaxGridSize = row (codes "max_grid_size") (number (even_range (pos 4) (pos 256))) (Number (pos 32))
 row_of Blocks = row (codes "blocks") (rows 256 (coordinate ∷ coordinate ∷ coordinate ∷ coordinate ∷ range (pos 0) (pos 1073741824) ∷ [])) Required
-row_of ShearX = row_2 (codes "shear_x") (lines axis.X courant_number) Empty
-row_of ShearY = row_2 (codes "shear_y") (lines axis.Y courant_number) Empty
+row_of ShearX = row_2 (codes "shear_x") (shear axis.X courant_number) Empty
+row_of ShearY = row_2 (codes "shear_y") (shear axis.Y courant_number) Empty
 row_of Blocking = row_2 (codes "blocking") (number blocking_factor) (Number (pos 2))
 
 -- every key, in the table's order
@@ -122,7 +122,7 @@ ranges_in (number r) = r ∷ []
 ranges_in (text r) = r ∷ []
 ranges_in (numbers rs) = rs
 ranges_in (list r) = r ∷ []
-ranges_in (lines a r) = r ∷ []
+ranges_in (shear a r) = r ∷ []
 ranges_in (rows most rs) = rs
 
 abbrev pub ranges_of : Key → List Range

@@ -31,7 +31,7 @@ numbers_of many d = as_array d >>= numbers_in many
 abbrev pub integers_of : Data → Option (List ℤ)
 integers_of d = as_array d >>= integers
 
--- the integers of an array that has one for each line
+-- the integers of an array that has exactly so many
 abbrev pub shear_in : ℤ → Items → Option (List ℤ)
 shear_in many items = if int_eq (pos (count items)) many then integers items else None
 
@@ -79,6 +79,6 @@ abbrev pub shear_written : ℤ → Option Data → Option (List ℤ)
 shear_written many None = Some []
 shear_written many (Some d) = shear_of many d
 
--- one number for each of so many lines, or none at all where the key is absent
+-- one number for each of so many rows or columns, or none at all where the key is absent
 unfoldable pub shear_at : ℤ → Members → Key → Option (List ℤ)
 shear_at many table key = shear_written many (written_at table key)

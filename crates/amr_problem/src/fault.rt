@@ -16,7 +16,7 @@ pub enum ProblemFault {
     UnknownKey(KeyText),
     /// A key is absent that has to be there.
     Missing(Key),
-    /// A value isn't of its key's kind. A shear that hasn't one number for each line of level 0 isn't.
+    /// A value isn't of its key's kind. A shear that hasn't one number for each row or column of level 0 isn't.
     WrongKind(Key),
     /// A number of a value is out of its range: that number, the length of a text in bytes, or how many rows there are.
     OutOfRange(Key, i64),

@@ -54,18 +54,18 @@ pub fn integers_at(alloc: Global, table: &Table, key: Key) -> Result<Option<Vec<
     }
 }
 
-/// One number for each of so many lines, or none at all where the key is absent.
+/// One number for each of so many rows or columns, or none at all where the key is absent.
 #[tactic(auto, unfolding(crate::specs::Values::shear_at))]
 pub fn shear_at(
     alloc: Global,
     table: &Table,
     key: Key,
-    lines: i64,
+    many: i64,
 ) -> Result<Option<Vec<i64>>, AllocError>
-    ensures { IfOk result (λ o. option_map (λ v. v.items) o ≡ shear_at lines (table_view table.now) key) }
+    ensures { IfOk result (λ o. option_map (λ v. v.items) o ≡ shear_at many (table_view table.now) key) }
 {
     match written_at(table, key) {
-        Some(value) => shear_of(alloc, value, lines),
+        Some(value) => shear_of(alloc, value, many),
         None => Ok(Some(Vec::new(alloc))),
     }
 }

@@ -52,11 +52,11 @@ fn has_count(items: &[Value], many: i64) -> bool
     count == many
 }
 
-/// The integers of an array that has as many as there are lines, and nothing else.
-pub fn shear_in(alloc: Global, items: &[Value], lines: i64) -> Result<Option<Vec<i64>>, AllocError>
-    ensures { IfOk result (λ o. option_map (λ v. v.items) o ≡ shear_in lines (items_view items.now)) }
+/// The integers of an array that has exactly so many, and nothing else.
+pub fn shear_in(alloc: Global, items: &[Value], many: i64) -> Result<Option<Vec<i64>>, AllocError>
+    ensures { IfOk result (λ o. option_map (λ v. v.items) o ≡ shear_in many (items_view items.now)) }
 {
-    if has_count(items, lines) {
+    if has_count(items, many) {
         integers_in(alloc, items)
     } else {
         Ok(None)
@@ -113,12 +113,12 @@ pub fn integers_of(alloc: Global, value: &Value) -> Result<Option<Vec<i64>>, All
     }
 }
 
-/// The integers of a value that is an array of as many as there are lines.
-pub fn shear_of(alloc: Global, value: &Value, lines: i64) -> Result<Option<Vec<i64>>, AllocError>
-    ensures { IfOk result (λ o. option_map (λ v. v.items) o ≡ shear_of lines (view value.now)) }
+/// The integers of a value that is an array of exactly so many.
+pub fn shear_of(alloc: Global, value: &Value, many: i64) -> Result<Option<Vec<i64>>, AllocError>
+    ensures { IfOk result (λ o. option_map (λ v. v.items) o ≡ shear_of many (view value.now)) }
 {
     match value.as_array() {
-        Some(items) => shear_in(alloc, items, lines),
+        Some(items) => shear_in(alloc, items, many),
         None => Ok(None),
     }
 }
