@@ -1,12 +1,9 @@
 //! Whole texts, worked out by another program from the generator's three lines, and a line with the digest that another program
 //! made of the plot.
 
-ghost use Rattle.std.specs.Prelude.{◌≡◌, IfOk};
-
 use crate::{summary, text};
-use amr_def::{Block, Blocks, Name, Problem, Shear, Sides, Thresholds};
-use amr_start::start;
-use std::alloc::Global;
+use amr_problem::judge;
+use amr_start::base;
 use std::test::Fail;
 
 #[test]
@@ -45,65 +42,23 @@ fn text_of_greatest(rt: HostRuntime) -> Result<(), Fail> {
     Ok(())
 }
 
-/// The blocks of the problem below.
-const BLOCKS: [Block; 3] = [
-    Block {
-        x0: 1,
-        y0: 0,
-        x1: 4,
-        y1: 1,
-        mass: 7,
-    },
-    Block {
-        x0: 4,
-        y0: 1,
-        x1: 30,
-        y1: 4,
-        mass: 30_000,
-    },
-    Block {
-        x0: 20,
-        y0: 10,
-        x1: 47,
-        y1: 39,
-        mass: 1_234_567,
-    },
-];
-
 /// A problem of one level, of 48 by 40 cells in patches of 16 by 16, whose plot goes to a sink in three chunks.
-fn problem(alloc: Global) -> Result<Problem, Fail>
-    ensures { IfOk result (λ p. p.max_level ≡ 0) }
-{
-    Ok(Problem {
-        version: 1,
-        name: Name::make(Vec::from_slice(alloc, b"digest")?),
-        nx: 48,
-        ny: 40,
-        steps: 2,
-        cx: 1,
-        cy: 0,
-        d: 2,
-        shear_x: Shear::make(Vec::new(alloc)),
-        shear_y: Shear::make(Vec::new(alloc)),
-        x_sides: Sides::Open(9, 0),
-        y_sides: Sides::Periodic,
-        max_level: 0,
-        tag: Thresholds::make(Vec::new(alloc)),
-        n_error_buf: 0,
-        efficiency: 80,
-        min_width: 1,
-        regrid_int: 4096,
-        blocking: 2,
-        max_grid_size: 16,
-        blocks: Blocks::make(Vec::from_slice(alloc, BLOCKS.as_slice())?),
-    })
-}
+const PROBLEM: &str = "version = 1
+name = \"digest\"
+cells = [48, 40]
+steps = 2
+courant = [1, 0, 2]
+sides = [9, 0, -1, -1]
+max_level = 0
+max_grid_size = 16
+blocks = [[1, 0, 4, 1, 7], [4, 1, 30, 4, 30000], [20, 10, 47, 39, 1234567]]
+";
 
 #[test]
 fn line_of_a_start(rt: HostRuntime) -> Result<(), Fail> {
     let alloc = rt.alloc();
-    let p = problem(alloc)?;
-    let mesh = start(alloc, &p)?;
+    let p = judge(alloc, PROBLEM.as_bytes())?;
+    let mesh = base(alloc, &p)?;
     let line = summary(alloc, 7, 64, &p, &mesh)?;
     let expected =
         "trial 7 64 step 0 levels 1 boxes 1 mass 1040276329 sha256 23619d7c516ecc6bda7d2d356244005be5ac60d58e0ba2fc04d6495306825515\n";
