@@ -1,7 +1,6 @@
 -- Lists with one element more at their end.
-use Rattle.std.proofs.Common.{◌≡◌, ℕ, zero, suc, ◌+◌, ◌≤◌, ◌^◌, ◌/◌, ◌*◌, List, [], ◌∷◌, ◌++◌, length, refl, ap, ◌∙◌, arith}
+use Rattle.std.proofs.Common.{◌≡◌, zero, suc, ◌+◌, List, [], ◌∷◌, ◌++◌, length, refl, arith}
 use Rattle.std.specs.List.{All}
-use Rattle.std.proofs.Math.Nat.{pow-suc}
 
 module _ {X : Type 0} (Q : X → Type 0) where
   pub all_init : (xs : List X) (x : X) → All Q (xs ++ x ∷ []) → All Q xs
@@ -22,17 +21,3 @@ module _ {X : Type 0} (Q : X → Type 0) where
 pub longer : {X : Type 0} (xs : List X) (x : X) → length (xs ++ x ∷ []) ≡ 1 + length xs
 longer [] x = refl
 longer (y ∷ ys) x = let r = longer ys x in omega arith
-
-pow_one : (n : ℕ) → 1 ≤ 2 ^ n
-pow_one zero = omega arith
-pow_one (suc n) = let r = pow_one n in let e : 2 ^ suc n ≡ 2 ^ n * 2 = pow-suc 2 n in omega arith
-
-halves : (n m s : ℕ) → m ≡ suc n → 2 ^ m ≤ s → (2 ^ n ≤ s) × (2 ≤ s) × (2 ^ n ≤ s / 2)
-halves n m s is le =
-    let p : 2 ^ m ≡ 2 ^ n * 2 = ap (λ (k : ℕ). 2 ^ k) is ∙ pow-suc 2 n in
-    let one = pow_one n in
-    (omega arith, omega arith, omega arith)
-
--- a share that is enough for these is enough without the last, and after a half is given away
-pub enough : {X : Type 0} (xs ys : List X) (x : X) (s : ℕ) → ys ≡ xs ++ x ∷ [] → 2 ^ length ys ≤ s → (2 ^ length xs ≤ s) × (2 ≤ s) × (2 ^ length xs ≤ s / 2)
-enough xs ys x s is le = halves (length xs) (length ys) s (let e : length ys ≡ 1 + length xs = ap length is ∙ longer xs x in omega arith) le

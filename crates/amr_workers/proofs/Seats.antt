@@ -1,5 +1,5 @@
 -- Seats of which one draws and the other is lent.
-use Rattle.std.proofs.Common.{◌≡◌, ◌+◌, ◌-◌, ◌/◌, cond, true, List, [], ◌∷◌, ◌++◌, get_or, refl, sym, ap, ◌∙◌, subst, arith}
+use Rattle.std.proofs.Common.{◌≡◌, ℕ, ◌+◌, cond, true, List, [], ◌∷◌, ◌++◌, get_or, refl, sym, ap, ◌∙◌, subst, arith}
 use Rattle.std.specs.Prelude.{Option}
 use Rattle.atomic_table.specs.declared.shared.Seat.{Seat}
 use Rattle.amr_board.specs.declared.view.Progress.{Progress}
@@ -8,7 +8,7 @@ use Rattle.amr_board.specs.BoardOf.{BoardOf, IsSeatOf, view}
 use Rattle.amr_board.specs.Views.{HoldsNone, no_progress, keeps_half, other_half, joined}
 use Rattle.amr_workers.specs.Orders.{MayDraw, HasDrawn}
 
-first_given : (xs ys : List Progress) → (get_or xs 0 no_progress).given ≡ true → (get_or ys 0 no_progress).given ≡ true → (get_or (xs ++ ys) 0 no_progress).given ≡ true
+pub first_given : (xs ys : List Progress) → (get_or xs 0 no_progress).given ≡ true → (get_or ys 0 no_progress).given ≡ true → (get_or (xs ++ ys) 0 no_progress).given ≡ true
 first_given [] ys a b = b
 first_given (x ∷ xs) ys a b = a
 
@@ -21,14 +21,13 @@ module _ {P : Type 0} (board : BoardOf P) (seat : Seat (Option P) (View P)) wher
   half_may half of_board is may =
       record { seat_of = of_board; none = subst (λ (v : View P). HoldsNone v) (sym is) may.none; here = ap (λ (v : View P). v.past) is ∙ may.here }
 
-  pub both_drawn : (half other all back last : Seat (Option P) (View P)) → view half ≡ keeps_half (view seat) → view other ≡ other_half (view seat)
-      → HasDrawn board half all → HasDrawn board other back → IsSeatOf board last → view last ≡ joined (view all) (view back) → HasDrawn board seat last
-  both_drawn half other all back last is is' drawn drawn' of_board whole =
-      record {
-        seat_of = of_board;
-        none = subst (λ (v : View P). HoldsNone v) (sym whole) (first_given (view all).tasks (view back).tasks drawn.none drawn'.none);
-        past = ap (λ (v : View P). v.past) whole ∙ ap (λ b. cond b true (view back).past) drawn.past;
-        share = (let a : (view last).share ≡ (view all).share + (view back).share = ap (λ (v : View P). v.share) whole in
-            let b : (view all).share ≡ (view seat).share / 2 = drawn.share ∙ ap (λ (v : View P). v.share) is in
-            let c : (view back).share ≡ (view seat).share - (view seat).share / 2 = drawn'.share ∙ ap (λ (v : View P). v.share) is' in omega arith);
-      }
+-- what came back is with the rest
+pub both_drawn : {P : Type 0} (board : BoardOf P) (rest lent shares : ℕ) (all back last : Seat (Option P) (View P)) → lent + rest ≡ shares
+    → HasDrawn board rest all → HasDrawn board lent back → IsSeatOf board last → view last ≡ joined (view all) (view back) → HasDrawn board shares last
+both_drawn board rest lent shares all back last sum drawn drawn' of_board whole =
+    record {
+      seat_of = of_board;
+      none = subst (λ (v : View _). HoldsNone v) (sym whole) (first_given (view all).tasks (view back).tasks drawn.none drawn'.none);
+      past = ap (λ (v : View _). v.past) whole ∙ ap (λ b. cond b true (view back).past) drawn.past;
+      share = (let a : (view last).share ≡ (view all).share + (view back).share = ap (λ (v : View _). v.share) whole in let b = drawn.share in let c = drawn'.share in omega arith);
+    }

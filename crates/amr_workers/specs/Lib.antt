@@ -1,3 +1,4 @@
 pub mod Orders
 pub mod TeamOf
 pub mod Helpers
+pub mod Shares

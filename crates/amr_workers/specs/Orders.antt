@@ -16,12 +16,12 @@ module _ {P : Type 0} where
     pub none : HoldsNone (view seat)
     pub here : (view seat).past ≡ false
 
-  -- a seat that found no task left, with the share of this one
-  pub record HasDrawn (board : BoardOf P) (before seat : Seat (Option P) (View P)) : Type 0 where
+  -- a seat that found no task left, with the share that was lent
+  pub record HasDrawn (board : BoardOf P) (lent : ℕ) (seat : Seat (Option P) (View P)) : Type 0 where
     pub seat_of : IsSeatOf board seat
     pub none : HoldsNone (view seat)
     pub past : (view seat).past ≡ true
-    pub share : (view seat).share ≡ (view before).share
+    pub share : (view seat).share ≡ lent
 
   -- the job is ready for each piece of a board
   abbrev pub IsReady : (PlanOf → P → Type 0) → BoardOf P → Type 0

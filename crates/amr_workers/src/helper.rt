@@ -1,6 +1,7 @@
 //! A kept worker: as its team has it, and before it begins.
 ghost use Rattle.std.specs.Prelude.{◌≡◌, ◌<◌, ℕ, IfOk};
 ghost use Rattle.std.specs.Arc.{arc_value};
+ghost use Rattle.amr_board.specs.BoardOf.{view};
 ghost use Rattle.amr_mailbox.specs.declared.view.Turn.TheVariants.{Free, Busy, Over};
 ghost use Rattle.amr_mailbox.specs.MailboxOf.{end_of, IsBusy};
 ghost use Rattle.amr_workers.specs.Helpers.{IsHelper, IsRecruit, MayAsk};
@@ -68,7 +69,7 @@ impl<P: Piece, J: Job<P>, G: Gate> Helper<P, J, G> {
     /// Waits for the seat of the order that was posted.
     pub(crate) fn collect(&mut self, rt: &impl Wait) -> Seat<P>
         requires asked { IsBusy (arc_value self.old.mailbox) self.old.asker }
-        ensures serves { (order : _) → self.old.asker.turn ≡ Busy order → HasDrawn (arc_value order.board) order.seat result }
+        ensures serves { (order : _) → self.old.asker.turn ≡ Busy order → HasDrawn (arc_value order.board) (view order.seat).share result }
         ensures free { self.new ≡ record { mailbox = self.old.mailbox; asker = end_of (arc_value self.old.mailbox) Free } }
     {
         self.mailbox.collect(rt, &mut self.asker)

@@ -2,6 +2,7 @@
 ghost use Rattle.std.specs.Prelude.{◌≡◌, ◌≤◌, ◌<◌};
 ghost use Rattle.std.specs.List.{All};
 ghost use Rattle.std.specs.Arc.{arc_value};
+ghost use Rattle.amr_board.specs.BoardOf.{view};
 ghost use Rattle.amr_workers.specs.Orders.{MayDraw, HasDrawn, IsReady, Admits};
 ghost use Rattle.amr_mailbox.specs.declared.view.Turn.TheVariants.{Free, Over};
 ghost use Rattle.amr_mailbox.specs.MailboxOf.{end_of};
@@ -95,7 +96,7 @@ fn carry_out<P: Piece, J: Job<P>, G: Gate>(
     requires seat { MayDraw (arc_value order.board) order.seat }
     requires ready { IsReady (J.ready job.now) (arc_value order.board) }
     requires gate { Admits (G.admits gate.now number) (arc_value order.board) }
-    ensures { HasDrawn (arc_value order.board) order.seat result }
+    ensures { HasDrawn (arc_value order.board) (view order.seat).share result }
 {
     let Order { board, mut seat } = order;
     draw_all(&board, &mut seat, job, gate, number);

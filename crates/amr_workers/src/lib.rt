@@ -7,6 +7,7 @@ mod job;
 mod kept;
 mod order;
 mod phase;
+mod shares;
 mod team;
 
 pub use gate::{Gate, OpenGate};

@@ -1,5 +1,6 @@
 //! What a kept worker is asked and answers.
 ghost use Rattle.std.specs.Arc.{arc_value};
+ghost use Rattle.amr_board.specs.BoardOf.{view};
 ghost use Rattle.amr_workers.specs.Orders.{MayDraw, HasDrawn, IsReady, Admits};
 
 use crate::gate::Gate;
@@ -34,5 +35,5 @@ pub struct Drawing<P, J, G> {
 impl<P: Piece, J: Job<P>, G: Gate> Errand<Order<P>, Seat<P>, About<J, G>> for Drawing<P, J, G> {
     ghost may = { λ about order. MayDraw (arc_value order.board) order.seat × IsReady (J.ready about.job.value) (arc_value order.board) × Admits (G.admits about.gate.value about.number) (arc_value order.board) };
 
-    ghost serves = { λ order seat. HasDrawn (arc_value order.board) order.seat seat };
+    ghost serves = { λ order seat. HasDrawn (arc_value order.board) (view order.seat).share seat };
 }

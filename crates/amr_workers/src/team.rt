@@ -13,12 +13,14 @@ ghost use Rattle.amr_mailbox.specs.declared.view.Turn.TheVariants.{Free, Over};
 ghost use Rattle.amr_mailbox.specs.MailboxOf.{end_of};
 ghost use Rattle.amr_workers.specs.Orders.{MayDraw, HasDrawn, IsReady, Admits};
 ghost use Rattle.amr_workers.specs.Helpers.{AdmitsWorker, IsHelper, IsRecruit};
+ghost use Rattle.amr_workers.specs.Shares.{MayLend, whole};
 
 use crate::gate::Gate;
 use crate::helper::{Helper, Recruit, new_worker};
 use crate::job::Job;
 use crate::order::Order;
 use crate::phase::draw_all;
+use crate::shares::Shares;
 use amr_board::{Board, Ended, Piece, Seat};
 use std::alloc::{AllocError, AllocFailed, Global};
 use std::marker::Model;
@@ -45,7 +47,7 @@ impl<'a, P: Piece, J: Job<P>, G: Gate> Model for Team<'a, P, J, G> {
 
     ghost view = { λ t. record { job = t.job.now; gate = t.gate.now; workers = 1 + length t.helpers.items } };
 
-    ghost invariant = { λ t. All (λ h. IsHelper t.job.now t.gate.now (1 + length t.helpers.items) (arc_value h.mailbox) h.asker) t.helpers.items × (length t.helpers.items < 32) };
+    ghost invariant = { λ t. All (λ h. IsHelper t.job.now t.gate.now (1 + length t.helpers.items) (arc_value h.mailbox) h.asker) t.helpers.items × (length t.helpers.items < 64) };
 }
 
 impl<'a, P: Piece, J: Job<P>, G: Gate> Team<'a, P, J, G> {
@@ -58,7 +60,7 @@ impl<'a, P: Piece, J: Job<P>, G: Gate> Team<'a, P, J, G> {
         workers: u32,
     ) -> Result<(Team<'a, P, J, G>, Vec<Recruit<P, J, G>>), AllocError>
         requires some { 1 ≤ workers }
-        requires few { workers ≤ 32 }
+        requires few { workers ≤ 64 }
         ensures team { IfOk result (λ r. r.0 ≡ record { job = job.now; gate = gate.now; workers = workers }) }
         ensures recruits { IfOk result (λ r. All (λ h. IsRecruit job.now gate.now (arc_value h.mailbox) h.worker h.number) r.1.items) }
     {
@@ -75,7 +77,7 @@ impl<'a, P: Piece, J: Job<P>, G: Gate> Team<'a, P, J, G> {
     // A team of these kept workers, each of whom waits for an order, and its caller.
     fn new(job: &'a J, gate: &'a G, helpers: Vec<Helper<P, J, G>>) -> Team<'a, P, J, G>
         requires helpers { All (λ h. IsHelper job.now gate.now (1 + length helpers.items) (arc_value h.mailbox) h.asker) helpers.items }
-        requires few { length helpers.items < 32 }
+        requires few { length helpers.items < 64 }
         ensures { result ≡ record { job = job.now; gate = gate.now; workers = 1 + length helpers.items } }
     {
         Team { helpers, job, gate }
@@ -111,7 +113,8 @@ impl<'a, P: Piece, J: Job<P>, G: Gate> Team<'a, P, J, G> {
                 return board.close(seat);
             }
         };
-        let seat = run_with(rt, &mut self.helpers, &shared, seat, self.job, self.gate);
+        let seats = Shares::of(&shared, seat);
+        let seat = run_with(rt, &mut self.helpers, &shared, seats, self.job, self.gate);
         sole(rt, shared).close(seat)
     }
 
@@ -143,42 +146,40 @@ fn dismiss_all<P: Piece, J: Job<P>, G: Gate>(helpers: &mut Vec<Helper<P, J, G>>)
     helpers.push_reserved(helper);
 }
 
-// The caller and these kept workers draw the tasks of a board until none is left. Half the seat's share is the last
-// one's, and so on.
+// The caller and these kept workers draw the tasks of a board until none is left.
 fn run_with<W: Wait, P: Piece, J: Job<P>, G: Gate>(
     rt: &W,
     helpers: &mut Vec<Helper<P, J, G>>,
     board: &Arc<Board<P>, Global>,
-    mut seat: Seat<P>,
+    seats: Shares<P>,
     job: &J,
     gate: &G,
 ) -> Seat<P>
-    requires seat { MayDraw (arc_value board.now) seat }
-    requires share { 2 ^ length helpers.old.items ≤ (view seat).share }
+    requires seats { MayLend (arc_value board.now) (length helpers.old.items) seats }
     requires helpers { All (λ h. IsHelper job.now gate.now 64 (arc_value h.mailbox) h.asker) helpers.old.items }
     requires ready { IsReady (J.ready job.now) (arc_value board.now) }
     requires gate { All (λ h. AdmitsWorker (G.admits gate.now) (arc_value h.mailbox) (arc_value board.now)) helpers.old.items }
     requires caller { Admits (G.admits gate.now 0) (arc_value board.now) }
-    ensures seat { HasDrawn (arc_value board.now) seat result }
+    ensures seat { HasDrawn (arc_value board.now) (whole seats) result }
     ensures helpers { helpers.new.items ≡ helpers.old.items }
     ensures room { vec_capacity helpers.new ≡ vec_capacity helpers.old }
 {
     let Some(mut helper) = helpers.pop() else {
+        let mut seat = seats.joined(board);
         draw_all(board, &mut seat, job, gate, 0);
         return seat;
     };
     let Ok(shared) = helper.share(board) else {
-        let seat = run_with(rt, helpers, board, seat, job, gate);
+        let seat = run_with(rt, helpers, board, seats, job, gate);
         helpers.push_reserved(helper);
         return seat;
     };
-    let other = board.split(&mut seat);
-    let order = Order {
+    let (seat, others) = seats.lend(board);
+    helper.post(Order {
         board: shared,
-        seat: other,
-    };
-    helper.post(order);
-    let mut all = run_with(rt, helpers, board, seat, job, gate);
+        seat,
+    });
+    let mut all = run_with(rt, helpers, board, others, job, gate);
     let back = helper.collect(rt);
     board.join(&mut all, back);
     helpers.push_reserved(helper);

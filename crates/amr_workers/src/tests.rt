@@ -1,5 +1,8 @@
 //! Workers on a board of five tasks.
 ghost use Rattle.std.specs.Prelude.{◌≡◌, ◌<◌, [], ◌∷◌, false, IfOk, length};
+ghost use Rattle.std.specs.List.{All};
+ghost use Rattle.std.specs.Arc.{arc_value};
+ghost use Rattle.amr_workers.specs.Helpers.{IsRecruit};
 ghost use Rattle.amr_board.specs.Views.{first_view};
 ghost use Rattle.amr_board.specs.BoardOf.{IsSeatOf, view};
 
@@ -10,13 +13,16 @@ use std::process::Abort;
 use std::sync::Wait;
 use std::sync::atomic::{AtomicBool, AtomicU64, Ordering};
 use std::test::Fail;
-use std::thread;
+use std::thread::{self, Threads};
 
 // A bit for each of five numbers.
 const ALL: u64 = 31;
 
 // How often a worker at a gate looks whether it may go on.
 const TURNS: u32 = 10_000_000;
+
+// How many boards a team runs until one of its kept workers has come.
+const BOARDS: u32 = 1000;
 
 // A task that puts its number at the place of its number, and adds it to word 0.
 #[derive(Clone, Copy)]
@@ -240,11 +246,28 @@ fn second_task_first(rt: HostRuntime) -> Result<(), Fail> {
     Ok(())
 }
 
-// Makes the posts of a task, however often it is asked.
-#[derive(Clone, Copy)]
-struct Posting;
+// Notes whether a kept worker came, and lets those come before their caller.
+#[derive(Drop)]
+struct Visits {
+    kept: AtomicBool,
+}
 
-impl Job<Counted> for Posting {
+impl Gate for Visits {
+    ghost admits = { λ _ _ _. Unit {0} };
+
+    fn enter(&self, worker: u32, _task: u32) {
+        if worker == 0 {
+            thread::yield_now();
+        } else {
+            self.kept.store(true, Ordering::SeqCst);
+        }
+    }
+
+    fn leave(&self, _worker: u32, _task: u32) {}
+}
+
+// It makes the posts of a task, however often it is asked.
+impl Job<Counted> for Visits {
     ghost ready = { λ _ _ _. Unit {0} };
 
     fn work(
@@ -260,35 +283,63 @@ impl Job<Counted> for Posting {
     }
 }
 
-// Runs three boards one after another.
-fn run_three<R: Wait + Abort>(
+// Runs so many boards one after another.
+fn run_boards<R: Wait + Abort>(
     rt: &R,
     alloc: Global,
-    team: &mut Team<'_, Counted, Posting, OpenGate>,
+    team: &mut Team<'_, Counted, Visits, Visits>,
+    boards: u32,
 ) -> Result<(), AllocError> {
-    for _ in 0..3 {
+    for _ in 0..boards {
         let (board, seat) = opened(rt, alloc)?;
         check(rt, team.run_phase(rt, alloc, board, seat));
     }
     Ok(())
 }
 
-// Three kept workers and their caller run three boards, one after another.
-#[test]
-fn a_team_over_three_boards(rt: HostRuntime) -> Result<(), Fail> {
-    let alloc: Global = rt.alloc();
-    let (job, gate) = (Posting, OpenGate);
-    let (mut team, mut recruits) = Team::hire(alloc, &job, &gate, 4)?;
-    let (host, job, gate) = (&rt, &job, &gate);
+// Has a team of 64 run boards, and lets its kept workers go.
+fn conduct<'a, R: Threads + Wait + Abort + Sync>(
+    rt: &R,
+    alloc: Global,
+    held: &'a Visits,
+) -> Result<(), AllocError> {
+    let (mut team, mut recruits) = Team::hire(alloc, held, held, 64)?;
     let ((), done) = thread::join_mut(
-        host,
-        &mut || serve_all(host, &mut recruits, job, gate),
+        rt,
+        &mut ||
+            requires { All (λ r. IsRecruit held.now held.now (arc_value r.mailbox) r.worker r.number) recruits.items }
+        { serve_all(rt, &mut recruits, held, held) },
         &mut || {
-            let done = run_three(host, alloc, &mut team);
+            let done = run_boards(rt, alloc, &mut team, BOARDS);
             drop(team.dismiss());
             done
         },
     );
-    done?;
+    done
+}
+
+// Of 63 kept workers one comes at least, sooner or later.
+#[test]
+fn a_team_over_many_boards(rt: HostRuntime) -> Result<(), Fail> {
+    let visits = Visits {
+        kept: AtomicBool::new(false),
+    };
+    conduct(&rt, rt.alloc(), &visits)?;
+    assert!(rt; visits.kept.load(Ordering::SeqCst));
+    Ok(())
+}
+
+// Kept workers that have not begun are not asked.
+#[test]
+fn a_team_that_has_not_begun(rt: HostRuntime) -> Result<(), Fail> {
+    let alloc: Global = rt.alloc();
+    let visits = Visits {
+        kept: AtomicBool::new(false),
+    };
+    let (mut team, recruits) = Team::hire(alloc, &visits, &visits, 3)?;
+    run_boards(&rt, alloc, &mut team, 3)?;
+    drop(team.dismiss());
+    drop(recruits);
+    assert!(rt; !visits.kept.load(Ordering::SeqCst));
     Ok(())
 }

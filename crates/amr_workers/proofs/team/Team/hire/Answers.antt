@@ -1,4 +1,4 @@
-use Rattle.std.proofs.Common.{◌≡◌, ◌+◌, ◌<◌, ◌∷◌, ◌++◌, List, [], sym, subst, length, arith}
+use Rattle.std.proofs.Common.{◌<◌, List, sym, subst, arith}
 use Rattle.std.specs.Arc.{arc_value}
 use Rattle.std.specs.List.{All}
 use Rattle.amr_workers.specs.declared.helper.Helper.{Helper}
