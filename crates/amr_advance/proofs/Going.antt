@@ -25,7 +25,7 @@ use Rattle.amr_flux.specs.Rooms.{widest}
 use Rattle.amr_flux.proofs.Shown.{border_of_box}
 use Rattle.amr_flows.proofs.LedgerFlowsSums.{total_append}
 use Rattle.amr_flows.specs.Laws.{plain_size}
-use Rattle.amr_flows.specs.Words.{level_total, size_to, word_total}
+use Rattle.amr_flows.specs.Words.{level_total}
 use Rattle.amr_phase.specs.declared.plan.Post.{Post}
 use Rattle.amr_phase.specs.declared.plan.Task.{Task}
 use Rattle.amr_phase.specs.Plans.{IsPlan, PlanOf, added, no_post, no_task, planned_face, planned_total, put_at, puts_of as posts_at, total}
@@ -41,7 +41,8 @@ use Rattle.amr_layout.specs.declared.AddAt.{AddAt}
 use Rattle.amr_layout.specs.declared.Layout.{Layout}
 use Rattle.amr_layout.specs.declared.PutAt.{PutAt}
 use Rattle.amr_layout.specs.declared.TaskLayout.{TaskLayout}
-use Rattle.amr_layout.specs.Adds.{FlowTo, flow_to, flows_in, flows_of}
+use Rattle.amr_layout.specs.declared.FlowTo.{FlowTo}
+use Rattle.amr_layout.specs.Adds.{flow_to, flows_in, flows_of, size_to, word_total}
 use Rattle.amr_layout.specs.Places.{border_places, borders_of, home_face, puts_of}
 use Rattle.amr_layout.specs.Posts.{AreSmallSizes, Sizes, plan_of as layout_plan, tasks_of}
 use Rattle.amr_layout.specs.Surroundings.{Around, around}

@@ -2,7 +2,6 @@
 use Rattle.std.proofs.Common.{◌≡◌, ◌∙◌, ℕ, ◌+◌, ◌*◌, ◌^◌, ◌<◌, ◌≤◌, true, List, [], ◌∷◌, length, get_or, map, refl, sym, ap, subst, arith}
 use Rattle.std.specs.Prelude.{is_some}
 use Rattle.std.specs.List.{All}
-use Rattle.std.specs.Global.{Vec}
 use Rattle.amr_box.specs.declared.Cell.{Cell}
 use Rattle.amr_box.specs.Cells.{Extent, width}
 use Rattle.amr_def.specs.Domain.{domain}
@@ -17,8 +16,9 @@ use Rattle.amr_ghost.specs.declared.plan.FramePlan.{FramePlan}
 use Rattle.amr_ghost.proofs.PlanLaws.{plan_of_boxes}
 use Rattle.amr_layout.specs.Grounds.{SameGround, has_open_side}
 use Rattle.amr_layout.specs.Surroundings.{Around, edge_count}
-use Rattle.amr_layout.specs.declared.AddAt.{AddAt}
-use Rattle.amr_layout.proofs.ByBoxes.{all_flows}
+use Rattle.amr_layout.specs.declared.FlowTo.{FlowTo}
+use Rattle.amr_layout.specs.declared.alone.LevelFlows.{LevelFlows}
+use Rattle.amr_layout.proofs.ByBoxes.{same_level_flows}
 use Rattle.amr_phase.specs.Plans.{total}
 use Rattle.amr_flux.specs.Rooms.{widest}
 use Rattle.amr_work.specs.declared.work.Workspace.{Workspace}
@@ -50,10 +50,10 @@ edges_of_boxes (q ∷ qs) = ap (λ n. edge_count (box q) + n) (edges_of_boxes qs
 same_edges : (ps qs : List Patch) → map box ps ≡ map box qs → total (λ q. edge_count (box q)) ps ≡ total (λ q. edge_count (box q)) qs
 same_edges ps qs e = sym (edges_of_boxes ps) ∙ ap (total (λ (b : Extent). edge_count b)) e ∙ edges_of_boxes qs
 
-same_adds : (s t : Around) (adds : List (Vec AddAt)) → SameGround s t → AreAddsOf s adds → AreAddsOf t adds
-same_adds s t adds g of = record {
-  flows = of.flows ∙ all_flows s t g;
-  words = subst (λ (cs : List Cell). All (λ (v : Vec AddAt). All (λ (a : AddAt). a.word < 2 + 2 * length cs) v.items) adds) g.cells of.words;
+same_adds : (s t : Around) (v : LevelFlows) → SameGround s t → AreAddsOf s v → AreAddsOf t v
+same_adds s t v g of = record {
+  flows = same_level_flows s t g v of.flows;
+  words = subst (λ (cs : List Cell). All (λ (x : FlowTo). x.word < 2 + 2 * length cs) v.flows.items) g.cells of.words;
   edges = subst (λ n. n ≤ 2 ^ 30) (same_edges s.patches t.patches g.boxes) of.edges;
 }
 
@@ -63,7 +63,7 @@ same_room ps qs n e h k q lt = subst (λ (b : Extent). width b ≤ n) (box_at ps
 
 -- and so the tasks
 same_tasks : (s t : Around) (tasks : Tasks) → SameGround s t → AreTasks s tasks → AreTasks t tasks
-same_tasks s t (Lone x) g h = record { adds = same_adds s t x.adds.items g h.adds; room = same_room s.patches t.patches (widest x.room) g.boxes h.room }
+same_tasks s t (Lone x) g h = record { adds = same_adds s t x.flows g h.adds; room = same_room s.patches t.patches (widest x.room) g.boxes h.room }
 same_tasks s t (Board x) g h = record {
   layout = same_layout s t x.layout.value g h.layout;
   shape = h.shape;

@@ -1,7 +1,6 @@
 -- The patches of a level stepped one after another: each is ready for its step, and what they add makes the level's totals.
 use Rattle.std.proofs.Common.{◌≡◌, ℕ, zero, suc, ◌+◌, ◌*◌, ◌^◌, ◌<◌, ◌≤◌, Bool, true, false, pos, ◌+ℤ◌, List, [], ◌∷◌, length, get_or, set, take, refl, sym, ap, subst, ◌∙◌, arith}
 use Rattle.std.specs.Prelude.{◌==◌, if◌then◌else◌, slice_index, unsigned_abs}
-use Rattle.std.specs.Global.{Vec}
 use Rattle.std.specs.declared.option.Option.{Option}
 use Rattle.std.specs.List.{All, AllZip}
 use Rattle.std.proofs.Math.ListN.{length-set}
@@ -19,23 +18,25 @@ use Rattle.amr_patch.proofs.Lookups.{same_default}
 use Rattle.amr_flux.specs.Faces.{flux_beside}
 use Rattle.amr_flux.proofs.Shown.{net_alike}
 use Rattle.amr_flows.specs.Laws.{plain_size}
-use Rattle.amr_flows.specs.Words.{level_total, size_to, word_total}
-use Rattle.amr_phase.specs.Plans.{added, total}
+use Rattle.amr_flows.specs.Words.{level_total}
+use Rattle.amr_phase.specs.Plans.{total}
 use Rattle.amr_phase.proofs.Sums.{total_more, total_take}
 use Rattle.amr_edges.proofs.OwnFlows.{flows_owned}
-use Rattle.amr_layout.specs.declared.AddAt.{AddAt}
-use Rattle.amr_layout.specs.Adds.{FlowTo, flows_in, flows_of}
+use Rattle.amr_layout.specs.declared.FlowTo.{FlowTo}
+use Rattle.amr_layout.specs.declared.alone.LevelFlows.{LevelFlows}
+use Rattle.amr_layout.specs.Adds.{flows_of, size_to, word_total}
+use Rattle.amr_layout.specs.LevelFlowLists.{HasFlowsAt, flows_at}
 use Rattle.amr_layout.specs.Surroundings.{Around, around, edge_count}
-use Rattle.amr_layout.proofs.Planned.{flows_few, image_at, image_length}
-use Rattle.amr_work.specs.Ready.{AreOwnAdds, MayStep}
-use Rattle.amr_work.specs.Works.{adds_by}
+use Rattle.amr_layout.proofs.LevelFlowLists.{each_of_patch, flows_here, has_flows_at}
+use Rattle.amr_layout.proofs.Planned.{flows_few}
+use Rattle.amr_work.specs.Ready.{AreOwnFlows, MayStep}
 use Rattle.amr_work.proofs.Sameness.{own_face}
 use Rattle.amr_advance.specs.Layouts.{AreAddsOf}
 use Rattle.amr_advance.specs.Shown.{AreShown, IsStepped, StepFits}
-use Rattle.amr_advance.proofs.Begun.{all_lie, may_step, own_adds, plain_at}
+use Rattle.amr_advance.proofs.Begun.{all_lie, may_step, plain_at}
 use Rattle.amr_advance.proofs.Bodies.{set_done}
 use Rattle.amr_advance.proofs.Filled.{zip_from}
-use Rattle.amr_advance.proofs.Going.{same_words, words_by}
+use Rattle.amr_advance.proofs.Going.{same_words}
 
 -- ---- sums
 
@@ -81,7 +82,7 @@ pub record AreSteppedUpTo (s : Around) (old : Masses) (rs : List Patch) (ws : Li
   pub totals : (word : ℕ) → slice_index ws word ≡ total (word_sum s old word) (take n s.patches)
 
 module _ (p : Problem) (l : ℕ) (old : Masses) (qs : List Patch) (cells : List Cell) (next : Option Held) (shallow : l ≤ 4) (shown : AreShown p l old qs) (fits : StepFits p l (masses_in qs) old)
-    (adds : List (Vec AddAt)) (of : AreAddsOf (around p l qs cells next) adds) where
+    (v : LevelFlows) (of : AreAddsOf (around p l qs cells next) v) where
   abbrev m : Masses
   m = masses_in qs
 
@@ -94,37 +95,36 @@ module _ (p : Problem) (l : ℕ) (old : Masses) (qs : List Patch) (cells : List 
   pub totals_small : (word : ℕ) → level_total s (plain_size p l m old) word < 2 ^ 63
   totals_small word = omega (arith, level_most s (plain_size p l m old) fits.fluxes word qs, of.edges)
 
-  pub add_count : length adds ≡ length qs
-  add_count = image_length (λ (v : Vec AddAt). flows_in v.items) (λ q. flows_of s (box q)) adds qs of.flows
-
   -- ---- a patch
 
-  module _ (k : ℕ) (r : Patch) (v0 : Vec AddAt) (lt : k < length qs) where
+  module _ (k : ℕ) (r : Patch) (lt : k < length qs) where
     abbrev q : Patch
     q = get_or qs k r
 
-    abbrev own : List AddAt
-    own = (get_or adds k v0).items
+    abbrev own : List FlowTo
+    own = flows_at v k
 
-    flows_are : flows_in own ≡ flows_of s (box q)
-    flows_are = image_at (λ (v : Vec AddAt). flows_in v.items) (λ q. flows_of s (box q)) adds qs k v0 r of.flows (omega (arith, lt, add_count)) lt
+    pub there : HasFlowsAt v k
+    there = has_flows_at s v of.flows k lt r
 
-    pub owned : AreOwnAdds q own
-    owned = own_adds p l old qs cells next shallow shown fits k r own lt flows_are
+    flows_are : own ≡ flows_of s (box q)
+    flows_are = flows_here s v of.flows k lt r
 
-    pub words_there : All (λ (a : AddAt). a.word < 2 + 2 * length cells) own
-    words_there = of.words k v0 (omega (arith, lt, add_count))
+    pub owned : AreOwnFlows q own
+    owned = subst (AreOwnFlows q) (sym flows_are) (flows_owned p l qs cells next q (all_lie p l old qs cells next shallow shown fits) (shown.marks k r lt))
 
-    word_here : (word : ℕ) → total (added word) (adds_by (flux_beside p l q) own) ≡ word_sum s old word q
+    pub words_there : All (λ (x : FlowTo). x.word < 2 + 2 * length cells) own
+    words_there = each_of_patch s (λ (x : FlowTo). x.word < 2 + 2 * length cells) v k of.words
+
+    word_here : (word : ℕ) → word_total (λ f. unsigned_abs (flux_beside p l q f)) word own ≡ word_sum s old word q
     word_here word =
-        words_by (flux_beside p l q) word own
-        ∙ ap (word_total (λ f. unsigned_abs (flux_beside p l q f)) word) flows_are
+        ap (word_total (λ f. unsigned_abs (flux_beside p l q f)) word) flows_are
         ∙ same_words (λ f. unsigned_abs (flux_beside p l q f)) (plain_size p l m old) word (flows_of s (box q))
         (λ j x below. ap unsigned_abs (plain_at p l old qs cells next shallow shown fits k r lt (get_or (flows_of s (box q)) j x).face (own_face q (get_or (flows_of s (box q)) j x).face (flows_owned p l qs cells next q (all_lie p l old qs cells next shallow shown fits) (shown.marks k r lt) j x below).1)))
 
     -- after its step
-    steps : (v : Patch) → box v ≡ box q → ((c : Cell) → holds (box q) c ≡ true → pos (mass_in v c) ≡ pos (mass_in q c) +ℤ net (flux_beside p l q) c) → IsStepped e q v
-    steps v of_box masses = record {
+    steps : (x : Patch) → box x ≡ box q → ((c : Cell) → holds (box q) c ≡ true → pos (mass_in x c) ≡ pos (mass_in q c) +ℤ net (flux_beside p l q) c) → IsStepped e q x
+    steps x of_box masses = record {
       of_box = of_box;
       masses = λ c h. masses c h ∙ ap (λ z. pos (mass_in q c) +ℤ z) (net_alike (box q) (flux_beside p l q) e (plain_at p l old qs cells next shallow shown fits k r lt) c h);
     }
@@ -134,40 +134,40 @@ module _ (p : Problem) (l : ℕ) (old : Masses) (qs : List Patch) (cells : List 
 
   -- ---- one more patch
 
-  module _ (rs : List Patch) (ws : List ℕ) (n : ℕ) (up : AreSteppedUpTo s old rs ws n) (r : Patch) (v0 : Vec AddAt) (lt : n < length qs) where
+  module _ (rs : List Patch) (ws : List ℕ) (n : ℕ) (up : AreSteppedUpTo s old rs ws n) (r : Patch) (lt : n < length qs) where
     pub patch_here : get_or rs n r ≡ get_or qs n r
     patch_here = up.rest n r (omega arith)
 
     pub may_step_here : MayStep p l (get_or rs n r)
     may_step_here = subst (MayStep p l) (sym patch_here) (may_step p l old qs cells next shallow shown fits n r lt)
 
-    pub owned_here : AreOwnAdds (get_or rs n r) (get_or adds n v0).items
-    owned_here = subst (λ (x : Patch). AreOwnAdds x (get_or adds n v0).items) (sym patch_here) (owned n r v0 lt)
+    pub owned_here : AreOwnFlows (get_or rs n r) (flows_at v n)
+    owned_here = subst (λ (x : Patch). AreOwnFlows x (flows_at v n)) (sym patch_here) (owned n r lt)
 
     -- what it adds to a word
     abbrev adds_here : ℕ → ℕ
-    adds_here word = total (added word) (adds_by (flux_beside p l (get_or rs n r)) (get_or adds n v0).items)
+    adds_here word = word_total (λ f. unsigned_abs (flux_beside p l (get_or rs n r) f)) word (flows_at v n)
 
     added_here : (word : ℕ) → adds_here word ≡ word_sum s old word (get_or qs n r)
-    added_here word = ap (λ (x : Patch). total (added word) (adds_by (flux_beside p l x) (get_or adds n v0).items)) patch_here ∙ word_here n r v0 lt word
+    added_here word = ap (λ (x : Patch). word_total (λ f. unsigned_abs (flux_beside p l x f)) word (flows_at v n)) patch_here ∙ word_here n r lt word
 
     pub fits_here : (word : ℕ) → slice_index ws word + adds_here word < 2 ^ 63
     fits_here word = omega (arith, up.totals word, added_here word, total_more (word_sum s old word) qs n r lt, total_take (word_sum s old word) qs (n + 1), totals_small word)
 
-    pub next_stepped : (v : Patch) (vs : List ℕ) → box v ≡ box (get_or rs n r) → ((c : Cell) → holds (box (get_or rs n r)) c ≡ true → pos (mass_in v c) ≡ pos (mass_in (get_or rs n r) c) +ℤ net (flux_beside p l (get_or rs n r)) c)
-        → ((word : ℕ) → slice_index vs word ≡ slice_index ws word + adds_here word) → AreSteppedUpTo s old (set rs n v) vs (n + 1)
-    next_stepped v vs of_box masses added = record {
-      count = length-set rs n v ∙ up.count;
-      done = set_done (λ j x. (q : Patch) → j < length qs → IsStepped e (get_or qs j q) x) rs n v (omega (arith, lt, up.count)) up.done last;
-      rest = λ j d le. get_or-set_other rs n j v d (λ i. omega (arith, le, i)) ∙ up.rest j d (omega (arith, le));
+    pub next_stepped : (x : Patch) (vs : List ℕ) → box x ≡ box (get_or rs n r) → ((c : Cell) → holds (box (get_or rs n r)) c ≡ true → pos (mass_in x c) ≡ pos (mass_in (get_or rs n r) c) +ℤ net (flux_beside p l (get_or rs n r)) c)
+        → ((word : ℕ) → slice_index vs word ≡ slice_index ws word + adds_here word) → AreSteppedUpTo s old (set rs n x) vs (n + 1)
+    next_stepped x vs of_box masses added = record {
+      count = length-set rs n x ∙ up.count;
+      done = set_done (λ j y. (q : Patch) → j < length qs → IsStepped e (get_or qs j q) y) rs n x (omega (arith, lt, up.count)) up.done last;
+      rest = λ j d le. get_or-set_other rs n j x d (λ i. omega (arith, le, i)) ∙ up.rest j d (omega (arith, le));
       totals = λ word. added word ∙ (λ i. up.totals word i + added_here word i) ∙ sym (total_more (word_sum s old word) qs n r lt);
     }
       where
-        stepped_from : (x : Patch) → x ≡ get_or qs n r → box v ≡ box x → ((c : Cell) → holds (box x) c ≡ true → pos (mass_in v c) ≡ pos (mass_in x c) +ℤ net (flux_beside p l x) c) → IsStepped e (get_or qs n r) v
-        stepped_from x same b h = steps n r v0 lt v (b ∙ ap box same) (subst (λ (x : Patch). (c : Cell) → holds (box x) c ≡ true → pos (mass_in v c) ≡ pos (mass_in x c) +ℤ net (flux_beside p l x) c) same h)
+        stepped_from : (y : Patch) → y ≡ get_or qs n r → box x ≡ box y → ((c : Cell) → holds (box y) c ≡ true → pos (mass_in x c) ≡ pos (mass_in y c) +ℤ net (flux_beside p l y) c) → IsStepped e (get_or qs n r) x
+        stepped_from y same b h = steps n r lt x (b ∙ ap box same) (subst (λ (y : Patch). (c : Cell) → holds (box y) c ≡ true → pos (mass_in x c) ≡ pos (mass_in y c) +ℤ net (flux_beside p l y) c) same h)
 
-        last : (q : Patch) → n < length qs → IsStepped e (get_or qs n q) v
-        last q inside = subst (λ (x : Patch). IsStepped e x v) (same_default qs n r q lt) (stepped_from (get_or rs n r) patch_here of_box masses)
+        last : (q : Patch) → n < length qs → IsStepped e (get_or qs n q) x
+        last q inside = subst (λ (y : Patch). IsStepped e y x) (same_default qs n r q lt) (stepped_from (get_or rs n r) patch_here of_box masses)
 
   -- ---- all
 

@@ -19,7 +19,7 @@ shape_of y = record { places = y.places; words = y.words }
 
 -- what each patch adds, and room for a row of the widest
 pub record AreLoneTasks (s : Around) (t : LoneTasks) : Type 0 where
-  pub adds : AreAddsOf s t.adds.items
+  pub adds : AreAddsOf s t.flows
   pub room : All (λ q. width (box q) ≤ widest t.room) s.patches
 
 -- the layout on a board, with a workspace for each of its tasks

@@ -42,7 +42,7 @@ pub(crate) fn step_each<G: Gate>(
     ensures small { (word : ℕ) → slice_index totals.new word < 2 ^ 63 }
     ensures tasks { AreLoneTasks (around given.entry.problem.now given.entry.level patches.old given.entry.cells.now (option_copied given.entry.finer)) tasks.new }
 {
-    let adds = &tasks.adds;
+    let flows = &tasks.flows;
     let room = &mut tasks.room;
     for task in 0..patches.len() as u32 {
         let at = task as usize;
@@ -51,7 +51,7 @@ pub(crate) fn step_each<G: Gate>(
             given.problem,
             given.level,
             &mut patches[at],
-            &adds[at],
+            flows.of(at),
             room,
             totals,
         );

@@ -19,7 +19,7 @@ use amr_board::Shape;
 use amr_causes::NoMemory;
 use amr_flux::Room;
 use amr_gaps::Starts;
-use amr_layout::{AddAt, Layout, plan, plan_adds};
+use amr_layout::{Layout, LevelFlows, plan, plan_adds};
 use amr_patch::Patch;
 use amr_work::Body;
 use std::alloc::Global;
@@ -30,7 +30,7 @@ use std::snapshot::Snapshot;
 #[derive(Drop)]
 pub(crate) struct LoneTasks {
     /// What each patch adds.
-    pub(crate) adds: Vec<Vec<AddAt>>,
+    pub(crate) flows: LevelFlows,
     /// Room for a row of fluxes of the widest patch.
     pub(crate) room: Room,
 }
@@ -79,7 +79,7 @@ fn widest_of(patches: &[Patch]) -> u32
 fn room_from(old: Option<Tasks>) -> Option<Room> {
     match old {
         Some(Tasks::Lone(tasks)) => {
-            let LoneTasks { adds: _, room } = tasks;
+            let LoneTasks { flows: _, room } = tasks;
             Some(room)
         }
         _ => None,
@@ -115,7 +115,7 @@ fn lone_tasks(
     ensures few { OnOk result (2 + 2 * length given.entry.cells.now < 2 ^ 32) }
 {
     let room = room_for(given.alloc, widest_of(patches), old)?;
-    let adds = plan_adds(
+    let flows = plan_adds(
         given.alloc,
         given.problem,
         given.level,
@@ -124,7 +124,7 @@ fn lone_tasks(
         given.cells,
         given.finer,
     )?;
-    Ok(LoneTasks { adds, room })
+    Ok(LoneTasks { flows, room })
 }
 
 /// What several workers work with in the step of these patches, with old bodies as far as they go.

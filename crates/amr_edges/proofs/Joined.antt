@@ -17,7 +17,8 @@ use Rattle.amr_flux.proofs.Shown.{flux_is}
 use Rattle.amr_register.proofs.Homes.{size_at}
 use Rattle.amr_register.proofs.Once.{same_flux}
 use Rattle.amr_layout.specs.declared.AddAt.{AddAt}
-use Rattle.amr_layout.specs.Adds.{FlowTo, flows_in, flows_of}
+use Rattle.amr_layout.specs.declared.FlowTo.{FlowTo}
+use Rattle.amr_layout.specs.Adds.{flows_in, flows_of}
 use Rattle.amr_layout.specs.Places.{home_face}
 use Rattle.amr_layout.specs.Surroundings.{around}
 use Rattle.amr_edges.specs.Borders.{IsOwnEdge}

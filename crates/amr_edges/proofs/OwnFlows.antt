@@ -26,7 +26,8 @@ use Rattle.amr_register.proofs.OwnedFlows.{low_face_of_box}
 use Rattle.amr_layout.specs.declared.AddAt.{AddAt}
 use Rattle.amr_layout.specs.Surroundings.{Around, around, edge_count, edge_face, is_coarse_fine, is_open, outside, x_start, y_start}
 use Rattle.amr_layout.specs.Places.{leads_on}
-use Rattle.amr_layout.specs.Adds.{FlowTo, flow_to, flows_in, flows_of, inflow_faces, is_exchange_face, is_inflow_face, is_ledger_face, is_outflow_face, outflow_faces, register_flows, word_of}
+use Rattle.amr_layout.specs.declared.FlowTo.{FlowTo}
+use Rattle.amr_layout.specs.Adds.{flow_to, flows_in, flows_of, inflow_faces, is_exchange_face, is_inflow_face, is_ledger_face, is_outflow_face, outflow_faces, register_flows, word_of}
 use Rattle.amr_layout.proofs.Edges.{on_each_side}
 use Rattle.amr_edges.specs.Borders.{IsOwnEdge}
 use Rattle.amr_edges.proofs.Borders.{owner_told, owns_held, x_end-on, y_end-on}

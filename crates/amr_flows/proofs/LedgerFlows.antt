@@ -17,8 +17,8 @@ use Rattle.amr_patch.specs.declared.patches.Patch.{Patch}
 use Rattle.amr_patch.specs.Patches.{box, in_patches}
 use Rattle.amr_phase.specs.Plans.{total}
 use Rattle.amr_layout.specs.Surroundings.{Around, edge_count, edge_face}
-use Rattle.amr_layout.specs.Adds.{flows_of}
-use Rattle.amr_flows.specs.Words.{level_total, word_total}
+use Rattle.amr_layout.specs.Adds.{flows_of, word_total}
+use Rattle.amr_flows.specs.Words.{level_total}
 use Rattle.amr_flows.specs.Laws.{ArePatchesOf, InflowIsOfLevel, OutflowIsOfLevel, plain_size}
 use Rattle.amr_flows.proofs.LedgerFlowsSums.{line_total, sum_none, total_add, total_each}
 use Rattle.amr_flows.proofs.LedgerFlowsWays.{IsWay, is_in, is_out, way_in, way_out}

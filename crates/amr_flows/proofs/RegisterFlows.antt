@@ -27,9 +27,9 @@ use Rattle.amr_register.specs.RegisterCells.{is_coarse_fine, is_register_cell, r
 use Rattle.amr_register.proofs.CellLists.{where_inside, where_passes}
 use Rattle.amr_register.proofs.CollectLaws.{none_covered}
 use Rattle.amr_register.proofs.NetOver.{high_tells}
-use Rattle.amr_layout.specs.Adds.{flows_of}
+use Rattle.amr_layout.specs.Adds.{flows_of, word_total}
 use Rattle.amr_flows.specs.Laws.{ArePatchesOf, RegisterWordsAreOfChildren}
-use Rattle.amr_flows.specs.Words.{child_flows, word_total}
+use Rattle.amr_flows.specs.Words.{child_flows}
 use Rattle.amr_flows.proofs.RegisterFlowsSums.{over_same, over_sum, sum_over, totals_apart}
 use Rattle.amr_flows.proofs.RegisterFlowsCells.{alike, bit, parent_home, plus_none, child_of}
 use Rattle.amr_flows.proofs.RegisterFlowsSides.{gate}

@@ -19,11 +19,11 @@ use Rattle.amr_patch.specs.Patches.{in_patches}
 use Rattle.amr_patch.proofs.Rows.{inside}
 use Rattle.amr_flux.specs.Faces.{passing, x_end, y_end}
 use Rattle.amr_layout.specs.Surroundings.{Around, edge_count, edge_face, inward, is_coarse_fine, x_start, y_start}
-use Rattle.amr_layout.specs.Adds.{FlowTo, cell_beyond, flow_to, flows_of, inflow_faces, is_exchange_face, number_of, outflow_faces, register_flows, same_cell, word_of}
+use Rattle.amr_layout.specs.declared.FlowTo.{FlowTo}
+use Rattle.amr_layout.specs.Adds.{cell_beyond, flow_to, flows_of, inflow_faces, is_exchange_face, number_of, outflow_faces, register_flows, same_cell, size_to, word_of, word_total}
 use Rattle.amr_register.specs.CoarseFlows.{high_face, low_face}
 use Rattle.amr_register.specs.RegisterCells.{register_cells}
 use Rattle.amr_flows.specs.Laws.{plain_size}
-use Rattle.amr_flows.specs.Words.{size_to, word_total}
 use Rattle.amr_flows.proofs.RegisterFlowsSums.{below_same, over_append, over_edges, over_map, over_none, over_passing, sum_below, sum_over, totals_apart}
 use Rattle.amr_flows.proofs.RegisterFlowsSigns.{apart_by_words, has_number, other_word, outward_of, part_of_face, register_cells_rise}
 use Rattle.amr_flows.proofs.RegisterFlowsSides.{along_edge, gate, lies_in}

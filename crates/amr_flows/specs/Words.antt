@@ -1,5 +1,5 @@
--- What is added to a word of a layout by flows of these sizes, and what flows through the children of a coarse-fine edge.
-use Rattle.std.specs.Prelude.{ℕ, ◌==◌, if◌then◌else◌, pos, cond, List}
+-- What the flows of a level add to a word of its layout, and what flows through the children of a coarse-fine edge.
+use Rattle.std.specs.Prelude.{ℕ, pos, cond}
 use Rattle.amr_box.specs.declared.Face.{Face}
 use Rattle.amr_def.specs.declared.problem.Problem.{Problem}
 use Rattle.amr_def.specs.Domain.{domain}
@@ -10,16 +10,8 @@ use Rattle.amr_patch.specs.declared.patches.Patch.{Patch}
 use Rattle.amr_patch.specs.Patches.{box}
 use Rattle.amr_phase.specs.Plans.{total}
 use Rattle.amr_layout.specs.Surroundings.{Around}
-use Rattle.amr_layout.specs.Adds.{FlowTo, flows_of}
+use Rattle.amr_layout.specs.Adds.{flows_of, word_total}
 use Rattle.amr_register.specs.RegisterCells.{is_coarse_fine}
-
--- the size of a flow that goes to a word
-abbrev pub size_to : (Face → ℕ) → ℕ → FlowTo → ℕ
-size_to size word x = if x.word == word then size x.face else 0
-
--- what flows of these sizes add to a word
-abbrev pub word_total : (Face → ℕ) → ℕ → List FlowTo → ℕ
-word_total size word = total (size_to size word)
 
 -- what all patches of a level add to a word
 abbrev pub level_total : Around → (Face → ℕ) → ℕ → ℕ

@@ -18,7 +18,9 @@ use Rattle.amr_patch.specs.Patches.{box, in_patches}
 use Rattle.amr_patch.proofs.SameBoxes.{box_at, in_same_boxes, same_length}
 use Rattle.amr_flux.specs.Faces.{passing, x_end, y_end}
 use Rattle.amr_layout.specs.Adds.{AreInOrder, HasCellsBeyond, HasRegisterCells, cell_beyond, flow_to, flows_of, inflow_faces, is_exchange_face, is_inflow_face, is_ledger_face, is_outflow_face, number_of, outflow_faces, register_flows, word_of}
+use Rattle.amr_layout.specs.declared.alone.LevelFlows.{LevelFlows}
 use Rattle.amr_layout.specs.Grounds.{SameGround, has_open_side}
+use Rattle.amr_layout.specs.LevelFlowLists.{AreFlowsOf, flows_before, level_flows}
 use Rattle.amr_layout.specs.Places.{border_places, borders_of, leads_on, level_borders, places_before, puts_among, puts_of}
 use Rattle.amr_layout.specs.Surroundings.{Around, domain_around, edge_count, edge_face, inside, inward, is_coarse_fine, is_open, outside}
 use Rattle.amr_layout.proofs.OpenSides.{none_open}
@@ -168,6 +170,21 @@ module _ (s t : Around) (g : SameGround s t) where
 
   pub all_flows : map (λ q. flows_of s (box q)) s.patches ≡ map (λ q. flows_of t (box q)) t.patches
   all_flows = over_boxes (flows_of s) (flows_of t) flows_same s.patches t.patches g.boxes
+
+  level_flows_same : (rs ts : List Patch) → map box rs ≡ map box ts → level_flows s rs ≡ level_flows t ts
+  unfolding level_flows
+  level_flows_same rs ts same = sym (flat_map-map (flows_of s) box rs) ∙ (λ i. flat_map (flows_same i) (same i)) ∙ flat_map-map (flows_of t) box ts
+
+  flows_before_same : flows_before s ≡ flows_before t
+  flows_before_same = λ i k. length (level_flows_same (take k s.patches) (take k t.patches) (first_boxes s.patches t.patches g.boxes k) i)
+
+  pub same_level_flows : (v : LevelFlows) → AreFlowsOf s v → AreFlowsOf t v
+  same_level_flows v h =
+      let count = same_length s.patches t.patches g.boxes in
+      record {
+        flows = h.flows ∙ level_flows_same s.patches t.patches g.boxes;
+        bounds = h.bounds ∙ (λ i. map (flows_before_same i) (range_with_len 0 (count i + 1)));
+      }
 
   -- ---- register cells
 

@@ -15,7 +15,8 @@ use Rattle.amr_flux.specs.Faces.{passing}
 use Rattle.amr_layout.specs.declared.adds.Flow.{Flow}
 use Rattle.amr_layout.specs.declared.adds.Flow.TheVariants.{Kept, Inflow, Outflow, Register}
 use Rattle.amr_layout.specs.Surroundings.{Around, domain_around, inside, inward, is_coarse_fine, is_open, outside}
-use Rattle.amr_layout.specs.Adds.{FlowTo, cell_beyond, flow_to, is_exchange_face, is_inflow_face, is_ledger_face, is_outflow_face, number_of, word_of}
+use Rattle.amr_layout.specs.declared.FlowTo.{FlowTo}
+use Rattle.amr_layout.specs.Adds.{cell_beyond, flow_to, is_exchange_face, is_inflow_face, is_ledger_face, is_outflow_face, number_of, word_of}
 use Rattle.amr_layout.specs.Flows.{IsToWord, is_register, word_in}
 use Rattle.amr_layout.proofs.Passing.{passing_next}
 

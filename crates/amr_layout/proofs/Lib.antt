@@ -4,6 +4,7 @@ pub mod Numbers
 pub mod Edges
 pub mod Going
 pub mod LevelPlaces
+pub mod LevelFlowLists
 pub mod Joined
 pub mod Planned
 pub mod Taken

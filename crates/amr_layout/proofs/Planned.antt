@@ -23,7 +23,8 @@ use Rattle.amr_layout.specs.declared.TaskLayout.{TaskLayout}
 use Rattle.amr_layout.specs.declared.Layout.{Layout}
 use Rattle.amr_layout.specs.Surroundings.{Around, edge_count, edge_face}
 use Rattle.amr_layout.specs.Places.{ArePut, home_face, level_borders, placed, puts_of}
-use Rattle.amr_layout.specs.Adds.{FlowTo, flow_to, flows_in, flows_of, inflow_faces, is_exchange_face, is_inflow_face, is_outflow_face, outflow_faces, register_flows, word_of}
+use Rattle.amr_layout.specs.declared.FlowTo.{FlowTo}
+use Rattle.amr_layout.specs.Adds.{flow_to, flows_in, flows_of, inflow_faces, is_exchange_face, is_inflow_face, is_outflow_face, outflow_faces, register_flows, word_of}
 use Rattle.amr_layout.specs.Posts.{AreSmallSizes, Sizes, plan_of, posts_of, tasks_of}
 use Rattle.amr_layout.proofs.Passing.{passing_length}
 

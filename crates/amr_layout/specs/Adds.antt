@@ -1,5 +1,5 @@
 -- The faces whose flows are added to words: those of open sides to the ledger's, those of coarse-fine edges to a register cell's.
-use Rattle.std.specs.Prelude.{◌≡◌, ℕ, ◌+◌, ◌*◌, ◌<◌, Bool, ◌&&◌, not, cond, pos, int_lt, List, [], ◌∷◌, ◌++◌, map, take, Contains, IsTrue}
+use Rattle.std.specs.Prelude.{◌≡◌, ℕ, ◌+◌, ◌*◌, ◌<◌, ◌==◌, if◌then◌else◌, Bool, ◌&&◌, not, cond, pos, int_lt, List, [], ◌∷◌, ◌++◌, map, take, Contains, IsTrue}
 use Rattle.std.specs.List.{All, AllPairs, flat_map, position_or_len}
 use Rattle.std.specs.Ordering.{int_eq}
 use Rattle.amr_box.specs.declared.Cell.{Cell}
@@ -10,17 +10,23 @@ use Rattle.amr_def.specs.State.{is_covered}
 use Rattle.amr_patch.specs.Patches.{box}
 use Rattle.amr_patch.specs.Orders.{comes_first}
 use Rattle.amr_flux.specs.Faces.{passing}
+use Rattle.amr_phase.specs.Plans.{total}
 use Rattle.amr_layout.specs.declared.AddAt.{AddAt}
+use Rattle.amr_layout.specs.declared.FlowTo.{FlowTo}
 use Rattle.amr_layout.specs.declared.TaskLayout.{TaskLayout}
 use Rattle.amr_layout.specs.Surroundings.{Around, domain_around, edge_count, edge_face, inside, inward, is_coarse_fine, is_open, outside}
 
 -- the flow through a face goes to a word
-pub record FlowTo : Type 0 where
-  pub word : ℕ
-  pub face : Face
-
 abbrev pub flow_to : ℕ → Face → FlowTo
 flow_to w f = record { word = w; face = f }
+
+-- the size of a flow that goes to a word
+abbrev pub size_to : (Face → ℕ) → ℕ → FlowTo → ℕ
+size_to size word x = if x.word == word then size x.face else 0
+
+-- what flows of these sizes add to a word
+abbrev pub word_total : (Face → ℕ) → ℕ → List FlowTo → ℕ
+word_total size word = total (size_to size word)
 
 -- ---- the ledger
 

@@ -13,11 +13,11 @@ ghost use Rattle.amr_gaps.specs.Gaps.{HasStarts, IsGap};
 ghost use Rattle.amr_layout.specs.Adds.{AreInOrder, HasCellsBeyond, cell_beyond, flow_to, flows_in, flows_of, inflow_faces, is_exchange_face, is_inflow_face, is_outflow_face, number_of, outflow_faces, register_flows, word_of};
 ghost use Rattle.amr_layout.specs.Flows.{IsAtHome, IsToWord, is_coarser, is_inflow, is_outflow, is_outside, is_register, word_in};
 
-use crate::AddAt;
 use crate::faces::{edge_count, edge_face, inside, inward, outside};
 use crate::lookup::{Trace, is_covered, look_beside};
 use crate::registers::next_number;
 use crate::stretches::more_beside;
+use crate::{AddAt, FlowTo};
 use amr_box::{Bx, Cell, Face, parent};
 use amr_causes::NoMemory;
 use amr_def::Problem;
@@ -47,12 +47,13 @@ pub(crate) struct Near {
     pub(crate) register: usize,
 }
 
-/// What a patch adds, as in its task's layout.
+/// What flows through faces on a patch's edges besides to cells: the faces of the ledger's inflow and outflow, and flows to
+/// register words.
 #[derive(Drop)]
-pub(crate) struct Adds {
+pub(crate) struct PatchFlows {
     pub(crate) inflow: Vec<Face>,
     pub(crate) outflow: Vec<Face>,
-    pub(crate) register: Vec<AddAt>,
+    pub(crate) register: Vec<FlowTo>,
 }
 
 /// What lies on the other side of a face on a patch's edges.
@@ -227,28 +228,48 @@ fn add_to_word(alloc: Global, adds: &mut Vec<AddAt>, word: u32, f: Face) -> Resu
 }
 
 /// Adds a face to the list that its flow goes to.
-fn add_face(alloc: Global, adds: &mut Adds, flow: Flow, f: Face) -> Result<(), NoMemory>
-    ensures inflow { OnOk result (adds.new.inflow.items ≡ adds.old.inflow.items ++ cond (is_inflow flow) (f ∷ []) []) }
-    ensures outflow { OnOk result (adds.new.outflow.items ≡ adds.old.outflow.items ++ cond (is_outflow flow) (f ∷ []) []) }
-    ensures register { OnOk result (flows_in adds.new.register.items ≡ flows_in adds.old.register.items ++ cond (is_register flow) (flow_to (word_in flow) f ∷ []) []) }
-    ensures words { (n : ℕ) → word_in flow < n → All (λ a. a.word < n) adds.old.register.items → OnOk result (All (λ a. a.word < n) adds.new.register.items) }
+fn add_face(flows: &mut PatchFlows, flow: Flow, f: Face) -> Result<(), NoMemory>
+    ensures inflow { OnOk result (flows.new.inflow.items ≡ flows.old.inflow.items ++ cond (is_inflow flow) (f ∷ []) []) }
+    ensures outflow { OnOk result (flows.new.outflow.items ≡ flows.old.outflow.items ++ cond (is_outflow flow) (f ∷ []) []) }
+    ensures register { OnOk result (flows.new.register.items ≡ flows.old.register.items ++ cond (is_register flow) (flow_to (word_in flow) f ∷ []) []) }
+    ensures words { (n : ℕ) → word_in flow < n → All (λ x. x.word < n) flows.old.register.items → OnOk result (All (λ x. x.word < n) flows.new.register.items) }
 {
     match flow {
         Flow::Kept => {}
-        Flow::Inflow => adds.inflow.push(f)?,
-        Flow::Outflow => adds.outflow.push(f)?,
-        Flow::Register(word) => add_to_word(alloc, &mut adds.register, word, f)?,
+        Flow::Inflow => flows.inflow.push(f)?,
+        Flow::Outflow => flows.outflow.push(f)?,
+        Flow::Register(word) => flows.register.push(FlowTo { word, face: f })?,
     }
     Ok(())
 }
 
-/// Where the flows through the faces on the edges of a patch's box go.
-fn flows_beside(
-    alloc: Global,
+/// No flows.
+pub(crate) fn no_flows(alloc: Global) -> PatchFlows {
+    PatchFlows {
+        inflow: Vec::new(alloc),
+        outflow: Vec::new(alloc),
+        register: Vec::new(alloc),
+    }
+}
+
+/// Takes all flows away, and keeps the room that they had.
+fn clear(flows: &mut PatchFlows)
+    ensures inflow { flows.new.inflow.items ≡ [] }
+    ensures outflow { flows.new.outflow.items ≡ [] }
+    ensures register { flows.new.register.items ≡ [] }
+{
+    flows.inflow.clear();
+    flows.outflow.clear();
+    flows.register.clear();
+}
+
+/// Where the flows through the faces on the edges of a patch's box go, in place of the flows that stand here.
+pub(crate) fn flows_beside(
     s: Surroundings<'_>,
     near: &mut Near,
     b: &Bx,
-) -> Result<Adds, NoMemory>
+    flows: &mut PatchFlows,
+) -> Result<(), NoMemory>
     requires level { s.level ≤ 4 }
     requires order { IsOrderOf s.order s.patches.now }
     requires apart { ArePatchesApart s.patches.now }
@@ -260,23 +281,31 @@ fn flows_beside(
     requires inside { IsInDomain (domain s.problem.now s.level) b.now }
     requires there { HasCellsBeyond (around s.problem.now s.level s.patches.now s.cells.now (option_copied s.finer)) b.now }
     ensures gap { OnOk result (IsGap s.entry.patches.now near.new.level.gap) }
-    ensures inflow { IfOk result (λ adds. adds.inflow.items ≡ inflow_faces (around s.entry.problem.now s.entry.level s.entry.patches.now s.entry.cells.now (option_copied s.entry.finer)) b.now) }
-    ensures outflow { IfOk result (λ adds. adds.outflow.items ≡ outflow_faces (around s.entry.problem.now s.entry.level s.entry.patches.now s.entry.cells.now (option_copied s.entry.finer)) b.now) }
-    ensures register { IfOk result (λ adds. flows_in adds.register.items ≡ register_flows (around s.entry.problem.now s.entry.level s.entry.patches.now s.entry.cells.now (option_copied s.entry.finer)) b.now) }
-    ensures words { IfOk result (λ adds. All (λ a. a.word < 2 + 2 * length s.entry.cells.now) adds.register.items) }
+    ensures inflow { OnOk result (flows.new.inflow.items ≡ inflow_faces (around s.entry.problem.now s.entry.level s.entry.patches.now s.entry.cells.now (option_copied s.entry.finer)) b.now) }
+    ensures outflow { OnOk result (flows.new.outflow.items ≡ outflow_faces (around s.entry.problem.now s.entry.level s.entry.patches.now s.entry.cells.now (option_copied s.entry.finer)) b.now) }
+    ensures register { OnOk result (flows.new.register.items ≡ register_flows (around s.entry.problem.now s.entry.level s.entry.patches.now s.entry.cells.now (option_copied s.entry.finer)) b.now) }
+    ensures words { OnOk result (All (λ x. x.word < 2 + 2 * length s.entry.cells.now) flows.new.register.items) }
 {
-    let mut adds = Adds {
-        inflow: Vec::new(alloc),
-        outflow: Vec::new(alloc),
-        register: Vec::new(alloc),
-    };
+    clear(flows);
     let count = edge_count(b);
     let mut n = 0;
     'faces: while n < count {
         let f = edge_face(b, n);
         let flow = flow_of(s, near, b, f);
-        add_face(alloc, &mut adds, flow, f)?;
+        add_face(flows, flow, f)?;
         n = n + 1 + more_kept(s, near.level.patch, b, n, flow);
+    }
+    Ok(())
+}
+
+/// The adds of these flows: those to one word, side by side, are one add.
+fn grouped(alloc: Global, flows: &[FlowTo]) -> Result<Vec<AddAt>, NoMemory>
+    ensures flows { IfOk result (λ adds. flows_in adds.items ≡ flows.now) }
+    ensures words { (n : ℕ) → All (λ x. x.word < n) flows.now → IfOk result (λ adds. All (λ a. a.word < n) adds.items) }
+{
+    let mut adds = Vec::new(alloc);
+    for x in flows {
+        add_to_word(alloc, &mut adds, x.word, x.face)?;
     }
     Ok(adds)
 }
@@ -303,12 +332,14 @@ pub(crate) fn adds_of(
     ensures ledger { IfOk result (λ adds. take 2 (map (λ a. a.word) adds.items) ≡ 0 ∷ 1 ∷ []) }
     ensures words { IfOk result (λ adds. All (λ a. a.word < 2 + 2 * length s.entry.cells.now) adds.items) }
 {
-    let Adds {
+    let mut flows = no_flows(alloc);
+    flows_beside(s, near, b, &mut flows)?;
+    let PatchFlows {
         inflow,
         outflow,
         register,
-    } = flows_beside(alloc, s, near, b)?;
-    let mut adds = register;
+    } = flows;
+    let mut adds = grouped(alloc, &register)?;
     adds.insert(
         0,
         AddAt {

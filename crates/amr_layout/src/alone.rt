@@ -1,6 +1,6 @@
 //! What the patches of a level add where one worker makes the step alone, so that no border face has a place.
 
-ghost use Rattle.std.specs.Prelude.{◌≡◌, ℕ, ◌+◌, ◌*◌, ◌≤◌, ◌<◌, ◌^◌, length, map, IfOk, OnOk};
+ghost use Rattle.std.specs.Prelude.{◌≡◌, ◌+◌, ◌*◌, ◌≤◌, ◌<◌, ◌^◌, ◌++◌, length, map, IfOk, OnOk};
 ghost use Rattle.std.specs.Option.{option_copied};
 ghost use Rattle.std.specs.List.{All};
 ghost use Rattle.amr_def.specs.Domain.{domain};
@@ -10,21 +10,60 @@ ghost use Rattle.amr_flux.specs.Faces.{IsInDomain};
 ghost use Rattle.amr_gaps.specs.Gaps.{HasStarts};
 ghost use Rattle.amr_phase.specs.Plans.{total};
 ghost use Rattle.amr_layout.specs.Surroundings.{around, edge_count};
-ghost use Rattle.amr_layout.specs.Adds.{HasRegisterCells, flows_in, flows_of};
+ghost use Rattle.amr_layout.specs.Adds.{HasRegisterCells, flow_to};
+ghost use Rattle.amr_layout.specs.LevelFlowLists.{AreFlowsOf, HasFlowsAt, flows_at};
 
-use crate::AddAt;
-use crate::adds::{Near, Surroundings, adds_of};
+use crate::FlowTo;
+use crate::adds::{Near, PatchFlows, Surroundings, flows_beside, no_flows};
 use crate::layouts::{MOST, check_faces};
 use crate::lookup::Trace;
-use amr_box::Cell;
+use amr_box::{Cell, Face};
 use amr_causes::NoMemory;
 use amr_def::Problem;
 use amr_gaps::Starts;
 use amr_patch::{Level, Patch, order_of};
 use std::alloc::Global;
 
-/// What each patch of a level adds.
-fn adds_of_all(alloc: Global, s: Surroundings<'_>) -> Result<Vec<Vec<AddAt>>, NoMemory>
+/// The flows through faces on the edges of a level's patches that are added to words, one patch after another.
+#[derive(Drop)]
+pub struct LevelFlows {
+    flows: Vec<FlowTo>,
+    /// How many flows stand before those of each patch, and last how many there are.
+    bounds: Vec<usize>,
+}
+
+impl LevelFlows {
+    /// The flows of patch `i`.
+    pub fn of(&self, i: usize) -> &[FlowTo]
+        requires { HasFlowsAt self.now i }
+        ensures { result.now ≡ flows_at self.now i }
+    {
+        &self.flows[self.bounds[i]..self.bounds[i + 1]]
+    }
+}
+
+/// Puts the flows through these faces to a word behind a list.
+fn append_faces(all: &mut Vec<FlowTo>, word: u32, faces: &[Face]) -> Result<(), NoMemory>
+    ensures { OnOk result (all.new.items ≡ all.old.items ++ map (flow_to word) faces.now) }
+{
+    for f in faces {
+        all.push(FlowTo { word, face: *f })?;
+    }
+    Ok(())
+}
+
+/// Puts the flows of a patch behind a list: the inflows, the outflows, and those to register words.
+fn append_flows(all: &mut Vec<FlowTo>, flows: &PatchFlows) -> Result<(), NoMemory>
+    ensures { OnOk result (all.new.items ≡ all.old.items ++ (map (flow_to 0) flows.now.inflow.items ++ (map (flow_to 1) flows.now.outflow.items ++ flows.now.register.items))) }
+{
+    append_faces(all, 0, &flows.inflow)?;
+    append_faces(all, 1, &flows.outflow)?;
+    all.extend_from_slice(&flows.register)?;
+    Ok(())
+}
+
+/// The flows of each patch of a level.
+fn flows_of_all(alloc: Global, s: Surroundings<'_>) -> Result<LevelFlows, NoMemory>
     requires level { s.level ≤ 4 }
     requires order { IsOrderOf s.order s.patches.now }
     requires apart { ArePatchesApart s.patches.now }
@@ -32,8 +71,8 @@ fn adds_of_all(alloc: Global, s: Surroundings<'_>) -> Result<Vec<Vec<AddAt>>, No
     requires few { length s.cells.now ≤ 2 ^ 30 }
     requires inside { All (λ q. IsInDomain (domain s.problem.now s.level) (box q)) s.patches.now }
     requires cells { HasRegisterCells (around s.problem.now s.level s.patches.now s.cells.now (option_copied s.finer)) }
-    ensures adds { IfOk result (λ vs. map (λ v. flows_in v.items) vs.items ≡ map (λ q. flows_of (around s.entry.problem.now s.entry.level s.entry.patches.now s.entry.cells.now (option_copied s.entry.finer)) (box q)) s.entry.patches.now) }
-    ensures words { IfOk result (λ vs. All (λ v. All (λ a. a.word < 2 + 2 * length s.entry.cells.now) v.items) vs.items) }
+    ensures flows { IfOk result (AreFlowsOf (around s.entry.problem.now s.entry.level s.entry.patches.now s.entry.cells.now (option_copied s.entry.finer))) }
+    ensures words { IfOk result (λ v. All (λ x. x.word < 2 + 2 * length s.entry.cells.now) v.flows.items) }
 {
     let level = Trace {
         patch: 0,
@@ -44,16 +83,20 @@ fn adds_of_all(alloc: Global, s: Surroundings<'_>) -> Result<Vec<Vec<AddAt>>, No
         finer: 0,
         register: 0,
     };
-    let mut all = Vec::with_capacity(alloc, s.patches.len())?;
+    let mut flows = no_flows(alloc);
+    let mut all = Vec::new(alloc);
+    let mut bounds = Vec::with_capacity(alloc, s.patches.len() + 1)?;
+    bounds.push(0)?;
     for i in 0..s.patches.len() {
-        let adds = adds_of(alloc, s, &mut near, &s.patches[i].bx())?;
-        all.push(adds)?;
+        flows_beside(s, &mut near, &s.patches[i].bx(), &mut flows)?;
+        append_flows(&mut all, &flows)?;
+        bounds.push(all.len())?;
     }
-    Ok(all)
+    Ok(LevelFlows { flows: all, bounds })
 }
 
 /// What each patch of level `l` adds, as in the tasks of `plan`, where one worker makes the step alone. Then no border
-/// face has a place, and no patch puts or reads. List `i` is that of patch `i`.
+/// face has a place, and no patch puts or reads.
 ///
 /// `NoMemory` is the only refusal; it also stands for more than 2^30 faces or cells.
 pub fn plan_adds(
@@ -64,14 +107,14 @@ pub fn plan_adds(
     starts: &Starts,
     cells: &[Cell],
     finer: Option<&Level>,
-) -> Result<Vec<Vec<AddAt>>, NoMemory>
+) -> Result<LevelFlows, NoMemory>
     requires level { l ≤ 4 }
     requires apart { ArePatchesApart patches.now }
     requires starts { HasStarts patches.now starts.now }
     requires inside { All (λ q. IsInDomain (domain p.now l) (box q)) patches.now }
     requires cells { HasRegisterCells (around p.now l patches.now cells.now (option_copied finer)) }
-    ensures adds { IfOk result (λ vs. map (λ v. flows_in v.items) vs.items ≡ map (λ q. flows_of (around p.now l patches.now cells.now (option_copied finer.entry)) (box q)) patches.now) }
-    ensures words { IfOk result (λ vs. All (λ v. All (λ a. a.word < 2 + 2 * length cells.now) v.items) vs.items) }
+    ensures flows { IfOk result (AreFlowsOf (around p.now l patches.now cells.now (option_copied finer.entry))) }
+    ensures words { IfOk result (λ v. All (λ x. x.word < 2 + 2 * length cells.now) v.flows.items) }
     ensures edges { OnOk result (total (λ q. edge_count (box q)) patches.now ≤ 2 ^ 30) }
     ensures few { OnOk result (length cells.now ≤ 2 ^ 30) }
 {
@@ -88,5 +131,5 @@ pub fn plan_adds(
         cells,
         finer,
     };
-    adds_of_all(alloc, surroundings)
+    flows_of_all(alloc, surroundings)
 }

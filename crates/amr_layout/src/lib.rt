@@ -14,7 +14,7 @@ mod stretches;
 #[cfg(test)]
 mod tests;
 
-pub use crate::alone::plan_adds;
+pub use crate::alone::{LevelFlows, plan_adds};
 pub use crate::layouts::plan;
 use amr_box::Face;
 
@@ -31,6 +31,13 @@ pub struct PutAt {
 pub struct AddAt {
     pub word: u32,
     pub faces: Vec<Face>,
+}
+
+/// What flows through a face on a patch's edges is added to a word.
+#[derive(Clone, Copy)]
+pub struct FlowTo {
+    pub word: u32,
+    pub face: Face,
 }
 
 /// What the task of a patch puts, adds and reads.

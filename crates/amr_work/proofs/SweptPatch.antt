@@ -1,20 +1,16 @@
 -- A patch that is swept stands as ready for its update as before, with the same masses to come.
-use Rattle.std.proofs.Common.{◌≡◌, ℕ, ◌^◌, ◌<◌, true, pos, ◌+ℤ◌, ◌≤ℤ◌, ◌<ℤ◌, List, length, get_or, sym, ap, ◌∙◌, subst}
-use Rattle.std.specs.Prelude.{unsigned_abs}
+use Rattle.std.proofs.Common.{◌≡◌, ℕ, ◌^◌, ◌<◌, true, pos, ◌+ℤ◌, ◌≤ℤ◌, ◌<ℤ◌, List, get_or, sym, ap, ◌∙◌, subst}
 use Rattle.std.specs.List.{All}
 use Rattle.amr_box.specs.declared.Cell.{Cell}
-use Rattle.amr_box.specs.declared.Face.{Face}
 use Rattle.amr_box.specs.Cells.{Extent, holds}
 use Rattle.amr_def.specs.declared.problem.Problem.{Problem}
 use Rattle.amr_def.specs.Flux.{net}
 use Rattle.amr_patch.specs.declared.patches.Patch.{Patch}
 use Rattle.amr_patch.specs.Places.{is_edge_face}
-use Rattle.amr_patch.specs.Patches.{SameValues, box, flux_in, mass_in, value_in}
-use Rattle.amr_flux.specs.Faces.{flux_beside, in_reach, owns}
-use Rattle.amr_layout.specs.declared.AddAt.{AddAt}
-use Rattle.amr_work.specs.Ready.{AreOwnEdges}
-use Rattle.amr_work.proofs.Sameness.{own_face}
-use Rattle.amr_work.proofs.Small.{beside_small}
+use Rattle.amr_patch.specs.Patches.{SameValues, box, mass_in, value_in}
+use Rattle.amr_flux.specs.Faces.{flux_beside, in_reach}
+use Rattle.amr_layout.specs.declared.FlowTo.{FlowTo}
+use Rattle.amr_work.specs.Ready.{AreOwnFlows}
 use Rattle.amr_work.proofs.Standing.{beside_same, net_same}
 
 module _ (p : Problem) (l : ℕ) (q r : Patch) (of_box : box r ≡ box q) where
@@ -31,19 +27,7 @@ module _ (p : Problem) (l : ℕ) (q r : Patch) (of_box : box r ≡ box q) where
     pub fits_on : ((c : Cell) → holds (box q) c ≡ true → (pos (mass_in q c) +ℤ net (flux_beside p l q) c) <ℤ pos (2 ^ 32)) → (c : Cell) → holds (box r) c ≡ true → (pos (mass_in r c) +ℤ net (flux_beside p l r) c) <ℤ pos (2 ^ 32)
     fits_on fits c h = subst (λ z. z <ℤ pos (2 ^ 32)) (sym (sum_on c)) (fits c (ap (λ (b : Extent). holds b c) (sym of_box) ∙ h))
 
-  -- ---- faces of adds, in the swept patch
+  -- ---- faces of flows, in the swept patch
 
-  module _ (adds : List AddAt) (own : All (λ a. AreOwnEdges q a.faces.items × (length a.faces.items < 2 ^ 31)) adds) where
-    pub edges_on : All (λ a. All (λ f. is_edge_face (box r) f ≡ true) a.faces.items) adds
-    edges_on k d lt j f below = ap (λ (b : Extent). is_edge_face b (get_or (get_or adds k d).faces.items j f)) of_box ∙ ((own k d lt).0 j f below).0
-
-    pub small_adds : ((c : Cell) → in_reach (box q) c ≡ true → value_in q c < 2 ^ 31)
-        → ((f : Face) → is_edge_face (box q) f ≡ true → owns q f ≡ true → flux_in r f ≡ flux_beside p l q f)
-        → All (λ a. All (λ f. unsigned_abs (flux_in r f) < 2 ^ 31) a.faces.items) adds
-    small_adds small swept k d lt j d' below =
-        let o = (own k d lt).0 j d' below in
-        let f = get_or (get_or adds k d).faces.items j d' in
-        subst (λ z. unsigned_abs z < 2 ^ 31) (sym (swept f o.0 o.1)) (beside_small p l q small f (own_face q f o.1))
-
-    pub few_adds : All (λ a. length a.faces.items < 2 ^ 31) adds
-    few_adds k d lt = (own k d lt).1
+  pub edges_on : (flows : List FlowTo) → AreOwnFlows q flows → All (λ x. is_edge_face (box r) x.face ≡ true) flows
+  edges_on flows own k d lt = ap (λ (b : Extent). is_edge_face b (get_or flows k d).face) of_box ∙ (own k d lt).0

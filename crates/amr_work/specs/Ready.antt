@@ -14,6 +14,7 @@ use Rattle.amr_flux.specs.Rooms.{widest}
 use Rattle.amr_phase.specs.Plans.{PlanOf, planned_face}
 use Rattle.amr_board.specs.Ended.{EndedOf, face_of}
 use Rattle.amr_layout.specs.declared.AddAt.{AddAt}
+use Rattle.amr_layout.specs.declared.FlowTo.{FlowTo}
 use Rattle.amr_layout.specs.declared.TaskLayout.{TaskLayout}
 use Rattle.amr_def.specs.declared.problem.Problem.{Problem}
 use Rattle.amr_work.specs.declared.work.Stage.TheVariants.{Raw}
@@ -28,6 +29,10 @@ AreOwnEdges q = All (λ (f : Face). IsTrue (is_edge_face (box q) f) × IsTrue (o
 -- adds of what flows through such faces
 abbrev pub AreOwnAdds : Patch → List AddAt → Type 0
 AreOwnAdds q = All (λ (a : AddAt). AreOwnEdges q a.faces.items × (length a.faces.items < 2 ^ 31))
+
+-- flows through such faces
+abbrev pub AreOwnFlows : Patch → List FlowTo → Type 0
+AreOwnFlows q = All (λ (x : FlowTo). IsTrue (is_edge_face (box q) x.face) × IsTrue (owns q x.face))
 
 -- a task posts only what flows through faces on the edges of its patch that the patch owns
 pub record HasOwnPosts (q : Patch) (layout : TaskLayout) : Type 0 where

@@ -3,7 +3,7 @@ use Rattle.std.specs.Option.{option_copied}
 use Rattle.amr_box.specs.declared.Face.{Face}
 use Rattle.amr_flux.specs.Faces.{passing}
 use Rattle.amr_layout.specs.Surroundings.{IsInLines, IsNearFace, LiesBesideLevel, around, edge_count, edge_face}
-use Rattle.amr_layout.specs.Adds.{flow_to, flows_in, inflow_faces, is_exchange_face, is_inflow_face, is_outflow_face, outflow_faces, register_flows, word_of}
+use Rattle.amr_layout.specs.Adds.{flow_to, inflow_faces, is_exchange_face, is_inflow_face, is_outflow_face, outflow_faces, register_flows, word_of}
 use Rattle.amr_layout.specs.Flows.{is_inflow, is_outflow}
 use Rattle.amr_layout.proofs.Edges.{edge_lines, edge_near}
 use Rattle.amr_layout.proofs.Going.{faces_more, flows_more, no_exchange, no_inflow, no_outflow}
@@ -30,11 +30,11 @@ faces-preserved c =
     record {
       within = omega (arith, c.more_kept.ensures.count);
       gap = c.flow_of-flow.ensures.gap;
-      inflow = faces_more (is_inflow_face s b) (edge_face b) n c.faces.adds.inflow.items c.add_face.new.adds.inflow.items (is_inflow flow) f c.edge_face-f.ensures c.flow_of-flow.ensures.inflow c.faces.invariant.inflow c.in_ok-add_face.ensures.inflow
+      inflow = faces_more (is_inflow_face s b) (edge_face b) n c.faces.flows.inflow.items c.add_face.new.flows.inflow.items (is_inflow flow) f c.edge_face-f.ensures c.flow_of-flow.ensures.inflow c.faces.invariant.inflow c.in_ok-add_face.ensures.inflow
           ∙ sym (passing_none (is_inflow_face s b) (edge_face b) (n + 1) k (λ m from to. no_inflow s b (edge_face b m) (skipped m from to).not_open));
-      outflow = faces_more (is_outflow_face s b) (edge_face b) n c.faces.adds.outflow.items c.add_face.new.adds.outflow.items (is_outflow flow) f c.edge_face-f.ensures c.flow_of-flow.ensures.outflow c.faces.invariant.outflow c.in_ok-add_face.ensures.outflow
+      outflow = faces_more (is_outflow_face s b) (edge_face b) n c.faces.flows.outflow.items c.add_face.new.flows.outflow.items (is_outflow flow) f c.edge_face-f.ensures c.flow_of-flow.ensures.outflow c.faces.invariant.outflow c.in_ok-add_face.ensures.outflow
           ∙ sym (passing_none (is_outflow_face s b) (edge_face b) (n + 1) k (λ m from to. no_outflow s b (edge_face b m) (skipped m from to).not_open));
-      register = flows_more (is_exchange_face s b) (edge_face b) n (word_of s b) (flows_in c.faces.adds.register.items) (flows_in c.add_face.new.adds.register.items) flow f c.edge_face-f.ensures c.flow_of-flow.ensures.register c.flow_of-flow.ensures.word c.faces.invariant.register c.in_ok-add_face.ensures.register
+      register = flows_more (is_exchange_face s b) (edge_face b) n (word_of s b) c.faces.flows.register.items c.add_face.new.flows.register.items flow f c.edge_face-f.ensures c.flow_of-flow.ensures.register c.flow_of-flow.ensures.word c.faces.invariant.register c.in_ok-add_face.ensures.register
           ∙ ap (map (λ (g : Face). flow_to (word_of s b g) g)) (sym (passing_none (is_exchange_face s b) (edge_face b) (n + 1) k (λ m from to. no_exchange s b (edge_face b m) (skipped m from to).not_coarse_fine)));
       words = c.in_ok-add_face.ensures.words (2 + 2 * length c.args.s.cells.now) c.flow_of-flow.ensures.within c.faces.invariant.words;
     }

@@ -4,7 +4,7 @@ use Rattle.std.specs.List.{All}
 use Rattle.amr_flux.specs.Faces.{passing}
 use Rattle.amr_layout.specs.Surroundings.{around, edge_count, edge_face}
 use Rattle.amr_gaps.specs.Gaps.{IsGap}
-use Rattle.amr_layout.specs.Adds.{flow_to, flows_in, is_exchange_face, is_inflow_face, is_outflow_face, word_of}
+use Rattle.amr_layout.specs.Adds.{flow_to, is_exchange_face, is_inflow_face, is_outflow_face, word_of}
 use Rattle.amr_layout.proofs.adds.flows_beside.Given as goal
 
 abbrev pub decreases-faces : goal.decreases-faces
@@ -15,9 +15,9 @@ abbrev pub invariant-faces : goal.invariant-faces
 invariant-faces l = record {
   within : l.n ≤ edge_count l.b;
   gap : IsGap l.s.patches.now l.near.level.gap;
-  inflow : l.adds.inflow.items ≡ passing (is_inflow_face (around l.s.problem.now l.s.level l.s.patches.now l.s.cells.now (option_copied l.s.finer)) l.b) (edge_face l.b) l.n;
-  outflow : l.adds.outflow.items ≡ passing (is_outflow_face (around l.s.problem.now l.s.level l.s.patches.now l.s.cells.now (option_copied l.s.finer)) l.b) (edge_face l.b) l.n;
-  register : flows_in l.adds.register.items
+  inflow : l.flows.inflow.items ≡ passing (is_inflow_face (around l.s.problem.now l.s.level l.s.patches.now l.s.cells.now (option_copied l.s.finer)) l.b) (edge_face l.b) l.n;
+  outflow : l.flows.outflow.items ≡ passing (is_outflow_face (around l.s.problem.now l.s.level l.s.patches.now l.s.cells.now (option_copied l.s.finer)) l.b) (edge_face l.b) l.n;
+  register : l.flows.register.items
       ≡ map (λ f. flow_to (word_of (around l.s.problem.now l.s.level l.s.patches.now l.s.cells.now (option_copied l.s.finer)) l.b f) f) (passing (is_exchange_face (around l.s.problem.now l.s.level l.s.patches.now l.s.cells.now (option_copied l.s.finer)) l.b) (edge_face l.b) l.n);
-  words : All (λ a. a.word < 2 + 2 * length l.s.cells.now) l.adds.register.items;
+  words : All (λ x. x.word < 2 + 2 * length l.s.cells.now) l.flows.register.items;
 }

@@ -1,0 +1,35 @@
+-- The flows of a level's patches to words in one list, patch by patch.
+use Rattle.std.specs.Prelude.{◌≡◌, ℕ, ◌+◌, ◌-◌, ◌<◌, ◌≤◌, List, length, map, take, drop, slice_index}
+use Rattle.std.specs.List.{flat_map, range_with_len}
+use Rattle.amr_patch.specs.declared.patches.Patch.{Patch}
+use Rattle.amr_patch.specs.Patches.{box}
+use Rattle.amr_layout.specs.declared.FlowTo.{FlowTo}
+use Rattle.amr_layout.specs.declared.alone.LevelFlows.{LevelFlows}
+use Rattle.amr_layout.specs.Adds.{flows_of}
+use Rattle.amr_layout.specs.Surroundings.{Around}
+
+-- the flows of these patches of the level, patch by patch
+unfoldable pub level_flows : Around → List Patch → List FlowTo
+level_flows s qs = flat_map (λ q. flows_of s (box q)) qs
+
+-- how many the patches before patch i have
+abbrev pub flows_before : Around → ℕ → ℕ
+flows_before s i = length (level_flows s (take i s.patches))
+
+-- the list has the flows of all patches of the level, and the bounds say how many stand before those of each, and last how many
+-- there are
+pub record AreFlowsOf (s : Around) (v : LevelFlows) : Type 0 where
+  pub flows : v.flows.items ≡ level_flows s s.patches
+  pub bounds : v.bounds.items ≡ map (flows_before s) (range_with_len 0 (length s.patches + 1))
+
+-- ---- the part of a patch
+
+-- the flows between bound i and the next one
+abbrev pub flows_at : LevelFlows → ℕ → List FlowTo
+flows_at v i = take (slice_index v.bounds.items (i + 1) - slice_index v.bounds.items i) (drop (slice_index v.bounds.items i) v.flows.items)
+
+-- there are such bounds, one after the other, within the list
+pub record HasFlowsAt (v : LevelFlows) (i : ℕ) : Type 0 where
+  pub there : i + 1 < length v.bounds.items
+  pub order : slice_index v.bounds.items i ≤ slice_index v.bounds.items (i + 1)
+  pub within : slice_index v.bounds.items (i + 1) ≤ length v.flows.items
