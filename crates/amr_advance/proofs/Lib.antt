@@ -1,15 +1,15 @@
 mod Bodies
-mod Reversed
+pub mod Reversed
 mod Begun
-mod Filled
-mod Going
+pub mod Filled
+pub mod Going
 mod Lone
-mod Handed
-mod Closed
+pub mod Handed
+pub mod Closed
 pub mod CoarseParts
 mod Absorbed
 mod Parts
-mod Advancing
+pub mod Advancing
 mod Stepped
 pub mod SameLayouts
 mod KeptLaws

@@ -1,4 +1,4 @@
-//! Steps of two levels.
+//! Steps of one level and of two.
 
 ghost use Rattle.std.specs.Prelude.{◌≡◌, false, IfOk, OnOk};
 ghost use Rattle.amr_def.specs.Facts.{IsSound};
@@ -6,14 +6,15 @@ ghost use Rattle.amr_patch.specs.Meshes.{is_spent, levels_of, state_of};
 ghost use Rattle.amr_cycle.specs.Cycles.{AreCoarsenableAbove};
 ghost use Rattle.amr_cycle.specs.Kept.{IsKept};
 
-use crate::rows::mass_at;
+use crate::rows::{mass_at, row};
 use amr_advance::Crew;
 use amr_causes::NoMemory;
 use amr_cycle::{Kept, step, step_kept};
 use amr_decoder::decode2;
 use amr_def::Problem;
 use amr_patch::{Level, Mesh};
-use amr_samples::ring;
+use amr_samples::{Turnstile, nine_columns, ring};
+use amr_start::base;
 use amr_workers::OpenGate;
 use std::alloc::Global;
 use std::test::Fail;
@@ -148,5 +149,33 @@ fn kept_from_step_to_step(rt: HostRuntime) -> Result<(), Fail> {
     let (levels, others) = steps_both_ways(&rt, alloc, &p, 6, &mut kept)?;
     assert!(rt; have_same_masses(&levels, &others));
     assert!(rt; mass_at(&levels, 1, 6, 0).is_some());
+    Ok(())
+}
+
+/// The start of a problem, with level 0 alone.
+fn start_of(alloc: Global, p: &Problem) -> Result<Mesh, NoMemory>
+    ensures whole { IfOk result (λ m. is_spent m ≡ false) }
+    ensures sound { IfOk result (λ m. IsSound p.now (state_of m)) }
+    ensures at_start { IfOk result (λ m. (state_of m).step ≡ 0) }
+    ensures coarsenable { IfOk result (λ m. AreCoarsenableAbove (levels_of m)) }
+{
+    let mesh = base(alloc, p)?;
+    Ok(mesh)
+}
+
+/// The first task is held until another is done, so a second worker takes part; the mass is a column on all the same.
+#[test]
+fn second_task_first(rt: HostRuntime) -> Result<(), Fail> {
+    let alloc = rt.alloc();
+    let p = nine_columns(alloc)?;
+    let mut mesh = start_of(alloc, &p)?;
+    let gate = Turnstile::new();
+    step(&rt, &p, &mut mesh, CREW, &gate)?;
+    let (_, levels) = mesh.take();
+    assert_eq!(rt;
+        row(alloc, &levels, 0, 0, 9)?.as_slice(),
+        [8, 0, 0, 0, 0, 0, 0, 0, 0].as_slice()
+    );
+    assert!(rt; gate.has_held());
     Ok(())
 }

@@ -5,6 +5,8 @@
 #[cfg(test)]
 mod advance;
 #[cfg(test)]
+mod board;
+#[cfg(test)]
 mod cycle;
 #[cfg(test)]
 mod drive;
