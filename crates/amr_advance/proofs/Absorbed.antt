@@ -20,7 +20,7 @@ use Rattle.amr_register.specs.Registers.{IsRegisterOf, SameCells, cells_in, entr
 use Rattle.amr_register.proofs.Homes.{size_at}
 use Rattle.amr_register.proofs.Refluxes.{apart_places}
 use Rattle.amr_register.proofs.Taken.{same_at}
-use Rattle.amr_advance.proofs.CoarseParts.{same_twice}
+use Rattle.amr_register.proofs.SameCells.{same_twice}
 
 -- what flowed into register cell k less what flowed out of it
 abbrev pub gain_of : List ℕ → ℕ → ℤ

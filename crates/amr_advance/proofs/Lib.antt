@@ -6,7 +6,6 @@ pub mod Going
 mod Lone
 pub mod Handed
 pub mod Closed
-pub mod CoarseParts
 mod Absorbed
 mod Parts
 pub mod Advancing

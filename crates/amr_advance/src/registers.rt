@@ -1,37 +1,12 @@
-//! What a step of a level gives to flux registers (Berger and Colella 1989). The one over it gets its own plain flows,
-//! the one of the next coarser level the totals of its words.
+//! What a step of a level adds to the flux register of the next coarser one: the totals of its words (Berger and Colella 1989).
 
-ghost use Rattle.std.specs.Prelude.{◌≡◌, ℕ, ◌+◌, ◌*◌, ◌<◌, ◌≤◌, ◌^◌, pos, ◌+ℤ◌, ◌-ℤ◌, length, slice_index, slice_index_or, unsigned_abs, IsTrue};
-ghost use Rattle.std.specs.List.{All, Contains};
+ghost use Rattle.std.specs.Prelude.{◌≡◌, ℕ, ◌+◌, ◌*◌, ◌<◌, ◌^◌, pos, ◌+ℤ◌, ◌-ℤ◌, length, slice_index, slice_index_or, unsigned_abs};
 ghost use Rattle.amr_box.specs.declared.Cell.{Cell};
 ghost use Rattle.amr_def.specs.declared.problem.Problem.{Problem};
-ghost use Rattle.amr_def.specs.Domain.{domain};
 ghost use Rattle.amr_def.specs.State.{Masses};
-ghost use Rattle.amr_patch.specs.Patches.{box, value_in};
-ghost use Rattle.amr_flux.specs.Faces.{IsInDomain, in_reach};
-ghost use Rattle.amr_register.specs.Laws.{net_of_all};
 ghost use Rattle.amr_register.specs.Registers.{IsRegisterOf, SameCells, cells_in, entry_in};
 
-use amr_def::Problem;
-use amr_patch::Patch;
 use amr_register::Register;
-
-/// Takes the plain flows through a level's coarse-fine edges out of the register over it, patch by patch. Level `l`, 0 to 3, has at
-/// most 2^26 patches with values below 2^31, each as its cells stood before the step; entries are below 2^61 in size.
-pub(crate) fn take_coarse_parts(p: &Problem, l: u32, patches: &[Patch], register: &mut Register)
-    requires level { l ≤ 3 }
-    requires inside { All (λ q. IsInDomain (domain p.now l) (box q)) patches.now }
-    requires small { All (λ q. (c : Cell) → IsTrue (in_reach (box q) c) → value_in q c < 2 ^ 31) patches.now }
-    requires few { length patches.now ≤ 2 ^ 26 }
-    requires made { (m : Masses) × ((fine : Masses) × IsRegisterOf p.now l m fine register.old) }
-    requires room { (c : Cell) → unsigned_abs (entry_in register.old c) < 2 ^ 61 }
-    ensures taken { (m fine : Masses) → IsRegisterOf p.now l m fine register.old → (c : Cell) → Contains (cells_in register.old) c → entry_in register.new c ≡ entry_in register.old c -ℤ net_of_all p.now l fine patches.now c }
-    ensures cells { SameCells register.old register.new }
-{
-    for patch in patches {
-        register.coarse_part(p, l, patch);
-    }
-}
 
 /// Adds what flowed into each register cell of the next coarser level, less what flowed out of it, by the totals of the
 /// words. Words `2 + 2 * k` and `3 + 2 * k` are those of cell `k`. Entries are below 2^61 in size, and so is what is

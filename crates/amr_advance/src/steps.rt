@@ -21,7 +21,7 @@ ghost use Rattle.amr_advance.specs.Shown.{AreShown, StepFits};
 
 use crate::kept::{KeptLayout, layout_for};
 use crate::level::{Given, run_level};
-use crate::registers::{absorb_totals, take_coarse_parts};
+use crate::registers::absorb_totals;
 use crate::regs::{Crew, Regs};
 use crate::running::Workers;
 use amr_box::Cell;
@@ -92,15 +92,15 @@ fn copy_of(alloc: Global, register: &Option<Register>) -> Result<Option<Register
 }
 
 /// Takes the plain flows through a level's coarse-fine edges out of the register over it, where there is one.
-fn take_parts(given: Given<'_>, patches: &[Patch], register: &mut Option<Register>)
+fn take_parts(given: Given<'_>, patches: &[Patch], order: Order, register: &mut Option<Register>)
+    requires order { IsOrderOf order patches.now }
     requires shown { AreShown given.problem.now given.level (old_masses (option_copied given.old)) patches.now }
     requires fits { StepFits given.problem.now given.level (masses_in patches.now) (old_masses (option_copied given.old)) }
-    requires few { length patches.now ≤ 2 ^ 26 }
     requires register { HasEdges given.problem.now given.level (masses_in patches.now) (option_copied given.finer) register.old }
     ensures { BothChange (taken given.entry.problem.now given.entry.level (masses_in patches.now) (old_masses (option_copied given.entry.old)) (finer_masses (option_copied given.entry.finer))) register.old register.new }
 {
     match register {
-        Some(register) => take_coarse_parts(given.problem, given.level, patches, register),
+        Some(register) => register.coarse_parts(given.problem, given.level, patches, order),
         None => (),
     }
 }
@@ -143,7 +143,7 @@ fn step_patches<R: Threads + Sync, G: Gate + Sync>(
         return Err(NoMemory);
     }
     let saved = copy_of(given.alloc, register)?;
-    take_parts(given, patches, register);
+    take_parts(given, patches, order, register);
     match run_level(workers, given, patches, &mut layout) {
         Ok(totals) => {
             *kept = Some(layout);

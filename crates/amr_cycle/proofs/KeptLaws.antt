@@ -15,8 +15,7 @@ use Rattle.amr_patch.specs.Patches.{box, masses_in}
 use Rattle.amr_alike.proofs.SameBoxes.{some_in_boxes}
 use Rattle.amr_register.specs.declared.register.Register.{Register}
 use Rattle.amr_register.specs.Registers.{SameCells}
-use Rattle.amr_register.proofs.SameCells.{same_register}
-use Rattle.amr_advance.proofs.CoarseParts.{register_kept}
+use Rattle.amr_register.proofs.SameCells.{register_kept, same_register}
 use Rattle.amr_cycle.specs.declared.kept.KeptBelow.{KeptBelow}
 use Rattle.amr_cycle.specs.declared.kept.KeptLevel.{KeptLevel}
 use Rattle.amr_cycle.specs.Cycles.{SomeHasEntries}

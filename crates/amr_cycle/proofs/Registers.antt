@@ -17,10 +17,10 @@ use Rattle.amr_register.specs.declared.register.Register.{Register}
 use Rattle.amr_register.specs.Beside.{HaveSides}
 use Rattle.amr_register.specs.RegisterCells.{register_cells}
 use Rattle.amr_register.specs.Registers.{IsRegisterOf, cells_in, entry_in, sides_in}
+use Rattle.amr_register.proofs.SameCells.{no_entry, register_kept, small_entries}
 use Rattle.amr_flows.specs.Words.{child_flows}
 use Rattle.amr_flows.specs.Subcycle.{AreGathered, CoverAlike, children_part, edge_part}
 use Rattle.amr_advance.specs.Registers.{BothChange, HasCoarser, HasFiner, cells_of, gained, taken}
-use Rattle.amr_advance.proofs.CoarseParts.{no_entry, register_kept, small_entries}
 use Rattle.amr_cycle.specs.Cycles.{SomeHasEntries, entries_of}
 
 -- made anew, a register serves the step of its level

@@ -1,5 +1,5 @@
 -- The patches of a level together take each plain flow through a coarse-fine edge away once.
-use Rattle.std.proofs.Common.{◌≡◌, ◌∙◌, ℕ, zero, suc, ◌<◌, ◌≤◌, Bool, true, false, cond, ◌&&◌, ℤ, pos, negsuc, ◌+ℤ◌, ◌-ℤ◌, List, [], ◌∷◌, length, refl, sym, ap, arith}
+use Rattle.std.proofs.Common.{◌≡◌, ◌∙◌, ℕ, suc, ◌<◌, ◌≤◌, Bool, true, false, cond, ◌&&◌, ℤ, pos, negsuc, ◌+ℤ◌, ◌-ℤ◌, List, refl, sym, ap, arith}
 use Rattle.std.specs.Prelude.{is_some, slice_index_or}
 use Rattle.std.specs.List.{All}
 use Rattle.std.proofs.lemmas.List.Folds.{Any-from_list_any}
@@ -22,7 +22,7 @@ use Rattle.amr_patch.specs.Patches.{ArePatchesApart, box, in_patches, masses_in}
 use Rattle.amr_patch.proofs.LevelLaws.{none_here}
 use Rattle.amr_flux.specs.Faces.{ShowsValues, flux_beside}
 use Rattle.amr_flux.proofs.Shown.{flux_is}
-use Rattle.amr_register.specs.CoarseFlows.{coarse_flows, edge_flows, has_high_cell, high_face, home_face, low_face}
+use Rattle.amr_register.specs.CoarseFlows.{coarse_flows, edge_flows, has_high_cell, high_face, home_face, low_face, sum_over}
 use Rattle.amr_register.specs.RegisterCells.{is_coarse_fine, is_register_cell}
 use Rattle.amr_register.specs.Laws.{net_of_all}
 use Rattle.amr_register.proofs.CellLists.{of_level}
@@ -30,62 +30,7 @@ use Rattle.amr_register.proofs.CollectLaws.{none_covered}
 use Rattle.amr_register.proofs.Homes.{HasSize, home_inside, size_at}
 use Rattle.amr_register.proofs.NetOver.{high_tells}
 use Rattle.amr_register.proofs.OwnedFlows.{low_face_of_box}
-
--- ---- sums over patches
-
-abbrev sum_of : (Patch → ℤ) → List Patch → ℤ
-sum_of g [] = pos 0
-sum_of g (q ∷ qs) = g q +ℤ sum_of g qs
-
-no_sum : (g : Patch → ℤ) (ps : List Patch) → ((q : Patch) → g q ≡ pos 0) → sum_of g ps ≡ pos 0
-no_sum g [] h = refl
-no_sum g (q ∷ qs) h = λ i. h q i +ℤ no_sum g qs h i
-
-module _ (h : Cell) (v : Patch → ℤ) where
-  abbrev here : Patch → ℤ
-  here q = cond (holds (box q) h) (v q) (pos 0)
-
-  none_there : (ps : List Patch) → ((j : ℕ) (d : Patch) → j < length ps → holds (box (slice_index_or ps j d)) h ≡ true → ⊥) → sum_of here ps ≡ pos 0
-  none_there [] none = refl
-  none_there (q ∷ qs) none =
-      (λ i. cond-false (holds (box q) h) (v q) (pos 0) (false_from_ne_true (holds (box q) h) (none 0 q (omega arith))) i +ℤ none_there qs (λ j d lt. none (suc j) d (omega arith)) i)
-
-  plus_nothing : (z : ℤ) → z +ℤ pos 0 ≡ z
-  plus_nothing z = omega (arith, ints)
-
-  nothing_plus : (z : ℤ) → pos 0 +ℤ z ≡ z
-  nothing_plus z = omega (arith, ints)
-
-  -- the patch that has the cell gives the sum
-  one_there : (ps : List Patch) (n : ℕ) (d : Patch) → ArePatchesApart ps → n < length ps → holds (box (slice_index_or ps n d)) h ≡ true → sum_of here ps ≡ v (slice_index_or ps n d)
-  one_there [] n d apart lt held = absurd (omega arith)
-  one_there (q ∷ qs) zero d apart lt held =
-      (λ i. cond-true (holds (box q) h) (v q) (pos 0) held i +ℤ none_there qs (λ j e l other. apart 0 (suc j) e (omega arith) (omega arith) h held other) i)
-      ∙ plus_nothing (v q)
-  one_there (q ∷ qs) (suc n) d apart lt held =
-      (λ i. cond-false (holds (box q) h) (v q) (pos 0) (false_from_ne_true (holds (box q) h) (λ first. apart 0 (suc n) d (omega arith) lt h first held)) i +ℤ one_there qs n d (λ i j e a b. apart (suc i) (suc j) e (omega arith) (omega arith)) (omega arith) held i)
-      ∙ nothing_plus (v (slice_index_or qs n d))
-
--- ---- net flows of sums
-
-eight : (a b c d e f g h : ℤ) → ((a -ℤ b) +ℤ (c -ℤ d)) +ℤ ((e -ℤ f) +ℤ (g -ℤ h)) ≡ ((a +ℤ e) -ℤ (b +ℤ f)) +ℤ ((c +ℤ g) -ℤ (d +ℤ h))
-eight a b c d e f g h = omega (arith, ints)
-
-net-plus : (a b : Fluxes) (c : Cell) → net a c +ℤ net b c ≡ net (λ f. a f +ℤ b f) c
-unfolding net
-net-plus a b c = eight (a (low_face X c)) (a (high_face X c)) (a (low_face Y c)) (a (high_face Y c)) (b (low_face X c)) (b (high_face X c)) (b (low_face Y c)) (b (high_face Y c))
-
-net-none : (c : Cell) → pos 0 ≡ net (λ f. pos 0) c
-unfolding net
-net-none c = refl
-
-net-same : (a b : Fluxes) (c : Cell) → a (low_face X c) ≡ b (low_face X c) → a (high_face X c) ≡ b (high_face X c) → a (low_face Y c) ≡ b (low_face Y c) → a (high_face Y c) ≡ b (high_face Y c) → net a c ≡ net b c
-unfolding net
-net-same a b c west east south north i = (west i -ℤ east i) +ℤ (south i -ℤ north i)
-
-net-all : (p : Problem) (l : ℕ) (fine : Masses) (ps : List Patch) (c : Cell) → net_of_all p l fine ps c ≡ net (λ f. sum_of (λ q. coarse_flows p l fine q f) ps) c
-net-all p l fine [] c = net-none c
-net-all p l fine (q ∷ qs) c = ap (λ (z : ℤ). net (coarse_flows p l fine q) c +ℤ z) (net-all p l fine qs c) ∙ net-plus (coarse_flows p l fine q) (λ f. sum_of (λ r. coarse_flows p l fine r f) qs) c
+use Rattle.amr_register.proofs.PatchSums.{net-all, no_sum, one_there}
 
 -- ---- the flux through a face that stands for another
 
@@ -114,11 +59,15 @@ same_flux p l m old a x y size =
 
 -- ---- each edge
 
+net-same : (a b : Fluxes) (c : Cell) → a (low_face X c) ≡ b (low_face X c) → a (high_face X c) ≡ b (high_face X c) → a (low_face Y c) ≡ b (low_face Y c) → a (high_face Y c) ≡ b (high_face Y c) → net a c ≡ net b c
+unfolding net
+net-same a b c west east south north i = (west i -ℤ east i) +ℤ (south i -ℤ north i)
+
 module _ (p : Problem) (l : ℕ) (k fine : Level) (old : Masses) (ps : List Patch) (few : l ≤ 3) (klevel : IsLevel p l k) (flevel : IsLevel p (suc l) fine) (nested : IsNestedLevel p l k fine) (apart : ArePatchesApart ps) (of_patches : masses_in ps ≡ k.masses) (shown : All (ShowsValues p l k.masses old) ps) where
   size : HasSize (domain p l)
   size = size_at p l (omega arith)
 
-  at_edge : (a : Axis) (x y : ℤ) → is_coarse_fine (domain p l) fine.masses (face a x y) ≡ true → is_some (k.masses (home_cell (domain p l) (cell x y))) ≡ true → sum_of (λ q. coarse_flows p l fine.masses q (face a x y)) ps ≡ flux_at p l k.masses old (face a x y)
+  at_edge : (a : Axis) (x y : ℤ) → is_coarse_fine (domain p l) fine.masses (face a x y) ≡ true → is_some (k.masses (home_cell (domain p l) (cell x y))) ≡ true → sum_over (λ q. coarse_flows p l fine.masses q (face a x y)) ps ≡ flux_at p l k.masses old (face a x y)
   unfolding coarse_flows
   at_edge a x y edge some =
       let d = domain p l in
@@ -128,12 +77,12 @@ module _ (p : Problem) (l : ℕ) (k fine : Level) (old : Masses) (ps : List Patc
       let one = Any-from_list_any (λ q. holds (box q) h) ps in_one in
       let q = one.1 in
       let held : holds (box (slice_index_or ps one.0 q)) h ≡ true = ap (λ (r : Patch). holds (box r) h) one.3 ∙ one.4 in
-      ap (λ (b : Bool). sum_of (λ r. cond (b && holds (box r) h) (v r) (pos 0)) ps) edge
+      ap (λ (b : Bool). sum_over (λ r. cond (b && holds (box r) h) (v r) (pos 0)) ps) edge
       ∙ one_there h v ps one.0 q apart one.2 held
       ∙ flux_is p l k.masses old (slice_index_or ps one.0 q) (shown one.0 q one.2) (home_face d (face a x y)) (low_face_of_box (box (slice_index_or ps one.0 q)) a h held)
       ∙ same_flux p l k.masses old a x y size
 
-  each_face : (a : Axis) (x y : ℤ) (t : Bool) → is_coarse_fine (domain p l) fine.masses (face a x y) ≡ t → (t ≡ true → is_some (k.masses (home_cell (domain p l) (cell x y))) ≡ true) → sum_of (λ q. coarse_flows p l fine.masses q (face a x y)) ps ≡ edge_flows p l k.masses old fine.masses (face a x y)
+  each_face : (a : Axis) (x y : ℤ) (t : Bool) → is_coarse_fine (domain p l) fine.masses (face a x y) ≡ t → (t ≡ true → is_some (k.masses (home_cell (domain p l) (cell x y))) ≡ true) → sum_over (λ q. coarse_flows p l fine.masses q (face a x y)) ps ≡ edge_flows p l k.masses old fine.masses (face a x y)
   unfolding coarse_flows edge_flows
   each_face a x y true e some = at_edge a x y e (some refl) ∙ sym (cond-true _ _ _ e)
   each_face a x y false e some =
@@ -169,7 +118,7 @@ module _ (p : Problem) (l : ℕ) (k fine : Level) (old : Masses) (ps : List Patc
     pub taken_once : net_of_all p l fine.masses ps c ≡ net (edge_flows p l k.masses old fine.masses) c
     taken_once =
         net-all p l fine.masses ps c
-        ∙ net-same (λ f. sum_of (λ q. coarse_flows p l fine.masses q f) ps) (edge_flows p l k.masses old fine.masses) c
+        ∙ net-same (λ f. sum_over (λ q. coarse_flows p l fine.masses q f) ps) (edge_flows p l k.masses old fine.masses) c
         (each_face X c.x c.y _ refl (λ e. itself))
         (each_face X (c.x +ℤ pos 1) c.y _ refl (λ e. beyond X (c.x +ℤ pos 1) c.y low_x e))
         (each_face Y c.x c.y _ refl (λ e. itself))

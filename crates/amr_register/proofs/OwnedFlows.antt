@@ -1,21 +1,14 @@
--- The flow of a patch through a face, by the tests that a call makes.
-use Rattle.std.proofs.Common.{◌≡◌, ◌∙◌, ℕ, ◌+◌, ◌<◌, Bool, true, false, ◌&&◌, ℤ, pos, negsuc, ◌+ℤ◌, ◌-ℤ◌, ◌<ℤ◌, sym, ap, arith}
+-- The faces of a box, and sizes of flows.
+use Rattle.std.proofs.Common.{◌≡◌, ◌∙◌, ℕ, ◌+◌, ◌<◌, true, ℤ, pos, negsuc, ◌+ℤ◌, ◌-ℤ◌, ◌<ℤ◌, arith}
 use Rattle.std.specs.Prelude.{unsigned_abs}
 use Rattle.std.proofs.lemmas.Int.{ints}
-use Rattle.std.proofs.lemmas.Bool.{and_from, and_parts, and_right, cond-false, cond-true}
+use Rattle.std.proofs.lemmas.Bool.{and_from, and_parts}
 use Rattle.amr_box.specs.declared.Cell.{Cell}
-use Rattle.amr_box.specs.declared.Face.{Face}
 use Rattle.amr_box.specs.declared.Axis.{Axis}
 use Rattle.amr_box.specs.declared.Axis.TheVariants.{X, Y}
 use Rattle.amr_box.specs.Cells.{Extent, holds, within}
-use Rattle.amr_def.specs.declared.problem.Problem.{Problem}
-use Rattle.amr_def.specs.Domain.{Domain, domain, home_cell}
-use Rattle.amr_def.specs.Flux.{face, high_cell}
-use Rattle.amr_patch.specs.declared.patches.Patch.{Patch}
-use Rattle.amr_patch.specs.Patches.{box}
+use Rattle.amr_def.specs.Flux.{face}
 use Rattle.amr_patch.specs.Places.{is_face_of, on_box}
-use Rattle.amr_flux.specs.Faces.{flux_beside}
-use Rattle.amr_register.specs.CoarseFlows.{has_high_cell, owned_flow}
 
 within_more : (low high z : ℤ) → within low high z ≡ true → within low (high +ℤ pos 1) z ≡ true
 within_more low high z h = grind (arith, ints)
@@ -27,18 +20,6 @@ low_face_of_box b a c h = by_axis a (and_parts (within b.lo.x b.hi.x c.x) (withi
     by_axis : (a : Axis) → (within b.lo.x b.hi.x c.x ≡ true) × (within b.lo.y b.hi.y c.y ≡ true) → on_box a b c ≡ true
     by_axis X t = and_from _ _ (within_more b.lo.x b.hi.x c.x t.0) t.1
     by_axis Y t = and_from _ _ t.0 (within_more b.lo.y b.hi.y c.y t.1)
-
-module _ (p : Problem) (l : ℕ) (q : Patch) (counts : Bool) (f : Face) (d : Domain) (high : Cell) (here : d ≡ domain p l) (g : Cell) (is_home : high ≡ home_cell d g) (is_high : g ≡ high_cell f) where
-  at_home : high ≡ home_cell (domain p l) (high_cell f)
-  at_home = is_home ∙ (λ i. home_cell (here i) (is_high i))
-
-  pub owned : counts ≡ true → holds (box q) high ≡ true → flux_beside p l q (face f.axis high.x high.y) ≡ owned_flow p l q counts f
-  owned h k =
-      ap (λ (c : Cell). flux_beside p l q (face f.axis c.x c.y)) at_home
-      ∙ sym (cond-true (counts && has_high_cell (domain p l) (box q) f) _ _ (and_from counts (has_high_cell (domain p l) (box q) f) h (ap (holds (box q)) (sym at_home) ∙ k)))
-
-  pub not_owned : holds (box q) high ≡ false → pos 0 ≡ owned_flow p l q counts f
-  not_owned k = sym (cond-false (counts && has_high_cell (domain p l) (box q) f) _ _ (and_right counts (has_high_cell (domain p l) (box q) f) (ap (holds (box q)) (sym at_home) ∙ k)))
 
 -- a number that is kept in 64 bits
 pub kept_as : (a r z : ℤ) → a ≡ r → r ≡ z → a ≡ z

@@ -6,7 +6,7 @@ use Rattle.amr_def.specs.Domain.{Domain, home_cell, in_domain}
 use Rattle.amr_register.specs.declared.sides.CoveredSides.{CoveredSides}
 use Rattle.amr_register.specs.declared.sides.Stretches.{Stretches}
 use Rattle.amr_register.specs.RegisterCells.{has_neighbour_where}
-use Rattle.amr_register.specs.Runs.{IsStretch}
+use Rattle.amr_register.specs.Bars.{IsStretch}
 
 -- a cell of the domain that is not covered, beside one that is
 unfoldable pub stands_beside : Domain → (Cell → Bool) → Cell → Bool

@@ -1,5 +1,5 @@
--- The part of a patch in a register: its plain flows through coarse-fine edges.
-use Rattle.std.specs.Prelude.{ℕ, Bool, ◌&&◌, cond, ℤ, pos, ◌+ℤ◌, ◌-ℤ◌}
+-- The part of patches in a register: their plain flows through coarse-fine edges.
+use Rattle.std.specs.Prelude.{ℕ, Bool, ◌&&◌, cond, ℤ, pos, ◌+ℤ◌, ◌-ℤ◌, List, [], ◌∷◌}
 use Rattle.amr_box.specs.declared.Cell.{Cell}
 use Rattle.amr_box.specs.declared.Face.{Face}
 use Rattle.amr_box.specs.declared.Axis.{Axis}
@@ -14,7 +14,6 @@ use Rattle.amr_patch.specs.Patches.{box}
 use Rattle.amr_flux.specs.Faces.{flux_beside}
 use Rattle.amr_register.specs.declared.sides.CoveredSides.{CoveredSides}
 use Rattle.amr_register.specs.RegisterCells.{is_coarse_fine}
-use Rattle.amr_register.specs.Spans.{is_in_columns}
 
 -- the face at the low side of a cell
 abbrev pub low_face : Axis → Cell → Face
@@ -42,14 +41,19 @@ owned_flow p l q counts f = cond (counts && has_high_cell (domain p l) (box q) f
 unfoldable pub coarse_flows : Problem → ℕ → Masses → Patch → Fluxes
 coarse_flows p l fine q f = owned_flow p l q (is_coarse_fine (domain p l) fine f) f
 
--- what comes into a cell by those through its edges on these sides
-abbrev pub net_over : Problem → ℕ → Patch → CoveredSides → Cell → ℤ
-net_over p l q s c =
-    (owned_flow p l q s.west (low_face X c) -ℤ owned_flow p l q s.east (high_face X c)) +ℤ (owned_flow p l q s.south (low_face Y c) -ℤ owned_flow p l q s.north (high_face Y c))
+-- what patches give together
+abbrev pub sum_over : (Patch → ℤ) → List Patch → ℤ
+sum_over g [] = pos 0
+sum_over g (q ∷ qs) = g q +ℤ sum_over g qs
 
--- the same, and 0 of a cell that lies in none of the patch's columns, nor in the one left of them
-abbrev pub net_beside : Problem → ℕ → Patch → CoveredSides → Cell → ℤ
-net_beside p l q s c = cond (is_in_columns (domain p l) (box q) c) (net_over p l q s c) (pos 0)
+-- the flow through a face, if it counts, by the values of those that own it: of patches apart one at most
+abbrev pub flow_of_owners : Problem → ℕ → List Patch → Bool → Face → ℤ
+flow_of_owners p l qs counts f = sum_over (λ q. owned_flow p l q counts f) qs
+
+-- what comes into a cell by those through its edges on these sides
+abbrev pub net_of_owners : Problem → ℕ → List Patch → CoveredSides → Cell → ℤ
+net_of_owners p l qs s c =
+    (flow_of_owners p l qs s.west (low_face X c) -ℤ flow_of_owners p l qs s.east (high_face X c)) +ℤ (flow_of_owners p l qs s.south (low_face Y c) -ℤ flow_of_owners p l qs s.north (high_face Y c))
 
 -- the plain flows through all coarse-fine edges of a level with masses m, and 0 through all other faces
 unfoldable pub edge_flows : Problem → ℕ → Masses → Masses → Masses → Fluxes

@@ -4,6 +4,6 @@ use Rattle.amr_box.specs.declared.Cell.{Cell}
 use Rattle.amr_def.specs.State.{in_boxes}
 use Rattle.amr_register.specs.declared.cover.Cover.{Cover}
 
--- whether it has a cell: one of its runs does
+-- whether it has a cell: one of its bars does
 unfoldable pub covers : Cover → Cell → Bool
-covers v c = in_boxes v.runs.items c
+covers v c = in_boxes v.bars.items c

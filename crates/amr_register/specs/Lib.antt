@@ -1,10 +1,9 @@
 pub mod RegisterCells
 pub mod Entries
-pub mod Runs
+pub mod Bars
 pub mod Covers
 pub mod Beside
 pub mod Collecting
-pub mod Spans
 pub mod CoarseFlows
 pub mod Registers
 pub mod Laws

@@ -13,15 +13,15 @@ ghost use Rattle.amr_register.specs.RegisterCells.{has_neighbour_where, register
 ghost use Rattle.amr_register.specs.Beside.{IsDomainCell, stands_beside};
 ghost use Rattle.amr_register.specs.Covers.{covers};
 ghost use Rattle.amr_register.specs.Entries.{AreRising};
-ghost use Rattle.amr_register.specs.Runs.{IsStretch};
+ghost use Rattle.amr_register.specs.Bars.{IsStretch};
 ghost use Rattle.amr_register.specs.Collecting.{Collects, Finds, FindsAround, FindsBelowAndAbove, FindsLeftAndRight};
 
+use crate::bars::Stretch;
 use crate::cells::{
     column_first, column_last, east_of, north_of, row_first, row_last, south_of, west_of,
 };
 use crate::cover::Cover;
 use crate::order::put_in_order;
-use crate::runs::Stretch;
 use amr_box::{Bx, Cell};
 use amr_causes::NoMemory;
 use amr_def::{Dom, Problem};

@@ -1,8 +1,8 @@
 //! Which cells of a level a finer one covers.
 
-ghost use Rattle.amr_register.specs.Runs.{AreRuns};
+ghost use Rattle.amr_register.specs.Bars.{AreBars};
 
-use crate::runs::{Stretch, count_of, push_rows, stretch_at, told};
+use crate::bars::{Stretch, count_of, push_rows, stretch_at, told};
 use amr_box::{Bx, Cell};
 use amr_causes::NoMemory;
 use amr_patch::Level;
@@ -10,11 +10,11 @@ use std::alloc::Global;
 
 /// The cells of a level that a finer one covers, as stretches along rows. So a stretch of a row that is covered, or of
 /// which no cell is, takes one look-up. A search is made only where it is neither the last one's nor beside it. There
-/// are as many runs as the parents of the finer level's boxes have rows.
+/// are as many bars as the parents of the finer level's boxes have rows.
 #[derive(Drop)]
 pub(crate) struct Cover {
-    runs: Vec<Bx>,
-    ghost runs_in_order: { AreRuns runs.items },
+    bars: Vec<Bx>,
+    ghost bars_in_order: { AreBars bars.items },
 }
 
 #[tactic(auto, unfolding(crate::specs::Covers::covers))]
@@ -27,7 +27,7 @@ impl Cover {
     ghost use Rattle.amr_def.specs.State.{in_boxes, is_covered};
     ghost use Rattle.amr_patch.specs.Levels.{level_of};
     ghost use Rattle.amr_patch.specs.Patches.{AreApart};
-    ghost use Rattle.amr_register.specs.Runs.{IsStretch};
+    ghost use Rattle.amr_register.specs.Bars.{IsStretch};
     ghost use Rattle.amr_register.specs.Covers.{covers};
 
     /// The cells that a level covers, whose boxes have all children of a cell or none.
@@ -38,15 +38,15 @@ impl Cover {
         requires filled { (c : Cell) → is_some ((level_of fine.now).masses c) ≡ in_boxes (level_of fine.now).boxes c }
         ensures { IfOk result (λ v. (c : Cell) → covers v c ≡ is_covered (level_of fine.now).masses c) }
     {
-        let mut runs = Vec::new(alloc);
+        let mut bars = Vec::new(alloc);
         for b in fine.boxes() {
-            push_rows(&mut runs, &b.coarsen2())?;
+            push_rows(&mut bars, &b.coarsen2())?;
         }
-        runs.sort_unstable_by_key(|r| {
+        bars.sort_unstable_by_key(|r| {
             let low = r.lo();
             (low.y, low.x)
         });
-        Ok(Cover { runs })
+        Ok(Cover { bars })
     }
 
     /// Whether a cell is covered. It looks at the last stretch first, and leaves there the one that has the cell.
@@ -58,7 +58,7 @@ impl Cover {
         if let Some(covered) = told(*last, c) {
             return covered;
         }
-        let found = stretch_at(&self.runs, count_of(*last), c);
+        let found = stretch_at(&self.bars, count_of(*last), c);
         let covered = found.covered;
         *last = Some(found);
         covered

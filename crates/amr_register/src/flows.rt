@@ -1,31 +1,36 @@
-//! The plain flows of a patch through coarse-fine edges.
+//! The plain flows of patches through coarse-fine edges.
 
-ghost use Rattle.std.specs.Prelude.{◌≡◌, ℕ, ◌<◌, ◌≤◌, ◌^◌, ◌-ℤ◌, ◌<ℤ◌, cond, pos, negsuc, length, slice_index_or, unsigned_abs, IsTrue};
+ghost use Rattle.std.specs.Prelude.{◌≡◌, ℕ, ◌<◌, ◌≤◌, ◌^◌, ◌-ℤ◌, ◌<ℤ◌, pos, negsuc, length, slice_index_or, unsigned_abs};
 ghost use Rattle.std.specs.List.{All};
 ghost use Rattle.amr_box.specs.declared.Cell.{Cell};
-ghost use Rattle.amr_def.specs.Domain.{domain, domain_of, home_cell, in_domain};
+ghost use Rattle.amr_def.specs.Domain.{domain, domain_of, home_cell};
 ghost use Rattle.amr_def.specs.Flux.{high_cell};
-ghost use Rattle.amr_patch.specs.Patches.{box};
+ghost use Rattle.amr_patch.specs.Orders.{IsOrderOf};
+ghost use Rattle.amr_patch.specs.Patches.{ArePatchesApart, box};
 ghost use Rattle.amr_flux.specs.Faces.{IsInDomain};
 ghost use Rattle.amr_register.specs.declared.sides.CoveredSides.{CoveredSides};
 ghost use Rattle.amr_register.specs.Beside.{IsDomainCell};
-ghost use Rattle.amr_register.specs.Entries.{AreRising};
-ghost use Rattle.amr_register.specs.Spans.{is_place_of};
-ghost use Rattle.amr_register.specs.CoarseFlows.{high_face, low_face, net_beside, net_over, owned_flow};
+ghost use Rattle.amr_register.specs.CoarseFlows.{flow_of_owners, high_face, low_face, net_of_owners};
 
-use crate::columns::{columns_beside, next_in_columns};
-use crate::rows::{Span, span_below, span_in_rows};
+use crate::near::NearPatches;
 use crate::sides::CoveredSides;
 use amr_box::{Axis, Cell, Face};
 use amr_def::{Dom, Problem};
 use amr_flux::face_flux;
-use amr_patch::Patch;
+use amr_patch::{Order, Patch, find_near};
 
 /// Register cells in their order, with the sides of each where covered cells lie.
 #[derive(Clone, Copy)]
 pub(crate) struct Edge<'a> {
     pub(crate) cells: &'a [Cell],
     pub(crate) sides: &'a [CoveredSides],
+}
+
+/// Patches of a level, no two with a cell in common, among which the owners of faces are looked for, and how they stand.
+#[derive(Clone, Copy)]
+pub(crate) struct Owners<'a> {
+    pub(crate) patches: &'a [Patch],
+    pub(crate) order: Order,
 }
 
 /// The cell at the high side of a face.
@@ -76,12 +81,22 @@ fn home_of(dom: &Dom, c: Cell) -> Cell
     dom.home_cell(c)
 }
 
-/// The flow through a face that the patch owns, if it counts; 0 through any other.
+/// The flow through a face, if it counts, by the values of the patch that owns it; 0 where none does. The look-up begins at
+/// patch `near`, and leaves there the one that it found.
 #[inline(always)]
-fn owned_flow(p: &Problem, l: u32, patch: &Patch, counts: bool, f: Face) -> i64
+fn owner_flow(
+    p: &Problem,
+    l: u32,
+    owners: Owners<'_>,
+    near: &mut usize,
+    counts: bool,
+    f: Face,
+) -> i64
     requires level { l ≤ 4 }
-    requires inside { IsInDomain (domain p.now l) (box patch.now) }
-    ensures value { result ≡ owned_flow p.now l patch.now counts f }
+    requires inside { All (λ q. IsInDomain (domain p.now l) (box q)) owners.patches.now }
+    requires order { IsOrderOf owners.order owners.patches.now }
+    requires apart { ArePatchesApart owners.patches.now }
+    ensures value { result ≡ flow_of_owners p.now l owners.entry.patches.now counts f }
     ensures low { negsuc (2 ^ 32) <ℤ result }
     ensures high { result <ℤ pos (2 ^ 32) }
 {
@@ -89,66 +104,88 @@ fn owned_flow(p: &Problem, l: u32, patch: &Patch, counts: bool, f: Face) -> i64
         return 0;
     }
     let high = home_of(&p.domain(l), high_cell(f));
-    if !patch.bx().holds(high) {
-        return 0;
+    match find_near(owners.patches, owners.order, near, high) {
+        None => 0,
+        Some(k) => face_flux(p, l, &owners.patches[k], low_face(f.axis, high)),
     }
-    face_flux(p, l, patch, low_face(f.axis, high))
 }
 
-/// What comes into a cell by the flows through those of its faces that lie on these sides and that the patch owns.
-fn net_over(p: &Problem, l: u32, patch: &Patch, sides: CoveredSides, c: Cell) -> i64
+/// What comes into a cell by the flows through those of its faces that lie on these sides, each by the values of its owner.
+fn net_of_owners(
+    p: &Problem,
+    l: u32,
+    owners: Owners<'_>,
+    near: &mut NearPatches,
+    sides: CoveredSides,
+    c: Cell,
+) -> i64
     requires level { l ≤ 4 }
     requires near { IsDomainCell c }
-    requires inside { IsInDomain (domain p.now l) (box patch.now) }
-    ensures value { result ≡ net_over p.now l patch.now sides c }
+    requires inside { All (λ q. IsInDomain (domain p.now l) (box q)) owners.patches.now }
+    requires order { IsOrderOf owners.order owners.patches.now }
+    requires apart { ArePatchesApart owners.patches.now }
+    ensures value { result ≡ net_of_owners p.now l owners.entry.patches.now sides c }
     ensures low { negsuc (2 ^ 34) <ℤ result }
     ensures high { result <ℤ pos (2 ^ 34) }
 {
-    let west = owned_flow(p, l, patch, sides.west, low_face(Axis::X, c));
-    let east = owned_flow(p, l, patch, sides.east, high_face(Axis::X, c));
-    let south = owned_flow(p, l, patch, sides.south, low_face(Axis::Y, c));
-    let north = owned_flow(p, l, patch, sides.north, high_face(Axis::Y, c));
+    let west = owner_flow(
+        p,
+        l,
+        owners,
+        &mut near.own,
+        sides.west,
+        low_face(Axis::X, c),
+    );
+    let east = owner_flow(
+        p,
+        l,
+        owners,
+        &mut near.east,
+        sides.east,
+        high_face(Axis::X, c),
+    );
+    let south = owner_flow(
+        p,
+        l,
+        owners,
+        &mut near.own,
+        sides.south,
+        low_face(Axis::Y, c),
+    );
+    let north = owner_flow(
+        p,
+        l,
+        owners,
+        &mut near.north,
+        sides.north,
+        high_face(Axis::Y, c),
+    );
     (west - east) + (south - north)
 }
 
-/// Takes flows away from the entries at the places of a span. They are what comes into their cells through those faces
-/// that lie on their sides and that the patch owns. It passes cells that lie neither in the patch's columns nor in the
-/// one left of them, which have no such faces.
-fn take_away(p: &Problem, l: u32, patch: &Patch, edge: Edge<'_>, span: Span, entries: &mut [i64])
+/// Takes away from each entry what comes into its cell by the flows through those of its faces that lie on its sides, each by
+/// the values of its owner. Look-ups begin at the patches of `near`, one place a cell.
+pub(crate) fn take_away(
+    p: &Problem,
+    l: u32,
+    owners: Owners<'_>,
+    edge: Edge<'_>,
+    near: &mut [NearPatches],
+    entries: &mut [i64],
+)
     requires level { l ≤ 4 }
-    requires inside { IsInDomain (domain p.now l) (box patch.now) }
-    requires rising { AreRising edge.cells.now }
+    requires inside { All (λ q. IsInDomain (domain p.now l) (box q)) owners.patches.now }
+    requires order { IsOrderOf owners.order owners.patches.now }
+    requires apart { ArePatchesApart owners.patches.now }
     requires near { All IsDomainCell edge.cells.now }
     requires side_count { length edge.sides.now ≡ length edge.cells.now }
-    requires entry_count { length entries.old ≡ length edge.cells.now }
-    requires ordered { span.from ≤ span.to }
-    requires within { span.to ≤ length edge.cells.now }
-    requires room { (k : ℕ) → span.from ≤ k → k < span.to → unsigned_abs (slice_index_or entries.old k (pos 0)) < 2 ^ 62 }
-    ensures { (k : ℕ) (c : Cell) (s : CoveredSides) → k < length edge.entry.cells.now → slice_index_or entries.new k (pos 0) ≡ slice_index_or entries.old k (pos 0) -ℤ cond (is_place_of span k) (net_beside p.now l patch.now (slice_index_or edge.entry.sides.now k s) (slice_index_or edge.entry.cells.now k c)) (pos 0) }
-{
-    let columns = columns_beside(&p.domain(l), &patch.bx());
-    let mut k = next_in_columns(edge.cells, columns, span.from, span.to);
-    while k < span.to {
-        entries[k] -= net_over(p, l, patch, edge.sides[k], edge.cells[k]);
-        k = next_in_columns(edge.cells, columns, k + 1, span.to);
-    }
-}
-
-/// Takes away from each entry what comes into its cell by the flows through those of its faces that lie on its sides and that
-/// the patch owns. Only cells in the rows of the patch, and in the row below it, have such faces.
-pub(crate) fn take_beside(p: &Problem, l: u32, patch: &Patch, edge: Edge<'_>, entries: &mut [i64])
-    requires level { l ≤ 4 }
-    requires inside { IsInDomain (domain p.now l) (box patch.now) }
-    requires rising { AreRising edge.cells.now }
-    requires near { All IsDomainCell edge.cells.now }
-    requires side_count { length edge.sides.now ≡ length edge.cells.now }
+    requires near_count { length near.old ≡ length edge.cells.now }
     requires entry_count { length entries.old ≡ length edge.cells.now }
     requires room { (k : ℕ) → k < length edge.cells.now → unsigned_abs (slice_index_or entries.old k (pos 0)) < 2 ^ 62 }
-    ensures { All (λ c. IsTrue (in_domain (domain p.now l) c)) edge.entry.cells.now → (k : ℕ) (c : Cell) (s : CoveredSides) → k < length edge.entry.cells.now → slice_index_or entries.new k (pos 0) ≡ slice_index_or entries.old k (pos 0) -ℤ net_over p.now l patch.now (slice_index_or edge.entry.sides.now k s) (slice_index_or edge.entry.cells.now k c) }
+    ensures { (k : ℕ) (c : Cell) (s : CoveredSides) → k < length edge.entry.cells.now → slice_index_or entries.new k (pos 0) ≡ slice_index_or entries.old k (pos 0) -ℤ net_of_owners p.now l owners.entry.patches.now (slice_index_or edge.entry.sides.now k s) (slice_index_or edge.entry.cells.now k c) }
 {
-    let b = patch.bx();
-    let rows = span_in_rows(edge.cells, &b);
-    let below = span_below(edge.cells, &p.domain(l), &b);
-    take_away(p, l, patch, edge, rows, entries);
-    take_away(p, l, patch, edge, below, entries);
+    for k in 0..edge.cells.len() {
+        let net = net_of_owners(p, l, owners, &mut near[k], edge.sides[k], edge.cells[k]);
+        entries[k] -= net;
+    }
 }

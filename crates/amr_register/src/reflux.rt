@@ -11,6 +11,7 @@ ghost use Rattle.amr_patch.specs.Pairwise.{Pairwise};
 ghost use Rattle.amr_patch.specs.Patches.{ArePatchesApart, KeepsFrameAndFluxes, in_patches, masses_in};
 ghost use Rattle.amr_register.specs.Entries.{AreRising, entry_at, with_entries};
 
+use crate::near::NearPatches;
 use amr_box::Cell;
 use amr_patch::{Level, Order, Patch, find_near};
 
@@ -55,10 +56,17 @@ fn add_entry(patches: &mut [Patch], k: usize, c: Cell, entry: i64)
     patch.set_mass(c, with_entry(mass, entry));
 }
 
-/// Adds entries to the masses of their cells. Cells of one patch, one after the other, take one look-up.
-fn add_all(cells: &[Cell], entries: &[i64], patches: &mut [Patch], order: Order)
+/// Adds entries to the masses of their cells. Look-ups begin at the patches of `near`, one place a cell.
+fn add_all(
+    cells: &[Cell],
+    entries: &[i64],
+    near: &[NearPatches],
+    patches: &mut [Patch],
+    order: Order,
+)
     requires rising { AreRising cells.now }
     requires count { length entries.now ≡ length cells.now }
+    requires near_count { length near.now ≡ length cells.now }
     requires order { IsOrderOf order patches.old }
     requires apart { ArePatchesApart patches.old }
     requires there { (k : ℕ) (c : Cell) → k < length cells.now → IsSome (masses_in patches.old (slice_index_or cells.now k c)) }
@@ -67,17 +75,18 @@ fn add_all(cells: &[Cell], entries: &[i64], patches: &mut [Patch], order: Order)
     ensures masses { (c : Cell) → masses_in patches.new c ≡ with_entries (entry_at cells.now entries.now) (masses_in patches.old) c }
     ensures kept { Pairwise KeepsFrameAndFluxes patches.old patches.new }
 {
-    let mut near = 0;
     for k in 0..cells.len() {
-        let found = holder(patches, order, &mut near, cells[k]);
+        let mut own = near[k].own;
+        let found = holder(patches, order, &mut own, cells[k]);
         add_entry(patches, found, cells[k], entries[k]);
     }
 }
 
-/// Adds entries to the masses of their cells.
-pub(crate) fn add_entries(cells: &[Cell], entries: &[i64], level: &mut Level)
+/// Adds entries to the masses of their cells, as `add_all` does.
+pub(crate) fn add_entries(cells: &[Cell], entries: &[i64], near: &[NearPatches], level: &mut Level)
     requires rising { AreRising cells.now }
     requires count { length entries.now ≡ length cells.now }
+    requires near_count { length near.now ≡ length cells.now }
     requires of_level { (k : ℕ) (c : Cell) → k < length cells.now → IsSome ((level_of level.old).masses (slice_index_or cells.now k c)) }
     requires kept { (k : ℕ) (c : Cell) → k < length cells.now → pos 0 ≤ℤ (pos (mass_of (level_of level.old).masses (slice_index_or cells.now k c)) +ℤ slice_index_or entries.now k (pos 0)) }
     requires fits { (k : ℕ) (c : Cell) → k < length cells.now → (pos (mass_of (level_of level.old).masses (slice_index_or cells.now k c)) +ℤ slice_index_or entries.now k (pos 0)) <ℤ pos (2 ^ 32) }
@@ -87,6 +96,6 @@ pub(crate) fn add_entries(cells: &[Cell], entries: &[i64], level: &mut Level)
 {
     let order = level.order();
     let mut patches = level.take_patches();
-    add_all(cells, entries, &mut patches, order);
+    add_all(cells, entries, near, &mut patches, order);
     level.put_patches_in_order(patches, order);
 }

@@ -7,14 +7,16 @@ ghost use Rattle.amr_register.specs.Entries.{AreRising};
 
 use crate::beside::register_cells;
 use crate::cover::Cover;
-use crate::flows::{Edge, take_beside};
+use crate::flows::{Edge, Owners, take_away};
+use crate::near::{NearPatches, near_patches};
 use crate::reflux::add_entries;
 use crate::sides::{CoveredSides, sides_of_all};
 use amr_box::Cell;
 use amr_causes::NoMemory;
 use amr_def::Problem;
-use amr_patch::{Level, Patch};
+use amr_patch::{Level, Order, Patch, order_of};
 use std::alloc::Global;
+use std::slice;
 
 /// So many entries of 0.
 fn no_entries(alloc: Global, count: usize) -> Result<Vec<i64>, NoMemory>
@@ -34,10 +36,12 @@ pub struct Register {
     cells: Vec<Cell>,
     sides: Vec<CoveredSides>,
     entries: Vec<i64>,
+    found: Vec<NearPatches>,
     ghost rising: { AreRising cells.items },
     ghost near: { All IsDomainCell cells.items },
     ghost side_count: { length sides.items ≡ length cells.items },
     ghost entry_count: { length entries.items ≡ length cells.items },
+    ghost found_count: { length found.items ≡ length cells.items },
 }
 
 #[tactic(auto, unfolding(crate::specs::Registers::cells_in, crate::specs::Registers::sides_in, crate::specs::Registers::entry_in))]
@@ -51,14 +55,17 @@ impl Register {
     ghost use Rattle.amr_def.specs.State.{Masses, mass_of};
     ghost use Rattle.amr_patch.specs.Levels.{level_of, patches_of};
     ghost use Rattle.amr_patch.specs.Pairwise.{Pairwise};
-    ghost use Rattle.amr_patch.specs.Patches.{KeepsFrameAndFluxes, box};
+    ghost use Rattle.amr_patch.specs.Orders.{IsOrderOf};
+    ghost use Rattle.amr_patch.specs.Patches.{ArePatchesApart, KeepsFrameAndFluxes, box};
     ghost use Rattle.amr_flux.specs.Faces.{IsInDomain};
     ghost use Rattle.amr_register.specs.CoarseFlows.{coarse_flows};
     ghost use Rattle.amr_register.specs.Entries.{with_entries};
+    ghost use Rattle.amr_register.specs.Laws.{net_of_all};
     ghost use Rattle.amr_register.specs.Registers.{IsRegisterOf, SameCells, cells_in, entry_in, sides_in};
 
-    /// The register of level `l`, 0 to 3, below the finer level `l + 1`. Each entry is 0. The two levels are nested. No cell of
-    /// their patches is looked up: the finer level's boxes tell which cells are covered, a stretch of a row at a look.
+    /// The register of level `l`, 0 to 3, below the finer level `l + 1`. Each entry is 0. The two levels are nested. The finer
+    /// level's boxes tell which cells are covered, a stretch of a row at a look. Which patch of the coarse level has a
+    /// register cell is kept: later look-ups begin there.
     pub fn make(
         alloc: Global,
         p: &Problem,
@@ -77,10 +84,12 @@ impl Register {
         let cells = register_cells(alloc, p, l, coarse, fine, &cover)?;
         let sides = sides_of_all(alloc, &p.domain(l), &cover, &cells)?;
         let entries = no_entries(alloc, cells.len())?;
+        let found = near_patches(alloc, coarse, &cells)?;
         Ok(Register {
             cells,
             sides,
             entries,
+            found,
         })
     }
 
@@ -107,17 +116,37 @@ impl Register {
         let cells = Vec::from_slice(alloc, &self.cells)?;
         let sides = Vec::from_slice(alloc, &self.sides)?;
         let entries = Vec::from_slice(alloc, &self.entries)?;
+        let found = Vec::from_slice(alloc, &self.found)?;
         Ok(Register {
             cells,
             sides,
             entries,
+            found,
         })
     }
 
-    /// Takes away the plain flows through those coarse-fine edges that a patch of the level owns, by the patch's values
-    /// before the step. An edge belongs to the patch that has the cell at its high side. So over all patches each is
-    /// taken away once. Entries lie between -2^62 and 2^62. Only register cells in the rows of the patch and in the row
-    /// below it are gone over. Those that lie neither in its columns nor in the one left of them are passed by halving.
+    /// Takes away the plain flows through the coarse-fine edges of the level that its patches own, by their values before
+    /// the step, in one pass over the register cells. An edge belongs to the patch that has the cell at its high side; an
+    /// edge that belongs to none of them is left. `order` is how the patches stand. Entries lie between -2^62 and 2^62.
+    pub fn coarse_parts(&mut self, p: &Problem, l: u32, patches: &[Patch], order: Order)
+        requires level { l ≤ 3 }
+        requires inside { All (λ q. IsInDomain (domain p.now l) (box q)) patches.now }
+        requires order { IsOrderOf order patches.now }
+        requires apart { ArePatchesApart patches.now }
+        requires room { (c : Cell) → unsigned_abs (entry_in self.old c) < 2 ^ 62 }
+        ensures taken { (m fine : Masses) → IsRegisterOf p.now l m fine self.old → (c : Cell) → Contains (cells_in self.old) c → entry_in self.new c ≡ entry_in self.old c -ℤ net_of_all p.now l fine patches.now c }
+        ensures cells { SameCells self.old self.new }
+    {
+        let owners = Owners { patches, order };
+        let edge = Edge {
+            cells: &self.cells,
+            sides: &self.sides,
+        };
+        take_away(p, l, owners, edge, &mut self.found, &mut self.entries);
+    }
+
+    /// The same of one patch of the level: takes away the plain flows through those coarse-fine edges that it owns. Over
+    /// all patches each edge's flow is taken away once.
     pub fn coarse_part(&mut self, p: &Problem, l: u32, patch: &Patch)
         requires level { l ≤ 3 }
         requires inside { IsInDomain (domain p.now l) (box patch.now) }
@@ -125,11 +154,8 @@ impl Register {
         ensures taken { (m fine : Masses) → IsRegisterOf p.now l m fine self.old → (c : Cell) → Contains (cells_in self.old) c → entry_in self.new c ≡ entry_in self.old c -ℤ net (coarse_flows p.now l fine patch.now) c }
         ensures cells { SameCells self.old self.new }
     {
-        let edge = Edge {
-            cells: &self.cells,
-            sides: &self.sides,
-        };
-        take_beside(p, l, patch, edge, &mut self.entries);
+        let patches = slice::from_ref(patch);
+        self.coarse_parts(p, l, patches, order_of(patches));
     }
 
     /// Adds `gain - loss`, what flowed through finer faces into register cell `k` and out of it, to the entry of that cell.
@@ -155,7 +181,7 @@ impl Register {
     }
 
     /// Adds each entry to the mass of its cell. The level has the boxes of the coarse level that the register was made over,
-    /// and no sum is below 0, or 2^32 or more. Register cells of one patch, one after the other, take one look-up.
+    /// and no sum is below 0, or 2^32 or more.
     pub fn reflux(&self, level: &mut Level)
         requires of_level { (c : Cell) → Contains (cells_in self.now) c → IsSome ((level_of level.old).masses c) }
         requires kept { (c : Cell) → Contains (cells_in self.now) c → pos 0 ≤ℤ (pos (mass_of (level_of level.old).masses c) +ℤ entry_in self.now c) }
@@ -164,6 +190,6 @@ impl Register {
         ensures boxes { (level_of level.new).boxes ≡ (level_of level.old).boxes }
         ensures patches { Pairwise KeepsFrameAndFluxes (patches_of level.old) (patches_of level.new) }
     {
-        add_entries(&self.cells, &self.entries, level);
+        add_entries(&self.cells, &self.entries, &self.found, level);
     }
 }

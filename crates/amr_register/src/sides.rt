@@ -5,11 +5,11 @@ ghost use Rattle.std.specs.List.{All};
 ghost use Rattle.amr_def.specs.Domain.{domain_of, home_cell};
 ghost use Rattle.amr_register.specs.Beside.{AreStretches, HasSides, HaveSides, IsDomainCell};
 ghost use Rattle.amr_register.specs.Covers.{covers};
-ghost use Rattle.amr_register.specs.Runs.{IsStretch};
+ghost use Rattle.amr_register.specs.Bars.{IsStretch};
 
+use crate::bars::Stretch;
 use crate::cells::{east_of, north_of, south_of, west_of};
 use crate::cover::Cover;
-use crate::runs::Stretch;
 use amr_box::Cell;
 use amr_causes::NoMemory;
 use amr_def::Dom;

@@ -17,5 +17,5 @@ returns-in-Some c =
     let qs = c.args.patches.now in
     let old = old_masses (option_copied c.args.given.old) in
     let next = option_copied c.args.given.finer in
-    subst (λ (r : Option Register). BothChange (taken p l (masses_in qs) old (finer_masses next)) r (Some c.take_coarse_parts.new.register)) (sym c.in-Some.is)
-    (parts_taken p l old qs next c.in-Some.register c.take_coarse_parts.new.register c.requires.shown (subst (λ (r : Option Register). HasEdges p l (masses_in qs) next r) c.in-Some.is c.requires.register) c.take_coarse_parts.ensures.taken c.take_coarse_parts.ensures.cells)
+    subst (λ (r : Option Register). BothChange (taken p l (masses_in qs) old (finer_masses next)) r (Some c.coarse_parts.new.self)) (sym c.in-Some.is)
+    (parts_taken p l old qs next c.in-Some.register c.coarse_parts.new.self c.requires.shown (subst (λ (r : Option Register). HasEdges p l (masses_in qs) next r) c.in-Some.is c.requires.register) c.coarse_parts.ensures.taken c.coarse_parts.ensures.cells)

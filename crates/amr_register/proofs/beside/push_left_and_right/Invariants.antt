@@ -1,7 +1,7 @@
 use Rattle.amr_def.specs.Domain.{domain_of}
 use Rattle.amr_register.specs.Beside.{stands_beside}
 use Rattle.amr_register.specs.Covers.{covers}
-use Rattle.amr_register.specs.Runs.{IsStretch}
+use Rattle.amr_register.specs.Bars.{IsStretch}
 use Rattle.amr_register.proofs.CollectLaws.{RowsDone}
 use Rattle.amr_register.proofs.beside.push_left_and_right.Given as goal
 

@@ -1,36 +1,15 @@
-use Rattle.std.proofs.Common.{◌≡◌, ◌∙◌, ◌<◌, ◌^◌, ℤ, pos, List, length, ap, refl, subst, sym, arith}
-use Rattle.std.specs.Prelude.{slice_index_or, unsigned_abs}
-use Rattle.amr_box.specs.declared.Cell.{Cell}
-use Rattle.amr_box.specs.Cells.{cell}
-use Rattle.std.proofs.lemmas.List.{with_items_is}
-use Rattle.amr_register.specs.CoarseFlows.{net_over}
-use Rattle.amr_register.specs.Entries.{entry_at}
-use Rattle.amr_register.specs.Registers.{cells_in, entry_in, sides_in}
-use Rattle.amr_register.proofs.BesideTaken.{cells_inside}
-use Rattle.amr_register.proofs.EntryLaws.{entry_of_place}
-use Rattle.amr_register.proofs.NetOver.{along, part_taken}
+use Rattle.std.proofs.Common.{◌≡◌, pos, ◌+ℤ◌, List, ap, arith}
+use Rattle.std.proofs.lemmas.Int.{ints}
+use Rattle.amr_def.specs.Flux.{net}
+use Rattle.amr_patch.specs.declared.patches.Patch.{Patch}
+use Rattle.amr_register.specs.CoarseFlows.{coarse_flows}
+use Rattle.amr_register.specs.Laws.{net_of_all}
 use Rattle.amr_register.proofs.register.Register.coarse_part.Goals as goal
 
-pub take_beside-requires-clause-room : goal.take_beside-requires-clause-room
-unfolding entry_in
-take_beside-requires-clause-room c = λ k lt.
-    let self = c.args.self.now in
-    let inside : k < length self.cells.items = subst (λ (xs : List Cell). k < length xs) c.deref.ensures.value lt in
-    let q : Cell = cell (pos 0) (pos 0) in
-    let is = entry_of_place self.cells.items self.entries.items k q self.rising self.entry_count inside ∙ ap (λ (xs : List ℤ). slice_index_or xs k (pos 0)) (sym c.deref_mut.ensures.value) in
-    subst (λ (z : ℤ). unsigned_abs z < 2 ^ 62) is (c.requires.room (slice_index_or self.cells.items k q))
-
 pub returns-clause-taken : goal.returns-clause-taken
-unfolding cells_in entry_in sides_in
 returns-clause-taken c = λ m fine of q has.
-    let self = c.args.self.now in
-    let count : length c.take_beside.new.entries ≡ length self.cells.items = omega (arith, c.take_beside.auto.entries, ap length c.deref_mut.ensures.value, self.entry_count) in
-    let whole = with_items_is self.entries c.take_beside.new.entries (omega (arith, c.take_beside.auto.entries, c.deref_mut.ensures.len)) in
-    ap (λ (xs : List ℤ). entry_at self.cells.items xs q) whole
-    ∙ part_taken c.args.p.now c.args.l m fine c.args.patch.now self self.entries.items c.take_beside.new.entries of self.rising self.entry_count count
-    (along (net_over c.args.p.now c.args.l c.args.patch.now) self.cells.items _ self.sides.items _ self.entries.items _ c.take_beside.new.entries c.deref.ensures.value c.deref-2.ensures.value c.deref_mut.ensures.value (c.take_beside.ensures (cells_inside c.args.p.now c.args.l m fine _ (c.deref.ensures.value ∙ of.cells))))
-    q has
-
-pub returns-clause-cells : goal.returns-clause-cells
-unfolding cells_in sides_in
-returns-clause-cells c = record { cells = refl; sides = refl }
+    let p = c.args.p.now in
+    let l = c.args.l in
+    let all = c.coarse_parts.ensures.taken m fine of q has in
+    let one : net_of_all p l fine c.from_ref-patches.result.now q ≡ net (coarse_flows p l fine c.args.patch.now) q +ℤ pos 0 = ap (λ (qs : List Patch). net_of_all p l fine qs q) c.from_ref-patches.ensures.value in
+    omega (arith, ints, all, one)
