@@ -4,6 +4,7 @@ use Rattle.amr_def.specs.State.{Masses}
 use Rattle.amr_def.specs.Flux.{flux_at, updated}
 use Rattle.amr_ghost.specs.Frames.{old_masses}
 use Rattle.amr_patch.specs.Patches.{ArePatchesApart, masses_in}
+use Rattle.amr_patch.proofs.Standing.{order_of_boxes}
 use Rattle.amr_layout.specs.Surroundings.{finer_masses}
 use Rattle.amr_advance.specs.Registers.{BothChange, taken}
 use Rattle.amr_advance.proofs.Parts.{on_err, totals_of, unchanged}
@@ -18,6 +19,9 @@ returns-then-patches-gt-MOST-clause-same_register g c = unchanged c.args.registe
 
 pub returns-in_err-saved-clause-same_register : goal.returns-in_err-saved-clause-same_register
 returns-in_err-saved-clause-same_register g c = on_err c.from_residual-in_err-saved.result (unchanged c.args.register.now)
+
+pub take_parts-requires-clause-order : goal.take_parts-requires-clause-order
+take_parts-requires-clause-order g c = order_of_boxes c.args.order c.args.patches.now c.lay_out.new.patches c.lay_out.ensures.boxes c.requires.order
 
 pub returns-in-Ok-clause-masses : goal.returns-in-Ok-clause-masses
 returns-in-Ok-clause-masses g c =
