@@ -1,4 +1,6 @@
-//! Two workers take part.
+//! The gate of the program's tasks: two workers take part, and a lone one makes one task after another.
+
+ghost use Rattle.std.specs.Prelude.{ℕ, ◌<◌};
 
 use crate::cases::ring_with;
 use crate::plots::NINE_COLUMNS_PLOT;
@@ -6,48 +8,17 @@ use amr_cli::Line;
 use amr_disk::MemDisk;
 use amr_io::{MemSink, MemSource};
 use amr_run::amr_gated;
+use amr_samples::Turnstile;
 use amr_workers::Gate;
-use std::sync::atomic::{AtomicBool, Ordering};
+use std::alloc::Global;
+use std::process::Abort;
+use std::sync::atomic::{AtomicBool, AtomicU32, Ordering};
 use std::test::Fail;
-use std::thread;
+use std::thread::Threads;
 
-/// How often a worker at the gate looks whether it may go on.
-const TURNS: u32 = 10_000_000;
-
-/// Holds whoever comes first until another task is done, for so many turns at most.
-#[derive(Drop)]
-struct Turnstile {
-    entered: AtomicBool,
-    left: AtomicBool,
-    waited_in_vain: AtomicBool,
-}
-
-impl Gate for Turnstile {
-    ghost admits = { λ _ _ _. Unit {0} };
-
-    fn enter(&self, _worker: u32, _task: u32) {
-        if self.entered.swap(true, Ordering::SeqCst) {
-            return;
-        }
-        for _ in 0..TURNS {
-            if self.left.load(Ordering::SeqCst) {
-                return;
-            }
-            thread::yield_now();
-        }
-        self.waited_in_vain.store(true, Ordering::SeqCst);
-    }
-
-    fn leave(&self, _worker: u32, _task: u32) {
-        self.left.store(true, Ordering::SeqCst);
-    }
-}
-
-/// A task is held until another is done: so a second worker takes part in the steps of the program.
-#[test]
-fn second_task_first(rt: HostRuntime) -> Result<(), Fail> {
-    let alloc = rt.alloc();
-    let text = ring_with(
+/// The ring of nine columns in three patches, as text: two steps.
+fn nine_columns(alloc: Global) -> Result<String, Fail> {
+    ring_with(
         alloc,
         &[
             ("cells", "cells = [9, 3]"),
@@ -55,26 +26,87 @@ fn second_task_first(rt: HostRuntime) -> Result<(), Fail> {
             ("steps", "steps = 2\nmax_grid_size = 4"),
             ("blocks", "blocks = [[8, 0, 8, 0, 8]]"),
         ],
-    )?;
+    )
+}
+
+/// So many workers at this gate make the same plot of nine columns.
+fn makes_plot<R: Abort + Alloc<A = Global> + Threads + Sync, G: Gate + Sync>(
+    rt: &R,
+    workers: &str,
+    gate: &G,
+) -> Result<(), Fail>
+    requires { (worker task : ℕ) → worker < 64 → G.admits gate.now worker task }
+{
+    let alloc = rt.alloc();
+    let text = nine_columns(alloc)?;
     let mut line = Line::make(alloc);
-    for word in ["run", "--workers", "2"] {
+    for word in ["run", "--workers", workers] {
         line.push(word)?;
     }
-    let mut src = MemSource::make(alloc, text.as_bytes(), 1000, &[]).expect(&rt, "memory");
-    let mut plot = MemSink::make(alloc, 10_000, 16, &[]).expect(&rt, "memory");
-    let mut lines = MemSink::make(alloc, 1000, 40, &[]).expect(&rt, "memory");
-    let gate = Turnstile {
-        entered: AtomicBool::new(false),
-        left: AtomicBool::new(false),
-        waited_in_vain: AtomicBool::new(false),
-    };
-    let mut disk = MemDisk::make(alloc, &[], 0, 0, &[], Some(1)).expect(&rt, "memory");
+    let mut src = MemSource::make(alloc, text.as_bytes(), 1000, &[]).expect(rt, "memory");
+    let mut plot = MemSink::make(alloc, 10_000, 16, &[]).expect(rt, "memory");
+    let mut lines = MemSink::make(alloc, 1000, 40, &[]).expect(rt, "memory");
+    let mut disk = MemDisk::make(alloc, &[], 0, 0, &[], Some(1)).expect(rt, "memory");
     let ended = amr_gated(
-        &rt, alloc, &line, &mut src, &mut plot, &mut lines, &mut disk, &gate,
+        rt, alloc, &line, &mut src, &mut plot, &mut lines, &mut disk, gate,
     );
     assert_eq!(rt; ended.code(), 0);
     assert_eq!(rt; plot.bytes(), NINE_COLUMNS_PLOT.as_bytes());
-    assert!(rt; gate.entered.load(Ordering::SeqCst));
-    assert!(rt; !gate.waited_in_vain.load(Ordering::SeqCst));
+    Ok(())
+}
+
+/// A task is held until another is done: so a second worker takes part in the steps of the program.
+#[test]
+fn second_task_first(rt: HostRuntime) -> Result<(), Fail> {
+    let gate = Turnstile::new();
+    makes_plot(&rt, "2", &gate)?;
+    assert!(rt; gate.has_held());
+    Ok(())
+}
+
+/// Sees whether one worker does tasks 0, 1 and 2 in this order, again and again, and leaves each before it enters the next one.
+#[derive(Drop)]
+struct InOrder {
+    calls: AtomicU32,
+    amiss: AtomicBool,
+}
+
+impl InOrder {
+    /// A gate that nobody has passed.
+    fn new() -> InOrder {
+        InOrder {
+            calls: AtomicU32::new(0),
+            amiss: AtomicBool::new(false),
+        }
+    }
+
+    /// Of each six calls two are of task 0, then two of task 1 and two of task 2, where the second one leaves the task.
+    fn see(&self, worker: u32, task: u32, leaves: bool) {
+        let call = self.calls.fetch_add(1, Ordering::SeqCst) % 6;
+        if worker != 0 || task != call / 2 || leaves != (call % 2 == 1) {
+            self.amiss.store(true, Ordering::SeqCst);
+        }
+    }
+}
+
+impl Gate for InOrder {
+    ghost admits = { λ _ _ _. Unit {0} };
+
+    fn enter(&self, worker: u32, task: u32) {
+        self.see(worker, task, false);
+    }
+
+    fn leave(&self, worker: u32, task: u32) {
+        self.see(worker, task, true);
+    }
+}
+
+/// A lone worker does one task after another, in both steps.
+#[test]
+fn task_by_task(rt: HostRuntime) -> Result<(), Fail> {
+    let gate = InOrder::new();
+    makes_plot(&rt, "1", &gate)?;
+    assert_eq!(rt; gate.calls.load(Ordering::SeqCst), 12);
+    assert!(rt; !gate.amiss.load(Ordering::SeqCst));
     Ok(())
 }
