@@ -83,6 +83,6 @@ chopped_even n b even some e =
 pub all_coarsenable : (p : Problem) (boxes : List Extent) (ps : List Patch) → All (IsAligned p.blocking) boxes → IsPermutation (flat_map (chopped p.max_grid_size) boxes) (map box ps) → AreCoarsenable ps
 all_coarsenable p boxes ps aligned order =
     let n = p.max_grid_size in
-    let pieces : All (IsAligned 2) (flat_map (chopped n) boxes) =
+    let parts : All (IsAligned 2) (flat_map (chopped n) boxes) =
     all_joined (chopped n) (IsAligned 2) boxes (λ k d lt. chopped_even n (slice_index_or boxes k d) p.limits.even_max_grid_size (omega (arith, p.limits.least_max_grid_size)) (aligned_even p.blocking (slice_index_or boxes k d) p.limits.blocking_factor (aligned k d lt))) in
-    all_boxes (IsAligned 2) ps (All-permutation (IsAligned 2) (flat_map (chopped n) boxes) (map box ps) order pieces)
+    all_boxes (IsAligned 2) ps (All-permutation (IsAligned 2) (flat_map (chopped n) boxes) (map box ps) order parts)

@@ -37,9 +37,9 @@ pub all_images : {A B : Type 0} (f : A → B) (P : B → Type 0) (xs : List A) �
 all_images f P [] h = All-nil P
 all_images f P (x ∷ xs) h = All-cons P (f x) (map f xs) (h 0 x (omega arith)) (all_images f P xs (λ k d lt. h (suc k) d (omega arith)))
 
-pub all_pieces : {A B : Type 0} (f : A → List B) (P : B → Type 0) (xs : List A) → All (λ x. All P (f x)) xs → All P (flat_map f xs)
-all_pieces f P [] h = All-nil P
-all_pieces f P (x ∷ xs) h = All-append P (f x) (flat_map f xs) (h 0 x (omega arith)) (all_pieces f P xs (λ k d lt. h (suc k) d (omega arith)))
+pub all_parts : {A B : Type 0} (f : A → List B) (P : B → Type 0) (xs : List A) → All (λ x. All P (f x)) xs → All P (flat_map f xs)
+all_parts f P [] h = All-nil P
+all_parts f P (x ∷ xs) h = All-append P (f x) (flat_map f xs) (h 0 x (omega arith)) (all_parts f P xs (λ k d lt. h (suc k) d (omega arith)))
 
 all_placed : (P : Face → Type 0) (n : ℕ) (fs : List Face) → All P fs → All (λ (u : PutAt). P u.face) (placed n fs)
 all_placed P n [] h k d lt = absurd (omega arith)
@@ -197,4 +197,4 @@ puts_owned p l ps few apart lies m e lt = all_filtered (λ (u : PutAt). holds (b
         (borders_owned p l few ps apart lies i m e below lt k g within held, owns_held q f (low_face_of_box (box q) f.axis (high_cell f) held) held))
 
     faces : All P (map (home_face d) fs)
-    faces = all_images (home_face d) P fs (all_pieces (λ (r : Patch). borders_of d ps (box r)) (λ f. P (home_face d f)) ps of_patch)
+    faces = all_images (home_face d) P fs (all_parts (λ (r : Patch). borders_of d ps (box r)) (λ f. P (home_face d f)) ps of_patch)

@@ -2,7 +2,7 @@
 use Rattle.std.proofs.Common.{◌≡◌, ℕ, ◌+◌, ◌*◌, ◌<◌, ◌≤◌, Bool, true, false, ℤ, pos, negsuc, ◌+ℤ◌, ◌-ℤ◌, ◌≤ℤ◌, List, length, refl, sym, ap, subst, ◌∙◌, arith}
 use Rattle.std.specs.Prelude.{IsTrue, cond, not, slice_index, slice_index_or}
 use Rattle.std.specs.Ordering.{int_eq}
-use Rattle.std.proofs.lemmas.Bool.{and_parts}
+use Rattle.std.proofs.lemmas.Bool.{and_parts, not-true}
 use Rattle.std.proofs.lemmas.Int.{ints}
 use Rattle.std.proofs.lemmas.Nat.{same_from_place}
 use Rattle.amr_box.specs.declared.Cell.{Cell}
@@ -19,10 +19,6 @@ use Rattle.amr_flux.specs.Faces.{border_faces, fluxes_with}
 use Rattle.amr_flux.specs.Tables.{IsOtherPlace, Stands, count_below, net_inflow, value, x_marked, x_through, y_marked, y_through}
 use Rattle.amr_flux.proofs.Places.{IsAt, IsFaceAt, high_at, offset, value_here}
 use Rattle.amr_flux.proofs.Given.{border_count, x_given, y_given}
-
-not_true : (b : Bool) → not b ≡ true → b ≡ false
-not_true true e = cc
-not_true false e = refl
 
 -- ---- faces by column and row
 
@@ -160,7 +156,7 @@ frame_stays q new vs same vs_is others c e =
     let narrow : i < width q.bx + 2 = omega (arith, ints, at.x, east, s.wide) in
     let P : Extent → Type 0 = λ b. IsAt b c i j in
     value_here new c i j (subst P (sym same) at) ∙ (λ t. value (width (same t)) (vs_is t) i j)
-    ∙ others (j * (width q.bx + 2) + i) (other_place q.bx c i j q.near at narrow (not_true (holds q.bx c) parts.1)) ∙ sym (value_here q c i j at)
+    ∙ others (j * (width q.bx + 2) + i) (other_place q.bx c i j q.near at narrow (not-true (holds q.bx c) parts.1)) ∙ sym (value_here q c i j at)
 
 -- ---- by what calls were handed
 

@@ -125,18 +125,6 @@ zero_or_one zero h = inl refl
 zero_or_one (suc zero) h = inr refl
 zero_or_one (suc (suc n)) h = absurd (omega arith)
 
-or_1 : (a b c d : Bool) → a ≡ true → (a || b || c || d) ≡ true
-or_1 a b c d e = or_left _ d (or_left _ c (or_left a b e))
-
-or_2 : (a b c d : Bool) → b ≡ true → (a || b || c || d) ≡ true
-or_2 a b c d e = or_left _ d (or_left _ c (or_right a b e))
-
-or_3 : (a b c d : Bool) → c ≡ true → (a || b || c || d) ≡ true
-or_3 a b c d e = or_left _ d (or_right _ c e)
-
-or_4 : (a b c d : Bool) → d ≡ true → (a || b || c || d) ≡ true
-or_4 a b c d e = or_right _ d e
-
 module _ (test : Cell → Bool) (q : Cell) (h : test q ≡ true) where
   at : (i j : ℕ) → odd q.x ≡ i → odd q.y ≡ j → test (cell (half q.x +ℤ half q.x +ℤ pos i) (half q.y +ℤ half q.y +ℤ pos j)) ≡ true
   at i j ex ey =
@@ -148,10 +136,10 @@ module _ (test : Cell → Bool) (q : Cell) (h : test q ≡ true) where
   of k = test (child (parent q) k)
 
   by_odd : (odd q.x ≡ 0) ⊎ (odd q.x ≡ 1) → (odd q.y ≡ 0) ⊎ (odd q.y ≡ 1) → has_child_where test (parent q) ≡ true
-  by_odd (inl ex) (inl ey) = or_1 (of 0) (of 1) (of 2) (of 3) (at 0 0 ex ey)
-  by_odd (inr ex) (inl ey) = or_2 (of 0) (of 1) (of 2) (of 3) (at 1 0 ex ey)
-  by_odd (inl ex) (inr ey) = or_3 (of 0) (of 1) (of 2) (of 3) (at 0 1 ex ey)
-  by_odd (inr ex) (inr ey) = or_4 (of 0) (of 1) (of 2) (of 3) (at 1 1 ex ey)
+  by_odd (inl ex) (inl ey) = or_left _ (of 3) (or_left _ (of 2) (or_left (of 0) (of 1) (at 0 0 ex ey)))
+  by_odd (inr ex) (inl ey) = or_left _ (of 3) (or_left _ (of 2) (or_right (of 0) (of 1) (at 1 0 ex ey)))
+  by_odd (inl ex) (inr ey) = or_left _ (of 3) (or_right _ (of 2) (at 0 1 ex ey))
+  by_odd (inr ex) (inr ey) = or_right _ (of 3) (at 1 1 ex ey)
 
   -- a cell that passes a test makes its parent one with such a child
   pub child_of_parent : has_child_where test (parent q) ≡ true

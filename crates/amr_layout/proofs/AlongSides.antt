@@ -2,7 +2,7 @@
 use Rattle.std.proofs.Common.{◌≡◌, ℕ, ◌+◌, ◌-◌, ◌*◌, ◌<◌, ◌≤◌, ◌⊎◌, inl, inr, Bool, true, false, ◌&&◌, cond, ℤ, pos, ◌+ℤ◌, ◌-ℤ◌, ◌≤ℤ◌, List, length, refl, sym, ap, subst, ◌∙◌, arith}
 use Rattle.std.specs.Prelude.{not, slice_index_or}
 use Rattle.std.proofs.lemmas.Int.{ints}
-use Rattle.std.proofs.lemmas.Bool.{and_parts, cases_lt}
+use Rattle.std.proofs.lemmas.Bool.{and_from, and_parts, and_right, cases_lt, not_from_true}
 use Rattle.amr_box.specs.declared.Cell.{Cell}
 use Rattle.amr_box.specs.declared.Face.{Face}
 use Rattle.amr_box.specs.declared.Axis.{Axis}
@@ -130,23 +130,12 @@ module _ (b : Extent) (x y z : ℤ) where
 
 -- ---- cells of the domain
 
-both : (a b : Bool) → a ≡ true → b ≡ true → (a && b) ≡ true
-both true b e f = f
-both false b e f = cc
-
-not_true : (a : Bool) → a ≡ true → not a ≡ false
-not_true a e = ap not e
-
-neither : (a b : Bool) → b ≡ true → (a && not b) ≡ false
-neither true b e = ap not e
-neither false b e = refl
-
 module _ (s : Around) (b : Extent) (lies : IsInDomain (domain_around s) b) (f : Face) where
   beside_level : in_domain (domain_around s) (home_cell (domain_around s) (outside b f)) ≡ true → in_patches s.patches (home_cell (domain_around s) (outside b f)) ≡ true → LiesBesideLevel s b f
   unfolding is_open is_coarse_fine
   beside_level h p = record {
-    not_open = not_true (in_domain (domain_around s) (home_cell (domain_around s) (outside b f))) h;
-    not_coarse_fine = neither (in_domain (domain_around s) (home_cell (domain_around s) (outside b f))) (in_patches s.patches (home_cell (domain_around s) (outside b f))) p;
+    not_open = not_from_true (in_domain (domain_around s) (home_cell (domain_around s) (outside b f))) h;
+    not_coarse_fine = and_right (in_domain (domain_around s) (home_cell (domain_around s) (outside b f))) (not (in_patches s.patches (home_cell (domain_around s) (outside b f)))) (not_from_true (in_patches s.patches (home_cell (domain_around s) (outside b f))) p);
   }
 
 tests : (d : Domain) (c : Cell) → in_domain d c ≡ true → (is_inside d.columns c.x ≡ true) × (is_inside d.rows c.y ≡ true)
@@ -155,7 +144,7 @@ tests d c h = and_parts (is_inside d.columns c.x) (is_inside d.rows c.y) h
 
 passed : (d : Domain) (c : Cell) → is_inside d.columns c.x ≡ true → is_inside d.rows c.y ≡ true → in_domain d c ≡ true
 unfolding in_domain
-passed d c x y = both (is_inside d.columns c.x) (is_inside d.rows c.y) x y
+passed d c x y = and_from (is_inside d.columns c.x) (is_inside d.rows c.y) x y
 
 -- a cell in the box of a patch is one of the level
 pub of_patch : (ps : List Patch) (c : Cell) (i : ℕ) (p : Patch) (q : Extent) → i < length ps → p ≡ slice_index_or ps i p → q ≡ box (slice_index_or ps i p) → holds q c ≡ true → in_patches ps c ≡ true

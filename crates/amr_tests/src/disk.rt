@@ -68,7 +68,7 @@ fn stopped(rt: &(impl Abort + AllocGlobal)) -> Result<MemDisk, NoMemory> {
     assert_eq!(rt; disk.write_at(2, &[3]), Err(DiskFault), "by the list");
     assert_eq!(rt; disk.sync(), Err(DiskFault), "by the list");
     assert_eq!(rt; disk.write_at(4, &[5]), Err(DiskFault), "past the capacity");
-    assert_eq!(rt; disk.write_at(40, &[]), Ok(()), "an empty piece");
+    assert_eq!(rt; disk.write_at(40, &[]), Ok(()), "an empty chunk");
     assert_eq!(rt; disk.sync(), Err(DiskFault), "stopped");
     Ok(disk)
 }

@@ -7,8 +7,9 @@ use crate::problems::two_by_two;
 use amr_box::Cell;
 use amr_codec::{MassWidth, encode, encode2};
 use amr_decoder::{CodecFault, decode, decode2};
-use amr_def::{Blocks, Name, Problem, Shear, Sides, Thresholds};
+use amr_def::Problem;
 use amr_patch::Mesh;
+use amr_problem::judge;
 use std::alloc::Global;
 use std::process::Abort;
 use std::test::Fail;
@@ -154,31 +155,21 @@ fn the_same_by_four_bytes(rt: HostRuntime) -> Result<(), Fail> {
     Ok(())
 }
 
+const THREE_LEVELS: &str = "version = 1
+name = \"three\"
+cells = [4, 4]
+steps = 1
+courant = [0, 0, 1]
+sides = [-1, -1, -1, -1]
+max_level = 2
+tag = [9, 9]
+max_grid_size = 4
+blocks = []
+";
+
 /// A problem of 4 by 4 cells and up to three levels, of one step.
 pub(crate) fn three_levels(alloc: Global) -> Result<Problem, Fail> {
-    Ok(Problem {
-        version: 1,
-        name: Name::make(Vec::from_slice(alloc, b"three")?),
-        nx: 4,
-        ny: 4,
-        steps: 1,
-        cx: 0,
-        cy: 0,
-        d: 1,
-        shear_x: Shear::make(Vec::new(alloc)),
-        shear_y: Shear::make(Vec::new(alloc)),
-        x_sides: Sides::Periodic,
-        y_sides: Sides::Periodic,
-        max_level: 2,
-        tag: Thresholds::make(Vec::from_slice(alloc, [9, 9].as_slice())?),
-        n_error_buf: 0,
-        efficiency: 80,
-        min_width: 1,
-        regrid_int: 4096,
-        blocking: 2,
-        max_grid_size: 4,
-        blocks: Blocks::make(Vec::new(alloc)),
-    })
+    Ok(judge(alloc, THREE_LEVELS.as_bytes())?)
 }
 
 /// The masses of the levels, 16 of each: the cells in the middle of the coarser ones are covered.

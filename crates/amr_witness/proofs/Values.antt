@@ -1,5 +1,5 @@
 -- Courant numbers of faces, and values of ready levels.
-use Rattle.std.proofs.Common.{◌≡◌, ℕ, zero, suc, ◌*◌, ◌/◌, ◌^◌, ◌<◌, ◌≤◌, Bool, true, false, cond, ◌||◌, ℤ, is_some, refl, pos, negsuc, ◌-ℤ◌, ◌≤ℤ◌, sym, subst, ◌∙◌, ap, arith, List, ◌∷◌}
+use Rattle.std.proofs.Common.{◌≡◌, ℕ, zero, suc, ◌*◌, ◌/◌, ◌^◌, ◌<◌, ◌≤◌, Bool, true, false, cond, ℤ, is_some, refl, pos, negsuc, ◌-ℤ◌, ◌≤ℤ◌, sym, subst, ◌∙◌, ap, arith, List, ◌∷◌}
 use Rattle.std.specs.Prelude.{unsigned_abs}
 use Rattle.std.specs.declared.option.Option.{Option}
 use Rattle.std.specs.declared.option.Option.TheVariants.{None, Some}
@@ -98,8 +98,3 @@ module _ (p : Problem) (l : ℕ) (f : Face) (known : l ≤ 4) (inside : IsFace p
 
 pub there_at : (m : Masses) (r : Bool) (x y x' y' : ℤ) → r ≡ is_some (m (cell x y)) → x ≡ x' → y ≡ y' → r ≡ is_some (m (cell x' y'))
 there_at m r x y x' y' e ex ey = e ∙ (λ i. is_some (m (cell (ex i) (ey i))))
-
-pub four_or : (a b c d : Bool) → ((a || b) || (c || d)) ≡ (a || b || c || d)
-four_or true b c d = refl
-four_or false true c d = refl
-four_or false false c d = refl

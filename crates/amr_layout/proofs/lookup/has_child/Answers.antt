@@ -1,6 +1,7 @@
-use Rattle.std.proofs.Common.{◌≡◌, ◌∙◌, ◌||◌, Bool, sym, pos, ℤ, ◌+ℤ◌, refl, arith, true, false}
+use Rattle.std.proofs.Common.{◌≡◌, ◌∙◌, ◌||◌, Bool, sym, pos, ℤ, ◌+ℤ◌, arith}
 use Rattle.std.specs.Prelude.{is_some}
 use Rattle.std.proofs.lemmas.Int.{ints}
+use Rattle.std.proofs.Math.Bool.{or_assoc}
 use Rattle.amr_box.specs.Cells.{cell}
 use Rattle.amr_def.specs.State.{Masses}
 use Rattle.amr_def.proofs.Children.{covered_by}
@@ -9,11 +10,6 @@ use Rattle.amr_layout.proofs.lookup.has_child.Goals as goal
 
 there_at : (m : Masses) (r : Bool) (x y x' y' : ℤ) → r ≡ is_some (m (cell x y)) → x ≡ x' → y ≡ y' → r ≡ is_some (m (cell x' y'))
 there_at m r x y x' y' e ex ey = e ∙ (λ i. is_some (m (cell (ex i) (ey i))))
-
-four_or : (a b c d : Bool) → ((a || b) || (c || d)) ≡ (a || b || c || d)
-four_or true b c d = refl
-four_or false true c d = refl
-four_or false false c d = refl
 
 pub returns : goal.returns
 returns c =
@@ -24,4 +20,4 @@ returns c =
     let e1 = there_at m c.has-2.result _ _ (x +ℤ x +ℤ pos 1) (y +ℤ y) c.has-2.ensures (omega (arith, ints)) (omega (arith, ints)) in
     let e2 = there_at m c.has-3.result _ _ (x +ℤ x) (y +ℤ y +ℤ pos 1) c.has-3.ensures (omega (arith, ints)) (omega (arith, ints)) in
     let e3 = there_at m c.has-4.result _ _ (x +ℤ x +ℤ pos 1) (y +ℤ y +ℤ pos 1) c.has-4.ensures (omega (arith, ints)) (omega (arith, ints)) in
-    four_or c.has.result c.has-2.result c.has-3.result c.has-4.result ∙ (λ i. e0 i || e1 i || e2 i || e3 i) ∙ sym (covered_by c.args.c m)
+    sym (or_assoc (c.has.result || c.has-2.result) c.has-3.result c.has-4.result) ∙ (λ i. e0 i || e1 i || e2 i || e3 i) ∙ sym (covered_by c.args.c m)

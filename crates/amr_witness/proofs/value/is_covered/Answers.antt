@@ -1,8 +1,9 @@
 use Rattle.std.proofs.Common.{◌∙◌, ◌||◌, sym, pos, ◌+ℤ◌, arith}
 use Rattle.std.proofs.lemmas.Int.{ints}
+use Rattle.std.proofs.Math.Bool.{or_assoc}
 use Rattle.amr_def.proofs.Children.{covered_by}
 use Rattle.amr_witness.specs.Maps.{masses_of}
-use Rattle.amr_witness.proofs.Values.{there_at, four_or}
+use Rattle.amr_witness.proofs.Values.{there_at}
 use Rattle.amr_witness.proofs.value.is_covered.Goals as goal
 
 pub returns : goal.returns
@@ -14,4 +15,4 @@ returns c =
     let e1 = there_at m c.is_there-2.result _ _ (x +ℤ x +ℤ pos 1) (y +ℤ y) c.is_there-2.ensures (omega (arith, ints)) (omega (arith, ints)) in
     let e2 = there_at m c.is_there-3.result _ _ (x +ℤ x) (y +ℤ y +ℤ pos 1) c.is_there-3.ensures (omega (arith, ints)) (omega (arith, ints)) in
     let e3 = there_at m c.is_there-4.result _ _ (x +ℤ x +ℤ pos 1) (y +ℤ y +ℤ pos 1) c.is_there-4.ensures (omega (arith, ints)) (omega (arith, ints)) in
-    four_or c.is_there.result c.is_there-2.result c.is_there-3.result c.is_there-4.result ∙ (λ i. e0 i || e1 i || e2 i || e3 i) ∙ sym (covered_by c.args.c m)
+    sym (or_assoc (c.is_there.result || c.is_there-2.result) c.is_there-3.result c.is_there-4.result) ∙ (λ i. e0 i || e1 i || e2 i || e3 i) ∙ sym (covered_by c.args.c m)
