@@ -1,8 +1,8 @@
-use Rattle.std.proofs.Common.{◌≡◌, ◌∙◌, ◌||◌, ◌+◌, ap, arith}
+use Rattle.std.proofs.Common.{◌≡◌, ◌∙◌, ◌||◌, ◌+◌, ap, sym, arith}
+use Rattle.std.proofs.Math.Bool.{or_assoc}
 use Rattle.amr_box.specs.Cells.{child, has_child_where}
 use Rattle.amr_def.specs.Domain.{domain, is_near}
 use Rattle.amr_def.specs.State.{in_boxes}
-use Rattle.amr_witness.proofs.Values.{four_or}
 use Rattle.amr_witness_regrid.proofs.Near.{up_more}
 use Rattle.amr_witness_regrid.proofs.wanted.is_projected.Goals as goal
 
@@ -38,4 +38,4 @@ returns c =
     let e1 : c.is_beside-second.result ≡ test (child k 1) = c.is_beside-second.ensures ∙ ap test c.child-2.ensures.value in
     let e2 : c.is_beside-third.result ≡ test (child k 2) = c.is_beside-third.ensures ∙ ap test c.child-3.ensures.value in
     let e3 : c.is_beside-fourth.result ≡ test (child k 3) = c.is_beside-fourth.ensures ∙ ap test c.child-4.ensures.value in
-    four_or c.is_beside-first.result c.is_beside-second.result c.is_beside-third.result c.is_beside-fourth.result ∙ (λ i. e0 i || e1 i || e2 i || e3 i)
+    sym (or_assoc (c.is_beside-first.result || c.is_beside-second.result) c.is_beside-third.result c.is_beside-fourth.result) ∙ (λ i. e0 i || e1 i || e2 i || e3 i)
