@@ -7,3 +7,4 @@ pub mod Ended
 pub mod Collected
 pub mod Registers
 pub mod Totals
+pub mod Teams

@@ -1,6 +1,6 @@
 //! The step of a level's patches: on a board where several work, else one after another.
 
-ghost use Rattle.std.specs.Prelude.{◌≡◌, ◌+◌, ◌*◌, ◌<◌, ◌≤◌, ◌^◌, ℕ, IfOk, OnOk, OnErr, length, slice_index};
+ghost use Rattle.std.specs.Prelude.{◌≡◌, ◌+◌, ◌*◌, ◌<◌, ◌≤◌, ◌^◌, ℕ, IfOk, IfSome, OnOk, OnErr, length, slice_index};
 ghost use Rattle.std.specs.List.{AllZip};
 ghost use Rattle.std.specs.Option.{option_copied};
 ghost use Rattle.amr_def.specs.Flux.{flux_at};
@@ -12,6 +12,7 @@ ghost use Rattle.amr_flows.specs.Words.{level_total};
 ghost use Rattle.amr_advance.specs.Kept.{IsLaidOut};
 ghost use Rattle.amr_advance.specs.Shown.{AreShown, IsStepped, StepFits};
 ghost use Rattle.amr_advance.specs.Tasks.{AreBoardTasks};
+ghost use Rattle.amr_advance.specs.Teams.{IsTeamFor};
 
 use crate::alone::step_each;
 use crate::collecting::{collect, take_totals};
@@ -25,6 +26,7 @@ use amr_def::Problem;
 use amr_patch::{Level, Patch};
 use amr_workers::Gate;
 use std::alloc::Global;
+use std::sync::Wait;
 use std::thread::Threads;
 
 /// What a step of a level is made from besides its patches. There are the problem and the number of the level, and the
@@ -44,8 +46,8 @@ pub(crate) struct Given<'a> {
 /// the totals of the words from the closed board. The tasks serve the next step.
 ///
 /// All memory is taken before the first task is drawn. If allocation fails the patches are as before.
-fn run_on_board<R: Threads + Sync, G: Gate + Sync>(
-    workers: &Workers<'_, R, G>,
+fn run_on_board<R: Threads + Wait + Sync, G: Gate + Sync>(
+    workers: &mut Workers<'_, R, G>,
     given: Given<'_>,
     patches: &mut [Patch],
     tasks: &mut BoardTasks,
@@ -56,10 +58,12 @@ fn run_on_board<R: Threads + Sync, G: Gate + Sync>(
     requires fits { StepFits given.problem.now given.level (masses_in patches.old) (old_masses (option_copied given.old)) }
     requires tasks { AreBoardTasks (around given.problem.now given.level patches.old given.cells.now (option_copied given.finer)) tasks.old }
     requires few { length patches.old ≤ 2 ^ 26 }
-    requires some_workers { 1 ≤ workers.now.count }
-    requires few_workers { workers.now.count ≤ 64 }
-    requires gate { (worker task : ℕ) → worker < workers.now.count → task < length patches.old → G.admits workers.now.gate.now worker task }
+    requires some_workers { 1 ≤ workers.old.count }
+    requires few_workers { workers.old.count ≤ 64 }
+    requires gate { (worker task : ℕ) → worker < workers.old.count → task < length patches.old → G.admits workers.old.gate.now worker task }
+    requires team { IfSome workers.old.team (IsTeamFor given.problem.now workers.old.gate.now workers.old.count) }
     requires words { length totals.old ≡ tasks.old.shape.words }
+    ensures workers { workers.new ≡ workers.old }
     ensures stepped { OnOk result (AllZip (IsStepped (flux_at given.entry.problem.now given.entry.level (masses_in patches.old) (old_masses (option_copied given.entry.old)))) patches.old patches.new) }
     ensures words { length totals.new ≡ length totals.old }
     ensures totals { OnOk result ((word : ℕ) → word < length totals.new → slice_index totals.new word ≡ level_total (around given.entry.problem.now given.entry.level patches.old given.entry.cells.now (option_copied given.entry.finer)) (plain_size given.entry.problem.now given.entry.level (masses_in patches.old) (old_masses (option_copied given.entry.old))) word) }
@@ -91,8 +95,8 @@ fn run_on_board<R: Threads + Sync, G: Gate + Sync>(
 /// register's, and the layout serves the next step.
 ///
 /// All memory is taken before the first task is begun. If allocation fails the patches are as before.
-pub(crate) fn run_level<R: Threads + Sync, G: Gate + Sync>(
-    workers: &Workers<'_, R, G>,
+pub(crate) fn run_level<R: Threads + Wait + Sync, G: Gate + Sync>(
+    workers: &mut Workers<'_, R, G>,
     given: Given<'_>,
     patches: &mut [Patch],
     layout: &mut KeptLayout,
@@ -102,9 +106,11 @@ pub(crate) fn run_level<R: Threads + Sync, G: Gate + Sync>(
     requires fits { StepFits given.problem.now given.level (masses_in patches.old) (old_masses (option_copied given.old)) }
     requires layout { IsLaidOut (around given.problem.now given.level patches.old given.cells.now (option_copied given.finer)) layout.old }
     requires few { length patches.old ≤ 2 ^ 26 }
-    requires some_workers { 1 ≤ workers.now.count }
-    requires few_workers { workers.now.count ≤ 64 }
-    requires gate { (worker task : ℕ) → worker < workers.now.count → task < length patches.old → G.admits workers.now.gate.now worker task }
+    requires some_workers { 1 ≤ workers.old.count }
+    requires few_workers { workers.old.count ≤ 64 }
+    requires gate { (worker task : ℕ) → worker < workers.old.count → task < length patches.old → G.admits workers.old.gate.now worker task }
+    requires team { IfSome workers.old.team (IsTeamFor given.problem.now workers.old.gate.now workers.old.count) }
+    ensures workers { workers.new ≡ workers.old }
     ensures stepped { OnOk result (AllZip (IsStepped (flux_at given.entry.problem.now given.entry.level (masses_in patches.old) (old_masses (option_copied given.entry.old)))) patches.old patches.new) }
     ensures count { IfOk result (λ ws. length ws.items ≡ 2 + 2 * length given.entry.cells.now) }
     ensures few { IfOk result (λ ws. length ws.items < 2 ^ 32) }

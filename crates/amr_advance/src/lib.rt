@@ -17,5 +17,5 @@ mod tasks;
 
 pub use kept::KeptLayout;
 pub use regs::{Crew, Regs};
-pub use running::Workers;
+pub use running::{LevelTeam, Workers};
 pub use steps::{advance, advance_kept};

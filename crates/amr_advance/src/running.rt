@@ -1,32 +1,104 @@
 //! The board of a level's pieces, from its first seat to its close.
 
-ghost use Rattle.std.specs.Prelude.{◌≡◌, ◌<◌, ◌≤◌, ◌^◌, ℕ, IfOk, IfErr, length};
+ghost use Rattle.std.specs.Prelude.{◌≡◌, ◌<◌, ◌≤◌, ◌^◌, ℕ, Some, IfOk, IfErr, IfSome, false, length};
 ghost use Rattle.std.specs.List.{All};
-ghost use Rattle.amr_phase.specs.Plans.{IsPlan};
+ghost use mathlib.Core.Option.{some};
+ghost use lib.ListN.{get_elem?};
+ghost use Rattle.amr_phase.specs.Plans.{IsPlan, planned_face, planned_total};
+ghost use Rattle.amr_board.specs.BoardOf.{IsSeatOf, view};
+ghost use Rattle.amr_board.specs.Ended.{face_of, total_of};
 ghost use Rattle.amr_board.specs.Piece.{AreNumbered, plan_of};
+ghost use Rattle.amr_board.specs.Views.{HoldsNone};
 ghost use Rattle.amr_advance.specs.Ended.{HasPieces, HasWords};
+ghost use Rattle.amr_advance.specs.Teams.{IsTeamFor};
 ghost use Rattle.amr_work.specs.Ready.{MayBegin};
-ghost use Rattle.amr_work.specs.Works.{adds_of_work, puts_of_work};
+ghost use Rattle.amr_work.specs.Works.{StandsFor, adds_of_work, puts_of_work};
 
-use amr_board::{Board, Ended, MakeFault, Shape};
+use amr_board::{Board, Ended, MakeFault, Seat, Shape};
 use amr_def::Problem;
-use amr_work::{Work, work_level};
-use amr_workers::Gate;
+use amr_work::{LevelWork, Work, work_level};
+use amr_workers::{Gate, Team};
 use std::alloc::Global;
+use std::sync::Wait;
 use std::thread::Threads;
 
-/// Who works on a board: so many workers, each of whom calls a gate around each task.
-#[derive(Clone, Copy)]
-pub struct Workers<'a, R, G> {
+/// Workers that last from one step of a level to the next.
+pub type LevelTeam<'a, G> = Team<'a, Work, LevelWork<'a>, G>;
+
+/// Who works on a board: so many workers, each of whom calls a gate around each task. They are a team that lasts from
+/// step to step, or threads made for each step.
+#[derive(Drop)]
+pub struct Workers<'a, R, G: Gate> {
     pub runtime: &'a R,
     pub gate: &'a G,
     pub count: u32,
+    pub team: Option<LevelTeam<'a, G>>,
+}
+
+/// Has threads that are made for it do all tasks of a board, and closes it.
+fn run_anew<R: Threads + Sync, G: Gate + Sync>(
+    workers: &Workers<'_, R, G>,
+    p: &Problem,
+    board: Board<Work>,
+    seat: Seat<Work>,
+) -> Ended<Work>
+    requires seat { IsSeatOf board seat }
+    requires none { HoldsNone (view seat) }
+    requires here { (view seat).past ≡ false }
+    requires alone { (view seat).share ≡ 2 ^ 32 }
+    requires ready { (t : ℕ) (w : Work) → get_elem? board.pieces t ≡ some w → MayBegin p.now board.plan w }
+    requires some_workers { 1 ≤ workers.now.count }
+    requires few_workers { workers.now.count ≤ 64 }
+    requires gate { (worker task : ℕ) → worker < workers.now.count → task < length board.plan.tasks → G.admits workers.now.gate.now worker task }
+    ensures shape { (result.places ≡ board.plan.places) × (result.registers ≡ board.plan.words) }
+    ensures totals { (w : ℕ) → w < board.plan.words → total_of result w ≡ planned_total board.plan w }
+    ensures faces { (place : ℕ) → place < board.plan.places → face_of result place ≡ planned_face board.plan place }
+    ensures pieces { (t : ℕ) (w : Work) → get_elem? board.pieces t ≡ some w → (v : Work) × StandsFor w v × (get_elem? result.pieces t ≡ some (Some v)) }
+{
+    let seat = work_level(
+        workers.runtime,
+        p,
+        &board,
+        seat,
+        workers.gate,
+        workers.count,
+    );
+    board.close(seat)
+}
+
+/// Has workers do all tasks of a board, and closes it: the team, where there is one.
+fn run_board<R: Threads + Wait + Sync, G: Gate + Sync>(
+    workers: &mut Workers<'_, R, G>,
+    alloc: Global,
+    p: &Problem,
+    board: Board<Work>,
+    seat: Seat<Work>,
+) -> Ended<Work>
+    requires seat { IsSeatOf board seat }
+    requires none { HoldsNone (view seat) }
+    requires here { (view seat).past ≡ false }
+    requires alone { (view seat).share ≡ 2 ^ 32 }
+    requires ready { (t : ℕ) (w : Work) → get_elem? board.pieces t ≡ some w → MayBegin p.now board.plan w }
+    requires some_workers { 1 ≤ workers.old.count }
+    requires few_workers { workers.old.count ≤ 64 }
+    requires gate { (worker task : ℕ) → worker < workers.old.count → task < length board.plan.tasks → G.admits workers.old.gate.now worker task }
+    requires team { IfSome workers.old.team (IsTeamFor p.now workers.old.gate.now workers.old.count) }
+    ensures workers { workers.new ≡ workers.old }
+    ensures shape { (result.places ≡ board.plan.places) × (result.registers ≡ board.plan.words) }
+    ensures totals { (w : ℕ) → w < board.plan.words → total_of result w ≡ planned_total board.plan w }
+    ensures faces { (place : ℕ) → place < board.plan.places → face_of result place ≡ planned_face board.plan place }
+    ensures pieces { (t : ℕ) (w : Work) → get_elem? board.pieces t ≡ some w → (v : Work) × StandsFor w v × (get_elem? result.pieces t ≡ some (Some v)) }
+{
+    match &mut workers.team {
+        Some(team) => team.run_phase(workers.runtime, alloc, board, seat),
+        None => run_anew(workers, p, board, seat),
+    }
 }
 
 /// Has workers do all tasks of a board of these pieces, and closes it. All memory is taken before the first task is drawn; if
 /// allocation fails the pieces come back.
-pub(crate) fn run_pieces<R: Threads + Sync, G: Gate + Sync>(
-    workers: &Workers<'_, R, G>,
+pub(crate) fn run_pieces<R: Threads + Wait + Sync, G: Gate + Sync>(
+    workers: &mut Workers<'_, R, G>,
     alloc: Global,
     p: &Problem,
     shape: Shape,
@@ -36,9 +108,11 @@ pub(crate) fn run_pieces<R: Threads + Sync, G: Gate + Sync>(
     requires numbered { AreNumbered (λ w. w.task) pieces.items }
     requires few { length pieces.items < 2 ^ 32 }
     requires begin { All (MayBegin p.now (plan_of puts_of_work adds_of_work shape.places shape.words pieces.items)) pieces.items }
-    requires some_workers { 1 ≤ workers.now.count }
-    requires few_workers { workers.now.count ≤ 64 }
-    requires gate { (worker task : ℕ) → worker < workers.now.count → task < length pieces.items → G.admits workers.now.gate.now worker task }
+    requires some_workers { 1 ≤ workers.old.count }
+    requires few_workers { workers.old.count ≤ 64 }
+    requires gate { (worker task : ℕ) → worker < workers.old.count → task < length pieces.items → G.admits workers.old.gate.now worker task }
+    requires team { IfSome workers.old.team (IsTeamFor p.now workers.old.gate.now workers.old.count) }
+    ensures workers { workers.new ≡ workers.old }
     ensures words { IfOk result (HasWords (plan_of puts_of_work adds_of_work shape.places shape.words pieces.items)) }
     ensures pieces { IfOk result (λ o. HasPieces o pieces.items 0) }
     ensures back { IfErr result (λ ws. ws.items ≡ pieces.items) }
@@ -47,13 +121,5 @@ pub(crate) fn run_pieces<R: Threads + Sync, G: Gate + Sync>(
         Ok(made) => made,
         Err(MakeFault::NoMemory(pieces)) => return Err(pieces),
     };
-    let seat = work_level(
-        workers.runtime,
-        p,
-        &board,
-        seat,
-        workers.gate,
-        workers.count,
-    );
-    Ok(board.close(seat))
+    Ok(run_board(workers, alloc, p, board, seat))
 }

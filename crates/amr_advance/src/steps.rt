@@ -18,6 +18,7 @@ ghost use Rattle.amr_advance.specs.Registers.{BothChange, HasCoarser, HasEdges, 
 ghost use Rattle.amr_advance.specs.Totals.{HasTotals, SomeHasAbsorbed, SomeMayAbsorb};
 ghost use Rattle.amr_advance.specs.Kept.{IsKept, IsLaidOut};
 ghost use Rattle.amr_advance.specs.Shown.{AreShown, StepFits};
+ghost use Rattle.amr_advance.specs.Teams.{IsTeamFor};
 
 use crate::kept::{KeptLayout, layout_for};
 use crate::level::{Given, run_level};
@@ -32,6 +33,7 @@ use amr_patch::{Level, Order, Patch};
 use amr_register::Register;
 use amr_workers::Gate;
 use std::alloc::Global;
+use std::sync::Wait;
 use std::thread::Threads;
 
 /// How many patches a level may have. More would take more memory than there is, and are refused as that.
@@ -107,8 +109,8 @@ fn take_parts(given: Given<'_>, patches: &[Patch], order: Order, register: &mut 
 
 /// Makes a step of the patches of a level, and tells the totals of its words. If allocation fails the patches have the masses of
 /// before, and the register is as before.
-fn step_patches<R: Threads + Sync, G: Gate + Sync>(
-    workers: &Workers<'_, R, G>,
+fn step_patches<R: Threads + Wait + Sync, G: Gate + Sync>(
+    workers: &mut Workers<'_, R, G>,
     given: Given<'_>,
     order: Order,
     patches: &mut [Patch],
@@ -123,9 +125,11 @@ fn step_patches<R: Threads + Sync, G: Gate + Sync>(
     requires cells { (qs : List Patch) → masses_in qs ≡ masses_in patches.old → HasRegisterCells (around given.problem.now given.level qs given.cells.now (option_copied given.finer)) }
     requires register { HasEdges given.problem.now given.level (masses_in patches.old) (option_copied given.finer) register.old }
     requires kept { IfSome kept.old (IsKept given.problem.now) }
-    requires some_workers { 1 ≤ workers.now.count }
-    requires few_workers { workers.now.count ≤ 64 }
-    requires gate { (worker task : ℕ) → worker < workers.now.count → task < length patches.old → G.admits workers.now.gate.now worker task }
+    requires some_workers { 1 ≤ workers.old.count }
+    requires few_workers { workers.old.count ≤ 64 }
+    requires gate { (worker task : ℕ) → worker < workers.old.count → task < length patches.old → G.admits workers.old.gate.now worker task }
+    requires team { IfSome workers.old.team (IsTeamFor given.problem.now workers.old.gate.now workers.old.count) }
+    ensures workers { workers.new ≡ workers.old }
     ensures masses { OnOk result (masses_in patches.new ≡ updated (masses_in patches.old) (flux_at given.entry.problem.now given.entry.level (masses_in patches.old) (old_masses (option_copied given.entry.old)))) }
     ensures boxes { map box patches.new ≡ map box patches.old }
     ensures apart { ArePatchesApart patches.new }
@@ -181,9 +185,9 @@ fn add_totals(totals: &[u64], regs: &mut Regs)
 /// the workspaces of its tasks, is taken from `kept` where it was made for the same boxes. Else it is made anew. It is
 /// kept afterwards, but not after `NoMemory`.
 ///
-/// There are from 1 to 64 workers. `kept` is of the same problem.
-pub fn advance_kept<R: Threads + Sync, G: Gate + Sync>(
-    workers: &Workers<'_, R, G>,
+/// There are from 1 to 64 workers. `kept` and the team, where there is one, are of the same problem.
+pub fn advance_kept<R: Threads + Wait + Sync, G: Gate + Sync>(
+    workers: &mut Workers<'_, R, G>,
     p: &Problem,
     l: u32,
     level: &mut Level,
@@ -197,12 +201,14 @@ pub fn advance_kept<R: Threads + Sync, G: Gate + Sync>(
     requires fits { StepFits p.now l (level_of level.old).masses (old_masses (option_copied old)) }
     requires coarser { HasCoarser p.now l (level_of level.old) (option_copied old) regs.old.coarser }
     requires finer { HasFiner p.now l (level_of level.old) (option_copied finer) regs.old.finer }
-    requires some_workers { 1 ≤ workers.now.count }
-    requires few_workers { workers.now.count ≤ 64 }
-    requires gate { (worker task : ℕ) → worker < workers.now.count → task < length (patches_of level.old) → G.admits workers.now.gate.now worker task }
+    requires some_workers { 1 ≤ workers.old.count }
+    requires few_workers { workers.old.count ≤ 64 }
+    requires gate { (worker task : ℕ) → worker < workers.old.count → task < length (patches_of level.old) → G.admits workers.old.gate.now worker task }
+    requires team { IfSome workers.old.team (IsTeamFor p.now workers.old.gate.now workers.old.count) }
     requires inflow { regs.old.inflow + inflow_beside p.now l (is_uncovered (level_of level.old).masses (finer_masses (option_copied finer))) (flux_at p.now l (level_of level.old).masses (old_masses (option_copied old))) < 2 ^ 63 }
     requires outflow { regs.old.outflow + outflow_beside p.now l (is_uncovered (level_of level.old).masses (finer_masses (option_copied finer))) (flux_at p.now l (level_of level.old).masses (old_masses (option_copied old))) < 2 ^ 63 }
     requires kept { IfSome kept.old (IsKept p.now) }
+    ensures workers { workers.new ≡ workers.old }
     ensures masses { OnOk result ((level_of level.new).masses ≡ updated (level_of level.old).masses (flux_at p.now l (level_of level.old).masses (old_masses (option_copied old.entry)))) }
     ensures boxes { (level_of level.new).boxes ≡ (level_of level.old).boxes }
     ensures patches { map box (patches_of level.new) ≡ map box (patches_of level.old) }
@@ -246,7 +252,7 @@ pub fn advance_kept<R: Threads + Sync, G: Gate + Sync>(
 /// The crew has one rank, and from 1 to 64 workers. All memory is taken before the first task is drawn. `NoMemory` is the only
 /// refusal, and also stands for more than 2^26 patches or 2^30 faces: then the level has the masses of before, and `regs` is as
 /// before. The call joins its workers, and keeps this promise if it returns.
-pub fn advance<R: Threads + Sync, G: Gate + Sync>(
+pub fn advance<R: Threads + Wait + Sync, G: Gate + Sync>(
     rt: &R,
     p: &Problem,
     l: u32,
@@ -280,10 +286,11 @@ pub fn advance<R: Threads + Sync, G: Gate + Sync>(
     ensures same_finer { OnErr result (BothChange (λ c. pos 0) regs.old.finer regs.new.finer) }
     ensures same_sums { OnErr result ((regs.new.inflow ≡ regs.old.inflow) × (regs.new.outflow ≡ regs.old.outflow)) }
 {
-    let workers = Workers {
+    let mut workers = Workers {
         runtime: rt,
         gate,
         count: crew.workers,
+        team: None,
     };
-    advance_kept(&workers, p, l, level, old, finer, regs, &mut None)
+    advance_kept(&mut workers, p, l, level, old, finer, regs, &mut None)
 }

@@ -20,6 +20,7 @@ use amr_witness_regrid::{are_same, plain_of};
 use amr_workers::OpenGate;
 use std::alloc::Global;
 use std::process::Abort;
+use std::sync::Wait;
 use std::test::Fail;
 use std::thread::Threads;
 
@@ -80,7 +81,7 @@ fn mesh_of(alloc: Global, p: &Problem, bytes: &[u8]) -> Option<Mesh>
 }
 
 /// The state of a payload after a step by so many workers.
-fn stepped<R: Threads + Sync>(
+fn stepped<R: Threads + Wait + Sync>(
     rt: &R,
     alloc: Global,
     p: &Problem,
@@ -108,7 +109,7 @@ fn stepped_slowly(alloc: Global, p: &Problem, bytes: &[u8]) -> Result<Option<Pla
 }
 
 /// Whether steps by 1, 2 and 7 workers make the same state as the witness; none where what is drawn is refused.
-fn agree<R: Threads + Sync>(
+fn agree<R: Threads + Wait + Sync>(
     rt: &R,
     alloc: Global,
     seed: u32,
@@ -137,7 +138,10 @@ fn agree<R: Threads + Sync>(
 }
 
 /// Compares states of so many levels.
-fn compare<R: Abort + Alloc<A = Global> + Threads + Sync>(rt: &R, levels: u8) -> Result<(), Fail>
+fn compare<R: Abort + Alloc<A = Global> + Threads + Wait + Sync>(
+    rt: &R,
+    levels: u8,
+) -> Result<(), Fail>
     requires some { 1 ≤ levels }
     requires few { levels ≤ 5 }
 {

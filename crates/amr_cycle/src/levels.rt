@@ -15,17 +15,19 @@ ghost use Rattle.amr_transfer.specs.Sums.{AreCoarsenable};
 ghost use Rattle.amr_flows.specs.Subcycle.{edge_part, flows_of_step};
 ghost use Rattle.amr_advance.specs.Registers.{BothChange, HasCoarser, gained};
 ghost use Rattle.amr_advance.specs.Kept.{IsKept};
+ghost use Rattle.amr_advance.specs.Teams.{IsTeamFor};
 ghost use Rattle.amr_cycle.specs.Cycles.{IsCoarsePart, IsPartOfStep, SomeHasEntries, patch_boxes};
 ghost use Rattle.amr_cycle.specs.Kept.{AreKept, IsKeptLevel};
 
 use crate::correction::correct;
+use crate::given::Given;
 use crate::kept::{KeptBelow, KeptLevel, below_for};
-use crate::team::Team;
 use amr_advance::{Regs, Workers, advance_kept};
 use amr_box::Bx;
 use amr_causes::NoMemory;
 use amr_patch::Level;
 use amr_workers::Gate;
+use std::sync::Wait;
 use std::thread::Threads;
 
 /// What both steps of the next finer level stand on: the level with the masses before its own step, and the finer
@@ -38,35 +40,38 @@ struct Below {
 }
 
 /// Makes a step of the finest level.
-fn step_finest<R: Threads + Sync, G: Gate + Sync>(
-    team: &Team<'_, R, G>,
+fn step_finest<R: Threads + Wait + Sync, G: Gate + Sync>(
+    given: &Given<'_>,
+    workers: &mut Workers<'_, R, G>,
     level: &mut Level,
     old: Option<&Level>,
     regs: &mut Regs,
     own: &mut KeptLevel,
 ) -> Result<(), NoMemory>
-    requires number { team.now.level ≤ 4 }
-    requires part { IsPartOfStep team.now.problem.now team.now.level (level_of level.old ∷ []) (old_masses (option_copied old)) }
-    requires coarser { HasCoarser team.now.problem.now team.now.level (level_of level.old) (option_copied old) regs.old.coarser }
+    requires number { given.now.level ≤ 4 }
+    requires part { IsPartOfStep given.now.problem.now given.now.level (level_of level.old ∷ []) (old_masses (option_copied old)) }
+    requires coarser { HasCoarser given.now.problem.now given.now.level (level_of level.old) (option_copied old) regs.old.coarser }
     requires finer { regs.old.finer ≡ None }
-    requires some_workers { 1 ≤ team.now.workers.count }
-    requires few_workers { team.now.workers.count ≤ 64 }
-    requires gate { (worker task : ℕ) → worker < team.now.workers.count → G.admits team.now.workers.gate.now worker task }
-    requires inflow { regs.old.inflow + flows_of_step (inflow_beside team.now.problem.now) team.now.problem.now team.now.level (level_of level.old ∷ []) (old_masses (option_copied old)) < 2 ^ 63 }
-    requires outflow { regs.old.outflow + flows_of_step (outflow_beside team.now.problem.now) team.now.problem.now team.now.level (level_of level.old ∷ []) (old_masses (option_copied old)) < 2 ^ 63 }
-    requires kept { IsKeptLevel team.now.problem.now team.now.level own.old }
-    ensures kept { OnOk result (IsKeptLevel team.now.problem.now team.now.level own.new) }
-    ensures level { OnOk result (level_of level.new ∷ [] ≡ after_step team.now.problem.now team.now.level (level_of level.old ∷ []) (old_masses (option_copied old.entry))) }
+    requires some_workers { 1 ≤ workers.old.count }
+    requires few_workers { workers.old.count ≤ 64 }
+    requires gate { (worker task : ℕ) → worker < workers.old.count → G.admits workers.old.gate.now worker task }
+    requires team { IfSome workers.old.team (IsTeamFor given.now.problem.now workers.old.gate.now workers.old.count) }
+    requires inflow { regs.old.inflow + flows_of_step (inflow_beside given.now.problem.now) given.now.problem.now given.now.level (level_of level.old ∷ []) (old_masses (option_copied old)) < 2 ^ 63 }
+    requires outflow { regs.old.outflow + flows_of_step (outflow_beside given.now.problem.now) given.now.problem.now given.now.level (level_of level.old ∷ []) (old_masses (option_copied old)) < 2 ^ 63 }
+    requires kept { IsKeptLevel given.now.problem.now given.now.level own.old }
+    ensures workers { workers.new ≡ workers.old }
+    ensures kept { OnOk result (IsKeptLevel given.now.problem.now given.now.level own.new) }
+    ensures level { OnOk result (level_of level.new ∷ [] ≡ after_step given.now.problem.now given.now.level (level_of level.old ∷ []) (old_masses (option_copied old.entry))) }
     ensures patches { OnOk result (map box (patches_of level.new) ≡ map box (patches_of level.old)) }
-    ensures coarser { OnOk result (BothChange (gained team.now.problem.now team.now.level (level_of level.old).masses (flux_at team.now.problem.now team.now.level (level_of level.old).masses (old_masses (option_copied old.entry)))) regs.old.coarser regs.new.coarser) }
+    ensures coarser { OnOk result (BothChange (gained given.now.problem.now given.now.level (level_of level.old).masses (flux_at given.now.problem.now given.now.level (level_of level.old).masses (old_masses (option_copied old.entry)))) regs.old.coarser regs.new.coarser) }
     ensures finer { OnOk result (regs.new.finer ≡ None) }
-    ensures inflow { OnOk result (regs.new.inflow ≡ regs.old.inflow + flows_of_step (inflow_beside team.now.problem.now) team.now.problem.now team.now.level (level_of level.old ∷ []) (old_masses (option_copied old.entry))) }
-    ensures outflow { OnOk result (regs.new.outflow ≡ regs.old.outflow + flows_of_step (outflow_beside team.now.problem.now) team.now.problem.now team.now.level (level_of level.old ∷ []) (old_masses (option_copied old.entry))) }
+    ensures inflow { OnOk result (regs.new.inflow ≡ regs.old.inflow + flows_of_step (inflow_beside given.now.problem.now) given.now.problem.now given.now.level (level_of level.old ∷ []) (old_masses (option_copied old.entry))) }
+    ensures outflow { OnOk result (regs.new.outflow ≡ regs.old.outflow + flows_of_step (outflow_beside given.now.problem.now) given.now.problem.now given.now.level (level_of level.old ∷ []) (old_masses (option_copied old.entry))) }
 {
     advance_kept(
-        &team.workers,
-        team.problem,
-        team.level,
+        workers,
+        given.problem,
+        given.level,
         level,
         old,
         None,
@@ -77,53 +82,56 @@ fn step_finest<R: Threads + Sync, G: Gate + Sync>(
 
 /// Makes a step of a level that has a finer one, `next`, by plain fluxes. The level's new register has lost those through its
 /// coarse-fine edges.
-fn step_coarse<R: Threads + Sync, G: Gate + Sync>(
-    team: &Team<'_, R, G>,
+fn step_coarse<R: Threads + Wait + Sync, G: Gate + Sync>(
+    given: &Given<'_>,
+    workers: &mut Workers<'_, R, G>,
     level: &mut Level,
     next: &Level,
     old: Option<&Level>,
     regs: &mut Regs,
     own: &mut KeptLevel,
 ) -> Result<Below, NoMemory>
-    requires number { team.now.level ≤ 3 }
-    requires part { IsCoarsePart team.now.problem.now team.now.level (level_of level.old) (level_of next.now) (old_masses (option_copied old)) }
-    requires coarser { HasCoarser team.now.problem.now team.now.level (level_of level.old) (option_copied old) regs.old.coarser }
-    requires some_workers { 1 ≤ team.now.workers.count }
-    requires few_workers { team.now.workers.count ≤ 64 }
-    requires gate { (worker task : ℕ) → worker < team.now.workers.count → G.admits team.now.workers.gate.now worker task }
-    requires inflow { regs.old.inflow + inflow_beside team.now.problem.now team.now.level (is_uncovered (level_of level.old).masses (level_of next.now).masses) (flux_at team.now.problem.now team.now.level (level_of level.old).masses (old_masses (option_copied old))) < 2 ^ 63 }
-    requires outflow { regs.old.outflow + outflow_beside team.now.problem.now team.now.level (is_uncovered (level_of level.old).masses (level_of next.now).masses) (flux_at team.now.problem.now team.now.level (level_of level.old).masses (old_masses (option_copied old))) < 2 ^ 63 }
-    requires kept { IsKeptLevel team.now.problem.now team.now.level own.old }
-    ensures layout { OnOk result (IfSome own.new.layout (IsKept team.now.problem.now)) }
+    requires number { given.now.level ≤ 3 }
+    requires part { IsCoarsePart given.now.problem.now given.now.level (level_of level.old) (level_of next.now) (old_masses (option_copied old)) }
+    requires coarser { HasCoarser given.now.problem.now given.now.level (level_of level.old) (option_copied old) regs.old.coarser }
+    requires some_workers { 1 ≤ workers.old.count }
+    requires few_workers { workers.old.count ≤ 64 }
+    requires gate { (worker task : ℕ) → worker < workers.old.count → G.admits workers.old.gate.now worker task }
+    requires team { IfSome workers.old.team (IsTeamFor given.now.problem.now workers.old.gate.now workers.old.count) }
+    requires inflow { regs.old.inflow + inflow_beside given.now.problem.now given.now.level (is_uncovered (level_of level.old).masses (level_of next.now).masses) (flux_at given.now.problem.now given.now.level (level_of level.old).masses (old_masses (option_copied old))) < 2 ^ 63 }
+    requires outflow { regs.old.outflow + outflow_beside given.now.problem.now given.now.level (is_uncovered (level_of level.old).masses (level_of next.now).masses) (flux_at given.now.problem.now given.now.level (level_of level.old).masses (old_masses (option_copied old))) < 2 ^ 63 }
+    requires kept { IsKeptLevel given.now.problem.now given.now.level own.old }
+    ensures workers { workers.new ≡ workers.old }
+    ensures layout { OnOk result (IfSome own.new.layout (IsKept given.now.problem.now)) }
     ensures before { IfOk result (λ b. level_of b.before ≡ level_of level.old) }
     ensures finer_boxes { IfOk result (λ b. (c : Cell) → is_some ((level_of next.now).masses c) ≡ in_boxes b.finer.items c) }
-    ensures masses { OnOk result ((level_of level.new).masses ≡ updated (level_of level.old).masses (flux_at team.now.problem.now team.now.level (level_of level.old).masses (old_masses (option_copied old.entry)))) }
+    ensures masses { OnOk result ((level_of level.new).masses ≡ updated (level_of level.old).masses (flux_at given.now.problem.now given.now.level (level_of level.old).masses (old_masses (option_copied old.entry)))) }
     ensures boxes { OnOk result ((level_of level.new).boxes ≡ (level_of level.old).boxes) }
     ensures patches { OnOk result (map box (patches_of level.new) ≡ map box (patches_of level.old)) }
-    ensures register { IfOk result (λ b. SomeHasEntries team.now.problem.now team.now.level (level_of level.old).masses (level_of next.now).masses (λ c. neg_ℤ (edge_part team.now.problem.now team.now.level (level_of level.old) (old_masses (option_copied old.entry)) (level_of next.now).masses c)) b.regs.coarser) }
-    ensures coarser { OnOk result (BothChange (gained team.now.problem.now team.now.level (level_of level.old).masses (flux_at team.now.problem.now team.now.level (level_of level.old).masses (old_masses (option_copied old.entry)))) regs.old.coarser regs.new.coarser) }
+    ensures register { IfOk result (λ b. SomeHasEntries given.now.problem.now given.now.level (level_of level.old).masses (level_of next.now).masses (λ c. neg_ℤ (edge_part given.now.problem.now given.now.level (level_of level.old) (old_masses (option_copied old.entry)) (level_of next.now).masses c)) b.regs.coarser) }
+    ensures coarser { OnOk result (BothChange (gained given.now.problem.now given.now.level (level_of level.old).masses (flux_at given.now.problem.now given.now.level (level_of level.old).masses (old_masses (option_copied old.entry)))) regs.old.coarser regs.new.coarser) }
     ensures finer { OnOk result (regs.new.finer ≡ None) }
     ensures no_finer { IfOk result (λ b. b.regs.finer ≡ None) }
-    ensures inflow { IfOk result (λ b. b.regs.inflow ≡ regs.old.inflow + inflow_beside team.now.problem.now team.now.level (is_uncovered (level_of level.old).masses (level_of next.now).masses) (flux_at team.now.problem.now team.now.level (level_of level.old).masses (old_masses (option_copied old.entry)))) }
-    ensures outflow { IfOk result (λ b. b.regs.outflow ≡ regs.old.outflow + outflow_beside team.now.problem.now team.now.level (is_uncovered (level_of level.old).masses (level_of next.now).masses) (flux_at team.now.problem.now team.now.level (level_of level.old).masses (old_masses (option_copied old.entry)))) }
+    ensures inflow { IfOk result (λ b. b.regs.inflow ≡ regs.old.inflow + inflow_beside given.now.problem.now given.now.level (is_uncovered (level_of level.old).masses (level_of next.now).masses) (flux_at given.now.problem.now given.now.level (level_of level.old).masses (old_masses (option_copied old.entry)))) }
+    ensures outflow { IfOk result (λ b. b.regs.outflow ≡ regs.old.outflow + outflow_beside given.now.problem.now given.now.level (is_uncovered (level_of level.old).masses (level_of next.now).masses) (flux_at given.now.problem.now given.now.level (level_of level.old).masses (old_masses (option_copied old.entry)))) }
 {
     let KeptBelow {
         before,
         finer,
         register,
     } = below_for(
-        team.alloc,
-        team.problem,
-        team.level,
+        given.alloc,
+        given.problem,
+        given.level,
         level,
         next,
         &mut own.below,
     )?;
     regs.finer = Some(register);
     advance_kept(
-        &team.workers,
-        team.problem,
-        team.level,
+        workers,
+        given.problem,
+        given.level,
         level,
         old,
         Some(next),
@@ -164,50 +172,52 @@ fn kept_of(below: Below) -> Option<KeptBelow>
 ///
 /// The register of the coarser level gains what flows through this level's faces beside its cells. The sums gain what
 /// flows through open sides beside cells that no finer level covers, in all steps that are made.
-pub(crate) fn step_levels<R: Threads + Sync, G: Gate + Sync>(
-    team: &Team<'_, R, G>,
+pub(crate) fn step_levels<R: Threads + Wait + Sync, G: Gate + Sync>(
+    given: &Given<'_>,
+    workers: &mut Workers<'_, R, G>,
     level: &mut Level,
     finer: &mut [Level],
     old: Option<&Level>,
     regs: &mut Regs,
     kept: &mut [KeptLevel],
 ) -> Result<(), NoMemory>
-    requires few { team.now.level + length finer.old ≤ 4 }
-    requires part { IsPartOfStep team.now.problem.now team.now.level (level_of level.old ∷ map level_of finer.old) (old_masses (option_copied old)) }
-    requires coarser { HasCoarser team.now.problem.now team.now.level (level_of level.old) (option_copied old) regs.old.coarser }
+    requires few { given.now.level + length finer.old ≤ 4 }
+    requires part { IsPartOfStep given.now.problem.now given.now.level (level_of level.old ∷ map level_of finer.old) (old_masses (option_copied old)) }
+    requires coarser { HasCoarser given.now.problem.now given.now.level (level_of level.old) (option_copied old) regs.old.coarser }
     requires finer { regs.old.finer ≡ None }
     requires coarsenable { All (λ k. AreCoarsenable (patches_of k)) finer.old }
-    requires some_workers { 1 ≤ team.now.workers.count }
-    requires few_workers { team.now.workers.count ≤ 64 }
-    requires gate { (worker task : ℕ) → worker < team.now.workers.count → G.admits team.now.workers.gate.now worker task }
-    requires inflow { regs.old.inflow + flows_of_step (inflow_beside team.now.problem.now) team.now.problem.now team.now.level (level_of level.old ∷ map level_of finer.old) (old_masses (option_copied old)) < 2 ^ 63 }
-    requires outflow { regs.old.outflow + flows_of_step (outflow_beside team.now.problem.now) team.now.problem.now team.now.level (level_of level.old ∷ map level_of finer.old) (old_masses (option_copied old)) < 2 ^ 63 }
-    requires kept { AreKept team.now.problem.now team.now.level kept.old }
+    requires some_workers { 1 ≤ workers.old.count }
+    requires few_workers { workers.old.count ≤ 64 }
+    requires gate { (worker task : ℕ) → worker < workers.old.count → G.admits workers.old.gate.now worker task }
+    requires team { IfSome workers.old.team (IsTeamFor given.now.problem.now workers.old.gate.now workers.old.count) }
+    requires inflow { regs.old.inflow + flows_of_step (inflow_beside given.now.problem.now) given.now.problem.now given.now.level (level_of level.old ∷ map level_of finer.old) (old_masses (option_copied old)) < 2 ^ 63 }
+    requires outflow { regs.old.outflow + flows_of_step (outflow_beside given.now.problem.now) given.now.problem.now given.now.level (level_of level.old ∷ map level_of finer.old) (old_masses (option_copied old)) < 2 ^ 63 }
+    requires kept { AreKept given.now.problem.now given.now.level kept.old }
     requires room { length finer.old < length kept.old }
-    ensures kept { OnOk result (AreKept team.now.problem.now team.now.level kept.new) }
+    ensures workers { workers.new ≡ workers.old }
+    ensures kept { OnOk result (AreKept given.now.problem.now given.now.level kept.new) }
     ensures kept_count { OnOk result (length kept.new ≡ length kept.old) }
-    ensures levels { OnOk result (level_of level.new ∷ map level_of finer.new ≡ after_step team.now.problem.now team.now.level (level_of level.old ∷ map level_of finer.old) (old_masses (option_copied old.entry))) }
+    ensures levels { OnOk result (level_of level.new ∷ map level_of finer.new ≡ after_step given.now.problem.now given.now.level (level_of level.old ∷ map level_of finer.old) (old_masses (option_copied old.entry))) }
     ensures patches { OnOk result (patch_boxes (level.new ∷ finer.new) ≡ patch_boxes (level.old ∷ finer.old)) }
-    ensures coarser { OnOk result (BothChange (gained team.now.problem.now team.now.level (level_of level.old).masses (flux_at team.now.problem.now team.now.level (level_of level.old).masses (old_masses (option_copied old.entry)))) regs.old.coarser regs.new.coarser) }
+    ensures coarser { OnOk result (BothChange (gained given.now.problem.now given.now.level (level_of level.old).masses (flux_at given.now.problem.now given.now.level (level_of level.old).masses (old_masses (option_copied old.entry)))) regs.old.coarser regs.new.coarser) }
     ensures finer { OnOk result (regs.new.finer ≡ None) }
-    ensures inflow { OnOk result (regs.new.inflow ≡ regs.old.inflow + flows_of_step (inflow_beside team.now.problem.now) team.now.problem.now team.now.level (level_of level.old ∷ map level_of finer.old) (old_masses (option_copied old.entry))) }
-    ensures outflow { OnOk result (regs.new.outflow ≡ regs.old.outflow + flows_of_step (outflow_beside team.now.problem.now) team.now.problem.now team.now.level (level_of level.old ∷ map level_of finer.old) (old_masses (option_copied old.entry))) }
+    ensures inflow { OnOk result (regs.new.inflow ≡ regs.old.inflow + flows_of_step (inflow_beside given.now.problem.now) given.now.problem.now given.now.level (level_of level.old ∷ map level_of finer.old) (old_masses (option_copied old.entry))) }
+    ensures outflow { OnOk result (regs.new.outflow ≡ regs.old.outflow + flows_of_step (outflow_beside given.now.problem.now) given.now.problem.now given.now.level (level_of level.old ∷ map level_of finer.old) (old_masses (option_copied old.entry))) }
 {
-    let Some((own, others)) = kept.split_first_mut() else {
+    let Some((own, rest)) = kept.split_first_mut() else {
         unreachable!()
     };
     let Some((next, finest)) = finer.split_first_mut() else {
-        return step_finest(team, level, old, regs, own);
+        return step_finest(given, workers, level, old, regs, own);
     };
-    let mut below = step_coarse(team, level, next, old, regs, own)?;
+    let mut below = step_coarse(given, workers, level, next, old, regs, own)?;
     let before = Some(&below.before);
-    let finer_team = Team {
-        level: team.level + 1,
-        workers: Workers { ..team.workers },
-        ..*team
+    let inner = Given {
+        level: given.level + 1,
+        ..*given
     };
-    step_levels(&finer_team, next, finest, before, &mut below.regs, others)?;
-    step_levels(&finer_team, next, finest, before, &mut below.regs, others)?;
+    step_levels(&inner, workers, next, finest, before, &mut below.regs, rest)?;
+    step_levels(&inner, workers, next, finest, before, &mut below.regs, rest)?;
     correct(level, &below.regs.coarser, next);
     regs.inflow = below.regs.inflow;
     regs.outflow = below.regs.outflow;

@@ -4,10 +4,10 @@
 #![tactic(auto)]
 
 mod correction;
+mod given;
 mod kept;
 mod levels;
 mod steps;
-mod team;
 
 pub use kept::Kept;
 pub use steps::{step, step_kept};

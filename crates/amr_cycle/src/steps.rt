@@ -1,6 +1,6 @@
 //! A step of a state.
 
-ghost use Rattle.std.specs.Prelude.{◌≡◌, ℕ, ◌+◌, ◌<◌, ◌≤◌, false, true, IfOk, OnErr, OnOk, length, map};
+ghost use Rattle.std.specs.Prelude.{◌≡◌, ℕ, ◌+◌, ◌<◌, ◌≤◌, false, true, IfOk, IfSome, OnErr, OnOk, length, map};
 ghost use Rattle.amr_def.specs.Facts.{IsSound};
 ghost use Rattle.amr_def.specs.Run.{stepped};
 ghost use Rattle.amr_def.specs.State.{no_masses};
@@ -9,18 +9,20 @@ ghost use Rattle.amr_laws.specs.Substeps.{after_step};
 ghost use Rattle.amr_patch.specs.Levels.{level_of};
 ghost use Rattle.amr_patch.specs.Meshes.{is_spent, levels_of, state_of};
 ghost use Rattle.amr_flows.specs.Subcycle.{flows_of_step};
+ghost use Rattle.amr_advance.specs.Teams.{IsTeamFor};
 ghost use Rattle.amr_cycle.specs.Kept.{AreKept, IsKept};
 ghost use Rattle.amr_cycle.specs.Cycles.{AreCoarsenableAbove, HasStepToCome, patch_boxes};
 
+use crate::given::Given;
 use crate::kept::{Kept, KeptLevel, make_room};
 use crate::levels::step_levels;
-use crate::team::Team;
 use amr_advance::{Crew, Regs, Workers};
 use amr_causes::NoMemory;
 use amr_def::{Problem, Row};
 use amr_patch::{Level, Mesh};
 use amr_workers::Gate;
 use std::alloc::Global;
+use std::sync::Wait;
 use std::thread::Threads;
 
 /// What flowed through the open sides of the domain.
@@ -31,20 +33,22 @@ struct Flows {
 }
 
 /// Makes a step of all levels of a state.
-fn step_all<R: Threads + Sync, G: Gate + Sync>(
+fn step_all<R: Threads + Wait + Sync, G: Gate + Sync>(
     alloc: Global,
     p: &Problem,
-    workers: Workers<'_, R, G>,
+    workers: &mut Workers<'_, R, G>,
     levels: &mut [Level],
     kept: &mut [KeptLevel],
 ) -> Result<Flows, NoMemory>
     requires to_come { HasStepToCome p.now (map level_of levels.old) }
     requires coarsenable { AreCoarsenableAbove levels.old }
-    requires some_workers { 1 ≤ workers.count }
-    requires few_workers { workers.count ≤ 64 }
-    requires gate { (worker task : ℕ) → worker < workers.count → G.admits workers.gate.now worker task }
+    requires some_workers { 1 ≤ workers.old.count }
+    requires few_workers { workers.old.count ≤ 64 }
+    requires gate { (worker task : ℕ) → worker < workers.old.count → G.admits workers.old.gate.now worker task }
+    requires team { IfSome workers.old.team (IsTeamFor p.now workers.old.gate.now workers.old.count) }
     requires kept { AreKept p.now 0 kept.old }
     requires room { length levels.old ≤ length kept.old }
+    ensures workers { workers.new ≡ workers.old }
     ensures kept { OnOk result (AreKept p.now 0 kept.new) }
     ensures kept_count { OnOk result (length kept.new ≡ length kept.old) }
     ensures levels { OnOk result (map level_of levels.new ≡ after_step p.now 0 (map level_of levels.old) no_masses) }
@@ -52,11 +56,10 @@ fn step_all<R: Threads + Sync, G: Gate + Sync>(
     ensures inflow { IfOk result (λ f. f.inflow ≡ flows_of_step (inflow_beside p.now) p.now 0 (map level_of levels.old) no_masses) }
     ensures outflow { IfOk result (λ f. f.outflow ≡ flows_of_step (outflow_beside p.now) p.now 0 (map level_of levels.old) no_masses) }
 {
-    let team = Team {
+    let given = Given {
         alloc,
         problem: p,
         level: 0,
-        workers,
     };
     let mut regs = Regs {
         coarser: None,
@@ -66,7 +69,7 @@ fn step_all<R: Threads + Sync, G: Gate + Sync>(
     };
     match levels.split_first_mut() {
         None => unreachable!(),
-        Some((base, finer)) => step_levels(&team, base, finer, None, &mut regs, kept)?,
+        Some((base, finer)) => step_levels(&given, workers, base, finer, None, &mut regs, kept)?,
     }
     Ok(Flows {
         inflow: regs.inflow,
@@ -81,7 +84,7 @@ fn step_all<R: Threads + Sync, G: Gate + Sync>(
 /// No patch of a level above level 0 cuts a cell of the next coarser level. The crew has one rank, and from 1 to 64 workers.
 /// Boxes and patch boxes stay. After `NoMemory`, the only refusal, the mesh is spent. The call joins its workers, and keeps this
 /// promise if it returns.
-pub fn step<R: Threads + Sync, G: Gate + Sync>(
+pub fn step<R: Threads + Wait + Sync, G: Gate + Sync>(
     rt: &R,
     p: &Problem,
     mesh: &mut Mesh,
@@ -102,28 +105,34 @@ pub fn step<R: Threads + Sync, G: Gate + Sync>(
     ensures whole { OnOk result (is_spent mesh.new ≡ false) }
     ensures spent { OnErr result (is_spent mesh.new ≡ true) }
 {
-    step_kept(rt, p, mesh, crew, gate, &mut Kept::nothing())
+    let mut workers = Workers {
+        runtime: rt,
+        gate,
+        count: crew.workers,
+        team: None,
+    };
+    step_kept(&mut workers, p, mesh, &mut Kept::nothing())
 }
 
 /// The same as `step`, for a run of many steps: what depends on boxes alone is taken from `kept`, and left there for the next step.
-/// What no longer fits the boxes is made anew. `kept` is of the same problem; after `NoMemory` it is only dropped.
-pub fn step_kept<R: Threads + Sync, G: Gate + Sync>(
-    rt: &R,
+/// What no longer fits the boxes is made anew. There are from 1 to 64 workers, who may be a team that lasts. `kept` and the team are
+/// of the same problem; after `NoMemory` what is kept is only dropped.
+pub fn step_kept<R: Threads + Wait + Sync, G: Gate + Sync>(
+    workers: &mut Workers<'_, R, G>,
     p: &Problem,
     mesh: &mut Mesh,
-    crew: Crew,
-    gate: &G,
     kept: &mut Kept,
 ) -> Result<(), NoMemory>
     requires whole { is_spent mesh.old ≡ false }
     requires sound { IsSound p.now (state_of mesh.old) }
     requires to_come { (state_of mesh.old).step < p.now.steps }
     requires coarsenable { AreCoarsenableAbove (levels_of mesh.old) }
-    requires one_rank { crew.ranks ≡ 1 }
-    requires some_workers { 1 ≤ crew.workers }
-    requires few_workers { crew.workers ≤ 64 }
-    requires gate { (worker task : ℕ) → worker < crew.workers → G.admits gate.now worker task }
+    requires some_workers { 1 ≤ workers.old.count }
+    requires few_workers { workers.old.count ≤ 64 }
+    requires gate { (worker task : ℕ) → worker < workers.old.count → G.admits workers.old.gate.now worker task }
+    requires team { IfSome workers.old.team (IsTeamFor p.now workers.old.gate.now workers.old.count) }
     requires kept { IsKept p.now kept.old }
+    ensures workers { workers.new ≡ workers.old }
     ensures value { OnOk result (state_of mesh.new ≡ stepped p.now (state_of mesh.old)) }
     ensures sound { OnOk result (IsSound p.now (state_of mesh.new)) }
     ensures patches { OnOk result (patch_boxes (levels_of mesh.new) ≡ patch_boxes (levels_of mesh.old)) }
@@ -133,11 +142,6 @@ pub fn step_kept<R: Threads + Sync, G: Gate + Sync>(
 {
     let number = mesh.step();
     let (mut rows, mut levels) = mesh.take();
-    let workers = Workers {
-        runtime: rt,
-        gate,
-        count: crew.workers,
-    };
     let alloc = *rows.allocator();
     let mut of_levels = make_room(alloc, kept.levels.take(), levels.len())?;
     let flows = step_all(

@@ -1,2 +1,3 @@
 pub mod Regrids
 pub mod States
+pub mod Drives

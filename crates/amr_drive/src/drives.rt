@@ -1,25 +1,29 @@
 //! A run up to a step.
 
-ghost use Rattle.std.specs.Prelude.{◌≡◌, ◌⊎◌, ◌+◌, ◌-◌, ◌<◌, ◌≤◌, ℕ, false, true, Ok, Err, OnOk, IsErrOf};
+ghost use Rattle.std.specs.Prelude.{◌≡◌, ◌⊎◌, ◌+◌, ◌-◌, ◌<◌, ◌≤◌, ℕ, false, true, Ok, Err, IfSome, OnOk, IsErrOf};
 ghost use Rattle.std.specs.List.{All};
 ghost use Rattle.amr_def.specs.Facts.{IsSound};
 ghost use Rattle.amr_def.specs.Run.{finish, next};
 ghost use Rattle.amr_def.specs.State.{State};
 ghost use Rattle.amr_patch.specs.Meshes.{is_spent, levels_of, state_of};
 ghost use Rattle.amr_start.specs.PatchBoxes.{IsChopped};
+ghost use Rattle.amr_advance.specs.Teams.{IsTeamFor};
 ghost use Rattle.amr_cycle.specs.Kept.{IsKept};
 ghost use Rattle.amr_drive.specs.Regrids.{RunHoldsTags};
 ghost use Rattle.amr_drive.specs.States.{states_after};
 
 use crate::after::AfterStep;
-use crate::nexts::{Team, make_next};
-use amr_advance::Crew;
+use crate::nexts::{Run, make_next};
+use crate::teams::drive_by_team;
+use amr_advance::{Crew, Workers};
 use amr_causes::NoMemory;
 use amr_cycle::Kept;
 use amr_def::Problem;
 use amr_patch::Mesh;
+use amr_work::LevelWork;
 use amr_workers::Gate;
 use std::alloc::Global;
+use std::sync::Wait;
 use std::thread::Threads;
 
 /// Why a run was not made to its end.
@@ -42,46 +46,82 @@ impl<F> From<NoMemory> for DriveFault<F> {
 }
 
 /// Makes the next state of a run, and has `after` called on it.
-fn make_step<R: Threads + Sync, G: Gate + Sync, A: AfterStep>(
-    team: &Team<'_, R, G>,
+fn make_step<R: Threads + Wait + Sync, G: Gate + Sync, A: AfterStep>(
+    run: &Run<'_>,
+    workers: &mut Workers<'_, R, G>,
     mesh: &mut Mesh,
     kept: &mut Kept,
     after: &mut A,
 ) -> Result<(), DriveFault<A::Fault>>
     requires whole { is_spent mesh.old ≡ false }
-    requires sound { IsSound team.now.problem.now (state_of mesh.old) }
-    requires to_come { (state_of mesh.old).step < team.now.problem.now.steps }
-    requires patches { All (IsChopped team.now.problem.now.max_grid_size) (levels_of mesh.old) }
-    requires ready { A.ready after.old (next team.now.problem.now (state_of mesh.old)) }
-    requires kept { IsKept team.now.problem.now kept.old }
-    requires one_rank { team.now.crew.ranks ≡ 1 }
-    requires some_workers { 1 ≤ team.now.crew.workers }
-    requires few_workers { team.now.crew.workers ≤ 64 }
-    requires gate { (worker task : ℕ) → worker < team.now.crew.workers → G.admits team.now.gate.now worker task }
-    ensures value { OnOk result (state_of mesh.new ≡ next team.now.problem.now (state_of mesh.old)) }
-    ensures patches { OnOk result (All (IsChopped team.now.problem.now.max_grid_size) (levels_of mesh.new)) }
+    requires sound { IsSound run.now.job.problem.now (state_of mesh.old) }
+    requires to_come { (state_of mesh.old).step < run.now.job.problem.now.steps }
+    requires patches { All (IsChopped run.now.job.problem.now.max_grid_size) (levels_of mesh.old) }
+    requires ready { A.ready after.old (next run.now.job.problem.now (state_of mesh.old)) }
+    requires kept { IsKept run.now.job.problem.now kept.old }
+    requires some_workers { 1 ≤ workers.old.count }
+    requires few_workers { workers.old.count ≤ 64 }
+    requires gate { (worker task : ℕ) → worker < workers.old.count → G.admits workers.old.gate.now worker task }
+    requires team { IfSome workers.old.team (IsTeamFor run.now.job.problem.now workers.old.gate.now workers.old.count) }
+    ensures workers { workers.new ≡ workers.old }
+    ensures value { OnOk result (state_of mesh.new ≡ next run.now.job.problem.now (state_of mesh.old)) }
+    ensures patches { OnOk result (All (IsChopped run.now.job.problem.now.max_grid_size) (levels_of mesh.new)) }
     ensures whole { OnOk result (is_spent mesh.new ≡ false) }
-    ensures answer { OnOk result (A.answers after.old (next team.now.problem.now (state_of mesh.old)) (Ok tt) after.new) }
-    ensures ready { OnOk result ((s : State) → (next team.now.problem.now (state_of mesh.old)).step < s.step → A.ready after.old s → A.ready after.new s) }
-    ensures kept { OnOk result (IsKept team.now.problem.now kept.new) }
-    ensures refused { (f : _) → IsErrOf result (DriveFault.After f) → (state_of mesh.new ≡ next team.now.problem.now (state_of mesh.old)) × (is_spent mesh.new ≡ false) × A.answers after.old (next team.now.problem.now (state_of mesh.old)) (Err f) after.new }
+    ensures answer { OnOk result (A.answers after.old (next run.now.job.problem.now (state_of mesh.old)) (Ok tt) after.new) }
+    ensures ready { OnOk result ((s : State) → (next run.now.job.problem.now (state_of mesh.old)).step < s.step → A.ready after.old s → A.ready after.new s) }
+    ensures kept { OnOk result (IsKept run.now.job.problem.now kept.new) }
+    ensures refused { (f : _) → IsErrOf result (DriveFault.After f) → (state_of mesh.new ≡ next run.now.job.problem.now (state_of mesh.old)) × (is_spent mesh.new ≡ false) × A.answers after.old (next run.now.job.problem.now (state_of mesh.old)) (Err f) after.new }
     ensures memory { IsErrOf result DriveFault.NoMemory → (after.new ≡ after.old) × ((is_spent mesh.new ≡ true) ⊎ ((is_spent mesh.new ≡ false) × (state_of mesh.new ≡ state_of mesh.old))) }
 {
-    make_next(team, mesh, kept)?;
+    make_next(run, workers, mesh, kept)?;
     match after.after(mesh) {
         Ok(()) => Ok(()),
         Err(fault) => Err(DriveFault::After(fault)),
     }
 }
 
+/// Makes the steps of a run, and has `after` called after each.
+pub(crate) fn make_steps<R: Threads + Wait + Sync, G: Gate + Sync, A: AfterStep>(
+    run: &Run<'_>,
+    workers: &mut Workers<'_, R, G>,
+    mesh: &mut Mesh,
+    after: &mut A,
+) -> Result<(), DriveFault<A::Fault>>
+    requires whole { is_spent mesh.old ≡ false }
+    requires sound { IsSound run.now.job.problem.now (state_of mesh.old) }
+    requires ahead { (state_of mesh.old).step ≤ run.now.target }
+    requires within { run.now.target ≤ run.now.job.problem.now.steps }
+    requires patches { All (IsChopped run.now.job.problem.now.max_grid_size) (levels_of mesh.old) }
+    requires ready { (k : ℕ) → (state_of mesh.old).step < k → k ≤ run.now.target → A.ready after.old (finish run.now.job.problem.now (state_of mesh.old) k) }
+    requires some_workers { 1 ≤ workers.old.count }
+    requires few_workers { workers.old.count ≤ 64 }
+    requires gate { (worker task : ℕ) → worker < workers.old.count → G.admits workers.old.gate.now worker task }
+    requires team { IfSome workers.old.team (IsTeamFor run.now.job.problem.now workers.old.gate.now workers.old.count) }
+    ensures value { OnOk result (state_of mesh.new ≡ finish run.now.job.problem.now (state_of mesh.old) run.now.target) }
+    ensures sound { OnOk result (IsSound run.now.job.problem.now (state_of mesh.new)) }
+    ensures patches { OnOk result (All (IsChopped run.now.job.problem.now.max_grid_size) (levels_of mesh.new)) }
+    ensures whole { OnOk result (is_spent mesh.new ≡ false) }
+    ensures held { RunHoldsTags run.now.job.problem.now (state_of mesh.old) run.now.target }
+    ensures made { OnOk result (A.made after.old (states_after run.now.job.problem.now (state_of mesh.old) (run.now.target - (state_of mesh.old).step)) (Ok tt) after.new) }
+    ensures refused { (f : _) → IsErrOf result (DriveFault.After f) → (n : ℕ) × (0 < n) × ((state_of mesh.old).step + n ≤ run.now.target) × (is_spent mesh.new ≡ false) × (state_of mesh.new ≡ finish run.now.job.problem.now (state_of mesh.old) ((state_of mesh.old).step + n)) × A.made after.old (states_after run.now.job.problem.now (state_of mesh.old) n) (Err f) after.new }
+    ensures memory { IsErrOf result DriveFault.NoMemory → (n : ℕ) × ((state_of mesh.old).step + n < run.now.target) × ((is_spent mesh.new ≡ true) ⊎ ((is_spent mesh.new ≡ false) × (state_of mesh.new ≡ finish run.now.job.problem.now (state_of mesh.old) ((state_of mesh.old).step + n)))) × A.made after.old (states_after run.now.job.problem.now (state_of mesh.old) n) (Ok tt) after.new }
+{
+    let mut kept = Kept::nothing();
+    for _step in mesh.step()..run.target {
+        make_step(run, workers, mesh, &mut kept, after)?;
+    }
+    Ok(())
+}
+
 /// Makes the steps of a run up to step `target` (Berger and Colella 1989). Before a step the mesh is regridded, where that is due:
 /// at each step above 0 that is a multiple of `regrid_int`. After each step `after` is called once, with the mesh as it is then.
-/// The outcome is the same for any number of workers, whoever draws which task.
+/// The outcome is the same for any number of workers, whoever draws which task. Several workers last from the first step to the
+/// last.
 ///
 /// `After` comes exactly where a call of `after` was refused; the mesh is then as after that step. After `NoMemory` the mesh is
 /// spent, or as after the last step made, and `spent` tells which. The crew has one rank, and from 1 to 64 workers. The call
 /// joins its workers, and keeps this promise if it returns.
-pub fn drive<R: Threads + Sync, G: Gate + Sync, A: AfterStep>(
+pub fn drive<R: Threads + Wait + Sync, G: Gate + Sync, A: AfterStep>(
     rt: &R,
     alloc: Global,
     p: &Problem,
@@ -110,16 +150,19 @@ pub fn drive<R: Threads + Sync, G: Gate + Sync, A: AfterStep>(
     ensures refused { (f : _) → IsErrOf result (DriveFault.After f) → (n : ℕ) × (0 < n) × ((state_of mesh.old).step + n ≤ target) × (is_spent mesh.new ≡ false) × (state_of mesh.new ≡ finish p.now (state_of mesh.old) ((state_of mesh.old).step + n)) × A.made after.old (states_after p.now (state_of mesh.old) n) (Err f) after.new }
     ensures memory { IsErrOf result DriveFault.NoMemory → (n : ℕ) × ((state_of mesh.old).step + n < target) × ((is_spent mesh.new ≡ true) ⊎ ((is_spent mesh.new ≡ false) × (state_of mesh.new ≡ finish p.now (state_of mesh.old) ((state_of mesh.old).step + n)))) × A.made after.old (states_after p.now (state_of mesh.old) n) (Ok tt) after.new }
 {
-    let team = Team {
+    let run = Run {
         alloc,
-        runtime: rt,
-        problem: p,
-        crew,
-        gate,
+        job: LevelWork { problem: p },
+        target,
     };
-    let mut kept = Kept::nothing();
-    for _step in mesh.step()..target {
-        make_step(&team, mesh, &mut kept, after)?;
+    if crew.workers > 1 {
+        return drive_by_team(rt, &run, crew.workers, gate, mesh, after);
     }
-    Ok(())
+    let mut workers = Workers {
+        runtime: rt,
+        gate,
+        count: crew.workers,
+        team: None,
+    };
+    make_steps(&run, &mut workers, mesh, after)
 }

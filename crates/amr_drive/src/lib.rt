@@ -9,6 +9,7 @@ mod after;
 mod drives;
 mod nexts;
 mod starts;
+mod teams;
 
 pub use after::{AfterStep, Nothing};
 pub use drives::{DriveFault, drive};

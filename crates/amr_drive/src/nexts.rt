@@ -1,33 +1,26 @@
 //! The next state of a run: the regrid that is due, and a step.
 
-ghost use Rattle.std.specs.Prelude.{◌≡◌, ◌⊎◌, ◌<◌, ◌≤◌, ◌%◌, ◌&&◌, ◌==◌, ℕ, cond, false, true, nat_lt, OnErr, OnOk};
+ghost use Rattle.std.specs.Prelude.{◌≡◌, ◌⊎◌, ◌<◌, ◌≤◌, ◌%◌, ◌&&◌, ◌==◌, ℕ, cond, false, true, nat_lt, IfSome, OnErr, OnOk};
 ghost use Rattle.std.specs.List.{All};
 ghost use Rattle.amr_def.specs.Facts.{IsSound};
 ghost use Rattle.amr_def.specs.Regrid.{regrid};
 ghost use Rattle.amr_def.specs.Run.{next, regrid_is_due};
 ghost use Rattle.amr_patch.specs.Meshes.{is_spent, levels_of, state_of};
 ghost use Rattle.amr_start.specs.PatchBoxes.{IsChopped};
+ghost use Rattle.amr_advance.specs.Teams.{IsTeamFor};
 ghost use Rattle.amr_cycle.specs.Kept.{IsKept};
 
-use amr_advance::Crew;
+use amr_advance::Workers;
 use amr_causes::NoMemory;
 use amr_cycle::{Kept, step_kept};
 use amr_def::Problem;
 use amr_patch::Mesh;
 use amr_regrid::regrid;
+use amr_work::LevelWork;
 use amr_workers::Gate;
 use std::alloc::Global;
+use std::sync::Wait;
 use std::thread::Threads;
-
-/// What a run is made with: memory, threads, the problem, who works, and what is called around each task.
-#[derive(Clone, Copy)]
-pub(crate) struct Team<'a, R, G> {
-    pub alloc: Global,
-    pub runtime: &'a R,
-    pub problem: &'a Problem,
-    pub crew: Crew,
-    pub gate: &'a G,
-}
 
 /// Whether a regrid is due before the step from step `number` is made.
 fn is_due(p: &Problem, number: u32) -> bool
@@ -55,29 +48,39 @@ fn regrid_if_due(alloc: Global, p: &Problem, mesh: &mut Mesh) -> Result<(), NoMe
     }
 }
 
+/// What a run is made with: memory, the work of its steps with the problem, and the step that it goes up to.
+#[derive(Clone, Copy)]
+pub(crate) struct Run<'a> {
+    pub alloc: Global,
+    pub job: LevelWork<'a>,
+    pub target: u32,
+}
+
 /// Makes the next state of a run. `kept` is what steps keep from one to the next. After `NoMemory` the mesh is spent, or has the
 /// state of before.
-pub(crate) fn make_next<R: Threads + Sync, G: Gate + Sync>(
-    team: &Team<'_, R, G>,
+pub(crate) fn make_next<R: Threads + Wait + Sync, G: Gate + Sync>(
+    run: &Run<'_>,
+    workers: &mut Workers<'_, R, G>,
     mesh: &mut Mesh,
     kept: &mut Kept,
 ) -> Result<(), NoMemory>
     requires whole { is_spent mesh.old ≡ false }
-    requires sound { IsSound team.now.problem.now (state_of mesh.old) }
-    requires to_come { (state_of mesh.old).step < team.now.problem.now.steps }
-    requires patches { All (IsChopped team.now.problem.now.max_grid_size) (levels_of mesh.old) }
-    requires kept { IsKept team.now.problem.now kept.old }
-    requires one_rank { team.now.crew.ranks ≡ 1 }
-    requires some_workers { 1 ≤ team.now.crew.workers }
-    requires few_workers { team.now.crew.workers ≤ 64 }
-    requires gate { (worker task : ℕ) → worker < team.now.crew.workers → G.admits team.now.gate.now worker task }
-    ensures value { OnOk result (state_of mesh.new ≡ next team.now.problem.now (state_of mesh.old)) }
-    ensures sound { OnOk result (IsSound team.now.problem.now (state_of mesh.new)) }
-    ensures patches { OnOk result (All (IsChopped team.now.problem.now.max_grid_size) (levels_of mesh.new)) }
+    requires sound { IsSound run.now.job.problem.now (state_of mesh.old) }
+    requires to_come { (state_of mesh.old).step < run.now.job.problem.now.steps }
+    requires patches { All (IsChopped run.now.job.problem.now.max_grid_size) (levels_of mesh.old) }
+    requires kept { IsKept run.now.job.problem.now kept.old }
+    requires some_workers { 1 ≤ workers.old.count }
+    requires few_workers { workers.old.count ≤ 64 }
+    requires gate { (worker task : ℕ) → worker < workers.old.count → G.admits workers.old.gate.now worker task }
+    requires team { IfSome workers.old.team (IsTeamFor run.now.job.problem.now workers.old.gate.now workers.old.count) }
+    ensures workers { workers.new ≡ workers.old }
+    ensures value { OnOk result (state_of mesh.new ≡ next run.now.job.problem.now (state_of mesh.old)) }
+    ensures sound { OnOk result (IsSound run.now.job.problem.now (state_of mesh.new)) }
+    ensures patches { OnOk result (All (IsChopped run.now.job.problem.now.max_grid_size) (levels_of mesh.new)) }
     ensures whole { OnOk result (is_spent mesh.new ≡ false) }
-    ensures kept { OnOk result (IsKept team.now.problem.now kept.new) }
+    ensures kept { OnOk result (IsKept run.now.job.problem.now kept.new) }
     ensures refused { OnErr result ((is_spent mesh.new ≡ true) ⊎ ((is_spent mesh.new ≡ false) × (state_of mesh.new ≡ state_of mesh.old))) }
 {
-    regrid_if_due(team.alloc, team.problem, mesh)?;
-    step_kept(team.runtime, team.problem, mesh, team.crew, team.gate, kept)
+    regrid_if_due(run.alloc, run.job.problem, mesh)?;
+    step_kept(workers, run.job.problem, mesh, kept)
 }

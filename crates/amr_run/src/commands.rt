@@ -30,6 +30,7 @@ use amr_problem::judge;
 use amr_trial::{summary, text};
 use amr_workers::Gate;
 use std::alloc::Global;
+use std::sync::Wait;
 use std::thread::Threads;
 
 /// How many steps a trial makes.
@@ -64,7 +65,7 @@ fn stop_of(problem: &Problem, to: Option<u32>) -> u32
 }
 
 /// The state of a problem's run at step `target`. Out of memory is the only refusal.
-fn run_to<R: Threads + Sync, G: Gate + Sync>(
+fn run_to<R: Threads + Wait + Sync, G: Gate + Sync>(
     workers: &Workers<'_, R, G>,
     problem: &Problem,
     target: u32,
@@ -98,7 +99,7 @@ fn run_to<R: Threads + Sync, G: Gate + Sync>(
 }
 
 /// The command `run`: the plot of the run of the problem on the source, or the status that refuses it.
-pub(crate) fn run<R: Threads + Sync, S: Source, O: Sink, G: Gate + Sync>(
+pub(crate) fn run<R: Threads + Wait + Sync, S: Source, O: Sink, G: Gate + Sync>(
     workers: &Workers<'_, R, G>,
     to: Option<u32>,
     src: &mut S,
@@ -127,7 +128,7 @@ pub(crate) fn run<R: Threads + Sync, S: Source, O: Sink, G: Gate + Sync>(
 /// The command `run` with checkpoints, which goes on from what the disk holds. It answers the plot of the run of the
 /// problem on the source, or the status that refuses it. Each checkpoint is acknowledged on `err` once it stands; the
 /// plot is written last.
-pub(crate) fn keep<R: Threads + Sync, S: Source, O: Sink, E: Sink, D: Disk, G: Gate + Sync>(
+pub(crate) fn keep<R: Threads + Wait + Sync, S: Source, O: Sink, E: Sink, D: Disk, G: Gate + Sync>(
     workers: &Workers<'_, R, G>,
     marks: Marks,
     src: &mut S,
@@ -184,7 +185,7 @@ pub(crate) fn show<O: Sink, D: Disk>(alloc: Global, out: &mut O, disk: &mut D) -
 
 /// The command `trial`: the line of a trial, or the status that refuses it. Its problem is drawn from two numbers, and always
 /// accepted.
-pub(crate) fn trial<R: Threads + Sync, O: Sink, G: Gate + Sync>(
+pub(crate) fn trial<R: Threads + Wait + Sync, O: Sink, G: Gate + Sync>(
     workers: &Workers<'_, R, G>,
     number: u32,
     size: u32,

@@ -30,10 +30,11 @@ use amr_io::Sink;
 use amr_patch::Mesh;
 use amr_store::Store;
 use amr_workers::Gate;
+use std::sync::Wait;
 use std::thread::Threads;
 
 /// Makes the steps of a run from the state of a mesh, which stands in the store or has been kept, and keeps those that follow.
-fn run_on<R: Threads + Sync, E: Sink, D: Disk, G: Gate + Sync>(
+fn run_on<R: Threads + Wait + Sync, E: Sink, D: Disk, G: Gate + Sync>(
     workers: &Workers<'_, R, G>,
     keeping: &Keeping<'_>,
     mut mesh: Mesh,
@@ -83,7 +84,7 @@ fn run_on<R: Threads + Sync, E: Sink, D: Disk, G: Gate + Sync>(
 }
 
 /// Makes a run from its start, which is kept too where it is a mark.
-fn run_new<R: Threads + Sync, E: Sink, D: Disk, G: Gate + Sync>(
+fn run_new<R: Threads + Wait + Sync, E: Sink, D: Disk, G: Gate + Sync>(
     workers: &Workers<'_, R, G>,
     keeping: &Keeping<'_>,
     store: Store,
@@ -113,7 +114,7 @@ fn run_new<R: Threads + Sync, E: Sink, D: Disk, G: Gate + Sync>(
 }
 
 /// Makes a run from what was found on the disk to its target, and keeps its checkpoints.
-fn run_from<R: Threads + Sync, E: Sink, D: Disk, G: Gate + Sync>(
+fn run_from<R: Threads + Wait + Sync, E: Sink, D: Disk, G: Gate + Sync>(
     workers: &Workers<'_, R, G>,
     keeping: &Keeping<'_>,
     bytes: &[u8],
@@ -148,7 +149,7 @@ fn run_from<R: Threads + Sync, E: Sink, D: Disk, G: Gate + Sync>(
 
 /// The mesh of a run at its target, which goes on from what the disk holds and keeps its checkpoints, or the status that refuses
 /// it. Acknowledges each checkpoint on `err` once it stands.
-pub(crate) fn keep_run<R: Threads + Sync, E: Sink, D: Disk, G: Gate + Sync>(
+pub(crate) fn keep_run<R: Threads + Wait + Sync, E: Sink, D: Disk, G: Gate + Sync>(
     workers: &Workers<'_, R, G>,
     keeping: &Keeping<'_>,
     bytes: &[u8],

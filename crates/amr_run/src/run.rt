@@ -17,6 +17,7 @@ use amr_disk::Disk;
 use amr_io::{Sink, Source};
 use amr_workers::{Gate, OpenGate};
 use std::alloc::Global;
+use std::sync::Wait;
 use std::thread::Threads;
 
 /// Does what the words ask for: reads a problem from `src` and writes the answer of the command to `out`, or says on
@@ -30,7 +31,7 @@ use std::thread::Threads;
 /// the one that is put.
 ///
 /// Clauses on bytes hold of objects that tell them. Memory may run out at any time; that is tied to no cause.
-pub fn amr<R: Threads + Sync, S: Source, O: Sink, E: Sink, D: Disk>(
+pub fn amr<R: Threads + Wait + Sync, S: Source, O: Sink, E: Sink, D: Disk>(
     rt: &R,
     alloc: Global,
     words: &Line,
@@ -92,7 +93,7 @@ pub fn amr<R: Threads + Sync, S: Source, O: Sink, E: Sink, D: Disk>(
 }
 
 /// The same with a gate that each worker calls before and after each task.
-pub fn amr_gated<R: Threads + Sync, S: Source, O: Sink, E: Sink, D: Disk, G: Gate + Sync>(
+pub fn amr_gated<R: Threads + Wait + Sync, S: Source, O: Sink, E: Sink, D: Disk, G: Gate + Sync>(
     rt: &R,
     alloc: Global,
     words: &Line,
@@ -148,7 +149,7 @@ struct Shell<'a, R, G> {
     alloc: Global,
 }
 
-fn serve<R: Threads + Sync, S: Source, O: Sink, E: Sink, D: Disk, G: Gate + Sync>(
+fn serve<R: Threads + Wait + Sync, S: Source, O: Sink, E: Sink, D: Disk, G: Gate + Sync>(
     shell: &Shell<'_, R, G>,
     words: &Line,
     src: &mut S,
@@ -186,7 +187,7 @@ fn serve<R: Threads + Sync, S: Source, O: Sink, E: Sink, D: Disk, G: Gate + Sync
 }
 
 /// The answer of a command, or the status that refuses it.
-fn answer<R: Threads + Sync, S: Source, O: Sink, E: Sink, D: Disk, G: Gate + Sync>(
+fn answer<R: Threads + Wait + Sync, S: Source, O: Sink, E: Sink, D: Disk, G: Gate + Sync>(
     shell: &Shell<'_, R, G>,
     command: Command,
     src: &mut S,

@@ -8,6 +8,7 @@ use amr_run::amr;
 use std::alloc::Global;
 use std::fmt::Write as _;
 use std::process::Abort;
+use std::sync::Wait;
 use std::test::Fail;
 use std::thread::Threads;
 
@@ -68,7 +69,7 @@ impl<'a> Case<'a> {
     }
 
     /// Makes the call on a disk.
-    pub(crate) fn call<R: Alloc<A = Global> + Threads + Sync>(
+    pub(crate) fn call<R: Alloc<A = Global> + Threads + Wait + Sync>(
         self,
         rt: &R,
         disk: &mut MemDisk,
@@ -83,7 +84,7 @@ impl<'a> Case<'a> {
     }
 
     /// The status and what went to the two sinks are as wanted.
-    pub(crate) fn ends_on<R: Abort + Alloc<A = Global> + Threads + Sync>(
+    pub(crate) fn ends_on<R: Abort + Alloc<A = Global> + Threads + Wait + Sync>(
         self,
         rt: &R,
         disk: &mut MemDisk,
@@ -98,7 +99,7 @@ impl<'a> Case<'a> {
     }
 
     /// The same on a disk that fails at its first call: a command that opens no store makes none.
-    pub(crate) fn ends<R: Abort + Alloc<A = Global> + Threads + Sync>(
+    pub(crate) fn ends<R: Abort + Alloc<A = Global> + Threads + Wait + Sync>(
         self,
         rt: &R,
         status: u8,

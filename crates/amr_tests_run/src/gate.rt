@@ -12,6 +12,7 @@ use amr_samples::Turnstile;
 use amr_workers::Gate;
 use std::alloc::Global;
 use std::process::Abort;
+use std::sync::Wait;
 use std::sync::atomic::{AtomicBool, AtomicU32, Ordering};
 use std::test::Fail;
 use std::thread::Threads;
@@ -30,7 +31,7 @@ fn nine_columns(alloc: Global) -> Result<String, Fail> {
 }
 
 /// So many workers at this gate make the same plot of nine columns.
-fn makes_plot<R: Abort + Alloc<A = Global> + Threads + Sync, G: Gate + Sync>(
+fn makes_plot<R: Abort + Alloc<A = Global> + Threads + Wait + Sync, G: Gate + Sync>(
     rt: &R,
     workers: &str,
     gate: &G,

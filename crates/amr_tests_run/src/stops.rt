@@ -5,6 +5,7 @@ use amr_causes::NoMemory;
 use amr_disk::{Disk, Leave, MemDisk};
 use std::alloc::Global;
 use std::process::Abort;
+use std::sync::Wait;
 use std::test::Fail;
 use std::thread::Threads;
 
@@ -27,7 +28,7 @@ enum Object {
 }
 
 /// The first run of the ring, to step 2, where one call of an object fails.
-fn first_run<R: Alloc<A = Global> + Threads + Sync>(
+fn first_run<R: Alloc<A = Global> + Threads + Wait + Sync>(
     rt: &R,
     object: Object,
     call: u64,
@@ -71,7 +72,7 @@ fn single_faults(rt: HostRuntime) -> Result<(), Fail> {
 
 /// Goes on with the ring from what a stop left: to the plot of its last step, by checkpoints after the one that was found. It is
 /// at least the last one that was acknowledged.
-fn goes_on<R: Abort + Alloc<A = Global> + Threads + Sync>(
+fn goes_on<R: Abort + Alloc<A = Global> + Threads + Wait + Sync>(
     rt: &R,
     mut disk: MemDisk,
     acknowledged: usize,
@@ -98,7 +99,7 @@ fn acknowledged(ended: &Ended) -> usize {
 
 /// A run of the ring on a disk that stops at each of its calls in turn, and is left in each way. The next one goes on
 /// from there.
-fn stops<R: Abort + Alloc<A = Global> + Threads + Sync>(
+fn stops<R: Abort + Alloc<A = Global> + Threads + Wait + Sync>(
     rt: &R,
     words: &str,
     store: &[u8],

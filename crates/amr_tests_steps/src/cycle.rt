@@ -7,7 +7,7 @@ ghost use Rattle.amr_cycle.specs.Cycles.{AreCoarsenableAbove};
 ghost use Rattle.amr_cycle.specs.Kept.{IsKept};
 
 use crate::rows::{mass_at, row};
-use amr_advance::Crew;
+use amr_advance::{Crew, Workers};
 use amr_causes::NoMemory;
 use amr_cycle::{Kept, step, step_kept};
 use amr_decoder::decode2;
@@ -17,6 +17,7 @@ use amr_samples::{Turnstile, nine_columns, ring};
 use amr_start::base;
 use amr_workers::OpenGate;
 use std::alloc::Global;
+use std::sync::Wait;
 use std::test::Fail;
 use std::thread::Threads;
 
@@ -78,7 +79,7 @@ fn a_ring_with_a_finer_box(rt: HostRuntime) -> Result<(), Fail> {
 }
 
 /// Makes a step, where there is one to come.
-fn make_step<R: Threads + Sync>(
+fn make_step<R: Threads + Wait + Sync>(
     rt: &R,
     p: &Problem,
     mesh: &mut Mesh,
@@ -94,14 +95,20 @@ fn make_step<R: Threads + Sync>(
     ensures kept { OnOk result (IsKept p.now kept.new) }
 {
     if mesh.step() < p.steps {
-        step_kept(rt, p, mesh, CREW, &OpenGate, kept)
+        let mut workers = Workers {
+            runtime: rt,
+            gate: &OpenGate,
+            count: CREW.workers,
+            team: None,
+        };
+        step_kept(&mut workers, p, mesh, kept)
     } else {
         Ok(())
     }
 }
 
 /// Two steps, once with what is kept from one to the next, and once anew each.
-fn steps_both_ways<R: Threads + Sync>(
+fn steps_both_ways<R: Threads + Wait + Sync>(
     rt: &R,
     alloc: Global,
     p: &Problem,

@@ -28,6 +28,9 @@ use std::mem::replace;
 use std::sync::{Arc, Wait};
 use std::thread::yield_now;
 
+// How often a team looks for workers who have not begun.
+const LOOKS: u32 = 1 << 20;
+
 /// A team of kept workers for phases of one job under one gate. Its caller works too, as worker 0.
 #[derive(Drop)]
 pub struct Team<'a, P: Piece, J: Job<P>, G: Gate> {
@@ -83,6 +86,17 @@ impl<'a, P: Piece, J: Job<P>, G: Gate> Team<'a, P, J, G> {
         Team { helpers, job, gate }
     }
 
+    /// Waits until each kept worker has begun, but not for ever: where no thread can be had for one, it begins after the
+    /// others have ended. Phases go on without those who are not there.
+    pub fn gather(&self) {
+        for _ in 0..LOOKS {
+            if are_there(&self.helpers) {
+                return;
+            }
+            yield_now();
+        }
+    }
+
     /// Runs all tasks of a board and closes it. The seat is its only one, and holds no task. The gate is handed the
     /// numbers of the team's workers, and of tasks of the plan. Where there is no memory to share the board, the
     /// caller draws all tasks itself.
@@ -129,6 +143,16 @@ impl<'a, P: Piece, J: Job<P>, G: Gate> Team<'a, P, J, G> {
         dismiss_all(&mut helpers);
         helpers
     }
+}
+
+// Whether each of these kept workers has begun.
+fn are_there<P: Piece, J: Job<P>, G: Gate>(helpers: &[Helper<P, J, G>]) -> bool {
+    for helper in helpers {
+        if !helper.mailbox.is_attended() {
+            return false;
+        }
+    }
+    true
 }
 
 // Dismisses each kept worker.

@@ -8,16 +8,16 @@ use Rattle.amr_drive.proofs.nexts.make_next.Goals as goal
 
 pub step_kept-requires-clause-to_come : goal.step_kept-requires-clause-to_come
 step_kept-requires-clause-to_come g c κs within =
-    omega (arith, c.requires.to_come, same_step c.args.team.now.problem.now (state_of c.args.mesh.now) (state_of c.regrid_if_due.new.mesh) c.in_ok-regrid_if_due.ensures.value)
+    omega (arith, c.requires.to_come, same_step c.args.run.now.job.problem.now (state_of c.args.mesh.now) (state_of c.regrid_if_due.new.mesh) c.in_ok-regrid_if_due.ensures.value)
 
 pub step_kept-requires-clause-coarsenable : goal.step_kept-requires-clause-coarsenable
 step_kept-requires-clause-coarsenable g c κs within =
-    coarsenable c.args.team.now.problem.now c.regrid_if_due.new.mesh c.in_ok-regrid_if_due.ensures.sound c.in_ok-regrid_if_due.ensures.patches
+    coarsenable c.args.run.now.job.problem.now c.regrid_if_due.new.mesh c.in_ok-regrid_if_due.ensures.sound c.in_ok-regrid_if_due.ensures.patches
 
 pub returns-clause-value : goal.returns-clause-value
 returns-clause-value g c =
-    on_ok_weaker c.step_kept.result (λ e. e ∙ next_is c.args.team.now.problem.now (state_of c.args.mesh.now) (state_of c.regrid_if_due.new.mesh) c.in_ok-regrid_if_due.ensures.value) c.step_kept.ensures.value
+    on_ok_weaker c.step_kept.result (λ e. e ∙ next_is c.args.run.now.job.problem.now (state_of c.args.mesh.now) (state_of c.regrid_if_due.new.mesh) c.in_ok-regrid_if_due.ensures.value) c.step_kept.ensures.value
 
 pub returns-clause-patches : goal.returns-clause-patches
 returns-clause-patches g c =
-    on_ok_both c.step_kept.result (λ value patches. chopped_after c.args.team.now.problem.now c.regrid_if_due.new.mesh c.step_kept.new.mesh c.in_ok-regrid_if_due.ensures.sound value patches c.in_ok-regrid_if_due.ensures.patches) c.step_kept.ensures.value c.step_kept.ensures.patches
+    on_ok_both c.step_kept.result (λ value patches. chopped_after c.args.run.now.job.problem.now c.regrid_if_due.new.mesh c.step_kept.new.mesh c.in_ok-regrid_if_due.ensures.sound value patches c.in_ok-regrid_if_due.ensures.patches) c.step_kept.ensures.value c.step_kept.ensures.patches

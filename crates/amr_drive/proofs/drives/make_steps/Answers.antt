@@ -1,4 +1,4 @@
-use Rattle.std.proofs.Common.{◌≡◌, ◌∙◌, ◌⊎◌, inl, inr, suc, ◌+◌, ◌-◌, ◌≤◌, List, Ok, Err, sym, ap, subst, arith, false, true}
+use Rattle.std.proofs.Common.{◌≡◌, ◌∙◌, ◌⊎◌, inl, inr, suc, refl, ◌+◌, ◌-◌, ◌≤◌, List, Ok, Err, sym, ap, subst, arith, false, true}
 use Rattle.amr_def.specs.State.{State}
 use Rattle.amr_def.specs.Facts.{IsSound}
 use Rattle.amr_def.specs.Run.{finish, next}
@@ -6,13 +6,14 @@ use Rattle.amr_patch.specs.Meshes.{is_spent, state_of}
 use Rattle.amr_drive.specs.States.{states_after}
 use Rattle.amr_drive.specs.declared.drives.DriveFault.TheVariants.{After, NoMemory}
 use Rattle.amr_drive.proofs.Finishes.{after_more, finish_here, finish_more, finish_sound, finish_step, none_after, run_holds, through}
-use Rattle.amr_drive.proofs.drives.drive.Goals as goal
+use Rattle.amr_drive.proofs.drives.make_steps.Goals as goal
 
 pub loop-step-init : goal.loop-step-init
 loop-step-init g c =
-    let p = c.args.p.now in
+    let p = c.args.run.now.job.problem.now in
     let s = state_of c.args.mesh.now in
     record {
+      workers = refl;
       whole = c.requires.whole;
       value = sym (finish_here p s c.step-step.result (sym c.step-step.ensures));
       kept = c.nothing-kept.ensures p;
@@ -26,11 +27,11 @@ make_step-requires-clause-whole g c κs within = c.loop-step.invariant.whole
 
 pub make_step-requires-clause-sound : goal.make_step-requires-clause-sound
 make_step-requires-clause-sound g c κs within =
-    subst (IsSound c.args.p.now) (sym c.loop-step.invariant.value) (finish_sound c.args.p.now (state_of c.args.mesh.now) c.loop-step._step c.requires.sound (omega (arith, c.loop-step-test.true, c.requires.within)))
+    subst (IsSound c.args.run.now.job.problem.now) (sym c.loop-step.invariant.value) (finish_sound c.args.run.now.job.problem.now (state_of c.args.mesh.now) c.loop-step._step c.requires.sound (omega (arith, c.loop-step-test.true, c.requires.within)))
 
 pub make_step-requires-clause-to_come : goal.make_step-requires-clause-to_come
 make_step-requires-clause-to_come g c κs within =
-    let at = finish_step c.args.p.now (state_of c.args.mesh.now) c.loop-step._step (omega (arith, c.loop-step.auto._step, c.step-step.ensures)) in
+    let at = finish_step c.args.run.now.job.problem.now (state_of c.args.mesh.now) c.loop-step._step (omega (arith, c.loop-step.auto._step, c.step-step.ensures)) in
     let here = ap (λ (s : State). s.step) c.loop-step.invariant.value in
     omega (arith, at, here, c.loop-step-test.true, c.requires.within)
 
@@ -42,17 +43,17 @@ make_step-requires-clause-kept g c κs within = c.loop-step.invariant.kept
 
 pub make_step-requires-clause-ready : goal.make_step-requires-clause-ready
 make_step-requires-clause-ready g c κs within =
-    let p = c.args.p.now in
+    let p = c.args.run.now.job.problem.now in
     let s = state_of c.args.mesh.now in
     subst (g.A.AfterStep.ready c.loop-step.after) (sym (ap (next p) c.loop-step.invariant.value ∙ finish_more p s c.loop-step._step (omega (arith, c.loop-step.auto._step, c.step-step.ensures))))
     (c.loop-step.invariant.ready (c.loop-step._step + 1) (omega arith) (omega (arith, c.loop-step-test.true)))
 
 pub returns-in_err-make_step-clause-held : goal.returns-in_err-make_step-clause-held
-returns-in_err-make_step-clause-held g c = run_holds c.args.p.now (state_of c.args.mesh.now) c.args.target c.requires.sound c.requires.within
+returns-in_err-make_step-clause-held g c = run_holds c.args.run.now.job.problem.now (state_of c.args.mesh.now) c.args.run.now.target c.requires.sound c.requires.within
 
 pub returns-in_err-make_step-clause-refused : goal.returns-in_err-make_step-clause-refused
 returns-in_err-make_step-clause-refused g c = λ f is.
-    let p = c.args.p.now in
+    let p = c.args.run.now.job.problem.now in
     let s = state_of c.args.mesh.now in
     let k = c.loop-step._step in
     let from : s.step ≤ k = omega (arith, c.loop-step.auto._step, c.step-step.ensures) in
@@ -70,7 +71,7 @@ returns-in_err-make_step-clause-refused g c = λ f is.
 
 pub returns-in_err-make_step-clause-memory : goal.returns-in_err-make_step-clause-memory
 returns-in_err-make_step-clause-memory g c = λ is.
-    let p = c.args.p.now in
+    let p = c.args.run.now.job.problem.now in
     let s = state_of c.args.mesh.now in
     let k = c.loop-step._step in
     let from : s.step ≤ k = omega (arith, c.loop-step.auto._step, c.step-step.ensures) in
@@ -85,7 +86,7 @@ returns-in_err-make_step-clause-memory g c = λ is.
 
 pub loop-step-preserved : goal.loop-step-preserved
 loop-step-preserved g c =
-    let p = c.args.p.now in
+    let p = c.args.run.now.job.problem.now in
     let s = state_of c.args.mesh.now in
     let k = c.loop-step._step in
     let from : s.step ≤ k = omega (arith, c.loop-step.auto._step, c.step-step.ensures) in
@@ -93,6 +94,7 @@ loop-step-preserved g c =
     let said = c.in_ok-make_step.ensures in
     let count : suc (k - s.step) ≡ k + 1 - s.step = omega (arith, from) in
     record {
+      workers = c.make_step.ensures.workers ∙ c.loop-step.invariant.workers;
       whole = said.whole;
       value = said.value ∙ state;
       kept = said.kept;
@@ -107,13 +109,13 @@ loop-step-preserved g c =
 
 pub returns-clause-value : goal.returns-clause-value
 returns-clause-value g c =
-    let last : c.loop-step._step ≡ c.args.target = omega (arith, c.loop-step-test.false, c.loop-step.auto._step-end (omega (arith, c.requires.ahead, c.step-step.ensures))) in
-    c.loop-step.invariant.value ∙ ap (finish c.args.p.now (state_of c.args.mesh.now)) last
+    let last : c.loop-step._step ≡ c.args.run.now.target = omega (arith, c.loop-step-test.false, c.loop-step.auto._step-end (omega (arith, c.requires.ahead, c.step-step.ensures))) in
+    c.loop-step.invariant.value ∙ ap (finish c.args.run.now.job.problem.now (state_of c.args.mesh.now)) last
 
 pub returns-clause-sound : goal.returns-clause-sound
 returns-clause-sound g c =
-    let last : c.loop-step._step ≡ c.args.target = omega (arith, c.loop-step-test.false, c.loop-step.auto._step-end (omega (arith, c.requires.ahead, c.step-step.ensures))) in
-    subst (IsSound c.args.p.now) (sym c.loop-step.invariant.value) (finish_sound c.args.p.now (state_of c.args.mesh.now) c.loop-step._step c.requires.sound (omega (arith, last, c.requires.within)))
+    let last : c.loop-step._step ≡ c.args.run.now.target = omega (arith, c.loop-step-test.false, c.loop-step.auto._step-end (omega (arith, c.requires.ahead, c.step-step.ensures))) in
+    subst (IsSound c.args.run.now.job.problem.now) (sym c.loop-step.invariant.value) (finish_sound c.args.run.now.job.problem.now (state_of c.args.mesh.now) c.loop-step._step c.requires.sound (omega (arith, last, c.requires.within)))
 
 pub returns-clause-patches : goal.returns-clause-patches
 returns-clause-patches g c = c.loop-step.invariant.patches
@@ -122,9 +124,9 @@ pub returns-clause-whole : goal.returns-clause-whole
 returns-clause-whole g c = c.loop-step.invariant.whole
 
 pub returns-clause-held : goal.returns-clause-held
-returns-clause-held g c = run_holds c.args.p.now (state_of c.args.mesh.now) c.args.target c.requires.sound c.requires.within
+returns-clause-held g c = run_holds c.args.run.now.job.problem.now (state_of c.args.mesh.now) c.args.run.now.target c.requires.sound c.requires.within
 
 pub returns-clause-made : goal.returns-clause-made
 returns-clause-made g c =
-    let last : c.loop-step._step ≡ c.args.target = omega (arith, c.loop-step-test.false, c.loop-step.auto._step-end (omega (arith, c.requires.ahead, c.step-step.ensures))) in
-    subst (λ n. g.A.AfterStep.made c.args.after.now (states_after c.args.p.now (state_of c.args.mesh.now) (n - (state_of c.args.mesh.now).step)) (Ok tt) c.loop-step.after) last c.loop-step.invariant.made
+    let last : c.loop-step._step ≡ c.args.run.now.target = omega (arith, c.loop-step-test.false, c.loop-step.auto._step-end (omega (arith, c.requires.ahead, c.step-step.ensures))) in
+    subst (λ n. g.A.AfterStep.made c.args.after.now (states_after c.args.run.now.job.problem.now (state_of c.args.mesh.now) (n - (state_of c.args.mesh.now).step)) (Ok tt) c.loop-step.after) last c.loop-step.invariant.made
