@@ -11,6 +11,7 @@ use Rattle.amr_box.specs.declared.Cell.{Cell}
 use Rattle.amr_box.specs.Cells.{Extent, at_least_zero, cell, cell_cmp, cells_of, holds, within, width, height}
 use Rattle.std.proofs.lemmas.Bool.{or_left, or_right}
 use Rattle.amr_box.proofs.CellEquality.{by_coordinates, cell_itself, cell_same, is_cell}
+use Rattle.amr_box.proofs.Tests.{and_shared}
 
 int_eq-itself : (a b : ℤ) → a ≡ b → int_eq a b ≡ true
 int_eq-itself a b e = grind (arith, ints)
@@ -43,14 +44,10 @@ list_any-and : {A : Type 0} (p : A → Bool) (c : Bool) (xs : List A) → list_a
 list_any-and p c [] = refl
 list_any-and p c (x ∷ xs) = ap (λ b. (p x && c) || b) (list_any-and p c xs) ∙ or-and (p x) (list_any p xs) c
 
-and-or : (c a b : Bool) → ((c && a) || (c && b)) ≡ (c && (a || b))
-and-or true a b = refl
-and-or false a b = refl
-
 list_any-and_left : {A : Type 0} (p : A → Bool) (c : Bool) (xs : List A) → list_any (λ x. c && p x) xs ≡ (c && list_any p xs)
 list_any-and_left p true [] = refl
 list_any-and_left p false [] = refl
-list_any-and_left p c (x ∷ xs) = ap (λ b. (c && p x) || b) (list_any-and_left p c xs) ∙ and-or c (p x) (list_any p xs)
+list_any-and_left p c (x ∷ xs) = ap (λ b. (c && p x) || b) (list_any-and_left p c xs) ∙ and_shared c (p x) (list_any p xs)
 
 list_any-same : {A : Type 0} (p q : A → Bool) (xs : List A) → ((x : A) → p x ≡ q x) → list_any p xs ≡ list_any q xs
 list_any-same p q [] h = refl

@@ -8,7 +8,7 @@ use Rattle.amr_box.specs.declared.Cell.{Cell}
 use Rattle.amr_box.specs.Cells.{Extent, HasCorners, HoldsNear, IsBoxOf, IsProper, cell, half, has_child_where, holds, parent, within}
 
 -- a number is twice its half, or one more
-half_is : (z : ℤ) → (z ≡ half z +ℤ half z) ⊎ (z ≡ half z +ℤ half z +ℤ pos 1)
+pub half_is : (z : ℤ) → (z ≡ half z +ℤ half z) ⊎ (z ≡ half z +ℤ half z +ℤ pos 1)
 half_is (pos n) = grind (arith, ints)
 half_is (negsuc n) = grind (arith, ints)
 

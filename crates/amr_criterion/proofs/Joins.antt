@@ -4,12 +4,8 @@ use Rattle.std.proofs.Math.Bool.{and-false, or-false, and-or_distrib_left}
 use Rattle.amr_box.specs.declared.Cell.{Cell}
 use Rattle.amr_box.specs.Cells.{Extent, holds}
 use Rattle.amr_tags.specs.TagSets.{SameShape, TagSet, has}
+use Rattle.amr_nest.proofs.Gathered.{joined}
 use Rattle.amr_criterion.specs.Pairs.{IsJoined}
-
-gather : (h b v w : Bool) → ((h || (b && v)) || (b && w)) ≡ (h || (b && (v || w)))
-gather true b v w = refl
-gather false true v w = refl
-gather false false v w = refl
 
 pub same_shapes : (s t u : TagSet) → SameShape s t → SameShape t u → SameShape s u
 same_shapes s t u a b = record { bx = b.bx ∙ a.bx; x = b.x ∙ a.x; y = b.y ∙ a.y }
@@ -36,7 +32,7 @@ joined_twice v w both s t u same first second = record {
       second.cells c
       ∙ ap (λ (b : Extent). has t c || (holds b c && w c)) first.shape.bx
       ∙ ap (λ (h : Bool). h || (holds s.bx c && w c)) (first.cells c)
-      ∙ gather (has s c) (holds s.bx c) (v c) (w c)
+      ∙ joined (has s c) (holds s.bx c) (v c) (w c)
       ∙ sym (ap (λ (b : Bool). has s c || (holds s.bx c && b)) (same c));
 }
 

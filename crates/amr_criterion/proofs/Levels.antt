@@ -6,6 +6,7 @@ use Rattle.std.proofs.lemmas.Bool.{and_from, and_parts}
 use Rattle.std.proofs.lemmas.Int.{ints}
 use Rattle.amr_box.specs.declared.Cell.{Cell}
 use Rattle.amr_box.specs.Cells.{Extent, cell, holds, within}
+use Rattle.amr_box.proofs.Tests.{and_either}
 use Rattle.amr_def.specs.declared.problem.Problem.{Problem}
 use Rattle.amr_def.specs.Domain.{Domain, domain, domain_box, home_cell, in_domain, moved}
 use Rattle.amr_def.specs.Facts.{IsLevel}
@@ -42,16 +43,10 @@ any_holder test (q ∷ qs) c y h = by_head (any_holder test qs c y (λ k d lt e.
 
 -- ---- the cells that a patch reaches
 
-reached : (g a e : Bool) → g ≡ true → (a ≡ true) ⊎ (e ≡ true) → (g && (a || e)) ≡ true
-reached true true e h l = refl
-reached true false e h (inl i) = absurd (cc)
-reached true false e h (inr i) = i
-reached false a e h l = h
-
 -- within a row or a column of the box, at most one beyond it
 in_reach : (b : Extent) (q : Cell) → (b.lo.x -ℤ pos 1) ≤ℤ q.x → q.x ≤ℤ (b.hi.x +ℤ pos 1) → (b.lo.y -ℤ pos 1) ≤ℤ q.y → q.y ≤ℤ (b.hi.y +ℤ pos 1) → (within b.lo.x b.hi.x q.x ≡ true) ⊎ (within b.lo.y b.hi.y q.y ≡ true) → IsTrue (holds (grown b) q && (within b.lo.x b.hi.x q.x || within b.lo.y b.hi.y q.y))
 in_reach b q west east south north flat =
-    reached (holds (grown b) q) (within b.lo.x b.hi.x q.x) (within b.lo.y b.hi.y q.y)
+    and_either (holds (grown b) q) (within b.lo.x b.hi.x q.x) (within b.lo.y b.hi.y q.y)
     (and_from (within (b.lo.x -ℤ pos 1) (b.hi.x +ℤ pos 1) q.x) (within (b.lo.y -ℤ pos 1) (b.hi.y +ℤ pos 1) q.y) (is_between (b.lo.x -ℤ pos 1) (b.hi.x +ℤ pos 1) q.x west east) (is_between (b.lo.y -ℤ pos 1) (b.hi.y +ℤ pos 1) q.y south north)) flat
 
 beside_x : (b : Extent) (c : Cell) (x y : ℤ) → IsIn b c → (c.x -ℤ pos 1) ≤ℤ x → x ≤ℤ (c.x +ℤ pos 1) → y ≡ c.y → IsTrue (holds (grown b) (cell x y) && (within b.lo.x b.hi.x x || within b.lo.y b.hi.y y))

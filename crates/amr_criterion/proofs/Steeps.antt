@@ -8,13 +8,8 @@ use Rattle.amr_box.specs.Cells.{Extent, holds}
 use Rattle.amr_def.specs.Tags.{differs_by}
 use Rattle.amr_criterion.specs.Pairs.{AreAlong, ahead, before, in_steep_pair, is_steep, region, with_after}
 use Rattle.std.proofs.Math.Bool.{and-or_distrib_right}
+use Rattle.amr_box.proofs.Tests.{and_apart, or_swapped}
 use Rattle.amr_criterion.proofs.Regions.{ahead_of, cells_after, row_parts}
-
-shuffle : (a b c d : Bool) → ((a || b) || (c || d)) ≡ ((a || c) || (b || d))
-shuffle true b c d = refl
-shuffle false true true d = refl
-shuffle false true false d = refl
-shuffle false false c d = refl
 
 pub steep_union : (threshold : ℕ) (value : Cell → ℕ) (axis : Axis) (a b r : Extent) → ((c : Cell) → holds r c ≡ (holds a c || holds b c)) → (c : Cell) → in_steep_pair threshold value axis r c ≡ (in_steep_pair threshold value axis a c || in_steep_pair threshold value axis b c)
 unfolding in_steep_pair
@@ -23,11 +18,7 @@ steep_union threshold value axis a b r union c =
     let t = is_steep threshold value axis (before axis c) in
     (λ i. (union c i && s) || (union (before axis c) i && t))
     ∙ (λ i. and-or_distrib_right (holds a c) (holds b c) s i || and-or_distrib_right (holds a (before axis c)) (holds b (before axis c)) t i)
-    ∙ shuffle (holds a c && s) (holds b c && s) (holds a (before axis c) && t) (holds b (before axis c) && t)
-
-none_of : (h s : Bool) → (h ≡ true → s ≡ false) → (h && s) ≡ false
-none_of true s f = f refl
-none_of false s f = refl
+    ∙ or_swapped (holds a c && s) (holds b c && s) (holds a (before axis c) && t) (holds b (before axis c) && t)
 
 all_of : (h s : Bool) → (h ≡ true → s ≡ true) → (h && s) ≡ h
 all_of true s f = f refl
@@ -36,8 +27,8 @@ all_of false s f = refl
 pub steep_none : (threshold : ℕ) (value : Cell → ℕ) (axis : Axis) (r : Extent) → ((c : Cell) → holds r c ≡ true → is_steep threshold value axis c ≡ false) → (c : Cell) → in_steep_pair threshold value axis r c ≡ false
 unfolding in_steep_pair
 steep_none threshold value axis r none c =
-    let here = none_of (holds r c) (is_steep threshold value axis c) (none c) in
-    let there = none_of (holds r (before axis c)) (is_steep threshold value axis (before axis c)) (none (before axis c)) in
+    let here = and_apart (holds r c) (is_steep threshold value axis c) (none c) in
+    let there = and_apart (holds r (before axis c)) (is_steep threshold value axis (before axis c)) (none (before axis c)) in
     λ i. here i || there i
 
 pub steep_all : (threshold : ℕ) (value : Cell → ℕ) (axis : Axis) (r : Extent) → r.lo.x ≤ℤ r.hi.x → r.lo.y ≤ℤ r.hi.y → ((c : Cell) → holds r c ≡ true → is_steep threshold value axis c ≡ true) → (c : Cell) → in_steep_pair threshold value axis r c ≡ holds (with_after axis r) c

@@ -7,6 +7,7 @@ use Rattle.std.specs.List.{list_any}
 use Rattle.std.proofs.lemmas.Bool.Decides.{nat_tests}
 use Rattle.std.proofs.lemmas.List.{reverse-append}
 use Rattle.std.proofs.lemmas.List.Folds.{list_any-append}
+use Rattle.std.proofs.lemmas.Bool.{and_right, not_from_true}
 use Rattle.amr_box.specs.Cells.{Extent}
 use Rattle.amr_def.specs.declared.problem.Problem.{Problem}
 use Rattle.amr_payload.specs.Tests.{Left, Grid, read, then_read, read_also, is_box_of, meets, read_grid, read_grids}
@@ -33,14 +34,10 @@ unfit p (suc l) earlier b h = fine_with p (suc l) earlier b (λ e. absurd (cc)) 
 
 pub in_the_way : (p : Problem) (l : ℕ) (earlier : List Extent) (b : Extent) → (nat_lt 0 l && list_any (meets b) earlier) ≡ true → is_box_of p l earlier b ≡ false
 in_the_way p zero earlier b h = absurd (cc)
-in_the_way p (suc l) earlier b h = fine_with p (suc l) earlier b (λ e. absurd (cc)) ∙ by_tests (is_box_of p (suc l) [] b) (list_any (meets b) earlier) (positive l h)
+in_the_way p (suc l) earlier b h = fine_with p (suc l) earlier b (λ e. absurd (cc)) ∙ and_right (is_box_of p (suc l) [] b) _ (not_from_true (list_any (meets b) earlier) (positive l h))
   where
     positive : (l : ℕ) → (nat_lt 0 (suc l) && list_any (meets b) earlier) ≡ true → list_any (meets b) earlier ≡ true
     positive l h = grind (arith, nat_tests)
-
-    by_tests : (t s : Bool) → s ≡ true → (t && not s) ≡ false
-    by_tests true s h = ap not h
-    by_tests false s h = refl
 
 pub clear : (p : Problem) (l : ℕ) (earlier : List Extent) (b : Extent) → is_box_of p l [] b ≡ true → (nat_lt 0 l && list_any (meets b) earlier) ≡ false → is_box_of p l earlier b ≡ true
 clear p zero earlier b fit h = base_with p zero earlier b refl ∙ fit

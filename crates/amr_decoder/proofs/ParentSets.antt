@@ -6,7 +6,7 @@ use Rattle.std.specs.Ordering.{int_eq}
 use Rattle.std.specs.List.{All, list_any}
 use Rattle.std.specs.declared.option.Option.{Option}
 use Rattle.std.proofs.lemmas.Int.{ints, clamps}
-use Rattle.std.proofs.lemmas.Bool.{and_from, and_parts, both_ways, or_cases, or_left, or_right, true_from_ne_false}
+use Rattle.std.proofs.lemmas.Bool.{and_from, and_parts, both_ways, or_cases, or_left, or_parts, or_right, true_from_ne_false}
 use Rattle.std.proofs.lemmas.List.{map-append, reverse-append}
 use Rattle.std.proofs.lemmas.List.Folds.{list_any-append}
 use Rattle.amr_box.specs.declared.Cell.{Cell}
@@ -25,7 +25,7 @@ use Rattle.amr_payload.proofs.GridLevels.{fine_box, is_proper_from, meeting_cell
 use Rattle.amr_decoder.specs.declared.grid.Grid.{Grid}
 use Rattle.amr_decoder.specs.Apart.{IsOverParents, newest_first}
 use Rattle.amr_decoder.specs.Grids.{boxes_of}
-use Rattle.amr_box.proofs.Tests.{same_test}
+use Rattle.amr_box.proofs.Tests.{and_never, same_test}
 
 -- ---- two boxes
 
@@ -100,21 +100,12 @@ over_parents p (suc l) b some h =
 
 -- ---- one box and a list of others
 
-both_false : (s t : Bool) → (s ≡ true → t ≡ true → ⊥) → (s && t) ≡ false
-both_false true true h = absurd (h refl refl)
-both_false true false h = refl
-both_false false t h = refl
-
 module _ (below b : Extent) (q : IsOverParents below b) where
   none_common : (bs : List Extent) → All (IsOverParents below) bs → list_any (meets b) bs ≡ false → (c : Cell) → holds (parents_of b) c ≡ true → in_boxes (map parents_of bs) c ≡ true → ⊥
   none_common [] all h c here there = absurd (cc)
   none_common (a ∷ bs) all h c here there =
-      choose (or_cases (holds (parents_of a) c) (in_boxes (map parents_of bs) c) there) (none_common bs (λ k d lt. all (suc k) d (omega arith)) (tail (meets b a) (list_any (meets b) bs) h) c here)
+      choose (or_cases (holds (parents_of a) c) (in_boxes (map parents_of bs) c) there) (none_common bs (λ k d lt. all (suc k) d (omega arith)) (or_parts (meets b a) (list_any (meets b) bs) h).1 c here)
     where
-      tail : (s t : Bool) → (s || t) ≡ false → t ≡ false
-      tail true t h = absurd (cc)
-      tail false t h = h
-
       choose : (holds (parents_of a) c ≡ true) ⊎ (in_boxes (map parents_of bs) c ≡ true) → (in_boxes (map parents_of bs) c ≡ true → ⊥) → ⊥
       choose (inl k) later =
           both_ways (meets b a || list_any (meets b) bs) h
@@ -142,7 +133,7 @@ module _ (below b : Extent) (q : IsOverParents below b) where
       (λ h. true_from_ne_false (is_some found) (λ e. both_ways (list_any (meets b) bs) (none_met bs all (no_cell (none.0 e))) h))
     where
       no_tag : list_any (meets b) bs ≡ false → (c : Cell) → (holds (parents_of b) c && tags c) ≡ false
-      no_tag e c = both_false (holds (parents_of b) c) (tags c) (λ here tagged. none_common bs all e c here (and_parts (holds below c) (in_boxes (map parents_of bs) c) (sym (are c) ∙ tagged)).1)
+      no_tag e c = and_never (holds (parents_of b) c) (tags c) (λ here tagged. none_common bs all e c here (and_parts (holds below c) (in_boxes (map parents_of bs) c) (sym (are c) ∙ tagged)).1)
 
       no_cell : ((c : Cell) → (holds (parents_of b) c && tags c) ≡ false) → (c : Cell) → holds (parents_of b) c ≡ true → in_boxes (map parents_of bs) c ≡ true → ⊥
       no_cell e c here there =

@@ -1,9 +1,10 @@
 -- A level over another: in sync where each parent of a finer cell has the mass of its children.
 use Rattle.std.proofs.Common.{◌≡◌, ℕ, suc, ◌<◌, Bool, true, false, ◌||◌, List, [], ◌∷◌, length, get_or, refl, sym, ap, ◌∙◌, arith, ◌⊎◌, inl, inr}
 use Rattle.std.proofs.lemmas.Int.{ints}
-use Rattle.std.proofs.lemmas.Bool.{or_cases, or_left, or_right}
+use Rattle.std.proofs.lemmas.Bool.{or_cases}
 use Rattle.amr_box.specs.declared.Cell.{Cell}
 use Rattle.amr_box.specs.Cells.{Extent, HasCorners, child, half, has_child_where, holds, parent}
+use Rattle.amr_box.proofs.Children.{by_child, child_passes}
 use Rattle.amr_def.specs.declared.problem.Problem.{Problem}
 use Rattle.amr_def.specs.Domain.{domain, in_domain}
 use Rattle.amr_def.specs.Facts.{IsLevel, IsNestedLevel}
@@ -53,54 +54,19 @@ held_by (b ∷ bs) c h = choose (or_cases (holds b c) (in_boxes bs c) h) (held_b
     choose (inl here) more = record { k = 0; inside = omega arith; at = λ d. here }
     choose (inr there) more = let m = more there in record { k = suc m.k; inside = omega (arith, m.inside); at = m.at }
 
--- one of four
-four_cases : (P : Type 0) (a b c d : Bool) → (a || b || c || d) ≡ true → (a ≡ true → P) → (b ≡ true → P) → (c ≡ true → P) → (d ≡ true → P) → P
-four_cases P true b c d h pa pb pc pd = pa refl
-four_cases P false true c d h pa pb pc pd = pb refl
-four_cases P false false true d h pa pb pc pd = pc refl
-four_cases P false false false true h pa pb pc pd = pd refl
-four_cases P false false false false h pa pb pc pd = absurd (cc)
-
-four_from : (a b c d : Bool) (t : Bool) → (a ≡ true → t ≡ true) → (b ≡ true → t ≡ true) → (c ≡ true → t ≡ true) → (d ≡ true → t ≡ true) → (a || b || c || d) ≡ true → t ≡ true
-four_from a b c d t pa pb pc pd h = four_cases (t ≡ true) a b c d h pa pb pc pd
-
-first_of : (a b c d : Bool) → a ≡ true → (a || b || c || d) ≡ true
-first_of true b c d h = refl
-first_of false b c d h = absurd (cc)
-
-second_of : (a b c d : Bool) → b ≡ true → (a || b || c || d) ≡ true
-second_of true true c d h = refl
-second_of false true c d h = refl
-second_of a false c d h = absurd (cc)
-
-third_of : (a b c d : Bool) → c ≡ true → (a || b || c || d) ≡ true
-third_of a b c d h = or_left (a || b || c) d (or_right (a || b) c h)
-
-fourth_of : (a b c d : Bool) → d ≡ true → (a || b || c || d) ≡ true
-fourth_of a b c d h = or_right (a || b || c) d h
-
 module _ (bs : List Extent) (c : Cell) where
   pub from_boxes : (P : Type 0) → ((k : ℕ) (d : Extent) → k < length bs → has_child_where (holds (get_or bs k d)) c ≡ true → P) → is_covered_by bs c ≡ true → P
   from_boxes P each h =
-      let t : ℕ → Bool = λ i. in_boxes bs (child c i) in
-      four_cases P (t 0) (t 1) (t 2) (t 3) h
-      (λ e. let m = held_by bs (child c 0) e in let b = get_or bs m.k no_box in each m.k no_box m.inside (first_of (holds b (child c 0)) (holds b (child c 1)) (holds b (child c 2)) (holds b (child c 3)) (m.at no_box)))
-      (λ e. let m = held_by bs (child c 1) e in let b = get_or bs m.k no_box in each m.k no_box m.inside (second_of (holds b (child c 0)) (holds b (child c 1)) (holds b (child c 2)) (holds b (child c 3)) (m.at no_box)))
-      (λ e. let m = held_by bs (child c 2) e in let b = get_or bs m.k no_box in each m.k no_box m.inside (third_of (holds b (child c 0)) (holds b (child c 1)) (holds b (child c 2)) (holds b (child c 3)) (m.at no_box)))
-      (λ e. let m = held_by bs (child c 3) e in let b = get_or bs m.k no_box in each m.k no_box m.inside (fourth_of (holds b (child c 0)) (holds b (child c 1)) (holds b (child c 2)) (holds b (child c 3)) (m.at no_box)))
+      by_child (in_boxes bs) c P
+      (λ i few e.
+          let m = held_by bs (child c i) e in
+          each m.k no_box m.inside (child_passes (holds (get_or bs m.k no_box)) c i few (m.at no_box))) h
     where
       no_box : Extent
       no_box = record { lo = c; hi = c }
 
   pub in_some_box : (k : ℕ) (d : Extent) → k < length bs → has_child_where (holds (get_or bs k d)) c ≡ true → is_covered_by bs c ≡ true
-  in_some_box k d lt h =
-      let b = get_or bs k d in
-      let t : ℕ → Bool = λ i. in_boxes bs (child c i) in
-      four_from (holds b (child c 0)) (holds b (child c 1)) (holds b (child c 2)) (holds b (child c 3)) (is_covered_by bs c)
-      (λ e. first_of (t 0) (t 1) (t 2) (t 3) (in_boxes_at bs (child c 0) k d lt e))
-      (λ e. second_of (t 0) (t 1) (t 2) (t 3) (in_boxes_at bs (child c 1) k d lt e))
-      (λ e. third_of (t 0) (t 1) (t 2) (t 3) (in_boxes_at bs (child c 2) k d lt e))
-      (λ e. fourth_of (t 0) (t 1) (t 2) (t 3) (in_boxes_at bs (child c 3) k d lt e)) h
+  in_some_box k d lt h = by_child (holds (get_or bs k d)) c (is_covered_by bs c ≡ true) (λ i few e. child_passes (in_boxes bs) c i few (in_boxes_at bs (child c i) k d lt e)) h
 
 -- ---- in sync
 

@@ -10,6 +10,7 @@ use Rattle.amr_box.specs.declared.Cell.{Cell}
 use Rattle.amr_box.specs.declared.Face.{Face}
 use Rattle.amr_box.specs.Cells.{Extent, IsNear, cell, half, height, holds, parent, width}
 use Rattle.amr_box.proofs.CellEquality.{same_cell}
+use Rattle.amr_box.proofs.Children.{child_of_parent}
 use Rattle.amr_def.specs.declared.problem.Problem.{Problem}
 use Rattle.amr_def.specs.Domain.{domain, home_cell, in_domain, moved, square}
 use Rattle.amr_def.specs.Facts.{IsLevel, IsNestedLevel}
@@ -33,7 +34,7 @@ use Rattle.amr_layout.specs.Surroundings.{Around, around, is_coarse_fine, outsid
 use Rattle.amr_layout.specs.Adds.{HasCellsBeyond, cell_beyond}
 use Rattle.amr_layout.proofs.Edges.{on_each_side}
 use Rattle.amr_edges.proofs.Borders.{x_end-out, y_end-out}
-use Rattle.amr_edges.proofs.Parents.{child_there, half_after, half_before, parent_covered, parent_home}
+use Rattle.amr_edges.proofs.Parents.{child_there, half_after, half_before, parent_home}
 
 clash : {t : Bool} → t ≡ true → t ≡ false → ⊥
 clash e f = let wrong : true ≡ false = sym e ∙ f in cc
@@ -81,7 +82,7 @@ module _ (p : Problem) (l : ℕ) (k fine : Level) (klevel : IsLevel p l k) (flev
     inside_i = in_domain-inside p (suc l) i (flevel.inside i (sym (flevel.filled i) ∙ there))
 
     covered_i : is_covered fine.masses (parent i) ≡ true
-    covered_i = parent_covered fine.masses i there
+    covered_i = child_of_parent (λ k. is_some (fine.masses k)) i there
 
     abbrev h : Cell
     h = home_cell (domain p (suc l)) (cell x y)

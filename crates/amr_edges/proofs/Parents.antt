@@ -1,21 +1,21 @@
 -- The parents of the cells of a level and of cells one beside its domain.
-use Rattle.std.proofs.Common.{◌≡◌, ◌∙◌, ℕ, zero, suc, ◌+◌, ◌-◌, ◌/◌, ◌<◌, ◌≤◌, Bool, true, false, ◌||◌, ◌⊎◌, inl, inr, ℤ, pos, negsuc, ◌+ℤ◌, ◌-ℤ◌, ◌≤ℤ◌, refl, sym, ap, arith}
+use Rattle.std.proofs.Common.{◌≡◌, ◌∙◌, ℕ, zero, suc, ◌+◌, ◌-◌, ◌/◌, ◌<◌, ◌≤◌, Bool, true, false, ◌⊎◌, inl, inr, ℤ, pos, negsuc, ◌+ℤ◌, ◌-ℤ◌, ◌≤ℤ◌, refl, sym, ap, arith}
 use Rattle.std.specs.Prelude.{is_some}
 use Rattle.std.proofs.lemmas.Int.{ints}
-use Rattle.std.proofs.lemmas.Bool.{cases_lt, or_left, or_right}
+use Rattle.std.proofs.lemmas.Bool.{cases_lt}
 use Rattle.amr_box.specs.declared.Cell.{Cell}
 use Rattle.amr_box.specs.Cells.{cell, half, parent}
 use Rattle.amr_box.proofs.CellEquality.{same_cell}
+use Rattle.amr_box.proofs.Halves.{half_is}
 use Rattle.amr_def.specs.declared.problem.Problem.{Problem}
 use Rattle.amr_def.specs.Domain.{columns, domain, home_cell, is_periodic, rows, wrapped}
 use Rattle.amr_def.specs.Regrid.{odd}
 use Rattle.amr_def.specs.State.{Masses, is_covered}
-use Rattle.amr_def.proofs.Children.{covered_by}
 use Rattle.amr_def.proofs.Courants.{power_positive, some_columns, twice_as_many}
 use Rattle.amr_def.proofs.Flows.{wrapped_before, wrapped_end, wrapped_inside}
 use Rattle.amr_def.proofs.LevelLists.{HasAllChildren, child_0, child_1, child_2, child_3}
 use Rattle.amr_def.proofs.Nesting.{odd_small}
-use Rattle.amr_def.proofs.Nests.{even_is, half_and_odd, odd_is}
+use Rattle.amr_def.proofs.Nests.{half_and_odd}
 
 -- ---- a coordinate at most one past the ends of an axis
 
@@ -70,58 +70,16 @@ half_after z = by_odd (odd z) (half_and_odd z) (odd_small z)
 
 -- ---- a cell and its parent
 
-zero_or_one : (n : ℕ) → n ≤ 1 → (n ≡ 0) ⊎ (n ≡ 1)
-zero_or_one zero h = inl refl
-zero_or_one (suc zero) h = inr refl
-zero_or_one (suc (suc n)) h = absurd (omega arith)
-
 some_is : (fine : Masses) (q r : Cell) → q ≡ r → is_some (fine q) ≡ true → is_some (fine r) ≡ true
 some_is fine q r e h = sym (ap (λ (c : Cell). is_some (fine c)) e) ∙ h
 
-any_1 : (a b c d : Bool) → a ≡ true → (a || b || c || d) ≡ true
-any_1 a b c d e = or_left _ d (or_left _ c (or_left a b e))
-
-any_2 : (a b c d : Bool) → b ≡ true → (a || b || c || d) ≡ true
-any_2 a b c d e = or_left _ d (or_left _ c (or_right a b e))
-
-any_3 : (a b c d : Bool) → c ≡ true → (a || b || c || d) ≡ true
-any_3 a b c d e = or_left _ d (or_right _ c e)
-
-any_4 : (a b c d : Bool) → d ≡ true → (a || b || c || d) ≡ true
-any_4 a b c d e = or_right _ d e
-
 module _ (fine : Masses) (q : Cell) where
-  abbrev there : Cell → Bool
-  there c = is_some (fine c)
-
-  abbrev k0 : Bool
-  k0 = there (child_0 (parent q))
-
-  abbrev k1 : Bool
-  k1 = there (child_1 (parent q))
-
-  abbrev k2 : Bool
-  k2 = there (child_2 (parent q))
-
-  abbrev k3 : Bool
-  k3 = there (child_3 (parent q))
-
-  -- the parent of a cell of the finer level is covered
-  pub parent_covered : is_some (fine q) ≡ true → is_covered fine (parent q) ≡ true
-  parent_covered h = covered_by (parent q) fine ∙ by_odd (zero_or_one (odd q.x) (odd_small q.x)) (zero_or_one (odd q.y) (odd_small q.y))
-    where
-      by_odd : (odd q.x ≡ 0) ⊎ (odd q.x ≡ 1) → (odd q.y ≡ 0) ⊎ (odd q.y ≡ 1) → (k0 || k1 || k2 || k3) ≡ true
-      by_odd (inl ex) (inl ey) = any_1 k0 k1 k2 k3 (some_is fine q (child_0 (parent q)) (same_cell (even_is q.x ex) (even_is q.y ey)) h)
-      by_odd (inr ex) (inl ey) = any_2 k0 k1 k2 k3 (some_is fine q (child_1 (parent q)) (same_cell (odd_is q.x ex) (even_is q.y ey)) h)
-      by_odd (inl ex) (inr ey) = any_3 k0 k1 k2 k3 (some_is fine q (child_2 (parent q)) (same_cell (even_is q.x ex) (odd_is q.y ey)) h)
-      by_odd (inr ex) (inr ey) = any_4 k0 k1 k2 k3 (some_is fine q (child_3 (parent q)) (same_cell (odd_is q.x ex) (odd_is q.y ey)) h)
-
   -- where a covered cell has all of its children, each cell with a covered parent is one of the finer level
   pub child_there : HasAllChildren fine → is_covered fine (parent q) ≡ true → is_some (fine q) ≡ true
-  child_there all h = by_odd (zero_or_one (odd q.x) (odd_small q.x)) (zero_or_one (odd q.y) (odd_small q.y))
+  child_there all h = by_halves (half_is q.x) (half_is q.y)
     where
-      by_odd : (odd q.x ≡ 0) ⊎ (odd q.x ≡ 1) → (odd q.y ≡ 0) ⊎ (odd q.y ≡ 1) → is_some (fine q) ≡ true
-      by_odd (inl ex) (inl ey) = some_is fine (child_0 (parent q)) q (sym (same_cell (even_is q.x ex) (even_is q.y ey))) (all.k0 (parent q) h)
-      by_odd (inr ex) (inl ey) = some_is fine (child_1 (parent q)) q (sym (same_cell (odd_is q.x ex) (even_is q.y ey))) (all.k1 (parent q) h)
-      by_odd (inl ex) (inr ey) = some_is fine (child_2 (parent q)) q (sym (same_cell (even_is q.x ex) (odd_is q.y ey))) (all.k2 (parent q) h)
-      by_odd (inr ex) (inr ey) = some_is fine (child_3 (parent q)) q (sym (same_cell (odd_is q.x ex) (odd_is q.y ey))) (all.k3 (parent q) h)
+      by_halves : (q.x ≡ half q.x +ℤ half q.x) ⊎ (q.x ≡ half q.x +ℤ half q.x +ℤ pos 1) → (q.y ≡ half q.y +ℤ half q.y) ⊎ (q.y ≡ half q.y +ℤ half q.y +ℤ pos 1) → is_some (fine q) ≡ true
+      by_halves (inl ex) (inl ey) = some_is fine (child_0 (parent q)) q (sym (same_cell ex ey)) (all.k0 (parent q) h)
+      by_halves (inr ex) (inl ey) = some_is fine (child_1 (parent q)) q (sym (same_cell ex ey)) (all.k1 (parent q) h)
+      by_halves (inl ex) (inr ey) = some_is fine (child_2 (parent q)) q (sym (same_cell ex ey)) (all.k2 (parent q) h)
+      by_halves (inr ex) (inr ey) = some_is fine (child_3 (parent q)) q (sym (same_cell ex ey)) (all.k3 (parent q) h)

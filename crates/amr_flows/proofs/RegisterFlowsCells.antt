@@ -50,8 +50,8 @@ half_and z h e =
     (a.0, half_and_odd z ∙ (λ i. e i +ℤ e i +ℤ pos (a.1 i)))
 
 -- each cell is a child of its parent
-pub child_of_parent : (q c : Cell) → parent q ≡ c → (a : Bool) × ((i : Bool) × (q ≡ child_of c a i))
-child_of_parent q c e =
+pub is_child_of : (q c : Cell) → parent q ≡ c → (a : Bool) × ((i : Bool) × (q ≡ child_of c a i))
+is_child_of q c e =
     let x = half_and q.x c.x (ap (λ (d : Cell). d.x) e) in
     let y = half_and q.y c.y (ap (λ (d : Cell). d.y) e) in
     (x.0, (y.0, same_cell x.1 y.1))
@@ -111,7 +111,7 @@ module _ (fine : Masses) (children : HasAllChildren fine) where
 
   -- a cell is of the finer level where its parent is covered
   pub alike : (q : Cell) → is_some (fine q) ≡ is_covered fine (parent q)
-  alike q = by_test (is_covered fine (parent q)) refl (child_of_parent q (parent q) refl)
+  alike q = by_test (is_covered fine (parent q)) refl (is_child_of q (parent q) refl)
     where
       by_test : (t : Bool) → is_covered fine (parent q) ≡ t → (a : Bool) × ((i : Bool) × (q ≡ child_of (parent q) a i)) → is_some (fine q) ≡ is_covered fine (parent q)
       by_test true e t = ap (λ (k : Cell). is_some (fine k)) t.1.1 ∙ of_covered (parent q) t.0 t.1.0 e ∙ sym e

@@ -14,7 +14,7 @@ use Rattle.amr_def.proofs.Nesting.{home_shift, in_domain-inside}
 use Rattle.amr_def.proofs.Uncovered.{home_at, in_domain-yes}
 use Rattle.amr_layout.specs.Adds.{same_cell}
 use Rattle.amr_flows.proofs.RegisterFlowsSums.{below_same, below_sum, none_below, one_below, sum_below}
-use Rattle.amr_flows.proofs.RegisterFlowsCells.{parent_of, child_of, child_of-home, child_of-inside, child_of_parent}
+use Rattle.amr_flows.proofs.RegisterFlowsCells.{parent_of, child_of, child_of-home, child_of-inside, is_child_of}
 
 -- an offset by which no coordinate falls by more than 1
 pub record IsStep (o : Cell) : Type 0 where
@@ -131,7 +131,7 @@ module _ (p : Problem) (l : ℕ) (fine : Masses) (there : Cell → Bool) (c : Ce
       from_gate h =
           let o = home (moved u to) in
           let parts = and_parts (in_domain (domain p (suc l)) o && not (there o)) (same_cell (parent o) c) h in
-          let child = child_of_parent o c (coordinates_same (parent o) c parts.1) in
+          let child = is_child_of o c (coordinates_same (parent o) c parts.1) in
           let side = crossing.each child.0 child.1.0 in
           by_side child.0 child.1.0 side.0 child.1.1 side.1
         where

@@ -22,10 +22,10 @@ use Rattle.amr_flux.proofs.Places.{around, IsXFace, IsYFace, high_at, mark_here,
 
 -- ---- which faces are border faces
 
-beyond : (a b m : Bool) → a ≡ true → b ≡ false → (a && not b && m) ≡ m
+pub beyond : (a b m : Bool) → a ≡ true → b ≡ false → (a && not b && m) ≡ m
 beyond a b m e h = rw (e, h) refl
 
-within_box : (a b m : Bool) → b ≡ true → (a && not b && m) ≡ false
+pub within_box : (a b m : Bool) → b ≡ true → (a && not b && m) ≡ false
 within_box true b m h = rw h refl
 within_box false b m h = refl
 

@@ -5,6 +5,7 @@ use Rattle.std.proofs.lemmas.Int.{ints}
 use Rattle.amr_box.specs.declared.Cell.{Cell}
 use Rattle.amr_box.specs.declared.Axis.TheVariants.{X, Y}
 use Rattle.amr_box.specs.Cells.{Extent, cell, height, holds, width}
+use Rattle.amr_box.proofs.Tests.{and_either}
 use Rattle.amr_def.specs.declared.problem.Problem.{Problem}
 use Rattle.amr_def.specs.Flux.{face}
 use Rattle.amr_patch.specs.declared.patches.Patch.{Patch}
@@ -25,12 +26,6 @@ cell_at b i j = cell (b.lo.x -ℤ pos 1 +ℤ pos i) (b.lo.y -ℤ pos 1 +ℤ pos 
 at_cell : (b : Extent) (i j : ℕ) → IsAt b (cell_at b i j) i j
 at_cell b i j = record { x = omega (arith, ints); y = omega (arith, ints) }
 
-reach : (a b c : Bool) → a ≡ true → (b ≡ true) ⊎ (c ≡ true) → (a && (b || c)) ≡ true
-reach a b c e (inl h) = rw (e, h) refl
-reach true true c e (inr h) = refl
-reach true false c e (inr h) = h
-reach false b c e (inr h) = cc
-
 module _ (q : Patch) (small : (c : Cell) → IsTrue (in_reach q.bx c) → value_in q c < 2 ^ 31) where
   value_small : (i j : ℕ) → in_reach q.bx (cell_at q.bx i j) ≡ true → value (width q.bx) q.values.items i j < 2 ^ 31
   value_small i j h = let P : ℕ → Type 0 = λ n. n < 2 ^ 31 in subst P (value_here q (cell_at q.bx i j) i j (at_cell q.bx i j)) (small (cell_at q.bx i j) h)
@@ -44,14 +39,14 @@ module _ (q : Patch) (small : (c : Cell) → IsTrue (in_reach q.bx c) → value_
   x_small = record {
     at = λ i j hi hj.
         let s = sides q.bx q.near in
-        value_small i (j + 1) (reach _ _ _ (in_grown i (j + 1) hi (omega arith)) (inr (is_between q.bx.lo.y q.bx.hi.y (q.bx.lo.y -ℤ pos 1 +ℤ pos (j + 1)) (omega (arith, ints)) (omega (arith, ints, s.high)))));
+        value_small i (j + 1) (and_either _ _ _ (in_grown i (j + 1) hi (omega arith)) (inr (is_between q.bx.lo.y q.bx.hi.y (q.bx.lo.y -ℤ pos 1 +ℤ pos (j + 1)) (omega (arith, ints)) (omega (arith, ints, s.high)))));
   }
 
   pub y_small : AreYSmall (width q.bx) (height q.bx) q.values.items
   y_small = record {
     at = λ i j hi hj.
         let s = sides q.bx q.near in
-        value_small (i + 1) j (reach _ _ _ (in_grown (i + 1) j (omega arith) hj) (inl (is_between q.bx.lo.x q.bx.hi.x (q.bx.lo.x -ℤ pos 1 +ℤ pos (i + 1)) (omega (arith, ints)) (omega (arith, ints, s.wide)))));
+        value_small (i + 1) j (and_either _ _ _ (in_grown (i + 1) j (omega arith) hj) (inl (is_between q.bx.lo.x q.bx.hi.x (q.bx.lo.x -ℤ pos 1 +ℤ pos (i + 1)) (omega (arith, ints)) (omega (arith, ints, s.wide)))));
   }
 
 -- ---- fluxes

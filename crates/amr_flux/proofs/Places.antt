@@ -1,6 +1,6 @@
 -- The entries of a patch's lists, and its cells and faces.
 use Rattle.std.proofs.Common.{◌≡◌, ℕ, ◌+◌, ◌<◌, ◌≤◌, Bool, true, false, ◌&&◌, ℤ, pos, negsuc, ◌+ℤ◌, ◌-ℤ◌, ◌≤ℤ◌, ◌<ℤ◌, refl, sym, ap, ◌∙◌, arith}
-use Rattle.std.proofs.lemmas.Bool.{false_from_ne_true}
+use Rattle.std.proofs.lemmas.Bool.{and_parts, false_from_ne_true}
 use Rattle.std.specs.Prelude.{not, slice_index, slice_index_or}
 use Rattle.std.proofs.lemmas.Int.{ints}
 use Rattle.amr_box.specs.declared.Cell.{Cell}
@@ -180,13 +180,9 @@ unmarked true false true e h = cc
 unmarked true false false e h = refl
 unmarked false b m e h = cc
 
-of_box : (a b : Bool) → (a && b) ≡ true → a ≡ true
-of_box true b e = refl
-of_box false b e = cc
-
 pub owned_of_box : (q : Patch) (f : Face) → owns q f ≡ true → is_face_of (box q) f ≡ true
 unfolding owns
-owned_of_box q f own = of_box (is_face_of (box q) f) _ own
+owned_of_box q f own = (and_parts (is_face_of (box q) f) _ own).0
 
 pub owned_unmarked : (q : Patch) (f : Face) → owns q f ≡ true → holds (box q) (high_cell f) ≡ false → mark_in q (high_cell f) ≡ false
 unfolding owns is_border

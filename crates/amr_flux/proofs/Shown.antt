@@ -10,6 +10,7 @@ use Rattle.amr_box.specs.declared.Face.{Face}
 use Rattle.amr_box.specs.declared.Axis.{Axis}
 use Rattle.amr_box.specs.declared.Axis.TheVariants.{X, Y}
 use Rattle.amr_box.specs.Cells.{Extent, at_least_zero, cell, extent, height, holds, width, within}
+use Rattle.amr_box.proofs.Tests.{and_either}
 use Rattle.amr_def.specs.declared.problem.Problem.{Problem}
 use Rattle.amr_def.specs.State.{Masses}
 use Rattle.amr_def.specs.Flux.{Fluxes, face, flux_at, high_cell, low_cell, net}
@@ -23,21 +24,15 @@ use Rattle.amr_flux.proofs.Given.{same_face, x_inner, y_inner}
 
 -- ---- fluxes
 
-both : (a b c : Bool) → a ≡ true → (b ≡ true) ⊎ (c ≡ true) → (a && (b || c)) ≡ true
-both a b c e (inl h) = rw (e, h) refl
-both true true c e (inr h) = refl
-both true false c e (inr h) = h
-both false b c e (inr h) = cc
-
 -- a cell in a row of the box, or in a column of it, is in reach
 in_row : (b : Extent) (c : Cell) → (b.lo.x -ℤ pos 1) ≤ℤ c.x → c.x ≤ℤ (b.hi.x +ℤ pos 1) → b.lo.y ≤ℤ c.y → c.y ≤ℤ b.hi.y → in_reach b c ≡ true
 in_row b c west east south north =
-    both (holds (grown b) c) (within b.lo.x b.hi.x c.x) (within b.lo.y b.hi.y c.y)
+    and_either (holds (grown b) c) (within b.lo.x b.hi.x c.x) (within b.lo.y b.hi.y c.y)
     (is_inside (grown b) c (record { west = west; east = east; south = omega (arith, ints, south); north = omega (arith, ints, north) })) (inr (is_between b.lo.y b.hi.y c.y south north))
 
 in_column : (b : Extent) (c : Cell) → b.lo.x ≤ℤ c.x → c.x ≤ℤ b.hi.x → (b.lo.y -ℤ pos 1) ≤ℤ c.y → c.y ≤ℤ (b.hi.y +ℤ pos 1) → in_reach b c ≡ true
 in_column b c west east south north =
-    both (holds (grown b) c) (within b.lo.x b.hi.x c.x) (within b.lo.y b.hi.y c.y)
+    and_either (holds (grown b) c) (within b.lo.x b.hi.x c.x) (within b.lo.y b.hi.y c.y)
     (is_inside (grown b) c (record { west = omega (arith, ints, west); east = omega (arith, ints, east); south = south; north = north })) (inl (is_between b.lo.x b.hi.x c.x west east))
 
 -- the cells on both sides of a face of the box are in reach

@@ -6,6 +6,7 @@ use Rattle.std.specs.Option.{unwrap_or}
 use Rattle.std.proofs.lemmas.Int.{ints}
 use Rattle.amr_box.specs.declared.Cell.{Cell}
 use Rattle.amr_box.specs.Cells.{cell, extent, parent, has_child_where, Extent, within}
+use Rattle.amr_box.proofs.Children.{child_of_parent}
 use Rattle.amr_def.specs.declared.problem.Problem.{Problem}
 use Rattle.amr_def.specs.declared.problem.Row.{Row}
 use Rattle.amr_def.specs.Domain.{domain, home_cell, moved, is_near}
@@ -21,7 +22,7 @@ use Rattle.amr_def.proofs.Uncovered.{home_at, child_inside, half-double}
 use Rattle.amr_def.proofs.Nesting.{in_domain-inside, near_itself}
 use Rattle.amr_def.proofs.Chain.{nth}
 use Rattle.amr_laws.proofs.CellSets.{both_parts, left, right, any_in_box}
-use Rattle.amr_laws.proofs.Coverage.{child_of_parent, of_parent}
+use Rattle.amr_laws.proofs.Coverage.{of_parent}
 use Rattle.amr_laws.proofs.Refill.{Covers, NewFacts, new_facts, is_some-given}
 use Rattle.amr_laws.proofs.SoundRegrid.{before, boxes, count}
 

@@ -6,6 +6,7 @@ use Rattle.std.specs.Option.{unwrap_or}
 use Rattle.std.proofs.lemmas.Int.{ints}
 use Rattle.amr_box.specs.declared.Cell.{Cell}
 use Rattle.amr_box.specs.Cells.{parent, Extent}
+use Rattle.amr_box.proofs.Children.{child_of_parent}
 use Rattle.amr_def.specs.declared.problem.Problem.{Problem}
 use Rattle.amr_def.specs.Domain.{domain, in_domain, is_near}
 use Rattle.amr_def.specs.State.{Masses, Level, in_boxes, is_covered, is_covered_by, mass_of, children_mass}
@@ -22,7 +23,7 @@ use Rattle.amr_def.proofs.Nesting.{in_domain-inside, children, covered_boxes, co
 use Rattle.amr_def.proofs.Nests.{half_and_odd, shares_sum}
 use Rattle.amr_laws.proofs.CellSets.{right}
 use Rattle.amr_laws.proofs.NewLevels.{AreNewBoxes}
-use Rattle.amr_laws.proofs.Coverage.{new_boxes-good, new_boxes-cover, child_of_parent}
+use Rattle.amr_laws.proofs.Coverage.{new_boxes-good, new_boxes-cover}
 
 -- ---- the new boxes of all levels
 

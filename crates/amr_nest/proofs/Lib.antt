@@ -1,3 +1,4 @@
+pub mod Gathered
 pub mod Turns
 pub mod Reaches
 pub mod Projected

@@ -5,6 +5,7 @@ use Rattle.std.proofs.lemmas.Int.{ints}
 use Rattle.std.proofs.lemmas.List.Folds.{list_any_at}
 use Rattle.amr_box.specs.declared.Cell.{Cell}
 use Rattle.amr_box.specs.Cells.{Extent, IsProper, child, has_child_where, holds}
+use Rattle.amr_box.proofs.Tests.{or_last, or_swapped}
 use Rattle.amr_def.specs.Domain.{Domain, domain_box, home_cell, in_blocks, in_domain, is_near, moved, square}
 use Rattle.amr_def.specs.Facts.{IsAligned, IsNestedIn}
 use Rattle.amr_def.specs.NewBoxes.{is_projected}
@@ -15,16 +16,9 @@ use Rattle.amr_nest.proofs.Reaches.{domain_is, near_is_reached, parents_hold, re
 
 -- ---- one of two tests
 
-swapped : (a b c d : Bool) → ((a || b) || (c || d)) ≡ ((a || c) || (b || d))
-swapped true b c d = refl
-swapped false true true d = refl
-swapped false true false d = refl
-swapped false false true d = refl
-swapped false false false d = refl
-
 any_or : (A : Type 0) (f g : A → Bool) (xs : List A) → list_any (λ x. f x || g x) xs ≡ (list_any f xs || list_any g xs)
 any_or A f g [] = refl
-any_or A f g (x ∷ xs) = ap (λ (t : Bool). (f x || g x) || t) (any_or A f g xs) ∙ swapped (f x) (g x) (list_any f xs) (list_any g xs)
+any_or A f g (x ∷ xs) = ap (λ (t : Bool). (f x || g x) || t) (any_or A f g xs) ∙ or_swapped (f x) (g x) (list_any f xs) (list_any g xs)
 
 any_same : (A : Type 0) (f g : A → Bool) → ((x : A) → f x ≡ g x) → (xs : List A) → list_any f xs ≡ list_any g xs
 any_same A f g same [] = refl
@@ -36,9 +30,9 @@ any_none A (x ∷ xs) = any_none A xs
 
 pub child_or : (f g : Cell → Bool) (c : Cell) → has_child_where (λ k. f k || g k) c ≡ (has_child_where f c || has_child_where g c)
 child_or f g c =
-    ap (λ (t : Bool). (t || (f (child c 2) || g (child c 2))) || (f (child c 3) || g (child c 3))) (swapped (f (child c 0)) (g (child c 0)) (f (child c 1)) (g (child c 1)))
-    ∙ ap (λ (t : Bool). t || (f (child c 3) || g (child c 3))) (swapped (f (child c 0) || f (child c 1)) (g (child c 0) || g (child c 1)) (f (child c 2)) (g (child c 2)))
-    ∙ swapped ((f (child c 0) || f (child c 1)) || f (child c 2)) ((g (child c 0) || g (child c 1)) || g (child c 2)) (f (child c 3)) (g (child c 3))
+    ap (λ (t : Bool). (t || (f (child c 2) || g (child c 2))) || (f (child c 3) || g (child c 3))) (or_swapped (f (child c 0)) (g (child c 0)) (f (child c 1)) (g (child c 1)))
+    ∙ ap (λ (t : Bool). t || (f (child c 3) || g (child c 3))) (or_swapped (f (child c 0) || f (child c 1)) (g (child c 0) || g (child c 1)) (f (child c 2)) (g (child c 2)))
+    ∙ or_swapped ((f (child c 0) || f (child c 1)) || f (child c 2)) ((g (child c 0) || g (child c 1)) || g (child c 2)) (f (child c 3)) (g (child c 3))
 
 pub child_same : (f g : Cell → Bool) (c : Cell) → f (child c 0) ≡ g (child c 0) → f (child c 1) ≡ g (child c 1) → f (child c 2) ≡ g (child c 2) → f (child c 3) ≡ g (child c 3) → has_child_where f c ≡ has_child_where g c
 child_same f g c e0 e1 e2 e3 = λ i. e0 i || e1 i || e2 i || e3 i
@@ -128,13 +122,9 @@ found_at : (f : Extent → Bool) (bs : List Extent) → list_any f bs ≡ true �
 found_at f [] h = absurd (cc)
 found_at f (b ∷ bs) h = choose (f b) refl (found_at f bs)
   where
-    last : (s t : Bool) → (s || t) ≡ true → s ≡ false → t ≡ true
-    last true t h e = absurd (cc)
-    last false t h e = h
-
     choose : (v : Bool) → f b ≡ v → (list_any f bs ≡ true → IsFoundAt f bs) → IsFoundAt f (b ∷ bs)
     choose true e more = record { place = 0; below = omega arith; passes = λ d. e }
-    choose false e more = let k = more (last (f b) (list_any f bs) h e) in record { place = suc k.place; below = omega (arith, k.below); passes = k.passes }
+    choose false e more = let k = more (or_last (f b) (list_any f bs) h e) in record { place = suc k.place; below = omega (arith, k.below); passes = k.passes }
 
 pub all_nested : (d : Domain) (blocking : ℕ) (fine coarse : List Extent) → ((m : ℕ) (e : Extent) → m < length fine → IsNestedBox d blocking coarse (get_or fine m e)) → IsNestedIn d blocking fine coarse
 all_nested d blocking fine coarse each = record {

@@ -12,6 +12,7 @@ use Rattle.amr_box.specs.declared.Cell.{Cell}
 use Rattle.amr_box.specs.Cells.{Extent, HasCorners, IsBoxOf, IsNear, IsProper, cell, cells_of, common, extent, half, has_child_where, holds, parent, within}
 use Rattle.amr_box.proofs.CellLists.{IsFound, any_in_box, found_in_box}
 use Rattle.amr_box.proofs.Halves.{coarsened}
+use Rattle.amr_box.proofs.Tests.{or_last}
 use Rattle.amr_def.proofs.Nesting.{odd_small}
 use Rattle.amr_def.proofs.Nests.{half_and_odd}
 use Rattle.amr_def.specs.Domain.{Domain, domain_box, home_cell, in_domain, is_inside, is_near, moved}
@@ -65,13 +66,9 @@ pub reached_found : (d : Domain) (b : Extent) (n : ℕ) (c : Cell) → is_reache
 reached_found d b zero c h = absurd (cc)
 reached_found d b (suc n) c h = choose (is_reached d b n c) refl (reached_found d b n c)
   where
-    last : (s t : Bool) → (s || t) ≡ true → s ≡ false → t ≡ true
-    last true t h e = absurd (cc)
-    last false t h e = h
-
     choose : (v : Bool) → is_reached d b n c ≡ v → (is_reached d b n c ≡ true → IsReachedSome d b n c) → IsReachedSome d b (suc n) c
     choose true e more = let k = more e in record { turn = k.turn; below = omega (arith, k.below); at = k.at }
-    choose false e more = record { turn = n; below = omega arith; at = last (is_reached d b n c) (is_reached_at d b n c) h e }
+    choose false e more = record { turn = n; below = omega arith; at = or_last (is_reached d b n c) (is_reached_at d b n c) h e }
 
 pub reached_from : (d : Domain) (b : Extent) (n k : ℕ) (c : Cell) → k < n → is_reached_at d b k c ≡ true → is_reached d b n c ≡ true
 reached_from d b zero k c below h = absurd (omega arith)

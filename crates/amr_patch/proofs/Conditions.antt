@@ -3,15 +3,13 @@ use Rattle.std.proofs.Common.{◌≡◌, ◌∙◌, Bool, true, ◌&&◌, ℤ, p
 use Rattle.amr_box.specs.declared.Cell.{Cell}
 use Rattle.amr_box.specs.declared.Axis.{Axis}
 use Rattle.amr_box.specs.Cells.{Extent, HasCorners, holds, within}
+use Rattle.amr_box.proofs.Boxes.{and-yes}
 use Rattle.amr_patch.specs.Places.{grown, is_end, on_edge}
 
 pub grown_is : (b g : Extent) (c : Cell) → HasCorners g (b.lo.x -ℤ pos 1) (b.lo.y -ℤ pos 1) (b.hi.x +ℤ pos 1) (b.hi.y +ℤ pos 1) → holds g c ≡ holds (grown b) c
 grown_is b g c k = ap (λ (e : Extent). holds e c) (λ i. record { lo = record { x = k.west_is i; y = k.south_is i }; hi = record { x = k.east_is i; y = k.north_is i } })
 
-pub and_both : (a b r : Bool) → a ≡ true → r ≡ b → r ≡ (a && b)
-and_both a b r e f = rw e f
-
-pub ruleset conditions = (grown_is, and_both)
+pub ruleset conditions = (grown_is, and-yes)
 
 -- ---- faces
 

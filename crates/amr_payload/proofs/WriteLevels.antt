@@ -285,23 +285,19 @@ module _ (w : Width) (code : IsCode w (2 ^ 32)) (p : Problem) (n : ℕ) (small :
 
 -- ---- two levels of a sound state
 
+if_on : (a b : Bool) → (a ≡ true → b ≡ true) → (not a || b) ≡ true
+if_on true b h = h refl
+if_on false b h = refl
+
 pub surrounds_from : (d : Domain) (coarse fine : List Extent) → ((c : Cell) → in_domain d c ≡ true → is_near d 1 (is_covered_by fine) c ≡ true → in_boxes coarse c ≡ true) → surrounds d coarse fine ≡ true
 surrounds_from d coarse fine h =
     all_cells (λ c. not (is_near d 1 (is_covered_by fine) c) || in_boxes coarse c) (domain_box d)
     (λ c held. if_on (is_near d 1 (is_covered_by fine) c) (in_boxes coarse c) (h c (sym (domain_box_cells d c) ∙ held)))
-  where
-    if_on : (a b : Bool) → (a ≡ true → b ≡ true) → (not a || b) ≡ true
-    if_on true b h = h refl
-    if_on false b h = refl
 
 pub in_sync_from : (d : Domain) (coarse fine : Masses) → ((c : Cell) → is_covered fine c ≡ true → mass_of coarse c ≡ children_mass fine c) → is_in_sync d coarse fine ≡ true
 in_sync_from d coarse fine h =
     all_cells (λ c. not (is_covered fine c) || (mass_of coarse c == children_mass fine c)) (domain_box d)
     (λ c held. if_on (is_covered fine c) (mass_of coarse c == children_mass fine c) (λ covered. eq-eqb (mass_of coarse c) (children_mass fine c) (h c covered)))
-  where
-    if_on : (a b : Bool) → (a ≡ true → b ≡ true) → (not a || b) ≡ true
-    if_on true b h = h refl
-    if_on false b h = refl
 
 pub over_from : (p : Problem) (n l : ℕ) (below k : Level) → IsGood p n (suc l) k → IsNestedLevel p l below k → ((c : Cell) → is_covered k.masses c ≡ true → mass_of below.masses c ≡ children_mass k.masses c) → IsOver p n l below k
 over_from p n l below k good nested synced = record {

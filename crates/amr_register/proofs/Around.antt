@@ -9,6 +9,7 @@ use Rattle.std.proofs.lemmas.List.Folds.{Any-from_list_any, list_any_at}
 use Rattle.amr_box.specs.declared.Cell.{Cell}
 use Rattle.amr_box.specs.Cells.{Extent, IsBoxOf, IsNear, IsProper, at_least_zero, cell, child, half, has_child_where, holds}
 use Rattle.amr_box.proofs.CellEquality.{same_cell}
+use Rattle.amr_box.proofs.Children.{has_child_more}
 use Rattle.amr_def.specs.declared.problem.Problem.{Problem}
 use Rattle.amr_def.specs.Domain.{Domain, domain, home_cell, in_domain, is_near, moved, wrapped}
 use Rattle.amr_def.specs.State.{Level, Masses, is_covered}
@@ -243,17 +244,6 @@ and_alike true true false h = refl
 and_alike true false false h = refl
 and_alike false true false h = refl
 and_alike false false false h = refl
-
-or_more : (a a' b b' : Bool) → (a ≡ true → a' ≡ true) → (b ≡ true → b' ≡ true) → (a || b) ≡ true → (a' || b') ≡ true
-or_more a a' b b' f g h = by_case (or_cases a b h)
-  where
-    by_case : (a ≡ true) ⊎ (b ≡ true) → (a' || b') ≡ true
-    by_case (inl e) = or_left a' b' (f e)
-    by_case (inr e) = or_right a' b' (g e)
-
-has_child_more : (f g : Cell → Bool) → ((c : Cell) → f c ≡ true → g c ≡ true) → (c : Cell) → has_child_where f c ≡ true → has_child_where g c ≡ true
-has_child_more f g more c h =
-    or_more _ _ _ _ (λ a. or_more _ _ _ _ (λ b. or_more _ _ _ _ (more (child c 0)) (more (child c 1)) b) (more (child c 2)) a) (more (child c 3)) h
 
 pub half_order : (a b : ℤ) → a ≤ℤ b → half a ≤ℤ half b
 half_order a b h = omega (arith, ints, half_and_odd a, odd_small a, half_and_odd b, odd_small b)

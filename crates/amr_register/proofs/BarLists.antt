@@ -14,6 +14,7 @@ use Rattle.std.proofs.lemmas.List.Quantifiers.{all_pairs_push}
 use Rattle.std.proofs.lemmas.List.Sorted.{All-permutation, list_any-IsPermutation}
 use Rattle.amr_box.specs.declared.Cell.{Cell}
 use Rattle.amr_box.specs.Cells.{Extent, HasCorners, IsNear, cell, extent, half, height, holds, within}
+use Rattle.amr_box.proofs.Tests.{and_shared}
 use Rattle.amr_def.specs.Facts.{IsAligned}
 use Rattle.amr_def.specs.State.{Masses, in_boxes, is_covered}
 use Rattle.amr_def.proofs.LevelLists.{child_0}
@@ -37,10 +38,6 @@ first_rows b n = extent b.lo (cell b.hi.x (b.lo.y +ℤ pos n -ℤ pos 1))
 abbrev pub row_at : Extent → ℕ → Extent
 row_at b n = extent (cell b.lo.x (b.lo.y +ℤ pos n)) (cell b.hi.x (b.lo.y +ℤ pos n))
 
-both_and : (x a b : Bool) → ((x && a) || (x && b)) ≡ (x && (a || b))
-both_and true a b = refl
-both_and false a b = refl
-
 none_within : (low y : ℤ) → within low (low +ℤ pos 0 -ℤ pos 1) y ≡ false
 none_within low y = grind (arith, ints)
 
@@ -52,7 +49,7 @@ no_row_holds b c = ap (λ (t : Bool). within b.lo.x b.hi.x c.x && t) (none_withi
 
 one_row_holds : (b : Extent) (n : ℕ) (c : Cell) → (holds (first_rows b n) c || holds (row_at b n) c) ≡ holds (first_rows b (n + 1)) c
 one_row_holds b n c =
-    both_and (within b.lo.x b.hi.x c.x) (within b.lo.y (b.lo.y +ℤ pos n -ℤ pos 1) c.y) (within (b.lo.y +ℤ pos n) (b.lo.y +ℤ pos n) c.y)
+    and_shared (within b.lo.x b.hi.x c.x) (within b.lo.y (b.lo.y +ℤ pos n -ℤ pos 1) c.y) (within (b.lo.y +ℤ pos n) (b.lo.y +ℤ pos n) c.y)
     ∙ ap (λ (t : Bool). within b.lo.x b.hi.x c.x && t) (one_within b.lo.y c.y n)
 
 -- the next row has no cell of the first n

@@ -7,13 +7,13 @@ use Rattle.amr_box.proofs.Tests.{same_test}
 use Rattle.amr_box.specs.Cells.{cells_of, child, Extent, extent, half, has_child_where, holds, parent, within}
 use Rattle.amr_box.proofs.CellEquality.{same_cells}
 use Rattle.amr_box.proofs.CellLists.{any_in_box, found_in_box}
+use Rattle.amr_box.proofs.Children.{child_of_parent}
 use Rattle.amr_cluster.proofs.Rounds.{filter_same}
 use Rattle.amr_def.specs.Domain.{has_cell_where, refined}
 use Rattle.amr_def.proofs.ClusterLaws.{Each, own_holds}
 use Rattle.amr_def.proofs.Uncovered.{half-double, half-double_next}
 use Rattle.amr_laws.proofs.Blocks.{IsSide, block_at, block_of, blocking, holds-refined, parent-block}
 use Rattle.amr_laws.proofs.CellSets.{both_parts, each_held}
-use Rattle.amr_laws.proofs.Coverage.{child_of_parent}
 
 -- ---- one cell of a block
 

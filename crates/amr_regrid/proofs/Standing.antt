@@ -8,6 +8,7 @@ use Rattle.std.proofs.lemmas.Int.{ints}
 use Rattle.std.proofs.lemmas.Bool.{or_left}
 use Rattle.amr_box.specs.declared.Cell.{Cell}
 use Rattle.amr_box.specs.Cells.{Extent, holds, parent}
+use Rattle.amr_box.proofs.Children.{child_of_parent}
 use Rattle.amr_def.specs.declared.problem.Problem.{Problem}
 use Rattle.amr_def.specs.Domain.{domain, domain_box, in_domain}
 use Rattle.amr_def.specs.Facts.{IsAligned, IsLevel}
@@ -17,7 +18,6 @@ use Rattle.amr_def.specs.State.{Level, Masses, in_boxes, is_covered}
 use Rattle.amr_def.proofs.LevelLists.{IsCellInside}
 use Rattle.amr_def.proofs.Nesting.{covered_there}
 use Rattle.amr_def.proofs.Sizes.{doubled_small}
-use Rattle.amr_laws.proofs.Coverage.{child_of_parent}
 use Rattle.amr_laws.proofs.NewLevels.{AreNewBoxes}
 use Rattle.amr_laws.proofs.Refill.{NewFacts, Surrounds, covered_by_boxes, new_facts, new_is_level, new_is_nested, new_level, next_surrounds}
 use Rattle.amr_laws.proofs.SoundRegrid.{new_boxes_count}

@@ -125,6 +125,11 @@ window-bit row k i low high from to mask h below f t is =
     ∙ ap (λ (t : Bool). nat_le low (64 * k + i) && t) (high-part high (64 * k) i h below))
     ∙ ap (λ (t : Bool). (nat_le low (64 * k + i) && nat_le (64 * k + i) high) && t) (row_bit-at row k i h)
 
+no-and : (a b c : Bool) → b ≡ false → ((a && b) && c) ≡ false
+no-and true true c e = cc
+no-and true false c e = refl
+no-and false b c e = refl
+
 -- ---- the bits of a row between two places
 
 module _ (row : List ℕ) (low high : ℕ) where
@@ -135,12 +140,7 @@ module _ (row : List ℕ) (low high : ℕ) where
   below-window x h = let no : nat_le low x ≡ false = grind (arith, nat_tests) in rw no refl
 
   pub above-window : (x : ℕ) → high < x → window x ≡ false
-  above-window x h = let no : nat_le x high ≡ false = grind (arith, nat_tests) in outside (nat_le low x) (nat_le x high) (row_bit row x) no
-    where
-      outside : (a b c : Bool) → b ≡ false → ((a && b) && c) ≡ false
-      outside true true c e = cc
-      outside true false c e = refl
-      outside false b c e = refl
+  above-window x h = let no : nat_le x high ≡ false = grind (arith, nat_tests) in no-and (nat_le low x) (nat_le x high) (row_bit row x) no
 
   pub in-window : (x : ℕ) → low ≤ x → x ≤ high → window x ≡ row_bit row x
   in-window x h k =
@@ -211,11 +211,6 @@ word_bit-at word base t h =
 
 word_bit-below : (word base x : ℕ) → x < base → word_bit word base x ≡ false
 word_bit-below word base x h = let no : nat_le base x ≡ false = grind (arith, nat_tests) in rw no refl
-
-no-and : (a b c : Bool) → b ≡ false → ((a && b) && c) ≡ false
-no-and true true c e = cc
-no-and true false c e = refl
-no-and false b c e = refl
 
 word_bit-above : (word base x : ℕ) → base + 64 ≤ x → word_bit word base x ≡ false
 word_bit-above word base x h =

@@ -5,7 +5,7 @@ use Rattle.std.specs.Prelude.{◌==◌, bit_and, bit_or, bit_xor, count_ones}
 use Rattle.std.specs.Int.{bit_at}
 use mir.Val.{bool_byte}
 use Rattle.std.specs.List.{slice_range}
-use Rattle.std.proofs.lemmas.Bool.{cases_lt, false≢true}
+use Rattle.std.proofs.lemmas.Bool.{and_parts, cases_lt, false≢true}
 use Rattle.std.proofs.lemmas.Nat.Bits.{bit_at-lt, bit_at-suc, bit_at-zero, bit_at_and, bit_at_cat_low, bit_at_lowest, bit_at_or, bit_at_xor}
 use Rattle.amr_sign.specs.Counts.{bit, count_to}
 use Rattle.amr_sign.specs.Stretches.{begins, ends, in_span, open_stretches, preceding}
@@ -113,10 +113,6 @@ no-ones count = let none : count_ones 0 ≤ 0 = ones-le 0 0 (omega arith) in ome
 
 -- ---- places of a row between two others
 
-and-left : (a b : Bool) → (a && b) ≡ true → a ≡ true
-and-left true b e = refl
-and-left false b e = absurd (false≢true e)
-
 module _ (row : List ℕ) (low high : ℕ) where
   span-inside : (x : ℕ) → in_span row low high x ≡ true → (low ≤ x) × (x ≤ high)
   span-inside x on = choose (cases_lt x low) (cases_lt high x)
@@ -128,13 +124,13 @@ module _ (row : List ℕ) (low high : ℕ) where
 
   pub begins-inside : (size x : ℕ) → size ≡ high + 1 - low → begins (in_span row low high) x ≡ true → (low ≤ x) × (x < low + size)
   begins-inside size x e on =
-      let at = span-inside x (and-left (in_span row low high x) (not (preceding (in_span row low high) x)) on) in
+      let at = span-inside x (and_parts (in_span row low high x) (not (preceding (in_span row low high) x)) on).0 in
       (at.0, omega (arith, at.0, at.1))
 
   pub ends-inside : (size x : ℕ) → size ≡ high + 2 - low → ends (in_span row low high) x ≡ true → (low ≤ x) × (x < low + size)
   ends-inside size zero e on = absurd (false≢true on)
   ends-inside size (suc x) e on =
-      let at = span-inside x (and-left (in_span row low high x) (not (in_span row low high (suc x))) on) in
+      let at = span-inside x (and_parts (in_span row low high x) (not (in_span row low high (suc x))) on).0 in
       (omega (arith, at.0), omega (arith, at.0, at.1))
 
   pub none-preceding : (x : ℕ) → x ≤ low → preceding (in_span row low high) x ≡ false

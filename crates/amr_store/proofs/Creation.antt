@@ -9,7 +9,7 @@ use Rattle.amr_disk.specs.Image.{Torn, written_at}
 use Rattle.amr_disk.specs.Replay.{torn_written}
 use Rattle.amr_store.proofs.Images.{plain_sound, base_plain, held_of, stored_is, and_first, and_second, and_third}
 use Rattle.amr_store.proofs.Places.{torn_outside, long_same, word_same, range_same}
-use Rattle.amr_store.proofs.Slots.{sound_closed, entry_closed}
+use Rattle.amr_store.proofs.Slots.{sound_closed, entry_closed, second_false}
 use Rattle.amr_store.proofs.Whole.{Whole}
 use Rattle.amr_store.proofs.Writes.{written_index, written_length, written_byte, long_from, range_is}
 use Rattle.std.specs.Prelude.{option_map}
@@ -321,10 +321,6 @@ laid_twice version s head problem size is text_fits size_fits short =
             absurd (omega arith);
       };
     }
-  where
-    second_false : (a b : Bool) → a ≡ true → (a && b) ≡ false → b ≡ false
-    second_false true b p q = q
-    second_false false b p q = let wrong : false ≡ true = p in cc
 
 -- what is written where the gate past the store is closed too
 pub laid_thrice : (version : ℕ) (s head problem : List ℕ) (size : ℕ) → head ≡ head_bytes 0 version problem size → length problem ≤ 65536 → size ≤ 2 ^ 40

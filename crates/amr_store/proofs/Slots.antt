@@ -16,13 +16,13 @@ pub record IsFull (image : List ℕ) (gate size : ℕ) : Type 0 where
 pub gate_within : (image : List ℕ) (gate size : ℕ) → is_broken image gate size ≡ false → gate < length image
 gate_within image gate size sound = leb-false (length image) gate (or_parts _ _ sound).0
 
-and_true : (a b : Bool) → a ≡ true → (a && b) ≡ false → b ≡ false
-and_true true b is none = none
-and_true false b is none = let no : false ≡ true = is in cc
+pub second_false : (a b : Bool) → a ≡ true → (a && b) ≡ false → b ≡ false
+second_false true b is none = none
+second_false false b is none = let no : false ≡ true = is in cc
 
 pub full_of : (image : List ℕ) (gate size : ℕ) → is_broken image gate size ≡ false → is_open image gate ≡ true → IsFull image gate size
 full_of image gate size sound open_is =
-    let tests = and_true (is_open image gate) _ open_is (or_parts (nat_le (length image) gate) _ sound).1 in
+    let tests = second_false (is_open image gate) _ open_is (or_parts (nat_le (length image) gate) _ sound).1 in
     let three = (or_parts _ (long_at image (gate + 1) == 0) tests).0 in
     let two = (or_parts (nat_lt (length image) (gate + 17) || nat_lt size (long_at image (gate + 9))) (nat_lt (length image) (gate + 17 + long_at image (gate + 9))) three).0 in
     record {

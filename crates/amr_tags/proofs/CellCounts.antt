@@ -6,8 +6,10 @@ use Rattle.std.proofs.lemmas.Int.{ints, clamps}
 use Rattle.std.proofs.lemmas.Bool.Decides.{nat_tests}
 use Rattle.std.proofs.lemmas.List.Concat.{flat_map-cons}
 use Rattle.std.proofs.lemmas.List.Sums.{sum_by-append, sum_by-cons}
+use Rattle.std.proofs.lemmas.Bool.{and_left}
 use Rattle.amr_box.specs.declared.Cell.{Cell}
 use Rattle.amr_box.specs.Cells.{AreDisjoint, Extent, IsProper, at_least_zero, cell, common, cells_of, height, holds, width, within}
+use Rattle.amr_box.proofs.Tests.{and_turned}
 use Rattle.amr_tags.specs.Bits.{bit_of, words_for}
 use Rattle.amr_tags.specs.Parts.{count_from, in_columns, row_count, rows_from}
 use Rattle.amr_tags.specs.Stored.{IsPart}
@@ -186,19 +188,7 @@ none_count p (c ∷ cs) h = sum_by-cons (λ c. cond (p c) 1 0) c cs ∙ ap (λ t
     rest n e = omega arith
 
 pub meet-count : (a b part : Extent) (words : List ℕ) → ((c : Cell) → holds part c ≡ (holds a c && holds b c)) → count_by (λ c. holds part c && bit_of (words_for (width a)) words (column_in a c) (row_in a c)) (cells_of a) ≡ count_by (λ c. holds b c && (holds a c && bit_of (words_for (width a)) words (column_in a c) (row_in a c))) (cells_of a)
-meet-count a b part words h = same_count _ _ (cells_of a) (λ c. ap (λ t. t && bit_of (words_for (width a)) words (column_in a c) (row_in a c)) (h c) ∙ shuffled (holds a c) (holds b c) (bit_of (words_for (width a)) words (column_in a c) (row_in a c)))
-  where
-    shuffled : (s t u : Bool) → ((s && t) && u) ≡ (t && (s && u))
-    shuffled true true u = refl
-    shuffled true false u = refl
-    shuffled false true u = refl
-    shuffled false false u = refl
+meet-count a b part words h = same_count _ _ (cells_of a) (λ c. ap (λ t. t && bit_of (words_for (width a)) words (column_in a c) (row_in a c)) (h c) ∙ and_turned (holds a c) (holds b c) (bit_of (words_for (width a)) words (column_in a c) (row_in a c)))
 
 pub apart-count : (a b : Extent) (words : List ℕ) → AreDisjoint a b → 0 ≡ count_by (λ c. holds b c && (holds a c && bit_of (words_for (width a)) words (column_in a c) (row_in a c))) (cells_of a)
-apart-count a b words h = sym (none_count _ (cells_of a) (λ c. none (holds a c) (holds b c) (bit_of (words_for (width a)) words (column_in a c) (row_in a c)) (h c)))
-  where
-    none : (s t u : Bool) → (s && t) ≡ false → (t && (s && u)) ≡ false
-    none true true u e = absurd (cc)
-    none true false u e = refl
-    none false true u e = refl
-    none false false u e = refl
+apart-count a b words h = sym (none_count _ (cells_of a) (λ c. sym (and_turned (holds a c) (holds b c) (bit_of (words_for (width a)) words (column_in a c) (row_in a c))) ∙ and_left _ _ (h c)))

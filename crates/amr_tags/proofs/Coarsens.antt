@@ -4,8 +4,10 @@ use Rattle.std.specs.Prelude.{nat_lt, unsigned_abs}
 use Rattle.std.proofs.lemmas.Int.{ints}
 use Rattle.std.proofs.lemmas.Nat.{mul-add-lt}
 use Rattle.std.proofs.lemmas.Bool.Decides.{nat_tests}
+use Rattle.std.proofs.lemmas.Bool.{and_left, and_parts, and_right}
 use Rattle.amr_box.specs.declared.Cell.{Cell}
 use Rattle.amr_box.specs.Cells.{Extent, IsNear, child, half, has_child_where, height, holds, width}
+use Rattle.amr_box.proofs.Tests.{and_apart}
 use Rattle.amr_tags.specs.Bits.{AreRows, bit_of, words_for}
 use Rattle.amr_tags.specs.Coarse.{IsEvenCorner, coarse_bit, parents_of, there}
 use Rattle.amr_tags.specs.Grown.{AreBits}
@@ -16,35 +18,19 @@ use Rattle.amr_tags.proofs.Places.{column_within, in_holds, is_in, row_within}
 
 -- ---- bits beyond the rows
 
-beyond : (s b : Bool) → (s ≡ true → b ≡ false) → (s && b) ≡ false
-beyond true b h = h refl
-beyond false b h = refl
-
 below : (a b : ℕ) → nat_lt a b ≡ true → a < b
 below a b h = grind (arith, nat_tests)
 
-both_first : (s t : Bool) → (s && t) ≡ true → s ≡ true
-both_first true t h = refl
-both_first false t h = h
-
-both_second : (s t : Bool) → (s && t) ≡ true → t ≡ true
-both_second true t h = h
-both_second false t h = cc
-
 pub no-column : (w h : ℕ) (words : List ℕ) (i j : ℕ) → AreRows w h words → w ≤ i → there (words_for w) h words i j ≡ false
 no-column w h words i j rows past =
-    beyond (nat_lt (i / 64) (words_for w) && nat_lt j h) (bit_of (words_for w) words i j)
-    (λ e. rows.unused i j past (in_word i (words_for w) (below (i / 64) (words_for w) (both_first _ _ e))) (below j h (both_second _ _ e)))
+    and_apart (nat_lt (i / 64) (words_for w) && nat_lt j h) (bit_of (words_for w) words i j)
+    (λ e. rows.unused i j past (in_word i (words_for w) (below (i / 64) (words_for w) (and_parts _ _ e).0)) (below j h (and_parts _ _ e).1))
   where
     in_word : (i p : ℕ) → i / 64 < p → i < 64 * p
     in_word i p h = omega (arith, h)
 
-not-both : (s b : Bool) → ((s && false) && b) ≡ false
-not-both true b = refl
-not-both false b = refl
-
 no-row : (w h : ℕ) (words : List ℕ) (i j : ℕ) → h ≤ j → there (words_for w) h words i j ≡ false
-no-row w h words i j past = ap (λ (t : Bool). (nat_lt (i / 64) (words_for w) && t) && bit_of (words_for w) words i j) line ∙ not-both (nat_lt (i / 64) (words_for w)) (bit_of (words_for w) words i j)
+no-row w h words i j past = ap (λ (t : Bool). (nat_lt (i / 64) (words_for w) && t) && bit_of (words_for w) words i j) line ∙ and_left _ _ (and_right (nat_lt (i / 64) (words_for w)) false refl)
   where
     line : nat_lt j h ≡ false
     line = grind (arith, nat_tests)
@@ -78,7 +64,7 @@ module _ (b : Extent) (near : IsNear b) (words : List ℕ) (rows : AreRows (widt
       past a b h = grind (arith, nat_tests)
 
       outside : (bit_there i j ≡ false) → (holds b c ≡ true → ⊥) → bit_there i j ≡ in_rows b words c
-      outside none out = none ∙ sym (beyond (holds b c) (bit_of (words_for (width b)) words (column_in b c) (row_in b c)) (λ h. absurd (out h)))
+      outside none out = none ∙ sym (and_apart (holds b c) (bit_of (words_for (width b)) words (column_in b c) (row_in b c)) (λ h. absurd (out h)))
 
       split : (s : Bool) → nat_lt i (width b) ≡ s → (t : Bool) → nat_lt j (height b) ≡ t → bit_there i j ≡ in_rows b words c
       split true hi true hj =
@@ -152,7 +138,7 @@ module _ (b : Extent) (near : IsNear b) (words : List ℕ) (rows : AreRows (widt
 
     module _ (c : Cell) (out : holds coarse c ≡ true → ⊥) where
       child_out : (k : Cell) (i j : ℕ) → i ≤ 1 → j ≤ 1 → k.x ≡ c.x +ℤ c.x +ℤ pos i → k.y ≡ c.y +ℤ c.y +ℤ pos j → in_rows b words k ≡ false
-      child_out k i j hi hj x y = beyond (holds b k) (bit_of (words_for (width b)) words (column_in b k) (row_in b k)) none
+      child_out k i j hi hj x y = and_apart (holds b k) (bit_of (words_for (width b)) words (column_in b k) (row_in b k)) none
         where
           none : holds b k ≡ true → bit_of (words_for (width b)) words (column_in b k) (row_in b k) ≡ false
           none h =

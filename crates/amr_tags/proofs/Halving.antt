@@ -1,7 +1,7 @@
 -- A count of cells that is not 0 has a cell, and one that is 0 has none.
 use Rattle.std.proofs.Common.{◌≡◌, ℕ, zero, suc, ◌+◌, ◌<◌, ◌≤◌, ◌≢◌, Bool, true, false, ◌&&◌, cond, ℤ, pos, negsuc, ◌+ℤ◌, ◌-ℤ◌, ◌≤ℤ◌, ◌<ℤ◌, refl, sym, ap, ◌∙◌, subst, arith, List, [], ◌∷◌}
 use Rattle.std.specs.Prelude.{int_le, int_lt, nat_lt, ◌==◌, unsigned_abs}
-use Rattle.std.proofs.lemmas.Bool.{and_from, and_parts}
+use Rattle.std.proofs.lemmas.Bool.{and_from, and_left, and_parts}
 use Rattle.std.proofs.lemmas.Bool.Decides.{nat_tests}
 use Rattle.std.specs.List.{count_by}
 use Rattle.std.proofs.lemmas.Int.{ints}
@@ -10,6 +10,7 @@ use Rattle.amr_box.specs.declared.Cell.{Cell}
 use Rattle.amr_box.specs.declared.Axis.{Axis}
 use Rattle.amr_box.specs.declared.Axis.TheVariants.{X, Y}
 use Rattle.amr_box.specs.Cells.{AreDisjoint, Extent, IsBoxOf, IsNear, along, cell, cells_of, height, holds, width, within}
+use Rattle.amr_box.proofs.Tests.{and_turned}
 use Rattle.amr_tags.specs.Bits.{bit_of, words_for}
 use Rattle.amr_tags.specs.Parts.{count_from, rows_from}
 use Rattle.amr_tags.specs.Stored.{IsIn, IsPart}
@@ -204,22 +205,11 @@ least_box test b w w1 s s1 e e1 n n1 = record {
 
 -- the set's cells in a box are those of the part that it has in common with the set's box
 pub part-is : (a b part : Extent) (words : List ℕ) → ((c : Cell) → holds part c ≡ (holds a c && holds b c)) → (c : Cell) → in_part a words part c ≡ (holds b c && (holds a c && bit_of (words_for (width a)) words (column_in a c) (row_in a c)))
-part-is a b part words h c = ap (λ t. t && bit_of (words_for (width a)) words (column_in a c) (row_in a c)) (h c) ∙ shuffled (holds a c) (holds b c) (bit_of (words_for (width a)) words (column_in a c) (row_in a c))
-  where
-    shuffled : (s t u : Bool) → ((s && t) && u) ≡ (t && (s && u))
-    shuffled true true u = refl
-    shuffled true false u = refl
-    shuffled false true u = refl
-    shuffled false false u = refl
+part-is a b part words h c = ap (λ t. t && bit_of (words_for (width a)) words (column_in a c) (row_in a c)) (h c) ∙ and_turned (holds a c) (holds b c) (bit_of (words_for (width a)) words (column_in a c) (row_in a c))
 
 pub none-apart : (a b : Extent) (words : List ℕ) → AreDisjoint a b → (c : Cell) → (holds b c && (holds a c && bit_of (words_for (width a)) words (column_in a c) (row_in a c))) ≡ false
-none-apart a b words h c = none (holds a c) (holds b c) (bit_of (words_for (width a)) words (column_in a c) (row_in a c)) (h c)
-  where
-    none : (s t u : Bool) → (s && t) ≡ false → (t && (s && u)) ≡ false
-    none true true u e = absurd (cc)
-    none true false u e = refl
-    none false true u e = refl
-    none false false u e = refl
+none-apart a b words h c =
+    sym (and_turned (holds a c) (holds b c) (bit_of (words_for (width a)) words (column_in a c) (row_in a c))) ∙ and_left _ _ (h c)
 
 pub one_in_part : (b part : Extent) (words : List ℕ) → 0 < count_by (in_part b words part) (cells_of b) → HasOne (in_part b words part)
 one_in_part b part words h = record { at = some_counted (in_part b words part) (cells_of b) h }

@@ -3,6 +3,7 @@ use Rattle.std.proofs.Common.{◌≡◌, ℕ, ◌+◌, ◌-◌, ◌*◌, ◌%◌
 use Rattle.std.specs.Prelude.{◌==◌, bit_or, nat_lt}
 use Rattle.std.proofs.lemmas.Nat.Bits.{bit_at-zero}
 use Rattle.std.proofs.lemmas.Bool.Decides.{nat_tests}
+use Rattle.std.proofs.lemmas.Bool.{or_parts}
 use Rattle.amr_tags.specs.Bits.{bit}
 use Rattle.amr_tags.specs.Coarse.{coarse_bit, pair, paired, there}
 use Rattle.amr_tags.proofs.Places.{equal}
@@ -17,23 +18,15 @@ same-cond : (t : Bool) → cond t false false ≡ false
 same-cond true = refl
 same-cond false = refl
 
-none_first : (s t : Bool) → (s || t) ≡ false → s ≡ false
-none_first true t h = h
-none_first false t h = refl
-
-none_second : (s t : Bool) → (s || t) ≡ false → t ≡ false
-none_second true t h = cc
-none_second false t h = h
-
 module _ (low high : ℕ) (none : bit_or low high ≡ 0) where
   both : (i : ℕ) → (bit low i || bit high i) ≡ false
   both i = sym (or-bit low high i) ∙ ap (λ (v : ℕ). bit v i) none ∙ zero-bit i
 
   low_none : (i : ℕ) → pair low i ≡ false
-  low_none i = λ k. none_first (bit low (2 * i)) (bit high (2 * i)) (both (2 * i)) k || none_first (bit low (2 * i + 1)) (bit high (2 * i + 1)) (both (2 * i + 1)) k
+  low_none i = λ k. (or_parts (bit low (2 * i)) (bit high (2 * i)) (both (2 * i))).0 k || (or_parts (bit low (2 * i + 1)) (bit high (2 * i + 1)) (both (2 * i + 1))).0 k
 
   high_none : (i : ℕ) → pair high i ≡ false
-  high_none i = λ k. none_second (bit low (2 * i)) (bit high (2 * i)) (both (2 * i)) k || none_second (bit low (2 * i + 1)) (bit high (2 * i + 1)) (both (2 * i + 1)) k
+  high_none i = λ k. (or_parts (bit low (2 * i)) (bit high (2 * i)) (both (2 * i))).1 k || (or_parts (bit low (2 * i + 1)) (bit high (2 * i + 1)) (both (2 * i + 1))).1 k
 
   pub zero-paired : (i : ℕ) → bit 0 i ≡ paired low high i
   zero-paired i = zero-bit i ∙ sym ((λ k. cond (nat_lt i 32) (low_none i k) (high_none (i - 32) k)) ∙ same-cond (nat_lt i 32))
@@ -133,10 +126,6 @@ all-pairs k i w h = ap (λ (t : Bool). t && w) (fits (k % 32) (omega arith))
     fits m e = grind (arith, nat_tests)
 
 -- ---- words of rows
-
-not-both : (s t : Bool) → ((s && false) && t) ≡ false
-not-both true t = refl
-not-both false t = refl
 
 abbrev in_rows_two : ℕ → ℕ → List ℕ → ℕ → ℕ → Bool
 in_rows_two p height words j n = there p height words n (2 * j) || there p height words n (2 * j + 1)

@@ -12,6 +12,7 @@ use Rattle.std.proofs.lemmas.Nat.{mul-add-lt, same_from_place}
 use Rattle.std.proofs.lemmas.Nat.Bits.{bit_at-zero, bit_at_set_same, bit_at_set_other}
 use Rattle.amr_box.specs.declared.Cell.{Cell}
 use Rattle.amr_box.specs.Cells.{Extent, at_least_zero, height, holds, width, within}
+use Rattle.amr_box.proofs.Tests.{and_never}
 use Rattle.amr_tags.specs.Bits.{AreRows, bit, bit_of, words_for}
 use Rattle.amr_tags.specs.Stored.{IsIn}
 use Rattle.amr_tags.specs.TagSets.{column_in, row_in, same_cell}
@@ -106,11 +107,6 @@ set-bit_of p words k c i j hk hi within = step ((j * p + i / 64) == (c * p + k /
     with_row true t e = sym e
     with_row false t e = refl
 
-    other : (s t : Bool) → (s ≡ true → t ≡ true → ⊥) → (s && t) ≡ false
-    other true true n = absurd (n refl refl)
-    other true false n = refl
-    other false t n = refl
-
     joined : i ≡ k → j ≡ c → j * p + i / 64 ≡ c * p + k / 64
     joined f g = rw (f, g)
 
@@ -126,7 +122,7 @@ set-bit_of p words k c i j hk hi within = step ((j * p + i / 64) == (c * p + k /
     step false e =
         ap (λ t. bit t (i % 64)) (get_or-set_other words (c * p + k / 64) (j * p + i / 64) written 0 (apart (j * p + i / 64) (c * p + k / 64) e))
         ∙ sym (or-false (bit_of p words i j))
-        ∙ ap (λ t. bit_of p words i j || t) (sym (other (i == k) (j == c) (λ f g. apart (j * p + i / 64) (c * p + k / 64) e (joined (equal i k f) (equal j c g)))))
+        ∙ ap (λ t. bit_of p words i j || t) (sym (and_never (i == k) (j == c) (λ f g. apart (j * p + i / 64) (c * p + k / 64) e (joined (equal i k f) (equal j c g)))))
 
 -- ---- a cell of the box, by its column and row
 

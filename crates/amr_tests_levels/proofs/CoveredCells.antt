@@ -22,6 +22,7 @@ use Rattle.amr_patch.specs.declared.patches.Patch.{Patch}
 use Rattle.amr_patch.specs.Patches.{box}
 use Rattle.amr_patch.proofs.Rows.{inside, is_inside}
 use Rattle.amr_box.specs.Cells.{child}
+use Rattle.amr_box.proofs.Tests.{never_both}
 use Rattle.amr_transfer.specs.Sums.{AreCoarsenable}
 
 -- ---- masses
@@ -30,13 +31,9 @@ use Rattle.amr_transfer.specs.Sums.{AreCoarsenable}
 pub set_or_other : (P : Cell → Type 0) (c d : Cell) → P c → (d ≢ c → P d) → P d
 set_or_other P c d here other = cases (have_same_coordinates d c) refl
   where
-    clash : (t : Bool) → t ≡ true → t ≡ false → ⊥
-    clash true e f = cc
-    clash false e f = cc
-
     cases : (t : Bool) → have_same_coordinates d c ≡ t → P d
     cases true e = subst P (sym (coordinates_same d c e)) here
-    cases false e = other (λ same. clash (have_same_coordinates d c) (ap (λ (k : Cell). have_same_coordinates k c) same ∙ coordinates_itself c) e)
+    cases false e = other (λ same. never_both (have_same_coordinates d c) (ap (λ (k : Cell). have_same_coordinates k c) same ∙ coordinates_itself c) e)
 
 pub small_sums : (m : Masses) (c : Cell) → ((d : Cell) → mass_of m d < 256) → children_mass m c < 2 ^ 32
 small_sums m c small = omega (arith, small (child c 0), small (child c 1), small (child c 2), small (child c 3))

@@ -2,7 +2,7 @@
 use Rattle.std.proofs.Common.{◌≡◌, ◌∙◌, ℕ, ◌<◌, Bool, true, false, ◌&&◌, ◌||◌, pos, ◌+ℤ◌, ◌≤ℤ◌, ◌≤◌, List, ◌++◌, length, take, drop, IsTrue, refl, sym, ap, subst, arith}
 use Rattle.std.specs.Prelude.{not, slice_index}
 use Rattle.std.proofs.lemmas.List.{length-take-le, take-append-le, take_all}
-use Rattle.std.proofs.lemmas.Bool.{both_ways, or_from, or_parts}
+use Rattle.std.proofs.lemmas.Bool.{and_right, both_ways, not_from_true, or_from, or_parts}
 use Rattle.amr_box.specs.declared.Cell.{Cell}
 use Rattle.amr_box.specs.Cells.{Extent, cell, holds}
 use Rattle.amr_patch.specs.declared.patches.Patch.{Patch}
@@ -84,11 +84,7 @@ given_span mass p q c ms h room set beside marks fluxes of_box is = record {
         cases false f = absurd (off_span c (length ms) k d f lt e)
 
     framed : (d : Cell) → in_frame (box p) d ≡ true → holds (box p) d ≡ true → ⊥
-    framed d t i = both_ways (in_frame (box p) d) (apart (holds (grown (box p)) d) (holds (box p) d) i) t
-      where
-        apart : (a b : Bool) → b ≡ true → (a && not b) ≡ false
-        apart true b e = rw e refl
-        apart false b e = refl
+    framed d t i = both_ways (in_frame (box p) d) (and_right (holds (grown (box p)) d) _ (not_from_true (holds (box p) d) i)) t
 
 -- the part of the room that was written is what was written
 pub written : (n : ℕ) (room row : List ℕ) → n ≤ length room → length row ≡ length (take n room) → take n (row ++ drop n room) ≡ row

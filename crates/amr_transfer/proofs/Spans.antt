@@ -6,6 +6,7 @@ use Rattle.std.proofs.lemmas.Bool.{false_from_ne_true}
 use Rattle.amr_box.specs.declared.Cell.{Cell}
 use Rattle.amr_box.specs.Cells.{Extent, at_least_zero, cell, holds, within}
 use Rattle.amr_box.proofs.CellEquality.{same_cells}
+use Rattle.amr_box.proofs.Tests.{and_shared}
 use Rattle.amr_patch.proofs.Entries.{whole}
 use Rattle.amr_patch.proofs.Rows.{inside, is_inside}
 use Rattle.amr_transfer.specs.Given.{rows_to, span}
@@ -67,23 +68,13 @@ span_inside b c n d h room on =
 pub rows_none : (b : Extent) (d : Cell) → holds (rows_to b 0) d ≡ false
 rows_none b d = false_from_ne_true (holds (rows_to b 0) d) (λ h. let i = inside (rows_to b 0) d h in omega (arith, ints, i.south, i.north))
 
-and_share : (a b r : Bool) → (r && (a || b)) ≡ ((r && a) || (r && b))
-and_share true true true = refl
-and_share true true false = refl
-and_share true false true = refl
-and_share true false false = refl
-and_share false true true = refl
-and_share false true false = refl
-and_share false false true = refl
-and_share false false false = refl
-
 pub rows_more : (b : Extent) (k w : ℕ) (e d : Cell) → e ≡ cell b.lo.x (b.lo.y +ℤ pos k) → pos w ≡ b.hi.x +ℤ pos 1 -ℤ b.lo.x → holds (rows_to b (k + 1)) d ≡ (holds (rows_to b k) d || holds (span e w) d)
 rows_more b k w e d is wide =
     let more = within_more b.lo.y (pos k) (pos 1) d.y (omega (arith, ints)) (omega (arith, ints)) in
     let east : b.hi.x ≡ b.lo.x +ℤ pos w -ℤ pos 1 = omega (arith, ints, wide) in
     let top : b.lo.y +ℤ pos k +ℤ pos 1 -ℤ pos 1 ≡ b.lo.y +ℤ pos k = omega (arith, ints) in
     ap (λ (t : Bool). within b.lo.x b.hi.x d.x && t) more
-    ∙ and_share (within b.lo.y (b.lo.y +ℤ pos k -ℤ pos 1) d.y) (within (b.lo.y +ℤ pos k) (b.lo.y +ℤ pos k +ℤ pos 1 -ℤ pos 1) d.y) (within b.lo.x b.hi.x d.x)
+    ∙ sym (and_shared (within b.lo.x b.hi.x d.x) (within b.lo.y (b.lo.y +ℤ pos k -ℤ pos 1) d.y) (within (b.lo.y +ℤ pos k) (b.lo.y +ℤ pos k +ℤ pos 1 -ℤ pos 1) d.y))
     ∙ ap (λ (z : ℤ). holds (rows_to b k) d || within b.lo.x b.hi.x d.x && within (b.lo.y +ℤ pos k) z d.y) top
     ∙ ap (λ (z : ℤ). holds (rows_to b k) d || within b.lo.x z d.x && within (b.lo.y +ℤ pos k) (b.lo.y +ℤ pos k) d.y) east
     ∙ ap (λ (c : Cell). holds (rows_to b k) d || holds (span c w) d) (sym is)

@@ -8,6 +8,7 @@ use Rattle.std.specs.BTreeMap.{BTreeMap, is_at, IsEmpty}
 use Rattle.amr_box.specs.declared.Cell.{Cell}
 use Rattle.amr_box.specs.Cells.{cell_cmp}
 use Rattle.amr_box.proofs.CellEquality.{cell_itself, cell_same}
+use Rattle.amr_box.proofs.Tests.{never_both}
 use Rattle.amr_def.specs.State.{Masses}
 use Rattle.amr_def.specs.Flux.{Fluxes, updated}
 use Rattle.amr_def.proofs.Subcycle.{bool_cases, is_false}
@@ -22,12 +23,9 @@ none_updated next m s e empty start q none =
     let absent : lookup (is_at (cell_cmp q)) m.entries ≡ None = subst (λ (es : List (Cell × ℕ)). lookup (is_at (cell_cmp q)) es ≡ None) start none in
     rw absent (ap (λ (es : List (Cell × ℕ)). lookup (is_at (cell_cmp q)) es) empty)
 
-pub apart : (b : Bool) → b ≡ true → b ≡ false → ⊥
-apart b is isnt = cc
-
 pub other : (k q : Cell) → eq_by_cmp cell_cmp k q ≡ false → eq_by_cmp cell_cmp q k ≡ false
 other k q isnt =
-    is_false _ (λ (is : eq_by_cmp cell_cmp q k ≡ true). apart (eq_by_cmp cell_cmp k q) (ap (λ (c : Cell). eq_by_cmp cell_cmp k c) (cell_same q k is) ∙ cell_itself k) isnt)
+    is_false _ (λ (is : eq_by_cmp cell_cmp q k ≡ true). never_both (eq_by_cmp cell_cmp k q) (ap (λ (c : Cell). eq_by_cmp cell_cmp k c) (cell_same q k is) ∙ cell_itself k) isnt)
 
 -- ---- one more entry of a map has its wanted value in another
 

@@ -2,6 +2,7 @@
 use Rattle.std.proofs.Common.{◌≡◌, ℕ, suc, ◌+◌, ◌^◌, ◌<◌, ◌≤◌, Bool, true, false, ◌&&◌, pos, ◌+ℤ◌, ◌≤ℤ◌, ◌<ℤ◌, List, [], ◌∷◌, ◌++◌, length, get_or, map, refl, sym, ap, ◌∙◌, subst, arith}
 use Rattle.std.specs.Prelude.{◌≢◌, not, slice_index, unsigned_abs}
 use Rattle.std.specs.List.{All}
+use Rattle.std.proofs.lemmas.Bool.{and_parts}
 use Rattle.amr_box.specs.declared.Cell.{Cell}
 use Rattle.amr_box.specs.declared.Face.{Face}
 use Rattle.amr_box.specs.Cells.{Extent, height, holds, width}
@@ -31,11 +32,7 @@ total_same f g (x ∷ xs) h = let first = h 0 x (omega arith) in let rest = tota
 
 pub own_face : (q : Patch) (f : Face) → owns q f ≡ true → is_face_of (box q) f ≡ true
 unfolding owns
-own_face q f e = first (is_face_of (box q) f) _ e
-  where
-    first : (a b : Bool) → (a && b) ≡ true → a ≡ true
-    first true b e = refl
-    first false b e = e
+own_face q f e = (and_parts (is_face_of (box q) f) _ e).0
 
 module _ (w v : Work) (s : StandsFor w v) where
   marks : mark_in v.body.value.patch ≡ mark_in w.body.value.patch

@@ -9,11 +9,7 @@ use Rattle.amr_nest.specs.Reach.{IsInDomainBox, is_reached, parents_of}
 use Rattle.amr_nest.proofs.Reaches.{parents_proper}
 use Rattle.amr_nest.proofs.Projected.{near_any, near_box, near_by_turns}
 use Rattle.amr_nest.proofs.nesting.tag_around.Goals as goal
-
-nothing_more : (a d : Bool) → a ≡ (a || (d && false))
-nothing_more true d = refl
-nothing_more false true = refl
-nothing_more false false = refl
+use Rattle.amr_nest.proofs.Gathered.{nothing_more}
 
 one_more : (a d l r s : Bool) → (d ≡ true → s ≡ r) → ((a || (d && l)) || (d && r)) ≡ (a || (d && (l || s)))
 one_more true d l r s e = refl

@@ -2,11 +2,7 @@ use Rattle.std.proofs.Common.{◌≡◌, ◌∙◌, ◌&&◌, ◌||◌, Bool, tr
 use Rattle.amr_box.specs.Cells.{holds}
 use Rattle.amr_tags.specs.TagSets.{has}
 use Rattle.amr_nest.proofs.nesting.tag_reach_at.Goals as goal
-
-nothing_more : (a d : Bool) → a ≡ (a || (d && false))
-nothing_more true d = refl
-nothing_more false true = refl
-nothing_more false false = refl
+use Rattle.amr_nest.proofs.Gathered.{nothing_more}
 
 pub returns-in-None-clause-cells : goal.returns-in-None-clause-cells
 returns-in-None-clause-cells c =

@@ -2,17 +2,11 @@ use Rattle.std.proofs.Common.{◌≡◌, ◌∙◌, ◌&&◌, ◌||◌, Bool, tr
 use Rattle.std.proofs.lemmas.List.{take_all}
 use Rattle.std.proofs.lemmas.List.Folds.{list_any_more}
 use Rattle.amr_box.specs.Cells.{Extent, holds}
+use Rattle.amr_box.proofs.Tests.{and_shared}
 use Rattle.amr_def.specs.Domain.{domain_box, domain_of}
 use Rattle.amr_def.specs.State.{in_boxes}
 use Rattle.amr_nest.proofs.nesting.tagged.Goals as goal
-
-nothing_yet : (d : Bool) → false ≡ (d && false)
-nothing_yet true = refl
-nothing_yet false = refl
-
-one_more : (d l r : Bool) → ((d && l) || (d && r)) ≡ (d && (l || r))
-one_more true l r = refl
-one_more false l r = refl
+use Rattle.amr_nest.proofs.Gathered.{nothing_yet}
 
 pub loop-b-init : goal.loop-b-init
 loop-b-init c = record {
@@ -31,7 +25,7 @@ loop-b-preserved c =
           c.set_in.ensures.cells q
           ∙ ap (λ (t : Bool). t || (holds l.tags.bx q && holds a q)) (l.invariant.cells q)
           ∙ ap (λ (b : Extent). (holds (domain_box d) q && in_boxes (take l.b-index c.args.boxes.now) q) || (holds b q && holds a q)) l.invariant.in_box
-          ∙ one_more (holds (domain_box d) q) (in_boxes (take l.b-index c.args.boxes.now) q) (holds a q)
+          ∙ and_shared (holds (domain_box d) q) (in_boxes (take l.b-index c.args.boxes.now) q) (holds a q)
           ∙ ap (λ (x : Extent). holds (domain_box d) q && (in_boxes (take l.b-index c.args.boxes.now) q || holds x q)) c.b-item.is
           ∙ ap (λ (t : Bool). holds (domain_box d) q && t) (sym (list_any_more (λ x. holds x q) c.args.boxes.now l.b-index a c.loop-b-test.true));
     }

@@ -8,10 +8,7 @@ use Rattle.amr_nest.specs.Reach.{is_reached, parents_of}
 use Rattle.amr_nest.proofs.Reaches.{domain_is, parents_proper}
 use Rattle.amr_nest.proofs.Projected.{projected_any, projected_by, projected_by_turns}
 use Rattle.amr_nest.proofs.projection.project.Goals as goal
-
-nothing_yet : (d : Bool) → false ≡ (d && false)
-nothing_yet true = refl
-nothing_yet false = refl
+use Rattle.amr_nest.proofs.Gathered.{nothing_yet}
 
 one_more : (d l r s : Bool) → (d ≡ true → s ≡ r) → ((d && l) || (d && r)) ≡ (d && (l || s))
 one_more true l r s e = ap (λ (t : Bool). l || t) (sym (e refl))

@@ -5,16 +5,7 @@ use Rattle.amr_tags.specs.TagSets.{has}
 use Rattle.amr_nest.specs.Reach.{is_reached, is_reached_at}
 use Rattle.amr_nest.proofs.Projected.{child_or}
 use Rattle.amr_nest.proofs.projection.tag_around.Goals as goal
-
-nothing_more : (a d : Bool) → a ≡ (a || (d && false))
-nothing_more true d = refl
-nothing_more false true = refl
-nothing_more false false = refl
-
-joined : (a d r s : Bool) → ((a || (d && r)) || (d && s)) ≡ (a || (d && (r || s)))
-joined true d r s = refl
-joined false true r s = refl
-joined false false r s = refl
+use Rattle.amr_nest.proofs.Gathered.{joined, nothing_more}
 
 pub loop-k-init : goal.loop-k-init
 loop-k-init c = (record { bx = refl; x = refl; y = refl }, λ q. nothing_more (has c.args.tags.now q) (holds c.args.tags.now.bx q))

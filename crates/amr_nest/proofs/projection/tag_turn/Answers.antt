@@ -5,11 +5,7 @@ use Rattle.amr_def.specs.Domain.{domain_of}
 use Rattle.amr_tags.specs.TagSets.{has}
 use Rattle.amr_nest.specs.Reach.{is_reached_at}
 use Rattle.amr_nest.proofs.projection.tag_turn.Goals as goal
-
-nothing_more : (a d : Bool) → a ≡ (a || (d && false))
-nothing_more true d = refl
-nothing_more false true = refl
-nothing_more false false = refl
+use Rattle.amr_nest.proofs.Gathered.{nothing_more}
 
 pub returns-in-None-clause-cells : goal.returns-in-None-clause-cells
 returns-in-None-clause-cells c =
