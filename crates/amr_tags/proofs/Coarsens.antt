@@ -44,10 +44,10 @@ not-both true b = refl
 not-both false b = refl
 
 no-row : (w h : ℕ) (words : List ℕ) (i j : ℕ) → h ≤ j → there (words_for w) h words i j ≡ false
-no-row w h words i j past = ap (λ (t : Bool). (nat_lt (i / 64) (words_for w) && t) && bit_of (words_for w) words i j) line ∙ not-both (nat_lt (i / 64) (words_for w)) (bit_of (words_for w) words i j)
+no-row w h words i j past = ap (λ (t : Bool). (nat_lt (i / 64) (words_for w) && t) && bit_of (words_for w) words i j) outside ∙ not-both (nat_lt (i / 64) (words_for w)) (bit_of (words_for w) words i j)
   where
-    line : nat_lt j h ≡ false
-    line = grind (arith, nat_tests)
+    outside : nat_lt j h ≡ false
+    outside = grind (arith, nat_tests)
 
 -- ---- a bit and its cell
 
