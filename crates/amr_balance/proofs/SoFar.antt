@@ -1,11 +1,11 @@
--- The first pieces shared out: what the loop of `share` keeps.
+-- The first tasks shared out: what the loop of `share` keeps.
 use Rattle.std.proofs.Common.{◌≡◌, ℕ, zero, suc, ◌+◌, ◌*◌, ◌-◌, ◌<◌, ◌≤◌, ◌==◌, cond, List, [], ◌∷◌, ◌++◌, length, get_or, set, take, sum, refl, sym, ap, subst, ◌∙◌, inl, inr, arith, append-nil, below_more, length-append, replicate}
 use Rattle.std.proofs.lemmas.Bool.Decides.{eqb_tells}
 use Rattle.std.proofs.lemmas.List.Sums.{sum_by-take-le}
 use Rattle.std.proofs.lemmas.List.{length-set, get_or-set_same, get_or-set_other, take_all, map-append}
 use Rattle.std.specs.Global.{Vec}
-use Rattle.amr_balance.specs.Shares.{Owner, IsLeast, IsFair, IsShare, IsBalanced, pieces_of, load, load_of, largest, lists_in}
-use Rattle.amr_balance.proofs.Owners.{with_owner, owner_new, owner_old, pieces_same, load_more}
+use Rattle.amr_balance.specs.Shares.{Owner, IsLeast, IsFair, IsShare, IsBalanced, tasks_of, load, load_of, largest, lists_in}
+use Rattle.amr_balance.proofs.Owners.{with_owner, owner_new, owner_old, tasks_same, load_more}
 use Rattle.amr_balance.proofs.Loads.{loads_together, taken_more, part_of, sum_to}
 use Rattle.amr_balance.proofs.Balance.{balanced}
 
@@ -15,7 +15,7 @@ pub record IsSoFar (areas : List ℕ) (workers n : ℕ) (loads : List ℕ) (lots
   pub loads_count : length loads ≡ workers
   pub lots_count : length lots ≡ workers
   pub loaded : (w : ℕ) → w < workers → get_or loads w 0 ≡ load areas owner n w
-  pub lot : (w : ℕ) → w < workers → get_or lots w [] ≡ pieces_of owner w n
+  pub lot : (w : ℕ) → w < workers → get_or lots w [] ≡ tasks_of owner w n
 
 pub none_so_far : (areas : List ℕ) (workers : ℕ) (loads : List ℕ) (lots : List (List ℕ)) → length loads ≡ workers → length lots ≡ workers
     → ((w : ℕ) → get_or loads w 0 ≡ 0) → ((w : ℕ) → get_or lots w [] ≡ []) → IsSoFar areas workers 0 loads lots
@@ -56,19 +56,19 @@ loaded_more areas owner n loads w v there new known w_below v_below =
     ]
 
 lot_more : (owner : Owner) (n : ℕ) (lots : List (List ℕ)) (w v : ℕ) {workers : ℕ} → w < length lots → owner n ≡ w
-    → ((u : ℕ) → u < workers → get_or lots u [] ≡ pieces_of owner u n) → w < workers → v < workers
-    → get_or (set lots w (get_or lots w [] ++ n ∷ [])) v [] ≡ pieces_of owner v (suc n)
+    → ((u : ℕ) → u < workers → get_or lots u [] ≡ tasks_of owner u n) → w < workers → v < workers
+    → get_or (set lots w (get_or lots w [] ++ n ∷ [])) v [] ≡ tasks_of owner v (suc n)
 lot_more owner n lots w v there new known w_below v_below =
     let x = get_or lots w [] ++ n ∷ [] in
-    let more : pieces_of owner v n ++ cond (w == v) (n ∷ []) [] ≡ pieces_of owner v (suc n) = ap (λ o. pieces_of owner v n ++ cond (o == v) (n ∷ []) []) (sym new) in
+    let more : tasks_of owner v n ++ cond (w == v) (n ∷ []) [] ≡ tasks_of owner v (suc n) = ap (λ o. tasks_of owner v n ++ cond (o == v) (n ∷ []) []) (sym new) in
     elim (eqb_tells w v) [
       | inl here ↦
           let got : get_or (set lots w x) v [] ≡ x = subst (λ (u : ℕ). get_or (set lots w x) u [] ≡ x) here.1 (get_or-set_same lots w x [] there) in
-          let had : x ≡ pieces_of owner v n ++ n ∷ [] = ap (λ l. l ++ n ∷ []) (known w w_below) ∙ ap (λ u. pieces_of owner u n ++ n ∷ []) here.1 in
-          got ∙ had ∙ ap (λ b. pieces_of owner v n ++ cond b (n ∷ []) []) (sym here.0) ∙ more
+          let had : x ≡ tasks_of owner v n ++ n ∷ [] = ap (λ l. l ++ n ∷ []) (known w w_below) ∙ ap (λ u. tasks_of owner u n ++ n ∷ []) here.1 in
+          got ∙ had ∙ ap (λ b. tasks_of owner v n ++ cond b (n ∷ []) []) (sym here.0) ∙ more
       | inr other ↦
           let got : get_or (set lots w x) v [] ≡ get_or lots v [] = get_or-set_other lots w v x [] (λ e. other.1 (sym e)) in
-          got ∙ known v v_below ∙ sym (append-nil (pieces_of owner v n)) ∙ ap (λ b. pieces_of owner v n ++ cond b (n ∷ []) []) (sym other.0) ∙ more
+          got ∙ known v v_below ∙ sym (append-nil (tasks_of owner v n)) ∙ ap (λ b. tasks_of owner v n ++ cond b (n ∷ []) []) (sym other.0) ∙ more
     ]
 
 -- what was given out is at most all
@@ -94,15 +94,15 @@ shared_evenly areas (suc others) loads lots some h = record {
       subst (λ (m : ℕ). suc others * load_of areas (get_or lots w []) ≤ sum areas + m * largest areas) others_are of_lot;
 }
 
--- piece n is given to the worker with the least to do
+-- task n is given to the worker with the least to do
 pub one_so_far : (areas : List ℕ) (workers n : ℕ) (loads : List ℕ) (lots : List (List ℕ)) (w : ℕ) → IsSoFar areas workers n loads lots → IsLeast workers (λ v. get_or loads v 0) w
     → IsSoFar areas workers (suc n) (set loads w (get_or loads w 0 + get_or areas n 0)) (set lots w (get_or lots w [] ++ n ∷ []))
 one_so_far areas workers n loads lots w h least =
     let a = get_or areas n 0 in
     let owner : Owner = with_owner h.owner n w in
     let agree : (k : ℕ) → k < n → h.owner k ≡ owner k = λ k under. sym (owner_old h.owner n w k under) in
-    let pieces_are : (v k : ℕ) → k ≤ n → pieces_of h.owner v k ≡ pieces_of owner v k = λ v k few. pieces_same h.owner owner v k (λ j under. agree j (omega arith)) in
-    let loads_are : (v k : ℕ) → k ≤ n → load areas h.owner k v ≡ load areas owner k v = λ v k few. ap (load_of areas) (pieces_are v k few) in
+    let tasks_are : (v k : ℕ) → k ≤ n → tasks_of h.owner v k ≡ tasks_of owner v k = λ v k few. tasks_same h.owner owner v k (λ j under. agree j (omega arith)) in
+    let loads_are : (v k : ℕ) → k ≤ n → load areas h.owner k v ≡ load areas owner k v = λ v k few. ap (load_of areas) (tasks_are v k few) in
     let new_least : IsLeast workers (load areas owner n) (owner n) =
     subst (IsLeast workers (load areas owner n)) (sym (owner_new h.owner n w))
     (least_along workers (λ v. get_or loads v 0) (load areas owner n) w (λ v below. h.loaded v below ∙ loads_are v n (omega arith)) least) in
@@ -115,7 +115,7 @@ one_so_far areas workers n loads lots w h least =
       loads_count = length-set loads w (get_or loads w 0 + a) ∙ h.loads_count;
       lots_count = length-set lots w (get_or lots w [] ++ n ∷ []) ∙ h.lots_count;
       loaded = λ v below. loaded_more areas owner n loads w v (omega (arith, least.there, h.loads_count)) (owner_new h.owner n w) (λ u there. h.loaded u there ∙ loads_are u n (omega arith)) least.there below;
-      lot = λ v below. lot_more owner n lots w v (omega (arith, least.there, h.lots_count)) (owner_new h.owner n w) (λ u there. h.lot u there ∙ pieces_are u n (omega arith)) least.there below;
+      lot = λ v below. lot_more owner n lots w v (omega (arith, least.there, h.lots_count)) (owner_new h.owner n w) (λ u there. h.lot u there ∙ tasks_are u n (omega arith)) least.there below;
     }
 
 still_empty : (lots : List (List ℕ)) → ((w : ℕ) → get_or lots w [] ≡ []) → (w : ℕ) → get_or (lots ++ [] ∷ []) w [] ≡ []

@@ -1,20 +1,20 @@
--- Pieces of work shared out among workers: each piece in turn to the worker with the least to do, the lowest number on a tie
+-- Tasks shared out among workers: each task in turn to the worker with the least to do, the lowest number on a tie
 -- (list scheduling; Graham 1966).
 use Rattle.std.specs.Prelude.{◌≡◌, ℕ, zero, suc, ◌+◌, ◌*◌, ◌-◌, ◌<◌, ◌≤◌, ◌==◌, List, [], ◌∷◌, ◌++◌, length, max, slice_index, slice_index_or, map, sum, if◌then◌else◌}
 use Rattle.std.specs.Global.{Vec}
 
--- which worker has each piece
+-- which worker has each task
 abbrev pub Owner : Type 0
 Owner = ℕ → ℕ
 
--- of the first n pieces those that are a worker's, in order
-abbrev pub pieces_of : Owner → ℕ → ℕ → List ℕ
-pieces_of owner w zero = []
-pieces_of owner w (suc n) = pieces_of owner w n ++ (if owner n == w then n ∷ [] else [])
+-- of the first n tasks those that are a worker's, in order
+abbrev pub tasks_of : Owner → ℕ → ℕ → List ℕ
+tasks_of owner w zero = []
+tasks_of owner w (suc n) = tasks_of owner w n ++ (if owner n == w then n ∷ [] else [])
 
--- the areas of these pieces together: what the worker has to do
+-- the areas of these tasks together: what the worker has to do
 abbrev pub load : List ℕ → Owner → ℕ → ℕ → ℕ
-load areas owner n w = sum (map (slice_index areas) (pieces_of owner w n))
+load areas owner n w = sum (map (slice_index areas) (tasks_of owner w n))
 
 -- of the loads of so many workers that of w is the first of the least
 pub record IsLeast (workers : ℕ) (loads : ℕ → ℕ) (w : ℕ) : Type 0 where
@@ -22,16 +22,16 @@ pub record IsLeast (workers : ℕ) (loads : ℕ → ℕ) (w : ℕ) : Type 0 wher
   pub least : (v : ℕ) → v < workers → loads w ≤ loads v
   pub first : (v : ℕ) → v < w → loads w < loads v
 
--- each piece went to the worker who had the least of the pieces before it
+-- each task went to the worker who had the least of the tasks before it
 pub record IsFair (areas : List ℕ) (workers n : ℕ) (owner : Owner) : Type 0 where
   pub each : (k : ℕ) → k < n → IsLeast workers (load areas owner k) (owner k)
 
--- a lot for each worker, with the pieces that are his in order: so each piece is in one lot, once
+-- a lot for each worker, with the tasks that are his in order: so each task is in one lot, once
 pub record IsShare (areas : List ℕ) (workers : ℕ) (lots : List (List ℕ)) : Type 0 where
   pub owner : Owner
   pub fair : IsFair areas workers (length areas) owner
   pub count : length lots ≡ workers
-  pub lot : (w : ℕ) → w < workers → slice_index_or lots w [] ≡ pieces_of owner w (length areas)
+  pub lot : (w : ℕ) → w < workers → slice_index_or lots w [] ≡ tasks_of owner w (length areas)
 
 -- what a lot adds up to
 abbrev pub load_of : List ℕ → List ℕ → ℕ

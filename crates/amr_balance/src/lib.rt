@@ -1,4 +1,4 @@
-//! Pieces of work shared out among workers in advance (list scheduling; Graham 1966).
+//! Tasks shared out among workers in advance (list scheduling; Graham 1966).
 #![tactic(auto)]
 
 ghost use Rattle.std.specs.Prelude.{◌≡◌, ℕ, ◌^◌, ◌<◌, ◌≤◌, length, slice_index, slice_index_or, [], sum, IfOk};
@@ -24,7 +24,7 @@ fn least_loaded(loads: &[u64]) -> usize
     least
 }
 
-/// A lot of no pieces for each worker.
+/// A lot of no tasks for each worker.
 fn empty_lots(alloc: Global, workers: usize) -> Result<Vec<Vec<u32>>, NoMemory>
     ensures count { IfOk result (λ lots. length (lists_in lots.items) ≡ workers) }
     ensures empty { IfOk result (λ lots. (w : ℕ) → slice_index_or (lists_in lots.items) w [] ≡ []) }
@@ -36,12 +36,12 @@ fn empty_lots(alloc: Global, workers: usize) -> Result<Vec<Vec<u32>>, NoMemory>
     Ok(lots)
 }
 
-/// Shares pieces of work of these areas (cells, say) out among workers. Each piece in turn goes to the worker with the
-/// least to do, the lowest number on a tie. Lot `w` has the numbers of the pieces of worker `w`, in order; each piece
-/// is in one lot. So a worker has at most the average and, but for one worker's part of it, the largest piece (Graham
+/// Shares tasks with these areas (cells, say) out among workers. Each task in turn goes to the worker with the
+/// least to do, the lowest number on a tie. Lot `w` has the numbers of the tasks of worker `w`, in order; each task
+/// is in one lot. So a worker has at most the average and, but for one worker's part of it, the largest task (Graham
 /// 1966).
 ///
-/// There are 1 to 64 workers and fewer than 2^32 pieces, which add up to less than 2^48. `NoMemory` is the only refusal.
+/// There are 1 to 64 workers and fewer than 2^32 tasks, which add up to less than 2^48. `NoMemory` is the only refusal.
 pub fn share(alloc: Global, areas: &[u64], workers: u32) -> Result<Vec<Vec<u32>>, NoMemory>
     requires few { length areas.now < 2 ^ 32 }
     requires small { sum areas.now < 2 ^ 48 }

@@ -1,8 +1,8 @@
-//! Tests of pieces of work shared out.
+//! Tests of tasks shared out.
 
 use super::*;
 
-/// Whether each lot has these pieces.
+/// Whether each lot has these tasks.
 fn are(lots: &[Vec<u32>], wanted: &[&[u32]]) -> bool {
     if lots.len() != wanted.len() {
         return false;

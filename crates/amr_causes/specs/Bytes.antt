@@ -8,10 +8,10 @@ use Rattle.std.specs.Io.KnownBytes.{Consumes}
 abbrev pub Grows : {S : Type 0} → (S → List ℕ → Type 0) → S → S → List ℕ → Type 0
 Grows holds old new bytes = (held : List ℕ) → holds old held → holds new (held ++ bytes)
 
--- the bytes of the piece that a write took: as many as it says, none where it failed
+-- the bytes of the chunk that a write took: as many as it says, none where it failed
 abbrev pub written : {E : Type 0} → Result ℕ E → List ℕ → List ℕ
-written (Ok n) piece = take n piece
-written (Err e) piece = []
+written (Ok n) chunk = take n chunk
+written (Err e) chunk = []
 
 -- the first bytes of a whole
 pub record IsPrefix (part whole : List ℕ) : Type 0 where

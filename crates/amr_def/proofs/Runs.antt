@@ -1,4 +1,4 @@
--- Runs in pieces.
+-- Runs in parts.
 use Rattle.std.proofs.Common.{◌≡◌, ℕ, zero, suc, ◌+◌, ◌-◌, ◌≤◌, Bool, true, false, cond, refl, ap, ◌∙◌, arith}
 use Rattle.amr_def.specs.declared.problem.Problem.{Problem}
 use Rattle.amr_def.specs.State.{State}
@@ -21,7 +21,7 @@ step-times : (p : Problem) (n : ℕ) (s : State) → (times (next p) n s).step �
 step-times p zero s = omega arith
 step-times p (suc n) s = omega (arith, step-times p n (next p s), step-next p s)
 
--- a run in two pieces is the run at once
+-- a run in two parts is the run at once
 pub resumes : (p : Problem) (s : State) (i k : ℕ) → s.step ≤ i → i ≤ k → finish p (finish p s i) k ≡ finish p s k
 unfolding finish
 resumes p s i k h j =

@@ -47,5 +47,5 @@ abbrev pub SingleLevelRunIsSound : Type 0
 SingleLevelRunIsSound = (p : Problem) (k : ℕ) → p.max_level ≡ 0 → k ≤ p.steps → IsSound p (run p k)
 
 -- to finish a state to step i and then to step k is to finish it to step k
-abbrev pub FinishInPieces : Type 0
-FinishInPieces = (p : Problem) (s : State) (i k : ℕ) → s.step ≤ i → i ≤ k → finish p (finish p s i) k ≡ finish p s k
+abbrev pub FinishInParts : Type 0
+FinishInParts = (p : Problem) (s : State) (i k : ℕ) → s.step ≤ i → i ≤ k → finish p (finish p s i) k ≡ finish p s k

@@ -1,7 +1,7 @@
 //! Laws of the definitions. Each call has an empty body, and what it ensures is the law: it holds for
 //! every problem, so for every one that is accepted.
 
-ghost use Rattle.amr_def.specs.Laws.{FinishInPieces, MassChangesByFlows, MassesAreSmall, NewMassIsExact, SingleLevelFinishIsSound, SingleLevelNextIsSound, SingleLevelRunIsSound, SingleLevelStartIsSound, StepKeepsSound};
+ghost use Rattle.amr_def.specs.Laws.{FinishInParts, MassChangesByFlows, MassesAreSmall, NewMassIsExact, SingleLevelFinishIsSound, SingleLevelNextIsSound, SingleLevelRunIsSound, SingleLevelStartIsSound, StepKeepsSound};
 
 /// One step of a sound state with any number of levels gives a sound state.
 pub fn step_keeps_sound()
@@ -45,6 +45,6 @@ pub fn single_level_run_is_sound()
 {}
 
 /// To finish a state to a step and then to a later one is to finish it to the later one.
-pub fn finish_in_pieces()
-    ensures { FinishInPieces }
+pub fn finish_in_parts()
+    ensures { FinishInParts }
 {}

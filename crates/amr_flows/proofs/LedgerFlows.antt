@@ -20,7 +20,7 @@ use Rattle.amr_layout.specs.Surroundings.{Around, edge_count, edge_face}
 use Rattle.amr_layout.specs.Adds.{flows_of, word_total}
 use Rattle.amr_flows.specs.Words.{level_total}
 use Rattle.amr_flows.specs.Laws.{ArePatchesOf, InflowIsOfLevel, OutflowIsOfLevel, plain_size}
-use Rattle.amr_flows.proofs.LedgerFlowsSums.{line_total, sum_none, total_add, total_each}
+use Rattle.amr_flows.proofs.LedgerFlowsSums.{cells_total, sum_none, total_add, total_each}
 use Rattle.amr_flows.proofs.LedgerFlowsWays.{IsWay, is_in, is_out, way_in, way_out}
 use Rattle.amr_flows.proofs.LedgerFlowsOpen.{placed}
 use Rattle.amr_flows.proofs.LedgerFlowsSides.{side_flow, way_size}
@@ -37,7 +37,7 @@ module _ (s : Around) (m : Masses) (of : ArePatchesOf s.problem s.level m s.patc
   -- one side of the domain, over all patches
   one_side : (wraps : Bool) (part : ℤ → ℕ) (at : ℕ → Cell) (g : ℕ → Face) (n : ℕ)
       → total (λ (q : Patch). side_sum s e wraps part at g n (box q)) s.patches ≡ cond wraps 0 (sum_to (λ y. cond (is_uncovered m s.finer (at y)) (part (e (g y))) 0) n)
-  one_side wraps part at g n = line_total s.patches of.apart at (λ y. side_flow s e wraps part (at y) (g y)) n ∙ from wraps
+  one_side wraps part at g n = cells_total s.patches of.apart at (λ y. side_flow s e wraps part (at y) (g y)) n ∙ from wraps
     where
       nothing : (t : Bool) → cond {A = ℕ} t 0 0 ≡ 0
       nothing true = refl

@@ -1,4 +1,4 @@
--- Sums over faces that pass a test, over the sides of a box, and over the patches that hold the cells of a line.
+-- Sums over faces that pass a test, over the sides of a box, and over the patches that hold some cells.
 use Rattle.std.proofs.Common.{◌≡◌, ℕ, zero, suc, ◌+◌, ◌-◌, ◌*◌, ◌<◌, ◌≤◌, Bool, true, false, ◌||◌, cond, List, [], ◌∷◌, ◌++◌, map, refl, sym, ap, ◌∙◌, add-zero, add-suc, arith}
 use Rattle.std.specs.List.{All}
 use Rattle.amr_box.specs.declared.Cell.{Cell}
@@ -119,8 +119,8 @@ one_holder (q ∷ ps) apart c v =
         omega (arith, rest, others)
     from false e rest = omega (arith, rest)
 
--- over the patches, of sums over the cells of a line that a patch holds
-pub line_total : (ps : List Patch) → ArePatchesApart ps → (at : ℕ → Cell) (v : ℕ → ℕ) (n : ℕ) → total (λ (q : Patch). sum_to (λ y. cond (holds (box q) (at y)) (v y) 0) n) ps ≡ sum_to (λ y. cond (in_patches ps (at y)) (v y) 0) n
-line_total ps apart at v n =
+-- over the patches, of sums over those of n cells that a patch holds
+pub cells_total : (ps : List Patch) → ArePatchesApart ps → (at : ℕ → Cell) (v : ℕ → ℕ) (n : ℕ) → total (λ (q : Patch). sum_to (λ y. cond (holds (box q) (at y)) (v y) 0) n) ps ≡ sum_to (λ y. cond (in_patches ps (at y)) (v y) 0) n
+cells_total ps apart at v n =
     total_sums (λ (q : Patch) y. cond (holds (box q) (at y)) (v y) 0) n ps
     ∙ sum_same (λ y. total (λ (q : Patch). cond (holds (box q) (at y)) (v y) 0) ps) (λ y. cond (in_patches ps (at y)) (v y) 0) n (λ y lt. one_holder ps apart (at y) (v y))

@@ -72,7 +72,7 @@ pub record IsFaceAt (b : Extent) (x y : ℤ) (i j : ℕ) : Type 0 where
   pub column : pos i ≡ x -ℤ b.lo.x
   pub row : pos j ≡ y -ℤ b.lo.y
 
--- the flux of a face on an edge line is that line's entry
+-- the flux of a face on an edge is that edge's entry
 pub x_low_here : (q : Patch) (x y : ℤ) (i j : ℕ) → IsFaceAt q.bx x y i j → x ≡ q.bx.lo.x → flux_in q (face X x y) ≡ slice_index_or q.x_low.items j (pos 0)
 x_low_here q x y i j at e = flux_x_low q (face X x y) refl e ∙ ap (λ n. slice_index_or q.x_low.items n (pos 0)) (zero-cut (y -ℤ q.bx.lo.y) j at.row)
 

@@ -24,7 +24,7 @@ use Rattle.amr_flux.proofs.Shown.{border_of_box}
 opposite : {b : Bool} → b ≡ true → b ≡ false → ⊥
 opposite e f = let wrong : true ≡ false = sym e ∙ f in cc
 
--- a face at an end of a row or a column has the entry of its edge line
+-- a face at an end of a row or a column has the entry of its edge
 module _ (p : Problem) (l : ℕ) (q new : Patch) (column row : ℕ) (s : Stands p l q.bx column row) (same : new.bx ≡ q.bx) where
   there : (x y : ℤ) (i j : ℕ) → IsFaceAt q.bx x y i j → IsFaceAt new.bx x y i j
   there x y i j at = let P : Extent → Type 0 = λ b. IsFaceAt b x y i j in subst P (sym same) at
@@ -51,18 +51,18 @@ module _ (p : Problem) (l : ℕ) (q new : Patch) (column row : ℕ) (s : Stands 
       let last : j ≡ height q.bx = omega (arith, ints, f.at.row, e, high) in
       y_high_here new x y i j (there x y i j f.at) (e ∙ ap (λ (b : Extent). b.hi.y +ℤ pos 1) (sym same)) ∙ is ∙ ap (λ n. y_flux p l column (width q.bx) q.values.items i n) (sym last) ∙ y_beside p l q column row s x y i j f.at f.column
 
--- a face on an edge line is a face of the box
+-- a face on an edge is a face of the box
 pub edge_face : (b : Extent) (a : Axis) (x y : ℤ) → IsNear b → on_edge a b (cell x y) ≡ true → on_box a b (cell x y) ≡ true
 edge_face b X x y near e = at_each (at_end b.lo.x b.hi.x x (x_edge b (cell x y) e).ends)
   where
     at_each : (x ≡ b.lo.x) ⊎ (x ≡ b.hi.x +ℤ pos 1) → on_box X b (cell x y) ≡ true
-    at_each (inl at) = let line = x_edge b (cell x y) e in is_inside (extent b.lo (cell (b.hi.x +ℤ pos 1) b.hi.y)) (cell x y) (record { west = omega (arith, ints, at); east = omega (arith, ints, at, near.wide); south = line.from; north = line.to })
-    at_each (inr at) = let line = x_edge b (cell x y) e in is_inside (extent b.lo (cell (b.hi.x +ℤ pos 1) b.hi.y)) (cell x y) (record { west = omega (arith, ints, at, near.wide); east = omega (arith, ints, at); south = line.from; north = line.to })
+    at_each (inl at) = let edge = x_edge b (cell x y) e in is_inside (extent b.lo (cell (b.hi.x +ℤ pos 1) b.hi.y)) (cell x y) (record { west = omega (arith, ints, at); east = omega (arith, ints, at, near.wide); south = edge.from; north = edge.to })
+    at_each (inr at) = let edge = x_edge b (cell x y) e in is_inside (extent b.lo (cell (b.hi.x +ℤ pos 1) b.hi.y)) (cell x y) (record { west = omega (arith, ints, at, near.wide); east = omega (arith, ints, at); south = edge.from; north = edge.to })
 edge_face b Y x y near e = at_each (at_end b.lo.y b.hi.y y (y_edge b (cell x y) e).ends)
   where
     at_each : (y ≡ b.lo.y) ⊎ (y ≡ b.hi.y +ℤ pos 1) → on_box Y b (cell x y) ≡ true
-    at_each (inl at) = let line = y_edge b (cell x y) e in is_inside (extent b.lo (cell b.hi.x (b.hi.y +ℤ pos 1))) (cell x y) (record { west = line.from; east = line.to; south = omega (arith, ints, at); north = omega (arith, ints, at, near.high) })
-    at_each (inr at) = let line = y_edge b (cell x y) e in is_inside (extent b.lo (cell b.hi.x (b.hi.y +ℤ pos 1))) (cell x y) (record { west = line.from; east = line.to; south = omega (arith, ints, at, near.high); north = omega (arith, ints, at) })
+    at_each (inl at) = let edge = y_edge b (cell x y) e in is_inside (extent b.lo (cell b.hi.x (b.hi.y +ℤ pos 1))) (cell x y) (record { west = edge.from; east = edge.to; south = omega (arith, ints, at); north = omega (arith, ints, at, near.high) })
+    at_each (inr at) = let edge = y_edge b (cell x y) e in is_inside (extent b.lo (cell b.hi.x (b.hi.y +ℤ pos 1))) (cell x y) (record { west = edge.from; east = edge.to; south = omega (arith, ints, at, near.high); north = omega (arith, ints, at) })
 
 module _ (p : Problem) (l : ℕ) (q new : Patch) (column row : ℕ) (s : Stands p l q.bx column row) (same : new.bx ≡ q.bx)
     (x_low : (j : ℕ) → j < height q.bx → slice_index_or new.x_low.items j (pos 0) ≡ x_flux p l row (width q.bx) q.values.items 0 j)
@@ -110,9 +110,9 @@ module _ (p : Problem) (l : ℕ) (q new : Patch) (column row : ℕ) (s : Stands 
           let j = offset q.bx.lo.y y in
           let last : i ≡ width q.bx = omega (arith, f.column, past) in
           let wide = (sides q.bx q.near).wide in
-          let line : x ≡ q.bx.hi.x +ℤ pos 1 = omega (arith, ints, f.at.column, last, wide) in
+          let edge : x ≡ q.bx.hi.x +ℤ pos 1 = omega (arith, ints, f.at.column, last, wide) in
           let marked : x_marked (width q.bx) q.marks.items j ≡ true = sym (x_border q x y i j (border_of_box q (face X x y) e) f last) ∙ e in
-          x_high_here new x y i j (there p l q new column row s same x y i j f.at) (line ∙ ap (λ (b : Extent). b.hi.x +ℤ pos 1) (sym same)) ∙ x_kept j marked ∙ sym (x_high_here q x y i j f.at line)
+          x_high_here new x y i j (there p l q new column row s same x y i j f.at) (edge ∙ ap (λ (b : Extent). b.hi.x +ℤ pos 1) (sym same)) ∙ x_kept j marked ∙ sym (x_high_here q x y i j f.at edge)
 
   y_stays : (x y : ℤ) → is_border q (face Y x y) ≡ true → flux_in new (face Y x y) ≡ flux_in q (face Y x y)
   y_stays x y e = at_each (y_face_at q.bx x y q.near (border_of_box q (face Y x y) e)) (cases_lt (offset q.bx.lo.y y) (height q.bx))
@@ -124,9 +124,9 @@ module _ (p : Problem) (l : ℕ) (q new : Patch) (column row : ℕ) (s : Stands 
           let j = offset q.bx.lo.y y in
           let last : j ≡ height q.bx = omega (arith, f.row, past) in
           let high = (sides q.bx q.near).high in
-          let line : y ≡ q.bx.hi.y +ℤ pos 1 = omega (arith, ints, f.at.row, last, high) in
+          let edge : y ≡ q.bx.hi.y +ℤ pos 1 = omega (arith, ints, f.at.row, last, high) in
           let marked : y_marked (width q.bx) (height q.bx) q.marks.items i ≡ true = sym (y_border q x y i j (border_of_box q (face Y x y) e) f last) ∙ e in
-          y_high_here new x y i j (there p l q new column row s same x y i j f.at) (line ∙ ap (λ (b : Extent). b.hi.y +ℤ pos 1) (sym same)) ∙ y_kept i f.column marked ∙ sym (y_high_here q x y i j f.at line)
+          y_high_here new x y i j (there p l q new column row s same x y i j f.at) (edge ∙ ap (λ (b : Extent). b.hi.y +ℤ pos 1) (sym same)) ∙ y_kept i f.column marked ∙ sym (y_high_here q x y i j f.at edge)
 
   stays_by : (a : Axis) (x y : ℤ) → is_border q (face a x y) ≡ true → flux_in new (face a x y) ≡ flux_in q (face a x y)
   stays_by X x y e = x_stays x y e

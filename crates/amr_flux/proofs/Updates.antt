@@ -172,7 +172,7 @@ moved P {l = l} {l' = l'} {w = w} {w' = w'} {h = h} {h' = h'} {v = v} {v' = v'} 
 pub enough : (q : Patch) (border : List ℕ) → length border ≡ length (border_faces q) → count_below (x_marked (width q.bx) q.marks.items) (height q.bx) + count_below (y_marked (width q.bx) (height q.bx) q.marks.items) (width q.bx) ≤ length border
 enough q border count = omega (arith, count, border_count q)
 
--- a patch that keeps its box and its edge lines has the fluxes of before
+-- a patch that keeps its box and the lists of its edges has the fluxes of before
 pub same_along : (q r : Patch) (a : Axis) (c : Cell) → r.bx ≡ q.bx → r.x_low.items ≡ q.x_low.items → r.x_high.items ≡ q.x_high.items → r.y_low.items ≡ q.y_low.items → r.y_high.items ≡ q.y_high.items → flux_along a r c ≡ flux_along a q c
 same_along q r X c eb west east south north = λ i. cond (int_eq c.x (eb i).lo.x) (slice_index_or (west i) (row_of (eb i) c) (pos 0)) (slice_index_or (east i) (row_of (eb i) c) (pos 0))
 same_along q r Y c eb west east south north = λ i. cond (int_eq c.y (eb i).lo.y) (slice_index_or (south i) (column_of (eb i) c) (pos 0)) (slice_index_or (north i) (column_of (eb i) c) (pos 0))

@@ -21,16 +21,16 @@ use Rattle.amr_layout.specs.Surroundings.{Around}
 -- ---- lists made of lists
 
 module _ {A B : Type 0} (g : A → List B) where
-  one_piece : (xs : List A) (i : ℕ) (d : A) → i < length xs → take (length (g (get_or xs i d))) (drop (length (flat_map g (take i xs))) (flat_map g xs)) ≡ g (get_or xs i d)
-  one_piece [] i d lt = absurd (omega (arith, lt))
-  one_piece (x ∷ xs) zero d lt = take-append_seam (g x) (flat_map g xs)
-  one_piece (x ∷ xs) (suc i) d lt =
+  one_part : (xs : List A) (i : ℕ) (d : A) → i < length xs → take (length (g (get_or xs i d))) (drop (length (flat_map g (take i xs))) (flat_map g xs)) ≡ g (get_or xs i d)
+  one_part [] i d lt = absurd (omega (arith, lt))
+  one_part (x ∷ xs) zero d lt = take-append_seam (g x) (flat_map g xs)
+  one_part (x ∷ xs) (suc i) d lt =
       let past : drop (length (g x ++ flat_map g (take i xs))) (g x ++ flat_map g xs) ≡ drop (length (flat_map g (take i xs))) (flat_map g xs)
       = ap (λ n. drop n (g x ++ flat_map g xs)) (length-append (g x) (flat_map g (take i xs))) ∙ drop-append-add (g x) (flat_map g xs) (length (flat_map g (take i xs))) in
-      ap (take (length (g (get_or xs i d)))) past ∙ one_piece xs i d (omega (arith, lt))
+      ap (take (length (g (get_or xs i d)))) past ∙ one_part xs i d (omega (arith, lt))
 
-  pieces_more : (xs : List A) (i : ℕ) (d : A) → i < length xs → flat_map g (take (i + 1) xs) ≡ flat_map g (take i xs) ++ g (get_or xs i d)
-  pieces_more xs i d lt = ap (flat_map g) (take_more xs i d lt) ∙ flat_map-append g (take i xs) (get_or xs i d ∷ []) ∙ ap (λ l. flat_map g (take i xs) ++ l) (append-nil (g (get_or xs i d)))
+  parts_more : (xs : List A) (i : ℕ) (d : A) → i < length xs → flat_map g (take (i + 1) xs) ≡ flat_map g (take i xs) ++ g (get_or xs i d)
+  parts_more xs i d lt = ap (flat_map g) (take_more xs i d lt) ∙ flat_map-append g (take i xs) (get_or xs i d ∷ []) ∙ ap (λ l. flat_map g (take i xs) ++ l) (append-nil (g (get_or xs i d)))
 
 -- ---- made patch by patch
 
@@ -58,7 +58,7 @@ module _ (s : Around) where
 
   pub patch_more : (i : ℕ) (q : Patch) → i < length s.patches → q ≡ get_or s.patches i q → level_flows s (take (i + 1) s.patches) ≡ level_flows s (take i s.patches) ++ flows_of s (box q)
   unfolding level_flows
-  patch_more i q lt e = pieces_more (λ (r : Patch). flows_of s (box r)) s.patches i q lt ∙ ap (λ (r : Patch). flat_map (λ (x : Patch). flows_of s (box x)) (take i s.patches) ++ flows_of s (box r)) (sym e)
+  patch_more i q lt e = parts_more (λ (r : Patch). flows_of s (box r)) s.patches i q lt ∙ ap (λ (r : Patch). flat_map (λ (x : Patch). flows_of s (box x)) (take i s.patches) ++ flows_of s (box r)) (sym e)
 
   pub bounds_more : (i n : ℕ) (bs : List ℕ) → bs ≡ map (flows_before s) (range_with_len 0 (i + 1)) → n ≡ flows_before s (i + 1) → bs ++ n ∷ [] ≡ map (flows_before s) (range_with_len 0 (i + 1 + 1))
   bounds_more i n bs before is = (λ t. before t ++ is t ∷ []) ∙ sym (map-range_with_len_more (flows_before s) 0 (i + 1) (i + 1) (let z : 0 + (i + 1) ≡ i + 1 = omega arith in z))
@@ -83,7 +83,7 @@ module _ (s : Around) where
     unfolding level_flows
     next d =
         let g : Patch → List FlowTo = λ q. flows_of s (box q) in
-        ap (λ (l : List FlowTo). length l) (pieces_more g s.patches i d lt) ∙ length-append (flat_map g (take i s.patches)) (g (get_or s.patches i d))
+        ap (λ (l : List FlowTo). length l) (parts_more g s.patches i d lt) ∙ length-append (flat_map g (take i s.patches)) (g (get_or s.patches i d))
 
     within_all : (d : Patch) → flows_before s i + length (flows_of s (box (get_or s.patches i d))) ≤ length (level_flows s s.patches)
     unfolding level_flows
@@ -96,15 +96,15 @@ module _ (s : Around) where
       within = omega (arith, end, next d, within_all d, ap (λ (l : List FlowTo). length l) h.flows);
     }
 
-    piece : (d : Patch) → take (length (flows_of s (box (get_or s.patches i d)))) (drop (flows_before s i) (level_flows s s.patches)) ≡ flows_of s (box (get_or s.patches i d))
+    part_of_patch : (d : Patch) → take (length (flows_of s (box (get_or s.patches i d)))) (drop (flows_before s i) (level_flows s s.patches)) ≡ flows_of s (box (get_or s.patches i d))
     unfolding level_flows
-    piece d = one_piece (λ (q : Patch). flows_of s (box q)) s.patches i d lt
+    part_of_patch d = one_part (λ (q : Patch). flows_of s (box q)) s.patches i d lt
 
     -- it has the flows of the patch
     pub flows_here : (d : Patch) → flows_at v i ≡ flows_of s (box (get_or s.patches i d))
     flows_here d =
         let count : slice_index v.bounds.items (i + 1) - slice_index v.bounds.items i ≡ length (flows_of s (box (get_or s.patches i d))) = omega (arith, start, end, next d) in
-        (λ t. take (count t) (drop (start t) (h.flows t))) ∙ piece d
+        (λ t. take (count t) (drop (start t) (h.flows t))) ∙ part_of_patch d
 
   -- what all flows of the level have, those of a patch have
   pub each_of_patch : (P : FlowTo → Type 0) (v : LevelFlows) (i : ℕ) → All P v.flows.items → All P (flows_at v i)

@@ -106,18 +106,18 @@ pub record IsNearFace (f : Face) : Type 0 where
 
 -- ---- rows and columns
 
-abbrev pub line_along : Axis → Face → ℤ
-line_along X f = f.y
-line_along Y f = f.x
+abbrev pub row_or_column_along : Axis → Face → ℤ
+row_or_column_along X f = f.y
+row_or_column_along Y f = f.x
 
 -- the row of an x face and the column of a y face, and how many of them a level has
-abbrev pub line_of : Face → ℤ
-line_of f = line_along f.axis f
+abbrev pub row_or_column_of : Face → ℤ
+row_or_column_of f = row_or_column_along f.axis f
 
-abbrev pub line_count : Axis → Problem → ℕ → ℕ
-line_count X p l = rows p l
-line_count Y p l = columns p l
+abbrev pub row_or_column_count : Axis → Problem → ℕ → ℕ
+row_or_column_count X p l = rows p l
+row_or_column_count Y p l = columns p l
 
 -- the row or the column is one of the level
-abbrev pub IsInLines : Problem → ℕ → Face → Type 0
-IsInLines p l f = IsTrue (is_inside (line_count f.axis p l) (line_of f))
+abbrev pub IsInRowOrColumn : Problem → ℕ → Face → Type 0
+IsInRowOrColumn p l f = IsTrue (is_inside (row_or_column_count f.axis p l) (row_or_column_of f))

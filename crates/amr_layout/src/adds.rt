@@ -8,7 +8,7 @@ ghost use Rattle.amr_def.specs.Domain.{domain, home_cell, in_domain};
 ghost use Rattle.amr_patch.specs.Patches.{ArePatchesApart, in_patches};
 ghost use Rattle.amr_patch.specs.Orders.{IsOrderOf};
 ghost use Rattle.amr_flux.specs.Faces.{IsInDomain};
-ghost use Rattle.amr_layout.specs.Surroundings.{IsInLines, IsNearFace, LiesBesideLevel, around, edge_count, edge_face, is_coarse_fine};
+ghost use Rattle.amr_layout.specs.Surroundings.{IsInRowOrColumn, IsNearFace, LiesBesideLevel, around, edge_count, edge_face, is_coarse_fine};
 ghost use Rattle.amr_gaps.specs.Gaps.{HasStarts, IsGap};
 ghost use Rattle.amr_layout.specs.Adds.{AreInOrder, HasCellsBeyond, cell_beyond, flow_to, flows_in, flows_of, inflow_faces, is_exchange_face, is_inflow_face, is_outflow_face, number_of, outflow_faces, register_flows, word_of};
 ghost use Rattle.amr_layout.specs.Flows.{IsAtHome, IsToWord, is_coarser, is_inflow, is_outflow, is_outside, is_register, word_in};
@@ -140,7 +140,7 @@ fn flow_of(s: Surroundings<'_>, near: &mut Near, b: &Bx, f: Face) -> Flow
     requires gap { IsGap s.patches.now near.old.level.gap }
     requires ordered { AreInOrder s.cells.now }
     requires few { length s.cells.now ≤ 2 ^ 30 }
-    requires line { IsInLines s.problem.now s.level f }
+    requires lies { IsInRowOrColumn s.problem.now s.level f }
     requires near { IsNearFace f }
     requires there { IsTrue (is_coarse_fine (around s.problem.now s.level s.patches.now s.cells.now (option_copied s.finer)) b.now f) → Contains s.cells.now (cell_beyond (around s.problem.now s.level s.patches.now s.cells.now (option_copied s.finer)) b.now f) }
     ensures inflow { is_inflow result ≡ is_inflow_face (around s.entry.problem.now s.entry.level s.entry.patches.now s.entry.cells.now (option_copied s.entry.finer)) b.now f }

@@ -5,7 +5,7 @@ ghost use Rattle.amr_box.specs.Cells.{IsNear, height, holds, width};
 ghost use Rattle.amr_def.specs.Domain.{columns, domain, domain_of, home_cell, rows};
 ghost use Rattle.amr_def.specs.Flux.{courant, high_cell, low_cell};
 ghost use Rattle.amr_layout.specs.Places.{home_face};
-ghost use Rattle.amr_layout.specs.Surroundings.{IsInLines, IsNearFace, edge_count, edge_face, inside, inward, outside, x_start, y_start};
+ghost use Rattle.amr_layout.specs.Surroundings.{IsInRowOrColumn, IsNearFace, edge_count, edge_face, inside, inward, outside, x_start, y_start};
 
 use amr_box::{Axis, Bx, Cell, Face};
 use amr_def::{Dom, Problem};
@@ -117,7 +117,7 @@ pub(crate) fn home_face(dom: &Dom, f: Face) -> Face
 /// The Courant number, times `d`, of a face in a row or a column of level `l`.
 fn courant(p: &Problem, l: u32, f: Face) -> i32
     requires level { l ≤ 4 }
-    requires line { IsInLines p.now l f }
+    requires lies { IsInRowOrColumn p.now l f }
     ensures { result ≡ courant p.now l f }
 {
     match f.axis {
@@ -129,7 +129,7 @@ fn courant(p: &Problem, l: u32, f: Face) -> i32
 /// The Courant number, times `d`, of a face on the edges of a box, above 0 where mass flows into the box.
 pub(crate) fn inward(p: &Problem, l: u32, b: &Bx, f: Face) -> i64
     requires level { l ≤ 4 }
-    requires line { IsInLines p.now l f }
+    requires lies { IsInRowOrColumn p.now l f }
     ensures { result ≡ inward p.now l b.now f }
 {
     let c = i64::from(courant(p, l, f));

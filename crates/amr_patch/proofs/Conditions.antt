@@ -13,6 +13,6 @@ pub ruleset conditions = (grown_is, and-yes)
 
 -- ---- faces
 
--- a test of a row or a column and one of a line of faces, by numbers that are those of the box
-pub on_line : (axis a : Axis) (b : Extent) (c : Cell) (low high z first last line : ℤ) (r : Bool) → axis ≡ a → on_edge a b c ≡ (within low high z && is_end first last line) → true ≡ within low high z → r ≡ is_end first last line → r ≡ on_edge axis b c
-on_line axis a b c low high z first last line r e f t k = k ∙ ap (λ (u : Bool). u && is_end first last line) t ∙ sym f ∙ ap (λ (s : Axis). on_edge s b c) (sym e)
+-- a test of a row or a column and one of an edge, by numbers that are those of the box
+pub on_edge_is : (axis a : Axis) (b : Extent) (c : Cell) (low high z first last across : ℤ) (r : Bool) → axis ≡ a → on_edge a b c ≡ (within low high z && is_end first last across) → true ≡ within low high z → r ≡ is_end first last across → r ≡ on_edge axis b c
+on_edge_is axis a b c low high z first last across r e f t k = k ∙ ap (λ (u : Bool). u && is_end first last across) t ∙ sym f ∙ ap (λ (s : Axis). on_edge s b c) (sym e)

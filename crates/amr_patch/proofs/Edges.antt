@@ -1,4 +1,4 @@
--- The fluxes through the faces on the edge lines of a patch, and what a write of one leaves.
+-- The fluxes through the faces on the edges of a patch, and what a write of one leaves.
 use Rattle.std.proofs.Common.{◌≡◌, ◌≢◌, ◌∙◌, ℕ, ◌<◌, ◌⊎◌, inl, inr, Bool, true, false, ◌||◌, cond, ℤ, pos, ◌+ℤ◌, ◌-ℤ◌, ◌≤ℤ◌, List, length, refl, sym, ap, arith}
 use Rattle.std.specs.Prelude.{slice_index_or, slice_set}
 use Rattle.std.specs.Ordering.{int_eq}
@@ -32,7 +32,7 @@ differs x y n = cases (int_eq x y) refl
     cases true e = absurd (n (is_equal x y e))
     cases false e = refl
 
--- ---- faces on edge lines
+-- ---- faces on edges
 
 pub at_end : (low high z : ℤ) → is_end low high z ≡ true → (z ≡ low) ⊎ (z ≡ high +ℤ pos 1)
 at_end low high z e = cases (int_eq z low) refl
@@ -45,19 +45,19 @@ at_end low high z e = cases (int_eq z low) refl
 pub at_high : (low high z : ℤ) → is_end low high z ≡ true → int_eq z low ≡ false → z ≡ high +ℤ pos 1
 at_high low high z e f = is_equal z (high +ℤ pos 1) (ap (λ (t : Bool). t || int_eq z (high +ℤ pos 1)) (sym f) ∙ e)
 
--- a face on an edge line lies in a row or a column of the box
-pub record IsOnLine (low high first last z line : ℤ) : Type 0 where
+-- a face on an edge lies in a row or a column of the box
+pub record IsOnEdge (low high first last z across : ℤ) : Type 0 where
   pub from : low ≤ℤ z
   pub to : z ≤ℤ high
-  pub ends : is_end first last line ≡ true
+  pub ends : is_end first last across ≡ true
 
-pub x_edge : (b : Extent) (c : Cell) → on_edge X b c ≡ true → IsOnLine b.lo.y b.hi.y b.lo.x b.hi.x c.y c.x
+pub x_edge : (b : Extent) (c : Cell) → on_edge X b c ≡ true → IsOnEdge b.lo.y b.hi.y b.lo.x b.hi.x c.y c.x
 x_edge b c e =
     let t : (within b.lo.y b.hi.y c.y ≡ true) × (is_end b.lo.x b.hi.x c.x ≡ true) = and_parts (within b.lo.y b.hi.y c.y) (is_end b.lo.x b.hi.x c.x) e in
     let h = between b.lo.y b.hi.y c.y t.0 in
     record { from = h.from; to = h.to; ends = t.1 }
 
-pub y_edge : (b : Extent) (c : Cell) → on_edge Y b c ≡ true → IsOnLine b.lo.x b.hi.x b.lo.y b.hi.y c.x c.y
+pub y_edge : (b : Extent) (c : Cell) → on_edge Y b c ≡ true → IsOnEdge b.lo.x b.hi.x b.lo.y b.hi.y c.x c.y
 y_edge b c e =
     let t : (within b.lo.x b.hi.x c.x ≡ true) × (is_end b.lo.y b.hi.y c.y ≡ true) = and_parts (within b.lo.x b.hi.x c.x) (is_end b.lo.y b.hi.y c.y) e in
     let h = between b.lo.x b.hi.x c.x t.0 in
@@ -71,7 +71,7 @@ x_entry low p c = cond low (slice_index_or p.x_low.items (row_of p.bx c) (pos 0)
 abbrev pub y_entry : Bool → Patch → Cell → ℤ
 y_entry low p c = cond low (slice_index_or p.y_low.items (column_of p.bx c) (pos 0)) (slice_index_or p.y_high.items (column_of p.bx c) (pos 0))
 
--- the flux through an x face on the line at the low side (low is true) or at the high side of the box
+-- the flux through an x face on the edge at the low side (low is true) or at the high side of the box
 pub flux_x : (p : Patch) (f : Face) (low : Bool) → f.axis ≡ X → int_eq f.x p.bx.lo.x ≡ low → flux_in p f ≡ x_entry low p (cell f.x f.y)
 unfolding flux_in
 flux_x p f low a e = ap (λ (t : Axis). flux_along t p (cell f.x f.y)) a ∙ ap (λ (t : Bool). x_entry t p (cell f.x f.y)) e
@@ -93,7 +93,7 @@ flux_y_low p f a e = flux_y p f true a (equal_is f.y p.bx.lo.y e)
 pub flux_y_high : (p : Patch) (f : Face) → f.axis ≡ Y → f.y ≡ p.bx.hi.y +ℤ pos 1 → flux_in p f ≡ slice_index_or p.y_high.items (column_of p.bx (cell f.x f.y)) (pos 0)
 flux_y_high p f a e = flux_y p f false a (differs f.y p.bx.lo.y (λ g. let w = p.near.high in absurd (omega (arith, ints, w, e, g))))
 
--- where each edge line has fluxes of 0
+-- where each edge has fluxes of 0
 pub nothing_flows : (p : Patch) → ((k : ℕ) → slice_index_or p.x_low.items k (pos 0) ≡ pos 0) → ((k : ℕ) → slice_index_or p.x_high.items k (pos 0) ≡ pos 0) → ((k : ℕ) → slice_index_or p.y_low.items k (pos 0) ≡ pos 0) → ((k : ℕ) → slice_index_or p.y_high.items k (pos 0) ≡ pos 0) → HasNoFluxes p
 unfolding flux_in
 nothing_flows p xl xh yl yh f = cases f.axis
@@ -106,10 +106,10 @@ nothing_flows p xl xh yl yh f = cases f.axis
     cases X = one (int_eq f.x p.bx.lo.x) _ _ (xl (row_of p.bx (cell f.x f.y))) (xh (row_of p.bx (cell f.x f.y)))
     cases Y = one (int_eq f.y p.bx.lo.y) _ _ (yl (column_of p.bx (cell f.x f.y))) (yh (column_of p.bx (cell f.x f.y)))
 
--- a patch that keeps its edge lines keeps its fluxes
-pub same_lines : (p q : Patch) → q.bx ≡ p.bx → q.x_low.items ≡ p.x_low.items → q.x_high.items ≡ p.x_high.items → q.y_low.items ≡ p.y_low.items → q.y_high.items ≡ p.y_high.items → SameFluxes p q
+-- a patch that keeps the lists of its edges keeps its fluxes
+pub kept_edges : (p q : Patch) → q.bx ≡ p.bx → q.x_low.items ≡ p.x_low.items → q.x_high.items ≡ p.x_high.items → q.y_low.items ≡ p.y_low.items → q.y_high.items ≡ p.y_high.items → SameFluxes p q
 unfolding flux_in
-same_lines p q b xl xh yl yh f = cases f.axis
+kept_edges p q b xl xh yl yh f = cases f.axis
   where
     cases : (axis : Axis) → flux_along axis q (cell f.x f.y) ≡ flux_along axis p (cell f.x f.y)
     cases X = λ i. cond (int_eq f.x (b i).lo.x) (slice_index_or (xl i) (row_of (b i) (cell f.x f.y)) (pos 0)) (slice_index_or (xh i) (row_of (b i) (cell f.x f.y)) (pos 0))
@@ -120,10 +120,10 @@ same_lines p q b xl xh yl yh f = cases f.axis
 pub same_faces : (f g : Face) → f.axis ≡ g.axis → f.x ≡ g.x → f.y ≡ g.y → f ≡ g
 same_faces f g e h k = λ i. record { axis = e i; x = h i; y = k i }
 
--- two faces of one edge line that stand at one place are one face
-same_on_line : (first last y z : ℤ) (t : Bool) → int_eq y first ≡ t → int_eq z first ≡ t → is_end first last y ≡ true → is_end first last z ≡ true → y ≡ z
-same_on_line first last y z true e f h k = is_equal y first e ∙ sym (is_equal z first f)
-same_on_line first last y z false e f h k = at_high first last y h e ∙ sym (at_high first last z k f)
+-- two faces of one edge that stand at one place are one face
+same_end : (first last y z : ℤ) (t : Bool) → int_eq y first ≡ t → int_eq z first ≡ t → is_end first last y ≡ true → is_end first last z ≡ true → y ≡ z
+same_end first last y z true e f h k = is_equal y first e ∙ sym (is_equal z first f)
+same_end first last y z false e f h k = at_high first last y h e ∙ sym (at_high first last z k f)
 
 same_offset : (low y z : ℤ) → low ≤ℤ y → low ≤ℤ z → at_least_zero (y -ℤ low) ≡ at_least_zero (z -ℤ low) → y ≡ z
 same_offset low y z h k e = let d : y -ℤ low ≡ z -ℤ low = same_cut (y -ℤ low) (z -ℤ low) (omega (arith, ints)) (omega (arith, ints)) e in omega (arith, ints, d)
@@ -165,7 +165,7 @@ picked true false xs ys k r v n = refl
 picked false true xs ys k r v n = refl
 picked false false xs ys k r v n = get_or-set_other ys k r v (pos 0) (λ f. n refl (sym f))
 
--- the flux of an x face was set, on the line at the low side where s is true
+-- the flux of an x face was set, on the edge at the low side where s is true
 pub other_x : (p q : Patch) (f g : Face) (v : ℤ) (s : Bool) → f.axis ≡ X → int_eq f.x p.bx.lo.x ≡ s → q.bx ≡ p.bx
     → q.x_low.items ≡ cond s (slice_set p.x_low.items (row_of p.bx (cell f.x f.y)) v) p.x_low.items
     → q.x_high.items ≡ cond s p.x_high.items (slice_set p.x_high.items (row_of p.bx (cell f.x f.y)) v)
@@ -178,9 +178,9 @@ other_x p q f g v s a at eb low high other_low other_high h k n = cases g.axis r
     apart e l r =
         let of_f = x_edge p.bx (cell f.x f.y) (ap (λ (t : Axis). on_edge t p.bx (cell f.x f.y)) (sym a) ∙ h) in
         let of_g = x_edge p.bx (cell g.x g.y) (ap (λ (t : Axis). on_edge t p.bx (cell g.x g.y)) e ∙ k) in
-        let on_line : g.x ≡ f.x = same_on_line p.bx.lo.x p.bx.hi.x g.x f.x s l at of_g.ends of_f.ends in
-        let in_line : g.y ≡ f.y = same_offset p.bx.lo.y g.y f.y of_g.from of_f.from (sym r) in
-        n (same_faces g f (sym e ∙ sym a) on_line in_line)
+        let same_x : g.x ≡ f.x = same_end p.bx.lo.x p.bx.hi.x g.x f.x s l at of_g.ends of_f.ends in
+        let same_y : g.y ≡ f.y = same_offset p.bx.lo.y g.y f.y of_g.from of_f.from (sym r) in
+        n (same_faces g f (sym e ∙ sym a) same_x same_y)
 
     cases : (axis : Axis) → axis ≡ g.axis → flux_along axis q (cell g.x g.y) ≡ flux_along axis p (cell g.x g.y)
     cases Y e = λ i. cond (int_eq g.y (eb i).lo.y) (slice_index_or (other_low i) (column_of (eb i) (cell g.x g.y)) (pos 0)) (slice_index_or (other_high i) (column_of (eb i) (cell g.x g.y)) (pos 0))
@@ -188,7 +188,7 @@ other_x p q f g v s a at eb low high other_low other_high h k n = cases g.axis r
         (λ i. cond (int_eq g.x (eb i).lo.x) (slice_index_or (low i) (row_of (eb i) (cell g.x g.y)) (pos 0)) (slice_index_or (high i) (row_of (eb i) (cell g.x g.y)) (pos 0)))
         ∙ picked s (int_eq g.x p.bx.lo.x) p.x_low.items p.x_high.items (row_of p.bx (cell f.x f.y)) (row_of p.bx (cell g.x g.y)) v (apart e)
 
--- the flux of a y face was set, on the line at the low side where s is true
+-- the flux of a y face was set, on the edge at the low side where s is true
 pub other_y : (p q : Patch) (f g : Face) (v : ℤ) (s : Bool) → f.axis ≡ Y → int_eq f.y p.bx.lo.y ≡ s → q.bx ≡ p.bx
     → q.y_low.items ≡ cond s (slice_set p.y_low.items (column_of p.bx (cell f.x f.y)) v) p.y_low.items
     → q.y_high.items ≡ cond s p.y_high.items (slice_set p.y_high.items (column_of p.bx (cell f.x f.y)) v)
@@ -201,9 +201,9 @@ other_y p q f g v s a at eb low high other_low other_high h k n = cases g.axis r
     apart e l r =
         let of_f = y_edge p.bx (cell f.x f.y) (ap (λ (t : Axis). on_edge t p.bx (cell f.x f.y)) (sym a) ∙ h) in
         let of_g = y_edge p.bx (cell g.x g.y) (ap (λ (t : Axis). on_edge t p.bx (cell g.x g.y)) e ∙ k) in
-        let on_line : g.y ≡ f.y = same_on_line p.bx.lo.y p.bx.hi.y g.y f.y s l at of_g.ends of_f.ends in
-        let in_line : g.x ≡ f.x = same_offset p.bx.lo.x g.x f.x of_g.from of_f.from (sym r) in
-        n (same_faces g f (sym e ∙ sym a) in_line on_line)
+        let same_y : g.y ≡ f.y = same_end p.bx.lo.y p.bx.hi.y g.y f.y s l at of_g.ends of_f.ends in
+        let same_x : g.x ≡ f.x = same_offset p.bx.lo.x g.x f.x of_g.from of_f.from (sym r) in
+        n (same_faces g f (sym e ∙ sym a) same_x same_y)
 
     cases : (axis : Axis) → axis ≡ g.axis → flux_along axis q (cell g.x g.y) ≡ flux_along axis p (cell g.x g.y)
     cases X e = λ i. cond (int_eq g.x (eb i).lo.x) (slice_index_or (other_low i) (row_of (eb i) (cell g.x g.y)) (pos 0)) (slice_index_or (other_high i) (row_of (eb i) (cell g.x g.y)) (pos 0))

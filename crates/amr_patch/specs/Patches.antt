@@ -1,5 +1,5 @@
 -- What a patch holds: a value for each cell of its box (a mass) and of the frame round it (a ghost cell's value), a mark for
--- each cell of the frame, and a flux for each face on the edge lines of its box.
+-- each cell of the frame, and a flux for each face on the edges of its box.
 use Rattle.std.specs.Prelude.{◌≡◌, ◌≢◌, ℕ, ◌+◌, ◌<◌, Bool, false, cond, ℤ, pos, negsuc, ◌+ℤ◌, ◌<ℤ◌, List, [], ◌∷◌, slice_index, slice_index_or, IsTrue}
 use Rattle.std.specs.declared.option.Option.TheVariants.{None, Some}
 use Rattle.std.specs.List.{AllPairs, list_any}
@@ -36,7 +36,7 @@ abbrev pub flux_along : Axis → Patch → Cell → ℤ
 flux_along X p c = cond (int_eq c.x p.bx.lo.x) (slice_index_or p.x_low.items (row_of p.bx c) (pos 0)) (slice_index_or p.x_high.items (row_of p.bx c) (pos 0))
 flux_along Y p c = cond (int_eq c.y p.bx.lo.y) (slice_index_or p.y_low.items (column_of p.bx c) (pos 0)) (slice_index_or p.y_high.items (column_of p.bx c) (pos 0))
 
--- the flux through a face on an edge line of the box
+-- the flux through a face on an edge of the box
 unfoldable pub flux_in : Patch → Face → ℤ
 flux_in p f = flux_along f.axis p (cell f.x f.y)
 
@@ -78,7 +78,7 @@ SameBeside c n p q = (d : Cell) → IsTrue (holds (grown (box p)) d) → ((k : �
 
 -- ---- patches made
 
--- nothing flows through the faces on the edge lines
+-- nothing flows through the faces on the edges
 abbrev pub HasNoFluxes : Patch → Type 0
 HasNoFluxes p = (f : Face) → flux_in p f ≡ pos 0
 

@@ -1,5 +1,5 @@
 -- Where the entries of a patch stand in its lists: values row by row over the grown box, within a row from the low column;
--- fluxes along the four edge lines of the box, which are the lines of faces that its cells share with cells outside.
+-- fluxes along the four edges of the box, which are the faces that its cells share with cells outside.
 use Rattle.std.specs.Prelude.{ℕ, ◌+◌, ◌*◌, ℤ, Bool, ◌&&◌, ◌||◌, not, pos, ◌+ℤ◌, ◌-ℤ◌}
 use Rattle.std.specs.Ordering.{int_eq}
 use Rattle.amr_box.specs.declared.Cell.{Cell}
@@ -28,13 +28,13 @@ is_face_of b f = on_box f.axis b (cell f.x f.y)
 unfoldable pub place : Extent → Cell → ℕ
 place b c = at_least_zero (c.y +ℤ pos 1 -ℤ b.lo.y) * (width b + 2) + at_least_zero (c.x +ℤ pos 1 -ℤ b.lo.x)
 
--- ---- edge lines
+-- ---- edges
 
--- whether a line of faces is the one at the low side of the cells from low to high, or the one at their high side
+-- whether faces at z lie at the low side of the cells from low to high, or at their high side
 abbrev pub is_end : ℤ → ℤ → ℤ → Bool
 is_end low high z = int_eq z low || int_eq z (high +ℤ pos 1)
 
--- whether the face at the low side of a cell lies on an edge line of a box
+-- whether the face at the low side of a cell lies on an edge of a box
 abbrev pub on_edge : Axis → Extent → Cell → Bool
 on_edge X b c = within b.lo.y b.hi.y c.y && is_end b.lo.x b.hi.x c.x
 on_edge Y b c = within b.lo.x b.hi.x c.x && is_end b.lo.y b.hi.y c.y

@@ -11,7 +11,7 @@ use std::alloc::Global;
 
 /// A box of cells with what a step needs of them (BoxLib's FAB with one ghost cell). Each cell of the box has a value,
 /// its mass, and so has each of the frame one cell wide round it. Each of the frame is marked where it is a cell of the
-/// level. Each face on the four edge lines of the box has a flux, above 0 towards the high side. Other patches,
+/// level. Each face on the four edges of the box has a flux, above 0 towards the high side. Other patches,
 /// registers and the ledger read these fluxes. Coordinates lie between -2^24 and 2^24, masses are below 2^32, and
 /// fluxes of a size below 2^31.
 ///
@@ -125,7 +125,7 @@ impl Patch {
         in_frame(&self.bx, c)
     }
 
-    /// Whether a face lies on an edge line of the box.
+    /// Whether a face lies on an edge of the box.
     pub fn on_edge(&self, f: Face) -> bool
         ensures { result ≡ is_edge_face (box self.now) f }
     {
@@ -143,7 +143,7 @@ impl Patch {
         (u64::from(self.values[at]), self.marks[at])
     }
 
-    /// The flux through a face on an edge line of the box.
+    /// The flux through a face on an edge of the box.
     pub fn flux(&self, f: Face) -> i64
         requires { IsTrue (is_edge_face (box self.now) f) }
         ensures { result ≡ flux_in self.now f }
@@ -214,7 +214,7 @@ impl Patch {
         set_span(&mut self.values, from, masses);
     }
 
-    /// Gives a face on an edge line of the box a flux.
+    /// Gives a face on an edge of the box a flux.
     pub fn set_flux(&mut self, f: Face, v: i64)
         requires edge { IsTrue (is_edge_face (box self.old) f) }
         requires small { unsigned_abs v < 2 ^ 31 }

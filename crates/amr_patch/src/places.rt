@@ -54,7 +54,7 @@ pub(crate) fn columns_from(b: &Bx, c: Cell) -> u32
     more as u32 + 1
 }
 
-/// Whether a line of faces is the one at the low side of the cells from `low` to `high`, or the one at their high side.
+/// Whether faces at `z` lie at the low side of the cells from `low` to `high`, or at their high side.
 fn is_end(low: i32, high: i32, z: i32) -> bool
     requires { high <ℤ pos (near_limit + 1) }
     ensures { result ≡ is_end low high z }
@@ -62,7 +62,7 @@ fn is_end(low: i32, high: i32, z: i32) -> bool
     z == low || z == high + 1
 }
 
-/// Whether the face at the low side of a cell along the axis lies on an edge line of the box.
+/// Whether the face at the low side of a cell along the axis lies on an edge of the box.
 pub(crate) fn on_edge(axis: Axis, b: &Bx, c: Cell) -> bool
     requires { IsNear b.now }
     ensures { result ≡ on_edge axis b.now c }
@@ -75,20 +75,20 @@ pub(crate) fn on_edge(axis: Axis, b: &Bx, c: Cell) -> bool
     }
 }
 
-/// The row of a face on the low or the high x edge line, counted from the low row of the box.
+/// The row of a face on the low or the high x edge, counted from the low row of the box.
 pub(crate) fn edge_row(b: &Bx, c: Cell) -> usize
     requires near { IsNear b.now }
-    requires on_line { IsTrue (on_edge X b.now c) }
+    requires edge { IsTrue (on_edge X b.now c) }
     ensures value { result ≡ row_of b.now c }
     ensures within { result < height b.now }
 {
     distance(b.lo().y, c.y)
 }
 
-/// The column of a face on the low or the high y edge line, counted from the low column of the box.
+/// The column of a face on the low or the high y edge, counted from the low column of the box.
 pub(crate) fn edge_column(b: &Bx, c: Cell) -> usize
     requires near { IsNear b.now }
-    requires on_line { IsTrue (on_edge Y b.now c) }
+    requires edge { IsTrue (on_edge Y b.now c) }
     ensures value { result ≡ column_of b.now c }
     ensures within { result < width b.now }
 {

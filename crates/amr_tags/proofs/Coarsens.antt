@@ -30,10 +30,10 @@ no-column w h words i j rows past =
     in_word i p h = omega (arith, h)
 
 no-row : (w h : ℕ) (words : List ℕ) (i j : ℕ) → h ≤ j → there (words_for w) h words i j ≡ false
-no-row w h words i j past = ap (λ (t : Bool). (nat_lt (i / 64) (words_for w) && t) && bit_of (words_for w) words i j) line ∙ and_left _ _ (and_right (nat_lt (i / 64) (words_for w)) false refl)
+no-row w h words i j past = ap (λ (t : Bool). (nat_lt (i / 64) (words_for w) && t) && bit_of (words_for w) words i j) outside ∙ and_left _ _ (and_right (nat_lt (i / 64) (words_for w)) false refl)
   where
-    line : nat_lt j h ≡ false
-    line = grind (arith, nat_tests)
+    outside : nat_lt j h ≡ false
+    outside = grind (arith, nat_tests)
 
 -- ---- a bit and its cell
 

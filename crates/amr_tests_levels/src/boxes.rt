@@ -1,17 +1,10 @@
-//! Boxes by their corners, with which several crates are tested.
+//! Boxes side by side, with which several crates are tested.
 
-ghost use Rattle.std.specs.Prelude.{◌≡◌, ◌≤◌, ◌<◌, ◌+◌, ◌≤ℤ◌, [], ◌∷◌, pos, IfOk};
+ghost use Rattle.std.specs.Prelude.{◌≡◌, ◌≤◌, ◌<◌, ◌+◌, ◌≤ℤ◌, [], ◌∷◌, pos};
 ghost use Rattle.amr_box.specs.Cells.{IsNear, cell, extent};
 ghost use Rattle.amr_patch.specs.Patches.{AreApart, AreNear};
 
 use amr_box::{Bx, Cell};
-
-/// The box with these corners, if there is one.
-pub(crate) fn box_of(lo: Cell, hi: Cell) -> Result<Bx, &'static str>
-    ensures { IfOk result (λ b. (b.lo ≡ lo) × (b.hi ≡ hi)) }
-{
-    Bx::try_new(lo, hi).ok_or("no box")
-}
 
 /// The box from column `west` to `east` and from row 0 to `north`.
 fn columns(west: i32, east: i32, north: u8) -> Bx

@@ -2,18 +2,18 @@ use Rattle.std.proofs.Common.{◌≡◌, ℕ, ◌≤◌, ◌<◌, ◌+◌, ◌*�
 use Rattle.std.specs.Option.{option_copied}
 use Rattle.amr_box.specs.declared.Face.{Face}
 use Rattle.amr_flux.specs.Faces.{passing}
-use Rattle.amr_layout.specs.Surroundings.{IsInLines, IsNearFace, LiesBesideLevel, around, edge_count, edge_face}
+use Rattle.amr_layout.specs.Surroundings.{IsInRowOrColumn, IsNearFace, LiesBesideLevel, around, edge_count, edge_face}
 use Rattle.amr_layout.specs.Adds.{flow_to, inflow_faces, is_exchange_face, is_inflow_face, is_outflow_face, outflow_faces, register_flows, word_of}
 use Rattle.amr_layout.specs.Flows.{is_inflow, is_outflow}
-use Rattle.amr_layout.proofs.Edges.{edge_lines, edge_near}
+use Rattle.amr_layout.proofs.Edges.{edge_in_level, edge_near}
 use Rattle.amr_layout.proofs.Going.{faces_more, flows_more, no_exchange, no_inflow, no_outflow}
 use Rattle.amr_layout.proofs.Passing.{passing_none}
 use Rattle.amr_layout.proofs.adds.flows_beside.Goals as goal
 
-pub flow_of-flow-requires-clause-line : goal.flow_of-flow-requires-clause-line
-flow_of-flow-requires-clause-line c =
-    subst (IsInLines c.args.s.problem.now c.args.s.level) (sym c.edge_face-f.ensures)
-    (edge_lines c.args.s.problem.now c.args.s.level c.args.b.now c.faces.n c.requires.near c.requires.inside (omega arith))
+pub flow_of-flow-requires-clause-lies : goal.flow_of-flow-requires-clause-lies
+flow_of-flow-requires-clause-lies c =
+    subst (IsInRowOrColumn c.args.s.problem.now c.args.s.level) (sym c.edge_face-f.ensures)
+    (edge_in_level c.args.s.problem.now c.args.s.level c.args.b.now c.faces.n c.requires.near c.requires.inside (omega arith))
 
 pub flow_of-flow-requires-clause-near : goal.flow_of-flow-requires-clause-near
 flow_of-flow-requires-clause-near c = subst IsNearFace (sym c.edge_face-f.ensures) (edge_near c.args.b.now c.faces.n c.requires.near (omega arith))

@@ -6,7 +6,7 @@ use Rattle.amr_layout.proofs.faces.courant.Goals as goal
 
 pub returns-in-X : goal.returns-in-X
 returns-in-X c =
-    let at = in_rows c.args.p.now c.args.l c.args.f c.in-X.is c.requires.line in
+    let at = in_rows c.args.p.now c.args.l c.args.f c.in-X.is c.requires.lies in
     let row : ℕ = unsigned_abs (to_z w32 (of_z w32 c.args.f.y)) in
     let is : pos row ≡ c.args.f.y = omega (arith, ints, at.0) in
     let read : to_z w32 (of_z w32 c.x_courant.result) ≡ c.x_courant.result = omega (arith, ints) in
@@ -14,7 +14,7 @@ returns-in-X c =
 
 pub returns-in-Y : goal.returns-in-Y
 returns-in-Y c =
-    let at = in_columns c.args.p.now c.args.l c.args.f c.in-Y.is c.requires.line in
+    let at = in_columns c.args.p.now c.args.l c.args.f c.in-Y.is c.requires.lies in
     let column : ℕ = unsigned_abs (to_z w32 (of_z w32 c.args.f.x)) in
     let is : pos column ≡ c.args.f.x = omega (arith, ints, at.0) in
     let read : to_z w32 (of_z w32 c.y_courant.result) ≡ c.y_courant.result = omega (arith, ints) in

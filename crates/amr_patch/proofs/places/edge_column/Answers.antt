@@ -5,13 +5,13 @@ use Rattle.amr_patch.proofs.Edges.{y_edge}
 use Rattle.amr_patch.proofs.places.edge_column.Goals as goal
 
 pub distance-requires : goal.distance-requires
-distance-requires c = let e = y_edge c.args.b.now c.args.c c.requires.on_line in omega (arith, ints, e.from, c.lo.ensures.x)
+distance-requires c = let e = y_edge c.args.b.now c.args.c c.requires.edge in omega (arith, ints, e.from, c.lo.ensures.x)
 
 pub returns-clause-value : goal.returns-clause-value
 returns-clause-value c = sym (zero-cut (c.args.c.x -ℤ c.args.b.now.lo.x) c.distance.result (omega (arith, ints, c.distance.ensures.value, c.lo.ensures.x)))
 
 pub returns-clause-within : goal.returns-clause-within
 returns-clause-within c =
-    let e = y_edge c.args.b.now c.args.c c.requires.on_line in
+    let e = y_edge c.args.b.now c.args.c c.requires.edge in
     let s = sides c.args.b.now c.requires.near in
     omega (arith, ints, e.to, s.wide, c.distance.ensures.value, c.lo.ensures.x)

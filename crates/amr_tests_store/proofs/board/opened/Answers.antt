@@ -1,7 +1,7 @@
 use Rattle.std.proofs.Common.{◌≡◌, ℕ, List, [], ◌∷◌, false, refl, ap, ◌∙◌}
 use lib.ListN.{get_elem?}
-use Rattle.amr_tests.specs.declared.board.Simple.{Simple}
-use Rattle.amr_tests.proofs.board.opened.Goals as goal
+use Rattle.amr_tests_store.specs.declared.board.Simple.{Simple}
+use Rattle.amr_tests_store.proofs.board.opened.Goals as goal
 
 pub returns-in-Ok-clause-pieces : goal.returns-in-Ok-clause-pieces
 returns-in-Ok-clause-pieces g c =

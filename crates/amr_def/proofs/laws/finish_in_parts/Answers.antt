@@ -1,5 +1,5 @@
 use Rattle.amr_def.proofs.Runs.{resumes}
-use Rattle.amr_def.proofs.laws.finish_in_pieces.Goals as goal
+use Rattle.amr_def.proofs.laws.finish_in_parts.Goals as goal
 
 pub returns : goal.returns
 returns c = resumes

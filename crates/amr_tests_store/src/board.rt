@@ -1,7 +1,7 @@
 //! A small board, stepped by hand.
 ghost use Rattle.std.specs.Prelude.{◌≡◌, ◌+◌, ◌<◌, [], ◌∷◌, true, false, Some, IfOk};
 ghost use Rattle.amr_phase.specs.Plans.{planned_face};
-ghost use Rattle.amr_tests.specs.declared.board.Simple.{Simple};
+ghost use Rattle.amr_tests_store.specs.declared.board.Simple.{Simple};
 ghost use Rattle.amr_board.specs.Views.{first_view, HoldsNone};
 ghost use Rattle.amr_board.specs.Ended.{face_of};
 ghost use Rattle.amr_board.specs.BoardOf.{IsSeatOf, view};

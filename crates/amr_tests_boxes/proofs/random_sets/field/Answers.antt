@@ -1,6 +1,6 @@
 use Rattle.std.proofs.Common.{ap, arith}
 use Rattle.std.proofs.lemmas.Int.{ints}
-use Rattle.amr_tests_levels.proofs.random_sets.field.Goals as goal
+use Rattle.amr_tests_boxes.proofs.random_sets.field.Goals as goal
 
 pub returns-in-Some : goal.returns-in-Some
 returns-in-Some c =

@@ -3,8 +3,8 @@ use Rattle.std.specs.Prelude.{Option}
 use lib.ListN.{get_elem?}
 use Rattle.atomic_table.proofs.Lists.{set_else}
 use Rattle.amr_board.specs.Ended.{EndedOf}
-use Rattle.amr_tests.specs.declared.board.Simple.{Simple}
-use Rattle.amr_tests.proofs.board.check.Goals as goal
+use Rattle.amr_tests_store.specs.declared.board.Simple.{Simple}
+use Rattle.amr_tests_store.proofs.board.check.Goals as goal
 
 pub hand-first-requires : goal.hand-first-requires
 hand-first-requires g c =
