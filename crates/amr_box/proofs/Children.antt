@@ -3,7 +3,7 @@ use Rattle.std.proofs.Common.{◌≡◌, ◌∙◌, ℕ, zero, suc, ◌<◌, Boo
 use Rattle.std.proofs.lemmas.Bool.{or_cases, or_left, or_right}
 use Rattle.std.proofs.lemmas.Int.{ints}
 use Rattle.amr_box.specs.declared.Cell.{Cell}
-use Rattle.amr_box.specs.Cells.{cell, child, half, has_child_where, parent}
+use Rattle.amr_box.specs.Cells.{child, half, has_child_where, parent}
 use Rattle.amr_box.proofs.CellEquality.{same_cell}
 use Rattle.amr_box.proofs.Halves.{half_is}
 

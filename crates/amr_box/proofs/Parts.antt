@@ -1,10 +1,11 @@
 -- The two parts of a box that is cut, and how many cells a box has.
-use Rattle.std.proofs.Common.{◌≡◌, ℕ, zero, suc, ◌+◌, ◌*◌, Bool, true, false, ◌&&◌, ℤ, pos, ◌+ℤ◌, ◌-ℤ◌, ◌≤ℤ◌, ◌<ℤ◌, refl, ap, ◌∙◌, arith, map, length, length-append}
+use Rattle.std.proofs.Common.{◌≡◌, ℕ, zero, suc, ◌+◌, ◌*◌, Bool, true, false, ◌&&◌, ℤ, pos, ◌+ℤ◌, ◌-ℤ◌, ◌≤ℤ◌, ◌<ℤ◌, refl, ap, ◌∙◌, arith, map, length, length-append, sym}
 use Rattle.std.specs.Prelude.{int_le, int_lt}
 use Rattle.std.specs.List.{range_with_len, flat_map}
 use Rattle.std.proofs.lemmas.Int.{ints}
 use Rattle.std.proofs.lemmas.List.Concat.{flat_map-cons}
 use Rattle.std.proofs.lemmas.List.FromFn.{length-map-range_with_len}
+use Rattle.std.proofs.Math.Bool.{and_assoc}
 use Rattle.amr_box.specs.declared.Cell.{Cell}
 use Rattle.amr_box.specs.declared.Axis.{Axis}
 use Rattle.amr_box.specs.declared.Axis.TheVariants.{X, Y}
@@ -23,16 +24,12 @@ and-last true false true = refl
 and-last true false false = refl
 and-last false b c = refl
 
-and-inner : (a b c : Bool) → (a && (b && c)) ≡ ((a && b) && c)
-and-inner true b c = refl
-and-inner false b c = refl
-
 pub below_cells : (axis : Axis) (i : ℤ) (b : Extent) → i ≤ℤ along axis b.hi → IsBoxOf (below_cut axis i b) (λ c. holds b c && int_lt (along axis c) i)
 below_cells X i b h = record {
   at = λ c. ap (λ t. t && within b.lo.y b.hi.y c.y) (within_below b.lo.x b.hi.x i c.x h) ∙ and-last (within b.lo.x b.hi.x c.x) (within b.lo.y b.hi.y c.y) (int_lt c.x i);
 }
 below_cells Y i b h = record {
-  at = λ c. ap (λ t. within b.lo.x b.hi.x c.x && t) (within_below b.lo.y b.hi.y i c.y h) ∙ and-inner (within b.lo.x b.hi.x c.x) (within b.lo.y b.hi.y c.y) (int_lt c.y i);
+  at = λ c. ap (λ t. within b.lo.x b.hi.x c.x && t) (within_below b.lo.y b.hi.y i c.y h) ∙ sym (and_assoc (within b.lo.x b.hi.x c.x) (within b.lo.y b.hi.y c.y) (int_lt c.y i));
 }
 
 pub from_cells : (axis : Axis) (i : ℤ) (b : Extent) → along axis b.lo <ℤ i → IsBoxOf (from_cut axis i b) (λ c. holds b c && int_le i (along axis c))
@@ -40,7 +37,7 @@ from_cells X i b h = record {
   at = λ c. ap (λ t. t && within b.lo.y b.hi.y c.y) (within_from b.lo.x b.hi.x i c.x h) ∙ and-last (within b.lo.x b.hi.x c.x) (within b.lo.y b.hi.y c.y) (int_le i c.x);
 }
 from_cells Y i b h = record {
-  at = λ c. ap (λ t. within b.lo.x b.hi.x c.x && t) (within_from b.lo.y b.hi.y i c.y h) ∙ and-inner (within b.lo.x b.hi.x c.x) (within b.lo.y b.hi.y c.y) (int_le i c.y);
+  at = λ c. ap (λ t. within b.lo.x b.hi.x c.x && t) (within_from b.lo.y b.hi.y i c.y h) ∙ sym (and_assoc (within b.lo.x b.hi.x c.x) (within b.lo.y b.hi.y c.y) (int_le i c.y));
 }
 
 -- ---- the same, for a box that is given by its corners

@@ -1,6 +1,6 @@
 -- Masses placed in patches, span by span, row by row and box by box.
 use Rattle.std.proofs.Common.{◌≡◌, ℕ, zero, suc, ◌+◌, ◌-◌, ◌*◌, ◌<◌, ◌≤◌, Bool, true, false, ◌||◌, pos, ◌+ℤ◌, ◌≤ℤ◌, ◌<ℤ◌, List, [], ◌∷◌, ◌++◌, length, map, drop, take, cond, if◌then◌else◌, refl, sym, ap, ◌∙◌, arith, ◌⊎◌, inl, inr, length-take}
-use Rattle.std.proofs.Math.Bool.{or-false}
+use Rattle.std.proofs.Math.Bool.{or-false, or_assoc}
 use Rattle.std.specs.Prelude.{IsTrue, slice_index, slice_index_or, slice_set}
 use Rattle.std.specs.declared.option.Option.{Option}
 use Rattle.std.specs.declared.option.Option.TheVariants.{None, Some}
@@ -132,11 +132,7 @@ all_rows g j ps qs near all filled = record {
 
 in_more : (gs : List Grid) (g : Grid) (d : Cell) → in_boxes (map (λ g. g.box) (gs ++ g ∷ [])) d ≡ (in_boxes (map (λ g. g.box) gs) d || holds g.box d)
 in_more [] g d = or-false (holds g.box d)
-in_more (h ∷ gs) g d = ap (λ r. holds h.box d || r) (in_more gs g d) ∙ by_test (holds h.box d) (in_boxes (map (λ g. g.box) gs) d) (holds g.box d)
-  where
-    by_test : (t s u : Bool) → (t || (s || u)) ≡ ((t || s) || u)
-    by_test true s u = refl
-    by_test false s u = refl
+in_more (h ∷ gs) g d = ap (λ r. holds h.box d || r) (in_more gs g d) ∙ sym (or_assoc (holds h.box d) (in_boxes (map (λ g. g.box) gs) d) (holds g.box d))
 
 first_has : (gs hs : List Grid) (d : Cell) → in_boxes (map (λ g. g.box) gs) d ≡ true → tests.masses_in (gs ++ hs) d ≡ tests.masses_in gs d
 first_has [] hs d h = absurd (cc)

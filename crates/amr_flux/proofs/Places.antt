@@ -159,10 +159,6 @@ y_face_at b x y near e =
     let ey : pos (at_least_zero (y -ℤ b.lo.y)) ≡ y -ℤ b.lo.y = whole (y -ℤ b.lo.y) (omega (arith, ints, k.south)) in
     record { at = record { column = ex; row = ey }; column = omega (arith, ints, ex, k.east, s.wide); row = omega (arith, ints, ey, k.north, s.high) }
 
-not_false : (a : Bool) → not a ≡ true → a ≡ false
-not_false true e = cc
-not_false false e = refl
-
 -- the cell on the high side of a face at the end of a row or a column is beyond the box
 pub x_beyond : (b : Extent) (x y : ℤ) (i j : ℕ) → IsNear b → IsXFace b x y i j → i ≡ width b → holds b (cell x y) ≡ false
 x_beyond b x y i j near f last =

@@ -1,5 +1,5 @@
 -- A part of a row of fluxes more.
-use Rattle.std.proofs.Common.{◌≡◌, ◌≢◌, ℕ, ◌+◌, ◌<◌, ◌≤◌, ◌⊎◌, inl, inr, Bool, true, false, ℤ, pos, List, length, set, get_or-set_same, get_or-set_other, sym, ap, ◌∙◌, arith}
+use Rattle.std.proofs.Common.{◌≡◌, ◌≢◌, ℕ, ◌+◌, ◌<◌, ◌≤◌, ◌⊎◌, inl, inr, Bool, ℤ, pos, List, length, set, get_or-set_same, get_or-set_other, sym, ap, ◌∙◌, arith}
 use Rattle.std.specs.Prelude.{slice_index_or}
 use Rattle.std.proofs.lemmas.Bool.{cases_eq}
 use borrow.Rule.Slice.PartMut.{put_mid}
@@ -10,9 +10,6 @@ use Rattle.amr_flux.proofs.Parts.{written}
 
 pub flow_of : {c c' : ℤ} {d d' a a' b b' : ℕ} → c ≡ c' → d ≡ d' → a ≡ a' → b ≡ b' → flow c d a b ≡ flow c' d' a' b'
 flow_of ec ed ea eb i = flow (ec i) (ed i) (ea i) (eb i)
-
-opposite : {b : Bool} → b ≡ true → b ≡ false → ⊥
-opposite e f = let wrong : true ≡ false = sym e ∙ f in cc
 
 -- ---- a row of faces
 
@@ -40,12 +37,6 @@ module _ (test : ℕ → Bool) (wanted : Bool) (fluxes : List ℤ) (i : ℕ) (f 
   -- those that don't pass it keep what they had
   pub others_kept : (old : List ℤ) (v : ℤ) (b : Bool) → (test i ≡ b → ⊥) → ((t : ℕ) → test t ≡ b → slice_index_or fluxes t (pos 0) ≡ slice_index_or old t (pos 0)) → (t : ℕ) → test t ≡ b → slice_index_or (set fluxes i v) t (pos 0) ≡ slice_index_or old t (pos 0)
   others_kept old v b apart before t e = get_or-set_other fluxes i t v (pos 0) (λ same. apart (ap test (sym same) ∙ e)) ∙ before t e
-
-pub not_true : {b : Bool} → b ≡ false → b ≡ true → ⊥
-not_true f e = opposite e f
-
-pub not_false : {b : Bool} → b ≡ true → b ≡ false → ⊥
-not_false e f = opposite e f
 
 -- ---- a flux by the numbers that it was worked out from
 

@@ -1,10 +1,9 @@
 -- New boxes lie in their domain, and cover each cell whose parent is wanted.
-use Rattle.std.proofs.Common.{◌≡◌, ℕ, zero, suc, ◌+◌, ◌*◌, ◌/◌, ◌%◌, ◌^◌, ◌<◌, ◌≤◌, Bool, true, ◌||◌, ◌⊎◌, inl, inr, ℤ, pos, negsuc, ◌+ℤ◌, ◌≤ℤ◌, ◌<ℤ◌, refl, sym, ap, subst, ◌∙◌, arith, List, map}
+use Rattle.std.proofs.Common.{◌≡◌, ℕ, suc, ◌+◌, ◌*◌, ◌/◌, ◌%◌, ◌^◌, ◌<◌, ◌≤◌, Bool, true, ℤ, pos, negsuc, ◌≤ℤ◌, ◌<ℤ◌, sym, ap, subst, ◌∙◌, arith, List, map}
 use Rattle.std.proofs.lemmas.Int.{ints}
-use Rattle.std.proofs.lemmas.Bool.{or_left, or_right}
 use Rattle.std.proofs.Math.Nat.{lt-div-mul-add, div-mul-le_self, mul-le-mul_right, mod-add-div', mul-div_cancel, div-lt_iff_lt-mul}
 use Rattle.amr_box.specs.declared.Cell.{Cell}
-use Rattle.amr_box.specs.Cells.{cell, half, parent, child, has_child_where, Extent, extent, holds}
+use Rattle.amr_box.specs.Cells.{parent, Extent, extent, holds}
 use Rattle.amr_def.specs.declared.problem.Problem.{Problem}
 use Rattle.amr_def.specs.Domain.{Domain, domain, domain_box, columns, rows, refined, in_blocks, has_cell_where}
 use Rattle.amr_def.specs.State.{in_boxes}
@@ -12,7 +11,6 @@ use Rattle.amr_def.specs.Cluster.{cluster}
 use Rattle.amr_def.specs.NewBoxes.{is_wanted, block_side, wanted_blocks}
 use Rattle.amr_def.specs.Regrid.{odd}
 use Rattle.amr_def.proofs.LevelLists.{IsCellInside}
-use Rattle.amr_def.proofs.Values.{same_cell}
 use Rattle.amr_def.proofs.Courants.{twice_as_many}
 use Rattle.amr_def.proofs.Nesting.{parent_inside, odd_small}
 use Rattle.amr_def.proofs.Nests.{half_and_odd}

@@ -1,10 +1,10 @@
 -- The number of a register cell, by the number of cells that come before it or are it.
-use Rattle.std.proofs.Common.{◌≡◌, ℕ, ◌+◌, ◌<◌, ◌≤◌, ◌⊎◌, inl, inr, Bool, true, false, List, length, get_or, refl, sym, ap, ◌∙◌, arith}
+use Rattle.std.proofs.Common.{◌≡◌, ℕ, ◌+◌, ◌<◌, ◌≤◌, ◌⊎◌, inl, inr, Bool, true, false, List, length, get_or, sym, ap, ◌∙◌, arith}
 use Rattle.std.specs.Prelude.{Contains, not}
 use Rattle.std.specs.List.{prefix_len}
 use Rattle.std.specs.List.Sorted.{IsPartitionPoint, IsPartitionedBy}
 use Rattle.std.proofs.lemmas.Int.{ints}
-use Rattle.std.proofs.lemmas.Bool.{cases_lt, cases_eq}
+use Rattle.std.proofs.lemmas.Bool.{cases_lt, cases_eq, not-false}
 use Rattle.std.proofs.lemmas.List.Sums.{prefix_len_passes, prefix_len_stops}
 use Rattle.amr_box.specs.declared.Cell.{Cell}
 use Rattle.amr_box.proofs.CellEquality.{coordinates_same}
@@ -20,10 +20,6 @@ first_itself c = comes_first-yes c c (omega (arith, ints)) (omega (arith, ints))
 
 both_first : (a b : Cell) → comes_first a b ≡ true → comes_first b a ≡ true → same_cell a b ≡ true
 both_first a b h k = grind (arith, ints)
-
-not_false : (b : Bool) → not b ≡ false → b ≡ true
-not_false true e = refl
-not_false false e = cc
 
 clash : {b : Bool} → b ≡ true → b ≡ false → ⊥
 clash e f = let wrong : true ≡ false = sym e ∙ f in cc
@@ -57,7 +53,7 @@ module _ (cells : List Cell) (c : Cell) (ordered : AreInOrder cells) (there : Co
   number_at =
       let m = prefix_len (λ (a : Cell). not (same_cell c a)) cells in
       let within : m < length cells = number_within in
-      sym (coordinates_same c (get_or cells m c) (not_false (same_cell c (get_or cells m c)) (prefix_len_stops (λ (a : Cell). not (same_cell c a)) cells c within)))
+      sym (coordinates_same c (get_or cells m c) (not-false (same_cell c (get_or cells m c)) (prefix_len_stops (λ (a : Cell). not (same_cell c a)) cells c within)))
 
   pub number_is : (count : ℕ) → count ≤ length cells → IsPartitionPoint (λ a. comes_first a c ≡ true) (λ a. comes_first a c ≡ false) cells count → count ≡ number_of cells c + 1
   number_is count most parts = from (cases_lt (number_of cells c) count) (cases_lt (number_of cells c + 1) count)

@@ -10,6 +10,7 @@ use Rattle.std.proofs.lemmas.Bool.{or_right, cases_lt, cases_eq, false_from_ne_t
 use Rattle.std.specs.Int.{int_min}
 use Rattle.amr_box.specs.declared.Cell.{Cell}
 use Rattle.amr_box.specs.Cells.{at_least_zero, cell, height, holds}
+use Rattle.amr_box.proofs.Tests.{never_both}
 use Rattle.amr_patch.specs.declared.patches.Patch.{Patch}
 use Rattle.amr_patch.specs.Patches.{ArePatchesApart, box, in_patches, mass_in, masses_in}
 use Rattle.amr_patch.specs.Orders.{AreAtMostHigh, AreInRows, IsHolder, comes_first}
@@ -116,14 +117,11 @@ pub is_point : (ps : List Patch) (c : Cell) (n : ℕ) → AreInRows ps → ((p :
     → IsPartitionPoint (λ p. comes_first (box p).lo c ≡ true) (λ p. comes_first (box p).lo c ≡ false) ps n
 is_point ps c n sorted last next within = (λ k d from lt. early k d lt, λ k d from lt. late k d from lt)
   where
-    both_ways : (t : Bool) → t ≡ false → t ≡ true → ⊥
-    both_ways t e f = cc
-
     early : (k : ℕ) (d : Patch) → k < n → comes_first (box (slice_index_or ps k d)).lo c ≡ true
     early k d lt = parted ps c sorted k (n - 1) d (omega arith) (omega arith) (last d (omega arith))
 
     late : (k : ℕ) (d : Patch) → n ≤ k → k < length ps → comes_first (box (slice_index_or ps k d)).lo c ≡ false
-    late k d from lt = false_from_ne_true _ (λ h. both_ways (comes_first (box (slice_index_or ps n d)).lo c) (next d (omega arith)) (parted ps c sorted n k d from lt h))
+    late k d from lt = false_from_ne_true _ (λ h. never_both (comes_first (box (slice_index_or ps n d)).lo c) (parted ps c sorted n k d from lt h) (next d (omega arith)))
 
 -- ---- the search
 

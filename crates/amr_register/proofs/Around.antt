@@ -4,10 +4,10 @@ use Rattle.std.specs.Prelude.{is_some, not, slice_index_or}
 use Rattle.std.specs.Cmp.{both_ways}
 use Rattle.std.specs.List.{Any, Contains}
 use Rattle.std.proofs.lemmas.Int.{ints}
-use Rattle.std.proofs.lemmas.Bool.{and_parts, cases_lt, or_cases, or_left, or_right}
+use Rattle.std.proofs.lemmas.Bool.{and_parts, cases_lt, or_cases}
 use Rattle.std.proofs.lemmas.List.Folds.{Any-from_list_any, list_any_at}
 use Rattle.amr_box.specs.declared.Cell.{Cell}
-use Rattle.amr_box.specs.Cells.{Extent, IsBoxOf, IsNear, IsProper, at_least_zero, cell, child, half, has_child_where, holds}
+use Rattle.amr_box.specs.Cells.{Extent, IsBoxOf, IsNear, IsProper, at_least_zero, cell, half, has_child_where, holds}
 use Rattle.amr_box.proofs.CellEquality.{same_cell}
 use Rattle.amr_box.proofs.Children.{has_child_more}
 use Rattle.amr_def.specs.declared.problem.Problem.{Problem}

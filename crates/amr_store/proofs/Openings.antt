@@ -4,6 +4,7 @@ use Rattle.std.proofs.lemmas.Bool.{cases_Bool}
 use Rattle.std.proofs.lemmas.Bool.Decides.{nat_tests}
 use Rattle.std.specs.Prelude.{slice_range, option_map, nat_eq, if◌then◌else◌}
 use Rattle.std.specs.Cmp.Lexicographic.{pointwise}
+use Rattle.std.proofs.Math.Bool.{and_assoc}
 use Rattle.amr_store.proofs.Calls.{stands_at}
 use Rattle.amr_store.proofs.Images.{base_plain, base_renewed, stored_is}
 use Rattle.amr_store.proofs.PartsRead.{equals, not_both}
@@ -85,12 +86,8 @@ pub renewed_is : (outline : Outline) (s : List ℕ) (has : Bool) → IsOutline o
 renewed_is outline s has is tests =
     tests ∙ same (outline.version == 1) (has_magic_1 s) (21 + outline.text + 2 * (17 + outline.slot_size)) (end_in s) (one_is (has_magic_1 s) outline.version is.head.version_is) (sym (end_is outline s is))
   where
-    joins : (a b c : Bool) → (a && (b && c)) ≡ (a && b && c)
-    joins true b c = refl
-    joins false b c = refl
-
     same : (a b : Bool) (m n : ℕ) → a ≡ b → m ≡ n → (a && (nat_lt (m + 1) (length s) && is_open s m)) ≡ (b && nat_lt (n + 1) (length s) && is_open s n)
-    same a b m n e f = rw (e, f) (joins b (nat_lt (n + 1) (length s)) (is_open s n))
+    same a b m n e f = rw (e, f) (sym (and_assoc b (nat_lt (n + 1) (length s)) (is_open s n)))
 
 plain_none : (s : List ℕ) → is_renewed s ≡ false → first_found (renewal_tests s) ≡ None
 plain_none s plain = rw plain refl

@@ -1,6 +1,6 @@
 -- Cells of a patch that are given masses: none, those of a span, those of one set after another.
-use Rattle.std.proofs.Common.{◌≡◌, ◌∙◌, ℕ, ◌<◌, Bool, true, false, ◌&&◌, ◌||◌, pos, ◌+ℤ◌, ◌≤ℤ◌, ◌≤◌, List, ◌++◌, length, take, drop, IsTrue, refl, sym, ap, subst, arith}
-use Rattle.std.specs.Prelude.{not, slice_index}
+use Rattle.std.proofs.Common.{◌≡◌, ◌∙◌, ℕ, ◌<◌, Bool, true, false, ◌||◌, pos, ◌+ℤ◌, ◌≤ℤ◌, ◌≤◌, List, ◌++◌, length, take, drop, IsTrue, refl, sym, ap, subst, arith}
+use Rattle.std.specs.Prelude.{slice_index}
 use Rattle.std.proofs.lemmas.List.{length-take-le, take-append-le, take_all}
 use Rattle.std.proofs.lemmas.Bool.{and_right, both_ways, not_from_true, or_from, or_parts}
 use Rattle.amr_box.specs.declared.Cell.{Cell}

@@ -1,4 +1,4 @@
-use Rattle.std.proofs.Common.{◌≡◌, IfSome, sym, subst}
+use Rattle.std.proofs.Common.{IfSome, sym, subst}
 use Rattle.amr_def.specs.declared.problem.Problem.{Problem}
 use Rattle.amr_work.specs.Ready.{MayBegin}
 use Rattle.amr_advance.specs.Teams.{IsTeamFor}

@@ -1,4 +1,4 @@
-use Rattle.std.proofs.Common.{◌≡◌, ◌∙◌, ◌&&◌, ◌||◌, Bool, true, false, refl, sym, ap}
+use Rattle.std.proofs.Common.{◌∙◌, ◌&&◌, ◌||◌, Bool, sym, ap}
 use Rattle.amr_box.specs.Cells.{holds}
 use Rattle.amr_tags.specs.TagSets.{has}
 use Rattle.amr_nest.proofs.nesting.tag_reach_at.Goals as goal

@@ -1,4 +1,4 @@
-use Rattle.std.proofs.Common.{◌≡◌, ◌∙◌, ◌+◌, ◌&&◌, ◌||◌, Bool, true, false, ℕ, suc, refl, sym, ap, arith}
+use Rattle.std.proofs.Common.{◌≡◌, ◌∙◌, ◌+◌, ◌&&◌, ◌||◌, Bool, ℕ, suc, refl, sym, ap, arith}
 use Rattle.amr_box.specs.Cells.{Extent, has_child_where, holds}
 use Rattle.amr_def.specs.Domain.{domain_of}
 use Rattle.amr_tags.specs.TagSets.{has}

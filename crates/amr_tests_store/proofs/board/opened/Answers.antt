@@ -1,4 +1,4 @@
-use Rattle.std.proofs.Common.{◌≡◌, ℕ, List, [], ◌∷◌, false, refl, ap, ◌∙◌}
+use Rattle.std.proofs.Common.{◌≡◌, List, [], ◌∷◌, false, ap, ◌∙◌}
 use lib.ListN.{get_elem?}
 use Rattle.amr_tests_store.specs.declared.board.Simple.{Simple}
 use Rattle.amr_tests_store.proofs.board.opened.Goals as goal
