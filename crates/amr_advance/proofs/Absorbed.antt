@@ -6,8 +6,9 @@ use Rattle.std.proofs.lemmas.Int.{ints}
 use Rattle.std.proofs.lemmas.List.Sums.{count_by-le-length, length-filter}
 use Rattle.std.proofs.lemmas.Nat.{mul-le}
 use Rattle.amr_box.specs.declared.Cell.{Cell}
-use Rattle.amr_box.specs.Cells.{at_least_zero, cells_of, height, width}
+use Rattle.amr_box.specs.Cells.{cells_of, height, width}
 use Rattle.amr_box.proofs.Parts.{length-cells_of}
+use Rattle.amr_box.proofs.Numbers.{domain_side}
 use Rattle.amr_def.specs.declared.problem.Problem.{Problem}
 use Rattle.amr_def.specs.Domain.{domain, domain_box}
 use Rattle.amr_def.specs.State.{Masses}
@@ -44,9 +45,6 @@ rises r made =
     subst (λ (cs : List Cell). AreRising cs) (sym made.1.1.1.1.cells) (register_cells_rise made.0 made.1.0 made.1.1.0 fine)
 
 -- ---- how many register cells there are
-
-domain_side : (n : ℕ) → at_least_zero (pos n -ℤ pos 1 +ℤ pos 1 -ℤ pos 0) ≡ n
-domain_side n = let whole : pos n -ℤ pos 1 +ℤ pos 1 -ℤ pos 0 ≡ pos n = omega (arith, ints) in ap at_least_zero whole
 
 pub few_cells : (p : Problem) (l : ℕ) (m fine : Masses) → l ≤ 4 → length (register_cells p l m fine) ≤ 2 ^ 24
 few_cells p l m fine shallow =

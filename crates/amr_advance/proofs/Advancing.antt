@@ -6,7 +6,6 @@ use Rattle.std.specs.declared.option.Option.TheVariants.{None, Some}
 use Rattle.amr_box.specs.declared.Cell.{Cell}
 use Rattle.amr_box.specs.declared.Face.{Face}
 use Rattle.amr_def.specs.declared.problem.Problem.{Problem}
-use Rattle.amr_def.specs.Domain.{domain}
 use Rattle.amr_def.specs.State.{Level, Masses}
 use Rattle.amr_def.specs.Flux.{flux_at, net}
 use Rattle.amr_def.specs.Facts.{IsLevel}
@@ -16,7 +15,6 @@ use Rattle.amr_patch.specs.declared.levels.Level.{Level as Held}
 use Rattle.amr_patch.specs.declared.patches.Patch.{Patch}
 use Rattle.amr_patch.specs.Levels.{level_of}
 use Rattle.amr_patch.specs.Patches.{masses_in}
-use Rattle.amr_ghost.specs.Frames.{AreInDomain}
 use Rattle.amr_layout.specs.Adds.{HasRegisterCells}
 use Rattle.amr_layout.specs.Surroundings.{around}
 use Rattle.amr_edges.proofs.Ordered.{serve, serve_base}
@@ -32,9 +30,6 @@ use Rattle.amr_advance.specs.Registers.{BothChange, Changes, HasCoarser, cells_o
 use Rattle.amr_advance.specs.Totals.{HasTotals, HasAbsorbed, MayAbsorb, SomeHasAbsorbed, SomeMayAbsorb}
 
 -- ---- the level
-
-pub patches_inside : (p : Problem) (l : ℕ) (k : Level) (ps : List Patch) → IsLevel p l k → k.masses ≡ masses_in ps → AreInDomain (domain p l) ps
-patches_inside p l k ps level is = λ c h. level.inside c (sym (level.filled c) ∙ ap (λ (m : Masses). is_some (m c)) is ∙ some_mass ps c ∙ h)
 
 -- the register's list serves the layout
 pub cells_serve : (p : Problem) (l : ℕ) (k : Level) (old : Option Held) (r : Option Register) (qs : List Patch) (next : Option Held) → HasCoarser p l k old r → IsLevel p l k → masses_in qs ≡ k.masses → HasRegisterCells (around p l qs (cells_of r) next)

@@ -23,6 +23,7 @@ use Rattle.amr_patch.proofs.Lookups.{same_default}
 use Rattle.amr_flux.specs.Faces.{border_faces, flux_beside, is_border, owns}
 use Rattle.amr_flux.specs.Rooms.{widest}
 use Rattle.amr_flux.proofs.Shown.{border_of_box}
+use Rattle.amr_flux.proofs.Places.{owned_of_box}
 use Rattle.amr_flows.proofs.LedgerFlowsSums.{total_append}
 use Rattle.amr_flows.specs.Laws.{plain_size}
 use Rattle.amr_flows.specs.Words.{level_total}
@@ -53,7 +54,7 @@ use Rattle.amr_work.specs.declared.work.Workspace.{Workspace}
 use Rattle.amr_work.specs.Ready.{HasBorderPlanned, HasOwnPosts, MayStepWith, IsReadyPiece, MayBegin}
 use Rattle.amr_work.specs.Works.{add_of, adds_by, adds_of_work, plain, put_of, puts_of_work, through}
 use Rattle.amr_work.proofs.Finishing.{border_all}
-use Rattle.amr_work.proofs.Sameness.{map_same, own_face, total_same}
+use Rattle.amr_work.proofs.Sameness.{map_same, total_same}
 use Rattle.amr_work.proofs.Small.{beside_small}
 use Rattle.amr_work.proofs.Standing.{through_raw}
 use Rattle.amr_advance.specs.Layouts.{IsLayoutOf}
@@ -187,7 +188,7 @@ module _ (p : Problem) (l : ℕ) (old : Masses) (qs : List Patch) (cells : List 
     through_here f h = through_raw w piece.raw f ∙ plain_here f h
 
     pub own_through : (f : Face) → IsOwnEdge q f → through w f ≡ e f
-    own_through f h = through_here f (own_face q f h.1)
+    own_through f h = through_here f (owned_of_box q f h.1)
 
     puts_are : w.body.value.workspace.layout.puts.items ≡ puts_of d qs (box q)
     puts_are = ap (λ (x : TaskLayout). x.puts.items) layout_is ∙ puts_at p l old qs cells next shallow shown fits y layout k r w0.body.value.workspace.layout lt
@@ -212,7 +213,7 @@ module _ (p : Problem) (l : ℕ) (old : Masses) (qs : List Patch) (cells : List 
     small_here f = from (is_edge_face (box q) f && owns q f) refl
       where
         from : (b : Bool) → (is_edge_face (box q) f && owns q f) ≡ b → size_here f < 2 ^ 31
-        from true h = rw h (beside_small w.problem.value w.level w.body.value.patch ready.step.small f (rw (piece.of_patch) (own_face q f (and_parts (is_edge_face (box q) f) (owns q f) h).1)))
+        from true h = rw h (beside_small w.problem.value w.level w.body.value.patch ready.step.small f (rw (piece.of_patch) (owned_of_box q f (and_parts (is_edge_face (box q) f) (owns q f) h).1)))
         from false h = rw h (omega arith)
 
     size_own : (f : Face) → IsOwnEdge q f → unsigned_abs (through w f) ≡ size_here f

@@ -17,6 +17,7 @@ use Rattle.amr_patch.specs.Patches.{box, mass_in, masses_in}
 use Rattle.amr_patch.proofs.Lookups.{same_default}
 use Rattle.amr_flux.specs.Faces.{flux_beside}
 use Rattle.amr_flux.proofs.Shown.{net_alike}
+use Rattle.amr_flux.proofs.Places.{owned_of_box}
 use Rattle.amr_flows.specs.Laws.{plain_size}
 use Rattle.amr_flows.specs.Words.{level_total}
 use Rattle.amr_phase.specs.Plans.{total}
@@ -30,7 +31,6 @@ use Rattle.amr_layout.specs.Surroundings.{Around, around, edge_count}
 use Rattle.amr_layout.proofs.LevelFlowLists.{each_of_patch, flows_here, has_flows_at}
 use Rattle.amr_layout.proofs.Planned.{flows_few}
 use Rattle.amr_work.specs.Ready.{AreOwnFlows, MayStep}
-use Rattle.amr_work.proofs.Sameness.{own_face}
 use Rattle.amr_advance.specs.Layouts.{AreAddsOf}
 use Rattle.amr_advance.specs.Shown.{AreShown, IsStepped, StepFits}
 use Rattle.amr_advance.proofs.Begun.{all_lie, may_step, plain_at}
@@ -120,7 +120,7 @@ module _ (p : Problem) (l : ℕ) (old : Masses) (qs : List Patch) (cells : List 
     word_here word =
         ap (word_total (λ f. unsigned_abs (flux_beside p l q f)) word) flows_are
         ∙ same_words (λ f. unsigned_abs (flux_beside p l q f)) (plain_size p l m old) word (flows_of s (box q))
-        (λ j x below. ap unsigned_abs (plain_at p l old qs cells next shallow shown fits k r lt (get_or (flows_of s (box q)) j x).face (own_face q (get_or (flows_of s (box q)) j x).face (flows_owned p l qs cells next q (all_lie p l old qs cells next shallow shown fits) (shown.marks k r lt) j x below).1)))
+        (λ j x below. ap unsigned_abs (plain_at p l old qs cells next shallow shown fits k r lt (get_or (flows_of s (box q)) j x).face (owned_of_box q (get_or (flows_of s (box q)) j x).face (flows_owned p l qs cells next q (all_lie p l old qs cells next shallow shown fits) (shown.marks k r lt) j x below).1)))
 
     -- after its step
     steps : (x : Patch) → box x ≡ box q → ((c : Cell) → holds (box q) c ≡ true → pos (mass_in x c) ≡ pos (mass_in q c) +ℤ net (flux_beside p l q) c) → IsStepped e q x

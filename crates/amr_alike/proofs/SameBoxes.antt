@@ -3,15 +3,11 @@ use Rattle.std.proofs.Common.{◌≡◌, ◌∙◌, List, map, ap}
 use Rattle.std.specs.Prelude.{is_some}
 use Rattle.amr_box.specs.declared.Cell.{Cell}
 use Rattle.amr_box.specs.Cells.{Extent}
-use Rattle.amr_box.proofs.CellEquality.{same_cells}
 use Rattle.amr_def.specs.State.{Masses, in_boxes}
 use Rattle.amr_patch.specs.declared.patches.Patch.{Patch}
 use Rattle.amr_patch.specs.Patches.{box, masses_in}
 use Rattle.amr_patch.proofs.Lookups.{some_mass}
 use Rattle.amr_patch.proofs.SameBoxes.{in_mapped}
-
-pub same_box : (a b : Extent) → a.lo.x ≡ b.lo.x → a.lo.y ≡ b.lo.y → a.hi.x ≡ b.hi.x → a.hi.y ≡ b.hi.y → a ≡ b
-same_box a b w s e n = λ i. record { lo = same_cells a.lo b.lo w s i; hi = same_cells a.hi b.hi e n i }
 
 -- the cells that have masses are those of the boxes
 pub some_in_boxes : (m : Masses) (ps : List Patch) (bs : List Extent) → m ≡ masses_in ps → map box ps ≡ bs → (c : Cell) → is_some (m c) ≡ in_boxes bs c

@@ -7,7 +7,7 @@ use Rattle.std.specs.declared.option.Option.TheVariants.{None, Some}
 use Rattle.std.specs.Int.{int_max, int_min}
 use Rattle.std.proofs.lemmas.Int.{ints, clamps, to_z-of_z}
 use Rattle.amr_box.specs.declared.Cell.{Cell}
-use Rattle.amr_box.specs.Cells.{AreDisjoint, IsBoxOf, IsNear, IsProper, at_least_zero, near_limit, half, width, height, Extent, extent, holds, within, common}
+use Rattle.amr_box.specs.Cells.{AreDisjoint, IsBoxOf, IsNear, IsProper, at_least_zero, near_limit, width, height, Extent, extent, holds, within, common}
 
 -- a test for ≤ from what holds, and the other way round
 pub int_le-yes : (a b : ℤ) → a ≤ℤ b → int_le a b ≡ true
@@ -47,12 +47,6 @@ holds-common a b c =
 
 pub area_is : (b : Extent) (w h : ℕ) → pos w ≡ b.hi.x +ℤ pos 1 -ℤ b.lo.x → pos h ≡ b.hi.y +ℤ pos 1 -ℤ b.lo.y → w * h ≡ width b * height b
 area_is b w h e f = rw (← e, ← f)
-
-pub half_le : (a b : ℤ) → a ≤ℤ b → half a ≤ℤ half b
-half_le (pos a) (pos b) h = omega (arith, ints)
-half_le (pos a) (negsuc b) h = absurd (omega (arith, ints))
-half_le (negsuc a) (pos b) h = omega (arith, ints)
-half_le (negsuc a) (negsuc b) h = omega (arith, ints)
 
 pub ruleset calls = (holds-common, area_is, and-yes, to_z-of_z)
 

@@ -1,5 +1,5 @@
 -- The list of a box's cells holds exactly the cells of the box; a cell of a box that passes a test.
-use Rattle.std.proofs.Common.{◌≡◌, ℕ, zero, suc, ◌+◌, Bool, true, false, ◌&&◌, ◌||◌, ◌⊎◌, inl, inr, ℤ, pos, negsuc, ◌+ℤ◌, ◌-ℤ◌, ◌<ℤ◌, refl, sym, ap, subst, ◌∙◌, arith, List, [], ◌∷◌, map}
+use Rattle.std.proofs.Common.{◌≡◌, ℕ, zero, suc, ◌+◌, Bool, true, false, ◌&&◌, ◌||◌, ◌⊎◌, inl, inr, ℤ, pos, negsuc, ◌+ℤ◌, ◌-ℤ◌, ◌<ℤ◌, refl, sym, ap, subst, ◌∙◌, arith, List, [], ◌∷◌, map, ◌<◌, ◌≤◌, ◌≤ℤ◌}
 use Rattle.std.proofs.Math.Bool.{or-false}
 use Rattle.std.specs.Prelude.{int_le, int_lt}
 use Rattle.std.specs.Ordering.{int_eq, eq_by_cmp}
@@ -13,10 +13,10 @@ use Rattle.std.proofs.lemmas.Bool.{or_left, or_right}
 use Rattle.amr_box.proofs.CellEquality.{by_coordinates, cell_itself, cell_same, is_cell}
 use Rattle.amr_box.proofs.Tests.{and_shared}
 
-int_eq-itself : (a b : ℤ) → a ≡ b → int_eq a b ≡ true
+pub int_eq-itself : (a b : ℤ) → a ≡ b → int_eq a b ≡ true
 int_eq-itself a b e = grind (arith, ints)
 
-int_eq-apart : (a b : ℤ) → (a ≡ b → ⊥) → int_eq a b ≡ false
+pub int_eq-apart : (a b : ℤ) → (a ≡ b → ⊥) → int_eq a b ≡ false
 int_eq-apart a b n = grind (arith, ints)
 
 any_in_range : (lo z : ℤ) (a n : ℕ) → list_any (λ i. int_eq z (lo +ℤ pos i)) (range_with_len a n) ≡ (int_le (lo +ℤ pos a) z && int_lt z (lo +ℤ pos (a + n)))
@@ -55,12 +55,12 @@ list_any-same p q (x ∷ xs) h = ap (λ b. b || list_any p xs) (h x) ∙ ap (λ 
 
 -- ---- the cells of a box
 
-up_to : (z w : ℤ) → z ≡ w → (w ≡ pos (at_least_zero z)) ⊎ ((w <ℤ pos 0) × (at_least_zero z ≡ 0))
+pub up_to : (z w : ℤ) → z ≡ w → (w ≡ pos (at_least_zero z)) ⊎ ((w <ℤ pos 0) × (at_least_zero z ≡ 0))
 up_to (pos n) w e = inl (sym e)
 up_to (negsuc n) w e = inr (omega (arith, ints), refl)
 
-in_range : (lo hi z : ℤ) → list_any (λ i. int_eq z (lo +ℤ pos i)) (range_with_len 0 (at_least_zero (hi +ℤ pos 1 -ℤ lo))) ≡ within lo hi z
-in_range lo hi z = any_in_range lo z 0 (at_least_zero (hi +ℤ pos 1 -ℤ lo)) ∙ tests lo hi z (at_least_zero (hi +ℤ pos 1 -ℤ lo)) (up_to (hi +ℤ pos 1 -ℤ lo) _ refl)
+any_in_side : (lo hi z : ℤ) → list_any (λ i. int_eq z (lo +ℤ pos i)) (range_with_len 0 (at_least_zero (hi +ℤ pos 1 -ℤ lo))) ≡ within lo hi z
+any_in_side lo hi z = any_in_range lo z 0 (at_least_zero (hi +ℤ pos 1 -ℤ lo)) ∙ tests lo hi z (at_least_zero (hi +ℤ pos 1 -ℤ lo)) (up_to (hi +ℤ pos 1 -ℤ lo) _ refl)
   where
     tests : (lo hi z : ℤ) (n : ℕ) → (hi +ℤ pos 1 -ℤ lo ≡ pos n) ⊎ (((hi +ℤ pos 1 -ℤ lo) <ℤ pos 0) × (n ≡ 0)) → (int_le (lo +ℤ pos 0) z && int_lt z (lo +ℤ pos (0 + n))) ≡ within lo hi z
     tests lo hi z n (inl e) = grind (arith, ints)
@@ -74,11 +74,11 @@ among_cells_of b q =
     list_any-map test (λ i. cell (b.lo.x +ℤ pos i) (b.lo.y +ℤ pos j)) (range_with_len 0 (width b))
     ∙ list_any-same (λ i. test (cell (b.lo.x +ℤ pos i) (b.lo.y +ℤ pos j))) (λ i. int_eq q.x (b.lo.x +ℤ pos i) && int_eq q.y (b.lo.y +ℤ pos j)) (range_with_len 0 (width b)) (λ i. by_coordinates q (cell (b.lo.x +ℤ pos i) (b.lo.y +ℤ pos j)))
     ∙ list_any-and (λ i. int_eq q.x (b.lo.x +ℤ pos i)) (int_eq q.y (b.lo.y +ℤ pos j)) (range_with_len 0 (width b))
-    ∙ ap (λ t. t && int_eq q.y (b.lo.y +ℤ pos j)) (in_range b.lo.x b.hi.x q.x) in
+    ∙ ap (λ t. t && int_eq q.y (b.lo.y +ℤ pos j)) (any_in_side b.lo.x b.hi.x q.x) in
     list_any-flat_map test row (range_with_len 0 (height b))
     ∙ list_any-same (λ j. list_any test (row j)) (λ j. within b.lo.x b.hi.x q.x && int_eq q.y (b.lo.y +ℤ pos j)) (range_with_len 0 (height b)) in_row
     ∙ list_any-and_left (λ j. int_eq q.y (b.lo.y +ℤ pos j)) (within b.lo.x b.hi.x q.x) (range_with_len 0 (height b))
-    ∙ ap (λ t. within b.lo.x b.hi.x q.x && t) (in_range b.lo.y b.hi.y q.y)
+    ∙ ap (λ t. within b.lo.x b.hi.x q.x && t) (any_in_side b.lo.y b.hi.y q.y)
 
 -- ---- any cell in a box
 
@@ -117,3 +117,13 @@ any_by test q passes (c ∷ cs) h = choose (is_cell q c) refl h (any_by test q p
 
 pub any_in_box : (test : Cell → Bool) (b : Extent) (q : Cell) → holds b q ≡ true → test q ≡ true → list_any test (cells_of b) ≡ true
 any_in_box test b q held passes = any_by test q passes (cells_of b) (among_cells_of b q ∙ held)
+
+pub in_range : (lo hi : ℤ) (i : ℕ) → i < at_least_zero (hi +ℤ pos 1 -ℤ lo) → within lo hi (lo +ℤ pos i) ≡ true
+in_range lo hi i h = by_side (up_to (hi +ℤ pos 1 -ℤ lo) _ refl)
+  where
+    tests : (n : ℕ) → hi +ℤ pos 1 -ℤ lo ≡ pos n → i < n → within lo hi (lo +ℤ pos i) ≡ true
+    tests n e k = grind (arith, ints)
+
+    by_side : (hi +ℤ pos 1 -ℤ lo ≡ pos (at_least_zero (hi +ℤ pos 1 -ℤ lo))) ⊎ (((hi +ℤ pos 1 -ℤ lo) <ℤ pos 0) × (at_least_zero (hi +ℤ pos 1 -ℤ lo) ≡ 0)) → within lo hi (lo +ℤ pos i) ≡ true
+    by_side (inl e) = tests _ e h
+    by_side (inr n) = absurd (omega (arith, h, n.1))

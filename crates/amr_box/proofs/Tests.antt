@@ -1,5 +1,6 @@
 -- Tests that are true at once, or never together.
 use Rattle.std.proofs.Common.{◌≡◌, Bool, true, false, ◌&&◌, ◌||◌, ◌⊎◌, inl, inr, refl, sym}
+use Rattle.std.proofs.lemmas.Bool.{both_ways}
 
 pub same_test : (a b : Bool) → (a ≡ true → b ≡ true) → (b ≡ true → a ≡ true) → a ≡ b
 same_test true b there back = sym (there refl)
@@ -46,5 +47,5 @@ pub or_last : (a b : Bool) → (a || b) ≡ true → a ≡ false → b ≡ true
 or_last true b h e = absurd (cc)
 or_last false b h e = h
 
-pub never_both : (a : Bool) → a ≡ true → a ≡ false → ⊥
-never_both a is isnt = cc
+pub opposite : {a : Bool} → a ≡ true → a ≡ false → ⊥
+opposite is isnt = both_ways _ isnt is

@@ -5,9 +5,9 @@
 --     parent, child     of a cell, on the next coarser and the next finer level
 use Rattle.std.specs.Prelude.{◌≡◌, ℕ, ◌+◌, ◌/◌, ◌%◌, Bool, false, ◌&&◌, ◌||◌, ℤ, pos, negsuc, ◌+ℤ◌, ◌-ℤ◌, ◌≤ℤ◌, ◌<ℤ◌, int_le, List, map, IsTrue}
 use Rattle.std.specs.Int.{int_div_euclid, int_max, int_min}
-use Rattle.std.specs.List.{range_with_len, flat_map}
+use Rattle.std.specs.List.{flat_map, list_any, range_with_len}
 use Rattle.std.specs.declared.cmp.Ordering.{Ordering}
-use Rattle.std.specs.Ordering.{int_cmp, ordering_then}
+use Rattle.std.specs.Ordering.{int_cmp, int_eq, ordering_then}
 use Rattle.amr_box.specs.declared.Cell.{Cell}
 use Rattle.amr_box.specs.declared.Axis.{Axis}
 use Rattle.amr_box.specs.declared.Axis.TheVariants.{X, Y}
@@ -20,6 +20,14 @@ cell x y = record { x = x; y = y }
 -- by column, then by row: the order of the type `Cell`
 abbrev pub cell_cmp : Cell → Cell → Ordering
 cell_cmp a b = ordering_then (int_cmp a.x b.x) (int_cmp a.y b.y)
+
+-- whether two cells have one column and one row
+abbrev pub is_same_cell : Cell → Cell → Bool
+is_same_cell a b = int_eq a.x b.x && int_eq a.y b.y
+
+-- a cell and an offset
+abbrev pub moved : Cell → Cell → Cell
+moved c o = cell (c.x +ℤ o.x) (c.y +ℤ o.y)
 
 -- where a cell stands along an axis: its column or its row
 abbrev pub along : Axis → Cell → ℤ
@@ -56,6 +64,10 @@ pub record IsProper (b : Extent) : Type 0 where
   pub wide : b.lo.x ≤ℤ b.hi.x
   pub high : b.lo.y ≤ℤ b.hi.y
 
+-- whether the corners are in order
+abbrev pub is_proper : Extent → Bool
+is_proper b = int_le b.lo.x b.hi.x && int_le b.lo.y b.hi.y
+
 -- how far from 0 the coordinates of a near box lie, 2^24: boxes that are grown or refined fit 32 bits. (profile)
 abbrev pub near_limit : ℕ
 near_limit = 16777216
@@ -76,6 +88,10 @@ within low high z = int_le low z && int_le z high
 -- whether a cell is in a box
 abbrev pub holds : Extent → Cell → Bool
 holds b c = within b.lo.x b.hi.x c.x && within b.lo.y b.hi.y c.y
+
+-- whether a cell is in one of the boxes
+abbrev pub in_boxes : List Extent → Cell → Bool
+in_boxes bs c = list_any (λ b. holds b c) bs
 
 -- no cell is in both boxes
 abbrev pub AreDisjoint : Extent → Extent → Type 0
@@ -100,6 +116,14 @@ height b = at_least_zero (b.hi.y +ℤ pos 1 -ℤ b.lo.y)
 -- the cells of a box, row by row from the low row, within a row from the low column
 abbrev pub cells_of : Extent → List Cell
 cells_of b = flat_map (λ j. map (λ i. cell (b.lo.x +ℤ pos i) (b.lo.y +ℤ pos j)) (range_with_len 0 (width b))) (range_with_len 0 (height b))
+
+-- the offsets of the cells at most n away on both axes
+abbrev pub square : ℕ → List Cell
+square n = cells_of (extent (cell (pos 0 -ℤ pos n) (pos 0 -ℤ pos n)) (cell (pos n) (pos n)))
+
+-- the box from the parent of the low corner to that of the high one: the parents of a box's cells
+abbrev pub parents_of : Extent → Extent
+parents_of b = extent (parent b.lo) (parent b.hi)
 
 -- ---- what the calls on boxes give
 

@@ -2,16 +2,10 @@
 use Rattle.std.proofs.Common.{◌≡◌, Bool, true, false, ◌&&◌, cond, ℤ, pos, ◌+ℤ◌, ◌-ℤ◌, ◌≤ℤ◌, refl, sym, ap, ◌∙◌, arith, List, [], ◌∷◌, ◌++◌}
 use Rattle.std.specs.Prelude.{int_le, int_lt}
 use Rattle.std.proofs.lemmas.Int.{ints, clamps}
-use Rattle.std.proofs.lemmas.Bool.{and_parts}
 use Rattle.amr_box.specs.declared.Axis.TheVariants.{X, Y}
-use Rattle.amr_box.specs.Cells.{Extent, IsProper, below_cut, cell, common, extent, from_cut}
+use Rattle.amr_box.specs.Cells.{Extent, below_cut, cell, common, extent, from_cut}
 use Rattle.amr_boxlist.specs.Remnants.{east_of, frame, high_part, if_proper, is_proper, low_part, north_of, remnants, sides_round, south_of, west_of, whole_or_frame}
-
-le-is : (a b : ℤ) → int_le a b ≡ true → a ≤ℤ b
-le-is a b h = grind (arith, ints)
-
-proper_is : (b : Extent) → is_proper b ≡ true → IsProper b
-proper_is b h = let k = and_parts (int_le b.lo.x b.hi.x) (int_le b.lo.y b.hi.y) h in record { wide = le-is b.lo.x b.hi.x k.0; high = le-is b.lo.y b.hi.y k.1 }
+use Rattle.amr_boxlist.proofs.Frame.{proper-from_test}
 
 -- below and above a place, where the other axis is in order
 below_is : (lo hi low i : ℤ) → lo ≤ℤ hi → int_lt low i ≡ (int_le lo hi && int_le low (i -ℤ pos 1))
@@ -76,7 +70,7 @@ by_corners b a = step (is_proper (common a b)) refl
   where
     step : (t : Bool) → is_proper (common a b) ≡ t → whole_or_frame b a ≡ remnants b a
     step true e =
-        let p = proper_is (common a b) e in
+        let p = proper-from_test (common a b) e in
         let wide : a.lo.x ≤ℤ a.hi.x = omega (arith, ints, clamps, p.wide) in
         ap (λ (l : List Extent). cond (is_proper (common a b)) l (a ∷ [])) (sides (common a b) a wide p.high)
     step false e = ap (λ (t : Bool). cond t (frame a (common a b)) (a ∷ [])) e ∙ sym (ap (λ (t : Bool). cond t (sides_round (common a b) a) (a ∷ [])) e)

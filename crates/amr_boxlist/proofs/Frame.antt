@@ -8,6 +8,7 @@ use Rattle.amr_box.specs.declared.Axis.{Axis}
 use Rattle.amr_box.specs.declared.Axis.TheVariants.{X, Y}
 use Rattle.amr_box.specs.Cells.{Extent, IsProper, along, below_cut, common, from_cut, holds, within}
 use Rattle.amr_box.proofs.Boxes.{holds-common, int_le-yes}
+use Rattle.amr_box.proofs.Numbers.{below_from, le_from, not_below_from}
 use Rattle.amr_boxlist.specs.Lists.{holders}
 use Rattle.amr_boxlist.specs.Remnants.{frame, high_part, is_proper, low_part, whole_or_frame}
 use Rattle.amr_boxlist.proofs.Sets.{HoldOnce, holders-append, one_if}
@@ -15,17 +16,11 @@ use Rattle.amr_boxlist.proofs.Sets.{HoldOnce, holders-append, one_if}
 pub proper-test : (e : Extent) → IsProper e → is_proper e ≡ true
 proper-test e p = rw (int_le-yes e.lo.x e.hi.x p.wide, int_le-yes e.lo.y e.hi.y p.high)
 
-test-le : (a b : ℤ) → int_le a b ≡ true → a ≤ℤ b
-test-le a b h = grind (arith, ints)
-
-test-gt : (a b : ℤ) → int_le a b ≡ false → b <ℤ a
-test-gt a b h = grind (arith, ints)
-
 pub improper-test : (e : Extent) → (IsProper e → ⊥) → is_proper e ≡ false
 improper-test e n = step (int_le e.lo.x e.hi.x) (int_le e.lo.y e.hi.y) refl refl
   where
     step : (s t : Bool) → int_le e.lo.x e.hi.x ≡ s → int_le e.lo.y e.hi.y ≡ t → is_proper e ≡ false
-    step true true f g = absurd (n (record { wide = test-le _ _ f; high = test-le _ _ g }))
+    step true true f g = absurd (n (record { wide = le_from _ _ f; high = le_from _ _ g }))
     step true false f g = rw (f, g)
     step false t f g = rw f
 
@@ -33,7 +28,7 @@ pub proper-from_test : (e : Extent) → is_proper e ≡ true → IsProper e
 proper-from_test e h = step (int_le e.lo.x e.hi.x) (int_le e.lo.y e.hi.y) refl refl
   where
     step : (s t : Bool) → int_le e.lo.x e.hi.x ≡ s → int_le e.lo.y e.hi.y ≡ t → IsProper e
-    step true true f g = record { wide = test-le _ _ f; high = test-le _ _ g }
+    step true true f g = record { wide = le_from _ _ f; high = le_from _ _ g }
     step true false f g = absurd (clash (sym h ∙ ap (λ t. t && int_le e.lo.y e.hi.y) f ∙ g))
       where
         clash : true ≡ false → ⊥
@@ -60,12 +55,6 @@ none_from lo hi i z h = grind (arith, ints)
 inner_is : (lo hi i j z : ℤ) → lo ≤ℤ i → j ≤ℤ hi → within i j z ≡ ((within lo hi z && not (int_lt z i)) && int_lt z (j +ℤ pos 1))
 inner_is lo hi i j z h k = grind (arith, ints)
 
-lt-yes : (a b : ℤ) → int_lt a b ≡ true → a <ℤ b
-lt-yes a b h = grind (arith, ints)
-
-lt-no : (a b : ℤ) → int_lt a b ≡ false → b ≤ℤ a
-lt-no a b h = grind (arith, ints)
-
 -- ---- the parts of a box, each as a test
 
 plus-none : (n : ℕ) → n + 0 ≡ n
@@ -76,13 +65,13 @@ low_y a i c h = step (int_lt a.lo.y i) refl
   where
     step : (t : Bool) → int_lt a.lo.y i ≡ t → holders (low_part Y i a) c ≡ one_if (within a.lo.x a.hi.x c.x && (within a.lo.y a.hi.y c.y && int_lt c.y i))
     step true e = rw e (plus-none _ ∙ ap (λ t. one_if (within a.lo.x a.hi.x c.x && t)) (below_is a.lo.y a.hi.y i c.y h))
-    step false e = rw (e, none_below a.lo.y a.hi.y i c.y (lt-no _ _ e), and-false (within a.lo.x a.hi.x c.x))
+    step false e = rw (e, none_below a.lo.y a.hi.y i c.y (not_below_from _ _ e), and-false (within a.lo.x a.hi.x c.x))
 
 high_y : (a : Extent) (i : ℤ) (c : Cell) → a.lo.y ≤ℤ i → holders (high_part Y i a) c ≡ one_if (within a.lo.x a.hi.x c.x && (within a.lo.y a.hi.y c.y && not (int_lt c.y i)))
 high_y a i c h = step (int_lt a.hi.y i) refl
   where
     step : (t : Bool) → int_lt a.hi.y i ≡ t → holders (high_part Y i a) c ≡ one_if (within a.lo.x a.hi.x c.x && (within a.lo.y a.hi.y c.y && not (int_lt c.y i)))
-    step true e = rw (e, none_from a.lo.y a.hi.y i c.y (lt-yes _ _ e), and-false (within a.lo.x a.hi.x c.x))
+    step true e = rw (e, none_from a.lo.y a.hi.y i c.y (below_from _ _ e), and-false (within a.lo.x a.hi.x c.x))
     step false e = rw e (plus-none _ ∙ ap (λ t. one_if (within a.lo.x a.hi.x c.x && t)) (from_is a.lo.y a.hi.y i c.y h))
 
 low_x : (a : Extent) (i : ℤ) (c : Cell) → i ≤ℤ (a.hi.x +ℤ pos 1) → holders (low_part X i a) c ≡ one_if ((within a.lo.x a.hi.x c.x && int_lt c.x i) && within a.lo.y a.hi.y c.y)
@@ -90,13 +79,13 @@ low_x a i c h = step (int_lt a.lo.x i) refl
   where
     step : (t : Bool) → int_lt a.lo.x i ≡ t → holders (low_part X i a) c ≡ one_if ((within a.lo.x a.hi.x c.x && int_lt c.x i) && within a.lo.y a.hi.y c.y)
     step true e = rw e (plus-none _ ∙ ap (λ t. one_if (t && within a.lo.y a.hi.y c.y)) (below_is a.lo.x a.hi.x i c.x h))
-    step false e = rw (e, none_below a.lo.x a.hi.x i c.x (lt-no _ _ e))
+    step false e = rw (e, none_below a.lo.x a.hi.x i c.x (not_below_from _ _ e))
 
 high_x : (a : Extent) (i : ℤ) (c : Cell) → a.lo.x ≤ℤ i → holders (high_part X i a) c ≡ one_if ((within a.lo.x a.hi.x c.x && not (int_lt c.x i)) && within a.lo.y a.hi.y c.y)
 high_x a i c h = step (int_lt a.hi.x i) refl
   where
     step : (t : Bool) → int_lt a.hi.x i ≡ t → holders (high_part X i a) c ≡ one_if ((within a.lo.x a.hi.x c.x && not (int_lt c.x i)) && within a.lo.y a.hi.y c.y)
-    step true e = rw (e, none_from a.lo.x a.hi.x i c.x (lt-yes _ _ e))
+    step true e = rw (e, none_from a.lo.x a.hi.x i c.x (below_from _ _ e))
     step false e = rw e (plus-none _ ∙ ap (λ t. one_if (t && within a.lo.y a.hi.y c.y)) (from_is a.lo.x a.hi.x i c.x h))
 
 -- below, above, left, right of the inner box, or in it

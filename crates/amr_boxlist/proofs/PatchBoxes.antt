@@ -1,5 +1,5 @@
 -- The patch boxes of a box hold each of its cells once.
-use Rattle.std.proofs.Common.{◌≡◌, ℕ, zero, suc, ◌+◌, ◌-◌, ◌*◌, ◌<◌, ◌≤◌, Bool, true, false, ◌&&◌, cond, ◌⊎◌, inl, inr, ℤ, pos, negsuc, ◌+ℤ◌, ◌-ℤ◌, ◌≤ℤ◌, ◌<ℤ◌, refl, sym, ap, ◌∙◌, arith, List, [], ◌∷◌, ◌++◌, map, subst, append_assoc, zero-add}
+use Rattle.std.proofs.Common.{◌≡◌, ℕ, zero, suc, ◌+◌, ◌-◌, ◌*◌, ◌<◌, ◌≤◌, Bool, true, false, ◌&&◌, cond, ◌⊎◌, inl, inr, ℤ, pos, ◌+ℤ◌, ◌-ℤ◌, ◌≤ℤ◌, ◌<ℤ◌, refl, sym, ap, ◌∙◌, arith, List, [], ◌∷◌, ◌++◌, map, subst, append_assoc, zero-add}
 use Rattle.std.specs.Prelude.{int_le, int_lt}
 use Rattle.std.specs.List.{flat_map, range_with_len}
 use Rattle.std.specs.Int.{int_min}
@@ -9,6 +9,7 @@ use Rattle.std.proofs.lemmas.List.Concat.{flat_map-append, flat_map-cons}
 use Rattle.std.proofs.lemmas.List.FromFn.{map-range_with_len_more}
 use Rattle.amr_box.specs.declared.Cell.{Cell}
 use Rattle.amr_box.specs.Cells.{Extent, at_least_zero, height, holds, width, within}
+use Rattle.amr_box.proofs.CellLists.{up_to}
 use Rattle.amr_boxlist.specs.Lists.{holders}
 use Rattle.amr_boxlist.specs.Chopped.{chopped, patch_box, patch_box_count, patch_box_row}
 use Rattle.amr_boxlist.proofs.Sets.{HoldOnce, holders-append, one_if}
@@ -64,10 +65,6 @@ patch_boxes_count n lo hi z a (suc m) s e some f g =
     ap (λ t. one_if (within (lo +ℤ pos t) (int_min (lo +ℤ pos (t + (n - 1))) hi) z) + count_from (λ k. in_patch_box n lo hi k z) (a + 1) m) (sym f)
     ∙ ap (λ t. one_if (within (lo +ℤ pos s) (int_min (lo +ℤ pos (s + (n - 1))) hi) z) + t) (patch_boxes_count n lo hi z (a + 1) m (s + n) e some (omega arith) (omega arith))
     ∙ one_more n s e lo hi z some (omega arith)
-
-up_to : (z w : ℤ) → z ≡ w → (w ≡ pos (at_least_zero z)) ⊎ ((w <ℤ pos 0) × (at_least_zero z ≡ 0))
-up_to (pos n) w e = inl (sym e)
-up_to (negsuc n) w e = inr (omega (arith, ints), refl)
 
 covering : (n side : ℕ) → 1 ≤ n → side ≤ n * patch_box_count n side
 covering n side some = omega arith
@@ -168,7 +165,7 @@ row_more n b e i j l k is f =
     ∙ ap (λ (t : Extent). l ++ (map (λ i. patch_box n b i j) (range_with_len 0 i) ++ t ∷ [])) f
     ∙ ap (λ t. l ++ t) (sym (map-range_with_len_more (λ i. patch_box n b i j) 0 i i (omega arith)))
 
-range_more : (a n : ℕ) → range_with_len a (n + 1) ≡ range_with_len a n ++ (a + n) ∷ []
+pub range_more : (a n : ℕ) → range_with_len a (n + 1) ≡ range_with_len a n ++ (a + n) ∷ []
 range_more a n = sym (plain (range_with_len a (n + 1))) ∙ map-range_with_len_more (λ k. k) a n (a + n) refl ∙ ap (λ t. t ++ (a + n) ∷ []) (plain (range_with_len a n))
   where
     plain : (xs : List ℕ) → map (λ k. k) xs ≡ xs

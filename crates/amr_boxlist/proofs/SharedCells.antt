@@ -10,6 +10,8 @@ use Rattle.std.proofs.lemmas.List.Sums.{sum_by-cons, sum_by-take-le, sum_by_more
 use Rattle.std.proofs.Math.Nat.{mul-le-mul_left}
 use Rattle.amr_box.specs.declared.Cell.{Cell}
 use Rattle.amr_box.specs.Cells.{Extent, IsNear, IsProper, at_least_zero, cell, common, height, holds, width, within}
+use Rattle.amr_box.proofs.Numbers.{at_least_zero-same, le_from}
+use Rattle.amr_box.proofs.CellLists.{in_range}
 use Rattle.amr_boxlist.specs.Lists.{AreApart, holders, in_boxes}
 use Rattle.amr_boxlist.specs.Shared.{shared}
 use Rattle.amr_boxlist.proofs.Sets.{in_boxes-holders, in_boxes-some, one_if}
@@ -137,14 +139,10 @@ along_side low high lo a (suc n) = ap (λ t. one_if (within low high (lo +ℤ po
 whole_side : (low high lo hi : ℤ) → lo ≤ℤ hi → total (λ i. one_if (within low high (lo +ℤ pos i))) 0 (at_least_zero (hi +ℤ pos 1 -ℤ lo)) ≡ at_least_zero (int_min high hi +ℤ pos 1 -ℤ int_max low lo)
 whole_side low high lo hi order =
     along_side low high lo 0 n
-    ∙ ap at_least_zero (ends n (side_is (hi +ℤ pos 1 -ℤ lo) (omega (arith, ints))))
+    ∙ ap at_least_zero (ends n (at_least_zero-same (hi +ℤ pos 1 -ℤ lo) (omega (arith, ints))))
   where
     n : ℕ
     n = at_least_zero (hi +ℤ pos 1 -ℤ lo)
-
-    side_is : (z : ℤ) → pos 0 ≤ℤ z → pos (at_least_zero z) ≡ z
-    side_is (pos n) h = refl
-    side_is (negsuc n) h = absurd (omega (arith, ints))
 
     ends : (n : ℕ) → pos n ≡ hi +ℤ pos 1 -ℤ lo → (int_min high (lo +ℤ pos (0 + n) -ℤ pos 1) +ℤ pos 1 -ℤ int_max low (lo +ℤ pos 0)) ≡ (int_min high hi +ℤ pos 1 -ℤ int_max low lo)
     ends n e = omega (arith, ints, clamps, e)
@@ -224,16 +222,6 @@ offset_in lo hi z h = by_offset (z -ℤ lo) refl
     by_offset (pos i) e = (i, omega (arith, ints, e), below i (hi +ℤ pos 1 -ℤ lo) (omega (arith, ints, e, high)))
     by_offset (negsuc i) e = absurd (omega (arith, ints, e, low))
 
-in_range : (lo hi : ℤ) (i : ℕ) → i < at_least_zero (hi +ℤ pos 1 -ℤ lo) → within lo hi (lo +ℤ pos i) ≡ true
-in_range lo hi i h = step (up_to (hi +ℤ pos 1 -ℤ lo))
-  where
-    tests : (n : ℕ) → hi +ℤ pos 1 -ℤ lo ≡ pos n → i < n → within lo hi (lo +ℤ pos i) ≡ true
-    tests n e k = grind (arith, ints)
-
-    step : ((pos 0 ≤ℤ (hi +ℤ pos 1 -ℤ lo)) × (hi +ℤ pos 1 -ℤ lo ≡ pos (at_least_zero (hi +ℤ pos 1 -ℤ lo)))) ⊎ (((hi +ℤ pos 1 -ℤ lo) <ℤ pos 0) × (at_least_zero (hi +ℤ pos 1 -ℤ lo) ≡ 0)) → within lo hi (lo +ℤ pos i) ≡ true
-    step (inl k) = tests _ k.1 h
-    step (inr k) = absurd (omega (arith, h, k.1))
-
 pub all-covered : (bs : List Extent) (b : Extent) → IsProper b → AreApart bs → sum_by (shared b) bs ≡ width b * height b → (c : Cell) → holds b c ≡ true → in_boxes bs c ≡ true
 all-covered bs b p h e c inside = step (in_boxes bs c) refl
   where
@@ -298,11 +286,8 @@ no_side low high e = let h : high <ℤ low = grind (arith, ints) in zero_if (hig
 pub none_shared : (a b : Extent) → (IsProper (common a b) → ⊥) → 0 ≡ shared b a
 none_shared a b n = step (int_le (common a b).lo.x (common a b).hi.x) (int_le (common a b).lo.y (common a b).hi.y) refl refl
   where
-    is_le : (u v : ℤ) → int_le u v ≡ true → u ≤ℤ v
-    is_le u v e = grind (arith, ints)
-
     step : (s t : Bool) → int_le (common a b).lo.x (common a b).hi.x ≡ s → int_le (common a b).lo.y (common a b).hi.y ≡ t → 0 ≡ shared b a
-    step true true e f = absurd (n (record { wide = is_le _ _ e; high = is_le _ _ f }))
+    step true true e f = absurd (n (record { wide = le_from _ _ e; high = le_from _ _ f }))
     step false t e f = none-times (height (common a b)) ∙ ap (λ (k : ℕ). k * height (common a b)) (sym (no_side (common a b).lo.x (common a b).hi.x e))
     step true false e f = times-none (width (common a b)) ∙ ap (λ (k : ℕ). width (common a b) * k) (sym (no_side (common a b).lo.y (common a b).hi.y f))
 

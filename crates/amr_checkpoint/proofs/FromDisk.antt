@@ -1,8 +1,8 @@
 -- What was read is what the image holds.
-use Rattle.std.proofs.Common.{◌≡◌, ◌≢◌, inl, inr, ℕ, Bool, false, List, Option, Some, None, refl, sym, ◌∙◌, ap, subst, eq-eqb, eqb-true, IfOk}
-use Rattle.std.proofs.lemmas.Bool.{cases_Bool}
+use Rattle.std.proofs.Common.{◌≡◌, ◌≢◌, inr, ℕ, Bool, List, Option, Some, None, refl, sym, ◌∙◌, ap, subst, eq-eqb, IfOk}
+use Rattle.std.proofs.lemmas.Bool.{ne_eqb}
 use Rattle.std.proofs.lemmas.Option.{same_Some}
-use Rattle.std.specs.Prelude.{◌==◌, if◌then◌else◌, option_map}
+use Rattle.std.specs.Prelude.{if◌then◌else◌, option_map}
 use Rattle.std.specs.Int.{Width, w32, w64}
 use Rattle.std.specs.declared.result.Result.{Result}
 use Rattle.std.specs.declared.result.Result.TheVariants.{Ok, Err}
@@ -32,14 +32,11 @@ use Rattle.amr_checkpoint.proofs.Making.{store_reads}
 
 -- ---- versions
 
-same_test : (m n : ℕ) → m ≢ n → (m == n) ≡ false
-same_test m n other = elim (cases_Bool (m == n)) [ inl same ↦ absurd (other (eqb-true m n same)) | inr differ ↦ differ ]
-
 pub first_width : (version : ℕ) → version ≡ 1 → mass_width version ≡ w64
 first_width version is = ap (λ (b : Bool). if b then w64 else w32) (eq-eqb version 1 is)
 
 pub second_width : (version : ℕ) → version ≢ 1 → mass_width version ≡ w32
-second_width version other = ap (λ (b : Bool). if b then w64 else w32) (same_test version 1 other)
+second_width version other = ap (λ (b : Bool). if b then w64 else w32) (ne_eqb version 1 other)
 
 pub decoded_by : {E : Type 0} (r : Result Mesh E) (version : ℕ) (w : Width) (p : Problem) (bytes : List ℕ) → mass_width version ≡ w → IsMassWidth w → IfOk r (λ m. bytes ≡ payload w (state_of m)) → IfOk r (λ m. IsSound p (state_of m))
     → IfOk r (λ m. decoded (mass_width version) p bytes ≡ Ok (state_of m))
@@ -85,7 +82,7 @@ pub size_holds : (s : Store) (stored : store.Stored) (p : Problem) (bytes : List
 size_holds s stored p bytes shows bytes_are accepted other =
     let held = shows.0 in
     let differ : held.slot_size ≢ slot_size (mass_width held.version) p = λ same. other (shows.2.slot_size ∙ same ∙ ap (λ (v : ℕ). slot_size (mass_width v) p) (sym shows.2.version)) in
-    let is : Damaged part.Size ≡ store_read held p = sym (ap (λ (b : Bool). if b then latest_read held p held.latest else Damaged part.Size) (same_test held.slot_size (slot_size (mass_width held.version) p) differ)) in
+    let is : Damaged part.Size ≡ store_read held p = sym (ap (λ (b : Bool). if b then latest_read held p held.latest else Damaged part.Size) (ne_eqb held.slot_size (slot_size (mass_width held.version) p) differ)) in
     subst (λ (st : store.Stored). StoreHolds st (Damaged part.Size)) (sym shows.1) (inr record { problem = p; accepted = accepted_of s held p bytes shows.2 bytes_are accepted; content_is = is })
 
 -- ---- the disk

@@ -1,5 +1,5 @@
 -- What calls make of a store is held, and a state that is held is sound.
-use Rattle.std.proofs.Common.{◌≡◌, inr, ℕ, ◌+◌, ◌<◌, Bool, true, false, List, Option, Some, None, drop, refl, sym, ◌∙◌, ap, subst, All, eq-eqb}
+use Rattle.std.proofs.Common.{◌≡◌, inr, ℕ, ◌+◌, Bool, true, false, List, Option, Some, None, drop, refl, sym, ◌∙◌, ap, subst, All, eq-eqb}
 use Rattle.std.proofs.lemmas.List.Elements.{All-drop, All-take}
 use Rattle.std.specs.Prelude.{if◌then◌else◌, slice_range, nat_lt}
 use Rattle.std.specs.declared.result.Result.TheVariants.{Ok}
@@ -10,6 +10,7 @@ use Rattle.amr_def.specs.State.{State}
 use Rattle.amr_payload.specs.Payload.{payload, slot_size}
 use Rattle.amr_payload.proofs.ReadStates.{decoded_is}
 use Rattle.amr_payload.proofs.WriteStates.{read_back}
+use Rattle.amr_payload.proofs.Bytes.{IsByte}
 use Rattle.amr_problem.specs.Judgement.{IsProblemOf}
 use Rattle.amr_store.specs.declared.part.Part.{Part}
 use Rattle.amr_store.specs.declared.part.Part.TheVariants as part
@@ -67,9 +68,6 @@ renewal_holds stored bytes p s accepted sound is =
     (held_at made bytes p s (record { bytes_are = refl; accepted = accepted; room = refl }) sound refl)
 
 -- ---- sound
-
-abbrev IsByte : ℕ → Type 0
-IsByte b = b < 256
 
 abbrev HasBytes : Option store.Entry → Type 0
 HasBytes None = Unit {0}

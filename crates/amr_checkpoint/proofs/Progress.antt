@@ -3,15 +3,17 @@ use Rattle.std.proofs.Common.{◌≡◌, ℕ, zero, suc, ◌+◌, ◌-◌, ◌<�
 use Rattle.std.proofs.lemmas.List.{append_assoc, map-append}
 use Rattle.std.proofs.lemmas.List.Elements.{All-nil, All-cons, filter-append}
 use Rattle.std.specs.List.{filter, flat_map, range_with_len}
+use Rattle.amr_box.proofs.Numbers.{range_parts}
 use Rattle.amr_def.specs.declared.problem.Problem.{Problem}
 use Rattle.amr_def.specs.Plot.{plot}
 use Rattle.amr_def.specs.Run.{finish, run, start}
 use Rattle.amr_def.specs.State.{State}
+use Rattle.amr_def.proofs.Runs.{finish_step}
 use Rattle.amr_checkpoint.specs.Contents.{Content, Empty, Damaged, Fresh, At, IsReached, rank, state_from}
 use Rattle.amr_checkpoint.specs.Laws.{AreRising, IsInSequence, RunsOn}
 use Rattle.amr_checkpoint.specs.Marks.{acknowledgement, acknowledgements, answer_of_run, checkpoint_line, content_at, first_unstored, is_mark, made_before, marks, store_to_make, to_make}
 use Rattle.amr_checkpoint.specs.Refusals.{GoesOn}
-use Rattle.amr_checkpoint.proofs.Stepping.{finish_step, run_is, runs_on, start_step}
+use Rattle.amr_checkpoint.proofs.Stepping.{run_is, runs_on, start_step}
 
 -- ---- ranks rise
 
@@ -134,21 +136,10 @@ acknowledges_marks bytes p every target (At kept q s sequence) on = lines_of_mar
 
 -- ---- step by step
 
-range_split : (first m n : ℕ) → range_with_len first (m + n) ≡ range_with_len first m ++ range_with_len (first + m) n
-range_split first zero n =
-    let e : 0 + n ≡ n = omega arith in
-    let f : first ≡ first + 0 = omega arith in
-    ap (λ k. range_with_len first k) e ∙ ap (λ k. range_with_len k n) f
-range_split first (suc m) n =
-    let e : suc m + n ≡ suc (m + n) = omega arith in
-    let f : first + 1 + m ≡ first + suc m = omega arith in
-    ap (λ k. range_with_len first k) e
-    ∙ ap (λ (xs : List ℕ). first ∷ xs) (range_split (first + 1) m n ∙ ap (λ k. range_with_len (first + 1) m ++ range_with_len k n) f)
-
 marked_split : (f : ℕ → Content) (test : ℕ → Bool) (front : List Content) (first m n : ℕ)
     → front ++ map f (filter test (range_with_len first (m + n))) ≡ (front ++ map f (filter test (range_with_len first m))) ++ map f (filter test (range_with_len (first + m) n))
 marked_split f test front first m n =
-    ap (λ (xs : List ℕ). front ++ map f (filter test xs)) (range_split first m n)
+    ap (λ (xs : List ℕ). front ++ map f (filter test xs)) (range_parts first m n)
     ∙ ap (λ (xs : List ℕ). front ++ map f xs) (filter-append test (range_with_len first m) (range_with_len (first + m) n))
     ∙ ap (λ (cs : List Content). front ++ cs) (map-append f (filter test (range_with_len first m)) (filter test (range_with_len (first + m) n)))
     ∙ sym (append_assoc front (map f (filter test (range_with_len first m))) (map f (filter test (range_with_len (first + m) n))))

@@ -34,6 +34,7 @@ use Rattle.amr_checkpoint.specs.Contents.{Content, Empty, Fresh, At, Holds, Stor
 use Rattle.amr_checkpoint.specs.Laws.{IsStoreOf}
 use Rattle.amr_checkpoint.specs.Reasons.{fault_of_call}
 use Rattle.amr_store.specs.Reasons.{is_disk_fault, is_no_memory, is_shut_fault}
+use Rattle.amr_decoder.proofs.LevelReadings.{four_small}
 use Rattle.amr_checkpoint.proofs.FromDisk.{room_of, second_width}
 use Rattle.amr_checkpoint.proofs.Making.{creation_holds, put_holds, renewal_holds}
 
@@ -42,14 +43,6 @@ use Rattle.amr_checkpoint.proofs.Making.{creation_holds, put_holds, renewal_hold
 sum_below : (f : ℕ → ℕ) (b n most : ℕ) → n ≤ most → ((k : ℕ) → k < most → f k ≤ b) → sum_to f n ≤ n * b
 sum_below f b zero most few each = omega arith
 sum_below f b (suc n) most few each = omega (arith, sum_below f b n most (omega arith) each, each n (omega arith))
-
-four_small : (l : ℕ) → l ≤ 4 → 4 ^ l ≤ 256
-four_small zero h = omega arith
-four_small (suc zero) h = omega arith
-four_small (suc (suc zero)) h = omega arith
-four_small (suc (suc (suc zero))) h = omega arith
-four_small (suc (suc (suc (suc zero)))) h = omega arith
-four_small (suc (suc (suc (suc (suc l))))) h = absurd (omega arith)
 
 level_bytes : (p : Problem) (l : ℕ) → l < 5 → 4 + (byte_len w32 + 4) * level_cells p l ≤ 2 ^ 28
 level_bytes p l small = omega (arith, mul-le (p.nx * p.ny) (4 ^ l) 65536 256 (mul-le p.nx p.ny 256 256 p.limits.greatest_nx p.limits.greatest_ny) (four_small l (omega arith)))

@@ -1,21 +1,13 @@
 -- The step of a state that is finished to a step, and runs that go on from a state of theirs.
-use Rattle.std.proofs.Common.{◌≡◌, ℕ, zero, suc, ◌+◌, ◌-◌, ◌≤◌, refl, sym, ap, ◌∙◌, arith}
+use Rattle.std.proofs.Common.{◌≡◌, ℕ, zero, suc, ◌≤◌, refl, sym, ap, ◌∙◌, arith}
 use Rattle.amr_def.specs.declared.problem.Problem.{Problem}
 use Rattle.amr_def.specs.State.{State}
 use Rattle.amr_def.specs.Regrid.{regrid}
-use Rattle.amr_def.specs.Run.{finish, next, plain_start, run, start, times}
-use Rattle.amr_def.proofs.Runs.{resumes, step-next}
+use Rattle.amr_def.specs.Run.{finish, plain_start, run, start, times}
+use Rattle.amr_def.proofs.Runs.{resumes}
 use Rattle.amr_def.proofs.SoundRun.{regrid_step}
 
-steps_on : (p : Problem) (n : ℕ) (s : State) → (times (next p) n s).step ≡ s.step + n
-steps_on p zero s = omega arith
-steps_on p (suc n) s = omega (arith, steps_on p n (next p s), step-next p s)
-
-pub finish_step : (p : Problem) (s : State) (k : ℕ) → s.step ≤ k → (finish p s k).step ≡ k
-unfolding finish
-finish_step p s k later = omega (arith, steps_on p (k - s.step) s)
-
-regrids_step : (p : Problem) (n : ℕ) (s : State) → (times (regrid p) n s).step ≡ s.step
+pub regrids_step : (p : Problem) (n : ℕ) (s : State) → (times (regrid p) n s).step ≡ s.step
 regrids_step p zero s = refl
 regrids_step p (suc n) s = regrids_step p n (regrid p s) ∙ regrid_step p s
 

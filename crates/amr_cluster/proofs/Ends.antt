@@ -12,6 +12,7 @@ use Rattle.amr_box.proofs.CellEquality.{same_number}
 use Rattle.amr_box.specs.declared.Axis.{Axis}
 use Rattle.amr_box.specs.declared.Axis.TheVariants.{X, Y}
 use Rattle.amr_box.specs.Cells.{Extent, IsNear, along, cells_of, holds}
+use Rattle.amr_box.proofs.Numbers.{side-is}
 use Rattle.amr_def.specs.Signature.{signature}
 use Rattle.amr_def.proofs.ClusterLaws.{Each, both_true, each_both, each_kept, each_passes}
 use Rattle.amr_tags.specs.TagSets.{IsLeastBox}
@@ -19,7 +20,7 @@ use Rattle.amr_tags.specs.Stored.{IsIn, IsPart}
 use Rattle.amr_tags.proofs.Places.{in_holds, is_in}
 use Rattle.amr_cluster.specs.Work.{AreEnds, cells_in}
 use Rattle.amr_cluster.proofs.Rounds.{member, own_cells}
-use Rattle.amr_cluster.proofs.Tagged.{signature-at, signature-length, size-is, size_along}
+use Rattle.amr_cluster.proofs.Tagged.{signature-at, signature-length, size_along}
 
 bit_some : (t : Bool) (n : ℕ) → cond t 1 0 + n ≡ 0 → (t ≡ false) × (n ≡ 0)
 bit_some true n e = absurd (omega arith)
@@ -40,8 +41,8 @@ count_some p Q (c ∷ cs) h all = choose (p c) refl (subst (λ (n : ℕ). 1 ≤ 
     choose false e g rest = rest (omega arith)
 
 pub size_along-is : (a : Axis) (b : Extent) → IsNear b → pos (size_along a b) ≡ along a b.hi +ℤ pos 1 -ℤ along a b.lo
-size_along-is X b near = size-is b.lo.x b.hi.x near.wide
-size_along-is Y b near = size-is b.lo.y b.hi.y near.high
+size_along-is X b near = side-is b.lo.x b.hi.x near.wide
+size_along-is Y b near = side-is b.lo.y b.hi.y near.high
 
 along_in : (a : Axis) (b : Extent) (c : Cell) → IsIn b c → (along a b.lo ≤ℤ along a c) × (along a c ≤ℤ along a b.hi)
 along_in X b c h = (h.west, h.east)

@@ -11,10 +11,11 @@ use Rattle.amr_box.specs.declared.Cell.{Cell}
 use Rattle.amr_box.specs.declared.Axis.{Axis}
 use Rattle.amr_box.specs.declared.Axis.TheVariants.{X, Y}
 use Rattle.amr_box.specs.Cells.{Extent, along, at_least_zero, extent}
+use Rattle.amr_box.proofs.Numbers.{le_from}
 use Rattle.amr_def.specs.Signature.{bounding, is_efficient, signature}
 use Rattle.amr_def.specs.Cut.{Cut, best_cut}
 use Rattle.amr_def.specs.Cluster.{cells_below, cells_from, cluster, cluster_within, cut_of, edge, parts}
-use Rattle.amr_def.proofs.ClusterLaws.{Each, below_passes, fold_below, fold_from, from_passes, own_below, own_from}
+use Rattle.amr_def.proofs.ClusterLaws.{Each, below_passes, fold_below, fold_from, own_below, own_from}
 use Rattle.amr_cluster.specs.Laws.{IsInside}
 use Rattle.amr_cluster.proofs.CutPlaces.{IsPlace, OnCut, counts_along, cut_place}
 
@@ -74,7 +75,7 @@ fewer_from c cs k inside = choose (fewer_or_all (λ q. int_le (edge (bounding c 
     choose : (length (cells_from (bounding c cs) k (c ∷ cs)) < length (c ∷ cs)) ⊎ Each (λ q. int_le (edge (bounding c cs) k) (along k.axis q) ≡ true) (c ∷ cs) → length (cells_from (bounding c cs) k (c ∷ cs)) < length (c ∷ cs)
     choose (inl less) = less
     choose (inr all) =
-        let above = each_map _ (λ q. edge (bounding c cs) k ≤ℤ along k.axis q) (λ q t. from_passes (edge (bounding c cs) k) (along k.axis q) t) (c ∷ cs) all in
+        let above = each_map _ (λ q. edge (bounding c cs) k ≤ℤ along k.axis q) (λ q t. le_from (edge (bounding c cs) k) (along k.axis q) t) (c ∷ cs) all in
         let low : edge (bounding c cs) k ≤ℤ along k.axis (bounding c cs).lo = fold_from k.axis (edge (bounding c cs) k) (extent c c) cs (own_from k.axis (edge (bounding c cs) k) c above.0) above.1 in
         absurd (omega (arith, ints, inside.from))
 

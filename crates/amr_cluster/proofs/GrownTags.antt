@@ -1,19 +1,17 @@
 -- Tags over the domain of a level grow as the definition's tags do.
 use Rattle.std.proofs.Common.{◌≡◌, ℕ, Bool, true, false, ◌&&◌, ◌||◌, ℤ, pos, ◌+ℤ◌, ◌-ℤ◌, List, [], ◌∷◌, refl, ap, ◌∙◌, arith}
-use Rattle.std.specs.Prelude.{int_le, int_lt}
 use Rattle.std.specs.List.{list_any}
 use Rattle.std.specs.Int.{int_rem_euclid}
 use Rattle.std.proofs.lemmas.Int.{ints}
 use Rattle.amr_box.specs.declared.Cell.{Cell}
-use Rattle.amr_box.specs.Cells.{Extent, at_least_zero, cell, height, holds, width, within}
-use Rattle.amr_def.specs.Domain.{Domain, domain_box, home_cell, in_domain, is_inside, is_near, moved, square}
+use Rattle.amr_box.specs.Cells.{Extent, cell, height, holds, width}
+use Rattle.amr_box.proofs.Numbers.{domain_side}
+use Rattle.amr_def.specs.Domain.{Domain, domain_box, home_cell, in_domain, is_near, moved, square}
 use Rattle.amr_def.specs.Domain.{wrapped as wrapped_from_zero}
+use Rattle.amr_def.proofs.Uncovered.{domain_box_cells}
 use Rattle.amr_tags.specs.TagSets.{TagSet, has, home, wrapped}
 use Rattle.amr_tags.specs.TagSets.{is_near as is_near_tag}
 use Rattle.amr_cluster.specs.Grown.{IsOverDomain}
-
-size_is : (n : ℕ) → at_least_zero (pos n -ℤ pos 1 +ℤ pos 1 -ℤ pos 0) ≡ n
-size_is n = let e : (pos n -ℤ pos 1 +ℤ pos 1 -ℤ pos 0) ≡ pos n = omega (arith, ints) in ap at_least_zero e
 
 zero_left : (z : ℤ) → (pos 0 +ℤ z) ≡ z
 zero_left z = omega (arith, ints)
@@ -35,8 +33,8 @@ home_is d t is c =
     ap (λ (b : Extent). home_in b t.wrap_x t.wrap_y c) is.bx
     ∙ ap (λ (x : Bool). home_in (domain_box d) x t.wrap_y c) is.x
     ∙ ap (λ (y : Bool). home_in (domain_box d) d.wrap_x y c) is.y
-    ∙ ap (λ (n : ℕ). cell (wrapped d.wrap_x (pos 0) n c.x) (wrapped d.wrap_y (pos 0) (height (domain_box d)) c.y)) (size_is d.columns)
-    ∙ ap (λ (n : ℕ). cell (wrapped d.wrap_x (pos 0) d.columns c.x) (wrapped d.wrap_y (pos 0) n c.y)) (size_is d.rows)
+    ∙ ap (λ (n : ℕ). cell (wrapped d.wrap_x (pos 0) n c.x) (wrapped d.wrap_y (pos 0) (height (domain_box d)) c.y)) (domain_side d.columns)
+    ∙ ap (λ (n : ℕ). cell (wrapped d.wrap_x (pos 0) d.columns c.x) (wrapped d.wrap_y (pos 0) n c.y)) (domain_side d.rows)
     ∙ ap (λ (z : ℤ). cell z (wrapped d.wrap_y (pos 0) d.rows c.y)) (wrapped_is d.wrap_x d.columns c.x)
     ∙ ap (cell (wrapped_from_zero d.wrap_x d.columns c.x)) (wrapped_is d.wrap_y d.rows c.y)
 
@@ -48,20 +46,8 @@ near_is : (d : Domain) (t : TagSet) → IsOverDomain d t → (tagged : Cell → 
 near_is d t is tagged same n c =
     any_same (λ o. has t (home t (moved c o))) (λ o. tagged (home_cell d (moved c o))) (λ o. ap (has t) (home_is d t is (moved c o)) ∙ same (home_cell d (moved c o))) (square n)
 
-below_is : (z : ℤ) (n : ℕ) → int_le z (pos n -ℤ pos 1) ≡ int_lt z (pos n)
-below_is z n = grind (arith, ints)
-
-inside_is : (n : ℕ) (z : ℤ) → within (pos 0) (pos n -ℤ pos 1) z ≡ is_inside n z
-inside_is n z = ap (λ (b : Bool). int_le (pos 0) z && b) (below_is z n)
-
-domain_is : (d : Domain) (c : Cell) → holds (domain_box d) c ≡ in_domain d c
-unfolding in_domain
-domain_is d c =
-    ap (λ (b : Bool). b && within (pos 0) (pos d.rows -ℤ pos 1) c.y) (inside_is d.columns c.x)
-    ∙ ap (λ (b : Bool). is_inside d.columns c.x && b) (inside_is d.rows c.y)
-
 pub grown-is : (d : Domain) (t : TagSet) → IsOverDomain d t → (tagged : Cell → Bool) → ((c : Cell) → has t c ≡ tagged c) → (n : ℕ) (c : Cell) → (holds t.bx c && is_near_tag t n c) ≡ (in_domain d c && is_near d n tagged c)
 grown-is d t is tagged same n c =
     ap (λ (b : Extent). holds b c && is_near_tag t n c) is.bx
-    ∙ ap (λ (b : Bool). b && is_near_tag t n c) (domain_is d c)
+    ∙ ap (λ (b : Bool). b && is_near_tag t n c) (domain_box_cells d c)
     ∙ ap (λ (b : Bool). in_domain d c && b) (near_is d t is tagged same n c)

@@ -8,7 +8,7 @@ use Rattle.amr_box.specs.declared.Cell.{Cell}
 use Rattle.amr_box.specs.declared.Axis.{Axis}
 use Rattle.amr_box.specs.declared.Axis.TheVariants.{X, Y}
 use Rattle.amr_box.specs.Cells.{Extent, IsBoxOf, along, below_cut, cell_cmp, cells_of, extent, from_cut, holds}
-use Rattle.amr_box.proofs.CellEquality.{cell_same}
+use Rattle.amr_box.proofs.CellEquality.{cell_same, same_box}
 use Rattle.amr_box.proofs.CellLists.{among_cells_of}
 use Rattle.amr_box.proofs.Parts.{below_cells, from_cells}
 use Rattle.amr_def.specs.Signature.{bounding}
@@ -91,9 +91,6 @@ pub member : (P : Cell → Type 0) (has : Cell → Bool) (part : Extent) (q : Ce
 member P has part q all h inside = any_each (λ c. has c ≡ true → P c) q (cells_of part) (among_cells_of part q ∙ inside) (each_from_kept P has (cells_of part) all) h
 
 -- ---- the least box
-
-same_box : (a b : Extent) → a.lo.x ≡ b.lo.x → a.lo.y ≡ b.lo.y → a.hi.x ≡ b.hi.x → a.hi.y ≡ b.hi.y → a ≡ b
-same_box a b w s e n = λ i. record { lo = record { x = w i; y = s i }; hi = record { x = e i; y = n i } }
 
 low_same : (a b z : ℤ) → a ≤ℤ b → b ≤ℤ z → z ≡ a → a ≡ b
 low_same a b z h g e = omega (arith, ints)

@@ -9,11 +9,12 @@ use Rattle.amr_box.specs.declared.Cell.{Cell}
 use Rattle.amr_box.specs.declared.Axis.{Axis}
 use Rattle.amr_box.specs.declared.Axis.TheVariants.{X, Y}
 use Rattle.amr_box.specs.Cells.{AreDisjoint, Extent, along, holds}
+use Rattle.amr_box.proofs.Numbers.{le_from}
 use Rattle.amr_def.specs.State.{in_boxes}
 use Rattle.amr_def.specs.Signature.{bounding, is_efficient, signature}
 use Rattle.amr_def.specs.Cut.{Cut, best_cut}
 use Rattle.amr_def.specs.Cluster.{cells_below, cells_from, cluster, cluster_within, cut_of, edge, parts}
-use Rattle.amr_def.proofs.ClusterLaws.{Apart, ApartFrom, BoxesBelow, BoxesFrom, Disjoint, Each, below_passes, bounding_takes, cluster-covers, cluster-disjoint, each_passes, from_passes, within_below, within_from}
+use Rattle.amr_def.proofs.ClusterLaws.{Apart, ApartFrom, BoxesBelow, BoxesFrom, Disjoint, Each, below_passes, bounding_takes, cluster-covers, cluster-disjoint, each_passes, within_below, within_from}
 use Rattle.amr_cluster.specs.Laws.{IsClustering, IsRound, IsSettled}
 use Rattle.amr_cluster.proofs.Fuel.{cut_inside, each_map, fewer_below, fewer_from}
 
@@ -100,7 +101,7 @@ leaves_within efficiency w (suc n) (c ∷ cs) least h = by_cut (cut_of efficienc
         (within_below efficiency w n k.axis (edge b k) below (each_map (λ q. int_lt (along k.axis q) (edge b k) ≡ true) (λ q. along k.axis q <ℤ edge b k) (λ q t. below_passes (edge b k) (along k.axis q) t) below (each_passes (λ q. int_lt (along k.axis q) (edge b k)) (c ∷ cs))))
         (leaves below (omega arith)))
         (leaves_from efficiency w k.axis (edge b k) (c ∷ cs) (cluster_within efficiency w n above)
-        (within_from efficiency w n k.axis (edge b k) above (each_map (λ q. int_le (edge b k) (along k.axis q) ≡ true) (λ q. edge b k ≤ℤ along k.axis q) (λ q t. from_passes (edge b k) (along k.axis q) t) above (each_passes (λ q. int_le (edge b k) (along k.axis q)) (c ∷ cs))))
+        (within_from efficiency w n k.axis (edge b k) above (each_map (λ q. int_le (edge b k) (along k.axis q) ≡ true) (λ q. edge b k ≤ℤ along k.axis q) (λ q t. le_from (edge b k) (along k.axis q) t) above (each_passes (λ q. int_le (edge b k) (along k.axis q)) (c ∷ cs))))
         (leaves above (omega arith)))
 
 -- ---- the same in the words of the law

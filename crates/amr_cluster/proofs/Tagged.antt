@@ -13,6 +13,7 @@ use Rattle.amr_box.specs.declared.Axis.{Axis}
 use Rattle.amr_box.specs.declared.Axis.TheVariants.{X, Y}
 use Rattle.amr_box.specs.Cells.{Extent, HasCorners, IsNear, along, at_least_zero, cell, height, holds, width, within}
 use Rattle.amr_box.proofs.Boxes.{int_le-yes}
+use Rattle.amr_box.proofs.Numbers.{side-is}
 use Rattle.amr_def.specs.Signature.{signature}
 use Rattle.amr_def.specs.Cut.{best_cut}
 use Rattle.amr_def.specs.Cluster.{cut_of}
@@ -37,13 +38,6 @@ IsNear-in b larger i near = record {
   wide = i.wide;
   high = i.high;
 }
-
-pub at_least_zero-is : (z : ℤ) → pos 0 ≤ℤ z → pos (at_least_zero z) ≡ z
-at_least_zero-is (pos n) g = refl
-at_least_zero-is (negsuc n) g = absurd (omega (arith, ints))
-
-pub size-is : (low high : ℤ) → low ≤ℤ high → pos (at_least_zero (high +ℤ pos 1 -ℤ low)) ≡ high +ℤ pos 1 -ℤ low
-size-is low high h = at_least_zero-is (high +ℤ pos 1 -ℤ low) (omega (arith, ints))
 
 abbrev pub size_along : Axis → Extent → ℕ
 size_along X b = width b
@@ -99,10 +93,10 @@ pub record IsOffset (t : TagSet) (part at : Extent) : Type 0 where
 
 module _ (t : TagSet) (part at : Extent) (is : IsOffset t part at) where
   columns_of : pos (width t.bx) ≡ t.bx.hi.x +ℤ pos 1 -ℤ t.bx.lo.x
-  columns_of = size-is t.bx.lo.x t.bx.hi.x is.laid_out.near.wide
+  columns_of = side-is t.bx.lo.x t.bx.hi.x is.laid_out.near.wide
 
   rows_of : pos (height t.bx) ≡ t.bx.hi.y +ℤ pos 1 -ℤ t.bx.lo.y
-  rows_of = size-is t.bx.lo.y t.bx.hi.y is.laid_out.near.high
+  rows_of = side-is t.bx.lo.y t.bx.hi.y is.laid_out.near.high
 
   some_words : 1 ≤ words_for (width t.bx)
   some_words =
@@ -143,8 +137,8 @@ module _ (t : TagSet) (part at : Extent) (is : IsOffset t part at) where
 
   held_cell : (i j : ℕ) → i < width part → j < height part → holds t.bx (cell (part.lo.x +ℤ pos i) (part.lo.y +ℤ pos j)) ≡ true
   held_cell i j h g =
-      let w : pos i <ℤ (part.hi.x +ℤ pos 1 -ℤ part.lo.x) = omega (arith, ints, size-is part.lo.x part.hi.x is.inside.wide) in
-      let v : pos j <ℤ (part.hi.y +ℤ pos 1 -ℤ part.lo.y) = omega (arith, ints, size-is part.lo.y part.hi.y is.inside.high) in
+      let w : pos i <ℤ (part.hi.x +ℤ pos 1 -ℤ part.lo.x) = omega (arith, ints, side-is part.lo.x part.hi.x is.inside.wide) in
+      let v : pos j <ℤ (part.hi.y +ℤ pos 1 -ℤ part.lo.y) = omega (arith, ints, side-is part.lo.y part.hi.y is.inside.high) in
       both (within_is t.bx.lo.x t.bx.hi.x part.lo.x part.hi.x i is.inside.west is.inside.east w) (within_is t.bx.lo.y t.bx.hi.y part.lo.y part.hi.y j is.inside.south is.inside.north v)
     where
       both : {a b : Bool} → a ≡ true → b ≡ true → (a && b) ≡ true

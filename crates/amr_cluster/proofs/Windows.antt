@@ -8,7 +8,7 @@ use Rattle.std.proofs.lemmas.List.{append-nil}
 use Rattle.amr_box.specs.declared.Cell.{Cell}
 use Rattle.amr_tags.specs.Stored.{IsPart}
 use Rattle.amr_box.specs.Cells.{Extent, at_least_zero, cell, cells_of, height, holds, width, within}
-use Rattle.amr_cluster.proofs.Tagged.{at_least_zero-is, size-is}
+use Rattle.amr_box.proofs.Numbers.{at_least_zero-same, range_parts, side-is}
 
 filter-map : {A B : Type 0} (p : B → Bool) (f : A → B) (xs : List A) → filter p (map f xs) ≡ map f (filter (λ x. p (f x)) xs)
 filter-map {B = B} p f [] = refl
@@ -44,13 +44,6 @@ filter-range-same p q a (suc n) same =
     ap (λ (t : Bool). cond t (a ∷ filter p (range_with_len (a + 1) n)) (filter p (range_with_len (a + 1) n))) (same a (omega arith) (omega arith))
     ∙ ap (λ (ys : List ℕ). cond (q a) (a ∷ ys) ys) (filter-range-same p q (a + 1) n (λ k from to. same k (omega arith) (omega arith)))
 
-range-add : (a m n : ℕ) → range_with_len a (m + n) ≡ range_with_len a m ++ range_with_len (a + m) n
-range-add a zero n = ap (range_with_len a) (omega arith) ∙ ap (λ (k : ℕ). range_with_len k n) (omega arith)
-range-add a (suc m) n =
-    let size : suc m + n ≡ suc (m + n) = omega arith in
-    let start : (a + 1) + m ≡ a + suc m = omega arith in
-    ap (range_with_len a) size ∙ ap (λ (ks : List ℕ). a ∷ ks) (range-add (a + 1) m n ∙ ap (λ (k : ℕ). range_with_len (a + 1) m ++ range_with_len k n) start)
-
 filter-all : (a n : ℕ) → filter (λ k. true) (range_with_len a n) ≡ range_with_len a n
 filter-all a zero = refl
 filter-all a (suc n) = ap (λ (ks : List ℕ). a ∷ ks) (filter-all (a + 1) n)
@@ -61,11 +54,11 @@ filter-window p d n r before inside after =
     let first : filter p (range_with_len 0 d) ≡ [] = filter-range-same p (λ k. false) 0 d (λ k from to. before k (omega arith)) ∙ filter-none (range_with_len 0 d) in
     let middle : filter p (range_with_len d n) ≡ range_with_len d n = filter-range-same p (λ k. true) d n inside ∙ filter-all d n in
     let last : filter p (range_with_len (d + n) r) ≡ [] = filter-range-same p (λ k. false) (d + n) r (λ k from to. after k from) ∙ filter-none (range_with_len (d + n) r) in
-    ap (filter p) (range-add 0 (d + n) r)
+    ap (filter p) (range_parts 0 (d + n) r)
     ∙ filter-append p (range_with_len 0 (d + n)) (range_with_len (0 + (d + n)) r)
     ∙ ap (λ (ks : List ℕ). filter p (range_with_len 0 (d + n)) ++ ks) (ap (λ (k : ℕ). filter p (range_with_len k r)) (omega arith) ∙ last)
     ∙ append-nil (filter p (range_with_len 0 (d + n)))
-    ∙ ap (filter p) (range-add 0 d n)
+    ∙ ap (filter p) (range_parts 0 d n)
     ∙ filter-append p (range_with_len 0 d) (range_with_len (0 + d) n)
     ∙ ap (λ (ks : List ℕ). ks ++ filter p (range_with_len (0 + d) n)) first
     ∙ ap (λ (k : ℕ). filter p (range_with_len k n)) (omega arith) ∙ middle
@@ -77,7 +70,7 @@ record IsWindow (low high lo hi : ℤ) : Type 0 where
   to : hi ≤ℤ high
 
 offset-is : (low lo : ℤ) → low ≤ℤ lo → pos (at_least_zero (lo -ℤ low)) ≡ lo -ℤ low
-offset-is low lo h = at_least_zero-is (lo -ℤ low) (omega (arith, ints))
+offset-is low lo h = at_least_zero-same (lo -ℤ low) (omega (arith, ints))
 
 abbrev size : ℤ → ℤ → ℕ
 size low high = at_least_zero (high +ℤ pos 1 -ℤ low)
@@ -96,8 +89,8 @@ coordinates low high lo hi w =
     let d = at_least_zero (lo -ℤ low) in
     let n = size lo hi in
     let is_d : pos d ≡ lo -ℤ low = offset-is low lo w.from in
-    let is_n : pos n ≡ hi +ℤ pos 1 -ℤ lo = size-is lo hi w.order in
-    let is_whole : pos (size low high) ≡ high +ℤ pos 1 -ℤ low = size-is low high (omega (arith, ints, w.from, w.order, w.to)) in
+    let is_n : pos n ≡ hi +ℤ pos 1 -ℤ lo = side-is lo hi w.order in
+    let is_whole : pos (size low high) ≡ high +ℤ pos 1 -ℤ low = side-is low high (omega (arith, ints, w.from, w.order, w.to)) in
     let cut : size low high ≡ (d + n) + (size low high - (d + n)) = omega (arith, ints, is_d, is_n, is_whole, w.to) in
     ap (λ (m : ℕ). filter (λ k. within lo hi (low +ℤ pos k)) (range_with_len 0 m)) cut
     ∙ filter-window (λ k. within lo hi (low +ℤ pos k)) d n (size low high - (d + n))

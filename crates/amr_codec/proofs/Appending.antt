@@ -1,5 +1,5 @@
 -- Bytes that are put one after another: those of the entries of a list, and of the numbers of a range.
-use Rattle.std.proofs.Common.{◌≡◌, ℕ, zero, suc, ◌+◌, ◌<◌, ◌≤◌, List, [], ◌∷◌, ◌++◌, length, get_or, take, map, refl, sym, ap, ◌∙◌, append_assoc, append-nil, arith, pos, ◌+ℤ◌}
+use Rattle.std.proofs.Common.{◌≡◌, ℕ, suc, ◌+◌, ◌<◌, ◌≤◌, List, [], ◌∷◌, ◌++◌, length, get_or, take, map, refl, sym, ap, ◌∙◌, append_assoc, append-nil, arith, pos, ◌+ℤ◌}
 use Rattle.std.specs.List.{flat_map, range_with_len}
 use Rattle.std.proofs.lemmas.List.{flat_map_more, take_all}
 use Rattle.std.proofs.lemmas.Grind.{take_at_read}
@@ -7,6 +7,7 @@ use Rattle.std.proofs.lemmas.List.Concat.{flat_map-append}
 use Rattle.std.proofs.lemmas.List.Folds.{flat_map-map}
 use Rattle.amr_box.specs.declared.Cell.{Cell}
 use Rattle.amr_box.specs.Cells.{Extent, cell, cells_of, height, width}
+use Rattle.amr_box.proofs.Numbers.{range_parts}
 
 -- ---- lists
 
@@ -24,13 +25,6 @@ pub put_twice : (a b c x y : List ℕ) → b ≡ a ++ x → c ≡ b ++ y → c �
 put_twice a b c x y first second = second ∙ ap (λ (l : List ℕ). l ++ y) first ∙ append_assoc a x y
 
 -- ---- ranges
-
-range_parts : (a m n : ℕ) → range_with_len a (m + n) ≡ range_with_len a m ++ range_with_len (a + m) n
-range_parts a zero n = let e : 0 + n ≡ n = omega arith in let f : a ≡ a + 0 = omega arith in λ i. range_with_len (f i) (e i)
-range_parts a (suc m) n =
-    let e : suc m + n ≡ suc (m + n) = omega arith in
-    let f : a + 1 + m ≡ a + suc m = omega arith in
-    ap (range_with_len a) e ∙ ap (λ (xs : List ℕ). a ∷ xs) (range_parts (a + 1) m n ∙ ap (λ k. range_with_len (a + 1) m ++ range_with_len k n) f)
 
 -- n numbers more
 pub range_more : (f : ℕ → List ℕ) (start : List ℕ) (m n : ℕ) → (start ++ flat_map f (range_with_len 0 m)) ++ flat_map f (range_with_len m n) ≡ start ++ flat_map f (range_with_len 0 (m + n))

@@ -1,3 +1,2 @@
 mod Appending
 mod Domains
-mod Entries

@@ -1,24 +1,15 @@
 -- Patches whose frames are filled: their boxes and masses are those of before.
-use Rattle.std.proofs.Common.{◌≡◌, ℕ, ◌<◌, Bool, true, false, cond, List, [], ◌∷◌, length, get_or, map, refl, sym, ap, ◌∙◌, arith}
-use Rattle.std.specs.Prelude.{is_some}
-use Rattle.std.specs.declared.option.Option.{Option}
+use Rattle.std.proofs.Common.{◌≡◌, ℕ, ◌<◌, cond, List, [], ◌∷◌, length, get_or, map, refl, ap, ◌∙◌, arith}
 use Rattle.std.specs.declared.option.Option.TheVariants.{Some}
 use Rattle.std.specs.List.{AllZip}
 use Rattle.amr_box.specs.declared.Cell.{Cell}
 use Rattle.amr_box.specs.Cells.{Extent, holds}
-use Rattle.amr_def.specs.declared.problem.Problem.{Problem}
-use Rattle.amr_def.specs.Domain.{domain}
-use Rattle.amr_def.specs.State.{Level, Masses}
-use Rattle.amr_def.specs.Facts.{IsLevel}
-use Rattle.amr_patch.proofs.Lookups.{same_default, some_mass}
+use Rattle.amr_patch.proofs.Lookups.{same_default}
 use Rattle.amr_patch.proofs.SameBoxes.{box_at, same_length}
 use Rattle.amr_patch.specs.declared.patches.Patch.{Patch}
 use Rattle.amr_patch.specs.Patches.{box, mass_in, masses_in}
-use Rattle.amr_ghost.specs.Frames.{AreInDomain, SameMasses}
-
--- the patches of a level lie in its domain
-pub patches_inside : (p : Problem) (l : ℕ) (k : Level) (ps : List Patch) → IsLevel p l k → k.masses ≡ masses_in ps → AreInDomain (domain p l) ps
-patches_inside p l k ps level is = λ c h. level.inside c (sym (level.filled c) ∙ ap (λ (m : Masses). is_some (m c)) is ∙ some_mass ps c ∙ h)
+use Rattle.amr_ghost.specs.Frames.{SameMasses}
+use Rattle.amr_ghost.proofs.Zips.{mass_cases}
 
 -- ---- patches with the boxes of others
 
@@ -32,10 +23,6 @@ first_box (a ∷ bs) b = a
 rest_of : List Extent → List Extent
 rest_of [] = []
 rest_of (a ∷ bs) = bs
-
-mass_cases : (t : Bool) (a b : ℕ) (x y : Option ℕ) → (t ≡ true → b ≡ a) → y ≡ x → cond t (Some b) y ≡ cond t (Some a) x
-mass_cases true a b x y e f = ap Some (e refl)
-mass_cases false a b x y e f = f
 
 same_mass : (ps qs : List Patch) (c : Cell) → AllZip SameMasses ps qs → map box qs ≡ map box ps → masses_in qs c ≡ masses_in ps c
 unfolding first_box rest_of

@@ -7,20 +7,21 @@ use Rattle.std.proofs.lemmas.Int.{ints}
 use Rattle.amr_box.specs.declared.Cell.{Cell}
 use Rattle.amr_box.specs.Cells.{Extent, cell, holds, within}
 use Rattle.amr_box.proofs.Tests.{and_either}
+use Rattle.amr_box.proofs.Numbers.{is_between}
 use Rattle.amr_def.specs.declared.problem.Problem.{Problem}
 use Rattle.amr_def.specs.Domain.{Domain, domain, domain_box, home_cell, in_domain, moved}
 use Rattle.amr_def.specs.Facts.{IsLevel}
 use Rattle.amr_def.specs.State.{Level, Masses}
 use Rattle.amr_def.specs.Tags.{differs_by, is_tagged_by, neighbours}
 use Rattle.amr_def.specs.Value.{value_at}
+use Rattle.amr_def.proofs.Uncovered.{domain_box_cells}
 use Rattle.amr_patch.proofs.Lookups.{some_mass}
 use Rattle.amr_patch.specs.declared.patches.Patch.{Patch}
 use Rattle.amr_patch.specs.Places.{grown}
 use Rattle.amr_patch.specs.Patches.{ArePatchesApart, box, in_patches, masses_in, value_in}
-use Rattle.amr_patch.proofs.Rows.{IsIn, inside, is_between}
+use Rattle.amr_patch.proofs.Rows.{IsIn, inside}
 use Rattle.amr_ghost.specs.Frames.{AreInDomain, HasGhostValues, SameMasses}
 use Rattle.amr_ghost.proofs.Reach.{reach_values}
-use Rattle.amr_nest.proofs.Reaches.{domain_is}
 use Rattle.amr_tags.specs.TagSets.{TagSet, has}
 use Rattle.amr_criterion.specs.Tagged.{is_tagged_in}
 use Rattle.amr_criterion.specs.Pairs.{IsJoined}
@@ -97,7 +98,7 @@ tagged_inside : (p : Problem) (l : ℕ) (k : Level) (old : Masses) (c : Cell) �
 unfolding is_tagged_by
 tagged_inside p l k old c level h =
     let some : is_some (k.masses c) ≡ true = (and_parts (is_some (k.masses c)) (compares (slice_index p.tag l) (domain p l) (value_at p l k.masses old) c) h).0 in
-    domain_is (domain p l) c ∙ level.inside c (sym (level.filled c) ∙ some)
+    domain_box_cells (domain p l) c ∙ level.inside c (sym (level.filled c) ∙ some)
 
 then_both : (a b : Bool) → (b ≡ true → a ≡ true) → (a && b) ≡ b
 then_both a true h = let e : a ≡ true = h refl in ap (λ (t : Bool). t && true) e

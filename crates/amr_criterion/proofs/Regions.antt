@@ -9,6 +9,7 @@ use Rattle.amr_box.specs.declared.Axis.{Axis}
 use Rattle.amr_box.specs.declared.Axis.TheVariants.{X, Y}
 use Rattle.amr_box.specs.Cells.{Extent, cell, extent, holds, within}
 use Rattle.amr_box.proofs.CellEquality.{same_cells}
+use Rattle.amr_box.proofs.Numbers.{none_within}
 use Rattle.amr_criterion.specs.Pairs.{after, ahead, before, region, with_after}
 
 -- numbers up to one more
@@ -30,10 +31,6 @@ pub rows_parts : (from : Cell) (n m k t : ℕ) (c : Cell) → t ≡ m + k → ho
 rows_parts from n m k t c e =
     let x = within from.x (from.x +ℤ pos n -ℤ pos 1) c.x in
     ap (λ (b : Bool). x && b) (two_parts from.y c.y m k t e) ∙ and-or_distrib_left x (within from.y (from.y +ℤ pos m -ℤ pos 1) c.y) (within (from.y +ℤ pos m) (from.y +ℤ pos m +ℤ pos k -ℤ pos 1) c.y)
-
--- no columns, no rows
-none_within : (low z : ℤ) → within low (low +ℤ pos 0 -ℤ pos 1) z ≡ false
-none_within low z = grind (arith, ints)
 
 pub no_columns : (from : Cell) (m : ℕ) (c : Cell) → holds (region from 0 m) c ≡ false
 no_columns from m c = ap (λ (b : Bool). b && within from.y (from.y +ℤ pos m -ℤ pos 1) c.y) (none_within from.x c.x)

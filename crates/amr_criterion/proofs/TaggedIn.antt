@@ -6,13 +6,14 @@ use Rattle.amr_box.specs.declared.Cell.{Cell}
 use Rattle.amr_box.specs.declared.Axis.TheVariants.{X, Y}
 use Rattle.amr_box.specs.Cells.{Extent, cell, holds, within}
 use Rattle.amr_box.proofs.CellEquality.{same_cell}
+use Rattle.amr_box.proofs.Numbers.{is_between, less_and_more, minus_one, plus_zero}
 use Rattle.amr_def.specs.Domain.{Domain, home_cell, in_domain, is_inside, moved, wrapped}
 use Rattle.std.specs.List.{list_any}
 use Rattle.amr_def.specs.Tags.{differs_by, neighbours}
 use Rattle.amr_ghost.specs.Filling.{LiesInDomain}
 use Rattle.amr_patch.specs.declared.patches.Patch.{Patch}
 use Rattle.amr_patch.specs.Patches.{box, value_in}
-use Rattle.amr_patch.proofs.Rows.{IsIn, inside, is_between}
+use Rattle.amr_patch.proofs.Rows.{IsIn, inside}
 use Rattle.amr_criterion.specs.Pairs.{before, in_steep_pair, is_steep, region}
 use Rattle.amr_criterion.specs.Tagged.{is_tagged_in, reach_high, reach_low}
 use Rattle.amr_criterion.proofs.Compared.{is_home, last_compared, next_compared}
@@ -84,32 +85,23 @@ last_upward d b from columns rows c lies is here =
 either_way : (t a b : ℕ) → differs_by t a b ≡ differs_by t b a
 either_way t a b = let e : (a - b) + (b - a) ≡ (b - a) + (a - b) = omega arith in ap (nat_le t) e
 
-add_zero : (z : ℤ) → z ≡ z +ℤ pos 0
-add_zero z = omega (arith, ints)
-
-less_one : (z : ℤ) → z -ℤ pos 1 ≡ z +ℤ negsuc 0
-less_one z = omega (arith, ints)
-
-less_and_more : (z : ℤ) → z -ℤ pos 1 +ℤ pos 1 ≡ z
-less_and_more z = omega (arith, ints)
-
 east_of : (t : ℕ) (v : Cell → ℕ) (c : Cell) → is_steep t v X c ≡ differs_by t (v c) (v (moved c (cell (pos 1) (pos 0))))
-east_of t v c = ap (λ q. differs_by t (v c) (v q)) (same_cell refl (add_zero c.y))
+east_of t v c = ap (λ q. differs_by t (v c) (v q)) (same_cell refl (plus_zero c.y))
 
 west_of : (t : ℕ) (v : Cell → ℕ) (c : Cell) → is_steep t v X (before X c) ≡ differs_by t (v c) (v (moved c (cell (negsuc 0) (pos 0))))
 west_of t v c =
     ap (λ q. differs_by t (v (before X c)) (v q)) (same_cell (less_and_more c.x) refl)
     ∙ either_way t (v (before X c)) (v c)
-    ∙ ap (λ q. differs_by t (v c) (v q)) (same_cell (less_one c.x) (add_zero c.y))
+    ∙ ap (λ q. differs_by t (v c) (v q)) (same_cell (minus_one c.x) (plus_zero c.y))
 
 north_of : (t : ℕ) (v : Cell → ℕ) (c : Cell) → is_steep t v Y c ≡ differs_by t (v c) (v (moved c (cell (pos 0) (pos 1))))
-north_of t v c = ap (λ q. differs_by t (v c) (v q)) (same_cell (add_zero c.x) refl)
+north_of t v c = ap (λ q. differs_by t (v c) (v q)) (same_cell (plus_zero c.x) refl)
 
 south_of : (t : ℕ) (v : Cell → ℕ) (c : Cell) → is_steep t v Y (before Y c) ≡ differs_by t (v c) (v (moved c (cell (pos 0) (negsuc 0))))
 south_of t v c =
     ap (λ q. differs_by t (v (before Y c)) (v q)) (same_cell refl (less_and_more c.y))
     ∙ either_way t (v (before Y c)) (v c)
-    ∙ ap (λ q. differs_by t (v c) (v q)) (same_cell (add_zero c.x) (less_one c.y))
+    ∙ ap (λ q. differs_by t (v c) (v q)) (same_cell (plus_zero c.x) (minus_one c.y))
 
 in_order : (east west north south : Bool) → ((east || west) || (north || south)) ≡ (west || (east || (south || (north || false))))
 in_order true true n s = refl

@@ -10,6 +10,7 @@ use Rattle.std.proofs.lemmas.List.{length-map, map-append}
 use Rattle.amr_box.specs.declared.Cell.{Cell}
 use Rattle.amr_box.specs.Cells.{Extent, holds}
 use Rattle.amr_def.specs.State.{Level, in_boxes}
+use Rattle.amr_def.proofs.Uncovered.{no_mass}
 use Rattle.amr_patch.specs.declared.patches.Patch.{Patch}
 use Rattle.amr_patch.specs.Patches.{AreApart, box, in_patches, mass_in, masses_in}
 use Rattle.amr_patch.proofs.Apart.{in_boxes_at}
@@ -65,10 +66,6 @@ some_from (p ∷ ps) d h = by_test (holds (box p) d) h (some_from ps d)
     by_test true e more = refl
     by_test false e more = more e
 
-none_from : (o : Option ℕ) → is_some o ≡ false → o ≡ None
-none_from None h = refl
-none_from (Some n) h = absurd (cc)
-
 pub all_masses : (gs : List tests.Grid) (ps qs : List Patch) → AreFilled gs ps qs → ((d : Cell) → in_patches ps d ≡ true → in_boxes (map (λ g. g.box) gs) d ≡ true) → masses_in qs ≡ tests.masses_in gs
 all_masses gs ps qs filled inside = λ i d. at d (in_boxes (map (λ g. g.box) gs) d) refl i
   where
@@ -76,7 +73,7 @@ all_masses gs ps qs filled inside = λ i d. at d (in_boxes (map (λ g. g.box) gs
     at d true e = filled.set d e
     at d false e =
         masses_in-none qs d (in_same_boxes qs ps d filled.boxes ∙ false_from_ne_true (in_patches ps d) (λ h. both_ways (in_boxes (map (λ g. g.box) gs) d) e (inside d h)))
-        ∙ sym (none_from (tests.masses_in gs d) (has_masses gs d ∙ e))
+        ∙ sym (no_mass (tests.masses_in gs d) (has_masses gs d ∙ e))
 
 -- ---- a level that is made of them
 

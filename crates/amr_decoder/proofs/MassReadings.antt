@@ -1,15 +1,15 @@
 -- Masses, read one after another.
-use Rattle.std.proofs.Common.{◌≡◌, ℕ, zero, suc, ◌+◌, ◌-◌, ◌*◌, ◌/◌, ◌^◌, ◌<◌, ◌≤◌, pow_pos, mul_comm, mul_assoc, mul-add, Bool, true, false, List, [], ◌∷◌, ◌++◌, drop, refl, sym, ap, ◌∙◌, arith, drop-drop}
+use Rattle.std.proofs.Common.{◌≡◌, ℕ, ◌+◌, ◌-◌, ◌*◌, ◌/◌, ◌^◌, ◌<◌, ◌≤◌, pow_pos, mul_comm, mul_assoc, mul-add, Bool, true, false, List, [], ◌∷◌, ◌++◌, drop, refl, sym, ap, ◌∙◌, arith, drop-drop}
 use Rattle.std.specs.Prelude.{nat_le, slice_index}
 use Rattle.std.specs.Int.{Width, byte_len, from_le_bytes}
-use Rattle.std.proofs.lemmas.Bool.{both_ways}
+use Rattle.std.proofs.lemmas.Bool.{both_ways, le-leb, leb-true, lt-leb}
 use Rattle.std.proofs.lemmas.Nat.{div-add-mod', le-div}
 use Rattle.std.proofs.Math.Nat.{mul-le-mul_left, mul-le-mul_right}
 use Rattle.std.proofs.lemmas.List.FromFn.{get_or-map-range_with_len, map-range_with_len_more}
 use Rattle.amr_def.specs.declared.problem.Problem.{Problem}
+use Rattle.amr_def.proofs.Courants.{four_power}
 use Rattle.amr_payload.specs.Tests.{Left, bad, read, then_read, tested, read_also, after, is_mass, read_number, read_mass, read_masses}
 use Rattle.amr_decoder.specs.Numbers.{number_at, numbers}
-use Rattle.amr_decoder.proofs.Readings.{le_is, le_no, le_yes}
 use Rattle.amr_decoder.proofs.Lists.{also_all, one_left}
 
 pub after_more : (w : Width) (k : ℕ) (r m e : Left) → m ≡ after (byte_len w * k) r → after (byte_len w) m ≡ e → e ≡ after (byte_len w * (k + 1)) r
@@ -55,20 +55,12 @@ after_none w r =
 
 -- ---- the greatest mass
 
-pub four_is : (l : ℕ) → l ≤ 4 → 2 ^ (2 * l) ≡ 4 ^ l
-four_is zero h = refl
-four_is (suc zero) h = refl
-four_is (suc (suc zero)) h = refl
-four_is (suc (suc (suc zero))) h = refl
-four_is (suc (suc (suc (suc zero)))) h = refl
-four_is (suc (suc (suc (suc (suc l))))) h = absurd (omega arith)
-
 same_test : (a b c d : ℕ) → (a ≤ b → c ≤ d) → (c ≤ d → a ≤ b) → nat_le a b ≡ nat_le c d
 same_test a b c d there back = by_test (nat_le a b) refl
   where
     by_test : (t : Bool) → nat_le a b ≡ t → t ≡ nat_le c d
-    by_test true e = sym (le_yes c d (there (le_is a b e)))
-    by_test false e = sym (le_no c d (above c d (λ h. both_ways (nat_le a b) e (le_yes a b (back h)))))
+    by_test true e = sym (le-leb c d (there (leb-true a b e)))
+    by_test false e = sym (lt-leb c d (above c d (λ h. both_ways (nat_le a b) e (le-leb a b (back h)))))
       where
         above : (c d : ℕ) → (c ≤ d → ⊥) → d < c
         above c d h = omega arith
@@ -79,7 +71,7 @@ below_shift k m bound some = same_test (k * m) bound m (bound / k)
     (λ h. let part : m * k ≤ bound / k * k = mul-le-mul_right k h in omega (arith, mul_comm k m, part, div-add-mod' bound k))
 
 pub greatest_is : (l m bound : ℕ) → l ≤ 4 → nat_le (4 ^ l * m) bound ≡ nat_le m (bound / 2 ^ (2 * l))
-greatest_is l m bound h = ap (λ k. nat_le (k * m) bound) (sym (four_is l h)) ∙ below_shift (2 ^ (2 * l)) m bound (pow_pos (2 * l))
+greatest_is l m bound h = ap (λ k. nat_le (k * m) bound) (sym (four_power l h)) ∙ below_shift (2 ^ (2 * l)) m bound (pow_pos (2 * l))
 
 -- ---- numbers by their places
 

@@ -1,5 +1,5 @@
 -- Masses of a level, summed span by span and row by row.
-use Rattle.std.proofs.Common.{◌≡◌, ℕ, zero, suc, ◌+◌, ◌<◌, ◌≤◌, pos, ◌+ℤ◌, ◌-ℤ◌, false, ◌||◌, List, [], ◌∷◌, length, get_or, add-one, refl, sym, ap, ◌∙◌, arith}
+use Rattle.std.proofs.Common.{◌≡◌, ℕ, zero, suc, ◌+◌, ◌<◌, ◌≤◌, pos, ◌+ℤ◌, ◌-ℤ◌, false, ◌||◌, List, [], ◌∷◌, length, get_or, ap, ◌∙◌, arith}
 use Rattle.std.specs.Prelude.{is_some}
 use Rattle.std.proofs.lemmas.Int.{ints}
 use Rattle.amr_box.specs.declared.Cell.{Cell}
@@ -11,12 +11,9 @@ use Rattle.amr_def.specs.Ledger.{sum_to, total_mass}
 use Rattle.amr_def.specs.State.{in_boxes, mass_of}
 use Rattle.amr_patch.specs.declared.levels.Level.{Level}
 use Rattle.amr_patch.specs.Levels.{level_of}
+use Rattle.amr_start.proofs.Bases.{sum_to-same_below}
 
 -- ---- sums
-
-pub sum_same : (f g : ℕ → ℕ) (n : ℕ) → ((k : ℕ) → k < n → f k ≡ g k) → sum_to f n ≡ sum_to g n
-sum_same f g zero h = refl
-sum_same f g (suc n) h = omega (arith, sum_same f g n (λ k below. h k (omega (arith, below))), h n (omega arith))
 
 pub sum_split : (f : ℕ → ℕ) (a b : ℕ) → sum_to f a + sum_to (λ k. f (a + k)) b ≡ sum_to f (a + b)
 sum_split f a zero = let same : a ≡ a + 0 = omega arith in let none : sum_to f a + 0 ≡ sum_to f a = omega arith in none ∙ ap (sum_to f) same
@@ -26,14 +23,11 @@ sum_split f a (suc b) =
     let sum : sum_to f a + (sum_to (λ k. f (a + k)) b + f (a + b)) ≡ sum_to f (a + b) + f (a + b) = omega (arith, rest) in
     sum ∙ ap (sum_to f) same
 
-pub sum_next : (f : ℕ → ℕ) (n sum part : ℕ) → sum ≡ sum_to f n → part ≡ f n → sum + part ≡ sum_to f (n + 1)
-sum_next f n sum part is here = (λ i. is i + here i) ∙ ap (sum_to f) (sym (add-one n))
-
 -- a span after the columns before it
 pub span_more : (f : ℕ → ℕ) (first sum part : ℕ) (masses : List ℕ) → sum ≡ sum_to f first → part ≡ sum_to (λ k. get_or masses k 0) (length masses) → ((k : ℕ) → k < length masses → get_or masses k 0 ≡ f (first + k)) → sum + part ≡ sum_to f (first + length masses)
 span_more f first sum part masses is here at =
     (λ i. is i + here i)
-    ∙ ap (λ n. sum_to f first + n) (sum_same (λ k. get_or masses k 0) (λ k. f (first + k)) (length masses) at)
+    ∙ ap (λ n. sum_to f first + n) (sum_to-same_below (λ k. get_or masses k 0) (λ k. f (first + k)) (length masses) at)
     ∙ sum_split f first (length masses)
 
 -- ---- the box of the domain

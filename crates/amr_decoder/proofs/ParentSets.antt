@@ -1,8 +1,7 @@
 -- Boxes that have all children of the parents of their cells: two of them meet where their parents do, so tags of parents tell.
 use Rattle.std.proofs.Common.{◌≡◌, ℕ, zero, suc, ◌-◌, ◌*◌, ◌^◌, ◌<◌, Bool, true, false, ◌&&◌, ◌||◌, ℤ, pos, ◌+ℤ◌, ◌-ℤ◌, ◌≤ℤ◌, ◌<ℤ◌, List, [], ◌∷◌, ◌++◌, map, reverse, refl, sym, ap, ◌∙◌, arith, inl, inr, ◌⊎◌}
 use Rattle.std.specs.Prelude.{is_some, IsNone, ◌↔◌}
-use Rattle.std.specs.Int.{int_max, int_min, int_rem_euclid}
-use Rattle.std.specs.Ordering.{int_eq}
+use Rattle.std.specs.Int.{int_max, int_min}
 use Rattle.std.specs.List.{All, list_any}
 use Rattle.std.specs.declared.option.Option.{Option}
 use Rattle.std.proofs.lemmas.Int.{ints, clamps}
@@ -13,15 +12,14 @@ use Rattle.amr_box.specs.declared.Cell.{Cell}
 use Rattle.amr_box.specs.Cells.{Extent, common, half, holds}
 use Rattle.amr_def.specs.declared.problem.Problem.{Problem}
 use Rattle.amr_def.specs.Domain.{domain, domain_box, in_domain}
-use Rattle.amr_def.specs.Facts.{IsAligned}
 use Rattle.amr_def.specs.State.{in_boxes}
 use Rattle.amr_def.proofs.Courants.{twice_as_many}
 use Rattle.amr_def.proofs.Nesting.{aligned_even, in_domain-inside}
 use Rattle.amr_def.proofs.Nests.{even_is, odd_is}
 use Rattle.amr_tags.proofs.Places.{in_holds, is_in}
-use Rattle.amr_nest.specs.Reach.{parents_of}
-use Rattle.amr_payload.specs.Tests.{is_aligned, is_box_of, is_multiple, meets}
-use Rattle.amr_payload.proofs.GridLevels.{fine_box, is_proper_from, meeting_cell, meets_at, proper_is}
+use Rattle.amr_tags.specs.Coarse.{parents_of}
+use Rattle.amr_payload.specs.Tests.{is_box_of, meets}
+use Rattle.amr_payload.proofs.GridLevels.{aligned_is, fine_box, is_proper_from, meeting_cell, meets_at, proper_is}
 use Rattle.amr_decoder.specs.declared.grid.Grid.{Grid}
 use Rattle.amr_decoder.specs.Apart.{IsOverParents, newest_first}
 use Rattle.amr_decoder.specs.Grids.{boxes_of}
@@ -54,19 +52,6 @@ module _ (below a b : Extent) (p : IsOverParents below a) (q : IsOverParents bel
       })
 
 -- ---- a box that passed the tests on itself
-
-multiple_is : (n : ℕ) (z : ℤ) → is_multiple n z ≡ true → int_rem_euclid z (pos n) ≡ pos 0
-multiple_is n z h = same (int_rem_euclid z (pos n)) (pos 0) h
-  where
-    same : (a b : ℤ) → int_eq a b ≡ true → a ≡ b
-    same a b h = grind (arith, ints)
-
-aligned_is : (n : ℕ) (b : Extent) → is_aligned n b ≡ true → IsAligned n b
-aligned_is n b h =
-    let t = and_parts (is_multiple n b.lo.x && is_multiple n b.lo.y && is_multiple n (b.hi.x +ℤ pos 1)) (is_multiple n (b.hi.y +ℤ pos 1)) h in
-    let u = and_parts (is_multiple n b.lo.x && is_multiple n b.lo.y) (is_multiple n (b.hi.x +ℤ pos 1)) t.0 in
-    let v = and_parts (is_multiple n b.lo.x) (is_multiple n b.lo.y) u.0 in
-    record { west = multiple_is n b.lo.x v.0; south = multiple_is n b.lo.y v.1; east = multiple_is n (b.hi.x +ℤ pos 1) u.1; north = multiple_is n (b.hi.y +ℤ pos 1) t.1 }
 
 pub over_parents : (p : Problem) (l : ℕ) (b : Extent) → 0 < l → is_box_of p l [] b ≡ true → IsOverParents (domain_box (domain p (l - 1))) b
 over_parents p zero b some h = absurd (omega arith)

@@ -1,8 +1,7 @@
 -- Readings of a number at a place of bytes, and readings one after another.
-use Rattle.std.proofs.Common.{◌≡◌, ℕ, ◌+◌, ◌-◌, ◌<◌, ◌≤◌, true, false, List, length, drop, ap, ◌∙◌, arith, length-drop, drop-drop}
-use Rattle.std.specs.Prelude.{nat_le}
+use Rattle.std.proofs.Common.{◌≡◌, ℕ, ◌+◌, ◌-◌, ◌<◌, ◌≤◌, List, length, drop, ap, ◌∙◌, arith, length-drop, drop-drop}
 use Rattle.std.specs.Int.{Width, byte_len, from_le_bytes}
-use Rattle.std.proofs.lemmas.Bool.Decides.{nat_tests}
+use Rattle.std.proofs.lemmas.Bool.{le-leb, lt-leb}
 use Rattle.amr_payload.specs.Tests.{Left, Reading, bad, read, then_read, tested, read_also, after, read_number}
 use Rattle.amr_decoder.specs.declared.faults.CodecFault.{CodecFault}
 use Rattle.amr_decoder.specs.declared.faults.CodecFault.TheVariants.{Bad, NoMemory}
@@ -11,25 +10,16 @@ use Rattle.amr_decoder.specs.Faults.{IsFaultOf}
 abbrev pub left_at : ℕ → List ℕ → Left
 left_at k bytes = record { place = k; bytes = drop k bytes }
 
-pub le_yes : (a b : ℕ) → a ≤ b → nat_le a b ≡ true
-le_yes a b h = grind (arith, nat_tests)
-
-pub le_no : (a b : ℕ) → b < a → nat_le a b ≡ false
-le_no a b h = grind (arith, nat_tests)
-
-pub le_is : (a b : ℕ) → nat_le a b ≡ true → a ≤ b
-le_is a b h = grind (arith, nat_tests)
-
 pub number_read : (w : Width) (k : ℕ) (bytes : List ℕ) → byte_len w ≤ length bytes - k → read_number w (left_at k bytes) ≡ read (from_le_bytes w (drop k bytes)) (left_at (k + byte_len w) bytes)
 unfolding read_number
 number_read w k bytes h =
-    ap (λ t. tested t k (from_le_bytes w (drop k bytes)) (after (byte_len w) (left_at k bytes))) (le_yes (byte_len w) (length (drop k bytes)) (omega (arith, length-drop k bytes)))
+    ap (λ t. tested t k (from_le_bytes w (drop k bytes)) (after (byte_len w) (left_at k bytes))) (le-leb (byte_len w) (length (drop k bytes)) (omega (arith, length-drop k bytes)))
     ∙ ap (λ (bs : List ℕ). read (from_le_bytes w (drop k bytes)) (record { place = k + byte_len w; bytes = bs })) (drop-drop (byte_len w) k bytes ∙ ap (λ n. drop n bytes) (omega arith))
 
 pub number_bad : (w : Width) (k : ℕ) (bytes : List ℕ) → length bytes - k < byte_len w → read_number w (left_at k bytes) ≡ bad k
 unfolding read_number
 number_bad w k bytes h =
-    ap (λ t. tested t k (from_le_bytes w (drop k bytes)) (after (byte_len w) (left_at k bytes))) (le_no (byte_len w) (length (drop k bytes)) (omega (arith, length-drop k bytes)))
+    ap (λ t. tested t k (from_le_bytes w (drop k bytes)) (after (byte_len w) (left_at k bytes))) (lt-leb (byte_len w) (length (drop k bytes)) (omega (arith, length-drop k bytes)))
 
 -- ---- faults
 

@@ -4,10 +4,10 @@ use Rattle.std.specs.Prelude.{nat_le}
 use Rattle.std.specs.Int.{Width, byte_len, from_le_bytes}
 use Rattle.std.proofs.lemmas.List.FromFn.{fill_by_all}
 use Rattle.std.proofs.Math.Nat.{mul-le-mul_left}
+use Rattle.std.proofs.lemmas.Bool.{le-leb, lt-leb}
 use Rattle.amr_def.specs.declared.problem.Problem.{Problem}
 use Rattle.amr_payload.specs.Tests.{Left, bad, read, tested, after, is_mass, read_number, read_masses}
 use Rattle.amr_decoder.specs.Numbers.{IsNoMass, number_at, numbers}
-use Rattle.amr_decoder.proofs.Readings.{le_no, le_yes}
 use Rattle.amr_decoder.proofs.Lists.{all_read, also_all, also_bad, more}
 use Rattle.amr_decoder.proofs.MassReadings.{after_more, after_none, mass_bad, mass_cut, mass_next, masses_end, none_yet, numbers_push}
 
@@ -17,7 +17,7 @@ number_there : (w : Width) (k : ℕ) (r : Left) → byte_len w * (k + 1) ≤ len
 unfolding read_number
 number_there w k r inside =
     let m = after (byte_len w * k) r in
-    ap (λ t. tested t m.place (from_le_bytes w m.bytes) (after (byte_len w) m)) (le_yes (byte_len w) (length m.bytes) (omega (arith, length-drop (byte_len w * k) r.bytes)))
+    ap (λ t. tested t m.place (from_le_bytes w m.bytes) (after (byte_len w) m)) (le-leb (byte_len w) (length m.bytes) (omega (arith, length-drop (byte_len w * k) r.bytes)))
     ∙ ap (λ (e : Left). read (number_at w r.bytes k) e) (after_more w k r m (after (byte_len w) m) (λ i. m) (λ i. after (byte_len w) m))
 
 number_short : (w : Width) (k : ℕ) (r : Left) → byte_len w * k ≤ length r.bytes → length r.bytes < byte_len w * (k + 1) → read_number w (after (byte_len w * k) r) ≡ bad (r.place + byte_len w * k)
@@ -25,7 +25,7 @@ unfolding read_number
 number_short w k r inside short =
     let m = after (byte_len w * k) r in
     let more : byte_len w * (k + 1) ≡ byte_len w * k + byte_len w = omega arith in
-    ap (λ t. tested t m.place (from_le_bytes w m.bytes) (after (byte_len w) m)) (le_no (byte_len w) (length m.bytes) (omega (arith, length-drop (byte_len w * k) r.bytes, inside, more)))
+    ap (λ t. tested t m.place (from_le_bytes w m.bytes) (after (byte_len w) m)) (lt-leb (byte_len w) (length m.bytes) (omega (arith, length-drop (byte_len w * k) r.bytes, inside, more)))
 
 -- ---- masses one after the other
 
@@ -46,7 +46,7 @@ module _ (w : Width) (p : Problem) (n l : ℕ) where
   -- masses one after the other, none of which is greater than the greatest
   module _ (greatest count k : ℕ) (r : Left) (test : (m : ℕ) → is_mass p n l m ≡ nat_le m greatest) (most : k ≤ count) (inside : byte_len w * k ≤ length r.bytes) (within : (i : ℕ) → i < k → number_at w r.bytes i ≤ greatest) where
     so_far : read_masses w p n l count r ≡ also_all (numbers w k r.bytes) (read_masses w p n l (count - k) (after (byte_len w * k) r))
-    so_far = masses_run count k r most inside (λ i h. test (number_at w r.bytes i) ∙ le_yes (number_at w r.bytes i) greatest (within i h))
+    so_far = masses_run count k r most inside (λ i h. test (number_at w r.bytes i) ∙ le-leb (number_at w r.bytes i) greatest (within i h))
 
     pub tested_read : k ≡ count → read_masses w p n l count r ≡ read (numbers w k r.bytes) (after (byte_len w * k) r)
     tested_read all =
@@ -60,7 +60,7 @@ module _ (w : Width) (p : Problem) (n l : ℕ) where
         stopped (inl short) = mass_cut w p n l count k (r.place + byte_len w * k) (after (byte_len w * k) r) few (number_short w k r inside short)
         stopped (inr over) =
             mass_bad w p n l count k (number_at w r.bytes k) (after (byte_len w * k) r) (after (byte_len w * (k + 1)) r) few (number_there w k r over.0)
-            (test (number_at w r.bytes k) ∙ le_no (number_at w r.bytes k) greatest over.1)
+            (test (number_at w r.bytes k) ∙ lt-leb (number_at w r.bytes k) greatest over.1)
 
 -- ---- a row of numbers, written one by one
 

@@ -30,7 +30,7 @@ new_mass_bounded a1 a2 r d w b v new slack x y some whole below gx gy is =
     let all : d * (w * new) ≤ d * (b + 2 * slack * w) = omega (arith, weighed, out1, out2, parts_v, parts_b, rest, gx.at_most, gy.at_most) in
     le_of_mul-le-mul_left all some
 
-share_at_most : (a d w b v : ℕ) → w * v ≤ b → w * d * (a * v / d) ≤ a * b
+pub share_at_most : (a d w b v : ℕ) → w * v ≤ b → w * d * (a * v / d) ≤ a * b
 share_at_most a d w b v below =
     let one : a * v / d * d ≤ a * v = div-mul-le_self (a * v) d in
     let weighed : w * (a * v / d * d) ≤ w * (a * v) = mul-le-mul_left w one in

@@ -17,6 +17,7 @@ use Rattle.amr_box.specs.declared.Axis.TheVariants.{X, Y}
 use Rattle.amr_box.specs.Cells.{Extent, IsProper, extent, holds, within}
 use Rattle.amr_def.specs.Cluster.{edge, cells_below, cells_from, parts, cut_of, cluster_within, cluster}
 use Rattle.amr_box.specs.Cells.{along}
+use Rattle.amr_box.proofs.Numbers.{le_from}
 use Rattle.amr_def.specs.Signature.{grown_to, bounding}
 use Rattle.amr_def.specs.Cut.{Cut}
 use Rattle.amr_def.specs.State.{in_boxes}
@@ -225,9 +226,6 @@ disjoint_append x e (a ∷ ds) bs h k low high = (apart_append a ds bs h.0 (from
 pub below_passes : (e z : ℤ) → int_lt z e ≡ true → z <ℤ e
 below_passes e z t = grind (arith, ints)
 
-pub from_passes : (e z : ℤ) → int_le e z ≡ true → e ≤ℤ z
-from_passes e z t = grind (arith, ints)
-
 pub within_disjoint : (efficiency w n : ℕ) (cs : List Cell) → Disjoint (cluster_within efficiency w n cs)
 unfolding cluster_within
 within_disjoint efficiency w zero [] = tt
@@ -241,7 +239,7 @@ within_disjoint efficiency w (suc n) (c ∷ cs) = by_cut (cut_of efficiency w (c
         let b = bounding c cs in
         disjoint_append k.axis (edge b k) (cluster_within efficiency w n (cells_below b k (c ∷ cs))) (cluster_within efficiency w n (cells_from b k (c ∷ cs))) (g (cells_below b k (c ∷ cs))) (g (cells_from b k (c ∷ cs)))
         (within_below efficiency w n k.axis (edge b k) (cells_below b k (c ∷ cs)) (each_then (λ q. int_lt (along k.axis q) (edge b k) ≡ true) (λ q. along k.axis q <ℤ edge b k) (λ q t. below_passes (edge b k) (along k.axis q) t) (cells_below b k (c ∷ cs)) (each_passes (λ q. int_lt (along k.axis q) (edge b k)) (c ∷ cs))))
-        (within_from efficiency w n k.axis (edge b k) (cells_from b k (c ∷ cs)) (each_then (λ q. int_le (edge b k) (along k.axis q) ≡ true) (λ q. edge b k ≤ℤ along k.axis q) (λ q t. from_passes (edge b k) (along k.axis q) t) (cells_from b k (c ∷ cs)) (each_passes (λ q. int_le (edge b k) (along k.axis q)) (c ∷ cs))))
+        (within_from efficiency w n k.axis (edge b k) (cells_from b k (c ∷ cs)) (each_then (λ q. int_le (edge b k) (along k.axis q) ≡ true) (λ q. edge b k ≤ℤ along k.axis q) (λ q t. le_from (edge b k) (along k.axis q) t) (cells_from b k (c ∷ cs)) (each_passes (λ q. int_le (edge b k) (along k.axis q)) (c ∷ cs))))
 
 pub cluster-disjoint : (efficiency w : ℕ) (cs : List Cell) → Disjoint (cluster efficiency w cs)
 unfolding cluster

@@ -1,24 +1,21 @@
 -- The mass of level 0 changes by what flows through its open sides.
-use Rattle.std.proofs.Common.{◌≡◌, ℕ, ◌+◌, ◌<◌, ℤ, pos, negsuc, ◌+ℤ◌, ◌-ℤ◌, ◌≤ℤ◌, IsSome, refl, sym, arith}
+use Rattle.std.proofs.Common.{◌≡◌, ℕ, ◌+◌, ◌<◌, ℤ, pos, ◌+ℤ◌, ◌-ℤ◌, ◌≤ℤ◌, IsSome, refl, sym, arith, add-one, ap, ◌∙◌}
 use Rattle.std.specs.declared.option.Option.{Option}
 use Rattle.std.specs.declared.option.Option.TheVariants.{None, Some}
 use Rattle.std.specs.Option.{unwrap_or, option_map}
 use Rattle.std.proofs.lemmas.Int.{ints}
 use Rattle.amr_box.specs.declared.Axis.TheVariants.{X, Y}
 use Rattle.amr_box.specs.Cells.{cell, at_least_zero}
+use Rattle.amr_box.proofs.Numbers.{at_least_zero-same}
 use Rattle.amr_def.specs.declared.problem.Problem.{Problem}
 use Rattle.amr_def.specs.declared.problem.Sides.{Sides}
 use Rattle.amr_def.specs.declared.problem.Sides.TheVariants.{Periodic, Open}
 use Rattle.amr_def.proofs.Sums.{sum_z, sum_z-add, sum_z-sub, sum_z-same, sum_z-zero, telescope, pos-sum_to, through_ends}
 use Rattle.amr_def.specs.State.{Masses}
 use Rattle.amr_def.specs.Flux.{Fluxes, face, net, updated}
-use Rattle.amr_def.specs.Ledger.{sum_to, mass_at, total_mass, above_zero, below_zero, if_open, inflow, outflow}
+use Rattle.amr_def.specs.Ledger.{sum_to, mass_at, total_mass, below_zero, if_open, inflow, outflow}
 use Rattle.amr_def.specs.Domain.{columns, rows}
 use Rattle.amr_def.proofs.LevelLists.{IsWhole}
-
-at_least_zero-same : (z : ℤ) → pos 0 ≤ℤ z → pos (at_least_zero z) ≡ z
-at_least_zero-same (pos n) h = refl
-at_least_zero-same (negsuc n) h = absurd (omega (arith, ints))
 
 pub updated_entry : (o : Option ℕ) (z : ℤ) → IsSome o → pos 0 ≤ℤ (pos (unwrap_or o 0) +ℤ z) → pos (unwrap_or (option_map (λ v. at_least_zero (pos v +ℤ z)) o) 0) ≡ pos (unwrap_or o 0) +ℤ z
 updated_entry None z h n = cc
@@ -58,7 +55,7 @@ module _ (e : Fluxes) where
       )
 
 -- through open sides what comes in less what goes out, and through periodic ones nothing
-sides_net : (s : Sides) (f g : ℕ → ℤ) (n : ℕ) → (s ≡ Periodic → (i : ℕ) → g i ≡ f i) → pos (if_open s (sum_to (λ i. above_zero (f i) + below_zero (g i)) n)) -ℤ pos (if_open s (sum_to (λ i. below_zero (f i) + above_zero (g i)) n)) ≡ sum_z (λ i. f i -ℤ g i) n
+sides_net : (s : Sides) (f g : ℕ → ℤ) (n : ℕ) → (s ≡ Periodic → (i : ℕ) → g i ≡ f i) → pos (if_open s (sum_to (λ i. at_least_zero (f i) + below_zero (g i)) n)) -ℤ pos (if_open s (sum_to (λ i. below_zero (f i) + at_least_zero (g i)) n)) ≡ sum_z (λ i. f i -ℤ g i) n
 sides_net Periodic f g n same = sym (sum_z-zero (λ i. f i -ℤ g i) n (λ i h. omega (arith, ints, same refl i)))
 sides_net (Open low high) f g n same = through_ends f g n
 
@@ -99,3 +96,6 @@ module _ (p : Problem) (m : Masses) (e : Fluxes) where
         sides_net p.x_sides (λ y. e (face X (pos 0) (pos y))) (λ y. e (face X (pos (columns p 0)) (pos y))) (rows p 0) periodic.x,
         sides_net p.y_sides (λ x. e (face Y (pos x) (pos 0))) (λ x. e (face Y (pos x) (pos (rows p 0)))) (columns p 0) periodic.y,
       )
+
+pub sum_next : (f : ℕ → ℕ) (n sum part : ℕ) → sum ≡ sum_to f n → part ≡ f n → sum + part ≡ sum_to f (n + 1)
+sum_next f n sum part is here = (λ i. is i + here i) ∙ ap (sum_to f) (sym (add-one n))

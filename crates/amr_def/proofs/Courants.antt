@@ -3,6 +3,7 @@ use Rattle.std.proofs.Common.{◌≡◌, ℕ, zero, suc, ◌+◌, ◌*◌, ◌/�
 use Rattle.std.specs.Prelude.{unsigned_abs, slice_index_or}
 use Rattle.std.proofs.lemmas.Int.{ints}
 use Rattle.std.proofs.Math.Nat.{pow-suc, mul_assoc, mul_comm, div-div-eq-div-mul}
+use Rattle.std.proofs.lemmas.Nat.{mul-le}
 use lib.Arith.{mod-mul}
 use Rattle.amr_box.specs.declared.Axis.TheVariants.{X, Y}
 use Rattle.amr_def.specs.declared.problem.Problem.{Problem}
@@ -111,3 +112,26 @@ module _ (p : Problem) (l : ℕ) (x x' y y' : ℤ) where
   pub courant_y_second : courant p (suc l) (face Y (x +ℤ x +ℤ pos 1) y') ≡ courant p l (face Y x y)
   unfolding courant
   courant_y_second = ap (number_for p.cy p.shear_y) (base_of_second p.nx l (power_positive p.nx l (some_columns p).x) (is_periodic p.x_sides) x)
+
+pub power_some : (l : ℕ) → l ≤ 4 → 1 ≤ 2 ^ l
+power_some zero h = omega arith
+power_some (suc zero) h = omega arith
+power_some (suc (suc zero)) h = omega arith
+power_some (suc (suc (suc zero))) h = omega arith
+power_some (suc (suc (suc (suc zero)))) h = omega arith
+power_some (suc (suc (suc (suc (suc l))))) h = absurd (omega arith)
+
+pub weight_some : (l : ℕ) → 0 < 4 ^ l
+weight_some zero = omega arith
+weight_some (suc l) = let e : 4 ^ suc l ≡ 4 ^ l * 4 = pow-suc 4 l in omega (arith, e, weight_some l)
+
+pub weighs : (l v b : ℕ) → 4 ^ l * v ≤ b → v ≤ b
+weighs l v b h = let more : 1 * v ≤ 4 ^ l * v = mul-le 1 v (4 ^ l) v (weight_some l) (omega arith) in omega (arith, more, h)
+
+pub four_power : (l : ℕ) → l ≤ 4 → 2 ^ (2 * l) ≡ 4 ^ l
+four_power zero h = refl
+four_power (suc zero) h = refl
+four_power (suc (suc zero)) h = refl
+four_power (suc (suc (suc zero))) h = refl
+four_power (suc (suc (suc (suc zero)))) h = refl
+four_power (suc (suc (suc (suc (suc l))))) h = absurd (omega arith)

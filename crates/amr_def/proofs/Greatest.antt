@@ -1,5 +1,5 @@
 -- A step of all levels raises the greatest mass, counted in cells of level 0, by at most `rise`.
-use Rattle.std.proofs.Common.{◌≡◌, ℕ, zero, suc, ◌+◌, ◌-◌, ◌*◌, ◌/◌, ◌^◌, ◌≤◌, Bool, true, false, cond, ℤ, pos, negsuc, ◌+ℤ◌, ◌-ℤ◌, IsSome, refl, ap, subst, ◌∙◌, arith, List, [], ◌∷◌, length}
+use Rattle.std.proofs.Common.{◌≡◌, ℕ, zero, suc, ◌+◌, ◌-◌, ◌*◌, ◌/◌, ◌^◌, ◌≤◌, Bool, true, false, cond, ℤ, pos, negsuc, ◌+ℤ◌, IsSome, refl, ap, subst, ◌∙◌, arith, List, [], ◌∷◌, length}
 use Rattle.std.specs.Prelude.{unsigned_abs}
 use Rattle.std.specs.declared.option.Option.{Option}
 use Rattle.std.specs.declared.option.Option.TheVariants.{None, Some}
@@ -19,6 +19,7 @@ use Rattle.amr_def.proofs.Subcycle.{SameCells, HasSameCells, IsKept, HeadFacts, 
 use Rattle.amr_def.proofs.Raise.{Along, Flows, IsUpTo, IsForward, IsBackward, signed, flow_along, together_along, uncovered_raised}
 use Rattle.amr_def.specs.State.{Masses, is_covered, mass_of, children_mass}
 use Rattle.amr_box.specs.declared.Axis.TheVariants.{X, Y}
+use Rattle.amr_box.proofs.Numbers.{more_and_less}
 use Rattle.amr_def.specs.Flux.{face, Fluxes, net, flow, courant, low_cell, high_cell, flux_at, updated}
 use Rattle.amr_def.specs.Domain.{home_cell, in_domain, domain}
 use Rattle.amr_def.specs.Value.{value_at, inflow_at}
@@ -120,8 +121,6 @@ unfolding updated
 none_left m e c none = rw none refl
 
 module _ (p : Problem) (l : ℕ) (m old : Masses) (b : ℕ) (stable : IsStable p) (inside : IsInside p l m) (masses : MassesUpTo l m b) (values : IsUpTo p l m old b) where
-  back : (z : ℤ) → z +ℤ pos 1 -ℤ pos 1 ≡ z
-  back z = omega (arith, ints)
 
   pub plain_raised : (c : Cell) → home_cell (domain p l) c ≡ c → IsSome (m c) → (new : ℕ) → pos new ≡ pos (mass_of m c) +ℤ net (flux_at p l m old) c → 4 ^ l * new ≤ b + 14 * 4 ^ l
   unfolding flux_at courant
@@ -131,8 +130,8 @@ module _ (p : Problem) (l : ℕ) (m old : Masses) (b : ℕ) (stable : IsStable p
       let stable_here : unsigned_abs cx + unsigned_abs cy ≤ p.d = stable.within l (home_cell (domain p l) c) in
       let own : (k : Cell) → k ≡ c → value_at p l m old k ≡ mass_of m c = λ k e. value_here p l m old k c (ap (home_cell (domain p l)) e ∙ home) there in
       let n = net_is (λ f. flux_at p l m old f) c _ _ _ _
-      (flow_same cx p.d refl (own c refl)) (flow_same cx p.d (own _ (same_cell (back c.x) refl)) refl)
-      (flow_same cy p.d refl (own c refl)) (flow_same cy p.d (own _ (same_cell refl (back c.y))) refl) in
+      (flow_same cx p.d refl (own c refl)) (flow_same cx p.d (own _ (same_cell (more_and_less c.x) refl)) refl)
+      (flow_same cy p.d refl (own c refl)) (flow_same cy p.d (own _ (same_cell refl (more_and_less c.y))) refl) in
       let rest : p.d ≡ unsigned_abs cx + unsigned_abs cy + (p.d - (unsigned_abs cx + unsigned_abs cy)) = omega (arith, stable_here) in
       let raised = new_mass_bounded (unsigned_abs cx) (unsigned_abs cy) _ p.d (4 ^ l) b (mass_of m c) new 1 _ _ stable.some rest (masses.at c)
       (plain_gain cx p.d (4 ^ l) b (mass_of m c) _ _ stable.some (values.at _) (values.at _))

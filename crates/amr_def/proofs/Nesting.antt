@@ -1,5 +1,5 @@
 -- From the facts of a sound state to what a step needs of a level and the finer one.
-use Rattle.std.proofs.Common.{◌≡◌, ℕ, zero, suc, ◌+◌, ◌-◌, ◌*◌, ◌%◌, ◌<◌, ◌≤◌, Bool, true, false, ◌⊎◌, inl, inr, ℤ, pos, negsuc, ◌+ℤ◌, ◌-ℤ◌, ◌≤ℤ◌, ◌<ℤ◌, IsSome, is_some, refl, sym, ap, subst, ◌∙◌, arith, List, [], ◌∷◌, length}
+use Rattle.std.proofs.Common.{◌≡◌, ℕ, zero, suc, ◌+◌, ◌-◌, ◌*◌, ◌%◌, ◌<◌, ◌≤◌, Bool, true, false, ◌⊎◌, inl, inr, ℤ, pos, negsuc, ◌+ℤ◌, ◌-ℤ◌, ◌≤ℤ◌, ◌<ℤ◌, IsSome, is_some, refl, sym, ap, subst, ◌∙◌, arith, List, [], ◌∷◌, length, ◌/◌}
 use Rattle.std.specs.Prelude.{unsigned_abs, slice_index_or}
 use Rattle.std.specs.List.{list_any}
 use Rattle.std.specs.Int.{int_rem_euclid}
@@ -10,7 +10,8 @@ use Rattle.std.proofs.Math.Nat.{mod-add-mod, mul-le-mul_left}
 use Rattle.amr_box.specs.declared.Cell.{Cell}
 use Rattle.amr_box.specs.declared.Axis.{Axis}
 use Rattle.amr_box.specs.declared.Axis.TheVariants.{X, Y}
-use Rattle.amr_box.specs.Cells.{cell, has_child_where, Extent}
+use Rattle.amr_box.specs.Cells.{cell, has_child_where, Extent, half}
+use Rattle.amr_box.proofs.Numbers.{less_and_more, plus_minus_one}
 use Rattle.amr_def.specs.declared.problem.Problem.{Problem}
 use Rattle.amr_def.specs.Limits.{is_blocking}
 use Rattle.amr_def.specs.Domain.{Domain, domain, columns, rows, is_periodic, wrapped, home_cell, in_domain, is_inside, moved, square, is_near}
@@ -166,30 +167,24 @@ module _ (p : Problem) (l : ℕ) (k fine : Level) (klevel : IsLevel p l k) (flev
   abbrev home : ℤ → ℤ → Cell
   home x y = home_cell (domain p l) (cell x y)
 
-  back : (z : ℤ) → z -ℤ pos 1 +ℤ pos 1 ≡ z
-  back z = omega (arith, ints)
-
-  down : (z : ℤ) → z +ℤ negsuc 0 ≡ z -ℤ pos 1
-  down z = omega (arith, ints)
-
   low_of : (a : Axis) (x y : ℤ) → is_covered fine.masses (home_cell (domain p l) (high_cell (face a x y))) ≡ true → in_domain (domain p l) (home_cell (domain p l) (low_cell (face a x y))) ≡ true → IsSome (k.masses (home_cell (domain p l) (low_cell (face a x y))))
   low_of X x y h inside =
       let there : home_cell (domain p l) (moved (home (x -ℤ pos 1) y) (cell (pos 1) (pos 0))) ≡ home x y =
-      home_shift p l (x -ℤ pos 1) y (pos 1) (pos 0) 2 1 refl refl ∙ ap (home_cell (domain p l)) (same_cell (back x) (plus_none y)) in
+      home_shift p l (x -ℤ pos 1) y (pos 1) (pos 0) 2 1 refl refl ∙ ap (home_cell (domain p l)) (same_cell (less_and_more x) (plus_none y)) in
       of_level (home (x -ℤ pos 1) y) inside (near_east (domain p l) (is_covered fine.masses) (home (x -ℤ pos 1) y) (ap (is_covered fine.masses) there ∙ h))
   low_of Y x y h inside =
       let there : home_cell (domain p l) (moved (home x (y -ℤ pos 1)) (cell (pos 0) (pos 1))) ≡ home x y =
-      home_shift p l x (y -ℤ pos 1) (pos 0) (pos 1) 1 2 refl refl ∙ ap (home_cell (domain p l)) (same_cell (plus_none x) (back y)) in
+      home_shift p l x (y -ℤ pos 1) (pos 0) (pos 1) 1 2 refl refl ∙ ap (home_cell (domain p l)) (same_cell (plus_none x) (less_and_more y)) in
       of_level (home x (y -ℤ pos 1)) inside (near_north (domain p l) (is_covered fine.masses) (home x (y -ℤ pos 1)) (ap (is_covered fine.masses) there ∙ h))
 
   high_of : (a : Axis) (x y : ℤ) → is_covered fine.masses (home_cell (domain p l) (low_cell (face a x y))) ≡ true → in_domain (domain p l) (home_cell (domain p l) (high_cell (face a x y))) ≡ true → IsSome (k.masses (home_cell (domain p l) (high_cell (face a x y))))
   high_of X x y h inside =
       let there : home_cell (domain p l) (moved (home x y) (cell (negsuc 0) (pos 0))) ≡ home (x -ℤ pos 1) y =
-      home_shift p l x y (negsuc 0) (pos 0) 0 1 refl refl ∙ ap (home_cell (domain p l)) (same_cell (down x) (plus_none y)) in
+      home_shift p l x y (negsuc 0) (pos 0) 0 1 refl refl ∙ ap (home_cell (domain p l)) (same_cell (plus_minus_one x) (plus_none y)) in
       of_level (home x y) inside (near_west (domain p l) (is_covered fine.masses) (home x y) (ap (is_covered fine.masses) there ∙ h))
   high_of Y x y h inside =
       let there : home_cell (domain p l) (moved (home x y) (cell (pos 0) (negsuc 0))) ≡ home x (y -ℤ pos 1) =
-      home_shift p l x y (pos 0) (negsuc 0) 1 0 refl refl ∙ ap (home_cell (domain p l)) (same_cell (plus_none x) (down y)) in
+      home_shift p l x y (pos 0) (negsuc 0) 1 0 refl refl ∙ ap (home_cell (domain p l)) (same_cell (plus_none x) (plus_minus_one y)) in
       of_level (home x y) inside (near_south (domain p l) (is_covered fine.masses) (home x y) (ap (is_covered fine.masses) there ∙ h))
 
   pub nest : IsNest p l k.masses fine.masses
@@ -202,3 +197,6 @@ module _ (p : Problem) (l : ℕ) (k fine : Level) (klevel : IsLevel p l k) (flev
 
 pub level_inside : (p : Problem) (l : ℕ) (k : Level) → IsLevel p l k → IsInside p l k.masses
 level_inside p l k level = record { at = λ c h. in_domain-inside p l c (level.inside c (sym (level.filled c) ∙ h)) }
+
+pub half_ahead : (z : ℤ) (k : ℕ) → half (z +ℤ pos k) ≡ half z +ℤ pos ((odd z + k) / 2)
+half_ahead z k = omega (arith, ints, half_and_odd z, half_and_odd (z +ℤ pos k), odd_small z, odd_small (z +ℤ pos k))

@@ -3,19 +3,20 @@ use Rattle.std.proofs.Common.{◌≡◌, ℕ, suc, ◌+◌, ◌-◌, ◌*◌, �
 use Rattle.std.specs.Prelude.{unsigned_abs}
 use Rattle.std.specs.declared.option.Option.TheVariants.{None}
 use Rattle.std.proofs.lemmas.Int.{ints}
-use Rattle.std.proofs.Math.Nat.{div-mul-le_self, lt-div-mul-add, mul-le-mul_left, pow-suc}
+use Rattle.std.proofs.Math.Nat.{lt-div-mul-add, mul-le-mul_left, pow-suc}
 use Rattle.amr_box.specs.declared.Cell.{Cell}
 use Rattle.amr_box.specs.declared.Face.{Face}
 use Rattle.amr_box.specs.declared.Axis.{Axis}
 use Rattle.amr_box.specs.declared.Axis.TheVariants.{X, Y}
 use Rattle.amr_box.specs.Cells.{parent}
+use Rattle.amr_box.proofs.Numbers.{more_and_less}
 use Rattle.amr_def.specs.declared.problem.Problem.{Problem}
 use Rattle.amr_def.proofs.Flows.{net_is}
 use Rattle.amr_def.proofs.Values.{same_cell, value_here}
 use Rattle.amr_def.proofs.TwoLevels.{together}
-use Rattle.amr_def.proofs.Uncovered.{cond_both, half-double, half-double_next, child_inside, plus_none, home_at, in_domain-yes, HasNoChildren, parent_0, parent_1, parent_2, parent_3, inside_0, inside_1, inside_2, inside_3, before_double, back}
+use Rattle.amr_def.proofs.Uncovered.{cond_both, home_at, in_domain-yes, HasNoChildren, parent_0, parent_1, parent_2, parent_3, inside_0, inside_1, inside_2, inside_3, before_double}
 use Rattle.amr_def.proofs.Courants.{courant_x_first, courant_x_second, courant_y_first, courant_y_second}
-use Rattle.amr_def.proofs.Bounds.{AxisGain, new_mass_bounded}
+use Rattle.amr_def.proofs.Bounds.{AxisGain, new_mass_bounded, share_at_most}
 use Rattle.amr_def.specs.State.{Masses, mass_of}
 use Rattle.amr_def.proofs.LevelLists.{child_0, child_1, child_2, child_3}
 use Rattle.amr_def.specs.Flux.{Fluxes, face, net, flow, courant, low_cell, high_cell, flux_at}
@@ -66,16 +67,9 @@ quarter_takes a d v some small =
 
 -- ---- a level's own fluxes
 
-share_le : (a d w b v : ℕ) → w * v ≤ b → w * d * (a * v / d) ≤ a * b
-share_le a d w b v below =
-    let one : a * v / d * d ≤ a * v = div-mul-le_self (a * v) d in
-    let weighed : w * (a * v / d * d) ≤ w * (a * v) = mul-le-mul_left w one in
-    let values : a * (w * v) ≤ a * b = mul-le-mul_left a below in
-    omega (arith, weighed, values)
-
 pub flow_along : (c : ℤ) (d w b low high : ℕ) → w * low ≤ b → w * high ≤ b → Along c d w b (flow c d low high)
-flow_along (pos a) d w b low high l h = record { size = a * low / d; is = refl; at_most = share_le a d w b low l }
-flow_along (negsuc a) d w b low high l h = record { size = suc a * high / d; is = refl; at_most = share_le (suc a) d w b high h }
+flow_along (pos a) d w b low high l h = record { size = a * low / d; is = refl; at_most = share_at_most a d w b low l }
+flow_along (negsuc a) d w b low high l h = record { size = suc a * high / d; is = refl; at_most = share_at_most (suc a) d w b high h }
 
 abbrev pub IsForward : ℤ → Type 0
 IsForward (pos a) = Unit {0}
@@ -213,7 +207,7 @@ module _ (p : Problem) (l : ℕ) (m old fine fine' : Masses) (b : ℕ) (e1 e2 : 
           (four_take cx p.d (mass_of m c) (e1 f0) (e1 f1) (e2 f0) (e2 f1) stable.some small_x
           (high1 f0 (child_1 c) (inside_1 p l c inside) (parent_1 c) none.k1 cx (courant_x_first p l c.x c.x c.y c.y) k0 fwd) (high1 f1 (child_3 c) (inside_3 p l c inside) (parent_3 c) none.k3 cx (courant_x_second p l c.x c.x c.y c.y) k1 fwd)
           (high2 f0 (child_1 c) (inside_1 p l c inside) (parent_1 c) none.k1 cx (courant_x_first p l c.x c.x c.y c.y) k0 fwd) (high2 f1 (child_3 c) (inside_3 p l c inside) (parent_3 c) none.k3 cx (courant_x_second p l c.x c.x c.y c.y) k1 fwd))
-          (plain_high (face X (c.x +ℤ pos 1) c.y) (same_cell (back c.x) refl) fwd);
+          (plain_high (face X (c.x +ℤ pos 1) c.y) (same_cell (more_and_less c.x) refl) fwd);
     }
 
     low_x : OwnLow cx p.d (mass_of m c) (effective p l m old fine e1 e2 (face X c.x c.y))
@@ -242,7 +236,7 @@ module _ (p : Problem) (l : ℕ) (m old fine fine' : Masses) (b : ℕ) (e1 e2 : 
           (four_take cy p.d (mass_of m c) (e1 f0) (e1 f1) (e2 f0) (e2 f1) stable.some small_y
           (high1 f0 (child_2 c) (inside_2 p l c inside) (parent_2 c) none.k2 cy (courant_y_first p l c.x c.x c.y c.y) k0 fwd) (high1 f1 (child_3 c) (inside_3 p l c inside) (parent_3 c) none.k3 cy (courant_y_second p l c.x c.x c.y c.y) k1 fwd)
           (high2 f0 (child_2 c) (inside_2 p l c inside) (parent_2 c) none.k2 cy (courant_y_first p l c.x c.x c.y c.y) k0 fwd) (high2 f1 (child_3 c) (inside_3 p l c inside) (parent_3 c) none.k3 cy (courant_y_second p l c.x c.x c.y c.y) k1 fwd))
-          (plain_high (face Y c.x (c.y +ℤ pos 1)) (same_cell refl (back c.y)) fwd);
+          (plain_high (face Y c.x (c.y +ℤ pos 1)) (same_cell refl (more_and_less c.y)) fwd);
     }
 
     low_y : OwnLow cy p.d (mass_of m c) (effective p l m old fine e1 e2 (face Y c.x c.y))

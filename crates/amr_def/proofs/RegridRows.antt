@@ -24,7 +24,7 @@ shares_of_nothing : map (share 0) (0 ∷ 1 ∷ 2 ∷ 3 ∷ []) ≡ 0 ∷ 0 ∷ 0
 shares_of_nothing = refl
 
 -- a periodic domain of 8 by 8 cells, and the coarser one of 4 by 4
-abbrev eight : Domain
+abbrev pub eight : Domain
 eight = record { columns = 8; rows = 8; wrap_x = true; wrap_y = true }
 
 abbrev four : Domain

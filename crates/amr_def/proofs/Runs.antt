@@ -17,7 +17,7 @@ step-next p s = due (regrid_is_due p s)
     due true = refl
     due false = refl
 
-step-times : (p : Problem) (n : ℕ) (s : State) → (times (next p) n s).step ≡ s.step + n
+pub step-times : (p : Problem) (n : ℕ) (s : State) → (times (next p) n s).step ≡ s.step + n
 step-times p zero s = omega arith
 step-times p (suc n) s = omega (arith, step-times p n (next p s), step-next p s)
 
@@ -29,3 +29,7 @@ resumes p s i k h j =
     let all : (i - s.step) + (k - i) ≡ k - s.step = omega arith in
     ap (λ n. times (next p) (k - n) (times (next p) (i - s.step) s)) at
     ∙ times-add (next p) (i - s.step) (k - i) s ∙ ap (λ n. times (next p) n s) all
+
+pub finish_step : (p : Problem) (s : State) (k : ℕ) → s.step ≤ k → (finish p s k).step ≡ k
+unfolding finish
+finish_step p s k h = let e = step-times p (k - s.step) s in omega (arith, e, h)

@@ -34,7 +34,7 @@ first_up [] b u c = omega arith
 first_up (m ∷ ms) b u c = omega (arith, u.0.at c)
 
 -- no masses are up to any bound
-no_old : (b : ℕ) (k : Cell) → 4 ^ 0 * (mass_of no_masses k / 4) ≤ b
+pub no_old : (b : ℕ) (k : Cell) → 4 ^ 0 * (mass_of no_masses k / 4) ≤ b
 no_old b k = omega arith
 
 -- ---- the state after a step of a sound state with a level

@@ -1,5 +1,5 @@
 -- A step of a level and of those finer than it: no mass falls below 0, and covered cells stay the sums of their children.
-use Rattle.std.proofs.Common.{◌≡◌, ℕ, zero, suc, ◌/◌, Bool, true, false, cond, ◌||◌, ℤ, pos, negsuc, ◌+ℤ◌, ◌-ℤ◌, ◌≤ℤ◌, IsSome, is_some, refl, sym, ap, subst, ◌∙◌, arith, List, [], ◌∷◌}
+use Rattle.std.proofs.Common.{◌≡◌, ℕ, zero, suc, ◌/◌, Bool, true, false, cond, ◌||◌, ℤ, pos, negsuc, ◌+ℤ◌, ◌≤ℤ◌, IsSome, is_some, refl, sym, ap, subst, ◌∙◌, arith, List, [], ◌∷◌}
 use Rattle.std.specs.declared.option.Option.{Option}
 use Rattle.std.specs.declared.option.Option.TheVariants.{None, Some}
 use Rattle.std.specs.Option.{option_map}
@@ -18,6 +18,7 @@ use Rattle.amr_def.proofs.Uncovered.{home_at, no_children, uncovered_covers}
 use Rattle.amr_def.specs.State.{Masses, is_covered, mass_of, children_mass}
 use Rattle.amr_def.proofs.LevelLists.{child_0, child_1, child_2, child_3}
 use Rattle.amr_box.specs.declared.Axis.TheVariants.{X, Y}
+use Rattle.amr_box.proofs.Numbers.{more_and_less}
 use Rattle.amr_def.specs.Flux.{face, Fluxes, net, courant, low_cell, high_cell, flux_at, updated}
 use Rattle.amr_def.specs.Domain.{home_cell, in_domain, domain}
 use Rattle.amr_def.specs.Value.{value_at}
@@ -114,8 +115,6 @@ none_is o e h = cc
 -- ---- the finest level
 
 module _ (p : Problem) (l : ℕ) (m old : Masses) (stable : IsStable p) (inside : IsInside p l m) where
-  back : (z : ℤ) → z +ℤ pos 1 -ℤ pos 1 ≡ z
-  back z = omega (arith, ints)
 
   pub plain_covers : (c : Cell) → IsSome (m c) → pos 0 ≤ℤ (pos (mass_of m c) +ℤ net (flux_at p l m old) c)
   unfolding flux_at courant
@@ -126,9 +125,9 @@ module _ (p : Problem) (l : ℕ) (m old : Masses) (stable : IsStable p) (inside 
       let own : (k : Cell) → k ≡ c → value_at p l m old k ≡ mass_of m c = λ k e. value_here p l m old k c (ap (home_cell (domain p l)) e ∙ home) there in
       let n = net_is (λ f. flux_at p l m old f) c _ _ _ _
       (flow_same cx p.d refl (own c refl))
-      (flow_same cx p.d (own _ (same_cell (back c.x) refl)) refl)
+      (flow_same cx p.d (own _ (same_cell (more_and_less c.x) refl)) refl)
       (flow_same cy p.d refl (own c refl))
-      (flow_same cy p.d (own _ (same_cell refl (back c.y))) refl) in
+      (flow_same cy p.d (own _ (same_cell refl (more_and_less c.y))) refl) in
       subst (λ (z : ℤ). pos 0 ≤ℤ (pos (mass_of m c) +ℤ z)) (sym n)
       (left_over cx cy p.d (mass_of m c) _ _ _ _ stable.some (stable.within l (home_cell (domain p l) c)) (flow_leaves_low _ _ _ _) (flow_leaves_high _ _ _ _) (flow_leaves_low _ _ _ _) (flow_leaves_high _ _ _ _))
 

@@ -1,7 +1,8 @@
 -- Sums of whole numbers over a range, and how they telescope.
 use Rattle.std.proofs.Common.{◌≡◌, ℕ, zero, suc, ◌+◌, ◌<◌, ℤ, pos, negsuc, ◌+ℤ◌, ◌-ℤ◌, refl, ap, arith, add-one}
 use Rattle.std.proofs.lemmas.Int.{ints}
-use Rattle.amr_def.specs.Ledger.{sum_to, above_zero, below_zero}
+use Rattle.amr_box.specs.Cells.{at_least_zero}
+use Rattle.amr_def.specs.Ledger.{sum_to, below_zero}
 
 abbrev pub sum_z : (ℕ → ℤ) → ℕ → ℤ
 sum_z f zero = pos 0
@@ -27,12 +28,12 @@ pub pos-sum_to : (f : ℕ → ℕ) (n : ℕ) → pos (sum_to f n) ≡ sum_z (λ 
 pos-sum_to f zero = refl
 pos-sum_to f (suc n) = omega (arith, ints, pos-sum_to f n)
 
-pub split_sign : (z : ℤ) → z ≡ pos (above_zero z) -ℤ pos (below_zero z)
+pub split_sign : (z : ℤ) → z ≡ pos (at_least_zero z) -ℤ pos (below_zero z)
 split_sign (pos n) = omega (arith, ints)
 split_sign (negsuc n) = omega (arith, ints)
 
 -- what passes inward through both ends, less what passes outward
-pub through_ends : (f g : ℕ → ℤ) (n : ℕ) → pos (sum_to (λ i. above_zero (f i) + below_zero (g i)) n) -ℤ pos (sum_to (λ i. below_zero (f i) + above_zero (g i)) n) ≡ sum_z (λ i. f i -ℤ g i) n
+pub through_ends : (f g : ℕ → ℤ) (n : ℕ) → pos (sum_to (λ i. at_least_zero (f i) + below_zero (g i)) n) -ℤ pos (sum_to (λ i. below_zero (f i) + at_least_zero (g i)) n) ≡ sum_z (λ i. f i -ℤ g i) n
 through_ends f g zero = refl
 through_ends f g (suc n) = omega (arith, ints, through_ends f g n, split_sign (f n), split_sign (g n))
 

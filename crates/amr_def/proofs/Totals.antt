@@ -8,13 +8,14 @@ use Rattle.amr_box.specs.declared.Cell.{Cell}
 use Rattle.amr_box.specs.declared.Face.{Face}
 use Rattle.amr_box.specs.declared.Axis.{Axis}
 use Rattle.amr_box.specs.declared.Axis.TheVariants.{X, Y}
+use Rattle.amr_box.specs.Cells.{at_least_zero}
 use Rattle.amr_def.specs.declared.problem.Problem.{Problem}
 use Rattle.amr_def.specs.declared.problem.Sides.{Sides}
 use Rattle.amr_def.specs.declared.problem.Sides.TheVariants.{Periodic, Open}
 use Rattle.amr_def.specs.Domain.{domain, home_cell, columns, rows}
 use Rattle.amr_def.specs.State.{Masses, mass_of}
 use Rattle.amr_def.specs.Flux.{Fluxes, courant, courant_in, face, high_cell}
-use Rattle.amr_def.specs.Ledger.{above_zero, below_zero, if_open, inflow, mass_at, outflow, row_mass, sum_to, total_mass, x_through, y_through}
+use Rattle.amr_def.specs.Ledger.{below_zero, if_open, inflow, mass_at, outflow, row_mass, sum_to, total_mass, x_through, y_through}
 use Rattle.amr_def.specs.Facts.{growth}
 use Rattle.amr_def.proofs.Courants.{stable}
 use Rattle.amr_def.proofs.Raise.{Along, Flows, signed}
@@ -53,7 +54,7 @@ total_within p m small =
 pub record IsSmallFluxes (e : Fluxes) : Type 0 where
   pub at : (f : Face) → unsigned_abs (e f) < 2 ^ 31
 
-above_small : (z : ℤ) → unsigned_abs z < 2 ^ 31 → above_zero z ≤ 2 ^ 31
+above_small : (z : ℤ) → unsigned_abs z < 2 ^ 31 → at_least_zero z ≤ 2 ^ 31
 above_small (pos n) h = omega (arith, h)
 above_small (negsuc n) h = omega arith
 
@@ -84,8 +85,8 @@ unfolding inflow
 inflow_within p e small =
     let low = λ (f : Face). above_small (e f) (small.at f) in
     let high = λ (f : Face). below_small (e f) (small.at f) in
-    let x = open_within p.x_sides _ (2 ^ 40) (x_within p e above_zero below_zero low high) in
-    let y = open_within p.y_sides _ (2 ^ 40) (y_within p e above_zero below_zero low high) in
+    let x = open_within p.x_sides _ (2 ^ 40) (x_within p e at_least_zero below_zero low high) in
+    let y = open_within p.y_sides _ (2 ^ 40) (y_within p e at_least_zero below_zero low high) in
     omega (arith, x, y)
 
 pub outflow_within : (p : Problem) (e : Fluxes) → IsSmallFluxes e → outflow p e ≤ 2 ^ 41
@@ -93,13 +94,13 @@ unfolding outflow
 outflow_within p e small =
     let low = λ (f : Face). below_small (e f) (small.at f) in
     let high = λ (f : Face). above_small (e f) (small.at f) in
-    let x = open_within p.x_sides _ (2 ^ 40) (x_within p e below_zero above_zero low high) in
-    let y = open_within p.y_sides _ (2 ^ 40) (y_within p e below_zero above_zero low high) in
+    let x = open_within p.x_sides _ (2 ^ 40) (x_within p e below_zero at_least_zero low high) in
+    let y = open_within p.y_sides _ (2 ^ 40) (y_within p e below_zero at_least_zero low high) in
     omega (arith, x, y)
 
 -- ---- the fluxes of a level whose values are bounded
 
-number_small : (p : Problem) (l : ℕ) (a : Axis) (c : Cell) → unsigned_abs (courant_in p l a c) ≤ p.d
+pub number_small : (p : Problem) (l : ℕ) (a : Axis) (c : Cell) → unsigned_abs (courant_in p l a c) ≤ p.d
 number_small p l X c = omega (arith, (stable p).within l c)
 number_small p l Y c = omega (arith, (stable p).within l c)
 
@@ -127,7 +128,7 @@ flux_within p l m old b e flows f = along_within (courant p l f) p.d (4 ^ l) b (
 
 -- ---- the bound of masses at the last step
 
-growth_most : (m : ℕ) → growth m ≤ 131072
+pub growth_most : (m : ℕ) → growth m ≤ 131072
 growth_most m = grind (arith, nat_tests)
 
 -- after n steps, one more than the last one too

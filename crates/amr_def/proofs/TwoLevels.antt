@@ -5,6 +5,7 @@ use Rattle.amr_box.specs.declared.Cell.{Cell}
 use Rattle.amr_box.specs.declared.Face.{Face}
 use Rattle.amr_box.specs.declared.Axis.{Axis}
 use Rattle.amr_box.specs.declared.Axis.TheVariants.{X, Y}
+use Rattle.amr_box.proofs.Numbers.{more_and_less}
 use Rattle.amr_def.specs.declared.problem.Problem.{Problem}
 use Rattle.amr_def.proofs.Flows.{net_is}
 use Rattle.amr_def.proofs.Children.{children_mass-is}
@@ -60,17 +61,14 @@ module _ (p : Problem) (l : ℕ) (m old fine : Masses) (e1 e2 : Fluxes) where
     covered_at : (k : Cell) → k ≡ c → is_covered fine (home_cell (domain p l) k) ≡ true
     covered_at k e = ap (λ (j : Cell). is_covered fine (home_cell (domain p l) j)) e ∙ ap (is_covered fine) home ∙ covered
 
-    back : (z : ℤ) → z +ℤ pos 1 -ℤ pos 1 ≡ z
-    back z = omega (arith, ints)
-
     -- the net effective flux of a covered cell is that of its children over both steps
     pub covered_net : net together c ≡ over_children (net e1) c +ℤ over_children (net e2) c
     covered_net =
         let n = net_is together c _ _ _ _
         (beside_high (face X c.x c.y) (covered_at c refl))
-        (beside_low (face X (c.x +ℤ pos 1) c.y) (covered_at _ (same_cell (back c.x) refl)))
+        (beside_low (face X (c.x +ℤ pos 1) c.y) (covered_at _ (same_cell (more_and_less c.x) refl)))
         (beside_high (face Y c.x c.y) (covered_at c refl))
-        (beside_low (face Y c.x (c.y +ℤ pos 1)) (covered_at _ (same_cell refl (back c.y)))) in
+        (beside_low (face Y c.x (c.y +ℤ pos 1)) (covered_at _ (same_cell refl (more_and_less c.y)))) in
         omega (arith, ints, n, children_net e1 c, children_net e2 c)
 
 -- what a cell has after both finer steps is what it had and what came in

@@ -1,5 +1,5 @@
 -- A cell that is not covered keeps a mass of 0 or more.
-use Rattle.std.proofs.Common.{◌≡◌, ℕ, suc, ◌+◌, ◌/◌, ◌≤◌, Bool, true, false, cond, ℤ, pos, negsuc, ◌+ℤ◌, ◌-ℤ◌, ◌≤ℤ◌, ◌<ℤ◌, IsSome, is_some, refl, sym, ap, subst, ◌∙◌, arith}
+use Rattle.std.proofs.Common.{◌≡◌, ℕ, suc, ◌+◌, ◌/◌, ◌≤◌, Bool, true, false, cond, ℤ, pos, negsuc, ◌+ℤ◌, ◌-ℤ◌, ◌≤ℤ◌, ◌<ℤ◌, IsSome, is_some, refl, sym, ap, subst, ◌∙◌, arith, ◌&&◌}
 use Rattle.std.specs.declared.option.Option.{Option}
 use Rattle.std.specs.declared.option.Option.TheVariants.{None, Some}
 use Rattle.std.proofs.lemmas.Int.{ints}
@@ -7,7 +7,9 @@ use Rattle.std.proofs.lemmas.Bool.{or_parts}
 use Rattle.amr_box.specs.declared.Cell.{Cell}
 use Rattle.amr_box.specs.declared.Face.{Face}
 use Rattle.amr_box.specs.declared.Axis.TheVariants.{X, Y}
-use Rattle.amr_box.specs.Cells.{cell, half, parent}
+use Rattle.amr_box.specs.Cells.{cell, half, holds, parent, within}
+use Rattle.amr_box.proofs.Numbers.{more_and_less, plus_zero}
+use Rattle.amr_box.specs.declared.Axis.{Axis}
 use Rattle.amr_def.specs.declared.problem.Problem.{Problem}
 use Rattle.amr_def.proofs.Flows.{net_is, wrapped_inside}
 use Rattle.amr_def.proofs.Values.{same_cell, value_here}
@@ -17,7 +19,7 @@ use Rattle.amr_def.proofs.Ghosts.{LeavesHigh, LeavesLow, HasGhosts, flow_leaves_
 use Rattle.amr_def.specs.State.{Masses, is_covered, mass_of}
 use Rattle.amr_def.proofs.LevelLists.{child_0, child_1, child_2, child_3}
 use Rattle.amr_def.specs.Flux.{Fluxes, face, net, flow, courant, low_cell, high_cell, flux_at}
-use Rattle.amr_def.specs.Domain.{columns, rows, wrapped, home_cell, in_domain, is_inside, is_periodic, domain}
+use Rattle.amr_def.specs.Domain.{columns, rows, wrapped, home_cell, in_domain, is_inside, is_periodic, domain, Domain, domain_box}
 use Rattle.amr_def.specs.Value.{value_at}
 use Rattle.amr_def.specs.LevelStep.{effective}
 use Rattle.amr_def.proofs.LevelLists.{IsCellInside, IsStable}
@@ -37,14 +39,14 @@ half-double_next (negsuc n) =
 
 -- ---- cells of the domain
 
-inside_test : (n : ℕ) (z : ℤ) → pos 0 ≤ℤ z → z <ℤ pos n → is_inside n z ≡ true
+pub inside_test : (n : ℕ) (z : ℤ) → pos 0 ≤ℤ z → z <ℤ pos n → is_inside n z ≡ true
 inside_test n z h k = grind (arith, ints)
 
 pub in_domain-yes : (p : Problem) (l : ℕ) (c : Cell) → IsCellInside p l c → in_domain (domain p l) c ≡ true
 unfolding in_domain
 in_domain-yes p l c i = rw (inside_test (columns p l) c.x i.west i.east, inside_test (rows p l) c.y i.south i.north)
 
-wrapped_at : (s : Bool) (n : ℕ) (z : ℤ) → pos 0 ≤ℤ z → z <ℤ pos n → wrapped s n z ≡ z
+pub wrapped_at : (s : Bool) (n : ℕ) (z : ℤ) → pos 0 ≤ℤ z → z <ℤ pos n → wrapped s n z ≡ z
 wrapped_at s n (pos x) h k = wrapped_inside s n x (omega (arith, ints))
 wrapped_at s n (negsuc x) h k = absurd (omega (arith, ints))
 
@@ -66,12 +68,9 @@ child_inside p l c k i j hi hj e inside =
       north = omega (arith, ints, y, inside.north, sides.1);
     }
 
-pub plus_none : (z : ℤ) → z ≡ z +ℤ pos 0
-plus_none z = omega (arith, ints)
-
 -- ---- children that are not there
 
-no_mass : (o : Option ℕ) → is_some o ≡ false → o ≡ None
+pub no_mass : (o : Option ℕ) → is_some o ≡ false → o ≡ None
 no_mass None e = refl
 no_mass (Some v) e = cc
 
@@ -109,22 +108,19 @@ module _ (c : Cell) where
 
 module _ (p : Problem) (l : ℕ) (c : Cell) (inside : IsCellInside p l c) where
   pub inside_0 : IsCellInside p (suc l) (child_0 c)
-  inside_0 = child_inside p l c (child_0 c) 0 0 (omega arith) (omega arith) (same_cell (plus_none _) (plus_none _)) inside
+  inside_0 = child_inside p l c (child_0 c) 0 0 (omega arith) (omega arith) (same_cell (plus_zero _) (plus_zero _)) inside
 
   pub inside_1 : IsCellInside p (suc l) (child_1 c)
-  inside_1 = child_inside p l c (child_1 c) 1 0 (omega arith) (omega arith) (same_cell refl (plus_none _)) inside
+  inside_1 = child_inside p l c (child_1 c) 1 0 (omega arith) (omega arith) (same_cell refl (plus_zero _)) inside
 
   pub inside_2 : IsCellInside p (suc l) (child_2 c)
-  inside_2 = child_inside p l c (child_2 c) 0 1 (omega arith) (omega arith) (same_cell (plus_none _) refl) inside
+  inside_2 = child_inside p l c (child_2 c) 0 1 (omega arith) (omega arith) (same_cell (plus_zero _) refl) inside
 
   pub inside_3 : IsCellInside p (suc l) (child_3 c)
   inside_3 = child_inside p l c (child_3 c) 1 1 (omega arith) (omega arith) refl inside
 
 pub before_double : (z : ℤ) → (z +ℤ pos 1) +ℤ (z +ℤ pos 1) -ℤ pos 1 ≡ z +ℤ z +ℤ pos 1
 before_double z = omega (arith, ints)
-
-pub back : (z : ℤ) → z +ℤ pos 1 -ℤ pos 1 ≡ z
-back z = omega (arith, ints)
 
 -- ---- the four faces of a cell that is not covered
 
@@ -198,7 +194,7 @@ module _ (p : Problem) (l : ℕ) (m old fine fine' : Masses) (e1 e2 : Fluxes) (s
       (four_leave_high cx p.d v (e1 f0) (e1 f1) (e2 f0) (e2 f1) stable.some
       (high1 f0 (child_1 c) (inside_1 p l c inside) (parent_1 c) none.k1 cx (courant_x_first p l c.x c.x c.y c.y) k0) (high1 f1 (child_3 c) (inside_3 p l c inside) (parent_3 c) none.k3 cx (courant_x_second p l c.x c.x c.y c.y) k1)
       (high2 f0 (child_1 c) (inside_1 p l c inside) (parent_1 c) none.k1 cx (courant_x_first p l c.x c.x c.y c.y) k0) (high2 f1 (child_3 c) (inside_3 p l c inside) (parent_3 c) none.k3 cx (courant_x_second p l c.x c.x c.y c.y) k1))
-      (plain_high (face X (c.x +ℤ pos 1) c.y) (same_cell (back c.x) refl))
+      (plain_high (face X (c.x +ℤ pos 1) c.y) (same_cell (more_and_less c.x) refl))
 
   low_x : LeavesLow cx p.d v (e (face X c.x c.y))
   unfolding e effective courant
@@ -224,7 +220,7 @@ module _ (p : Problem) (l : ℕ) (m old fine fine' : Masses) (e1 e2 : Fluxes) (s
       (four_leave_high cy p.d v (e1 f0) (e1 f1) (e2 f0) (e2 f1) stable.some
       (high1 f0 (child_2 c) (inside_2 p l c inside) (parent_2 c) none.k2 cy (courant_y_first p l c.x c.x c.y c.y) k0) (high1 f1 (child_3 c) (inside_3 p l c inside) (parent_3 c) none.k3 cy (courant_y_second p l c.x c.x c.y c.y) k1)
       (high2 f0 (child_2 c) (inside_2 p l c inside) (parent_2 c) none.k2 cy (courant_y_first p l c.x c.x c.y c.y) k0) (high2 f1 (child_3 c) (inside_3 p l c inside) (parent_3 c) none.k3 cy (courant_y_second p l c.x c.x c.y c.y) k1))
-      (plain_high (face Y c.x (c.y +ℤ pos 1)) (same_cell refl (back c.y)))
+      (plain_high (face Y c.x (c.y +ℤ pos 1)) (same_cell refl (more_and_less c.y)))
 
   low_y : LeavesLow cy p.d v (e (face Y c.x c.y))
   unfolding e effective courant
@@ -243,3 +239,13 @@ module _ (p : Problem) (l : ℕ) (m old fine fine' : Masses) (e1 e2 : Fluxes) (s
   uncovered_covers =
       let n = net_is (together p l m old fine e1 e2) c _ _ _ _ refl refl refl refl in
       subst (λ (z : ℤ). pos 0 ≤ℤ (pos (mass_of m c) +ℤ z)) (sym n) (left_over cx cy p.d (mass_of m c) _ _ _ _ stable.some (stable.within l (home_cell (domain p l) c)) low_x high_x low_y high_y)
+
+pub within_columns : (n : ℕ) (z : ℤ) → within (pos 0) (pos n -ℤ pos 1) z ≡ is_inside n z
+within_columns n z = grind (arith, ints)
+
+pub domain_box_cells : (d : Domain) (c : Cell) → holds (domain_box d) c ≡ in_domain d c
+unfolding in_domain
+domain_box_cells d c = λ i. within_columns d.columns c.x i && within_columns d.rows c.y i
+
+pub same_face : (a : Axis) {x x' y y' : ℤ} → x ≡ x' → y ≡ y' → face a x y ≡ face a x' y'
+same_face a ex ey i = face a (ex i) (ey i)

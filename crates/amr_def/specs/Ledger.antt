@@ -1,7 +1,7 @@
 -- The ledger: the mass of level 0, and what flowed in a step through the open sides of the domain.
 use Rattle.std.specs.Prelude.{ℕ, zero, suc, ◌+◌, ℤ, pos, negsuc, List, [], ◌∷◌}
 use Rattle.amr_box.specs.declared.Axis.TheVariants.{X, Y}
-use Rattle.amr_box.specs.Cells.{cell}
+use Rattle.amr_box.specs.Cells.{at_least_zero, cell}
 use Rattle.amr_def.specs.declared.problem.Problem.{Problem}
 use Rattle.amr_def.specs.declared.problem.Row.{Row}
 use Rattle.amr_def.specs.declared.problem.Sides.{Sides}
@@ -28,10 +28,6 @@ total_mass p m = sum_to (λ y. row_mass p m y) (rows p 0)
 
 -- ---- flow through open sides
 
-abbrev pub above_zero : ℤ → ℕ
-above_zero (pos n) = n
-above_zero (negsuc n) = 0
-
 abbrev pub below_zero : ℤ → ℕ
 below_zero (pos n) = 0
 below_zero (negsuc n) = suc n
@@ -50,10 +46,10 @@ y_through p low high e = sum_to (λ x. low (e (face Y (pos x) (pos 0))) + high (
 
 -- what flows into the domain, and out of it
 unfoldable pub inflow : Problem → Fluxes → ℕ
-inflow p e = if_open p.x_sides (x_through p above_zero below_zero e) + if_open p.y_sides (y_through p above_zero below_zero e)
+inflow p e = if_open p.x_sides (x_through p at_least_zero below_zero e) + if_open p.y_sides (y_through p at_least_zero below_zero e)
 
 unfoldable pub outflow : Problem → Fluxes → ℕ
-outflow p e = if_open p.x_sides (x_through p below_zero above_zero e) + if_open p.y_sides (y_through p below_zero above_zero e)
+outflow p e = if_open p.x_sides (x_through p below_zero at_least_zero e) + if_open p.y_sides (y_through p below_zero at_least_zero e)
 
 -- ---- rows
 

@@ -1,11 +1,11 @@
 -- A run, a step at a time.
-use Rattle.std.proofs.Common.{◌≡◌, ◌∙◌, ℕ, zero, suc, ◌+◌, ◌-◌, ◌≤◌, [], ◌∷◌, ◌++◌, Ok, Err, sym, ap, arith}
+use Rattle.std.proofs.Common.{◌≡◌, ◌∙◌, ℕ, suc, ◌+◌, ◌-◌, ◌≤◌, [], ◌∷◌, ◌++◌, Ok, Err, sym, ap, arith}
 use Rattle.std.specs.Prelude.{IsErrAnd, Result}
 use Rattle.amr_def.specs.declared.problem.Problem.{Problem}
 use Rattle.amr_def.specs.Facts.{IsSound}
 use Rattle.amr_def.specs.State.{State}
 use Rattle.amr_def.specs.Run.{finish, next, times}
-use Rattle.amr_def.proofs.Runs.{resumes, step-next}
+use Rattle.amr_def.proofs.Runs.{finish_step, resumes}
 use Rattle.amr_def.proofs.SoundRun.{finish-sound}
 use Rattle.amr_laws.proofs.Held.{regrid-held}
 use Rattle.amr_laws.proofs.SoundRegrid.{regrid-sound}
@@ -24,15 +24,6 @@ unfolding finish
 finish_one p s =
     let one : s.step + 1 - s.step ≡ 1 = omega arith in
     ap (λ n. times (next p) n s) one
-
-step_times : (p : Problem) (n : ℕ) (s : State) → (times (next p) n s).step ≡ s.step + n
-step_times p zero s = omega arith
-step_times p (suc n) s = omega (arith, step_times p n (next p s), step-next p s)
-
--- at the step that it is finished to
-pub finish_step : (p : Problem) (s : State) (k : ℕ) → s.step ≤ k → (finish p s k).step ≡ k
-unfolding finish
-finish_step p s k h = let e = step_times p (k - s.step) s in omega (arith, e, h)
 
 -- one step further
 pub finish_more : (p : Problem) (s : State) (k : ℕ) → s.step ≤ k → next p (finish p s k) ≡ finish p s (k + 1)

@@ -16,14 +16,10 @@ use Rattle.amr_patch.specs.declared.meshes.Mesh.{Mesh}
 use Rattle.amr_patch.specs.Levels.{level_of, patches_of}
 use Rattle.amr_patch.specs.Meshes.{levels_of, state_of}
 use Rattle.amr_patch.specs.Patches.{box}
+use Rattle.amr_patch.proofs.Items.{levels_are}
 use Rattle.amr_start.specs.PatchBoxes.{IsChopped}
 use Rattle.amr_cycle.specs.Cycles.{AreCoarsenableAbove, patch_boxes}
 use Rattle.amr_cycle.proofs.Chopped.{chopped_above}
-
--- the levels of a mesh are those of its state
-pub levels_are : (m : Mesh) → (state_of m).levels ≡ map level_of (levels_of m)
-unfolding state_of levels_of
-levels_are m = refl
 
 pub coarsenable : (p : Problem) (m : Mesh) → IsSound p (state_of m) → All (IsChopped p.max_grid_size) (levels_of m) → AreCoarsenableAbove (levels_of m)
 coarsenable p m sound h = chopped_above p (state_of m) (levels_of m) sound (levels_are m) (λ n d lt. (h n d lt).patches)

@@ -1,4 +1,4 @@
-mod StartLaws
+pub mod StartLaws
 mod Kept
 mod NextStates
 pub mod Finishes

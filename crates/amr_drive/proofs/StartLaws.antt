@@ -26,7 +26,7 @@ use Rattle.amr_start.specs.PatchBoxes.{IsChopped}
 use Rattle.amr_start.specs.PatchBoxes.{HasChoppedDomain}
 use Rattle.amr_drive.specs.Regrids.{StartHoldsTags}
 
-regrids-sound : (p : Problem) (n : ℕ) (s : State) → IsSound p s → IsSound p (times (regrid p) n s)
+pub regrids-sound : (p : Problem) (n : ℕ) (s : State) → IsSound p s → IsSound p (times (regrid p) n s)
 regrids-sound p zero s sound = sound
 regrids-sound p (suc n) s sound = regrids-sound p n (regrid p s) (regrid-sound p s sound)
 

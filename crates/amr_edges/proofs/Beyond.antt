@@ -11,6 +11,7 @@ use Rattle.amr_box.specs.declared.Face.{Face}
 use Rattle.amr_box.specs.Cells.{Extent, IsNear, cell, half, height, holds, parent, width}
 use Rattle.amr_box.proofs.CellEquality.{same_cell}
 use Rattle.amr_box.proofs.Children.{child_of_parent}
+use Rattle.amr_box.proofs.Tests.{opposite}
 use Rattle.amr_def.specs.declared.problem.Problem.{Problem}
 use Rattle.amr_def.specs.Domain.{domain, home_cell, in_domain, moved, square}
 use Rattle.amr_def.specs.Facts.{IsLevel, IsNestedLevel}
@@ -35,9 +36,6 @@ use Rattle.amr_layout.specs.Adds.{HasCellsBeyond, cell_beyond}
 use Rattle.amr_layout.proofs.Edges.{on_each_side}
 use Rattle.amr_edges.proofs.Borders.{x_end-out, y_end-out}
 use Rattle.amr_edges.proofs.Parents.{child_there, half_after, half_before, parent_home}
-
-clash : {t : Bool} → t ≡ true → t ≡ false → ⊥
-clash e f = let wrong : true ≡ false = sym e ∙ f in cc
 
 plus_none : (z : ℤ) → z +ℤ pos 0 ≡ z
 plus_none z = omega (arith, ints)
@@ -94,7 +92,7 @@ module _ (p : Problem) (l : ℕ) (k fine : Level) (klevel : IsLevel p l k) (flev
     still = home_at p l (parent i) (covered_inside p l k fine klevel flevel nested (parent i) covered_i)
 
     free : is_covered fine.masses (parent h) ≡ false
-    free = false_from_ne_true (is_covered fine.masses (parent h)) (λ e. clash (child_there fine.masses h (children p l k fine klevel flevel nested) e) none)
+    free = false_from_ne_true (is_covered fine.masses (parent h)) (λ e. opposite (child_there fine.masses h (children p l k fine klevel flevel nested) e) none)
 
     in_dom : in_domain (domain p l) (parent h) ≡ true
     in_dom = in_domain-yes p l (parent h) (parent_inside p l (parent h) h (odd h.x) (odd h.y) (odd_small h.x) (odd_small h.y) (half_and_odd h.x) (half_and_odd h.y) (in_domain-inside p (suc l) h home_in))
@@ -114,7 +112,7 @@ module _ (p : Problem) (l : ℕ) (k fine : Level) (klevel : IsLevel p l k) (flev
       where
         by_parents : Parents i x y a b → Contains cells (parent h)
         by_parents (inl e) = found e.0 e.1
-        by_parents (inr e) = absurd (clash (ap (is_covered fine.masses) (is_home ∙ ap (home_cell (domain p l)) (same_cell e.0 e.1) ∙ still) ∙ covered_i) free)
+        by_parents (inr e) = absurd (opposite (ap (is_covered fine.masses) (is_home ∙ ap (home_cell (domain p l)) (same_cell e.0 e.1) ∙ still) ∙ covered_i) free)
 
   module _ (ps : List Patch) (finer : Option Held) (of_patches : masses_in ps ≡ fine.masses) where
     abbrev s : Around

@@ -7,6 +7,7 @@ use Rattle.amr_box.specs.declared.Face.{Face}
 use Rattle.amr_box.specs.declared.Axis.{Axis}
 use Rattle.amr_box.specs.declared.Axis.TheVariants.{X, Y}
 use Rattle.amr_box.specs.Cells.{Extent, IsNear, cell, extent, height, holds, width, within}
+use Rattle.amr_box.proofs.Numbers.{is_between}
 use Rattle.amr_def.specs.declared.problem.Problem.{Problem}
 use Rattle.amr_def.specs.Domain.{domain, home_cell}
 use Rattle.amr_def.specs.Flux.{high_cell}
@@ -14,7 +15,7 @@ use Rattle.amr_patch.proofs.Lookups.{some_mass}
 use Rattle.amr_patch.specs.declared.patches.Patch.{Patch}
 use Rattle.amr_patch.specs.Patches.{box, mark_in, masses_in}
 use Rattle.amr_patch.specs.Places.{grown, is_face_of, on_box}
-use Rattle.amr_patch.proofs.Rows.{inside, is_between, is_inside, sides}
+use Rattle.amr_patch.proofs.Rows.{inside, is_inside, sides}
 use Rattle.amr_ghost.specs.Frames.{HasGhostMarks, is_beside}
 use Rattle.amr_flux.specs.Faces.{border_faces, is_border, owns, passing, x_end, y_end}
 use Rattle.amr_flux.proofs.Given.{beyond, within_box}

@@ -10,7 +10,7 @@ use Rattle.std.proofs.lemmas.Int.{ints}
 use Rattle.std.proofs.lemmas.Bool.{and_parts, not-true}
 use Rattle.std.proofs.lemmas.List.Kept.{IsStrictlySortedBy-filter}
 use Rattle.amr_box.specs.declared.Cell.{Cell}
-use Rattle.amr_box.specs.Cells.{cells_of}
+use Rattle.amr_box.specs.Cells.{cells_of, is_same_cell}
 use Rattle.amr_def.specs.declared.problem.Problem.{Problem}
 use Rattle.amr_def.specs.Domain.{domain, domain_box, home_cell, in_domain}
 use Rattle.amr_def.specs.Facts.{IsLevel, IsNestedLevel}
@@ -23,14 +23,14 @@ use Rattle.amr_register.specs.RegisterCells.{is_register_cell, register_cells}
 use Rattle.amr_register.specs.Entries.{row_cmp}
 use Rattle.amr_register.proofs.RowOrder.{cells_sorted, rising}
 use Rattle.amr_layout.specs.Surroundings.{around, edge_face, is_coarse_fine, outside}
-use Rattle.amr_layout.specs.Adds.{AreInOrder, HasRegisterCells, same_cell}
+use Rattle.amr_layout.specs.Adds.{AreInOrder, HasRegisterCells}
 use Rattle.amr_layout.proofs.Samples.{before_by_row, before_in_row}
 use Rattle.amr_edges.proofs.Beyond.{has_cells}
 
-before : (a b : Cell) → row_cmp a b ≡ Less → IsTrue (comes_first a b) × (IsTrue (same_cell a b) → ⊥)
+before : (a b : Cell) → row_cmp a b ≡ Less → IsTrue (comes_first a b) × (IsTrue (is_same_cell a b) → ⊥)
 before a b h = cases (int_cmp a.y b.y) (int_cmp a.x b.x) (int_ranks a.y b.y) (int_ranks a.x b.x) h
   where
-    cases : (o q : Ordering) → MatchOrdering o (a.y <ℤ b.y) (a.y ≡ b.y) (b.y <ℤ a.y) → MatchOrdering q (a.x <ℤ b.x) (a.x ≡ b.x) (b.x <ℤ a.x) → ordering_then o q ≡ Less → IsTrue (comes_first a b) × (IsTrue (same_cell a b) → ⊥)
+    cases : (o q : Ordering) → MatchOrdering o (a.y <ℤ b.y) (a.y ≡ b.y) (b.y <ℤ a.y) → MatchOrdering q (a.x <ℤ b.x) (a.x ≡ b.x) (b.x <ℤ a.x) → ordering_then o q ≡ Less → IsTrue (comes_first a b) × (IsTrue (is_same_cell a b) → ⊥)
     cases Less q m n e = before_by_row a b m
     cases Equal Less m n e = before_in_row a b (omega (arith, ints, m)) n
     cases Equal Equal m n e = absurd (cc)

@@ -9,16 +9,18 @@ use Rattle.amr_box.specs.declared.Cell.{Cell}
 use Rattle.amr_box.specs.declared.Face.{Face}
 use Rattle.amr_box.specs.declared.Axis.TheVariants.{X, Y}
 use Rattle.amr_box.specs.Cells.{Extent, IsNear, cell, height, holds, width, within}
+use Rattle.amr_box.proofs.CellLists.{int_eq-itself}
+use Rattle.amr_box.proofs.Numbers.{is_between}
 use Rattle.amr_def.specs.declared.problem.Problem.{Problem}
 use Rattle.amr_def.specs.Domain.{Domain, columns, domain, is_periodic, rows, wrapped}
 use Rattle.amr_def.specs.Flux.{face, high_cell}
 use Rattle.amr_def.proofs.Flows.{wrapped_end, wrapped_inside}
+use Rattle.amr_def.proofs.Uncovered.{wrapped_at}
 use Rattle.amr_patch.specs.declared.patches.Patch.{Patch}
 use Rattle.amr_patch.specs.Patches.{ArePatchesApart, box}
 use Rattle.amr_patch.specs.Places.{is_edge_face, is_end}
-use Rattle.amr_patch.proofs.Edges.{equal_is}
 use Rattle.amr_patch.proofs.Lookups.{one_patch, same_default}
-use Rattle.amr_patch.proofs.Rows.{inside, is_between, is_inside}
+use Rattle.amr_patch.proofs.Rows.{inside, is_inside}
 use Rattle.amr_flux.specs.Faces.{IsInDomain, passing, x_end, y_end}
 use Rattle.amr_register.proofs.CollectLaws.{column_high, row_high}
 use Rattle.amr_register.proofs.Homes.{HasSize, size_at, within_domain}
@@ -91,19 +93,15 @@ first_of s n (pos a) (pos c) high' some from to lo hi out h k = by_size (cases_l
     by_size (inl lt) = by_place (ap (wrapped s n) next ∙ wrapped_inside s n (a + 1) lt) (cases_lt c (a + 1))
     by_size (inr le) = by_wrap s refl (omega (arith, ints, to, le))
 
-wrapped_at : (s : Bool) (n : ℕ) (z : ℤ) → pos 0 ≤ℤ z → z <ℤ pos n → wrapped s n z ≡ z
-wrapped_at s n (pos x) h k = wrapped_inside s n x (omega (arith, ints))
-wrapped_at s n (negsuc x) h k = absurd (omega (arith, ints))
-
 on_low_x : (b : Extent) (x y : ℤ) → holds b (cell x y) ≡ true → x ≡ b.lo.x → is_edge_face b (face X x y) ≡ true
 on_low_x b x y held e =
     let k = inside b (cell x y) held in
-    and_from (within b.lo.y b.hi.y y) (is_end b.lo.x b.hi.x x) (is_between b.lo.y b.hi.y y k.south k.north) (or_left _ _ (equal_is x b.lo.x e))
+    and_from (within b.lo.y b.hi.y y) (is_end b.lo.x b.hi.x x) (is_between b.lo.y b.hi.y y k.south k.north) (or_left _ _ (int_eq-itself x b.lo.x e))
 
 on_low_y : (b : Extent) (x y : ℤ) → holds b (cell x y) ≡ true → y ≡ b.lo.y → is_edge_face b (face Y x y) ≡ true
 on_low_y b x y held e =
     let k = inside b (cell x y) held in
-    and_from (within b.lo.x b.hi.x x) (is_end b.lo.y b.hi.y y) (is_between b.lo.x b.hi.x x k.west k.east) (or_left _ _ (equal_is y b.lo.y e))
+    and_from (within b.lo.x b.hi.x x) (is_end b.lo.y b.hi.y y) (is_between b.lo.x b.hi.x x k.west k.east) (or_left _ _ (int_eq-itself y b.lo.y e))
 
 pub record LiesWithin (d : Domain) (b : Extent) : Type 0 where
   pub west : pos 0 ≤ℤ b.lo.x

@@ -10,6 +10,9 @@ use Rattle.std.proofs.lemmas.List.Folds.{Any-from_list_any}
 use Rattle.amr_box.specs.declared.Face.{Face}
 use Rattle.amr_box.specs.declared.Cell.{Cell}
 use Rattle.amr_box.specs.Cells.{Extent, IsNear, holds}
+use Rattle.amr_box.proofs.CellLists.{int_eq-itself}
+use Rattle.amr_box.proofs.Numbers.{is_between}
+use Rattle.amr_box.proofs.Tests.{opposite}
 use Rattle.amr_def.specs.declared.problem.Problem.{Problem}
 use Rattle.amr_def.specs.Domain.{domain, home_cell, in_domain}
 use Rattle.amr_def.specs.Flux.{high_cell, low_cell}
@@ -17,8 +20,7 @@ use Rattle.amr_patch.specs.declared.patches.Patch.{Patch}
 use Rattle.amr_patch.specs.declared.levels.Level.{Level as Held}
 use Rattle.amr_patch.specs.Patches.{box, in_patches, masses_in}
 use Rattle.amr_patch.specs.Places.{is_edge_face, is_face_of}
-use Rattle.amr_patch.proofs.Edges.{equal_is}
-use Rattle.amr_patch.proofs.Rows.{is_between, sides}
+use Rattle.amr_patch.proofs.Rows.{sides}
 use Rattle.amr_ghost.specs.Frames.{HasGhostMarks}
 use Rattle.amr_flux.specs.Faces.{IsInDomain, owns, passing}
 use Rattle.amr_register.proofs.CollectLaws.{column_low, row_low}
@@ -39,14 +41,11 @@ pub edges_on : (b : Extent) (n : ℕ) → IsNear b → n < edge_count b → (is_
 edges_on b n near there =
     let s = sides b near in
     on_each_side b n (λ f. (is_edge_face b f ≡ true) × (is_face_of b f ≡ true))
-    (λ j h. (and_from _ _ (is_between b.lo.y b.hi.y (b.lo.y +ℤ pos j) (omega (arith, ints)) (omega (arith, ints, s.high, h))) (or_left _ _ (equal_is b.lo.x b.lo.x refl)), low_face_of_box b (x_start b j).axis (high_cell (x_start b j)) (row_low b j near h)))
-    (λ j h. (and_from _ _ (is_between b.lo.y b.hi.y (b.lo.y +ℤ pos j) (omega (arith, ints)) (omega (arith, ints, s.high, h))) (or_right _ _ (equal_is (b.hi.x +ℤ pos 1) (b.hi.x +ℤ pos 1) refl)), x_end-on b j near h))
-    (λ j h. (and_from _ _ (is_between b.lo.x b.hi.x (b.lo.x +ℤ pos j) (omega (arith, ints)) (omega (arith, ints, s.wide, h))) (or_left _ _ (equal_is b.lo.y b.lo.y refl)), low_face_of_box b (y_start b j).axis (high_cell (y_start b j)) (column_low b j near h)))
-    (λ j h. (and_from _ _ (is_between b.lo.x b.hi.x (b.lo.x +ℤ pos j) (omega (arith, ints)) (omega (arith, ints, s.wide, h))) (or_right _ _ (equal_is (b.hi.y +ℤ pos 1) (b.hi.y +ℤ pos 1) refl)), y_end-on b j near h))
+    (λ j h. (and_from _ _ (is_between b.lo.y b.hi.y (b.lo.y +ℤ pos j) (omega (arith, ints)) (omega (arith, ints, s.high, h))) (or_left _ _ (int_eq-itself b.lo.x b.lo.x refl)), low_face_of_box b (x_start b j).axis (high_cell (x_start b j)) (row_low b j near h)))
+    (λ j h. (and_from _ _ (is_between b.lo.y b.hi.y (b.lo.y +ℤ pos j) (omega (arith, ints)) (omega (arith, ints, s.high, h))) (or_right _ _ (int_eq-itself (b.hi.x +ℤ pos 1) (b.hi.x +ℤ pos 1) refl)), x_end-on b j near h))
+    (λ j h. (and_from _ _ (is_between b.lo.x b.hi.x (b.lo.x +ℤ pos j) (omega (arith, ints)) (omega (arith, ints, s.wide, h))) (or_left _ _ (int_eq-itself b.lo.y b.lo.y refl)), low_face_of_box b (y_start b j).axis (high_cell (y_start b j)) (column_low b j near h)))
+    (λ j h. (and_from _ _ (is_between b.lo.x b.hi.x (b.lo.x +ℤ pos j) (omega (arith, ints)) (omega (arith, ints, s.wide, h))) (or_right _ _ (int_eq-itself (b.hi.y +ℤ pos 1) (b.hi.y +ℤ pos 1) refl)), y_end-on b j near h))
     there
-
-clash : {t : Bool} → t ≡ true → t ≡ false → ⊥
-clash e f = let wrong : true ≡ false = sym e ∙ f in cc
 
 -- ---- flows out of the level
 
@@ -69,7 +68,7 @@ module _ (p : Problem) (l : ℕ) (ps : List Patch) (cells : List Cell) (finer : 
 
   open_out : (f : Face) → is_open s b f ≡ true → LeadsOut f
   unfolding is_open
-  open_out f h = false_from_ne_true _ (λ t. clash (of_domain (home_cell (domain p l) (outside b f)) t) (not-true _ h))
+  open_out f h = false_from_ne_true _ (λ t. opposite (of_domain (home_cell (domain p l) (outside b f)) t) (not-true _ h))
 
   edge_out : (f : Face) → is_coarse_fine s b f ≡ true → LeadsOut f
   unfolding is_coarse_fine

@@ -4,13 +4,13 @@ use Rattle.std.specs.Prelude.{not, slice_index_or}
 use Rattle.amr_box.specs.declared.Cell.{Cell}
 use Rattle.amr_box.specs.declared.Face.{Face}
 use Rattle.amr_box.specs.declared.Axis.TheVariants.{X, Y}
-use Rattle.amr_box.specs.Cells.{Extent, cell}
+use Rattle.amr_box.specs.Cells.{Extent, at_least_zero, cell}
 use Rattle.amr_def.specs.declared.problem.Sides.{Sides}
 use Rattle.amr_def.specs.declared.problem.Sides.TheVariants.{Periodic, Open}
 use Rattle.amr_def.specs.Domain.{columns, is_periodic, rows}
 use Rattle.amr_def.specs.State.{Masses, is_covered}
 use Rattle.amr_def.specs.Flux.{Fluxes, face, flux_at}
-use Rattle.amr_def.specs.Ledger.{above_zero, below_zero, if_open, sum_to}
+use Rattle.amr_def.specs.Ledger.{below_zero, if_open, sum_to}
 use Rattle.amr_laws.specs.Sides.{inflow_beside, is_uncovered, outflow_beside, x_beside, y_beside}
 use Rattle.amr_laws.proofs.Sides.{sum_same}
 use Rattle.amr_patch.specs.declared.patches.Patch.{Patch}
@@ -85,10 +85,10 @@ pub inflow_of_level : InflowIsOfLevel
 unfolding inflow_beside
 inflow_of_level p l m old fine ps cells of =
     let s : Around = record { problem = p; level = l; patches = ps; cells = cells; finer = fine } in
-    of_level s m old of is_in above_zero below_zero way_in 0 (first_word s m old)
+    of_level s m old of is_in at_least_zero below_zero way_in 0 (first_word s m old)
 
 pub outflow_of_level : OutflowIsOfLevel
 unfolding outflow_beside
 outflow_of_level p l m old fine ps cells of =
     let s : Around = record { problem = p; level = l; patches = ps; cells = cells; finer = fine } in
-    of_level s m old of is_out below_zero above_zero way_out 1 (second_word s m old)
+    of_level s m old of is_out below_zero at_least_zero way_out 1 (second_word s m old)

@@ -1,7 +1,7 @@
 -- What the patches of a level add to the gain of a register cell, less what they add to its loss, is what comes into the cell
 -- through the child faces of its coarse-fine edges.
 use Rattle.std.proofs.Common.{◌≡◌, ◌∙◌, ℕ, suc, ◌+◌, ◌*◌, ◌<◌, Bool, true, false, ◌||◌, cond, ℤ, pos, negsuc, ◌+ℤ◌, ◌-ℤ◌, neg_ℤ, List, [], ◌∷◌, length, refl, sym, ap, arith}
-use Rattle.std.specs.Prelude.{not, slice_index_or}
+use Rattle.std.specs.Prelude.{slice_index_or}
 use Rattle.std.specs.List.{All, Contains}
 use Rattle.std.proofs.lemmas.Int.{ints}
 use Rattle.std.proofs.lemmas.Bool.{cond-false, cond-true, false_from_ne_true}
@@ -26,7 +26,7 @@ use Rattle.amr_register.specs.CoarseFlows.{high_face, low_face}
 use Rattle.amr_register.specs.RegisterCells.{is_coarse_fine, is_register_cell, register_cells}
 use Rattle.amr_register.proofs.CellLists.{where_inside, where_passes}
 use Rattle.amr_register.proofs.CollectLaws.{none_covered}
-use Rattle.amr_register.proofs.NetOver.{high_tells}
+use Rattle.amr_register.proofs.NetOver.{high_tells, low_tells}
 use Rattle.amr_layout.specs.Adds.{flows_of, word_total}
 use Rattle.amr_flows.specs.Laws.{ArePatchesOf, RegisterWordsAreOfChildren}
 use Rattle.amr_flows.specs.Words.{child_flows}
@@ -66,10 +66,6 @@ cond_sum false v w = refl
 cond_minus : (t : Bool) (v w : ℤ) → cond t (neg_ℤ v +ℤ neg_ℤ w) (pos 0) ≡ neg_ℤ (cond t (v +ℤ w) (pos 0))
 cond_minus true v w = omega (arith, ints)
 cond_minus false v w = refl
-
-low_tells : (low high : Bool) → high ≡ false → cond low (not high) high ≡ low
-low_tells true high e = ap not e
-low_tells false high e = e
 
 twice_next : (z : ℤ) → z +ℤ z +ℤ pos 1 +ℤ pos 1 ≡ (z +ℤ pos 1) +ℤ (z +ℤ pos 1) +ℤ pos 0
 twice_next z = omega (arith, ints)

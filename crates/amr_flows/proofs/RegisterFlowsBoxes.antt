@@ -1,12 +1,13 @@
 -- What one patch adds to the gain of a register cell, less what it adds to its loss.
-use Rattle.std.proofs.Common.{◌≡◌, ◌∙◌, ℕ, suc, ◌+◌, ◌*◌, ◌<◌, Bool, true, false, ◌&&◌, cond, ℤ, pos, negsuc, ◌+ℤ◌, ◌-ℤ◌, neg_ℤ, List, ◌++◌, length, map, refl, sym, ap, arith}
+use Rattle.std.proofs.Common.{◌≡◌, ◌∙◌, ℕ, suc, ◌+◌, ◌*◌, ◌<◌, Bool, true, false, ◌&&◌, cond, ℤ, pos, ◌+ℤ◌, ◌-ℤ◌, neg_ℤ, List, ◌++◌, length, map, refl, sym, ap, arith}
 use Rattle.std.specs.Prelude.{slice_index_or}
 use Rattle.std.proofs.lemmas.Int.{ints}
 use Rattle.std.proofs.lemmas.Bool.{false_from_ne_true}
 use Rattle.amr_box.specs.declared.Cell.{Cell}
 use Rattle.amr_box.specs.declared.Face.{Face}
 use Rattle.amr_box.specs.declared.Axis.TheVariants.{X, Y}
-use Rattle.amr_box.specs.Cells.{Extent, IsNear, cell, height, holds, parent, width}
+use Rattle.amr_box.specs.Cells.{Extent, IsNear, cell, height, holds, is_same_cell, parent, width}
+use Rattle.amr_box.proofs.Numbers.{minus_one}
 use Rattle.amr_def.specs.declared.problem.Problem.{Problem}
 use Rattle.amr_def.specs.Domain.{domain, in_domain, moved}
 use Rattle.amr_def.specs.State.{Masses, is_covered}
@@ -14,17 +15,18 @@ use Rattle.amr_def.specs.Flux.{courant, flux_at, high_cell, low_cell}
 use Rattle.amr_def.specs.Value.{value_at}
 use Rattle.amr_def.proofs.LevelLists.{IsCellInside}
 use Rattle.amr_def.proofs.Values.{same_cell as same_corner}
+use Rattle.amr_def.proofs.Sums.{sum_z}
 use Rattle.amr_patch.specs.declared.patches.Patch.{Patch}
 use Rattle.amr_patch.specs.Patches.{in_patches}
 use Rattle.amr_patch.proofs.Rows.{inside}
 use Rattle.amr_flux.specs.Faces.{passing, x_end, y_end}
 use Rattle.amr_layout.specs.Surroundings.{Around, edge_count, edge_face, inward, is_coarse_fine, x_start, y_start}
 use Rattle.amr_layout.specs.declared.FlowTo.{FlowTo}
-use Rattle.amr_layout.specs.Adds.{cell_beyond, flow_to, flows_of, inflow_faces, is_exchange_face, number_of, outflow_faces, register_flows, same_cell, size_to, word_of, word_total}
+use Rattle.amr_layout.specs.Adds.{cell_beyond, flow_to, flows_of, inflow_faces, is_exchange_face, number_of, outflow_faces, register_flows, size_to, word_of, word_total}
 use Rattle.amr_register.specs.CoarseFlows.{high_face, low_face}
 use Rattle.amr_register.specs.RegisterCells.{register_cells}
 use Rattle.amr_flows.specs.Laws.{plain_size}
-use Rattle.amr_flows.proofs.RegisterFlowsSums.{below_same, over_append, over_edges, over_map, over_none, over_passing, sum_below, sum_over, totals_apart}
+use Rattle.amr_flows.proofs.RegisterFlowsSums.{below_same, over_append, over_edges, over_map, over_none, over_passing, sum_over, totals_apart}
 use Rattle.amr_flows.proofs.RegisterFlowsSigns.{apart_by_words, has_number, other_word, outward_of, part_of_face, register_cells_rise}
 use Rattle.amr_flows.proofs.RegisterFlowsSides.{along_edge, gate, lies_in}
 use Rattle.amr_flows.proofs.RegisterFlowsCrossings.{east, edge_east, edge_north, edge_south, edge_west, north, south, cross_east, cross_north, cross_south, cross_west, west}
@@ -48,7 +50,7 @@ module _ (p : Problem) (l : ℕ) (coarse fine old finer : Masses) (ps : List Pat
 
   -- what flows out of the box through a face of the coarse-fine edge beyond which the register cell lies
   abbrev pub part : Extent → Face → ℤ
-  part b f = cond (is_coarse_fine level b f && same_cell (cell_beyond level b f) goal_cell) (outward_of (holds b (high_cell f)) (flux f)) (pos 0)
+  part b f = cond (is_coarse_fine level b f && is_same_cell (cell_beyond level b f) goal_cell) (outward_of (holds b (high_cell f)) (flux f)) (pos 0)
 
   abbrev difference : FlowTo → ℤ
   difference x = apart_by_words k x.word (size x.face)
@@ -62,7 +64,7 @@ module _ (p : Problem) (l : ℕ) (coarse fine old finer : Masses) (ps : List Pat
   to_ledger : (b : Extent) (w : ℕ) (fs : List Face) → w < 2 → sum_over difference (map (flow_to w) fs) ≡ pos 0
   to_ledger b w fs h = over_map difference (flow_to w) fs ∙ over_none (λ f. difference (flow_to w f)) fs (λ f. other_word k w (size f) h)
 
-  to_registers : (b : Extent) → sum_over difference (register_flows level b) ≡ sum_below (λ n. part b (edge_face b n)) (edge_count b)
+  to_registers : (b : Extent) → sum_over difference (register_flows level b) ≡ sum_z (λ n. part b (edge_face b n)) (edge_count b)
   unfolding register_flows
   to_registers b =
       over_map difference (λ f. record { word = word_of level b f; face = f }) (passing (is_exchange_face level b) (edge_face b) (edge_count b))
@@ -82,7 +84,7 @@ module _ (p : Problem) (l : ℕ) (coarse fine old finer : Masses) (ps : List Pat
       omega (arith, ints, a, e, f, g)
 
   pub box_parts : (b : Extent) → pos (word_total size (2 + 2 * k) (flows_of level b)) -ℤ pos (word_total size (3 + 2 * k) (flows_of level b))
-      ≡ (sum_below (λ j. part b (x_start b j)) (height b) +ℤ sum_below (λ j. part b (x_end b j)) (height b)) +ℤ (sum_below (λ i. part b (y_start b i)) (width b) +ℤ sum_below (λ i. part b (y_end b i)) (width b))
+      ≡ (sum_z (λ j. part b (x_start b j)) (height b) +ℤ sum_z (λ j. part b (x_end b j)) (height b)) +ℤ (sum_z (λ i. part b (y_start b i)) (width b) +ℤ sum_z (λ i. part b (y_end b i)) (width b))
   box_parts b =
       totals_apart (size_to size (2 + 2 * k)) (size_to size (3 + 2 * k)) (flows_of level b)
       ∙ no_others b ∙ to_registers b ∙ over_edges (part b) b
@@ -94,9 +96,6 @@ module _ (p : Problem) (l : ℕ) (coarse fine old finer : Masses) (ps : List Pat
   at_side b f t o e is =
       ap (λ (s : Bool). cond (lies_in p l (in_patches ps) goal_cell (cond s (low_cell f) (high_cell f))) (outward_of s (flux f)) (pos 0)) e
       ∙ ap (λ (q : Cell). cond (lies_in p l (in_patches ps) goal_cell q) (outward_of t (flux f)) (pos 0)) is
-
-  minus : (z : ℤ) → z -ℤ pos 1 ≡ z +ℤ negsuc 0
-  minus z = omega (arith, ints)
 
   -- what flows out of a cell through its faces on each side
   abbrev pub out_west : Cell → ℤ
@@ -113,10 +112,10 @@ module _ (p : Problem) (l : ℕ) (coarse fine old finer : Masses) (ps : List Pat
 
   module _ (b : Extent) (near : IsNear b) where
     west_part : (j : ℕ) → j < height b → part b (x_start b j) ≡ cond (lies_in p l (in_patches ps) goal_cell (moved (cell b.lo.x (b.lo.y +ℤ pos j)) west)) (out_west (cell b.lo.x (b.lo.y +ℤ pos j))) (pos 0)
-    west_part j lt = at_side b (x_start b j) true (moved (cell b.lo.x (b.lo.y +ℤ pos j)) west) ((edge_west b near).held j lt) (same_corner (minus b.lo.x) (sym (plus_none _)))
+    west_part j lt = at_side b (x_start b j) true (moved (cell b.lo.x (b.lo.y +ℤ pos j)) west) ((edge_west b near).held j lt) (same_corner (minus_one b.lo.x) (sym (plus_none _)))
 
     south_part : (j : ℕ) → j < width b → part b (y_start b j) ≡ cond (lies_in p l (in_patches ps) goal_cell (moved (cell (b.lo.x +ℤ pos j) b.lo.y) south)) (out_south (cell (b.lo.x +ℤ pos j) b.lo.y)) (pos 0)
-    south_part j lt = at_side b (y_start b j) true (moved (cell (b.lo.x +ℤ pos j) b.lo.y) south) ((edge_south b near).held j lt) (same_corner (sym (plus_none _)) (minus b.lo.y))
+    south_part j lt = at_side b (y_start b j) true (moved (cell (b.lo.x +ℤ pos j) b.lo.y) south) ((edge_south b near).held j lt) (same_corner (sym (plus_none _)) (minus_one b.lo.y))
 
     past_east : (y : ℤ) → holds b (cell (b.hi.x +ℤ pos 1) y) ≡ true → ⊥
     past_east y h = let i = inside b (cell (b.hi.x +ℤ pos 1) y) h in omega (arith, ints, i.east)
@@ -141,16 +140,16 @@ module _ (p : Problem) (l : ℕ) (coarse fine old finer : Masses) (ps : List Pat
         +ℤ (from_gates b north (λ i. child_of goal_cell i true) out_south +ℤ from_gates b south (λ i. child_of goal_cell i false) out_north)
     by_gates =
         let c = goal_cell in
-        let w : sum_below (λ j. part b (x_start b j)) (height b) ≡ from_gates b east (λ i. child_of c true i) out_west =
+        let w : sum_z (λ j. part b (x_start b j)) (height b) ≡ from_gates b east (λ i. child_of c true i) out_west =
         below_same (λ j. part b (x_start b j)) _ (height b) (west_part b near)
         ∙ along_edge p l fine (in_patches ps) c inside_goal tells free west east (λ i. child_of c true i) (λ i. child_of c false i) (cross_west c) b (height b) (λ j. cell b.lo.x (b.lo.y +ℤ pos j)) (edge_west b near) lies of_level out_west in
-        let e : sum_below (λ j. part b (x_end b j)) (height b) ≡ from_gates b west (λ i. child_of c false i) out_east =
+        let e : sum_z (λ j. part b (x_end b j)) (height b) ≡ from_gates b west (λ i. child_of c false i) out_east =
         below_same (λ j. part b (x_end b j)) _ (height b) (east_part b near)
         ∙ along_edge p l fine (in_patches ps) c inside_goal tells free east west (λ i. child_of c false i) (λ i. child_of c true i) (cross_east c) b (height b) (λ j. cell b.hi.x (b.lo.y +ℤ pos j)) (edge_east b near) lies of_level out_east in
-        let s : sum_below (λ j. part b (y_start b j)) (width b) ≡ from_gates b north (λ i. child_of c i true) out_south =
+        let s : sum_z (λ j. part b (y_start b j)) (width b) ≡ from_gates b north (λ i. child_of c i true) out_south =
         below_same (λ j. part b (y_start b j)) _ (width b) (south_part b near)
         ∙ along_edge p l fine (in_patches ps) c inside_goal tells free south north (λ i. child_of c i true) (λ i. child_of c i false) (cross_south c) b (width b) (λ j. cell (b.lo.x +ℤ pos j) b.lo.y) (edge_south b near) lies of_level out_south in
-        let n : sum_below (λ j. part b (y_end b j)) (width b) ≡ from_gates b south (λ i. child_of c i false) out_north =
+        let n : sum_z (λ j. part b (y_end b j)) (width b) ≡ from_gates b south (λ i. child_of c i false) out_north =
         below_same (λ j. part b (y_end b j)) _ (width b) (north_part b near)
         ∙ along_edge p l fine (in_patches ps) c inside_goal tells free north south (λ i. child_of c i false) (λ i. child_of c i true) (cross_north c) b (width b) (λ j. cell (b.lo.x +ℤ pos j) b.hi.y) (edge_north b near) lies of_level out_north in
         box_parts b ∙ (λ i. (w i +ℤ e i) +ℤ (s i +ℤ n i))

@@ -4,16 +4,17 @@ use Rattle.std.specs.Prelude.{not}
 use Rattle.std.proofs.lemmas.Int.{ints}
 use Rattle.std.proofs.lemmas.Bool.{and_from, and_parts, cond-false, cond-true, false_from_ne_true, not_from_false}
 use Rattle.amr_box.specs.declared.Cell.{Cell}
-use Rattle.amr_box.specs.Cells.{Extent, holds, parent}
+use Rattle.amr_box.specs.Cells.{Extent, holds, is_same_cell, parent}
 use Rattle.amr_box.proofs.CellEquality.{coordinates_itself, coordinates_same}
+use Rattle.amr_box.proofs.Tests.{opposite}
 use Rattle.amr_def.specs.declared.problem.Problem.{Problem}
 use Rattle.amr_def.specs.Domain.{domain, home_cell, in_domain, moved}
 use Rattle.amr_def.specs.State.{Masses, is_covered}
 use Rattle.amr_def.proofs.LevelLists.{IsCellInside}
 use Rattle.amr_def.proofs.Nesting.{home_shift, in_domain-inside}
 use Rattle.amr_def.proofs.Uncovered.{home_at, in_domain-yes}
-use Rattle.amr_layout.specs.Adds.{same_cell}
-use Rattle.amr_flows.proofs.RegisterFlowsSums.{below_same, below_sum, none_below, one_below, sum_below}
+use Rattle.amr_def.proofs.Sums.{sum_z}
+use Rattle.amr_flows.proofs.RegisterFlowsSums.{below_same, below_sum, none_below, one_below}
 use Rattle.amr_flows.proofs.RegisterFlowsCells.{parent_of, child_of, child_of-home, child_of-inside, is_child_of}
 
 -- an offset by which no coordinate falls by more than 1
@@ -58,19 +59,16 @@ two_cases true a b v x y h k = by_case (h refl)
         omega (arith, ints, l, r, s)
 two_cases false a b v x y h k = λ i. sym (cond-false a x (pos 0) (k refl).0) i +ℤ sym (cond-false b y (pos 0) (k refl).1) i
 
-clash : {b : Bool} → b ≡ true → b ≡ false → ⊥
-clash e f = let wrong : true ≡ false = sym e ∙ f in cc
+apart_cells : (q r : Cell) → (q ≡ r → ⊥) → is_same_cell q r ≡ false
+apart_cells q r h = false_from_ne_true (is_same_cell q r) (λ e. h (coordinates_same q r e))
 
-apart_cells : (q r : Cell) → (q ≡ r → ⊥) → same_cell q r ≡ false
-apart_cells q r h = false_from_ne_true (same_cell q r) (λ e. h (coordinates_same q r e))
-
-equal_cells : (q r : Cell) → q ≡ r → same_cell q r ≡ true
-equal_cells q r e = ap (λ (k : Cell). same_cell q k) (sym e) ∙ coordinates_itself q
+equal_cells : (q r : Cell) → q ≡ r → is_same_cell q r ≡ true
+equal_cells q r e = ap (λ (k : Cell). is_same_cell q k) (sym e) ∙ coordinates_itself q
 
 -- whether a cell stands for a child of c that isn't of a level; `there` tells the cells of the level
 abbrev pub lies_in : Problem → ℕ → (Cell → Bool) → Cell → Cell → Bool
 lies_in p l there c o =
-    (in_domain (domain p (suc l)) (home_cell (domain p (suc l)) o) && not (there (home_cell (domain p (suc l)) o))) && same_cell (parent (home_cell (domain p (suc l)) o)) c
+    (in_domain (domain p (suc l)) (home_cell (domain p (suc l)) o) && not (there (home_cell (domain p (suc l)) o))) && is_same_cell (parent (home_cell (domain p (suc l)) o)) c
 
 -- the cells before the near children, as cells of the domain
 abbrev pub gate : Problem → ℕ → Cell → (Bool → Cell) → Bool → Cell
@@ -130,28 +128,28 @@ module _ (p : Problem) (l : ℕ) (fine : Masses) (there : Cell → Bool) (c : Ce
       from_gate : into (moved u to) ≡ true → (i : Bool) × (u ≡ at i)
       from_gate h =
           let o = home (moved u to) in
-          let parts = and_parts (in_domain (domain p (suc l)) o && not (there o)) (same_cell (parent o) c) h in
+          let parts = and_parts (in_domain (domain p (suc l)) o && not (there o)) (is_same_cell (parent o) c) h in
           let child = is_child_of o c (coordinates_same (parent o) c parts.1) in
           let side = crossing.each child.0 child.1.0 in
           by_side child.0 child.1.0 side.0 child.1.1 side.1
         where
           by_side : (a b i : Bool) → home (moved u to) ≡ child_of c a b → (child_of c a b ≡ near i) ⊎ (child_of c a b ≡ far i) → (i : Bool) × (u ≡ at i)
           by_side a b i e (inl n) = (i, before (near i) (e ∙ n))
-          by_side a b i e (inr f) = absurd (clash some (ap there (before (far i) (e ∙ f) ∙ ap home (crossing.before_far i) ∙ near_home i) ∙ near_none i))
+          by_side a b i e (inr f) = absurd (opposite some (ap there (before (far i) (e ∙ f) ∙ ap home (crossing.before_far i) ∙ near_home i) ∙ near_none i))
 
-      other_gate : (i j : Bool) → u ≡ at i → (at i ≡ at j → ⊥) → same_cell u (at j) ≡ false
+      other_gate : (i j : Bool) → u ≡ at i → (at i ≡ at j → ⊥) → is_same_cell u (at j) ≡ false
       other_gate i j e h = apart_cells u (at j) (λ f. h (sym e ∙ f))
 
       -- the value of a cell from which the step leads into a child, by the gates
-      pub by_gates : (value : Cell → ℤ) → cond (into (moved u to)) (value u) (pos 0) ≡ cond (same_cell u (at false)) (value (at false)) (pos 0) +ℤ cond (same_cell u (at true)) (value (at true)) (pos 0)
-      by_gates value = two_cases (into (moved u to)) (same_cell u (at false)) (same_cell u (at true)) (value u) (value (at false)) (value (at true)) (λ h. by_gate (from_gate h)) (λ h. (none false h, none true h))
+      pub by_gates : (value : Cell → ℤ) → cond (into (moved u to)) (value u) (pos 0) ≡ cond (is_same_cell u (at false)) (value (at false)) (pos 0) +ℤ cond (is_same_cell u (at true)) (value (at true)) (pos 0)
+      by_gates value = two_cases (into (moved u to)) (is_same_cell u (at false)) (is_same_cell u (at true)) (value u) (value (at false)) (value (at true)) (λ h. by_gate (from_gate h)) (λ h. (none false h, none true h))
         where
-          by_gate : (i : Bool) × (u ≡ at i) → ((same_cell u (at false) ≡ true) × (same_cell u (at true) ≡ false) × (value u ≡ value (at false))) ⊎ ((same_cell u (at false) ≡ false) × (same_cell u (at true) ≡ true) × (value u ≡ value (at true)))
+          by_gate : (i : Bool) × (u ≡ at i) → ((is_same_cell u (at false) ≡ true) × (is_same_cell u (at true) ≡ false) × (value u ≡ value (at false))) ⊎ ((is_same_cell u (at false) ≡ false) × (is_same_cell u (at true) ≡ true) × (value u ≡ value (at true)))
           by_gate (false, e) = inl (equal_cells u (at false) e, other_gate false true e gates_apart, ap value e)
           by_gate (true, e) = inr (other_gate true false e (λ f. gates_apart (sym f)), equal_cells u (at true) e, ap value e)
 
-          none : (i : Bool) → into (moved u to) ≡ false → same_cell u (at i) ≡ false
-          none i h = apart_cells u (at i) (λ e. clash (enters u i e) h)
+          none : (i : Bool) → into (moved u to) ≡ false → is_same_cell u (at i) ≡ false
+          none i h = apart_cells u (at i) (λ e. opposite (enters u i e) h)
 
     module _ (b : Extent) (n : ℕ) (u : ℕ → Cell) (edge : IsEdge b n u to) (lies : (q : Cell) → holds b q ≡ true → in_domain (domain p (suc l)) q ≡ true) (of_level : (q : Cell) → holds b q ≡ true → there q ≡ true) where
       own_cell : (q : Cell) → holds b q ≡ true → home q ≡ q
@@ -159,24 +157,24 @@ module _ (p : Problem) (l : ℕ) (fine : Masses) (there : Cell → Bool) (c : Ce
 
       -- the cell past a gate is no cell of the box
       out : (i : Bool) → holds b (moved (at i) to) ≡ true → ⊥
-      out i h = clash (of_level (moved (at i) to) h) (ap there (sym (own_cell (moved (at i) to) h) ∙ past_gate i) ∙ near_none i)
+      out i h = opposite (of_level (moved (at i) to) h) (ap there (sym (own_cell (moved (at i) to) h) ∙ past_gate i) ∙ near_none i)
 
-      at_gate : (i : Bool) (v : ℤ) → sum_below (λ j. cond (same_cell (u j) (at i)) v (pos 0)) n ≡ cond (holds b (at i)) v (pos 0)
+      at_gate : (i : Bool) (v : ℤ) → sum_z (λ j. cond (is_same_cell (u j) (at i)) v (pos 0)) n ≡ cond (holds b (at i)) v (pos 0)
       at_gate i v = by_test (holds b (at i)) refl
         where
-          by_test : (t : Bool) → holds b (at i) ≡ t → sum_below (λ j. cond (same_cell (u j) (at i)) v (pos 0)) n ≡ cond (holds b (at i)) v (pos 0)
+          by_test : (t : Bool) → holds b (at i) ≡ t → sum_z (λ j. cond (is_same_cell (u j) (at i)) v (pos 0)) n ≡ cond (holds b (at i)) v (pos 0)
           by_test true e =
               let j = edge.reached (at i) e (out i) in
-              one_below (λ j. same_cell (u j) (at i)) v n j.0 j.1 (equal_cells (u j.0) (at i) j.2) (λ k lt h. edge.once k j.0 (coordinates_same (u k) (at i) h ∙ sym j.2))
+              one_below (λ j. is_same_cell (u j) (at i)) v n j.0 j.1 (equal_cells (u j.0) (at i) j.2) (λ k lt h. edge.once k j.0 (coordinates_same (u k) (at i) h ∙ sym j.2))
               ∙ sym (cond-true (holds b (at i)) v (pos 0) e)
           by_test false e =
-              none_below (λ j. same_cell (u j) (at i)) v n (λ j lt h. clash (ap (holds b) (sym (coordinates_same (u j) (at i) h)) ∙ edge.held j lt) e)
+              none_below (λ j. is_same_cell (u j) (at i)) v n (λ j lt h. opposite (ap (holds b) (sym (coordinates_same (u j) (at i) h)) ∙ edge.held j lt) e)
               ∙ sym (cond-false (holds b (at i)) v (pos 0) e)
 
       -- along the side of the box
-      pub along_edge : (value : Cell → ℤ) → sum_below (λ j. cond (into (moved (u j) to)) (value (u j)) (pos 0)) n ≡ cond (holds b (at false)) (value (at false)) (pos 0) +ℤ cond (holds b (at true)) (value (at true)) (pos 0)
+      pub along_edge : (value : Cell → ℤ) → sum_z (λ j. cond (into (moved (u j) to)) (value (u j)) (pos 0)) n ≡ cond (holds b (at false)) (value (at false)) (pos 0) +ℤ cond (holds b (at true)) (value (at true)) (pos 0)
       along_edge value =
-          below_same _ (λ j. cond (same_cell (u j) (at false)) (value (at false)) (pos 0) +ℤ cond (same_cell (u j) (at true)) (value (at true)) (pos 0)) n
+          below_same _ (λ j. cond (is_same_cell (u j) (at false)) (value (at false)) (pos 0) +ℤ cond (is_same_cell (u j) (at true)) (value (at true)) (pos 0)) n
           (λ j lt. by_gates (u j) (own_cell (u j) (edge.held j lt)) (of_level (u j) (edge.held j lt)) value)
-          ∙ below_sum (λ j. cond (same_cell (u j) (at false)) (value (at false)) (pos 0)) (λ j. cond (same_cell (u j) (at true)) (value (at true)) (pos 0)) n
+          ∙ below_sum (λ j. cond (is_same_cell (u j) (at false)) (value (at false)) (pos 0)) (λ j. cond (is_same_cell (u j) (at true)) (value (at true)) (pos 0)) n
           ∙ (λ i. at_gate false (value (at false)) i +ℤ at_gate true (value (at true)) i)

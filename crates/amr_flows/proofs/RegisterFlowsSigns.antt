@@ -10,13 +10,13 @@ use Rattle.std.proofs.lemmas.List.Kept.{IsStrictlySortedBy-filter}
 use Rattle.std.proofs.lemmas.List.Sums.{passes_at_first, position_or_len_is}
 use Rattle.std.proofs.Math.Nat.{zero-div}
 use Rattle.amr_box.specs.declared.Cell.{Cell}
-use Rattle.amr_box.specs.Cells.{cells_of}
+use Rattle.amr_box.specs.Cells.{cells_of, is_same_cell}
 use Rattle.amr_box.proofs.CellEquality.{coordinates_same, same_number}
 use Rattle.amr_def.specs.declared.problem.Problem.{Problem}
 use Rattle.amr_def.specs.Domain.{domain, domain_box}
 use Rattle.amr_def.specs.State.{Masses}
 use Rattle.amr_def.specs.Flux.{flow}
-use Rattle.amr_layout.specs.Adds.{number_of, same_cell}
+use Rattle.amr_layout.specs.Adds.{number_of}
 use Rattle.amr_register.specs.RegisterCells.{is_register_cell, register_cells}
 use Rattle.amr_register.specs.Entries.{row_cmp}
 use Rattle.amr_register.proofs.RowOrder.{cells_sorted, rising, row_cmp-itself}
@@ -123,20 +123,20 @@ pub register_cells_rise : (p : Problem) (l : ℕ) (m fine : Masses) → AllPairs
 register_cells_rise p l m fine = rising (register_cells p l m fine) (IsStrictlySortedBy-filter row_cmp (is_register_cell (domain p l) m fine) (cells_of (domain_box (domain p l))) (cells_sorted (domain_box (domain p l))))
 
 -- a cell has number k where it is cell k, also if it isn't in the list
-pub has_number : (cells : List Cell) (k : ℕ) (q d : Cell) → AllPairs (λ a b. row_cmp a b ≡ Less) cells → k < length cells → (number_of cells q == k) ≡ same_cell q (slice_index_or cells k d)
+pub has_number : (cells : List Cell) (k : ℕ) (q d : Cell) → AllPairs (λ a b. row_cmp a b ≡ Less) cells → k < length cells → (number_of cells q == k) ≡ is_same_cell q (slice_index_or cells k d)
 unfolding number_of
-has_number cells k q d rises within = by_test (same_cell q (slice_index_or cells k d)) refl
+has_number cells k q d rises within = by_test (is_same_cell q (slice_index_or cells k d)) refl
   where
-    by_test : (t : Bool) → same_cell q (slice_index_or cells k d) ≡ t → (number_of cells q == k) ≡ t
+    by_test : (t : Bool) → is_same_cell q (slice_index_or cells k d) ≡ t → (number_of cells q == k) ≡ t
     by_test true e =
         let is : q ≡ slice_index_or cells k d = coordinates_same q (slice_index_or cells k d) e in
         eq-eqb (number_of cells q) k
-        (position_or_len_is (same_cell q) cells k d (omega arith)
-        (λ j lt. false_from_ne_true (same_cell q (slice_index_or cells j d)) (λ h. row_cmp-itself (slice_index_or cells j d) (slice_index_or cells k d) (sym (coordinates_same q (slice_index_or cells j d) h) ∙ is) (rises j k d lt within)))
+        (position_or_len_is (is_same_cell q) cells k d (omega arith)
+        (λ j lt. false_from_ne_true (is_same_cell q (slice_index_or cells j d)) (λ h. row_cmp-itself (slice_index_or cells j d) (slice_index_or cells k d) (sym (coordinates_same q (slice_index_or cells j d) h) ∙ is) (rises j k d lt within)))
         (λ lt. e))
     by_test false e =
         ne_eqb (number_of cells q) k
-        (λ h. clash (sym (passes_at_first (same_cell q) cells d (omega (arith, h, within))) ∙ ap (λ (n : ℕ). same_cell q (slice_index_or cells n d)) h ∙ e))
+        (λ h. clash (sym (passes_at_first (is_same_cell q) cells d (omega (arith, h, within))) ∙ ap (λ (n : ℕ). is_same_cell q (slice_index_or cells n d)) h ∙ e))
       where
         clash : true ≡ false → ⊥
         clash f = cc

@@ -9,16 +9,12 @@ use Rattle.amr_phase.specs.Plans.{total}
 use Rattle.amr_flux.specs.Faces.{passing, x_end, y_end}
 use Rattle.amr_layout.specs.Surroundings.{edge_count, edge_face, x_start, y_start}
 use Rattle.amr_layout.proofs.Edges.{edge_east, edge_north, edge_south, edge_west}
+use Rattle.amr_def.proofs.Sums.{sum_z}
 
 -- the values of g, added up
 abbrev pub sum_over : {X : Type 0} → (X → ℤ) → List X → ℤ
 sum_over g [] = pos 0
 sum_over g (x ∷ xs) = g x +ℤ sum_over g xs
-
--- g 0 + g 1 + .., n terms
-abbrev pub sum_below : (ℕ → ℤ) → ℕ → ℤ
-sum_below g zero = pos 0
-sum_below g (suc n) = sum_below g n +ℤ g n
 
 -- ---- over lists
 
@@ -58,48 +54,48 @@ over_map g f (x ∷ xs) = ap (λ z. g (f x) +ℤ z) (over_map g f xs)
 
 -- ---- over numbers
 
-pub below_same : (f g : ℕ → ℤ) (n : ℕ) → ((i : ℕ) → i < n → f i ≡ g i) → sum_below f n ≡ sum_below g n
+pub below_same : (f g : ℕ → ℤ) (n : ℕ) → ((i : ℕ) → i < n → f i ≡ g i) → sum_z f n ≡ sum_z g n
 below_same f g zero h = refl
 below_same f g (suc n) h = λ i. below_same f g n (λ k lt. h k (omega arith)) i +ℤ h n (omega arith) i
 
-pub below_sum : (f g : ℕ → ℤ) (n : ℕ) → sum_below (λ i. f i +ℤ g i) n ≡ sum_below f n +ℤ sum_below g n
+pub below_sum : (f g : ℕ → ℤ) (n : ℕ) → sum_z (λ i. f i +ℤ g i) n ≡ sum_z f n +ℤ sum_z g n
 below_sum f g zero = refl
 below_sum f g (suc n) =
     let rest = below_sum f g n in
-    let r : sum_below (λ i. f i +ℤ g i) n +ℤ (f n +ℤ g n) ≡ (sum_below f n +ℤ f n) +ℤ (sum_below g n +ℤ g n) = omega (arith, ints, rest) in
+    let r : sum_z (λ i. f i +ℤ g i) n +ℤ (f n +ℤ g n) ≡ (sum_z f n +ℤ f n) +ℤ (sum_z g n +ℤ g n) = omega (arith, ints, rest) in
     r
 
-pub below_split : (g : ℕ → ℤ) (m n : ℕ) → sum_below g (m + n) ≡ sum_below g m +ℤ sum_below (λ i. g (m + i)) n
-below_split g m zero = ap (sum_below g) (let e : m + 0 ≡ m = omega arith in e) ∙ (let r : sum_below g m ≡ sum_below g m +ℤ pos 0 = omega (arith, ints) in r)
+pub below_split : (g : ℕ → ℤ) (m n : ℕ) → sum_z g (m + n) ≡ sum_z g m +ℤ sum_z (λ i. g (m + i)) n
+below_split g m zero = ap (sum_z g) (let e : m + 0 ≡ m = omega arith in e) ∙ (let r : sum_z g m ≡ sum_z g m +ℤ pos 0 = omega (arith, ints) in r)
 below_split g m (suc n) =
     let rest = below_split g m n in
     let next : m + suc n ≡ suc (m + n) = omega arith in
-    let r : sum_below g (m + n) +ℤ g (m + n) ≡ sum_below g m +ℤ (sum_below (λ i. g (m + i)) n +ℤ g (m + n)) = omega (arith, ints, rest) in
-    ap (sum_below g) next ∙ r
+    let r : sum_z g (m + n) +ℤ g (m + n) ≡ sum_z g m +ℤ (sum_z (λ i. g (m + i)) n +ℤ g (m + n)) = omega (arith, ints, rest) in
+    ap (sum_z g) next ∙ r
 
 module _ (t : ℕ → Bool) (v : ℤ) where
-  pub none_below : (n : ℕ) → ((i : ℕ) → i < n → t i ≡ true → ⊥) → sum_below (λ i. cond (t i) v (pos 0)) n ≡ pos 0
+  pub none_below : (n : ℕ) → ((i : ℕ) → i < n → t i ≡ true → ⊥) → sum_z (λ i. cond (t i) v (pos 0)) n ≡ pos 0
   none_below zero h = refl
   none_below (suc n) h = λ i. none_below n (λ k lt. h k (omega arith)) i +ℤ cond-false (t n) v (pos 0) (false_from_ne_true (t n) (h n (omega arith))) i
 
   -- one number below n passes
-  pub one_below : (n j : ℕ) → j < n → t j ≡ true → ((i : ℕ) → i < n → t i ≡ true → i ≡ j) → sum_below (λ i. cond (t i) v (pos 0)) n ≡ v
+  pub one_below : (n j : ℕ) → j < n → t j ≡ true → ((i : ℕ) → i < n → t i ≡ true → i ≡ j) → sum_z (λ i. cond (t i) v (pos 0)) n ≡ v
   one_below zero j lt at once = absurd (omega arith)
   one_below (suc n) j lt at once = by_place (cases_eq j n) (λ below. one_below n j below at (λ i lt' h. once i (omega arith) h))
     where
-      by_place : (j ≡ n) ⊎ (j ≡ n → ⊥) → (j < n → sum_below (λ i. cond (t i) v (pos 0)) n ≡ v) → sum_below (λ i. cond (t i) v (pos 0)) n +ℤ cond (t n) v (pos 0) ≡ v
+      by_place : (j ≡ n) ⊎ (j ≡ n → ⊥) → (j < n → sum_z (λ i. cond (t i) v (pos 0)) n ≡ v) → sum_z (λ i. cond (t i) v (pos 0)) n +ℤ cond (t n) v (pos 0) ≡ v
       by_place (inl e) before =
-          let none : sum_below (λ i. cond (t i) v (pos 0)) n ≡ pos 0 = none_below n (λ i below h. let same : i ≡ j = once i (omega arith) h in omega (arith, same, e, below)) in
+          let none : sum_z (λ i. cond (t i) v (pos 0)) n ≡ pos 0 = none_below n (λ i below h. let same : i ≡ j = once i (omega arith) h in omega (arith, same, e, below)) in
           let here : cond (t n) v (pos 0) ≡ v = cond-true (t n) v (pos 0) (ap t (sym e) ∙ at) in
           omega (arith, ints, none, here)
       by_place (inr ne) before =
-          let rest : sum_below (λ i. cond (t i) v (pos 0)) n ≡ v = before (omega arith) in
+          let rest : sum_z (λ i. cond (t i) v (pos 0)) n ≡ v = before (omega arith) in
           let here : cond (t n) v (pos 0) ≡ pos 0 = cond-false (t n) v (pos 0) (false_from_ne_true (t n) (λ h. ne (sym (once n (omega arith) h)))) in
           omega (arith, ints, rest, here)
 
 -- ---- over faces
 
-pub over_passing : (g : Face → ℤ) (test : Face → Bool) (f : ℕ → Face) (n : ℕ) → sum_over g (passing test f n) ≡ sum_below (λ i. cond (test (f i)) (g (f i)) (pos 0)) n
+pub over_passing : (g : Face → ℤ) (test : Face → Bool) (f : ℕ → Face) (n : ℕ) → sum_over g (passing test f n) ≡ sum_z (λ i. cond (test (f i)) (g (f i)) (pos 0)) n
 over_passing g test f zero = refl
 over_passing g test f (suc n) = over_append g (passing test f n) (cond (test (f n)) (f n ∷ []) []) ∙ (λ i. over_passing g test f n i +ℤ one (test (f n)) i)
   where
@@ -108,8 +104,8 @@ over_passing g test f (suc n) = over_append g (passing test f n) (cond (test (f 
     one false = refl
 
 -- the edges of a box one after another
-pub over_edges : (g : Face → ℤ) (b : Extent) → sum_below (λ n. g (edge_face b n)) (edge_count b)
-    ≡ (sum_below (λ j. g (x_start b j)) (height b) +ℤ sum_below (λ j. g (x_end b j)) (height b)) +ℤ (sum_below (λ i. g (y_start b i)) (width b) +ℤ sum_below (λ i. g (y_end b i)) (width b))
+pub over_edges : (g : Face → ℤ) (b : Extent) → sum_z (λ n. g (edge_face b n)) (edge_count b)
+    ≡ (sum_z (λ j. g (x_start b j)) (height b) +ℤ sum_z (λ j. g (x_end b j)) (height b)) +ℤ (sum_z (λ i. g (y_start b i)) (width b) +ℤ sum_z (λ i. g (y_end b i)) (width b))
 over_edges g b =
     let h = height b in
     let w = width b in
@@ -125,4 +121,4 @@ over_edges g b =
     let b' = below_same (λ j. f (h + j)) (λ j. g (x_end b j)) h east in
     let c = below_same (λ i. f (h + (h + i))) (λ i. g (y_start b i)) w south in
     let d = below_same (λ i. f (h + (h + (w + i)))) (λ i. g (y_end b i)) w north in
-    ap (sum_below f) count ∙ omega (arith, ints, parts, parts', parts'', a, b', c, d)
+    ap (sum_z f) count ∙ omega (arith, ints, parts, parts', parts'', a, b', c, d)

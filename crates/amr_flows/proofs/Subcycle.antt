@@ -1,5 +1,5 @@
 -- The step of a level over finer ones, by a register and by sums over children.
-use Rattle.std.proofs.Common.{◌≡◌, ◌∙◌, ℕ, suc, ◌<◌, Bool, true, false, ◌⊎◌, inl, inr, ℤ, pos, negsuc, ◌+ℤ◌, ◌-ℤ◌, ◌≤ℤ◌, List, [], ◌∷◌, length, refl, sym, ap, subst, arith}
+use Rattle.std.proofs.Common.{◌≡◌, ◌∙◌, ℕ, suc, ◌<◌, Bool, true, false, ◌⊎◌, inl, inr, ℤ, pos, ◌+ℤ◌, ◌-ℤ◌, ◌≤ℤ◌, List, [], ◌∷◌, length, refl, sym, ap, subst, arith}
 use Rattle.std.specs.Prelude.{is_some, slice_index_or}
 use Rattle.std.specs.Option.{option_map, unwrap_or}
 use Rattle.std.specs.declared.option.Option.{Option}
@@ -11,6 +11,7 @@ use Rattle.amr_box.specs.declared.Cell.{Cell}
 use Rattle.amr_box.specs.declared.Face.{Face}
 use Rattle.amr_box.specs.declared.Axis.TheVariants.{X, Y}
 use Rattle.amr_box.specs.Cells.{at_least_zero}
+use Rattle.amr_box.proofs.Numbers.{at_least_zero-same, more_and_less, plus_minus_one}
 use Rattle.amr_def.specs.declared.problem.Problem.{Problem}
 use Rattle.amr_def.specs.Domain.{domain, home_cell, moved}
 use Rattle.amr_def.specs.State.{Level, Masses, children_mass, is_covered, mass_of}
@@ -44,16 +45,12 @@ use Rattle.amr_flows.proofs.SubcycleFaces.{AgreesRound, net_by_parts, own_round}
 
 -- ---- masses of a cell
 
-not_cut : (z : ℤ) → pos 0 ≤ℤ z → pos (at_least_zero z) ≡ z
-not_cut (pos n) h = refl
-not_cut (negsuc n) h = absurd (omega (arith, ints, h))
-
 -- two sums one after the other
 added_twice : (o : Option ℕ) (a b d : ℤ) → (is_some o ≡ true → pos 0 ≤ℤ (pos (unwrap_or o 0) +ℤ a)) → (is_some o ≡ true → d ≡ a +ℤ b)
     → option_map (λ v. at_least_zero (pos v +ℤ b)) (option_map (λ v. at_least_zero (pos v +ℤ a)) o) ≡ option_map (λ v. at_least_zero (pos v +ℤ d)) o
 added_twice None a b d covers is = refl
 added_twice (Some v) a b d covers is =
-    let once : pos (at_least_zero (pos v +ℤ a)) ≡ pos v +ℤ a = not_cut (pos v +ℤ a) (covers refl) in
+    let once : pos (at_least_zero (pos v +ℤ a)) ≡ pos v +ℤ a = at_least_zero-same (pos v +ℤ a) (covers refl) in
     let both : pos (at_least_zero (pos v +ℤ a)) +ℤ b ≡ pos v +ℤ d = omega (arith, ints, once, is refl) in
     ap (λ (z : ℤ). Some (at_least_zero z)) both
 
@@ -62,12 +59,6 @@ is_mass None n h e = cc
 is_mass (Some v) n h e = let same : v ≡ n = omega (arith, ints, e) in ap Some same
 
 -- ---- a level over finer ones
-
-back : (z : ℤ) → z +ℤ pos 1 -ℤ pos 1 ≡ z
-back z = omega (arith, ints)
-
-down : (z : ℤ) → z +ℤ negsuc 0 ≡ z -ℤ pos 1
-down z = omega (arith, ints)
 
 module _ (p : Problem) (l : ℕ) (k fine : Level) (ks : List Level) (old : Masses) (levels : AreLevels p l (k ∷ fine ∷ ks)) where
   abbrev finer : List Level
@@ -161,10 +152,10 @@ module _ (p : Problem) (l : ℕ) (k fine : Level) (ks : List Level) (old : Masse
       net_plain : net together c ≡ net plain c
       unfolding net
       net_plain = net_is together c (plain (face X c.x c.y)) (plain (face X (c.x +ℤ pos 1) c.y)) (plain (face Y c.x c.y)) (plain (face Y c.x (c.y +ℤ pos 1)))
-          (at (face X c.x c.y) (far 0 _ (omega arith) (same_cell (down c.x) (plus_none c.y))) (own _ refl))
-          (at (face X (c.x +ℤ pos 1) c.y) (own _ (same_cell (back c.x) refl)) (far 1 _ (omega arith) (same_cell refl (plus_none c.y))))
-          (at (face Y c.x c.y) (far 2 _ (omega arith) (same_cell (plus_none c.x) (down c.y))) (own _ refl))
-          (at (face Y c.x (c.y +ℤ pos 1)) (own _ (same_cell refl (back c.y))) (far 3 _ (omega arith) (same_cell (plus_none c.x) refl)))
+          (at (face X c.x c.y) (far 0 _ (omega arith) (same_cell (plus_minus_one c.x) (plus_none c.y))) (own _ refl))
+          (at (face X (c.x +ℤ pos 1) c.y) (own _ (same_cell (more_and_less c.x) refl)) (far 1 _ (omega arith) (same_cell refl (plus_none c.y))))
+          (at (face Y c.x c.y) (far 2 _ (omega arith) (same_cell (plus_none c.x) (plus_minus_one c.y))) (own _ refl))
+          (at (face Y c.x (c.y +ℤ pos 1)) (own _ (same_cell refl (more_and_less c.y))) (far 3 _ (omega arith) (same_cell (plus_none c.x) refl)))
 
   -- ---- every cell
 

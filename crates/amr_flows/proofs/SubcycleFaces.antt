@@ -1,10 +1,11 @@
 -- The faces of a cell that is not covered: the flux of the step there is the plain one, and what a register gathers.
-use Rattle.std.proofs.Common.{◌≡◌, ◌∙◌, ℕ, suc, ◌<◌, Bool, true, false, ◌&&◌, ◌||◌, cond, ℤ, pos, ◌+ℤ◌, ◌-ℤ◌, List, length, refl, sym, ap, arith}
+use Rattle.std.proofs.Common.{◌≡◌, ◌∙◌, ℕ, suc, ◌<◌, Bool, true, false, ◌&&◌, ◌||◌, cond, ℤ, pos, ◌+ℤ◌, ◌-ℤ◌, List, length, refl, ap, arith}
 use Rattle.std.specs.Prelude.{is_some, not}
 use Rattle.std.proofs.lemmas.Int.{ints}
 use Rattle.amr_box.specs.declared.Cell.{Cell}
 use Rattle.amr_box.specs.declared.Face.{Face}
 use Rattle.amr_box.specs.declared.Axis.TheVariants.{X, Y}
+use Rattle.amr_box.proofs.Numbers.{more_and_less, plus_zero as none}
 use Rattle.amr_def.specs.declared.problem.Problem.{Problem}
 use Rattle.amr_def.specs.Domain.{domain, home_cell, in_domain}
 use Rattle.amr_def.specs.State.{Level, Masses, is_covered}
@@ -13,13 +14,13 @@ use Rattle.amr_def.specs.LevelStep.{effective, step, through_children}
 use Rattle.amr_def.specs.Ledger.{first_of}
 use Rattle.amr_def.proofs.LevelLists.{HasAllChildren, IsCellInside}
 use Rattle.amr_def.proofs.Subcycle.{HasSameCells}
-use Rattle.amr_def.proofs.Uncovered.{home_at, in_domain-yes}
+use Rattle.amr_def.proofs.Uncovered.{before_double, home_at, in_domain-yes}
 use Rattle.amr_def.proofs.Values.{same_cell}
 use Rattle.amr_laws.specs.Levels.{AreLevels, masses_of}
 use Rattle.amr_register.specs.CoarseFlows.{edge_flows}
 use Rattle.amr_register.specs.RegisterCells.{is_coarse_fine}
 use Rattle.amr_flows.specs.Words.{child_flows}
-use Rattle.amr_flows.proofs.RegisterFlowsCells.{alike, child_of, child_of-home, child_of-inside, parent_of, plus_none}
+use Rattle.amr_flows.proofs.RegisterFlowsCells.{alike, child_of, child_of-home, child_of-inside, parent_of}
 use Rattle.amr_flows.proofs.SubcycleSteps.{IsFree, own_high, own_low}
 
 -- ---- one face
@@ -69,15 +70,6 @@ pub record AgreesRound (c : Cell) (e d : Fluxes) : Type 0 where
   pub south : through_children e Y c.x c.y ≡ through_children d Y c.x c.y
   pub north : through_children e Y c.x (c.y +ℤ pos 1) ≡ through_children d Y c.x (c.y +ℤ pos 1)
 
-back : (z : ℤ) → z +ℤ pos 1 -ℤ pos 1 ≡ z
-back z = omega (arith, ints)
-
-before_double : (z : ℤ) → (z +ℤ pos 1) +ℤ (z +ℤ pos 1) -ℤ pos 1 ≡ z +ℤ z +ℤ pos 1
-before_double z = omega (arith, ints)
-
-none : (z : ℤ) → z ≡ z +ℤ pos 0
-none z = sym (plus_none z)
-
 module _ (p : Problem) (l : ℕ) (fine : Masses) (c : Cell) (inside : IsCellInside p l c) (free : is_covered fine c ≡ false) where
   not_covered : (q : Cell) → q ≡ c → is_covered fine (home_cell (domain p l) q) ≡ false
   not_covered q e = ap (λ (r : Cell). is_covered fine (home_cell (domain p l) r)) e ∙ ap (is_covered fine) (home_at p l c inside) ∙ free
@@ -91,9 +83,9 @@ module _ (p : Problem) (l : ℕ) (fine : Masses) (c : Cell) (inside : IsCellInsi
       → effective p l m old fine e1 e2 f ≡ sum_at (flux_at p l m old) (child_flows p l fine d1) (child_flows p l fine d2) (edge_flows p l m old fine) f = face_parts p l m old fine e1 e2 d1 d2 in
       net_parts (effective p l m old fine e1 e2) (flux_at p l m old) (child_flows p l fine d1) (child_flows p l fine d2) (edge_flows p l m old fine) c
       (at (face X c.x c.y) (second_fails _ _ (not_covered c refl)) a1.west a2.west)
-      (at (face X (c.x +ℤ pos 1) c.y) (first_fails _ _ (not_covered _ (same_cell (back c.x) refl))) a1.east a2.east)
+      (at (face X (c.x +ℤ pos 1) c.y) (first_fails _ _ (not_covered _ (same_cell (more_and_less c.x) refl))) a1.east a2.east)
       (at (face Y c.x c.y) (second_fails _ _ (not_covered c refl)) a1.south a2.south)
-      (at (face Y c.x (c.y +ℤ pos 1)) (first_fails _ _ (not_covered _ (same_cell refl (back c.y)))) a1.north a2.north)
+      (at (face Y c.x (c.y +ℤ pos 1)) (first_fails _ _ (not_covered _ (same_cell refl (more_and_less c.y)))) a1.north a2.north)
 
   -- ---- the child faces are beside children, which are not of the finer level
 

@@ -3,6 +3,7 @@ use Rattle.std.proofs.Common.{◌≡◌, ◌∙◌, ℕ, suc, ◌+◌, ◌<◌, 
 use Rattle.std.specs.Prelude.{◌&&◌, cond, is_some, not, pos}
 use Rattle.amr_box.specs.declared.Cell.{Cell}
 use Rattle.amr_box.specs.declared.Face.{Face}
+use Rattle.amr_box.proofs.Tests.{opposite}
 use Rattle.amr_def.specs.declared.problem.Problem.{Problem}
 use Rattle.amr_def.specs.Domain.{Domain, cells_where, domain, home_cell, in_domain}
 use Rattle.amr_def.specs.State.{Level, Masses, is_covered, no_masses}
@@ -84,9 +85,6 @@ of_level_alone flows p l k old = ap (λ (t : Cell → Bool). flows l t (flux_at 
 
 -- ---- own fluxes
 
-clash : {b : Bool} → b ≡ true → b ≡ false → ⊥
-clash e f = let wrong : true ≡ false = sym e ∙ f in cc
-
 -- a cell that stands for one of the domain that is not of the level
 pub record IsFree (p : Problem) (l : ℕ) (m : Masses) (q : Cell) : Type 0 where
   pub inside : in_domain (domain p l) (home_cell (domain p l) q) ≡ true
@@ -102,7 +100,7 @@ own_low p l (k ∷ fine ∷ finer) old g a some free =
     let n = nest p l k fine a.0 (chain_first p (suc l) fine finer (links p (suc l) (fine ∷ finer) a.3)) a.1 in
     let first = step_within p (suc (length (masses_of finer))) (suc l) (masses_of (fine ∷ finer)) k.masses in
     let second = step_within p (suc (length (masses_of finer))) (suc l) first.levels k.masses in
-    beside p l k.masses old fine.masses first.fluxes second.fluxes g (is_false _ (λ h. clash (n.there _ h) free.none)) (is_false _ (λ h. clash (n.low g h free.inside) free.none))
+    beside p l k.masses old fine.masses first.fluxes second.fluxes g (is_false _ (λ h. opposite (n.there _ h) free.none)) (is_false _ (λ h. opposite (n.low g h free.inside) free.none))
 
 pub own_high : (p : Problem) (l : ℕ) (ks : List Level) (old : Masses) (g : Face) → AreLevels p l ks → 0 < length ks → IsFree p l (first_of (masses_of ks)) (high_cell g) → (step p l (masses_of ks) old).fluxes g ≡ flux_at p l (first_of (masses_of ks)) old g
 unfolding step_within over_finer at_top
@@ -112,4 +110,4 @@ own_high p l (k ∷ fine ∷ finer) old g a some free =
     let n = nest p l k fine a.0 (chain_first p (suc l) fine finer (links p (suc l) (fine ∷ finer) a.3)) a.1 in
     let first = step_within p (suc (length (masses_of finer))) (suc l) (masses_of (fine ∷ finer)) k.masses in
     let second = step_within p (suc (length (masses_of finer))) (suc l) first.levels k.masses in
-    beside p l k.masses old fine.masses first.fluxes second.fluxes g (is_false _ (λ h. clash (n.high g h free.inside) free.none)) (is_false _ (λ h. clash (n.there _ h) free.none))
+    beside p l k.masses old fine.masses first.fluxes second.fluxes g (is_false _ (λ h. opposite (n.high g h free.inside) free.none)) (is_false _ (λ h. opposite (n.there _ h) free.none))

@@ -196,12 +196,6 @@ in_grown b Y x y e =
 pub beyond_frame : (b : Extent) (f : Face) → is_face_of b f ≡ true → holds b (high_cell f) ≡ false → in_frame b (high_cell f) ≡ true
 beyond_frame b f e out = framed (holds (grown b) (high_cell f)) (holds b (high_cell f)) (in_grown b f.axis f.x f.y e) out
 
-pub same_face : (a : Axis) {x x' y y' : ℤ} → x ≡ x' → y ≡ y' → face a x y ≡ face a x' y'
-same_face a ex ey i = record { axis = a; x = ex i; y = ey i }
-
 pub border_faces_is : (q : Patch) → border_faces q ≡ passing (is_border q) (x_end q.bx) (height q.bx) ++ passing (is_border q) (y_end q.bx) (width q.bx)
 unfolding border_faces
 border_faces_is q = refl
-
-pub same_cell : {x x' y y' : ℤ} → x ≡ x' → y ≡ y' → cell x y ≡ cell x' y'
-same_cell ex ey i = record { x = ex i; y = ey i }

@@ -2,13 +2,13 @@ mod Alone
 mod Borders
 mod Exchanged
 pub mod FaceSides
-mod Given
+pub mod Given
 mod Numbers
 mod Owned
 pub mod Paces
 mod Parts
 pub mod PatchSteps
-mod Places
+pub mod Places
 pub mod Reciprocals
 pub mod Shown
 pub mod RowOrder

@@ -6,12 +6,13 @@ use Rattle.amr_box.specs.declared.Cell.{Cell}
 use Rattle.amr_box.specs.declared.Axis.TheVariants.{X, Y}
 use Rattle.amr_box.specs.Cells.{Extent, cell, height, holds, width}
 use Rattle.amr_box.proofs.Tests.{and_either}
+use Rattle.amr_box.proofs.Numbers.{is_between}
 use Rattle.amr_def.specs.declared.problem.Problem.{Problem}
 use Rattle.amr_def.specs.Flux.{face}
 use Rattle.amr_patch.specs.declared.patches.Patch.{Patch}
 use Rattle.amr_patch.specs.Places.{grown}
 use Rattle.amr_patch.specs.Patches.{value_in}
-use Rattle.amr_patch.proofs.Rows.{is_between, is_inside, sides}
+use Rattle.amr_patch.proofs.Rows.{is_inside, sides}
 use Rattle.amr_flux.specs.Faces.{in_reach, flux_beside}
 use Rattle.amr_flux.specs.Tables.{AreXSmall, AreYSmall, Stands, value, x_flux, y_flux}
 use Rattle.amr_flux.proofs.Steps.{flow_of}

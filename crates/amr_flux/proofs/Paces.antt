@@ -1,10 +1,11 @@
 -- A step of a patch where one Courant number holds along each axis.
 use Rattle.std.proofs.Common.{◌≡◌, ℕ, ◌+◌, ◌*◌, ◌/◌, ◌^◌, ◌<◌, ◌≤◌, pos, [], sym, ap, subst, ◌∙◌, arith}
 use Rattle.std.specs.Prelude.{unsigned_abs}
-use Rattle.std.proofs.Math.Nat.{div-mul-le_self, mul-le-mul_right, mul-le-mul_left, lt_of_mul-lt-mul_left}
+use Rattle.std.proofs.Math.Nat.{div-mul-le_self, mul-le-mul_left, lt_of_mul-lt-mul_left}
 use Rattle.amr_box.specs.Cells.{cell}
 use Rattle.amr_def.specs.declared.problem.Problem.{Problem}
 use Rattle.amr_def.proofs.Courants.{stable}
+use Rattle.amr_def.proofs.Flows.{shares_le}
 use Rattle.amr_flux.specs.declared.pace.Pace.{Pace}
 use Rattle.amr_flux.specs.Paces.{IsFit, gone, x_share, y_share}
 use Rattle.amr_flux.proofs.Numbers.{x_unsheared, unsheared, y_slow}
@@ -18,15 +19,6 @@ pub plain_y_slow : (p : Problem) → p.shear_y ≡ [] → unsigned_abs p.cy ≤ 
 plain_y_slow p e = omega (arith, y_slow p 0 0, ap unsigned_abs (unsheared p 0 0 e))
 
 -- ---- shares
-
--- what flows out of a cell is no more than it has
-both_within : (a b d v : ℕ) → 0 < d → a + b ≤ d → a * v / d + b * v / d ≤ v
-both_within a b d v some slow =
-    let x : a * v / d * d ≤ a * v = div-mul-le_self (a * v) d in
-    let y : b * v / d * d ≤ b * v = div-mul-le_self (b * v) d in
-    let all : (a + b) * v ≤ d * v = mul-le-mul_right v slow in
-    let h : a * v / d + b * v / d < v + 1 = lt_of_mul-lt-mul_left d (omega (arith, x, y, all, some)) in
-    omega (arith, h)
 
 -- and what comes in from two cells is no more than 2^31
 both_below : (a b d u v : ℕ) → 0 < d → a + b ≤ d → u < 2 ^ 31 → v < 2 ^ 31 → a * u / d + b * v / d ≤ 2 ^ 31
@@ -43,7 +35,7 @@ module _ (pace : Pace) where
   parts v = ap (λ n. unsigned_abs pace.y.number * v / n) pace.same_parts
 
   pub gone_within : (v : ℕ) → gone pace v ≤ v
-  gone_within v = omega (arith, parts v, both_within (unsigned_abs pace.x.number) (unsigned_abs pace.y.number) pace.x.parts v pace.x.reciprocal.some pace.stable)
+  gone_within v = omega (arith, parts v, shares_le (unsigned_abs pace.x.number) (unsigned_abs pace.y.number) pace.x.parts v pace.x.reciprocal.some pace.stable)
 
   pub come_below : (u v : ℕ) → u < 2 ^ 31 → v < 2 ^ 31 → x_share pace u + y_share pace v ≤ 2 ^ 31
   come_below u v hu hv = omega (arith, parts v, both_below (unsigned_abs pace.x.number) (unsigned_abs pace.y.number) pace.x.parts u v pace.x.reciprocal.some pace.stable hu hv)

@@ -1,5 +1,5 @@
 -- The entries of a patch's lists, and its cells and faces.
-use Rattle.std.proofs.Common.{◌≡◌, ℕ, ◌+◌, ◌<◌, ◌≤◌, Bool, true, false, ◌&&◌, ℤ, pos, negsuc, ◌+ℤ◌, ◌-ℤ◌, ◌≤ℤ◌, ◌<ℤ◌, refl, sym, ap, ◌∙◌, arith}
+use Rattle.std.proofs.Common.{◌≡◌, ℕ, ◌+◌, ◌<◌, ◌≤◌, Bool, true, false, ◌&&◌, ℤ, pos, ◌+ℤ◌, ◌-ℤ◌, ◌≤ℤ◌, ◌<ℤ◌, refl, sym, ap, ◌∙◌, arith}
 use Rattle.std.proofs.lemmas.Bool.{and_parts, false_from_ne_true}
 use Rattle.std.specs.Prelude.{not, slice_index, slice_index_or}
 use Rattle.std.proofs.lemmas.Int.{ints}
@@ -8,6 +8,7 @@ use Rattle.amr_box.specs.declared.Face.{Face}
 use Rattle.amr_box.specs.declared.Axis.{Axis}
 use Rattle.amr_box.specs.declared.Axis.TheVariants.{X, Y}
 use Rattle.amr_box.specs.Cells.{Extent, IsNear, at_least_zero, cell, extent, height, holds, width}
+use Rattle.amr_box.proofs.Numbers.{at_least_zero-same}
 use Rattle.amr_def.specs.declared.problem.Problem.{Problem}
 use Rattle.amr_def.specs.Domain.{columns, rows, domain, is_periodic, wrapped}
 use Rattle.amr_def.specs.Flux.{face, high_cell, courant, at_base, number_for}
@@ -133,10 +134,6 @@ pub record IsYFace (b : Extent) (x y : ℤ) (i j : ℕ) : Type 0 where
   pub column : i < width b
   pub row : j ≤ height b
 
-whole : (z : ℤ) → pos 0 ≤ℤ z → pos (at_least_zero z) ≡ z
-whole (pos n) p = refl
-whole (negsuc n) p = absurd (omega (arith, ints))
-
 -- how far a coordinate lies above the low corner
 unfoldable pub offset : ℤ → ℤ → ℕ
 offset low z = at_least_zero (z -ℤ low)
@@ -146,8 +143,8 @@ unfolding offset
 x_face_at b x y near e =
     let k = around X b (cell x y) e in
     let s = sides b near in
-    let ex : pos (at_least_zero (x -ℤ b.lo.x)) ≡ x -ℤ b.lo.x = whole (x -ℤ b.lo.x) (omega (arith, ints, k.west)) in
-    let ey : pos (at_least_zero (y -ℤ b.lo.y)) ≡ y -ℤ b.lo.y = whole (y -ℤ b.lo.y) (omega (arith, ints, k.south)) in
+    let ex : pos (at_least_zero (x -ℤ b.lo.x)) ≡ x -ℤ b.lo.x = at_least_zero-same (x -ℤ b.lo.x) (omega (arith, ints, k.west)) in
+    let ey : pos (at_least_zero (y -ℤ b.lo.y)) ≡ y -ℤ b.lo.y = at_least_zero-same (y -ℤ b.lo.y) (omega (arith, ints, k.south)) in
     record { at = record { column = ex; row = ey }; column = omega (arith, ints, ex, k.east, s.wide); row = omega (arith, ints, ey, k.north, s.high) }
 
 pub y_face_at : (b : Extent) (x y : ℤ) → IsNear b → on_box Y b (cell x y) ≡ true → IsYFace b x y (offset b.lo.x x) (offset b.lo.y y)
@@ -155,8 +152,8 @@ unfolding offset
 y_face_at b x y near e =
     let k = around Y b (cell x y) e in
     let s = sides b near in
-    let ex : pos (at_least_zero (x -ℤ b.lo.x)) ≡ x -ℤ b.lo.x = whole (x -ℤ b.lo.x) (omega (arith, ints, k.west)) in
-    let ey : pos (at_least_zero (y -ℤ b.lo.y)) ≡ y -ℤ b.lo.y = whole (y -ℤ b.lo.y) (omega (arith, ints, k.south)) in
+    let ex : pos (at_least_zero (x -ℤ b.lo.x)) ≡ x -ℤ b.lo.x = at_least_zero-same (x -ℤ b.lo.x) (omega (arith, ints, k.west)) in
+    let ey : pos (at_least_zero (y -ℤ b.lo.y)) ≡ y -ℤ b.lo.y = at_least_zero-same (y -ℤ b.lo.y) (omega (arith, ints, k.south)) in
     record { at = record { column = ex; row = ey }; column = omega (arith, ints, ex, k.east, s.wide); row = omega (arith, ints, ey, k.north, s.high) }
 
 -- the cell on the high side of a face at the end of a row or a column is beyond the box

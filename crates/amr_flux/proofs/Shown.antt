@@ -10,17 +10,19 @@ use Rattle.amr_box.specs.declared.Face.{Face}
 use Rattle.amr_box.specs.declared.Axis.{Axis}
 use Rattle.amr_box.specs.declared.Axis.TheVariants.{X, Y}
 use Rattle.amr_box.specs.Cells.{Extent, at_least_zero, cell, extent, height, holds, width, within}
-use Rattle.amr_box.proofs.Tests.{and_either}
+use Rattle.amr_box.proofs.Tests.{and_either, opposite}
+use Rattle.amr_box.proofs.Numbers.{is_between}
 use Rattle.amr_def.specs.declared.problem.Problem.{Problem}
 use Rattle.amr_def.specs.State.{Masses}
 use Rattle.amr_def.specs.Flux.{Fluxes, face, flux_at, high_cell, low_cell, net}
+use Rattle.amr_def.proofs.Uncovered.{same_face}
 use Rattle.amr_patch.specs.declared.patches.Patch.{Patch}
 use Rattle.amr_patch.specs.Places.{grown, is_face_of}
-use Rattle.amr_patch.proofs.Rows.{inside, is_between, is_inside, sides}
+use Rattle.amr_patch.proofs.Rows.{inside, is_inside, sides}
 use Rattle.amr_flux.specs.Faces.{ShowsValues, border_faces, border_place, flux_beside, in_reach, is_border, passing, x_end, y_end}
 use Rattle.amr_flux.proofs.Steps.{flow_of}
 use Rattle.amr_flux.proofs.Places.{around, IsXFace, IsYFace, offset, x_face_at, y_face_at}
-use Rattle.amr_flux.proofs.Given.{same_face, x_inner, y_inner}
+use Rattle.amr_flux.proofs.Given.{x_inner, y_inner}
 
 -- ---- fluxes
 
@@ -122,9 +124,6 @@ face_of false b m e = cc
 pub border_of_box : (q : Patch) (f : Face) → is_border q f ≡ true → is_face_of q.bx f ≡ true
 unfolding is_border
 border_of_box q f e = face_of (is_face_of q.bx f) (holds q.bx (high_cell f)) _ e
-
-opposite : {b : Bool} → b ≡ true → b ≡ false → ⊥
-opposite e f = let wrong : true ≡ false = sym e ∙ f in cc
 
 -- the entry that is handed in for a border face stands where the list of border faces has the face
 pub record HasPlace (q : Patch) (f : Face) : Type 0 where

@@ -1,5 +1,5 @@
 -- What a sweep's lists say of the faces on a patch's edges.
-use Rattle.std.proofs.Common.{◌≡◌, Bool, ℕ, ◌+◌, ◌<◌, ◌≤◌, ◌⊎◌, inl, inr, true, false, ℤ, pos, ◌+ℤ◌, sym, ap, subst, ◌∙◌, arith}
+use Rattle.std.proofs.Common.{◌≡◌, ℕ, ◌+◌, ◌<◌, ◌≤◌, ◌⊎◌, inl, inr, true, false, ℤ, pos, ◌+ℤ◌, sym, ap, subst, ◌∙◌, arith}
 use Rattle.std.specs.Prelude.{IsTrue, slice_index_or}
 use Rattle.std.proofs.lemmas.Int.{ints}
 use Rattle.std.proofs.lemmas.Bool.{cases_lt}
@@ -7,6 +7,7 @@ use Rattle.amr_box.specs.declared.Face.{Face}
 use Rattle.amr_box.specs.declared.Axis.{Axis}
 use Rattle.amr_box.specs.declared.Axis.TheVariants.{X, Y}
 use Rattle.amr_box.specs.Cells.{Extent, IsNear, cell, extent, height, width}
+use Rattle.amr_box.proofs.Tests.{opposite}
 use Rattle.amr_def.specs.declared.problem.Problem.{Problem}
 use Rattle.amr_def.specs.Flux.{face}
 use Rattle.amr_patch.specs.declared.patches.Patch.{Patch}
@@ -20,9 +21,6 @@ use Rattle.amr_flux.proofs.Places.{IsFaceAt, IsXFace, IsYFace, high_at, mark_her
 use Rattle.amr_flux.proofs.Owned.{x_beside, y_beside}
 use Rattle.amr_flux.proofs.Given.{x_border, x_inner, y_border, y_inner}
 use Rattle.amr_flux.proofs.Shown.{border_of_box}
-
-opposite : {b : Bool} → b ≡ true → b ≡ false → ⊥
-opposite e f = let wrong : true ≡ false = sym e ∙ f in cc
 
 -- a face at an end of a row or a column has the entry of its edge
 module _ (p : Problem) (l : ℕ) (q new : Patch) (column row : ℕ) (s : Stands p l q.bx column row) (same : new.bx ≡ q.bx) where

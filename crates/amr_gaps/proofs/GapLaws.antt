@@ -1,5 +1,5 @@
 -- From a cell that no patch has up to where the next column and the next row of patches start, no patch has any.
-use Rattle.std.proofs.Common.{◌≡◌, ◌∙◌, ℕ, zero, suc, ◌+◌, ◌-◌, ◌<◌, ◌≤◌, ◌⊎◌, inl, inr, Bool, true, false, ℤ, pos, ◌+ℤ◌, ◌≤ℤ◌, ◌<ℤ◌, List, [], ◌∷◌, ◌++◌, length, map, take, sym, ap, subst, arith}
+use Rattle.std.proofs.Common.{◌≡◌, ◌∙◌, ℕ, zero, suc, ◌+◌, ◌-◌, ◌<◌, ◌≤◌, ◌⊎◌, inl, inr, true, false, ℤ, pos, ◌+ℤ◌, ◌≤ℤ◌, ◌<ℤ◌, List, [], ◌∷◌, ◌++◌, length, map, take, sym, ap, subst, arith}
 use Rattle.std.specs.Prelude.{int_le, slice_index_or, Contains, IfSome}
 use Rattle.std.specs.List.{All}
 use Rattle.std.specs.List.Sorted.{IsPartitionPoint, IsPartitionedBy, IsPermutation, IsSorted}
@@ -17,20 +17,14 @@ use Rattle.std.proofs.lemmas.List.Elements.{All-contains}
 use Rattle.std.proofs.lemmas.List.Folds.{Any-from_list_any, list_any_at}
 use Rattle.amr_box.specs.declared.Cell.{Cell}
 use Rattle.amr_box.specs.Cells.{Extent, cell, extent, holds}
+use Rattle.amr_box.proofs.Boxes.{int_le-yes}
+use Rattle.amr_box.proofs.Numbers.{above_from, le_from}
+use Rattle.amr_box.proofs.Tests.{opposite}
 use Rattle.amr_patch.specs.declared.patches.Patch.{Patch}
 use Rattle.amr_patch.specs.Patches.{box, in_patches}
 use Rattle.amr_patch.proofs.Rows.{inside, is_inside}
 use Rattle.amr_gaps.specs.declared.gaps.Starts.{Starts}
 use Rattle.amr_gaps.specs.Gaps.{Ascends, HasStarts, IsGap}
-
-le_is : (a b : ℤ) → int_le a b ≡ true → a ≤ℤ b
-le_is a b h = grind (arith, ints)
-
-is_le : (a b : ℤ) → a ≤ℤ b → int_le a b ≡ true
-is_le a b h = grind (arith, ints)
-
-above_is : (a b : ℤ) → int_le a b ≡ false → b <ℤ a
-above_is a b h = grind (arith, ints)
 
 pub parted : (zs : List ℤ) (z : ℤ) → Ascends zs → IsPartitionedBy (λ s. int_le s z) zs
 parted zs z up i j d le lt h = by_place (cases_eq i j)
@@ -39,8 +33,8 @@ parted zs z up i j d le lt h = by_place (cases_eq i j)
     by_place (inl e) = ap (λ (n : ℕ). int_le (slice_index_or zs n d) z) e ∙ h
     by_place (inr ne) =
         let below : slice_index_or zs i d ≤ℤ slice_index_or zs j d = up i j d (omega arith) lt in
-        let most : slice_index_or zs j d ≤ℤ z = le_is (slice_index_or zs j d) z h in
-        is_le (slice_index_or zs i d) z (omega (arith, ints, below, most))
+        let most : slice_index_or zs j d ≤ℤ z = le_from (slice_index_or zs j d) z h in
+        int_le-yes (slice_index_or zs i d) z (omega (arith, ints, below, most))
 
 -- each of the numbers is at most z or above `last`
 abbrev AreNone : ℤ → ℤ → List ℤ → Type 0
@@ -48,27 +42,24 @@ AreNone z last zs = All (λ s. (s ≤ℤ z) ⊎ (last <ℤ s)) zs
 
 module _ (zs : List ℤ) (z : ℤ) (k : ℕ) (parts : IsPartitionPoint (λ s. int_le s z ≡ true) (λ s. int_le s z ≡ false) zs k) where
   pub none_above : (last : ℤ) → k ≡ length zs → AreNone z last zs
-  none_above last e j d lt = inl (le_is (slice_index_or zs j d) z (parts.0 j d (omega arith) (omega (arith, e, lt))))
+  none_above last e j d lt = inl (le_from (slice_index_or zs j d) z (parts.0 j d (omega arith) (omega (arith, e, lt))))
 
   module _ (next : ℤ) (up : Ascends zs) (there : k < length zs) (at : next ≡ slice_index_or zs k next) where
     at_any : (d : ℤ) → slice_index_or zs k d ≡ next
     at_any d = get_or_default zs k d next there ∙ sym at
 
     pub next_above : z <ℤ next
-    next_above = let h : z <ℤ slice_index_or zs k next = above_is (slice_index_or zs k next) z (parts.1 k next (omega arith) there) in omega (arith, ints, h, at)
+    next_above = let h : z <ℤ slice_index_or zs k next = above_from (slice_index_or zs k next) z (parts.1 k next (omega arith) there) in omega (arith, ints, h, at)
 
     pub none_between : (last : ℤ) → last +ℤ pos 1 ≡ next → AreNone z last zs
     none_between last e j d lt = by_place (cases_lt j k) (cases_eq j k)
       where
         by_place : (j < k) ⊎ (k ≤ j) → (j ≡ k) ⊎ (j ≡ k → ⊥) → (slice_index_or zs j d ≤ℤ z) ⊎ (last <ℤ slice_index_or zs j d)
-        by_place (inl below) other = inl (le_is (slice_index_or zs j d) z (parts.0 j d (omega arith) below))
+        by_place (inl below) other = inl (le_from (slice_index_or zs j d) z (parts.0 j d (omega arith) below))
         by_place (inr past) (inl same) = inr (let h : slice_index_or zs j d ≡ next = ap (λ (n : ℕ). slice_index_or zs n d) same ∙ at_any d in omega (arith, ints, h, e))
         by_place (inr past) (inr ne) = inr (let h : slice_index_or zs k d ≤ℤ slice_index_or zs j d = up k j d (omega arith) lt in omega (arith, ints, h, at_any d, e))
 
 -- ---- gaps
-
-clash : {t : Bool} → t ≡ true → t ≡ false → ⊥
-clash e f = let wrong : true ≡ false = sym e ∙ f in cc
 
 pub gap_is : (ps : List Patch) (s : Starts) (c : Cell) (x y : ℤ) → HasStarts ps s → in_patches ps c ≡ false → AreNone c.x x s.columns.items → AreNone c.y y s.rows.items → (k : Cell) → holds (extent c (cell x y)) k ≡ true → in_patches ps k ≡ false
 gap_is ps s c x y starts none columns rows k h = false_from_ne_true (in_patches ps k) (λ t.
@@ -81,7 +72,7 @@ gap_is ps s c x y starts none columns rows k h = false_from_ne_true (in_patches 
     let left = from (box q).lo.x c.x x k.x (All-contains (λ (z : ℤ). (z ≤ℤ c.x) ⊎ (x <ℤ z)) s.columns.items (box q).lo.x columns begins.0) i.west g.east in
     let low = from (box q).lo.y c.y y k.y (All-contains (λ (z : ℤ). (z ≤ℤ c.y) ⊎ (y <ℤ z)) s.rows.items (box q).lo.y rows begins.1) i.south g.north in
     let there : holds (box q) c ≡ true = is_inside (box q) c (record { west = left; east = omega (arith, ints, i.east, g.west); south = low; north = omega (arith, ints, i.north, g.south) }) in
-    clash (list_any_at (λ (r : Patch). holds (box r) c) ps one.0 one.1 one.2 there) none)
+    opposite (list_any_at (λ (r : Patch). holds (box r) c) ps one.0 one.1 one.2 there) none)
   where
     from : (low z last at : ℤ) → (low ≤ℤ z) ⊎ (last <ℤ low) → low ≤ℤ at → at ≤ℤ last → low ≤ℤ z
     from low z last at (inl h) a b = h

@@ -10,6 +10,7 @@ use Rattle.amr_box.specs.declared.Cell.{Cell}
 use Rattle.amr_box.specs.declared.Axis.{Axis}
 use Rattle.amr_box.specs.declared.Axis.TheVariants.{X, Y}
 use Rattle.amr_box.specs.Cells.{Extent, along, holds, parent}
+use Rattle.amr_box.proofs.Tests.{opposite}
 use Rattle.amr_def.specs.declared.problem.Problem.{Problem}
 use Rattle.amr_def.specs.Domain.{Domain, columns, domain, home_cell, in_domain, is_inside}
 use Rattle.amr_def.specs.State.{Masses, mass_of}
@@ -45,9 +46,6 @@ in_both : (d : Domain) (h : Cell) → IsTrue (is_inside d.columns h.x) → IsTru
 unfolding in_domain
 in_both d h x y = rw (x, y) refl
 
-clash : {t : Bool} → t ≡ true → t ≡ false → ⊥
-clash e f = let wrong : true ≡ false = sym e ∙ f in cc
-
 -- beside an open side all lie outside of that side
 inflow_ahead : (p : Problem) (l : ℕ) (axis : Axis) (h : Cell) (k : ℕ) → IsTrue (is_inside (size_along axis (domain p l)) (along axis h)) → IsTrue (is_inside (size_along axis (domain p l)) (along axis h +ℤ pos k)) → in_domain (domain p l) h ≡ false → inflow_at p l (step axis h k) ≡ inflow_at p l h
 inflow_ahead p l X h k first here out = by_row (below_or_not h.y (pos 0))
@@ -63,7 +61,7 @@ inflow_ahead p l Y h k first here out = by_column (below_or_not h.x (pos 0)) (be
     by_column : (h.x <ℤ pos 0) ⊎ (pos 0 ≤ℤ h.x) → (h.x <ℤ pos (columns p l)) ⊎ (pos (columns p l) ≤ℤ h.x) → inflow_at p l (step Y h k) ≡ inflow_at p l h
     by_column (inl below) other = west_inflow p l (step Y h k) below ∙ sym (west_inflow p l h below)
     by_column (inr from) (inr above) = east_inflow p l (step Y h k) from above ∙ sym (east_inflow p l h from above)
-    by_column (inr from) (inl to) = absurd (clash (in_both (domain p l) h (inside_of (columns p l) h.x from to) first) out)
+    by_column (inr from) (inl to) = absurd (opposite (in_both (domain p l) h (inside_of (columns p l) h.x from to) first) out)
 
 module _ (p : Problem) (l : ℕ) (ps : List Patch) (old : Masses) (b : Extent) (axis : Axis) (c h : Cell) (count : ℕ) (home : h ≡ home_cell (domain p l) c) (some : 0 < count) (strip : IsGhostStrip (domain p l) b axis c count) where
   home_is : (k : ℕ) → k < count → step axis h k ≡ home_cell (domain p l) (step axis c k)
@@ -94,7 +92,7 @@ module _ (p : Problem) (l : ℕ) (ps : List Patch) (old : Masses) (b : Extent) (
   }
     where
       none : (k : ℕ) → k < count → masses_in ps (step axis h k) ≡ None
-      none k t = masses_in-none ps (step axis h k) (false_from_ne_true (in_patches ps (step axis h k)) (λ held. clash (inside (step axis h k) held) (same_domain k t ∙ out)))
+      none k t = masses_in-none ps (step axis h k) (false_from_ne_true (in_patches ps (step axis h k)) (λ held. opposite (inside (step axis h k) held) (same_domain k t ∙ out)))
 
       value : (k : ℕ) → k < count → v ≡ cond (in_domain (domain p l) (step axis h k)) (mass_of old (parent (step axis h k)) / 4) (inflow_at p l (step axis h k) / 4 ^ l)
       value k t =

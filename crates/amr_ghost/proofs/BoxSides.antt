@@ -9,6 +9,7 @@ use Rattle.amr_box.proofs.Boxes.{int_le-no, int_le-yes}
 use Rattle.amr_box.specs.declared.Cell.{Cell}
 use Rattle.amr_box.specs.declared.Axis.{Axis}
 use Rattle.amr_box.specs.Cells.{Extent, IsNear, along, at_least_zero, cell, holds, within}
+use Rattle.amr_box.proofs.CellLists.{in_range}
 use Rattle.amr_def.specs.Domain.{Domain, in_domain, is_inside}
 use Rattle.amr_patch.specs.declared.patches.Patch.{Patch}
 use Rattle.amr_patch.specs.Places.{grown, in_frame}
@@ -108,9 +109,6 @@ in_a_column : (f a e : Bool) → IsTrue f → a ≡ true → IsTrue (f && (a || 
 in_a_column true true e h k = refl
 in_a_column true false e h k = absurd (cc)
 in_a_column false a e h k = absurd (cc)
-
-in_range : (low high : ℤ) (k : ℕ) → k < at_least_zero (high +ℤ pos 1 -ℤ low) → within low high (low +ℤ pos k) ≡ true
-in_range low high k t = let top = counted low high k t in rw (int_le-yes low (low +ℤ pos k) (omega (arith, ints)), int_le-yes (low +ℤ pos k) high top)
 
 -- and shares a face with a cell of the box
 side_beside : (b : Extent) (side : Side) (k : ℕ) → b.lo.x ≤ℤ b.hi.x → b.lo.y ≤ℤ b.hi.y → k < side_count b side → IsTrue (is_beside b (step (side_axis side) (side_from b side) k))

@@ -1,5 +1,5 @@
 -- The inflow of the side that a cell lies outside of, side by side.
-use Rattle.std.proofs.Common.{◌≡◌, ℕ, zero, suc, ◌*◌, ◌/◌, ◌^◌, ◌≤◌, true, false, ℤ, pos, ◌≤ℤ◌, ◌<ℤ◌, refl, ap, arith, ◌<◌}
+use Rattle.std.proofs.Common.{◌≡◌, ℕ, zero, suc, ◌*◌, ◌/◌, ◌^◌, ◌≤◌, true, false, ℤ, pos, ◌≤ℤ◌, ◌<ℤ◌, ap, arith, ◌<◌}
 use Rattle.std.specs.Prelude.{int_lt}
 use Rattle.std.proofs.lemmas.Int.{ints}
 use Rattle.amr_box.proofs.Boxes.{int_le-no, int_le-yes}
@@ -8,6 +8,7 @@ use Rattle.amr_def.specs.declared.problem.Problem.{Problem}
 use Rattle.amr_def.specs.Domain.{columns}
 use Rattle.amr_def.proofs.Stepping.{cond_within, high_within, low_within}
 use Rattle.amr_def.specs.Value.{high_inflow, inflow_at, low_inflow}
+use Rattle.amr_def.proofs.Courants.{four_power}
 
 pub int_lt-yes : (a b : ℤ) → a <ℤ b → int_lt a b ≡ true
 int_lt-yes a b h = grind (arith, ints)
@@ -30,15 +31,6 @@ south_inflow p l c from to south = rw (int_lt-no c.x (pos 0) from, int_le-no (po
 pub north_inflow : (p : Problem) (l : ℕ) (c : Cell) → pos 0 ≤ℤ c.x → c.x <ℤ pos (columns p l) → pos 0 ≤ℤ c.y → inflow_at p l c ≡ high_inflow p.y_sides
 unfolding inflow_at
 north_inflow p l c from to up = rw (int_lt-no c.x (pos 0) from, int_le-no (pos (columns p l)) c.x to, int_lt-no c.y (pos 0) up)
-
--- a shift by two places a level divides by four a level
-four_power : (l : ℕ) → l ≤ 4 → 2 ^ (2 * l) ≡ 4 ^ l
-four_power zero h = refl
-four_power (suc zero) h = refl
-four_power (suc (suc zero)) h = refl
-four_power (suc (suc (suc zero))) h = refl
-four_power (suc (suc (suc (suc zero)))) h = refl
-four_power (suc (suc (suc (suc (suc l))))) h = absurd (omega arith)
 
 pub shift_is : (g l : ℕ) → l ≤ 4 → g / 2 ^ (2 * l) ≡ g / 4 ^ l
 shift_is g l h = ap (λ (d : ℕ). g / d) (four_power l h)

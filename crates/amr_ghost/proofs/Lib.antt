@@ -12,3 +12,4 @@ pub mod Levels
 pub mod PlannedSpans
 pub mod PlanLaws
 pub mod Reach
+pub mod Inside

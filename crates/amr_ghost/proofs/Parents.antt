@@ -7,15 +7,12 @@ use Rattle.amr_box.specs.declared.Axis.TheVariants.{X, Y}
 use Rattle.amr_box.specs.Cells.{Extent, along, cell, half, holds, parent}
 use Rattle.amr_def.specs.Regrid.{odd}
 use Rattle.amr_def.proofs.Nests.{half_and_odd}
-use Rattle.amr_def.proofs.Nesting.{odd_small}
+use Rattle.amr_def.proofs.Nesting.{half_ahead, odd_small}
 use Rattle.amr_patch.specs.declared.patches.Patch.{Patch}
 use Rattle.amr_patch.specs.Places.{place}
 use Rattle.amr_patch.specs.Patches.{box}
 use Rattle.amr_ghost.specs.Strips.{step}
 use Rattle.amr_ghost.proofs.Homes.{held_ahead}
-
-half_ahead : (z : ℤ) (k : ℕ) → half (z +ℤ pos k) ≡ half z +ℤ pos ((odd z + k) / 2)
-half_ahead z k = omega (arith, ints, half_and_odd z, half_and_odd (z +ℤ pos k), odd_small z, odd_small (z +ℤ pos k))
 
 -- two cells of a strip have one parent
 pub parent_ahead : (axis : Axis) (c : Cell) (k : ℕ) → parent (step axis c k) ≡ step axis (parent c) ((odd (along axis c) + k) / 2)

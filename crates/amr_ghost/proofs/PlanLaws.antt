@@ -1,5 +1,5 @@
 -- A plan of frames goes by boxes: it serves all patches with the same ones.
-use Rattle.std.proofs.Common.{◌≡◌, ◌∙◌, ℕ, ◌<◌, ◌||◌, List, [], ◌∷◌, length, get_or, map, IsTrue, refl, sym, ap, subst}
+use Rattle.std.proofs.Common.{◌≡◌, ◌∙◌, ℕ, ◌<◌, List, length, get_or, map, IsTrue, sym, ap, subst}
 use Rattle.std.proofs.Math.ListN.{get_or-map}
 use Rattle.std.proofs.lemmas.List.{length-map}
 use Rattle.amr_box.specs.declared.Cell.{Cell}
@@ -8,6 +8,7 @@ use Rattle.amr_def.specs.Domain.{Domain}
 use Rattle.amr_def.specs.State.{in_boxes}
 use Rattle.amr_patch.specs.declared.patches.Patch.{Patch}
 use Rattle.amr_patch.specs.Patches.{box, in_patches}
+use Rattle.amr_patch.proofs.SameBoxes.{in_mapped}
 use Rattle.amr_ghost.specs.Strips.{step}
 use Rattle.amr_ghost.specs.Frames.{is_beside}
 use Rattle.amr_ghost.specs.Filling.{IsGhostStrip}
@@ -17,10 +18,6 @@ use Rattle.amr_ghost.specs.declared.sources.Source.{Source}
 use Rattle.amr_ghost.specs.declared.sources.Source.TheVariants.{Beside, Coarser, Outside}
 use Rattle.amr_ghost.specs.declared.sources.Span.{Span}
 use Rattle.amr_ghost.specs.declared.plan.FramePlan.{FramePlan}
-
-in_mapped : (ps : List Patch) (c : Cell) → in_patches ps c ≡ in_boxes (map box ps) c
-in_mapped [] c = refl
-in_mapped (q ∷ qs) c = ap (λ b. holds (box q) c || b) (in_mapped qs c)
 
 module _ (d : Domain) (ps qs : List Patch) (boxes : map box ps ≡ map box qs) where
   same_count : length ps ≡ length qs

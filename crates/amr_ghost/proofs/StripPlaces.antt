@@ -7,11 +7,12 @@ use Rattle.std.specs.List.{AllZip}
 use Rattle.amr_box.specs.declared.Cell.{Cell}
 use Rattle.amr_box.specs.declared.Axis.TheVariants.{X, Y}
 use Rattle.amr_box.specs.Cells.{Extent, IsNear, at_least_zero, cell, height, holds, width}
+use Rattle.amr_box.proofs.Numbers.{at_least_zero-same}
 use Rattle.amr_patch.specs.declared.patches.Patch.{Patch}
 use Rattle.amr_patch.specs.Places.{grown, place}
 use Rattle.amr_patch.specs.Patches.{box, value_in}
 use Rattle.amr_patch.proofs.Rows.{inside, place_within, sides, zero-cut}
-use Rattle.amr_patch.proofs.Entries.{along_row, below, whole}
+use Rattle.amr_patch.proofs.Entries.{along_row, below}
 use Rattle.amr_ghost.specs.Strips.{step}
 use Rattle.amr_ghost.specs.Filling.{KeepsCells}
 use Rattle.amr_ghost.proofs.Zips.{zip_box}
@@ -43,7 +44,7 @@ pub along_y : (b : Extent) (c : Cell) (first stride k : ℕ) → IsTrue (holds (
 unfolding place
 along_y b c first stride k h e f =
     let i = inside (grown b) c h in
-    let row : pos (at_least_zero (c.y +ℤ pos 1 -ℤ b.lo.y)) ≡ c.y +ℤ pos 1 -ℤ b.lo.y = whole (c.y +ℤ pos 1 -ℤ b.lo.y) (omega (arith, ints, i.south)) in
+    let row : pos (at_least_zero (c.y +ℤ pos 1 -ℤ b.lo.y)) ≡ c.y +ℤ pos 1 -ℤ b.lo.y = at_least_zero-same (c.y +ℤ pos 1 -ℤ b.lo.y) (omega (arith, ints, i.south)) in
     let later : at_least_zero (c.y +ℤ pos k +ℤ pos 1 -ℤ b.lo.y) ≡ at_least_zero (c.y +ℤ pos 1 -ℤ b.lo.y) + k = zero-cut (c.y +ℤ pos k +ℤ pos 1 -ℤ b.lo.y) (at_least_zero (c.y +ℤ pos 1 -ℤ b.lo.y) + k) (omega (arith, ints, row)) in
     rw (e, f, later) (sym (further_row (at_least_zero (c.y +ℤ pos 1 -ℤ b.lo.y)) k (width b + 2) (at_least_zero (c.x +ℤ pos 1 -ℤ b.lo.x))))
 

@@ -70,7 +70,7 @@ zip_apart ps qs h apart = λ i j d below there c a b.
     let high : j < length ps = omega arith in
     apart i j d below high c (subst (λ (t : Extent). IsTrue (holds t c)) (zip_box ps qs i d d h low) a) (subst (λ (t : Extent). IsTrue (holds t c)) (zip_box ps qs j d d h high) b)
 
-mass_cases : (t : Bool) (a b : ℕ) (x y : Option ℕ) → (t ≡ true → b ≡ a) → y ≡ x → cond t (Some b) y ≡ cond t (Some a) x
+pub mass_cases : (t : Bool) (a b : ℕ) (x y : Option ℕ) → (t ≡ true → b ≡ a) → y ≡ x → cond t (Some b) y ≡ cond t (Some a) x
 mass_cases true a b x y e f = ap Some (e refl)
 mass_cases false a b x y e f = f
 

@@ -1,5 +1,5 @@
 -- Blocks of cells: boxes refined, and the block that a cell lies in.
-use Rattle.std.proofs.Common.{◌≡◌, ℕ, suc, ◌+◌, ◌*◌, ◌/◌, ◌<◌, Bool, ◌&&◌, ◌||◌, ◌⊎◌, inl, inr, ℤ, pos, negsuc, ◌+ℤ◌, ◌-ℤ◌, ◌*ℤ◌, refl, sym, ap, subst, ◌∙◌, arith, List, [], ◌∷◌, map}
+use Rattle.std.proofs.Common.{◌≡◌, ℕ, suc, ◌+◌, ◌*◌, ◌/◌, ◌<◌, Bool, ◌&&◌, ◌⊎◌, inl, inr, ℤ, pos, negsuc, ◌+ℤ◌, ◌-ℤ◌, ◌*ℤ◌, refl, sym, ap, subst, ◌∙◌, arith, List, [], ◌∷◌, map}
 use Rattle.std.specs.Int.{int_div_euclid, int_rem_euclid}
 use Rattle.std.proofs.lemmas.Int.{ints, int_rem_euclid_is}
 use Rattle.std.proofs.Math.Nat.{mul-mod_right, zero-mod}
@@ -8,6 +8,7 @@ use Rattle.amr_box.specs.Cells.{cell, half, parent, Extent, holds, within}
 use Rattle.amr_def.specs.Domain.{refined}
 use Rattle.amr_def.specs.State.{in_boxes}
 use Rattle.amr_def.specs.Facts.{IsAligned}
+use Rattle.amr_def.proofs.Nests.{or_same}
 
 -- the sides that blocks may have
 abbrev pub IsSide : ℕ → Type 0
@@ -46,9 +47,6 @@ within_refined n (inr (inr (inr e))) lo hi z = subst (λ k. within (pos k *ℤ l
 
 both_same : {a b c d : Bool} → a ≡ b → c ≡ d → (a && c) ≡ (b && d)
 both_same e f i = e i && f i
-
-or_same : {a b c d : Bool} → a ≡ b → c ≡ d → (a || c) ≡ (b || d)
-or_same e f i = e i || f i
 
 pub holds-refined : (n : ℕ) → IsSide n → (b : Extent) (c : Cell) → holds (refined n b) c ≡ holds b (block_of n c)
 holds-refined n side b c = both_same (within_refined n side b.lo.x b.hi.x c.x) (within_refined n side b.lo.y b.hi.y c.y)

@@ -3,7 +3,7 @@ use Rattle.std.proofs.Common.{◌≡◌, ℕ, zero, suc, ◌+◌, ◌-◌, ◌<�
 use Rattle.std.proofs.lemmas.Int.{ints}
 use Rattle.amr_box.specs.declared.Cell.{Cell}
 use Rattle.amr_box.specs.declared.Axis.TheVariants.{X, Y}
-use Rattle.amr_box.specs.Cells.{cell}
+use Rattle.amr_box.specs.Cells.{at_least_zero, cell}
 use Rattle.amr_box.proofs.CellEquality.{same_cell}
 use Rattle.amr_def.specs.declared.problem.Problem.{Problem}
 use Rattle.amr_def.specs.declared.problem.Row.{Row}
@@ -13,7 +13,7 @@ use Rattle.amr_def.specs.Domain.{columns, rows}
 use Rattle.amr_def.specs.State.{Level, Masses, State, no_masses}
 use Rattle.amr_def.specs.Flux.{Fluxes, face, flux_at}
 use Rattle.amr_def.specs.LevelStep.{at_top, effective, no_fluxes, over_finer, step_within}
-use Rattle.amr_def.specs.Ledger.{above_zero, below_zero, if_open, inflow, outflow, sum_to, x_through, y_through}
+use Rattle.amr_def.specs.Ledger.{below_zero, if_open, inflow, outflow, sum_to, x_through, y_through}
 use Rattle.amr_def.specs.Laws.{step_fluxes}
 use Rattle.amr_def.specs.Facts.{IsSound}
 use Rattle.amr_def.proofs.LevelLists.{IsInside, IsNest, IsWhole, Nested, Synced}
@@ -98,7 +98,7 @@ module _ (p : Problem) where
 
   no_inflow : (l : ℕ) (counts : Cell → Bool) → inflow_beside p l counts no_fluxes ≡ 0
   unfolding inflow_beside
-  no_inflow l counts = omega (arith, no_open p.x_sides _ (none_x l counts above_zero below_zero refl refl), no_open p.y_sides _ (none_y l counts above_zero below_zero refl refl))
+  no_inflow l counts = omega (arith, no_open p.x_sides _ (none_x l counts at_least_zero below_zero refl refl), no_open p.y_sides _ (none_y l counts at_least_zero below_zero refl refl))
 
   inflow_of_parts : IsOfParts p (inflow_beside p)
   inflow_of_parts = record {
@@ -108,7 +108,7 @@ module _ (p : Problem) where
 
   no_outflow : (l : ℕ) (counts : Cell → Bool) → outflow_beside p l counts no_fluxes ≡ 0
   unfolding outflow_beside
-  no_outflow l counts = omega (arith, no_open p.x_sides _ (none_x l counts below_zero above_zero refl refl), no_open p.y_sides _ (none_y l counts below_zero above_zero refl refl))
+  no_outflow l counts = omega (arith, no_open p.x_sides _ (none_x l counts below_zero at_least_zero refl refl), no_open p.y_sides _ (none_y l counts below_zero at_least_zero refl refl))
 
   outflow_of_parts : IsOfParts p (outflow_beside p)
   outflow_of_parts = record {
@@ -153,11 +153,11 @@ module _ (p : Problem) (m : Masses) (all : IsWhole p m) (e : Fluxes) where
 
   inflow_whole : inflow p e ≡ inflow_beside p 0 (λ c. is_some (m c)) e
   unfolding inflow inflow_beside
-  inflow_whole = sym (λ i. if_open p.x_sides (x_whole above_zero below_zero i) + if_open p.y_sides (y_whole above_zero below_zero i))
+  inflow_whole = sym (λ i. if_open p.x_sides (x_whole at_least_zero below_zero i) + if_open p.y_sides (y_whole at_least_zero below_zero i))
 
   outflow_whole : outflow p e ≡ outflow_beside p 0 (λ c. is_some (m c)) e
   unfolding outflow outflow_beside
-  outflow_whole = sym (λ i. if_open p.x_sides (x_whole below_zero above_zero i) + if_open p.y_sides (y_whole below_zero above_zero i))
+  outflow_whole = sym (λ i. if_open p.x_sides (x_whole below_zero at_least_zero i) + if_open p.y_sides (y_whole below_zero at_least_zero i))
 
 -- ---- the step from a sound state
 

@@ -96,7 +96,7 @@ some_within west east south north (b ∷ bs) c w e s n h = choose (holds b c) re
         record { from_west = x.0; to_east = x.1; from_south = y.0; to_north = y.1 }
     choose false is h rest = rest h
 
-box_axis : (n : ℕ) (z : ℤ) → within (pos 0) (pos n -ℤ pos 1) z ≡ true → (pos 0 ≤ℤ z) × (z <ℤ pos n)
+pub box_axis : (n : ℕ) (z : ℤ) → within (pos 0) (pos n -ℤ pos 1) z ≡ true → (pos 0 ≤ℤ z) × (z <ℤ pos n)
 box_axis n z h = grind (arith, ints)
 
 axis_box : (n : ℕ) (z : ℤ) → pos 0 ≤ℤ z → z <ℤ pos n → within (pos 0) (pos n -ℤ pos 1) z ≡ true

@@ -8,9 +8,8 @@ use Rattle.std.proofs.lemmas.Int.{ints}
 use Rattle.std.proofs.lemmas.Bool.{false_from_ne_true}
 use Rattle.amr_box.specs.declared.Cell.{Cell}
 use Rattle.amr_box.specs.declared.Face.{Face}
-use Rattle.amr_box.specs.declared.Axis.{Axis}
 use Rattle.amr_box.specs.declared.Axis.TheVariants.{X, Y}
-use Rattle.amr_box.specs.Cells.{cell}
+use Rattle.amr_box.specs.Cells.{at_least_zero, cell}
 use Rattle.amr_box.proofs.CellEquality.{same_cell}
 use Rattle.amr_def.specs.declared.problem.Problem.{Problem}
 use Rattle.amr_def.specs.declared.problem.Sides.{Sides}
@@ -19,11 +18,11 @@ use Rattle.amr_def.specs.Domain.{columns, rows, domain, home_cell, is_periodic, 
 use Rattle.amr_def.specs.State.{Masses, is_covered}
 use Rattle.amr_def.specs.Flux.{Fluxes, courant, face, flux_at, high_cell, low_cell}
 use Rattle.amr_def.specs.LevelStep.{effective, through_children}
-use Rattle.amr_def.specs.Ledger.{above_zero, below_zero, if_open, sum_to}
+use Rattle.amr_def.specs.Ledger.{below_zero, if_open, sum_to}
 use Rattle.amr_def.proofs.LevelLists.{IsCellInside, IsInside, IsNest, child_0, child_1, child_2, child_3}
 use Rattle.amr_def.proofs.Courants.{courant_x_first, courant_x_second, courant_y_first, courant_y_second, twice_as_many}
 use Rattle.amr_def.proofs.Subcycle.{bool_cases}
-use Rattle.amr_def.proofs.Uncovered.{HasNoChildren, home_at, no_children}
+use Rattle.amr_def.proofs.Uncovered.{HasNoChildren, home_at, no_children, same_face}
 use Rattle.amr_laws.specs.Sides.{inflow_beside, is_uncovered, outflow_beside, x_beside, y_beside}
 use Rattle.amr_laws.proofs.Signs.{AllSigned, IsAdditive, IsSigned, above_additive, below_additive, signed_at}
 
@@ -89,9 +88,6 @@ module _ (q : ℤ → ℕ) (add : IsAdditive q) where
 
 both_ends : (a b c d a' b' c' d' : ℕ) → a ≡ b + (c + d) → a' ≡ b' + (c' + d') → a + a' ≡ (b + b') + ((c + c') + (d + d'))
 both_ends a b c d a' b' c' d' h k = omega (arith, h, k)
-
-same_face : (a : Axis) {x x' y y' : ℤ} → x ≡ x' → y ≡ y' → face a x y ≡ face a x' y'
-same_face a ex ey i = face a (ex i) (ey i)
 
 module _ (p : Problem) (l : ℕ) (m old fine : Masses) (e1 e2 : Fluxes) (inside : IsInside p l m) (nest : IsNest p l m fine) (all1 : AllSigned p (suc l) e1) (all2 : AllSigned p (suc l) e2) where
   e : Fluxes
@@ -302,12 +298,12 @@ module _ (p : Problem) (l : ℕ) (m old fine : Masses) (e1 e2 : Fluxes) (inside 
         ≡ inflow_beside p l (is_uncovered m fine) (flux_at p l m old) + (inflow_beside p (suc l) (λ c. is_some (fine c)) e1 + inflow_beside p (suc l) (λ c. is_some (fine c)) e2)
     unfolding inflow_beside e plain
     inflow_parts = both_ends _ _ _ _ _ _ _ _
-        (if_open_parts p.x_sides _ _ _ _ (λ o. x_axis o some_x above_zero below_zero above_additive below_additive))
-        (if_open_parts p.y_sides _ _ _ _ (λ o. y_axis o some_y above_zero below_zero above_additive below_additive))
+        (if_open_parts p.x_sides _ _ _ _ (λ o. x_axis o some_x at_least_zero below_zero above_additive below_additive))
+        (if_open_parts p.y_sides _ _ _ _ (λ o. y_axis o some_y at_least_zero below_zero above_additive below_additive))
 
     pub outflow_parts : outflow_beside p l (λ c. is_some (m c)) (effective p l m old fine e1 e2)
         ≡ outflow_beside p l (is_uncovered m fine) (flux_at p l m old) + (outflow_beside p (suc l) (λ c. is_some (fine c)) e1 + outflow_beside p (suc l) (λ c. is_some (fine c)) e2)
     unfolding outflow_beside e plain
     outflow_parts = both_ends _ _ _ _ _ _ _ _
-        (if_open_parts p.x_sides _ _ _ _ (λ o. x_axis o some_x below_zero above_zero below_additive above_additive))
-        (if_open_parts p.y_sides _ _ _ _ (λ o. y_axis o some_y below_zero above_zero below_additive above_additive))
+        (if_open_parts p.x_sides _ _ _ _ (λ o. x_axis o some_x below_zero at_least_zero below_additive above_additive))
+        (if_open_parts p.y_sides _ _ _ _ (λ o. y_axis o some_y below_zero at_least_zero below_additive above_additive))

@@ -4,11 +4,12 @@ use Rattle.std.proofs.lemmas.Int.{ints}
 use Rattle.amr_box.specs.declared.Face.{Face}
 use Rattle.amr_box.specs.declared.Axis.{Axis}
 use Rattle.amr_box.specs.declared.Axis.TheVariants.{X, Y}
+use Rattle.amr_box.specs.Cells.{at_least_zero}
 use Rattle.amr_def.specs.declared.problem.Problem.{Problem}
 use Rattle.amr_def.specs.State.{Masses}
 use Rattle.amr_def.specs.Flux.{Fluxes, courant, face, flow, flux_at}
 use Rattle.amr_def.specs.LevelStep.{at_top, effective, over_finer, step_within, through_children}
-use Rattle.amr_def.specs.Ledger.{above_zero, below_zero}
+use Rattle.amr_def.specs.Ledger.{below_zero}
 use Rattle.amr_def.proofs.Courants.{courant_x_first, courant_x_second, courant_y_first, courant_y_second}
 use Rattle.amr_def.proofs.Uncovered.{cond_both}
 use Rattle.amr_def.proofs.Raise.{signed}
@@ -74,7 +75,7 @@ pub record IsAdditive (q : ℤ → ℕ) : Type 0 where
   pub four : (c : ℤ) (a b e f : ℕ) → q ((signed c a +ℤ signed c b) +ℤ (signed c e +ℤ signed c f)) ≡ (q (signed c a) + q (signed c b)) + (q (signed c e) + q (signed c f))
   pub none : q (pos 0) ≡ 0
 
-above_neg : (n : ℕ) → above_zero (neg_ℤ (pos n)) ≡ 0
+pub above_neg : (n : ℕ) → at_least_zero (neg_ℤ (pos n)) ≡ 0
 above_neg zero = refl
 above_neg (suc n) = refl
 
@@ -82,15 +83,15 @@ below_neg : (n : ℕ) → below_zero (neg_ℤ (pos n)) ≡ n
 below_neg zero = refl
 below_neg (suc n) = refl
 
-above_four : (c : ℤ) (a b e f : ℕ) → above_zero ((signed c a +ℤ signed c b) +ℤ (signed c e +ℤ signed c f)) ≡ (above_zero (signed c a) + above_zero (signed c b)) + (above_zero (signed c e) + above_zero (signed c f))
-above_four (pos k) a b e f = ap above_zero (signed_four (pos k) a b e f) ∙ omega arith
-above_four (negsuc k) a b e f = ap above_zero (signed_four (negsuc k) a b e f) ∙ omega (arith, above_neg (a + b + e + f), above_neg a, above_neg b, above_neg e, above_neg f)
+above_four : (c : ℤ) (a b e f : ℕ) → at_least_zero ((signed c a +ℤ signed c b) +ℤ (signed c e +ℤ signed c f)) ≡ (at_least_zero (signed c a) + at_least_zero (signed c b)) + (at_least_zero (signed c e) + at_least_zero (signed c f))
+above_four (pos k) a b e f = ap at_least_zero (signed_four (pos k) a b e f) ∙ omega arith
+above_four (negsuc k) a b e f = ap at_least_zero (signed_four (negsuc k) a b e f) ∙ omega (arith, above_neg (a + b + e + f), above_neg a, above_neg b, above_neg e, above_neg f)
 
 below_four : (c : ℤ) (a b e f : ℕ) → below_zero ((signed c a +ℤ signed c b) +ℤ (signed c e +ℤ signed c f)) ≡ (below_zero (signed c a) + below_zero (signed c b)) + (below_zero (signed c e) + below_zero (signed c f))
 below_four (pos k) a b e f = ap below_zero (signed_four (pos k) a b e f) ∙ omega arith
 below_four (negsuc k) a b e f = ap below_zero (signed_four (negsuc k) a b e f) ∙ omega (arith, below_neg (a + b + e + f), below_neg a, below_neg b, below_neg e, below_neg f)
 
-pub above_additive : IsAdditive above_zero
+pub above_additive : IsAdditive at_least_zero
 above_additive = record { four = above_four; none = refl }
 
 pub below_additive : IsAdditive below_zero

@@ -7,10 +7,6 @@ pub weight_some : (l : ℕ) → 0 < 4 ^ l
 weight_some zero = omega arith
 weight_some (suc l) = let e : 4 ^ suc l ≡ 4 ^ l * 4 = pow-suc 4 l in omega (arith, e, weight_some l)
 
--- what weighs at most b is at most b
-pub weighs : (l v b : ℕ) → 4 ^ l * v ≤ b → v ≤ b
-weighs l v b h = let more : 1 * v ≤ 4 ^ l * v = mul-le 1 v (4 ^ l) v (weight_some l) (omega arith) in omega (arith, more, h)
-
 -- of a Courant number and a value
 pub product_small : (n v : ℕ) → n ≤ 1024 → v < 2 ^ 31 → n * v < 2 ^ 42
 product_small n v h k = let fits : n * v ≤ 1024 * 2147483647 = mul-le n v 1024 2147483647 h (omega (arith, k)) in omega (arith, fits)

@@ -8,6 +8,7 @@ use Rattle.amr_def.specs.Flux.{courant, flux_at, net, updated}
 use Rattle.amr_def.specs.LevelStep.{at_top, step_within}
 use Rattle.amr_def.proofs.Examples.{at, box, edge_coarse, edge_fine, edge_state, edged}
 use Rattle.amr_def.proofs.Chain.{nth}
+use Rattle.amr_def.proofs.RegridRows.{eight}
 use Rattle.amr_laws.specs.Substeps.{IsSubstep, after_step}
 use Rattle.amr_laws.specs.Substeps.{second, whole}
 
@@ -38,9 +39,6 @@ both_steps_of_the_ring = refl
 
 -- ---- nesting
 
-abbrev periodic : Domain
-periodic = record { columns = 8; rows = 8; wrap_x = true; wrap_y = true }
-
 abbrev open_sides : Domain
 open_sides = record { columns = 8; rows = 8; wrap_x = false; wrap_y = false }
 
@@ -48,10 +46,10 @@ open_sides = record { columns = 8; rows = 8; wrap_x = false; wrap_y = false }
 abbrev is_asked : Domain → List Extent → ℕ → ℕ → Bool
 is_asked d fine x y = is_near d 1 (is_covered_by fine) (at x y)
 
-corners_too : is_asked periodic (box 4 4 5 5 ∷ []) 1 1 ∷ is_asked periodic (box 4 4 5 5 ∷ []) 3 3 ∷ is_asked periodic (box 4 4 5 5 ∷ []) 4 4 ∷ [] ≡ true ∷ true ∷ false ∷ []
+corners_too : is_asked eight (box 4 4 5 5 ∷ []) 1 1 ∷ is_asked eight (box 4 4 5 5 ∷ []) 3 3 ∷ is_asked eight (box 4 4 5 5 ∷ []) 4 4 ∷ [] ≡ true ∷ true ∷ false ∷ []
 corners_too = refl
 
-past_the_end_of_a_periodic_axis : is_asked periodic (box 0 0 1 1 ∷ []) 7 7 ≡ true
+past_the_end_of_a_periodic_axis : is_asked eight (box 0 0 1 1 ∷ []) 7 7 ≡ true
 past_the_end_of_a_periodic_axis = refl
 
 not_past_an_open_side : is_asked open_sides (box 0 0 1 1 ∷ []) 7 7 ≡ false

@@ -1,5 +1,5 @@
 -- Steps of levels within the step from a sound state: of levels, and with numbers that fit.
-use Rattle.std.proofs.Common.{◌≡◌, ℕ, suc, ◌+◌, ◌*◌, ◌/◌, ◌^◌, ◌<◌, ◌≤◌, refl, sym, ap, subst, ◌∙◌, arith, List, [], ◌∷◌, length, map}
+use Rattle.std.proofs.Common.{◌≡◌, ℕ, suc, ◌+◌, ◌*◌, ◌^◌, ◌<◌, ◌≤◌, refl, sym, ap, subst, ◌∙◌, arith, List, [], ◌∷◌, length, map}
 use Rattle.std.specs.Prelude.{unsigned_abs}
 use Rattle.amr_box.specs.declared.Cell.{Cell}
 use Rattle.amr_box.specs.declared.Face.{Face}
@@ -12,7 +12,7 @@ use Rattle.amr_def.specs.LevelStep.{Stepped, over_finer, step, step_within}
 use Rattle.amr_def.specs.Ledger.{sum_to}
 use Rattle.amr_def.specs.Run.{with_masses}
 use Rattle.amr_def.specs.Facts.{IsSound, growth}
-use Rattle.amr_def.proofs.Courants.{stable}
+use Rattle.amr_def.proofs.Courants.{stable, weighs}
 use Rattle.amr_def.proofs.Subcycle.{IsKept, SameCells, plain_covers, step-kept}
 use Rattle.amr_def.proofs.Raise.{IsUpTo}
 use Rattle.amr_def.proofs.Greatest.{AllUpTo, IsRaised, OldUpTo, finer_old, old_more, plain_flows, rise, same_length, step-raises, top_raised, values_up}
@@ -20,11 +20,12 @@ use Rattle.amr_def.proofs.Nesting.{level_inside}
 use Rattle.amr_def.proofs.Chain.{Chain, chain_first, nth, state_chain}
 use Rattle.amr_def.proofs.Stepping.{all_up, chain_kept, chain_lists, masses_in, rise_within, sides_up, up_at}
 use Rattle.amr_def.proofs.Totals.{bound_small, courant_within, flux_within, sum_within}
+use Rattle.amr_def.proofs.SoundStep.{no_old}
 use Rattle.amr_laws.specs.Levels.{AreLevels, masses_of}
 use Rattle.amr_laws.specs.Substeps.{IsSubstep, StepFits, after_step}
 use Rattle.amr_laws.specs.Substeps.{whole, first, second}
 use Rattle.amr_laws.proofs.Steps.{links}
-use Rattle.amr_laws.proofs.Sizes.{product_small, weighs}
+use Rattle.amr_laws.proofs.Sizes.{product_small}
 
 -- ---- a step keeps levels
 
@@ -95,9 +96,6 @@ record SubstepFacts (p : Problem) (t l : ℕ) (ks : List Level) (old : Masses) :
   olds : OldUpTo l old bound
   old_masses : (c : Cell) → mass_of old c ≤ t
   room : bound + rise (length (masses_in ks)) l ≤ t
-
-no_old : (b : ℕ) (k : Cell) → 4 ^ 0 * (mass_of no_masses k / 4) ≤ b
-no_old b k = omega arith
 
 chain_rest : (p : Problem) (l : ℕ) (k : Level) (finer : List Level) → Chain p l (k ∷ finer) → Chain p (suc l) finer
 chain_rest p l k [] x = tt

@@ -2,13 +2,13 @@
 use Rattle.std.specs.Prelude.{ℕ, zero, suc, ◌+◌, Bool, cond, not, ◌&&◌, ℤ, pos, ◌-ℤ◌, List, [], ◌∷◌, is_some}
 use Rattle.amr_box.specs.declared.Cell.{Cell}
 use Rattle.amr_box.specs.declared.Axis.TheVariants.{X, Y}
-use Rattle.amr_box.specs.Cells.{cell}
+use Rattle.amr_box.specs.Cells.{at_least_zero, cell}
 use Rattle.amr_def.specs.declared.problem.Problem.{Problem}
 use Rattle.amr_def.specs.Domain.{columns, rows}
 use Rattle.amr_def.specs.State.{Masses, is_covered}
 use Rattle.amr_def.specs.Flux.{Fluxes, face, flux_at}
 use Rattle.amr_def.specs.LevelStep.{step_within}
-use Rattle.amr_def.specs.Ledger.{above_zero, below_zero, if_open, sum_to}
+use Rattle.amr_def.specs.Ledger.{below_zero, if_open, sum_to}
 
 -- ---- through the faces of one level
 
@@ -26,10 +26,10 @@ y_beside p l counts low high e =
 
 -- what flows into the domain beside cells that count, and out of it
 unfoldable pub inflow_beside : Problem → ℕ → (Cell → Bool) → Fluxes → ℕ
-inflow_beside p l counts e = if_open p.x_sides (x_beside p l counts above_zero below_zero e) + if_open p.y_sides (y_beside p l counts above_zero below_zero e)
+inflow_beside p l counts e = if_open p.x_sides (x_beside p l counts at_least_zero below_zero e) + if_open p.y_sides (y_beside p l counts at_least_zero below_zero e)
 
 unfoldable pub outflow_beside : Problem → ℕ → (Cell → Bool) → Fluxes → ℕ
-outflow_beside p l counts e = if_open p.x_sides (x_beside p l counts below_zero above_zero e) + if_open p.y_sides (y_beside p l counts below_zero above_zero e)
+outflow_beside p l counts e = if_open p.x_sides (x_beside p l counts below_zero at_least_zero e) + if_open p.y_sides (y_beside p l counts below_zero at_least_zero e)
 
 -- ---- over all levels
 

@@ -8,13 +8,14 @@ use Rattle.amr_box.specs.declared.Face.{Face}
 use Rattle.amr_box.specs.declared.Axis.{Axis}
 use Rattle.amr_box.specs.declared.Axis.TheVariants.{X, Y}
 use Rattle.amr_box.specs.Cells.{Extent, IsNear, cell, height, holds, width, within}
+use Rattle.amr_box.proofs.Numbers.{is_between}
 use Rattle.amr_def.specs.Domain.{Domain, home_cell, in_domain, is_inside, wrapped}
 use Rattle.amr_def.specs.Flux.{face}
 use Rattle.amr_def.proofs.Homes.{inside-itself}
 use Rattle.amr_patch.specs.declared.patches.Patch.{Patch}
 use Rattle.amr_patch.specs.Patches.{box, in_patches}
 use Rattle.amr_patch.proofs.Lookups.{holder, in_one}
-use Rattle.amr_patch.proofs.Rows.{HasSides, inside, is_between, is_inside as is_in, sides}
+use Rattle.amr_patch.proofs.Rows.{HasSides, inside, is_inside as is_in, sides}
 use Rattle.amr_flux.specs.Faces.{IsInDomain, x_end, y_end}
 use Rattle.amr_layout.specs.Surroundings.{Around, LiesBesideLevel, domain_around, edge_count, edge_face, is_coarse_fine, is_open, outside, x_start, y_start}
 use Rattle.amr_layout.proofs.Edges.{edge_east, edge_north, edge_south, edge_west, on_each_side}

@@ -8,10 +8,11 @@ use Rattle.amr_box.specs.declared.Axis.{Axis}
 use Rattle.amr_box.specs.declared.Axis.TheVariants.{X, Y}
 use Rattle.amr_box.specs.Cells.{Extent, IsNear, height, holds, width}
 use Rattle.amr_def.specs.declared.problem.Problem.{Problem}
-use Rattle.amr_def.specs.Domain.{columns, domain, is_inside, is_periodic, rows, wrapped}
+use Rattle.amr_def.specs.Domain.{columns, domain, is_periodic, rows, wrapped}
 use Rattle.amr_def.specs.Flux.{at_base, courant, face, high_cell, low_cell, number_for}
-use Rattle.amr_def.proofs.Nesting.{in_domain-inside}
+use Rattle.amr_def.proofs.Nesting.{in_domain-inside, test_inside}
 use Rattle.amr_def.proofs.Flows.{wrapped_inside}
+use Rattle.amr_def.proofs.Uncovered.{inside_test}
 use Rattle.amr_patch.proofs.Rows.{is_inside as is_in, sides}
 use Rattle.amr_flux.specs.Faces.{IsInDomain, x_end, y_end}
 use Rattle.amr_layout.specs.Surroundings.{IsInRowOrColumn, IsNearFace, IsReachable, edge_count, edge_face, inside, x_start, y_start}
@@ -77,19 +78,16 @@ edge_near b n near there =
     (λ i h. record { west = omega (arith, ints, near.west); east = omega (arith, ints, near.east, s.wide, h); south = omega (arith, ints, near.high, near.south); north = omega (arith, ints, near.north) })
     there
 
-is_inside_from : (n : ℕ) (z : ℤ) → pos 0 ≤ℤ z → z <ℤ pos n → is_inside n z ≡ true
-is_inside_from n z h k = grind (arith, ints)
-
 pub edge_in_level : (p : Problem) (l : ℕ) (b : Extent) (n : ℕ) → IsNear b → IsInDomain (domain p l) b → n < edge_count b → IsInRowOrColumn p l (edge_face b n)
 edge_in_level p l b n near lies there =
     let s = sides b near in
     let low = in_domain-inside p l b.lo (lies.at b.lo (is_in b b.lo (record { west = omega (arith, ints); east = near.wide; south = omega (arith, ints); north = near.high }))) in
     let high = in_domain-inside p l b.hi (lies.at b.hi (is_in b b.hi (record { west = near.wide; east = omega (arith, ints); south = near.high; north = omega (arith, ints) }))) in
     on_each_side b n (IsInRowOrColumn p l)
-    (λ j h. is_inside_from (rows p l) (b.lo.y +ℤ pos j) (omega (arith, ints, low.south)) (omega (arith, ints, high.north, s.high, h)))
-    (λ j h. is_inside_from (rows p l) (b.lo.y +ℤ pos j) (omega (arith, ints, low.south)) (omega (arith, ints, high.north, s.high, h)))
-    (λ i h. is_inside_from (columns p l) (b.lo.x +ℤ pos i) (omega (arith, ints, low.west)) (omega (arith, ints, high.east, s.wide, h)))
-    (λ i h. is_inside_from (columns p l) (b.lo.x +ℤ pos i) (omega (arith, ints, low.west)) (omega (arith, ints, high.east, s.wide, h)))
+    (λ j h. inside_test (rows p l) (b.lo.y +ℤ pos j) (omega (arith, ints, low.south)) (omega (arith, ints, high.north, s.high, h)))
+    (λ j h. inside_test (rows p l) (b.lo.y +ℤ pos j) (omega (arith, ints, low.south)) (omega (arith, ints, high.north, s.high, h)))
+    (λ i h. inside_test (columns p l) (b.lo.x +ℤ pos i) (omega (arith, ints, low.west)) (omega (arith, ints, high.east, s.wide, h)))
+    (λ i h. inside_test (columns p l) (b.lo.x +ℤ pos i) (omega (arith, ints, low.west)) (omega (arith, ints, high.east, s.wide, h)))
     there
 
 -- ---- the cells beside a face
@@ -110,14 +108,11 @@ inside_reachable b f near = by_side (holds b (high_cell f))
 
 -- ---- Courant numbers
 
-inside_parts : (n : ℕ) (z : ℤ) → is_inside n z ≡ true → (pos 0 ≤ℤ z) × (z <ℤ pos n)
-inside_parts n z h = (grind (arith, ints), grind (arith, ints))
-
 pub in_rows : (p : Problem) (l : ℕ) (f : Face) → f.axis ≡ X → IsInRowOrColumn p l f → (pos 0 ≤ℤ f.y) × (f.y <ℤ pos (rows p l))
-in_rows p l f e h = inside_parts (rows p l) f.y (subst (λ (a : Axis). IsInRowOrColumn p l (face a f.x f.y)) e h)
+in_rows p l f e h = test_inside (rows p l) f.y (subst (λ (a : Axis). IsInRowOrColumn p l (face a f.x f.y)) e h)
 
 pub in_columns : (p : Problem) (l : ℕ) (f : Face) → f.axis ≡ Y → IsInRowOrColumn p l f → (pos 0 ≤ℤ f.x) × (f.x <ℤ pos (columns p l))
-in_columns p l f e h = inside_parts (columns p l) f.x (subst (λ (a : Axis). IsInRowOrColumn p l (face a f.x f.y)) e h)
+in_columns p l f e h = test_inside (columns p l) f.x (subst (λ (a : Axis). IsInRowOrColumn p l (face a f.x f.y)) e h)
 
 pub x_courant_is : (p : Problem) (l : ℕ) (f : Face) (row : ℕ) → f.axis ≡ X → pos row ≡ f.y → row < rows p l → number_for p.cx p.shear_x (row / 2 ^ l) ≡ courant p l f
 unfolding courant

@@ -1,5 +1,5 @@
 -- The border faces and their places, patch by patch.
-use Rattle.std.proofs.Common.{◌≡◌, ℕ, zero, suc, ◌+◌, ◌-◌, ◌<◌, ◌≤◌, Bool, cond, List, [], ◌∷◌, ◌++◌, length, get_or, map, take, refl, sym, ap, ◌∙◌, add-one, append-nil, arith}
+use Rattle.std.proofs.Common.{◌≡◌, ℕ, suc, ◌+◌, ◌-◌, ◌<◌, ◌≤◌, Bool, cond, List, [], ◌∷◌, ◌++◌, length, get_or, map, take, refl, sym, ap, ◌∙◌, add-one, append-nil, arith}
 use Rattle.std.specs.List.{flat_map, range_with_len}
 use Rattle.std.specs.Global.{Vec}
 use Rattle.std.proofs.lemmas.List.{append_assoc, map-append, take_more}
@@ -7,6 +7,7 @@ use Rattle.std.proofs.lemmas.List.FromFn.{map-range_with_len_more}
 use Rattle.std.proofs.lemmas.Grind.{flat_map-append}
 use Rattle.amr_box.specs.declared.Face.{Face}
 use Rattle.amr_box.specs.Cells.{Extent, height, width}
+use Rattle.amr_box.proofs.Numbers.{range_more}
 use Rattle.amr_def.specs.Domain.{Domain}
 use Rattle.amr_patch.specs.declared.patches.Patch.{Patch}
 use Rattle.amr_patch.specs.Patches.{box}
@@ -14,13 +15,6 @@ use Rattle.amr_flux.specs.Faces.{passing, x_end, y_end}
 use Rattle.amr_layout.specs.declared.PutAt.{PutAt}
 use Rattle.amr_layout.specs.Places.{ArePut, border_places, borders_of, leads_on, level_borders, places_before}
 use Rattle.amr_layout.proofs.Passing.{passing_next}
-
-range_more : (a n : ℕ) → range_with_len a (suc n) ≡ range_with_len a n ++ (a + n) ∷ []
-range_more a zero = ap (λ k. k ∷ []) (let e : a ≡ a + 0 = omega arith in e)
-range_more a (suc n) =
-    let more : range_with_len (a + 1) (suc n) ≡ range_with_len (a + 1) n ++ (a + 1 + n) ∷ [] = range_more (a + 1) n in
-    let last : a + 1 + n ≡ a + suc n = omega arith in
-    ap (λ l. a ∷ l) (more ∙ ap (λ k. range_with_len (a + 1) n ++ k ∷ []) last)
 
 pub range_next : (first k : ℕ) → first ≤ k → range_with_len first (k + 1 - first) ≡ range_with_len first (k - first) ++ k ∷ []
 range_next first k le =

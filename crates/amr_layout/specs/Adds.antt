@@ -4,7 +4,7 @@ use Rattle.std.specs.List.{All, AllPairs, flat_map, position_or_len}
 use Rattle.std.specs.Ordering.{int_eq}
 use Rattle.amr_box.specs.declared.Cell.{Cell}
 use Rattle.amr_box.specs.declared.Face.{Face}
-use Rattle.amr_box.specs.Cells.{Extent, parent}
+use Rattle.amr_box.specs.Cells.{Extent, is_same_cell, parent}
 use Rattle.amr_def.specs.Domain.{home_cell}
 use Rattle.amr_def.specs.State.{is_covered}
 use Rattle.amr_patch.specs.Patches.{box}
@@ -51,17 +51,13 @@ outflow_faces s b = passing (is_outflow_face s b) (edge_face b) (edge_count b)
 
 -- ---- register cells
 
--- whether two cells are one
-abbrev pub same_cell : Cell → Cell → Bool
-same_cell a b = int_eq a.x b.x && int_eq a.y b.y
-
 -- the cell of the next coarser level on the other side of a face of the coarse-fine edge
 unfoldable pub cell_beyond : Around → Extent → Face → Cell
 cell_beyond s b f = parent (home_cell (domain_around s) (outside b f))
 
 -- the number of a register cell
 unfoldable pub number_of : List Cell → Cell → ℕ
-number_of cells c = position_or_len (same_cell c) cells
+number_of cells c = position_or_len (is_same_cell c) cells
 
 -- register cell k has the gain at word 2 + 2k and the loss at word 3 + 2k. What flows out of the box is its gain.
 unfoldable pub word_of : Around → Extent → Face → ℕ
@@ -95,7 +91,7 @@ HasLedgerAdds t = take 2 (map (λ a. a.word) t.adds.items) ≡ 0 ∷ 1 ∷ []
 
 -- cells go by y, then by x, each once
 abbrev pub AreInOrder : List Cell → Type 0
-AreInOrder cells = AllPairs (λ a b. IsTrue (comes_first a b) × (IsTrue (same_cell a b) → ⊥)) cells
+AreInOrder cells = AllPairs (λ a b. IsTrue (comes_first a b) × (IsTrue (is_same_cell a b) → ⊥)) cells
 
 -- the list has each cell of the next coarser level that lies on the other side of a face of the coarse-fine edge
 abbrev pub HasCellsBeyond : Around → Extent → Type 0

@@ -3,14 +3,14 @@
 ghost use Rattle.std.specs.Prelude.{◌≡◌, ℕ, ◌<◌, ◌≤◌, length, slice_index_or, IsTrue, Contains, true};
 ghost use Rattle.std.specs.Option.{option_copied};
 ghost use Rattle.std.specs.List.{All};
-ghost use Rattle.amr_box.specs.Cells.{IsNear};
+ghost use Rattle.amr_box.specs.Cells.{IsNear, is_same_cell};
 ghost use Rattle.amr_def.specs.Domain.{domain, domain_of};
 ghost use Rattle.amr_def.specs.Limits.{has_inflows};
 ghost use Rattle.amr_patch.specs.Orders.{IsOrderOf, comes_first};
 ghost use Rattle.amr_patch.specs.Patches.{ArePatchesApart, box};
 ghost use Rattle.amr_flux.specs.Faces.{IsInDomain};
 ghost use Rattle.amr_gaps.specs.Gaps.{HasStarts};
-ghost use Rattle.amr_layout.specs.Adds.{AreInOrder, HasCellsBeyond, cell_beyond, same_cell};
+ghost use Rattle.amr_layout.specs.Adds.{AreInOrder, HasCellsBeyond, cell_beyond};
 ghost use Rattle.amr_layout.specs.Surroundings.{IsNearFace, around, is_coarse_fine};
 
 use super::*;
@@ -112,7 +112,7 @@ fn are_in_domain(p: &Problem, l: u32, patches: &[Patch]) -> bool
 
 /// Whether a cell comes before another, by y, then by x.
 fn is_before(a: Cell, b: Cell) -> bool
-    ensures { result ≡ true → IsTrue (comes_first a b) × (IsTrue (same_cell a b) → ⊥) }
+    ensures { result ≡ true → IsTrue (comes_first a b) × (IsTrue (is_same_cell a b) → ⊥) }
 {
     if a.y < b.y {
         return true;
@@ -129,7 +129,7 @@ fn is_before(a: Cell, b: Cell) -> bool
 /// Whether the cells before place `j` come before that one.
 fn are_before(cells: &[Cell], j: usize) -> bool
     requires { j < length cells.now }
-    ensures { result ≡ true → (i : ℕ) (d : Cell) → i < j → IsTrue (comes_first (slice_index_or cells.now i d) (slice_index_or cells.now j d)) × (IsTrue (same_cell (slice_index_or cells.now i d) (slice_index_or cells.now j d)) → ⊥) }
+    ensures { result ≡ true → (i : ℕ) (d : Cell) → i < j → IsTrue (comes_first (slice_index_or cells.now i d) (slice_index_or cells.now j d)) × (IsTrue (is_same_cell (slice_index_or cells.now i d) (slice_index_or cells.now j d)) → ⊥) }
 {
     for i in 0..j {
         if !is_before(cells[i], cells[j]) {

@@ -10,7 +10,7 @@ use Rattle.amr_box.specs.Cells.{Extent, cells_of, holds}
 use Rattle.amr_box.proofs.CellLists.{any_in_box}
 use Rattle.amr_def.specs.Domain.{Domain, domain_box, in_domain, is_near}
 use Rattle.amr_def.specs.State.{in_boxes, is_covered_by}
-use Rattle.amr_nest.proofs.Reaches.{domain_is}
+use Rattle.amr_def.proofs.Uncovered.{domain_box_cells}
 
 -- ---- a test and a wider one
 
@@ -63,7 +63,7 @@ module _ (d : Domain) (before after : Cell → Bool) (fine coarse : List Extent)
 
   none_added : n ≡ m → (c : Cell) → in_domain d c ≡ true → is_near d 1 (is_covered_by fine) c ≡ true → in_boxes coarse c ≡ true
   none_added same c inside near =
-      let here : holds (domain_box d) c ≡ true = domain_is d c ∙ inside in
+      let here : holds (domain_box d) c ≡ true = domain_box_cells d c ∙ inside in
       let held : holds b c ≡ true = ap (λ (e : Extent). holds e c) whole ∙ here in
       let later : after c ≡ true = then c ∙ or_right (before c) (holds (domain_box d) c && is_near d 1 (is_covered_by fine) c) (and_from (holds (domain_box d) c) (is_near d 1 (is_covered_by fine) c) here near) in
       let both = had (λ c. holds b c && before c) (λ c. holds b c && after c) b wider (sym m_is ∙ sym same ∙ n_is) c held (and_from (holds b c) (after c) held later) in
@@ -76,7 +76,7 @@ module _ (d : Domain) (before after : Cell → Bool) (fine coarse : List Extent)
       choose (inl k) = k
       choose (inr k) =
           let t = and_parts (holds (domain_box d) c) (is_near d 1 (is_covered_by fine) c) k in
-          first c ∙ and_from (holds (domain_box d) c) (in_boxes coarse c) t.0 (all c (sym (domain_is d c) ∙ t.0) t.1)
+          first c ∙ and_from (holds (domain_box d) c) (in_boxes coarse c) t.0 (all c (sym (domain_box_cells d c) ∙ t.0) t.1)
 
   same_count : ((c : Cell) → in_domain d c ≡ true → is_near d 1 (is_covered_by fine) c ≡ true → in_boxes coarse c ≡ true) → n ≡ m
   same_count all =

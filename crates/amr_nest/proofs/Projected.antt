@@ -10,9 +10,11 @@ use Rattle.amr_def.specs.Domain.{Domain, domain_box, home_cell, in_blocks, in_do
 use Rattle.amr_def.specs.Facts.{IsAligned, IsNestedIn}
 use Rattle.amr_def.specs.NewBoxes.{is_projected}
 use Rattle.amr_def.specs.State.{in_boxes, is_covered_by}
+use Rattle.amr_def.proofs.Uncovered.{domain_box_cells}
 use Rattle.amr_tags.proofs.Places.{in_holds, is_in}
-use Rattle.amr_nest.specs.Reach.{IsInDomainBox, is_reached, is_reached_at, parents_of}
-use Rattle.amr_nest.proofs.Reaches.{domain_is, near_is_reached, parents_hold, reached_found, reached_from}
+use Rattle.amr_tags.specs.Coarse.{parents_of}
+use Rattle.amr_nest.specs.Reach.{IsInDomainBox, is_reached, is_reached_at}
+use Rattle.amr_nest.proofs.Reaches.{near_is_reached, parents_hold, reached_found, reached_from}
 
 -- ---- one of two tests
 
@@ -93,7 +95,7 @@ pub record IsSurrounded (d : Domain) (coarse : List Extent) (a : Extent) : Type 
 pub surrounded_from : (d : Domain) (coarse : List Extent) (a : Extent) → IsProper a → IsInDomainBox d (parents_of a) → IsProper (parents_of a) → ((k : ℕ) → k < 9 → (c : Cell) → is_reached_at d (parents_of a) k c ≡ true → in_boxes coarse c ≡ true) → IsSurrounded d coarse a
 surrounded_from d coarse a p in_dom proper h = record {
   at = λ c inside near.
-      let here = domain_is d c ∙ inside in
+      let here = domain_box_cells d c ∙ inside in
       let r = reached_found d (parents_of a) 9 c (sym (near_by_turns d a p in_dom proper c here) ∙ near) in
       h r.turn r.below c r.at;
 }
@@ -106,7 +108,7 @@ reached_inside false s u e = absurd (cc)
 pub surrounded_to : (d : Domain) (coarse : List Extent) (a : Extent) → IsProper a → IsInDomainBox d (parents_of a) → IsProper (parents_of a) → IsSurrounded d coarse a → (k : ℕ) → k < 9 → (c : Cell) → is_reached_at d (parents_of a) k c ≡ true → in_boxes coarse c ≡ true
 surrounded_to d coarse a p in_dom proper s k below c h =
     let here : holds (domain_box d) c ≡ true = reached_inside _ (holds (domain_box d) c) _ h in
-    s.at c (sym (domain_is d c) ∙ here) (near_by_turns d a p in_dom proper c here ∙ reached_from d (parents_of a) 9 k c below h)
+    s.at c (sym (domain_box_cells d c) ∙ here) (near_by_turns d a p in_dom proper c here ∙ reached_from d (parents_of a) 9 k c below h)
 
 -- aligned, and surrounded
 pub record IsNestedBox (d : Domain) (blocking : ℕ) (coarse : List Extent) (a : Extent) : Type 0 where

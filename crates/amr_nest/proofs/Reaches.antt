@@ -1,39 +1,28 @@
 -- The cells of a domain at most one away from a box are those that it reaches at one of its nine turns.
 use Rattle.std.proofs.Common.{◌≡◌, ℕ, zero, suc, ◌+◌, ◌*◌, ◌/◌, ◌%◌, ◌<◌, Bool, true, false, ◌&&◌, ◌||◌, ℤ, pos, ◌-ℤ◌, ◌≤ℤ◌, ◌<ℤ◌, refl, sym, ap, subst, ◌∙◌, arith}
-use Rattle.std.specs.Prelude.{int_le, int_lt, ◌==◌, IfNone, IfSome, IsNone, IsSome}
+use Rattle.std.specs.Prelude.{◌==◌, IfNone, IfSome, IsNone, IsSome}
 use Rattle.std.specs.declared.option.Option.{Option}
 use Rattle.std.specs.declared.option.Option.TheVariants.{None, Some}
 use Rattle.std.specs.List.{list_any}
 use Rattle.std.proofs.lemmas.Int.{ints, clamps}
 use Rattle.std.proofs.lemmas.Bool.Decides.{nat_tests, same_from_decides}
-use Rattle.std.proofs.lemmas.Bool.{and_from, and_parts, or_left, or_right}
+use Rattle.std.proofs.lemmas.Bool.{and_from, and_parts, eqb-true, or_left, or_right}
 use Rattle.std.proofs.Math.Bool.{or-false}
 use Rattle.amr_box.specs.declared.Cell.{Cell}
-use Rattle.amr_box.specs.Cells.{Extent, HasCorners, IsBoxOf, IsNear, IsProper, cell, cells_of, common, extent, half, has_child_where, holds, parent, within}
+use Rattle.amr_box.specs.Cells.{Extent, HasCorners, IsBoxOf, IsNear, IsProper, cell, cells_of, common, extent, half, has_child_where, holds, parent}
 use Rattle.amr_box.proofs.CellLists.{IsFound, any_in_box, found_in_box}
 use Rattle.amr_box.proofs.Halves.{coarsened}
 use Rattle.amr_box.proofs.Tests.{or_last}
+use Rattle.amr_box.proofs.Numbers.{half_le as halves}
 use Rattle.amr_def.proofs.Nesting.{odd_small}
 use Rattle.amr_def.proofs.Nests.{half_and_odd}
-use Rattle.amr_def.specs.Domain.{Domain, domain_box, home_cell, in_domain, is_inside, is_near, moved}
+use Rattle.amr_def.specs.Domain.{Domain, domain_box, home_cell, in_domain, is_near, moved}
+use Rattle.amr_def.proofs.Uncovered.{domain_box_cells}
 use Rattle.amr_tags.specs.Stored.{IsIn}
 use Rattle.amr_tags.proofs.Places.{in_holds, is_in}
-use Rattle.amr_nest.specs.Reach.{IsInDomainBox, is_reached, is_reached_at, is_turn, moved_reach, parents_of}
+use Rattle.amr_tags.specs.Coarse.{parents_of}
+use Rattle.amr_nest.specs.Reach.{IsInDomainBox, is_reached, is_reached_at, is_turn, moved_reach}
 use Rattle.amr_nest.proofs.Turns.{SomeStep, SomeTurn, step_of, turn_of}
-
--- ---- the cells of a domain
-
-below_is : (z : ℤ) (n : ℕ) → int_le z (pos n -ℤ pos 1) ≡ int_lt z (pos n)
-below_is z n = grind (arith, ints)
-
-inside_is : (n : ℕ) (z : ℤ) → within (pos 0) (pos n -ℤ pos 1) z ≡ is_inside n z
-inside_is n z = ap (λ (b : Bool). int_le (pos 0) z && b) (below_is z n)
-
-pub domain_is : (d : Domain) (c : Cell) → holds (domain_box d) c ≡ in_domain d c
-unfolding in_domain
-domain_is d c =
-    ap (λ (b : Bool). b && within (pos 0) (pos d.rows -ℤ pos 1) c.y) (inside_is d.columns c.x)
-    ∙ ap (λ (b : Bool). is_inside d.columns c.x && b) (inside_is d.rows c.y)
 
 -- ---- the parents of a box's cells
 
@@ -42,14 +31,11 @@ parents_hold a p = coarsened a (parents_of a) p (record { west_is = refl; south_
 
 pub parents_proper : (a : Extent) → IsProper a → IsProper (parents_of a)
 parents_proper a p = record { wide = halves a.lo.x a.hi.x p.wide; high = halves a.lo.y a.hi.y p.high }
-  where
-    halves : (x y : ℤ) → x ≤ℤ y → half x ≤ℤ half y
-    halves x y h = omega (arith, ints, half_and_odd x, half_and_odd y, odd_small x, odd_small y)
 
 pub parents_inside : (d : Domain) (a : Extent) → IsProper a → ((c : Cell) → holds a c ≡ true → in_domain d (parent c) ≡ true) → IsInDomainBox d (parents_of a)
 parents_inside d a p inside =
-    let low = is_in (domain_box d) (parent a.lo) (domain_is d (parent a.lo) ∙ inside a.lo (in_holds a a.lo (omega (arith, ints)) (omega (arith, ints, p.wide)) (omega (arith, ints)) (omega (arith, ints, p.high)))) in
-    let high = is_in (domain_box d) (parent a.hi) (domain_is d (parent a.hi) ∙ inside a.hi (in_holds a a.hi (omega (arith, ints, p.wide)) (omega (arith, ints)) (omega (arith, ints, p.high)) (omega (arith, ints)))) in
+    let low = is_in (domain_box d) (parent a.lo) (domain_box_cells d (parent a.lo) ∙ inside a.lo (in_holds a a.lo (omega (arith, ints)) (omega (arith, ints, p.wide)) (omega (arith, ints)) (omega (arith, ints, p.high)))) in
+    let high = is_in (domain_box d) (parent a.hi) (domain_box_cells d (parent a.hi) ∙ inside a.hi (in_holds a a.hi (omega (arith, ints, p.wide)) (omega (arith, ints)) (omega (arith, ints, p.high)) (omega (arith, ints)))) in
     record { west = low.west; south = low.south; east = under (half a.hi.x) d.columns high.east; north = under (half a.hi.y) d.rows high.north }
   where
     under : (z : ℤ) (n : ℕ) → z ≤ℤ (pos n -ℤ pos 1) → z <ℤ pos n
@@ -74,14 +60,11 @@ pub reached_from : (d : Domain) (b : Extent) (n k : ℕ) (c : Cell) → k < n �
 reached_from d b zero k c below h = absurd (omega arith)
 reached_from d b (suc n) k c below h = choose (k == n) refl (reached_from d b n k c)
   where
-    equal : (k n : ℕ) → (k == n) ≡ true → k ≡ n
-    equal k n e = grind (arith, nat_tests)
-
     less : (k n : ℕ) → k < suc n → (k == n) ≡ false → k < n
     less k n g e = grind (arith, nat_tests)
 
     choose : (v : Bool) → (k == n) ≡ v → (k < n → is_reached_at d b k c ≡ true → is_reached d b n c ≡ true) → is_reached d b (suc n) c ≡ true
-    choose true e more = or_right (is_reached d b n c) (is_reached_at d b n c) (subst (λ (m : ℕ). is_reached_at d b m c ≡ true) (equal k n e) h)
+    choose true e more = or_right (is_reached d b n c) (is_reached_at d b n c) (subst (λ (m : ℕ). is_reached_at d b m c ≡ true) (eqb-true k n e) h)
     choose false e more = or_left (is_reached d b n c) (is_reached_at d b n c) (more (less k n below e) h)
 
 -- ---- a box of the domain and a cell of it
@@ -143,7 +126,7 @@ module _ (d : Domain) (b : Extent) (in_dom : IsInDomainBox d b) (proper : IsProp
 pub one_inside : (d : Domain) (b : Extent) (q : Cell) → pos 0 ≤ℤ b.lo.x → pos 0 ≤ℤ b.lo.y → b.hi.x <ℤ pos (2 * d.columns) → b.hi.y <ℤ pos (2 * d.rows) → (holds b q || false) ≡ true → in_domain d (parent q) ≡ true
 one_inside d b q west south east north h =
     let i = is_in b q (sym (or-false (holds b q)) ∙ h) in
-    sym (domain_is d (parent q))
+    sym (domain_box_cells d (parent q))
     ∙ in_holds (domain_box d) (parent q) (from_zero q.x (omega (arith, ints, i.west, west))) (to_end d.columns q.x (omega (arith, ints, i.east, east))) (from_zero q.y (omega (arith, ints, i.south, south))) (to_end d.rows q.y (omega (arith, ints, i.north, north)))
   where
     from_zero : (z : ℤ) → pos 0 ≤ℤ z → pos 0 ≤ℤ half z

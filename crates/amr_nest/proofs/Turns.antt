@@ -1,16 +1,14 @@
 -- One axis: a coordinate at most one away from some coordinates, past the end of a periodic axis too, is at most one away from
 -- them where they are moved by a turn, and the other way round.
 use Rattle.std.proofs.Common.{◌≡◌, ℕ, zero, suc, ◌+◌, ◌*◌, ◌<◌, ◌≤◌, Bool, true, false, ℤ, pos, negsuc, ◌+ℤ◌, ◌-ℤ◌, ◌≤ℤ◌, ◌<ℤ◌, refl, sym, ap, subst, ◌∙◌, arith}
-use Rattle.std.specs.Prelude.{int_lt, nat_lt, ◌==◌}
+use Rattle.std.specs.Prelude.{int_lt, nat_lt}
 use Rattle.std.specs.Int.{int_rem_euclid}
 use native.Mathlib.Nat.{add-mul-mod_self_right, mod-eq_of_lt}
-use Rattle.std.proofs.lemmas.Bool.Decides.{nat_tests}
 use Rattle.std.proofs.lemmas.Int.{ints, int_rem_euclid_is}
+use Rattle.std.proofs.lemmas.Bool.{eqb-true, ltb-false, ltb-true}
+use Rattle.amr_box.proofs.Numbers.{below_from, not_below_from}
 use Rattle.amr_def.specs.Domain.{wrapped}
 use Rattle.amr_nest.specs.Reach.{is_turn, shift}
-
-equal : (a b : ℕ) → (a == b) ≡ true → a ≡ b
-equal a b h = grind (arith, nat_tests)
 
 -- a coordinate of the axis that a turn moved stands for itself
 on_periodic : (n t a : ℕ) → t < 3 → a < n → int_rem_euclid (pos a +ℤ shift n t) (pos n) ≡ pos a
@@ -26,7 +24,7 @@ still n t w e = ap (λ (s : ℕ). w +ℤ shift n s) e ∙ omega (arith, ints)
 pub home_of_turn : (wrap : Bool) (n t : ℕ) (w : ℤ) → is_turn wrap t ≡ true → t < 3 → pos 0 ≤ℤ w → w <ℤ pos n → wrapped wrap n (w +ℤ shift n t) ≡ w
 home_of_turn true n t (pos a) turn h low high = on_periodic n t a h (omega (arith, ints))
 home_of_turn true n t (negsuc a) turn h low high = absurd (omega (arith, ints))
-home_of_turn false n t w turn h low high = still n t w (equal t 1 turn)
+home_of_turn false n t w turn h low high = still n t w (eqb-true t 1 turn)
 
 -- at most one away from the coordinates from lo to hi, where a turn moves them
 pub record IsReachedOn (wrap : Bool) (n : ℕ) (lo hi z : ℤ) (t : ℕ) : Type 0 where
@@ -50,12 +48,6 @@ pub record SomeStep (wrap : Bool) (n : ℕ) (lo hi z : ℤ) : Type 0 where
   pub step : ℤ
   pub is : IsBesideOn wrap n lo hi z step
 
-less : (a n : ℕ) → nat_lt a n ≡ true → a < n
-less a n h = grind (arith, nat_tests)
-
-not_less : (a n : ℕ) → nat_lt a n ≡ false → n ≤ a
-not_less a n h = grind (arith, nat_tests)
-
 module _ (wrap : Bool) (n : ℕ) (lo hi z : ℤ) (from : pos 0 ≤ℤ lo) (to : hi <ℤ pos n) (z_low : pos 0 ≤ℤ z) (z_high : z <ℤ pos n) where
   -- from the place that the step leads to
   by_place : (o : ℤ) → IsBesideOn wrap n lo hi z o → (t : ℕ) (w : ℤ) → is_turn wrap t ≡ true → t < 3 → pos 0 ≤ℤ w → w <ℤ pos n → (z +ℤ o) ≡ (w +ℤ shift n t) → IsReachedOn wrap n lo hi z t
@@ -75,10 +67,10 @@ module _ (n : ℕ) (lo hi z : ℤ) (from : pos 0 ≤ℤ lo) (to : hi <ℤ pos n)
     where
       choose : (t : Bool) → nat_lt a n ≡ t → SomeTurn true n lo hi z
       choose true h =
-          let below : a < n = less a n h in
+          let below : a < n = ltb-true a n h in
           record { turn = 1; is = by_place true n lo hi z from to z_low z_high o b 1 (pos a) refl (omega arith) (omega (arith, ints)) (omega (arith, ints, below)) (e ∙ omega (arith, ints)) }
       choose false h =
-          let above : n ≤ a = not_less a n h in
+          let above : n ≤ a = ltb-false a n h in
           record { turn = 2; is = by_place true n lo hi z from to z_low z_high o b 2 (pos 0) refl (omega arith) (omega (arith, ints)) (omega (arith, ints)) (omega (arith, ints, e, above, b.short_high)) }
   periodic o (negsuc a) e b =
       record { turn = 0; is = by_place true n lo hi z from to z_low z_high o b 0 (pos n -ℤ pos 1) refl (omega arith) (omega (arith, ints)) (omega (arith, ints)) (omega (arith, ints, e, b.short_low)) }
@@ -105,12 +97,6 @@ module _ (n : ℕ) (lo hi z : ℤ) (from : pos 0 ≤ℤ lo) (to : hi <ℤ pos n)
   pub step_of : (wrap : Bool) (t : ℕ) → lo ≤ℤ hi → IsReachedOn wrap n lo hi z t → SomeStep wrap n lo hi z
   step_of wrap t wide r = by_shift (shift n t) refl
     where
-      lt_yes : (a b : ℤ) → int_lt a b ≡ true → a <ℤ b
-      lt_yes a b h = grind (arith, ints)
-
-      lt_no : (a b : ℤ) → int_lt a b ≡ false → b ≤ℤ a
-      lt_no a b h = grind (arith, ints)
-
       by_shift : (s : ℤ) → shift n t ≡ s → SomeStep wrap n lo hi z
       by_shift s e = below (int_lt (z -ℤ s) lo) refl
         where
@@ -125,17 +111,17 @@ module _ (n : ℕ) (lo hi z : ℤ) (from : pos 0 ≤ℤ lo) (to : hi <ℤ pos n)
 
           above : lo ≤ℤ (z -ℤ s) → (v : Bool) → int_lt hi (z -ℤ s) ≡ v → SomeStep wrap n lo hi z
           above h true g =
-              let over : hi <ℤ (z -ℤ s) = lt_yes hi (z -ℤ s) g in
+              let over : hi <ℤ (z -ℤ s) = below_from hi (z -ℤ s) g in
               one_step wrap t (pos 0 -ℤ pos 1) (z -ℤ s -ℤ pos 1) r.turn r.few (omega (arith, ints, over, wide)) (omega (arith, ints, r_high)) (back (pos 0 -ℤ pos 1) (z -ℤ s -ℤ pos 1) (omega (arith, ints))) (omega (arith, ints)) (omega (arith, ints))
           above h false g =
-              let under : (z -ℤ s) ≤ℤ hi = lt_no hi (z -ℤ s) g in
+              let under : (z -ℤ s) ≤ℤ hi = not_below_from hi (z -ℤ s) g in
               one_step wrap t (pos 0) (z -ℤ s) r.turn r.few h under (back (pos 0) (z -ℤ s) (omega (arith, ints))) (omega (arith, ints)) (omega (arith, ints))
 
           below : (v : Bool) → int_lt (z -ℤ s) lo ≡ v → SomeStep wrap n lo hi z
           below true g =
-              let under : (z -ℤ s) <ℤ lo = lt_yes (z -ℤ s) lo g in
+              let under : (z -ℤ s) <ℤ lo = below_from (z -ℤ s) lo g in
               one_step wrap t (pos 1) (z -ℤ s +ℤ pos 1) r.turn r.few (omega (arith, ints, r_low)) (omega (arith, ints, under, wide)) (back (pos 1) (z -ℤ s +ℤ pos 1) (omega (arith, ints))) (omega (arith, ints)) (omega (arith, ints))
-          below false g = above (lt_no (z -ℤ s) lo g) (int_lt hi (z -ℤ s)) refl
+          below false g = above (not_below_from (z -ℤ s) lo g) (int_lt hi (z -ℤ s)) refl
 
 -- ---- sizes
 

@@ -1,7 +1,7 @@
 -- The cells of a domain at most one away from a box, as at most nine boxes: one for each way to move the box by whole domains.
 use Rattle.std.specs.Prelude.{ℕ, zero, suc, ◌*◌, ◌/◌, ◌%◌, Bool, false, ◌&&◌, ◌||◌, ◌==◌, ℤ, pos, ◌+ℤ◌, ◌-ℤ◌, ◌≤ℤ◌, ◌<ℤ◌}
 use Rattle.amr_box.specs.declared.Cell.{Cell}
-use Rattle.amr_box.specs.Cells.{Extent, cell, extent, holds, parent}
+use Rattle.amr_box.specs.Cells.{Extent, cell, extent, holds}
 use Rattle.amr_def.specs.Domain.{Domain, domain_box}
 
 -- turns 0, 1 and 2 of an axis of n cells move by one domain down, by nothing, and by one domain up
@@ -26,10 +26,6 @@ is_reached_at d b k c = (is_turn d.wrap_x (k % 3) && is_turn d.wrap_y (k / 3)) &
 abbrev pub is_reached : Domain → Extent → ℕ → Cell → Bool
 is_reached d b zero c = false
 is_reached d b (suc n) c = is_reached d b n c || is_reached_at d b n c
-
--- the parents of a box's cells (BoxLib: coarsen)
-abbrev pub parents_of : Extent → Extent
-parents_of b = extent (parent b.lo) (parent b.hi)
 
 -- a box whose cells are all of the domain
 pub record IsInDomainBox (d : Domain) (b : Extent) : Type 0 where

@@ -11,26 +11,13 @@ use Rattle.amr_box.specs.declared.Face.{Face}
 use Rattle.amr_box.specs.declared.Axis.{Axis}
 use Rattle.amr_box.specs.declared.Axis.TheVariants.{X, Y}
 use Rattle.amr_box.specs.Cells.{Extent, at_least_zero, cell, height, width, within}
+use Rattle.amr_box.proofs.CellEquality.{same_number}
+use Rattle.amr_box.proofs.CellLists.{int_eq-apart, int_eq-itself}
 use Rattle.amr_patch.specs.declared.patches.Patch.{Patch}
 use Rattle.amr_patch.specs.Places.{column_of, is_edge_face, is_end, on_edge, row_of}
 use Rattle.amr_patch.specs.Patches.{HasNoFluxes, SameFluxes, flux_along, flux_in}
 use Rattle.amr_patch.proofs.Rows.{between}
 use Rattle.amr_patch.proofs.Entries.{same_cut}
-
--- ---- numbers told equal
-
-pub is_equal : (x y : ℤ) → int_eq x y ≡ true → x ≡ y
-is_equal x y e = (Decides-int_eq x y).0 e
-
-pub equal_is : (x y : ℤ) → x ≡ y → int_eq x y ≡ true
-equal_is x y e = (Decides-int_eq x y).1 e
-
-pub differs : (x y : ℤ) → (x ≡ y → ⊥) → int_eq x y ≡ false
-differs x y n = cases (int_eq x y) refl
-  where
-    cases : (t : Bool) → int_eq x y ≡ t → t ≡ false
-    cases true e = absurd (n (is_equal x y e))
-    cases false e = refl
 
 -- ---- faces on edges
 
@@ -38,12 +25,12 @@ pub at_end : (low high z : ℤ) → is_end low high z ≡ true → (z ≡ low) �
 at_end low high z e = cases (int_eq z low) refl
   where
     cases : (t : Bool) → int_eq z low ≡ t → (z ≡ low) ⊎ (z ≡ high +ℤ pos 1)
-    cases true f = inl (is_equal z low f)
-    cases false f = inr (is_equal z (high +ℤ pos 1) (ap (λ (t : Bool). t || int_eq z (high +ℤ pos 1)) (sym f) ∙ e))
+    cases true f = inl (same_number z low f)
+    cases false f = inr (same_number z (high +ℤ pos 1) (ap (λ (t : Bool). t || int_eq z (high +ℤ pos 1)) (sym f) ∙ e))
 
 -- at the high end, where not at the low one
 pub at_high : (low high z : ℤ) → is_end low high z ≡ true → int_eq z low ≡ false → z ≡ high +ℤ pos 1
-at_high low high z e f = is_equal z (high +ℤ pos 1) (ap (λ (t : Bool). t || int_eq z (high +ℤ pos 1)) (sym f) ∙ e)
+at_high low high z e f = same_number z (high +ℤ pos 1) (ap (λ (t : Bool). t || int_eq z (high +ℤ pos 1)) (sym f) ∙ e)
 
 -- a face on an edge lies in a row or a column of the box
 pub record IsOnEdge (low high first last z across : ℤ) : Type 0 where
@@ -82,16 +69,16 @@ flux_y p f low a e = ap (λ (t : Axis). flux_along t p (cell f.x f.y)) a ∙ ap 
 
 -- the same by where the face lies
 pub flux_x_low : (p : Patch) (f : Face) → f.axis ≡ X → f.x ≡ p.bx.lo.x → flux_in p f ≡ slice_index_or p.x_low.items (row_of p.bx (cell f.x f.y)) (pos 0)
-flux_x_low p f a e = flux_x p f true a (equal_is f.x p.bx.lo.x e)
+flux_x_low p f a e = flux_x p f true a (int_eq-itself f.x p.bx.lo.x e)
 
 pub flux_x_high : (p : Patch) (f : Face) → f.axis ≡ X → f.x ≡ p.bx.hi.x +ℤ pos 1 → flux_in p f ≡ slice_index_or p.x_high.items (row_of p.bx (cell f.x f.y)) (pos 0)
-flux_x_high p f a e = flux_x p f false a (differs f.x p.bx.lo.x (λ g. let w = p.near.wide in absurd (omega (arith, ints, w, e, g))))
+flux_x_high p f a e = flux_x p f false a (int_eq-apart f.x p.bx.lo.x (λ g. let w = p.near.wide in absurd (omega (arith, ints, w, e, g))))
 
 pub flux_y_low : (p : Patch) (f : Face) → f.axis ≡ Y → f.y ≡ p.bx.lo.y → flux_in p f ≡ slice_index_or p.y_low.items (column_of p.bx (cell f.x f.y)) (pos 0)
-flux_y_low p f a e = flux_y p f true a (equal_is f.y p.bx.lo.y e)
+flux_y_low p f a e = flux_y p f true a (int_eq-itself f.y p.bx.lo.y e)
 
 pub flux_y_high : (p : Patch) (f : Face) → f.axis ≡ Y → f.y ≡ p.bx.hi.y +ℤ pos 1 → flux_in p f ≡ slice_index_or p.y_high.items (column_of p.bx (cell f.x f.y)) (pos 0)
-flux_y_high p f a e = flux_y p f false a (differs f.y p.bx.lo.y (λ g. let w = p.near.high in absurd (omega (arith, ints, w, e, g))))
+flux_y_high p f a e = flux_y p f false a (int_eq-apart f.y p.bx.lo.y (λ g. let w = p.near.high in absurd (omega (arith, ints, w, e, g))))
 
 -- where each edge has fluxes of 0
 pub nothing_flows : (p : Patch) → ((k : ℕ) → slice_index_or p.x_low.items k (pos 0) ≡ pos 0) → ((k : ℕ) → slice_index_or p.x_high.items k (pos 0) ≡ pos 0) → ((k : ℕ) → slice_index_or p.y_low.items k (pos 0) ≡ pos 0) → ((k : ℕ) → slice_index_or p.y_high.items k (pos 0) ≡ pos 0) → HasNoFluxes p
@@ -122,7 +109,7 @@ same_faces f g e h k = λ i. record { axis = e i; x = h i; y = k i }
 
 -- two faces of one edge that stand at one place are one face
 same_end : (first last y z : ℤ) (t : Bool) → int_eq y first ≡ t → int_eq z first ≡ t → is_end first last y ≡ true → is_end first last z ≡ true → y ≡ z
-same_end first last y z true e f h k = is_equal y first e ∙ sym (is_equal z first f)
+same_end first last y z true e f h k = same_number y first e ∙ sym (same_number z first f)
 same_end first last y z false e f h k = at_high first last y h e ∙ sym (at_high first last z k f)
 
 same_offset : (low y z : ℤ) → low ≤ℤ y → low ≤ℤ z → at_least_zero (y -ℤ low) ≡ at_least_zero (z -ℤ low) → y ≡ z

@@ -1,5 +1,5 @@
 -- Two cells of a box stand at two places.
-use Rattle.std.proofs.Common.{◌≡◌, ◌≢◌, ◌∙◌, ℕ, ◌+◌, ◌-◌, ◌*◌, ◌<◌, ◌≤◌, ◌⊎◌, inl, inr, true, ℤ, pos, negsuc, ◌+ℤ◌, ◌-ℤ◌, ◌≤ℤ◌, ◌<ℤ◌, List, ◌++◌, length, length-take, take, drop, refl, sym, ap, arith}
+use Rattle.std.proofs.Common.{◌≡◌, ◌≢◌, ◌∙◌, ℕ, ◌+◌, ◌-◌, ◌*◌, ◌<◌, ◌≤◌, ◌⊎◌, inl, inr, true, ℤ, pos, ◌+ℤ◌, ◌-ℤ◌, ◌≤ℤ◌, ◌<ℤ◌, List, ◌++◌, length, length-take, take, drop, refl, sym, ap, arith}
 use Rattle.std.specs.Prelude.{not, slice_index, slice_index_or, slice_set}
 use Rattle.std.proofs.lemmas.Int.{ints}
 use Rattle.std.proofs.lemmas.Nat.{same_from_place}
@@ -10,19 +10,16 @@ use borrow.Rule.Slice.PartMut.{post_of}
 use Rattle.amr_box.specs.declared.Cell.{Cell}
 use Rattle.amr_box.specs.Cells.{Extent, IsNear, at_least_zero, cell, holds, width}
 use Rattle.amr_box.proofs.CellEquality.{same_cells}
+use Rattle.amr_box.proofs.Numbers.{at_least_zero-same}
 use Rattle.amr_patch.specs.Places.{grown, in_frame, place}
 use Rattle.amr_patch.proofs.Rows.{inside, is_inside, sides, zero-cut}
 
-pub whole : (z : ℤ) → pos 0 ≤ℤ z → pos (at_least_zero z) ≡ z
-whole (pos n) p = refl
-whole (negsuc n) p = absurd (omega (arith, ints))
-
 pub same_cut : (y z : ℤ) → pos 0 ≤ℤ y → pos 0 ≤ℤ z → at_least_zero y ≡ at_least_zero z → y ≡ z
-same_cut y z h k e = sym (whole y h) ∙ ap pos e ∙ whole z k
+same_cut y z h k e = sym (at_least_zero-same y h) ∙ ap pos e ∙ at_least_zero-same z k
 
 -- an offset within a row
 pub below : (z : ℤ) (w : ℕ) → pos 0 ≤ℤ z → z <ℤ pos w → at_least_zero z < w
-below z w h k = let e : pos (at_least_zero z) ≡ z = whole z h in omega (arith, ints)
+below z w h k = let e : pos (at_least_zero z) ≡ z = at_least_zero-same z h in omega (arith, ints)
 
 pub record HasOffsets (x y u v : ℤ) (w : ℕ) : Type 0 where
   pub x_from : pos 0 ≤ℤ x
@@ -71,7 +68,7 @@ in_the_frame b c e = (and_parts (holds (grown b) c) (not (holds b c)) e).0
 pub along_row : (b : Extent) (x y : ℤ) (k : ℕ) → (b.lo.x -ℤ pos 1) ≤ℤ x → place b (cell x y) + k ≡ place b (cell (x +ℤ pos k) y)
 unfolding place
 along_row b x y k h =
-    let e : pos (at_least_zero (x +ℤ pos 1 -ℤ b.lo.x)) ≡ x +ℤ pos 1 -ℤ b.lo.x = whole (x +ℤ pos 1 -ℤ b.lo.x) (omega (arith, ints)) in
+    let e : pos (at_least_zero (x +ℤ pos 1 -ℤ b.lo.x)) ≡ x +ℤ pos 1 -ℤ b.lo.x = at_least_zero-same (x +ℤ pos 1 -ℤ b.lo.x) (omega (arith, ints)) in
     let f : at_least_zero (x +ℤ pos k +ℤ pos 1 -ℤ b.lo.x) ≡ at_least_zero (x +ℤ pos 1 -ℤ b.lo.x) + k = zero-cut (x +ℤ pos k +ℤ pos 1 -ℤ b.lo.x) (at_least_zero (x +ℤ pos 1 -ℤ b.lo.x) + k) (omega (arith, ints, e)) in
     omega (arith, f)
 

@@ -132,10 +132,10 @@ boxes_set (x ∷ ps) zero p lt e = λ i. e i ∷ map box ps
 boxes_set (x ∷ ps) (suc k) p lt e = λ i. box x ∷ boxes_set ps k p (omega arith) e i
 
 -- a patch keeps what it has
-itself : (p : Patch) → KeepsFrameAndFluxes p p
+pub itself : (p : Patch) → KeepsFrameAndFluxes p p
 itself p = record { of_box = refl; ghosts = λ c h. refl; marks = λ c. refl; fluxes = λ f. refl }
 
-all_kept : (ps : List Patch) → Pairwise KeepsFrameAndFluxes ps ps
+pub all_kept : (ps : List Patch) → Pairwise KeepsFrameAndFluxes ps ps
 all_kept [] = tt
 all_kept (p ∷ ps) = (itself p, all_kept ps)
 

@@ -5,6 +5,8 @@ pub mod Lookups
 pub mod SameBoxes
 pub mod Standing
 pub mod LevelLaws
+pub mod Items
+pub mod Keeping
 pub mod Apart
 pub mod Conditions
 pub mod Corners

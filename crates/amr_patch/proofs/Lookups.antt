@@ -10,7 +10,7 @@ use Rattle.std.proofs.lemmas.Bool.{or_right, cases_lt, cases_eq, false_from_ne_t
 use Rattle.std.specs.Int.{int_min}
 use Rattle.amr_box.specs.declared.Cell.{Cell}
 use Rattle.amr_box.specs.Cells.{at_least_zero, cell, height, holds}
-use Rattle.amr_box.proofs.Tests.{never_both}
+use Rattle.amr_box.proofs.Tests.{opposite}
 use Rattle.amr_patch.specs.declared.patches.Patch.{Patch}
 use Rattle.amr_patch.specs.Patches.{ArePatchesApart, box, in_patches, mass_in, masses_in}
 use Rattle.amr_patch.specs.Orders.{AreAtMostHigh, AreInRows, IsHolder, comes_first}
@@ -76,7 +76,7 @@ holder ps c i p lt e h = record { inside = lt; holds_it = λ d. ap (λ (q : Patc
 
 -- ---- row by row
 
-comes_first-rows : (a b : Cell) → comes_first a b ≡ true → a.y ≤ℤ b.y
+pub comes_first-rows : (a b : Cell) → comes_first a b ≡ true → a.y ≤ℤ b.y
 comes_first-rows a b h = grind (arith, ints)
 
 comes_first-columns : (a b : Cell) → comes_first a b ≡ true → a.y ≡ b.y → a.x ≤ℤ b.x
@@ -121,7 +121,7 @@ is_point ps c n sorted last next within = (λ k d from lt. early k d lt, λ k d 
     early k d lt = parted ps c sorted k (n - 1) d (omega arith) (omega arith) (last d (omega arith))
 
     late : (k : ℕ) (d : Patch) → n ≤ k → k < length ps → comes_first (box (slice_index_or ps k d)).lo c ≡ false
-    late k d from lt = false_from_ne_true _ (λ h. never_both (comes_first (box (slice_index_or ps n d)).lo c) (parted ps c sorted n k d from lt h) (next d (omega arith)))
+    late k d from lt = false_from_ne_true _ (λ h. opposite (parted ps c sorted n k d from lt h) (next d (omega arith)))
 
 -- ---- the search
 

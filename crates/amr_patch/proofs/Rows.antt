@@ -1,5 +1,5 @@
 -- Where a cell stands among the cells of a box, in rows.
-use Rattle.std.proofs.Common.{◌≡◌, ℕ, ◌+◌, ◌*◌, ◌<◌, ◌≤◌, true, ℤ, pos, negsuc, ◌+ℤ◌, ◌-ℤ◌, ◌≤ℤ◌, refl, arith}
+use Rattle.std.proofs.Common.{◌≡◌, ℕ, ◌+◌, ◌*◌, ◌<◌, ◌≤◌, true, ℤ, pos, ◌+ℤ◌, ◌-ℤ◌, ◌≤ℤ◌, refl, arith}
 use Rattle.std.specs.Prelude.{int_le}
 use Rattle.std.proofs.lemmas.Int.{ints}
 use Rattle.std.proofs.lemmas.Bool.{and_parts, and_from}
@@ -7,6 +7,7 @@ use Rattle.std.proofs.lemmas.Nat.{rows}
 use Rattle.std.proofs.Math.Nat.{mul-le-mul_right}
 use Rattle.amr_box.specs.declared.Cell.{Cell}
 use Rattle.amr_box.specs.Cells.{Extent, IsNear, at_least_zero, height, holds, width, within}
+use Rattle.amr_box.proofs.Numbers.{at_least_zero-same, is_between, le_from as is_le}
 use Rattle.amr_patch.specs.Places.{place}
 
 -- ---- tests as facts
@@ -19,12 +20,6 @@ pub between : (low high z : ℤ) → within low high z ≡ true → IsBetween lo
 between low high z e =
     let t : (int_le low z ≡ true) × (int_le z high ≡ true) = and_parts (int_le low z) (int_le z high) e in
     record { from = is_le low z t.0; to = is_le z high t.1 }
-  where
-    is_le : (a b : ℤ) → int_le a b ≡ true → a ≤ℤ b
-    is_le a b h = grind (arith, ints)
-
-pub is_between : (low high z : ℤ) → low ≤ℤ z → z ≤ℤ high → within low high z ≡ true
-is_between low high z h k = grind (arith, ints)
 
 -- the cell is in the box
 pub record IsIn (b : Extent) (c : Cell) : Type 0 where
@@ -66,13 +61,9 @@ pub record HasSides (b : Extent) : Type 0 where
 
 pub sides : (b : Extent) → IsNear b → HasSides b
 sides b h =
-    let w : pos (width b) ≡ b.hi.x +ℤ pos 1 -ℤ b.lo.x = whole (b.hi.x +ℤ pos 1 -ℤ b.lo.x) (omega (arith, ints)) in
-    let k : pos (height b) ≡ b.hi.y +ℤ pos 1 -ℤ b.lo.y = whole (b.hi.y +ℤ pos 1 -ℤ b.lo.y) (omega (arith, ints)) in
+    let w : pos (width b) ≡ b.hi.x +ℤ pos 1 -ℤ b.lo.x = at_least_zero-same (b.hi.x +ℤ pos 1 -ℤ b.lo.x) (omega (arith, ints)) in
+    let k : pos (height b) ≡ b.hi.y +ℤ pos 1 -ℤ b.lo.y = at_least_zero-same (b.hi.y +ℤ pos 1 -ℤ b.lo.y) (omega (arith, ints)) in
     record { wide = w; high = k; narrow = omega (arith, ints); flat = omega (arith, ints); some_columns = omega (arith, ints); some_rows = omega (arith, ints) }
-  where
-    whole : (z : ℤ) → pos 0 ≤ℤ z → pos (at_least_zero z) ≡ z
-    whole (pos n) p = refl
-    whole (negsuc n) p = absurd (omega (arith, ints))
 
 -- such a place is one of h rows of w entries
 pub place_within : (row column w h : ℕ) → row < h → column < w → row * w + column < h * w

@@ -9,7 +9,7 @@ use Rattle.amr_payload.specs.Payload.{IsMassWidth, number_bytes, row_bytes, corn
 use Rattle.amr_payload.proofs.Fields.{Each}
 use Rattle.amr_payload.proofs.GridLevels.{all_from}
 
-abbrev IsByte : ℕ → Type 0
+abbrev pub IsByte : ℕ → Type 0
 IsByte b = b < 256
 
 abbrev AreSmall : List ℕ → Type 0

@@ -1,5 +1,5 @@
 -- Disjoint boxes in a domain have no more cells than the domain: so there are few of them, and their masses have room.
-use Rattle.std.proofs.Common.{◌≡◌, ℕ, zero, suc, ◌+◌, ◌*◌, ◌^◌, ◌<◌, ◌≤◌, Bool, true, false, ◌||◌, ℤ, pos, negsuc, ◌+ℤ◌, ◌-ℤ◌, ◌≤ℤ◌, List, [], ◌∷◌, ◌++◌, length, map, refl, sym, ap, subst, ◌∙◌, arith, flat_map, ◌⊎◌, inl, inr, All, AllPairs, if◌then◌else◌, length-append, pow-suc, mul-le-mul, mul_comm, mul_assoc, pow_pos}
+use Rattle.std.proofs.Common.{◌≡◌, ℕ, zero, suc, ◌+◌, ◌*◌, ◌^◌, ◌<◌, ◌≤◌, Bool, true, false, ◌||◌, ℤ, pos, negsuc, ◌+ℤ◌, ◌-ℤ◌, ◌≤ℤ◌, List, [], ◌∷◌, ◌++◌, length, map, refl, sym, ap, subst, ◌∙◌, arith, flat_map, ◌⊎◌, inl, inr, All, AllPairs, if◌then◌else◌, length-append, pow-suc, mul-le-mul, mul_comm, mul_assoc}
 use Rattle.std.specs.List.{list_any, range_with_len}
 use Rattle.std.proofs.lemmas.Int.{ints}
 use Rattle.std.proofs.lemmas.Bool.{or_left, or_right, or_cases, or_parts, or_from, false_from_ne_true, both_ways}
@@ -17,11 +17,13 @@ use Rattle.amr_def.proofs.Nesting.{aligned_even}
 use Rattle.amr_def.specs.Regrid.{odd}
 use Rattle.amr_def.specs.Limits.{is_blocking}
 use Rattle.amr_def.proofs.Nests.{IsEven, even_is, odd_is}
+use Rattle.amr_def.proofs.Courants.{power_positive}
+use Rattle.amr_def.proofs.Uncovered.{domain_box_cells}
 use Rattle.amr_payload.specs.Payload.{level_cells}
 use Rattle.amr_payload.specs.Tests.{place_in}
 use Rattle.amr_payload.proofs.Fields.{Each}
 use Rattle.amr_payload.proofs.Places.{each_cell, by_places, place_of}
-use Rattle.amr_payload.proofs.GridLevels.{HaveNoCommonCell, domain_box_cells}
+use Rattle.amr_payload.proofs.GridLevels.{HaveNoCommonCell}
 
 -- ---- lists of distinct cells
 
@@ -183,12 +185,9 @@ four_each blocking (b ∷ bs) factor proper aligned =
     let more = four_each blocking bs factor (λ k d inside. proper (suc k) d (omega arith)) (λ k d inside. aligned (suc k) d (omega arith)) in
     omega (arith, length-append (cells_of b) (flat_map cells_of bs), one, more)
 
-positive_power : (n l : ℕ) → 0 < n → 0 < n * 2 ^ l
-positive_power n l some = let least : 1 ≤ 2 ^ l = pow_pos l in let most : 1 * 1 ≤ n * 2 ^ l = mul-le-mul some least in omega arith
-
 -- a level's boxes have at most as many cells as its domain
 pub level_few : (p : Problem) (l : ℕ) (k : Level) → IsLevel p l k → length (flat_map cells_of k.boxes) ≤ level_cells p l
-level_few p l k level = few_cells p l k level (positive_power p.nx l (omega (arith, p.limits.least_nx))) (positive_power p.ny l (omega (arith, p.limits.least_ny)))
+level_few p l k level = few_cells p l k level (power_positive p.nx l (omega (arith, p.limits.least_nx))) (power_positive p.ny l (omega (arith, p.limits.least_ny)))
 
 pub next_cells : (p : Problem) (l : ℕ) → level_cells p (suc l) ≡ 4 * level_cells p l
 next_cells p l =

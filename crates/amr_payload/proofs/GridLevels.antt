@@ -1,26 +1,27 @@
 -- Boxes with masses that pass their tests make a level: disjoint boxes in the domain, each cell with its mass. And the bytes of
 -- that level are those of the boxes.
-use Rattle.std.proofs.Common.{◌≡◌, ℕ, zero, suc, ◌+◌, ◌*◌, ◌^◌, ◌<◌, ◌≤◌, Bool, true, false, not, ◌&&◌, ◌||◌, ℤ, pos, ◌+ℤ◌, ◌-ℤ◌, ◌≤ℤ◌, List, [], ◌∷◌, ◌++◌, length, map, refl, sym, ap, subst, ◌∙◌, arith, flat_map, ◌⊎◌, inl, inr, All, AllPairs, unwrap_or, is_some, if◌then◌else◌, IsTrue, nat_le, mul-zero}
+use Rattle.std.proofs.Common.{◌≡◌, ℕ, zero, suc, ◌+◌, ◌*◌, ◌^◌, ◌<◌, ◌≤◌, Bool, true, false, not, ◌&&◌, ◌||◌, ℤ, pos, ◌+ℤ◌, List, [], ◌∷◌, ◌++◌, length, map, refl, sym, ap, subst, ◌∙◌, arith, flat_map, ◌⊎◌, inl, inr, All, AllPairs, unwrap_or, is_some, if◌then◌else◌, IsTrue, nat_le, mul-zero}
 use Rattle.std.specs.Prelude.{slice_index, int_le}
 use Rattle.std.specs.List.{list_any}
 use Rattle.std.specs.Int.{Width, w32, int_rem_euclid}
-use Rattle.std.specs.Ordering.{int_eq}
 use Rattle.std.specs.declared.option.Option.{Option}
 use Rattle.std.specs.declared.option.Option.TheVariants.{Some}
 use Rattle.std.proofs.lemmas.List.{length-map}
 use Rattle.std.proofs.lemmas.Int.{ints}
 use Rattle.std.proofs.lemmas.Bool.{and_parts, and_from, or_cases, or_parts, not-true, false_from_ne_true, both_ways, leb-true, eqb-true}
 use Rattle.amr_box.specs.declared.Cell.{Cell}
-use Rattle.amr_box.specs.Cells.{Extent, IsProper, cells_of, common, holds, within, width, height}
+use Rattle.amr_box.specs.Cells.{Extent, IsProper, cells_of, common, holds, within, width, height, is_same_cell}
 use Rattle.amr_box.proofs.Boxes.{holds-common, int_le-yes}
-use Rattle.amr_box.proofs.CellEquality.{same_number, same_cells}
+use Rattle.amr_box.proofs.CellEquality.{same_number, coordinates_same}
+use Rattle.amr_box.proofs.Numbers.{le_from}
 use Rattle.amr_def.specs.declared.problem.Problem.{Problem}
 use Rattle.amr_def.specs.Domain.{Domain, domain, domain_box, in_domain, is_inside}
 use Rattle.amr_def.specs.State.{Masses, in_boxes, mass_of}
 use Rattle.amr_def.specs.Facts.{IsAligned, IsLevel, growth}
 use Rattle.amr_def.proofs.SoundRun.{domain_proper}
+use Rattle.amr_def.proofs.Uncovered.{domain_box_cells}
 use Rattle.amr_payload.specs.Payload.{level_cells, box_bytes, level_bytes, number_bytes}
-use Rattle.amr_payload.specs.Tests.{Grid, is_same_cell, is_same_box, is_proper, lies_in, is_multiple, is_aligned, meets, is_box_of, is_box_count, is_mass, masses_in, level_of, place_in}
+use Rattle.amr_payload.specs.Tests.{Grid, is_same_box, is_proper, lies_in, is_multiple, is_aligned, meets, is_box_of, is_box_count, is_mass, masses_in, level_of, place_in}
 use Rattle.amr_payload.proofs.Fields.{Each}
 use Rattle.amr_payload.proofs.Numbers.{IsCode}
 use Rattle.amr_payload.proofs.Grids.{corners, AreGrids, grid_bytes, grids_bytes}
@@ -53,9 +54,6 @@ high_held b h =
     let parts = and_parts (int_le b.lo.x b.hi.x) (int_le b.lo.y b.hi.y) h in
     and_from (within b.lo.x b.hi.x b.hi.x) (within b.lo.y b.hi.y b.hi.y) (high_within b.lo.x b.hi.x parts.0) (high_within b.lo.y b.hi.y parts.1)
 
-le_from : (a b : ℤ) → int_le a b ≡ true → a ≤ℤ b
-le_from a b h = grind (arith, ints)
-
 pub proper_is : (b : Extent) → is_proper b ≡ true → IsProper b
 proper_is b h =
     let parts = and_parts (int_le b.lo.x b.hi.x) (int_le b.lo.y b.hi.y) h in
@@ -85,21 +83,11 @@ box_inside d b c lies held =
     let at = and_parts (within b.lo.x b.hi.x c.x) (within b.lo.y b.hi.y c.y) held in
     and_from (is_inside d.columns c.x) (is_inside d.rows c.y) (inside_between d.columns b.lo.x b.hi.x c.x low.0 high.0 at.0) (inside_between d.rows b.lo.y b.hi.y c.y low.1 high.1 at.1)
 
-within_columns : (n : ℕ) (z : ℤ) → within (pos 0) (pos n -ℤ pos 1) z ≡ is_inside n z
-within_columns n z = grind (arith, ints)
-
-pub domain_box_cells : (d : Domain) (c : Cell) → holds (domain_box d) c ≡ in_domain d c
-unfolding in_domain
-domain_box_cells d c = λ i. within_columns d.columns c.x i && within_columns d.rows c.y i
-
-same_cell_is : (a b : Cell) → is_same_cell a b ≡ true → a ≡ b
-same_cell_is a b h = let parts = and_parts (int_eq a.x b.x) (int_eq a.y b.y) h in same_cells a b (same_number a.x b.x parts.0) (same_number a.y b.y parts.1)
-
 pub same_box_is : (a b : Extent) → is_same_box a b ≡ true → a ≡ b
 same_box_is a b h =
     let parts = and_parts (is_same_cell a.lo b.lo) (is_same_cell a.hi b.hi) h in
-    let lo = same_cell_is a.lo b.lo parts.0 in
-    let hi = same_cell_is a.hi b.hi parts.1 in
+    let lo = coordinates_same a.lo b.lo parts.0 in
+    let hi = coordinates_same a.hi b.hi parts.1 in
     λ i. record { lo = lo i; hi = hi i }
 
 pub record IsFineBox (p : Problem) (l : ℕ) (earlier : List Extent) (b : Extent) : Type 0 where
@@ -307,10 +295,10 @@ module _ (w : Width) (code : IsCode w (2 ^ 32)) (p : Problem) (n l : ℕ) where
 
 -- ---- and above level 0 its boxes are aligned
 
-multiple_is : (n : ℕ) (z : ℤ) → is_multiple n z ≡ true → int_rem_euclid z (pos n) ≡ pos 0
+pub multiple_is : (n : ℕ) (z : ℤ) → is_multiple n z ≡ true → int_rem_euclid z (pos n) ≡ pos 0
 multiple_is n z h = same_number (int_rem_euclid z (pos n)) (pos 0) h
 
-aligned_is : (n : ℕ) (b : Extent) → is_aligned n b ≡ true → IsAligned n b
+pub aligned_is : (n : ℕ) (b : Extent) → is_aligned n b ≡ true → IsAligned n b
 aligned_is n b h =
     let t = and_parts (is_multiple n b.lo.x && is_multiple n b.lo.y && is_multiple n (b.hi.x +ℤ pos 1)) (is_multiple n (b.hi.y +ℤ pos 1)) h in
     let u = and_parts (is_multiple n b.lo.x && is_multiple n b.lo.y) (is_multiple n (b.hi.x +ℤ pos 1)) t.0 in

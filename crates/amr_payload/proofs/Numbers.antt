@@ -2,8 +2,8 @@
 use Rattle.std.proofs.Common.{◌≡◌, ℕ, zero, suc, ◌+◌, ◌*◌, ◌%◌, ◌^◌, ◌<◌, ◌≤◌, inl, inr, true, List, [], ◌∷◌, ◌++◌, length, length-append, drop, get_or, refl, sym, ap, subst, arith}
 use Rattle.std.specs.Prelude.{nat_le}
 use Rattle.std.specs.Int.{Width, w8, w32, w64, byte_len, to_le_bytes, from_le_bytes}
-use Rattle.std.proofs.lemmas.Bool.Decides.{nat_tests}
 use Rattle.std.proofs.lemmas.Nat.{le_bytes_4, le_bytes_8, from_le_bytes-to_le_bytes_4, from_le_bytes-to_le_bytes_8}
+use Rattle.std.proofs.lemmas.Bool.{le-leb, leb-true}
 use Rattle.amr_payload.specs.Payload.{IsMassWidth, number_bytes}
 use Rattle.amr_payload.specs.Tests.{Left, read, tested, after, read_number}
 use Rattle.amr_payload.proofs.Readings.{left, AreBytes, Took, Gives, was_tested, took_same}
@@ -13,12 +13,6 @@ pub record IsCode (w : Width) (limit : ℕ) : Type 0 where
   pub gives : (n k : ℕ) (bs : List ℕ) → n < limit → Gives (read_number w (left k (number_bytes w n ++ bs))) n bs
   pub took : (r e : Left) (n : ℕ) → AreBytes r.bytes → read_number w r ≡ read n e → Took (number_bytes w n) r e
   pub len : (n : ℕ) → length (number_bytes w n) ≡ byte_len w
-
-le_yes : (a b : ℕ) → a ≤ b → nat_le a b ≡ true
-le_yes a b h = grind (arith, nat_tests)
-
-le_is : (a b : ℕ) → nat_le a b ≡ true → a ≤ b
-le_is a b h = grind (arith, nat_tests)
 
 -- ---- 8 bits
 
@@ -76,15 +70,15 @@ forth_64 (a ∷ b ∷ c ∷ d ∷ e ∷ f ∷ g ∷ k ∷ xs) h s = (
 -- ---- codes
 
 long : (n : ℕ) (bs : List ℕ) (xs : List ℕ) → length xs ≡ n → nat_le n (length (xs ++ bs)) ≡ true
-long n bs xs h = le_yes n (length (xs ++ bs)) (omega (arith, length-append xs bs))
+long n bs xs h = le-leb n (length (xs ++ bs)) (omega (arith, length-append xs bs))
 
 pub code_8 : IsCode w8 256
 unfolding number_bytes read_number
 code_8 = record {
-  gives = λ n k bs fits. record { place = k + 1; is = (λ i. tested (le_yes 1 (length (to_le_bytes w8 n ++ bs)) (omega arith) i) k (back_8 n fits i) (left (k + 1) bs)) };
+  gives = λ n k bs fits. record { place = k + 1; is = (λ i. tested (le-leb 1 (length (to_le_bytes w8 n ++ bs)) (omega arith) i) k (back_8 n fits i) (left (k + 1) bs)) };
   took = λ r e n small h.
       let t = was_tested (nat_le 1 (length r.bytes)) r.place (from_le_bytes w8 r.bytes) n (after 1 r) e h in
-      let f = forth_8 r.bytes (le_is 1 (length r.bytes) t.passes) small in
+      let f = forth_8 r.bytes (leb-true 1 (length r.bytes) t.passes) small in
       took_same (to_le_bytes w8 (from_le_bytes w8 r.bytes)) (to_le_bytes w8 n) r (after 1 r) e (ap (λ m. to_le_bytes w8 m) t.value) t.rest (record { is = f.0; small = f.1 });
   len = λ n. refl;
 }
@@ -92,10 +86,10 @@ code_8 = record {
 pub code_32 : IsCode w32 (2 ^ 32)
 unfolding number_bytes read_number
 code_32 = record {
-  gives = λ n k bs fits. record { place = k + 4; is = (λ i. tested (le_yes 4 (length (to_le_bytes w32 n ++ bs)) (omega arith) i) k (from_le_bytes-to_le_bytes_4 n fits i) (left (k + 4) bs)) };
+  gives = λ n k bs fits. record { place = k + 4; is = (λ i. tested (le-leb 4 (length (to_le_bytes w32 n ++ bs)) (omega arith) i) k (from_le_bytes-to_le_bytes_4 n fits i) (left (k + 4) bs)) };
   took = λ r e n small h.
       let t = was_tested (nat_le 4 (length r.bytes)) r.place (from_le_bytes w32 r.bytes) n (after 4 r) e h in
-      let f = forth_32 r.bytes (le_is 4 (length r.bytes) t.passes) small in
+      let f = forth_32 r.bytes (leb-true 4 (length r.bytes) t.passes) small in
       took_same (to_le_bytes w32 (from_le_bytes w32 r.bytes)) (to_le_bytes w32 n) r (after 4 r) e (ap (λ m. to_le_bytes w32 m) t.value) t.rest (record { is = f.0; small = f.1 });
   len = λ n. refl;
 }
@@ -103,10 +97,10 @@ code_32 = record {
 pub code_64 : IsCode w64 (2 ^ 64)
 unfolding number_bytes read_number
 code_64 = record {
-  gives = λ n k bs fits. record { place = k + 8; is = (λ i. tested (le_yes 8 (length (to_le_bytes w64 n ++ bs)) (omega arith) i) k (from_le_bytes-to_le_bytes_8 n fits i) (left (k + 8) bs)) };
+  gives = λ n k bs fits. record { place = k + 8; is = (λ i. tested (le-leb 8 (length (to_le_bytes w64 n ++ bs)) (omega arith) i) k (from_le_bytes-to_le_bytes_8 n fits i) (left (k + 8) bs)) };
   took = λ r e n small h.
       let t = was_tested (nat_le 8 (length r.bytes)) r.place (from_le_bytes w64 r.bytes) n (after 8 r) e h in
-      let f = forth_64 r.bytes (le_is 8 (length r.bytes) t.passes) small in
+      let f = forth_64 r.bytes (leb-true 8 (length r.bytes) t.passes) small in
       took_same (to_le_bytes w64 (from_le_bytes w64 r.bytes)) (to_le_bytes w64 n) r (after 8 r) e (ap (λ m. to_le_bytes w64 m) t.value) t.rest (record { is = f.0; small = f.1 });
   len = λ n. refl;
 }
@@ -116,7 +110,7 @@ pub below_64 : (r e : Left) (n : ℕ) → AreBytes r.bytes → read_number w64 r
 unfolding read_number
 below_64 r e n small h =
     let t = was_tested (nat_le 8 (length r.bytes)) r.place (from_le_bytes w64 r.bytes) n (after 8 r) e h in
-    subst (λ (m : ℕ). m < 2 ^ 64) t.value (forth_64 r.bytes (le_is 8 (length r.bytes) t.passes) small).2
+    subst (λ (m : ℕ). m < 2 ^ 64) t.value (forth_64 r.bytes (leb-true 8 (length r.bytes) t.passes) small).2
 
 -- masses of either width
 pub mass_code : (w : Width) → IsMassWidth w → IsCode w (2 ^ 32)

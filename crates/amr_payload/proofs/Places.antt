@@ -9,6 +9,7 @@ use Rattle.amr_box.specs.declared.Cell.{Cell}
 use Rattle.amr_box.specs.Cells.{Extent, at_least_zero, cell, cells_of, holds, within, width, height}
 use Rattle.amr_box.proofs.CellEquality.{is_cell, cell_itself, cell_same, same_cell}
 use Rattle.amr_box.proofs.CellLists.{among_cells_of}
+use Rattle.amr_box.proofs.Numbers.{at_least_zero-is}
 use Rattle.amr_payload.specs.Tests.{place_in}
 use Rattle.amr_payload.proofs.Fields.{Each}
 
@@ -91,10 +92,7 @@ numbers_in_order (m ∷ ms) a g h =
     λ j. first j ∷ numbers_in_order ms (a + 1) g (λ i. at_same g (a + 1 + i) (a + suc i) (omega arith) ∙ h (suc i)) j
 
 gap : (z : ℤ) (n : ℕ) → at_least_zero (z +ℤ pos n -ℤ z) ≡ n
-gap z n = known (z +ℤ pos n -ℤ z) n (omega (arith, ints))
-  where
-    known : (y : ℤ) (n : ℕ) → y ≡ pos n → at_least_zero y ≡ n
-    known y n e = ap at_least_zero e
+gap z n = at_least_zero-is (z +ℤ pos n -ℤ z) n (omega (arith, ints))
 
 pub place_of : (b : Extent) (i j : ℕ) → place_in b (cell (b.lo.x +ℤ pos i) (b.lo.y +ℤ pos j)) ≡ j * width b + i
 place_of b i j = λ k. gap b.lo.y j k * width b + gap b.lo.x i k

@@ -13,7 +13,7 @@ use Rattle.amr_def.specs.State.{Masses, Level, State, no_level, level_at, in_box
 use Rattle.amr_def.specs.Ledger.{total_mass}
 use Rattle.amr_def.specs.Facts.{IsAligned, IsLevel, IsNestedLevel, IsTelescoped, IsSmallRow, IsSound, growth, no_row, row_at}
 use Rattle.amr_def.proofs.Nesting.{covered_inside}
-use Rattle.amr_def.proofs.Uncovered.{in_domain-yes}
+use Rattle.amr_def.proofs.Uncovered.{domain_box_cells, in_domain-yes}
 use Rattle.amr_payload.specs.Payload.{IsMassWidth, number_bytes, row_bytes, level_bytes, payload}
 use Rattle.amr_payload.specs.Tests.{Left, Reading, bad, read, then_read, tested, read_also, read_number, read_rows, read_step, read_level, read_finer, read_all_finer, read_levels, read_state, decoded, nothing_follows, surrounds, is_in_sync, is_in_balance, row_place, level_of}
 use Rattle.amr_payload.proofs.Readings.{left, AreBytes, are_bytes, was_read, was_tested, also_read, Took, took_then, took_none, took_same}
@@ -21,7 +21,7 @@ use Rattle.amr_payload.proofs.Numbers.{IsCode, code_8, code_32, mass_code}
 use Rattle.amr_payload.proofs.Fields.{read_rest, IsChain, IsLedger, rows_took}
 use Rattle.amr_payload.proofs.Grids.{grids_bytes, IsLevelRead, level_took}
 use Rattle.amr_payload.proofs.Places.{any_cell}
-use Rattle.amr_payload.proofs.GridLevels.{all_from, domain_box_cells, level_written, is_level, level_bounded, all_aligned, base_boxes}
+use Rattle.amr_payload.proofs.GridLevels.{all_from, level_written, is_level, level_bounded, all_aligned, base_boxes}
 
 -- ---- two levels
 

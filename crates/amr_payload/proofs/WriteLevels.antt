@@ -1,5 +1,5 @@
 -- The levels of a sound state are read back from their bytes.
-use Rattle.std.proofs.Common.{◌≡◌, ℕ, zero, suc, ◌+◌, ◌*◌, ◌^◌, ◌<◌, ◌≤◌, Bool, true, false, not, ◌&&◌, ◌||◌, ℤ, pos, negsuc, ◌+ℤ◌, ◌≤ℤ◌, ◌<ℤ◌, List, [], ◌∷◌, ◌++◌, length, map, refl, sym, ap, subst, ◌∙◌, arith, flat_map, All, AllPairs, if◌then◌else◌, is_some, unwrap_or, nat_le, ◌==◌, mul-le-mul_right, mul-le-mul, append_assoc, pow-suc, ◌/◌, ◌%◌, Option, Some, None}
+use Rattle.std.proofs.Common.{◌≡◌, ℕ, suc, ◌+◌, ◌*◌, ◌^◌, ◌<◌, ◌≤◌, Bool, true, false, not, ◌&&◌, ◌||◌, ℤ, pos, negsuc, ◌+ℤ◌, ◌≤ℤ◌, ◌<ℤ◌, List, [], ◌∷◌, ◌++◌, length, map, refl, sym, ap, subst, ◌∙◌, arith, flat_map, All, AllPairs, if◌then◌else◌, is_some, unwrap_or, nat_le, ◌==◌, mul-le-mul_right, mul-le-mul, append_assoc, ◌/◌, ◌%◌, Option, Some, None}
 use Rattle.std.specs.Prelude.{slice_index}
 use Rattle.std.specs.List.{list_any}
 use Rattle.std.specs.Int.{Width, int_rem_euclid}
@@ -10,7 +10,7 @@ use Rattle.std.proofs.lemmas.Nat.{div-mul-add, mod-mul-add}
 use Rattle.std.proofs.lemmas.List.{length-map}
 use Rattle.std.proofs.lemmas.List.FromFn.{get_or-map-range_with_len}
 use Rattle.amr_box.specs.declared.Cell.{Cell}
-use Rattle.amr_box.specs.Cells.{Extent, extent, IsProper, cell, cells_of, common, holds, width, height}
+use Rattle.amr_box.specs.Cells.{Extent, extent, IsProper, cell, cells_of, common, holds, width, height, is_same_cell}
 use Rattle.amr_box.proofs.CellEquality.{number_itself, same_cell}
 use Rattle.amr_box.proofs.Parts.{length-cells_of}
 use Rattle.amr_def.specs.declared.problem.Problem.{Problem}
@@ -19,14 +19,16 @@ use Rattle.amr_def.specs.State.{Masses, Level, mass_of, in_boxes, is_covered, is
 use Rattle.amr_def.specs.Facts.{IsAligned, IsNestedLevel}
 use Rattle.amr_def.proofs.Nesting.{in_domain-inside}
 use Rattle.amr_def.proofs.Sizes.{doubled_small}
+use Rattle.amr_def.proofs.Uncovered.{domain_box_cells}
+use Rattle.amr_def.proofs.Courants.{weighs}
 use Rattle.amr_payload.specs.Payload.{level_bytes, level_cells}
-use Rattle.amr_payload.specs.Tests.{tested, read_also, Grid, is_same_cell, is_same_box, is_proper, lies_in, is_multiple, is_aligned, meets, is_box_of, is_mass, is_box_count, place_in, masses_in, level_of, surrounds, is_in_sync, read_level, read_finer, read_all_finer}
+use Rattle.amr_payload.specs.Tests.{tested, read_also, Grid, is_same_box, is_proper, lies_in, is_multiple, is_aligned, meets, is_box_of, is_mass, is_box_count, place_in, masses_in, level_of, surrounds, is_in_sync, read_level, read_finer, read_all_finer}
 use Rattle.amr_payload.proofs.Readings.{left, Gives, gives, gives_then, gives_tested, gives_also, gives_at}
 use Rattle.amr_payload.proofs.Numbers.{IsCode}
 use Rattle.amr_payload.proofs.Fields.{Each}
 use Rattle.amr_payload.proofs.Grids.{IsWritable, IsGrid, AreGrids, IsFit, grids_bytes, level_gives}
 use Rattle.amr_payload.proofs.Places.{all_cells, by_places, place_of, cell_of}
-use Rattle.amr_payload.proofs.GridLevels.{HaveNoCommonCell, domain_box_cells, low_held, high_held, is_proper_from, meeting_cell, level_written}
+use Rattle.amr_payload.proofs.GridLevels.{HaveNoCommonCell, low_held, high_held, is_proper_from, meeting_cell, level_written}
 use Rattle.amr_payload.proofs.Counting.{few_boxes, domain_cells}
 use Rattle.amr_payload.proofs.ReadStates.{bound, IsGood, IsOver, IsTower}
 
@@ -171,21 +173,11 @@ each_mass : (P : ℕ → Type 0) (m : Masses) (cs : List Cell) → ((c : Cell) �
 each_mass P m [] h = tt
 each_mass P m (c ∷ cs) h = (h c, each_mass P m cs h)
 
-times_more : (l m b : ℕ) → 4 ^ l * m ≤ b → m ≤ b
-times_more l m b h =
-    let least : 1 ≤ 4 ^ l = power_positive l in
-    let most : 1 * m ≤ 4 ^ l * m = mul-le-mul_right m least in
-    omega arith
-  where
-    power_positive : (l : ℕ) → 1 ≤ 4 ^ l
-    power_positive zero = omega arith
-    power_positive (suc l) = let more = power_positive l in let power : 4 ^ suc l ≡ 4 ^ l * 4 = pow-suc 4 l in omega arith
-
 module _ (w : Width) (code : IsCode w (2 ^ 32)) (p : Problem) (n l : ℕ) where
   grid_fits : (m : Masses) (b : Extent) → l ≤ 4 → bound p n < 2 ^ 31 → ((c : Cell) → 4 ^ l * mass_of m c ≤ bound p n) → IsOf p l b → IsFit w code p n l (grid m b)
   grid_fits m b deep small bounded h = record {
     box = writable p l b deep h;
-    masses = each_mass (λ k. k < 2 ^ 32) m (cells_of b) (λ c. let most = times_more l (mass_of m c) (bound p n) (bounded c) in omega arith);
+    masses = each_mass (λ k. k < 2 ^ 32) m (cells_of b) (λ c. let most = weighs l (mass_of m c) (bound p n) (bounded c) in omega arith);
   }
 
   grids_fit : (m : Masses) (bs : List Extent) → l ≤ 4 → bound p n < 2 ^ 31 → ((c : Cell) → 4 ^ l * mass_of m c ≤ bound p n) → Each (IsOf p l) bs → Each (IsFit w code p n l) (map (grid m) bs)

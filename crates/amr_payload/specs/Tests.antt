@@ -20,7 +20,7 @@ use Rattle.std.specs.declared.option.Option.TheVariants.{None, Some}
 use Rattle.std.specs.declared.result.Result.{Result}
 use Rattle.std.specs.declared.result.Result.TheVariants.{Ok, Err}
 use Rattle.amr_box.specs.declared.Cell.{Cell}
-use Rattle.amr_box.specs.Cells.{cell, Extent, extent, holds, common, at_least_zero, width, height, cells_of}
+use Rattle.amr_box.specs.Cells.{cell, Extent, extent, holds, common, at_least_zero, width, height, cells_of, is_same_cell}
 use Rattle.amr_def.specs.declared.problem.Problem.{Problem}
 use Rattle.amr_def.specs.declared.problem.Row.{Row}
 use Rattle.amr_def.specs.Limits.{between}
@@ -104,9 +104,6 @@ unfoldable pub read_box : Left → Reading Extent
 read_box r =
     then_read (read_number w32 r) (λ x0 a. then_read (read_number w32 a) (λ y0 b. then_read (read_number w32 b) (λ x1 c. then_read (read_number w32 c) (λ y1 d.
     read (extent (cell (pos x0) (pos y0)) (cell (pos x1) (pos y1))) d))))
-
-abbrev pub is_same_cell : Cell → Cell → Bool
-is_same_cell a b = int_eq a.x b.x && int_eq a.y b.y
 
 abbrev pub is_same_box : Extent → Extent → Bool
 is_same_box a b = is_same_cell a.lo b.lo && is_same_cell a.hi b.hi

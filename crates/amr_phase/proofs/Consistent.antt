@@ -5,7 +5,7 @@ use Rattle.std.proofs.Math.ListN.{length-set, length-replicate}
 use Rattle.std.proofs.lemmas.List.{get_or-set_same, get_or-set_other, get_or-replicate}
 use Rattle.std.proofs.lemmas.List.Quantifiers.{position-Some}
 use Rattle.std.proofs.Math.Seq.{take-length}
-use Rattle.std.proofs.lemmas.Bool.{lt-ltb, le-ltb, ltb-true, le-leb, lt-leb}
+use Rattle.std.proofs.lemmas.Bool.{lt-ltb, le-ltb, ltb-true, le-leb, lt-leb, eqb-true}
 use mathlib.Core.Logic.{dite}
 use native.Mathlib.Decide.{ℕ_discrete, dec_le}
 use Rattle.amr_phase.specs.declared.plan.Task.{Task}
@@ -19,7 +19,7 @@ use Rattle.amr_phase.specs.Machine.{CoreOf, is_with, is_waiting, puts_done, tota
 use Rattle.amr_phase.specs.Laws.{IsConsistent}
 use Rattle.std.specs.Option.{option_and_then}
 use Rattle.amr_phase.proofs.Totals.{total2_set, zero2, le2, unnamed}
-use Rattle.amr_phase.proofs.Finding.{at_set, same_of, none_passes, any_default}
+use Rattle.amr_phase.proofs.Finding.{at_set, none_passes, any_default}
 use Rattle.amr_phase.proofs.Sums.{total_more, total_take, total_set, zero_too}
 
 abbrev one_if : Bool → ℕ
@@ -75,8 +75,8 @@ keeps_given c h x lt e =
     let a = x.adds in
     fine_if (p == length (task_at c t).puts) _ (λ puts.
     fine_if (a == length (task_at c t).adds) _ (λ adds.
-    let p_is : p ≡ length (task_at c t).puts = same_of p (length (task_at c t).puts) puts in
-    let a_is : a ≡ length (task_at c t).adds = same_of a (length (task_at c t).adds) adds in
+    let p_is : p ≡ length (task_at c t).puts = eqb-true p (length (task_at c t).puts) puts in
+    let a_is : a ≡ length (task_at c t).adds = eqb-true a (length (task_at c t).adds) adds in
     keeps_moved c h t Given lt (sym (ap is_waiting e)) (λ w is. absurd (true≢false (sym is))) c.faces c.totals refl refl
     (λ w _. ap (λ x. get_or c.totals w 0 + adds_sum w (task_at c t) x) e ∙ ap (λ l. get_or c.totals w 0 + total (added w) l) (ap (λ n. take n (task_at c t).adds) a_is ∙ take-length (task_at c t).adds))
     (λ q _. ap (λ x. word_of (get_or c.faces q None) + puts_sum q (task_at c t) x) e ∙ ap (λ l. word_of (get_or c.faces q None) + total (stored q) l) (ap (λ n. take n (task_at c t).puts) p_is ∙ take-length (task_at c t).puts))))
@@ -193,7 +193,7 @@ module _ (c : CoreOf) (h : IsConsistent c) (w : ℕ) (w_lt : w < length c.past) 
       -- who is with a task afterwards is the drawer with this one, or was with it before
       was : (v u : ℕ) → is_with v (get_or (set c.stages c.counter (Drawn w)) u Given) ≡ true → ((u ≡ c.counter) × (w ≡ v)) ⊎ ((u ≢ c.counter) × (is_with v (stage_of c u) ≡ true))
       was v = at_set (λ u x. is_with v x ≡ true → ((u ≡ c.counter) × (w ≡ v)) ⊎ ((u ≢ c.counter) × (is_with v (stage_of c u) ≡ true))) c.stages c.counter (Drawn w) Given lt
-          (λ j ne e. inr (ne, e)) (λ e. inl (refl, same_of w v e))
+          (λ j ne e. inr (ne, e)) (λ e. inl (refl, eqb-true w v e))
 
       one_of : (v t u : ℕ) → is_with v (get_or (set c.stages c.counter (Drawn w)) t Given) ≡ true → is_with v (get_or (set c.stages c.counter (Drawn w)) u Given) ≡ true → t ≡ u
       one_of v t u a b =

@@ -1,5 +1,5 @@
 -- What is found in a list, and where.
-use Rattle.std.proofs.Common.{◌≡◌, ◌≢◌, ℕ, zero, suc, ◌+◌, ◌<◌, ◌≤◌, ◌==◌, cond, Bool, true, false, true≢false, List, [], ◌∷◌, length, get_or, set, Some, None, refl, sym, ◌∙◌, subst, arith, ne_eqb}
+use Rattle.std.proofs.Common.{◌≡◌, ◌≢◌, ℕ, zero, suc, ◌+◌, ◌<◌, ◌≤◌, cond, Bool, true, false, true≢false, List, [], ◌∷◌, length, get_or, set, Some, None, refl, sym, subst, arith}
 use Rattle.std.specs.Prelude.{is_some, Option, nat_lt, position}
 use Rattle.std.specs.List.{position_or_len}
 use Rattle.std.proofs.lemmas.List.{get_or-set_same, get_or-set_other}
@@ -14,9 +14,6 @@ at_set Q xs i y d lt others mine j =
     dite (ℕ_discrete j i)
     (λ e. subst (λ k. Q k (get_or (set xs i y) k d)) (sym e) (subst (Q i) (sym (get_or-set_same xs i y d lt)) mine))
     (λ ne. subst (Q j) (sym (get_or-set_other xs i j y d ne)) (others j ne))
-
-pub same_of : (a b : ℕ) → (a == b) ≡ true → a ≡ b
-same_of a b h = dite (ℕ_discrete a b) (λ e. e) (λ ne. absurd (true≢false (sym h ∙ ne_eqb a b ne)))
 
 first : {X : Type 0} → (X → Bool) → List X → ℕ
 first p [] = 0

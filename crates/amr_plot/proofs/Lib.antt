@@ -1,4 +1,3 @@
-mod Items
 mod Fragments
 mod Putting
 mod Words

@@ -1,8 +1,8 @@
 -- Laws of ranges.
 use Rattle.std.proofs.Common.{◌≡◌, true, ◌&&◌, ℤ, ◌≤ℤ◌, int_le, inl, inr, refl, List, [], ◌∷◌, None, arith}
 use Rattle.std.proofs.lemmas.Bool.{cases_Bool, and_parts}
-use Rattle.std.proofs.lemmas.Int.{ints}
 use Rattle.std.specs.List.{list_all}
+use Rattle.amr_box.proofs.Numbers.{le_from}
 use Rattle.amr_problem.specs.declared.range.Range.{Range}
 use Rattle.amr_problem.specs.Keys.{is_among, holds, first_outside, first_beyond}
 
@@ -12,16 +12,13 @@ pub record IsIn (r : Range) (z : ℤ) : Type 0 where
   pub greatest : z ≤ℤ r.high
   pub among : is_among r.among z ≡ true
 
-int_le-true : (a b : ℤ) → int_le a b ≡ true → a ≤ℤ b
-int_le-true a b h = grind (arith, ints)
-
 pub holds-IsIn : (r : Range) (z : ℤ) → holds r z ≡ true → IsIn r z
 holds-IsIn r z h =
     let (within, among) = and_parts (int_le r.low z && int_le z r.high) (is_among r.among z) h in
     let (low, high) = and_parts (int_le r.low z) (int_le z r.high) within in
     record {
-      least = int_le-true r.low z low;
-      greatest = int_le-true z r.high high;
+      least = le_from r.low z low;
+      greatest = le_from z r.high high;
       among = among;
     }
 

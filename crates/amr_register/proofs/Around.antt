@@ -10,6 +10,7 @@ use Rattle.amr_box.specs.declared.Cell.{Cell}
 use Rattle.amr_box.specs.Cells.{Extent, IsBoxOf, IsNear, IsProper, at_least_zero, cell, half, has_child_where, holds}
 use Rattle.amr_box.proofs.CellEquality.{same_cell}
 use Rattle.amr_box.proofs.Children.{has_child_more}
+use Rattle.amr_box.proofs.Numbers.{half_le as half_order, plus_minus_one}
 use Rattle.amr_def.specs.declared.problem.Problem.{Problem}
 use Rattle.amr_def.specs.Domain.{Domain, domain, home_cell, in_domain, is_near, moved, wrapped}
 use Rattle.amr_def.specs.State.{Level, Masses, is_covered}
@@ -19,7 +20,7 @@ use Rattle.amr_def.proofs.LevelLists.{HasAllChildren, child_0}
 use Rattle.amr_def.proofs.Nesting.{aligned_even, children, covered_inside, near_east, near_north, near_south, near_west, odd_small}
 use Rattle.amr_def.proofs.Nesting.{of_level as of_coarse}
 use Rattle.amr_def.proofs.Nests.{IsEven, half_and_odd}
-use Rattle.amr_def.proofs.Uncovered.{in_domain-yes, no_children}
+use Rattle.amr_def.proofs.Uncovered.{in_domain-yes, no_children, wrapped_at}
 use Rattle.amr_patch.proofs.Rows.{inside, is_inside}
 use Rattle.amr_flux.specs.Faces.{IsInDomain}
 use Rattle.amr_register.specs.RegisterCells.{has_neighbour_where, is_register_cell}
@@ -30,10 +31,6 @@ use Rattle.amr_register.proofs.CollectLaws.{BoxesDone, coarse_box, is_beside, no
 use Rattle.amr_register.proofs.Homes.{HasSize, IsWithinDomain, size_at, within_domain}
 
 -- ---- along an axis
-
-here_wrapped : (wrap : Bool) (n : ℕ) (z : ℤ) → pos 0 ≤ℤ z → z <ℤ pos n → wrapped wrap n z ≡ z
-here_wrapped wrap n (pos a) h k = wrapped_inside wrap n a (omega (arith, ints))
-here_wrapped wrap n (negsuc a) h k = absurd (omega (arith, ints))
 
 two_orders : (a b : ℤ) → (a ≤ℤ b) ⊎ (b <ℤ a)
 two_orders (pos a) (pos b) = by_size (cases_lt b a)
@@ -63,7 +60,7 @@ module _ (wrap : Bool) (n : ℕ) (low high z : ℤ) (some : 0 < n) (lo : pos 0 �
       let zero : low ≡ pos 0 = omega (arith, ints, first) in
       let before : low -ℤ pos 1 ≡ negsuc 0 = omega (arith, ints) in
       let last : z ≡ pos n -ℤ pos 1 = omega (arith, ints) in
-      ap (wrapped true n) before ∙ sym (wrapped_before n some) ∙ ap (wrapped true n) (sym last) ∙ here_wrapped true n z from to
+      ap (wrapped true n) before ∙ sym (wrapped_before n some) ∙ ap (wrapped true n) (sym last) ∙ wrapped_at true n z from to
 
   pub just_below : low ≤ℤ wrapped wrap n (z +ℤ pos 1) → wrapped wrap n (z +ℤ pos 1) ≤ℤ high → wrapped wrap n (low -ℤ pos 1) ≡ z
   just_below a b = cases (two_orders (pos n) (z +ℤ pos 1))
@@ -71,9 +68,9 @@ module _ (wrap : Bool) (n : ℕ) (low high z : ℤ) (some : 0 < n) (lo : pos 0 �
       cases : (pos n ≤ℤ (z +ℤ pos 1)) ⊎ ((z +ℤ pos 1) <ℤ pos n) → wrapped wrap n (low -ℤ pos 1) ≡ z
       cases (inl e) = end_below wrap e a b
       cases (inr lt) =
-          let next : wrapped wrap n (z +ℤ pos 1) ≡ z +ℤ pos 1 = here_wrapped wrap n (z +ℤ pos 1) (omega (arith, ints)) lt in
+          let next : wrapped wrap n (z +ℤ pos 1) ≡ z +ℤ pos 1 = wrapped_at wrap n (z +ℤ pos 1) (omega (arith, ints)) lt in
           let is : low -ℤ pos 1 ≡ z = step_below (subst (λ (w : ℤ). low ≤ℤ w) next a) (subst (λ (w : ℤ). w ≤ℤ high) next b) (two_orders low z) in
-          ap (wrapped wrap n) is ∙ here_wrapped wrap n z from to
+          ap (wrapped wrap n) is ∙ wrapped_at wrap n z from to
 
   step_above : low ≤ℤ (z -ℤ pos 1) → (z -ℤ pos 1) ≤ℤ high → (z ≤ℤ high) ⊎ (high <ℤ z) → high +ℤ pos 1 ≡ z
   step_above h k (inl le) = absurd (out (omega (arith, ints)) le)
@@ -84,7 +81,7 @@ module _ (wrap : Bool) (n : ℕ) (low high z : ℤ) (some : 0 < n) (lo : pos 0 �
   end_above true e a b =
       let is_start : z -ℤ pos 1 ≡ negsuc 0 = omega (arith, ints) in
       let before : pos 0 ≤ℤ (pos n -ℤ pos 1) = omega (arith, ints) in
-      let last : wrapped true n (z -ℤ pos 1) ≡ pos n -ℤ pos 1 = ap (wrapped true n) is_start ∙ sym (wrapped_before n some) ∙ here_wrapped true n (pos n -ℤ pos 1) before (omega (arith, ints)) in
+      let last : wrapped true n (z -ℤ pos 1) ≡ pos n -ℤ pos 1 = ap (wrapped true n) is_start ∙ sym (wrapped_before n some) ∙ wrapped_at true n (pos n -ℤ pos 1) before (omega (arith, ints)) in
       let top : high +ℤ pos 1 ≡ pos n = omega (arith, ints, last) in
       let zero : pos 0 ≡ z = omega (arith, ints) in
       ap (wrapped true n) top ∙ wrapped_end n ∙ wrapped_inside true n 0 some ∙ zero
@@ -95,9 +92,9 @@ module _ (wrap : Bool) (n : ℕ) (low high z : ℤ) (some : 0 < n) (lo : pos 0 �
       cases : (pos 0 ≤ℤ (z -ℤ pos 1)) ⊎ ((z -ℤ pos 1) <ℤ pos 0) → wrapped wrap n (high +ℤ pos 1) ≡ z
       cases (inr e) = end_above wrap e a b
       cases (inl le) =
-          let next : wrapped wrap n (z -ℤ pos 1) ≡ z -ℤ pos 1 = here_wrapped wrap n (z -ℤ pos 1) le (omega (arith, ints)) in
+          let next : wrapped wrap n (z -ℤ pos 1) ≡ z -ℤ pos 1 = wrapped_at wrap n (z -ℤ pos 1) le (omega (arith, ints)) in
           let is : high +ℤ pos 1 ≡ z = step_above (subst (λ (w : ℤ). low ≤ℤ w) next a) (subst (λ (w : ℤ). w ≤ℤ high) next b) (two_orders z high) in
-          ap (wrapped wrap n) is ∙ here_wrapped wrap n z from to
+          ap (wrapped wrap n) is ∙ wrapped_at wrap n z from to
 
 -- ---- a cell beside a box
 
@@ -132,19 +129,16 @@ module _ (d : Domain) (test : Cell → Bool) (b : Extent) (q : Cell) (cs : List 
   out_x c e a f = out (is_inside b q (record { west = a; east = f; south = c; north = e }))
 
   same_x : wrapped d.wrap_x d.columns q.x ≡ q.x
-  same_x = here_wrapped d.wrap_x d.columns q.x w.west w.east
+  same_x = wrapped_at d.wrap_x d.columns q.x w.west w.east
 
   same_y : wrapped d.wrap_y d.rows q.y ≡ q.y
-  same_y = here_wrapped d.wrap_y d.rows q.y w.south w.north
+  same_y = wrapped_at d.wrap_y d.rows q.y w.south w.north
 
   found : (r : Cell) → home_cell d r ≡ q → (test (home_cell d r) ≡ true → Contains cs (home_cell d r)) → Contains cs q
   found r e f = subst (λ (c : Cell). Contains cs c) e (f (ap test e ∙ passes))
 
   plus_none : (z : ℤ) → z +ℤ pos 0 ≡ z
   plus_none z = omega (arith, ints)
-
-  minus : (z : ℤ) → z +ℤ negsuc 0 ≡ z -ℤ pos 1
-  minus z = omega (arith, ints)
 
   still_y : wrapped d.wrap_y d.rows (q.y +ℤ pos 0) ≡ q.y
   still_y = ap (wrapped d.wrap_y d.rows) (plus_none q.y) ∙ same_y
@@ -167,8 +161,8 @@ module _ (d : Domain) (test : Cell → Bool) (b : Extent) (q : Cell) (cs : List 
       let rows = (subst (λ (z : ℤ). b.lo.y ≤ℤ z) still_y h.south) in
       let rows' = (subst (λ (z : ℤ). z ≤ℤ b.hi.y) still_y h.north) in
       let j = place_of b.lo.y q.y rows in
-      let a = subst (λ (z : ℤ). b.lo.x ≤ℤ wrapped d.wrap_x d.columns z) (minus q.x) h.west in
-      let f = subst (λ (z : ℤ). wrapped d.wrap_x d.columns z ≤ℤ b.hi.x) (minus q.x) h.east in
+      let a = subst (λ (z : ℤ). b.lo.x ≤ℤ wrapped d.wrap_x d.columns z) (plus_minus_one q.x) h.west in
+      let f = subst (λ (z : ℤ). wrapped d.wrap_x d.columns z ≤ℤ b.hi.x) (plus_minus_one q.x) h.east in
       let x = just_above d.wrap_x d.columns b.lo.x b.hi.x q.x size.some_columns sized.west sized.east w.west w.east (out_x rows rows') a f in
       found (cell (b.hi.x +ℤ pos 1) (b.lo.y +ℤ pos j.0)) (same_cell x (ap (wrapped d.wrap_y d.rows) j.1 ∙ same_y)) (around.rows.right j.0 (below_size b.lo.y b.hi.y q.y j.0 j.1 rows'))
 
@@ -187,8 +181,8 @@ module _ (d : Domain) (test : Cell → Bool) (b : Extent) (q : Cell) (cs : List 
       let columns = (subst (λ (z : ℤ). b.lo.x ≤ℤ z) still_x h.west) in
       let columns' = (subst (λ (z : ℤ). z ≤ℤ b.hi.x) still_x h.east) in
       let i = place_of b.lo.x q.x columns in
-      let a = subst (λ (z : ℤ). b.lo.y ≤ℤ wrapped d.wrap_y d.rows z) (minus q.y) h.south in
-      let f = subst (λ (z : ℤ). wrapped d.wrap_y d.rows z ≤ℤ b.hi.y) (minus q.y) h.north in
+      let a = subst (λ (z : ℤ). b.lo.y ≤ℤ wrapped d.wrap_y d.rows z) (plus_minus_one q.y) h.south in
+      let f = subst (λ (z : ℤ). wrapped d.wrap_y d.rows z ≤ℤ b.hi.y) (plus_minus_one q.y) h.north in
       let y = just_above d.wrap_y d.rows b.lo.y b.hi.y q.y size.some_rows sized.south sized.north w.south w.north (λ c g. out_x c g columns columns') a f in
       found (cell (b.lo.x +ℤ pos i.0) (b.hi.y +ℤ pos 1)) (same_cell (ap (wrapped d.wrap_x d.columns) i.1 ∙ same_x) y) (around.columns.above i.0 (below_size b.lo.x b.hi.x q.x i.0 i.1 columns'))
 
@@ -244,9 +238,6 @@ and_alike true true false h = refl
 and_alike true false false h = refl
 and_alike false true false h = refl
 and_alike false false false h = refl
-
-pub half_order : (a b : ℤ) → a ≤ℤ b → half a ≤ℤ half b
-half_order a b h = omega (arith, ints, half_and_odd a, odd_small a, half_and_odd b, odd_small b)
 
 sized_of : (d : Domain) (b : Extent) → IsProper b → IsInDomain d b → IsSized d b
 sized_of d b proper within =

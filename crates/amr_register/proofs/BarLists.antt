@@ -15,6 +15,7 @@ use Rattle.std.proofs.lemmas.List.Sorted.{All-permutation, list_any-IsPermutatio
 use Rattle.amr_box.specs.declared.Cell.{Cell}
 use Rattle.amr_box.specs.Cells.{Extent, HasCorners, IsNear, cell, extent, half, height, holds, within}
 use Rattle.amr_box.proofs.Tests.{and_shared}
+use Rattle.amr_box.proofs.Numbers.{half_le, none_within}
 use Rattle.amr_def.specs.Facts.{IsAligned}
 use Rattle.amr_def.specs.State.{Masses, in_boxes, is_covered}
 use Rattle.amr_def.proofs.LevelLists.{child_0}
@@ -25,7 +26,7 @@ use Rattle.amr_patch.specs.Patches.{AreApart}
 use Rattle.amr_patch.proofs.Apart.{apart_in_order}
 use Rattle.amr_patch.proofs.Rows.{inside, sides}
 use Rattle.amr_register.specs.Bars.{AreBars, IsBar}
-use Rattle.amr_register.proofs.Around.{coarse_holds, even_holds, first_tells, half_order}
+use Rattle.amr_register.proofs.Around.{coarse_holds, even_holds, first_tells}
 use Rattle.amr_register.proofs.CollectLaws.{coarse_box}
 use Rattle.amr_register.proofs.Taken.{same_at}
 
@@ -37,9 +38,6 @@ first_rows b n = extent b.lo (cell b.hi.x (b.lo.y +ℤ pos n -ℤ pos 1))
 
 abbrev pub row_at : Extent → ℕ → Extent
 row_at b n = extent (cell b.lo.x (b.lo.y +ℤ pos n)) (cell b.hi.x (b.lo.y +ℤ pos n))
-
-none_within : (low y : ℤ) → within low (low +ℤ pos 0 -ℤ pos 1) y ≡ false
-none_within low y = grind (arith, ints)
 
 one_within : (low y : ℤ) (n : ℕ) → (within low (low +ℤ pos n -ℤ pos 1) y || within (low +ℤ pos n) (low +ℤ pos n) y) ≡ within low (low +ℤ pos (n + 1) -ℤ pos 1) y
 one_within low y n = grind (arith, ints)
@@ -199,6 +197,6 @@ parents_near bs n e b near lt at corners =
       east = omega (arith, ints, corners.east_is, east.1);
       south = omega (arith, ints, corners.south_is, south.0);
       north = omega (arith, ints, corners.north_is, north.1);
-      wide = omega (arith, ints, corners.west_is, corners.east_is, half_order e.lo.x e.hi.x whole.wide);
-      high = omega (arith, ints, corners.south_is, corners.north_is, half_order e.lo.y e.hi.y whole.high);
+      wide = omega (arith, ints, corners.west_is, corners.east_is, half_le e.lo.x e.hi.x whole.wide);
+      high = omega (arith, ints, corners.south_is, corners.north_is, half_le e.lo.y e.hi.y whole.high);
     }

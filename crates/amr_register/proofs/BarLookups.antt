@@ -9,7 +9,7 @@ use Rattle.amr_box.specs.declared.Cell.{Cell}
 use Rattle.amr_box.specs.Cells.{Extent, cell, extent, holds}
 use Rattle.amr_def.specs.State.{in_boxes}
 use Rattle.amr_patch.specs.Orders.{AreBoxesInRows, comes_first}
-use Rattle.amr_patch.proofs.Lookups.{comes_first-trans, comes_first-yes}
+use Rattle.amr_patch.proofs.Lookups.{comes_first-rows, comes_first-trans, comes_first-yes}
 use Rattle.amr_patch.proofs.Rows.{inside, is_inside}
 use Rattle.amr_register.specs.Bars.{AreBars, IsBar}
 use Rattle.amr_register.proofs.Taken.{same_at}
@@ -18,9 +18,6 @@ use Rattle.amr_register.proofs.Taken.{same_at}
 
 first_in_row : (a b : Cell) → comes_first a b ≡ true → b.y ≤ℤ a.y → a.x ≤ℤ b.x
 first_in_row a b h e = grind (arith, ints)
-
-first_by_rows : (a b : Cell) → comes_first a b ≡ true → a.y ≤ℤ b.y
-first_by_rows a b h = grind (arith, ints)
 
 later_in_row : (a b : Cell) → comes_first a b ≡ false → a.y ≤ℤ b.y → b.x <ℤ a.x
 later_in_row a b h e = grind (arith, ints)
@@ -94,8 +91,8 @@ module _ (rs : List Extent) (c : Cell) (count : ℕ) (bars : AreBars rs) (parts 
           let second = parts.0 n d (omega arith) (omega (arith, e)) in
           let row = row_of_bar r c bar h in
           let i = inside r c h in
-          let up = first_by_rows r.lo s.lo first in
-          let down = first_by_rows s.lo c second in
+          let up = comes_first-rows r.lo s.lo first in
+          let down = comes_first-rows s.lo c second in
           let level : r.lo.y ≡ s.lo.y = omega (arith, ints, row, up, down) in
           let left = first_in_row r.lo s.lo first (omega (arith, ints, level)) in
           let right = first_in_row s.lo c second (omega (arith, ints, row, level)) in
@@ -130,7 +127,7 @@ module _ (rs : List Extent) (c : Cell) (count : ℕ) (bars : AreBars rs) (parts 
     after_next k d le lt (inr ne) = ap (λ (b : Extent). comes_first b.lo (slice_index_or rs k d).lo) (sym (at_any d)) ∙ bars.in_rows count k d (omega arith) lt
 
     pub next_above : (last : ℤ) → c.y <ℤ next.lo.y → StartAfter last
-    next_above last h k d le lt row = let up = first_by_rows next.lo (slice_index_or rs k d).lo (after_next k d le lt (cases_eq k count)) in absurd (omega (arith, ints, h, up, row))
+    next_above last h k d le lt row = let up = comes_first-rows next.lo (slice_index_or rs k d).lo (after_next k d le lt (cases_eq k count)) in absurd (omega (arith, ints, h, up, row))
 
     pub next_in_row : (last : ℤ) → last <ℤ next.lo.x → next.lo.y ≤ℤ c.y → StartAfter last
     next_in_row last h low k d le lt row =

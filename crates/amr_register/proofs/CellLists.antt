@@ -10,8 +10,8 @@ use Rattle.std.proofs.lemmas.Bool.{and_from, and_parts}
 use Rattle.std.proofs.lemmas.List.Kept.{IsStrictlySortedBy-filter}
 use Rattle.std.proofs.lemmas.Map.Views.{Contains-from_any, any-filter_same, list_any-from_Contains}
 use Rattle.amr_box.specs.declared.Cell.{Cell}
-use Rattle.amr_box.specs.Cells.{cell_cmp, cells_of, holds, within}
-use Rattle.amr_box.proofs.CellEquality.{by_coordinates, cell_same, have_same_coordinates, is_cell}
+use Rattle.amr_box.specs.Cells.{cell_cmp, cells_of, holds, is_same_cell, within}
+use Rattle.amr_box.proofs.CellEquality.{by_coordinates, cell_same, is_cell}
 use Rattle.amr_box.proofs.CellLists.{among_cells_of}
 use Rattle.amr_def.specs.declared.problem.Problem.{Problem}
 use Rattle.amr_def.specs.Domain.{Domain, cells_where, domain, domain_box, in_domain, is_inside}
@@ -70,7 +70,7 @@ are_register_cells p l m fine cs inside sorted sound complete =
     (λ c h. where_among d test c (inside c (of_level d m fine c (sound c h))) (sound c h))
     (λ c h. complete c (where_passes d test c h))
 
-pub same_coordinates : IsEquivalence have_same_coordinates
+pub same_coordinates : IsEquivalence is_same_cell
 same_coordinates = subst (λ (t : Cell → Cell → Bool). IsEquivalence t) (λ i a b. by_coordinates a b i) same_cells
 
 -- a cell is among others or isn't

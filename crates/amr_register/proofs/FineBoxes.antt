@@ -6,6 +6,7 @@ use Rattle.std.proofs.lemmas.List.Elements.{Contains-get_or}
 use Rattle.std.proofs.lemmas.List.Folds.{list_any_at}
 use Rattle.amr_box.specs.declared.Cell.{Cell}
 use Rattle.amr_box.specs.Cells.{Extent, HasCorners, IsBoxOf, IsNear, IsProper, half, has_child_where, holds}
+use Rattle.amr_box.proofs.Numbers.{half_le}
 use Rattle.amr_def.specs.declared.problem.Problem.{Problem}
 use Rattle.amr_def.specs.Domain.{Domain, domain}
 use Rattle.amr_def.specs.State.{Level, Masses, is_covered}
@@ -14,7 +15,7 @@ use Rattle.amr_flux.specs.Faces.{IsInDomain}
 use Rattle.amr_register.specs.RegisterCells.{is_register_cell, register_cells}
 use Rattle.amr_register.specs.Beside.{IsDomainCell, stands_beside}
 use Rattle.amr_register.specs.Entries.{AreRising}
-use Rattle.amr_register.proofs.Around.{all_found, covered_parents, half_order, near_inside, near_parents, parents_inside, stand_beside}
+use Rattle.amr_register.proofs.Around.{all_found, covered_parents, near_inside, near_parents, parents_inside, stand_beside}
 use Rattle.amr_register.proofs.CellLists.{are_register_cells, where_inside}
 use Rattle.amr_register.proofs.CollectLaws.{BoxesDone, coarse_box}
 use Rattle.amr_register.proofs.Homes.{domain_cell, size_at}
@@ -46,7 +47,7 @@ module _ (p : Problem) (l : ℕ) (k fine : Level) (klevel : IsLevel p l k) (flev
     pub near : IsNear b
     near =
         let proper : IsProper e = subst IsProper (sym same) (flevel.proper n e there) in
-        let parents : IsProper (coarse_box e) = record { wide = half_order _ _ proper.wide; high = half_order _ _ proper.high } in
+        let parents : IsProper (coarse_box e) = record { wide = half_le _ _ proper.wide; high = half_le _ _ proper.high } in
         near_parents p l k fine klevel flevel nested few b (subst IsProper (sym is_here) parents) within
 
   pub all_near : All IsNear fine.boxes

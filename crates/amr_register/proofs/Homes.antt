@@ -1,5 +1,5 @@
 -- The cells that cells beside those of a domain stand for.
-use Rattle.std.proofs.Common.{◌≡◌, ℕ, zero, suc, ◌*◌, ◌^◌, ◌<◌, ◌≤◌, true, ℤ, pos, ◌+ℤ◌, ◌≤ℤ◌, ◌<ℤ◌, arith}
+use Rattle.std.proofs.Common.{◌≡◌, ℕ, ◌*◌, ◌^◌, ◌<◌, ◌≤◌, true, ℤ, pos, ◌+ℤ◌, ◌≤ℤ◌, ◌<ℤ◌, arith}
 use Rattle.std.proofs.lemmas.Int.{ints}
 use Rattle.std.proofs.lemmas.Bool.{and_from, and_parts}
 use Rattle.std.proofs.lemmas.Nat.{mul-le}
@@ -10,8 +10,10 @@ use Rattle.amr_def.specs.declared.problem.Problem.{Problem}
 use Rattle.amr_def.specs.declared.domain.Dom.{Dom}
 use Rattle.amr_def.specs.Domain.{Domain, domain, domain_of, home_cell, in_domain, is_inside, moved}
 use Rattle.amr_def.proofs.Homes.{inside-itself}
-use Rattle.amr_def.proofs.Nesting.{wrapped_shift}
+use Rattle.amr_def.proofs.Nesting.{test_inside, wrapped_shift}
 use Rattle.amr_def.proofs.Sizes.{doubled_small}
+use Rattle.amr_def.proofs.Uncovered.{inside_test}
+use Rattle.amr_def.proofs.Courants.{power_some}
 use Rattle.amr_register.specs.Beside.{IsBesideDomain, IsDomainCell}
 
 -- how many columns and rows a domain has
@@ -20,14 +22,6 @@ pub record HasSize (d : Domain) : Type 0 where
   pub some_rows : 0 < d.rows
   pub few_columns : d.columns ≤ 4096
   pub few_rows : d.rows ≤ 4096
-
-power_some : (l : ℕ) → l ≤ 4 → 1 ≤ 2 ^ l
-power_some zero h = omega arith
-power_some (suc zero) h = omega arith
-power_some (suc (suc zero)) h = omega arith
-power_some (suc (suc (suc zero))) h = omega arith
-power_some (suc (suc (suc (suc zero)))) h = omega arith
-power_some (suc (suc (suc (suc (suc l))))) h = absurd (omega arith)
 
 some_doubled : (n l : ℕ) → 2 ≤ n → l ≤ 4 → 0 < n * 2 ^ l
 some_doubled n l h k = let two : 2 * 1 ≤ n * 2 ^ l = mul-le 2 1 n (2 ^ l) h (power_some l k) in omega (arith, two)
@@ -57,12 +51,6 @@ home_inside d c h =
 pub moved_home : (d : Domain) (c : Cell) (i j : ℤ) (u v : ℕ) → HasSize d → i +ℤ pos 1 ≡ pos u → j +ℤ pos 1 ≡ pos v → home_cell d (moved (home_cell d c) (cell i j)) ≡ home_cell d (moved c (cell i j))
 moved_home d c i j u v size hu hv = same_cell (wrapped_shift d.wrap_x d.columns c.x i u size.some_columns hu) (wrapped_shift d.wrap_y d.rows c.y j v size.some_rows hv)
 
-inside_sides : (n : ℕ) (z : ℤ) → is_inside n z ≡ true → (pos 0 ≤ℤ z) × (z <ℤ pos n)
-inside_sides n z h = grind (arith, ints)
-
-inside_from_sides : (n : ℕ) (z : ℤ) → pos 0 ≤ℤ z → z <ℤ pos n → is_inside n z ≡ true
-inside_from_sides n z h k = grind (arith, ints)
-
 pub record IsWithinDomain (d : Domain) (c : Cell) : Type 0 where
   pub west : pos 0 ≤ℤ c.x
   pub east : c.x <ℤ pos d.columns
@@ -73,13 +61,13 @@ pub within_domain : (d : Domain) (c : Cell) → in_domain d c ≡ true → IsWit
 unfolding in_domain
 within_domain d c h =
     let parts = and_parts (is_inside d.columns c.x) (is_inside d.rows c.y) h in
-    let x = inside_sides d.columns c.x parts.0 in
-    let y = inside_sides d.rows c.y parts.1 in
+    let x = test_inside d.columns c.x parts.0 in
+    let y = test_inside d.rows c.y parts.1 in
     record { west = x.0; east = x.1; south = y.0; north = y.1 }
 
 pub in_domain-yes : (d : Domain) (c : Cell) → IsWithinDomain d c → in_domain d c ≡ true
 unfolding in_domain
-in_domain-yes d c h = and_from (is_inside d.columns c.x) (is_inside d.rows c.y) (inside_from_sides d.columns c.x h.west h.east) (inside_from_sides d.rows c.y h.south h.north)
+in_domain-yes d c h = and_from (is_inside d.columns c.x) (is_inside d.rows c.y) (inside_test d.columns c.x h.west h.east) (inside_test d.rows c.y h.south h.north)
 
 pub domain_cell : (d : Domain) (c : Cell) → HasSize d → in_domain d c ≡ true → IsDomainCell c
 domain_cell d c size h =

@@ -27,7 +27,7 @@ use Rattle.amr_register.proofs.Homes.{home_inside}
 use Rattle.amr_register.proofs.PatchSums.{net-all}
 
 -- a face between covered cells or none is no edge: which side counts
-low_tells : (low high : Bool) → high ≡ false → cond low (not high) high ≡ low
+pub low_tells : (low high : Bool) → high ≡ false → cond low (not high) high ≡ low
 low_tells true high e = ap not e
 low_tells false high e = e
 

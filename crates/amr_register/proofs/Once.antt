@@ -10,6 +10,7 @@ use Rattle.amr_box.specs.declared.Axis.{Axis}
 use Rattle.amr_box.specs.declared.Axis.TheVariants.{X, Y}
 use Rattle.amr_box.specs.Cells.{cell, holds}
 use Rattle.amr_box.proofs.CellEquality.{same_cell}
+use Rattle.amr_box.proofs.Numbers.{minus_one, more_and_less}
 use Rattle.amr_def.specs.declared.problem.Problem.{Problem}
 use Rattle.amr_def.specs.Domain.{Domain, domain, home_cell, in_domain, wrapped}
 use Rattle.amr_def.specs.State.{Level, Masses, is_covered}
@@ -41,10 +42,7 @@ twice s n z some = ap (wrapped s n) (sym (plus (wrapped s n z))) ∙ wrapped_shi
     plus z = omega (arith, ints)
 
 before : (s : Bool) (n : ℕ) (z : ℤ) → 0 < n → wrapped s n (wrapped s n z -ℤ pos 1) ≡ wrapped s n (z -ℤ pos 1)
-before s n z some = ap (wrapped s n) (minus (wrapped s n z)) ∙ wrapped_shift s n z (negsuc 0) 0 some refl ∙ ap (wrapped s n) (sym (minus z))
-  where
-    minus : (z : ℤ) → z -ℤ pos 1 ≡ z +ℤ negsuc 0
-    minus z = omega (arith, ints)
+before s n z some = ap (wrapped s n) (minus_one (wrapped s n z)) ∙ wrapped_shift s n z (negsuc 0) 0 some refl ∙ ap (wrapped s n) (sym (minus_one z))
 
 pub low_home : (d : Domain) (a : Axis) (x y : ℤ) → HasSize d → home_cell d (low_cell (home_face d (face a x y))) ≡ home_cell d (low_cell (face a x y))
 low_home d X x y size = same_cell (before d.wrap_x d.columns x size.some_columns) (twice d.wrap_y d.rows y size.some_rows)
@@ -106,14 +104,11 @@ module _ (p : Problem) (l : ℕ) (k fine : Level) (old : Masses) (ps : List Patc
         covered_there p l k fine klevel flevel nested (home_cell (domain p l) (cell x y))
         (sym (high_tells (is_covered fine.masses (home_cell (domain p l) (low_cell (face a x y)))) (is_covered fine.masses (home_cell (domain p l) (cell x y))) (ap (is_covered fine.masses) low ∙ free)) ∙ e)
 
-    back : (z : ℤ) → z +ℤ pos 1 -ℤ pos 1 ≡ z
-    back z = omega (arith, ints)
-
     low_x : home_cell (domain p l) (low_cell (high_face X c)) ≡ c
-    low_x = ap (home_cell (domain p l)) (same_cell (back c.x) refl) ∙ home_inside (domain p l) c inside_c
+    low_x = ap (home_cell (domain p l)) (same_cell (more_and_less c.x) refl) ∙ home_inside (domain p l) c inside_c
 
     low_y : home_cell (domain p l) (low_cell (high_face Y c)) ≡ c
-    low_y = ap (home_cell (domain p l)) (same_cell refl (back c.y)) ∙ home_inside (domain p l) c inside_c
+    low_y = ap (home_cell (domain p l)) (same_cell refl (more_and_less c.y)) ∙ home_inside (domain p l) c inside_c
 
     pub taken_once : net_of_all p l fine.masses ps c ≡ net (edge_flows p l k.masses old fine.masses) c
     taken_once =

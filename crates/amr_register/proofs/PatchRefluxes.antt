@@ -14,11 +14,12 @@ use Rattle.amr_patch.specs.declared.patches.Patch.{Patch}
 use Rattle.amr_patch.specs.Orders.{IsHolder, IsOrderOf}
 use Rattle.amr_patch.specs.Pairwise.{Pairwise}
 use Rattle.amr_patch.specs.Patches.{ArePatchesApart, KeepsFrameAndFluxes, SameFluxes, SameMarks, SameOtherValues, box, mass_in, masses_in}
-use Rattle.amr_patch.proofs.LevelLaws.{frames_set, ghosts_stay, masses_set_other, masses_set_same}
+use Rattle.amr_patch.proofs.LevelLaws.{all_kept, frames_set, ghosts_stay, masses_set_other, masses_set_same}
 use Rattle.amr_patch.proofs.Lookups.{masses_in-at, same_default}
 use Rattle.amr_patch.proofs.Rows.{zero-cut}
+use Rattle.amr_patch.proofs.Keeping.{kept_apart, kept_order}
 use Rattle.amr_register.specs.Entries.{AreRising}
-use Rattle.amr_register.proofs.Kept.{all_kept, all_kept_twice, kept_apart, kept_order}
+use Rattle.amr_register.proofs.Kept.{all_kept_twice}
 use Rattle.amr_register.proofs.Refluxes.{AreAdded, apart_places, none_added, one_more, with_entry}
 
 -- ---- the write of one mass

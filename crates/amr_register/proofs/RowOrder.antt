@@ -13,8 +13,7 @@ use Rattle.std.proofs.lemmas.List.Elements.{All-contains}
 use Rattle.std.proofs.lemmas.Map.Keys.{Less-from_sorted, sorted_from_all_adjacent, sorted_tail}
 use Rattle.std.proofs.lemmas.Map.Views.{All-after_first}
 use Rattle.amr_box.specs.declared.Cell.{Cell}
-use Rattle.amr_box.specs.Cells.{Extent, cell, cells_of, height, width}
-use Rattle.amr_box.proofs.CellEquality.{have_same_coordinates}
+use Rattle.amr_box.specs.Cells.{Extent, cell, cells_of, height, is_same_cell, width}
 use Rattle.amr_register.specs.Entries.{row_cmp}
 
 pub row_cmp_total : IsTotalOrder row_cmp
@@ -154,7 +153,7 @@ same_sorted (x ∷ xs) (y ∷ ys) s t f g = λ i. heads i ∷ same_sorted xs ys 
 
 -- cells that the order doesn't tell apart are one
 
-pub ties : (a b : Cell) → have_same_coordinates a b ≡ eq_by_cmp row_cmp a b
+pub ties : (a b : Cell) → is_same_cell a b ≡ eq_by_cmp row_cmp a b
 ties a b = and_comm (int_eq a.x b.x) (int_eq a.y b.y) ∙ tied_then (int_cmp a.y b.y) (int_cmp a.x b.x)
 
 pub rising : (cs : List Cell) → IsStrictlySortedBy row_cmp cs → AllPairs (λ a b. row_cmp a b ≡ Less) cs

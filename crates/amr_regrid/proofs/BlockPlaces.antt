@@ -15,7 +15,7 @@ use Rattle.amr_def.proofs.LevelLists.{IsCellInside}
 use Rattle.amr_def.proofs.Sizes.{doubled_small}
 use Rattle.amr_laws.proofs.Blocks.{IsSide}
 use Rattle.amr_laws.proofs.CellSets.{both_parts, each_inside, each_then}
-use Rattle.amr_laws.proofs.NewLevels.{is_blocking_of}
+use Rattle.amr_laws.proofs.NewLevels.{box_axis, is_blocking_of}
 use Rattle.amr_regrid.specs.Blocks.{IsLow, blocks_of}
 
 pub columns_few : (p : Problem) (l : ℕ) → l ≤ 4 → (blocks_of p l).columns ≤ 4096
@@ -26,7 +26,7 @@ rows_few p l k = let d = div-le_self (rows p l) (block_side p) in omega (arith, 
 
 -- ---- the cells of a block lie in the domain
 
-axis_bounds : (low high z : ℤ) → within low high z ≡ true → (low ≤ℤ z) × (z ≤ℤ high)
+pub axis_bounds : (low high z : ℤ) → within low high z ≡ true → (low ≤ℤ z) × (z ≤ℤ high)
 axis_bounds low high z h = grind (arith, ints)
 
 abbrev InBlock : ℕ → ℕ → ℤ → ℤ → Type 0
@@ -66,9 +66,6 @@ all_low : (e f : ℕ) (bs : List Extent) → e ≤ 4096 → f ≤ 4096 → Boxes
 all_low e f [] h k w x s n i d fits = absurd (omega arith)
 all_low e f (b ∷ bs) h k w x s n zero d fits = record { west = w.0; east = omega (arith, ints, x.0, h); south = s.0; north = omega (arith, ints, n.0, k) }
 all_low e f (b ∷ bs) h k w x s n (suc i) d fits = all_low e f bs h k w.1 x.1 s.1 n.1 i d (omega (arith, fits))
-
-box_axis : (n : ℕ) (z : ℤ) → within (pos 0) (pos n -ℤ pos 1) z ≡ true → (pos 0 ≤ℤ z) × (z <ℤ pos n)
-box_axis n z h = grind (arith, ints)
 
 pub clusters_low : (efficiency w : ℕ) (d : Domain) (test : Cell → Bool) → d.columns ≤ 4096 → d.rows ≤ 4096 → All IsLow (cluster efficiency w (cells_where d test))
 unfolding cluster

@@ -18,10 +18,10 @@ use Rattle.amr_def.specs.State.{Level, Masses, in_boxes, is_covered}
 use Rattle.amr_def.proofs.LevelLists.{IsCellInside}
 use Rattle.amr_def.proofs.Nesting.{covered_there}
 use Rattle.amr_def.proofs.Sizes.{doubled_small}
+use Rattle.amr_def.proofs.Uncovered.{domain_box_cells}
 use Rattle.amr_laws.proofs.NewLevels.{AreNewBoxes}
 use Rattle.amr_laws.proofs.Refill.{NewFacts, Surrounds, covered_by_boxes, new_facts, new_is_level, new_is_nested, new_level, next_surrounds}
 use Rattle.amr_laws.proofs.SoundRegrid.{new_boxes_count}
-use Rattle.amr_nest.proofs.Reaches.{domain_is}
 use Rattle.amr_patch.specs.Patches.{AreApart, AreNear, IsNearCell}
 use Rattle.amr_regrid.specs.Remade.{IsFilled, Stands}
 
@@ -108,7 +108,7 @@ kept_masses coarse k here filled same =
 
 whole_covers : (p : Problem) (k : Level) → k.boxes ≡ domain_box (domain p 0) ∷ [] → (c : Cell) → in_domain (domain p 0) c ≡ true → in_boxes k.boxes c ≡ true
 whole_covers p k base c inside =
-    ap (λ (bs : List Extent). in_boxes bs c) base ∙ or_left (holds (domain_box (domain p 0)) c) false (domain_is (domain p 0) c ∙ inside)
+    ap (λ (bs : List Extent). in_boxes bs c) base ∙ or_left (holds (domain_box (domain p 0)) c) false (domain_box_cells (domain p 0) c ∙ inside)
 
 aligned_first : (p : Problem) (tagged : ℕ → Cell → Bool) (bs : List (List Extent)) → NewFacts p tagged 0 bs → All (IsAligned p.blocking) (first_boxes bs)
 aligned_first p tagged [] f = λ j d h. absurd (omega (arith, h))

@@ -1,20 +1,17 @@
 -- The outcome of a run that keeps checkpoints, by what its calls kept.
-use Rattle.std.proofs.Common.{◌≡◌, ℕ, zero, suc, ◌≤◌, List, [], Option, Some, None, IfSome, Result, Ok, Err, inl, inr, refl, sym, ◌∙◌, subst, arith}
+use Rattle.std.proofs.Common.{◌≡◌, ℕ, ◌≤◌, List, [], Option, Some, None, IfSome, Result, Ok, Err, inl, inr, refl, sym, ◌∙◌, subst, arith}
 use Rattle.std.specs.List.{flat_map}
 use Rattle.std.specs.Prelude.{◌⊎◌, IsErrAnd}
 use Rattle.amr_causes.specs.Causes.{Rose}
 use Rattle.amr_def.specs.declared.problem.Problem.{Problem}
 use Rattle.amr_def.specs.Facts.{IsSound}
 use Rattle.amr_def.specs.Regrid.{regrid}
-use Rattle.amr_def.specs.Run.{plain_start, times}
-use Rattle.amr_def.specs.State.{State}
-use Rattle.amr_def.proofs.SoundRun.{plain_start-sound, start-sound}
+use Rattle.amr_def.proofs.SoundRun.{start-sound}
 use Rattle.amr_disk.specs.Image.{Only}
 use Rattle.amr_disk.specs.Moments.{StaysDurable}
 use Rattle.amr_disk.specs.Replay.{rests_same}
 use Rattle.amr_drive.proofs.Finishes.{finish_sound, run_holds}
-use Rattle.amr_drive.specs.Regrids.{StartHoldsTags}
-use Rattle.amr_laws.proofs.Held.{regrid-held}
+use Rattle.amr_drive.proofs.StartLaws.{start-holds_tags}
 use Rattle.amr_laws.proofs.SoundRegrid.{regrid-sound}
 use Rattle.amr_problem.specs.Judgement.{IsProblemOf, fault_of}
 use Rattle.amr_store.specs.Phases.{OnlyReads}
@@ -59,13 +56,6 @@ found_sound bytes p target resumed.Nothing can = start-sound p (regrid-sound p)
 found_sound bytes p target (resumed.Fresh store) can = start-sound p (regrid-sound p)
 found_sound bytes p target (resumed.At store mesh) can = can.1.mesh_is.sound
 
-regrids_sound : (p : Problem) (n : ℕ) (s : State) → IsSound p s → IsSound p (times (regrid p) n s)
-regrids_sound p zero s sound = sound
-regrids_sound p (suc n) s sound = regrids_sound p n (regrid p s) (regrid-sound p s sound)
-
-start_holds : (p : Problem) → StartHoldsTags p
-start_holds p k below = regrid-held p (times (regrid p) k (plain_start p)) (regrids_sound p k (plain_start p) (plain_start-sound p))
-
 -- the answer of a run from it
 pub is_kept_run : (bytes : List ℕ) (p : Problem) (every target : ℕ) (seen : Option (List ℕ)) (r : Resumed) (out lines : List ℕ) → CanGoOn bytes p target r → WasFound seen (content_resumed bytes p r) → target ≤ p.steps
     → out ≡ answer_of_run p (content_resumed bytes p r) target → lines ≡ flat_map checkpoint_line (marks every (content_resumed bytes p r) target) → IsKeptRun bytes p every target seen out lines
@@ -80,7 +70,7 @@ is_kept_run bytes p every target seen r out lines can held within text said =
       acknowledged = said;
       run = record {
         sound = finish_sound p (state_from p found) target sound within;
-        start_held = start_holds p;
+        start_held = start-holds_tags p;
         held = run_holds p (state_from p found) target sound within;
       };
     }

@@ -1,5 +1,5 @@
 -- The outcome at each exit, by what the layers below say of it.
-use Rattle.std.proofs.Common.{◌≡◌, ◌≤◌, ◌<◌, ◌^◌, ◌⊎◌, inl, inr, ⊎_elim, IfSome, ℕ, zero, suc, List, [], ◌++◌, length, Option, Some, None, Result, Ok, Err, OnErr, refl, sym, ◌∙◌, ap, subst, arith, length-append, OnOk}
+use Rattle.std.proofs.Common.{◌≡◌, ◌≤◌, ◌<◌, ◌^◌, ◌⊎◌, inl, inr, ⊎_elim, IfSome, ℕ, List, [], ◌++◌, length, Option, Some, None, Result, Ok, Err, OnErr, refl, sym, ◌∙◌, ap, subst, arith, length-append, OnOk}
 use Rattle.std.proofs.lemmas.List.{append-nil}
 use Rattle.std.proofs.lemmas.Option.{none-some, same_Some}
 use Rattle.std.specs.Prelude.{IsErrAnd}
@@ -10,8 +10,7 @@ use Rattle.amr_io.specs.Short.{FallsShort}
 use Rattle.amr_causes.proofs.ByteLaws.{prefix_whole, were_left}
 use Rattle.amr_def.specs.declared.problem.Problem.{Problem}
 use Rattle.amr_def.specs.State.{State}
-use Rattle.amr_def.specs.Regrid.{regrid}
-use Rattle.amr_def.specs.Run.{start, finish, plain_start, run, times}
+use Rattle.amr_def.specs.Run.{start, finish, run}
 use Rattle.amr_def.specs.Plot.{plot}
 use Rattle.amr_def.specs.Facts.{IsSound}
 use Rattle.amr_io.specs.declared.source.ReadAll.{ReadAll}
@@ -26,11 +25,13 @@ use Rattle.amr_cli.specs.declared.command.Command.{Command}
 use Rattle.amr_cli.specs.declared.command.Command.TheVariants.{Run, Check, Show, Trial}
 use Rattle.amr_trial.specs.Summary.{summary}
 use Rattle.amr_trial.specs.Trial.{IsSize, text}
-use Rattle.amr_trial.proofs.Problems.{sixteen_steps, texts_are_accepted}
+use Rattle.amr_trial.proofs.Problems.{sixteen_steps}
+use Rattle.amr_trial.proofs.Accepted.{no_fault}
 use Rattle.amr_checkpoint.specs.declared.refusal.Refusal.{Refusal}
 use Rattle.amr_checkpoint.specs.Contents.{Content, Holds}
 use Rattle.amr_checkpoint.specs.Refusals.{CanShow, GoesOn}
 use Rattle.amr_checkpoint.proofs.Going.{not_both, not_both_shown}
+use Rattle.amr_checkpoint.proofs.Stepping.{start_step}
 use Rattle.amr_run.specs.Answer.{HasAnswer, TellsOne, IsLineOfProblem, IsLineOfTrial, IsPlotOfRun, IsSoundRun, stop_of}
 use Rattle.amr_run.specs.Outcome.{EndsByLine, Outcome, RefusesRunTo, RefusesStore, Replies, RepliesTo, RepliesUnread, status_of}
 use Rattle.amr_run.specs.Reading.{Reads, Refuses}
@@ -111,19 +112,6 @@ of_no_memory (Some (Trial number size workers)) bytes seen = (refl, refl)
 
 -- ---- the answer
 
--- the start is at step 0
-regrid_step : (p : Problem) (s : State) → (regrid p s).step ≡ s.step
-unfolding regrid
-regrid_step p s = refl
-
-regrids_step : (p : Problem) (n : ℕ) (s : State) → (times (regrid p) n s).step ≡ s.step
-regrids_step p zero s = refl
-regrids_step p (suc n) s = regrids_step p n (regrid p s) ∙ regrid_step p s
-
-start_step : (p : Problem) → (start p).step ≡ 0
-unfolding start
-start_step p = regrids_step p p.max_level (plain_start p)
-
 pub starts_at : (p : Problem) (first : State) (k : ℕ) → first ≡ start p → first.step ≤ k
 starts_at p first k starts = let at : first.step ≡ 0 = ap (λ (s : State). s.step) starts ∙ start_step p in omega (arith, at)
 
@@ -155,12 +143,8 @@ is_plot_of_run bytes to p last k accepted stops is sound = record {
 
 -- ---- a trial
 
--- its problem is never refused
-pub trial_accepted : (number size : ℕ) → number < 2 ^ 32 → IsSize size → fault_of (text number size) ≡ None
-trial_accepted number size small is = (texts_are_accepted number size small is).1.clean
-
 pub trial_unread : (number size : ℕ) (bytes : List ℕ) (e : JudgeFault) → number < 2 ^ 32 → IsSize size → bytes ≡ text number size → ((f : ProblemFault) → e ≡ judging.Fault f → fault_of bytes ≡ Some f) → RepliesUnread (judge_refused e) (IsLineOfTrial number size) []
-trial_unread number size bytes (judging.Fault f) small is same fault = let wrong : Some f ≡ None = sym (fault f refl) ∙ ap fault_of same ∙ trial_accepted number size small is in absurd (none-some f (sym wrong))
+trial_unread number size bytes (judging.Fault f) small is same fault = let wrong : Some f ≡ None = sym (fault f refl) ∙ ap fault_of same ∙ no_fault number size small is in absurd (none-some f (sym wrong))
 trial_unread number size bytes judging.NoMemory small is same fault = refl
 
 pub trial_steps : (number size : ℕ) (bytes : List ℕ) (p : Problem) → number < 2 ^ 32 → IsSize size → bytes ≡ text number size → IsProblemOf bytes p → p.steps ≡ 16

@@ -3,11 +3,13 @@ use Rattle.std.proofs.Common.{◌≡◌, ℕ, zero, suc, ◌+◌, ◌-◌, ◌�
 use Rattle.std.proofs.lemmas.Bool.{cases_Bool, leb-true, leb-false}
 use Rattle.std.proofs.lemmas.List.{append-nil, append_assoc, map-append}
 use Rattle.std.specs.List.{filter, range_with_len}
+use Rattle.amr_box.proofs.Numbers.{range_more}
 use Rattle.amr_def.specs.declared.problem.Problem.{Problem}
 use Rattle.amr_def.specs.Run.{finish, start}
 use Rattle.amr_def.specs.State.{State}
+use Rattle.amr_def.proofs.Runs.{finish_step}
 use Rattle.amr_drive.specs.States.{states_after}
-use Rattle.amr_drive.proofs.Finishes.{finish_here, finish_step}
+use Rattle.amr_drive.proofs.Finishes.{finish_here}
 use Rattle.amr_checkpoint.specs.declared.faults.KeepFault.{KeepFault}
 use Rattle.amr_checkpoint.specs.declared.faults.KeepFault.TheVariants as fault
 use Rattle.amr_checkpoint.specs.Contents.{Content, Empty, Fresh, At}
@@ -18,12 +20,6 @@ use Rattle.amr_checkpoint.proofs.Stepping.{start_step}
 
 -- ---- states and steps
 
-range_snoc : (first n : ℕ) → range_with_len first (suc n) ≡ range_with_len first n ++ (first + n) ∷ []
-range_snoc first zero = let same : first ≡ first + 0 = omega arith in ap (λ k. k ∷ []) same
-range_snoc first (suc n) =
-    let same : first + 1 + n ≡ first + suc n = omega arith in
-    ap (λ (ks : List ℕ). first ∷ ks) (range_snoc (first + 1) n ∙ ap (λ k. range_with_len (first + 1) n ++ k ∷ []) same)
-
 states_are : (p : Problem) (s : State) (n : ℕ) → states_after p s n ≡ map (finish p s) (range_with_len (s.step + 1) n)
 states_are p s zero = refl
 states_are p s (suc n) =
@@ -31,7 +27,7 @@ states_are p s (suc n) =
     ap (λ (ss : List State). ss ++ finish p s (s.step + suc n) ∷ []) (states_are p s n)
     ∙ ap (λ k. map (finish p s) (range_with_len (s.step + 1) n) ++ finish p s k ∷ []) same
     ∙ sym (map-append (finish p s) (range_with_len (s.step + 1) n) ((s.step + 1 + n) ∷ []))
-    ∙ ap (map (finish p s)) (sym (range_snoc (s.step + 1) n))
+    ∙ ap (map (finish p s)) (sym (range_more (s.step + 1) n))
 
 -- the later states
 states_split : (p : Problem) (s : State) (n m : ℕ) → n ≤ m → (rest : List State) × (states_after p s n ++ rest ≡ states_after p s m)

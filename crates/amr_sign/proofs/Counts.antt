@@ -10,9 +10,9 @@ use Rattle.std.proofs.lemmas.List.Concat.{flat_map-cons}
 use Rattle.amr_box.specs.declared.Cell.{Cell}
 use Rattle.amr_box.specs.declared.Axis.TheVariants.{X, Y}
 use Rattle.amr_box.specs.Cells.{Extent, cell, cells_of, width, height}
+use Rattle.amr_box.proofs.Numbers.{range_more}
 use Rattle.amr_def.specs.Signature.{signature}
 use Rattle.amr_sign.specs.Counts.{bit, count_to}
-use Rattle.amr_sign.proofs.Places.{range_with_len-more}
 
 -- ---- sums
 
@@ -76,7 +76,7 @@ map_to-same f g n same = map-same f g 0 n (λ k h. same k (omega arith))
 
 pub count_to_more : (test : ℕ → Bool) (n : ℕ) → count_to test (n + 1) ≡ count_to test n + bit (test n)
 count_to_more test n =
-    rw add-one (ap (count_by test) (range_with_len-more 0 n) ∙ sum_by_push (λ k. bit (test k)) (range_with_len 0 n) (0 + n) ∙ ap (λ (k : ℕ). count_to test n + bit (test k)) (omega arith))
+    rw add-one (ap (count_by test) (range_more 0 n) ∙ sum_by_push (λ k. bit (test k)) (range_with_len 0 n) (0 + n) ∙ ap (λ (k : ℕ). count_to test n + bit (test k)) (omega arith))
 
 pub count_to_bound : (test : ℕ → Bool) (n : ℕ) → count_to test n ≤ n
 count_to_bound test n = omega (arith, count_by-le-length test (range_with_len 0 n), length-range_with_len 0 n)

@@ -1,17 +1,14 @@
 -- The best of the places of a signature, one more place at a time.
-use Rattle.std.proofs.Common.{◌≡◌, ℕ, zero, suc, ◌+◌, Bool, true, false, cond, List, [], ◌∷◌, ◌++◌, refl, sym, ap, ◌∙◌, arith, add-one}
+use Rattle.std.proofs.Common.{◌≡◌, ℕ, ◌+◌, Bool, true, false, cond, List, [], ◌∷◌, ◌++◌, refl, sym, ap, ◌∙◌, arith, add-one}
 use Rattle.std.specs.declared.option.Option.{Option}
 use Rattle.std.specs.declared.option.Option.TheVariants.{None, Some}
 use Rattle.std.specs.Option.{option_map}
 use Rattle.std.specs.List.{filter, range_with_len}
 use Rattle.std.proofs.lemmas.List.Elements.{filter-append}
 use Rattle.std.proofs.lemmas.Grind.{fold-append}
+use Rattle.amr_box.proofs.Numbers.{range_more}
 use Rattle.amr_def.specs.Cut.{first_best}
 use Rattle.amr_sign.specs.Scan.{challenged}
-
-pub range_with_len-more : (a n : ℕ) → range_with_len a (suc n) ≡ range_with_len a n ++ (a + n) ∷ []
-range_with_len-more a zero = ap (λ (k : ℕ). k ∷ []) (omega arith)
-range_with_len-more a (suc n) = ap (λ (ks : List ℕ). a ∷ ks) (range_with_len-more (a + 1) n ∙ ap (λ (k : ℕ). range_with_len (a + 1) n ++ k ∷ []) (omega arith))
 
 -- the best of a list, and of the list with one place more
 first_best-append : {A : Type 0} (better : A → A → Bool) (xs : List A) (a : A) → first_best better (xs ++ a ∷ []) ≡ Some (challenged better (first_best better xs) a)
@@ -47,7 +44,7 @@ kept_more legal passes better ks i = rw filter-append (by_legal (legal i))
 
 pub best_to-more : (better : ℕ → ℕ → Bool) (legal passes : ℕ → Bool) (n i : ℕ) → n + 1 ≡ i → best_to better legal passes i ≡ next_best better (legal i) (passes i) (best_to better legal passes n) i
 best_to-more better legal passes n i e =
-    rw (← e) (rw add-one (ap (λ (ks : List ℕ). first_best better (filter passes (filter legal ks))) (range_with_len-more 1 n) ∙ kept_more legal passes better (range_with_len 1 n) (1 + n) ∙ ap (λ (k : ℕ). next_best better (legal k) (passes k) (best_to better legal passes n) k) (omega arith)))
+    rw (← e) (rw add-one (ap (λ (ks : List ℕ). first_best better (filter passes (filter legal ks))) (range_more 1 n) ∙ kept_more legal passes better (range_with_len 1 n) (1 + n) ∙ ap (λ (k : ℕ). next_best better (legal k) (passes k) (best_to better legal passes n) k) (omega arith)))
 
 -- ---- a place that is not legal, one that does not pass, one that passes
 

@@ -71,7 +71,7 @@ state_with p mass ms = record { step = 0; rows = record { mass = mass; inflow = 
 
 -- ---- the start
 
-sum_to-same_below : (f g : ℕ → ℕ) (n : ℕ) → ((k : ℕ) → k < n → f k ≡ g k) → sum_to f n ≡ sum_to g n
+pub sum_to-same_below : (f g : ℕ → ℕ) (n : ℕ) → ((k : ℕ) → k < n → f k ≡ g k) → sum_to f n ≡ sum_to g n
 sum_to-same_below f g zero h = refl
 sum_to-same_below f g (suc n) h = omega (arith, sum_to-same_below f g n (λ k below. h k (omega arith)), h n (omega arith))
 

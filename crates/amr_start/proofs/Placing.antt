@@ -11,11 +11,12 @@ use Rattle.std.proofs.lemmas.Bool.{and_from, or_right}
 use Rattle.std.proofs.Math.Bool.{or-false}
 use Rattle.amr_box.specs.declared.Cell.{Cell}
 use Rattle.amr_box.specs.Cells.{Extent, IsNear, cell, holds, within}
+use Rattle.amr_box.proofs.Numbers.{below_from, is_between, not_below_from}
 use Rattle.amr_def.specs.State.{Masses, in_boxes}
 use Rattle.amr_patch.proofs.Lookups.{some_mass}
 use Rattle.amr_patch.specs.declared.patches.Patch.{Patch}
 use Rattle.amr_patch.specs.Patches.{AreNear, ArePatchesApart, box, in_patches, mass_in, masses_in}
-use Rattle.amr_patch.proofs.Rows.{inside, is_between}
+use Rattle.amr_patch.proofs.Rows.{inside}
 use Rattle.amr_start.specs.Placed.{HasBoxOf, HasMassesOf, LiesInBox}
 use Rattle.amr_start.specs.Rows.{box_of, masses_on}
 
@@ -50,19 +51,13 @@ mass_here columns rows ms c m h is =
 
 -- ---- a row at once
 
-below : (x e : ℤ) → int_lt x e ≡ true → x <ℤ e
-below x e h = grind (arith, ints)
-
-not_below : (x e : ℤ) → int_lt x e ≡ false → e ≤ℤ x
-not_below x e h = grind (arith, ints)
-
 -- what holds before a number and at it holds before the next
 pub before_next : (P : ℤ → Type 0) (e x : ℤ) → (x <ℤ e → P x) → (x ≡ e → P x) → x <ℤ (e +ℤ pos 1) → P x
 before_next P e x old here h = cases (int_lt x e) refl
   where
     cases : (t : Bool) → int_lt x e ≡ t → P x
-    cases true l = old (below x e l)
-    cases false l = let g = not_below x e l in here (omega (arith, ints, g, h))
+    cases true l = old (below_from x e l)
+    cases false l = let g = not_below_from x e l in here (omega (arith, ints, g, h))
 
 -- a row of a patch stands whole in the list
 pub row_inside : (columns rows n : ℕ) (first last : Cell) (count : ℕ) → holds (box_of columns rows) first ≡ true → holds (box_of columns rows) last ≡ true → first.y ≡ last.y
@@ -148,11 +143,11 @@ zip_boxes (p ∷ ps) [] h = absurd h
 zip_boxes (p ∷ ps) (q ∷ qs) h = λ i. h.0.of_box i ∷ zip_boxes ps qs h.1 i
 
 pub zip_apart : (ps qs : List Patch) → AllZip HasBoxOf ps qs → ArePatchesApart ps → ArePatchesApart qs
-zip_apart ps qs h apart = λ i j d below there c a b.
+zip_apart ps qs h apart = λ i j d below_from there c a b.
     let n = zip_length ps qs h in
-    let low : i < length ps = omega (arith, n, below, there) in
+    let low : i < length ps = omega (arith, n, below_from, there) in
     let high : j < length ps = omega (arith, n, there) in
-    apart i j d below high c (subst (λ (t : Extent). IsTrue (holds t c)) (zip_box ps qs i d d h low) a) (subst (λ (t : Extent). IsTrue (holds t c)) (zip_box ps qs j d d h high) b)
+    apart i j d below_from high c (subst (λ (t : Extent). IsTrue (holds t c)) (zip_box ps qs i d d h low) a) (subst (λ (t : Extent). IsTrue (holds t c)) (zip_box ps qs j d d h high) b)
 
 zip_in : (ps qs : List Patch) (c : Cell) → AllZip HasBoxOf ps qs → in_patches qs c ≡ in_patches ps c
 zip_in [] [] c h = refl

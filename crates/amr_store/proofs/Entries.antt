@@ -56,7 +56,7 @@ pub latest_none : (store : Store) (s : List ℕ) (which : Which) → Stands stor
 latest_none store s which stands is none =
     sym (latest_entry store s which stands is ∙ ap payload_of (none_of _ (sym (slot_is store s which stands) ∙ none)))
 
-range_length : (xs : List ℕ) (a n : ℕ) → a + n ≤ length xs → length (slice_range xs a (a + n)) ≡ n
+pub range_length : (xs : List ℕ) (a n : ℕ) → a + n ≤ length xs → length (slice_range xs a (a + n)) ≡ n
 range_length xs a n within = grind (arith, common_steps)
 
 record SlotHolds (part : List ℕ) (gate size : ℕ) (slot : Slot) : Type 0 where

@@ -39,7 +39,7 @@ gate_torn old new gate size out sound shut_stays = elim (cases_Bool (is_open new
           ap (λ (n : ℕ). slice_index new n) is ∙ still ∙ ap (λ (n : ℕ). slice_index old n) (sym is)
     ]
 
-not_zero : (n : ℕ) → 0 < n → (n == 0) ≡ false
+pub not_zero : (n : ℕ) → 0 < n → (n == 0) ≡ false
 not_zero n some = grind (arith, nat_tests)
 
 -- the slot is sound, and holds nothing, or the filled entry where its gate is open

@@ -166,7 +166,7 @@ renewed_of image renewed sound =
       same = not-false (pointwise nat_eq (problem_of part) (problem_of image)) (head_none _ _ _ back);
     }
 
-one_row : (test : Bool) → test ≡ true → first_found ((not test, Renewal) ∷ []) ≡ None
+pub one_row : (test : Bool) → test ≡ true → first_found ((not test, Renewal) ∷ []) ≡ None
 one_row true is = refl
 one_row false is = let no : false ≡ true = is in cc
 

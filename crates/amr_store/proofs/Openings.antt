@@ -1,13 +1,13 @@
 -- What an image is stored as, by what the tests on it find.
 use Rattle.std.proofs.Common.{◌≡◌, inl, inr, ℕ, ◌+◌, ◌*◌, ◌≤◌, ◌==◌, nat_le, nat_lt, Bool, true, false, not, ◌&&◌, ◌||◌, List, [], ◌∷◌, ◌++◌, length, drop, Option, Some, None, refl, sym, ◌∙◌, ap, subst, arith}
-use Rattle.std.proofs.lemmas.Bool.{cases_Bool}
+use Rattle.std.proofs.lemmas.Bool.{cases_Bool, eqb-true}
 use Rattle.std.proofs.lemmas.Bool.Decides.{nat_tests}
 use Rattle.std.specs.Prelude.{slice_range, option_map, nat_eq, if◌then◌else◌}
 use Rattle.std.specs.Cmp.Lexicographic.{pointwise}
 use Rattle.std.proofs.Math.Bool.{and_assoc}
 use Rattle.amr_store.proofs.Calls.{stands_at}
-use Rattle.amr_store.proofs.Images.{base_plain, base_renewed, stored_is}
-use Rattle.amr_store.proofs.PartsRead.{equals, not_both}
+use Rattle.amr_store.proofs.Images.{base_plain, base_renewed, one_row, stored_is}
+use Rattle.amr_store.proofs.PartsRead.{not_both}
 use Rattle.amr_store.proofs.Whole.{found_append, whole_of}
 use Rattle.amr_store.specs.declared.check.Outline.{Outline}
 use Rattle.amr_store.specs.declared.found.Found.{Found}
@@ -121,10 +121,6 @@ last_row : (b : Bool) → b ≡ false → first_found ((not b, Renewal) ∷ []) 
 last_row true is = let wrong : true ≡ false = is in cc
 last_row false is = refl
 
-no_row : (b : Bool) → b ≡ true → first_found ((not b, Renewal) ∷ []) ≡ None
-no_row true is = refl
-no_row false is = let wrong : false ≡ true = is in cc
-
 problem_at : (inner : Outline) (part : List ℕ) (m : Bool) (text : List ℕ) → first_found (tests m part) ≡ None → IsOutline inner part → (21 + inner.text ≤ length part → text ≡ slice_range part 21 (21 + inner.text)) → text ≡ problem_of part
 problem_at inner part m text none is told =
     let whole = whole_of m part none in
@@ -157,7 +153,7 @@ renewed_stands store outline inner s old is renewed of new_told old_told equal b
     stands_at store s (end_in s) (sym base)
     record {
       held = is.held;
-      sound = damage_is outline s is renewed ∙ found_append (tests (has_magic_2 part) part) ((not (pointwise nat_eq (problem_of part) (problem_of s)), Renewal) ∷ []) of.sound ∙ no_row (pointwise nat_eq (problem_of part) (problem_of s)) same;
+      sound = damage_is outline s is renewed ∙ found_append (tests (has_magic_2 part) part) ((not (pointwise nat_eq (problem_of part) (problem_of s)), Renewal) ∷ []) of.sound ∙ one_row (pointwise nat_eq (problem_of part) (problem_of s)) same;
       base_is = base_renewed s renewed;
     }
     (version ∙ sym (rw other refl)) new_is (size ∙ head.size_is) (first ∙ of.outline_is.first) (second ∙ of.outline_is.second)
@@ -222,7 +218,7 @@ ready_found seen moment leaves (Faulty part) disk open_is finds settled = tt
 
 no_version : (v : ℕ) (b : Bool) → (v ≡ 1 → ⊥) → false ≡ ((v == 1) && b)
 no_version v b not_one = elim (cases_Bool (v == 1)) [
-  | inl one ↦ absurd (not_one (equals v 1 one))
+  | inl one ↦ absurd (not_one (eqb-true v 1 one))
   | inr other ↦ rw other refl
 ]
 

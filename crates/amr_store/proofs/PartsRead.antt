@@ -1,8 +1,6 @@
 -- What the parts of a store say that were read.
 use Rattle.std.proofs.Common.{◌≡◌, inl, inr, ℕ, ◌+◌, ◌≤◌, ◌<◌, ◌==◌, nat_le, nat_lt, Bool, true, false, not, ◌&&◌, ◌||◌, List, [], ◌∷◌, length, drop, Option, Some, None, refl, sym, ◌∙◌, ap, subst, arith}
-use Rattle.std.proofs.lemmas.Bool.{cases_Bool, ltb-true, ltb-false, lt-ltb, le-ltb, le-leb, or_from, or_left, or_right, not_from_false, not_from_true}
-use Rattle.std.proofs.lemmas.Bool.Decides.{nat_tests}
-use Rattle.std.proofs.lemmas.Grind.{common_steps}
+use Rattle.std.proofs.lemmas.Bool.{cases_Bool, ltb-true, ltb-false, lt-ltb, le-ltb, le-leb, or_from, or_left, or_right, not_from_false, not_from_true, eqb-true}
 use Rattle.std.proofs.lemmas.List.{get_or-drop}
 use Rattle.std.specs.Prelude.{slice_index, slice_range, option_map, if◌then◌else◌, Result, Ok, Err, IfOk}
 use Rattle.amr_store.proofs.Slots.{sound_full, sound_closed, entry_closed, entry_open}
@@ -20,6 +18,7 @@ use Rattle.amr_store.specs.Layout.{open_gate, magic_1, magic_2, long_at, word_at
 use Rattle.amr_store.specs.Reading.{IsRead, IsHeadOf, SaysHead, IsBegun, IsOpened, IsSlot, version_read, head_with, head_read, magic_in, slot_read, slot_tests}
 use Rattle.amr_store.specs.Stands.{slot_of}
 use Rattle.amr_store.specs.Stored.{Entry, is_open, is_broken, first_of, second_of, is_tie, first_found}
+use Rattle.amr_store.proofs.Entries.{range_length}
 
 pub if_ok_both : {T E : Type 0} (r : Result T E) (P Q R : T → Type 0) → IfOk r P → IfOk r Q → ((x : T) → P x → Q x → R x) → IfOk r R
 if_ok_both (Ok x) P Q R p q f = f x p q
@@ -58,11 +57,8 @@ abbrev KnownVersion : Option ℕ → Bool → ℕ → Type 0
 KnownVersion None m k = ((m && (k == magic_1)) || (k == magic_2)) ≡ false
 KnownVersion (Some v) m k = (v ≡ (if k == magic_1 then 1 else 2)) × (((m && (k == magic_1)) || (k == magic_2)) ≡ true)
 
-pub equals : (m n : ℕ) → (m == n) ≡ true → m ≡ n
-equals m n is = grind (arith, nat_tests)
-
 pub not_both : (k : ℕ) → (k == magic_2) ≡ true → (k == magic_1) ≡ false
-not_both k is = ap (λ (n : ℕ). n == magic_1) (equals k magic_2 is)
+not_both k is = ap (λ (n : ℕ). n == magic_1) (eqb-true k magic_2 is)
 
 known_as : (o : Option ℕ) (m : Bool) (k : ℕ) → version_read m k ≡ o → KnownVersion o m k → KnownVersion (version_read m k) m k
 known_as o m k read known = subst (λ (x : Option ℕ). KnownVersion x m k) (sym read) known
@@ -213,9 +209,6 @@ slot_whole slot part gate size is long =
     let count : slot.length ≡ length (slice_range part (gate + 17) (gate + 17 + long_at part (gate + 9))) = is.length_is ∙ sym (range_length part (gate + 17) (long_at part (gate + 9)) whole) in
     (sound, slots _ _ _ _ is.sequence_is count ∙ sym (ap (λ (o : Option Entry). option_map slot_of o) (entry_open part gate is.opened)))
   where
-    range_length : (xs : List ℕ) (a m : ℕ) → a + m ≤ length xs → length (slice_range xs a (a + m)) ≡ m
-    range_length xs a m within = grind (arith, common_steps)
-
     made : ℕ → ℕ → Option Known
     made q m = Some record { sequence = q; length = m }
 

@@ -1,7 +1,6 @@
 -- A store of version 1 while it is renewed.
 use Rattle.std.proofs.Common.{◌≡◌, ◌⊎◌, inl, inr, ℕ, ◌+◌, ◌-◌, ◌*◌, ◌≤◌, ◌<◌, ◌^◌, ◌==◌, nat_lt, Bool, true, false, ◌||◌, List, [], ◌∷◌, ◌++◌, length, drop, Option, Some, None, refl, sym, ◌∙◌, ap, subst, arith, length-append, length-drop, lit<}
 use Rattle.std.proofs.lemmas.Bool.{cases_Bool, ltb-true, ltb-false, lt-ltb, le-ltb}
-use Rattle.std.proofs.lemmas.Bool.Decides.{nat_tests}
 use Rattle.std.proofs.lemmas.Cmp.{nat_list_eq_equiv}
 use Rattle.std.proofs.lemmas.List.{get_or-drop, get_or_append_left, get_or-append-add}
 use Rattle.std.specs.Cmp.Lexicographic.{pointwise}
@@ -11,7 +10,7 @@ use Rattle.amr_disk.specs.Image.{Torn, written_at}
 use Rattle.amr_disk.specs.Replay.{torn_written}
 use Rattle.amr_store.proofs.Calls.{stands_at, text_is}
 use Rattle.amr_store.proofs.Creation.{IsHead, is_head, word_from}
-use Rattle.amr_store.proofs.Gates.{entry_is, state_kept}
+use Rattle.amr_store.proofs.Gates.{entry_is, not_zero, state_kept}
 use Rattle.amr_store.proofs.Images.{true_whole, outer_whole, base_plain, base_renewed, plain_sound, renewed_of, renewed_moved, renewed_sound, stored_is, and_second, and_third, third_false, all_true, end_kept, magic_1_kept, some_magic_kept, held_kept}
 use Rattle.amr_store.proofs.Parts.{Kept, beyond_changed}
 use Rattle.amr_store.proofs.Phases.{no_tie_none}
@@ -275,9 +274,6 @@ renewal_kept problem size sequence payload old new is longer same =
       };
       shut_1 = same (gate_1 l size) (omega arith) is.long ∙ is.shut_1;
     }
-
-not_zero : (n : ℕ) → 0 < n → (n == 0) ≡ false
-not_zero n some = grind (arith, nat_tests)
 
 -- what the new store reads as once its gate is open
 record InnerStore (problem : List ℕ) (size sequence : ℕ) (payload part : List ℕ) : Type 0 where

@@ -1,6 +1,6 @@
 -- What stands where a chunk was written.
 use Rattle.std.proofs.Common.{◌≡◌, ℕ, ◌+◌, ◌-◌, ◌≤◌, ◌<◌, ◌^◌, List, [], ◌∷◌, ◌++◌, length, take, drop, replicate, refl, sym, ◌∙◌, ap, arith, length-append, length-drop}
-use Rattle.std.proofs.lemmas.Grind.{common_steps, elements}
+use Rattle.std.proofs.lemmas.Grind.{common_steps}
 use Rattle.std.proofs.lemmas.List.{get_or-drop, get_or-take, get_or_append_left, get_or-append-add}
 use Rattle.std.proofs.lemmas.Nat.{from_le_bytes-to_le_bytes_8}
 use Rattle.std.specs.Int.{from_le_bytes, to_le_bytes, w64}
@@ -9,6 +9,7 @@ use Rattle.amr_disk.specs.Image.{Torn, written_at}
 use Rattle.amr_disk.specs.Replay.{torn_written}
 use Rattle.amr_store.specs.Stored.{IsFilled}
 use Rattle.amr_store.specs.Layout.{long_at}
+use Rattle.amr_store.proofs.Places.{same_lists}
 
 front_length : (gap at : ℕ) (old : List ℕ) → length (take at old ++ replicate (at - length old) gap) ≡ at
 front_length gap at old = grind (arith, common_steps)
@@ -43,9 +44,6 @@ long_from image p n fits same =
     let at : (i : ℕ) → i < 8 → slice_index (drop p image) i ≡ slice_index (to_le_bytes w64 n) i = λ i lt. get_or-drop p image i 0 ∙ same i lt in
     let read : long_at image p ≡ from_le_bytes w64 (to_le_bytes w64 n) = rw (at 0 (omega arith), at 1 (omega arith), at 2 (omega arith), at 3 (omega arith), at 4 (omega arith), at 5 (omega arith), at 6 (omega arith), at 7 (omega arith)) refl in
     read ∙ from_le_bytes-to_le_bytes_8 n fits
-
-same_lists : (xs ys : List ℕ) → length xs ≡ length ys → ((i : ℕ) → i < length ys → slice_index xs i ≡ slice_index ys i) → xs ≡ ys
-same_lists xs ys size same = grind (arith, elements)
 
 -- a range that spells this list
 pub range_is : (image : List ℕ) (a : ℕ) (bytes : List ℕ) → a + length bytes ≤ length image → ((i : ℕ) → i < length bytes → slice_index image (a + i) ≡ slice_index bytes i) → slice_range image a (a + length bytes) ≡ bytes

@@ -6,7 +6,7 @@ use Rattle.std.proofs.lemmas.Int.{ints, clamps}
 use Rattle.std.proofs.lemmas.Bool.Decides.{nat_tests}
 use Rattle.std.proofs.lemmas.List.Concat.{flat_map-cons}
 use Rattle.std.proofs.lemmas.List.Sums.{sum_by-append, sum_by-cons}
-use Rattle.std.proofs.lemmas.Bool.{and_left}
+use Rattle.std.proofs.lemmas.Bool.{and_left, le-leb}
 use Rattle.amr_box.specs.declared.Cell.{Cell}
 use Rattle.amr_box.specs.Cells.{AreDisjoint, Extent, IsProper, at_least_zero, cell, common, cells_of, height, holds, width, within}
 use Rattle.amr_box.proofs.Tests.{and_turned}
@@ -132,9 +132,6 @@ part-count b part words west south east north k wide high columns rows =
     not_le : (a b : ℕ) → b < a → nat_le a b ≡ false
     not_le a b h = grind (arith, nat_tests)
 
-    is_le : (a b : ℕ) → a ≤ b → nat_le a b ≡ true
-    is_le a b h = grind (arith, nat_tests)
-
     none : (s : Bool) (n : ℕ) → ◌≡◌ {A = ℕ} (cond (s && false) n 0) 0
     none true n = refl
     none false n = refl
@@ -147,8 +144,8 @@ part-count b part words west south east north k wide high columns rows =
 
     same : (j : ℕ) → south ≤ j → j ≤ north → row j ≡ row_count (words_for (width b)) words west east j
     same j h g =
-        ap (λ t. cond (t && nat_le j north) (row_count (words_for (width b)) words west east j) 0) (is_le south j h)
-        ∙ ap (λ t. cond t (row_count (words_for (width b)) words west east j) 0) (is_le j north g)
+        ap (λ t. cond (t && nat_le j north) (row_count (words_for (width b)) words west east j) 0) (le-leb south j h)
+        ∙ ap (λ t. cond t (row_count (words_for (width b)) words west east j) 0) (le-leb j north g)
 
 pub column_inside : (lo hi end : ℤ) (e w : ℕ) → pos e ≡ end -ℤ lo → pos w ≡ hi +ℤ pos 1 -ℤ lo → end ≤ℤ hi → e < w
 column_inside lo hi end e w p q h = omega (arith, ints)

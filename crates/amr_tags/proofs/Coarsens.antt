@@ -4,27 +4,25 @@ use Rattle.std.specs.Prelude.{nat_lt, unsigned_abs}
 use Rattle.std.proofs.lemmas.Int.{ints}
 use Rattle.std.proofs.lemmas.Nat.{mul-add-lt}
 use Rattle.std.proofs.lemmas.Bool.Decides.{nat_tests}
-use Rattle.std.proofs.lemmas.Bool.{and_left, and_parts, and_right}
+use Rattle.std.proofs.lemmas.Bool.{and_left, and_parts, and_right, lt-ltb, ltb-false as past, ltb-true}
 use Rattle.amr_box.specs.declared.Cell.{Cell}
 use Rattle.amr_box.specs.Cells.{Extent, IsNear, child, half, has_child_where, height, holds, width}
-use Rattle.amr_box.proofs.Tests.{and_apart}
+use Rattle.amr_box.proofs.Tests.{and_apart, opposite}
+use Rattle.amr_box.proofs.Numbers.{side-is}
 use Rattle.amr_tags.specs.Bits.{AreRows, bit_of, words_for}
 use Rattle.amr_tags.specs.Coarse.{IsEvenCorner, coarse_bit, parents_of, there}
 use Rattle.amr_tags.specs.Grown.{AreBits}
 use Rattle.amr_tags.specs.Parts.{in_rows}
 use Rattle.amr_tags.specs.TagSets.{column_in, row_in}
-use Rattle.amr_tags.proofs.Offsets.{side-is}
 use Rattle.amr_tags.proofs.Places.{column_within, in_holds, is_in, row_within}
+use Rattle.amr_tags.proofs.Fills.{column_there}
 
 -- ---- bits beyond the rows
-
-below : (a b : ℕ) → nat_lt a b ≡ true → a < b
-below a b h = grind (arith, nat_tests)
 
 pub no-column : (w h : ℕ) (words : List ℕ) (i j : ℕ) → AreRows w h words → w ≤ i → there (words_for w) h words i j ≡ false
 no-column w h words i j rows past =
     and_apart (nat_lt (i / 64) (words_for w) && nat_lt j h) (bit_of (words_for w) words i j)
-    (λ e. rows.unused i j past (in_word i (words_for w) (below (i / 64) (words_for w) (and_parts _ _ e).0)) (below j h (and_parts _ _ e).1))
+    (λ e. rows.unused i j past (in_word i (words_for w) (ltb-true (i / 64) (words_for w) (and_parts _ _ e).0)) (ltb-true j h (and_parts _ _ e).1))
   where
     in_word : (i p : ℕ) → i / 64 < p → i < 64 * p
     in_word i p h = omega (arith, h)
@@ -55,21 +53,15 @@ module _ (b : Extent) (near : IsNear b) (words : List ℕ) (rows : AreRows (widt
       row = offset b.lo.y c.y j y
 
       word : (i w : ℕ) → i < w → nat_lt (i / 64) (words_for w) ≡ true
-      word i w h = let k : i / 64 < words_for w = omega (arith, h) in less (i / 64) (words_for w) k
-        where
-          less : (a b : ℕ) → a < b → nat_lt a b ≡ true
-          less a b h = grind (arith, nat_tests)
-
-      past : (a b : ℕ) → nat_lt a b ≡ false → b ≤ a
-      past a b h = grind (arith, nat_tests)
+      word i w h = let k : i / 64 < words_for w = omega (arith, h) in lt-ltb (i / 64) (words_for w) k
 
       outside : (bit_there i j ≡ false) → (holds b c ≡ true → ⊥) → bit_there i j ≡ in_rows b words c
       outside none out = none ∙ sym (and_apart (holds b c) (bit_of (words_for (width b)) words (column_in b c) (row_in b c)) (λ h. absurd (out h)))
 
       split : (s : Bool) → nat_lt i (width b) ≡ s → (t : Bool) → nat_lt j (height b) ≡ t → bit_there i j ≡ in_rows b words c
       split true hi true hj =
-          let i_less = below i (width b) hi in
-          let j_less = below j (height b) hj in
+          let i_less = ltb-true i (width b) hi in
+          let j_less = ltb-true j (height b) hj in
           let wide = side-is b.lo.x b.hi.x near.wide in
           let high = side-is b.lo.y b.hi.y near.high in
           let held : holds b c ≡ true = in_holds b c (omega (arith, ints, x)) (omega (arith, ints, x, i_less, wide)) (omega (arith, ints, y)) (omega (arith, ints, y, j_less, high)) in
@@ -162,9 +154,6 @@ module _ (b : Extent) (near : IsNear b) (words : List ℕ) (rows : AreRows (widt
       in_word : (i p : ℕ) → i < 64 * p → i / 64 < p
       in_word i p h = omega (arith, h)
 
-      word_of : (i w : ℕ) → i < w → i / 64 < words_for w
-      word_of i w h = omega (arith, h)
-
       pub coarse-rows : AreRows (width coarse) (height coarse) out
       coarse-rows = record {
         count = room;
@@ -180,12 +169,9 @@ module _ (b : Extent) (near : IsNear b) (words : List ℕ) (rows : AreRows (widt
           split : (t : Bool) → holds coarse c ≡ t → (t && bit_of (words_for (width coarse)) out (column_in coarse c) (row_in coarse c)) ≡ has_child_where (in_rows b words) c
           split true h =
               let inside = is_in coarse c h in
-              at (column_in coarse c) (row_in coarse c) (word_of (column_in coarse c) (width coarse) (column_within coarse c inside)) (row_within coarse c inside)
+              at (column_in coarse c) (row_in coarse c) (column_there (column_in coarse c) (width coarse) (column_within coarse c inside)) (row_within coarse c inside)
               ∙ of-children c (column_in coarse c) (row_in coarse c) (from_low coarse.lo.x c.x inside.west) (from_low coarse.lo.y c.y inside.south)
-          split false h = sym (no-child c (λ (e : holds coarse c ≡ true). both e h))
-            where
-              both : {t : Bool} → t ≡ true → t ≡ false → ⊥
-              both e f = let g : true ≡ false = sym e ∙ f in cc
+          split false h = sym (no-child c (λ (e : holds coarse c ≡ true). opposite e h))
 
 -- ---- sizes that are those of the boxes
 

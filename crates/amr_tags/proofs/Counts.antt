@@ -4,6 +4,7 @@ use Rattle.std.specs.Prelude.{nat_le, ◌==◌, count_ones}
 use Rattle.std.proofs.lemmas.Nat.{ones-le, ones_cat, ones_le_self, zero_from_ones}
 use Rattle.std.proofs.lemmas.Nat.Bits.{bit_at-suc, bit_at_lowest}
 use Rattle.std.proofs.lemmas.Bool.Decides.{nat_tests}
+use Rattle.std.proofs.lemmas.Bool.{lt-leb}
 use Rattle.amr_tags.specs.Bits.{bit, bit_of}
 use Rattle.amr_tags.specs.Parts.{count_from, in_columns, rows_from}
 
@@ -63,12 +64,9 @@ ones-count p (suc k) n a h same =
 
 before_columns : (p : ℕ) (words : List ℕ) (j low high i : ℕ) → i < low → ◌≡◌ {A = ℕ} (cond (in_columns p words j low high i) 1 0) 0
 before_columns p words j low high i h =
-    let test : nat_le low i ≡ false = not_le low i h in
+    let test : nat_le low i ≡ false = lt-leb low i h in
     rw test (none (bit_of p words i j))
   where
-    not_le : (a b : ℕ) → b < a → nat_le a b ≡ false
-    not_le a b h = grind (arith, nat_tests)
-
     none : (t : Bool) → ◌≡◌ {A = ℕ} (cond (t && false) 1 0) 0
     none true = refl
     none false = refl

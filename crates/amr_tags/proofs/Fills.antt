@@ -1,12 +1,12 @@
 -- Bits of a part of the rows that are set, word by word and row by row.
-use Rattle.std.proofs.Common.{◌≡◌, ℕ, ◌+◌, ◌*◌, ◌/◌, ◌%◌, ◌<◌, ◌≤◌, Bool, true, false, ◌&&◌, ◌||◌, ℤ, pos, ◌+ℤ◌, ◌-ℤ◌, ◌≤ℤ◌, refl, sym, ap, ◌∙◌, arith, List, length, set, get_or}
-use Rattle.std.specs.Prelude.{◌==◌, bit_or, nat_le, nat_lt, unsigned_abs}
+use Rattle.std.proofs.Common.{◌≡◌, ℕ, ◌+◌, ◌*◌, ◌/◌, ◌%◌, ◌<◌, ◌≤◌, Bool, true, false, ◌&&◌, ◌||◌, refl, sym, ap, ◌∙◌, arith, List, length, set, get_or}
+use Rattle.std.specs.Prelude.{◌==◌, bit_or, nat_le, nat_lt}
 use Rattle.std.proofs.Math.Bool.{or-false, and-false, and-true, and_comm}
 use Rattle.std.proofs.lemmas.Bool.Decides.{nat_tests}
-use Rattle.std.proofs.lemmas.Int.{ints}
 use Rattle.std.proofs.lemmas.List.{get_or-set_same, get_or-set_other}
 use Rattle.std.proofs.lemmas.Nat.{same_from_place}
 use Rattle.std.proofs.lemmas.Nat.Bits.{bit_at_ones}
+use Rattle.std.proofs.lemmas.Bool.{eq-eqb, eqb-true}
 use Rattle.amr_box.specs.declared.Cell.{Cell}
 use Rattle.amr_box.specs.Cells.{Extent, height, holds, width, within}
 use Rattle.amr_tags.specs.Bits.{AreRows, bit, bit_of, words_for}
@@ -14,8 +14,9 @@ use Rattle.amr_tags.specs.Parts.{in_rows, with_part}
 use Rattle.amr_tags.specs.Stored.{IsIn}
 use Rattle.amr_tags.specs.TagSets.{column_in, row_in}
 use Rattle.amr_tags.proofs.CellCounts.{Spans, in_range}
-use Rattle.amr_tags.proofs.Places.{apart, column_within, equal, is_equal, is_in}
+use Rattle.amr_tags.proofs.Places.{apart, column_within, is_in}
 use Rattle.amr_tags.proofs.Shifts.{or-bit}
+use Rattle.amr_tags.proofs.Grows.{offset-is}
 
 -- the columns from `from` to `to`
 abbrev pub in_span : ℕ → ℕ → ℕ → Bool
@@ -41,17 +42,17 @@ or-word p words k c mask i r hk hi within = step ((r * p + i / 64) == (c * p + k
 
     step : (t : Bool) → ((r * p + i / 64) == (c * p + k)) ≡ t → bit_of p (set words (c * p + k) written) i r ≡ (bit_of p words i r || ((r == c) && ((i / 64 == k) && bit mask (i % 64))))
     step true e =
-        let place : r * p + i / 64 ≡ c * p + k = equal (r * p + i / 64) (c * p + k) e in
+        let place : r * p + i / 64 ≡ c * p + k = eqb-true (r * p + i / 64) (c * p + k) e in
         let both = same_from_place r (i / 64) c k p hi hk place in
         ap (λ t. bit (get_or (set words (c * p + k) written) t 0) (i % 64)) place
         ∙ ap (λ t. bit t (i % 64)) (get_or-set_same words (c * p + k) written 0 within)
         ∙ or-bit (get_or words (c * p + k) 0) mask (i % 64)
         ∙ ap (λ t. bit (get_or words t 0) (i % 64) || bit mask (i % 64)) (sym place)
-        ∙ ap (λ t. bit_of p words i r || t) (both_true (r == c) (i / 64 == k) (bit mask (i % 64)) (is_equal r c both.0) (is_equal (i / 64) k both.1))
+        ∙ ap (λ t. bit_of p words i r || t) (both_true (r == c) (i / 64 == k) (bit mask (i % 64)) (eq-eqb r c both.0) (eq-eqb (i / 64) k both.1))
     step false e =
         ap (λ t. bit t (i % 64)) (get_or-set_other words (c * p + k) (r * p + i / 64) written 0 (apart (r * p + i / 64) (c * p + k) e))
         ∙ sym (or-false (bit_of p words i r))
-        ∙ ap (λ t. bit_of p words i r || t) (sym (none (r == c) (i / 64 == k) (bit mask (i % 64)) (λ f g. apart (r * p + i / 64) (c * p + k) e (joined (equal r c f) (equal (i / 64) k g)))))
+        ∙ ap (λ t. bit_of p words i r || t) (sym (none (r == c) (i / 64 == k) (bit mask (i % 64)) (λ f g. apart (r * p + i / 64) (c * p + k) e (joined (eqb-true r c f) (eqb-true (i / 64) k g)))))
 
 -- ---- a row
 
@@ -61,7 +62,7 @@ mask_is w from to mask i m = step (i / 64 == w) refl
   where
     step : (t : Bool) → (i / 64 == w) ≡ t → (t && bit mask (i % 64)) ≡ (t && in_span from to i)
     step true e =
-        let word : i / 64 ≡ w = equal (i / 64) w e in
+        let word : i / 64 ≡ w = eqb-true (i / 64) w e in
         let low : i % 64 < 64 = omega arith in
         let whole : w * 64 + i % 64 ≡ i = omega arith in
         let all : bit 18446744073709551615 (i % 64) ≡ true = ap (λ t. t == 1) (bit_at_ones 64 (i % 64) low) in
@@ -153,7 +154,7 @@ last-row a from to first last i r j e = ap (λ n. a || up_to_row from to first n
 
 -- ---- a part of the box
 
-column_there : (i w : ℕ) → i < w → i / 64 < words_for w
+pub column_there : (i w : ℕ) → i < w → i / 64 < words_for w
 column_there i w h = omega arith
 
 pub rows_after_part : (b : Extent) (old words : List ℕ) (west south east north : ℕ) → AreRows (width b) (height b) old → east < width b → length words ≡ length old → ((i r : ℕ) → i / 64 < words_for (width b) → bit_of (words_for (width b)) words i r ≡ with_part (words_for (width b)) old west east south north i r) → AreRows (width b) (height b) words
@@ -180,14 +181,11 @@ rows_after_part b old words west south east north rows inside count bits = recor
 pub cells_after_part : (b part : Extent) (old words : List ℕ) (west south east north : ℕ) → Spans b part west south east north → ((i r : ℕ) → i / 64 < words_for (width b) → bit_of (words_for (width b)) words i r ≡ with_part (words_for (width b)) old west east south north i r) → (c : Cell) → in_rows b words c ≡ (in_rows b old c || (holds b c && holds part c))
 cells_after_part b part old words west south east north k bits c = step (holds b c) refl
   where
-    from_low : (lo z : ℤ) → lo ≤ℤ z → lo +ℤ pos (unsigned_abs (z -ℤ lo)) ≡ z
-    from_low lo z h = omega (arith, ints)
-
     in_part : IsIn b c → ((nat_le south (row_in b c) && nat_le (row_in b c) north) && in_span west east (column_in b c)) ≡ holds part c
     in_part there =
         and_comm (nat_le south (row_in b c) && nat_le (row_in b c) north) (in_span west east (column_in b c))
-        ∙ ap (λ t. t && (nat_le south (row_in b c) && nat_le (row_in b c) north)) (sym (in_range b.lo.x part.lo.x part.hi.x west east (column_in b c) k.west_is k.east_is) ∙ ap (within part.lo.x part.hi.x) (from_low b.lo.x c.x there.west))
-        ∙ ap (λ t. within part.lo.x part.hi.x c.x && t) (sym (in_range b.lo.y part.lo.y part.hi.y south north (row_in b c) k.south_is k.north_is) ∙ ap (within part.lo.y part.hi.y) (from_low b.lo.y c.y there.south))
+        ∙ ap (λ t. t && (nat_le south (row_in b c) && nat_le (row_in b c) north)) (sym (in_range b.lo.x part.lo.x part.hi.x west east (column_in b c) k.west_is k.east_is) ∙ ap (within part.lo.x part.hi.x) (offset-is b.lo.x c.x there.west))
+        ∙ ap (λ t. within part.lo.x part.hi.x c.x && t) (sym (in_range b.lo.y part.lo.y part.hi.y south north (row_in b c) k.south_is k.north_is) ∙ ap (within part.lo.y part.hi.y) (offset-is b.lo.y c.y there.south))
 
     step : (t : Bool) → holds b c ≡ t → (t && bit_of (words_for (width b)) words (column_in b c) (row_in b c)) ≡ ((t && bit_of (words_for (width b)) old (column_in b c) (row_in b c)) || (t && holds part c))
     step true e =

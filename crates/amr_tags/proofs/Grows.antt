@@ -5,7 +5,8 @@ use Rattle.std.proofs.lemmas.Bool.{and_parts}
 use Rattle.std.proofs.lemmas.Bool.Decides.{same_from_decides}
 use Rattle.std.proofs.lemmas.Int.{ints}
 use Rattle.amr_box.specs.declared.Cell.{Cell}
-use Rattle.amr_box.specs.Cells.{Extent, at_least_zero, cell, height, holds, width}
+use Rattle.amr_box.specs.Cells.{Extent, cell, height, holds, width}
+use Rattle.amr_box.proofs.Numbers.{side-is}
 use Rattle.amr_tags.specs.TagSets.{column_in, has, home, is_near, moved, row_in, tag_set, wrapped}
 use Rattle.amr_tags.specs.Bits.{bit_of, words_for}
 use Rattle.amr_tags.specs.Grown.{beside, grown_bit}
@@ -28,14 +29,11 @@ none-grown b x y words c = step (holds b c) refl
     step true e = twice (holds b c) _ ∙ ap (λ t. holds b c && t) (sym (near-none (tag_set b x y words) c e))
     step false e = outside (holds b c) _ _ e
 
-offset-is : (lo z : ℤ) → lo ≤ℤ z → lo +ℤ pos (unsigned_abs (z -ℤ lo)) ≡ z
+pub offset-is : (lo z : ℤ) → lo ≤ℤ z → lo +ℤ pos (unsigned_abs (z -ℤ lo)) ≡ z
 offset-is lo z h = grind (arith, ints)
 
 offset-of : (lo : ℤ) (k : ℕ) → unsigned_abs (lo +ℤ pos k -ℤ lo) ≡ k
 offset-of lo k = grind (arith, ints)
-
-side-is : (lo hi : ℤ) → lo ≤ℤ hi → pos (at_least_zero (hi +ℤ pos 1 -ℤ lo)) ≡ hi +ℤ pos 1 -ℤ lo
-side-is lo hi h = grind (arith, ints)
 
 -- a bit with one of the nine set is near by one more
 pub bit-near : (b : Extent) (x y : Bool) (first words : List ℕ) (n : ℕ) (c : Cell) → holds b c ≡ true → ((k : Cell) → has (tag_set b x y words) k ≡ (holds b k && is_near (tag_set b x y first) n k)) → grown_bit x y (width b) (height b) words (column_in b c) (row_in b c) ≡ true → is_near (tag_set b x y first) (n + 1) c ≡ true

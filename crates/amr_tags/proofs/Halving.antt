@@ -1,7 +1,7 @@
 -- A count of cells that is not 0 has a cell, and one that is 0 has none.
 use Rattle.std.proofs.Common.{◌≡◌, ℕ, zero, suc, ◌+◌, ◌<◌, ◌≤◌, ◌≢◌, Bool, true, false, ◌&&◌, cond, ℤ, pos, negsuc, ◌+ℤ◌, ◌-ℤ◌, ◌≤ℤ◌, ◌<ℤ◌, refl, sym, ap, ◌∙◌, subst, arith, List, [], ◌∷◌}
 use Rattle.std.specs.Prelude.{int_le, int_lt, nat_lt, ◌==◌, unsigned_abs}
-use Rattle.std.proofs.lemmas.Bool.{and_from, and_left, and_parts}
+use Rattle.std.proofs.lemmas.Bool.{and_from, and_left, and_parts, eqb-true}
 use Rattle.std.proofs.lemmas.Bool.Decides.{nat_tests}
 use Rattle.std.specs.List.{count_by}
 use Rattle.std.proofs.lemmas.Int.{ints}
@@ -11,13 +11,15 @@ use Rattle.amr_box.specs.declared.Axis.{Axis}
 use Rattle.amr_box.specs.declared.Axis.TheVariants.{X, Y}
 use Rattle.amr_box.specs.Cells.{AreDisjoint, Extent, IsBoxOf, IsNear, along, cell, cells_of, height, holds, width, within}
 use Rattle.amr_box.proofs.Tests.{and_turned}
+use Rattle.amr_box.proofs.Boxes.{int_le-yes}
+use Rattle.amr_box.proofs.Numbers.{below_from, le_from}
 use Rattle.amr_tags.specs.Bits.{bit_of, words_for}
 use Rattle.amr_tags.specs.Parts.{count_from, rows_from}
 use Rattle.amr_tags.specs.Stored.{IsIn, IsPart}
 use Rattle.amr_tags.specs.Edges.{HasNoneAbove, HasNoneBelow, HasOne, HasOneFrom, HasOneUpTo, in_part}
 use Rattle.amr_tags.specs.TagSets.{IsLeastBox, column_in, row_in}
 use Rattle.amr_tags.proofs.CellCounts.{cells-sum}
-use Rattle.amr_tags.proofs.Places.{column_within, high_in, is_in, low_in, row_within}
+use Rattle.amr_tags.proofs.Places.{apart, column_within, high_in, is_in, low_in, row_within}
 
 counted-cons : (p : Cell → Bool) (c : Cell) (cs : List Cell) → p c ≡ false → count_by p (c ∷ cs) ≡ count_by p cs
 counted-cons p c cs e = sum_by-cons (λ c. cond (p c) 1 0) c cs ∙ ap (λ t. cond t 1 0 + count_by p cs) e ∙ zero-plus (count_by p cs)
@@ -33,18 +35,12 @@ some_counted p (c ∷ cs) h = step (p c) refl (some_counted p cs)
     step true e rest = (c, e)
     step false e rest = rest (subst (λ (n : ℕ). 0 < n) (counted-cons p c cs e) h)
 
-equal : (a b : ℕ) → (a == b) ≡ true → a ≡ b
-equal a b h = grind (arith, nat_tests)
-
-apart : (a b : ℕ) → (a == b) ≡ false → a ≢ b
-apart a b h = grind (arith, nat_tests)
-
 rows-zero : (f : ℕ → ℕ) (a n i : ℕ) → rows_from f a n ≡ 0 → a ≤ i → i < a + n → f i ≡ 0
 rows-zero f a zero i e low high = absurd (omega arith)
 rows-zero f a (suc n) i e low high = step (i == a) refl (rows-zero f (a + 1) n i)
   where
     step : (t : Bool) → (i == a) ≡ t → (rows_from f (a + 1) n ≡ 0 → a + 1 ≤ i → i < a + 1 + n → f i ≡ 0) → f i ≡ 0
-    step true g rest = ap f (equal i a g) ∙ (let first : f a ≡ 0 = omega arith in first)
+    step true g rest = ap f (eqb-true i a g) ∙ (let first : f a ≡ 0 = omega arith in first)
     step false g rest = let other : i ≢ a = apart i a g in rest (omega arith) (omega arith) (omega arith)
 
 one-zero : (t : Bool) → ◌≡◌ {A = ℕ} (cond t 1 0) 0 → t ≡ false
@@ -75,21 +71,12 @@ part-holds b part c k h =
     wider : (lo hi l h z : ℤ) → lo ≤ℤ l → h ≤ℤ hi → within l h z ≡ true → within lo hi z ≡ true
     wider lo hi l h z e f g = grind (arith, ints)
 
-lt-yes : (a b : ℤ) → int_lt a b ≡ true → a <ℤ b
-lt-yes a b h = grind (arith, ints)
-
-le-yes : (a b : ℤ) → int_le a b ≡ true → a ≤ℤ b
-le-yes a b h = grind (arith, ints)
-
-le-is : (a b : ℤ) → a ≤ℤ b → int_le a b ≡ true
-le-is a b h = grind (arith, ints)
-
 pub one_up_to : (b part below : Extent) (words : List ℕ) (axis : Axis) (i last : ℤ) → IsBoxOf below (λ c. holds part c && int_lt (along axis c) i) → i ≡ last +ℤ pos 1 → 0 < count_by (in_part b words below) (cells_of b) → HasOneUpTo (in_part b words part) axis last
 one_up_to b part below words axis i last k e h =
     let c = some_counted (in_part b words below) (cells_of b) h in
     let s = and_parts (holds below c.0) _ c.1 in
     let t = and_parts (holds part c.0) (int_lt (along axis c.0) i) (sym (k.at c.0) ∙ s.0) in
-    let lower = lt-yes (along axis c.0) i t.1 in
+    let lower = below_from (along axis c.0) i t.1 in
     record { at = (c.0, and_from _ _ t.0 s.1, omega (arith, ints, lower, e)) }
 
 not_lower : (z i last : ℤ) → int_lt z i ≡ false → i ≡ last +ℤ pos 1 → (last +ℤ pos 1) ≤ℤ z
@@ -114,7 +101,7 @@ one_from b part above words axis i first k e h =
     let c = some_counted (in_part b words above) (cells_of b) h in
     let s = and_parts (holds above c.0) _ c.1 in
     let t = and_parts (holds part c.0) (int_le i (along axis c.0)) (sym (k.at c.0) ∙ s.0) in
-    let higher = le-yes i (along axis c.0) t.1 in
+    let higher = le_from i (along axis c.0) t.1 in
     record { at = (c.0, and_from _ _ t.0 s.1, omega (arith, ints, higher, e)) }
 
 pub none_from : (b part above : Extent) (words : List ℕ) (axis : Axis) (i first : ℤ) → IsBoxOf above (λ c. holds part c && int_le i (along axis c)) → i ≡ first → IsPart b part → count_by (in_part b words above) (cells_of b) ≡ 0 → HasNoneAbove (in_part b words part) axis (first -ℤ pos 1)
@@ -193,7 +180,7 @@ edges_in_order test axis low high h k one = let a = h.from one.at.0 one.at.1 in 
 
 pub least_box : (test : Cell → Bool) (b : Extent) → HasNoneBelow test X b.lo.x → HasOneUpTo test X b.lo.x → HasNoneBelow test Y b.lo.y → HasOneUpTo test Y b.lo.y → HasNoneAbove test X b.hi.x → HasOneFrom test X b.hi.x → HasNoneAbove test Y b.hi.y → HasOneFrom test Y b.hi.y → IsLeastBox b test
 least_box test b w w1 s s1 e e1 n n1 = record {
-  inside = λ c t. and_from _ _ (and_from _ _ (le-is _ _ (w.from c t)) (le-is _ _ (e.to c t))) (and_from _ _ (le-is _ _ (s.from c t)) (le-is _ _ (n.to c t)));
+  inside = λ c t. and_from _ _ (and_from _ _ (int_le-yes _ _ (w.from c t)) (int_le-yes _ _ (e.to c t))) (and_from _ _ (int_le-yes _ _ (s.from c t)) (int_le-yes _ _ (n.to c t)));
   west = (w1.at.0, w1.at.1, same w1.at.0.x b.lo.x w1.at.2 (w.from w1.at.0 w1.at.1));
   south = (s1.at.0, s1.at.1, same s1.at.0.y b.lo.y s1.at.2 (s.from s1.at.0 s1.at.1));
   east = (e1.at.0, e1.at.1, same e1.at.0.x b.hi.x (e.to e1.at.0 e1.at.1) e1.at.2);

@@ -7,8 +7,9 @@ use Rattle.std.proofs.Math.Bool.{or-false}
 use Rattle.std.proofs.lemmas.Bool.{and_parts}
 use Rattle.std.proofs.lemmas.Int.{ints}
 use Rattle.amr_box.specs.declared.Cell.{Cell}
-use Rattle.amr_box.specs.Cells.{Extent, at_least_zero, cell, extent, height, holds, width}
+use Rattle.amr_box.specs.Cells.{Extent, cell, extent, height, holds, width}
 use Rattle.amr_box.proofs.CellLists.{IsFound, any_in_box, found_in_box}
+use Rattle.amr_box.proofs.Numbers.{side-is}
 use Rattle.amr_tags.specs.Stored.{IsIn}
 use Rattle.amr_tags.specs.TagSets.{TagSet, has, home, is_near, moved, wrapped}
 use Rattle.amr_tags.proofs.Neighbours.{split, wrapped-moved}
@@ -17,9 +18,6 @@ use Rattle.amr_tags.proofs.Places.{in_holds, is_in}
 -- the offsets of a square, by their box
 abbrev pub square_box : ℕ → Extent
 square_box n = extent (cell (pos 0 -ℤ pos n) (pos 0 -ℤ pos n)) (cell (pos n) (pos n))
-
-pub side-is : (lo hi : ℤ) → lo ≤ℤ hi → pos (at_least_zero (hi +ℤ pos 1 -ℤ lo)) ≡ hi +ℤ pos 1 -ℤ lo
-side-is lo hi h = grind (arith, ints)
 
 -- a cell beside one, from which the rest of the way leads on
 pub record IsBeside (t : TagSet) (n : ℕ) (c : Cell) : Type 0 where

@@ -3,10 +3,9 @@ use Rattle.std.proofs.Common.{◌≡◌, ℕ, ◌+◌, ◌-◌, ◌*◌, ◌%◌
 use Rattle.std.specs.Prelude.{◌==◌, bit_or, nat_lt}
 use Rattle.std.proofs.lemmas.Nat.Bits.{bit_at-zero}
 use Rattle.std.proofs.lemmas.Bool.Decides.{nat_tests}
-use Rattle.std.proofs.lemmas.Bool.{or_parts}
+use Rattle.std.proofs.lemmas.Bool.{eqb-true, or_parts}
 use Rattle.amr_tags.specs.Bits.{bit}
 use Rattle.amr_tags.specs.Coarse.{coarse_bit, pair, paired, there}
-use Rattle.amr_tags.proofs.Places.{equal}
 use Rattle.amr_tags.proofs.Shifts.{or-bit}
 
 -- ---- a word that is 0
@@ -105,10 +104,10 @@ module _ (low high i k : ℕ) (fits : i < 32) (inside : k < 64) where
     where
       choose : (a : Bool) → (k == i) ≡ a → (b : Bool) → (k == i + 32) ≡ b → (((nat_lt (k % 32) i && paired low high k) || (p && (k == i))) || (q && (k == i + 32))) ≡ (nat_lt (k % 32) (i + 1) && paired low high k)
       choose true ea b eb =
-          let e = equal k i ea in
+          let e = eqb-true k i ea in
           step_low _ _ _ _ _ p q _ _ (before_one (place_low e)) (up_to_one (place_low e)) ea (not_high e) (is_low e) (ep ∙ ap (pair low) (sym e))
       choose false ea true eb =
-          let e = equal k (i + 32) eb in
+          let e = eqb-true k (i + 32) eb in
           let back : i ≡ k - 32 = omega (arith, e) in
           step_high _ _ _ _ _ p q _ _ (before_one (place_high e)) (up_to_one (place_high e)) ea eb (not_low e) (eq ∙ ap (pair high) back)
       choose false ea false eb = step_none _ _ _ _ p q _ (elsewhere ea eb) ea eb

@@ -3,9 +3,10 @@ use Rattle.std.proofs.Common.{◌≡◌, ℕ, ◌+◌, ◌*◌, ◌/◌, ◌%◌
 use Rattle.std.specs.Prelude.{◌==◌}
 use Rattle.std.proofs.lemmas.List.{get_or-set_same, get_or-set_other}
 use Rattle.std.proofs.lemmas.Nat.{same_from_place}
+use Rattle.std.proofs.lemmas.Bool.{eqb-true}
 use Rattle.amr_tags.specs.Bits.{bit, bit_of}
 use Rattle.amr_tags.specs.Grown.{AreBits}
-use Rattle.amr_tags.proofs.Places.{apart, equal}
+use Rattle.amr_tags.proofs.Places.{apart}
 
 -- one word more
 pub next-bits : (p : ℕ) (words : List ℕ) (test : ℕ → ℕ → Bool) (k c v : ℕ) → k < p → c * p + k < length words → AreBits p words test (c * p + k) → ((b : ℕ) → b < 64 → bit v b ≡ test (64 * k + b) c) → AreBits p (set words (c * p + k) v) test (c * p + (k + 1))
@@ -16,7 +17,7 @@ next-bits p words test k c v hk within done new = λ i j hi h. step i j hi (shif
 
     step : (i j : ℕ) → i / 64 < p → j * p + i / 64 < c * p + k + 1 → (t : Bool) → ((j * p + i / 64) == (c * p + k)) ≡ t → bit_of p (set words (c * p + k) v) i j ≡ test i j
     step i j hi h true e =
-        let place : j * p + i / 64 ≡ c * p + k = equal (j * p + i / 64) (c * p + k) e in
+        let place : j * p + i / 64 ≡ c * p + k = eqb-true (j * p + i / 64) (c * p + k) e in
         let both = same_from_place j (i / 64) c k p hi hk place in
         let low : i % 64 < 64 = omega arith in
         ap (λ t. bit (get_or (set words (c * p + k) v) t 0) (i % 64)) place

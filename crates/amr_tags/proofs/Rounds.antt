@@ -1,13 +1,10 @@
 -- Both passes over the rows, one after the other.
-use Rattle.std.proofs.Common.{◌≡◌, ℕ, zero, suc, ◌+◌, ◌-◌, ◌*◌, ◌/◌, ◌<◌, ◌≤◌, Bool, true, false, ◌&&◌, ◌||◌, cond, refl, sym, ap, ◌∙◌, subst, arith, List, length}
+use Rattle.std.proofs.Common.{◌≡◌, ℕ, zero, suc, ◌+◌, ◌-◌, ◌*◌, ◌/◌, ◌<◌, Bool, true, false, ◌&&◌, ◌||◌, cond, refl, sym, ap, ◌∙◌, subst, arith, List, length}
 use Rattle.std.specs.Prelude.{nat_lt}
-use Rattle.std.proofs.lemmas.Bool.Decides.{nat_tests}
 use Rattle.amr_tags.specs.Bits.{AreRows, bit_of, words_for}
 use Rattle.amr_tags.specs.Grown.{AreBits, after, before, beside, grown_bit, heightened, widened}
 use Rattle.std.proofs.lemmas.Nat.{mul-add-lt}
-
-less : (a b : ℕ) → a < b → nat_lt a b ≡ true
-less a b h = grind (arith, nat_tests)
+use Rattle.std.proofs.lemmas.Bool.{le-ltb, lt-ltb, ltb-true}
 
 before-same : (wrap : Bool) (n : ℕ) (f g : ℕ → Bool) (i : ℕ) → i < n → ((k : ℕ) → k < n → f k ≡ g k) → before wrap n f i ≡ before wrap n g i
 before-same wrap n f g zero h e = ap (λ t. wrap && t) (e (n - 1) (omega arith))
@@ -16,11 +13,8 @@ before-same wrap n f g (suc i) h e = e i (omega arith)
 after-same : (wrap : Bool) (n : ℕ) (f g : ℕ → Bool) (i : ℕ) → i < n → ((k : ℕ) → k < n → f k ≡ g k) → after wrap n f i ≡ after wrap n g i
 after-same wrap n f g i h e = step (nat_lt (i + 1) n) refl
   where
-    more : (a b : ℕ) → nat_lt a b ≡ true → a < b
-    more a b e = grind (arith, nat_tests)
-
     step : (t : Bool) → nat_lt (i + 1) n ≡ t → after wrap n f i ≡ after wrap n g i
-    step true m = ap (λ t. cond t (f (i + 1)) (wrap && f 0)) m ∙ e (i + 1) (more (i + 1) n m) ∙ sym (ap (λ t. cond t (g (i + 1)) (wrap && g 0)) m)
+    step true m = ap (λ t. cond t (f (i + 1)) (wrap && f 0)) m ∙ e (i + 1) (ltb-true (i + 1) n m) ∙ sym (ap (λ t. cond t (g (i + 1)) (wrap && g 0)) m)
     step false m = ap (λ t. cond t (f (i + 1)) (wrap && f 0)) m ∙ ap (λ t. wrap && t) (e 0 (omega arith)) ∙ sym (ap (λ t. cond t (g (i + 1)) (wrap && g 0)) m)
 
 pub beside-same : (wrap : Bool) (n : ℕ) (f g : ℕ → Bool) (i : ℕ) → i < n → ((k : ℕ) → k < n → f k ≡ g k) → beside wrap n f i ≡ beside wrap n g i
@@ -66,7 +60,7 @@ module _ (wrap_x wrap_y : Bool) (width height : ℕ) (old mid new : List ℕ) (r
   grown-bits i j h k =
       new-bit i j (fits i h) k
       ∙ beside-same wrap_y height (λ r. bit_of (words_for width) mid i r) (λ r. beside wrap_x width (λ q. bit_of (words_for width) old q r) i) j k
-      (λ r below. mid-bit i r (fits i h) below ∙ ap (λ t. t && beside wrap_x width (λ q. bit_of (words_for width) old q r) i) (less i width h))
+      (λ r below. mid-bit i r (fits i h) below ∙ ap (λ t. t && beside wrap_x width (λ q. bit_of (words_for width) old q r) i) (lt-ltb i width h))
 
   pub grown-rows : length new ≡ length old → AreRows width height new
   grown-rows same = record {
@@ -74,12 +68,9 @@ module _ (wrap_x wrap_y : Bool) (width height : ℕ) (old mid new : List ℕ) (r
     unused = λ i j beyond h k.
         new-bit i j h k
         ∙ beside-same wrap_y height (λ r. bit_of (words_for width) mid i r) (λ _. false) j k
-        (λ r below. mid-bit i r h below ∙ ap (λ t. t && beside wrap_x width (λ q. bit_of (words_for width) old q r) i) (not_less i width beyond))
+        (λ r below. mid-bit i r h below ∙ ap (λ t. t && beside wrap_x width (λ q. bit_of (words_for width) old q r) i) (le-ltb i width beyond))
         ∙ beside-none wrap_y height j;
   }
-    where
-      not_less : (a b : ℕ) → b ≤ a → nat_lt a b ≡ false
-      not_less a b e = grind (arith, nat_tests)
 
 -- the same bits, where the words a row and the list are known by other names
 pub across-of : (wrap : Bool) (p width : ℕ) (mid a b : List ℕ) → p ≡ words_for width → a ≡ b → AreBits p mid (widened wrap width p a) (length a) → AreBits (words_for width) mid (widened wrap width (words_for width) b) (length b)

@@ -5,9 +5,10 @@ use Rattle.std.specs.Int.{bit_at}
 use Rattle.std.proofs.lemmas.Nat.Bits.{bit_at_or, bit_at-lt, bit_at-suc, bit_at_lowest, bit_at_cat_low}
 use Rattle.std.proofs.Math.Bool.{and-false, or-false}
 use Rattle.std.proofs.lemmas.Bool.Decides.{nat_tests}
+use Rattle.std.proofs.lemmas.Bool.{eqb-true, le-ltb, lt-leb, lt-ltb, ltb-false, ltb-true}
 use Rattle.amr_tags.specs.Bits.{bit, bit_of, words_for}
 use Rattle.amr_tags.specs.Grown.{after, before, beside, widened}
-use Rattle.amr_tags.proofs.Places.{apart, equal}
+use Rattle.amr_tags.proofs.Places.{apart}
 
 either : (x y : ℕ) → x < 2 → y < 2 → (max x y == 1) ≡ ((x == 1) || (y == 1))
 either x y h k = grind (arith, nat_tests)
@@ -84,9 +85,6 @@ down-others w r t i h e =
 
 -- ---- a word of a row, with the bits beside its own
 
-less : (a b : ℕ) → a < b → nat_lt a b ≡ true
-less a b h = grind (arith, nat_tests)
-
 pub place-bit : (p : ℕ) (words : List ℕ) (k j b : ℕ) → b < 64 → bit (get_or words (j * p + k) 0) b ≡ bit_of p words (64 * k + b) j
 place-bit p words k j b h =
     let q : k ≡ (64 * k + b) / 64 = omega arith in
@@ -108,7 +106,7 @@ down-bit p words k j d b last others h inside = step (b == 63) refl
 
     step : (t : Bool) → (b == 63) ≡ t → bit d b ≡ (nat_lt (64 * k + b + 1) (64 * p) && bit_of p words (64 * k + b + 1) j)
     step true e =
-        let is : b ≡ 63 = equal b 63 e in
+        let is : b ≡ 63 = eqb-true b 63 e in
         let g : 64 * (k + 1) ≡ 64 * k + b + 1 = omega arith in
         ap (bit d) is ∙ last ∙ ap (λ t. t && bit_of p words (64 * (k + 1)) j) (same k p b is) ∙ ap (λ i. nat_lt (64 * k + b + 1) (64 * p) && bit_of p words i j) g
     step false e =
@@ -116,7 +114,7 @@ down-bit p words k j d b last others h inside = step (b == 63) refl
         let more : b + 1 < 64 = omega arith in
         let g : 64 * k + (b + 1) ≡ 64 * k + b + 1 = omega arith in
         let room : 64 * k + b + 1 < 64 * p = omega arith in
-        others b below ∙ place-bit p words k j (b + 1) more ∙ ap (λ i. bit_of p words i j) g ∙ ap (λ t. t && bit_of p words (64 * k + b + 1) j) (sym (less (64 * k + b + 1) (64 * p) room))
+        others b below ∙ place-bit p words k j (b + 1) more ∙ ap (λ i. bit_of p words i j) g ∙ ap (λ t. t && bit_of p words (64 * k + b + 1) j) (sym (lt-ltb (64 * k + b + 1) (64 * p) room))
       where
         under : (b : ℕ) → b < 64 → (b ≡ 63 → ⊥) → b < 63
         under b h n = grind arith
@@ -125,7 +123,7 @@ down-bit p words k j d b last others h inside = step (b == 63) refl
 after-inside : (wrap : Bool) (width p : ℕ) (f : ℕ → Bool) (i : ℕ) → i + 1 < width → width ≤ 64 * p → (nat_lt (i + 1) (64 * p) && f (i + 1)) ≡ after wrap width f i
 after-inside wrap width p f i h k =
     let more : i + 1 < 64 * p = omega arith in
-    ap (λ t. t && f (i + 1)) (less (i + 1) (64 * p) more) ∙ sym (ap (λ t. cond t (f (i + 1)) (wrap && f 0)) (less (i + 1) width h))
+    ap (λ t. t && f (i + 1)) (lt-ltb (i + 1) (64 * p) more) ∙ sym (ap (λ t. cond t (f (i + 1)) (wrap && f 0)) (lt-ltb (i + 1) width h))
 
 pub three-beside : (p : ℕ) (words : List ℕ) (wrap : Bool) (width k j u d : ℕ) → p ≡ words_for width → 1 ≤ width → k < p → bit u 0 ≡ before wrap width (λ i. bit_of p words i j) (64 * k) → ((i : ℕ) → i < 63 → bit u (i + 1) ≡ bit (get_or words (j * p + k) 0) i) → bit d 63 ≡ (nat_lt (k + 1) p && bit_of p words (64 * (k + 1)) j) → ((i : ℕ) → i < 63 → bit d i ≡ bit (get_or words (j * p + k) 0) (i + 1)) → (b : ℕ) → b < 64 → (bit (get_or words (j * p + k) 0) b || (bit u b || bit d b)) ≡ (bit_of p words (64 * k + b) j || (before wrap width (λ i. bit_of p words i j) (64 * k + b) || (nat_lt (64 * k + b + 1) (64 * p) && bit_of p words (64 * k + b + 1) j)))
 three-beside p words wrap width k j u d shape some inside first up last down b h =
@@ -140,21 +138,12 @@ inner-word p words wrap width k j b shape some inside h =
     let here : 64 * k + b < width = omega arith in
     let fits : width ≤ 64 * p = omega arith in
     ap (λ t. bit_of p words (64 * k + b) j || (before wrap width (λ i. bit_of p words i j) (64 * k + b) || t)) (after-inside wrap width p (λ i. bit_of p words i j) (64 * k + b) more fits)
-    ∙ sym (ap (λ t. t && beside wrap width (λ i. bit_of p words i j) (64 * k + b)) (less (64 * k + b) width here))
+    ∙ sym (ap (λ t. t && beside wrap width (λ i. bit_of p words i j) (64 * k + b)) (lt-ltb (64 * k + b) width here))
 
 -- the last word of a row
 pub last-word : (p : ℕ) (words : List ℕ) (wrap : Bool) (width k j b : ℕ) (around : Bool) → p ≡ words_for width → 1 ≤ width → k + 1 ≡ p → b < 64 → ((i : ℕ) → width ≤ i → i < 64 * p → bit_of p words i j ≡ false) → around ≡ (wrap && bit_of p words 0 j) → (((bit_of p words (64 * k + b) j || (before wrap width (λ i. bit_of p words i j) (64 * k + b) || (nat_lt (64 * k + b + 1) (64 * p) && bit_of p words (64 * k + b + 1) j))) || (around && (b == (width - 1) % 64))) && nat_le b ((width - 1) % 64)) ≡ widened wrap width p words (64 * k + b) j
 last-word p words wrap width k j b around shape some inside h unused closes = step (nat_lt (64 * k + b + 1) width) refl
   where
-    more_is : (a b : ℕ) → nat_lt a b ≡ true → a < b
-    more_is a b e = grind (arith, nat_tests)
-
-    over_is : (a b : ℕ) → nat_lt a b ≡ false → b ≤ a
-    over_is a b e = grind (arith, nat_tests)
-
-    not_less : (a b : ℕ) → b ≤ a → nat_lt a b ≡ false
-    not_less a b e = grind (arith, nat_tests)
-
     below_not : (a b : ℕ) → a < b → (a == b) ≡ false
     below_not a b h = grind (arith, nat_tests)
 
@@ -163,9 +152,6 @@ last-word p words wrap width k j b around shape some inside h unused closes = st
 
     same_le : (a b : ℕ) → a ≡ b → nat_le a b ≡ true
     same_le a b h = grind (arith, nat_tests)
-
-    above_le : (a b : ℕ) → b < a → nat_le a b ≡ false
-    above_le a b h = grind (arith, nat_tests)
 
     stripped : (a r : Bool) → ((a || (r && false)) && true) ≡ a
     stripped true r = refl
@@ -195,7 +181,7 @@ last-word p words wrap width k j b around shape some inside h unused closes = st
 
     step : (t : Bool) → nat_lt (64 * k + b + 1) width ≡ t → (((x || (y || z)) || (around && (b == end))) && nat_le b end) ≡ widened wrap width p words (64 * k + b) j
     step true e =
-        let more : 64 * k + b + 1 < width = more_is (64 * k + b + 1) width e in
+        let more : 64 * k + b + 1 < width = ltb-true (64 * k + b + 1) width e in
         let here : 64 * k + b < width = omega arith in
         let fits : width ≤ 64 * p = omega arith in
         let before_end : b < end = omega arith in
@@ -203,36 +189,36 @@ last-word p words wrap width k j b around shape some inside h unused closes = st
         ∙ ap (λ t. ((x || (y || after wrap width f (64 * k + b))) || (around && t)) && nat_le b end) (below_not b end before_end)
         ∙ ap (λ t. ((x || (y || after wrap width f (64 * k + b))) || (around && false)) && t) (below_le b end before_end)
         ∙ stripped (x || (y || after wrap width f (64 * k + b))) around
-        ∙ sym (ap (λ t. t && beside wrap width f (64 * k + b)) (less (64 * k + b) width here))
+        ∙ sym (ap (λ t. t && beside wrap width f (64 * k + b)) (lt-ltb (64 * k + b) width here))
     step false e =
-        let over : width ≤ 64 * k + b + 1 = over_is (64 * k + b + 1) width e in
+        let over : width ≤ 64 * k + b + 1 = ltb-false (64 * k + b + 1) width e in
         ap (λ t. ((x || (y || t)) || (around && (b == end))) && nat_le b end) (no_next (64 * k + b + 1) over (nat_lt (64 * k + b + 1) (64 * p)) refl)
         ∙ at_end over (b == end) refl
       where
         no_next : (i : ℕ) → width ≤ i → (t : Bool) → nat_lt i (64 * p) ≡ t → (nat_lt i (64 * p) && f i) ≡ false
-        no_next i over true g = ap (λ t. t && f i) g ∙ unused i over (more_is i (64 * p) g)
+        no_next i over true g = ap (λ t. t && f i) g ∙ unused i over (ltb-true i (64 * p) g)
         no_next i over false g = ap (λ t. t && f i) g
 
         at_end : width ≤ 64 * k + b + 1 → (t : Bool) → (b == end) ≡ t → (((x || (y || false)) || (around && (b == end))) && nat_le b end) ≡ widened wrap width p words (64 * k + b) j
         at_end over true g =
-            let is : b ≡ end = equal b end g in
+            let is : b ≡ end = eqb-true b end g in
             let here : 64 * k + b < width = omega arith in
             ap (λ t. ((x || (y || false)) || (around && t)) && nat_le b end) g
             ∙ ap (λ t. ((x || (y || false)) || (around && true)) && t) (same_le b end is)
             ∙ closed x y around
             ∙ ap (λ t. x || (y || t)) (closes ∙ sym (ap (λ t. cond t (f (64 * k + b + 1)) (wrap && f 0)) e))
-            ∙ sym (ap (λ t. t && beside wrap width f (64 * k + b)) (less (64 * k + b) width here))
+            ∙ sym (ap (λ t. t && beside wrap width f (64 * k + b)) (lt-ltb (64 * k + b) width here))
         at_end over false g =
             let apart_is : b ≡ end → ⊥ = apart b end g in
             let past : end < b = beyond apart_is in
             let gone : width ≤ 64 * k + b = omega arith in
-            ap (λ t. ((x || (y || false)) || (around && (b == end))) && t) (above_le b end past)
+            ap (λ t. ((x || (y || false)) || (around && (b == end))) && t) (lt-leb b end past)
             ∙ and-false ((x || (y || false)) || (around && (b == end)))
-            ∙ sym (ap (λ t. t && beside wrap width f (64 * k + b)) (not_less (64 * k + b) width gone))
+            ∙ sym (ap (λ t. t && beside wrap width f (64 * k + b)) (le-ltb (64 * k + b) width gone))
           where
             beyond : (b ≡ end → ⊥) → end < b
             beyond n = by_cases (nat_lt end b) refl
               where
                 by_cases : (t : Bool) → nat_lt end b ≡ t → end < b
-                by_cases true m = more_is end b m
-                by_cases false m = let le : b ≤ end = over_is end b m in absurd (n (omega arith))
+                by_cases true m = ltb-true end b m
+                by_cases false m = let le : b ≤ end = ltb-false end b m in absurd (n (omega arith))

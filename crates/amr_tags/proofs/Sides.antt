@@ -3,8 +3,7 @@ use Rattle.std.proofs.Common.{◌≡◌, ℕ, zero, suc, ◌+◌, ◌-◌, ◌*�
 use Rattle.std.specs.Prelude.{nat_lt}
 use Rattle.std.specs.Int.{int_rem_euclid}
 use native.Mathlib.Nat.{add-mul-mod_self_right, mod-eq_of_lt}
-use Rattle.std.proofs.lemmas.Bool.{or_left, or_right}
-use Rattle.std.proofs.lemmas.Bool.Decides.{nat_tests}
+use Rattle.std.proofs.lemmas.Bool.{ltb-false, ltb-true, or_left, or_right}
 use Rattle.std.proofs.lemmas.Int.{ints}
 use Rattle.amr_tags.specs.Grown.{after, before, beside}
 use Rattle.amr_tags.specs.TagSets.{wrapped}
@@ -18,12 +17,6 @@ pub record IsStep (wrap : Bool) (low : ℤ) (w : ℕ) (f : ℕ → Bool) (i : �
   pub inside : at < w
   pub ends : wrapped wrap low w (low +ℤ pos i +ℤ way) ≡ low +ℤ pos at
   pub passes : f at ≡ true
-
-more_is : (a b : ℕ) → nat_lt a b ≡ true → a < b
-more_is a b e = grind (arith, nat_tests)
-
-over_is : (a b : ℕ) → nat_lt a b ≡ false → b ≤ a
-over_is a b e = grind (arith, nat_tests)
 
 -- a step to a place of the axis that passes, with no turn round its end
 plain : (wrap : Bool) (low : ℤ) (w : ℕ) (f : ℕ → Bool) (i : ℕ) (d : ℤ) (k : ℕ) → (pos 0 -ℤ pos 1) ≤ℤ d → d ≤ℤ pos 1 → k < w → pos i +ℤ d ≡ pos k → f k ≡ true → IsStep wrap low w f i
@@ -61,8 +54,8 @@ from-after wrap low w f i h e = step (nat_lt (i + 1) w) refl
     around false g p = absurd (cc)
 
     step : (t : Bool) → nat_lt (i + 1) w ≡ t → IsStep wrap low w f i
-    step true g = plain wrap low w f i (pos 1) (i + 1) (omega (arith, ints)) (omega (arith, ints)) (more_is (i + 1) w g) (omega (arith, ints)) (sym (ap (λ t. cond t (f (i + 1)) (wrap && f 0)) g) ∙ e)
-    step false g = let over = over_is (i + 1) w g in around wrap (omega arith) (sym (ap (λ t. cond t (f (i + 1)) (wrap && f 0)) g) ∙ e)
+    step true g = plain wrap low w f i (pos 1) (i + 1) (omega (arith, ints)) (omega (arith, ints)) (ltb-true (i + 1) w g) (omega (arith, ints)) (sym (ap (λ t. cond t (f (i + 1)) (wrap && f 0)) g) ∙ e)
+    step false g = let over = ltb-false (i + 1) w g in around wrap (omega arith) (sym (ap (λ t. cond t (f (i + 1)) (wrap && f 0)) g) ∙ e)
 
 pub from-beside : (wrap : Bool) (low : ℤ) (w : ℕ) (f : ℕ → Bool) (i : ℕ) → i < w → beside wrap w f i ≡ true → IsStep wrap low w f i
 from-beside wrap low w f i h e = itself (f i) refl
@@ -91,8 +84,8 @@ to-after wrap low w f i k h below g p = step (nat_lt (i + 1) w) refl
     around false e g = absurd (omega (arith, ints, g))
 
     step : (t : Bool) → nat_lt (i + 1) w ≡ t → after wrap w f i ≡ true
-    step true e = ap (λ t. cond t (f (i + 1)) (wrap && f 0)) e ∙ ap f (sym (at-itself wrap low w i k (pos 1) (i + 1) (more_is (i + 1) w e) (omega (arith, ints)) g)) ∙ p
-    step false e = let over = over_is (i + 1) w e in ap (λ t. cond t (f (i + 1)) (wrap && f 0)) e ∙ around wrap (omega arith) g
+    step true e = ap (λ t. cond t (f (i + 1)) (wrap && f 0)) e ∙ ap f (sym (at-itself wrap low w i k (pos 1) (i + 1) (ltb-true (i + 1) w e) (omega (arith, ints)) g)) ∙ p
+    step false e = let over = ltb-false (i + 1) w e in ap (λ t. cond t (f (i + 1)) (wrap && f 0)) e ∙ around wrap (omega arith) g
 
 -- the place before the first one of a periodic axis
 back_turn : (low : ℤ) (w : ℕ) → 0 < w → wrapped true low w (low +ℤ pos 0 +ℤ (pos 0 -ℤ pos 1)) ≡ low +ℤ pos (w - 1)

@@ -2,7 +2,6 @@
 use Rattle.std.specs.Prelude.{◌≡◌, ℕ, Bool, true, false, ◌&&◌, ℤ, pos, ◌+ℤ◌, ◌-ℤ◌, List, unsigned_abs}
 use Rattle.std.specs.List.{list_any}
 use Rattle.std.specs.Int.{int_rem_euclid}
-use Rattle.std.specs.Ordering.{int_eq}
 use Rattle.amr_box.specs.declared.Cell.{Cell}
 use Rattle.amr_box.specs.Cells.{Extent, IsNear, cell, cells_of, extent, height, holds, width}
 use Rattle.amr_tags.specs.Bits.{AreRows, bit_of, words_for}
@@ -37,9 +36,6 @@ pub record SameShape (s t : TagSet) : Type 0 where
   pub bx : t.bx ≡ s.bx
   pub x : t.wrap_x ≡ s.wrap_x
   pub y : t.wrap_y ≡ s.wrap_y
-
-abbrev pub same_cell : Cell → Cell → Bool
-same_cell c d = int_eq c.x d.x && int_eq c.y d.y
 
 -- the least box round the cells that pass a test: it holds them all, and one stands at each side
 pub record IsLeastBox (b : Extent) (test : Cell → Bool) : Type 0 where

@@ -2,11 +2,11 @@
 #![tactic(auto)]
 
 ghost use Rattle.std.specs.Prelude.{◌≡◌, ◌↔◌, true, false, ◌||◌, ◌&&◌, IfOk, IfSome, IsNone, IsTrue, count_by};
-ghost use Rattle.amr_box.specs.Cells.{IsNear, cells_of, has_child_where, holds, width};
+ghost use Rattle.amr_box.specs.Cells.{IsNear, cells_of, has_child_where, holds, is_same_cell, width};
 ghost use Rattle.amr_box.specs.declared.Cell.{Cell};
 ghost use Rattle.amr_tags.specs.Bits.{words_for};
 ghost use Rattle.amr_tags.specs.Coarse.{IsEvenCorner, parents_of};
-ghost use Rattle.amr_tags.specs.TagSets.{IsLaidOut, IsLeastBox, SameShape, has, is_near, same_cell};
+ghost use Rattle.amr_tags.specs.TagSets.{IsLaidOut, IsLeastBox, SameShape, has, is_near};
 
 mod coarsen;
 mod edges;
@@ -107,7 +107,7 @@ impl Tags {
     pub fn set(&mut self, c: Cell)
         requires { IsTrue (holds self.old.bx c) }
         ensures shape { SameShape self.old self.new }
-        ensures cells { (d : Cell) → has self.new d ≡ (has self.old d || same_cell c d) }
+        ensures cells { (d : Cell) → has self.new d ≡ (has self.old d || is_same_cell c d) }
     {
         let bx = self.bx;
         rows::set_bit(&mut self.words, &bx, c);

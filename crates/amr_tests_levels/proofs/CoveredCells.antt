@@ -9,8 +9,8 @@ use Rattle.std.proofs.lemmas.List.{length-map}
 use Rattle.std.proofs.lemmas.List.Sorted.{All-permutation}
 use Rattle.std.proofs.Math.ListN.{get_or-map}
 use Rattle.amr_box.specs.declared.Cell.{Cell}
-use Rattle.amr_box.specs.Cells.{Extent, cell, extent, holds, parent}
-use Rattle.amr_box.proofs.CellEquality.{coordinates_itself, coordinates_same, have_same_coordinates}
+use Rattle.amr_box.specs.Cells.{Extent, cell, extent, holds, is_same_cell, parent}
+use Rattle.amr_box.proofs.CellEquality.{coordinates_itself, coordinates_same}
 use Rattle.amr_def.specs.Facts.{IsAligned}
 use Rattle.amr_def.specs.State.{Masses, children_mass, in_boxes, mass_of}
 use Rattle.amr_def.proofs.Nests.{half_and_odd}
@@ -19,18 +19,18 @@ use Rattle.amr_patch.specs.declared.patches.Patch.{Patch}
 use Rattle.amr_patch.specs.Patches.{box}
 use Rattle.amr_patch.proofs.Rows.{inside, is_inside}
 use Rattle.amr_box.specs.Cells.{child}
-use Rattle.amr_box.proofs.Tests.{never_both}
+use Rattle.amr_box.proofs.Tests.{opposite}
 use Rattle.amr_transfer.specs.Sums.{AreCoarsenable}
 
 -- ---- masses
 
 -- a fact of each cell, from the one that was set and from all others
 pub set_or_other : (P : Cell → Type 0) (c d : Cell) → P c → (d ≢ c → P d) → P d
-set_or_other P c d here other = cases (have_same_coordinates d c) refl
+set_or_other P c d here other = cases (is_same_cell d c) refl
   where
-    cases : (t : Bool) → have_same_coordinates d c ≡ t → P d
+    cases : (t : Bool) → is_same_cell d c ≡ t → P d
     cases true e = subst P (sym (coordinates_same d c e)) here
-    cases false e = other (λ same. never_both (have_same_coordinates d c) (ap (λ (k : Cell). have_same_coordinates k c) same ∙ coordinates_itself c) e)
+    cases false e = other (λ same. opposite (ap (λ (k : Cell). is_same_cell k c) same ∙ coordinates_itself c) e)
 
 pub small_sums : (m : Masses) (c : Cell) → ((d : Cell) → mass_of m d < 256) → children_mass m c < 2 ^ 32
 small_sums m c small = omega (arith, small (child c 0), small (child c 1), small (child c 2), small (child c 3))

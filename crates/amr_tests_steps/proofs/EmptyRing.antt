@@ -5,11 +5,9 @@ use Rattle.std.specs.declared.option.Option.{Option}
 use Rattle.std.specs.declared.option.Option.TheVariants.{None, Some}
 use Rattle.std.specs.Option.{unwrap_or}
 use Rattle.std.proofs.lemmas.Int.{ints}
-use Rattle.amr_box.specs.declared.Axis.{Axis}
-use Rattle.amr_box.specs.declared.Axis.TheVariants.{X, Y}
 use Rattle.amr_box.specs.declared.Cell.{Cell}
 use Rattle.amr_box.specs.declared.Face.{Face}
-use Rattle.amr_box.specs.Cells.{Extent, cell, extent, holds, parent}
+use Rattle.amr_box.specs.Cells.{Extent, at_least_zero, cell, extent, holds, parent}
 use Rattle.amr_def.specs.declared.problem.Problem.{Problem}
 use Rattle.amr_def.specs.declared.problem.Sides.{Sides}
 use Rattle.amr_def.specs.declared.problem.Sides.TheVariants.{Periodic}
@@ -18,10 +16,10 @@ use Rattle.amr_def.specs.State.{Masses, in_boxes, mass_of, no_masses}
 use Rattle.amr_def.proofs.Nesting.{in_domain-inside}
 use Rattle.amr_patch.proofs.Rows.{is_inside}
 use Rattle.amr_def.specs.Value.{high_inflow, inflow_at, low_inflow, value_at}
-use Rattle.amr_def.specs.Flux.{courant, courant_in, flow, flux_at, high_cell, low_cell, net}
-use Rattle.amr_def.specs.Ledger.{above_zero, below_zero, if_open}
+use Rattle.amr_def.specs.Flux.{courant, flow, flux_at, high_cell, low_cell, net}
+use Rattle.amr_def.specs.Ledger.{below_zero, if_open}
 use Rattle.amr_laws.specs.Sides.{inflow_beside, is_uncovered, outflow_beside, x_beside, y_beside}
-use Rattle.amr_def.proofs.Courants.{stable}
+use Rattle.amr_def.proofs.Totals.{number_small}
 use Rattle.amr_flux.proofs.Reciprocals.{share_within}
 use Rattle.amr_advance.specs.Shown.{StepFits}
 
@@ -49,10 +47,6 @@ no_share c d h = let s = share_within c d 0 h in omega (arith, s)
 no_flow : (c : ℤ) (d low high : ℕ) → unsigned_abs c ≤ d → low ≡ 0 → high ≡ 0 → flow c d low high ≡ pos 0
 no_flow (pos c) d low high h e f = ap (λ n. pos (c * n / d)) e ∙ ap pos (no_share (pos c) d h)
 no_flow (negsuc c) d low high h e f = ap (λ n. neg_ℤ (pos (suc c * n / d))) f ∙ ap (λ n. neg_ℤ (pos n)) (no_share (negsuc c) d h)
-
-number_small : (p : Problem) (l : ℕ) (a : Axis) (c : Cell) → unsigned_abs (courant_in p l a c) ≤ p.d
-number_small p l X c = omega (arith, (stable p).within l c)
-number_small p l Y c = omega (arith, (stable p).within l c)
 
 net_of_none : (c : Cell) → net (λ f. pos 0) c ≡ pos 0
 unfolding net
@@ -95,11 +89,11 @@ module _ (p : Problem) (m : Masses) (test : Cell → Bool) (x_sides : p.x_sides 
 
   pub no_inflow_beside : (fine : Masses) → inflow_beside p 0 (is_uncovered m fine) (flux_at p 0 m no_masses) ≡ 0
   unfolding inflow_beside
-  no_inflow_beside fine = closed p.x_sides p.y_sides (x_beside p 0 (is_uncovered m fine) above_zero below_zero (flux_at p 0 m no_masses)) (y_beside p 0 (is_uncovered m fine) above_zero below_zero (flux_at p 0 m no_masses)) x_sides y_sides
+  no_inflow_beside fine = closed p.x_sides p.y_sides (x_beside p 0 (is_uncovered m fine) at_least_zero below_zero (flux_at p 0 m no_masses)) (y_beside p 0 (is_uncovered m fine) at_least_zero below_zero (flux_at p 0 m no_masses)) x_sides y_sides
 
   pub no_outflow_beside : (fine : Masses) → outflow_beside p 0 (is_uncovered m fine) (flux_at p 0 m no_masses) ≡ 0
   unfolding outflow_beside
-  no_outflow_beside fine = closed p.x_sides p.y_sides (x_beside p 0 (is_uncovered m fine) below_zero above_zero (flux_at p 0 m no_masses)) (y_beside p 0 (is_uncovered m fine) below_zero above_zero (flux_at p 0 m no_masses)) x_sides y_sides
+  no_outflow_beside fine = closed p.x_sides p.y_sides (x_beside p 0 (is_uncovered m fine) below_zero at_least_zero (flux_at p 0 m no_masses)) (y_beside p 0 (is_uncovered m fine) below_zero at_least_zero (flux_at p 0 m no_masses)) x_sides y_sides
 
 -- ---- which cells a level has
 

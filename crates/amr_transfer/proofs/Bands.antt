@@ -1,5 +1,5 @@
 -- The part of a list of patches that may reach some rows.
-use Rattle.std.proofs.Common.{◌≡◌, ◌∙◌, ℕ, zero, suc, ◌+◌, ◌<◌, ◌≤◌, ◌⊎◌, inl, inr, Bool, true, false, cond, ℤ, pos, ◌-ℤ◌, ◌≤ℤ◌, ◌<ℤ◌, List, [], ◌∷◌, length, take, drop, below_more, refl, sym, ap, arith}
+use Rattle.std.proofs.Common.{◌≡◌, ◌∙◌, ℕ, zero, suc, ◌+◌, ◌<◌, ◌≤◌, ◌⊎◌, inl, inr, Bool, true, false, cond, ℤ, pos, ◌-ℤ◌, ◌≤ℤ◌, List, [], ◌∷◌, length, take, drop, below_more, refl, sym, ap, arith}
 use Rattle.std.specs.Prelude.{int_le, slice_index_or}
 use Rattle.std.specs.declared.option.Option.{Option}
 use Rattle.std.specs.declared.option.Option.TheVariants.{None, Some}
@@ -8,6 +8,7 @@ use Rattle.std.proofs.lemmas.Bool.{cases_eq, false_from_ne_true}
 use Rattle.std.proofs.lemmas.List.{get_or-drop, get_or-take, length-drop, length-take}
 use Rattle.amr_box.specs.declared.Cell.{Cell}
 use Rattle.amr_box.specs.Cells.{height, holds}
+use Rattle.amr_box.proofs.Numbers.{above_from, le_from}
 use Rattle.amr_patch.specs.declared.patches.Patch.{Patch}
 use Rattle.amr_patch.specs.Patches.{ArePatchesApart, box, mass_in, masses_in}
 use Rattle.amr_patch.proofs.Rows.{inside, sides}
@@ -63,18 +64,12 @@ apart_between ps from n apart = λ i j d lt l c a b.
 
 -- ---- patches too low or too high
 
-pub le_of : (a y : ℤ) → int_le a y ≡ true → a ≤ℤ y
-le_of a y e = grind (arith, ints)
-
-above_of : (a y : ℤ) → int_le a y ≡ false → y <ℤ a
-above_of a y e = grind (arith, ints)
-
 pub too_low : (p : Patch) (c : Cell) (low y : ℤ) (tallest : ℕ) → height (box p) ≤ tallest → y ≡ low -ℤ pos tallest → int_le (box p).lo.y y ≡ true → low ≤ℤ c.y → holds (box p) c ≡ false
 too_low p c low y tallest tall is e from = false_from_ne_true (holds (box p) c) (λ h.
     let s = sides (box p) p.near in
     let i = inside (box p) c h in
-    let under = le_of (box p).lo.y y e in
+    let under = le_from (box p).lo.y y e in
     omega (arith, ints, s.high, i.north, under, from, tall, is))
 
 pub too_high : (p : Patch) (c : Cell) (y : ℤ) → int_le (box p).lo.y y ≡ false → c.y ≤ℤ y → holds (box p) c ≡ false
-too_high p c y e to = false_from_ne_true (holds (box p) c) (λ h. let i = inside (box p) c h in let over = above_of (box p).lo.y y e in omega (arith, ints, i.south, over, to))
+too_high p c y e to = false_from_ne_true (holds (box p) c) (λ h. let i = inside (box p) c h in let over = above_from (box p).lo.y y e in omega (arith, ints, i.south, over, to))

@@ -7,23 +7,14 @@ use Rattle.amr_box.specs.declared.Cell.{Cell}
 use Rattle.amr_box.specs.Cells.{Extent, cell, holds}
 use Rattle.amr_patch.specs.declared.patches.Patch.{Patch}
 use Rattle.amr_patch.specs.Places.{grown, in_frame}
-use Rattle.amr_patch.specs.Patches.{KeepsFrameAndFluxes, SameBeside, SameFluxes, SameMarks, box, mass_in}
+use Rattle.amr_patch.specs.Patches.{SameBeside, SameFluxes, SameMarks, box, mass_in}
 use Rattle.amr_patch.proofs.Entries.{in_grown, in_the_frame}
+use Rattle.amr_patch.proofs.LevelLaws.{itself}
+use Rattle.amr_patch.proofs.Keeping.{kept_twice}
 use Rattle.amr_transfer.specs.Given.{IsGiven, span}
 use Rattle.amr_transfer.proofs.Spans.{in_span, off_span, span_inside}
 
 -- ---- what stays
-
-pub keeps_itself : (p : Patch) → KeepsFrameAndFluxes p p
-keeps_itself p = record { of_box = refl; ghosts = λ c h. refl; marks = λ c. refl; fluxes = λ f. refl }
-
-pub keeps_trans : (p q r : Patch) → KeepsFrameAndFluxes p q → KeepsFrameAndFluxes q r → KeepsFrameAndFluxes p r
-keeps_trans p q r h k = record {
-  of_box = k.of_box ∙ h.of_box;
-  ghosts = λ c t. k.ghosts c (subst (λ (b : Extent). IsTrue (in_frame b c)) (sym h.of_box) t) ∙ h.ghosts c t;
-  marks = λ c. k.marks c ∙ h.marks c;
-  fluxes = λ f. k.fluxes f ∙ h.fluxes f;
-}
 
 -- a cell of the box is one of the box after it
 pub still_held : (p q : Patch) (c : Cell) → box q ≡ box p → IsTrue (holds (box p) c) → IsTrue (holds (box q) c)
@@ -34,7 +25,7 @@ still_held p q c e h = subst (λ (b : Extent). IsTrue (holds b c)) (sym e) h
 -- none of the patch's cells is of the set
 pub given_none : (cells : Cell → Bool) (mass : Cell → ℕ) (p : Patch) → ((c : Cell) → IsTrue (holds (box p) c) → cells c ≡ false) → IsGiven cells mass p p
 given_none cells mass p none = record {
-  kept = keeps_itself p;
+  kept = itself p;
   given = λ c h on. absurd (both_ways (cells c) (none c h) on);
   others = λ c h off. refl;
 }
@@ -42,7 +33,7 @@ given_none cells mass p none = record {
 -- one set after another
 pub given_more : (some more all : Cell → Bool) (mass : Cell → ℕ) (p q r : Patch) → IsGiven some mass p q → IsGiven more mass q r → ((c : Cell) → all c ≡ (some c || more c)) → IsGiven all mass p r
 given_more some more all mass p q r h k join = record {
-  kept = keeps_trans p q r h.kept k.kept;
+  kept = kept_twice p q r h.kept k.kept;
   given = λ c i on. cases c i (some c) (more c) refl refl (sym (join c) ∙ on);
   others = λ c i off. let none = or_parts (some c) (more c) (sym (join c) ∙ off) in k.others c (still_held p q c h.kept.of_box i) none.1 ∙ h.others c i none.0;
 }

@@ -1,5 +1,5 @@
 -- Parents along a row of cells, and the parents of children.
-use Rattle.std.proofs.Common.{◌≡◌, ◌∙◌, ℕ, ◌+◌, ◌*◌, ◌/◌, ◌%◌, ◌<◌, ◌≤◌, ℤ, pos, negsuc, ◌+ℤ◌, ◌≤ℤ◌, ◌<ℤ◌, List, length, sym, ap, subst, arith}
+use Rattle.std.proofs.Common.{◌≡◌, ◌∙◌, ℕ, ◌+◌, ◌*◌, ◌/◌, ◌%◌, ◌<◌, ◌≤◌, ℤ, pos, negsuc, ◌+ℤ◌, ◌<ℤ◌, List, length, sym, ap, subst, arith}
 use Rattle.std.specs.Prelude.{slice_index}
 use Rattle.std.specs.declared.option.Option.{Option}
 use Rattle.std.specs.declared.option.Option.TheVariants.{Some}
@@ -8,15 +8,13 @@ use Rattle.std.proofs.lemmas.Int.{ints}
 use Rattle.amr_box.specs.declared.Cell.{Cell}
 use Rattle.amr_box.specs.Cells.{Extent, HasCorners, IsNear, cell, half, parent}
 use Rattle.amr_box.proofs.CellEquality.{same_cell}
+use Rattle.amr_box.proofs.Numbers.{half_le}
 use Rattle.amr_def.specs.Regrid.{odd, share, split_mass}
 use Rattle.amr_def.specs.State.{Masses, mass_of}
 use Rattle.amr_def.proofs.Nests.{half_and_odd}
-use Rattle.amr_def.proofs.Nesting.{odd_small}
+use Rattle.amr_def.proofs.Nesting.{half_ahead, odd_small}
 
 -- ---- along a row
-
-pub half_ahead : (z : ℤ) (k : ℕ) → half (z +ℤ pos k) ≡ half z +ℤ pos ((odd z + k) / 2)
-half_ahead z k = omega (arith, ints, half_and_odd z, half_and_odd (z +ℤ pos k), odd_small z, odd_small (z +ℤ pos k))
 
 pub odd_ahead : (z : ℤ) (k : ℕ) → odd (z +ℤ pos k) ≡ (odd z + k) % 2
 odd_ahead z k = omega (arith, ints, half_and_odd z, half_and_odd (z +ℤ pos k), odd_small z, odd_small (z +ℤ pos k))
@@ -56,9 +54,6 @@ half_from z h = omega (arith, ints, half_and_odd z, odd_small z)
 half_to : (z : ℤ) → z <ℤ pos 16777217 → half z <ℤ pos 16777217
 half_to z h = omega (arith, ints, half_and_odd z, odd_small z)
 
-half_order : (y z : ℤ) → y ≤ℤ z → half y ≤ℤ half z
-half_order y z h = omega (arith, ints, half_and_odd y, half_and_odd z, odd_small y, odd_small z)
-
 pub near_parents : (f a b : Extent) → a ≡ f → IsNear f → HasCorners b (half a.lo.x) (half a.lo.y) (half a.hi.x) (half a.hi.y) → IsNear b
 near_parents f a b same near_f k =
     let near = subst (λ (e : Extent). IsNear e) (sym same) near_f in
@@ -66,8 +61,8 @@ near_parents f a b same near_f k =
     let east = half_to a.hi.x near.east in
     let south = half_from a.lo.y near.south in
     let north = half_to a.hi.y near.north in
-    let wide = half_order a.lo.x a.hi.x near.wide in
-    let high = half_order a.lo.y a.hi.y near.high in
+    let wide = half_le a.lo.x a.hi.x near.wide in
+    let high = half_le a.lo.y a.hi.y near.high in
     record {
       west = omega (arith, ints, west, k.west_is);
       east = omega (arith, ints, east, k.east_is);

@@ -1,5 +1,5 @@
 -- Lists of patches, in which cells are given masses.
-use Rattle.std.proofs.Common.{◌≡◌, ◌∙◌, ℕ, zero, suc, ◌+◌, ◌<◌, take, Bool, true, false, cond, ◌||◌, List, [], ◌∷◌, length, map, IsTrue, refl, sym, ap, arith}
+use Rattle.std.proofs.Common.{◌≡◌, ◌∙◌, ℕ, zero, suc, ◌+◌, ◌<◌, take, Bool, true, false, cond, ◌||◌, List, [], ◌∷◌, length, IsTrue, refl, sym, ap, arith}
 use Rattle.std.specs.Prelude.{slice_index_or, slice_set}
 use Rattle.std.specs.List.{All}
 use Rattle.std.specs.declared.option.Option.{Option}
@@ -9,14 +9,10 @@ use Rattle.std.proofs.lemmas.List.Folds.{list_any_more}
 use Rattle.amr_box.specs.declared.Cell.{Cell}
 use Rattle.amr_box.specs.Cells.{Extent, holds}
 use Rattle.amr_patch.specs.declared.patches.Patch.{Patch}
-use Rattle.amr_patch.specs.declared.lookup.Order.{Order}
-use Rattle.amr_patch.specs.Orders.{IsOrderOf}
 use Rattle.amr_patch.specs.Pairwise.{Pairwise}
 use Rattle.amr_patch.specs.Patches.{ArePatchesApart, KeepsFrameAndFluxes, box, in_patches, mass_in, masses_in}
-use Rattle.amr_patch.proofs.LevelLaws.{pairwise_at, pairwise_length}
 use Rattle.amr_patch.proofs.Lookups.{holder, masses_in-at}
 use Rattle.amr_def.specs.State.{mass_of}
-use Rattle.amr_patch.proofs.Standing.{order_of_boxes}
 use Rattle.amr_transfer.specs.Given.{HasMasses, IsGiven}
 use Rattle.amr_transfer.proofs.GivenCells.{given_as, given_more, given_none}
 
@@ -52,27 +48,11 @@ pairwise_set R (p ∷ ps) (suc j) d r h same = (same 0 (omega arith) (λ e. omeg
 
 -- ---- boxes stay
 
-pub kept_boxes : (ps qs : List Patch) → Pairwise KeepsFrameAndFluxes ps qs → map box qs ≡ map box ps
-kept_boxes [] [] h = refl
-kept_boxes [] (q ∷ qs) h = absurd h
-kept_boxes (p ∷ ps) [] h = absurd h
-kept_boxes (p ∷ ps) (q ∷ qs) h = λ i. h.0.of_box i ∷ kept_boxes ps qs h.1 i
-
-pub kept_apart : (ps qs : List Patch) → Pairwise KeepsFrameAndFluxes ps qs → ArePatchesApart ps → ArePatchesApart qs
-kept_apart ps qs h apart = λ i j d lt l c a b.
-    let n = pairwise_length KeepsFrameAndFluxes ps qs h in
-    let p = pairwise_at KeepsFrameAndFluxes ps qs i d d h (omega arith) in
-    let q = pairwise_at KeepsFrameAndFluxes ps qs j d d h l in
-    apart i j d lt (omega (arith, n)) c (ap (λ (t : Extent). holds t c) (sym p.of_box) ∙ a) (ap (λ (t : Extent). holds t c) (sym q.of_box) ∙ b)
-
 pub kept_in : (ps qs : List Patch) (c : Cell) → Pairwise KeepsFrameAndFluxes ps qs → in_patches qs c ≡ in_patches ps c
 kept_in [] [] c h = refl
 kept_in [] (q ∷ qs) c h = absurd h
 kept_in (p ∷ ps) [] c h = absurd h
 kept_in (p ∷ ps) (q ∷ qs) c h = λ i. holds (h.0.of_box i) c || kept_in ps qs c h.1 i
-
-pub kept_order : (o : Order) (ps qs : List Patch) → Pairwise KeepsFrameAndFluxes ps qs → IsOrderOf o ps → IsOrderOf o qs
-kept_order o ps qs h = order_of_boxes o ps qs (kept_boxes ps qs h)
 
 -- ---- cells are given masses
 

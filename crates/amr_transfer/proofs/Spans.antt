@@ -7,7 +7,7 @@ use Rattle.amr_box.specs.declared.Cell.{Cell}
 use Rattle.amr_box.specs.Cells.{Extent, at_least_zero, cell, holds, within}
 use Rattle.amr_box.proofs.CellEquality.{same_cells}
 use Rattle.amr_box.proofs.Tests.{and_shared}
-use Rattle.amr_patch.proofs.Entries.{whole}
+use Rattle.amr_box.proofs.Numbers.{at_least_zero-same}
 use Rattle.amr_patch.proofs.Rows.{inside, is_inside}
 use Rattle.amr_transfer.specs.Given.{rows_to, span}
 
@@ -35,7 +35,7 @@ pub record IsAt (c : Cell) (n : ℕ) (d : Cell) : Type 0 where
 pub in_span : (c : Cell) (n : ℕ) (d : Cell) → holds (span c n) d ≡ true → IsAt c n d
 in_span c n d h =
     let i = inside (span c n) d h in
-    let e : pos (at_least_zero (d.x -ℤ c.x)) ≡ d.x -ℤ c.x = whole (d.x -ℤ c.x) (omega (arith, ints, i.west)) in
+    let e : pos (at_least_zero (d.x -ℤ c.x)) ≡ d.x -ℤ c.x = at_least_zero-same (d.x -ℤ c.x) (omega (arith, ints, i.west)) in
     record {
       place = at_least_zero (d.x -ℤ c.x);
       below = omega (arith, ints, i.east, e);

@@ -2,7 +2,7 @@
 use Rattle.std.proofs.Common.{◌≡◌, ℕ, suc, ◌+◌, ◌*◌, ◌^◌, ◌<◌, ◌≤◌, List, [], ◌∷◌, length, map, get_or, take, sum, subst, sym, ap, ◌∙◌, arith, mul-le-mul}
 use Rattle.std.specs.List.{sum_by}
 use Rattle.std.proofs.Math.Nat.{pow-le-pow_right}
-use Rattle.std.proofs.lemmas.List.{get_or-map, length-map}
+use Rattle.std.proofs.lemmas.List.{length-map}
 use Rattle.std.proofs.lemmas.List.Sums.{sum-map, sum_by-cons, sum_by_more, sum_by-take-le}
 use Rattle.amr_box.specs.Cells.{Extent}
 use Rattle.amr_def.specs.declared.problem.Problem.{Problem}
@@ -11,6 +11,7 @@ use Rattle.amr_def.specs.State as defined
 use Rattle.amr_def.specs.State.{State, no_level}
 use Rattle.amr_patch.specs.declared.levels.Level.{Level}
 use Rattle.amr_patch.specs.Levels.{level_of}
+use Rattle.amr_patch.proofs.Items.{level_item}
 use Rattle.amr_payload.specs.Payload.{level_cells}
 use Rattle.amr_payload.proofs.Counting.{few_boxes}
 use Rattle.amr_payload.proofs.ReadStates.{IsTower}
@@ -23,15 +24,11 @@ boxes_in k = length k.boxes
 
 -- ---- one level after another
 
--- the next level in a list
-pub level_here : (levels : List Level) (i : ℕ) (level : Level) → i < length levels → level ≡ get_or levels i level → level_of level ≡ get_or (map level_of levels) i no_level
-level_here levels i level inside is = ap level_of is ∙ sym (get_or-map level_of levels i level no_level inside)
-
 pub one_more_level : (levels : List Level) (i : ℕ) (level : Level) → i < length levels → level ≡ get_or levels i level → sum_by boxes_in (take (i + 1) (map level_of levels)) ≡ sum_by boxes_in (take i (map level_of levels)) + boxes_in (level_of level)
 one_more_level levels i level inside is =
     let ks = map level_of levels in
     let within : i < length ks = subst (λ n. i < n) (sym (length-map levels level_of)) inside in
-    sum_by_more boxes_in ks i no_level within ∙ ap (λ (k : defined.Level). sum_by boxes_in (take i ks) + boxes_in k) (sym (level_here levels i level inside is))
+    sum_by_more boxes_in ks i no_level within ∙ ap (λ (k : defined.Level). sum_by boxes_in (take i ks) + boxes_in k) (sym (level_item levels i level inside is))
 
 -- the boxes so far and those of the next level are within all
 pub within_total : (levels : List Level) (i : ℕ) (level : Level) → i < length levels → level ≡ get_or levels i level → sum_by boxes_in (take i (map level_of levels)) + boxes_in (level_of level) ≤ sum (map boxes_in (map level_of levels))

@@ -1,4 +1,4 @@
-mod Accepted
+pub mod Accepted
 mod Boxes
 mod Documents
 mod Inside

@@ -1,5 +1,5 @@
 -- Flow through the ends of open axes.
-use Rattle.std.proofs.Common.{◌≡◌, ℕ, ◌+◌, ◌<◌, ◌≤◌, true, false, refl, sym, ap, ◌∙◌, pos, arith, add-one}
+use Rattle.std.proofs.Common.{◌≡◌, ℕ, ◌<◌, ◌≤◌, true, false, refl, pos, arith}
 use Rattle.std.proofs.lemmas.Int.{ints}
 use Rattle.amr_witness.proofs.FaceLaws.{apart, apart_too}
 use Rattle.amr_box.specs.declared.Axis.{Axis}
@@ -9,7 +9,7 @@ use Rattle.amr_def.specs.declared.problem.Sides.{Sides}
 use Rattle.amr_def.specs.declared.problem.Sides.TheVariants.{Periodic, Open}
 use Rattle.amr_def.specs.Domain.{columns, rows, is_periodic}
 use Rattle.amr_def.specs.Flux.{face}
-use Rattle.amr_def.specs.Ledger.{if_open, sum_to}
+use Rattle.amr_def.specs.Ledger.{if_open}
 use Rattle.amr_def.proofs.Totals.{few_columns, few_rows}
 use Rattle.amr_witness.specs.Ends.{across, along, end_face}
 use Rattle.amr_witness.specs.Ready.{IsFace}
@@ -21,9 +21,6 @@ when_closed (Open low high) n e = cc
 pub when_open : (s : Sides) (n : ℕ) → is_periodic s ≡ false → n ≡ if_open s n
 when_open Periodic n e = cc
 when_open (Open low high) n e = refl
-
-pub one_more : (f : ℕ → ℕ) (n s v : ℕ) → s ≡ sum_to f n → v ≡ f n → s + v ≡ sum_to f (n + 1)
-one_more f n s v e h = (λ i. e i + h i) ∙ ap (sum_to f) (sym (add-one n))
 
 module _ (p : Problem) (k : ℕ) where
   low_x : k < rows p 0 → IsFace p 0 (face X (pos 0) (pos k))

@@ -8,7 +8,7 @@ use Rattle.std.specs.BTreeMap.{BTreeMap, is_at, IsEmpty}
 use Rattle.amr_box.specs.declared.Cell.{Cell}
 use Rattle.amr_box.specs.Cells.{cell_cmp}
 use Rattle.amr_box.proofs.CellEquality.{cell_itself, cell_same}
-use Rattle.amr_box.proofs.Tests.{never_both}
+use Rattle.amr_box.proofs.Tests.{opposite}
 use Rattle.amr_def.specs.State.{Masses}
 use Rattle.amr_def.specs.Flux.{Fluxes, updated}
 use Rattle.amr_def.proofs.Subcycle.{bool_cases, is_false}
@@ -25,7 +25,7 @@ none_updated next m s e empty start q none =
 
 pub other : (k q : Cell) → eq_by_cmp cell_cmp k q ≡ false → eq_by_cmp cell_cmp q k ≡ false
 other k q isnt =
-    is_false _ (λ (is : eq_by_cmp cell_cmp q k ≡ true). never_both (eq_by_cmp cell_cmp k q) (ap (λ (c : Cell). eq_by_cmp cell_cmp k c) (cell_same q k is) ∙ cell_itself k) isnt)
+    is_false _ (λ (is : eq_by_cmp cell_cmp q k ≡ true). opposite (ap (λ (c : Cell). eq_by_cmp cell_cmp k c) (cell_same q k is) ∙ cell_itself k) isnt)
 
 -- ---- one more entry of a map has its wanted value in another
 

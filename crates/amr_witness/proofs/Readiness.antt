@@ -1,6 +1,5 @@
 -- Finer levels are ready for both of their steps, and the levels of a sound state for one.
 use Rattle.std.proofs.Common.{◌≡◌, ℕ, suc, ◌+◌, ◌*◌, ◌/◌, ◌^◌, ◌<◌, ◌≤◌, sym, ap, subst, refl, arith, List, [], ◌∷◌, length}
-use Rattle.std.proofs.lemmas.Bool.Decides.{nat_tests}
 use Rattle.std.proofs.Math.Nat.{mul-le-mul_left, pow-suc, div-mul-le_self}
 use Rattle.amr_def.specs.declared.problem.Problem.{Problem}
 use Rattle.amr_def.specs.State.{Masses, Level, State, no_masses, mass_of}
@@ -12,6 +11,7 @@ use Rattle.amr_def.proofs.Subcycle.{step-kept, nested_same}
 use Rattle.amr_def.proofs.Greatest.{MassesUpTo, OldUpTo, rise, step-raises}
 use Rattle.amr_def.proofs.Chain.{nth, state_chain}
 use Rattle.amr_def.proofs.Stepping.{masses_in, chain_lists, sides_up, all_up, rise_within}
+use Rattle.amr_def.proofs.Totals.{growth_most}
 use Rattle.amr_witness.proofs.StepLaws.{step_length}
 use Rattle.amr_witness.specs.Ready.{AreReadyToStep}
 
@@ -65,9 +65,6 @@ module _ (p : Problem) (l : ℕ) (m : Masses) (ms : List Masses) (old : Masses) 
 map_length : (ks : List Level) → length (masses_in ks) ≡ length ks
 map_length [] = refl
 map_length (k ∷ ks) = ap suc (map_length ks)
-
-growth_most : (m : ℕ) → growth m ≤ 131072
-growth_most m = grind (arith, nat_tests)
 
 pub state_ready : (p : Problem) (s : State) → IsSound p s → s.step < p.steps → AreReadyToStep p 0 (masses_in s.levels) no_masses
 state_ready p s sound before =

@@ -24,7 +24,8 @@ use Rattle.amr_witness.specs.declared.Plain.{Plain}
 use Rattle.amr_witness.specs.Ready.{HasMasses}
 use Rattle.amr_witness.specs.Maps.{level_of, levels_of, masses_of, state_of}
 use Rattle.amr_box.proofs.CellEquality.{cell_itself, cell_same}
-use Rattle.amr_witness.proofs.MapLaws.{apart, other}
+use Rattle.amr_box.proofs.Tests.{opposite}
+use Rattle.amr_witness.proofs.MapLaws.{other}
 use Rattle.std.specs.BTreeMap.{BTreeMap, is_at}
 use Rattle.std.proofs.lemmas.List.{take_more}
 use Rattle.std.proofs.lemmas.List.Folds.{list_any-append}
@@ -253,7 +254,7 @@ value_is k at v w there elsewhere =
     bool_cases (eq_by_cmp cell_cmp k at)
     (λ e. there (cell_same k at e) ∙ sym (ap (λ (b : Bool). cond b v 0) e))
     (λ e.
-    elsewhere (λ (same : k ≡ at). apart (eq_by_cmp cell_cmp k at) (ap (λ (x : Cell). eq_by_cmp cell_cmp k x) (sym same) ∙ cell_itself k) e) ∙ sym (ap (λ (b : Bool). cond b v 0) e))
+    elsewhere (λ (same : k ≡ at). opposite (ap (λ (x : Cell). eq_by_cmp cell_cmp k x) (sym same) ∙ cell_itself k) e) ∙ sym (ap (λ (b : Bool). cond b v 0) e))
 
 or_false : (a b : Bool) → b ≡ false → (a || b) ≡ a
 or_false true b e = refl

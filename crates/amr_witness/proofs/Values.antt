@@ -1,10 +1,10 @@
 -- Courant numbers of faces, and values of ready levels.
-use Rattle.std.proofs.Common.{◌≡◌, ℕ, zero, suc, ◌*◌, ◌/◌, ◌^◌, ◌<◌, ◌≤◌, Bool, true, false, cond, ℤ, is_some, refl, pos, negsuc, ◌-ℤ◌, ◌≤ℤ◌, sym, subst, ◌∙◌, ap, arith, List, ◌∷◌}
+use Rattle.std.proofs.Common.{◌≡◌, ℕ, ◌/◌, ◌^◌, ◌<◌, ◌≤◌, Bool, true, false, cond, ℤ, is_some, pos, negsuc, ◌-ℤ◌, ◌≤ℤ◌, sym, ◌∙◌, ap, arith, List, ◌∷◌}
 use Rattle.std.specs.Prelude.{unsigned_abs}
 use Rattle.std.specs.declared.option.Option.{Option}
 use Rattle.std.specs.declared.option.Option.TheVariants.{None, Some}
 use Rattle.std.specs.Option.{unwrap_or}
-use Rattle.std.proofs.Math.Nat.{div-le_self, pow-suc}
+use Rattle.std.proofs.Math.Nat.{div-le_self}
 use Rattle.amr_box.specs.declared.Cell.{Cell}
 use Rattle.amr_box.specs.declared.Face.{Face}
 use Rattle.amr_box.specs.declared.Axis.{Axis}
@@ -15,7 +15,7 @@ use Rattle.amr_def.specs.Domain.{columns, rows, domain, home_cell, in_domain, is
 use Rattle.amr_def.specs.State.{Masses, mass_of}
 use Rattle.amr_def.specs.Value.{inflow_at, value_at}
 use Rattle.amr_def.specs.Flux.{courant, courant_in, high_cell, number_for, at_base}
-use Rattle.amr_def.proofs.Courants.{stable}
+use Rattle.amr_def.proofs.Courants.{stable, weighs}
 use Rattle.amr_def.proofs.Flows.{wrapped_inside}
 use Rattle.amr_def.proofs.Homes.{wrapped_between}
 use Rattle.amr_def.proofs.Greatest.{SidesUpTo}
@@ -45,20 +45,13 @@ y_courant_is p l f x axis at inside =
 
 -- ---- values
 
-scaled : (l x b : ℕ) → 4 ^ l * x ≤ b → x ≤ b
-scaled zero x b h = omega (arith, h)
-scaled (suc l) x b h = scaled l x b (quarter (4 ^ l) x b (subst (λ w. w * x ≤ b) (pow-suc 4 l) h))
-  where
-    quarter : (w x b : ℕ) → (w * 4) * x ≤ b → w * x ≤ b
-    quarter w x b h = omega (arith, h)
-
 chosen : (o : Option ℕ) (t : Bool) (x y b : ℕ) → unwrap_or o 0 ≤ b → x ≤ b → y ≤ b → unwrap_or o (cond t x y) ≤ b
 chosen (Some v) t x y b h i k = h
 chosen None true x y b h i k = i
 chosen None false x y b h i k = k
 
 pub mass_up : (p : Problem) (l : ℕ) (m old : Masses) (ms : List Masses) (r : AreReadyToStep p l (m ∷ ms) old) (c : Cell) → mass_of m c ≤ r.bound
-mass_up p l m old ms r c = scaled l _ _ (r.masses.0.at c)
+mass_up p l m old ms r c = weighs l _ _ (r.masses.0.at c)
 
 pub small_values : (p : Problem) (l : ℕ) (m old : Masses) (ms : List Masses) → AreReadyToStep p l (m ∷ ms) old → HasSmallValues p l m old
 unfolding value_at
@@ -68,7 +61,7 @@ small_values p l m old ms r = record {
       let sides : SidesUpTo p r.bound = sides_up p r.bound r.least in
       let part : inflow_at p l k / 4 ^ l ≤ inflow_at p l k = div-le_self (inflow_at p l k) (4 ^ l) in
       let side : inflow_at p l k / 4 ^ l ≤ r.bound = omega (arith, part, sides.at l k) in
-      let quarter : mass_of old (parent k) / 4 ≤ r.bound = scaled l _ _ (r.olds.at (parent k)) in
+      let quarter : mass_of old (parent k) / 4 ≤ r.bound = weighs l _ _ (r.olds.at (parent k)) in
       let all = chosen (m k) (in_domain (domain p l) k) _ _ r.bound (mass_up p l m old ms r k) quarter side in
       omega (arith, all, r.room);
 }

@@ -1,10 +1,11 @@
 //! The row of the ledger after a step.
 
 ghost use Rattle.std.specs.Prelude.{◌≡◌, ℕ, ◌+◌, ◌*◌, ◌<◌, ◌≤◌, ◌^◌, length, IfOk};
+ghost use Rattle.amr_box.specs.Cells.{at_least_zero};
 ghost use Rattle.amr_def.specs.Domain.{columns, is_periodic};
 ghost use Rattle.amr_def.specs.State.{no_masses};
 ghost use Rattle.amr_def.specs.LevelStep.{step};
-ghost use Rattle.amr_def.specs.Ledger.{above_zero, below_zero, if_open, inflow, mass_at, outflow, row_after, row_mass, total_mass};
+ghost use Rattle.amr_def.specs.Ledger.{below_zero, if_open, inflow, mass_at, outflow, row_after, row_mass, total_mass};
 ghost use Rattle.amr_witness.specs.Ends.{across, along, end_face, sides_of, through_axis};
 ghost use Rattle.amr_witness.specs.Maps.{masses_in, masses_of};
 ghost use Rattle.amr_witness.specs.Ready.{HasSmallMasses, IsFace, AreReadyToStep, IsWithin};
@@ -94,8 +95,8 @@ fn mass_at(m: &Masses, x: u32, y: u32) -> u64
     }
 }
 
-fn above_zero(z: i64) -> u64
-    ensures { result ≡ above_zero z }
+fn at_least_zero(z: i64) -> u64
+    ensures { result ≡ at_least_zero z }
 {
     if z > 0 { z as u64 } else { 0 }
 }
@@ -110,14 +111,14 @@ fn below_zero(z: i64) -> u64
 fn between(low: i64, high: i64) -> Through
     requires low { IsWithin (2 ^ 50) low }
     requires high { IsWithin (2 ^ 50) high }
-    ensures inflow { result.inflow ≡ above_zero low + below_zero high }
-    ensures outflow { result.outflow ≡ below_zero low + above_zero high }
+    ensures inflow { result.inflow ≡ at_least_zero low + below_zero high }
+    ensures outflow { result.outflow ≡ below_zero low + at_least_zero high }
     ensures inflow_small { result.inflow ≤ 2 ^ 51 }
     ensures outflow_small { result.outflow ≤ 2 ^ 51 }
 {
     Through {
-        inflow: above_zero(low) + below_zero(high),
-        outflow: below_zero(low) + above_zero(high),
+        inflow: at_least_zero(low) + below_zero(high),
+        outflow: below_zero(low) + at_least_zero(high),
     }
 }
 
@@ -133,8 +134,8 @@ fn through_ends(
     requires ready { AreReadyToStep p.now 0 (masses_in levels.now) no_masses }
     requires low { IsFace p.now 0 low }
     requires high { IsFace p.now 0 high }
-    ensures inflow { IfOk result (λ t. let e = (step p.now 0 (masses_in levels.now) no_masses).fluxes in t.inflow ≡ above_zero (e low) + below_zero (e high)) }
-    ensures outflow { IfOk result (λ t. let e = (step p.now 0 (masses_in levels.now) no_masses).fluxes in t.outflow ≡ below_zero (e low) + above_zero (e high)) }
+    ensures inflow { IfOk result (λ t. let e = (step p.now 0 (masses_in levels.now) no_masses).fluxes in t.inflow ≡ at_least_zero (e low) + below_zero (e high)) }
+    ensures outflow { IfOk result (λ t. let e = (step p.now 0 (masses_in levels.now) no_masses).fluxes in t.outflow ≡ below_zero (e low) + at_least_zero (e high)) }
     ensures inflow_small { IfOk result (λ t. t.inflow ≤ 2 ^ 51) }
     ensures outflow_small { IfOk result (λ t. t.outflow ≤ 2 ^ 51) }
 {
@@ -196,8 +197,8 @@ fn through_axis(
 ) -> Result<Through, NoMemory>
     requires few { length levels.now ≤ 5 }
     requires ready { AreReadyToStep p.now 0 (masses_in levels.now) no_masses }
-    ensures inflow { IfOk result (λ t. t.inflow ≡ if_open (sides_of p.now axis) (through_axis p.now axis above_zero below_zero (step p.now 0 (masses_in levels.now) no_masses).fluxes)) }
-    ensures outflow { IfOk result (λ t. t.outflow ≡ if_open (sides_of p.now axis) (through_axis p.now axis below_zero above_zero (step p.now 0 (masses_in levels.now) no_masses).fluxes)) }
+    ensures inflow { IfOk result (λ t. t.inflow ≡ if_open (sides_of p.now axis) (through_axis p.now axis at_least_zero below_zero (step p.now 0 (masses_in levels.now) no_masses).fluxes)) }
+    ensures outflow { IfOk result (λ t. t.outflow ≡ if_open (sides_of p.now axis) (through_axis p.now axis below_zero at_least_zero (step p.now 0 (masses_in levels.now) no_masses).fluxes)) }
     ensures inflow_small { IfOk result (λ t. t.inflow ≤ 2 ^ 59) }
     ensures outflow_small { IfOk result (λ t. t.outflow ≤ 2 ^ 59) }
 {

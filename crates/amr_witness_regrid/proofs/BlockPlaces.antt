@@ -15,9 +15,8 @@ use Rattle.amr_laws.proofs.CellSets.{both_parts, each_held, each_then}
 use Rattle.amr_laws.proofs.NewLevels.{is_blocking_of}
 use Rattle.amr_def.proofs.Sizes.{doubled_small}
 use Rattle.amr_regrid.specs.Blocks.{IsLow, blocks_of}
-use Rattle.amr_regrid.proofs.BlockPlaces.{block_inside, columns_few, rows_few}
+use Rattle.amr_regrid.proofs.BlockPlaces.{axis_bounds, block_inside, columns_few, rows_few}
 use Rattle.amr_witness_regrid.specs.Places.{IsUpTo}
-use Rattle.amr_witness_regrid.proofs.Near.{axis_bounds}
 
 -- ---- how many there are
 

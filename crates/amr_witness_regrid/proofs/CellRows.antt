@@ -1,9 +1,8 @@
 -- The cells of a box, one more cell and one more row at a time.
-use Rattle.std.proofs.Common.{◌≡◌, ℕ, suc, ◌+◌, ◌*◌, ◌<◌, ◌≤◌, ℤ, pos, negsuc, neg_ℤ, ◌+ℤ◌, ◌-ℤ◌, ◌*ℤ◌, ◌≤ℤ◌, refl, sym, ap, ◌∙◌, arith, List, [], ◌∷◌, ◌++◌, map, append_assoc, zero-add}
+use Rattle.std.proofs.Common.{◌≡◌, ℕ, suc, ◌+◌, ◌*◌, ◌<◌, ◌≤◌, ℤ, pos, negsuc, neg_ℤ, ◌+ℤ◌, ◌-ℤ◌, ◌*ℤ◌, ◌≤ℤ◌, sym, ap, ◌∙◌, arith, List, [], ◌∷◌, ◌++◌, map, append_assoc, zero-add}
 use Rattle.std.proofs.lemmas.Int.{ints}
 use Rattle.std.proofs.Math.Nat.{mul-le-mul_left}
 use Rattle.amr_box.specs.Cells.{at_least_zero, cell, Extent, extent}
-use Rattle.amr_cluster.proofs.Tagged.{size-is}
 use mir.Val.{to_z}
 use mir.Syntax.{w32}
 use Rattle.std.specs.List.{flat_map, range_with_len}
@@ -11,6 +10,8 @@ use Rattle.std.proofs.lemmas.List.Concat.{flat_map-append}
 use Rattle.std.proofs.lemmas.List.FromFn.{map-range_with_len_more}
 use Rattle.std.proofs.lemmas.List.{append-nil}
 use Rattle.amr_box.specs.declared.Cell.{Cell}
+use Rattle.amr_box.proofs.Numbers.{side-is}
+use Rattle.amr_boxlist.proofs.PatchBoxes.{range_more}
 
 pub cell_more : (f : ℕ → Cell) (i : ℕ) (l k : List Cell) (c : Cell) → k ≡ l ++ map f (range_with_len 0 i) → c ≡ f i → k ++ c ∷ [] ≡ l ++ map f (range_with_len 0 (i + 1))
 cell_more f i l k c is e =
@@ -18,13 +19,6 @@ cell_more f i l k c is e =
     ∙ append_assoc l (map f (range_with_len 0 i)) (c ∷ [])
     ∙ ap (λ (t : Cell). l ++ (map f (range_with_len 0 i) ++ t ∷ [])) e
     ∙ ap (λ t. l ++ t) (sym (map-range_with_len_more f 0 i i (omega arith)))
-
-range_more : (a n : ℕ) → range_with_len a (n + 1) ≡ range_with_len a n ++ (a + n) ∷ []
-range_more a n = sym (plain (range_with_len a (n + 1))) ∙ map-range_with_len_more (λ k. k) a n (a + n) refl ∙ ap (λ t. t ++ (a + n) ∷ []) (plain (range_with_len a n))
-  where
-    plain : (xs : List ℕ) → map (λ k. k) xs ≡ xs
-    plain [] = refl
-    plain (x ∷ xs) = ap (λ t. x ∷ t) (plain xs)
 
 pub row_more : (f : ℕ → List Cell) (j : ℕ) (k more : List Cell) → k ≡ flat_map f (range_with_len 0 j) → more ≡ k ++ f j → more ≡ flat_map f (range_with_len 0 (j + 1))
 row_more f j k more is e =
@@ -36,7 +30,7 @@ row_more f j k more is e =
     last = ap (λ (k : ℕ). flat_map f (range_with_len 0 j) ++ flat_map f (k ∷ [])) (zero-add j) ∙ ap (λ t. flat_map f (range_with_len 0 j) ++ t) (append-nil (f j))
 
 pub inside_side : (low high : ℤ) (i : ℕ) → low ≤ℤ high → i < at_least_zero (high +ℤ pos 1 -ℤ low) → pos i ≤ℤ (high -ℤ low)
-inside_side low high i h k = let e = size-is low high h in omega (arith, ints, e, k)
+inside_side low high i h k = let e = side-is low high h in omega (arith, ints, e, k)
 
 pub product_up : (n : ℕ) (a b : ℤ) → pos 0 ≤ℤ a → a ≤ℤ b → (pos n *ℤ a) ≤ℤ (pos n *ℤ b)
 product_up n (pos a) (pos b) h k = let up : n * a ≤ n * b = mul-le-mul_left n (omega (arith, ints, k)) in omega (arith, ints, up)

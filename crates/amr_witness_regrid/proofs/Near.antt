@@ -2,7 +2,7 @@
 use Rattle.std.proofs.Common.{◌≡◌, ℕ, zero, suc, ◌<◌, ◌≤◌, true, ℤ, pos, neg_ℤ, ◌-ℤ◌, ◌≤ℤ◌, sym, subst, arith, List, [], ◌∷◌, length, get_or}
 use Rattle.std.proofs.lemmas.Int.{ints}
 use Rattle.amr_box.specs.declared.Cell.{Cell}
-use Rattle.amr_box.specs.Cells.{cell, cells_of, extent, holds, within}
+use Rattle.amr_box.specs.Cells.{cell, cells_of, extent, holds}
 use Rattle.amr_def.specs.declared.problem.Problem.{Problem}
 use Rattle.amr_def.specs.Domain.{columns, domain, home_cell, is_periodic, rows, square}
 use Rattle.amr_def.proofs.ClusterLaws.{Each}
@@ -11,6 +11,7 @@ use Rattle.amr_laws.proofs.CellSets.{both_parts, each_held, each_then}
 use Rattle.amr_witness.specs.Parts.{IsInDomain}
 use Rattle.amr_def.proofs.Sizes.{doubled_small}
 use Rattle.amr_witness.proofs.Sizes.{level_some}
+use Rattle.amr_regrid.proofs.BlockPlaces.{axis_bounds}
 use Rattle.amr_witness_regrid.specs.Places.{IsUpTo}
 
 pub up_more : (m n : ℕ) (c : Cell) → m ≤ n → IsUpTo m c → IsUpTo n c
@@ -20,9 +21,6 @@ up_more m n c h u = record {
   south = omega (arith, ints, h, u.south);
   north = omega (arith, ints, h, u.north);
 }
-
-pub axis_bounds : (low high z : ℤ) → within low high z ≡ true → (low ≤ℤ z) × (z ≤ℤ high)
-axis_bounds low high z h = grind (arith, ints)
 
 held_up : (n : ℕ) (c : Cell) → holds (extent (cell (pos 0 -ℤ pos n) (pos 0 -ℤ pos n)) (cell (pos n) (pos n))) c ≡ true → IsUpTo n c
 held_up n c h =

@@ -17,8 +17,8 @@ use Rattle.std.specs.Global.{Vec}
 use Rattle.amr_witness.specs.Maps.{levels_of, masses_of}
 pub use Rattle.amr_regrid.proofs.Refilling.{boxes_more, items_empty, items_some, nil_of, no_boxes, refill_empty, refill_none, regrid_is}
 use Rattle.amr_regrid.proofs.Refilling.{refill_more}
+use Rattle.amr_regrid.specs.Outlines.{lists_in}
 use Rattle.amr_witness_regrid.specs.Places.{AreInside, HasBoxes}
-use Rattle.amr_witness_regrid.specs.Wanted.{lists_in}
 
 -- ---- levels
 

@@ -1,6 +1,5 @@
 -- The definitions of tags and new boxes, of one level by its masses and those of the level below.
 use Rattle.std.specs.Prelude.{ℕ, ◌+◌, Bool, ◌&&◌, ◌||◌, List, [], map, slice_index}
-use Rattle.std.specs.Global.{Vec}
 use Rattle.amr_box.specs.declared.Cell.{Cell}
 use Rattle.amr_box.specs.Cells.{Extent}
 use Rattle.amr_def.specs.declared.problem.Problem.{Problem}
@@ -28,9 +27,6 @@ is_wanted_block p l m coarse finer = has_cell_where (block_side p) (is_wanted_by
 -- the new boxes of level l + 1, where those of l + 2 are `finer`
 abbrev pub boxes_over : Problem → ℕ → Masses → Masses → List Extent → List Extent
 boxes_over p l m coarse finer = map (refined p.blocking) (cluster p.efficiency p.min_width (cells_where (blocks_of p l) (is_wanted_block p l m coarse finer)))
-
-abbrev pub lists_in : List (Vec Extent) → List (List Extent)
-lists_in = map (λ v. v.items)
 
 -- a state with these levels
 abbrev pub with_levels : List PlainLevel → State

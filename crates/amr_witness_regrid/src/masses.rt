@@ -9,7 +9,7 @@ ghost use Rattle.amr_box.specs.declared.Cell.{Cell};
 ghost use Rattle.amr_def.specs.Regrid.{child_number, first_masses, odd, refill, refilled, rest_of, share, split_mass};
 ghost use Rattle.amr_witness.specs.Maps.{levels_of, masses_of, old_of};
 ghost use Rattle.amr_witness.specs.Ready.{HasMasses};
-ghost use Rattle.amr_witness_regrid.specs.Wanted.{lists_in};
+ghost use Rattle.amr_regrid.specs.Outlines.{lists_in};
 
 use crate::cells::cells_of;
 use amr_box::{Bx, Cell, parent};

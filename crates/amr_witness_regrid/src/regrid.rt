@@ -10,7 +10,8 @@ ghost use Rattle.amr_def.specs.NewBoxes.{first_boxes, new_boxes};
 ghost use Rattle.amr_def.specs.Regrid.{new_level_count, regrid, regridded_levels};
 ghost use Rattle.amr_witness.specs.Maps.{levels_of, masses_of, old_of, state_of};
 ghost use Rattle.amr_witness_regrid.specs.Places.{AreInside, AreOffsets};
-ghost use Rattle.amr_witness_regrid.specs.Wanted.{lists_in, with_levels};
+ghost use Rattle.amr_witness_regrid.specs.Wanted.{with_levels};
+ghost use Rattle.amr_regrid.specs.Outlines.{lists_in};
 
 use crate::cells::{Offsets, offsets_of};
 use crate::masses::refill;

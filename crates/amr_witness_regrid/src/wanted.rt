@@ -2,12 +2,12 @@
 
 ghost use Rattle.std.specs.Prelude.{◌≡◌, ◌+◌, ◌<◌, ◌≤◌, ◌&&◌, ◌||◌, true, IfOk, IsTrue, map};
 ghost use Rattle.std.specs.List.{All, list_any};
-ghost use Rattle.amr_box.specs.Cells.{has_child_where, holds, IsNear};
+ghost use Rattle.amr_box.specs.Cells.{has_child_where, holds, IsNear, is_same_cell};
 ghost use Rattle.amr_box.specs.declared.Cell.{Cell};
 ghost use Rattle.amr_def.specs.Domain.{domain, domain_box, is_near, refined, square};
 ghost use Rattle.amr_def.specs.State.{in_boxes};
 ghost use Rattle.amr_def.specs.NewBoxes.{is_projected};
-ghost use Rattle.amr_tags.specs.TagSets.{has, same_cell};
+ghost use Rattle.amr_tags.specs.TagSets.{has};
 ghost use Rattle.amr_witness.specs.Maps.{masses_of, old_of};
 ghost use Rattle.amr_witness_regrid.specs.Places.{AreOffsets, HasCellsInside, IsUpTo};
 ghost use Rattle.amr_regrid.specs.Blocks.{IsLow, blocks_of};
@@ -127,7 +127,7 @@ fn blocks_of(p: &Problem, level: u32) -> Bx
 fn mark(tags: &mut Tags, c: Cell, is_wanted: bool)
     requires { IsTrue (holds tags.old.bx c) }
     ensures bx { tags.new.bx ≡ tags.old.bx }
-    ensures cells { (d : Cell) → has tags.new d ≡ (has tags.old d || (is_wanted && same_cell c d)) }
+    ensures cells { (d : Cell) → has tags.new d ≡ (has tags.old d || (is_wanted && is_same_cell c d)) }
 {
     if is_wanted {
         tags.set(c);

@@ -18,6 +18,7 @@ use Rattle.amr_flux.specs.Faces.{border_faces, border_place, flux_beside, fluxes
 use Rattle.amr_flux.specs.Rows.{signed}
 use Rattle.amr_flux.specs.Shares.{AreSmall}
 use Rattle.amr_flux.proofs.Shown.{border_of_box, border_placed, net_alike}
+use Rattle.amr_flux.proofs.Given.{with_own}
 use Rattle.amr_work.specs.declared.work.Stage.TheVariants.{Finished}
 use Rattle.amr_work.specs.declared.work.Work.{Work}
 use Rattle.amr_work.specs.Ready.{IsReadyPiece}
@@ -60,10 +61,6 @@ unfolding fluxes_with flux_beside
 border_beside p l q border f e is =
     ap (λ b. cond b (signed (courant p l f) (slice_index border (border_place q f))) (flux_beside p l q f)) e ∙ ap (signed (courant p l f)) is ∙ signed_size (courant p l f) p.d (value_in q (low_cell f)) (value_in q (high_cell f))
 
-own_beside : (p : Problem) (l : ℕ) (q : Patch) (border : List ℕ) (f : Face) → is_border q f ≡ false → fluxes_with p l q border f ≡ flux_beside p l q f
-unfolding fluxes_with
-own_beside p l q border f e = ap (λ b. cond b (signed (courant p l f) (slice_index border (border_place q f))) (flux_beside p l q f)) e
-
 -- ---- with the sizes read
 
 -- what stands at each place of the border: what flows there by the values, and 1
@@ -104,7 +101,7 @@ module _ (word : ℕ → ℕ) (w : Work) (ready : IsReadyPiece w) (planned : (k 
         let place = border_placed w.body.value.patch f b in
         border_beside w.problem.value w.level w.body.value.patch border f b
         (size_is (border_place w.body.value.patch f) (omega (arith, place.inside, ready.border)) ∙ ap (λ g. unsigned_abs (plain w g)) (place.at no_face)))
-        (λ b. own_beside w.problem.value w.level w.body.value.patch border f b)
+        (λ b. with_own w.problem.value w.level w.body.value.patch border f b)
 
     net_is : (c : Cell) → holds (box w.body.value.patch) c ≡ true → net (fluxes_with w.problem.value w.level w.body.value.patch border) c ≡ net (plain w) c
     net_is c h = net_alike (box w.body.value.patch) (fluxes_with w.problem.value w.level w.body.value.patch border) (plain w) all_fluxes c h

@@ -2,17 +2,16 @@
 use Rattle.std.proofs.Common.{◌≡◌, ℕ, suc, ◌+◌, ◌^◌, ◌<◌, ◌≤◌, true, ◌&&◌, pos, ◌+ℤ◌, ◌≤ℤ◌, ◌<ℤ◌, List, [], ◌∷◌, ◌++◌, length, get_or, map, refl, sym, ap, ◌∙◌, subst, arith}
 use Rattle.std.specs.Prelude.{◌≢◌, not, slice_index, unsigned_abs}
 use Rattle.std.specs.List.{All}
-use Rattle.std.proofs.lemmas.Bool.{and_parts}
 use Rattle.amr_box.specs.declared.Cell.{Cell}
 use Rattle.amr_box.specs.declared.Face.{Face}
 use Rattle.amr_box.specs.Cells.{Extent, height, holds, width}
 use Rattle.amr_def.specs.declared.problem.Problem.{Problem}
 use Rattle.amr_def.specs.Domain.{domain}
 use Rattle.amr_def.specs.Flux.{courant, flow, high_cell, low_cell, net}
-use Rattle.amr_patch.specs.declared.patches.Patch.{Patch}
 use Rattle.amr_patch.specs.Places.{is_edge_face, is_face_of}
 use Rattle.amr_patch.specs.Patches.{box, flux_in, mark_in, mass_in, value_in}
 use Rattle.amr_flux.specs.Faces.{IsInDomain, border_faces, flux_beside, in_reach, is_border, owns, passing, x_end, y_end}
+use Rattle.amr_flux.proofs.Places.{owned_of_box}
 use Rattle.amr_phase.specs.Plans.{PlanOf, planned_face, total}
 use Rattle.amr_layout.specs.declared.TaskLayout.{TaskLayout}
 use Rattle.amr_work.specs.declared.work.Stage.TheVariants.{Raw, Swept, Finished}
@@ -29,10 +28,6 @@ map_same f g (x ∷ xs) h = let first = h 0 x (omega arith) in let rest = map_sa
 pub total_same : {X : Type 0} (f g : X → ℕ) (xs : List X) → ((k : ℕ) (d : X) → k < length xs → f (get_or xs k d) ≡ g (get_or xs k d)) → total f xs ≡ total g xs
 total_same f g [] h = refl
 total_same f g (x ∷ xs) h = let first = h 0 x (omega arith) in let rest = total_same f g xs (λ k d lt. h (suc k) d (omega (arith, lt))) in λ t. first t + rest t
-
-pub own_face : (q : Patch) (f : Face) → owns q f ≡ true → is_face_of (box q) f ≡ true
-unfolding owns
-own_face q f e = (and_parts (is_face_of (box q) f) _ e).0
 
 module _ (w v : Work) (s : StandsFor w v) where
   marks : mark_in v.body.value.patch ≡ mark_in w.body.value.patch
@@ -84,7 +79,7 @@ module _ (w v : Work) (s : StandsFor w v) where
   flows_small raw swept r f edge own =
       let mine : owns w.body.value.patch f ≡ true = sym (owns_same f) ∙ own in
       let same : flux_in v.body.value.patch f ≡ plain w f = sym (through_swept v swept f) ∙ s.fluxes f (ap (λ (b : Extent). is_edge_face b f) (sym s.of_box) ∙ edge) mine ∙ through_raw w raw f in
-      subst (λ z. unsigned_abs z < 2 ^ 31) (sym same) (beside_small w.problem.value w.level w.body.value.patch r.step.small f (own_face w.body.value.patch f mine))
+      subst (λ z. unsigned_abs z < 2 ^ 31) (sym same) (beside_small w.problem.value w.level w.body.value.patch r.step.small f (owned_of_box w.body.value.patch f mine))
 
   -- ---- what it stands for goes on
 

@@ -1,14 +1,12 @@
 -- What flows between cells of small values is small.
 use Rattle.std.proofs.Common.{◌≡◌, ℕ, zero, suc, ◌*◌, ◌/◌, ◌^◌, ◌<◌, ◌≤◌, true, ℤ, pos, negsuc, neg_ℤ, arith}
 use Rattle.std.specs.Prelude.{unsigned_abs}
-use Rattle.amr_box.specs.declared.Axis.{Axis}
-use Rattle.amr_box.specs.declared.Axis.TheVariants.{X, Y}
 use Rattle.amr_box.specs.declared.Cell.{Cell}
 use Rattle.amr_box.specs.declared.Face.{Face}
 use Rattle.amr_def.specs.declared.problem.Problem.{Problem}
 use Rattle.amr_def.specs.Domain.{domain, home_cell}
-use Rattle.amr_def.specs.Flux.{courant, courant_in, flow, high_cell, low_cell}
-use Rattle.amr_def.proofs.Courants.{stable}
+use Rattle.amr_def.specs.Flux.{courant, flow, high_cell, low_cell}
+use Rattle.amr_def.proofs.Totals.{number_small}
 use Rattle.amr_patch.specs.declared.patches.Patch.{Patch}
 use Rattle.amr_patch.specs.Places.{is_face_of}
 use Rattle.amr_patch.specs.Patches.{box, value_in}
@@ -23,10 +21,6 @@ size_of_negative (suc n) b h = h
 flow_small : (c : ℤ) (d low high b : ℕ) → unsigned_abs c ≤ d → low < b → high < b → unsigned_abs (flow c d low high) < b
 flow_small (pos a) d low high b within l h = let s : a * low / d ≤ low = share_within (pos a) d low within in omega (arith, s, l)
 flow_small (negsuc a) d low high b within l h = let s : suc a * high / d ≤ high = share_within (negsuc a) d high within in size_of_negative (suc a * high / d) b (omega (arith, s, h))
-
-number_small : (p : Problem) (l : ℕ) (a : Axis) (c : Cell) → unsigned_abs (courant_in p l a c) ≤ p.d
-number_small p l X c = omega (arith, (stable p).within l c)
-number_small p l Y c = omega (arith, (stable p).within l c)
 
 pub beside_small : (p : Problem) (l : ℕ) (q : Patch) → ((c : Cell) → in_reach (box q) c ≡ true → value_in q c < 2 ^ 31) → (f : Face) → is_face_of (box q) f ≡ true → unsigned_abs (flux_beside p l q f) < 2 ^ 31
 unfolding flux_beside courant

@@ -13,10 +13,11 @@ use Rattle.amr_patch.specs.Levels.{level_of}
 use Rattle.amr_patch.specs.Patches.{box, masses_in}
 use Rattle.amr_patch.specs.Orders.{IsOrderOf}
 use Rattle.amr_patch.proofs.Standing.{order_of_boxes}
+use Rattle.amr_ghost.proofs.Inside.{patches_inside}
 use Rattle.amr_register.specs.declared.register.Register.{Register}
 use Rattle.amr_advance.specs.Registers.{BothChange, taken}
 use Rattle.amr_advance.specs.Totals.{HasTotals}
-use Rattle.amr_advance.proofs.Advancing.{both_changed, cells_serve, inflow_is, outflow_is, patches_inside, some_may_absorb}
+use Rattle.amr_advance.proofs.Advancing.{both_changed, cells_serve, inflow_is, outflow_is, some_may_absorb}
 use Rattle.amr_advance.proofs.steps.advance_kept.Goals as goal
 
 pub step_patches-stepped-requires-clause-inside : goal.step_patches-stepped-requires-clause-inside

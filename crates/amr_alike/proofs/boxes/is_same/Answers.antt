@@ -1,6 +1,6 @@
 use Rattle.std.proofs.Common.{arith, ◌≡◌}
 use Rattle.std.proofs.lemmas.Int.{ints}
-use Rattle.amr_alike.proofs.SameBoxes.{same_box}
+use Rattle.amr_box.proofs.CellEquality.{same_box}
 use Rattle.amr_alike.proofs.boxes.is_same.Goals as goal
 
 pub returns : goal.returns

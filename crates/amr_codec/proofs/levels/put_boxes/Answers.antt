@@ -9,7 +9,7 @@ use Rattle.amr_codec.specs.MassWidths.{width_of}
 use Rattle.amr_patch.specs.BoxRows.{HasCellsOf}
 use Rattle.amr_codec.proofs.Appending.{entries_all, entry_more}
 use Rattle.amr_patch.proofs.BoxEntries.{box_cells, box_inside, no_box}
-use Rattle.amr_codec.proofs.Entries.{item}
+use Rattle.amr_patch.proofs.Items.{item}
 use Rattle.amr_codec.proofs.levels.put_boxes.Goals as goal
 
 pub put_box-requires-clause-inside : goal.put_box-requires-clause-inside

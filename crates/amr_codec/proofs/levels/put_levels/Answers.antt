@@ -3,10 +3,10 @@ use Rattle.std.proofs.lemmas.List.{length-map}
 use Rattle.amr_def.specs.Facts.{IsLevel}
 use Rattle.amr_def.specs.State.{no_level, Level}
 use Rattle.amr_patch.specs.Levels.{level_of}
+use Rattle.amr_patch.proofs.Items.{level_item}
 use Rattle.amr_payload.specs.Payload.{level_bytes}
 use Rattle.amr_codec.specs.MassWidths.{width_of}
 use Rattle.amr_codec.proofs.Appending.{entries_all, entry_more}
-use Rattle.amr_codec.proofs.Entries.{level_item}
 use Rattle.amr_codec.proofs.levels.put_levels.Goals as goal
 
 pub put_level-requires-clause-level : goal.put_level-requires-clause-level

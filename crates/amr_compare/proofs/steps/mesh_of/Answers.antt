@@ -1,13 +1,7 @@
-use Rattle.std.proofs.Common.{◌≡◌, map, refl}
-use Rattle.amr_patch.specs.declared.meshes.Mesh.{Mesh}
-use Rattle.amr_patch.specs.Levels.{level_of}
 use Rattle.amr_patch.specs.Meshes.{levels_of, state_of}
+use Rattle.amr_patch.proofs.Items.{levels_are}
 use Rattle.amr_cycle.proofs.Chopped.{chopped_above}
 use Rattle.amr_compare.proofs.steps.mesh_of.Goals as goal
-
-levels_are : (m : Mesh) → (state_of m).levels ≡ map level_of (levels_of m)
-unfolding state_of levels_of
-levels_are m = refl
 
 pub returns-clause-coarsenable : goal.returns-clause-coarsenable
 returns-clause-coarsenable c =

@@ -15,7 +15,8 @@ use Rattle.amr_gaps.specs.Gaps.{HasStarts}
 use Rattle.amr_ghost.specs.Frames.{AreInDomain, HasGhostMarks, HasGhostValues, old_masses}
 use Rattle.amr_criterion.specs.Tagged.{is_tagged_in}
 use Rattle.amr_patch.proofs.SameBoxes.{apart_alike}
-use Rattle.amr_criterion.proofs.Frames.{patches_inside, same_masses}
+use Rattle.amr_ghost.proofs.Inside.{patches_inside}
+use Rattle.amr_criterion.proofs.Frames.{same_masses}
 use Rattle.amr_criterion.proofs.Joins.{joined_as}
 use Rattle.amr_criterion.proofs.Levels.{tagged_is}
 use Rattle.amr_criterion.proofs.level.tag_level.Goals as goal

@@ -2,8 +2,8 @@ use Rattle.std.proofs.Common.{◌≡◌, ◌∙◌, ◌+◌, ◌-◌, ◌<◌, p
 use Rattle.std.proofs.lemmas.Int.{ints}
 use Rattle.std.proofs.lemmas.List.{get_or-drop, get_or-take}
 use Rattle.amr_box.specs.Cells.{cell, width}
+use Rattle.amr_box.proofs.Numbers.{is_between}
 use Rattle.amr_patch.specs.Patches.{box, value_in}
-use Rattle.amr_patch.proofs.Rows.{is_between}
 use Rattle.amr_criterion.proofs.patches.values_from.Goals as goal
 
 pub row_with_frame-row-requires : goal.row_with_frame-row-requires

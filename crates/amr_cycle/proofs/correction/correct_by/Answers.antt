@@ -3,8 +3,9 @@ use Rattle.std.specs.Prelude.{is_some}
 use Rattle.amr_box.specs.Cells.{parent}
 use Rattle.amr_def.specs.State.{Masses}
 use Rattle.amr_patch.specs.Levels.{level_of, patches_of}
+use Rattle.amr_patch.proofs.Keeping.{kept_boxes}
 use Rattle.amr_register.specs.Registers.{entry_in}
-use Rattle.amr_cycle.proofs.Keeping.{same_boxes, some_with_entries}
+use Rattle.amr_cycle.proofs.Keeping.{some_with_entries}
 use Rattle.amr_cycle.proofs.correction.correct_by.Goals as goal
 
 pub sum_up-requires-clause-parents : goal.sum_up-requires-clause-parents
@@ -13,5 +14,5 @@ sum_up-requires-clause-parents c = λ q there.
 
 pub returns-clause-patches : goal.returns-clause-patches
 returns-clause-patches c =
-    same_boxes (patches_of c.reflux.new.level) (patches_of c.sum_up.new.coarse) c.sum_up.ensures.patches
-    ∙ same_boxes (patches_of c.args.level.now) (patches_of c.reflux.new.level) c.reflux.ensures.patches
+    kept_boxes (patches_of c.reflux.new.level) (patches_of c.sum_up.new.coarse) c.sum_up.ensures.patches
+    ∙ kept_boxes (patches_of c.args.level.now) (patches_of c.reflux.new.level) c.reflux.ensures.patches

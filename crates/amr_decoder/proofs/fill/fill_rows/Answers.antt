@@ -4,11 +4,11 @@ use Rattle.std.specs.Int.{byte_len}
 use Rattle.std.proofs.lemmas.Int.{ints}
 use Rattle.amr_box.specs.declared.Cell.{Cell}
 use Rattle.amr_box.specs.Cells.{cell, height, width}
+use Rattle.amr_box.proofs.Numbers.{side-is}
 use Rattle.amr_codec.specs.MassWidths.{width_of}
 use Rattle.amr_patch.specs.Patches.{in_patches}
 use Rattle.amr_patch.proofs.Rows.{place_within}
 use Rattle.amr_patch.proofs.Standing.{order_of_boxes}
-use Rattle.amr_tags.proofs.Offsets.{side-is}
 use Rattle.amr_decoder.specs.Grids.{grid_of}
 use Rattle.amr_decoder.specs.Numbers.{number_at, numbers}
 use Rattle.amr_patch.proofs.SameBoxes.{apart_alike, in_same_boxes}

@@ -3,7 +3,7 @@ use Rattle.std.proofs.lemmas.Int.{ints}
 use Rattle.amr_box.specs.Cells.{height, width}
 use Rattle.amr_patch.specs.BoxRows.{mass_in}
 use Rattle.amr_def.specs.Ledger.{sum_to}
-use Rattle.amr_decoder.proofs.MassSums.{sum_next}
+use Rattle.amr_def.proofs.Conservation.{sum_next}
 use Rattle.amr_decoder.proofs.totals.box_mass.Goals as goal
 
 pub row_mass-sum-requires-clause-row : goal.row_mass-sum-requires-clause-row

@@ -2,10 +2,11 @@ use Rattle.std.proofs.Common.{◌≡◌, ◌∙◌, ◌⊎◌, inl, inr, suc, re
 use Rattle.amr_def.specs.State.{State}
 use Rattle.amr_def.specs.Facts.{IsSound}
 use Rattle.amr_def.specs.Run.{finish, next}
+use Rattle.amr_def.proofs.Runs.{finish_step}
 use Rattle.amr_patch.specs.Meshes.{is_spent, state_of}
 use Rattle.amr_drive.specs.States.{states_after}
 use Rattle.amr_drive.specs.declared.drives.DriveFault.TheVariants.{After, NoMemory}
-use Rattle.amr_drive.proofs.Finishes.{after_more, finish_here, finish_more, finish_sound, finish_step, none_after, run_holds, through}
+use Rattle.amr_drive.proofs.Finishes.{after_more, finish_here, finish_more, finish_sound, none_after, run_holds, through}
 use Rattle.amr_drive.proofs.drives.make_steps.Goals as goal
 
 pub loop-step-init : goal.loop-step-init

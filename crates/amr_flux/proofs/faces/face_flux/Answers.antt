@@ -5,11 +5,11 @@ use Rattle.std.specs.Prelude.{◌||◌}
 use Rattle.std.proofs.lemmas.Int.{ints}
 use Rattle.std.proofs.lemmas.Bool.{and_parts}
 use Rattle.amr_box.specs.Cells.{holds, within}
+use Rattle.amr_box.proofs.CellEquality.{same_cell}
 use Rattle.amr_def.specs.Flux.{courant, flow, high_cell, low_cell}
 use Rattle.amr_patch.specs.Places.{grown}
 use Rattle.amr_patch.specs.Patches.{value_in}
 use Rattle.amr_flux.specs.Faces.{flux_beside}
-use Rattle.amr_flux.proofs.Given.{same_cell}
 use Rattle.amr_flux.proofs.Shown.{high_in_reach, low_in_reach}
 use Rattle.amr_flux.proofs.Steps.{flow_of}
 use Rattle.amr_flux.proofs.faces.face_flux.Goals as goal

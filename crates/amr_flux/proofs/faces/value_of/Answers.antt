@@ -3,10 +3,11 @@ use mir.Val.{of_z, to_z}
 use Rattle.std.proofs.Common.{◌≡◌, ◌<◌, ◌+◌, pos, ◌+ℤ◌, ◌-ℤ◌, ◌≤ℤ◌, ap, ◌∙◌, arith}
 use Rattle.std.proofs.lemmas.Int.{ints}
 use Rattle.amr_box.specs.Cells.{width}
+use Rattle.amr_box.proofs.CellEquality.{same_cell}
+use Rattle.amr_box.proofs.Numbers.{is_between}
 use Rattle.amr_patch.specs.Places.{grown}
 use Rattle.amr_patch.specs.Patches.{value_in}
-use Rattle.amr_patch.proofs.Rows.{inside, is_between, sides}
-use Rattle.amr_flux.proofs.Given.{same_cell}
+use Rattle.amr_patch.proofs.Rows.{inside, sides}
 use Rattle.amr_flux.proofs.faces.value_of.Goals as goal
 
 pub row_with_frame-row-requires : goal.row_with_frame-row-requires

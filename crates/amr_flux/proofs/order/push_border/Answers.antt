@@ -6,11 +6,12 @@ use Rattle.std.proofs.lemmas.Int.{to_z-of_z}
 use Rattle.amr_box.specs.declared.Cell.{Cell}
 use Rattle.amr_box.specs.declared.Face.{Face}
 use Rattle.amr_box.specs.Cells.{cell}
+use Rattle.amr_box.proofs.CellEquality.{same_cell}
 use Rattle.amr_def.specs.Flux.{high_cell}
 use Rattle.amr_patch.specs.Places.{in_frame}
 use Rattle.amr_patch.specs.Patches.{mark_in}
 use Rattle.amr_flux.specs.Faces.{is_border}
-use Rattle.amr_flux.proofs.Given.{beyond_frame, border_when, same_cell}
+use Rattle.amr_flux.proofs.Given.{beyond_frame, border_when}
 use Rattle.amr_flux.proofs.order.push_border.Goals as goal
 
 pub ghost_cell-requires : goal.ghost_cell-requires

@@ -2,7 +2,7 @@ use Rattle.std.proofs.Common.{arith}
 use Rattle.std.proofs.lemmas.Int.{ints}
 use Rattle.amr_box.specs.declared.Axis.TheVariants.{X}
 use Rattle.amr_patch.proofs.Rows.{sides}
-use Rattle.amr_flux.proofs.Given.{same_face}
+use Rattle.amr_def.proofs.Uncovered.{same_face}
 use Rattle.amr_flux.proofs.order.x_end.Goals as goal
 
 pub returns : goal.returns

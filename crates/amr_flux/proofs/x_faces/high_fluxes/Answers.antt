@@ -3,7 +3,7 @@ use mir.Val.{SFits}
 use mir.Syntax.{w32}
 use Rattle.std.proofs.lemmas.Int.{to_z-of_z}
 use Rattle.std.specs.Prelude.{slice_index_or}
-use Rattle.amr_box.proofs.Tests.{never_both}
+use Rattle.amr_box.proofs.Tests.{opposite}
 use Rattle.amr_flux.specs.Tables.{x_flux, x_marked}
 use Rattle.amr_flux.proofs.Numbers.{x_unsheared}
 use Rattle.amr_flux.proofs.Steps.{one_left, one_made, others_kept, x_flux_is}
@@ -25,12 +25,12 @@ loop-j-preserved c =
           let free : test j ≡ false = search rules in
           record {
             made = subst P (sym b.fluxes-is) (one_made test false c.loop-j.fluxes j f _ (search rules) (rw to_z-of_z is) c.loop-j.invariant.made);
-            others = subst Q (sym b.fluxes-is) (others_kept test false c.loop-j.fluxes j f c.args.fluxes.now _ true (λ is. never_both _ is free) c.loop-j.invariant.others);
+            others = subst Q (sym b.fluxes-is) (others_kept test false c.loop-j.fluxes j f c.args.fluxes.now _ true (λ is. opposite is free) c.loop-j.invariant.others);
           }
       | else-not-is_end_marked b ↦
           let marked : test j ≡ true = search rules in
           record {
-            made = subst P (sym b.fluxes-is) (one_left test false c.loop-j.fluxes j f (never_both _ marked) c.loop-j.invariant.made);
+            made = subst P (sym b.fluxes-is) (one_left test false c.loop-j.fluxes j f (opposite marked) c.loop-j.invariant.made);
             others = subst Q (sym b.fluxes-is) c.loop-j.invariant.others;
           }
     ]

@@ -3,7 +3,7 @@ use Rattle.std.specs.Prelude.{slice_index, slice_index_or}
 use mir.Val.{SFits}
 use mir.Syntax.{w32}
 use Rattle.std.proofs.lemmas.Int.{to_z-of_z}
-use Rattle.amr_box.proofs.Tests.{never_both}
+use Rattle.amr_box.proofs.Tests.{opposite}
 use Rattle.amr_flux.specs.Rows.{signed}
 use Rattle.amr_flux.specs.Tables.{count_below, y_marked, y_number}
 use Rattle.amr_flux.proofs.Borders.{count_less, count_next, count_same}
@@ -52,13 +52,13 @@ loop-i-preserved c =
           record {
             count = b.used-is ∙ ap (λ n. n + 1) c.loop-i.invariant.count ∙ sym (count_next test i marked);
             made = subst P (sym b.fluxes-is) (one_made test true c.loop-i.fluxes i f _ (search rules) (rw to_z-of_z value) c.loop-i.invariant.made);
-            others = subst Q (sym b.fluxes-is) (others_kept test true c.loop-i.fluxes i f c.args.fluxes.now _ false (never_both _ marked) c.loop-i.invariant.others);
+            others = subst Q (sym b.fluxes-is) (others_kept test true c.loop-i.fluxes i f c.args.fluxes.now _ false (opposite marked) c.loop-i.invariant.others);
           }
       | else-is_top_marked b ↦
           let free : test i ≡ false = search rules in
           record {
             count = b.used-is ∙ c.loop-i.invariant.count ∙ sym (count_same test i free);
-            made = subst P (sym b.fluxes-is) (one_left test true c.loop-i.fluxes i f (λ is. never_both _ is free) c.loop-i.invariant.made);
+            made = subst P (sym b.fluxes-is) (one_left test true c.loop-i.fluxes i f (λ is. opposite is free) c.loop-i.invariant.made);
             others = subst Q (sym b.fluxes-is) c.loop-i.invariant.others;
           }
     ]

@@ -3,7 +3,7 @@ use mir.Val.{SFits}
 use mir.Syntax.{w32}
 use Rattle.std.proofs.lemmas.Int.{to_z-of_z}
 use Rattle.std.specs.Prelude.{slice_index_or}
-use Rattle.amr_box.proofs.Tests.{never_both}
+use Rattle.amr_box.proofs.Tests.{opposite}
 use Rattle.amr_def.specs.Domain.{columns}
 use Rattle.amr_def.proofs.Sizes.{doubled_small}
 use Rattle.amr_flux.specs.Tables.{y_flux, y_marked}
@@ -28,12 +28,12 @@ loop-i-preserved c =
           let free : test i ≡ false = search rules in
           record {
             made = subst P (sym b.fluxes-is) (one_made test false c.loop-i.fluxes i f _ (search rules) (rw to_z-of_z is) c.loop-i.invariant.made);
-            others = subst Q (sym b.fluxes-is) (others_kept test false c.loop-i.fluxes i f c.args.fluxes.now _ true (λ is. never_both _ is free) c.loop-i.invariant.others);
+            others = subst Q (sym b.fluxes-is) (others_kept test false c.loop-i.fluxes i f c.args.fluxes.now _ true (λ is. opposite is free) c.loop-i.invariant.others);
           }
       | else-not-is_top_marked b ↦
           let marked : test i ≡ true = search rules in
           record {
-            made = subst P (sym b.fluxes-is) (one_left test false c.loop-i.fluxes i f (never_both _ marked) c.loop-i.invariant.made);
+            made = subst P (sym b.fluxes-is) (one_left test false c.loop-i.fluxes i f (opposite marked) c.loop-i.invariant.made);
             others = subst Q (sym b.fluxes-is) c.loop-i.invariant.others;
           }
     ]

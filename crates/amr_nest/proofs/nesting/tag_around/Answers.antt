@@ -5,7 +5,8 @@ use Rattle.std.proofs.lemmas.List.Folds.{list_any_at, list_any_more}
 use Rattle.amr_box.specs.Cells.{Extent, holds}
 use Rattle.amr_def.specs.Domain.{domain_box, domain_of}
 use Rattle.amr_tags.specs.TagSets.{has}
-use Rattle.amr_nest.specs.Reach.{IsInDomainBox, is_reached, parents_of}
+use Rattle.amr_tags.specs.Coarse.{parents_of}
+use Rattle.amr_nest.specs.Reach.{IsInDomainBox, is_reached}
 use Rattle.amr_nest.proofs.Reaches.{parents_proper}
 use Rattle.amr_nest.proofs.Projected.{near_any, near_box, near_by_turns}
 use Rattle.amr_nest.proofs.nesting.tag_around.Goals as goal

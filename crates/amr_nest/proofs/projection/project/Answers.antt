@@ -4,8 +4,10 @@ use Rattle.std.proofs.lemmas.List.{take_all}
 use Rattle.std.proofs.lemmas.List.Folds.{list_any_at, list_any_more}
 use Rattle.amr_box.specs.Cells.{Extent, has_child_where, holds}
 use Rattle.amr_def.specs.Domain.{domain_box, domain_of, in_blocks, in_domain}
-use Rattle.amr_nest.specs.Reach.{is_reached, parents_of}
-use Rattle.amr_nest.proofs.Reaches.{domain_is, parents_proper}
+use Rattle.amr_def.proofs.Uncovered.{domain_box_cells}
+use Rattle.amr_tags.specs.Coarse.{parents_of}
+use Rattle.amr_nest.specs.Reach.{is_reached}
+use Rattle.amr_nest.proofs.Reaches.{parents_proper}
 use Rattle.amr_nest.proofs.Projected.{projected_any, projected_by, projected_by_turns}
 use Rattle.amr_nest.proofs.projection.project.Goals as goal
 use Rattle.amr_nest.proofs.Gathered.{nothing_yet}
@@ -52,6 +54,6 @@ returns-clause-cells c =
     let d = domain_of c.args.dom.now in
     λ q.
     c.loop-b.invariant.3 q
-    ∙ ap (λ (t : Bool). t && list_any (λ a. projected_by d a q) (take c.loop-b.b-index c.args.boxes.now)) (domain_is (in_blocks 2 d) q)
+    ∙ ap (λ (t : Bool). t && list_any (λ a. projected_by d a q) (take c.loop-b.b-index c.args.boxes.now)) (domain_box_cells (in_blocks 2 d) q)
     ∙ ap (λ (l : List Extent). in_domain (in_blocks 2 d) q && list_any (λ a. projected_by d a q) l) (take_all c.loop-b.b-index c.args.boxes.now c.loop-b-test.false)
     ∙ ap (λ (t : Bool). in_domain (in_blocks 2 d) q && t) (sym (projected_any d c.args.boxes.now q))

@@ -4,8 +4,8 @@ use Rattle.amr_io.specs.Short.{FallsShort}
 use Rattle.amr_def.specs.Plot.{box_text}
 use Rattle.amr_patch.specs.Levels.{level_of}
 use Rattle.amr_plot.specs.Puts.{texts}
-use Rattle.amr_plot.proofs.Items.{item}
 use Rattle.amr_patch.proofs.BoxEntries.{no_box}
+use Rattle.amr_patch.proofs.Items.{item}
 use Rattle.amr_plot.proofs.Putting.{puts_stop, texts_within, texts_sent, texts_of_list, sent_same}
 use Rattle.amr_plot.proofs.levels.put_boxes.Goals as goal
 

@@ -5,8 +5,8 @@ use Rattle.amr_def.specs.Facts.{IsLevel}
 use Rattle.amr_def.specs.Plot.{level_text}
 use Rattle.amr_def.specs.State.{no_level, Level}
 use Rattle.amr_patch.specs.Levels.{level_of}
+use Rattle.amr_patch.proofs.Items.{level_item}
 use Rattle.amr_plot.specs.Puts.{texts}
-use Rattle.amr_plot.proofs.Items.{level_item}
 use Rattle.amr_plot.proofs.Putting.{puts_stop, texts_within, texts_sent, numbered_from_zero, sent_same}
 use Rattle.amr_plot.proofs.levels.put_levels.Goals as goal
 

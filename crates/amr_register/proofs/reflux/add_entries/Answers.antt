@@ -5,7 +5,7 @@ use Rattle.amr_patch.specs.Levels.{patches_of}
 use Rattle.amr_patch.specs.Orders.{IsOrderOf}
 use Rattle.amr_patch.specs.Pairwise.{Pairwise}
 use Rattle.amr_patch.specs.Patches.{ArePatchesApart, KeepsFrameAndFluxes}
-use Rattle.amr_register.proofs.Kept.{kept_apart, kept_order}
+use Rattle.amr_patch.proofs.Keeping.{kept_apart, kept_order}
 use Rattle.amr_register.proofs.reflux.add_entries.Goals as goal
 
 pub put_patches_in_order-requires-clause-apart : goal.put_patches_in_order-requires-clause-apart

@@ -10,8 +10,8 @@ use Rattle.amr_laws.proofs.Refill.{is_some-given}
 use Rattle.amr_patch.specs.Levels.{level_of, patches_of}
 use Rattle.amr_patch.specs.Patches.{box}
 use Rattle.amr_patch.proofs.Apart.{apart_from_counts}
+use Rattle.amr_patch.proofs.Keeping.{kept_boxes}
 use Rattle.amr_transfer.specs.Shares.{masses_before}
-use Rattle.amr_transfer.proofs.PatchLists.{kept_boxes}
 use Rattle.amr_regrid.proofs.Remaking.{level_by}
 use Rattle.amr_regrid.proofs.masses.made.Goals as goal
 

@@ -1,7 +1,7 @@
 use Rattle.std.proofs.Common.{◌≡◌, ◌∙◌, ◌&&◌, ◌||◌, ap, sym, subst, true, length, length-set, List, ℕ}
-use Rattle.amr_box.specs.Cells.{height, holds, width}
+use Rattle.amr_box.specs.Cells.{height, holds, is_same_cell, width}
 use Rattle.amr_tags.specs.Bits.{AreRows, bit_of, words_for}
-use Rattle.amr_tags.specs.TagSets.{TagSet, column_in, has, row_in, same_cell}
+use Rattle.amr_tags.specs.TagSets.{TagSet, column_in, has, row_in}
 use Rattle.amr_tags.proofs.Places.{after_set, rows_after_set}
 use Rattle.amr_tags.proofs.Tags.set.Goals as goal
 
@@ -20,4 +20,4 @@ returns-clause-cells c =
     λ d.
     ap (λ (words : List ℕ). holds c.self.inside.bx d && bit_of (words_for (width c.self.inside.bx)) words (column_in c.self.inside.bx d) (row_in c.self.inside.bx d)) c.set_bit.ensures
     ∙ after_set c.self.inside.bx c.self.inside.words.items c.args.c d c.self.invariant.rows inside
-    ∙ ap (λ (t : TagSet). has t d || same_cell c.args.c d) c.self.view_is
+    ∙ ap (λ (t : TagSet). has t d || is_same_cell c.args.c d) c.self.view_is

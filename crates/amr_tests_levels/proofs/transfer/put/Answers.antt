@@ -4,7 +4,7 @@ use Rattle.std.specs.Option.{unwrap_or}
 use Rattle.amr_box.specs.declared.Cell.{Cell}
 use Rattle.amr_def.specs.State.{mass_of}
 use Rattle.amr_patch.specs.Levels.{level_of, patches_of}
-use Rattle.amr_transfer.proofs.PatchLists.{kept_boxes}
+use Rattle.amr_patch.proofs.Keeping.{kept_boxes}
 use Rattle.amr_tests_levels.proofs.CoveredCells.{set_or_other}
 use Rattle.amr_tests_levels.proofs.transfer.put.Goals as goal
 

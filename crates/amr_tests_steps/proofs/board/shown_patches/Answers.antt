@@ -4,8 +4,8 @@ use Rattle.amr_def.specs.State.{no_masses}
 use Rattle.amr_patch.specs.Levels.{level_of}
 use Rattle.amr_patch.specs.Orders.{IsOrderOf}
 use Rattle.amr_patch.specs.Patches.{ArePatchesApart, box, masses_in}
+use Rattle.amr_ghost.proofs.Inside.{patches_inside}
 use Rattle.amr_advance.specs.Shown.{AreShown}
-use Rattle.amr_advance.proofs.Advancing.{patches_inside}
 use Rattle.amr_advance.proofs.Filled.{all_shown, same_masses}
 use Rattle.amr_tests_steps.proofs.board.shown_patches.Goals as goal
 

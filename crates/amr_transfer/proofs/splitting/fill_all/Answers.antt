@@ -4,14 +4,15 @@ use Rattle.amr_patch.specs.Levels.{level_of}
 use Rattle.std.proofs.lemmas.List.Folds.{list_any_at}
 use Rattle.amr_box.specs.Cells.{holds}
 use Rattle.amr_patch.specs.Patches.{KeepsFrameAndFluxes, box, masses_in}
+use Rattle.amr_patch.proofs.LevelLaws.{itself}
+use Rattle.amr_patch.proofs.Keeping.{kept_twice}
 use Rattle.amr_transfer.specs.Given.{HasMasses}
 use Rattle.amr_transfer.specs.Shares.{kept_or_split}
-use Rattle.amr_transfer.proofs.GivenCells.{keeps_itself, keeps_trans}
 use Rattle.amr_transfer.proofs.PatchLists.{kept_in, pairwise_join, pairwise_same, pairwise_set}
 use Rattle.amr_transfer.proofs.splitting.fill_all.Goals as goal
 
 pub loop-i-init : goal.loop-i-init
-loop-i-init c = record { kept = pairwise_same KeepsFrameAndFluxes keeps_itself c.args.patches.now; made = λ j d h. absurd (omega (arith, h)) }
+loop-i-init c = record { kept = pairwise_same KeepsFrameAndFluxes itself c.args.patches.now; made = λ j d h. absurd (omega (arith, h)) }
 
 pub fill_patch-requires-clause-parents : goal.fill_patch-requires-clause-parents
 fill_patch-requires-clause-parents c d h =
@@ -27,7 +28,7 @@ loop-i-preserved c =
     let m = kept_or_split (level_of c.args.coarse.now).masses (masses_in c.args.old.now) in
     let there : i < length qs = omega (arith, c.loop-i.auto.patches, c.loop-i.auto.i-end, c.loop-i-test.true) in
     record {
-      kept = pairwise_join KeepsFrameAndFluxes KeepsFrameAndFluxes KeepsFrameAndFluxes keeps_trans c.args.patches.now qs (set qs i r) c.loop-i.invariant.kept (pairwise_set KeepsFrameAndFluxes qs i c.index-patches-i.result r c.fill_patch.ensures.kept (λ j lt n. keeps_itself _));
+      kept = pairwise_join KeepsFrameAndFluxes KeepsFrameAndFluxes KeepsFrameAndFluxes kept_twice c.args.patches.now qs (set qs i r) c.loop-i.invariant.kept (pairwise_set KeepsFrameAndFluxes qs i c.index-patches-i.result r c.fill_patch.ensures.kept (λ j lt n. itself _));
       made = λ j e less. below_more (λ n. HasMasses m (get_or (set qs i r) n e)) i
           (λ n t. subst (λ (p : Patch). HasMasses m p) (sym (get_or-set_other qs i n r e (λ f. omega (arith, t, f)))) (c.loop-i.invariant.made n e t))
           (subst (λ (p : Patch). HasMasses m p) (sym (get_or-set_same qs i r e there)) c.fill_patch.ensures.masses)

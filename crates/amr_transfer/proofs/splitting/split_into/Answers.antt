@@ -10,8 +10,8 @@ use Rattle.amr_patch.specs.Levels.{level_of, patches_of}
 use Rattle.amr_patch.specs.Orders.{IsOrderOf}
 use Rattle.amr_patch.specs.Pairwise.{Pairwise}
 use Rattle.amr_patch.specs.Patches.{ArePatchesApart, KeepsFrameAndFluxes, in_patches, masses_in}
+use Rattle.amr_patch.proofs.Keeping.{kept_apart, kept_order}
 use Rattle.amr_transfer.specs.Shares.{masses_before}
-use Rattle.amr_transfer.proofs.PatchLists.{kept_apart, kept_order}
 use Rattle.amr_transfer.proofs.KeptOrSplit.{adds_up, filled_level}
 use Rattle.amr_transfer.proofs.splitting.split_into.Goals as goal
 

@@ -7,10 +7,11 @@ use Rattle.amr_def.specs.State.{children_mass}
 use Rattle.amr_patch.specs.declared.patches.Patch.{Patch}
 use Rattle.amr_patch.specs.Pairwise.{Pairwise}
 use Rattle.amr_patch.specs.Patches.{box, in_patches, masses_in}
+use Rattle.amr_patch.proofs.Keeping.{kept_apart, kept_order}
 use Rattle.amr_transfer.specs.Given.{IsGiven}
 use Rattle.amr_transfer.specs.Sums.{children_in}
 use Rattle.amr_transfer.proofs.Fours.{child_more, children_are, four_of_first, has_four}
-use Rattle.amr_transfer.proofs.PatchLists.{all_as, all_kept, all_more, all_none, kept_apart, kept_in, kept_order}
+use Rattle.amr_transfer.proofs.PatchLists.{all_as, all_kept, all_more, all_none, kept_in}
 use Rattle.amr_transfer.proofs.summing.sum_all.Goals as goal
 
 pub loop-q-init : goal.loop-q-init

@@ -6,12 +6,13 @@ use Rattle.amr_def.proofs.Nesting.{aligned_even}
 use Rattle.amr_def.proofs.Nests.{even_is, odd_is}
 use Rattle.amr_patch.specs.Patches.{box}
 use Rattle.amr_patch.proofs.Rows.{sides}
+use Rattle.amr_patch.proofs.Keeping.{kept_apart, kept_order}
 use Rattle.amr_transfer.specs.Given.{rows_to, span}
 use Rattle.amr_transfer.specs.Sums.{children_in}
 use Rattle.amr_transfer.proofs.BoxRows.{row_first}
 use Rattle.amr_transfer.proofs.Fours.{has_four}
 use Rattle.amr_transfer.proofs.Halves.{near_parents}
-use Rattle.amr_transfer.proofs.PatchLists.{all_as, all_kept, all_more, all_none, kept_apart, kept_in, kept_order}
+use Rattle.amr_transfer.proofs.PatchLists.{all_as, all_kept, all_more, all_none, kept_in}
 use Rattle.amr_transfer.proofs.Spans.{rows_all, rows_more, rows_none}
 use Rattle.amr_transfer.proofs.summing.sum_patch.Goals as goal
 

@@ -2,14 +2,16 @@ use Rattle.std.proofs.Common.{◌≡◌, ◌∙◌, ℕ, ◌+◌, ◌*◌, ◌<�
 use Rattle.std.proofs.lemmas.Int.{ints}
 use Rattle.amr_box.specs.declared.Cell.{Cell}
 use Rattle.amr_box.specs.Cells.{cell, child, holds, width}
+use Rattle.amr_box.proofs.Numbers.{is_between}
 use Rattle.amr_patch.specs.Pairwise.{Pairwise}
 use Rattle.amr_patch.specs.Patches.{box, in_patches}
-use Rattle.amr_patch.proofs.Rows.{inside, is_between, sides}
+use Rattle.amr_patch.proofs.Rows.{inside, sides}
+use Rattle.amr_patch.proofs.Keeping.{kept_apart, kept_order}
 use Rattle.amr_transfer.specs.Given.{IsGiven, span}
 use Rattle.amr_transfer.specs.Sums.{children_in}
 use Rattle.amr_transfer.proofs.Fours.{four_of_first, four_of_rest, rest_length, row_child}
 use Rattle.amr_transfer.proofs.Halves.{parent_child}
-use Rattle.amr_transfer.proofs.PatchLists.{all_kept, all_more, all_none, kept_apart, kept_in, kept_order}
+use Rattle.amr_transfer.proofs.PatchLists.{all_kept, all_more, all_none, kept_in}
 use Rattle.amr_transfer.proofs.Spans.{span_more, span_none}
 use Rattle.amr_transfer.proofs.summing.sum_row.Goals as goal
 

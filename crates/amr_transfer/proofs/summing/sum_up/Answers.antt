@@ -9,9 +9,10 @@ use Rattle.amr_patch.specs.Levels.{level_of, patches_of}
 use Rattle.amr_patch.specs.Orders.{IsOrderOf}
 use Rattle.amr_patch.specs.Pairwise.{Pairwise}
 use Rattle.amr_patch.specs.Patches.{ArePatchesApart, KeepsFrameAndFluxes, in_patches, masses_in}
+use Rattle.amr_patch.proofs.Keeping.{kept_apart, kept_order}
 use Rattle.amr_transfer.specs.Sums.{summed}
 use Rattle.amr_transfer.proofs.Fours.{summed_level}
-use Rattle.amr_transfer.proofs.PatchLists.{all_kept, kept_apart, kept_order}
+use Rattle.amr_transfer.proofs.PatchLists.{all_kept}
 use Rattle.amr_transfer.proofs.summing.sum_up.Goals as goal
 
 -- each cell of fine patches has its parent in the coarse ones

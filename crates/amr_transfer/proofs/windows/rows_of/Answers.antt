@@ -2,10 +2,11 @@ use Rattle.std.proofs.Common.{◌≡◌, ◌≤◌, ◌≤ℤ◌, to_z, of_z, w3
 use Rattle.std.specs.Prelude.{slice_index_or}
 use Rattle.std.proofs.lemmas.Int.{ints}
 use Rattle.amr_box.specs.Cells.{Extent, height}
+use Rattle.amr_box.proofs.Numbers.{le_from}
 use Rattle.amr_patch.specs.declared.patches.Patch.{Patch}
 use Rattle.amr_patch.specs.Patches.{box}
 use Rattle.amr_patch.proofs.Lookups.{same_default}
-use Rattle.amr_transfer.proofs.Bands.{le_of, rising_more}
+use Rattle.amr_transfer.proofs.Bands.{rising_more}
 use Rattle.amr_transfer.proofs.windows.rows_of.Goals as goal
 use Rattle.amr_transfer.proofs.windows.rows_of.Goals.{then-rising, else-rising}
 
@@ -23,9 +24,9 @@ loop-p-preserved c =
     let tall = below_more (λ i. (d : Patch) → height (box (slice_index_or ps i d)) ≤ c.max-tallest.result) k (λ i lt d. omega (arith, c.loop-p.invariant.tallest i d lt, c.max-tallest.ensures)) (λ d. omega (arith, ap (λ (b : Extent). height b) (here d), c.height.ensures.value, c.max-tallest.ensures)) in
     elim c.if-rising.branch [
       | then-rising w ↦ record {
-        rising = λ e. rising_more ps k (to_z w32 c.loop-p.last-bits) (c.loop-p.invariant.rising w.if-rising.true) (c.loop-p.invariant.last w.if-rising.true) (λ d. let up : to_z w32 c.loop-p.last-bits ≤ℤ to_z w32 (of_z w32 c.lo-low.result.y) = le_of (to_z w32 c.loop-p.last-bits) (to_z w32 (of_z w32 c.lo-low.result.y)) (sym w.rising-is ∙ e) in omega (arith, ints, up, starts d));
+        rising = λ e. rising_more ps k (to_z w32 c.loop-p.last-bits) (c.loop-p.invariant.rising w.if-rising.true) (c.loop-p.invariant.last w.if-rising.true) (λ d. let up : to_z w32 c.loop-p.last-bits ≤ℤ to_z w32 (of_z w32 c.lo-low.result.y) = le_from (to_z w32 c.loop-p.last-bits) (to_z w32 (of_z w32 c.lo-low.result.y)) (sym w.rising-is ∙ e) in omega (arith, ints, up, starts d));
         last = λ e i d lt.
-            let up : to_z w32 c.loop-p.last-bits ≤ℤ to_z w32 (of_z w32 c.lo-low.result.y) = le_of (to_z w32 c.loop-p.last-bits) (to_z w32 (of_z w32 c.lo-low.result.y)) (sym w.rising-is ∙ e) in
+            let up : to_z w32 c.loop-p.last-bits ≤ℤ to_z w32 (of_z w32 c.lo-low.result.y) = le_from (to_z w32 c.loop-p.last-bits) (to_z w32 (of_z w32 c.lo-low.result.y)) (sym w.rising-is ∙ e) in
             below_more (λ i. (d : Patch) → (box (slice_index_or ps i d)).lo.y ≤ℤ to_z w32 (of_z w32 c.lo-low.result.y)) k (λ i lt d. let before = c.loop-p.invariant.last w.if-rising.true i d lt in omega (arith, ints, before, up)) (λ d. omega (arith, ints, starts d)) i lt d;
         tallest = λ i d lt. tall i lt d;
       }

@@ -5,7 +5,7 @@ use Rattle.amr_def.specs.State.{Level}
 use Rattle.amr_def.specs.Regrid.{first_masses, refill, refilled}
 use Rattle.amr_witness.specs.declared.PlainLevel.{PlainLevel}
 use Rattle.amr_witness.specs.Maps.{levels_of, masses_of}
-use Rattle.amr_witness_regrid.specs.Wanted.{lists_in}
+use Rattle.amr_regrid.specs.Outlines.{lists_in}
 use Rattle.amr_witness_regrid.proofs.Regridded.{head_near, items_empty, items_some, level_on, nil_of, refill_empty, refill_none, tail_near}
 use Rattle.amr_witness_regrid.proofs.masses.+refill.Goals as goal
 

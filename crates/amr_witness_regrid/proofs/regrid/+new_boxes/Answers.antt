@@ -4,8 +4,9 @@ use Rattle.amr_box.specs.Cells.{Extent}
 use Rattle.amr_def.specs.Tags.{is_tagged}
 use Rattle.amr_def.specs.NewBoxes.{first_boxes}
 use Rattle.amr_witness.proofs.States.{count_same}
+use Rattle.amr_regrid.specs.Outlines.{lists_in}
 use Rattle.amr_witness_regrid.specs.Places.{HasCellsInside}
-use Rattle.amr_witness_regrid.specs.Wanted.{boxes_over, lists_in, with_levels}
+use Rattle.amr_witness_regrid.specs.Wanted.{boxes_over, with_levels}
 use Rattle.amr_witness_regrid.proofs.Regridded.{boxes_more, more_near, no_boxes, nothing_near}
 use Rattle.amr_witness_regrid.proofs.regrid.+new_boxes.Goals as goal
 

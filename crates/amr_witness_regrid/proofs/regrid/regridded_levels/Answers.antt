@@ -1,6 +1,6 @@
 use Rattle.std.proofs.Common.{◌∙◌, ap}
 use Rattle.amr_witness.specs.Maps.{levels_of}
-use Rattle.amr_witness_regrid.specs.Wanted.{lists_in}
+use Rattle.amr_regrid.specs.Outlines.{lists_in}
 use Rattle.amr_witness_regrid.proofs.Regridded.{clone_same, regridded_more, regridded_none}
 use Rattle.amr_witness_regrid.proofs.regrid.regridded_levels.Goals as goal
 

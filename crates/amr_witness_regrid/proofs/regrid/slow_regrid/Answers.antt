@@ -5,8 +5,9 @@ use Rattle.amr_def.specs.Regrid.{new_level_count, regridded_levels}
 use Rattle.amr_witness.specs.declared.PlainLevel.{PlainLevel}
 use Rattle.amr_witness.specs.Maps.{levels_of, state_of}
 use Rattle.amr_witness.proofs.States.{count_same}
+use Rattle.amr_regrid.specs.Outlines.{lists_in}
 use Rattle.amr_witness_regrid.specs.Places.{AreInside}
-use Rattle.amr_witness_regrid.specs.Wanted.{lists_in, with_levels}
+use Rattle.amr_witness_regrid.specs.Wanted.{with_levels}
 use Rattle.amr_witness_regrid.proofs.Regridded.{regrid_is, sound_inside}
 use Rattle.amr_witness_regrid.proofs.regrid.slow_regrid.Goals as goal
 
