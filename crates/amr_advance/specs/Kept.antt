@@ -1,9 +1,9 @@
 -- A level's layout that is kept from step to step.
 use Rattle.std.specs.Prelude.{◌≡◌, ◌+◌, ◌*◌, true, length, map, is_some}
 use Rattle.amr_box.specs.declared.Cell.{Cell}
+use Rattle.amr_box.specs.Cells.{in_boxes}
 use Rattle.amr_def.specs.declared.problem.Problem.{Problem}
 use Rattle.amr_def.specs.Domain.{domain}
-use Rattle.amr_def.specs.State.{in_boxes}
 use Rattle.amr_patch.specs.Patches.{box}
 use Rattle.amr_ghost.specs.Plans.{PlansFrames}
 use Rattle.amr_layout.specs.Grounds.{has_open_side}

@@ -3,8 +3,8 @@ use Rattle.std.proofs.Common.{◌≡◌, Bool, true, false, ◌&&◌, cond, ℤ,
 use Rattle.std.specs.Prelude.{int_le, int_lt}
 use Rattle.std.proofs.lemmas.Int.{ints, clamps}
 use Rattle.amr_box.specs.declared.Axis.TheVariants.{X, Y}
-use Rattle.amr_box.specs.Cells.{Extent, below_cut, cell, common, extent, from_cut}
-use Rattle.amr_boxlist.specs.Remnants.{east_of, frame, high_part, if_proper, is_proper, low_part, north_of, remnants, sides_round, south_of, west_of, whole_or_frame}
+use Rattle.amr_box.specs.Cells.{Extent, below_cut, cell, common, extent, from_cut, is_proper}
+use Rattle.amr_boxlist.specs.Remnants.{east_of, frame, high_part, if_proper, low_part, north_of, remnants, sides_round, south_of, west_of, whole_or_frame}
 use Rattle.amr_boxlist.proofs.Frame.{proper-from_test}
 
 -- below and above a place, where the other axis is in order

@@ -6,11 +6,11 @@ use Rattle.std.proofs.lemmas.Int.{ints, clamps}
 use Rattle.amr_box.specs.declared.Cell.{Cell}
 use Rattle.amr_box.specs.declared.Axis.{Axis}
 use Rattle.amr_box.specs.declared.Axis.TheVariants.{X, Y}
-use Rattle.amr_box.specs.Cells.{Extent, IsProper, along, below_cut, common, from_cut, holds, within}
+use Rattle.amr_box.specs.Cells.{Extent, IsProper, along, below_cut, common, from_cut, holds, is_proper, within}
 use Rattle.amr_box.proofs.Boxes.{holds-common, int_le-yes}
 use Rattle.amr_box.proofs.Numbers.{below_from, le_from, not_below_from}
 use Rattle.amr_boxlist.specs.Lists.{holders}
-use Rattle.amr_boxlist.specs.Remnants.{frame, high_part, is_proper, low_part, whole_or_frame}
+use Rattle.amr_boxlist.specs.Remnants.{frame, high_part, low_part, whole_or_frame}
 use Rattle.amr_boxlist.proofs.Sets.{HoldOnce, holders-append, one_if}
 
 pub proper-test : (e : Extent) → IsProper e → is_proper e ≡ true

@@ -5,8 +5,8 @@ use Rattle.std.proofs.Math.Bool.{and-true, and-or_distrib_right}
 use Rattle.std.proofs.lemmas.List.Folds.{list_any-append}
 use Rattle.std.proofs.lemmas.List.Concat.{flat_map-cons}
 use Rattle.amr_box.specs.declared.Cell.{Cell}
-use Rattle.amr_box.specs.Cells.{Extent, holds}
-use Rattle.amr_boxlist.specs.Lists.{AreApart, holders, in_boxes}
+use Rattle.amr_box.specs.Cells.{Extent, holds, in_boxes}
+use Rattle.amr_boxlist.specs.Lists.{AreApart, holders}
 
 -- a test as a number
 abbrev pub one_if : Bool → ℕ

@@ -9,10 +9,10 @@ use Rattle.std.proofs.lemmas.Bool.Decides.{nat_tests}
 use Rattle.std.proofs.lemmas.List.Sums.{sum_by-cons, sum_by-take-le, sum_by_more}
 use Rattle.std.proofs.Math.Nat.{mul-le-mul_left}
 use Rattle.amr_box.specs.declared.Cell.{Cell}
-use Rattle.amr_box.specs.Cells.{Extent, IsNear, IsProper, at_least_zero, cell, common, height, holds, width, within}
+use Rattle.amr_box.specs.Cells.{Extent, IsNear, IsProper, at_least_zero, cell, common, height, holds, in_boxes, width, within}
 use Rattle.amr_box.proofs.Numbers.{at_least_zero-same, le_from}
 use Rattle.amr_box.proofs.CellLists.{in_range}
-use Rattle.amr_boxlist.specs.Lists.{AreApart, holders, in_boxes}
+use Rattle.amr_boxlist.specs.Lists.{AreApart, holders}
 use Rattle.amr_boxlist.specs.Shared.{shared}
 use Rattle.amr_boxlist.proofs.Sets.{in_boxes-holders, in_boxes-some, one_if}
 

@@ -1,12 +1,7 @@
 -- Lists of boxes, seen as the sets of their cells.
-use Rattle.std.specs.Prelude.{ℕ, ◌+◌, ◌≤◌, Bool, cond, List, [], ◌∷◌}
-use Rattle.std.specs.List.{list_any}
+use Rattle.std.specs.Prelude.{ℕ, ◌+◌, ◌≤◌, cond, List, [], ◌∷◌}
 use Rattle.amr_box.specs.declared.Cell.{Cell}
 use Rattle.amr_box.specs.Cells.{Extent, holds}
-
--- whether a cell is in one of the boxes
-abbrev pub in_boxes : List Extent → Cell → Bool
-in_boxes bs c = list_any (λ b. holds b c) bs
 
 -- how many of the boxes a cell is in
 abbrev pub holders : List Extent → Cell → ℕ

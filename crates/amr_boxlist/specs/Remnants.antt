@@ -1,8 +1,8 @@
 -- What is left of a box when the cells of another are taken away, as at most four boxes (BoxLib: boxDiff).
-use Rattle.std.specs.Prelude.{Bool, cond, ◌&&◌, ℤ, pos, ◌+ℤ◌, ◌-ℤ◌, int_le, int_lt, List, [], ◌∷◌, ◌++◌}
+use Rattle.std.specs.Prelude.{cond, ℤ, pos, ◌+ℤ◌, ◌-ℤ◌, int_lt, List, [], ◌∷◌, ◌++◌}
 use Rattle.amr_box.specs.declared.Axis.{Axis}
 use Rattle.amr_box.specs.declared.Axis.TheVariants.{X, Y}
-use Rattle.amr_box.specs.Cells.{Extent, along, below_cut, cell, common, extent, from_cut}
+use Rattle.amr_box.specs.Cells.{Extent, along, below_cut, cell, common, extent, from_cut, is_proper}
 
 -- the part of a box below a column or row, none where there is none
 abbrev pub low_part : Axis → ℤ → Extent → List Extent
@@ -19,10 +19,6 @@ frame a m =
     let band = below_cut Y (m.hi.y +ℤ pos 1) above_low in
     let right = from_cut X m.lo.x band in
     low_part Y m.lo.y a ++ high_part Y (m.hi.y +ℤ pos 1) above_low ++ low_part X m.lo.x band ++ high_part X (m.hi.x +ℤ pos 1) right
-
--- whether the corners of a box are in order
-abbrev pub is_proper : Extent → Bool
-is_proper b = int_le b.lo.x b.hi.x && int_le b.lo.y b.hi.y
 
 -- as calls cut it
 abbrev pub whole_or_frame : Extent → Extent → List Extent

@@ -3,9 +3,9 @@
 
 ghost use Rattle.std.specs.Prelude.{◌≡◌, ◌≤◌, false, ◌&&◌, not, List, [], ◌∷◌, ◌++◌, OnOk, OnErr, IsTrue, ◌↔◌};
 ghost use Rattle.std.specs.List.{flat_map};
-ghost use Rattle.amr_box.specs.Cells.{IsNear, holds};
+ghost use Rattle.amr_box.specs.Cells.{IsNear, holds, in_boxes};
 ghost use Rattle.amr_box.specs.declared.Cell.{Cell};
-ghost use Rattle.amr_boxlist.specs.Lists.{AreApart, in_boxes};
+ghost use Rattle.amr_boxlist.specs.Lists.{AreApart};
 ghost use Rattle.amr_boxlist.specs.Chopped.{chopped};
 ghost use Rattle.amr_boxlist.specs.Remnants.{remnants};
 

@@ -2,9 +2,9 @@
 
 ghost use Rattle.std.specs.Prelude.{◌≡◌, IsTrue, ◌↔◌};
 ghost use Rattle.std.specs.List.{sum_by};
-ghost use Rattle.amr_box.specs.Cells.{IsNear, holds};
+ghost use Rattle.amr_box.specs.Cells.{IsNear, holds, in_boxes};
 ghost use Rattle.amr_box.specs.declared.Cell.{Cell};
-ghost use Rattle.amr_boxlist.specs.Lists.{AreApart, in_boxes};
+ghost use Rattle.amr_boxlist.specs.Lists.{AreApart};
 ghost use Rattle.amr_boxlist.specs.Shared.{shared};
 
 use amr_box::Bx;

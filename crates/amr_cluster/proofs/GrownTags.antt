@@ -4,9 +4,9 @@ use Rattle.std.specs.List.{list_any}
 use Rattle.std.specs.Int.{int_rem_euclid}
 use Rattle.std.proofs.lemmas.Int.{ints}
 use Rattle.amr_box.specs.declared.Cell.{Cell}
-use Rattle.amr_box.specs.Cells.{Extent, cell, height, holds, width}
+use Rattle.amr_box.specs.Cells.{Extent, cell, height, holds, moved, square, width}
 use Rattle.amr_box.proofs.Numbers.{domain_side}
-use Rattle.amr_def.specs.Domain.{Domain, domain_box, home_cell, in_domain, is_near, moved, square}
+use Rattle.amr_def.specs.Domain.{Domain, domain_box, home_cell, in_domain, is_near}
 use Rattle.amr_def.specs.Domain.{wrapped as wrapped_from_zero}
 use Rattle.amr_def.proofs.Uncovered.{domain_box_cells}
 use Rattle.amr_tags.specs.TagSets.{TagSet, has, home, wrapped}

@@ -8,9 +8,8 @@ use Rattle.std.proofs.lemmas.Int.{ints}
 use Rattle.amr_box.specs.declared.Cell.{Cell}
 use Rattle.amr_box.specs.declared.Axis.{Axis}
 use Rattle.amr_box.specs.declared.Axis.TheVariants.{X, Y}
-use Rattle.amr_box.specs.Cells.{AreDisjoint, Extent, along, holds}
+use Rattle.amr_box.specs.Cells.{AreDisjoint, Extent, along, holds, in_boxes}
 use Rattle.amr_box.proofs.Numbers.{le_from}
-use Rattle.amr_def.specs.State.{in_boxes}
 use Rattle.amr_def.specs.Signature.{bounding, is_efficient, signature}
 use Rattle.amr_def.specs.Cut.{Cut, best_cut}
 use Rattle.amr_def.specs.Cluster.{cells_below, cells_from, cluster, cluster_within, cut_of, edge, parts}

@@ -8,11 +8,10 @@ use Rattle.std.specs.List.{filter}
 use Rattle.std.proofs.lemmas.Int.{ints}
 use Rattle.std.proofs.lemmas.List.{append-nil}
 use Rattle.amr_box.specs.declared.Cell.{Cell}
-use Rattle.amr_box.specs.Cells.{Extent, holds, along, below_cut, from_cut}
+use Rattle.amr_box.specs.Cells.{Extent, holds, along, below_cut, from_cut, in_boxes}
 use Rattle.amr_def.specs.Signature.{bounding}
 use Rattle.amr_def.specs.Cut.{Cut}
 use Rattle.amr_def.specs.Cluster.{cells_below, cells_from, cluster, cluster_within, cut_of, edge, parts}
-use Rattle.amr_def.specs.State.{in_boxes}
 use Rattle.amr_def.proofs.ClusterLaws.{Apart, ApartFrom, Disjoint, cluster-disjoint}
 use Rattle.amr_cluster.specs.Laws.{IsInside, IsRound}
 use Rattle.amr_cluster.specs.declared.cut_boxes.CutBox.{CutBox}

@@ -4,8 +4,7 @@ use Rattle.std.specs.declared.option.Option.TheVariants.{None}
 use Rattle.std.specs.List.{All, AllPairs, filter}
 use Rattle.amr_box.specs.declared.Cell.{Cell}
 use Rattle.amr_box.specs.declared.Axis.TheVariants.{X, Y}
-use Rattle.amr_box.specs.Cells.{AreDisjoint, Extent, along, holds}
-use Rattle.amr_def.specs.State.{in_boxes}
+use Rattle.amr_box.specs.Cells.{AreDisjoint, Extent, along, holds, in_boxes}
 use Rattle.amr_def.specs.Signature.{bounding, is_efficient, signature}
 use Rattle.amr_def.specs.Cut.{Cut, best_cut}
 use Rattle.amr_def.specs.Cluster.{cluster, cut_of, edge, parts}

@@ -5,11 +5,11 @@ use Rattle.std.specs.List.{All, AllZip, list_any}
 use Rattle.std.proofs.lemmas.Bool.{and_from, and_parts}
 use Rattle.std.proofs.lemmas.Int.{ints}
 use Rattle.amr_box.specs.declared.Cell.{Cell}
-use Rattle.amr_box.specs.Cells.{Extent, cell, holds, within}
+use Rattle.amr_box.specs.Cells.{Extent, cell, holds, moved, within}
 use Rattle.amr_box.proofs.Tests.{and_either}
 use Rattle.amr_box.proofs.Numbers.{is_between}
 use Rattle.amr_def.specs.declared.problem.Problem.{Problem}
-use Rattle.amr_def.specs.Domain.{Domain, domain, domain_box, home_cell, in_domain, moved}
+use Rattle.amr_def.specs.Domain.{Domain, domain, domain_box, home_cell, in_domain}
 use Rattle.amr_def.specs.Facts.{IsLevel}
 use Rattle.amr_def.specs.State.{Level, Masses}
 use Rattle.amr_def.specs.Tags.{differs_by, is_tagged_by, neighbours}

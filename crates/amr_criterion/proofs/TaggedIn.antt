@@ -4,10 +4,10 @@ use Rattle.std.specs.Prelude.{nat_le}
 use Rattle.std.proofs.lemmas.Int.{ints}
 use Rattle.amr_box.specs.declared.Cell.{Cell}
 use Rattle.amr_box.specs.declared.Axis.TheVariants.{X, Y}
-use Rattle.amr_box.specs.Cells.{Extent, cell, holds, within}
+use Rattle.amr_box.specs.Cells.{Extent, cell, holds, moved, within}
 use Rattle.amr_box.proofs.CellEquality.{same_cell}
 use Rattle.amr_box.proofs.Numbers.{is_between, less_and_more, minus_one, plus_zero}
-use Rattle.amr_def.specs.Domain.{Domain, home_cell, in_domain, is_inside, moved, wrapped}
+use Rattle.amr_def.specs.Domain.{Domain, home_cell, in_domain, is_inside, wrapped}
 use Rattle.std.specs.List.{list_any}
 use Rattle.amr_def.specs.Tags.{differs_by, neighbours}
 use Rattle.amr_ghost.specs.Filling.{LiesInDomain}

@@ -3,8 +3,8 @@ use Rattle.std.specs.Prelude.{ℕ, ◌<◌, Bool, true, false, ◌&&◌, ℤ, po
 use Rattle.std.specs.Int.{int_max, int_min}
 use Rattle.std.specs.List.{list_any}
 use Rattle.amr_box.specs.declared.Cell.{Cell}
-use Rattle.amr_box.specs.Cells.{Extent, cell, holds}
-use Rattle.amr_def.specs.Domain.{Domain, home_cell, in_domain, moved}
+use Rattle.amr_box.specs.Cells.{Extent, cell, holds, moved}
+use Rattle.amr_def.specs.Domain.{Domain, home_cell, in_domain}
 use Rattle.amr_def.specs.Tags.{differs_by, neighbours}
 use Rattle.amr_patch.specs.declared.patches.Patch.{Patch}
 use Rattle.amr_patch.specs.Patches.{box, value_in}

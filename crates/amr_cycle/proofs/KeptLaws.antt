@@ -5,9 +5,9 @@ use Rattle.std.specs.declared.option.Option.{Option}
 use Rattle.std.specs.declared.option.Option.TheVariants.{None, Some}
 use Rattle.std.specs.Global.{Vec}
 use Rattle.amr_box.specs.declared.Cell.{Cell}
-use Rattle.amr_box.specs.Cells.{Extent}
+use Rattle.amr_box.specs.Cells.{Extent, in_boxes}
 use Rattle.amr_def.specs.declared.problem.Problem.{Problem}
-use Rattle.amr_def.specs.State.{Level, in_boxes}
+use Rattle.amr_def.specs.State.{Level}
 use Rattle.amr_patch.specs.declared.levels.Level.{Level as Held}
 use Rattle.amr_patch.specs.declared.patches.Patch.{Patch}
 use Rattle.amr_patch.specs.Levels.{level_of}

@@ -3,11 +3,11 @@ use Rattle.std.proofs.Common.{◌≡◌, ℕ, true, ◌+◌, ◌-◌, ◌^◌, �
 use Rattle.std.specs.Prelude.{slice_index_or, IsTrue}
 use Rattle.std.specs.declared.option.Option.TheVariants.{None}
 use Rattle.amr_box.specs.declared.Cell.{Cell}
-use Rattle.amr_box.specs.Cells.{Extent}
+use Rattle.amr_box.specs.Cells.{Extent, in_boxes}
 use Rattle.amr_def.specs.declared.problem.Problem.{Problem}
 use Rattle.amr_def.specs.declared.problem.Row.{Row}
 use Rattle.amr_def.specs.Domain.{domain, domain_box, in_domain}
-use Rattle.amr_def.specs.State.{Level, Masses, State, in_boxes, level_at, no_masses}
+use Rattle.amr_def.specs.State.{Level, Masses, State, level_at, no_masses}
 use Rattle.amr_def.specs.LevelStep.{step}
 use Rattle.amr_def.specs.Ledger.{first_of, inflow, outflow, total_mass}
 use Rattle.amr_def.specs.Laws.{step_fluxes}

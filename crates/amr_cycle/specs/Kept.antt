@@ -1,8 +1,9 @@
 -- What the steps of levels keep from one to the next.
 use Rattle.std.specs.Prelude.{◌≡◌, ℕ, ◌+◌, ◌<◌, List, length, map, slice_index_or, is_some, IfSome}
 use Rattle.amr_box.specs.declared.Cell.{Cell}
+use Rattle.amr_box.specs.Cells.{in_boxes}
 use Rattle.amr_def.specs.declared.problem.Problem.{Problem}
-use Rattle.amr_def.specs.State.{Level, in_boxes}
+use Rattle.amr_def.specs.State.{Level}
 use Rattle.amr_patch.specs.declared.levels.Level.{Level as Held}
 use Rattle.amr_patch.specs.Levels.{level_of, patches_of}
 use Rattle.amr_patch.specs.Patches.{box}

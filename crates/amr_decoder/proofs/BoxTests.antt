@@ -7,13 +7,13 @@ use Rattle.std.proofs.lemmas.Int.{ints}
 use Rattle.std.proofs.lemmas.Nat.{mul-le}
 use Rattle.std.specs.List.{list_any}
 use Rattle.std.proofs.lemmas.Bool.{and_parts, eqb-true}
-use Rattle.amr_box.specs.Cells.{Extent}
+use Rattle.amr_box.specs.Cells.{Extent, is_proper}
 use Rattle.amr_def.specs.declared.problem.Problem.{Problem}
 use Rattle.amr_def.specs.Limits.{is_blocking}
 use Rattle.amr_def.specs.Domain.{domain, domain_box}
 use Rattle.amr_decoder.specs.declared.boxes.Corners.{Corners}
 use Rattle.amr_decoder.specs.Boxes.{IsSmall}
-use Rattle.amr_payload.specs.Tests.{is_aligned, is_box_of, is_proper, is_same_box, lies_in, meets}
+use Rattle.amr_payload.specs.Tests.{is_aligned, is_box_of, is_same_box, lies_in, meets}
 
 blocking_from : (b : ℕ) → is_blocking b ≡ true → 1 ≤ b
 blocking_from zero h = absurd (cc)

@@ -8,9 +8,8 @@ use Rattle.std.proofs.lemmas.Int.{ints}
 use Rattle.std.proofs.lemmas.Bool.{both_ways, cases_lt, false_from_ne_true, or_parts}
 use Rattle.std.proofs.lemmas.List.{get_or-drop, get_or-take}
 use Rattle.amr_box.specs.declared.Cell.{Cell}
-use Rattle.amr_box.specs.Cells.{Extent, IsNear, cell, holds, height, width}
+use Rattle.amr_box.specs.Cells.{Extent, IsNear, cell, holds, height, width, in_boxes}
 use Rattle.amr_patch.specs.declared.patches.Patch.{Patch}
-use Rattle.amr_def.specs.State.{in_boxes}
 use Rattle.amr_patch.specs.Patches.{ArePatchesApart, SameBeside, box, mass_in, masses_in}
 use Rattle.amr_patch.proofs.Entries.{in_grown}
 use Rattle.amr_patch.proofs.LevelLaws.{boxes_set, masses_set_same}

@@ -8,8 +8,8 @@ use Rattle.std.proofs.lemmas.Bool.{both_ways, false_from_ne_true, or_cases}
 use Rattle.std.proofs.lemmas.Grind.{take_at_read}
 use Rattle.std.proofs.lemmas.List.{length-map, map-append}
 use Rattle.amr_box.specs.declared.Cell.{Cell}
-use Rattle.amr_box.specs.Cells.{Extent, holds}
-use Rattle.amr_def.specs.State.{Level, in_boxes}
+use Rattle.amr_box.specs.Cells.{Extent, holds, in_boxes}
+use Rattle.amr_def.specs.State.{Level}
 use Rattle.amr_def.proofs.Uncovered.{no_mass}
 use Rattle.amr_patch.specs.declared.patches.Patch.{Patch}
 use Rattle.amr_patch.specs.Patches.{AreApart, box, in_patches, mass_in, masses_in}

@@ -3,12 +3,12 @@ use Rattle.std.proofs.Common.{◌≡◌, ℕ, zero, suc, ◌+◌, ◌<◌, ◌�
 use Rattle.std.specs.Prelude.{is_some}
 use Rattle.std.proofs.lemmas.Int.{ints}
 use Rattle.amr_box.specs.declared.Cell.{Cell}
-use Rattle.amr_box.specs.Cells.{Extent, IsNear, at_least_zero, cell, height, width}
+use Rattle.amr_box.specs.Cells.{Extent, IsNear, at_least_zero, cell, height, in_boxes, width}
 use Rattle.amr_patch.specs.BoxRows.{HasCellsOf, mass_in}
 use Rattle.amr_def.specs.declared.problem.Problem.{Problem}
 use Rattle.amr_def.specs.Domain.{columns, domain, domain_box, rows}
 use Rattle.amr_def.specs.Ledger.{sum_to, total_mass}
-use Rattle.amr_def.specs.State.{in_boxes, mass_of}
+use Rattle.amr_def.specs.State.{mass_of}
 use Rattle.amr_patch.specs.declared.levels.Level.{Level}
 use Rattle.amr_patch.specs.Levels.{level_of}
 use Rattle.amr_start.proofs.Bases.{sum_to-same_below}

@@ -9,15 +9,13 @@ use Rattle.std.proofs.lemmas.Bool.{and_from, and_parts, both_ways, or_cases, or_
 use Rattle.std.proofs.lemmas.List.{map-append, reverse-append}
 use Rattle.std.proofs.lemmas.List.Folds.{list_any-append}
 use Rattle.amr_box.specs.declared.Cell.{Cell}
-use Rattle.amr_box.specs.Cells.{Extent, common, half, holds}
+use Rattle.amr_box.specs.Cells.{Extent, common, half, holds, in_boxes, parents_of}
 use Rattle.amr_def.specs.declared.problem.Problem.{Problem}
 use Rattle.amr_def.specs.Domain.{domain, domain_box, in_domain}
-use Rattle.amr_def.specs.State.{in_boxes}
 use Rattle.amr_def.proofs.Courants.{twice_as_many}
 use Rattle.amr_def.proofs.Nesting.{aligned_even, in_domain-inside}
 use Rattle.amr_def.proofs.Nests.{even_is, odd_is}
 use Rattle.amr_tags.proofs.Places.{in_holds, is_in}
-use Rattle.amr_tags.specs.Coarse.{parents_of}
 use Rattle.amr_payload.specs.Tests.{is_box_of, meets}
 use Rattle.amr_payload.proofs.GridLevels.{aligned_is, fine_box, is_proper_from, meeting_cell, meets_at, proper_is}
 use Rattle.amr_decoder.specs.declared.grid.Grid.{Grid}

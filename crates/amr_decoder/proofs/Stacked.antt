@@ -3,12 +3,12 @@ use Rattle.std.proofs.Common.{◌≡◌, ℕ, suc, ◌<◌, Bool, true, List, []
 use Rattle.std.proofs.lemmas.Int.{ints}
 use Rattle.std.proofs.lemmas.Bool.{or_cases}
 use Rattle.amr_box.specs.declared.Cell.{Cell}
-use Rattle.amr_box.specs.Cells.{Extent, HasCorners, child, half, has_child_where, holds, parent}
+use Rattle.amr_box.specs.Cells.{Extent, HasCorners, child, half, has_child_where, holds, in_boxes, parent}
 use Rattle.amr_box.proofs.Children.{by_child, child_passes}
 use Rattle.amr_def.specs.declared.problem.Problem.{Problem}
 use Rattle.amr_def.specs.Domain.{domain, in_domain}
 use Rattle.amr_def.specs.Facts.{IsLevel, IsNestedLevel}
-use Rattle.amr_def.specs.State.{Level, in_boxes, is_covered, is_covered_by}
+use Rattle.amr_def.specs.State.{Level, is_covered, is_covered_by}
 use Rattle.amr_def.proofs.Nesting.{covered_boxes, covered_inside, in_domain-inside, odd_small, parent_inside}
 use Rattle.amr_def.proofs.Nests.{half_and_odd}
 use Rattle.amr_def.proofs.Uncovered.{in_domain-yes}

@@ -2,12 +2,10 @@
 use Rattle.std.specs.Prelude.{◌≡◌, ℕ, ◌-◌, ◌<◌, ◌&&◌, pos, ◌+ℤ◌, List, reverse, map, IsTrue}
 use Rattle.std.specs.List.{All}
 use Rattle.amr_box.specs.declared.Cell.{Cell}
-use Rattle.amr_box.specs.Cells.{Extent, half, holds}
+use Rattle.amr_box.specs.Cells.{Extent, half, holds, in_boxes, parents_of}
 use Rattle.amr_def.specs.declared.problem.Problem.{Problem}
 use Rattle.amr_def.specs.Domain.{domain, domain_box}
-use Rattle.amr_def.specs.State.{in_boxes}
 use Rattle.amr_tags.specs.TagSets.{TagSet, has}
-use Rattle.amr_tags.specs.Coarse.{parents_of}
 use Rattle.amr_decoder.specs.declared.grid.Grid.{Grid}
 use Rattle.amr_decoder.specs.Grids.{boxes_of}
 

@@ -1,9 +1,9 @@
 //! The box of a payload: read, and tested by itself and against the earlier ones.
 
 ghost use Rattle.std.specs.Prelude.{◌≡◌, ◌&&◌, ◌≤◌, ◌<◌, ◌^◌, [], pos, IfOk, IfErr, IsTrue};
-ghost use Rattle.amr_box.specs.Cells.{IsNear, cell};
+ghost use Rattle.amr_box.specs.Cells.{IsNear, cell, is_proper};
 ghost use Rattle.amr_def.specs.Domain.{domain_box, domain_of, in_domain};
-ghost use Rattle.amr_payload.specs.Tests.{is_aligned, is_box_of, is_multiple, is_proper, is_same_box, lies_in, read, read_box};
+ghost use Rattle.amr_payload.specs.Tests.{is_aligned, is_box_of, is_multiple, is_same_box, lies_in, read, read_box};
 ghost use Rattle.amr_decoder.specs.Boxes.{IsSmall, box_at};
 ghost use Rattle.amr_decoder.specs.Faults.{IsFaultOf};
 ghost use Rattle.amr_decoder.specs.Lefts.{left_of, whole_of};

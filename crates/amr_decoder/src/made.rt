@@ -3,8 +3,8 @@
 ghost use Rattle.std.specs.Prelude.{◌≡◌, ◌≤◌, cond, Some, None, map, IfOk};
 ghost use Rattle.std.specs.List.{All};
 ghost use Rattle.amr_box.specs.declared.Cell.{Cell};
+ghost use Rattle.amr_box.specs.Cells.{in_boxes};
 ghost use Rattle.amr_codec.specs.MassWidths.{width_of};
-ghost use Rattle.amr_def.specs.State.{in_boxes};
 ghost use Rattle.amr_patch.specs.Levels.{level_of};
 ghost use Rattle.amr_patch.specs.Patches.{AreApart, AreNear};
 ghost use Rattle.amr_payload.specs.Tests as tests;

@@ -14,13 +14,12 @@ use Rattle.std.proofs.lemmas.List.Folds.{list_any-append}
 use Rattle.amr_box.specs.declared.Cell.{Cell}
 use Rattle.amr_box.specs.declared.Axis.{Axis}
 use Rattle.amr_box.specs.declared.Axis.TheVariants.{X, Y}
-use Rattle.amr_box.specs.Cells.{Extent, IsProper, extent, holds, within}
+use Rattle.amr_box.specs.Cells.{Extent, IsProper, extent, holds, in_boxes, within}
 use Rattle.amr_def.specs.Cluster.{edge, cells_below, cells_from, parts, cut_of, cluster_within, cluster}
 use Rattle.amr_box.specs.Cells.{along}
 use Rattle.amr_box.proofs.Numbers.{le_from}
 use Rattle.amr_def.specs.Signature.{grown_to, bounding}
 use Rattle.amr_def.specs.Cut.{Cut}
-use Rattle.amr_def.specs.State.{in_boxes}
 
 -- a fact of each cell of a list
 abbrev pub Each : (Cell → Type 0) → List Cell → Type 0

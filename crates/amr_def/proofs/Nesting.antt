@@ -10,12 +10,12 @@ use Rattle.std.proofs.Math.Nat.{mod-add-mod, mul-le-mul_left}
 use Rattle.amr_box.specs.declared.Cell.{Cell}
 use Rattle.amr_box.specs.declared.Axis.{Axis}
 use Rattle.amr_box.specs.declared.Axis.TheVariants.{X, Y}
-use Rattle.amr_box.specs.Cells.{cell, has_child_where, Extent, half}
+use Rattle.amr_box.specs.Cells.{cell, has_child_where, Extent, half, moved, in_boxes, square}
 use Rattle.amr_box.proofs.Numbers.{less_and_more, plus_minus_one}
 use Rattle.amr_def.specs.declared.problem.Problem.{Problem}
 use Rattle.amr_def.specs.Limits.{is_blocking}
-use Rattle.amr_def.specs.Domain.{Domain, domain, columns, rows, is_periodic, wrapped, home_cell, in_domain, is_inside, moved, square, is_near}
-use Rattle.amr_def.specs.State.{Masses, Level, in_boxes, is_covered, is_covered_by}
+use Rattle.amr_def.specs.Domain.{Domain, domain, columns, rows, is_periodic, wrapped, home_cell, in_domain, is_inside, is_near}
+use Rattle.amr_def.specs.State.{Masses, Level, is_covered, is_covered_by}
 use Rattle.amr_def.specs.Flux.{low_cell, high_cell, face}
 use Rattle.amr_def.specs.Regrid.{odd}
 use Rattle.amr_def.specs.Facts.{IsAligned, IsLevel, IsNestedLevel}

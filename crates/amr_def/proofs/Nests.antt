@@ -3,9 +3,9 @@ use Rattle.std.proofs.Common.{◌≡◌, ℕ, zero, suc, ◌+◌, ◌*◌, ◌/�
 use Rattle.std.specs.Prelude.{int_le, nat_lt}
 use Rattle.std.proofs.lemmas.Int.{ints}
 use Rattle.amr_box.specs.declared.Cell.{Cell}
-use Rattle.amr_box.specs.Cells.{Extent, holds, within, half}
+use Rattle.amr_box.specs.Cells.{Extent, holds, within, half, in_boxes}
 use Rattle.amr_def.proofs.Children.{covered_by}
-use Rattle.amr_def.specs.State.{Masses, in_boxes}
+use Rattle.amr_def.specs.State.{Masses}
 use Rattle.amr_def.proofs.LevelLists.{child_0, child_1, child_2, child_3}
 use Rattle.amr_def.proofs.LevelLists.{HasAllChildren}
 use Rattle.amr_def.specs.Regrid.{share, odd}

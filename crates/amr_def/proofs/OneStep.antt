@@ -3,9 +3,10 @@ use Rattle.std.proofs.Common.{◌≡◌, ℕ, zero, suc, ◌+◌, ◌*◌, ◌^�
 use Rattle.std.proofs.lemmas.Nat.{mul-le}
 use Rattle.std.proofs.Math.Nat.{pow-suc}
 use Rattle.amr_box.specs.declared.Cell.{Cell}
+use Rattle.amr_box.specs.Cells.{in_boxes}
 use Rattle.amr_def.specs.declared.problem.Problem.{Problem}
 use Rattle.amr_def.specs.declared.problem.Row.{Row}
-use Rattle.amr_def.specs.State.{Masses, Level, State, level_at, in_boxes, mass_of}
+use Rattle.amr_def.specs.State.{Masses, Level, State, level_at, mass_of}
 use Rattle.amr_def.specs.Flux.{net}
 use Rattle.amr_def.specs.Ledger.{total_mass, inflow, outflow}
 use Rattle.amr_def.specs.Run.{stepped}

@@ -42,7 +42,7 @@ pub record Takes (c : ℤ) (d v : ℕ) (z : ℤ) : Type 0 where
   pub is : z ≡ signed c size
   pub at_least : unsigned_abs c * v ≤ d * size + 7 * d
 
-signed_sum : (c : ℤ) (a b e f : ℕ) → (signed c a +ℤ signed c b) +ℤ (signed c e +ℤ signed c f) ≡ signed c (a + b + e + f)
+pub signed_sum : (c : ℤ) (a b e f : ℕ) → (signed c a +ℤ signed c b) +ℤ (signed c e +ℤ signed c f) ≡ signed c (a + b + e + f)
 signed_sum (pos k) a b e f = omega (arith, ints)
 signed_sum (negsuc k) a b e f = omega (arith, ints)
 

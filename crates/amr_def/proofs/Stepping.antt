@@ -4,13 +4,13 @@ use Rattle.std.specs.Prelude.{int_le}
 use Rattle.std.proofs.lemmas.Int.{ints}
 use Rattle.std.proofs.lemmas.Bool.Decides.{nat_tests}
 use Rattle.amr_box.specs.declared.Cell.{Cell}
-use Rattle.amr_box.specs.Cells.{cell}
+use Rattle.amr_box.specs.Cells.{cell, in_boxes}
 use Rattle.amr_def.specs.declared.problem.Problem.{Problem}
 use Rattle.amr_def.specs.declared.problem.Sides.{Sides}
 use Rattle.amr_def.specs.declared.problem.Sides.TheVariants.{Periodic, Open}
 use Rattle.amr_def.specs.Limits.{has_inflows}
 use Rattle.amr_def.specs.Domain.{domain, domain_box, columns, rows}
-use Rattle.amr_def.specs.State.{Masses, Level, in_boxes, mass_of}
+use Rattle.amr_def.specs.State.{Masses, Level, mass_of}
 use Rattle.amr_def.specs.Value.{low_inflow, high_inflow, inflow_at}
 use Rattle.amr_def.specs.Ledger.{first_of}
 use Rattle.amr_def.specs.Run.{with_masses}

@@ -3,7 +3,7 @@ use Rattle.std.specs.Prelude.{ℕ, ◌*◌, ◌/◌, ◌^◌, Bool, true, false,
 use Rattle.std.specs.List.{filter, list_any}
 use Rattle.std.specs.Int.{int_rem_euclid}
 use Rattle.amr_box.specs.declared.Cell.{Cell}
-use Rattle.amr_box.specs.Cells.{cell, extent, Extent, cells_of}
+use Rattle.amr_box.specs.Cells.{cell, extent, Extent, cells_of, moved, square}
 use Rattle.amr_def.specs.declared.problem.Problem.{Problem}
 use Rattle.amr_def.specs.declared.problem.Sides.{Sides}
 use Rattle.amr_def.specs.declared.problem.Sides.TheVariants.{Periodic, Open}
@@ -62,13 +62,6 @@ abbrev pub cells_where : Domain → (Cell → Bool) → List Cell
 cells_where d test = filter test (cells_of (domain_box d))
 
 -- ---- what lies near a cell
-
-abbrev pub moved : Cell → Cell → Cell
-moved c o = cell (c.x +ℤ o.x) (c.y +ℤ o.y)
-
--- the offsets of the cells at most n away on both axes
-abbrev pub square : ℕ → List Cell
-square n = cells_of (extent (cell (pos 0 -ℤ pos n) (pos 0 -ℤ pos n)) (cell (pos n) (pos n)))
 
 -- whether a cell that passes a test is at most n away on both axes, past the end of a periodic axis too
 abbrev pub is_near : Domain → ℕ → (Cell → Bool) → Cell → Bool

@@ -4,11 +4,11 @@ use Rattle.std.specs.Prelude.{◌≡◌, ℕ, ◌+◌, ◌*◌, ◌^◌, ◌<◌
 use Rattle.std.specs.List.{All, AllPairs}
 use Rattle.std.specs.Int.{int_rem_euclid}
 use Rattle.amr_box.specs.declared.Cell.{Cell}
-use Rattle.amr_box.specs.Cells.{Extent, IsProper, holds}
+use Rattle.amr_box.specs.Cells.{Extent, IsProper, holds, in_boxes}
 use Rattle.amr_def.specs.declared.problem.Problem.{Problem}
 use Rattle.amr_def.specs.declared.problem.Row.{Row}
 use Rattle.amr_def.specs.Domain.{Domain, domain, domain_box, in_domain, is_near}
-use Rattle.amr_def.specs.State.{Level, State, level_at, in_boxes, is_covered, is_covered_by, mass_of, children_mass}
+use Rattle.amr_def.specs.State.{Level, State, level_at, is_covered, is_covered_by, mass_of, children_mass}
 use Rattle.amr_def.specs.Ledger.{total_mass}
 use Rattle.amr_def.specs.Tags.{is_tagged}
 

@@ -1,8 +1,9 @@
 -- Laws of the definitions, each of which a call of `laws` ensures.
 use Rattle.std.specs.Prelude.{◌≡◌, ℕ, ◌+◌, ◌^◌, ◌<◌, ◌≤◌, pos, ◌+ℤ◌, map, IsTrue}
 use Rattle.amr_box.specs.declared.Cell.{Cell}
+use Rattle.amr_box.specs.Cells.{in_boxes}
 use Rattle.amr_def.specs.declared.problem.Problem.{Problem}
-use Rattle.amr_def.specs.State.{State, level_at, in_boxes, no_masses, mass_of}
+use Rattle.amr_def.specs.State.{State, level_at, no_masses, mass_of}
 use Rattle.amr_def.specs.Flux.{Fluxes, net}
 use Rattle.amr_def.specs.LevelStep.{step}
 use Rattle.amr_def.specs.Ledger.{total_mass, inflow, outflow}

@@ -4,9 +4,9 @@ use Rattle.std.specs.declared.option.Option.TheVariants.{None, Some}
 use Rattle.std.specs.Option.{unwrap_or}
 use Rattle.std.specs.Int.{int_rem_euclid}
 use Rattle.amr_box.specs.declared.Cell.{Cell}
-use Rattle.amr_box.specs.Cells.{Extent, parent}
+use Rattle.amr_box.specs.Cells.{Extent, in_boxes, parent}
 use Rattle.amr_def.specs.declared.problem.Problem.{Problem}
-use Rattle.amr_def.specs.State.{Masses, Level, State, no_masses, mass_of, in_boxes}
+use Rattle.amr_def.specs.State.{Masses, Level, State, no_masses, mass_of}
 use Rattle.amr_def.specs.Tags.{is_tagged}
 use Rattle.amr_def.specs.NewBoxes.{new_boxes}
 

@@ -3,9 +3,8 @@ use Rattle.std.specs.Prelude.{ℕ, zero, suc, ◌+◌, Bool, List, [], slice_ind
 use Rattle.std.specs.declared.option.Option.{Option}
 use Rattle.std.specs.declared.option.Option.TheVariants.{None}
 use Rattle.std.specs.Option.{unwrap_or}
-use Rattle.std.specs.List.{list_any}
 use Rattle.amr_box.specs.declared.Cell.{Cell}
-use Rattle.amr_box.specs.Cells.{child, has_child_where, Extent, holds}
+use Rattle.amr_box.specs.Cells.{child, has_child_where, Extent, in_boxes}
 use Rattle.amr_def.specs.declared.problem.Row.{Row}
 
 -- the masses of the cells of a level, none at a cell that is not of the level
@@ -39,10 +38,6 @@ level_at s l = slice_index_or s.levels l no_level
 abbrev pub masses_below : State → ℕ → Masses
 masses_below s zero = no_masses
 masses_below s (suc l) = (level_at s l).masses
-
--- whether a cell lies in one of the boxes
-abbrev pub in_boxes : List Extent → Cell → Bool
-in_boxes bs c = list_any (λ b. holds b c) bs
 
 -- whether boxes of the finer level cover a cell: it is the parent of one of their cells
 abbrev pub is_covered_by : List Extent → Cell → Bool

@@ -2,9 +2,9 @@
 use Rattle.std.specs.Prelude.{ℕ, ◌+◌, ◌-◌, Bool, ◌&&◌, pos, negsuc, List, [], ◌∷◌, nat_le, slice_index, is_some}
 use Rattle.std.specs.List.{list_any}
 use Rattle.amr_box.specs.declared.Cell.{Cell}
-use Rattle.amr_box.specs.Cells.{cell}
+use Rattle.amr_box.specs.Cells.{cell, moved}
 use Rattle.amr_def.specs.declared.problem.Problem.{Problem}
-use Rattle.amr_def.specs.Domain.{domain, home_cell, in_domain, moved, is_near}
+use Rattle.amr_def.specs.Domain.{domain, home_cell, in_domain, is_near}
 use Rattle.amr_def.specs.State.{Masses, State, level_at, masses_below}
 use Rattle.amr_def.specs.Value.{value_at}
 

@@ -8,12 +8,12 @@ use Rattle.std.proofs.lemmas.Bool.{and_parts, false_from_ne_true, not-true}
 use Rattle.std.proofs.lemmas.List.Folds.{list_any_at}
 use Rattle.amr_box.specs.declared.Cell.{Cell}
 use Rattle.amr_box.specs.declared.Face.{Face}
-use Rattle.amr_box.specs.Cells.{Extent, IsNear, cell, half, height, holds, parent, width}
+use Rattle.amr_box.specs.Cells.{Extent, IsNear, cell, half, height, holds, moved, parent, square, width}
 use Rattle.amr_box.proofs.CellEquality.{same_cell}
 use Rattle.amr_box.proofs.Children.{child_of_parent}
 use Rattle.amr_box.proofs.Tests.{opposite}
 use Rattle.amr_def.specs.declared.problem.Problem.{Problem}
-use Rattle.amr_def.specs.Domain.{domain, home_cell, in_domain, moved, square}
+use Rattle.amr_def.specs.Domain.{domain, home_cell, in_domain}
 use Rattle.amr_def.specs.Facts.{IsLevel, IsNestedLevel}
 use Rattle.amr_def.specs.Flux.{high_cell, low_cell}
 use Rattle.amr_def.specs.Regrid.{odd}

@@ -6,16 +6,16 @@ use Rattle.std.proofs.lemmas.Bool.{false_from_ne_true}
 use Rattle.amr_box.specs.declared.Cell.{Cell}
 use Rattle.amr_box.specs.declared.Face.{Face}
 use Rattle.amr_box.specs.declared.Axis.TheVariants.{X, Y}
-use Rattle.amr_box.specs.Cells.{Extent, IsNear, cell, height, holds, is_same_cell, parent, width}
+use Rattle.amr_box.specs.Cells.{Extent, IsNear, cell, height, holds, is_same_cell, moved, parent, width}
 use Rattle.amr_box.proofs.Numbers.{minus_one}
 use Rattle.amr_def.specs.declared.problem.Problem.{Problem}
-use Rattle.amr_def.specs.Domain.{domain, in_domain, moved}
+use Rattle.amr_def.specs.Domain.{domain, in_domain}
 use Rattle.amr_def.specs.State.{Masses, is_covered}
 use Rattle.amr_def.specs.Flux.{courant, flux_at, high_cell, low_cell}
 use Rattle.amr_def.specs.Value.{value_at}
 use Rattle.amr_def.proofs.LevelLists.{IsCellInside}
 use Rattle.amr_def.proofs.Values.{same_cell as same_corner}
-use Rattle.amr_def.proofs.Sums.{sum_z}
+use Rattle.amr_def.proofs.Sums.{sum_z, sum_z-same}
 use Rattle.amr_patch.specs.declared.patches.Patch.{Patch}
 use Rattle.amr_patch.specs.Patches.{in_patches}
 use Rattle.amr_patch.proofs.Rows.{inside}
@@ -26,7 +26,7 @@ use Rattle.amr_layout.specs.Adds.{cell_beyond, flow_to, flows_of, inflow_faces, 
 use Rattle.amr_register.specs.CoarseFlows.{high_face, low_face}
 use Rattle.amr_register.specs.RegisterCells.{register_cells}
 use Rattle.amr_flows.specs.Laws.{plain_size}
-use Rattle.amr_flows.proofs.RegisterFlowsSums.{below_same, over_append, over_edges, over_map, over_none, over_passing, sum_over, totals_apart}
+use Rattle.amr_flows.proofs.RegisterFlowsSums.{over_append, over_edges, over_map, over_none, over_passing, sum_over, totals_apart}
 use Rattle.amr_flows.proofs.RegisterFlowsSigns.{apart_by_words, has_number, other_word, outward_of, part_of_face, register_cells_rise}
 use Rattle.amr_flows.proofs.RegisterFlowsSides.{along_edge, gate, lies_in}
 use Rattle.amr_flows.proofs.RegisterFlowsCrossings.{east, edge_east, edge_north, edge_south, edge_west, north, south, cross_east, cross_north, cross_south, cross_west, west}
@@ -69,7 +69,7 @@ module _ (p : Problem) (l : ℕ) (coarse fine old finer : Masses) (ps : List Pat
   to_registers b =
       over_map difference (λ f. record { word = word_of level b f; face = f }) (passing (is_exchange_face level b) (edge_face b) (edge_count b))
       ∙ over_passing (λ f. difference (record { word = word_of level b f; face = f })) (is_exchange_face level b) (edge_face b) (edge_count b)
-      ∙ below_same (λ n. cond (is_exchange_face level b (edge_face b n)) (difference (record { word = word_of level b (edge_face b n); face = edge_face b n })) (pos 0)) (λ n. part b (edge_face b n)) (edge_count b) (λ n lt. face_part b (edge_face b n))
+      ∙ sum_z-same (λ n. cond (is_exchange_face level b (edge_face b n)) (difference (record { word = word_of level b (edge_face b n); face = edge_face b n })) (pos 0)) (λ n. part b (edge_face b n)) (edge_count b) (λ n lt. face_part b (edge_face b n))
 
   no_others : (b : Extent) → sum_over difference (flows_of level b) ≡ sum_over difference (register_flows level b)
   unfolding flows_of
@@ -141,15 +141,15 @@ module _ (p : Problem) (l : ℕ) (coarse fine old finer : Masses) (ps : List Pat
     by_gates =
         let c = goal_cell in
         let w : sum_z (λ j. part b (x_start b j)) (height b) ≡ from_gates b east (λ i. child_of c true i) out_west =
-        below_same (λ j. part b (x_start b j)) _ (height b) (west_part b near)
+        sum_z-same (λ j. part b (x_start b j)) _ (height b) (west_part b near)
         ∙ along_edge p l fine (in_patches ps) c inside_goal tells free west east (λ i. child_of c true i) (λ i. child_of c false i) (cross_west c) b (height b) (λ j. cell b.lo.x (b.lo.y +ℤ pos j)) (edge_west b near) lies of_level out_west in
         let e : sum_z (λ j. part b (x_end b j)) (height b) ≡ from_gates b west (λ i. child_of c false i) out_east =
-        below_same (λ j. part b (x_end b j)) _ (height b) (east_part b near)
+        sum_z-same (λ j. part b (x_end b j)) _ (height b) (east_part b near)
         ∙ along_edge p l fine (in_patches ps) c inside_goal tells free east west (λ i. child_of c false i) (λ i. child_of c true i) (cross_east c) b (height b) (λ j. cell b.hi.x (b.lo.y +ℤ pos j)) (edge_east b near) lies of_level out_east in
         let s : sum_z (λ j. part b (y_start b j)) (width b) ≡ from_gates b north (λ i. child_of c i true) out_south =
-        below_same (λ j. part b (y_start b j)) _ (width b) (south_part b near)
+        sum_z-same (λ j. part b (y_start b j)) _ (width b) (south_part b near)
         ∙ along_edge p l fine (in_patches ps) c inside_goal tells free south north (λ i. child_of c i true) (λ i. child_of c i false) (cross_south c) b (width b) (λ j. cell (b.lo.x +ℤ pos j) b.lo.y) (edge_south b near) lies of_level out_south in
         let n : sum_z (λ j. part b (y_end b j)) (width b) ≡ from_gates b south (λ i. child_of c i false) out_north =
-        below_same (λ j. part b (y_end b j)) _ (width b) (north_part b near)
+        sum_z-same (λ j. part b (y_end b j)) _ (width b) (north_part b near)
         ∙ along_edge p l fine (in_patches ps) c inside_goal tells free north south (λ i. child_of c i false) (λ i. child_of c i true) (cross_north c) b (width b) (λ j. cell (b.lo.x +ℤ pos j) b.hi.y) (edge_north b near) lies of_level out_north in
         box_parts b ∙ (λ i. (w i +ℤ e i) +ℤ (s i +ℤ n i))

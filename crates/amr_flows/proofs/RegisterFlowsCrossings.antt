@@ -2,8 +2,7 @@
 use Rattle.std.proofs.Common.{◌≡◌, ℕ, zero, suc, ◌⊎◌, inl, inr, Bool, true, false, ℤ, pos, negsuc, ◌+ℤ◌, ◌-ℤ◌, ◌≤ℤ◌, refl, ap, arith}
 use Rattle.std.proofs.lemmas.Int.{ints}
 use Rattle.amr_box.specs.declared.Cell.{Cell}
-use Rattle.amr_box.specs.Cells.{Extent, IsNear, cell, height, width}
-use Rattle.amr_def.specs.Domain.{moved}
+use Rattle.amr_box.specs.Cells.{Extent, IsNear, cell, height, moved, width}
 use Rattle.amr_def.proofs.Values.{same_cell}
 use Rattle.amr_patch.proofs.Rows.{inside, is_inside, sides}
 use Rattle.amr_flows.proofs.RegisterFlowsCells.{plus_none, child_of}

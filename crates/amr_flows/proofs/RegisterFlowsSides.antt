@@ -4,17 +4,17 @@ use Rattle.std.specs.Prelude.{not}
 use Rattle.std.proofs.lemmas.Int.{ints}
 use Rattle.std.proofs.lemmas.Bool.{and_from, and_parts, cond-false, cond-true, false_from_ne_true, not_from_false}
 use Rattle.amr_box.specs.declared.Cell.{Cell}
-use Rattle.amr_box.specs.Cells.{Extent, holds, is_same_cell, parent}
+use Rattle.amr_box.specs.Cells.{Extent, holds, is_same_cell, moved, parent}
 use Rattle.amr_box.proofs.CellEquality.{coordinates_itself, coordinates_same}
 use Rattle.amr_box.proofs.Tests.{opposite}
 use Rattle.amr_def.specs.declared.problem.Problem.{Problem}
-use Rattle.amr_def.specs.Domain.{domain, home_cell, in_domain, moved}
+use Rattle.amr_def.specs.Domain.{domain, home_cell, in_domain}
 use Rattle.amr_def.specs.State.{Masses, is_covered}
 use Rattle.amr_def.proofs.LevelLists.{IsCellInside}
 use Rattle.amr_def.proofs.Nesting.{home_shift, in_domain-inside}
 use Rattle.amr_def.proofs.Uncovered.{home_at, in_domain-yes}
-use Rattle.amr_def.proofs.Sums.{sum_z}
-use Rattle.amr_flows.proofs.RegisterFlowsSums.{below_same, below_sum, none_below, one_below}
+use Rattle.amr_def.proofs.Sums.{sum_z, sum_z-add, sum_z-same}
+use Rattle.amr_flows.proofs.RegisterFlowsSums.{none_below, one_below}
 use Rattle.amr_flows.proofs.RegisterFlowsCells.{parent_of, child_of, child_of-home, child_of-inside, is_child_of}
 
 -- an offset by which no coordinate falls by more than 1
@@ -174,7 +174,7 @@ module _ (p : Problem) (l : ℕ) (fine : Masses) (there : Cell → Bool) (c : Ce
       -- along the side of the box
       pub along_edge : (value : Cell → ℤ) → sum_z (λ j. cond (into (moved (u j) to)) (value (u j)) (pos 0)) n ≡ cond (holds b (at false)) (value (at false)) (pos 0) +ℤ cond (holds b (at true)) (value (at true)) (pos 0)
       along_edge value =
-          below_same _ (λ j. cond (is_same_cell (u j) (at false)) (value (at false)) (pos 0) +ℤ cond (is_same_cell (u j) (at true)) (value (at true)) (pos 0)) n
+          sum_z-same _ (λ j. cond (is_same_cell (u j) (at false)) (value (at false)) (pos 0) +ℤ cond (is_same_cell (u j) (at true)) (value (at true)) (pos 0)) n
           (λ j lt. by_gates (u j) (own_cell (u j) (edge.held j lt)) (of_level (u j) (edge.held j lt)) value)
-          ∙ below_sum (λ j. cond (is_same_cell (u j) (at false)) (value (at false)) (pos 0)) (λ j. cond (is_same_cell (u j) (at true)) (value (at true)) (pos 0)) n
+          ∙ sum_z-add (λ j. cond (is_same_cell (u j) (at false)) (value (at false)) (pos 0)) (λ j. cond (is_same_cell (u j) (at true)) (value (at true)) (pos 0)) n
           ∙ (λ i. at_gate false (value (at false)) i +ℤ at_gate true (value (at true)) i)

@@ -9,7 +9,7 @@ use Rattle.amr_phase.specs.Plans.{total}
 use Rattle.amr_flux.specs.Faces.{passing, x_end, y_end}
 use Rattle.amr_layout.specs.Surroundings.{edge_count, edge_face, x_start, y_start}
 use Rattle.amr_layout.proofs.Edges.{edge_east, edge_north, edge_south, edge_west}
-use Rattle.amr_def.proofs.Sums.{sum_z}
+use Rattle.amr_def.proofs.Sums.{sum_z, sum_z-same}
 
 -- the values of g, added up
 abbrev pub sum_over : {X : Type 0} → (X → ℤ) → List X → ℤ
@@ -53,17 +53,6 @@ over_map g f [] = refl
 over_map g f (x ∷ xs) = ap (λ z. g (f x) +ℤ z) (over_map g f xs)
 
 -- ---- over numbers
-
-pub below_same : (f g : ℕ → ℤ) (n : ℕ) → ((i : ℕ) → i < n → f i ≡ g i) → sum_z f n ≡ sum_z g n
-below_same f g zero h = refl
-below_same f g (suc n) h = λ i. below_same f g n (λ k lt. h k (omega arith)) i +ℤ h n (omega arith) i
-
-pub below_sum : (f g : ℕ → ℤ) (n : ℕ) → sum_z (λ i. f i +ℤ g i) n ≡ sum_z f n +ℤ sum_z g n
-below_sum f g zero = refl
-below_sum f g (suc n) =
-    let rest = below_sum f g n in
-    let r : sum_z (λ i. f i +ℤ g i) n +ℤ (f n +ℤ g n) ≡ (sum_z f n +ℤ f n) +ℤ (sum_z g n +ℤ g n) = omega (arith, ints, rest) in
-    r
 
 pub below_split : (g : ℕ → ℤ) (m n : ℕ) → sum_z g (m + n) ≡ sum_z g m +ℤ sum_z (λ i. g (m + i)) n
 below_split g m zero = ap (sum_z g) (let e : m + 0 ≡ m = omega arith in e) ∙ (let r : sum_z g m ≡ sum_z g m +ℤ pos 0 = omega (arith, ints) in r)
@@ -117,8 +106,8 @@ over_edges g b =
     let parts = below_split f h (h + (w + w)) in
     let parts' = below_split (λ n. f (h + n)) h (w + w) in
     let parts'' = below_split (λ n. f (h + (h + n))) w w in
-    let a = below_same f (λ j. g (x_start b j)) h (λ j lt. ap g (edge_west b j lt)) in
-    let b' = below_same (λ j. f (h + j)) (λ j. g (x_end b j)) h east in
-    let c = below_same (λ i. f (h + (h + i))) (λ i. g (y_start b i)) w south in
-    let d = below_same (λ i. f (h + (h + (w + i)))) (λ i. g (y_end b i)) w north in
+    let a = sum_z-same f (λ j. g (x_start b j)) h (λ j lt. ap g (edge_west b j lt)) in
+    let b' = sum_z-same (λ j. f (h + j)) (λ j. g (x_end b j)) h east in
+    let c = sum_z-same (λ i. f (h + (h + i))) (λ i. g (y_start b i)) w south in
+    let d = sum_z-same (λ i. f (h + (h + (w + i)))) (λ i. g (y_end b i)) w north in
     ap (sum_z f) count ∙ omega (arith, ints, parts, parts', parts'', a, b', c, d)

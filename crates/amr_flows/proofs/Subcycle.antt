@@ -10,10 +10,10 @@ use Rattle.std.proofs.lemmas.Bool.{cond-false, cond-true}
 use Rattle.amr_box.specs.declared.Cell.{Cell}
 use Rattle.amr_box.specs.declared.Face.{Face}
 use Rattle.amr_box.specs.declared.Axis.TheVariants.{X, Y}
-use Rattle.amr_box.specs.Cells.{at_least_zero}
+use Rattle.amr_box.specs.Cells.{at_least_zero, moved}
 use Rattle.amr_box.proofs.Numbers.{at_least_zero-same, more_and_less, plus_minus_one}
 use Rattle.amr_def.specs.declared.problem.Problem.{Problem}
-use Rattle.amr_def.specs.Domain.{domain, home_cell, moved}
+use Rattle.amr_def.specs.Domain.{domain, home_cell}
 use Rattle.amr_def.specs.State.{Level, Masses, children_mass, is_covered, mass_of}
 use Rattle.amr_def.specs.Flux.{Fluxes, face, flux_at, high_cell, low_cell, net, updated}
 use Rattle.amr_def.specs.LevelStep.{Stepped, at_top, effective, over_finer, step, step_within}

@@ -4,9 +4,8 @@ use Rattle.std.specs.Int.{int_div_euclid, int_rem_euclid}
 use Rattle.std.proofs.lemmas.Int.{ints, int_rem_euclid_is}
 use Rattle.std.proofs.Math.Nat.{mul-mod_right, zero-mod}
 use Rattle.amr_box.specs.declared.Cell.{Cell}
-use Rattle.amr_box.specs.Cells.{cell, half, parent, Extent, holds, within}
+use Rattle.amr_box.specs.Cells.{cell, half, parent, Extent, holds, within, in_boxes}
 use Rattle.amr_def.specs.Domain.{refined}
-use Rattle.amr_def.specs.State.{in_boxes}
 use Rattle.amr_def.specs.Facts.{IsAligned}
 use Rattle.amr_def.proofs.Nests.{or_same}
 

@@ -3,12 +3,11 @@ use Rattle.std.proofs.Common.{◌≡◌, ℕ, Bool, true, false, ◌||◌, refl,
 use Rattle.std.specs.List.{list_any}
 pub use Rattle.std.proofs.lemmas.Bool.{and_parts as both_parts, or_left as left, or_right as right}
 use Rattle.amr_box.specs.declared.Cell.{Cell}
-use Rattle.amr_box.specs.Cells.{Extent, holds, cells_of}
+use Rattle.amr_box.specs.Cells.{Extent, holds, cells_of, in_boxes}
 pub use Rattle.amr_box.proofs.CellEquality.{cell_itself, cell_same, is_cell}
 use Rattle.amr_box.proofs.CellLists.{among_cells_of}
 pub use Rattle.amr_box.proofs.CellLists.{any_in_box}
 use Rattle.amr_def.specs.Domain.{Domain, domain_box, cells_where}
-use Rattle.amr_def.specs.State.{in_boxes}
 use Rattle.amr_def.specs.Cluster.{cluster}
 pub use Rattle.amr_def.proofs.ClusterLaws.{each_then}
 use Rattle.amr_def.proofs.ClusterLaws.{Each, each_kept, each_from_kept, cluster-covers}

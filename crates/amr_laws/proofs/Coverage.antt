@@ -3,10 +3,9 @@ use Rattle.std.proofs.Common.{◌≡◌, ℕ, suc, ◌+◌, ◌*◌, ◌/◌, �
 use Rattle.std.proofs.lemmas.Int.{ints}
 use Rattle.std.proofs.Math.Nat.{lt-div-mul-add, div-mul-le_self, mul-le-mul_right, mod-add-div', mul-div_cancel, div-lt_iff_lt-mul}
 use Rattle.amr_box.specs.declared.Cell.{Cell}
-use Rattle.amr_box.specs.Cells.{parent, Extent, extent, holds}
+use Rattle.amr_box.specs.Cells.{parent, Extent, extent, holds, in_boxes}
 use Rattle.amr_def.specs.declared.problem.Problem.{Problem}
 use Rattle.amr_def.specs.Domain.{Domain, domain, domain_box, columns, rows, refined, in_blocks, has_cell_where}
-use Rattle.amr_def.specs.State.{in_boxes}
 use Rattle.amr_def.specs.Cluster.{cluster}
 use Rattle.amr_def.specs.NewBoxes.{is_wanted, block_side, wanted_blocks}
 use Rattle.amr_def.specs.Regrid.{odd}

@@ -5,12 +5,12 @@ use Rattle.std.specs.Prelude.{slice_index_or}
 use Rattle.std.specs.Option.{unwrap_or}
 use Rattle.std.proofs.lemmas.Int.{ints}
 use Rattle.amr_box.specs.declared.Cell.{Cell}
-use Rattle.amr_box.specs.Cells.{cell, extent, parent, has_child_where, Extent, within}
+use Rattle.amr_box.specs.Cells.{cell, extent, parent, has_child_where, Extent, within, moved, in_boxes}
 use Rattle.amr_box.proofs.Children.{child_of_parent}
 use Rattle.amr_def.specs.declared.problem.Problem.{Problem}
 use Rattle.amr_def.specs.declared.problem.Row.{Row}
-use Rattle.amr_def.specs.Domain.{domain, home_cell, moved, is_near}
-use Rattle.amr_def.specs.State.{Masses, Level, State, level_at, in_boxes, is_covered}
+use Rattle.amr_def.specs.Domain.{domain, home_cell, is_near}
+use Rattle.amr_def.specs.State.{Masses, Level, State, level_at, is_covered}
 use Rattle.amr_def.specs.Tags.{is_tagged, is_tagged_by, is_grown}
 use Rattle.amr_def.specs.NewBoxes.{first_boxes, is_projected}
 use Rattle.amr_def.specs.Regrid.{split_mass, refilled, first_masses, rest_of, refill, new_level_count, regrid}

@@ -2,10 +2,10 @@
 use Rattle.std.proofs.Common.{◌≡◌, ℕ, zero, suc, IsSome, refl, sym, ◌∙◌, List, [], ◌∷◌}
 use Rattle.std.specs.Option.{unwrap_or}
 use Rattle.amr_box.specs.declared.Cell.{Cell}
-use Rattle.amr_box.specs.Cells.{Extent}
+use Rattle.amr_box.specs.Cells.{Extent, in_boxes}
 use Rattle.amr_def.specs.declared.problem.Problem.{Problem}
 use Rattle.amr_def.specs.declared.problem.Row.{Row}
-use Rattle.amr_def.specs.State.{Masses, Level, State, level_at, in_boxes, mass_of}
+use Rattle.amr_def.specs.State.{Masses, Level, State, level_at, mass_of}
 use Rattle.amr_def.specs.Tags.{is_tagged}
 use Rattle.amr_def.specs.NewBoxes.{new_boxes}
 use Rattle.amr_def.specs.Regrid.{split_mass, refilled, refill, new_level_count, regrid}

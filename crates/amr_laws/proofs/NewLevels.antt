@@ -6,10 +6,9 @@ use Rattle.std.proofs.lemmas.Int.{ints}
 use Rattle.std.proofs.lemmas.List.Elements.{All-map}
 use Rattle.amr_box.specs.declared.Cell.{Cell}
 use Rattle.amr_box.specs.declared.Axis.TheVariants.{X, Y}
-use Rattle.amr_box.specs.Cells.{Extent, IsProper, holds, within}
+use Rattle.amr_box.specs.Cells.{Extent, IsProper, holds, in_boxes, within}
 use Rattle.amr_def.specs.declared.problem.Problem.{Problem}
 use Rattle.amr_def.specs.Domain.{Domain, domain_box, cells_where, refined}
-use Rattle.amr_def.specs.State.{in_boxes}
 use Rattle.amr_def.specs.Cluster.{cluster, cluster_within}
 use Rattle.amr_def.specs.Facts.{IsAligned}
 use Rattle.amr_def.proofs.LevelLists.{IsCellInside}

@@ -5,11 +5,11 @@ use Rattle.std.specs.declared.option.Option.TheVariants.{None, Some}
 use Rattle.std.specs.Option.{unwrap_or}
 use Rattle.std.proofs.lemmas.Int.{ints}
 use Rattle.amr_box.specs.declared.Cell.{Cell}
-use Rattle.amr_box.specs.Cells.{parent, Extent}
+use Rattle.amr_box.specs.Cells.{parent, Extent, in_boxes}
 use Rattle.amr_box.proofs.Children.{child_of_parent}
 use Rattle.amr_def.specs.declared.problem.Problem.{Problem}
 use Rattle.amr_def.specs.Domain.{domain, in_domain, is_near}
-use Rattle.amr_def.specs.State.{Masses, Level, in_boxes, is_covered, is_covered_by, mass_of, children_mass}
+use Rattle.amr_def.specs.State.{Masses, Level, is_covered, is_covered_by, mass_of, children_mass}
 use Rattle.amr_def.specs.NewBoxes.{first_boxes, is_projected, is_wanted, new_boxes}
 use Rattle.amr_def.specs.Tags.{is_grown}
 use Rattle.amr_def.specs.Regrid.{share, odd, child_number, split_mass, refilled}

@@ -7,9 +7,9 @@ use Rattle.std.specs.Prelude.{nat_lt}
 use Rattle.std.proofs.lemmas.Bool.Decides.{nat_tests}
 use Rattle.std.proofs.Math.Nat.{mul-le-mul_left, le_of_mul-le-mul_left}
 use Rattle.amr_box.specs.declared.Cell.{Cell}
-use Rattle.amr_box.specs.Cells.{Extent, parent}
+use Rattle.amr_box.specs.Cells.{Extent, in_boxes, parent}
 use Rattle.amr_def.specs.declared.problem.Problem.{Problem}
-use Rattle.amr_def.specs.State.{Masses, Level, no_masses, in_boxes, is_covered, mass_of}
+use Rattle.amr_def.specs.State.{Masses, Level, no_masses, is_covered, mass_of}
 use Rattle.amr_def.specs.NewBoxes.{first_boxes}
 use Rattle.amr_def.specs.Regrid.{share, child_number, split_mass, refilled, first_masses, rest_of, refill}
 use Rattle.amr_def.specs.Facts.{IsLevel}

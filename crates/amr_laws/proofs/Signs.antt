@@ -1,6 +1,5 @@
 -- Fluxes have the sign of the Courant number of their face, and what is above 0 or below it adds up over fluxes of one sign.
 use Rattle.std.proofs.Common.{◌≡◌, ℕ, zero, suc, ◌+◌, ℤ, pos, negsuc, ◌+ℤ◌, neg_ℤ, refl, ap, subst, ◌∙◌, arith, List, [], ◌∷◌}
-use Rattle.std.proofs.lemmas.Int.{ints}
 use Rattle.amr_box.specs.declared.Face.{Face}
 use Rattle.amr_box.specs.declared.Axis.{Axis}
 use Rattle.amr_box.specs.declared.Axis.TheVariants.{X, Y}
@@ -12,7 +11,7 @@ use Rattle.amr_def.specs.LevelStep.{at_top, effective, over_finer, step_within, 
 use Rattle.amr_def.specs.Ledger.{below_zero}
 use Rattle.amr_def.proofs.Courants.{courant_x_first, courant_x_second, courant_y_first, courant_y_second}
 use Rattle.amr_def.proofs.Uncovered.{cond_both}
-use Rattle.amr_def.proofs.Raise.{signed}
+use Rattle.amr_def.proofs.Raise.{signed, signed_sum}
 
 -- ---- fluxes have the sign of the Courant number of their face
 
@@ -21,10 +20,6 @@ IsSigned c z = (size : ℕ) × (z ≡ signed c size)
 
 pub record AllSigned (p : Problem) (l : ℕ) (e : Fluxes) : Type 0 where
   pub at : (f : Face) → IsSigned (courant p l f) (e f)
-
-signed_four : (c : ℤ) (a b e f : ℕ) → (signed c a +ℤ signed c b) +ℤ (signed c e +ℤ signed c f) ≡ signed c (a + b + e + f)
-signed_four (pos k) a b e f = omega (arith, ints)
-signed_four (negsuc k) a b e f = omega (arith, ints)
 
 flow_signed : (c : ℤ) (d low high : ℕ) → IsSigned c (flow c d low high)
 flow_signed (pos a) d low high = (_, refl)
@@ -44,7 +39,7 @@ module _ (p : Problem) (l : ℕ) (e : Fluxes) (all : AllSigned p (suc l) e) wher
 
 module _ (p : Problem) (l : ℕ) (e1 e2 : Fluxes) (all1 : AllSigned p (suc l) e1) (all2 : AllSigned p (suc l) e2) where
   four_signed : (s : ℤ) (a b f g : ℤ) → IsSigned s a → IsSigned s b → IsSigned s f → IsSigned s g → IsSigned s ((a +ℤ b) +ℤ (f +ℤ g))
-  four_signed s a b f g i j k m = (i.0 + j.0 + k.0 + m.0, (λ t. (i.1 t +ℤ j.1 t) +ℤ (k.1 t +ℤ m.1 t)) ∙ signed_four s i.0 j.0 k.0 m.0)
+  four_signed s a b f g i j k m = (i.0 + j.0 + k.0 + m.0, (λ t. (i.1 t +ℤ j.1 t) +ℤ (k.1 t +ℤ m.1 t)) ∙ signed_sum s i.0 j.0 k.0 m.0)
 
   children_signed : (a : Axis) (x y : ℤ) → IsSigned (courant p l (face a x y)) (through_children e1 a x y +ℤ through_children e2 a x y)
   children_signed X x y =
@@ -84,12 +79,12 @@ below_neg zero = refl
 below_neg (suc n) = refl
 
 above_four : (c : ℤ) (a b e f : ℕ) → at_least_zero ((signed c a +ℤ signed c b) +ℤ (signed c e +ℤ signed c f)) ≡ (at_least_zero (signed c a) + at_least_zero (signed c b)) + (at_least_zero (signed c e) + at_least_zero (signed c f))
-above_four (pos k) a b e f = ap at_least_zero (signed_four (pos k) a b e f) ∙ omega arith
-above_four (negsuc k) a b e f = ap at_least_zero (signed_four (negsuc k) a b e f) ∙ omega (arith, above_neg (a + b + e + f), above_neg a, above_neg b, above_neg e, above_neg f)
+above_four (pos k) a b e f = ap at_least_zero (signed_sum (pos k) a b e f) ∙ omega arith
+above_four (negsuc k) a b e f = ap at_least_zero (signed_sum (negsuc k) a b e f) ∙ omega (arith, above_neg (a + b + e + f), above_neg a, above_neg b, above_neg e, above_neg f)
 
 below_four : (c : ℤ) (a b e f : ℕ) → below_zero ((signed c a +ℤ signed c b) +ℤ (signed c e +ℤ signed c f)) ≡ (below_zero (signed c a) + below_zero (signed c b)) + (below_zero (signed c e) + below_zero (signed c f))
-below_four (pos k) a b e f = ap below_zero (signed_four (pos k) a b e f) ∙ omega arith
-below_four (negsuc k) a b e f = ap below_zero (signed_four (negsuc k) a b e f) ∙ omega (arith, below_neg (a + b + e + f), below_neg a, below_neg b, below_neg e, below_neg f)
+below_four (pos k) a b e f = ap below_zero (signed_sum (pos k) a b e f) ∙ omega arith
+below_four (negsuc k) a b e f = ap below_zero (signed_sum (negsuc k) a b e f) ∙ omega (arith, below_neg (a + b + e + f), below_neg a, below_neg b, below_neg e, below_neg f)
 
 pub above_additive : IsAdditive at_least_zero
 above_additive = record { four = above_four; none = refl }

@@ -2,11 +2,11 @@
 use Rattle.std.proofs.Common.{◌≡◌, ℕ, zero, suc, ◌+◌, ◌*◌, ◌^◌, ◌<◌, ◌≤◌, min, Bool, false, ◌⊎◌, inl, inr, refl, sym, ap, subst, ◌∙◌, arith, List, [], ◌∷◌, length}
 use Rattle.std.proofs.lemmas.Bool.Decides.{nat_tests}
 use Rattle.amr_box.specs.declared.Cell.{Cell}
-use Rattle.amr_box.specs.Cells.{Extent, holds}
+use Rattle.amr_box.specs.Cells.{Extent, holds, in_boxes}
 use Rattle.amr_def.specs.declared.problem.Problem.{Problem}
 use Rattle.amr_def.specs.declared.problem.Row.{Row}
 use Rattle.amr_def.specs.Domain.{domain, domain_box}
-use Rattle.amr_def.specs.State.{Level, State, in_boxes, mass_of}
+use Rattle.amr_def.specs.State.{Level, State, mass_of}
 use Rattle.amr_def.specs.Tags.{is_tagged}
 use Rattle.amr_def.specs.NewBoxes.{first_boxes, new_boxes}
 use Rattle.amr_def.specs.Regrid.{refill, first_masses, new_level_count, regrid}

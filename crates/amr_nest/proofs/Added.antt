@@ -6,10 +6,10 @@ use Rattle.std.proofs.lemmas.Bool.{and_from, and_parts, both_ways, eqb-true, or_
 use Rattle.std.proofs.lemmas.List.Sums.{sum_by-cons}
 use Rattle.amr_box.specs.declared.Cell.{Cell}
 use Rattle.amr_box.proofs.Tests.{same_test}
-use Rattle.amr_box.specs.Cells.{Extent, cells_of, holds}
+use Rattle.amr_box.specs.Cells.{Extent, cells_of, holds, in_boxes}
 use Rattle.amr_box.proofs.CellLists.{any_in_box}
 use Rattle.amr_def.specs.Domain.{Domain, domain_box, in_domain, is_near}
-use Rattle.amr_def.specs.State.{in_boxes, is_covered_by}
+use Rattle.amr_def.specs.State.{is_covered_by}
 use Rattle.amr_def.proofs.Uncovered.{domain_box_cells}
 
 -- ---- a test and a wider one

@@ -4,15 +4,14 @@ use Rattle.std.specs.List.{list_any}
 use Rattle.std.proofs.lemmas.Int.{ints}
 use Rattle.std.proofs.lemmas.List.Folds.{list_any_at}
 use Rattle.amr_box.specs.declared.Cell.{Cell}
-use Rattle.amr_box.specs.Cells.{Extent, IsProper, child, has_child_where, holds}
+use Rattle.amr_box.specs.Cells.{Extent, IsProper, child, has_child_where, holds, in_boxes, moved, parents_of, square}
 use Rattle.amr_box.proofs.Tests.{or_last, or_swapped}
-use Rattle.amr_def.specs.Domain.{Domain, domain_box, home_cell, in_blocks, in_domain, is_near, moved, square}
+use Rattle.amr_def.specs.Domain.{Domain, domain_box, home_cell, in_blocks, in_domain, is_near}
 use Rattle.amr_def.specs.Facts.{IsAligned, IsNestedIn}
 use Rattle.amr_def.specs.NewBoxes.{is_projected}
-use Rattle.amr_def.specs.State.{in_boxes, is_covered_by}
+use Rattle.amr_def.specs.State.{is_covered_by}
 use Rattle.amr_def.proofs.Uncovered.{domain_box_cells}
 use Rattle.amr_tags.proofs.Places.{in_holds, is_in}
-use Rattle.amr_tags.specs.Coarse.{parents_of}
 use Rattle.amr_nest.specs.Reach.{IsInDomainBox, is_reached, is_reached_at}
 use Rattle.amr_nest.proofs.Reaches.{near_is_reached, parents_hold, reached_found, reached_from}
 

@@ -9,18 +9,17 @@ use Rattle.std.proofs.lemmas.Bool.Decides.{nat_tests, same_from_decides}
 use Rattle.std.proofs.lemmas.Bool.{and_from, and_parts, eqb-true, or_left, or_right}
 use Rattle.std.proofs.Math.Bool.{or-false}
 use Rattle.amr_box.specs.declared.Cell.{Cell}
-use Rattle.amr_box.specs.Cells.{Extent, HasCorners, IsBoxOf, IsNear, IsProper, cell, cells_of, common, extent, half, has_child_where, holds, parent}
+use Rattle.amr_box.specs.Cells.{Extent, HasCorners, IsBoxOf, IsNear, IsProper, cell, cells_of, common, extent, half, has_child_where, holds, moved, parent, parents_of}
 use Rattle.amr_box.proofs.CellLists.{IsFound, any_in_box, found_in_box}
 use Rattle.amr_box.proofs.Halves.{coarsened}
 use Rattle.amr_box.proofs.Tests.{or_last}
 use Rattle.amr_box.proofs.Numbers.{half_le as halves}
 use Rattle.amr_def.proofs.Nesting.{odd_small}
 use Rattle.amr_def.proofs.Nests.{half_and_odd}
-use Rattle.amr_def.specs.Domain.{Domain, domain_box, home_cell, in_domain, is_near, moved}
+use Rattle.amr_def.specs.Domain.{Domain, domain_box, home_cell, in_domain, is_near}
 use Rattle.amr_def.proofs.Uncovered.{domain_box_cells}
 use Rattle.amr_tags.specs.Stored.{IsIn}
 use Rattle.amr_tags.proofs.Places.{in_holds, is_in}
-use Rattle.amr_tags.specs.Coarse.{parents_of}
 use Rattle.amr_nest.specs.Reach.{IsInDomainBox, is_reached, is_reached_at, is_turn, moved_reach}
 use Rattle.amr_nest.proofs.Turns.{SomeStep, SomeTurn, step_of, turn_of}
 

@@ -4,10 +4,10 @@ ghost use Rattle.std.specs.Prelude.{◌≡◌, ◌<◌, ◌≤◌, ◌↔◌, �
 ghost use Rattle.std.specs.Int.{int_rem_euclid};
 ghost use Rattle.std.specs.List.{All};
 ghost use Rattle.amr_box.specs.declared.Cell.{Cell};
-ghost use Rattle.amr_box.specs.Cells.{holds, parent};
+ghost use Rattle.amr_box.specs.Cells.{holds, in_boxes, parent};
 ghost use Rattle.amr_def.specs.Domain.{domain_box, domain_of, in_domain, is_near};
 ghost use Rattle.amr_def.specs.Facts.{IsAligned, IsNestedIn};
-ghost use Rattle.amr_def.specs.State.{in_boxes, is_covered_by};
+ghost use Rattle.amr_def.specs.State.{is_covered_by};
 ghost use Rattle.amr_tags.specs.TagSets.{SameShape, has};
 ghost use Rattle.amr_nest.specs.Reach.{IsInDomainBox, is_reached, is_reached_at};
 

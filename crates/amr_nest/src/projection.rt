@@ -2,10 +2,9 @@
 
 ghost use Rattle.std.specs.Prelude.{◌≡◌, ◌<◌, ◌&&◌, ◌||◌, IfOk, IsTrue};
 ghost use Rattle.amr_box.specs.declared.Cell.{Cell};
-ghost use Rattle.amr_box.specs.Cells.{IsNear, has_child_where, holds, parent};
+ghost use Rattle.amr_box.specs.Cells.{IsNear, has_child_where, holds, in_boxes, parent};
 ghost use Rattle.amr_def.specs.Domain.{domain_box, domain_of, in_blocks, in_domain};
 ghost use Rattle.amr_def.specs.NewBoxes.{is_projected};
-ghost use Rattle.amr_def.specs.State.{in_boxes};
 ghost use Rattle.amr_tags.specs.TagSets.{SameShape, has};
 ghost use Rattle.amr_nest.specs.Reach.{IsInDomainBox, is_reached, is_reached_at};
 

@@ -3,10 +3,9 @@
 
 ghost use Rattle.std.specs.Prelude.{◌≡◌, ◌<◌, ◌≤◌, ◌%◌, ◌/◌, ◌&&◌, false, pos, negsuc, ◌≤ℤ◌, IfNone, IfSome, IsTrue};
 ghost use Rattle.amr_box.specs.declared.Cell.{Cell};
-ghost use Rattle.amr_box.specs.Cells.{IsNear, IsProper, holds, parent};
+ghost use Rattle.amr_box.specs.Cells.{IsNear, IsProper, holds, parent, parents_of};
 ghost use Rattle.amr_def.specs.Domain.{domain_box, domain_of, in_domain};
 ghost use Rattle.amr_nest.specs.Reach.{IsInDomainBox, is_reached_at, is_turn, moved_reach, shift};
-ghost use Rattle.amr_tags.specs.Coarse.{parents_of};
 
 use amr_box::{Bx, Cell, parent};
 use amr_def::Dom;

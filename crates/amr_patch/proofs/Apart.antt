@@ -8,8 +8,7 @@ use Rattle.std.proofs.lemmas.List.Sorted.{sum_by-IsPermutation}
 use Rattle.std.proofs.lemmas.Bool.{or_right}
 use Rattle.amr_box.specs.declared.Cell.{Cell}
 use Rattle.std.proofs.lemmas.Int.{ints}
-use Rattle.amr_box.specs.Cells.{Extent, IsNear, IsProper, holds}
-use Rattle.amr_def.specs.State.{in_boxes}
+use Rattle.amr_box.specs.Cells.{Extent, IsNear, IsProper, holds, in_boxes}
 use Rattle.amr_patch.specs.Patches.{AreApart, AreNear}
 use Rattle.amr_patch.proofs.Rows.{is_inside}
 

@@ -3,11 +3,10 @@ use Rattle.std.proofs.Common.{◌≡◌, ℕ, zero, suc, ◌<◌, Bool, true, �
 use Rattle.std.specs.Prelude.{IsTrue, pos, ◌||◌}
 use Rattle.std.proofs.lemmas.Bool.{or_right}
 use Rattle.amr_box.specs.declared.Cell.{Cell}
-use Rattle.amr_box.specs.Cells.{Extent, cell, extent, holds}
+use Rattle.amr_box.specs.Cells.{Extent, cell, extent, holds, in_boxes}
 use Rattle.amr_def.specs.declared.problem.Problem.{Problem}
 use Rattle.amr_def.specs.Domain.{domain, in_domain}
 use Rattle.amr_def.specs.Facts.{IsLevel}
-use Rattle.amr_def.specs.State.{in_boxes}
 use Rattle.amr_patch.specs.declared.levels.Level.{Level}
 use Rattle.amr_patch.specs.Levels.{level_of}
 use Rattle.amr_patch.specs.BoxRows.{HasCellsOf}

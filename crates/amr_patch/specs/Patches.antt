@@ -8,8 +8,8 @@ use Rattle.amr_box.specs.declared.Cell.{Cell}
 use Rattle.amr_box.specs.declared.Face.{Face}
 use Rattle.amr_box.specs.declared.Axis.{Axis}
 use Rattle.amr_box.specs.declared.Axis.TheVariants.{X, Y}
-use Rattle.amr_box.specs.Cells.{Extent, cell, holds, near_limit}
-use Rattle.amr_def.specs.State.{Masses, in_boxes}
+use Rattle.amr_box.specs.Cells.{Extent, cell, holds, in_boxes, near_limit}
+use Rattle.amr_def.specs.State.{Masses}
 use Rattle.amr_patch.specs.declared.patches.Patch.{Patch}
 use Rattle.amr_patch.specs.Places.{column_of, grown, in_frame, is_edge_face, place, row_of}
 

@@ -28,8 +28,8 @@ impl Level {
     ghost use Rattle.std.specs.List.{All};
     ghost use Rattle.std.specs.List.Sorted.{IsPermutation};
     ghost use Rattle.amr_box.specs.declared.Cell.{Cell};
-    ghost use Rattle.amr_box.specs.Cells.{cell, holds};
-    ghost use Rattle.amr_def.specs.State.{in_boxes, no_masses};
+    ghost use Rattle.amr_box.specs.Cells.{cell, holds, in_boxes};
+    ghost use Rattle.amr_def.specs.State.{no_masses};
     ghost use Rattle.amr_patch.specs.Orders.{AreInRows};
     ghost use Rattle.amr_patch.specs.Pairwise.{Pairwise};
     ghost use Rattle.amr_patch.specs.Patches.{AreApart, AreNear, HasNoFluxes, HasNoMarks, IsCopy, KeepsFrameAndFluxes, box, masses_in};

@@ -5,13 +5,13 @@ use Rattle.std.proofs.lemmas.Int.{ints}
 use Rattle.std.proofs.lemmas.Bool.{or_left, or_right, or_cases, or_parts, or_from, false_from_ne_true, both_ways}
 use Rattle.std.proofs.lemmas.List.Folds.{list_any-append}
 use Rattle.amr_box.specs.declared.Cell.{Cell}
-use Rattle.amr_box.specs.Cells.{Extent, IsProper, at_least_zero, cells_of, holds, width, height}
+use Rattle.amr_box.specs.Cells.{Extent, IsProper, at_least_zero, cells_of, holds, width, height, in_boxes}
 use Rattle.amr_box.proofs.CellEquality.{is_cell, cell_same, cell_itself, cell_apart}
 use Rattle.amr_box.proofs.CellLists.{among_cells_of}
 use Rattle.amr_box.proofs.Parts.{length-cells_of}
 use Rattle.amr_def.specs.declared.problem.Problem.{Problem}
 use Rattle.amr_def.specs.Domain.{columns, rows, domain, domain_box}
-use Rattle.amr_def.specs.State.{Level, in_boxes}
+use Rattle.amr_def.specs.State.{Level}
 use Rattle.amr_def.specs.Facts.{IsAligned, IsLevel}
 use Rattle.amr_def.proofs.Nesting.{aligned_even}
 use Rattle.amr_def.specs.Regrid.{odd}

@@ -10,18 +10,18 @@ use Rattle.std.proofs.lemmas.List.{length-map}
 use Rattle.std.proofs.lemmas.Int.{ints}
 use Rattle.std.proofs.lemmas.Bool.{and_parts, and_from, or_cases, or_parts, not-true, false_from_ne_true, both_ways, leb-true, eqb-true}
 use Rattle.amr_box.specs.declared.Cell.{Cell}
-use Rattle.amr_box.specs.Cells.{Extent, IsProper, cells_of, common, holds, within, width, height, is_same_cell}
+use Rattle.amr_box.specs.Cells.{Extent, IsProper, cells_of, common, holds, within, width, height, is_same_cell, is_proper, in_boxes}
 use Rattle.amr_box.proofs.Boxes.{holds-common, int_le-yes}
 use Rattle.amr_box.proofs.CellEquality.{same_number, coordinates_same}
 use Rattle.amr_box.proofs.Numbers.{le_from}
 use Rattle.amr_def.specs.declared.problem.Problem.{Problem}
 use Rattle.amr_def.specs.Domain.{Domain, domain, domain_box, in_domain, is_inside}
-use Rattle.amr_def.specs.State.{Masses, in_boxes, mass_of}
+use Rattle.amr_def.specs.State.{Masses, mass_of}
 use Rattle.amr_def.specs.Facts.{IsAligned, IsLevel, growth}
 use Rattle.amr_def.proofs.SoundRun.{domain_proper}
 use Rattle.amr_def.proofs.Uncovered.{domain_box_cells}
 use Rattle.amr_payload.specs.Payload.{level_cells, box_bytes, level_bytes, number_bytes}
-use Rattle.amr_payload.specs.Tests.{Grid, is_same_box, is_proper, lies_in, is_multiple, is_aligned, meets, is_box_of, is_box_count, is_mass, masses_in, level_of, place_in}
+use Rattle.amr_payload.specs.Tests.{Grid, is_same_box, lies_in, is_multiple, is_aligned, meets, is_box_of, is_box_count, is_mass, masses_in, level_of, place_in}
 use Rattle.amr_payload.proofs.Fields.{Each}
 use Rattle.amr_payload.proofs.Numbers.{IsCode}
 use Rattle.amr_payload.proofs.Grids.{corners, AreGrids, grid_bytes, grids_bytes}

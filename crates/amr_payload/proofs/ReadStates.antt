@@ -4,12 +4,12 @@ use Rattle.std.specs.Int.{Width, w8, w32}
 use Rattle.std.specs.declared.result.Result.TheVariants.{Ok, Err}
 use Rattle.std.proofs.lemmas.Bool.{and_parts, leb-true, eqb-true}
 use Rattle.amr_box.specs.declared.Cell.{Cell}
-use Rattle.amr_box.specs.Cells.{Extent}
+use Rattle.amr_box.specs.Cells.{Extent, in_boxes}
 use Rattle.amr_def.specs.declared.problem.Problem.{Problem}
 use Rattle.amr_def.specs.declared.problem.Row.{Row}
 use Rattle.amr_def.specs.Limits.{between}
 use Rattle.amr_def.specs.Domain.{Domain, domain, domain_box, in_domain, is_near}
-use Rattle.amr_def.specs.State.{Masses, Level, State, no_level, level_at, in_boxes, mass_of, is_covered, is_covered_by, children_mass}
+use Rattle.amr_def.specs.State.{Masses, Level, State, no_level, level_at, mass_of, is_covered, is_covered_by, children_mass}
 use Rattle.amr_def.specs.Ledger.{total_mass}
 use Rattle.amr_def.specs.Facts.{IsAligned, IsLevel, IsNestedLevel, IsTelescoped, IsSmallRow, IsSound, growth, no_row, row_at}
 use Rattle.amr_def.proofs.Nesting.{covered_inside}

@@ -10,19 +10,19 @@ use Rattle.std.proofs.lemmas.Nat.{div-mul-add, mod-mul-add}
 use Rattle.std.proofs.lemmas.List.{length-map}
 use Rattle.std.proofs.lemmas.List.FromFn.{get_or-map-range_with_len}
 use Rattle.amr_box.specs.declared.Cell.{Cell}
-use Rattle.amr_box.specs.Cells.{Extent, extent, IsProper, cell, cells_of, common, holds, width, height, is_same_cell}
+use Rattle.amr_box.specs.Cells.{Extent, extent, IsProper, cell, cells_of, common, holds, width, height, is_same_cell, is_proper, in_boxes}
 use Rattle.amr_box.proofs.CellEquality.{number_itself, same_cell}
 use Rattle.amr_box.proofs.Parts.{length-cells_of}
 use Rattle.amr_def.specs.declared.problem.Problem.{Problem}
 use Rattle.amr_def.specs.Domain.{Domain, columns, rows, domain, domain_box, in_domain, is_near}
-use Rattle.amr_def.specs.State.{Masses, Level, mass_of, in_boxes, is_covered, is_covered_by, children_mass}
+use Rattle.amr_def.specs.State.{Masses, Level, mass_of, is_covered, is_covered_by, children_mass}
 use Rattle.amr_def.specs.Facts.{IsAligned, IsNestedLevel}
 use Rattle.amr_def.proofs.Nesting.{in_domain-inside}
 use Rattle.amr_def.proofs.Sizes.{doubled_small}
 use Rattle.amr_def.proofs.Uncovered.{domain_box_cells}
 use Rattle.amr_def.proofs.Courants.{weighs}
 use Rattle.amr_payload.specs.Payload.{level_bytes, level_cells}
-use Rattle.amr_payload.specs.Tests.{tested, read_also, Grid, is_same_box, is_proper, lies_in, is_multiple, is_aligned, meets, is_box_of, is_mass, is_box_count, place_in, masses_in, level_of, surrounds, is_in_sync, read_level, read_finer, read_all_finer}
+use Rattle.amr_payload.specs.Tests.{tested, read_also, Grid, is_same_box, lies_in, is_multiple, is_aligned, meets, is_box_of, is_mass, is_box_count, place_in, masses_in, level_of, surrounds, is_in_sync, read_level, read_finer, read_all_finer}
 use Rattle.amr_payload.proofs.Readings.{left, Gives, gives, gives_then, gives_tested, gives_also, gives_at}
 use Rattle.amr_payload.proofs.Numbers.{IsCode}
 use Rattle.amr_payload.proofs.Fields.{Each}

@@ -12,7 +12,7 @@
 --     the last row's mass is that of level 0                                                  the last row's mass
 --     nothing follows                                                                         the end of the last field
 -- (profile)
-use Rattle.std.specs.Prelude.{ℕ, zero, suc, ◌+◌, ◌-◌, ◌*◌, ◌^◌, Bool, true, false, not, if◌then◌else◌, ◌&&◌, ◌||◌, ◌==◌, nat_le, ℤ, pos, ◌+ℤ◌, ◌-ℤ◌, int_le, List, [], ◌∷◌, length, drop, map, slice_index}
+use Rattle.std.specs.Prelude.{ℕ, zero, suc, ◌+◌, ◌-◌, ◌*◌, ◌^◌, Bool, true, false, not, if◌then◌else◌, ◌&&◌, ◌||◌, ◌==◌, nat_le, ℤ, pos, ◌+ℤ◌, ◌-ℤ◌, List, [], ◌∷◌, length, drop, map, slice_index}
 use Rattle.std.specs.Int.{Width, w8, w32, w64, byte_len, from_le_bytes, int_rem_euclid}
 use Rattle.std.specs.List.{list_any, list_all}
 use Rattle.std.specs.Ordering.{int_eq}
@@ -20,12 +20,12 @@ use Rattle.std.specs.declared.option.Option.TheVariants.{None, Some}
 use Rattle.std.specs.declared.result.Result.{Result}
 use Rattle.std.specs.declared.result.Result.TheVariants.{Ok, Err}
 use Rattle.amr_box.specs.declared.Cell.{Cell}
-use Rattle.amr_box.specs.Cells.{cell, Extent, extent, holds, common, at_least_zero, width, height, cells_of, is_same_cell}
+use Rattle.amr_box.specs.Cells.{cell, Extent, extent, holds, common, at_least_zero, width, height, cells_of, is_same_cell, is_proper, in_boxes}
 use Rattle.amr_def.specs.declared.problem.Problem.{Problem}
 use Rattle.amr_def.specs.declared.problem.Row.{Row}
 use Rattle.amr_def.specs.Limits.{between}
 use Rattle.amr_def.specs.Domain.{Domain, domain, domain_box, in_domain, is_near}
-use Rattle.amr_def.specs.State.{Masses, mass_of, Level, State, level_at, in_boxes, is_covered, is_covered_by, children_mass}
+use Rattle.amr_def.specs.State.{Masses, mass_of, Level, State, level_at, is_covered, is_covered_by, children_mass}
 use Rattle.amr_def.specs.Ledger.{total_mass}
 use Rattle.amr_def.specs.Facts.{growth, row_at}
 use Rattle.amr_payload.specs.Payload.{level_cells}
@@ -107,10 +107,6 @@ read_box r =
 
 abbrev pub is_same_box : Extent → Extent → Bool
 is_same_box a b = is_same_cell a.lo b.lo && is_same_cell a.hi b.hi
-
--- the corners are in order
-abbrev pub is_proper : Extent → Bool
-is_proper b = int_le b.lo.x b.hi.x && int_le b.lo.y b.hi.y
 
 abbrev pub lies_in : Domain → Extent → Bool
 lies_in d b = in_domain d b.lo && in_domain d b.hi

@@ -7,12 +7,12 @@ use Rattle.std.proofs.lemmas.Int.{ints}
 use Rattle.std.proofs.lemmas.Bool.{and_parts, cases_lt, or_cases}
 use Rattle.std.proofs.lemmas.List.Folds.{Any-from_list_any, list_any_at}
 use Rattle.amr_box.specs.declared.Cell.{Cell}
-use Rattle.amr_box.specs.Cells.{Extent, IsBoxOf, IsNear, IsProper, at_least_zero, cell, half, has_child_where, holds}
+use Rattle.amr_box.specs.Cells.{Extent, IsBoxOf, IsNear, IsProper, at_least_zero, cell, half, has_child_where, holds, moved, parents_of}
 use Rattle.amr_box.proofs.CellEquality.{same_cell}
 use Rattle.amr_box.proofs.Children.{has_child_more}
 use Rattle.amr_box.proofs.Numbers.{half_le as half_order, plus_minus_one}
 use Rattle.amr_def.specs.declared.problem.Problem.{Problem}
-use Rattle.amr_def.specs.Domain.{Domain, domain, home_cell, in_domain, is_near, moved, wrapped}
+use Rattle.amr_def.specs.Domain.{Domain, domain, home_cell, in_domain, is_near, wrapped}
 use Rattle.amr_def.specs.State.{Level, Masses, is_covered}
 use Rattle.amr_def.specs.Facts.{IsLevel, IsNestedLevel}
 use Rattle.amr_def.proofs.Flows.{wrapped_before, wrapped_end, wrapped_inside}
@@ -27,7 +27,7 @@ use Rattle.amr_register.specs.RegisterCells.{has_neighbour_where, is_register_ce
 use Rattle.amr_register.specs.Beside.{stands_beside}
 use Rattle.amr_register.specs.Collecting.{FindsAround}
 use Rattle.amr_register.proofs.CellLists.{of_level}
-use Rattle.amr_register.proofs.CollectLaws.{BoxesDone, coarse_box, is_beside, none_covered}
+use Rattle.amr_register.proofs.CollectLaws.{BoxesDone, is_beside, none_covered}
 use Rattle.amr_register.proofs.Homes.{HasSize, IsWithinDomain, size_at, within_domain}
 
 -- ---- along an axis
@@ -194,15 +194,15 @@ halves_low low z h = omega (arith, ints, half_and_odd low, odd_small low)
 halves_high : (high z : ℤ) → (z +ℤ z) ≤ℤ high → z ≤ℤ half high
 halves_high high z h = omega (arith, ints, half_and_odd high, odd_small high)
 
-pub coarse_holds : (b : Extent) (c : Cell) → holds b (child_0 c) ≡ true → holds (coarse_box b) c ≡ true
+pub coarse_holds : (b : Extent) (c : Cell) → holds b (child_0 c) ≡ true → holds (parents_of b) c ≡ true
 coarse_holds b c e =
     let h = inside b (child_0 c) e in
-    is_inside (coarse_box b) c (record { west = halves_low b.lo.x c.x h.west; east = halves_high b.hi.x c.x h.east; south = halves_low b.lo.y c.y h.south; north = halves_high b.hi.y c.y h.north })
+    is_inside (parents_of b) c (record { west = halves_low b.lo.x c.x h.west; east = halves_high b.hi.x c.x h.east; south = halves_low b.lo.y c.y h.south; north = halves_high b.hi.y c.y h.north })
 
 -- and the other way round, of a box from even to odd coordinates
-pub even_holds : (b : Extent) (c : Cell) → IsEven b → holds (coarse_box b) c ≡ true → holds b (child_0 c) ≡ true
+pub even_holds : (b : Extent) (c : Cell) → IsEven b → holds (parents_of b) c ≡ true → holds b (child_0 c) ≡ true
 even_holds b c even h =
-    let i = inside (coarse_box b) c h in
+    let i = inside (parents_of b) c h in
     is_inside b (child_0 c) (record {
       west = omega (arith, ints, i.west, half_and_odd b.lo.x, even.0);
       east = omega (arith, ints, i.east, half_and_odd b.hi.x, even.2);
@@ -274,7 +274,7 @@ module _ (p : Problem) (l : ℕ) (k fine : Level) (klevel : IsLevel p l k) (flev
   pub near_parents : (b : Extent) → IsProper b → IsInDomain (domain p l) b → IsNear b
   near_parents b proper within = near_inside (domain p l) size b proper within
 
-  coarse_even : (n : ℕ) (c0 : Extent) → n < length fine.boxes → (c : Cell) → holds (coarse_box (slice_index_or fine.boxes n c0)) c ≡ true → is_covered fine.masses c ≡ true
+  coarse_even : (n : ℕ) (c0 : Extent) → n < length fine.boxes → (c : Cell) → holds (parents_of (slice_index_or fine.boxes n c0)) c ≡ true → is_covered fine.masses c ≡ true
   coarse_even n c0 lt c h =
       let e = slice_index_or fine.boxes n c0 in
       let even = aligned_even p.blocking e p.limits.blocking_factor (nested.aligned n c0 lt) in
@@ -293,9 +293,9 @@ module _ (p : Problem) (l : ℕ) (k fine : Level) (klevel : IsLevel p l k) (flev
         let b = box.1 in
         let is : slice_index_or fine.boxes n b ≡ b = box.3 in
         let proper : IsProper (slice_index_or fine.boxes n b) = flevel.proper n b box.2 in
-        let proper_parents : IsProper (coarse_box (slice_index_or fine.boxes n b)) = record { wide = half_order _ _ proper.wide; high = half_order _ _ proper.high } in
-        let within : IsInDomain (domain p l) (coarse_box (slice_index_or fine.boxes n b)) = record { at = λ c t. covered_in_domain p l k fine klevel flevel nested few c (coarse_even n b box.2 c t) } in
-        find (coarse_box (slice_index_or fine.boxes n b)) (sized_of (domain p l) _ proper_parents within)
+        let proper_parents : IsProper (parents_of (slice_index_or fine.boxes n b)) = record { wide = half_order _ _ proper.wide; high = half_order _ _ proper.high } in
+        let within : IsInDomain (domain p l) (parents_of (slice_index_or fine.boxes n b)) = record { at = λ c t. covered_in_domain p l k fine klevel flevel nested few c (coarse_even n b box.2 c t) } in
+        find (parents_of (slice_index_or fine.boxes n b)) (sized_of (domain p l) _ proper_parents within)
         (λ t. none_covered (domain p l) k.masses fine.masses q (coarse_even n b box.2 q t) passes)
         (done.finds n b box.2 box.2)
         (coarse_holds (slice_index_or fine.boxes n b) (home_cell (domain p l) (moved q o)) (subst (λ (e : Extent). holds e (child_0 (home_cell (domain p l) (moved q o))) ≡ true) (sym is) box.4))

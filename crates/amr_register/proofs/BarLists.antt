@@ -13,11 +13,11 @@ use Rattle.std.proofs.lemmas.List.Folds.{Any-from_list_any, list_any-append, lis
 use Rattle.std.proofs.lemmas.List.Quantifiers.{all_pairs_push}
 use Rattle.std.proofs.lemmas.List.Sorted.{All-permutation, list_any-IsPermutation}
 use Rattle.amr_box.specs.declared.Cell.{Cell}
-use Rattle.amr_box.specs.Cells.{Extent, HasCorners, IsNear, cell, extent, half, height, holds, within}
+use Rattle.amr_box.specs.Cells.{Extent, HasCorners, IsNear, cell, extent, half, height, holds, in_boxes, parents_of, within}
 use Rattle.amr_box.proofs.Tests.{and_shared}
 use Rattle.amr_box.proofs.Numbers.{half_le, none_within}
 use Rattle.amr_def.specs.Facts.{IsAligned}
-use Rattle.amr_def.specs.State.{Masses, in_boxes, is_covered}
+use Rattle.amr_def.specs.State.{Masses, is_covered}
 use Rattle.amr_def.proofs.LevelLists.{child_0}
 use Rattle.amr_def.proofs.Nesting.{aligned_even, odd_small}
 use Rattle.amr_def.proofs.Nests.{AllEven, IsEven, all_children, half_and_odd}
@@ -27,7 +27,6 @@ use Rattle.amr_patch.proofs.Apart.{apart_in_order}
 use Rattle.amr_patch.proofs.Rows.{inside, sides}
 use Rattle.amr_register.specs.Bars.{AreBars, IsBar}
 use Rattle.amr_register.proofs.Around.{coarse_holds, even_holds, first_tells}
-use Rattle.amr_register.proofs.CollectLaws.{coarse_box}
 use Rattle.amr_register.proofs.Taken.{same_at}
 
 -- ---- the rows of a box
@@ -143,14 +142,14 @@ one_box_more bs old new n e b apart aligned done lt at corners added = record {
   apart = added.apart done.apart (λ c i k. twice c (Any-from_list_any (λ (x : Extent). holds x (child_0 c)) (take n bs) (sym (done.cells c) ∙ i)) (sym (held c) ∙ k));
 }
   where
-    is_here : b ≡ coarse_box e
+    is_here : b ≡ parents_of e
     is_here i = record { lo = record { x = corners.west_is i; y = corners.south_is i }; hi = record { x = corners.east_is i; y = corners.north_is i } }
 
     even : IsEven e
     even = even_of e (subst (IsAligned 2) (sym at) (aligned n e lt))
 
     held : (c : Cell) → holds b c ≡ holds e (child_0 c)
-    held c = ap (λ (x : Extent). holds x c) is_here ∙ both_ways (holds (coarse_box e) c) (holds e (child_0 c)) (even_holds e c even) (coarse_holds e c)
+    held c = ap (λ (x : Extent). holds x c) is_here ∙ both_ways (holds (parents_of e) c) (holds e (child_0 c)) (even_holds e c even) (coarse_holds e c)
 
     twice : (c : Cell) → (k : ℕ) × (d : Extent) × (k < length (take n bs)) × (slice_index_or (take n bs) k d ≡ d) × (holds d (child_0 c) ≡ true) → holds e (child_0 c) ≡ true → ⊥
     twice c (k, d, there, is, h) g =

@@ -6,8 +6,7 @@ use Rattle.std.proofs.lemmas.Int.{ints}
 use Rattle.std.proofs.lemmas.Bool.{both_ways, cases_eq, cases_lt, false_from_ne_true}
 use Rattle.std.proofs.lemmas.List.Folds.{Any-from_list_any, list_any_at}
 use Rattle.amr_box.specs.declared.Cell.{Cell}
-use Rattle.amr_box.specs.Cells.{Extent, cell, extent, holds}
-use Rattle.amr_def.specs.State.{in_boxes}
+use Rattle.amr_box.specs.Cells.{Extent, cell, extent, holds, in_boxes}
 use Rattle.amr_patch.specs.Orders.{AreBoxesInRows, comes_first}
 use Rattle.amr_patch.proofs.Lookups.{comes_first-rows, comes_first-trans, comes_first-yes}
 use Rattle.amr_patch.proofs.Rows.{inside, is_inside}

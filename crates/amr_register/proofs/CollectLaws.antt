@@ -6,9 +6,9 @@ use Rattle.std.proofs.lemmas.Int.{ints}
 use Rattle.std.proofs.lemmas.Bool.{and_from, and_parts, both_ways, cases_eq, not-true, not_from_false}
 use Rattle.std.proofs.lemmas.List.Elements.{Contains-append_left, Contains-push_cases}
 use Rattle.amr_box.specs.declared.Cell.{Cell}
-use Rattle.amr_box.specs.Cells.{Extent, IsNear, cell, extent, height, holds, parent, width}
+use Rattle.amr_box.specs.Cells.{Extent, IsNear, cell, height, holds, moved, parents_of, width}
 use Rattle.amr_box.proofs.CellEquality.{same_cell}
-use Rattle.amr_def.specs.Domain.{Domain, home_cell, in_domain, moved}
+use Rattle.amr_def.specs.Domain.{Domain, home_cell, in_domain}
 use Rattle.amr_def.specs.State.{Masses, is_covered}
 use Rattle.amr_def.specs.Tags.{neighbours}
 use Rattle.amr_def.proofs.Nesting.{any_at}
@@ -223,14 +223,10 @@ found_around d test b old new more h k = record {
 
 -- ---- all boxes
 
--- the box of the parents of a box's cells
-abbrev pub coarse_box : Extent → Extent
-coarse_box b = extent (parent b.lo) (parent b.hi)
-
 -- register cells alone, and those beside the first n boxes among them
 pub record BoxesDone (d : Domain) (test : Cell → Bool) (bs : List Extent) (cs : List Cell) (n : ℕ) : Type 0 where
   pub passing : (q : Cell) → Contains cs q → test q ≡ true
-  pub finds : (k : ℕ) (b : Extent) → k < n → k < length bs → FindsAround d test (coarse_box (slice_index_or bs k b)) cs
+  pub finds : (k : ℕ) (b : Extent) → k < n → k < length bs → FindsAround d test (parents_of (slice_index_or bs k b)) cs
 
 pub no_boxes : (d : Domain) (test : Cell → Bool) (bs : List Extent) (cs : List Cell) → cs ≡ [] → BoxesDone d test bs cs 0
 no_boxes d test bs cs e = record {
@@ -238,7 +234,7 @@ no_boxes d test bs cs e = record {
   finds = λ k b lt there. absurd (omega arith);
 }
 
-pub more_boxes : (d : Domain) (test : Cell → Bool) (bs : List Extent) (old new : List Cell) (n : ℕ) (b0 b : Extent) → BoxesDone d test bs old n → n < length bs → Collects test old new → b ≡ coarse_box (slice_index_or bs n b0) → FindsAround d test b new → BoxesDone d test bs new (n + 1)
+pub more_boxes : (d : Domain) (test : Cell → Bool) (bs : List Extent) (old new : List Cell) (n : ℕ) (b0 b : Extent) → BoxesDone d test bs old n → n < length bs → Collects test old new → b ≡ parents_of (slice_index_or bs n b0) → FindsAround d test b new → BoxesDone d test bs new (n + 1)
 more_boxes d test bs old new n b0 b done lt more is found = record {
   passing = λ q h. either q (more.passing q h);
   finds = λ k e below there. by_place k e below there (cases_eq k n);
@@ -248,8 +244,8 @@ more_boxes d test bs old new n b0 b done lt more is found = record {
     either q (inl h) = done.passing q h
     either q (inr t) = t
 
-    by_place : (k : ℕ) (e : Extent) → k < n + 1 → k < length bs → (k ≡ n) ⊎ (k ≡ n → ⊥) → FindsAround d test (coarse_box (slice_index_or bs k e)) new
+    by_place : (k : ℕ) (e : Extent) → k < n + 1 → k < length bs → (k ≡ n) ⊎ (k ≡ n → ⊥) → FindsAround d test (parents_of (slice_index_or bs k e)) new
     by_place k e below there (inl same) =
-        subst (λ (i : ℕ). FindsAround d test (coarse_box (slice_index_or bs i e)) new) (sym same)
-        (subst (λ (x : Extent). FindsAround d test x new) (is ∙ ap coarse_box (same_at bs n b0 e lt)) found)
-    by_place k e below there (inr ne) = still_around d test (coarse_box (slice_index_or bs k e)) old new more (done.finds k e (omega arith) there)
+        subst (λ (i : ℕ). FindsAround d test (parents_of (slice_index_or bs i e)) new) (sym same)
+        (subst (λ (x : Extent). FindsAround d test x new) (is ∙ ap parents_of (same_at bs n b0 e lt)) found)
+    by_place k e below there (inr ne) = still_around d test (parents_of (slice_index_or bs k e)) old new more (done.finds k e (omega arith) there)

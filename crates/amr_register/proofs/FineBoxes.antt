@@ -5,7 +5,7 @@ use Rattle.std.specs.List.{All, Contains}
 use Rattle.std.proofs.lemmas.List.Elements.{Contains-get_or}
 use Rattle.std.proofs.lemmas.List.Folds.{list_any_at}
 use Rattle.amr_box.specs.declared.Cell.{Cell}
-use Rattle.amr_box.specs.Cells.{Extent, HasCorners, IsBoxOf, IsNear, IsProper, half, has_child_where, holds}
+use Rattle.amr_box.specs.Cells.{Extent, HasCorners, IsBoxOf, IsNear, IsProper, half, has_child_where, holds, parents_of}
 use Rattle.amr_box.proofs.Numbers.{half_le}
 use Rattle.amr_def.specs.declared.problem.Problem.{Problem}
 use Rattle.amr_def.specs.Domain.{Domain, domain}
@@ -17,7 +17,7 @@ use Rattle.amr_register.specs.Beside.{IsDomainCell, stands_beside}
 use Rattle.amr_register.specs.Entries.{AreRising}
 use Rattle.amr_register.proofs.Around.{all_found, covered_parents, near_inside, near_parents, parents_inside, stand_beside}
 use Rattle.amr_register.proofs.CellLists.{are_register_cells, where_inside}
-use Rattle.amr_register.proofs.CollectLaws.{BoxesDone, coarse_box}
+use Rattle.amr_register.proofs.CollectLaws.{BoxesDone}
 use Rattle.amr_register.proofs.Homes.{domain_cell, size_at}
 use Rattle.amr_register.proofs.RowOrder.{sorted_from_rising}
 
@@ -38,16 +38,16 @@ module _ (p : Problem) (l : ℕ) (k fine : Level) (klevel : IsLevel p l k) (flev
     pub within : IsInDomain (domain p l) b
     within = parents_inside p l k fine klevel flevel nested few n b e there cells_here
 
-    is_here : b ≡ coarse_box e
+    is_here : b ≡ parents_of e
     is_here i = record { lo = record { x = corners.west_is i; y = corners.south_is i }; hi = record { x = corners.east_is i; y = corners.north_is i } }
 
-    pub is : b ≡ coarse_box (slice_index_or fine.boxes n e)
-    is = is_here ∙ ap coarse_box same
+    pub is : b ≡ parents_of (slice_index_or fine.boxes n e)
+    is = is_here ∙ ap parents_of same
 
     pub near : IsNear b
     near =
         let proper : IsProper e = subst IsProper (sym same) (flevel.proper n e there) in
-        let parents : IsProper (coarse_box e) = record { wide = half_le _ _ proper.wide; high = half_le _ _ proper.high } in
+        let parents : IsProper (parents_of e) = record { wide = half_le _ _ proper.wide; high = half_le _ _ proper.high } in
         near_parents p l k fine klevel flevel nested few b (subst IsProper (sym is_here) parents) within
 
   pub all_near : All IsNear fine.boxes

@@ -4,11 +4,11 @@ use Rattle.std.proofs.lemmas.Int.{ints}
 use Rattle.std.proofs.lemmas.Bool.{and_from, and_parts}
 use Rattle.std.proofs.lemmas.Nat.{mul-le}
 use Rattle.amr_box.specs.declared.Cell.{Cell}
-use Rattle.amr_box.specs.Cells.{cell}
+use Rattle.amr_box.specs.Cells.{cell, moved}
 use Rattle.amr_box.proofs.CellEquality.{same_cell}
 use Rattle.amr_def.specs.declared.problem.Problem.{Problem}
 use Rattle.amr_def.specs.declared.domain.Dom.{Dom}
-use Rattle.amr_def.specs.Domain.{Domain, domain, domain_of, home_cell, in_domain, is_inside, moved}
+use Rattle.amr_def.specs.Domain.{Domain, domain, domain_of, home_cell, in_domain, is_inside}
 use Rattle.amr_def.proofs.Homes.{inside-itself}
 use Rattle.amr_def.proofs.Nesting.{test_inside, wrapped_shift}
 use Rattle.amr_def.proofs.Sizes.{doubled_small}

@@ -4,8 +4,9 @@ use Rattle.std.specs.Prelude.{ℕ, Bool, ◌&&◌, cond, not, List, is_some}
 use Rattle.std.specs.List.{list_any}
 use Rattle.amr_box.specs.declared.Cell.{Cell}
 use Rattle.amr_box.specs.declared.Face.{Face}
+use Rattle.amr_box.specs.Cells.{moved}
 use Rattle.amr_def.specs.declared.problem.Problem.{Problem}
-use Rattle.amr_def.specs.Domain.{Domain, cells_where, domain, home_cell, moved}
+use Rattle.amr_def.specs.Domain.{Domain, cells_where, domain, home_cell}
 use Rattle.amr_def.specs.State.{Masses, is_covered}
 use Rattle.amr_def.specs.Flux.{high_cell, low_cell}
 use Rattle.amr_def.specs.Tags.{neighbours}

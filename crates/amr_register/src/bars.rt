@@ -4,8 +4,7 @@ ghost use Rattle.std.specs.Prelude.{◌≡◌, Bool, ◌-◌, ◌<◌, ◌≤◌
 ghost use Rattle.std.specs.List.{All};
 ghost use Rattle.std.specs.List.Sorted.{IsPartitionPoint};
 ghost use Rattle.amr_box.specs.declared.Cell.{Cell};
-ghost use Rattle.amr_box.specs.Cells.{Extent, IsNear, cell, extent, height, holds};
-ghost use Rattle.amr_def.specs.State.{in_boxes};
+ghost use Rattle.amr_box.specs.Cells.{Extent, IsNear, cell, extent, height, holds, in_boxes};
 ghost use Rattle.amr_patch.specs.Orders.{comes_first};
 ghost use Rattle.amr_patch.specs.Patches.{AreApart};
 ghost use Rattle.amr_register.specs.Bars.{AreBars, IsBar, IsStretch};

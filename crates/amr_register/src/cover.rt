@@ -22,9 +22,9 @@ impl Cover {
     ghost use Rattle.std.specs.Prelude.{◌≡◌, is_some, IfOk};
     ghost use Rattle.std.specs.List.{All};
     ghost use Rattle.amr_box.specs.declared.Cell.{Cell};
-    ghost use Rattle.amr_box.specs.Cells.{IsNear};
+    ghost use Rattle.amr_box.specs.Cells.{IsNear, in_boxes};
     ghost use Rattle.amr_def.specs.Facts.{IsAligned};
-    ghost use Rattle.amr_def.specs.State.{in_boxes, is_covered};
+    ghost use Rattle.amr_def.specs.State.{is_covered};
     ghost use Rattle.amr_patch.specs.Levels.{level_of};
     ghost use Rattle.amr_patch.specs.Patches.{AreApart};
     ghost use Rattle.amr_register.specs.Bars.{IsStretch};

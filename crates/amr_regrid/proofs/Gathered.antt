@@ -3,7 +3,7 @@ use Rattle.std.proofs.Common.{◌≡◌, ℕ, zero, suc, ◌+◌, ◌*◌, ◌/�
 use Rattle.std.specs.List.{filter}
 use Rattle.std.proofs.lemmas.Int.{ints}
 use Rattle.amr_box.specs.declared.Cell.{Cell}
-use Rattle.amr_box.specs.Cells.{cell, cells_of, Extent, extent, half, holds}
+use Rattle.amr_box.specs.Cells.{cell, cells_of, Extent, extent, half, holds, parents_of}
 use Rattle.amr_cluster.specs.Grown.{IsOverDomain}
 use Rattle.amr_cluster.specs.Work.{cells_in}
 use Rattle.amr_cluster.proofs.GrownTags.{grown-is}
@@ -13,7 +13,7 @@ use Rattle.amr_def.specs.NewBoxes.{block_side, is_projected, is_wanted, wanted_b
 use Rattle.amr_def.specs.Tags.{is_grown}
 use Rattle.amr_def.proofs.Courants.{power_positive, twice_as_many}
 use Rattle.amr_def.proofs.Uncovered.{in_domain-yes}
-use Rattle.amr_tags.specs.Coarse.{IsEvenCorner, parents_of}
+use Rattle.amr_tags.specs.Coarse.{IsEvenCorner}
 use Rattle.amr_tags.specs.TagSets.{TagSet, has}
 use Rattle.amr_tags.specs.TagSets.{is_near as is_near_tag}
 use Rattle.amr_regrid.specs.Blocks.{blocks_of}

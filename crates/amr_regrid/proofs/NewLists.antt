@@ -2,14 +2,14 @@
 use Rattle.std.proofs.Common.{◌≡◌, ℕ, zero, suc, ◌+◌, Bool, true, sym, ap, subst, ◌∙◌, List, [], map}
 use Rattle.std.specs.Prelude.{slice_index_or}
 use Rattle.amr_box.specs.declared.Cell.{Cell}
-use Rattle.amr_box.specs.Cells.{Extent, parent}
+use Rattle.amr_box.specs.Cells.{Extent, in_boxes, parent}
 use Rattle.amr_def.specs.declared.problem.Problem.{Problem}
 use Rattle.amr_def.specs.Cluster.{cluster}
 use Rattle.amr_def.specs.Domain.{domain, in_domain, refined}
 use Rattle.amr_def.specs.Facts.{IsLevel}
 use Rattle.amr_def.specs.NewBoxes.{first_boxes, new_boxes, wanted_blocks}
 use Rattle.amr_def.specs.State as defined
-use Rattle.amr_def.specs.State.{in_boxes, level_at, no_level}
+use Rattle.amr_def.specs.State.{level_at, no_level}
 use Rattle.amr_def.specs.Tags.{is_tagged}
 use Rattle.amr_def.proofs.Uncovered.{in_domain-yes}
 use Rattle.amr_laws.proofs.Coverage.{new_boxes-good, of_parent}

@@ -7,14 +7,14 @@ use Rattle.std.specs.List.{All}
 use Rattle.std.proofs.lemmas.Int.{ints}
 use Rattle.std.proofs.lemmas.Bool.{or_left}
 use Rattle.amr_box.specs.declared.Cell.{Cell}
-use Rattle.amr_box.specs.Cells.{Extent, holds, parent}
+use Rattle.amr_box.specs.Cells.{Extent, holds, in_boxes, parent}
 use Rattle.amr_box.proofs.Children.{child_of_parent}
 use Rattle.amr_def.specs.declared.problem.Problem.{Problem}
 use Rattle.amr_def.specs.Domain.{domain, domain_box, in_domain}
 use Rattle.amr_def.specs.Facts.{IsAligned, IsLevel}
 use Rattle.amr_def.specs.NewBoxes.{first_boxes, new_boxes}
 use Rattle.amr_def.specs.Regrid.{refilled, split_mass}
-use Rattle.amr_def.specs.State.{Level, Masses, in_boxes, is_covered}
+use Rattle.amr_def.specs.State.{Level, Masses, is_covered}
 use Rattle.amr_def.proofs.LevelLists.{IsCellInside}
 use Rattle.amr_def.proofs.Nesting.{covered_there}
 use Rattle.amr_def.proofs.Sizes.{doubled_small}

@@ -1,13 +1,12 @@
 -- What a regrid makes of levels.
 use Rattle.std.specs.Prelude.{◌≡◌, ℕ, ◌+◌, ◌≤◌, Bool, List, [], ◌∷◌, length, is_some}
 use Rattle.amr_box.specs.declared.Cell.{Cell}
-use Rattle.amr_box.specs.Cells.{Extent}
+use Rattle.amr_box.specs.Cells.{Extent, in_boxes}
 use Rattle.amr_def.specs.declared.problem.Problem.{Problem}
 use Rattle.amr_def.specs.Domain.{domain}
 use Rattle.amr_def.specs.Facts.{IsLevel, IsNestedIn}
 use Rattle.amr_def.specs.NewBoxes.{first_boxes, new_boxes}
 use Rattle.amr_def.specs.State as defined
-use Rattle.amr_def.specs.State.{in_boxes}
 use Rattle.amr_patch.specs.declared.levels.Level.{Level}
 use Rattle.amr_regrid.specs.declared.masses.Remade.{Remade}
 use Rattle.amr_regrid.specs.declared.masses.Remade.TheVariants.{Kept, Made}

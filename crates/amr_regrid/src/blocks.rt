@@ -3,13 +3,12 @@
 ghost use Rattle.std.specs.Prelude.{◌≡◌, ◌+◌, ◌<◌, ◌≤◌, ◌⊎◌, ◌&&◌, ◌||◌, IfOk, OnOk, IsTrue, map};
 ghost use Rattle.std.specs.List.{All};
 ghost use Rattle.amr_box.specs.declared.Cell.{Cell};
-ghost use Rattle.amr_box.specs.Cells.{IsNear, parent};
+ghost use Rattle.amr_box.specs.Cells.{IsNear, in_boxes, parent};
 ghost use Rattle.amr_cluster.specs.Grown.{IsOverDomain};
 ghost use Rattle.amr_cluster.specs.Work.{cells_in};
 ghost use Rattle.amr_def.specs.Cluster.{cluster};
 ghost use Rattle.amr_def.specs.Domain.{domain, domain_box, has_cell_where, in_domain, refined};
 ghost use Rattle.amr_def.specs.NewBoxes.{block_side, is_projected, wanted_blocks};
-ghost use Rattle.amr_def.specs.State.{in_boxes};
 ghost use Rattle.amr_regrid.specs.Blocks.{IsLow, blocks_of};
 ghost use Rattle.amr_tags.specs.TagSets.{has};
 

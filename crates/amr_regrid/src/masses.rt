@@ -4,10 +4,9 @@ ghost use Rattle.std.specs.Prelude.{◌≡◌, ℕ, ◌≤◌, IfOk, IfSome, IsS
 ghost use Rattle.std.specs.List.{All, flat_map};
 ghost use Rattle.std.specs.Option.{option_copied};
 ghost use Rattle.amr_box.specs.declared.Cell.{Cell};
-ghost use Rattle.amr_box.specs.Cells.{parent};
+ghost use Rattle.amr_box.specs.Cells.{in_boxes, parent};
 ghost use Rattle.amr_boxlist.specs.Chopped.{chopped};
 ghost use Rattle.amr_def.specs.Regrid.{refill, refilled};
-ghost use Rattle.amr_def.specs.State.{in_boxes};
 ghost use Rattle.amr_patch.specs.Levels.{level_of};
 ghost use Rattle.amr_patch.specs.Patches.{AreApart, AreNear};
 ghost use Rattle.amr_patch.specs.declared.levels.Level.{Level};

@@ -5,11 +5,11 @@ use Rattle.std.specs.List.{All, AllPairs}
 use Rattle.std.proofs.lemmas.Int.{ints}
 use Rattle.std.proofs.lemmas.List.Elements.{All-cons, All-nil}
 use Rattle.amr_box.specs.declared.Cell.{Cell}
-use Rattle.amr_box.specs.Cells.{Extent, IsProper, cell, extent, holds}
+use Rattle.amr_box.specs.Cells.{Extent, IsProper, cell, extent, holds, in_boxes}
 use Rattle.amr_def.specs.declared.problem.Problem.{Problem}
 use Rattle.amr_def.specs.Domain.{columns, rows}
 use Rattle.amr_def.specs.Facts.{IsAligned, IsLevel, IsNestedLevel}
-use Rattle.amr_def.specs.State.{Level, in_boxes}
+use Rattle.amr_def.specs.State.{Level}
 use Rattle.amr_patch.proofs.Rows.{inside, is_inside}
 use Rattle.amr_def.proofs.Nesting.{in_domain-inside}
 use Rattle.amr_def.proofs.Uncovered.{in_domain-yes}

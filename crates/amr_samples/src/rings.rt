@@ -2,8 +2,7 @@
 
 ghost use Rattle.std.specs.Prelude.{◌≡◌, [], ◌∷◌, pos, cond, None, Some, IfOk};
 ghost use Rattle.amr_box.specs.declared.Cell.{Cell};
-ghost use Rattle.amr_box.specs.Cells.{IsNear, cell, extent};
-ghost use Rattle.amr_def.specs.State.{in_boxes};
+ghost use Rattle.amr_box.specs.Cells.{IsNear, cell, extent, in_boxes};
 ghost use Rattle.amr_def.specs.declared.problem.Sides.TheVariants.{Periodic};
 ghost use Rattle.amr_patch.specs.Levels.{level_of};
 

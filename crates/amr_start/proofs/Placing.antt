@@ -10,9 +10,9 @@ use Rattle.std.proofs.Math.Nat.{mul-le-mul_right}
 use Rattle.std.proofs.lemmas.Bool.{and_from, or_right}
 use Rattle.std.proofs.Math.Bool.{or-false}
 use Rattle.amr_box.specs.declared.Cell.{Cell}
-use Rattle.amr_box.specs.Cells.{Extent, IsNear, cell, holds, within}
+use Rattle.amr_box.specs.Cells.{Extent, IsNear, cell, holds, in_boxes, within}
 use Rattle.amr_box.proofs.Numbers.{below_from, is_between, not_below_from}
-use Rattle.amr_def.specs.State.{Masses, in_boxes}
+use Rattle.amr_def.specs.State.{Masses}
 use Rattle.amr_patch.proofs.Lookups.{some_mass}
 use Rattle.amr_patch.specs.declared.patches.Patch.{Patch}
 use Rattle.amr_patch.specs.Patches.{AreNear, ArePatchesApart, box, in_patches, mass_in, masses_in}

@@ -6,11 +6,11 @@ use Rattle.std.proofs.lemmas.Nat.{mul-add-lt}
 use Rattle.std.proofs.lemmas.Bool.Decides.{nat_tests}
 use Rattle.std.proofs.lemmas.Bool.{and_left, and_parts, and_right, lt-ltb, ltb-false as past, ltb-true}
 use Rattle.amr_box.specs.declared.Cell.{Cell}
-use Rattle.amr_box.specs.Cells.{Extent, IsNear, child, half, has_child_where, height, holds, width}
+use Rattle.amr_box.specs.Cells.{Extent, IsNear, child, half, has_child_where, height, holds, parents_of, width}
 use Rattle.amr_box.proofs.Tests.{and_apart, opposite}
 use Rattle.amr_box.proofs.Numbers.{side-is}
 use Rattle.amr_tags.specs.Bits.{AreRows, bit_of, words_for}
-use Rattle.amr_tags.specs.Coarse.{IsEvenCorner, coarse_bit, parents_of, there}
+use Rattle.amr_tags.specs.Coarse.{IsEvenCorner, coarse_bit, there}
 use Rattle.amr_tags.specs.Grown.{AreBits}
 use Rattle.amr_tags.specs.Parts.{in_rows}
 use Rattle.amr_tags.specs.TagSets.{column_in, row_in}

@@ -5,9 +5,9 @@ use Rattle.std.proofs.lemmas.Bool.{and_parts}
 use Rattle.std.proofs.lemmas.Bool.Decides.{same_from_decides}
 use Rattle.std.proofs.lemmas.Int.{ints}
 use Rattle.amr_box.specs.declared.Cell.{Cell}
-use Rattle.amr_box.specs.Cells.{Extent, cell, height, holds, width}
+use Rattle.amr_box.specs.Cells.{Extent, cell, height, holds, moved, width}
 use Rattle.amr_box.proofs.Numbers.{side-is}
-use Rattle.amr_tags.specs.TagSets.{column_in, has, home, is_near, moved, row_in, tag_set, wrapped}
+use Rattle.amr_tags.specs.TagSets.{column_in, has, home, is_near, row_in, tag_set, wrapped}
 use Rattle.amr_tags.specs.Bits.{bit_of, words_for}
 use Rattle.amr_tags.specs.Grown.{beside, grown_bit}
 use Rattle.amr_tags.proofs.Offsets.{near-joined, near-more, near-none, square_box}

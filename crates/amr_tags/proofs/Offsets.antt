@@ -7,11 +7,11 @@ use Rattle.std.proofs.Math.Bool.{or-false}
 use Rattle.std.proofs.lemmas.Bool.{and_parts}
 use Rattle.std.proofs.lemmas.Int.{ints}
 use Rattle.amr_box.specs.declared.Cell.{Cell}
-use Rattle.amr_box.specs.Cells.{Extent, cell, extent, height, holds, width}
+use Rattle.amr_box.specs.Cells.{Extent, cell, extent, height, holds, moved, width}
 use Rattle.amr_box.proofs.CellLists.{IsFound, any_in_box, found_in_box}
 use Rattle.amr_box.proofs.Numbers.{side-is}
 use Rattle.amr_tags.specs.Stored.{IsIn}
-use Rattle.amr_tags.specs.TagSets.{TagSet, has, home, is_near, moved, wrapped}
+use Rattle.amr_tags.specs.TagSets.{TagSet, has, home, is_near, wrapped}
 use Rattle.amr_tags.proofs.Neighbours.{split, wrapped-moved}
 use Rattle.amr_tags.proofs.Places.{in_holds, is_in}
 

@@ -1,7 +1,7 @@
 -- Bits coarsened by two in both directions.
 use Rattle.std.specs.Prelude.{◌≡◌, ℕ, ◌+◌, ◌-◌, ◌*◌, ◌/◌, Bool, cond, ◌&&◌, ◌||◌, List, nat_lt, ◌+ℤ◌}
 use Rattle.amr_box.specs.declared.Cell.{Cell}
-use Rattle.amr_box.specs.Cells.{Extent, extent, half, parent}
+use Rattle.amr_box.specs.Cells.{half}
 use Rattle.amr_tags.specs.Bits.{bit, bit_of}
 
 -- whether one of the bits 2i and 2i + 1 of a word is set
@@ -26,7 +26,3 @@ coarse_bit per_row height words i j =
 pub record IsEvenCorner (c : Cell) : Type 0 where
   pub x : half c.x +ℤ half c.x ≡ c.x
   pub y : half c.y +ℤ half c.y ≡ c.y
-
--- the parents of a box's cells (BoxLib: coarsen)
-abbrev pub parents_of : Extent → Extent
-parents_of b = extent (parent b.lo) (parent b.hi)

@@ -3,7 +3,7 @@ use Rattle.std.specs.Prelude.{◌≡◌, ℕ, Bool, true, false, ◌&&◌, ℤ, 
 use Rattle.std.specs.List.{list_any}
 use Rattle.std.specs.Int.{int_rem_euclid}
 use Rattle.amr_box.specs.declared.Cell.{Cell}
-use Rattle.amr_box.specs.Cells.{Extent, IsNear, cell, cells_of, extent, height, holds, width}
+use Rattle.amr_box.specs.Cells.{Extent, IsNear, cell, height, holds, moved, square, width}
 use Rattle.amr_tags.specs.Bits.{AreRows, bit_of, words_for}
 
 pub record TagSet : Type 0 where
@@ -55,13 +55,6 @@ wrapped false low n z = z
 -- the cell of the box that a cell stands for
 abbrev pub home : TagSet → Cell → Cell
 home t c = cell (wrapped t.wrap_x t.bx.lo.x (width t.bx) c.x) (wrapped t.wrap_y t.bx.lo.y (height t.bx) c.y)
-
-abbrev pub moved : Cell → Cell → Cell
-moved c o = cell (c.x +ℤ o.x) (c.y +ℤ o.y)
-
--- the offsets of the cells at most n away on both axes
-abbrev pub square : ℕ → List Cell
-square n = cells_of (extent (cell (pos 0 -ℤ pos n) (pos 0 -ℤ pos n)) (cell (pos n) (pos n)))
 
 -- whether a tagged cell is at most n away on both axes, past the end of a periodic axis too
 abbrev pub is_near : TagSet → ℕ → Cell → Bool

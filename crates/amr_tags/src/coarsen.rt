@@ -2,9 +2,9 @@
 
 ghost use Rattle.std.specs.Prelude.{◌≡◌, ℕ, ◌+◌, ◌*◌, ◌<◌, ◌≤◌, ◌||◌, length};
 ghost use Rattle.amr_box.specs.declared.Cell.{Cell};
-ghost use Rattle.amr_box.specs.Cells.{IsNear, has_child_where, height, width};
+ghost use Rattle.amr_box.specs.Cells.{IsNear, has_child_where, height, parents_of, width};
 ghost use Rattle.amr_tags.specs.Bits.{AreRows, bit, words_for};
-ghost use Rattle.amr_tags.specs.Coarse.{IsEvenCorner, coarse_bit, pair, paired, parents_of, there};
+ghost use Rattle.amr_tags.specs.Coarse.{IsEvenCorner, coarse_bit, pair, paired, there};
 ghost use Rattle.amr_tags.specs.Grown.{AreBits};
 ghost use Rattle.amr_tags.specs.Parts.{in_rows};
 

@@ -2,10 +2,10 @@
 #![tactic(auto)]
 
 ghost use Rattle.std.specs.Prelude.{◌≡◌, ◌↔◌, true, false, ◌||◌, ◌&&◌, IfOk, IfSome, IsNone, IsTrue, count_by};
-ghost use Rattle.amr_box.specs.Cells.{IsNear, cells_of, has_child_where, holds, is_same_cell, width};
+ghost use Rattle.amr_box.specs.Cells.{IsNear, cells_of, has_child_where, holds, is_same_cell, parents_of, width};
 ghost use Rattle.amr_box.specs.declared.Cell.{Cell};
 ghost use Rattle.amr_tags.specs.Bits.{words_for};
-ghost use Rattle.amr_tags.specs.Coarse.{IsEvenCorner, parents_of};
+ghost use Rattle.amr_tags.specs.Coarse.{IsEvenCorner};
 ghost use Rattle.amr_tags.specs.TagSets.{IsLaidOut, IsLeastBox, SameShape, has, is_near};
 
 mod coarsen;

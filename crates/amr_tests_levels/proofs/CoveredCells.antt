@@ -9,10 +9,10 @@ use Rattle.std.proofs.lemmas.List.{length-map}
 use Rattle.std.proofs.lemmas.List.Sorted.{All-permutation}
 use Rattle.std.proofs.Math.ListN.{get_or-map}
 use Rattle.amr_box.specs.declared.Cell.{Cell}
-use Rattle.amr_box.specs.Cells.{Extent, cell, extent, holds, is_same_cell, parent}
+use Rattle.amr_box.specs.Cells.{Extent, cell, extent, holds, in_boxes, is_same_cell, parent}
 use Rattle.amr_box.proofs.CellEquality.{coordinates_itself, coordinates_same}
 use Rattle.amr_def.specs.Facts.{IsAligned}
-use Rattle.amr_def.specs.State.{Masses, children_mass, in_boxes, mass_of}
+use Rattle.amr_def.specs.State.{Masses, children_mass, mass_of}
 use Rattle.amr_def.proofs.Nests.{half_and_odd}
 use Rattle.amr_def.proofs.Nesting.{odd_small}
 use Rattle.amr_patch.specs.declared.patches.Patch.{Patch}

@@ -9,12 +9,12 @@ use Rattle.std.proofs.lemmas.Grind.{get_or_head}
 use Rattle.std.proofs.lemmas.Bool.{and_from, or_cases}
 use Rattle.std.proofs.lemmas.Int.{ints}
 use Rattle.amr_box.specs.declared.Cell.{Cell}
-use Rattle.amr_box.specs.Cells.{Extent, IsNear, IsProper, holds, is_same_cell}
+use Rattle.amr_box.specs.Cells.{Extent, IsNear, IsProper, holds, in_boxes, is_same_cell}
 use Rattle.amr_box.proofs.CellEquality.{coordinates_itself, coordinates_same}
 use Rattle.amr_def.specs.declared.problem.Problem.{Problem}
 use Rattle.amr_def.specs.Domain.{domain, in_domain, is_inside}
 use Rattle.amr_def.specs.Facts.{IsLevel}
-use Rattle.amr_def.specs.State.{Level, Masses, in_boxes}
+use Rattle.amr_def.specs.State.{Level, Masses}
 use Rattle.amr_def.proofs.Stepping.{level_kept}
 use Rattle.amr_def.proofs.Uncovered.{inside_test}
 use Rattle.amr_ghost.specs.Filling.{LiesInDomain}

@@ -3,8 +3,8 @@
 ghost use Rattle.std.specs.Prelude.{◌≡◌, ◌<◌, [], ◌∷◌, pos, map, is_some, IfOk};
 ghost use Rattle.std.specs.List.Sorted.{IsPermutation};
 ghost use Rattle.amr_box.specs.declared.Cell.{Cell};
-ghost use Rattle.amr_box.specs.Cells.{cell, extent};
-ghost use Rattle.amr_def.specs.State.{in_boxes, mass_of};
+ghost use Rattle.amr_box.specs.Cells.{cell, extent, in_boxes};
+ghost use Rattle.amr_def.specs.State.{mass_of};
 ghost use Rattle.amr_patch.specs.Levels.{level_of, patches_of};
 ghost use Rattle.amr_patch.specs.Patches.{AreApart, AreNear, box};
 ghost use Rattle.amr_transfer.specs.Sums.{AreCoarsenable};

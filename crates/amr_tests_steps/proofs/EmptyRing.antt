@@ -7,12 +7,12 @@ use Rattle.std.specs.Option.{unwrap_or}
 use Rattle.std.proofs.lemmas.Int.{ints}
 use Rattle.amr_box.specs.declared.Cell.{Cell}
 use Rattle.amr_box.specs.declared.Face.{Face}
-use Rattle.amr_box.specs.Cells.{Extent, at_least_zero, cell, extent, holds, parent}
+use Rattle.amr_box.specs.Cells.{Extent, at_least_zero, cell, extent, holds, in_boxes, parent}
 use Rattle.amr_def.specs.declared.problem.Problem.{Problem}
 use Rattle.amr_def.specs.declared.problem.Sides.{Sides}
 use Rattle.amr_def.specs.declared.problem.Sides.TheVariants.{Periodic}
 use Rattle.amr_def.specs.Domain.{columns, domain, home_cell, in_domain, rows}
-use Rattle.amr_def.specs.State.{Masses, in_boxes, mass_of, no_masses}
+use Rattle.amr_def.specs.State.{Masses, mass_of, no_masses}
 use Rattle.amr_def.proofs.Nesting.{in_domain-inside}
 use Rattle.amr_patch.proofs.Rows.{is_inside}
 use Rattle.amr_def.specs.Value.{high_inflow, inflow_at, low_inflow, value_at}

@@ -4,9 +4,9 @@ use Rattle.std.specs.declared.option.Option.{Option}
 use Rattle.std.specs.declared.option.Option.TheVariants.{None, Some}
 use Rattle.std.specs.Option.{unwrap_or}
 use Rattle.amr_box.specs.declared.Cell.{Cell}
-use Rattle.amr_box.specs.Cells.{Extent, child, holds}
+use Rattle.amr_box.specs.Cells.{Extent, child, holds, in_boxes}
 use Rattle.amr_def.specs.Regrid.{refilled, split_mass}
-use Rattle.amr_def.specs.State.{Masses, children_mass, in_boxes, is_covered, mass_of}
+use Rattle.amr_def.specs.State.{Masses, children_mass, is_covered, mass_of}
 use Rattle.amr_def.proofs.Children.{first_child, fourth_child, second_child, third_child}
 use Rattle.amr_def.proofs.Nests.{shares_sum}
 use Rattle.amr_def.proofs.Uncovered.{no_children}

@@ -4,9 +4,9 @@ ghost use Rattle.std.specs.Prelude.{◌≡◌, ℕ, ◌+◌, ◌*◌, ◌/◌, �
 ghost use Rattle.std.specs.Option.{option_copied};
 ghost use Rattle.std.specs.List.{All};
 ghost use Rattle.amr_box.specs.declared.Cell.{Cell};
-ghost use Rattle.amr_box.specs.Cells.{cell, holds, parent};
+ghost use Rattle.amr_box.specs.Cells.{cell, holds, in_boxes, parent};
 ghost use Rattle.amr_def.specs.Regrid.{refilled, share, split_mass};
-ghost use Rattle.amr_def.specs.State.{children_mass, in_boxes, mass_of};
+ghost use Rattle.amr_def.specs.State.{children_mass, mass_of};
 ghost use Rattle.amr_patch.specs.Levels.{level_of, patches_of};
 ghost use Rattle.amr_patch.specs.Pairwise.{Pairwise};
 ghost use Rattle.amr_patch.specs.Patches.{ArePatchesApart, KeepsFrameAndFluxes, box, in_patches, masses_in};

@@ -7,12 +7,12 @@ use Rattle.std.specs.declared.option.Option.TheVariants.{None, Some}
 use Rattle.std.specs.Option.{unwrap_or}
 use Rattle.std.proofs.lemmas.Int.{ints}
 use Rattle.amr_box.specs.declared.Cell.{Cell}
-use Rattle.amr_box.specs.Cells.{Extent, IsProper, cell, cell_cmp, cells_of, child, extent, holds, within}
+use Rattle.amr_box.specs.Cells.{Extent, IsProper, cell, cell_cmp, cells_of, child, extent, holds, in_boxes, within}
 use Rattle.amr_box.proofs.CellLists.{among_cells_of}
 use Rattle.amr_def.specs.declared.problem.Problem.{Problem}
 use Rattle.amr_def.specs.declared.problem.Row.{Row}
 use Rattle.amr_def.specs.Domain.{columns, rows, domain, domain_box, in_domain, is_inside}
-use Rattle.amr_def.specs.State.{Masses, Level, State, level_at, is_covered, mass_of, children_mass, in_boxes}
+use Rattle.amr_def.specs.State.{Masses, Level, State, level_at, is_covered, mass_of, children_mass}
 use Rattle.amr_def.specs.Ledger.{mass_at, sum_to, total_mass}
 use Rattle.amr_def.specs.Run.{stepped}
 use Rattle.amr_def.specs.Facts.{IsAligned, IsLevel, IsNestedLevel, IsSmallRow, IsSound, growth}

@@ -2,9 +2,9 @@
 use Rattle.std.proofs.Common.{◌≡◌, ℕ, zero, suc, ◌<◌, ◌≤◌, true, ℤ, pos, neg_ℤ, ◌-ℤ◌, ◌≤ℤ◌, sym, subst, arith, List, [], ◌∷◌, length, get_or}
 use Rattle.std.proofs.lemmas.Int.{ints}
 use Rattle.amr_box.specs.declared.Cell.{Cell}
-use Rattle.amr_box.specs.Cells.{cell, cells_of, extent, holds}
+use Rattle.amr_box.specs.Cells.{cell, cells_of, extent, holds, square}
 use Rattle.amr_def.specs.declared.problem.Problem.{Problem}
-use Rattle.amr_def.specs.Domain.{columns, domain, home_cell, is_periodic, rows, square}
+use Rattle.amr_def.specs.Domain.{columns, domain, home_cell, is_periodic, rows}
 use Rattle.amr_def.proofs.ClusterLaws.{Each}
 use Rattle.amr_def.proofs.Homes.{wrapped_between}
 use Rattle.amr_laws.proofs.CellSets.{both_parts, each_held, each_then}

@@ -2,10 +2,9 @@
 use Rattle.std.specs.Prelude.{◌≡◌, ℕ, ◌<◌, true, pos, neg_ℤ, ◌+ℤ◌, ◌≤ℤ◌, List, length, map, slice_index_or, is_some}
 use Rattle.std.specs.List.{All, range_with_len}
 use Rattle.amr_box.specs.declared.Cell.{Cell}
-use Rattle.amr_box.specs.Cells.{cell, Extent, IsNear, width}
+use Rattle.amr_box.specs.Cells.{cell, Extent, IsNear, width, in_boxes, square}
 use Rattle.amr_def.specs.declared.problem.Problem.{Problem}
-use Rattle.amr_def.specs.Domain.{square}
-use Rattle.amr_def.specs.State.{Masses, Level, in_boxes, no_level}
+use Rattle.amr_def.specs.State.{Masses, Level, no_level}
 use Rattle.amr_witness.specs.Parts.{IsInDomain}
 use Rattle.amr_witness_regrid.specs.declared.cells.Offsets.{Offsets}
 

@@ -1,9 +1,9 @@
 -- The definitions of tags and new boxes, of one level by its masses and those of the level below.
 use Rattle.std.specs.Prelude.{ℕ, ◌+◌, Bool, ◌&&◌, ◌||◌, List, [], map, slice_index}
 use Rattle.amr_box.specs.declared.Cell.{Cell}
-use Rattle.amr_box.specs.Cells.{Extent}
+use Rattle.amr_box.specs.Cells.{Extent, moved}
 use Rattle.amr_def.specs.declared.problem.Problem.{Problem}
-use Rattle.amr_def.specs.Domain.{domain, home_cell, in_domain, moved, refined, has_cell_where, cells_where}
+use Rattle.amr_def.specs.Domain.{domain, home_cell, in_domain, refined, has_cell_where, cells_where}
 use Rattle.amr_def.specs.State.{Masses, State}
 use Rattle.amr_def.specs.Value.{value_at}
 use Rattle.amr_def.specs.Tags.{differs_by, is_grown, is_tagged_by}

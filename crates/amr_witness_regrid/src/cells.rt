@@ -2,9 +2,8 @@
 
 ghost use Rattle.std.specs.Prelude.{◌≡◌, ℕ, ◌+◌, ◌*◌, ◌<◌, ◌≤◌, ◌++◌, IfOk, OnOk, pos, negsuc, ◌*ℤ◌, ◌<ℤ◌, ◌≤ℤ◌};
 ghost use Rattle.std.specs.Int.{int_rem_euclid};
-ghost use Rattle.amr_box.specs.Cells.{IsNear, cells_of, child, extent, has_child_where, height, width};
-ghost use Rattle.amr_def.specs.Domain.{domain, home_cell, moved, refined, square, wrapped};
-ghost use Rattle.amr_def.specs.State.{in_boxes};
+ghost use Rattle.amr_box.specs.Cells.{IsNear, cells_of, child, extent, has_child_where, height, in_boxes, moved, square, width};
+ghost use Rattle.amr_def.specs.Domain.{domain, home_cell, refined, wrapped};
 ghost use Rattle.amr_regrid.specs.Blocks.{IsLow};
 ghost use Rattle.amr_witness_regrid.specs.Places.{AreOffsets, IsUpTo, cell_in, row_of};
 

@@ -1,8 +1,8 @@
 //! The tags of a level.
 
 ghost use Rattle.std.specs.Prelude.{◌≡◌, ◌<◌, ◌≤◌};
+ghost use Rattle.amr_box.specs.Cells.{square};
 ghost use Rattle.amr_def.specs.Tags.{is_grown, is_tagged_by};
-ghost use Rattle.amr_def.specs.Domain.{square};
 ghost use Rattle.amr_witness.specs.Maps.{masses_of, old_of};
 ghost use Rattle.amr_witness.specs.Parts.{IsInDomain};
 ghost use Rattle.amr_witness_regrid.specs.Places.{HasCellsInside, IsUpTo};

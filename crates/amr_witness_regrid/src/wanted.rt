@@ -2,10 +2,9 @@
 
 ghost use Rattle.std.specs.Prelude.{◌≡◌, ◌+◌, ◌<◌, ◌≤◌, ◌&&◌, ◌||◌, true, IfOk, IsTrue, map};
 ghost use Rattle.std.specs.List.{All, list_any};
-ghost use Rattle.amr_box.specs.Cells.{has_child_where, holds, IsNear, is_same_cell};
+ghost use Rattle.amr_box.specs.Cells.{has_child_where, holds, IsNear, is_same_cell, in_boxes, square};
 ghost use Rattle.amr_box.specs.declared.Cell.{Cell};
-ghost use Rattle.amr_def.specs.Domain.{domain, domain_box, is_near, refined, square};
-ghost use Rattle.amr_def.specs.State.{in_boxes};
+ghost use Rattle.amr_def.specs.Domain.{domain, domain_box, is_near, refined};
 ghost use Rattle.amr_def.specs.NewBoxes.{is_projected};
 ghost use Rattle.amr_tags.specs.TagSets.{has};
 ghost use Rattle.amr_witness.specs.Maps.{masses_of, old_of};

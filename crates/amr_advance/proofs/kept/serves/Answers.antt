@@ -1,7 +1,6 @@
 use Rattle.std.proofs.Common.{◌∙◌, List, ap, sym}
 use Rattle.std.specs.Option.{option_copied}
-use Rattle.amr_box.specs.Cells.{Extent}
-use Rattle.amr_def.specs.State.{in_boxes}
+use Rattle.amr_box.specs.Cells.{Extent, in_boxes}
 use Rattle.amr_layout.specs.Surroundings.{around}
 use Rattle.amr_advance.proofs.KeptLaws.{serves_here}
 use Rattle.amr_advance.proofs.kept.serves.Goals as goal

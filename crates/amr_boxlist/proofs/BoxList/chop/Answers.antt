@@ -1,7 +1,6 @@
 use Rattle.std.proofs.Common.{◌≡◌, ◌∙◌, ap, true, List}
 use Rattle.std.specs.List.{flat_map}
-use Rattle.amr_box.specs.Cells.{Extent}
-use Rattle.amr_boxlist.specs.Lists.{in_boxes}
+use Rattle.amr_box.specs.Cells.{Extent, in_boxes}
 use Rattle.amr_boxlist.specs.Chopped.{chopped}
 use Rattle.amr_boxlist.proofs.Sets.{parts-apart, parts-same_cells}
 use Rattle.amr_boxlist.proofs.PatchBoxes.{chopped-hold}

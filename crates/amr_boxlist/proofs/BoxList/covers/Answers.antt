@@ -1,7 +1,7 @@
 use Rattle.std.proofs.Common.{◌∙◌, subst, sym, List, ◌↔◌, IsTrue}
 use Rattle.amr_box.specs.declared.Cell.{Cell}
-use Rattle.amr_box.specs.Cells.{Extent, holds}
-use Rattle.amr_boxlist.specs.Lists.{AreApart, in_boxes}
+use Rattle.amr_box.specs.Cells.{Extent, holds, in_boxes}
+use Rattle.amr_boxlist.specs.Lists.{AreApart}
 use Rattle.amr_boxlist.proofs.BoxList.covers.Goals as goal
 
 pub covers-requires-clause-apart : goal.covers-requires-clause-apart

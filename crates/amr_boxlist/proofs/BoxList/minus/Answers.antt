@@ -1,8 +1,7 @@
 use Rattle.std.proofs.Common.{◌≡◌, ◌∙◌, ◌&&◌, ap, List}
 use Rattle.std.specs.Prelude.{not}
 use Rattle.std.specs.List.{flat_map}
-use Rattle.amr_box.specs.Cells.{Extent, holds}
-use Rattle.amr_boxlist.specs.Lists.{in_boxes}
+use Rattle.amr_box.specs.Cells.{Extent, holds, in_boxes}
 use Rattle.amr_boxlist.specs.Remnants.{remnants, whole_or_frame}
 use Rattle.amr_boxlist.proofs.Sets.{parts-apart, parts-in_boxes}
 use Rattle.amr_boxlist.proofs.Frame.{remnants-hold}

@@ -1,6 +1,5 @@
 use Rattle.std.proofs.Common.{◌∙◌, ◌&&◌, ap, List}
-use Rattle.amr_box.specs.Cells.{Extent, holds}
-use Rattle.amr_boxlist.specs.Lists.{in_boxes}
+use Rattle.amr_box.specs.Cells.{Extent, holds, in_boxes}
 use Rattle.amr_boxlist.proofs.Sets.{apart-push}
 use Rattle.amr_boxlist.proofs.BoxList.push_disjoint.Goals as goal
 

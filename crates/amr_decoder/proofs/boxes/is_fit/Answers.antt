@@ -1,6 +1,7 @@
 use Rattle.std.proofs.Common.{◌∙◌, ap, sym, ◌&&◌}
+use Rattle.amr_box.specs.Cells.{is_proper}
 use Rattle.amr_def.specs.Domain.{Domain, domain_box}
-use Rattle.amr_payload.specs.Tests.{is_aligned, is_proper, is_same_box, lies_in}
+use Rattle.amr_payload.specs.Tests.{is_aligned, is_same_box, lies_in}
 use Rattle.amr_decoder.specs.Boxes.{box_at}
 use Rattle.amr_decoder.proofs.BoxTests.{base_is, blocking_some, fine_is}
 use Rattle.amr_decoder.proofs.boxes.is_fit.Goals as goal

@@ -1,8 +1,7 @@
 use Rattle.std.proofs.Common.{◌∙◌, List, map, take, sym, ap, subst, arith}
 use Rattle.std.proofs.lemmas.List.{length-map}
-use Rattle.amr_box.specs.Cells.{Extent}
+use Rattle.amr_box.specs.Cells.{Extent, in_boxes}
 use Rattle.amr_codec.specs.MassWidths.{width_of}
-use Rattle.amr_def.specs.State.{in_boxes}
 use Rattle.amr_patch.proofs.Standing.{order_of_boxes}
 use Rattle.amr_payload.specs.Tests as tests
 use Rattle.amr_decoder.specs.declared.grid.Grid.{Grid}

@@ -2,9 +2,9 @@ use Rattle.std.proofs.Common.{◌≡◌, ◌∙◌, List, cond, map, ap, sym, su
 use Rattle.std.specs.List.{flat_map}
 use Rattle.std.specs.List.Sorted.{IsPermutation}
 use Rattle.std.specs.declared.option.Option.TheVariants.{None, Some}
-use Rattle.amr_box.specs.Cells.{Extent}
+use Rattle.amr_box.specs.Cells.{Extent, in_boxes}
 use Rattle.amr_boxlist.specs.Chopped.{chopped}
-use Rattle.amr_boxlist.specs.Lists.{AreApart, holders, in_boxes}
+use Rattle.amr_boxlist.specs.Lists.{AreApart, holders}
 use Rattle.amr_patch.specs.Levels.{patches_of}
 use Rattle.amr_patch.specs.Patches.{AreNear, box}
 use Rattle.amr_patch.proofs.Apart.{apart_from_counts}

@@ -1,8 +1,7 @@
 use Rattle.std.proofs.Common.{◌∙◌, ◌++◌, ◌∷◌, ◌&&◌, [], List, take, ap, arith}
 use Rattle.std.proofs.lemmas.Bool.{and_parts, false_from_ne_true}
 use Rattle.std.proofs.lemmas.List.{take_all}
-use Rattle.amr_box.specs.Cells.{Extent, holds}
-use Rattle.amr_def.specs.State.{in_boxes}
+use Rattle.amr_box.specs.Cells.{Extent, holds, in_boxes}
 use Rattle.amr_decoder.specs.declared.grid.Grid.{Grid}
 use Rattle.amr_decoder.specs.Grids.{boxes_of}
 use Rattle.amr_decoder.proofs.GridBoxes.{apart_before, one_more}

@@ -1,9 +1,8 @@
 use Rattle.std.proofs.Common.{◌≡◌, ◌∙◌, true, ℕ, List, add-one, sym, ap, subst}
 use Rattle.std.proofs.lemmas.Result.{IfOk-weaker}
-use Rattle.amr_box.specs.Cells.{Extent, parent}
+use Rattle.amr_box.specs.Cells.{Extent, in_boxes, parent}
 use Rattle.amr_def.specs.Domain.{Domain, domain, domain_of, in_domain}
 use Rattle.amr_def.specs.Facts.{IsLevel, IsNestedIn}
-use Rattle.amr_def.specs.State.{in_boxes}
 use Rattle.amr_patch.specs.Levels.{level_of}
 use Rattle.amr_payload.specs.Tests.{surrounds}
 use Rattle.amr_payload.proofs.ReadStates.{surrounds_at}

@@ -2,10 +2,9 @@ use Rattle.std.proofs.Common.{◌≡◌, ◌∙◌, ◌&&◌, ◌||◌, Bool, tr
 use Rattle.std.specs.List.{list_any}
 use Rattle.std.proofs.lemmas.List.{take_all}
 use Rattle.std.proofs.lemmas.List.Folds.{list_any_at, list_any_more}
-use Rattle.amr_box.specs.Cells.{Extent, holds}
+use Rattle.amr_box.specs.Cells.{Extent, holds, parents_of}
 use Rattle.amr_def.specs.Domain.{domain_box, domain_of}
 use Rattle.amr_tags.specs.TagSets.{has}
-use Rattle.amr_tags.specs.Coarse.{parents_of}
 use Rattle.amr_nest.specs.Reach.{IsInDomainBox, is_reached}
 use Rattle.amr_nest.proofs.Reaches.{parents_proper}
 use Rattle.amr_nest.proofs.Projected.{near_any, near_box, near_by_turns}

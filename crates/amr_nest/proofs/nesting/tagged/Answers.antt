@@ -1,10 +1,9 @@
 use Rattle.std.proofs.Common.{◌∙◌, ◌&&◌, ◌||◌, Bool, true, false, List, take, sym, ap}
 use Rattle.std.proofs.lemmas.List.{take_all}
 use Rattle.std.proofs.lemmas.List.Folds.{list_any_more}
-use Rattle.amr_box.specs.Cells.{Extent, holds}
+use Rattle.amr_box.specs.Cells.{Extent, holds, in_boxes}
 use Rattle.amr_box.proofs.Tests.{and_shared}
 use Rattle.amr_def.specs.Domain.{domain_box, domain_of}
-use Rattle.amr_def.specs.State.{in_boxes}
 use Rattle.amr_nest.proofs.nesting.tagged.Goals as goal
 use Rattle.amr_nest.proofs.Gathered.{nothing_yet}
 

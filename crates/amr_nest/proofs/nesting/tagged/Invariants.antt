@@ -1,8 +1,7 @@
 use Rattle.std.proofs.Common.{◌≡◌, ◌&&◌, take}
 use Rattle.amr_box.specs.declared.Cell.{Cell}
-use Rattle.amr_box.specs.Cells.{holds}
+use Rattle.amr_box.specs.Cells.{holds, in_boxes}
 use Rattle.amr_def.specs.Domain.{domain_box, domain_of}
-use Rattle.amr_def.specs.State.{in_boxes}
 use Rattle.amr_tags.specs.TagSets.{has}
 use Rattle.amr_nest.proofs.nesting.tagged.Given as goal
 

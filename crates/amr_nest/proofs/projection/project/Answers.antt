@@ -2,10 +2,9 @@ use Rattle.std.proofs.Common.{◌≡◌, ◌∙◌, ◌&&◌, ◌||◌, Bool, tr
 use Rattle.std.specs.List.{list_any}
 use Rattle.std.proofs.lemmas.List.{take_all}
 use Rattle.std.proofs.lemmas.List.Folds.{list_any_at, list_any_more}
-use Rattle.amr_box.specs.Cells.{Extent, has_child_where, holds}
+use Rattle.amr_box.specs.Cells.{Extent, has_child_where, holds, parents_of}
 use Rattle.amr_def.specs.Domain.{domain_box, domain_of, in_blocks, in_domain}
 use Rattle.amr_def.proofs.Uncovered.{domain_box_cells}
-use Rattle.amr_tags.specs.Coarse.{parents_of}
 use Rattle.amr_nest.specs.Reach.{is_reached}
 use Rattle.amr_nest.proofs.Reaches.{parents_proper}
 use Rattle.amr_nest.proofs.Projected.{projected_any, projected_by, projected_by_turns}

@@ -1,9 +1,8 @@
 use Rattle.std.proofs.Common.{◌≡◌, ◌≢◌, ◌⊎◌, ◌∙◌, ℕ, Bool, inl, inr, ap}
 use Rattle.std.proofs.lemmas.Result.{IfOk-weaker}
 use Rattle.amr_box.specs.declared.Cell.{Cell}
-use Rattle.amr_box.specs.Cells.{has_child_where}
+use Rattle.amr_box.specs.Cells.{has_child_where, parents_of}
 use Rattle.amr_def.proofs.Nesting.{blocking_cases}
-use Rattle.amr_tags.specs.Coarse.{parents_of}
 use Rattle.amr_tags.specs.TagSets.{has}
 use Rattle.amr_regrid.proofs.CellBlocks.{has_cell_2, has_cell_4}
 use Rattle.amr_regrid.proofs.Gathered.{blocks_2, blocks_4, cells_1, cells_by, pairs_4}

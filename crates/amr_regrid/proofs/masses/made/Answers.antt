@@ -2,9 +2,9 @@ use Rattle.std.proofs.Common.{◌∙◌, List, map, ap, sym, subst, refl, is_som
 use Rattle.std.specs.Option.{option_copied}
 use Rattle.std.specs.List.{flat_map}
 use Rattle.std.specs.List.Sorted.{IsPermutation}
-use Rattle.amr_box.specs.Cells.{Extent}
+use Rattle.amr_box.specs.Cells.{Extent, in_boxes}
 use Rattle.amr_boxlist.specs.Chopped.{chopped}
-use Rattle.amr_boxlist.specs.Lists.{AreApart, holders, in_boxes}
+use Rattle.amr_boxlist.specs.Lists.{AreApart, holders}
 use Rattle.amr_def.specs.Regrid.{refilled}
 use Rattle.amr_laws.proofs.Refill.{is_some-given}
 use Rattle.amr_patch.specs.Levels.{level_of, patches_of}

@@ -1,9 +1,8 @@
 use Rattle.std.proofs.Common.{◌∙◌, ◌++◌, ◌&&◌, List, [], ◌∷◌, sym, ap, take}
 use Rattle.std.specs.List.{flat_map}
 use Rattle.std.proofs.lemmas.List.{take_all, take_more}
-use Rattle.amr_box.specs.Cells.{Extent, holds}
+use Rattle.amr_box.specs.Cells.{Extent, holds, in_boxes}
 use Rattle.amr_boxlist.specs.Chopped.{chopped}
-use Rattle.amr_boxlist.specs.Lists.{in_boxes}
 use Rattle.amr_regrid.proofs.ApartBoxes.{apart_before}
 use Rattle.amr_regrid.proofs.masses.patch_boxes.Goals as goal
 

@@ -3,9 +3,8 @@ use Rattle.std.specs.Prelude.{slice_index_or}
 use Rattle.std.specs.List.{Contains}
 use Rattle.std.proofs.lemmas.Int.{ints}
 use Rattle.amr_box.specs.declared.Cell.{Cell}
-use Rattle.amr_box.specs.Cells.{Extent, cell}
+use Rattle.amr_box.specs.Cells.{Extent, cell, in_boxes}
 use Rattle.amr_def.specs.Domain.{domain}
-use Rattle.amr_def.specs.State.{in_boxes}
 use Rattle.amr_patch.specs.Levels.{level_of}
 use Rattle.amr_register.specs.RegisterCells.{is_register_cell}
 use Rattle.amr_register.specs.Registers.{cells_in, entry_in}

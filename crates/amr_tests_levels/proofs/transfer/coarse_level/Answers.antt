@@ -1,6 +1,5 @@
 use Rattle.std.proofs.Common.{List, ◌∙◌, ap}
-use Rattle.amr_box.specs.Cells.{Extent}
-use Rattle.amr_def.specs.State.{in_boxes}
+use Rattle.amr_box.specs.Cells.{Extent, in_boxes}
 use Rattle.amr_tests_levels.proofs.transfer.coarse_level.Goals as goal
 
 pub returns : goal.returns

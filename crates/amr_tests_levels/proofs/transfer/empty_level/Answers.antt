@@ -1,7 +1,7 @@
 use Rattle.std.proofs.Common.{ℕ, ◌∙◌, is_some, ap, arith}
 use Rattle.std.specs.declared.option.Option.{Option}
 use Rattle.std.specs.Option.{unwrap_or}
-use Rattle.amr_def.specs.State.{in_boxes}
+use Rattle.amr_box.specs.Cells.{in_boxes}
 use Rattle.amr_tests_levels.proofs.OneBoxLevels.{none_in, some_in}
 use Rattle.amr_tests_levels.proofs.transfer.empty_level.Goals as goal
 

@@ -1,6 +1,5 @@
 use Rattle.std.proofs.Common.{List, ◌∙◌, sym, ap}
-use Rattle.amr_box.specs.Cells.{Extent}
-use Rattle.amr_def.specs.State.{in_boxes}
+use Rattle.amr_box.specs.Cells.{Extent, in_boxes}
 use Rattle.amr_patch.specs.Levels.{patches_of}
 use Rattle.amr_tests_levels.proofs.CoveredCells.{coarsenable_from}
 use Rattle.amr_tests_levels.proofs.transfer.fine_level.Goals as goal

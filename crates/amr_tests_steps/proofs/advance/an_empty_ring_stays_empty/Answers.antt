@@ -1,7 +1,6 @@
 use Rattle.std.proofs.Common.{◌<◌, ◌^◌, ◌∷◌, [], sym, ap, subst, ◌∙◌, arith}
 use Rattle.std.specs.Prelude.{unsigned_abs}
-use Rattle.amr_box.specs.Cells.{Extent}
-use Rattle.amr_def.specs.State.{in_boxes}
+use Rattle.amr_box.specs.Cells.{Extent, in_boxes}
 use Rattle.amr_patch.specs.Levels.{level_of}
 use Rattle.amr_samples.proofs.OneBox.{finer_ring, nested_ring, whole_ring}
 use Rattle.amr_tests_steps.proofs.EmptyRing.{cells_of_empty, empty_fits, no_inflow_beside, no_outflow_beside, whole_has}

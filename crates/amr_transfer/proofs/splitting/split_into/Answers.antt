@@ -2,8 +2,9 @@ use Rattle.std.proofs.Common.{◌≡◌, ◌∙◌, List, is_some, sym, ap, subs
 use Rattle.std.specs.Option.{option_copied}
 use Rattle.std.proofs.lemmas.List.{with_items_is}
 use Rattle.amr_box.specs.declared.Cell.{Cell}
+use Rattle.amr_box.specs.Cells.{in_boxes}
 use Rattle.amr_def.specs.Regrid.{refilled}
-use Rattle.amr_def.specs.State.{Masses, children_mass, in_boxes}
+use Rattle.amr_def.specs.State.{Masses, children_mass}
 use Rattle.amr_patch.proofs.Lookups.{some_mass}
 use Rattle.amr_patch.specs.declared.patches.Patch.{Patch}
 use Rattle.amr_patch.specs.Levels.{level_of, patches_of}

@@ -1,7 +1,6 @@
 use Rattle.std.proofs.Common.{◌≡◌, ◌∙◌, ◌||◌, ap, sym}
 use Rattle.std.proofs.Math.Bool.{or_assoc}
-use Rattle.amr_box.specs.Cells.{child}
-use Rattle.amr_def.specs.State.{in_boxes}
+use Rattle.amr_box.specs.Cells.{child, in_boxes}
 use Rattle.amr_witness_regrid.proofs.cells.has_child_in.Goals as goal
 
 pub returns : goal.returns

@@ -5,8 +5,7 @@ use Rattle.std.specs.Option.{unwrap_or}
 use Rattle.std.proofs.lemmas.List.{take_all}
 use Rattle.std.proofs.lemmas.List.Folds.{list_any_more}
 use Rattle.amr_box.specs.declared.Cell.{Cell}
-use Rattle.amr_box.specs.Cells.{Extent, holds, IsNear}
-use Rattle.amr_def.specs.State.{in_boxes}
+use Rattle.amr_box.specs.Cells.{Extent, holds, IsNear, in_boxes}
 use Rattle.amr_def.specs.Regrid.{refilled, split_mass}
 use Rattle.amr_witness.specs.Maps.{masses_of, old_of}
 use Rattle.amr_witness_regrid.proofs.Filled.{box_more}

@@ -5,8 +5,8 @@ use Rattle.std.specs.List.{All}
 use Rattle.std.proofs.lemmas.List.{take_all}
 use Rattle.std.proofs.lemmas.List.Folds.{list_any_more}
 use Rattle.amr_box.specs.declared.Cell.{Cell}
-use Rattle.amr_box.specs.Cells.{Extent, holds, IsNear}
-use Rattle.amr_def.specs.State.{in_boxes, mass_of}
+use Rattle.amr_box.specs.Cells.{Extent, holds, IsNear, in_boxes}
+use Rattle.amr_def.specs.State.{mass_of}
 use Rattle.amr_patch.specs.Levels.{level_of}
 use Rattle.amr_witness_regrid.proofs.Filled.{box_more, given_there}
 use Rattle.amr_witness_regrid.proofs.mesh.masses_of.Goals as goal

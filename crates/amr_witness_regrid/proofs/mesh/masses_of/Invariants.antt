@@ -1,7 +1,8 @@
 use Rattle.std.proofs.Common.{◌≡◌, cond, take}
 use Rattle.std.specs.declared.option.Option.TheVariants.{None, Some}
 use Rattle.amr_box.specs.declared.Cell.{Cell}
-use Rattle.amr_def.specs.State.{in_boxes, mass_of}
+use Rattle.amr_box.specs.Cells.{in_boxes}
+use Rattle.amr_def.specs.State.{mass_of}
 use Rattle.amr_patch.specs.Levels.{level_of}
 use Rattle.amr_witness.specs.Maps.{masses_of}
 use Rattle.amr_witness_regrid.proofs.mesh.masses_of.Given as goal

@@ -1,6 +1,6 @@
 use Rattle.std.proofs.Common.{◌∙◌, pos, sym, ap, refl, arith}
-use Rattle.amr_box.specs.Cells.{cell}
-use Rattle.amr_def.specs.Domain.{domain, home_cell, moved, square}
+use Rattle.amr_box.specs.Cells.{cell, moved, square}
+use Rattle.amr_def.specs.Domain.{domain, home_cell}
 use Rattle.amr_def.specs.Tags.{is_tagged_by}
 use Rattle.amr_witness.specs.Maps.{masses_of, old_of}
 use Rattle.amr_witness_regrid.proofs.Loops.{found, none_more, none_at_all}

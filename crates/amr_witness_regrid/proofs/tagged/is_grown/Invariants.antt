@@ -1,6 +1,7 @@
 use Rattle.std.proofs.Common.{◌≡◌, false, take}
 use Rattle.std.specs.List.{list_any}
-use Rattle.amr_def.specs.Domain.{domain, home_cell, moved}
+use Rattle.amr_box.specs.Cells.{moved}
+use Rattle.amr_def.specs.Domain.{domain, home_cell}
 use Rattle.amr_def.specs.Tags.{is_tagged_by}
 use Rattle.amr_witness.specs.Maps.{masses_of, old_of}
 use Rattle.amr_witness_regrid.proofs.tagged.is_grown.Given as goal

@@ -1,7 +1,8 @@
 use Rattle.std.proofs.Common.{◌≡◌, ◌∙◌, ◌+◌, ◌-◌, ◌&&◌, List, ℕ, length, ap, arith, slice_index_or}
 use Rattle.std.specs.Prelude.{nat_le}
 use Rattle.std.specs.Int.{abs_diff}
-use Rattle.amr_def.specs.Domain.{domain, home_cell, in_domain, moved}
+use Rattle.amr_box.specs.Cells.{moved}
+use Rattle.amr_def.specs.Domain.{domain, home_cell, in_domain}
 use Rattle.amr_def.specs.Value.{value_at}
 use Rattle.amr_witness.specs.Maps.{masses_of, old_of}
 use Rattle.amr_witness_regrid.proofs.Near.{inside_up, up_more}

@@ -1,7 +1,6 @@
 use Rattle.std.proofs.Common.{◌∙◌, pos, sym, ap, subst, refl, arith}
-use Rattle.amr_box.specs.Cells.{cell, has_child_where}
-use Rattle.amr_def.specs.Domain.{Domain, domain, home_cell, moved, square}
-use Rattle.amr_def.specs.State.{in_boxes}
+use Rattle.amr_box.specs.Cells.{cell, has_child_where, in_boxes, moved, square}
+use Rattle.amr_def.specs.Domain.{Domain, domain, home_cell}
 use Rattle.amr_witness_regrid.specs.Places.{IsUpTo}
 use Rattle.amr_witness_regrid.proofs.Loops.{found, none_more, none_at_all}
 use Rattle.amr_witness_regrid.proofs.Near.{home_up, square_small}

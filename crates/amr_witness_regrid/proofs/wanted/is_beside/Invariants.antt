@@ -1,8 +1,7 @@
 use Rattle.std.proofs.Common.{◌≡◌, false, take}
 use Rattle.std.specs.List.{list_any}
-use Rattle.amr_box.specs.Cells.{has_child_where}
-use Rattle.amr_def.specs.Domain.{domain, home_cell, moved}
-use Rattle.amr_def.specs.State.{in_boxes}
+use Rattle.amr_box.specs.Cells.{has_child_where, in_boxes, moved}
+use Rattle.amr_def.specs.Domain.{domain, home_cell}
 use Rattle.amr_witness_regrid.proofs.wanted.is_beside.Given as goal
 
 abbrev pub invariant-loop-o : goal.invariant-loop-o

@@ -1,8 +1,7 @@
 use Rattle.std.proofs.Common.{◌≡◌, ◌∙◌, ◌||◌, ◌+◌, ap, sym, arith}
 use Rattle.std.proofs.Math.Bool.{or_assoc}
-use Rattle.amr_box.specs.Cells.{child, has_child_where}
+use Rattle.amr_box.specs.Cells.{child, has_child_where, in_boxes}
 use Rattle.amr_def.specs.Domain.{domain, is_near}
-use Rattle.amr_def.specs.State.{in_boxes}
 use Rattle.amr_witness_regrid.proofs.Near.{up_more}
 use Rattle.amr_witness_regrid.proofs.wanted.is_projected.Goals as goal
 

@@ -2,12 +2,10 @@ use Rattle.std.proofs.Common.{◌≡◌, ◌∙◌, ◌&&◌, false, map, sym, a
 use Rattle.std.specs.Prelude.{◌↔◌, IsNone}
 use Rattle.std.specs.List.{All, list_any}
 use Rattle.amr_box.specs.declared.Cell.{Cell}
-use Rattle.amr_box.specs.Cells.{Extent, half, holds}
-use Rattle.amr_def.specs.State.{in_boxes}
+use Rattle.amr_box.specs.Cells.{Extent, half, holds, in_boxes, parents_of}
 use Rattle.amr_nest.proofs.Reaches.{corners_are}
 use Rattle.amr_payload.specs.Tests.{meets}
 use Rattle.amr_tags.specs.TagSets.{has}
-use Rattle.amr_tags.specs.Coarse.{parents_of}
 use Rattle.amr_decoder.specs.Apart.{Earlier, IsOverParents, newest_first}
 use Rattle.amr_decoder.specs.Grids.{boxes_of}
 use Rattle.amr_decoder.proofs.GridReadings.{any-reverse}

@@ -1,10 +1,8 @@
 use Rattle.std.proofs.Common.{◌∙◌, ◌&&◌, ◌||◌, [], ◌∷◌, List, map, sym, ap}
 use Rattle.std.proofs.lemmas.List.{map-append}
-use Rattle.amr_box.specs.Cells.{Extent, half, holds}
-use Rattle.amr_def.specs.State.{in_boxes}
+use Rattle.amr_box.specs.Cells.{Extent, half, holds, in_boxes, parents_of}
 use Rattle.amr_nest.proofs.Reaches.{corners_are}
 use Rattle.amr_tags.specs.TagSets.{has}
-use Rattle.amr_tags.specs.Coarse.{parents_of}
 use Rattle.amr_decoder.specs.declared.grid.Grid.{Grid}
 use Rattle.amr_decoder.specs.Grids.{boxes_of}
 use Rattle.amr_decoder.proofs.ParentSets.{parents_more}

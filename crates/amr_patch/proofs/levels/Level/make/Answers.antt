@@ -2,8 +2,7 @@ use Rattle.std.proofs.Common.{◌∙◌, Bool, List, cond, sym, ap, subst}
 use Rattle.std.specs.List.Sorted.{IsPermutation}
 use Rattle.std.specs.declared.option.Option.TheVariants.{None, Some}
 use Rattle.std.proofs.lemmas.List.Sorted.{list_any-IsPermutation}
-use Rattle.amr_box.specs.Cells.{Extent, holds}
-use Rattle.amr_def.specs.State.{in_boxes}
+use Rattle.amr_box.specs.Cells.{Extent, holds, in_boxes}
 use Rattle.amr_patch.specs.Pairwise.{Pairwise}
 use Rattle.amr_patch.specs.Patches.{IsBlank}
 use Rattle.amr_patch.specs.Levels.{level_of, patches_of}
