@@ -59,8 +59,8 @@ module _ (bs : List Extent) (c : Cell) where
   from_boxes P each h =
       by_child (in_boxes bs) c P
       (λ i few e.
-          let m = held_by bs (child c i) e in
-          each m.k no_box m.inside (child_passes (holds (get_or bs m.k no_box)) c i few (m.at no_box))) h
+      let m = held_by bs (child c i) e in
+      each m.k no_box m.inside (child_passes (holds (get_or bs m.k no_box)) c i few (m.at no_box))) h
     where
       no_box : Extent
       no_box = record { lo = c; hi = c }

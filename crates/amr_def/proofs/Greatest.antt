@@ -121,7 +121,6 @@ unfolding updated
 none_left m e c none = rw none refl
 
 module _ (p : Problem) (l : ℕ) (m old : Masses) (b : ℕ) (stable : IsStable p) (inside : IsInside p l m) (masses : MassesUpTo l m b) (values : IsUpTo p l m old b) where
-
   pub plain_raised : (c : Cell) → home_cell (domain p l) c ≡ c → IsSome (m c) → (new : ℕ) → pos new ≡ pos (mass_of m c) +ℤ net (flux_at p l m old) c → 4 ^ l * new ≤ b + 14 * 4 ^ l
   unfolding flux_at courant
   plain_raised c home there new exact =

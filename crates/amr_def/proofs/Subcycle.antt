@@ -115,7 +115,6 @@ none_is o e h = cc
 -- ---- the finest level
 
 module _ (p : Problem) (l : ℕ) (m old : Masses) (stable : IsStable p) (inside : IsInside p l m) where
-
   pub plain_covers : (c : Cell) → IsSome (m c) → pos 0 ≤ℤ (pos (mass_of m c) +ℤ net (flux_at p l m old) c)
   unfolding flux_at courant
   plain_covers c there =
