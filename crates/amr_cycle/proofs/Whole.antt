@@ -18,6 +18,7 @@ use Rattle.amr_laws.specs.Sides.{is_uncovered}
 use Rattle.amr_laws.specs.Substeps.{after_step}
 use Rattle.amr_patch.specs.declared.levels.Level.{Level as Held}
 use Rattle.amr_patch.specs.Levels.{level_of, patches_of}
+use Rattle.amr_ghost.specs.Frames.{old_masses}
 use Rattle.amr_register.specs.declared.register.Register.{Register}
 use Rattle.amr_register.specs.Entries.{with_entries}
 use Rattle.amr_register.specs.RegisterCells.{register_cells}
@@ -74,28 +75,36 @@ module _ (p : Problem) (l : ℕ) (k : Level) (finer : List Held) (old : Masses) 
   abbrev entries_1 : Cell → ℤ
   entries_1 c = entries_0 c +ℤ children_part p l k fine.masses fine.masses c
 
-  -- ---- before the first finer step
+  -- ---- before the first finer step, made with problem q, number n, and the coarser level `over` before its own step
 
-  module _ (before : Held) (b : level_of before ≡ k) (regs0 : Option Register) (has0 : SomeHasEntries p l k.masses fine.masses entries_0 regs0) where
-    same_masses : (level_of before).masses ≡ k.masses
-    same_masses = ap (λ (j : Level). j.masses) b
+  module _ (before : Held) (b : level_of before ≡ k) (regs0 : Option Register) (has0 : SomeHasEntries p l k.masses fine.masses entries_0 regs0)
+      (q : Problem) (q_is : q ≡ p) (n : ℕ) (n_is : n ≡ l + 1) (over : Option Held) (over_is : over ≡ Some before) where
+    number : n ≡ suc l
+    number = n_is ∙ plus_one l
 
-    pub part_1 : IsPartOfStep p (l + 1) (fine ∷ ks) (level_of before).masses
-    part_1 = rw (plus_one l, same_masses) (first_part p l k fine ks old part_of)
+    same_masses : old_masses over ≡ k.masses
+    same_masses = ap old_masses over_is ∙ ap (λ (j : Level). j.masses) b
 
-    pub coarser_1 : HasCoarser p (l + 1) fine (Some before) regs0
-    coarser_1 = subst (λ n. HasCoarser p n fine (Some before) regs0) (sym (plus_one l)) (serves p l k fine fine before entries_0 regs0 b (coarse_level p l k fine old coarse_part) (coarse_nested p l k fine old coarse_part) (alike_itself fine.masses) (lost_small p l k fine ks old part_of) has0)
+    pub part_1 : IsPartOfStep q n (fine ∷ ks) (old_masses over)
+    part_1 = rw (q_is, number, same_masses) (first_part p l k fine ks old part_of)
 
-    pub flows_1 : (flows : ℕ → (Cell → Bool) → Fluxes → ℕ) → flows_of_step flows p (l + 1) (fine ∷ ks) (level_of before).masses ≡ flows_first flows
-    flows_1 flows = rw (plus_one l, same_masses) refl
+    pub coarser_1 : HasCoarser q n fine over regs0
+    coarser_1 = rw (q_is, number, over_is) (serves p l k fine fine before entries_0 regs0 b (coarse_level p l k fine old coarse_part) (coarse_nested p l k fine old coarse_part) (alike_itself fine.masses) (lost_small p l k fine ks old part_of) has0)
+
+    pub flows_1 : (flows : Problem → ℕ → (Cell → Bool) → Fluxes → ℕ) → flows_of_step (flows q) q n (fine ∷ ks) (old_masses over) ≡ flows_first (flows p)
+    flows_1 flows = λ i. flows_of_step (flows (q_is i)) (q_is i) (number i) (fine ∷ ks) (same_masses i)
+
+    -- a register that changed by what a finer step gains
+    changed : (m : Masses) (r s : Option Register) → BothChange (gained q n m (flux_at q n m (old_masses over))) r s → BothChange (gained p (suc l) m (flux_at p (suc l) m (old_masses over))) r s
+    changed m r s h = subst (λ (d : ℕ). BothChange (gained p d m (flux_at p d m (old_masses over))) r s) number (subst (λ (o : Problem). BothChange (gained o n m (flux_at o n m (old_masses over))) r s) q_is h)
 
     -- ---- after it
 
-    module _ (next1 : Held) (rest1 : List Held) (regs1 : Option Register) (levels1 : level_of next1 ∷ map level_of rest1 ≡ after_step p (l + 1) (fine ∷ ks) (level_of before).masses)
+    module _ (next1 : Held) (rest1 : List Held) (regs1 : Option Register) (levels1 : level_of next1 ∷ map level_of rest1 ≡ after_step q n (fine ∷ ks) (old_masses over))
         (boxes1 : patch_boxes (next1 ∷ rest1) ≡ patch_boxes (next ∷ rest))
-        (change1 : BothChange (gained p (l + 1) fine.masses (flux_at p (l + 1) fine.masses (level_of before).masses)) regs0 regs1) where
+        (change1 : BothChange (gained q n fine.masses (flux_at q n fine.masses (old_masses over))) regs0 regs1) where
       is_after : level_of next1 ∷ map level_of rest1 ≡ after_step p (suc l) (fine ∷ ks) k.masses
-      is_after = levels1 ∙ (λ i. after_step p (plus_one l i) (fine ∷ ks) (same_masses i))
+      is_after = levels1 ∙ (λ i. after_step (q_is i) (number i) (fine ∷ ks) (same_masses i))
 
       between_is : (level_of next1).masses ≡ cycling.between p l k fine ks old part_of
       between_is = next_masses p l k fine ks old part_of (level_of next1) (map level_of rest1) is_after
@@ -104,34 +113,34 @@ module _ (p : Problem) (l : ℕ) (k : Level) (finer : List Held) (old : Masses) 
       alike = subst (CoverAlike fine.masses) (sym between_is) (alike_between p l k fine ks old part_of)
 
       has1 : SomeHasEntries p l k.masses fine.masses entries_1 regs1
-      has1 = won p l k fine fine.masses (level_of before).masses entries_0 regs0 regs1 same_masses (alike_itself fine.masses) has0 (subst (λ n. BothChange (gained p n fine.masses (flux_at p n fine.masses (level_of before).masses)) regs0 regs1) (plus_one l) change1)
+      has1 = won p l k fine fine.masses (old_masses over) entries_0 regs0 regs1 same_masses (alike_itself fine.masses) has0 (changed fine.masses regs0 regs1 change1)
 
       nested1 : IsNestedLevel p l k (level_of next1)
       nested1 = subst (λ (bs : List Extent). IsNestedIn (domain p l) p.blocking bs k.boxes) (sym (next_boxes p l k fine ks old part_of (level_of next1) (map level_of rest1) is_after)) (coarse_nested p l k fine old coarse_part)
 
-      pub part_2 : IsPartOfStep p (l + 1) (level_of next1 ∷ map level_of rest1) (level_of before).masses
-      part_2 = rw (plus_one l, same_masses) (next_part p l k fine ks old part_of (level_of next1) (map level_of rest1) is_after)
+      pub part_2 : IsPartOfStep q n (level_of next1 ∷ map level_of rest1) (old_masses over)
+      part_2 = rw (q_is, number, same_masses) (next_part p l k fine ks old part_of (level_of next1) (map level_of rest1) is_after)
 
-      pub coarser_2 : HasCoarser p (l + 1) (level_of next1) (Some before) regs1
-      coarser_2 = subst (λ n. HasCoarser p n (level_of next1) (Some before) regs1) (sym (plus_one l)) (serves p l k fine (level_of next1) before entries_1 regs1 b (coarse_level p l k fine old coarse_part) nested1 alike (won_small p l k fine ks old part_of) has1)
+      pub coarser_2 : HasCoarser q n (level_of next1) over regs1
+      coarser_2 = rw (q_is, number, over_is) (serves p l k fine (level_of next1) before entries_1 regs1 b (coarse_level p l k fine old coarse_part) nested1 alike (won_small p l k fine ks old part_of) has1)
 
       pub rest1_coarsenable : All (λ h. AreCoarsenable (patches_of h)) finer → All (λ h. AreCoarsenable (patches_of h)) rest1
       rest1_coarsenable h = all_coarsenable rest1 rest (tail_boxes next1 next rest1 rest boxes1) (rest_coarsenable h)
 
-      pub flows_2 : (flows : ℕ → (Cell → Bool) → Fluxes → ℕ) → flows_of_step flows p (l + 1) (level_of next1 ∷ map level_of rest1) (level_of before).masses ≡ flows_second flows
-      flows_2 flows = λ i. flows_of_step flows p (plus_one l i) (is_after i) (same_masses i)
+      pub flows_2 : (flows : Problem → ℕ → (Cell → Bool) → Fluxes → ℕ) → flows_of_step (flows q) q n (level_of next1 ∷ map level_of rest1) (old_masses over) ≡ flows_second (flows p)
+      flows_2 flows = λ i. flows_of_step (flows (q_is i)) (q_is i) (number i) (is_after i) (same_masses i)
 
       -- ---- after the second
 
-      module _ (next2 : Held) (rest2 : List Held) (regs2 : Option Register) (levels2 : level_of next2 ∷ map level_of rest2 ≡ after_step p (l + 1) (level_of next1 ∷ map level_of rest1) (level_of before).masses)
+      module _ (next2 : Held) (rest2 : List Held) (regs2 : Option Register) (levels2 : level_of next2 ∷ map level_of rest2 ≡ after_step q n (level_of next1 ∷ map level_of rest1) (old_masses over))
           (boxes2 : patch_boxes (next2 ∷ rest2) ≡ patch_boxes (next1 ∷ rest1))
-          (change2 : BothChange (gained p (l + 1) (level_of next1).masses (flux_at p (l + 1) (level_of next1).masses (level_of before).masses)) regs1 regs2) where
+          (change2 : BothChange (gained q n (level_of next1).masses (flux_at q n (level_of next1).masses (old_masses over))) regs1 regs2) where
         ends : level_of next2 ∷ map level_of rest2 ≡ after_step p (suc l) (level_of next1 ∷ map level_of rest1) k.masses
-        ends = levels2 ∙ (λ i. after_step p (plus_one l i) (level_of next1 ∷ map level_of rest1) (same_masses i))
+        ends = levels2 ∙ (λ i. after_step (q_is i) (number i) (level_of next1 ∷ map level_of rest1) (same_masses i))
 
         pub has2 : SomeHasEntries p l k.masses fine.masses (λ c. entries_1 c +ℤ children_part p l k fine.masses (cycling.between p l k fine ks old part_of) c) regs2
         has2 = subst (λ (m : Masses). SomeHasEntries p l k.masses fine.masses (λ c. entries_1 c +ℤ children_part p l k fine.masses m c) regs2) between_is
-            (won p l k fine (level_of next1).masses (level_of before).masses entries_1 regs1 regs2 same_masses alike has1 (subst (λ n. BothChange (gained p n (level_of next1).masses (flux_at p n (level_of next1).masses (level_of before).masses)) regs1 regs2) (plus_one l) change2))
+            (won p l k fine (level_of next1).masses (old_masses over) entries_1 regs1 regs2 same_masses alike has1 (changed (level_of next1).masses regs1 regs2 change2))
 
         pub gathered2 : AreGathered p l k old fine.masses (cycling.between p l k fine ks old part_of) (entries_of regs2)
         gathered2 = gathers p l k fine old (cycling.between p l k fine ks old part_of) regs2 has2

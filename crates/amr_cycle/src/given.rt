@@ -1,12 +1,35 @@
 //! What steps of levels are made with.
 
+ghost use Rattle.std.specs.Prelude.{◌≡◌, ◌+◌, ◌≤◌, Some};
+ghost use Rattle.std.specs.Option.{option_copied};
+
 use amr_def::Problem;
+use amr_patch::Level;
 use std::alloc::Global;
 
-/// What each step of a level is made with: memory, the problem, and the number of the level.
+/// What each step of a level is made with: memory, the problem, and the number of the level. And the next coarser level with the masses
+/// before its own step, above level 0.
 #[derive(Clone, Copy)]
 pub(crate) struct Given<'a> {
     pub alloc: Global,
     pub problem: &'a Problem,
     pub level: u32,
+    pub old: Option<&'a Level>,
+}
+
+impl Given<'_> {
+    /// What the steps of the next finer level are made with, given this one with the masses before its own step.
+    pub(crate) fn for_finer<'a>(&'a self, before: &'a Level) -> Given<'a>
+        requires { self.now.level ≤ 3 }
+        ensures problem { result.problem.now ≡ self.now.problem.now }
+        ensures level { result.level ≡ self.now.level + 1 }
+        ensures old { option_copied result.old ≡ Some before.now }
+    {
+        Given {
+            alloc: self.alloc,
+            problem: self.problem,
+            level: self.level + 1,
+            old: Some(before),
+        }
+    }
 }

@@ -44,36 +44,35 @@ fn step_finest<R: Threads + Wait + Sync, G: Gate + Sync>(
     given: &Given<'_>,
     workers: &mut Workers<'_, R, G>,
     level: &mut Level,
-    old: Option<&Level>,
     regs: &mut Regs,
     own: &mut KeptLevel,
 ) -> Result<(), NoMemory>
     requires number { given.now.level ≤ 4 }
-    requires part { IsPartOfStep given.now.problem.now given.now.level (level_of level.old ∷ []) (old_masses (option_copied old)) }
-    requires coarser { HasCoarser given.now.problem.now given.now.level (level_of level.old) (option_copied old) regs.old.coarser }
+    requires part { IsPartOfStep given.now.problem.now given.now.level (level_of level.old ∷ []) (old_masses (option_copied given.now.old)) }
+    requires coarser { HasCoarser given.now.problem.now given.now.level (level_of level.old) (option_copied given.now.old) regs.old.coarser }
     requires finer { regs.old.finer ≡ None }
     requires some_workers { 1 ≤ workers.old.count }
     requires few_workers { workers.old.count ≤ 64 }
     requires gate { (worker task : ℕ) → worker < workers.old.count → G.admits workers.old.gate.now worker task }
     requires team { IfSome workers.old.team (IsTeamFor given.now.problem.now workers.old.gate.now workers.old.count) }
-    requires inflow { regs.old.inflow + flows_of_step (inflow_beside given.now.problem.now) given.now.problem.now given.now.level (level_of level.old ∷ []) (old_masses (option_copied old)) < 2 ^ 63 }
-    requires outflow { regs.old.outflow + flows_of_step (outflow_beside given.now.problem.now) given.now.problem.now given.now.level (level_of level.old ∷ []) (old_masses (option_copied old)) < 2 ^ 63 }
+    requires inflow { regs.old.inflow + flows_of_step (inflow_beside given.now.problem.now) given.now.problem.now given.now.level (level_of level.old ∷ []) (old_masses (option_copied given.now.old)) < 2 ^ 63 }
+    requires outflow { regs.old.outflow + flows_of_step (outflow_beside given.now.problem.now) given.now.problem.now given.now.level (level_of level.old ∷ []) (old_masses (option_copied given.now.old)) < 2 ^ 63 }
     requires kept { IsKeptLevel given.now.problem.now given.now.level own.old }
     ensures workers { workers.new ≡ workers.old }
     ensures kept { OnOk result (IsKeptLevel given.now.problem.now given.now.level own.new) }
-    ensures level { OnOk result (level_of level.new ∷ [] ≡ after_step given.now.problem.now given.now.level (level_of level.old ∷ []) (old_masses (option_copied old.entry))) }
+    ensures level { OnOk result (level_of level.new ∷ [] ≡ after_step given.now.problem.now given.now.level (level_of level.old ∷ []) (old_masses (option_copied given.now.old))) }
     ensures patches { OnOk result (map box (patches_of level.new) ≡ map box (patches_of level.old)) }
-    ensures coarser { OnOk result (BothChange (gained given.now.problem.now given.now.level (level_of level.old).masses (flux_at given.now.problem.now given.now.level (level_of level.old).masses (old_masses (option_copied old.entry)))) regs.old.coarser regs.new.coarser) }
+    ensures coarser { OnOk result (BothChange (gained given.now.problem.now given.now.level (level_of level.old).masses (flux_at given.now.problem.now given.now.level (level_of level.old).masses (old_masses (option_copied given.now.old)))) regs.old.coarser regs.new.coarser) }
     ensures finer { OnOk result (regs.new.finer ≡ None) }
-    ensures inflow { OnOk result (regs.new.inflow ≡ regs.old.inflow + flows_of_step (inflow_beside given.now.problem.now) given.now.problem.now given.now.level (level_of level.old ∷ []) (old_masses (option_copied old.entry))) }
-    ensures outflow { OnOk result (regs.new.outflow ≡ regs.old.outflow + flows_of_step (outflow_beside given.now.problem.now) given.now.problem.now given.now.level (level_of level.old ∷ []) (old_masses (option_copied old.entry))) }
+    ensures inflow { OnOk result (regs.new.inflow ≡ regs.old.inflow + flows_of_step (inflow_beside given.now.problem.now) given.now.problem.now given.now.level (level_of level.old ∷ []) (old_masses (option_copied given.now.old))) }
+    ensures outflow { OnOk result (regs.new.outflow ≡ regs.old.outflow + flows_of_step (outflow_beside given.now.problem.now) given.now.problem.now given.now.level (level_of level.old ∷ []) (old_masses (option_copied given.now.old))) }
 {
     advance_kept(
         workers,
         given.problem,
         given.level,
         level,
-        old,
+        given.old,
         None,
         regs,
         &mut own.layout,
@@ -87,33 +86,32 @@ fn step_coarse<R: Threads + Wait + Sync, G: Gate + Sync>(
     workers: &mut Workers<'_, R, G>,
     level: &mut Level,
     next: &Level,
-    old: Option<&Level>,
     regs: &mut Regs,
     own: &mut KeptLevel,
 ) -> Result<Below, NoMemory>
     requires number { given.now.level ≤ 3 }
-    requires part { IsCoarsePart given.now.problem.now given.now.level (level_of level.old) (level_of next.now) (old_masses (option_copied old)) }
-    requires coarser { HasCoarser given.now.problem.now given.now.level (level_of level.old) (option_copied old) regs.old.coarser }
+    requires part { IsCoarsePart given.now.problem.now given.now.level (level_of level.old) (level_of next.now) (old_masses (option_copied given.now.old)) }
+    requires coarser { HasCoarser given.now.problem.now given.now.level (level_of level.old) (option_copied given.now.old) regs.old.coarser }
     requires some_workers { 1 ≤ workers.old.count }
     requires few_workers { workers.old.count ≤ 64 }
     requires gate { (worker task : ℕ) → worker < workers.old.count → G.admits workers.old.gate.now worker task }
     requires team { IfSome workers.old.team (IsTeamFor given.now.problem.now workers.old.gate.now workers.old.count) }
-    requires inflow { regs.old.inflow + inflow_beside given.now.problem.now given.now.level (is_uncovered (level_of level.old).masses (level_of next.now).masses) (flux_at given.now.problem.now given.now.level (level_of level.old).masses (old_masses (option_copied old))) < 2 ^ 63 }
-    requires outflow { regs.old.outflow + outflow_beside given.now.problem.now given.now.level (is_uncovered (level_of level.old).masses (level_of next.now).masses) (flux_at given.now.problem.now given.now.level (level_of level.old).masses (old_masses (option_copied old))) < 2 ^ 63 }
+    requires inflow { regs.old.inflow + inflow_beside given.now.problem.now given.now.level (is_uncovered (level_of level.old).masses (level_of next.now).masses) (flux_at given.now.problem.now given.now.level (level_of level.old).masses (old_masses (option_copied given.now.old))) < 2 ^ 63 }
+    requires outflow { regs.old.outflow + outflow_beside given.now.problem.now given.now.level (is_uncovered (level_of level.old).masses (level_of next.now).masses) (flux_at given.now.problem.now given.now.level (level_of level.old).masses (old_masses (option_copied given.now.old))) < 2 ^ 63 }
     requires kept { IsKeptLevel given.now.problem.now given.now.level own.old }
     ensures workers { workers.new ≡ workers.old }
     ensures layout { OnOk result (IfSome own.new.layout (IsKept given.now.problem.now)) }
     ensures before { IfOk result (λ b. level_of b.before ≡ level_of level.old) }
     ensures finer_boxes { IfOk result (λ b. (c : Cell) → is_some ((level_of next.now).masses c) ≡ in_boxes b.finer.items c) }
-    ensures masses { OnOk result ((level_of level.new).masses ≡ updated (level_of level.old).masses (flux_at given.now.problem.now given.now.level (level_of level.old).masses (old_masses (option_copied old.entry)))) }
+    ensures masses { OnOk result ((level_of level.new).masses ≡ updated (level_of level.old).masses (flux_at given.now.problem.now given.now.level (level_of level.old).masses (old_masses (option_copied given.now.old)))) }
     ensures boxes { OnOk result ((level_of level.new).boxes ≡ (level_of level.old).boxes) }
     ensures patches { OnOk result (map box (patches_of level.new) ≡ map box (patches_of level.old)) }
-    ensures register { IfOk result (λ b. SomeHasEntries given.now.problem.now given.now.level (level_of level.old).masses (level_of next.now).masses (λ c. neg_ℤ (edge_part given.now.problem.now given.now.level (level_of level.old) (old_masses (option_copied old.entry)) (level_of next.now).masses c)) b.regs.coarser) }
-    ensures coarser { OnOk result (BothChange (gained given.now.problem.now given.now.level (level_of level.old).masses (flux_at given.now.problem.now given.now.level (level_of level.old).masses (old_masses (option_copied old.entry)))) regs.old.coarser regs.new.coarser) }
+    ensures register { IfOk result (λ b. SomeHasEntries given.now.problem.now given.now.level (level_of level.old).masses (level_of next.now).masses (λ c. neg_ℤ (edge_part given.now.problem.now given.now.level (level_of level.old) (old_masses (option_copied given.now.old)) (level_of next.now).masses c)) b.regs.coarser) }
+    ensures coarser { OnOk result (BothChange (gained given.now.problem.now given.now.level (level_of level.old).masses (flux_at given.now.problem.now given.now.level (level_of level.old).masses (old_masses (option_copied given.now.old)))) regs.old.coarser regs.new.coarser) }
     ensures finer { OnOk result (regs.new.finer ≡ None) }
     ensures no_finer { IfOk result (λ b. b.regs.finer ≡ None) }
-    ensures inflow { IfOk result (λ b. b.regs.inflow ≡ regs.old.inflow + inflow_beside given.now.problem.now given.now.level (is_uncovered (level_of level.old).masses (level_of next.now).masses) (flux_at given.now.problem.now given.now.level (level_of level.old).masses (old_masses (option_copied old.entry)))) }
-    ensures outflow { IfOk result (λ b. b.regs.outflow ≡ regs.old.outflow + outflow_beside given.now.problem.now given.now.level (is_uncovered (level_of level.old).masses (level_of next.now).masses) (flux_at given.now.problem.now given.now.level (level_of level.old).masses (old_masses (option_copied old.entry)))) }
+    ensures inflow { IfOk result (λ b. b.regs.inflow ≡ regs.old.inflow + inflow_beside given.now.problem.now given.now.level (is_uncovered (level_of level.old).masses (level_of next.now).masses) (flux_at given.now.problem.now given.now.level (level_of level.old).masses (old_masses (option_copied given.now.old)))) }
+    ensures outflow { IfOk result (λ b. b.regs.outflow ≡ regs.old.outflow + outflow_beside given.now.problem.now given.now.level (is_uncovered (level_of level.old).masses (level_of next.now).masses) (flux_at given.now.problem.now given.now.level (level_of level.old).masses (old_masses (option_copied given.now.old)))) }
 {
     let KeptBelow {
         before,
@@ -133,7 +131,7 @@ fn step_coarse<R: Threads + Wait + Sync, G: Gate + Sync>(
         given.problem,
         given.level,
         level,
-        old,
+        given.old,
         Some(next),
         regs,
         &mut own.layout,
@@ -177,47 +175,42 @@ pub(crate) fn step_levels<R: Threads + Wait + Sync, G: Gate + Sync>(
     workers: &mut Workers<'_, R, G>,
     level: &mut Level,
     finer: &mut [Level],
-    old: Option<&Level>,
     regs: &mut Regs,
     kept: &mut [KeptLevel],
 ) -> Result<(), NoMemory>
     requires few { given.now.level + length finer.old ≤ 4 }
-    requires part { IsPartOfStep given.now.problem.now given.now.level (level_of level.old ∷ map level_of finer.old) (old_masses (option_copied old)) }
-    requires coarser { HasCoarser given.now.problem.now given.now.level (level_of level.old) (option_copied old) regs.old.coarser }
+    requires part { IsPartOfStep given.now.problem.now given.now.level (level_of level.old ∷ map level_of finer.old) (old_masses (option_copied given.now.old)) }
+    requires coarser { HasCoarser given.now.problem.now given.now.level (level_of level.old) (option_copied given.now.old) regs.old.coarser }
     requires finer { regs.old.finer ≡ None }
     requires coarsenable { All (λ k. AreCoarsenable (patches_of k)) finer.old }
     requires some_workers { 1 ≤ workers.old.count }
     requires few_workers { workers.old.count ≤ 64 }
     requires gate { (worker task : ℕ) → worker < workers.old.count → G.admits workers.old.gate.now worker task }
     requires team { IfSome workers.old.team (IsTeamFor given.now.problem.now workers.old.gate.now workers.old.count) }
-    requires inflow { regs.old.inflow + flows_of_step (inflow_beside given.now.problem.now) given.now.problem.now given.now.level (level_of level.old ∷ map level_of finer.old) (old_masses (option_copied old)) < 2 ^ 63 }
-    requires outflow { regs.old.outflow + flows_of_step (outflow_beside given.now.problem.now) given.now.problem.now given.now.level (level_of level.old ∷ map level_of finer.old) (old_masses (option_copied old)) < 2 ^ 63 }
+    requires inflow { regs.old.inflow + flows_of_step (inflow_beside given.now.problem.now) given.now.problem.now given.now.level (level_of level.old ∷ map level_of finer.old) (old_masses (option_copied given.now.old)) < 2 ^ 63 }
+    requires outflow { regs.old.outflow + flows_of_step (outflow_beside given.now.problem.now) given.now.problem.now given.now.level (level_of level.old ∷ map level_of finer.old) (old_masses (option_copied given.now.old)) < 2 ^ 63 }
     requires kept { AreKept given.now.problem.now given.now.level kept.old }
     requires room { length finer.old < length kept.old }
     ensures workers { workers.new ≡ workers.old }
     ensures kept { OnOk result (AreKept given.now.problem.now given.now.level kept.new) }
     ensures kept_count { OnOk result (length kept.new ≡ length kept.old) }
-    ensures levels { OnOk result (level_of level.new ∷ map level_of finer.new ≡ after_step given.now.problem.now given.now.level (level_of level.old ∷ map level_of finer.old) (old_masses (option_copied old.entry))) }
+    ensures levels { OnOk result (level_of level.new ∷ map level_of finer.new ≡ after_step given.now.problem.now given.now.level (level_of level.old ∷ map level_of finer.old) (old_masses (option_copied given.now.old))) }
     ensures patches { OnOk result (patch_boxes (level.new ∷ finer.new) ≡ patch_boxes (level.old ∷ finer.old)) }
-    ensures coarser { OnOk result (BothChange (gained given.now.problem.now given.now.level (level_of level.old).masses (flux_at given.now.problem.now given.now.level (level_of level.old).masses (old_masses (option_copied old.entry)))) regs.old.coarser regs.new.coarser) }
+    ensures coarser { OnOk result (BothChange (gained given.now.problem.now given.now.level (level_of level.old).masses (flux_at given.now.problem.now given.now.level (level_of level.old).masses (old_masses (option_copied given.now.old)))) regs.old.coarser regs.new.coarser) }
     ensures finer { OnOk result (regs.new.finer ≡ None) }
-    ensures inflow { OnOk result (regs.new.inflow ≡ regs.old.inflow + flows_of_step (inflow_beside given.now.problem.now) given.now.problem.now given.now.level (level_of level.old ∷ map level_of finer.old) (old_masses (option_copied old.entry))) }
-    ensures outflow { OnOk result (regs.new.outflow ≡ regs.old.outflow + flows_of_step (outflow_beside given.now.problem.now) given.now.problem.now given.now.level (level_of level.old ∷ map level_of finer.old) (old_masses (option_copied old.entry))) }
+    ensures inflow { OnOk result (regs.new.inflow ≡ regs.old.inflow + flows_of_step (inflow_beside given.now.problem.now) given.now.problem.now given.now.level (level_of level.old ∷ map level_of finer.old) (old_masses (option_copied given.now.old))) }
+    ensures outflow { OnOk result (regs.new.outflow ≡ regs.old.outflow + flows_of_step (outflow_beside given.now.problem.now) given.now.problem.now given.now.level (level_of level.old ∷ map level_of finer.old) (old_masses (option_copied given.now.old))) }
 {
     let Some((own, rest)) = kept.split_first_mut() else {
         unreachable!()
     };
     let Some((next, finest)) = finer.split_first_mut() else {
-        return step_finest(given, workers, level, old, regs, own);
+        return step_finest(given, workers, level, regs, own);
     };
-    let mut below = step_coarse(given, workers, level, next, old, regs, own)?;
-    let before = Some(&below.before);
-    let inner = Given {
-        level: given.level + 1,
-        ..*given
-    };
-    step_levels(&inner, workers, next, finest, before, &mut below.regs, rest)?;
-    step_levels(&inner, workers, next, finest, before, &mut below.regs, rest)?;
+    let mut below = step_coarse(given, workers, level, next, regs, own)?;
+    let inner = (&*given).for_finer(&below.before);
+    step_levels(&inner, workers, next, finest, &mut below.regs, rest)?;
+    step_levels(&inner, workers, next, finest, &mut below.regs, rest)?;
     correct(level, &below.regs.coarser, next);
     regs.inflow = below.regs.inflow;
     regs.outflow = below.regs.outflow;

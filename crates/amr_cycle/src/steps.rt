@@ -60,6 +60,7 @@ fn step_all<R: Threads + Wait + Sync, G: Gate + Sync>(
         alloc,
         problem: p,
         level: 0,
+        old: None,
     };
     let mut regs = Regs {
         coarser: None,
@@ -69,7 +70,7 @@ fn step_all<R: Threads + Wait + Sync, G: Gate + Sync>(
     };
     match levels.split_first_mut() {
         None => unreachable!(),
-        Some((base, finer)) => step_levels(&given, workers, base, finer, None, &mut regs, kept)?,
+        Some((base, finer)) => step_levels(&given, workers, base, finer, &mut regs, kept)?,
     }
     Ok(Flows {
         inflow: regs.inflow,

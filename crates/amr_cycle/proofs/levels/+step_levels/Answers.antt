@@ -1,5 +1,6 @@
-use Rattle.std.proofs.Common.{ap, ◌∙◌, arith}
+use Rattle.std.proofs.Common.{ap, subst, ◌∙◌, arith}
 use Rattle.std.specs.Option.{option_copied}
+use Rattle.amr_def.specs.declared.problem.Problem.{Problem}
 use Rattle.amr_laws.specs.Sides.{inflow_beside, outflow_beside}
 use Rattle.amr_patch.specs.Levels.{level_of}
 use Rattle.amr_ghost.specs.Frames.{old_masses}
@@ -7,6 +8,7 @@ use Rattle.amr_def.specs.State.{Masses}
 use Rattle.amr_register.specs.Entries.{with_entries}
 use Rattle.amr_transfer.specs.Sums.{summed}
 use Rattle.amr_cycle.specs.Cycles.{entries_of}
+use Rattle.amr_cycle.specs.Kept.{AreKept}
 use Rattle.std.proofs.lemmas.Result.{on_ok_weaker}
 use Rattle.amr_cycle.proofs.KeptLaws.{all_below_after, kept_all, kept_first, kept_rest}
 use Rattle.amr_cycle.proofs.Whole.{coarser_1, coarser_2, fits_2, flows_1, flows_2, flows_split, has2, kept_2, levels_are, next2_coarsenable, of_level_2, parents_2, part_1, part_2, rest1_coarsenable, rest_coarsenable, small_2}
@@ -14,45 +16,45 @@ use Rattle.amr_cycle.proofs.levels.+step_levels.Goals as goal
 
 pub step_coarse-requires-clause-inflow : goal.step_coarse-requires-clause-inflow
 step_coarse-requires-clause-inflow g t c κs within =
-    omega (arith, c.requires.inflow, flows_split c.args.given.now.problem.now c.args.given.now.level (level_of c.args.level.now) c.args.finer.now (old_masses (option_copied c.args.old)) c.requires.part c.in-Some-split_first_mut.next.now c.in-Some-split_first_mut.finest.now c.in-Some-split_first_mut.ensures.cases.0 (inflow_beside c.args.given.now.problem.now))
+    omega (arith, c.requires.inflow, flows_split c.args.given.now.problem.now c.args.given.now.level (level_of c.args.level.now) c.args.finer.now (old_masses (option_copied c.args.given.now.old)) c.requires.part c.in-Some-split_first_mut.next.now c.in-Some-split_first_mut.finest.now c.in-Some-split_first_mut.ensures.cases.0 (inflow_beside c.args.given.now.problem.now))
 
 pub step_coarse-requires-clause-outflow : goal.step_coarse-requires-clause-outflow
 step_coarse-requires-clause-outflow g t c κs within =
-    omega (arith, c.requires.outflow, flows_split c.args.given.now.problem.now c.args.given.now.level (level_of c.args.level.now) c.args.finer.now (old_masses (option_copied c.args.old)) c.requires.part c.in-Some-split_first_mut.next.now c.in-Some-split_first_mut.finest.now c.in-Some-split_first_mut.ensures.cases.0 (outflow_beside c.args.given.now.problem.now))
+    omega (arith, c.requires.outflow, flows_split c.args.given.now.problem.now c.args.given.now.level (level_of c.args.level.now) c.args.finer.now (old_masses (option_copied c.args.given.now.old)) c.requires.part c.in-Some-split_first_mut.next.now c.in-Some-split_first_mut.finest.now c.in-Some-split_first_mut.ensures.cases.0 (outflow_beside c.args.given.now.problem.now))
 
 pub step_levels-requires-clause-part : goal.step_levels-requires-clause-part
 step_levels-requires-clause-part g t c κs within =
-    part_1 c.args.given.now.problem.now c.args.given.now.level (level_of c.args.level.now) c.args.finer.now (old_masses (option_copied c.args.old)) c.requires.part c.in-Some-split_first_mut.next.now c.in-Some-split_first_mut.finest.now c.in-Some-split_first_mut.ensures.cases.0 c.in_ok-below.below.before c.in_ok-below.ensures.before c.in_ok-below.below.regs.coarser c.in_ok-below.ensures.register
+    part_1 c.args.given.now.problem.now c.args.given.now.level (level_of c.args.level.now) c.args.finer.now (old_masses (option_copied c.args.given.now.old)) c.requires.part c.in-Some-split_first_mut.next.now c.in-Some-split_first_mut.finest.now c.in-Some-split_first_mut.ensures.cases.0 c.in_ok-below.below.before c.in_ok-below.ensures.before c.in_ok-below.below.regs.coarser c.in_ok-below.ensures.register c.for_finer-inner.result.problem.now c.for_finer-inner.ensures.problem c.for_finer-inner.result.level c.for_finer-inner.ensures.level (option_copied c.for_finer-inner.result.old) c.for_finer-inner.ensures.old
 
 pub step_levels-requires-clause-coarser : goal.step_levels-requires-clause-coarser
 step_levels-requires-clause-coarser g t c κs within =
-    coarser_1 c.args.given.now.problem.now c.args.given.now.level (level_of c.args.level.now) c.args.finer.now (old_masses (option_copied c.args.old)) c.requires.part c.in-Some-split_first_mut.next.now c.in-Some-split_first_mut.finest.now c.in-Some-split_first_mut.ensures.cases.0 c.in_ok-below.below.before c.in_ok-below.ensures.before c.in_ok-below.below.regs.coarser c.in_ok-below.ensures.register
+    coarser_1 c.args.given.now.problem.now c.args.given.now.level (level_of c.args.level.now) c.args.finer.now (old_masses (option_copied c.args.given.now.old)) c.requires.part c.in-Some-split_first_mut.next.now c.in-Some-split_first_mut.finest.now c.in-Some-split_first_mut.ensures.cases.0 c.in_ok-below.below.before c.in_ok-below.ensures.before c.in_ok-below.below.regs.coarser c.in_ok-below.ensures.register c.for_finer-inner.result.problem.now c.for_finer-inner.ensures.problem c.for_finer-inner.result.level c.for_finer-inner.ensures.level (option_copied c.for_finer-inner.result.old) c.for_finer-inner.ensures.old
 
 pub step_levels-requires-clause-coarsenable : goal.step_levels-requires-clause-coarsenable
 step_levels-requires-clause-coarsenable g t c κs within =
-    rest_coarsenable c.args.given.now.problem.now c.args.given.now.level (level_of c.args.level.now) c.args.finer.now (old_masses (option_copied c.args.old)) c.requires.part c.in-Some-split_first_mut.next.now c.in-Some-split_first_mut.finest.now c.in-Some-split_first_mut.ensures.cases.0 c.requires.coarsenable
+    rest_coarsenable c.args.given.now.problem.now c.args.given.now.level (level_of c.args.level.now) c.args.finer.now (old_masses (option_copied c.args.given.now.old)) c.requires.part c.in-Some-split_first_mut.next.now c.in-Some-split_first_mut.finest.now c.in-Some-split_first_mut.ensures.cases.0 c.requires.coarsenable
 
 pub step_levels-requires-clause-inflow : goal.step_levels-requires-clause-inflow
 step_levels-requires-clause-inflow g t c κs within =
-    omega (arith, c.requires.inflow, c.in_ok-below.ensures.inflow, flows_split c.args.given.now.problem.now c.args.given.now.level (level_of c.args.level.now) c.args.finer.now (old_masses (option_copied c.args.old)) c.requires.part c.in-Some-split_first_mut.next.now c.in-Some-split_first_mut.finest.now c.in-Some-split_first_mut.ensures.cases.0 (inflow_beside c.args.given.now.problem.now), flows_1 c.args.given.now.problem.now c.args.given.now.level (level_of c.args.level.now) c.args.finer.now (old_masses (option_copied c.args.old)) c.requires.part c.in-Some-split_first_mut.next.now c.in-Some-split_first_mut.finest.now c.in-Some-split_first_mut.ensures.cases.0 c.in_ok-below.below.before c.in_ok-below.ensures.before c.in_ok-below.below.regs.coarser c.in_ok-below.ensures.register (inflow_beside c.args.given.now.problem.now))
+    omega (arith, c.requires.inflow, c.in_ok-below.ensures.inflow, flows_split c.args.given.now.problem.now c.args.given.now.level (level_of c.args.level.now) c.args.finer.now (old_masses (option_copied c.args.given.now.old)) c.requires.part c.in-Some-split_first_mut.next.now c.in-Some-split_first_mut.finest.now c.in-Some-split_first_mut.ensures.cases.0 (inflow_beside c.args.given.now.problem.now), flows_1 c.args.given.now.problem.now c.args.given.now.level (level_of c.args.level.now) c.args.finer.now (old_masses (option_copied c.args.given.now.old)) c.requires.part c.in-Some-split_first_mut.next.now c.in-Some-split_first_mut.finest.now c.in-Some-split_first_mut.ensures.cases.0 c.in_ok-below.below.before c.in_ok-below.ensures.before c.in_ok-below.below.regs.coarser c.in_ok-below.ensures.register c.for_finer-inner.result.problem.now c.for_finer-inner.ensures.problem c.for_finer-inner.result.level c.for_finer-inner.ensures.level (option_copied c.for_finer-inner.result.old) c.for_finer-inner.ensures.old inflow_beside)
 
 pub step_levels-requires-clause-outflow : goal.step_levels-requires-clause-outflow
 step_levels-requires-clause-outflow g t c κs within =
-    omega (arith, c.requires.outflow, c.in_ok-below.ensures.outflow, flows_split c.args.given.now.problem.now c.args.given.now.level (level_of c.args.level.now) c.args.finer.now (old_masses (option_copied c.args.old)) c.requires.part c.in-Some-split_first_mut.next.now c.in-Some-split_first_mut.finest.now c.in-Some-split_first_mut.ensures.cases.0 (outflow_beside c.args.given.now.problem.now), flows_1 c.args.given.now.problem.now c.args.given.now.level (level_of c.args.level.now) c.args.finer.now (old_masses (option_copied c.args.old)) c.requires.part c.in-Some-split_first_mut.next.now c.in-Some-split_first_mut.finest.now c.in-Some-split_first_mut.ensures.cases.0 c.in_ok-below.below.before c.in_ok-below.ensures.before c.in_ok-below.below.regs.coarser c.in_ok-below.ensures.register (outflow_beside c.args.given.now.problem.now))
+    omega (arith, c.requires.outflow, c.in_ok-below.ensures.outflow, flows_split c.args.given.now.problem.now c.args.given.now.level (level_of c.args.level.now) c.args.finer.now (old_masses (option_copied c.args.given.now.old)) c.requires.part c.in-Some-split_first_mut.next.now c.in-Some-split_first_mut.finest.now c.in-Some-split_first_mut.ensures.cases.0 (outflow_beside c.args.given.now.problem.now), flows_1 c.args.given.now.problem.now c.args.given.now.level (level_of c.args.level.now) c.args.finer.now (old_masses (option_copied c.args.given.now.old)) c.requires.part c.in-Some-split_first_mut.next.now c.in-Some-split_first_mut.finest.now c.in-Some-split_first_mut.ensures.cases.0 c.in_ok-below.below.before c.in_ok-below.ensures.before c.in_ok-below.below.regs.coarser c.in_ok-below.ensures.register c.for_finer-inner.result.problem.now c.for_finer-inner.ensures.problem c.for_finer-inner.result.level c.for_finer-inner.ensures.level (option_copied c.for_finer-inner.result.old) c.for_finer-inner.ensures.old outflow_beside)
 
 pub step_levels-requires-2-clause-part : goal.step_levels-requires-2-clause-part
 step_levels-requires-2-clause-part g t c κs within =
-    part_2 c.args.given.now.problem.now c.args.given.now.level (level_of c.args.level.now) c.args.finer.now (old_masses (option_copied c.args.old)) c.requires.part c.in-Some-split_first_mut.next.now c.in-Some-split_first_mut.finest.now c.in-Some-split_first_mut.ensures.cases.0 c.in_ok-below.below.before c.in_ok-below.ensures.before c.in_ok-below.below.regs.coarser c.in_ok-below.ensures.register
+    part_2 c.args.given.now.problem.now c.args.given.now.level (level_of c.args.level.now) c.args.finer.now (old_masses (option_copied c.args.given.now.old)) c.requires.part c.in-Some-split_first_mut.next.now c.in-Some-split_first_mut.finest.now c.in-Some-split_first_mut.ensures.cases.0 c.in_ok-below.below.before c.in_ok-below.ensures.before c.in_ok-below.below.regs.coarser c.in_ok-below.ensures.register c.for_finer-inner.result.problem.now c.for_finer-inner.ensures.problem c.for_finer-inner.result.level c.for_finer-inner.ensures.level (option_copied c.for_finer-inner.result.old) c.for_finer-inner.ensures.old
     c.step_levels.new.level c.step_levels.new.finer c.step_levels.new.regs.coarser c.in_ok-step_levels.ensures.levels c.in_ok-step_levels.ensures.patches c.in_ok-step_levels.ensures.coarser
 
 pub step_levels-requires-2-clause-coarser : goal.step_levels-requires-2-clause-coarser
 step_levels-requires-2-clause-coarser g t c κs within =
-    coarser_2 c.args.given.now.problem.now c.args.given.now.level (level_of c.args.level.now) c.args.finer.now (old_masses (option_copied c.args.old)) c.requires.part c.in-Some-split_first_mut.next.now c.in-Some-split_first_mut.finest.now c.in-Some-split_first_mut.ensures.cases.0 c.in_ok-below.below.before c.in_ok-below.ensures.before c.in_ok-below.below.regs.coarser c.in_ok-below.ensures.register
+    coarser_2 c.args.given.now.problem.now c.args.given.now.level (level_of c.args.level.now) c.args.finer.now (old_masses (option_copied c.args.given.now.old)) c.requires.part c.in-Some-split_first_mut.next.now c.in-Some-split_first_mut.finest.now c.in-Some-split_first_mut.ensures.cases.0 c.in_ok-below.below.before c.in_ok-below.ensures.before c.in_ok-below.below.regs.coarser c.in_ok-below.ensures.register c.for_finer-inner.result.problem.now c.for_finer-inner.ensures.problem c.for_finer-inner.result.level c.for_finer-inner.ensures.level (option_copied c.for_finer-inner.result.old) c.for_finer-inner.ensures.old
     c.step_levels.new.level c.step_levels.new.finer c.step_levels.new.regs.coarser c.in_ok-step_levels.ensures.levels c.in_ok-step_levels.ensures.patches c.in_ok-step_levels.ensures.coarser
 
 pub step_levels-requires-2-clause-coarsenable : goal.step_levels-requires-2-clause-coarsenable
 step_levels-requires-2-clause-coarsenable g t c κs within =
-    rest1_coarsenable c.args.given.now.problem.now c.args.given.now.level (level_of c.args.level.now) c.args.finer.now (old_masses (option_copied c.args.old)) c.requires.part c.in-Some-split_first_mut.next.now c.in-Some-split_first_mut.finest.now c.in-Some-split_first_mut.ensures.cases.0 c.in_ok-below.below.before c.in_ok-below.ensures.before c.in_ok-below.below.regs.coarser c.in_ok-below.ensures.register
+    rest1_coarsenable c.args.given.now.problem.now c.args.given.now.level (level_of c.args.level.now) c.args.finer.now (old_masses (option_copied c.args.given.now.old)) c.requires.part c.in-Some-split_first_mut.next.now c.in-Some-split_first_mut.finest.now c.in-Some-split_first_mut.ensures.cases.0 c.in_ok-below.below.before c.in_ok-below.ensures.before c.in_ok-below.below.regs.coarser c.in_ok-below.ensures.register c.for_finer-inner.result.problem.now c.for_finer-inner.ensures.problem c.for_finer-inner.result.level c.for_finer-inner.ensures.level (option_copied c.for_finer-inner.result.old) c.for_finer-inner.ensures.old
     c.step_levels.new.level c.step_levels.new.finer c.step_levels.new.regs.coarser c.in_ok-step_levels.ensures.levels c.in_ok-step_levels.ensures.patches c.in_ok-step_levels.ensures.coarser c.requires.coarsenable
 
 pub step_levels-requires-2-clause-inflow : goal.step_levels-requires-2-clause-inflow
@@ -62,10 +64,10 @@ step_levels-requires-2-clause-inflow g t c κs within =
       c.requires.inflow,
       c.in_ok-below.ensures.inflow,
       c.in_ok-step_levels.ensures.inflow,
-      flows_split c.args.given.now.problem.now c.args.given.now.level (level_of c.args.level.now) c.args.finer.now (old_masses (option_copied c.args.old)) c.requires.part c.in-Some-split_first_mut.next.now c.in-Some-split_first_mut.finest.now c.in-Some-split_first_mut.ensures.cases.0 (inflow_beside c.args.given.now.problem.now),
-      flows_1 c.args.given.now.problem.now c.args.given.now.level (level_of c.args.level.now) c.args.finer.now (old_masses (option_copied c.args.old)) c.requires.part c.in-Some-split_first_mut.next.now c.in-Some-split_first_mut.finest.now c.in-Some-split_first_mut.ensures.cases.0 c.in_ok-below.below.before c.in_ok-below.ensures.before c.in_ok-below.below.regs.coarser c.in_ok-below.ensures.register (inflow_beside c.args.given.now.problem.now),
-      flows_2 c.args.given.now.problem.now c.args.given.now.level (level_of c.args.level.now) c.args.finer.now (old_masses (option_copied c.args.old)) c.requires.part c.in-Some-split_first_mut.next.now c.in-Some-split_first_mut.finest.now c.in-Some-split_first_mut.ensures.cases.0 c.in_ok-below.below.before c.in_ok-below.ensures.before c.in_ok-below.below.regs.coarser c.in_ok-below.ensures.register
-          c.step_levels.new.level c.step_levels.new.finer c.step_levels.new.regs.coarser c.in_ok-step_levels.ensures.levels c.in_ok-step_levels.ensures.patches c.in_ok-step_levels.ensures.coarser (inflow_beside c.args.given.now.problem.now),
+      flows_split c.args.given.now.problem.now c.args.given.now.level (level_of c.args.level.now) c.args.finer.now (old_masses (option_copied c.args.given.now.old)) c.requires.part c.in-Some-split_first_mut.next.now c.in-Some-split_first_mut.finest.now c.in-Some-split_first_mut.ensures.cases.0 (inflow_beside c.args.given.now.problem.now),
+      flows_1 c.args.given.now.problem.now c.args.given.now.level (level_of c.args.level.now) c.args.finer.now (old_masses (option_copied c.args.given.now.old)) c.requires.part c.in-Some-split_first_mut.next.now c.in-Some-split_first_mut.finest.now c.in-Some-split_first_mut.ensures.cases.0 c.in_ok-below.below.before c.in_ok-below.ensures.before c.in_ok-below.below.regs.coarser c.in_ok-below.ensures.register c.for_finer-inner.result.problem.now c.for_finer-inner.ensures.problem c.for_finer-inner.result.level c.for_finer-inner.ensures.level (option_copied c.for_finer-inner.result.old) c.for_finer-inner.ensures.old inflow_beside,
+      flows_2 c.args.given.now.problem.now c.args.given.now.level (level_of c.args.level.now) c.args.finer.now (old_masses (option_copied c.args.given.now.old)) c.requires.part c.in-Some-split_first_mut.next.now c.in-Some-split_first_mut.finest.now c.in-Some-split_first_mut.ensures.cases.0 c.in_ok-below.below.before c.in_ok-below.ensures.before c.in_ok-below.below.regs.coarser c.in_ok-below.ensures.register c.for_finer-inner.result.problem.now c.for_finer-inner.ensures.problem c.for_finer-inner.result.level c.for_finer-inner.ensures.level (option_copied c.for_finer-inner.result.old) c.for_finer-inner.ensures.old
+          c.step_levels.new.level c.step_levels.new.finer c.step_levels.new.regs.coarser c.in_ok-step_levels.ensures.levels c.in_ok-step_levels.ensures.patches c.in_ok-step_levels.ensures.coarser inflow_beside,
     )
 
 pub step_levels-requires-2-clause-outflow : goal.step_levels-requires-2-clause-outflow
@@ -75,56 +77,56 @@ step_levels-requires-2-clause-outflow g t c κs within =
       c.requires.outflow,
       c.in_ok-below.ensures.outflow,
       c.in_ok-step_levels.ensures.outflow,
-      flows_split c.args.given.now.problem.now c.args.given.now.level (level_of c.args.level.now) c.args.finer.now (old_masses (option_copied c.args.old)) c.requires.part c.in-Some-split_first_mut.next.now c.in-Some-split_first_mut.finest.now c.in-Some-split_first_mut.ensures.cases.0 (outflow_beside c.args.given.now.problem.now),
-      flows_1 c.args.given.now.problem.now c.args.given.now.level (level_of c.args.level.now) c.args.finer.now (old_masses (option_copied c.args.old)) c.requires.part c.in-Some-split_first_mut.next.now c.in-Some-split_first_mut.finest.now c.in-Some-split_first_mut.ensures.cases.0 c.in_ok-below.below.before c.in_ok-below.ensures.before c.in_ok-below.below.regs.coarser c.in_ok-below.ensures.register (outflow_beside c.args.given.now.problem.now),
-      flows_2 c.args.given.now.problem.now c.args.given.now.level (level_of c.args.level.now) c.args.finer.now (old_masses (option_copied c.args.old)) c.requires.part c.in-Some-split_first_mut.next.now c.in-Some-split_first_mut.finest.now c.in-Some-split_first_mut.ensures.cases.0 c.in_ok-below.below.before c.in_ok-below.ensures.before c.in_ok-below.below.regs.coarser c.in_ok-below.ensures.register
-          c.step_levels.new.level c.step_levels.new.finer c.step_levels.new.regs.coarser c.in_ok-step_levels.ensures.levels c.in_ok-step_levels.ensures.patches c.in_ok-step_levels.ensures.coarser (outflow_beside c.args.given.now.problem.now),
+      flows_split c.args.given.now.problem.now c.args.given.now.level (level_of c.args.level.now) c.args.finer.now (old_masses (option_copied c.args.given.now.old)) c.requires.part c.in-Some-split_first_mut.next.now c.in-Some-split_first_mut.finest.now c.in-Some-split_first_mut.ensures.cases.0 (outflow_beside c.args.given.now.problem.now),
+      flows_1 c.args.given.now.problem.now c.args.given.now.level (level_of c.args.level.now) c.args.finer.now (old_masses (option_copied c.args.given.now.old)) c.requires.part c.in-Some-split_first_mut.next.now c.in-Some-split_first_mut.finest.now c.in-Some-split_first_mut.ensures.cases.0 c.in_ok-below.below.before c.in_ok-below.ensures.before c.in_ok-below.below.regs.coarser c.in_ok-below.ensures.register c.for_finer-inner.result.problem.now c.for_finer-inner.ensures.problem c.for_finer-inner.result.level c.for_finer-inner.ensures.level (option_copied c.for_finer-inner.result.old) c.for_finer-inner.ensures.old outflow_beside,
+      flows_2 c.args.given.now.problem.now c.args.given.now.level (level_of c.args.level.now) c.args.finer.now (old_masses (option_copied c.args.given.now.old)) c.requires.part c.in-Some-split_first_mut.next.now c.in-Some-split_first_mut.finest.now c.in-Some-split_first_mut.ensures.cases.0 c.in_ok-below.below.before c.in_ok-below.ensures.before c.in_ok-below.below.regs.coarser c.in_ok-below.ensures.register c.for_finer-inner.result.problem.now c.for_finer-inner.ensures.problem c.for_finer-inner.result.level c.for_finer-inner.ensures.level (option_copied c.for_finer-inner.result.old) c.for_finer-inner.ensures.old
+          c.step_levels.new.level c.step_levels.new.finer c.step_levels.new.regs.coarser c.in_ok-step_levels.ensures.levels c.in_ok-step_levels.ensures.patches c.in_ok-step_levels.ensures.coarser outflow_beside,
     )
 
 pub correct-requires-clause-of_level : goal.correct-requires-clause-of_level
 correct-requires-clause-of_level g t c =
-    of_level_2 c.args.given.now.problem.now c.args.given.now.level (level_of c.args.level.now) c.args.finer.now (old_masses (option_copied c.args.old)) c.requires.part c.in-Some-split_first_mut.next.now c.in-Some-split_first_mut.finest.now c.in-Some-split_first_mut.ensures.cases.0 c.in_ok-below.below.before c.in_ok-below.ensures.before c.in_ok-below.below.regs.coarser c.in_ok-below.ensures.register
+    of_level_2 c.args.given.now.problem.now c.args.given.now.level (level_of c.args.level.now) c.args.finer.now (old_masses (option_copied c.args.given.now.old)) c.requires.part c.in-Some-split_first_mut.next.now c.in-Some-split_first_mut.finest.now c.in-Some-split_first_mut.ensures.cases.0 c.in_ok-below.below.before c.in_ok-below.ensures.before c.in_ok-below.below.regs.coarser c.in_ok-below.ensures.register c.for_finer-inner.result.problem.now c.for_finer-inner.ensures.problem c.for_finer-inner.result.level c.for_finer-inner.ensures.level (option_copied c.for_finer-inner.result.old) c.for_finer-inner.ensures.old
     c.step_levels.new.level c.step_levels.new.finer c.step_levels.new.regs.coarser c.in_ok-step_levels.ensures.levels c.in_ok-step_levels.ensures.patches c.in_ok-step_levels.ensures.coarser
     c.step_levels-2.new.level c.step_levels-2.new.finer c.step_levels-2.new.regs.coarser c.in_ok-step_levels-2.ensures.levels c.in_ok-step_levels-2.ensures.patches c.in_ok-step_levels-2.ensures.coarser
     (level_of c.step_coarse.new.level).masses c.in_ok-below.ensures.masses
 
 pub correct-requires-clause-kept : goal.correct-requires-clause-kept
 correct-requires-clause-kept g t c =
-    kept_2 c.args.given.now.problem.now c.args.given.now.level (level_of c.args.level.now) c.args.finer.now (old_masses (option_copied c.args.old)) c.requires.part c.in-Some-split_first_mut.next.now c.in-Some-split_first_mut.finest.now c.in-Some-split_first_mut.ensures.cases.0 c.in_ok-below.below.before c.in_ok-below.ensures.before c.in_ok-below.below.regs.coarser c.in_ok-below.ensures.register
+    kept_2 c.args.given.now.problem.now c.args.given.now.level (level_of c.args.level.now) c.args.finer.now (old_masses (option_copied c.args.given.now.old)) c.requires.part c.in-Some-split_first_mut.next.now c.in-Some-split_first_mut.finest.now c.in-Some-split_first_mut.ensures.cases.0 c.in_ok-below.below.before c.in_ok-below.ensures.before c.in_ok-below.below.regs.coarser c.in_ok-below.ensures.register c.for_finer-inner.result.problem.now c.for_finer-inner.ensures.problem c.for_finer-inner.result.level c.for_finer-inner.ensures.level (option_copied c.for_finer-inner.result.old) c.for_finer-inner.ensures.old
     c.step_levels.new.level c.step_levels.new.finer c.step_levels.new.regs.coarser c.in_ok-step_levels.ensures.levels c.in_ok-step_levels.ensures.patches c.in_ok-step_levels.ensures.coarser
     c.step_levels-2.new.level c.step_levels-2.new.finer c.step_levels-2.new.regs.coarser c.in_ok-step_levels-2.ensures.levels c.in_ok-step_levels-2.ensures.patches c.in_ok-step_levels-2.ensures.coarser
     (level_of c.step_coarse.new.level).masses c.in_ok-below.ensures.masses
 
 pub correct-requires-clause-fits : goal.correct-requires-clause-fits
 correct-requires-clause-fits g t c =
-    fits_2 c.args.given.now.problem.now c.args.given.now.level (level_of c.args.level.now) c.args.finer.now (old_masses (option_copied c.args.old)) c.requires.part c.in-Some-split_first_mut.next.now c.in-Some-split_first_mut.finest.now c.in-Some-split_first_mut.ensures.cases.0 c.in_ok-below.below.before c.in_ok-below.ensures.before c.in_ok-below.below.regs.coarser c.in_ok-below.ensures.register
+    fits_2 c.args.given.now.problem.now c.args.given.now.level (level_of c.args.level.now) c.args.finer.now (old_masses (option_copied c.args.given.now.old)) c.requires.part c.in-Some-split_first_mut.next.now c.in-Some-split_first_mut.finest.now c.in-Some-split_first_mut.ensures.cases.0 c.in_ok-below.below.before c.in_ok-below.ensures.before c.in_ok-below.below.regs.coarser c.in_ok-below.ensures.register c.for_finer-inner.result.problem.now c.for_finer-inner.ensures.problem c.for_finer-inner.result.level c.for_finer-inner.ensures.level (option_copied c.for_finer-inner.result.old) c.for_finer-inner.ensures.old
     c.step_levels.new.level c.step_levels.new.finer c.step_levels.new.regs.coarser c.in_ok-step_levels.ensures.levels c.in_ok-step_levels.ensures.patches c.in_ok-step_levels.ensures.coarser
     c.step_levels-2.new.level c.step_levels-2.new.finer c.step_levels-2.new.regs.coarser c.in_ok-step_levels-2.ensures.levels c.in_ok-step_levels-2.ensures.patches c.in_ok-step_levels-2.ensures.coarser
     (level_of c.step_coarse.new.level).masses c.in_ok-below.ensures.masses
 
 pub correct-requires-clause-parents : goal.correct-requires-clause-parents
 correct-requires-clause-parents g t c =
-    parents_2 c.args.given.now.problem.now c.args.given.now.level (level_of c.args.level.now) c.args.finer.now (old_masses (option_copied c.args.old)) c.requires.part c.in-Some-split_first_mut.next.now c.in-Some-split_first_mut.finest.now c.in-Some-split_first_mut.ensures.cases.0 c.in_ok-below.below.before c.in_ok-below.ensures.before c.in_ok-below.below.regs.coarser c.in_ok-below.ensures.register
+    parents_2 c.args.given.now.problem.now c.args.given.now.level (level_of c.args.level.now) c.args.finer.now (old_masses (option_copied c.args.given.now.old)) c.requires.part c.in-Some-split_first_mut.next.now c.in-Some-split_first_mut.finest.now c.in-Some-split_first_mut.ensures.cases.0 c.in_ok-below.below.before c.in_ok-below.ensures.before c.in_ok-below.below.regs.coarser c.in_ok-below.ensures.register c.for_finer-inner.result.problem.now c.for_finer-inner.ensures.problem c.for_finer-inner.result.level c.for_finer-inner.ensures.level (option_copied c.for_finer-inner.result.old) c.for_finer-inner.ensures.old
     c.step_levels.new.level c.step_levels.new.finer c.step_levels.new.regs.coarser c.in_ok-step_levels.ensures.levels c.in_ok-step_levels.ensures.patches c.in_ok-step_levels.ensures.coarser
     c.step_levels-2.new.level c.step_levels-2.new.finer c.step_levels-2.new.regs.coarser c.in_ok-step_levels-2.ensures.levels c.in_ok-step_levels-2.ensures.patches c.in_ok-step_levels-2.ensures.coarser
     (level_of c.step_coarse.new.level).masses c.in_ok-below.ensures.masses
 
 pub correct-requires-clause-coarsenable : goal.correct-requires-clause-coarsenable
 correct-requires-clause-coarsenable g t c =
-    next2_coarsenable c.args.given.now.problem.now c.args.given.now.level (level_of c.args.level.now) c.args.finer.now (old_masses (option_copied c.args.old)) c.requires.part c.in-Some-split_first_mut.next.now c.in-Some-split_first_mut.finest.now c.in-Some-split_first_mut.ensures.cases.0 c.in_ok-below.below.before c.in_ok-below.ensures.before c.in_ok-below.below.regs.coarser c.in_ok-below.ensures.register
+    next2_coarsenable c.args.given.now.problem.now c.args.given.now.level (level_of c.args.level.now) c.args.finer.now (old_masses (option_copied c.args.given.now.old)) c.requires.part c.in-Some-split_first_mut.next.now c.in-Some-split_first_mut.finest.now c.in-Some-split_first_mut.ensures.cases.0 c.in_ok-below.below.before c.in_ok-below.ensures.before c.in_ok-below.below.regs.coarser c.in_ok-below.ensures.register c.for_finer-inner.result.problem.now c.for_finer-inner.ensures.problem c.for_finer-inner.result.level c.for_finer-inner.ensures.level (option_copied c.for_finer-inner.result.old) c.for_finer-inner.ensures.old
     c.step_levels.new.level c.step_levels.new.finer c.step_levels.new.regs.coarser c.in_ok-step_levels.ensures.levels c.in_ok-step_levels.ensures.patches c.in_ok-step_levels.ensures.coarser
     c.step_levels-2.new.level c.step_levels-2.new.finer c.step_levels-2.new.regs.coarser c.in_ok-step_levels-2.ensures.levels c.in_ok-step_levels-2.ensures.patches c.in_ok-step_levels-2.ensures.coarser c.requires.coarsenable
 
 pub correct-requires-clause-small : goal.correct-requires-clause-small
 correct-requires-clause-small g t c =
-    small_2 c.args.given.now.problem.now c.args.given.now.level (level_of c.args.level.now) c.args.finer.now (old_masses (option_copied c.args.old)) c.requires.part c.in-Some-split_first_mut.next.now c.in-Some-split_first_mut.finest.now c.in-Some-split_first_mut.ensures.cases.0 c.in_ok-below.below.before c.in_ok-below.ensures.before c.in_ok-below.below.regs.coarser c.in_ok-below.ensures.register
+    small_2 c.args.given.now.problem.now c.args.given.now.level (level_of c.args.level.now) c.args.finer.now (old_masses (option_copied c.args.given.now.old)) c.requires.part c.in-Some-split_first_mut.next.now c.in-Some-split_first_mut.finest.now c.in-Some-split_first_mut.ensures.cases.0 c.in_ok-below.below.before c.in_ok-below.ensures.before c.in_ok-below.below.regs.coarser c.in_ok-below.ensures.register c.for_finer-inner.result.problem.now c.for_finer-inner.ensures.problem c.for_finer-inner.result.level c.for_finer-inner.ensures.level (option_copied c.for_finer-inner.result.old) c.for_finer-inner.ensures.old
     c.step_levels.new.level c.step_levels.new.finer c.step_levels.new.regs.coarser c.in_ok-step_levels.ensures.levels c.in_ok-step_levels.ensures.patches c.in_ok-step_levels.ensures.coarser
     c.step_levels-2.new.level c.step_levels-2.new.finer c.step_levels-2.new.regs.coarser c.in_ok-step_levels-2.ensures.levels c.in_ok-step_levels-2.ensures.patches c.in_ok-step_levels-2.ensures.coarser
     (level_of c.step_coarse.new.level).masses c.in_ok-below.ensures.masses
 
 pub returns-clause-levels : goal.returns-clause-levels
 returns-clause-levels g t c =
-    levels_are c.args.given.now.problem.now c.args.given.now.level (level_of c.args.level.now) c.args.finer.now (old_masses (option_copied c.args.old)) c.requires.part c.in-Some-split_first_mut.next.now c.in-Some-split_first_mut.finest.now c.in-Some-split_first_mut.ensures.cases.0 c.in_ok-below.below.before c.in_ok-below.ensures.before c.in_ok-below.below.regs.coarser c.in_ok-below.ensures.register
+    levels_are c.args.given.now.problem.now c.args.given.now.level (level_of c.args.level.now) c.args.finer.now (old_masses (option_copied c.args.given.now.old)) c.requires.part c.in-Some-split_first_mut.next.now c.in-Some-split_first_mut.finest.now c.in-Some-split_first_mut.ensures.cases.0 c.in_ok-below.below.before c.in_ok-below.ensures.before c.in_ok-below.below.regs.coarser c.in_ok-below.ensures.register c.for_finer-inner.result.problem.now c.for_finer-inner.ensures.problem c.for_finer-inner.result.level c.for_finer-inner.ensures.level (option_copied c.for_finer-inner.result.old) c.for_finer-inner.ensures.old
     c.step_levels.new.level c.step_levels.new.finer c.step_levels.new.regs.coarser c.in_ok-step_levels.ensures.levels c.in_ok-step_levels.ensures.patches c.in_ok-step_levels.ensures.coarser
     c.step_levels-2.new.level c.step_levels-2.new.finer c.step_levels-2.new.regs.coarser c.in_ok-step_levels-2.ensures.levels c.in_ok-step_levels-2.ensures.patches c.in_ok-step_levels-2.ensures.coarser
     (level_of c.correct.new.level) (c.correct.ensures.boxes ∙ c.in_ok-below.ensures.boxes)
@@ -137,10 +139,10 @@ returns-clause-inflow g t c =
       c.in_ok-below.ensures.inflow,
       c.in_ok-step_levels.ensures.inflow,
       c.in_ok-step_levels-2.ensures.inflow,
-      flows_split c.args.given.now.problem.now c.args.given.now.level (level_of c.args.level.now) c.args.finer.now (old_masses (option_copied c.args.old)) c.requires.part c.in-Some-split_first_mut.next.now c.in-Some-split_first_mut.finest.now c.in-Some-split_first_mut.ensures.cases.0 (inflow_beside c.args.given.now.problem.now),
-      flows_1 c.args.given.now.problem.now c.args.given.now.level (level_of c.args.level.now) c.args.finer.now (old_masses (option_copied c.args.old)) c.requires.part c.in-Some-split_first_mut.next.now c.in-Some-split_first_mut.finest.now c.in-Some-split_first_mut.ensures.cases.0 c.in_ok-below.below.before c.in_ok-below.ensures.before c.in_ok-below.below.regs.coarser c.in_ok-below.ensures.register (inflow_beside c.args.given.now.problem.now),
-      flows_2 c.args.given.now.problem.now c.args.given.now.level (level_of c.args.level.now) c.args.finer.now (old_masses (option_copied c.args.old)) c.requires.part c.in-Some-split_first_mut.next.now c.in-Some-split_first_mut.finest.now c.in-Some-split_first_mut.ensures.cases.0 c.in_ok-below.below.before c.in_ok-below.ensures.before c.in_ok-below.below.regs.coarser c.in_ok-below.ensures.register
-          c.step_levels.new.level c.step_levels.new.finer c.step_levels.new.regs.coarser c.in_ok-step_levels.ensures.levels c.in_ok-step_levels.ensures.patches c.in_ok-step_levels.ensures.coarser (inflow_beside c.args.given.now.problem.now),
+      flows_split c.args.given.now.problem.now c.args.given.now.level (level_of c.args.level.now) c.args.finer.now (old_masses (option_copied c.args.given.now.old)) c.requires.part c.in-Some-split_first_mut.next.now c.in-Some-split_first_mut.finest.now c.in-Some-split_first_mut.ensures.cases.0 (inflow_beside c.args.given.now.problem.now),
+      flows_1 c.args.given.now.problem.now c.args.given.now.level (level_of c.args.level.now) c.args.finer.now (old_masses (option_copied c.args.given.now.old)) c.requires.part c.in-Some-split_first_mut.next.now c.in-Some-split_first_mut.finest.now c.in-Some-split_first_mut.ensures.cases.0 c.in_ok-below.below.before c.in_ok-below.ensures.before c.in_ok-below.below.regs.coarser c.in_ok-below.ensures.register c.for_finer-inner.result.problem.now c.for_finer-inner.ensures.problem c.for_finer-inner.result.level c.for_finer-inner.ensures.level (option_copied c.for_finer-inner.result.old) c.for_finer-inner.ensures.old inflow_beside,
+      flows_2 c.args.given.now.problem.now c.args.given.now.level (level_of c.args.level.now) c.args.finer.now (old_masses (option_copied c.args.given.now.old)) c.requires.part c.in-Some-split_first_mut.next.now c.in-Some-split_first_mut.finest.now c.in-Some-split_first_mut.ensures.cases.0 c.in_ok-below.below.before c.in_ok-below.ensures.before c.in_ok-below.below.regs.coarser c.in_ok-below.ensures.register c.for_finer-inner.result.problem.now c.for_finer-inner.ensures.problem c.for_finer-inner.result.level c.for_finer-inner.ensures.level (option_copied c.for_finer-inner.result.old) c.for_finer-inner.ensures.old
+          c.step_levels.new.level c.step_levels.new.finer c.step_levels.new.regs.coarser c.in_ok-step_levels.ensures.levels c.in_ok-step_levels.ensures.patches c.in_ok-step_levels.ensures.coarser inflow_beside,
     )
 
 pub returns-clause-outflow : goal.returns-clause-outflow
@@ -150,10 +152,10 @@ returns-clause-outflow g t c =
       c.in_ok-below.ensures.outflow,
       c.in_ok-step_levels.ensures.outflow,
       c.in_ok-step_levels-2.ensures.outflow,
-      flows_split c.args.given.now.problem.now c.args.given.now.level (level_of c.args.level.now) c.args.finer.now (old_masses (option_copied c.args.old)) c.requires.part c.in-Some-split_first_mut.next.now c.in-Some-split_first_mut.finest.now c.in-Some-split_first_mut.ensures.cases.0 (outflow_beside c.args.given.now.problem.now),
-      flows_1 c.args.given.now.problem.now c.args.given.now.level (level_of c.args.level.now) c.args.finer.now (old_masses (option_copied c.args.old)) c.requires.part c.in-Some-split_first_mut.next.now c.in-Some-split_first_mut.finest.now c.in-Some-split_first_mut.ensures.cases.0 c.in_ok-below.below.before c.in_ok-below.ensures.before c.in_ok-below.below.regs.coarser c.in_ok-below.ensures.register (outflow_beside c.args.given.now.problem.now),
-      flows_2 c.args.given.now.problem.now c.args.given.now.level (level_of c.args.level.now) c.args.finer.now (old_masses (option_copied c.args.old)) c.requires.part c.in-Some-split_first_mut.next.now c.in-Some-split_first_mut.finest.now c.in-Some-split_first_mut.ensures.cases.0 c.in_ok-below.below.before c.in_ok-below.ensures.before c.in_ok-below.below.regs.coarser c.in_ok-below.ensures.register
-          c.step_levels.new.level c.step_levels.new.finer c.step_levels.new.regs.coarser c.in_ok-step_levels.ensures.levels c.in_ok-step_levels.ensures.patches c.in_ok-step_levels.ensures.coarser (outflow_beside c.args.given.now.problem.now),
+      flows_split c.args.given.now.problem.now c.args.given.now.level (level_of c.args.level.now) c.args.finer.now (old_masses (option_copied c.args.given.now.old)) c.requires.part c.in-Some-split_first_mut.next.now c.in-Some-split_first_mut.finest.now c.in-Some-split_first_mut.ensures.cases.0 (outflow_beside c.args.given.now.problem.now),
+      flows_1 c.args.given.now.problem.now c.args.given.now.level (level_of c.args.level.now) c.args.finer.now (old_masses (option_copied c.args.given.now.old)) c.requires.part c.in-Some-split_first_mut.next.now c.in-Some-split_first_mut.finest.now c.in-Some-split_first_mut.ensures.cases.0 c.in_ok-below.below.before c.in_ok-below.ensures.before c.in_ok-below.below.regs.coarser c.in_ok-below.ensures.register c.for_finer-inner.result.problem.now c.for_finer-inner.ensures.problem c.for_finer-inner.result.level c.for_finer-inner.ensures.level (option_copied c.for_finer-inner.result.old) c.for_finer-inner.ensures.old outflow_beside,
+      flows_2 c.args.given.now.problem.now c.args.given.now.level (level_of c.args.level.now) c.args.finer.now (old_masses (option_copied c.args.given.now.old)) c.requires.part c.in-Some-split_first_mut.next.now c.in-Some-split_first_mut.finest.now c.in-Some-split_first_mut.ensures.cases.0 c.in_ok-below.below.before c.in_ok-below.ensures.before c.in_ok-below.below.regs.coarser c.in_ok-below.ensures.register c.for_finer-inner.result.problem.now c.for_finer-inner.ensures.problem c.for_finer-inner.result.level c.for_finer-inner.ensures.level (option_copied c.for_finer-inner.result.old) c.for_finer-inner.ensures.old
+          c.step_levels.new.level c.step_levels.new.finer c.step_levels.new.regs.coarser c.in_ok-step_levels.ensures.levels c.in_ok-step_levels.ensures.patches c.in_ok-step_levels.ensures.coarser outflow_beside,
     )
 
 pub step_finest-requires-clause-kept : goal.step_finest-requires-clause-kept
@@ -167,15 +169,17 @@ pub step_coarse-requires-clause-kept : goal.step_coarse-requires-clause-kept
 step_coarse-requires-clause-kept g t c κs within = kept_first c.args.given.now.problem.now c.args.given.now.level c.in-Some.own.now c.in-Some.rest.now c.args.kept.now c.in-Some.ensures.cases.0 c.requires.kept
 
 pub step_levels-requires-clause-kept : goal.step_levels-requires-clause-kept
-step_levels-requires-clause-kept g t c κs within = kept_rest c.args.given.now.problem.now c.args.given.now.level c.in-Some.own.now c.in-Some.rest.now c.args.kept.now c.in-Some.ensures.cases.0 c.requires.kept
+step_levels-requires-clause-kept g t c κs within = rw (c.for_finer-inner.ensures.problem, c.for_finer-inner.ensures.level) (kept_rest c.args.given.now.problem.now c.args.given.now.level c.in-Some.own.now c.in-Some.rest.now c.args.kept.now c.in-Some.ensures.cases.0 c.requires.kept)
 
 pub returns-clause-kept : goal.returns-clause-kept
 returns-clause-kept g t c =
     let p = c.args.given.now.problem.now in
     let k = level_of c.args.level.now in
     let fine = level_of c.in-Some-split_first_mut.next.now in
+    let finer =
+    subst (λ n. AreKept p n c.step_levels-2.new.kept) c.for_finer-inner.ensures.level (subst (λ (q : Problem). AreKept q c.for_finer-inner.result.level c.step_levels-2.new.kept) c.for_finer-inner.ensures.problem c.in_ok-step_levels-2.ensures.kept) in
     let has =
-    has2 c.args.given.now.problem.now c.args.given.now.level (level_of c.args.level.now) c.args.finer.now (old_masses (option_copied c.args.old)) c.requires.part c.in-Some-split_first_mut.next.now c.in-Some-split_first_mut.finest.now c.in-Some-split_first_mut.ensures.cases.0 c.in_ok-below.below.before c.in_ok-below.ensures.before c.in_ok-below.below.regs.coarser c.in_ok-below.ensures.register
+    has2 c.args.given.now.problem.now c.args.given.now.level (level_of c.args.level.now) c.args.finer.now (old_masses (option_copied c.args.given.now.old)) c.requires.part c.in-Some-split_first_mut.next.now c.in-Some-split_first_mut.finest.now c.in-Some-split_first_mut.ensures.cases.0 c.in_ok-below.below.before c.in_ok-below.ensures.before c.in_ok-below.below.regs.coarser c.in_ok-below.ensures.register c.for_finer-inner.result.problem.now c.for_finer-inner.ensures.problem c.for_finer-inner.result.level c.for_finer-inner.ensures.level (option_copied c.for_finer-inner.result.old) c.for_finer-inner.ensures.old
     c.step_levels.new.level c.step_levels.new.finer c.step_levels.new.regs.coarser c.in_ok-step_levels.ensures.levels c.in_ok-step_levels.ensures.patches c.in_ok-step_levels.ensures.coarser
     c.step_levels-2.new.level c.step_levels-2.new.finer c.step_levels-2.new.regs.coarser c.in_ok-step_levels-2.ensures.levels c.in_ok-step_levels-2.ensures.patches c.in_ok-step_levels-2.ensures.coarser in
     kept_all p c.args.given.now.level (record { layout = c.step_coarse.new.own.layout; below = c.kept_of.result }) c.step_levels-2.new.kept
@@ -183,4 +187,4 @@ returns-clause-kept g t c =
       layout = c.in_ok-below.ensures.layout;
       below = all_below_after p c.args.given.now.level k fine _ c.kept_of.result c.in_ok-below.below.before c.in_ok-below.below.finer c.step_levels-2.new.regs.coarser c.in_ok-below.ensures.before c.in_ok-below.ensures.finer_boxes c.kept_of.ensures has;
     })
-    c.in_ok-step_levels-2.ensures.kept
+    finer

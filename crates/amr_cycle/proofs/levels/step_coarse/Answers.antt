@@ -11,29 +11,29 @@ use Rattle.amr_cycle.proofs.Registers.{has_finer, lost}
 use Rattle.amr_cycle.proofs.levels.step_coarse.Goals as goal
 
 pub below_for-requires-clause-coarse : goal.below_for-requires-clause-coarse
-below_for-requires-clause-coarse g c = coarse_level c.args.given.now.problem.now c.args.given.now.level (level_of c.args.level.now) (level_of c.args.next.now) (old_masses (option_copied c.args.old)) c.requires.part
+below_for-requires-clause-coarse g c = coarse_level c.args.given.now.problem.now c.args.given.now.level (level_of c.args.level.now) (level_of c.args.next.now) (old_masses (option_copied c.args.given.now.old)) c.requires.part
 
 pub below_for-requires-clause-fine : goal.below_for-requires-clause-fine
-below_for-requires-clause-fine g c = fine_level c.args.given.now.problem.now c.args.given.now.level (level_of c.args.level.now) (level_of c.args.next.now) (old_masses (option_copied c.args.old)) c.requires.part
+below_for-requires-clause-fine g c = fine_level c.args.given.now.problem.now c.args.given.now.level (level_of c.args.level.now) (level_of c.args.next.now) (old_masses (option_copied c.args.given.now.old)) c.requires.part
 
 pub below_for-requires-clause-nested : goal.below_for-requires-clause-nested
-below_for-requires-clause-nested g c = coarse_nested c.args.given.now.problem.now c.args.given.now.level (level_of c.args.level.now) (level_of c.args.next.now) (old_masses (option_copied c.args.old)) c.requires.part
+below_for-requires-clause-nested g c = coarse_nested c.args.given.now.problem.now c.args.given.now.level (level_of c.args.level.now) (level_of c.args.next.now) (old_masses (option_copied c.args.given.now.old)) c.requires.part
 
 pub advance_kept-requires-clause-of_domain : goal.advance_kept-requires-clause-of_domain
-advance_kept-requires-clause-of_domain g c κs within = coarse_level c.args.given.now.problem.now c.args.given.now.level (level_of c.args.level.now) (level_of c.args.next.now) (old_masses (option_copied c.args.old)) c.requires.part
+advance_kept-requires-clause-of_domain g c κs within = coarse_level c.args.given.now.problem.now c.args.given.now.level (level_of c.args.level.now) (level_of c.args.next.now) (old_masses (option_copied c.args.given.now.old)) c.requires.part
 
 pub advance_kept-requires-clause-fits : goal.advance_kept-requires-clause-fits
-advance_kept-requires-clause-fits g c κs within = coarse_fits c.args.given.now.problem.now c.args.given.now.level (level_of c.args.level.now) (level_of c.args.next.now) (old_masses (option_copied c.args.old)) c.requires.part
+advance_kept-requires-clause-fits g c κs within = coarse_fits c.args.given.now.problem.now c.args.given.now.level (level_of c.args.level.now) (level_of c.args.next.now) (old_masses (option_copied c.args.given.now.old)) c.requires.part
 
 pub advance_kept-requires-clause-finer : goal.advance_kept-requires-clause-finer
 advance_kept-requires-clause-finer g c κs within =
     let p = c.args.given.now.problem.now in
     let k = level_of c.args.level.now in
     let fine = level_of c.args.next.now in
-    let old = old_masses (option_copied c.args.old) in
+    let old = old_masses (option_copied c.args.given.now.old) in
     has_finer p c.args.given.now.level k c.args.next.now c.in_ok-before.field-0.register c.requires.number (fine_level p c.args.given.now.level k fine old c.requires.part) (coarse_nested p c.args.given.now.level k fine old c.requires.part) c.in_ok-before.ensures.below.register c.in_ok-before.ensures.zero
 
 pub returns-clause-register : goal.returns-clause-register
 returns-clause-register g c =
-    lost c.args.given.now.problem.now c.args.given.now.level (level_of c.args.level.now) (level_of c.args.next.now) (old_masses (option_copied c.args.old)) c.in_ok-before.field-0.register c.take.result c.in_ok-before.ensures.below.register c.in_ok-before.ensures.zero
-    (subst (λ (s : Option Register). BothChange (taken c.args.given.now.problem.now c.args.given.now.level (level_of c.args.level.now).masses (old_masses (option_copied c.args.old)) (level_of c.args.next.now).masses) (Some c.in_ok-before.field-0.register) s) (sym c.take.ensures.value) c.in_ok-advance_kept.ensures.finer)
+    lost c.args.given.now.problem.now c.args.given.now.level (level_of c.args.level.now) (level_of c.args.next.now) (old_masses (option_copied c.args.given.now.old)) c.in_ok-before.field-0.register c.take.result c.in_ok-before.ensures.below.register c.in_ok-before.ensures.zero
+    (subst (λ (s : Option Register). BothChange (taken c.args.given.now.problem.now c.args.given.now.level (level_of c.args.level.now).masses (old_masses (option_copied c.args.given.now.old)) (level_of c.args.next.now).masses) (Some c.in_ok-before.field-0.register) s) (sym c.take.ensures.value) c.in_ok-advance_kept.ensures.finer)
