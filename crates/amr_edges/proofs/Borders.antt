@@ -18,6 +18,7 @@ use Rattle.amr_patch.specs.Places.{grown, is_face_of, on_box}
 use Rattle.amr_patch.proofs.Rows.{inside, is_inside, sides}
 use Rattle.amr_ghost.specs.Frames.{HasGhostMarks, is_beside}
 use Rattle.amr_flux.specs.Faces.{border_faces, is_border, owns, passing, x_end, y_end}
+use Rattle.amr_flux.proofs.Given.{beyond, within_box}
 use Rattle.amr_layout.specs.Places.{borders_of, leads_on}
 
 -- the cells at whose low side a face of a box lies
@@ -59,13 +60,6 @@ pub y_end-out : (b : Extent) (i : ℕ) → holds b (high_cell (y_end b i)) ≡ f
 y_end-out b i = false_from_ne_true (holds b (high_cell (y_end b i))) (λ h. let k = inside b (high_cell (y_end b i)) h in let north : (b.hi.y +ℤ pos 1) ≤ℤ b.hi.y = k.north in absurd (omega (arith, ints, north)))
 
 -- ---- tests
-
-beyond : (a b m : Bool) → a ≡ true → b ≡ false → (a && not b && m) ≡ m
-beyond a b m e h = rw (e, h) refl
-
-within_box : (a b m : Bool) → b ≡ true → (a && not b && m) ≡ false
-within_box true b m h = rw h refl
-within_box false b m h = refl
 
 -- a patch that has the cell at the high side of a face of its box owns the face
 no_border : (q : Patch) (f : Face) → holds (box q) (high_cell f) ≡ true → is_border q f ≡ false
