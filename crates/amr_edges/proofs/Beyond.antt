@@ -80,6 +80,7 @@ module _ (p : Problem) (l : ℕ) (k fine : Level) (klevel : IsLevel p l k) (flev
     inside_i = in_domain-inside p (suc l) i (flevel.inside i (sym (flevel.filled i) ∙ there))
 
     covered_i : is_covered fine.masses (parent i) ≡ true
+    unfolding is_covered
     covered_i = child_of_parent (λ k. is_some (fine.masses k)) i there
 
     abbrev h : Cell
