@@ -22,6 +22,7 @@ use amr_causes::NoMemory;
 use amr_def::Problem;
 use amr_gaps::starts_of;
 use amr_ghost::{FramePlan, plan_frames};
+use amr_layout::Surroundings;
 use amr_patch::{Level, Order, Patch};
 use std::alloc::Global;
 
@@ -142,7 +143,16 @@ fn lay_out_anew(
 {
     let alloc = given.alloc;
     let starts = starts_of(alloc, patches)?;
-    let tasks = tasks_for(given, patches, &starts, alone, old)?;
+    let surroundings = Surroundings {
+        problem: given.problem,
+        level: given.level,
+        patches,
+        order,
+        starts: &starts,
+        cells: given.cells,
+        finer: given.finer,
+    };
+    let tasks = tasks_for(alloc, surroundings, alone, old)?;
     Ok(KeptLayout {
         level: given.level,
         boxes: boxes_of(alloc, patches)?,

@@ -10,16 +10,15 @@ ghost use Rattle.amr_gaps.specs.Gaps.{HasStarts};
 ghost use Rattle.amr_ghost.specs.Frames.{AreInDomain};
 ghost use Rattle.amr_layout.specs.Adds.{HasRegisterCells};
 ghost use Rattle.amr_layout.specs.Surroundings.{around};
+ghost use Rattle.amr_patch.specs.Orders.{IsOrderOf};
 ghost use Rattle.amr_patch.specs.Patches.{ArePatchesApart, box};
 ghost use Rattle.amr_advance.specs.Tasks.{AreBoardTasks, AreLoneTasks, AreTasks};
 
-use crate::level::Given;
 use crate::pieces::bodies_of;
 use amr_board::Shape;
 use amr_causes::NoMemory;
 use amr_flux::Room;
-use amr_gaps::Starts;
-use amr_layout::{Layout, LevelFlows, plan, plan_adds};
+use amr_layout::{Layout, LevelFlows, Surroundings, plan, plan_adds};
 use amr_patch::Patch;
 use amr_work::Body;
 use std::alloc::Global;
@@ -100,58 +99,37 @@ fn room_for(alloc: Global, columns: u32, old: Option<Room>) -> Result<Room, NoMe
 }
 
 /// What a lone worker works with in the step of these patches, with an old room where it is wide enough.
-fn lone_tasks(
-    given: Given<'_>,
-    patches: &[Patch],
-    starts: &Starts,
-    old: Option<Room>,
-) -> Result<LoneTasks, NoMemory>
-    requires level { given.level ≤ 4 }
-    requires apart { ArePatchesApart patches.now }
-    requires starts { HasStarts patches.now starts.now }
-    requires inside { AreInDomain (domain given.problem.now given.level) patches.now }
-    requires cells { HasRegisterCells (around given.problem.now given.level patches.now given.cells.now (option_copied given.finer)) }
-    ensures tasks { IfOk result (AreLoneTasks (around given.entry.problem.now given.entry.level patches.now given.entry.cells.now (option_copied given.entry.finer))) }
-    ensures few { OnOk result (2 + 2 * length given.entry.cells.now < 2 ^ 32) }
+fn lone_tasks(alloc: Global, s: Surroundings<'_>, old: Option<Room>) -> Result<LoneTasks, NoMemory>
+    requires level { s.level ≤ 4 }
+    requires order { IsOrderOf s.order s.patches.now }
+    requires apart { ArePatchesApart s.patches.now }
+    requires starts { HasStarts s.patches.now s.starts.now }
+    requires inside { AreInDomain (domain s.problem.now s.level) s.patches.now }
+    requires cells { HasRegisterCells (around s.problem.now s.level s.patches.now s.cells.now (option_copied s.finer)) }
+    ensures tasks { IfOk result (AreLoneTasks (around s.entry.problem.now s.entry.level s.entry.patches.now s.entry.cells.now (option_copied s.entry.finer))) }
+    ensures few { OnOk result (2 + 2 * length s.entry.cells.now < 2 ^ 32) }
 {
-    let room = room_for(given.alloc, widest_of(patches), old)?;
-    let flows = plan_adds(
-        given.alloc,
-        given.problem,
-        given.level,
-        patches,
-        starts,
-        given.cells,
-        given.finer,
-    )?;
+    let room = room_for(alloc, widest_of(s.patches), old)?;
+    let flows = plan_adds(alloc, s)?;
     Ok(LoneTasks { flows, room })
 }
 
 /// What several workers work with in the step of these patches, with old bodies as far as they go.
 fn board_tasks(
-    given: Given<'_>,
-    patches: &[Patch],
-    starts: &Starts,
+    alloc: Global,
+    s: Surroundings<'_>,
     olds: Vec<Box<Body>>,
 ) -> Result<BoardTasks, NoMemory>
-    requires level { given.level ≤ 4 }
-    requires apart { ArePatchesApart patches.now }
-    requires starts { HasStarts patches.now starts.now }
-    requires inside { AreInDomain (domain given.problem.now given.level) patches.now }
-    requires cells { HasRegisterCells (around given.problem.now given.level patches.now given.cells.now (option_copied given.finer)) }
-    ensures tasks { IfOk result (AreBoardTasks (around given.entry.problem.now given.entry.level patches.now given.entry.cells.now (option_copied given.entry.finer))) }
-    ensures few { OnOk result (2 + 2 * length given.entry.cells.now < 2 ^ 32) }
+    requires level { s.level ≤ 4 }
+    requires order { IsOrderOf s.order s.patches.now }
+    requires apart { ArePatchesApart s.patches.now }
+    requires starts { HasStarts s.patches.now s.starts.now }
+    requires inside { AreInDomain (domain s.problem.now s.level) s.patches.now }
+    requires cells { HasRegisterCells (around s.problem.now s.level s.patches.now s.cells.now (option_copied s.finer)) }
+    ensures tasks { IfOk result (AreBoardTasks (around s.entry.problem.now s.entry.level s.entry.patches.now s.entry.cells.now (option_copied s.entry.finer))) }
+    ensures few { OnOk result (2 + 2 * length s.entry.cells.now < 2 ^ 32) }
 {
-    let alloc = given.alloc;
-    let layout = plan(
-        alloc,
-        given.problem,
-        given.level,
-        patches,
-        starts,
-        given.cells,
-        given.finer,
-    )?;
+    let layout = plan(alloc, s)?;
     let made = Snapshot::of(&layout);
     let shape = Shape {
         places: layout.places,
@@ -159,7 +137,7 @@ fn board_tasks(
     };
     Ok(BoardTasks {
         shape,
-        bodies: bodies_of(alloc, patches, layout.tasks, olds)?,
+        bodies: bodies_of(alloc, s.patches, layout.tasks, olds)?,
         layout: made,
     })
 }
@@ -181,25 +159,25 @@ fn bodies_from(alloc: Global, old: Option<Tasks>) -> Vec<Box<Body>> {
 
 /// What workers work with in the step of these patches, a lone one or several, with what old tasks leave.
 pub(crate) fn tasks_for(
-    given: Given<'_>,
-    patches: &[Patch],
-    starts: &Starts,
+    alloc: Global,
+    s: Surroundings<'_>,
     alone: bool,
     old: Option<Tasks>,
 ) -> Result<Tasks, NoMemory>
-    requires level { given.level ≤ 4 }
-    requires apart { ArePatchesApart patches.now }
-    requires starts { HasStarts patches.now starts.now }
-    requires inside { AreInDomain (domain given.problem.now given.level) patches.now }
-    requires cells { HasRegisterCells (around given.problem.now given.level patches.now given.cells.now (option_copied given.finer)) }
-    ensures tasks { IfOk result (AreTasks (around given.entry.problem.now given.entry.level patches.now given.entry.cells.now (option_copied given.entry.finer))) }
-    ensures few { OnOk result (2 + 2 * length given.entry.cells.now < 2 ^ 32) }
+    requires level { s.level ≤ 4 }
+    requires order { IsOrderOf s.order s.patches.now }
+    requires apart { ArePatchesApart s.patches.now }
+    requires starts { HasStarts s.patches.now s.starts.now }
+    requires inside { AreInDomain (domain s.problem.now s.level) s.patches.now }
+    requires cells { HasRegisterCells (around s.problem.now s.level s.patches.now s.cells.now (option_copied s.finer)) }
+    ensures tasks { IfOk result (AreTasks (around s.entry.problem.now s.entry.level s.entry.patches.now s.entry.cells.now (option_copied s.entry.finer))) }
+    ensures few { OnOk result (2 + 2 * length s.entry.cells.now < 2 ^ 32) }
 {
     if alone {
-        let tasks = lone_tasks(given, patches, starts, room_from(old))?;
+        let tasks = lone_tasks(alloc, s, room_from(old))?;
         return Ok(Tasks::Lone(tasks));
     }
-    let olds = bodies_from(given.alloc, old);
-    let tasks = board_tasks(given, patches, starts, olds)?;
+    let olds = bodies_from(alloc, old);
+    let tasks = board_tasks(alloc, s, olds)?;
     Ok(Tasks::Board(tasks))
 }

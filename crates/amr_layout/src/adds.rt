@@ -27,15 +27,19 @@ use std::alloc::Global;
 
 /// A level with what lies around it.
 #[derive(Clone, Copy)]
-pub(crate) struct Surroundings<'a> {
-    pub(crate) problem: &'a Problem,
-    pub(crate) level: u32,
-    pub(crate) patches: &'a [Patch],
-    pub(crate) order: Order,
-    pub(crate) starts: &'a Starts,
-    /// The register cells of the next coarser level, in their order.
-    pub(crate) cells: &'a [Cell],
-    pub(crate) finer: Option<&'a Level>,
+pub struct Surroundings<'a> {
+    pub problem: &'a Problem,
+    /// The number of the level.
+    pub level: u32,
+    /// All patches of the level.
+    pub patches: &'a [Patch],
+    pub order: Order,
+    /// Where the patches start.
+    pub starts: &'a Starts,
+    /// The register cells of the next coarser level, by y, then by x; none at level 0.
+    pub cells: &'a [Cell],
+    /// The next finer level, where there is one.
+    pub finer: Option<&'a Level>,
 }
 
 /// Where the look-ups for a patch begin: among the patches of its level, among those of the next finer one, and among register

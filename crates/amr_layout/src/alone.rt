@@ -17,11 +17,8 @@ use crate::FlowTo;
 use crate::adds::{Near, PatchFlows, Surroundings, flows_beside, no_flows};
 use crate::layouts::{MOST, check_faces};
 use crate::lookup::Trace;
-use amr_box::{Cell, Face};
+use amr_box::Face;
 use amr_causes::NoMemory;
-use amr_def::Problem;
-use amr_gaps::Starts;
-use amr_patch::{Level, Patch, order_of};
 use std::alloc::Global;
 
 /// The flows through faces on the edges of a level's patches that are added to words, one patch after another.
@@ -95,41 +92,25 @@ fn flows_of_all(alloc: Global, s: Surroundings<'_>) -> Result<LevelFlows, NoMemo
     Ok(LevelFlows { flows: all, bounds })
 }
 
-/// What each patch of level `l` adds, as in the tasks of `plan`, where one worker makes the step alone. Then no border
+/// What each patch of a level adds, as in the tasks of `plan`, where one worker makes the step alone. Then no border
 /// face has a place, and no patch puts or reads.
 ///
 /// `NoMemory` is the only refusal; it also stands for more than 2^30 faces or cells.
-pub fn plan_adds(
-    alloc: Global,
-    p: &Problem,
-    l: u32,
-    patches: &[Patch],
-    starts: &Starts,
-    cells: &[Cell],
-    finer: Option<&Level>,
-) -> Result<LevelFlows, NoMemory>
-    requires level { l ≤ 4 }
-    requires apart { ArePatchesApart patches.now }
-    requires starts { HasStarts patches.now starts.now }
-    requires inside { All (λ q. IsInDomain (domain p.now l) (box q)) patches.now }
-    requires cells { HasRegisterCells (around p.now l patches.now cells.now (option_copied finer)) }
-    ensures flows { IfOk result (AreFlowsOf (around p.now l patches.now cells.now (option_copied finer.entry))) }
-    ensures words { IfOk result (λ v. All (λ x. x.word < 2 + 2 * length cells.now) v.flows.items) }
-    ensures edges { OnOk result (total (λ q. edge_count (box q)) patches.now ≤ 2 ^ 30) }
-    ensures few { OnOk result (length cells.now ≤ 2 ^ 30) }
+pub fn plan_adds(alloc: Global, s: Surroundings<'_>) -> Result<LevelFlows, NoMemory>
+    requires level { s.level ≤ 4 }
+    requires order { IsOrderOf s.order s.patches.now }
+    requires apart { ArePatchesApart s.patches.now }
+    requires starts { HasStarts s.patches.now s.starts.now }
+    requires inside { All (λ q. IsInDomain (domain s.problem.now s.level) (box q)) s.patches.now }
+    requires cells { HasRegisterCells (around s.problem.now s.level s.patches.now s.cells.now (option_copied s.finer)) }
+    ensures flows { IfOk result (AreFlowsOf (around s.entry.problem.now s.entry.level s.entry.patches.now s.entry.cells.now (option_copied s.entry.finer))) }
+    ensures words { IfOk result (λ v. All (λ x. x.word < 2 + 2 * length s.entry.cells.now) v.flows.items) }
+    ensures edges { OnOk result (total (λ q. edge_count (box q)) s.entry.patches.now ≤ 2 ^ 30) }
+    ensures few { OnOk result (length s.entry.cells.now ≤ 2 ^ 30) }
 {
-    check_faces(patches)?;
-    if cells.len() > MOST as usize {
+    check_faces(s.patches)?;
+    if s.cells.len() > MOST as usize {
         return Err(NoMemory);
     }
-    let surroundings = Surroundings {
-        problem: p,
-        level: l,
-        patches,
-        order: order_of(patches),
-        starts,
-        cells,
-        finer,
-    };
-    flows_of_all(alloc, surroundings)
+    flows_of_all(alloc, s)
 }

@@ -19,11 +19,8 @@ use crate::faces::edge_count;
 use crate::lookup::Trace;
 use crate::places::place_borders;
 use crate::{Layout, PutAt, TaskLayout};
-use amr_box::Cell;
 use amr_causes::NoMemory;
-use amr_def::Problem;
-use amr_gaps::Starts;
-use amr_patch::{Level, Patch, order_of};
+use amr_patch::Patch;
 use std::alloc::Global;
 
 /// How many faces or cells a layout may have. More would take more memory than there is, and are refused as that.
@@ -84,7 +81,7 @@ fn tasks_of(
     Ok(tasks)
 }
 
-/// The layout of a step of level `l` of a problem on a board: what each task puts, reads and adds. Task `i` is that of patch `i`.
+/// The layout of a step of a level on a board: what each task puts, reads and adds. Task `i` is that of patch `i`.
 ///
 /// - Each border face of the level has a place of its own. The patch that owns it puts its flux there, and the one that
 ///   reads it has the place in its list. The list goes in the order in which `amr_flux::update` takes border fluxes.
@@ -94,53 +91,40 @@ fn tasks_of(
 ///   Colella 1989). Each face of this level's coarse-fine edge is added to one of them, by the way of its Courant
 ///   number.
 ///
-/// The patches are all those of the level, and `starts` tells where they start. `cells` are the register cells of the
-/// next coarser level, none at level 0, by y, then by x. Time and memory grow with the faces on the patches' edges. A
-/// span of faces beside one patch takes one search. So does one beside a gap between the columns and rows where patches
-/// start.
+/// Time and memory grow with the faces on the patches' edges. A span of faces beside one patch takes one search. So does
+/// one beside a gap between the columns and rows where patches start.
 ///
 /// `NoMemory` is the only refusal; it also stands for more than 2^30 faces or cells.
-pub fn plan(
-    alloc: Global,
-    p: &Problem,
-    l: u32,
-    patches: &[Patch],
-    starts: &Starts,
-    cells: &[Cell],
-    finer: Option<&Level>,
-) -> Result<Layout, NoMemory>
-    requires level { l ≤ 4 }
-    requires apart { ArePatchesApart patches.now }
-    requires starts { HasStarts patches.now starts.now }
-    requires inside { All (λ q. IsInDomain (domain p.now l) (box q)) patches.now }
-    requires cells { HasRegisterCells (around p.now l patches.now cells.now (option_copied finer)) }
-    ensures places { IfOk result (λ y. y.places ≡ length (level_borders (domain p.now l) patches.now patches.now)) }
-    ensures words { IfOk result (λ y. y.words ≡ 2 + 2 * length cells.now) }
-    ensures puts { IfOk result (λ y. map (λ t. t.puts.items) y.tasks.items ≡ map (λ q. puts_of (domain p.now l) patches.now (box q)) patches.now) }
-    ensures border { IfOk result (λ y. map (λ t. t.border.items) y.tasks.items ≡ map (border_places (domain p.now l) patches.now) (range_with_len 0 (length patches.now))) }
-    ensures adds { IfOk result (λ y. map (λ t. flows_in t.adds.items) y.tasks.items ≡ map (λ q. flows_of (around p.now l patches.now cells.now (option_copied finer.entry)) (box q)) patches.now) }
+pub fn plan(alloc: Global, s: Surroundings<'_>) -> Result<Layout, NoMemory>
+    requires level { s.level ≤ 4 }
+    requires order { IsOrderOf s.order s.patches.now }
+    requires apart { ArePatchesApart s.patches.now }
+    requires starts { HasStarts s.patches.now s.starts.now }
+    requires inside { All (λ q. IsInDomain (domain s.problem.now s.level) (box q)) s.patches.now }
+    requires cells { HasRegisterCells (around s.problem.now s.level s.patches.now s.cells.now (option_copied s.finer)) }
+    ensures places { IfOk result (λ y. y.places ≡ length (level_borders (domain s.entry.problem.now s.entry.level) s.entry.patches.now s.entry.patches.now)) }
+    ensures words { IfOk result (λ y. y.words ≡ 2 + 2 * length s.entry.cells.now) }
+    ensures puts { IfOk result (λ y. map (λ t. t.puts.items) y.tasks.items ≡ map (λ q. puts_of (domain s.entry.problem.now s.entry.level) s.entry.patches.now (box q)) s.entry.patches.now) }
+    ensures border { IfOk result (λ y. map (λ t. t.border.items) y.tasks.items ≡ map (border_places (domain s.entry.problem.now s.entry.level) s.entry.patches.now) (range_with_len 0 (length s.entry.patches.now))) }
+    ensures adds { IfOk result (λ y. map (λ t. flows_in t.adds.items) y.tasks.items ≡ map (λ q. flows_of (around s.entry.problem.now s.entry.level s.entry.patches.now s.entry.cells.now (option_copied s.entry.finer)) (box q)) s.entry.patches.now) }
     ensures ledger { IfOk result (λ y. All HasLedgerAdds y.tasks.items) }
     ensures plan { IfOk result (λ y. (size : Sizes) → AreSmallSizes size → IsPlan (plan_of y size)) }
 {
-    check_faces(patches)?;
-    if cells.len() > MOST as usize {
+    check_faces(s.patches)?;
+    if s.cells.len() > MOST as usize {
         return Err(NoMemory);
     }
-    let order = order_of(patches);
-    let surroundings = Surroundings {
-        problem: p,
-        level: l,
-        patches,
-        order,
-        starts,
-        cells,
-        finer,
-    };
-    let (mut places, mut borders) = place_borders(alloc, &p.domain(l), patches, order, starts)?;
-    let tasks = tasks_of(alloc, surroundings, &mut places.lots, &mut borders)?;
+    let (mut places, mut borders) = place_borders(
+        alloc,
+        &s.problem.domain(s.level),
+        s.patches,
+        s.order,
+        s.starts,
+    )?;
+    let tasks = tasks_of(alloc, s, &mut places.lots, &mut borders)?;
     Ok(Layout {
         places: places.count,
-        words: 2 + 2 * cells.len() as u32,
+        words: 2 + 2 * s.cells.len() as u32,
         tasks,
     })
 }

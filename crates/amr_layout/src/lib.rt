@@ -14,6 +14,7 @@ mod stretches;
 #[cfg(test)]
 mod tests;
 
+pub use crate::adds::Surroundings;
 pub use crate::alone::{LevelFlows, plan_adds};
 pub use crate::layouts::plan;
 use amr_box::Face;

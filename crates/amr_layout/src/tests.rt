@@ -254,8 +254,7 @@ fn layout_of(
     if !have_cells_beyond(s) {
         return Ok(None);
     }
-    let starts = starts_of(alloc, patches)?;
-    Ok(Some(plan(alloc, p, l, patches, &starts, cells, finer)?))
+    Ok(Some(plan(alloc, s)?))
 }
 
 fn puts_are(task: &TaskLayout, k: usize, place: u32, face: Face) -> bool {

@@ -13,21 +13,21 @@ use Rattle.amr_layout.proofs.layouts.plan.Goals as goal
 
 pub tasks_of-requires-clause-borders : goal.tasks_of-requires-clause-borders
 tasks_of-requires-clause-borders c =
-    let ps = c.args.patches.now in
+    let ps = c.args.s.patches.now in
     ap (λ (l : List (Vec ℕ)). length l) c.deref_mut-2.ensures.value
     ∙ image_length (λ (v : Vec ℕ). v.items) (border_places (domain_of c.domain.result) ps) c.in_ok-places.borders.items (range_with_len 0 (length ps)) c.in_ok-places.ensures.borders ∙ length-range_with_len 0 (length ps)
 
 pub returns-clause-puts : goal.returns-clause-puts
 returns-clause-puts c =
-    let ps = c.args.patches.now in
+    let ps = c.args.s.patches.now in
     c.in_ok-tasks.ensures.puts ∙ ap (map (λ (v : Vec PutAt). v.items)) c.deref_mut.ensures.value ∙ lots_are (domain_of c.domain.result) ps c.in_ok-places.places.count c.in_ok-places.places.lots.items c.in_ok-places.ensures.put
     ∙ ap (λ (d : Domain). map (λ q. puts_of d ps (box q)) ps) c.domain.ensures
 
 pub returns-clause-plan : goal.returns-clause-plan
 returns-clause-plan c = λ size small.
-    let ps = c.args.patches.now in
+    let ps = c.args.s.patches.now in
     let d = domain_of c.domain.result in
-    planned (around c.args.p.now c.args.l ps c.args.cells.now (option_copied c.args.finer)) d (record { places = c.in_ok-places.places.count; words = 2 + 2 * length c.args.cells.now; tasks = c.in_ok-tasks.tasks }) (record {
+    planned (around c.args.s.problem.now c.args.s.level ps c.args.s.cells.now (option_copied c.args.s.finer)) d (record { places = c.in_ok-places.places.count; words = 2 + 2 * length c.args.s.cells.now; tasks = c.in_ok-tasks.tasks }) (record {
       apart = c.requires.apart;
       puts = c.in_ok-tasks.ensures.puts ∙ ap (map (λ (v : Vec PutAt). v.items)) c.deref_mut.ensures.value ∙ lots_are d ps c.in_ok-places.places.count c.in_ok-places.places.lots.items c.in_ok-places.ensures.put;
       places = c.in_ok-places.ensures.put.places;
