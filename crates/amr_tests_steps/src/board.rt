@@ -11,6 +11,7 @@ ghost use Rattle.amr_patch.specs.Levels.{level_of};
 ghost use Rattle.amr_patch.specs.Patches.{box, masses_in};
 ghost use Rattle.amr_phase.specs.Plans.{IsPlan};
 ghost use Rattle.amr_board.specs.Piece.{AreNumbered, plan_of};
+ghost use Rattle.amr_gaps.specs.Gaps.{HasStarts};
 ghost use Rattle.amr_layout.specs.Surroundings.{around};
 ghost use Rattle.amr_work.specs.Ready.{MayBegin};
 ghost use Rattle.amr_work.specs.Works.{adds_of_work, puts_of_work};
@@ -24,10 +25,10 @@ use amr_board::{Board, Ended, Shape};
 use amr_causes::NoMemory;
 use amr_def::Problem;
 use amr_flux::Room;
-use amr_gaps::starts_of;
+use amr_gaps::{Starts, starts_of};
 use amr_ghost::fill_in_order;
-use amr_layout::{Layout, TaskLayout, plan};
-use amr_patch::{Level, Patch};
+use amr_layout::{Layout, Surroundings, TaskLayout, plan};
+use amr_patch::{Level, Patch, order_of};
 use amr_samples::nine_columns;
 use amr_start::base;
 use amr_work::{Body, Stage, Work, Workspace, work_level};
@@ -63,6 +64,31 @@ fn shown_patches(p: &Problem, mut level: Level) -> Vec<Patch>
     patches
 }
 
+/// What each task of these patches puts, reads and adds, where they start there.
+fn layout_with<'a>(
+    alloc: Global,
+    p: &'a Problem,
+    patches: &'a [Patch],
+    starts: &'a Starts,
+) -> Result<Layout, NoMemory>
+    requires shown { AreShown p.now 0 no_masses patches.now }
+    requires whole { (c : Cell) → IsTrue (in_domain (domain p.now 0) c) → IsSome (masses_in patches.now c) }
+    requires starts { HasStarts patches.now starts.now }
+    ensures { IfOk result (IsLayoutOf (around p.now 0 patches.now [] None)) }
+{
+    let surroundings = Surroundings {
+        problem: p,
+        level: 0,
+        patches,
+        order: order_of(patches),
+        starts,
+        cells: &[],
+        finer: None,
+    };
+    let layout = plan(alloc, surroundings)?;
+    Ok(layout)
+}
+
 /// What each task of these patches puts, reads and adds.
 fn layout_of(alloc: Global, p: &Problem, patches: &[Patch]) -> Result<Layout, NoMemory>
     requires shown { AreShown p.now 0 no_masses patches.now }
@@ -70,8 +96,7 @@ fn layout_of(alloc: Global, p: &Problem, patches: &[Patch]) -> Result<Layout, No
     ensures { IfOk result (IsLayoutOf (around p.now 0 patches.now [] None)) }
 {
     let starts = starts_of(alloc, patches)?;
-    let layout = plan(alloc, p, 0, patches, &starts, &[], None)?;
-    Ok(layout)
+    layout_with(alloc, p, patches, &starts)
 }
 
 /// The raw piece of a task.

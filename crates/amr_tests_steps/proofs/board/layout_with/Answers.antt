@@ -2,7 +2,7 @@ use Rattle.std.proofs.Common.{None, sym, ◌∙◌}
 use Rattle.amr_patch.proofs.Lookups.{some_mass}
 use Rattle.amr_edges.proofs.Ordered.{serve_base}
 use Rattle.amr_advance.proofs.Filled.{all_lie}
-use Rattle.amr_tests_steps.proofs.board.layout_of.Goals as goal
+use Rattle.amr_tests_steps.proofs.board.layout_with.Goals as goal
 
 pub plan-requires-clause-apart : goal.plan-requires-clause-apart
 plan-requires-clause-apart c = c.requires.shown.apart
