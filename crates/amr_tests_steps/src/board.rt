@@ -64,7 +64,7 @@ fn shown_patches(p: &Problem, mut level: Level) -> Vec<Patch>
     patches
 }
 
-/// What each task of these patches puts, reads and adds, where they start there.
+/// The same as `layout_of`, where the patches start there.
 fn layout_with<'a>(
     alloc: Global,
     p: &'a Problem,
