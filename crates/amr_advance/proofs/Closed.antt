@@ -3,6 +3,11 @@ use Rattle.std.proofs.Common.{◌≡◌, true, ℕ, suc, ◌<◌, ◌≤◌, pos
 use Rattle.std.specs.Prelude.{slice_index}
 use Rattle.std.specs.declared.option.Option.{Option}
 use Rattle.std.specs.List.{All, AllZip}
+use Rattle.std.specs.List.{range_with_len}
+use Rattle.std.specs.List.Sorted.{IsPermutation}
+use Rattle.std.proofs.lemmas.List.{get_or_default}
+use Rattle.amr_balance.specs.Turns.{in_turn}
+use Rattle.amr_balance.proofs.TurnLaws.{has_turn, in_turn_at, in_turn_count, same_by_turns, turn_count, turns_within}
 use Rattle.amr_box.specs.declared.Cell.{Cell}
 use Rattle.amr_box.specs.Cells.{Extent, holds, width}
 use Rattle.amr_def.specs.declared.problem.Problem.{Problem}
@@ -10,7 +15,9 @@ use Rattle.amr_def.specs.State.{Masses}
 use Rattle.amr_def.specs.Flux.{Fluxes, flux_at, net}
 use Rattle.amr_patch.specs.declared.levels.Level.{Level as Held}
 use Rattle.amr_patch.specs.declared.patches.Patch.{Patch}
+use Rattle.amr_box.specs.declared.Face.{Face}
 use Rattle.amr_patch.specs.Patches.{box, mass_in, masses_in}
+use Rattle.amr_patch.specs.Places.{is_face_of}
 use Rattle.amr_flux.specs.Faces.{flux_beside}
 use Rattle.amr_flux.specs.Rooms.{widest}
 use Rattle.amr_flux.proofs.Shown.{net_alike}
@@ -35,9 +42,10 @@ use Rattle.amr_advance.specs.Ended.{HasPiece, HasPieces, HasWords}
 use Rattle.amr_advance.specs.Layouts.{IsLayoutOf}
 use Rattle.amr_advance.specs.Pieces.{AreRawPieces, AreWorkspaces, IsRawPiece, Serves}
 use Rattle.amr_advance.specs.Shown.{AreShown, IsStepped, StepFits}
+use Rattle.amr_advance.specs.Turns.{AreTurnsOf}
 use Rattle.amr_advance.proofs.Begun.{plain_at}
 use Rattle.amr_advance.proofs.Filled.{zip_from}
-use Rattle.amr_advance.proofs.Going.{all_begin, totals_are}
+use Rattle.amr_advance.proofs.InTurn.{all_begin, each_once, totals_are}
 
 -- ---- the pieces by themselves
 
@@ -61,8 +69,8 @@ module _ (p : Problem) (l : ℕ) (qs : List Patch) (ss : List Workspace) (ws : L
 -- ---- on the closed board
 
 module _ (p : Problem) (l : ℕ) (old : Masses) (qs : List Patch) (cells : List Cell) (next : Option Held) (shallow : l ≤ 4) (shown : AreShown p l old qs) (fits : StepFits p l (masses_in qs) old)
-    (y : Layout) (layout : IsLayoutOf (around p l qs cells next) y)
-    (ss : List Workspace) (served : AreWorkspaces qs y.tasks.items ss) (ws : List Work) (raw : AreRawPieces p l qs ss ws)
+    (y : Layout) (layout : IsLayoutOf (around p l qs cells next) y) (turns : List ℕ) (order : AreTurnsOf qs turns)
+    (ss : List Workspace) (served : AreWorkspaces (in_turn turns qs) (in_turn turns y.tasks.items) ss) (ws : List Work) (raw : AreRawPieces p l (in_turn turns qs) ss ws)
     (o : EndedOf Work) (words : HasWords (plan_of puts_of_work adds_of_work y.places y.words ws) o) (pieces : HasPieces o ws 0) where
   abbrev plan : PlanOf
   plan = plan_of puts_of_work adds_of_work y.places y.words ws
@@ -71,14 +79,27 @@ module _ (p : Problem) (l : ℕ) (old : Masses) (qs : List Patch) (cells : List 
   e = flux_at p l (masses_in qs) old
 
   begin : All (MayBegin p plan) ws
-  begin = all_begin p l old qs cells next shallow shown fits y layout ss served ws raw
+  begin = all_begin p l old qs cells next shallow shown fits y layout turns order ss served ws raw
 
-  module _ (t : ℕ) (r : Patch) (w0 : Work) (lt : t < length qs) where
+  perm : IsPermutation (range_with_len 0 (length qs)) turns
+  perm = each_once qs turns order
+
+  within : All (λ k. k < length qs) turns
+  within = turns_within (length qs) turns perm
+
+  -- the patches in turn
+  abbrev turned : List Patch
+  turned = in_turn turns qs
+
+  all_turned : length turned ≡ length qs
+  all_turned = in_turn_count turns qs within ∙ turn_count (length qs) turns perm
+
+  module _ (t : ℕ) (r : Patch) (w0 : Work) (lt : t < length (in_turn turns qs)) where
     abbrev w : Work
     w = get_or ws t w0
 
     abbrev q : Patch
-    q = get_or qs t r
+    q = get_or (in_turn turns qs) t r
 
     there : t < length ws
     there = omega (arith, lt, raw.count)
@@ -112,12 +133,20 @@ module _ (p : Problem) (l : ℕ) (old : Masses) (qs : List Patch) (cells : List 
       };
     }
 
+    -- what flows by its values is what flows in the level
+    plain_here : (f : Face) → is_face_of (box q) f ≡ true → flux_beside p l q f ≡ e f
+    plain_here =
+        let below : t < length turns = omega (arith, lt, in_turn_count turns qs within) in
+        let k = get_or turns t 0 in
+        let small : k < length qs = within t 0 below in
+        subst (λ (x : Patch). (f : Face) → is_face_of (box x) f ≡ true → flux_beside p l x f ≡ e f) (sym (in_turn_at turns qs t r within below)) (plain_at p l old qs cells next shallow shown fits k r small)
+
     -- the masses that it stands for
     after_is : (c : Cell) → holds (box q) c ≡ true → mass_after w c ≡ pos (mass_in q c) +ℤ net e c
     after_is c h =
         after_raw w one.raw c
         ∙ (λ i. pos (mass_in (one.of_patch i) c) +ℤ net (flux_beside (one.of_problem i) (one.of_level i) (one.of_patch i)) c)
-        ∙ ap (λ z. pos (mass_in q c) +ℤ z) (net_alike (box q) (flux_beside p l q) e (plain_at p l old qs cells next shallow shown fits t r lt) c h)
+        ∙ ap (λ z. pos (mass_in q c) +ℤ z) (net_alike (box q) (flux_beside p l q) e plain_here c h)
 
     pub steps : (s : Patch) → HasMassesAfter has.piece s → IsStepped e q s
     steps s h = record {
@@ -128,7 +157,7 @@ module _ (p : Problem) (l : ℕ) (old : Masses) (qs : List Patch) (cells : List 
     }
 
     -- and the workspace serves its task again
-    pub serves_again : (b : TaskLayout) (x : Workspace) → ServesAgain has.piece.body.value.workspace x → Serves (width (box q)) (get_or y.tasks.items t b) x
+    pub serves_again : (b : TaskLayout) (x : Workspace) → ServesAgain has.piece.body.value.workspace x → Serves (width (box q)) (get_or (in_turn turns y.tasks.items) t b) x
     serves_again b x h =
         let serves = served.each t r b w0.body.value.workspace lt in
         let same_room : widest x.room ≡ widest (get_or ss t w0.body.value.workspace).room = h.room ∙ has.stands.room ∙ ap (λ (z : Workspace). widest z.room) one.of_workspace in
@@ -139,20 +168,32 @@ module _ (p : Problem) (l : ℕ) (old : Masses) (qs : List Patch) (cells : List 
         }
 
   pub may_collect : (t : ℕ) → t < length qs → MayCollect p o t
-  may_collect t lt = collects t (nth qs t lt) (nth ws t (omega (arith, lt, raw.count))) lt
+  may_collect t lt = let there : t < length turned = omega (arith, lt, all_turned) in collects t (nth turned t there) (nth ws t (omega (arith, there, raw.count))) there
 
-  pub all_stepped : (rs : List Patch) → AreCollected o (length qs) rs → length rs ≡ length qs → AllZip (IsStepped e) qs rs
-  all_stepped rs h count = zip_from (IsStepped e) qs rs (sym count) (λ t d lt.
-      let w0 = nth ws t (omega (arith, lt, raw.count)) in
-      steps t d w0 lt (get_or rs t d) (h t (has t d w0 lt).piece d lt (has t d w0 lt).given))
+  pub all_stepped : (rs : List Patch) → AreCollected o (length qs) (in_turn turns rs) → length rs ≡ length qs → AllZip (IsStepped e) qs rs
+  all_stepped rs h count = zip_from (IsStepped e) qs rs (sym count) (λ k d lt.
+      let at = has_turn (length qs) turns perm k lt in
+      let t = at.0 in
+      let turn : get_or turns t 0 ≡ k = get_or_default turns t 0 k at.1 ∙ at.2 in
+      let there : t < length turned = omega (arith, at.1, in_turn_count turns qs within) in
+      let w0 = nth ws t (omega (arith, there, raw.count)) in
+      let before : get_or turned t d ≡ get_or qs k d = in_turn_at turns qs t d within at.1 ∙ ap (λ j. get_or qs j d) turn in
+      let after : get_or (in_turn turns rs) t d ≡ get_or rs k d = in_turn_at turns rs t d (subst (λ n. All (λ j. j < n) turns) (sym count) within) at.1 ∙ ap (λ j. get_or rs j d) turn in
+      subst (λ (x : Patch). IsStepped e x (get_or rs k d)) before
+      (subst (IsStepped e (get_or turned t d)) after
+      (steps t d w0 there (get_or (in_turn turns rs) t d) (h t (has t d w0 there).piece d (omega (arith, there, all_turned)) (has t d w0 there).given))))
 
-  pub all_returned : (rs : List Workspace) → AreReturned o (length qs) rs → length rs ≡ length qs → AreWorkspaces qs y.tasks.items rs
+  pub all_returned : (rs : List Workspace) → AreReturned o (length qs) rs → length rs ≡ length qs → AreWorkspaces (in_turn turns qs) (in_turn turns y.tasks.items) rs
   all_returned rs h count = record {
-    count = count;
-    each = λ k r b x lt.
-        let w0 = nth ws k (omega (arith, lt, raw.count)) in
-        serves_again k r w0 lt b (get_or rs k x) (h k (has k r w0 lt).piece x lt (has k r w0 lt).given);
+    count = count ∙ sym all_turned;
+    each = λ t r b x lt.
+        let w0 = nth ws t (omega (arith, lt, raw.count)) in
+        serves_again t r w0 lt b (get_or rs t x) (h t (has t r w0 lt).piece x (omega (arith, lt, all_turned)) (has t r w0 lt).given);
   }
 
   pub level_totals : (o' : EndedOf Work) (word : ℕ) → total_of o' word ≡ total_of o word → word < y.words → total_of o' word ≡ level_total (around p l qs cells next) (plain_size p l (masses_in qs) old) word
-  level_totals o' word same below = same ∙ words.totals word below ∙ totals_are p l old qs cells next shallow shown fits y layout ss served ws raw word
+  level_totals o' word same below = same ∙ words.totals word below ∙ totals_are p l old qs cells next shallow shown fits y layout turns order ss served ws raw word
+
+-- patches that are back in turn are those of before
+pub same_patches : (qs rs : List Patch) (turns : List ℕ) → AreTurnsOf qs turns → length rs ≡ length qs → in_turn turns rs ≡ in_turn turns qs → rs ≡ qs
+same_patches qs rs turns order count same = sym (same_by_turns turns qs rs (each_once qs turns order) count (sym same))

@@ -2,6 +2,8 @@
 use Rattle.std.proofs.Common.{◌≡◌, ◌∙◌, ℕ, ◌+◌, ◌*◌, ◌^◌, ◌<◌, ◌≤◌, true, List, [], ◌∷◌, length, get_or, map, refl, sym, ap, subst, arith}
 use Rattle.std.specs.Prelude.{is_some}
 use Rattle.std.specs.List.{All}
+use Rattle.amr_balance.specs.Turns.{IsLargestFirst, in_turn}
+use Rattle.amr_balance.proofs.TurnLaws.{in_turn_map}
 use Rattle.amr_box.specs.declared.Cell.{Cell}
 use Rattle.amr_box.specs.Cells.{Extent, in_boxes, width}
 use Rattle.amr_def.specs.Domain.{domain}
@@ -28,6 +30,7 @@ use Rattle.amr_advance.specs.Tasks.{AreTasks}
 use Rattle.amr_advance.specs.declared.tasks.Tasks.{Tasks}
 use Rattle.amr_advance.specs.declared.tasks.Tasks.TheVariants.{Board, Lone}
 use Rattle.amr_advance.specs.Pieces.{AreWorkspaces, Serves, workspaces_in}
+use Rattle.amr_advance.specs.Turns.{areas_of}
 use Rattle.amr_advance.proofs.SameLayouts.{same_layout}
 
 -- workspaces serve patches by their boxes alone
@@ -66,7 +69,10 @@ same_tasks s t (Lone x) g h = record { adds = same_adds s t x.flows g h.adds; ro
 same_tasks s t (Board x) g h = record {
   layout = same_layout s t x.layout.value g h.layout;
   shape = h.shape;
-  workspaces = same_workspaces s.patches t.patches x.layout.value.tasks.items (workspaces_in x.bodies.items) g.boxes h.workspaces;
+  turns = subst (λ bs. IsLargestFirst (areas_of bs) x.turns.items) g.boxes h.turns;
+  workspaces =
+      same_workspaces (in_turn x.turns.items s.patches) (in_turn x.turns.items t.patches) (in_turn x.turns.items x.layout.value.tasks.items) (workspaces_in x.bodies.items)
+      (in_turn_map box x.turns.items s.patches ∙ ap (in_turn x.turns.items) g.boxes ∙ sym (in_turn_map box x.turns.items t.patches)) h.workspaces;
 }
 
 -- a layout made for the same ground serves here

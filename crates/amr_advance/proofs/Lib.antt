@@ -3,6 +3,8 @@ pub mod Reversed
 mod Begun
 pub mod Filled
 pub mod Going
+mod Moved
+mod InTurn
 mod Lone
 pub mod Handed
 pub mod Closed

@@ -8,3 +8,4 @@ pub mod Collected
 pub mod Registers
 pub mod Totals
 pub mod Teams
+pub mod Turns

@@ -1,6 +1,7 @@
 -- What workers work with in a step of a level.
 use Rattle.std.specs.Prelude.{◌≡◌, ◌≤◌}
 use Rattle.std.specs.List.{All}
+use Rattle.amr_balance.specs.Turns.{in_turn}
 use Rattle.amr_box.specs.Cells.{width}
 use Rattle.amr_board.specs.declared.board.Shape.{Shape}
 use Rattle.amr_flux.specs.Rooms.{widest}
@@ -13,6 +14,7 @@ use Rattle.amr_advance.specs.declared.tasks.Tasks.{Tasks}
 use Rattle.amr_advance.specs.declared.tasks.Tasks.TheVariants.{Board, Lone}
 use Rattle.amr_advance.specs.Layouts.{AreAddsOf, IsLayoutOf}
 use Rattle.amr_advance.specs.Pieces.{AreWorkspaces, workspaces_in}
+use Rattle.amr_advance.specs.Turns.{AreTurnsOf}
 
 abbrev pub shape_of : Layout → Shape
 shape_of y = record { places = y.places; words = y.words }
@@ -22,11 +24,12 @@ pub record AreLoneTasks (s : Around) (t : LoneTasks) : Type 0 where
   pub adds : AreAddsOf s t.flows
   pub room : All (λ q. width (box q) ≤ widest t.room) s.patches
 
--- the layout on a board, with a workspace for each of its tasks
+-- the layout on a board, the patches in turn, and a workspace for each task
 pub record AreBoardTasks (s : Around) (t : BoardTasks) : Type 0 where
   pub layout : IsLayoutOf s t.layout.value
   pub shape : t.shape ≡ shape_of t.layout.value
-  pub workspaces : AreWorkspaces s.patches t.layout.value.tasks.items (workspaces_in t.bodies.items)
+  pub turns : AreTurnsOf s.patches t.turns.items
+  pub workspaces : AreWorkspaces (in_turn t.turns.items s.patches) (in_turn t.turns.items t.layout.value.tasks.items) (workspaces_in t.bodies.items)
 
 abbrev pub AreTasks : Around → Tasks → Type 0
 AreTasks s (Lone t) = AreLoneTasks s t

@@ -1,6 +1,9 @@
 //! The patches of a closed board, with their new masses, the bodies of its tasks, and the totals of its words.
 
 ghost use Rattle.std.specs.Prelude.{◌≡◌, ◌≤◌, ◌<◌, ◌^◌, ℕ, [], length, slice_index, vec_capacity};
+ghost use Rattle.std.specs.List.{range_with_len};
+ghost use Rattle.std.specs.List.Sorted.{IsPermutation};
+ghost use Rattle.amr_balance.specs.Turns.{in_turn};
 ghost use Rattle.amr_board.specs.Ended.{total_of};
 ghost use Rattle.amr_advance.specs.Collected.{AreCollected, AreReturned, HasMassesAfter, MayCollect, MayComplete, ServesAgain};
 ghost use Rattle.amr_advance.specs.Pieces.{workspaces_in};
@@ -32,20 +35,22 @@ fn body_after(p: &Problem, ended: &Ended<Work>, work: Work) -> Box<Body>
     body
 }
 
-/// Takes the patches of so many tasks out of a closed board, each with its masses after the step. They go into their
-/// places, and the bodies into a list that has room for them. The board's words stay.
+/// Takes the patches of so many tasks out of a closed board, each with its masses after the step. Each goes where
+/// its turn says, and the bodies into a list that has room for them. The board's words stay.
 pub(crate) fn collect(
     p: &Problem,
     ended: &mut Ended<Work>,
     count: u32,
+    turns: &[usize],
     patches: &mut [Patch],
     bodies: &mut Vec<Box<Body>>,
 )
     requires pieces { (t : ℕ) → t < count → MayCollect p.now ended.old t }
     requires count { length patches.old ≡ count }
+    requires turns { IsPermutation (range_with_len 0 count) turns.now }
     requires no_bodies { bodies.old.items ≡ [] }
     requires room { count ≤ vec_capacity bodies.old }
-    ensures all { AreCollected ended.old count patches.new }
+    ensures all { AreCollected ended.old count (in_turn turns.now patches.new) }
     ensures count { length patches.new ≡ count }
     ensures bodies { AreReturned ended.old count (workspaces_in bodies.new.items) }
     ensures body_count { length bodies.new.items ≡ count }
@@ -55,7 +60,7 @@ pub(crate) fn collect(
     for task in 0..count {
         let work = ended.hand(task);
         let mut body = body_after(p, ended, work);
-        swap(&mut body.patch, &mut patches[task as usize]);
+        swap(&mut body.patch, &mut patches[turns[task as usize]]);
         bodies.push_reserved(body);
     }
 }

@@ -1,6 +1,9 @@
 //! The pieces of a level's tasks: its patches, raw, each with a workspace.
 
 ghost use Rattle.std.specs.Prelude.{◌≡◌, ◌≤◌, ◌<◌, ◌^◌, [], length, map, vec_capacity, IfOk, OnOk};
+ghost use Rattle.std.specs.List.{range_with_len};
+ghost use Rattle.std.specs.List.Sorted.{IsPermutation};
+ghost use Rattle.amr_balance.specs.Turns.{in_turn};
 ghost use Rattle.amr_box.specs.Cells.{IsNear};
 ghost use Rattle.amr_advance.specs.Pieces.{AreRawPieces, AreWorkspaces, Serves, workspaces_in};
 
@@ -80,46 +83,51 @@ fn body_for(
     }
 }
 
-/// A body for each task, of old ones as far as they go: task `i` is that of patch `i`.
+/// A body for each task, of old ones as far as they go: task `i` has the patch whose turn it is.
 pub(crate) fn bodies_of(
     alloc: Global,
     patches: &[Patch],
+    turns: &[usize],
     mut tasks: Vec<TaskLayout>,
     mut olds: Vec<Box<Body>>,
 ) -> Result<Vec<Box<Body>>, NoMemory>
-    requires { length tasks.items ≡ length patches.now }
-    ensures { IfOk result (λ bs. AreWorkspaces patches.now tasks.items (workspaces_in bs.items)) }
+    requires turns { IsPermutation (range_with_len 0 (length patches.now)) turns.now }
+    requires count { length tasks.items ≡ length patches.now }
+    ensures { IfOk result (λ bs. AreWorkspaces (in_turn turns.now patches.now) tasks.items (workspaces_in bs.items)) }
 {
     let mut made = Vec::with_capacity(alloc, tasks.len())?;
     'tasks: while let Some(layout) = tasks.pop() {
-        let columns = patches[tasks.len()].bx().width();
+        let columns = patches[turns[tasks.len()]].bx().width();
         made.push_reserved(body_for(alloc, olds.pop(), columns, layout)?);
     }
     made.as_mut_slice().reverse();
     Ok(made)
 }
 
-/// Makes pieces of patches and bodies, in a list that has room for them. Piece `i` is that of task `i`, with patch `i`, in whose
-/// place stands the patch that the body had.
+/// Makes pieces of patches and bodies, in a list that has room for them. Piece `i` is that of task `i`, with the patch whose turn it
+/// is, in whose place stands the patch that the body had.
 pub(crate) fn to_pieces(
     p: &Problem,
     level: u32,
+    turns: &[usize],
     patches: &mut [Patch],
     bodies: &mut Vec<Box<Body>>,
     mut pieces: Vec<Work>,
 ) -> Vec<Work>
+    requires turns { IsPermutation (range_with_len 0 (length patches.old)) turns.now }
     requires count { length bodies.old.items ≡ length patches.old }
     requires few { length patches.old < 2 ^ 32 }
     requires empty { pieces.items ≡ [] }
     requires room { length patches.old ≤ vec_capacity pieces }
-    ensures pieces { AreRawPieces p.now level patches.old (workspaces_in bodies.old.items) result.items }
+    ensures pieces { AreRawPieces p.now level (in_turn turns.now patches.old) (workspaces_in bodies.old.items) result.items }
+    ensures piece_count { length result.items ≡ length patches.old }
     ensures count { length patches.new ≡ length patches.old }
     ensures no_bodies { bodies.new.items ≡ [] }
     ensures capacity { vec_capacity bodies.new ≡ vec_capacity bodies.old }
 {
     'bodies: while let Some(mut body) = bodies.pop() {
         let task = bodies.len();
-        swap(&mut body.patch, &mut patches[task]);
+        swap(&mut body.patch, &mut patches[turns[task]]);
         pieces.push_reserved(Work {
             task: task as u32,
             level,
@@ -133,12 +141,14 @@ pub(crate) fn to_pieces(
 }
 
 /// Puts the patches of pieces back into their places.
-pub(crate) fn to_patches(mut pieces: Vec<Work>, patches: &mut [Patch])
+pub(crate) fn to_patches(mut pieces: Vec<Work>, turns: &[usize], patches: &mut [Patch])
+    requires turns { IsPermutation (range_with_len 0 (length patches.old)) turns.now }
     requires count { length pieces.items ≡ length patches.old }
-    ensures patches { patches.new ≡ map (λ w. w.body.value.patch) pieces.items }
+    ensures patches { in_turn turns.now patches.new ≡ map (λ w. w.body.value.patch) pieces.items }
+    ensures count { length patches.new ≡ length patches.old }
 {
     'pieces: while let Some(mut work) = pieces.pop() {
         let task = pieces.len();
-        swap(&mut work.body.patch, &mut patches[task]);
+        swap(&mut work.body.patch, &mut patches[turns[task]]);
     }
 }

@@ -15,6 +15,7 @@ ghost use Rattle.amr_patch.specs.Patches.{ArePatchesApart, box};
 ghost use Rattle.amr_advance.specs.Tasks.{AreBoardTasks, AreLoneTasks, AreTasks};
 
 use crate::pieces::bodies_of;
+use crate::turns::{in_turn, turns_of};
 use amr_board::Shape;
 use amr_causes::NoMemory;
 use amr_flux::Room;
@@ -38,6 +39,8 @@ pub(crate) struct LoneTasks {
 #[derive(Drop)]
 pub(crate) struct BoardTasks {
     pub(crate) shape: Shape,
+    /// Which patch each task has.
+    pub(crate) turns: Vec<usize>,
     /// A body for each task.
     pub(crate) bodies: Vec<Box<Body>>,
     pub(crate) layout: Snapshot<Layout>,
@@ -135,9 +138,13 @@ fn board_tasks(
         places: layout.places,
         words: layout.words,
     };
+    let turns = turns_of(alloc, s.patches)?;
+    let tasks = in_turn(alloc, layout.tasks, &turns)?;
+    let bodies = bodies_of(alloc, s.patches, &turns, tasks, olds)?;
     Ok(BoardTasks {
         shape,
-        bodies: bodies_of(alloc, s.patches, layout.tasks, olds)?,
+        turns,
+        bodies,
         layout: made,
     })
 }
@@ -148,6 +155,7 @@ fn bodies_from(alloc: Global, old: Option<Tasks>) -> Vec<Box<Body>> {
         Some(Tasks::Board(tasks)) => {
             let BoardTasks {
                 shape: _,
+                turns: _,
                 bodies,
                 layout: _,
             } = tasks;

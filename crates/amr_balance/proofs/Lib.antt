@@ -2,3 +2,5 @@ mod Owners
 mod Loads
 mod Balance
 mod SoFar
+mod LargestFirst
+pub mod TurnLaws

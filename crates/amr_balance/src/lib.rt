@@ -1,4 +1,5 @@
-//! Tasks shared out among workers in advance (list scheduling; Graham 1966).
+//! Tasks shared out among workers in advance (list scheduling; Graham 1966). And the order in which workers draw what has an
+//! area: the larger first.
 #![tactic(auto)]
 
 ghost use Rattle.std.specs.Prelude.{◌≡◌, ℕ, ◌^◌, ◌<◌, ◌≤◌, length, slice_index, slice_index_or, [], sum, IfOk};
@@ -7,8 +8,11 @@ ghost use Rattle.amr_balance.specs.Shares.{IsBalanced, IsLeast, IsShare, lists_i
 use amr_causes::NoMemory;
 use std::alloc::Global;
 
+mod order;
 #[cfg(test)]
 mod tests;
+
+pub use order::largest_first;
 
 /// The worker with the least to do, the lowest number on a tie.
 fn least_loaded(loads: &[u64]) -> usize

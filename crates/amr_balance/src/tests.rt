@@ -30,3 +30,20 @@ fn on_a_tie_the_lowest_number_is_first(rt: HostRuntime) -> Result<(), NoMemory> 
     assert!(rt; none.len() == 64);
     Ok(())
 }
+
+/// Nine columns of three rows, cut into boxes of at most four columns, have these areas.
+#[test]
+fn areas_in_order_keep_their_numbers(rt: HostRuntime) -> Result<(), NoMemory> {
+    let turns = largest_first(rt.alloc(), &[12, 12, 3])?;
+    assert_eq!(rt; turns.as_slice(), [0, 1, 2].as_slice());
+    let none = largest_first(rt.alloc(), &[])?;
+    assert!(rt; none.is_empty());
+    Ok(())
+}
+
+#[test]
+fn a_small_area_goes_behind_larger_ones(rt: HostRuntime) -> Result<(), NoMemory> {
+    let turns = largest_first(rt.alloc(), &[4, 16, 7, 16, 4])?;
+    assert_eq!(rt; turns.as_slice(), [1, 3, 2, 0, 4].as_slice());
+    Ok(())
+}

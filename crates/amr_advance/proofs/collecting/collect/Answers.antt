@@ -1,8 +1,11 @@
-use Rattle.std.proofs.Common.{◌≡◌, ◌+◌, ◌<◌, None, length, get_or, sym, ap, subst, ◌∙◌, arith}
+use Rattle.std.proofs.Common.{rules, ◌≡◌, ◌+◌, ◌<◌, ⊎_elim, None, length, get_or, set, sym, ap, subst, ◌∙◌, arith}
+use Rattle.std.specs.List.{All}
 use Rattle.std.specs.Box.{with_value}
 use Rattle.std.specs.Global.{Box}
 use Rattle.std.proofs.Math.ListN.{length-set}
-use Rattle.std.proofs.lemmas.List.{length-map, length_push, map_push}
+use Rattle.std.proofs.lemmas.Bool.{cases_eq}
+use Rattle.std.proofs.lemmas.List.{get_or-set_other, get_or-set_same, length-map, length_push, map_push}
+use Rattle.amr_balance.proofs.TurnLaws.{in_turn_at, turn_count, turn_there, turn_within, turns_apart, turns_within}
 use lib.ListN.{get_elem?}
 use Rattle.amr_board.specs.Ended.{EndedOf}
 use Rattle.amr_work.specs.declared.work.Body.{Body}
@@ -10,7 +13,7 @@ use Rattle.amr_work.specs.declared.work.Work.{Work}
 use Rattle.amr_work.specs.declared.work.Workspace.{Workspace}
 use Rattle.amr_advance.specs.Collected.{HasMassesAfter, IsPieceOf, MayComplete, ServesAgain}
 use Rattle.amr_advance.specs.Pieces.{workspaces_in}
-use Rattle.amr_advance.proofs.Bodies.{set_done, workspace_in}
+use Rattle.amr_advance.proofs.Bodies.{workspace_in}
 use Rattle.amr_advance.proofs.Handed.{one_piece, other_piece, same_words}
 use Rattle.amr_advance.proofs.Reversed.{push_done}
 use Rattle.amr_advance.proofs.collecting.collect.Goals as goal
@@ -30,6 +33,17 @@ body_after-body-requires c =
     (ap (λ (o : EndedOf Work). o.places) c.hand-work.ensures.gone ∙ inv.places) (ap (λ (o : EndedOf Work). o.words) c.hand-work.ensures.gone ∙ inv.words)
     (subst (λ (w : Work). MayComplete c.args.p.now c.args.ended.now w) same m.complete)
 
+pub bounds-turns-task : goal.bounds-turns-task
+bounds-turns-task c = turn_there c.args.count c.args.turns.now c.requires.turns c.loop-task.task c.loop-task-test.true
+
+pub bounds-patches-turns : goal.bounds-patches-turns
+bounds-patches-turns c = omega (arith, turn_within c.args.count c.args.turns.now c.requires.turns c.loop-task.task c.loop-task-test.true, c.loop-task.invariant.count, c.requires.count)
+
+pub offset_bounds-patches-turns : goal.offset_bounds-patches-turns
+offset_bounds-patches-turns c =
+    let there : get_or c.args.turns.now c.loop-task.task 0 < length c.loop-task.patches = omega (arith, turn_within c.args.count c.args.turns.now c.requires.turns c.loop-task.task c.loop-task-test.true, c.loop-task.invariant.count, c.requires.count) in
+    search rules
+
 pub loop-task-preserved : goal.loop-task-preserved
 loop-task-preserved c =
     let inv = c.loop-task.invariant in
@@ -39,7 +53,12 @@ loop-task-preserved c =
     let at = c.loop-task.task in
     let q = c.swap.new.y in
     let gone = c.hand-work.ensures.gone in
-    let inside : at < length qs = omega (arith, inv.count, c.requires.count, c.loop-task-test.true) in
+    let turns = c.args.turns.now in
+    let n = c.args.count in
+    let perm = c.requires.turns in
+    let all = turn_count n turns perm in
+    let k = get_or turns at 0 in
+    let inside : k < length qs = omega (arith, inv.count, c.requires.count, turn_within n turns perm at c.loop-task-test.true) in
     let handed : IsPieceOf c.args.ended.now at c.hand-work.result = sym (inv.rest at (omega arith)) ∙ c.hand-work.ensures.piece in
     let one : (w : Work) → IsPieceOf c.args.ended.now at w → c.hand-work.result ≡ w = λ w here. one_piece c.args.ended.now at c.hand-work.result w handed here in
     let patch : q ≡ b.value.patch = c.swap.ensures.y_after ∙ ap (λ (d : Body). d.patch) c.deref_mut.ensures.value in
@@ -55,8 +74,12 @@ loop-task-preserved c =
       registers = ap (λ (o : EndedOf Work). o.registers) gone ∙ inv.registers;
       words = ap (λ (o : EndedOf Work). o.words) gone ∙ inv.words;
       rest = λ t from. ap (λ (o : EndedOf Work). get_elem? o.pieces t) gone ∙ other_piece c.loop-task.ended.pieces at t None (omega (arith, from)) ∙ inv.rest t (omega (arith, from));
-      done = λ t w d lt here. set_done (λ t q. (w : Work) → IsPieceOf c.args.ended.now t w → HasMassesAfter w q) qs at q inside (λ j d below w here. inv.done j w d below here) last t d lt w here;
-      count = length-set qs at q ∙ inv.count;
+      done = λ t w d lt here. ⊎_elim
+          (λ (e : t ≡ at). subst (HasMassesAfter w) (sym (ap (λ i. get_or (set qs k q) (get_or turns i 0) d) e ∙ get_or-set_same qs k q d inside)) (last w (subst (λ i. IsPieceOf c.args.ended.now i w) e here)))
+          (λ (ne : t ≡ at → ⊥). subst (HasMassesAfter w) (sym (get_or-set_other qs k (get_or turns t 0) q d (λ e. ne (turns_apart n turns perm t at (omega (arith, lt, c.loop-task-test.true, all)) (omega (arith, c.loop-task-test.true, all)) e))))
+          (inv.done t w d (omega (arith, lt, ne)) here))
+          (cases_eq t at);
+      count = length-set qs k q ∙ inv.count;
       returned = λ t w d lt here. subst (λ xs. ServesAgain w.body.value.workspace (get_or (workspaces_in xs) t d)) (sym c.push_reserved.ensures.items)
           (subst (λ ss. ServesAgain w.body.value.workspace (get_or ss t d)) (sym (map_push workspace_in bs body))
           (push_done (λ t s. (w : Work) → IsPieceOf c.args.ended.now t w → ServesAgain w.body.value.workspace s) (workspaces_in bs) kept
@@ -68,7 +91,12 @@ loop-task-preserved c =
     }
 
 pub returns-clause-all : goal.returns-clause-all
-returns-clause-all c = λ t w d lt at. c.loop-task.invariant.done t w d (omega (arith, lt, c.loop-task-test.false)) at
+returns-clause-all c = λ t w d lt at.
+    let n = c.args.count in
+    let turns = c.args.turns.now in
+    let within = subst (λ m. All (λ k. k < m) turns) (sym (c.loop-task.invariant.count ∙ c.requires.count)) (turns_within n turns c.requires.turns) in
+    subst (HasMassesAfter w) (sym (in_turn_at turns c.loop-task.patches t d within (turn_there n turns c.requires.turns t lt)))
+    (c.loop-task.invariant.done t w d (omega (arith, lt, c.loop-task-test.false)) at)
 
 pub returns-clause-bodies : goal.returns-clause-bodies
 returns-clause-bodies c = λ t w d lt at. c.loop-task.invariant.returned t w d (omega (arith, lt, c.loop-task-test.false)) at

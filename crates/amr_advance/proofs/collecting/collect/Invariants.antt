@@ -16,7 +16,7 @@ invariant-loop-task l = record {
   registers : l.ended.registers ≡ l.initial.ended.registers;
   words : l.ended.words ≡ l.initial.ended.words;
   rest : (t : ℕ) → l.task ≤ t → get_elem? l.ended.pieces t ≡ get_elem? l.initial.ended.pieces t;
-  done : (t : ℕ) (w : Work) (d : Patch) → t < l.task → IsPieceOf l.initial.ended t w → HasMassesAfter w (slice_index_or l.patches t d);
+  done : (t : ℕ) (w : Work) (d : Patch) → t < l.task → IsPieceOf l.initial.ended t w → HasMassesAfter w (slice_index_or l.patches (slice_index_or l.turns t 0) d);
   count : length l.patches ≡ length l.initial.patches;
   returned : (t : ℕ) (w : Work) (d : Workspace) → t < l.task → IsPieceOf l.initial.ended t w → ServesAgain w.body.value.workspace (slice_index_or (workspaces_in l.bodies.items) t d);
   returned_count : length l.bodies.items ≡ l.task;

@@ -1,8 +1,14 @@
-use Rattle.std.proofs.Common.{length, subst, ap, arith}
+use Rattle.std.proofs.Common.{◌≡◌, ℕ, ◌<◌, ◌^◌, length, subst, sym, ap, arith}
+use Rattle.std.specs.Prelude.{slice_index}
+use Rattle.std.proofs.lemmas.List.{with_items_is}
 use Rattle.std.specs.Option.{option_copied}
 use Rattle.amr_board.specs.declared.board.Shape.{Shape}
 use Rattle.amr_layout.specs.Surroundings.{around}
 use Rattle.amr_advance.specs.Tasks.{AreBoardTasks, AreTasks}
+use Rattle.amr_ghost.specs.Frames.{old_masses}
+use Rattle.amr_patch.specs.Patches.{masses_in}
+use Rattle.amr_flows.specs.Laws.{plain_size}
+use Rattle.amr_flows.specs.Words.{level_total}
 use Rattle.amr_advance.proofs.level.run_level.Goals as goal
 
 pub step_each-requires-clause-tasks : goal.step_each-requires-clause-tasks
@@ -40,3 +46,18 @@ returns-in_ok-run_on_board-in-Board-clause-layout g c = record {
   words = c.requires.layout.words;
   tasks = c.in_ok-run_on_board-in-Board.ensures.tasks;
 }
+
+pub returns-in_ok-run_on_board-in-Board-clause-totals : goal.returns-in_ok-run_on_board-in-Board-clause-totals
+returns-in_ok-run_on_board-in-Board-clause-totals g c =
+    let p = c.args.given.problem.now in
+    let l = c.args.given.level in
+    let qs = c.args.patches.now in
+    let step = c.in_ok-run_on_board-in-Board.ensures in
+    let items = with_items_is c.in_ok-totals.totals c.run_on_board.new.totals (omega (arith, step.words, ap length c.deref_mut-in-Board.ensures.value, c.in_ok-totals.totals.ok.0)) in
+    subst (λ ws. (word : ℕ) → word < length ws → slice_index ws word ≡ level_total (around p l qs c.args.given.cells.now (option_copied c.args.given.finer)) (plain_size p l (masses_in qs) (old_masses (option_copied c.args.given.old))) word) (sym items) step.totals
+
+pub returns-in_ok-run_on_board-in-Board-clause-small : goal.returns-in_ok-run_on_board-in-Board-clause-small
+returns-in_ok-run_on_board-in-Board-clause-small g c =
+    let step = c.in_ok-run_on_board-in-Board.ensures in
+    let items = with_items_is c.in_ok-totals.totals c.run_on_board.new.totals (omega (arith, step.words, ap length c.deref_mut-in-Board.ensures.value, c.in_ok-totals.totals.ok.0)) in
+    subst (λ ws. (word : ℕ) → word < length ws → slice_index ws word < 2 ^ 63) (sym items) step.small

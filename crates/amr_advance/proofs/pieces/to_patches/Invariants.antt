@@ -1,12 +1,15 @@
-use Rattle.std.proofs.Common.{◌≡◌, ◌≤◌, ◌++◌, drop, length, map, vec_len}
+use Rattle.std.proofs.Common.{◌≡◌, ℕ, ◌<◌, ◌≤◌, length, vec_len}
+use Rattle.std.specs.Prelude.{slice_index_or}
+use Rattle.amr_patch.specs.declared.patches.Patch.{Patch}
 use Rattle.amr_work.specs.declared.work.Work.{Work}
 use Rattle.amr_advance.proofs.pieces.to_patches.Given as goal
 
 -- the patches of the pieces that were taken are in their places
 abbrev pub invariant-pieces : goal.invariant-pieces
 invariant-pieces l = record {
-  all : map (λ (w : Work). w.body.value.patch) l.initial.pieces.items ≡ map (λ (w : Work). w.body.value.patch) l.pieces.items ++ drop (length l.pieces.items) l.patches;
-  count : length l.patches ≡ length l.initial.pieces.items;
+  rest : (k : ℕ) (w : Work) → k < length l.pieces.items → slice_index_or l.pieces.items k w ≡ slice_index_or l.initial.pieces.items k w;
+  back : (k : ℕ) (q : Patch) (w : Work) → length l.pieces.items ≤ k → k < length l.initial.pieces.items → slice_index_or l.patches (slice_index_or l.turns k 0) q ≡ (slice_index_or l.initial.pieces.items k w).body.value.patch;
+  long : length l.patches ≡ length l.initial.patches;
   fewer : length l.pieces.items ≤ length l.initial.pieces.items;
 }
 
