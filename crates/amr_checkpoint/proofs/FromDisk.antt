@@ -118,6 +118,17 @@ fresh_goes_on found s q kept bytes p is usable kept_is same given =
       (bytes_are, record { store_is = store_for s q p fresh.store_is problem; none = fresh.none }),
     )
 
+-- what goes on from a store has bytes that are a problem
+pub fresh_given : (found : Checkpoint) (s : Store) (q : Problem) (kept bytes : List ℕ) → found ≡ read.Fresh s q → IsUsable found → kept ≡ problem_in s → kept ≡ bytes → (p : Problem) × IsProblemOf bytes p
+fresh_given found s q kept bytes is usable kept_is same =
+    let fresh : IsFreshStore q s = subst IsUsable is usable in
+    (q, subst (λ (b : List ℕ). IsProblemOf b q) (sym kept_is ∙ same) fresh.store_is.accepted)
+
+pub at_given : (found : Checkpoint) (s : Store) (q : Problem) (mesh : Mesh) (kept bytes : List ℕ) → found ≡ read.At s q mesh → IsUsable found → kept ≡ problem_in s → kept ≡ bytes → (p : Problem) × IsProblemOf bytes p
+at_given found s q mesh kept bytes is usable kept_is same =
+    let at : IsStoreAt q s mesh = subst IsUsable is usable in
+    (q, subst (λ (b : List ℕ). IsProblemOf b q) (sym kept_is ∙ same) at.past.store_is.accepted)
+
 pub at_goes_on : (found : Checkpoint) (s : Store) (q : Problem) (mesh : Mesh) (kept bytes : List ℕ) (p : Problem) → found ≡ read.At s q mesh → IsUsable found → kept ≡ problem_in s → kept ≡ bytes → IsProblemOf bytes p
     → (content_of found ≡ content_at_mesh bytes p mesh) × (problem_in s ≡ bytes) × IsStoreAt p s mesh
 at_goes_on found s q mesh kept bytes p is usable kept_is same given =

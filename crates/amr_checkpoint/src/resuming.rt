@@ -6,7 +6,7 @@ ghost use Rattle.amr_disk.specs.Image.{Only};
 ghost use Rattle.amr_problem.specs.Judgement.{IsProblemOf};
 ghost use Rattle.amr_store.specs.Phases.{OnlyReads};
 ghost use Rattle.amr_checkpoint.specs.Checkpoints.{CanGoOn, IsMeshFor, IsResumedReady, IsUsable, TakesStore, content_at_mesh, content_of, content_resumed};
-ghost use Rattle.amr_checkpoint.specs.Contents.{Content, Holds};
+ghost use Rattle.amr_checkpoint.specs.Contents.{Content, Empty, Holds};
 ghost use Rattle.amr_checkpoint.specs.Refusals.{IsOtherProblem, RefusesRun, RefusesShow};
 ghost use Rattle.amr_checkpoint.specs.declared.refusal.Refusal.{Refusal};
 
@@ -71,6 +71,8 @@ fn past(stored: u32, target: u32) -> Option<Refusal>
 fn go_on(found: Checkpoint, bytes: &[u8], target: u32) -> Result<Resumed, Refusal>
     requires { IsUsable found }
     ensures store { IfOk result (TakesStore found) }
+    ensures nothing { IfOk result (λ resumed. resumed ≡ Resumed.Nothing → content_of found ≡ Empty) }
+    ensures problem { IfOk result (λ resumed. ¬ (resumed ≡ Resumed.Nothing) → (p : Problem) × IsProblemOf bytes.now p) }
     ensures holds { IfOk result (λ resumed. (p : Problem) → IsProblemOf bytes.now p → content_of found ≡ content_resumed bytes.now p resumed) }
     ensures can_go_on { IfOk result (λ resumed. (p : Problem) → IsProblemOf bytes.now p → CanGoOn bytes.now p target resumed) }
     ensures refused { IfErr result (RefusesRun bytes.now target (content_of found)) }
@@ -107,14 +109,17 @@ fn shown_of(found: Checkpoint) -> Result<Shown, Refusal>
     }
 }
 
-/// What a run to a target goes on from, of the problem that these bytes are; or why what the disk holds refuses it. Begins with a
-/// sync and only reads.
+/// What a run to a target goes on from, of the problem that these bytes are; or why what the disk holds refuses it. It goes on
+/// from nothing only where the disk holds nothing, and from a store only where the bytes are a problem. Begins with a sync and only
+/// reads.
 pub fn resume<D: Disk>(
     alloc: Global,
     bytes: &[u8],
     target: u32,
     disk: &mut D,
 ) -> Result<Resumed, ResumeFault>
+    ensures nothing { IfOk result (λ resumed. (s : List ℕ) → resumed ≡ Resumed.Nothing → D.seen disk.old ≡ Some s → Holds s Empty) }
+    ensures problem { IfOk result (λ resumed. ¬ (resumed ≡ Resumed.Nothing) → (p : Problem) × IsProblemOf bytes.now p) }
     ensures holds { IfOk result (λ resumed. (s : List ℕ) (p : Problem) → D.seen disk.old ≡ Some s → IsProblemOf bytes.now p → Holds s (content_resumed bytes.now p resumed)) }
     ensures can_go_on { IfOk result (λ resumed. (p : Problem) → IsProblemOf bytes.now p → CanGoOn bytes.now p target resumed) }
     ensures refused { (refusal : Refusal) (s : List ℕ) → IsErrOf result (ResumeFault.Refused refusal) → D.seen disk.old ≡ Some s → (content : Content) × Holds s content × RefusesRun bytes.now target content refusal }
