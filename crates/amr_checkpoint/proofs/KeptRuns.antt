@@ -4,6 +4,7 @@ use Rattle.std.proofs.lemmas.List.{append-nil}
 use Rattle.std.specs.List.{flat_map}
 use Rattle.std.specs.Prelude.{◌⊎◌}
 use Rattle.amr_causes.specs.Bytes.{IsPrefix}
+use Rattle.amr_causes.specs.Causes.{Rose}
 use Rattle.amr_causes.proofs.ByteLaws.{grows_none, prefix_none, prefix_whole}
 use Rattle.amr_io.specs.Short.{IsProperPrefix}
 use Rattle.amr_io.proofs.Shorter.{proper_longer}
@@ -16,7 +17,7 @@ use Rattle.amr_checkpoint.specs.declared.faults.KeepFault.{KeepFault}
 use Rattle.amr_checkpoint.specs.declared.faults.KeepFault.TheVariants as fault
 use Rattle.amr_checkpoint.specs.Checkpoints.{StaysTold}
 use Rattle.amr_checkpoint.specs.Contents.{Content, Empty, Fresh, Holds}
-use Rattle.amr_checkpoint.specs.Kept.{AreFirstOf, EndsAt, FailsBy, Keeps, KeepsRun, SameUntil, SaysBy, SaysOfRun, StandsAt, StandsBy, contents_at, lines_of, marked}
+use Rattle.amr_checkpoint.specs.Kept.{AreFirstOf, EndsAt, FailsBy, IsBegunBy, Keeps, KeepsRun, SameUntil, SaysBy, SaysOfRun, StandsAt, StandsBy, contents_at, lines_of, marked}
 use Rattle.amr_checkpoint.specs.Laws.{IsInSequence}
 use Rattle.amr_checkpoint.specs.Marks.{acknowledgements, checkpoint_line, marks, to_make}
 use Rattle.amr_checkpoint.specs.Refusals.{GoesOn}
@@ -52,9 +53,11 @@ said_stands (Some fault.WriteFault) said lines before now says = record { rest =
 
 module _ {D E : Type 0} (seen : D → Option (List ℕ)) (moment : D → ℕ) (leaves : D → ℕ → List ℕ → Type 0) (disk_faults : D → ℕ) (holds : E → List ℕ → Type 0) (err_faults : E → ℕ) (bytes : List ℕ) (p : Problem) (every target : ℕ) where
   ends_leave : (old : D) (ended : Option KeepFault) (d : D) (found : Time) (all : List Content) (times : List Time) → EndsAt seen moment leaves old ended d found all times
-      → (attempt : Option Content) × StopsLeave (leaves d) found (moment d) all times attempt × SameUntil found.moment (leaves old) (leaves d)
-  ends_leave old None d found all times ends = (None, ends.leave, ends.past)
-  ends_leave old (Some reason) d found all times ends = ends
+      → (attempt : Option Content) × StopsLeave (leaves d) found (moment d) all times attempt × SameUntil found.moment (leaves old) (leaves d) × IsBegunBy ended attempt
+  ends_leave old None d found all times ends = (None, ends.leave, ends.past, refl)
+  ends_leave old (Some fault.NoMemory) d found all times ends = (None, ends.leave, ends.past, refl)
+  ends_leave old (Some fault.WriteFault) d found all times ends = (None, ends.leave, ends.past, refl)
+  ends_leave old (Some fault.DiskFault) d found all times ends = (ends.0, ends.1, ends.2, tt)
 
   -- before any call
   same_now : (d : D) → SameUntil (moment d) (leaves d) (leaves d)
@@ -72,14 +75,14 @@ module _ {D E : Type 0} (seen : D → Option (List ℕ)) (moment : D → ℕ) (l
       → contents_at bytes p (marked every target states) ≡ to_make bytes p every found target → GoesOn bytes target found → IsInSequence found
       → (image : List ℕ) → seen d ≡ Some image → Holds image found → Only (seen d) (leaves d (moment d))
       → (times : List Time) × (contents_of times ≡ contents_at bytes p h.stood) × (attempt : Option Content)
-      × StopsLeave (leaves later_d) (record { moment = moment d; content = found }) (moment later_d) (to_make bytes p every found target) times attempt × SameUntil (moment d) (leaves d) (leaves later_d)
+      × StopsLeave (leaves later_d) (record { moment = moment d; content = found }) (moment later_d) (to_make bytes p every found target) times attempt × SameUntil (moment d) (leaves d) (leaves later_d) × IsBegunBy ended attempt
   run_ends d later_d e later_e found states ended h made on order image told held settled =
       let all : List Content = to_make bytes p every found target in
       let first : Time = record { moment = moment d; content = found } in
       let at : StandsAt seen moment leaves d d first all [] = record { image = image; told = told; held = held; leave = leave_begun moment leaves d (seen d) image found all told settled held; past = same_now d } in
       let end = h.stops d first all [] [] at (append-nil (contents_at bytes p (marked every target states)) ∙ made) (checkpoints_rise bytes p every target found on order) in
       let ends = ends_leave d ended later_d first all end.0 end.2 in
-      (end.0, end.1, ends.0, ends.1, ends.2)
+      (end.0, end.1, ends.0, ends.1, ends.2, ends.3)
 
   -- from a store that is there
   pub run_kept : (d later_d : D) (e later_e : E) (found : Content) (states : List State) (ended : Option KeepFault) → Keeps seen moment leaves disk_faults holds err_faults bytes p every target d later_d e later_e states ended
@@ -100,6 +103,7 @@ module _ {D E : Type 0} (seen : D → Option (List ℕ)) (moment : D → ℕ) (l
           leave = end.3;
           acknowledged = acknowledged h.said h.stood end.0 (said_stands ended h.said (lines_of h.stood) (err_faults e) (err_faults later_e) h.says) end.1;
         };
+    begun = λ image told held settled. (run_ends d later_d e later_e found states ended h made on order image told held settled).5;
     past = λ image told held settled. (run_ends d later_d e later_e found states ended h made on order image told held settled).4;
   }
 
@@ -110,7 +114,7 @@ module _ {D E : Type 0} (seen : D → Option (List ℕ)) (moment : D → ℕ) (l
       → (image : List ℕ) → seen d ≡ Some image → Holds image Empty → Only (seen d) (leaves d (moment d))
       → (times : List Time) × (contents_of times ≡ contents_at bytes p h.stood) × (attempt : Option Content)
       × StopsLeave (leaves later_d) (record { moment = moment d; content = Empty }) (moment later_d) (to_make bytes p every Empty target) (record { moment = moment made_d; content = Fresh bytes p } ∷ times) attempt
-      × SameUntil (moment d) (leaves d) (leaves later_d)
+      × SameUntil (moment d) (leaves d) (leaves later_d) × IsBegunBy ended attempt
   run_ends_new d made_d later_d e later_e states ended h made told_on settled_on holds_fresh stops image told held settled =
       let all : List Content = to_make bytes p every Empty target in
       let rest : List Content = contents_at bytes p (marked every target states) in
@@ -128,7 +132,7 @@ module _ {D E : Type 0} (seen : D → Option (List ℕ)) (moment : D → ℕ) (l
       } in
       let end = h.stops d first all [] (fresh ∷ []) at (ap (λ (t : List Content). Fresh bytes p ∷ t) (append-nil rest) ∙ made) (checkpoints_rise bytes p every target Empty tt tt) in
       let ends = ends_leave d ended later_d first all (fresh ∷ end.0) end.2 in
-      (end.0, end.1, ends.0, ends.1, ends.2)
+      (end.0, end.1, ends.0, ends.1, ends.2, ends.3)
 
   -- from one that was made
   pub run_kept_new : (d made_d later_d : D) (e later_e : E) (states : List State) (ended : Option KeepFault) → Keeps seen moment leaves disk_faults holds err_faults bytes p every target made_d later_d e later_e states ended
@@ -150,20 +154,20 @@ module _ {D E : Type 0} (seen : D → Option (List ℕ)) (moment : D → ℕ) (l
           leave = end.3;
           acknowledged = acknowledged h.said h.stood end.0 (said_stands ended h.said (lines_of h.stood) (err_faults e) (err_faults later_e) h.says) end.1;
         };
+    begun = λ image told held settled. (run_ends_new d made_d later_d e later_e states ended h made told_on settled_on holds_fresh stops image told held settled).5;
     past = λ image told held settled. (run_ends_new d made_d later_d e later_e states ended h made told_on settled_on holds_fresh stops image told held settled).4;
   }
 
-  -- where it was not made
-  pub run_unmade : (d later_d : D) (e : E) (rest : List Content) (reason : KeepFault) → Fresh bytes p ∷ rest ≡ to_make bytes p every Empty target → SaysOfRun (Some reason) [] (flat_map checkpoint_line (marks every Empty target)) (err_faults e) (err_faults e)
-      → disk_faults d ≤ disk_faults later_d → FailsBy (Some reason) (disk_faults d) (disk_faults later_d)
+  -- where it was not made, since the disk failed
+  pub run_unmade : (d later_d : D) (e : E) (rest : List Content) → Fresh bytes p ∷ rest ≡ to_make bytes p every Empty target → disk_faults d ≤ disk_faults later_d → Rose (disk_faults d) (disk_faults later_d)
       → ((s : List ℕ) → seen d ≡ Some s → StopsIn moment leaves d later_d (λ c. Holds c Empty ⊎ Holds c (Fresh bytes p)))
-      → KeepsRun seen moment leaves disk_faults holds err_faults bytes p every target Empty d later_d e e (Some reason)
-  run_unmade d later_d e rest reason made says later fails stops = record {
+      → KeepsRun seen moment leaves disk_faults holds err_faults bytes p every target Empty d later_d e e (Some fault.DiskFault)
+  run_unmade d later_d e rest made later rose stops = record {
     said = [];
     grows = grows_none holds e;
-    says = says;
+    says = (prefix_none (flat_map checkpoint_line (marks every Empty target)), refl);
     later = later;
-    fails = fails;
+    fails = rose;
     stops = λ image told held settled.
         let all : List Content = to_make bytes p every Empty target in
         let first : Time = record { moment = moment d; content = Empty } in
@@ -173,5 +177,28 @@ module _ {D E : Type 0} (seen : D → Option (List ℕ)) (moment : D → ℕ) (l
           leave = leave_tried moment leaves d later_d first all [] (Fresh bytes p) rest (leave_begun moment leaves d (seen d) image Empty all told settled held) made (stops image told);
           acknowledged = prefix_none (acknowledgements (contents_of []));
         };
+    begun = λ image told held settled. tt;
     past = λ image told held settled. same_after d later_d (stops image told);
   }
+
+  -- or since memory ran out before the disk was called
+  run_unbegun : (d : D) (e : E) → KeepsRun seen moment leaves disk_faults holds err_faults bytes p every target Empty d d e e (Some fault.NoMemory)
+  run_unbegun d e = record {
+    said = [];
+    grows = grows_none holds e;
+    says = (prefix_none (flat_map checkpoint_line (marks every Empty target)), refl);
+    later = omega arith;
+    fails = refl;
+    stops = λ image told held settled. record {
+      times = [];
+      attempt = None;
+      leave = leave_begun moment leaves d (seen d) image Empty (to_make bytes p every Empty target) told settled held;
+      acknowledged = prefix_none (acknowledgements (contents_of []));
+    };
+    begun = λ image told held settled. refl;
+    past = λ image told held settled. same_now d;
+  }
+
+  pub run_untouched : (d later_d : D) (e : E) → later_d ≡ d → KeepsRun seen moment leaves disk_faults holds err_faults bytes p every target Empty d later_d e e (Some fault.NoMemory)
+  run_untouched d later_d e same =
+      subst (λ (x : D). KeepsRun seen moment leaves disk_faults holds err_faults bytes p every target Empty d x e e (Some fault.NoMemory)) (sym same) (run_unbegun d e)

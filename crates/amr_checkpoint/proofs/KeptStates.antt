@@ -89,19 +89,18 @@ module _ {D E : Type 0} (seen : D → Option (List ℕ)) (moment : D → ℕ) (l
         kept = λ t image le left. at.past.kept t image le (run.kept t image (omega (arith, le, before)) left);
       }
 
-  -- a put that was refused
-  pub keeps_refused : (d later_d : D) (e : E) (s : State) (reason : KeepFault) → is_mark every target s.step ≡ true → SaysBy (Some reason) [] [] (err_faults e) (err_faults e) → disk_faults d ≤ disk_faults later_d
-      → FailsBy (Some reason) (disk_faults d) (disk_faults later_d)
+  -- a put at which the disk failed
+  pub keeps_refused : (d later_d : D) (e : E) (s : State) → is_mark every target s.step ≡ true → disk_faults d ≤ disk_faults later_d → Rose (disk_faults d) (disk_faults later_d)
       → ((image : List ℕ) (content : Content) → seen d ≡ Some image → Holds image content → StopsIn moment leaves d later_d (λ c. Holds c content ⊎ Holds c (At bytes p s (s.step + 1))))
-      → Keeps seen moment leaves disk_faults holds err_faults bytes p every target d later_d e e (s ∷ []) (Some reason)
-  keeps_refused d later_d e s reason mark says later fails stops = record {
+      → Keeps seen moment leaves disk_faults holds err_faults bytes p every target d later_d e e (s ∷ []) (Some fault.DiskFault)
+  keeps_refused d later_d e s mark later rose stops = record {
     stood = [];
     said = [];
     stands = record { rest = marked every target (s ∷ []); split = refl };
     grows = grows_none holds e;
-    says = says;
+    says = (refl, refl);
     later = later;
-    fails = fails;
+    fails = rose;
     stops = λ old found all rest times at split rising. (
       [],
       refl,
@@ -165,12 +164,11 @@ module _ {D E : Type 0} (seen : D → Option (List ℕ)) (moment : D → ℕ) (l
     says = (subst (IsProperPrefix short.0) (sym (append-nil (checkpoint_line s.step))) short.1, rose);
     later = omega (arith, same);
     fails = same;
-    stops = λ old found all rest times at split rising.
-        let stands = stands_put old d later_d s found all rest times at (next_made s all rest times mark split) rising told settled held stops in (
-          record { moment = moment later_d; content = At bytes p s (s.step + 1) } ∷ [],
-          refl,
-          (None, stands.leave, stands.past),
-        );
+    stops = λ old found all rest times at split rising. (
+      record { moment = moment later_d; content = At bytes p s (s.step + 1) } ∷ [],
+      refl,
+      stands_put old d later_d s found all rest times at (next_made s all rest times mark split) rising told settled held stops,
+    );
   }
 
   -- ---- several
@@ -227,7 +225,7 @@ module _ {D E : Type 0} (seen : D → Option (List ℕ)) (moment : D → ℕ) (l
     says = h.says;
     later = h.later;
     fails = h.fails;
-    stops = λ old found all rest times at split rising. let first = h.stops old found all rest times at split rising in (first.0, first.1, (None, first.2.leave, first.2.past));
+    stops = λ old found all rest times at split rising. h.stops old found all rest times at split rising;
   }
 
   -- and more of them were to be made
@@ -257,8 +255,13 @@ module _ {D E : Type 0} (seen : D → Option (List ℕ)) (moment : D → ℕ) (l
     says = (refl, refl);
     later = omega arith;
     fails = refl;
-    stops = λ old found all rest times at split rising. ([], refl, (None, subst (λ (ts : List Time). StopsLeave (leaves d) found (moment d) all ts None) (sym (append-nil times)) at.leave, at.past));
+    stops = λ old found all rest times at split rising. ([], refl, subst (λ (ts : List Time). StandsAt seen moment leaves old d found all ts) (sym (append-nil times)) at);
   }
+
+  -- or in a call that left the disk as it was
+  pub keeps_untouched : (d later_d : D) (e : E) (xs : List State) → later_d ≡ d → Keeps seen moment leaves disk_faults holds err_faults bytes p every target d later_d e e xs (Some fault.NoMemory)
+  keeps_untouched d later_d e xs same =
+      subst (λ (x : D). Keeps seen moment leaves disk_faults holds err_faults bytes p every target d x e e xs (Some fault.NoMemory)) (sym same) (keeps_nothing d e xs)
 
   -- no state
   pub keeps_none : (d : D) (e : E) → Keeps seen moment leaves disk_faults holds err_faults bytes p every target d d e e [] None

@@ -1,9 +1,9 @@
 -- What a run makes of a store on a disk, and what a stop within leaves.
-use Rattle.std.proofs.Common.{◌≡◌, ◌≢◌, inl, inr, ⊎_elim, ℕ, zero, suc, ◌+◌, ◌*◌, ◌^◌, ◌<◌, ◌≤◌, nat_le, true, false, List, length, Option, Some, None, refl, sym, ◌∙◌, ap, subst, arith}
-use Rattle.std.proofs.lemmas.Bool.{cases_Bool, leb-true, leb-false}
+use Rattle.std.proofs.Common.{◌≡◌, ◌≢◌, inl, inr, ⊎_elim, ℕ, zero, suc, ◌+◌, ◌*◌, ◌^◌, ◌<◌, ◌≤◌, nat_le, Bool, true, false, eq-eqb, List, length, Option, Some, None, refl, sym, ◌∙◌, ap, subst, arith}
+use Rattle.std.proofs.lemmas.Bool.{cases_Bool, leb-true, leb-false, ne_eqb}
 use Rattle.std.proofs.lemmas.Nat.{mul-le}
 use Rattle.std.proofs.lemmas.Option.{same_Some}
-use Rattle.std.specs.Prelude.{◌⊎◌, ◌||◌, option_map}
+use Rattle.std.specs.Prelude.{◌⊎◌, ◌||◌, option_map, if◌then◌else◌}
 use Rattle.std.specs.Int.{byte_len, w32}
 use Rattle.std.specs.declared.result.Result.TheVariants.{Err}
 use Rattle.amr_def.specs.declared.problem.Problem.{Problem}
@@ -29,7 +29,7 @@ use Rattle.amr_store.proofs.Runs.{only_at, started}
 use Rattle.amr_disk.specs.Image.{Only}
 use Rattle.amr_disk.specs.Moments.{StopsIn}
 use Rattle.amr_checkpoint.specs.declared.faults.CheckpointFault.TheVariants.{DiskFault, NoMemory}
-use Rattle.amr_checkpoint.specs.Checkpoints.{IsStoreFor}
+use Rattle.amr_checkpoint.specs.Checkpoints.{IsStoreFor, renewed_version}
 use Rattle.amr_checkpoint.specs.Contents.{Content, Empty, Fresh, At, Holds, StoreHolds, mass_width}
 use Rattle.amr_checkpoint.specs.Laws.{IsStoreOf}
 use Rattle.amr_checkpoint.specs.Reasons.{fault_of_call}
@@ -153,6 +153,13 @@ store_made new bytes p size accepted problem size_is room version unshut = recor
   room = size_is ∙ room ∙ ap (λ v. slot_size (mass_width v) p) (sym version);
   unshut = unshut;
 }
+
+-- a renewal, and a put that is none
+pub version_renewed : (old new : ℕ) → old ≡ 1 → new ≡ 2 → new ≡ renewed_version old
+version_renewed old new one two = two ∙ sym (ap (λ (b : Bool). if b then 2 else old) (eq-eqb old 1 one))
+
+pub version_stays : (old new : ℕ) → old ≢ 1 → new ≡ old → new ≡ renewed_version old
+version_stays old new second same = same ∙ sym (ap (λ (b : Bool). if b then 2 else old) (ne_eqb old 1 second))
 
 -- what was put is held by what a read gives
 pub put_held : (f : List ℕ → List ℕ) (before after : Option (List ℕ)) (st : Store) (t payload_bytes : List ℕ) (p : Problem) (state : State) (sequence : ℕ) → after ≡ option_map f before → ((s : List ℕ) → before ≡ Some s → Stands st s)

@@ -1,5 +1,5 @@
 -- What reading a disk gives, and what a run goes on from. (profile)
-use Rattle.std.specs.Prelude.{ℕ, ◌≡◌, ◌+◌, ◌≤◌, ⊤, false, List, Option, Some, None}
+use Rattle.std.specs.Prelude.{ℕ, ◌≡◌, ◌+◌, ◌≤◌, ◌==◌, ⊤, false, List, Option, Some, None, if◌then◌else◌}
 use Rattle.std.specs.List.{All}
 use Rattle.amr_start.specs.PatchBoxes.{IsChopped}
 use Rattle.amr_def.specs.declared.problem.Problem.{Problem}
@@ -36,6 +36,10 @@ content_resumed bytes p (resumed.At store mesh) = content_at_mesh bytes p mesh
 -- a disk that tells what it reads goes on telling it
 abbrev pub StaysTold : Option (List ℕ) → Option (List ℕ) → Type 0
 StaysTold old new = (s : List ℕ) → old ≡ Some s → (t : List ℕ) × (new ≡ Some t)
+
+-- the version of a store that a checkpoint was put into: 1 becomes 2, and 2 stays
+abbrev pub renewed_version : ℕ → ℕ
+renewed_version version = if version == 1 then 2 else version
 
 -- a store of the problem, with room for its states, that is not shut
 pub record IsStoreFor (p : Problem) (store : Store) : Type 0 where

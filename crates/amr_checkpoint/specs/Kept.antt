@@ -1,5 +1,5 @@
 -- Calls that keep the states of a run: which checkpoints stand when they end, what was said of them, and what a stop leaves. (profile)
-use Rattle.std.specs.Prelude.{ℕ, ◌≡◌, ◌+◌, ◌≤◌, List, ◌++◌, map, Option, Some, None, Result, Ok, Err}
+use Rattle.std.specs.Prelude.{ℕ, ◌≡◌, ◌+◌, ◌≤◌, ⊤, List, ◌++◌, map, Option, Some, None, Result, Ok, Err}
 use Rattle.std.specs.List.{filter, flat_map}
 use Rattle.amr_causes.specs.Bytes.{Grows, IsPrefix}
 use Rattle.amr_causes.specs.Causes.{Rose}
@@ -69,10 +69,13 @@ pub record StandsAt {D : Type 0} (seen : D → Option (List ℕ)) (moment : D �
   pub leave : StopsLeave (leaves disk) found (moment disk) all times None
   pub past : SameUntil found.moment (leaves found_disk) (leaves disk)
 
--- or, where calls ended by a fault, with what one of them was about to make
+-- At the end it reads so, but where the disk failed: there a stop may leave what a call was about to make.
 abbrev pub EndsAt : {D : Type 0} → (D → Option (List ℕ)) → (D → ℕ) → (D → ℕ → List ℕ → Type 0) → D → Option KeepFault → D → Time → List Content → List Time → Type 0
 EndsAt seen moment leaves found_disk None disk found all times = StandsAt seen moment leaves found_disk disk found all times
-EndsAt seen moment leaves found_disk (Some reason) disk found all times = (attempt : Option Content) × StopsLeave (leaves disk) found (moment disk) all times attempt × SameUntil found.moment (leaves found_disk) (leaves disk)
+EndsAt seen moment leaves found_disk (Some fault.NoMemory) disk found all times = StandsAt seen moment leaves found_disk disk found all times
+EndsAt seen moment leaves found_disk (Some fault.WriteFault) disk found all times = StandsAt seen moment leaves found_disk disk found all times
+EndsAt seen moment leaves found_disk (Some fault.DiskFault) disk found all times =
+    (attempt : Option Content) × StopsLeave (leaves disk) found (moment disk) all times attempt × SameUntil found.moment (leaves found_disk) (leaves disk)
 
 -- Calls that keep some states in their order, from one disk and one stream of errors to another. Of those whose steps are marks all stand
 -- at the end, or the first ones, and are acknowledged. Each that stands adds one time to those of before.
@@ -105,6 +108,13 @@ pub record StopsOfRun (leaves : ℕ → List ℕ → Type 0) (found : Time) (now
   pub leave : StopsLeave leaves found now all times attempt
   pub acknowledged : IsPrefix said (acknowledgements (contents_of times))
 
+-- a call was about to make something, and did not, only where the disk failed
+abbrev pub IsBegunBy : Option KeepFault → Option Content → Type 0
+IsBegunBy None attempt = attempt ≡ None
+IsBegunBy (Some fault.DiskFault) attempt = ⊤
+IsBegunBy (Some fault.NoMemory) attempt = attempt ≡ None
+IsBegunBy (Some fault.WriteFault) attempt = attempt ≡ None
+
 -- The calls of a run from what was found on a disk to the step that it goes to, or to a fault.
 pub record KeepsRun {D E : Type 0} (seen : D → Option (List ℕ)) (moment : D → ℕ) (leaves : D → ℕ → List ℕ → Type 0) (disk_faults : D → ℕ) (holds : E → List ℕ → Type 0) (err_faults : E → ℕ)
     (bytes : List ℕ) (p : Problem) (every target : ℕ) (found : Content) (disk later_disk : D) (err later_err : E) (ended : Option KeepFault) : Type 0 where
@@ -115,4 +125,5 @@ pub record KeepsRun {D E : Type 0} (seen : D → Option (List ℕ)) (moment : D 
   pub fails : FailsBy ended (disk_faults disk) (disk_faults later_disk)
   pub stops : (image : List ℕ) → seen disk ≡ Some image → Holds image found → Only (seen disk) (leaves disk (moment disk))
       → StopsOfRun (leaves later_disk) (record { moment = moment disk; content = found }) (moment later_disk) (to_make bytes p every found target) said
+  pub begun : (image : List ℕ) (told : seen disk ≡ Some image) (held : Holds image found) (settled : Only (seen disk) (leaves disk (moment disk))) → IsBegunBy ended (stops image told held settled).attempt
   pub past : (image : List ℕ) → seen disk ≡ Some image → Holds image found → Only (seen disk) (leaves disk (moment disk)) → SameUntil (moment disk) (leaves disk) (leaves later_disk)

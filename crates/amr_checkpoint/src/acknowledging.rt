@@ -1,10 +1,11 @@
 //! Keeping a state of a run: a checkpoint where its step is a mark, and the line that acknowledges it.
-ghost use Rattle.std.specs.Prelude.{◌≡◌, ◌+◌, ◌<◌, ◌∷◌, [], false, IfOk, IfSome};
+ghost use Rattle.std.specs.Prelude.{◌≡◌, ◌+◌, ◌<◌, ◌∷◌, [], true, false, IfOk, IfSome, IsErrOf};
 ghost use Rattle.amr_def.specs.Facts.{IsSound};
 ghost use Rattle.amr_patch.specs.Meshes.{is_spent, state_of};
-ghost use Rattle.amr_store.specs.Stands.{IsStoreReady, last_in, problem_in};
-ghost use Rattle.amr_checkpoint.specs.Checkpoints.{IsStoreFor};
+ghost use Rattle.amr_store.specs.Stands.{IsStoreReady, last_in, problem_in, version_in};
+ghost use Rattle.amr_checkpoint.specs.Checkpoints.{IsStoreFor, renewed_version};
 ghost use Rattle.amr_checkpoint.specs.Kept.{Keeps, fault_in};
+ghost use Rattle.amr_checkpoint.specs.Marks.{is_mark};
 
 use crate::faults::{CheckpointFault, KeepFault};
 use crate::keeping::put_checkpoint;
@@ -31,8 +32,8 @@ pub struct Keeping<'a> {
 }
 
 /// Keeps the state of a mesh where its step is a mark: puts it into the store, and then, once it stands, writes its line to `err`.
-/// A stop at any moment leaves what the disk held, or the new checkpoint. All memory is taken before the disk is written. A refusal
-/// drops the store; `WriteFault` comes after the checkpoint stands.
+/// A stop at any moment leaves what the disk held, or the new checkpoint. All memory is taken before the disk is written: if
+/// allocation fails the disk is as before. A refusal drops the store; `WriteFault` comes after the checkpoint stands.
 pub fn keep_state<E: Sink, D: Disk>(
     keeping: &Keeping<'_>,
     mesh: &Mesh,
@@ -47,10 +48,12 @@ pub fn keep_state<E: Sink, D: Disk>(
     requires above { IfSome (last_in store) (λ last. last < (state_of mesh.now).step + 1) }
     requires ready { IsStoreReady D.seen D.moment D.leaves store disk.old }
     ensures store { IfOk result (IsStoreFor keeping.now.problem.now) }
+    ensures version { is_mark keeping.now.every keeping.now.target (state_of mesh.now).step ≡ true → IfOk result (λ kept. version_in kept ≡ renewed_version (version_in store)) }
     ensures problem { IfOk result (λ kept. problem_in kept ≡ problem_in store) }
     ensures above { IfOk result (λ kept. IfSome (last_in kept) (λ last. last < (state_of mesh.now).step + 2)) }
     ensures ready { IfOk result (λ kept. IsStoreReady D.seen D.moment D.leaves kept disk.new) }
     ensures kept { Keeps D.seen D.moment D.leaves D.faults E.holds E.faults (problem_in store) keeping.now.problem.now keeping.now.every keeping.now.target disk.old disk.new err.old err.new (state_of mesh.now ∷ []) (fault_in result) }
+    ensures memory { IsErrOf result KeepFault.NoMemory → disk.new ≡ disk.old }
 {
     let step = mesh.step();
     if !is_mark(keeping.every, keeping.target, step) {

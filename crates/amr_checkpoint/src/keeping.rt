@@ -8,8 +8,8 @@ ghost use Rattle.amr_disk.specs.Moments.{StopsIn};
 ghost use Rattle.amr_patch.specs.Meshes.{is_spent, state_of};
 ghost use Rattle.amr_payload.specs.Payload.{slot_size};
 ghost use Rattle.amr_problem.specs.Judgement.{IsProblemOf};
-ghost use Rattle.amr_store.specs.Stands.{IsStoreReady, last_in, problem_in};
-ghost use Rattle.amr_checkpoint.specs.Checkpoints.{IsFreshStore, IsStoreFor, IsStorePast, StaysTold, content_at_mesh};
+ghost use Rattle.amr_store.specs.Stands.{IsStoreReady, last_in, problem_in, version_in};
+ghost use Rattle.amr_checkpoint.specs.Checkpoints.{IsFreshStore, IsStoreFor, IsStorePast, StaysTold, content_at_mesh, renewed_version};
 ghost use Rattle.amr_checkpoint.specs.Contents.{Content, Empty, Fresh, Holds};
 
 use crate::faults::CheckpointFault;
@@ -30,7 +30,7 @@ fn room(p: &Problem) -> u64
     slot_size2(p)
 }
 
-/// Makes the store of a run's problem, which these bytes are, where the disk holds none. A stop at any moment leaves nothing, or
+/// Makes the store of a run's problem, which these bytes are, where the disk holds none: one of version 2. A stop at any moment leaves nothing, or
 /// the new store. If allocation fails the disk is as before.
 pub fn make_store<D: Disk>(
     alloc: Global,
@@ -42,6 +42,7 @@ pub fn make_store<D: Disk>(
     requires settled { Only (D.seen disk.old) (D.leaves disk.old (D.moment disk.old)) }
     requires empty { (s : List ℕ) → D.seen disk.old ≡ Some s → Holds s Empty }
     ensures store { IfOk result (IsFreshStore p.now) }
+    ensures version { IfOk result (λ store. version_in store ≡ 2) }
     ensures problem { IfOk result (λ store. problem_in store ≡ bytes.now) }
     ensures ready { IfOk result (λ store. IsStoreReady D.seen D.moment D.leaves store disk.new) }
     ensures holds { OnOk result ((t : List ℕ) → D.seen disk.new ≡ Some t → Holds t (Fresh bytes.now p.now)) }
@@ -75,6 +76,7 @@ pub fn put_checkpoint<D: Disk>(
     requires above { IfSome (last_in store) (λ last. last < (state_of mesh.now).step + 1) }
     requires ready { IsStoreReady D.seen D.moment D.leaves store disk.old }
     ensures store { IfOk result (IsStorePast p.now ((state_of mesh.now).step + 1)) }
+    ensures version { IfOk result (λ kept. version_in kept ≡ renewed_version (version_in store)) }
     ensures problem { IfOk result (λ kept. problem_in kept ≡ problem_in store) }
     ensures ready { IfOk result (λ store. IsStoreReady D.seen D.moment D.leaves store disk.new) }
     ensures holds { OnOk result ((t : List ℕ) → D.seen disk.new ≡ Some t → Holds t (content_at_mesh (problem_in store) p.now mesh.now)) }

@@ -10,7 +10,7 @@ use crate::refusal::Refusal;
 use amr_io::{Fragment, Sink, WriteFault, write_fragments};
 use amr_store::Part;
 
-/// Writes the line that a checkpoint of this step times, all of it where no fault comes, and otherwise a prefix that isn't the whole.
+/// Writes the line that a checkpoint of this step has, all of it where no fault comes, and otherwise a prefix that isn't the whole.
 pub fn put_checkpoint_line<E: Sink>(err: &mut E, step: u32) -> Result<(), WriteFault>
     ensures whole { OnOk result (Grows E.holds err.old err.new (checkpoint_line step)) }
     ensures short { OnErr result (FallsShort E.holds err.old err.new (checkpoint_line step)) }

@@ -1,7 +1,7 @@
 //! Why a store is not gone on with, or not shown.
 use amr_store::Part;
 
-/// What is stored refuses a run, or has nothing to show. The causes time in the order in which they are looked for.
+/// What is stored refuses a run, or has nothing to show. The causes stand in the order in which they are looked for.
 #[derive(Clone, Copy, Debug, PartialEq, Eq, Drop)]
 pub enum Refusal {
     /// A part of the store is damaged, the first one found.

@@ -4,10 +4,10 @@ use Rattle.amr_patch.specs.Meshes.{state_of}
 use Rattle.amr_payload.specs.Payload.{slot_size}
 use Rattle.amr_store.proofs.Runs.{weaker}
 use Rattle.amr_store.specs.declared.store.Store.{Store}
-use Rattle.amr_store.specs.Stands.{last_in, problem_in, put_image}
+use Rattle.amr_store.specs.Stands.{last_in, problem_in, put_image, version_in}
 use Rattle.amr_checkpoint.specs.declared.faults.CheckpointFault.TheVariants.{DiskFault, NoMemory}
 use Rattle.amr_checkpoint.proofs.FromDisk.{second_width}
-use Rattle.amr_checkpoint.proofs.Puts.{disk_fault_of, no_memory_of, other_fault_of, put_held, put_stop, renewal_made, renewal_stop, store_after, store_made, untouched_stop}
+use Rattle.amr_checkpoint.proofs.Puts.{disk_fault_of, no_memory_of, other_fault_of, put_held, put_stop, renewal_made, renewal_stop, store_after, store_made, untouched_stop, version_renewed, version_stays}
 use Rattle.amr_checkpoint.proofs.keeping.put_checkpoint.Goals as goal
 
 pub returns-in-Err-clause-stops : goal.returns-in-Err-clause-stops
@@ -28,6 +28,10 @@ returns-in-Ok-renew-clause-store g c = record {
   store_is = store_made c.in-Ok-renew.renewed (problem_in c.args.store) c.args.p.now c.room.result c.requires.store.accepted c.in-Ok-renew.ensures.problem c.in-Ok-renew.ensures.size c.room.ensures.value c.in-Ok-renew.ensures.version c.in-Ok-renew.ensures.unshut_store;
   last = c.in-Ok-renew.ensures.last ∙ ap (λ n. Some (n + 1)) (c.from-sequence.ensures ∙ c.step.ensures);
 }
+
+pub returns-in-Ok-renew-clause-version : goal.returns-in-Ok-renew-clause-version
+returns-in-Ok-renew-clause-version g c =
+    version_renewed (version_in c.args.store) (version_in c.in-Ok-renew.renewed) (sym c.version-must_renew.ensures ∙ c.if-must_renew.true) c.in-Ok-renew.ensures.version
 
 pub returns-in-Ok-renew-clause-holds : goal.returns-in-Ok-renew-clause-holds
 returns-in-Ok-renew-clause-holds g c t seen =
@@ -78,6 +82,10 @@ returns-in-Ok-put-clause-store g c = record {
   store_is = store_after c.args.store c.put.new.self c.args.p.now c.requires.store c.in-Ok-put.ensures.same c.in-Ok-put.ensures.shuts.shut;
   last = c.in-Ok-put.ensures.last ∙ ap (λ n. Some (n + 1)) (c.from-sequence.ensures ∙ c.step.ensures);
 }
+
+pub returns-in-Ok-put-clause-version : goal.returns-in-Ok-put-clause-version
+returns-in-Ok-put-clause-version g c =
+    version_stays (version_in c.args.store) (version_in c.put.new.self) (λ one. c.if-must_renew.false (c.version-must_renew.ensures ∙ one)) c.in-Ok-put.ensures.same.version
 
 pub returns-in-Ok-put-clause-holds : goal.returns-in-Ok-put-clause-holds
 returns-in-Ok-put-clause-holds g c t seen =

@@ -1,13 +1,10 @@
 use Rattle.std.proofs.Common.{◌+◌, ◌∷◌, refl, sym, subst, Some}
-use Rattle.std.specs.List.{flat_map}
-use Rattle.amr_causes.proofs.ByteLaws.{prefix_none}
 use Rattle.amr_checkpoint.specs.declared.faults.KeepFault.TheVariants as fault
 use Rattle.amr_checkpoint.specs.declared.resuming.Resumed.{Resumed}
 use Rattle.amr_checkpoint.specs.Checkpoints.{CanGoOn, content_at_mesh, content_resumed}
-use Rattle.amr_checkpoint.specs.Contents.{Empty, Fresh}
+use Rattle.amr_checkpoint.specs.Contents.{Fresh}
 use Rattle.amr_checkpoint.specs.Kept.{KeepsRun, contents_at, fault_in, marked}
-use Rattle.amr_checkpoint.specs.Marks.{checkpoint_line, marks}
-use Rattle.amr_checkpoint.proofs.KeptRuns.{run_kept, run_kept_new, run_unmade}
+use Rattle.amr_checkpoint.proofs.KeptRuns.{run_kept, run_kept_new, run_unmade, run_untouched}
 use Rattle.amr_def.specs.Run.{start}
 use Rattle.amr_drive.specs.States.{states_after}
 use Rattle.amr_patch.specs.Meshes.{state_of}
@@ -32,18 +29,14 @@ returns-in-Err-DiskFault-clause-kept g c =
     let every = c.args.keeping.now.every in
     let target = c.args.keeping.now.target in
     let states = start p ∷ states_after p (start p) target in
-    let run = run_unmade g.D.Disk.seen g.D.Disk.moment g.D.Disk.leaves g.D.Disk.faults g.E.Sink.holds g.E.Sink.faults c.args.bytes.now c.args.keeping.now.problem.now c.args.keeping.now.every c.args.keeping.now.target c.args.disk.now c.make_store.new.disk c.args.err.now (contents_at c.args.bytes.now p (marked every target states)) fault.DiskFault (made_first c.args.bytes.now p every target)
-    (prefix_none (flat_map checkpoint_line (marks every Empty target)), refl) c.in-Err-DiskFault.ensures.later (c.in-Err-DiskFault.ensures.disk_fault (cc)) c.in-Err-DiskFault.ensures.stops in
+    let run = run_unmade g.D.Disk.seen g.D.Disk.moment g.D.Disk.leaves g.D.Disk.faults g.E.Sink.holds g.E.Sink.faults c.args.bytes.now c.args.keeping.now.problem.now c.args.keeping.now.every c.args.keeping.now.target c.args.disk.now c.make_store.new.disk c.args.err.now (contents_at c.args.bytes.now p (marked every target states)) (made_first c.args.bytes.now p every target)
+    c.in-Err-DiskFault.ensures.later (c.in-Err-DiskFault.ensures.disk_fault (cc)) c.in-Err-DiskFault.ensures.stops in
     subst (λ (r : Resumed). KeepsRun g.D.Disk.seen g.D.Disk.moment g.D.Disk.leaves g.D.Disk.faults g.E.Sink.holds g.E.Sink.faults c.args.bytes.now c.args.keeping.now.problem.now c.args.keeping.now.every c.args.keeping.now.target (content_resumed c.args.bytes.now p r) c.args.disk.now c.make_store.new.disk c.args.err.now c.args.err.now (Some fault.DiskFault)) (sym c.in-Nothing.is) run
 
 pub returns-in-Err-NoMemory-clause-kept : goal.returns-in-Err-NoMemory-clause-kept
 returns-in-Err-NoMemory-clause-kept g c =
     let p = c.args.keeping.now.problem.now in
-    let every = c.args.keeping.now.every in
-    let target = c.args.keeping.now.target in
-    let states = start p ∷ states_after p (start p) target in
-    let run = run_unmade g.D.Disk.seen g.D.Disk.moment g.D.Disk.leaves g.D.Disk.faults g.E.Sink.holds g.E.Sink.faults c.args.bytes.now c.args.keeping.now.problem.now c.args.keeping.now.every c.args.keeping.now.target c.args.disk.now c.make_store.new.disk c.args.err.now (contents_at c.args.bytes.now p (marked every target states)) fault.NoMemory (made_first c.args.bytes.now p every target)
-    (prefix_none (flat_map checkpoint_line (marks every Empty target)), refl) c.in-Err-NoMemory.ensures.later (c.in-Err-NoMemory.ensures.no_disk_fault (λ is. absurd (cc))) c.in-Err-NoMemory.ensures.stops in
+    let run = run_untouched g.D.Disk.seen g.D.Disk.moment g.D.Disk.leaves g.D.Disk.faults g.E.Sink.holds g.E.Sink.faults c.args.bytes.now c.args.keeping.now.problem.now c.args.keeping.now.every c.args.keeping.now.target c.args.disk.now c.make_store.new.disk c.args.err.now (c.in-Err-NoMemory.ensures.memory (cc)) in
     subst (λ (r : Resumed). KeepsRun g.D.Disk.seen g.D.Disk.moment g.D.Disk.leaves g.D.Disk.faults g.E.Sink.holds g.E.Sink.faults c.args.bytes.now c.args.keeping.now.problem.now c.args.keeping.now.every c.args.keeping.now.target (content_resumed c.args.bytes.now p r) c.args.disk.now c.make_store.new.disk c.args.err.now c.args.err.now (Some fault.NoMemory)) (sym c.in-Nothing.is) run
 
 pub returns-in-Fresh-clause-kept : goal.returns-in-Fresh-clause-kept
