@@ -7,6 +7,8 @@ mod cases;
 #[cfg(test)]
 mod faults;
 #[cfg(test)]
+mod finer;
+#[cfg(test)]
 mod gate;
 #[cfg(test)]
 mod kept;
