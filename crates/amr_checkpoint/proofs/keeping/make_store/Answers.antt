@@ -7,6 +7,9 @@ use Rattle.amr_checkpoint.proofs.Puts.{creation_made, creation_stop, disk_fault_
 use Rattle.amr_checkpoint.proofs.Readings.{empty_of}
 use Rattle.amr_checkpoint.proofs.keeping.make_store.Goals as goal
 
+pub returns-in-Ok-clause-version : goal.returns-in-Ok-clause-version
+returns-in-Ok-clause-version g c = c.in-Ok.ensures.version
+
 pub create-requires-clause-version : goal.create-requires-clause-version
 create-requires-clause-version g c = inr refl
 
