@@ -24,7 +24,7 @@ use Rattle.amr_checkpoint.specs.declared.resuming.Resumed.{Resumed}
 use Rattle.amr_checkpoint.specs.declared.resuming.Resumed.TheVariants as resumed
 use Rattle.amr_checkpoint.specs.Checkpoints.{CanGoOn, content_resumed}
 use Rattle.amr_checkpoint.specs.Contents.{Content, Holds, state_from}
-use Rattle.amr_checkpoint.specs.Kept.{FailsBy, KeepsRun, SameUntil, SaysOfRun}
+use Rattle.amr_checkpoint.specs.Kept.{FailsBy, IsBegunBy, KeepsRun, SameUntil, SaysOfRun}
 use Rattle.amr_checkpoint.specs.Laws.{IsInSequence}
 use Rattle.amr_checkpoint.specs.Marks.{answer_of_run, checkpoint_line, marks}
 use Rattle.amr_checkpoint.specs.Refusals.{GoesOn, RefusesRun}
@@ -32,7 +32,7 @@ use Rattle.amr_cli.specs.declared.command.Command.{Command}
 use Rattle.amr_cli.specs.declared.command.Command.TheVariants.{Run, Check, Show, Trial}
 use Rattle.amr_run.specs.Answer.{IsKeptRun, IsPlotOfKeptRun, WasFound, stop_of}
 use Rattle.amr_run.specs.Kept.{KeptReplies}
-use Rattle.amr_run.specs.Outcome.{BeginsLines, RefusesKept, RefusesRunTo, RepliesKeeping, RunsThrough, StopsKept, StopsRun, StopsTo, status_of}
+use Rattle.amr_run.specs.Outcome.{BeginsLines, IsBegunAt, RefusesKept, RefusesRunTo, RepliesKeeping, RunsThrough, StopsKept, StopsRun, StopsTo, status_of}
 use Rattle.amr_run.specs.Reading.{Refuses}
 use Rattle.amr_run.specs.Refusals.{keep_refused, resume_refused}
 use Rattle.amr_run.specs.declared.status.Status.{Status}
@@ -79,19 +79,19 @@ is_kept_run bytes p every target seen r out lines can held within text said =
 
 -- what is stored could not be read, or refuses the run
 pub unresumed : (bytes : List ℕ) (p : Problem) (every target : ℕ) (seen : Option (List ℕ)) (e : ResumeFault)
-    → ((refusal : Refusal) (image : List ℕ) → e ≡ resuming.Refused refusal → seen ≡ Some image → (content : Content) × Holds image content × RefusesRun bytes target content refusal)
+    → fault_of bytes ≡ None → ((refusal : Refusal) (image : List ℕ) → e ≡ resuming.Refused refusal → seen ≡ Some image → (content : Content) × Holds image content × RefusesRun bytes target content refusal)
     → KeptReplies (Err (resume_refused e)) bytes p every target seen []
-unresumed bytes p every target seen resuming.DiskFault refused = (refl, inl refl)
-unresumed bytes p every target seen (resuming.Refused refusal) refused =
-    (if_told (RefusesKept bytes target refusal) seen (λ image told. let by = refused refusal image refl told in record { content = by.0; held = by.1; refuses = by.2 }), refl, refl)
-unresumed bytes p every target seen resuming.NoMemory refused = (refl, inl refl)
+unresumed bytes p every target seen resuming.DiskFault clean refused = (clean, refl, inl refl)
+unresumed bytes p every target seen (resuming.Refused refusal) clean refused =
+    (clean, if_told (RefusesKept bytes target refusal) seen (λ image told. let by = refused refusal image refl told in record { content = by.0; held = by.1; refuses = by.2 }), refl, refl)
+unresumed bytes p every target seen resuming.NoMemory clean refused = (refl, inl refl)
 
 -- a state was not kept
-pub unkept : (bytes : List ℕ) (p : Problem) (every target : ℕ) (seen : Option (List ℕ)) (whole lines said : List ℕ) (before now : ℕ) (e : KeepFault) → IsKeptRun bytes p every target seen whole lines → SaysOfRun (Some e) said lines before now
+pub unkept : (bytes : List ℕ) (p : Problem) (every target : ℕ) (seen : Option (List ℕ)) (whole lines said : List ℕ) (before now : ℕ) (e : KeepFault) → fault_of bytes ≡ None → IsKeptRun bytes p every target seen whole lines → SaysOfRun (Some e) said lines before now
     → KeptReplies (Err (keep_refused e)) bytes p every target seen said
-unkept bytes p every target seen whole lines said before now fault.DiskFault answer says = (refl, inr record { whole = whole; lines = lines; answer = answer; prefix = says.0 })
-unkept bytes p every target seen whole lines said before now fault.NoMemory answer says = (refl, inr record { whole = whole; lines = lines; answer = answer; prefix = says.0 })
-unkept bytes p every target seen whole lines said before now fault.WriteFault answer says = record { whole = whole; lines = lines; answer = answer; cut = inr (refl, says.0) }
+unkept bytes p every target seen whole lines said before now fault.DiskFault clean answer says = (clean, refl, inr record { whole = whole; lines = lines; answer = answer; prefix = says.0 })
+unkept bytes p every target seen whole lines said before now fault.NoMemory clean answer says = (refl, inr record { whole = whole; lines = lines; answer = answer; prefix = says.0 })
+unkept bytes p every target seen whole lines said before now fault.WriteFault clean answer says = record { whole = whole; lines = lines; answer = answer; cut = inr (refl, says.0) }
 
 -- the causes of a state that was not kept
 pub write_cause : (e : KeepFault) (said lines : List ℕ) (before now : ℕ) → SaysOfRun (Some e) said lines before now → keep_refused e ≡ status.WriteFault → Rose before now
@@ -150,8 +150,8 @@ pub kept_replies : (s : Status) (given bytes : List ℕ) (to : Option ℕ) (p : 
 kept_replies status.Done given bytes to p every target seen said same stops accepted h = plot_of_kept given bytes to p every target seen [] said same stops accepted h
 kept_replies (status.Problem reason) given bytes to p every target seen said same stops accepted h = (subst (λ (b : List ℕ). fault_of b ≡ Some reason) same h.0, h.1, h.2)
 kept_replies status.ReadFault given bytes to p every target seen said same stops accepted h = h
-kept_replies (status.Store refusal) given bytes to p every target seen said same stops accepted h = (refuses_to given bytes to p target seen refusal same stops accepted h.0, h.1, h.2)
-kept_replies status.DiskFault given bytes to p every target seen said same stops accepted h = (h.0, begun given bytes to p every target seen said same stops accepted h.1)
+kept_replies (status.Store refusal) given bytes to p every target seen said same stops accepted h = (accepted.clean, refuses_to given bytes to p target seen refusal same stops accepted h.1, h.2, h.3)
+kept_replies status.DiskFault given bytes to p every target seen said same stops accepted h = (accepted.clean, h.1, begun given bytes to p every target seen said same stops accepted h.2)
 kept_replies status.NoMemory given bytes to p every target seen said same stops accepted h = (h.0, begun given bytes to p every target seen said same stops accepted h.1)
 kept_replies status.WriteFault given bytes to p every target seen said same stops accepted h =
     record { whole = h.whole; lines = h.lines; answer = plot_of_kept given bytes to p every target seen h.whole h.lines same stops accepted h.answer; cut = h.cut }
@@ -176,17 +176,29 @@ kept_by answers refuses (Err x) s bytes out said is replies = subst (λ (t : Sta
 
 -- ---- stops
 
+-- what was begun and not finished, by the fault that a call of the run had
+pub begun_by : (e : KeepFault) (attempt : Option Content) → IsBegunBy (Some e) attempt → IsBegunAt (keep_refused e) attempt
+begun_by fault.DiskFault attempt h = tt
+begun_by fault.NoMemory attempt h = h
+begun_by fault.WriteFault attempt h = h
+
 -- what a stop left while the disk was read, it leaves on the later disk
 stays_past : (image : List ℕ) (first last : ℕ) (was leaves : ℕ → List ℕ → Type 0) → SameUntil last was leaves → StaysDurable (Some image) first last was → StaysDurable (Some image) first last leaves
 stays_past image first last was leaves same stays = λ k t from order to settled c left.
     stays k t from order to (λ e there. settled e (same.still k e (omega (arith, order, to)) there)) c (same.kept t c to left)
 
+-- by another status at which no more was begun
+runs_on : (leaves : ℕ → List ℕ → Type 0) (before now : ℕ) (was status : Status) (image bytes : List ℕ) (p : Problem) (every target : ℕ) (said : List ℕ) → ((attempt : Option Content) → IsBegunAt was attempt → IsBegunAt status attempt)
+    → RunsThrough leaves before now was image bytes p every target said → RunsThrough leaves before now status image bytes p every target said
+runs_on leaves before now was status image bytes p every target said still h =
+    record { found = h.found; since = h.since; stays = h.stays; held = h.held; on = h.on; stops = h.stops; begun = still h.stops.attempt h.begun }
+
 module _ {D : Type 0} (seen : D → Option (List ℕ)) (moment : D → ℕ) (leaves : D → ℕ → List ℕ → Type 0) where
   -- the run went on from what was read
-  pub stops_kept : {E : Type 0} (disk_faults : D → ℕ) (holds : E → List ℕ → Type 0) (err_faults : E → ℕ) (bytes : List ℕ) (p : Problem) (every target : ℕ) (r : Resumed) (d read later_d : D) (e later_e : E) (ended : Option KeepFault)
-      → OnlyReads seen moment leaves d read → Only (seen read) (leaves read (moment read)) → ((image : List ℕ) → seen d ≡ Some image → Holds image (content_resumed bytes p r)) → CanGoOn bytes p target r
-      → (h : KeepsRun seen moment leaves disk_faults holds err_faults bytes p every target (content_resumed bytes p r) read later_d e later_e ended) → StopsKept seen moment leaves d later_d bytes p every target h.said
-  stops_kept disk_faults holds err_faults bytes p every target r d read later_d e later_e ended reads settled held can h image told = inr record {
+  pub stops_kept : {E : Type 0} (disk_faults : D → ℕ) (holds : E → List ℕ → Type 0) (err_faults : E → ℕ) (bytes : List ℕ) (p : Problem) (every target : ℕ) (r : Resumed) (d read later_d : D) (e later_e : E) (ended : Option KeepFault) (status : Status)
+      → ((attempt : Option Content) → IsBegunBy ended attempt → IsBegunAt status attempt) → OnlyReads seen moment leaves d read → Only (seen read) (leaves read (moment read)) → ((image : List ℕ) → seen d ≡ Some image → Holds image (content_resumed bytes p r)) → CanGoOn bytes p target r
+      → (h : KeepsRun seen moment leaves disk_faults holds err_faults bytes p every target (content_resumed bytes p r) read later_d e later_e ended) → StopsKept seen moment leaves d later_d status bytes p every target h.said
+  stops_kept disk_faults holds err_faults bytes p every target r d read later_d e later_e ended status still reads settled held can h image told = inr record {
     found = record { moment = moment read; content = content_resumed bytes p r };
     since = reads.images.passes.later;
     stays = stays_past image (moment d) (moment read) (leaves read) (leaves later_d) (h.past image (reads.same ∙ told) (held image told) settled)
@@ -194,29 +206,37 @@ module _ {D : Type 0} (seen : D → Option (List ℕ)) (moment : D → ℕ) (lea
     held = held image told;
     on = goes_on bytes p target r can;
     stops = h.stops image (reads.same ∙ told) (held image told) settled;
+    begun = still _ (h.begun image (reads.same ∙ told) (held image told) settled);
   }
 
   -- of the problem that the source gave
-  pub stops_run : (d later_d : D) (given bytes : List ℕ) (to : Option ℕ) (p : Problem) (every target : ℕ) (said : List ℕ) → given ≡ bytes → target ≡ stop_of to p → IsProblemOf bytes p
-      → StopsKept seen moment leaves d later_d given p every target said → StopsRun seen moment leaves d later_d bytes to every said
-  stops_run d later_d given bytes to p every target said same stops accepted h image told = elim (h image told) [
+  pub stops_run : (d later_d : D) (was status : Status) (given bytes : List ℕ) (to : Option ℕ) (p : Problem) (every target : ℕ) (said : List ℕ) → given ≡ bytes → target ≡ stop_of to p → IsProblemOf bytes p
+      → StopsKept seen moment leaves d later_d was given p every target said → ((attempt : Option Content) → IsBegunAt was attempt → IsBegunAt status attempt) → StopsRun seen moment leaves d later_d status bytes to every said
+  stops_run d later_d was status given bytes to p every target said same stops accepted h still image told = elim (h image told) [
     | inl reads ↦ inl reads
     | inr through ↦ inr record {
       problem = p;
       accepted = accepted;
-      through = subst (λ n. RunsThrough (leaves later_d) (moment d) (moment later_d) image bytes p every n said) stops
-          (subst (λ (b : List ℕ). RunsThrough (leaves later_d) (moment d) (moment later_d) image b p every target said) same through);
+      through = subst (λ n. RunsThrough (leaves later_d) (moment d) (moment later_d) status image bytes p every n said) stops
+          (subst (λ (b : List ℕ). RunsThrough (leaves later_d) (moment d) (moment later_d) status image b p every target said) same
+          (runs_on (leaves later_d) (moment d) (moment later_d) was status image given p every target said still through));
     }
   ]
+
+  -- by the status that an error became
+  pub stops_by : (d later_d : D) (r : Result Unit Status) (s : Status) (bytes : List ℕ) (to : Option ℕ) (every : ℕ) (said : List ℕ) → IsErrAnd r (λ x. x ≡ s)
+      → StopsRun seen moment leaves d later_d s bytes to every said → StopsRun seen moment leaves d later_d (status_of r) bytes to every said
+  stops_by d later_d (Ok done) s bytes to every said is stops = absurd is
+  stops_by d later_d (Err x) s bytes to every said is stops = subst (λ (t : Status). StopsRun seen moment leaves d later_d t bytes to every said) (sym is) stops
 
   -- a disk that was not called
   pub only_reads_none : (d : D) → OnlyReads seen moment leaves d d
   only_reads_none d = record { same = refl; images = rests_same (seen d) (moment d) (leaves d) }
 
-  pub stops_none : (d : D) (asked : Option Command) (bytes said : List ℕ) → StopsTo seen moment leaves d d asked bytes said
-  stops_none d None bytes said = only_reads_none d
-  stops_none d (Some (Run workers to None)) bytes said = only_reads_none d
-  stops_none d (Some (Run workers to (Some every))) bytes said = λ image told. inl (only_reads_none d)
-  stops_none d (Some Check) bytes said = only_reads_none d
-  stops_none d (Some Show) bytes said = only_reads_none d
-  stops_none d (Some (Trial number size workers)) bytes said = only_reads_none d
+  pub stops_none : (d : D) (status : Status) (asked : Option Command) (bytes : List ℕ) → StopsTo seen moment leaves d d status asked bytes []
+  stops_none d status None bytes = only_reads_none d
+  stops_none d status (Some (Run workers to None)) bytes = only_reads_none d
+  stops_none d status (Some (Run workers to (Some every))) bytes = λ image told. inl (only_reads_none d, refl)
+  stops_none d status (Some Check) bytes = only_reads_none d
+  stops_none d status (Some Show) bytes = only_reads_none d
+  stops_none d status (Some (Trial number size workers)) bytes = only_reads_none d

@@ -37,7 +37,7 @@ use Rattle.amr_run.specs.Outcome.{EndsByLine, Outcome, RefusesRunTo, RefusesStor
 use Rattle.amr_run.specs.Reading.{Reads, Refuses}
 use Rattle.amr_run.specs.Refusals.{read_refused, judge_refused}
 use Rattle.amr_run.specs.Texts.{message, problem_line}
-use Rattle.amr_run.specs.declared.reading.Given.{Given}
+use Rattle.amr_run.specs.declared.reading.ReadProblem.{ReadProblem}
 use Rattle.amr_run.specs.declared.status.Status.{Status}
 use Rattle.amr_run.specs.declared.status.Status.TheVariants as status
 
@@ -71,7 +71,7 @@ judging_refused bytes (judging.Fault f) fault = fault f refl
 judging_refused bytes judging.NoMemory fault = tt
 
 -- by the status that an error became
-pub reads_refused : (r : Result Given Status) (s : Status) (bytes : List ℕ) → IsErrAnd r (λ x. x ≡ s) → Refuses s bytes → Reads r bytes
+pub reads_refused : (r : Result ReadProblem Status) (s : Status) (bytes : List ℕ) → IsErrAnd r (λ x. x ≡ s) → Refuses s bytes → Reads r bytes
 reads_refused (Ok given) s bytes is refuses = absurd is
 reads_refused (Err x) s bytes is refuses = subst (λ (t : Status). Refuses t bytes) (sym is) refuses
 
@@ -203,7 +203,7 @@ not_problem (Trial number size workers) reason bytes seen out said has h = h.0
 
 not_store : (command : Command) (refusal : Refusal) (bytes : List ℕ) (seen : Option (List ℕ)) (out said : List ℕ) → HasAnswer command bytes seen → RepliesTo (status.Store refusal) command bytes seen out said → ⊥
 not_store (Run workers to None) refusal bytes seen out said has h = h.0
-not_store (Run workers to (Some every)) refusal bytes seen out said has h = refused_run bytes to seen refusal has.1 h.0
+not_store (Run workers to (Some every)) refusal bytes seen out said has h = refused_run bytes to seen refusal has.1 h.1
 not_store Check refusal bytes seen out said has h = h.0
 not_store Show refusal bytes seen out said has h = refused_show seen refusal has h.0.0
 not_store (Trial number size workers) refusal bytes seen out said has h = h.0

@@ -1,5 +1,5 @@
 -- What a status says of the words, of the bytes of the source, of what the disk holds, and of what went out.
-use Rattle.std.specs.Prelude.{ℕ, ◌≡◌, ◌≤◌, ◌⊎◌, List, [], ◌++◌, Option, None, Some, IfSome, Result, Ok, Err}
+use Rattle.std.specs.Prelude.{ℕ, ◌≡◌, ◌≤◌, ◌⊎◌, ⊤, List, [], ◌++◌, Option, None, Some, IfSome, Result, Ok, Err}
 use Rattle.amr_causes.specs.Bytes.{IsPrefix}
 use Rattle.amr_causes.specs.Causes.{Rose}
 use Rattle.amr_io.specs.Short.{IsProperPrefix}
@@ -21,7 +21,7 @@ use Rattle.amr_run.specs.declared.status.Status.{Status}
 use Rattle.amr_run.specs.declared.status.Status.TheVariants.{Done, Usage, ReadFault, Problem as BadProblem, DiskFault, Store, WriteFault, NoMemory}
 
 -- how a command ended: with its answer, or with the status that refuses it
-abbrev pub status_of : Result Unit Status → Status
+abbrev pub status_of : {T : Type 0} → Result T Status → Status
 status_of (Ok done) = Done
 status_of (Err status) = status
 
@@ -87,13 +87,14 @@ pub record IsCutShort (answers : List ℕ → List ℕ → Type 0) (out said : L
   pub answer : answers whole lines
   pub cut : (IsProperPrefix out whole × (said ≡ lines)) ⊎ ((out ≡ []) × IsProperPrefix said lines)
 
--- By what its answers are, with the lines that acknowledge checkpoints, and by what refuses it.
+-- By what its answers are, with the lines that acknowledge checkpoints, and by what refuses it. The disk and what it holds refuse only a
+-- problem without fault.
 abbrev pub RepliesKeeping : Status → (List ℕ → List ℕ → Type 0) → (Refusal → Type 0) → List ℕ → List ℕ → List ℕ → Type 0
 RepliesKeeping Done answers refuses bytes out said = answers out said
 RepliesKeeping (BadProblem fault) answers refuses bytes out said = (fault_of bytes ≡ Some fault) × (out ≡ []) × (said ≡ [])
 RepliesKeeping ReadFault answers refuses bytes out said = (out ≡ []) × (said ≡ [])
-RepliesKeeping (Store refusal) answers refuses bytes out said = refuses refusal × (out ≡ []) × (said ≡ [])
-RepliesKeeping DiskFault answers refuses bytes out said = (out ≡ []) × ((said ≡ []) ⊎ BeginsLines answers said)
+RepliesKeeping (Store refusal) answers refuses bytes out said = (fault_of bytes ≡ None) × refuses refusal × (out ≡ []) × (said ≡ [])
+RepliesKeeping DiskFault answers refuses bytes out said = (fault_of bytes ≡ None) × (out ≡ []) × ((said ≡ []) ⊎ BeginsLines answers said)
 RepliesKeeping WriteFault answers refuses bytes out said = IsCutShort answers out said
 RepliesKeeping NoMemory answers refuses bytes out said = (out ≡ []) × ((said ≡ []) ⊎ BeginsLines answers said)
 RepliesKeeping Usage answers refuses bytes out said = ⊥
@@ -124,36 +125,42 @@ pub record EndsByLine (status : Status) (said all : List ℕ) (before now : ℕ)
 
 -- ---- stops
 
+-- a call that puts or makes a store was begun and not finished only where the disk failed
+abbrev pub IsBegunAt : Status → Option Content → Type 0
+IsBegunAt DiskFault attempt = ⊤
+IsBegunAt _ attempt = attempt ≡ None
+
 -- A run found this on a disk that reads as the image, and goes on from it. A stop since leaves it, or what the run made last or makes next.
 -- Before that time the disk was only read: from a moment on at which a stop leaves nothing but the image, as where a sync returns, it leaves that.
-pub record RunsThrough (leaves : ℕ → List ℕ → Type 0) (before now : ℕ) (image bytes : List ℕ) (p : Problem) (every target : ℕ) (said : List ℕ) : Type 0 where
+pub record RunsThrough (leaves : ℕ → List ℕ → Type 0) (before now : ℕ) (status : Status) (image bytes : List ℕ) (p : Problem) (every target : ℕ) (said : List ℕ) : Type 0 where
   pub found : Time
   pub since : before ≤ found.moment
   pub stays : StaysDurable (Some image) before found.moment leaves
   pub held : Holds image found.content
   pub on : GoesOn bytes target found.content
   pub stops : StopsOfRun leaves found now (to_make bytes p every found.content target) said
+  pub begun : IsBegunAt status stops.attempt
 
--- where the disk tells what it reads, it was only read, or a run went on from it
-abbrev pub StopsKept : {D : Type 0} → (D → Option (List ℕ)) → (D → ℕ) → (D → ℕ → List ℕ → Type 0) → D → D → List ℕ → Problem → ℕ → ℕ → List ℕ → Type 0
-StopsKept seen moment leaves disk later_disk bytes p every target said =
-    (image : List ℕ) → seen disk ≡ Some image → OnlyReads seen moment leaves disk later_disk ⊎ RunsThrough (leaves later_disk) (moment disk) (moment later_disk) image bytes p every target said
+-- Where the disk tells what it reads, it was only read and nothing was said of checkpoints, or a run went on from it.
+abbrev pub StopsKept : {D : Type 0} → (D → Option (List ℕ)) → (D → ℕ) → (D → ℕ → List ℕ → Type 0) → D → D → Status → List ℕ → Problem → ℕ → ℕ → List ℕ → Type 0
+StopsKept seen moment leaves disk later_disk status bytes p every target said =
+    (image : List ℕ) → seen disk ≡ Some image → (OnlyReads seen moment leaves disk later_disk × (said ≡ [])) ⊎ RunsThrough (leaves later_disk) (moment disk) (moment later_disk) status image bytes p every target said
 
 -- of the problem that the bytes of the source are, at the step that it stops at
-pub record RunsThroughTo (leaves : ℕ → List ℕ → Type 0) (before now : ℕ) (image bytes : List ℕ) (to : Option ℕ) (every : ℕ) (said : List ℕ) : Type 0 where
+pub record RunsThroughTo (leaves : ℕ → List ℕ → Type 0) (before now : ℕ) (status : Status) (image bytes : List ℕ) (to : Option ℕ) (every : ℕ) (said : List ℕ) : Type 0 where
   pub problem : Problem
   pub accepted : IsProblemOf bytes problem
-  pub through : RunsThrough leaves before now image bytes problem every (stop_of to problem) said
+  pub through : RunsThrough leaves before now status image bytes problem every (stop_of to problem) said
 
-abbrev pub StopsRun : {D : Type 0} → (D → Option (List ℕ)) → (D → ℕ) → (D → ℕ → List ℕ → Type 0) → D → D → List ℕ → Option ℕ → ℕ → List ℕ → Type 0
-StopsRun seen moment leaves disk later_disk bytes to every said =
-    (image : List ℕ) → seen disk ≡ Some image → OnlyReads seen moment leaves disk later_disk ⊎ RunsThroughTo (leaves later_disk) (moment disk) (moment later_disk) image bytes to every said
+abbrev pub StopsRun : {D : Type 0} → (D → Option (List ℕ)) → (D → ℕ) → (D → ℕ → List ℕ → Type 0) → D → D → Status → List ℕ → Option ℕ → ℕ → List ℕ → Type 0
+StopsRun seen moment leaves disk later_disk status bytes to every said =
+    (image : List ℕ) → seen disk ≡ Some image → (OnlyReads seen moment leaves disk later_disk × (said ≡ [])) ⊎ RunsThroughTo (leaves later_disk) (moment disk) (moment later_disk) status image bytes to every said
 
 -- By the command: any other than a run that keeps checkpoints only reads.
-abbrev pub StopsTo : {D : Type 0} → (D → Option (List ℕ)) → (D → ℕ) → (D → ℕ → List ℕ → Type 0) → D → D → Option Command → List ℕ → List ℕ → Type 0
-StopsTo seen moment leaves disk later_disk None bytes said = OnlyReads seen moment leaves disk later_disk
-StopsTo seen moment leaves disk later_disk (Some (Run workers to None)) bytes said = OnlyReads seen moment leaves disk later_disk
-StopsTo seen moment leaves disk later_disk (Some (Run workers to (Some every))) bytes said = StopsRun seen moment leaves disk later_disk bytes to every said
-StopsTo seen moment leaves disk later_disk (Some Check) bytes said = OnlyReads seen moment leaves disk later_disk
-StopsTo seen moment leaves disk later_disk (Some Show) bytes said = OnlyReads seen moment leaves disk later_disk
-StopsTo seen moment leaves disk later_disk (Some (Trial number size workers)) bytes said = OnlyReads seen moment leaves disk later_disk
+abbrev pub StopsTo : {D : Type 0} → (D → Option (List ℕ)) → (D → ℕ) → (D → ℕ → List ℕ → Type 0) → D → D → Status → Option Command → List ℕ → List ℕ → Type 0
+StopsTo seen moment leaves disk later_disk status None bytes said = OnlyReads seen moment leaves disk later_disk
+StopsTo seen moment leaves disk later_disk status (Some (Run workers to None)) bytes said = OnlyReads seen moment leaves disk later_disk
+StopsTo seen moment leaves disk later_disk status (Some (Run workers to (Some every))) bytes said = StopsRun seen moment leaves disk later_disk status bytes to every said
+StopsTo seen moment leaves disk later_disk status (Some Check) bytes said = OnlyReads seen moment leaves disk later_disk
+StopsTo seen moment leaves disk later_disk status (Some Show) bytes said = OnlyReads seen moment leaves disk later_disk
+StopsTo seen moment leaves disk later_disk status (Some (Trial number size workers)) bytes said = OnlyReads seen moment leaves disk later_disk

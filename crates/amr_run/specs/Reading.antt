@@ -2,7 +2,7 @@
 use Rattle.std.specs.Prelude.{ℕ, ◌≡◌, ◌≤◌, List, length, Option, Some, Result, Ok, Err}
 use Rattle.std.specs.Io.KnownBytes.{Consumes}
 use Rattle.amr_problem.specs.Judgement.{fault_of, IsProblemOf}
-use Rattle.amr_run.specs.declared.reading.Given.{Given}
+use Rattle.amr_run.specs.declared.reading.ReadProblem.{ReadProblem}
 use Rattle.amr_run.specs.declared.status.Status.{Status}
 use Rattle.amr_run.specs.declared.status.Status.TheVariants as status
 
@@ -17,7 +17,7 @@ Refuses status.WriteFault bytes = ⊥
 Refuses status.DiskFault bytes = ⊥
 Refuses (status.Store reason) bytes = ⊥
 
-abbrev pub Reads : Result Given Status → List ℕ → Type 0
+abbrev pub Reads : Result ReadProblem Status → List ℕ → Type 0
 Reads (Ok given) bytes = (given.bytes.items ≡ bytes) × IsProblemOf bytes given.problem
 Reads (Err refusal) bytes = Refuses refusal bytes
 

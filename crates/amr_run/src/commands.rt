@@ -143,7 +143,7 @@ pub(crate) fn keep<R: Threads + Wait + Sync, S: Source, O: Sink, E: Sink, D: Dis
     ensures outcome { (bytes : List ℕ) × ((sent : List ℕ) × ((said : List ℕ) × WereLeft (S.left src.old) bytes
         × Grows O.holds out.old out.new sent × Grows E.holds err.old err.new said
         × RepliesKeeping (status_of result) (IsPlotOfKeptRun bytes marks.to marks.every (D.seen disk.old)) (λ refusal. IfSome (D.seen disk.old) (RefusesRunTo bytes marks.to refusal)) bytes sent said
-        × StopsRun D.seen D.moment D.leaves disk.old disk.new bytes marks.to marks.every said)) }
+        × StopsRun D.seen D.moment D.leaves disk.old disk.new (status_of result) bytes marks.to marks.every said)) }
     ensures ended { OnOk result (IsAtEnd (S.left src.new)) }
     ensures taken { TakesAtMost 65537 (S.left src.old) (S.left src.new) }
     ensures refused { IfErr result (λ status. status ≢ Status.Done) }
@@ -154,6 +154,8 @@ pub(crate) fn keep<R: Threads + Wait + Sync, S: Source, O: Sink, E: Sink, D: Dis
     ensures write_fault { result ≡ Err Status.WriteFault → (Rose (O.faults out.old) (O.faults out.new) × (E.faults err.new ≡ E.faults err.old)) ⊎ Rose (E.faults err.old) (E.faults err.new) }
     ensures no_write_fault { result ≢ Err Status.WriteFault → (O.faults out.new ≡ O.faults out.old) × (E.faults err.new ≡ E.faults err.old) }
     ensures unwritten { (refusal : _) → result ≡ Err (Status.Store refusal) → OnlyReads D.seen D.moment D.leaves disk.old disk.new }
+    ensures source_first { result ≡ Err Status.ReadFault → disk.new ≡ disk.old }
+    ensures judged_first { (fault : _) → result ≡ Err (Status.Problem fault) → disk.new ≡ disk.old }
 {
     let given = read_problem(workers.alloc, src)?;
     let keeping = Keeping {
@@ -172,6 +174,7 @@ pub(crate) fn show<O: Sink, D: Disk>(alloc: Global, out: &mut O, disk: &mut D) -
     ensures outcome { (sent : List ℕ) × Grows O.holds out.old out.new sent × RepliesShowing (status_of result) (D.seen disk.old) sent }
     ensures refused { IfErr result (λ status. status ≢ Status.Done) }
     ensures no_read_fault { result ≢ Err Status.ReadFault }
+    ensures no_problem { (fault : _) → result ≢ Err (Status.Problem fault) }
     ensures reads { OnlyReads D.seen D.moment D.leaves disk.old disk.new }
     ensures disk_fault { result ≡ Err Status.DiskFault → Rose (D.faults disk.old) (D.faults disk.new) }
     ensures no_disk_fault { result ≢ Err Status.DiskFault → D.faults disk.new ≡ D.faults disk.old }

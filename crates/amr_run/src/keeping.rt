@@ -14,7 +14,7 @@ ghost use Rattle.amr_problem.specs.Judgement.{IsProblemOf};
 ghost use Rattle.amr_store.specs.Phases.{OnlyReads};
 ghost use Rattle.amr_store.specs.Stands.{IsStoreReady, last_in, problem_in};
 ghost use Rattle.amr_run.specs.Kept.{KeptReplies};
-ghost use Rattle.amr_run.specs.Outcome.{StopsKept};
+ghost use Rattle.amr_run.specs.Outcome.{StopsKept, status_of};
 
 use crate::Status;
 use crate::commands::Workers;
@@ -166,8 +166,9 @@ pub(crate) fn keep_run<R: Threads + Wait + Sync, E: Sink, D: Disk, G: Gate + Syn
     ensures sound { IfOk result (λ m. IsSound keeping.now.problem.now (state_of m)) }
     ensures outcome { (said : List ℕ) × Grows E.holds err.old err.new said
         × KeptReplies result bytes.now keeping.now.problem.now keeping.now.every keeping.now.target (D.seen disk.old) said
-        × StopsKept D.seen D.moment D.leaves disk.old disk.new bytes.now keeping.now.problem.now keeping.now.every keeping.now.target said }
+        × StopsKept D.seen D.moment D.leaves disk.old disk.new (status_of result) bytes.now keeping.now.problem.now keeping.now.every keeping.now.target said }
     ensures refused { IfErr result (λ status. (status ≢ Status.Done) × (status ≢ Status.ReadFault)) }
+    ensures no_problem { (fault : _) → result ≢ Err (Status.Problem fault) }
     ensures disk_fault { result ≡ Err Status.DiskFault → Rose (D.faults disk.old) (D.faults disk.new) }
     ensures no_disk_fault { result ≢ Err Status.DiskFault → D.faults disk.new ≡ D.faults disk.old }
     ensures write_fault { result ≡ Err Status.WriteFault → Rose (E.faults err.old) (E.faults err.new) }

@@ -16,13 +16,13 @@ const MOST_BYTES: usize = 65536;
 
 /// A problem, and the bytes that it was read from.
 #[derive(Drop)]
-pub(crate) struct Given {
+pub(crate) struct ReadProblem {
     pub bytes: Vec<u8>,
     pub problem: Problem,
 }
 
 /// The problem that the source gives, read to its end.
-pub(crate) fn read_problem<S: Source>(alloc: Global, src: &mut S) -> Result<Given, Status>
+pub(crate) fn read_problem<S: Source>(alloc: Global, src: &mut S) -> Result<ReadProblem, Status>
     ensures problem { (bytes : List ℕ) × WereLeft (S.left src.old) bytes × Reads result bytes }
     ensures ended { OnOk result (IsAtEnd (S.left src.new)) }
     ensures taken { TakesAtMost 65537 (S.left src.old) (S.left src.new) }
@@ -31,5 +31,5 @@ pub(crate) fn read_problem<S: Source>(alloc: Global, src: &mut S) -> Result<Give
 {
     let bytes = read_all(alloc, src, MOST_BYTES)?;
     let problem = judge(alloc, &bytes)?;
-    Ok(Given { bytes, problem })
+    Ok(ReadProblem { bytes, problem })
 }

@@ -51,7 +51,7 @@ pub fn amr<R: Threads + Wait + Sync, S: Source, O: Sink, E: Sink, D: Disk>(
     // line on `err` is of a checkpoint that stands.
     ensures stops { (bytes : List ℕ) × ((said : List ℕ) × ((all : List ℕ) × WereLeft (S.left src.old) bytes × Grows E.holds err.old err.new all
         × EndsByLine result said all (E.faults err.old) (E.faults err.new)
-        × StopsTo D.seen D.moment D.leaves disk.old disk.new (command_of words.now) bytes said)) }
+        × StopsTo D.seen D.moment D.leaves disk.old disk.new result (command_of words.now) bytes said)) }
 
     // Where a command that reads its source is done, nothing of it is left. Any other leaves it as it was.
     ensures ended { (command : _) → command_of words.now ≡ Some command → ReadsSource command → result ≡ Status.Done → IsAtEnd (S.left src.new) }
@@ -63,6 +63,10 @@ pub fn amr<R: Threads + Wait + Sync, S: Source, O: Sink, E: Sink, D: Disk>(
     // A command that opens no store leaves the disk as it was. A store that refuses a command was not written.
     ensures unopened { (command : _) → command_of words.now ≡ Some command → ¬ (OpensStore command) → disk.new ≡ disk.old }
     ensures unwritten { (refusal : _) → result ≡ Status.Store refusal → OnlyReads D.seen D.moment D.leaves disk.old disk.new }
+
+    // The disk is called once the source was read and its problem judged: where either ends the call, the disk is as it was.
+    ensures source_first { result ≡ Status.ReadFault → disk.new ≡ disk.old }
+    ensures judged_first { (fault : _) → result ≡ Status.Problem fault → disk.new ≡ disk.old }
 
     // Words that are no command leave the source, `out` and the disk as they were.
     ensures untouched { result ≡ Status.Usage → (src.new ≡ src.old) × (out.new ≡ out.old) × (disk.new ≡ disk.old) }
@@ -110,12 +114,14 @@ pub fn amr_gated<R: Threads + Wait + Sync, S: Source, O: Sink, E: Sink, D: Disk,
         × EndsByLine result said all (E.faults err.old) (E.faults err.new)))) }
     ensures stops { (bytes : List ℕ) × ((said : List ℕ) × ((all : List ℕ) × WereLeft (S.left src.old) bytes × Grows E.holds err.old err.new all
         × EndsByLine result said all (E.faults err.old) (E.faults err.new)
-        × StopsTo D.seen D.moment D.leaves disk.old disk.new (command_of words.now) bytes said)) }
+        × StopsTo D.seen D.moment D.leaves disk.old disk.new result (command_of words.now) bytes said)) }
     ensures ended { (command : _) → command_of words.now ≡ Some command → ReadsSource command → result ≡ Status.Done → IsAtEnd (S.left src.new) }
     ensures unread { (command : _) → command_of words.now ≡ Some command → ¬ (ReadsSource command) → src.new ≡ src.old }
     ensures taken { TakesAtMost 65537 (S.left src.old) (S.left src.new) }
     ensures unopened { (command : _) → command_of words.now ≡ Some command → ¬ (OpensStore command) → disk.new ≡ disk.old }
     ensures unwritten { (refusal : _) → result ≡ Status.Store refusal → OnlyReads D.seen D.moment D.leaves disk.old disk.new }
+    ensures source_first { result ≡ Status.ReadFault → disk.new ≡ disk.old }
+    ensures judged_first { (fault : _) → result ≡ Status.Problem fault → disk.new ≡ disk.old }
     ensures untouched { result ≡ Status.Usage → (src.new ≡ src.old) × (out.new ≡ out.old) × (disk.new ≡ disk.old) }
     ensures quiet { (command : _) → command_of words.now ≡ Some command → ¬ (KeepsCheckpoints command) → result ≡ Status.Done → err.new ≡ err.old }
     ensures read_fault { result ≡ Status.ReadFault → Rose (S.faults src.old) (S.faults src.new) }
@@ -161,7 +167,7 @@ fn serve<R: Threads + Wait + Sync, S: Source, O: Sink, E: Sink, D: Disk, G: Gate
     ensures outcome { (bytes : List ℕ) × ((sent : List ℕ) × ((said : List ℕ) × WereLeft (S.left src.old) bytes
         × Grows O.holds out.old out.new sent × Grows E.holds err.old err.new said
         × Outcome result (command_of words.now) bytes (D.seen disk.old) sent said
-        × StopsTo D.seen D.moment D.leaves disk.old disk.new (command_of words.now) bytes said)) }
+        × StopsTo D.seen D.moment D.leaves disk.old disk.new result (command_of words.now) bytes said)) }
     ensures ended { (command : _) → command_of words.now ≡ Some command → ReadsSource command → result ≡ Status.Done → IsAtEnd (S.left src.new) }
     ensures unread { (command : _) → command_of words.now ≡ Some command → ¬ (ReadsSource command) → src.new ≡ src.old }
     ensures unopened { (command : _) → command_of words.now ≡ Some command → ¬ (OpensStore command) → disk.new ≡ disk.old }
@@ -169,6 +175,8 @@ fn serve<R: Threads + Wait + Sync, S: Source, O: Sink, E: Sink, D: Disk, G: Gate
     ensures taken { TakesAtMost 65537 (S.left src.old) (S.left src.new) }
     ensures untouched { result ≡ Status.Usage → (src.new ≡ src.old) × (out.new ≡ out.old) × (err.new ≡ err.old) × (disk.new ≡ disk.old) }
     ensures unwritten { (refusal : _) → result ≡ Status.Store refusal → OnlyReads D.seen D.moment D.leaves disk.old disk.new }
+    ensures source_first { result ≡ Status.ReadFault → disk.new ≡ disk.old }
+    ensures judged_first { (fault : _) → result ≡ Status.Problem fault → disk.new ≡ disk.old }
     ensures read_fault { result ≡ Status.ReadFault → Rose (S.faults src.old) (S.faults src.new) }
     ensures disk_fault { result ≡ Status.DiskFault → Rose (D.faults disk.old) (D.faults disk.new) }
     ensures write_fault { result ≡ Status.WriteFault → (Rose (O.faults out.old) (O.faults out.new) × (E.faults err.new ≡ E.faults err.old)) ⊎ Rose (E.faults err.old) (E.faults err.new) }
@@ -201,7 +209,7 @@ fn answer<R: Threads + Wait + Sync, S: Source, O: Sink, E: Sink, D: Disk, G: Gat
     ensures outcome { (bytes : List ℕ) × ((sent : List ℕ) × ((said : List ℕ) × WereLeft (S.left src.old) bytes
         × Grows O.holds out.old out.new sent × Grows E.holds err.old err.new said
         × RepliesTo (status_of result) command bytes (D.seen disk.old) sent said
-        × StopsTo D.seen D.moment D.leaves disk.old disk.new (Some command) bytes said)) }
+        × StopsTo D.seen D.moment D.leaves disk.old disk.new (status_of result) (Some command) bytes said)) }
     ensures ended { ReadsSource command → OnOk result (IsAtEnd (S.left src.new)) }
     ensures unread { ¬ (ReadsSource command) → src.new ≡ src.old }
     ensures unopened { ¬ (OpensStore command) → disk.new ≡ disk.old }
@@ -209,6 +217,8 @@ fn answer<R: Threads + Wait + Sync, S: Source, O: Sink, E: Sink, D: Disk, G: Gat
     ensures taken { TakesAtMost 65537 (S.left src.old) (S.left src.new) }
     ensures refused { IfErr result (λ status. (status ≢ Status.Done) × (status ≢ Status.Usage)) }
     ensures unwritten { (refusal : _) → result ≡ Err (Status.Store refusal) → OnlyReads D.seen D.moment D.leaves disk.old disk.new }
+    ensures source_first { result ≡ Err Status.ReadFault → disk.new ≡ disk.old }
+    ensures judged_first { (fault : _) → result ≡ Err (Status.Problem fault) → disk.new ≡ disk.old }
     ensures read_fault { result ≡ Err Status.ReadFault → Rose (S.faults src.old) (S.faults src.new) }
     ensures no_read_fault { result ≢ Err Status.ReadFault → S.faults src.new ≡ S.faults src.old }
     ensures disk_fault { result ≡ Err Status.DiskFault → Rose (D.faults disk.old) (D.faults disk.new) }

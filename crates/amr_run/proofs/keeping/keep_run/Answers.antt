@@ -11,8 +11,10 @@ use Rattle.amr_drive.proofs.Finishes.{finish_sound}
 use Rattle.amr_store.specs.Phases.{OnlyReads}
 use Rattle.amr_run.specs.Kept.{KeptReplies}
 use Rattle.amr_run.specs.Refusals.{keep_refused, resume_refused}
+use Rattle.amr_run.specs.Outcome.{StopsKept}
 use Rattle.amr_run.specs.declared.status.Status.{Status}
-use Rattle.amr_run.proofs.KeptOutcomes.{disk_cause, found_sound, is_kept_run, no_disk_cause, no_store, no_write_cause, stops_kept, unkept, unresumed}
+use Rattle.amr_run.specs.declared.status.Status.TheVariants.{Done}
+use Rattle.amr_run.proofs.KeptOutcomes.{begun_by, disk_cause, found_sound, is_kept_run, no_disk_cause, no_store, no_write_cause, stops_kept, unkept, unresumed}
 use Rattle.amr_run.proofs.StoreOutcomes.{if_told}
 use Rattle.amr_run.proofs.keeping.keep_run.Goals as goal
 
@@ -21,8 +23,8 @@ returns-in-Err-clause-outcome g c =
     let is : c.from.result ≡ resume_refused c.in-Err.fault = c.from.ensures in (
       [],
       grows_none g.E.Sink.holds c.args.err.now,
-      subst (λ (s : Status). KeptReplies (Err s) c.args.bytes.now c.args.keeping.now.problem.now c.args.keeping.now.every c.args.keeping.now.target (g.D.Disk.seen c.args.disk.now) []) (sym is) (unresumed c.args.bytes.now c.args.keeping.now.problem.now c.args.keeping.now.every c.args.keeping.now.target (g.D.Disk.seen c.args.disk.now) c.in-Err.fault (λ refusal image same told. c.in-Err.ensures.refused refusal image (ap Err same) told)),
-      λ image told. inl c.in-Err.ensures.reads,
+      subst (λ (s : Status). KeptReplies (Err s) c.args.bytes.now c.args.keeping.now.problem.now c.args.keeping.now.every c.args.keeping.now.target (g.D.Disk.seen c.args.disk.now) []) (sym is) (unresumed c.args.bytes.now c.args.keeping.now.problem.now c.args.keeping.now.every c.args.keeping.now.target (g.D.Disk.seen c.args.disk.now) c.in-Err.fault c.requires.accepted.clean (λ refusal image same told. c.in-Err.ensures.refused refusal image (ap Err same) told)),
+      λ image told. inl (c.in-Err.ensures.reads, refl),
     )
 
 pub run_from-requires-clause-holds : goal.run_from-requires-clause-holds
@@ -43,7 +45,7 @@ returns-in-Ok-run_from-clause-outcome g c =
       run.said,
       run.grows,
       is_kept_run c.args.bytes.now c.args.keeping.now.problem.now c.args.keeping.now.every c.args.keeping.now.target (g.D.Disk.seen c.args.disk.now) c.in-Ok.resumed _ run.said can held c.requires.within (ap (plot p) c.in-Ok-run_from.ensures.value) run.says.0,
-      stops_kept g.D.Disk.seen g.D.Disk.moment g.D.Disk.leaves g.D.Disk.faults g.E.Sink.holds g.E.Sink.faults c.args.bytes.now c.args.keeping.now.problem.now c.args.keeping.now.every c.args.keeping.now.target c.in-Ok.resumed c.args.disk.now c.resume.new.disk c.run_from.new.disk c.args.err.now c.run_from.new.err None c.in-Ok.ensures.reads c.in-Ok.ensures.settled (λ image told. c.in-Ok.ensures.holds image p told c.requires.accepted) can run,
+      stops_kept g.D.Disk.seen g.D.Disk.moment g.D.Disk.leaves g.D.Disk.faults g.E.Sink.holds g.E.Sink.faults c.args.bytes.now c.args.keeping.now.problem.now c.args.keeping.now.every c.args.keeping.now.target c.in-Ok.resumed c.args.disk.now c.resume.new.disk c.run_from.new.disk c.args.err.now c.run_from.new.err None Done (λ attempt is. is) c.in-Ok.ensures.reads c.in-Ok.ensures.settled (λ image told. c.in-Ok.ensures.holds image p told c.requires.accepted) can run,
     )
 
 pub returns-in-Err-run_from-clause-outcome : goal.returns-in-Err-run_from-clause-outcome
@@ -60,8 +62,9 @@ returns-in-Err-run_from-clause-outcome g c =
       run.said,
       run.grows,
       subst (λ (s : Status). KeptReplies (Err s) c.args.bytes.now c.args.keeping.now.problem.now c.args.keeping.now.every c.args.keeping.now.target (g.D.Disk.seen c.args.disk.now) run.said) (sym is)
-          (unkept c.args.bytes.now c.args.keeping.now.problem.now c.args.keeping.now.every c.args.keeping.now.target (g.D.Disk.seen c.args.disk.now) (answer_of_run p found target) lines run.said (g.E.Sink.faults c.args.err.now) (g.E.Sink.faults c.run_from.new.err) c.in-Err-run_from.fault answer run.says),
-      stops_kept g.D.Disk.seen g.D.Disk.moment g.D.Disk.leaves g.D.Disk.faults g.E.Sink.holds g.E.Sink.faults c.args.bytes.now c.args.keeping.now.problem.now c.args.keeping.now.every c.args.keeping.now.target c.in-Ok.resumed c.args.disk.now c.resume.new.disk c.run_from.new.disk c.args.err.now c.run_from.new.err (Some c.in-Err-run_from.fault) c.in-Ok.ensures.reads c.in-Ok.ensures.settled (λ image told. c.in-Ok.ensures.holds image p told c.requires.accepted) can run,
+          (unkept c.args.bytes.now c.args.keeping.now.problem.now c.args.keeping.now.every c.args.keeping.now.target (g.D.Disk.seen c.args.disk.now) (answer_of_run p found target) lines run.said (g.E.Sink.faults c.args.err.now) (g.E.Sink.faults c.run_from.new.err) c.in-Err-run_from.fault c.requires.accepted.clean answer run.says),
+      subst (λ (s : Status). StopsKept g.D.Disk.seen g.D.Disk.moment g.D.Disk.leaves c.args.disk.now c.run_from.new.disk s c.args.bytes.now c.args.keeping.now.problem.now c.args.keeping.now.every c.args.keeping.now.target run.said) (sym is)
+          (stops_kept g.D.Disk.seen g.D.Disk.moment g.D.Disk.leaves g.D.Disk.faults g.E.Sink.holds g.E.Sink.faults c.args.bytes.now c.args.keeping.now.problem.now c.args.keeping.now.every c.args.keeping.now.target c.in-Ok.resumed c.args.disk.now c.resume.new.disk c.run_from.new.disk c.args.err.now c.run_from.new.err (Some c.in-Err-run_from.fault) (keep_refused c.in-Err-run_from.fault) (begun_by c.in-Err-run_from.fault) c.in-Ok.ensures.reads c.in-Ok.ensures.settled (λ image told. c.in-Ok.ensures.holds image p told c.requires.accepted) can run),
     )
 
 pub returns-in-Err-run_from-clause-disk_fault : goal.returns-in-Err-run_from-clause-disk_fault

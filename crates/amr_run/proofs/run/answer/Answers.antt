@@ -21,7 +21,7 @@ returns-in-Run-default-default-None-clause-outcome g c =
           done.1.2,
           grows_none g.E.Sink.holds c.args.err.now,
           subst (λ (command : Command). RepliesTo (status_of c.run.result) command done.0 seen done.1.0 []) is (done.1.3, refl),
-          stops_none g.D.Disk.seen g.D.Disk.moment g.D.Disk.leaves c.args.disk.now (Some c.args.command) done.0 [],
+          stops_none g.D.Disk.seen g.D.Disk.moment g.D.Disk.leaves c.args.disk.now _ (Some c.args.command) done.0,
         ),
       ),
     )
@@ -42,7 +42,7 @@ returns-in-Run-default-default-Some-clause-outcome g c =
           all.2,
           all.3,
           subst (λ (command : Command). RepliesTo (status_of c.keep.result) command done.0 seen done.1.0 all.0) is all.4,
-          subst (λ (command : Command). StopsTo g.D.Disk.seen g.D.Disk.moment g.D.Disk.leaves c.args.disk.now c.keep.new.disk (Some command) done.0 all.0) is all.5,
+          subst (λ (command : Command). StopsTo g.D.Disk.seen g.D.Disk.moment g.D.Disk.leaves c.args.disk.now c.keep.new.disk (status_of c.keep.result) (Some command) done.0 all.0) is all.5,
         ),
       ),
     )
@@ -60,7 +60,7 @@ returns-in-Check-clause-outcome g c =
           done.1.2,
           grows_none g.E.Sink.holds c.args.err.now,
           subst (λ (command : Command). RepliesTo (status_of c.check.result) command done.0 seen done.1.0 []) (sym c.in-Check.is) (done.1.3, refl),
-          stops_none g.D.Disk.seen g.D.Disk.moment g.D.Disk.leaves c.args.disk.now (Some c.args.command) done.0 [],
+          stops_none g.D.Disk.seen g.D.Disk.moment g.D.Disk.leaves c.args.disk.now _ (Some c.args.command) done.0,
         ),
       ),
     )
@@ -79,7 +79,7 @@ returns-in-Show-clause-outcome g c =
           said.1,
           grows_none g.E.Sink.holds c.args.err.now,
           subst (λ (command : Command). RepliesTo (status_of c.show.result) command left.0 seen said.0 []) (sym c.in-Show.is) (said.2, refl),
-          subst (λ (command : Command). StopsTo g.D.Disk.seen g.D.Disk.moment g.D.Disk.leaves c.args.disk.now c.show.new.disk (Some command) left.0 []) (sym c.in-Show.is) c.show.ensures.reads,
+          subst (λ (command : Command). StopsTo g.D.Disk.seen g.D.Disk.moment g.D.Disk.leaves c.args.disk.now c.show.new.disk (status_of c.show.result) (Some command) left.0 []) (sym c.in-Show.is) c.show.ensures.reads,
         ),
       ),
     )
@@ -98,7 +98,7 @@ returns-in-Trial-clause-outcome g c =
           said.1,
           grows_none g.E.Sink.holds c.args.err.now,
           subst (λ (command : Command). RepliesTo (status_of c.trial.result) command left.0 seen said.0 []) (sym c.in-Trial.is) (said.2, refl),
-          stops_none g.D.Disk.seen g.D.Disk.moment g.D.Disk.leaves c.args.disk.now (Some c.args.command) left.0 [],
+          stops_none g.D.Disk.seen g.D.Disk.moment g.D.Disk.leaves c.args.disk.now _ (Some c.args.command) left.0,
         ),
       ),
     )

@@ -3,7 +3,7 @@ use Rattle.amr_causes.proofs.ByteLaws.{grows_none, were_left}
 use Rattle.amr_cli.specs.declared.command.Command.{Command}
 use Rattle.amr_cli.specs.Words.{command_of}
 use Rattle.amr_run.specs.Outcome.{Outcome, StopsTo}
-use Rattle.amr_run.specs.declared.status.Status.TheVariants.{Done, Usage}
+use Rattle.amr_run.specs.declared.status.Status.TheVariants.{Done, NoMemory, Usage}
 use Rattle.amr_run.proofs.KeptOutcomes.{stops_none}
 use Rattle.amr_run.proofs.Outcomes.{of_command, of_no_memory}
 use Rattle.amr_run.proofs.run.serve.Goals as goal
@@ -22,7 +22,7 @@ returns-in-Err-Usage-clause-outcome g c =
           grows_none g.O.Sink.holds c.args.out.now,
           grows_none g.E.Sink.holds c.args.err.now,
           subst (λ (o : Option Command). Outcome Usage o left.0 seen [] []) (sym none) (refl, refl),
-          stops_none g.D.Disk.seen g.D.Disk.moment g.D.Disk.leaves c.args.disk.now (command_of c.args.words.now) left.0 [],
+          stops_none g.D.Disk.seen g.D.Disk.moment g.D.Disk.leaves c.args.disk.now Usage (command_of c.args.words.now) left.0,
         ),
       ),
     )
@@ -39,7 +39,7 @@ returns-in-Err-NoMemory-clause-outcome g c =
           grows_none g.O.Sink.holds c.args.out.now,
           grows_none g.E.Sink.holds c.args.err.now,
           of_no_memory (command_of c.args.words.now) left.0 (g.D.Disk.seen c.args.disk.now),
-          stops_none g.D.Disk.seen g.D.Disk.moment g.D.Disk.leaves c.args.disk.now (command_of c.args.words.now) left.0 [],
+          stops_none g.D.Disk.seen g.D.Disk.moment g.D.Disk.leaves c.args.disk.now NoMemory (command_of c.args.words.now) left.0,
         ),
       ),
     )
@@ -57,7 +57,7 @@ returns-in-Ok-answer-clause-outcome g c =
           all.2,
           all.3,
           of_command Done (command_of c.args.words.now) c.in-Ok.command done.0 (g.D.Disk.seen c.args.disk.now) done.1.0 all.0 c.in-Ok.ensures.command all.4,
-          subst (λ (o : Option Command). StopsTo g.D.Disk.seen g.D.Disk.moment g.D.Disk.leaves c.args.disk.now c.answer.new.disk o done.0 all.0) (sym c.in-Ok.ensures.command) all.5,
+          subst (λ (o : Option Command). StopsTo g.D.Disk.seen g.D.Disk.moment g.D.Disk.leaves c.args.disk.now c.answer.new.disk Done o done.0 all.0) (sym c.in-Ok.ensures.command) all.5,
         ),
       ),
     )
@@ -75,7 +75,7 @@ returns-in-Err-clause-outcome g c =
           all.2,
           all.3,
           of_command c.in-Err.refusal (command_of c.args.words.now) c.in-Ok.command done.0 (g.D.Disk.seen c.args.disk.now) done.1.0 all.0 c.in-Ok.ensures.command all.4,
-          subst (λ (o : Option Command). StopsTo g.D.Disk.seen g.D.Disk.moment g.D.Disk.leaves c.args.disk.now c.answer.new.disk o done.0 all.0) (sym c.in-Ok.ensures.command) all.5,
+          subst (λ (o : Option Command). StopsTo g.D.Disk.seen g.D.Disk.moment g.D.Disk.leaves c.args.disk.now c.answer.new.disk c.in-Err.refusal o done.0 all.0) (sym c.in-Ok.ensures.command) all.5,
         ),
       ),
     )
