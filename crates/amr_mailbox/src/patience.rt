@@ -3,9 +3,8 @@
 use std::hint::spin_loop;
 use std::thread::yield_now;
 
-// Looks that come one at once after the other: they take some 150 microseconds, longer than the work of one thread between
-// two steps of a level of one level alone. A thread that sleeps in the kernel takes as long to wake.
-const SPINS: u32 = 1 << 15;
+// Looks that come one at once after the other: they take some 10 microseconds.
+const SPINS: u32 = 2048;
 
 /// Counts the looks of one wait. The first ones come at once; before a later one another thread has to run.
 #[derive(Drop)]
