@@ -11,12 +11,14 @@ use amr_advance::{Crew, Workers};
 use amr_causes::NoMemory;
 use amr_cycle::{Kept, step, step_kept};
 use amr_decoder::decode2;
-use amr_def::Problem;
+use amr_def::{Block, Blocks, Name, Problem, Row, Shear, Sides, Thresholds};
+use amr_drive::start;
 use amr_patch::{Level, Mesh};
 use amr_samples::{Turnstile, nine_columns, ring};
 use amr_start::base;
 use amr_workers::OpenGate;
 use std::alloc::Global;
+use std::process::Abort;
 use std::sync::Wait;
 use std::test::Fail;
 use std::thread::Threads;
@@ -27,16 +29,16 @@ const CREW: Crew = Crew {
     workers: 2,
 };
 
-/// The payload of step 0 with a mass of 7 in cell (1, 0), and with one box of columns `x` and `x + 1` on level 1. It
-/// has the step, the row, and two levels.
-fn seven(alloc: Global, x: u8) -> Result<Vec<u8>, Fail> {
+/// The payload of step 0 with a mass in cell (1, 0), and with one box of columns `x` and `x + 1` on level 1. It has the step, the
+/// row, and two levels.
+fn spot(alloc: Global, mass: u32, x: u8) -> Result<Vec<u8>, Fail> {
     let low = u32::from(x);
     let mut bytes = Vec::new(alloc);
-    for number in [0u32, 7, 0, 0, 0, 0, 0] {
+    for number in [0, mass, 0, 0, 0, 0, 0] {
         bytes.extend_from_slice(&number.to_le_bytes())?;
     }
     bytes.push(2)?;
-    for number in [1u32, 0, 0, 3, 1, 0, 7, 0, 0, 0, 0, 0, 0] {
+    for number in [1, 0, 0, 3, 1, 0, mass, 0, 0, 0, 0, 0, 0] {
         bytes.extend_from_slice(&number.to_le_bytes())?;
     }
     for number in [1, low, 0, low + 1, 1, 0, 0, 0, 0] {
@@ -54,26 +56,129 @@ fn mesh_of(alloc: Global, p: &Problem, bytes: &[u8]) -> Result<Mesh, Fail>
     Ok(decode2(alloc, p, bytes)?)
 }
 
-/// The fine cells take a quarter of 7 each, cut to 1, in both of their steps; the plain coarse flux was 7, so the register gives 3
-/// back.
+/// The ledger's rows and the levels after a step, where there is one to come.
+fn stepped<R: Threads + Wait + Sync>(
+    rt: &R,
+    p: &Problem,
+    mut mesh: Mesh,
+) -> Result<(Vec<Row>, Vec<Level>), NoMemory>
+    requires whole { is_spent mesh ≡ false }
+    requires sound { IsSound p.now (state_of mesh) }
+    requires coarsenable { AreCoarsenableAbove (levels_of mesh) }
+{
+    if p.steps <= mesh.step() {
+        return Ok(mesh.take());
+    }
+    step(rt, p, &mut mesh, CREW, &OpenGate)?;
+    Ok(mesh.take())
+}
+
+/// Row 0 of the ring, and each of its fine cells, after a step from a mass in cell (1, 0).
+fn assert_beside_a_finer_box<R: Abort + Threads + Wait + Sync>(
+    rt: &R,
+    alloc: Global,
+    mass: u32,
+    first_row: [u64; 4],
+    fine: u64,
+) -> Result<(), Fail> {
+    let p = ring(alloc)?;
+    let bytes = spot(alloc, mass, 4)?;
+    let mesh = mesh_of(alloc, &p, &bytes)?;
+    let (rows, levels) = stepped(rt, &p, mesh)?;
+    let last = Row {
+        mass: u64::from(mass),
+        inflow: 0,
+        outflow: 0,
+    };
+    assert_eq!(rt; rows.get(1).copied(), Some(last));
+    assert_eq!(rt;
+        row(alloc, &levels, 0, 0, 4)?.as_slice(),
+        first_row.as_slice()
+    );
+    assert_eq!(rt; row(alloc, &levels, 0, 1, 4)?.as_slice(), [0; 4].as_slice());
+    for y in 0..2 {
+        assert_eq!(rt;
+            row(alloc, &levels, 1, y, 7)?.as_slice(),
+            [99, 99, 99, 99, fine, fine, 99].as_slice()
+        );
+    }
+    Ok(())
+}
+
+/// Of 7 the fine cells take a quarter each, cut to 1, in both of their steps; the plain coarse flux was 7, so the register gives 3
+/// back. Of 8 they take all of it, and of 2 nothing.
 #[test]
 fn a_ring_with_a_finer_box(rt: HostRuntime) -> Result<(), Fail> {
     let alloc = rt.alloc();
-    let p = ring(alloc)?;
-    let bytes = seven(alloc, 4)?;
-    let mut mesh = mesh_of(alloc, &p, &bytes)?;
-    if mesh.step() == 0 {
-        step(&rt, &p, &mut mesh, CREW, &OpenGate)?;
-        let (rows, levels) = mesh.take();
-        let row = rows.get(1).copied();
-        assert_eq!(rt; row.map(|r| (r.mass, r.inflow, r.outflow)), Some((7, 0, 0)));
-        for (x, mass) in [(0, 0), (1, 3), (2, 4), (3, 0)] {
-            assert_eq!(rt; mass_at(&levels, 0, x, 0), Some(mass));
-            assert_eq!(rt; mass_at(&levels, 0, x, 1), Some(0));
-        }
-        for (x, y) in [(4, 0), (5, 0), (4, 1), (5, 1)] {
-            assert_eq!(rt; mass_at(&levels, 1, x, y), Some(1));
-        }
+    assert_beside_a_finer_box(&rt, alloc, 7, [0, 3, 4, 0], 1)?;
+    assert_beside_a_finer_box(&rt, alloc, 8, [0, 0, 8, 0], 2)?;
+    assert_beside_a_finer_box(&rt, alloc, 2, [0, 2, 0, 0], 0)
+}
+
+/// A mass of 8 in each cell of column 0.
+const COLUMN: Block = Block {
+    x0: 0,
+    y0: 0,
+    x1: 0,
+    y1: 1,
+    mass: 8,
+};
+
+/// A periodic problem of 2 by 2 cells with up to two levels, where half of what a cell has flows one column on in a step.
+fn square(alloc: Global) -> Result<Problem, NoMemory> {
+    Ok(Problem {
+        version: 1,
+        name: Name::make(Vec::from_slice(alloc, b"ring")?),
+        nx: 2,
+        ny: 2,
+        steps: 1,
+        cx: 1,
+        cy: 0,
+        d: 2,
+        shear_x: Shear::make(Vec::new(alloc)),
+        shear_y: Shear::make(Vec::new(alloc)),
+        x_sides: Sides::Periodic,
+        y_sides: Sides::Periodic,
+        max_level: 1,
+        tag: Thresholds::make(Vec::from_slice(alloc, [1].as_slice())?),
+        n_error_buf: 1,
+        efficiency: 70,
+        min_width: 2,
+        regrid_int: 2,
+        blocking: 2,
+        max_grid_size: 32,
+        blocks: Blocks::make(Vec::from_slice(alloc, [COLUMN].as_slice())?),
+    })
+}
+
+/// The start of a problem, with its finer levels.
+fn refined(alloc: Global, p: &Problem) -> Result<Mesh, NoMemory>
+    ensures whole { IfOk result (λ m. is_spent m ≡ false) }
+    ensures sound { IfOk result (λ m. IsSound p.now (state_of m)) }
+    ensures coarsenable { IfOk result (λ m. AreCoarsenableAbove (levels_of m)) }
+{
+    let mesh = start(alloc, p)?;
+    Ok(mesh)
+}
+
+/// The left and right edges of the finer box touch round the end of the axis. Half of the column has moved on, in two finer steps.
+#[test]
+fn refined_everywhere_one_step(rt: HostRuntime) -> Result<(), Fail> {
+    let alloc = rt.alloc();
+    let p = square(alloc)?;
+    let mesh = refined(alloc, &p)?;
+    let (_rows, levels) = stepped(&rt, &p, mesh)?;
+    for y in 0..2 {
+        assert_eq!(rt;
+            row(alloc, &levels, 0, y, 3)?.as_slice(),
+            [4, 4, 99].as_slice()
+        );
+    }
+    for y in 0..4 {
+        assert_eq!(rt;
+            row(alloc, &levels, 1, y, 5)?.as_slice(),
+            [1, 1, 2, 0, 99].as_slice()
+        );
     }
     Ok(())
 }
@@ -118,7 +223,7 @@ fn steps_both_ways<R: Threads + Wait + Sync>(
     requires { IsKept p.now kept.old }
     ensures { OnOk result (IsKept p.now kept.new) }
 {
-    let bytes = seven(alloc, x)?;
+    let bytes = spot(alloc, 7, x)?;
     let mut mesh = mesh_of(alloc, p, &bytes)?;
     make_step(rt, p, &mut mesh, kept)?;
     make_step(rt, p, &mut mesh, kept)?;
