@@ -1,6 +1,6 @@
 -- A run, a step at a time.
 use Rattle.std.proofs.Common.{◌≡◌, ◌∙◌, ℕ, suc, ◌+◌, ◌-◌, ◌≤◌, [], ◌∷◌, ◌++◌, Ok, Err, sym, ap, arith}
-use Rattle.std.specs.Prelude.{IsErrAnd, Result}
+use Rattle.std.specs.Prelude.{IsErrAnd, OnOk, Result}
 use Rattle.amr_def.specs.declared.problem.Problem.{Problem}
 use Rattle.amr_def.specs.Facts.{IsSound}
 use Rattle.amr_def.specs.State.{State}
@@ -54,3 +54,10 @@ after_more p s k t from is =
 pub through : {T U E : Type 0} (r : Result T E) (q : Result U E) (x e : E) → r ≡ Err x → IsErrAnd q (λ y. y ≡ x) → q ≡ Err e → r ≡ Err e
 through r (Ok u) x e is same h = absurd same
 through r (Err y) x e is same h = let here : y ≡ e = cc in is ∙ ap Err (sym same ∙ here)
+
+pub not_done : {U E : Type 0} (P : E → Type 0) (X : Type 0) (q : Result U E) → IsErrAnd q P → OnOk q X
+not_done P X (Ok u) same = absurd same
+not_done P X (Err y) same = tt
+
+pub no_fault : {U E X : Type 0} (u : U) (e : E) → Ok u ≡ Err e → X
+no_fault u e is = absurd (cc)

@@ -20,7 +20,9 @@ use Rattle.amr_patch.proofs.Items.{levels_are}
 use Rattle.amr_start.specs.PatchBoxes.{IsChopped}
 use Rattle.amr_cycle.specs.Cycles.{AreCoarsenableAbove, patch_boxes}
 use Rattle.amr_cycle.proofs.Chopped.{chopped_above}
+use Rattle.amr_cycle.proofs.Coarsenable.{all_coarsenable}
 
+-- patches that a problem asks for cut no coarser cell
 pub coarsenable : (p : Problem) (m : Mesh) → IsSound p (state_of m) → All (IsChopped p.max_grid_size) (levels_of m) → AreCoarsenableAbove (levels_of m)
 coarsenable p m sound h = chopped_above p (state_of m) (levels_of m) sound (levels_are m) (λ n d lt. (h n d lt).patches)
 
@@ -53,3 +55,11 @@ chopped_after p m n sound is ps h =
     let boxes : map (λ k. (level_of k).boxes) (levels_of n) ≡ map (λ k. (level_of k).boxes) (levels_of m) =
     sym (of_levels (levels_of n)) ∙ ap (map (λ k. k.boxes)) (sym (levels_are n) ∙ ap (λ (s : State). s.levels) is) ∙ step_boxes p (state_of m) sound ∙ ap (map (λ k. k.boxes)) (levels_are m) ∙ of_levels (levels_of m) in
     all_kept p.max_grid_size (levels_of n) (levels_of m) ps boxes h
+
+-- so do levels in other patches that cut no coarser cell
+pub coarsenable_after_step : (hs ks : List Held) → patch_boxes hs ≡ patch_boxes ks → AreCoarsenableAbove ks → AreCoarsenableAbove hs
+coarsenable_after_step [] ks e h = tt
+coarsenable_after_step (j ∷ hs) [] e h = cc
+coarsenable_after_step (j ∷ hs) (k ∷ ks) e h =
+    let more : patch_boxes hs ≡ patch_boxes ks = cc in
+    all_coarsenable hs ks more h

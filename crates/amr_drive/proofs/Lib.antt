@@ -1,4 +1,5 @@
 pub mod StartLaws
-mod Kept
+pub mod Kept
+mod Regridded
 mod NextStates
 pub mod Finishes

@@ -8,6 +8,7 @@ use Rattle.amr_def.specs.State.{State}
 use Rattle.amr_patch.specs.declared.meshes.Mesh.{Mesh}
 use Rattle.amr_patch.specs.Meshes.{is_spent, levels_of, state_of}
 use Rattle.amr_start.specs.PatchBoxes.{IsChopped}
+use Rattle.amr_cycle.specs.Cycles.{AreCoarsenableAbove}
 use Rattle.amr_drive.specs.declared.drives.DriveFault.{DriveFault}
 use Rattle.amr_drive.specs.declared.drives.DriveFault.TheVariants.{After, NoMemory}
 use Rattle.amr_drive.specs.Regrids.{RunHoldsTags}
@@ -19,14 +20,15 @@ pub record MayDrive {A : Type 0} (ready : A → State → Type 0) (p : Problem) 
   pub sound : IsSound p (state_of mesh)
   pub ahead : (state_of mesh).step ≤ target
   pub within : target ≤ p.steps
-  pub patches : All (IsChopped p.max_grid_size) (levels_of mesh)
+  pub coarsenable : AreCoarsenableAbove (levels_of mesh)
   pub readiness : (k : ℕ) → (state_of mesh).step < k → k ≤ target → ready after (finish p (state_of mesh) k)
 
 -- they were made from this mesh, or as many of them as this answer tells
 pub record HasDriven {A F : Type 0} (made : A → List State → Result Unit F → A → Type 0) (p : Problem) (target : ℕ) (old : Mesh) (before : A) (answer : Result Unit (DriveFault F)) (mesh : Mesh) (after : A) : Type 0 where
   pub value : OnOk answer (state_of mesh ≡ finish p (state_of old) target)
   pub sound : OnOk answer (IsSound p (state_of mesh))
-  pub patches : OnOk answer (All (IsChopped p.max_grid_size) (levels_of mesh))
+  pub patches : All (IsChopped p.max_grid_size) (levels_of old) → OnOk answer (All (IsChopped p.max_grid_size) (levels_of mesh))
+  pub coarsenable : OnOk answer (AreCoarsenableAbove (levels_of mesh))
   pub whole : OnOk answer (is_spent mesh ≡ false)
   pub held : RunHoldsTags p (state_of old) target
   pub all_made : OnOk answer (made before (states_after p (state_of old) (target - (state_of old).step)) (Ok tt) after)

@@ -8,7 +8,9 @@ ghost use Rattle.amr_def.specs.State.{State};
 ghost use Rattle.amr_patch.specs.Meshes.{is_spent, levels_of, state_of};
 ghost use Rattle.amr_start.specs.PatchBoxes.{IsChopped};
 ghost use Rattle.amr_advance.specs.Teams.{IsTeamFor};
+ghost use Rattle.amr_cycle.specs.Cycles.{AreCoarsenableAbove};
 ghost use Rattle.amr_cycle.specs.Kept.{IsKept};
+ghost use Rattle.amr_drive.specs.Drives.{HasDriven, MayDrive};
 ghost use Rattle.amr_drive.specs.Regrids.{RunHoldsTags};
 ghost use Rattle.amr_drive.specs.States.{states_after};
 
@@ -56,7 +58,7 @@ fn make_step<R: Threads + Wait + Sync, G: Gate + Sync, A: AfterStep>(
     requires whole { is_spent mesh.old ≡ false }
     requires sound { IsSound run.now.job.problem.now (state_of mesh.old) }
     requires to_come { (state_of mesh.old).step < run.now.job.problem.now.steps }
-    requires patches { All (IsChopped run.now.job.problem.now.max_grid_size) (levels_of mesh.old) }
+    requires coarsenable { AreCoarsenableAbove (levels_of mesh.old) }
     requires ready { A.ready after.old (next run.now.job.problem.now (state_of mesh.old)) }
     requires kept { IsKept run.now.job.problem.now kept.old }
     requires some_workers { 1 ≤ workers.old.count }
@@ -65,7 +67,8 @@ fn make_step<R: Threads + Wait + Sync, G: Gate + Sync, A: AfterStep>(
     requires team { IfSome workers.old.team (IsTeamFor run.now.job.problem.now workers.old.gate.now workers.old.count) }
     ensures workers { workers.new ≡ workers.old }
     ensures value { OnOk result (state_of mesh.new ≡ next run.now.job.problem.now (state_of mesh.old)) }
-    ensures patches { OnOk result (All (IsChopped run.now.job.problem.now.max_grid_size) (levels_of mesh.new)) }
+    ensures patches { All (IsChopped run.now.job.problem.now.max_grid_size) (levels_of mesh.old) → OnOk result (All (IsChopped run.now.job.problem.now.max_grid_size) (levels_of mesh.new)) }
+    ensures coarsenable { OnOk result (AreCoarsenableAbove (levels_of mesh.new)) }
     ensures whole { OnOk result (is_spent mesh.new ≡ false) }
     ensures answer { OnOk result (A.answers after.old (next run.now.job.problem.now (state_of mesh.old)) (Ok tt) after.new) }
     ensures ready { OnOk result ((s : State) → (next run.now.job.problem.now (state_of mesh.old)).step < s.step → A.ready after.old s → A.ready after.new s) }
@@ -87,24 +90,12 @@ pub(crate) fn make_steps<R: Threads + Wait + Sync, G: Gate + Sync, A: AfterStep>
     mesh: &mut Mesh,
     after: &mut A,
 ) -> Result<(), DriveFault<A::Fault>>
-    requires whole { is_spent mesh.old ≡ false }
-    requires sound { IsSound run.now.job.problem.now (state_of mesh.old) }
-    requires ahead { (state_of mesh.old).step ≤ run.now.target }
-    requires within { run.now.target ≤ run.now.job.problem.now.steps }
-    requires patches { All (IsChopped run.now.job.problem.now.max_grid_size) (levels_of mesh.old) }
-    requires ready { (k : ℕ) → (state_of mesh.old).step < k → k ≤ run.now.target → A.ready after.old (finish run.now.job.problem.now (state_of mesh.old) k) }
+    requires may { MayDrive A.ready run.now.job.problem.now run.now.target mesh.old after.old }
     requires some_workers { 1 ≤ workers.old.count }
     requires few_workers { workers.old.count ≤ 64 }
     requires gate { (worker task : ℕ) → worker < workers.old.count → G.admits workers.old.gate.now worker task }
     requires team { IfSome workers.old.team (IsTeamFor run.now.job.problem.now workers.old.gate.now workers.old.count) }
-    ensures value { OnOk result (state_of mesh.new ≡ finish run.now.job.problem.now (state_of mesh.old) run.now.target) }
-    ensures sound { OnOk result (IsSound run.now.job.problem.now (state_of mesh.new)) }
-    ensures patches { OnOk result (All (IsChopped run.now.job.problem.now.max_grid_size) (levels_of mesh.new)) }
-    ensures whole { OnOk result (is_spent mesh.new ≡ false) }
-    ensures held { RunHoldsTags run.now.job.problem.now (state_of mesh.old) run.now.target }
-    ensures made { OnOk result (A.made after.old (states_after run.now.job.problem.now (state_of mesh.old) (run.now.target - (state_of mesh.old).step)) (Ok tt) after.new) }
-    ensures refused { (f : _) → IsErrOf result (DriveFault.After f) → (n : ℕ) × (0 < n) × ((state_of mesh.old).step + n ≤ run.now.target) × (is_spent mesh.new ≡ false) × (state_of mesh.new ≡ finish run.now.job.problem.now (state_of mesh.old) ((state_of mesh.old).step + n)) × A.made after.old (states_after run.now.job.problem.now (state_of mesh.old) n) (Err f) after.new }
-    ensures memory { IsErrOf result DriveFault.NoMemory → (n : ℕ) × ((state_of mesh.old).step + n < run.now.target) × ((is_spent mesh.new ≡ true) ⊎ ((is_spent mesh.new ≡ false) × (state_of mesh.new ≡ finish run.now.job.problem.now (state_of mesh.old) ((state_of mesh.old).step + n)))) × A.made after.old (states_after run.now.job.problem.now (state_of mesh.old) n) (Ok tt) after.new }
+    ensures { HasDriven A.made run.now.job.problem.now run.now.target mesh.old after.old result mesh.new after.new }
 {
     let mut kept = Kept::nothing();
     for _step in mesh.step()..run.target {
@@ -117,6 +108,9 @@ pub(crate) fn make_steps<R: Threads + Wait + Sync, G: Gate + Sync, A: AfterStep>
 /// at each step above 0 that is a multiple of `regrid_int`. After each step `after` is called once, with the mesh as it is then.
 /// The outcome is the same for any number of workers, whoever draws which task. Several workers last from the first step to the
 /// last.
+///
+/// No patch of a level above level 0 cuts a cell of the next coarser level. Levels that are in the patches that the problem asks for
+/// are so afterwards.
 ///
 /// `After` comes exactly where a call of `after` was refused; the mesh is then as after that step. After `NoMemory` the mesh is
 /// spent, or as after the last step made, and `spent` tells which. The crew has one rank, and from 1 to 64 workers. The call
@@ -135,7 +129,7 @@ pub fn drive<R: Threads + Wait + Sync, G: Gate + Sync, A: AfterStep>(
     requires sound { IsSound p.now (state_of mesh.old) }
     requires ahead { (state_of mesh.old).step ≤ target }
     requires within { target ≤ p.now.steps }
-    requires patches { All (IsChopped p.now.max_grid_size) (levels_of mesh.old) }
+    requires coarsenable { AreCoarsenableAbove (levels_of mesh.old) }
     requires ready { (k : ℕ) → (state_of mesh.old).step < k → k ≤ target → A.ready after.old (finish p.now (state_of mesh.old) k) }
     requires one_rank { crew.ranks ≡ 1 }
     requires some_workers { 1 ≤ crew.workers }
@@ -143,7 +137,8 @@ pub fn drive<R: Threads + Wait + Sync, G: Gate + Sync, A: AfterStep>(
     requires gate { (worker task : ℕ) → worker < crew.workers → G.admits gate.now worker task }
     ensures value { OnOk result (state_of mesh.new ≡ finish p.now (state_of mesh.old) target) }
     ensures sound { OnOk result (IsSound p.now (state_of mesh.new)) }
-    ensures patches { OnOk result (All (IsChopped p.now.max_grid_size) (levels_of mesh.new)) }
+    ensures patches { All (IsChopped p.now.max_grid_size) (levels_of mesh.old) → OnOk result (All (IsChopped p.now.max_grid_size) (levels_of mesh.new)) }
+    ensures coarsenable { OnOk result (AreCoarsenableAbove (levels_of mesh.new)) }
     ensures whole { OnOk result (is_spent mesh.new ≡ false) }
     ensures held { RunHoldsTags p.now (state_of mesh.old) target }
     ensures made { OnOk result (A.made after.old (states_after p.now (state_of mesh.old) (target - (state_of mesh.old).step)) (Ok tt) after.new) }

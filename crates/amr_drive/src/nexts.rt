@@ -8,6 +8,7 @@ ghost use Rattle.amr_def.specs.Run.{next, regrid_is_due};
 ghost use Rattle.amr_patch.specs.Meshes.{is_spent, levels_of, state_of};
 ghost use Rattle.amr_start.specs.PatchBoxes.{IsChopped};
 ghost use Rattle.amr_advance.specs.Teams.{IsTeamFor};
+ghost use Rattle.amr_cycle.specs.Cycles.{AreCoarsenableAbove};
 ghost use Rattle.amr_cycle.specs.Kept.{IsKept};
 
 use amr_advance::Workers;
@@ -33,10 +34,11 @@ fn is_due(p: &Problem, number: u32) -> bool
 fn regrid_if_due(alloc: Global, p: &Problem, mesh: &mut Mesh) -> Result<(), NoMemory>
     requires whole { is_spent mesh.old ≡ false }
     requires sound { IsSound p.now (state_of mesh.old) }
-    requires patches { All (IsChopped p.now.max_grid_size) (levels_of mesh.old) }
+    requires coarsenable { AreCoarsenableAbove (levels_of mesh.old) }
     ensures value { OnOk result (state_of mesh.new ≡ cond (regrid_is_due p.now (state_of mesh.old)) (regrid p.now (state_of mesh.old)) (state_of mesh.old)) }
     ensures sound { OnOk result (IsSound p.now (state_of mesh.new)) }
-    ensures patches { OnOk result (All (IsChopped p.now.max_grid_size) (levels_of mesh.new)) }
+    ensures patches { All (IsChopped p.now.max_grid_size) (levels_of mesh.old) → OnOk result (All (IsChopped p.now.max_grid_size) (levels_of mesh.new)) }
+    ensures coarsenable { OnOk result (AreCoarsenableAbove (levels_of mesh.new)) }
     ensures whole { is_spent mesh.new ≡ false }
     ensures refused { OnErr result (state_of mesh.new ≡ state_of mesh.old) }
 {
@@ -67,7 +69,7 @@ pub(crate) fn make_next<R: Threads + Wait + Sync, G: Gate + Sync>(
     requires whole { is_spent mesh.old ≡ false }
     requires sound { IsSound run.now.job.problem.now (state_of mesh.old) }
     requires to_come { (state_of mesh.old).step < run.now.job.problem.now.steps }
-    requires patches { All (IsChopped run.now.job.problem.now.max_grid_size) (levels_of mesh.old) }
+    requires coarsenable { AreCoarsenableAbove (levels_of mesh.old) }
     requires kept { IsKept run.now.job.problem.now kept.old }
     requires some_workers { 1 ≤ workers.old.count }
     requires few_workers { workers.old.count ≤ 64 }
@@ -76,7 +78,8 @@ pub(crate) fn make_next<R: Threads + Wait + Sync, G: Gate + Sync>(
     ensures workers { workers.new ≡ workers.old }
     ensures value { OnOk result (state_of mesh.new ≡ next run.now.job.problem.now (state_of mesh.old)) }
     ensures sound { OnOk result (IsSound run.now.job.problem.now (state_of mesh.new)) }
-    ensures patches { OnOk result (All (IsChopped run.now.job.problem.now.max_grid_size) (levels_of mesh.new)) }
+    ensures patches { All (IsChopped run.now.job.problem.now.max_grid_size) (levels_of mesh.old) → OnOk result (All (IsChopped run.now.job.problem.now.max_grid_size) (levels_of mesh.new)) }
+    ensures coarsenable { OnOk result (AreCoarsenableAbove (levels_of mesh.new)) }
     ensures whole { OnOk result (is_spent mesh.new ≡ false) }
     ensures kept { OnOk result (IsKept run.now.job.problem.now kept.new) }
     ensures refused { OnErr result ((is_spent mesh.new ≡ true) ⊎ ((is_spent mesh.new ≡ false) × (state_of mesh.new ≡ state_of mesh.old))) }

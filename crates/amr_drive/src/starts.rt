@@ -6,6 +6,7 @@ ghost use Rattle.amr_def.specs.Facts.{IsSound};
 ghost use Rattle.amr_def.specs.Run.{start};
 ghost use Rattle.amr_patch.specs.Meshes.{is_spent, levels_of, state_of};
 ghost use Rattle.amr_start.specs.PatchBoxes.{IsChopped};
+ghost use Rattle.amr_cycle.specs.Cycles.{AreCoarsenableAbove};
 ghost use Rattle.amr_drive.specs.Regrids.{StartHoldsTags};
 
 use amr_causes::NoMemory;
@@ -24,6 +25,7 @@ pub fn start(alloc: Global, p: &Problem) -> Result<Mesh, NoMemory>
     ensures sound { IfOk result (λ m. IsSound p.now (state_of m)) }
     ensures held { StartHoldsTags p.now }
     ensures patches { IfOk result (λ m. All (IsChopped p.now.max_grid_size) (levels_of m)) }
+    ensures coarsenable { IfOk result (λ m. AreCoarsenableAbove (levels_of m)) }
     ensures whole { IfOk result (λ m. is_spent m ≡ false) }
 {
     let mut mesh = base(alloc, p)?;

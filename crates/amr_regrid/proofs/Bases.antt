@@ -1,5 +1,5 @@
 -- The levels of a sound state, and those that a regrid leaves.
-use Rattle.std.proofs.Common.{◌≡◌, ℕ, zero, suc, ◌+◌, ◌<◌, ◌≤◌, refl, sym, ap, subst, ◌∙◌, arith, List, [], ◌∷◌, length, map}
+use Rattle.std.proofs.Common.{◌≡◌, inl, inr, ℕ, suc, ◌+◌, ◌<◌, ◌≤◌, refl, sym, ap, subst, ◌∙◌, arith, List, [], ◌∷◌, length, map}
 use Rattle.std.specs.Prelude.{min, slice_index_or}
 use Rattle.std.specs.Global.{Vec}
 use Rattle.std.specs.List.{All}
@@ -18,9 +18,8 @@ use Rattle.amr_patch.specs.declared.levels.Level.{Level}
 use Rattle.amr_patch.specs.Levels.{level_of}
 use Rattle.amr_regrid.specs.declared.masses.Remade.{Remade}
 use Rattle.amr_regrid.specs.declared.masses.Remade.TheVariants.{Kept, Made}
-use Rattle.amr_start.specs.PatchBoxes.{IsChopped}
 use Rattle.amr_regrid.specs.Outlines.{IsSoundWith, lists_in, outlines, regridded_boxes, with_levels}
-use Rattle.amr_regrid.specs.Remade.{IsChoppedIfMade, IsFilled, remade_levels}
+use Rattle.amr_regrid.specs.Remade.{AreChoppedOrKept, IsChoppedIfMade, IsFilled, remade_levels}
 use Rattle.amr_regrid.proofs.OutlineLaws.{same_levels}
 
 pub level_count : (ks : List Level) → length (map level_of ks) ≡ length ks
@@ -79,13 +78,10 @@ few_remade p ks boxes rs is h =
 
 -- ---- patch boxes
 
-pub chopped_after : (max : ℕ) (ks : List Level) (rs : List Remade) → All (IsChopped max) ks → All (IsChoppedIfMade max) rs → All (IsChopped max) (remade_levels ks rs)
+pub chopped_or_kept : (max : ℕ) (ks : List Level) (rs : List Remade) → All (IsChoppedIfMade max) rs → AreChoppedOrKept max (remade_levels ks rs) (outlines ks)
 unfolding remade_levels
-chopped_after max ks [] h m k d f = absurd (omega (arith, f))
-chopped_after max [] (Kept ∷ rs) h m k d f = chopped_after max [] rs h (λ i e g. m (suc i) e (omega (arith, g))) k d f
-chopped_after max [] (Made j ∷ rs) h m zero d f = m 0 (Made j) (omega arith)
-chopped_after max [] (Made j ∷ rs) h m (suc k) d f = chopped_after max [] rs h (λ i e g. m (suc i) e (omega (arith, g))) k d (omega (arith, f))
-chopped_after max (o ∷ os) (Kept ∷ rs) h m zero d f = h 0 o (omega arith)
-chopped_after max (o ∷ os) (Kept ∷ rs) h m (suc k) d f = chopped_after max os rs (λ i e g. h (suc i) e (omega (arith, g))) (λ i e g. m (suc i) e (omega (arith, g))) k d (omega (arith, f))
-chopped_after max (o ∷ os) (Made j ∷ rs) h m zero d f = m 0 (Made j) (omega arith)
-chopped_after max (o ∷ os) (Made j ∷ rs) h m (suc k) d f = chopped_after max os rs (λ i e g. h (suc i) e (omega (arith, g))) (λ i e g. m (suc i) e (omega (arith, g))) k d (omega (arith, f))
+chopped_or_kept max ks [] m = tt
+chopped_or_kept max [] (Kept ∷ rs) m = chopped_or_kept max [] rs (λ i d f. m (suc i) d (omega (arith, f)))
+chopped_or_kept max [] (Made j ∷ rs) m = (m 0 (Made j) (omega arith), chopped_or_kept max [] rs (λ i d f. m (suc i) d (omega (arith, f))))
+chopped_or_kept max (o ∷ os) (Kept ∷ rs) m = (inr refl, chopped_or_kept max os rs (λ i d f. m (suc i) d (omega (arith, f))))
+chopped_or_kept max (o ∷ os) (Made j ∷ rs) m = (inl (m 0 (Made j) (omega arith)), chopped_or_kept max os rs (λ i d f. m (suc i) d (omega (arith, f))))

@@ -1,10 +1,11 @@
 -- Levels of a list, by their outlines.
-use Rattle.std.proofs.Common.{◌≡◌, ℕ, zero, suc, ◌-◌, ◌<◌, refl, sym, ap, subst, ◌∙◌, arith, List, [], ◌∷◌, ◌++◌, length, map, set, take, get_or}
+use Rattle.std.proofs.Common.{◌≡◌, inl, inr, ℕ, zero, suc, ◌-◌, ◌<◌, refl, sym, ap, subst, ◌∙◌, arith, List, [], ◌∷◌, ◌++◌, length, map, set, take, get_or}
 use Rattle.std.specs.Prelude.{slice_index_or, slice_get}
 use Rattle.std.specs.declared.option.Option.{Option}
 use Rattle.std.specs.List.{All, flat_map}
 use Rattle.std.specs.List.Sorted.{IsPermutation}
 use Rattle.std.proofs.lemmas.List.{map-append}
+use Rattle.std.proofs.lemmas.List.Elements.{All-cons, All-nil}
 use Rattle.amr_boxlist.specs.Chopped.{chopped}
 use Rattle.amr_def.specs.State.{masses_below, no_level}
 use Rattle.amr_ghost.specs.Frames.{old_masses}
@@ -13,6 +14,7 @@ use Rattle.amr_patch.specs.Levels.{level_of, patches_of}
 use Rattle.amr_patch.specs.Patches.{box}
 use Rattle.amr_start.specs.PatchBoxes.{IsChopped}
 use Rattle.amr_regrid.specs.Outlines.{Outline, outline, outlines, with_levels}
+use Rattle.amr_regrid.specs.Remade.{AreChoppedOrKept}
 
 pub outline_is : (j k : Level) → level_of j ≡ level_of k → map box (patches_of j) ≡ map box (patches_of k) → outline j ≡ outline k
 outline_is j k levels boxes = λ i. record { level = levels i; patch_boxes = boxes i }
@@ -65,16 +67,13 @@ below_masses ks (suc l) o h n e =
 chopped_by : (max : ℕ) (j k : Level) → outline j ≡ outline k → IsChopped max k → IsChopped max j
 chopped_by max j k e h = record { patches = subst (λ (o : Outline). IsPermutation (flat_map (chopped max) o.level.boxes) o.patch_boxes) (sym e) h.patches }
 
-pub all_chopped : (max : ℕ) (js ks : List Level) → outlines js ≡ outlines ks → All (IsChopped max) ks → All (IsChopped max) js
-all_chopped max [] ks e h i d fits = absurd (omega (arith, fits))
-all_chopped max (j ∷ js) [] e h i d fits = absurd (omega (arith, same_count (j ∷ js) [] e))
-all_chopped max (j ∷ js) (k ∷ ks) e h zero d fits = chopped_by max j k (ap (λ (os : List Outline). first os (outline j)) e) (h 0 d (omega arith))
+pub all_chopped : (max : ℕ) (ks olds : List Level) → AreChoppedOrKept max ks (outlines olds) → All (IsChopped max) olds → All (IsChopped max) ks
+all_chopped max [] olds is h = All-nil (IsChopped max)
+all_chopped max (k ∷ ks) [] is h = All-cons (IsChopped max) k ks is.0 (all_chopped max ks [] is.1 h)
+all_chopped max (k ∷ ks) (o ∷ os) is h = All-cons (IsChopped max) k ks first (all_chopped max ks os is.1 (λ i d f. h (suc i) d (omega (arith, f))))
   where
-    first : List Outline → Outline → Outline
-    first [] o = o
-    first (x ∷ xs) o = x
-all_chopped max (j ∷ js) (k ∷ ks) e h (suc i) d fits = all_chopped max js ks (ap rest e) (λ m d' f. h (suc m) d' (omega (arith, f))) i d (omega (arith, fits))
-  where
-    rest : List Outline → List Outline
-    rest [] = []
-    rest (x ∷ xs) = xs
+    first : IsChopped max k
+    first = elim is.0 [
+      | inl chopped ↦ chopped
+      | inr same ↦ chopped_by max k o same (h 0 o (omega arith))
+    ]

@@ -1,5 +1,5 @@
 -- What a regrid makes of levels.
-use Rattle.std.specs.Prelude.{◌≡◌, ℕ, ◌+◌, ◌≤◌, Bool, List, [], ◌∷◌, length, is_some}
+use Rattle.std.specs.Prelude.{◌≡◌, ◌⊎◌, ℕ, ◌+◌, ◌≤◌, Bool, List, [], ◌∷◌, length, is_some}
 use Rattle.amr_box.specs.declared.Cell.{Cell}
 use Rattle.amr_box.specs.Cells.{Extent, in_boxes}
 use Rattle.amr_def.specs.declared.problem.Problem.{Problem}
@@ -11,6 +11,7 @@ use Rattle.amr_patch.specs.declared.levels.Level.{Level}
 use Rattle.amr_regrid.specs.declared.masses.Remade.{Remade}
 use Rattle.amr_regrid.specs.declared.masses.Remade.TheVariants.{Kept, Made}
 use Rattle.amr_start.specs.PatchBoxes.{IsChopped}
+use Rattle.amr_regrid.specs.Outlines.{Outline, outline}
 
 -- the levels that there will be: a level that was made, or the one that was kept
 unfoldable pub remade_levels : List Level → List Remade → List Level
@@ -31,6 +32,12 @@ placed (old ∷ olds) (Made k ∷ more) = k ∷ placed olds more
 abbrev pub IsChoppedIfMade : ℕ → Remade → Type 0
 IsChoppedIfMade max Kept = Unit {0}
 IsChoppedIfMade max (Made k) = IsChopped max k
+
+-- each level is in the patches that max asks for, or has the boxes, masses and patch boxes of the one in its place before
+abbrev pub AreChoppedOrKept : ℕ → List Level → List Outline → Type 0
+AreChoppedOrKept max [] olds = Unit {0}
+AreChoppedOrKept max (k ∷ ks) [] = IsChopped max k × AreChoppedOrKept max ks []
+AreChoppedOrKept max (k ∷ ks) (old ∷ olds) = (IsChopped max k ⊎ (outline k ≡ old)) × AreChoppedOrKept max ks olds
 
 -- the masses of a level are those of its boxes' cells
 pub record IsFilled (k : defined.Level) : Type 0 where

@@ -9,7 +9,7 @@ ghost use Rattle.amr_patch.specs.Levels.{level_of};
 ghost use Rattle.amr_patch.specs.Meshes.{is_spent, levels_of, state_of};
 ghost use Rattle.amr_start.specs.PatchBoxes.{IsChopped};
 ghost use Rattle.amr_regrid.specs.Outlines.{IsSoundWith, lists_in, outlines, regridded_boxes, with_levels};
-ghost use Rattle.amr_regrid.specs.Remade.{IsChoppedIfMade, remade_levels};
+ghost use Rattle.amr_regrid.specs.Remade.{AreChoppedOrKept, IsChoppedIfMade, remade_levels};
 
 use crate::boxes::new_boxes;
 use crate::levels::install;
@@ -69,7 +69,7 @@ fn boxes_above(
 fn regrid_levels(alloc: Global, p: &Problem, levels: &mut Vec<Level>) -> Result<(), NoMemory>
     requires { IsSoundWith p.now levels.old.items }
     ensures levels { OnOk result (map level_of levels.new.items ≡ regridded_levels (map level_of levels.old.items) (regridded_boxes p.now levels.old.items)) }
-    ensures chopped { All (IsChopped p.now.max_grid_size) levels.old.items → OnOk result (All (IsChopped p.now.max_grid_size) levels.new.items) }
+    ensures patches { OnOk result (AreChoppedOrKept p.now.max_grid_size levels.new.items (outlines levels.old.items)) }
     ensures refused { OnErr result (outlines levels.new.items ≡ outlines levels.old.items) }
 {
     let boxes = boxes_above(alloc, p, levels)?;
@@ -93,6 +93,7 @@ pub fn regrid(alloc: Global, p: &Problem, mesh: &mut Mesh) -> Result<(), NoMemor
     ensures value { OnOk result (state_of mesh.new ≡ regrid p.now (state_of mesh.old)) }
     ensures sound { OnOk result (IsSound p.now (state_of mesh.new)) }
     ensures held { OnOk result (IsHeld p.now (state_of mesh.old) (state_of mesh.new)) }
+    ensures chopped_or_kept { OnOk result (AreChoppedOrKept p.now.max_grid_size (levels_of mesh.new) (outlines (levels_of mesh.old))) }
     ensures patches { All (IsChopped p.now.max_grid_size) (levels_of mesh.old) → OnOk result (All (IsChopped p.now.max_grid_size) (levels_of mesh.new)) }
     ensures whole { is_spent mesh.new ≡ false }
     ensures refused { OnErr result (state_of mesh.new ≡ state_of mesh.old) }

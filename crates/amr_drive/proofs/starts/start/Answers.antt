@@ -1,5 +1,6 @@
 use Rattle.std.proofs.Common.{arith}
 use Rattle.amr_patch.specs.Meshes.{state_of}
+use Rattle.amr_drive.proofs.Kept.{coarsenable}
 use Rattle.amr_drive.proofs.StartLaws.{base-chopped, start-begun, start-holds_tags, start-onward}
 use Rattle.amr_drive.proofs.starts.start.Goals as goal
 
@@ -27,3 +28,6 @@ loop-regrid-preserved c = record {
 
 pub returns-clause-held : goal.returns-clause-held
 returns-clause-held c = start-holds_tags c.args.p.now
+
+pub returns-clause-coarsenable : goal.returns-clause-coarsenable
+returns-clause-coarsenable c = coarsenable c.args.p.now c.loop-regrid.mesh c.loop-regrid.invariant.sound c.loop-regrid.invariant.patches

@@ -1,13 +1,14 @@
-use Rattle.std.proofs.Common.{◌∙◌, sym, ap, subst}
-use Rattle.std.specs.List.{All}
+use Rattle.std.proofs.Common.{◌∙◌, List, sym, ap, subst}
 use Rattle.amr_def.specs.Facts.{IsHeld, IsSound}
 use Rattle.amr_def.specs.State.{State}
 use Rattle.amr_laws.proofs.Held.{regrid-held}
 use Rattle.amr_laws.proofs.SoundRegrid.{regrid-sound}
-use Rattle.amr_patch.specs.Meshes.{state_of}
-use Rattle.amr_start.specs.PatchBoxes.{IsChopped}
+use Rattle.amr_patch.specs.declared.levels.Level.{Level}
+use Rattle.amr_patch.specs.Meshes.{levels_of, state_of}
 use Rattle.amr_regrid.specs.Outlines.{outlines}
+use Rattle.amr_regrid.specs.Remade.{AreChoppedOrKept}
 use Rattle.amr_regrid.proofs.MeshRegrids.{as_before, is_regrid}
+use Rattle.amr_regrid.proofs.OutlineLaws.{all_chopped}
 use Rattle.amr_regrid.proofs.regrids.regrid.Goals as goal
 
 pub regrid_levels-requires : goal.regrid_levels-requires
@@ -23,10 +24,14 @@ returns-in-Ok-clause-sound c = subst (λ (s : State). IsSound c.args.p.now s) (s
 pub returns-in-Ok-clause-held : goal.returns-in-Ok-clause-held
 returns-in-Ok-clause-held c = subst (λ (s : State). IsHeld c.args.p.now (state_of c.args.mesh.now) s) (sym (returns-in-Ok-clause-value c)) (regrid-held c.args.p.now (state_of c.args.mesh.now) c.requires.sound)
 
-pub returns-in-Ok-clause-patches : goal.returns-in-Ok-clause-patches
-returns-in-Ok-clause-patches c = λ h.
+pub returns-in-Ok-clause-chopped_or_kept : goal.returns-in-Ok-clause-chopped_or_kept
+returns-in-Ok-clause-chopped_or_kept c =
     let max = c.args.p.now.max_grid_size in
-    subst (All (IsChopped max)) (sym c.of.ensures.levels) (c.in-Ok.ensures.chopped (subst (All (IsChopped max)) (sym c.take-rows.ensures.all) h))
+    subst (λ (ks : List Level). AreChoppedOrKept max ks (outlines (levels_of c.args.mesh.now))) (sym c.of.ensures.levels)
+    (subst (λ (ks : List Level). AreChoppedOrKept max c.regrid_levels.new.levels.items (outlines ks)) c.take-rows.ensures.all c.in-Ok.ensures.patches)
+
+pub returns-in-Ok-clause-patches : goal.returns-in-Ok-clause-patches
+returns-in-Ok-clause-patches c = all_chopped c.args.p.now.max_grid_size _ (levels_of c.args.mesh.now) (returns-in-Ok-clause-chopped_or_kept c)
 
 pub returns-in-Err-clause-refused : goal.returns-in-Err-clause-refused
 returns-in-Err-clause-refused c =

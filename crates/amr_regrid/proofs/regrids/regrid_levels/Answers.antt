@@ -1,14 +1,12 @@
 use Rattle.std.proofs.Common.{◌≡◌, ◌∙◌, List, length, map, sym, ap, subst, arith}
-use Rattle.std.specs.List.{All}
 use Rattle.amr_def.specs.Regrid.{regridded_levels}
 use Rattle.amr_def.specs.State as defined
 use Rattle.amr_patch.specs.declared.levels.Level.{Level}
 use Rattle.amr_patch.specs.Levels.{level_of}
-use Rattle.amr_start.specs.PatchBoxes.{IsChopped}
-use Rattle.amr_regrid.specs.Outlines.{IsSoundWith, lists_in, regridded_boxes}
-use Rattle.amr_regrid.specs.Remade.{remade_levels}
-use Rattle.amr_regrid.proofs.Bases.{chopped_after, same_boxes, sound_stays}
-use Rattle.amr_regrid.proofs.OutlineLaws.{all_chopped, same_levels}
+use Rattle.amr_regrid.specs.Outlines.{IsSoundWith, lists_in, outlines, regridded_boxes}
+use Rattle.amr_regrid.specs.Remade.{AreChoppedOrKept, remade_levels}
+use Rattle.amr_regrid.proofs.Bases.{chopped_or_kept, same_boxes, sound_stays}
+use Rattle.amr_regrid.proofs.OutlineLaws.{same_levels}
 use Rattle.amr_regrid.proofs.regrids.regrid_levels.Goals as goal
 
 pub remade-requires-clause-sound : goal.remade-requires-clause-sound
@@ -37,8 +35,10 @@ returns-clause-levels c =
     ∙ (λ i. regridded_levels (map level_of (slice i)) (boxes i))
     ∙ ap (λ (ls : List defined.Level). regridded_levels ls (regridded_boxes p ks)) same
 
-pub returns-clause-chopped : goal.returns-clause-chopped
-returns-clause-chopped c = λ h.
+pub returns-clause-patches : goal.returns-clause-patches
+returns-clause-patches c =
     let max = c.args.p.now.max_grid_size in
     let js = c.boxes_above.new.levels.items in
-    subst (All (IsChopped max)) (sym c.in_ok-install.ensures.levels) (chopped_after max js c.in_ok-remade.remade.items (all_chopped max js c.args.levels.now.items c.boxes_above.ensures.outlines h) c.in_ok-remade.ensures.chopped)
+    let rs = c.in_ok-remade.remade.items in
+    subst (λ (ks : List Level). AreChoppedOrKept max ks (outlines c.args.levels.now.items)) (sym c.in_ok-install.ensures.levels)
+    (subst (AreChoppedOrKept max (remade_levels js rs)) c.boxes_above.ensures.outlines (chopped_or_kept max js rs c.in_ok-remade.ensures.chopped))

@@ -1,11 +1,15 @@
 use Rattle.std.proofs.Common.{◌≤◌, ◌+◌, refl, sym, arith}
 use Rattle.std.proofs.lemmas.Option.{IfSome_then}
 use Rattle.amr_drive.proofs.Finishes.{finish_sound}
+use Rattle.amr_drive.proofs.Kept.{coarsenable}
 use Rattle.amr_patch.specs.Meshes.{state_of}
 use Rattle.amr_store.specs.Stands.{last_in, problem_in}
 use Rattle.amr_def.proofs.Runs.{finish_step}
 use Rattle.amr_run.proofs.RunStates.{keeps_back, keeps_no_more, keeps_part}
 use Rattle.amr_run.proofs.keeping.run_on.Goals as goal
+
+pub drive-requires-clause-coarsenable : goal.drive-requires-clause-coarsenable
+drive-requires-clause-coarsenable g c κs within = coarsenable c.args.keeping.now.problem.now c.args.mesh c.requires.mesh.sound c.requires.mesh.chopped
 
 pub drive-requires-clause-ready : goal.drive-requires-clause-ready
 drive-requires-clause-ready g c κs within k more upto =
