@@ -23,6 +23,9 @@ const WORKERS_TURN: u64 = 1;
 
 const DISMISSED: u64 = 2;
 
+// How many looks for an answer come at once.
+const LOOKS: u32 = 2048;
+
 /// What a worker finds in one look.
 #[derive(Drop)]
 enum Found<O> {
@@ -105,7 +108,7 @@ impl<O: Drop, A: Drop, K, E: Errand<O, A, K>> Mailbox<O, A, K, E> {
         ensures serves { (order : O) → asker.old.turn ≡ Busy order → E.serves order result }
         ensures free { asker.new ≡ end_of self.now Free }
     {
-        let mut patience = Patience::new();
+        let mut patience = Patience::new(LOOKS);
         'looks: for _ in rt.forever() {
             if let Some(answer) = self.try_collect(asker) {
                 return answer;
@@ -141,14 +144,14 @@ impl<O: Drop, A: Drop, K, E: Errand<O, A, K>> Mailbox<O, A, K, E> {
         shared.wake_one(0);
     }
 
-    /// Waits for the next order. None once the worker is dismissed. After some looks the thread sleeps until the asker
+    /// Waits for the next order. None once the worker is dismissed. After so many looks the thread sleeps until the asker
     /// wakes it.
-    pub fn next(&self, rt: &impl Wait, worker: &mut Worker<O, A, K>) -> Option<O>
+    pub fn next(&self, rt: &impl Wait, worker: &mut Worker<O, A, K>, looks: u32) -> Option<O>
         requires free { worker.old ≡ end_of self.now Free }
         ensures may { IfSome result (λ order. E.may self.now.key order) }
         ensures turn { MatchOption result (worker.new ≡ end_of self.now Over) (λ order. worker.new ≡ end_of self.now (Busy order)) }
     {
-        let mut patience = Patience::new();
+        let mut patience = Patience::new(looks);
         'looks: for _ in rt.forever() {
             match self.look(worker) {
                 Found::Order(order) => return Some(order),

@@ -39,7 +39,7 @@ fn double_all<W: Wait>(rt: &W, mailbox: &Box, mut worker: Worker<u32, u64, ()>)
     requires { worker ≡ end_of mailbox.now Free }
 {
     for _ in rt.forever() {
-        let Some(order) = mailbox.next(rt, &mut worker) else {
+        let Some(order) = mailbox.next(rt, &mut worker, 100) else {
             return;
         };
         mailbox.answer(&mut worker, 2 * u64::from(order));
