@@ -33,11 +33,11 @@ use Rattle.amr_layout.specs.Surroundings.{around}
 use Rattle.amr_layout.proofs.Planned.{nth}
 use Rattle.amr_work.specs.declared.work.Work.{Work}
 use Rattle.amr_work.specs.declared.work.Workspace.{Workspace}
-use Rattle.amr_work.specs.Ready.{HasBorderEnded, HasBorderPlanned, MayBegin}
+use Rattle.amr_work.specs.Ready.{HasBorderIn, HasBorderPlanned, MayBegin}
 use Rattle.amr_work.specs.Works.{adds_of_work, mass_after, puts_of_work}
 use Rattle.amr_work.proofs.Sameness.{planned_same, ready_same}
 use Rattle.amr_work.proofs.Standing.{after_raw}
-use Rattle.amr_advance.specs.Collected.{AreCollected, AreReturned, HasMassesAfter, MayCollect, ServesAgain}
+use Rattle.amr_advance.specs.Collected.{AreCollected, AreFacesOf, AreReturned, HasMassesAfter, MayCollect, ServesAgain}
 use Rattle.amr_advance.specs.Ended.{HasPiece, HasPieces, HasWords}
 use Rattle.amr_advance.specs.Layouts.{IsLayoutOf}
 use Rattle.amr_advance.specs.Pieces.{AreRawPieces, AreWorkspaces, IsRawPiece, Serves}
@@ -113,23 +113,23 @@ module _ (p : Problem) (l : ℕ) (old : Masses) (qs : List Patch) (cells : List 
     may : MayBegin p plan w
     may = begin t w0 there
 
-    border_ended : (v : Work) → HasBorderPlanned plan v → HasBorderEnded o v
-    border_ended v h = record {
-      places = subst (λ n. All (λ place. place < n) v.body.value.workspace.layout.border.items) (sym words.places) h.places;
-      sizes = λ k f below. words.faces (slice_index v.body.value.workspace.layout.border.items k) (below_places k below) ∙ h.sizes k f below;
+    border_in : (v : Work) (faces : List ℕ) → AreFacesOf o faces → HasBorderPlanned plan v → HasBorderIn faces v
+    border_in v faces copied h = record {
+      places = subst (λ n. All (λ place. place < n) v.body.value.workspace.layout.border.items) (sym (copied.count ∙ words.places)) h.places;
+      sizes = λ k f below.
+          let place = slice_index v.body.value.workspace.layout.border.items k in
+          let small : place < plan.places = h.places k 0 below in
+          copied.each place (omega (arith, small, words.places)) ∙ words.faces place small ∙ h.sizes k f below;
     }
-      where
-        below_places : (k : ℕ) → k < length v.body.value.workspace.layout.border.items → slice_index v.body.value.workspace.layout.border.items k < plan.places
-        below_places k below = h.places k 0 below
 
     pub collects : MayCollect p o t
     collects = record {
       piece = has.piece;
       given = has.given;
-      complete = record {
+      complete = λ faces copied. record {
         problem = has.stands.problem ∙ may.problem;
         ready = λ no. ready_same w has.piece has.stands no may.ready;
-        border = λ no. border_ended has.piece (planned_same w has.piece has.stands no plan may.border);
+        border = λ no. border_in has.piece faces copied (planned_same w has.piece has.stands no plan may.border);
       };
     }
 

@@ -1,37 +1,28 @@
 -- Pieces of a closed board, and the masses that they stand for.
 use Rattle.std.specs.Prelude.{slice_index}
-use Rattle.std.specs.List.{All}
-use Rattle.std.proofs.Common.{◌≡◌, true, ℕ, zero, suc, ◌+◌, ◌<◌, List, [], ◌∷◌, Option, Some, None, set, refl, sym, ap, subst, ◌∙◌, arith}
+use Rattle.std.proofs.Common.{◌≡◌, ℕ, zero, suc, ◌+◌, ◌<◌, List, [], ◌∷◌, Option, Some, None, get_or, length, set, refl, sym, ap, ◌∙◌, arith, subst}
+use Rattle.std.specs.List.{AllZip}
+use Rattle.std.proofs.lemmas.List.Elements.{AllZip-get_or}
 use mathlib.Core.Option.{some-injective}
 use lib.ListN.{get_elem?}
-use Rattle.amr_def.specs.declared.problem.Problem.{Problem}
-use Rattle.amr_patch.specs.Patches.{box}
-use Rattle.amr_box.specs.Cells.{holds}
 use Rattle.amr_board.specs.Ended.{EndedOf}
-use Rattle.amr_work.specs.declared.work.Stage.TheVariants.{Finished}
 use Rattle.amr_work.specs.declared.work.Work.{Work}
-use Rattle.amr_work.specs.Works.{mass_after}
+use Rattle.amr_work.specs.Works.{IsCompleted}
 use Rattle.amr_work.proofs.Standing.{after_finished}
-use Rattle.amr_box.specs.declared.Cell.{Cell}
-use Rattle.amr_advance.specs.Collected.{HasMassesAfter, IsPieceOf, MayComplete}
+use Rattle.amr_advance.specs.Collected.{AreFacesOf, HasMassesAfter, IsPieceOf, ServesAgain}
 
--- a finished piece has its masses after the step
-pub finished_has : (w : Work) → w.stage ≡ Finished → HasMassesAfter w w.body.value.patch
-finished_has w e = record { of_box = refl; masses = λ c h. sym (after_finished w e c) }
+-- a completed piece has the masses after the step, and its workspace serves again
+pub completed_has : (w v : Work) → IsCompleted w v → HasMassesAfter w v.body.value.patch
+completed_has w v h = record { of_box = h.of_box; masses = λ c held. sym (after_finished v h.finished c) ∙ h.masses c held }
 
--- and so has one that was made of it
-pub made_has : (w v : Work) → v.stage ≡ Finished → box v.body.value.patch ≡ box w.body.value.patch → ((c : Cell) → holds (box w.body.value.patch) c ≡ true → mass_after v c ≡ mass_after w c) → HasMassesAfter w v.body.value.patch
-made_has w v e same masses = record { of_box = same; masses = λ c h. sym (after_finished v e c) ∙ masses c h }
+pub completed_serves : (w v : Work) → IsCompleted w v → ServesAgain w.body.value.workspace v.body.value.workspace
+completed_serves w v h = record { of_layout = h.layout; sizes = h.sizes; room = h.room }
 
--- what completes a piece are the words of the board alone
-pub same_words : (p : Problem) (o q : EndedOf Work) (w : Work) → q.places ≡ o.places → q.words ≡ o.words → MayComplete p o w → MayComplete p q w
-same_words p o q w places words h = record {
-  problem = h.problem;
-  ready = h.ready;
-  border = λ no. let b = h.border no in record {
-    places = subst (λ n. All (λ place. place < n) w.body.value.workspace.layout.border.items) (sym places) b.places;
-    sizes = λ k f lt. (λ i. slice_index (words i) (1 + slice_index w.body.value.workspace.layout.border.items k)) ∙ b.sizes k f lt;
-  };
+-- what stands at the places are words of the board alone
+pub same_faces : (o q : EndedOf Work) (faces : List ℕ) → o.places ≡ q.places → o.words ≡ q.words → AreFacesOf o faces → AreFacesOf q faces
+same_faces o q faces places words h = record {
+  count = h.count ∙ places;
+  each = λ place lt. h.each place (omega (arith, lt, places)) ∙ ap (λ ws. slice_index ws (1 + place)) words;
 }
 
 -- one task has one piece
@@ -41,6 +32,11 @@ one_piece o t w v a b = ap from (some-injective (Some w) (Some v) (sym a ∙ b))
     from : Option Work → Work
     from (Some x) = x
     from None = w
+
+-- the piece of a task as it came back, of pieces that were handed out and completed
+pub came_back : (o : EndedOf Work) (n : ℕ) (ws vs : List Work) → length ws ≡ n → ((t : ℕ) (w : Work) → t < n → IsPieceOf o t (get_or ws t w)) → AllZip IsCompleted ws vs → (t : ℕ) (w : Work) → t < n → IsPieceOf o t w → IsCompleted w (get_or vs t w)
+came_back o n ws vs count out completed t w lt at =
+    subst (λ x. IsCompleted x (get_or vs t w)) (one_piece o t (get_or ws t w) w (out t w lt) at) (AllZip-get_or IsCompleted ws vs t w w completed (omega (arith, lt, count)))
 
 -- the pieces of other tasks stay
 pub other_piece : (xs : List (Option Work)) (i t : ℕ) (x : Option Work) → i < t → get_elem? (set xs i x) t ≡ get_elem? xs t

@@ -73,6 +73,7 @@ same_tasks s t (Board x) g h = record {
   workspaces =
       same_workspaces (in_turn x.turns.items s.patches) (in_turn x.turns.items t.patches) (in_turn x.turns.items x.layout.value.tasks.items) (workspaces_in x.bodies.items)
       (in_turn_map box x.turns.items s.patches ∙ ap (in_turn x.turns.items) g.boxes ∙ sym (in_turn_map box x.turns.items t.patches)) h.workspaces;
+  faces = h.faces;
 }
 
 -- a layout made for the same ground serves here

@@ -1,5 +1,5 @@
 -- The patches of a closed board.
-use Rattle.std.specs.Prelude.{◌≡◌, ◌≢◌, ℕ, ◌<◌, pos, List, length, slice_index_or, IsTrue}
+use Rattle.std.specs.Prelude.{◌≡◌, ℕ, ◌<◌, pos, List, length, slice_index, slice_index_or, IsTrue}
 use Rattle.std.specs.declared.option.Option.TheVariants.{Some}
 use mathlib.Core.Option as lookup
 use lib.ListN.{get_elem?}
@@ -9,18 +9,11 @@ use Rattle.amr_def.specs.declared.problem.Problem.{Problem}
 use Rattle.amr_patch.specs.declared.patches.Patch.{Patch}
 use Rattle.amr_patch.specs.Patches.{box, mass_in}
 use Rattle.amr_flux.specs.Rooms.{widest}
-use Rattle.amr_board.specs.Ended.{EndedOf}
-use Rattle.amr_work.specs.declared.work.Stage.TheVariants.{Finished}
+use Rattle.amr_board.specs.Ended.{EndedOf, face_of}
 use Rattle.amr_work.specs.declared.work.Work.{Work}
 use Rattle.amr_work.specs.declared.work.Workspace.{Workspace}
-use Rattle.amr_work.specs.Ready.{HasBorderEnded, IsReadyPiece}
+use Rattle.amr_work.specs.Ready.{MayComplete}
 use Rattle.amr_work.specs.Works.{mass_after}
-
--- a piece that is finished, or can be from what stands on the closed board
-pub record MayComplete (p : Problem) (o : EndedOf Work) (w : Work) : Type 0 where
-  pub problem : w.problem.value ≡ p
-  pub ready : w.stage ≢ Finished → IsReadyPiece w
-  pub border : w.stage ≢ Finished → HasBorderEnded o w
 
 -- a patch with the masses after the step that a piece stands for
 pub record HasMassesAfter (w : Work) (q : Patch) : Type 0 where
@@ -31,11 +24,19 @@ pub record HasMassesAfter (w : Work) (q : Patch) : Type 0 where
 abbrev pub IsPieceOf : EndedOf Work → ℕ → Work → Type 0
 IsPieceOf o t w = get_elem? o.pieces t ≡ lookup.some (Some w)
 
--- and may be completed
+abbrev pub HasPieceOf : EndedOf Work → ℕ → Type 0
+HasPieceOf o t = (w : Work) × IsPieceOf o t w
+
+-- what stands at the places of a board
+pub record AreFacesOf (o : EndedOf Work) (faces : List ℕ) : Type 0 where
+  pub count : length faces ≡ o.places
+  pub each : (place : ℕ) → place < o.places → slice_index faces place ≡ face_of o place
+
+-- and may be completed by what stands at its places
 pub record MayCollect (p : Problem) (o : EndedOf Work) (t : ℕ) : Type 0 where
   pub piece : Work
   pub given : IsPieceOf o t piece
-  pub complete : MayComplete p o piece
+  pub complete : (faces : List ℕ) → AreFacesOf o faces → MayComplete p faces piece
 
 -- each patch has the masses that the piece of its task stood for
 abbrev pub AreCollected : EndedOf Work → ℕ → List Patch → Type 0

@@ -1,5 +1,5 @@
 -- What workers work with in a step of a level.
-use Rattle.std.specs.Prelude.{◌≡◌, ◌≤◌}
+use Rattle.std.specs.Prelude.{◌≡◌, ◌≤◌, length}
 use Rattle.std.specs.List.{All}
 use Rattle.amr_balance.specs.Turns.{in_turn}
 use Rattle.amr_box.specs.Cells.{width}
@@ -24,12 +24,13 @@ pub record AreLoneTasks (s : Around) (t : LoneTasks) : Type 0 where
   pub adds : AreAddsOf s t.flows
   pub room : All (λ q. width (box q) ≤ widest t.room) s.patches
 
--- the layout on a board, the patches in turn, and a workspace for each task
+-- the layout on a board, the patches in turn, a workspace for each task, and room for what stands at each place
 pub record AreBoardTasks (s : Around) (t : BoardTasks) : Type 0 where
   pub layout : IsLayoutOf s t.layout.value
   pub shape : t.shape ≡ shape_of t.layout.value
   pub turns : AreTurnsOf s.patches t.turns.items
   pub workspaces : AreWorkspaces (in_turn t.turns.items s.patches) (in_turn t.turns.items t.layout.value.tasks.items) (workspaces_in t.bodies.items)
+  pub faces : length t.faces.items ≡ t.shape.places
 
 abbrev pub AreTasks : Around → Tasks → Type 0
 AreTasks s (Lone t) = AreLoneTasks s t

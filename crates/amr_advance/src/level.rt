@@ -72,20 +72,19 @@ fn run_on_board<R: Threads + Wait + Sync, G: Gate + Sync>(
     ensures same { OnErr result (patches.new ≡ patches.old) }
 {
     let alloc = given.alloc;
-    let count = patches.len() as u32;
     let pieces = Vec::with_capacity(alloc, patches.len())?;
+    let room = Vec::with_capacity(alloc, patches.len())?;
     let turns = tasks.turns.as_slice();
     let bodies = &mut tasks.bodies;
     let pieces = to_pieces(given.problem, given.level, turns, patches, bodies, pieces);
     match run_pieces(workers, alloc, given.problem, tasks.shape, pieces) {
         Ok(mut ended) => {
-            let bodies = &mut tasks.bodies;
-            collect(given.problem, &mut ended, count, turns, patches, bodies);
+            collect(workers, given, &mut ended, room, tasks, patches);
             take_totals(&ended, totals);
             Ok(())
         }
         Err(pieces) => {
-            to_patches(pieces, turns, patches);
+            to_patches(pieces, turns, patches, &mut tasks.bodies);
             Err(NoMemory)
         }
     }

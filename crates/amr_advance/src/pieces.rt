@@ -140,15 +140,32 @@ pub(crate) fn to_pieces(
     pieces
 }
 
-/// Puts the patches of pieces back into their places.
-pub(crate) fn to_patches(mut pieces: Vec<Work>, turns: &[usize], patches: &mut [Patch])
+/// Puts the patches of pieces back into their places, and their bodies into a list that has room for them.
+pub(crate) fn to_patches(
+    mut pieces: Vec<Work>,
+    turns: &[usize],
+    patches: &mut [Patch],
+    bodies: &mut Vec<Box<Body>>,
+)
     requires turns { IsPermutation (range_with_len 0 (length patches.old)) turns.now }
     requires count { length pieces.items ≡ length patches.old }
+    requires no_bodies { bodies.old.items ≡ [] }
+    requires room { length patches.old ≤ vec_capacity bodies.old }
     ensures patches { in_turn turns.now patches.new ≡ map (λ w. w.body.value.patch) pieces.items }
     ensures count { length patches.new ≡ length patches.old }
+    ensures bodies { workspaces_in bodies.new.items ≡ map (λ w. w.body.value.workspace) pieces.items }
 {
-    'pieces: while let Some(mut work) = pieces.pop() {
+    'pieces: while let Some(work) = pieces.pop() {
         let task = pieces.len();
-        swap(&mut work.body.patch, &mut patches[turns[task]]);
+        let Work {
+            task: _,
+            level: _,
+            stage: _,
+            mut body,
+            problem: _,
+        } = work;
+        swap(&mut body.patch, &mut patches[turns[task]]);
+        bodies.push_reserved(body);
     }
+    bodies.as_mut_slice().reverse();
 }

@@ -1,7 +1,7 @@
 //! The board of a level's pieces, from its first seat to its close.
 
 ghost use Rattle.std.specs.Prelude.{◌≡◌, ◌<◌, ◌≤◌, ◌^◌, ℕ, Some, IfOk, IfErr, IfSome, false, length};
-ghost use Rattle.std.specs.List.{All};
+ghost use Rattle.std.specs.List.{All, AllZip};
 ghost use mathlib.Core.Option.{some};
 ghost use lib.ListN.{get_elem?};
 ghost use Rattle.amr_phase.specs.Plans.{IsPlan, planned_face, planned_total};
@@ -11,13 +11,13 @@ ghost use Rattle.amr_board.specs.Piece.{AreNumbered, plan_of};
 ghost use Rattle.amr_board.specs.Views.{HoldsNone};
 ghost use Rattle.amr_advance.specs.Ended.{HasPieces, HasWords};
 ghost use Rattle.amr_advance.specs.Teams.{IsTeamFor};
-ghost use Rattle.amr_work.specs.Ready.{MayBegin};
-ghost use Rattle.amr_work.specs.Works.{StandsFor, adds_of_work, puts_of_work};
+ghost use Rattle.amr_work.specs.Ready.{MayBegin, MayComplete};
+ghost use Rattle.amr_work.specs.Works.{IsCompleted, StandsFor, adds_of_work, puts_of_work};
 
 use amr_board::{Board, Ended, MakeFault, Seat, Shape};
 use amr_def::Problem;
 use amr_work::{LevelWork, Work, work_level};
-use amr_workers::{Gate, Team};
+use amr_workers::{Gate, Team, complete_each};
 use std::alloc::Global;
 use std::sync::Wait;
 use std::thread::Threads;
@@ -122,4 +122,27 @@ pub(crate) fn run_pieces<R: Threads + Wait + Sync, G: Gate + Sync>(
         Err(MakeFault::NoMemory(pieces)) => return Err(pieces),
     };
     Ok(run_board(workers, alloc, p, board, seat))
+}
+
+/// Completes the pieces of a closed board, by what stands at its places: the team, where there is one, else this thread alone.
+pub(crate) fn complete_pieces<R: Wait, G: Gate>(
+    workers: &mut Workers<'_, R, G>,
+    alloc: Global,
+    p: &Problem,
+    faces: Vec<u64>,
+    pieces: &mut Vec<Work>,
+) -> Vec<u64>
+    requires may { All (MayComplete p.now faces.items) pieces.old.items }
+    requires team { IfSome workers.old.team (IsTeamFor p.now workers.old.gate.now workers.old.count) }
+    ensures workers { workers.new ≡ workers.old }
+    ensures completed { AllZip IsCompleted pieces.old.items pieces.new.items }
+    ensures faces { result ≡ faces }
+{
+    match &mut workers.team {
+        Some(team) => team.complete_all(workers.runtime, alloc, faces, pieces),
+        None => {
+            complete_each(&LevelWork { problem: p }, &faces, pieces);
+            faces
+        }
+    }
 }

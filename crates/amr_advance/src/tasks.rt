@@ -43,6 +43,8 @@ pub(crate) struct BoardTasks {
     pub(crate) turns: Vec<usize>,
     /// A body for each task.
     pub(crate) bodies: Vec<Box<Body>>,
+    /// Room for what stands at each place of the board, once it is closed.
+    pub(crate) faces: Vec<u64>,
     pub(crate) layout: Snapshot<Layout>,
 }
 
@@ -141,10 +143,12 @@ fn board_tasks(
     let turns = turns_of(alloc, s.patches)?;
     let tasks = in_turn(alloc, layout.tasks, &turns)?;
     let bodies = bodies_of(alloc, s.patches, &turns, tasks, olds)?;
+    let faces = vec![in alloc; 0u64; shape.places as usize]?;
     Ok(BoardTasks {
         shape,
         turns,
         bodies,
+        faces,
         layout: made,
     })
 }
@@ -157,6 +161,7 @@ fn bodies_from(alloc: Global, old: Option<Tasks>) -> Vec<Box<Body>> {
                 shape: _,
                 turns: _,
                 bodies,
+                faces: _,
                 layout: _,
             } = tasks;
             bodies

@@ -1,5 +1,5 @@
 -- What a piece has to be before its task is drawn.
-use Rattle.std.specs.Prelude.{◌≡◌, ℕ, ◌+◌, ◌<◌, ◌≤◌, ◌^◌, pos, ◌+ℤ◌, ◌≤ℤ◌, ◌<ℤ◌, List, length, slice_index, slice_index_or, unsigned_abs, IsTrue}
+use Rattle.std.specs.Prelude.{◌≡◌, ◌≢◌, ℕ, ◌+◌, ◌<◌, ◌≤◌, ◌^◌, pos, ◌+ℤ◌, ◌≤ℤ◌, ◌<ℤ◌, List, length, slice_index, slice_index_or, unsigned_abs, IsTrue}
 use Rattle.std.specs.List.{All}
 use Rattle.amr_box.specs.declared.Cell.{Cell}
 use Rattle.amr_box.specs.declared.Face.{Face}
@@ -12,12 +12,11 @@ use Rattle.amr_patch.specs.Patches.{box, mass_in, value_in}
 use Rattle.amr_flux.specs.Faces.{IsInDomain, border_faces, flux_beside, in_reach, owns}
 use Rattle.amr_flux.specs.Rooms.{widest}
 use Rattle.amr_phase.specs.Plans.{PlanOf, planned_face}
-use Rattle.amr_board.specs.Ended.{EndedOf, face_of}
 use Rattle.amr_layout.specs.declared.AddAt.{AddAt}
 use Rattle.amr_layout.specs.declared.FlowTo.{FlowTo}
 use Rattle.amr_layout.specs.declared.TaskLayout.{TaskLayout}
 use Rattle.amr_def.specs.declared.problem.Problem.{Problem}
-use Rattle.amr_work.specs.declared.work.Stage.TheVariants.{Raw}
+use Rattle.amr_work.specs.declared.work.Stage.TheVariants.{Finished, Raw}
 use Rattle.amr_work.specs.declared.work.Work.{Work}
 use Rattle.amr_work.specs.declared.work.Workspace.{Workspace}
 use Rattle.amr_work.specs.Works.{plain}
@@ -65,11 +64,11 @@ pub record HasBorderPlanned (plan : PlanOf) (w : Work) : Type 0 where
   pub sizes : (k : ℕ) (f : Face) → k < length w.body.value.workspace.layout.border.items
       → planned_face plan (slice_index w.body.value.workspace.layout.border.items k) ≡ unsigned_abs (plain w (slice_index_or (border_faces w.body.value.patch) k f)) + 1
 
--- and so has a board that is closed
-pub record HasBorderEnded (o : EndedOf Work) (w : Work) : Type 0 where
-  pub places : All (λ place. place < o.places) w.body.value.workspace.layout.border.items
+-- and so have the places of a closed board
+pub record HasBorderIn (faces : List ℕ) (w : Work) : Type 0 where
+  pub places : All (λ place. place < length faces) w.body.value.workspace.layout.border.items
   pub sizes : (k : ℕ) (f : Face) → k < length w.body.value.workspace.layout.border.items
-      → face_of o (slice_index w.body.value.workspace.layout.border.items k) ≡ unsigned_abs (plain w (slice_index_or (border_faces w.body.value.patch) k f)) + 1
+      → slice_index faces (slice_index w.body.value.workspace.layout.border.items k) ≡ unsigned_abs (plain w (slice_index_or (border_faces w.body.value.patch) k f)) + 1
 
 -- a raw piece of this problem that is ready, whose border the plan has
 pub record MayBegin (p : Problem) (plan : PlanOf) (w : Work) : Type 0 where
@@ -77,3 +76,9 @@ pub record MayBegin (p : Problem) (plan : PlanOf) (w : Work) : Type 0 where
   pub raw : w.stage ≡ Raw
   pub ready : IsReadyPiece w
   pub border : HasBorderPlanned plan w
+
+-- a piece of this problem that is finished, or can be by what stands at the places of its board
+pub record MayComplete (p : Problem) (faces : List ℕ) (w : Work) : Type 0 where
+  pub problem : w.problem.value ≡ p
+  pub ready : w.stage ≢ Finished → IsReadyPiece w
+  pub border : w.stage ≢ Finished → HasBorderIn faces w

@@ -55,6 +55,16 @@ pub record StandsFor (w v : Work) : Type 0 where
   pub masses : (c : Cell) → IsTrue (holds (box w.body.value.patch) c) → mass_after v c ≡ mass_after w c
   pub fluxes : (f : Face) → IsTrue (is_edge_face (box w.body.value.patch) f) → IsTrue (owns w.body.value.patch f) → through v f ≡ through w f
 
+-- the patch has the masses after the step that it stood for, and may serve its task again
+pub record IsCompleted (w v : Work) : Type 0 where
+  pub finished : v.stage ≡ Finished
+  pub masses : (c : Cell) → IsTrue (holds (box w.body.value.patch) c) → mass_after v c ≡ mass_after w c
+  pub of_box : box v.body.value.patch ≡ box w.body.value.patch
+  pub marks : SameMarks w.body.value.patch v.body.value.patch
+  pub layout : v.body.value.workspace.layout ≡ w.body.value.workspace.layout
+  pub sizes : length v.body.value.workspace.sizes.items ≡ length w.body.value.workspace.sizes.items
+  pub room : widest v.body.value.workspace.room ≡ widest w.body.value.workspace.room
+
 -- ---- its posts
 
 abbrev pub put_of : Work → PutAt → Post

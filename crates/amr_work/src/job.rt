@@ -8,6 +8,7 @@ ghost use Rattle.amr_board.specs.Views.{HoldsNone};
 ghost use Rattle.amr_work.specs.Ready.{MayBegin};
 
 use crate::border::finish;
+use crate::closing::complete;
 use crate::posts::make_posts;
 use crate::sweeping::sweep_work;
 use crate::work::Work;
@@ -17,21 +18,30 @@ use amr_workers::{Gate, Job, run_phase};
 use std::thread::Threads;
 
 /// The work of a step of a level on each of its patches. It sweeps the patch and posts what flows through the faces
-/// that the patch owns. It makes the new masses where all that it reads is on the board.
+/// that the patch owns. It makes the new masses where all that it reads is on the board, else once the board is closed.
 #[derive(Clone, Copy)]
 pub struct LevelWork<'a> {
     pub problem: &'a Problem,
 }
 
 impl Job<Work> for LevelWork<'_> {
-    ghost use Rattle.amr_work.specs.Ready.{MayBegin};
+    ghost use Rattle.amr_work.specs.Ready.{MayBegin, MayComplete};
+    ghost use Rattle.amr_work.specs.Works.{IsCompleted};
 
     ghost ready = { λ job plan w. MayBegin job.problem.now plan w };
+
+    ghost may_complete = { λ job faces w. MayComplete job.problem.now faces w };
+
+    ghost completes = { IsCompleted };
 
     fn work(&self, board: &Board<Work>, seat: &mut Seat<Work>, mut piece: Work) -> Work {
         sweep_work(self.problem, &mut piece);
         make_posts(board, seat, &piece);
         finish(self.problem, board, seat, piece)
+    }
+
+    fn complete(&self, faces: &[u64], piece: &mut Work) {
+        complete(self.problem, faces, piece);
     }
 }
 

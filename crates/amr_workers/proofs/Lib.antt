@@ -1,3 +1,4 @@
 pub mod Lists
 pub mod Seats
 pub mod Loans
+pub mod Runs

@@ -1,16 +1,22 @@
--- Lists with one element more at their end.
+-- Lists of two parts.
 use Rattle.std.proofs.Common.{◌≡◌, zero, suc, ◌+◌, List, [], ◌∷◌, ◌++◌, length, refl, arith}
 use Rattle.std.specs.List.{All}
 
 module _ {X : Type 0} (Q : X → Type 0) where
+  pub all_left : (xs ys : List X) → All Q (xs ++ ys) → All Q xs
+  all_left [] ys h k d lt = absurd (omega arith)
+  all_left (x ∷ xs) ys h zero d lt = h zero d (omega arith)
+  all_left (x ∷ xs) ys h (suc k) d lt = all_left xs ys (λ j e l. h (suc j) e (omega arith)) k d (omega arith)
+
+  pub all_right : (xs ys : List X) → All Q (xs ++ ys) → All Q ys
+  all_right [] ys h = h
+  all_right (x ∷ xs) ys h = all_right xs ys (λ j e l. h (suc j) e (omega arith))
+
   pub all_init : (xs : List X) (x : X) → All Q (xs ++ x ∷ []) → All Q xs
-  all_init [] x h k d lt = absurd (omega arith)
-  all_init (y ∷ ys) x h zero d lt = h zero d (omega arith)
-  all_init (y ∷ ys) x h (suc k) d lt = all_init ys x (λ j e l. h (suc j) e (omega arith)) k d (omega arith)
+  all_init xs x h = all_left xs (x ∷ []) h
 
   pub all_last : (xs : List X) (x : X) → All Q (xs ++ x ∷ []) → Q x
-  all_last [] x h = h 0 x (omega arith)
-  all_last (y ∷ ys) x h = all_last ys x (λ j e l. h (suc j) e (omega arith))
+  all_last xs x h = all_right xs (x ∷ []) h 0 x (omega arith)
 
   pub all_snoc : (xs : List X) (x : X) → All Q xs → Q x → All Q (xs ++ x ∷ [])
   all_snoc [] x h q zero d lt = q

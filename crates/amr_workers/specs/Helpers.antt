@@ -1,13 +1,10 @@
 -- The kept workers of a team.
-use Rattle.std.specs.Prelude.{ℕ, ◌≡◌, ◌<◌, Option}
-use Rattle.amr_phase.specs.Plans.{PlanOf}
-use Rattle.atomic_table.specs.declared.shared.Seat.{Seat}
-use Rattle.amr_board.specs.declared.view.View.{View}
+use Rattle.std.specs.Prelude.{ℕ, ◌≡◌, ◌<◌}
 use Rattle.amr_board.specs.BoardOf.{BoardOf}
-use Rattle.amr_mailbox.specs.declared.view.Turn.TheVariants.{Free}
+use Rattle.amr_mailbox.specs.declared.view.Turn.TheVariants.{Busy, Free}
 use Rattle.amr_mailbox.specs.MailboxOf.{MailboxOf, EndOf, end_of}
 use Rattle.amr_workers.specs.declared.order.About.{About}
-use Rattle.amr_workers.specs.Orders.{MayDraw, IsReady, Admits}
+use Rattle.amr_workers.specs.Orders.{Admits}
 
 -- a kept worker that waits for an order: of this job and this gate, and with a number below this one
 pub record IsHelper {O J G : Type 0} (job : J) (gate : G) (workers : ℕ) (mailbox : MailboxOf (About J G)) (asker : EndOf O (About J G)) : Type 0 where
@@ -23,11 +20,15 @@ pub record IsRecruit {O J G : Type 0} (job : J) (gate : G) (mailbox : MailboxOf 
   pub gate_is : mailbox.key.gate.value ≡ gate
   pub number_is : mailbox.key.number ≡ number
 
-module _ {P J G : Type 0} where
-  -- the worker of a mailbox is admitted to each task of a board
-  abbrev pub AdmitsWorker : (ℕ → ℕ → Type 0) → MailboxOf (About J G) → BoardOf P → Type 0
-  AdmitsWorker admits mailbox board = Admits (admits mailbox.key.number) board
+-- a worker that was asked something of this kind
+abbrev pub IsAskedTo : {D O K : Type 0} → (D → O) → MailboxOf K → EndOf O K → Type 0
+IsAskedTo {D} kind mailbox asker = (order : D) × (asker ≡ end_of mailbox (Busy (kind order)))
 
-  -- the worker of a mailbox may be asked to draw tasks of a board on a seat
-  abbrev pub MayAsk : (J → PlanOf → P → Type 0) → (G → ℕ → ℕ → Type 0) → MailboxOf (About J G) → BoardOf P → Seat (Option P) (View P) → Type 0
-  MayAsk ready admits mailbox board seat = MayDraw board seat × IsReady (ready mailbox.key.job.value) board × Admits (admits mailbox.key.gate.value mailbox.key.number) board
+-- the worker of a mailbox is admitted to each task of a board
+abbrev pub AdmitsWorker : {P J G : Type 0} → (ℕ → ℕ → Type 0) → MailboxOf (About J G) → BoardOf P → Type 0
+AdmitsWorker admits mailbox board = Admits (admits mailbox.key.number) board
+
+-- a kept worker of this job that waits for an order
+pub record IsWaiting {O J G : Type 0} (job : J) (mailbox : MailboxOf (About J G)) (asker : EndOf O (About J G)) : Type 0 where
+  pub waits : asker ≡ end_of mailbox Free
+  pub job_is : mailbox.key.job.value ≡ job

@@ -1,17 +1,21 @@
 //! A kept worker: as its team has it, and before it begins.
 ghost use Rattle.std.specs.Prelude.{◌≡◌, ◌<◌, ℕ, IfOk};
+ghost use Rattle.std.specs.List.{AllZip};
 ghost use Rattle.std.specs.Arc.{arc_value};
 ghost use Rattle.amr_board.specs.BoardOf.{view};
 ghost use Rattle.amr_mailbox.specs.declared.view.Turn.TheVariants.{Free, Busy, Over};
 ghost use Rattle.amr_mailbox.specs.MailboxOf.{end_of, IsBusy};
-ghost use Rattle.amr_workers.specs.Helpers.{IsHelper, IsRecruit, MayAsk};
-ghost use Rattle.amr_workers.specs.Orders.{HasDrawn};
+ghost use Rattle.amr_workers.specs.declared.order.CompletionOrder.{CompletionOrder};
+ghost use Rattle.amr_workers.specs.declared.order.DrawOrder.{DrawOrder};
+ghost use Rattle.amr_workers.specs.declared.order.Order.TheVariants.{Complete, Draw};
+ghost use Rattle.amr_workers.specs.Helpers.{IsAskedTo, IsHelper, IsRecruit};
+ghost use Rattle.amr_workers.specs.Orders.{HasDrawn, MayAsk};
 
 use crate::gate::Gate;
 use crate::job::Job;
 use crate::kept::{OrderAsker, OrderBox, OrderWorker};
-use crate::order::{About, Order};
-use amr_board::{Board, Piece, Seat};
+use crate::order::{About, Answer, Order};
+use amr_board::{Piece, Seat};
 use std::alloc::{AllocError, Global};
 use std::snapshot::Snapshot;
 use std::sync::{Arc, Wait};
@@ -60,19 +64,34 @@ impl<P: Piece, J: Job<P>, G: Gate> Helper<P, J, G> {
     /// Posts an order.
     pub(crate) fn post(&mut self, order: Order<P>)
         requires free { self.old.asker ≡ end_of (arc_value self.old.mailbox) Free }
-        requires may { MayAsk J.ready G.admits (arc_value self.old.mailbox) (arc_value order.board) order.seat }
+        requires may { MayAsk (J.ready (arc_value self.old.mailbox).key.job.value) (J.may_complete (arc_value self.old.mailbox).key.job.value) (G.admits (arc_value self.old.mailbox).key.gate.value (arc_value self.old.mailbox).key.number) order }
         ensures { self.new ≡ record { mailbox = self.old.mailbox; asker = end_of (arc_value self.old.mailbox) (Busy order) } }
     {
         self.mailbox.post(&mut self.asker, order);
     }
 
-    /// Waits for the seat of the order that was posted.
-    pub(crate) fn collect(&mut self, rt: &impl Wait) -> Seat<P>
-        requires asked { IsBusy (arc_value self.old.mailbox) self.old.asker }
-        ensures serves { (order : _) → self.old.asker.turn ≡ Busy order → HasDrawn (arc_value order.board) (view order.seat).share result }
+    /// Waits for the seat of an order to draw.
+    pub(crate) fn collect_seat(&mut self, rt: &impl Wait) -> Seat<P>
+        requires asked { IsAskedTo Draw (arc_value self.old.mailbox) self.old.asker }
+        ensures serves { (order : DrawOrder P) → self.old.asker.turn ≡ Busy (Draw order) → HasDrawn (arc_value order.board) (view order.seat).share result }
         ensures free { self.new ≡ record { mailbox = self.old.mailbox; asker = end_of (arc_value self.old.mailbox) Free } }
     {
-        self.mailbox.collect(rt, &mut self.asker)
+        let Answer::Drawn(seat) = self.mailbox.collect(rt, &mut self.asker) else {
+            unreachable!()
+        };
+        seat
+    }
+
+    /// Waits for the pieces of an order to complete them.
+    pub(crate) fn collect_pieces(&mut self, rt: &impl Wait) -> Vec<P>
+        requires asked { IsAskedTo Complete (arc_value self.old.mailbox) self.old.asker }
+        ensures serves { (order : CompletionOrder P) → self.old.asker.turn ≡ Busy (Complete order) → AllZip J.completes order.pieces.items result.items }
+        ensures free { self.new ≡ record { mailbox = self.old.mailbox; asker = end_of (arc_value self.old.mailbox) Free } }
+    {
+        let Answer::Completed(pieces) = self.mailbox.collect(rt, &mut self.asker) else {
+            unreachable!()
+        };
+        pieces
     }
 
     /// Lets the worker go.
@@ -83,16 +102,13 @@ impl<P: Piece, J: Job<P>, G: Gate> Helper<P, J, G> {
         self.mailbox.dismiss(&mut self.asker);
     }
 
-    /// A share of a board for this worker. None where it is not there yet, or where there is no memory for it.
-    pub(crate) fn share(
-        &self,
-        board: &Arc<Board<P>, Global>,
-    ) -> Result<Arc<Board<P>, Global>, AllocError>
-        ensures { IfOk result (λ b. arc_value b ≡ arc_value board.now) }
+    /// A share of something for this worker. None where it is not there yet, or where there is no memory for it.
+    pub(crate) fn share<T>(&self, whole: &Arc<T, Global>) -> Result<Arc<T, Global>, AllocError>
+        ensures { IfOk result (λ b. arc_value b ≡ arc_value whole.now) }
     {
         if !self.mailbox.is_attended() {
             return Err(AllocError);
         }
-        Arc::try_clone(board)
+        Arc::try_clone(whole)
     }
 }

@@ -1,6 +1,6 @@
 //! Workers in threads that last from one phase to the next, and the phases that they run.
 ghost use Rattle.std.specs.Prelude.{◌≡◌, ℕ, ◌+◌, ◌<◌, ◌≤◌, ◌^◌, true, false, length, IfOk, Some};
-ghost use Rattle.std.specs.List.{All};
+ghost use Rattle.std.specs.List.{All, AllZip};
 ghost use Rattle.std.specs.Arc.{arc_value};
 ghost use Rattle.std.specs.Vec.{vec_capacity};
 ghost use mathlib.Core.Option.{some};
@@ -15,10 +15,11 @@ ghost use Rattle.amr_workers.specs.Orders.{MayDraw, HasDrawn, IsReady, Admits};
 ghost use Rattle.amr_workers.specs.Helpers.{AdmitsWorker, IsHelper, IsRecruit};
 ghost use Rattle.amr_workers.specs.Shares.{MayLend, whole};
 
+use crate::completing::{complete_each, complete_with};
 use crate::gate::Gate;
 use crate::helper::{Helper, Recruit, new_worker};
 use crate::job::Job;
-use crate::order::Order;
+use crate::order::{DrawOrder, Order};
 use crate::phase::draw_all;
 use crate::shares::Shares;
 use amr_board::{Board, Ended, Piece, Seat};
@@ -132,6 +133,32 @@ impl<'a, P: Piece, J: Job<P>, G: Gate> Team<'a, P, J, G> {
         sole(rt, shared).close(seat)
     }
 
+    /// Completes each of these pieces that a closed board gave back, by what stands at its places. Each worker gets a run
+    /// of them. Where there is no memory to share, the caller completes them itself.
+    pub fn complete_all<W: Wait>(
+        &mut self,
+        rt: &W,
+        alloc: Global,
+        faces: Vec<u64>,
+        pieces: &mut Vec<P>,
+    ) -> Vec<u64>
+        requires may { All (J.may_complete self.old.job faces.items) pieces.old.items }
+        ensures team { self.new ≡ self.old }
+        ensures completed { AllZip J.completes pieces.old.items pieces.new.items }
+        ensures faces { result ≡ faces }
+        ensures room { vec_capacity pieces.new ≡ vec_capacity pieces.old }
+    {
+        let shared = match Arc::new(alloc, faces) {
+            Ok(shared) => shared,
+            Err(AllocFailed { value: faces }) => {
+                complete_each(self.job, &faces, pieces);
+                return faces;
+            }
+        };
+        complete_with(rt, alloc, &mut self.helpers, &shared, pieces, self.job);
+        sole(rt, shared)
+    }
+
     /// Lets the kept workers go, each of whom then returns. The caller stays alone.
     pub fn dismiss(&mut self) -> Vec<Helper<P, J, G>>
         ensures alone { self.new ≡ record { job = self.old.job; gate = self.old.gate; workers = 1 } }
@@ -199,25 +226,25 @@ fn run_with<W: Wait, P: Piece, J: Job<P>, G: Gate>(
         return seat;
     };
     let (seat, others) = seats.lend(board);
-    helper.post(Order {
+    helper.post(Order::Draw(DrawOrder {
         board: shared,
         seat,
-    });
+    }));
     let mut all = run_with(rt, helpers, board, others, job, gate);
-    let back = helper.collect(rt);
+    let back = helper.collect_seat(rt);
     board.join(&mut all, back);
     helpers.push_reserved(helper);
     all
 }
 
-// The board, once nobody else has it any more.
-fn sole<W: Wait, P: Piece>(rt: &W, shared: Arc<Board<P>, Global>) -> Board<P>
+// What was shared, once nobody else has it any more.
+fn sole<W: Wait, T>(rt: &W, shared: Arc<T, Global>) -> T
     ensures { result ≡ arc_value shared }
 {
     let mut shared = shared;
     'turns: for _ in rt.forever() {
         match Arc::try_unwrap(shared) {
-            Ok(board) => return board,
+            Ok(whole) => return whole,
             Err(again) => shared = again,
         }
         yield_now();

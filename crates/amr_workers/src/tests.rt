@@ -1,5 +1,5 @@
 //! Workers on a board of five tasks.
-ghost use Rattle.std.specs.Prelude.{◌≡◌, ◌<◌, [], ◌∷◌, false, IfOk, length};
+ghost use Rattle.std.specs.Prelude.{◌≡◌, ◌<◌, ◌≤◌, [], ◌∷◌, false, IfOk, length};
 ghost use Rattle.std.specs.List.{All};
 ghost use Rattle.std.specs.Arc.{arc_value};
 ghost use Rattle.amr_workers.specs.Helpers.{IsRecruit};
@@ -109,7 +109,13 @@ impl Gate for RollCall {
 
 // A task is worked on once, after it was entered and before it is left.
 impl Job<Counted> for RollCall {
+    ghost use Rattle.std.specs.Prelude.{◌≡◌, ◌+◌, ◌<◌};
+
     ghost ready = { λ _ _ _. Unit {0} };
+
+    ghost may_complete = { λ _ _ p. p.task < 5 };
+
+    ghost completes = { λ p q. q ≡ record { task = p.task + 5; done = p.done } };
 
     fn work(
         &self,
@@ -124,6 +130,10 @@ impl Job<Counted> for RollCall {
         board.add(seat, 0, u64::from(piece.task));
         piece.done = true;
         piece
+    }
+
+    fn complete(&self, _faces: &[u64], piece: &mut Counted) {
+        piece.task += 5;
     }
 }
 
@@ -159,27 +169,13 @@ impl Gate for Turnstile {
 fn five_pieces(alloc: Global) -> Result<Vec<Counted>, AllocError>
     ensures { IfOk result (λ v. v.items ≡ record { task = 0; done = false } ∷ record { task = 1; done = false } ∷ record { task = 2; done = false } ∷ record { task = 3; done = false } ∷ record { task = 4; done = false } ∷ []) }
 {
+    let done = false;
     let mut pieces = Vec::new(alloc);
-    pieces.push(Counted {
-        task: 0,
-        done: false,
-    })?;
-    pieces.push(Counted {
-        task: 1,
-        done: false,
-    })?;
-    pieces.push(Counted {
-        task: 2,
-        done: false,
-    })?;
-    pieces.push(Counted {
-        task: 3,
-        done: false,
-    })?;
-    pieces.push(Counted {
-        task: 4,
-        done: false,
-    })?;
+    pieces.push(Counted { task: 0, done })?;
+    pieces.push(Counted { task: 1, done })?;
+    pieces.push(Counted { task: 2, done })?;
+    pieces.push(Counted { task: 3, done })?;
+    pieces.push(Counted { task: 4, done })?;
     Ok(pieces)
 }
 
@@ -268,7 +264,13 @@ impl Gate for Visits {
 
 // It makes the posts of a task, however often it is asked.
 impl Job<Counted> for Visits {
+    ghost use Rattle.std.specs.Prelude.{◌≡◌, ◌+◌, ◌<◌};
+
     ghost ready = { λ _ _ _. Unit {0} };
+
+    ghost may_complete = { λ _ _ p. p.task < 5 };
+
+    ghost completes = { λ p q. q ≡ record { task = p.task + 5; done = p.done } };
 
     fn work(
         &self,
@@ -280,6 +282,10 @@ impl Job<Counted> for Visits {
         board.add(seat, 0, u64::from(piece.task));
         piece.done = true;
         piece
+    }
+
+    fn complete(&self, _faces: &[u64], piece: &mut Counted) {
+        piece.task += 5;
     }
 }
 
@@ -297,20 +303,54 @@ fn run_boards<R: Wait + Abort>(
     Ok(())
 }
 
-// Has a team of 64 run boards, and lets its kept workers go.
+// Has the five pieces completed. They come back in order.
+fn complete_five<R: Wait + Abort>(
+    rt: &R,
+    alloc: Global,
+    team: &mut Team<'_, Counted, Visits, Visits>,
+) -> Result<(), AllocError> {
+    let mut pieces = five_pieces(alloc)?;
+    drop(team.complete_all(rt, alloc, Vec::new(alloc), &mut pieces));
+    let mut task: u32 = 5;
+    for piece in &pieces {
+        assert!(rt; piece.task == task);
+        task = task.wrapping_add(1);
+    }
+    assert!(rt; task == 10);
+    Ok(())
+}
+
+// Runs so many boards, then has the five pieces completed by whoever has come.
+fn run_and_complete<R: Wait + Abort>(
+    rt: &R,
+    alloc: Global,
+    team: &mut Team<'_, Counted, Visits, Visits>,
+    boards: u32,
+) -> Result<(), AllocError> {
+    run_boards(rt, alloc, team, boards)?;
+    team.gather();
+    complete_five(rt, alloc, team)
+}
+
+// Has a team of so many run boards and complete pieces, and lets its kept workers go.
 fn conduct<'a, R: Threads + Wait + Abort + Sync>(
     rt: &R,
     alloc: Global,
     held: &'a Visits,
-) -> Result<(), AllocError> {
-    let (mut team, mut recruits) = Team::hire(alloc, held, held, 64)?;
+    workers: u32,
+    boards: u32,
+) -> Result<(), AllocError>
+    requires some { 1 ≤ workers }
+    requires few { workers ≤ 64 }
+{
+    let (mut team, mut recruits) = Team::hire(alloc, held, held, workers)?;
     let ((), done) = thread::join_mut(
         rt,
         &mut ||
             requires { All (λ r. IsRecruit held.now held.now (arc_value r.mailbox) r.worker r.number) recruits.items }
         { serve_all(rt, &mut recruits, held, held) },
         &mut || {
-            let done = run_boards(rt, alloc, &mut team, BOARDS);
+            let done = run_and_complete(rt, alloc, &mut team, boards);
             drop(team.dismiss());
             done
         },
@@ -324,8 +364,18 @@ fn a_team_over_many_boards(rt: HostRuntime) -> Result<(), Fail> {
     let visits = Visits {
         kept: AtomicBool::new(false),
     };
-    conduct(&rt, rt.alloc(), &visits)?;
+    conduct(&rt, rt.alloc(), &visits, 64, BOARDS)?;
     assert!(rt; visits.kept.load(Ordering::SeqCst));
+    Ok(())
+}
+
+// Once all three have come, each of them completes some of the five pieces.
+#[test]
+fn a_team_that_completes(rt: HostRuntime) -> Result<(), Fail> {
+    let visits = Visits {
+        kept: AtomicBool::new(false),
+    };
+    conduct(&rt, rt.alloc(), &visits, 3, 1)?;
     Ok(())
 }
 
@@ -338,6 +388,7 @@ fn a_team_that_has_not_begun(rt: HostRuntime) -> Result<(), Fail> {
     };
     let (mut team, recruits) = Team::hire(alloc, &visits, &visits, 3)?;
     run_boards(&rt, alloc, &mut team, 3)?;
+    complete_five(&rt, alloc, &mut team)?;
     drop(team.dismiss());
     drop(recruits);
     assert!(rt; !visits.kept.load(Ordering::SeqCst));

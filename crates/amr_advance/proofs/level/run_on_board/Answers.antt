@@ -8,16 +8,17 @@ use Rattle.amr_phase.specs.Plans.{IsPlan}
 use Rattle.amr_balance.specs.Turns.{in_turn}
 use Rattle.amr_patch.specs.declared.patches.Patch.{Patch}
 use Rattle.amr_work.specs.declared.work.Workspace.{Workspace}
-use Rattle.amr_advance.specs.Collected.{AreCollected}
+use Rattle.amr_advance.specs.Collected.{AreCollected, AreReturned}
 use Rattle.amr_advance.specs.Turns.{AreTurnsOf}
 use Rattle.amr_board.specs.declared.board.Shape.{Shape}
+use Rattle.amr_layout.specs.Surroundings.{around}
 use Rattle.amr_board.specs.Ended.{EndedOf}
 use Rattle.amr_board.specs.Piece.{plan_of}
 use Rattle.amr_work.specs.declared.work.Work.{Work}
 use Rattle.amr_work.specs.Ready.{MayBegin}
 use Rattle.amr_work.specs.Works.{adds_of_work, puts_of_work}
 use Rattle.amr_advance.specs.Ended.{HasWords}
-use Rattle.amr_advance.specs.Tasks.{shape_of}
+use Rattle.amr_advance.specs.Tasks.{AreBoardTasks, shape_of}
 use Rattle.amr_advance.specs.Pieces.{AreRawPieces, workspaces_in}
 use Rattle.amr_advance.proofs.Bodies.{workspace_in}
 use Rattle.amr_advance.proofs.Closed.{all_returned, all_stepped, level_totals, may_collect, numbered, patches_back, same_patches}
@@ -65,7 +66,7 @@ to_pieces-pieces-requires-clause-count g c =
     sym (length-map c.args.tasks.now.bodies.items workspace_in) ∙ c.requires.tasks.workspaces.count ∙ all_in_turn c.args.patches.now c.args.tasks.now.turns.items c.requires.tasks.turns
 
 pub collect-requires-clause-turns : goal.collect-requires-clause-turns
-collect-requires-clause-turns g c = turns_by c.args.patches.now (length c.args.patches.now) c.as_slice-turns.result.now c.args.tasks.now.turns.items c.as_slice-turns.ensures.value refl c.requires.tasks.turns
+collect-requires-clause-turns g c = turns_by c.args.patches.now (length c.to_pieces-pieces.new.patches) c.args.tasks.now.turns.items c.args.tasks.now.turns.items refl c.to_pieces-pieces.ensures.count c.requires.tasks.turns
 
 pub to_patches-requires-clause-turns : goal.to_patches-requires-clause-turns
 to_patches-requires-clause-turns g c = turns_by c.args.patches.now (length c.to_pieces-pieces.new.patches) c.as_slice-turns.result.now c.args.tasks.now.turns.items c.as_slice-turns.ensures.value c.to_pieces-pieces.ensures.count c.requires.tasks.turns
@@ -73,25 +74,27 @@ to_patches-requires-clause-turns g c = turns_by c.args.patches.now (length c.to_
 pub collect-requires-clause-pieces : goal.collect-requires-clause-pieces
 collect-requires-clause-pieces g c = λ t lt.
     may_collect c.args.given.problem.now c.args.given.level (old_masses (option_copied c.args.given.old)) c.args.patches.now c.args.given.cells.now (option_copied c.args.given.finer) c.requires.level c.requires.shown c.requires.fits
-    c.args.tasks.now.layout.value c.requires.tasks.layout c.args.tasks.now.turns.items c.requires.tasks.turns (workspaces_in c.args.tasks.now.bodies.items) c.requires.tasks.workspaces c.to_pieces-pieces.result.items (pieces_by c.args.given.problem.now c.args.given.level c.args.patches.now c.as_slice-turns.result.now c.args.tasks.now.turns.items (workspaces_in c.args.tasks.now.bodies.items) c.to_pieces-pieces.result.items c.as_slice-turns.ensures.value c.to_pieces-pieces.ensures.pieces) c.in-Ok.ended (words_by c.args.tasks.now.shape (shape_of c.args.tasks.now.layout.value) c.requires.tasks.shape c.to_pieces-pieces.result.items c.in-Ok.ended c.in-Ok.ensures.words) c.in-Ok.ensures.pieces t lt
+    c.args.tasks.now.layout.value c.requires.tasks.layout c.args.tasks.now.turns.items c.requires.tasks.turns (workspaces_in c.args.tasks.now.bodies.items) c.requires.tasks.workspaces c.to_pieces-pieces.result.items (pieces_by c.args.given.problem.now c.args.given.level c.args.patches.now c.as_slice-turns.result.now c.args.tasks.now.turns.items (workspaces_in c.args.tasks.now.bodies.items) c.to_pieces-pieces.result.items c.as_slice-turns.ensures.value c.to_pieces-pieces.ensures.pieces) c.in-Ok.ended (words_by c.args.tasks.now.shape (shape_of c.args.tasks.now.layout.value) c.requires.tasks.shape c.to_pieces-pieces.result.items c.in-Ok.ended c.in-Ok.ensures.words) c.in-Ok.ensures.pieces t (omega (arith, lt, c.to_pieces-pieces.ensures.count))
 
 pub returns-in-Ok-clause-stepped : goal.returns-in-Ok-clause-stepped
 returns-in-Ok-clause-stepped g c =
     all_stepped c.args.given.problem.now c.args.given.level (old_masses (option_copied c.args.given.old)) c.args.patches.now c.args.given.cells.now (option_copied c.args.given.finer) c.requires.level c.requires.shown c.requires.fits
     c.args.tasks.now.layout.value c.requires.tasks.layout c.args.tasks.now.turns.items c.requires.tasks.turns (workspaces_in c.args.tasks.now.bodies.items) c.requires.tasks.workspaces c.to_pieces-pieces.result.items (pieces_by c.args.given.problem.now c.args.given.level c.args.patches.now c.as_slice-turns.result.now c.args.tasks.now.turns.items (workspaces_in c.args.tasks.now.bodies.items) c.to_pieces-pieces.result.items c.as_slice-turns.ensures.value c.to_pieces-pieces.ensures.pieces) c.in-Ok.ended (words_by c.args.tasks.now.shape (shape_of c.args.tasks.now.layout.value) c.requires.tasks.shape c.to_pieces-pieces.result.items c.in-Ok.ended c.in-Ok.ensures.words) c.in-Ok.ensures.pieces
-    c.collect.new.patches (subst (λ ks. AreCollected c.in-Ok.ended (length c.args.patches.now) (in_turn ks c.collect.new.patches)) c.as_slice-turns.ensures.value c.collect.ensures.all) c.collect.ensures.count
+    c.collect.new.patches (subst (λ n. AreCollected c.in-Ok.ended n (in_turn c.args.tasks.now.turns.items c.collect.new.patches)) c.to_pieces-pieces.ensures.count c.collect.ensures.all) (c.collect.ensures.count ∙ c.to_pieces-pieces.ensures.count)
 
 pub returns-in-Ok-clause-tasks : goal.returns-in-Ok-clause-tasks
 returns-in-Ok-clause-tasks g c =
-    record {
+    subst (AreBoardTasks (around c.args.given.problem.now c.args.given.level c.args.patches.now c.args.given.cells.now (option_copied c.args.given.finer))) (sym c.collect.ensures.tasks)
+    (record {
       layout = c.requires.tasks.layout;
       shape = c.requires.tasks.shape;
       turns = c.requires.tasks.turns;
       workspaces =
           all_returned c.args.given.problem.now c.args.given.level (old_masses (option_copied c.args.given.old)) c.args.patches.now c.args.given.cells.now (option_copied c.args.given.finer) c.requires.level c.requires.shown c.requires.fits
           c.args.tasks.now.layout.value c.requires.tasks.layout c.args.tasks.now.turns.items c.requires.tasks.turns (workspaces_in c.args.tasks.now.bodies.items) c.requires.tasks.workspaces c.to_pieces-pieces.result.items (pieces_by c.args.given.problem.now c.args.given.level c.args.patches.now c.as_slice-turns.result.now c.args.tasks.now.turns.items (workspaces_in c.args.tasks.now.bodies.items) c.to_pieces-pieces.result.items c.as_slice-turns.ensures.value c.to_pieces-pieces.ensures.pieces) c.in-Ok.ended (words_by c.args.tasks.now.shape (shape_of c.args.tasks.now.layout.value) c.requires.tasks.shape c.to_pieces-pieces.result.items c.in-Ok.ended c.in-Ok.ensures.words) c.in-Ok.ensures.pieces
-          (workspaces_in c.collect.new.bodies.items) c.collect.ensures.bodies (length-map c.collect.new.bodies.items workspace_in ∙ c.collect.ensures.body_count);
-    }
+          (workspaces_in c.collect.new.tasks.bodies.items) (subst (λ n. AreReturned c.in-Ok.ended n (workspaces_in c.collect.new.tasks.bodies.items)) c.to_pieces-pieces.ensures.count c.collect.ensures.bodies) (length-map c.collect.new.tasks.bodies.items workspace_in ∙ c.collect.ensures.body_count ∙ c.to_pieces-pieces.ensures.count);
+      faces = c.collect.ensures.faces ∙ c.requires.tasks.faces;
+    })
 
 pub returns-in-Ok-clause-totals : goal.returns-in-Ok-clause-totals
 returns-in-Ok-clause-totals g c = λ word below.

@@ -1,5 +1,6 @@
-use Rattle.std.proofs.Common.{◌≡◌, ◌∙◌, List, length, map, refl, sym, ap, subst}
+use Rattle.std.proofs.Common.{rules, ◌≡◌, ◌∙◌, List, length, map, refl, sym, ap, subst}
 use Rattle.std.specs.Option.{option_copied}
+use Rattle.std.proofs.Math.ListN.{length-replicate}
 use Rattle.amr_balance.specs.Turns.{in_turn}
 use Rattle.amr_balance.proofs.TurnLaws.{in_turn_count, turn_count, turns_within}
 use Rattle.amr_def.specs.Domain.{Domain, domain}
@@ -58,4 +59,5 @@ returns-clause-tasks c =
       turns = c.in_ok-turns.ensures.order;
       workspaces = subst (λ (z : Layout). AreWorkspaces (in_turn turns ps) (in_turn turns z.tasks.items) ws) (sym made)
           (subst (λ ts. AreWorkspaces (in_turn turns ps) ts ws) tasks (subst (λ ks. AreWorkspaces (in_turn ks ps) c.in_ok-tasks.tasks.items ws) c.deref-2.ensures.value c.in_ok-bodies.ensures));
+      faces = ap length (c.in_ok-faces.ensures.items_if_clones_equal (λ y h. search rules)) ∙ length-replicate _ _;
     }

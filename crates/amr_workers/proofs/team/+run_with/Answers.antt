@@ -3,10 +3,12 @@ use Rattle.std.specs.List.{All}
 use Rattle.std.specs.Arc.{arc_value}
 use Rattle.amr_board.specs.BoardOf.{BoardOf, IsSeatOf, view}
 use Rattle.amr_mailbox.specs.declared.view.Turn.TheVariants.{Free}
-use Rattle.amr_mailbox.specs.MailboxOf.{IsBusy, end_of}
+use Rattle.amr_mailbox.specs.MailboxOf.{end_of}
 use Rattle.amr_workers.specs.declared.helper.Helper.{Helper}
+use Rattle.amr_workers.specs.declared.order.DrawOrder.{DrawOrder}
 use Rattle.amr_workers.specs.declared.order.Order.{Order}
-use Rattle.amr_workers.specs.Helpers.{AdmitsWorker, IsHelper}
+use Rattle.amr_workers.specs.declared.order.Order.TheVariants.{Draw}
+use Rattle.amr_workers.specs.Helpers.{AdmitsWorker, IsAskedTo, IsHelper}
 use Rattle.amr_workers.specs.Orders.{MayDraw, HasDrawn, IsReady, Admits}
 use Rattle.amr_workers.specs.Shares.{MayLend, whole}
 use Rattle.amr_workers.proofs.Lists.{all_init, all_last, longer}
@@ -81,17 +83,17 @@ pub returns-clause-seat : goal.returns-clause-seat
 returns-clause-seat g t c =
     let b = arc_value c.args.board.now in
     let here : arc_value c.in-Ok.shared ≡ b = c.in-Ok.ensures in
-    let order : Order g.row.P.Denot = record { board = c.in-Ok.shared; seat = c.lend-seat.result.0 } in
-    let back = c.collect-back.ensures.serves order (ap (λ (h : Helper g.row.P.Denot g.row.J.Denot g.row.G.Denot). h.asker.turn) c.post.ensures) in
-    both_drawn b (whole c.lend-seat.result.1) (view c.lend-seat.result.0).share (whole c.args.seats) c.run_with-all.result c.collect-back.result c.join.new.seat
+    let order : DrawOrder g.row.P.Denot = record { board = c.in-Ok.shared; seat = c.lend-seat.result.0 } in
+    let back = c.collect_seat-back.ensures.serves order (ap (λ (h : Helper g.row.P.Denot g.row.J.Denot g.row.G.Denot). h.asker.turn) c.post.ensures) in
+    both_drawn b (whole c.lend-seat.result.1) (view c.lend-seat.result.0).share (whole c.args.seats) c.run_with-all.result c.collect_seat-back.result c.join.new.seat
     c.lend-seat.ensures.whole c.run_with-all.ensures.seat
-    (subst (λ (x : BoardOf g.row.P.Denot). HasDrawn x (view c.lend-seat.result.0).share c.collect-back.result) here back)
+    (subst (λ (x : BoardOf g.row.P.Denot). HasDrawn x (view c.lend-seat.result.0).share c.collect_seat-back.result) here back)
     (subst (λ (x : BoardOf g.row.P.Denot). IsSeatOf x c.join.new.seat) c.deref-3.ensures c.join.ensures.seat) c.join.ensures.view
 
-pub collect-back-requires : goal.collect-back-requires
-collect-back-requires g t c =
-    let order : Order g.row.P.Denot = record { board = c.in-Ok.shared; seat = c.lend-seat.result.0 } in
-    record { asked = subst (λ (h : Helper g.row.P.Denot g.row.J.Denot g.row.G.Denot). IsBusy (arc_value h.mailbox) h.asker) (sym c.post.ensures) (order, refl) }
+pub collect_seat-back-requires : goal.collect_seat-back-requires
+collect_seat-back-requires g t c =
+    let order : DrawOrder g.row.P.Denot = record { board = c.in-Ok.shared; seat = c.lend-seat.result.0 } in
+    record { asked = subst (λ (h : Helper g.row.P.Denot g.row.J.Denot g.row.G.Denot). IsAskedTo Draw (arc_value h.mailbox) h.asker) (sym c.post.ensures) (order, refl) }
 
 pub joined-seat-requires : goal.joined-seat-requires
 joined-seat-requires g t c =
@@ -112,6 +114,6 @@ returns-clause-helpers g t c =
     let Q : H → Type 0 = λ h. IsHelper {O = Order g.row.P.Denot} c.args.job.now c.args.gate.now 64 (arc_value h.mailbox) h.asker in
     let waits = (all_last Q c.pop.new.self.items last (subst (λ (l : List H). All Q l) is c.requires.helpers)).waits in
     let same : c.post.new.self.mailbox ≡ last.mailbox = ap (λ (h : H). h.mailbox) c.post.ensures in
-    let back : c.collect-back.new.self ≡ last
-    = c.collect-back.ensures.free ∙ ((λ i. record { mailbox = same i; asker = end_of (arc_value (same i)) Free }) ∙ (λ i. record { mailbox = last.mailbox; asker = sym waits i })) in
+    let back : c.collect_seat-back.new.self ≡ last
+    = c.collect_seat-back.ensures.free ∙ ((λ i. record { mailbox = same i; asker = end_of (arc_value (same i)) Free }) ∙ (λ i. record { mailbox = last.mailbox; asker = sym waits i })) in
     c.push_reserved-2.ensures.items ∙ ((λ i. c.run_with-all.ensures.helpers i ++ back i ∷ []) ∙ sym is)
