@@ -14,3 +14,5 @@ mod drive;
 mod regrid;
 #[cfg(test)]
 mod rows;
+#[cfg(test)]
+mod start;
