@@ -1,4 +1,5 @@
 -- What the closed board of a level gives: its patches with their new masses, and the totals of its words.
+use Rattle.std.specs.Prelude.{◌≢◌}
 use Rattle.std.proofs.Common.{◌≡◌, true, ℕ, suc, ◌<◌, ◌≤◌, pos, ◌+ℤ◌, List, [], ◌∷◌, length, get_or, map, refl, sym, ap, subst, ◌∙◌, arith}
 use Rattle.std.specs.Prelude.{slice_index}
 use Rattle.std.specs.declared.option.Option.{Option}
@@ -31,6 +32,7 @@ use Rattle.amr_layout.specs.declared.Layout.{Layout}
 use Rattle.amr_layout.specs.declared.TaskLayout.{TaskLayout}
 use Rattle.amr_layout.specs.Surroundings.{around}
 use Rattle.amr_layout.proofs.Planned.{nth}
+use Rattle.amr_work.specs.declared.work.Stage.TheVariants.{Finished, Raw, Swept}
 use Rattle.amr_work.specs.declared.work.Work.{Work}
 use Rattle.amr_work.specs.declared.work.Workspace.{Workspace}
 use Rattle.amr_work.specs.Ready.{HasBorderIn, HasBorderPlanned, MayBegin}
@@ -44,10 +46,17 @@ use Rattle.amr_advance.specs.Pieces.{AreRawPieces, AreWorkspaces, IsRawPiece, Se
 use Rattle.amr_advance.specs.Shown.{AreShown, IsStepped, StepFits}
 use Rattle.amr_advance.specs.Turns.{AreTurnsOf}
 use Rattle.amr_advance.proofs.Begun.{plain_at}
+use Rattle.amr_advance.proofs.Stages.{stage_number}
 use Rattle.amr_advance.proofs.Filled.{zip_from}
 use Rattle.amr_advance.proofs.InTurn.{all_begin, each_once, totals_are}
 
 -- ---- the pieces by themselves
+
+raw_unfinished : (w : Work) → w.stage ≡ Raw → w.stage ≢ Finished
+raw_unfinished w raw finished = absurd (omega (arith, ap stage_number (sym raw ∙ finished)))
+
+swept_unfinished : (w : Work) → w.stage ≡ Swept → w.stage ≢ Finished
+swept_unfinished w swept finished = absurd (omega (arith, ap stage_number (sym swept ∙ finished)))
 
 module _ (p : Problem) (l : ℕ) (qs : List Patch) (ss : List Workspace) (ws : List Work) (raw : AreRawPieces p l qs ss ws) where
   pub numbered : AreNumbered (λ (w : Work). w.task) ws
@@ -128,8 +137,10 @@ module _ (p : Problem) (l : ℕ) (old : Masses) (qs : List Patch) (cells : List 
       given = has.given;
       complete = λ faces copied. record {
         problem = has.stands.problem ∙ may.problem;
-        ready = λ no. ready_same w has.piece has.stands no may.ready;
-        border = λ no. border_in has.piece faces copied (planned_same w has.piece has.stands no plan may.border);
+        raw = λ stage. let ready = ready_same w has.piece has.stands (raw_unfinished has.piece stage) may.ready in record { step = ready.step; room = ready.room };
+        swept = λ stage.
+            let no = swept_unfinished has.piece stage in
+            (ready_same w has.piece has.stands no may.ready, border_in has.piece faces copied (planned_same w has.piece has.stands no plan may.border));
       };
     }
 

@@ -1,7 +1,8 @@
 -- A layout that is kept serves each level with the same boxes beside levels with the same boxes.
 use Rattle.std.proofs.Common.{◌≡◌, ◌∙◌, ℕ, ◌+◌, ◌*◌, ◌^◌, ◌<◌, ◌≤◌, true, List, [], ◌∷◌, length, get_or, map, refl, sym, ap, subst, arith}
 use Rattle.std.specs.Prelude.{is_some}
-use Rattle.std.specs.List.{All}
+use Rattle.std.specs.List.{All, range_with_len}
+use Rattle.std.specs.List.Sorted.{IsPermutation}
 use Rattle.amr_balance.specs.Turns.{IsLargestFirst, in_turn}
 use Rattle.amr_balance.proofs.TurnLaws.{in_turn_map}
 use Rattle.amr_box.specs.declared.Cell.{Cell}
@@ -28,8 +29,8 @@ use Rattle.amr_advance.specs.Kept.{IsKept, IsLaidOut}
 use Rattle.amr_advance.specs.Layouts.{AreAddsOf}
 use Rattle.amr_advance.specs.Tasks.{AreTasks}
 use Rattle.amr_advance.specs.declared.tasks.Tasks.{Tasks}
-use Rattle.amr_advance.specs.declared.tasks.Tasks.TheVariants.{Board, Lone}
-use Rattle.amr_advance.specs.Pieces.{AreWorkspaces, Serves, workspaces_in}
+use Rattle.amr_advance.specs.declared.tasks.Tasks.TheVariants.{Board, Lone, Shared}
+use Rattle.amr_advance.specs.Pieces.{AreRooms, AreWorkspaces, Serves, workspaces_in}
 use Rattle.amr_advance.specs.Turns.{areas_of}
 use Rattle.amr_advance.proofs.SameLayouts.{same_layout}
 
@@ -63,16 +64,30 @@ same_adds s t v g of = record {
 same_room : (ps qs : List Patch) (n : ℕ) → map box ps ≡ map box qs → All (λ q. width (box q) ≤ n) ps → All (λ q. width (box q) ≤ n) qs
 same_room ps qs n e h k q lt = subst (λ (b : Extent). width b ≤ n) (box_at ps qs k q e) (h k q (omega (arith, lt, same_length ps qs e)))
 
+-- rooms in turn, by boxes alone
+same_rooms : (ps qs : List Patch) (ws : List Workspace) → map box ps ≡ map box qs → AreRooms ps ws → AreRooms qs ws
+same_rooms ps qs ws e h = record {
+  count = h.count ∙ same_length ps qs e;
+  each = λ k q w lt. subst (λ (b : Extent). width b ≤ widest (get_or ws k w).room) (box_at ps qs k q e) (h.each k q w (omega (arith, lt, same_length ps qs e)));
+}
+
+same_turned : (s t : Around) (turns : List ℕ) → SameGround s t → map box (in_turn turns s.patches) ≡ map box (in_turn turns t.patches)
+same_turned s t turns g = in_turn_map box turns s.patches ∙ ap (in_turn turns) g.boxes ∙ sym (in_turn_map box turns t.patches)
+
 -- and so the tasks
 same_tasks : (s t : Around) (tasks : Tasks) → SameGround s t → AreTasks s tasks → AreTasks t tasks
 same_tasks s t (Lone x) g h = record { adds = same_adds s t x.flows g h.adds; room = same_room s.patches t.patches (widest x.room) g.boxes h.room }
+same_tasks s t (Shared x) g h = record {
+  alone = record { adds = same_adds s t x.alone.flows g h.alone.adds; room = same_room s.patches t.patches (widest x.alone.room) g.boxes h.alone.room };
+  turns = subst (λ n. IsPermutation (range_with_len 0 n) x.turns.items) (same_length s.patches t.patches g.boxes) h.turns;
+  rooms = same_rooms (in_turn x.turns.items s.patches) (in_turn x.turns.items t.patches) (workspaces_in x.bodies.items) (same_turned s t x.turns.items g) h.rooms;
+}
 same_tasks s t (Board x) g h = record {
   layout = same_layout s t x.layout.value g h.layout;
   shape = h.shape;
   turns = subst (λ bs. IsLargestFirst (areas_of bs) x.turns.items) g.boxes h.turns;
   workspaces =
-      same_workspaces (in_turn x.turns.items s.patches) (in_turn x.turns.items t.patches) (in_turn x.turns.items x.layout.value.tasks.items) (workspaces_in x.bodies.items)
-      (in_turn_map box x.turns.items s.patches ∙ ap (in_turn x.turns.items) g.boxes ∙ sym (in_turn_map box x.turns.items t.patches)) h.workspaces;
+      same_workspaces (in_turn x.turns.items s.patches) (in_turn x.turns.items t.patches) (in_turn x.turns.items x.layout.value.tasks.items) (workspaces_in x.bodies.items) (same_turned s t x.turns.items g) h.workspaces;
   faces = h.faces;
 }
 

@@ -1,4 +1,5 @@
 mod Bodies
+mod Stages
 pub mod Reversed
 mod Begun
 pub mod Filled
@@ -6,6 +7,7 @@ pub mod Going
 mod Moved
 mod InTurn
 mod Lone
+mod SharedOut
 pub mod Handed
 pub mod Closed
 mod Absorbed

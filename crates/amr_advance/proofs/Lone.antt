@@ -1,4 +1,4 @@
--- The patches of a level stepped one after another: each is ready for its step, and what they add makes the level's totals.
+-- The patches of a level gone over one after another: each is ready for its step, and what they add makes the level's totals.
 use Rattle.std.proofs.Common.{◌≡◌, ℕ, zero, suc, ◌+◌, ◌*◌, ◌^◌, ◌<◌, ◌≤◌, Bool, true, false, pos, ◌+ℤ◌, List, [], ◌∷◌, length, get_or, set, take, refl, sym, ap, subst, ◌∙◌, arith}
 use Rattle.std.specs.Prelude.{◌==◌, if◌then◌else◌, slice_index, unsigned_abs}
 use Rattle.std.specs.declared.option.Option.{Option}
@@ -74,12 +74,16 @@ level_most s size small word (q ∷ qs) =
 abbrev pub word_sum : Around → Masses → ℕ → Patch → ℕ
 word_sum s old word q = word_total (plain_size s.problem s.level (masses_in s.patches) old) word (flows_of s (box q))
 
--- the first n patches are stepped, and the words have what these add
-pub record AreSteppedUpTo (s : Around) (old : Masses) (rs : List Patch) (ws : List ℕ) (n : ℕ) : Type 0 where
+-- the first n patches have become what R says, and the words have what these add
+pub record AreDoneUpTo (R : Patch → Patch → Type 0) (s : Around) (old : Masses) (rs : List Patch) (ws : List ℕ) (n : ℕ) : Type 0 where
   pub count : length rs ≡ length s.patches
-  pub done : (j : ℕ) (v : Patch) → j < n → (q : Patch) → j < length s.patches → IsStepped (flux_at s.problem s.level (masses_in s.patches) old) (get_or s.patches j q) (get_or rs j v)
+  pub done : (j : ℕ) (v : Patch) → j < n → (q : Patch) → j < length s.patches → R (get_or s.patches j q) (get_or rs j v)
   pub rest : (j : ℕ) (v : Patch) → n ≤ j → get_or rs j v ≡ get_or s.patches j v
   pub totals : (word : ℕ) → slice_index ws word ≡ total (word_sum s old word) (take n s.patches)
+
+-- they are stepped
+abbrev pub AreSteppedUpTo : Around → Masses → List Patch → List ℕ → ℕ → Type 0
+AreSteppedUpTo s old rs ws n = AreDoneUpTo (IsStepped (flux_at s.problem s.level (masses_in s.patches) old)) s old rs ws n
 
 module _ (p : Problem) (l : ℕ) (old : Masses) (qs : List Patch) (cells : List Cell) (next : Option Held) (shallow : l ≤ 4) (shown : AreShown p l old qs) (fits : StepFits p l (masses_in qs) old)
     (v : LevelFlows) (of : AreAddsOf (around p l qs cells next) v) where
@@ -123,18 +127,18 @@ module _ (p : Problem) (l : ℕ) (old : Masses) (qs : List Patch) (cells : List 
         (λ j x below. ap unsigned_abs (plain_at p l old qs cells next shallow shown fits k r lt (get_or (flows_of s (box q)) j x).face (owned_of_box q (get_or (flows_of s (box q)) j x).face (flows_owned p l qs cells next q (all_lie p l old qs cells next shallow shown fits) (shown.marks k r lt) j x below).1)))
 
     -- after its step
-    steps : (x : Patch) → box x ≡ box q → ((c : Cell) → holds (box q) c ≡ true → pos (mass_in x c) ≡ pos (mass_in q c) +ℤ net (flux_beside p l q) c) → IsStepped e q x
+    pub steps : (x : Patch) → box x ≡ box q → ((c : Cell) → holds (box q) c ≡ true → pos (mass_in x c) ≡ pos (mass_in q c) +ℤ net (flux_beside p l q) c) → IsStepped e q x
     steps x of_box masses = record {
       of_box = of_box;
       masses = λ c h. masses c h ∙ ap (λ z. pos (mass_in q c) +ℤ z) (net_alike (box q) (flux_beside p l q) e (plain_at p l old qs cells next shallow shown fits k r lt) c h);
     }
 
-  pub none_stepped : (ws : List ℕ) → ((word : ℕ) → slice_index ws word ≡ 0) → AreSteppedUpTo s old qs ws 0
-  none_stepped ws none = record { count = refl; done = λ j v lt. absurd (omega (arith, lt)); rest = λ j v le. refl; totals = none }
+  pub none_done : (R : Patch → Patch → Type 0) (ws : List ℕ) → ((word : ℕ) → slice_index ws word ≡ 0) → AreDoneUpTo R s old qs ws 0
+  none_done R ws none = record { count = refl; done = λ j v lt. absurd (omega (arith, lt)); rest = λ j v le. refl; totals = none }
 
   -- ---- one more patch
 
-  module _ (rs : List Patch) (ws : List ℕ) (n : ℕ) (up : AreSteppedUpTo s old rs ws n) (r : Patch) (lt : n < length qs) where
+  module _ (R : Patch → Patch → Type 0) (rs : List Patch) (ws : List ℕ) (n : ℕ) (up : AreDoneUpTo R s old rs ws n) (r : Patch) (lt : n < length qs) where
     pub patch_here : get_or rs n r ≡ get_or qs n r
     patch_here = up.rest n r (omega arith)
 
@@ -154,26 +158,29 @@ module _ (p : Problem) (l : ℕ) (old : Masses) (qs : List Patch) (cells : List 
     pub fits_here : (word : ℕ) → slice_index ws word + adds_here word < 2 ^ 63
     fits_here word = omega (arith, up.totals word, added_here word, total_more (word_sum s old word) qs n r lt, total_take (word_sum s old word) qs (n + 1), totals_small word)
 
-    pub next_stepped : (x : Patch) (vs : List ℕ) → box x ≡ box (get_or rs n r) → ((c : Cell) → holds (box (get_or rs n r)) c ≡ true → pos (mass_in x c) ≡ pos (mass_in (get_or rs n r) c) +ℤ net (flux_beside p l (get_or rs n r)) c)
-        → ((word : ℕ) → slice_index vs word ≡ slice_index ws word + adds_here word) → AreSteppedUpTo s old (set rs n x) vs (n + 1)
-    next_stepped x vs of_box masses added = record {
+    pub next_done : (x : Patch) (vs : List ℕ) → R (get_or rs n r) x → ((word : ℕ) → slice_index vs word ≡ slice_index ws word + adds_here word) → AreDoneUpTo R s old (set rs n x) vs (n + 1)
+    next_done x vs one added = record {
       count = length-set rs n x ∙ up.count;
-      done = set_done (λ j y. (q : Patch) → j < length qs → IsStepped e (get_or qs j q) y) rs n x (omega (arith, lt, up.count)) up.done last;
+      done = set_done (λ j y. (q : Patch) → j < length qs → R (get_or qs j q) y) rs n x (omega (arith, lt, up.count)) up.done last;
       rest = λ j d le. get_or-set_other rs n j x d (λ i. omega (arith, le, i)) ∙ up.rest j d (omega (arith, le));
       totals = λ word. added word ∙ (λ i. up.totals word i + added_here word i) ∙ sym (total_more (word_sum s old word) qs n r lt);
     }
       where
-        stepped_from : (y : Patch) → y ≡ get_or qs n r → box x ≡ box y → ((c : Cell) → holds (box y) c ≡ true → pos (mass_in x c) ≡ pos (mass_in y c) +ℤ net (flux_beside p l y) c) → IsStepped e (get_or qs n r) x
-        stepped_from y same b h = steps n r lt x (b ∙ ap box same) (subst (λ (y : Patch). (c : Cell) → holds (box y) c ≡ true → pos (mass_in x c) ≡ pos (mass_in y c) +ℤ net (flux_beside p l y) c) same h)
+        last : (q : Patch) → n < length qs → R (get_or qs n q) x
+        last q inside = subst (λ (y : Patch). R y x) (patch_here ∙ same_default qs n r q lt) one
 
-        last : (q : Patch) → n < length qs → IsStepped e (get_or qs n q) x
-        last q inside = subst (λ (y : Patch). IsStepped e y x) (same_default qs n r q lt) (stepped_from (get_or rs n r) patch_here of_box masses)
+    -- after its step
+    pub steps_here : (x : Patch) → box x ≡ box (get_or rs n r) → ((c : Cell) → holds (box (get_or rs n r)) c ≡ true → pos (mass_in x c) ≡ pos (mass_in (get_or rs n r) c) +ℤ net (flux_beside p l (get_or rs n r)) c) → IsStepped e (get_or rs n r) x
+    steps_here x of_box masses = subst (λ (y : Patch). IsStepped e y x) (sym patch_here) (from (get_or rs n r) patch_here of_box masses)
+      where
+        from : (y : Patch) → y ≡ get_or qs n r → box x ≡ box y → ((c : Cell) → holds (box y) c ≡ true → pos (mass_in x c) ≡ pos (mass_in y c) +ℤ net (flux_beside p l y) c) → IsStepped e (get_or qs n r) x
+        from y same b h = steps n r lt x (b ∙ ap box same) (subst (λ (y : Patch). (c : Cell) → holds (box y) c ≡ true → pos (mass_in x c) ≡ pos (mass_in y c) +ℤ net (flux_beside p l y) c) same h)
 
   -- ---- all
 
-  module _ (rs : List Patch) (ws : List ℕ) (n : ℕ) (le : length qs ≤ n) (up : AreSteppedUpTo s old rs ws n) where
-    pub all_stepped : AllZip (IsStepped e) qs rs
-    all_stepped = zip_from (IsStepped e) qs rs (sym up.count) (λ t d lt. up.done t d (omega (arith, lt, le)) d lt)
+  module _ (R : Patch → Patch → Type 0) (rs : List Patch) (ws : List ℕ) (n : ℕ) (le : length qs ≤ n) (up : AreDoneUpTo R s old rs ws n) where
+    pub all_done : AllZip R qs rs
+    all_done = zip_from R qs rs (sym up.count) (λ t d lt. up.done t d (omega (arith, lt, le)) d lt)
 
     pub all_added : (word : ℕ) → slice_index ws word ≡ level_total s (plain_size p l m old) word
     all_added word = up.totals word ∙ total_whole (word_sum s old word) qs n le

@@ -27,6 +27,11 @@ pub record AreWorkspaces (qs : List Patch) (ts : List TaskLayout) (ws : List Wor
   pub count : length ws ≡ length qs
   pub each : (k : ℕ) (q : Patch) (t : TaskLayout) (w : Workspace) → k < length qs → Serves (width (box (slice_index_or qs k q))) (slice_index_or ts k t) (slice_index_or ws k w)
 
+-- one with room for a row of fluxes for each patch
+pub record AreRooms (qs : List Patch) (ws : List Workspace) : Type 0 where
+  pub count : length ws ≡ length qs
+  pub each : (k : ℕ) (q : Patch) (w : Workspace) → k < length qs → width (box (slice_index_or qs k q)) ≤ widest (slice_index_or ws k w).room
+
 -- a raw piece
 pub record IsRawPiece (p : Problem) (l task : ℕ) (q : Patch) (s : Workspace) (w : Work) : Type 0 where
   pub of_task : w.task ≡ task

@@ -10,7 +10,7 @@ use Rattle.amr_def.specs.State.{Masses, mass_of}
 use Rattle.amr_def.specs.Value.{value_at}
 use Rattle.amr_def.specs.Flux.{Fluxes, flux_at, net}
 use Rattle.amr_patch.specs.declared.patches.Patch.{Patch}
-use Rattle.amr_patch.specs.Patches.{ArePatchesApart, box, mass_in, masses_in}
+use Rattle.amr_patch.specs.Patches.{ArePatchesApart, SameMarks, SameValues, box, mass_in, masses_in}
 use Rattle.amr_ghost.specs.Frames.{AreInDomain, HasGhostMarks}
 use Rattle.amr_flux.specs.Faces.{ShowsValues}
 
@@ -33,3 +33,9 @@ pub record AreShown (p : Problem) (l : ℕ) (old : Masses) (qs : List Patch) : T
 pub record IsStepped (e : Fluxes) (q r : Patch) : Type 0 where
   pub of_box : box r ≡ box q
   pub masses : (c : Cell) → IsTrue (holds (box q) c) → pos (mass_in r c) ≡ pos (mass_in q c) +ℤ net e c
+
+-- a patch keeps all that its step follows from: its masses and its frame
+pub record KeepsShown (q r : Patch) : Type 0 where
+  pub of_box : box r ≡ box q
+  pub values : SameValues q r
+  pub marks : SameMarks q r

@@ -16,6 +16,7 @@ ghost use Rattle.amr_advance.specs.Kept.{IsKept, IsLaidOut};
 
 use crate::level::Given;
 use crate::tasks::{Tasks, are_for, tasks_for};
+use crate::ways::Way;
 use amr_alike::{boxes_of, have_boxes};
 use amr_box::{Bx, Cell};
 use amr_causes::NoMemory;
@@ -28,7 +29,7 @@ use std::alloc::Global;
 
 /// The layout of a level's step, with a plan of the frames, and what it was made for. That is the boxes of the level's
 /// patches, the register cells of the next coarser level, and the patch boxes of the next finer one. Those matter only
-/// beside open sides. While these stay, each step of the level by as many workers takes it as it is.
+/// beside open sides. While these stay, each step of the level that is made in the same way takes it as it is.
 #[derive(Drop)]
 pub struct KeptLayout {
     level: u32,
@@ -107,11 +108,11 @@ fn finer_boxes(alloc: Global, finer: Option<&Level>) -> Result<Vec<Bx>, NoMemory
     }
 }
 
-/// Whether a layout that is kept is that of these patches, for a lone worker or for several.
-fn serves(kept: &KeptLayout, given: Given<'_>, patches: &[Patch], alone: bool) -> bool
+/// Whether a layout that is kept is that of these patches, in this way.
+fn serves(kept: &KeptLayout, given: Given<'_>, patches: &[Patch], way: Way) -> bool
     ensures { IsTrue result → IsKept given.entry.problem.now kept.now → IsLaidOut (around given.entry.problem.now given.entry.level patches.now given.entry.cells.now (option_copied given.entry.finer)) kept.now }
 {
-    if !are_for(&kept.tasks, alone) {
+    if !are_for(&kept.tasks, way) {
         return false;
     }
     if kept.level != given.level {
@@ -126,12 +127,12 @@ fn serves(kept: &KeptLayout, given: Given<'_>, patches: &[Patch], alone: bool) -
     serves_beside(given.problem, given.finer, &kept.finer)
 }
 
-/// Lays out the step of these patches anew, for a lone worker or for several, with what old tasks leave as far as it goes.
+/// Lays out the step of these patches anew, to be made in this way, with what old tasks leave as far as it goes.
 fn lay_out_anew(
     given: Given<'_>,
     order: Order,
     patches: &[Patch],
-    alone: bool,
+    way: Way,
     old: Option<Tasks>,
 ) -> Result<KeptLayout, NoMemory>
     requires level { given.level ≤ 4 }
@@ -152,7 +153,7 @@ fn lay_out_anew(
         cells: given.cells,
         finer: given.finer,
     };
-    let tasks = tasks_for(alloc, surroundings, alone, old)?;
+    let tasks = tasks_for(alloc, surroundings, way, old)?;
     Ok(KeptLayout {
         level: given.level,
         boxes: boxes_of(alloc, patches)?,
@@ -178,13 +179,13 @@ fn tasks_from(layout: KeptLayout) -> Tasks {
     tasks
 }
 
-/// The layout of the step of these patches, for a lone worker or for several: the one that is kept, where it serves, else a new one.
-/// None is kept afterwards.
+/// The layout of the step of these patches, to be made in this way: the one that is kept, where it serves, else a new one. None is
+/// kept afterwards.
 pub(crate) fn layout_for(
     given: Given<'_>,
     order: Order,
     patches: &[Patch],
-    alone: bool,
+    way: Way,
     kept: &mut Option<KeptLayout>,
 ) -> Result<KeptLayout, NoMemory>
     requires level { given.level ≤ 4 }
@@ -197,10 +198,10 @@ pub(crate) fn layout_for(
     ensures kept { kept.new ≡ None }
 {
     let Some(layout) = kept.take() else {
-        return lay_out_anew(given, order, patches, alone, None);
+        return lay_out_anew(given, order, patches, way, None);
     };
-    if serves(&layout, given, patches, alone) {
+    if serves(&layout, given, patches, way) {
         return Ok(layout);
     }
-    lay_out_anew(given, order, patches, alone, Some(tasks_from(layout)))
+    lay_out_anew(given, order, patches, way, Some(tasks_from(layout)))
 }

@@ -1,4 +1,4 @@
-//! The step of a level's patches: on a board where several work, else one after another.
+//! The step of a level's patches: one after another, shared out among several workers, or drawn by them on a board.
 
 ghost use Rattle.std.specs.Prelude.{◌≡◌, ◌+◌, ◌*◌, ◌<◌, ◌≤◌, ◌^◌, ℕ, IfOk, IfSome, OnOk, OnErr, length, slice_index};
 ghost use Rattle.std.specs.List.{AllZip};
@@ -19,6 +19,7 @@ use crate::collecting::{collect, take_totals};
 use crate::kept::KeptLayout;
 use crate::pieces::{to_patches, to_pieces};
 use crate::running::{Workers, run_pieces};
+use crate::shared::step_shared;
 use crate::tasks::{BoardTasks, Tasks};
 use amr_box::Cell;
 use amr_causes::NoMemory;
@@ -45,7 +46,7 @@ pub(crate) struct Given<'a> {
 /// Makes a step of the patches of a level, whose frames are filled, by workers on a board with these tasks. It takes
 /// the totals of the words from the closed board. The tasks serve the next step.
 ///
-/// All memory is taken before the first task is drawn. If allocation fails the patches are as before.
+/// All memory whose lack is a refusal is taken before the first task is drawn. If allocation fails the patches are as before.
 fn run_on_board<R: Threads + Wait + Sync, G: Gate + Sync>(
     workers: &mut Workers<'_, R, G>,
     given: Given<'_>,
@@ -90,11 +91,11 @@ fn run_on_board<R: Threads + Wait + Sync, G: Gate + Sync>(
     }
 }
 
-/// Makes a step of the patches of a level, whose frames are filled: each cell gets what flows in through its faces. Several workers
-/// work on a board, a lone one goes over the patches in order, as the layout was made for. Answers the totals of the ledger's words and of the
-/// register's, and the layout serves the next step.
+/// Makes a step of the patches of a level, whose frames are filled: each cell gets what flows in through its faces. The layout was
+/// made for the way that this is done in. Answers the totals of the ledger's words and of the register's, and the layout serves the
+/// next step.
 ///
-/// All memory is taken before the first task is begun. If allocation fails the patches are as before.
+/// All memory whose lack is a refusal is taken before the first task is begun. If allocation fails the patches are as before.
 pub(crate) fn run_level<R: Threads + Wait + Sync, G: Gate + Sync>(
     workers: &mut Workers<'_, R, G>,
     given: Given<'_>,
@@ -123,6 +124,10 @@ pub(crate) fn run_level<R: Threads + Wait + Sync, G: Gate + Sync>(
     match &mut layout.tasks {
         Tasks::Lone(tasks) => {
             step_each(workers.gate, given, patches, tasks, &mut totals);
+            Ok(totals)
+        }
+        Tasks::Shared(tasks) => {
+            step_shared(workers, given, patches, tasks, &mut totals)?;
             Ok(totals)
         }
         Tasks::Board(tasks) => {

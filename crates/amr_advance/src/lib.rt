@@ -1,7 +1,8 @@
-//! A step of a level by workers (Berger and Colella 1989: the integration of the grids of one level). Where several
-//! work, each patch is the piece of a task on a board, the larger patches first. What flows through the faces between patches goes over the
-//! board. So do the sums for the ledger and for the flux register of the next coarser level. A lone worker makes the
-//! step of one patch after another, each by its own values and those of its frame.
+//! A step of a level by workers (Berger and Colella 1989: the integration of the grids of one level). A lone worker makes the step of
+//! one patch after another, each by its own values and those of its frame. Several under a gate that holds nobody share the patches
+//! of a large level out, and do the same. Else each patch is the piece of a task on a board, the larger patches first. What flows
+//! through the faces between patches goes over the board, and so do the sums for the ledger and for the flux register of the next
+//! coarser level.
 #![tactic(auto)]
 
 mod alone;
@@ -12,9 +13,11 @@ mod pieces;
 mod registers;
 mod regs;
 mod running;
+mod shared;
 mod steps;
 mod tasks;
 mod turns;
+mod ways;
 
 pub use kept::KeptLayout;
 pub use regs::{Crew, Regs};

@@ -25,8 +25,8 @@ use std::thread::Threads;
 /// Workers that last from one step of a level to the next.
 pub type LevelTeam<'a, G> = Team<'a, Work, LevelWork<'a>, G>;
 
-/// Who works on a board: so many workers, each of whom calls a gate around each task. They are a team that lasts from
-/// step to step, or threads made for each step.
+/// Who makes the steps of levels: so many workers, under a gate that each calls around each task that it draws. They are a team that
+/// lasts from step to step, or threads made for each step.
 #[derive(Drop)]
 pub struct Workers<'a, R, G: Gate> {
     pub runtime: &'a R,
@@ -95,7 +95,7 @@ fn run_board<R: Threads + Wait + Sync, G: Gate + Sync>(
     }
 }
 
-/// Has workers do all tasks of a board of these pieces, and closes it. All memory is taken before the first task is drawn; if
+/// Has workers do all tasks of a board of these pieces, and closes it. The board's memory is taken before the first task is drawn; if
 /// allocation fails the pieces come back.
 pub(crate) fn run_pieces<R: Threads + Wait + Sync, G: Gate + Sync>(
     workers: &mut Workers<'_, R, G>,
@@ -124,7 +124,8 @@ pub(crate) fn run_pieces<R: Threads + Wait + Sync, G: Gate + Sync>(
     Ok(run_board(workers, alloc, p, board, seat))
 }
 
-/// Completes the pieces of a closed board, by what stands at its places: the team, where there is one, else this thread alone.
+/// Completes pieces, swept ones by what stands at the places of their closed board: the team, where there is one, else this thread
+/// alone.
 pub(crate) fn complete_pieces<R: Wait, G: Gate>(
     workers: &mut Workers<'_, R, G>,
     alloc: Global,

@@ -25,6 +25,7 @@ use crate::level::{Given, run_level};
 use crate::registers::absorb_totals;
 use crate::regs::{Crew, Regs};
 use crate::running::Workers;
+use crate::ways::{Way, way_for};
 use amr_box::Cell;
 use amr_causes::NoMemory;
 use amr_def::Problem;
@@ -39,13 +40,13 @@ use std::thread::Threads;
 /// How many patches a level may have. More would take more memory than there is, and are refused as that.
 const MOST: usize = 1 << 26;
 
-/// Lays out the step of a level's patches, for a lone worker or for several, as it is kept or anew, and fills their frames. After a
-/// refusal the patches are as before.
+/// Lays out the step of a level's patches, to be made in this way, as it is kept or anew, and fills their frames. After a refusal
+/// the patches are as before.
 fn lay_out(
     given: Given<'_>,
     order: Order,
     patches: &mut [Patch],
-    alone: bool,
+    way: Way,
     kept: &mut Option<KeptLayout>,
 ) -> Result<KeptLayout, NoMemory>
     requires level { given.level ≤ 4 }
@@ -62,7 +63,7 @@ fn lay_out(
     ensures shown { OnOk result (AreShown given.entry.problem.now given.entry.level (old_masses (option_copied given.entry.old)) patches.new) }
     ensures layout { IfOk result (IsLaidOut (around given.entry.problem.now given.entry.level patches.new given.entry.cells.now (option_copied given.entry.finer))) }
 {
-    let layout = layout_for(given, order, patches, alone, kept)?;
+    let layout = layout_for(given, order, patches, way, kept)?;
     fill_planned(
         given.problem,
         given.level,
@@ -142,7 +143,8 @@ fn step_patches<R: Threads + Wait + Sync, G: Gate + Sync>(
     ensures same_register { OnErr result (BothChange (λ c. pos 0) register.old register.new) }
     ensures kept { IfSome kept.new (IsKept given.entry.problem.now) }
 {
-    let mut layout = lay_out(given, order, patches, workers.count == 1, kept)?;
+    let way = way_for(workers, patches);
+    let mut layout = lay_out(given, order, patches, way, kept)?;
     if patches.len() > MOST {
         return Err(NoMemory);
     }
@@ -249,8 +251,8 @@ pub fn advance_kept<R: Threads + Wait + Sync, G: Gate + Sync>(
 /// open sides beside cells that no finer level covers. The outcome is the same for any number of workers, whoever draws
 /// which task.
 ///
-/// The crew has one rank, and from 1 to 64 workers. All memory is taken before the first task is drawn. `NoMemory` is the only
-/// refusal, and also stands for more than 2^26 patches or 2^30 faces: then the level has the masses of before, and `regs` is as
+/// The crew has one rank, and from 1 to 64 workers. All memory whose lack is a refusal is taken before the first task is drawn.
+/// `NoMemory` is the only refusal, and also stands for more than 2^26 patches or 2^30 faces: then the level has the masses of before, and `regs` is as
 /// before. The call joins its workers, and keeps this promise if it returns.
 pub fn advance<R: Threads + Wait + Sync, G: Gate + Sync>(
     rt: &R,

@@ -1,4 +1,5 @@
-//! What workers work with in a step of a level besides its patches: a lone one by itself, or several on a board.
+//! What workers work with in a step of a level besides its patches: a lone one by itself, several who share the patches out, or
+//! several on a board.
 
 ghost use Rattle.std.specs.Prelude.{◌≡◌, ◌+◌, ◌*◌, ◌≤◌, ◌<◌, ◌^◌, length, IfOk, OnOk};
 ghost use Rattle.std.specs.List.{All};
@@ -12,10 +13,11 @@ ghost use Rattle.amr_layout.specs.Adds.{HasRegisterCells};
 ghost use Rattle.amr_layout.specs.Surroundings.{around};
 ghost use Rattle.amr_patch.specs.Orders.{IsOrderOf};
 ghost use Rattle.amr_patch.specs.Patches.{ArePatchesApart, box};
-ghost use Rattle.amr_advance.specs.Tasks.{AreBoardTasks, AreLoneTasks, AreTasks};
+ghost use Rattle.amr_advance.specs.Tasks.{AreBoardTasks, AreLoneTasks, AreSharedTasks, AreTasks};
 
 use crate::pieces::bodies_of;
-use crate::turns::{in_turn, turns_of};
+use crate::turns::{by_number, in_turn, no_layouts, turns_of};
+use crate::ways::Way;
 use amr_board::Shape;
 use amr_causes::NoMemory;
 use amr_flux::Room;
@@ -35,6 +37,17 @@ pub(crate) struct LoneTasks {
     pub(crate) room: Room,
 }
 
+/// What several workers work with who share the patches out in advance.
+#[derive(Drop)]
+pub(crate) struct SharedTasks {
+    /// What one of them works with alone, before the others begin.
+    pub(crate) alone: LoneTasks,
+    /// Which patch each piece has.
+    pub(crate) turns: Vec<usize>,
+    /// A body for each piece.
+    pub(crate) bodies: Vec<Box<Body>>,
+}
+
 /// What several workers work with on a board.
 #[derive(Drop)]
 pub(crate) struct BoardTasks {
@@ -52,20 +65,22 @@ pub(crate) struct BoardTasks {
 #[derive(Drop)]
 pub(crate) enum Tasks {
     Lone(LoneTasks),
+    Shared(SharedTasks),
     Board(BoardTasks),
 }
 
-/// Whether a lone worker works with these tasks.
-fn are_lone(tasks: &Tasks) -> bool {
+/// The way that these tasks are for.
+fn way_of(tasks: &Tasks) -> Way {
     match tasks {
-        Tasks::Lone(_) => true,
-        Tasks::Board(_) => false,
+        Tasks::Lone(_) => Way::Alone,
+        Tasks::Shared(_) => Way::Shared,
+        Tasks::Board(_) => Way::OnBoard,
     }
 }
 
-/// Whether these tasks are for a lone worker or for several, as is asked for.
-pub(crate) fn are_for(tasks: &Tasks, alone: bool) -> bool {
-    are_lone(tasks) == alone
+/// Whether these tasks are for this way.
+pub(crate) fn are_for(tasks: &Tasks, way: Way) -> bool {
+    way_of(tasks) == way
 }
 
 /// How many columns the widest of these patches has.
@@ -79,7 +94,7 @@ fn widest_of(patches: &[Patch]) -> u32
     widest
 }
 
-/// The room of old tasks, none where several workers worked.
+/// The room of old tasks, none where several workers worked on a board.
 fn room_from(old: Option<Tasks>) -> Option<Room> {
     match old {
         Some(Tasks::Lone(tasks)) => {
@@ -119,7 +134,33 @@ fn lone_tasks(alloc: Global, s: Surroundings<'_>, old: Option<Room>) -> Result<L
     Ok(LoneTasks { flows, room })
 }
 
-/// What several workers work with in the step of these patches, with old bodies as far as they go.
+/// What several workers work with in the step of these patches where they share them out, with old bodies as far as they go.
+fn shared_tasks(
+    alloc: Global,
+    s: Surroundings<'_>,
+    olds: Vec<Box<Body>>,
+) -> Result<SharedTasks, NoMemory>
+    requires level { s.level ≤ 4 }
+    requires order { IsOrderOf s.order s.patches.now }
+    requires apart { ArePatchesApart s.patches.now }
+    requires starts { HasStarts s.patches.now s.starts.now }
+    requires inside { AreInDomain (domain s.problem.now s.level) s.patches.now }
+    requires cells { HasRegisterCells (around s.problem.now s.level s.patches.now s.cells.now (option_copied s.finer)) }
+    ensures tasks { IfOk result (AreSharedTasks (around s.entry.problem.now s.entry.level s.entry.patches.now s.entry.cells.now (option_copied s.entry.finer))) }
+    ensures few { OnOk result (2 + 2 * length s.entry.cells.now < 2 ^ 32) }
+{
+    let turns = by_number(alloc, s.patches.len())?;
+    let layouts = no_layouts(alloc, s.patches.len())?;
+    let bodies = bodies_of(alloc, s.patches, &turns, layouts, olds)?;
+    let alone = lone_tasks(alloc, s, None)?;
+    Ok(SharedTasks {
+        alone,
+        turns,
+        bodies,
+    })
+}
+
+/// What several workers work with on a board in the step of these patches, with old bodies as far as they go.
 fn board_tasks(
     alloc: Global,
     s: Surroundings<'_>,
@@ -166,15 +207,23 @@ fn bodies_from(alloc: Global, old: Option<Tasks>) -> Vec<Box<Body>> {
             } = tasks;
             bodies
         }
+        Some(Tasks::Shared(tasks)) => {
+            let SharedTasks {
+                alone: _,
+                turns: _,
+                bodies,
+            } = tasks;
+            bodies
+        }
         _ => Vec::new(alloc),
     }
 }
 
-/// What workers work with in the step of these patches, a lone one or several, with what old tasks leave.
+/// What workers work with in the step of these patches, in this way, with what old tasks leave.
 pub(crate) fn tasks_for(
     alloc: Global,
     s: Surroundings<'_>,
-    alone: bool,
+    way: Way,
     old: Option<Tasks>,
 ) -> Result<Tasks, NoMemory>
     requires level { s.level ≤ 4 }
@@ -186,11 +235,18 @@ pub(crate) fn tasks_for(
     ensures tasks { IfOk result (AreTasks (around s.entry.problem.now s.entry.level s.entry.patches.now s.entry.cells.now (option_copied s.entry.finer))) }
     ensures few { OnOk result (2 + 2 * length s.entry.cells.now < 2 ^ 32) }
 {
-    if alone {
-        let tasks = lone_tasks(alloc, s, room_from(old))?;
-        return Ok(Tasks::Lone(tasks));
+    match way {
+        Way::Alone => {
+            let tasks = lone_tasks(alloc, s, room_from(old))?;
+            Ok(Tasks::Lone(tasks))
+        }
+        Way::Shared => {
+            let tasks = shared_tasks(alloc, s, bodies_from(alloc, old))?;
+            Ok(Tasks::Shared(tasks))
+        }
+        Way::OnBoard => {
+            let tasks = board_tasks(alloc, s, bodies_from(alloc, old))?;
+            Ok(Tasks::Board(tasks))
+        }
     }
-    let olds = bodies_from(alloc, old);
-    let tasks = board_tasks(alloc, s, olds)?;
-    Ok(Tasks::Board(tasks))
 }

@@ -16,7 +16,7 @@ use Rattle.amr_layout.specs.declared.AddAt.{AddAt}
 use Rattle.amr_layout.specs.declared.FlowTo.{FlowTo}
 use Rattle.amr_layout.specs.declared.TaskLayout.{TaskLayout}
 use Rattle.amr_def.specs.declared.problem.Problem.{Problem}
-use Rattle.amr_work.specs.declared.work.Stage.TheVariants.{Finished, Raw}
+use Rattle.amr_work.specs.declared.work.Stage.TheVariants.{Raw, Swept}
 use Rattle.amr_work.specs.declared.work.Work.{Work}
 use Rattle.amr_work.specs.declared.work.Workspace.{Workspace}
 use Rattle.amr_work.specs.Works.{plain}
@@ -58,6 +58,11 @@ pub record MayStepWith (p : Problem) (l : ℕ) (q : Patch) (s : Workspace) : Typ
 abbrev pub IsReadyPiece : Work → Type 0
 IsReadyPiece w = MayStepWith w.problem.value w.level w.body.value.patch w.body.value.workspace
 
+-- a piece whose patch may make its step by its own values and its frame alone
+pub record IsReadyAlone (w : Work) : Type 0 where
+  pub step : MayStep w.problem.value w.level w.body.value.patch
+  pub room : width (box w.body.value.patch) ≤ widest w.body.value.workspace.room
+
 -- at the place of each of its border faces the plan has what flows through it
 pub record HasBorderPlanned (plan : PlanOf) (w : Work) : Type 0 where
   pub places : All (λ place. place < plan.places) w.body.value.workspace.layout.border.items
@@ -77,8 +82,8 @@ pub record MayBegin (p : Problem) (plan : PlanOf) (w : Work) : Type 0 where
   pub ready : IsReadyPiece w
   pub border : HasBorderPlanned plan w
 
--- a piece of this problem that is finished, or can be by what stands at the places of its board
+-- a piece of this problem that is finished, or can be: a raw one by itself, a swept one by what stands at the places of its board
 pub record MayComplete (p : Problem) (faces : List ℕ) (w : Work) : Type 0 where
   pub problem : w.problem.value ≡ p
-  pub ready : w.stage ≢ Finished → IsReadyPiece w
-  pub border : w.stage ≢ Finished → HasBorderIn faces w
+  pub raw : w.stage ≡ Raw → IsReadyAlone w
+  pub swept : w.stage ≡ Swept → IsReadyPiece w × HasBorderIn faces w

@@ -32,8 +32,9 @@ fn add_through(patch: &Patch, flows: &[FlowTo], words: &mut [u64])
     }
 }
 
-/// Adds the sizes of these flows of a patch to their words. No sweep is made where there are none, as of most patches.
-fn add_flows(
+/// Adds the sizes of these flows of a patch to their words, by its values and its frame. Its masses and its frame stay, the fluxes
+/// on its edges may not. No sweep is made where there are none, as of most patches.
+pub fn add_flows(
     p: &Problem,
     l: u32,
     patch: &mut Patch,

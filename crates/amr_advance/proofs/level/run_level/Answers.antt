@@ -61,3 +61,33 @@ returns-in_ok-run_on_board-in-Board-clause-small g c =
     let step = c.in_ok-run_on_board-in-Board.ensures in
     let items = with_items_is c.in_ok-totals.totals c.run_on_board.new.totals (omega (arith, step.words, ap length c.deref_mut-in-Board.ensures.value, c.in_ok-totals.totals.ok.0)) in
     subst (λ ws. (word : ℕ) → word < length ws → slice_index ws word < 2 ^ 63) (sym items) step.small
+
+pub step_shared-requires-clause-tasks : goal.step_shared-requires-clause-tasks
+step_shared-requires-clause-tasks g c =
+    subst (AreTasks (around c.args.given.problem.now c.args.given.level c.args.patches.now c.args.given.cells.now (option_copied c.args.given.finer))) c.in-Shared.is c.requires.layout.tasks
+
+pub returns-in_ok-step_shared-in-Shared-clause-layout : goal.returns-in_ok-step_shared-in-Shared-clause-layout
+returns-in_ok-step_shared-in-Shared-clause-layout g c = record {
+  level = c.requires.layout.level;
+  boxes = c.requires.layout.boxes;
+  cells = c.requires.layout.cells;
+  finer = c.requires.layout.finer;
+  frames = c.requires.layout.frames;
+  words = c.requires.layout.words;
+  tasks = c.in_ok-step_shared-in-Shared.ensures.tasks;
+}
+
+pub returns-in_ok-step_shared-in-Shared-clause-totals : goal.returns-in_ok-step_shared-in-Shared-clause-totals
+returns-in_ok-step_shared-in-Shared-clause-totals g c =
+    let p = c.args.given.problem.now in
+    let l = c.args.given.level in
+    let qs = c.args.patches.now in
+    let step = c.in_ok-step_shared-in-Shared.ensures in
+    let items = with_items_is c.in_ok-totals.totals c.step_shared.new.totals (omega (arith, step.words, ap length c.deref_mut-in-Shared.ensures.value, c.in_ok-totals.totals.ok.0)) in
+    subst (λ ws. (word : ℕ) → word < length ws → slice_index ws word ≡ level_total (around p l qs c.args.given.cells.now (option_copied c.args.given.finer)) (plain_size p l (masses_in qs) (old_masses (option_copied c.args.given.old))) word) (sym items) (λ word _. step.totals word)
+
+pub returns-in_ok-step_shared-in-Shared-clause-small : goal.returns-in_ok-step_shared-in-Shared-clause-small
+returns-in_ok-step_shared-in-Shared-clause-small g c =
+    let step = c.in_ok-step_shared-in-Shared.ensures in
+    let items = with_items_is c.in_ok-totals.totals c.step_shared.new.totals (omega (arith, step.words, ap length c.deref_mut-in-Shared.ensures.value, c.in_ok-totals.totals.ok.0)) in
+    subst (λ ws. (word : ℕ) → word < length ws → slice_index ws word < 2 ^ 63) (sym items) (λ word _. step.small word)
