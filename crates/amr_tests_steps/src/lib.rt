@@ -15,4 +15,6 @@ mod regrid;
 #[cfg(test)]
 mod rows;
 #[cfg(test)]
+mod shared;
+#[cfg(test)]
 mod start;
