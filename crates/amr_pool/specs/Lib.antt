@@ -1,0 +1,2 @@
+pub mod PoolOf
+pub mod Helpers

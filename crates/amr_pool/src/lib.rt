@@ -1,0 +1,17 @@
+//! Workers that are kept in threads, and serve pieces that are handed to them by value. (profile)
+#![tactic(auto)]
+
+mod helper;
+mod kept;
+mod order;
+mod pool;
+mod service;
+
+pub use helper::{Helper, Recruit};
+pub use kept::serve_all;
+pub use order::{Duty, PieceAsker, PieceBox, PieceWorker};
+pub use pool::{Pool, serve_alone};
+pub use service::Service;
+
+#[cfg(test)]
+mod tests;
