@@ -13,3 +13,6 @@ pub mod PlannedSpans
 pub mod PlanLaws
 pub mod Reach
 pub mod Inside
+pub mod Copies
+pub mod Parting
+pub mod PartLaws

@@ -1,10 +1,10 @@
 -- Spans of ghost cells: what a look-up tells of one, what its values are, and that spans together have each ghost cell.
-use Rattle.std.proofs.Common.{◌≡◌, ℕ, ◌+◌, ◌-◌, ◌/◌, ◌<◌, ◌≤◌, Bool, true, false, ℤ, pos, ◌+ℤ◌, ◌<ℤ◌, List, [], ◌∷◌, ◌++◌, length, get_or, IsTrue, refl, sym, ap, subst, ◌∙◌, arith}
+use Rattle.std.proofs.Common.{◌≡◌, ℕ, ◌+◌, ◌-◌, ◌/◌, ◌<◌, ◌≤◌, Bool, true, false, ℤ, pos, ◌+ℤ◌, ◌<ℤ◌, List, [], ◌∷◌, ◌++◌, length, get_or, IsTrue, refl, sym, ap, subst, ◌∙◌, arith, below_more}
 use Rattle.std.specs.Prelude.{nat_lt}
-use Rattle.std.specs.List.{AllZip, Any}
+use Rattle.std.specs.List.{All, AllZip, Any}
 use Rattle.std.proofs.lemmas.Bool.Decides.{nat_tests}
 use Rattle.std.proofs.lemmas.Int.{ints}
-use Rattle.std.proofs.lemmas.List.{get_or_append_left, length-append}
+use Rattle.std.proofs.lemmas.List.{get_or_append_left, get_or_default, length-append}
 use Rattle.std.proofs.lemmas.List.Quantifiers.{Any-push}
 use Rattle.amr_box.specs.declared.Cell.{Cell}
 use Rattle.amr_box.specs.declared.Axis.{Axis}
@@ -14,11 +14,11 @@ use Rattle.amr_def.specs.Domain.{Domain, domain, home_cell, in_domain}
 use Rattle.amr_def.specs.State.{Masses, mass_of}
 use Rattle.amr_def.specs.Value.{value_at}
 use Rattle.amr_patch.specs.declared.patches.Patch.{Patch}
-use Rattle.amr_patch.specs.Patches.{box, in_patches}
+use Rattle.amr_patch.specs.Patches.{box, in_patches, masses_in}
 use Rattle.amr_patch.specs.Orders.{IsHolder}
 use Rattle.amr_ghost.specs.Strips.{HasRoom, step}
-use Rattle.amr_ghost.specs.Filling.{AreGiven, HasFrame, HasGhost, HasGhosts, HasValues, IsGhostStrip, KeepsCells, side_axis, side_count, side_from}
-use Rattle.amr_ghost.specs.Plans.{HasCell, HaveFrame, HaveStrip, IsSource, IsSpan, KeepSpans, StandForHeld, StandInGap, PlansFrames}
+use Rattle.amr_ghost.specs.Filling.{AreGiven, HasFrame, HasGhost, HasGhosts, IsGhostStrip, KeepsCells, KeepsValues, side_axis, side_count, side_from}
+use Rattle.amr_ghost.specs.Plans.{HasCell, HasSpan, HaveFrame, HaveStrip, IsSource, IsSpan, KeepSpans, StandForHeld, StandInGap, PlansFrames}
 use Rattle.amr_ghost.specs.Frames.{is_beside, is_of_level}
 use Rattle.amr_ghost.specs.declared.sides.Side.{Side}
 use Rattle.amr_ghost.specs.declared.sides.Side.TheVariants.{East, North, South, West}
@@ -28,7 +28,7 @@ use Rattle.amr_ghost.specs.declared.sources.Span.{Span}
 use Rattle.amr_ghost.specs.declared.plan.FramePlan.{FramePlan}
 use Rattle.amr_ghost.proofs.BoxSides.{beside_of, high_inside, parts_of}
 use Rattle.amr_ghost.proofs.Homes.{step_step}
-use Rattle.amr_ghost.proofs.Levels.{few_along}
+use Rattle.amr_ghost.proofs.Levels.{few_along, same_values, still_values}
 use Rattle.amr_ghost.proofs.Spans.{room_inside, span_held}
 use Rattle.amr_ghost.proofs.Zips.{zip_box}
 use Rattle.amr_box.specs.declared.Axis.TheVariants.{X, Y}
@@ -104,7 +104,7 @@ ghosts_there value mark rs i j q a b c e n same axis from h = rw (← same, ← 
 
 -- ---- spans one after the other
 
-any_more : {A : Type 0} (P : A → Type 0) (xs : List A) (y : A) → Any P xs → Any P (xs ++ y ∷ [])
+pub any_more : {A : Type 0} (P : A → Type 0) (xs : List A) (y : A) → Any P xs → Any P (xs ++ y ∷ [])
 any_more P xs y a = (a.0, a.1, omega (arith, a.2, length-append xs (y ∷ [])), get_or_append_left xs (y ∷ []) a.1 a.0 a.2 ∙ a.3, a.4)
 
 pub keep_refl : (ss : List Span) → KeepSpans ss ss
@@ -167,8 +167,20 @@ still_whole ps ss ts i kept h = record { at = λ q c t. kept.at i c (h.at q c t)
 
 -- ---- frames filled span by span
 
-abbrev pub HasSpan : Problem → ℕ → Masses → Masses → List Patch → Span → Type 0
-HasSpan p l m old qs s = (q : Patch) → HasValues p l m old (get_or qs s.patch q) s.strip.axis s.strip.from s.strip.count
+-- the spans so far have their values, and so has the next one
+pub next_span : (p : Problem) (l : ℕ) (old : Masses) (ps qs rs : List Patch) (ss : List Span) (k : ℕ) (d : Span) → k < length ss → AllZip KeepsCells ps qs → KeepsValues p l old qs rs → All (IsSpan (domain p l) ps) ss → ((j : ℕ) (s : Span) → j < k → HasSpan p l (masses_in ps) old qs (get_or ss j s)) → HasSpan p l (masses_in qs) old rs (get_or ss k d) → (j : ℕ) (s : Span) → j < k + 1 → HasSpan p l (masses_in ps) old rs (get_or ss j s)
+next_span p l old ps qs rs ss k d there kept more spans set one j s h = below_more (λ m. HasSpan p l (masses_in ps) old rs (get_or ss m s)) k earlier this j h
+  where
+    earlier : (m : ℕ) → m < k → HasSpan p l (masses_in ps) old rs (get_or ss m s)
+    earlier m lt q =
+        let u = get_or ss m s in
+        let is = spans m s (omega (arith, lt, there)) in
+        still_values p l old ps qs rs u.patch q q u.strip.axis u.strip.from u.strip.count is.there kept more (is.ghost_strip q).ghosts (set m s lt q)
+
+    this : HasSpan p l (masses_in ps) old rs (get_or ss k s)
+    this = subst (HasSpan p l (masses_in ps) old rs) (get_or_default ss k d s there) (λ q.
+        let u = get_or ss k d in
+        same_values p l old ps qs (get_or rs u.patch q) u.strip.axis u.strip.from u.strip.count kept (one q))
 
 -- where all spans have their values, so has each frame
 pub frames_done : (p : Problem) (l : ℕ) (m old : Masses) (ps qs : List Patch) (plan : FramePlan) → AllZip KeepsCells ps qs → PlansFrames (domain p l) ps plan → ((j : ℕ) (s : Span) → j < length plan.spans.items → HasSpan p l m old qs (get_or plan.spans.items j s)) → (k : ℕ) (q : Patch) → k < length ps → HasFrame p l m old (get_or qs k q)

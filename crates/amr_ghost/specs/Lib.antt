@@ -2,3 +2,4 @@ pub mod Strips
 pub mod Frames
 pub mod Filling
 pub mod Plans
+pub mod Parts

@@ -7,6 +7,7 @@ mod gap_cells;
 mod ghosts;
 mod lookup;
 mod outside;
+mod parts;
 mod places;
 mod plan;
 mod planned;
@@ -14,5 +15,7 @@ mod sides;
 mod sources;
 
 pub use filling::{fill, fill_in_order};
+pub use parts::{FrameCopy, FrameParts, fill_within, part_frames};
 pub use plan::{FramePlan, plan_frames};
-pub use planned::fill_planned;
+pub use planned::{fill_across, fill_planned};
+pub use sources::Span;

@@ -38,7 +38,7 @@ pub(crate) enum Source {
 
 /// Ghost cells beside a patch, along an axis, that get their values from one place.
 #[derive(Clone, Copy, Debug)]
-pub(crate) struct Span {
+pub struct Span {
     pub(crate) patch: usize,
     pub(crate) strip: Strip,
     pub(crate) source: Source,

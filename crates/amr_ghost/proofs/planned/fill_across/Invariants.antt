@@ -5,11 +5,11 @@ use Rattle.amr_patch.specs.Patches.{masses_in}
 use Rattle.amr_ghost.specs.declared.sources.Span.{Span}
 use Rattle.amr_ghost.specs.Frames.{old_masses}
 use Rattle.amr_ghost.specs.Filling.{KeepsCells}
-use Rattle.amr_ghost.proofs.PlannedSpans.{HasSpan}
-use Rattle.amr_ghost.proofs.planned.fill_planned.Given as goal
+use Rattle.amr_ghost.specs.Plans.{HasSpan}
+use Rattle.amr_ghost.proofs.planned.fill_across.Given as goal
 
 abbrev pub invariant-loop-k : goal.invariant-loop-k
 invariant-loop-k l = record {
   kept : AllZip KeepsCells l.initial.patches l.patches;
-  set : (j : ℕ) (s : Span) → j < l.k → HasSpan l.p l.l (masses_in l.initial.patches) (old_masses (option_copied l.old)) l.patches (slice_index_or l.plan.spans.items j s);
+  set : (j : ℕ) (s : Span) → j < l.k → HasSpan l.p l.l (masses_in l.initial.patches) (old_masses (option_copied l.old)) l.patches (slice_index_or l.across j s);
 }

@@ -1,0 +1,27 @@
+use Rattle.std.proofs.Common.{◌≡◌, ◌+◌, ◌*◌, ◌<◌, length, sym, subst, arith}
+use Rattle.amr_ghost.specs.declared.sources.Span.{Span}
+use Rattle.amr_ghost.specs.Parts.{ArePartedTo}
+use Rattle.amr_ghost.proofs.Parting.{none_parted}
+use Rattle.amr_ghost.proofs.parts.part_frames.Goals as goal
+
+pub loop-k-init : goal.loop-k-init
+loop-k-init c = none_parted c.args.plan.now.spans.items c.args.width c.args.runs _ c.new.ensures.items c.in_ok-no_copies.ensures.count c.in_ok-no_copies.ensures.empty
+
+pub part_span-requires-clause-there : goal.part_span-requires-clause-there
+part_span-requires-clause-there c =
+    let s = c.index.result.now in
+    let few : s.patch < c.args.runs * c.args.width = subst (λ (x : Span). x.patch < c.args.runs * c.args.width) (sym c.index.ensures) (c.requires.enough c.loop-k.k s (omega arith)) in
+    subst (λ n. s.patch < n * c.args.width) (sym c.loop-k.invariant.count) few
+
+pub loop-k-preserved : goal.loop-k-preserved
+loop-k-preserved c =
+    let ss = c.args.plan.now.spans.items in
+    let n : length c.loop-k.parts.within.items ≡ c.args.runs = c.loop-k.invariant.count in
+    subst (λ m. ArePartedTo ss (c.loop-k.k + 1) c.args.width m c.part_span.new.parts) n
+    (c.in_ok-part_span.ensures ss c.loop-k.k (omega arith) (sym c.index.ensures) (subst (λ m. ArePartedTo ss c.loop-k.k c.args.width m c.loop-k.parts) (sym n) c.loop-k.invariant))
+
+pub returns : goal.returns
+returns c =
+    let ss = c.args.plan.now.spans.items in
+    let all : c.loop-k.k ≡ length ss = omega arith in
+    subst (λ m. ArePartedTo ss m c.args.width c.args.runs c.loop-k.parts) all c.loop-k.invariant
