@@ -1,0 +1,3 @@
+pub mod LotTotals
+mod InTurn
+pub mod Runs

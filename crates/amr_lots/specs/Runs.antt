@@ -1,0 +1,24 @@
+-- Runs of a list, and lots that are handed one each.
+use Rattle.std.specs.Prelude.{ℕ, ◌≡◌, ◌*◌, List, take, drop, slice_index}
+use Rattle.std.specs.Global.{Box}
+use Rattle.amr_lots.specs.declared.lot.Lot.{Lot}
+
+-- the k-th run of a list in runs of this size, the last of which may be shorter
+abbrev pub run : {A : Type 0} → ℕ → ℕ → List A → List A
+run size k xs = take size (drop (k * size) xs)
+
+-- all but its patches is as before
+pub record HasOthersOf (a b : Lot) : Type 0 where
+  pub level : b.level ≡ a.level
+  pub problem : b.problem ≡ a.problem
+  pub copies : b.copies ≡ a.copies
+  pub flows : b.flows ≡ a.flows
+  pub room : b.room ≡ a.room
+  pub totals : b.totals ≡ a.totals
+
+abbrev pub KeepOthers : Box Lot → Box Lot → Type 0
+KeepOthers a b = HasOthersOf a.value b.value
+
+-- what flows to a word in a lot
+abbrev pub word_of : ℕ → Box Lot → ℕ
+word_of word x = slice_index x.value.totals.items word

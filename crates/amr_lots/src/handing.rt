@@ -1,0 +1,39 @@
+//! Patches of a level handed to lots and taken back.
+
+ghost use Rattle.std.specs.Prelude.{◌≡◌, ◌<◌, ℕ, List, length, slice_index_or};
+ghost use Rattle.std.specs.List.{AllZip};
+ghost use Rattle.std.specs.Global.{Box as boxed};
+ghost use Rattle.amr_lots.specs.Runs.{HasOthersOf, KeepOthers, run};
+ghost use Rattle.amr_lots.specs.declared.lot.Lot.{Lot as lot};
+
+use crate::lot::Lot;
+use amr_patch::Patch;
+use std::boxed::Box;
+
+/// Exchanges patches with those of a lot.
+fn trade(patches: &mut [Patch], lot: &mut Box<Lot>)
+    requires { length lot.old.value.patches.items ≡ length patches.old }
+    ensures handed { lot.new.value.patches.items ≡ patches.old }
+    ensures back { patches.new ≡ lot.old.value.patches.items }
+    ensures others { HasOthersOf lot.old.value lot.new.value }
+{
+    patches.swap_with_slice(&mut lot.patches);
+}
+
+/// Exchanges the patches of a level with those of its lots: lot `k` gets run `k` of them, in runs of this size, and the run gets
+/// what the lot had.
+pub fn exchange_runs(patches: &mut [Patch], lots: &mut [Box<Lot>], size: usize)
+    requires counts { (k : ℕ) (x : boxed lot) → k < length lots.old → length (slice_index_or lots.old k x).value.patches.items ≡ length (run size k patches.old) }
+    ensures handed { (k : ℕ) (x : boxed lot) → k < length lots.old → (slice_index_or lots.new k x).value.patches.items ≡ run size k patches.old }
+    ensures back { (k : ℕ) (x : boxed lot) → k < length lots.old → run size k patches.new ≡ (slice_index_or lots.old k x).value.patches.items }
+    ensures count { length patches.new ≡ length patches.old }
+    ensures others { AllZip KeepOthers lots.old lots.new }
+{
+    let Some((lot, rest)) = lots.split_first_mut() else {
+        return;
+    };
+    let count = size.min(patches.len());
+    let (first, others) = patches.split_at_mut(count);
+    trade(first, lot);
+    exchange_runs(others, rest, size);
+}
