@@ -1,8 +1,7 @@
 -- The patches of a level whose frames are filled are ready for its step, with what its layout has for each.
-use Rattle.std.proofs.Common.{◌≡◌, ℕ, zero, suc, ◌+◌, ◌^◌, ◌<◌, ◌≤◌, true, pos, ◌+ℤ◌, ◌≤ℤ◌, ◌<ℤ◌, List, [], ◌∷◌, length, get_or, map, IsSome, refl, sym, ap, subst, ◌∙◌, arith}
+use Rattle.std.proofs.Common.{◌≡◌, ℕ, zero, suc, ◌+◌, ◌<◌, ◌≤◌, true, List, [], ◌∷◌, length, get_or, map, refl, sym, ap, subst, ◌∙◌, arith}
 use Rattle.std.specs.declared.option.Option.{Option}
 use Rattle.std.specs.declared.option.Option.TheVariants.{Some}
-use Rattle.std.specs.Option.{unwrap_or}
 use Rattle.std.specs.List.{All, range_with_len}
 use Rattle.std.proofs.lemmas.List.{length-append, length-map}
 use Rattle.std.proofs.lemmas.List.FromFn.{get_or-range_with_len, length-range_with_len}
@@ -11,17 +10,15 @@ use Rattle.amr_box.specs.declared.Face.{Face}
 use Rattle.amr_box.specs.Cells.{holds, width}
 use Rattle.amr_def.specs.declared.problem.Problem.{Problem}
 use Rattle.amr_def.specs.Domain.{Domain, domain}
-use Rattle.amr_def.specs.State.{Masses, mass_of}
-use Rattle.amr_def.specs.Flux.{Fluxes, flux_at, net}
+use Rattle.amr_def.specs.State.{Masses}
+use Rattle.amr_def.specs.Flux.{Fluxes, flux_at}
 use Rattle.amr_patch.specs.declared.levels.Level.{Level as Held}
 use Rattle.amr_patch.specs.declared.patches.Patch.{Patch}
-use Rattle.amr_patch.specs.Patches.{box, mass_in, masses_in, value_in}
+use Rattle.amr_patch.specs.Patches.{box, mass_in, masses_in}
 use Rattle.amr_patch.specs.Places.{is_face_of}
-use Rattle.amr_patch.proofs.Lookups.{in_one, masses_in-at, same_default}
 use Rattle.amr_patch.proofs.Rows.{sides}
-use Rattle.amr_flux.specs.Faces.{IsInDomain, border_faces, flux_beside, in_reach}
+use Rattle.amr_flux.specs.Faces.{IsInDomain, border_faces, flux_beside}
 use Rattle.amr_flux.specs.Rooms.{widest}
-use Rattle.amr_flux.proofs.Shown.{flux_is, net_alike}
 use Rattle.amr_edges.specs.Borders.{IsOwnEdge}
 use Rattle.amr_edges.proofs.Joined.{adds_own}
 use Rattle.amr_edges.proofs.OwnEdges.{puts_owned}
@@ -38,6 +35,7 @@ use Rattle.amr_register.proofs.Homes.{HasSize, size_at}
 use Rattle.amr_work.specs.declared.work.Workspace.{Workspace}
 use Rattle.amr_work.specs.Ready.{AreOwnAdds, HasOwnPosts, MayStepWith, MayStep}
 use Rattle.amr_advance.specs.Layouts.{IsLayoutOf}
+use Rattle.amr_advance.proofs.OnePatch as OnePatch
 use Rattle.amr_advance.specs.Shown.{AreShown, StepFits}
 
 zero_more : (k : ℕ) → 0 + k ≡ k
@@ -72,35 +70,17 @@ module _ (p : Problem) (l : ℕ) (old : Masses) (qs : List Patch) (cells : List 
     q = get_or qs k r
 
     pub lies : IsInDomain (domain p l) (box q)
-    lies = record { at = λ c h. shown.inside c (in_one qs c k (record { inside = lt; holds_it = λ g. ap (λ (x : Patch). holds (box x) c) (same_default qs k g r lt) ∙ h })) }
+    lies = OnePatch.lies p l old qs shown.apart shown.inside k r lt q refl (λ c h. refl)
 
     pub mass_here : (c : Cell) → holds (box q) c ≡ true → m c ≡ Some (mass_in q c)
-    mass_here c h = masses_in-at qs c k r shown.apart (record { inside = lt; holds_it = λ g. ap (λ (x : Patch). holds (box x) c) (same_default qs k g r lt) ∙ h })
+    mass_here = OnePatch.mass_here p l old qs shown.apart shown.inside k r lt q refl (λ c h. refl)
 
     pub plain_at : (f : Face) → is_face_of (box q) f ≡ true → flux_beside p l q f ≡ e f
-    plain_at f h = flux_is p l m old q (shown.shows k r lt) f h
-
-    small : (c : Cell) → in_reach (box q) c ≡ true → value_in q c < 2 ^ 31
-    small c h = subst (λ n. n < 2 ^ 31) (sym ((shown.shows k r lt).at c h)) (fits.values c)
-
-    -- its masses to come are the level's
-    pub sum_is : (c : Cell) → holds (box q) c ≡ true → pos (mass_in q c) +ℤ net (flux_beside p l q) c ≡ pos (mass_of m c) +ℤ net e c
-    sum_is c h =
-        let mass : mass_of m c ≡ mass_in q c = ap (λ (o : Option ℕ). unwrap_or o 0) (mass_here c h) in
-        λ i. pos (sym mass i) +ℤ net_alike (box q) (flux_beside p l q) e plain_at c h i
-
-    is_there : (c : Cell) → holds (box q) c ≡ true → IsSome (m c)
-    is_there c h = subst IsSome (sym (mass_here c h)) refl
+    plain_at = OnePatch.plain_at p l old qs shown.apart shown.inside k r lt q refl (λ c h. refl) (shown.shows k r lt)
 
     -- so its step may be made
     pub may_step : MayStep p l q
-    may_step = record {
-      level = shallow;
-      inside = lies;
-      small = small;
-      kept = λ c h. subst (λ z. pos 0 ≤ℤ z) (sym (sum_is c h)) (fits.kept c (is_there c h));
-      fits = λ c h. subst (λ z. z <ℤ pos (2 ^ 32)) (sym (sum_is c h)) (fits.fits c (is_there c h));
-    }
+    may_step = OnePatch.may_step p l old qs shown.apart shown.inside k r lt q refl (λ c h. refl) (shown.shows k r lt) shallow fits
 
     -- it is ready with a workspace that serves it
     pub ready_of : (w : Workspace) → HasOwnPosts q w.layout → width (box q) ≤ widest w.room → length w.layout.border.items ≡ length (border_faces q) → length w.layout.border.items ≤ length w.sizes.items → MayStepWith p l q w

@@ -1,6 +1,5 @@
 -- The patches of a level whose frames were filled show its values.
 use Rattle.std.proofs.Common.{◌≡◌, ℕ, zero, suc, ◌<◌, List, [], ◌∷◌, length, get_or, map, sym, ap, subst, ◌∙◌, arith}
-use Rattle.std.specs.declared.option.Option.TheVariants.{None}
 use Rattle.std.specs.List.{All, AllZip}
 use Rattle.std.proofs.lemmas.List.Elements.{AllZip-get_or, length_all_zip}
 use Rattle.amr_box.specs.Cells.{Extent, holds}
@@ -10,15 +9,13 @@ use Rattle.amr_def.specs.State.{Masses}
 use Rattle.amr_def.specs.Value.{value_at}
 use Rattle.amr_patch.proofs.Lookups.{in_one, same_default}
 use Rattle.amr_patch.specs.declared.patches.Patch.{Patch}
-use Rattle.amr_patch.specs.declared.lookup.Order.{Order}
 use Rattle.amr_patch.specs.Patches.{ArePatchesApart, SameFluxes, box, masses_in}
-use Rattle.amr_patch.specs.Orders.{IsOrderOf}
 use Rattle.amr_flux.specs.Faces.{IsInDomain}
 use Rattle.amr_ghost.specs.Frames.{AreInDomain, HasGhostMarks, HasGhostValues, KeepsCorners, SameMasses}
 use Rattle.amr_ghost.specs.Filling.{KeepsCells}
-use Rattle.amr_ghost.proofs.Levels.{still_level}
+use Rattle.amr_ghost.proofs.Levels.{zip_inside}
 use Rattle.amr_ghost.proofs.Reach.{reach_values}
-use Rattle.amr_ghost.proofs.Zips.{zip_masses}
+use Rattle.amr_ghost.proofs.Zips.{zip_apart, zip_masses}
 use Rattle.amr_advance.specs.Shown.{AreShown}
 
 pub zip_from : (R : Patch → Patch → Type 0) (ps qs : List Patch) → length ps ≡ length qs → ((k : ℕ) (d : Patch) → k < length ps → R (get_or ps k d) (get_or qs k d)) → AllZip R ps qs
@@ -43,7 +40,7 @@ box_at (p ∷ ps) [] e n k d lt = absurd (omega (arith, n))
 box_at (p ∷ ps) (q ∷ qs) e n zero d lt = ap (first (box p)) e
 box_at (p ∷ ps) (q ∷ qs) e n (suc k) d lt = box_at ps qs (ap rest e) (omega (arith, n)) k d (omega (arith, lt))
 
-module _ (p : Problem) (l : ℕ) (old : Masses) (o : Order) (ps qs : List Patch) (ordered : IsOrderOf o ps) (apart : ArePatchesApart ps) (inside : AreInDomain (domain p l) ps)
+module _ (p : Problem) (l : ℕ) (old : Masses) (ps qs : List Patch) (apart : ArePatchesApart ps) (inside : AreInDomain (domain p l) ps)
     (filled : All (HasGhostValues p l (masses_in ps) old) qs) (marked : All (HasGhostMarks p l (masses_in ps)) qs) (masses : AllZip SameMasses ps qs) (corners : AllZip KeepsCorners ps qs) (fluxes : AllZip SameFluxes ps qs) (boxes : map box qs ≡ map box ps) where
   count : length ps ≡ length qs
   count = length_all_zip SameMasses ps qs masses
@@ -60,18 +57,16 @@ module _ (p : Problem) (l : ℕ) (old : Masses) (o : Order) (ps qs : List Patch)
   same_masses = zip_masses ps qs keeps
 
   pub all_shown : AreShown p l old qs
-  all_shown =
-      let level = still_level (domain p l) o None ps qs keeps (record { ordered = ordered; apart = apart; inside = inside; starting = tt }) in
-      record {
-        apart = level.apart;
-        inside = level.inside;
-        shows = λ k d lt. record {
-          at = λ c reach.
-              reach_values p l old ps qs k d c apart inside masses (λ e. box_at ps qs boxes count k d (omega (arith, lt, count)) ∙ same_box k d e (omega (arith, lt, count))) filled lt reach
-              ∙ ap (λ (m : Masses). value_at p l m old c) (sym same_masses);
-        };
-        marks = λ k d lt. subst (λ (m : Masses). HasGhostMarks p l m (get_or qs k d)) (sym same_masses) (marked k d lt);
-      }
+  all_shown = record {
+    apart = zip_apart ps qs keeps apart;
+    inside = zip_inside (domain p l) ps qs keeps inside;
+    shows = λ k d lt. record {
+      at = λ c reach.
+          reach_values p l old ps qs k d c apart inside masses (λ e. box_at ps qs boxes count k d (omega (arith, lt, count)) ∙ same_box k d e (omega (arith, lt, count))) filled lt reach
+          ∙ ap (λ (m : Masses). value_at p l m old c) (sym same_masses);
+    };
+    marks = λ k d lt. subst (λ (m : Masses). HasGhostMarks p l m (get_or qs k d)) (sym same_masses) (marked k d lt);
+  }
     where
       same_box : (k : ℕ) (d e : Patch) → k < length ps → box (get_or ps k d) ≡ box (get_or ps k e)
       same_box k d e lt = ap box (same_default ps k d e lt)

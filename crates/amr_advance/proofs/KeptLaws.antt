@@ -1,8 +1,7 @@
 -- A layout that is kept serves each level with the same boxes beside levels with the same boxes.
 use Rattle.std.proofs.Common.{◌≡◌, ◌∙◌, ℕ, ◌+◌, ◌*◌, ◌^◌, ◌<◌, ◌≤◌, true, List, [], ◌∷◌, length, get_or, map, refl, sym, ap, subst, arith}
 use Rattle.std.specs.Prelude.{is_some}
-use Rattle.std.specs.List.{All, range_with_len}
-use Rattle.std.specs.List.Sorted.{IsPermutation}
+use Rattle.std.specs.List.{All}
 use Rattle.amr_balance.specs.Turns.{IsLargestFirst, in_turn}
 use Rattle.amr_balance.proofs.TurnLaws.{in_turn_map}
 use Rattle.amr_box.specs.declared.Cell.{Cell}
@@ -17,10 +16,12 @@ use Rattle.amr_ghost.specs.Plans.{PlansFrames}
 use Rattle.amr_ghost.specs.declared.plan.FramePlan.{FramePlan}
 use Rattle.amr_ghost.proofs.PlanLaws.{plan_of_boxes}
 use Rattle.amr_layout.specs.Grounds.{SameGround, has_open_side}
+use Rattle.std.proofs.lemmas.List.{get_or-map}
+use Rattle.amr_layout.specs.Adds.{flows_of}
 use Rattle.amr_layout.specs.Surroundings.{Around, edge_count}
 use Rattle.amr_layout.specs.declared.FlowTo.{FlowTo}
 use Rattle.amr_layout.specs.declared.alone.LevelFlows.{LevelFlows}
-use Rattle.amr_layout.proofs.ByBoxes.{same_level_flows}
+use Rattle.amr_layout.proofs.ByBoxes.{all_flows, same_level_flows}
 use Rattle.amr_phase.specs.Plans.{total}
 use Rattle.amr_flux.specs.Rooms.{widest}
 use Rattle.amr_work.specs.declared.work.Workspace.{Workspace}
@@ -29,10 +30,16 @@ use Rattle.amr_advance.specs.Kept.{IsKept, IsLaidOut}
 use Rattle.amr_advance.specs.Layouts.{AreAddsOf}
 use Rattle.amr_advance.specs.Tasks.{AreTasks}
 use Rattle.amr_advance.specs.declared.tasks.Tasks.{Tasks}
-use Rattle.amr_advance.specs.declared.tasks.Tasks.TheVariants.{Board, Lone, Shared}
-use Rattle.amr_advance.specs.Pieces.{AreRooms, AreWorkspaces, Serves, workspaces_in}
+use Rattle.amr_advance.specs.declared.tasks.Tasks.TheVariants.{Board, Lone, Lots}
+use Rattle.amr_advance.specs.Pieces.{AreWorkspaces, Serves, workspaces_in}
 use Rattle.amr_advance.specs.Turns.{areas_of}
 use Rattle.amr_advance.proofs.SameLayouts.{same_layout}
+use Rattle.amr_advance.specs.Lots.{AreLotTasks, IsLotOf}
+use Rattle.amr_advance.specs.declared.lots.LotTasks.{LotTasks}
+use Rattle.amr_lots.specs.declared.lot.Lot.{Lot}
+use Rattle.amr_lots.specs.Runs.{run}
+use Rattle.amr_lots.proofs.Runs.{map_run, run_at, run_place}
+use Rattle.amr_ghost.specs.declared.parts.FrameCopy.{FrameCopy}
 
 -- workspaces serve patches by their boxes alone
 pub same_workspaces : (ps qs : List Patch) (ts : List TaskLayout) (ws : List Workspace) → map box ps ≡ map box qs → AreWorkspaces ps ts ws → AreWorkspaces qs ts ws
@@ -64,24 +71,58 @@ same_adds s t v g of = record {
 same_room : (ps qs : List Patch) (n : ℕ) → map box ps ≡ map box qs → All (λ q. width (box q) ≤ n) ps → All (λ q. width (box q) ≤ n) qs
 same_room ps qs n e h k q lt = subst (λ (b : Extent). width b ≤ n) (box_at ps qs k q e) (h k q (omega (arith, lt, same_length ps qs e)))
 
--- rooms in turn, by boxes alone
-same_rooms : (ps qs : List Patch) (ws : List Workspace) → map box ps ≡ map box qs → AreRooms ps ws → AreRooms qs ws
-same_rooms ps qs ws e h = record {
-  count = h.count ∙ same_length ps qs e;
-  each = λ k q w lt. subst (λ (b : Extent). width b ≤ widest (get_or ws k w).room) (box_at ps qs k q e) (h.each k q w (omega (arith, lt, same_length ps qs e)));
-}
-
 same_turned : (s t : Around) (turns : List ℕ) → SameGround s t → map box (in_turn turns s.patches) ≡ map box (in_turn turns t.patches)
 same_turned s t turns g = in_turn_map box turns s.patches ∙ ap (in_turn turns) g.boxes ∙ sym (in_turn_map box turns t.patches)
+
+-- and lots, run by run
+run_boxes : (each k : ℕ) (ps qs : List Patch) → map box ps ≡ map box qs → map box (run each k ps) ≡ map box (run each k qs)
+run_boxes each k ps qs e = map_run box each k ps ∙ ap (run each k) e ∙ sym (map_run box each k qs)
+
+flows_at_place : (s t : Around) → SameGround s t → (j : ℕ) (q : Patch) → j < length s.patches → j < length t.patches → flows_of s (box (get_or s.patches j q)) ≡ flows_of t (box (get_or t.patches j q))
+flows_at_place s t g j q lt lt' =
+    sym (get_or-map (λ (r : Patch). flows_of s (box r)) s.patches j q [] lt)
+    ∙ ap (λ (xs : List (List FlowTo)). get_or xs j []) (all_flows s t g)
+    ∙ get_or-map (λ (r : Patch). flows_of t (box r)) t.patches j q [] lt'
+
+same_lot : (s t : Around) (each k : ℕ) (copies : List FrameCopy) (x : Lot) → SameGround s t → IsLotOf s each k copies x → IsLotOf t each k copies x
+same_lot s t each k copies x g h =
+    let boxes = run_boxes each k s.patches t.patches g.boxes in
+    let count : length (run each k s.patches) ≡ length (run each k t.patches) = same_length (run each k s.patches) (run each k t.patches) boxes in
+    record {
+      of_problem = h.of_problem ∙ g.problem;
+      of_level = h.of_level ∙ g.level;
+      count = h.count ∙ count;
+      of_copies = h.of_copies;
+      flow_count = h.flow_count ∙ count;
+      flows = λ i v q lt. h.flows i v q (omega (arith, lt, count)) ∙ flows_in_run i q (omega (arith, lt, count)) lt;
+      words = λ i v lt. subst (λ (cs : List Cell). All (λ (y : FlowTo). y.word < 2 + 2 * length cs) (get_or x.flows.items i v).items) g.cells (h.words i v (omega (arith, lt, count)));
+      room = same_room (run each k s.patches) (run each k t.patches) (widest x.room) boxes h.room;
+      totals = h.totals ∙ ap (λ (cs : List Cell). 2 + 2 * length cs) g.cells;
+    }
+  where
+    flows_in_run : (i : ℕ) (q : Patch) → i < length (run each k s.patches) → i < length (run each k t.patches) → flows_of s (box (get_or (run each k s.patches) i q)) ≡ flows_of t (box (get_or (run each k t.patches) i q))
+    flows_in_run i q lt lt' =
+        ap (λ (r : Patch). flows_of s (box r)) (run_at each s.patches k i q lt)
+        ∙ flows_at_place s t g (k * each + i) q (run_place each s.patches k i lt) (run_place each t.patches k i lt')
+        ∙ ap (λ (r : Patch). flows_of t (box r)) (sym (run_at each t.patches k i q lt'))
+
+same_lots : (s t : Around) (x : LotTasks) → SameGround s t → AreLotTasks s x → AreLotTasks t x
+same_lots s t x g h = record {
+  some = h.some;
+  enough = omega (arith, h.enough, same_length s.patches t.patches g.boxes);
+  edges = subst (λ n. n ≤ 2 ^ 30) (same_edges s.patches t.patches g.boxes) h.edges;
+  plan = h.plan;
+  planned = same_frames s.problem t.problem s.level t.level s.patches t.patches h.plan g.problem g.level g.boxes h.planned;
+  parts = h.parts;
+  parted = h.parted;
+  across = h.across;
+  lots = λ k y v lt. same_lot s t x.each k (get_or h.parts.within.items k v).items (get_or x.lots.items k y).value g (h.lots k y v lt);
+}
 
 -- and so the tasks
 same_tasks : (s t : Around) (tasks : Tasks) → SameGround s t → AreTasks s tasks → AreTasks t tasks
 same_tasks s t (Lone x) g h = record { adds = same_adds s t x.flows g h.adds; room = same_room s.patches t.patches (widest x.room) g.boxes h.room }
-same_tasks s t (Shared x) g h = record {
-  alone = record { adds = same_adds s t x.alone.flows g h.alone.adds; room = same_room s.patches t.patches (widest x.alone.room) g.boxes h.alone.room };
-  turns = subst (λ n. IsPermutation (range_with_len 0 n) x.turns.items) (same_length s.patches t.patches g.boxes) h.turns;
-  rooms = same_rooms (in_turn x.turns.items s.patches) (in_turn x.turns.items t.patches) (workspaces_in x.bodies.items) (same_turned s t x.turns.items g) h.rooms;
-}
+same_tasks s t (Lots x) g h = same_lots s t x g h
 same_tasks s t (Board x) g h = record {
   layout = same_layout s t x.layout.value g h.layout;
   shape = h.shape;

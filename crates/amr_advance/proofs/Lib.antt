@@ -1,13 +1,13 @@
 mod Bodies
 mod Stages
 pub mod Reversed
+mod OnePatch
 mod Begun
 pub mod Filled
 pub mod Going
 mod Moved
 mod InTurn
 mod Lone
-mod SharedOut
 pub mod Handed
 pub mod Closed
 mod Absorbed
@@ -16,3 +16,5 @@ pub mod Advancing
 mod Stepped
 pub mod SameLayouts
 mod KeptLaws
+mod InLots
+mod MadeLots

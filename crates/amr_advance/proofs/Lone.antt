@@ -60,7 +60,7 @@ word_most size small word (x ∷ xs) =
     from false = omega arith
 
 -- all patches together: a patch has at most three flows for each face on its edges
-level_most : (s : Around) (size : Face → ℕ) → ((f : Face) → size f < 2 ^ 31) → (word : ℕ) (qs : List Patch) → total (λ (q : Patch). word_total size word (flows_of s (box q))) qs ≤ 2 ^ 31 * (3 * total (λ q. edge_count (box q)) qs)
+pub level_most : (s : Around) (size : Face → ℕ) → ((f : Face) → size f < 2 ^ 31) → (word : ℕ) (qs : List Patch) → total (λ (q : Patch). word_total size word (flows_of s (box q))) qs ≤ 2 ^ 31 * (3 * total (λ q. edge_count (box q)) qs)
 level_most s size small word [] = omega arith
 level_most s size small word (q ∷ qs) =
     let rest : total (λ (q : Patch). word_total size word (flows_of s (box q))) qs ≤ 2 ^ 31 * (3 * total (λ q. edge_count (box q)) qs) = level_most s size small word qs in

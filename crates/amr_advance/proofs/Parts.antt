@@ -15,7 +15,8 @@ use Rattle.amr_patch.proofs.Lookups.{some_mass}
 use Rattle.amr_patch.specs.declared.levels.Level.{Level as Held}
 use Rattle.amr_patch.specs.declared.patches.Patch.{Patch}
 use Rattle.amr_patch.specs.Levels.{level_of}
-use Rattle.amr_patch.specs.Patches.{masses_in}
+use Rattle.amr_ghost.specs.Frames.{AreInDomain}
+use Rattle.amr_patch.specs.Patches.{ArePatchesApart, masses_in}
 use Rattle.amr_flux.specs.Faces.{ShowsValues}
 use Rattle.amr_flows.specs.Laws.{plain_size}
 use Rattle.amr_flows.specs.Words.{level_total}
@@ -67,10 +68,10 @@ parts_taken p l old qs (Some fine) r s shown h done same =
 
 -- ---- totals
 
-pub totals_of : (p : Problem) (l : ℕ) (m old : Masses) (qs : List Patch) (cells : List Cell) (next : Option Held) (ws : List ℕ) → AreShown p l old qs → masses_in qs ≡ m
+pub totals_of : (p : Problem) (l : ℕ) (m old : Masses) (qs : List Patch) (cells : List Cell) (next : Option Held) (ws : List ℕ) → AreInDomain (domain p l) qs → ArePatchesApart qs → masses_in qs ≡ m
     → ((word : ℕ) → word < length ws → slice_index ws word ≡ level_total (around p l qs cells next) (plain_size p l (masses_in qs) old) word) → HasTotals p l m old (finer_masses next) cells ws
-totals_of p l m old qs cells next ws shown same h = record {
+totals_of p l m old qs cells next ws inside apart same h = record {
   patches = qs;
-  of_level = record { inside = all_lie p l qs shown.inside; apart = shown.apart; cells = λ c. sym (some_mass qs c) ∙ ap (λ (n : Masses). is_some (n c)) same };
+  of_level = record { inside = all_lie p l qs inside; apart = apart; cells = λ c. sym (some_mass qs c) ∙ ap (λ (n : Masses). is_some (n c)) same };
   words = λ word below. h word below ∙ ap (λ (n : Masses). level_total (around p l qs cells next) (plain_size p l n old) word) same;
 }

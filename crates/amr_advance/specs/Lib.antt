@@ -9,3 +9,4 @@ pub mod Registers
 pub mod Totals
 pub mod Teams
 pub mod Turns
+pub mod Lots

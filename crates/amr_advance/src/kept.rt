@@ -153,13 +153,14 @@ fn lay_out_anew(
         cells: given.cells,
         finer: given.finer,
     };
-    let tasks = tasks_for(alloc, surroundings, way, old)?;
+    let frames = plan_frames(alloc, given.problem, given.level, patches, order, &starts)?;
+    let tasks = tasks_for(alloc, surroundings, &frames, way, old)?;
     Ok(KeptLayout {
         level: given.level,
         boxes: boxes_of(alloc, patches)?,
         cells: Vec::from_slice(alloc, given.cells)?,
         finer: finer_boxes(alloc, given.finer)?,
-        frames: plan_frames(alloc, given.problem, given.level, patches, order, &starts)?,
+        frames,
         words: 2 + 2 * given.cells.len() as u32,
         tasks,
     })

@@ -1,4 +1,4 @@
-//! The step of a level's patches: one after another, shared out among several workers, or drawn by them on a board.
+//! The step of a level's patches: one after another, shared out among several workers in lots, or drawn by them on a board.
 
 ghost use Rattle.std.specs.Prelude.{◌≡◌, ◌+◌, ◌*◌, ◌<◌, ◌≤◌, ◌^◌, ℕ, IfOk, IfSome, OnOk, OnErr, length, slice_index};
 ghost use Rattle.std.specs.List.{AllZip};
@@ -11,7 +11,7 @@ ghost use Rattle.amr_flows.specs.Laws.{plain_size};
 ghost use Rattle.amr_flows.specs.Words.{level_total};
 ghost use Rattle.amr_advance.specs.Kept.{IsLaidOut};
 ghost use Rattle.amr_advance.specs.Shown.{AreShown, IsStepped, StepFits};
-ghost use Rattle.amr_advance.specs.Tasks.{AreBoardTasks};
+ghost use Rattle.amr_advance.specs.Tasks.{AreBoardTasks, AreFilledFor};
 ghost use Rattle.amr_advance.specs.Teams.{IsTeamFor};
 
 use crate::alone::step_each;
@@ -19,7 +19,7 @@ use crate::collecting::{collect, take_totals};
 use crate::kept::KeptLayout;
 use crate::pieces::{to_patches, to_pieces};
 use crate::running::{Workers, run_pieces};
-use crate::shared::step_shared;
+use crate::sharing::step_in_lots;
 use crate::tasks::{BoardTasks, Tasks};
 use amr_box::Cell;
 use amr_causes::NoMemory;
@@ -91,9 +91,9 @@ fn run_on_board<R: Threads + Wait + Sync, G: Gate + Sync>(
     }
 }
 
-/// Makes a step of the patches of a level, whose frames are filled: each cell gets what flows in through its faces. The layout was
-/// made for the way that this is done in. Answers the totals of the ledger's words and of the register's, and the layout serves the
-/// next step.
+/// Makes a step of the patches of a level: each cell gets what flows in through its faces. The layout was made for the way that this
+/// is done in. Frames are filled, but for patches in lots. Answers the totals of the ledger's words and of the register's, and the
+/// layout serves the next step.
 ///
 /// All memory whose lack is a refusal is taken before the first task is begun. If allocation fails the patches are as before.
 pub(crate) fn run_level<R: Threads + Wait + Sync, G: Gate + Sync>(
@@ -103,7 +103,7 @@ pub(crate) fn run_level<R: Threads + Wait + Sync, G: Gate + Sync>(
     layout: &mut KeptLayout,
 ) -> Result<Vec<u64>, NoMemory>
     requires level { given.level ≤ 4 }
-    requires shown { AreShown given.problem.now given.level (old_masses (option_copied given.old)) patches.old }
+    requires filled { AreFilledFor layout.old.tasks given.problem.now given.level (old_masses (option_copied given.old)) patches.old }
     requires fits { StepFits given.problem.now given.level (masses_in patches.old) (old_masses (option_copied given.old)) }
     requires layout { IsLaidOut (around given.problem.now given.level patches.old given.cells.now (option_copied given.finer)) layout.old }
     requires few { length patches.old ≤ 2 ^ 26 }
@@ -126,8 +126,8 @@ pub(crate) fn run_level<R: Threads + Wait + Sync, G: Gate + Sync>(
             step_each(workers.gate, given, patches, tasks, &mut totals);
             Ok(totals)
         }
-        Tasks::Shared(tasks) => {
-            step_shared(workers, given, patches, tasks, &mut totals)?;
+        Tasks::Lots(tasks) => {
+            step_in_lots(workers, given, patches, tasks, &mut totals);
             Ok(totals)
         }
         Tasks::Board(tasks) => {

@@ -20,7 +20,7 @@ use std::mem::swap;
 use std::snapshot::Snapshot;
 
 /// A box of one cell.
-fn one_cell() -> Bx
+pub(crate) fn one_cell() -> Bx
     ensures { IsNear result }
 {
     let cell = Cell { x: 0, y: 0 };

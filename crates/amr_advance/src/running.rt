@@ -11,19 +11,47 @@ ghost use Rattle.amr_board.specs.Piece.{AreNumbered, plan_of};
 ghost use Rattle.amr_board.specs.Views.{HoldsNone};
 ghost use Rattle.amr_advance.specs.Ended.{HasPieces, HasWords};
 ghost use Rattle.amr_advance.specs.Teams.{IsTeamFor};
+ghost use Rattle.amr_lots.specs.Serving.{IsServed, MayServe};
 ghost use Rattle.amr_work.specs.Ready.{MayBegin, MayComplete};
 ghost use Rattle.amr_work.specs.Works.{IsCompleted, StandsFor, adds_of_work, puts_of_work};
 
 use amr_board::{Board, Ended, MakeFault, Seat, Shape};
 use amr_def::Problem;
+use amr_lots::{Lot, LotWork};
+use amr_pool::{Pool, serve_alone};
 use amr_work::{LevelWork, Work, work_level};
 use amr_workers::{Gate, Team, complete_each};
 use std::alloc::Global;
+use std::boxed::Box;
 use std::sync::Wait;
 use std::thread::Threads;
 
 /// Workers that last from one step of a level to the next.
-pub type LevelTeam<'a, G> = Team<'a, Work, LevelWork<'a>, G>;
+#[derive(Drop)]
+pub enum LevelTeam<'a, G: Gate> {
+    /// They draw tasks from a board, under a gate that may hold one of them until another one calls it.
+    Drawing(Team<'a, Work, LevelWork<'a>, G>),
+    /// Each is handed a lot of a level's patches, under a gate that holds nobody.
+    Sharing(Pool<'a, Box<Lot>, LotWork<'a>>),
+}
+
+impl<G: Gate> LevelTeam<'_, G> {
+    /// Waits until each worker has begun, but not for ever.
+    pub fn gather(&self) {
+        match self {
+            LevelTeam::Drawing(team) => team.gather(),
+            LevelTeam::Sharing(pool) => pool.gather(),
+        }
+    }
+
+    /// Lets the workers go, each of whom then returns.
+    pub fn dismiss(&mut self) {
+        match self {
+            LevelTeam::Drawing(team) => drop(team.dismiss()),
+            LevelTeam::Sharing(pool) => drop(pool.dismiss()),
+        }
+    }
+}
 
 /// Who makes the steps of levels: so many workers, under a gate that each calls around each task that it draws. They are a team that
 /// lasts from step to step, or threads made for each step.
@@ -90,8 +118,8 @@ fn run_board<R: Threads + Wait + Sync, G: Gate + Sync>(
     ensures pieces { (t : ℕ) (w : Work) → get_elem? board.pieces t ≡ some w → (v : Work) × StandsFor w v × (get_elem? result.pieces t ≡ some (Some v)) }
 {
     match &mut workers.team {
-        Some(team) => team.run_phase(workers.runtime, alloc, board, seat),
-        None => run_anew(workers, p, board, seat),
+        Some(LevelTeam::Drawing(team)) => team.run_phase(workers.runtime, alloc, board, seat),
+        _ => run_anew(workers, p, board, seat),
     }
 }
 
@@ -140,10 +168,29 @@ pub(crate) fn complete_pieces<R: Wait, G: Gate>(
     ensures faces { result ≡ faces }
 {
     match &mut workers.team {
-        Some(team) => team.complete_all(workers.runtime, alloc, faces, pieces),
-        None => {
+        Some(LevelTeam::Drawing(team)) => {
+            team.complete_all(workers.runtime, alloc, faces, pieces)
+        }
+        _ => {
             complete_each(&LevelWork { problem: p }, &faces, pieces);
             faces
         }
+    }
+}
+
+/// Has lots served: by the team that shares levels out, where there is one, else by this thread alone.
+pub(crate) fn serve_lots<R: Wait, G: Gate>(
+    workers: &mut Workers<'_, R, G>,
+    p: &Problem,
+    lots: &mut Vec<Box<Lot>>,
+)
+    requires may { All (λ x. MayServe p.now x.value) lots.old.items }
+    requires team { IfSome workers.old.team (IsTeamFor p.now workers.old.gate.now workers.old.count) }
+    ensures workers { workers.new ≡ workers.old }
+    ensures served { AllZip (λ a b. IsServed a.value b.value) lots.old.items lots.new.items }
+{
+    match &mut workers.team {
+        Some(LevelTeam::Sharing(pool)) => pool.serve_each(workers.runtime, lots),
+        _ => serve_alone(&LotWork { problem: p }, lots),
     }
 }

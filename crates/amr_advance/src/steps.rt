@@ -18,6 +18,7 @@ ghost use Rattle.amr_advance.specs.Registers.{BothChange, HasCoarser, HasEdges, 
 ghost use Rattle.amr_advance.specs.Totals.{HasTotals, SomeHasAbsorbed, SomeMayAbsorb};
 ghost use Rattle.amr_advance.specs.Kept.{IsKept, IsLaidOut};
 ghost use Rattle.amr_advance.specs.Shown.{AreShown, StepFits};
+ghost use Rattle.amr_advance.specs.Tasks.{AreFilledFor};
 ghost use Rattle.amr_advance.specs.Teams.{IsTeamFor};
 
 use crate::kept::{KeptLayout, layout_for};
@@ -25,7 +26,8 @@ use crate::level::{Given, run_level};
 use crate::registers::absorb_totals;
 use crate::regs::{Crew, Regs};
 use crate::running::Workers;
-use crate::ways::{Way, way_for};
+use crate::tasks::are_lots;
+use crate::ways::way_for;
 use amr_box::Cell;
 use amr_causes::NoMemory;
 use amr_def::Problem;
@@ -40,30 +42,31 @@ use std::thread::Threads;
 /// How many patches a level may have. More would take more memory than there is, and are refused as that.
 const MOST: usize = 1 << 26;
 
-/// Lays out the step of a level's patches, to be made in this way, as it is kept or anew, and fills their frames. After a refusal
-/// the patches are as before.
-fn lay_out(
+/// Fills the frames of a level's patches by the plan of its layout, where the step needs that. Lots fill their own, so it doesn't
+/// where there is no register over the level, to which frames tell what flows through its coarse-fine edges.
+fn fill_frames(
     given: Given<'_>,
-    order: Order,
     patches: &mut [Patch],
-    way: Way,
-    kept: &mut Option<KeptLayout>,
-) -> Result<KeptLayout, NoMemory>
+    register: &Option<Register>,
+    layout: &KeptLayout,
+)
     requires level { given.level ≤ 4 }
-    requires order { IsOrderOf order patches.old }
     requires apart { ArePatchesApart patches.old }
     requires inside { AreInDomain (domain given.problem.now given.level) patches.old }
-    requires cells { (qs : List Patch) → masses_in qs ≡ masses_in patches.old → HasRegisterCells (around given.problem.now given.level qs given.cells.now (option_copied given.finer)) }
-    requires kept { IfSome kept.old (IsKept given.problem.now) }
+    requires layout { IsLaidOut (around given.problem.now given.level patches.old given.cells.now (option_copied given.finer)) layout.now }
     ensures masses { masses_in patches.new ≡ masses_in patches.old }
     ensures boxes { map box patches.new ≡ map box patches.old }
-    ensures kept { kept.new ≡ None }
     ensures apart { ArePatchesApart patches.new }
-    ensures refused { OnErr result (patches.new ≡ patches.old) }
-    ensures shown { OnOk result (AreShown given.entry.problem.now given.entry.level (old_masses (option_copied given.entry.old)) patches.new) }
-    ensures layout { IfOk result (IsLaidOut (around given.entry.problem.now given.entry.level patches.new given.entry.cells.now (option_copied given.entry.finer))) }
+    ensures inside { AreInDomain (domain given.entry.problem.now given.entry.level) patches.new }
+    ensures filled { AreFilledFor layout.entry.now.tasks given.entry.problem.now given.entry.level (old_masses (option_copied given.entry.old)) patches.new }
+    ensures shown { IfSome register.entry.now (λ r. AreShown given.entry.problem.now given.entry.level (old_masses (option_copied given.entry.old)) patches.new) }
+    ensures layout { IsLaidOut (around given.entry.problem.now given.entry.level patches.new given.entry.cells.now (option_copied given.entry.finer)) layout.entry.now }
 {
-    let layout = layout_for(given, order, patches, way, kept)?;
+    if register.is_none() {
+        if are_lots(&layout.tasks) {
+            return;
+        }
+    }
     fill_planned(
         given.problem,
         given.level,
@@ -71,7 +74,6 @@ fn lay_out(
         &layout.frames,
         given.old,
     );
-    Ok(layout)
 }
 
 /// The cells of a flux register, none where there is no register.
@@ -97,7 +99,7 @@ fn copy_of(alloc: Global, register: &Option<Register>) -> Result<Option<Register
 /// Takes the plain flows through a level's coarse-fine edges out of the register over it, where there is one.
 fn take_parts(given: Given<'_>, patches: &[Patch], order: Order, register: &mut Option<Register>)
     requires order { IsOrderOf order patches.now }
-    requires shown { AreShown given.problem.now given.level (old_masses (option_copied given.old)) patches.now }
+    requires shown { IfSome register.old (λ r. AreShown given.problem.now given.level (old_masses (option_copied given.old)) patches.now) }
     requires fits { StepFits given.problem.now given.level (masses_in patches.now) (old_masses (option_copied given.old)) }
     requires register { HasEdges given.problem.now given.level (masses_in patches.now) (option_copied given.finer) register.old }
     ensures { BothChange (taken given.entry.problem.now given.entry.level (masses_in patches.now) (old_masses (option_copied given.entry.old)) (finer_masses (option_copied given.entry.finer))) register.old register.new }
@@ -143,11 +145,12 @@ fn step_patches<R: Threads + Wait + Sync, G: Gate + Sync>(
     ensures same_register { OnErr result (BothChange (λ c. pos 0) register.old register.new) }
     ensures kept { IfSome kept.new (IsKept given.entry.problem.now) }
 {
-    let way = way_for(workers, patches);
-    let mut layout = lay_out(given, order, patches, way, kept)?;
+    let way = way_for(workers, given, patches);
+    let mut layout = layout_for(given, order, patches, way, kept)?;
     if patches.len() > MOST {
         return Err(NoMemory);
     }
+    fill_frames(given, patches, register, &layout);
     let saved = copy_of(given.alloc, register)?;
     take_parts(given, patches, order, register);
     match run_level(workers, given, patches, &mut layout) {

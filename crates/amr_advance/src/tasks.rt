@@ -9,18 +9,21 @@ ghost use Rattle.amr_def.specs.Domain.{domain};
 ghost use Rattle.amr_flux.specs.Rooms.{widest};
 ghost use Rattle.amr_gaps.specs.Gaps.{HasStarts};
 ghost use Rattle.amr_ghost.specs.Frames.{AreInDomain};
+ghost use Rattle.amr_ghost.specs.Plans.{PlansFrames};
 ghost use Rattle.amr_layout.specs.Adds.{HasRegisterCells};
 ghost use Rattle.amr_layout.specs.Surroundings.{around};
 ghost use Rattle.amr_patch.specs.Orders.{IsOrderOf};
 ghost use Rattle.amr_patch.specs.Patches.{ArePatchesApart, box};
-ghost use Rattle.amr_advance.specs.Tasks.{AreBoardTasks, AreLoneTasks, AreSharedTasks, AreTasks};
+ghost use Rattle.amr_advance.specs.Tasks.{AreBoardTasks, AreLoneTasks, AreTasks, is_lots};
 
+use crate::lots::{LotTasks, lot_tasks};
 use crate::pieces::bodies_of;
-use crate::turns::{by_number, in_turn, no_layouts, turns_of};
+use crate::turns::{in_turn, turns_of};
 use crate::ways::Way;
 use amr_board::Shape;
 use amr_causes::NoMemory;
 use amr_flux::Room;
+use amr_ghost::FramePlan;
 use amr_layout::{Layout, LevelFlows, Surroundings, plan, plan_adds};
 use amr_patch::Patch;
 use amr_work::Body;
@@ -35,17 +38,6 @@ pub(crate) struct LoneTasks {
     pub(crate) flows: LevelFlows,
     /// Room for a row of fluxes of the widest patch.
     pub(crate) room: Room,
-}
-
-/// What several workers work with who share the patches out in advance.
-#[derive(Drop)]
-pub(crate) struct SharedTasks {
-    /// What one of them works with alone, before the others begin.
-    pub(crate) alone: LoneTasks,
-    /// Which patch each piece has.
-    pub(crate) turns: Vec<usize>,
-    /// A body for each piece.
-    pub(crate) bodies: Vec<Box<Body>>,
 }
 
 /// What several workers work with on a board.
@@ -65,15 +57,25 @@ pub(crate) struct BoardTasks {
 #[derive(Drop)]
 pub(crate) enum Tasks {
     Lone(LoneTasks),
-    Shared(SharedTasks),
+    Lots(LotTasks),
     Board(BoardTasks),
+}
+
+/// Whether these tasks are lots.
+pub(crate) fn are_lots(tasks: &Tasks) -> bool
+    ensures { result ≡ is_lots tasks.now }
+{
+    match tasks {
+        Tasks::Lots(_) => true,
+        _ => false,
+    }
 }
 
 /// The way that these tasks are for.
 fn way_of(tasks: &Tasks) -> Way {
     match tasks {
         Tasks::Lone(_) => Way::Alone,
-        Tasks::Shared(_) => Way::Shared,
+        Tasks::Lots(tasks) => Way::InLots(tasks.workers),
         Tasks::Board(_) => Way::OnBoard,
     }
 }
@@ -84,7 +86,7 @@ pub(crate) fn are_for(tasks: &Tasks, way: Way) -> bool {
 }
 
 /// How many columns the widest of these patches has.
-fn widest_of(patches: &[Patch]) -> u32
+pub(crate) fn widest_of(patches: &[Patch]) -> u32
     ensures { All (λ q. width (box q) ≤ result) patches.now }
 {
     let mut widest = 0;
@@ -134,32 +136,6 @@ fn lone_tasks(alloc: Global, s: Surroundings<'_>, old: Option<Room>) -> Result<L
     Ok(LoneTasks { flows, room })
 }
 
-/// What several workers work with in the step of these patches where they share them out, with old bodies as far as they go.
-fn shared_tasks(
-    alloc: Global,
-    s: Surroundings<'_>,
-    olds: Vec<Box<Body>>,
-) -> Result<SharedTasks, NoMemory>
-    requires level { s.level ≤ 4 }
-    requires order { IsOrderOf s.order s.patches.now }
-    requires apart { ArePatchesApart s.patches.now }
-    requires starts { HasStarts s.patches.now s.starts.now }
-    requires inside { AreInDomain (domain s.problem.now s.level) s.patches.now }
-    requires cells { HasRegisterCells (around s.problem.now s.level s.patches.now s.cells.now (option_copied s.finer)) }
-    ensures tasks { IfOk result (AreSharedTasks (around s.entry.problem.now s.entry.level s.entry.patches.now s.entry.cells.now (option_copied s.entry.finer))) }
-    ensures few { OnOk result (2 + 2 * length s.entry.cells.now < 2 ^ 32) }
-{
-    let turns = by_number(alloc, s.patches.len())?;
-    let layouts = no_layouts(alloc, s.patches.len())?;
-    let bodies = bodies_of(alloc, s.patches, &turns, layouts, olds)?;
-    let alone = lone_tasks(alloc, s, None)?;
-    Ok(SharedTasks {
-        alone,
-        turns,
-        bodies,
-    })
-}
-
 /// What several workers work with on a board in the step of these patches, with old bodies as far as they go.
 fn board_tasks(
     alloc: Global,
@@ -207,14 +183,6 @@ fn bodies_from(alloc: Global, old: Option<Tasks>) -> Vec<Box<Body>> {
             } = tasks;
             bodies
         }
-        Some(Tasks::Shared(tasks)) => {
-            let SharedTasks {
-                alone: _,
-                turns: _,
-                bodies,
-            } = tasks;
-            bodies
-        }
         _ => Vec::new(alloc),
     }
 }
@@ -223,6 +191,7 @@ fn bodies_from(alloc: Global, old: Option<Tasks>) -> Vec<Box<Body>> {
 pub(crate) fn tasks_for(
     alloc: Global,
     s: Surroundings<'_>,
+    frames: &FramePlan,
     way: Way,
     old: Option<Tasks>,
 ) -> Result<Tasks, NoMemory>
@@ -231,6 +200,7 @@ pub(crate) fn tasks_for(
     requires apart { ArePatchesApart s.patches.now }
     requires starts { HasStarts s.patches.now s.starts.now }
     requires inside { AreInDomain (domain s.problem.now s.level) s.patches.now }
+    requires frames { PlansFrames (domain s.problem.now s.level) s.patches.now frames.now }
     requires cells { HasRegisterCells (around s.problem.now s.level s.patches.now s.cells.now (option_copied s.finer)) }
     ensures tasks { IfOk result (AreTasks (around s.entry.problem.now s.entry.level s.entry.patches.now s.entry.cells.now (option_copied s.entry.finer))) }
     ensures few { OnOk result (2 + 2 * length s.entry.cells.now < 2 ^ 32) }
@@ -240,9 +210,9 @@ pub(crate) fn tasks_for(
             let tasks = lone_tasks(alloc, s, room_from(old))?;
             Ok(Tasks::Lone(tasks))
         }
-        Way::Shared => {
-            let tasks = shared_tasks(alloc, s, bodies_from(alloc, old))?;
-            Ok(Tasks::Shared(tasks))
+        Way::InLots(workers) => {
+            let tasks = lot_tasks(alloc, s, frames, workers)?;
+            Ok(Tasks::Lots(tasks))
         }
         Way::OnBoard => {
             let tasks = board_tasks(alloc, s, bodies_from(alloc, old))?;

@@ -43,28 +43,6 @@ fn no_layout(alloc: Global) -> TaskLayout {
     }
 }
 
-/// The numbers of so many patches, in their order.
-pub(crate) fn by_number(alloc: Global, count: usize) -> Result<Vec<usize>, NoMemory>
-    ensures { IfOk result (λ turns. turns.items ≡ range_with_len 0 count) }
-{
-    let mut turns = Vec::with_capacity(alloc, count)?;
-    for number in 0..count {
-        turns.push_reserved(number);
-    }
-    Ok(turns)
-}
-
-/// So many layouts of no task.
-pub(crate) fn no_layouts(alloc: Global, count: usize) -> Result<Vec<TaskLayout>, NoMemory>
-    ensures { IfOk result (λ layouts. length layouts.items ≡ count) }
-{
-    let mut layouts = Vec::with_capacity(alloc, count)?;
-    for _number in 0..count {
-        layouts.push_reserved(no_layout(alloc));
-    }
-    Ok(layouts)
-}
-
 /// The layouts of patches in the order of these turns.
 pub(crate) fn in_turn(
     alloc: Global,

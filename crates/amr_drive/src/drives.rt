@@ -21,6 +21,7 @@ use amr_advance::{Crew, Workers};
 use amr_causes::NoMemory;
 use amr_cycle::Kept;
 use amr_def::Problem;
+use amr_lots::LotWork;
 use amr_patch::Mesh;
 use amr_work::LevelWork;
 use amr_workers::Gate;
@@ -148,6 +149,7 @@ pub fn drive<R: Threads + Wait + Sync, G: Gate + Sync, A: AfterStep>(
     let run = Run {
         alloc,
         job: LevelWork { problem: p },
+        service: LotWork { problem: p },
         target,
     };
     if crew.workers > 1 {

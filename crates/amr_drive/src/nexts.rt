@@ -15,6 +15,7 @@ use amr_advance::Workers;
 use amr_causes::NoMemory;
 use amr_cycle::{Kept, step_kept};
 use amr_def::Problem;
+use amr_lots::LotWork;
 use amr_patch::Mesh;
 use amr_regrid::regrid;
 use amr_work::LevelWork;
@@ -55,6 +56,8 @@ fn regrid_if_due(alloc: Global, p: &Problem, mesh: &mut Mesh) -> Result<(), NoMe
 pub(crate) struct Run<'a> {
     pub alloc: Global,
     pub job: LevelWork<'a>,
+    /// What a worker does with a lot of a level's patches.
+    pub service: LotWork<'a>,
     pub target: u32,
 }
 

@@ -7,7 +7,7 @@ returns c = record {
   boxes = c.in_ok-boxes_of.ensures;
   cells = c.in_ok-from_slice.ensures.items;
   finer = λ e. c.in_ok-finer_boxes.ensures;
-  frames = c.in_ok-plan_frames.ensures;
+  frames = c.in_ok-frames.ensures;
   words = refl;
   tasks = c.in_ok-tasks.ensures.tasks;
 }

@@ -4,7 +4,9 @@ use Rattle.std.proofs.lemmas.List.{with_items_is}
 use Rattle.std.specs.Option.{option_copied}
 use Rattle.amr_board.specs.declared.board.Shape.{Shape}
 use Rattle.amr_layout.specs.Surroundings.{around}
-use Rattle.amr_advance.specs.Tasks.{AreBoardTasks, AreTasks}
+use Rattle.amr_advance.specs.declared.tasks.Tasks.{Tasks}
+use Rattle.amr_advance.specs.declared.tasks.Tasks.TheVariants.{Lots}
+use Rattle.amr_advance.specs.Tasks.{AreBoardTasks, AreFilledFor, AreTasks}
 use Rattle.amr_ghost.specs.Frames.{old_masses}
 use Rattle.amr_patch.specs.Patches.{masses_in}
 use Rattle.amr_flows.specs.Laws.{plain_size}
@@ -62,32 +64,29 @@ returns-in_ok-run_on_board-in-Board-clause-small g c =
     let items = with_items_is c.in_ok-totals.totals c.run_on_board.new.totals (omega (arith, step.words, ap length c.deref_mut-in-Board.ensures.value, c.in_ok-totals.totals.ok.0)) in
     subst (λ ws. (word : ℕ) → word < length ws → slice_index ws word < 2 ^ 63) (sym items) step.small
 
-pub step_shared-requires-clause-tasks : goal.step_shared-requires-clause-tasks
-step_shared-requires-clause-tasks g c =
-    subst (AreTasks (around c.args.given.problem.now c.args.given.level c.args.patches.now c.args.given.cells.now (option_copied c.args.given.finer))) c.in-Shared.is c.requires.layout.tasks
+pub step_each-requires-clause-shown : goal.step_each-requires-clause-shown
+step_each-requires-clause-shown g c = subst (λ (ts : Tasks). AreFilledFor ts c.args.given.problem.now c.args.given.level (old_masses (option_copied c.args.given.old)) c.args.patches.now) c.in-Lone.is c.requires.filled
 
-pub returns-in_ok-step_shared-in-Shared-clause-layout : goal.returns-in_ok-step_shared-in-Shared-clause-layout
-returns-in_ok-step_shared-in-Shared-clause-layout g c = record {
+pub run_on_board-requires-clause-shown : goal.run_on_board-requires-clause-shown
+run_on_board-requires-clause-shown g c = λ _ _. subst (λ (ts : Tasks). AreFilledFor ts c.args.given.problem.now c.args.given.level (old_masses (option_copied c.args.given.old)) c.args.patches.now) c.in-Board.is c.requires.filled
+
+pub step_in_lots-requires-clause-apart : goal.step_in_lots-requires-clause-apart
+step_in_lots-requires-clause-apart g c = let h : AreFilledFor (Lots c.in-Lots.tasks) c.args.given.problem.now c.args.given.level (old_masses (option_copied c.args.given.old)) c.args.patches.now = subst (λ (ts : Tasks). AreFilledFor ts c.args.given.problem.now c.args.given.level (old_masses (option_copied c.args.given.old)) c.args.patches.now) c.in-Lots.is c.requires.filled in h.0
+
+pub step_in_lots-requires-clause-inside : goal.step_in_lots-requires-clause-inside
+step_in_lots-requires-clause-inside g c = let h : AreFilledFor (Lots c.in-Lots.tasks) c.args.given.problem.now c.args.given.level (old_masses (option_copied c.args.given.old)) c.args.patches.now = subst (λ (ts : Tasks). AreFilledFor ts c.args.given.problem.now c.args.given.level (old_masses (option_copied c.args.given.old)) c.args.patches.now) c.in-Lots.is c.requires.filled in h.1
+
+pub step_in_lots-requires-clause-tasks : goal.step_in_lots-requires-clause-tasks
+step_in_lots-requires-clause-tasks g c =
+    subst (AreTasks (around c.args.given.problem.now c.args.given.level c.args.patches.now c.args.given.cells.now (option_copied c.args.given.finer))) c.in-Lots.is c.requires.layout.tasks
+
+pub returns-in-Lots-clause-layout : goal.returns-in-Lots-clause-layout
+returns-in-Lots-clause-layout g c = record {
   level = c.requires.layout.level;
   boxes = c.requires.layout.boxes;
   cells = c.requires.layout.cells;
   finer = c.requires.layout.finer;
   frames = c.requires.layout.frames;
   words = c.requires.layout.words;
-  tasks = c.in_ok-step_shared-in-Shared.ensures.tasks;
+  tasks = c.step_in_lots.ensures.tasks;
 }
-
-pub returns-in_ok-step_shared-in-Shared-clause-totals : goal.returns-in_ok-step_shared-in-Shared-clause-totals
-returns-in_ok-step_shared-in-Shared-clause-totals g c =
-    let p = c.args.given.problem.now in
-    let l = c.args.given.level in
-    let qs = c.args.patches.now in
-    let step = c.in_ok-step_shared-in-Shared.ensures in
-    let items = with_items_is c.in_ok-totals.totals c.step_shared.new.totals (omega (arith, step.words, ap length c.deref_mut-in-Shared.ensures.value, c.in_ok-totals.totals.ok.0)) in
-    subst (λ ws. (word : ℕ) → word < length ws → slice_index ws word ≡ level_total (around p l qs c.args.given.cells.now (option_copied c.args.given.finer)) (plain_size p l (masses_in qs) (old_masses (option_copied c.args.given.old))) word) (sym items) (λ word _. step.totals word)
-
-pub returns-in_ok-step_shared-in-Shared-clause-small : goal.returns-in_ok-step_shared-in-Shared-clause-small
-returns-in_ok-step_shared-in-Shared-clause-small g c =
-    let step = c.in_ok-step_shared-in-Shared.ensures in
-    let items = with_items_is c.in_ok-totals.totals c.step_shared.new.totals (omega (arith, step.words, ap length c.deref_mut-in-Shared.ensures.value, c.in_ok-totals.totals.ok.0)) in
-    subst (λ ws. (word : ℕ) → word < length ws → slice_index ws word < 2 ^ 63) (sym items) (λ word _. step.small word)

@@ -1,4 +1,5 @@
-use Rattle.std.proofs.Common.{sym, subst}
+use Rattle.std.proofs.Common.{IfSome, sym, subst}
+use Rattle.amr_advance.specs.Shown.{AreShown}
 use Rattle.std.specs.declared.option.Option.{Option}
 use Rattle.std.specs.declared.option.Option.TheVariants.{Some}
 use Rattle.std.specs.Option.{option_copied}
@@ -18,4 +19,4 @@ returns-in-Some c =
     let old = old_masses (option_copied c.args.given.old) in
     let next = option_copied c.args.given.finer in
     subst (λ (r : Option Register). BothChange (taken p l (masses_in qs) old (finer_masses next)) r (Some c.coarse_parts.new.self)) (sym c.in-Some.is)
-    (parts_taken p l old qs next c.in-Some.register c.coarse_parts.new.self c.requires.shown (subst (λ (r : Option Register). HasEdges p l (masses_in qs) next r) c.in-Some.is c.requires.register) c.coarse_parts.ensures.taken c.coarse_parts.ensures.cells)
+    (parts_taken p l old qs next c.in-Some.register c.coarse_parts.new.self (subst (λ (r : Option Register). IfSome r (λ s. AreShown p l old qs)) c.in-Some.is c.requires.shown) (subst (λ (r : Option Register). HasEdges p l (masses_in qs) next r) c.in-Some.is c.requires.register) c.coarse_parts.ensures.taken c.coarse_parts.ensures.cells)

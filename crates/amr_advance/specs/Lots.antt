@@ -1,0 +1,45 @@
+-- The lots of a level: runs of its patches, each with what a worker needs.
+use Rattle.std.specs.Prelude.{◌≡◌, ℕ, ◌+◌, ◌*◌, ◌^◌, ◌<◌, ◌≤◌, List, length, slice_index_or}
+use Rattle.std.specs.Global.{Box, Vec}
+use Rattle.std.specs.List.{All}
+use Rattle.amr_box.specs.Cells.{width}
+use Rattle.amr_def.specs.Domain.{domain}
+use Rattle.amr_flux.specs.Rooms.{widest}
+use Rattle.amr_ghost.specs.Plans.{PlansFrames}
+use Rattle.amr_ghost.specs.Parts.{IsParted}
+use Rattle.amr_ghost.specs.declared.parts.FrameCopy.{FrameCopy}
+use Rattle.amr_ghost.specs.declared.parts.FrameParts.{FrameParts}
+use Rattle.amr_ghost.specs.declared.plan.FramePlan.{FramePlan}
+use Rattle.amr_layout.specs.declared.FlowTo.{FlowTo}
+use Rattle.amr_layout.specs.Adds.{flows_of}
+use Rattle.amr_layout.specs.Surroundings.{Around, edge_count}
+use Rattle.amr_lots.specs.Runs.{run}
+use Rattle.amr_lots.specs.declared.lot.Lot.{Lot}
+use Rattle.amr_patch.specs.declared.patches.Patch.{Patch}
+use Rattle.amr_patch.specs.Patches.{box}
+use Rattle.amr_phase.specs.Plans.{total}
+use Rattle.amr_advance.specs.declared.lots.LotTasks.{LotTasks}
+
+-- a lot that serves run k of a level's patches, in runs of so many each. While no step is made it has other patches, as many.
+pub record IsLotOf (s : Around) (each k : ℕ) (copies : List FrameCopy) (x : Lot) : Type 0 where
+  pub of_problem : x.problem.value ≡ s.problem
+  pub of_level : x.level ≡ s.level
+  pub count : length x.patches.items ≡ length (run each k s.patches)
+  pub of_copies : x.copies.items ≡ copies
+  pub flow_count : length x.flows.items ≡ length (run each k s.patches)
+  pub flows : (i : ℕ) (v : Vec FlowTo) (q : Patch) → i < length (run each k s.patches) → (slice_index_or x.flows.items i v).items ≡ flows_of s (box (slice_index_or (run each k s.patches) i q))
+  pub words : (i : ℕ) (v : Vec FlowTo) → i < length (run each k s.patches) → All (λ (y : FlowTo). y.word < 2 + 2 * length s.cells) (slice_index_or x.flows.items i v).items
+  pub room : All (λ q. width (box q) ≤ widest x.room) (run each k s.patches)
+  pub totals : length x.totals.items ≡ 2 + 2 * length s.cells
+
+-- the lots of a level, by a plan of its frames in parts
+pub record AreLotTasks (s : Around) (t : LotTasks) : Type 0 where
+  pub some : 0 < t.each
+  pub enough : length s.patches ≤ length t.lots.items * t.each
+  pub edges : total (λ q. edge_count (box q)) s.patches ≤ 2 ^ 30
+  pub plan : FramePlan
+  pub planned : PlansFrames (domain s.problem s.level) s.patches plan
+  pub parts : FrameParts
+  pub parted : IsParted plan t.each (length t.lots.items) parts
+  pub across : t.across ≡ parts.across
+  pub lots : (k : ℕ) (x : Box Lot) (v : Vec FrameCopy) → k < length t.lots.items → IsLotOf s t.each k (slice_index_or parts.within.items k v).items (slice_index_or t.lots.items k x).value
