@@ -40,6 +40,7 @@ enum Found<O> {
 pub struct Mailbox<O, A, K, E: Errand<O, A, K>> {
     table: Table<Letter<O, A>, View<O, K>, K, Kept<E>, Global>,
     attended: AtomicBool,
+    asleep: AtomicBool,
 }
 
 impl<O, A, K, E: Errand<O, A, K>> Model for Mailbox<O, A, K, E> {
@@ -74,6 +75,7 @@ impl<O: Drop, A: Drop, K, E: Errand<O, A, K>> Mailbox<O, A, K, E> {
         let mailbox = Mailbox {
             table,
             attended: AtomicBool::new(false),
+            asleep: AtomicBool::new(false),
         };
         Ok((mailbox, Asker { seat }, Worker { seat: other }))
     }
@@ -88,7 +90,7 @@ impl<O: Drop, A: Drop, K, E: Errand<O, A, K>> Mailbox<O, A, K, E> {
         self.attended.load(Ordering::SeqCst)
     }
 
-    /// Posts an order, which is the worker's from then on, and wakes the worker.
+    /// Posts an order, which is the worker's from then on, and wakes the worker where it sleeps.
     pub fn post(&self, asker: &mut Asker<O, A, K>, order: O)
         requires free { asker.old ≡ end_of self.now Free }
         requires may { E.may self.now.key order }
@@ -99,7 +101,9 @@ impl<O: Drop, A: Drop, K, E: Errand<O, A, K>> Mailbox<O, A, K, E> {
             unreachable!()
         };
         shared.store::<Posting>(&mut asker.seat, 0, WORKERS_TURN);
-        shared.wake_one(0);
+        if self.asleep.load(Ordering::SeqCst) {
+            shared.wake_one(0);
+        }
     }
 
     /// Waits for the answer, which serves the order that was posted.
@@ -157,10 +161,18 @@ impl<O: Drop, A: Drop, K, E: Errand<O, A, K>> Mailbox<O, A, K, E> {
                 Found::Order(order) => return Some(order),
                 Found::Dismissal => return None,
                 Found::Nothing if patience.spend() => (),
-                Found::Nothing => self.table.shared.park(rt, 0, ASKERS_TURN as u32),
+                Found::Nothing => self.sleep(rt),
             }
         }
         unreachable!()
+    }
+
+    // Sleeps until the asker wakes the worker. An asker that posts once `asleep` is set sees so, and wakes it. One that
+    // posted before has changed the word, and then nobody falls asleep on it.
+    fn sleep(&self, rt: &impl Wait) {
+        self.asleep.store(true, Ordering::SeqCst);
+        self.table.shared.park(rt, 0, ASKERS_TURN as u32);
+        self.asleep.store(false, Ordering::SeqCst);
     }
 
     // One look for an order.
