@@ -13,7 +13,9 @@ fn copy_values(from: &Patch, to: &mut Patch)
     requires { box to.old ≡ box from.now }
     ensures { IsCopied from.now to.new }
 {
-    to.values.copy_from_slice(&from.values);
+    let source = &*from.data;
+    let target = &mut *to.data;
+    target.values.copy_from_slice(&source.values);
 }
 
 /// Copies the values of patches into others with the same boxes, one by one.

@@ -31,8 +31,8 @@ y_alone : (p : Problem) (l first w h : ℕ) (border values : List ℕ) (i j : �
 unfolding y_through
 y_alone p l first w h border values i j = ap (λ b. cond b (signed (y_number p l (first + i)) (slice_index border (count_below (x_marked w []) h + count_below (y_marked w h []) i))) (y_flux p l first w values i j)) (and-false (nat_eq j h))
 
-pub alone_fluxes : (p : Problem) (l : ℕ) (q : Patch) (column row : ℕ) → Stands p l q.bx column row → AreFluxes q (flux_beside p l q) (x_through p l row (width q.bx) [] [] q.values.items) (y_through p l column (width q.bx) (height q.bx) [] [] q.values.items)
+pub alone_fluxes : (p : Problem) (l : ℕ) (q : Patch) (column row : ℕ) → Stands p l q.bx column row → AreFluxes q (flux_beside p l q) (x_through p l row (width q.bx) [] [] q.data.value.values.items) (y_through p l column (width q.bx) (height q.bx) [] [] q.data.value.values.items)
 alone_fluxes p l q column row s = record {
-  x = λ x y i j at hi hj. x_alone p l row (width q.bx) [] q.values.items i j ∙ x_beside p l q column row s x y i j at hj;
-  y = λ x y i j at hi hj. y_alone p l column (width q.bx) (height q.bx) [] q.values.items i j ∙ y_beside p l q column row s x y i j at hi;
+  x = λ x y i j at hi hj. x_alone p l row (width q.bx) [] q.data.value.values.items i j ∙ x_beside p l q column row s x y i j at hj;
+  y = λ x y i j at hi hj. y_alone p l column (width q.bx) (height q.bx) [] q.data.value.values.items i j ∙ y_beside p l q column row s x y i j at hi;
 }

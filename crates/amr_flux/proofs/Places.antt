@@ -59,13 +59,13 @@ pub record IsAt (b : Extent) (c : Cell) (i j : ℕ) : Type 0 where
   pub x : pos i ≡ c.x -ℤ (b.lo.x -ℤ pos 1)
   pub y : pos j ≡ c.y -ℤ (b.lo.y -ℤ pos 1)
 
-pub value_here : (q : Patch) (c : Cell) (i j : ℕ) → IsAt q.bx c i j → value_in q c ≡ value (width q.bx) q.values.items i j
+pub value_here : (q : Patch) (c : Cell) (i j : ℕ) → IsAt q.bx c i j → value_in q c ≡ value (width q.bx) q.data.value.values.items i j
 unfolding value_in
-value_here q c i j at = ap (slice_index q.values.items) (sym (place_is q.bx c j i (width q.bx) at.y at.x refl))
+value_here q c i j at = ap (slice_index q.data.value.values.items) (sym (place_is q.bx c j i (width q.bx) at.y at.x refl))
 
-pub mark_here : (q : Patch) (c : Cell) (i j : ℕ) → IsAt q.bx c i j → mark_in q c ≡ mark (width q.bx) q.marks.items i j
+pub mark_here : (q : Patch) (c : Cell) (i j : ℕ) → IsAt q.bx c i j → mark_in q c ≡ mark (width q.bx) q.data.value.marks.items i j
 unfolding mark_in
-mark_here q c i j at = ap (λ n. slice_index_or q.marks.items n false) (sym (place_is q.bx c j i (width q.bx) at.y at.x refl))
+mark_here q c i j at = ap (λ n. slice_index_or q.data.value.marks.items n false) (sym (place_is q.bx c j i (width q.bx) at.y at.x refl))
 
 -- ---- a face by its column and row
 
@@ -74,17 +74,17 @@ pub record IsFaceAt (b : Extent) (x y : ℤ) (i j : ℕ) : Type 0 where
   pub row : pos j ≡ y -ℤ b.lo.y
 
 -- the flux of a face on an edge is that edge's entry
-pub x_low_here : (q : Patch) (x y : ℤ) (i j : ℕ) → IsFaceAt q.bx x y i j → x ≡ q.bx.lo.x → flux_in q (face X x y) ≡ slice_index_or q.x_low.items j (pos 0)
-x_low_here q x y i j at e = flux_x_low q (face X x y) refl e ∙ ap (λ n. slice_index_or q.x_low.items n (pos 0)) (zero-cut (y -ℤ q.bx.lo.y) j at.row)
+pub x_low_here : (q : Patch) (x y : ℤ) (i j : ℕ) → IsFaceAt q.bx x y i j → x ≡ q.bx.lo.x → flux_in q (face X x y) ≡ slice_index_or q.data.value.x_low.items j (pos 0)
+x_low_here q x y i j at e = flux_x_low q (face X x y) refl e ∙ ap (λ n. slice_index_or q.data.value.x_low.items n (pos 0)) (zero-cut (y -ℤ q.bx.lo.y) j at.row)
 
-pub x_high_here : (q : Patch) (x y : ℤ) (i j : ℕ) → IsFaceAt q.bx x y i j → x ≡ q.bx.hi.x +ℤ pos 1 → flux_in q (face X x y) ≡ slice_index_or q.x_high.items j (pos 0)
-x_high_here q x y i j at e = flux_x_high q (face X x y) refl e ∙ ap (λ n. slice_index_or q.x_high.items n (pos 0)) (zero-cut (y -ℤ q.bx.lo.y) j at.row)
+pub x_high_here : (q : Patch) (x y : ℤ) (i j : ℕ) → IsFaceAt q.bx x y i j → x ≡ q.bx.hi.x +ℤ pos 1 → flux_in q (face X x y) ≡ slice_index_or q.data.value.x_high.items j (pos 0)
+x_high_here q x y i j at e = flux_x_high q (face X x y) refl e ∙ ap (λ n. slice_index_or q.data.value.x_high.items n (pos 0)) (zero-cut (y -ℤ q.bx.lo.y) j at.row)
 
-pub y_low_here : (q : Patch) (x y : ℤ) (i j : ℕ) → IsFaceAt q.bx x y i j → y ≡ q.bx.lo.y → flux_in q (face Y x y) ≡ slice_index_or q.y_low.items i (pos 0)
-y_low_here q x y i j at e = flux_y_low q (face Y x y) refl e ∙ ap (λ n. slice_index_or q.y_low.items n (pos 0)) (zero-cut (x -ℤ q.bx.lo.x) i at.column)
+pub y_low_here : (q : Patch) (x y : ℤ) (i j : ℕ) → IsFaceAt q.bx x y i j → y ≡ q.bx.lo.y → flux_in q (face Y x y) ≡ slice_index_or q.data.value.y_low.items i (pos 0)
+y_low_here q x y i j at e = flux_y_low q (face Y x y) refl e ∙ ap (λ n. slice_index_or q.data.value.y_low.items n (pos 0)) (zero-cut (x -ℤ q.bx.lo.x) i at.column)
 
-pub y_high_here : (q : Patch) (x y : ℤ) (i j : ℕ) → IsFaceAt q.bx x y i j → y ≡ q.bx.hi.y +ℤ pos 1 → flux_in q (face Y x y) ≡ slice_index_or q.y_high.items i (pos 0)
-y_high_here q x y i j at e = flux_y_high q (face Y x y) refl e ∙ ap (λ n. slice_index_or q.y_high.items n (pos 0)) (zero-cut (x -ℤ q.bx.lo.x) i at.column)
+pub y_high_here : (q : Patch) (x y : ℤ) (i j : ℕ) → IsFaceAt q.bx x y i j → y ≡ q.bx.hi.y +ℤ pos 1 → flux_in q (face Y x y) ≡ slice_index_or q.data.value.y_high.items i (pos 0)
+y_high_here q x y i j at e = flux_y_high q (face Y x y) refl e ∙ ap (λ n. slice_index_or q.data.value.y_high.items n (pos 0)) (zero-cut (x -ℤ q.bx.lo.x) i at.column)
 
 -- the cells on the two sides of a face
 pub high_at : (b : Extent) (x y : ℤ) (i j : ℕ) → IsFaceAt b x y i j → IsAt b (cell x y) (i + 1) (j + 1)

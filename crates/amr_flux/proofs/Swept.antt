@@ -27,27 +27,27 @@ module _ (p : Problem) (l : ℕ) (q new : Patch) (column row : ℕ) (s : Stands 
   there : (x y : ℤ) (i j : ℕ) → IsFaceAt q.bx x y i j → IsFaceAt new.bx x y i j
   there x y i j at = let P : Extent → Type 0 = λ b. IsFaceAt b x y i j in subst P (sym same) at
 
-  x_low_is : (x y : ℤ) (i j : ℕ) → IsXFace q.bx x y i j → x ≡ q.bx.lo.x → slice_index_or new.x_low.items j (pos 0) ≡ x_flux p l row (width q.bx) q.values.items 0 j → flux_in new (face X x y) ≡ flux_beside p l q (face X x y)
+  x_low_is : (x y : ℤ) (i j : ℕ) → IsXFace q.bx x y i j → x ≡ q.bx.lo.x → slice_index_or new.data.value.x_low.items j (pos 0) ≡ x_flux p l row (width q.bx) q.data.value.values.items 0 j → flux_in new (face X x y) ≡ flux_beside p l q (face X x y)
   x_low_is x y i j f e is =
       let first : i ≡ 0 = omega (arith, ints, f.at.column, e) in
-      x_low_here new x y i j (there x y i j f.at) (e ∙ ap (λ (b : Extent). b.lo.x) (sym same)) ∙ is ∙ ap (λ n. x_flux p l row (width q.bx) q.values.items n j) (sym first) ∙ x_beside p l q column row s x y i j f.at f.row
+      x_low_here new x y i j (there x y i j f.at) (e ∙ ap (λ (b : Extent). b.lo.x) (sym same)) ∙ is ∙ ap (λ n. x_flux p l row (width q.bx) q.data.value.values.items n j) (sym first) ∙ x_beside p l q column row s x y i j f.at f.row
 
-  x_high_is : (x y : ℤ) (i j : ℕ) → IsXFace q.bx x y i j → x ≡ q.bx.hi.x +ℤ pos 1 → slice_index_or new.x_high.items j (pos 0) ≡ x_flux p l row (width q.bx) q.values.items (width q.bx) j → flux_in new (face X x y) ≡ flux_beside p l q (face X x y)
+  x_high_is : (x y : ℤ) (i j : ℕ) → IsXFace q.bx x y i j → x ≡ q.bx.hi.x +ℤ pos 1 → slice_index_or new.data.value.x_high.items j (pos 0) ≡ x_flux p l row (width q.bx) q.data.value.values.items (width q.bx) j → flux_in new (face X x y) ≡ flux_beside p l q (face X x y)
   x_high_is x y i j f e is =
       let wide = (sides q.bx q.near).wide in
       let last : i ≡ width q.bx = omega (arith, ints, f.at.column, e, wide) in
-      x_high_here new x y i j (there x y i j f.at) (e ∙ ap (λ (b : Extent). b.hi.x +ℤ pos 1) (sym same)) ∙ is ∙ ap (λ n. x_flux p l row (width q.bx) q.values.items n j) (sym last) ∙ x_beside p l q column row s x y i j f.at f.row
+      x_high_here new x y i j (there x y i j f.at) (e ∙ ap (λ (b : Extent). b.hi.x +ℤ pos 1) (sym same)) ∙ is ∙ ap (λ n. x_flux p l row (width q.bx) q.data.value.values.items n j) (sym last) ∙ x_beside p l q column row s x y i j f.at f.row
 
-  y_low_is : (x y : ℤ) (i j : ℕ) → IsYFace q.bx x y i j → y ≡ q.bx.lo.y → slice_index_or new.y_low.items i (pos 0) ≡ y_flux p l column (width q.bx) q.values.items i 0 → flux_in new (face Y x y) ≡ flux_beside p l q (face Y x y)
+  y_low_is : (x y : ℤ) (i j : ℕ) → IsYFace q.bx x y i j → y ≡ q.bx.lo.y → slice_index_or new.data.value.y_low.items i (pos 0) ≡ y_flux p l column (width q.bx) q.data.value.values.items i 0 → flux_in new (face Y x y) ≡ flux_beside p l q (face Y x y)
   y_low_is x y i j f e is =
       let first : j ≡ 0 = omega (arith, ints, f.at.row, e) in
-      y_low_here new x y i j (there x y i j f.at) (e ∙ ap (λ (b : Extent). b.lo.y) (sym same)) ∙ is ∙ ap (λ n. y_flux p l column (width q.bx) q.values.items i n) (sym first) ∙ y_beside p l q column row s x y i j f.at f.column
+      y_low_here new x y i j (there x y i j f.at) (e ∙ ap (λ (b : Extent). b.lo.y) (sym same)) ∙ is ∙ ap (λ n. y_flux p l column (width q.bx) q.data.value.values.items i n) (sym first) ∙ y_beside p l q column row s x y i j f.at f.column
 
-  y_high_is : (x y : ℤ) (i j : ℕ) → IsYFace q.bx x y i j → y ≡ q.bx.hi.y +ℤ pos 1 → slice_index_or new.y_high.items i (pos 0) ≡ y_flux p l column (width q.bx) q.values.items i (height q.bx) → flux_in new (face Y x y) ≡ flux_beside p l q (face Y x y)
+  y_high_is : (x y : ℤ) (i j : ℕ) → IsYFace q.bx x y i j → y ≡ q.bx.hi.y +ℤ pos 1 → slice_index_or new.data.value.y_high.items i (pos 0) ≡ y_flux p l column (width q.bx) q.data.value.values.items i (height q.bx) → flux_in new (face Y x y) ≡ flux_beside p l q (face Y x y)
   y_high_is x y i j f e is =
       let high = (sides q.bx q.near).high in
       let last : j ≡ height q.bx = omega (arith, ints, f.at.row, e, high) in
-      y_high_here new x y i j (there x y i j f.at) (e ∙ ap (λ (b : Extent). b.hi.y +ℤ pos 1) (sym same)) ∙ is ∙ ap (λ n. y_flux p l column (width q.bx) q.values.items i n) (sym last) ∙ y_beside p l q column row s x y i j f.at f.column
+      y_high_here new x y i j (there x y i j f.at) (e ∙ ap (λ (b : Extent). b.hi.y +ℤ pos 1) (sym same)) ∙ is ∙ ap (λ n. y_flux p l column (width q.bx) q.data.value.values.items i n) (sym last) ∙ y_beside p l q column row s x y i j f.at f.column
 
 -- a face on an edge is a face of the box
 pub edge_face : (b : Extent) (a : Axis) (x y : ℤ) → IsNear b → on_edge a b (cell x y) ≡ true → on_box a b (cell x y) ≡ true
@@ -63,12 +63,12 @@ edge_face b Y x y near e = at_each (at_end b.lo.y b.hi.y y (y_edge b (cell x y) 
     at_each (inr at) = let edge = y_edge b (cell x y) e in is_inside (extent b.lo (cell b.hi.x (b.hi.y +ℤ pos 1))) (cell x y) (record { west = edge.from; east = edge.to; south = omega (arith, ints, at, near.high); north = omega (arith, ints, at) })
 
 module _ (p : Problem) (l : ℕ) (q new : Patch) (column row : ℕ) (s : Stands p l q.bx column row) (same : new.bx ≡ q.bx)
-    (x_low : (j : ℕ) → j < height q.bx → slice_index_or new.x_low.items j (pos 0) ≡ x_flux p l row (width q.bx) q.values.items 0 j)
-    (x_made : (j : ℕ) → j < height q.bx → x_marked (width q.bx) q.marks.items j ≡ false → slice_index_or new.x_high.items j (pos 0) ≡ x_flux p l row (width q.bx) q.values.items (width q.bx) j)
-    (x_kept : (j : ℕ) → x_marked (width q.bx) q.marks.items j ≡ true → slice_index_or new.x_high.items j (pos 0) ≡ slice_index_or q.x_high.items j (pos 0))
-    (y_low : (i : ℕ) → i < width q.bx → slice_index_or new.y_low.items i (pos 0) ≡ y_flux p l column (width q.bx) q.values.items i 0)
-    (y_made : (i : ℕ) → i < width q.bx → y_marked (width q.bx) (height q.bx) q.marks.items i ≡ false → slice_index_or new.y_high.items i (pos 0) ≡ y_flux p l column (width q.bx) q.values.items i (height q.bx))
-    (y_kept : (i : ℕ) → i < width q.bx → y_marked (width q.bx) (height q.bx) q.marks.items i ≡ true → slice_index_or new.y_high.items i (pos 0) ≡ slice_index_or q.y_high.items i (pos 0)) where
+    (x_low : (j : ℕ) → j < height q.bx → slice_index_or new.data.value.x_low.items j (pos 0) ≡ x_flux p l row (width q.bx) q.data.value.values.items 0 j)
+    (x_made : (j : ℕ) → j < height q.bx → x_marked (width q.bx) q.data.value.marks.items j ≡ false → slice_index_or new.data.value.x_high.items j (pos 0) ≡ x_flux p l row (width q.bx) q.data.value.values.items (width q.bx) j)
+    (x_kept : (j : ℕ) → x_marked (width q.bx) q.data.value.marks.items j ≡ true → slice_index_or new.data.value.x_high.items j (pos 0) ≡ slice_index_or q.data.value.x_high.items j (pos 0))
+    (y_low : (i : ℕ) → i < width q.bx → slice_index_or new.data.value.y_low.items i (pos 0) ≡ y_flux p l column (width q.bx) q.data.value.values.items i 0)
+    (y_made : (i : ℕ) → i < width q.bx → y_marked (width q.bx) (height q.bx) q.data.value.marks.items i ≡ false → slice_index_or new.data.value.y_high.items i (pos 0) ≡ y_flux p l column (width q.bx) q.data.value.values.items i (height q.bx))
+    (y_kept : (i : ℕ) → i < width q.bx → y_marked (width q.bx) (height q.bx) q.data.value.marks.items i ≡ true → slice_index_or new.data.value.y_high.items i (pos 0) ≡ slice_index_or q.data.value.y_high.items i (pos 0)) where
   x_swept : (x y : ℤ) → owns q (face X x y) ≡ true → (x ≡ q.bx.lo.x) ⊎ (x ≡ q.bx.hi.x +ℤ pos 1) → flux_in new (face X x y) ≡ flux_beside p l q (face X x y)
   x_swept x y own (inl e) = let f = x_face_at q.bx x y q.near (owned_of_box q (face X x y) own) in x_low_is p l q new column row s same x y _ _ f e (x_low _ f.row)
   x_swept x y own (inr e) =
@@ -77,7 +77,7 @@ module _ (p : Problem) (l : ℕ) (q new : Patch) (column row : ℕ) (s : Stands 
       let j = offset q.bx.lo.y y in
       let wide = (sides q.bx q.near).wide in
       let last : i ≡ width q.bx = omega (arith, ints, f.at.column, e, wide) in
-      let free : x_marked (width q.bx) q.marks.items j ≡ false = ap (λ n. mark (width q.bx) q.marks.items (n + 1) (j + 1)) (sym last) ∙ sym (mark_here q (cell x y) (i + 1) (j + 1) (high_at q.bx x y i j f.at)) ∙ owned_unmarked q (face X x y) own (x_beyond q.bx x y i j q.near f last) in
+      let free : x_marked (width q.bx) q.data.value.marks.items j ≡ false = ap (λ n. mark (width q.bx) q.data.value.marks.items (n + 1) (j + 1)) (sym last) ∙ sym (mark_here q (cell x y) (i + 1) (j + 1) (high_at q.bx x y i j f.at)) ∙ owned_unmarked q (face X x y) own (x_beyond q.bx x y i j q.near f last) in
       x_high_is p l q new column row s same x y i j f e (x_made j f.row free)
 
   y_swept : (x y : ℤ) → owns q (face Y x y) ≡ true → (y ≡ q.bx.lo.y) ⊎ (y ≡ q.bx.hi.y +ℤ pos 1) → flux_in new (face Y x y) ≡ flux_beside p l q (face Y x y)
@@ -88,7 +88,7 @@ module _ (p : Problem) (l : ℕ) (q new : Patch) (column row : ℕ) (s : Stands 
       let j = offset q.bx.lo.y y in
       let high = (sides q.bx q.near).high in
       let last : j ≡ height q.bx = omega (arith, ints, f.at.row, e, high) in
-      let free : y_marked (width q.bx) (height q.bx) q.marks.items i ≡ false = ap (λ n. mark (width q.bx) q.marks.items (i + 1) (n + 1)) (sym last) ∙ sym (mark_here q (cell x y) (i + 1) (j + 1) (high_at q.bx x y i j f.at)) ∙ owned_unmarked q (face Y x y) own (y_beyond q.bx x y i j q.near f last) in
+      let free : y_marked (width q.bx) (height q.bx) q.data.value.marks.items i ≡ false = ap (λ n. mark (width q.bx) q.data.value.marks.items (i + 1) (n + 1)) (sym last) ∙ sym (mark_here q (cell x y) (i + 1) (j + 1) (high_at q.bx x y i j f.at)) ∙ owned_unmarked q (face Y x y) own (y_beyond q.bx x y i j q.near f last) in
       y_high_is p l q new column row s same x y i j f e (y_made i f.column free)
 
   by_axis : (a : Axis) (x y : ℤ) → is_edge_face q.bx (face a x y) ≡ true → owns q (face a x y) ≡ true → flux_in new (face a x y) ≡ flux_beside p l q (face a x y)
@@ -109,7 +109,7 @@ module _ (p : Problem) (l : ℕ) (q new : Patch) (column row : ℕ) (s : Stands 
           let last : i ≡ width q.bx = omega (arith, f.column, past) in
           let wide = (sides q.bx q.near).wide in
           let edge : x ≡ q.bx.hi.x +ℤ pos 1 = omega (arith, ints, f.at.column, last, wide) in
-          let marked : x_marked (width q.bx) q.marks.items j ≡ true = sym (x_border q x y i j (border_of_box q (face X x y) e) f last) ∙ e in
+          let marked : x_marked (width q.bx) q.data.value.marks.items j ≡ true = sym (x_border q x y i j (border_of_box q (face X x y) e) f last) ∙ e in
           x_high_here new x y i j (there p l q new column row s same x y i j f.at) (edge ∙ ap (λ (b : Extent). b.hi.x +ℤ pos 1) (sym same)) ∙ x_kept j marked ∙ sym (x_high_here q x y i j f.at edge)
 
   y_stays : (x y : ℤ) → is_border q (face Y x y) ≡ true → flux_in new (face Y x y) ≡ flux_in q (face Y x y)
@@ -123,7 +123,7 @@ module _ (p : Problem) (l : ℕ) (q new : Patch) (column row : ℕ) (s : Stands 
           let last : j ≡ height q.bx = omega (arith, f.row, past) in
           let high = (sides q.bx q.near).high in
           let edge : y ≡ q.bx.hi.y +ℤ pos 1 = omega (arith, ints, f.at.row, last, high) in
-          let marked : y_marked (width q.bx) (height q.bx) q.marks.items i ≡ true = sym (y_border q x y i j (border_of_box q (face Y x y) e) f last) ∙ e in
+          let marked : y_marked (width q.bx) (height q.bx) q.data.value.marks.items i ≡ true = sym (y_border q x y i j (border_of_box q (face Y x y) e) f last) ∙ e in
           y_high_here new x y i j (there p l q new column row s same x y i j f.at) (edge ∙ ap (λ (b : Extent). b.hi.y +ℤ pos 1) (sym same)) ∙ y_kept i f.column marked ∙ sym (y_high_here q x y i j f.at edge)
 
   stays_by : (a : Axis) (x y : ℤ) → is_border q (face a x y) ≡ true → flux_in new (face a x y) ≡ flux_in q (face a x y)

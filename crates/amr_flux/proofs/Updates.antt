@@ -66,7 +66,7 @@ of_cell b i j near hi hj =
     let s = sides b near in
     is_inside b (cell (b.lo.x +ℤ pos i) (b.lo.y +ℤ pos j)) (record { west = omega (arith, ints); east = omega (arith, ints, s.wide, hi); south = omega (arith, ints); north = omega (arith, ints, s.high, hj) })
 
-mass_at : (q : Patch) (c : Cell) (i j : ℕ) → IsFaceAt q.bx c.x c.y i j → mass_in q c ≡ value (width q.bx) q.values.items (i + 1) (j + 1)
+mass_at : (q : Patch) (c : Cell) (i j : ℕ) → IsFaceAt q.bx c.x c.y i j → mass_in q c ≡ value (width q.bx) q.data.value.values.items (i + 1) (j + 1)
 mass_at q c i j at = value_here q c (i + 1) (j + 1) (high_at q.bx c.x c.y i j at)
 
 -- ---- the fluxes that an update uses
@@ -78,13 +78,13 @@ pub record AreFluxes (q : Patch) (e : Fluxes) (xs ys : ℕ → ℕ → ℤ) : Ty
 
 module _ (p : Problem) (l : ℕ) (q : Patch) (column row : ℕ) (s : Stands p l q.bx column row) where
   -- those of border faces by the sizes handed in
-  pub given_fluxes : (border : List ℕ) → AreFluxes q (fluxes_with p l q border) (x_through p l row (width q.bx) q.marks.items border q.values.items) (y_through p l column (width q.bx) (height q.bx) q.marks.items border q.values.items)
+  pub given_fluxes : (border : List ℕ) → AreFluxes q (fluxes_with p l q border) (x_through p l row (width q.bx) q.data.value.marks.items border q.data.value.values.items) (y_through p l column (width q.bx) (height q.bx) q.data.value.marks.items border q.data.value.values.items)
   given_fluxes border = record {
     x = λ x y i j at hi hj.
-        (λ t. x_through p l row (width q.bx) q.marks.items border q.values.items (sym (offset_is q.bx.lo.x x i at.column) t) (sym (offset_is q.bx.lo.y y j at.row) t))
+        (λ t. x_through p l row (width q.bx) q.data.value.marks.items border q.data.value.values.items (sym (offset_is q.bx.lo.x x i at.column) t) (sym (offset_is q.bx.lo.y y j at.row) t))
         ∙ x_given p l q column row s border x y (x_is_face q.bx x y i j q.near at hi hj);
     y = λ x y i j at hi hj.
-        (λ t. y_through p l column (width q.bx) (height q.bx) q.marks.items border q.values.items (sym (offset_is q.bx.lo.x x i at.column) t) (sym (offset_is q.bx.lo.y y j at.row) t))
+        (λ t. y_through p l column (width q.bx) (height q.bx) q.data.value.marks.items border q.data.value.values.items (sym (offset_is q.bx.lo.x x i at.column) t) (sym (offset_is q.bx.lo.y y j at.row) t))
         ∙ y_given p l q column row s border x y (y_is_face q.bx x y i j q.near at hi hj);
   }
 
@@ -99,20 +99,20 @@ module _ (q : Patch) (e : Fluxes) (xs ys : ℕ → ℕ → ℤ) (are : AreFluxes
       λ t. (west t -ℤ east t) +ℤ (south t -ℤ north t)
 
   -- a fact on the new mass of each cell, by column and row
-  pub each_at : (P : ℤ → Type 0) → ((c : Cell) → IsTrue (holds q.bx c) → P (pos (mass_in q c) +ℤ net e c)) → (i j : ℕ) → i < width q.bx → j < height q.bx → P (pos (value (width q.bx) q.values.items (i + 1) (j + 1)) +ℤ net_inflow xs ys i j)
+  pub each_at : (P : ℤ → Type 0) → ((c : Cell) → IsTrue (holds q.bx c) → P (pos (mass_in q c) +ℤ net e c)) → (i j : ℕ) → i < width q.bx → j < height q.bx → P (pos (value (width q.bx) q.data.value.values.items (i + 1) (j + 1)) +ℤ net_inflow xs ys i j)
   each_at P each i j hi hj =
       let c = cell (q.bx.lo.x +ℤ pos i) (q.bx.lo.y +ℤ pos j) in
       let f = face_at q.bx i j in
       subst P (λ t. pos (mass_at q c i j f t) +ℤ sym (net_at c i j f hi hj) t) (each c (of_cell q.bx i j q.near hi hj))
 
   -- the new values
-  module _ (new : Patch) (same : new.bx ≡ q.bx) (vs : List ℕ) (vs_is : new.values.items ≡ vs) where
+  module _ (new : Patch) (same : new.bx ≡ q.bx) (vs : List ℕ) (vs_is : new.data.value.values.items ≡ vs) where
     new_value : (c : Cell) (i j : ℕ) → IsAt q.bx c i j → value_in new c ≡ value (width q.bx) vs i j
     new_value c i j at =
         let P : Extent → Type 0 = λ b. IsAt b c i j in
         value_here new c i j (subst P (sym same) at) ∙ (λ t. value (width (same t)) (vs_is t) i j)
 
-    pub masses_are : ((i j : ℕ) → i < width q.bx → j < height q.bx → pos (value (width q.bx) vs (i + 1) (j + 1)) ≡ pos (value (width q.bx) q.values.items (i + 1) (j + 1)) +ℤ net_inflow xs ys i j) → (c : Cell) → IsTrue (holds q.bx c) → pos (mass_in new c) ≡ pos (mass_in q c) +ℤ net e c
+    pub masses_are : ((i j : ℕ) → i < width q.bx → j < height q.bx → pos (value (width q.bx) vs (i + 1) (j + 1)) ≡ pos (value (width q.bx) q.data.value.values.items (i + 1) (j + 1)) +ℤ net_inflow xs ys i j) → (c : Cell) → IsTrue (holds q.bx c) → pos (mass_in new c) ≡ pos (mass_in q c) +ℤ net e c
     masses_are made c h =
         let k = cell_of q.bx c q.near h in
         let i = offset q.bx.lo.x c.x in
@@ -144,7 +144,7 @@ grown_at b c e =
     let south : (b.lo.y -ℤ pos 1) ≤ℤ c.y = k.south in
     record { x = whole (c.x -ℤ (b.lo.x -ℤ pos 1)) (omega (arith, ints, west)); y = whole (c.y -ℤ (b.lo.y -ℤ pos 1)) (omega (arith, ints, south)) }
 
-pub frame_stays : (q new : Patch) (vs : List ℕ) → new.bx ≡ q.bx → new.values.items ≡ vs → ((k : ℕ) → IsOtherPlace (width q.bx) (height q.bx) k → slice_index vs k ≡ slice_index q.values.items k) → (c : Cell) → IsTrue (in_frame q.bx c) → value_in new c ≡ value_in q c
+pub frame_stays : (q new : Patch) (vs : List ℕ) → new.bx ≡ q.bx → new.data.value.values.items ≡ vs → ((k : ℕ) → IsOtherPlace (width q.bx) (height q.bx) k → slice_index vs k ≡ slice_index q.data.value.values.items k) → (c : Cell) → IsTrue (in_frame q.bx c) → value_in new c ≡ value_in q c
 frame_stays q new vs same vs_is others c e =
     let parts = and_parts (holds (grown q.bx) c) (not (holds q.bx c)) e in
     let i = at_least_zero (c.x -ℤ (q.bx.lo.x -ℤ pos 1)) in
@@ -169,10 +169,10 @@ moved P {l = l} {l' = l'} {w = w} {w' = w'} {h = h} {h' = h'} {v = v} {v' = v'} 
     let E : List Bool → Type 0 = λ n. P l' w' h' v' n in
     subst E em (subst D ev (subst C eh (subst B ew (subst A el has))))
 
-pub enough : (q : Patch) (border : List ℕ) → length border ≡ length (border_faces q) → count_below (x_marked (width q.bx) q.marks.items) (height q.bx) + count_below (y_marked (width q.bx) (height q.bx) q.marks.items) (width q.bx) ≤ length border
+pub enough : (q : Patch) (border : List ℕ) → length border ≡ length (border_faces q) → count_below (x_marked (width q.bx) q.data.value.marks.items) (height q.bx) + count_below (y_marked (width q.bx) (height q.bx) q.data.value.marks.items) (width q.bx) ≤ length border
 enough q border count = omega (arith, count, border_count q)
 
 -- a patch that keeps its box and the lists of its edges has the fluxes of before
-pub same_along : (q r : Patch) (a : Axis) (c : Cell) → r.bx ≡ q.bx → r.x_low.items ≡ q.x_low.items → r.x_high.items ≡ q.x_high.items → r.y_low.items ≡ q.y_low.items → r.y_high.items ≡ q.y_high.items → flux_along a r c ≡ flux_along a q c
+pub same_along : (q r : Patch) (a : Axis) (c : Cell) → r.bx ≡ q.bx → r.data.value.x_low.items ≡ q.data.value.x_low.items → r.data.value.x_high.items ≡ q.data.value.x_high.items → r.data.value.y_low.items ≡ q.data.value.y_low.items → r.data.value.y_high.items ≡ q.data.value.y_high.items → flux_along a r c ≡ flux_along a q c
 same_along q r X c eb west east south north = λ i. cond (int_eq c.x (eb i).lo.x) (slice_index_or (west i) (row_of (eb i) c) (pos 0)) (slice_index_or (east i) (row_of (eb i) c) (pos 0))
 same_along q r Y c eb west east south north = λ i. cond (int_eq c.y (eb i).lo.y) (slice_index_or (south i) (column_of (eb i) c) (pos 0)) (slice_index_or (north i) (column_of (eb i) c) (pos 0))

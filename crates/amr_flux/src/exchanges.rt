@@ -13,9 +13,9 @@ use crate::y_faces::is_top_marked;
 /// The border faces of a patch: the marks that tell which they are, and the sizes of what flows through them. The x
 /// faces come first, by y, then the y faces, by x.
 #[derive(Clone, Copy)]
-pub(crate) struct Border<'a> {
-    pub(crate) marks: &'a [bool],
-    pub(crate) sizes: &'a [u32],
+pub(crate) struct Border<'marks, 'sizes> {
+    pub(crate) marks: &'marks [bool],
+    pub(crate) sizes: &'sizes [u32],
 }
 
 /// The mass of a cell, where `size` is to flow through the face at its high side in place of `share`, each the way of a Courant
@@ -70,7 +70,7 @@ pub(crate) fn exchange_tops(
     down: bool,
     pace: Pace,
     shape: Shape,
-    border: Border<'_>,
+    border: Border<'_, '_>,
     across: &[u32],
     values: &mut [u32],
 )

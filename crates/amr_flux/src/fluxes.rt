@@ -33,17 +33,18 @@ pub fn sweep(p: &Problem, l: u32, patch: &mut Patch, room: &mut Room)
     let shape = shape_of(p, l, &patch.bx, room);
     room.x_share = shape.x;
     room.y_share = shape.y;
-    column_fluxes(p, shape, &patch.values, 0, &mut patch.x_low);
-    high_fluxes(p, shape, &patch.values, &patch.marks, &mut patch.x_high);
+    let data = &mut *patch.data;
+    column_fluxes(p, shape, &data.values, 0, &mut data.x_low);
+    high_fluxes(p, shape, &data.values, &data.marks, &mut data.x_high);
     set_shares(p, shape, &mut room.shares);
     let shares = &room.shares;
-    y_row(p, shape, &patch.values, 0, shares, &mut patch.y_low);
+    y_row(p, shape, &data.values, 0, shares, &mut data.y_low);
     top_fluxes(
         p,
         shape,
-        &patch.values,
-        &patch.marks,
+        &data.values,
+        &data.marks,
         shares,
-        &mut patch.y_high,
+        &mut data.y_high,
     );
 }

@@ -40,11 +40,12 @@ pub fn update(p: &Problem, l: u32, patch: &mut Patch, border: &[u32], room: &mut
     let shape = shape_of(p, l, &patch.bx, room);
     room.x_share = shape.x;
     room.y_share = shape.y;
+    let data = &mut *patch.data;
     let border = Border {
-        marks: &patch.marks,
+        marks: &data.marks,
         sizes: border,
     };
-    update_cells(p, shape, &mut patch.values, border, room);
+    update_cells(p, shape, &mut data.values, border, room);
 }
 
 /// Makes the new masses of a patch of level `l` by its own masses and its frame alone: each cell gets what flows in through its
@@ -70,5 +71,6 @@ pub fn update_alone(p: &Problem, l: u32, patch: &mut Patch, room: &mut Room)
         marks: &[],
         sizes: &[],
     };
-    update_cells(p, shape, &mut patch.values, none, room);
+    let data = &mut *patch.data;
+    update_cells(p, shape, &mut data.values, none, room);
 }

@@ -17,7 +17,13 @@ use amr_def::Problem;
 /// Gives each cell what comes in, where one Courant number holds along each axis.
 #[inline(always)]
 #[tactic(auto, unfolding(crate::specs::Rooms::widest))]
-fn update_plain(p: &Problem, shape: Shape, values: &mut [u32], border: Border<'_>, room: &mut Room)
+fn update_plain(
+    p: &Problem,
+    shape: Shape,
+    values: &mut [u32],
+    border: Border<'_, '_>,
+    room: &mut Room,
+)
     requires level { shape.level ≤ 4 }
     requires one_x { p.now.shear_x ≡ [] }
     requires one_y { p.now.shear_y ≡ [] }
@@ -51,7 +57,7 @@ pub(crate) fn update_cells(
     p: &Problem,
     shape: Shape,
     values: &mut [u32],
-    border: Border<'_>,
+    border: Border<'_, '_>,
     room: &mut Room,
 )
     requires level { shape.level ≤ 4 }

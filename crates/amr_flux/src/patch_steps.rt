@@ -29,7 +29,7 @@ fn step_rows(
     down: bool,
     pace: Pace,
     shape: Shape,
-    border: Border<'_>,
+    border: Border<'_, '_>,
     across: &mut [u32],
     values: &mut [u32],
 ) -> usize
@@ -88,7 +88,7 @@ fn step_in_order(
     down: bool,
     pace: Pace,
     shape: Shape,
-    border: Border<'_>,
+    border: Border<'_, '_>,
     across: &mut [u32],
     values: &mut [u32],
 )
@@ -120,7 +120,7 @@ fn step_in_order(
 pub(crate) fn step_cells(
     pace: Pace,
     shape: Shape,
-    border: Border<'_>,
+    border: Border<'_, '_>,
     across: &mut [u32],
     values: &mut [u32],
 )

@@ -21,7 +21,7 @@ pub(crate) fn update_rows(
     p: &Problem,
     shape: Shape,
     values: &mut [u32],
-    border: Border<'_>,
+    border: Border<'_, '_>,
     room: &mut Room,
 )
     requires level { shape.level ≤ 4 }

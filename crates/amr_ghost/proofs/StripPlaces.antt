@@ -27,7 +27,7 @@ place_below b c near h =
     let column : at_least_zero (c.x +ℤ pos 1 -ℤ b.lo.x) < width b + 2 = below (c.x +ℤ pos 1 -ℤ b.lo.x) (width b + 2) (omega (arith, ints, i.west)) (omega (arith, ints, i.east, s.wide)) in
     place_within (at_least_zero (c.y +ℤ pos 1 -ℤ b.lo.y)) (at_least_zero (c.x +ℤ pos 1 -ℤ b.lo.x)) (width b + 2) (height b + 2) row column
 
-pub place_in_list : (q : Patch) (c : Cell) → IsTrue (holds (grown (box q)) c) → place (box q) c < length q.values.items
+pub place_in_list : (q : Patch) (c : Cell) → IsTrue (holds (grown (box q)) c) → place (box q) c < length q.data.value.values.items
 place_in_list q c h = let p : place (box q) c < (height (box q) + 2) * (width (box q) + 2) = place_below (box q) c q.near h in rw q.value_count p
 
 -- the cells of a strip along x stand one by one, those of one along y a row of the grown box apart
@@ -49,9 +49,9 @@ along_y b c first stride k h e f =
     rw (e, f, later) (sym (further_row (at_least_zero (c.y +ℤ pos 1 -ℤ b.lo.y)) k (width b + 2) (at_least_zero (c.x +ℤ pos 1 -ℤ b.lo.x))))
 
 -- what stands at the place of a cell is its value
-pub entry_is : (q : Patch) (b : Extent) (c : Cell) (at v : ℕ) → box q ≡ b → at ≡ place b c → v ≡ slice_index q.values.items at → v ≡ value_in q c
+pub entry_is : (q : Patch) (b : Extent) (c : Cell) (at v : ℕ) → box q ≡ b → at ≡ place b c → v ≡ slice_index q.data.value.values.items at → v ≡ value_in q c
 unfolding value_in
-entry_is q b c at v e f g = g ∙ ap (λ (n : ℕ). slice_index q.values.items n) (f ∙ ap (λ (t : Extent). place t c) (sym e))
+entry_is q b c at v e f g = g ∙ ap (λ (n : ℕ). slice_index q.data.value.values.items n) (f ∙ ap (λ (t : Extent). place t c) (sym e))
 
 -- ---- the places of a strip in a patch of a list
 
@@ -68,5 +68,5 @@ still_place ps qs i d e b c at kept there same is = is ∙ ap (λ (t : Extent). 
 pub entry_small : (q : Patch) (c : Cell) (at : ℕ) → at ≡ place (box q) c → IsTrue (holds (grown (box q)) c) → at < 2 ^ 63
 entry_small q c at e h = subst (λ (n : ℕ). n < 2 ^ 63) (sym e) (place_small q c h)
 
-pub entry_in_list : (q : Patch) (c : Cell) (at : ℕ) → at ≡ place (box q) c → IsTrue (holds (grown (box q)) c) → at < length q.values.items
-entry_in_list q c at e h = subst (λ (n : ℕ). n < length q.values.items) (sym e) (place_in_list q c h)
+pub entry_in_list : (q : Patch) (c : Cell) (at : ℕ) → at ≡ place (box q) c → IsTrue (holds (grown (box q)) c) → at < length q.data.value.values.items
+entry_in_list q c at e h = subst (λ (n : ℕ). n < length q.data.value.values.items) (sym e) (place_in_list q c h)

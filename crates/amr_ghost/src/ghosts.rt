@@ -19,20 +19,22 @@ use amr_patch::Patch;
 
 /// The mass at a place.
 fn entry(patch: &Patch, at: usize) -> u32
-    requires { at < length patch.now.values.items }
-    ensures { result ≡ slice_index patch.now.values.items at }
+    requires { at < length patch.now.data.value.values.items }
+    ensures { result ≡ slice_index patch.now.data.value.values.items at }
 {
-    patch.values[at]
+    let data = &*patch.data;
+    data.values[at]
 }
 
 /// Gives the ghost cell whose entries stand at a place a value and a mark.
 #[inline(always)]
 fn set_entry(patch: &mut Patch, at: usize, value: u32, of_level: bool)
-    requires { at < length patch.old.values.items }
+    requires { at < length patch.old.data.value.values.items }
     ensures { (c : Cell) → IsTrue (in_frame (box patch.old) c) → at ≡ place (box patch.old) c → IsGhostSet patch.old patch.new c value of_level }
 {
-    patch.values[at] = value;
-    patch.marks[at] = of_level;
+    let data = &mut *patch.data;
+    data.values[at] = value;
+    data.marks[at] = of_level;
 }
 
 /// Gives the ghost cells of a strip beside patch `i` one value. None is marked as a cell of the level.

@@ -4,7 +4,6 @@ use Rattle.std.specs.Prelude.{slice_index_or, slice_set}
 use Rattle.std.specs.Ordering.{int_eq}
 use Rattle.std.proofs.lemmas.Bool.{and_parts}
 use Rattle.std.proofs.lemmas.Int.{ints}
-use Rattle.std.proofs.lemmas.Bool.Decides.{Decides-int_eq}
 use Rattle.std.proofs.lemmas.List.{get_or-set_other, get_or-set_same}
 use Rattle.amr_box.specs.declared.Cell.{Cell}
 use Rattle.amr_box.specs.declared.Face.{Face}
@@ -53,10 +52,10 @@ y_edge b c e =
 -- ---- fluxes read
 
 abbrev pub x_entry : Bool → Patch → Cell → ℤ
-x_entry low p c = cond low (slice_index_or p.x_low.items (row_of p.bx c) (pos 0)) (slice_index_or p.x_high.items (row_of p.bx c) (pos 0))
+x_entry low p c = cond low (slice_index_or p.data.value.x_low.items (row_of p.bx c) (pos 0)) (slice_index_or p.data.value.x_high.items (row_of p.bx c) (pos 0))
 
 abbrev pub y_entry : Bool → Patch → Cell → ℤ
-y_entry low p c = cond low (slice_index_or p.y_low.items (column_of p.bx c) (pos 0)) (slice_index_or p.y_high.items (column_of p.bx c) (pos 0))
+y_entry low p c = cond low (slice_index_or p.data.value.y_low.items (column_of p.bx c) (pos 0)) (slice_index_or p.data.value.y_high.items (column_of p.bx c) (pos 0))
 
 -- the flux through an x face on the edge at the low side (low is true) or at the high side of the box
 pub flux_x : (p : Patch) (f : Face) (low : Bool) → f.axis ≡ X → int_eq f.x p.bx.lo.x ≡ low → flux_in p f ≡ x_entry low p (cell f.x f.y)
@@ -68,20 +67,20 @@ unfolding flux_in
 flux_y p f low a e = ap (λ (t : Axis). flux_along t p (cell f.x f.y)) a ∙ ap (λ (t : Bool). y_entry t p (cell f.x f.y)) e
 
 -- the same by where the face lies
-pub flux_x_low : (p : Patch) (f : Face) → f.axis ≡ X → f.x ≡ p.bx.lo.x → flux_in p f ≡ slice_index_or p.x_low.items (row_of p.bx (cell f.x f.y)) (pos 0)
+pub flux_x_low : (p : Patch) (f : Face) → f.axis ≡ X → f.x ≡ p.bx.lo.x → flux_in p f ≡ slice_index_or p.data.value.x_low.items (row_of p.bx (cell f.x f.y)) (pos 0)
 flux_x_low p f a e = flux_x p f true a (int_eq-itself f.x p.bx.lo.x e)
 
-pub flux_x_high : (p : Patch) (f : Face) → f.axis ≡ X → f.x ≡ p.bx.hi.x +ℤ pos 1 → flux_in p f ≡ slice_index_or p.x_high.items (row_of p.bx (cell f.x f.y)) (pos 0)
+pub flux_x_high : (p : Patch) (f : Face) → f.axis ≡ X → f.x ≡ p.bx.hi.x +ℤ pos 1 → flux_in p f ≡ slice_index_or p.data.value.x_high.items (row_of p.bx (cell f.x f.y)) (pos 0)
 flux_x_high p f a e = flux_x p f false a (int_eq-apart f.x p.bx.lo.x (λ g. let w = p.near.wide in absurd (omega (arith, ints, w, e, g))))
 
-pub flux_y_low : (p : Patch) (f : Face) → f.axis ≡ Y → f.y ≡ p.bx.lo.y → flux_in p f ≡ slice_index_or p.y_low.items (column_of p.bx (cell f.x f.y)) (pos 0)
+pub flux_y_low : (p : Patch) (f : Face) → f.axis ≡ Y → f.y ≡ p.bx.lo.y → flux_in p f ≡ slice_index_or p.data.value.y_low.items (column_of p.bx (cell f.x f.y)) (pos 0)
 flux_y_low p f a e = flux_y p f true a (int_eq-itself f.y p.bx.lo.y e)
 
-pub flux_y_high : (p : Patch) (f : Face) → f.axis ≡ Y → f.y ≡ p.bx.hi.y +ℤ pos 1 → flux_in p f ≡ slice_index_or p.y_high.items (column_of p.bx (cell f.x f.y)) (pos 0)
+pub flux_y_high : (p : Patch) (f : Face) → f.axis ≡ Y → f.y ≡ p.bx.hi.y +ℤ pos 1 → flux_in p f ≡ slice_index_or p.data.value.y_high.items (column_of p.bx (cell f.x f.y)) (pos 0)
 flux_y_high p f a e = flux_y p f false a (int_eq-apart f.y p.bx.lo.y (λ g. let w = p.near.high in absurd (omega (arith, ints, w, e, g))))
 
 -- where each edge has fluxes of 0
-pub nothing_flows : (p : Patch) → ((k : ℕ) → slice_index_or p.x_low.items k (pos 0) ≡ pos 0) → ((k : ℕ) → slice_index_or p.x_high.items k (pos 0) ≡ pos 0) → ((k : ℕ) → slice_index_or p.y_low.items k (pos 0) ≡ pos 0) → ((k : ℕ) → slice_index_or p.y_high.items k (pos 0) ≡ pos 0) → HasNoFluxes p
+pub nothing_flows : (p : Patch) → ((k : ℕ) → slice_index_or p.data.value.x_low.items k (pos 0) ≡ pos 0) → ((k : ℕ) → slice_index_or p.data.value.x_high.items k (pos 0) ≡ pos 0) → ((k : ℕ) → slice_index_or p.data.value.y_low.items k (pos 0) ≡ pos 0) → ((k : ℕ) → slice_index_or p.data.value.y_high.items k (pos 0) ≡ pos 0) → HasNoFluxes p
 unfolding flux_in
 nothing_flows p xl xh yl yh f = cases f.axis
   where
@@ -94,7 +93,7 @@ nothing_flows p xl xh yl yh f = cases f.axis
     cases Y = one (int_eq f.y p.bx.lo.y) _ _ (yl (column_of p.bx (cell f.x f.y))) (yh (column_of p.bx (cell f.x f.y)))
 
 -- a patch that keeps the lists of its edges keeps its fluxes
-pub kept_edges : (p q : Patch) → q.bx ≡ p.bx → q.x_low.items ≡ p.x_low.items → q.x_high.items ≡ p.x_high.items → q.y_low.items ≡ p.y_low.items → q.y_high.items ≡ p.y_high.items → SameFluxes p q
+pub kept_edges : (p q : Patch) → q.bx ≡ p.bx → q.data.value.x_low.items ≡ p.data.value.x_low.items → q.data.value.x_high.items ≡ p.data.value.x_high.items → q.data.value.y_low.items ≡ p.data.value.y_low.items → q.data.value.y_high.items ≡ p.data.value.y_high.items → SameFluxes p q
 unfolding flux_in
 kept_edges p q b xl xh yl yh f = cases f.axis
   where
@@ -125,24 +124,24 @@ written false false xs ys k v e lt l = get_or-set_same ys k v (pos 0) l
 
 -- the face has what was written
 pub set_x : (p q : Patch) (f : Face) (v : ℤ) (s : Bool) → f.axis ≡ X → int_eq f.x p.bx.lo.x ≡ s → q.bx ≡ p.bx
-    → q.x_low.items ≡ cond s (slice_set p.x_low.items (row_of p.bx (cell f.x f.y)) v) p.x_low.items
-    → q.x_high.items ≡ cond s p.x_high.items (slice_set p.x_high.items (row_of p.bx (cell f.x f.y)) v)
+    → q.data.value.x_low.items ≡ cond s (slice_set p.data.value.x_low.items (row_of p.bx (cell f.x f.y)) v) p.data.value.x_low.items
+    → q.data.value.x_high.items ≡ cond s p.data.value.x_high.items (slice_set p.data.value.x_high.items (row_of p.bx (cell f.x f.y)) v)
     → row_of p.bx (cell f.x f.y) < height p.bx → flux_in q f ≡ v
 unfolding flux_in
 set_x p q f v s a at eb low high lt =
     ap (λ (t : Axis). flux_along t q (cell f.x f.y)) a
     ∙ (λ i. cond (int_eq f.x (eb i).lo.x) (slice_index_or (low i) (row_of (eb i) (cell f.x f.y)) (pos 0)) (slice_index_or (high i) (row_of (eb i) (cell f.x f.y)) (pos 0)))
-    ∙ written s (int_eq f.x p.bx.lo.x) p.x_low.items p.x_high.items (row_of p.bx (cell f.x f.y)) v at (omega (arith, lt, p.x_low_count)) (omega (arith, lt, p.x_high_count))
+    ∙ written s (int_eq f.x p.bx.lo.x) p.data.value.x_low.items p.data.value.x_high.items (row_of p.bx (cell f.x f.y)) v at (omega (arith, lt, p.x_low_count)) (omega (arith, lt, p.x_high_count))
 
 pub set_y : (p q : Patch) (f : Face) (v : ℤ) (s : Bool) → f.axis ≡ Y → int_eq f.y p.bx.lo.y ≡ s → q.bx ≡ p.bx
-    → q.y_low.items ≡ cond s (slice_set p.y_low.items (column_of p.bx (cell f.x f.y)) v) p.y_low.items
-    → q.y_high.items ≡ cond s p.y_high.items (slice_set p.y_high.items (column_of p.bx (cell f.x f.y)) v)
+    → q.data.value.y_low.items ≡ cond s (slice_set p.data.value.y_low.items (column_of p.bx (cell f.x f.y)) v) p.data.value.y_low.items
+    → q.data.value.y_high.items ≡ cond s p.data.value.y_high.items (slice_set p.data.value.y_high.items (column_of p.bx (cell f.x f.y)) v)
     → column_of p.bx (cell f.x f.y) < width p.bx → flux_in q f ≡ v
 unfolding flux_in
 set_y p q f v s a at eb low high lt =
     ap (λ (t : Axis). flux_along t q (cell f.x f.y)) a
     ∙ (λ i. cond (int_eq f.y (eb i).lo.y) (slice_index_or (low i) (column_of (eb i) (cell f.x f.y)) (pos 0)) (slice_index_or (high i) (column_of (eb i) (cell f.x f.y)) (pos 0)))
-    ∙ written s (int_eq f.y p.bx.lo.y) p.y_low.items p.y_high.items (column_of p.bx (cell f.x f.y)) v at (omega (arith, lt, p.y_low_count)) (omega (arith, lt, p.y_high_count))
+    ∙ written s (int_eq f.y p.bx.lo.y) p.data.value.y_low.items p.data.value.y_high.items (column_of p.bx (cell f.x f.y)) v at (omega (arith, lt, p.y_low_count)) (omega (arith, lt, p.y_high_count))
 
 -- an entry of two lists of which one, by s, was written at a place
 picked : (s u : Bool) (xs ys : List ℤ) (k r : ℕ) (v : ℤ) → (u ≡ s → k ≡ r → ⊥)
@@ -154,9 +153,9 @@ picked false false xs ys k r v n = get_or-set_other ys k r v (pos 0) (λ f. n re
 
 -- the flux of an x face was set, on the edge at the low side where s is true
 pub other_x : (p q : Patch) (f g : Face) (v : ℤ) (s : Bool) → f.axis ≡ X → int_eq f.x p.bx.lo.x ≡ s → q.bx ≡ p.bx
-    → q.x_low.items ≡ cond s (slice_set p.x_low.items (row_of p.bx (cell f.x f.y)) v) p.x_low.items
-    → q.x_high.items ≡ cond s p.x_high.items (slice_set p.x_high.items (row_of p.bx (cell f.x f.y)) v)
-    → q.y_low.items ≡ p.y_low.items → q.y_high.items ≡ p.y_high.items
+    → q.data.value.x_low.items ≡ cond s (slice_set p.data.value.x_low.items (row_of p.bx (cell f.x f.y)) v) p.data.value.x_low.items
+    → q.data.value.x_high.items ≡ cond s p.data.value.x_high.items (slice_set p.data.value.x_high.items (row_of p.bx (cell f.x f.y)) v)
+    → q.data.value.y_low.items ≡ p.data.value.y_low.items → q.data.value.y_high.items ≡ p.data.value.y_high.items
     → is_edge_face p.bx f ≡ true → is_edge_face p.bx g ≡ true → g ≢ f → flux_in q g ≡ flux_in p g
 unfolding flux_in
 other_x p q f g v s a at eb low high other_low other_high h k n = cases g.axis refl
@@ -173,13 +172,13 @@ other_x p q f g v s a at eb low high other_low other_high h k n = cases g.axis r
     cases Y e = λ i. cond (int_eq g.y (eb i).lo.y) (slice_index_or (other_low i) (column_of (eb i) (cell g.x g.y)) (pos 0)) (slice_index_or (other_high i) (column_of (eb i) (cell g.x g.y)) (pos 0))
     cases X e =
         (λ i. cond (int_eq g.x (eb i).lo.x) (slice_index_or (low i) (row_of (eb i) (cell g.x g.y)) (pos 0)) (slice_index_or (high i) (row_of (eb i) (cell g.x g.y)) (pos 0)))
-        ∙ picked s (int_eq g.x p.bx.lo.x) p.x_low.items p.x_high.items (row_of p.bx (cell f.x f.y)) (row_of p.bx (cell g.x g.y)) v (apart e)
+        ∙ picked s (int_eq g.x p.bx.lo.x) p.data.value.x_low.items p.data.value.x_high.items (row_of p.bx (cell f.x f.y)) (row_of p.bx (cell g.x g.y)) v (apart e)
 
 -- the flux of a y face was set, on the edge at the low side where s is true
 pub other_y : (p q : Patch) (f g : Face) (v : ℤ) (s : Bool) → f.axis ≡ Y → int_eq f.y p.bx.lo.y ≡ s → q.bx ≡ p.bx
-    → q.y_low.items ≡ cond s (slice_set p.y_low.items (column_of p.bx (cell f.x f.y)) v) p.y_low.items
-    → q.y_high.items ≡ cond s p.y_high.items (slice_set p.y_high.items (column_of p.bx (cell f.x f.y)) v)
-    → q.x_low.items ≡ p.x_low.items → q.x_high.items ≡ p.x_high.items
+    → q.data.value.y_low.items ≡ cond s (slice_set p.data.value.y_low.items (column_of p.bx (cell f.x f.y)) v) p.data.value.y_low.items
+    → q.data.value.y_high.items ≡ cond s p.data.value.y_high.items (slice_set p.data.value.y_high.items (column_of p.bx (cell f.x f.y)) v)
+    → q.data.value.x_low.items ≡ p.data.value.x_low.items → q.data.value.x_high.items ≡ p.data.value.x_high.items
     → is_edge_face p.bx f ≡ true → is_edge_face p.bx g ≡ true → g ≢ f → flux_in q g ≡ flux_in p g
 unfolding flux_in
 other_y p q f g v s a at eb low high other_low other_high h k n = cases g.axis refl
@@ -196,4 +195,4 @@ other_y p q f g v s a at eb low high other_low other_high h k n = cases g.axis r
     cases X e = λ i. cond (int_eq g.x (eb i).lo.x) (slice_index_or (other_low i) (row_of (eb i) (cell g.x g.y)) (pos 0)) (slice_index_or (other_high i) (row_of (eb i) (cell g.x g.y)) (pos 0))
     cases Y e =
         (λ i. cond (int_eq g.y (eb i).lo.y) (slice_index_or (low i) (column_of (eb i) (cell g.x g.y)) (pos 0)) (slice_index_or (high i) (column_of (eb i) (cell g.x g.y)) (pos 0)))
-        ∙ picked s (int_eq g.y p.bx.lo.y) p.y_low.items p.y_high.items (column_of p.bx (cell f.x f.y)) (column_of p.bx (cell g.x g.y)) v (apart e)
+        ∙ picked s (int_eq g.y p.bx.lo.y) p.data.value.y_low.items p.data.value.y_high.items (column_of p.bx (cell f.x f.y)) (column_of p.bx (cell g.x g.y)) v (apart e)

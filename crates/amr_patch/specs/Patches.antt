@@ -18,7 +18,7 @@ box p = p.bx
 
 -- the value of a cell of the box or of the frame
 unfoldable pub value_in : Patch → Cell → ℕ
-value_in p c = slice_index p.values.items (place p.bx c)
+value_in p c = slice_index p.data.value.values.items (place p.bx c)
 
 -- of a cell of the box
 abbrev pub mass_in : Patch → Cell → ℕ
@@ -30,11 +30,11 @@ ghost_in p c = value_in p c
 
 -- whether a cell of the frame is a cell of the level
 unfoldable pub mark_in : Patch → Cell → Bool
-mark_in p c = slice_index_or p.marks.items (place p.bx c) false
+mark_in p c = slice_index_or p.data.value.marks.items (place p.bx c) false
 
 abbrev pub flux_along : Axis → Patch → Cell → ℤ
-flux_along X p c = cond (int_eq c.x p.bx.lo.x) (slice_index_or p.x_low.items (row_of p.bx c) (pos 0)) (slice_index_or p.x_high.items (row_of p.bx c) (pos 0))
-flux_along Y p c = cond (int_eq c.y p.bx.lo.y) (slice_index_or p.y_low.items (column_of p.bx c) (pos 0)) (slice_index_or p.y_high.items (column_of p.bx c) (pos 0))
+flux_along X p c = cond (int_eq c.x p.bx.lo.x) (slice_index_or p.data.value.x_low.items (row_of p.bx c) (pos 0)) (slice_index_or p.data.value.x_high.items (row_of p.bx c) (pos 0))
+flux_along Y p c = cond (int_eq c.y p.bx.lo.y) (slice_index_or p.data.value.y_low.items (column_of p.bx c) (pos 0)) (slice_index_or p.data.value.y_high.items (column_of p.bx c) (pos 0))
 
 -- the flux through a face on an edge of the box
 unfoldable pub flux_in : Patch → Face → ℤ

@@ -1,7 +1,7 @@
 //! Patches of cells with their ghost cells and fluxes (BoxLib's FABs), the levels that they make up, and the mesh of a state.
 //!
 //! - [`Patch`]: the masses of a box of cells, a frame of ghost cells round it, and the fluxes through its faces, each a flat
-//!   list row by row.
+//!   list row by row, all in one box ([`PatchData`]).
 //! - [`order_of`], [`find`]: which of several patches has a cell, with no look at most of them.
 //! - [`Level`]: boxes, and the patches that hold the masses of their cells.
 //! - [`Mesh`]: the step, the rows of the ledger and the levels.
@@ -21,4 +21,4 @@ pub use box_rows::{cell_in, masses_from};
 pub use levels::Level;
 pub use lookup::{Order, find, find_near, mass_at, order_of};
 pub use meshes::Mesh;
-pub use patches::Patch;
+pub use patches::{Patch, PatchData};

@@ -8,6 +8,23 @@ use crate::places::{columns_from, edge_column, edge_row, in_frame, on_edge, plac
 use amr_box::{Axis, Bx, Cell, Face};
 use amr_causes::NoMemory;
 use std::alloc::Global;
+use std::boxed::Box;
+
+/// The values, marks and fluxes of a patch.
+///
+/// `values` and `marks` go row by row from the low row, within a row from the low column. A row of them is a row of the grown
+/// box, two cells wider than the box; there are two rows more than the box has. `x_low` has the flux through the x face at the
+/// low side of each row, from the low row on, and `x_high` that at its high side. `y_low` has the flux through the y face at
+/// the low side of each column, from the low column on, and `y_high` that at its high side.
+#[derive(Drop)]
+pub struct PatchData {
+    pub values: Vec<u32>,
+    pub marks: Vec<bool>,
+    pub x_low: Vec<i32>,
+    pub x_high: Vec<i32>,
+    pub y_low: Vec<i32>,
+    pub y_high: Vec<i32>,
+}
 
 /// A box of cells with what a step needs of them (BoxLib's FAB with one ghost cell). Each cell of the box has a value,
 /// its mass, and so has each of the frame one cell wide round it. Each of the frame is marked where it is a cell of the
@@ -15,26 +32,19 @@ use std::alloc::Global;
 /// registers and the ledger read these fluxes. Coordinates lie between -2^24 and 2^24, masses are below 2^32, and
 /// fluxes of a size below 2^31.
 ///
-/// `values` and `marks` go row by row from the low row, within a row from the low column. A row of them is a row of the grown
-/// box, two cells wider than the box; there are two rows more than the box has. `x_low` has the flux through the x face at the
-/// low side of each row, from the low row on, and `x_high` that at its high side. `y_low` has the flux through the y face at
-/// the low side of each column, from the low column on, and `y_high` that at its high side.
+/// The box stands in the patch itself, since look-ups read it. The data stay in one place while the patch is moved, so
+/// that a move is three words.
 #[derive(Drop)]
 pub struct Patch {
     pub bx: Bx,
-    pub values: Vec<u32>,
-    pub marks: Vec<bool>,
-    pub x_low: Vec<i32>,
-    pub x_high: Vec<i32>,
-    pub y_low: Vec<i32>,
-    pub y_high: Vec<i32>,
+    pub data: Box<PatchData>,
     pub ghost near: { IsNear bx },
-    pub ghost value_count: { length values.items ≡ (height bx + 2) * (width bx + 2) },
-    pub ghost mark_count: { length marks.items ≡ (height bx + 2) * (width bx + 2) },
-    pub ghost x_low_count: { length x_low.items ≡ height bx },
-    pub ghost x_high_count: { length x_high.items ≡ height bx },
-    pub ghost y_low_count: { length y_low.items ≡ width bx },
-    pub ghost y_high_count: { length y_high.items ≡ width bx },
+    pub ghost value_count: { length «data».value.values.items ≡ (height bx + 2) * (width bx + 2) },
+    pub ghost mark_count: { length «data».value.marks.items ≡ (height bx + 2) * (width bx + 2) },
+    pub ghost x_low_count: { length «data».value.x_low.items ≡ height bx },
+    pub ghost x_high_count: { length «data».value.x_high.items ≡ height bx },
+    pub ghost y_low_count: { length «data».value.y_low.items ≡ width bx },
+    pub ghost y_high_count: { length «data».value.y_high.items ≡ width bx },
 }
 
 #[tactic(auto, unfolding(crate::specs::Patches::value_in, crate::specs::Patches::mark_in, crate::specs::Patches::flux_in))]
@@ -63,14 +73,17 @@ impl Patch {
         let x_high = no_fluxes(alloc, height)?;
         let y_low = no_fluxes(alloc, width)?;
         let y_high = no_fluxes(alloc, width)?;
-        Ok(Patch {
-            bx: b,
+        let data = PatchData {
             values,
             marks,
             x_low,
             x_high,
             y_low,
             y_high,
+        };
+        Ok(Patch {
+            bx: b,
+            data: Box::new(alloc, data)?,
         })
     }
 
@@ -81,23 +94,27 @@ impl Patch {
         ensures marks { IfOk result (λ p. SameMarks self.now p) }
         ensures fluxes { IfOk result HasNoFluxes }
     {
-        let alloc = *self.values.allocator();
+        let from = &*self.data;
+        let alloc = *from.values.allocator();
         let width = self.bx.width() as usize;
         let height = self.bx.height() as usize;
-        let values = Vec::from_slice(alloc, &self.values)?;
-        let marks = Vec::from_slice(alloc, &self.marks)?;
+        let values = Vec::from_slice(alloc, &from.values)?;
+        let marks = Vec::from_slice(alloc, &from.marks)?;
         let x_low = no_fluxes(alloc, height)?;
         let x_high = no_fluxes(alloc, height)?;
         let y_low = no_fluxes(alloc, width)?;
         let y_high = no_fluxes(alloc, width)?;
-        Ok(Patch {
-            bx: self.bx,
+        let data = PatchData {
             values,
             marks,
             x_low,
             x_high,
             y_low,
             y_high,
+        };
+        Ok(Patch {
+            bx: self.bx,
+            data: Box::new(alloc, data)?,
         })
     }
 
@@ -115,7 +132,8 @@ impl Patch {
         ensures value { result ≡ mass_in self.now c }
         ensures small { result < 2 ^ 32 }
     {
-        u64::from(self.values[place(&self.bx, c)])
+        let data = &*self.data;
+        u64::from(data.values[place(&self.bx, c)])
     }
 
     /// Whether a cell is of the frame.
@@ -140,7 +158,8 @@ impl Patch {
         ensures mark { result.1 ≡ mark_in self.now c }
     {
         let at = place(&self.bx, c);
-        (u64::from(self.values[at]), self.marks[at])
+        let data = &*self.data;
+        (u64::from(data.values[at]), data.marks[at])
     }
 
     /// The flux through a face on an edge of the box.
@@ -148,23 +167,24 @@ impl Patch {
         requires { IsTrue (is_edge_face (box self.now) f) }
         ensures { result ≡ flux_in self.now f }
     {
+        let data = &*self.data;
         let lo = self.bx.lo();
         let c = Cell { x: f.x, y: f.y };
         match f.axis {
             Axis::X => {
                 let row = edge_row(&self.bx, c);
                 if f.x == lo.x {
-                    i64::from(self.x_low[row])
+                    i64::from(data.x_low[row])
                 } else {
-                    i64::from(self.x_high[row])
+                    i64::from(data.x_high[row])
                 }
             }
             Axis::Y => {
                 let column = edge_column(&self.bx, c);
                 if f.y == lo.y {
-                    i64::from(self.y_low[column])
+                    i64::from(data.y_low[column])
                 } else {
-                    i64::from(self.y_high[column])
+                    i64::from(data.y_high[column])
                 }
             }
         }
@@ -181,7 +201,8 @@ impl Patch {
         ensures of_box { box self.new ≡ box self.old }
     {
         let at = place(&self.bx, c);
-        self.values[at] = m as u32;
+        let data = &mut *self.data;
+        data.values[at] = m as u32;
     }
 
     /// Gives a cell of the frame a value, and says whether it is a cell of the level.
@@ -196,8 +217,9 @@ impl Patch {
         ensures of_box { box self.new ≡ box self.old }
     {
         let at = place(&self.bx, c);
-        self.values[at] = v as u32;
-        self.marks[at] = of_level;
+        let data = &mut *self.data;
+        data.values[at] = v as u32;
+        data.marks[at] = of_level;
     }
 
     /// Gives the cells of a row, from one of them on, these masses.
@@ -211,7 +233,8 @@ impl Patch {
         ensures of_box { box self.new ≡ box self.old }
     {
         let from = row_place(&self.bx, c, masses.len() as u32);
-        set_span(&mut self.values, from, masses);
+        let data = &mut *self.data;
+        set_span(&mut data.values, from, masses);
     }
 
     /// Gives a face on an edge of the box a flux.
@@ -224,23 +247,24 @@ impl Patch {
         ensures marks { SameMarks self.old self.new }
         ensures of_box { box self.new ≡ box self.old }
     {
+        let data = &mut *self.data;
         let lo = self.bx.lo();
         let c = Cell { x: f.x, y: f.y };
         match f.axis {
             Axis::X => {
                 let row = edge_row(&self.bx, c);
                 if f.x == lo.x {
-                    self.x_low[row] = v as i32;
+                    data.x_low[row] = v as i32;
                 } else {
-                    self.x_high[row] = v as i32;
+                    data.x_high[row] = v as i32;
                 }
             }
             Axis::Y => {
                 let column = edge_column(&self.bx, c);
                 if f.y == lo.y {
-                    self.y_low[column] = v as i32;
+                    data.y_low[column] = v as i32;
                 } else {
-                    self.y_high[column] = v as i32;
+                    data.y_high[column] = v as i32;
                 }
             }
         }
@@ -255,7 +279,8 @@ impl Patch {
         let x = self.bx.lo().x;
         let count = self.bx.width();
         let from = row_place(&self.bx, Cell { x, y }, count);
-        &self.values[from..from + count as usize]
+        let data = &*self.data;
+        &data.values[from..from + count as usize]
     }
 
     /// The values of a row of the grown box, from the low column.
@@ -267,7 +292,8 @@ impl Patch {
         let x = self.bx.lo().x - 1;
         let count = self.bx.width() + 2;
         let from = row_place(&self.bx, Cell { x, y }, count);
-        &self.values[from..from + count as usize]
+        let data = &*self.data;
+        &data.values[from..from + count as usize]
     }
 
     /// The masses of a row from a cell on, to the high end of the box.
@@ -278,6 +304,7 @@ impl Patch {
     {
         let count = columns_from(&self.bx, c);
         let from = row_place(&self.bx, c, count);
-        &self.values[from..from + count as usize]
+        let data = &*self.data;
+        &data.values[from..from + count as usize]
     }
 }

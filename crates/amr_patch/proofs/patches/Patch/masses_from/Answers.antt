@@ -1,6 +1,7 @@
 use Rattle.std.proofs.Common.{◌∙◌, ℕ, ◌+◌, ◌-◌, ◌<◌, List, take, drop, length-take, ap, arith}
 use Rattle.std.specs.Prelude.{slice_index}
 use Rattle.std.proofs.lemmas.Int.{ints}
+use Rattle.amr_patch.specs.declared.patches.PatchData.{PatchData}
 use Rattle.amr_patch.specs.Patches.{value_in}
 use Rattle.amr_patch.proofs.Entries.{in_grown, row_entry}
 use Rattle.amr_patch.proofs.Rows.{inside}
@@ -19,4 +20,5 @@ returns-clause-masses c =
     let i = inside self.bx c.args.c c.requires in
     let lt : k < m = omega (arith, simp length-take at h) in
     ap (λ (vs : List ℕ). slice_index (take m (drop from vs)) k) c.deref.ensures.value
-    ∙ row_entry self.values.items self.bx c.args.c.x c.args.c.y from m k lt (omega (arith, ints, i.west)) c.row_place-from.ensures.value
+    ∙ ap (λ (t : PatchData). slice_index (take m (drop from t.values.items)) k) c.deref-data.ensures
+    ∙ row_entry self.data.value.values.items self.bx c.args.c.x c.args.c.y from m k lt (omega (arith, ints, i.west)) c.row_place-from.ensures.value

@@ -2,6 +2,7 @@ use Rattle.std.proofs.Common.{◌≡◌, ◌∙◌, ℕ, ◌+◌, ◌-◌, ◌<�
 use Rattle.std.specs.Prelude.{slice_index, pos, ◌-ℤ◌}
 use Rattle.std.proofs.lemmas.Int.{ints}
 use Rattle.amr_box.specs.Cells.{cell}
+use Rattle.amr_patch.specs.declared.patches.PatchData.{PatchData}
 use Rattle.amr_patch.specs.Places.{place}
 use Rattle.amr_patch.specs.Patches.{value_in}
 use Rattle.amr_patch.proofs.Entries.{row_entry}
@@ -19,4 +20,5 @@ returns-clause-values c =
     let e : from ≡ place self.bx (cell (self.bx.lo.x -ℤ pos 1) c.args.y) = c.row_place-from.ensures.value ∙ (λ i. place self.bx (cell (x i) (y i))) in
     let lt : k < m = omega (arith, h, c.width-count.ensures.value) in
     ap (λ (vs : List ℕ). slice_index (take m (drop from vs)) k) c.deref.ensures.value
-    ∙ row_entry self.values.items self.bx (self.bx.lo.x -ℤ pos 1) c.args.y from m k lt (omega (arith, ints)) e
+    ∙ ap (λ (t : PatchData). slice_index (take m (drop from t.values.items)) k) c.deref-data.ensures
+    ∙ row_entry self.data.value.values.items self.bx (self.bx.lo.x -ℤ pos 1) c.args.y from m k lt (omega (arith, ints)) e
