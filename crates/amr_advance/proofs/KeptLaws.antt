@@ -39,7 +39,7 @@ use Rattle.amr_advance.specs.declared.lots.LotTasks.{LotTasks}
 use Rattle.amr_lots.specs.declared.lot.Lot.{Lot}
 use Rattle.amr_lots.specs.Runs.{run}
 use Rattle.amr_lots.proofs.Runs.{map_run, run_at, run_place}
-use Rattle.amr_ghost.specs.declared.parts.FrameCopy.{FrameCopy}
+use Rattle.amr_ghost.specs.declared.parts.FrameParts.{FrameParts}
 
 -- workspaces serve patches by their boxes alone
 pub same_workspaces : (ps qs : List Patch) (ts : List TaskLayout) (ws : List Workspace) → map box ps ≡ map box qs → AreWorkspaces ps ts ws → AreWorkspaces qs ts ws
@@ -84,15 +84,21 @@ flows_at_place s t g j q lt lt' =
     ∙ ap (λ (xs : List (List FlowTo)). get_or xs j []) (all_flows s t g)
     ∙ get_or-map (λ (r : Patch). flows_of t (box r)) t.patches j q [] lt'
 
-same_lot : (s t : Around) (each k : ℕ) (copies : List FrameCopy) (x : Lot) → SameGround s t → IsLotOf s each k copies x → IsLotOf t each k copies x
-same_lot s t each k copies x g h =
+same_lot : (s t : Around) (each k runs : ℕ) (parts : FrameParts) (x : Lot) → SameGround s t → IsLotOf s each k runs parts x → IsLotOf t each k runs parts x
+same_lot s t each k runs parts x g h =
     let boxes = run_boxes each k s.patches t.patches g.boxes in
     let count : length (run each k s.patches) ≡ length (run each k t.patches) = same_length (run each k s.patches) (run each k t.patches) boxes in
     record {
+      phase = h.phase;
       of_problem = h.of_problem ∙ g.problem;
       of_level = h.of_level ∙ g.level;
       count = h.count ∙ count;
-      of_copies = h.of_copies;
+      copies = h.copies;
+      outbox_count = h.outbox_count;
+      sent = h.sent;
+      own = h.own;
+      places = h.places;
+      inbox_count = h.inbox_count;
       flow_count = h.flow_count ∙ count;
       flows = λ i v q lt. h.flows i v q (omega (arith, lt, count)) ∙ flows_in_run i q (omega (arith, lt, count)) lt;
       words = λ i v lt. subst (λ (cs : List Cell). All (λ (y : FlowTo). y.word < 2 + 2 * length cs) (get_or x.flows.items i v).items) g.cells (h.words i v (omega (arith, lt, count)));
@@ -116,7 +122,7 @@ same_lots s t x g h = record {
   parts = h.parts;
   parted = h.parted;
   across = h.across;
-  lots = λ k y v lt. same_lot s t x.each k (get_or h.parts.within.items k v).items (get_or x.lots.items k y).value g (h.lots k y v lt);
+  lots = λ k y lt. same_lot s t x.each k (length x.lots.items) h.parts (get_or x.lots.items k y).value g (h.lots k y lt);
 }
 
 -- and so the tasks

@@ -17,4 +17,6 @@ mod Stepped
 pub mod SameLayouts
 mod KeptLaws
 mod InLots
+mod Sent
+mod Shared
 mod MadeLots

@@ -1,5 +1,5 @@
 -- The lots of a level: runs of its patches, each with what a worker needs.
-use Rattle.std.specs.Prelude.{◌≡◌, ℕ, ◌+◌, ◌*◌, ◌^◌, ◌<◌, ◌≤◌, List, length, slice_index_or}
+use Rattle.std.specs.Prelude.{◌≡◌, ◌≢◌, ℕ, ◌+◌, ◌*◌, ◌^◌, ◌<◌, ◌≤◌, [], length, slice_index_or}
 use Rattle.std.specs.Global.{Box, Vec}
 use Rattle.std.specs.List.{All}
 use Rattle.amr_box.specs.Cells.{width}
@@ -7,6 +7,8 @@ use Rattle.amr_def.specs.Domain.{domain}
 use Rattle.amr_flux.specs.Rooms.{widest}
 use Rattle.amr_ghost.specs.Plans.{PlansFrames}
 use Rattle.amr_ghost.specs.Parts.{IsParted}
+use Rattle.amr_ghost.specs.Messages.{HasPlaces}
+use Rattle.amr_ghost.specs.declared.messages.Message.{Message}
 use Rattle.amr_ghost.specs.declared.parts.FrameCopy.{FrameCopy}
 use Rattle.amr_ghost.specs.declared.parts.FrameParts.{FrameParts}
 use Rattle.amr_ghost.specs.declared.plan.FramePlan.{FramePlan}
@@ -15,17 +17,25 @@ use Rattle.amr_layout.specs.Adds.{flows_of}
 use Rattle.amr_layout.specs.Surroundings.{Around, edge_count}
 use Rattle.amr_lots.specs.Runs.{run}
 use Rattle.amr_lots.specs.declared.lot.Lot.{Lot}
+use Rattle.amr_lots.specs.declared.lot.Phase.TheVariants.{Send}
 use Rattle.amr_patch.specs.declared.patches.Patch.{Patch}
 use Rattle.amr_patch.specs.Patches.{box}
 use Rattle.amr_phase.specs.Plans.{total}
 use Rattle.amr_advance.specs.declared.lots.LotTasks.{LotTasks}
 
--- a lot that serves run k of a level's patches, in runs of so many each. While no step is made it has other patches, as many.
-pub record IsLotOf (s : Around) (each k : ℕ) (copies : List FrameCopy) (x : Lot) : Type 0 where
+-- a lot that serves run k of a level's patches, in runs of so many each, by a plan of the level's frames in parts. While no step is made it
+-- has other patches, as many.
+pub record IsLotOf (s : Around) (each k runs : ℕ) (parts : FrameParts) (x : Lot) : Type 0 where
+  pub phase : x.phase ≡ Send
   pub of_problem : x.problem.value ≡ s.problem
   pub of_level : x.level ≡ s.level
   pub count : length x.patches.items ≡ length (run each k s.patches)
-  pub of_copies : x.copies.items ≡ copies
+  pub copies : (v : Vec FrameCopy) → x.copies.items ≡ (slice_index_or parts.copies.items (k * runs + k) v).items
+  pub outbox_count : length x.outbox.items ≡ runs
+  pub sent : (t : ℕ) (m : Message) (v : Vec FrameCopy) → t < runs → t ≢ k → (slice_index_or x.outbox.items t m).copies.items ≡ (slice_index_or parts.copies.items (k * runs + t) v).items
+  pub own : (m : Message) → (slice_index_or x.outbox.items k m).copies.items ≡ []
+  pub places : All HasPlaces x.outbox.items
+  pub inbox_count : length x.inbox.items ≡ runs
   pub flow_count : length x.flows.items ≡ length (run each k s.patches)
   pub flows : (i : ℕ) (v : Vec FlowTo) (q : Patch) → i < length (run each k s.patches) → (slice_index_or x.flows.items i v).items ≡ flows_of s (box (slice_index_or (run each k s.patches) i q))
   pub words : (i : ℕ) (v : Vec FlowTo) → i < length (run each k s.patches) → All (λ (y : FlowTo). y.word < 2 + 2 * length s.cells) (slice_index_or x.flows.items i v).items
@@ -42,4 +52,4 @@ pub record AreLotTasks (s : Around) (t : LotTasks) : Type 0 where
   pub parts : FrameParts
   pub parted : IsParted plan t.each (length t.lots.items) parts
   pub across : t.across ≡ parts.across
-  pub lots : (k : ℕ) (x : Box Lot) (v : Vec FrameCopy) → k < length t.lots.items → IsLotOf s t.each k (slice_index_or parts.within.items k v).items (slice_index_or t.lots.items k x).value
+  pub lots : (k : ℕ) (x : Box Lot) → k < length t.lots.items → IsLotOf s t.each k (length t.lots.items) parts (slice_index_or t.lots.items k x).value

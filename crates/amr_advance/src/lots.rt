@@ -10,7 +10,10 @@ ghost use Rattle.amr_patch.specs.Patches.{ArePatchesApart};
 ghost use Rattle.amr_gaps.specs.Gaps.{HasStarts};
 ghost use Rattle.amr_ghost.specs.Frames.{AreInDomain};
 ghost use Rattle.amr_ghost.specs.Plans.{PlansFrames};
+ghost use Rattle.amr_ghost.specs.Messages.{HasPlaces};
+ghost use Rattle.amr_ghost.specs.declared.messages.Message.{Message as message};
 ghost use Rattle.amr_ghost.specs.declared.parts.FrameCopy.{FrameCopy as frame_copy};
+ghost use Rattle.amr_ghost.specs.declared.parts.FrameParts.{FrameParts as frame_parts};
 ghost use Rattle.amr_layout.specs.declared.FlowTo.{FlowTo as flow};
 ghost use Rattle.amr_layout.specs.Adds.{HasRegisterCells};
 ghost use Rattle.amr_layout.specs.LevelFlowLists.{HasFlowsAt, flows_at};
@@ -23,9 +26,9 @@ use crate::pieces::one_cell;
 use crate::tasks::widest_of;
 use amr_causes::NoMemory;
 use amr_flux::Room;
-use amr_ghost::{FrameCopy, FrameParts, FramePlan, Span, part_frames};
+use amr_ghost::{FrameCopy, FrameParts, FramePlan, Message, Span, part_frames};
 use amr_layout::{FlowTo, LevelFlows, Surroundings, plan_adds};
-use amr_lots::Lot;
+use amr_lots::{Lot, Phase};
 use amr_patch::Patch;
 use std::alloc::Global;
 use std::boxed::Box;
@@ -42,7 +45,7 @@ pub(crate) struct LotTasks {
     pub(crate) workers: u32,
     /// How many patches each lot has; the last may have fewer.
     pub(crate) each: usize,
-    /// The ghost cells that the caller fills: they get no mass of a patch of their own patch's lot.
+    /// The ghost cells that the caller fills: they get no mass of a patch of the level.
     pub(crate) across: Vec<Span>,
     /// The lots, in the order of the level's patches.
     pub(crate) lots: Vec<Box<Lot>>,
@@ -91,53 +94,89 @@ fn flows_from(
     Ok(lists)
 }
 
-/// The lot for the run of patches that begins at `first`, `each` of them or as many as are left.
+/// Messages for these lists of copies, which are taken.
+fn messages_for(alloc: Global, lists: &mut [Vec<FrameCopy>]) -> Result<Vec<Message>, NoMemory>
+    ensures count { IfOk result (λ xs. length xs.items ≡ length lists.old) }
+    ensures copies { IfOk result (λ xs. (t : ℕ) (m : message) (v : vec frame_copy) → t < length lists.old → (slice_index_or xs.items t m).copies ≡ slice_index_or lists.old t v) }
+    ensures places { IfOk result (λ xs. All HasPlaces xs.items) }
+{
+    let mut messages = Vec::with_capacity(alloc, lists.len())?;
+    for t in 0..lists.len() {
+        let copies = replace(&mut lists[t], Vec::new(alloc));
+        messages.push_reserved(Message::make(alloc, copies)?);
+    }
+    Ok(messages)
+}
+
+/// So many empty messages.
+fn empty_messages(alloc: Global, count: usize) -> Result<Vec<Message>, NoMemory>
+    ensures { IfOk result (λ xs. length xs.items ≡ count) }
+{
+    let mut messages = Vec::with_capacity(alloc, count)?;
+    for _place in 0..count {
+        messages.push_reserved(Message::empty(alloc));
+    }
+    Ok(messages)
+}
+
+/// The lot for run `k` of the patches, `each` of them or as many as are left. `lists` are the copies of masses of the run, by the run that
+/// they are for, and are taken.
 fn lot_for(
     alloc: Global,
     s: Surroundings<'_>,
     flows: &LevelFlows,
     each: usize,
-    first: usize,
-    copies: Vec<FrameCopy>,
+    k: usize,
+    lists: &mut [Vec<FrameCopy>],
 ) -> Result<Lot, NoMemory>
     requires adds { AreAddsOf (around s.problem.now s.level s.patches.now s.cells.now (option_copied s.finer)) flows.now }
     requires few { length s.cells.now ≤ 2 ^ 30 }
     requires small { length s.patches.now ≤ 2 ^ 26 }
-    requires within { first ≤ length s.patches.now }
-    ensures { IfOk result (λ x. (k : ℕ) → first ≡ k * each → IsLotOf (around s.entry.problem.now s.entry.level s.entry.patches.now s.entry.cells.now (option_copied s.entry.finer)) each k copies.items x) }
+    requires within { k * each ≤ length s.patches.now }
+    requires there { k < length lists.old }
+    ensures { IfOk result (λ x. (parts : frame_parts) → ((t : ℕ) (v : vec frame_copy) → t < length lists.old → slice_index_or lists.old t v ≡ slice_index_or parts.copies.items (k * length lists.old + t) v) → IsLotOf (around s.entry.problem.now s.entry.level s.entry.patches.now s.entry.cells.now (option_copied s.entry.finer)) each k (length lists.old) parts x) }
 {
+    let first = k * each;
     let count = each.min(s.patches.len() - first);
+    let copies = replace(&mut lists[k], Vec::new(alloc));
     Ok(Lot {
+        phase: Phase::Send,
         level: s.level,
         patches: blank_patches(alloc, count)?,
         flows: flows_from(alloc, flows, first, count)?,
         copies,
+        outbox: messages_for(alloc, lists)?,
+        inbox: empty_messages(alloc, lists.len())?,
         room: Room::make(alloc, widest_of(&s.patches[first..first + count]))?,
         totals: vec![in alloc; 0u64; 2 + 2 * s.cells.len()]?,
         problem: Snapshot::of(s.problem),
     })
 }
 
-/// A lot for each run of the patches, with the copies within it.
+/// A lot for each of so many runs of the patches. `copies` are those of the level's frames, by the run that they take masses of, and for each
+/// by the run that they are for.
 fn lots_for(
     alloc: Global,
     s: Surroundings<'_>,
     flows: &LevelFlows,
     each: usize,
-    mut within: Vec<Vec<FrameCopy>>,
+    runs: usize,
+    mut copies: Vec<Vec<FrameCopy>>,
 ) -> Result<Vec<Box<Lot>>, NoMemory>
     requires adds { AreAddsOf (around s.problem.now s.level s.patches.now s.cells.now (option_copied s.finer)) flows.now }
     requires few { length s.cells.now ≤ 2 ^ 30 }
     requires small { length s.patches.now ≤ 2 ^ 26 }
-    requires tight { length within.items * each < length s.patches.now + each }
+    requires tight { runs * each < length s.patches.now + each }
     requires short { each ≤ 2 ^ 26 }
-    ensures count { IfOk result (λ xs. length xs.items ≡ length within.items) }
-    ensures lots { IfOk result (λ xs. (k : ℕ) (x : boxed lot) (v : vec frame_copy) → k < length within.items → IsLotOf (around s.entry.problem.now s.entry.level s.entry.patches.now s.entry.cells.now (option_copied s.entry.finer)) each k (slice_index_or within.items k v).items (slice_index_or xs.items k x).value) }
+    requires many { runs ≤ 2 ^ 26 }
+    requires count { length copies.items ≡ runs * runs }
+    ensures count { IfOk result (λ xs. length xs.items ≡ runs) }
+    ensures lots { IfOk result (λ xs. (k : ℕ) (x : boxed lot) (parts : frame_parts) → k < runs → parts.copies ≡ copies → IsLotOf (around s.entry.problem.now s.entry.level s.entry.patches.now s.entry.cells.now (option_copied s.entry.finer)) each k runs parts (slice_index_or xs.items k x).value) }
 {
-    let mut lots = Vec::with_capacity(alloc, within.len())?;
-    for k in 0..within.len() {
-        let copies = replace(&mut within[k], Vec::new(alloc));
-        let lot = lot_for(alloc, s, flows, each, k * each, copies)?;
+    let mut lots = Vec::with_capacity(alloc, runs)?;
+    for k in 0..runs {
+        let lists = &mut copies[k * runs..k * runs + runs];
+        let lot = lot_for(alloc, s, flows, each, k, lists)?;
         lots.push_reserved(Box::new(alloc, lot)?);
     }
     Ok(lots)
@@ -167,8 +206,9 @@ pub(crate) fn lot_tasks(
     }
     let flows = plan_adds(alloc, s)?;
     let each = parts_in(count, workers.max(1) as usize).max(1);
-    let FrameParts { across, within } = part_frames(alloc, frames, each, parts_in(count, each))?;
-    let lots = lots_for(alloc, s, &flows, each, within)?;
+    let runs = parts_in(count, each);
+    let FrameParts { across, copies } = part_frames(alloc, frames, each, runs)?;
+    let lots = lots_for(alloc, s, &flows, each, runs, copies)?;
     Ok(LotTasks {
         workers,
         each,

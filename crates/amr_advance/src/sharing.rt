@@ -18,15 +18,15 @@ use crate::level::Given;
 use crate::lots::LotTasks;
 use crate::running::{Workers, serve_lots};
 use amr_ghost::fill_across;
-use amr_lots::{add_up, exchange_runs};
+use amr_lots::{Phase, add_up, exchange_messages, exchange_runs};
 use amr_patch::Patch;
 use amr_workers::Gate;
 use std::sync::Wait;
 
-/// Makes a step of the patches of a level. The caller fills the ghost cells that get no mass of a patch of their own patch's lot.
-/// Then it and the kept workers each serve lots: they fill the other ghost cells, and make the step of one patch after another, each
-/// by its own values and those of its frame. The words, all 0 before, get the totals of the level, and the tasks serve the next step.
-/// It takes no memory.
+/// Makes a step of the patches of a level. The caller fills the ghost cells that get no mass of a patch of the level. Then it and the
+/// kept workers each serve lots, twice: they pack the masses that other lots need; and, once the caller has delivered them, they fill the
+/// other ghost cells and make the step of one patch after another, each by its own values and those of its frame. The words, all 0
+/// before, get the totals of the level, and the tasks serve the next step. It takes no memory.
 pub(crate) fn step_in_lots<R: Wait, G: Gate>(
     workers: &mut Workers<'_, R, G>,
     given: Given<'_>,
@@ -58,6 +58,9 @@ pub(crate) fn step_in_lots<R: Wait, G: Gate>(
     );
     exchange_runs(patches, &mut tasks.lots, tasks.each);
     serve_lots(workers, given.problem, &mut tasks.lots);
+    exchange_messages(&mut tasks.lots, Phase::Step);
+    serve_lots(workers, given.problem, &mut tasks.lots);
+    exchange_messages(&mut tasks.lots, Phase::Send);
     exchange_runs(patches, &mut tasks.lots, tasks.each);
     add_up(&tasks.lots, totals);
 }

@@ -14,5 +14,7 @@ pub mod PlanLaws
 pub mod Reach
 pub mod Inside
 pub mod Copies
+pub mod Packing
+pub mod Unpacking
 pub mod Parting
 pub mod PartLaws

@@ -1,10 +1,12 @@
--- A plan in parts: what the parts ask of the patches, and that they fill each frame together.
-use Rattle.std.proofs.Common.{◌≡◌, ◌∙◌, inl, inr, ℕ, ◌+◌, ◌*◌, ◌/◌, ◌<◌, ◌≤◌, Bool, ◌||◌, List, length, get_or, IsTrue, refl, sym, ap, subst, arith}
+-- A plan in parts: what the parts ask of the patches, and that they and the messages fill each frame together.
+use Rattle.std.proofs.Common.{◌≡◌, ◌∙◌, inl, inr, ◌⊎◌, ℕ, ◌+◌, ◌-◌, ◌*◌, ◌/◌, ◌<◌, ◌≤◌, Bool, ◌||◌, List, [], ◌∷◌, length, get_or, take, drop, IsTrue, refl, sym, ap, subst, arith}
+use Rattle.std.specs.Prelude.{min}
 use Rattle.std.specs.List.{All, AllZip, Any}
 use Rattle.std.specs.Global.{Vec}
 use Rattle.std.proofs.Math.Nat.{div-eq_of_lt, mul-add-div_right}
-use Rattle.std.proofs.lemmas.Bool.{and_parts}
-use Rattle.std.proofs.lemmas.List.Elements.{AllZip-get_or, length_all_zip}
+use Rattle.std.proofs.lemmas.Bool.{and_parts, cases_eq}
+use Rattle.std.proofs.lemmas.List.{get_or-drop, get_or-take, length-drop, length-take}
+use Rattle.std.proofs.lemmas.List.Elements.{All-head, All-same, All-tail, AllZip-get_or, length_all_zip}
 use Rattle.amr_box.specs.declared.Cell.{Cell}
 use Rattle.amr_box.specs.Cells.{Extent, holds, within}
 use Rattle.amr_def.specs.declared.problem.Problem.{Problem}
@@ -17,12 +19,17 @@ use Rattle.amr_patch.specs.Patches.{ArePatchesApart, box, mass_in, masses_in}
 use Rattle.amr_ghost.specs.Strips.{step}
 use Rattle.amr_ghost.specs.Frames.{is_beside, is_of_level}
 use Rattle.amr_ghost.specs.Filling.{AreCopied, HasFrame, HasGhost, KeepsCells, KeepsGhosts}
-use Rattle.amr_ghost.specs.Plans.{HasCell, HasSpan, IsSpan, PlansFrames}
-use Rattle.amr_ghost.specs.Parts.{HasFilled, IsCopied, IsFrameCopy, IsInParts, IsParted, IsRun, span_of}
+use Rattle.amr_ghost.specs.Plans.{HasCell, HasSpan, IsSource, IsSpan, PlansFrames}
+use Rattle.amr_ghost.specs.Parts.{IsInParts, IsParted, IsRun, IsSourceBelow, IsSpanBelow, span_of}
+use Rattle.amr_ghost.specs.Messages.{AreMassesFor, AreMessagesTo, ArePacked, HasCopy, HasFilled, IsCopyFor, IsMessageFor, IsReceived, IsTaken}
+use Rattle.amr_ghost.specs.declared.sides.Strip.{Strip}
+use Rattle.amr_ghost.specs.declared.sources.Source.{Source}
+use Rattle.amr_ghost.specs.declared.sources.Source.TheVariants.{Beside, Coarser, Outside}
 use Rattle.amr_ghost.specs.declared.sources.Span.{Span}
 use Rattle.amr_ghost.specs.declared.plan.FramePlan.{FramePlan}
 use Rattle.amr_ghost.specs.declared.parts.FrameCopy.{FrameCopy}
 use Rattle.amr_ghost.specs.declared.parts.FrameParts.{FrameParts}
+use Rattle.amr_ghost.specs.declared.messages.Message.{Message}
 use Rattle.amr_ghost.proofs.Spans.{span_copied}
 use Rattle.amr_ghost.proofs.Zips.{still_mass, zip_box}
 
@@ -35,11 +42,21 @@ span_in d ps plan planned s a = subst (IsSpan d ps) (a.3 ∙ a.4) (planned.spans
 pub across_spans : (d : Domain) (ps : List Patch) (plan : FramePlan) (width runs : ℕ) (parts : FrameParts) → PlansFrames d ps plan → IsParted plan width runs parts → All (IsSpan d ps) parts.across.items
 across_spans d ps plan width runs parts planned parted = λ k s lt. span_in d ps plan planned (get_or parts.across.items k s) (parted.across k s lt)
 
--- the runs have all patches that the plan tells of
-pub plan_small : (d : Domain) (ps : List Patch) (plan : FramePlan) (width runs : ℕ) → PlansFrames d ps plan → length ps ≤ runs * width → All (λ (s : Span). s.patch < runs * width) plan.spans.items
-plan_small d ps plan width runs planned few = λ k s lt. let there = (planned.spans k s lt).there in omega (arith, there, few)
+-- the runs have all patches that a plan tells of
+source_small : (d : Domain) (ps : List Patch) (s : Strip) (source : Source) (n : ℕ) → IsSource d ps s source → length ps ≤ n → IsSourceBelow n source
+source_small d ps s Outside n is few = tt
+source_small d ps s (Beside j h) n is few = let there = is.there in omega (arith, there, few)
+source_small d ps s (Coarser h) n is few = tt
 
--- ---- patches numbered within a run
+pub plan_small : (d : Domain) (ps : List Patch) (plan : FramePlan) (width runs : ℕ) → PlansFrames d ps plan → length ps ≤ runs * width → All (IsSpanBelow (runs * width)) plan.spans.items
+plan_small d ps plan width runs planned few = λ k s lt.
+    let span : Span = get_or plan.spans.items k s in
+    let is : IsSpan d ps span = planned.spans k s lt in
+    let there : span.patch < length ps = is.there in
+    let low : span.patch < runs * width = omega (arith, there, few) in
+    (low, source_small d ps span.strip span.source (runs * width) is.source few)
+
+-- ---- runs
 
 -- the number of a run, by the number of one of its patches
 run_number : (width t k : ℕ) → k < width → (t * width + k) / width ≡ t
@@ -51,70 +68,130 @@ run_number width t k lt =
 same_run : (width t u k m : ℕ) → k < width → m < width → t * width + k ≡ u * width + m → t ≡ u
 same_run width t u k m low high e = sym (run_number width t k low) ∙ ap (λ n. n / width) e ∙ run_number width u m high
 
--- ---- the copies of run t
+-- each run of a list of patches
+abbrev run_of : ℕ → ℕ → List Patch → List Patch
+run_of width u qs = take width (drop (u * width) qs)
 
-module _ (d : Domain) (ps qs rs : List Patch) (plan : FramePlan) (width runs t : ℕ) (parts : FrameParts) (v : Vec FrameCopy) (planned : PlansFrames d ps plan) (parted : IsParted plan width runs parts) (kept : AllZip KeepsCells ps qs) (below : t < runs) (run : IsRun width t qs rs) where
+run_count : (width u : ℕ) (qs : List Patch) → length (run_of width u qs) ≡ min width (length qs - u * width)
+run_count width u qs = length-take width (drop (u * width) qs) ∙ ap (min width) (length-drop (u * width) qs)
+
+run_is : (width u : ℕ) (qs : List Patch) → IsRun width u qs (run_of width u qs)
+run_is width u qs = record {
+  small = omega (arith, run_count width u qs);
+  same = λ k q lt. get_or-take width (drop (u * width) qs) k q (omega (arith, lt, run_count width u qs)) ∙ get_or-drop (u * width) qs k q;
+  there = λ k lt. omega (arith, lt, run_count width u qs);
+  whole = λ k below lt. omega (arith, below, lt, run_count width u qs);
+}
+
+-- ---- the copies from run u to run t
+
+module _ (d : Domain) (ps qs : List Patch) (plan : FramePlan) (width runs : ℕ) (parts : FrameParts) (planned : PlansFrames d ps plan) (parted : IsParted plan width runs parts) (kept : AllZip KeepsCells ps qs) where
   same_count : length ps ≡ length qs
   same_count = length_all_zip KeepsCells ps qs kept
 
-  run_box : (k : ℕ) (q : Patch) → k < length rs → box (get_or rs k q) ≡ box (get_or ps (t * width + k) q)
-  run_box k q lt = let there = run.there k lt in ap box (run.same k q lt) ∙ zip_box ps qs (t * width + k) q q kept (omega (arith, there, same_count))
+  run_box : (t : ℕ) (rs : List Patch) → IsRun width t qs rs → (k : ℕ) (q : Patch) → k < length rs → box (get_or rs k q) ≡ box (get_or ps (t * width + k) q)
+  run_box t rs run k q lt = let there = run.there k lt in ap box (run.same k q lt) ∙ zip_box ps qs (t * width + k) q q kept (omega (arith, there, same_count))
 
-  -- a patch of the level that lies in the run
-  in_run : (k : ℕ) → k < width → t * width + k < length ps → k < length rs
-  in_run k lt there = run.whole k lt (omega (arith, there, same_count))
+  -- a patch of the level that lies in a run
+  in_run : (t : ℕ) (rs : List Patch) → IsRun width t qs rs → (k : ℕ) → k < width → t * width + k < length ps → k < length rs
+  in_run t rs run k lt there = run.whole k lt (omega (arith, there, same_count))
 
-  copy_span : (k : ℕ) (c : FrameCopy) → k < length (get_or parts.within.items t v).items → IsSpan d ps (span_of (t * width) (get_or (get_or parts.within.items t v).items k c))
-  copy_span k c lt = span_in d ps plan planned (span_of (t * width) (get_or (get_or parts.within.items t v).items k c)) (parted.copies t v below k c lt).2
+  -- a copy is a span of the level
+  copy_span : (u t k : ℕ) (v : Vec FrameCopy) (c : FrameCopy) → u < runs → t < runs → k < length (get_or parts.copies.items (u * runs + t) v).items → IsSpan d ps (span_of (t * width) (u * width) (get_or (get_or parts.copies.items (u * runs + t) v).items k c))
+  copy_span u t k v c from_there there lt = span_in d ps plan planned (span_of (t * width) (u * width) (get_or (get_or parts.copies.items (u * runs + t) v).items k c)) (parted.copies u t v from_there there k c lt).2
 
-  -- a copy of the run serves the patches of the run
-  serves : (c : FrameCopy) → c.patch < width → c.source < width → IsSpan d ps (span_of (t * width) c) → IsFrameCopy rs c
-  serves c low from_low is =
-      let there : c.patch < length rs = in_run c.patch low is.there in
-      let from_there : c.source < length rs = in_run c.source from_low is.source.there in
+  -- a copy takes masses of the patches of the one run
+  takes : (u t : ℕ) (us : List Patch) (c : FrameCopy) → IsRun width u qs us → c.source < width → IsSpan d ps (span_of (t * width) (u * width) c) → IsTaken us c
+  takes u t us c run low is =
+      let there : c.source < length us = in_run u us run c.source low is.source.there in
       record {
         there = there;
-        from_there = from_there;
-        some = is.some;
         small = is.small;
-        to_room = is.room;
-        from_room = is.source.room;
-        ghosts = λ q k lt. subst (λ (b : Extent). IsTrue (in_frame b (step c.strip.axis c.strip.from k))) (sym (run_box c.patch q there)) ((is.ghost_strip q).ghosts k lt);
-        beside = λ q k lt. subst (λ (b : Extent). IsTrue (is_beside b (step c.strip.axis c.strip.from k))) (sym (run_box c.patch q there)) ((is.ghost_strip q).beside k lt);
-        held = λ q k lt. subst (λ (b : Extent). IsTrue (holds b (step c.strip.axis c.from k))) (sym (run_box c.source q from_there)) (is.source.held q k lt);
+        room = is.source.room;
+        held = λ q k lt. subst (λ (b : Extent). IsTrue (holds b (step c.strip.axis c.from k))) (sym (run_box u us run c.source q there)) (is.source.held q k lt);
       }
 
-  pub copies_serve : All (IsFrameCopy rs) (get_or parts.within.items t v).items
-  copies_serve = λ k c lt. let is = parted.copies t v below k c lt in serves (get_or (get_or parts.within.items t v).items k c) is.0 is.1 (copy_span k c lt)
+  -- and gives them to ghost cells beside those of the other
+  receives : (u t : ℕ) (rs : List Patch) (c : FrameCopy) → IsRun width t qs rs → c.patch < width → IsSpan d ps (span_of (t * width) (u * width) c) → IsReceived rs c
+  receives u t rs c run low is =
+      let there : c.patch < length rs = in_run t rs run c.patch low is.there in
+      record {
+        there = there;
+        some = is.some;
+        small = is.small;
+        room = is.room;
+        ghosts = λ q k lt. subst (λ (b : Extent). IsTrue (in_frame b (step c.strip.axis c.strip.from k))) (sym (run_box t rs run c.patch q there)) ((is.ghost_strip q).ghosts k lt);
+        beside = λ q k lt. subst (λ (b : Extent). IsTrue (is_beside b (step c.strip.axis c.strip.from k))) (sym (run_box t rs run c.patch q there)) ((is.ghost_strip q).beside k lt);
+      }
+
+  pub copies_taken : (u t : ℕ) (us : List Patch) (v : Vec FrameCopy) → u < runs → t < runs → IsRun width u qs us → All (IsTaken us) (get_or parts.copies.items (u * runs + t) v).items
+  copies_taken u t us v from_there there run = λ k c lt. takes u t us (get_or (get_or parts.copies.items (u * runs + t) v).items k c) run (parted.copies u t v from_there there k c lt).1 (copy_span u t k v c from_there there lt)
+
+  pub copies_received : (u t : ℕ) (rs : List Patch) (v : Vec FrameCopy) → u < runs → t < runs → IsRun width t qs rs → All (IsReceived rs) (get_or parts.copies.items (u * runs + t) v).items
+  copies_received u t rs v from_there there run = λ k c lt. receives u t rs (get_or (get_or parts.copies.items (u * runs + t) v).items k c) run (parted.copies u t v from_there there k c lt).0 (copy_span u t k v c from_there there lt)
+
+-- ---- what is packed is what the copies are to give
+
+packed_for : (V : Cell → ℕ) (M : Cell → Bool) (us : List Patch) (q : Patch) (cs : List FrameCopy) (masses : List ℕ) → ArePacked us cs masses → All (IsCopyFor V M us) cs → AreMassesFor V M cs masses
+packed_for V M us q [] masses packed copied = tt
+packed_for V M us q (c ∷ cs) masses packed copied =
+    let first : AreCopied V M (get_or us c.source q) c.strip.axis c.strip.from c.from c.strip.count = All-head (IsCopyFor V M us) c cs copied q in (
+      record { values = λ k lt. first.values k lt ∙ sym (packed.0 q k lt); marks = first.marks },
+      packed_for V M us q cs (drop c.strip.count masses) packed.1 (All-tail (IsCopyFor V M us) c cs copied),
+    )
+
+-- what has no copies is for nothing
+none_for : (V : Cell → ℕ) (M : Cell → Bool) (cs : List FrameCopy) (masses : List ℕ) → cs ≡ [] → AreMassesFor V M cs masses
+none_for V M cs masses none = subst (λ (ds : List FrameCopy). AreMassesFor V M ds masses) (sym none) tt
+
+-- a list that has a place has a message
+some_message : (xs : List Message) (k : ℕ) → k < length xs → Message
+some_message [] k lt = absurd (omega (arith, lt))
+some_message (x ∷ xs) k lt = x
 
 -- ---- the frames of run t
 
-module _ (p : Problem) (l : ℕ) (old : Masses) (ps qs rs fs : List Patch) (plan : FramePlan) (width runs t : ℕ) (parts : FrameParts) (v : Vec FrameCopy) (planned : PlansFrames (domain p l) ps plan) (parted : IsParted plan width runs parts) (kept : AllZip KeepsCells ps qs) (below : t < runs) (run : IsRun width t qs rs) (apart : ArePatchesApart ps) (across : All (HasSpan p l (masses_in ps) old qs) parts.across.items) (filled : HasFilled (get_or parts.within.items t v).items rs fs) where
+module _ (p : Problem) (l : ℕ) (old : Masses) (ps qs rs fs : List Patch) (plan : FramePlan) (width runs t : ℕ) (parts : FrameParts) (v : Vec FrameCopy) (messages : List Message) (planned : PlansFrames (domain p l) ps plan) (parted : IsParted plan width runs parts) (kept : AllZip KeepsCells ps qs) (below : t < runs) (run : IsRun width t qs rs) (apart : ArePatchesApart ps) (across : All (HasSpan p l (masses_in ps) old qs) parts.across.items) (sent : AreMessagesTo parts width runs t qs messages) (filled : HasFilled (get_or parts.copies.items (t * runs + t) v).items messages rs fs) where
   abbrev value : Cell → ℕ
   value = value_at p l (masses_in ps) old
 
   abbrev mark : Cell → Bool
   mark = is_of_level p l (masses_in ps)
 
-  abbrev copies : List FrameCopy
-  copies = (get_or parts.within.items t v).items
+  abbrev copies : ℕ → List FrameCopy
+  copies u = (get_or parts.copies.items (u * runs + t) v).items
 
-  -- what the copies of the run take are the values of the level's cells
-  copied : (c : FrameCopy) → c.source < length rs → IsSpan (domain p l) ps (span_of (t * width) c) → IsCopied value mark rs c
-  copied c here is q =
-      let there : t * width + c.source < length ps = is.source.there in
-      let level : AreCopied value mark (get_or ps (t * width + c.source) q) c.strip.axis c.strip.from c.from c.strip.count = span_copied p l ps old (t * width + c.source) q (box (get_or ps (t * width + c.patch) q)) c.strip.axis c.strip.from c.from c.strip.count c.strip.count apart there is.source.home is.some (omega arith) (is.ghost_strip q) is.source.held in
+  -- what a copy from a run takes are the values of the level's cells
+  copied : (u : ℕ) (us : List Patch) (c : FrameCopy) → IsRun width u qs us → c.source < length us → IsSpan (domain p l) ps (span_of (t * width) (u * width) c) → IsCopyFor value mark us c
+  copied u us c from_run here is q =
+      let there : u * width + c.source < length ps = is.source.there in
+      let level : AreCopied value mark (get_or ps (u * width + c.source) q) c.strip.axis c.strip.from c.from c.strip.count = span_copied p l ps old (u * width + c.source) q (box (get_or ps (t * width + c.patch) q)) c.strip.axis c.strip.from c.from c.strip.count c.strip.count apart there is.source.home is.some (omega arith) (is.ghost_strip q) is.source.held in
       record {
         values = λ k lt. level.values k lt
-            ∙ sym (still_mass ps qs (t * width + c.source) q q (step c.strip.axis c.from k) (step c.strip.axis c.from k) kept there refl (is.source.held q k lt))
-            ∙ ap (λ (r : Patch). mass_in r (step c.strip.axis c.from k)) (sym (run.same c.source q here));
+            ∙ sym (still_mass ps qs (u * width + c.source) q q (step c.strip.axis c.from k) (step c.strip.axis c.from k) kept there refl (is.source.held q k lt))
+            ∙ ap (λ (r : Patch). mass_in r (step c.strip.axis c.from k)) (sym (from_run.same c.source q here));
         marks = level.marks;
       }
 
-  all_copied : All (IsCopied value mark rs) copies
-  all_copied = λ k c lt.
-      let serve = copies_serve (domain p l) ps qs rs plan width runs t parts v planned parted kept below run k c lt in
-      copied (get_or copies k c) serve.from_there (copy_span (domain p l) ps qs rs plan width runs t parts v planned parted kept below run k c lt)
+  all_copied : (u : ℕ) (us : List Patch) → u < runs → IsRun width u qs us → All (IsCopyFor value mark us) (copies u)
+  all_copied u us from_there from_run = λ k c lt.
+      let taken = copies_taken (domain p l) ps qs plan width runs parts planned parted kept u t us v from_there below from_run k c lt in
+      copied u us (get_or (copies u) k c) from_run taken.there (copy_span (domain p l) ps qs plan width runs parts planned parted kept u t k v c from_there below lt)
+
+  -- what the run copies within itself, and what the messages bring
+  own_copied : All (IsCopyFor value mark rs) (copies t)
+  own_copied = all_copied t rs below run
+
+  message_for : (q : Patch) (u : ℕ) (x : Message) → u < runs → (u ≡ t) ⊎ (u ≡ t → ⊥) → IsMessageFor value mark (get_or messages u x)
+  message_for q u x from_there (inl same) = none_for value mark (get_or messages u x).copies.items (get_or messages u x).masses.items (ap (λ n. (get_or messages n x).copies.items) same ∙ sent.own x)
+  message_for q u x from_there (inr other) =
+      let us : List Patch = run_of width u qs in
+      packed_for value mark us q (get_or messages u x).copies.items (get_or messages u x).masses.items
+      (sent.packed u x us from_there (run_is width u qs))
+      (All-same (IsCopyFor value mark us) (get_or messages u x).copies.items (copies u) (sent.copies u x v from_there other) (all_copied u us from_there (run_is width u qs)))
+
+  all_messages : Patch → All (IsMessageFor value mark) messages
+  all_messages q = λ u x lt. let count = sent.count in message_for q u x (omega (arith, lt, count)) (cases_eq u t)
 
   -- a ghost cell that was filled before keeps its value
   from_across : (k : ℕ) (q : Patch) (c : Cell) (s : Span) → k < length rs → IsTrue (is_beside (box (get_or rs k q)) c) → HasCell (t * width + k) c s → HasSpan p l (masses_in ps) old qs s → HasGhost value mark (get_or fs k q) c
@@ -123,28 +200,35 @@ module _ (p : Problem) (l : ℕ) (old : Masses) (ps qs rs fs : List Patch) (plan
       let in_level : HasGhost value mark (get_or qs (t * width + k) q) c = subst (λ n. HasGhost value mark (get_or qs n q) c) has.of_patch at_span in
       let before : HasGhost value mark (get_or rs k q) c = subst (λ (r : Patch). HasGhost value mark r c) (sym (run.same k q lt)) in_level in
       let ghost : IsTrue (in_frame (box (get_or rs k q)) c) = (and_parts (in_frame (box (get_or rs k q)) c) (within (box (get_or rs k q)).lo.x (box (get_or rs k q)).hi.x c.x || within (box (get_or rs k q)).lo.y (box (get_or rs k q)).hi.y c.y) h).0 in
-      (AllZip-get_or (KeepsGhosts value mark) rs fs k q q (filled.ghosts value mark all_copied) lt).at c ghost before
+      (AllZip-get_or (KeepsGhosts value mark) rs fs k q q (filled.ghosts value mark own_copied (all_messages q)) lt).at c ghost before
 
-  -- and one that a copy of the run fills has its own
-  from_copy : (k : ℕ) (q : Patch) (c : Cell) (s : Span) → HasCell (t * width + k) c s → Any (λ (x : FrameCopy). span_of (t * width) x ≡ s) copies → HasGhost value mark (get_or fs k q) c
-  from_copy k q c s has a =
+  -- each copy to the run is made: within the run, or by the message from another
+  all_made : Patch → (u : ℕ) → u < runs → (u ≡ t) ⊎ (u ≡ t → ⊥) → All (HasCopy value mark fs) (copies u)
+  all_made q u from_there (inl same) = subst (λ n. All (HasCopy value mark fs) (copies n)) (sym same) (filled.set value mark own_copied (all_messages q))
+  all_made q u from_there (inr other) =
+      let sender : u < length messages = let count = sent.count in omega (arith, from_there, count) in
+      let x : Message = some_message messages u sender in
+      All-same (HasCopy value mark fs) (copies u) (get_or messages u x).copies.items (sym (sent.copies u x v from_there other)) (filled.received value mark own_copied (all_messages q) u x sender)
+
+  -- so a ghost cell that a copy fills has its own
+  from_copy : (k : ℕ) (q : Patch) (c : Cell) (s : Span) (u : ℕ) → u < runs → HasCell (t * width + k) c s → Any (λ (x : FrameCopy). span_of (t * width) (u * width) x ≡ s) (copies u) → HasGhost value mark (get_or fs k q) c
+  from_copy k q c s u from_there has a =
       let x : FrameCopy = a.1 in
-      let is : HasCell (t * width + k) c (span_of (t * width) x) = subst (HasCell (t * width + k) c) (sym a.4) has in
+      let is : HasCell (t * width + k) c (span_of (t * width) (u * width) x) = subst (HasCell (t * width + k) c) (sym a.4) has in
       let same : x.patch ≡ k = let e : t * width + x.patch ≡ t * width + k = is.of_patch in omega (arith, e) in
-      let set = subst (λ (y : FrameCopy). (r : Patch) (m : ℕ) → m < y.strip.count → HasGhost value mark (get_or fs y.patch r) (step y.strip.axis y.strip.from m)) a.3 (λ r. (filled.set value mark all_copied a.0 x a.2 r).at) in
-      subst (λ n. HasGhost value mark (get_or fs n q) c) same (subst (λ (e : Cell). HasGhost value mark (get_or fs x.patch q) e) (sym is.is) (set q is.place is.within))
+      let made : HasCopy value mark fs x = subst (HasCopy value mark fs) a.3 (all_made q u from_there (cases_eq u t) a.0 x a.2) in
+      subst (λ n. HasGhost value mark (get_or fs n q) c) same (subst (λ (e : Cell). HasGhost value mark (get_or fs x.patch q) e) (sym is.is) ((made q).at is.place is.within))
 
   by_part : (k : ℕ) (q : Patch) (c : Cell) (s : Span) → k < length rs → IsTrue (is_beside (box (get_or rs k q)) c) → HasCell (t * width + k) c s → IsInParts width runs parts s → HasGhost value mark (get_or fs k q) c
   by_part k q c s lt h has (inl a) = from_across k q c s lt h has (subst (HasSpan p l (masses_in ps) old qs) (a.3 ∙ a.4) (across a.0 a.1 a.2))
   by_part k q c s lt h has (inr b) =
-      let u : ℕ = b.0 in
-      let a = b.2 v in
+      let a = b.is v in
       let x : FrameCopy = a.1 in
-      let patch : u * width + x.patch ≡ t * width + k = ap (λ (y : Span). y.patch) a.4 ∙ has.of_patch in
-      let low : x.patch < width = subst (λ (y : FrameCopy). y.patch < width) a.3 (parted.copies u v b.1 a.0 x a.2).0 in
+      let patch : b.to * width + x.patch ≡ t * width + k = ap (λ (y : Span). y.patch) a.4 ∙ has.of_patch in
+      let low : x.patch < width = subst (λ (y : FrameCopy). y.patch < width) a.3 (parted.copies b.from b.to v b.from_there b.there a.0 x a.2).0 in
       let high : k < width = let small = run.small in omega (arith, lt, small) in
-      let same : u ≡ t = same_run width u t x.patch k low high patch in
-      from_copy k q c s has (subst (λ n. Any (λ (y : FrameCopy). span_of (n * width) y ≡ s) (get_or parts.within.items n v).items) same a)
+      let same : b.to ≡ t = same_run width b.to t x.patch k low high patch in
+      from_copy k q c s b.from b.from_there has (subst (λ n. Any (λ (y : FrameCopy). span_of (n * width) (b.from * width) y ≡ s) (get_or parts.copies.items (b.from * runs + n) v).items) same a)
 
   by_span : (k : ℕ) (q : Patch) (c : Cell) → k < length rs → IsTrue (is_beside (box (get_or rs k q)) c) → Any (HasCell (t * width + k) c) plan.spans.items → HasGhost value mark (get_or fs k q) c
   by_span k q c lt h a = by_part k q c a.1 lt h a.4 (subst (IsInParts width runs parts) a.3 (parted.whole a.0 a.1 a.2))
@@ -155,7 +239,7 @@ module _ (p : Problem) (l : ℕ) (old : Masses) (ps qs rs fs : List Patch) (plan
     at = λ c h.
         let now : box (get_or fs k q) ≡ box (get_or rs k q) = zip_box rs fs k q q filled.kept lt in
         let here : IsTrue (is_beside (box (get_or rs k q)) c) = subst (λ (b : Extent). IsTrue (is_beside b c)) now h in
-        let was : box (get_or rs k q) ≡ box (get_or ps (t * width + k) q) = run_box (domain p l) ps qs rs plan width runs t parts v planned parted kept below run k q lt in
+        let was : box (get_or rs k q) ≡ box (get_or ps (t * width + k) q) = run_box (domain p l) ps qs plan width runs parts planned parted kept t rs run k q lt in
         let there : t * width + k < length ps = let e = length_all_zip KeepsCells ps qs kept in let f = run.there k lt in omega (arith, e, f) in
         by_span k q c lt here ((planned.frames (t * width + k) there).at q c (subst (λ (b : Extent). IsTrue (is_beside b c)) was here));
   }

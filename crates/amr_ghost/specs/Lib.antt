@@ -3,3 +3,4 @@ pub mod Frames
 pub mod Filling
 pub mod Plans
 pub mod Parts
+pub mod Messages

@@ -14,7 +14,7 @@ ghost use Rattle.amr_ghost.specs.Filling.{AreCopied, AreGiven, HasGhost, HasGhos
 use crate::entries::{entries_of, nth};
 use crate::places::odd_along;
 use crate::sides::Strip;
-use amr_box::{Cell, parent};
+use amr_box::{Axis, Cell, parent};
 use amr_patch::Patch;
 
 /// The mass at a place.
@@ -52,6 +52,26 @@ pub(crate) fn set_strip(patches: &mut [Patch], i: usize, strip: Strip, value: u3
     for k in 0..strip.count {
         let at = nth(target, k);
         set_entry(&mut patches[i], at, value, false);
+    }
+}
+
+/// Gives the ghost cells of a strip beside patch `i` a mass each, and marks them as cells of the level.
+#[inline(always)]
+pub(crate) fn give_strip(patches: &mut [Patch], i: usize, strip: Strip, masses: &[u32])
+    requires there { i < length patches.old }
+    requires some { 0 < strip.count }
+    requires small { strip.count ≤ 8192 }
+    requires count { length masses.now ≡ strip.count }
+    requires ghost_cells { (q : Patch) (k : ℕ) → k < strip.count → IsTrue (in_frame (box (slice_index_or patches.old i q)) (step strip.axis strip.from k)) }
+    requires beside { (q : Patch) (k : ℕ) → k < strip.count → IsTrue (is_beside (box (slice_index_or patches.old i q)) (step strip.axis strip.from k)) }
+    ensures kept { AllZip KeepsCells patches.old patches.new }
+    ensures ghosts { (value : Cell → ℕ) (mark : Cell → Bool) → AreGiven value mark strip.axis strip.from strip.count (λ k. slice_index masses.now k) true → AllZip (KeepsGhosts value mark) patches.old patches.new }
+    ensures set { (value : Cell → ℕ) (mark : Cell → Bool) (q : Patch) → AreGiven value mark strip.axis strip.from strip.count (λ k. slice_index masses.now k) true → HasGhosts value mark (slice_index_or patches.new i q) strip.axis strip.from strip.count }
+{
+    let target = entries_of(&patches[i].bx(), strip.axis, strip.from);
+    for k in 0..strip.count {
+        let at = nth(target, k);
+        set_entry(&mut patches[i], at, masses[k as usize], true);
     }
 }
 
@@ -109,5 +129,23 @@ pub(crate) fn copy_strip(patches: &mut [Patch], i: usize, strip: Strip, j: usize
         let mass = entry(&patches[j], nth(source, k));
         let at = nth(target, k);
         set_entry(&mut patches[i], at, mass, true);
+    }
+}
+
+/// Writes the masses of as many cells of a patch along an axis, from a cell on.
+#[inline(always)]
+pub(crate) fn take_strip(patch: &Patch, axis: Axis, from: Cell, masses: &mut [u32])
+    requires small { length masses.old ≤ 8192 }
+    requires held { (k : ℕ) → k < length masses.old → IsTrue (holds (box patch.now) (step axis from k)) }
+    ensures count { length masses.new ≡ length masses.old }
+    ensures taken { (k : ℕ) → k < length masses.old → slice_index masses.new k ≡ mass_in patch.now (step axis from k) }
+{
+    let count = masses.len() as u32;
+    if count == 0 {
+        return;
+    }
+    let source = entries_of(&patch.bx(), axis, from);
+    for k in 0..count {
+        masses[k as usize] = entry(patch, nth(source, k));
     }
 }

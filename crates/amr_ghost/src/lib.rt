@@ -6,6 +6,7 @@ mod filling;
 mod gap_cells;
 mod ghosts;
 mod lookup;
+mod messages;
 mod outside;
 mod parts;
 mod places;
@@ -15,7 +16,8 @@ mod sides;
 mod sources;
 
 pub use filling::{fill, fill_in_order};
-pub use parts::{FrameCopy, FrameParts, fill_within, part_frames};
+pub use messages::{Message, fill_run, pack_messages};
+pub use parts::{FrameCopy, FrameParts, part_frames};
 pub use plan::{FramePlan, plan_frames};
 pub use planned::{fill_across, fill_planned};
 pub use sources::Span;

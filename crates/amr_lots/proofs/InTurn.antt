@@ -32,7 +32,7 @@ lists_in vs = map (λ (v : Vec FlowTo). v.items) vs
 pub flows_at : (vs : List (Vec FlowTo)) (qs : List Patch) (k : ℕ) (v : Vec FlowTo) (xs : List FlowTo) → length (lists_in vs) ≡ length qs → k < length qs → v ≡ get_or vs k v → xs ≡ v.items → get_or (lists_in vs) k [] ≡ xs
 flows_at vs qs k v xs count lt is e = get_or-map (λ (u : Vec FlowTo). u.items) vs k v [] (omega (arith, lt, count, length-map vs (λ (u : Vec FlowTo). u.items))) ∙ ap (λ (u : Vec FlowTo). u.items) (sym is) ∙ sym e
 
-zip_from : (R : Patch → Patch → Type 0) (qs rs : List Patch) → length qs ≡ length rs → ((k : ℕ) (d : Patch) → k < length qs → R (get_or qs k d) (get_or rs k d)) → AllZip R qs rs
+pub zip_from : {X : Type 0} (R : X → X → Type 0) (qs rs : List X) → length qs ≡ length rs → ((k : ℕ) (d : X) → k < length qs → R (get_or qs k d) (get_or rs k d)) → AllZip R qs rs
 zip_from R [] [] e h = tt
 zip_from R [] (r ∷ rs) e h = absurd (omega (arith, e))
 zip_from R (q ∷ qs) [] e h = absurd (omega (arith, e))

@@ -1,3 +1,6 @@
 pub mod LotTotals
 mod InTurn
+mod Trading
+mod Posting
+mod Advanced
 pub mod Runs

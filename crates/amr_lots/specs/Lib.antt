@@ -1,3 +1,4 @@
 pub mod Lots
 pub mod Serving
 pub mod Runs
+pub mod Delivery

@@ -1,5 +1,5 @@
 -- Runs of a list, and lots that are handed one each.
-use Rattle.std.specs.Prelude.{ℕ, ◌≡◌, ◌*◌, List, take, drop, slice_index}
+use Rattle.std.specs.Prelude.{ℕ, ◌≡◌, ◌*◌, List, length, take, drop, slice_index}
 use Rattle.std.specs.Global.{Box}
 use Rattle.amr_lots.specs.declared.lot.Lot.{Lot}
 
@@ -9,15 +9,37 @@ run size k xs = take size (drop (k * size) xs)
 
 -- all but its patches is as before
 pub record HasOthersOf (a b : Lot) : Type 0 where
+  pub phase : b.phase ≡ a.phase
   pub level : b.level ≡ a.level
   pub problem : b.problem ≡ a.problem
   pub copies : b.copies ≡ a.copies
+  pub outbox : b.outbox ≡ a.outbox
+  pub inbox : b.inbox ≡ a.inbox
   pub flows : b.flows ≡ a.flows
   pub room : b.room ≡ a.room
   pub totals : b.totals ≡ a.totals
 
 abbrev pub KeepOthers : Box Lot → Box Lot → Type 0
 KeepOthers a b = HasOthersOf a.value b.value
+
+-- a lot has a message for each of so many lots, and one from each
+abbrev pub HasBoxes : ℕ → Box Lot → Type 0
+HasBoxes count x = (length x.value.outbox.items ≡ count) × (length x.value.inbox.items ≡ count)
+
+-- all but its messages and its phase is as before, and it has as many messages
+pub record IsDelivered (a b : Lot) : Type 0 where
+  pub level : b.level ≡ a.level
+  pub problem : b.problem ≡ a.problem
+  pub patches : b.patches ≡ a.patches
+  pub copies : b.copies ≡ a.copies
+  pub flows : b.flows ≡ a.flows
+  pub room : b.room ≡ a.room
+  pub totals : b.totals ≡ a.totals
+  pub outbox : length b.outbox.items ≡ length a.outbox.items
+  pub inbox : length b.inbox.items ≡ length a.inbox.items
+
+abbrev pub KeepAllButMessages : Box Lot → Box Lot → Type 0
+KeepAllButMessages a b = IsDelivered a.value b.value
 
 -- what flows to a word in a lot
 abbrev pub word_of : ℕ → Box Lot → ℕ

@@ -4,30 +4,69 @@ use Rattle.std.specs.List.{All, AllZip}
 use Rattle.amr_def.specs.declared.problem.Problem.{Problem}
 use Rattle.amr_patch.specs.declared.patches.Patch.{Patch}
 use Rattle.amr_flux.specs.Rooms.{widest}
-use Rattle.amr_ghost.specs.Parts.{HasFilled, IsFrameCopy}
+use Rattle.amr_ghost.specs.Messages.{HasFilled, HasPacked, IsFrameCopy, IsMessageFrom, IsMessageTo}
 use Rattle.amr_layout.specs.declared.FlowTo.{FlowTo}
 use Rattle.amr_lots.specs.declared.lot.Lot.{Lot}
+use Rattle.amr_lots.specs.declared.lot.Phase.{Phase}
+use Rattle.amr_lots.specs.declared.lot.Phase.TheVariants.{Send, Step}
 use Rattle.amr_lots.specs.Lots.{AreReady, HasStepped, lot_total}
 
 -- the flows of a lot, a list for each patch
 abbrev pub flows_of_lot : Lot → List (List FlowTo)
 flows_of_lot lot = map (λ v. v.items) lot.flows.items
 
+-- its messages take masses of its patches
+abbrev pub MaySend : Lot → Type 0
+MaySend lot = All (IsMessageFrom lot.patches.items) lot.outbox.items
+
 -- a lot of this problem whose patches may make their step once their frames are filled
-pub record MayServe (p : Problem) (lot : Lot) : Type 0 where
+pub record MayAdvance (p : Problem) (lot : Lot) : Type 0 where
   pub problem : lot.problem.value ≡ p
   pub copies : All (IsFrameCopy lot.patches.items) lot.copies.items
-  pub ready : (fs : List Patch) → HasFilled lot.copies.items lot.patches.items fs → AreReady p lot.level (widest lot.room) (length lot.totals.items) fs (flows_of_lot lot)
+  pub messages : All (IsMessageTo lot.patches.items) lot.inbox.items
+  pub ready : (fs : List Patch) → HasFilled lot.copies.items lot.inbox.items lot.patches.items fs → AreReady p lot.level (widest lot.room) (length lot.totals.items) fs (flows_of_lot lot)
+
+abbrev pub MayServeIn : Phase → Problem → Lot → Type 0
+MayServeIn Send p lot = MaySend lot
+MayServeIn Step p lot = MayAdvance p lot
+
+-- a lot may be served in its phase
+abbrev pub MayServe : Problem → Lot → Type 0
+MayServe p lot = MayServeIn lot.phase p lot
+
+-- its messages were given masses of its patches, and all else stayed
+pub record HasSent (lot after : Lot) : Type 0 where
+  pub phase : after.phase ≡ lot.phase
+  pub level : after.level ≡ lot.level
+  pub problem : after.problem ≡ lot.problem
+  pub patches : after.patches ≡ lot.patches
+  pub copies : after.copies ≡ lot.copies
+  pub inbox : after.inbox ≡ lot.inbox
+  pub flows : after.flows ≡ lot.flows
+  pub room : after.room ≡ lot.room
+  pub totals : after.totals ≡ lot.totals
+  pub packed : AllZip (HasPacked lot.patches.items) lot.outbox.items after.outbox.items
 
 -- its frames were filled, and then its patches made their step. The totals are those of this step, and all else stayed.
-pub record IsServed (lot after : Lot) : Type 0 where
+pub record HasAdvanced (lot after : Lot) : Type 0 where
+  pub phase : after.phase ≡ lot.phase
   pub level : after.level ≡ lot.level
   pub problem : after.problem.value ≡ lot.problem.value
   pub copies : after.copies ≡ lot.copies
+  pub outbox : after.outbox ≡ lot.outbox
+  pub inbox : after.inbox ≡ lot.inbox
   pub flows : after.flows ≡ lot.flows
   pub room : widest after.room ≡ widest lot.room
   pub count : length after.totals.items ≡ length lot.totals.items
   pub filled : List Patch
-  pub fills : HasFilled lot.copies.items lot.patches.items filled
+  pub fills : HasFilled lot.copies.items lot.inbox.items lot.patches.items filled
   pub stepped : AllZip (HasStepped lot.problem.value lot.level) filled after.patches.items
   pub totals : (word : ℕ) → slice_index after.totals.items word ≡ lot_total lot.problem.value lot.level filled (flows_of_lot lot) word
+
+abbrev pub IsServedIn : Phase → Lot → Lot → Type 0
+IsServedIn Send lot after = HasSent lot after
+IsServedIn Step lot after = HasAdvanced lot after
+
+-- a lot was served in its phase
+abbrev pub IsServed : Lot → Lot → Type 0
+IsServed lot after = IsServedIn lot.phase lot after

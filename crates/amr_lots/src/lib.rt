@@ -1,14 +1,16 @@
 //! The step of a level shared out in lots, each a run of the level's patches that one worker makes the step of.
 #![tactic(auto)]
 
+mod delivery;
 mod handing;
 mod lot;
 mod serving;
 mod steps;
 mod summing;
 
+pub use delivery::exchange_messages;
 pub use handing::exchange_runs;
-pub use lot::Lot;
+pub use lot::{Lot, Phase};
 pub use serving::LotWork;
 pub use steps::step_patches;
 pub use summing::add_up;

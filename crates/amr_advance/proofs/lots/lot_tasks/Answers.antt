@@ -1,19 +1,27 @@
-use Rattle.std.proofs.Common.{◌≡◌, ◌∙◌, ◌*◌, ◌≤◌, length, refl, sym, subst, arith}
+use Rattle.std.proofs.Common.{◌≡◌, ◌*◌, ◌≤◌, length, get_or, refl, sym, subst, arith}
+use Rattle.std.specs.Option.{option_copied}
+use Rattle.amr_def.specs.Domain.{domain}
 use Rattle.amr_ghost.specs.Parts.{IsParted}
+use Rattle.amr_ghost.proofs.PartLaws.{plan_small}
+use Rattle.amr_layout.specs.Surroundings.{around}
+use Rattle.amr_advance.specs.Lots.{IsLotOf}
 use Rattle.amr_advance.proofs.lots.lot_tasks.Goals as goal
+
+pub part_frames-requires-clause-enough : goal.part_frames-requires-clause-enough
+part_frames-requires-clause-enough c = plan_small (domain c.args.s.problem.now c.args.s.level) c.args.s.patches.now c.args.frames.now c.max-each.result c.parts_in-runs.result c.requires.frames c.parts_in-runs.ensures.enough
 
 pub returns-clause-tasks : goal.returns-clause-tasks
 returns-clause-tasks c =
-    let parted = c.in_ok-across.ensures in
-    let count : length c.in_ok-lots.lots.items ≡ c.parts_in-2.result = c.in_ok-lots.ensures.count ∙ parted.count in
+    let s = around c.args.s.problem.now c.args.s.level c.args.s.patches.now c.args.s.cells.now (option_copied c.args.s.finer) in
+    let count : length c.in_ok-lots.lots.items ≡ c.parts_in-runs.result = c.in_ok-lots.ensures.count in
     record {
       some = omega (arith, c.max-each.ensures);
-      enough = subst (λ n. length c.args.s.patches.now ≤ n * c.max-each.result) (sym count) c.parts_in-2.ensures.enough;
+      enough = subst (λ n. length c.args.s.patches.now ≤ n * c.max-each.result) (sym count) c.parts_in-runs.ensures.enough;
       edges = c.in_ok-flows.ensures.edges;
       plan = c.args.frames.now;
       planned = c.requires.frames;
       parts = c.in_ok-across.field-0;
-      parted = subst (λ n. IsParted c.args.frames.now c.max-each.result n c.in_ok-across.field-0) (sym count) parted;
+      parted = subst (λ n. IsParted c.args.frames.now c.max-each.result n c.in_ok-across.field-0) (sym count) c.in_ok-across.ensures;
       across = refl;
-      lots = λ k x v lt. c.in_ok-lots.ensures.lots k x v (omega (arith, lt, c.in_ok-lots.ensures.count));
+      lots = λ k x lt. subst (λ n. IsLotOf s c.max-each.result k n c.in_ok-across.field-0 (get_or c.in_ok-lots.lots.items k x).value) (sym count) (c.in_ok-lots.ensures.lots k x c.in_ok-across.field-0 (omega (arith, lt, count)) refl);
     }

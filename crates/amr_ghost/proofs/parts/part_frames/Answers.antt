@@ -1,6 +1,6 @@
-use Rattle.std.proofs.Common.{◌≡◌, ◌+◌, ◌*◌, ◌<◌, length, sym, subst, arith}
+use Rattle.std.proofs.Common.{◌≡◌, ◌*◌, length, sym, subst, arith}
 use Rattle.amr_ghost.specs.declared.sources.Span.{Span}
-use Rattle.amr_ghost.specs.Parts.{ArePartedTo}
+use Rattle.amr_ghost.specs.Parts.{ArePartedTo, IsSpanBelow}
 use Rattle.amr_ghost.proofs.Parting.{none_parted}
 use Rattle.amr_ghost.proofs.parts.part_frames.Goals as goal
 
@@ -10,15 +10,10 @@ loop-k-init c = none_parted c.args.plan.now.spans.items c.args.width c.args.runs
 pub part_span-requires-clause-there : goal.part_span-requires-clause-there
 part_span-requires-clause-there c =
     let s = c.index.result.now in
-    let few : s.patch < c.args.runs * c.args.width = subst (λ (x : Span). x.patch < c.args.runs * c.args.width) (sym c.index.ensures) (c.requires.enough c.loop-k.k s (omega arith)) in
-    subst (λ n. s.patch < n * c.args.width) (sym c.loop-k.invariant.count) few
+    subst (λ (x : Span). IsSpanBelow (c.args.runs * c.args.width) x) (sym c.index.ensures) (c.requires.enough c.loop-k.k s (omega arith))
 
 pub loop-k-preserved : goal.loop-k-preserved
-loop-k-preserved c =
-    let ss = c.args.plan.now.spans.items in
-    let n : length c.loop-k.parts.within.items ≡ c.args.runs = c.loop-k.invariant.count in
-    subst (λ m. ArePartedTo ss (c.loop-k.k + 1) c.args.width m c.part_span.new.parts) n
-    (c.in_ok-part_span.ensures ss c.loop-k.k (omega arith) (sym c.index.ensures) (subst (λ m. ArePartedTo ss c.loop-k.k c.args.width m c.loop-k.parts) (sym n) c.loop-k.invariant))
+loop-k-preserved c = c.in_ok-part_span.ensures c.args.plan.now.spans.items c.loop-k.k (omega arith) (sym c.index.ensures) c.loop-k.invariant
 
 pub returns : goal.returns
 returns c =

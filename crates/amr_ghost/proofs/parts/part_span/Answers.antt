@@ -1,20 +1,36 @@
-use Rattle.std.proofs.Common.{◌≡◌, ◌/◌, ◌<◌, ◌++◌, ◌∷◌, [], length, get_or, ap, refl, ◌∙◌}
+use Rattle.std.proofs.Common.{◌≡◌, ◌+◌, ◌*◌, ◌/◌, ◌<◌, ◌++◌, ◌∷◌, [], length, get_or, ap, subst, refl, ◌∙◌, arith}
 use Rattle.std.specs.Global.{Vec}
 use Rattle.std.proofs.lemmas.List.{get_or_default}
-use Rattle.std.proofs.Math.Nat.{div-lt_iff_lt-mul}
+use Rattle.std.proofs.Math.Nat.{div-lt_iff_lt-mul, mod-lt}
+use Rattle.amr_patch.proofs.Rows.{place_within}
 use Rattle.amr_ghost.specs.declared.parts.FrameCopy.{FrameCopy}
-use Rattle.amr_ghost.proofs.Parting.{across_more, within_more}
+use Rattle.amr_ghost.specs.Parts.{IsSourceBelow}
+use Rattle.amr_ghost.proofs.Parting.{across_more, copies_more, copy_is_span, copy_of, is_elsewhere}
 use Rattle.amr_ghost.proofs.parts.part_span.Goals as goal
 
 pub returns-in_default : goal.returns-in_default
-returns-in_default c = λ ss k there is h. across_more ss k c.args.width (length c.args.parts.now.within.items) c.args.parts.now c.args.span there is h c.push.new.self c.in_ok-push.ensures.items c.in_default.ensures.across
+returns-in_default c = λ ss k there is h. across_more ss k c.args.width c.args.runs c.args.parts.now c.args.span there is h c.push.new.self c.in_ok-push.ensures.items (is_elsewhere c.args.span.source c.in_default.not-Beside)
+
+pub index_mut-requires : goal.index_mut-requires
+index_mut-requires c =
+    let n = c.args.runs * c.args.width in
+    let from : c.in-Beside.source / c.args.width < c.args.runs = (div-lt_iff_lt-mul c.requires.some).1 (subst (IsSourceBelow n) c.in-Beside.is c.requires.there.1) in
+    let to : c.args.span.patch / c.args.width < c.args.runs = (div-lt_iff_lt-mul c.requires.some).1 c.requires.there.0 in
+    let below : c.in-Beside.source / c.args.width * c.args.runs + c.args.span.patch / c.args.width < c.args.runs * c.args.runs = place_within _ _ c.args.runs c.args.runs from to in
+    omega (arith, below, c.requires.count)
 
 pub returns : goal.returns
 returns c = λ ss k there is h.
-    let lots = c.args.parts.now.within.items in
-    let run = c.args.span.patch / c.args.width in
+    let lists = c.args.parts.now.copies.items in
+    let runs = c.args.runs in
+    let width = c.args.width in
+    let from = c.in-Beside.source / width in
+    let to = c.args.span.patch / width in
     let new : Vec FrameCopy = c.push-2.new.self in
-    let below : run < length lots = (div-lt_iff_lt-mul c.requires.some).1 c.requires.there in
-    let had : c.index_mut.result.now ≡ get_or lots run new = c.index_mut.ensures.value ∙ get_or_default lots run c.index_mut.result.now new below in
-    let pushed : new.items ≡ (get_or lots run new).items ++ c.in-Some.copy ∷ [] = c.in_ok-push-2.ensures.items ∙ ap (λ (v : Vec FrameCopy). v.items ++ c.in-Some.copy ∷ []) had in
-    within_more ss k c.args.width (length lots) c.args.parts.now c.args.span there is h run new c.in-Some.copy below pushed c.in-Some.ensures.within refl _ refl
+    let copy : FrameCopy = copy_of width c.args.span c.in-Beside.source c.in-Beside.from in
+    let from_below : from < runs = (div-lt_iff_lt-mul c.requires.some).1 (subst (IsSourceBelow (runs * width)) c.in-Beside.is c.requires.there.1) in
+    let to_below : to < runs = (div-lt_iff_lt-mul c.requires.some).1 c.requires.there.0 in
+    let below : from * runs + to < length lists = (let lt : from * runs + to < runs * runs = place_within from to runs runs from_below to_below in omega (arith, lt, c.requires.count)) in
+    let had : c.index_mut.result.now ≡ get_or lists (from * runs + to) new = c.index_mut.ensures.value ∙ get_or_default lists (from * runs + to) c.index_mut.result.now new below in
+    let pushed : new.items ≡ (get_or lists (from * runs + to) new).items ++ copy ∷ [] = c.in_ok-push-2.ensures.items ∙ ap (λ (v : Vec FrameCopy). v.items ++ copy ∷ []) had in
+    copies_more ss k width runs c.args.parts.now c.args.span there is h from to new copy from_below to_below pushed (mod-lt c.args.span.patch c.requires.some) (mod-lt c.in-Beside.source c.requires.some) (copy_is_span width c.args.span c.in-Beside.source c.in-Beside.from c.in-Beside.is) _ refl
