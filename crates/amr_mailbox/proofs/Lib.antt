@@ -1,3 +1,4 @@
 pub mod Stages
 pub mod Steps
 pub mod Called
+pub mod Lists

@@ -1,4 +1,3 @@
-pub mod Lists
 pub mod Seats
 pub mod Loans
 pub mod Runs

@@ -4,7 +4,7 @@ use Rattle.std.proofs.lemmas.List.{get_or-reverse, length-append, length-reverse
 use Rattle.std.proofs.lemmas.List.Elements.{length_all_zip}
 use Rattle.std.specs.List.{All, AllZip}
 use mathlib.Core.List.{reverse-cons}
-use Rattle.amr_workers.proofs.Lists.{all_right}
+use Rattle.amr_mailbox.proofs.Lists.{all_right}
 
 -- what holds of a list holds of the run that was cut from it
 pub all_run : {X : Type 0} (Q : X → Type 0) (xs run : List X) → All Q (xs ++ reverse run) → All Q run

@@ -8,7 +8,7 @@ use Rattle.amr_workers.specs.declared.order.CompletionOrder.{CompletionOrder}
 use Rattle.amr_workers.specs.declared.order.Order.{Order}
 use Rattle.amr_workers.specs.declared.order.Order.TheVariants.{Complete}
 use Rattle.amr_workers.specs.Helpers.{IsAskedTo, IsWaiting}
-use Rattle.amr_workers.proofs.Lists.{all_init, all_last, all_left}
+use Rattle.amr_mailbox.proofs.Lists.{all_init, all_last, all_left}
 use Rattle.amr_workers.proofs.Runs.{all_run, back_length, zip_back}
 use Rattle.amr_workers.proofs.completing.+complete_with.Goals as goal
 

@@ -11,7 +11,7 @@ use Rattle.amr_workers.specs.declared.order.Order.TheVariants.{Draw}
 use Rattle.amr_workers.specs.Helpers.{AdmitsWorker, IsAskedTo, IsHelper}
 use Rattle.amr_workers.specs.Orders.{MayDraw, HasDrawn, IsReady, Admits}
 use Rattle.amr_workers.specs.Shares.{MayLend, whole}
-use Rattle.amr_workers.proofs.Lists.{all_init, all_last, longer}
+use Rattle.amr_mailbox.proofs.Lists.{all_init, all_last, longer}
 use Rattle.amr_workers.proofs.Seats.{both_drawn}
 use Rattle.amr_workers.proofs.Loans.{fewer}
 use Rattle.amr_workers.proofs.team.+run_with.Goals as goal

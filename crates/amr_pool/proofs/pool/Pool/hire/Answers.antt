@@ -4,7 +4,7 @@ use Rattle.std.specs.List.{All}
 use Rattle.amr_pool.specs.declared.helper.Helper.{Helper}
 use Rattle.amr_pool.specs.declared.helper.Recruit.{Recruit}
 use Rattle.amr_pool.specs.Helpers.{IsHelper, IsRecruit}
-use Rattle.amr_pool.proofs.Lists.{all_snoc}
+use Rattle.amr_mailbox.proofs.Lists.{all_snoc}
 use Rattle.amr_pool.proofs.pool.Pool.hire.Goals as goal
 
 pub loop-number-preserved : goal.loop-number-preserved

@@ -5,7 +5,7 @@ use Rattle.amr_workers.specs.declared.helper.Helper.{Helper}
 use Rattle.amr_workers.specs.declared.helper.Recruit.{Recruit}
 use Rattle.amr_workers.specs.declared.order.Order.{Order}
 use Rattle.amr_workers.specs.Helpers.{IsHelper, IsRecruit}
-use Rattle.amr_workers.proofs.Lists.{all_snoc}
+use Rattle.amr_mailbox.proofs.Lists.{all_snoc}
 use Rattle.amr_workers.proofs.team.Team.hire.Goals as goal
 
 pub loop-number-preserved : goal.loop-number-preserved

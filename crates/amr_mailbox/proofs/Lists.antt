@@ -1,4 +1,4 @@
--- Lists of two parts.
+-- Lists of two parts, as those who keep workers have them: the workers so far, and one more.
 use Rattle.std.proofs.Common.{◌≡◌, zero, suc, ◌+◌, List, [], ◌∷◌, ◌++◌, length, refl, arith}
 use Rattle.std.specs.List.{All}
 
