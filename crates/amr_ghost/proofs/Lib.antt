@@ -3,6 +3,8 @@ pub mod Zips
 pub mod Steps
 pub mod GhostStrips
 pub mod StripPlaces
+pub mod WrittenEntries
+pub mod SetGhosts
 pub mod Homes
 pub mod Parents
 pub mod Spans

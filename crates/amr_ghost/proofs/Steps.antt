@@ -30,7 +30,7 @@ pub frame_grown : (b : Extent) (c : Cell) → IsTrue (in_frame b c) → IsTrue (
 frame_grown b c h = first_of_both (holds (grown b) c) (holds b c) h
 
 -- a corner of the frame is no cell beside the box
-corner_apart : (b : Extent) (c d : Cell) → IsTrue (is_beside b c) → IsTrue (is_corner b d) → d ≢ c
+pub corner_apart : (b : Extent) (c d : Cell) → IsTrue (is_beside b c) → IsTrue (is_corner b d) → d ≢ c
 corner_apart b c d beside corner e = neither (in_frame b c) (within b.lo.x b.hi.x c.x || within b.lo.y b.hi.y c.y) beside (subst (λ (t : Cell). IsTrue (is_corner b t)) e corner)
   where
     neither : (f r : Bool) → IsTrue (f && r) → IsTrue (f && not r) → ⊥
@@ -38,7 +38,7 @@ corner_apart b c d beside corner e = neither (in_frame b c) (within b.lo.x b.hi.
     neither true false h k = cc
     neither false r h k = cc
 
-corner_grown : (b : Extent) (d : Cell) → IsTrue (is_corner b d) → IsTrue (holds (grown b) d)
+pub corner_grown : (b : Extent) (d : Cell) → IsTrue (is_corner b d) → IsTrue (holds (grown b) d)
 corner_grown b d h = frame_grown b d (first_of_both (in_frame b d) (within b.lo.x b.hi.x d.x || within b.lo.y b.hi.y d.y) h)
 
 pub ghost_keeps_cells : (q r : Patch) (c : Cell) (v : ℕ) (t : Bool) → IsTrue (in_frame (box q) c) → IsTrue (is_beside (box q) c) → IsGhostSet q r c v t → KeepsCells q r
@@ -67,7 +67,7 @@ cell_parts c d (yes e) (yes f) = inl (same_cells d c e f)
 cell_parts c d (yes e) (no f) = inr (λ g. f (ap (λ (t : Cell). t.y) g))
 cell_parts c d (no e) f = inr (λ g. e (ap (λ (t : Cell). t.x) g))
 
-same_or_other : (c d : Cell) → (d ≡ c) ⊎ (d ≢ c)
+pub same_or_other : (c d : Cell) → (d ≡ c) ⊎ (d ≢ c)
 same_or_other c d = cell_parts c d (ℤ_discrete d.x c.x) (ℤ_discrete d.y c.y)
 
 kept_cases : (value : Cell → ℕ) (mark : Cell → Bool) (q r : Patch) (c d : Cell) (v : ℕ) (t : Bool) → value c ≡ v → mark c ≡ t → IsGhostSet q r c v t → IsTrue (in_frame (box q) d) → HasGhost value mark q d → (d ≡ c) ⊎ (d ≢ c) → HasGhost value mark r d

@@ -5,6 +5,7 @@ use Rattle.std.proofs.lemmas.Int.{ints}
 use Rattle.std.proofs.Math.Nat.{mul-le-mul_right}
 use Rattle.std.specs.List.{AllZip}
 use Rattle.amr_box.specs.declared.Cell.{Cell}
+use Rattle.amr_box.specs.declared.Axis.{Axis}
 use Rattle.amr_box.specs.declared.Axis.TheVariants.{X, Y}
 use Rattle.amr_box.specs.Cells.{Extent, IsNear, at_least_zero, cell, height, holds, width}
 use Rattle.amr_box.proofs.Numbers.{at_least_zero-same}
@@ -13,7 +14,8 @@ use Rattle.amr_patch.specs.Places.{grown, place}
 use Rattle.amr_patch.specs.Patches.{box, value_in}
 use Rattle.amr_patch.proofs.Rows.{inside, place_within, sides, zero-cut}
 use Rattle.amr_patch.proofs.Entries.{along_row, below}
-use Rattle.amr_ghost.specs.Strips.{step}
+use Rattle.amr_ghost.specs.declared.entries.Entries.{Entries}
+use Rattle.amr_ghost.specs.Strips.{nth_place, step}
 use Rattle.amr_ghost.specs.Filling.{KeepsCells}
 use Rattle.amr_ghost.proofs.Zips.{zip_box}
 
@@ -70,3 +72,12 @@ entry_small q c at e h = subst (λ (n : ℕ). n < 2 ^ 63) (sym e) (place_small q
 
 pub entry_in_list : (q : Patch) (c : Cell) (at : ℕ) → at ≡ place (box q) c → IsTrue (holds (grown (box q)) c) → at < length q.data.value.values.items
 entry_in_list q c at e h = subst (λ (n : ℕ). n < length q.data.value.values.items) (sym e) (place_in_list q c h)
+
+-- ---- the entries of a strip in the lists of a patch
+
+module _ (q : Patch) (e : Entries) (axis : Axis) (c : Cell) (n : ℕ) (places : (k : ℕ) → nth_place e k ≡ place (box q) (step axis c k)) (cells : (k : ℕ) → k < n → IsTrue (holds (grown (box q)) (step axis c k))) where
+  pub within_values : (k : ℕ) → k < n → nth_place e k < length q.data.value.values.items
+  within_values k t = entry_in_list q (step axis c k) (nth_place e k) (places k) (cells k t)
+
+  pub within_marks : (k : ℕ) → k < n → nth_place e k < length q.data.value.marks.items
+  within_marks k t = subst (λ (m : ℕ). nth_place e k < m) (q.value_count ∙ sym q.mark_count) (within_values k t)

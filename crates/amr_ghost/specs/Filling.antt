@@ -1,17 +1,17 @@
 -- What stays and what is gained while frames are filled, a cell at a time.
-use Rattle.std.specs.Prelude.{◌≡◌, ℕ, ◌<◌, Bool, true, pos, ◌+ℤ◌, ◌-ℤ◌, ◌≤ℤ◌, ◌<ℤ◌, List, IfSome, IsTrue}
+use Rattle.std.specs.Prelude.{◌≡◌, ◌≢◌, ℕ, ◌<◌, Bool, true, pos, ◌+ℤ◌, ◌-ℤ◌, ◌≤ℤ◌, ◌<ℤ◌, List, IfSome, IsTrue}
 use Rattle.std.specs.declared.option.Option.{Option}
 use Rattle.std.specs.List.{AllZip}
 use Rattle.amr_box.specs.declared.Cell.{Cell}
 use Rattle.amr_box.specs.declared.Axis.{Axis}
 use Rattle.amr_box.specs.declared.Axis.TheVariants.{X, Y}
-use Rattle.amr_box.specs.Cells.{Extent, along, cell, height, width}
+use Rattle.amr_box.specs.Cells.{Extent, along, cell, height, holds, width}
 use Rattle.amr_def.specs.declared.problem.Problem.{Problem}
 use Rattle.amr_def.specs.Domain.{Domain, is_inside}
 use Rattle.amr_def.specs.State.{Masses}
 use Rattle.amr_def.specs.Value.{value_at}
 use Rattle.amr_patch.specs.declared.patches.Patch.{Patch}
-use Rattle.amr_patch.specs.Places.{in_frame}
+use Rattle.amr_patch.specs.Places.{grown, in_frame}
 use Rattle.amr_patch.specs.Patches.{ArePatchesApart, SameFluxes, SameOtherMarks, SameOtherValues, box, mark_in, mass_in, masses_in, value_in}
 use Rattle.amr_patch.specs.declared.lookup.Order.{Order}
 use Rattle.amr_patch.specs.Orders.{IsOrderOf}
@@ -40,6 +40,15 @@ pub record IsGhostSet (q r : Patch) (c : Cell) (v : ℕ) (of_level : Bool) : Typ
   pub marked : mark_in r c ≡ of_level
   pub others : SameOtherValues c q r
   pub marks : SameOtherMarks c q r
+  pub fluxes : SameFluxes q r
+  pub of_box : box r ≡ box q
+
+-- what a patch becomes where the first ghost cells of a strip are given values, and all of them a mark
+pub record AreGhostsSet (q r : Patch) (axis : Axis) (to : Cell) (count : ℕ) (given : ℕ → ℕ) (of_level : Bool) : Type 0 where
+  pub set : (k : ℕ) → k < count → value_in r (step axis to k) ≡ given k
+  pub marked : (k : ℕ) → k < count → mark_in r (step axis to k) ≡ of_level
+  pub others : (c : Cell) → IsTrue (holds (grown (box q)) c) → ((k : ℕ) → k < count → c ≢ step axis to k) → value_in r c ≡ value_in q c
+  pub marks : (c : Cell) → IsTrue (holds (grown (box q)) c) → ((k : ℕ) → k < count → c ≢ step axis to k) → mark_in r c ≡ mark_in q c
   pub fluxes : SameFluxes q r
   pub of_box : box r ≡ box q
 

@@ -1,9 +1,9 @@
-//! Where the entries of the cells of a strip stand in the lists of a patch.
+//! Where the entries of the cells of a strip stand in the lists of a patch, and how they are read and written there.
 
-ghost use Rattle.std.specs.Prelude.{◌≡◌, ℕ, ◌+◌, ◌*◌, ◌<◌, ◌^◌, pos, negsuc, ◌-ℤ◌, ◌≤ℤ◌, ◌<ℤ◌, IsTrue};
+ghost use Rattle.std.specs.Prelude.{◌≡◌, ◌≢◌, ℕ, ◌+◌, ◌*◌, ◌<◌, ◌^◌, pos, negsuc, ◌-ℤ◌, ◌≤ℤ◌, ◌<ℤ◌, length, slice_index, false, true, IsTrue};
 ghost use Rattle.amr_box.specs.Cells.{IsNear, holds};
 ghost use Rattle.amr_patch.specs.Places.{grown, place};
-ghost use Rattle.amr_ghost.specs.Strips.{step};
+ghost use Rattle.amr_ghost.specs.Strips.{AreWritten, nth_place, step};
 
 use amr_box::{Axis, Bx, Cell, distance};
 
@@ -18,7 +18,8 @@ pub(crate) struct Entries {
 pub(crate) fn entries_of(b: &Bx, axis: Axis, c: Cell) -> Entries
     requires near { IsNear b.now }
     requires inside { IsTrue (holds (grown b.now) c) }
-    ensures { (k : ℕ) → result.first + k * result.stride ≡ place b.now (step axis c k) }
+    ensures places { (k : ℕ) → result.first + k * result.stride ≡ place b.now (step axis c k) }
+    ensures apart { 0 < result.stride }
 {
     let lo = b.lo();
     let row_length = b.width() as usize + 2;
@@ -40,4 +41,57 @@ pub(crate) fn nth(strip: Entries, k: u32) -> usize
     ensures { result ≡ strip.first + k * strip.stride }
 {
     strip.first + k as usize * strip.stride
+}
+
+/// Reads the values at the first places of a strip.
+#[inline(always)]
+pub(crate) fn take_entries(values: &[u32], source: Entries, masses: &mut [u32])
+    requires some { 0 < length masses.old }
+    requires within { (k : ℕ) → k < length masses.old → nth_place source k < length values.now }
+    ensures count { length masses.new ≡ length masses.old }
+    ensures taken { (k : ℕ) → k < length masses.old → slice_index masses.new k ≡ slice_index values.now (nth_place source k) }
+{
+    let count = masses.len();
+    if source.stride == 1 {
+        masses.copy_from_slice(&values[source.first..source.first + count]);
+        return;
+    }
+    for k in 0..count {
+        masses[k] = values[source.first + k * source.stride];
+    }
+}
+
+/// Writes values at the first places of a strip.
+#[inline(always)]
+pub(crate) fn give_entries(values: &mut [u32], target: Entries, masses: &[u32])
+    requires some { 0 < length masses.now }
+    requires within { (k : ℕ) → k < length masses.now → nth_place target k < length values.old }
+    requires apart { 0 < target.stride }
+    ensures { AreWritten 0 target (length masses.now) (λ k. slice_index masses.now k) values.old values.new }
+{
+    let count = masses.len();
+    if target.stride == 1 {
+        values[target.first..target.first + count].copy_from_slice(masses);
+        return;
+    }
+    for k in 0..count {
+        values[target.first + k * target.stride] = masses[k];
+    }
+}
+
+/// Sets the marks at the first places of a strip.
+#[inline(always)]
+pub(crate) fn mark_entries(marks: &mut [bool], target: Entries, count: usize)
+    requires some { 0 < count }
+    requires within { (k : ℕ) → k < count → nth_place target k < length marks.old }
+    requires apart { 0 < target.stride }
+    ensures { AreWritten false target count (λ k. true) marks.old marks.new }
+{
+    if target.stride == 1 {
+        marks[target.first..target.first + count].fill(true);
+        return;
+    }
+    for k in 0..count {
+        marks[target.first + k * target.stride] = true;
+    }
 }

@@ -9,9 +9,9 @@ ghost use Rattle.amr_patch.specs.Places.{in_frame, place};
 ghost use Rattle.amr_patch.specs.Patches.{box, mass_in};
 ghost use Rattle.amr_ghost.specs.Strips.{HasRoom, step};
 ghost use Rattle.amr_ghost.specs.Frames.{is_beside};
-ghost use Rattle.amr_ghost.specs.Filling.{AreCopied, AreGiven, HasGhost, HasGhosts, IsGhostSet, KeepsCells, KeepsGhosts};
+ghost use Rattle.amr_ghost.specs.Filling.{AreCopied, AreGhostsSet, AreGiven, HasGhost, HasGhosts, IsGhostSet, KeepsCells, KeepsGhosts};
 
-use crate::entries::{entries_of, nth};
+use crate::entries::{entries_of, give_entries, mark_entries, nth, take_entries};
 use crate::places::odd_along;
 use crate::sides::Strip;
 use amr_box::{Axis, Cell, parent};
@@ -55,6 +55,20 @@ pub(crate) fn set_strip(patches: &mut [Patch], i: usize, strip: Strip, value: u3
     }
 }
 
+/// Gives the ghost cells of a strip a mass each, and marks them as cells of the level.
+#[inline(always)]
+fn give_ghosts(patch: &mut Patch, strip: Strip, masses: &[u32])
+    requires some { 0 < strip.count }
+    requires count { length masses.now ≡ strip.count }
+    requires ghost_cells { (k : ℕ) → k < strip.count → IsTrue (in_frame (box patch.old) (step strip.axis strip.from k)) }
+    ensures { AreGhostsSet patch.old patch.new strip.axis strip.from strip.count (λ k. slice_index masses.now k) true }
+{
+    let target = entries_of(&patch.bx(), strip.axis, strip.from);
+    let data = &mut *patch.data;
+    give_entries(&mut data.values, target, masses);
+    mark_entries(&mut data.marks, target, masses.len());
+}
+
 /// Gives the ghost cells of a strip beside patch `i` a mass each, and marks them as cells of the level.
 #[inline(always)]
 pub(crate) fn give_strip(patches: &mut [Patch], i: usize, strip: Strip, masses: &[u32])
@@ -68,11 +82,7 @@ pub(crate) fn give_strip(patches: &mut [Patch], i: usize, strip: Strip, masses: 
     ensures ghosts { (value : Cell → ℕ) (mark : Cell → Bool) → AreGiven value mark strip.axis strip.from strip.count (λ k. slice_index masses.now k) true → AllZip (KeepsGhosts value mark) patches.old patches.new }
     ensures set { (value : Cell → ℕ) (mark : Cell → Bool) (q : Patch) → AreGiven value mark strip.axis strip.from strip.count (λ k. slice_index masses.now k) true → HasGhosts value mark (slice_index_or patches.new i q) strip.axis strip.from strip.count }
 {
-    let target = entries_of(&patches[i].bx(), strip.axis, strip.from);
-    for k in 0..strip.count {
-        let at = nth(target, k);
-        set_entry(&mut patches[i], at, masses[k as usize], true);
-    }
+    give_ghosts(&mut patches[i], strip, masses);
 }
 
 /// Gives the ghost cells of a strip beside patch `i` quarters of masses of a coarser patch. None is marked as a cell of the level. The
@@ -140,12 +150,10 @@ pub(crate) fn take_strip(patch: &Patch, axis: Axis, from: Cell, masses: &mut [u3
     ensures count { length masses.new ≡ length masses.old }
     ensures taken { (k : ℕ) → k < length masses.old → slice_index masses.new k ≡ mass_in patch.now (step axis from k) }
 {
-    let count = masses.len() as u32;
-    if count == 0 {
+    if masses.is_empty() {
         return;
     }
     let source = entries_of(&patch.bx(), axis, from);
-    for k in 0..count {
-        masses[k as usize] = entry(patch, nth(source, k));
-    }
+    let data = &*patch.data;
+    take_entries(&data.values, source, masses);
 }

@@ -37,7 +37,7 @@ pub nth-requires : goal.nth-requires
 nth-requires c =
     let q = get_or c.args.patches.now c.args.j c.index-patches-j.result in
     let f = step c.args.strip.axis c.args.from c.loop-k.k in
-    entry_small q f _ (c.entries_of-source.ensures c.loop-k.k ∙ ap (λ (b : Extent). place b f) c.bx.ensures.value) (in_grown (box q) f (c.requires.masses c.index-patches-j.result c.loop-k.k (omega arith)))
+    entry_small q f _ (c.entries_of-source.ensures.places c.loop-k.k ∙ ap (λ (b : Extent). place b f) c.bx.ensures.value) (in_grown (box q) f (c.requires.masses c.index-patches-j.result c.loop-k.k (omega arith)))
 
 pub entry-mass-requires : goal.entry-mass-requires
 entry-mass-requires c =
@@ -47,14 +47,14 @@ entry-mass-requires c =
     let e = c.index-patches-j-in-loop-k.result in
     let f = step c.args.strip.axis c.args.from c.loop-k.k in
     entry_in_list (get_or qs c.args.j e) f c.nth.result
-    (still_place ps qs c.args.j d e c.bx.result f c.nth.result c.loop-k.invariant.kept c.requires.source c.bx.ensures.value (c.nth.ensures ∙ c.entries_of-source.ensures c.loop-k.k))
+    (still_place ps qs c.args.j d e c.bx.result f c.nth.result c.loop-k.invariant.kept c.requires.source c.bx.ensures.value (c.nth.ensures ∙ c.entries_of-source.ensures.places c.loop-k.k))
     (in_grown (box (get_or qs c.args.j e)) f (still_held ps qs c.args.j d e f f c.loop-k.invariant.kept c.requires.source refl (c.requires.masses d c.loop-k.k (omega arith))))
 
 pub nth-at-requires : goal.nth-at-requires
 nth-at-requires c =
     let q = get_or c.args.patches.now c.args.i c.index-patches-i.result in
     let t = step c.args.strip.axis c.args.strip.from c.loop-k.k in
-    entry_small q t _ (c.entries_of-target.ensures c.loop-k.k ∙ ap (λ (b : Extent). place b t) c.bx-2.ensures.value) (frame_grown (box q) t (c.requires.ghost_cells c.index-patches-i.result c.loop-k.k (omega arith)))
+    entry_small q t _ (c.entries_of-target.ensures.places c.loop-k.k ∙ ap (λ (b : Extent). place b t) c.bx-2.ensures.value) (frame_grown (box q) t (c.requires.ghost_cells c.index-patches-i.result c.loop-k.k (omega arith)))
 
 pub set_entry-requires : goal.set_entry-requires
 set_entry-requires c =
@@ -64,7 +64,7 @@ set_entry-requires c =
     let e = c.index-patches-i-in-loop-k.result in
     let t = step c.args.strip.axis c.args.strip.from c.loop-k.k in
     entry_in_list (get_or qs c.args.i e) t c.nth-at.result
-    (still_place ps qs c.args.i d e c.bx-2.result t c.nth-at.result c.loop-k.invariant.kept c.requires.there c.bx-2.ensures.value (c.nth-at.ensures ∙ c.entries_of-target.ensures c.loop-k.k))
+    (still_place ps qs c.args.i d e c.bx-2.result t c.nth-at.result c.loop-k.invariant.kept c.requires.there c.bx-2.ensures.value (c.nth-at.ensures ∙ c.entries_of-target.ensures.places c.loop-k.k))
     (frame_grown (box (get_or qs c.args.i e)) t (still_ghost ps qs c.args.i d e t t c.loop-k.invariant.kept c.requires.there refl (c.requires.ghost_cells d c.loop-k.k (omega arith))))
 
 pub loop-k-init : goal.loop-k-init
@@ -91,8 +91,8 @@ loop-k-preserved c =
     let lt : k < n = omega arith in
     let kept : AllZip KeepsCells ps qs = c.loop-k.invariant.kept in
     let ghost : IsTrue (in_frame (box (get_or qs i d)) t) = still_ghost ps qs i d d t t kept c.requires.there refl (c.requires.ghost_cells d k lt) in
-    let s : IsGhostSet (get_or qs i d) r t mass true = c.set_entry.ensures t ghost (still_place ps qs i c.index-patches-i.result d c.bx-2.result t c.nth-at.result kept c.requires.there c.bx-2.ensures.value (c.nth-at.ensures ∙ c.entries_of-target.ensures k)) in
-    let now : mass ≡ mass_in (get_or qs c.args.j e) f = entry_is (get_or qs c.args.j e) (box (get_or qs c.args.j e)) f c.nth.result mass refl (still_place ps qs c.args.j c.index-patches-j.result e c.bx.result f c.nth.result kept c.requires.source c.bx.ensures.value (c.nth.ensures ∙ c.entries_of-source.ensures k)) c.entry-mass.ensures in
+    let s : IsGhostSet (get_or qs i d) r t mass true = c.set_entry.ensures t ghost (still_place ps qs i c.index-patches-i.result d c.bx-2.result t c.nth-at.result kept c.requires.there c.bx-2.ensures.value (c.nth-at.ensures ∙ c.entries_of-target.ensures.places k)) in
+    let now : mass ≡ mass_in (get_or qs c.args.j e) f = entry_is (get_or qs c.args.j e) (box (get_or qs c.args.j e)) f c.nth.result mass refl (still_place ps qs c.args.j c.index-patches-j.result e c.bx.result f c.nth.result kept c.requires.source c.bx.ensures.value (c.nth.ensures ∙ c.entries_of-source.ensures.places k)) c.entry-mass.ensures in
     let was : (p : Patch) → mass_in (get_or ps c.args.j p) f ≡ mass = λ p. sym (still_mass ps qs c.args.j p e f f kept c.requires.source refl (c.requires.masses p k lt)) ∙ sym now in
     record {
       kept = next_kept ps qs i d r axis c.args.strip.from k n mass true kept c.requires.there lt c.requires.ghost_cells c.requires.beside s;

@@ -25,7 +25,7 @@ pub nth-at-requires : goal.nth-at-requires
 nth-at-requires c =
     let q = get_or c.args.patches.now c.args.i c.index-patches-i.result in
     let t = step c.args.strip.axis c.args.strip.from c.loop-k.k in
-    entry_small q t _ (c.entries_of-target.ensures c.loop-k.k ∙ ap (λ (b : Extent). place b t) c.bx-2.ensures.value) (frame_grown (box q) t (c.requires.ghost_cells c.index-patches-i.result c.loop-k.k (omega arith)))
+    entry_small q t _ (c.entries_of-target.ensures.places c.loop-k.k ∙ ap (λ (b : Extent). place b t) c.bx-2.ensures.value) (frame_grown (box q) t (c.requires.ghost_cells c.index-patches-i.result c.loop-k.k (omega arith)))
 
 pub set_entry-requires : goal.set_entry-requires
 set_entry-requires c =
@@ -35,7 +35,7 @@ set_entry-requires c =
     let e = c.index-patches-i-in-loop-k.result in
     let t = step c.args.strip.axis c.args.strip.from c.loop-k.k in
     entry_in_list (get_or qs c.args.i e) t c.nth-at.result
-    (still_place ps qs c.args.i d e c.bx-2.result t c.nth-at.result c.loop-k.invariant.kept c.requires.there c.bx-2.ensures.value (c.nth-at.ensures ∙ c.entries_of-target.ensures c.loop-k.k))
+    (still_place ps qs c.args.i d e c.bx-2.result t c.nth-at.result c.loop-k.invariant.kept c.requires.there c.bx-2.ensures.value (c.nth-at.ensures ∙ c.entries_of-target.ensures.places c.loop-k.k))
     (frame_grown (box (get_or qs c.args.i e)) t (still_ghost ps qs c.args.i d e t t c.loop-k.invariant.kept c.requires.there refl (c.requires.ghost_cells d c.loop-k.k (omega arith))))
 
 pub loop-k-init : goal.loop-k-init
@@ -60,8 +60,8 @@ loop-k-preserved c =
     let kept : AllZip KeepsCells ps qs = c.loop-k.invariant.kept in
     let ghost : IsTrue (in_frame (box (get_or qs i d)) t) = still_ghost ps qs i d d t t kept c.requires.there refl (c.requires.ghost_cells d k lt) in
     let v = c.entry-mass.result / 4 in
-    let s : IsGhostSet (get_or qs i d) r t v false = c.set_entry.ensures t ghost (still_place ps qs i c.index-patches-i.result d c.bx-2.result t c.nth-at.result kept c.requires.there c.bx-2.ensures.value (c.nth-at.ensures ∙ c.entries_of-target.ensures k)) in
-    let is : mass_in c.args.source.now (parent (step axis c.args.from k)) / 4 ≡ v = ap (λ (m : ℕ). m / 4) (sym (entry_is c.args.source.now (box c.args.source.now) (parent (step axis c.args.from k)) c.nth.result c.entry-mass.result refl (parent_place c.args.source.now c.bx.result axis c.args.from c.parent.result c.entries_of-parents.result.first c.entries_of-parents.result.stride c.odd_along-skipped.result k c.nth.result c.bx.ensures.value c.parent.ensures.value c.odd_along-skipped.ensures c.entries_of-parents.ensures c.nth.ensures) c.entry-mass.ensures)) in
+    let s : IsGhostSet (get_or qs i d) r t v false = c.set_entry.ensures t ghost (still_place ps qs i c.index-patches-i.result d c.bx-2.result t c.nth-at.result kept c.requires.there c.bx-2.ensures.value (c.nth-at.ensures ∙ c.entries_of-target.ensures.places k)) in
+    let is : mass_in c.args.source.now (parent (step axis c.args.from k)) / 4 ≡ v = ap (λ (m : ℕ). m / 4) (sym (entry_is c.args.source.now (box c.args.source.now) (parent (step axis c.args.from k)) c.nth.result c.entry-mass.result refl (parent_place c.args.source.now c.bx.result axis c.args.from c.parent.result c.entries_of-parents.result.first c.entries_of-parents.result.stride c.odd_along-skipped.result k c.nth.result c.bx.ensures.value c.parent.ensures.value c.odd_along-skipped.ensures c.entries_of-parents.ensures.places c.nth.ensures) c.entry-mass.ensures)) in
     record {
       kept = next_kept ps qs i d r axis c.args.strip.from k n v false kept c.requires.there lt c.requires.ghost_cells c.requires.beside s;
       ghosts = λ value mark given. next_ghosts ps qs i d r axis c.args.strip.from k n v false kept c.requires.there lt c.requires.ghost_cells c.requires.beside s value mark (given.values k lt ∙ is) (given.marks k lt) (c.loop-k.invariant.ghosts value mark given);
@@ -83,7 +83,7 @@ nth-requires c =
     let axis = c.args.strip.axis in
     let k = c.loop-k.k in
     let f = parent (step axis c.args.from k) in
-    entry_small q f _ (parent_place q c.bx.result axis c.args.from c.parent.result c.entries_of-parents.result.first c.entries_of-parents.result.stride c.odd_along-skipped.result k _ c.bx.ensures.value c.parent.ensures.value c.odd_along-skipped.ensures c.entries_of-parents.ensures refl) (in_grown (box q) f (c.requires.masses k (omega arith)))
+    entry_small q f _ (parent_place q c.bx.result axis c.args.from c.parent.result c.entries_of-parents.result.first c.entries_of-parents.result.stride c.odd_along-skipped.result k _ c.bx.ensures.value c.parent.ensures.value c.odd_along-skipped.ensures c.entries_of-parents.ensures.places refl) (in_grown (box q) f (c.requires.masses k (omega arith)))
 
 pub entry-mass-requires : goal.entry-mass-requires
 entry-mass-requires c =
@@ -91,4 +91,4 @@ entry-mass-requires c =
     let axis = c.args.strip.axis in
     let k = c.loop-k.k in
     let f = parent (step axis c.args.from k) in
-    entry_in_list q f c.nth.result (parent_place q c.bx.result axis c.args.from c.parent.result c.entries_of-parents.result.first c.entries_of-parents.result.stride c.odd_along-skipped.result k c.nth.result c.bx.ensures.value c.parent.ensures.value c.odd_along-skipped.ensures c.entries_of-parents.ensures c.nth.ensures) (in_grown (box q) f (c.requires.masses k (omega arith)))
+    entry_in_list q f c.nth.result (parent_place q c.bx.result axis c.args.from c.parent.result c.entries_of-parents.result.first c.entries_of-parents.result.stride c.odd_along-skipped.result k c.nth.result c.bx.ensures.value c.parent.ensures.value c.odd_along-skipped.ensures c.entries_of-parents.ensures.places c.nth.ensures) (in_grown (box q) f (c.requires.masses k (omega arith)))

@@ -23,7 +23,7 @@ pub nth-at-requires : goal.nth-at-requires
 nth-at-requires c =
     let q = get_or c.args.patches.now c.args.i c.index-patches-i.result in
     let t = step c.args.strip.axis c.args.strip.from c.loop-k.k in
-    entry_small q t _ (c.entries_of-target.ensures c.loop-k.k ∙ ap (λ (b : Extent). place b t) c.bx.ensures.value) (frame_grown (box q) t (c.requires.ghost_cells c.index-patches-i.result c.loop-k.k (omega arith)))
+    entry_small q t _ (c.entries_of-target.ensures.places c.loop-k.k ∙ ap (λ (b : Extent). place b t) c.bx.ensures.value) (frame_grown (box q) t (c.requires.ghost_cells c.index-patches-i.result c.loop-k.k (omega arith)))
 
 pub set_entry-requires : goal.set_entry-requires
 set_entry-requires c =
@@ -33,7 +33,7 @@ set_entry-requires c =
     let e = c.index-patches-i-in-loop-k.result in
     let t = step c.args.strip.axis c.args.strip.from c.loop-k.k in
     entry_in_list (get_or qs c.args.i e) t c.nth-at.result
-    (still_place ps qs c.args.i d e c.bx.result t c.nth-at.result c.loop-k.invariant.kept c.requires.there c.bx.ensures.value (c.nth-at.ensures ∙ c.entries_of-target.ensures c.loop-k.k))
+    (still_place ps qs c.args.i d e c.bx.result t c.nth-at.result c.loop-k.invariant.kept c.requires.there c.bx.ensures.value (c.nth-at.ensures ∙ c.entries_of-target.ensures.places c.loop-k.k))
     (frame_grown (box (get_or qs c.args.i e)) t (still_ghost ps qs c.args.i d e t t c.loop-k.invariant.kept c.requires.there refl (c.requires.ghost_cells d c.loop-k.k (omega arith))))
 
 pub loop-k-init : goal.loop-k-init
@@ -58,7 +58,7 @@ loop-k-preserved c =
     let kept : AllZip KeepsCells ps qs = c.loop-k.invariant.kept in
     let ghost : IsTrue (in_frame (box (get_or qs i d)) t) = still_ghost ps qs i d d t t kept c.requires.there refl (c.requires.ghost_cells d k lt) in
     let v = c.args.value in
-    let s : IsGhostSet (get_or qs i d) r t v false = c.set_entry.ensures t ghost (still_place ps qs i c.index-patches-i.result d c.bx.result t c.nth-at.result kept c.requires.there c.bx.ensures.value (c.nth-at.ensures ∙ c.entries_of-target.ensures k)) in
+    let s : IsGhostSet (get_or qs i d) r t v false = c.set_entry.ensures t ghost (still_place ps qs i c.index-patches-i.result d c.bx.result t c.nth-at.result kept c.requires.there c.bx.ensures.value (c.nth-at.ensures ∙ c.entries_of-target.ensures.places k)) in
     record {
       kept = next_kept ps qs i d r axis c.args.strip.from k n v false kept c.requires.there lt c.requires.ghost_cells c.requires.beside s;
       ghosts = λ value mark given. next_ghosts ps qs i d r axis c.args.strip.from k n v false kept c.requires.there lt c.requires.ghost_cells c.requires.beside s value mark (given.values k lt) (given.marks k lt) (c.loop-k.invariant.ghosts value mark given);

@@ -1,0 +1,85 @@
+-- Ghost cells of a strip that are given their values together: what a patch keeps, and what it gains.
+use Rattle.std.proofs.Common.{◌≡◌, ◌≢◌, ℕ, zero, suc, ◌<◌, ◌⊎◌, inl, inr, Bool, false, List, length, set, get_or, IsTrue, sym, ap, subst, ◌∙◌, arith, below_more}
+use Rattle.std.specs.Prelude.{slice_index, slice_index_or}
+use Rattle.std.specs.List.{AllZip}
+use Rattle.std.proofs.lemmas.List.{get_or-set_same}
+use Rattle.amr_box.specs.declared.Cell.{Cell}
+use Rattle.amr_box.specs.declared.Axis.{Axis}
+use Rattle.amr_box.specs.Cells.{Extent, holds}
+use Rattle.amr_patch.specs.declared.patches.Patch.{Patch}
+use Rattle.amr_patch.specs.Places.{grown, in_frame, place}
+use Rattle.amr_patch.specs.Patches.{SameFluxes, box, mark_in, value_in}
+use Rattle.amr_patch.proofs.Entries.{in_grown, in_the_frame, place-same}
+use Rattle.amr_ghost.specs.declared.entries.Entries.{Entries}
+use Rattle.amr_ghost.specs.Strips.{AreWritten, nth_place, step}
+use Rattle.amr_ghost.specs.Frames.{is_beside}
+use Rattle.amr_ghost.specs.Filling.{AreGhostsSet, AreGiven, HasGhost, HasGhosts, KeepsCells, KeepsGhosts}
+use Rattle.amr_ghost.proofs.Steps.{apart_cells, corner_apart, corner_grown, frame_grown, ghosts_refl, same_or_other}
+use Rattle.amr_ghost.proofs.Zips.{keeps_refl, zip_set}
+
+-- a cell is one of a strip or it isn't
+abbrev IsOneOf : Axis → Cell → ℕ → Cell → Type 0
+IsOneOf axis c n d = (k : ℕ) × (k < n) × (d ≡ step axis c k)
+
+abbrev IsNoneOf : Axis → Cell → ℕ → Cell → Type 0
+IsNoneOf axis c n d = (k : ℕ) → k < n → d ≢ step axis c k
+
+next_of : (axis : Axis) (c d : Cell) (n : ℕ) → IsOneOf axis c n d ⊎ IsNoneOf axis c n d → (d ≡ step axis c n) ⊎ (d ≢ step axis c n) → IsOneOf axis c (suc n) d ⊎ IsNoneOf axis c (suc n) d
+next_of axis c d n (inl one) u = inl (one.0, omega (arith, one.1), one.2)
+next_of axis c d n (inr none) (inl e) = inl (n, omega arith, e)
+next_of axis c d n (inr none) (inr other) = inr (λ k t. below_more (λ j. d ≢ step axis c j) n none other k (omega (arith, t)))
+
+one_or_none : (axis : Axis) (c d : Cell) (n : ℕ) → IsOneOf axis c n d ⊎ IsNoneOf axis c n d
+one_or_none axis c d zero = inr (λ k t. absurd (omega arith))
+one_or_none axis c d (suc n) = next_of axis c d n (one_or_none axis c d n) (same_or_other (step axis c n) d)
+
+-- ---- what a patch whose lists are written keeps
+
+module _ (q r : Patch) (e : Entries) (axis : Axis) (to : Cell) (n : ℕ) (given : ℕ → ℕ) (m : Bool) (same : box r ≡ box q) (places : (k : ℕ) → nth_place e k ≡ place (box q) (step axis to k)) (ghosts : (k : ℕ) → k < n → IsTrue (in_frame (box q) (step axis to k))) where
+  other_places : (d : Cell) → IsTrue (holds (grown (box q)) d) → IsNoneOf axis to n d → (k : ℕ) → k < n → place (box q) d ≢ nth_place e k
+  other_places d h none k t at = none k t (place-same (box q) d (step axis to k) q.near h (in_the_frame (box q) (step axis to k) (ghosts k t)) (at ∙ places k))
+
+  pub written_ghosts : AreWritten 0 e n given q.data.value.values.items r.data.value.values.items → AreWritten false e n (λ k. m) q.data.value.marks.items r.data.value.marks.items → SameFluxes q r → AreGhostsSet q r axis to n given m
+  unfolding value_in mark_in
+  written_ghosts values marks fluxes = record {
+    set = λ k t. ap (λ (b : Extent). slice_index r.data.value.values.items (place b (step axis to k))) same ∙ ap (λ (i : ℕ). slice_index r.data.value.values.items i) (sym (places k)) ∙ values.written k t;
+    marked = λ k t. ap (λ (b : Extent). slice_index_or r.data.value.marks.items (place b (step axis to k)) false) same ∙ ap (λ (i : ℕ). slice_index_or r.data.value.marks.items i false) (sym (places k)) ∙ marks.written k t;
+    others = λ d h none. ap (λ (b : Extent). slice_index r.data.value.values.items (place b d)) same ∙ values.others (place (box q) d) (other_places d h none);
+    marks = λ d h none. ap (λ (b : Extent). slice_index_or r.data.value.marks.items (place b d) false) same ∙ marks.others (place (box q) d) (other_places d h none);
+    fluxes = fluxes;
+    of_box = same;
+  }
+
+-- ---- one of a list of patches is given its ghost cells
+
+module _ (ps : List Patch) (i : ℕ) (d r : Patch) (axis : Axis) (to : Cell) (n : ℕ) (given : ℕ → ℕ) (m : Bool) (there : i < length ps) (ghosts : (q : Patch) (k : ℕ) → k < n → IsTrue (in_frame (box (get_or ps i q)) (step axis to k))) (beside : (q : Patch) (k : ℕ) → k < n → IsTrue (is_beside (box (get_or ps i q)) (step axis to k))) (s : AreGhostsSet (get_or ps i d) r axis to n given m) where
+  abbrev b : Extent
+  b = box (get_or ps i d)
+
+  keeps_cells : KeepsCells (get_or ps i d) r
+  keeps_cells = record {
+    of_box = s.of_box;
+    masses = λ c h. s.others c (in_grown b c h) (λ k t. apart_cells b (step axis to k) c (ghosts d k t) h);
+    fluxes = s.fluxes;
+    corners = record {
+      values = λ c h. s.others c (corner_grown b c h) (λ k t. corner_apart b (step axis to k) c (beside d k t) h);
+      marks = λ c h. s.marks c (corner_grown b c h) (λ k t. corner_apart b (step axis to k) c (beside d k t) h);
+    };
+  }
+
+  pub set_keeps_cells : AllZip KeepsCells ps (set ps i r)
+  set_keeps_cells = zip_set KeepsCells keeps_refl ps i d r keeps_cells
+
+  module _ (value : Cell → ℕ) (mark : Cell → Bool) (are : AreGiven value mark axis to n given m) where
+    gained : (k : ℕ) → k < n → HasGhost value mark r (step axis to k)
+    gained k t = record { valued = s.set k t ∙ sym (are.values k t); marked = s.marked k t ∙ sym (are.marks k t) }
+
+    stays : (c : Cell) → IsTrue (in_frame b c) → HasGhost value mark (get_or ps i d) c → IsOneOf axis to n c ⊎ IsNoneOf axis to n c → HasGhost value mark r c
+    stays c t h (inl one) = subst (λ (u : Cell). HasGhost value mark r u) (sym one.2) (gained one.0 one.1)
+    stays c t h (inr none) = record { valued = s.others c (frame_grown b c t) none ∙ h.valued; marked = s.marks c (frame_grown b c t) none ∙ h.marked }
+
+    pub set_keeps_ghosts : AllZip (KeepsGhosts value mark) ps (set ps i r)
+    set_keeps_ghosts = zip_set (KeepsGhosts value mark) (ghosts_refl value mark) ps i d r (record { at = λ c t h. stays c t h (one_or_none axis to c n) })
+
+    pub set_has_ghosts : (o : Patch) → HasGhosts value mark (get_or (set ps i r) i o) axis to n
+    set_has_ghosts o = subst (λ (u : Patch). HasGhosts value mark u axis to n) (sym (get_or-set_same ps i r o there)) (record { at = gained })
