@@ -1,19 +1,20 @@
 -- Ghost cells of a strip that are given their values together: what a patch keeps, and what it gains.
-use Rattle.std.proofs.Common.{◌≡◌, ◌≢◌, ℕ, zero, suc, ◌<◌, ◌⊎◌, inl, inr, Bool, false, List, length, set, get_or, IsTrue, sym, ap, subst, ◌∙◌, arith, below_more}
+use Rattle.std.proofs.Common.{◌≡◌, ◌≢◌, ℕ, zero, suc, ◌-◌, ◌<◌, ◌⊎◌, inl, inr, Bool, false, true, List, ◌++◌, length, set, get_or, IsTrue, sym, ap, subst, ◌∙◌, arith, below_more}
 use Rattle.std.specs.Prelude.{slice_index, slice_index_or}
 use Rattle.std.specs.List.{AllZip}
-use Rattle.std.proofs.lemmas.List.{get_or-set_same}
+use Rattle.std.proofs.lemmas.List.{get_or-append_right, get_or-set_same, get_or_append_left, set-append_left, set-append_right}
 use Rattle.amr_box.specs.declared.Cell.{Cell}
 use Rattle.amr_box.specs.declared.Axis.{Axis}
 use Rattle.amr_box.specs.Cells.{Extent, holds}
 use Rattle.amr_patch.specs.declared.patches.Patch.{Patch}
 use Rattle.amr_patch.specs.Places.{grown, in_frame, place}
-use Rattle.amr_patch.specs.Patches.{SameFluxes, box, mark_in, value_in}
+use Rattle.amr_patch.specs.Patches.{SameFluxes, box, mark_in, mass_in, value_in}
 use Rattle.amr_patch.proofs.Entries.{in_grown, in_the_frame, place-same}
+use Rattle.amr_patch.proofs.Lookups.{same_default}
 use Rattle.amr_ghost.specs.declared.entries.Entries.{Entries}
 use Rattle.amr_ghost.specs.Strips.{AreWritten, nth_place, step}
 use Rattle.amr_ghost.specs.Frames.{is_beside}
-use Rattle.amr_ghost.specs.Filling.{AreGhostsSet, AreGiven, HasGhost, HasGhosts, KeepsCells, KeepsGhosts}
+use Rattle.amr_ghost.specs.Filling.{AreCopied, AreGhostsSet, AreGiven, HasGhost, HasGhosts, KeepsCells, KeepsGhosts}
 use Rattle.amr_ghost.proofs.Steps.{apart_cells, corner_apart, corner_grown, frame_grown, ghosts_refl, same_or_other}
 use Rattle.amr_ghost.proofs.Zips.{keeps_refl, zip_set}
 
@@ -35,17 +36,21 @@ one_or_none axis c d (suc n) = next_of axis c d n (one_or_none axis c d n) (same
 
 -- ---- what a patch whose lists are written keeps
 
-module _ (q r : Patch) (e : Entries) (axis : Axis) (to : Cell) (n : ℕ) (given : ℕ → ℕ) (m : Bool) (same : box r ≡ box q) (places : (k : ℕ) → nth_place e k ≡ place (box q) (step axis to k)) (ghosts : (k : ℕ) → k < n → IsTrue (in_frame (box q) (step axis to k))) where
-  other_places : (d : Cell) → IsTrue (holds (grown (box q)) d) → IsNoneOf axis to n d → (k : ℕ) → k < n → place (box q) d ≢ nth_place e k
-  other_places d h none k t at = none k t (place-same (box q) d (step axis to k) q.near h (in_the_frame (box q) (step axis to k) (ghosts k t)) (at ∙ places k))
+module _ (q : Patch) (e : Entries) (axis : Axis) (to : Cell) (n : ℕ) (places : (k : ℕ) → nth_place e k ≡ place (box q) (step axis to k)) (ghosts : (k : ℕ) → k < n → IsTrue (in_frame (box q) (step axis to k))) where
+  other_places : (c : Cell) → IsTrue (holds (grown (box q)) c) → IsNoneOf axis to n c → (k : ℕ) → k < n → place (box q) c ≢ nth_place e k
+  other_places c h none k t at = none k t (place-same (box q) c (step axis to k) q.near h (in_the_frame (box q) (step axis to k) (ghosts k t)) (at ∙ places k))
 
-  pub written_ghosts : AreWritten 0 e n given q.data.value.values.items r.data.value.values.items → AreWritten false e n (λ k. m) q.data.value.marks.items r.data.value.marks.items → SameFluxes q r → AreGhostsSet q r axis to n given m
+  -- no cell of the box has a place of the strip
+  pub box_elsewhere : (c : Cell) (at : ℕ) → at ≡ place (box q) c → IsTrue (holds (box q) c) → (k : ℕ) → k < n → at ≢ nth_place e k
+  box_elsewhere c at is h k t same = other_places c (in_grown (box q) c h) (λ j u. apart_cells (box q) (step axis to j) c (ghosts j u) h) k t (sym is ∙ same)
+
+  pub written_ghosts : (r : Patch) (given : ℕ → ℕ) (m : Bool) → box r ≡ box q → AreWritten 0 e n given q.data.value.values.items r.data.value.values.items → AreWritten false e n (λ k. m) q.data.value.marks.items r.data.value.marks.items → SameFluxes q r → AreGhostsSet q r axis to n given m
   unfolding value_in mark_in
-  written_ghosts values marks fluxes = record {
+  written_ghosts r given m same values marks fluxes = record {
     set = λ k t. ap (λ (b : Extent). slice_index r.data.value.values.items (place b (step axis to k))) same ∙ ap (λ (i : ℕ). slice_index r.data.value.values.items i) (sym (places k)) ∙ values.written k t;
     marked = λ k t. ap (λ (b : Extent). slice_index_or r.data.value.marks.items (place b (step axis to k)) false) same ∙ ap (λ (i : ℕ). slice_index_or r.data.value.marks.items i false) (sym (places k)) ∙ marks.written k t;
-    others = λ d h none. ap (λ (b : Extent). slice_index r.data.value.values.items (place b d)) same ∙ values.others (place (box q) d) (other_places d h none);
-    marks = λ d h none. ap (λ (b : Extent). slice_index_or r.data.value.marks.items (place b d) false) same ∙ marks.others (place (box q) d) (other_places d h none);
+    others = λ c h none. ap (λ (b : Extent). slice_index r.data.value.values.items (place b c)) same ∙ values.others (place (box q) c) (other_places c h none);
+    marks = λ c h none. ap (λ (b : Extent). slice_index_or r.data.value.marks.items (place b c) false) same ∙ marks.others (place (box q) c) (other_places c h none);
     fluxes = fluxes;
     of_box = same;
   }
@@ -83,3 +88,42 @@ module _ (ps : List Patch) (i : ℕ) (d r : Patch) (axis : Axis) (to : Cell) (n 
 
     pub set_has_ghosts : (o : Patch) → HasGhosts value mark (get_or (set ps i r) i o) axis to n
     set_has_ghosts o = subst (λ (u : Patch). HasGhosts value mark u axis to n) (sym (get_or-set_same ps i r o there)) (record { at = gained })
+
+-- ---- one of a list of patches is given masses of another, or of its own
+
+abbrev pub HasCopied : List Patch → List Patch → ℕ → ℕ → Axis → Cell → Cell → ℕ → Type 0
+HasCopied ps qs i j axis to from n = record {
+  kept : AllZip KeepsCells ps qs;
+  ghosts : (value : Cell → ℕ) (mark : Cell → Bool) (d : Patch) → AreCopied value mark (get_or ps j d) axis to from n → AllZip (KeepsGhosts value mark) ps qs;
+  set : (value : Cell → ℕ) (mark : Cell → Bool) (q d : Patch) → AreCopied value mark (get_or ps j d) axis to from n → HasGhosts value mark (get_or qs i q) axis to n;
+}
+
+pub copied : (ps qs : List Patch) (i j : ℕ) (d e q t r : Patch) (axis : Axis) (to from : Cell) (n : ℕ) → i < length ps → j < length ps → ((p : Patch) (k : ℕ) → k < n → IsTrue (in_frame (box (get_or ps i p)) (step axis to k))) → ((p : Patch) (k : ℕ) → k < n → IsTrue (is_beside (box (get_or ps i p)) (step axis to k))) → q ≡ get_or ps i d → t ≡ get_or ps j e → qs ≡ set ps i r → AreGhostsSet q r axis to n (λ k. mass_in t (step axis from k)) true → HasCopied ps qs i j axis to from n
+copied ps qs i j d e q t r axis to from n there source ghosts beside at_i at_j now s =
+    let given : ℕ → ℕ = λ k. mass_in (get_or ps j e) (step axis from k) in
+    let here : AreGhostsSet (get_or ps i d) r axis to n given true = rw (sym at_i, sym at_j) s in
+    let told : (value : Cell → ℕ) (mark : Cell → Bool) (p : Patch) → AreCopied value mark (get_or ps j p) axis to from n → AreGiven value mark axis to n given true = λ value mark p are. subst (λ (u : Patch). AreCopied value mark u axis to from n) (same_default ps j p e source) are in
+    rw now (record {
+      kept = set_keeps_cells ps i d r axis to n given true there ghosts beside here;
+      ghosts = λ value mark p are. set_keeps_ghosts ps i d r axis to n given true there ghosts beside here value mark (told value mark p are);
+      set = λ value mark o p are. set_has_ghosts ps i d r axis to n given true there ghosts beside here value mark (told value mark p are) o;
+    })
+
+-- ---- a list in two parts, one of which is written
+
+module _ (ps front back : List Patch) (m : ℕ) (parts : ps ≡ front ++ back) (count : length front ≡ m) where
+  pub in_front : (i : ℕ) (d : Patch) → i < m → get_or front i d ≡ get_or ps i d
+  in_front i d lt = sym (ap (λ (xs : List Patch). get_or xs i d) parts ∙ get_or_append_left front back d i (omega (arith, lt, count)))
+
+  pub in_back : (d : Patch) → get_or back 0 d ≡ get_or ps m d
+  in_back d =
+      let first : m - m ≡ 0 = omega arith in
+      sym (ap (λ (xs : List Patch). get_or xs m d) parts ∙ get_or-append_right front back m m d count (omega arith) ∙ ap (λ (k : ℕ). get_or back k d) first)
+
+  pub front_set : (i : ℕ) (r : Patch) → i < m → set front i r ++ back ≡ set ps i r
+  front_set i r lt = sym (ap (λ (xs : List Patch). set xs i r) parts ∙ set-append_left front back i r (omega (arith, lt, count)))
+
+  pub back_set : (r : Patch) → front ++ set back 0 r ≡ set ps m r
+  back_set r =
+      let first : m - m ≡ 0 = omega arith in
+      sym (ap (λ (xs : List Patch). set xs m r) parts ∙ set-append_right front back m m r count (omega arith) ∙ ap (λ (k : ℕ). front ++ set back k r) first)

@@ -18,10 +18,13 @@ use Rattle.amr_def.proofs.Values.{value_here}
 use Rattle.amr_patch.specs.declared.patches.Patch.{Patch}
 use Rattle.amr_patch.specs.Patches.{ArePatchesApart, box, mass_in, masses_in}
 use Rattle.amr_patch.specs.Orders.{IsHolder}
+use Rattle.amr_patch.specs.Places.{grown, in_frame}
+use Rattle.amr_patch.proofs.Entries.{in_grown}
 use Rattle.amr_patch.proofs.Lookups.{masses_in-at, same_default}
 use Rattle.amr_ghost.specs.Strips.{HasRoom, step}
 use Rattle.amr_ghost.specs.Frames.{is_of_level}
 use Rattle.amr_ghost.specs.Filling.{AreCopied, HasGhost, HasGhosts, IsGhostStrip, size_along}
+use Rattle.amr_ghost.proofs.Steps.{frame_grown}
 use Rattle.amr_ghost.proofs.Homes.{bounds, held_ahead, home_step, step_step}
 
 pub room_inside : (b : Extent) (c : Cell) → IsNear b → IsTrue (holds b c) → HasRoom c
@@ -43,6 +46,13 @@ step_none Y c = λ i. record { x = c.x; y = none c.y i }
 
 pub first_ghost : (P : Cell → Type 0) (axis : Axis) (c : Cell) → P (step axis c 0) → P c
 first_ghost P axis c h = subst P (step_none axis c) h
+
+-- so a strip of ghost cells, or of cells of a box, begins in the grown box
+pub begins_in_frame : (b t : Extent) (axis : Axis) (c : Cell) → t ≡ b → IsTrue (in_frame b (step axis c 0)) → IsTrue (holds (grown t) c)
+begins_in_frame b t axis c same first = first_ghost (λ (s : Cell). IsTrue (holds (grown t) s)) axis c (rw same (frame_grown b (step axis c 0) first))
+
+pub begins_in_box : (b t : Extent) (axis : Axis) (c : Cell) → t ≡ b → IsTrue (holds b (step axis c 0)) → IsTrue (holds (grown t) c)
+begins_in_box b t axis c same first = first_ghost (λ (s : Cell). IsTrue (holds (grown t) s)) axis c (rw same (in_grown b (step axis c 0) first))
 
 -- ---- the cells that a patch has from one on
 

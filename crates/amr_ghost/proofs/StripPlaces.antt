@@ -1,5 +1,5 @@
 -- Where the cells of a strip stand in the lists of a patch.
-use Rattle.std.proofs.Common.{◌≡◌, ℕ, ◌+◌, ◌*◌, ◌^◌, ◌<◌, ◌≤◌, List, length, get_or, pos, ◌+ℤ◌, ◌-ℤ◌, IsTrue, sym, ap, subst, ◌∙◌, arith}
+use Rattle.std.proofs.Common.{◌≡◌, ℕ, ◌+◌, ◌*◌, ◌^◌, ◌<◌, ◌≤◌, Bool, List, length, get_or, pos, ◌+ℤ◌, ◌-ℤ◌, IsTrue, refl, sym, ap, subst, ◌∙◌, arith}
 use Rattle.std.specs.Prelude.{slice_index}
 use Rattle.std.proofs.lemmas.Int.{ints}
 use Rattle.std.proofs.Math.Nat.{mul-le-mul_right}
@@ -75,9 +75,12 @@ entry_in_list q c at e h = subst (λ (n : ℕ). n < length q.data.value.values.i
 
 -- ---- the entries of a strip in the lists of a patch
 
-module _ (q : Patch) (e : Entries) (axis : Axis) (c : Cell) (n : ℕ) (places : (k : ℕ) → nth_place e k ≡ place (box q) (step axis c k)) (cells : (k : ℕ) → k < n → IsTrue (holds (grown (box q)) (step axis c k))) where
-  pub within_values : (k : ℕ) → k < n → nth_place e k < length q.data.value.values.items
-  within_values k t = entry_in_list q (step axis c k) (nth_place e k) (places k) (cells k t)
+pub nth_is : (b t : Extent) (e : Entries) (axis : Axis) (c : Cell) → t ≡ b → ((k : ℕ) → nth_place e k ≡ place t (step axis c k)) → (k : ℕ) → nth_place e k ≡ place b (step axis c k)
+nth_is b t e axis c same places k = places k ∙ ap (λ (u : Extent). place u (step axis c k)) same
 
-  pub within_marks : (k : ℕ) → k < n → nth_place e k < length q.data.value.marks.items
-  within_marks k t = subst (λ (m : ℕ). nth_place e k < m) (q.value_count ∙ sym q.mark_count) (within_values k t)
+module _ (q : Patch) (e : Entries) (axis : Axis) (c : Cell) (n : ℕ) (places : (k : ℕ) → nth_place e k ≡ place (box q) (step axis c k)) (cells : (k : ℕ) → k < n → IsTrue (holds (grown (box q)) (step axis c k))) where
+  pub within_values : (xs : List ℕ) → xs ≡ q.data.value.values.items → (k : ℕ) → k < n → nth_place e k < length xs
+  within_values xs are k t = subst (λ (ys : List ℕ). nth_place e k < length ys) (sym are) (entry_in_list q (step axis c k) (nth_place e k) (places k) (cells k t))
+
+  pub within_marks : (xs : List Bool) → xs ≡ q.data.value.marks.items → (k : ℕ) → k < n → nth_place e k < length xs
+  within_marks xs are k t = subst (λ (m : ℕ). nth_place e k < m) (q.value_count ∙ sym q.mark_count ∙ ap length (sym are)) (within_values q.data.value.values.items refl k t)

@@ -30,8 +30,8 @@ one_more_written z e given k v xs ys apart there is w = record {
 }
 
 -- the same, told otherwise
-pub same_written : {A : Type 0} (z : A) (e : Entries) (given : ℕ → A) (n m : ℕ) (xs ws ys zs : List A) → n ≡ m → xs ≡ ws → zs ≡ ys → AreWritten z e n given xs ys → AreWritten z e m given ws zs
-same_written {A = A} z e given n m xs ws ys zs counts before after w = rw (sym counts, sym before, after) w
+pub same_written : {A : Type 0} (z : A) (e : Entries) (given wanted : ℕ → A) (n m : ℕ) (xs ws ys zs : List A) → n ≡ m → ((k : ℕ) → k < n → given k ≡ wanted k) → xs ≡ ws → zs ≡ ys → AreWritten z e n given xs ys → AreWritten z e m wanted ws zs
+same_written z e given wanted n m xs ws ys zs counts values before after w = rw (sym counts, sym before, after) (record { same_length = w.same_length; written = λ k t. w.written k t ∙ values k t; others = w.others })
 
 -- ---- entries that stand side by side
 

@@ -79,6 +79,43 @@ pub(crate) fn give_entries(values: &mut [u32], target: Entries, masses: &[u32])
     }
 }
 
+/// Copies the values at the first places of a strip to those of another strip, in another list.
+#[inline(always)]
+pub(crate) fn copy_entries(
+    from: &[u32],
+    source: Entries,
+    values: &mut [u32],
+    target: Entries,
+    count: usize,
+)
+    requires some { 0 < count }
+    requires from_within { (k : ℕ) → k < count → nth_place source k < length from.now }
+    requires within { (k : ℕ) → k < count → nth_place target k < length values.old }
+    requires apart { 0 < target.stride }
+    ensures { AreWritten 0 target count (λ k. slice_index from.now (nth_place source k)) values.old values.new }
+{
+    if source.stride == 1 {
+        give_entries(values, target, &from[source.first..source.first + count]);
+        return;
+    }
+    for k in 0..count {
+        values[target.first + k * target.stride] = from[source.first + k * source.stride];
+    }
+}
+
+/// Copies the values at the first places of a strip to those of another strip, in the same list. No place is of both strips.
+pub(crate) fn copy_within_list(values: &mut [u32], source: Entries, target: Entries, count: usize)
+    requires from_within { (k : ℕ) → k < count → nth_place source k < length values.old }
+    requires within { (k : ℕ) → k < count → nth_place target k < length values.old }
+    requires apart { 0 < target.stride }
+    requires elsewhere { (j k : ℕ) → j < count → k < count → nth_place source j ≢ nth_place target k }
+    ensures { AreWritten 0 target count (λ k. slice_index values.old (nth_place source k)) values.old values.new }
+{
+    for k in 0..count {
+        values[target.first + k * target.stride] = values[source.first + k * source.stride];
+    }
+}
+
 /// Sets the marks at the first places of a strip.
 #[inline(always)]
 pub(crate) fn mark_entries(marks: &mut [bool], target: Entries, count: usize)

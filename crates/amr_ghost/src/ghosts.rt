@@ -11,7 +11,9 @@ ghost use Rattle.amr_ghost.specs.Strips.{HasRoom, step};
 ghost use Rattle.amr_ghost.specs.Frames.{is_beside};
 ghost use Rattle.amr_ghost.specs.Filling.{AreCopied, AreGhostsSet, AreGiven, HasGhost, HasGhosts, IsGhostSet, KeepsCells, KeepsGhosts};
 
-use crate::entries::{entries_of, give_entries, mark_entries, nth, take_entries};
+use crate::entries::{
+    copy_entries, copy_within_list, entries_of, give_entries, mark_entries, nth, take_entries,
+};
 use crate::places::odd_along;
 use crate::sides::Strip;
 use amr_box::{Axis, Cell, parent};
@@ -114,6 +116,41 @@ pub(crate) fn quarter_strip(
     }
 }
 
+/// Gives the ghost cells of a strip masses of another patch, and marks them as cells of the level. The masses are those of as
+/// many cells along the same axis, from a cell on.
+#[inline(always)]
+fn copy_ghosts(patch: &mut Patch, strip: Strip, source: &Patch, from: Cell)
+    requires some { 0 < strip.count }
+    requires ghost_cells { (k : ℕ) → k < strip.count → IsTrue (in_frame (box patch.old) (step strip.axis strip.from k)) }
+    requires masses { (k : ℕ) → k < strip.count → IsTrue (holds (box source.now) (step strip.axis from k)) }
+    ensures { AreGhostsSet patch.old patch.new strip.axis strip.from strip.count (λ k. mass_in source.now (step strip.axis from k)) true }
+{
+    let count = strip.count as usize;
+    let taken = entries_of(&source.bx(), strip.axis, from);
+    let target = entries_of(&patch.bx(), strip.axis, strip.from);
+    let held = &*source.data;
+    let data = &mut *patch.data;
+    copy_entries(&held.values, taken, &mut data.values, target, count);
+    mark_entries(&mut data.marks, target, count);
+}
+
+/// Gives the ghost cells of a strip masses of their own patch, which lies beside itself where an axis is periodic, and marks
+/// them as cells of the level. The masses are those of as many cells along the same axis, from a cell on.
+fn copy_own_ghosts(patch: &mut Patch, strip: Strip, from: Cell)
+    requires some { 0 < strip.count }
+    requires ghost_cells { (k : ℕ) → k < strip.count → IsTrue (in_frame (box patch.old) (step strip.axis strip.from k)) }
+    requires masses { (k : ℕ) → k < strip.count → IsTrue (holds (box patch.old) (step strip.axis from k)) }
+    ensures { AreGhostsSet patch.old patch.new strip.axis strip.from strip.count (λ k. mass_in patch.old (step strip.axis from k)) true }
+{
+    let count = strip.count as usize;
+    let bx = patch.bx();
+    let taken = entries_of(&bx, strip.axis, from);
+    let target = entries_of(&bx, strip.axis, strip.from);
+    let data = &mut *patch.data;
+    copy_within_list(&mut data.values, taken, target, count);
+    mark_entries(&mut data.marks, target, count);
+}
+
 /// Gives the ghost cells of a strip beside patch `i` masses of patch `j`, and marks them as cells of the level. The masses are
 /// those of as many cells along the same axis, from a cell on. `j` may be `i`.
 #[inline(always)]
@@ -133,12 +170,16 @@ pub(crate) fn copy_strip(patches: &mut [Patch], i: usize, strip: Strip, j: usize
     if strip.count == 0 {
         return;
     }
-    let source = entries_of(&patches[j].bx(), strip.axis, from);
-    let target = entries_of(&patches[i].bx(), strip.axis, strip.from);
-    for k in 0..strip.count {
-        let mass = entry(&patches[j], nth(source, k));
-        let at = nth(target, k);
-        set_entry(&mut patches[i], at, mass, true);
+    if i == j {
+        copy_own_ghosts(&mut patches[i], strip, from);
+        return;
+    }
+    if i < j {
+        let (front, back) = patches.split_at_mut(j);
+        copy_ghosts(&mut front[i], strip, &back[0], from);
+    } else {
+        let (front, back) = patches.split_at_mut(i);
+        copy_ghosts(&mut back[0], strip, &front[j], from);
     }
 }
 

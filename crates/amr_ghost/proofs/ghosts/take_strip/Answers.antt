@@ -1,33 +1,26 @@
-use Rattle.std.proofs.Common.{◌≡◌, ℕ, ◌<◌, List, length, IsTrue, sym, ap, subst, ◌∙◌, arith, rules}
+use Rattle.std.proofs.Common.{◌≡◌, ℕ, ◌<◌, List, length, sym, ap, ◌∙◌, arith, rules}
 use Rattle.std.specs.Prelude.{slice_index}
-use Rattle.amr_box.specs.declared.Cell.{Cell}
-use Rattle.amr_box.specs.Cells.{Extent, holds}
 use Rattle.amr_patch.specs.declared.patches.PatchData.{PatchData}
-use Rattle.amr_patch.specs.Places.{grown, place}
 use Rattle.amr_patch.specs.Patches.{box}
 use Rattle.amr_patch.proofs.Entries.{in_grown}
 use Rattle.amr_ghost.specs.Strips.{nth_place, step}
-use Rattle.amr_ghost.proofs.StripPlaces.{entry_is, within_values}
-use Rattle.amr_ghost.proofs.Spans.{first_ghost}
+use Rattle.amr_ghost.proofs.StripPlaces.{entry_is, nth_is, within_values}
+use Rattle.amr_ghost.proofs.Spans.{begins_in_box}
 use Rattle.amr_ghost.proofs.ghosts.take_strip.Goals as goal
 
 pub entries_of-source-requires-clause-inside : goal.entries_of-source-requires-clause-inside
 entries_of-source-requires-clause-inside c =
-    let b = box c.args.patch.now in
     let some : 0 < length c.args.masses.now = search (arith, rules) in
-    let held : IsTrue (holds b c.args.from) = first_ghost (λ (s : Cell). IsTrue (holds b s)) c.args.axis c.args.from (c.requires.held 0 some) in
-    subst (λ (t : Extent). IsTrue (holds (grown t) c.args.from)) (sym c.bx.ensures.value) (in_grown b c.args.from held)
+    begins_in_box (box c.args.patch.now) c.bx.result c.args.axis c.args.from c.bx.ensures.value (c.requires.held 0 some)
 
 pub take_entries-requires-clause-within : goal.take_entries-requires-clause-within
-take_entries-requires-clause-within c k t =
+take_entries-requires-clause-within c =
     let q = c.args.patch.now in
     let e = c.entries_of-source.result in
-    let values : c.deref.result.now ≡ q.data.value.values.items = c.deref.ensures.value ∙ ap (λ (d : PatchData). d.values.items) c.deref-data.ensures in
-    subst (λ (xs : List ℕ). nth_place e k < length xs) (sym values)
-    (within_values q e c.args.axis c.args.from (length c.args.masses.now)
-    (λ j. c.entries_of-source.ensures.places j ∙ ap (λ (b : Extent). place b (step c.args.axis c.args.from j)) c.bx.ensures.value)
+    within_values q e c.args.axis c.args.from (length c.args.masses.now)
+    (nth_is (box q) c.bx.result e c.args.axis c.args.from c.bx.ensures.value c.entries_of-source.ensures.places)
     (λ j u. in_grown (box q) (step c.args.axis c.args.from j) (c.requires.held j u))
-    k t)
+    c.deref.result.now (c.deref.ensures.value ∙ ap (λ (d : PatchData). d.values.items) c.deref-data.ensures)
 
 pub returns-clause-taken : goal.returns-clause-taken
 returns-clause-taken c k t =
