@@ -1,14 +1,11 @@
--- Entries of a strip that are written in a list: none yet, one more, and all of them where they stand side by side.
-use Rattle.std.proofs.Common.{◌≡◌, ◌≢◌, ℕ, ◌+◌, ◌-◌, ◌*◌, ◌<◌, ◌≤◌, ◌⊎◌, inl, inr, List, ◌++◌, length, length-take, set, get_or, take, drop, refl, sym, ap, ◌∙◌, arith, below_more}
+-- Entries of a strip that are written in a list: one more, and all of them where they stand side by side.
+use Rattle.std.proofs.Common.{◌≡◌, ◌≢◌, ℕ, ◌+◌, ◌-◌, ◌*◌, ◌<◌, ◌≤◌, ◌⊎◌, inl, inr, List, ◌++◌, length, length-take, set, get_or, take, drop, sym, ap, ◌∙◌, arith, below_more}
 use Rattle.std.proofs.Math.Nat.{mul-le-mul_right}
 use Rattle.std.proofs.lemmas.Bool.{cases_lt}
 use Rattle.std.proofs.lemmas.List.{get_or-append_right, get_or-drop, get_or-set_other, get_or-set_same, get_or-take, get_or_append_left, length-append, length-drop, length-set}
 use borrow.Rule.Slice.PartMut.{post_of, put_mid}
 use Rattle.amr_ghost.specs.declared.entries.Entries.{Entries}
 use Rattle.amr_ghost.specs.Strips.{AreWritten, nth_place}
-
-pub none_written : {A : Type 0} (z : A) (e : Entries) (given : ℕ → A) (xs : List A) → AreWritten z e 0 given xs xs
-none_written z e given xs = record { same_length = refl; written = λ k t. absurd (omega arith); others = λ j other. refl }
 
 -- two cells of a strip have two entries
 next_product : (j s : ℕ) → (j + 1) * s ≡ j * s + s

@@ -1,7 +1,6 @@
-use Rattle.std.proofs.Common.{◌≡◌, ℕ, List, length, refl, ap, subst, arith}
+use Rattle.std.proofs.Common.{ℕ, List, length, refl, ap, arith}
 use Rattle.std.specs.Prelude.{slice_index}
-use Rattle.amr_ghost.specs.Strips.{AreWritten}
-use Rattle.amr_ghost.proofs.WrittenEntries.{none_written, one_more_written, room_for, side_by_side}
+use Rattle.amr_ghost.proofs.WrittenEntries.{one_more_written, room_for, side_by_side}
 use Rattle.amr_ghost.proofs.entries.give_entries.Goals as goal
 
 pub returns-then-target-eq1 : goal.returns-then-target-eq1
@@ -13,13 +12,5 @@ returns-then-target-eq1 c =
     (ap length c.copy_from_slice.ensures.after)
     (λ k t. ap (λ (xs : List ℕ). slice_index xs k) c.copy_from_slice.ensures.after)
 
-pub loop-k-init : goal.loop-k-init
-loop-k-init c = none_written 0 c.args.target (λ k. slice_index c.args.masses.now k) c.args.values.now
-
 pub loop-k-preserved : goal.loop-k-preserved
 loop-k-preserved c = one_more_written 0 c.args.target (λ k. slice_index c.args.masses.now k) c.loop-k.k _ c.args.values.now c.loop-k.values c.requires.apart (c.requires.within c.loop-k.k c.loop-k-test.true) refl c.loop-k.invariant
-
-pub returns : goal.returns
-returns c =
-    let all : c.loop-k.k ≡ length c.args.masses.now = omega (arith, c.loop-k.auto.k-end, c.loop-k-test.false) in
-    subst (λ (n : ℕ). AreWritten 0 c.args.target n (λ k. slice_index c.args.masses.now k) c.args.values.now c.loop-k.values) all c.loop-k.invariant

@@ -1,9 +1,8 @@
-use Rattle.std.proofs.Common.{◌≡◌, ◌∙◌, ℕ, Bool, true, false, List, length, refl, sym, ap, subst, arith, rules}
+use Rattle.std.proofs.Common.{◌≡◌, ◌∙◌, ℕ, Bool, true, false, List, length, refl, sym, ap, arith, rules}
 use Rattle.std.specs.Prelude.{slice_index_or}
 use Rattle.std.proofs.lemmas.List.{get_or-replicate}
 use Rattle.std.proofs.Math.ListN.{replicate}
-use Rattle.amr_ghost.specs.Strips.{AreWritten}
-use Rattle.amr_ghost.proofs.WrittenEntries.{none_written, one_more_written, room_for, side_by_side, span_length}
+use Rattle.amr_ghost.proofs.WrittenEntries.{one_more_written, room_for, side_by_side, span_length}
 use Rattle.amr_ghost.proofs.entries.mark_entries.Goals as goal
 
 pub returns-then-target-eq1 : goal.returns-then-target-eq1
@@ -16,13 +15,5 @@ returns-then-target-eq1 c =
     side_by_side false c.args.target (λ k. true) n _ xs c.fill.new.self c.if-target-eq1.true room (omega arith) count
     (λ k t. ap (λ (ys : List Bool). slice_index_or ys k false) all ∙ get_or-replicate (length c.fill.new.self) k true false (omega (arith, t, count)))
 
-pub loop-k-init : goal.loop-k-init
-loop-k-init c = none_written false c.args.target (λ k. true) c.args.marks.now
-
 pub loop-k-preserved : goal.loop-k-preserved
 loop-k-preserved c = one_more_written false c.args.target (λ k. true) c.loop-k.k true c.args.marks.now c.loop-k.marks c.requires.apart (c.requires.within c.loop-k.k c.loop-k-test.true) refl c.loop-k.invariant
-
-pub returns : goal.returns
-returns c =
-    let all : c.loop-k.k ≡ c.args.count = omega (arith, c.loop-k.auto.k-end, c.loop-k-test.false) in
-    subst (λ (n : ℕ). AreWritten false c.args.target n (λ k. true) c.args.marks.now c.loop-k.marks) all c.loop-k.invariant

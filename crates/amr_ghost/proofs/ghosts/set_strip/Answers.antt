@@ -1,8 +1,7 @@
-use Rattle.std.proofs.Common.{◌<◌, get_or, false, IsTrue, refl, sym, ap, subst, ◌∙◌, arith}
+use Rattle.std.proofs.Common.{◌<◌, get_or, false, IsTrue, refl, ap, ◌∙◌, arith}
 use Rattle.std.specs.List.{AllZip}
-use Rattle.amr_box.specs.declared.Cell.{Cell}
-use Rattle.amr_box.specs.Cells.{Extent, holds}
-use Rattle.amr_patch.specs.Places.{grown, in_frame, place}
+use Rattle.amr_box.specs.Cells.{Extent}
+use Rattle.amr_patch.specs.Places.{in_frame, place}
 use Rattle.amr_patch.specs.Patches.{box}
 use Rattle.amr_ghost.specs.Strips.{step}
 use Rattle.amr_ghost.specs.Filling.{IsGhostSet, KeepsCells, KeepsGhosts}
@@ -10,14 +9,11 @@ use Rattle.amr_ghost.proofs.Zips.{keeps_refl, still_ghost, zip_refl}
 use Rattle.amr_ghost.proofs.Steps.{frame_grown, ghosts_refl}
 use Rattle.amr_ghost.proofs.GhostStrips.{fewer_ghosts, next_ghosts, next_kept, next_set, no_ghosts}
 use Rattle.amr_ghost.proofs.StripPlaces.{entry_in_list, entry_small, still_place}
-use Rattle.amr_ghost.proofs.Spans.{first_ghost}
+use Rattle.amr_ghost.proofs.Spans.{begins_in_frame}
 use Rattle.amr_ghost.proofs.ghosts.set_strip.Goals as goal
 
 pub entries_of-target-requires-clause-inside : goal.entries_of-target-requires-clause-inside
-entries_of-target-requires-clause-inside c =
-    let b = box (get_or c.args.patches.now c.args.i c.index-patches-i.result) in
-    let ghost : IsTrue (in_frame b c.args.strip.from) = first_ghost (λ (s : Cell). IsTrue (in_frame b s)) c.args.strip.axis c.args.strip.from (c.requires.ghost_cells c.index-patches-i.result 0 c.requires.some) in
-    subst (λ (t : Extent). IsTrue (holds (grown t) c.args.strip.from)) (sym c.bx.ensures.value) (frame_grown b c.args.strip.from ghost)
+entries_of-target-requires-clause-inside c = begins_in_frame (box (get_or c.args.patches.now c.args.i c.index-patches-i.result)) c.bx.result c.args.strip.axis c.args.strip.from c.bx.ensures.value (c.requires.ghost_cells c.index-patches-i.result 0 c.requires.some)
 
 pub nth-at-requires : goal.nth-at-requires
 nth-at-requires c =
