@@ -18,7 +18,6 @@ use Rattle.amr_phase.specs.Plans.{total}
 use Rattle.amr_ghost.specs.Messages.{HasFilled, HasPlaces}
 use Rattle.amr_ghost.specs.Parts.{IsParted}
 use Rattle.amr_ghost.specs.declared.messages.Message.{Message}
-use Rattle.amr_ghost.specs.declared.parts.FrameCopy.{FrameCopy}
 use Rattle.amr_ghost.specs.declared.parts.FrameParts.{FrameParts}
 use Rattle.amr_layout.specs.declared.FlowTo.{FlowTo}
 use Rattle.amr_layout.specs.Surroundings.{Around, around}
