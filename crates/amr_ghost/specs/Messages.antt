@@ -1,9 +1,10 @@
 -- Copies of masses within a run of patches and between runs, and the messages that take them from one run to another.
-use Rattle.std.specs.Prelude.{◌≡◌, ◌≢◌, ℕ, ◌+◌, ◌*◌, ◌<◌, ◌≤◌, Bool, true, ⊤, length, slice_index, slice_index_or, drop, List, [], ◌∷◌, IsTrue}
+use Rattle.std.specs.Prelude.{◌≡◌, ◌≢◌, ℕ, ◌+◌, ◌*◌, ◌<◌, ◌≤◌, Bool, true, ⊤, length, slice_index, slice_index_or, drop, List, [], ◌∷◌, IsTrue, Some}
 use Rattle.std.specs.List.{All, AllZip}
 use Rattle.std.specs.Global.{Vec}
 use Rattle.amr_box.specs.declared.Cell.{Cell}
 use Rattle.amr_box.specs.Cells.{holds}
+use Rattle.amr_def.specs.State.{Masses}
 use Rattle.amr_patch.specs.declared.patches.Patch.{Patch}
 use Rattle.amr_patch.specs.Places.{in_frame}
 use Rattle.amr_patch.specs.Patches.{box, mass_in}
@@ -87,6 +88,15 @@ pub record HasUnpacked (copies : List FrameCopy) (masses : List ℕ) (rs fs : Li
   pub kept : AllZip KeepsCells rs fs
   pub ghosts : (V : Cell → ℕ) (M : Cell → Bool) → AreMassesFor V M copies masses → AllZip (KeepsGhosts V M) rs fs
   pub set : (V : Cell → ℕ) (M : Cell → Bool) → AreMassesFor V M copies masses → All (HasCopy V M fs) copies
+
+-- masses are those, M, of the cells that copies take, one copy after another
+abbrev pub AreMassesOf : Masses → List FrameCopy → List ℕ → Type 0
+AreMassesOf M [] masses = ⊤
+AreMassesOf M (c ∷ cs) masses = ((k : ℕ) → k < c.strip.count → M (step c.strip.axis c.from k) ≡ Some (slice_index masses k)) × AreMassesOf M cs (drop c.strip.count masses)
+
+-- a message carries the masses M of the cells that its copies take
+abbrev pub CarriesMasses : Masses → Message → Type 0
+CarriesMasses M x = AreMassesOf M x.copies.items x.masses.items
 
 -- ---- the frames of a run
 

@@ -21,6 +21,10 @@ with_outbox outbox phase lot = record {
   problem = lot.problem;
 }
 
+-- a lot that is for this phase
+abbrev pub with_phase : Phase → Lot → Lot
+with_phase phase lot = with_outbox lot.outbox phase lot
+
 -- lot a became b: it was brought message x from a lot, in exchange for y
 pub record HasTraded (from : ℕ) (x y : Message) (a b : Lot) : Type 0 where
   pub taken : (m : Message) → y ≡ slice_index_or a.inbox.items from m

@@ -28,7 +28,7 @@ pub record MayAdvance (p : Problem) (lot : Lot) : Type 0 where
 
 abbrev pub MayServeIn : Phase → Problem → Lot → Type 0
 MayServeIn Send p lot = MaySend lot
-MayServeIn Step p lot = MayAdvance p lot
+MayServeIn Step p lot = MayAdvance p lot × MaySend lot
 
 -- a lot may be served in its phase
 abbrev pub MayServe : Problem → Lot → Type 0
@@ -63,9 +63,15 @@ pub record HasAdvanced (lot after : Lot) : Type 0 where
   pub stepped : AllZip (HasStepped lot.problem.value lot.level) filled after.patches.items
   pub totals : (word : ℕ) → slice_index after.totals.items word ≡ lot_total lot.problem.value lot.level filled (flows_of_lot lot) word
 
+-- it made its step, and then packed what other lots need for theirs
+pub record HasMadeStep (lot after : Lot) : Type 0 where
+  pub advanced : Lot
+  pub advances : HasAdvanced lot advanced
+  pub sends : HasSent advanced after
+
 abbrev pub IsServedIn : Phase → Lot → Lot → Type 0
 IsServedIn Send lot after = HasSent lot after
-IsServedIn Step lot after = HasAdvanced lot after
+IsServedIn Step lot after = HasMadeStep lot after
 
 -- a lot was served in its phase
 abbrev pub IsServed : Lot → Lot → Type 0

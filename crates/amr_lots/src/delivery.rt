@@ -5,7 +5,7 @@ ghost use Rattle.std.specs.List.{All, AllZip};
 ghost use Rattle.std.specs.Global.{Box as boxed};
 ghost use Rattle.amr_ghost.specs.declared.messages.Message.{Message as message};
 ghost use Rattle.amr_lots.specs.declared.lot.Lot.{Lot as lot};
-ghost use Rattle.amr_lots.specs.Delivery.{ArePosted, HasTraded, HaveTraded, with_outbox};
+ghost use Rattle.amr_lots.specs.Delivery.{ArePosted, HasTraded, HaveTraded, with_outbox, with_phase};
 ghost use Rattle.amr_lots.specs.Runs.{HasBoxes, KeepAllButMessages};
 
 use crate::lot::{Lot, Phase};
@@ -60,8 +60,17 @@ fn post_messages(lots: &mut [Box<Lot>], from: usize, phase: Phase)
     give_outbox(&mut lots[from], outbox, phase);
 }
 
+/// Tells lots what is to be done with them next.
+pub fn set_phase(lots: &mut [Box<Lot>], phase: Phase)
+    ensures { AllZip (λ a b. b.value ≡ with_phase phase a.value) lots.old lots.new }
+{
+    for k in 0..lots.len() {
+        lots[k].phase = phase;
+    }
+}
+
 /// Exchanges the message of each lot for each with the one that the other has from it. Each has a message for each in its outbox and one
-/// from each in its inbox. The lots are for the given phase then. Called again, it takes all messages back. It takes no memory.
+/// from each in its inbox. The lots are for the given phase then. It takes no memory.
 pub fn exchange_messages(lots: &mut [Box<Lot>], phase: Phase)
     requires boxes { All (HasBoxes (length lots.old)) lots.old }
     ensures delivered { (u t : ℕ) (x : boxed lot) (m : message) → u < length lots.old → t < length lots.old → slice_index_or (slice_index_or lots.new t x).value.inbox.items u m ≡ slice_index_or (slice_index_or lots.old u x).value.outbox.items t m }

@@ -8,7 +8,7 @@ mod serving;
 mod steps;
 mod summing;
 
-pub use delivery::exchange_messages;
+pub use delivery::{exchange_messages, set_phase};
 pub use handing::exchange_runs;
 pub use lot::{Lot, Phase};
 pub use serving::LotWork;

@@ -12,7 +12,7 @@ use std::snapshot::Snapshot;
 pub enum Phase {
     /// The masses that other lots need are packed.
     Send,
-    /// The ghost cells are filled, and the patches make their step.
+    /// The ghost cells are filled, the patches make their step, and the masses that other lots need for the next one are packed.
     Step,
 }
 
@@ -31,7 +31,7 @@ pub struct Lot {
     pub copies: Vec<FrameCopy>,
     /// What the lot sends, a message for each lot of the level. That for itself is empty.
     pub outbox: Vec<Message>,
-    /// What it gets, a message from each lot of the level.
+    /// What it gets, a message from each lot of the level: before its step that of now, after it room for the next one.
     pub inbox: Vec<Message>,
     /// Room for a row of fluxes of the widest patch.
     pub room: Room,

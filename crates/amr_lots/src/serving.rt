@@ -1,5 +1,7 @@
 //! What a worker does with the lot that it is handed.
 
+ghost use Rattle.amr_lots.specs.Serving.{HasAdvanced, HasSent, MayAdvance, MaySend};
+
 use crate::lot::{Lot, Phase};
 use crate::steps::step_patches;
 use amr_def::Problem;
@@ -7,11 +9,35 @@ use amr_ghost::{fill_run, pack_messages};
 use amr_pool::Service;
 use std::boxed::Box;
 
-/// The service of a pool that makes steps of a level. It packs the masses that other lots need; or it fills the ghost cells by masses of
-/// the lot's own patches and by what other lots sent, and makes the patches' step.
+/// The service of a pool that makes steps of a level. It packs the masses that other lots need. Before, where it is the step's turn, it
+/// fills the ghost cells by masses of the lot's own patches and by what other lots sent, and makes the patches' step.
 #[derive(Clone, Copy)]
 pub struct LotWork<'a> {
     pub problem: &'a Problem,
+}
+
+/// Packs the masses that other lots need.
+fn send(lot: &mut Lot)
+    requires { MaySend lot.old }
+    ensures { HasSent lot.old lot.new }
+{
+    pack_messages(&lot.patches, &mut lot.outbox);
+}
+
+/// Fills the frames of a lot's patches, and makes their step.
+fn advance(p: &Problem, lot: &mut Lot)
+    requires { MayAdvance p.now lot.old }
+    ensures { HasAdvanced lot.old lot.new }
+{
+    fill_run(&mut lot.patches, &lot.copies, &lot.inbox);
+    step_patches(
+        p,
+        lot.level,
+        &mut lot.patches,
+        &lot.flows,
+        &mut lot.room,
+        &mut lot.totals,
+    );
 }
 
 impl Service<Box<Lot>> for LotWork<'_> {
@@ -24,17 +50,10 @@ impl Service<Box<Lot>> for LotWork<'_> {
     fn serve(&self, piece: &mut Box<Lot>) {
         let lot = &mut **piece;
         match lot.phase {
-            Phase::Send => pack_messages(&lot.patches, &mut lot.outbox),
+            Phase::Send => send(lot),
             Phase::Step => {
-                fill_run(&mut lot.patches, &lot.copies, &lot.inbox);
-                step_patches(
-                    self.problem,
-                    lot.level,
-                    &mut lot.patches,
-                    &lot.flows,
-                    &mut lot.room,
-                    &mut lot.totals,
-                );
+                advance(self.problem, lot);
+                send(lot);
             }
         }
     }
