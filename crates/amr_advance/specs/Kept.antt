@@ -4,12 +4,13 @@ use Rattle.amr_box.specs.declared.Cell.{Cell}
 use Rattle.amr_box.specs.Cells.{in_boxes}
 use Rattle.amr_def.specs.declared.problem.Problem.{Problem}
 use Rattle.amr_def.specs.Domain.{domain}
+use Rattle.amr_def.specs.State.{Masses}
 use Rattle.amr_patch.specs.Patches.{box}
 use Rattle.amr_ghost.specs.Plans.{PlansFrames}
 use Rattle.amr_layout.specs.Grounds.{has_open_side}
 use Rattle.amr_layout.specs.Surroundings.{Around}
 use Rattle.amr_advance.specs.declared.kept.KeptLayout.{KeptLayout}
-use Rattle.amr_advance.specs.Tasks.{AreTasks}
+use Rattle.amr_advance.specs.Tasks.{AreCurrent, AreTasks}
 
 -- it was made for the boxes of this level and for its register cells, and where a side of the domain is open for the boxes of the
 -- next finer level. It has a plan of the level's frames, and its tasks are those of the level's patches.
@@ -27,3 +28,7 @@ pub record IsKept (p : Problem) (k : KeptLayout) : Type 0 where
   pub made_for : Around
   pub of_problem : made_for.problem ≡ p
   pub laid_out : IsLaidOut made_for k
+
+-- what it keeps of a level's masses, where it keeps any, is of the masses M
+abbrev pub IsCurrent : Masses → KeptLayout → Type 0
+IsCurrent M k = AreCurrent M k.tasks

@@ -1,5 +1,5 @@
 -- What workers work with in a step of a level.
-use Rattle.std.specs.Prelude.{◌≡◌, ℕ, ◌≤◌, Bool, false, true, List, length}
+use Rattle.std.specs.Prelude.{◌≡◌, ℕ, ◌≤◌, Bool, false, true, ⊤, List, length}
 use Rattle.std.specs.List.{All}
 use Rattle.amr_balance.specs.Turns.{in_turn}
 use Rattle.amr_box.specs.Cells.{width}
@@ -18,7 +18,7 @@ use Rattle.amr_advance.specs.declared.tasks.LoneTasks.{LoneTasks}
 use Rattle.amr_advance.specs.declared.tasks.Tasks.{Tasks}
 use Rattle.amr_advance.specs.declared.tasks.Tasks.TheVariants.{Board, Lone, Lots}
 use Rattle.amr_advance.specs.Layouts.{AreAddsOf, IsLayoutOf}
-use Rattle.amr_advance.specs.Lots.{AreLotTasks}
+use Rattle.amr_advance.specs.Lots.{AreLotTasks, AreLotsCurrent}
 use Rattle.amr_advance.specs.Pieces.{AreWorkspaces, workspaces_in}
 use Rattle.amr_advance.specs.Shown.{AreShown}
 use Rattle.amr_advance.specs.Turns.{AreTurnsOf}
@@ -49,6 +49,12 @@ abbrev pub AreFilledFor : Tasks → Problem → ℕ → Masses → List Patch �
 AreFilledFor (Lone t) p l old qs = AreShown p l old qs
 AreFilledFor (Lots t) p l old qs = ArePatchesApart qs × AreInDomain (domain p l) qs
 AreFilledFor (Board t) p l old qs = AreShown p l old qs
+
+-- what tasks keep of a level's masses, where they keep any, is of the masses M
+abbrev pub AreCurrent : Masses → Tasks → Type 0
+AreCurrent M (Lone t) = ⊤
+AreCurrent M (Lots t) = AreLotsCurrent M t
+AreCurrent M (Board t) = ⊤
 
 -- whether they are lots
 abbrev pub is_lots : Tasks → Bool

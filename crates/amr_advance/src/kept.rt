@@ -6,13 +6,14 @@ ghost use Rattle.std.specs.Option.{option_copied};
 ghost use Rattle.amr_box.specs.declared.Cell.{Cell};
 ghost use Rattle.amr_box.specs.Cells.{in_boxes};
 ghost use Rattle.amr_def.specs.Domain.{domain};
+ghost use Rattle.amr_def.specs.State.{Masses};
 ghost use Rattle.amr_patch.specs.Orders.{IsOrderOf};
-ghost use Rattle.amr_patch.specs.Patches.{ArePatchesApart, box};
+ghost use Rattle.amr_patch.specs.Patches.{ArePatchesApart, box, masses_in};
 ghost use Rattle.amr_ghost.specs.Frames.{AreInDomain};
 ghost use Rattle.amr_layout.specs.Adds.{HasRegisterCells};
 ghost use Rattle.amr_layout.specs.Grounds.{has_open_side};
 ghost use Rattle.amr_layout.specs.Surroundings.{around, finer_masses};
-ghost use Rattle.amr_advance.specs.Kept.{IsKept, IsLaidOut};
+ghost use Rattle.amr_advance.specs.Kept.{IsCurrent, IsKept, IsLaidOut};
 
 use crate::level::Given;
 use crate::tasks::{Tasks, are_for, tasks_for};
@@ -40,6 +41,19 @@ pub struct KeptLayout {
     /// How many words its tasks add to.
     pub(crate) words: u32,
     pub(crate) tasks: Tasks,
+}
+
+impl KeptLayout {
+    /// Tells that masses of the level changed otherwise than by its step. What was worked out from the masses of before, which is what
+    /// lots have packed for others, is worked out anew at the next step.
+    pub fn masses_changed(&mut self)
+        ensures kept { (p : Problem) → IsKept p self.old → IsKept p self.new }
+        ensures current { (M : Masses) → IsCurrent M self.new }
+    {
+        if let Tasks::Lots(tasks) = &mut self.tasks {
+            tasks.packed = false;
+        }
+    }
 }
 
 /// Whether two cells are one.
@@ -140,7 +154,8 @@ fn lay_out_anew(
     requires apart { ArePatchesApart patches.now }
     requires inside { AreInDomain (domain given.problem.now given.level) patches.now }
     requires cells { HasRegisterCells (around given.problem.now given.level patches.now given.cells.now (option_copied given.finer)) }
-    ensures { IfOk result (IsLaidOut (around given.entry.problem.now given.entry.level patches.now given.entry.cells.now (option_copied given.entry.finer))) }
+    ensures laid_out { IfOk result (IsLaidOut (around given.entry.problem.now given.entry.level patches.now given.entry.cells.now (option_copied given.entry.finer))) }
+    ensures current { IfOk result (λ k. (M : Masses) → IsCurrent M k) }
 {
     let alloc = given.alloc;
     let starts = starts_of(alloc, patches)?;
@@ -195,7 +210,9 @@ pub(crate) fn layout_for(
     requires inside { AreInDomain (domain given.problem.now given.level) patches.now }
     requires cells { HasRegisterCells (around given.problem.now given.level patches.now given.cells.now (option_copied given.finer)) }
     requires kept { IfSome kept.old (IsKept given.problem.now) }
+    requires current { IfSome kept.old (IsCurrent (masses_in patches.now)) }
     ensures laid_out { IfOk result (IsLaidOut (around given.entry.problem.now given.entry.level patches.now given.entry.cells.now (option_copied given.entry.finer))) }
+    ensures current { IfOk result (IsCurrent (masses_in patches.now)) }
     ensures kept { kept.new ≡ None }
 {
     let Some(layout) = kept.take() else {

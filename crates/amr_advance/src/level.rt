@@ -9,7 +9,7 @@ ghost use Rattle.amr_ghost.specs.Frames.{old_masses};
 ghost use Rattle.amr_layout.specs.Surroundings.{around};
 ghost use Rattle.amr_flows.specs.Laws.{plain_size};
 ghost use Rattle.amr_flows.specs.Words.{level_total};
-ghost use Rattle.amr_advance.specs.Kept.{IsLaidOut};
+ghost use Rattle.amr_advance.specs.Kept.{IsCurrent, IsLaidOut};
 ghost use Rattle.amr_advance.specs.Shown.{AreShown, IsStepped, StepFits};
 ghost use Rattle.amr_advance.specs.Tasks.{AreBoardTasks, AreFilledFor};
 ghost use Rattle.amr_advance.specs.Teams.{IsTeamFor};
@@ -106,6 +106,7 @@ pub(crate) fn run_level<R: Threads + Wait + Sync, G: Gate + Sync>(
     requires filled { AreFilledFor layout.old.tasks given.problem.now given.level (old_masses (option_copied given.old)) patches.old }
     requires fits { StepFits given.problem.now given.level (masses_in patches.old) (old_masses (option_copied given.old)) }
     requires layout { IsLaidOut (around given.problem.now given.level patches.old given.cells.now (option_copied given.finer)) layout.old }
+    requires current { IsCurrent (masses_in patches.old) layout.old }
     requires few { length patches.old ≤ 2 ^ 26 }
     requires some_workers { 1 ≤ workers.old.count }
     requires few_workers { workers.old.count ≤ 64 }
@@ -118,6 +119,7 @@ pub(crate) fn run_level<R: Threads + Wait + Sync, G: Gate + Sync>(
     ensures totals { IfOk result (λ ws. (word : ℕ) → word < length ws.items → slice_index ws.items word ≡ level_total (around given.entry.problem.now given.entry.level patches.old given.entry.cells.now (option_copied given.entry.finer)) (plain_size given.entry.problem.now given.entry.level (masses_in patches.old) (old_masses (option_copied given.entry.old))) word) }
     ensures small { IfOk result (λ ws. (word : ℕ) → word < length ws.items → slice_index ws.items word < 2 ^ 63) }
     ensures layout { OnOk result (IsLaidOut (around given.entry.problem.now given.entry.level patches.old given.entry.cells.now (option_copied given.entry.finer)) layout.new) }
+    ensures current { OnOk result (IsCurrent (masses_in patches.new) layout.new) }
     ensures same { OnErr result (patches.new ≡ patches.old) }
 {
     let mut totals = vec![in given.alloc; 0u64; layout.words as usize]?;

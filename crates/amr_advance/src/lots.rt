@@ -1,6 +1,6 @@
 //! The lots of a level: runs of its patches, each with what a worker needs.
 
-ghost use Rattle.std.specs.Prelude.{◌≡◌, ◌+◌, ◌*◌, ◌<◌, ◌≤◌, ◌^◌, ℕ, IfOk, OnOk, length, slice_index_or};
+ghost use Rattle.std.specs.Prelude.{◌≡◌, ◌≢◌, ◌+◌, ◌*◌, ◌<◌, ◌≤◌, ◌^◌, ℕ, false, [], IfOk, OnOk, length, slice_index_or};
 ghost use Rattle.std.specs.List.{All};
 ghost use Rattle.std.specs.Global.{Box as boxed, Vec as vec};
 ghost use Rattle.std.specs.Option.{option_copied};
@@ -32,7 +32,6 @@ use amr_lots::{Lot, Phase};
 use amr_patch::Patch;
 use std::alloc::Global;
 use std::boxed::Box;
-use std::mem::replace;
 use std::snapshot::Snapshot;
 
 /// How many patches a level may have that is shared out. More would take more memory than there is, and are refused as that.
@@ -45,6 +44,8 @@ pub(crate) struct LotTasks {
     pub(crate) workers: u32,
     /// How many patches each lot has; the last may have fewer.
     pub(crate) each: usize,
+    /// Whether the lots have packed the masses that other lots need at the next step.
+    pub(crate) packed: bool,
     /// The ghost cells that the caller fills: they get no mass of a patch of the level.
     pub(crate) across: Vec<Span>,
     /// The lots, in the order of the level's patches.
@@ -94,59 +95,63 @@ fn flows_from(
     Ok(lists)
 }
 
-/// Messages for these lists of copies, which are taken.
-fn messages_for(alloc: Global, lists: &mut [Vec<FrameCopy>]) -> Result<Vec<Message>, NoMemory>
-    ensures count { IfOk result (λ xs. length xs.items ≡ length lists.old) }
-    ensures copies { IfOk result (λ xs. (t : ℕ) (m : message) (v : vec frame_copy) → t < length lists.old → (slice_index_or xs.items t m).copies ≡ slice_index_or lists.old t v) }
+/// Messages for so many of these lists of copies: for that at `first`, and for each `stride` places further. That of number `own` is empty.
+fn messages_for(
+    alloc: Global,
+    lists: &[Vec<FrameCopy>],
+    first: usize,
+    stride: usize,
+    count: usize,
+    own: usize,
+) -> Result<Vec<Message>, NoMemory>
+    requires there { (t : ℕ) → t < count → first + t * stride < length lists.now }
+    ensures count { IfOk result (λ xs. length xs.items ≡ count) }
+    ensures copies { IfOk result (λ xs. (t : ℕ) (m : message) (v : vec frame_copy) → t < count → t ≢ own → (slice_index_or xs.items t m).copies.items ≡ (slice_index_or lists.now (first + t * stride) v).items) }
+    ensures own { IfOk result (λ xs. (m : message) → own < count → (slice_index_or xs.items own m).copies.items ≡ []) }
     ensures places { IfOk result (λ xs. All HasPlaces xs.items) }
 {
-    let mut messages = Vec::with_capacity(alloc, lists.len())?;
-    for t in 0..lists.len() {
-        let copies = replace(&mut lists[t], Vec::new(alloc));
-        messages.push_reserved(Message::make(alloc, copies)?);
-    }
-    Ok(messages)
-}
-
-/// So many empty messages.
-fn empty_messages(alloc: Global, count: usize) -> Result<Vec<Message>, NoMemory>
-    ensures { IfOk result (λ xs. length xs.items ≡ count) }
-{
     let mut messages = Vec::with_capacity(alloc, count)?;
-    for _place in 0..count {
-        messages.push_reserved(Message::empty(alloc));
+    for t in 0..count {
+        if t == own {
+            messages.push_reserved(Message::empty(alloc));
+        } else {
+            let copies = Vec::from_slice(alloc, &lists[first + t * stride])?;
+            messages.push_reserved(Message::make(alloc, copies)?);
+        }
     }
     Ok(messages)
 }
 
-/// The lot for run `k` of the patches, `each` of them or as many as are left. `lists` are the copies of masses of the run, by the run that
-/// they are for, and are taken.
+/// The lot for run `k` of so many runs of the patches, `each` of them or as many as are left. `copies` are those of the level's frames, by
+/// the run that they take masses of, and for each by the run that they are for.
 fn lot_for(
     alloc: Global,
     s: Surroundings<'_>,
     flows: &LevelFlows,
     each: usize,
     k: usize,
-    lists: &mut [Vec<FrameCopy>],
+    runs: usize,
+    copies: &[Vec<FrameCopy>],
 ) -> Result<Lot, NoMemory>
     requires adds { AreAddsOf (around s.problem.now s.level s.patches.now s.cells.now (option_copied s.finer)) flows.now }
     requires few { length s.cells.now ≤ 2 ^ 30 }
     requires small { length s.patches.now ≤ 2 ^ 26 }
     requires within { k * each ≤ length s.patches.now }
-    requires there { k < length lists.old }
-    ensures { IfOk result (λ x. (parts : frame_parts) → ((t : ℕ) (v : vec frame_copy) → t < length lists.old → slice_index_or lists.old t v ≡ slice_index_or parts.copies.items (k * length lists.old + t) v) → IsLotOf (around s.entry.problem.now s.entry.level s.entry.patches.now s.entry.cells.now (option_copied s.entry.finer)) each k (length lists.old) parts x) }
+    requires there { k < runs }
+    requires many { runs ≤ 2 ^ 26 }
+    requires count { length copies.now ≡ runs * runs }
+    ensures { IfOk result (λ x. (parts : frame_parts) → parts.copies.items ≡ copies.now → IsLotOf (around s.entry.problem.now s.entry.level s.entry.patches.now s.entry.cells.now (option_copied s.entry.finer)) each k runs parts x) }
 {
     let first = k * each;
     let count = each.min(s.patches.len() - first);
-    let copies = replace(&mut lists[k], Vec::new(alloc));
     Ok(Lot {
         phase: Phase::Send,
         level: s.level,
         patches: blank_patches(alloc, count)?,
         flows: flows_from(alloc, flows, first, count)?,
-        copies,
-        outbox: messages_for(alloc, lists)?,
-        inbox: empty_messages(alloc, lists.len())?,
+        copies: Vec::from_slice(alloc, &copies[k * runs + k])?,
+        outbox: messages_for(alloc, copies, k * runs, 1, runs, k)?,
+        inbox: messages_for(alloc, copies, k, runs, runs, k)?,
         room: Room::make(alloc, widest_of(&s.patches[first..first + count]))?,
         totals: vec![in alloc; 0u64; 2 + 2 * s.cells.len()]?,
         problem: Snapshot::of(s.problem),
@@ -161,7 +166,7 @@ fn lots_for(
     flows: &LevelFlows,
     each: usize,
     runs: usize,
-    mut copies: Vec<Vec<FrameCopy>>,
+    copies: &[Vec<FrameCopy>],
 ) -> Result<Vec<Box<Lot>>, NoMemory>
     requires adds { AreAddsOf (around s.problem.now s.level s.patches.now s.cells.now (option_copied s.finer)) flows.now }
     requires few { length s.cells.now ≤ 2 ^ 30 }
@@ -169,14 +174,13 @@ fn lots_for(
     requires tight { runs * each < length s.patches.now + each }
     requires short { each ≤ 2 ^ 26 }
     requires many { runs ≤ 2 ^ 26 }
-    requires count { length copies.items ≡ runs * runs }
+    requires count { length copies.now ≡ runs * runs }
     ensures count { IfOk result (λ xs. length xs.items ≡ runs) }
-    ensures lots { IfOk result (λ xs. (k : ℕ) (x : boxed lot) (parts : frame_parts) → k < runs → parts.copies ≡ copies → IsLotOf (around s.entry.problem.now s.entry.level s.entry.patches.now s.entry.cells.now (option_copied s.entry.finer)) each k runs parts (slice_index_or xs.items k x).value) }
+    ensures lots { IfOk result (λ xs. (k : ℕ) (x : boxed lot) (parts : frame_parts) → k < runs → parts.copies.items ≡ copies.now → IsLotOf (around s.entry.problem.now s.entry.level s.entry.patches.now s.entry.cells.now (option_copied s.entry.finer)) each k runs parts (slice_index_or xs.items k x).value) }
 {
     let mut lots = Vec::with_capacity(alloc, runs)?;
     for k in 0..runs {
-        let lists = &mut copies[k * runs..k * runs + runs];
-        let lot = lot_for(alloc, s, flows, each, k, lists)?;
+        let lot = lot_for(alloc, s, flows, each, k, runs, copies)?;
         lots.push_reserved(Box::new(alloc, lot)?);
     }
     Ok(lots)
@@ -198,6 +202,7 @@ pub(crate) fn lot_tasks(
     requires frames { PlansFrames (domain s.problem.now s.level) s.patches.now frames.now }
     requires cells { HasRegisterCells (around s.problem.now s.level s.patches.now s.cells.now (option_copied s.finer)) }
     ensures tasks { IfOk result (AreLotTasks (around s.entry.problem.now s.entry.level s.entry.patches.now s.entry.cells.now (option_copied s.entry.finer))) }
+    ensures packed { IfOk result (λ t. t.packed ≡ false) }
     ensures few { OnOk result (2 + 2 * length s.entry.cells.now < 2 ^ 32) }
 {
     let count = s.patches.len();
@@ -208,10 +213,11 @@ pub(crate) fn lot_tasks(
     let each = parts_in(count, workers.max(1) as usize).max(1);
     let runs = parts_in(count, each);
     let FrameParts { across, copies } = part_frames(alloc, frames, each, runs)?;
-    let lots = lots_for(alloc, s, &flows, each, runs, copies)?;
+    let lots = lots_for(alloc, s, &flows, each, runs, &copies)?;
     Ok(LotTasks {
         workers,
         each,
+        packed: false,
         across,
         lots,
     })

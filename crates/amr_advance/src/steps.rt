@@ -16,7 +16,7 @@ ghost use Rattle.amr_layout.specs.Adds.{HasRegisterCells};
 ghost use Rattle.amr_layout.specs.Surroundings.{around, finer_masses};
 ghost use Rattle.amr_advance.specs.Registers.{BothChange, HasCoarser, HasEdges, HasFiner, cells_of, gained, taken};
 ghost use Rattle.amr_advance.specs.Totals.{HasTotals, SomeHasAbsorbed, SomeMayAbsorb};
-ghost use Rattle.amr_advance.specs.Kept.{IsKept, IsLaidOut};
+ghost use Rattle.amr_advance.specs.Kept.{IsCurrent, IsKept, IsLaidOut};
 ghost use Rattle.amr_advance.specs.Shown.{AreShown, StepFits};
 ghost use Rattle.amr_advance.specs.Tasks.{AreFilledFor};
 ghost use Rattle.amr_advance.specs.Teams.{IsTeamFor};
@@ -128,6 +128,7 @@ fn step_patches<R: Threads + Wait + Sync, G: Gate + Sync>(
     requires cells { (qs : List Patch) → masses_in qs ≡ masses_in patches.old → HasRegisterCells (around given.problem.now given.level qs given.cells.now (option_copied given.finer)) }
     requires register { HasEdges given.problem.now given.level (masses_in patches.old) (option_copied given.finer) register.old }
     requires kept { IfSome kept.old (IsKept given.problem.now) }
+    requires current { IfSome kept.old (IsCurrent (masses_in patches.old)) }
     requires some_workers { 1 ≤ workers.old.count }
     requires few_workers { workers.old.count ≤ 64 }
     requires gate { (worker task : ℕ) → worker < workers.old.count → task < length patches.old → G.admits workers.old.gate.now worker task }
@@ -144,6 +145,7 @@ fn step_patches<R: Threads + Wait + Sync, G: Gate + Sync>(
     ensures same_masses { OnErr result (masses_in patches.new ≡ masses_in patches.old) }
     ensures same_register { OnErr result (BothChange (λ c. pos 0) register.old register.new) }
     ensures kept { IfSome kept.new (IsKept given.entry.problem.now) }
+    ensures current { IfSome kept.new (IsCurrent (masses_in patches.new)) }
 {
     let way = way_for(workers, given, patches);
     let mut layout = layout_for(given, order, patches, way, kept)?;
@@ -190,7 +192,8 @@ fn add_totals(totals: &[u64], regs: &mut Regs)
 /// the workspaces of its tasks, is taken from `kept` where it was made for the same boxes. Else it is made anew. It is
 /// kept afterwards, but not after `NoMemory`.
 ///
-/// There are from 1 to 64 workers. `kept` and the team, where there is one, are of the same problem.
+/// There are from 1 to 64 workers. `kept` and the team, where there is one, are of the same problem. What is kept of the level's masses is
+/// of those that it has: who changes them between two steps says so by [`KeptLayout::masses_changed`].
 pub fn advance_kept<R: Threads + Wait + Sync, G: Gate + Sync>(
     workers: &mut Workers<'_, R, G>,
     p: &Problem,
@@ -213,6 +216,7 @@ pub fn advance_kept<R: Threads + Wait + Sync, G: Gate + Sync>(
     requires inflow { regs.old.inflow + inflow_beside p.now l (is_uncovered (level_of level.old).masses (finer_masses (option_copied finer))) (flux_at p.now l (level_of level.old).masses (old_masses (option_copied old))) < 2 ^ 63 }
     requires outflow { regs.old.outflow + outflow_beside p.now l (is_uncovered (level_of level.old).masses (finer_masses (option_copied finer))) (flux_at p.now l (level_of level.old).masses (old_masses (option_copied old))) < 2 ^ 63 }
     requires kept { IfSome kept.old (IsKept p.now) }
+    requires current { IfSome kept.old (IsCurrent (level_of level.old).masses) }
     ensures workers { workers.new ≡ workers.old }
     ensures masses { OnOk result ((level_of level.new).masses ≡ updated (level_of level.old).masses (flux_at p.now l (level_of level.old).masses (old_masses (option_copied old.entry)))) }
     ensures boxes { (level_of level.new).boxes ≡ (level_of level.old).boxes }
@@ -226,6 +230,7 @@ pub fn advance_kept<R: Threads + Wait + Sync, G: Gate + Sync>(
     ensures same_finer { OnErr result (BothChange (λ c. pos 0) regs.old.finer regs.new.finer) }
     ensures same_sums { OnErr result ((regs.new.inflow ≡ regs.old.inflow) × (regs.new.outflow ≡ regs.old.outflow)) }
     ensures kept { IfSome kept.new (IsKept p.now) }
+    ensures current { IfSome kept.new (IsCurrent (level_of level.new).masses) }
 {
     let order = level.order();
     let mut patches = level.take_patches();

@@ -203,6 +203,7 @@ pub(crate) fn tasks_for(
     requires frames { PlansFrames (domain s.problem.now s.level) s.patches.now frames.now }
     requires cells { HasRegisterCells (around s.problem.now s.level s.patches.now s.cells.now (option_copied s.finer)) }
     ensures tasks { IfOk result (AreTasks (around s.entry.problem.now s.entry.level s.entry.patches.now s.entry.cells.now (option_copied s.entry.finer))) }
+    ensures current { IfOk result (λ t. (M : Masses) → AreCurrent M t) }
     ensures few { OnOk result (2 + 2 * length s.entry.cells.now < 2 ^ 32) }
 {
     match way {

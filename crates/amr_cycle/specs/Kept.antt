@@ -8,7 +8,7 @@ use Rattle.amr_patch.specs.declared.levels.Level.{Level as Held}
 use Rattle.amr_patch.specs.Levels.{level_of, patches_of}
 use Rattle.amr_patch.specs.Patches.{box}
 use Rattle.amr_register.specs.Registers.{IsRegisterOf}
-use Rattle.amr_advance.specs.Kept.{IsKept as IsKeptLayout}
+use Rattle.amr_advance.specs.Kept.{IsCurrent as IsCurrentLayout, IsKept as IsKeptLayout}
 use Rattle.amr_cycle.specs.declared.kept.Kept.{Kept}
 use Rattle.amr_cycle.specs.declared.kept.KeptBelow.{KeptBelow}
 use Rattle.amr_cycle.specs.declared.kept.KeptLevel.{KeptLevel}
@@ -47,3 +47,11 @@ AreKept p l ks = (k : ℕ) (d : KeptLevel) → k < length ks → IsKeptLevel p (
 -- what a run keeps is of this problem
 pub record IsKept (p : Problem) (k : Kept) : Type 0 where
   pub levels : IfSome k.levels (λ ks. AreKept p 0 ks.items)
+
+-- what levels keep of their masses, where they keep any, is of these levels
+abbrev pub AreCurrent : List Level → List KeptLevel → Type 0
+AreCurrent levels ks = (k : ℕ) (level : Level) (d : KeptLevel) → k < length levels → k < length ks → IfSome (slice_index_or ks k d).layout (IsCurrentLayout (slice_index_or levels k level).masses)
+
+-- what a run keeps of masses is of these levels
+abbrev pub IsCurrent : List Level → Kept → Type 0
+IsCurrent levels k = IfSome k.levels (λ ks. AreCurrent levels ks.items)

@@ -44,9 +44,41 @@ pub struct Kept {
 impl Kept {
     /// Nothing yet, of any problem.
     pub const fn nothing() -> Kept
-        ensures { (p : Problem) → IsKept p result }
+        ensures kept { (p : Problem) → IsKept p result }
+        ensures current { (levels : List State.Level) → IsCurrent levels result }
     {
         Kept { levels: None }
+    }
+
+    /// Tells that masses changed otherwise than by a step, as by a regrid. What is kept of them is worked out anew at the next step.
+    pub fn masses_changed(&mut self)
+        ensures kept { (p : Problem) → IsKept p self.old → IsKept p self.new }
+        ensures current { (levels : List State.Level) → IsCurrent levels self.new }
+    {
+        if let Some(levels) = &mut self.levels {
+            forget_masses(levels);
+        }
+    }
+}
+
+/// Tells what is kept of a level that its masses changed otherwise than by its step.
+pub(crate) fn forget_masses_of(kept: &mut KeptLevel)
+    ensures kept { (p : Problem) (l : ℕ) → IsKeptLevel p l kept.old → IsKeptLevel p l kept.new }
+    ensures current { (M : Masses) → IfSome kept.new.layout (IsCurrentLayout M) }
+    ensures below { kept.new.below ≡ kept.old.below }
+{
+    if let Some(layout) = &mut kept.layout {
+        layout.masses_changed();
+    }
+}
+
+/// The same of each of these levels.
+fn forget_masses(kept: &mut [KeptLevel])
+    ensures kept { (p : Problem) → AreKept p 0 kept.old → AreKept p 0 kept.new }
+    ensures current { (levels : List State.Level) → AreCurrent levels kept.new }
+{
+    for k in 0..kept.len() {
+        forget_masses_of(&mut kept[k]);
     }
 }
 
@@ -157,6 +189,7 @@ pub(crate) fn make_room(
 ) -> Result<Vec<KeptLevel>, NoMemory>
     ensures room { IfOk result (λ ks. count ≤ length ks.items) }
     ensures kept { (p : Problem) → IfSome kept (λ ks. AreKept p 0 ks.items) → IfOk result (λ ks. AreKept p 0 ks.items) }
+    ensures current { (levels : List State.Level) → IfSome kept (λ ks. AreCurrent levels ks.items) → IfOk result (λ ks. AreCurrent levels ks.items) }
 {
     let mut levels = match kept {
         Some(levels) => levels,

@@ -6,6 +6,7 @@ ghost use Rattle.std.specs.Option.{option_copied};
 ghost use Rattle.amr_box.specs.declared.Cell.{Cell};
 ghost use Rattle.amr_box.specs.Cells.{in_boxes};
 ghost use Rattle.amr_def.specs.Flux.{flux_at, updated};
+ghost use Rattle.amr_def.specs.State.{Masses};
 ghost use Rattle.amr_laws.specs.Sides.{inflow_beside, is_uncovered, outflow_beside};
 ghost use Rattle.amr_laws.specs.Substeps.{after_step};
 ghost use Rattle.amr_patch.specs.Levels.{level_of, patches_of};
@@ -14,14 +15,14 @@ ghost use Rattle.amr_ghost.specs.Frames.{old_masses};
 ghost use Rattle.amr_transfer.specs.Sums.{AreCoarsenable};
 ghost use Rattle.amr_flows.specs.Subcycle.{edge_part, flows_of_step};
 ghost use Rattle.amr_advance.specs.Registers.{BothChange, HasCoarser, gained};
-ghost use Rattle.amr_advance.specs.Kept.{IsKept};
+ghost use Rattle.amr_advance.specs.Kept.{IsCurrent, IsKept};
 ghost use Rattle.amr_advance.specs.Teams.{IsTeamFor};
 ghost use Rattle.amr_cycle.specs.Cycles.{IsCoarsePart, IsPartOfStep, SomeHasEntries, patch_boxes};
-ghost use Rattle.amr_cycle.specs.Kept.{AreKept, IsKeptLevel};
+ghost use Rattle.amr_cycle.specs.Kept.{AreCurrent, AreKept, IsKeptLevel};
 
 use crate::correction::correct;
 use crate::given::Given;
-use crate::kept::{KeptBelow, KeptLevel, below_for};
+use crate::kept::{KeptBelow, KeptLevel, below_for, forget_masses_of};
 use amr_advance::{Regs, Workers, advance_kept};
 use amr_box::Bx;
 use amr_causes::NoMemory;
@@ -58,8 +59,10 @@ fn step_finest<R: Threads + Wait + Sync, G: Gate + Sync>(
     requires inflow { regs.old.inflow + flows_of_step (inflow_beside given.now.problem.now) given.now.problem.now given.now.level (level_of level.old ∷ []) (old_masses (option_copied given.now.old)) < 2 ^ 63 }
     requires outflow { regs.old.outflow + flows_of_step (outflow_beside given.now.problem.now) given.now.problem.now given.now.level (level_of level.old ∷ []) (old_masses (option_copied given.now.old)) < 2 ^ 63 }
     requires kept { IsKeptLevel given.now.problem.now given.now.level own.old }
+    requires current { IfSome own.old.layout (IsCurrent (level_of level.old).masses) }
     ensures workers { workers.new ≡ workers.old }
     ensures kept { OnOk result (IsKeptLevel given.now.problem.now given.now.level own.new) }
+    ensures current { OnOk result (IfSome own.new.layout (IsCurrent (level_of level.new).masses)) }
     ensures level { OnOk result (level_of level.new ∷ [] ≡ after_step given.now.problem.now given.now.level (level_of level.old ∷ []) (old_masses (option_copied given.now.old))) }
     ensures patches { OnOk result (map box (patches_of level.new) ≡ map box (patches_of level.old)) }
     ensures coarser { OnOk result (BothChange (gained given.now.problem.now given.now.level (level_of level.old).masses (flux_at given.now.problem.now given.now.level (level_of level.old).masses (old_masses (option_copied given.now.old)))) regs.old.coarser regs.new.coarser) }
@@ -80,7 +83,7 @@ fn step_finest<R: Threads + Wait + Sync, G: Gate + Sync>(
 }
 
 /// Makes a step of a level that has a finer one, `next`, by plain fluxes. The level's new register has lost those through its
-/// coarse-fine edges.
+/// coarse-fine edges. Its masses are corrected afterwards, so what is kept is told that they change.
 fn step_coarse<R: Threads + Wait + Sync, G: Gate + Sync>(
     given: &Given<'_>,
     workers: &mut Workers<'_, R, G>,
@@ -99,8 +102,10 @@ fn step_coarse<R: Threads + Wait + Sync, G: Gate + Sync>(
     requires inflow { regs.old.inflow + inflow_beside given.now.problem.now given.now.level (is_uncovered (level_of level.old).masses (level_of next.now).masses) (flux_at given.now.problem.now given.now.level (level_of level.old).masses (old_masses (option_copied given.now.old))) < 2 ^ 63 }
     requires outflow { regs.old.outflow + outflow_beside given.now.problem.now given.now.level (is_uncovered (level_of level.old).masses (level_of next.now).masses) (flux_at given.now.problem.now given.now.level (level_of level.old).masses (old_masses (option_copied given.now.old))) < 2 ^ 63 }
     requires kept { IsKeptLevel given.now.problem.now given.now.level own.old }
+    requires current { IfSome own.old.layout (IsCurrent (level_of level.old).masses) }
     ensures workers { workers.new ≡ workers.old }
     ensures layout { OnOk result (IfSome own.new.layout (IsKept given.now.problem.now)) }
+    ensures current { OnOk result ((M : Masses) → IfSome own.new.layout (IsCurrent M)) }
     ensures before { IfOk result (λ b. level_of b.before ≡ level_of level.old) }
     ensures finer_boxes { IfOk result (λ b. (c : Cell) → is_some ((level_of next.now).masses c) ≡ in_boxes b.finer.items c) }
     ensures masses { OnOk result ((level_of level.new).masses ≡ updated (level_of level.old).masses (flux_at given.now.problem.now given.now.level (level_of level.old).masses (old_masses (option_copied given.now.old)))) }
@@ -136,6 +141,7 @@ fn step_coarse<R: Threads + Wait + Sync, G: Gate + Sync>(
         regs,
         &mut own.layout,
     )?;
+    forget_masses_of(own);
     Ok(Below {
         before,
         finer,
@@ -190,9 +196,11 @@ pub(crate) fn step_levels<R: Threads + Wait + Sync, G: Gate + Sync>(
     requires inflow { regs.old.inflow + flows_of_step (inflow_beside given.now.problem.now) given.now.problem.now given.now.level (level_of level.old ∷ map level_of finer.old) (old_masses (option_copied given.now.old)) < 2 ^ 63 }
     requires outflow { regs.old.outflow + flows_of_step (outflow_beside given.now.problem.now) given.now.problem.now given.now.level (level_of level.old ∷ map level_of finer.old) (old_masses (option_copied given.now.old)) < 2 ^ 63 }
     requires kept { AreKept given.now.problem.now given.now.level kept.old }
+    requires current { AreCurrent (level_of level.old ∷ map level_of finer.old) kept.old }
     requires room { length finer.old < length kept.old }
     ensures workers { workers.new ≡ workers.old }
     ensures kept { OnOk result (AreKept given.now.problem.now given.now.level kept.new) }
+    ensures current { OnOk result (AreCurrent (level_of level.new ∷ map level_of finer.new) kept.new) }
     ensures kept_count { OnOk result (length kept.new ≡ length kept.old) }
     ensures levels { OnOk result (level_of level.new ∷ map level_of finer.new ≡ after_step given.now.problem.now given.now.level (level_of level.old ∷ map level_of finer.old) (old_masses (option_copied given.now.old))) }
     ensures patches { OnOk result (patch_boxes (level.new ∷ finer.new) ≡ patch_boxes (level.old ∷ finer.old)) }

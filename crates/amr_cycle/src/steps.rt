@@ -10,7 +10,7 @@ ghost use Rattle.amr_patch.specs.Levels.{level_of};
 ghost use Rattle.amr_patch.specs.Meshes.{is_spent, levels_of, state_of};
 ghost use Rattle.amr_flows.specs.Subcycle.{flows_of_step};
 ghost use Rattle.amr_advance.specs.Teams.{IsTeamFor};
-ghost use Rattle.amr_cycle.specs.Kept.{AreKept, IsKept};
+ghost use Rattle.amr_cycle.specs.Kept.{AreCurrent, AreKept, IsCurrent, IsKept};
 ghost use Rattle.amr_cycle.specs.Cycles.{AreCoarsenableAbove, HasStepToCome, patch_boxes};
 
 use crate::given::Given;
@@ -47,9 +47,11 @@ fn step_all<R: Threads + Wait + Sync, G: Gate + Sync>(
     requires gate { (worker task : ℕ) → worker < workers.old.count → G.admits workers.old.gate.now worker task }
     requires team { IfSome workers.old.team (IsTeamFor p.now workers.old.gate.now workers.old.count) }
     requires kept { AreKept p.now 0 kept.old }
+    requires current { AreCurrent (map level_of levels.old) kept.old }
     requires room { length levels.old ≤ length kept.old }
     ensures workers { workers.new ≡ workers.old }
     ensures kept { OnOk result (AreKept p.now 0 kept.new) }
+    ensures current { OnOk result (AreCurrent (map level_of levels.new) kept.new) }
     ensures kept_count { OnOk result (length kept.new ≡ length kept.old) }
     ensures levels { OnOk result (map level_of levels.new ≡ after_step p.now 0 (map level_of levels.old) no_masses) }
     ensures patches { OnOk result (patch_boxes levels.new ≡ patch_boxes levels.old) }
@@ -133,6 +135,7 @@ pub fn step_kept<R: Threads + Wait + Sync, G: Gate + Sync>(
     requires gate { (worker task : ℕ) → worker < workers.old.count → G.admits workers.old.gate.now worker task }
     requires team { IfSome workers.old.team (IsTeamFor p.now workers.old.gate.now workers.old.count) }
     requires kept { IsKept p.now kept.old }
+    requires current { IsCurrent (state_of mesh.old).levels kept.old }
     ensures workers { workers.new ≡ workers.old }
     ensures value { OnOk result (state_of mesh.new ≡ stepped p.now (state_of mesh.old)) }
     ensures sound { OnOk result (IsSound p.now (state_of mesh.new)) }
@@ -140,6 +143,7 @@ pub fn step_kept<R: Threads + Wait + Sync, G: Gate + Sync>(
     ensures whole { OnOk result (is_spent mesh.new ≡ false) }
     ensures spent { OnErr result (is_spent mesh.new ≡ true) }
     ensures kept { OnOk result (IsKept p.now kept.new) }
+    ensures current { OnOk result (IsCurrent (state_of mesh.new).levels kept.new) }
 {
     let number = mesh.step();
     let (mut rows, mut levels) = mesh.take();

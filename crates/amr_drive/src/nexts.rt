@@ -9,7 +9,7 @@ ghost use Rattle.amr_patch.specs.Meshes.{is_spent, levels_of, state_of};
 ghost use Rattle.amr_start.specs.PatchBoxes.{IsChopped};
 ghost use Rattle.amr_advance.specs.Teams.{IsTeamFor};
 ghost use Rattle.amr_cycle.specs.Cycles.{AreCoarsenableAbove};
-ghost use Rattle.amr_cycle.specs.Kept.{IsKept};
+ghost use Rattle.amr_cycle.specs.Kept.{IsCurrent, IsKept};
 
 use amr_advance::Workers;
 use amr_causes::NoMemory;
@@ -31,24 +31,33 @@ fn is_due(p: &Problem, number: u32) -> bool
     number > 0 && number % p.regrid_int == 0
 }
 
-/// Regrids a mesh where that is due. After `NoMemory` it has the state of before.
-fn regrid_if_due(alloc: Global, p: &Problem, mesh: &mut Mesh) -> Result<(), NoMemory>
+/// Regrids a mesh where that is due, and tells so to what steps keep. After `NoMemory` it has the state of before.
+fn regrid_if_due(
+    alloc: Global,
+    p: &Problem,
+    mesh: &mut Mesh,
+    kept: &mut Kept,
+) -> Result<(), NoMemory>
     requires whole { is_spent mesh.old ≡ false }
     requires sound { IsSound p.now (state_of mesh.old) }
     requires coarsenable { AreCoarsenableAbove (levels_of mesh.old) }
+    requires kept { IsKept p.now kept.old }
+    requires current { IsCurrent (state_of mesh.old).levels kept.old }
     ensures value { OnOk result (state_of mesh.new ≡ cond (regrid_is_due p.now (state_of mesh.old)) (regrid p.now (state_of mesh.old)) (state_of mesh.old)) }
     ensures sound { OnOk result (IsSound p.now (state_of mesh.new)) }
     ensures patches { All (IsChopped p.now.max_grid_size) (levels_of mesh.old) → OnOk result (All (IsChopped p.now.max_grid_size) (levels_of mesh.new)) }
     ensures coarsenable { OnOk result (AreCoarsenableAbove (levels_of mesh.new)) }
+    ensures kept { OnOk result (IsKept p.now kept.new) }
+    ensures current { OnOk result (IsCurrent (state_of mesh.new).levels kept.new) }
     ensures whole { is_spent mesh.new ≡ false }
     ensures refused { OnErr result (state_of mesh.new ≡ state_of mesh.old) }
 {
     let number = mesh.step();
     if is_due(p, number) {
-        regrid(alloc, p, mesh)
-    } else {
-        Ok(())
+        regrid(alloc, p, mesh)?;
+        kept.masses_changed();
     }
+    Ok(())
 }
 
 /// What a run is made with: memory, the work of its steps with the problem, and the step that it goes up to.
@@ -74,6 +83,7 @@ pub(crate) fn make_next<R: Threads + Wait + Sync, G: Gate + Sync>(
     requires to_come { (state_of mesh.old).step < run.now.job.problem.now.steps }
     requires coarsenable { AreCoarsenableAbove (levels_of mesh.old) }
     requires kept { IsKept run.now.job.problem.now kept.old }
+    requires current { IsCurrent (state_of mesh.old).levels kept.old }
     requires some_workers { 1 ≤ workers.old.count }
     requires few_workers { workers.old.count ≤ 64 }
     requires gate { (worker task : ℕ) → worker < workers.old.count → G.admits workers.old.gate.now worker task }
@@ -85,8 +95,9 @@ pub(crate) fn make_next<R: Threads + Wait + Sync, G: Gate + Sync>(
     ensures coarsenable { OnOk result (AreCoarsenableAbove (levels_of mesh.new)) }
     ensures whole { OnOk result (is_spent mesh.new ≡ false) }
     ensures kept { OnOk result (IsKept run.now.job.problem.now kept.new) }
+    ensures current { OnOk result (IsCurrent (state_of mesh.new).levels kept.new) }
     ensures refused { OnErr result ((is_spent mesh.new ≡ true) ⊎ ((is_spent mesh.new ≡ false) × (state_of mesh.new ≡ state_of mesh.old))) }
 {
-    regrid_if_due(run.alloc, run.job.problem, mesh)?;
+    regrid_if_due(run.alloc, run.job.problem, mesh, kept)?;
     step_kept(workers, run.job.problem, mesh, kept)
 }
