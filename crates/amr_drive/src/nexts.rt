@@ -31,7 +31,8 @@ fn is_due(p: &Problem, number: u32) -> bool
     number > 0 && number % p.regrid_int == 0
 }
 
-/// Regrids a mesh where that is due, and tells so to what steps keep. After `NoMemory` it has the state of before.
+/// Regrids a mesh where that is due, and tells so to what steps keep. One level alone stays as it is. After `NoMemory` the mesh has the
+/// state of before.
 fn regrid_if_due(
     alloc: Global,
     p: &Problem,
@@ -53,7 +54,7 @@ fn regrid_if_due(
     ensures refused { OnErr result (state_of mesh.new ≡ state_of mesh.old) }
 {
     let number = mesh.step();
-    if is_due(p, number) {
+    if p.max_level > 0 && is_due(p, number) {
         regrid(alloc, p, mesh)?;
         kept.masses_changed();
     }
