@@ -4,7 +4,7 @@ use Rattle.std.specs.List.{All, AllZip}
 use Rattle.std.proofs.lemmas.List.{get_or_default}
 use Rattle.std.proofs.lemmas.List.Elements.{length_all_zip}
 use Rattle.amr_box.specs.declared.Cell.{Cell}
-use Rattle.amr_box.specs.Cells.{Extent, holds}
+use Rattle.amr_box.specs.Cells.{Extent}
 use Rattle.amr_patch.specs.declared.patches.Patch.{Patch}
 use Rattle.amr_patch.specs.Places.{in_frame}
 use Rattle.amr_ghost.specs.Strips.{step}
@@ -12,7 +12,8 @@ use Rattle.amr_ghost.specs.Frames.{is_beside}
 use Rattle.amr_ghost.specs.Filling.{KeepsCells, KeepsGhosts}
 use Rattle.amr_ghost.specs.Messages.{HasCopy, IsCopyFor, IsReceived, IsTaken}
 use Rattle.amr_ghost.specs.declared.parts.FrameCopy.{FrameCopy}
-use Rattle.amr_ghost.proofs.Zips.{still_mass, zip_box}
+use Rattle.amr_ghost.proofs.Carrying.{taken_of_boxes}
+use Rattle.amr_ghost.proofs.Zips.{still_mass, zip_box, zip_boxes}
 use Rattle.amr_ghost.proofs.GhostStrips.{still_ghosts}
 
 -- a copy of patches that keep their cells stays one
@@ -21,12 +22,7 @@ module _ (ps qs : List Patch) (kept : AllZip KeepsCells ps qs) where
   same_count = length_all_zip KeepsCells ps qs kept
 
   pub still_taken : (c : FrameCopy) → IsTaken ps c → IsTaken qs c
-  still_taken c h = record {
-    there = subst (λ n. c.source < n) same_count h.there;
-    small = h.small;
-    room = h.room;
-    held = λ q k lt. subst (λ (b : Extent). IsTrue (holds b (step c.strip.axis c.from k))) (sym (zip_box ps qs c.source q q kept h.there)) (h.held q k lt);
-  }
+  still_taken = taken_of_boxes ps qs (sym (zip_boxes ps qs kept))
 
   pub still_received : (c : FrameCopy) → IsReceived ps c → IsReceived qs c
   still_received c h = record {

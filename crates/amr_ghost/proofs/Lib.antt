@@ -15,6 +15,7 @@ pub mod PlannedSpans
 pub mod PlanLaws
 pub mod Reach
 pub mod Inside
+pub mod Carrying
 pub mod Copies
 pub mod Packing
 pub mod Unpacking
