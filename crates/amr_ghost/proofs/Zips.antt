@@ -53,11 +53,15 @@ keeps_trans p q r h k = record {
   };
 }
 
+-- patches that have the boxes of others, one by one
+pub boxes_of_zip : (R : Patch → Patch → Type 0) → ((q r : Patch) → R q r → box r ≡ box q) → (ps qs : List Patch) → AllZip R ps qs → map box qs ≡ map box ps
+boxes_of_zip R same [] [] h = refl
+boxes_of_zip R same [] (q ∷ qs) h = absurd h
+boxes_of_zip R same (p ∷ ps) [] h = absurd h
+boxes_of_zip R same (p ∷ ps) (q ∷ qs) h = λ i. same p q h.0 i ∷ boxes_of_zip R same ps qs h.1 i
+
 pub zip_boxes : (ps qs : List Patch) → AllZip KeepsCells ps qs → map box qs ≡ map box ps
-zip_boxes [] [] h = refl
-zip_boxes [] (q ∷ qs) h = absurd h
-zip_boxes (p ∷ ps) [] h = absurd h
-zip_boxes (p ∷ ps) (q ∷ qs) h = λ i. h.0.of_box i ∷ zip_boxes ps qs h.1 i
+zip_boxes = boxes_of_zip KeepsCells (λ q r h. h.of_box)
 
 -- the box of a patch
 pub zip_box : (ps qs : List Patch) (i : ℕ) (d e : Patch) → AllZip KeepsCells ps qs → i < length ps → box (get_or qs i e) ≡ box (get_or ps i d)
