@@ -1,6 +1,7 @@
 pub mod LotTotals
 mod InTurn
+mod InPlaces
 mod Trading
 mod Posting
-mod Advanced
+mod Served
 pub mod Runs

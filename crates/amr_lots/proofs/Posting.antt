@@ -1,8 +1,9 @@
 -- One lot's messages posted, and those of all lots in turn.
-use Rattle.std.proofs.Common.{◌≡◌, ◌≢◌, ◌⊎◌, inl, inr, ℕ, ◌+◌, ◌<◌, ◌≤◌, List, [], ◌∷◌, length, get_or, set, refl, sym, ap, subst, ◌∙◌, arith}
+use Rattle.std.proofs.Common.{◌≡◌, ◌≢◌, ◌⊎◌, inl, inr, ℕ, ◌+◌, ◌<◌, ◌≤◌, List, [], ◌∷◌, ◌++◌, length, drop, take, get_or, set, refl, sym, ap, subst, ◌∙◌, arith}
 use Rattle.std.specs.Global.{Box, Vec}
 use Rattle.std.specs.List.{All, AllZip}
 use Rattle.std.proofs.Math.ListN.{length-set}
+use Rattle.std.proofs.Math.Seq.{take-append_seam}
 use Rattle.std.proofs.lemmas.Bool.{cases_eq}
 use Rattle.std.proofs.lemmas.List.{get_or-set_other, get_or-set_same, get_or_default}
 use Rattle.amr_ghost.specs.declared.messages.Message.{Message}
@@ -11,6 +12,10 @@ use Rattle.amr_lots.specs.declared.lot.Phase.{Phase}
 use Rattle.amr_lots.specs.Delivery.{ArePosted, HasTraded, HaveTraded, with_outbox}
 use Rattle.amr_lots.proofs.InTurn.{zip_from}
 use Rattle.amr_lots.specs.Runs.{HasBoxes, IsDelivered, KeepAllButMessages}
+
+-- the items of a `Vec`, each written anew
+pub refilled : {X : Type 0} (n : ℕ) (xs ys : List X) → n ≡ length xs → length ys ≡ length xs → take n (ys ++ drop (length ys) xs) ≡ ys
+refilled n xs ys whole same = ap (λ k. take k (ys ++ drop (length ys) xs)) (whole ∙ sym same) ∙ take-append_seam ys (drop (length ys) xs)
 
 -- ---- a lot among lots that gets another outbox and phase
 

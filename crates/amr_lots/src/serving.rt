@@ -1,6 +1,6 @@
 //! What a worker does with the lot that it is handed.
 
-ghost use Rattle.amr_lots.specs.Serving.{HasAdvanced, HasSent, MayAdvance, MaySend};
+ghost use Rattle.amr_lots.specs.Serving.{HasAdvanced, HasMadeStep, HasSent, MayAdvance, MaySend};
 
 use crate::lot::{Lot, Phase};
 use crate::steps::step_patches;
@@ -40,6 +40,16 @@ fn advance(p: &Problem, lot: &mut Lot)
     );
 }
 
+/// Makes the step of a lot, and then packs the masses that other lots need for theirs.
+fn make_step(p: &Problem, lot: &mut Lot)
+    requires advances { MayAdvance p.now lot.old }
+    requires sends { MaySend lot.old }
+    ensures { HasMadeStep lot.old lot.new }
+{
+    advance(p, lot);
+    send(lot);
+}
+
 impl Service<Box<Lot>> for LotWork<'_> {
     ghost use Rattle.amr_lots.specs.Serving.{IsServed, MayServe};
 
@@ -51,10 +61,7 @@ impl Service<Box<Lot>> for LotWork<'_> {
         let lot = &mut **piece;
         match lot.phase {
             Phase::Send => send(lot),
-            Phase::Step => {
-                advance(self.problem, lot);
-                send(lot);
-            }
+            Phase::Step => make_step(self.problem, lot),
         }
     }
 }

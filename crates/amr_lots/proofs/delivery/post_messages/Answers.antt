@@ -1,6 +1,5 @@
 use Rattle.std.proofs.Common.{length, ap, ◌∙◌}
-use Rattle.amr_lots.proofs.Advanced.{refilled}
-use Rattle.amr_lots.proofs.Posting.{posted}
+use Rattle.amr_lots.proofs.Posting.{posted, refilled}
 use Rattle.amr_lots.proofs.delivery.post_messages.Goals as goal
 
 pub returns : goal.returns
