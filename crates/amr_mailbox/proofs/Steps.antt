@@ -1,7 +1,8 @@
 -- Each call's step keeps the rule, and tells what it promises.
-use Rattle.std.proofs.Common.{◌≡◌, ℕ, List, [], ◌∷◌, ◌++◌, get_or, set, refl, sym, ap, subst, arith}
+use Rattle.std.proofs.Common.{◌≡◌, ℕ, List, [], ◌∷◌, ◌++◌, get_or, set, eqb, refl, sym, ap, subst, arith}
 use mathlib.Core.Option as lookup
 use lib.ListN.{get_elem?}
+use prog.Atomic.{either}
 use Rattle.atomic_table.specs.Table.{State, Act, keeps, takes, gives, Valid, carried_after, stepped, Me, step, Allows, Splits}
 use Rattle.amr_mailbox.specs.declared.letter.Letter.{Letter}
 use Rattle.amr_mailbox.specs.declared.letter.Letter.TheVariants.{Empty, Order, Answer}
@@ -10,7 +11,7 @@ use Rattle.amr_mailbox.specs.declared.view.Turn.{Turn}
 use Rattle.amr_mailbox.specs.declared.view.Turn.TheVariants.{Free, Busy, Over}
 use Rattle.amr_mailbox.specs.declared.view.View.{View}
 use Rattle.amr_mailbox.specs.Views.{view_of, first_view, parting_view, asker_view, worker_view, holding}
-use Rattle.amr_mailbox.specs.Plays.{Collects, Looks}
+use Rattle.amr_mailbox.specs.Plays.{Collects, TakesBack, Looks}
 use Rattle.amr_mailbox.specs.Rule.{Stage, unopened, opened, idle, posted, taken, answered, dismissed, left, both, state_of, Sound, Rule}
 use Rattle.amr_mailbox.proofs.Stages.{turn_number, order_or, AsksIn, WorksIn, asker_in, worker_in, first_in, parting_in}
 
@@ -26,6 +27,10 @@ order_in d (Answer answer) = d
 
 differ : {O : Type 0} {X : Type 0} (s t : Turn O) → ¬ (turn_number s ≡ turn_number t) → s ≡ t → X
 differ s t apart e = absurd (apart (ap turn_number e))
+
+-- what an exchange makes of a number
+abbrev pub exchanges : ℕ → ℕ → ℕ → ℕ
+exchanges old new n = either (eqb n old) new n
 
 module _ {O A K : Type 0} (may : K → O → Type 0) (serves : O → A → Type 0) (key : K) where
   -- what a step of the end of a number has to give, in one state
@@ -115,7 +120,7 @@ module _ {O A K : Type 0} (may : K → O → Type 0) (serves : O → A → Type 
     collect_in (posted o) sound e =
         (view_of key Asks (Busy order), keeps, tt, record { stage = posted o; state = ap (λ (t : Turn O). both key 1 (lookup.some (Order o)) t Free) (sym e); sound = sound }, ((λ z. absurd (omega arith)), (λ _. refl)))
     collect_in (taken o) sound e =
-        (view_of key Asks (Busy order), keeps, tt, record { stage = taken o; state = ap (λ (t : Turn O). both key 1 lookup.none t (Busy o)) (sym e); sound = sound }, ((λ z. absurd (omega arith)), (λ _. refl)))
+        (view_of key Asks (Busy order), keeps, tt, record { stage = taken o; state = ap (λ (t : Turn O). both key 3 lookup.none t (Busy o)) (sym e); sound = sound }, ((λ z. absurd (omega arith)), (λ _. refl)))
     collect_in (answered o a) sound e =
         (view_of key Asks Free, takes 0 (Answer a), refl, record { stage = idle; state = refl; sound = tt }, ((λ _. (o, a, sym e, sound, refl)), (λ z. absurd (z refl))))
     collect_in dismissed sound e = differ Over (Busy order) (λ x. absurd (omega arith)) e
@@ -124,25 +129,44 @@ module _ {O A K : Type 0} (may : K → O → Type 0) (serves : O → A → Type 
     pub collects : (slots id : ℕ) → Allows (Rule may serves key) slots id (view_of key Asks (Busy order), []) 0 (λ n. n) Collected
     collects slots id = by_asker slots id (Busy order) [] (λ n. n) Collected collect_in
 
+    abbrev TakenBack : ℕ → Me (Letter O A) (View O K) → Type 0
+    TakenBack n w = TakesBack (step {S = Letter O A} 1 0 0 0 lookup.none) (view_of key Asks (Busy order), []) n w
+
+    take_back_in : (g : Stage O A) → Sound may serves key g → AsksIn g (Busy order) → Goes (exchanges 1 0) TakenBack [] 0 (state_of key g)
+    take_back_in unopened sound e = absurd e
+    take_back_in opened sound e = absurd e
+    take_back_in idle sound e = differ Free (Busy order) (λ x. absurd (omega arith)) e
+    take_back_in (posted o) sound e =
+        (view_of key Asks Free, takes 0 (Order o), refl, record { stage = idle; state = refl; sound = tt }, ((λ _. (o, sym e, refl)), (λ z. absurd (z refl))))
+    take_back_in (taken o) sound e =
+        (view_of key Asks (Busy order), keeps, tt, record { stage = taken o; state = ap (λ (t : Turn O). both key 3 lookup.none t (Busy o)) (sym e); sound = sound }, ((λ z. absurd (omega arith)), (λ _. refl)))
+    take_back_in (answered o a) sound e =
+        (view_of key Asks (Busy order), keeps, tt, record { stage = answered o a; state = ap (λ (t : Turn O). both key 0 (lookup.some (Answer a)) t Free) (sym e); sound = sound }, ((λ z. absurd (omega arith)), (λ _. refl)))
+    take_back_in dismissed sound e = differ Over (Busy order) (λ x. absurd (omega arith)) e
+    take_back_in left sound e = differ Over (Busy order) (λ x. absurd (omega arith)) e
+
+    pub takes_back : (slots id : ℕ) → Allows (Rule may serves key) slots id (view_of key Asks (Busy order), []) 0 (exchanges 1 0) TakenBack
+    takes_back slots id = by_asker slots id (Busy order) [] (exchanges 1 0) TakenBack take_back_in
+
   abbrev Looked : ℕ → Me (Letter O A) (View O K) → Type 0
   Looked n w = Looks may (step {S = Letter O A} 1 0 0 0 lookup.none) (view_of key Works Free, []) n w
 
-  look_in : (g : Stage O A) → Sound may serves key g → WorksIn g Free → Goes (λ n. n) Looked [] 1 (state_of key g)
+  look_in : (g : Stage O A) → Sound may serves key g → WorksIn g Free → Goes (exchanges 1 3) Looked [] 1 (state_of key g)
   look_in unopened sound e = absurd e
   look_in opened sound e = absurd e
   look_in idle sound e =
-      (view_of key Works Free, keeps, tt, record { stage = idle; state = refl; sound = tt }, ((λ _. refl), (λ z. absurd (omega arith)), (λ z _. absurd (z refl))))
+      (view_of key Works Free, keeps, tt, record { stage = idle; state = refl; sound = tt }, ((λ z. absurd (omega arith)), (λ z. absurd (omega arith)), (λ _ _. refl)))
   look_in (posted o) sound e =
-      (view_of key Works (Busy o), takes 0 (Order o), refl, record { stage = taken o; state = refl; sound = sound }, ((λ z. absurd (omega arith)), (λ _. (o, sound, refl)), (λ _ z. absurd (z refl))))
+      (view_of key Works (Busy o), takes 0 (Order o), refl, record { stage = taken o; state = refl; sound = sound }, ((λ _. (o, sound, refl)), (λ z. absurd (omega arith)), (λ z _. absurd (z refl))))
   look_in (taken o) sound e = differ (Busy o) Free (λ x. absurd (omega arith)) e
   look_in (answered o a) sound e =
-      (view_of key Works Free, keeps, tt, record { stage = answered o a; state = refl; sound = sound }, ((λ _. refl), (λ z. absurd (omega arith)), (λ z _. absurd (z refl))))
+      (view_of key Works Free, keeps, tt, record { stage = answered o a; state = refl; sound = sound }, ((λ z. absurd (omega arith)), (λ z. absurd (omega arith)), (λ _ _. refl)))
   look_in dismissed sound e =
-      (view_of key Works Over, keeps, tt, record { stage = left; state = refl; sound = tt }, ((λ z. absurd (omega arith)), (λ z. absurd (omega arith)), (λ _ _. refl)))
+      (view_of key Works Over, keeps, tt, record { stage = left; state = refl; sound = tt }, ((λ z. absurd (omega arith)), (λ _. refl), (λ _ z. absurd (z refl))))
   look_in left sound e = differ Over Free (λ x. absurd (omega arith)) e
 
-  pub looks : (slots id : ℕ) → Allows (Rule may serves key) slots id (view_of key Works Free, []) 0 (λ n. n) Looked
-  looks slots id = by_worker slots id Free [] (λ n. n) Looked look_in
+  pub looks : (slots id : ℕ) → Allows (Rule may serves key) slots id (view_of key Works Free, []) 0 (exchanges 1 3) Looked
+  looks slots id = by_worker slots id Free [] (exchanges 1 3) Looked look_in
 
   module _ (order : O) (answer : A) (served : serves order answer) where
     answer_in : (g : Stage O A) → Sound may serves key g → WorksIn g (Busy order) → Goes (λ _. 0) (λ _ w. w ≡ (view_of key Works Free, [])) (holding (Answer answer)) 1 (state_of key g)

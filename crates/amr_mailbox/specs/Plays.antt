@@ -30,12 +30,18 @@ module _ {O A K : Type 0} where
       (n ≡ 0 → (order : O) × (answer : A) × (m.0.turn ≡ Busy order) × serves order answer × (w ≡ (view_of m.0.key Asks Free, holding (Answer answer))))
       × (n ≢ 0 → w ≡ m)
 
-  -- at the worker's turn the slot is taken, with an order that may be posted; at the asker's nothing changes
+  -- where an order lies the slot is taken back, with the order that is out; else nothing changes
+  abbrev pub TakesBack : Step (Letter O A) → End O A K → ℕ → End O A K → Type 0
+  TakesBack s m n w =
+      (n ≡ 1 → (order : O) × (m.0.turn ≡ Busy order) × (w ≡ (view_of m.0.key Asks Free, holding (Order order))))
+      × (n ≢ 1 → w ≡ m)
+
+  -- where an order lies the slot is taken, with that order, which may be posted; after the dismissal the end is over; else nothing changes
   abbrev pub Looks : (K → O → Type 0) → Step (Letter O A) → End O A K → ℕ → End O A K → Type 0
   Looks may s m n w =
-      (n ≡ 0 → w ≡ m)
-      × (n ≡ 1 → (order : O) × may m.0.key order × (w ≡ (view_of m.0.key Works (Busy order), holding (Order order))))
-      × (n ≢ 0 → n ≢ 1 → w ≡ (view_of m.0.key Works Over, []))
+      (n ≡ 1 → (order : O) × may m.0.key order × (w ≡ (view_of m.0.key Works (Busy order), holding (Order order))))
+      × (n ≡ 2 → w ≡ (view_of m.0.key Works Over, []))
+      × (n ≢ 1 → n ≢ 2 → w ≡ m)
 
   abbrev pub Answers : Step (Letter O A) → End O A K → ℕ → End O A K → Type 0
   Answers s m n w = w ≡ (view_of m.0.key Works Free, [])

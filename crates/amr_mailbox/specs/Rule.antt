@@ -34,7 +34,7 @@ module _ {O A K : Type 0} (key : K) where
   state_of opened = record { words = 0 ∷ []; homes = lookup.none ∷ []; views = parting_view key ∷ [] }
   state_of idle = both 0 lookup.none Free Free
   state_of (posted order) = both 1 (lookup.some (Order order)) (Busy order) Free
-  state_of (taken order) = both 1 lookup.none (Busy order) (Busy order)
+  state_of (taken order) = both 3 lookup.none (Busy order) (Busy order)
   state_of (answered order answer) = both 0 (lookup.some (Answer answer)) (Busy order) Free
   state_of dismissed = both 2 lookup.none Over Free
   state_of left = both 2 lookup.none Over Over

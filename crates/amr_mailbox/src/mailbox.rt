@@ -1,4 +1,4 @@
-//! The mailbox and its calls: word 0 says whose turn it is, slot 0 holds the letter while it is at home.
+//! The mailbox and its calls: word 0 says whose turn it is, slot 0 holds the letter while neither end has it.
 ghost use Rattle.std.specs.Prelude.{◌≡◌, IfOk, IfSome, MatchOption};
 ghost use Rattle.amr_mailbox.specs.declared.view.Turn.TheVariants.{Free, Busy, Over};
 ghost use Rattle.amr_mailbox.specs.MailboxOf.{end_of, IsBusy};
@@ -8,7 +8,9 @@ use crate::ends::{Asker, Worker};
 use crate::errand::Errand;
 use crate::letter::Letter;
 use crate::patience::Patience;
-use crate::rule::{Answering, Collecting, Dismissing, Halves, Kept, Looking, Opening, Posting};
+use crate::rule::{
+    Answering, Collecting, Dismissing, Halves, Kept, Looking, Opening, Posting, TakingBack,
+};
 use crate::view::View;
 use atomic_table::{Refused, Table};
 use std::alloc::{AllocError, Global};
@@ -16,12 +18,15 @@ use std::marker::Model;
 use std::sync::Wait;
 use std::sync::atomic::{AtomicBool, Ordering};
 
-// What the word says.
+// What the word says: it is the asker's turn; an order lies in the slot; no order comes any more; the worker has taken
+// the order.
 const ASKERS_TURN: u64 = 0;
 
-const WORKERS_TURN: u64 = 1;
+const POSTED: u64 = 1;
 
 const DISMISSED: u64 = 2;
+
+const TAKEN: u64 = 3;
 
 // How many looks for an answer come at once.
 const LOOKS: u32 = 2048;
@@ -90,7 +95,7 @@ impl<O: Drop, A: Drop, K, E: Errand<O, A, K>> Mailbox<O, A, K, E> {
         self.attended.load(Ordering::SeqCst)
     }
 
-    /// Posts an order, which is the worker's from then on, and wakes the worker where it sleeps.
+    /// Posts an order, which is the worker's once it takes it, and wakes the worker where it sleeps.
     pub fn post(&self, asker: &mut Asker<O, A, K>, order: O)
         requires free { asker.old ≡ end_of self.now Free }
         requires may { E.may self.now.key order }
@@ -100,10 +105,28 @@ impl<O: Drop, A: Drop, K, E: Errand<O, A, K>> Mailbox<O, A, K, E> {
         let Letter::Empty = shared.exchange(&mut asker.seat, 0, Letter::Order(order)) else {
             unreachable!()
         };
-        shared.store::<Posting>(&mut asker.seat, 0, WORKERS_TURN);
+        shared.store::<Posting>(&mut asker.seat, 0, POSTED);
         if self.asleep.load(Ordering::SeqCst) {
             shared.wake_one(0);
         }
+    }
+
+    /// Takes the order back where the worker has not taken it, so that the asker may do it itself.
+    pub fn take_back(&self, asker: &mut Asker<O, A, K>) -> Option<O>
+        requires asked { IsBusy self.now asker.old }
+        ensures back { MatchOption result (asker.new ≡ asker.old) (λ order. asker.old.turn ≡ Busy order) }
+        ensures free { MatchOption result (asker.new ≡ asker.old) (λ _. asker.new ≡ end_of self.now Free) }
+    {
+        let shared = &self.table.shared;
+        if shared.compare_exchange::<TakingBack>(&mut asker.seat, 0, POSTED, ASKERS_TURN)
+            != POSTED
+        {
+            return None;
+        }
+        let Letter::Order(order) = shared.exchange(&mut asker.seat, 0, Letter::Empty) else {
+            unreachable!()
+        };
+        Some(order)
     }
 
     /// Waits for the answer, which serves the order that was posted.
@@ -149,7 +172,7 @@ impl<O: Drop, A: Drop, K, E: Errand<O, A, K>> Mailbox<O, A, K, E> {
     }
 
     /// Waits for the next order. None once the worker is dismissed. After so many looks the thread sleeps until the asker
-    /// wakes it.
+    /// wakes it, and then looks as often again: the order that it was woken for may have been taken back.
     pub fn next(&self, rt: &impl Wait, worker: &mut Worker<O, A, K>, looks: u32) -> Option<O>
         requires free { worker.old ≡ end_of self.now Free }
         ensures may { IfSome result (λ order. E.may self.now.key order) }
@@ -161,36 +184,44 @@ impl<O: Drop, A: Drop, K, E: Errand<O, A, K>> Mailbox<O, A, K, E> {
                 Found::Order(order) => return Some(order),
                 Found::Dismissal => return None,
                 Found::Nothing if patience.spend() => (),
-                Found::Nothing => self.sleep(rt),
+                Found::Nothing => {
+                    self.sleep(rt);
+                    patience = Patience::new(looks);
+                }
             }
         }
         unreachable!()
     }
 
     // Sleeps until the asker wakes the worker. An asker that posts once `asleep` is set sees so, and wakes it. One that
-    // posted before has changed the word, and then nobody falls asleep on it.
+    // posted before has changed the word, and then nobody falls asleep on it, unless the asker takes the order back: then
+    // the worker misses nothing by its sleep, and `asleep` is set for the next order.
     fn sleep(&self, rt: &impl Wait) {
         self.asleep.store(true, Ordering::SeqCst);
         self.table.shared.park(rt, 0, ASKERS_TURN as u32);
         self.asleep.store(false, Ordering::SeqCst);
     }
 
-    // One look for an order.
+    // One look for an order, which takes it. While nothing lies there it only reads, so that a worker that waits leaves
+    // the word to the asker. An order that is taken back between the read and the exchange was not found.
     fn look(&self, worker: &mut Worker<O, A, K>) -> Found<O>
         requires free { worker.old ≡ end_of self.now Free }
         ensures { IsFound E.may self.now worker.new result }
     {
         let shared = &self.table.shared;
-        match shared.load::<Looking<E>>(&mut worker.seat, 0) {
-            ASKERS_TURN => Found::Nothing,
-            WORKERS_TURN => {
+        if shared.peek(0) == ASKERS_TURN {
+            return Found::Nothing;
+        }
+        match shared.compare_exchange::<Looking<E>>(&mut worker.seat, 0, POSTED, TAKEN) {
+            POSTED => {
                 let Letter::Order(order) = shared.exchange(&mut worker.seat, 0, Letter::Empty)
                 else {
                     unreachable!()
                 };
                 Found::Order(order)
             }
-            _ => Found::Dismissal,
+            DISMISSED => Found::Dismissal,
+            _ => Found::Nothing,
         }
     }
 

@@ -1,7 +1,7 @@
 //! The rule of a mailbox over its atomic table, and what each kind of step tells its end.
 ghost use Rattle.amr_mailbox.specs.Views.{first_view, asker_view, worker_view};
 ghost use Rattle.amr_mailbox.specs.Rule.{Rule};
-ghost use Rattle.amr_mailbox.specs.Plays.{Opens, Posts, Dismisses, Collects, Looks, Answers};
+ghost use Rattle.amr_mailbox.specs.Plays.{Opens, Posts, TakesBack, Dismisses, Collects, Looks, Answers};
 
 use crate::errand::Errand;
 use crate::letter::Letter;
@@ -38,6 +38,12 @@ pub struct Posting;
 
 impl<O, A, K> Play<Letter<O, A>, View<O, K>> for Posting {
     ghost then = { Posts };
+}
+
+pub struct TakingBack;
+
+impl<O, A, K> Play<Letter<O, A>, View<O, K>> for TakingBack {
+    ghost then = { TakesBack };
 }
 
 pub struct Dismissing;
