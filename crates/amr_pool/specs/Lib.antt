@@ -1,2 +1,3 @@
 pub mod PoolOf
 pub mod Helpers
+pub mod Asked

@@ -1,5 +1,5 @@
 //! A kept worker: as its pool has it, and before it begins.
-ghost use Rattle.std.specs.Prelude.{◌≡◌, IfOk};
+ghost use Rattle.std.specs.Prelude.{◌≡◌, IfOk, MatchOption};
 ghost use Rattle.std.specs.Arc.{arc_value};
 ghost use Rattle.amr_mailbox.specs.declared.view.Turn.TheVariants.{Free, Busy, Over};
 ghost use Rattle.amr_mailbox.specs.MailboxOf.{end_of, IsBusy};
@@ -55,6 +55,15 @@ impl<P: Drop, S: Service<P>> Helper<P, S> {
         ensures { self.new ≡ record { mailbox = self.old.mailbox; asker = end_of (arc_value self.old.mailbox) (Busy piece) } }
     {
         self.mailbox.post(&mut self.asker, piece);
+    }
+
+    /// Takes the piece back where the worker has not begun it.
+    pub(crate) fn take_back(&mut self) -> Option<P>
+        requires asked { IsBusy (arc_value self.old.mailbox) self.old.asker }
+        ensures back { MatchOption result (self.new ≡ self.old) (λ piece. self.old.asker.turn ≡ Busy piece) }
+        ensures free { MatchOption result (self.new ≡ self.old) (λ _. self.new ≡ record { mailbox = self.old.mailbox; asker = end_of (arc_value self.old.mailbox) Free }) }
+    {
+        self.mailbox.take_back(&mut self.asker)
     }
 
     /// Waits for the piece that the worker was handed, served.

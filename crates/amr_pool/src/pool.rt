@@ -6,7 +6,9 @@ ghost use Rattle.std.specs.Vec.{vec_capacity};
 ghost use Rattle.amr_mailbox.specs.declared.view.Turn.TheVariants.{Free, Over};
 ghost use Rattle.amr_mailbox.specs.MailboxOf.{end_of};
 ghost use Rattle.amr_pool.specs.Helpers.{IsHelper, IsRecruit};
+ghost use Rattle.amr_pool.specs.Asked.{IsOut, Keeps};
 
+use crate::asked::Asked;
 use crate::helper::{Helper, Recruit, new_worker};
 use crate::service::Service;
 use std::alloc::{AllocError, Global};
@@ -22,13 +24,16 @@ const LOOKS: u32 = 1 << 20;
 #[derive(Drop)]
 pub struct Pool<'a, P: Drop, S: Service<P>> {
     helpers: Vec<Helper<P, S>>,
+    // Those who have a piece, while pieces are served. It has room for all.
+    asked: Vec<Asked<P, S>>,
     service: &'a S,
 }
 
 impl<'a, P: Drop, S: Service<P>> Model for Pool<'a, P, S> {
-    ghost use Rattle.std.specs.Prelude.{◌+◌, ◌<◌, length};
+    ghost use Rattle.std.specs.Prelude.{◌≡◌, ◌+◌, ◌<◌, ◌≤◌, [], length};
     ghost use Rattle.std.specs.List.{All};
     ghost use Rattle.std.specs.Arc.{arc_value};
+    ghost use Rattle.std.specs.Vec.{vec_capacity};
     ghost use Rattle.amr_pool.specs.Helpers.{IsHelper};
     ghost use Rattle.amr_pool.specs.PoolOf.{PoolOf};
 
@@ -36,7 +41,7 @@ impl<'a, P: Drop, S: Service<P>> Model for Pool<'a, P, S> {
 
     ghost view = { λ p. record { service = p.service.now; workers = 1 + length p.helpers.items } };
 
-    ghost invariant = { λ p. All (λ h. IsHelper p.service.now (arc_value h.mailbox) h.asker) p.helpers.items × (length p.helpers.items < 64) };
+    ghost invariant = { λ p. All (λ h. IsHelper p.service.now (arc_value h.mailbox) h.asker) p.helpers.items × (length p.helpers.items < 64) × (p.asked.items ≡ []) × (length p.helpers.items ≤ vec_capacity p.asked) };
 }
 
 impl<'a, P: Drop, S: Service<P>> Pool<'a, P, S> {
@@ -60,16 +65,23 @@ impl<'a, P: Drop, S: Service<P>> Pool<'a, P, S> {
             helpers.push(helper)?;
             recruits.push(recruit)?;
         }
-        Ok((Pool::new(service, helpers), recruits))
+        let asked = Vec::with_capacity(alloc, helpers.len())?;
+        Ok((Pool::new(service, helpers, asked), recruits))
     }
 
     // A pool of these kept workers, each of whom waits for a piece, and its caller.
-    fn new(service: &'a S, helpers: Vec<Helper<P, S>>) -> Pool<'a, P, S>
+    fn new(service: &'a S, helpers: Vec<Helper<P, S>>, asked: Vec<Asked<P, S>>) -> Pool<'a, P, S>
         requires helpers { All (λ h. IsHelper service.now (arc_value h.mailbox) h.asker) helpers.items }
         requires few { length helpers.items < 64 }
+        requires nobody_asked { asked.items ≡ [] }
+        requires room { length helpers.items ≤ vec_capacity asked }
         ensures { result ≡ record { service = service.now; workers = 1 + length helpers.items } }
     {
-        Pool { helpers, service }
+        Pool {
+            helpers,
+            asked,
+            service,
+        }
     }
 
     /// Waits until each kept worker has begun, but not for ever: where no thread can be had for one, it begins after the
@@ -84,14 +96,15 @@ impl<'a, P: Drop, S: Service<P>> Pool<'a, P, S> {
     }
 
     /// Has each of these pieces served. Each kept worker that is there gets one piece from the end of the list, while
-    /// more than one is left. The caller serves the rest. It takes no memory.
+    /// more than one is left. The caller serves the rest. Once its own are done the caller takes back each piece that its
+    /// worker has not begun, and serves it. It takes no memory.
     pub fn serve_each<W: Wait>(&mut self, rt: &W, pieces: &mut Vec<P>)
         requires may { All (S.may_serve self.old.service) pieces.old.items }
         ensures pool { self.new ≡ self.old }
         ensures served { AllZip S.serves pieces.old.items pieces.new.items }
         ensures room { vec_capacity pieces.new ≡ vec_capacity pieces.old }
     {
-        serve_with(rt, &mut self.helpers, pieces, self.service);
+        serve_with(rt, &mut self.helpers, &mut self.asked, pieces, self.service);
     }
 
     /// Lets the kept workers go, each of whom then returns. The caller stays alone.
@@ -132,33 +145,54 @@ fn dismiss_all<P: Drop, S: Service<P>>(helpers: &mut Vec<Helper<P, S>>)
     helpers.push_reserved(helper);
 }
 
-// The caller and these kept workers serve pieces.
+// The caller and these kept workers serve pieces, while those who were asked before have theirs. Before the caller waits
+// for anybody it has taken back what nobody has begun.
 fn serve_with<W: Wait, P: Drop, S: Service<P>>(
     rt: &W,
     helpers: &mut Vec<Helper<P, S>>,
+    asked: &mut Vec<Asked<P, S>>,
     pieces: &mut Vec<P>,
     service: &S,
 )
     requires helpers { All (λ h. IsHelper service.now (arc_value h.mailbox) h.asker) helpers.old.items }
+    requires asked { All (IsOut (S.may_serve service.now)) asked.old.items }
+    requires asked_room { length helpers.old.items + length asked.old.items ≤ vec_capacity asked.old }
     requires may { All (S.may_serve service.now) pieces.old.items }
     ensures helpers { helpers.new.items ≡ helpers.old.items }
     ensures helper_room { vec_capacity helpers.new ≡ vec_capacity helpers.old }
+    ensures asked { AllZip (Keeps S.serves) asked.old.items asked.new.items }
+    ensures asked_room { vec_capacity asked.new ≡ vec_capacity asked.old }
     ensures served { AllZip S.serves pieces.old.items pieces.new.items }
     ensures room { vec_capacity pieces.new ≡ vec_capacity pieces.old }
 {
-    let Some(mut helper) = helpers.pop() else {
+    let Some(helper) = helpers.pop() else {
         serve_alone(service, pieces);
+        take_back_all(service, asked);
         return;
     };
     let Some(piece) = piece_for(&helper, pieces) else {
-        serve_with(rt, helpers, pieces, service);
+        serve_with(rt, helpers, asked, pieces, service);
         helpers.push_reserved(helper);
         return;
     };
-    helper.post(piece);
-    serve_with(rt, helpers, pieces, service);
-    pieces.push_reserved(helper.collect(rt));
+    asked.push_reserved(Asked::new(helper, piece));
+    serve_with(rt, helpers, asked, pieces, service);
+    let Some(last) = asked.pop() else {
+        unreachable!()
+    };
+    let (piece, helper) = last.finish(rt);
+    pieces.push_reserved(piece);
     helpers.push_reserved(helper);
+}
+
+// Takes back each piece that its worker has not begun, and serves it. A later one's worker may begin meanwhile.
+fn take_back_all<P: Drop, S: Service<P>>(service: &S, asked: &mut [Asked<P, S>])
+    requires { All (IsOut (S.may_serve service.now)) asked.old }
+    ensures { AllZip (Keeps S.serves) asked.old asked.new }
+{
+    for k in 0..asked.len() {
+        asked[k].take_back(service);
+    }
 }
 
 // The last piece, for a worker that has begun, while more than one is left.

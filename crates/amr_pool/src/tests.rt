@@ -154,3 +154,19 @@ fn the_caller_doubles_alone(rt: HostRuntime) -> Result<(), Fail> {
     doubler.check(&rt);
     Ok(())
 }
+
+// Workers are there who begin nothing: the caller takes their pieces back.
+#[test]
+fn the_caller_takes_pieces_back(rt: HostRuntime) -> Result<(), Fail> {
+    let alloc: Global = rt.alloc();
+    let doubler = Doubler::awaiting(0);
+    let (mut pool, recruits) = Pool::hire(alloc, &doubler, 4)?;
+    for recruit in &recruits {
+        recruit.mailbox.attend();
+    }
+    gather_and_double(&rt, alloc, &mut pool)?;
+    drop(pool.dismiss());
+    drop(recruits);
+    doubler.check(&rt);
+    Ok(())
+}
