@@ -1,5 +1,5 @@
 -- The parents of the cells of a strip.
-use Rattle.std.proofs.Common.{◌≡◌, ◌∙◌, ℕ, ◌+◌, ◌*◌, ◌/◌, ◌<◌, ℤ, pos, ◌+ℤ◌, ◌≤ℤ◌, IsTrue, sym, ap, subst, arith}
+use Rattle.std.proofs.Common.{◌≡◌, ◌∙◌, ℕ, ◌+◌, ◌/◌, ◌<◌, ℤ, pos, ◌+ℤ◌, ◌≤ℤ◌, IsTrue, sym, ap, subst, arith}
 use Rattle.std.proofs.lemmas.Int.{ints}
 use Rattle.amr_box.specs.declared.Cell.{Cell}
 use Rattle.amr_box.specs.declared.Axis.{Axis}
@@ -11,7 +11,8 @@ use Rattle.amr_def.proofs.Nesting.{half_ahead, odd_small}
 use Rattle.amr_patch.specs.declared.patches.Patch.{Patch}
 use Rattle.amr_patch.specs.Places.{place}
 use Rattle.amr_patch.specs.Patches.{box}
-use Rattle.amr_ghost.specs.Strips.{step}
+use Rattle.amr_ghost.specs.declared.entries.Entries.{Entries}
+use Rattle.amr_ghost.specs.Strips.{nth_place, step}
 use Rattle.amr_ghost.proofs.Homes.{held_ahead}
 
 -- two cells of a strip have one parent
@@ -19,10 +20,9 @@ pub parent_ahead : (axis : Axis) (c : Cell) (k : ℕ) → parent (step axis c k)
 parent_ahead X c k = λ i. cell (half_ahead c.x k i) (half c.y)
 parent_ahead Y c k = λ i. cell (half c.x) (half_ahead c.y k i)
 
-pub parent_place : (q : Patch) (b : Extent) (axis : Axis) (from first_parent : Cell) (first stride skipped k at : ℕ) → b ≡ box q → first_parent ≡ parent from → skipped ≡ odd (along axis from) → ((j : ℕ) → first + j * stride ≡ place b (step axis first_parent j)) → at ≡ first + ((skipped + k) / 2) * stride → at ≡ place (box q) (parent (step axis from k))
-parent_place q b axis from first_parent first stride skipped k at same is_parent is_odd places is =
-    is
-    ∙ places ((skipped + k) / 2)
+pub parent_place : (q : Patch) (b : Extent) (e : Entries) (axis : Axis) (from first_parent : Cell) (skipped k : ℕ) → b ≡ box q → first_parent ≡ parent from → skipped ≡ odd (along axis from) → ((j : ℕ) → nth_place e j ≡ place b (step axis first_parent j)) → nth_place e ((skipped + k) / 2) ≡ place (box q) (parent (step axis from k))
+parent_place q b e axis from first_parent skipped k same is_parent is_odd places =
+    places ((skipped + k) / 2)
     ∙ ap (λ (t : Extent). place t (step axis first_parent ((skipped + k) / 2))) same
     ∙ ap (λ (c : Cell). place (box q) (step axis c ((skipped + k) / 2))) is_parent
     ∙ ap (λ (n : ℕ). place (box q) (step axis (parent from) ((n + k) / 2))) is_odd

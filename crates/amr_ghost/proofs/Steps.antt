@@ -1,5 +1,5 @@
--- One ghost cell that is given its value and its mark.
-use Rattle.std.proofs.Common.{◌≡◌, ◌≢◌, ℕ, Bool, true, false, ◌&&◌, ◌||◌, IsTrue, refl, sym, ap, subst, ◌∙◌}
+-- Cells of a box, of its frame and of its corners: which are apart.
+use Rattle.std.proofs.Common.{◌≡◌, ◌≢◌, ℕ, Bool, true, false, ◌&&◌, ◌||◌, IsTrue, refl, ap, subst}
 use Rattle.std.specs.Prelude.{not, ◌⊎◌}
 use Rattle.std.proofs.Common.{inl, inr}
 use Rattle.std.proofs.Math.IntN.{ℤ_discrete}
@@ -8,10 +8,8 @@ use Rattle.amr_box.specs.Cells.{Extent, holds, within}
 use Rattle.amr_box.proofs.CellEquality.{same_cells}
 use Rattle.amr_patch.specs.declared.patches.Patch.{Patch}
 use Rattle.amr_patch.specs.Places.{grown, in_frame}
-use Rattle.amr_patch.specs.Patches.{box}
-use Rattle.amr_patch.proofs.Entries.{in_grown}
 use Rattle.amr_ghost.specs.Frames.{is_beside, is_corner}
-use Rattle.amr_ghost.specs.Filling.{HasGhost, IsGhostSet, KeepsCells, KeepsGhosts}
+use Rattle.amr_ghost.specs.Filling.{KeepsGhosts}
 
 not_both : (a b : Bool) → IsTrue (a && not b) → IsTrue b → ⊥
 not_both true true h k = cc
@@ -41,26 +39,6 @@ corner_apart b c d beside corner e = neither (in_frame b c) (within b.lo.x b.hi.
 pub corner_grown : (b : Extent) (d : Cell) → IsTrue (is_corner b d) → IsTrue (holds (grown b) d)
 corner_grown b d h = frame_grown b d (first_of_both (in_frame b d) (within b.lo.x b.hi.x d.x || within b.lo.y b.hi.y d.y) h)
 
-pub ghost_keeps_cells : (q r : Patch) (c : Cell) (v : ℕ) (t : Bool) → IsTrue (in_frame (box q) c) → IsTrue (is_beside (box q) c) → IsGhostSet q r c v t → KeepsCells q r
-ghost_keeps_cells q r c v t ghost beside s = record {
-  of_box = s.of_box;
-  masses = λ d h. s.others d (in_grown (box q) d h) (apart_cells (box q) c d ghost h);
-  fluxes = s.fluxes;
-  corners = record {
-    values = λ d h. s.others d (corner_grown (box q) d h) (corner_apart (box q) c d beside h);
-    marks = λ d h. s.marks d (corner_grown (box q) d h) (corner_apart (box q) c d beside h);
-  };
-}
-
--- the cell that is set has its value and its mark; another keeps its own
-ghost_stays : (value : Cell → ℕ) (mark : Cell → Bool) (q r : Patch) (c d : Cell) (v : ℕ) (t : Bool) → value c ≡ v → mark c ≡ t → IsGhostSet q r c v t → IsTrue (in_frame (box q) d) → HasGhost value mark q d → d ≢ c → HasGhost value mark r d
-ghost_stays value mark q r c d v t e f s there h other =
-    let g : IsTrue (holds (grown (box q)) d) = frame_grown (box q) d there in
-    record { valued = s.others d g other ∙ h.valued; marked = s.marks d g other ∙ h.marked }
-
-pub ghost_is_set : (value : Cell → ℕ) (mark : Cell → Bool) (q r : Patch) (c : Cell) (v : ℕ) (t : Bool) → value c ≡ v → mark c ≡ t → IsGhostSet q r c v t → HasGhost value mark r c
-ghost_is_set value mark q r c v t e f s = record { valued = s.set ∙ sym e; marked = s.marked ∙ sym f }
-
 -- a cell is another or it isn't
 cell_parts : (c d : Cell) → Dec (d.x ≡ c.x) → Dec (d.y ≡ c.y) → (d ≡ c) ⊎ (d ≢ c)
 cell_parts c d (yes e) (yes f) = inl (same_cells d c e f)
@@ -70,17 +48,5 @@ cell_parts c d (no e) f = inr (λ g. e (ap (λ (t : Cell). t.x) g))
 pub same_or_other : (c d : Cell) → (d ≡ c) ⊎ (d ≢ c)
 same_or_other c d = cell_parts c d (ℤ_discrete d.x c.x) (ℤ_discrete d.y c.y)
 
-kept_cases : (value : Cell → ℕ) (mark : Cell → Bool) (q r : Patch) (c d : Cell) (v : ℕ) (t : Bool) → value c ≡ v → mark c ≡ t → IsGhostSet q r c v t → IsTrue (in_frame (box q) d) → HasGhost value mark q d → (d ≡ c) ⊎ (d ≢ c) → HasGhost value mark r d
-kept_cases value mark q r c d v t e f s there h (inl same) = subst (λ (k : Cell). HasGhost value mark r k) (sym same) (ghost_is_set value mark q r c v t e f s)
-kept_cases value mark q r c d v t e f s there h (inr other) = ghost_stays value mark q r c d v t e f s there h other
-
-pub ghost_keeps_ghosts : (value : Cell → ℕ) (mark : Cell → Bool) (q r : Patch) (c : Cell) (v : ℕ) (t : Bool) → value c ≡ v → mark c ≡ t → IsGhostSet q r c v t → KeepsGhosts value mark q r
-ghost_keeps_ghosts value mark q r c v t e f s = record { at = λ d there h. kept_cases value mark q r c d v t e f s there h (same_or_other c d) }
-
 pub ghosts_refl : (value : Cell → ℕ) (mark : Cell → Bool) (q : Patch) → KeepsGhosts value mark q q
 ghosts_refl value mark q = record { at = λ c t h. h }
-
--- over two changes the box is to stay
-pub record KeepsAll (value : Cell → ℕ) (mark : Cell → Bool) (q r : Patch) : Type 0 where
-  pub cells : KeepsCells q r
-  pub ghosts : KeepsGhosts value mark q r

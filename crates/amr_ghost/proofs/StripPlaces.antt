@@ -1,9 +1,7 @@
 -- Where the cells of a strip stand in the lists of a patch.
-use Rattle.std.proofs.Common.{◌≡◌, ℕ, ◌+◌, ◌*◌, ◌^◌, ◌<◌, ◌≤◌, Bool, List, length, get_or, pos, ◌+ℤ◌, ◌-ℤ◌, IsTrue, refl, sym, ap, subst, ◌∙◌, arith}
+use Rattle.std.proofs.Common.{◌≡◌, ℕ, ◌+◌, ◌*◌, ◌<◌, Bool, List, length, pos, ◌+ℤ◌, ◌-ℤ◌, IsTrue, refl, sym, ap, subst, ◌∙◌, arith}
 use Rattle.std.specs.Prelude.{slice_index}
 use Rattle.std.proofs.lemmas.Int.{ints}
-use Rattle.std.proofs.Math.Nat.{mul-le-mul_right}
-use Rattle.std.specs.List.{AllZip}
 use Rattle.amr_box.specs.declared.Cell.{Cell}
 use Rattle.amr_box.specs.declared.Axis.{Axis}
 use Rattle.amr_box.specs.declared.Axis.TheVariants.{X, Y}
@@ -16,8 +14,6 @@ use Rattle.amr_patch.proofs.Rows.{inside, place_within, sides, zero-cut}
 use Rattle.amr_patch.proofs.Entries.{along_row, below}
 use Rattle.amr_ghost.specs.declared.entries.Entries.{Entries}
 use Rattle.amr_ghost.specs.Strips.{nth_place, step}
-use Rattle.amr_ghost.specs.Filling.{KeepsCells}
-use Rattle.amr_ghost.proofs.Zips.{zip_box}
 
 -- the place of a cell is one of the list
 pub place_below : (b : Extent) (c : Cell) → IsNear b → IsTrue (holds (grown b) c) → place b c < (height b + 2) * (width b + 2)
@@ -31,6 +27,9 @@ place_below b c near h =
 
 pub place_in_list : (q : Patch) (c : Cell) → IsTrue (holds (grown (box q)) c) → place (box q) c < length q.data.value.values.items
 place_in_list q c h = let p : place (box q) c < (height (box q) + 2) * (width (box q) + 2) = place_below (box q) c q.near h in rw q.value_count p
+
+pub entry_in_list : (q : Patch) (c : Cell) (at : ℕ) → at ≡ place (box q) c → IsTrue (holds (grown (box q)) c) → at < length q.data.value.values.items
+entry_in_list q c at e h = subst (λ (n : ℕ). n < length q.data.value.values.items) (sym e) (place_in_list q c h)
 
 -- the cells of a strip along x stand one by one, those of one along y a row of the grown box apart
 pub along_x : (b : Extent) (c : Cell) (first k : ℕ) → IsTrue (holds (grown b) c) → first ≡ place b c → first + k * 1 ≡ place b (step X c k)
@@ -54,24 +53,6 @@ along_y b c first stride k h e f =
 pub entry_is : (q : Patch) (b : Extent) (c : Cell) (at v : ℕ) → box q ≡ b → at ≡ place b c → v ≡ slice_index q.data.value.values.items at → v ≡ value_in q c
 unfolding value_in
 entry_is q b c at v e f g = g ∙ ap (λ (n : ℕ). slice_index q.data.value.values.items n) (f ∙ ap (λ (t : Extent). place t c) (sym e))
-
--- ---- the places of a strip in a patch of a list
-
-pub place_small : (q : Patch) (c : Cell) → IsTrue (holds (grown (box q)) c) → place (box q) c < 2 ^ 63
-place_small q c h =
-    let s = sides (box q) q.near in
-    let p : place (box q) c < (height (box q) + 2) * (width (box q) + 2) = place_below (box q) c q.near h in
-    let rows : (height (box q) + 2) * (width (box q) + 2) ≤ 33554435 * (width (box q) + 2) = mul-le-mul_right {m = height (box q) + 2} {n = 33554435} (width (box q) + 2) (omega (arith, s.flat)) in
-    omega (arith, p, rows, s.narrow)
-
-pub still_place : (ps qs : List Patch) (i : ℕ) (d e : Patch) (b : Extent) (c : Cell) (at : ℕ) → AllZip KeepsCells ps qs → i < length ps → b ≡ box (get_or ps i d) → at ≡ place b c → at ≡ place (box (get_or qs i e)) c
-still_place ps qs i d e b c at kept there same is = is ∙ ap (λ (t : Extent). place t c) (same ∙ sym (zip_box ps qs i d e kept there))
-
-pub entry_small : (q : Patch) (c : Cell) (at : ℕ) → at ≡ place (box q) c → IsTrue (holds (grown (box q)) c) → at < 2 ^ 63
-entry_small q c at e h = subst (λ (n : ℕ). n < 2 ^ 63) (sym e) (place_small q c h)
-
-pub entry_in_list : (q : Patch) (c : Cell) (at : ℕ) → at ≡ place (box q) c → IsTrue (holds (grown (box q)) c) → at < length q.data.value.values.items
-entry_in_list q c at e h = subst (λ (n : ℕ). n < length q.data.value.values.items) (sym e) (place_in_list q c h)
 
 -- ---- the entries of a strip in the lists of a patch
 

@@ -32,6 +32,9 @@ same_written z e given wanted n m xs ws ys zs counts values before after w = rw 
 
 -- ---- entries that stand side by side
 
+pub at_once : (e : Entries) (k : ℕ) → e.stride ≡ 1 → nth_place e k ≡ e.first + k
+at_once e k one = ap (λ (s : ℕ). e.first + k * s) one ∙ omega arith
+
 pub room_for : (e : Entries) (n size : ℕ) → e.stride ≡ 1 → 0 < n → ((k : ℕ) → k < n → nth_place e k < size) → e.first + n ≤ size
 room_for e n size one some within =
     let last : nth_place e (n - 1) < size = within (n - 1) (omega (arith, some)) in
@@ -47,13 +50,10 @@ module _ {A : Type 0} (z : A) (e : Entries) (given : ℕ → A) (n m : ℕ) (xs 
   front : length (take e.first xs) ≡ e.first
   front = length-take e.first xs ∙ omega (arith, room)
 
-  at_once : (k : ℕ) → nth_place e k ≡ e.first + k
-  at_once k = ap (λ (s : ℕ). e.first + k * s) one ∙ omega arith
-
   read : (k : ℕ) → k < n → get_or (put_mid e.first m xs ys) (nth_place e k) z ≡ given k
   read k t =
       let back : e.first + k - e.first ≡ k = omega arith in
-      ap (λ (i : ℕ). get_or (put_mid e.first m xs ys) i z) (at_once k)
+      ap (λ (i : ℕ). get_or (put_mid e.first m xs ys) i z) (at_once e k one)
       ∙ get_or-append_right (take e.first xs) (ys ++ post_of e.first m xs) e.first (e.first + k) z front (omega arith)
       ∙ ap (λ (i : ℕ). get_or (ys ++ post_of e.first m xs) i z) back
       ∙ get_or_append_left ys (post_of e.first m xs) z k (omega (arith, t, same))
@@ -63,7 +63,7 @@ module _ {A : Type 0} (z : A) (e : Entries) (given : ℕ → A) (n m : ℕ) (xs 
   kept j (inl lt) u other = get_or_append_left (take e.first xs) (ys ++ post_of e.first m xs) z j (omega (arith, front, lt)) ∙ get_or-take e.first xs j z lt
   kept j (inr le) (inl lt) other =
       let at : j ≡ e.first + (j - e.first) = omega (arith, le) in
-      absurd (other (j - e.first) (omega (arith, le, lt)) (at ∙ sym (at_once (j - e.first))))
+      absurd (other (j - e.first) (omega (arith, le, lt)) (at ∙ sym (at_once e (j - e.first) one)))
   kept j (inr le) (inr past) other =
       let rest : e.first + (m + (j - e.first - n)) ≡ j = omega (arith, past, span) in
       get_or-append_right (take e.first xs) (ys ++ post_of e.first m xs) e.first j z front le

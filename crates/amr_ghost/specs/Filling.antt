@@ -12,7 +12,7 @@ use Rattle.amr_def.specs.State.{Masses}
 use Rattle.amr_def.specs.Value.{value_at}
 use Rattle.amr_patch.specs.declared.patches.Patch.{Patch}
 use Rattle.amr_patch.specs.Places.{grown, in_frame}
-use Rattle.amr_patch.specs.Patches.{ArePatchesApart, SameFluxes, SameOtherMarks, SameOtherValues, box, mark_in, mass_in, masses_in, value_in}
+use Rattle.amr_patch.specs.Patches.{ArePatchesApart, SameFluxes, box, mark_in, mass_in, masses_in, value_in}
 use Rattle.amr_patch.specs.declared.lookup.Order.{Order}
 use Rattle.amr_patch.specs.Orders.{IsOrderOf}
 use Rattle.amr_gaps.specs.declared.gaps.Starts.{Starts}
@@ -33,15 +33,6 @@ pub record KeepsCells (q r : Patch) : Type 0 where
 pub record HasGhost (value : Cell → ℕ) (mark : Cell → Bool) (q : Patch) (c : Cell) : Type 0 where
   pub valued : value_in q c ≡ value c
   pub marked : mark_in q c ≡ mark c
-
--- what a patch becomes where a ghost cell is given a value and a mark
-pub record IsGhostSet (q r : Patch) (c : Cell) (v : ℕ) (of_level : Bool) : Type 0 where
-  pub set : value_in r c ≡ v
-  pub marked : mark_in r c ≡ of_level
-  pub others : SameOtherValues c q r
-  pub marks : SameOtherMarks c q r
-  pub fluxes : SameFluxes q r
-  pub of_box : box r ≡ box q
 
 -- what a patch becomes where the first ghost cells of a strip are given values, and all of them a mark
 pub record AreGhostsSet (q r : Patch) (axis : Axis) (to : Cell) (count : ℕ) (given : ℕ → ℕ) (of_level : Bool) : Type 0 where

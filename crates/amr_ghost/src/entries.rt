@@ -1,6 +1,6 @@
 //! Where the entries of the cells of a strip stand in the lists of a patch, and how they are read and written there.
 
-ghost use Rattle.std.specs.Prelude.{◌≡◌, ◌≢◌, ℕ, ◌+◌, ◌*◌, ◌<◌, ◌^◌, pos, negsuc, ◌-ℤ◌, ◌≤ℤ◌, ◌<ℤ◌, length, slice_index, false, true, IsTrue};
+ghost use Rattle.std.specs.Prelude.{◌≡◌, ◌≢◌, ℕ, ◌+◌, ◌*◌, ◌/◌, ◌<◌, pos, negsuc, ◌-ℤ◌, ◌≤ℤ◌, ◌<ℤ◌, length, slice_index, slice_index_or, IsTrue};
 ghost use Rattle.amr_box.specs.Cells.{IsNear, holds};
 ghost use Rattle.amr_patch.specs.Places.{grown, place};
 ghost use Rattle.amr_ghost.specs.Strips.{AreWritten, nth_place, step};
@@ -33,14 +33,6 @@ pub(crate) fn entries_of(b: &Bx, axis: Axis, c: Cell) -> Entries
             stride: row_length,
         },
     }
-}
-
-/// The place of the cell that is `k` cells on.
-pub(crate) fn nth(strip: Entries, k: u32) -> usize
-    requires { strip.first + k * strip.stride < 2 ^ 63 }
-    ensures { result ≡ strip.first + k * strip.stride }
-{
-    strip.first + k as usize * strip.stride
 }
 
 /// Reads the values at the first places of a strip.
@@ -116,19 +108,78 @@ pub(crate) fn copy_within_list(values: &mut [u32], source: Entries, target: Entr
     }
 }
 
-/// Sets the marks at the first places of a strip.
+/// Gives all places of a list one value.
 #[inline(always)]
-pub(crate) fn mark_entries(marks: &mut [bool], target: Entries, count: usize)
+fn fill_all<T: Copy>(values: &mut [T], value: T)
+    ensures count { length values.new ≡ length values.old }
+    ensures filled { (k : ℕ) (absent : T) → k < length values.old → slice_index_or values.new k absent ≡ value }
+{
+    for k in 0..values.len() {
+        values[k] = value;
+    }
+}
+
+/// Gives the first places of a strip one value.
+#[inline(always)]
+pub(crate) fn fill_entries<T: Copy>(values: &mut [T], target: Entries, count: usize, value: T)
     requires some { 0 < count }
-    requires within { (k : ℕ) → k < count → nth_place target k < length marks.old }
+    requires within { (k : ℕ) → k < count → nth_place target k < length values.old }
     requires apart { 0 < target.stride }
-    ensures { AreWritten false target count (λ k. true) marks.old marks.new }
+    ensures { (absent : T) → AreWritten absent target count (λ k. value) values.old values.new }
 {
     if target.stride == 1 {
-        marks[target.first..target.first + count].fill(true);
+        fill_all(&mut values[target.first..target.first + count], value);
         return;
     }
     for k in 0..count {
-        marks[target.first + k * target.stride] = true;
+        values[target.first + k * target.stride] = value;
+    }
+}
+
+/// Gives the values quarters of the masses: of each mass two values, but of the first mass one value alone where its other is
+/// skipped.
+#[inline(always)]
+fn quarter_all(masses: &[u32], skipped: usize, values: &mut [u32])
+    requires skipped { skipped < 2 }
+    requires within { (k : ℕ) → k < length values.old → (skipped + k) / 2 < length masses.now }
+    ensures count { length values.new ≡ length values.old }
+    ensures quarters { (k : ℕ) → k < length values.old → slice_index values.new k ≡ slice_index masses.now ((skipped + k) / 2) / 4 }
+{
+    for k in 0..values.len() {
+        values[k] = masses[(skipped + k) / 2] / 4;
+    }
+}
+
+/// Writes quarters of the masses at the first places of a strip to those of another strip, in another list: each to two places,
+/// but the first to one place alone where its other is skipped.
+#[inline(always)]
+pub(crate) fn quarter_entries(
+    from: &[u32],
+    source: Entries,
+    skipped: usize,
+    values: &mut [u32],
+    target: Entries,
+    count: usize,
+)
+    requires some { 0 < count }
+    requires skipped { skipped < 2 }
+    requires from_within { (k : ℕ) → k < count → nth_place source ((skipped + k) / 2) < length from.now }
+    requires within { (k : ℕ) → k < count → nth_place target k < length values.old }
+    requires apart { 0 < target.stride }
+    ensures { AreWritten 0 target count (λ k. slice_index from.now (nth_place source ((skipped + k) / 2)) / 4) values.old values.new }
+{
+    if target.stride == 1 {
+        if source.stride == 1 {
+            quarter_all(
+                &from[source.first..],
+                skipped,
+                &mut values[target.first..target.first + count],
+            );
+            return;
+        }
+    }
+    for k in 0..count {
+        let mass = from[source.first + (skipped + k) / 2 * source.stride];
+        values[target.first + k * target.stride] = mass / 4;
     }
 }

@@ -9,34 +9,29 @@ ghost use Rattle.amr_patch.specs.Places.{in_frame, place};
 ghost use Rattle.amr_patch.specs.Patches.{box, mass_in};
 ghost use Rattle.amr_ghost.specs.Strips.{HasRoom, step};
 ghost use Rattle.amr_ghost.specs.Frames.{is_beside};
-ghost use Rattle.amr_ghost.specs.Filling.{AreCopied, AreGhostsSet, AreGiven, HasGhost, HasGhosts, IsGhostSet, KeepsCells, KeepsGhosts};
+ghost use Rattle.amr_ghost.specs.Filling.{AreCopied, AreGhostsSet, AreGiven, HasGhost, HasGhosts, KeepsCells, KeepsGhosts};
 
 use crate::entries::{
-    copy_entries, copy_within_list, entries_of, give_entries, mark_entries, nth, take_entries,
+    copy_entries, copy_within_list, entries_of, fill_entries, give_entries, quarter_entries,
+    take_entries,
 };
 use crate::places::odd_along;
 use crate::sides::Strip;
 use amr_box::{Axis, Cell, parent};
 use amr_patch::Patch;
 
-/// The mass at a place.
-fn entry(patch: &Patch, at: usize) -> u32
-    requires { at < length patch.now.data.value.values.items }
-    ensures { result ≡ slice_index patch.now.data.value.values.items at }
-{
-    let data = &*patch.data;
-    data.values[at]
-}
-
-/// Gives the ghost cell whose entries stand at a place a value and a mark.
+/// Gives the ghost cells of a strip one value. None is marked as a cell of the level.
 #[inline(always)]
-fn set_entry(patch: &mut Patch, at: usize, value: u32, of_level: bool)
-    requires { at < length patch.old.data.value.values.items }
-    ensures { (c : Cell) → IsTrue (in_frame (box patch.old) c) → at ≡ place (box patch.old) c → IsGhostSet patch.old patch.new c value of_level }
+fn set_ghosts(patch: &mut Patch, strip: Strip, value: u32)
+    requires some { 0 < strip.count }
+    requires ghost_cells { (k : ℕ) → k < strip.count → IsTrue (in_frame (box patch.old) (step strip.axis strip.from k)) }
+    ensures { AreGhostsSet patch.old patch.new strip.axis strip.from strip.count (λ k. value) false }
 {
+    let count = strip.count as usize;
+    let target = entries_of(&patch.bx(), strip.axis, strip.from);
     let data = &mut *patch.data;
-    data.values[at] = value;
-    data.marks[at] = of_level;
+    fill_entries(&mut data.values, target, count, value);
+    fill_entries(&mut data.marks, target, count, false);
 }
 
 /// Gives the ghost cells of a strip beside patch `i` one value. None is marked as a cell of the level.
@@ -50,11 +45,7 @@ pub(crate) fn set_strip(patches: &mut [Patch], i: usize, strip: Strip, value: u3
     ensures ghosts { (value_of : Cell → ℕ) (mark : Cell → Bool) → AreGiven value_of mark strip.axis strip.from strip.count (λ k. value) false → AllZip (KeepsGhosts value_of mark) patches.old patches.new }
     ensures set { (value_of : Cell → ℕ) (mark : Cell → Bool) (q : Patch) → AreGiven value_of mark strip.axis strip.from strip.count (λ k. value) false → HasGhosts value_of mark (slice_index_or patches.new i q) strip.axis strip.from strip.count }
 {
-    let target = entries_of(&patches[i].bx(), strip.axis, strip.from);
-    for k in 0..strip.count {
-        let at = nth(target, k);
-        set_entry(&mut patches[i], at, value, false);
-    }
+    set_ghosts(&mut patches[i], strip, value);
 }
 
 /// Gives the ghost cells of a strip a mass each, and marks them as cells of the level.
@@ -68,7 +59,7 @@ fn give_ghosts(patch: &mut Patch, strip: Strip, masses: &[u32])
     let target = entries_of(&patch.bx(), strip.axis, strip.from);
     let data = &mut *patch.data;
     give_entries(&mut data.values, target, masses);
-    mark_entries(&mut data.marks, target, masses.len());
+    fill_entries(&mut data.marks, target, strip.count as usize, true);
 }
 
 /// Gives the ghost cells of a strip beside patch `i` a mass each, and marks them as cells of the level.
@@ -85,6 +76,32 @@ pub(crate) fn give_strip(patches: &mut [Patch], i: usize, strip: Strip, masses: 
     ensures set { (value : Cell → ℕ) (mark : Cell → Bool) (q : Patch) → AreGiven value mark strip.axis strip.from strip.count (λ k. slice_index masses.now k) true → HasGhosts value mark (slice_index_or patches.new i q) strip.axis strip.from strip.count }
 {
     give_ghosts(&mut patches[i], strip, masses);
+}
+
+/// Gives the ghost cells of a strip quarters of masses of a coarser patch. None is marked as a cell of the level. The masses are
+/// those of the parents of as many cells along the same axis, from a cell on.
+#[inline(always)]
+fn quarter_ghosts(patch: &mut Patch, strip: Strip, source: &Patch, from: Cell)
+    requires some { 0 < strip.count }
+    requires ghost_cells { (k : ℕ) → k < strip.count → IsTrue (in_frame (box patch.old) (step strip.axis strip.from k)) }
+    requires masses { (k : ℕ) → k < strip.count → IsTrue (holds (box source.now) (parent (step strip.axis from k))) }
+    ensures { AreGhostsSet patch.old patch.new strip.axis strip.from strip.count (λ k. mass_in source.now (parent (step strip.axis from k)) / 4) false }
+{
+    let count = strip.count as usize;
+    let parents = entries_of(&source.bx(), strip.axis, parent(from));
+    let skipped = odd_along(strip.axis, from) as usize;
+    let children = entries_of(&patch.bx(), strip.axis, strip.from);
+    let held = &*source.data;
+    let data = &mut *patch.data;
+    quarter_entries(
+        &held.values,
+        parents,
+        skipped,
+        &mut data.values,
+        children,
+        count,
+    );
+    fill_entries(&mut data.marks, children, count, false);
 }
 
 /// Gives the ghost cells of a strip beside patch `i` quarters of masses of a coarser patch. None is marked as a cell of the level. The
@@ -106,14 +123,7 @@ pub(crate) fn quarter_strip(
     ensures ghosts { (value : Cell → ℕ) (mark : Cell → Bool) → AreGiven value mark strip.axis strip.from strip.count (λ k. mass_in source.now (parent (step strip.axis from k)) / 4) false → AllZip (KeepsGhosts value mark) patches.old patches.new }
     ensures set { (value : Cell → ℕ) (mark : Cell → Bool) (q : Patch) → AreGiven value mark strip.axis strip.from strip.count (λ k. mass_in source.now (parent (step strip.axis from k)) / 4) false → HasGhosts value mark (slice_index_or patches.new i q) strip.axis strip.from strip.count }
 {
-    let parents = entries_of(&source.bx(), strip.axis, parent(from));
-    let skipped = odd_along(strip.axis, from);
-    let target = entries_of(&patches[i].bx(), strip.axis, strip.from);
-    for k in 0..strip.count {
-        let mass = entry(source, nth(parents, (skipped + k) / 2));
-        let at = nth(target, k);
-        set_entry(&mut patches[i], at, mass / 4, false);
-    }
+    quarter_ghosts(&mut patches[i], strip, source, from);
 }
 
 /// Gives the ghost cells of a strip masses of another patch, and marks them as cells of the level. The masses are those of as
@@ -131,7 +141,7 @@ fn copy_ghosts(patch: &mut Patch, strip: Strip, source: &Patch, from: Cell)
     let held = &*source.data;
     let data = &mut *patch.data;
     copy_entries(&held.values, taken, &mut data.values, target, count);
-    mark_entries(&mut data.marks, target, count);
+    fill_entries(&mut data.marks, target, count, true);
 }
 
 /// Gives the ghost cells of a strip masses of their own patch, which lies beside itself where an axis is periodic, and marks
@@ -148,7 +158,7 @@ fn copy_own_ghosts(patch: &mut Patch, strip: Strip, from: Cell)
     let target = entries_of(&bx, strip.axis, strip.from);
     let data = &mut *patch.data;
     copy_within_list(&mut data.values, taken, target, count);
-    mark_entries(&mut data.marks, target, count);
+    fill_entries(&mut data.marks, target, count, true);
 }
 
 /// Gives the ghost cells of a strip beside patch `i` masses of patch `j`, and marks them as cells of the level. The masses are

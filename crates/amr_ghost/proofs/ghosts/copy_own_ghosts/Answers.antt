@@ -1,15 +1,11 @@
-use Rattle.std.proofs.Common.{◌≡◌, List, true, false, refl, ap, ◌∙◌, ℕ, arith}
+use Rattle.std.proofs.Common.{List, false, refl, ap, ◌∙◌, ℕ}
 use Rattle.std.specs.Prelude.{slice_index}
-use Rattle.std.proofs.lemmas.List.{with_items_is}
 use Rattle.amr_patch.specs.declared.patches.PatchData.{PatchData}
-use Rattle.amr_patch.specs.Patches.{box, mass_in}
-use Rattle.amr_patch.proofs.Edges.{kept_edges}
+use Rattle.amr_patch.specs.Patches.{box}
 use Rattle.amr_patch.proofs.Entries.{in_grown}
 use Rattle.amr_ghost.specs.Strips.{nth_place, step}
-use Rattle.amr_ghost.proofs.Steps.{frame_grown}
-use Rattle.amr_ghost.proofs.StripPlaces.{entry_is, nth_is, within_marks, within_values}
-use Rattle.amr_ghost.proofs.WrittenEntries.{same_written}
-use Rattle.amr_ghost.proofs.SetGhosts.{box_elsewhere, written_ghosts}
+use Rattle.amr_ghost.proofs.StripPlaces.{entry_is, nth_is, within_values}
+use Rattle.amr_ghost.proofs.SetGhosts.{box_elsewhere, in_lent_marks, in_lent_values, lent_places, lent_written}
 use Rattle.amr_ghost.proofs.Spans.{begins_in_box, begins_in_frame}
 use Rattle.amr_ghost.proofs.ghosts.copy_own_ghosts.Goals as goal
 
@@ -29,47 +25,24 @@ copy_within_list-requires-clause-from_within c =
     c.deref_mut.result.now (c.deref_mut.ensures.value ∙ ap (λ (d : PatchData). d.values.items) c.deref_mut-data.ensures.value)
 
 pub copy_within_list-requires-clause-within : goal.copy_within_list-requires-clause-within
-copy_within_list-requires-clause-within c =
-    let b = box c.args.patch.now in
-    let strip = c.args.strip in
-    let places = nth_is b c.bx-bx.result c.entries_of-target.result strip.axis strip.from c.bx-bx.ensures.value c.entries_of-target.ensures.places in
-    within_values c.args.patch.now c.entries_of-target.result strip.axis strip.from strip.count places
-    (λ j u. frame_grown b (step strip.axis strip.from j) (c.requires.ghost_cells j u))
-    c.deref_mut.result.now (c.deref_mut.ensures.value ∙ ap (λ (d : PatchData). d.values.items) c.deref_mut-data.ensures.value)
+copy_within_list-requires-clause-within c = in_lent_values c.args.patch.now c.args.strip c.entries_of-target.result c.deref_mut-data.ensures.value c.bx-bx.ensures.value c.entries_of-target.ensures.places c.requires.ghost_cells c.deref_mut.ensures.value
 
 pub copy_within_list-requires-clause-elsewhere : goal.copy_within_list-requires-clause-elsewhere
 copy_within_list-requires-clause-elsewhere c j k t u =
     let q = c.args.patch.now in
     let strip = c.args.strip in
-    let places = nth_is (box q) c.bx-bx.result c.entries_of-target.result strip.axis strip.from c.bx-bx.ensures.value c.entries_of-target.ensures.places in
+    let places = lent_places c.args.patch.now c.args.strip c.entries_of-target.result c.deref_mut-data.ensures.value c.bx-bx.ensures.value c.entries_of-target.ensures.places c.requires.ghost_cells in
     let sources = nth_is (box q) c.bx-bx.result c.entries_of-taken.result strip.axis c.args.from c.bx-bx.ensures.value c.entries_of-taken.ensures.places in
     box_elsewhere q c.entries_of-target.result strip.axis strip.from strip.count places c.requires.ghost_cells (step strip.axis c.args.from j) (nth_place c.entries_of-taken.result j) (sources j) (c.requires.masses j t) k u
 
-pub mark_entries-requires-clause-within : goal.mark_entries-requires-clause-within
-mark_entries-requires-clause-within c =
-    let b = box c.args.patch.now in
-    let strip = c.args.strip in
-    let places = nth_is b c.bx-bx.result c.entries_of-target.result strip.axis strip.from c.bx-bx.ensures.value c.entries_of-target.ensures.places in
-    within_marks c.args.patch.now c.entries_of-target.result strip.axis strip.from strip.count places
-    (λ j u. frame_grown b (step strip.axis strip.from j) (c.requires.ghost_cells j u))
-    c.deref_mut-2.result.now (c.deref_mut-2.ensures.value ∙ ap (λ (d : PatchData). d.marks.items) c.deref_mut-data.ensures.value)
+pub fill_entries-requires-clause-within : goal.fill_entries-requires-clause-within
+fill_entries-requires-clause-within c = in_lent_marks c.args.patch.now c.args.strip c.entries_of-target.result c.deref_mut-data.ensures.value c.bx-bx.ensures.value c.entries_of-target.ensures.places c.requires.ghost_cells c.deref_mut-2.ensures.value
 
 pub returns : goal.returns
 returns c =
-    let q = c.args.patch.now in
     let d = c.args.patch.now in
-    let strip = c.args.strip in
-    let e = c.entries_of-target.result in
-    let f = c.entries_of-taken.result in
-    let held = c.deref_mut-data.ensures.value in
-    let values = with_items_is c.deref_mut-data.result.now.values c.copy_within_list.new.values (omega (arith, c.copy_within_list.ensures.same_length, c.deref_mut.ensures.len)) in
-    let marks = with_items_is c.deref_mut-data.result.now.marks c.mark_entries.new.marks (omega (arith, c.mark_entries.ensures.same_length, c.deref_mut-2.ensures.len)) in
-    let places = nth_is (box q) c.bx-bx.result e strip.axis strip.from c.bx-bx.ensures.value c.entries_of-target.ensures.places in
-    let sources = nth_is (box d) c.bx-bx.result f strip.axis c.args.from c.bx-bx.ensures.value c.entries_of-taken.ensures.places in
-    let given : ℕ → ℕ = λ k. slice_index c.deref_mut.result.now (nth_place f k) in
-    let wanted : ℕ → ℕ = λ k. mass_in d (step strip.axis c.args.from k) in
-    let read : (k : ℕ) → given k ≡ wanted k = λ k. entry_is d (box d) (step strip.axis c.args.from k) (nth_place f k) (given k) refl (sources k) (ap (λ (xs : List ℕ). slice_index xs (nth_place f k)) (c.deref_mut.ensures.value ∙ ap (λ (d : PatchData). d.values.items) c.deref_mut-data.ensures.value)) in
-    written_ghosts q e strip.axis strip.from strip.count places c.requires.ghost_cells _ wanted true refl
-    (same_written 0 e given wanted strip.count strip.count c.deref_mut.result.now q.data.value.values.items c.copy_within_list.new.values _ refl (λ k t. read k) (c.deref_mut.ensures.value ∙ ap (λ (t : PatchData). t.values.items) held) values c.copy_within_list.ensures)
-    (same_written false e (λ k. true) (λ k. true) strip.count strip.count c.deref_mut-2.result.now q.data.value.marks.items c.mark_entries.new.marks _ refl (λ k t. refl) (c.deref_mut-2.ensures.value ∙ ap (λ (t : PatchData). t.marks.items) held) marks c.mark_entries.ensures)
-    (kept_edges q _ refl (ap (λ (t : PatchData). t.x_low.items) held) (ap (λ (t : PatchData). t.x_high.items) held) (ap (λ (t : PatchData). t.y_low.items) held) (ap (λ (t : PatchData). t.y_high.items) held))
+    let e = c.entries_of-taken.result in
+    let sources = nth_is (box d) c.bx-bx.result e c.args.strip.axis c.args.from c.bx-bx.ensures.value c.entries_of-taken.ensures.places in
+    let read = λ (k : ℕ). entry_is d (box d) (step c.args.strip.axis c.args.from k) (nth_place e k) (slice_index c.deref_mut.result.now (nth_place e k)) refl (sources k) (ap (λ (xs : List ℕ). slice_index xs (nth_place e k)) (c.deref_mut.ensures.value ∙ ap (λ (d : PatchData). d.values.items) c.deref_mut-data.ensures.value)) in
+    lent_written c.args.patch.now c.args.strip c.entries_of-target.result c.deref_mut-data.ensures.value c.bx-bx.ensures.value c.entries_of-target.ensures.places c.requires.ghost_cells _
+    refl refl c.deref_mut.ensures.value c.deref_mut.ensures.len c.deref_mut-2.ensures.value c.deref_mut-2.ensures.len refl (λ k t. read k) c.copy_within_list.ensures (c.fill_entries.ensures false)
