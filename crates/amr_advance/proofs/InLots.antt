@@ -133,10 +133,10 @@ module _ {p : Problem} {l : ℕ} {old : Masses} {ps : List Patch} {cells : List 
   abbrev pub adds : ℕ → Patch → ℕ
   adds word = word_sum (around p l ps cells next) old word
 
-  same_count : length ps ≡ length qs
+  pub same_count : length ps ≡ length qs
   same_count = length_all_zip KeepsCells ps qs level.kept
 
-  pub run_counts : (k : ℕ) → length (run t.each k qs) ≡ length (run t.each k ps)
+  run_counts : (k : ℕ) → length (run t.each k qs) ≡ length (run t.each k ps)
   run_counts k = same_run t.each k qs ps (sym same_count)
 
   pub totals_small : (word : ℕ) → level_total (around p l ps cells next) (plain_size p l (masses_in ps) old) word < 2 ^ 63

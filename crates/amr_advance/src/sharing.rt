@@ -20,19 +20,15 @@ ghost use Rattle.amr_advance.specs.Teams.{IsTeamFor};
 use crate::level::Given;
 use crate::lots::LotTasks;
 use crate::running::{Workers, serve_lots};
-use amr_ghost::fill_across;
 use amr_def::Problem;
+use amr_ghost::fill_across;
 use amr_lots::{Phase, add_up, exchange_messages, exchange_runs, set_phase};
 use amr_patch::Patch;
 use amr_workers::Gate;
 use std::sync::Wait;
 
 /// Has the masses packed that other lots need, where that was not done at the end of the last step.
-fn pack_lots<R: Wait, G: Gate>(
-    workers: &mut Workers<'_, R, G>,
-    p: &Problem,
-    tasks: &mut LotTasks,
-)
+fn pack_lots<R: Wait, G: Gate>(workers: &mut Workers<'_, R, G>, p: &Problem, tasks: &mut LotTasks)
     requires may { All (λ x. MaySend x.value) tasks.old.lots.items }
     requires team { IfSome workers.old.team (IsTeamFor p.now workers.old.gate.now workers.old.count) }
     ensures workers { workers.new ≡ workers.old }
