@@ -1,5 +1,5 @@
 -- A layout that is kept serves each level with the same boxes beside levels with the same boxes.
-use Rattle.std.proofs.Common.{◌≡◌, ◌∙◌, ℕ, ◌+◌, ◌*◌, ◌^◌, ◌<◌, ◌≤◌, true, List, [], ◌∷◌, length, get_or, map, refl, sym, ap, subst, arith}
+use Rattle.std.proofs.Common.{◌≡◌, ◌∙◌, ℕ, ◌+◌, ◌*◌, ◌^◌, ◌<◌, ◌≤◌, Bool, true, List, [], ◌∷◌, length, get_or, map, refl, sym, ap, subst, arith}
 use Rattle.std.specs.Prelude.{is_some}
 use Rattle.std.specs.List.{All}
 use Rattle.amr_balance.specs.Turns.{IsLargestFirst, in_turn}
@@ -89,7 +89,6 @@ same_lot s t each k runs parts x g h =
     let boxes = run_boxes each k s.patches t.patches g.boxes in
     let count : length (run each k s.patches) ≡ length (run each k t.patches) = same_length (run each k s.patches) (run each k t.patches) boxes in
     record {
-      phase = h.phase;
       of_problem = h.of_problem ∙ g.problem;
       of_level = h.of_level ∙ g.level;
       count = h.count ∙ count;
@@ -99,6 +98,9 @@ same_lot s t each k runs parts x g h =
       own = h.own;
       places = h.places;
       inbox_count = h.inbox_count;
+      received = h.received;
+      own_received = h.own_received;
+      received_places = h.received_places;
       flow_count = h.flow_count ∙ count;
       flows = λ i v q lt. h.flows i v q (omega (arith, lt, count)) ∙ flows_in_run i q (omega (arith, lt, count)) lt;
       words = λ i v lt. subst (λ (cs : List Cell). All (λ (y : FlowTo). y.word < 2 + 2 * length cs) (get_or x.flows.items i v).items) g.cells (h.words i v (omega (arith, lt, count)));
@@ -165,4 +167,37 @@ still_here s t k g h = record {
   frames = same_frames s.problem t.problem s.level t.level s.patches t.patches k.frames g.problem g.level g.boxes h.frames;
   words = h.words ∙ ap (λ (cs : List Cell). 2 + 2 * length cs) g.cells;
   tasks = same_tasks s t k.tasks g h.tasks;
+}
+
+-- and where its tasks become others of the same patches
+pub with_tasks : (s : Around) (k : KeptLayout) (ts : Tasks) → IsLaidOut s k → AreTasks s ts → IsLaidOut s (record k { tasks = ts })
+with_tasks s k ts h are = record {
+  level = h.level;
+  boxes = h.boxes;
+  cells = h.cells;
+  finer = h.finer;
+  frames = h.frames;
+  words = h.words;
+  tasks = are;
+}
+
+-- lots serve whether they have packed messages or not
+with_flag : (s : Around) (t : LotTasks) (flag : Bool) → AreLotTasks s t → AreLotTasks s (record t { packed = flag })
+with_flag s t flag h = record {
+  some = h.some;
+  enough = h.enough;
+  edges = h.edges;
+  plan = h.plan;
+  planned = h.planned;
+  parts = h.parts;
+  parted = h.parted;
+  across = h.across;
+  lots = h.lots;
+}
+
+pub kept_with_flag : (p : Problem) (k : KeptLayout) (t : LotTasks) (flag : Bool) → k.tasks ≡ Lots t → IsKept p k → IsKept p (record k { tasks = Lots (record t { packed = flag }) })
+kept_with_flag p k t flag is h = record {
+  made_for = h.made_for;
+  of_problem = h.of_problem;
+  laid_out = with_tasks h.made_for k (Lots (record t { packed = flag })) h.laid_out (with_flag h.made_for t flag (subst (AreTasks h.made_for) is h.laid_out.tasks));
 }

@@ -1,13 +1,10 @@
 -- Lots that are made for a level: what each needs to serve a run of the level's patches.
-use Rattle.std.proofs.Common.{◌≡◌, ◌∙◌, ℕ, ◌+◌, ◌-◌, ◌*◌, ◌<◌, ◌≤◌, List, [], ◌∷◌, ◌++◌, length, get_or, set, take, drop, below_more, sym, ap, subst, arith}
+use Rattle.std.proofs.Common.{◌≡◌, ◌≢◌, ◌∙◌, ℕ, ◌+◌, ◌-◌, ◌*◌, ◌<◌, ◌≤◌, List, [], ◌∷◌, ◌++◌, length, get_or, take, drop, below_more, refl, sym, ap, subst, arith}
 use Rattle.std.specs.Prelude.{min}
 use Rattle.std.specs.Global.{Vec}
 use Rattle.std.specs.List.{All}
-use Rattle.std.proofs.Math.ListN.{length-set}
-use Rattle.std.proofs.Math.Seq.{take-append_seam}
-use Rattle.std.proofs.lemmas.Slice.{drop-put_mid}
-use borrow.Rule.Slice.PartMut.{put_mid, same_len_mid}
-use Rattle.std.proofs.lemmas.List.{get_or-drop, get_or-set_other, get_or-set_same, get_or-take, get_or_append_left, get_or_push, length-drop, length-take}
+use Rattle.std.proofs.lemmas.List.{get_or_append_left, get_or_push, length-append, length-drop, length-take}
+use Rattle.std.proofs.lemmas.List.Elements.{All-push}
 use Rattle.amr_box.specs.Cells.{width}
 use Rattle.amr_flux.specs.Rooms.{widest}
 use Rattle.amr_ghost.specs.Messages.{HasPlaces}
@@ -22,7 +19,6 @@ use Rattle.amr_layout.specs.Surroundings.{Around}
 use Rattle.amr_layout.proofs.LevelFlowLists.{each_of_patch, flows_here, has_flows_at}
 use Rattle.amr_layout.proofs.Planned.{nth}
 use Rattle.amr_lots.specs.declared.lot.Lot.{Lot}
-use Rattle.amr_lots.specs.declared.lot.Phase.TheVariants.{Send}
 use Rattle.amr_lots.specs.Runs.{run}
 use Rattle.amr_lots.proofs.Runs.{run_at, take_first}
 use Rattle.amr_patch.specs.declared.patches.Patch.{Patch}
@@ -39,40 +35,26 @@ one_more P xs ys y k count pushed done last j d lt =
     j
     lt)
 
--- so many items of a list, from one on, that are lent
-module _ {A : Type 0} (items lent : List A) (same : lent ≡ items) (first count : ℕ) (fits : first + count ≤ length items) where
-  abbrev size : ℕ
-  size = first + count - first
+-- messages for so many lists of copies: for that at `first`, and for each `stride` places further. That of number `own` is empty.
+pub record AreMadeFor (lists : List (Vec FrameCopy)) (first stride own n : ℕ) (xs : List Message) : Type 0 where
+  pub count : length xs ≡ n
+  pub copies : (t : ℕ) (m : Message) (w : Vec FrameCopy) → t < n → t ≢ own → (get_or xs t m).copies.items ≡ (get_or lists (first + t * stride) w).items
+  pub empty : (m : Message) → own < n → (get_or xs own m).copies.items ≡ []
+  pub places : All HasPlaces xs
 
-  pub part_count : length (take size (drop first lent)) ≡ count
-  part_count = omega (arith, fits, ap length same, length-take size (drop first lent), length-drop first lent)
-
-  pub part_at : (k : ℕ) (d : A) → k < count → get_or (take size (drop first lent)) k d ≡ get_or items (first + k) d
-  part_at k d lt = get_or-take size (drop first lent) k d (omega (arith, lt)) ∙ get_or-drop first lent k d ∙ ap (λ (xs : List A). get_or xs (first + k) d) same
-
-  -- as many are written back, and this is the list then
-  module _ (ys : List A) (whole : length ys ≡ length (take size (drop first lent))) (n : ℕ) (all : n ≡ length items) where
-    abbrev put : List A
-    put = put_mid first size lent ys
-
-    abbrev written : List A
-    written = take n (put ++ drop (length put) items)
-
-    put_count : length put ≡ length items
-    put_count = same_len_mid first size lent ys whole ∙ ap length same
-
-    written_is : written ≡ put
-    written_is = ap (λ m. take m (put ++ drop (length put) items)) (all ∙ sym put_count) ∙ take-append_seam put (drop (length put) items)
-
-    pub written_count : length written ≡ length items
-    written_count = ap length written_is ∙ put_count
-
-    -- all behind them is as before
-    pub written_rest : (k : ℕ) (d : A) → first + count ≤ k → get_or written k d ≡ get_or items k d
-    written_rest k d le =
-        let e : k + 0 ≡ k = omega arith in
-        let behind : drop k put ≡ drop k lent = drop-put_mid first size lent ys k (omega (arith, le)) (omega (arith, fits, ap length same)) (omega (arith, whole, part_count)) in
-        ap (λ (xs : List A). get_or xs k d) written_is ∙ ap (λ m. get_or put m d) (sym e) ∙ sym (get_or-drop k put 0 d) ∙ ap (λ (xs : List A). get_or xs 0 d) behind ∙ get_or-drop k lent 0 d ∙ ap (λ m. get_or lent m d) e ∙ ap (λ (xs : List A). get_or xs k d) same
+-- one more of them
+pub one_message : (lists : List (Vec FrameCopy)) (first stride own n : ℕ) (xs ys : List Message) (x : Message) → AreMadeFor lists first stride own n xs → ys ≡ xs ++ x ∷ [] → (n ≢ own → (w : Vec FrameCopy) → x.copies.items ≡ (get_or lists (first + n * stride) w).items) → (n ≡ own → x.copies.items ≡ []) → HasPlaces x
+    → AreMadeFor lists first stride own (n + 1) ys
+one_message lists first stride own n xs ys x made pushed copies empty places = record {
+  count = omega (arith, ap length pushed, length-append xs (x ∷ []), made.count);
+  copies = λ t m w lt other.
+      one_more (λ j (y : Message). j ≢ own → y.copies.items ≡ (get_or lists (first + j * stride) w).items) xs ys x n made.count pushed (λ j d below. made.copies j d w below) (λ ne. copies ne w) t m lt other;
+  empty = λ m lt. one_more (λ j (y : Message). j ≡ own → y.copies.items ≡ []) xs ys x n made.count pushed (λ j d below e. earlier j d below e) empty own m lt refl;
+  places = subst (All HasPlaces) (sym pushed) (All-push HasPlaces xs x made.places places);
+}
+  where
+    earlier : (j : ℕ) (d : Message) → j < n → j ≡ own → (get_or xs j d).copies.items ≡ []
+    earlier j d below e = ap (λ i. (get_or xs i d).copies.items) e ∙ made.empty d (omega (arith, below, e))
 
 module _ (s : Around) (v : LevelFlows) (of : AreAddsOf s v) (each k count : ℕ) (is : count ≡ min each (length s.patches - k * each)) (within : k * each ≤ length s.patches) where
   below : (i : ℕ) → i < count → k * each + i < length s.patches
@@ -87,31 +69,33 @@ module _ (s : Around) (v : LevelFlows) (of : AreAddsOf s v) (each k count : ℕ)
   run_is : take count (drop (k * each) s.patches) ≡ run each k s.patches
   run_is = take_first each count (drop (k * each) s.patches) (omega (arith, is, length-drop (k * each) s.patches))
 
-  -- the copies of masses of run k, by the run that they are for. Messages are made for all but those for the run itself.
-  module _ (lists : List (Vec FrameCopy)) (parts : FrameParts) (here : k < length lists) (part : (t : ℕ) (w : Vec FrameCopy) → t < length lists → get_or lists t w ≡ get_or parts.copies.items (k * length lists + t) w) (none : Vec FrameCopy) (empty : none.items ≡ []) where
-    pub lot_is : (x : Lot) → x.phase ≡ Send → x.problem.value ≡ s.problem → x.level ≡ s.level → length x.patches.items ≡ count → ((w : Vec FrameCopy) → x.copies ≡ get_or lists k w) → length x.outbox.items ≡ length (set lists k none)
-        → ((t : ℕ) (m : Message) (w : Vec FrameCopy) → t < length (set lists k none) → (get_or x.outbox.items t m).copies ≡ get_or (set lists k none) t w) → All HasPlaces x.outbox.items → length x.inbox.items ≡ length (set lists k none) → length x.flows.items ≡ count
-        → ((i : ℕ) (w : Vec FlowTo) → i < count → (get_or x.flows.items i w).items ≡ flows_at v (k * each + i)) → All (λ q. width (box q) ≤ widest x.room) (take count (drop (k * each) s.patches)) → length x.totals.items ≡ 2 + 2 * length s.cells → IsLotOf s each k (length lists) parts x
-    lot_is x phase problem level patches copies outbox_count messages places inbox_count flow_count flows room totals =
-        let same : length (set lists k none) ≡ length lists = length-set lists k none in
-        record {
-          phase = phase;
-          of_problem = problem;
-          of_level = level;
-          count = patches ∙ sym run_count;
-          copies = λ w. ap (λ (u : Vec FrameCopy). u.items) (copies w ∙ part k w here);
-          outbox_count = outbox_count ∙ same;
-          sent = λ t m w lt other. ap (λ (u : Vec FrameCopy). u.items) (messages t m w (omega (arith, lt, same)) ∙ get_or-set_other lists k t none w other ∙ part t w lt);
-          own = λ m. ap (λ (u : Vec FrameCopy). u.items) (messages k m none (omega (arith, here, same)) ∙ get_or-set_same lists k none none here) ∙ empty;
-          places = places;
-          inbox_count = inbox_count ∙ same;
-          flow_count = flow_count ∙ sym run_count;
-          flows = λ i w q lt.
-              let lt_i : i < count = omega (arith, lt, run_count) in
-              flows i w lt_i ∙ flows_here s v of.flows (k * each + i) (below i lt_i) q ∙ ap (λ (r : Patch). flows_of s (box r)) (sym (run_at each s.patches k i q lt));
-          words = λ i w lt.
-              let lt_i : i < count = omega (arith, lt, run_count) in
-              subst (All (λ (y : FlowTo). y.word < 2 + 2 * length s.cells)) (sym (flows i w lt_i)) (each_of_patch s (λ (y : FlowTo). y.word < 2 + 2 * length s.cells) v (k * each + i) of.words);
-          room = subst (All (λ q. width (box q) ≤ widest x.room)) run_is room;
-          totals = totals;
-        }
+  -- the copies of masses of the level's frames, by the run that they take masses of, and for each by the run that they are for
+  module _ (copies : List (Vec FrameCopy)) (runs : ℕ) (here : k < runs) (parts : FrameParts) (same : parts.copies.items ≡ copies) where
+    list_at : (i j : ℕ) (w : Vec FrameCopy) → i ≡ j → (get_or copies i w).items ≡ (get_or parts.copies.items j w).items
+    list_at i j w e = λ t. (get_or (sym same t) (e t) w).items
+
+    pub lot_is : (x : Lot) → x.problem.value ≡ s.problem → x.level ≡ s.level → length x.patches.items ≡ count → ((w : Vec FrameCopy) → x.copies.items ≡ (get_or copies (k * runs + k) w).items) → AreMadeFor copies (k * runs) 1 k runs x.outbox.items → AreMadeFor copies k runs k runs x.inbox.items
+        → length x.flows.items ≡ count → ((i : ℕ) (w : Vec FlowTo) → i < count → (get_or x.flows.items i w).items ≡ flows_at v (k * each + i)) → All (λ q. width (box q) ≤ widest x.room) (take count (drop (k * each) s.patches)) → length x.totals.items ≡ 2 + 2 * length s.cells → IsLotOf s each k runs parts x
+    lot_is x problem level patches own_copies outbox inbox flow_count flows room totals = record {
+      of_problem = problem;
+      of_level = level;
+      count = patches ∙ sym run_count;
+      copies = λ w. own_copies w ∙ list_at (k * runs + k) (k * runs + k) w refl;
+      outbox_count = outbox.count;
+      sent = λ t m w lt other. outbox.copies t m w lt other ∙ list_at (k * runs + t * 1) (k * runs + t) w (omega arith);
+      own = λ m. outbox.empty m here;
+      places = outbox.places;
+      inbox_count = inbox.count;
+      received = λ u m w lt other. inbox.copies u m w lt other ∙ list_at (k + u * runs) (u * runs + k) w (omega arith);
+      own_received = λ m. inbox.empty m here;
+      received_places = inbox.places;
+      flow_count = flow_count ∙ sym run_count;
+      flows = λ i w q lt.
+          let lt_i : i < count = omega (arith, lt, run_count) in
+          flows i w lt_i ∙ flows_here s v of.flows (k * each + i) (below i lt_i) q ∙ ap (λ (r : Patch). flows_of s (box r)) (sym (run_at each s.patches k i q lt));
+      words = λ i w lt.
+          let lt_i : i < count = omega (arith, lt, run_count) in
+          subst (All (λ (y : FlowTo). y.word < 2 + 2 * length s.cells)) (sym (flows i w lt_i)) (each_of_patch s (λ (y : FlowTo). y.word < 2 + 2 * length s.cells) v (k * each + i) of.words);
+      room = subst (All (λ q. width (box q) ≤ widest x.room)) run_is room;
+      totals = totals;
+    }

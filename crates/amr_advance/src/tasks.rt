@@ -6,6 +6,7 @@ ghost use Rattle.std.specs.List.{All};
 ghost use Rattle.std.specs.Option.{option_copied};
 ghost use Rattle.amr_box.specs.Cells.{width};
 ghost use Rattle.amr_def.specs.Domain.{domain};
+ghost use Rattle.amr_def.specs.State.{Masses};
 ghost use Rattle.amr_flux.specs.Rooms.{widest};
 ghost use Rattle.amr_gaps.specs.Gaps.{HasStarts};
 ghost use Rattle.amr_ghost.specs.Frames.{AreInDomain};
@@ -14,7 +15,7 @@ ghost use Rattle.amr_layout.specs.Adds.{HasRegisterCells};
 ghost use Rattle.amr_layout.specs.Surroundings.{around};
 ghost use Rattle.amr_patch.specs.Orders.{IsOrderOf};
 ghost use Rattle.amr_patch.specs.Patches.{ArePatchesApart, box};
-ghost use Rattle.amr_advance.specs.Tasks.{AreBoardTasks, AreLoneTasks, AreTasks, is_lots};
+ghost use Rattle.amr_advance.specs.Tasks.{AreBoardTasks, AreCurrent, AreLoneTasks, AreTasks, is_lots};
 
 use crate::lots::{LotTasks, lot_tasks};
 use crate::pieces::bodies_of;

@@ -1,8 +1,8 @@
 use Rattle.std.proofs.Common.{refl}
 use Rattle.amr_advance.proofs.kept.lay_out_anew.Goals as goal
 
-pub returns : goal.returns
-returns c = record {
+pub returns-clause-laid_out : goal.returns-clause-laid_out
+returns-clause-laid_out c = record {
   level = refl;
   boxes = c.in_ok-boxes_of.ensures;
   cells = c.in_ok-from_slice.ensures.items;

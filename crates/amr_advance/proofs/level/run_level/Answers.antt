@@ -5,12 +5,13 @@ use Rattle.std.specs.Option.{option_copied}
 use Rattle.amr_board.specs.declared.board.Shape.{Shape}
 use Rattle.amr_layout.specs.Surroundings.{around}
 use Rattle.amr_advance.specs.declared.tasks.Tasks.{Tasks}
-use Rattle.amr_advance.specs.declared.tasks.Tasks.TheVariants.{Lots}
-use Rattle.amr_advance.specs.Tasks.{AreBoardTasks, AreFilledFor, AreTasks}
+use Rattle.amr_advance.specs.declared.tasks.Tasks.TheVariants.{Board, Lone, Lots}
+use Rattle.amr_advance.specs.Tasks.{AreBoardTasks, AreCurrent, AreFilledFor, AreTasks}
 use Rattle.amr_ghost.specs.Frames.{old_masses}
 use Rattle.amr_patch.specs.Patches.{masses_in}
 use Rattle.amr_flows.specs.Laws.{plain_size}
 use Rattle.amr_flows.specs.Words.{level_total}
+use Rattle.amr_advance.proofs.KeptLaws.{with_tasks}
 use Rattle.amr_advance.proofs.level.run_level.Goals as goal
 
 pub step_each-requires-clause-tasks : goal.step_each-requires-clause-tasks
@@ -28,26 +29,10 @@ run_on_board-requires-clause-words g c = λ _ _.
     omega (arith, ap length c.deref_mut-in-Board.ensures.value, c.in_ok-totals.ensures.len, c.requires.layout.words, board.layout.words, ap (λ (x : Shape). x.words) board.shape)
 
 pub returns-in-Lone-clause-layout : goal.returns-in-Lone-clause-layout
-returns-in-Lone-clause-layout g c = record {
-  level = c.requires.layout.level;
-  boxes = c.requires.layout.boxes;
-  cells = c.requires.layout.cells;
-  finer = c.requires.layout.finer;
-  frames = c.requires.layout.frames;
-  words = c.requires.layout.words;
-  tasks = c.step_each.ensures.tasks;
-}
+returns-in-Lone-clause-layout g c = with_tasks _ _ (Lone c.step_each.new.tasks) c.requires.layout c.step_each.ensures.tasks
 
 pub returns-in_ok-run_on_board-in-Board-clause-layout : goal.returns-in_ok-run_on_board-in-Board-clause-layout
-returns-in_ok-run_on_board-in-Board-clause-layout g c = record {
-  level = c.requires.layout.level;
-  boxes = c.requires.layout.boxes;
-  cells = c.requires.layout.cells;
-  finer = c.requires.layout.finer;
-  frames = c.requires.layout.frames;
-  words = c.requires.layout.words;
-  tasks = c.in_ok-run_on_board-in-Board.ensures.tasks;
-}
+returns-in_ok-run_on_board-in-Board-clause-layout g c = with_tasks _ _ (Board c.run_on_board.new.tasks) c.requires.layout c.in_ok-run_on_board-in-Board.ensures.tasks
 
 pub returns-in_ok-run_on_board-in-Board-clause-totals : goal.returns-in_ok-run_on_board-in-Board-clause-totals
 returns-in_ok-run_on_board-in-Board-clause-totals g c =
@@ -80,13 +65,8 @@ pub step_in_lots-requires-clause-tasks : goal.step_in_lots-requires-clause-tasks
 step_in_lots-requires-clause-tasks g c =
     subst (AreTasks (around c.args.given.problem.now c.args.given.level c.args.patches.now c.args.given.cells.now (option_copied c.args.given.finer))) c.in-Lots.is c.requires.layout.tasks
 
+pub step_in_lots-requires-clause-current : goal.step_in_lots-requires-clause-current
+step_in_lots-requires-clause-current g c = subst (AreCurrent (masses_in c.args.patches.now)) c.in-Lots.is c.requires.current
+
 pub returns-in-Lots-clause-layout : goal.returns-in-Lots-clause-layout
-returns-in-Lots-clause-layout g c = record {
-  level = c.requires.layout.level;
-  boxes = c.requires.layout.boxes;
-  cells = c.requires.layout.cells;
-  finer = c.requires.layout.finer;
-  frames = c.requires.layout.frames;
-  words = c.requires.layout.words;
-  tasks = c.step_in_lots.ensures.tasks;
-}
+returns-in-Lots-clause-layout g c = with_tasks _ _ (Lots c.step_in_lots.new.tasks) c.requires.layout c.step_in_lots.ensures.tasks

@@ -23,5 +23,5 @@ returns-clause-tasks c =
       parts = c.in_ok-across.field-0;
       parted = subst (λ n. IsParted c.args.frames.now c.max-each.result n c.in_ok-across.field-0) (sym count) c.in_ok-across.ensures;
       across = refl;
-      lots = λ k x lt. subst (λ n. IsLotOf s c.max-each.result k n c.in_ok-across.field-0 (get_or c.in_ok-lots.lots.items k x).value) (sym count) (c.in_ok-lots.ensures.lots k x c.in_ok-across.field-0 (omega (arith, lt, count)) refl);
+      lots = λ k x lt. subst (λ n. IsLotOf s c.max-each.result k n c.in_ok-across.field-0 (get_or c.in_ok-lots.lots.items k x).value) (sym count) (c.in_ok-lots.ensures.lots k x c.in_ok-across.field-0 (omega (arith, lt, count)) (sym c.deref.ensures.value));
     }

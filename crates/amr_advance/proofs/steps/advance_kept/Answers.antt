@@ -1,6 +1,7 @@
-use Rattle.std.proofs.Common.{◌≡◌, ◌+◌, ◌*◌, ℕ, List, length, map, sym, ap, subst, ◌∙◌, arith}
+use Rattle.std.proofs.Common.{IfSome, ◌≡◌, ◌+◌, ◌*◌, ℕ, List, length, map, sym, ap, subst, ◌∙◌, arith}
 use Rattle.std.specs.declared.option.Option.{Option}
 use Rattle.std.specs.Option.{option_copied}
+use Rattle.std.specs.Global.{Vec}
 use Rattle.std.specs.Vec.{with_items}
 use Rattle.std.proofs.lemmas.List.{length-map, with_items_is}
 use Rattle.amr_box.specs.declared.Cell.{Cell}
@@ -9,16 +10,22 @@ use Rattle.amr_def.specs.State.{Masses}
 use Rattle.amr_ghost.specs.Frames.{old_masses}
 use Rattle.amr_layout.specs.Adds.{HasRegisterCells}
 use Rattle.amr_layout.specs.Surroundings.{around, finer_masses}
+use Rattle.amr_patch.specs.declared.patches.Patch.{Patch}
 use Rattle.amr_patch.specs.Levels.{level_of}
 use Rattle.amr_patch.specs.Patches.{box, masses_in}
 use Rattle.amr_patch.specs.Orders.{IsOrderOf}
 use Rattle.amr_patch.proofs.Standing.{order_of_boxes}
 use Rattle.amr_ghost.proofs.Inside.{patches_inside}
 use Rattle.amr_register.specs.declared.register.Register.{Register}
+use Rattle.amr_advance.specs.Kept.{IsCurrent}
 use Rattle.amr_advance.specs.Registers.{BothChange, taken}
 use Rattle.amr_advance.specs.Totals.{HasTotals}
 use Rattle.amr_advance.proofs.Advancing.{both_changed, cells_serve, inflow_is, outflow_is, some_may_absorb}
 use Rattle.amr_advance.proofs.steps.advance_kept.Goals as goal
+
+-- patches that were lent and are given back
+written_back : (v : Vec Patch) (lent now : List Patch) → length lent ≡ v.len → map box now ≡ map box lent → (with_items v now).items ≡ now
+written_back v lent now len boxes = with_items_is v now (sym (length-map now box) ∙ ap length boxes ∙ length-map lent box ∙ len)
 
 pub step_patches-stepped-requires-clause-inside : goal.step_patches-stepped-requires-clause-inside
 step_patches-stepped-requires-clause-inside g c κs within = patches_inside c.args.p.now c.args.l (level_of c.args.level.now) c.deref_mut.result.now c.requires.of_domain (c.take_patches-patches.ensures.masses ∙ ap masses_in (sym c.deref_mut.ensures.value))
@@ -31,7 +38,7 @@ step_patches-stepped-requires-clause-cells g c κs within = λ qs same.
 pub put_patches_in_order-requires-clause-order : goal.put_patches_in_order-requires-clause-order
 put_patches_in_order-requires-clause-order g c =
     order_of_boxes c.order-order.result c.take_patches-patches.result.items (with_items c.take_patches-patches.result c.step_patches-stepped.new.patches).items
-    (ap (map box) (with_items_is c.take_patches-patches.result c.step_patches-stepped.new.patches (sym (length-map c.step_patches-stepped.new.patches box) ∙ ap length c.step_patches-stepped.ensures.boxes ∙ length-map c.deref_mut.result.now box ∙ c.deref_mut.ensures.len)) ∙ c.step_patches-stepped.ensures.boxes ∙ ap (map box) c.deref_mut.ensures.value)
+    (ap (map box) (written_back c.take_patches-patches.result c.deref_mut.result.now c.step_patches-stepped.new.patches c.deref_mut.ensures.len c.step_patches-stepped.ensures.boxes) ∙ c.step_patches-stepped.ensures.boxes ∙ ap (map box) c.deref_mut.ensures.value)
     (subst (IsOrderOf c.order-order.result) (sym c.take_patches-patches.ensures.all) c.order-order.ensures)
 
 pub add_totals-requires-clause-inflow : goal.add_totals-requires-clause-inflow
@@ -81,7 +88,7 @@ returns-clause-masses g c =
     let l = c.args.l in
     let old = old_masses (option_copied c.args.old) in
     let m : masses_in c.deref_mut.result.now ≡ (level_of c.args.level.now).masses = ap masses_in c.deref_mut.ensures.value ∙ sym c.take_patches-patches.ensures.masses in
-    let listed = with_items_is c.take_patches-patches.result c.step_patches-stepped.new.patches (sym (length-map c.step_patches-stepped.new.patches box) ∙ ap length c.step_patches-stepped.ensures.boxes ∙ length-map c.deref_mut.result.now box ∙ c.deref_mut.ensures.len) in
+    let listed = written_back c.take_patches-patches.result c.deref_mut.result.now c.step_patches-stepped.new.patches c.deref_mut.ensures.len c.step_patches-stepped.ensures.boxes in
     c.put_patches_in_order.ensures.masses ∙ ap masses_in listed ∙ c.in_ok-totals.ensures.masses ∙ (λ i. updated (m i) (flux_at p l (m i) old))
 
 pub returns-clause-coarser : goal.returns-clause-coarser
@@ -131,3 +138,17 @@ returns-clause-outflow g c =
     subst (λ (xs : List ℕ). HasTotals c.args.p.now c.args.l m old fine c.cells_of.result.now xs) (sym read)
     (subst (λ (n : Masses). HasTotals c.args.p.now c.args.l n old fine c.cells_of.result.now c.in_ok-totals.totals.items) (ap masses_in c.deref_mut.ensures.value ∙ sym c.take_patches-patches.ensures.masses) c.in_ok-totals.ensures.totals) in
     c.add_totals.ensures.outflow ∙ ap (λ n. c.args.regs.now.outflow + n) (outflow_is c.args.p.now c.args.l m old fine c.cells_of.result.now ws totals count)
+
+pub step_patches-stepped-requires-clause-current : goal.step_patches-stepped-requires-clause-current
+step_patches-stepped-requires-clause-current g c κs within =
+    subst (λ (m : Masses). IfSome c.args.kept.now (IsCurrent m)) (c.take_patches-patches.ensures.masses ∙ ap masses_in (sym c.deref_mut.ensures.value)) c.requires.current
+
+pub returns-clause-current : goal.returns-clause-current
+returns-clause-current g c =
+    let listed = written_back c.take_patches-patches.result c.deref_mut.result.now c.step_patches-stepped.new.patches c.deref_mut.ensures.len c.step_patches-stepped.ensures.boxes in
+    subst (λ (m : Masses). IfSome c.step_patches-stepped.new.kept (IsCurrent m)) (sym (c.put_patches_in_order.ensures.masses ∙ ap masses_in listed)) c.step_patches-stepped.ensures.current
+
+pub returns-in_err-totals-clause-current : goal.returns-in_err-totals-clause-current
+returns-in_err-totals-clause-current g c =
+    let listed = written_back c.take_patches-patches.result c.deref_mut.result.now c.step_patches-stepped.new.patches c.deref_mut.ensures.len c.step_patches-stepped.ensures.boxes in
+    subst (λ (m : Masses). IfSome c.step_patches-stepped.new.kept (IsCurrent m)) (sym (c.put_patches_in_order.ensures.masses ∙ ap masses_in listed)) c.step_patches-stepped.ensures.current

@@ -6,6 +6,7 @@ use Rattle.amr_ghost.specs.Frames.{old_masses}
 use Rattle.amr_patch.specs.Patches.{ArePatchesApart, masses_in}
 use Rattle.amr_patch.proofs.Standing.{order_of_boxes}
 use Rattle.amr_layout.specs.Surroundings.{finer_masses}
+use Rattle.amr_advance.specs.Kept.{IsCurrent}
 use Rattle.amr_advance.specs.Registers.{BothChange, taken}
 use Rattle.amr_advance.proofs.Parts.{on_err, totals_of, unchanged}
 use Rattle.amr_advance.proofs.Stepped.{stepped_apart, stepped_boxes, stepped_masses}
@@ -56,3 +57,6 @@ returns-in-Err-clause-apart g c = subst ArePatchesApart (sym c.in-Err.ensures.sa
 
 pub layout_for-requires-clause-cells : goal.layout_for-requires-clause-cells
 layout_for-requires-clause-cells g c = c.requires.cells c.args.patches.now refl
+
+pub run_level-requires-clause-current : goal.run_level-requires-clause-current
+run_level-requires-clause-current g c = λ _ _. subst (λ (m : Masses). IsCurrent m c.in_ok-layout.layout) (sym c.fill_frames.ensures.masses) c.in_ok-layout.ensures.current
