@@ -11,3 +11,6 @@ returns-clause-laid_out c = record {
   words = refl;
   tasks = c.in_ok-tasks.ensures.tasks;
 }
+
+pub returns-clause-current : goal.returns-clause-current
+returns-clause-current c = c.in_ok-tasks.ensures.current

@@ -17,6 +17,7 @@ use Rattle.amr_patch.specs.Orders.{IsOrderOf}
 use Rattle.amr_patch.proofs.Standing.{order_of_boxes}
 use Rattle.amr_ghost.proofs.Inside.{patches_inside}
 use Rattle.amr_register.specs.declared.register.Register.{Register}
+use Rattle.amr_advance.specs.declared.kept.KeptLayout.{KeptLayout}
 use Rattle.amr_advance.specs.Kept.{IsCurrent}
 use Rattle.amr_advance.specs.Registers.{BothChange, taken}
 use Rattle.amr_advance.specs.Totals.{HasTotals}
@@ -26,6 +27,10 @@ use Rattle.amr_advance.proofs.steps.advance_kept.Goals as goal
 -- patches that were lent and are given back
 written_back : (v : Vec Patch) (lent now : List Patch) → length lent ≡ v.len → map box now ≡ map box lent → (with_items v now).items ≡ now
 written_back v lent now len boxes = with_items_is v now (sym (length-map now box) ∙ ap length boxes ∙ length-map lent box ∙ len)
+
+-- what is kept of their masses is of those of the level that gets them back
+still_current : (kept : Option KeptLayout) (v : Vec Patch) (lent now : List Patch) (m : Masses) → length lent ≡ v.len → map box now ≡ map box lent → m ≡ masses_in (with_items v now).items → IfSome kept (IsCurrent (masses_in now)) → IfSome kept (IsCurrent m)
+still_current kept v lent now m len boxes masses h = subst (λ (n : Masses). IfSome kept (IsCurrent n)) (sym (masses ∙ ap masses_in (written_back v lent now len boxes))) h
 
 pub step_patches-stepped-requires-clause-inside : goal.step_patches-stepped-requires-clause-inside
 step_patches-stepped-requires-clause-inside g c κs within = patches_inside c.args.p.now c.args.l (level_of c.args.level.now) c.deref_mut.result.now c.requires.of_domain (c.take_patches-patches.ensures.masses ∙ ap masses_in (sym c.deref_mut.ensures.value))
@@ -145,10 +150,8 @@ step_patches-stepped-requires-clause-current g c κs within =
 
 pub returns-clause-current : goal.returns-clause-current
 returns-clause-current g c =
-    let listed = written_back c.take_patches-patches.result c.deref_mut.result.now c.step_patches-stepped.new.patches c.deref_mut.ensures.len c.step_patches-stepped.ensures.boxes in
-    subst (λ (m : Masses). IfSome c.step_patches-stepped.new.kept (IsCurrent m)) (sym (c.put_patches_in_order.ensures.masses ∙ ap masses_in listed)) c.step_patches-stepped.ensures.current
+    still_current c.step_patches-stepped.new.kept c.take_patches-patches.result c.deref_mut.result.now c.step_patches-stepped.new.patches _ c.deref_mut.ensures.len c.step_patches-stepped.ensures.boxes c.put_patches_in_order.ensures.masses c.step_patches-stepped.ensures.current
 
 pub returns-in_err-totals-clause-current : goal.returns-in_err-totals-clause-current
 returns-in_err-totals-clause-current g c =
-    let listed = written_back c.take_patches-patches.result c.deref_mut.result.now c.step_patches-stepped.new.patches c.deref_mut.ensures.len c.step_patches-stepped.ensures.boxes in
-    subst (λ (m : Masses). IfSome c.step_patches-stepped.new.kept (IsCurrent m)) (sym (c.put_patches_in_order.ensures.masses ∙ ap masses_in listed)) c.step_patches-stepped.ensures.current
+    still_current c.step_patches-stepped.new.kept c.take_patches-patches.result c.deref_mut.result.now c.step_patches-stepped.new.patches _ c.deref_mut.ensures.len c.step_patches-stepped.ensures.boxes c.put_patches_in_order.ensures.masses c.step_patches-stepped.ensures.current
