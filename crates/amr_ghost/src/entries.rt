@@ -1,6 +1,6 @@
 //! Where the entries of the cells of a strip stand in the lists of a patch, and how they are read and written there.
 
-ghost use Rattle.std.specs.Prelude.{◌≡◌, ◌≢◌, ℕ, ◌+◌, ◌*◌, ◌/◌, ◌<◌, pos, negsuc, ◌-ℤ◌, ◌≤ℤ◌, ◌<ℤ◌, length, slice_index, slice_index_or, IsTrue};
+ghost use Rattle.std.specs.Prelude.{◌≡◌, ◌≢◌, ℕ, ◌+◌, ◌*◌, ◌/◌, ◌<◌, length, slice_index, slice_index_or, IsTrue};
 ghost use Rattle.amr_box.specs.Cells.{IsNear, holds};
 ghost use Rattle.amr_patch.specs.Places.{grown, place};
 ghost use Rattle.amr_ghost.specs.Strips.{AreWritten, nth_place, step};
