@@ -1,9 +1,11 @@
 -- What is kept serves levels with the same boxes.
-use Rattle.std.proofs.Common.{◌≡◌, ◌∙◌, ℕ, zero, suc, ◌+◌, ℤ, List, ◌∷◌, get_or, map, refl, sym, ap, subst, arith}
+use Rattle.std.proofs.Common.{◌≡◌, ◌∙◌, ◌⊎◌, inl, inr, ℕ, zero, suc, ◌+◌, ◌<◌, ℤ, List, ◌∷◌, get_or, length, map, set, refl, sym, ap, subst, arith}
 use Rattle.std.specs.Prelude.{is_some, IfSome}
 use Rattle.std.specs.declared.option.Option.{Option}
 use Rattle.std.specs.declared.option.Option.TheVariants.{None, Some}
 use Rattle.std.specs.Global.{Vec}
+use Rattle.std.proofs.lemmas.Bool.{cases_eq}
+use Rattle.std.proofs.lemmas.List.{get_or-set_other, get_or-set_same, length-set}
 use Rattle.amr_box.specs.declared.Cell.{Cell}
 use Rattle.amr_box.specs.Cells.{Extent, in_boxes}
 use Rattle.amr_def.specs.declared.problem.Problem.{Problem}
@@ -19,7 +21,8 @@ use Rattle.amr_register.proofs.SameCells.{register_kept, same_register}
 use Rattle.amr_cycle.specs.declared.kept.KeptBelow.{KeptBelow}
 use Rattle.amr_cycle.specs.declared.kept.KeptLevel.{KeptLevel}
 use Rattle.amr_cycle.specs.Cycles.{SomeHasEntries}
-use Rattle.amr_cycle.specs.Kept.{AreKept, IsBelow, IsKeptBelow, IsKeptLevel, IsOnSameBoxes}
+use Rattle.amr_advance.specs.Kept.{IsCurrent as IsCurrentLayout}
+use Rattle.amr_cycle.specs.Kept.{AreCurrent, AreKept, IsBelow, IsKeptBelow, IsKeptLevel, IsOnSameBoxes}
 use Rattle.amr_cycle.proofs.Cycling.{same_level}
 
 -- the cells of a level are those of its patches' boxes
@@ -51,6 +54,14 @@ pub kept_all : (p : Problem) (l : ℕ) (k : KeptLevel) (ks : List KeptLevel) →
 kept_all p l k ks first rest zero d lt = subst (λ n. IsKeptLevel p n k) (let e : l ≡ l + 0 = omega arith in e) first
 kept_all p l k ks first rest (suc n) d lt = subst (λ i. IsKeptLevel p i (get_or ks n d)) (let e : l + 1 + n ≡ l + suc n = omega arith in e) (rest n d (omega (arith, lt)))
 
+-- one of them changed
+pub kept_set : (p : Problem) (l i : ℕ) (x : KeptLevel) (ks : List KeptLevel) → i < length ks → IsKeptLevel p (l + i) x → AreKept p l ks → AreKept p l (set ks i x)
+kept_set p l i x ks inside here h n d lt = from (cases_eq n i)
+  where
+    from : ((n ≡ i) ⊎ (n ≡ i → ⊥)) → IsKeptLevel p (l + n) (get_or (set ks i x) n d)
+    from (inl same) = subst (λ m. IsKeptLevel p (l + m) (get_or (set ks i x) m d)) (sym same) (subst (IsKeptLevel p (l + i)) (sym (get_or-set_same ks i x d inside)) here)
+    from (inr other) = subst (IsKeptLevel p (l + n)) (sym (get_or-set_other ks i n x d other)) (h n d (omega (arith, lt, length-set ks i x)))
+
 -- ---- what is left when both finer steps are made
 
 pub all_below_after : (p : Problem) (l : ℕ) (k fine : Level) (e : Cell → ℤ) (o : Option KeptBelow) (before : Held) (finer : Vec Extent) (r : Option Register) → level_of before ≡ k → ((c : Cell) → is_some (fine.masses c) ≡ in_boxes finer.items c)
@@ -65,3 +76,15 @@ all_below_after p l k fine e (Some b) before finer r is cells same has = record 
     register = (subst (SomeHasEntries p l k.masses fine.masses e) (sym same.2) has).of_levels;
   };
 }
+
+-- ---- what is kept of masses
+
+pub current_first : (k : Level) (levels : List Level) (d : KeptLevel) (ds ls : List KeptLevel) → ls ≡ d ∷ ds → AreCurrent (k ∷ levels) ls → IfSome d.layout (IsCurrentLayout k.masses)
+current_first k levels d ds ls is h = subst (AreCurrent (k ∷ levels)) is h 0 k d (omega arith) (omega arith)
+
+pub current_rest : (k : Level) (levels : List Level) (d : KeptLevel) (ds ls : List KeptLevel) → ls ≡ d ∷ ds → AreCurrent (k ∷ levels) ls → AreCurrent levels ds
+current_rest k levels d ds ls is h n j e within lt = subst (AreCurrent (k ∷ levels)) is h (suc n) j e (omega (arith, within)) (omega (arith, lt))
+
+pub current_all : (k : Level) (levels : List Level) (d : KeptLevel) (ds : List KeptLevel) → IfSome d.layout (IsCurrentLayout k.masses) → AreCurrent levels ds → AreCurrent (k ∷ levels) (d ∷ ds)
+current_all k levels d ds first rest zero j e within lt = first
+current_all k levels d ds first rest (suc n) j e within lt = rest n j e (omega (arith, within)) (omega (arith, lt))

@@ -1,13 +1,15 @@
 //! What the steps of levels keep from one to the next, until boxes change.
 
-ghost use Rattle.std.specs.Prelude.{◌≡◌, ◌≤◌, suc, pos, IfOk, IfSome, IsTrue, None, length, map};
+ghost use Rattle.std.specs.Prelude.{◌≡◌, ◌≤◌, ℕ, suc, pos, List, IfOk, IfSome, IsTrue, None, length, map};
 ghost use Rattle.amr_box.specs.declared.Cell.{Cell};
 ghost use Rattle.amr_def.specs.declared.problem.Problem.{Problem};
 ghost use Rattle.amr_def.specs.Facts.{IsLevel, IsNestedLevel};
+ghost use Rattle.amr_def.specs.State.{Level as StateLevel, Masses};
 ghost use Rattle.amr_patch.specs.Levels.{level_of, patches_of};
 ghost use Rattle.amr_patch.specs.Patches.{box};
 ghost use Rattle.amr_register.specs.Registers.{SameCells, entry_in};
-ghost use Rattle.amr_cycle.specs.Kept.{AreKept, HasBoxesOf, IsBelow, IsKept, IsKeptBelow, IsOnSameBoxes};
+ghost use Rattle.amr_advance.specs.Kept.{IsCurrent as IsCurrentLayout};
+ghost use Rattle.amr_cycle.specs.Kept.{AreCurrent, AreKept, HasBoxesOf, IsBelow, IsCurrent, IsKept, IsKeptBelow, IsKeptLevel, IsOnSameBoxes};
 
 use amr_advance::KeptLayout;
 use amr_alike::{are_same, boxes_of, copy_masses, have_boxes, have_same_boxes};
@@ -35,7 +37,8 @@ pub(crate) struct KeptLevel {
 }
 
 /// What the steps of a run keep from one to the next: layouts, workspaces, flux registers, and room for the masses before a step.
-/// All of it depends on boxes alone, and what no longer fits them is made anew.
+/// All of it depends on boxes alone, and what no longer fits them is made anew. The one exception are masses that were packed for the
+/// next step: who changes masses between two steps says so by [`Kept::masses_changed`].
 #[derive(Drop)]
 pub struct Kept {
     pub(crate) levels: Option<Vec<KeptLevel>>,
@@ -45,7 +48,7 @@ impl Kept {
     /// Nothing yet, of any problem.
     pub const fn nothing() -> Kept
         ensures kept { (p : Problem) → IsKept p result }
-        ensures current { (levels : List State.Level) → IsCurrent levels result }
+        ensures current { (levels : List StateLevel) → IsCurrent levels result }
     {
         Kept { levels: None }
     }
@@ -53,7 +56,7 @@ impl Kept {
     /// Tells that masses changed otherwise than by a step, as by a regrid. What is kept of them is worked out anew at the next step.
     pub fn masses_changed(&mut self)
         ensures kept { (p : Problem) → IsKept p self.old → IsKept p self.new }
-        ensures current { (levels : List State.Level) → IsCurrent levels self.new }
+        ensures current { (levels : List StateLevel) → IsCurrent levels self.new }
     {
         if let Some(levels) = &mut self.levels {
             forget_masses(levels);
@@ -75,7 +78,7 @@ pub(crate) fn forget_masses_of(kept: &mut KeptLevel)
 /// The same of each of these levels.
 fn forget_masses(kept: &mut [KeptLevel])
     ensures kept { (p : Problem) → AreKept p 0 kept.old → AreKept p 0 kept.new }
-    ensures current { (levels : List State.Level) → AreCurrent levels kept.new }
+    ensures current { (levels : List StateLevel) → AreCurrent levels kept.new }
 {
     for k in 0..kept.len() {
         forget_masses_of(&mut kept[k]);
@@ -189,7 +192,7 @@ pub(crate) fn make_room(
 ) -> Result<Vec<KeptLevel>, NoMemory>
     ensures room { IfOk result (λ ks. count ≤ length ks.items) }
     ensures kept { (p : Problem) → IfSome kept (λ ks. AreKept p 0 ks.items) → IfOk result (λ ks. AreKept p 0 ks.items) }
-    ensures current { (levels : List State.Level) → IfSome kept (λ ks. AreCurrent levels ks.items) → IfOk result (λ ks. AreCurrent levels ks.items) }
+    ensures current { (levels : List StateLevel) → IfSome kept (λ ks. AreCurrent levels ks.items) → IfOk result (λ ks. AreCurrent levels ks.items) }
 {
     let mut levels = match kept {
         Some(levels) => levels,

@@ -119,7 +119,7 @@ pub fn step<R: Threads + Wait + Sync, G: Gate + Sync>(
 
 /// The same as `step`, for a run of many steps: what depends on boxes alone is taken from `kept`, and left there for the next step.
 /// What no longer fits the boxes is made anew. There are from 1 to 64 workers, who may be a team that lasts. `kept` and the team are
-/// of the same problem; after `NoMemory` what is kept is only dropped.
+/// of the same problem, and what is kept of masses is of those that the mesh has. After `NoMemory` what is kept is only dropped.
 pub fn step_kept<R: Threads + Wait + Sync, G: Gate + Sync>(
     workers: &mut Workers<'_, R, G>,
     p: &Problem,

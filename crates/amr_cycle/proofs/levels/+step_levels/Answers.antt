@@ -1,16 +1,17 @@
-use Rattle.std.proofs.Common.{ap, subst, ◌∙◌, arith}
+use Rattle.std.proofs.Common.{List, ◌∷◌, map, ap, subst, ◌∙◌, arith}
 use Rattle.std.specs.Option.{option_copied}
 use Rattle.amr_def.specs.declared.problem.Problem.{Problem}
 use Rattle.amr_laws.specs.Sides.{inflow_beside, outflow_beside}
+use Rattle.amr_patch.specs.declared.levels.Level.{Level as Held}
 use Rattle.amr_patch.specs.Levels.{level_of}
 use Rattle.amr_ghost.specs.Frames.{old_masses}
 use Rattle.amr_def.specs.State.{Masses}
 use Rattle.amr_register.specs.Entries.{with_entries}
 use Rattle.amr_transfer.specs.Sums.{summed}
 use Rattle.amr_cycle.specs.Cycles.{entries_of}
-use Rattle.amr_cycle.specs.Kept.{AreKept}
+use Rattle.amr_cycle.specs.Kept.{AreCurrent, AreKept}
 use Rattle.std.proofs.lemmas.Result.{on_ok_weaker}
-use Rattle.amr_cycle.proofs.KeptLaws.{all_below_after, kept_all, kept_first, kept_rest}
+use Rattle.amr_cycle.proofs.KeptLaws.{all_below_after, current_all, current_first, current_rest, kept_all, kept_first, kept_rest}
 use Rattle.amr_cycle.proofs.Whole.{coarser_1, coarser_2, fits_2, flows_1, flows_2, flows_split, has2, kept_2, levels_are, next2_coarsenable, of_level_2, parents_2, part_1, part_2, rest1_coarsenable, rest_coarsenable, small_2}
 use Rattle.amr_cycle.proofs.levels.+step_levels.Goals as goal
 
@@ -188,3 +189,22 @@ returns-clause-kept g t c =
       below = all_below_after p c.args.given.now.level k fine _ c.kept_of.result c.in_ok-below.below.before c.in_ok-below.below.finer c.step_levels-2.new.regs.coarser c.in_ok-below.ensures.before c.in_ok-below.ensures.finer_boxes c.kept_of.ensures has;
     })
     finer
+
+pub step_finest-requires-clause-current : goal.step_finest-requires-clause-current
+step_finest-requires-clause-current g t c κs within = current_first (level_of c.args.level.now) (map level_of c.args.finer.now) c.in-Some.own.now c.in-Some.rest.now c.args.kept.now c.in-Some.ensures.cases.0 c.requires.current
+
+pub returns-in_default-split_first_mut-clause-current : goal.returns-in_default-split_first_mut-clause-current
+returns-in_default-split_first_mut-clause-current g t c =
+    on_ok_weaker c.step_finest.result (λ first. current_all (level_of c.step_finest.new.level) (map level_of c.args.finer.now) c.step_finest.new.own c.in-Some.rest.now first (current_rest (level_of c.args.level.now) (map level_of c.args.finer.now) c.in-Some.own.now c.in-Some.rest.now c.args.kept.now c.in-Some.ensures.cases.0 c.requires.current)) c.step_finest.ensures.current
+
+pub step_coarse-requires-clause-current : goal.step_coarse-requires-clause-current
+step_coarse-requires-clause-current g t c κs within = current_first (level_of c.args.level.now) (map level_of c.args.finer.now) c.in-Some.own.now c.in-Some.rest.now c.args.kept.now c.in-Some.ensures.cases.0 c.requires.current
+
+pub step_levels-requires-clause-current : goal.step_levels-requires-clause-current
+step_levels-requires-clause-current g t c κs within =
+    current_rest (level_of c.args.level.now) (level_of c.in-Some-split_first_mut.next.now ∷ map level_of c.in-Some-split_first_mut.finest.now) c.in-Some.own.now c.in-Some.rest.now c.args.kept.now c.in-Some.ensures.cases.0
+    (subst (λ (hs : List Held). AreCurrent (level_of c.args.level.now ∷ map level_of hs) c.args.kept.now) c.in-Some-split_first_mut.ensures.cases.0 c.requires.current)
+
+pub returns-clause-current : goal.returns-clause-current
+returns-clause-current g t c =
+    current_all (level_of c.correct.new.level) (level_of c.step_levels-2.new.level ∷ map level_of c.step_levels-2.new.finer) (record { layout = c.step_coarse.new.own.layout; below = c.kept_of.result }) c.step_levels-2.new.kept (c.in_ok-below.ensures.current (level_of c.correct.new.level).masses) c.in_ok-step_levels-2.ensures.current

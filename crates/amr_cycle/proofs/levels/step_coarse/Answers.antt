@@ -1,4 +1,5 @@
 use Rattle.std.proofs.Common.{sym, subst}
+use Rattle.std.specs.Prelude.{IfSome}
 use Rattle.std.specs.declared.option.Option.{Option}
 use Rattle.std.specs.declared.option.Option.TheVariants.{Some}
 use Rattle.std.specs.Option.{option_copied}
@@ -6,6 +7,8 @@ use Rattle.amr_register.specs.declared.register.Register.{Register}
 use Rattle.amr_advance.specs.Registers.{BothChange, taken}
 use Rattle.amr_patch.specs.Levels.{level_of}
 use Rattle.amr_ghost.specs.Frames.{old_masses}
+use Rattle.amr_cycle.specs.declared.kept.KeptBelow.{KeptBelow}
+use Rattle.amr_cycle.specs.Kept.{IsKeptBelow, IsKeptLevel}
 use Rattle.amr_cycle.proofs.Cycling.{coarse_fits, coarse_level, coarse_nested, fine_level}
 use Rattle.amr_cycle.proofs.Registers.{has_finer, lost}
 use Rattle.amr_cycle.proofs.levels.step_coarse.Goals as goal
@@ -37,3 +40,11 @@ pub returns-clause-register : goal.returns-clause-register
 returns-clause-register g c =
     lost c.args.given.now.problem.now c.args.given.now.level (level_of c.args.level.now) (level_of c.args.next.now) (old_masses (option_copied c.args.given.now.old)) c.in_ok-before.field-0.register c.take.result c.in_ok-before.ensures.below.register c.in_ok-before.ensures.zero
     (subst (λ (s : Option Register). BothChange (taken c.args.given.now.problem.now c.args.given.now.level (level_of c.args.level.now).masses (old_masses (option_copied c.args.given.now.old)) (level_of c.args.next.now).masses) (Some c.in_ok-before.field-0.register) s) (sym c.take.ensures.value) c.in_ok-advance_kept.ensures.finer)
+
+pub returns-clause-layout : goal.returns-clause-layout
+returns-clause-layout g c =
+    let p = c.args.given.now.problem.now in
+    let l = c.args.given.now.level in
+    let before : IsKeptLevel p l (record { layout = c.advance_kept.new.kept; below = c.below_for.new.kept }) =
+    record { layout = c.advance_kept.ensures.kept; below = subst (λ (o : Option KeptBelow). IfSome o (IsKeptBelow p l)) (sym c.below_for.ensures.none) tt } in
+    (c.forget_masses_of.ensures.kept p l before).layout
