@@ -1,9 +1,11 @@
 -- The next state, by its regrid and its step.
-use Rattle.std.proofs.Common.{◌≡◌, ◌∙◌, Bool, true, false, cond, refl, ap}
+use Rattle.std.proofs.Common.{◌≡◌, ◌∙◌, Bool, true, false, cond, refl, sym, ap}
 use Rattle.amr_def.specs.declared.problem.Problem.{Problem}
 use Rattle.amr_def.specs.Regrid.{regrid}
 use Rattle.amr_def.specs.Run.{next, regrid_is_due, stepped}
+use Rattle.amr_def.specs.Facts.{IsSound}
 use Rattle.amr_def.specs.State.{State}
+use Rattle.amr_def.proofs.SoundRun.{regrid_alone}
 
 pub next_is : (p : Problem) (s t : State) → t ≡ cond (regrid_is_due p s) (regrid p s) s → stepped p t ≡ next p s
 unfolding next
@@ -16,3 +18,14 @@ step_kept false p s = refl
 
 pub same_step : (p : Problem) (s t : State) → t ≡ cond (regrid_is_due p s) (regrid p s) s → t.step ≡ s.step
 same_step p s t e = ap (λ (r : State). r.step) e ∙ step_kept (regrid_is_due p s) p s
+
+-- a regrid that is due leaves one level alone as it is
+pub alone_is : (p : Problem) (s : State) → p.max_level ≡ 0 → IsSound p s → s ≡ cond (regrid_is_due p s) (regrid p s) s
+alone_is p s alone sound = either (regrid_is_due p s)
+  where
+    either : (b : Bool) → s ≡ cond b (regrid p s) s
+    either true = sym (regrid_alone p s alone sound)
+    either false = refl
+
+pub none_due_is : (p : Problem) (s : State) → regrid_is_due p s ≡ false → s ≡ cond (regrid_is_due p s) (regrid p s) s
+none_due_is p s none = ap (λ b. cond b (regrid p s) s) (sym none)

@@ -17,7 +17,8 @@ loop-step-init g c =
       workers = refl;
       whole = c.requires.may.whole;
       value = sym (finish_here p s c.step-step.result (sym c.step-step.ensures));
-      kept = c.nothing-kept.ensures p;
+      kept = c.nothing-kept.ensures.kept p;
+      current = c.nothing-kept.ensures.current s.levels;
       patches = λ h. h;
       coarsenable = c.requires.may.coarsenable;
       made = subst (λ (ss : List State). g.A.AfterStep.made c.args.after.now ss (Ok tt) c.args.after.now) (sym (none_after p s c.step-step.result c.step-step.ensures)) (g.met.A.AfterStep.made_none c.args.after.now);
@@ -42,6 +43,9 @@ make_step-requires-clause-coarsenable g c κs within = c.loop-step.invariant.coa
 
 pub make_step-requires-clause-kept : goal.make_step-requires-clause-kept
 make_step-requires-clause-kept g c κs within = c.loop-step.invariant.kept
+
+pub make_step-requires-clause-current : goal.make_step-requires-clause-current
+make_step-requires-clause-current g c κs within = c.loop-step.invariant.current
 
 pub make_step-requires-clause-ready : goal.make_step-requires-clause-ready
 make_step-requires-clause-ready g c κs within =
@@ -104,6 +108,7 @@ loop-step-preserved g c =
       whole = said.whole;
       value = said.value ∙ state;
       kept = said.kept;
+      current = said.current;
       patches = λ h. said.patches (c.loop-step.invariant.patches h);
       coarsenable = said.coarsenable;
       made = subst (λ (ss : List State). g.A.AfterStep.made c.args.after.now ss (Ok tt) c.make_step.new.after) (after_more p s k (next p (state_of c.loop-step.mesh)) from state ∙ ap (states_after p s) count)
