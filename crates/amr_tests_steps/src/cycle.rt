@@ -4,7 +4,7 @@ ghost use Rattle.std.specs.Prelude.{◌≡◌, false, IfOk, OnOk};
 ghost use Rattle.amr_def.specs.Facts.{IsSound};
 ghost use Rattle.amr_patch.specs.Meshes.{is_spent, levels_of, state_of};
 ghost use Rattle.amr_cycle.specs.Cycles.{AreCoarsenableAbove};
-ghost use Rattle.amr_cycle.specs.Kept.{IsKept};
+ghost use Rattle.amr_cycle.specs.Kept.{IsCurrent, IsKept};
 
 use crate::rows::{mass_at, row};
 use amr_advance::{Crew, Workers};
@@ -194,10 +194,12 @@ fn make_step<R: Threads + Wait + Sync>(
     requires sound { IsSound p.now (state_of mesh.old) }
     requires coarsenable { AreCoarsenableAbove (levels_of mesh.old) }
     requires kept { IsKept p.now kept.old }
+    requires current { IsCurrent (state_of mesh.old).levels kept.old }
     ensures whole { OnOk result (is_spent mesh.new ≡ false) }
     ensures sound { OnOk result (IsSound p.now (state_of mesh.new)) }
     ensures coarsenable { OnOk result (AreCoarsenableAbove (levels_of mesh.new)) }
     ensures kept { OnOk result (IsKept p.now kept.new) }
+    ensures current { OnOk result (IsCurrent (state_of mesh.new).levels kept.new) }
 {
     if mesh.step() < p.steps {
         let mut workers = Workers {
@@ -225,6 +227,7 @@ fn steps_both_ways<R: Threads + Wait + Sync>(
 {
     let bytes = spot(alloc, 7, x)?;
     let mut mesh = mesh_of(alloc, p, &bytes)?;
+    kept.masses_changed();
     make_step(rt, p, &mut mesh, kept)?;
     make_step(rt, p, &mut mesh, kept)?;
     let mut other = mesh_of(alloc, p, &bytes)?;
