@@ -2,3 +2,5 @@ mod OneBoxLevels
 mod RefluxedRing
 mod ApartPatches
 mod CoveredCells
+mod TwoRuns
+mod SentMessages

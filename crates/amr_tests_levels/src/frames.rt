@@ -18,12 +18,12 @@ use amr_samples::problem;
 use std::alloc::Global;
 use std::test::Fail;
 
-const fn cell(x: i32, y: i32) -> Cell {
+pub(crate) const fn cell(x: i32, y: i32) -> Cell {
     Cell { x, y }
 }
 
 /// The patch from column `x0` to `x1` and from row `y0` to `y1`, where there is such a box.
-fn patch(alloc: Global, x0: u8, y0: u8, x1: u8, y1: u8) -> Result<Patch, Fail>
+pub(crate) fn patch(alloc: Global, x0: u8, y0: u8, x1: u8, y1: u8) -> Result<Patch, Fail>
     requires wide { x0 ≤ x1 }
     requires high { y0 ≤ y1 }
 {
@@ -40,7 +40,7 @@ fn patch(alloc: Global, x0: u8, y0: u8, x1: u8, y1: u8) -> Result<Patch, Fail>
 }
 
 /// Gives a cell of a patch a mass; false where the patch has no such cell.
-fn set(patches: &mut [Patch], k: usize, c: Cell, m: u32) -> bool {
+pub(crate) fn set(patches: &mut [Patch], k: usize, c: Cell, m: u32) -> bool {
     if k >= patches.len() {
         return false;
     }
@@ -52,7 +52,7 @@ fn set(patches: &mut [Patch], k: usize, c: Cell, m: u32) -> bool {
 }
 
 /// The value and the mark of a ghost cell of a patch.
-fn ghost_at(patches: &[Patch], k: usize, c: Cell) -> Option<(u64, bool)> {
+pub(crate) fn ghost_at(patches: &[Patch], k: usize, c: Cell) -> Option<(u64, bool)> {
     if k >= patches.len() {
         return None;
     }
@@ -120,7 +120,7 @@ fn are_in_domain(p: &Problem, l: u32, patches: &[Patch]) -> bool
 }
 
 /// Whether the patches are apart and lie in the domain of level `l`.
-fn are_of_level(p: &Problem, l: u32, patches: &[Patch]) -> bool
+pub(crate) fn are_of_level(p: &Problem, l: u32, patches: &[Patch]) -> bool
     requires { l ≤ 4 }
     ensures apart { result ≡ true → ArePatchesApart patches.now }
     ensures inside { result ≡ true → AreInDomain (domain p.now l) patches.now }

@@ -11,6 +11,8 @@ mod criterion;
 #[cfg(test)]
 mod frames;
 #[cfg(test)]
+mod parts;
+#[cfg(test)]
 mod register;
 #[cfg(test)]
 mod start;
