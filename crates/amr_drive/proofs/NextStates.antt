@@ -26,6 +26,3 @@ alone_is p s alone sound = either (regrid_is_due p s)
     either : (b : Bool) → s ≡ cond b (regrid p s) s
     either true = sym (regrid_alone p s alone sound)
     either false = refl
-
-pub none_due_is : (p : Problem) (s : State) → regrid_is_due p s ≡ false → s ≡ cond (regrid_is_due p s) (regrid p s) s
-none_due_is p s none = ap (λ b. cond b (regrid p s) s) (sym none)

@@ -33,6 +33,7 @@ fn is_due(p: &Problem, number: u32) -> bool
 
 /// Regrids a mesh where that is due, and tells so to what steps keep. One level alone stays as it is. After `NoMemory` the mesh has the
 /// state of before.
+#[tactic(auto, using(crate::proofs::NextStates::alone_is))]
 fn regrid_if_due(
     alloc: Global,
     p: &Problem,
