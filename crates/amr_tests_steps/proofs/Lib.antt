@@ -1,1 +1,2 @@
 mod EmptyRing
+mod TwoLots

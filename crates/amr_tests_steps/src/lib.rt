@@ -11,6 +11,8 @@ mod cycle;
 #[cfg(test)]
 mod drive;
 #[cfg(test)]
+mod lots;
+#[cfg(test)]
 mod regrid;
 #[cfg(test)]
 mod rows;

@@ -1,0 +1,11 @@
+-- Lots of one patch each that two workers are handed.
+use Rattle.std.specs.Prelude.{◌≡◌, ℕ, ◌≤◌, length, slice_index}
+use Rattle.amr_lots.specs.declared.lot.Lot.{Lot}
+
+-- a lot of one patch, with a message to each of two lots and one from each, and two small totals
+pub record IsForTwo (x : Lot) : Type 0 where
+  pub patch : length x.patches.items ≡ 1
+  pub outbox : length x.outbox.items ≡ 2
+  pub inbox : length x.inbox.items ≡ 2
+  pub totals : length x.totals.items ≡ 2
+  pub small : (word : ℕ) → slice_index x.totals.items word ≤ 1000

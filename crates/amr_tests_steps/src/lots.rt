@@ -1,0 +1,209 @@
+//! Two lots of one patch each: patches handed to them and taken back, messages delivered, and what flows to words added up.
+
+ghost use Rattle.std.specs.Prelude.{◌≡◌, ◌≤◌, length, true};
+ghost use Rattle.std.specs.List.{All};
+ghost use Rattle.amr_tests_steps.specs.TwoLots.{IsForTwo};
+
+use amr_box::{Bx, Cell};
+use amr_causes::NoMemory;
+use amr_def::{Problem, Sides};
+use amr_flux::Room;
+use amr_ghost::Message;
+use amr_lots::{Lot, Phase, add_up, exchange_messages, exchange_runs, set_phase};
+use amr_patch::Patch;
+use amr_samples::problem;
+use std::alloc::Global;
+use std::boxed::Box;
+use std::snapshot::Snapshot;
+use std::test::Fail;
+
+/// The patch of one cell in a column of row 0.
+fn patch_in(alloc: Global, column: u8) -> Result<Patch, NoMemory> {
+    let c = Cell {
+        x: i32::from(column),
+        y: 0,
+    };
+    Patch::make(alloc, Bx::try_new(c, c).unwrap())
+}
+
+/// A message with one mass.
+fn message_of(alloc: Global, mass: u32) -> Result<Message, NoMemory> {
+    Ok(Message {
+        copies: Vec::new(alloc),
+        masses: vec![in alloc; mass; 1]?,
+    })
+}
+
+/// Two messages, whose masses are ten times a number and 1 and 2.
+fn two_messages(alloc: Global, number: u8) -> Result<Vec<Message>, NoMemory> {
+    let mut messages = Vec::with_capacity(alloc, 2)?;
+    messages.push_reserved(message_of(alloc, 10 * u32::from(number) + 1)?);
+    messages.push_reserved(message_of(alloc, 10 * u32::from(number) + 2)?);
+    Ok(messages)
+}
+
+/// A lot with this number: its patch is in that column, and its messages to the first lot and to the second have the masses 11 and 12
+/// or 21 and 22. Those from them have 100 more.
+fn lot(alloc: Global, p: &Problem, number: u8) -> Result<Lot, NoMemory>
+    requires { number ≤ 2 }
+{
+    let mut patches = Vec::with_capacity(alloc, 1)?;
+    patches.push_reserved(patch_in(alloc, number)?);
+    Ok(Lot {
+        phase: Phase::Send,
+        level: 0,
+        patches,
+        flows: Vec::new(alloc),
+        copies: Vec::new(alloc),
+        outbox: two_messages(alloc, number)?,
+        inbox: two_messages(alloc, 10 + number)?,
+        room: Room::make(alloc, 1)?,
+        totals: Vec::from_slice(alloc, &[u64::from(number), 10 * u64::from(number)])?,
+        problem: Snapshot::of(p),
+    })
+}
+
+/// The first lot and the second.
+fn two_lots(alloc: Global) -> Result<Vec<Box<Lot>>, NoMemory> {
+    let p = problem(alloc, 4, 2, Sides::Periodic, Sides::Periodic)?;
+    let mut lots = Vec::with_capacity(alloc, 2)?;
+    lots.push_reserved(Box::new(alloc, lot(alloc, &p, 1)?)?);
+    lots.push_reserved(Box::new(alloc, lot(alloc, &p, 2)?)?);
+    Ok(lots)
+}
+
+/// Whether a lot has one patch, two messages each way and two small totals.
+fn is_for_two(lot: &Lot) -> bool
+    ensures { result ≡ true → IsForTwo lot.now }
+{
+    if lot.patches.len() != 1 {
+        return false;
+    }
+    if lot.outbox.len() != 2 {
+        return false;
+    }
+    if lot.inbox.len() != 2 {
+        return false;
+    }
+    if lot.totals.len() != 2 {
+        return false;
+    }
+    if lot.totals[0] > 1000 {
+        return false;
+    }
+    lot.totals[1] <= 1000
+}
+
+/// Whether there are two lots, each of one patch.
+fn are_two(lots: &[Box<Lot>]) -> bool
+    ensures count { result ≡ true → length lots.now ≡ 2 }
+    ensures each { result ≡ true → All (λ x. IsForTwo x.value) lots.now }
+{
+    for lot in lots {
+        if !is_for_two(lot) {
+            return false;
+        }
+    }
+    lots.len() == 2
+}
+
+/// Exchanges two patches with those of two lots, if there are so many.
+fn hand_over(patches: &mut [Patch], lots: &mut [Box<Lot>]) -> bool {
+    if patches.len() != 2 {
+        return false;
+    }
+    if !are_two(lots) {
+        return false;
+    }
+    exchange_runs(patches, lots, 1);
+    true
+}
+
+/// Exchanges the messages of two lots, if there are so many.
+fn deliver(lots: &mut [Box<Lot>]) -> bool {
+    if !are_two(lots) {
+        return false;
+    }
+    exchange_messages(lots, Phase::Step);
+    true
+}
+
+/// What flows to two words in two lots, if there are so many, and 100 more to the first.
+fn sums(lots: &[Box<Lot>]) -> [u64; 2] {
+    let mut totals = [100, 0];
+    if are_two(lots) {
+        add_up(lots, &mut totals);
+    }
+    totals
+}
+
+/// The columns of the patches of lots.
+fn columns(alloc: Global, lots: &[Box<Lot>]) -> Result<Vec<i32>, NoMemory> {
+    let mut columns = Vec::new(alloc);
+    for lot in lots {
+        for patch in &lot.patches {
+            columns.push(patch.bx().lo().x)?;
+        }
+    }
+    Ok(columns)
+}
+
+/// The masses of the messages that each of these lots has from others, and then of those that it has for them.
+fn masses(alloc: Global, lots: &[Box<Lot>]) -> Result<Vec<u32>, NoMemory> {
+    let mut masses = Vec::new(alloc);
+    for lot in lots {
+        for message in &lot.inbox {
+            masses.extend_from_slice(&message.masses)?;
+        }
+        for message in &lot.outbox {
+            masses.extend_from_slice(&message.masses)?;
+        }
+    }
+    Ok(masses)
+}
+
+/// Whether each of these lots is for this phase.
+fn are_for(lots: &[Box<Lot>], phase: Phase) -> bool {
+    for lot in lots {
+        if lot.phase != phase {
+            return false;
+        }
+    }
+    true
+}
+
+#[test]
+fn runs_are_handed_over_and_taken_back(rt: HostRuntime) -> Result<(), Fail> {
+    let alloc = rt.alloc();
+    let mut lots = two_lots(alloc)?;
+    let mut patches = Vec::new(alloc);
+    patches.push(patch_in(alloc, 8)?)?;
+    patches.push(patch_in(alloc, 9)?)?;
+    assert!(rt; hand_over(&mut patches, &mut lots));
+    assert_eq!(rt; columns(alloc, &lots)?.as_slice(), [8, 9].as_slice());
+    assert!(rt; hand_over(&mut patches, &mut lots));
+    assert_eq!(rt; columns(alloc, &lots)?.as_slice(), [1, 2].as_slice());
+    Ok(())
+}
+
+#[test]
+fn messages_are_delivered(rt: HostRuntime) -> Result<(), Fail> {
+    let alloc = rt.alloc();
+    let mut lots = two_lots(alloc)?;
+    assert!(rt; deliver(&mut lots));
+    assert!(rt; are_for(&lots, Phase::Step));
+    assert_eq!(rt;
+        masses(alloc, &lots)?.as_slice(),
+        [11, 21, 111, 121, 12, 22, 112, 122].as_slice()
+    );
+    set_phase(&mut lots, Phase::Send);
+    assert!(rt; are_for(&lots, Phase::Send));
+    Ok(())
+}
+
+#[test]
+fn flows_of_two_lots_are_added_up(rt: HostRuntime) -> Result<(), Fail> {
+    let lots = two_lots(rt.alloc())?;
+    assert_eq!(rt; sums(&lots), [103, 30]);
+    Ok(())
+}
