@@ -21,7 +21,7 @@ use Rattle.amr_register.specs.Registers.{IsRegisterOf, SameCells, cells_in, entr
 use Rattle.amr_register.proofs.Homes.{size_at}
 use Rattle.amr_register.proofs.Refluxes.{apart_places}
 use Rattle.amr_register.proofs.Taken.{same_at}
-use Rattle.amr_register.proofs.SameCells.{same_twice}
+use Rattle.amr_register.proofs.SameCells.{same_itself, same_twice}
 
 -- what flowed into register cell k less what flowed out of it
 abbrev pub gain_of : List ℕ → ℕ → ℤ
@@ -34,7 +34,7 @@ pub record AreAbsorbedUpTo (ws : List ℕ) (old now : Register) (n : ℕ) : Type
   pub cells : SameCells old now
 
 pub none_absorbed : (ws : List ℕ) (r : Register) → AreAbsorbedUpTo ws r r 0
-none_absorbed ws r = record { done = λ k c lt. absurd (omega (arith, lt)); left = λ k c le there at. refl; cells = record { cells = refl; sides = refl } }
+none_absorbed ws r = record { done = λ k c lt. absurd (omega (arith, lt)); left = λ k c le there at. refl; cells = same_itself r }
 
 abbrev pub IsOfLevels : Register → Type 0
 IsOfLevels r = (p : Problem) × ((l : ℕ) × ((m : Masses) × ((fine : Masses) × IsRegisterOf p l m fine r)))

@@ -1,6 +1,7 @@
 -- A layout that is kept serves each level with the same boxes beside levels with the same boxes.
 use Rattle.std.proofs.Common.{◌≡◌, ◌∙◌, ℕ, ◌+◌, ◌*◌, ◌^◌, ◌<◌, ◌≤◌, Bool, true, List, [], ◌∷◌, length, get_or, map, refl, sym, ap, subst, arith}
 use Rattle.std.specs.Prelude.{is_some}
+use Rattle.std.specs.Global.{Vec}
 use Rattle.std.specs.List.{All}
 use Rattle.amr_balance.specs.Turns.{IsLargestFirst, in_turn}
 use Rattle.amr_balance.proofs.TurnLaws.{in_turn_map}
@@ -16,7 +17,6 @@ use Rattle.amr_ghost.specs.Plans.{PlansFrames}
 use Rattle.amr_ghost.specs.declared.plan.FramePlan.{FramePlan}
 use Rattle.amr_ghost.proofs.PlanLaws.{plan_of_boxes}
 use Rattle.amr_layout.specs.Grounds.{SameGround, has_open_side}
-use Rattle.std.proofs.lemmas.List.{get_or-map}
 use Rattle.amr_layout.specs.Adds.{flows_of}
 use Rattle.amr_layout.specs.Surroundings.{Around, edge_count}
 use Rattle.amr_layout.specs.declared.FlowTo.{FlowTo}
@@ -38,7 +38,10 @@ use Rattle.amr_advance.specs.Lots.{AreLotTasks, IsLotOf}
 use Rattle.amr_advance.specs.declared.lots.LotTasks.{LotTasks}
 use Rattle.amr_lots.specs.declared.lot.Lot.{Lot}
 use Rattle.amr_lots.specs.Runs.{run}
-use Rattle.amr_lots.proofs.Runs.{map_run, run_at, run_place}
+use Rattle.amr_lots.specs.Serving.{flows_of_lot}
+use Rattle.amr_lots.specs.Words.{AreNumbered}
+use Rattle.amr_lots.proofs.Runs.{map_run}
+use Rattle.amr_transfer.proofs.GivenRuns.{sum_count_of_boxes}
 use Rattle.amr_ghost.specs.declared.parts.FrameParts.{FrameParts}
 
 -- workspaces serve patches by their boxes alone
@@ -78,41 +81,39 @@ same_turned s t turns g = in_turn_map box turns s.patches ∙ ap (in_turn turns)
 run_boxes : (each k : ℕ) (ps qs : List Patch) → map box ps ≡ map box qs → map box (run each k ps) ≡ map box (run each k qs)
 run_boxes each k ps qs e = map_run box each k ps ∙ ap (run each k) e ∙ sym (map_run box each k qs)
 
-flows_at_place : (s t : Around) → SameGround s t → (j : ℕ) (q : Patch) → j < length s.patches → j < length t.patches → flows_of s (box (get_or s.patches j q)) ≡ flows_of t (box (get_or t.patches j q))
-flows_at_place s t g j q lt lt' =
-    sym (get_or-map (λ (r : Patch). flows_of s (box r)) s.patches j q [] lt)
-    ∙ ap (λ (xs : List (List FlowTo)). get_or xs j []) (all_flows s t g)
-    ∙ get_or-map (λ (r : Patch). flows_of t (box r)) t.patches j q [] lt'
-
 same_lot : (s t : Around) (each k runs : ℕ) (parts : FrameParts) (x : Lot) → SameGround s t → IsLotOf s each k runs parts x → IsLotOf t each k runs parts x
 same_lot s t each k runs parts x g h =
     let boxes = run_boxes each k s.patches t.patches g.boxes in
     let count : length (run each k s.patches) ≡ length (run each k t.patches) = same_length (run each k s.patches) (run each k t.patches) boxes in
+    let of = h.serves in
     record {
-      of_problem = h.of_problem ∙ g.problem;
-      of_level = h.of_level ∙ g.level;
-      count = h.count ∙ count;
-      copies = h.copies;
-      outbox_count = h.outbox_count;
-      sent = h.sent;
-      own = h.own;
-      places = h.places;
-      inbox_count = h.inbox_count;
-      received = h.received;
-      own_received = h.own_received;
-      received_places = h.received_places;
-      flow_count = h.flow_count ∙ count;
-      flows = λ i v q lt. h.flows i v q (omega (arith, lt, count)) ∙ flows_in_run i q (omega (arith, lt, count)) lt;
-      words = λ i v lt. subst (λ (cs : List Cell). All (λ (y : FlowTo). y.word < 2 + 2 * length cs) (get_or x.flows.items i v).items) g.cells (h.words i v (omega (arith, lt, count)));
-      room = same_room (run each k s.patches) (run each k t.patches) (widest x.room) boxes h.room;
-      totals = h.totals ∙ ap (λ (cs : List Cell). 2 + 2 * length cs) g.cells;
+      serves = record {
+        of_problem = of.of_problem ∙ g.problem;
+        of_level = of.of_level ∙ g.level;
+        count = of.count ∙ count;
+        numbered = subst (λ (xs : List (List FlowTo)). AreNumbered x.words.items xs (flows_of_lot x)) flows of.numbered;
+        words = subst (λ (cs : List Cell). All (λ w. w < 2 + 2 * length cs) x.words.items) g.cells of.words;
+        copies = of.copies;
+        outer = of.outer;
+        outer_places = of.outer_places;
+        outbox_count = of.outbox_count;
+        sent = of.sent;
+        own = of.own;
+        places = of.places;
+        inbox_count = of.inbox_count;
+        received = of.received;
+        own_received = of.own_received;
+        received_places = of.received_places;
+        room = same_room (run each k s.patches) (run each k t.patches) (widest x.room) boxes of.room;
+        totals = of.totals;
+        sums = of.sums ∙ sum_count_of_boxes (run each k t.patches) (run each k s.patches) boxes;
+      };
+      edges = h.edges ∙ count;
+      no_edges = h.no_edges;
     }
   where
-    flows_in_run : (i : ℕ) (q : Patch) → i < length (run each k s.patches) → i < length (run each k t.patches) → flows_of s (box (get_or (run each k s.patches) i q)) ≡ flows_of t (box (get_or (run each k t.patches) i q))
-    flows_in_run i q lt lt' =
-        ap (λ (r : Patch). flows_of s (box r)) (run_at each s.patches k i q lt)
-        ∙ flows_at_place s t g (k * each + i) q (run_place each s.patches k i lt) (run_place each t.patches k i lt')
-        ∙ ap (λ (r : Patch). flows_of t (box r)) (sym (run_at each t.patches k i q lt'))
+    flows : map (λ (r : Patch). flows_of s (box r)) (run each k s.patches) ≡ map (λ (r : Patch). flows_of t (box r)) (run each k t.patches)
+    flows = map_run (λ (r : Patch). flows_of s (box r)) each k s.patches ∙ ap (run each k) (all_flows s t g) ∙ sym (map_run (λ (r : Patch). flows_of t (box r)) each k t.patches)
 
 same_lots : (s t : Around) (x : LotTasks) → SameGround s t → AreLotTasks s x → AreLotTasks t x
 same_lots s t x g h = record {
@@ -123,7 +124,6 @@ same_lots s t x g h = record {
   planned = same_frames s.problem t.problem s.level t.level s.patches t.patches h.plan g.problem g.level g.boxes h.planned;
   parts = h.parts;
   parted = h.parted;
-  across = h.across;
   lots = λ k y lt. same_lot s t x.each k (length x.lots.items) h.parts (get_or x.lots.items k y).value g (h.lots k y lt);
 }
 
@@ -153,7 +153,8 @@ serves_here t k h level boxes cells finer =
       cells = cells;
       finer = finer;
       frames = same_frames s.problem t.problem s.level t.level s.patches t.patches k.frames h.of_problem (sym made.level ∙ level) same made.frames;
-      words = made.words ∙ ap (λ (cs : List Cell). 2 + 2 * length cs) (sym made.cells ∙ cells);
+      totals = made.totals ∙ ap (λ (cs : List Cell). 2 + 2 * length cs) (sym made.cells ∙ cells);
+      few = made.few;
       tasks = same_tasks s t k.tasks (record { problem = h.of_problem; level = sym made.level ∙ level; boxes = same; cells = sym made.cells ∙ cells; finer = λ e c. made.finer e c ∙ sym (finer (opened ∙ e) c) }) made.tasks;
     }
 
@@ -165,7 +166,8 @@ still_here s t k g h = record {
   cells = h.cells ∙ g.cells;
   finer = λ e c. let here : has_open_side s.problem ≡ true = ap has_open_side g.problem ∙ e in sym (g.finer here c) ∙ h.finer here c;
   frames = same_frames s.problem t.problem s.level t.level s.patches t.patches k.frames g.problem g.level g.boxes h.frames;
-  words = h.words ∙ ap (λ (cs : List Cell). 2 + 2 * length cs) g.cells;
+  totals = h.totals ∙ ap (λ (cs : List Cell). 2 + 2 * length cs) g.cells;
+  few = h.few;
   tasks = same_tasks s t k.tasks g h.tasks;
 }
 
@@ -177,7 +179,21 @@ with_tasks s k ts h are = record {
   cells = h.cells;
   finer = h.finer;
   frames = h.frames;
-  words = h.words;
+  totals = h.totals;
+  few = h.few;
+  tasks = are;
+}
+
+-- and its totals those of another step
+pub with_step : (s : Around) (k : KeptLayout) (ws : Vec ℕ) (ts : Tasks) → IsLaidOut s k → ws.len ≡ k.totals.len → AreTasks s ts → IsLaidOut s (record k { totals = ws; tasks = ts })
+with_step s k ws ts h long are = record {
+  level = h.level;
+  boxes = h.boxes;
+  cells = h.cells;
+  finer = h.finer;
+  frames = h.frames;
+  totals = omega (arith, long, ws.ok.0, k.totals.ok.0, h.totals);
+  few = omega (arith, long, ws.ok.0, k.totals.ok.0, h.few);
   tasks = are;
 }
 
@@ -191,7 +207,6 @@ with_flag s t flag h = record {
   planned = h.planned;
   parts = h.parts;
   parted = h.parted;
-  across = h.across;
   lots = h.lots;
 }
 

@@ -16,7 +16,13 @@ pub mod Advancing
 mod Stepped
 pub mod SameLayouts
 mod KeptLaws
+mod RunZips
 mod InLots
+mod KeptLots
+mod LentEdges
+mod LotsHanded
 mod Sent
 mod Shared
+mod BackEdges
 mod MadeLots
+mod Averaged

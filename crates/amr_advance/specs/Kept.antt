@@ -1,5 +1,7 @@
 -- A level's layout that is kept from step to step.
-use Rattle.std.specs.Prelude.{◌≡◌, ◌+◌, ◌*◌, true, length, map, is_some}
+use Rattle.std.specs.Prelude.{◌≡◌, ℕ, ◌+◌, ◌*◌, ◌<◌, ◌^◌, true, List, [], length, map, is_some}
+use Rattle.std.specs.declared.option.Option.{Option}
+use Rattle.std.specs.declared.option.Option.TheVariants.{None, Some}
 use Rattle.amr_box.specs.declared.Cell.{Cell}
 use Rattle.amr_box.specs.Cells.{in_boxes}
 use Rattle.amr_def.specs.declared.problem.Problem.{Problem}
@@ -13,15 +15,21 @@ use Rattle.amr_advance.specs.declared.kept.KeptLayout.{KeptLayout}
 use Rattle.amr_advance.specs.Tasks.{AreCurrent, AreTasks}
 
 -- it was made for the boxes of this level and for its register cells, and where a side of the domain is open for the boxes of the
--- next finer level. It has a plan of the level's frames, and its tasks are those of the level's patches.
+-- next finer level. It has a plan of the level's frames and a total for each word, and its tasks are those of the level's patches.
 pub record IsLaidOut (s : Around) (k : KeptLayout) : Type 0 where
   pub level : k.level ≡ s.level
   pub boxes : k.boxes.items ≡ map box s.patches
   pub cells : k.cells.items ≡ s.cells
   pub finer : has_open_side s.problem ≡ true → (c : Cell) → is_some (s.finer c) ≡ in_boxes k.finer.items c
   pub frames : PlansFrames (domain s.problem s.level) s.patches k.frames
-  pub words : k.words ≡ 2 + 2 * length s.cells
+  pub totals : length k.totals.items ≡ 2 + 2 * length s.cells
+  pub few : length k.totals.items < 2 ^ 32
   pub tasks : AreTasks s k.tasks
+
+-- the totals of its words, none where no layout is kept
+abbrev pub totals_in : Option KeptLayout → List ℕ
+totals_in None = []
+totals_in (Some k) = k.totals.items
 
 -- it was made for a level of this problem
 pub record IsKept (p : Problem) (k : KeptLayout) : Type 0 where

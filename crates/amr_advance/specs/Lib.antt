@@ -10,3 +10,4 @@ pub mod Totals
 pub mod Teams
 pub mod Turns
 pub mod Lots
+pub mod Averaging

@@ -1,9 +1,10 @@
 -- The registers that a step of a level adds to.
-use Rattle.std.specs.Prelude.{◌≡◌, ℕ, zero, suc, ◌<◌, ◌≤◌, ◌^◌, ℤ, pos, ◌+ℤ◌, neg_ℤ, List, [], unsigned_abs, IsSome, IsTrue}
+use Rattle.std.specs.Prelude.{◌≡◌, ℕ, zero, suc, ◌<◌, ◌≤◌, ◌^◌, ℤ, pos, ◌+ℤ◌, ◌-ℤ◌, neg_ℤ, ⊤, List, [], ◌∷◌, unsigned_abs, IsSome, IsTrue}
 use Rattle.std.specs.declared.option.Option.{Option}
 use Rattle.std.specs.declared.option.Option.TheVariants.{None, Some}
-use Rattle.std.specs.List.{Contains}
+use Rattle.std.specs.List.{All, AllZip, Contains}
 use Rattle.amr_box.specs.declared.Cell.{Cell}
+use Rattle.amr_box.specs.Cells.{Extent}
 use Rattle.amr_def.specs.declared.problem.Problem.{Problem}
 use Rattle.amr_def.specs.Domain.{domain, in_domain}
 use Rattle.amr_def.specs.State.{Level, Masses}
@@ -12,8 +13,10 @@ use Rattle.amr_def.specs.Facts.{IsLevel, IsNestedLevel}
 use Rattle.amr_patch.specs.declared.levels.Level.{Level as Held}
 use Rattle.amr_patch.specs.Levels.{level_of}
 use Rattle.amr_register.specs.declared.register.Register.{Register}
+use Rattle.amr_register.specs.declared.edges.EdgeCell.{EdgeCell}
 use Rattle.amr_register.specs.CoarseFlows.{edge_flows}
-use Rattle.amr_register.specs.Registers.{IsRegisterOf, SameCells, cells_in, entry_in}
+use Rattle.amr_register.specs.EdgeCells.{AreEdges, AreEdgesIn, IsSmallNet}
+use Rattle.amr_register.specs.Registers.{IsPlaced, IsRegisterOf, IsWithEdges, SameCells, cells_in, edges_in, entry_in}
 use Rattle.amr_flows.specs.Words.{child_flows}
 
 -- ---- before
@@ -49,6 +52,48 @@ pub record HasEdges (p : Problem) (l : ℕ) (m : Masses) (next : Option Held) (r
 abbrev pub cells_of : Option Register → List Cell
 cells_of None = []
 cells_of (Some r) = cells_in r
+
+-- ---- the lists of register cells
+
+-- lists of register cells for patches with these boxes, or none at all where there is no register
+abbrev pub AreEdgesFor : List Extent → List (List EdgeCell) → Type 0
+AreEdgesFor boxes [] = ⊤
+AreEdgesFor boxes (x ∷ xs) = AllZip AreEdgesIn boxes (x ∷ xs)
+
+-- the lists of a register, none where there is none
+abbrev pub edges_of : Option Register → List (List EdgeCell)
+edges_of None = []
+edges_of (Some r) = edges_in r
+
+-- lists that were made over level l with masses m have become these, which tell of each cell its net plain flow through the coarse-fine
+-- edges, whatever finer masses they were made below. The next coarser level had the masses `old`.
+abbrev pub AreNetsOf : Problem → ℕ → Masses → Masses → List (List EdgeCell) → List (List EdgeCell) → Type 0
+AreNetsOf p l m old xs ys = (fine : Masses) → AreEdges (domain p l) m fine xs → All (All (λ e. e.net ≡ net (edge_flows p l m old fine) e.cell)) ys
+
+-- the same register but for its lists, which are these, where there is a register
+abbrev pub BothAreWithEdges : List (List EdgeCell) → Option Register → Option Register → Type 0
+BothAreWithEdges xs None None = Unit {0}
+BothAreWithEdges xs None (Some s) = ⊥
+BothAreWithEdges xs (Some r) None = ⊥
+BothAreWithEdges xs (Some r) (Some s) = IsWithEdges xs r s
+
+-- a register whose entries may lose what its lists tell
+pub record MayTakeNets (r : Register) : Type 0 where
+  pub placed : IsPlaced r
+  pub small : All (All IsSmallNet) (edges_in r)
+  pub room : (c : Cell) → unsigned_abs (entry_in r c) < 2 ^ 62
+
+-- and has lost it
+pub record HasTakenNets (r s : Register) : Type 0 where
+  pub taken : (flow : Cell → ℤ) → All (All (λ e. e.net ≡ flow e.cell)) (edges_in r) → (c : Cell) → Contains (cells_in r) c → entry_in s c ≡ entry_in r c -ℤ flow c
+  pub cells : SameCells r s
+
+-- where there is one
+abbrev pub BothHaveTakenNets : Option Register → Option Register → Type 0
+BothHaveTakenNets None None = Unit {0}
+BothHaveTakenNets None (Some s) = ⊥
+BothHaveTakenNets (Some r) None = ⊥
+BothHaveTakenNets (Some r) (Some s) = HasTakenNets r s
 
 -- ---- after
 

@@ -34,12 +34,12 @@ use std::alloc::Global;
 #[derive(Drop)]
 pub struct KeptLayout {
     level: u32,
-    boxes: Vec<Bx>,
+    pub(crate) boxes: Vec<Bx>,
     cells: Vec<Cell>,
     finer: Vec<Bx>,
     pub(crate) frames: FramePlan,
-    /// How many words its tasks add to.
-    pub(crate) words: u32,
+    /// The totals of the words that its tasks add to: those of the last step, once one was made.
+    pub(crate) totals: Vec<u64>,
     pub(crate) tasks: Tasks,
 }
 
@@ -170,13 +170,14 @@ fn lay_out_anew(
     };
     let frames = plan_frames(alloc, given.problem, given.level, patches, order, &starts)?;
     let tasks = tasks_for(alloc, surroundings, &frames, way, old)?;
+    let totals = vec![in alloc; 0u64; 2 + 2 * given.cells.len()]?;
     Ok(KeptLayout {
         level: given.level,
         boxes: boxes_of(alloc, patches)?,
         cells: Vec::from_slice(alloc, given.cells)?,
         finer: finer_boxes(alloc, given.finer)?,
         frames,
-        words: 2 + 2 * given.cells.len() as u32,
+        totals,
         tasks,
     })
 }
@@ -189,7 +190,7 @@ fn tasks_from(layout: KeptLayout) -> Tasks {
         cells: _,
         finer: _,
         frames: _,
-        words: _,
+        totals: _,
         tasks,
     } = layout;
     tasks

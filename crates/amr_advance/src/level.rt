@@ -1,15 +1,17 @@
 //! The step of a level's patches: one after another, shared out among several workers in lots, or drawn by them on a board.
 
-ghost use Rattle.std.specs.Prelude.{◌≡◌, ◌+◌, ◌*◌, ◌<◌, ◌≤◌, ◌^◌, ℕ, IfOk, IfSome, OnOk, OnErr, length, slice_index};
-ghost use Rattle.std.specs.List.{AllZip};
+ghost use Rattle.std.specs.Prelude.{◌≡◌, ◌+◌, ◌*◌, ◌<◌, ◌≤◌, ◌^◌, ℕ, IfSome, OnOk, OnErr, length, map, slice_index};
+ghost use Rattle.std.specs.List.{All, AllZip};
 ghost use Rattle.std.specs.Option.{option_copied};
 ghost use Rattle.amr_def.specs.Flux.{flux_at};
-ghost use Rattle.amr_patch.specs.Patches.{masses_in};
+ghost use Rattle.amr_patch.specs.Patches.{box, masses_in};
 ghost use Rattle.amr_ghost.specs.Frames.{old_masses};
 ghost use Rattle.amr_layout.specs.Surroundings.{around};
 ghost use Rattle.amr_flows.specs.Laws.{plain_size};
 ghost use Rattle.amr_flows.specs.Words.{level_total};
+ghost use Rattle.amr_register.specs.EdgeCells.{IsSmallNet, SameEdges, lists_of};
 ghost use Rattle.amr_advance.specs.Kept.{IsCurrent, IsLaidOut};
+ghost use Rattle.amr_advance.specs.Registers.{AreEdgesFor, AreNetsOf};
 ghost use Rattle.amr_advance.specs.Shown.{AreShown, IsStepped, StepFits};
 ghost use Rattle.amr_advance.specs.Tasks.{AreBoardTasks, AreFilledFor};
 ghost use Rattle.amr_advance.specs.Teams.{IsTeamFor};
@@ -18,6 +20,7 @@ use crate::alone::step_each;
 use crate::collecting::{collect, take_totals};
 use crate::kept::KeptLayout;
 use crate::pieces::{to_patches, to_pieces};
+use crate::registers::find_nets;
 use crate::running::{Workers, run_pieces};
 use crate::sharing::step_in_lots;
 use crate::tasks::{BoardTasks, Tasks};
@@ -25,6 +28,7 @@ use amr_box::Cell;
 use amr_causes::NoMemory;
 use amr_def::Problem;
 use amr_patch::{Level, Patch};
+use amr_register::EdgeCell;
 use amr_workers::Gate;
 use std::alloc::Global;
 use std::sync::Wait;
@@ -92,21 +96,24 @@ fn run_on_board<R: Threads + Wait + Sync, G: Gate + Sync>(
 }
 
 /// Makes a step of the patches of a level: each cell gets what flows in through its faces. The layout was made for the way that this
-/// is done in. Frames are filled, but for patches in lots. Answers the totals of the ledger's words and of the register's, and the
-/// layout serves the next step.
+/// is done in. Frames are filled, but for patches in lots. The layout gets the totals of the ledger's words and of the register's, and
+/// serves the next step. The lists of register cells over a finer level, where there is one, get what the level's own fluxes carry into
+/// each cell. They have the same cells afterwards, whatever the result.
 ///
 /// All memory whose lack is a refusal is taken before the first task is begun. If allocation fails the patches are as before.
 pub(crate) fn run_level<R: Threads + Wait + Sync, G: Gate + Sync>(
     workers: &mut Workers<'_, R, G>,
     given: Given<'_>,
     patches: &mut [Patch],
+    edges: &mut [Vec<EdgeCell>],
     layout: &mut KeptLayout,
-) -> Result<Vec<u64>, NoMemory>
+) -> Result<(), NoMemory>
     requires level { given.level ≤ 4 }
     requires filled { AreFilledFor layout.old.tasks given.problem.now given.level (old_masses (option_copied given.old)) patches.old }
     requires fits { StepFits given.problem.now given.level (masses_in patches.old) (old_masses (option_copied given.old)) }
     requires layout { IsLaidOut (around given.problem.now given.level patches.old given.cells.now (option_copied given.finer)) layout.old }
     requires current { IsCurrent (masses_in patches.old) layout.old }
+    requires edges { AreEdgesFor (map box patches.old) (lists_of edges.old) }
     requires few { length patches.old ≤ 2 ^ 26 }
     requires some_workers { 1 ≤ workers.old.count }
     requires few_workers { workers.old.count ≤ 64 }
@@ -114,27 +121,29 @@ pub(crate) fn run_level<R: Threads + Wait + Sync, G: Gate + Sync>(
     requires team { IfSome workers.old.team (IsTeamFor given.problem.now workers.old.gate.now workers.old.count) }
     ensures workers { workers.new ≡ workers.old }
     ensures stepped { OnOk result (AllZip (IsStepped (flux_at given.entry.problem.now given.entry.level (masses_in patches.old) (old_masses (option_copied given.entry.old)))) patches.old patches.new) }
-    ensures count { IfOk result (λ ws. length ws.items ≡ 2 + 2 * length given.entry.cells.now) }
-    ensures few { IfOk result (λ ws. length ws.items < 2 ^ 32) }
-    ensures totals { IfOk result (λ ws. (word : ℕ) → word < length ws.items → slice_index ws.items word ≡ level_total (around given.entry.problem.now given.entry.level patches.old given.entry.cells.now (option_copied given.entry.finer)) (plain_size given.entry.problem.now given.entry.level (masses_in patches.old) (old_masses (option_copied given.entry.old))) word) }
-    ensures small { IfOk result (λ ws. (word : ℕ) → word < length ws.items → slice_index ws.items word < 2 ^ 63) }
+    ensures totals { OnOk result ((word : ℕ) → word < length layout.new.totals.items → slice_index layout.new.totals.items word ≡ level_total (around given.entry.problem.now given.entry.level patches.old given.entry.cells.now (option_copied given.entry.finer)) (plain_size given.entry.problem.now given.entry.level (masses_in patches.old) (old_masses (option_copied given.entry.old))) word) }
+    ensures small { OnOk result ((word : ℕ) → word < length layout.new.totals.items → slice_index layout.new.totals.items word < 2 ^ 63) }
     ensures layout { OnOk result (IsLaidOut (around given.entry.problem.now given.entry.level patches.old given.entry.cells.now (option_copied given.entry.finer)) layout.new) }
     ensures current { OnOk result (IsCurrent (masses_in patches.new) layout.new) }
+    ensures same_edges { SameEdges (lists_of edges.old) (lists_of edges.new) }
+    ensures small_nets { All (All IsSmallNet) (lists_of edges.new) }
+    ensures nets { AreNetsOf given.entry.problem.now given.entry.level (masses_in patches.old) (old_masses (option_copied given.entry.old)) (lists_of edges.old) (lists_of edges.new) }
     ensures same { OnErr result (patches.new ≡ patches.old) }
 {
-    let mut totals = vec![in given.alloc; 0u64; layout.words as usize]?;
+    layout.totals.fill(0);
     match &mut layout.tasks {
         Tasks::Lone(tasks) => {
-            step_each(workers.gate, given, patches, tasks, &mut totals);
-            Ok(totals)
+            find_nets(given, patches, edges);
+            step_each(workers.gate, given, patches, tasks, &mut layout.totals);
+            Ok(())
         }
         Tasks::Lots(tasks) => {
-            step_in_lots(workers, given, patches, tasks, &mut totals);
-            Ok(totals)
+            step_in_lots(workers, given, patches, edges, tasks, &mut layout.totals);
+            Ok(())
         }
         Tasks::Board(tasks) => {
-            run_on_board(workers, given, patches, tasks, &mut totals)?;
-            Ok(totals)
+            find_nets(given, patches, edges);
+            run_on_board(workers, given, patches, tasks, &mut layout.totals)
         }
     }
 }

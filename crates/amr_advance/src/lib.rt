@@ -1,11 +1,12 @@
 //! A step of a level by workers (Berger and Colella 1989: the integration of the grids of one level). A lone worker makes the step of
 //! one patch after another, each by its own values and those of its frame. A team that shares levels out hands each worker a lot, a
-//! run of the level's patches; it fills the ghost cells that get masses of the lot's own patches, and does the same. Else each patch
-//! is the piece of a task on a board, the larger patches first. What flows through the faces between patches goes over the board, and
-//! so do the sums for the ledger and for the flux register of the next coarser level.
+//! run of the level's patches; it fills their ghost cells, works out what flows into the level's register cells, and does the same. Else
+//! each patch is the piece of a task on a board, the larger patches first. What flows through the faces between patches goes over the
+//! board, and so do the sums for the ledger and for the flux register of the next coarser level.
 #![tactic(auto)]
 
 mod alone;
+mod averaging;
 mod collecting;
 mod kept;
 mod level;
@@ -20,6 +21,7 @@ mod tasks;
 mod turns;
 mod ways;
 
+pub use averaging::sum_up_kept;
 pub use kept::KeptLayout;
 pub use regs::{Crew, Regs};
 pub use running::{LevelTeam, Workers};

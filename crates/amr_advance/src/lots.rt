@@ -1,7 +1,7 @@
 //! The lots of a level: runs of its patches, each with what a worker needs.
 
-ghost use Rattle.std.specs.Prelude.{◌≡◌, ◌≢◌, ◌+◌, ◌*◌, ◌<◌, ◌≤◌, ◌^◌, ℕ, false, [], IfOk, OnOk, length, slice_index_or};
-ghost use Rattle.std.specs.List.{All};
+ghost use Rattle.std.specs.Prelude.{◌≡◌, ◌≢◌, ◌+◌, ◌*◌, ◌<◌, ◌≤◌, ◌^◌, ℕ, false, [], IfOk, OnOk, length, slice_index, slice_index_or};
+ghost use Rattle.std.specs.List.{All, AllZip};
 ghost use Rattle.std.specs.Global.{Box as boxed, Vec as vec};
 ghost use Rattle.std.specs.Option.{option_copied};
 ghost use Rattle.amr_def.specs.Domain.{domain};
@@ -13,23 +13,25 @@ ghost use Rattle.amr_ghost.specs.Plans.{PlansFrames};
 ghost use Rattle.amr_ghost.specs.Messages.{HasPlaces};
 ghost use Rattle.amr_ghost.specs.declared.messages.Message.{Message as message};
 ghost use Rattle.amr_ghost.specs.declared.parts.FrameCopy.{FrameCopy as frame_copy};
-ghost use Rattle.amr_ghost.specs.declared.parts.FrameParts.{FrameParts as frame_parts};
 ghost use Rattle.amr_layout.specs.declared.FlowTo.{FlowTo as flow};
 ghost use Rattle.amr_layout.specs.Adds.{HasRegisterCells};
 ghost use Rattle.amr_layout.specs.LevelFlowLists.{HasFlowsAt, flows_at};
 ghost use Rattle.amr_layout.specs.Surroundings.{around};
+ghost use Rattle.amr_lots.specs.Words.{IsNumbered};
 ghost use Rattle.amr_lots.specs.declared.lot.Lot.{Lot as lot};
 ghost use Rattle.amr_advance.specs.Layouts.{AreAddsOf};
-ghost use Rattle.amr_advance.specs.Lots.{AreLotTasks, IsLotOf};
+ghost use Rattle.amr_advance.specs.Lots.{AreLotTasks, AreNumbersOf, IsLonger, IsLotOf};
 
 use crate::pieces::one_cell;
 use crate::tasks::widest_of;
 use amr_causes::NoMemory;
 use amr_flux::Room;
-use amr_ghost::{FrameCopy, FrameParts, FramePlan, Message, Span, part_frames};
+use amr_ghost::{FrameCopy, FrameParts, FramePlan, Message, OuterGhosts, part_frames};
 use amr_layout::{FlowTo, LevelFlows, Surroundings, plan_adds};
 use amr_lots::{Lot, Phase};
 use amr_patch::Patch;
+use amr_register::EdgeCell;
+use amr_transfer::count_sums;
 use std::alloc::Global;
 use std::boxed::Box;
 use std::snapshot::Snapshot;
@@ -46,8 +48,6 @@ pub(crate) struct LotTasks {
     pub(crate) each: usize,
     /// Whether the lots have packed the masses that other lots need at the next step.
     pub(crate) packed: bool,
-    /// The ghost cells that the caller fills: they get no mass of a patch of the level.
-    pub(crate) across: Vec<Span>,
     /// The lots, in the order of the level's patches.
     pub(crate) lots: Vec<Box<Lot>>,
 }
@@ -76,23 +76,99 @@ fn blank_patches(alloc: Global, count: usize) -> Result<Vec<Patch>, NoMemory>
     Ok(patches)
 }
 
-/// The flows of so many patches, from one on.
+/// So many empty lists of register cells, which stand in a lot while no step is made.
+fn blank_edges(alloc: Global, count: usize) -> Result<Vec<Vec<EdgeCell>>, NoMemory>
+    ensures count { IfOk result (λ xss. length xss.items ≡ count) }
+    ensures empty { IfOk result (λ xss. All (λ v. v.items ≡ []) xss.items) }
+{
+    let mut lists = Vec::with_capacity(alloc, count)?;
+    for _place in 0..count {
+        lists.push_reserved(Vec::new(alloc));
+    }
+    Ok(lists)
+}
+
+/// The place of a word in a list of words. It is put at the end where it was not there. `numbers` tells for each word of the level where
+/// it stands in the list, from 1 on, or 0.
+fn place_of(words: &mut Vec<u32>, numbers: &mut [u32], word: u32) -> Result<u32, NoMemory>
+    requires there { word < length numbers.old }
+    requires few { length numbers.old < 2 ^ 32 }
+    requires numbers { AreNumbersOf words.old.items numbers.old }
+    ensures count { length numbers.new ≡ length numbers.old }
+    ensures numbers { OnOk result (AreNumbersOf words.new.items numbers.new) }
+    ensures longer { OnOk result (IsLonger words.old.items words.new.items) }
+    ensures within { IfOk result (λ place. place < length words.new.items) }
+    ensures place { IfOk result (λ place. slice_index words.new.items place ≡ word) }
+{
+    let number = numbers[word as usize];
+    if number > 0 {
+        return Ok(number - 1);
+    }
+    let place = words.len() as u32;
+    words.push(word)?;
+    numbers[word as usize] = place + 1;
+    Ok(place)
+}
+
+/// Flows to places in a list of words, to which those that it lacks are added.
+fn number_flows(
+    alloc: Global,
+    flows: &[FlowTo],
+    words: &mut Vec<u32>,
+    numbers: &mut [u32],
+) -> Result<Vec<FlowTo>, NoMemory>
+    requires words { All (λ x. x.word < length numbers.old) flows.now }
+    requires few { length numbers.old < 2 ^ 32 }
+    requires numbers { AreNumbersOf words.old.items numbers.old }
+    ensures count { length numbers.new ≡ length numbers.old }
+    ensures numbers { OnOk result (AreNumbersOf words.new.items numbers.new) }
+    ensures longer { OnOk result (IsLonger words.old.items words.new.items) }
+    ensures flows { IfOk result (λ xs. AllZip (IsNumbered words.new.items) flows.now xs.items) }
+{
+    let mut numbered = Vec::with_capacity(alloc, flows.len())?;
+    for k in 0..flows.len() {
+        let place = place_of(words, numbers, flows[k].word)?;
+        numbered.push_reserved(FlowTo {
+            word: place,
+            face: flows[k].face,
+        });
+    }
+    Ok(numbered)
+}
+
+/// Flows of patches to places in a list of words.
+#[derive(Drop)]
+struct NumberedFlows {
+    /// A list for each patch.
+    lists: Vec<Vec<FlowTo>>,
+    /// The words.
+    words: Vec<u32>,
+}
+
+/// The flows of so many patches, from one on, and the words that they go to, of so many that the level has.
 fn flows_from(
     alloc: Global,
     flows: &LevelFlows,
     first: usize,
     count: usize,
-) -> Result<Vec<Vec<FlowTo>>, NoMemory>
+    many: usize,
+) -> Result<NumberedFlows, NoMemory>
     requires there { (i : ℕ) → i < count → HasFlowsAt flows.now (first + i) }
     requires small { first + count < 2 ^ 62 }
-    ensures count { IfOk result (λ xss. length xss.items ≡ count) }
-    ensures flows { IfOk result (λ xss. (i : ℕ) (v : vec flow) → i < count → (slice_index_or xss.items i v).items ≡ flows_at flows.now (first + i)) }
+    requires words { All (λ x. x.word < many) flows.now.flows.items }
+    requires few { many < 2 ^ 32 }
+    ensures count { IfOk result (λ x. length x.lists.items ≡ count) }
+    ensures flows { IfOk result (λ x. (i : ℕ) (v : vec flow) → i < count → AllZip (IsNumbered x.words.items) (flows_at flows.now (first + i)) (slice_index_or x.lists.items i v).items) }
+    ensures words { IfOk result (λ x. All (λ w. w < many) x.words.items) }
 {
     let mut lists = Vec::with_capacity(alloc, count)?;
+    let mut words = Vec::new(alloc);
+    let mut numbers = vec![in alloc; 0u32; many]?;
     for i in 0..count {
-        lists.push_reserved(Vec::from_slice(alloc, flows.of(first + i))?);
+        let list = number_flows(alloc, flows.of(first + i), &mut words, &mut numbers)?;
+        lists.push_reserved(list);
     }
-    Ok(lists)
+    Ok(NumberedFlows { lists, words })
 }
 
 /// Messages for so many of these lists of copies: for that at `first`, and for each `stride` places further. That of number `own` is empty.
@@ -122,8 +198,8 @@ fn messages_for(
     Ok(messages)
 }
 
-/// The lot for run `k` of so many runs of the patches, `each` of them or as many as are left. `copies` are those of the level's frames, by
-/// the run that they take masses of, and for each by the run that they are for.
+/// The lot for run `k` of so many runs of the patches, `each` of them or as many as are left. `parts` are those of a plan of the level's
+/// frames.
 fn lot_for(
     alloc: Global,
     s: Surroundings<'_>,
@@ -131,7 +207,7 @@ fn lot_for(
     each: usize,
     k: usize,
     runs: usize,
-    copies: &[Vec<FrameCopy>],
+    parts: &FrameParts,
 ) -> Result<Lot, NoMemory>
     requires adds { AreAddsOf (around s.problem.now s.level s.patches.now s.cells.now (option_copied s.finer)) flows.now }
     requires few { length s.cells.now ≤ 2 ^ 30 }
@@ -139,34 +215,47 @@ fn lot_for(
     requires within { k * each ≤ length s.patches.now }
     requires there { k < runs }
     requires many { runs ≤ 2 ^ 26 }
-    requires count { length copies.now ≡ runs * runs }
-    ensures { IfOk result (λ x. (parts : frame_parts) → parts.copies.items ≡ copies.now → IsLotOf (around s.entry.problem.now s.entry.level s.entry.patches.now s.entry.cells.now (option_copied s.entry.finer)) each k runs parts x) }
+    requires copies { length parts.now.copies.items ≡ runs * runs }
+    requires outer { length parts.now.outer.items ≡ runs }
+    ensures { IfOk result (IsLotOf (around s.entry.problem.now s.entry.level s.entry.patches.now s.entry.cells.now (option_copied s.entry.finer)) each k runs parts.now) }
 {
     let first = k * each;
     let count = each.min(s.patches.len() - first);
+    let NumberedFlows { lists, words } = flows_from(
+        alloc,
+        flows,
+        first,
+        count,
+        2 + 2 * s.cells.len(),
+    )?;
+    let totals = vec![in alloc; 0u64; words.len()]?;
+    let outer = Vec::from_slice(alloc, &parts.outer[k])?;
     Ok(Lot {
         phase: Phase::Send,
         level: s.level,
         patches: blank_patches(alloc, count)?,
-        flows: flows_from(alloc, flows, first, count)?,
-        copies: Vec::from_slice(alloc, &copies[k * runs + k])?,
-        outbox: messages_for(alloc, copies, k * runs, 1, runs, k)?,
-        inbox: messages_for(alloc, copies, k, runs, runs, k)?,
+        edges: blank_edges(alloc, count)?,
+        flows: lists,
+        words,
+        copies: Vec::from_slice(alloc, &parts.copies[k * runs + k])?,
+        outer: OuterGhosts::make(alloc, outer)?,
+        outbox: messages_for(alloc, &parts.copies, k * runs, 1, runs, k)?,
+        inbox: messages_for(alloc, &parts.copies, k, runs, runs, k)?,
         room: Room::make(alloc, widest_of(&s.patches[first..first + count]))?,
-        totals: vec![in alloc; 0u64; 2 + 2 * s.cells.len()]?,
+        totals,
+        sums: vec![in alloc; 0u32; count_sums(&s.patches[first..first + count])?]?,
         problem: Snapshot::of(s.problem),
     })
 }
 
-/// A lot for each of so many runs of the patches. `copies` are those of the level's frames, by the run that they take masses of, and for each
-/// by the run that they are for.
+/// A lot for each of so many runs of the patches. `parts` are those of a plan of the level's frames.
 fn lots_for(
     alloc: Global,
     s: Surroundings<'_>,
     flows: &LevelFlows,
     each: usize,
     runs: usize,
-    copies: &[Vec<FrameCopy>],
+    parts: &FrameParts,
 ) -> Result<Vec<Box<Lot>>, NoMemory>
     requires adds { AreAddsOf (around s.problem.now s.level s.patches.now s.cells.now (option_copied s.finer)) flows.now }
     requires few { length s.cells.now ≤ 2 ^ 30 }
@@ -174,13 +263,14 @@ fn lots_for(
     requires tight { runs * each < length s.patches.now + each }
     requires short { each ≤ 2 ^ 26 }
     requires many { runs ≤ 2 ^ 26 }
-    requires count { length copies.now ≡ runs * runs }
+    requires copies { length parts.now.copies.items ≡ runs * runs }
+    requires outer { length parts.now.outer.items ≡ runs }
     ensures count { IfOk result (λ xs. length xs.items ≡ runs) }
-    ensures lots { IfOk result (λ xs. (k : ℕ) (x : boxed lot) (parts : frame_parts) → k < runs → parts.copies.items ≡ copies.now → IsLotOf (around s.entry.problem.now s.entry.level s.entry.patches.now s.entry.cells.now (option_copied s.entry.finer)) each k runs parts (slice_index_or xs.items k x).value) }
+    ensures lots { IfOk result (λ xs. (k : ℕ) (x : boxed lot) → k < runs → IsLotOf (around s.entry.problem.now s.entry.level s.entry.patches.now s.entry.cells.now (option_copied s.entry.finer)) each k runs parts.now (slice_index_or xs.items k x).value) }
 {
     let mut lots = Vec::with_capacity(alloc, runs)?;
     for k in 0..runs {
-        let lot = lot_for(alloc, s, flows, each, k, runs, copies)?;
+        let lot = lot_for(alloc, s, flows, each, k, runs, parts)?;
         lots.push_reserved(Box::new(alloc, lot)?);
     }
     Ok(lots)
@@ -212,13 +302,12 @@ pub(crate) fn lot_tasks(
     let flows = plan_adds(alloc, s)?;
     let each = parts_in(count, workers.max(1) as usize).max(1);
     let runs = parts_in(count, each);
-    let FrameParts { across, copies } = part_frames(alloc, frames, each, runs)?;
-    let lots = lots_for(alloc, s, &flows, each, runs, &copies)?;
+    let parts = part_frames(alloc, frames, each, runs)?;
+    let lots = lots_for(alloc, s, &flows, each, runs, &parts)?;
     Ok(LotTasks {
         workers,
         each,
         packed: false,
-        across,
         lots,
     })
 }

@@ -1,12 +1,71 @@
-//! What a step of a level adds to the flux register of the next coarser one: the totals of its words (Berger and Colella 1989).
+//! What a step of a level gives to flux registers (Berger and Colella 1989). That of the next coarser level gains the totals of the
+//! step's words. That over the next finer level loses the level's own flows through its coarse-fine edges: its lists of register cells
+//! are taken out of it for the step, which works these flows out, and are put back afterwards.
 
-ghost use Rattle.std.specs.Prelude.{◌≡◌, ℕ, ◌+◌, ◌*◌, ◌<◌, ◌^◌, pos, ◌+ℤ◌, ◌-ℤ◌, length, slice_index, slice_index_or, unsigned_abs};
+ghost use Rattle.std.specs.Prelude.{◌≡◌, ℕ, ◌+◌, ◌*◌, ◌<◌, ◌≤◌, ◌^◌, [], pos, ◌+ℤ◌, ◌-ℤ◌, length, map, slice_index, slice_index_or, unsigned_abs, IfSome};
+ghost use Rattle.std.specs.List.{All};
+ghost use Rattle.std.specs.Option.{option_copied};
 ghost use Rattle.amr_box.specs.declared.Cell.{Cell};
 ghost use Rattle.amr_def.specs.declared.problem.Problem.{Problem};
 ghost use Rattle.amr_def.specs.State.{Masses};
+ghost use Rattle.amr_ghost.specs.Frames.{old_masses};
+ghost use Rattle.amr_patch.specs.Patches.{box, masses_in};
+ghost use Rattle.amr_register.specs.EdgeCells.{IsSmallNet, SameEdges, lists_of};
 ghost use Rattle.amr_register.specs.Registers.{IsRegisterOf, SameCells, cells_in, entry_in};
+ghost use Rattle.amr_advance.specs.Registers.{AreEdgesFor, AreNetsOf, BothAreWithEdges, BothHaveTakenNets, MayTakeNets, edges_of};
+ghost use Rattle.amr_advance.specs.Shown.{AreShown};
 
-use amr_register::Register;
+use crate::level::Given;
+use amr_patch::Patch;
+use amr_register::{EdgeCell, Register, find_nets_of_all};
+use std::alloc::Global;
+
+/// Takes the lists of register cells out of a flux register. There are none where there is no register.
+pub(crate) fn take_edges(alloc: Global, register: &mut Option<Register>) -> Vec<Vec<EdgeCell>>
+    ensures lists { lists_of result.items ≡ edges_of register.old }
+    ensures rest { BothAreWithEdges [] register.old register.new }
+{
+    match register {
+        Some(register) => register.take_edges(),
+        None => Vec::new(alloc),
+    }
+}
+
+/// Works out what the fluxes of a level carry into its register cells over a finer level, by the frames of its patches, which are filled.
+pub(crate) fn find_nets(given: Given<'_>, patches: &[Patch], edges: &mut [Vec<EdgeCell>])
+    requires level { given.level ≤ 4 }
+    requires shown { AreShown given.problem.now given.level (old_masses (option_copied given.old)) patches.now }
+    requires edges { AreEdgesFor (map box patches.now) (lists_of edges.old) }
+    ensures same_edges { SameEdges (lists_of edges.old) (lists_of edges.new) }
+    ensures small_nets { All (All IsSmallNet) (lists_of edges.new) }
+    ensures nets { AreNetsOf given.entry.problem.now given.entry.level (masses_in patches.now) (old_masses (option_copied given.entry.old)) (lists_of edges.old) (lists_of edges.new) }
+{
+    if edges.is_empty() {
+        return;
+    }
+    find_nets_of_all(given.problem, given.level, patches, edges);
+}
+
+/// Puts lists of register cells back into the flux register that they were taken out of, where there is one.
+pub(crate) fn put_edges(register: &mut Option<Register>, edges: Vec<Vec<EdgeCell>>)
+    ensures { BothAreWithEdges (lists_of edges.items) register.old register.new }
+{
+    match register {
+        Some(register) => register.put_edges(edges),
+        None => (),
+    }
+}
+
+/// Takes what the lists of a flux register tell away from its entries, where there is a register.
+pub(crate) fn take_nets(register: &mut Option<Register>)
+    requires { IfSome register.old MayTakeNets }
+    ensures { BothHaveTakenNets register.old register.new }
+{
+    match register {
+        Some(register) => register.take_nets(),
+        None => (),
+    }
+}
 
 /// Adds what flowed into each register cell of the next coarser level, less what flowed out of it, by the totals of the
 /// words. Words `2 + 2 * k` and `3 + 2 * k` are those of cell `k`. Entries are below 2^61 in size, and so is what is

@@ -1,6 +1,6 @@
 //! A step of a level.
 
-ghost use Rattle.std.specs.Prelude.{◌≡◌, ◌+◌, ◌*◌, ◌<◌, ◌≤◌, ◌^◌, ℕ, pos, List, IfOk, IfSome, OnOk, OnErr, length, map, slice_index};
+ghost use Rattle.std.specs.Prelude.{◌≡◌, ◌+◌, ◌*◌, ◌<◌, ◌≤◌, ◌^◌, ℕ, pos, List, IfSome, OnOk, OnErr, length, map, slice_index};
 ghost use Rattle.std.specs.List.{All, AllZip};
 ghost use Rattle.std.specs.Option.{option_copied};
 ghost use Rattle.amr_def.specs.Domain.{domain};
@@ -16,14 +16,15 @@ ghost use Rattle.amr_layout.specs.Adds.{HasRegisterCells};
 ghost use Rattle.amr_layout.specs.Surroundings.{around, finer_masses};
 ghost use Rattle.amr_advance.specs.Registers.{BothChange, HasCoarser, HasEdges, HasFiner, cells_of, gained, taken};
 ghost use Rattle.amr_advance.specs.Totals.{HasTotals, SomeHasAbsorbed, SomeMayAbsorb};
-ghost use Rattle.amr_advance.specs.Kept.{IsCurrent, IsKept, IsLaidOut};
-ghost use Rattle.amr_advance.specs.Shown.{AreShown, StepFits};
+ghost use Rattle.amr_register.specs.Registers.{HasEdgesOf};
+ghost use Rattle.amr_advance.specs.Kept.{IsCurrent, IsKept, IsLaidOut, totals_in};
+ghost use Rattle.amr_advance.specs.Shown.{StepFits};
 ghost use Rattle.amr_advance.specs.Tasks.{AreFilledFor};
 ghost use Rattle.amr_advance.specs.Teams.{IsTeamFor};
 
 use crate::kept::{KeptLayout, layout_for};
 use crate::level::{Given, run_level};
-use crate::registers::absorb_totals;
+use crate::registers::{absorb_totals, put_edges, take_edges, take_nets};
 use crate::regs::{Crew, Regs};
 use crate::running::Workers;
 use crate::tasks::are_lots;
@@ -42,14 +43,8 @@ use std::thread::Threads;
 /// How many patches a level may have. More would take more memory than there is, and are refused as that.
 const MOST: usize = 1 << 26;
 
-/// Fills the frames of a level's patches by the plan of its layout, where the step needs that. Lots fill their own, so it doesn't
-/// where there is no register over the level, to which frames tell what flows through its coarse-fine edges.
-fn fill_frames(
-    given: Given<'_>,
-    patches: &mut [Patch],
-    register: &Option<Register>,
-    layout: &KeptLayout,
-)
+/// Fills the frames of a level's patches by the plan of its layout. Lots fill those of their own patches.
+fn fill_frames(given: Given<'_>, patches: &mut [Patch], layout: &KeptLayout)
     requires level { given.level ≤ 4 }
     requires apart { ArePatchesApart patches.old }
     requires inside { AreInDomain (domain given.problem.now given.level) patches.old }
@@ -59,13 +54,10 @@ fn fill_frames(
     ensures apart { ArePatchesApart patches.new }
     ensures inside { AreInDomain (domain given.entry.problem.now given.entry.level) patches.new }
     ensures filled { AreFilledFor layout.entry.now.tasks given.entry.problem.now given.entry.level (old_masses (option_copied given.entry.old)) patches.new }
-    ensures shown { IfSome register.entry.now (λ r. AreShown given.entry.problem.now given.entry.level (old_masses (option_copied given.entry.old)) patches.new) }
     ensures layout { IsLaidOut (around given.entry.problem.now given.entry.level patches.new given.entry.cells.now (option_copied given.entry.finer)) layout.entry.now }
 {
-    if register.is_none() {
-        if are_lots(&layout.tasks) {
-            return;
-        }
+    if are_lots(&layout.tasks) {
+        return;
     }
     fill_planned(
         given.problem,
@@ -86,32 +78,19 @@ fn cells_of(register: &Option<Register>) -> &[Cell]
     }
 }
 
-/// A copy of a flux register, where there is one.
-fn copy_of(alloc: Global, register: &Option<Register>) -> Result<Option<Register>, NoMemory>
-    ensures { IfOk result (BothChange (λ c. pos 0) register.now) }
+/// The totals that a layout that is kept has, none where none is kept.
+fn totals_in(kept: &Option<KeptLayout>) -> &[u64]
+    ensures { result.now ≡ totals_in kept.now }
 {
-    match register {
-        Some(register) => Ok(Some(register.copy(alloc)?)),
-        None => Ok(None),
+    match kept {
+        Some(layout) => layout.totals.as_slice(),
+        None => &[],
     }
 }
 
-/// Takes the plain flows through a level's coarse-fine edges out of the register over it, where there is one.
-fn take_parts(given: Given<'_>, patches: &[Patch], order: Order, register: &mut Option<Register>)
-    requires order { IsOrderOf order patches.now }
-    requires shown { IfSome register.old (λ r. AreShown given.problem.now given.level (old_masses (option_copied given.old)) patches.now) }
-    requires fits { StepFits given.problem.now given.level (masses_in patches.now) (old_masses (option_copied given.old)) }
-    requires register { HasEdges given.problem.now given.level (masses_in patches.now) (option_copied given.finer) register.old }
-    ensures { BothChange (taken given.entry.problem.now given.entry.level (masses_in patches.now) (old_masses (option_copied given.entry.old)) (finer_masses (option_copied given.entry.finer))) register.old register.new }
-{
-    match register {
-        Some(register) => register.coarse_parts(given.problem, given.level, patches, order),
-        None => (),
-    }
-}
-
-/// Makes a step of the patches of a level, and tells the totals of its words. If allocation fails the patches have the masses of
-/// before, and the register is as before.
+/// Makes a step of the patches of a level. The layout that is kept has the totals of its words. The register over the next finer level
+/// loses the level's own flows through its coarse-fine edges. If allocation fails the patches have the masses of before, and the
+/// register has the entries of before.
 fn step_patches<R: Threads + Wait + Sync, G: Gate + Sync>(
     workers: &mut Workers<'_, R, G>,
     given: Given<'_>,
@@ -119,7 +98,7 @@ fn step_patches<R: Threads + Wait + Sync, G: Gate + Sync>(
     patches: &mut [Patch],
     register: &mut Option<Register>,
     kept: &mut Option<KeptLayout>,
-) -> Result<Vec<u64>, NoMemory>
+) -> Result<(), NoMemory>
     requires level { given.level ≤ 4 }
     requires order { IsOrderOf order patches.old }
     requires apart { ArePatchesApart patches.old }
@@ -127,6 +106,7 @@ fn step_patches<R: Threads + Wait + Sync, G: Gate + Sync>(
     requires fits { StepFits given.problem.now given.level (masses_in patches.old) (old_masses (option_copied given.old)) }
     requires cells { (qs : List Patch) → masses_in qs ≡ masses_in patches.old → HasRegisterCells (around given.problem.now given.level qs given.cells.now (option_copied given.finer)) }
     requires register { HasEdges given.problem.now given.level (masses_in patches.old) (option_copied given.finer) register.old }
+    requires edges { IfSome register.old (HasEdgesOf (map box patches.old)) }
     requires kept { IfSome kept.old (IsKept given.problem.now) }
     requires current { IfSome kept.old (IsCurrent (masses_in patches.old)) }
     requires some_workers { 1 ≤ workers.old.count }
@@ -137,10 +117,10 @@ fn step_patches<R: Threads + Wait + Sync, G: Gate + Sync>(
     ensures masses { OnOk result (masses_in patches.new ≡ updated (masses_in patches.old) (flux_at given.entry.problem.now given.entry.level (masses_in patches.old) (old_masses (option_copied given.entry.old)))) }
     ensures boxes { map box patches.new ≡ map box patches.old }
     ensures apart { ArePatchesApart patches.new }
-    ensures count { IfOk result (λ ws. length ws.items ≡ 2 + 2 * length given.entry.cells.now) }
-    ensures few { IfOk result (λ ws. length ws.items < 2 ^ 32) }
-    ensures small { IfOk result (λ ws. (word : ℕ) → word < length ws.items → slice_index ws.items word < 2 ^ 63) }
-    ensures totals { IfOk result (λ ws. HasTotals given.entry.problem.now given.entry.level (masses_in patches.old) (old_masses (option_copied given.entry.old)) (finer_masses (option_copied given.entry.finer)) given.entry.cells.now ws.items) }
+    ensures count { OnOk result (length (totals_in kept.new) ≡ 2 + 2 * length given.entry.cells.now) }
+    ensures few { OnOk result (length (totals_in kept.new) < 2 ^ 32) }
+    ensures small { OnOk result ((word : ℕ) → word < length (totals_in kept.new) → slice_index (totals_in kept.new) word < 2 ^ 63) }
+    ensures totals { OnOk result (HasTotals given.entry.problem.now given.entry.level (masses_in patches.old) (old_masses (option_copied given.entry.old)) (finer_masses (option_copied given.entry.finer)) given.entry.cells.now (totals_in kept.new)) }
     ensures register { OnOk result (BothChange (taken given.entry.problem.now given.entry.level (masses_in patches.old) (old_masses (option_copied given.entry.old)) (finer_masses (option_copied given.entry.finer))) register.old register.new) }
     ensures same_masses { OnErr result (masses_in patches.new ≡ masses_in patches.old) }
     ensures same_register { OnErr result (BothChange (λ c. pos 0) register.old register.new) }
@@ -152,19 +132,14 @@ fn step_patches<R: Threads + Wait + Sync, G: Gate + Sync>(
     if patches.len() > MOST {
         return Err(NoMemory);
     }
-    fill_frames(given, patches, register, &layout);
-    let saved = copy_of(given.alloc, register)?;
-    take_parts(given, patches, order, register);
-    match run_level(workers, given, patches, &mut layout) {
-        Ok(totals) => {
-            *kept = Some(layout);
-            Ok(totals)
-        }
-        Err(fault) => {
-            *register = saved;
-            Err(fault)
-        }
-    }
+    fill_frames(given, patches, &layout);
+    let mut edges = take_edges(given.alloc, register);
+    let run = run_level(workers, given, patches, &mut edges, &mut layout);
+    put_edges(register, edges);
+    run?;
+    take_nets(register);
+    *kept = Some(layout);
+    Ok(())
 }
 
 /// Adds the totals of a step: the ledger's words to the sums, and the others to the register of the next coarser level.
@@ -193,7 +168,8 @@ fn add_totals(totals: &[u64], regs: &mut Regs)
 /// kept afterwards, but not after `NoMemory`.
 ///
 /// There are from 1 to 64 workers. `kept` and the team, where there is one, are of the same problem. What is kept of the level's masses is
-/// of those that it has: who changes them between two steps says so by [`KeptLayout::masses_changed`].
+/// of those that it has: who changes them between two steps says so by [`KeptLayout::masses_changed`]. The register over the next finer
+/// level has a list of register cells for each patch, as [`Register::make`] gives it. It serves each step until boxes change.
 pub fn advance_kept<R: Threads + Wait + Sync, G: Gate + Sync>(
     workers: &mut Workers<'_, R, G>,
     p: &Problem,
@@ -209,6 +185,7 @@ pub fn advance_kept<R: Threads + Wait + Sync, G: Gate + Sync>(
     requires fits { StepFits p.now l (level_of level.old).masses (old_masses (option_copied old)) }
     requires coarser { HasCoarser p.now l (level_of level.old) (option_copied old) regs.old.coarser }
     requires finer { HasFiner p.now l (level_of level.old) (option_copied finer) regs.old.finer }
+    requires edges { IfSome regs.old.finer (HasEdgesOf (map box (patches_of level.old))) }
     requires some_workers { 1 ≤ workers.old.count }
     requires few_workers { workers.old.count ≤ 64 }
     requires gate { (worker task : ℕ) → worker < workers.old.count → task < length (patches_of level.old) → G.admits workers.old.gate.now worker task }
@@ -244,8 +221,8 @@ pub fn advance_kept<R: Threads + Wait + Sync, G: Gate + Sync>(
     };
     let stepped = step_patches(workers, given, order, &mut patches, &mut regs.finer, kept);
     level.put_patches_in_order(patches, order);
-    let totals = stepped?;
-    add_totals(&totals, regs);
+    stepped?;
+    add_totals(totals_in(kept), regs);
     Ok(())
 }
 
@@ -260,8 +237,8 @@ pub fn advance_kept<R: Threads + Wait + Sync, G: Gate + Sync>(
 /// which task.
 ///
 /// The crew has one rank, and from 1 to 64 workers. All memory whose lack is a refusal is taken before the first task is drawn.
-/// `NoMemory` is the only refusal, and also stands for more than 2^26 patches or 2^30 faces: then the level has the masses of before, and `regs` is as
-/// before. The call joins its workers, and keeps this promise if it returns.
+/// `NoMemory` is the only refusal, and also stands for more than 2^26 patches or 2^30 faces: then the level has the masses of before, and `regs` has
+/// the entries and sums of before. The call joins its workers, and keeps this promise if it returns.
 pub fn advance<R: Threads + Wait + Sync, G: Gate + Sync>(
     rt: &R,
     p: &Problem,
@@ -278,6 +255,7 @@ pub fn advance<R: Threads + Wait + Sync, G: Gate + Sync>(
     requires fits { StepFits p.now l (level_of level.old).masses (old_masses (option_copied old)) }
     requires coarser { HasCoarser p.now l (level_of level.old) (option_copied old) regs.old.coarser }
     requires finer { HasFiner p.now l (level_of level.old) (option_copied finer) regs.old.finer }
+    requires edges { IfSome regs.old.finer (HasEdgesOf (map box (patches_of level.old))) }
     requires one_rank { crew.ranks ≡ 1 }
     requires some_workers { 1 ≤ crew.workers }
     requires few_workers { crew.workers ≤ 64 }

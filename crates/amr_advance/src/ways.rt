@@ -5,15 +5,27 @@ use crate::running::{LevelTeam, Workers};
 use amr_patch::Patch;
 use amr_workers::Gate;
 
-/// How many cells the patches of a level need to have, so that sharing them out takes no longer than it saves. What lies beside
-/// patches of other lots has to come from another processor's cache.
-const MANY: u64 = 1 << 16;
+/// When it saves time to share the patches of a level out.
+#[derive(Clone, Copy, Debug)]
+struct Enough {
+    /// How many cells the patches have in all. What lies beside patches of other lots has to come from another processor's cache.
+    in_all: u64,
+    /// How many a patch has on average.
+    in_patch: u64,
+}
 
-/// How many cells a patch needs to have on average, where there is no other level.
-const LARGE: u64 = 1 << 10;
+/// Where there is no other level.
+const ALONE: Enough = Enough {
+    in_all: 1 << 16,
+    in_patch: 1 << 10,
+};
 
-/// The same beside other levels: what is done between levels is one worker's, so masses come back into its cache at each step.
-const LARGE_BESIDE_LEVELS: u64 = 1 << 12;
+/// Beside other levels: lots have more to do for each cell, at coarse-fine edges. But what is done between levels by one worker takes
+/// some masses into its cache at each step.
+const BESIDE_LEVELS: Enough = Enough {
+    in_all: 1 << 17,
+    in_patch: 1 << 8,
+};
 
 /// How the step of a level is made.
 #[derive(Clone, Copy, PartialEq, Eq, Debug)]
@@ -26,13 +38,13 @@ pub(crate) enum Way {
     OnBoard,
 }
 
-/// Whether it saves time to share these patches out, whose least area on average this is.
-fn are_worth_sharing(patches: &[Patch], large: u64) -> bool {
+/// Whether patches have enough cells to be shared out.
+fn are_worth_sharing(patches: &[Patch], enough: Enough) -> bool {
     let mut cells = 0u64;
     for patch in patches {
         cells = cells.saturating_add(patch.bx().area());
     }
-    cells >= MANY && cells / large.max(1) >= patches.len() as u64
+    cells >= enough.in_all && cells / enough.in_patch.max(1) >= patches.len() as u64
 }
 
 /// How these workers make the step of these patches. Several draw them on a board where their gate may hold one of them, or where
@@ -48,11 +60,11 @@ pub(crate) fn way_for<R, G: Gate>(
     let Some(LevelTeam::Sharing(_)) = &workers.team else {
         return Way::OnBoard;
     };
-    let large = match (given.old, given.finer) {
-        (None, None) => LARGE,
-        _ => LARGE_BESIDE_LEVELS,
+    let enough = match (given.old, given.finer) {
+        (None, None) => ALONE,
+        _ => BESIDE_LEVELS,
     };
-    if are_worth_sharing(patches, large) {
+    if are_worth_sharing(patches, enough) {
         return Way::InLots(workers.count);
     }
     Way::Alone

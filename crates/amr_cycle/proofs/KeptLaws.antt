@@ -1,5 +1,5 @@
 -- What is kept serves levels with the same boxes.
-use Rattle.std.proofs.Common.{◌≡◌, ◌∙◌, ◌⊎◌, inl, inr, ℕ, zero, suc, ◌+◌, ◌<◌, ℤ, List, ◌∷◌, get_or, length, map, set, refl, sym, ap, subst, arith}
+use Rattle.std.proofs.Common.{◌≡◌, ◌∙◌, ◌⊎◌, inl, inr, ℕ, zero, suc, ◌+◌, ◌<◌, ℤ, List, [], ◌∷◌, get_or, length, map, set, refl, sym, ap, subst, arith}
 use Rattle.std.specs.Prelude.{is_some, IfSome}
 use Rattle.std.specs.declared.option.Option.{Option}
 use Rattle.std.specs.declared.option.Option.TheVariants.{None, Some}
@@ -12,16 +12,17 @@ use Rattle.amr_def.specs.declared.problem.Problem.{Problem}
 use Rattle.amr_def.specs.State.{Level}
 use Rattle.amr_patch.specs.declared.levels.Level.{Level as Held}
 use Rattle.amr_patch.specs.declared.patches.Patch.{Patch}
-use Rattle.amr_patch.specs.Levels.{level_of}
+use Rattle.amr_patch.specs.Levels.{level_of, patches_of}
 use Rattle.amr_patch.specs.Patches.{box, masses_in}
 use Rattle.amr_alike.proofs.SameBoxes.{some_in_boxes}
 use Rattle.amr_register.specs.declared.register.Register.{Register}
-use Rattle.amr_register.specs.Registers.{SameCells}
-use Rattle.amr_register.proofs.SameCells.{register_kept, same_register}
+use Rattle.amr_register.specs.Registers.{HasEdgesOf, SameCells}
+use Rattle.amr_register.proofs.SameCells.{edges_kept, register_kept, same_register}
 use Rattle.amr_cycle.specs.declared.kept.KeptBelow.{KeptBelow}
 use Rattle.amr_cycle.specs.declared.kept.KeptLevel.{KeptLevel}
 use Rattle.amr_cycle.specs.Cycles.{SomeHasEntries}
-use Rattle.amr_advance.specs.Kept.{IsCurrent as IsCurrentLayout}
+use Rattle.amr_advance.specs.declared.kept.KeptLayout.{KeptLayout}
+use Rattle.amr_advance.specs.Kept.{IsCurrent as IsCurrentLayout, IsKept as IsKeptLayout}
 use Rattle.amr_cycle.specs.Kept.{AreCurrent, AreKept, IsBelow, IsKeptBelow, IsKeptLevel, IsOnSameBoxes}
 use Rattle.amr_cycle.proofs.Cycling.{same_level}
 
@@ -31,8 +32,8 @@ cells_alike a b ps qs of_a of_b same c = some_in_boxes (level_of a).masses ps (m
 
 -- brought up to date, what was kept is what both finer steps stand on
 pub renewed : (p : Problem) (l : ℕ) (b b' : KeptBelow) (level next : Held) → IsKeptBelow p l b → IsOnSameBoxes b level next
-    → (level_of b'.before).masses ≡ (level_of level).masses → (level_of b'.before).boxes ≡ (level_of b.before).boxes → b'.finer ≡ b.finer → SameCells b.register b'.register → IsBelow p l (level_of level) (level_of next) b'
-renewed p l b b' level next kept on masses boxes finer register = record {
+    → (level_of b'.before).masses ≡ (level_of level).masses → (level_of b'.before).boxes ≡ (level_of b.before).boxes → b'.finer ≡ b.finer → map box (patches_of b'.before) ≡ map box (patches_of b.before) → SameCells b.register b'.register → IsBelow p l (level_of level) (level_of next) b'
+renewed p l b b' level next kept on masses boxes finer patches register = record {
   before = same_level (level_of b'.before) (level_of level) (boxes ∙ on.before.boxes) masses;
   finer = λ c. on.finer c ∙ ap (λ bs. in_boxes bs.items c) (sym finer);
   register =
@@ -40,6 +41,7 @@ renewed p l b b' level next kept on masses boxes finer register = record {
       let coarse_cells : (c : Cell) → is_some ((level_of level).masses c) ≡ is_some (kept.level.masses c) = λ c. on.before.cells c ∙ ap (λ (k : Level). is_some (k.masses c)) kept.below.before in
       same_register p l kept.level.masses kept.fine.masses (level_of level).masses (level_of next).masses b'.register coarse_cells fine_cells
       (register_kept p l kept.level.masses kept.fine.masses b.register b'.register register kept.below.register);
+  edges = subst (λ (bs : List Extent). HasEdgesOf bs b'.register) (sym patches) (edges_kept (map box (patches_of b.before)) b.register b'.register register kept.below.edges);
 }
 
 -- ---- lists
@@ -65,15 +67,16 @@ kept_set p l i x ks inside here h n d lt = from (cases_eq n i)
 -- ---- what is left when both finer steps are made
 
 pub all_below_after : (p : Problem) (l : ℕ) (k fine : Level) (e : Cell → ℤ) (o : Option KeptBelow) (before : Held) (finer : Vec Extent) (r : Option Register) → level_of before ≡ k → ((c : Cell) → is_some (fine.masses c) ≡ in_boxes finer.items c)
-    → IfSome o (λ b. (b.before ≡ before) × (b.finer ≡ finer) × (Some b.register ≡ r)) → SomeHasEntries p l k.masses fine.masses e r → IfSome o (IsKeptBelow p l)
-all_below_after p l k fine e None before finer r is cells same has = tt
-all_below_after p l k fine e (Some b) before finer r is cells same has = record {
+    → IfSome o (λ b. (b.before ≡ before) × (b.finer ≡ finer) × (Some b.register ≡ r)) → SomeHasEntries p l k.masses fine.masses e r → IfSome r (HasEdgesOf (map box (patches_of before))) → IfSome o (IsKeptBelow p l)
+all_below_after p l k fine e None before finer r is cells same has edges = tt
+all_below_after p l k fine e (Some b) before finer r is cells same has edges = record {
   level = k;
   fine = fine;
   below = record {
     before = ap level_of same.0 ∙ is;
     finer = λ c. cells c ∙ ap (λ (v : Vec Extent). in_boxes v.items c) (sym same.1);
     register = (subst (SomeHasEntries p l k.masses fine.masses e) (sym same.2) has).of_levels;
+    edges = subst (λ (h : Held). HasEdgesOf (map box (patches_of h)) b.register) (sym same.0) (subst (λ (s : Option Register). IfSome s (HasEdgesOf (map box (patches_of before)))) (sym same.2) edges);
   };
 }
 
@@ -88,3 +91,13 @@ current_rest k levels d ds ls is h n j e within lt = subst (AreCurrent (k ∷ le
 pub current_all : (k : Level) (levels : List Level) (d : KeptLevel) (ds : List KeptLevel) → IfSome d.layout (IsCurrentLayout k.masses) → AreCurrent levels ds → AreCurrent (k ∷ levels) (d ∷ ds)
 current_all k levels d ds first rest zero j e within lt = first
 current_all k levels d ds first rest (suc n) j e within lt = rest n j e (omega (arith, within)) (omega (arith, lt))
+
+-- ---- another layout is kept of the first of them
+
+pub kept_again : (p : Problem) (l : ℕ) (layout : Option KeptLayout) (d : KeptLevel) (ds : List KeptLevel) → 0 < length ds → IfSome layout (IsKeptLayout p) → AreKept p l ds → AreKept p l (set ds 0 (record { layout = layout; below = (get_or ds 0 d).below }))
+kept_again p l layout d ds some kept h = kept_set p l 0 (record { layout = layout; below = (get_or ds 0 d).below }) ds some (record { layout = kept; below = (h 0 d some).below }) h
+
+-- it says of masses what that of before said
+pub current_again : (k : Level) (levels : List Level) (d e : KeptLevel) (ds : List KeptLevel) → 0 < length ds → (IfSome (get_or ds 0 e).layout (IsCurrentLayout k.masses) → IfSome d.layout (IsCurrentLayout k.masses)) → AreCurrent (k ∷ levels) ds → AreCurrent (k ∷ levels) (set ds 0 d)
+current_again k levels d e [] some again h = absurd (omega (arith, some))
+current_again k levels d e (f ∷ ds) some again h = current_all k levels d ds (again (h 0 k e (omega arith) (omega arith))) (current_rest k levels f ds (f ∷ ds) refl h)

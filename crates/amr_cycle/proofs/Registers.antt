@@ -1,23 +1,22 @@
 -- The register over a level, from its own step on through both finer ones.
-use Rattle.std.proofs.Common.{◌≡◌, ℕ, suc, ◌^◌, ◌<◌, ◌≤◌, ℤ, pos, ◌+ℤ◌, neg_ℤ, Bool, List, refl, sym, ap, subst, ◌∙◌, arith}
-use Rattle.std.specs.Prelude.{unsigned_abs, IsSome}
+use Rattle.std.proofs.Common.{◌≡◌, ℕ, suc, ◌^◌, ◌<◌, ◌≤◌, ℤ, pos, ◌+ℤ◌, neg_ℤ, List, refl, sym, ap, subst, ◌∙◌, arith}
+use Rattle.std.specs.Prelude.{unsigned_abs, IfSome, IsSome}
 use Rattle.std.specs.declared.option.Option.{Option}
 use Rattle.std.specs.declared.option.Option.TheVariants.{None, Some}
 use Rattle.std.specs.List.{Contains}
 use Rattle.std.proofs.lemmas.Int.{ints}
 use Rattle.amr_box.specs.declared.Cell.{Cell}
+use Rattle.amr_box.specs.Cells.{Extent}
 use Rattle.amr_def.specs.declared.problem.Problem.{Problem}
-use Rattle.amr_def.specs.Domain.{domain}
 use Rattle.amr_def.specs.State.{Level, Masses}
 use Rattle.amr_def.specs.Flux.{Fluxes, flux_at, net}
 use Rattle.amr_def.specs.Facts.{IsLevel, IsNestedLevel}
 use Rattle.amr_patch.specs.declared.levels.Level.{Level as Held}
 use Rattle.amr_patch.specs.Levels.{level_of}
 use Rattle.amr_register.specs.declared.register.Register.{Register}
-use Rattle.amr_register.specs.Beside.{HaveSides}
 use Rattle.amr_register.specs.RegisterCells.{register_cells}
-use Rattle.amr_register.specs.Registers.{IsRegisterOf, cells_in, entry_in, sides_in}
-use Rattle.amr_register.proofs.SameCells.{no_entry, register_kept, small_entries}
+use Rattle.amr_register.specs.Registers.{HasEdgesOf, IsRegisterOf, entry_in}
+use Rattle.amr_register.proofs.SameCells.{edges_kept, no_entry, of_covered, register_kept, small_entries}
 use Rattle.amr_flows.specs.Words.{child_flows}
 use Rattle.amr_flows.specs.Subcycle.{AreGathered, CoverAlike, children_part, edge_part}
 use Rattle.amr_advance.specs.Registers.{BothChange, HasCoarser, HasFiner, cells_of, gained, taken}
@@ -42,10 +41,14 @@ lost p l k fine old r (Some s) of zeros h = record {
 
 -- levels that cover the same cells have the same register
 pub of_alike : (p : Problem) (l : ℕ) (m fine after : Masses) (r : Register) → CoverAlike fine after → IsRegisterOf p l m fine r → IsRegisterOf p l m after r
-of_alike p l m fine after r alike of = record {
-  cells = of.cells ∙ sym (alike.register p l m);
-  sides = subst (λ (t : Cell → Bool). HaveSides (domain p l) t (cells_in r) (sides_in r)) (sym alike.covered) of.sides;
-}
+of_alike p l m fine after r alike of = of_covered p l m fine after r alike.covered of
+
+-- a register that changed has edges of the same boxes
+pub edges_stay : (boxes : List Extent) (by : Cell → ℤ) (r s : Option Register) → BothChange by r s → IfSome r (HasEdgesOf boxes) → IfSome s (HasEdgesOf boxes)
+edges_stay boxes by None None change h = tt
+edges_stay boxes by None (Some s) change h = absurd change
+edges_stay boxes by (Some r) None change h = absurd change
+edges_stay boxes by (Some r) (Some s) change h = edges_kept boxes r s change.cells h
 
 -- with entries that are small it serves a step of the finer level
 pub serves : (p : Problem) (l : ℕ) (k fine after : Level) (before : Held) (e : Cell → ℤ) (r : Option Register) → level_of before ≡ k → IsLevel p l k → IsNestedLevel p l k after → CoverAlike fine.masses after.masses

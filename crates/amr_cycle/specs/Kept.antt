@@ -7,17 +7,18 @@ use Rattle.amr_def.specs.State.{Level}
 use Rattle.amr_patch.specs.declared.levels.Level.{Level as Held}
 use Rattle.amr_patch.specs.Levels.{level_of, patches_of}
 use Rattle.amr_patch.specs.Patches.{box}
-use Rattle.amr_register.specs.Registers.{IsRegisterOf}
+use Rattle.amr_register.specs.Registers.{HasEdgesOf, IsRegisterOf}
 use Rattle.amr_advance.specs.Kept.{IsCurrent as IsCurrentLayout, IsKept as IsKeptLayout}
 use Rattle.amr_cycle.specs.declared.kept.Kept.{Kept}
 use Rattle.amr_cycle.specs.declared.kept.KeptBelow.{KeptBelow}
 use Rattle.amr_cycle.specs.declared.kept.KeptLevel.{KeptLevel}
 
--- it holds level k as it is before its step, and the register over k below the finer level `fine`
+-- it holds level k as it is before its step, and the register over k below the finer level `fine`, with edges of k's patches
 pub record IsBelow (p : Problem) (l : ℕ) (k fine : Level) (b : KeptBelow) : Type 0 where
   pub before : level_of b.before ≡ k
   pub finer : (c : Cell) → is_some (fine.masses c) ≡ in_boxes b.finer.items c
   pub register : IsRegisterOf p l k.masses fine.masses b.register
+  pub edges : HasEdgesOf (map box (patches_of b.before)) b.register
 
 -- it held one of the problem's levels l
 pub record IsKeptBelow (p : Problem) (l : ℕ) (b : KeptBelow) : Type 0 where

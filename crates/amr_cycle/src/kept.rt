@@ -111,6 +111,7 @@ fn renew(kept: &mut KeptBelow, level: &Level)
     ensures before { (level_of kept.new.before).masses ≡ (level_of level.now).masses }
     ensures boxes { (level_of kept.new.before).boxes ≡ (level_of kept.old.before).boxes }
     ensures finer { kept.new.finer ≡ kept.old.finer }
+    ensures patches { map box (patches_of kept.new.before) ≡ map box (patches_of kept.old.before) }
     ensures cells { SameCells kept.old.register kept.new.register }
     ensures zero { (c : Cell) → entry_in kept.new.register c ≡ pos 0 }
 {
@@ -120,7 +121,8 @@ fn renew(kept: &mut KeptBelow, level: &Level)
 
 /// A level as it is before its step: in the level that is kept, where it has the same boxes, else in a copy.
 fn before_in(mut kept: Level, level: &Level) -> Result<Level, NoMemory>
-    ensures { IfOk result (λ k. level_of k ≡ level_of level.now) }
+    ensures level { IfOk result (λ k. level_of k ≡ level_of level.now) }
+    ensures patches { IfOk result (λ k. map box (patches_of k) ≡ map box (patches_of level.now)) }
 {
     if !is_on_boxes_of(&kept, level) {
         return level.copy();
@@ -139,12 +141,14 @@ fn make_below(
     next: &Level,
 ) -> Result<KeptBelow, NoMemory>
     requires before { level_of before ≡ level_of level.now }
+    requires patches { map box (patches_of before) ≡ map box (patches_of level.now) }
     requires number { l ≤ 3 }
     requires coarse { IsLevel p.now l (level_of level.now) }
     requires fine { IsLevel p.now (suc l) (level_of next.now) }
     requires nested { IsNestedLevel p.now l (level_of level.now) (level_of next.now) }
     ensures below { IfOk result (IsBelow p.now l (level_of level.now) (level_of next.now)) }
     ensures zero { IfOk result (λ b. (c : Cell) → entry_in b.register c ≡ pos 0) }
+    ensures patches { IfOk result (λ b. map box (patches_of b.before) ≡ map box (patches_of level.now)) }
 {
     Ok(KeptBelow {
         before,
@@ -171,6 +175,7 @@ pub(crate) fn below_for(
     requires kept { IfSome kept.old (IsKeptBelow p.now l) }
     ensures below { IfOk result (IsBelow p.now l (level_of level.now) (level_of next.now)) }
     ensures zero { IfOk result (λ b. (c : Cell) → entry_in b.register c ≡ pos 0) }
+    ensures patches { IfOk result (λ b. map box (patches_of b.before) ≡ map box (patches_of level.now)) }
     ensures none { kept.new ≡ None }
 {
     let Some(mut below) = kept.take() else {

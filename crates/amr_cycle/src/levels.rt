@@ -12,6 +12,7 @@ ghost use Rattle.amr_laws.specs.Substeps.{after_step};
 ghost use Rattle.amr_patch.specs.Levels.{level_of, patches_of};
 ghost use Rattle.amr_patch.specs.Patches.{box};
 ghost use Rattle.amr_ghost.specs.Frames.{old_masses};
+ghost use Rattle.amr_register.specs.Registers.{HasEdgesOf};
 ghost use Rattle.amr_transfer.specs.Sums.{AreCoarsenable};
 ghost use Rattle.amr_flows.specs.Subcycle.{edge_part, flows_of_step};
 ghost use Rattle.amr_advance.specs.Registers.{BothChange, HasCoarser, gained};
@@ -112,6 +113,7 @@ fn step_coarse<R: Threads + Wait + Sync, G: Gate + Sync>(
     ensures boxes { OnOk result ((level_of level.new).boxes ≡ (level_of level.old).boxes) }
     ensures patches { OnOk result (map box (patches_of level.new) ≡ map box (patches_of level.old)) }
     ensures register { IfOk result (λ b. SomeHasEntries given.now.problem.now given.now.level (level_of level.old).masses (level_of next.now).masses (λ c. neg_ℤ (edge_part given.now.problem.now given.now.level (level_of level.old) (old_masses (option_copied given.now.old)) (level_of next.now).masses c)) b.regs.coarser) }
+    ensures edges { IfOk result (λ b. IfSome b.regs.coarser (HasEdgesOf (map box (patches_of b.before)))) }
     ensures coarser { OnOk result (BothChange (gained given.now.problem.now given.now.level (level_of level.old).masses (flux_at given.now.problem.now given.now.level (level_of level.old).masses (old_masses (option_copied given.now.old)))) regs.old.coarser regs.new.coarser) }
     ensures finer { OnOk result (regs.new.finer ≡ None) }
     ensures no_finer { IfOk result (λ b. b.regs.finer ≡ None) }
@@ -219,7 +221,14 @@ pub(crate) fn step_levels<R: Threads + Wait + Sync, G: Gate + Sync>(
     let inner = (&*given).for_finer(&below.before);
     step_levels(&inner, workers, next, finest, &mut below.regs, rest)?;
     step_levels(&inner, workers, next, finest, &mut below.regs, rest)?;
-    correct(level, &below.regs.coarser, next);
+    correct(
+        workers,
+        given.problem,
+        level,
+        &below.regs.coarser,
+        next,
+        &mut rest[0].layout,
+    );
     regs.inflow = below.regs.inflow;
     regs.outflow = below.regs.outflow;
     own.below = kept_of(below);

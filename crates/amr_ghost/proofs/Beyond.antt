@@ -23,7 +23,7 @@ use Rattle.amr_patch.proofs.Lookups.{masses_in-at, masses_in-none, same_default}
 use Rattle.std.specs.Prelude.{slice_index_or}
 use Rattle.amr_ghost.specs.Strips.{step}
 use Rattle.amr_ghost.specs.Frames.{AreInDomain, is_of_level}
-use Rattle.amr_ghost.specs.Filling.{AreGiven, IsGhostStrip, size_along}
+use Rattle.amr_ghost.specs.Filling.{AreGiven, size_along}
 use Rattle.amr_ghost.proofs.BoxSides.{high_inside, inside_of, low_inside}
 use Rattle.amr_ghost.proofs.Inflows.{east_inflow, north_inflow, south_inflow, west_inflow}
 use Rattle.amr_ghost.proofs.Parents.{parents_held}
@@ -63,58 +63,65 @@ inflow_ahead p l Y h k first here out = by_column (below_or_not h.x (pos 0)) (be
     by_column (inr from) (inr above) = east_inflow p l (step Y h k) from above ∙ sym (east_inflow p l h from above)
     by_column (inr from) (inl to) = absurd (opposite (in_both (domain p l) h (inside_of (columns p l) h.x from to) first) out)
 
-module _ (p : Problem) (l : ℕ) (ps : List Patch) (old : Masses) (b : Extent) (axis : Axis) (c h : Cell) (count : ℕ) (home : h ≡ home_cell (domain p l) c) (some : 0 < count) (strip : IsGhostStrip (domain p l) b axis c count) where
-  home_is : (k : ℕ) → k < count → step axis h k ≡ home_cell (domain p l) (step axis c k)
-  home_is k t = sym (strip_home (domain p l) b axis c h count k home some t strip)
+-- a strip of cells in rows or columns of the domain, which begins with a cell that stands for h
+module _ (d : Domain) (axis : Axis) (c h : Cell) (count : ℕ) (home : h ≡ home_cell d c) (some : 0 < count) (inside : (k : ℕ) → k < count → IsTrue (is_inside (size_along axis d) (along axis c +ℤ pos k))) where
+  pub home_is : (k : ℕ) → k < count → step axis h k ≡ home_cell d (step axis c k)
+  home_is k t = sym (strip_home d axis c h count k home some t inside)
 
   -- along the axis a cell stands for itself
-  along_home : (axis' : Axis) → IsTrue (is_inside (size_along axis' (domain p l)) (along axis' c)) → along axis' h ≡ along axis' c
-  along_home X first = ap (λ (s : Cell). s.x) home ∙ inside-itself (domain p l).wrap_x (domain p l).columns c.x first
-  along_home Y first = ap (λ (s : Cell). s.y) home ∙ inside-itself (domain p l).wrap_y (domain p l).rows c.y first
+  along_home : (axis' : Axis) → IsTrue (is_inside (size_along axis' d) (along axis' c)) → along axis' h ≡ along axis' c
+  along_home X first = ap (λ (s : Cell). s.x) home ∙ inside-itself d.wrap_x d.columns c.x first
+  along_home Y first = ap (λ (s : Cell). s.y) home ∙ inside-itself d.wrap_y d.rows c.y first
 
-  first_in : IsTrue (is_inside (size_along axis (domain p l)) (along axis c))
-  first_in = first_inside (domain p l) b axis c count some strip
+  first_in : IsTrue (is_inside (size_along axis d) (along axis c))
+  first_in = first_inside d axis c count some inside
 
-  home_in : IsTrue (is_inside (size_along axis (domain p l)) (along axis h))
-  home_in = subst (λ (z : ℤ). IsTrue (is_inside (size_along axis (domain p l)) z)) (sym (along_home axis first_in)) first_in
+  home_in : IsTrue (is_inside (size_along axis d) (along axis h))
+  home_in = subst (λ (z : ℤ). IsTrue (is_inside (size_along axis d) z)) (sym (along_home axis first_in)) first_in
 
-  further_in : (k : ℕ) → k < count → IsTrue (is_inside (size_along axis (domain p l)) (along axis h +ℤ pos k))
-  further_in k t = subst (λ (z : ℤ). IsTrue (is_inside (size_along axis (domain p l)) (z +ℤ pos k))) (sym (along_home axis first_in)) (strip.inside k t)
+  further_in : (k : ℕ) → k < count → IsTrue (is_inside (size_along axis d) (along axis h +ℤ pos k))
+  further_in k t = subst (λ (z : ℤ). IsTrue (is_inside (size_along axis d) (z +ℤ pos k))) (sym (along_home axis first_in)) (inside k t)
 
-  same_domain : (k : ℕ) → k < count → in_domain (domain p l) (step axis h k) ≡ in_domain (domain p l) h
-  same_domain k t = domain_ahead (domain p l) axis h k home_in (further_in k t)
+  same_domain : (k : ℕ) → k < count → in_domain d (step axis h k) ≡ in_domain d h
+  same_domain k t = domain_ahead d axis h k home_in (further_in k t)
+
+  -- outside of the domain no patch of the level has a cell, nor in a gap
+  pub outside_none : (ps : List Patch) → AreInDomain d ps → in_domain d h ≡ false → (k : ℕ) → k < count → masses_in ps (step axis h k) ≡ None
+  outside_none ps lie out k t = masses_in-none ps (step axis h k) (false_from_ne_true (in_patches ps (step axis h k)) (λ held. opposite (lie (step axis h k) held) (same_domain k t ∙ out)))
+
+  pub gap_none : (ps : List Patch) (n : ℕ) → ((k : ℕ) → k < n → in_patches ps (step axis h k) ≡ false) → (k : ℕ) → k < n → masses_in ps (step axis h k) ≡ None
+  gap_none ps n gap k t = masses_in-none ps (step axis h k) (gap k t)
+
+-- none of its cells has one of the masses m
+module _ (p : Problem) (l : ℕ) (m old : Masses) (axis : Axis) (c h : Cell) (count : ℕ) (home : h ≡ home_cell (domain p l) c) (some : 0 < count) (inside : (k : ℕ) → k < count → IsTrue (is_inside (size_along axis (domain p l)) (along axis c +ℤ pos k))) where
+  abbrev d : Domain
+  d = domain p l
 
   -- outside an open side each cell has that side's inflow
-  pub outside_given : (v : ℕ) → AreInDomain (domain p l) ps → in_domain (domain p l) h ≡ false → v ≡ inflow_at p l h / 4 ^ l → AreGiven (value_at p l (masses_in ps) old) (is_of_level p l (masses_in ps)) axis c count (λ k. v) false
-  outside_given v inside out is = record {
-    values = λ k t. outer_is p l (masses_in ps) old (step axis c k) (step axis h k) v (home_is k t) (none k t) (value k t);
-    marks = λ k t. no_mark p l (masses_in ps) (step axis c k) (step axis h k) (home_is k t) (none k t);
+  pub outside_given : (v : ℕ) → ((k : ℕ) → k < count → m (step axis h k) ≡ None) → in_domain (domain p l) h ≡ false → v ≡ inflow_at p l h / 4 ^ l → AreGiven (value_at p l m old) (is_of_level p l m) axis c count (λ k. v) false
+  outside_given v none out is = record {
+    values = λ k t. outer_is p l m old (step axis c k) (step axis h k) v (home_is d axis c h count home some inside k t) (none k t) (value k t);
+    marks = λ k t. no_mark p l m (step axis c k) (step axis h k) (home_is d axis c h count home some inside k t) (none k t);
   }
     where
-      none : (k : ℕ) → k < count → masses_in ps (step axis h k) ≡ None
-      none k t = masses_in-none ps (step axis h k) (false_from_ne_true (in_patches ps (step axis h k)) (λ held. opposite (inside (step axis h k) held) (same_domain k t ∙ out)))
-
-      value : (k : ℕ) → k < count → v ≡ cond (in_domain (domain p l) (step axis h k)) (mass_of old (parent (step axis h k)) / 4) (inflow_at p l (step axis h k) / 4 ^ l)
+      value : (k : ℕ) → k < count → v ≡ cond (in_domain d (step axis h k)) (mass_of old (parent (step axis h k)) / 4) (inflow_at p l (step axis h k) / 4 ^ l)
       value k t =
           is
-          ∙ ap (λ (n : ℕ). n / 4 ^ l) (sym (inflow_ahead p l axis h k home_in (further_in k t) out))
-          ∙ sym (cond-false (in_domain (domain p l) (step axis h k)) (mass_of old (parent (step axis h k)) / 4) (inflow_at p l (step axis h k) / 4 ^ l) (same_domain k t ∙ out))
+          ∙ ap (λ (n : ℕ). n / 4 ^ l) (sym (inflow_ahead p l axis h k (home_in d axis c h count home some inside) (further_in d axis c h count home some inside k t) out))
+          ∙ sym (cond-false (in_domain d (step axis h k)) (mass_of old (parent (step axis h k)) / 4) (inflow_at p l (step axis h k) / 4 ^ l) (same_domain d axis c h count home some inside k t ∙ out))
 
   -- in a gap of the domain each cell has a quarter of what its parent had
-  pub gap_given : (n : ℕ) → n ≤ count → in_domain (domain p l) h ≡ true → ((k : ℕ) → k < n → in_patches ps (step axis h k) ≡ false) → AreGiven (value_at p l (masses_in ps) old) (is_of_level p l (masses_in ps)) axis c n (λ k. mass_of old (parent (step axis h k)) / 4) false
-  gap_given n few here gap = record {
-    values = λ k t. outer_is p l (masses_in ps) old (step axis c k) (step axis h k) (mass_of old (parent (step axis h k)) / 4) (home_is k (below k t)) (none k t) (value k (below k t));
-    marks = λ k t. no_mark p l (masses_in ps) (step axis c k) (step axis h k) (home_is k (below k t)) (none k t);
+  pub gap_given : (n : ℕ) → n ≤ count → in_domain (domain p l) h ≡ true → ((k : ℕ) → k < n → m (step axis h k) ≡ None) → AreGiven (value_at p l m old) (is_of_level p l m) axis c n (λ k. mass_of old (parent (step axis h k)) / 4) false
+  gap_given n few here none = record {
+    values = λ k t. outer_is p l m old (step axis c k) (step axis h k) (mass_of old (parent (step axis h k)) / 4) (home_is d axis c h count home some inside k (below k t)) (none k t) (value k (below k t));
+    marks = λ k t. no_mark p l m (step axis c k) (step axis h k) (home_is d axis c h count home some inside k (below k t)) (none k t);
   }
     where
       below : (k : ℕ) → k < n → k < count
       below k t = omega arith
 
-      none : (k : ℕ) → k < n → masses_in ps (step axis h k) ≡ None
-      none k t = masses_in-none ps (step axis h k) (gap k t)
-
-      value : (k : ℕ) → k < count → mass_of old (parent (step axis h k)) / 4 ≡ cond (in_domain (domain p l) (step axis h k)) (mass_of old (parent (step axis h k)) / 4) (inflow_at p l (step axis h k) / 4 ^ l)
-      value k t = sym (cond-true (in_domain (domain p l) (step axis h k)) (mass_of old (parent (step axis h k)) / 4) (inflow_at p l (step axis h k) / 4 ^ l) (same_domain k t ∙ here))
+      value : (k : ℕ) → k < count → mass_of old (parent (step axis h k)) / 4 ≡ cond (in_domain d (step axis h k)) (mass_of old (parent (step axis h k)) / 4) (inflow_at p l (step axis h k) / 4 ^ l)
+      value k t = sym (cond-true (in_domain d (step axis h k)) (mass_of old (parent (step axis h k)) / 4) (inflow_at p l (step axis h k) / 4 ^ l) (same_domain d axis c h count home some inside k t ∙ here))
 
 -- ---- the masses of the coarser level
 

@@ -17,7 +17,9 @@ pub mod Reach
 pub mod Inside
 pub mod Carrying
 pub mod Copies
+pub mod Counts
 pub mod Packing
+pub mod OuterGiven
 pub mod Unpacking
 pub mod Parting
 pub mod PartLaws

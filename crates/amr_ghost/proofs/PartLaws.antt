@@ -1,26 +1,28 @@
 -- A plan in parts: what the parts ask of the patches, and that they and the messages fill each frame together.
-use Rattle.std.proofs.Common.{◌≡◌, ◌∙◌, inl, inr, ◌⊎◌, ℕ, ◌+◌, ◌-◌, ◌*◌, ◌/◌, ◌<◌, ◌≤◌, Bool, ◌||◌, List, [], ◌∷◌, length, get_or, take, drop, IsTrue, refl, sym, ap, subst, arith}
+use Rattle.std.proofs.Common.{◌≡◌, ◌∙◌, inl, inr, ◌⊎◌, ℕ, ◌+◌, ◌-◌, ◌*◌, ◌/◌, ◌<◌, ◌≤◌, Bool, pos, ◌+ℤ◌, List, [], ◌∷◌, length, get_or, take, drop, IsTrue, refl, sym, ap, subst, arith}
 use Rattle.std.specs.Prelude.{min}
 use Rattle.std.specs.List.{All, AllZip, Any}
 use Rattle.std.specs.Global.{Vec}
 use Rattle.std.proofs.Math.Nat.{div-eq_of_lt, mul-add-div_right}
-use Rattle.std.proofs.lemmas.Bool.{and_parts, cases_eq}
+use Rattle.std.specs.declared.option.Option.TheVariants.{None}
+use Rattle.std.proofs.lemmas.Bool.{cases_eq}
 use Rattle.std.proofs.lemmas.List.{get_or-drop, get_or-take, length-drop, length-take}
-use Rattle.std.proofs.lemmas.List.Elements.{All-head, All-same, All-tail, AllZip-get_or, length_all_zip}
+use Rattle.std.proofs.lemmas.List.Elements.{All-head, All-same, All-tail, length_all_zip}
 use Rattle.amr_box.specs.declared.Cell.{Cell}
-use Rattle.amr_box.specs.Cells.{Extent, holds, within}
+use Rattle.amr_box.specs.Cells.{Extent, along, holds}
 use Rattle.amr_def.specs.declared.problem.Problem.{Problem}
-use Rattle.amr_def.specs.Domain.{Domain, domain}
+use Rattle.amr_def.specs.Domain.{Domain, domain, home_cell, is_inside}
 use Rattle.amr_def.specs.State.{Masses}
 use Rattle.amr_def.specs.Value.{value_at}
 use Rattle.amr_patch.specs.declared.patches.Patch.{Patch}
 use Rattle.amr_patch.specs.Places.{in_frame}
 use Rattle.amr_patch.specs.Patches.{ArePatchesApart, box, mass_in, masses_in}
 use Rattle.amr_ghost.specs.Strips.{step}
-use Rattle.amr_ghost.specs.Frames.{is_beside, is_of_level}
-use Rattle.amr_ghost.specs.Filling.{AreCopied, HasFrame, HasGhost, KeepsCells, KeepsGhosts}
-use Rattle.amr_ghost.specs.Plans.{HasCell, HasSpan, IsSource, IsSpan, PlansFrames}
-use Rattle.amr_ghost.specs.Parts.{IsInParts, IsParted, IsRun, IsSourceBelow, IsSpanBelow, span_of}
+use Rattle.amr_ghost.specs.Frames.{AreInDomain, is_beside, is_of_level}
+use Rattle.amr_ghost.specs.Filling.{AreCopied, HasFrame, HasGhost, KeepsCells, size_along}
+use Rattle.amr_ghost.specs.Plans.{HasCell, IsSource, IsSpan, PlansFrames}
+use Rattle.amr_ghost.specs.Parts.{IsElsewhere, IsInParts, IsParted, IsRun, IsSourceBelow, IsSpanBelow, level_span, span_of}
+use Rattle.amr_ghost.specs.Outer.{AreOuterFor, HasNoMass, HasOuter, IsOuterSource, IsOuterSpan, IsSpanBeside}
 use Rattle.amr_ghost.specs.Messages.{AreMassesFor, AreMessagesTo, ArePacked, HasCopy, HasFilled, IsCopyFor, IsMessageFor, IsReceived, IsTaken}
 use Rattle.amr_ghost.specs.declared.sides.Strip.{Strip}
 use Rattle.amr_ghost.specs.declared.sources.Source.{Source}
@@ -30,17 +32,16 @@ use Rattle.amr_ghost.specs.declared.plan.FramePlan.{FramePlan}
 use Rattle.amr_ghost.specs.declared.parts.FrameCopy.{FrameCopy}
 use Rattle.amr_ghost.specs.declared.parts.FrameParts.{FrameParts}
 use Rattle.amr_ghost.specs.declared.messages.Message.{Message}
+use Rattle.amr_ghost.specs.declared.outer.OuterGhosts.{OuterGhosts}
+use Rattle.amr_ghost.proofs.Beyond.{gap_none, home_is, outside_none}
+use Rattle.amr_ghost.proofs.Levels.{some_patch}
 use Rattle.amr_ghost.proofs.Spans.{span_copied}
 use Rattle.amr_ghost.proofs.Zips.{still_mass, zip_box}
 
--- ---- what is filled across runs
+-- ---- the spans of a plan
 
--- a span of a plan
 span_in : (d : Domain) (ps : List Patch) (plan : FramePlan) → PlansFrames d ps plan → (s : Span) → Any (λ x. x ≡ s) plan.spans.items → IsSpan d ps s
 span_in d ps plan planned s a = subst (IsSpan d ps) (a.3 ∙ a.4) (planned.spans a.0 a.1 a.2)
-
-pub across_spans : (d : Domain) (ps : List Patch) (plan : FramePlan) (width runs : ℕ) (parts : FrameParts) → PlansFrames d ps plan → IsParted plan width runs parts → All (IsSpan d ps) parts.across.items
-across_spans d ps plan width runs parts planned parted = λ k s lt. span_in d ps plan planned (get_or parts.across.items k s) (parted.across k s lt)
 
 -- the runs have all patches that a plan tells of
 source_small : (d : Domain) (ps : List Patch) (s : Strip) (source : Source) (n : ℕ) → IsSource d ps s source → length ps ≤ n → IsSourceBelow n source
@@ -55,6 +56,52 @@ plan_small d ps plan width runs planned few = λ k s lt.
     let there : span.patch < length ps = is.there in
     let low : span.patch < runs * width = omega (arith, there, few) in
     (low, source_small d ps span.strip span.source (runs * width) is.source few)
+
+-- ---- outer ghost cells
+
+-- a source that is no patch of the level goes by the domain alone
+outer_source : (d : Domain) (ps : List Patch) (s : Strip) (source : Source) → IsSource d ps s source → IsElsewhere source → IsOuterSource d s source
+outer_source d ps s Outside is other = is
+outer_source d ps s (Beside j h) is other = absurd other
+outer_source d ps s (Coarser h) is other = record { home = is.home; room = is.room; inside = is.inside }
+
+-- and no patch has a mass there
+no_masses : (d : Domain) (ps : List Patch) (s : Strip) (source : Source) → AreInDomain d ps → 0 < s.count → ((k : ℕ) → k < s.count → IsTrue (is_inside (size_along s.axis d) (along s.axis s.from +ℤ pos k))) → IsSource d ps s source → IsElsewhere source → (k : ℕ) → k < s.count → masses_in ps (home_cell d (step s.axis s.from k)) ≡ None
+no_masses d ps s Outside lie some inside is other k t =
+    let h : Cell = home_cell d s.from in
+    ap (masses_in ps) (sym (home_is d s.axis s.from h s.count refl some inside k t)) ∙ outside_none d s.axis s.from h s.count refl some inside ps lie is k t
+no_masses d ps s (Beside j h) lie some inside is other k t = absurd other
+no_masses d ps s (Coarser h) lie some inside is other k t = ap (masses_in ps) (sym (home_is d s.axis s.from h s.count is.home some inside k t)) ∙ gap_none d s.axis s.from h s.count is.home some inside ps s.count is.gap k t
+
+module _ (d : Domain) (ps : List Patch) (plan : FramePlan) (width runs : ℕ) (parts : FrameParts) (planned : PlansFrames d ps plan) (parted : IsParted plan width runs parts) where
+  part_span : (t : ℕ) (v : Vec Span) (k : ℕ) (s : Span) → t < runs → k < length (get_or parts.outer.items t v).items → IsSpan d ps (level_span (t * width) (get_or (get_or parts.outer.items t v).items k s))
+  part_span t v k s below lt = span_in d ps plan planned (level_span (t * width) (get_or (get_or parts.outer.items t v).items k s)) (parted.outer t v below k s lt).2
+
+  -- what find_values asks of the spans of a run
+  pub outer_spans : (t : ℕ) (v : Vec Span) → t < runs → All (IsOuterSpan d) (get_or parts.outer.items t v).items
+  outer_spans t v below = λ k s lt.
+      let x : Span = get_or (get_or parts.outer.items t v).items k s in
+      let is : IsSpan d ps (level_span (t * width) x) = part_span t v k s below lt in
+      record {
+        some = is.some;
+        small = is.small;
+        inside = (is.ghost_strip (some_patch ps (t * width + x.patch) is.there)).inside;
+        source = outer_source d ps x.strip x.source is.source (parted.outer t v below k s lt).1;
+      }
+
+  -- and that the values which it finds are those of the level's cells
+  pub outer_massless : AreInDomain d ps → (t : ℕ) (v : Vec Span) → t < runs → All (HasNoMass d (masses_in ps)) (get_or parts.outer.items t v).items
+  outer_massless lie t v below = λ k s lt.
+      let x : Span = get_or (get_or parts.outer.items t v).items k s in
+      let is : IsSpan d ps (level_span (t * width) x) = part_span t v k s below lt in
+      no_masses d ps x.strip x.source lie is.some (is.ghost_strip (some_patch ps (t * width + x.patch) is.there)).inside is.source (parted.outer t v below k s lt).1
+
+-- so what it found is
+pub outer_valued : (p : Problem) (l : ℕ) (old : Masses) (ps : List Patch) (plan : FramePlan) (width runs : ℕ) (parts : FrameParts) → PlansFrames (domain p l) ps plan → IsParted plan width runs parts → AreInDomain (domain p l) ps → (t : ℕ) (v : Vec Span) (x : OuterGhosts) → t < runs → x.spans.items ≡ (get_or parts.outer.items t v).items → ((m : Masses) → All (HasNoMass (domain p l) m) x.spans.items → AreOuterFor (value_at p l m old) (is_of_level p l m) x) → AreOuterFor (value_at p l (masses_in ps) old) (is_of_level p l (masses_in ps)) x
+outer_valued p l old ps plan width runs parts planned parted lie t v x below spans found =
+    let d = domain p l in
+    let m = masses_in ps in
+    found m (subst (All (HasNoMass d m)) (sym spans) (outer_massless d ps plan width runs parts planned parted lie t v below))
 
 -- ---- runs
 
@@ -124,6 +171,22 @@ module _ (d : Domain) (ps qs : List Patch) (plan : FramePlan) (width runs : ℕ)
         beside = λ q k lt. subst (λ (b : Extent). IsTrue (is_beside b (step c.strip.axis c.strip.from k))) (sym (run_box t rs run c.patch q there)) ((is.ghost_strip q).beside k lt);
       }
 
+  -- the outer spans of run t lie beside its patches
+  pub outer_beside : (t : ℕ) (rs : List Patch) (v : Vec Span) → t < runs → IsRun width t qs rs → All (IsSpanBeside rs) (get_or parts.outer.items t v).items
+  outer_beside t rs v below run = λ k s lt.
+      let x : Span = get_or (get_or parts.outer.items t v).items k s in
+      let part = parted.outer t v below k s lt in
+      let is : IsSpan d ps (level_span (t * width) x) = span_in d ps plan planned (level_span (t * width) x) part.2 in
+      let there : x.patch < length rs = in_run t rs run x.patch part.0 is.there in
+      record {
+        there = there;
+        some = is.some;
+        small = is.small;
+        room = is.room;
+        ghosts = λ q j t_j. subst (λ (b : Extent). IsTrue (in_frame b (step x.strip.axis x.strip.from j))) (sym (run_box t rs run x.patch q there)) ((is.ghost_strip q).ghosts j t_j);
+        beside = λ q j t_j. subst (λ (b : Extent). IsTrue (is_beside b (step x.strip.axis x.strip.from j))) (sym (run_box t rs run x.patch q there)) ((is.ghost_strip q).beside j t_j);
+      }
+
   pub copies_taken : (u t : ℕ) (us : List Patch) (v : Vec FrameCopy) → u < runs → t < runs → IsRun width u qs us → All (IsTaken us) (get_or parts.copies.items (u * runs + t) v).items
   copies_taken u t us v from_there there run = λ k c lt. takes u t us (get_or (get_or parts.copies.items (u * runs + t) v).items k c) run (parted.copies u t v from_there there k c lt).1 (copy_span u t k v c from_there there lt)
 
@@ -151,7 +214,9 @@ some_message (x ∷ xs) k lt = x
 
 -- ---- the frames of run t
 
-module _ (p : Problem) (l : ℕ) (old : Masses) (ps qs rs fs : List Patch) (plan : FramePlan) (width runs t : ℕ) (parts : FrameParts) (v : Vec FrameCopy) (messages : List Message) (planned : PlansFrames (domain p l) ps plan) (parted : IsParted plan width runs parts) (kept : AllZip KeepsCells ps qs) (below : t < runs) (run : IsRun width t qs rs) (apart : ArePatchesApart ps) (across : All (HasSpan p l (masses_in ps) old qs) parts.across.items) (sent : AreMessagesTo parts width runs t qs messages) (filled : HasFilled (get_or parts.copies.items (t * runs + t) v).items messages rs fs) where
+module _ (p : Problem) (l : ℕ) (old : Masses) (ps qs rs fs : List Patch) (plan : FramePlan) (width runs t : ℕ) (parts : FrameParts) (v : Vec FrameCopy) (messages : List Message) (planned : PlansFrames (domain p l) ps plan) (parted : IsParted plan width runs parts) (kept : AllZip KeepsCells ps qs) (below : t < runs) (run : IsRun width t qs rs) (apart : ArePatchesApart ps)
+    (w : Vec Span) (given : OuterGhosts) (spans : given.spans.items ≡ (get_or parts.outer.items t w).items) (valued : AreOuterFor (value_at p l (masses_in ps) old) (is_of_level p l (masses_in ps)) given)
+    (sent : AreMessagesTo parts width runs t qs messages) (filled : HasFilled given (get_or parts.copies.items (t * runs + t) v).items messages rs fs) where
   abbrev value : Cell → ℕ
   value = value_at p l (masses_in ps) old
 
@@ -193,22 +258,25 @@ module _ (p : Problem) (l : ℕ) (old : Masses) (ps qs rs fs : List Patch) (plan
   all_messages : Patch → All (IsMessageFor value mark) messages
   all_messages q = λ u x lt. let count = sent.count in message_for q u x (omega (arith, lt, count)) (cases_eq u t)
 
-  -- a ghost cell that was filled before keeps its value
-  from_across : (k : ℕ) (q : Patch) (c : Cell) (s : Span) → k < length rs → IsTrue (is_beside (box (get_or rs k q)) c) → HasCell (t * width + k) c s → HasSpan p l (masses_in ps) old qs s → HasGhost value mark (get_or fs k q) c
-  from_across k q c s lt h has set =
-      let at_span : HasGhost value mark (get_or qs s.patch q) c = subst (λ (e : Cell). HasGhost value mark (get_or qs s.patch q) e) (sym has.is) ((set q).at has.place has.within) in
-      let in_level : HasGhost value mark (get_or qs (t * width + k) q) c = subst (λ n. HasGhost value mark (get_or qs n q) c) has.of_patch at_span in
-      let before : HasGhost value mark (get_or rs k q) c = subst (λ (r : Patch). HasGhost value mark r c) (sym (run.same k q lt)) in_level in
-      let ghost : IsTrue (in_frame (box (get_or rs k q)) c) = (and_parts (in_frame (box (get_or rs k q)) c) (within (box (get_or rs k q)).lo.x (box (get_or rs k q)).hi.x c.x || within (box (get_or rs k q)).lo.y (box (get_or rs k q)).hi.y c.y) h).0 in
-      (AllZip-get_or (KeepsGhosts value mark) rs fs k q q (filled.ghosts value mark own_copied (all_messages q)) lt).at c ghost before
+  -- an outer ghost cell gets its value
+  all_outer : Patch → All (HasOuter value mark fs) (get_or parts.outer.items t w).items
+  all_outer q = All-same (HasOuter value mark fs) (get_or parts.outer.items t w).items given.spans.items (sym spans) (filled.outer value mark valued own_copied (all_messages q))
+
+  from_outer : (k : ℕ) (q : Patch) (c : Cell) (s : Span) → HasCell (t * width + k) c s → Any (λ (x : Span). level_span (t * width) x ≡ s) (get_or parts.outer.items t w).items → HasGhost value mark (get_or fs k q) c
+  from_outer k q c s has a =
+      let x : Span = a.1 in
+      let is : HasCell (t * width + k) c (level_span (t * width) x) = subst (HasCell (t * width + k) c) (sym a.4) has in
+      let same : x.patch ≡ k = let e : t * width + x.patch ≡ t * width + k = is.of_patch in omega (arith, e) in
+      let set : HasOuter value mark fs x = subst (HasOuter value mark fs) a.3 (all_outer q a.0 x a.2) in
+      subst (λ n. HasGhost value mark (get_or fs n q) c) same (subst (λ (e : Cell). HasGhost value mark (get_or fs x.patch q) e) (sym is.is) ((set q).at is.place is.within))
 
   -- each copy to the run is made: within the run, or by the message from another
   all_made : Patch → (u : ℕ) → u < runs → (u ≡ t) ⊎ (u ≡ t → ⊥) → All (HasCopy value mark fs) (copies u)
-  all_made q u from_there (inl same) = subst (λ n. All (HasCopy value mark fs) (copies n)) (sym same) (filled.set value mark own_copied (all_messages q))
+  all_made q u from_there (inl same) = subst (λ n. All (HasCopy value mark fs) (copies n)) (sym same) (filled.set value mark valued own_copied (all_messages q))
   all_made q u from_there (inr other) =
       let sender : u < length messages = let count = sent.count in omega (arith, from_there, count) in
       let x : Message = some_message messages u sender in
-      All-same (HasCopy value mark fs) (copies u) (get_or messages u x).copies.items (sym (sent.copies u x v from_there other)) (filled.received value mark own_copied (all_messages q) u x sender)
+      All-same (HasCopy value mark fs) (copies u) (get_or messages u x).copies.items (sym (sent.copies u x v from_there other)) (filled.received value mark valued own_copied (all_messages q) u x sender)
 
   -- so a ghost cell that a copy fills has its own
   from_copy : (k : ℕ) (q : Patch) (c : Cell) (s : Span) (u : ℕ) → u < runs → HasCell (t * width + k) c s → Any (λ (x : FrameCopy). span_of (t * width) (u * width) x ≡ s) (copies u) → HasGhost value mark (get_or fs k q) c
@@ -219,19 +287,26 @@ module _ (p : Problem) (l : ℕ) (old : Masses) (ps qs rs fs : List Patch) (plan
       let made : HasCopy value mark fs x = subst (HasCopy value mark fs) a.3 (all_made q u from_there (cases_eq u t) a.0 x a.2) in
       subst (λ n. HasGhost value mark (get_or fs n q) c) same (subst (λ (e : Cell). HasGhost value mark (get_or fs x.patch q) e) (sym is.is) ((made q).at is.place is.within))
 
-  by_part : (k : ℕ) (q : Patch) (c : Cell) (s : Span) → k < length rs → IsTrue (is_beside (box (get_or rs k q)) c) → HasCell (t * width + k) c s → IsInParts width runs parts s → HasGhost value mark (get_or fs k q) c
-  by_part k q c s lt h has (inl a) = from_across k q c s lt h has (subst (HasSpan p l (masses_in ps) old qs) (a.3 ∙ a.4) (across a.0 a.1 a.2))
-  by_part k q c s lt h has (inr b) =
+  -- the run that a span of a patch of this run is beside is this one
+  this_run : (to i k : ℕ) (c : Cell) (s : Span) → i < width → k < length rs → to * width + i ≡ s.patch → HasCell (t * width + k) c s → to ≡ t
+  this_run to i k c s low lt patch has = same_run width to t i k low (let small = run.small in omega (arith, lt, small)) (patch ∙ has.of_patch)
+
+  by_part : (k : ℕ) (q : Patch) (c : Cell) (s : Span) → k < length rs → HasCell (t * width + k) c s → IsInParts width runs parts s → HasGhost value mark (get_or fs k q) c
+  by_part k q c s lt has (inl b) =
+      let a = b.is w in
+      let x : Span = a.1 in
+      let low : x.patch < width = subst (λ (y : Span). y.patch < width) a.3 (parted.outer b.to w b.there a.0 x a.2).0 in
+      let same : b.to ≡ t = this_run b.to x.patch k c s low lt (ap (λ (y : Span). y.patch) a.4) has in
+      from_outer k q c s has (subst (λ n. Any (λ (y : Span). level_span (n * width) y ≡ s) (get_or parts.outer.items n w).items) same a)
+  by_part k q c s lt has (inr b) =
       let a = b.is v in
       let x : FrameCopy = a.1 in
-      let patch : b.to * width + x.patch ≡ t * width + k = ap (λ (y : Span). y.patch) a.4 ∙ has.of_patch in
       let low : x.patch < width = subst (λ (y : FrameCopy). y.patch < width) a.3 (parted.copies b.from b.to v b.from_there b.there a.0 x a.2).0 in
-      let high : k < width = let small = run.small in omega (arith, lt, small) in
-      let same : b.to ≡ t = same_run width b.to t x.patch k low high patch in
+      let same : b.to ≡ t = this_run b.to x.patch k c s low lt (ap (λ (y : Span). y.patch) a.4) has in
       from_copy k q c s b.from b.from_there has (subst (λ n. Any (λ (y : FrameCopy). span_of (n * width) (b.from * width) y ≡ s) (get_or parts.copies.items (b.from * runs + n) v).items) same a)
 
-  by_span : (k : ℕ) (q : Patch) (c : Cell) → k < length rs → IsTrue (is_beside (box (get_or rs k q)) c) → Any (HasCell (t * width + k) c) plan.spans.items → HasGhost value mark (get_or fs k q) c
-  by_span k q c lt h a = by_part k q c a.1 lt h a.4 (subst (IsInParts width runs parts) a.3 (parted.whole a.0 a.1 a.2))
+  by_span : (k : ℕ) (q : Patch) (c : Cell) → k < length rs → Any (HasCell (t * width + k) c) plan.spans.items → HasGhost value mark (get_or fs k q) c
+  by_span k q c lt a = by_part k q c a.1 lt a.4 (subst (IsInParts width runs parts) a.3 (parted.whole a.0 a.1 a.2))
 
   -- each ghost cell beside a patch of the run has the value and the mark of its cell
   pub run_frames : (k : ℕ) (q : Patch) → k < length rs → HasFrame p l (masses_in ps) old (get_or fs k q)
@@ -241,5 +316,5 @@ module _ (p : Problem) (l : ℕ) (old : Masses) (ps qs rs fs : List Patch) (plan
         let here : IsTrue (is_beside (box (get_or rs k q)) c) = subst (λ (b : Extent). IsTrue (is_beside b c)) now h in
         let was : box (get_or rs k q) ≡ box (get_or ps (t * width + k) q) = run_box (domain p l) ps qs plan width runs parts planned parted kept t rs run k q lt in
         let there : t * width + k < length ps = let e = length_all_zip KeepsCells ps qs kept in let f = run.there k lt in omega (arith, e, f) in
-        by_span k q c lt here ((planned.frames (t * width + k) there).at q c (subst (λ (b : Extent). IsTrue (is_beside b c)) was here));
+        by_span k q c lt ((planned.frames (t * width + k) there).at q c (subst (λ (b : Extent). IsTrue (is_beside b c)) was here));
   }

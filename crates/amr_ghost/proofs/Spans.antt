@@ -66,14 +66,14 @@ span_held ps j e q axis h n k holder end t =
     held_ahead (box (get_or ps j q)) axis h k (holder.holds_it q) (last_ahead (along axis h) (along axis (box (get_or ps j q)).hi) n k ahead t)
 
 -- the cells of a strip stand for those of a strip
-pub first_inside : (d : Domain) (b : Extent) (axis : Axis) (c : Cell) (count : ℕ) → 0 < count → IsGhostStrip d b axis c count → IsTrue (is_inside (size_along axis d) (along axis c))
-first_inside d b axis c count some strip = subst (λ (z : ℤ). IsTrue (is_inside (size_along axis d) z)) (none (along axis c)) (strip.inside 0 some)
+pub first_inside : (d : Domain) (axis : Axis) (c : Cell) (count : ℕ) → 0 < count → ((k : ℕ) → k < count → IsTrue (is_inside (size_along axis d) (along axis c +ℤ pos k))) → IsTrue (is_inside (size_along axis d) (along axis c))
+first_inside d axis c count some inside = subst (λ (z : ℤ). IsTrue (is_inside (size_along axis d) z)) (none (along axis c)) (inside 0 some)
   where
     none : (z : ℤ) → z +ℤ pos 0 ≡ z
     none z = omega (arith, ints)
 
-pub strip_home : (d : Domain) (b : Extent) (axis : Axis) (c h : Cell) (count k : ℕ) → h ≡ home_cell d c → 0 < count → k < count → IsGhostStrip d b axis c count → home_cell d (step axis c k) ≡ step axis h k
-strip_home d b axis c h count k home some t strip = home_step d axis c k (first_inside d b axis c count some strip) (strip.inside k t) ∙ ap (λ (s : Cell). step axis s k) (sym home)
+pub strip_home : (d : Domain) (axis : Axis) (c h : Cell) (count k : ℕ) → h ≡ home_cell d c → 0 < count → k < count → ((j : ℕ) → j < count → IsTrue (is_inside (size_along axis d) (along axis c +ℤ pos j))) → home_cell d (step axis c k) ≡ step axis h k
+strip_home d axis c h count k home some t inside = home_step d axis c k (first_inside d axis c count some inside) (inside k t) ∙ ap (λ (s : Cell). step axis s k) (sym home)
 
 pub span_copied : (p : Problem) (l : ℕ) (ps : List Patch) (old : Masses) (j : ℕ) (d : Patch) (b : Extent) (axis : Axis) (c h : Cell) (count n : ℕ) → ArePatchesApart ps → j < length ps → h ≡ home_cell (domain p l) c → 0 < count → n ≤ count → IsGhostStrip (domain p l) b axis c count → ((q : Patch) (k : ℕ) → k < n → IsTrue (holds (box (get_or ps j q)) (step axis h k))) → AreCopied (value_at p l (masses_in ps) old) (is_of_level p l (masses_in ps)) (get_or ps j d) axis c h n
 span_copied p l ps old j d b axis c h count n apart there home some few strip held = record {
@@ -82,7 +82,7 @@ span_copied p l ps old j d b axis c h count n apart there home some few strip he
 }
   where
     home_is : (k : ℕ) → k < n → home_cell (domain p l) (step axis c k) ≡ step axis h k
-    home_is k t = strip_home (domain p l) b axis c h count k home some (omega arith) strip
+    home_is k t = strip_home (domain p l) axis c h count k home some (omega arith) strip.inside
 
     mass_is : (k : ℕ) → k < n → masses_in ps (step axis h k) ≡ Some (mass_in (get_or ps j d) (step axis h k))
     mass_is k t = masses_in-at ps (step axis h k) j d apart (record { inside = there; holds_it = λ q. held q k t })

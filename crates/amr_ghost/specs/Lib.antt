@@ -3,4 +3,5 @@ pub mod Frames
 pub mod Filling
 pub mod Plans
 pub mod Parts
+pub mod Outer
 pub mod Messages

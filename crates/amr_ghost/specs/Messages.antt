@@ -12,6 +12,8 @@ use Rattle.amr_ghost.specs.Strips.{HasRoom, step}
 use Rattle.amr_ghost.specs.Frames.{is_beside}
 use Rattle.amr_ghost.specs.Filling.{AreCopied, AreGiven, HasGhosts, KeepsCells, KeepsGhosts}
 use Rattle.amr_ghost.specs.Parts.{IsRun}
+use Rattle.amr_ghost.specs.Outer.{AreOuterFor, HasOuter}
+use Rattle.amr_ghost.specs.declared.outer.OuterGhosts.{OuterGhosts}
 use Rattle.amr_ghost.specs.declared.parts.FrameCopy.{FrameCopy}
 use Rattle.amr_ghost.specs.declared.parts.FrameParts.{FrameParts}
 use Rattle.amr_ghost.specs.declared.messages.Message.{Message}
@@ -100,12 +102,19 @@ CarriesMasses M x = AreMassesOf M x.copies.items x.masses.items
 
 -- ---- the frames of a run
 
--- the patches rs became fs where copies within them were made, and messages unpacked
-pub record HasFilled (copies : List FrameCopy) (messages : List Message) (rs fs : List Patch) : Type 0 where
+-- the patches rs became fs where copies within them were made
+pub record HasMadeCopies (copies : List FrameCopy) (rs fs : List Patch) : Type 0 where
   pub kept : AllZip KeepsCells rs fs
-  pub ghosts : (V : Cell → ℕ) (M : Cell → Bool) → All (IsCopyFor V M rs) copies → All (IsMessageFor V M) messages → AllZip (KeepsGhosts V M) rs fs
-  pub set : (V : Cell → ℕ) (M : Cell → Bool) → All (IsCopyFor V M rs) copies → All (IsMessageFor V M) messages → All (HasCopy V M fs) copies
-  pub received : (V : Cell → ℕ) (M : Cell → Bool) → All (IsCopyFor V M rs) copies → All (IsMessageFor V M) messages → All (λ x. All (HasCopy V M fs) x.copies.items) messages
+  pub ghosts : (V : Cell → ℕ) (M : Cell → Bool) → All (IsCopyFor V M rs) copies → AllZip (KeepsGhosts V M) rs fs
+  pub set : (V : Cell → ℕ) (M : Cell → Bool) → All (IsCopyFor V M rs) copies → All (HasCopy V M fs) copies
+
+-- the patches rs became fs where outer ghost cells were given their values, copies within the patches were made, and messages unpacked
+pub record HasFilled (given : OuterGhosts) (copies : List FrameCopy) (messages : List Message) (rs fs : List Patch) : Type 0 where
+  pub kept : AllZip KeepsCells rs fs
+  pub ghosts : (V : Cell → ℕ) (M : Cell → Bool) → AreOuterFor V M given → All (IsCopyFor V M rs) copies → All (IsMessageFor V M) messages → AllZip (KeepsGhosts V M) rs fs
+  pub outer : (V : Cell → ℕ) (M : Cell → Bool) → AreOuterFor V M given → All (IsCopyFor V M rs) copies → All (IsMessageFor V M) messages → All (HasOuter V M fs) given.spans.items
+  pub set : (V : Cell → ℕ) (M : Cell → Bool) → AreOuterFor V M given → All (IsCopyFor V M rs) copies → All (IsMessageFor V M) messages → All (HasCopy V M fs) copies
+  pub received : (V : Cell → ℕ) (M : Cell → Bool) → AreOuterFor V M given → All (IsCopyFor V M rs) copies → All (IsMessageFor V M) messages → All (λ x. All (HasCopy V M fs) x.copies.items) messages
 
 -- messages to run t of a level's patches, one from each run, have the masses that their copies take there. That from the run itself is
 -- empty.

@@ -34,6 +34,14 @@ span_of first first_source c = record { patch = first + c.patch; strip = c.strip
 abbrev pub IsSpanIn : List Span → ℕ → ℕ → ℕ → FrameCopy → Type 0
 IsSpanIn spans width u t c = (c.patch < width) × (c.source < width) × Any (λ x. x ≡ span_of (t * width) (u * width) c) spans
 
+-- a span of the run that begins with patch `first`, as a span of the level
+abbrev pub level_span : ℕ → Span → Span
+level_span first s = record { patch = first + s.patch; strip = s.strip; source = s.source }
+
+-- a span of run t is one of these, and gets no mass of a patch of the level
+abbrev pub IsOuterIn : List Span → ℕ → ℕ → Span → Type 0
+IsOuterIn spans width t s = (s.patch < width) × IsElsewhere s.source × Any (λ x. x ≡ level_span (t * width) s) spans
+
 -- a span is a copy from one run to another, or to the same
 pub record IsCopied (width runs : ℕ) (parts : FrameParts) (s : Span) : Type 0 where
   pub from : ℕ
@@ -42,15 +50,21 @@ pub record IsCopied (width runs : ℕ) (parts : FrameParts) (s : Span) : Type 0 
   pub there : to < runs
   pub is : (v : Vec FrameCopy) → Any (λ c. span_of (to * width) (from * width) c ≡ s) (slice_index_or parts.copies.items (from * runs + to) v).items
 
--- a span is a copy or is filled across runs
+-- a span is an outer one of a run
+pub record IsOuterPart (width runs : ℕ) (parts : FrameParts) (s : Span) : Type 0 where
+  pub to : ℕ
+  pub there : to < runs
+  pub is : (v : Vec Span) → Any (λ x. level_span (to * width) x ≡ s) (slice_index_or parts.outer.items to v).items
+
+-- a span is an outer one of a run, or a copy
 abbrev pub IsInParts : ℕ → ℕ → FrameParts → Span → Type 0
-IsInParts width runs parts s = Any (λ x. x ≡ s) parts.across.items ⊎ IsCopied width runs parts s
+IsInParts width runs parts s = IsOuterPart width runs parts s ⊎ IsCopied width runs parts s
 
 -- the first k spans are in parts, and there is nothing in the parts but spans of the list
 pub record ArePartedTo (spans : List Span) (k width runs : ℕ) (parts : FrameParts) : Type 0 where
   pub count : length parts.copies.items ≡ runs * runs
-  pub across : All (λ s. Any (λ x. x ≡ s) spans) parts.across.items
-  pub apart : All (λ s. IsElsewhere s.source) parts.across.items
+  pub outer_count : length parts.outer.items ≡ runs
+  pub outer : (t : ℕ) (v : Vec Span) → t < runs → All (IsOuterIn spans width t) (slice_index_or parts.outer.items t v).items
   pub copies : (u t : ℕ) (v : Vec FrameCopy) → u < runs → t < runs → All (IsSpanIn spans width u t) (slice_index_or parts.copies.items (u * runs + t) v).items
   pub whole : (j : ℕ) (s : Span) → j < k → IsInParts width runs parts (slice_index_or spans j s)
 

@@ -48,34 +48,40 @@ pub(crate) fn set_strip(patches: &mut [Patch], i: usize, strip: Strip, value: u3
     set_ghosts(&mut patches[i], strip, value);
 }
 
-/// Gives the ghost cells of a strip a mass each, and marks them as cells of the level.
+/// Gives the ghost cells of a strip a value each, and marks all or none of them as cells of the level.
 #[inline(always)]
-fn give_ghosts(patch: &mut Patch, strip: Strip, masses: &[u32])
+fn give_ghosts(patch: &mut Patch, strip: Strip, values: &[u32], of_level: bool)
     requires some { 0 < strip.count }
-    requires count { length masses.now ≡ strip.count }
+    requires count { length values.now ≡ strip.count }
     requires ghost_cells { (k : ℕ) → k < strip.count → IsTrue (in_frame (box patch.old) (step strip.axis strip.from k)) }
-    ensures { AreGhostsSet patch.old patch.new strip.axis strip.from strip.count (λ k. slice_index masses.now k) true }
+    ensures { AreGhostsSet patch.old patch.new strip.axis strip.from strip.count (λ k. slice_index values.now k) of_level }
 {
     let target = entries_of(&patch.bx(), strip.axis, strip.from);
     let data = &mut *patch.data;
-    give_entries(&mut data.values, target, masses);
-    fill_entries(&mut data.marks, target, strip.count as usize, true);
+    give_entries(&mut data.values, target, values);
+    fill_entries(&mut data.marks, target, strip.count as usize, of_level);
 }
 
-/// Gives the ghost cells of a strip beside patch `i` a mass each, and marks them as cells of the level.
+/// Gives the ghost cells of a strip beside patch `i` a value each, and marks all or none of them as cells of the level.
 #[inline(always)]
-pub(crate) fn give_strip(patches: &mut [Patch], i: usize, strip: Strip, masses: &[u32])
+pub(crate) fn give_strip(
+    patches: &mut [Patch],
+    i: usize,
+    strip: Strip,
+    values: &[u32],
+    of_level: bool,
+)
     requires there { i < length patches.old }
     requires some { 0 < strip.count }
     requires small { strip.count ≤ 8192 }
-    requires count { length masses.now ≡ strip.count }
+    requires count { length values.now ≡ strip.count }
     requires ghost_cells { (q : Patch) (k : ℕ) → k < strip.count → IsTrue (in_frame (box (slice_index_or patches.old i q)) (step strip.axis strip.from k)) }
     requires beside { (q : Patch) (k : ℕ) → k < strip.count → IsTrue (is_beside (box (slice_index_or patches.old i q)) (step strip.axis strip.from k)) }
     ensures kept { AllZip KeepsCells patches.old patches.new }
-    ensures ghosts { (value : Cell → ℕ) (mark : Cell → Bool) → AreGiven value mark strip.axis strip.from strip.count (λ k. slice_index masses.now k) true → AllZip (KeepsGhosts value mark) patches.old patches.new }
-    ensures set { (value : Cell → ℕ) (mark : Cell → Bool) (q : Patch) → AreGiven value mark strip.axis strip.from strip.count (λ k. slice_index masses.now k) true → HasGhosts value mark (slice_index_or patches.new i q) strip.axis strip.from strip.count }
+    ensures ghosts { (value : Cell → ℕ) (mark : Cell → Bool) → AreGiven value mark strip.axis strip.from strip.count (λ k. slice_index values.now k) of_level → AllZip (KeepsGhosts value mark) patches.old patches.new }
+    ensures set { (value : Cell → ℕ) (mark : Cell → Bool) (q : Patch) → AreGiven value mark strip.axis strip.from strip.count (λ k. slice_index values.now k) of_level → HasGhosts value mark (slice_index_or patches.new i q) strip.axis strip.from strip.count }
 {
-    give_ghosts(&mut patches[i], strip, masses);
+    give_ghosts(&mut patches[i], strip, values, of_level);
 }
 
 /// Gives the ghost cells of a strip quarters of masses of a coarser patch. None is marked as a cell of the level. The masses are

@@ -7,6 +7,7 @@ mod gap_cells;
 mod ghosts;
 mod lookup;
 mod messages;
+mod outer;
 mod outside;
 mod parts;
 mod places;
@@ -17,7 +18,8 @@ mod sources;
 
 pub use filling::{fill, fill_in_order};
 pub use messages::{Message, fill_run, pack_messages};
+pub use outer::OuterGhosts;
 pub use parts::{FrameCopy, FrameParts, part_frames};
 pub use plan::{FramePlan, plan_frames};
-pub use planned::{fill_across, fill_planned};
+pub use planned::fill_planned;
 pub use sources::Span;

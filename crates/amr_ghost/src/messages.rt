@@ -2,9 +2,11 @@
 
 ghost use Rattle.std.specs.Prelude.{◌≡◌, length, [], IfOk};
 ghost use Rattle.std.specs.List.{All, AllZip};
-ghost use Rattle.amr_ghost.specs.Messages.{ArePacked, HasFilled, HasPacked, HasPlaces, HasUnpacked, IsFrameCopy, IsMessageFrom, IsMessageTo, IsReceived, IsTaken, mass_count};
+ghost use Rattle.amr_ghost.specs.Outer.{AreOuterBeside};
+ghost use Rattle.amr_ghost.specs.Messages.{ArePacked, HasFilled, HasMadeCopies, HasPacked, HasPlaces, HasUnpacked, IsFrameCopy, IsMessageFrom, IsMessageTo, IsReceived, IsTaken, mass_count};
 
 use crate::ghosts::{copy_strip, give_strip, take_strip};
+use crate::outer::{OuterGhosts, give_outer};
 use crate::parts::FrameCopy;
 use amr_causes::NoMemory;
 use amr_patch::Patch;
@@ -90,7 +92,7 @@ pub fn pack_messages(patches: &[Patch], messages: &mut [Message])
 /// Makes the copies within a run.
 fn fill_within(patches: &mut [Patch], copies: &[FrameCopy])
     requires { All (IsFrameCopy patches.old) copies.now }
-    ensures { HasFilled copies.now [] patches.old patches.new }
+    ensures { HasMadeCopies copies.now patches.old patches.new }
 {
     for k in 0..copies.len() {
         let copy = copies[k];
@@ -109,18 +111,25 @@ fn unpack(patches: &mut [Patch], copies: &[FrameCopy], masses: &[u32])
         let copy = &copies[k];
         let end = done + copy.strip.count as usize;
         let given = &masses[done..end];
-        give_strip(patches, copy.patch, copy.strip, given);
+        give_strip(patches, copy.patch, copy.strip, given, true);
         done = end;
     }
 }
 
-/// Gives the ghost cells of copies within a run and those that messages are for their values, and marks them as cells of the level. The
-/// patches are those of the run. It looks up no patch, and takes no memory.
-pub fn fill_run(patches: &mut [Patch], copies: &[FrameCopy], messages: &[Message])
+/// Gives ghost cells beside a run's patches their values: the outer ones, those of copies within the run, and those that messages are for.
+/// All but the outer ones are marked as cells of the level. The patches are those of the run. It looks up no patch, and takes no memory.
+pub fn fill_run(
+    patches: &mut [Patch],
+    outer: &OuterGhosts,
+    copies: &[FrameCopy],
+    messages: &[Message],
+)
+    requires outer { AreOuterBeside patches.old outer.now }
     requires copies { All (IsFrameCopy patches.old) copies.now }
     requires messages { All (IsMessageTo patches.old) messages.now }
-    ensures { HasFilled copies.now messages.now patches.old patches.new }
+    ensures { HasFilled outer.now copies.now messages.now patches.old patches.new }
 {
+    give_outer(patches, &outer.spans, &outer.values);
     fill_within(patches, copies);
     for k in 0..messages.len() {
         let message = &messages[k];

@@ -25,8 +25,8 @@ pub struct FrameCopy {
 /// A plan of a level's frames in parts, where the patches of the level stand in runs of as many each, in order.
 #[derive(Drop)]
 pub struct FrameParts {
-    /// The ghost cells that get no mass of a patch of the level.
-    pub across: Vec<Span>,
+    /// The ghost cells that get no mass of a patch of the level, by the run that they are beside. Their patches are numbered within it.
+    pub outer: Vec<Vec<Span>>,
     /// All others, by the run that they get masses of, and for each by the run that they are beside.
     pub copies: Vec<Vec<FrameCopy>>,
 }
@@ -35,12 +35,18 @@ pub struct FrameParts {
 fn part_span(parts: &mut FrameParts, span: Span, width: usize, runs: usize) -> Result<(), NoMemory>
     requires some { 0 < width }
     requires few { runs < 2 ^ 32 }
+    requires outer_count { length parts.old.outer.items ≡ runs }
     requires count { length parts.old.copies.items ≡ runs * runs }
     requires there { IsSpanBelow (runs * width) span }
     ensures { OnOk result ((spans : List Span) (k : ℕ) → k < length spans → slice_index_or spans k span ≡ span → ArePartedTo spans k width runs parts.old → ArePartedTo spans (k + 1) width runs parts.new) }
 {
     let Source::Beside(source, from) = span.source else {
-        parts.across.push(span)?;
+        let outer = Span {
+            patch: span.patch % width,
+            strip: span.strip,
+            source: span.source,
+        };
+        parts.outer[span.patch / width].push(outer)?;
         return Ok(());
     };
     let copy = FrameCopy {
@@ -53,16 +59,16 @@ fn part_span(parts: &mut FrameParts, span: Span, width: usize, runs: usize) -> R
     Ok(())
 }
 
-/// So many empty lists of copies.
-fn no_copies(alloc: Global, count: usize) -> Result<Vec<Vec<FrameCopy>>, NoMemory>
-    ensures count { IfOk result (λ copies. length copies.items ≡ count) }
-    ensures empty { IfOk result (λ copies. All (λ v. v.items ≡ []) copies.items) }
+/// So many empty lists.
+fn no_lists<T: Copy>(alloc: Global, count: usize) -> Result<Vec<Vec<T>>, NoMemory>
+    ensures count { IfOk result (λ lists. length lists.items ≡ count) }
+    ensures empty { IfOk result (λ lists. All (λ v. v.items ≡ []) lists.items) }
 {
-    let mut copies = Vec::with_capacity(alloc, count)?;
+    let mut lists = Vec::with_capacity(alloc, count)?;
     for _ in 0..count {
-        copies.push(Vec::new(alloc))?;
+        lists.push(Vec::new(alloc))?;
     }
-    Ok(copies)
+    Ok(lists)
 }
 
 /// Parts a plan for so many runs of `width` patches each; the last ones may be shorter. `NoMemory` is the only refusal.
@@ -78,8 +84,8 @@ pub fn part_frames(
     ensures { IfOk result (IsParted plan.now width runs) }
 {
     let mut parts = FrameParts {
-        across: Vec::new(alloc),
-        copies: no_copies(alloc, runs * runs)?,
+        outer: no_lists(alloc, runs)?,
+        copies: no_lists(alloc, runs * runs)?,
     };
     for k in 0..plan.spans.len() {
         part_span(&mut parts, plan.spans[k], width, runs)?;

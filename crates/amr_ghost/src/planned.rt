@@ -6,8 +6,7 @@ ghost use Rattle.std.specs.List.{All, AllZip};
 ghost use Rattle.amr_def.specs.Domain.{domain};
 ghost use Rattle.amr_patch.specs.Patches.{ArePatchesApart, SameFluxes, box, masses_in};
 ghost use Rattle.amr_ghost.specs.Frames.{AreInDomain, HasGhostMarks, HasGhostValues, KeepsCorners, SameMasses, old_masses};
-ghost use Rattle.amr_ghost.specs.Filling.{KeepsCells};
-ghost use Rattle.amr_ghost.specs.Plans.{HasSpan, IsSpan, PlansFrames};
+ghost use Rattle.amr_ghost.specs.Plans.{PlansFrames};
 
 use crate::lookup::{NearSides, near_first};
 use crate::plan::FramePlan;
@@ -51,24 +50,6 @@ fn near_for<'a>(near: &'a mut NearSides, patches: &[Patch], span: Span) -> &'a m
     }
 }
 
-/// Fills the ghost cells of these spans, which lie beside patches of level `l`. The patches are those of the whole level. It looks up
-/// no patch of the level, and takes no memory.
-pub fn fill_across(p: &Problem, l: u32, patches: &mut [Patch], across: &[Span], old: Option<&Level>)
-    requires level { l ≤ 4 }
-    requires apart { ArePatchesApart patches.old }
-    requires inside { AreInDomain (domain p.now l) patches.old }
-    requires spans { All (IsSpan (domain p.now l) patches.old) across.now }
-    ensures kept { AllZip KeepsCells patches.old patches.new }
-    ensures set { All (HasSpan p.now l (masses_in patches.old) (old_masses (option_copied old.entry)) patches.new) across.now }
-{
-    let mut near = near_first();
-    for k in 0..across.len() {
-        let span = across[k];
-        let first = near_for(&mut near, patches, span);
-        place_span(p, l, patches, span, old, first);
-    }
-}
-
 /// Fills the frames of the patches of level `l` as `fill` does, where a plan tells where the ghost cells get their values from. It
 /// looks up no patch of the level, and takes no memory.
 pub fn fill_planned(
@@ -89,5 +70,10 @@ pub fn fill_planned(
     ensures fluxes { AllZip SameFluxes patches.old patches.new }
     ensures boxes { map box patches.new ≡ map box patches.old }
 {
-    fill_across(p, l, patches, &plan.spans, old);
+    let mut near = near_first();
+    for k in 0..plan.spans.len() {
+        let span = plan.spans[k];
+        let first = near_for(&mut near, patches, span);
+        place_span(p, l, patches, span, old, first);
+    }
 }

@@ -1,7 +1,11 @@
 pub mod LotTotals
 mod InTurn
-mod InPlaces
+pub mod InPlaces
 mod Trading
 mod Posting
 mod Served
+mod WordSums
+pub mod Numbered
+pub mod Layouts
 pub mod Runs
+mod HandedRuns

@@ -11,7 +11,8 @@ use Rattle.amr_lots.specs.declared.lot.Lot.{Lot}
 use Rattle.amr_lots.specs.declared.lot.Phase.{Phase}
 use Rattle.amr_lots.specs.Delivery.{ArePosted, HasTraded, HaveTraded, with_outbox}
 use Rattle.amr_lots.proofs.InTurn.{zip_from}
-use Rattle.amr_lots.specs.Runs.{HasBoxes, IsDelivered, KeepAllButMessages}
+use Rattle.amr_lots.proofs.Layouts.{layout_twice, same_layout}
+use Rattle.amr_lots.specs.Runs.{HasBoxes, HasLayoutOf, IsDelivered, KeepAllButMessages}
 
 -- the items of a `Vec`, each written anew
 pub refilled : {X : Type 0} (n : ℕ) (xs ys : List X) → n ≡ length xs → length ys ≡ length xs → take n (ys ++ drop (length ys) xs) ≡ ys
@@ -41,16 +42,25 @@ module _ (xs : List (Box Lot)) (i : ℕ) (old new : Box Lot) (lt : i < length xs
 
 -- ---- one lot's messages posted
 
+posted_layout : (a b : Lot) → HasItsInbox a b → HasLayoutOf a b
+posted_layout a b is = record {
+  level = ap (λ (e : Lot). e.level) is;
+  problem = ap (λ (e : Lot). e.problem) is;
+  flows = ap (λ (e : Lot). e.flows) is;
+  words = ap (λ (e : Lot). e.words) is;
+  copies = ap (λ (e : Lot). e.copies) is;
+  outer = ap (λ (e : Lot). e.outer) is;
+}
+
 -- a lot whose outbox was taken, which traded, and was given the outbox back
 is_delivered : (from : ℕ) (y z : Message) (a b c d : Lot) → HasItsInbox a b → HasTraded from y z b c → HasItsInbox c d → length d.outbox.items ≡ length a.outbox.items → IsDelivered a d
 is_delivered from y z a b c d take traded give count = record {
-  level = ap (λ (e : Lot). e.level) give ∙ traded.others.level ∙ ap (λ (e : Lot). e.level) take;
-  problem = ap (λ (e : Lot). e.problem) give ∙ traded.others.problem ∙ ap (λ (e : Lot). e.problem) take;
+  layout = layout_twice a b d (posted_layout a b take) (layout_twice b c d traded.others.layout (posted_layout c d give));
   patches = ap (λ (e : Lot). e.patches) give ∙ traded.others.patches ∙ ap (λ (e : Lot). e.patches) take;
-  copies = ap (λ (e : Lot). e.copies) give ∙ traded.others.copies ∙ ap (λ (e : Lot). e.copies) take;
-  flows = ap (λ (e : Lot). e.flows) give ∙ traded.others.flows ∙ ap (λ (e : Lot). e.flows) take;
+  edges = ap (λ (e : Lot). e.edges) give ∙ traded.others.edges ∙ ap (λ (e : Lot). e.edges) take;
   room = ap (λ (e : Lot). e.room) give ∙ traded.others.room ∙ ap (λ (e : Lot). e.room) take;
   totals = ap (λ (e : Lot). e.totals) give ∙ traded.others.totals ∙ ap (λ (e : Lot). e.totals) take;
+  sums = ap (λ (e : Lot). e.sums) give ∙ traded.others.sums ∙ ap (λ (e : Lot). e.sums) take;
   outbox = count;
   inbox = ap (λ (e : Lot). length e.inbox.items) give ∙ traded.others.inbox ∙ ap (λ (e : Lot). length e.inbox.items) take;
 }
@@ -150,17 +160,16 @@ pub record ArePostedTo (n : ℕ) (phase : Phase) (lots after : List (Box Lot)) :
   pub others : (u : ℕ) (x : Box Lot) → u < length lots → IsDelivered (get_or lots u x).value (get_or after u x).value
 
 same_lot : (a : Lot) → IsDelivered a a
-same_lot a = record { level = refl; problem = refl; patches = refl; copies = refl; flows = refl; room = refl; totals = refl; outbox = refl; inbox = refl }
+same_lot a = record { layout = same_layout a; patches = refl; edges = refl; room = refl; totals = refl; sums = refl; outbox = refl; inbox = refl }
 
 delivered_more : (a b c : Lot) → IsDelivered a b → IsDelivered b c → IsDelivered a c
 delivered_more a b c h k = record {
-  level = k.level ∙ h.level;
-  problem = k.problem ∙ h.problem;
+  layout = layout_twice a b c h.layout k.layout;
   patches = k.patches ∙ h.patches;
-  copies = k.copies ∙ h.copies;
-  flows = k.flows ∙ h.flows;
+  edges = k.edges ∙ h.edges;
   room = k.room ∙ h.room;
   totals = k.totals ∙ h.totals;
+  sums = k.sums ∙ h.sums;
   outbox = k.outbox ∙ h.outbox;
   inbox = k.inbox ∙ h.inbox;
 }

@@ -12,12 +12,16 @@ with_outbox outbox phase lot = record {
   phase = phase;
   level = lot.level;
   patches = lot.patches;
+  edges = lot.edges;
   flows = lot.flows;
+  words = lot.words;
   copies = lot.copies;
+  outer = lot.outer;
   outbox = outbox;
   inbox = lot.inbox;
   room = lot.room;
   totals = lot.totals;
+  sums = lot.sums;
   problem = lot.problem;
 }
 

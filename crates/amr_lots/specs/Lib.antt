@@ -1,4 +1,5 @@
 pub mod Lots
+pub mod Words
 pub mod Serving
 pub mod Runs
 pub mod Delivery

@@ -1,15 +1,21 @@
 -- What a lot has to be before a worker is handed it, and what it becomes.
-use Rattle.std.specs.Prelude.{◌≡◌, ℕ, List, length, map, slice_index}
+use Rattle.std.specs.Prelude.{◌≡◌, ◌≤◌, ℕ, List, length, map, slice_index}
 use Rattle.std.specs.List.{All, AllZip}
 use Rattle.amr_def.specs.declared.problem.Problem.{Problem}
 use Rattle.amr_patch.specs.declared.patches.Patch.{Patch}
+use Rattle.amr_patch.specs.Patches.{box}
 use Rattle.amr_flux.specs.Rooms.{widest}
 use Rattle.amr_ghost.specs.Messages.{HasFilled, HasPacked, IsFrameCopy, IsMessageFrom, IsMessageTo}
+use Rattle.amr_ghost.specs.Outer.{AreOuterBeside}
 use Rattle.amr_layout.specs.declared.FlowTo.{FlowTo}
+use Rattle.amr_register.specs.EdgeCells.{AreEdgesIn, HaveNets, IsSmallNet, lists_of}
+use Rattle.amr_transfer.specs.Packed.{AreSums, HasSmallSums, sum_count}
+use Rattle.amr_transfer.specs.Sums.{AreCoarsenable}
 use Rattle.amr_lots.specs.declared.lot.Lot.{Lot}
 use Rattle.amr_lots.specs.declared.lot.Phase.{Phase}
-use Rattle.amr_lots.specs.declared.lot.Phase.TheVariants.{Send, Step}
+use Rattle.amr_lots.specs.declared.lot.Phase.TheVariants.{Send, Step, Sum}
 use Rattle.amr_lots.specs.Lots.{AreReady, HasStepped, lot_total}
+use Rattle.amr_lots.specs.Runs.{HasLayoutOf}
 
 -- the flows of a lot, a list for each patch
 abbrev pub flows_of_lot : Lot → List (List FlowTo)
@@ -22,13 +28,23 @@ MaySend lot = All (IsMessageFrom lot.patches.items) lot.outbox.items
 -- a lot of this problem whose patches may make their step once their frames are filled
 pub record MayAdvance (p : Problem) (lot : Lot) : Type 0 where
   pub problem : lot.problem.value ≡ p
+  pub shallow : lot.level ≤ 4
+  pub outer : AreOuterBeside lot.patches.items lot.outer
   pub copies : All (IsFrameCopy lot.patches.items) lot.copies.items
   pub messages : All (IsMessageTo lot.patches.items) lot.inbox.items
-  pub ready : (fs : List Patch) → HasFilled lot.copies.items lot.inbox.items lot.patches.items fs → AreReady p lot.level (widest lot.room) (length lot.totals.items) fs (flows_of_lot lot)
+  pub edges : AllZip AreEdgesIn (map box lot.patches.items) (lists_of lot.edges.items)
+  pub ready : (fs : List Patch) → HasFilled lot.outer lot.copies.items lot.inbox.items lot.patches.items fs → AreReady p lot.level (widest lot.room) (length lot.totals.items) fs (flows_of_lot lot)
+
+-- a lot whose patches cut no cell of the next coarser level, with room for the sums of their children, each of which fits
+pub record MaySum (lot : Lot) : Type 0 where
+  pub coarsenable : AreCoarsenable lot.patches.items
+  pub small : All HasSmallSums lot.patches.items
+  pub room : length lot.sums.items ≡ sum_count lot.patches.items
 
 abbrev pub MayServeIn : Phase → Problem → Lot → Type 0
 MayServeIn Send p lot = MaySend lot
 MayServeIn Step p lot = MayAdvance p lot × MaySend lot
+MayServeIn Sum p lot = MaySum lot
 
 -- a lot may be served in its phase
 abbrev pub MayServe : Problem → Lot → Type 0
@@ -36,30 +52,30 @@ MayServe p lot = MayServeIn lot.phase p lot
 
 -- its messages were given masses of its patches, and all else stayed
 pub record HasSent (lot after : Lot) : Type 0 where
+  pub layout : HasLayoutOf lot after
   pub phase : after.phase ≡ lot.phase
-  pub level : after.level ≡ lot.level
-  pub problem : after.problem ≡ lot.problem
   pub patches : after.patches ≡ lot.patches
-  pub copies : after.copies ≡ lot.copies
+  pub edges : after.edges ≡ lot.edges
   pub inbox : after.inbox ≡ lot.inbox
-  pub flows : after.flows ≡ lot.flows
   pub room : after.room ≡ lot.room
   pub totals : after.totals ≡ lot.totals
+  pub sums : after.sums ≡ lot.sums
   pub packed : AllZip (HasPacked lot.patches.items) lot.outbox.items after.outbox.items
 
--- its frames were filled, and then its patches made their step. The totals are those of this step, and all else stayed.
+-- its frames were filled, then what flows into its register cells was worked out, and then its patches made their step. The totals are
+-- those of this step, and all else stayed.
 pub record HasAdvanced (lot after : Lot) : Type 0 where
+  pub layout : HasLayoutOf lot after
   pub phase : after.phase ≡ lot.phase
-  pub level : after.level ≡ lot.level
-  pub problem : after.problem.value ≡ lot.problem.value
-  pub copies : after.copies ≡ lot.copies
   pub outbox : after.outbox ≡ lot.outbox
   pub inbox : after.inbox ≡ lot.inbox
-  pub flows : after.flows ≡ lot.flows
+  pub sums : after.sums ≡ lot.sums
   pub room : widest after.room ≡ widest lot.room
   pub count : length after.totals.items ≡ length lot.totals.items
   pub filled : List Patch
-  pub fills : HasFilled lot.copies.items lot.inbox.items lot.patches.items filled
+  pub fills : HasFilled lot.outer lot.copies.items lot.inbox.items lot.patches.items filled
+  pub edges : HaveNets lot.problem.value lot.level filled (lists_of lot.edges.items) (lists_of after.edges.items)
+  pub small : All (All IsSmallNet) (lists_of after.edges.items)
   pub stepped : AllZip (HasStepped lot.problem.value lot.level) filled after.patches.items
   pub totals : (word : ℕ) → slice_index after.totals.items word ≡ lot_total lot.problem.value lot.level filled (flows_of_lot lot) word
 
@@ -69,9 +85,23 @@ pub record HasMadeStep (lot after : Lot) : Type 0 where
   pub advances : HasAdvanced lot advanced
   pub sends : HasSent advanced after
 
+-- the sums of children of its patches were packed, and all else stayed
+pub record HasSummed (lot after : Lot) : Type 0 where
+  pub layout : HasLayoutOf lot after
+  pub phase : after.phase ≡ lot.phase
+  pub patches : after.patches ≡ lot.patches
+  pub edges : after.edges ≡ lot.edges
+  pub outbox : after.outbox ≡ lot.outbox
+  pub inbox : after.inbox ≡ lot.inbox
+  pub room : after.room ≡ lot.room
+  pub totals : after.totals ≡ lot.totals
+  pub count : length after.sums.items ≡ length lot.sums.items
+  pub sums : AreSums lot.patches.items after.sums.items
+
 abbrev pub IsServedIn : Phase → Lot → Lot → Type 0
 IsServedIn Send lot after = HasSent lot after
 IsServedIn Step lot after = HasMadeStep lot after
+IsServedIn Sum lot after = HasSummed lot after
 
 -- a lot was served in its phase
 abbrev pub IsServed : Lot → Lot → Type 0

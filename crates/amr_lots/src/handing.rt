@@ -1,13 +1,14 @@
-//! Patches of a level handed to lots and taken back.
+//! Patches of a level, and the register cells of its patches, handed to lots and taken back.
 
 ghost use Rattle.std.specs.Prelude.{◌≡◌, ◌<◌, ℕ, List, length, slice_index_or};
 ghost use Rattle.std.specs.List.{AllZip};
 ghost use Rattle.std.specs.Global.{Box as boxed};
-ghost use Rattle.amr_lots.specs.Runs.{HasOthersOf, KeepOthers, run};
+ghost use Rattle.amr_lots.specs.Runs.{HasAllButEdgesOf, HasOthersOf, KeepAllButEdges, KeepOthers, run};
 ghost use Rattle.amr_lots.specs.declared.lot.Lot.{Lot as lot};
 
 use crate::lot::Lot;
 use amr_patch::Patch;
+use amr_register::EdgeCell;
 use std::boxed::Box;
 
 /// Exchanges patches with those of a lot.
@@ -36,4 +37,32 @@ pub fn exchange_runs(patches: &mut [Patch], lots: &mut [Box<Lot>], size: usize)
     let (first, others) = patches.split_at_mut(count);
     trade(first, lot);
     exchange_runs(others, rest, size);
+}
+
+/// Exchanges lists of register cells with those of a lot.
+fn trade_edges(edges: &mut [Vec<EdgeCell>], lot: &mut Box<Lot>)
+    requires { length lot.old.value.edges.items ≡ length edges.old }
+    ensures handed { lot.new.value.edges.items ≡ edges.old }
+    ensures back { edges.new ≡ lot.old.value.edges.items }
+    ensures others { HasAllButEdgesOf lot.old.value lot.new.value }
+{
+    edges.swap_with_slice(&mut lot.edges);
+}
+
+/// Exchanges the lists of register cells of a level, one for each patch, with those of its lots: lot `k` gets run `k` of them, in runs
+/// of this size, and the run gets what the lot had.
+pub fn exchange_edges(edges: &mut [Vec<EdgeCell>], lots: &mut [Box<Lot>], size: usize)
+    requires counts { (k : ℕ) (x : boxed lot) → k < length lots.old → length (slice_index_or lots.old k x).value.edges.items ≡ length (run size k edges.old) }
+    ensures handed { (k : ℕ) (x : boxed lot) → k < length lots.old → (slice_index_or lots.new k x).value.edges.items ≡ run size k edges.old }
+    ensures back { (k : ℕ) (x : boxed lot) → k < length lots.old → run size k edges.new ≡ (slice_index_or lots.old k x).value.edges.items }
+    ensures count { length edges.new ≡ length edges.old }
+    ensures others { AllZip KeepAllButEdges lots.old lots.new }
+{
+    let Some((lot, rest)) = lots.split_first_mut() else {
+        return;
+    };
+    let count = size.min(edges.len());
+    let (first, others) = edges.split_at_mut(count);
+    trade_edges(first, lot);
+    exchange_edges(others, rest, size);
 }

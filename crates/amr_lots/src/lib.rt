@@ -9,7 +9,7 @@ mod steps;
 mod summing;
 
 pub use delivery::{exchange_messages, set_phase};
-pub use handing::exchange_runs;
+pub use handing::{exchange_edges, exchange_runs};
 pub use lot::{Lot, Phase};
 pub use serving::LotWork;
 pub use steps::step_patches;

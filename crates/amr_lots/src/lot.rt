@@ -2,9 +2,10 @@
 
 use amr_def::Problem;
 use amr_flux::Room;
-use amr_ghost::{FrameCopy, Message};
+use amr_ghost::{FrameCopy, Message, OuterGhosts};
 use amr_layout::FlowTo;
 use amr_patch::Patch;
+use amr_register::EdgeCell;
 use std::snapshot::Snapshot;
 
 /// What is to be done with a lot.
@@ -12,8 +13,11 @@ use std::snapshot::Snapshot;
 pub enum Phase {
     /// The masses that other lots need are packed.
     Send,
-    /// The ghost cells are filled, the patches make their step, and the masses that other lots need for the next one are packed.
+    /// The ghost cells are filled, what flows into register cells is worked out, the patches make their step, and the masses that other
+    /// lots need for the next one are packed.
     Step,
+    /// The sums of children are packed.
+    Sum,
 }
 
 /// A lot: patches of a level that one worker makes the step of, and what it works with. It is handed over by value.
@@ -23,20 +27,29 @@ pub struct Lot {
     pub phase: Phase,
     /// The level, from 0 to 4.
     pub level: u32,
-    /// The patches, while the step is made; else others of any boxes, as many.
+    /// The patches, while the lot is served; else others of any boxes, as many.
     pub patches: Vec<Patch>,
-    /// The flows that each patch adds to words, through faces on its edges that it owns.
+    /// The register cells of each patch, while a step over a finer level is made; else empty lists, one a patch.
+    pub edges: Vec<Vec<EdgeCell>>,
+    /// The flows that each patch adds to words, through faces on its edges that it owns. Each word is given by its place in
+    /// `words`.
     pub flows: Vec<Vec<FlowTo>>,
+    /// The words of the level that the flows go to.
+    pub words: Vec<u32>,
     /// Where ghost cells of the patches get masses of patches of the lot.
     pub copies: Vec<FrameCopy>,
+    /// The ghost cells that get no mass of a patch of the level, with their values.
+    pub outer: OuterGhosts,
     /// What the lot sends, a message for each lot of the level. That for itself is empty.
     pub outbox: Vec<Message>,
     /// What it gets, a message from each lot of the level: before its step that of now, after it room for the next one.
     pub inbox: Vec<Message>,
     /// Room for a row of fluxes of the widest patch.
     pub room: Room,
-    /// What flows to each word, all patches of the lot together.
+    /// What flows to each of these words, all patches of the lot together.
     pub totals: Vec<u64>,
+    /// Room for the sums of children of its patches.
+    pub sums: Vec<u32>,
     /// The problem, which no byte stands for.
     pub problem: Snapshot<Problem>,
 }

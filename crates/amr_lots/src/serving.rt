@@ -1,16 +1,19 @@
 //! What a worker does with the lot that it is handed.
 
-ghost use Rattle.amr_lots.specs.Serving.{HasAdvanced, HasMadeStep, HasSent, MayAdvance, MaySend};
+ghost use Rattle.amr_lots.specs.Serving.{HasAdvanced, HasMadeStep, HasSent, HasSummed, MayAdvance, MaySend, MaySum};
 
 use crate::lot::{Lot, Phase};
 use crate::steps::step_patches;
 use amr_def::Problem;
 use amr_ghost::{fill_run, pack_messages};
 use amr_pool::Service;
+use amr_register::find_nets_of_all;
+use amr_transfer::pack_sums;
 use std::boxed::Box;
 
 /// The service of a pool that makes steps of a level. It packs the masses that other lots need. Before, where it is the step's turn, it
-/// fills the ghost cells by masses of the lot's own patches and by what other lots sent, and makes the patches' step.
+/// fills the ghost cells by masses of the lot's own patches and by what others gave it, works out what flows into its register cells,
+/// and makes the patches' step. Where it is the turn of sums, it packs those of the children of the lot's patches.
 #[derive(Clone, Copy)]
 pub struct LotWork<'a> {
     pub problem: &'a Problem,
@@ -24,12 +27,13 @@ fn send(lot: &mut Lot)
     pack_messages(&lot.patches, &mut lot.outbox);
 }
 
-/// Fills the frames of a lot's patches, and makes their step.
+/// Fills the frames of a lot's patches, works out what flows into its register cells, and makes the patches' step.
 fn advance(p: &Problem, lot: &mut Lot)
     requires { MayAdvance p.now lot.old }
     ensures { HasAdvanced lot.old lot.new }
 {
-    fill_run(&mut lot.patches, &lot.copies, &lot.inbox);
+    fill_run(&mut lot.patches, &lot.outer, &lot.copies, &lot.inbox);
+    find_nets_of_all(p, lot.level, &lot.patches, &mut lot.edges);
     step_patches(
         p,
         lot.level,
@@ -50,6 +54,14 @@ fn make_step(p: &Problem, lot: &mut Lot)
     send(lot);
 }
 
+/// Packs the sums of children of a lot's patches.
+fn sum(lot: &mut Lot)
+    requires { MaySum lot.old }
+    ensures { HasSummed lot.old lot.new }
+{
+    pack_sums(&lot.patches, &mut lot.sums);
+}
+
 impl Service<Box<Lot>> for LotWork<'_> {
     ghost use Rattle.amr_lots.specs.Serving.{IsServed, MayServe};
 
@@ -62,6 +74,7 @@ impl Service<Box<Lot>> for LotWork<'_> {
         match lot.phase {
             Phase::Send => send(lot),
             Phase::Step => make_step(self.problem, lot),
+            Phase::Sum => sum(lot),
         }
     }
 }

@@ -18,4 +18,10 @@ pub mod Owners
 pub mod NetOver
 pub mod RegisterRows
 pub mod Once
+pub mod Changed
+pub mod EdgeLists
+pub mod NetLists
+pub mod ListsMade
+pub mod EdgeNets
+pub mod EdgesTaken
 pub mod SameCells

@@ -1,4 +1,4 @@
--- What patches take from the entry of a register cell is the net flow through those of its coarse-fine edges that they own.
+-- What a patch takes from the entry of a register cell is the net flow through those of its coarse-fine edges that it owns.
 use Rattle.std.proofs.Common.{◌≡◌, ◌∙◌, ℕ, ◌<◌, Bool, true, false, cond, ℤ, pos, ◌+ℤ◌, ◌-ℤ◌, List, length, sym, ap, subst, arith}
 use Rattle.std.specs.Prelude.{not, slice_index_or}
 use Rattle.std.specs.List.{Contains}
@@ -17,14 +17,13 @@ use Rattle.amr_register.specs.declared.register.Register.{Register}
 use Rattle.amr_register.specs.RegisterCells.{is_coarse_fine, is_register_cell}
 use Rattle.amr_register.specs.Beside.{HasSides}
 use Rattle.amr_register.specs.Entries.{AreRising, entry_at}
-use Rattle.amr_register.specs.CoarseFlows.{coarse_flows, flow_of_owners, high_face, low_face, net_of_owners}
-use Rattle.amr_register.specs.Laws.{net_of_all}
+use Rattle.amr_register.specs.CoarseFlows.{coarse_flows, high_face, low_face, net_owned, owned_flow}
 use Rattle.amr_register.specs.Registers.{IsRegisterOf, cells_in, sides_in}
 use Rattle.amr_register.proofs.CellLists.{where_inside, where_passes}
 use Rattle.amr_register.proofs.CollectLaws.{none_covered}
 use Rattle.amr_register.proofs.EntryLaws.{entry_of_place}
 use Rattle.amr_register.proofs.Homes.{home_inside}
-use Rattle.amr_register.proofs.PatchSums.{net-all}
+use Rattle.amr_register.proofs.Taken.{no_sides}
 
 -- a face between covered cells or none is no edge: which side counts
 pub low_tells : (low high : Bool) → high ≡ false → cond low (not high) high ≡ low
@@ -44,27 +43,25 @@ module _ (p : Problem) (l : ℕ) (fine : Masses) (c : Cell) (s : CoveredSides) (
   back_y : is_covered fine (home_cell (domain p l) (cell c.x (c.y +ℤ pos 1 -ℤ pos 1))) ≡ false
   back_y = ap (λ (z : ℤ). is_covered fine (home_cell (domain p l) (cell c.x z))) (omega (arith, ints)) ∙ here
 
-  west : s.west ≡ is_coarse_fine (domain p l) fine (low_face X c)
+  pub west : s.west ≡ is_coarse_fine (domain p l) fine (low_face X c)
   unfolding is_coarse_fine
   west = sides.west ∙ sym (low_tells _ _ here)
 
-  south : s.south ≡ is_coarse_fine (domain p l) fine (low_face Y c)
+  pub south : s.south ≡ is_coarse_fine (domain p l) fine (low_face Y c)
   unfolding is_coarse_fine
   south = sides.south ∙ sym (low_tells _ _ here)
 
-  east : s.east ≡ is_coarse_fine (domain p l) fine (high_face X c)
+  pub east : s.east ≡ is_coarse_fine (domain p l) fine (high_face X c)
   unfolding is_coarse_fine
   east = sides.east ∙ sym (high_tells _ _ back_x)
 
-  north : s.north ≡ is_coarse_fine (domain p l) fine (high_face Y c)
+  pub north : s.north ≡ is_coarse_fine (domain p l) fine (high_face Y c)
   unfolding is_coarse_fine
   north = sides.north ∙ sym (high_tells _ _ back_y)
 
-  pub net_of_edges : (qs : List Patch) → net_of_owners p l qs s c ≡ net_of_all p l fine qs c
+  pub net_of_edges : (q : Patch) → net_owned p l q s c ≡ net (coarse_flows p l fine q) c
   unfolding net coarse_flows
-  net_of_edges qs =
-      (λ i. (flow_of_owners p l qs (west i) (low_face X c) -ℤ flow_of_owners p l qs (east i) (high_face X c)) +ℤ (flow_of_owners p l qs (south i) (low_face Y c) -ℤ flow_of_owners p l qs (north i) (high_face Y c)))
-      ∙ sym (net-all p l fine qs c)
+  net_of_edges q i = (owned_flow p l q (west i) (low_face X c) -ℤ owned_flow p l q (east i) (high_face X c)) +ℤ (owned_flow p l q (south i) (low_face Y c) -ℤ owned_flow p l q (north i) (high_face Y c))
 
 -- the same of lists that are these
 pub along : (part : CoveredSides → Cell → ℤ) (cs cs' : List Cell) (ss ss' : List CoveredSides) (es es' new : List ℤ) → cs' ≡ cs → ss' ≡ ss → es' ≡ es
@@ -73,19 +70,18 @@ pub along : (part : CoveredSides → Cell → ℤ) (cs cs' : List Cell) (ss ss' 
 along part cs cs' ss ss' es es' new e f g h k c s lt =
     h k c s (subst (λ (xs : List Cell). k < length xs) (sym e) lt) ∙ (λ i. slice_index_or (g i) k (pos 0) -ℤ part (slice_index_or (f i) k s) (slice_index_or (e i) k c))
 
--- the entry of a register cell after patches have taken their parts
-pub parts_taken : (p : Problem) (l : ℕ) (m fine : Masses) (qs : List Patch) (r : Register) (es es' : List ℤ) → IsRegisterOf p l m fine r → AreRising (cells_in r) → length es ≡ length (cells_in r) → length es' ≡ length (cells_in r)
-    → ((k : ℕ) (c : Cell) (s : CoveredSides) → k < length (cells_in r) → slice_index_or es' k (pos 0) ≡ slice_index_or es k (pos 0) -ℤ net_of_owners p l qs (slice_index_or (sides_in r) k s) (slice_index_or (cells_in r) k c))
-    → (c : Cell) → Contains (cells_in r) c → entry_at (cells_in r) es' c ≡ entry_at (cells_in r) es c -ℤ net_of_all p l fine qs c
-parts_taken p l m fine qs r es es' of rises count count' taken c (k, lt, at) =
+-- the entry of a register cell after a patch has taken its part
+pub parts_taken : (p : Problem) (l : ℕ) (m fine : Masses) (q : Patch) (r : Register) (es es' : List ℤ) → IsRegisterOf p l m fine r → AreRising (cells_in r) → length es ≡ length (cells_in r) → length es' ≡ length (cells_in r)
+    → ((k : ℕ) (c : Cell) (s : CoveredSides) → k < length (cells_in r) → slice_index_or es' k (pos 0) ≡ slice_index_or es k (pos 0) -ℤ net_owned p l q (slice_index_or (sides_in r) k s) (slice_index_or (cells_in r) k c))
+    → (c : Cell) → Contains (cells_in r) c → entry_at (cells_in r) es' c ≡ entry_at (cells_in r) es c -ℤ net (coarse_flows p l fine q) c
+parts_taken p l m fine q r es es' of rises count count' taken c (k, lt, at) =
     let d = domain p l in
     let test = is_register_cell d m fine in
-    let s : CoveredSides = slice_index_or (sides_in r) k (record { west = false; east = false; south = false; north = false }) in
+    let s : CoveredSides = slice_index_or (sides_in r) k no_sides in
     let listed = subst (λ (cs : List Cell). Contains cs c) of.cells (k, lt, at) in
     let passes = where_passes d test c listed in
     let free = false_from_ne_true (is_covered fine c) (λ h. none_covered d m fine c h passes) in
-    let sides = subst (λ (x : Cell). HasSides d (is_covered fine) x s) at (of.sides k c (record { west = false; east = false; south = false; north = false }) lt) in
+    let sides = subst (λ (x : Cell). HasSides d (is_covered fine) x s) at (of.sides k c no_sides lt) in
     let was = sym (ap (entry_at (cells_in r) es) at) ∙ entry_of_place (cells_in r) es k c rises count lt in
     let is = sym (ap (entry_at (cells_in r) es') at) ∙ entry_of_place (cells_in r) es' k c rises count' lt in
-    is ∙ taken k c (record { west = false; east = false; south = false; north = false }) lt
-    ∙ (λ i. sym was i -ℤ (ap (net_of_owners p l qs s) at ∙ net_of_edges p l fine c s (where_inside d test c listed) free sides qs) i)
+    is ∙ taken k c no_sides lt ∙ (λ i. sym was i -ℤ (ap (net_owned p l q s) at ∙ net_of_edges p l fine c s (where_inside d test c listed) free sides q) i)

@@ -8,10 +8,14 @@ use Rattle.amr_box.specs.declared.Axis.{Axis}
 use Rattle.amr_box.specs.declared.Axis.TheVariants.{X, Y}
 use Rattle.amr_box.specs.Cells.{Extent, holds, within}
 use Rattle.amr_def.specs.Flux.{face}
+use Rattle.amr_register.specs.CoarseFlows.{high_face}
 use Rattle.amr_patch.specs.Places.{is_face_of, on_box}
 
 within_more : (low high z : ℤ) → within low high z ≡ true → within low (high +ℤ pos 1) z ≡ true
 within_more low high z h = grind (arith, ints)
+
+within_next : (low high z : ℤ) → within low high z ≡ true → within low (high +ℤ pos 1) (z +ℤ pos 1) ≡ true
+within_next low high z h = grind (arith, ints)
 
 -- a face at the low side of a cell of a box is one of the box
 pub low_face_of_box : (b : Extent) (a : Axis) (c : Cell) → holds b c ≡ true → is_face_of b (face a c.x c.y) ≡ true
@@ -20,6 +24,11 @@ low_face_of_box b a c h = by_axis a (and_parts (within b.lo.x b.hi.x c.x) (withi
     by_axis : (a : Axis) → (within b.lo.x b.hi.x c.x ≡ true) × (within b.lo.y b.hi.y c.y ≡ true) → on_box a b c ≡ true
     by_axis X t = and_from _ _ (within_more b.lo.x b.hi.x c.x t.0) t.1
     by_axis Y t = and_from _ _ t.0 (within_more b.lo.y b.hi.y c.y t.1)
+
+-- and so is one at the high side
+pub high_face_of_box : (b : Extent) (a : Axis) (c : Cell) → holds b c ≡ true → is_face_of b (high_face a c) ≡ true
+high_face_of_box b X c h = let t = and_parts (within b.lo.x b.hi.x c.x) (within b.lo.y b.hi.y c.y) h in and_from _ _ (within_next b.lo.x b.hi.x c.x t.0) t.1
+high_face_of_box b Y c h = let t = and_parts (within b.lo.x b.hi.x c.x) (within b.lo.y b.hi.y c.y) h in and_from _ _ t.0 (within_next b.lo.y b.hi.y c.y t.1)
 
 -- a number that is kept in 64 bits
 pub kept_as : (a r z : ℤ) → a ≡ r → r ≡ z → a ≡ z
@@ -31,6 +40,11 @@ net_of_parts r w e s n w' e' s' n' h a b c d = h ∙ (λ i. (a i -ℤ b i) +ℤ 
 pub above : (z : ℤ) (n : ℕ) → unsigned_abs z < n → negsuc n <ℤ z
 above (pos a) n h = omega (arith, ints)
 above (negsuc a) n h = omega (arith, ints)
+
+-- as near as may be
+pub above_limit : (z : ℤ) (n : ℕ) → unsigned_abs z < n + 1 → negsuc n <ℤ z
+above_limit (pos a) n h = omega (arith, ints)
+above_limit (negsuc a) n h = omega (arith, ints)
 
 pub below : (z : ℤ) (n : ℕ) → unsigned_abs z < n → z <ℤ pos n
 below (pos a) n h = omega (arith, ints)

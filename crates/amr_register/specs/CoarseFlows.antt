@@ -1,4 +1,4 @@
--- The part of patches in a register: their plain flows through coarse-fine edges.
+-- The part of a patch in a register: its plain flows through coarse-fine edges.
 use Rattle.std.specs.Prelude.{ℕ, Bool, ◌&&◌, cond, ℤ, pos, ◌+ℤ◌, ◌-ℤ◌, List, [], ◌∷◌}
 use Rattle.amr_box.specs.declared.Cell.{Cell}
 use Rattle.amr_box.specs.declared.Face.{Face}
@@ -41,19 +41,15 @@ owned_flow p l q counts f = cond (counts && has_high_cell (domain p l) (box q) f
 unfoldable pub coarse_flows : Problem → ℕ → Masses → Patch → Fluxes
 coarse_flows p l fine q f = owned_flow p l q (is_coarse_fine (domain p l) fine f) f
 
+-- what comes into a cell by those through its edges on these sides
+abbrev pub net_owned : Problem → ℕ → Patch → CoveredSides → Cell → ℤ
+net_owned p l q s c =
+    (owned_flow p l q s.west (low_face X c) -ℤ owned_flow p l q s.east (high_face X c)) +ℤ (owned_flow p l q s.south (low_face Y c) -ℤ owned_flow p l q s.north (high_face Y c))
+
 -- what patches give together
 abbrev pub sum_over : (Patch → ℤ) → List Patch → ℤ
 sum_over g [] = pos 0
 sum_over g (q ∷ qs) = g q +ℤ sum_over g qs
-
--- the flow through a face, if it counts, by the values of those that own it: of patches apart one at most
-abbrev pub flow_of_owners : Problem → ℕ → List Patch → Bool → Face → ℤ
-flow_of_owners p l qs counts f = sum_over (λ q. owned_flow p l q counts f) qs
-
--- what comes into a cell by those through its edges on these sides
-abbrev pub net_of_owners : Problem → ℕ → List Patch → CoveredSides → Cell → ℤ
-net_of_owners p l qs s c =
-    (flow_of_owners p l qs s.west (low_face X c) -ℤ flow_of_owners p l qs s.east (high_face X c)) +ℤ (flow_of_owners p l qs s.south (low_face Y c) -ℤ flow_of_owners p l qs s.north (high_face Y c))
 
 -- the plain flows through all coarse-fine edges of a level with masses m, and 0 through all other faces
 unfoldable pub edge_flows : Problem → ℕ → Masses → Masses → Masses → Fluxes

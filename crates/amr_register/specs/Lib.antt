@@ -5,5 +5,6 @@ pub mod Covers
 pub mod Beside
 pub mod Collecting
 pub mod CoarseFlows
+pub mod EdgeCells
 pub mod Registers
 pub mod Laws

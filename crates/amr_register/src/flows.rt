@@ -1,36 +1,27 @@
-//! The plain flows of patches through coarse-fine edges.
+//! The plain flows of a patch through the coarse-fine edges that it owns.
 
 ghost use Rattle.std.specs.Prelude.{◌≡◌, ℕ, ◌<◌, ◌≤◌, ◌^◌, ◌-ℤ◌, ◌<ℤ◌, pos, negsuc, length, slice_index_or, unsigned_abs};
 ghost use Rattle.std.specs.List.{All};
 ghost use Rattle.amr_box.specs.declared.Cell.{Cell};
 ghost use Rattle.amr_def.specs.Domain.{domain, domain_of, home_cell};
 ghost use Rattle.amr_def.specs.Flux.{high_cell};
-ghost use Rattle.amr_patch.specs.Orders.{IsOrderOf};
-ghost use Rattle.amr_patch.specs.Patches.{ArePatchesApart, box};
+ghost use Rattle.amr_patch.specs.Patches.{box};
 ghost use Rattle.amr_flux.specs.Faces.{IsInDomain};
 ghost use Rattle.amr_register.specs.declared.sides.CoveredSides.{CoveredSides};
 ghost use Rattle.amr_register.specs.Beside.{IsDomainCell};
-ghost use Rattle.amr_register.specs.CoarseFlows.{flow_of_owners, high_face, low_face, net_of_owners};
+ghost use Rattle.amr_register.specs.CoarseFlows.{high_face, low_face, net_owned, owned_flow};
 
-use crate::near::NearPatches;
 use crate::sides::CoveredSides;
 use amr_box::{Axis, Cell, Face};
 use amr_def::{Dom, Problem};
 use amr_flux::face_flux;
-use amr_patch::{Order, Patch, find_near};
+use amr_patch::Patch;
 
 /// Register cells in their order, with the sides of each where covered cells lie.
 #[derive(Clone, Copy)]
 pub(crate) struct Edge<'a> {
     pub(crate) cells: &'a [Cell],
     pub(crate) sides: &'a [CoveredSides],
-}
-
-/// Patches of a level, no two with a cell in common, among which the owners of faces are looked for, and how they stand.
-#[derive(Clone, Copy)]
-pub(crate) struct Owners<'a> {
-    pub(crate) patches: &'a [Patch],
-    pub(crate) order: Order,
 }
 
 /// The cell at the high side of a face.
@@ -41,7 +32,7 @@ fn high_cell(f: Face) -> Cell
 }
 
 /// The face at the low side of a cell.
-fn low_face(axis: Axis, c: Cell) -> Face
+pub(crate) fn low_face(axis: Axis, c: Cell) -> Face
     ensures { result ≡ low_face axis c }
 {
     Face {
@@ -52,7 +43,7 @@ fn low_face(axis: Axis, c: Cell) -> Face
 }
 
 /// The face at the high side of a cell.
-fn high_face(axis: Axis, c: Cell) -> Face
+pub(crate) fn high_face(axis: Axis, c: Cell) -> Face
     requires { IsDomainCell c }
     ensures { result ≡ high_face axis c }
 {
@@ -71,7 +62,6 @@ fn high_face(axis: Axis, c: Cell) -> Face
 }
 
 /// The cell of the domain that a cell stands for. Most are of the domain, and stand for themselves.
-#[inline(always)]
 fn home_of(dom: &Dom, c: Cell) -> Cell
     ensures { result ≡ home_cell (domain_of dom.now) c }
 {
@@ -81,22 +71,11 @@ fn home_of(dom: &Dom, c: Cell) -> Cell
     dom.home_cell(c)
 }
 
-/// The flow through a face, if it counts, by the values of the patch that owns it; 0 where none does. The look-up begins at
-/// patch `near`, and leaves there the one that it found.
-#[inline(always)]
-fn owner_flow(
-    p: &Problem,
-    l: u32,
-    owners: Owners<'_>,
-    near: &mut usize,
-    counts: bool,
-    f: Face,
-) -> i64
+/// The flow through a face by the values of a patch, if it counts and the patch owns it; 0 else.
+fn owned_flow(p: &Problem, l: u32, patch: &Patch, counts: bool, f: Face) -> i64
     requires level { l ≤ 4 }
-    requires inside { All (λ q. IsInDomain (domain p.now l) (box q)) owners.patches.now }
-    requires order { IsOrderOf owners.order owners.patches.now }
-    requires apart { ArePatchesApart owners.patches.now }
-    ensures value { result ≡ flow_of_owners p.now l owners.entry.patches.now counts f }
+    requires inside { IsInDomain (domain p.now l) (box patch.now) }
+    ensures value { result ≡ owned_flow p.now l patch.now counts f }
     ensures low { negsuc (2 ^ 32) <ℤ result }
     ensures high { result <ℤ pos (2 ^ 32) }
 {
@@ -104,88 +83,40 @@ fn owner_flow(
         return 0;
     }
     let high = home_of(&p.domain(l), high_cell(f));
-    match find_near(owners.patches, owners.order, near, high) {
-        None => 0,
-        Some(k) => face_flux(p, l, &owners.patches[k], low_face(f.axis, high)),
+    if !patch.bx().holds(high) {
+        return 0;
     }
+    face_flux(p, l, patch, low_face(f.axis, high))
 }
 
-/// What comes into a cell by the flows through those of its faces that lie on these sides, each by the values of its owner.
-fn net_of_owners(
-    p: &Problem,
-    l: u32,
-    owners: Owners<'_>,
-    near: &mut NearPatches,
-    sides: CoveredSides,
-    c: Cell,
-) -> i64
+/// What comes into a cell by the flows through those of its faces that lie on these sides and that a patch owns.
+fn net_owned(p: &Problem, l: u32, patch: &Patch, sides: CoveredSides, c: Cell) -> i64
     requires level { l ≤ 4 }
     requires near { IsDomainCell c }
-    requires inside { All (λ q. IsInDomain (domain p.now l) (box q)) owners.patches.now }
-    requires order { IsOrderOf owners.order owners.patches.now }
-    requires apart { ArePatchesApart owners.patches.now }
-    ensures value { result ≡ net_of_owners p.now l owners.entry.patches.now sides c }
+    requires inside { IsInDomain (domain p.now l) (box patch.now) }
+    ensures value { result ≡ net_owned p.now l patch.now sides c }
     ensures low { negsuc (2 ^ 34) <ℤ result }
     ensures high { result <ℤ pos (2 ^ 34) }
 {
-    let west = owner_flow(
-        p,
-        l,
-        owners,
-        &mut near.own,
-        sides.west,
-        low_face(Axis::X, c),
-    );
-    let east = owner_flow(
-        p,
-        l,
-        owners,
-        &mut near.east,
-        sides.east,
-        high_face(Axis::X, c),
-    );
-    let south = owner_flow(
-        p,
-        l,
-        owners,
-        &mut near.own,
-        sides.south,
-        low_face(Axis::Y, c),
-    );
-    let north = owner_flow(
-        p,
-        l,
-        owners,
-        &mut near.north,
-        sides.north,
-        high_face(Axis::Y, c),
-    );
+    let west = owned_flow(p, l, patch, sides.west, low_face(Axis::X, c));
+    let east = owned_flow(p, l, patch, sides.east, high_face(Axis::X, c));
+    let south = owned_flow(p, l, patch, sides.south, low_face(Axis::Y, c));
+    let north = owned_flow(p, l, patch, sides.north, high_face(Axis::Y, c));
     (west - east) + (south - north)
 }
 
-/// Takes away from each entry what comes into its cell by the flows through those of its faces that lie on its sides, each by
-/// the values of its owner. Look-ups begin at the patches of `near`, one place a cell.
-pub(crate) fn take_away(
-    p: &Problem,
-    l: u32,
-    owners: Owners<'_>,
-    edge: Edge<'_>,
-    near: &mut [NearPatches],
-    entries: &mut [i64],
-)
+/// Takes away from each entry what comes into its cell by the flows through those of its faces that lie on its sides and that a
+/// patch owns.
+pub(crate) fn take_away(p: &Problem, l: u32, patch: &Patch, edge: Edge<'_>, entries: &mut [i64])
     requires level { l ≤ 4 }
-    requires inside { All (λ q. IsInDomain (domain p.now l) (box q)) owners.patches.now }
-    requires order { IsOrderOf owners.order owners.patches.now }
-    requires apart { ArePatchesApart owners.patches.now }
+    requires inside { IsInDomain (domain p.now l) (box patch.now) }
     requires near { All IsDomainCell edge.cells.now }
     requires side_count { length edge.sides.now ≡ length edge.cells.now }
-    requires near_count { length near.old ≡ length edge.cells.now }
     requires entry_count { length entries.old ≡ length edge.cells.now }
     requires room { (k : ℕ) → k < length edge.cells.now → unsigned_abs (slice_index_or entries.old k (pos 0)) < 2 ^ 62 }
-    ensures { (k : ℕ) (c : Cell) (s : CoveredSides) → k < length edge.entry.cells.now → slice_index_or entries.new k (pos 0) ≡ slice_index_or entries.old k (pos 0) -ℤ net_of_owners p.now l owners.entry.patches.now (slice_index_or edge.entry.sides.now k s) (slice_index_or edge.entry.cells.now k c) }
+    ensures { (k : ℕ) (c : Cell) (s : CoveredSides) → k < length edge.entry.cells.now → slice_index_or entries.new k (pos 0) ≡ slice_index_or entries.old k (pos 0) -ℤ net_owned p.now l patch.now (slice_index_or edge.entry.sides.now k s) (slice_index_or edge.entry.cells.now k c) }
 {
     for k in 0..edge.cells.len() {
-        let net = net_of_owners(p, l, owners, &mut near[k], edge.sides[k], edge.cells[k]);
-        entries[k] -= net;
+        entries[k] -= net_owned(p, l, patch, edge.sides[k], edge.cells[k]);
     }
 }

@@ -1,6 +1,6 @@
 //! Entries added to the masses of their cells.
 
-ghost use Rattle.std.specs.Prelude.{◌≡◌, ℕ, ◌<◌, ◌^◌, pos, ◌+ℤ◌, ◌≤ℤ◌, ◌<ℤ◌, cond, Some, length, slice_index_or, IsSome, IsTrue};
+ghost use Rattle.std.specs.Prelude.{◌≡◌, ℕ, ◌<◌, ◌^◌, pos, ◌+ℤ◌, ◌≤ℤ◌, ◌<ℤ◌, cond, Some, length, slice_index_or, IsSome};
 ghost use Rattle.std.specs.Ordering.{eq_by_cmp};
 ghost use Rattle.amr_box.specs.declared.Cell.{Cell};
 ghost use Rattle.amr_box.specs.Cells.{at_least_zero, cell_cmp};
@@ -11,23 +11,10 @@ ghost use Rattle.amr_patch.specs.Pairwise.{Pairwise};
 ghost use Rattle.amr_patch.specs.Patches.{ArePatchesApart, KeepsFrameAndFluxes, in_patches, masses_in};
 ghost use Rattle.amr_register.specs.Entries.{AreRising, entry_at, with_entries};
 
-use crate::near::NearPatches;
+use crate::edge_lists::holder;
+use crate::edges::EdgePlace;
 use amr_box::Cell;
-use amr_patch::{Level, Order, Patch, find_near};
-
-/// The number of the patch that has a cell. It is looked for only where neither patch `near` nor one beside it in the list has the
-/// cell; `near` becomes that number.
-fn holder(patches: &[Patch], order: Order, near: &mut usize, c: Cell) -> usize
-    requires order { IsOrderOf order patches.now }
-    requires apart { ArePatchesApart patches.now }
-    requires there { IsTrue (in_patches patches.now c) }
-    ensures { IsHolder patches.now c result }
-{
-    match find_near(patches, order, near, c) {
-        None => unreachable!(),
-        Some(found) => found,
-    }
-}
+use amr_patch::{Level, Order, Patch};
 
 /// A mass and an entry.
 fn with_entry(mass: u64, entry: i64) -> u64
@@ -56,17 +43,17 @@ fn add_entry(patches: &mut [Patch], k: usize, c: Cell, entry: i64)
     patch.set_mass(c, with_entry(mass, entry));
 }
 
-/// Adds entries to the masses of their cells. Look-ups begin at the patches of `near`, one place a cell.
+/// Adds entries to the masses of their cells. Look-ups begin at the patches of `places`, one for each cell.
 fn add_all(
     cells: &[Cell],
     entries: &[i64],
-    near: &[NearPatches],
+    places: &[EdgePlace],
     patches: &mut [Patch],
     order: Order,
 )
     requires rising { AreRising cells.now }
     requires count { length entries.now ≡ length cells.now }
-    requires near_count { length near.now ≡ length cells.now }
+    requires place_count { length places.now ≡ length cells.now }
     requires order { IsOrderOf order patches.old }
     requires apart { ArePatchesApart patches.old }
     requires there { (k : ℕ) (c : Cell) → k < length cells.now → IsSome (masses_in patches.old (slice_index_or cells.now k c)) }
@@ -76,17 +63,17 @@ fn add_all(
     ensures kept { Pairwise KeepsFrameAndFluxes patches.old patches.new }
 {
     for k in 0..cells.len() {
-        let mut own = near[k].own;
-        let found = holder(patches, order, &mut own, cells[k]);
+        let mut near = places[k].patch;
+        let found = holder(patches, order, &mut near, cells[k]);
         add_entry(patches, found, cells[k], entries[k]);
     }
 }
 
 /// Adds entries to the masses of their cells, as `add_all` does.
-pub(crate) fn add_entries(cells: &[Cell], entries: &[i64], near: &[NearPatches], level: &mut Level)
+pub(crate) fn add_entries(cells: &[Cell], entries: &[i64], places: &[EdgePlace], level: &mut Level)
     requires rising { AreRising cells.now }
     requires count { length entries.now ≡ length cells.now }
-    requires near_count { length near.now ≡ length cells.now }
+    requires place_count { length places.now ≡ length cells.now }
     requires of_level { (k : ℕ) (c : Cell) → k < length cells.now → IsSome ((level_of level.old).masses (slice_index_or cells.now k c)) }
     requires kept { (k : ℕ) (c : Cell) → k < length cells.now → pos 0 ≤ℤ (pos (mass_of (level_of level.old).masses (slice_index_or cells.now k c)) +ℤ slice_index_or entries.now k (pos 0)) }
     requires fits { (k : ℕ) (c : Cell) → k < length cells.now → (pos (mass_of (level_of level.old).masses (slice_index_or cells.now k c)) +ℤ slice_index_or entries.now k (pos 0)) <ℤ pos (2 ^ 32) }
@@ -96,6 +83,6 @@ pub(crate) fn add_entries(cells: &[Cell], entries: &[i64], near: &[NearPatches],
 {
     let order = level.order();
     let mut patches = level.take_patches();
-    add_all(cells, entries, near, &mut patches, order);
+    add_all(cells, entries, places, &mut patches, order);
     level.put_patches_in_order(patches, order);
 }

@@ -7,16 +7,17 @@ ghost use Rattle.amr_register.specs.Entries.{AreRising};
 
 use crate::beside::register_cells;
 use crate::cover::Cover;
-use crate::flows::{Edge, Owners, take_away};
-use crate::near::{NearPatches, near_patches};
+use crate::edge_lists::{EdgeLists, edge_lists, take_nets};
+use crate::edges::{EdgeCell, EdgePlace, find_nets_of_all};
+use crate::flows::{Edge, take_away};
 use crate::reflux::add_entries;
 use crate::sides::{CoveredSides, sides_of_all};
 use amr_box::Cell;
 use amr_causes::NoMemory;
 use amr_def::Problem;
-use amr_patch::{Level, Order, Patch, order_of};
+use amr_patch::{Level, Patch};
 use std::alloc::Global;
-use std::slice;
+use std::mem::replace;
 
 /// So many entries of 0.
 fn no_entries(alloc: Global, count: usize) -> Result<Vec<i64>, NoMemory>
@@ -30,23 +31,24 @@ fn no_entries(alloc: Global, count: usize) -> Result<Vec<i64>, NoMemory>
 /// A flux register of a level below a finer one: an entry for each register cell. That is a cell of the level that is
 /// not covered, beside a covered one, past the end of a periodic axis too. The cells stand by row, within a row by
 /// column. An entry is what the step of the level leaves out at its cell's coarse-fine edges, in units of mass, above 0
-/// towards the cell (Berger and Colella 1989).
+/// towards the cell (Berger and Colella 1989). For each patch of the level there is a list of the cells that it has.
 #[derive(Drop)]
 pub struct Register {
     cells: Vec<Cell>,
     sides: Vec<CoveredSides>,
     entries: Vec<i64>,
-    found: Vec<NearPatches>,
+    edges: Vec<Vec<EdgeCell>>,
+    places: Vec<EdgePlace>,
     ghost rising: { AreRising cells.items },
     ghost near: { All IsDomainCell cells.items },
     ghost side_count: { length sides.items ≡ length cells.items },
     ghost entry_count: { length entries.items ≡ length cells.items },
-    ghost found_count: { length found.items ≡ length cells.items },
+    ghost place_count: { length places.items ≡ length cells.items },
 }
 
-#[tactic(auto, unfolding(crate::specs::Registers::cells_in, crate::specs::Registers::sides_in, crate::specs::Registers::entry_in))]
+#[tactic(auto, unfolding(crate::specs::Registers::cells_in, crate::specs::Registers::sides_in, crate::specs::Registers::edges_in, crate::specs::Registers::places_in, crate::specs::Registers::entry_in))]
 impl Register {
-    ghost use Rattle.std.specs.Prelude.{ℕ, suc, ◌<◌, ◌≤◌, ◌≢◌, ◌^◌, pos, negsuc, ◌+ℤ◌, ◌-ℤ◌, ◌≤ℤ◌, ◌<ℤ◌, IfOk, IsSome, IsTrue, slice_index_or, unsigned_abs};
+    ghost use Rattle.std.specs.Prelude.{ℕ, [], map, ℤ, suc, ◌<◌, ◌≤◌, ◌≢◌, ◌^◌, pos, negsuc, ◌+ℤ◌, ◌-ℤ◌, ◌≤ℤ◌, ◌<ℤ◌, IfOk, IsSome, IsTrue, slice_index_or, unsigned_abs};
     ghost use Rattle.std.specs.List.{Contains};
     ghost use Rattle.amr_box.specs.declared.Cell.{Cell};
     ghost use Rattle.amr_def.specs.Domain.{domain};
@@ -55,17 +57,16 @@ impl Register {
     ghost use Rattle.amr_def.specs.State.{Masses, mass_of};
     ghost use Rattle.amr_patch.specs.Levels.{level_of, patches_of};
     ghost use Rattle.amr_patch.specs.Pairwise.{Pairwise};
-    ghost use Rattle.amr_patch.specs.Orders.{IsOrderOf};
-    ghost use Rattle.amr_patch.specs.Patches.{ArePatchesApart, KeepsFrameAndFluxes, box};
+    ghost use Rattle.amr_patch.specs.Patches.{KeepsFrameAndFluxes, box};
     ghost use Rattle.amr_flux.specs.Faces.{IsInDomain};
     ghost use Rattle.amr_register.specs.CoarseFlows.{coarse_flows};
     ghost use Rattle.amr_register.specs.Entries.{with_entries};
-    ghost use Rattle.amr_register.specs.Laws.{net_of_all};
-    ghost use Rattle.amr_register.specs.Registers.{IsRegisterOf, SameCells, cells_in, entry_in, sides_in};
+    ghost use Rattle.amr_register.specs.EdgeCells.{HaveNets, IsSmallNet, lists_of};
+    ghost use Rattle.amr_register.specs.Registers.{HasEdgesOf, IsPlaced, IsRegisterOf, IsWithEdges, SameCells, cells_in, edges_in, entry_in};
 
     /// The register of level `l`, 0 to 3, below the finer level `l + 1`. Each entry is 0. The two levels are nested. The finer
     /// level's boxes tell which cells are covered, a stretch of a row at a look. Which patch of the coarse level has a
-    /// register cell is kept: later look-ups begin there.
+    /// register cell is looked up here, once: each patch has its list of them.
     pub fn make(
         alloc: Global,
         p: &Problem,
@@ -78,18 +79,26 @@ impl Register {
         requires fine { IsLevel p.now (suc l) (level_of fine.now) }
         requires nested { IsNestedLevel p.now l (level_of coarse.now) (level_of fine.now) }
         ensures cells { IfOk result (IsRegisterOf p.now l (level_of coarse.now).masses (level_of fine.now).masses) }
+        ensures edges { IfOk result (HasEdgesOf (map box (patches_of coarse.now))) }
         ensures zero { IfOk result (λ r. (c : Cell) → entry_in r c ≡ pos 0) }
     {
         let cover = Cover::make(alloc, fine)?;
         let cells = register_cells(alloc, p, l, coarse, fine, &cover)?;
         let sides = sides_of_all(alloc, &p.domain(l), &cover, &cells)?;
         let entries = no_entries(alloc, cells.len())?;
-        let found = near_patches(alloc, coarse, &cells)?;
+        let EdgeLists { lists, places } = edge_lists(
+            alloc,
+            coarse.patches(),
+            coarse.order(),
+            &cells,
+            &sides,
+        )?;
         Ok(Register {
             cells,
             sides,
             entries,
-            found,
+            edges: lists,
+            places,
         })
     }
 
@@ -108,45 +117,51 @@ impl Register {
         self.entries[k as usize]
     }
 
-    /// A register of the same cells with the same entries.
-    pub fn copy(&self, alloc: Global) -> Result<Register, NoMemory>
-        ensures cells { IfOk result (SameCells self.now) }
-        ensures entries { IfOk result (λ r. (c : Cell) → entry_in r c ≡ entry_in self.now c) }
+    /// Takes the lists of edge cells out, one for each patch of the level. The register has none until they are put back.
+    pub fn take_edges(&mut self) -> Vec<Vec<EdgeCell>>
+        ensures lists { lists_of result.items ≡ edges_in self.old }
+        ensures rest { IsWithEdges [] self.old self.new }
     {
-        let cells = Vec::from_slice(alloc, &self.cells)?;
-        let sides = Vec::from_slice(alloc, &self.sides)?;
-        let entries = Vec::from_slice(alloc, &self.entries)?;
-        let found = Vec::from_slice(alloc, &self.found)?;
-        Ok(Register {
-            cells,
-            sides,
-            entries,
-            found,
-        })
+        let none = Vec::new(*self.edges.allocator());
+        replace(&mut self.edges, none)
     }
 
-    /// Takes away the plain flows through the coarse-fine edges of the level that its patches own, by their values before
-    /// the step, in one pass over the register cells. An edge belongs to the patch that has the cell at its high side; an
-    /// edge that belongs to none of them is left. `order` is how the patches stand. Entries lie between -2^62 and 2^62.
-    pub fn coarse_parts(&mut self, p: &Problem, l: u32, patches: &[Patch], order: Order)
-        requires level { l ≤ 3 }
+    /// Puts the lists of edge cells back.
+    pub fn put_edges(&mut self, edges: Vec<Vec<EdgeCell>>)
+        ensures { IsWithEdges (lists_of edges.items) self.old self.new }
+    {
+        self.edges = edges;
+    }
+
+    /// Works out what flows into the cells of each list through their coarse-fine edges, by the values of its patch before the
+    /// step. There is a list for each patch.
+    pub fn find_all_nets(&mut self, p: &Problem, l: u32, patches: &[Patch])
+        requires level { l ≤ 4 }
         requires inside { All (λ q. IsInDomain (domain p.now l) (box q)) patches.now }
-        requires order { IsOrderOf order patches.now }
-        requires apart { ArePatchesApart patches.now }
-        requires room { (c : Cell) → unsigned_abs (entry_in self.old c) < 2 ^ 62 }
-        ensures taken { (m fine : Masses) → IsRegisterOf p.now l m fine self.old → (c : Cell) → Contains (cells_in self.old) c → entry_in self.new c ≡ entry_in self.old c -ℤ net_of_all p.now l fine patches.now c }
+        requires edges { HasEdgesOf (map box patches.now) self.old }
+        ensures nets { HaveNets p.now l patches.now (edges_in self.old) (edges_in self.new) }
+        ensures small { All (All IsSmallNet) (edges_in self.new) }
+        ensures entries { (c : Cell) → entry_in self.new c ≡ entry_in self.old c }
         ensures cells { SameCells self.old self.new }
     {
-        let owners = Owners { patches, order };
-        let edge = Edge {
-            cells: &self.cells,
-            sides: &self.sides,
-        };
-        take_away(p, l, owners, edge, &mut self.found, &mut self.entries);
+        find_nets_of_all(p, l, patches, &mut self.edges);
     }
 
-    /// The same of one patch of the level: takes away the plain flows through those coarse-fine edges that it owns. Over
-    /// all patches each edge's flow is taken away once.
+    /// Takes what flows into each register cell through its coarse-fine edges, as its list has it, away from its entry. Entries
+    /// lie between -2^62 and 2^62.
+    pub fn take_nets(&mut self)
+        requires placed { IsPlaced self.old }
+        requires small { All (All IsSmallNet) (edges_in self.old) }
+        requires room { (c : Cell) → unsigned_abs (entry_in self.old c) < 2 ^ 62 }
+        ensures taken { (flow : Cell → ℤ) → All (All (λ e. e.net ≡ flow e.cell)) (edges_in self.old) → (c : Cell) → Contains (cells_in self.old) c → entry_in self.new c ≡ entry_in self.old c -ℤ flow c }
+        ensures cells { SameCells self.old self.new }
+    {
+        take_nets(&self.places, &self.edges, &mut self.entries);
+    }
+
+    /// Takes away the plain flows through those coarse-fine edges of the level that one patch owns, by its values before the step. An
+    /// edge belongs to the patch that has the cell at its high side. Over all patches each edge's flow is taken away once, as by
+    /// `find_all_nets` and `take_nets`. Entries lie between -2^62 and 2^62.
     pub fn coarse_part(&mut self, p: &Problem, l: u32, patch: &Patch)
         requires level { l ≤ 3 }
         requires inside { IsInDomain (domain p.now l) (box patch.now) }
@@ -154,8 +169,11 @@ impl Register {
         ensures taken { (m fine : Masses) → IsRegisterOf p.now l m fine self.old → (c : Cell) → Contains (cells_in self.old) c → entry_in self.new c ≡ entry_in self.old c -ℤ net (coarse_flows p.now l fine patch.now) c }
         ensures cells { SameCells self.old self.new }
     {
-        let patches = slice::from_ref(patch);
-        self.coarse_parts(p, l, patches, order_of(patches));
+        let edge = Edge {
+            cells: &self.cells,
+            sides: &self.sides,
+        };
+        take_away(p, l, patch, edge, &mut self.entries);
     }
 
     /// Adds `gain - loss`, what flowed through finer faces into register cell `k` and out of it, to the entry of that cell.
@@ -190,6 +208,6 @@ impl Register {
         ensures boxes { (level_of level.new).boxes ≡ (level_of level.old).boxes }
         ensures patches { Pairwise KeepsFrameAndFluxes (patches_of level.old) (patches_of level.new) }
     {
-        add_entries(&self.cells, &self.entries, &self.found, level);
+        add_entries(&self.cells, &self.entries, &self.places, level);
     }
 }

@@ -1,15 +1,20 @@
 -- What tests find out of patches before they fill their frames.
-use Rattle.std.proofs.Common.{◌≡◌, ℕ, suc, ◌<◌, Bool, true, false, ◌&&◌, ◌||◌, ℤ, ◌≤ℤ◌, List, [], ◌∷◌, length, get_or, IsTrue, IsNone, is_some, refl, arith}
+use Rattle.std.proofs.Common.{◌≡◌, ◌∙◌, ℕ, suc, ◌<◌, Bool, true, false, ◌&&◌, ◌||◌, ℤ, ◌≤ℤ◌, List, [], ◌∷◌, length, map, get_or, IsTrue, IsNone, is_some, refl, sym, ap, arith}
 use Rattle.std.specs.Prelude.{◌↔◌}
 use Rattle.std.specs.declared.option.Option.{Option}
 use Rattle.std.specs.declared.option.Option.TheVariants.{None, Some}
 use Rattle.std.proofs.lemmas.Int.{ints}
 use Rattle.std.proofs.lemmas.Bool.{and_from, and_parts}
+use Rattle.std.proofs.lemmas.List.{length-map}
+use Rattle.std.proofs.lemmas.List.Folds.{list_any_at}
+use Rattle.std.proofs.Math.ListN.{get_or-map}
+use Rattle.std.specs.List.{All}
 use Rattle.amr_box.specs.declared.Cell.{Cell}
 use Rattle.amr_box.specs.Cells.{AreDisjoint, Extent, holds}
 use Rattle.amr_def.specs.Domain.{Domain, in_domain, is_inside}
 use Rattle.amr_patch.specs.declared.patches.Patch.{Patch}
 use Rattle.amr_patch.specs.Patches.{box, in_patches}
+use Rattle.amr_flux.specs.Faces.{IsInDomain}
 use Rattle.amr_ghost.specs.Frames.{AreInDomain}
 use Rattle.amr_ghost.proofs.Homes.{bounds}
 
@@ -43,3 +48,10 @@ patches_in_domain d (p ∷ ps) each c h = by_first (holds (box p) c) refl (patch
     by_first : (t : Bool) → holds (box p) c ≡ t → (IsTrue (in_patches ps c) → IsTrue (in_domain d c)) → IsTrue (t || in_patches ps c) → IsTrue (in_domain d c)
     by_first true e rest k = each 0 p (omega arith) c e
     by_first false e rest k = rest k
+
+-- and so of each patch, where patches have the same boxes
+pub each_inside : (d : Domain) (ps qs : List Patch) → AreInDomain d ps → map box qs ≡ map box ps → All (λ (q : Patch). IsInDomain d (box q)) qs
+each_inside d ps qs inside boxes = λ k r lt.
+    let there : k < length ps = let n = sym (length-map qs box) ∙ ap (λ (bs : List Extent). length bs) boxes ∙ length-map ps box in omega (arith, lt, n) in
+    let same : box (get_or ps k r) ≡ box (get_or qs k r) = sym (get_or-map box ps k r) ∙ ap (λ (bs : List Extent). get_or bs k (box r)) (sym boxes) ∙ get_or-map box qs k r in
+    record { at = λ c h. inside c (list_any_at (λ (x : Patch). holds (box x) c) ps k r there (ap (λ (b : Extent). holds b c) same ∙ h)) }

@@ -1,6 +1,6 @@
 -- Two small levels: four coarse cells, of which a fine level covers three.
 use Rattle.std.proofs.Common.{◌≡◌, ◌≢◌, ◌∙◌, ◌⊎◌, inl, inr, ℕ, zero, suc, ◌<◌, ◌^◌, Bool, true, false, ◌||◌, pos, List, [], ◌∷◌, length, map, refl, sym, ap, subst, arith}
-use Rattle.std.specs.Prelude.{slice_index_or}
+use Rattle.std.specs.Prelude.{is_some, slice_index_or}
 use Rattle.std.specs.List.{All}
 use Rattle.std.specs.List.Sorted.{IsPermutation}
 use Rattle.std.proofs.lemmas.Int.{ints}
@@ -16,7 +16,8 @@ use Rattle.amr_def.specs.State.{Masses, children_mass, mass_of}
 use Rattle.amr_def.proofs.Nests.{half_and_odd}
 use Rattle.amr_def.proofs.Nesting.{odd_small}
 use Rattle.amr_patch.specs.declared.patches.Patch.{Patch}
-use Rattle.amr_patch.specs.Patches.{box}
+use Rattle.amr_patch.specs.Patches.{box, in_patches, masses_in}
+use Rattle.amr_patch.proofs.Lookups.{some_mass}
 use Rattle.amr_patch.proofs.Rows.{inside, is_inside}
 use Rattle.amr_box.specs.Cells.{child}
 use Rattle.amr_box.proofs.Tests.{opposite}
@@ -34,6 +35,11 @@ set_or_other P c d here other = cases (is_same_cell d c) refl
 
 pub small_sums : (m : Masses) (c : Cell) → ((d : Cell) → mass_of m d < 256) → children_mass m c < 2 ^ 32
 small_sums m c small = omega (arith, small (child c 0), small (child c 1), small (child c 2), small (child c 3))
+
+-- each cell of fine patches has its parent in the coarse ones
+pub parents_held : (fine coarse : Masses) (fs ps : List Patch) → fine ≡ masses_in fs → coarse ≡ masses_in ps → ((d : Cell) → is_some (fine d) ≡ true → is_some (coarse (parent d)) ≡ true) → (d : Cell) → in_patches fs d ≡ true → in_patches ps (parent d) ≡ true
+parents_held fine coarse fs ps f p parents d h =
+    sym (some_mass ps (parent d)) ∙ ap (λ (m : Masses). is_some (m (parent d))) (sym p) ∙ parents d (ap (λ (m : Masses). is_some (m d)) f ∙ some_mass fs d ∙ h)
 
 -- ---- boxes
 

@@ -1,21 +1,15 @@
 -- The ring of the test: a level in which one mass is set, and a register in which one entry is.
-use Rattle.std.proofs.Common.{◌≡◌, ◌∙◌, ℕ, ◌<◌, ◌≤◌, Bool, true, false, ◌⊎◌, inl, inr, cond, ℤ, pos, ◌+ℤ◌, ◌-ℤ◌, ◌≤ℤ◌, List, [], ◌∷◌, length, refl, sym, ap, arith}
+use Rattle.std.proofs.Common.{◌≡◌, ◌∙◌, ℕ, ◌≤◌, Bool, true, false, ◌⊎◌, inl, inr, cond, ℤ, pos, ◌+ℤ◌, ◌-ℤ◌, ◌≤ℤ◌, List, [], ◌∷◌, refl, sym, ap, arith}
 use Rattle.std.specs.Prelude.{is_some, slice_index_or}
 use Rattle.std.specs.Option.{unwrap_or}
 use Rattle.std.specs.declared.option.Option.{Option}
 use Rattle.std.specs.declared.option.Option.TheVariants.{None, Some}
 use Rattle.std.proofs.lemmas.Int.{ints}
 use Rattle.std.proofs.lemmas.Bool.{both_ways}
-use Rattle.std.proofs.lemmas.List.Folds.{list_any_at}
 use Rattle.amr_box.specs.declared.Cell.{Cell}
-use Rattle.amr_box.specs.Cells.{Extent, holds, in_boxes}
+use Rattle.amr_box.specs.Cells.{Extent, in_boxes}
 use Rattle.amr_box.proofs.CellEquality.{cell_itself, cell_same, is_cell}
-use Rattle.amr_def.specs.Domain.{Domain, in_domain}
 use Rattle.amr_def.specs.State.{Masses, mass_of}
-use Rattle.amr_patch.proofs.Lookups.{some_mass}
-use Rattle.amr_patch.specs.declared.patches.Patch.{Patch}
-use Rattle.amr_patch.specs.Patches.{box, masses_in}
-use Rattle.amr_flux.specs.Faces.{IsInDomain}
 use Rattle.amr_tests_levels.proofs.OneBoxLevels.{none_in}
 
 -- ---- masses
@@ -41,12 +35,6 @@ module _ (before after : Masses) (w : Cell) (v : ℕ) (there : is_some (before w
       by_case : (c ≡ w) ⊎ (after c ≡ before c) → mass_of after c ≤ v
       by_case (inl e) = omega (arith, ap (mass_of after) e, ap (λ (o : Option ℕ). unwrap_or o 0) set)
       by_case (inr e) = omega (arith, ap (λ (o : Option ℕ). unwrap_or o 0) (e ∙ zero c), none_in (in_boxes (b ∷ []) c))
-
--- a patch of a level whose cells are of the domain
-pub patch_inside : (d : Domain) (m : Masses) (ps : List Patch) (i : ℕ) (q : Patch) → m ≡ masses_in ps → ((c : Cell) → is_some (m c) ≡ true → in_domain d c ≡ true) → i < length ps → q ≡ slice_index_or ps i q → IsInDomain d (box q)
-patch_inside d m ps i q is inside lt at = record {
-  at = λ c h. inside c (ap (λ (f : Masses). is_some (f c)) is ∙ some_mass ps c ∙ list_any_at (λ (r : Patch). holds (box r) c) ps i q lt (ap (λ (r : Patch). holds (box r) c) (sym at) ∙ h));
-}
 
 -- ---- entries
 

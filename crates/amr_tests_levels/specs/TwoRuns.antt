@@ -1,10 +1,17 @@
--- Copies of masses within two runs of patches and between them.
+-- Outer ghost cells of two runs of patches, and copies of masses within them and between them.
 use Rattle.std.specs.Prelude.{◌≡◌, List, length, slice_index_or}
 use Rattle.std.specs.List.{All}
 use Rattle.std.specs.Global.{Vec}
 use Rattle.amr_patch.specs.declared.patches.Patch.{Patch}
 use Rattle.amr_ghost.specs.Messages.{IsFrameCopy, IsReceived, IsTaken}
+use Rattle.amr_ghost.specs.Outer.{AreOuterBeside}
+use Rattle.amr_ghost.specs.declared.outer.OuterGhosts.{OuterGhosts}
 use Rattle.amr_ghost.specs.declared.parts.FrameCopy.{FrameCopy}
+
+-- outer ghost cells, by the run that they are beside
+pub record AreOuterOf (outer : List OuterGhosts) (first second : List Patch) : Type 0 where
+  pub beside_first : (x : OuterGhosts) → AreOuterBeside first (slice_index_or outer 0 x)
+  pub beside_second : (x : OuterGhosts) → AreOuterBeside second (slice_index_or outer 1 x)
 
 -- lists of copies, by the run that they take masses of, and for each by the run that they are for
 pub record AreCopiesOf (lists : List (Vec FrameCopy)) (first second : List Patch) : Type 0 where

@@ -9,16 +9,17 @@ ghost use Rattle.amr_patch.specs.Patches.{ArePatchesApart};
 ghost use Rattle.amr_ghost.specs.Frames.{AreInDomain};
 ghost use Rattle.amr_ghost.specs.Plans.{PlansFrames};
 ghost use Rattle.amr_ghost.specs.Parts.{IsParted};
+ghost use Rattle.amr_ghost.specs.Outer.{AreOuterBeside, IsOuterSpan, IsSpanBeside};
 ghost use Rattle.amr_ghost.specs.Messages.{IsMessageTo, IsReceived, IsTaken};
-ghost use Rattle.amr_tests_levels.specs.TwoRuns.{AreCopiesOf};
+ghost use Rattle.amr_tests_levels.specs.TwoRuns.{AreCopiesOf, AreOuterOf};
 
 use crate::frames::{are_of_level, cell, ghost_at, patch, set};
 use amr_causes::NoMemory;
 use amr_def::{Problem, Sides};
 use amr_gaps::starts_of;
 use amr_ghost::{
-    FrameCopy, FrameParts, FramePlan, Message, fill_across, fill_run, pack_messages, part_frames,
-    plan_frames,
+    FrameCopy, FrameParts, FramePlan, Message, OuterGhosts, Span, fill_run, pack_messages,
+    part_frames, plan_frames,
 };
 use amr_patch::{Patch, order_of};
 use amr_samples::problem;
@@ -84,20 +85,32 @@ fn outbox(alloc: Global, run: &[Patch], copies: &[FrameCopy]) -> Result<[Message
     Ok(sent)
 }
 
-/// Makes the copies within each of two runs, and brings to each the masses that the other sends. It tells how many the first run sends
-/// to itself and to the other.
+/// Outer ghost cells of level 0, where there is no coarser level, and their values.
+fn outer_of(alloc: Global, p: &Problem, spans: &[Span]) -> Result<OuterGhosts, NoMemory>
+    requires { All (IsOuterSpan (domain p.now 0)) spans.now }
+    ensures { IfOk result (λ x. (rs : List Patch) → All (IsSpanBeside rs) spans.now → AreOuterBeside rs x) }
+{
+    let mut outer = OuterGhosts::make(alloc, Vec::from_slice(alloc, spans)?)?;
+    outer.find_values(p, 0, None);
+    Ok(outer)
+}
+
+/// Fills the frames of two runs: by copies within each, and by what the other sends. It tells how many masses the first run sends to itself
+/// and to the other.
 fn exchange(
     alloc: Global,
     first: &mut [Patch],
     second: &mut [Patch],
+    outer: &[OuterGhosts; 2],
     lists: &[Vec<FrameCopy>],
 ) -> Result<(usize, usize), NoMemory>
-    requires { AreCopiesOf lists.now first.old second.old }
+    requires outer { AreOuterOf outer.now first.old second.old }
+    requires lists { AreCopiesOf lists.now first.old second.old }
 {
     let from_first = outbox(alloc, first, &lists[1])?;
     let from_second = outbox(alloc, second, &lists[2])?;
-    fill_run(first, &lists[0], &from_second);
-    fill_run(second, &lists[3], &from_first);
+    fill_run(first, &outer[0], &lists[0], &from_second);
+    fill_run(second, &outer[1], &lists[3], &from_first);
     Ok((from_first[0].masses.len(), from_first[1].masses.len()))
 }
 
@@ -105,7 +118,7 @@ fn exchange(
 #[derive(Clone, Copy, PartialEq, Eq)]
 enum HowFar {
     /// The ghost cells that get no mass of a patch.
-    Across,
+    Outer,
     /// All of them.
     Whole,
 }
@@ -123,12 +136,17 @@ fn fill_in_runs(
     requires inside { AreInDomain (domain p.now 0) patches.old }
 {
     let (_plan, parts) = parts_of(alloc, p, patches, 2)?;
-    fill_across(p, 0, patches, &parts.across, None);
-    if how_far == HowFar::Across {
+    let outer = [
+        outer_of(alloc, p, &parts.outer[0])?,
+        outer_of(alloc, p, &parts.outer[1])?,
+    ];
+    let (first, second) = patches.split_at_mut(2);
+    if how_far == HowFar::Outer {
+        fill_run(first, &outer[0], &[], &[]);
+        fill_run(second, &outer[1], &[], &[]);
         return Ok((0, 0));
     }
-    let (first, second) = patches.split_at_mut(2);
-    exchange(alloc, first, second, &parts.copies)
+    exchange(alloc, first, second, &outer, &parts.copies)
 }
 
 /// The four patches of a domain with these sides of its columns, filled if they are those of a level, and how many masses were sent.
@@ -185,8 +203,9 @@ fn two_runs_fill_each_other(rt: HostRuntime) -> Result<(), Fail> {
 
 #[test]
 fn open_sides_come_first(rt: HostRuntime) -> Result<(), Fail> {
-    let (across, _none) = four_filled(rt.alloc(), Sides::Open(6, 40), HowFar::Across)?;
-    assert!(rt; has_frame(&across, 0, &[0, 0, 0, 0, 6, 0, 6, 0, 0, 0, 0, 0]));
+    let (outer, _none) = four_filled(rt.alloc(), Sides::Open(6, 40), HowFar::Outer)?;
+    assert!(rt; has_frame(&outer, 0, &[0, 0, 0, 0, 6, 0, 6, 0, 0, 0, 0, 0]));
+    assert!(rt; has_frame(&outer, 3, &[0, 0, 0, 0, 6, 0, 0, 0, 0, 0]));
     let (whole, sent) = four_filled(rt.alloc(), Sides::Open(6, 40), HowFar::Whole)?;
     assert!(rt; has_frame(&whole, 0, &[0, 41, 42, 0, 6, 13, 6, 23, 0, 31, 32, 0]));
     assert_eq!(rt; ghost_at(&whole, 0, cell(-1, 1)), Some((6, false)));

@@ -1,17 +1,19 @@
-//! Two lots of one patch each: patches handed to them and taken back, messages delivered, and what flows to words added up.
+//! Two lots of one patch each: patches and lists of register cells handed to them and taken back, messages delivered, and what flows to
+//! words added up.
 
 ghost use Rattle.std.specs.Prelude.{◌≡◌, ◌≤◌, length, true};
 ghost use Rattle.std.specs.List.{All};
-ghost use Rattle.amr_tests_steps.specs.TwoLots.{IsForTwo};
+ghost use Rattle.amr_tests_steps.specs.TwoLots.{HasTwoWords, IsForTwo};
 
 use amr_box::{Bx, Cell};
 use amr_causes::NoMemory;
 use amr_def::{Problem, Sides};
 use amr_flux::Room;
-use amr_ghost::Message;
-use amr_lots::{Lot, Phase, add_up, exchange_messages, exchange_runs, set_phase};
+use amr_ghost::{Message, OuterGhosts};
+use amr_lots::{Lot, Phase, add_up, exchange_edges, exchange_messages, exchange_runs, set_phase};
 use amr_patch::Patch;
-use amr_samples::problem;
+use amr_register::{EdgeCell, Register};
+use amr_samples::{empty_level, fine_box, problem, ring, whole_box};
 use std::alloc::Global;
 use std::boxed::Box;
 use std::snapshot::Snapshot;
@@ -42,23 +44,29 @@ fn two_messages(alloc: Global, number: u8) -> Result<Vec<Message>, NoMemory> {
     Ok(messages)
 }
 
-/// A lot with this number: its patch is in that column, and its messages to the first lot and to the second have the masses 11 and 12
-/// or 21 and 22. Those from them have 100 more.
-fn lot(alloc: Global, p: &Problem, number: u8) -> Result<Lot, NoMemory>
+/// A lot with this number, whose totals are of these two words: its patch is in that column, and its messages to the first lot and to
+/// the second have the masses 11 and 12 or 21 and 22. Those from them have 100 more.
+fn lot(alloc: Global, p: &Problem, number: u8, words: [u32; 2]) -> Result<Lot, NoMemory>
     requires { number ≤ 2 }
 {
     let mut patches = Vec::with_capacity(alloc, 1)?;
     patches.push_reserved(patch_in(alloc, number)?);
+    let mut edges = Vec::with_capacity(alloc, 1)?;
+    edges.push_reserved(Vec::new(alloc));
     Ok(Lot {
         phase: Phase::Send,
         level: 0,
         patches,
+        edges,
         flows: Vec::new(alloc),
+        words: Vec::from_slice(alloc, &words)?,
         copies: Vec::new(alloc),
+        outer: OuterGhosts::make(alloc, Vec::new(alloc))?,
         outbox: two_messages(alloc, number)?,
         inbox: two_messages(alloc, 10 + number)?,
         room: Room::make(alloc, 1)?,
         totals: Vec::from_slice(alloc, &[u64::from(number), 10 * u64::from(number)])?,
+        sums: Vec::new(alloc),
         problem: Snapshot::of(p),
     })
 }
@@ -67,16 +75,41 @@ fn lot(alloc: Global, p: &Problem, number: u8) -> Result<Lot, NoMemory>
 fn two_lots(alloc: Global) -> Result<Vec<Box<Lot>>, NoMemory> {
     let p = problem(alloc, 4, 2, Sides::Periodic, Sides::Periodic)?;
     let mut lots = Vec::with_capacity(alloc, 2)?;
-    lots.push_reserved(Box::new(alloc, lot(alloc, &p, 1)?)?);
-    lots.push_reserved(Box::new(alloc, lot(alloc, &p, 2)?)?);
+    lots.push_reserved(Box::new(alloc, lot(alloc, &p, 1, [0, 1])?)?);
+    lots.push_reserved(Box::new(alloc, lot(alloc, &p, 2, [1, 0])?)?);
     Ok(lots)
 }
 
-/// Whether a lot has one patch, two messages each way and two small totals.
+/// Whether a lot has totals of two words of a level that has as many, and the totals are small.
+fn has_two_words(lot: &Lot) -> bool
+    ensures { result ≡ true → HasTwoWords lot.now }
+{
+    if lot.words.len() != 2 {
+        return false;
+    }
+    if lot.totals.len() != 2 {
+        return false;
+    }
+    if lot.words[0] > 1 {
+        return false;
+    }
+    if lot.words[1] > 1 {
+        return false;
+    }
+    if lot.totals[0] > 1000 {
+        return false;
+    }
+    lot.totals[1] <= 1000
+}
+
+/// Whether a lot has one patch, one list of register cells, two messages each way and two small totals.
 fn is_for_two(lot: &Lot) -> bool
     ensures { result ≡ true → IsForTwo lot.now }
 {
     if lot.patches.len() != 1 {
+        return false;
+    }
+    if lot.edges.len() != 1 {
         return false;
     }
     if lot.outbox.len() != 2 {
@@ -85,13 +118,7 @@ fn is_for_two(lot: &Lot) -> bool
     if lot.inbox.len() != 2 {
         return false;
     }
-    if lot.totals.len() != 2 {
-        return false;
-    }
-    if lot.totals[0] > 1000 {
-        return false;
-    }
-    lot.totals[1] <= 1000
+    has_two_words(lot)
 }
 
 /// Whether there are two lots, each of one patch.
@@ -119,6 +146,18 @@ fn hand_over(patches: &mut [Patch], lots: &mut [Box<Lot>]) -> bool {
     true
 }
 
+/// Exchanges two lists of register cells with those of two lots, if there are so many.
+fn hand_edges_over(edges: &mut [Vec<EdgeCell>], lots: &mut [Box<Lot>]) -> bool {
+    if edges.len() != 2 {
+        return false;
+    }
+    if !are_two(lots) {
+        return false;
+    }
+    exchange_edges(edges, lots, 1);
+    true
+}
+
 /// Exchanges the messages of two lots, if there are so many.
 fn deliver(lots: &mut [Box<Lot>]) -> bool {
     if !are_two(lots) {
@@ -135,6 +174,26 @@ fn sums(lots: &[Box<Lot>]) -> [u64; 2] {
         add_up(lots, &mut totals);
     }
     totals
+}
+
+/// The register cells of a ring in one patch, three of them.
+fn ring_edges(alloc: Global) -> Result<Vec<Vec<EdgeCell>>, NoMemory> {
+    let p = ring(alloc)?;
+    let coarse = empty_level(alloc, whole_box())?;
+    let fine = empty_level(alloc, fine_box())?;
+    let mut register = Register::make(alloc, &p, 0, &coarse, &fine)?;
+    Ok(register.take_edges())
+}
+
+/// How many register cells lots have, patch by patch.
+fn edge_counts(alloc: Global, lots: &[Box<Lot>]) -> Result<Vec<usize>, NoMemory> {
+    let mut counts = Vec::new(alloc);
+    for lot in lots {
+        for list in &lot.edges {
+            counts.push(list.len())?;
+        }
+    }
+    Ok(counts)
 }
 
 /// The columns of the patches of lots.
@@ -187,6 +246,20 @@ fn runs_are_handed_over_and_taken_back(rt: HostRuntime) -> Result<(), Fail> {
 }
 
 #[test]
+fn register_cells_are_handed_over_and_taken_back(rt: HostRuntime) -> Result<(), Fail> {
+    let alloc = rt.alloc();
+    let mut lots = two_lots(alloc)?;
+    let mut edges = ring_edges(alloc)?;
+    edges.push(Vec::new(alloc))?;
+    assert!(rt; hand_edges_over(&mut edges, &mut lots));
+    assert_eq!(rt; edge_counts(alloc, &lots)?.as_slice(), [3, 0].as_slice());
+    assert!(rt; hand_edges_over(&mut edges, &mut lots));
+    assert_eq!(rt; edge_counts(alloc, &lots)?.as_slice(), [0, 0].as_slice());
+    assert_eq!(rt; edges.first().map(|list| list.len()), Some(3));
+    Ok(())
+}
+
+#[test]
 fn messages_are_delivered(rt: HostRuntime) -> Result<(), Fail> {
     let alloc = rt.alloc();
     let mut lots = two_lots(alloc)?;
@@ -204,6 +277,6 @@ fn messages_are_delivered(rt: HostRuntime) -> Result<(), Fail> {
 #[test]
 fn flows_of_two_lots_are_added_up(rt: HostRuntime) -> Result<(), Fail> {
     let lots = two_lots(rt.alloc())?;
-    assert_eq!(rt; sums(&lots), [103, 30]);
+    assert_eq!(rt; sums(&lots), [121, 12]);
     Ok(())
 }

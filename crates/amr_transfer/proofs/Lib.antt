@@ -6,3 +6,7 @@ pub mod Halves
 pub mod Fours
 pub mod KeptOrSplit
 pub mod BoxRows
+pub mod ListParts
+pub mod ByRows
+pub mod PackedSums
+pub mod GivenRuns

@@ -2,16 +2,20 @@
 //!
 //! - [`split_into`]: the masses of a level that is made anew: kept where it had the cell, else shared out of the parent's.
 //! - [`sum_up`]: the masses of covered cells, as the sums of their children.
+//! - [`pack_sums`] and [`give_sums`]: the same in two halves. Workers each add up a run of the fine patches, and one of them gives
+//!   the coarse patches the sums of all runs. [`count_sums`] says how much room a run's sums take.
 //!
-//! Neither takes memory. Both go by rows of patches: a span of cells over one patch of the other level is one look-up.
+//! None takes memory. All go by rows of patches: a span of cells over one patch of the other level is one look-up.
 #![tactic(auto)]
 
 mod cells;
 mod giving;
 mod keeping;
+mod packing;
 mod splitting;
 mod summing;
 mod windows;
 
+pub use packing::{count_sums, give_sums, pack_sums};
 pub use splitting::split_into;
 pub use summing::sum_up;

@@ -25,7 +25,7 @@ struct Children<'a> {
 }
 
 /// Adds up fours of children: two neighbours of the lower row and the two above them.
-fn sum_rows(lower: &[u32], upper: &[u32], sums: &mut [u32])
+pub(crate) fn sum_rows(lower: &[u32], upper: &[u32], sums: &mut [u32])
     requires lower { 2 * length sums.old ≤ length lower.now }
     requires upper { 2 * length sums.old ≤ length upper.now }
     requires fits { (k : ℕ) → k < length sums.old → four_at lower.now upper.now k < 2 ^ 32 }
@@ -87,7 +87,7 @@ fn sum_span(
 }
 
 /// The masses of a row of a fine patch over a row of cells: the lower row of their children for `k` 0, the upper one for 1.
-fn children_row(fine: &Patch, c: Cell, k: u32) -> &[u32]
+pub(crate) fn children_row(fine: &Patch, c: Cell, k: u32) -> &[u32]
     requires from { negsuc near_limit <ℤ c.y }
     requires to { c.y <ℤ pos (near_limit + 1) }
     requires of_row { k ≤ 1 }

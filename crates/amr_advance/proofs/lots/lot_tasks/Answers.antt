@@ -1,4 +1,4 @@
-use Rattle.std.proofs.Common.{◌≡◌, ◌*◌, ◌≤◌, length, get_or, refl, sym, subst, arith}
+use Rattle.std.proofs.Common.{◌≡◌, ◌*◌, ◌≤◌, length, get_or, sym, subst, arith}
 use Rattle.std.specs.Option.{option_copied}
 use Rattle.amr_def.specs.Domain.{domain}
 use Rattle.amr_ghost.specs.Parts.{IsParted}
@@ -10,9 +10,16 @@ use Rattle.amr_advance.proofs.lots.lot_tasks.Goals as goal
 pub part_frames-requires-clause-enough : goal.part_frames-requires-clause-enough
 part_frames-requires-clause-enough c = plan_small (domain c.args.s.problem.now c.args.s.level) c.args.s.patches.now c.args.frames.now c.max-each.result c.parts_in-runs.result c.requires.frames c.parts_in-runs.ensures.enough
 
+pub lots_for-requires-clause-copies : goal.lots_for-requires-clause-copies
+lots_for-requires-clause-copies c = c.in_ok-parts.ensures.count
+
+pub lots_for-requires-clause-outer : goal.lots_for-requires-clause-outer
+lots_for-requires-clause-outer c = c.in_ok-parts.ensures.outer_count
+
 pub returns-clause-tasks : goal.returns-clause-tasks
 returns-clause-tasks c =
     let s = around c.args.s.problem.now c.args.s.level c.args.s.patches.now c.args.s.cells.now (option_copied c.args.s.finer) in
+    let parts = c.in_ok-parts.parts in
     let count : length c.in_ok-lots.lots.items ≡ c.parts_in-runs.result = c.in_ok-lots.ensures.count in
     record {
       some = omega (arith, c.max-each.ensures);
@@ -20,8 +27,7 @@ returns-clause-tasks c =
       edges = c.in_ok-flows.ensures.edges;
       plan = c.args.frames.now;
       planned = c.requires.frames;
-      parts = c.in_ok-across.field-0;
-      parted = subst (λ n. IsParted c.args.frames.now c.max-each.result n c.in_ok-across.field-0) (sym count) c.in_ok-across.ensures;
-      across = refl;
-      lots = λ k x lt. subst (λ n. IsLotOf s c.max-each.result k n c.in_ok-across.field-0 (get_or c.in_ok-lots.lots.items k x).value) (sym count) (c.in_ok-lots.ensures.lots k x c.in_ok-across.field-0 (omega (arith, lt, count)) (sym c.deref.ensures.value));
+      parts = parts;
+      parted = subst (λ n. IsParted c.args.frames.now c.max-each.result n parts) (sym count) c.in_ok-parts.ensures;
+      lots = λ k x lt. subst (λ n. IsLotOf s c.max-each.result k n parts (get_or c.in_ok-lots.lots.items k x).value) (sym count) (c.in_ok-lots.ensures.lots k x (omega (arith, lt, count)));
     }

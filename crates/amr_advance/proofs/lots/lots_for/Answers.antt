@@ -2,7 +2,6 @@ use Rattle.std.proofs.Common.{◌≡◌, [], ◌∷◌, ◌++◌, length, sym, a
 use Rattle.std.specs.Global.{Box}
 use Rattle.std.specs.Option.{option_copied}
 use Rattle.std.proofs.lemmas.List.{length-append}
-use Rattle.amr_ghost.specs.declared.parts.FrameParts.{FrameParts}
 use Rattle.amr_layout.specs.Surroundings.{around}
 use Rattle.amr_lots.specs.declared.lot.Lot.{Lot}
 use Rattle.amr_advance.specs.Lots.{IsLotOf}
@@ -20,9 +19,9 @@ loop-k-preserved c =
     record {
       count = omega (arith, ap length pushed, length-append lots (b ∷ []), done.count);
       room = omega (arith, done.room, c.push_reserved.ensures.capacity);
-      done = one_more (λ j (x : Box Lot). (parts : FrameParts) → parts.copies.items ≡ c.args.copies.now → IsLotOf s c.args.each j c.args.runs parts x.value) lots c.push_reserved.new.self.items b k done.count pushed done.done
-          (λ parts e. subst (λ (y : Lot). IsLotOf s c.args.each k c.args.runs parts y) (sym c.in_ok-new.ensures.ok) (c.in_ok-lot.ensures parts e));
+      done = one_more (λ j (x : Box Lot). IsLotOf s c.args.each j c.args.runs c.args.parts.now x.value) lots c.push_reserved.new.self.items b k done.count pushed done.done
+          (subst (λ (y : Lot). IsLotOf s c.args.each k c.args.runs c.args.parts.now y) (sym c.in_ok-new.ensures.ok) c.in_ok-lot.ensures);
     }
 
 pub returns-clause-lots : goal.returns-clause-lots
-returns-clause-lots c = λ k x parts lt e. c.loop-k.invariant.done k x (omega (arith, lt, c.loop-k-test.false)) parts e
+returns-clause-lots c = λ k x lt. c.loop-k.invariant.done k x (omega (arith, lt, c.loop-k-test.false))

@@ -2,7 +2,6 @@ use Rattle.std.proofs.Common.{◌≡◌, ℕ, ◌<◌, ◌≤◌, length}
 use Rattle.std.specs.Prelude.{slice_index_or, vec_capacity}
 use Rattle.std.specs.Option.{option_copied}
 use Rattle.std.specs.Global.{Box}
-use Rattle.amr_ghost.specs.declared.parts.FrameParts.{FrameParts}
 use Rattle.amr_layout.specs.Surroundings.{around}
 use Rattle.amr_lots.specs.declared.lot.Lot.{Lot}
 use Rattle.amr_advance.specs.Lots.{IsLotOf}
@@ -13,5 +12,5 @@ abbrev pub invariant-loop-k : goal.invariant-loop-k
 invariant-loop-k l = record {
   count : length l.lots.items ≡ l.k;
   room : l.runs ≤ vec_capacity l.lots;
-  done : (j : ℕ) (x : Box Lot) → j < l.k → (parts : FrameParts) → parts.copies.items ≡ l.copies → IsLotOf (around l.s.problem.now l.s.level l.s.patches.now l.s.cells.now (option_copied l.s.finer)) l.each j l.runs parts (slice_index_or l.lots.items j x).value;
+  done : (j : ℕ) (x : Box Lot) → j < l.k → IsLotOf (around l.s.problem.now l.s.level l.s.patches.now l.s.cells.now (option_copied l.s.finer)) l.each j l.runs l.parts (slice_index_or l.lots.items j x).value;
 }

@@ -8,7 +8,7 @@ use Rattle.amr_lots.specs.declared.lot.Lot.{Lot}
 use Rattle.amr_lots.specs.declared.lot.Phase.TheVariants.{Send}
 use Rattle.amr_lots.specs.Delivery.{with_phase}
 use Rattle.amr_lots.specs.Serving.{HasSent, IsServed, MaySend, MayServe}
-use Rattle.amr_advance.proofs.Sent.{when_lent}
+use Rattle.amr_advance.proofs.LotsHanded.{when_lent}
 use Rattle.amr_advance.proofs.sharing.pack_lots.Given as given
 use Rattle.amr_advance.proofs.sharing.pack_lots.Goals.{After-set_phase}
 use Rattle.amr_advance.proofs.sharing.pack_lots.Goals as goal

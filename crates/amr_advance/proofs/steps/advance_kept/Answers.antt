@@ -17,8 +17,9 @@ use Rattle.amr_patch.specs.Orders.{IsOrderOf}
 use Rattle.amr_patch.proofs.Standing.{order_of_boxes}
 use Rattle.amr_ghost.proofs.Inside.{patches_inside}
 use Rattle.amr_register.specs.declared.register.Register.{Register}
+use Rattle.amr_register.specs.Registers.{HasEdgesOf}
 use Rattle.amr_advance.specs.declared.kept.KeptLayout.{KeptLayout}
-use Rattle.amr_advance.specs.Kept.{IsCurrent}
+use Rattle.amr_advance.specs.Kept.{IsCurrent, totals_in}
 use Rattle.amr_advance.specs.Registers.{BothChange, taken}
 use Rattle.amr_advance.specs.Totals.{HasTotals}
 use Rattle.amr_advance.proofs.Advancing.{both_changed, cells_serve, inflow_is, outflow_is, some_may_absorb}
@@ -40,6 +41,10 @@ step_patches-stepped-requires-clause-cells g c κs within = λ qs same.
     subst (λ (xs : List Cell). HasRegisterCells (around c.args.p.now c.args.l qs xs (option_copied c.args.finer))) (sym c.cells_of.ensures)
     (cells_serve c.args.p.now c.args.l (level_of c.args.level.now) (option_copied c.args.old) c.args.regs.now.coarser qs (option_copied c.args.finer) c.requires.coarser c.requires.of_domain (same ∙ ap masses_in c.deref_mut.ensures.value ∙ sym c.take_patches-patches.ensures.masses))
 
+pub step_patches-stepped-requires-clause-edges : goal.step_patches-stepped-requires-clause-edges
+step_patches-stepped-requires-clause-edges g c κs within =
+    subst (λ (qs : List Patch). IfSome c.args.regs.now.finer (HasEdgesOf (map box qs))) (sym c.take_patches-patches.ensures.all ∙ sym c.deref_mut.ensures.value) c.requires.edges
+
 pub put_patches_in_order-requires-clause-order : goal.put_patches_in_order-requires-clause-order
 put_patches_in_order-requires-clause-order g c =
     order_of_boxes c.order-order.result c.take_patches-patches.result.items (with_items c.take_patches-patches.result c.step_patches-stepped.new.patches).items
@@ -51,12 +56,12 @@ add_totals-requires-clause-inflow g c =
     let m = (level_of c.args.level.now).masses in
     let old = old_masses (option_copied c.args.old) in
     let fine = finer_masses (option_copied c.args.finer) in
-    let ws = c.deref.result.now in
-    let read : ws ≡ c.in_ok-totals.totals.items = c.deref.ensures.value in
-    let count : length ws ≡ 2 + 2 * length c.cells_of.result.now = ap length read ∙ c.in_ok-totals.ensures.count in
+    let ws = c.totals_in.result.now in
+    let read : ws ≡ totals_in c.step_patches-stepped.new.kept = c.totals_in.ensures in
+    let count : length ws ≡ 2 + 2 * length c.cells_of.result.now = ap length read ∙ c.in_ok-stepped.ensures.count in
     let totals : HasTotals c.args.p.now c.args.l m old fine c.cells_of.result.now ws =
     subst (λ (xs : List ℕ). HasTotals c.args.p.now c.args.l m old fine c.cells_of.result.now xs) (sym read)
-    (subst (λ (n : Masses). HasTotals c.args.p.now c.args.l n old fine c.cells_of.result.now c.in_ok-totals.totals.items) (ap masses_in c.deref_mut.ensures.value ∙ sym c.take_patches-patches.ensures.masses) c.in_ok-totals.ensures.totals) in
+    (subst (λ (n : Masses). HasTotals c.args.p.now c.args.l n old fine c.cells_of.result.now (totals_in c.step_patches-stepped.new.kept)) (ap masses_in c.deref_mut.ensures.value ∙ sym c.take_patches-patches.ensures.masses) c.in_ok-stepped.ensures.totals) in
     omega (arith, c.requires.inflow, inflow_is c.args.p.now c.args.l m old fine c.cells_of.result.now ws totals count)
 
 pub add_totals-requires-clause-outflow : goal.add_totals-requires-clause-outflow
@@ -64,12 +69,12 @@ add_totals-requires-clause-outflow g c =
     let m = (level_of c.args.level.now).masses in
     let old = old_masses (option_copied c.args.old) in
     let fine = finer_masses (option_copied c.args.finer) in
-    let ws = c.deref.result.now in
-    let read : ws ≡ c.in_ok-totals.totals.items = c.deref.ensures.value in
-    let count : length ws ≡ 2 + 2 * length c.cells_of.result.now = ap length read ∙ c.in_ok-totals.ensures.count in
+    let ws = c.totals_in.result.now in
+    let read : ws ≡ totals_in c.step_patches-stepped.new.kept = c.totals_in.ensures in
+    let count : length ws ≡ 2 + 2 * length c.cells_of.result.now = ap length read ∙ c.in_ok-stepped.ensures.count in
     let totals : HasTotals c.args.p.now c.args.l m old fine c.cells_of.result.now ws =
     subst (λ (xs : List ℕ). HasTotals c.args.p.now c.args.l m old fine c.cells_of.result.now xs) (sym read)
-    (subst (λ (n : Masses). HasTotals c.args.p.now c.args.l n old fine c.cells_of.result.now c.in_ok-totals.totals.items) (ap masses_in c.deref_mut.ensures.value ∙ sym c.take_patches-patches.ensures.masses) c.in_ok-totals.ensures.totals) in
+    (subst (λ (n : Masses). HasTotals c.args.p.now c.args.l n old fine c.cells_of.result.now (totals_in c.step_patches-stepped.new.kept)) (ap masses_in c.deref_mut.ensures.value ∙ sym c.take_patches-patches.ensures.masses) c.in_ok-stepped.ensures.totals) in
     omega (arith, c.requires.outflow, outflow_is c.args.p.now c.args.l m old fine c.cells_of.result.now ws totals count)
 
 pub add_totals-requires-clause-coarser : goal.add_totals-requires-clause-coarser
@@ -77,12 +82,12 @@ add_totals-requires-clause-coarser g c =
     let k = level_of c.args.level.now in
     let old = old_masses (option_copied c.args.old) in
     let fine = finer_masses (option_copied c.args.finer) in
-    let ws = c.deref.result.now in
-    let read : ws ≡ c.in_ok-totals.totals.items = c.deref.ensures.value in
-    let count : length ws ≡ 2 + 2 * length c.cells_of.result.now = ap length read ∙ c.in_ok-totals.ensures.count in
+    let ws = c.totals_in.result.now in
+    let read : ws ≡ totals_in c.step_patches-stepped.new.kept = c.totals_in.ensures in
+    let count : length ws ≡ 2 + 2 * length c.cells_of.result.now = ap length read ∙ c.in_ok-stepped.ensures.count in
     let totals : HasTotals c.args.p.now c.args.l k.masses old fine c.cells_of.result.now ws =
     subst (λ (xs : List ℕ). HasTotals c.args.p.now c.args.l k.masses old fine c.cells_of.result.now xs) (sym read)
-    (subst (λ (n : Masses). HasTotals c.args.p.now c.args.l n old fine c.cells_of.result.now c.in_ok-totals.totals.items) (ap masses_in c.deref_mut.ensures.value ∙ sym c.take_patches-patches.ensures.masses) c.in_ok-totals.ensures.totals) in
+    (subst (λ (n : Masses). HasTotals c.args.p.now c.args.l n old fine c.cells_of.result.now (totals_in c.step_patches-stepped.new.kept)) (ap masses_in c.deref_mut.ensures.value ∙ sym c.take_patches-patches.ensures.masses) c.in_ok-stepped.ensures.totals) in
     some_may_absorb c.args.p.now c.args.l k (option_copied c.args.old) c.args.regs.now.coarser old fine ws c.requires.coarser c.requires.of_domain
     (subst (λ (xs : List Cell). HasTotals c.args.p.now c.args.l k.masses old fine xs ws) c.cells_of.ensures totals)
     (count ∙ ap (λ (xs : List Cell). 2 + 2 * length xs) c.cells_of.ensures) c.requires.fits.fluxes
@@ -94,19 +99,19 @@ returns-clause-masses g c =
     let old = old_masses (option_copied c.args.old) in
     let m : masses_in c.deref_mut.result.now ≡ (level_of c.args.level.now).masses = ap masses_in c.deref_mut.ensures.value ∙ sym c.take_patches-patches.ensures.masses in
     let listed = written_back c.take_patches-patches.result c.deref_mut.result.now c.step_patches-stepped.new.patches c.deref_mut.ensures.len c.step_patches-stepped.ensures.boxes in
-    c.put_patches_in_order.ensures.masses ∙ ap masses_in listed ∙ c.in_ok-totals.ensures.masses ∙ (λ i. updated (m i) (flux_at p l (m i) old))
+    c.put_patches_in_order.ensures.masses ∙ ap masses_in listed ∙ c.in_ok-stepped.ensures.masses ∙ (λ i. updated (m i) (flux_at p l (m i) old))
 
 pub returns-clause-coarser : goal.returns-clause-coarser
 returns-clause-coarser g c =
     let k = level_of c.args.level.now in
     let old = old_masses (option_copied c.args.old) in
     let fine = finer_masses (option_copied c.args.finer) in
-    let ws = c.deref.result.now in
-    let read : ws ≡ c.in_ok-totals.totals.items = c.deref.ensures.value in
-    let count : length ws ≡ 2 + 2 * length c.cells_of.result.now = ap length read ∙ c.in_ok-totals.ensures.count in
+    let ws = c.totals_in.result.now in
+    let read : ws ≡ totals_in c.step_patches-stepped.new.kept = c.totals_in.ensures in
+    let count : length ws ≡ 2 + 2 * length c.cells_of.result.now = ap length read ∙ c.in_ok-stepped.ensures.count in
     let totals : HasTotals c.args.p.now c.args.l k.masses old fine c.cells_of.result.now ws =
     subst (λ (xs : List ℕ). HasTotals c.args.p.now c.args.l k.masses old fine c.cells_of.result.now xs) (sym read)
-    (subst (λ (n : Masses). HasTotals c.args.p.now c.args.l n old fine c.cells_of.result.now c.in_ok-totals.totals.items) (ap masses_in c.deref_mut.ensures.value ∙ sym c.take_patches-patches.ensures.masses) c.in_ok-totals.ensures.totals) in
+    (subst (λ (n : Masses). HasTotals c.args.p.now c.args.l n old fine c.cells_of.result.now (totals_in c.step_patches-stepped.new.kept)) (ap masses_in c.deref_mut.ensures.value ∙ sym c.take_patches-patches.ensures.masses) c.in_ok-stepped.ensures.totals) in
     both_changed c.args.p.now c.args.l k (option_copied c.args.old) c.args.regs.now.coarser c.add_totals.new.regs.coarser old fine ws c.requires.coarser c.requires.of_domain
     (subst (λ (xs : List Cell). HasTotals c.args.p.now c.args.l k.masses old fine xs ws) c.cells_of.ensures totals)
     (count ∙ ap (λ (xs : List Cell). 2 + 2 * length xs) c.cells_of.ensures) c.add_totals.ensures.coarser
@@ -116,19 +121,19 @@ returns-clause-finer g c =
     let old = old_masses (option_copied c.args.old) in
     let fine = finer_masses (option_copied c.args.finer) in
     subst (λ (r : Option Register). BothChange (taken c.args.p.now c.args.l (level_of c.args.level.now).masses old fine) c.args.regs.now.finer r) (sym c.add_totals.ensures.finer)
-    (subst (λ (m : Masses). BothChange (taken c.args.p.now c.args.l m old fine) c.args.regs.now.finer c.step_patches-stepped.new.register) (ap masses_in c.deref_mut.ensures.value ∙ sym c.take_patches-patches.ensures.masses) c.in_ok-totals.ensures.register)
+    (subst (λ (m : Masses). BothChange (taken c.args.p.now c.args.l m old fine) c.args.regs.now.finer c.step_patches-stepped.new.register) (ap masses_in c.deref_mut.ensures.value ∙ sym c.take_patches-patches.ensures.masses) c.in_ok-stepped.ensures.register)
 
 pub returns-clause-inflow : goal.returns-clause-inflow
 returns-clause-inflow g c =
     let m = (level_of c.args.level.now).masses in
     let old = old_masses (option_copied c.args.old) in
     let fine = finer_masses (option_copied c.args.finer) in
-    let ws = c.deref.result.now in
-    let read : ws ≡ c.in_ok-totals.totals.items = c.deref.ensures.value in
-    let count : length ws ≡ 2 + 2 * length c.cells_of.result.now = ap length read ∙ c.in_ok-totals.ensures.count in
+    let ws = c.totals_in.result.now in
+    let read : ws ≡ totals_in c.step_patches-stepped.new.kept = c.totals_in.ensures in
+    let count : length ws ≡ 2 + 2 * length c.cells_of.result.now = ap length read ∙ c.in_ok-stepped.ensures.count in
     let totals : HasTotals c.args.p.now c.args.l m old fine c.cells_of.result.now ws =
     subst (λ (xs : List ℕ). HasTotals c.args.p.now c.args.l m old fine c.cells_of.result.now xs) (sym read)
-    (subst (λ (n : Masses). HasTotals c.args.p.now c.args.l n old fine c.cells_of.result.now c.in_ok-totals.totals.items) (ap masses_in c.deref_mut.ensures.value ∙ sym c.take_patches-patches.ensures.masses) c.in_ok-totals.ensures.totals) in
+    (subst (λ (n : Masses). HasTotals c.args.p.now c.args.l n old fine c.cells_of.result.now (totals_in c.step_patches-stepped.new.kept)) (ap masses_in c.deref_mut.ensures.value ∙ sym c.take_patches-patches.ensures.masses) c.in_ok-stepped.ensures.totals) in
     c.add_totals.ensures.inflow ∙ ap (λ n. c.args.regs.now.inflow + n) (inflow_is c.args.p.now c.args.l m old fine c.cells_of.result.now ws totals count)
 
 pub returns-clause-outflow : goal.returns-clause-outflow
@@ -136,12 +141,12 @@ returns-clause-outflow g c =
     let m = (level_of c.args.level.now).masses in
     let old = old_masses (option_copied c.args.old) in
     let fine = finer_masses (option_copied c.args.finer) in
-    let ws = c.deref.result.now in
-    let read : ws ≡ c.in_ok-totals.totals.items = c.deref.ensures.value in
-    let count : length ws ≡ 2 + 2 * length c.cells_of.result.now = ap length read ∙ c.in_ok-totals.ensures.count in
+    let ws = c.totals_in.result.now in
+    let read : ws ≡ totals_in c.step_patches-stepped.new.kept = c.totals_in.ensures in
+    let count : length ws ≡ 2 + 2 * length c.cells_of.result.now = ap length read ∙ c.in_ok-stepped.ensures.count in
     let totals : HasTotals c.args.p.now c.args.l m old fine c.cells_of.result.now ws =
     subst (λ (xs : List ℕ). HasTotals c.args.p.now c.args.l m old fine c.cells_of.result.now xs) (sym read)
-    (subst (λ (n : Masses). HasTotals c.args.p.now c.args.l n old fine c.cells_of.result.now c.in_ok-totals.totals.items) (ap masses_in c.deref_mut.ensures.value ∙ sym c.take_patches-patches.ensures.masses) c.in_ok-totals.ensures.totals) in
+    (subst (λ (n : Masses). HasTotals c.args.p.now c.args.l n old fine c.cells_of.result.now (totals_in c.step_patches-stepped.new.kept)) (ap masses_in c.deref_mut.ensures.value ∙ sym c.take_patches-patches.ensures.masses) c.in_ok-stepped.ensures.totals) in
     c.add_totals.ensures.outflow ∙ ap (λ n. c.args.regs.now.outflow + n) (outflow_is c.args.p.now c.args.l m old fine c.cells_of.result.now ws totals count)
 
 pub step_patches-stepped-requires-clause-current : goal.step_patches-stepped-requires-clause-current
@@ -152,6 +157,6 @@ pub returns-clause-current : goal.returns-clause-current
 returns-clause-current g c =
     still_current c.step_patches-stepped.new.kept c.take_patches-patches.result c.deref_mut.result.now c.step_patches-stepped.new.patches _ c.deref_mut.ensures.len c.step_patches-stepped.ensures.boxes c.put_patches_in_order.ensures.masses c.step_patches-stepped.ensures.current
 
-pub returns-in_err-totals-clause-current : goal.returns-in_err-totals-clause-current
-returns-in_err-totals-clause-current g c =
+pub returns-in_err-stepped-clause-current : goal.returns-in_err-stepped-clause-current
+returns-in_err-stepped-clause-current g c =
     still_current c.step_patches-stepped.new.kept c.take_patches-patches.result c.deref_mut.result.now c.step_patches-stepped.new.patches _ c.deref_mut.ensures.len c.step_patches-stepped.ensures.boxes c.put_patches_in_order.ensures.masses c.step_patches-stepped.ensures.current

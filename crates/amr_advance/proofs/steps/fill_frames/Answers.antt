@@ -1,6 +1,4 @@
-use Rattle.std.proofs.Common.{◌≡◌, ◌∙◌, ℕ, true, List, IfSome, refl, sym}
-use Rattle.std.specs.declared.option.Option.{Option}
-use Rattle.std.specs.declared.option.Option.TheVariants.{None, Some}
+use Rattle.std.proofs.Common.{◌≡◌, ◌∙◌, ℕ, true, List, refl, sym}
 use Rattle.std.specs.Option.{option_copied}
 use Rattle.amr_def.specs.declared.problem.Problem.{Problem}
 use Rattle.amr_def.specs.Domain.{domain}
@@ -9,7 +7,6 @@ use Rattle.amr_ghost.specs.Frames.{AreInDomain, old_masses}
 use Rattle.amr_layout.specs.Surroundings.{around}
 use Rattle.amr_patch.specs.declared.patches.Patch.{Patch}
 use Rattle.amr_patch.specs.Patches.{ArePatchesApart}
-use Rattle.amr_register.specs.declared.register.Register.{Register}
 use Rattle.amr_advance.specs.declared.tasks.Tasks.{Tasks}
 use Rattle.amr_advance.specs.declared.tasks.Tasks.TheVariants.{Board, Lone, Lots}
 use Rattle.amr_advance.specs.Shown.{AreShown}
@@ -28,10 +25,6 @@ module _ (p : Problem) (l : ℕ) (old : Masses) (qs : List Patch) where
   shown_filled (Lone t) h = h
   shown_filled (Lots t) h = (h.apart, h.inside)
   shown_filled (Board t) h = h
-
-on_some : (r : Option Register) (X : Type 0) → X → IfSome r (λ s. X)
-on_some None X x = tt
-on_some (Some r) X x = x
 
 pub returns-then-are_lots-clause-filled : goal.returns-then-are_lots-clause-filled
 returns-then-are_lots-clause-filled c =
@@ -59,12 +52,6 @@ returns-clause-filled c =
     let f = c.fill_planned.ensures in
     let shown : AreShown c.args.given.problem.now c.args.given.level (old_masses (option_copied c.args.given.old)) c.fill_planned.new.patches = all_shown c.args.given.problem.now c.args.given.level (old_masses (option_copied c.args.given.old)) c.args.patches.now c.fill_planned.new.patches c.requires.apart c.requires.inside f.filled f.marked f.masses f.corners f.fluxes f.boxes in
     shown_filled c.args.given.problem.now c.args.given.level (old_masses (option_copied c.args.given.old)) c.fill_planned.new.patches c.args.layout.now.tasks shown
-
-pub returns-clause-shown : goal.returns-clause-shown
-returns-clause-shown c =
-    let f = c.fill_planned.ensures in
-    let shown : AreShown c.args.given.problem.now c.args.given.level (old_masses (option_copied c.args.given.old)) c.fill_planned.new.patches = all_shown c.args.given.problem.now c.args.given.level (old_masses (option_copied c.args.given.old)) c.args.patches.now c.fill_planned.new.patches c.requires.apart c.requires.inside f.filled f.marked f.masses f.corners f.fluxes f.boxes in
-    on_some c.args.register.now (AreShown c.args.given.problem.now c.args.given.level (old_masses (option_copied c.args.given.old)) c.fill_planned.new.patches) shown
 
 pub returns-clause-layout : goal.returns-clause-layout
 returns-clause-layout c =

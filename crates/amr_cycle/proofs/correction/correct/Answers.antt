@@ -13,13 +13,13 @@ use Rattle.amr_cycle.specs.Cycles.{entries_of}
 use Rattle.amr_cycle.proofs.correction.correct.Goals as goal
 
 pub correct_by-requires-clause-of_level : goal.correct_by-requires-clause-of_level
-correct_by-requires-clause-of_level c = subst (λ (r : Option Register). (q : Cell) → Contains (cells_of r) q → IsSome ((level_of c.args.level.now).masses q)) c.in-Some.is c.requires.of_level
+correct_by-requires-clause-of_level g c = subst (λ (r : Option Register). (q : Cell) → Contains (cells_of r) q → IsSome ((level_of c.args.level.now).masses q)) c.in-Some.is c.requires.of_level
 
 pub correct_by-requires-clause-kept : goal.correct_by-requires-clause-kept
-correct_by-requires-clause-kept c = subst (λ (r : Option Register). (q : Cell) → Contains (cells_of r) q → pos 0 ≤ℤ (pos (mass_of (level_of c.args.level.now).masses q) +ℤ entries_of r q)) c.in-Some.is c.requires.kept
+correct_by-requires-clause-kept g c = subst (λ (r : Option Register). (q : Cell) → Contains (cells_of r) q → pos 0 ≤ℤ (pos (mass_of (level_of c.args.level.now).masses q) +ℤ entries_of r q)) c.in-Some.is c.requires.kept
 
 pub correct_by-requires-clause-fits : goal.correct_by-requires-clause-fits
-correct_by-requires-clause-fits c = subst (λ (r : Option Register). (q : Cell) → Contains (cells_of r) q → (pos (mass_of (level_of c.args.level.now).masses q) +ℤ entries_of r q) <ℤ pos (2 ^ 32)) c.in-Some.is c.requires.fits
+correct_by-requires-clause-fits g c = subst (λ (r : Option Register). (q : Cell) → Contains (cells_of r) q → (pos (mass_of (level_of c.args.level.now).masses q) +ℤ entries_of r q) <ℤ pos (2 ^ 32)) c.in-Some.is c.requires.fits
 
 pub returns-clause-masses : goal.returns-clause-masses
-returns-clause-masses c = subst (λ (r : Option Register). (level_of c.correct_by.new.level).masses ≡ summed (level_of c.args.finer.now).masses (with_entries (entries_of r) (level_of c.args.level.now).masses)) (sym c.in-Some.is) c.correct_by.ensures.masses
+returns-clause-masses g c = subst (λ (r : Option Register). (level_of c.correct_by.new.level).masses ≡ summed (level_of c.args.finer.now).masses (with_entries (entries_of r) (level_of c.args.level.now).masses)) (sym c.in-Some.is) c.correct_by.ensures.masses

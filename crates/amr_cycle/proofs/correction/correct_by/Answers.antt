@@ -8,11 +8,11 @@ use Rattle.amr_register.specs.Registers.{entry_in}
 use Rattle.amr_cycle.proofs.Keeping.{some_with_entries}
 use Rattle.amr_cycle.proofs.correction.correct_by.Goals as goal
 
-pub sum_up-requires-clause-parents : goal.sum_up-requires-clause-parents
-sum_up-requires-clause-parents c = λ q there.
+pub sum_up_kept-requires-clause-parents : goal.sum_up_kept-requires-clause-parents
+sum_up_kept-requires-clause-parents g c = λ q there.
     ap (λ (m : Masses). is_some (m (parent q))) c.reflux.ensures.masses ∙ some_with_entries (entry_in c.args.register.now) (level_of c.args.level.now).masses (parent q) ∙ c.requires.parents q there
 
 pub returns-clause-patches : goal.returns-clause-patches
-returns-clause-patches c =
-    kept_boxes (patches_of c.reflux.new.level) (patches_of c.sum_up.new.coarse) c.sum_up.ensures.patches
+returns-clause-patches g c =
+    kept_boxes (patches_of c.reflux.new.level) (patches_of c.sum_up_kept.new.coarse) c.sum_up_kept.ensures.patches
     ∙ kept_boxes (patches_of c.args.level.now) (patches_of c.reflux.new.level) c.reflux.ensures.patches

@@ -1,5 +1,7 @@
-use Rattle.std.proofs.Common.{sym}
+use Rattle.std.proofs.Common.{List, sym, subst}
+use Rattle.amr_box.specs.Cells.{Extent}
 use Rattle.amr_patch.specs.Levels.{level_of}
+use Rattle.amr_register.specs.Registers.{HasEdgesOf}
 use Rattle.amr_alike.proofs.SameBoxes.{some_in_boxes}
 use Rattle.amr_cycle.proofs.kept.make_below.Goals as goal
 
@@ -8,4 +10,5 @@ returns-clause-below c = record {
   before = c.requires.before;
   finer = some_in_boxes (level_of c.args.next.now).masses c.patches.result.now c.in_ok-boxes_of.field-0.items c.patches.ensures.masses (sym c.in_ok-boxes_of.ensures);
   register = c.in_ok-make.ensures.cells;
+  edges = subst (λ (bs : List Extent). HasEdgesOf bs c.in_ok-make.field-0) (sym c.requires.patches) c.in_ok-make.ensures.edges;
 }

@@ -1,18 +1,23 @@
-use Rattle.std.proofs.Common.{List, ◌∷◌, map, ap, subst, ◌∙◌, arith}
+use Rattle.std.proofs.Common.{ℕ, ◌+◌, ◌<◌, List, ◌∷◌, get_or, length, map, set, sym, ap, subst, ◌∙◌, arith}
 use Rattle.std.specs.Option.{option_copied}
 use Rattle.amr_def.specs.declared.problem.Problem.{Problem}
 use Rattle.amr_laws.specs.Sides.{inflow_beside, outflow_beside}
 use Rattle.amr_patch.specs.declared.levels.Level.{Level as Held}
-use Rattle.amr_patch.specs.Levels.{level_of}
+use Rattle.amr_patch.specs.Levels.{level_of, patches_of}
+use Rattle.amr_patch.specs.Patches.{box}
 use Rattle.amr_ghost.specs.Frames.{old_masses}
-use Rattle.amr_def.specs.State.{Masses}
+use Rattle.amr_def.specs.State.{Level, Masses}
 use Rattle.amr_register.specs.Entries.{with_entries}
 use Rattle.amr_transfer.specs.Sums.{summed}
 use Rattle.amr_cycle.specs.Cycles.{entries_of}
+use Rattle.amr_cycle.specs.declared.kept.KeptLevel.{KeptLevel}
 use Rattle.amr_cycle.specs.Kept.{AreCurrent, AreKept}
 use Rattle.std.proofs.lemmas.Result.{on_ok_weaker}
-use Rattle.amr_cycle.proofs.KeptLaws.{all_below_after, current_all, current_first, current_rest, kept_all, kept_first, kept_rest}
+use Rattle.amr_cycle.proofs.KeptLaws.{all_below_after, current_again, current_all, current_first, current_rest, kept_again, kept_all, kept_first, kept_rest}
+use Rattle.amr_cycle.proofs.Registers.{edges_stay}
 use Rattle.amr_cycle.proofs.Whole.{coarser_1, coarser_2, fits_2, flows_1, flows_2, flows_split, has2, kept_2, levels_are, next2_coarsenable, of_level_2, parents_2, part_1, part_2, rest1_coarsenable, rest_coarsenable, small_2}
+use Rattle.amr_cycle.proofs.levels.+step_levels.Given as given
+use Rattle.amr_cycle.proofs.levels.+step_levels.Goals.{In_ok-step_levels-2}
 use Rattle.amr_cycle.proofs.levels.+step_levels.Goals as goal
 
 pub step_coarse-requires-clause-inflow : goal.step_coarse-requires-clause-inflow
@@ -127,7 +132,8 @@ correct-requires-clause-small g t c =
 
 pub returns-clause-levels : goal.returns-clause-levels
 returns-clause-levels g t c =
-    levels_are c.args.given.now.problem.now c.args.given.now.level (level_of c.args.level.now) c.args.finer.now (old_masses (option_copied c.args.given.now.old)) c.requires.part c.in-Some-split_first_mut.next.now c.in-Some-split_first_mut.finest.now c.in-Some-split_first_mut.ensures.cases.0 c.in_ok-below.below.before c.in_ok-below.ensures.before c.in_ok-below.below.regs.coarser c.in_ok-below.ensures.register c.for_finer-inner.result.problem.now c.for_finer-inner.ensures.problem c.for_finer-inner.result.level c.for_finer-inner.ensures.level (option_copied c.for_finer-inner.result.old) c.for_finer-inner.ensures.old
+    (λ i. level_of c.correct.new.level ∷ c.correct.ensures.finer i ∷ map level_of c.step_levels-2.new.finer)
+    ∙ levels_are c.args.given.now.problem.now c.args.given.now.level (level_of c.args.level.now) c.args.finer.now (old_masses (option_copied c.args.given.now.old)) c.requires.part c.in-Some-split_first_mut.next.now c.in-Some-split_first_mut.finest.now c.in-Some-split_first_mut.ensures.cases.0 c.in_ok-below.below.before c.in_ok-below.ensures.before c.in_ok-below.below.regs.coarser c.in_ok-below.ensures.register c.for_finer-inner.result.problem.now c.for_finer-inner.ensures.problem c.for_finer-inner.result.level c.for_finer-inner.ensures.level (option_copied c.for_finer-inner.result.old) c.for_finer-inner.ensures.old
     c.step_levels.new.level c.step_levels.new.finer c.step_levels.new.regs.coarser c.in_ok-step_levels.ensures.levels c.in_ok-step_levels.ensures.patches c.in_ok-step_levels.ensures.coarser
     c.step_levels-2.new.level c.step_levels-2.new.finer c.step_levels-2.new.regs.coarser c.in_ok-step_levels-2.ensures.levels c.in_ok-step_levels-2.ensures.patches c.in_ok-step_levels-2.ensures.coarser
     (level_of c.correct.new.level) (c.correct.ensures.boxes ∙ c.in_ok-below.ensures.boxes)
@@ -172,6 +178,10 @@ step_coarse-requires-clause-kept g t c κs within = kept_first c.args.given.now.
 pub step_levels-requires-clause-kept : goal.step_levels-requires-clause-kept
 step_levels-requires-clause-kept g t c κs within = rw (c.for_finer-inner.ensures.problem, c.for_finer-inner.ensures.level) (kept_rest c.args.given.now.problem.now c.args.given.now.level c.in-Some.own.now c.in-Some.rest.now c.args.kept.now c.in-Some.ensures.cases.0 c.requires.kept)
 
+-- something is kept of the next finer level
+first_kept : (g : given.Over) (t : ℕ) (c : In_ok-step_levels-2 g t) → 0 < length c.step_levels-2.new.kept
+first_kept g t c = omega (arith, c.in_ok-step_levels-2.ensures.kept_count, c.in_ok-step_levels.ensures.kept_count, c.requires.room, ap length c.in-Some.ensures.cases.0, ap length c.in-Some-split_first_mut.ensures.cases.0)
+
 pub returns-clause-kept : goal.returns-clause-kept
 returns-clause-kept g t c =
     let p = c.args.given.now.problem.now in
@@ -183,12 +193,16 @@ returns-clause-kept g t c =
     has2 c.args.given.now.problem.now c.args.given.now.level (level_of c.args.level.now) c.args.finer.now (old_masses (option_copied c.args.given.now.old)) c.requires.part c.in-Some-split_first_mut.next.now c.in-Some-split_first_mut.finest.now c.in-Some-split_first_mut.ensures.cases.0 c.in_ok-below.below.before c.in_ok-below.ensures.before c.in_ok-below.below.regs.coarser c.in_ok-below.ensures.register c.for_finer-inner.result.problem.now c.for_finer-inner.ensures.problem c.for_finer-inner.result.level c.for_finer-inner.ensures.level (option_copied c.for_finer-inner.result.old) c.for_finer-inner.ensures.old
     c.step_levels.new.level c.step_levels.new.finer c.step_levels.new.regs.coarser c.in_ok-step_levels.ensures.levels c.in_ok-step_levels.ensures.patches c.in_ok-step_levels.ensures.coarser
     c.step_levels-2.new.level c.step_levels-2.new.finer c.step_levels-2.new.regs.coarser c.in_ok-step_levels-2.ensures.levels c.in_ok-step_levels-2.ensures.patches c.in_ok-step_levels-2.ensures.coarser in
-    kept_all p c.args.given.now.level (record { layout = c.step_coarse.new.own.layout; below = c.kept_of.result }) c.step_levels-2.new.kept
+    let again : KeptLevel = record { layout = c.correct.new.layout; below = (get_or c.step_levels-2.new.kept 0 c.index-rest-0.result).below } in
+    let edges =
+    edges_stay (map box (patches_of c.in_ok-below.below.before)) _ c.step_levels.new.regs.coarser c.step_levels-2.new.regs.coarser c.in_ok-step_levels-2.ensures.coarser
+    (edges_stay (map box (patches_of c.in_ok-below.below.before)) _ c.in_ok-below.below.regs.coarser c.step_levels.new.regs.coarser c.in_ok-step_levels.ensures.coarser c.in_ok-below.ensures.edges) in
+    kept_all p c.args.given.now.level (record { layout = c.step_coarse.new.own.layout; below = c.kept_of.result }) (set c.step_levels-2.new.kept 0 again)
     (record {
       layout = c.in_ok-below.ensures.layout;
-      below = all_below_after p c.args.given.now.level k fine _ c.kept_of.result c.in_ok-below.below.before c.in_ok-below.below.finer c.step_levels-2.new.regs.coarser c.in_ok-below.ensures.before c.in_ok-below.ensures.finer_boxes c.kept_of.ensures has;
+      below = all_below_after p c.args.given.now.level k fine _ c.kept_of.result c.in_ok-below.below.before c.in_ok-below.below.finer c.step_levels-2.new.regs.coarser c.in_ok-below.ensures.before c.in_ok-below.ensures.finer_boxes c.kept_of.ensures has edges;
     })
-    finer
+    (kept_again p (c.args.given.now.level + 1) c.correct.new.layout c.index-rest-0.result c.step_levels-2.new.kept (first_kept g t (goal.at.returns-clause-kept g t c).In_ok-step_levels-2) c.correct.ensures.layout finer)
 
 pub step_finest-requires-clause-current : goal.step_finest-requires-clause-current
 step_finest-requires-clause-current g t c κs within = current_first (level_of c.args.level.now) (map level_of c.args.finer.now) c.in-Some.own.now c.in-Some.rest.now c.args.kept.now c.in-Some.ensures.cases.0 c.requires.current
@@ -207,4 +221,9 @@ step_levels-requires-clause-current g t c κs within =
 
 pub returns-clause-current : goal.returns-clause-current
 returns-clause-current g t c =
-    current_all (level_of c.correct.new.level) (level_of c.step_levels-2.new.level ∷ map level_of c.step_levels-2.new.finer) (record { layout = c.step_coarse.new.own.layout; below = c.kept_of.result }) c.step_levels-2.new.kept (c.in_ok-below.ensures.current (level_of c.correct.new.level).masses) c.in_ok-step_levels-2.ensures.current
+    let again : KeptLevel = record { layout = c.correct.new.layout; below = (get_or c.step_levels-2.new.kept 0 c.index-rest-0.result).below } in
+    let next = level_of c.step_levels-2.new.level in
+    let finest = map level_of c.step_levels-2.new.finer in
+    subst (λ (k : Level). AreCurrent (level_of c.correct.new.level ∷ k ∷ finest) (record { layout = c.step_coarse.new.own.layout; below = c.kept_of.result } ∷ set c.step_levels-2.new.kept 0 again)) (sym c.correct.ensures.finer)
+    (current_all (level_of c.correct.new.level) (next ∷ finest) (record { layout = c.step_coarse.new.own.layout; below = c.kept_of.result }) (set c.step_levels-2.new.kept 0 again) (c.in_ok-below.ensures.current (level_of c.correct.new.level).masses)
+    (current_again next finest again c.index-rest-0.result c.step_levels-2.new.kept (first_kept g t (goal.at.returns-clause-current g t c).In_ok-step_levels-2) (c.correct.ensures.current next.masses) c.in_ok-step_levels-2.ensures.current))

@@ -1,7 +1,7 @@
 use Rattle.std.proofs.Common.{◌∙◌, ap}
 use Rattle.std.specs.Result.{result_ok}
-use Rattle.amr_ghost.proofs.Packing.{counted_more}
+use Rattle.amr_ghost.proofs.Counts.{copies_counted, counted_more}
 use Rattle.amr_ghost.proofs.messages.count_masses.Goals as goal
 
 pub loop-k-preserved : goal.loop-k-preserved
-loop-k-preserved c = counted_more c.args.copies.now c.loop-k.k _ _ c.checked_add.result c.loop-k.count c.in_ok-count.count c.loop-k-test.true c.loop-k.invariant c.checked_add.ensures (c.ok_or.ensures.ok_part ∙ ap result_ok c.in_ok-count.was)
+loop-k-preserved c = counted_more copies_counted c.args.copies.now c.loop-k.k _ _ c.checked_add.result c.loop-k.count c.in_ok-count.count c.loop-k-test.true c.loop-k.invariant c.checked_add.ensures (c.ok_or.ensures.ok_part ∙ ap result_ok c.in_ok-count.was)

@@ -5,7 +5,7 @@ use Rattle.amr_ghost.proofs.Parting.{none_parted}
 use Rattle.amr_ghost.proofs.parts.part_frames.Goals as goal
 
 pub loop-k-init : goal.loop-k-init
-loop-k-init c = none_parted c.args.plan.now.spans.items c.args.width c.args.runs _ c.new.ensures.items c.in_ok-no_copies.ensures.count c.in_ok-no_copies.ensures.empty
+loop-k-init c = none_parted c.args.plan.now.spans.items c.args.width c.args.runs _ c.in_ok-no_lists.ensures.count c.in_ok-no_lists.ensures.empty c.in_ok-no_lists-2.ensures.count c.in_ok-no_lists-2.ensures.empty
 
 pub part_span-requires-clause-there : goal.part_span-requires-clause-there
 part_span-requires-clause-there c =

@@ -7,7 +7,7 @@ use Rattle.amr_patch.specs.Patches.{box, masses_in}
 use Rattle.amr_ghost.specs.Frames.{is_of_level, old_masses}
 use Rattle.amr_ghost.specs.Plans.{IsSource, StandForHeld, StandInGap}
 use Rattle.amr_ghost.proofs.Spans.{span_copied}
-use Rattle.amr_ghost.proofs.Beyond.{gap_given, outside_given}
+use Rattle.amr_ghost.proofs.Beyond.{gap_given, gap_none, outside_given, outside_none}
 use Rattle.amr_ghost.proofs.Levels.{some_patch}
 use Rattle.amr_ghost.proofs.sources.place_span.Goals as goal
 
@@ -59,7 +59,8 @@ returns-in-Outside-clause-ghosts c =
     let home : c.home_cell-home.result ≡ home_cell d s.strip.from = subst (λ e. c.home_cell-home.result ≡ home_cell e s.strip.from) c.domain.ensures c.home_cell-home.ensures in
     let outer : in_domain d (home_cell d s.strip.from) ≡ false = subst (IsSource d ps s.strip) c.in-Outside.is c.requires.span.source in
     c.set_strip.ensures.ghosts (value_at c.args.p.now c.args.l (masses_in ps) old) (is_of_level c.args.p.now c.args.l (masses_in ps))
-    (outside_given c.args.p.now c.args.l ps old (box (get_or ps s.patch q)) s.strip.axis s.strip.from c.home_cell-home.result s.strip.count home c.requires.span.some (c.requires.span.ghost_strip q) c.outside_value-value.result c.requires.inside (ap (in_domain d) home ∙ outer) c.outside_value-value.ensures.value)
+    (outside_given c.args.p.now c.args.l (masses_in ps) old s.strip.axis s.strip.from c.home_cell-home.result s.strip.count home c.requires.span.some (c.requires.span.ghost_strip q).inside c.outside_value-value.result
+    (outside_none d s.strip.axis s.strip.from c.home_cell-home.result s.strip.count home c.requires.span.some (c.requires.span.ghost_strip q).inside ps c.requires.inside (ap (in_domain d) home ∙ outer)) (ap (in_domain d) home ∙ outer) c.outside_value-value.ensures.value)
 
 pub returns-in-Outside-clause-set : goal.returns-in-Outside-clause-set
 returns-in-Outside-clause-set c q =
@@ -70,7 +71,8 @@ returns-in-Outside-clause-set c q =
     let home : c.home_cell-home.result ≡ home_cell d s.strip.from = subst (λ e. c.home_cell-home.result ≡ home_cell e s.strip.from) c.domain.ensures c.home_cell-home.ensures in
     let outer : in_domain d (home_cell d s.strip.from) ≡ false = subst (IsSource d ps s.strip) c.in-Outside.is c.requires.span.source in
     c.set_strip.ensures.set (value_at c.args.p.now c.args.l (masses_in ps) old) (is_of_level c.args.p.now c.args.l (masses_in ps)) q
-    (outside_given c.args.p.now c.args.l ps old (box (get_or ps s.patch q)) s.strip.axis s.strip.from c.home_cell-home.result s.strip.count home c.requires.span.some (c.requires.span.ghost_strip q) c.outside_value-value.result c.requires.inside (ap (in_domain d) home ∙ outer) c.outside_value-value.ensures.value)
+    (outside_given c.args.p.now c.args.l (masses_in ps) old s.strip.axis s.strip.from c.home_cell-home.result s.strip.count home c.requires.span.some (c.requires.span.ghost_strip q).inside c.outside_value-value.result
+    (outside_none d s.strip.axis s.strip.from c.home_cell-home.result s.strip.count home c.requires.span.some (c.requires.span.ghost_strip q).inside ps c.requires.inside (ap (in_domain d) home ∙ outer)) (ap (in_domain d) home ∙ outer) c.outside_value-value.ensures.value)
 
 pub returns-in-Beside-clause-ghosts : goal.returns-in-Beside-clause-ghosts
 returns-in-Beside-clause-ghosts c =
@@ -102,7 +104,8 @@ returns-in-Coarser-clause-ghosts c =
     let gap : StandInGap d ps s.strip c.in-Coarser.home = subst (IsSource d ps s.strip) c.in-Coarser.is c.requires.span.source in
     let q : Patch = some_patch ps s.patch c.requires.span.there in
     c.quarter_spans.ensures.ghosts (value_at c.args.p.now c.args.l (masses_in ps) old) (is_of_level c.args.p.now c.args.l (masses_in ps))
-    (gap_given c.args.p.now c.args.l ps old (box (get_or ps s.patch q)) s.strip.axis s.strip.from c.in-Coarser.home s.strip.count gap.home c.requires.span.some (c.requires.span.ghost_strip q) s.strip.count (omega arith) gap.inside gap.gap)
+    (gap_given c.args.p.now c.args.l (masses_in ps) old s.strip.axis s.strip.from c.in-Coarser.home s.strip.count gap.home c.requires.span.some (c.requires.span.ghost_strip q).inside s.strip.count (omega arith) gap.inside
+    (gap_none d s.strip.axis s.strip.from c.in-Coarser.home s.strip.count gap.home c.requires.span.some (c.requires.span.ghost_strip q).inside ps s.strip.count gap.gap))
 
 pub returns-in-Coarser-clause-set : goal.returns-in-Coarser-clause-set
 returns-in-Coarser-clause-set c q =
@@ -112,4 +115,5 @@ returns-in-Coarser-clause-set c q =
     let old = old_masses (option_copied c.args.old) in
     let gap : StandInGap d ps s.strip c.in-Coarser.home = subst (IsSource d ps s.strip) c.in-Coarser.is c.requires.span.source in
     c.quarter_spans.ensures.set (value_at c.args.p.now c.args.l (masses_in ps) old) (is_of_level c.args.p.now c.args.l (masses_in ps)) q
-    (gap_given c.args.p.now c.args.l ps old (box (get_or ps s.patch q)) s.strip.axis s.strip.from c.in-Coarser.home s.strip.count gap.home c.requires.span.some (c.requires.span.ghost_strip q) s.strip.count (omega arith) gap.inside gap.gap)
+    (gap_given c.args.p.now c.args.l (masses_in ps) old s.strip.axis s.strip.from c.in-Coarser.home s.strip.count gap.home c.requires.span.some (c.requires.span.ghost_strip q).inside s.strip.count (omega arith) gap.inside
+    (gap_none d s.strip.axis s.strip.from c.in-Coarser.home s.strip.count gap.home c.requires.span.some (c.requires.span.ghost_strip q).inside ps s.strip.count gap.gap))

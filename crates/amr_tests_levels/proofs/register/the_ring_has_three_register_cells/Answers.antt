@@ -1,4 +1,4 @@
-use Rattle.std.proofs.Common.{◌∙◌, pos, List, [], ◌∷◌, ap, subst, sym, arith}
+use Rattle.std.proofs.Common.{◌∙◌, pos, List, [], ◌∷◌, ap, subst, arith}
 use Rattle.std.specs.Prelude.{slice_index_or}
 use Rattle.std.specs.List.{Contains}
 use Rattle.std.proofs.lemmas.Int.{ints}
@@ -11,7 +11,7 @@ use Rattle.amr_register.specs.Registers.{cells_in, entry_in}
 use Rattle.amr_register.proofs.CellLists.{of_level, where_passes}
 use Rattle.amr_samples.proofs.OneBox.{finer_ring, nested_ring, whole_ring}
 use Rattle.amr_tests_levels.proofs.OneBoxLevels.{cells_of}
-use Rattle.amr_tests_levels.proofs.RefluxedRing.{at_most, entries_small, patch_inside, same_cells}
+use Rattle.amr_tests_levels.proofs.RefluxedRing.{at_most, entries_small, same_cells}
 use Rattle.amr_tests_levels.proofs.register.the_ring_has_three_register_cells.Goals as goal
 
 pub make-requires-clause-coarse : goal.make-requires-clause-coarse
@@ -43,25 +43,6 @@ absorb-requires-clause-low g c = λ q. let zero = c.in_ok-register.ensures.zero 
 
 pub absorb-requires-clause-high : goal.absorb-requires-clause-high
 absorb-requires-clause-high g c = λ q. let zero = c.in_ok-register.ensures.zero (slice_index_or (cells_in c.in_ok-register.register) 0 q) in omega (arith, ints, zero)
-
-pub coarse_part-requires-clause-inside : goal.coarse_part-requires-clause-inside
-coarse_part-requires-clause-inside g c =
-    let k = level_of c.in_ok-coarse.coarse in
-    let b = c.whole_box.result in
-    let w = cell (pos 1) (pos 0) in
-    let after = (level_of c.set.new.self).masses in
-    let f = level_of c.in_ok-fine.fine in
-    let e = c.fine_box.result in
-    let ring = whole_ring c.in_ok-p.p k f b e c.in_ok-p.ensures.columns c.in_ok-p.ensures.rows c.in_ok-p.ensures.blocking c.whole_box.ensures.value c.fine_box.ensures.value c.in_ok-coarse.ensures.boxes (cells_of k.masses (b ∷ []) c.in_ok-coarse.ensures.masses) c.in_ok-fine.ensures.boxes (cells_of f.masses (e ∷ []) c.in_ok-fine.ensures.masses) in
-    let same = same_cells k.masses after w 100 (cells_of k.masses (b ∷ []) c.in_ok-coarse.ensures.masses w ∙ ap (λ (x : Extent). in_boxes (x ∷ []) w) c.whole_box.ensures.value) c.set.ensures.set c.set.ensures.others in
-    patch_inside (domain c.in_ok-p.p 0) after c.patches.result.now 0 c.in-Some.patch.now c.patches.ensures.masses (λ q h. ring.inside q (sym (ring.filled q) ∙ sym (same q) ∙ h)) c.in-Some.ensures.item.3.0 c.in-Some.ensures.item.1
-
-pub coarse_part-requires-clause-room : goal.coarse_part-requires-clause-room
-coarse_part-requires-clause-room g c = λ q.
-    let old = c.in_ok-register.register in
-    let new = c.absorb.new.self in
-    let small = entries_small (cells_in old) (entry_in old) (entry_in new) c.in_ok-register.ensures.zero c.absorb.ensures.added c.absorb.ensures.others q in
-    omega (arith, ints, small.0, small.1, c.in_ok-taken.ensures.entries q)
 
 pub reflux-requires-clause-of_level : goal.reflux-requires-clause-of_level
 reflux-requires-clause-of_level g c = λ q h.

@@ -1,0 +1,17 @@
+use Rattle.std.proofs.Common.{◌∙◌, map, sym, ap, subst}
+use Rattle.amr_patch.specs.Levels.{patches_of}
+use Rattle.amr_patch.specs.Patches.{box}
+use Rattle.amr_advance.specs.declared.tasks.Tasks.{Tasks}
+use Rattle.amr_advance.specs.Tasks.{AreCurrent}
+use Rattle.amr_advance.proofs.Averaged.{layout_kept, lots_for}
+use Rattle.amr_advance.proofs.averaging.sum_up_by.Goals as goal
+
+pub sum_up_in_lots-requires-clause-tasks : goal.sum_up_in_lots-requires-clause-tasks
+sum_up_in_lots-requires-clause-tasks g c =
+    lots_for c.args.p.now c.args.layout.now c.in-Lots.tasks (map box (patches_of c.args.fine.now)) c.in-Lots.is (sym (ap (map box) (sym c.patches.ensures.all) ∙ c.have_boxes.ensures c.if-not-have_boxes.false ∙ c.deref.ensures.value)) c.requires.kept
+
+pub returns-in-Lots-clause-kept : goal.returns-in-Lots-clause-kept
+returns-in-Lots-clause-kept g c = layout_kept c.args.p.now c.args.layout.now c.in-Lots.tasks c.sum_up_in_lots.new.tasks c.in-Lots.is c.sum_up_in_lots.ensures.tasks c.requires.kept
+
+pub returns-in-Lots-clause-current : goal.returns-in-Lots-clause-current
+returns-in-Lots-clause-current g c M current = c.sum_up_in_lots.ensures.current M (subst (AreCurrent M) c.in-Lots.is current)
