@@ -197,9 +197,9 @@ with_step s k ws ts h long are = record {
   tasks = are;
 }
 
--- lots serve whether they have packed messages or not
-with_flag : (s : Around) (t : LotTasks) (flag : Bool) → AreLotTasks s t → AreLotTasks s (record t { packed = flag })
-with_flag s t flag h = record {
+-- lots serve whether they have packed messages or not, and whether they have the values of outer ghost cells or not
+with_flags : (s : Around) (t : LotTasks) (packed valued : Bool) → AreLotTasks s t → AreLotTasks s (record t { packed = packed; valued = valued })
+with_flags s t packed valued h = record {
   some = h.some;
   enough = h.enough;
   edges = h.edges;
@@ -210,9 +210,9 @@ with_flag s t flag h = record {
   lots = h.lots;
 }
 
-pub kept_with_flag : (p : Problem) (k : KeptLayout) (t : LotTasks) (flag : Bool) → k.tasks ≡ Lots t → IsKept p k → IsKept p (record k { tasks = Lots (record t { packed = flag }) })
-kept_with_flag p k t flag is h = record {
+pub kept_with_flags : (p : Problem) (k : KeptLayout) (t : LotTasks) (packed valued : Bool) → k.tasks ≡ Lots t → IsKept p k → IsKept p (record k { tasks = Lots (record t { packed = packed; valued = valued }) })
+kept_with_flags p k t packed valued is h = record {
   made_for = h.made_for;
   of_problem = h.of_problem;
-  laid_out = with_tasks h.made_for k (Lots (record t { packed = flag })) h.laid_out (with_flag h.made_for t flag (subst (AreTasks h.made_for) is h.laid_out.tasks));
+  laid_out = with_tasks h.made_for k (Lots (record t { packed = packed; valued = valued })) h.laid_out (with_flags h.made_for t packed valued (subst (AreTasks h.made_for) is h.laid_out.tasks));
 }

@@ -1,6 +1,6 @@
 -- The lots of a level at the start of its step: the values of outer ghost cells are worked out, and each is handed its run of the patches
 -- and of the lists of register cells.
-use Rattle.std.proofs.Common.{◌≡◌, ◌∙◌, ℕ, zero, suc, ◌+◌, ◌*◌, ◌<◌, List, length, get_or, map, refl, sym, ap, subst, arith}
+use Rattle.std.proofs.Common.{◌≡◌, ◌∙◌, ℕ, zero, suc, ◌+◌, ◌*◌, ◌<◌, List, [], ◌∷◌, length, get_or, map, refl, sym, ap, subst, arith}
 use Rattle.std.specs.declared.option.Option.{Option}
 use Rattle.std.specs.Global.{Box, Vec}
 use Rattle.std.specs.List.{All, AllZip}
@@ -33,7 +33,7 @@ use Rattle.amr_lots.specs.declared.lot.Phase.TheVariants.{Step}
 use Rattle.amr_lots.specs.Runs.{HasBoxes, KeepAllButEdges, KeepAllButMessages, KeepOthers, run}
 use Rattle.amr_lots.specs.Serving.{IsServed}
 use Rattle.amr_advance.specs.declared.lots.LotTasks.{LotTasks}
-use Rattle.amr_advance.specs.Lots.{CarryMasses, HasFound, ServesRun}
+use Rattle.amr_advance.specs.Lots.{CarryMasses, HasFound, HasValuesBy, ServesRun}
 use Rattle.amr_advance.specs.Registers.{AreEdgesFor}
 use Rattle.amr_advance.proofs.InLots.{IsShared, same_run}
 use Rattle.amr_advance.proofs.KeptLots.{IsBoxOf, IsPackedFrom, KeepsPlan, found_of, plan_handed, plan_lent, same_inbox, same_outbox, still_of}
@@ -80,6 +80,12 @@ all_lent each es ds v lent xs is h = when_lent (AreLent each es ds) v lent xs is
 pub all_exchanged : (v : Vec (Box Lot)) (lent xs : List (Box Lot)) → lent ≡ v.items → AreExchanged lent xs → AreExchanged v.items (with_items v xs).items
 all_exchanged v lent xs is h = when_lent AreExchanged v lent xs is (length_all_zip KeepAllButMessages lent xs h.others) h
 
+-- where they have these values already
+pub found_already : (p : Problem) (l : ℕ) (old : Masses) (xs : List (Box Lot)) → All (λ (x : Box Lot). HasOuterPlaces x.value.outer) xs → All (λ (x : Box Lot). HasValuesBy p l old x.value.outer) xs → AllZip (λ (a b : Box Lot). HasFound p l old a.value b.value) xs xs
+found_already p l old [] places values = tt
+found_already p l old (x ∷ xs) places values =
+    (record { spans = refl; places = places 0 x (omega arith); values = values 0 x (omega arith); others = refl }, found_already p l old xs (λ k y lt. places (suc k) y (omega (arith, lt))) (λ k y lt. values (suc k) y (omega (arith, lt))))
+
 -- ---- the lots of a level, up to where they make their step
 
 module _ {p : Problem} {l : ℕ} {old : Masses} {ps : List Patch} {cells : List Cell} {next : Option Held} {t : LotTasks} (level : IsShared p l old ps cells next t) where
@@ -100,6 +106,7 @@ module _ {p : Problem} {l : ℕ} {old : Masses} {ps : List Patch} {cells : List 
     pub count : length xs ≡ runs
     pub of : (k : ℕ) (x : Box Lot) → k < runs → ServesRun s t.each k runs parts (get_or xs k x).value
     pub values : (k : ℕ) (x : Box Lot) → k < runs → AreOuterFor (value_at p l (masses_in ps) old) (is_of_level p l (masses_in ps)) (get_or xs k x).value.outer
+    pub valued : (k : ℕ) (x : Box Lot) → k < runs → HasValuesBy p l old (get_or xs k x).value.outer
 
   -- each with its run of the patches, and the lists of register cells of these lots
   pub record HaveRuns (lent xs : List (Box Lot)) : Type 0 where
@@ -138,6 +145,7 @@ module _ {p : Problem} {l : ℕ} {old : Masses} {ps : List Patch} {cells : List 
     count = sym same ∙ lots.count;
     of = λ k x lt. still_of (lots.of k x lt) (get_or ys k x).value (plan k x lt) (count k x lt) (outbox k x lt) (inbox k x lt);
     values = λ k x lt. subst (AreOuterFor (value_at p l (masses_in ps) old) (is_of_level p l (masses_in ps))) (sym (plan k x lt).layout.outer) (lots.values k x lt);
+    valued = λ k x lt. subst (HasValuesBy p l old) (sym (plan k x lt).layout.outer) (lots.valued k x lt);
   }
 
   -- ---- their outer ghost cells
@@ -164,6 +172,7 @@ module _ {p : Problem} {l : ℕ} {old : Masses} {ps : List Patch} {cells : List 
       values = λ k x lt.
           let o : OuterGhosts = (get_or found k x).value.outer in
           outer_valued p l old ps level.tasks.plan t.each runs parts level.tasks.planned level.tasks.parted level.inside k o.spans o lt ((found_serves k x lt).outer o.spans) (one_found k x lt).values;
+      valued = λ k x lt. (one_found k x lt).values;
     }
 
     pub found_empty : HaveNoEdges found

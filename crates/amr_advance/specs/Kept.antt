@@ -12,7 +12,7 @@ use Rattle.amr_ghost.specs.Plans.{PlansFrames}
 use Rattle.amr_layout.specs.Grounds.{has_open_side}
 use Rattle.amr_layout.specs.Surroundings.{Around}
 use Rattle.amr_advance.specs.declared.kept.KeptLayout.{KeptLayout}
-use Rattle.amr_advance.specs.Tasks.{AreCurrent, AreTasks}
+use Rattle.amr_advance.specs.Tasks.{AreCurrent, AreTasks, AreValued}
 
 -- it was made for the boxes of this level and for its register cells, and where a side of the domain is open for the boxes of the
 -- next finer level. It has a plan of the level's frames and a total for each word, and its tasks are those of the level's patches.
@@ -40,3 +40,7 @@ pub record IsKept (p : Problem) (k : KeptLayout) : Type 0 where
 -- what it keeps of a level's masses, where it keeps any, is of the masses M
 abbrev pub IsCurrent : Masses → KeptLayout → Type 0
 IsCurrent M k = AreCurrent M k.tasks
+
+-- what it keeps of outer ghost cells of level l, where it keeps any, is what they get where the next coarser level has the masses `old`
+abbrev pub IsValued : Problem → ℕ → Masses → KeptLayout → Type 0
+IsValued p l old k = AreValued p l old k.tasks

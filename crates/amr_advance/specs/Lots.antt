@@ -90,11 +90,15 @@ pub record AreLotTasks (s : Around) (t : LotTasks) : Type 0 where
   pub parted : IsParted plan t.each (length t.lots.items) parts
   pub lots : (k : ℕ) (x : Box Lot) → k < length t.lots.items → IsLotOf s t.each k (length t.lots.items) parts (slice_index_or t.lots.items k x).value
 
+-- these are the values of outer ghost cells of level l, where the next coarser level has the masses `old`, whatever masses the level has
+abbrev pub HasValuesBy : Problem → ℕ → Masses → OuterGhosts → Type 0
+HasValuesBy p l old x = (m : Masses) → All (HasNoMass (domain p l) m) x.spans.items → AreOuterFor (value_at p l m old) (is_of_level p l m) x
+
 -- the values of a lot's outer ghost cells were worked out, where the next coarser level had the masses `old`, and all else stayed
 pub record HasFound (p : Problem) (l : ℕ) (old : Masses) (a b : Lot) : Type 0 where
   pub spans : b.outer.spans ≡ a.outer.spans
   pub places : HasOuterPlaces b.outer
-  pub values : (m : Masses) → All (HasNoMass (domain p l) m) b.outer.spans.items → AreOuterFor (value_at p l m old) (is_of_level p l m) b.outer
+  pub values : HasValuesBy p l old b.outer
   pub others : b ≡ with_outer b.outer a
 
 -- the messages that lots have for others carry the masses M
@@ -104,3 +108,7 @@ CarryMasses M lots = All (λ x. All (CarriesMasses M) x.value.outbox.items) lots
 -- where lots have packed their messages, those carry the masses M
 abbrev pub AreLotsCurrent : Masses → LotTasks → Type 0
 AreLotsCurrent M t = t.packed ≡ true → CarryMasses M t.lots.items
+
+-- where lots have the values of their outer ghost cells, the next coarser level had the masses `old`
+abbrev pub AreLotsValued : Problem → ℕ → Masses → LotTasks → Type 0
+AreLotsValued p l old t = t.valued ≡ true → All (λ x. HasValuesBy p l old x.value.outer) t.lots.items

@@ -18,7 +18,7 @@ use Rattle.amr_advance.specs.declared.tasks.LoneTasks.{LoneTasks}
 use Rattle.amr_advance.specs.declared.tasks.Tasks.{Tasks}
 use Rattle.amr_advance.specs.declared.tasks.Tasks.TheVariants.{Board, Lone, Lots}
 use Rattle.amr_advance.specs.Layouts.{AreAddsOf, IsLayoutOf}
-use Rattle.amr_advance.specs.Lots.{AreLotTasks, AreLotsCurrent}
+use Rattle.amr_advance.specs.Lots.{AreLotTasks, AreLotsCurrent, AreLotsValued}
 use Rattle.amr_advance.specs.Pieces.{AreWorkspaces, workspaces_in}
 use Rattle.amr_advance.specs.Shown.{AreShown}
 use Rattle.amr_advance.specs.Turns.{AreTurnsOf}
@@ -55,6 +55,12 @@ abbrev pub AreCurrent : Masses → Tasks → Type 0
 AreCurrent M (Lone t) = ⊤
 AreCurrent M (Lots t) = AreLotsCurrent M t
 AreCurrent M (Board t) = ⊤
+
+-- what tasks keep of outer ghost cells of level l, where they keep any, is what they get where the next coarser level has the masses `old`
+abbrev pub AreValued : Problem → ℕ → Masses → Tasks → Type 0
+AreValued p l old (Lone t) = ⊤
+AreValued p l old (Lots t) = AreLotsValued p l old t
+AreValued p l old (Board t) = ⊤
 
 -- whether they are lots
 abbrev pub is_lots : Tasks → Bool

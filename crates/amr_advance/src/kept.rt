@@ -1,6 +1,6 @@
 //! What a level's step stands on that depends on boxes alone: worked out once, and kept until boxes change.
 
-ghost use Rattle.std.specs.Prelude.{◌≡◌, ◌≤◌, ◌^◌, true, List, length, map, is_some, IfOk, IfSome, IsTrue};
+ghost use Rattle.std.specs.Prelude.{◌≡◌, ◌≤◌, ◌^◌, ℕ, true, List, length, map, is_some, IfOk, IfSome, IsTrue};
 ghost use Rattle.std.specs.List.{All};
 ghost use Rattle.std.specs.Option.{option_copied};
 ghost use Rattle.amr_box.specs.declared.Cell.{Cell};
@@ -9,11 +9,11 @@ ghost use Rattle.amr_def.specs.Domain.{domain};
 ghost use Rattle.amr_def.specs.State.{Masses};
 ghost use Rattle.amr_patch.specs.Orders.{IsOrderOf};
 ghost use Rattle.amr_patch.specs.Patches.{ArePatchesApart, box, masses_in};
-ghost use Rattle.amr_ghost.specs.Frames.{AreInDomain};
 ghost use Rattle.amr_layout.specs.Adds.{HasRegisterCells};
 ghost use Rattle.amr_layout.specs.Grounds.{has_open_side};
 ghost use Rattle.amr_layout.specs.Surroundings.{around, finer_masses};
-ghost use Rattle.amr_advance.specs.Kept.{IsCurrent, IsKept, IsLaidOut};
+ghost use Rattle.amr_ghost.specs.Frames.{AreInDomain, old_masses};
+ghost use Rattle.amr_advance.specs.Kept.{IsCurrent, IsKept, IsLaidOut, IsValued};
 
 use crate::level::Given;
 use crate::tasks::{Tasks, are_for, tasks_for};
@@ -49,9 +49,22 @@ impl KeptLayout {
     pub fn masses_changed(&mut self)
         ensures kept { (p : Problem) → IsKept p self.old → IsKept p self.new }
         ensures current { (M : Masses) → IsCurrent M self.new }
+        ensures valued { (p : Problem) (l : ℕ) (old : Masses) → IsValued p l old self.old → IsValued p l old self.new }
     {
         if let Tasks::Lots(tasks) = &mut self.tasks {
             tasks.packed = false;
+        }
+    }
+
+    /// Tells that masses of the next coarser level changed, by which ghost cells get their values. These are worked out anew at the next
+    /// step.
+    pub fn coarser_changed(&mut self)
+        ensures kept { (p : Problem) → IsKept p self.old → IsKept p self.new }
+        ensures current { (M : Masses) → IsCurrent M self.old → IsCurrent M self.new }
+        ensures valued { (p : Problem) (l : ℕ) (old : Masses) → IsValued p l old self.new }
+    {
+        if let Tasks::Lots(tasks) = &mut self.tasks {
+            tasks.valued = false;
         }
     }
 }
@@ -156,6 +169,7 @@ fn lay_out_anew(
     requires cells { HasRegisterCells (around given.problem.now given.level patches.now given.cells.now (option_copied given.finer)) }
     ensures laid_out { IfOk result (IsLaidOut (around given.entry.problem.now given.entry.level patches.now given.entry.cells.now (option_copied given.entry.finer))) }
     ensures current { IfOk result (λ k. (M : Masses) → IsCurrent M k) }
+    ensures valued { IfOk result (λ k. (p : Problem) (l : ℕ) (old : Masses) → IsValued p l old k) }
 {
     let alloc = given.alloc;
     let starts = starts_of(alloc, patches)?;
@@ -212,8 +226,10 @@ pub(crate) fn layout_for(
     requires cells { HasRegisterCells (around given.problem.now given.level patches.now given.cells.now (option_copied given.finer)) }
     requires kept { IfSome kept.old (IsKept given.problem.now) }
     requires current { IfSome kept.old (IsCurrent (masses_in patches.now)) }
+    requires valued { IfSome kept.old (IsValued given.problem.now given.level (old_masses (option_copied given.old))) }
     ensures laid_out { IfOk result (IsLaidOut (around given.entry.problem.now given.entry.level patches.now given.entry.cells.now (option_copied given.entry.finer))) }
     ensures current { IfOk result (IsCurrent (masses_in patches.now)) }
+    ensures valued { IfOk result (IsValued given.entry.problem.now given.entry.level (old_masses (option_copied given.entry.old))) }
     ensures kept { kept.new ≡ None }
 {
     let Some(layout) = kept.take() else {

@@ -10,7 +10,7 @@ ghost use Rattle.amr_layout.specs.Surroundings.{around};
 ghost use Rattle.amr_flows.specs.Laws.{plain_size};
 ghost use Rattle.amr_flows.specs.Words.{level_total};
 ghost use Rattle.amr_register.specs.EdgeCells.{IsSmallNet, SameEdges, lists_of};
-ghost use Rattle.amr_advance.specs.Kept.{IsCurrent, IsLaidOut};
+ghost use Rattle.amr_advance.specs.Kept.{IsCurrent, IsLaidOut, IsValued};
 ghost use Rattle.amr_advance.specs.Registers.{AreEdgesFor, AreNetsOf};
 ghost use Rattle.amr_advance.specs.Shown.{AreShown, IsStepped, StepFits};
 ghost use Rattle.amr_advance.specs.Tasks.{AreBoardTasks, AreFilledFor};
@@ -113,6 +113,7 @@ pub(crate) fn run_level<R: Threads + Wait + Sync, G: Gate + Sync>(
     requires fits { StepFits given.problem.now given.level (masses_in patches.old) (old_masses (option_copied given.old)) }
     requires layout { IsLaidOut (around given.problem.now given.level patches.old given.cells.now (option_copied given.finer)) layout.old }
     requires current { IsCurrent (masses_in patches.old) layout.old }
+    requires valued { IsValued given.problem.now given.level (old_masses (option_copied given.old)) layout.old }
     requires edges { AreEdgesFor (map box patches.old) (lists_of edges.old) }
     requires few { length patches.old ≤ 2 ^ 26 }
     requires some_workers { 1 ≤ workers.old.count }
@@ -125,6 +126,7 @@ pub(crate) fn run_level<R: Threads + Wait + Sync, G: Gate + Sync>(
     ensures small { OnOk result ((word : ℕ) → word < length layout.new.totals.items → slice_index layout.new.totals.items word < 2 ^ 63) }
     ensures layout { OnOk result (IsLaidOut (around given.entry.problem.now given.entry.level patches.old given.entry.cells.now (option_copied given.entry.finer)) layout.new) }
     ensures current { OnOk result (IsCurrent (masses_in patches.new) layout.new) }
+    ensures valued { OnOk result (IsValued given.entry.problem.now given.entry.level (old_masses (option_copied given.entry.old)) layout.new) }
     ensures same_edges { SameEdges (lists_of edges.old) (lists_of edges.new) }
     ensures small_nets { All (All IsSmallNet) (lists_of edges.new) }
     ensures nets { AreNetsOf given.entry.problem.now given.entry.level (masses_in patches.old) (old_masses (option_copied given.entry.old)) (lists_of edges.old) (lists_of edges.new) }

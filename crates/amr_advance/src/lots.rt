@@ -48,6 +48,9 @@ pub(crate) struct LotTasks {
     pub(crate) each: usize,
     /// Whether the lots have packed the masses that other lots need at the next step.
     pub(crate) packed: bool,
+    /// Whether they have the values of ghost cells that get no mass of a patch of the level, by the masses that the next coarser level
+    /// has before its own step.
+    pub(crate) valued: bool,
     /// The lots, in the order of the level's patches.
     pub(crate) lots: Vec<Box<Lot>>,
 }
@@ -293,6 +296,7 @@ pub(crate) fn lot_tasks(
     requires cells { HasRegisterCells (around s.problem.now s.level s.patches.now s.cells.now (option_copied s.finer)) }
     ensures tasks { IfOk result (AreLotTasks (around s.entry.problem.now s.entry.level s.entry.patches.now s.entry.cells.now (option_copied s.entry.finer))) }
     ensures packed { IfOk result (λ t. t.packed ≡ false) }
+    ensures valued { IfOk result (λ t. t.valued ≡ false) }
     ensures few { OnOk result (2 + 2 * length s.entry.cells.now < 2 ^ 32) }
 {
     let count = s.patches.len();
@@ -308,6 +312,7 @@ pub(crate) fn lot_tasks(
         workers,
         each,
         packed: false,
+        valued: false,
         lots,
     })
 }

@@ -20,7 +20,7 @@ ghost use Rattle.amr_lots.specs.Runs.{KeepAllButEdges, run};
 ghost use Rattle.amr_lots.specs.Serving.{HasSent, MaySend};
 ghost use Rattle.amr_lots.specs.declared.lot.Lot.{Lot as lot};
 ghost use Rattle.amr_lots.specs.declared.lot.Phase.TheVariants.{Send};
-ghost use Rattle.amr_advance.specs.Lots.{AreLotTasks, AreLotsCurrent, HasFound};
+ghost use Rattle.amr_advance.specs.Lots.{AreLotTasks, AreLotsCurrent, AreLotsValued, HasFound, HasValuesBy};
 ghost use Rattle.amr_advance.specs.Registers.{AreEdgesFor};
 ghost use Rattle.amr_advance.specs.Shown.{IsStepped, StepFits};
 ghost use Rattle.amr_advance.specs.Teams.{IsTeamFor};
@@ -46,13 +46,17 @@ fn find_lot_outer(p: &Problem, l: u32, lot: &mut Box<Lot>, old: Option<&Level>)
     lot.outer.find_values(p, l, old);
 }
 
-/// Has the values of the ghost cells of lots worked out that get no mass of a patch of the level.
-fn find_outer(p: &Problem, l: u32, lots: &mut [Box<Lot>], old: Option<&Level>)
+/// Has the values of the ghost cells of lots worked out that get no mass of a patch of the level, where lots don't have them yet.
+fn find_outer(p: &Problem, l: u32, lots: &mut [Box<Lot>], old: Option<&Level>, valued: bool)
     requires level { l ≤ 4 }
     requires spans { All (λ x. All (IsOuterSpan (domain p.now l)) x.value.outer.spans.items) lots.old }
     requires places { All (λ x. HasOuterPlaces x.value.outer) lots.old }
+    requires valued { valued ≡ true → All (λ x. HasValuesBy p.now l (old_masses (option_copied old)) x.value.outer) lots.old }
     ensures { AllZip (λ a b. HasFound p.now l (old_masses (option_copied old.entry)) a.value b.value) lots.old lots.new }
 {
+    if valued {
+        return;
+    }
     for k in 0..lots.len() {
         find_lot_outer(p, l, &mut lots[k], old);
     }
@@ -90,7 +94,7 @@ fn exchange_lists(edges: &mut [Vec<EdgeCell>], lots: &mut [Box<Lot>], size: usiz
 }
 
 /// Makes a step of the patches of a level. The caller works out the values of the ghost cells that get no mass of a patch of the level,
-/// and delivers the masses that lots have packed for others. Then it and the kept workers each serve lots: they fill the ghost cells, work
+/// once for both steps that the next coarser level's masses serve, and delivers the masses that lots have packed for others. Then it and the kept workers each serve lots: they fill the ghost cells, work
 /// out what flows into the register cells of this level, make the step of one patch after another, each by its own values and those of its
 /// frame, and pack what others need at the next step. So a lot is handed over once a step, and twice where the level's masses changed
 /// otherwise since its last one. The words, all 0 before, get the totals of the level, and the tasks serve the next step. `edges` are the
@@ -110,6 +114,7 @@ pub(crate) fn step_in_lots<R: Wait, G: Gate>(
     requires edges { AreEdgesFor (map box patches.old) (lists_of edges.old) }
     requires tasks { AreLotTasks (around given.problem.now given.level patches.old given.cells.now (option_copied given.finer)) tasks.old }
     requires current { AreLotsCurrent (masses_in patches.old) tasks.old }
+    requires valued { AreLotsValued given.problem.now given.level (old_masses (option_copied given.old)) tasks.old }
     requires team { IfSome workers.old.team (IsTeamFor given.problem.now workers.old.gate.now workers.old.count) }
     requires words { length totals.old ≡ 2 + 2 * length given.cells.now }
     requires none { (word : ℕ) → slice_index totals.old word ≡ 0 }
@@ -123,8 +128,16 @@ pub(crate) fn step_in_lots<R: Wait, G: Gate>(
     ensures small { (word : ℕ) → slice_index totals.new word < 2 ^ 63 }
     ensures tasks { AreLotTasks (around given.entry.problem.now given.entry.level patches.old given.entry.cells.now (option_copied given.entry.finer)) tasks.new }
     ensures current { AreLotsCurrent (masses_in patches.new) tasks.new }
+    ensures valued { AreLotsValued given.entry.problem.now given.entry.level (old_masses (option_copied given.entry.old)) tasks.new }
 {
-    find_outer(given.problem, given.level, &mut tasks.lots, given.old);
+    let valued = tasks.valued;
+    find_outer(
+        given.problem,
+        given.level,
+        &mut tasks.lots,
+        given.old,
+        valued,
+    );
     exchange_runs(patches, &mut tasks.lots, tasks.each);
     exchange_lists(edges, &mut tasks.lots, tasks.each);
     pack_lots(workers, given.problem, tasks);
@@ -133,5 +146,6 @@ pub(crate) fn step_in_lots<R: Wait, G: Gate>(
     exchange_lists(edges, &mut tasks.lots, tasks.each);
     exchange_runs(patches, &mut tasks.lots, tasks.each);
     tasks.packed = true;
+    tasks.valued = true;
     add_up(&tasks.lots, totals);
 }

@@ -17,7 +17,7 @@ ghost use Rattle.amr_layout.specs.Surroundings.{around, finer_masses};
 ghost use Rattle.amr_advance.specs.Registers.{BothChange, HasCoarser, HasEdges, HasFiner, cells_of, gained, taken};
 ghost use Rattle.amr_advance.specs.Totals.{HasTotals, SomeHasAbsorbed, SomeMayAbsorb};
 ghost use Rattle.amr_register.specs.Registers.{HasEdgesOf};
-ghost use Rattle.amr_advance.specs.Kept.{IsCurrent, IsKept, IsLaidOut, totals_in};
+ghost use Rattle.amr_advance.specs.Kept.{IsCurrent, IsKept, IsLaidOut, IsValued, totals_in};
 ghost use Rattle.amr_advance.specs.Shown.{StepFits};
 ghost use Rattle.amr_advance.specs.Tasks.{AreFilledFor};
 ghost use Rattle.amr_advance.specs.Teams.{IsTeamFor};
@@ -109,6 +109,7 @@ fn step_patches<R: Threads + Wait + Sync, G: Gate + Sync>(
     requires edges { IfSome register.old (HasEdgesOf (map box patches.old)) }
     requires kept { IfSome kept.old (IsKept given.problem.now) }
     requires current { IfSome kept.old (IsCurrent (masses_in patches.old)) }
+    requires valued { IfSome kept.old (IsValued given.problem.now given.level (old_masses (option_copied given.old))) }
     requires some_workers { 1 ≤ workers.old.count }
     requires few_workers { workers.old.count ≤ 64 }
     requires gate { (worker task : ℕ) → worker < workers.old.count → task < length patches.old → G.admits workers.old.gate.now worker task }
@@ -126,6 +127,7 @@ fn step_patches<R: Threads + Wait + Sync, G: Gate + Sync>(
     ensures same_register { OnErr result (BothChange (λ c. pos 0) register.old register.new) }
     ensures kept { IfSome kept.new (IsKept given.entry.problem.now) }
     ensures current { IfSome kept.new (IsCurrent (masses_in patches.new)) }
+    ensures valued { IfSome kept.new (IsValued given.entry.problem.now given.entry.level (old_masses (option_copied given.entry.old))) }
 {
     let way = way_for(workers, given, patches);
     let mut layout = layout_for(given, order, patches, way, kept)?;
@@ -168,8 +170,9 @@ fn add_totals(totals: &[u64], regs: &mut Regs)
 /// kept afterwards, but not after `NoMemory`.
 ///
 /// There are from 1 to 64 workers. `kept` and the team, where there is one, are of the same problem. What is kept of the level's masses is
-/// of those that it has: who changes them between two steps says so by [`KeptLayout::masses_changed`]. The register over the next finer
-/// level has a list of register cells for each patch, as [`Register::make`] gives it. It serves each step until boxes change.
+/// of those that it has: who changes them between two steps says so by [`KeptLayout::masses_changed`]. What is kept of the next coarser
+/// level's masses is of those in `old`: who changes these says so by [`KeptLayout::coarser_changed`]. The register over the next finer level
+/// has a list of register cells for each patch, as [`Register::make`] gives it. It serves each step until boxes change.
 pub fn advance_kept<R: Threads + Wait + Sync, G: Gate + Sync>(
     workers: &mut Workers<'_, R, G>,
     p: &Problem,
@@ -194,6 +197,7 @@ pub fn advance_kept<R: Threads + Wait + Sync, G: Gate + Sync>(
     requires outflow { regs.old.outflow + outflow_beside p.now l (is_uncovered (level_of level.old).masses (finer_masses (option_copied finer))) (flux_at p.now l (level_of level.old).masses (old_masses (option_copied old))) < 2 ^ 63 }
     requires kept { IfSome kept.old (IsKept p.now) }
     requires current { IfSome kept.old (IsCurrent (level_of level.old).masses) }
+    requires valued { IfSome kept.old (IsValued p.now l (old_masses (option_copied old))) }
     ensures workers { workers.new ≡ workers.old }
     ensures masses { OnOk result ((level_of level.new).masses ≡ updated (level_of level.old).masses (flux_at p.now l (level_of level.old).masses (old_masses (option_copied old.entry)))) }
     ensures boxes { (level_of level.new).boxes ≡ (level_of level.old).boxes }
@@ -208,6 +212,7 @@ pub fn advance_kept<R: Threads + Wait + Sync, G: Gate + Sync>(
     ensures same_sums { OnErr result ((regs.new.inflow ≡ regs.old.inflow) × (regs.new.outflow ≡ regs.old.outflow)) }
     ensures kept { IfSome kept.new (IsKept p.now) }
     ensures current { IfSome kept.new (IsCurrent (level_of level.new).masses) }
+    ensures valued { IfSome kept.new (IsValued p.now l (old_masses (option_copied old.entry))) }
 {
     let order = level.order();
     let mut patches = level.take_patches();

@@ -1,10 +1,11 @@
 //! What workers work with in a step of a level besides its patches: a lone one by itself, several who share the patches out, or
 //! several on a board.
 
-ghost use Rattle.std.specs.Prelude.{◌≡◌, ◌+◌, ◌*◌, ◌≤◌, ◌<◌, ◌^◌, length, IfOk, OnOk};
+ghost use Rattle.std.specs.Prelude.{◌≡◌, ◌+◌, ◌*◌, ◌≤◌, ◌<◌, ◌^◌, ℕ, length, IfOk, OnOk};
 ghost use Rattle.std.specs.List.{All};
 ghost use Rattle.std.specs.Option.{option_copied};
 ghost use Rattle.amr_box.specs.Cells.{width};
+ghost use Rattle.amr_def.specs.declared.problem.Problem.{Problem};
 ghost use Rattle.amr_def.specs.Domain.{domain};
 ghost use Rattle.amr_def.specs.State.{Masses};
 ghost use Rattle.amr_flux.specs.Rooms.{widest};
@@ -15,7 +16,7 @@ ghost use Rattle.amr_layout.specs.Adds.{HasRegisterCells};
 ghost use Rattle.amr_layout.specs.Surroundings.{around};
 ghost use Rattle.amr_patch.specs.Orders.{IsOrderOf};
 ghost use Rattle.amr_patch.specs.Patches.{ArePatchesApart, box};
-ghost use Rattle.amr_advance.specs.Tasks.{AreBoardTasks, AreCurrent, AreLoneTasks, AreTasks, is_lots};
+ghost use Rattle.amr_advance.specs.Tasks.{AreBoardTasks, AreCurrent, AreLoneTasks, AreTasks, AreValued, is_lots};
 
 use crate::lots::{LotTasks, lot_tasks};
 use crate::pieces::bodies_of;
@@ -205,6 +206,7 @@ pub(crate) fn tasks_for(
     requires cells { HasRegisterCells (around s.problem.now s.level s.patches.now s.cells.now (option_copied s.finer)) }
     ensures tasks { IfOk result (AreTasks (around s.entry.problem.now s.entry.level s.entry.patches.now s.entry.cells.now (option_copied s.entry.finer))) }
     ensures current { IfOk result (λ t. (M : Masses) → AreCurrent M t) }
+    ensures valued { IfOk result (λ t. (p : Problem) (l : ℕ) (old : Masses) → AreValued p l old t) }
     ensures few { OnOk result (2 + 2 * length s.entry.cells.now < 2 ^ 32) }
 {
     match way {

@@ -9,7 +9,7 @@ use Rattle.std.proofs.lemmas.List.{get_or-set_other, get_or-set_same, length-set
 use Rattle.amr_box.specs.declared.Cell.{Cell}
 use Rattle.amr_box.specs.Cells.{Extent, in_boxes}
 use Rattle.amr_def.specs.declared.problem.Problem.{Problem}
-use Rattle.amr_def.specs.State.{Level}
+use Rattle.amr_def.specs.State.{Level, Masses}
 use Rattle.amr_patch.specs.declared.levels.Level.{Level as Held}
 use Rattle.amr_patch.specs.declared.patches.Patch.{Patch}
 use Rattle.amr_patch.specs.Levels.{level_of, patches_of}
@@ -22,7 +22,7 @@ use Rattle.amr_cycle.specs.declared.kept.KeptBelow.{KeptBelow}
 use Rattle.amr_cycle.specs.declared.kept.KeptLevel.{KeptLevel}
 use Rattle.amr_cycle.specs.Cycles.{SomeHasEntries}
 use Rattle.amr_advance.specs.declared.kept.KeptLayout.{KeptLayout}
-use Rattle.amr_advance.specs.Kept.{IsCurrent as IsCurrentLayout, IsKept as IsKeptLayout}
+use Rattle.amr_advance.specs.Kept.{IsCurrent as IsCurrentLayout, IsKept as IsKeptLayout, IsValued}
 use Rattle.amr_cycle.specs.Kept.{AreCurrent, AreKept, IsBelow, IsKeptBelow, IsKeptLevel, IsOnSameBoxes}
 use Rattle.amr_cycle.proofs.Cycling.{same_level}
 
@@ -91,6 +91,11 @@ current_rest k levels d ds ls is h n j e within lt = subst (AreCurrent (k ∷ le
 pub current_all : (k : Level) (levels : List Level) (d : KeptLevel) (ds : List KeptLevel) → IfSome d.layout (IsCurrentLayout k.masses) → AreCurrent levels ds → AreCurrent (k ∷ levels) (d ∷ ds)
 current_all k levels d ds first rest zero j e within lt = first
 current_all k levels d ds first rest (suc n) j e within lt = rest n j e (omega (arith, within)) (omega (arith, lt))
+
+-- ---- what is kept of the next coarser level's masses
+
+pub valued_first : (p : Problem) (l : ℕ) (old : Masses) (d : KeptLevel) (ds ls : List KeptLevel) → ls ≡ d ∷ ds → ((e : KeptLevel) → IfSome (get_or ls 0 e).layout (IsValued p l old)) → IfSome d.layout (IsValued p l old)
+valued_first p l old d ds ls is h = subst (λ (ks : List KeptLevel). IfSome (get_or ks 0 d).layout (IsValued p l old)) is (h d)
 
 -- ---- another layout is kept of the first of them
 

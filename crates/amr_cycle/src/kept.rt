@@ -1,6 +1,6 @@
 //! What the steps of levels keep from one to the next, until boxes change.
 
-ghost use Rattle.std.specs.Prelude.{◌≡◌, ◌≤◌, ℕ, suc, pos, List, IfOk, IfSome, IsTrue, None, length, map};
+ghost use Rattle.std.specs.Prelude.{◌≡◌, ◌≤◌, ℕ, suc, pos, true, List, IfOk, IfSome, IsTrue, None, length, map};
 ghost use Rattle.amr_box.specs.declared.Cell.{Cell};
 ghost use Rattle.amr_def.specs.declared.problem.Problem.{Problem};
 ghost use Rattle.amr_def.specs.Facts.{IsLevel, IsNestedLevel};
@@ -8,7 +8,7 @@ ghost use Rattle.amr_def.specs.State.{Level as StateLevel, Masses};
 ghost use Rattle.amr_patch.specs.Levels.{level_of, patches_of};
 ghost use Rattle.amr_patch.specs.Patches.{box};
 ghost use Rattle.amr_register.specs.Registers.{SameCells, entry_in};
-ghost use Rattle.amr_advance.specs.Kept.{IsCurrent as IsCurrentLayout};
+ghost use Rattle.amr_advance.specs.Kept.{IsCurrent as IsCurrentLayout, IsValued};
 ghost use Rattle.amr_cycle.specs.Kept.{AreCurrent, AreKept, HasBoxesOf, IsBelow, IsCurrent, IsKept, IsKeptBelow, IsKeptLevel, IsOnSameBoxes};
 
 use amr_advance::KeptLayout;
@@ -68,6 +68,7 @@ impl Kept {
 pub(crate) fn forget_masses_of(kept: &mut KeptLevel)
     ensures kept { (p : Problem) (l : ℕ) → IsKeptLevel p l kept.old → IsKeptLevel p l kept.new }
     ensures current { (M : Masses) → IfSome kept.new.layout (IsCurrentLayout M) }
+    ensures valued { (p : Problem) (l : ℕ) (old : Masses) → IfSome kept.old.layout (IsValued p l old) → IfSome kept.new.layout (IsValued p l old) }
     ensures below { kept.new.below ≡ kept.old.below }
 {
     if let Some(layout) = &mut kept.layout {
@@ -75,7 +76,22 @@ pub(crate) fn forget_masses_of(kept: &mut KeptLevel)
     }
 }
 
-/// The same of each of these levels.
+/// Readies what is kept of a level for its next step. The ghost cells over the next coarser level get other values than at the last one,
+/// unless it is made `again` beside the same masses of that level.
+pub(crate) fn ready(kept: &mut KeptLevel, again: bool)
+    ensures kept { (p : Problem) (l : ℕ) → IsKeptLevel p l kept.old → IsKeptLevel p l kept.new }
+    ensures current { (M : Masses) → IfSome kept.old.layout (IsCurrentLayout M) → IfSome kept.new.layout (IsCurrentLayout M) }
+    ensures valued { (p : Problem) (l : ℕ) (old : Masses) → (again ≡ true → IfSome kept.old.layout (IsValued p l old)) → IfSome kept.new.layout (IsValued p l old) }
+{
+    if again {
+        return;
+    }
+    if let Some(layout) = &mut kept.layout {
+        layout.coarser_changed();
+    }
+}
+
+/// Tells what is kept of each of these levels that its masses changed otherwise than by its step.
 fn forget_masses(kept: &mut [KeptLevel])
     ensures kept { (p : Problem) → AreKept p 0 kept.old → AreKept p 0 kept.new }
     ensures current { (levels : List StateLevel) → AreCurrent levels kept.new }

@@ -1,6 +1,6 @@
 //! Steps of levels: of one level and of those finer than it, each of which makes twice as many.
 
-ghost use Rattle.std.specs.Prelude.{◌≡◌, ◌≢◌, ℕ, [], ◌∷◌, ◌+◌, ◌<◌, ◌≤◌, ◌^◌, IfOk, IfSome, OnOk, None, Some, is_some, length, map, neg_ℤ};
+ghost use Rattle.std.specs.Prelude.{◌≡◌, ◌≢◌, ℕ, [], ◌∷◌, ◌+◌, ◌<◌, ◌≤◌, ◌^◌, true, IfOk, IfSome, OnOk, None, Some, is_some, length, map, neg_ℤ, slice_index_or};
 ghost use Rattle.std.specs.List.{All};
 ghost use Rattle.std.specs.Option.{option_copied};
 ghost use Rattle.amr_box.specs.declared.Cell.{Cell};
@@ -16,14 +16,15 @@ ghost use Rattle.amr_register.specs.Registers.{HasEdgesOf};
 ghost use Rattle.amr_transfer.specs.Sums.{AreCoarsenable};
 ghost use Rattle.amr_flows.specs.Subcycle.{edge_part, flows_of_step};
 ghost use Rattle.amr_advance.specs.Registers.{BothChange, HasCoarser, gained};
-ghost use Rattle.amr_advance.specs.Kept.{IsCurrent, IsKept};
+ghost use Rattle.amr_advance.specs.Kept.{IsCurrent, IsKept, IsValued};
 ghost use Rattle.amr_advance.specs.Teams.{IsTeamFor};
 ghost use Rattle.amr_cycle.specs.Cycles.{IsCoarsePart, IsPartOfStep, SomeHasEntries, patch_boxes};
+ghost use Rattle.amr_cycle.specs.declared.kept.KeptLevel.{KeptLevel};
 ghost use Rattle.amr_cycle.specs.Kept.{AreCurrent, AreKept, IsKeptLevel};
 
 use crate::correction::correct;
 use crate::given::Given;
-use crate::kept::{KeptBelow, KeptLevel, below_for, forget_masses_of};
+use crate::kept::{KeptBelow, KeptLevel, below_for, forget_masses_of, ready};
 use amr_advance::{Regs, Workers, advance_kept};
 use amr_box::Bx;
 use amr_causes::NoMemory;
@@ -61,9 +62,11 @@ fn step_finest<R: Threads + Wait + Sync, G: Gate + Sync>(
     requires outflow { regs.old.outflow + flows_of_step (outflow_beside given.now.problem.now) given.now.problem.now given.now.level (level_of level.old ∷ []) (old_masses (option_copied given.now.old)) < 2 ^ 63 }
     requires kept { IsKeptLevel given.now.problem.now given.now.level own.old }
     requires current { IfSome own.old.layout (IsCurrent (level_of level.old).masses) }
+    requires valued { IfSome own.old.layout (IsValued given.now.problem.now given.now.level (old_masses (option_copied given.now.old))) }
     ensures workers { workers.new ≡ workers.old }
     ensures kept { OnOk result (IsKeptLevel given.now.problem.now given.now.level own.new) }
     ensures current { OnOk result (IfSome own.new.layout (IsCurrent (level_of level.new).masses)) }
+    ensures valued { OnOk result (IfSome own.new.layout (IsValued given.now.problem.now given.now.level (old_masses (option_copied given.now.old)))) }
     ensures level { OnOk result (level_of level.new ∷ [] ≡ after_step given.now.problem.now given.now.level (level_of level.old ∷ []) (old_masses (option_copied given.now.old))) }
     ensures patches { OnOk result (map box (patches_of level.new) ≡ map box (patches_of level.old)) }
     ensures coarser { OnOk result (BothChange (gained given.now.problem.now given.now.level (level_of level.old).masses (flux_at given.now.problem.now given.now.level (level_of level.old).masses (old_masses (option_copied given.now.old)))) regs.old.coarser regs.new.coarser) }
@@ -104,9 +107,11 @@ fn step_coarse<R: Threads + Wait + Sync, G: Gate + Sync>(
     requires outflow { regs.old.outflow + outflow_beside given.now.problem.now given.now.level (is_uncovered (level_of level.old).masses (level_of next.now).masses) (flux_at given.now.problem.now given.now.level (level_of level.old).masses (old_masses (option_copied given.now.old))) < 2 ^ 63 }
     requires kept { IsKeptLevel given.now.problem.now given.now.level own.old }
     requires current { IfSome own.old.layout (IsCurrent (level_of level.old).masses) }
+    requires valued { IfSome own.old.layout (IsValued given.now.problem.now given.now.level (old_masses (option_copied given.now.old))) }
     ensures workers { workers.new ≡ workers.old }
     ensures layout { OnOk result (IfSome own.new.layout (IsKept given.now.problem.now)) }
     ensures current { OnOk result ((M : Masses) → IfSome own.new.layout (IsCurrent M)) }
+    ensures valued { OnOk result (IfSome own.new.layout (IsValued given.now.problem.now given.now.level (old_masses (option_copied given.now.old)))) }
     ensures before { IfOk result (λ b. level_of b.before ≡ level_of level.old) }
     ensures finer_boxes { IfOk result (λ b. (c : Cell) → is_some ((level_of next.now).masses c) ≡ in_boxes b.finer.items c) }
     ensures masses { OnOk result ((level_of level.new).masses ≡ updated (level_of level.old).masses (flux_at given.now.problem.now given.now.level (level_of level.old).masses (old_masses (option_copied given.now.old)))) }
@@ -174,12 +179,14 @@ fn kept_of(below: Below) -> Option<KeptBelow>
 }
 
 /// Makes a step of a level and of the levels finer than it, each of which makes two for each of the next coarser one. `kept` is what
-/// they keep from one step to the next, from this level on.
+/// they keep from one step to the next, from this level on. The step may be made `again`, beside the same masses of the next coarser level as
+/// the last one: the second of two.
 ///
 /// The register of the coarser level gains what flows through this level's faces beside its cells. The sums gain what
 /// flows through open sides beside cells that no finer level covers, in all steps that are made.
 pub(crate) fn step_levels<R: Threads + Wait + Sync, G: Gate + Sync>(
     given: &Given<'_>,
+    again: bool,
     workers: &mut Workers<'_, R, G>,
     level: &mut Level,
     finer: &mut [Level],
@@ -200,10 +207,12 @@ pub(crate) fn step_levels<R: Threads + Wait + Sync, G: Gate + Sync>(
     requires kept { AreKept given.now.problem.now given.now.level kept.old }
     requires current { AreCurrent (level_of level.old ∷ map level_of finer.old) kept.old }
     requires room { length finer.old < length kept.old }
+    requires valued { again ≡ true → (own : KeptLevel) → IfSome (slice_index_or kept.old 0 own).layout (IsValued given.now.problem.now given.now.level (old_masses (option_copied given.now.old))) }
     ensures workers { workers.new ≡ workers.old }
     ensures kept { OnOk result (AreKept given.now.problem.now given.now.level kept.new) }
     ensures current { OnOk result (AreCurrent (level_of level.new ∷ map level_of finer.new) kept.new) }
     ensures kept_count { OnOk result (length kept.new ≡ length kept.old) }
+    ensures valued { OnOk result ((own : KeptLevel) → IfSome (slice_index_or kept.new 0 own).layout (IsValued given.now.problem.now given.now.level (old_masses (option_copied given.now.old)))) }
     ensures levels { OnOk result (level_of level.new ∷ map level_of finer.new ≡ after_step given.now.problem.now given.now.level (level_of level.old ∷ map level_of finer.old) (old_masses (option_copied given.now.old))) }
     ensures patches { OnOk result (patch_boxes (level.new ∷ finer.new) ≡ patch_boxes (level.old ∷ finer.old)) }
     ensures coarser { OnOk result (BothChange (gained given.now.problem.now given.now.level (level_of level.old).masses (flux_at given.now.problem.now given.now.level (level_of level.old).masses (old_masses (option_copied given.now.old)))) regs.old.coarser regs.new.coarser) }
@@ -214,13 +223,14 @@ pub(crate) fn step_levels<R: Threads + Wait + Sync, G: Gate + Sync>(
     let Some((own, rest)) = kept.split_first_mut() else {
         unreachable!()
     };
+    ready(own, again);
     let Some((next, finest)) = finer.split_first_mut() else {
         return step_finest(given, workers, level, regs, own);
     };
     let mut below = step_coarse(given, workers, level, next, regs, own)?;
     let inner = (&*given).for_finer(&below.before);
-    step_levels(&inner, workers, next, finest, &mut below.regs, rest)?;
-    step_levels(&inner, workers, next, finest, &mut below.regs, rest)?;
+    step_levels(&inner, false, workers, next, finest, &mut below.regs, rest)?;
+    step_levels(&inner, true, workers, next, finest, &mut below.regs, rest)?;
     correct(
         workers,
         given.problem,

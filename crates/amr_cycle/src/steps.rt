@@ -72,7 +72,9 @@ fn step_all<R: Threads + Wait + Sync, G: Gate + Sync>(
     };
     match levels.split_first_mut() {
         None => unreachable!(),
-        Some((base, finer)) => step_levels(&given, workers, base, finer, &mut regs, kept)?,
+        Some((base, finer)) => {
+            step_levels(&given, false, workers, base, finer, &mut regs, kept)?;
+        }
     }
     Ok(Flows {
         inflow: regs.inflow,

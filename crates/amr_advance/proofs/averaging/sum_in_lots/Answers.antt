@@ -63,13 +63,13 @@ returns-clause-sums g c =
     let at = goal.at.returns-clause-sums g c in
     let t = c.args.tasks.now in
     all_summed c.args.fine.now c.requires.tasks (traded g at.After-exchange_runs) (told g at.After-set_phase) (served g at.After-serve_lots) (returned g at.After-exchange_runs-2)
-    (record { workers = t.workers; each = t.each; packed = t.packed; lots = with_items c.serve_lots.new.lots c.exchange_runs-2.new.lots }) refl refl
+    (record { workers = t.workers; each = t.each; packed = t.packed; valued = t.valued; lots = with_items c.serve_lots.new.lots c.exchange_runs-2.new.lots }) refl refl
 
 pub returns-clause-tasks : goal.returns-clause-tasks
 returns-clause-tasks g c s tasks =
     let at = goal.at.returns-clause-tasks g c in
     let t = c.args.tasks.now in
-    tasks_kept s t (record { workers = t.workers; each = t.each; packed = t.packed; lots = with_items c.serve_lots.new.lots c.exchange_runs-2.new.lots }) refl (summed g at.After-exchange_runs-2) tasks
+    tasks_kept s t (record { workers = t.workers; each = t.each; packed = t.packed; valued = t.valued; lots = with_items c.serve_lots.new.lots c.exchange_runs-2.new.lots }) refl (summed g at.After-exchange_runs-2) tasks
 
 pub returns-clause-current : goal.returns-clause-current
 returns-clause-current g c M current packed =

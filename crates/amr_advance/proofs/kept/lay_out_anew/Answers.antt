@@ -15,3 +15,6 @@ returns-clause-laid_out c = record {
 
 pub returns-clause-current : goal.returns-clause-current
 returns-clause-current c = c.in_ok-tasks.ensures.current
+
+pub returns-clause-valued : goal.returns-clause-valued
+returns-clause-valued c = c.in_ok-tasks.ensures.valued

@@ -8,7 +8,7 @@ use Rattle.amr_board.specs.declared.board.Shape.{Shape}
 use Rattle.amr_layout.specs.Surroundings.{around}
 use Rattle.amr_advance.specs.declared.tasks.Tasks.{Tasks}
 use Rattle.amr_advance.specs.declared.tasks.Tasks.TheVariants.{Board, Lone, Lots}
-use Rattle.amr_advance.specs.Tasks.{AreBoardTasks, AreCurrent, AreFilledFor, AreTasks}
+use Rattle.amr_advance.specs.Tasks.{AreBoardTasks, AreCurrent, AreFilledFor, AreTasks, AreValued}
 use Rattle.amr_ghost.specs.Frames.{old_masses}
 use Rattle.amr_patch.specs.Patches.{masses_in}
 use Rattle.amr_flows.specs.Laws.{plain_size}
@@ -72,6 +72,9 @@ step_in_lots-requires-clause-tasks g c =
 
 pub step_in_lots-requires-clause-current : goal.step_in_lots-requires-clause-current
 step_in_lots-requires-clause-current g c = subst (AreCurrent (masses_in c.args.patches.now)) c.in-Lots.is c.requires.current
+
+pub step_in_lots-requires-clause-valued : goal.step_in_lots-requires-clause-valued
+step_in_lots-requires-clause-valued g c = subst (AreValued c.args.given.problem.now c.args.given.level (old_masses (option_copied c.args.given.old))) c.in-Lots.is c.requires.valued
 
 pub returns-in-Lots-clause-layout : goal.returns-in-Lots-clause-layout
 returns-in-Lots-clause-layout g c = with_step _ c.args.layout.now (with_items c.fill.new.self c.step_in_lots.new.totals) (Lots c.step_in_lots.new.tasks) c.requires.layout c.fill.ensures.len c.step_in_lots.ensures.tasks

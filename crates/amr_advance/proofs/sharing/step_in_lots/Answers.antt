@@ -14,6 +14,7 @@ use Rattle.amr_lots.specs.declared.lot.Lot.{Lot}
 use Rattle.amr_lots.specs.Runs.{HasBoxes, run, word_of}
 use Rattle.amr_patch.specs.Patches.{masses_in}
 use Rattle.amr_phase.specs.Plans.{total}
+use Rattle.amr_advance.specs.Lots.{HasValuesBy}
 use Rattle.amr_advance.proofs.BackEdges.{again_none, all_nets, all_same, all_small, back_count}
 use Rattle.amr_advance.proofs.InLots.{IsShared, totals_small}
 use Rattle.amr_advance.proofs.LentEdges.{AreLent}
@@ -155,6 +156,11 @@ find_outer-requires-clause-places g c =
     subst (λ (xs : List (Box Lot)). All (λ (x : Box Lot). HasOuterPlaces x.value.outer) xs) (sym c.deref_mut.ensures.value)
     (all_outer_places (record { shallow = h.level; apart = h.apart; inside = h.inside; fits = h.fits; tasks = h.tasks }))
 
+pub find_outer-requires-clause-valued : goal.find_outer-requires-clause-valued
+find_outer-requires-clause-valued g c = λ yes.
+    let p = c.args.given.problem.now in
+    subst (λ (xs : List (Box Lot)). All (λ (x : Box Lot). HasValuesBy p c.args.given.level (old_masses (option_copied c.args.given.old)) x.value.outer) xs) (sym c.deref_mut.ensures.value) (c.requires.valued yes)
+
 pub exchange_runs-requires : goal.exchange_runs-requires
 exchange_runs-requires g c =
     let at = goal.at.exchange_runs-requires g c in
@@ -272,10 +278,16 @@ returns-clause-tasks g c =
     let lots = with_items (with_items c.serve_lots.new.lots c.exchange_lists-2.new.lots) c.exchange_runs-2.new.lots in
     let again = again_none level (now_handed level (found g at.After-find_outer) (handed g at.After-exchange_runs) (lent g at.After-exchange_lists)) (none g at.After-exchange_runs) c.requires.edges (lent g at.After-exchange_lists) (served g at.After-serve_lots).lots (flows g at.After-serve_lots) (back_lists g at.After-exchange_lists-2) in
     tasks_again level lots.items (last_lots level (made g at.After-exchange_lists-2) (same g at.After-exchange_runs) (last g at.After-exchange_runs-2)) (handed_empty level made_lots (last g at.After-exchange_runs-2) again)
-    (record { workers = t.workers; each = t.each; packed = true; lots = lots }) c.pack_lots.ensures.each refl
+    (record { workers = t.workers; each = t.each; packed = true; valued = true; lots = lots }) c.pack_lots.ensures.each refl
 
 pub returns-clause-current : goal.returns-clause-current
 returns-clause-current g c _ =
     let at = goal.at.returns-clause-current g c in
     let end = at.After-exchange_runs-2 in
     carried (shared g at.After-find_outer) (made g at.After-exchange_lists-2) c.exchange_runs-2.new.patches (as_many g end) (back g end) (same g at.After-exchange_runs) (last g end)
+
+pub returns-clause-valued : goal.returns-clause-valued
+returns-clause-valued g c _ =
+    let at = goal.at.returns-clause-valued g c in
+    let lots = last_lots (shared g at.After-find_outer) (made g at.After-exchange_lists-2) (same g at.After-exchange_runs) (last g at.After-exchange_runs-2) in
+    λ k x lt. lots.valued k x (omega (arith, lt, lots.count))

@@ -13,7 +13,7 @@ use Rattle.amr_cycle.specs.Cycles.{entries_of}
 use Rattle.amr_cycle.specs.declared.kept.KeptLevel.{KeptLevel}
 use Rattle.amr_cycle.specs.Kept.{AreCurrent, AreKept}
 use Rattle.std.proofs.lemmas.Result.{on_ok_weaker}
-use Rattle.amr_cycle.proofs.KeptLaws.{all_below_after, current_again, current_all, current_first, current_rest, kept_again, kept_all, kept_first, kept_rest}
+use Rattle.amr_cycle.proofs.KeptLaws.{all_below_after, current_again, current_all, current_first, current_rest, kept_again, kept_all, kept_first, kept_rest, valued_first}
 use Rattle.amr_cycle.proofs.Registers.{edges_stay}
 use Rattle.amr_cycle.proofs.Whole.{coarser_1, coarser_2, fits_2, flows_1, flows_2, flows_split, has2, kept_2, levels_are, next2_coarsenable, of_level_2, parents_2, part_1, part_2, rest1_coarsenable, rest_coarsenable, small_2}
 use Rattle.amr_cycle.proofs.levels.+step_levels.Given as given
@@ -166,14 +166,14 @@ returns-clause-outflow g t c =
     )
 
 pub step_finest-requires-clause-kept : goal.step_finest-requires-clause-kept
-step_finest-requires-clause-kept g t c κs within = kept_first c.args.given.now.problem.now c.args.given.now.level c.in-Some.own.now c.in-Some.rest.now c.args.kept.now c.in-Some.ensures.cases.0 c.requires.kept
+step_finest-requires-clause-kept g t c κs within = c.ready.ensures.kept c.args.given.now.problem.now c.args.given.now.level (kept_first c.args.given.now.problem.now c.args.given.now.level c.in-Some.own.now c.in-Some.rest.now c.args.kept.now c.in-Some.ensures.cases.0 c.requires.kept)
 
 pub returns-in_default-split_first_mut-clause-kept : goal.returns-in_default-split_first_mut-clause-kept
 returns-in_default-split_first_mut-clause-kept g t c =
     on_ok_weaker c.step_finest.result (λ first. kept_all c.args.given.now.problem.now c.args.given.now.level c.step_finest.new.own c.in-Some.rest.now first (kept_rest c.args.given.now.problem.now c.args.given.now.level c.in-Some.own.now c.in-Some.rest.now c.args.kept.now c.in-Some.ensures.cases.0 c.requires.kept)) c.step_finest.ensures.kept
 
 pub step_coarse-requires-clause-kept : goal.step_coarse-requires-clause-kept
-step_coarse-requires-clause-kept g t c κs within = kept_first c.args.given.now.problem.now c.args.given.now.level c.in-Some.own.now c.in-Some.rest.now c.args.kept.now c.in-Some.ensures.cases.0 c.requires.kept
+step_coarse-requires-clause-kept g t c κs within = c.ready.ensures.kept c.args.given.now.problem.now c.args.given.now.level (kept_first c.args.given.now.problem.now c.args.given.now.level c.in-Some.own.now c.in-Some.rest.now c.args.kept.now c.in-Some.ensures.cases.0 c.requires.kept)
 
 pub step_levels-requires-clause-kept : goal.step_levels-requires-clause-kept
 step_levels-requires-clause-kept g t c κs within = rw (c.for_finer-inner.ensures.problem, c.for_finer-inner.ensures.level) (kept_rest c.args.given.now.problem.now c.args.given.now.level c.in-Some.own.now c.in-Some.rest.now c.args.kept.now c.in-Some.ensures.cases.0 c.requires.kept)
@@ -205,14 +205,14 @@ returns-clause-kept g t c =
     (kept_again p (c.args.given.now.level + 1) c.correct.new.layout c.index-rest-0.result c.step_levels-2.new.kept (first_kept g t (goal.at.returns-clause-kept g t c).In_ok-step_levels-2) c.correct.ensures.layout finer)
 
 pub step_finest-requires-clause-current : goal.step_finest-requires-clause-current
-step_finest-requires-clause-current g t c κs within = current_first (level_of c.args.level.now) (map level_of c.args.finer.now) c.in-Some.own.now c.in-Some.rest.now c.args.kept.now c.in-Some.ensures.cases.0 c.requires.current
+step_finest-requires-clause-current g t c κs within = c.ready.ensures.current (level_of c.args.level.now).masses (current_first (level_of c.args.level.now) (map level_of c.args.finer.now) c.in-Some.own.now c.in-Some.rest.now c.args.kept.now c.in-Some.ensures.cases.0 c.requires.current)
 
 pub returns-in_default-split_first_mut-clause-current : goal.returns-in_default-split_first_mut-clause-current
 returns-in_default-split_first_mut-clause-current g t c =
     on_ok_weaker c.step_finest.result (λ first. current_all (level_of c.step_finest.new.level) (map level_of c.args.finer.now) c.step_finest.new.own c.in-Some.rest.now first (current_rest (level_of c.args.level.now) (map level_of c.args.finer.now) c.in-Some.own.now c.in-Some.rest.now c.args.kept.now c.in-Some.ensures.cases.0 c.requires.current)) c.step_finest.ensures.current
 
 pub step_coarse-requires-clause-current : goal.step_coarse-requires-clause-current
-step_coarse-requires-clause-current g t c κs within = current_first (level_of c.args.level.now) (map level_of c.args.finer.now) c.in-Some.own.now c.in-Some.rest.now c.args.kept.now c.in-Some.ensures.cases.0 c.requires.current
+step_coarse-requires-clause-current g t c κs within = c.ready.ensures.current (level_of c.args.level.now).masses (current_first (level_of c.args.level.now) (map level_of c.args.finer.now) c.in-Some.own.now c.in-Some.rest.now c.args.kept.now c.in-Some.ensures.cases.0 c.requires.current)
 
 pub step_levels-requires-clause-current : goal.step_levels-requires-clause-current
 step_levels-requires-clause-current g t c κs within =
@@ -227,3 +227,21 @@ returns-clause-current g t c =
     subst (λ (k : Level). AreCurrent (level_of c.correct.new.level ∷ k ∷ finest) (record { layout = c.step_coarse.new.own.layout; below = c.kept_of.result } ∷ set c.step_levels-2.new.kept 0 again)) (sym c.correct.ensures.finer)
     (current_all (level_of c.correct.new.level) (next ∷ finest) (record { layout = c.step_coarse.new.own.layout; below = c.kept_of.result }) (set c.step_levels-2.new.kept 0 again) (c.in_ok-below.ensures.current (level_of c.correct.new.level).masses)
     (current_again next finest again c.index-rest-0.result c.step_levels-2.new.kept (first_kept g t (goal.at.returns-clause-current g t c).In_ok-step_levels-2) (c.correct.ensures.current next.masses) c.in_ok-step_levels-2.ensures.current))
+
+pub step_finest-requires-clause-valued : goal.step_finest-requires-clause-valued
+step_finest-requires-clause-valued g t c κs within =
+    let p = c.args.given.now.problem.now in
+    let old = old_masses (option_copied c.args.given.now.old) in
+    c.ready.ensures.valued p c.args.given.now.level old (λ again. valued_first p c.args.given.now.level old c.in-Some.own.now c.in-Some.rest.now c.args.kept.now c.in-Some.ensures.cases.0 (c.requires.valued again))
+
+pub step_coarse-requires-clause-valued : goal.step_coarse-requires-clause-valued
+step_coarse-requires-clause-valued g t c κs within =
+    let p = c.args.given.now.problem.now in
+    let old = old_masses (option_copied c.args.given.now.old) in
+    c.ready.ensures.valued p c.args.given.now.level old (λ again. valued_first p c.args.given.now.level old c.in-Some.own.now c.in-Some.rest.now c.args.kept.now c.in-Some.ensures.cases.0 (c.requires.valued again))
+
+pub returns-in_default-split_first_mut-clause-valued : goal.returns-in_default-split_first_mut-clause-valued
+returns-in_default-split_first_mut-clause-valued g t c = on_ok_weaker c.step_finest.result (λ first own. first) c.step_finest.ensures.valued
+
+pub returns-clause-valued : goal.returns-clause-valued
+returns-clause-valued g t c = λ own. c.in_ok-below.ensures.valued
