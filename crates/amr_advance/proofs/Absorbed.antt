@@ -3,22 +3,14 @@ use Rattle.std.proofs.Common.{◌≡◌, ◌∙◌, ℕ, ◌+◌, ◌*◌, ◌^�
 use Rattle.std.specs.Prelude.{slice_index, slice_index_or, unsigned_abs}
 use Rattle.std.proofs.lemmas.Bool.{cases_eq, cases_lt}
 use Rattle.std.proofs.lemmas.Int.{ints}
-use Rattle.std.proofs.lemmas.List.Sums.{count_by-le-length, length-filter}
-use Rattle.std.proofs.lemmas.Nat.{mul-le}
 use Rattle.amr_box.specs.declared.Cell.{Cell}
-use Rattle.amr_box.specs.Cells.{cells_of, height, width}
-use Rattle.amr_box.proofs.Parts.{length-cells_of}
-use Rattle.amr_box.proofs.Numbers.{domain_side}
 use Rattle.amr_def.specs.declared.problem.Problem.{Problem}
-use Rattle.amr_def.specs.Domain.{domain, domain_box}
 use Rattle.amr_def.specs.State.{Masses}
 use Rattle.amr_flows.proofs.RegisterFlowsSigns.{register_cells_rise}
 use Rattle.amr_flows.proofs.SubcycleSizes.{within_from}
 use Rattle.amr_register.specs.declared.register.Register.{Register}
 use Rattle.amr_register.specs.Entries.{AreRising}
-use Rattle.amr_register.specs.RegisterCells.{is_register_cell, register_cells}
 use Rattle.amr_register.specs.Registers.{IsRegisterOf, SameCells, cells_in, entry_in}
-use Rattle.amr_register.proofs.Homes.{size_at}
 use Rattle.amr_register.proofs.Refluxes.{apart_places}
 use Rattle.amr_register.proofs.Taken.{same_at}
 use Rattle.amr_register.proofs.SameCells.{same_itself, same_twice}
@@ -43,18 +35,6 @@ rises : (r : Register) → IsOfLevels r → AreRising (cells_in r)
 rises r made =
     let fine = made.1.1.1.0 in
     subst (λ (cs : List Cell). AreRising cs) (sym made.1.1.1.1.cells) (register_cells_rise made.0 made.1.0 made.1.1.0 fine)
-
--- ---- how many register cells there are
-
-pub few_cells : (p : Problem) (l : ℕ) (m fine : Masses) → l ≤ 4 → length (register_cells p l m fine) ≤ 2 ^ 24
-few_cells p l m fine shallow =
-    let d = domain p l in
-    let test = is_register_cell d m fine in
-    let size = size_at p l shallow in
-    let wide : width (domain_box d) ≤ 4096 = omega (arith, domain_side d.columns, size.few_columns) in
-    let high : height (domain_box d) ≤ 4096 = omega (arith, domain_side d.rows, size.few_rows) in
-    let most : width (domain_box d) * height (domain_box d) ≤ 4096 * 4096 = mul-le (width (domain_box d)) (height (domain_box d)) 4096 4096 wide high in
-    omega (arith, length-filter test (cells_of (domain_box d)), count_by-le-length test (cells_of (domain_box d)), length-cells_of (domain_box d), most)
 
 -- ---- the entry of the next cell
 

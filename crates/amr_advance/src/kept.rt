@@ -73,28 +73,23 @@ impl KeptLayout {
 fn is_same_cell(a: &Cell, b: &Cell) -> bool
     ensures { IsTrue result → a.now ≡ b.now }
 {
-    if a.x != b.x {
-        return false;
-    }
-    if a.y != b.y {
-        return false;
-    }
-    true
+    let in_column = a.x == b.x;
+    let in_row = a.y == b.y;
+    in_column & in_row
 }
 
-/// Whether two lists have the same cells in the same order.
+/// Whether two lists have the same cells in the same order. It goes over all of them, so that many are compared at once.
 fn are_same_cells(a: &[Cell], b: &[Cell]) -> bool
     ensures { IsTrue result → a.now ≡ b.now }
 {
     if a.len() != b.len() {
         return false;
     }
+    let mut same = true;
     for k in 0..a.len() {
-        if !is_same_cell(&a[k], &b[k]) {
-            return false;
-        }
+        same &= is_same_cell(&a[k], &b[k]);
     }
-    true
+    same
 }
 
 /// Whether the patches of the finer level have these boxes. There are none where there is no such level.

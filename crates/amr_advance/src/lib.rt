@@ -2,7 +2,8 @@
 //! one patch after another, each by its own values and those of its frame. A team that shares levels out hands each worker a lot, a
 //! run of the level's patches; it fills their ghost cells, works out what flows into the level's register cells, and does the same. Else
 //! each patch is the piece of a task on a board, the larger patches first. What flows through the faces between patches goes over the
-//! board, and so do the sums for the ledger and for the flux register of the next coarser level.
+//! board, and so do the sums for the ledger and for the flux register of the next coarser level. After the steps of a finer level its
+//! lots add up the masses of children, which the covered cells get ([`sum_up_kept`]).
 #![tactic(auto)]
 
 mod alone;

@@ -15,7 +15,7 @@ use Rattle.amr_patch.specs.declared.levels.Level.{Level as Held}
 use Rattle.amr_patch.specs.Levels.{level_of}
 use Rattle.amr_register.specs.declared.register.Register.{Register}
 use Rattle.amr_register.specs.RegisterCells.{register_cells}
-use Rattle.amr_register.specs.Registers.{HasEdgesOf, IsRegisterOf, entry_in}
+use Rattle.amr_register.specs.Registers.{HasEdgesOf, IsPlaced, IsRegisterOf, entry_in}
 use Rattle.amr_register.proofs.SameCells.{edges_kept, no_entry, of_covered, register_kept, small_entries}
 use Rattle.amr_flows.specs.Words.{child_flows}
 use Rattle.amr_flows.specs.Subcycle.{AreGathered, CoverAlike, children_part, edge_part}
@@ -89,6 +89,11 @@ gathers p l k fine old between (Some r) h = record {
 pub some_register : (p : Problem) (l : ℕ) (m fine : Masses) (e : Cell → ℤ) (r : Option Register) → SomeHasEntries p l m fine e r → IsSome r
 some_register p l m fine e None h = absurd h
 some_register p l m fine e (Some r) h = refl
+
+-- its cells stand in its lists
+pub is_placed : (p : Problem) (l : ℕ) (m fine : Masses) (e : Cell → ℤ) (r : Option Register) → SomeHasEntries p l m fine e r → IfSome r IsPlaced
+is_placed p l m fine e None h = absurd h
+is_placed p l m fine e (Some r) h = h.of_levels.placed
 
 pub listed_in : (p : Problem) (l : ℕ) (m fine : Masses) (e : Cell → ℤ) (r : Option Register) (c : Cell) → SomeHasEntries p l m fine e r → Contains (cells_of r) c → Contains (register_cells p l m fine) c
 listed_in p l m fine e None c h listed = absurd h

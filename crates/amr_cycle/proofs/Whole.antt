@@ -1,6 +1,6 @@
 -- A step of levels as calls make it: the coarsest, then twice the others, then the correction.
 use Rattle.std.proofs.Common.{◌≡◌, ℕ, suc, ◌+◌, ◌^◌, ◌<◌, ℤ, pos, ◌+ℤ◌, neg_ℤ, Bool, List, ◌∷◌, map, refl, sym, ap, subst, ◌∙◌, arith}
-use Rattle.std.specs.Prelude.{◌≤ℤ◌, ◌<ℤ◌, IsSome}
+use Rattle.std.specs.Prelude.{◌≤ℤ◌, ◌<ℤ◌, IfSome, IsSome}
 use Rattle.std.specs.declared.option.Option.{Option}
 use Rattle.std.specs.declared.option.Option.TheVariants.{Some}
 use Rattle.std.specs.List.{All, Contains}
@@ -21,6 +21,7 @@ use Rattle.amr_patch.specs.Levels.{level_of, patches_of}
 use Rattle.amr_ghost.specs.Frames.{old_masses}
 use Rattle.amr_register.specs.declared.register.Register.{Register}
 use Rattle.amr_register.specs.Entries.{with_entries}
+use Rattle.amr_register.specs.Registers.{IsPlaced}
 use Rattle.amr_register.specs.RegisterCells.{register_cells}
 use Rattle.amr_transfer.specs.Sums.{AreCoarsenable, summed}
 use Rattle.amr_flows.specs.Subcycle.{AreGathered, CoverAlike, children_part, edge_part, flows_of_step}
@@ -30,7 +31,7 @@ use Rattle.amr_cycle.proofs.Coarsenable.{all_coarsenable}
 use Rattle.amr_cycle.proofs.Cycling.{alike_between, coarse_level, coarse_nested, cycle_is, first_part, flows_are, last_is, lost_small, next_boxes, next_masses, next_part, won_small}
 use Rattle.amr_cycle.proofs.Cycling as cycling
 use Rattle.amr_cycle.proofs.Corrections.{fits_32, kept_at, of_level_at, parents_at, small_sums}
-use Rattle.amr_cycle.proofs.Registers.{gathers, listed_in, serves, some_register, won}
+use Rattle.amr_cycle.proofs.Registers.{gathers, is_placed, listed_in, serves, some_register, won}
 
 plus_one : (n : ℕ) → n + 1 ≡ suc n
 plus_one n = omega arith
@@ -141,6 +142,9 @@ module _ (p : Problem) (l : ℕ) (k : Level) (finer : List Held) (old : Masses) 
         pub has2 : SomeHasEntries p l k.masses fine.masses (λ c. entries_1 c +ℤ children_part p l k fine.masses (cycling.between p l k fine ks old part_of) c) regs2
         has2 = subst (λ (m : Masses). SomeHasEntries p l k.masses fine.masses (λ c. entries_1 c +ℤ children_part p l k fine.masses m c) regs2) between_is
             (won p l k fine (level_of next1).masses (old_masses over) entries_1 regs1 regs2 same_masses alike has1 (changed (level_of next1).masses regs1 regs2 change2))
+
+        pub placed_2 : IfSome regs2 IsPlaced
+        placed_2 = is_placed p l k.masses fine.masses (λ c. entries_1 c +ℤ children_part p l k fine.masses (cycling.between p l k fine ks old part_of) c) regs2 has2
 
         pub gathered2 : AreGathered p l k old fine.masses (cycling.between p l k fine ks old part_of) (entries_of regs2)
         gathered2 = gathers p l k fine old (cycling.between p l k fine ks old part_of) regs2 has2

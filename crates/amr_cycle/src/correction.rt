@@ -8,7 +8,7 @@ ghost use Rattle.amr_def.specs.State.{Masses, children_mass, mass_of};
 ghost use Rattle.amr_patch.specs.Levels.{level_of, patches_of};
 ghost use Rattle.amr_patch.specs.Patches.{box};
 ghost use Rattle.amr_register.specs.Entries.{with_entries};
-ghost use Rattle.amr_register.specs.Registers.{cells_in, entry_in};
+ghost use Rattle.amr_register.specs.Registers.{HasEdgesOf, IsPlaced, cells_in, entry_in};
 ghost use Rattle.amr_advance.specs.Kept.{IsCurrent, IsKept};
 ghost use Rattle.amr_advance.specs.Registers.{cells_of};
 ghost use Rattle.amr_advance.specs.Teams.{IsTeamFor};
@@ -33,6 +33,8 @@ fn correct_by<R: Wait, G: Gate>(
     finer: &mut Level,
     layout: &mut Option<KeptLayout>,
 )
+    requires placed { IsPlaced register.now }
+    requires edges { HasEdgesOf (map box (patches_of level.old)) register.now }
     requires of_level { (c : Cell) → Contains (cells_in register.now) c → IsSome ((level_of level.old).masses c) }
     requires kept { (c : Cell) → Contains (cells_in register.now) c → pos 0 ≤ℤ (pos (mass_of (level_of level.old).masses c) +ℤ entry_in register.now c) }
     requires fits { (c : Cell) → Contains (cells_in register.now) c → (pos (mass_of (level_of level.old).masses c) +ℤ entry_in register.now c) <ℤ pos (2 ^ 32) }
@@ -64,6 +66,8 @@ pub(crate) fn correct<R: Wait, G: Gate>(
     layout: &mut Option<KeptLayout>,
 )
     requires some { IsSome register.now }
+    requires placed { IfSome register.now IsPlaced }
+    requires edges { IfSome register.now (HasEdgesOf (map box (patches_of level.old))) }
     requires of_level { (c : Cell) → Contains (cells_of register.now) c → IsSome ((level_of level.old).masses c) }
     requires kept { (c : Cell) → Contains (cells_of register.now) c → pos 0 ≤ℤ (pos (mass_of (level_of level.old).masses c) +ℤ entries_of register.now c) }
     requires fits { (c : Cell) → Contains (cells_of register.now) c → (pos (mass_of (level_of level.old).masses c) +ℤ entries_of register.now c) <ℤ pos (2 ^ 32) }

@@ -113,6 +113,7 @@ fn step_coarse<R: Threads + Wait + Sync, G: Gate + Sync>(
     ensures current { OnOk result ((M : Masses) → IfSome own.new.layout (IsCurrent M)) }
     ensures valued { OnOk result (IfSome own.new.layout (IsValued given.now.problem.now given.now.level (old_masses (option_copied given.now.old)))) }
     ensures before { IfOk result (λ b. level_of b.before ≡ level_of level.old) }
+    ensures before_patches { IfOk result (λ b. map box (patches_of b.before) ≡ map box (patches_of level.old)) }
     ensures finer_boxes { IfOk result (λ b. (c : Cell) → is_some ((level_of next.now).masses c) ≡ in_boxes b.finer.items c) }
     ensures masses { OnOk result ((level_of level.new).masses ≡ updated (level_of level.old).masses (flux_at given.now.problem.now given.now.level (level_of level.old).masses (old_masses (option_copied given.now.old)))) }
     ensures boxes { OnOk result ((level_of level.new).boxes ≡ (level_of level.old).boxes) }

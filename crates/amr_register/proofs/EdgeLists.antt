@@ -3,7 +3,6 @@ use Rattle.std.proofs.Common.{◌≡◌, ◌∙◌, ℕ, zero, suc, ◌+◌, ◌
 use Rattle.std.specs.List.{All, AllZip}
 use Rattle.std.proofs.lemmas.List.{get_or-append_right, get_or_append_left, length-append}
 use Rattle.std.proofs.lemmas.Bool.{cases_lt}
-use Rattle.std.proofs.lemmas.Slice.Zip.{AllZip-long}
 use Rattle.amr_box.specs.declared.Cell.{Cell}
 use Rattle.amr_box.specs.Cells.{Extent, holds}
 use Rattle.amr_def.specs.declared.problem.Problem.{Problem}
@@ -11,11 +10,10 @@ use Rattle.amr_def.specs.Domain.{Domain}
 use Rattle.amr_def.specs.State.{Masses, is_covered}
 use Rattle.amr_patch.specs.declared.patches.Patch.{Patch}
 use Rattle.amr_register.specs.declared.edges.EdgeCell.{EdgeCell}
-use Rattle.amr_register.specs.declared.edges.EdgePlace.{EdgePlace}
 use Rattle.amr_register.specs.declared.sides.CoveredSides.{CoveredSides}
 use Rattle.amr_register.specs.RegisterCells.{is_register_cell}
 use Rattle.amr_register.specs.Beside.{HasSides}
-use Rattle.amr_register.specs.EdgeCells.{AreEdges, AreEdgesIn, ArePlacesOf, HasNet, HaveNets, IsEdge, IsPlaceOf, IsSameEdge, SameEdges}
+use Rattle.amr_register.specs.EdgeCells.{AreEdges, AreEdgesIn, HasNet, HaveNets, IsEdge, IsSameEdge, SameEdges}
 use Rattle.amr_register.proofs.Taken.{same_at}
 
 pub first_of : {A : Type 0} (xs : List A) (k : ℕ) → k < length xs → A
@@ -65,13 +63,13 @@ all_along P Q R [] (y ∷ ys) f h all = absurd h
 all_along P Q R (x ∷ xs) [] f h all = absurd h
 all_along P Q R (x ∷ xs) (y ∷ ys) f h all = all_with Q y ys (f x y h.0 (all 0 x (omega arith))) (all_along P Q R xs ys f h.1 (λ i e below. all (suc i) e (omega (arith, below))))
 
--- ---- the same cells with the same sides
+-- ---- the same cells with the same sides and numbers
 
 one_same : (a : EdgeCell) → IsSameEdge a a
-one_same a = record { cell = refl; sides = refl }
+one_same a = record { cell = refl; sides = refl; number = refl }
 
 one_twice : (a b c : EdgeCell) → IsSameEdge a b → IsSameEdge b c → IsSameEdge a c
-one_twice a b c h k = record { cell = k.cell ∙ h.cell; sides = k.sides ∙ h.sides }
+one_twice a b c h k = record { cell = k.cell ∙ h.cell; sides = k.sides ∙ h.sides; number = k.number ∙ h.number }
 
 pub same_edges_itself : (xs : List (List EdgeCell)) → SameEdges xs xs
 same_edges_itself xs = zip_same (AllZip IsSameEdge) xs (λ es. zip_same IsSameEdge es one_same)
@@ -80,7 +78,7 @@ pub same_edges_twice : (xs ys zs : List (List EdgeCell)) → SameEdges xs ys →
 same_edges_twice xs ys zs h k = zip_twice (AllZip IsSameEdge) (AllZip IsSameEdge) (AllZip IsSameEdge) xs ys zs (λ a b c. zip_twice IsSameEdge IsSameEdge IsSameEdge a b c one_twice) h k
 
 one_net : (p : Problem) (l : ℕ) (q : Patch) (a b : EdgeCell) → HasNet p l q a b → IsSameEdge a b
-one_net p l q a b h = record { cell = h.cell; sides = h.sides }
+one_net p l q a b h = record { cell = h.cell; sides = h.sides; number = h.number }
 
 pub same_edges : (p : Problem) (l : ℕ) (qs : List Patch) (xs ys : List (List EdgeCell)) → HaveNets p l qs xs ys → SameEdges xs ys
 same_edges p l qs xs ys h =
@@ -110,20 +108,6 @@ kept_edges d m fine xs ys same h = all_along (All (IsEdge d m fine)) (All (IsEdg
 
     each : (es fs : List EdgeCell) → AllZip IsSameEdge es fs → All (IsEdge d m fine) es → All (IsEdge d m fine) fs
     each es fs alike all = all_along (IsEdge d m fine) (IsEdge d m fine) IsSameEdge es fs one alike all
-
--- and cells stay at their places
-pub kept_place : (xs ys : List (List EdgeCell)) (c : Cell) (w : EdgePlace) → SameEdges xs ys → IsPlaceOf xs c w → IsPlaceOf ys c w
-kept_place xs ys c w same h =
-    let count : length ys ≡ length xs = AllZip-long (AllZip IsSameEdge) xs ys same in
-    let lists : AllZip IsSameEdge (get_or xs w.patch []) (get_or ys w.patch []) = zip_at (AllZip IsSameEdge) xs ys w.patch [] [] same h.inside.patch in
-    let long : length (get_or ys w.patch []) ≡ length (get_or xs w.patch []) = AllZip-long IsSameEdge (get_or xs w.patch []) (get_or ys w.patch []) lists in
-    record {
-      inside = record { patch = omega (arith, count, h.inside.patch); number = omega (arith, long, h.inside.number) };
-      cell = λ e. (zip_at IsSameEdge (get_or xs w.patch []) (get_or ys w.patch []) w.number e e lists h.inside.number).cell ∙ h.cell e;
-    }
-
-pub kept_places : (xs ys : List (List EdgeCell)) (cs : List Cell) (ws : List EdgePlace) → SameEdges xs ys → ArePlacesOf xs cs ws → ArePlacesOf ys cs ws
-kept_places xs ys cs ws same h k c w lt = kept_place xs ys (get_or cs k c) (get_or ws k w) same (h k c w lt)
 
 -- ---- runs one after the other
 

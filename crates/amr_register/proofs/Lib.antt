@@ -20,8 +20,11 @@ pub mod RegisterRows
 pub mod Once
 pub mod Changed
 pub mod EdgeLists
+pub mod Writes
 pub mod NetLists
 pub mod ListsMade
 pub mod EdgeNets
 pub mod EdgesTaken
+pub mod Numbers
+pub mod FewCells
 pub mod SameCells

@@ -1,5 +1,5 @@
 -- Net flows that are found list by list.
-use Rattle.std.proofs.Common.{◌≡◌, ◌∙◌, ℕ, ◌<◌, ◌≤◌, List, [], length, map, get_or, sym, subst, arith}
+use Rattle.std.proofs.Common.{◌≡◌, ◌∙◌, ℕ, ◌<◌, ◌≤◌, List, [], length, map, get_or, sym, ap, subst, arith}
 use Rattle.std.specs.List.{All, AllZip}
 use Rattle.std.specs.Global.{Vec}
 use Rattle.std.proofs.lemmas.List.{get_or-map, length-map}
@@ -21,6 +21,13 @@ list_inside qs vs k q v h lt =
     let there : k < length vs = omega (arith, lt, lists_count qs vs h) in
     subst (λ (b : Extent). AreEdgesIn b (get_or vs k v).items) (get_or-map box qs k q (box q) lt)
     (subst (AreEdgesIn (get_or (map box qs) k (box q))) (get_or-map (λ (w : Vec EdgeCell). w.items) vs k v [] there) (zip_at AreEdgesIn (map box qs) (lists_of vs) k (box q) [] h (omega (arith, lt, length-map qs box))))
+
+-- list k of all lists
+pub lists_number : (vs : List (Vec EdgeCell)) (k : ℕ) → k < length vs → k < length (lists_of vs)
+lists_number vs k lt = omega (arith, lt, length-map vs (λ (v : Vec EdgeCell). v.items))
+
+pub list_of : (vs : List (Vec EdgeCell)) (k : ℕ) (v : Vec EdgeCell) → k < length vs → v ≡ get_or vs k v → v.items ≡ get_or (lists_of vs) k []
+list_of vs k v lt is = ap (λ (w : Vec EdgeCell). w.items) is ∙ sym (get_or-map (λ (w : Vec EdgeCell). w.items) vs k v [] lt)
 
 -- a list before and after, whose place is k
 abbrev pub IsFound : Problem → ℕ → List Patch → ℕ → Vec EdgeCell → Vec EdgeCell → Type 0

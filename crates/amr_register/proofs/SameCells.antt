@@ -9,15 +9,15 @@ use Rattle.amr_def.specs.Domain.{Domain, cells_where, domain}
 use Rattle.amr_def.specs.State.{Masses, is_covered}
 use Rattle.amr_register.specs.declared.register.Register.{Register}
 use Rattle.amr_register.specs.declared.edges.EdgeCell.{EdgeCell}
-use Rattle.amr_register.specs.declared.edges.EdgePlace.{EdgePlace}
 use Rattle.amr_register.specs.declared.sides.CoveredSides.{CoveredSides}
 use Rattle.amr_register.specs.RegisterCells.{has_neighbour_where, is_register_cell}
 use Rattle.amr_register.specs.Beside.{HasSides, HaveSides}
-use Rattle.amr_register.specs.EdgeCells.{ArePlacesOf, SameEdges}
-use Rattle.amr_register.specs.Registers.{HasEdgesOf, IsPlaced, IsRegisterOf, IsWithEdges, SameCells, cells_in, edges_in, entry_in, places_in, sides_in}
+use Rattle.amr_register.specs.EdgeCells.{HaveEachOnce, SameEdges}
+use Rattle.amr_register.specs.Registers.{HasEdgesOf, IsPlaced, IsRegisterOf, IsWithEdges, SameCells, cells_in, edges_in, entry_in, sides_in}
 use Rattle.amr_register.proofs.CellLists.{is_or_not}
-use Rattle.amr_register.proofs.EdgeLists.{kept_edges, kept_in, kept_places, same_edges_itself, same_edges_twice}
+use Rattle.amr_register.proofs.EdgeLists.{kept_edges, kept_in, same_edges_itself, same_edges_twice}
 use Rattle.amr_register.proofs.EntryLaws.{entry_of_none}
+use Rattle.amr_register.proofs.Numbers.{kept_once}
 
 covered_same : (fine fine' : Masses) → ((c : Cell) → is_some (fine' c) ≡ is_some (fine c)) → is_covered fine' ≡ is_covered fine
 unfolding is_covered
@@ -43,9 +43,7 @@ of_cells p l m fine m' fine' r h covered of =
     }
 
 placed_still : (r s : Register) → SameCells r s → IsPlaced r → IsPlaced s
-placed_still r s same h =
-    subst (λ (ws : List EdgePlace). ArePlacesOf (edges_in s) (cells_in s) ws) (sym same.places)
-    (subst (λ (cs : List Cell). ArePlacesOf (edges_in s) cs (places_in r)) (sym same.cells) (kept_places (edges_in r) (edges_in s) (cells_in r) (places_in r) same.edges h))
+placed_still r s same h = subst (λ (cs : List Cell). HaveEachOnce cs (edges_in s)) (sym same.cells) (kept_once (edges_in r) (edges_in s) same.edges (cells_in r) h)
 
 -- a register serves all finer levels that cover the same cells
 pub of_covered : (p : Problem) (l : ℕ) (m fine after : Masses) (r : Register) → is_covered after ≡ is_covered fine → IsRegisterOf p l m fine r → IsRegisterOf p l m after r
@@ -66,10 +64,10 @@ register_kept p l m fine r s same of = record {
 }
 
 pub same_itself : (r : Register) → SameCells r r
-same_itself r = record { cells = refl; sides = refl; edges = same_edges_itself (edges_in r); places = refl }
+same_itself r = record { cells = refl; sides = refl; edges = same_edges_itself (edges_in r) }
 
 pub same_twice : (r s t : Register) → SameCells r s → SameCells s t → SameCells r t
-same_twice r s t a b = record { cells = b.cells ∙ a.cells; sides = b.sides ∙ a.sides; edges = same_edges_twice (edges_in r) (edges_in s) (edges_in t) a.edges b.edges; places = b.places ∙ a.places }
+same_twice r s t a b = record { cells = b.cells ∙ a.cells; sides = b.sides ∙ a.sides; edges = same_edges_twice (edges_in r) (edges_in s) (edges_in t) a.edges b.edges }
 
 -- a list for each box stays one
 pub edges_kept : (boxes : List Extent) (r s : Register) → SameCells r s → HasEdgesOf boxes r → HasEdgesOf boxes s
@@ -81,7 +79,6 @@ put_back r s t xs ys out back same = record {
   cells = back.cells ∙ out.cells;
   sides = back.sides ∙ out.sides;
   edges = subst (λ (zs : List (List EdgeCell)). SameEdges (edges_in r) zs) (sym back.edges) same;
-  places = back.places ∙ out.places;
 }
 
 -- a cell that is not among its cells has no entry

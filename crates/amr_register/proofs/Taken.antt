@@ -6,7 +6,6 @@ use Rattle.std.proofs.lemmas.List.{get_or-set_other, get_or-set_same}
 use Rattle.amr_box.specs.declared.Cell.{Cell}
 use Rattle.amr_box.specs.Cells.{cell}
 use Rattle.amr_register.specs.declared.edges.EdgeCell.{EdgeCell}
-use Rattle.amr_register.specs.declared.edges.EdgePlace.{EdgePlace}
 use Rattle.amr_register.specs.declared.sides.CoveredSides.{CoveredSides}
 use Rattle.amr_register.specs.EdgeCells.{new_edge}
 
@@ -47,7 +46,4 @@ abbrev pub no_sides : CoveredSides
 no_sides = record { west = false; east = false; south = false; north = false }
 
 abbrev pub no_edge : EdgeCell
-no_edge = new_edge no_cell no_sides
-
-abbrev pub no_place : EdgePlace
-no_place = record { patch = 0; number = 0 }
+no_edge = new_edge 0 no_cell no_sides

@@ -13,7 +13,6 @@ use Rattle.amr_patch.specs.declared.patches.Patch.{Patch}
 use Rattle.amr_flux.specs.Faces.{flux_beside}
 use Rattle.amr_register.specs.declared.sides.CoveredSides.{CoveredSides}
 use Rattle.amr_register.specs.declared.edges.EdgeCell.{EdgeCell}
-use Rattle.amr_register.specs.declared.edges.EdgePlace.{EdgePlace}
 use Rattle.amr_register.specs.RegisterCells.{is_register_cell}
 use Rattle.amr_register.specs.Beside.{HasSides}
 use Rattle.amr_register.specs.CoarseFlows.{high_face, low_face}
@@ -37,6 +36,7 @@ net_beside p l q s c =
 pub record HasNet (p : Problem) (l : ℕ) (q : Patch) (a b : EdgeCell) : Type 0 where
   pub cell : b.cell ≡ a.cell
   pub sides : b.sides ≡ a.sides
+  pub number : b.number ≡ a.number
   pub net : b.net ≡ net_beside p l q a.sides a.cell
 
 -- the same of the list of each patch
@@ -63,47 +63,69 @@ pub record IsEdge (d : Domain) (m fine : Masses) (e : EdgeCell) : Type 0 where
 abbrev pub AreEdges : Domain → Masses → Masses → List (List EdgeCell) → Type 0
 AreEdges d m fine xs = All (All (IsEdge d m fine)) xs
 
--- the same cell with the same sides; the net flows may differ
+-- the same cell with the same sides and number; the net flows may differ
 pub record IsSameEdge (a b : EdgeCell) : Type 0 where
   pub cell : b.cell ≡ a.cell
   pub sides : b.sides ≡ a.sides
+  pub number : b.number ≡ a.number
 
 -- place by place
 abbrev pub SameEdges : List (List EdgeCell) → List (List EdgeCell) → Type 0
 SameEdges xs ys = AllZip (AllZip IsSameEdge) xs ys
 
--- ---- making the lists
+-- ---- numbers
 
--- a cell before anything is worked out for it
-abbrev pub new_edge : Cell → CoveredSides → EdgeCell
-new_edge c s = record { cell = c; sides = s; net = pos 0 }
+-- its number is that of its cell among these
+pub record IsNumbered (cs : List Cell) (e : EdgeCell) : Type 0 where
+  pub inside : e.number < length cs
+  pub cell : (c : Cell) → e.cell ≡ slice_index_or cs e.number c
 
--- it is one of these cells, with the sides at its place
+-- so it is one of these cells, with the sides at its number
 pub record IsAmong (cs : List Cell) (ss : List CoveredSides) (e : EdgeCell) : Type 0 where
-  pub number : ℕ
-  pub inside : number < length cs
-  pub cell : (c : Cell) → e.cell ≡ slice_index_or cs number c
-  pub sides : (s : CoveredSides) → e.sides ≡ slice_index_or ss number s
+  pub numbered : IsNumbered cs e
+  pub sides : (s : CoveredSides) → e.sides ≡ slice_index_or ss e.number s
+
+-- cell k with its sides, before anything is worked out for it
+abbrev pub new_edge : ℕ → Cell → CoveredSides → EdgeCell
+new_edge k c s = record { cell = c; sides = s; number = k; net = pos 0 }
 
 -- ---- places in the lists
 
--- the place after the last cell of a list
-abbrev pub end_place : List (List EdgeCell) → ℕ → EdgePlace
-end_place xs k = record { patch = k; number = length (slice_index_or xs k []) }
+-- where a cell stands in lists: the number of its list, and its place there
+pub record Place : Type 0 where
+  pub list : ℕ
+  pub at : ℕ
 
 -- what stands at a place
-abbrev pub edge_at : List (List EdgeCell) → EdgePlace → EdgeCell → EdgeCell
-edge_at xs w e = slice_index_or (slice_index_or xs w.patch []) w.number e
+abbrev pub edge_at : List (List EdgeCell) → Place → EdgeCell → EdgeCell
+edge_at xs w e = slice_index_or (slice_index_or xs w.list []) w.at e
 
-pub record IsPlaceIn (xs : List (List EdgeCell)) (w : EdgePlace) : Type 0 where
-  pub patch : w.patch < length xs
-  pub number : w.number < length (slice_index_or xs w.patch [])
+pub record IsPlaceIn (xs : List (List EdgeCell)) (w : Place) : Type 0 where
+  pub list : w.list < length xs
+  pub at : w.at < length (slice_index_or xs w.list [])
 
--- the cell stands there
-pub record IsPlaceOf (xs : List (List EdgeCell)) (c : Cell) (w : EdgePlace) : Type 0 where
+-- the cell with number k stands there
+pub record IsPlaceOf (xs : List (List EdgeCell)) (k : ℕ) (w : Place) : Type 0 where
   pub inside : IsPlaceIn xs w
-  pub cell : (e : EdgeCell) → (edge_at xs w e).cell ≡ c
+  pub number : (e : EdgeCell) → (edge_at xs w e).number ≡ k
 
--- the places of cells, one for each
-abbrev pub ArePlacesOf : List (List EdgeCell) → List Cell → List EdgePlace → Type 0
-ArePlacesOf xs cs ws = (k : ℕ) (c : Cell) (w : EdgePlace) → k < length cs → IsPlaceOf xs (slice_index_or cs k c) (slice_index_or ws k w)
+-- the cell with number k has a place
+pub record IsListed (xs : List (List EdgeCell)) (k : ℕ) : Type 0 where
+  pub place : Place
+  pub has : IsPlaceOf xs k place
+
+abbrev pub number_of : EdgeCell → ℕ
+number_of e = e.number
+
+abbrev pub cell_of : EdgeCell → Cell
+cell_of e = e.cell
+
+-- each key, as a number or a cell, has one place
+abbrev pub AreOnceBy : {K : Type 0} → (EdgeCell → K) → List (List EdgeCell) → Type 0
+AreOnceBy key xs = (v w : Place) (e : EdgeCell) → IsPlaceIn xs v → IsPlaceIn xs w → key (edge_at xs v e) ≡ key (edge_at xs w e) → v ≡ w
+
+-- these cells stand in the lists by their numbers, each once, and no others
+pub record HaveEachOnce (cs : List Cell) (xs : List (List EdgeCell)) : Type 0 where
+  pub numbered : All (All (IsNumbered cs)) xs
+  pub listed : (k : ℕ) → k < length cs → IsListed xs k
+  pub once : AreOnceBy number_of xs

@@ -6,5 +6,6 @@ pub mod Beside
 pub mod Collecting
 pub mod CoarseFlows
 pub mod EdgeCells
+pub mod Written
 pub mod Registers
 pub mod Laws

@@ -9,11 +9,10 @@ use Rattle.amr_def.specs.Domain.{domain}
 use Rattle.amr_def.specs.State.{Masses, is_covered}
 use Rattle.amr_register.specs.declared.register.Register.{Register}
 use Rattle.amr_register.specs.declared.edges.EdgeCell.{EdgeCell}
-use Rattle.amr_register.specs.declared.edges.EdgePlace.{EdgePlace}
 use Rattle.amr_register.specs.declared.sides.CoveredSides.{CoveredSides}
 use Rattle.amr_register.specs.RegisterCells.{register_cells}
 use Rattle.amr_register.specs.Beside.{HaveSides}
-use Rattle.amr_register.specs.EdgeCells.{AreEdges, AreEdgesIn, ArePlacesOf, SameEdges, lists_of}
+use Rattle.amr_register.specs.EdgeCells.{AreEdges, AreEdgesIn, HaveEachOnce, SameEdges, lists_of}
 use Rattle.amr_register.specs.Entries.{entry_at}
 
 -- its cells, in order
@@ -32,17 +31,13 @@ sides_in r = r.sides.items
 unfoldable pub edges_in : Register → List (List EdgeCell)
 edges_in r = lists_of r.edges.items
 
--- where its cells stand there
-unfoldable pub places_in : Register → List EdgePlace
-places_in r = r.places.items
-
 -- it has a list for each of these boxes, with cells of the box
 pub record HasEdgesOf (boxes : List Extent) (r : Register) : Type 0 where
   pub lists : AllZip AreEdgesIn boxes (edges_in r)
 
--- each of its cells stands in the lists, at the place that it remembers
+-- each of its cells stands in the lists once, with its number, and no others
 abbrev pub IsPlaced : Register → Type 0
-IsPlaced r = ArePlacesOf (edges_in r) (cells_in r) (places_in r)
+IsPlaced r = HaveEachOnce (cells_in r) (edges_in r)
 
 -- it was made over level l with masses m, below a finer level with masses `fine`, and its lists are not taken out
 pub record IsRegisterOf (p : Problem) (l : ℕ) (m fine : Masses) (r : Register) : Type 0 where
@@ -56,12 +51,10 @@ pub record SameCells (r s : Register) : Type 0 where
   pub cells : cells_in s ≡ cells_in r
   pub sides : sides_in s ≡ sides_in r
   pub edges : SameEdges (edges_in r) (edges_in s)
-  pub places : places_in s ≡ places_in r
 
 -- it is the same but for its lists, which are these
 pub record IsWithEdges (xs : List (List EdgeCell)) (r s : Register) : Type 0 where
   pub edges : edges_in s ≡ xs
   pub cells : cells_in s ≡ cells_in r
   pub sides : sides_in s ≡ sides_in r
-  pub places : places_in s ≡ places_in r
   pub entries : (c : Cell) → entry_in s c ≡ entry_in r c

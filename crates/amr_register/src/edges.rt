@@ -16,19 +16,14 @@ use amr_def::Problem;
 use amr_flux::face_flux;
 use amr_patch::Patch;
 
-/// A register cell of a patch, the sides where covered cells lie beside it, and what flows into it there.
+/// A register cell of a patch, the sides where covered cells lie beside it, its number in the register, and what flows into it
+/// through those sides.
 #[derive(Clone, Copy, Debug)]
 pub struct EdgeCell {
     pub(crate) cell: Cell,
     pub(crate) sides: CoveredSides,
+    pub(crate) number: u32,
     pub(crate) net: i64,
-}
-
-/// Where a register cell stands in the lists of edge cells: the number of its patch, and its own there.
-#[derive(Clone, Copy, Debug)]
-pub(crate) struct EdgePlace {
-    pub(crate) patch: usize,
-    pub(crate) number: usize,
 }
 
 /// The flow through a face of a patch by its values, if it counts.

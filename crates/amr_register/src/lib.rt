@@ -2,11 +2,11 @@
 //! that a finer level covers. So each unit of mass that the finer faces carried is accounted for.
 //!
 //! A [`Register`] has an entry for each register cell, a cell that is not covered beside one that is. It also has a list of
-//! them for each patch of the level, as [`EdgeCell`]s. The coarse step works out, list by list, what flows into them through
-//! the coarse-fine edges by the values of their patch ([`Register::find_all_nets`], or [`find_nets`] where the lists were
-//! taken out), and takes it away from the entries ([`Register::take_nets`]). What flowed through the finer faces there is
-//! added ([`Register::absorb`]). In the end each entry is added to its cell ([`Register::reflux`]). [`Register::clear`] makes
-//! it ready for the next step.
+//! them for each patch of the level, as [`EdgeCell`]s, each with its number in the register. So a step goes patch by patch, and
+//! looks no cell up. The coarse step works out what flows into them through the coarse-fine edges by the values of their patch
+//! ([`Register::find_all_nets`], or [`find_nets`] where the lists were taken out), and takes it away from the entries
+//! ([`Register::take_nets`]). What flowed through the finer faces there is added ([`Register::absorb`]). In the end each entry
+//! is added to its cell ([`Register::reflux`]). [`Register::clear`] makes it ready for the next step.
 //!
 //! [`Register::coarse_part`] is the same by owners of faces: what one patch takes away.
 #![tactic(auto)]

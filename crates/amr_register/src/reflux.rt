@@ -1,20 +1,21 @@
 //! Entries added to the masses of their cells.
 
-ghost use Rattle.std.specs.Prelude.{◌≡◌, ℕ, ◌<◌, ◌^◌, pos, ◌+ℤ◌, ◌≤ℤ◌, ◌<ℤ◌, cond, Some, length, slice_index_or, IsSome};
+ghost use Rattle.std.specs.Prelude.{◌≡◌, ◌<◌, ◌^◌, pos, ◌+ℤ◌, ◌≤ℤ◌, ◌<ℤ◌, cond, Some, length, map};
+ghost use Rattle.std.specs.List.{All, AllZip};
 ghost use Rattle.std.specs.Ordering.{eq_by_cmp};
 ghost use Rattle.amr_box.specs.declared.Cell.{Cell};
 ghost use Rattle.amr_box.specs.Cells.{at_least_zero, cell_cmp};
 ghost use Rattle.amr_def.specs.State.{mass_of};
 ghost use Rattle.amr_patch.specs.Levels.{level_of, patches_of};
-ghost use Rattle.amr_patch.specs.Orders.{IsHolder, IsOrderOf};
+ghost use Rattle.amr_patch.specs.Orders.{IsHolder};
 ghost use Rattle.amr_patch.specs.Pairwise.{Pairwise};
-ghost use Rattle.amr_patch.specs.Patches.{ArePatchesApart, KeepsFrameAndFluxes, in_patches, masses_in};
-ghost use Rattle.amr_register.specs.Entries.{AreRising, entry_at, with_entries};
+ghost use Rattle.amr_patch.specs.Patches.{ArePatchesApart, KeepsFrameAndFluxes, box, masses_in};
+ghost use Rattle.amr_register.specs.EdgeCells.{AreEdgesIn, AreOnceBy, cell_of, lists_of};
+ghost use Rattle.amr_register.specs.Written.{AreAllWritten, AreKeysApart, AreWritten, by_number, mass_with};
 
-use crate::edge_lists::holder;
-use crate::edges::EdgePlace;
+use crate::edges::EdgeCell;
 use amr_box::Cell;
-use amr_patch::{Level, Order, Patch};
+use amr_patch::{Level, Patch};
 
 /// A mass and an entry.
 fn with_entry(mass: u64, entry: i64) -> u64
@@ -43,46 +44,52 @@ fn add_entry(patches: &mut [Patch], k: usize, c: Cell, entry: i64)
     patch.set_mass(c, with_entry(mass, entry));
 }
 
-/// Adds entries to the masses of their cells. Look-ups begin at the patches of `places`, one for each cell.
-fn add_all(
-    cells: &[Cell],
-    entries: &[i64],
-    places: &[EdgePlace],
-    patches: &mut [Patch],
-    order: Order,
-)
-    requires rising { AreRising cells.now }
-    requires count { length entries.now ≡ length cells.now }
-    requires place_count { length places.now ≡ length cells.now }
-    requires order { IsOrderOf order patches.old }
+/// Adds its entry to the mass of each cell of a list, which patch `k` has.
+fn add_list(list: &[EdgeCell], entries: &[i64], k: usize, patches: &mut [Patch])
     requires apart { ArePatchesApart patches.old }
-    requires there { (k : ℕ) (c : Cell) → k < length cells.now → IsSome (masses_in patches.old (slice_index_or cells.now k c)) }
-    requires kept { (k : ℕ) (c : Cell) → k < length cells.now → pos 0 ≤ℤ (pos (mass_of (masses_in patches.old) (slice_index_or cells.now k c)) +ℤ slice_index_or entries.now k (pos 0)) }
-    requires fits { (k : ℕ) (c : Cell) → k < length cells.now → (pos (mass_of (masses_in patches.old) (slice_index_or cells.now k c)) +ℤ slice_index_or entries.now k (pos 0)) <ℤ pos (2 ^ 32) }
-    ensures masses { (c : Cell) → masses_in patches.new c ≡ with_entries (entry_at cells.now entries.now) (masses_in patches.old) c }
+    requires holder { All (λ e. IsHolder patches.old e.cell k) list.now }
+    requires numbers { All (λ e. e.number < length entries.now) list.now }
+    requires once { AreKeysApart cell_of list.now }
+    requires kept { All (λ e. pos 0 ≤ℤ (pos (mass_of (masses_in patches.old) e.cell) +ℤ by_number entries.now e.number)) list.now }
+    requires fits { All (λ e. (pos (mass_of (masses_in patches.old) e.cell) +ℤ by_number entries.now e.number) <ℤ pos (2 ^ 32)) list.now }
+    ensures masses { AreWritten cell_of (mass_with entries.now) list.now (masses_in patches.old) (masses_in patches.new) (length list.now) }
     ensures kept { Pairwise KeepsFrameAndFluxes patches.old patches.new }
 {
-    for k in 0..cells.len() {
-        let mut near = places[k].patch;
-        let found = holder(patches, order, &mut near, cells[k]);
-        add_entry(patches, found, cells[k], entries[k]);
+    for n in 0..list.len() {
+        let edge = list[n];
+        add_entry(patches, k, edge.cell, entries[edge.number as usize]);
+    }
+}
+
+/// Adds its entry to the mass of each cell of the lists, of which each patch has the one at its place.
+fn add_all(lists: &[Vec<EdgeCell>], entries: &[i64], patches: &mut [Patch])
+    requires apart { ArePatchesApart patches.old }
+    requires edges { AllZip AreEdgesIn (map box patches.old) (lists_of lists.now) }
+    requires numbers { All (All (λ e. e.number < length entries.now)) (lists_of lists.now) }
+    requires once { AreOnceBy cell_of (lists_of lists.now) }
+    requires kept { All (All (λ e. pos 0 ≤ℤ (pos (mass_of (masses_in patches.old) e.cell) +ℤ by_number entries.now e.number))) (lists_of lists.now) }
+    requires fits { All (All (λ e. (pos (mass_of (masses_in patches.old) e.cell) +ℤ by_number entries.now e.number) <ℤ pos (2 ^ 32))) (lists_of lists.now) }
+    ensures masses { AreAllWritten cell_of (mass_with entries.now) (lists_of lists.now) (masses_in patches.old) (masses_in patches.new) (length lists.now) }
+    ensures kept { Pairwise KeepsFrameAndFluxes patches.old patches.new }
+{
+    for k in 0..lists.len() {
+        add_list(&lists[k], entries, k, patches);
     }
 }
 
 /// Adds entries to the masses of their cells, as `add_all` does.
-pub(crate) fn add_entries(cells: &[Cell], entries: &[i64], places: &[EdgePlace], level: &mut Level)
-    requires rising { AreRising cells.now }
-    requires count { length entries.now ≡ length cells.now }
-    requires place_count { length places.now ≡ length cells.now }
-    requires of_level { (k : ℕ) (c : Cell) → k < length cells.now → IsSome ((level_of level.old).masses (slice_index_or cells.now k c)) }
-    requires kept { (k : ℕ) (c : Cell) → k < length cells.now → pos 0 ≤ℤ (pos (mass_of (level_of level.old).masses (slice_index_or cells.now k c)) +ℤ slice_index_or entries.now k (pos 0)) }
-    requires fits { (k : ℕ) (c : Cell) → k < length cells.now → (pos (mass_of (level_of level.old).masses (slice_index_or cells.now k c)) +ℤ slice_index_or entries.now k (pos 0)) <ℤ pos (2 ^ 32) }
-    ensures masses { (c : Cell) → (level_of level.new).masses c ≡ with_entries (entry_at cells.now entries.now) (level_of level.old).masses c }
+pub(crate) fn add_entries(lists: &[Vec<EdgeCell>], entries: &[i64], level: &mut Level)
+    requires edges { AllZip AreEdgesIn (map box (patches_of level.old)) (lists_of lists.now) }
+    requires numbers { All (All (λ e. e.number < length entries.now)) (lists_of lists.now) }
+    requires once { AreOnceBy cell_of (lists_of lists.now) }
+    requires kept { All (All (λ e. pos 0 ≤ℤ (pos (mass_of (level_of level.old).masses e.cell) +ℤ by_number entries.now e.number))) (lists_of lists.now) }
+    requires fits { All (All (λ e. (pos (mass_of (level_of level.old).masses e.cell) +ℤ by_number entries.now e.number) <ℤ pos (2 ^ 32))) (lists_of lists.now) }
+    ensures masses { AreAllWritten cell_of (mass_with entries.now) (lists_of lists.now) (level_of level.old).masses (level_of level.new).masses (length lists.now) }
     ensures boxes { (level_of level.new).boxes ≡ (level_of level.old).boxes }
     ensures patches { Pairwise KeepsFrameAndFluxes (patches_of level.old) (patches_of level.new) }
 {
     let order = level.order();
     let mut patches = level.take_patches();
-    add_all(cells, entries, places, &mut patches, order);
+    add_all(lists, entries, &mut patches);
     level.put_patches_in_order(patches, order);
 }

@@ -7,8 +7,8 @@ ghost use Rattle.amr_register.specs.Entries.{AreRising};
 
 use crate::beside::register_cells;
 use crate::cover::Cover;
-use crate::edge_lists::{EdgeLists, edge_lists, take_nets};
-use crate::edges::{EdgeCell, EdgePlace, find_nets_of_all};
+use crate::edge_lists::{edge_lists, take_nets};
+use crate::edges::{EdgeCell, find_nets_of_all};
 use crate::flows::{Edge, take_away};
 use crate::reflux::add_entries;
 use crate::sides::{CoveredSides, sides_of_all};
@@ -31,22 +31,21 @@ fn no_entries(alloc: Global, count: usize) -> Result<Vec<i64>, NoMemory>
 /// A flux register of a level below a finer one: an entry for each register cell. That is a cell of the level that is
 /// not covered, beside a covered one, past the end of a periodic axis too. The cells stand by row, within a row by
 /// column. An entry is what the step of the level leaves out at its cell's coarse-fine edges, in units of mass, above 0
-/// towards the cell (Berger and Colella 1989). For each patch of the level there is a list of the cells that it has.
+/// towards the cell (Berger and Colella 1989). For each patch of the level there is a list of the cells that it has, each with
+/// its number.
 #[derive(Drop)]
 pub struct Register {
     cells: Vec<Cell>,
     sides: Vec<CoveredSides>,
     entries: Vec<i64>,
     edges: Vec<Vec<EdgeCell>>,
-    places: Vec<EdgePlace>,
     ghost rising: { AreRising cells.items },
     ghost near: { All IsDomainCell cells.items },
     ghost side_count: { length sides.items ≡ length cells.items },
     ghost entry_count: { length entries.items ≡ length cells.items },
-    ghost place_count: { length places.items ≡ length cells.items },
 }
 
-#[tactic(auto, unfolding(crate::specs::Registers::cells_in, crate::specs::Registers::sides_in, crate::specs::Registers::edges_in, crate::specs::Registers::places_in, crate::specs::Registers::entry_in))]
+#[tactic(auto, unfolding(crate::specs::Registers::cells_in, crate::specs::Registers::sides_in, crate::specs::Registers::edges_in, crate::specs::Registers::entry_in))]
 impl Register {
     ghost use Rattle.std.specs.Prelude.{ℕ, [], map, ℤ, suc, ◌<◌, ◌≤◌, ◌≢◌, ◌^◌, pos, negsuc, ◌+ℤ◌, ◌-ℤ◌, ◌≤ℤ◌, ◌<ℤ◌, IfOk, IsSome, IsTrue, slice_index_or, unsigned_abs};
     ghost use Rattle.std.specs.List.{Contains};
@@ -86,19 +85,12 @@ impl Register {
         let cells = register_cells(alloc, p, l, coarse, fine, &cover)?;
         let sides = sides_of_all(alloc, &p.domain(l), &cover, &cells)?;
         let entries = no_entries(alloc, cells.len())?;
-        let EdgeLists { lists, places } = edge_lists(
-            alloc,
-            coarse.patches(),
-            coarse.order(),
-            &cells,
-            &sides,
-        )?;
+        let edges = edge_lists(alloc, coarse.patches(), coarse.order(), &cells, &sides)?;
         Ok(Register {
             cells,
             sides,
             entries,
-            edges: lists,
-            places,
+            edges,
         })
     }
 
@@ -147,8 +139,8 @@ impl Register {
         find_nets_of_all(p, l, patches, &mut self.edges);
     }
 
-    /// Takes what flows into each register cell through its coarse-fine edges, as its list has it, away from its entry. Entries
-    /// lie between -2^62 and 2^62.
+    /// Takes what flows into each register cell through its coarse-fine edges, as its list has it, away from its entry, list by
+    /// list. Entries lie between -2^62 and 2^62.
     pub fn take_nets(&mut self)
         requires placed { IsPlaced self.old }
         requires small { All (All IsSmallNet) (edges_in self.old) }
@@ -156,7 +148,7 @@ impl Register {
         ensures taken { (flow : Cell → ℤ) → All (All (λ e. e.net ≡ flow e.cell)) (edges_in self.old) → (c : Cell) → Contains (cells_in self.old) c → entry_in self.new c ≡ entry_in self.old c -ℤ flow c }
         ensures cells { SameCells self.old self.new }
     {
-        take_nets(&self.places, &self.edges, &mut self.entries);
+        take_nets(&self.edges, &mut self.entries);
     }
 
     /// Takes away the plain flows through those coarse-fine edges of the level that one patch owns, by its values before the step. An
@@ -198,9 +190,11 @@ impl Register {
         self.entries.fill(0);
     }
 
-    /// Adds each entry to the mass of its cell. The level has the boxes of the coarse level that the register was made over,
-    /// and no sum is below 0, or 2^32 or more.
+    /// Adds each entry to the mass of its cell, patch by patch. The level has patches over the boxes that the register was made
+    /// over, and no sum is below 0, or 2^32 or more.
     pub fn reflux(&self, level: &mut Level)
+        requires placed { IsPlaced self.now }
+        requires edges { HasEdgesOf (map box (patches_of level.old)) self.now }
         requires of_level { (c : Cell) → Contains (cells_in self.now) c → IsSome ((level_of level.old).masses c) }
         requires kept { (c : Cell) → Contains (cells_in self.now) c → pos 0 ≤ℤ (pos (mass_of (level_of level.old).masses c) +ℤ entry_in self.now c) }
         requires fits { (c : Cell) → Contains (cells_in self.now) c → (pos (mass_of (level_of level.old).masses c) +ℤ entry_in self.now c) <ℤ pos (2 ^ 32) }
@@ -208,6 +202,6 @@ impl Register {
         ensures boxes { (level_of level.new).boxes ≡ (level_of level.old).boxes }
         ensures patches { Pairwise KeepsFrameAndFluxes (patches_of level.old) (patches_of level.new) }
     {
-        add_entries(&self.cells, &self.entries, &self.places, level);
+        add_entries(&self.edges, &self.entries, level);
     }
 }

@@ -1,16 +1,24 @@
-use Rattle.std.proofs.Common.{◌≡◌, ◌^◌, subst, sym}
-use Rattle.std.specs.Prelude.{pos, ◌+ℤ◌, ◌≤ℤ◌, ◌<ℤ◌, IsSome}
+use Rattle.std.proofs.Common.{◌≡◌, ◌^◌, map, subst, sym}
+use Rattle.std.specs.Prelude.{pos, ◌+ℤ◌, ◌≤ℤ◌, ◌<ℤ◌, IfSome, IsSome}
 use Rattle.std.specs.declared.option.Option.{Option}
 use Rattle.std.specs.List.{Contains}
 use Rattle.amr_box.specs.declared.Cell.{Cell}
 use Rattle.amr_def.specs.State.{mass_of}
-use Rattle.amr_patch.specs.Levels.{level_of}
+use Rattle.amr_patch.specs.Levels.{level_of, patches_of}
+use Rattle.amr_patch.specs.Patches.{box}
 use Rattle.amr_register.specs.declared.register.Register.{Register}
 use Rattle.amr_register.specs.Entries.{with_entries}
+use Rattle.amr_register.specs.Registers.{HasEdgesOf, IsPlaced}
 use Rattle.amr_transfer.specs.Sums.{summed}
 use Rattle.amr_advance.specs.Registers.{cells_of}
 use Rattle.amr_cycle.specs.Cycles.{entries_of}
 use Rattle.amr_cycle.proofs.correction.correct.Goals as goal
+
+pub correct_by-requires-clause-placed : goal.correct_by-requires-clause-placed
+correct_by-requires-clause-placed g c = subst (λ (r : Option Register). IfSome r IsPlaced) c.in-Some.is c.requires.placed
+
+pub correct_by-requires-clause-edges : goal.correct_by-requires-clause-edges
+correct_by-requires-clause-edges g c = subst (λ (r : Option Register). IfSome r (HasEdgesOf (map box (patches_of c.args.level.now)))) c.in-Some.is c.requires.edges
 
 pub correct_by-requires-clause-of_level : goal.correct_by-requires-clause-of_level
 correct_by-requires-clause-of_level g c = subst (λ (r : Option Register). (q : Cell) → Contains (cells_of r) q → IsSome ((level_of c.args.level.now).masses q)) c.in-Some.is c.requires.of_level

@@ -1,5 +1,7 @@
 use Rattle.std.proofs.Common.{ℕ, ◌+◌, ◌<◌, List, ◌∷◌, get_or, length, map, set, sym, ap, subst, ◌∙◌, arith}
+use Rattle.std.specs.Prelude.{IfSome}
 use Rattle.std.specs.Option.{option_copied}
+use Rattle.amr_box.specs.Cells.{Extent}
 use Rattle.amr_def.specs.declared.problem.Problem.{Problem}
 use Rattle.amr_laws.specs.Sides.{inflow_beside, outflow_beside}
 use Rattle.amr_patch.specs.declared.levels.Level.{Level as Held}
@@ -8,6 +10,7 @@ use Rattle.amr_patch.specs.Patches.{box}
 use Rattle.amr_ghost.specs.Frames.{old_masses}
 use Rattle.amr_def.specs.State.{Level, Masses}
 use Rattle.amr_register.specs.Entries.{with_entries}
+use Rattle.amr_register.specs.Registers.{HasEdgesOf}
 use Rattle.amr_transfer.specs.Sums.{summed}
 use Rattle.amr_cycle.specs.Cycles.{entries_of}
 use Rattle.amr_cycle.specs.declared.kept.KeptLevel.{KeptLevel}
@@ -15,7 +18,7 @@ use Rattle.amr_cycle.specs.Kept.{AreCurrent, AreKept}
 use Rattle.std.proofs.lemmas.Result.{on_ok_weaker}
 use Rattle.amr_cycle.proofs.KeptLaws.{all_below_after, current_again, current_all, current_first, current_rest, kept_again, kept_all, kept_first, kept_rest, valued_first}
 use Rattle.amr_cycle.proofs.Registers.{edges_stay}
-use Rattle.amr_cycle.proofs.Whole.{coarser_1, coarser_2, fits_2, flows_1, flows_2, flows_split, has2, kept_2, levels_are, next2_coarsenable, of_level_2, parents_2, part_1, part_2, rest1_coarsenable, rest_coarsenable, small_2}
+use Rattle.amr_cycle.proofs.Whole.{coarser_1, coarser_2, fits_2, flows_1, flows_2, flows_split, has2, kept_2, levels_are, next2_coarsenable, of_level_2, parents_2, part_1, part_2, placed_2, rest1_coarsenable, rest_coarsenable, small_2}
 use Rattle.amr_cycle.proofs.levels.+step_levels.Given as given
 use Rattle.amr_cycle.proofs.levels.+step_levels.Goals.{In_ok-step_levels-2}
 use Rattle.amr_cycle.proofs.levels.+step_levels.Goals as goal
@@ -88,6 +91,19 @@ step_levels-requires-2-clause-outflow g t c κs within =
       flows_2 c.args.given.now.problem.now c.args.given.now.level (level_of c.args.level.now) c.args.finer.now (old_masses (option_copied c.args.given.now.old)) c.requires.part c.in-Some-split_first_mut.next.now c.in-Some-split_first_mut.finest.now c.in-Some-split_first_mut.ensures.cases.0 c.in_ok-below.below.before c.in_ok-below.ensures.before c.in_ok-below.below.regs.coarser c.in_ok-below.ensures.register c.for_finer-inner.result.problem.now c.for_finer-inner.ensures.problem c.for_finer-inner.result.level c.for_finer-inner.ensures.level (option_copied c.for_finer-inner.result.old) c.for_finer-inner.ensures.old
           c.step_levels.new.level c.step_levels.new.finer c.step_levels.new.regs.coarser c.in_ok-step_levels.ensures.levels c.in_ok-step_levels.ensures.patches c.in_ok-step_levels.ensures.coarser outflow_beside,
     )
+
+pub correct-requires-clause-placed : goal.correct-requires-clause-placed
+correct-requires-clause-placed g t c =
+    placed_2 c.args.given.now.problem.now c.args.given.now.level (level_of c.args.level.now) c.args.finer.now (old_masses (option_copied c.args.given.now.old)) c.requires.part c.in-Some-split_first_mut.next.now c.in-Some-split_first_mut.finest.now c.in-Some-split_first_mut.ensures.cases.0 c.in_ok-below.below.before c.in_ok-below.ensures.before c.in_ok-below.below.regs.coarser c.in_ok-below.ensures.register c.for_finer-inner.result.problem.now c.for_finer-inner.ensures.problem c.for_finer-inner.result.level c.for_finer-inner.ensures.level (option_copied c.for_finer-inner.result.old) c.for_finer-inner.ensures.old
+    c.step_levels.new.level c.step_levels.new.finer c.step_levels.new.regs.coarser c.in_ok-step_levels.ensures.levels c.in_ok-step_levels.ensures.patches c.in_ok-step_levels.ensures.coarser
+    c.step_levels-2.new.level c.step_levels-2.new.finer c.step_levels-2.new.regs.coarser c.in_ok-step_levels-2.ensures.levels c.in_ok-step_levels-2.ensures.patches c.in_ok-step_levels-2.ensures.coarser
+
+pub correct-requires-clause-edges : goal.correct-requires-clause-edges
+correct-requires-clause-edges g t c =
+    let boxes = map box (patches_of c.in_ok-below.below.before) in
+    subst (λ (bs : List Extent). IfSome c.step_levels-2.new.regs.coarser (HasEdgesOf bs)) (c.in_ok-below.ensures.before_patches ∙ sym c.in_ok-below.ensures.patches)
+    (edges_stay boxes _ c.step_levels.new.regs.coarser c.step_levels-2.new.regs.coarser c.in_ok-step_levels-2.ensures.coarser
+    (edges_stay boxes _ c.in_ok-below.below.regs.coarser c.step_levels.new.regs.coarser c.in_ok-step_levels.ensures.coarser c.in_ok-below.ensures.edges))
 
 pub correct-requires-clause-of_level : goal.correct-requires-clause-of_level
 correct-requires-clause-of_level g t c =

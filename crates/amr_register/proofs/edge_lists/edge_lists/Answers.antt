@@ -3,14 +3,13 @@ use Rattle.std.specs.Prelude.{slice_index_or}
 use Rattle.std.specs.Global.{Vec}
 use Rattle.std.proofs.lemmas.List.{with_items_is}
 use Rattle.amr_register.specs.declared.edges.EdgeCell.{EdgeCell}
-use Rattle.amr_register.specs.declared.edges.EdgePlace.{EdgePlace}
-use Rattle.amr_register.specs.EdgeCells.{end_place, lists_of, new_edge}
-use Rattle.amr_register.proofs.ListsMade.{all_among, all_inside, none_listed, one_listed}
+use Rattle.amr_register.specs.EdgeCells.{lists_of, new_edge}
+use Rattle.amr_register.proofs.ListsMade.{all_among, all_inside, all_once, none_listed, one_listed}
 use Rattle.amr_register.proofs.Taken.{no_cell, no_sides, same_at}
 use Rattle.amr_register.proofs.edge_lists.edge_lists.Goals as goal
 
 pub loop-k-init : goal.loop-k-init
-loop-k-init c = none_listed c.args.patches.now c.args.cells.now c.args.sides.now _ _ c.in_ok-lists.ensures c.in_ok-places.ensures.items
+loop-k-init c = none_listed c.args.patches.now c.args.cells.now c.args.sides.now _ c.in_ok-lists.ensures
 
 pub loop-k-preserved : goal.loop-k-preserved
 loop-k-preserved c =
@@ -24,17 +23,16 @@ loop-k-preserved c =
     let sides = slice_index_or ss k no_sides in
     let in_sides : k < length ss = omega (arith, c.loop-k-test.true, c.requires.side_count) in
     let there : c.deref_mut.result.now ≡ was = c.deref_mut.ensures.value in
-    one_listed c.args.patches.now cs ss (lists_of was) _ c.loop-k.places.items c.push.new.self.items k i cell sides c.loop-k.invariant c.loop-k-test.true
+    one_listed c.args.patches.now cs ss (lists_of was) _ k i cell sides c.loop-k.invariant c.loop-k-test.true
     (λ d. same_at cs k no_cell d c.loop-k-test.true) (λ t. same_at ss k no_sides t in_sides) c.holder-patch.ensures
-    (ap lists_of (with_items_is c.loop-k.lists new (c.push_edge.auto.lists ∙ c.deref_mut.ensures.len)) ∙ c.in_ok-place.ensures.lists
-    ∙ ap (λ (vs : List (Vec EdgeCell)). set (lists_of vs) i (slice_index_or (lists_of vs) i [] ++ new_edge cell sides ∷ [])) there)
-    (c.in_ok-push.ensures.items ∙ ap (λ (w : EdgePlace). c.loop-k.places.items ++ w ∷ []) (c.in_ok-place.ensures.place ∙ ap (λ (vs : List (Vec EdgeCell)). end_place (lists_of vs) i) there))
+    (ap lists_of (with_items_is c.loop-k.lists new (c.push_edge.auto.lists ∙ c.deref_mut.ensures.len)) ∙ c.in_ok-push_edge.ensures
+    ∙ ap (λ (vs : List (Vec EdgeCell)). set (lists_of vs) i (slice_index_or (lists_of vs) i [] ++ new_edge k cell sides ∷ [])) there)
 
 pub returns-clause-boxes : goal.returns-clause-boxes
-returns-clause-boxes c = all_inside c.args.patches.now c.args.cells.now c.args.sides.now (lists_of c.loop-k.lists.items) c.loop-k.places.items c.loop-k.k c.loop-k.invariant
+returns-clause-boxes c = all_inside c.args.patches.now c.args.cells.now c.args.sides.now (lists_of c.loop-k.lists.items) c.loop-k.k c.loop-k.invariant
 
 pub returns-clause-among : goal.returns-clause-among
-returns-clause-among c = all_among c.args.patches.now c.args.cells.now c.args.sides.now (lists_of c.loop-k.lists.items) c.loop-k.places.items c.loop-k.k c.loop-k.invariant
+returns-clause-among c = all_among c.args.patches.now c.args.cells.now c.args.sides.now (lists_of c.loop-k.lists.items) c.loop-k.k c.loop-k.invariant
 
-pub returns-clause-places : goal.returns-clause-places
-returns-clause-places c = λ k q w lt. c.loop-k.invariant.places k q w (omega (arith, lt, c.loop-k-test.false)) lt
+pub returns-clause-once : goal.returns-clause-once
+returns-clause-once c = all_once c.args.patches.now c.args.cells.now c.args.sides.now (lists_of c.loop-k.lists.items) c.loop-k.k c.loop-k-test.false c.loop-k.invariant

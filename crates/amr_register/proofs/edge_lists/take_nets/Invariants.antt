@@ -1,7 +1,6 @@
-use Rattle.std.specs.Prelude.{slice_index_or}
-use Rattle.amr_register.specs.EdgeCells.{edge_at, lists_of}
-use Rattle.amr_register.proofs.Taken.{AreTaken, no_edge, no_place}
+use Rattle.amr_register.specs.EdgeCells.{lists_of, number_of}
+use Rattle.amr_register.specs.Written.{AreAllWritten, by_number, without_net}
 use Rattle.amr_register.proofs.edge_lists.take_nets.Given as goal
 
 abbrev pub invariant-loop-k : goal.invariant-loop-k
-invariant-loop-k l = AreTaken (λ k. (edge_at (lists_of l.lists) (slice_index_or l.places k no_place) no_edge).net) l.initial.entries l.entries l.k
+invariant-loop-k l = AreAllWritten number_of without_net (lists_of l.lists) (by_number l.initial.entries) (by_number l.entries) l.k

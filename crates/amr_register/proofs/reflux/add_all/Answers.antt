@@ -1,43 +1,73 @@
-use Rattle.std.proofs.Common.{◌≡◌, ◌∙◌, ℕ, length, pos, ap, refl, sym, arith}
-use Rattle.std.specs.Prelude.{is_some}
-use Rattle.std.specs.declared.option.Option.{Option}
+use Rattle.std.proofs.Common.{◌∙◌, ◌<◌, ◌^◌, ℕ, [], List, pos, ◌+ℤ◌, ◌≤ℤ◌, ◌<ℤ◌, ap, arith, length, refl, subst, sym}
+use Rattle.std.specs.Prelude.{slice_index_or}
+use Rattle.std.specs.List.{All}
 use Rattle.std.specs.Option.{unwrap_or}
-use Rattle.std.proofs.lemmas.Int.{ints}
-use Rattle.amr_box.specs.Cells.{cell}
-use Rattle.amr_patch.proofs.Lookups.{some_mass}
-use Rattle.amr_register.proofs.CellLists.{is_or_not}
-use Rattle.amr_register.proofs.PatchRefluxes.{at_start, not_yet, one_further}
-use Rattle.amr_register.proofs.Refluxes.{all_added}
+use Rattle.std.specs.declared.option.Option.{Option}
+use Rattle.amr_patch.specs.Orders.{IsHolder}
+use Rattle.amr_patch.specs.Patches.{masses_in}
+use Rattle.amr_register.specs.declared.edges.EdgeCell.{EdgeCell}
+use Rattle.amr_register.specs.EdgeCells.{cell_of, lists_of}
+use Rattle.amr_register.specs.Written.{AreKeysApart, AreWritten, by_number, mass_with}
+use Rattle.amr_def.specs.State.{mass_of}
+use Rattle.amr_register.proofs.NetLists.{list_of, lists_count, lists_number}
+use Rattle.amr_register.proofs.PatchRefluxes.{all_at_start, list_held, one_list_further}
+use Rattle.amr_register.proofs.Writes.{keys_apart, not_yet_in}
 use Rattle.amr_register.proofs.reflux.add_all.Goals as goal
 
 pub loop-k-init : goal.loop-k-init
-loop-k-init c = at_start _ _ _ _ c.requires.order c.requires.apart
+loop-k-init c = all_at_start _ _ _ c.requires.apart
 
-pub holder-found-requires-clause-there : goal.holder-found-requires-clause-there
-holder-found-requires-clause-there c =
-    let same = not_yet c.args.cells.now c.args.entries.now c.args.order c.args.patches.now c.loop-k.patches c.loop-k.k (cell (pos 0) (pos 0)) c.requires.rising c.loop-k.invariant c.loop-k-test.true in
-    sym (some_mass c.loop-k.patches _) ∙ ap is_some same ∙ c.requires.there c.loop-k.k (cell (pos 0) (pos 0)) c.loop-k-test.true
+pub add_list-requires-clause-holder : goal.add_list-requires-clause-holder
+add_list-requires-clause-holder c =
+    let k = c.loop-k.k in
+    let vs = c.args.lists.now in
+    let v = c.index-lists-k.result in
+    let list = c.deref.ensures.value ∙ ap (λ w. w.items) c.index-lists-k.is in
+    subst (All (λ (e : EdgeCell). IsHolder c.loop-k.patches e.cell k)) (sym list) (list_held c.args.patches.now c.loop-k.patches vs k v c.requires.edges c.loop-k.invariant.kept (omega (arith, c.loop-k-test.true, lists_count c.args.patches.now vs c.requires.edges)))
 
-pub add_entry-requires-clause-kept : goal.add_entry-requires-clause-kept
-add_entry-requires-clause-kept c =
-    let same = not_yet c.args.cells.now c.args.entries.now c.args.order c.args.patches.now c.loop-k.patches c.loop-k.k (cell (pos 0) (pos 0)) c.requires.rising c.loop-k.invariant c.loop-k-test.true in
-    let mass = ap (λ (o : Option ℕ). unwrap_or o 0) same in
-    let kept = c.requires.kept c.loop-k.k (cell (pos 0) (pos 0)) c.loop-k-test.true in
-    omega (arith, ints, mass, kept)
+pub add_list-requires-clause-numbers : goal.add_list-requires-clause-numbers
+add_list-requires-clause-numbers c =
+    let k = c.loop-k.k in
+    let vs = c.args.lists.now in
+    let list = c.deref.ensures.value ∙ list_of vs k c.index-lists-k.result c.loop-k-test.true c.index-lists-k.is in
+    subst (All (λ (e : EdgeCell). e.number < length c.args.entries.now)) (sym list) (c.requires.numbers k [] (lists_number vs k c.loop-k-test.true))
 
-pub add_entry-requires-clause-fits : goal.add_entry-requires-clause-fits
-add_entry-requires-clause-fits c =
-    let same = not_yet c.args.cells.now c.args.entries.now c.args.order c.args.patches.now c.loop-k.patches c.loop-k.k (cell (pos 0) (pos 0)) c.requires.rising c.loop-k.invariant c.loop-k-test.true in
-    let mass = ap (λ (o : Option ℕ). unwrap_or o 0) same in
-    let fits = c.requires.fits c.loop-k.k (cell (pos 0) (pos 0)) c.loop-k-test.true in
-    omega (arith, ints, mass, fits)
+pub add_list-requires-clause-once : goal.add_list-requires-clause-once
+add_list-requires-clause-once c =
+    let k = c.loop-k.k in
+    let vs = c.args.lists.now in
+    let list = c.deref.ensures.value ∙ list_of vs k c.index-lists-k.result c.loop-k-test.true c.index-lists-k.is in
+    subst (AreKeysApart cell_of) (sym list) (keys_apart cell_of (lists_of vs) k c.requires.once (lists_number vs k c.loop-k-test.true))
+
+pub add_list-requires-clause-kept : goal.add_list-requires-clause-kept
+add_list-requires-clause-kept c =
+    let k = c.loop-k.k in
+    let vs = c.args.lists.now in
+    let es = c.args.entries.now in
+    let lt = lists_number vs k c.loop-k-test.true in
+    let list = c.deref.ensures.value ∙ list_of vs k c.index-lists-k.result c.loop-k-test.true c.index-lists-k.is in
+    subst (All (λ (e : EdgeCell). pos 0 ≤ℤ (pos (mass_of (masses_in c.loop-k.patches) e.cell) +ℤ by_number es e.number))) (sym list) (λ i e below.
+    subst (λ (o : Option ℕ). pos 0 ≤ℤ (pos (unwrap_or o 0) +ℤ by_number es (slice_index_or (slice_index_or (lists_of vs) k []) i e).number))
+    (sym (not_yet_in cell_of (mass_with es) (lists_of vs) (masses_in c.args.patches.now) (masses_in c.loop-k.patches) k c.requires.once c.loop-k.invariant.masses (record { list = k; at = i }) e (record { list = lt; at = below }) refl))
+    (c.requires.kept k [] lt i e below))
+
+pub add_list-requires-clause-fits : goal.add_list-requires-clause-fits
+add_list-requires-clause-fits c =
+    let k = c.loop-k.k in
+    let vs = c.args.lists.now in
+    let es = c.args.entries.now in
+    let lt = lists_number vs k c.loop-k-test.true in
+    let list = c.deref.ensures.value ∙ list_of vs k c.index-lists-k.result c.loop-k-test.true c.index-lists-k.is in
+    subst (All (λ (e : EdgeCell). (pos (mass_of (masses_in c.loop-k.patches) e.cell) +ℤ by_number es e.number) <ℤ pos (2 ^ 32))) (sym list) (λ i e below.
+    subst (λ (o : Option ℕ). (pos (unwrap_or o 0) +ℤ by_number es (slice_index_or (slice_index_or (lists_of vs) k []) i e).number) <ℤ pos (2 ^ 32))
+    (sym (not_yet_in cell_of (mass_with es) (lists_of vs) (masses_in c.args.patches.now) (masses_in c.loop-k.patches) k c.requires.once c.loop-k.invariant.masses (record { list = k; at = i }) e (record { list = lt; at = below }) refl))
+    (c.requires.fits k [] lt i e below))
 
 pub loop-k-preserved : goal.loop-k-preserved
 loop-k-preserved c =
-    one_further c.args.cells.now c.args.entries.now c.args.order c.args.patches.now c.loop-k.patches c.add_entry.new.patches c.loop-k.k _ (cell (pos 0) (pos 0)) _ c.requires.rising c.requires.count c.loop-k.invariant c.loop-k-test.true refl (omega (arith, ints))
-    (c.requires.there c.loop-k.k (cell (pos 0) (pos 0)) c.loop-k-test.true) c.add_entry.ensures.masses c.add_entry.ensures.kept
-
-pub returns-clause-masses : goal.returns-clause-masses
-returns-clause-masses c = λ q.
-    let n : c.loop-k.k ≡ length c.args.cells.now = omega arith in
-    all_added c.args.cells.now c.args.entries.now _ _ c.loop-k.k n c.loop-k.invariant.masses q (is_or_not q c.args.cells.now)
+    let k = c.loop-k.k in
+    let vs = c.args.lists.now in
+    let es = c.args.entries.now in
+    let list = c.deref.ensures.value ∙ list_of vs k c.index-lists-k.result c.loop-k-test.true c.index-lists-k.is in
+    one_list_further es (lists_of vs) c.args.patches.now c.loop-k.patches c.add_list.new.patches k c.requires.once c.loop-k.invariant (lists_number vs k c.loop-k-test.true)
+    (subst (λ (xs : List EdgeCell). AreWritten cell_of (mass_with es) xs (masses_in c.loop-k.patches) (masses_in c.add_list.new.patches) (length xs)) list c.add_list.ensures.masses) c.add_list.ensures.kept

@@ -1,14 +1,17 @@
-use Rattle.std.proofs.Common.{◌∙◌, pos, List, [], ◌∷◌, ap, subst, arith}
+use Rattle.std.proofs.Common.{◌∙◌, pos, List, [], ◌∷◌, ap, arith, map, subst, sym}
 use Rattle.std.specs.Prelude.{slice_index_or}
 use Rattle.std.specs.List.{Contains}
 use Rattle.std.proofs.lemmas.Int.{ints}
 use Rattle.amr_box.specs.declared.Cell.{Cell}
 use Rattle.amr_box.specs.Cells.{Extent, cell, in_boxes}
 use Rattle.amr_def.specs.Domain.{domain}
-use Rattle.amr_patch.specs.Levels.{level_of}
+use Rattle.amr_patch.specs.Levels.{level_of, patches_of}
+use Rattle.amr_patch.specs.Patches.{box}
+use Rattle.amr_patch.proofs.Keeping.{kept_boxes}
 use Rattle.amr_register.specs.RegisterCells.{is_register_cell}
-use Rattle.amr_register.specs.Registers.{cells_in, entry_in}
+use Rattle.amr_register.specs.Registers.{HasEdgesOf, cells_in, entry_in}
 use Rattle.amr_register.proofs.CellLists.{of_level, where_passes}
+use Rattle.amr_register.proofs.SameCells.{edges_kept, register_kept}
 use Rattle.amr_samples.proofs.OneBox.{finer_ring, nested_ring, whole_ring}
 use Rattle.amr_tests_levels.proofs.OneBoxLevels.{cells_of}
 use Rattle.amr_tests_levels.proofs.RefluxedRing.{at_most, entries_small, same_cells}
@@ -43,6 +46,19 @@ absorb-requires-clause-low g c = λ q. let zero = c.in_ok-register.ensures.zero 
 
 pub absorb-requires-clause-high : goal.absorb-requires-clause-high
 absorb-requires-clause-high g c = λ q. let zero = c.in_ok-register.ensures.zero (slice_index_or (cells_in c.in_ok-register.register) 0 q) in omega (arith, ints, zero)
+
+pub reflux-requires-clause-placed : goal.reflux-requires-clause-placed
+reflux-requires-clause-placed g c =
+    let m = (level_of c.in_ok-coarse.coarse).masses in
+    let fine = (level_of c.in_ok-fine.fine).masses in
+    (register_kept c.in_ok-p.p 0 m fine c.in_ok-register.register c.absorb.new.self c.absorb.ensures.cells c.in_ok-register.ensures.cells).placed
+
+pub reflux-requires-clause-edges : goal.reflux-requires-clause-edges
+reflux-requires-clause-edges g c =
+    let old = c.in_ok-register.register in
+    let new = c.absorb.new.self in
+    subst (λ (bs : List Extent). HasEdgesOf bs new) (sym (kept_boxes (patches_of c.in_ok-coarse.coarse) (patches_of c.set.new.self) c.set.ensures.patches))
+    (edges_kept (map box (patches_of c.in_ok-coarse.coarse)) old new c.absorb.ensures.cells c.in_ok-register.ensures.edges)
 
 pub reflux-requires-clause-of_level : goal.reflux-requires-clause-of_level
 reflux-requires-clause-of_level g c = λ q h.
