@@ -1,3 +1,4 @@
+pub mod Behind
 pub mod Reading
 pub mod Sending
 pub mod Shorter

@@ -1,5 +1,5 @@
 -- What a buffer keeps back, and what a call on it sends. (profile)
-use Rattle.std.specs.Prelude.{ℕ, ◌≡◌, List, [], ◌∷◌, ◌++◌, decimal}
+use Rattle.std.specs.Prelude.{ℕ, ◌≡◌, Bool, cond, List, [], ◌∷◌, ◌++◌, codes, decimal}
 use Rattle.amr_causes.specs.Bytes.{Grows}
 use Rattle.amr_io.specs.declared.fragment.Fragment.{Fragment}
 use Rattle.amr_io.specs.declared.fragment.Fragment.TheVariants.{Str, Number}
@@ -17,3 +17,7 @@ fragment_text (Number n) = decimal n
 abbrev pub fragments_text : List Fragment → List ℕ
 fragments_text [] = []
 fragments_text (p ∷ ps) = fragment_text p ++ fragments_text ps
+
+-- an entry of a row of numbers: a space, unless it is the first, and its decimal digits
+abbrev pub entry_text : Bool → ℕ → List ℕ
+entry_text first n = cond first [] (codes " ") ++ decimal n

@@ -2,6 +2,7 @@
 //! tell every byte; over a reader or a writer of std they tell what that tells, which of a real stream is nothing.
 #![tactic(auto)]
 
+mod digits;
 mod fragment;
 mod memory_sink;
 mod memory_source;

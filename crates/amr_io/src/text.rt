@@ -1,15 +1,19 @@
 //! Text on its way to a sink.
-ghost use Rattle.std.specs.Prelude.{◌≡◌, ◌≤◌, ◌+◌, ◌++◌, [], length, OnOk, OnErr, decimal};
+ghost use Rattle.std.specs.Prelude.{◌≡◌, ◌≤◌, ◌<◌, ◌+◌, ◌++◌, [], cond, codes, length, OnOk, OnErr, decimal};
 ghost use Rattle.amr_causes.specs.Causes.{HasCause};
 ghost use Rattle.amr_causes.specs.Bytes.{Grows, TakesPrefix};
-ghost use Rattle.amr_io.specs.Kept.{Sent, fragment_text, fragments_text};
+ghost use Rattle.amr_io.specs.Kept.{Sent, entry_text, fragment_text, fragments_text};
 ghost use Rattle.amr_io.specs.Short.{FallsShort};
 
+use crate::digits::count_digits;
 use crate::{Fragment, Sink, WriteFault, write_whole};
-use itoa::Buffer;
+use itoa::write_digits;
 use std::marker::Model;
 
 const ROOM: usize = 4096;
+
+/// The bytes of the longest entry of a row: a space and 20 digits.
+const ENTRY: usize = 21;
 
 /// Text on its way to a sink, through a buffer of 4,096 bytes. It is seen as what it keeps back: after a call that succeeded,
 /// what the sink got and then what is kept back is all that was put. A call that failed has sent a prefix of that, and not
@@ -60,8 +64,26 @@ impl Text {
         ensures cause { HasCause (O.faults sink.old) (O.faults sink.new) result }
         ensures no_fault { OnOk result (O.faults sink.new ≡ O.faults sink.old) }
     {
-        let mut digits = Buffer::new();
-        self.put(sink, digits.format(n).as_bytes())
+        self.put_entry(sink, true, n)
+    }
+
+    /// Puts a number of a row in decimal digits, and a space before it unless it is the first.
+    pub fn put_entry<O: Sink>(
+        &mut self,
+        sink: &mut O,
+        first: bool,
+        n: u64,
+    ) -> Result<(), WriteFault>
+        ensures sent { OnOk result (Sent O.holds sink.old sink.new self.old self.new (entry_text first n)) }
+        ensures part { OnErr result (TakesPrefix O.holds sink.old sink.new (self.old ++ entry_text first n)) }
+        ensures short { OnErr result (FallsShort O.holds sink.old sink.new (self.old ++ entry_text first n)) }
+        ensures cause { HasCause (O.faults sink.old) (O.faults sink.new) result }
+        ensures no_fault { OnOk result (O.faults sink.new ≡ O.faults sink.old) }
+    {
+        self.make_room(sink)?;
+        self.append_space(first);
+        self.append_number(n);
+        Ok(())
     }
 
     /// Puts fragments in turn. Its callers have one place to stop at, where as many calls of one fragment each would have many.
@@ -132,6 +154,41 @@ impl Text {
         }
         write_whole(sink, bytes)?;
         Ok(())
+    }
+
+    /// Sends what is kept back where an entry might not fit behind it.
+    fn make_room<O: Sink>(&mut self, sink: &mut O) -> Result<(), WriteFault>
+        ensures sent { OnOk result (Sent O.holds sink.old sink.new self.old self.new []) }
+        ensures short { OnErr result (FallsShort O.holds sink.old sink.new self.old) }
+        ensures room { OnOk result (length self.new + 21 ≤ 4096) }
+        ensures cause { HasCause (O.faults sink.old) (O.faults sink.new) result }
+        ensures no_fault { OnOk result (O.faults sink.new ≡ O.faults sink.old) }
+    {
+        if ROOM - self.len >= ENTRY {
+            return Ok(());
+        }
+        self.flush(sink)
+    }
+
+    /// What stands before an entry of a row.
+    fn append_space(&mut self, first: bool)
+        requires { length self.old < 4096 }
+        ensures { self.new ≡ self.old ++ cond first [] (codes " ") }
+    {
+        if first {
+            return;
+        }
+        self.kept[self.len] = b' ';
+        self.len += 1;
+    }
+
+    fn append_number(&mut self, n: u64)
+        requires { length self.old + 20 ≤ 4096 }
+        ensures { self.new ≡ self.old ++ decimal n }
+    {
+        let end = self.len + count_digits(n);
+        write_digits(n, &mut self.kept, end);
+        self.len = end;
     }
 
     fn append(&mut self, bytes: &[u8])

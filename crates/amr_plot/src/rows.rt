@@ -1,6 +1,6 @@
 //! The rows of masses of a box. A row is read span by span, with one look-up a span.
 
-ghost use Rattle.std.specs.Prelude.{◌≡◌, ℕ, ◌+◌, ◌<◌, ◌≤◌, ◌≤ℤ◌, ◌^◌, [], cond, ◌==◌, length, slice_index, codes, IsSome, IsTrue, pos, ◌+ℤ◌};
+ghost use Rattle.std.specs.Prelude.{◌≡◌, ℕ, ◌+◌, ◌<◌, ◌≤◌, ◌≤ℤ◌, ◌^◌, length, slice_index, IsSome, IsTrue, pos, ◌+ℤ◌};
 ghost use Rattle.amr_box.specs.declared.Cell.{Cell};
 ghost use Rattle.amr_box.specs.Cells.{IsNear, cell, height, holds, width, within};
 ghost use Rattle.amr_def.specs.Plot.{mass_line};
@@ -10,15 +10,8 @@ ghost use Rattle.amr_patch.specs.BoxRows.{HasCellsOf, mass_in};
 ghost use Rattle.amr_plot.specs.Rows.{row_word};
 
 use amr_box::Bx;
-use amr_io::{Fragment, Sink, Text, WriteFault};
+use amr_io::{Sink, Text, WriteFault};
 use amr_patch::{Level, masses_from};
-
-/// What stands before the mass in a column of the box.
-fn separator(column: usize) -> &'static str
-    ensures { result.now ≡ cond (column == 0) [] (codes " ") }
-{
-    if column == 0 { "" } else { " " }
-}
 
 fn put_mass<O: Sink>(
     column: usize,
@@ -28,10 +21,7 @@ fn put_mass<O: Sink>(
 ) -> Result<(), WriteFault>
     ensures { Puts O.holds O.faults sink.old sink.new text.old text.new (word column mass) result }
 {
-    text.put_fragments(
-        sink,
-        &[Fragment::Str(separator(column)), Fragment::Number(mass)],
-    )
+    text.put_entry(sink, column == 0, mass)
 }
 
 /// Masses that stand in the columns from `first` on.
