@@ -13,6 +13,7 @@ pub mod BoxSides
 pub mod Levels
 pub mod PlannedSpans
 pub mod PlanLaws
+pub mod RunLaws
 pub mod Reach
 pub mod Inside
 pub mod Carrying

@@ -1,6 +1,9 @@
 -- Where ghost cells get their values from. It goes by boxes alone.
-use Rattle.std.specs.Prelude.{◌≡◌, ℕ, ◌<◌, ◌≤◌, false, true, length, slice_index_or, List, IsTrue}
+use Rattle.std.specs.Prelude.{◌≡◌, ℕ, ◌+◌, ◌*◌, ◌<◌, ◌≤◌, false, true, length, slice_index_or, List, IfOk, IsTrue}
+use Rattle.std.specs.Global.{Vec}
+use Rattle.std.specs.declared.result.Result.{Result}
 use Rattle.std.specs.List.{All, Any}
+use Rattle.amr_causes.specs.declared.no_memory.NoMemory.{NoMemory}
 use Rattle.amr_box.specs.declared.Cell.{Cell}
 use Rattle.amr_box.specs.declared.Axis.{Axis}
 use Rattle.amr_box.specs.Cells.{holds}
@@ -65,6 +68,15 @@ pub record KeepSpans (ss ts : List Span) : Type 0 where
 -- spans have each ghost cell beside a patch
 pub record HaveFrame (ps : List Patch) (ss : List Span) (i : ℕ) : Type 0 where
   pub at : (q : Patch) (c : Cell) → IsTrue (is_beside (box (slice_index_or ps i q)) c) → Any (HasCell i c) ss
+
+-- spans tell of each ghost cell beside each patch of a run, from patch `from` to before patch `to`, where it gets its value from
+pub record PlansRun (d : Domain) (ps : List Patch) (from to : ℕ) (ss : List Span) : Type 0 where
+  pub spans : All (IsSpan d ps) ss
+  pub frames : (i : ℕ) → from ≤ i → i < to → i < length ps → HaveFrame ps ss i
+
+-- the patches are cut into runs of one size, the last one perhaps shorter, and each list that is there tells it of the run of its number
+abbrev pub ArePlannedRuns : Domain → List Patch → ℕ → List (Result (Vec Span) NoMemory) → Type 0
+ArePlannedRuns d ps size runs = (k : ℕ) (r : Result (Vec Span) NoMemory) → k < length runs → IfOk (slice_index_or runs k r) (λ v. PlansRun d ps (k * size) (k * size + size) v.items)
 
 -- a plan tells of each ghost cell beside each of the patches where it gets its value from
 pub record PlansFrames (d : Domain) (ps : List Patch) (plan : FramePlan) : Type 0 where

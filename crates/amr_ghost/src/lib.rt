@@ -13,6 +13,7 @@ mod parts;
 mod places;
 mod plan;
 mod planned;
+mod runs;
 mod sides;
 mod sources;
 
@@ -22,4 +23,5 @@ pub use outer::OuterGhosts;
 pub use parts::{FrameCopy, FrameParts, part_frames};
 pub use plan::{FramePlan, plan_frames};
 pub use planned::fill_planned;
+pub use runs::plan_frames_in_threads;
 pub use sources::Span;

@@ -11,7 +11,7 @@ ghost use Rattle.amr_gaps.specs.Gaps.{HasStarts};
 ghost use Rattle.amr_ghost.specs.Strips.{HasRoom};
 ghost use Rattle.amr_ghost.specs.Frames.{AreInDomain};
 ghost use Rattle.amr_ghost.specs.Filling.{IsGhostStrip, IsLevelInOrder, side_axis, side_count, side_from};
-ghost use Rattle.amr_ghost.specs.Plans.{HaveFrame, HaveStrip, IsSpan, KeepSpans, PlansFrames};
+ghost use Rattle.amr_ghost.specs.Plans.{HaveFrame, HaveStrip, IsSpan, KeepSpans, PlansFrames, PlansRun};
 
 use crate::lookup::{NearSides, Target, near_first};
 use crate::places::step;
@@ -120,6 +120,29 @@ fn plan_frame(
     )
 }
 
+/// Where the ghost cells beside the patches of a level get their values from, for those from the target's on to before patch `to`.
+/// Its look-ups begin with the first patch of the level.
+pub(crate) fn plan_run(
+    alloc: Global,
+    p: &Problem,
+    patches: &[Patch],
+    first: Target<'_>,
+    to: usize,
+) -> Result<Vec<Span>, NoMemory>
+    requires level { first.level ≤ 4 }
+    requires patches { IsLevelInOrder (domain p.now first.level) first.order (option_copied first.starts) patches.now }
+    requires there { to ≤ length patches.now }
+    ensures { IfOk result (λ v. PlansRun (domain p.now first.entry.level) patches.now first.entry.patch to v.items) }
+{
+    let mut near = near_first();
+    let mut spans = Vec::new(alloc);
+    for i in first.patch..to {
+        let target = Target { patch: i, ..first };
+        plan_frame(p, patches, target, &mut near, &mut spans)?;
+    }
+    Ok(spans)
+}
+
 /// Where the ghost cells beside the patches of level `l`, from 0 to 4, get their values from. `NoMemory` is the only refusal.
 ///
 /// The patches are those of the whole level: no cell is in two of them, and each is a cell of the domain. `starts` tells where they
@@ -139,16 +162,12 @@ pub fn plan_frames(
     requires inside { AreInDomain (domain p.now l) patches.now }
     ensures { IfOk result (PlansFrames (domain p.now l) patches.now) }
 {
-    let mut near = near_first();
-    let mut spans = Vec::new(alloc);
-    for i in 0..patches.len() {
-        let target = Target {
-            level: l,
-            order,
-            starts: Some(starts),
-            patch: i,
-        };
-        plan_frame(p, patches, target, &mut near, &mut spans)?;
-    }
+    let first = Target {
+        level: l,
+        order,
+        starts: Some(starts),
+        patch: 0,
+    };
+    let spans = plan_run(alloc, p, patches, first, patches.len())?;
     Ok(FramePlan { spans })
 }

@@ -13,6 +13,8 @@ mod frames;
 #[cfg(test)]
 mod parts;
 #[cfg(test)]
+mod plans;
+#[cfg(test)]
 mod register;
 #[cfg(test)]
 mod start;
