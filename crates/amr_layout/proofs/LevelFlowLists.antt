@@ -15,7 +15,7 @@ use Rattle.amr_layout.specs.declared.FlowTo.{FlowTo}
 use Rattle.amr_layout.specs.declared.alone.LevelFlows.{LevelFlows}
 use Rattle.amr_layout.specs.declared.adds.PatchFlows.{PatchFlows}
 use Rattle.amr_layout.specs.Adds.{flow_to, flows_of, inflow_faces, outflow_faces, register_flows}
-use Rattle.amr_layout.specs.LevelFlowLists.{AreFlowsOf, HasFlowsAt, flows_at, flows_before, level_flows}
+use Rattle.amr_layout.specs.LevelFlowLists.{AreFlowsOf, HasFlowsAt, flows_at, flows_before, flows_in_first, level_flows}
 use Rattle.amr_layout.specs.Surroundings.{Around}
 
 -- ---- lists made of lists
@@ -47,25 +47,26 @@ words_joined n xs some h =
     (All-map P (flow_to 0) xs.inflow.items (λ k d lt. let z : 0 < n = omega (arith, some) in z))
     (All-append P (map (flow_to 1) xs.outflow.items) xs.register.items (All-map P (flow_to 1) xs.outflow.items (λ k d lt. some)) h)
 
-module _ (s : Around) where
-  pub none_yet : level_flows s (take 0 s.patches) ≡ []
+module _ (s : Around) (run : List Patch) where
+  pub none_yet : level_flows s (take 0 run) ≡ []
   unfolding level_flows
   none_yet = refl
 
-  pub first_bound : 0 ∷ [] ≡ map (flows_before s) (range_with_len 0 (0 + 1))
+  pub first_bound : 0 ∷ [] ≡ map (flows_in_first s run) (range_with_len 0 (0 + 1))
   unfolding level_flows
   first_bound = refl
 
-  pub patch_more : (i : ℕ) (q : Patch) → i < length s.patches → q ≡ get_or s.patches i q → level_flows s (take (i + 1) s.patches) ≡ level_flows s (take i s.patches) ++ flows_of s (box q)
+  pub patch_more : (i : ℕ) (q : Patch) → i < length run → q ≡ get_or run i q → level_flows s (take (i + 1) run) ≡ level_flows s (take i run) ++ flows_of s (box q)
   unfolding level_flows
-  patch_more i q lt e = parts_more (λ (r : Patch). flows_of s (box r)) s.patches i q lt ∙ ap (λ (r : Patch). flat_map (λ (x : Patch). flows_of s (box x)) (take i s.patches) ++ flows_of s (box r)) (sym e)
+  patch_more i q lt e = parts_more (λ (r : Patch). flows_of s (box r)) run i q lt ∙ ap (λ (r : Patch). flat_map (λ (x : Patch). flows_of s (box x)) (take i run) ++ flows_of s (box r)) (sym e)
 
-  pub bounds_more : (i n : ℕ) (bs : List ℕ) → bs ≡ map (flows_before s) (range_with_len 0 (i + 1)) → n ≡ flows_before s (i + 1) → bs ++ n ∷ [] ≡ map (flows_before s) (range_with_len 0 (i + 1 + 1))
-  bounds_more i n bs before is = (λ t. before t ++ is t ∷ []) ∙ sym (map-range_with_len_more (flows_before s) 0 (i + 1) (i + 1) (let z : 0 + (i + 1) ≡ i + 1 = omega arith in z))
+  pub bounds_more : (i n : ℕ) (bs : List ℕ) → bs ≡ map (flows_in_first s run) (range_with_len 0 (i + 1)) → n ≡ flows_in_first s run (i + 1) → bs ++ n ∷ [] ≡ map (flows_in_first s run) (range_with_len 0 (i + 1 + 1))
+  bounds_more i n bs before is = (λ t. before t ++ is t ∷ []) ∙ sym (map-range_with_len_more (flows_in_first s run) 0 (i + 1) (i + 1) (let z : 0 + (i + 1) ≡ i + 1 = omega arith in z))
 
-  pub whole : (i : ℕ) → length s.patches ≤ i → level_flows s (take i s.patches) ≡ level_flows s s.patches
-  whole i le = ap (level_flows s) (take_all i s.patches le)
+  pub whole : (i : ℕ) → length run ≤ i → level_flows s (take i run) ≡ level_flows s run
+  whole i le = ap (level_flows s) (take_all i run le)
 
+module _ (s : Around) where
   -- ---- the part of a patch
 
   module _ (v : LevelFlows) (h : AreFlowsOf s v) (i : ℕ) (lt : i < length s.patches) where

@@ -5,6 +5,7 @@ pub mod Edges
 pub mod Going
 pub mod LevelPlaces
 pub mod LevelFlowLists
+pub mod Runs
 pub mod Joined
 pub mod Planned
 pub mod Taken

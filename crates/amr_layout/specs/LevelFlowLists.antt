@@ -22,6 +22,15 @@ pub record AreFlowsOf (s : Around) (v : LevelFlows) : Type 0 where
   pub flows : v.flows.items ≡ level_flows s s.patches
   pub bounds : v.bounds.items ≡ map (flows_before s) (range_with_len 0 (length s.patches + 1))
 
+-- how many the first i patches of a run have
+abbrev pub flows_in_first : Around → List Patch → ℕ → ℕ
+flows_in_first s run i = length (level_flows s (take i run))
+
+-- the same of a run of the level's patches
+pub record AreFlowsOfRun (s : Around) (run : List Patch) (v : LevelFlows) : Type 0 where
+  pub flows : v.flows.items ≡ level_flows s run
+  pub bounds : v.bounds.items ≡ map (flows_in_first s run) (range_with_len 0 (length run + 1))
+
 -- ---- the part of a patch
 
 -- the flows between bound i and the next one

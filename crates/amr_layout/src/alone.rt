@@ -10,8 +10,8 @@ ghost use Rattle.amr_flux.specs.Faces.{IsInDomain};
 ghost use Rattle.amr_gaps.specs.Gaps.{HasStarts};
 ghost use Rattle.amr_phase.specs.Plans.{total};
 ghost use Rattle.amr_layout.specs.Surroundings.{around, edge_count};
-ghost use Rattle.amr_layout.specs.Adds.{HasRegisterCells, flow_to};
-ghost use Rattle.amr_layout.specs.LevelFlowLists.{AreFlowsOf, HasFlowsAt, flows_at};
+ghost use Rattle.amr_layout.specs.Adds.{AreInOrder, HasCellsBeyond, HasRegisterCells, flow_to};
+ghost use Rattle.amr_layout.specs.LevelFlowLists.{AreFlowsOf, AreFlowsOfRun, HasFlowsAt, flows_at};
 
 use crate::FlowTo;
 use crate::adds::{Near, PatchFlows, Surroundings, flows_beside, no_flows};
@@ -19,14 +19,15 @@ use crate::layouts::{MOST, check_faces};
 use crate::lookup::Trace;
 use amr_box::Face;
 use amr_causes::NoMemory;
+use amr_patch::Patch;
 use std::alloc::Global;
 
 /// The flows through faces on the edges of a level's patches that are added to words, one patch after another.
 #[derive(Drop)]
 pub struct LevelFlows {
-    flows: Vec<FlowTo>,
+    pub(crate) flows: Vec<FlowTo>,
     /// How many flows stand before those of each patch, and last how many there are.
-    bounds: Vec<usize>,
+    pub(crate) bounds: Vec<usize>,
 }
 
 impl LevelFlows {
@@ -59,16 +60,21 @@ fn append_flows(all: &mut Vec<FlowTo>, flows: &PatchFlows) -> Result<(), NoMemor
     Ok(())
 }
 
-/// The flows of each patch of a level.
-fn flows_of_all(alloc: Global, s: Surroundings<'_>) -> Result<LevelFlows, NoMemory>
+/// The flows of each patch of a run of a level's patches.
+pub(crate) fn flows_of_run(
+    alloc: Global,
+    s: Surroundings<'_>,
+    run: &[Patch],
+) -> Result<LevelFlows, NoMemory>
     requires level { s.level ≤ 4 }
     requires order { IsOrderOf s.order s.patches.now }
     requires apart { ArePatchesApart s.patches.now }
     requires starts { HasStarts s.patches.now s.starts.now }
+    requires ordered { AreInOrder s.cells.now }
     requires few { length s.cells.now ≤ 2 ^ 30 }
-    requires inside { All (λ q. IsInDomain (domain s.problem.now s.level) (box q)) s.patches.now }
-    requires cells { HasRegisterCells (around s.problem.now s.level s.patches.now s.cells.now (option_copied s.finer)) }
-    ensures flows { IfOk result (AreFlowsOf (around s.entry.problem.now s.entry.level s.entry.patches.now s.entry.cells.now (option_copied s.entry.finer))) }
+    requires inside { All (λ q. IsInDomain (domain s.problem.now s.level) (box q)) run.now }
+    requires there { All (λ q. HasCellsBeyond (around s.problem.now s.level s.patches.now s.cells.now (option_copied s.finer)) (box q)) run.now }
+    ensures flows { IfOk result (AreFlowsOfRun (around s.entry.problem.now s.entry.level s.entry.patches.now s.entry.cells.now (option_copied s.entry.finer)) run.now) }
     ensures words { IfOk result (λ v. All (λ x. x.word < 2 + 2 * length s.entry.cells.now) v.flows.items) }
 {
     let level = Trace {
@@ -82,14 +88,26 @@ fn flows_of_all(alloc: Global, s: Surroundings<'_>) -> Result<LevelFlows, NoMemo
     };
     let mut flows = no_flows(alloc);
     let mut all = Vec::new(alloc);
-    let mut bounds = Vec::with_capacity(alloc, s.patches.len() + 1)?;
+    let mut bounds = Vec::with_capacity(alloc, run.len() + 1)?;
     bounds.push(0)?;
-    for i in 0..s.patches.len() {
-        flows_beside(s, &mut near, &s.patches[i].bx(), &mut flows)?;
+    for i in 0..run.len() {
+        flows_beside(s, &mut near, &run[i].bx(), &mut flows)?;
         append_flows(&mut all, &flows)?;
         bounds.push(all.len())?;
     }
     Ok(LevelFlows { flows: all, bounds })
+}
+
+/// Counts the faces on the edges of all patches and the register cells. Too many are refused as memory that lacks.
+pub(crate) fn check_size(s: Surroundings<'_>) -> Result<(), NoMemory>
+    ensures edges { OnOk result (total (λ q. edge_count (box q)) s.entry.patches.now ≤ 2 ^ 30) }
+    ensures few { OnOk result (length s.entry.cells.now ≤ 2 ^ 30) }
+{
+    check_faces(s.patches)?;
+    if s.cells.len() > MOST as usize {
+        return Err(NoMemory);
+    }
+    Ok(())
 }
 
 /// What each patch of a level adds, as in the tasks of `plan`, where one worker makes the step alone. Then no border
@@ -108,9 +126,6 @@ pub fn plan_adds(alloc: Global, s: Surroundings<'_>) -> Result<LevelFlows, NoMem
     ensures edges { OnOk result (total (λ q. edge_count (box q)) s.entry.patches.now ≤ 2 ^ 30) }
     ensures few { OnOk result (length s.entry.cells.now ≤ 2 ^ 30) }
 {
-    check_faces(s.patches)?;
-    if s.cells.len() > MOST as usize {
-        return Err(NoMemory);
-    }
-    flows_of_all(alloc, s)
+    check_size(s)?;
+    flows_of_run(alloc, s, s.patches)
 }

@@ -6,6 +6,7 @@
 mod adds;
 mod alone;
 mod faces;
+mod in_threads;
 mod layouts;
 mod lookup;
 mod places;
@@ -16,6 +17,7 @@ mod tests;
 
 pub use crate::adds::Surroundings;
 pub use crate::alone::{LevelFlows, plan_adds};
+pub use crate::in_threads::plan_adds_in_threads;
 pub use crate::layouts::plan;
 use amr_box::Face;
 

@@ -16,6 +16,7 @@ ghost use Rattle.amr_layout.specs.Surroundings.{IsNearFace, around, is_coarse_fi
 use super::*;
 use crate::adds::{Across, Near, Surroundings, beyond};
 use crate::faces::{edge_count, edge_face, outside};
+use crate::in_threads::flows_by_runs;
 use crate::lookup::Trace;
 use amr_box::{Axis, Bx, Cell, Face, parent};
 use amr_def::{Blocks, Dom, Name, Problem, Shear, Sides, Thresholds};
@@ -23,6 +24,7 @@ use amr_gaps::starts_of;
 use amr_patch::{Level, Patch};
 use std::alloc::Global;
 use std::test::Fail;
+use std::thread::Threads;
 
 const fn cell(x: i32, y: i32) -> Cell {
     Cell { x, y }
@@ -223,8 +225,9 @@ fn have_cells_beyond(s: Surroundings<'_>) -> bool
     true
 }
 
-/// The layout of a level, if its patches and cells are such.
-fn layout_of(
+/// The layout of a level, if its patches and cells are such, and several threads find as many flows as one.
+fn layout_of<R: Threads + Sync>(
+    rt: &R,
     alloc: Global,
     p: &Problem,
     l: u32,
@@ -254,6 +257,11 @@ fn layout_of(
     if !have_cells_beyond(s) {
         return Ok(None);
     }
+    let alone = plan_adds_in_threads(rt, 2, alloc, s)?;
+    let runs = flows_by_runs(rt, alloc, s, 1)?;
+    if runs.bounds.as_slice() != alone.bounds.as_slice() {
+        return Ok(None);
+    }
     Ok(Some(plan(alloc, s)?))
 }
 
@@ -275,7 +283,7 @@ fn a_ring_with_a_fine_box(rt: HostRuntime) -> Result<(), Fail> {
     let p = ring(alloc, Sides::Periodic)?;
     let coarse = level_of(alloc, 0, 0, 3, 1)?;
     let fine = level_of(alloc, 4, 0, 5, 1)?;
-    let Some(below) = layout_of(alloc, &p, 0, &coarse, &[], Some(&fine))? else {
+    let Some(below) = layout_of(&rt, alloc, &p, 0, &coarse, &[], Some(&fine))? else {
         panic!(rt; "no level");
     };
     assert_eq!(rt; below.places, 6);
@@ -304,7 +312,7 @@ fn a_ring_with_a_fine_box(rt: HostRuntime) -> Result<(), Fail> {
         assert!(rt; adds_are(task, 0, 0, &[]) && adds_are(task, 1, 1, &[]));
     }
     let cells = [cell(1, 0), cell(3, 0), cell(2, 1)];
-    let Some(above) = layout_of(alloc, &p, 1, &fine, &cells, None)? else {
+    let Some(above) = layout_of(&rt, alloc, &p, 1, &fine, &cells, None)? else {
         panic!(rt; "no level");
     };
     assert_eq!(rt; above.places, 0);
@@ -325,7 +333,7 @@ fn a_fine_box_at_an_open_side(rt: HostRuntime) -> Result<(), Fail> {
     let p = ring(alloc, Sides::Open(6, 0))?;
     let coarse = level_of(alloc, 0, 0, 3, 1)?;
     let fine = level_of(alloc, 0, 0, 1, 1)?;
-    let Some(below) = layout_of(alloc, &p, 0, &coarse, &[], Some(&fine))? else {
+    let Some(below) = layout_of(&rt, alloc, &p, 0, &coarse, &[], Some(&fine))? else {
         panic!(rt; "no level");
     };
     assert_eq!(rt; below.places, 4);
@@ -335,7 +343,7 @@ fn a_fine_box_at_an_open_side(rt: HostRuntime) -> Result<(), Fail> {
         assert!(rt; adds_are(task, 1, 1, &[x_face(4, 0), x_face(4, 1)]));
     }
     let cells = [cell(1, 0), cell(0, 1)];
-    let Some(above) = layout_of(alloc, &p, 1, &fine, &cells, None)? else {
+    let Some(above) = layout_of(&rt, alloc, &p, 1, &fine, &cells, None)? else {
         panic!(rt; "no level");
     };
     assert_eq!(rt; above.words, 6);

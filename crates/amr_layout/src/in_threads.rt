@@ -1,0 +1,127 @@
+//! What the patches of a level add, worked out by several threads: each has a run of the patches.
+
+ghost use Rattle.std.specs.Prelude.{◌≡◌, ℕ, ◌+◌, ◌*◌, ◌≤◌, ◌<◌, ◌^◌, ◌++◌, length, map, drop, slice_index_or, IfOk, OnOk};
+ghost use Rattle.std.specs.Option.{option_copied};
+ghost use Rattle.std.specs.List.{All};
+ghost use Rattle.std.specs.Fork.{slice_chunk};
+ghost use Rattle.amr_def.specs.Domain.{domain};
+ghost use Rattle.amr_patch.specs.Patches.{ArePatchesApart, box};
+ghost use Rattle.amr_patch.specs.Orders.{IsOrderOf};
+ghost use Rattle.amr_flux.specs.Faces.{IsInDomain};
+ghost use Rattle.amr_gaps.specs.Gaps.{HasStarts};
+ghost use Rattle.amr_phase.specs.Plans.{total};
+ghost use Rattle.amr_layout.specs.Surroundings.{around, edge_count};
+ghost use Rattle.amr_layout.specs.Adds.{AreInOrder, HasCellsBeyond, HasRegisterCells};
+ghost use Rattle.amr_layout.specs.LevelFlowLists.{AreFlowsOf, AreFlowsOfRun};
+
+use crate::adds::Surroundings;
+use crate::alone::{LevelFlows, check_size, flows_of_run, plan_adds};
+use amr_causes::NoMemory;
+use amr_patch::Patch;
+use std::alloc::Global;
+use std::thread::{Threads, map_chunks};
+
+/// From how many patches on threads save time.
+const FEWEST: usize = 128;
+
+/// Puts bounds behind a list, each raised by so many.
+fn append_bounds(all: &mut Vec<usize>, before: usize, bounds: &[usize]) -> Result<(), NoMemory>
+    requires { All (λ b. before + b < 2 ^ 64) bounds.now }
+    ensures { OnOk result (all.new.items ≡ all.old.items ++ map (λ b. before + b) bounds.now) }
+{
+    for b in bounds {
+        all.push(before + *b)?;
+    }
+    Ok(())
+}
+
+/// Puts the flows of a run behind those of the patches before it.
+fn append_run(all: &mut LevelFlows, run: &LevelFlows) -> Result<(), NoMemory>
+    requires some { 0 < length run.now.bounds.items }
+    requires within { All (λ b. b ≤ length run.now.flows.items) run.now.bounds.items }
+    ensures flows { OnOk result (all.new.flows.items ≡ all.old.flows.items ++ run.now.flows.items) }
+    ensures bounds { OnOk result (all.new.bounds.items ≡ all.old.bounds.items ++ map (λ b. length all.old.flows.items + b) (drop 1 run.now.bounds.items)) }
+{
+    let before = all.flows.len();
+    all.flows.extend_from_slice(&run.flows)?;
+    append_bounds(&mut all.bounds, before, &run.bounds[1..])
+}
+
+/// The flows of all patches, where those of each run of so many patches are known. The last run may have fewer.
+fn join_runs(
+    alloc: Global,
+    s: Surroundings<'_>,
+    size: usize,
+    runs: &[Result<LevelFlows, NoMemory>],
+) -> Result<LevelFlows, NoMemory>
+    requires all { length s.patches.now ≤ length runs.now * size }
+    requires flows { (n : ℕ) (d : _) → n < length runs.now → IfOk (slice_index_or runs.now n d) (AreFlowsOfRun (around s.problem.now s.level s.patches.now s.cells.now (option_copied s.finer)) (slice_chunk s.patches.now size n)) }
+    requires words { (n : ℕ) (d : _) → n < length runs.now → IfOk (slice_index_or runs.now n d) (λ v. All (λ x. x.word < 2 + 2 * length s.cells.now) v.flows.items) }
+    ensures flows { IfOk result (AreFlowsOf (around s.entry.problem.now s.entry.level s.entry.patches.now s.entry.cells.now (option_copied s.entry.finer))) }
+    ensures words { IfOk result (λ v. All (λ x. x.word < 2 + 2 * length s.entry.cells.now) v.flows.items) }
+{
+    let mut bounds = Vec::with_capacity(alloc, s.patches.len() + 1)?;
+    bounds.push(0)?;
+    let mut all = LevelFlows {
+        flows: Vec::new(alloc),
+        bounds,
+    };
+    for k in 0..runs.len() {
+        let Ok(run) = &runs[k] else {
+            return Err(NoMemory);
+        };
+        append_run(&mut all, run)?;
+    }
+    Ok(all)
+}
+
+/// The flows of all patches, in runs of so many: each run in a thread of its own where one can be made.
+pub(crate) fn flows_by_runs<R: Threads + Sync>(
+    rt: &R,
+    alloc: Global,
+    s: Surroundings<'_>,
+    size: usize,
+) -> Result<LevelFlows, NoMemory>
+    requires some { 0 < size }
+    requires level { s.level ≤ 4 }
+    requires order { IsOrderOf s.order s.patches.now }
+    requires apart { ArePatchesApart s.patches.now }
+    requires starts { HasStarts s.patches.now s.starts.now }
+    requires few { length s.cells.now ≤ 2 ^ 30 }
+    requires inside { All (λ q. IsInDomain (domain s.problem.now s.level) (box q)) s.patches.now }
+    requires cells { HasRegisterCells (around s.problem.now s.level s.patches.now s.cells.now (option_copied s.finer)) }
+    ensures flows { IfOk result (AreFlowsOf (around s.entry.problem.now s.entry.level s.entry.patches.now s.entry.cells.now (option_copied s.entry.finer))) }
+    ensures words { IfOk result (λ v. All (λ x. x.word < 2 + 2 * length s.entry.cells.now) v.flows.items) }
+{
+    let of_run = move |_start: usize, run: &[Patch]| -> Result<LevelFlows, NoMemory>
+        requires { (s.level ≤ 4) × IsOrderOf s.order s.patches.now × ArePatchesApart s.patches.now × HasStarts s.patches.now s.starts.now × AreInOrder s.cells.now × (length s.cells.now ≤ 2 ^ 30) × All (λ q. IsInDomain (domain s.problem.now s.level) (box q)) run.now × All (λ q. HasCellsBeyond (around s.problem.now s.level s.patches.now s.cells.now (option_copied s.finer)) (box q)) run.now }
+        ensures { IfOk result (AreFlowsOfRun (around s.entry.problem.now s.entry.level s.entry.patches.now s.entry.cells.now (option_copied s.entry.finer)) run.entry.now) × IfOk result (λ v. All (λ x. x.word < 2 + 2 * length s.entry.cells.now) v.flows.items) }
+    { flows_of_run(alloc, s, run) };
+    let runs = map_chunks(rt, alloc, s.patches, size, &of_run)?;
+    join_runs(alloc, s, size, &runs)
+}
+
+/// The same as `plan_adds`, by so many threads at once. Few patches make no thread.
+pub fn plan_adds_in_threads<R: Threads + Sync>(
+    rt: &R,
+    threads: usize,
+    alloc: Global,
+    s: Surroundings<'_>,
+) -> Result<LevelFlows, NoMemory>
+    requires level { s.level ≤ 4 }
+    requires order { IsOrderOf s.order s.patches.now }
+    requires apart { ArePatchesApart s.patches.now }
+    requires starts { HasStarts s.patches.now s.starts.now }
+    requires inside { All (λ q. IsInDomain (domain s.problem.now s.level) (box q)) s.patches.now }
+    requires cells { HasRegisterCells (around s.problem.now s.level s.patches.now s.cells.now (option_copied s.finer)) }
+    ensures flows { IfOk result (AreFlowsOf (around s.entry.problem.now s.entry.level s.entry.patches.now s.entry.cells.now (option_copied s.entry.finer))) }
+    ensures words { IfOk result (λ v. All (λ x. x.word < 2 + 2 * length s.entry.cells.now) v.flows.items) }
+    ensures edges { OnOk result (total (λ q. edge_count (box q)) s.entry.patches.now ≤ 2 ^ 30) }
+    ensures few { OnOk result (length s.entry.cells.now ≤ 2 ^ 30) }
+{
+    if threads < 2 || s.patches.len() < FEWEST {
+        return plan_adds(alloc, s);
+    }
+    check_size(s)?;
+    flows_by_runs(rt, alloc, s, s.patches.len().div_ceil(threads))
+}
