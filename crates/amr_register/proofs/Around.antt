@@ -281,12 +281,12 @@ module _ (p : Problem) (l : ℕ) (k fine : Level) (klevel : IsLevel p l k) (flev
       let first : holds e (child_0 c) ≡ true = even_holds e c even h in
       (first_children p l k fine klevel flevel nested few).at c ∙ flevel.filled (child_0 c) ∙ list_any_at (λ b. holds b (child_0 c)) fine.boxes n c0 lt first
 
-  module _ (cs : List Cell) (done : BoxesDone (domain p l) (is_register_cell (domain p l) k.masses fine.masses) fine.boxes cs (length fine.boxes)) (q : Cell) (passes : is_register_cell (domain p l) k.masses fine.masses q ≡ true) where
+  module _ (test : Cell → Bool) (cs : List Cell) (done : BoxesDone (domain p l) test fine.boxes cs (length fine.boxes)) (q : Cell) (passes : is_register_cell (domain p l) k.masses fine.masses q ≡ true) (tested : test q ≡ true) where
     inside_q : in_domain (domain p l) q ≡ true
     inside_q = klevel.inside q (sym (klevel.filled q) ∙ of_level (domain p l) k.masses fine.masses q passes)
 
     -- beside the box that has a covered neighbour
-    by_box : (o : Cell) → ((b : Extent) → IsSized (domain p l) b → (holds b q ≡ true → ⊥) → FindsAround (domain p l) (is_register_cell (domain p l) k.masses fine.masses) b cs → holds b (home_cell (domain p l) (moved q o)) ≡ true → Contains cs q) → is_covered fine.masses (home_cell (domain p l) (moved q o)) ≡ true → Contains cs q
+    by_box : (o : Cell) → ((b : Extent) → IsSized (domain p l) b → (holds b q ≡ true → ⊥) → FindsAround (domain p l) test b cs → holds b (home_cell (domain p l) (moved q o)) ≡ true → Contains cs q) → is_covered fine.masses (home_cell (domain p l) (moved q o)) ≡ true → Contains cs q
     by_box o find h =
         let box = covering_box p l k fine klevel flevel nested few (home_cell (domain p l) (moved q o)) h in
         let n = box.0 in
@@ -304,19 +304,19 @@ module _ (p : Problem) (l : ℕ) (k fine : Level) (klevel : IsLevel p l k) (flev
     by_neighbour h = west (or_cases _ _ h)
       where
         north : (is_covered fine.masses (home_cell (domain p l) (moved q (cell (pos 0) (pos 1)))) ≡ true) ⊎ (false ≡ true) → Contains cs q
-        north (inl e) = by_box (cell (pos 0) (pos 1)) (λ b s out around t. north_found (domain p l) _ b q cs size s inside_q out around passes t) e
+        north (inl e) = by_box (cell (pos 0) (pos 1)) (λ b s out around t. north_found (domain p l) _ b q cs size s inside_q out around tested t) e
         north (inr e) = absurd (cc)
 
         south : (is_covered fine.masses (home_cell (domain p l) (moved q (cell (pos 0) (negsuc 0)))) ≡ true) ⊎ ((is_covered fine.masses (home_cell (domain p l) (moved q (cell (pos 0) (pos 1)))) || false) ≡ true) → Contains cs q
-        south (inl e) = by_box (cell (pos 0) (negsuc 0)) (λ b s out around t. south_found (domain p l) _ b q cs size s inside_q out around passes t) e
+        south (inl e) = by_box (cell (pos 0) (negsuc 0)) (λ b s out around t. south_found (domain p l) _ b q cs size s inside_q out around tested t) e
         south (inr e) = north (or_cases _ _ e)
 
         east : (is_covered fine.masses (home_cell (domain p l) (moved q (cell (pos 1) (pos 0)))) ≡ true) ⊎ ((is_covered fine.masses (home_cell (domain p l) (moved q (cell (pos 0) (negsuc 0)))) || (is_covered fine.masses (home_cell (domain p l) (moved q (cell (pos 0) (pos 1)))) || false)) ≡ true) → Contains cs q
-        east (inl e) = by_box (cell (pos 1) (pos 0)) (λ b s out around t. east_found (domain p l) _ b q cs size s inside_q out around passes t) e
+        east (inl e) = by_box (cell (pos 1) (pos 0)) (λ b s out around t. east_found (domain p l) _ b q cs size s inside_q out around tested t) e
         east (inr e) = south (or_cases _ _ e)
 
         west : (is_covered fine.masses (home_cell (domain p l) (moved q (cell (negsuc 0) (pos 0)))) ≡ true) ⊎ ((is_covered fine.masses (home_cell (domain p l) (moved q (cell (pos 1) (pos 0)))) || (is_covered fine.masses (home_cell (domain p l) (moved q (cell (pos 0) (negsuc 0)))) || (is_covered fine.masses (home_cell (domain p l) (moved q (cell (pos 0) (pos 1)))) || false))) ≡ true) → Contains cs q
-        west (inl e) = by_box (cell (negsuc 0) (pos 0)) (λ b s out around t. west_found (domain p l) _ b q cs size s inside_q out around passes t) e
+        west (inl e) = by_box (cell (negsuc 0) (pos 0)) (λ b s out around t. west_found (domain p l) _ b q cs size s inside_q out around tested t) e
         west (inr e) = east (or_cases _ _ e)
 
     pub all_found : Contains cs q

@@ -13,10 +13,9 @@ use Rattle.amr_box.specs.declared.Cell.{Cell}
 use Rattle.amr_box.specs.Cells.{cell_cmp, cells_of, holds, is_same_cell, within}
 use Rattle.amr_box.proofs.CellEquality.{by_coordinates, cell_same, is_cell}
 use Rattle.amr_box.proofs.CellLists.{among_cells_of}
-use Rattle.amr_def.specs.declared.problem.Problem.{Problem}
-use Rattle.amr_def.specs.Domain.{Domain, cells_where, domain, domain_box, in_domain, is_inside}
+use Rattle.amr_def.specs.Domain.{Domain, cells_where, domain_box, in_domain, is_inside}
 use Rattle.amr_def.specs.State.{Masses}
-use Rattle.amr_register.specs.RegisterCells.{is_register_cell, register_cells}
+use Rattle.amr_register.specs.RegisterCells.{is_register_cell}
 use Rattle.amr_register.specs.Entries.{row_cmp}
 use Rattle.amr_register.proofs.RowOrder.{cells_sorted, same_sorted}
 
@@ -61,13 +60,11 @@ pub of_level : (d : Domain) (m fine : Masses) (q : Cell) → is_register_cell d 
 unfolding is_register_cell
 of_level d m fine q h = (and_parts (is_some (m q)) _ h).0
 
--- a list in order that has just the register cells
-pub are_register_cells : (p : Problem) (l : ℕ) (m fine : Masses) (cs : List Cell) → ((q : Cell) → is_some (m q) ≡ true → in_domain (domain p l) q ≡ true) → IsStrictlySortedBy row_cmp cs → ((q : Cell) → Contains cs q → is_register_cell (domain p l) m fine q ≡ true) → ((q : Cell) → is_register_cell (domain p l) m fine q ≡ true → Contains cs q) → cs ≡ register_cells p l m fine
-are_register_cells p l m fine cs inside sorted sound complete =
-    let d = domain p l in
-    let test = is_register_cell d m fine in
+-- a list in order that has just the cells that pass a test
+pub are_cells_where : (d : Domain) (test : Cell → Bool) (cs : List Cell) → ((q : Cell) → test q ≡ true → in_domain d q ≡ true) → IsStrictlySortedBy row_cmp cs → ((q : Cell) → Contains cs q → test q ≡ true) → ((q : Cell) → test q ≡ true → Contains cs q) → cs ≡ cells_where d test
+are_cells_where d test cs inside sorted sound complete =
     same_sorted cs (cells_where d test) sorted (IsStrictlySortedBy-filter row_cmp test (cells_of (domain_box d)) (cells_sorted (domain_box d)))
-    (λ c h. where_among d test c (inside c (of_level d m fine c (sound c h))) (sound c h))
+    (λ c h. where_among d test c (inside c (sound c h)) (sound c h))
     (λ c h. complete c (where_passes d test c h))
 
 pub same_coordinates : IsEquivalence is_same_cell

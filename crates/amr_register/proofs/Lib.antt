@@ -10,6 +10,8 @@ pub mod Around
 pub mod BarLists
 pub mod BarLookups
 pub mod FineBoxes
+pub mod BeltCells
+pub mod BandLists
 pub mod Refluxes
 pub mod Kept
 pub mod PatchRefluxes
@@ -27,4 +29,5 @@ pub mod EdgeNets
 pub mod EdgesTaken
 pub mod Numbers
 pub mod FewCells
+pub mod WholeBands
 pub mod SameCells

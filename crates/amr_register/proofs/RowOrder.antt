@@ -53,7 +53,7 @@ all_append : (P : Cell → Type 0) (xs ys : List Cell) → AllByRecursion P xs �
 all_append P [] ys h k = k
 all_append P (x ∷ xs) ys h k = (h.0, all_append P xs ys h.1 k)
 
-sorted_append : (xs ys : List Cell) → IsStrictlySortedBy row_cmp xs → IsStrictlySortedBy row_cmp ys → AllByRecursion (λ x. AllByRecursion (λ y. row_cmp x y ≡ Less) ys) xs → IsStrictlySortedBy row_cmp (xs ++ ys)
+pub sorted_append : (xs ys : List Cell) → IsStrictlySortedBy row_cmp xs → IsStrictlySortedBy row_cmp ys → AllByRecursion (λ x. AllByRecursion (λ y. row_cmp x y ≡ Less) ys) xs → IsStrictlySortedBy row_cmp (xs ++ ys)
 unfolding IsStrictlySortedBy
 sorted_append [] ys h k b = k
 sorted_append (x ∷ xs) ys h k b = (all_append (λ y. row_cmp x y ≡ Less) xs ys h.0 b.0, sorted_append xs ys h.1 k b.1)

@@ -6,11 +6,17 @@ use Rattle.amr_def.specs.Domain.{Domain, home_cell, in_domain}
 use Rattle.amr_register.specs.declared.sides.CoveredSides.{CoveredSides}
 use Rattle.amr_register.specs.declared.sides.Stretches.{Stretches}
 use Rattle.amr_register.specs.RegisterCells.{has_neighbour_where}
+use Rattle.amr_register.specs.declared.belts.Belt.{Belt}
+use Rattle.amr_register.specs.Belts.{is_in_belt}
 use Rattle.amr_register.specs.Bars.{IsStretch}
 
 -- a cell of the domain that is not covered, beside one that is
 unfoldable pub stands_beside : Domain → (Cell → Bool) → Cell → Bool
 stands_beside d covered c = in_domain d c && (not (covered c) && has_neighbour_where d covered c)
+
+-- the same, of a belt of rows
+unfoldable pub stands_in : Belt → Domain → (Cell → Bool) → Cell → Bool
+stands_in s d covered c = is_in_belt s c && stands_beside d covered c
 
 -- as far as domains reach, which have at most 4096 columns and rows
 pub record IsDomainCell (c : Cell) : Type 0 where

@@ -1,4 +1,6 @@
 pub mod RegisterCells
+pub mod Belts
+pub mod Bands
 pub mod Entries
 pub mod Bars
 pub mod Covers

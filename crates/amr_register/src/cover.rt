@@ -49,6 +49,11 @@ impl Cover {
         Ok(Cover { bars })
     }
 
+    /// How many bars there are.
+    pub(crate) fn bar_count(&self) -> usize {
+        self.bars.len()
+    }
+
     /// Whether a cell is covered. It looks at the last stretch first, and leaves there the one that has the cell.
     pub(crate) fn covers(&self, last: &mut Option<Stretch>, c: Cell) -> bool
         requires { IsStretch (covers self.now) last.old }

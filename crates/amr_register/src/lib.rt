@@ -11,7 +11,9 @@
 //! [`Register::coarse_part`] is the same by owners of faces: what one patch takes away.
 #![tactic(auto)]
 
+mod bands;
 mod bars;
+mod belts;
 mod beside;
 mod cells;
 mod cover;
@@ -20,6 +22,7 @@ mod edges;
 mod flows;
 mod laws;
 mod order;
+mod pair;
 mod reflux;
 mod register;
 mod sides;

@@ -5,19 +5,21 @@ ghost use Rattle.std.specs.List.{All};
 ghost use Rattle.amr_register.specs.Beside.{IsDomainCell};
 ghost use Rattle.amr_register.specs.Entries.{AreRising};
 
-use crate::beside::register_cells;
+use crate::bands::{Band, whole, whole_in_threads};
 use crate::cover::Cover;
 use crate::edge_lists::{edge_lists, take_nets};
 use crate::edges::{EdgeCell, find_nets_of_all};
 use crate::flows::{Edge, take_away};
+use crate::pair::LevelPair;
 use crate::reflux::add_entries;
-use crate::sides::{CoveredSides, sides_of_all};
+use crate::sides::CoveredSides;
 use amr_box::Cell;
 use amr_causes::NoMemory;
 use amr_def::Problem;
 use amr_patch::{Level, Patch};
 use std::alloc::Global;
 use std::mem::replace;
+use std::thread::Threads;
 
 /// So many entries of 0.
 fn no_entries(alloc: Global, count: usize) -> Result<Vec<i64>, NoMemory>
@@ -50,14 +52,16 @@ impl Register {
     ghost use Rattle.std.specs.Prelude.{ℕ, [], map, ℤ, suc, ◌<◌, ◌≤◌, ◌≢◌, ◌^◌, pos, negsuc, ◌+ℤ◌, ◌-ℤ◌, ◌≤ℤ◌, ◌<ℤ◌, IfOk, IsSome, IsTrue, slice_index_or, unsigned_abs};
     ghost use Rattle.std.specs.List.{Contains};
     ghost use Rattle.amr_box.specs.declared.Cell.{Cell};
+    ghost use Rattle.amr_def.specs.declared.problem.Problem.{Problem};
     ghost use Rattle.amr_def.specs.Domain.{domain};
     ghost use Rattle.amr_def.specs.Facts.{IsLevel, IsNestedLevel};
     ghost use Rattle.amr_def.specs.Flux.{net};
     ghost use Rattle.amr_def.specs.State.{Masses, mass_of};
     ghost use Rattle.amr_patch.specs.Levels.{level_of, patches_of};
     ghost use Rattle.amr_patch.specs.Pairwise.{Pairwise};
-    ghost use Rattle.amr_patch.specs.Patches.{KeepsFrameAndFluxes, box};
+    ghost use Rattle.amr_patch.specs.Patches.{KeepsFrameAndFluxes, box, in_patches};
     ghost use Rattle.amr_flux.specs.Faces.{IsInDomain};
+    ghost use Rattle.amr_register.specs.Bands.{IsWhole};
     ghost use Rattle.amr_register.specs.CoarseFlows.{coarse_flows};
     ghost use Rattle.amr_register.specs.Entries.{with_entries};
     ghost use Rattle.amr_register.specs.EdgeCells.{HaveNets, IsSmallNet, lists_of};
@@ -82,8 +86,60 @@ impl Register {
         ensures zero { IfOk result (λ r. (c : Cell) → entry_in r c ≡ pos 0) }
     {
         let cover = Cover::make(alloc, fine)?;
-        let cells = register_cells(alloc, p, l, coarse, fine, &cover)?;
-        let sides = sides_of_all(alloc, &p.domain(l), &cover, &cells)?;
+        let pair = LevelPair {
+            p,
+            l,
+            coarse,
+            fine,
+            cover: &cover,
+        };
+        let band = whole(alloc, &pair)?;
+        Register::over(alloc, coarse, band)
+    }
+
+    /// The same as `make`, by as many threads at once as `threads` says: 0 or 1 makes none, nor does a small level. The rows
+    /// are shared out among them.
+    pub fn make_in_threads<R: Threads + Sync>(
+        rt: &R,
+        threads: usize,
+        alloc: Global,
+        p: &Problem,
+        l: u32,
+        coarse: &Level,
+        fine: &Level,
+    ) -> Result<Register, NoMemory>
+        requires level { l ≤ 3 }
+        requires coarse { IsLevel p.now l (level_of coarse.now) }
+        requires fine { IsLevel p.now (suc l) (level_of fine.now) }
+        requires nested { IsNestedLevel p.now l (level_of coarse.now) (level_of fine.now) }
+        ensures cells { IfOk result (IsRegisterOf p.now l (level_of coarse.now).masses (level_of fine.now).masses) }
+        ensures edges { IfOk result (HasEdgesOf (map box (patches_of coarse.now))) }
+        ensures zero { IfOk result (λ r. (c : Cell) → entry_in r c ≡ pos 0) }
+    {
+        let cover = Cover::make(alloc, fine)?;
+        let pair = LevelPair {
+            p,
+            l,
+            coarse,
+            fine,
+            cover: &cover,
+        };
+        let band = whole_in_threads(rt, threads, alloc, &pair)?;
+        Register::over(alloc, coarse, band)
+    }
+
+    /// The register that has the cells of a band, which are cells of a level. Each entry is 0.
+    fn over(alloc: Global, coarse: &Level, band: Band) -> Result<Register, NoMemory>
+        requires there { All (λ c. IsTrue (in_patches (patches_of coarse.now) c)) band.cells.items }
+        requires few { length band.cells.items < 2 ^ 32 }
+        requires rising { AreRising band.cells.items }
+        requires near { All IsDomainCell band.cells.items }
+        requires side_count { length band.sides.items ≡ length band.cells.items }
+        ensures cells { (p : Problem) (l : ℕ) (m fine : Masses) → IsWhole p l m fine band → IfOk result (IsRegisterOf p l m fine) }
+        ensures edges { IfOk result (HasEdgesOf (map box (patches_of coarse.now))) }
+        ensures zero { IfOk result (λ r. (c : Cell) → entry_in r c ≡ pos 0) }
+    {
+        let Band { cells, sides } = band;
         let entries = no_entries(alloc, cells.len())?;
         let edges = edge_lists(alloc, coarse.patches(), coarse.order(), &cells, &sides)?;
         Ok(Register {
