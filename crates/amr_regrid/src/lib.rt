@@ -2,6 +2,7 @@
 //! masses of their cells are kept or shared out.
 //!
 //! - [`regrid`]: a mesh regridded.
+//! - [`regrid_in_threads`]: the same, with the masses shared out among threads.
 #![tactic(auto)]
 
 mod blocks;
@@ -10,4 +11,4 @@ mod levels;
 mod masses;
 mod regrids;
 
-pub use regrids::regrid;
+pub use regrids::{regrid, regrid_in_threads};

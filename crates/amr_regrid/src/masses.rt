@@ -21,7 +21,7 @@ use amr_boxlist::BoxList;
 use amr_causes::NoMemory;
 use amr_def::Problem;
 use amr_patch::Level;
-use amr_transfer::split_into;
+use amr_transfer::{Sharing, split_by};
 use std::alloc::Global;
 
 /// What a regrid makes of a level.
@@ -50,13 +50,15 @@ fn patch_boxes(alloc: Global, boxes: &[Bx], max: u32) -> Result<BoxList, NoMemor
 
 /// A level with these boxes in patches of at most `max` by `max` cells. A cell that the old level has keeps its mass, any
 /// other gets its share of its parent's.
-fn made(
+fn made<S: Sharing>(
+    sharing: &S,
     alloc: Global,
     max: u32,
     coarse: &Level,
     old: Option<&Level>,
     boxes: &[Bx],
 ) -> Result<Level, NoMemory>
+    requires shared { S.may_share sharing.now }
     requires some { 1 ≤ max }
     requires apart { AreApart boxes.now }
     requires near { AreNear boxes.now }
@@ -66,7 +68,7 @@ fn made(
 {
     let patch_boxes = patch_boxes(alloc, boxes, max)?;
     let mut level = Level::make(alloc, boxes, patch_boxes.list())?;
-    split_into(coarse, old, &mut level);
+    split_by(sharing, coarse, old, &mut level);
     Ok(level)
 }
 
@@ -94,13 +96,15 @@ fn rest_of(levels: &[Level]) -> &[Level]
 
 /// What becomes of the levels from one up, over the coarser level, by their new boxes: upward to the first that has none. A
 /// level whose boxes stay is kept with no look at its cells.
-pub(crate) fn refill(
+pub(crate) fn refill<S: Sharing>(
+    sharing: &S,
     alloc: Global,
     p: &Problem,
     coarse: &Level,
     olds: &[Level],
     boxes: &[Vec<Bx>],
 ) -> Result<Vec<Remade>, NoMemory>
+    requires shared { S.may_share sharing.now }
     requires stands { (l : ℕ) × Stands p.now l (level_of coarse.now) (lists_in boxes.now) }
     requires filled { All IsFilled (map level_of olds.now) }
     ensures levels { IfOk result (λ r. map level_of (remade_levels olds.now r.items) ≡ refill (level_of coarse.now).masses (map level_of olds.now) (lists_in boxes.now)) }
@@ -115,12 +119,12 @@ pub(crate) fn refill(
         return Ok(Vec::new(alloc));
     }
     if let Some(old) = unchanged(olds, here) {
-        let mut all = refill(alloc, p, old, rest_of(olds), more)?;
+        let mut all = refill(sharing, alloc, p, old, rest_of(olds), more)?;
         all.insert(0, Remade::Kept)?;
         return Ok(all);
     }
-    let level = made(alloc, p.max_grid_size, coarse, olds.first(), here)?;
-    let mut all = refill(alloc, p, &level, rest_of(olds), more)?;
+    let level = made(sharing, alloc, p.max_grid_size, coarse, olds.first(), here)?;
+    let mut all = refill(sharing, alloc, p, &level, rest_of(olds), more)?;
     all.insert(0, Remade::Made(level))?;
     Ok(all)
 }

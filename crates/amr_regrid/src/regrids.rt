@@ -18,7 +18,9 @@ use amr_box::Bx;
 use amr_causes::NoMemory;
 use amr_def::Problem;
 use amr_patch::{Level, Mesh};
+use amr_transfer::{Alone, InThreads, Sharing};
 use std::alloc::Global;
+use std::thread::Threads;
 
 /// How many levels get new boxes: one more than there are above level 0, up to the greatest level.
 fn new_level_count(p: &Problem, levels: &[Level]) -> u32
@@ -29,12 +31,14 @@ fn new_level_count(p: &Problem, levels: &[Level]) -> u32
 }
 
 /// What becomes of the levels, by the new boxes above level 0. Level 0 stays.
-fn remade(
+fn remade<S: Sharing>(
+    sharing: &S,
     alloc: Global,
     p: &Problem,
     levels: &[Level],
     boxes: &[Vec<Bx>],
 ) -> Result<Vec<Remade>, NoMemory>
+    requires shared { S.may_share sharing.now }
     requires sound { IsSoundWith p.now levels.now }
     requires boxes { lists_in boxes.now ≡ regridded_boxes p.now levels.now }
     ensures levels { IfOk result (λ r. map level_of (remade_levels levels.now r.items) ≡ regridded_levels (map level_of levels.now) (lists_in boxes.now)) }
@@ -44,7 +48,7 @@ fn remade(
     match levels.split_first() {
         None => unreachable!(),
         Some((base, olds)) => {
-            let mut all = refill(alloc, p, base, olds, boxes)?;
+            let mut all = refill(sharing, alloc, p, base, olds, boxes)?;
             all.insert(0, Remade::Kept)?;
             Ok(all)
         }
@@ -66,16 +70,55 @@ fn boxes_above(
 }
 
 /// Regrids the levels of a sound state. After `NoMemory` boxes, masses and patch boxes are as before.
-fn regrid_levels(alloc: Global, p: &Problem, levels: &mut Vec<Level>) -> Result<(), NoMemory>
-    requires { IsSoundWith p.now levels.old.items }
+fn regrid_levels<S: Sharing>(
+    sharing: &S,
+    alloc: Global,
+    p: &Problem,
+    levels: &mut Vec<Level>,
+) -> Result<(), NoMemory>
+    requires shared { S.may_share sharing.now }
+    requires sound { IsSoundWith p.now levels.old.items }
     ensures levels { OnOk result (map level_of levels.new.items ≡ regridded_levels (map level_of levels.old.items) (regridded_boxes p.now levels.old.items)) }
     ensures patches { OnOk result (AreChoppedOrKept p.now.max_grid_size levels.new.items (outlines levels.old.items)) }
     ensures refused { OnErr result (outlines levels.new.items ≡ outlines levels.old.items) }
 {
     let boxes = boxes_above(alloc, p, levels)?;
-    let remade = remade(alloc, p, levels.as_slice(), boxes.as_slice())?;
+    let remade = remade(sharing, alloc, p, levels.as_slice(), boxes.as_slice())?;
     install(levels, remade)?;
     Ok(())
+}
+
+/// Regrids a mesh, and has the masses of new levels shared out among threads or not.
+fn regrid_by<S: Sharing>(
+    sharing: &S,
+    alloc: Global,
+    p: &Problem,
+    mesh: &mut Mesh,
+) -> Result<(), NoMemory>
+    requires shared { S.may_share sharing.now }
+    requires whole { is_spent mesh.old ≡ false }
+    requires sound { IsSound p.now (state_of mesh.old) }
+    ensures value { OnOk result (state_of mesh.new ≡ regrid p.now (state_of mesh.old)) }
+    ensures sound { OnOk result (IsSound p.now (state_of mesh.new)) }
+    ensures held { OnOk result (IsHeld p.now (state_of mesh.old) (state_of mesh.new)) }
+    ensures chopped_or_kept { OnOk result (AreChoppedOrKept p.now.max_grid_size (levels_of mesh.new) (outlines (levels_of mesh.old))) }
+    ensures patches { All (IsChopped p.now.max_grid_size) (levels_of mesh.old) → OnOk result (All (IsChopped p.now.max_grid_size) (levels_of mesh.new)) }
+    ensures whole { is_spent mesh.new ≡ false }
+    ensures refused { OnErr result (state_of mesh.new ≡ state_of mesh.old) }
+    ensures refused_patches { OnErr result (outlines (levels_of mesh.new) ≡ outlines (levels_of mesh.old)) }
+{
+    let step = mesh.step();
+    let (rows, mut levels) = mesh.take();
+    match regrid_levels(sharing, alloc, p, &mut levels) {
+        Ok(()) => {
+            *mesh = Mesh::of(step, rows, levels);
+            Ok(())
+        }
+        Err(fault) => {
+            *mesh = Mesh::of(step, rows, levels);
+            Err(fault)
+        }
+    }
 }
 
 /// Regrids a mesh (Berger and Colella 1989). From the finest level that may be refined down to level 0 the tags are
@@ -99,16 +142,28 @@ pub fn regrid(alloc: Global, p: &Problem, mesh: &mut Mesh) -> Result<(), NoMemor
     ensures refused { OnErr result (state_of mesh.new ≡ state_of mesh.old) }
     ensures refused_patches { OnErr result (outlines (levels_of mesh.new) ≡ outlines (levels_of mesh.old)) }
 {
-    let step = mesh.step();
-    let (rows, mut levels) = mesh.take();
-    match regrid_levels(alloc, p, &mut levels) {
-        Ok(()) => {
-            *mesh = Mesh::of(step, rows, levels);
-            Ok(())
-        }
-        Err(fault) => {
-            *mesh = Mesh::of(step, rows, levels);
-            Err(fault)
-        }
-    }
+    regrid_by(&Alone, alloc, p, mesh)
+}
+
+/// The same, where the masses of the cells of large new levels are shared out among so many threads. For 0 and for 1 none is
+/// made. The outcome is the same for any number.
+pub fn regrid_in_threads<R: Threads + Sync>(
+    rt: &R,
+    threads: usize,
+    alloc: Global,
+    p: &Problem,
+    mesh: &mut Mesh,
+) -> Result<(), NoMemory>
+    requires whole { is_spent mesh.old ≡ false }
+    requires sound { IsSound p.now (state_of mesh.old) }
+    ensures value { OnOk result (state_of mesh.new ≡ regrid p.now (state_of mesh.old)) }
+    ensures sound { OnOk result (IsSound p.now (state_of mesh.new)) }
+    ensures held { OnOk result (IsHeld p.now (state_of mesh.old) (state_of mesh.new)) }
+    ensures chopped_or_kept { OnOk result (AreChoppedOrKept p.now.max_grid_size (levels_of mesh.new) (outlines (levels_of mesh.old))) }
+    ensures patches { All (IsChopped p.now.max_grid_size) (levels_of mesh.old) → OnOk result (All (IsChopped p.now.max_grid_size) (levels_of mesh.new)) }
+    ensures whole { is_spent mesh.new ≡ false }
+    ensures refused { OnErr result (state_of mesh.new ≡ state_of mesh.old) }
+    ensures refused_patches { OnErr result (outlines (levels_of mesh.new) ≡ outlines (levels_of mesh.old)) }
+{
+    regrid_by(&InThreads::of(rt, threads), alloc, p, mesh)
 }

@@ -1,6 +1,7 @@
 pub mod Spans
 pub mod GivenCells
 pub mod PatchLists
+pub mod PatchChunks
 pub mod Bands
 pub mod Halves
 pub mod Fours

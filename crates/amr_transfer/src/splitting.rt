@@ -17,6 +17,7 @@ ghost use Rattle.amr_transfer.specs.Windows.{AreRowsOf};
 use crate::cells::{ROOM, above, ahead, cells_from, odd};
 use crate::giving::give;
 use crate::keeping::keep;
+use crate::sharing::{Alone, Sharing};
 use crate::windows::{Rows, rows_of};
 use amr_box::{Cell, parent};
 use amr_patch::{Level, Patch, find_near};
@@ -123,7 +124,7 @@ fn fill_patch(
 }
 
 /// The same of a list of patches.
-fn fill_all(coarse: &Level, old: &[Patch], patches: &mut [Patch])
+pub(crate) fn fill_all(coarse: &Level, old: &[Patch], patches: &mut [Patch])
     requires parents { (c : Cell) → IsTrue (in_patches patches.old c) → IsSome ((level_of coarse.now).masses (parent c)) }
     requires apart { ArePatchesApart old.now }
     ensures kept { Pairwise KeepsFrameAndFluxes patches.old patches.new }
@@ -163,8 +164,21 @@ pub fn split_into(coarse: &Level, old_fine: Option<&Level>, fine: &mut Level)
     ensures patches { Pairwise KeepsFrameAndFluxes (patches_of fine.old) (patches_of fine.new) }
     ensures sync { (c : Cell) → HasChildren (level_of fine.old).masses c → IsInSync (level_of coarse.now).masses (masses_before (option_copied old_fine.entry)) c → children_mass (level_of fine.new).masses c ≡ mass_of (level_of coarse.now).masses c }
 {
+    split_by(&Alone, coarse, old_fine, fine);
+}
+
+/// The same, by the calling thread alone or in several threads. The masses are the same whichever it is.
+pub fn split_by<S: Sharing>(sharing: &S, coarse: &Level, old_fine: Option<&Level>, fine: &mut Level)
+    requires shared { S.may_share sharing.now }
+    requires filled { (c : Cell) → is_some ((level_of fine.old).masses c) ≡ in_boxes (level_of fine.old).boxes c }
+    requires parents { (c : Cell) → IsSome ((level_of fine.old).masses c) → IsSome ((level_of coarse.now).masses (parent c)) }
+    ensures masses { (level_of fine.new).masses ≡ refilled (level_of coarse.now).masses (masses_before (option_copied old_fine.entry)) (level_of fine.old).boxes }
+    ensures boxes { (level_of fine.new).boxes ≡ (level_of fine.old).boxes }
+    ensures patches { Pairwise KeepsFrameAndFluxes (patches_of fine.old) (patches_of fine.new) }
+    ensures sync { (c : Cell) → HasChildren (level_of fine.old).masses c → IsInSync (level_of coarse.now).masses (masses_before (option_copied old_fine.entry)) c → children_mass (level_of fine.new).masses c ≡ mass_of (level_of coarse.now).masses c }
+{
     let order = fine.order();
     let mut patches = fine.take_patches();
-    fill_all(coarse, patches_before(old_fine), &mut patches);
+    sharing.fill(coarse, patches_before(old_fine), &mut patches);
     fine.put_patches_in_order(patches, order);
 }

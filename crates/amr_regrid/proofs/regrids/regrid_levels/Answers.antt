@@ -10,19 +10,19 @@ use Rattle.amr_regrid.proofs.OutlineLaws.{same_levels}
 use Rattle.amr_regrid.proofs.regrids.regrid_levels.Goals as goal
 
 pub remade-requires-clause-sound : goal.remade-requires-clause-sound
-remade-requires-clause-sound c =
-    subst (λ (ks : List Level). IsSoundWith c.args.p.now ks) (sym c.as_slice.ensures.value) (sound_stays c.args.p.now c.boxes_above.new.levels.items c.args.levels.now.items c.boxes_above.ensures.outlines c.requires)
+remade-requires-clause-sound g c =
+    subst (λ (ks : List Level). IsSoundWith c.args.p.now ks) (sym c.as_slice.ensures.value) (sound_stays c.args.p.now c.boxes_above.new.levels.items c.args.levels.now.items c.boxes_above.ensures.outlines c.requires.sound)
 
 pub remade-requires-clause-boxes : goal.remade-requires-clause-boxes
-remade-requires-clause-boxes c =
+remade-requires-clause-boxes g c =
     let p = c.args.p.now in
     ap lists_in c.as_slice-2.ensures.value ∙ c.in_ok-boxes.ensures.boxes ∙ same_boxes p c.boxes_above.new.levels.items c.args.levels.now.items c.boxes_above.ensures.outlines ∙ ap (regridded_boxes p) (sym c.as_slice.ensures.value)
 
 pub install-requires : goal.install-requires
-install-requires c = let e = ap length c.as_slice.ensures.value in omega (arith, e, c.in_ok-remade.ensures.few)
+install-requires g c = let e = ap length c.as_slice.ensures.value in omega (arith, e, c.in_ok-remade.ensures.few)
 
 pub returns-clause-levels : goal.returns-clause-levels
-returns-clause-levels c =
+returns-clause-levels g c =
     let p = c.args.p.now in
     let js = c.boxes_above.new.levels.items in
     let ks = c.args.levels.now.items in
@@ -36,7 +36,7 @@ returns-clause-levels c =
     ∙ ap (λ (ls : List defined.Level). regridded_levels ls (regridded_boxes p ks)) same
 
 pub returns-clause-patches : goal.returns-clause-patches
-returns-clause-patches c =
+returns-clause-patches g c =
     let max = c.args.p.now.max_grid_size in
     let js = c.boxes_above.new.levels.items in
     let rs = c.in_ok-remade.remade.items in

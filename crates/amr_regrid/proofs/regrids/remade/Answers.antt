@@ -15,7 +15,7 @@ use Rattle.amr_regrid.proofs.Standing.{base_stands}
 use Rattle.amr_regrid.proofs.regrids.remade.Goals as goal
 
 pub refill-requires-clause-stands : goal.refill-requires-clause-stands
-refill-requires-clause-stands c =
+refill-requires-clause-stands g c =
     let p = c.args.p.now in
     let ks = c.args.levels.now in
     let base = c.in-Some.base.now in
@@ -25,10 +25,10 @@ refill-requires-clause-stands c =
     (0, base_stands p (is_tagged p (with_levels ks)) (new_level_count p (with_levels ks)) (level_of base) (lists_in c.args.boxes.now) few c.requires.boxes (base_level p ks c.requires.sound base olds parts) (base_whole p ks c.requires.sound base olds parts))
 
 pub refill-requires-clause-filled : goal.refill-requires-clause-filled
-refill-requires-clause-filled c = olds_filled c.args.p.now c.args.levels.now c.requires.sound c.in-Some.base.now c.in-Some.olds.now c.in-Some.ensures.cases.0
+refill-requires-clause-filled g c = olds_filled c.args.p.now c.args.levels.now c.requires.sound c.in-Some.base.now c.in-Some.olds.now c.in-Some.ensures.cases.0
 
 pub returns-clause-levels : goal.returns-clause-levels
-returns-clause-levels c =
+returns-clause-levels g c =
     let ks = c.args.levels.now in
     let base = c.in-Some.base.now in
     let olds = c.in-Some.olds.now in
@@ -41,10 +41,10 @@ returns-clause-levels c =
     ∙ ap (λ (js : List Level). regridded_levels (map level_of js) (lists_in c.args.boxes.now)) (sym parts)
 
 pub returns-clause-few : goal.returns-clause-few
-returns-clause-few c =
+returns-clause-few g c =
     let few = few_remade c.args.p.now c.args.levels.now c.args.boxes.now c.in_ok-all-in-Some.all.items c.requires.boxes c.in_ok-all-in-Some.ensures.few in
     let many = ap length c.in_ok-insert-in-Some.ensures.items in
     omega (arith, few, many)
 
 pub returns-clause-chopped : goal.returns-clause-chopped
-returns-clause-chopped c = all_more (IsChoppedIfMade c.args.p.now.max_grid_size) Kept c.in_ok-all-in-Some.all.items c.insert.new.self.items c.in_ok-insert-in-Some.ensures.items tt c.in_ok-all-in-Some.ensures.chopped
+returns-clause-chopped g c = all_more (IsChoppedIfMade c.args.p.now.max_grid_size) Kept c.in_ok-all-in-Some.all.items c.insert.new.self.items c.in_ok-insert-in-Some.ensures.items tt c.in_ok-all-in-Some.ensures.chopped
