@@ -23,10 +23,11 @@ use amr_box::{Bx, Cell};
 use amr_causes::NoMemory;
 use amr_def::Problem;
 use amr_gaps::starts_of;
-use amr_ghost::{FramePlan, plan_frames};
+use amr_ghost::{FramePlan, plan_frames_in_threads};
 use amr_layout::Surroundings;
 use amr_patch::{Level, Order, Patch};
 use std::alloc::Global;
+use std::thread::Threads;
 
 /// The layout of a level's step, with a plan of the frames, and what it was made for. That is the boxes of the level's
 /// patches, the register cells of the next coarser level, and the patch boxes of the next finer one. Those matter only
@@ -150,7 +151,8 @@ fn serves(kept: &KeptLayout, given: Given<'_>, patches: &[Patch], way: Way) -> b
 }
 
 /// Lays out the step of these patches anew, to be made in this way, with what old tasks leave as far as it goes.
-fn lay_out_anew(
+fn lay_out_anew<R: Threads + Sync>(
+    rt: &R,
     given: Given<'_>,
     order: Order,
     patches: &[Patch],
@@ -177,8 +179,17 @@ fn lay_out_anew(
         cells: given.cells,
         finer: given.finer,
     };
-    let frames = plan_frames(alloc, given.problem, given.level, patches, order, &starts)?;
-    let tasks = tasks_for(alloc, surroundings, &frames, way, old)?;
+    let frames = plan_frames_in_threads(
+        rt,
+        way.threads(),
+        alloc,
+        given.problem,
+        given.level,
+        patches,
+        order,
+        &starts,
+    )?;
+    let tasks = tasks_for(rt, alloc, surroundings, &frames, way, old)?;
     let totals = vec![in alloc; 0u64; 2 + 2 * given.cells.len()]?;
     Ok(KeptLayout {
         level: given.level,
@@ -207,7 +218,8 @@ fn tasks_from(layout: KeptLayout) -> Tasks {
 
 /// The layout of the step of these patches, to be made in this way: the one that is kept, where it serves, else a new one. None is
 /// kept afterwards.
-pub(crate) fn layout_for(
+pub(crate) fn layout_for<R: Threads + Sync>(
+    rt: &R,
     given: Given<'_>,
     order: Order,
     patches: &[Patch],
@@ -228,10 +240,10 @@ pub(crate) fn layout_for(
     ensures kept { kept.new ≡ None }
 {
     let Some(layout) = kept.take() else {
-        return lay_out_anew(given, order, patches, way, None);
+        return lay_out_anew(rt, given, order, patches, way, None);
     };
     if serves(&layout, given, patches, way) {
         return Ok(layout);
     }
-    lay_out_anew(given, order, patches, way, Some(tasks_from(layout)))
+    lay_out_anew(rt, given, order, patches, way, Some(tasks_from(layout)))
 }

@@ -27,7 +27,7 @@ use crate::tasks::widest_of;
 use amr_causes::NoMemory;
 use amr_flux::Room;
 use amr_ghost::{FrameCopy, FrameParts, FramePlan, Message, OuterGhosts, part_frames};
-use amr_layout::{FlowTo, LevelFlows, Surroundings, plan_adds};
+use amr_layout::{FlowTo, LevelFlows, Surroundings, plan_adds_in_threads};
 use amr_lots::{Lot, Phase};
 use amr_patch::Patch;
 use amr_register::EdgeCell;
@@ -35,6 +35,7 @@ use amr_transfer::count_sums;
 use std::alloc::Global;
 use std::boxed::Box;
 use std::snapshot::Snapshot;
+use std::thread::Threads;
 
 /// How many patches a level may have that is shared out. More would take more memory than there is, and are refused as that.
 const MOST: usize = 1 << 26;
@@ -280,8 +281,9 @@ fn lots_for(
 }
 
 /// What so many workers work with in the step of these patches where they share them out in lots: runs of as many each. This plan
-/// tells where the ghost cells get their values from.
-pub(crate) fn lot_tasks(
+/// tells where the ghost cells get their values from. Where each flow goes is worked out by as many threads.
+pub(crate) fn lot_tasks<R: Threads + Sync>(
+    rt: &R,
     alloc: Global,
     s: Surroundings<'_>,
     frames: &FramePlan,
@@ -303,7 +305,7 @@ pub(crate) fn lot_tasks(
     if count > MOST {
         return Err(NoMemory);
     }
-    let flows = plan_adds(alloc, s)?;
+    let flows = plan_adds_in_threads(rt, workers as usize, alloc, s)?;
     let each = parts_in(count, workers.max(1) as usize).max(1);
     let runs = parts_in(count, each);
     let parts = part_frames(alloc, frames, each, runs)?;

@@ -130,7 +130,7 @@ fn step_patches<R: Threads + Wait + Sync, G: Gate + Sync>(
     ensures valued { IfSome kept.new (IsValued given.entry.problem.now given.entry.level (old_masses (option_copied given.entry.old))) }
 {
     let way = way_for(workers, given, patches);
-    let mut layout = layout_for(given, order, patches, way, kept)?;
+    let mut layout = layout_for(workers.runtime, given, order, patches, way, kept)?;
     if patches.len() > MOST {
         return Err(NoMemory);
     }

@@ -32,6 +32,7 @@ use amr_work::Body;
 use std::alloc::Global;
 use std::boxed::Box;
 use std::snapshot::Snapshot;
+use std::thread::Threads;
 
 /// What a lone worker works with.
 #[derive(Drop)]
@@ -190,7 +191,8 @@ fn bodies_from(alloc: Global, old: Option<Tasks>) -> Vec<Box<Body>> {
 }
 
 /// What workers work with in the step of these patches, in this way, with what old tasks leave.
-pub(crate) fn tasks_for(
+pub(crate) fn tasks_for<R: Threads + Sync>(
+    rt: &R,
     alloc: Global,
     s: Surroundings<'_>,
     frames: &FramePlan,
@@ -215,7 +217,7 @@ pub(crate) fn tasks_for(
             Ok(Tasks::Lone(tasks))
         }
         Way::InLots(workers) => {
-            let tasks = lot_tasks(alloc, s, frames, workers)?;
+            let tasks = lot_tasks(rt, alloc, s, frames, workers)?;
             Ok(Tasks::Lots(tasks))
         }
         Way::OnBoard => {

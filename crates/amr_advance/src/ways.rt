@@ -38,6 +38,16 @@ pub(crate) enum Way {
     OnBoard,
 }
 
+impl Way {
+    /// How many threads may lay it out at once: as many as workers share the patches out.
+    pub(crate) fn threads(self) -> usize {
+        match self {
+            Way::InLots(workers) => workers as usize,
+            _ => 1,
+        }
+    }
+}
+
 /// Whether patches have enough cells to be shared out.
 fn are_worth_sharing(patches: &[Patch], enough: Enough) -> bool {
     let mut cells = 0u64;

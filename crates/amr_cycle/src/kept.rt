@@ -19,6 +19,7 @@ use amr_def::Problem;
 use amr_patch::Level;
 use amr_register::Register;
 use std::alloc::Global;
+use std::thread::Threads;
 
 /// What a level keeps for both steps of the next finer one. There is a level on its own boxes, in which its masses
 /// before its step stand, the patch boxes of the finer level, and its flux register.
@@ -147,8 +148,11 @@ fn before_in(mut kept: Level, level: &Level) -> Result<Level, NoMemory>
     Ok(kept)
 }
 
-/// What both steps of the next finer level stand on, made anew: the level as it is before its step, and a register of zeros.
-fn make_below(
+/// What both steps of the next finer level stand on, made anew: the level as it is before its step, and a register of zeros. It is
+/// made by as many threads at once as `threads` says.
+fn make_below<R: Threads + Sync>(
+    rt: &R,
+    threads: usize,
     alloc: Global,
     p: &Problem,
     l: u32,
@@ -169,14 +173,16 @@ fn make_below(
     Ok(KeptBelow {
         before,
         finer: boxes_of(alloc, next.patches())?,
-        register: Register::make(alloc, p, l, level, next)?,
+        register: Register::make_in_threads(rt, threads, alloc, p, l, level, next)?,
     })
 }
 
 /// What both steps of the next finer level stand on: the level's masses as they are now, and a register of zeros. It is what is kept,
 /// where boxes have not changed, else made anew; room for the masses stays where the level's own boxes have not changed. Nothing is
 /// kept afterwards.
-pub(crate) fn below_for(
+pub(crate) fn below_for<R: Threads + Sync>(
+    rt: &R,
+    threads: usize,
     alloc: Global,
     p: &Problem,
     l: u32,
@@ -195,14 +201,14 @@ pub(crate) fn below_for(
     ensures none { kept.new ≡ None }
 {
     let Some(mut below) = kept.take() else {
-        return make_below(alloc, p, l, level.copy()?, level, next);
+        return make_below(rt, threads, alloc, p, l, level.copy()?, level, next);
     };
     if serves(&below, level, next) {
         renew(&mut below, level);
         return Ok(below);
     }
     let before = before_in(below.before, level)?;
-    make_below(alloc, p, l, before, level, next)
+    make_below(rt, threads, alloc, p, l, before, level, next)
 }
 
 /// Makes room for what so many levels keep.

@@ -131,6 +131,8 @@ fn step_coarse<R: Threads + Wait + Sync, G: Gate + Sync>(
         finer,
         register,
     } = below_for(
+        workers.runtime,
+        workers.count as usize,
         given.alloc,
         given.problem,
         given.level,

@@ -17,7 +17,7 @@ use amr_cycle::{Kept, step_kept};
 use amr_def::Problem;
 use amr_lots::LotWork;
 use amr_patch::Mesh;
-use amr_regrid::regrid;
+use amr_regrid::regrid_in_threads;
 use amr_work::LevelWork;
 use amr_workers::Gate;
 use std::alloc::Global;
@@ -31,10 +31,12 @@ fn is_due(p: &Problem, number: u32) -> bool
     number > 0 && number % p.regrid_int == 0
 }
 
-/// Regrids a mesh where that is due, and tells so to what steps keep. One level alone stays as it is. After `NoMemory` the mesh has the
-/// state of before.
+/// Regrids a mesh where that is due, in so many threads, and tells so to what steps keep. One level alone stays as it is. After
+/// `NoMemory` the mesh has the state of before.
 #[tactic(auto, using(crate::proofs::NextStates::alone_is))]
-fn regrid_if_due(
+fn regrid_if_due<R: Threads + Sync>(
+    rt: &R,
+    threads: usize,
     alloc: Global,
     p: &Problem,
     mesh: &mut Mesh,
@@ -56,7 +58,7 @@ fn regrid_if_due(
 {
     let number = mesh.step();
     if p.max_level > 0 && is_due(p, number) {
-        regrid(alloc, p, mesh)?;
+        regrid_in_threads(rt, threads, alloc, p, mesh)?;
         kept.masses_changed();
     }
     Ok(())
@@ -100,6 +102,13 @@ pub(crate) fn make_next<R: Threads + Wait + Sync, G: Gate + Sync>(
     ensures current { OnOk result (IsCurrent (state_of mesh.new).levels kept.new) }
     ensures refused { OnErr result ((is_spent mesh.new ≡ true) ⊎ ((is_spent mesh.new ≡ false) × (state_of mesh.new ≡ state_of mesh.old))) }
 {
-    regrid_if_due(run.alloc, run.job.problem, mesh, kept)?;
+    regrid_if_due(
+        workers.runtime,
+        workers.count as usize,
+        run.alloc,
+        run.job.problem,
+        mesh,
+        kept,
+    )?;
     step_kept(workers, run.job.problem, mesh, kept)
 }

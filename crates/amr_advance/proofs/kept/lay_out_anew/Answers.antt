@@ -2,7 +2,7 @@ use Rattle.std.proofs.Common.{refl, arith}
 use Rattle.amr_advance.proofs.kept.lay_out_anew.Goals as goal
 
 pub returns-clause-laid_out : goal.returns-clause-laid_out
-returns-clause-laid_out c = record {
+returns-clause-laid_out g c = record {
   level = refl;
   boxes = c.in_ok-boxes_of.ensures;
   cells = c.in_ok-from_slice.ensures.items;
@@ -14,7 +14,7 @@ returns-clause-laid_out c = record {
 }
 
 pub returns-clause-current : goal.returns-clause-current
-returns-clause-current c = c.in_ok-tasks.ensures.current
+returns-clause-current g c = c.in_ok-tasks.ensures.current
 
 pub returns-clause-valued : goal.returns-clause-valued
-returns-clause-valued c = c.in_ok-tasks.ensures.valued
+returns-clause-valued g c = c.in_ok-tasks.ensures.valued

@@ -18,13 +18,13 @@ valued_for : {E : Type 0} (r : Result KeptLayout E) (p : Problem) (l : ℕ) (m :
 valued_for r p l m h = IfOk-weaker r (λ k. (q : Problem) (n : ℕ) (old : Masses) → IsValued q n old k) (IsValued p l m) (λ k all. all p l m) h
 
 pub returns-in_default-clause-valued : goal.returns-in_default-clause-valued
-returns-in_default-clause-valued c = valued_for c.lay_out_anew.result c.args.given.problem.now c.args.given.level (old_masses (option_copied c.args.given.old)) c.lay_out_anew.ensures.valued
+returns-in_default-clause-valued g c = valued_for c.lay_out_anew.result c.args.given.problem.now c.args.given.level (old_masses (option_copied c.args.given.old)) c.lay_out_anew.ensures.valued
 
 pub returns-clause-valued : goal.returns-clause-valued
-returns-clause-valued c = valued_for c.lay_out_anew-2.result c.args.given.problem.now c.args.given.level (old_masses (option_copied c.args.given.old)) c.lay_out_anew-2.ensures.valued
+returns-clause-valued g c = valued_for c.lay_out_anew-2.result c.args.given.problem.now c.args.given.level (old_masses (option_copied c.args.given.old)) c.lay_out_anew-2.ensures.valued
 
 pub returns-in_default-clause-current : goal.returns-in_default-clause-current
-returns-in_default-clause-current c = of_these c.lay_out_anew.result (masses_in c.args.patches.now) c.lay_out_anew.ensures.current
+returns-in_default-clause-current g c = of_these c.lay_out_anew.result (masses_in c.args.patches.now) c.lay_out_anew.ensures.current
 
 pub returns-clause-current : goal.returns-clause-current
-returns-clause-current c = of_these c.lay_out_anew-2.result (masses_in c.args.patches.now) c.lay_out_anew-2.ensures.current
+returns-clause-current g c = of_these c.lay_out_anew-2.result (masses_in c.args.patches.now) c.lay_out_anew-2.ensures.current

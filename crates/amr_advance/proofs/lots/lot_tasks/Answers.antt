@@ -8,16 +8,16 @@ use Rattle.amr_advance.specs.Lots.{IsLotOf}
 use Rattle.amr_advance.proofs.lots.lot_tasks.Goals as goal
 
 pub part_frames-requires-clause-enough : goal.part_frames-requires-clause-enough
-part_frames-requires-clause-enough c = plan_small (domain c.args.s.problem.now c.args.s.level) c.args.s.patches.now c.args.frames.now c.max-each.result c.parts_in-runs.result c.requires.frames c.parts_in-runs.ensures.enough
+part_frames-requires-clause-enough g c = plan_small (domain c.args.s.problem.now c.args.s.level) c.args.s.patches.now c.args.frames.now c.max-each.result c.parts_in-runs.result c.requires.frames c.parts_in-runs.ensures.enough
 
 pub lots_for-requires-clause-copies : goal.lots_for-requires-clause-copies
-lots_for-requires-clause-copies c = c.in_ok-parts.ensures.count
+lots_for-requires-clause-copies g c = c.in_ok-parts.ensures.count
 
 pub lots_for-requires-clause-outer : goal.lots_for-requires-clause-outer
-lots_for-requires-clause-outer c = c.in_ok-parts.ensures.outer_count
+lots_for-requires-clause-outer g c = c.in_ok-parts.ensures.outer_count
 
 pub returns-clause-tasks : goal.returns-clause-tasks
-returns-clause-tasks c =
+returns-clause-tasks g c =
     let s = around c.args.s.problem.now c.args.s.level c.args.s.patches.now c.args.s.cells.now (option_copied c.args.s.finer) in
     let parts = c.in_ok-parts.parts in
     let count : length c.in_ok-lots.lots.items ≡ c.parts_in-runs.result = c.in_ok-lots.ensures.count in

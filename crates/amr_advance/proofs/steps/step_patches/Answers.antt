@@ -20,7 +20,7 @@ pub returns-then-patches-gt-MOST-clause-same_register : goal.returns-then-patche
 returns-then-patches-gt-MOST-clause-same_register g c = unchanged c.args.register.now
 
 pub layout_for-requires-clause-cells : goal.layout_for-requires-clause-cells
-layout_for-requires-clause-cells g c = c.requires.cells c.args.patches.now refl
+layout_for-requires-clause-cells g c = λ _ _. c.requires.cells c.args.patches.now refl
 
 pub run_level-run-requires-clause-current : goal.run_level-run-requires-clause-current
 run_level-run-requires-clause-current g c = λ _ _. subst (λ (m : Masses). IsCurrent m c.in_ok-layout.layout) (sym c.fill_frames.ensures.masses) c.in_ok-layout.ensures.current

@@ -17,13 +17,13 @@ use Rattle.amr_cycle.proofs.Registers.{edges_stay, has_finer, lost}
 use Rattle.amr_cycle.proofs.levels.step_coarse.Goals as goal
 
 pub below_for-requires-clause-coarse : goal.below_for-requires-clause-coarse
-below_for-requires-clause-coarse g c = coarse_level c.args.given.now.problem.now c.args.given.now.level (level_of c.args.level.now) (level_of c.args.next.now) (old_masses (option_copied c.args.given.now.old)) c.requires.part
+below_for-requires-clause-coarse g c κs within = coarse_level c.args.given.now.problem.now c.args.given.now.level (level_of c.args.level.now) (level_of c.args.next.now) (old_masses (option_copied c.args.given.now.old)) c.requires.part
 
 pub below_for-requires-clause-fine : goal.below_for-requires-clause-fine
-below_for-requires-clause-fine g c = fine_level c.args.given.now.problem.now c.args.given.now.level (level_of c.args.level.now) (level_of c.args.next.now) (old_masses (option_copied c.args.given.now.old)) c.requires.part
+below_for-requires-clause-fine g c κs within = fine_level c.args.given.now.problem.now c.args.given.now.level (level_of c.args.level.now) (level_of c.args.next.now) (old_masses (option_copied c.args.given.now.old)) c.requires.part
 
 pub below_for-requires-clause-nested : goal.below_for-requires-clause-nested
-below_for-requires-clause-nested g c = coarse_nested c.args.given.now.problem.now c.args.given.now.level (level_of c.args.level.now) (level_of c.args.next.now) (old_masses (option_copied c.args.given.now.old)) c.requires.part
+below_for-requires-clause-nested g c κs within = coarse_nested c.args.given.now.problem.now c.args.given.now.level (level_of c.args.level.now) (level_of c.args.next.now) (old_masses (option_copied c.args.given.now.old)) c.requires.part
 
 pub advance_kept-requires-clause-of_domain : goal.advance_kept-requires-clause-of_domain
 advance_kept-requires-clause-of_domain g c κs within = coarse_level c.args.given.now.problem.now c.args.given.now.level (level_of c.args.level.now) (level_of c.args.next.now) (old_masses (option_copied c.args.given.now.old)) c.requires.part
