@@ -1,11 +1,11 @@
 //! The sums of children in one buffer, so that workers add up runs of fine patches and one of them gives the sums.
 
-ghost use Rattle.std.specs.Prelude.{◌≡◌, ℕ, ◌+◌, ◌*◌, ◌<◌, ◌≤◌, ◌^◌, pos, negsuc, ◌+ℤ◌, ◌≤ℤ◌, ◌<ℤ◌, length, slice_index, IfOk, IsTrue};
+ghost use Rattle.std.specs.Prelude.{◌≡◌, ℕ, ◌+◌, ◌*◌, ◌<◌, ◌≤◌, ◌^◌, pos, negsuc, ◌+ℤ◌, ◌≤ℤ◌, ◌<ℤ◌, length, slice_index, IfOk, IfSome, IsTrue};
 ghost use Rattle.std.specs.List.{All};
 ghost use Rattle.amr_box.specs.declared.Cell.{Cell};
 ghost use Rattle.amr_box.specs.Cells.{IsNear, cell, child, has_child_where, height, holds, parent, width};
 ghost use Rattle.amr_def.specs.Facts.{IsAligned};
-ghost use Rattle.amr_patch.specs.Orders.{IsOrderOf};
+ghost use Rattle.amr_patch.specs.Orders.{IsHolder, IsOrderOf};
 ghost use Rattle.amr_patch.specs.Pairwise.{Pairwise};
 ghost use Rattle.amr_patch.specs.Patches.{ArePatchesApart, box, in_patches};
 ghost use Rattle.amr_transfer.specs.Given.{IsGiven, span};
@@ -101,9 +101,28 @@ fn give_in_patch(patch: &mut Patch, c: Cell, sums: &[u32]) -> usize
     count
 }
 
-/// The same in the patch of a level that has the first of the cells. It is looked for only where neither patch `near` nor
-/// one beside it in the list has that cell; `near` becomes its number.
-fn give_span(patches: &mut [Patch], order: Order, near: &mut usize, c: Cell, sums: &[u32]) -> usize
+/// The numbers of the two patches that were found last, where the next cells are looked for first. A row over two patches goes from one
+/// to the other and back.
+#[derive(Clone, Copy)]
+struct Near {
+    last: usize,
+    other: usize,
+}
+
+impl Near {
+    /// Takes up the other one where that has the cell.
+    fn turn_to(&mut self, patches: &[Patch], c: Cell) {
+        let other = self.other;
+        if other < patches.len() && patches[other].bx().holds(c) {
+            self.other = self.last;
+            self.last = other;
+        }
+    }
+}
+
+/// The same in the patch of a level that has the first of the cells. It is looked for only where neither of those that were found last
+/// nor one beside the later of them has that cell.
+fn give_span(patches: &mut [Patch], order: Order, near: &mut Near, c: Cell, sums: &[u32]) -> usize
     requires order { IsOrderOf order patches.old }
     requires apart { ArePatchesApart patches.old }
     requires there { IsTrue (in_patches patches.old c) }
@@ -112,14 +131,15 @@ fn give_span(patches: &mut [Patch], order: Order, near: &mut usize, c: Cell, sum
     ensures within { result ≤ length sums.now }
     ensures given { (mass : Cell → ℕ) → ((k : ℕ) → k < length sums.now → slice_index sums.now k ≡ mass (cell (c.x +ℤ pos k) c.y)) → Pairwise (IsGiven (holds (span c result)) mass) patches.old patches.new }
 {
-    match find_near(patches, order, near, c) {
+    near.turn_to(patches, c);
+    match find_near(patches, order, &mut near.last, c) {
         None => unreachable!(),
         Some(j) => give_in_patch(&mut patches[j], c, sums),
     }
 }
 
 /// Gives cells of a row, from one of them on, their sums.
-fn give_row(patches: &mut [Patch], order: Order, near: &mut usize, c: Cell, sums: &[u32])
+fn give_row(patches: &mut [Patch], order: Order, near: &mut Near, c: Cell, sums: &[u32])
     requires order { IsOrderOf order patches.old }
     requires apart { ArePatchesApart patches.old }
     requires from { negsuc 67108864 <ℤ c.x }
@@ -134,8 +154,38 @@ fn give_row(patches: &mut [Patch], order: Order, near: &mut usize, c: Cell, sums
     }
 }
 
-/// Gives the cells of a box their sums.
-fn give_box(patches: &mut [Patch], order: Order, near: &mut usize, b: &Bx, sums: &[u32])
+/// The number of the patch that has all cells of a box, where one has. `near` is where it is looked for first.
+fn holder_of(patches: &[Patch], order: Order, near: &mut Near, b: &Bx) -> Option<usize>
+    requires order { IsOrderOf order patches.now }
+    requires apart { ArePatchesApart patches.now }
+    ensures there { IfSome result (λ k. k < length patches.now) }
+    ensures holds { IfSome result (λ k. (d : Cell) → IsTrue (holds b.now d) → IsHolder patches.now d k) }
+{
+    let k = find_near(patches, order, &mut near.last, b.lo())?;
+    if !patches[k].bx().holds(b.hi()) {
+        return None;
+    }
+    Some(k)
+}
+
+/// Gives the cells of a box their sums in a patch that has them all.
+fn give_in_one(patch: &mut Patch, b: &Bx, sums: &[u32])
+    requires near { IsNear b.now }
+    requires count { length sums.now ≡ width b.now * height b.now }
+    requires inside { (d : Cell) → IsTrue (holds b.now d) → IsTrue (holds (box patch.old) d) }
+    ensures { (mass : Cell → ℕ) → AreByRows mass b.now.lo (width b.now) (height b.now) sums.now → IsGiven (holds b.now) mass patch.old patch.new }
+{
+    let count = b.width() as usize;
+    let mut done = 0;
+    for k in 0..b.height() {
+        let end = done + count;
+        give(patch, above(b.lo(), k), &sums[done..end]);
+        done = end;
+    }
+}
+
+/// Gives the cells of a box their sums, row by row, whichever patches have them.
+fn give_by_rows(patches: &mut [Patch], order: Order, near: &mut Near, b: &Bx, sums: &[u32])
     requires order { IsOrderOf order patches.old }
     requires apart { ArePatchesApart patches.old }
     requires near { IsNear b.now }
@@ -152,6 +202,21 @@ fn give_box(patches: &mut [Patch], order: Order, near: &mut usize, b: &Bx, sums:
     }
 }
 
+/// Gives the cells of a box their sums. Where one patch has all of them nothing else is looked up.
+fn give_box(patches: &mut [Patch], order: Order, near: &mut Near, b: &Bx, sums: &[u32])
+    requires order { IsOrderOf order patches.old }
+    requires apart { ArePatchesApart patches.old }
+    requires near { IsNear b.now }
+    requires count { length sums.now ≡ width b.now * height b.now }
+    requires there { (d : Cell) → IsTrue (holds b.now d) → IsTrue (in_patches patches.old d) }
+    ensures { (mass : Cell → ℕ) → AreByRows mass b.now.lo (width b.now) (height b.now) sums.now → Pairwise (IsGiven (holds b.now) mass) patches.old patches.new }
+{
+    match holder_of(patches, order, near, b) {
+        Some(j) => give_in_one(&mut patches[j], b, sums),
+        None => give_by_rows(patches, order, near, b, sums),
+    }
+}
+
 /// Gives each cell of which fine patches have the children its sum, out of what [`pack_sums`] wrote for these patches: of all of a
 /// level, or of one run after another. All else of the coarse patches stays.
 ///
@@ -165,7 +230,7 @@ pub fn give_sums(fine: &[Patch], sums: &[u32], coarse: &mut [Patch], order: Orde
     requires packed { AreSums fine.now sums.now }
     ensures { (mass : Cell → ℕ) → All (HasSumsOf mass) fine.now → Pairwise (IsGiven (has_child_where (in_patches fine.now)) mass) coarse.old coarse.new }
 {
-    let mut near = 0;
+    let mut near = Near { last: 0, other: 0 };
     let mut done = 0;
     for q in fine {
         let end = done + coarse_count(q);
