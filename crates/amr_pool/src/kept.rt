@@ -13,8 +13,9 @@ use std::sync::Wait;
 use std::thread::{Threads, available_parallelism, for_each_mut};
 
 // How many looks for a piece a kept worker makes before it sleeps, where each worker may have a processor of its own: they
-// take some 150 microseconds.
-const PATIENT: u32 = 1 << 15;
+// take some 2.5 milliseconds. What a caller does between two rounds of pieces mostly takes less. (The threads of LLVM's OpenMP
+// wait 200 milliseconds before they sleep.)
+const PATIENT: u32 = 1 << 19;
 
 // And where there are more workers than processors.
 const HASTY: u32 = 1 << 11;
