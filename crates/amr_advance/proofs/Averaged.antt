@@ -19,9 +19,8 @@ use Rattle.amr_ghost.specs.declared.parts.FrameParts.{FrameParts}
 use Rattle.amr_layout.specs.Surroundings.{Around}
 use Rattle.amr_lots.specs.Delivery.{with_phase}
 use Rattle.amr_lots.specs.Runs.{HasLayoutOf, HasOthersOf, KeepOthers, run}
-use Rattle.amr_lots.specs.Serving.{HasSummed, IsServed, IsServedIn, MayServe, MayServeIn, MaySum}
+use Rattle.amr_lots.specs.Serving.{HasSummed, IsServed, MayServe, MaySum}
 use Rattle.amr_lots.specs.declared.lot.Lot.{Lot}
-use Rattle.amr_lots.specs.declared.lot.Phase.{Phase}
 use Rattle.amr_lots.specs.declared.lot.Phase.TheVariants.{Sum}
 use Rattle.amr_lots.proofs.Runs.{drop_first, drop_plus, map_run, run_first, run_next, take_first}
 use Rattle.amr_patch.specs.declared.patches.Patch.{Patch}
@@ -30,11 +29,10 @@ use Rattle.amr_transfer.specs.Packed.{AreSums, HasSmallSums, sum_count}
 use Rattle.amr_transfer.specs.Sums.{AreCoarsenable}
 use Rattle.amr_advance.specs.declared.kept.KeptLayout.{KeptLayout}
 use Rattle.amr_advance.specs.declared.lots.LotTasks.{LotTasks}
-use Rattle.amr_advance.specs.declared.tasks.Tasks.{Tasks}
 use Rattle.amr_advance.specs.declared.tasks.Tasks.TheVariants.{Lots}
 use Rattle.amr_advance.specs.Averaging.{AreLotsFor, HaveSums}
 use Rattle.amr_advance.specs.Kept.{IsKept}
-use Rattle.amr_advance.specs.Lots.{AreLotTasks, AreLotsCurrent, CarryMasses, IsLotOf}
+use Rattle.amr_advance.specs.Lots.{AreLotTasks, CarryMasses, IsLotOf}
 use Rattle.amr_advance.specs.Tasks.{AreTasks}
 use Rattle.amr_transfer.proofs.GivenRuns.{run_coarsenable, run_small, sum_count_of_boxes}
 

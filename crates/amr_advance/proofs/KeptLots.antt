@@ -22,10 +22,10 @@ use Rattle.amr_lots.specs.declared.lot.Lot.{Lot}
 use Rattle.amr_lots.specs.declared.lot.Phase.{Phase}
 use Rattle.amr_lots.specs.Delivery.{with_phase}
 use Rattle.amr_lots.specs.Runs.{HasAllButEdgesOf, HasLayoutOf, HasOthersOf, IsDelivered, run}
-use Rattle.amr_lots.specs.Serving.{HasAdvanced, HasSent}
+use Rattle.amr_lots.specs.Serving.{HasAdvanced, HasFound, HasSent, with_outer}
 use Rattle.amr_lots.specs.Words.{AreNumbered}
 use Rattle.amr_lots.proofs.Layouts.{layout_twice}
-use Rattle.amr_advance.specs.Lots.{HasFound, ServesRun, with_outer}
+use Rattle.amr_advance.specs.Lots.{ServesRun}
 
 -- ---- the messages of a lot
 
@@ -159,8 +159,8 @@ module _ {s : Around} {each k runs : ℕ} {parts : FrameParts} {a : Lot} (of : S
   same_inbox ms is = subst (λ (xs : Vec Message). IsBoxOf parts (λ u. u * runs + k) k runs xs.items) (sym is) inbox_of
 
   -- and so where values were worked out for its outer ghost cells
-  with_values : (o : OuterGhosts) → o.spans ≡ a.outer.spans → HasOuterPlaces o → ServesRun s each k runs parts (with_outer o a)
-  with_values o spans places = record {
+  with_values : (phase : Phase) (o : OuterGhosts) → o.spans ≡ a.outer.spans → HasOuterPlaces o → ServesRun s each k runs parts (with_phase phase (with_outer o a))
+  with_values phase o spans places = record {
     of_problem = of.of_problem;
     of_level = of.of_level;
     count = of.count;
@@ -183,4 +183,4 @@ module _ {s : Around} {each k runs : ℕ} {parts : FrameParts} {a : Lot} (of : S
   }
 
   pub found_of : (p : Problem) (l : ℕ) (old : Masses) (b : Lot) → HasFound p l old a b → ServesRun s each k runs parts b
-  found_of p l old b h = subst (ServesRun s each k runs parts) (sym h.others) (with_values b.outer h.spans h.places)
+  found_of p l old b h = subst (ServesRun s each k runs parts) (sym h.others) (with_values b.phase b.outer h.spans h.places)

@@ -20,6 +20,7 @@ mod RunZips
 mod InLots
 mod KeptLots
 mod LentEdges
+mod LentLevels
 mod LotsHanded
 mod Sent
 mod Shared

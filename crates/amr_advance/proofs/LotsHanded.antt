@@ -31,9 +31,9 @@ use Rattle.amr_register.specs.EdgeCells.{AreEdgesIn, lists_of}
 use Rattle.amr_lots.specs.declared.lot.Lot.{Lot}
 use Rattle.amr_lots.specs.declared.lot.Phase.TheVariants.{Step}
 use Rattle.amr_lots.specs.Runs.{HasBoxes, KeepAllButEdges, KeepAllButMessages, KeepOthers, run}
-use Rattle.amr_lots.specs.Serving.{IsServed}
+use Rattle.amr_lots.specs.Serving.{HasFound, HasValuesBy, IsServed}
 use Rattle.amr_advance.specs.declared.lots.LotTasks.{LotTasks}
-use Rattle.amr_advance.specs.Lots.{CarryMasses, HasFound, HasValuesBy, ServesRun}
+use Rattle.amr_advance.specs.Lots.{CarryMasses, IsAtLevel, ServesRun}
 use Rattle.amr_advance.specs.Registers.{AreEdgesFor}
 use Rattle.amr_advance.proofs.InLots.{IsShared, same_run}
 use Rattle.amr_advance.proofs.KeptLots.{IsBoxOf, IsPackedFrom, KeepsPlan, found_of, plan_handed, plan_lent, same_inbox, same_outbox, still_of}
@@ -67,9 +67,6 @@ new_items v lent xs is same = with_items_is v xs (let e : length lent ≡ length
 
 pub when_lent : (R : List (Box Lot) → List (Box Lot) → Type 0) (v : Vec (Box Lot)) (lent xs : List (Box Lot)) → lent ≡ v.items → length lent ≡ length xs → R lent xs → R v.items (with_items v xs).items
 when_lent R v lent xs is same h = subst (λ ys. R ys (with_items v xs).items) is (subst (R lent) (sym (new_items v lent xs is same)) h)
-
-pub all_found : (p : Problem) (l : ℕ) (old : Masses) (v : Vec (Box Lot)) (lent xs : List (Box Lot)) → lent ≡ v.items → AreFound p l old lent xs → AreFound p l old v.items (with_items v xs).items
-all_found p l old v lent xs is h = when_lent (AreFound p l old) v lent xs is (length_all_zip (λ (a b : Box Lot). HasFound p l old a.value b.value) lent xs h.found) h
 
 pub all_handed : (each : ℕ) (qs : List Patch) (v : Vec (Box Lot)) (lent xs : List (Box Lot)) → lent ≡ v.items → AreHanded each qs lent xs → AreHanded each qs v.items (with_items v xs).items
 all_handed each qs v lent xs is h = when_lent (AreHanded each qs) v lent xs is (length_all_zip KeepOthers lent xs h.others) h
@@ -154,6 +151,9 @@ module _ {p : Problem} {l : ℕ} {old : Masses} {ps : List Patch} {cells : List 
   all_outer_spans = λ k x lt.
       let v : Vec Span = (get_or t.lots.items k x).value.outer.spans in
       subst (All (IsOuterSpan (domain p l))) (sym ((level.tasks.lots k x lt).serves.outer v)) (outer_spans (domain p l) ps level.tasks.plan t.each runs parts level.tasks.planned level.tasks.parted k v lt)
+
+  pub all_at_level : All (λ (x : Box Lot). IsAtLevel p l x.value) t.lots.items
+  all_at_level = λ k x lt. let serves = (level.tasks.lots k x lt).serves in record { of_problem = serves.of_problem; of_level = serves.of_level }
 
   pub all_outer_places : All (λ (x : Box Lot). HasOuterPlaces x.value.outer) t.lots.items
   all_outer_places = λ k x lt. (level.tasks.lots k x lt).serves.outer_places

@@ -1,20 +1,23 @@
 -- The lots of a level: runs of its patches, each with what a worker needs.
-use Rattle.std.specs.Prelude.{◌≡◌, ◌≢◌, ℕ, ◌+◌, ◌-◌, ◌*◌, ◌^◌, ◌<◌, ◌≤◌, true, nat_lt, List, [], length, map, slice_index, slice_index_or}
-use Rattle.std.specs.Global.{Box, Vec}
+use Rattle.std.specs.Prelude.{◌≡◌, ◌≢◌, ℕ, ◌+◌, ◌-◌, ◌*◌, ◌^◌, ◌<◌, ◌≤◌, true, nat_lt, ⊤, List, [], length, map, slice_index, slice_index_or}
+use denote.Ref.{Bor}
+use Rattle.std.specs.Arc.{arc_value}
+use Rattle.std.specs.declared.option.Option.{Option}
+use Rattle.std.specs.declared.option.Option.TheVariants.{None, Some}
+use Rattle.std.specs.declared.sync.Arc.{Arc}
+use Rattle.std.specs.Option.{option_copied}
+use Rattle.std.specs.Global.{Box, Global, Vec}
 use Rattle.std.specs.List.{All, count_by}
 use Rattle.amr_box.specs.Cells.{width}
 use Rattle.amr_def.specs.Domain.{domain}
 use Rattle.amr_def.specs.State.{Masses}
-use Rattle.amr_def.specs.Value.{value_at}
 use Rattle.amr_def.specs.declared.problem.Problem.{Problem}
 use Rattle.amr_flux.specs.Rooms.{widest}
 use Rattle.amr_ghost.specs.Plans.{PlansFrames}
 use Rattle.amr_ghost.specs.Parts.{IsParted}
 use Rattle.amr_ghost.specs.Messages.{CarriesMasses, HasPlaces}
-use Rattle.amr_ghost.specs.Frames.{is_of_level}
-use Rattle.amr_ghost.specs.Outer.{AreOuterFor, HasNoMass, HasOuterPlaces}
+use Rattle.amr_ghost.specs.Outer.{HasOuterPlaces, lent}
 use Rattle.amr_ghost.specs.declared.messages.Message.{Message}
-use Rattle.amr_ghost.specs.declared.outer.OuterGhosts.{OuterGhosts}
 use Rattle.amr_ghost.specs.declared.parts.FrameCopy.{FrameCopy}
 use Rattle.amr_ghost.specs.declared.parts.FrameParts.{FrameParts}
 use Rattle.amr_ghost.specs.declared.plan.FramePlan.{FramePlan}
@@ -22,9 +25,10 @@ use Rattle.amr_ghost.specs.declared.sources.Span.{Span}
 use Rattle.amr_layout.specs.Adds.{flows_of}
 use Rattle.amr_layout.specs.Surroundings.{Around, edge_count}
 use Rattle.amr_lots.specs.Runs.{run}
-use Rattle.amr_lots.specs.Serving.{flows_of_lot}
+use Rattle.amr_lots.specs.Serving.{HasValuesBy, KeepsAllButOuter, flows_of_lot}
 use Rattle.amr_lots.specs.Words.{AreNumbered}
 use Rattle.amr_lots.specs.declared.lot.Lot.{Lot}
+use Rattle.amr_patch.specs.declared.levels.Level.{Level}
 use Rattle.amr_patch.specs.Patches.{box}
 use Rattle.amr_phase.specs.Plans.{total}
 use Rattle.amr_transfer.specs.Packed.{sum_count}
@@ -45,10 +49,6 @@ pub record AreNumbersOf (words numbers : List ℕ) : Type 0 where
   pub places : (w : ℕ) → 0 < slice_index numbers w → slice_index words (slice_index numbers w - 1) ≡ w
 
 -- ---- the lots of a level
-
--- a lot with other outer ghost cells
-abbrev pub with_outer : OuterGhosts → Lot → Lot
-with_outer outer lot = record lot { outer = outer }
 
 -- a lot that serves run k of a level's patches, in runs of so many each, by a plan of the level's frames in parts. While no step is made it
 -- has other patches, as many.
@@ -90,16 +90,28 @@ pub record AreLotTasks (s : Around) (t : LotTasks) : Type 0 where
   pub parted : IsParted plan t.each (length t.lots.items) parts
   pub lots : (k : ℕ) (x : Box Lot) → k < length t.lots.items → IsLotOf s t.each k (length t.lots.items) parts (slice_index_or t.lots.items k x).value
 
--- these are the values of outer ghost cells of level l, where the next coarser level has the masses `old`, whatever masses the level has
-abbrev pub HasValuesBy : Problem → ℕ → Masses → OuterGhosts → Type 0
-HasValuesBy p l old x = (m : Masses) → All (HasNoMass (domain p l) m) x.spans.items → AreOuterFor (value_at p l m old) (is_of_level p l m) x
+-- a share of the next coarser level, where there is one
+abbrev pub IsSharedOf : Option (Bor Level) → Option (Bor (Arc Level Global)) → Type 0
+IsSharedOf old None = ⊤
+IsSharedOf old (Some a) = option_copied old ≡ Some (arc_value a.now)
 
--- the values of a lot's outer ghost cells were worked out, where the next coarser level had the masses `old`, and all else stayed
-pub record HasFound (p : Problem) (l : ℕ) (old : Masses) (a b : Lot) : Type 0 where
-  pub spans : b.outer.spans ≡ a.outer.spans
-  pub places : HasOuterPlaces b.outer
-  pub values : HasValuesBy p l old b.outer
-  pub others : b ≡ with_outer b.outer a
+-- a lot of level l of this problem
+pub record IsAtLevel (p : Problem) (l : ℕ) (x : Lot) : Type 0 where
+  pub of_problem : x.problem.value ≡ p
+  pub of_level : x.level ≡ l
+
+-- a lot to which this level was lent, or none, and all else stayed but for what it is for
+pub record IsLent (k : Option Level) (a b : Box Lot) : Type 0 where
+  pub spans : b.value.outer.spans ≡ a.value.outer.spans
+  pub values : b.value.outer.values ≡ a.value.outer.values
+  pub others : KeepsAllButOuter a.value b.value
+  pub level : lent b.value.outer.coarser ≡ k
+
+-- as much of that as is true whatever is lent
+pub record KeepsAllButLent (a b : Box Lot) : Type 0 where
+  pub spans : b.value.outer.spans ≡ a.value.outer.spans
+  pub values : b.value.outer.values ≡ a.value.outer.values
+  pub others : KeepsAllButOuter a.value b.value
 
 -- the messages that lots have for others carry the masses M
 abbrev pub CarryMasses : Masses → List (Box Lot) → Type 0

@@ -11,6 +11,7 @@ ghost use Rattle.amr_flows.specs.Laws.{plain_size};
 ghost use Rattle.amr_flows.specs.Words.{level_total};
 ghost use Rattle.amr_register.specs.EdgeCells.{IsSmallNet, SameEdges, lists_of};
 ghost use Rattle.amr_advance.specs.Kept.{IsCurrent, IsLaidOut, IsValued};
+ghost use Rattle.amr_advance.specs.Lots.{IsSharedOf};
 ghost use Rattle.amr_advance.specs.Registers.{AreEdgesFor, AreNetsOf};
 ghost use Rattle.amr_advance.specs.Shown.{AreShown, IsStepped, StepFits};
 ghost use Rattle.amr_advance.specs.Tasks.{AreBoardTasks, AreFilledFor};
@@ -31,18 +32,19 @@ use amr_patch::{Level, Patch};
 use amr_register::EdgeCell;
 use amr_workers::Gate;
 use std::alloc::Global;
-use std::sync::Wait;
+use std::sync::{Arc, Wait};
 use std::thread::Threads;
 
 /// What a step of a level is made from besides its patches. There are the problem and the number of the level, and the
 /// next coarser level with the masses before its step. There are the next finer level, and the cells of the coarser
-/// level's flux register.
+/// level's flux register. `shared` is the next coarser level again, where workers can have a share of it.
 #[derive(Clone, Copy)]
 pub(crate) struct Given<'a> {
     pub alloc: Global,
     pub problem: &'a Problem,
     pub level: u32,
     pub old: Option<&'a Level>,
+    pub shared: Option<&'a Arc<Level, Global>>,
     pub finer: Option<&'a Level>,
     pub cells: &'a [Cell],
 }
@@ -114,6 +116,7 @@ pub(crate) fn run_level<R: Threads + Wait + Sync, G: Gate + Sync>(
     requires layout { IsLaidOut (around given.problem.now given.level patches.old given.cells.now (option_copied given.finer)) layout.old }
     requires current { IsCurrent (masses_in patches.old) layout.old }
     requires valued { IsValued given.problem.now given.level (old_masses (option_copied given.old)) layout.old }
+    requires shared { IsSharedOf given.old given.shared }
     requires edges { AreEdgesFor (map box patches.old) (lists_of edges.old) }
     requires few { length patches.old ≤ 2 ^ 26 }
     requires some_workers { 1 ≤ workers.old.count }

@@ -20,6 +20,7 @@ mod sharing;
 mod steps;
 mod tasks;
 mod turns;
+mod valuing;
 mod ways;
 
 pub use averaging::sum_up_kept;

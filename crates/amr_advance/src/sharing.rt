@@ -9,7 +9,6 @@ ghost use Rattle.amr_def.specs.Flux.{flux_at, net};
 ghost use Rattle.amr_def.specs.State.{Masses};
 ghost use Rattle.amr_patch.specs.Patches.{ArePatchesApart, box, masses_in};
 ghost use Rattle.amr_ghost.specs.Frames.{AreInDomain, old_masses};
-ghost use Rattle.amr_ghost.specs.Outer.{HasOuterPlaces, IsOuterSpan};
 ghost use Rattle.amr_layout.specs.Surroundings.{around};
 ghost use Rattle.amr_flows.specs.Laws.{plain_size};
 ghost use Rattle.amr_flows.specs.Words.{level_total};
@@ -20,7 +19,7 @@ ghost use Rattle.amr_lots.specs.Runs.{KeepAllButEdges, run};
 ghost use Rattle.amr_lots.specs.Serving.{HasSent, MaySend};
 ghost use Rattle.amr_lots.specs.declared.lot.Lot.{Lot as lot};
 ghost use Rattle.amr_lots.specs.declared.lot.Phase.TheVariants.{Send};
-ghost use Rattle.amr_advance.specs.Lots.{AreLotTasks, AreLotsCurrent, AreLotsValued, HasFound, HasValuesBy};
+ghost use Rattle.amr_advance.specs.Lots.{AreLotTasks, AreLotsCurrent, AreLotsValued, IsSharedOf};
 ghost use Rattle.amr_advance.specs.Registers.{AreEdgesFor};
 ghost use Rattle.amr_advance.specs.Shown.{IsStepped, StepFits};
 ghost use Rattle.amr_advance.specs.Teams.{IsTeamFor};
@@ -28,39 +27,14 @@ ghost use Rattle.amr_advance.specs.Teams.{IsTeamFor};
 use crate::level::Given;
 use crate::lots::LotTasks;
 use crate::running::{Workers, serve_lots};
+use crate::valuing::find_outer;
 use amr_def::Problem;
 use amr_lots::{Lot, Phase, add_up, exchange_edges, exchange_messages, exchange_runs, set_phase};
-use amr_patch::{Level, Patch};
+use amr_patch::Patch;
 use amr_register::EdgeCell;
 use amr_workers::Gate;
 use std::boxed::Box;
 use std::sync::Wait;
-
-/// Has the values of the ghost cells of a lot worked out that get no mass of a patch of the level.
-fn find_lot_outer(p: &Problem, l: u32, lot: &mut Box<Lot>, old: Option<&Level>)
-    requires level { l ≤ 4 }
-    requires spans { All (IsOuterSpan (domain p.now l)) lot.old.value.outer.spans.items }
-    requires places { HasOuterPlaces lot.old.value.outer }
-    ensures { HasFound p.now l (old_masses (option_copied old.entry)) lot.old.value lot.new.value }
-{
-    lot.outer.find_values(p, l, old);
-}
-
-/// Has the values of the ghost cells of lots worked out that get no mass of a patch of the level, where lots don't have them yet.
-fn find_outer(p: &Problem, l: u32, lots: &mut [Box<Lot>], old: Option<&Level>, valued: bool)
-    requires level { l ≤ 4 }
-    requires spans { All (λ x. All (IsOuterSpan (domain p.now l)) x.value.outer.spans.items) lots.old }
-    requires places { All (λ x. HasOuterPlaces x.value.outer) lots.old }
-    requires valued { valued ≡ true → All (λ x. HasValuesBy p.now l (old_masses (option_copied old)) x.value.outer) lots.old }
-    ensures { AllZip (λ a b. HasFound p.now l (old_masses (option_copied old.entry)) a.value b.value) lots.old lots.new }
-{
-    if valued {
-        return;
-    }
-    for k in 0..lots.len() {
-        find_lot_outer(p, l, &mut lots[k], old);
-    }
-}
 
 /// Has the masses packed that other lots need, where that was not done at the end of the last step.
 fn pack_lots<R: Wait, G: Gate>(workers: &mut Workers<'_, R, G>, p: &Problem, tasks: &mut LotTasks)
@@ -115,6 +89,7 @@ pub(crate) fn step_in_lots<R: Wait, G: Gate>(
     requires tasks { AreLotTasks (around given.problem.now given.level patches.old given.cells.now (option_copied given.finer)) tasks.old }
     requires current { AreLotsCurrent (masses_in patches.old) tasks.old }
     requires valued { AreLotsValued given.problem.now given.level (old_masses (option_copied given.old)) tasks.old }
+    requires shared { IsSharedOf given.old given.shared }
     requires team { IfSome workers.old.team (IsTeamFor given.problem.now workers.old.gate.now workers.old.count) }
     requires words { length totals.old ≡ 2 + 2 * length given.cells.now }
     requires none { (word : ℕ) → slice_index totals.old word ≡ 0 }
@@ -131,13 +106,7 @@ pub(crate) fn step_in_lots<R: Wait, G: Gate>(
     ensures valued { AreLotsValued given.entry.problem.now given.entry.level (old_masses (option_copied given.entry.old)) tasks.new }
 {
     let valued = tasks.valued;
-    find_outer(
-        given.problem,
-        given.level,
-        &mut tasks.lots,
-        given.old,
-        valued,
-    );
+    find_outer(workers, given, &mut tasks.lots, valued);
     exchange_runs(patches, &mut tasks.lots, tasks.each);
     exchange_lists(edges, &mut tasks.lots, tasks.each);
     pack_lots(workers, given.problem, tasks);

@@ -17,6 +17,7 @@ ghost use Rattle.amr_layout.specs.Surroundings.{around, finer_masses};
 ghost use Rattle.amr_advance.specs.Registers.{BothChange, HasCoarser, HasEdges, HasFiner, cells_of, gained, taken};
 ghost use Rattle.amr_advance.specs.Totals.{HasTotals, SomeHasAbsorbed, SomeMayAbsorb};
 ghost use Rattle.amr_register.specs.Registers.{HasEdgesOf};
+ghost use Rattle.amr_advance.specs.Lots.{IsSharedOf};
 ghost use Rattle.amr_advance.specs.Kept.{IsCurrent, IsKept, IsLaidOut, IsValued, totals_in};
 ghost use Rattle.amr_advance.specs.Shown.{StepFits};
 ghost use Rattle.amr_advance.specs.Tasks.{AreFilledFor};
@@ -37,7 +38,7 @@ use amr_patch::{Level, Order, Patch};
 use amr_register::Register;
 use amr_workers::Gate;
 use std::alloc::Global;
-use std::sync::Wait;
+use std::sync::{Arc, Wait};
 use std::thread::Threads;
 
 /// How many patches a level may have. More would take more memory than there is, and are refused as that.
@@ -110,6 +111,7 @@ fn step_patches<R: Threads + Wait + Sync, G: Gate + Sync>(
     requires kept { IfSome kept.old (IsKept given.problem.now) }
     requires current { IfSome kept.old (IsCurrent (masses_in patches.old)) }
     requires valued { IfSome kept.old (IsValued given.problem.now given.level (old_masses (option_copied given.old))) }
+    requires shared { IsSharedOf given.old given.shared }
     requires some_workers { 1 ≤ workers.old.count }
     requires few_workers { workers.old.count ≤ 64 }
     requires gate { (worker task : ℕ) → worker < workers.old.count → task < length patches.old → G.admits workers.old.gate.now worker task }
@@ -171,7 +173,8 @@ fn add_totals(totals: &[u64], regs: &mut Regs)
 ///
 /// There are from 1 to 64 workers. `kept` and the team, where there is one, are of the same problem. What is kept of the level's masses is
 /// of those that it has: who changes them between two steps says so by [`KeptLayout::masses_changed`]. What is kept of the next coarser
-/// level's masses is of those in `old`: who changes these says so by [`KeptLayout::coarser_changed`]. The register over the next finer level
+/// level's masses is of those in `old`: who changes these says so by [`KeptLayout::coarser_changed`]. `shared` is a share of `old` where there is
+/// one: then workers can find values in it, too. The register over the next finer level
 /// has a list of register cells for each patch, as [`Register::make`] gives it. It serves each step until boxes change.
 pub fn advance_kept<R: Threads + Wait + Sync, G: Gate + Sync>(
     workers: &mut Workers<'_, R, G>,
@@ -179,6 +182,7 @@ pub fn advance_kept<R: Threads + Wait + Sync, G: Gate + Sync>(
     l: u32,
     level: &mut Level,
     old: Option<&Level>,
+    shared: Option<&Arc<Level, Global>>,
     finer: Option<&Level>,
     regs: &mut Regs,
     kept: &mut Option<KeptLayout>,
@@ -189,6 +193,7 @@ pub fn advance_kept<R: Threads + Wait + Sync, G: Gate + Sync>(
     requires coarser { HasCoarser p.now l (level_of level.old) (option_copied old) regs.old.coarser }
     requires finer { HasFiner p.now l (level_of level.old) (option_copied finer) regs.old.finer }
     requires edges { IfSome regs.old.finer (HasEdgesOf (map box (patches_of level.old))) }
+    requires shared { IsSharedOf old shared }
     requires some_workers { 1 ≤ workers.old.count }
     requires few_workers { workers.old.count ≤ 64 }
     requires gate { (worker task : ℕ) → worker < workers.old.count → task < length (patches_of level.old) → G.admits workers.old.gate.now worker task }
@@ -221,6 +226,7 @@ pub fn advance_kept<R: Threads + Wait + Sync, G: Gate + Sync>(
         problem: p,
         level: l,
         old,
+        shared,
         finer,
         cells: cells_of(&regs.coarser),
     };
@@ -285,5 +291,5 @@ pub fn advance<R: Threads + Wait + Sync, G: Gate + Sync>(
         count: crew.workers,
         team: None,
     };
-    advance_kept(&mut workers, p, l, level, old, finer, regs, &mut None)
+    advance_kept(&mut workers, p, l, level, old, None, finer, regs, &mut None)
 }

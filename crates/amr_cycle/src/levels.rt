@@ -1,6 +1,7 @@
 //! Steps of levels: of one level and of those finer than it, each of which makes twice as many.
 
 ghost use Rattle.std.specs.Prelude.{◌≡◌, ◌≢◌, ℕ, [], ◌∷◌, ◌+◌, ◌<◌, ◌≤◌, ◌^◌, true, IfOk, IfSome, OnOk, None, Some, is_some, length, map, neg_ℤ, slice_index_or};
+ghost use Rattle.std.specs.Arc.{arc_value};
 ghost use Rattle.std.specs.List.{All};
 ghost use Rattle.std.specs.Option.{option_copied};
 ghost use Rattle.amr_box.specs.declared.Cell.{Cell};
@@ -16,6 +17,7 @@ ghost use Rattle.amr_register.specs.Registers.{HasEdgesOf};
 ghost use Rattle.amr_transfer.specs.Sums.{AreCoarsenable};
 ghost use Rattle.amr_flows.specs.Subcycle.{edge_part, flows_of_step};
 ghost use Rattle.amr_advance.specs.Registers.{BothChange, HasCoarser, gained};
+ghost use Rattle.amr_advance.specs.Lots.{IsSharedOf};
 ghost use Rattle.amr_advance.specs.Kept.{IsCurrent, IsKept, IsValued};
 ghost use Rattle.amr_advance.specs.Teams.{IsTeamFor};
 ghost use Rattle.amr_cycle.specs.Cycles.{IsCoarsePart, IsPartOfStep, SomeHasEntries, patch_boxes};
@@ -30,14 +32,15 @@ use amr_box::Bx;
 use amr_causes::NoMemory;
 use amr_patch::Level;
 use amr_workers::Gate;
-use std::sync::Wait;
-use std::thread::Threads;
+use std::alloc::Global;
+use std::sync::{Arc, Wait};
+use std::thread::{Threads, yield_now};
 
 /// What both steps of the next finer level stand on: the level with the masses before its own step, and the finer
 /// level's patch boxes. And what those steps add to, the level's register among them.
 #[derive(Drop)]
 struct Below {
-    before: Level,
+    before: Arc<Level, Global>,
     finer: Vec<Bx>,
     regs: Regs,
 }
@@ -63,6 +66,7 @@ fn step_finest<R: Threads + Wait + Sync, G: Gate + Sync>(
     requires kept { IsKeptLevel given.now.problem.now given.now.level own.old }
     requires current { IfSome own.old.layout (IsCurrent (level_of level.old).masses) }
     requires valued { IfSome own.old.layout (IsValued given.now.problem.now given.now.level (old_masses (option_copied given.now.old))) }
+    requires shared { IsSharedOf given.now.old given.now.shared }
     ensures workers { workers.new ≡ workers.old }
     ensures kept { OnOk result (IsKeptLevel given.now.problem.now given.now.level own.new) }
     ensures current { OnOk result (IfSome own.new.layout (IsCurrent (level_of level.new).masses)) }
@@ -80,6 +84,7 @@ fn step_finest<R: Threads + Wait + Sync, G: Gate + Sync>(
         given.level,
         level,
         given.old,
+        given.shared,
         None,
         regs,
         &mut own.layout,
@@ -108,18 +113,19 @@ fn step_coarse<R: Threads + Wait + Sync, G: Gate + Sync>(
     requires kept { IsKeptLevel given.now.problem.now given.now.level own.old }
     requires current { IfSome own.old.layout (IsCurrent (level_of level.old).masses) }
     requires valued { IfSome own.old.layout (IsValued given.now.problem.now given.now.level (old_masses (option_copied given.now.old))) }
+    requires shared { IsSharedOf given.now.old given.now.shared }
     ensures workers { workers.new ≡ workers.old }
     ensures layout { OnOk result (IfSome own.new.layout (IsKept given.now.problem.now)) }
     ensures current { OnOk result ((M : Masses) → IfSome own.new.layout (IsCurrent M)) }
     ensures valued { OnOk result (IfSome own.new.layout (IsValued given.now.problem.now given.now.level (old_masses (option_copied given.now.old)))) }
-    ensures before { IfOk result (λ b. level_of b.before ≡ level_of level.old) }
-    ensures before_patches { IfOk result (λ b. map box (patches_of b.before) ≡ map box (patches_of level.old)) }
+    ensures before { IfOk result (λ b. level_of (arc_value b.before) ≡ level_of level.old) }
+    ensures before_patches { IfOk result (λ b. map box (patches_of (arc_value b.before)) ≡ map box (patches_of level.old)) }
     ensures finer_boxes { IfOk result (λ b. (c : Cell) → is_some ((level_of next.now).masses c) ≡ in_boxes b.finer.items c) }
     ensures masses { OnOk result ((level_of level.new).masses ≡ updated (level_of level.old).masses (flux_at given.now.problem.now given.now.level (level_of level.old).masses (old_masses (option_copied given.now.old)))) }
     ensures boxes { OnOk result ((level_of level.new).boxes ≡ (level_of level.old).boxes) }
     ensures patches { OnOk result (map box (patches_of level.new) ≡ map box (patches_of level.old)) }
     ensures register { IfOk result (λ b. SomeHasEntries given.now.problem.now given.now.level (level_of level.old).masses (level_of next.now).masses (λ c. neg_ℤ (edge_part given.now.problem.now given.now.level (level_of level.old) (old_masses (option_copied given.now.old)) (level_of next.now).masses c)) b.regs.coarser) }
-    ensures edges { IfOk result (λ b. IfSome b.regs.coarser (HasEdgesOf (map box (patches_of b.before)))) }
+    ensures edges { IfOk result (λ b. IfSome b.regs.coarser (HasEdgesOf (map box (patches_of (arc_value b.before))))) }
     ensures coarser { OnOk result (BothChange (gained given.now.problem.now given.now.level (level_of level.old).masses (flux_at given.now.problem.now given.now.level (level_of level.old).masses (old_masses (option_copied given.now.old)))) regs.old.coarser regs.new.coarser) }
     ensures finer { OnOk result (regs.new.finer ≡ None) }
     ensures no_finer { IfOk result (λ b. b.regs.finer ≡ None) }
@@ -147,13 +153,14 @@ fn step_coarse<R: Threads + Wait + Sync, G: Gate + Sync>(
         given.level,
         level,
         given.old,
+        given.shared,
         Some(next),
         regs,
         &mut own.layout,
     )?;
     forget_masses_of(own);
     Ok(Below {
-        before,
+        before: Arc::new(given.alloc, before)?,
         finer,
         regs: Regs {
             coarser: regs.finer.take(),
@@ -164,9 +171,24 @@ fn step_coarse<R: Threads + Wait + Sync, G: Gate + Sync>(
     })
 }
 
+/// What was shared, once nobody else has it any more. Workers give their shares back before they answer.
+fn sole<R: Wait>(rt: &R, shared: Arc<Level, Global>) -> Level
+    ensures { result ≡ arc_value shared }
+{
+    let mut shared = shared;
+    'turns: for _ in rt.forever() {
+        match Arc::try_unwrap(shared) {
+            Ok(whole) => return whole,
+            Err(again) => shared = again,
+        }
+        yield_now();
+    }
+    unreachable!()
+}
+
 /// What is kept of it when both steps are made.
-fn kept_of(below: Below) -> Option<KeptBelow>
-    ensures { IfSome result (λ b. (b.before ≡ below.before) × (b.finer ≡ below.finer) × (Some b.register ≡ below.regs.coarser)) }
+fn kept_of<R: Wait>(rt: &R, below: Below) -> Option<KeptBelow>
+    ensures { IfSome result (λ b. (b.before ≡ arc_value below.before) × (b.finer ≡ below.finer) × (Some b.register ≡ below.regs.coarser)) }
 {
     let Below {
         before,
@@ -175,7 +197,7 @@ fn kept_of(below: Below) -> Option<KeptBelow>
     } = below;
     let register = regs.coarser?;
     Some(KeptBelow {
-        before,
+        before: sole(rt, before),
         finer,
         register,
     })
@@ -210,6 +232,7 @@ pub(crate) fn step_levels<R: Threads + Wait + Sync, G: Gate + Sync>(
     requires kept { AreKept given.now.problem.now given.now.level kept.old }
     requires current { AreCurrent (level_of level.old ∷ map level_of finer.old) kept.old }
     requires room { length finer.old < length kept.old }
+    requires shared { IsSharedOf given.now.old given.now.shared }
     requires valued { again ≡ true → (own : KeptLevel) → IfSome (slice_index_or kept.old 0 own).layout (IsValued given.now.problem.now given.now.level (old_masses (option_copied given.now.old))) }
     ensures workers { workers.new ≡ workers.old }
     ensures kept { OnOk result (AreKept given.now.problem.now given.now.level kept.new) }
@@ -244,6 +267,6 @@ pub(crate) fn step_levels<R: Threads + Wait + Sync, G: Gate + Sync>(
     );
     regs.inflow = below.regs.inflow;
     regs.outflow = below.regs.outflow;
-    own.below = kept_of(below);
+    own.below = kept_of(workers.runtime, below);
     Ok(())
 }

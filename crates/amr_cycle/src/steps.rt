@@ -63,6 +63,7 @@ fn step_all<R: Threads + Wait + Sync, G: Gate + Sync>(
         problem: p,
         level: 0,
         old: None,
+        shared: None,
     };
     let mut regs = Regs {
         coarser: None,

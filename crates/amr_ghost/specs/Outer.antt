@@ -1,12 +1,17 @@
 -- Ghost cells that get no mass of a patch of the level: they lie over the next coarser level, or outside the domain. The values that are
 -- worked out for them, and the patches that are given these.
 use Rattle.std.specs.Prelude.{◌≡◌, ℕ, ◌+◌, ◌<◌, ◌≤◌, Bool, false, true, ⊤, pos, ◌+ℤ◌, length, slice_index, slice_index_or, drop, List, [], ◌∷◌, IsTrue}
-use Rattle.std.specs.declared.option.Option.TheVariants.{None}
+use Rattle.std.specs.declared.option.Option.{Option}
+use Rattle.std.specs.declared.option.Option.TheVariants.{None, Some}
+use Rattle.std.specs.declared.sync.Arc.{Arc}
+use Rattle.std.specs.Arc.{arc_value}
+use Rattle.std.specs.Global.{Global}
 use Rattle.std.specs.List.{All, AllZip}
 use Rattle.amr_box.specs.declared.Cell.{Cell}
 use Rattle.amr_box.specs.Cells.{along}
 use Rattle.amr_def.specs.Domain.{Domain, home_cell, in_domain, is_inside}
 use Rattle.amr_def.specs.State.{Masses}
+use Rattle.amr_patch.specs.declared.levels.Level.{Level}
 use Rattle.amr_patch.specs.declared.patches.Patch.{Patch}
 use Rattle.amr_patch.specs.Places.{in_frame}
 use Rattle.amr_patch.specs.Patches.{box}
@@ -45,6 +50,11 @@ abbrev pub HasNoMass : Domain → Masses → Span → Type 0
 HasNoMass d m s = (k : ℕ) → k < s.strip.count → m (home_cell d (step s.strip.axis s.strip.from k)) ≡ None
 
 -- ---- their values
+
+-- the level that is lent, if one is
+abbrev pub lent : Option (Arc Level Global) → Option Level
+lent None = None
+lent (Some x) = Some (arc_value x)
 
 -- how many values spans take
 abbrev pub value_count : List Span → ℕ

@@ -12,7 +12,7 @@ ghost use Rattle.amr_patch.specs.Levels.{level_of};
 ghost use Rattle.amr_ghost.specs.Strips.{HasRoom, step};
 ghost use Rattle.amr_ghost.specs.Frames.{is_of_level, old_masses};
 ghost use Rattle.amr_ghost.specs.Filling.{AreGiven};
-ghost use Rattle.amr_ghost.specs.Outer.{AreOuterFor, AreOuterValuesFor, HasNoMass, HasOuterGiven, HasOuterPlaces, IsOuterSpan, IsSpanBeside, value_count};
+ghost use Rattle.amr_ghost.specs.Outer.{AreOuterFor, AreOuterValuesFor, HasNoMass, HasOuterGiven, HasOuterPlaces, IsOuterSpan, IsSpanBeside, lent, value_count};
 
 use crate::entries::{Entries, entries_of, quarter_entries};
 use crate::ghosts::give_strip;
@@ -24,6 +24,7 @@ use amr_causes::NoMemory;
 use amr_def::Problem;
 use amr_patch::{Level, Patch, find_near};
 use std::alloc::Global;
+use std::sync::Arc;
 
 /// Ghost cells beside the patches of a run that get no mass of a patch of the level: they lie over the next coarser level, or outside
 /// the domain. And a value for each. It serves each step until a regrid.
@@ -33,6 +34,8 @@ pub struct OuterGhosts {
     pub spans: Vec<Span>,
     /// The values, one span after another.
     pub values: Vec<u32>,
+    /// The next coarser level at the start of its step, while a worker who has no other way to it works the values out; else none.
+    pub coarser: Option<Arc<Level, Global>>,
 }
 
 impl OuterGhosts {
@@ -45,6 +48,7 @@ impl OuterGhosts {
         Ok(OuterGhosts {
             spans,
             values: vec![in alloc; 0u32; count]?,
+            coarser: None,
         })
     }
 
@@ -57,9 +61,26 @@ impl OuterGhosts {
         requires places { HasOuterPlaces self.old }
         ensures spans { self.new.spans ≡ self.old.spans }
         ensures places { HasOuterPlaces self.new }
+        ensures coarser { self.new.coarser ≡ self.old.coarser }
         ensures found { (m : Masses) → All (HasNoMass (domain p.now l) m) self.new.spans.items → AreOuterFor (value_at p.now l m (old_masses (option_copied old.entry))) (is_of_level p.now l m) self.new }
     {
         find_all(p, l, &self.spans, old, &mut self.values);
+    }
+
+    /// The same, by the coarser level that was lent.
+    pub fn find_lent_values(&mut self, p: &Problem, l: u32)
+        requires level { l ≤ 4 }
+        requires spans { All (IsOuterSpan (domain p.now l)) self.old.spans.items }
+        requires places { HasOuterPlaces self.old }
+        ensures spans { self.new.spans ≡ self.old.spans }
+        ensures places { HasOuterPlaces self.new }
+        ensures coarser { self.new.coarser ≡ self.old.coarser }
+        ensures found { (m : Masses) → All (HasNoMass (domain p.now l) m) self.new.spans.items → AreOuterFor (value_at p.now l m (old_masses (lent self.old.coarser))) (is_of_level p.now l m) self.new }
+    {
+        match &self.coarser {
+            Some(level) => find_all(p, l, &self.spans, Some(&**level), &mut self.values),
+            None => find_all(p, l, &self.spans, None, &mut self.values),
+        }
     }
 }
 

@@ -1,5 +1,5 @@
 pub mod LotTotals
-mod InTurn
+pub mod InTurn
 pub mod InPlaces
 mod Trading
 mod Posting

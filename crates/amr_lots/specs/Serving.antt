@@ -2,18 +2,24 @@
 use Rattle.std.specs.Prelude.{◌≡◌, ◌≤◌, ℕ, List, length, map, slice_index}
 use Rattle.std.specs.List.{All, AllZip}
 use Rattle.amr_def.specs.declared.problem.Problem.{Problem}
+use Rattle.amr_def.specs.Domain.{domain}
+use Rattle.amr_def.specs.State.{Masses}
+use Rattle.amr_def.specs.Value.{value_at}
 use Rattle.amr_patch.specs.declared.patches.Patch.{Patch}
 use Rattle.amr_patch.specs.Patches.{box}
 use Rattle.amr_flux.specs.Rooms.{widest}
 use Rattle.amr_ghost.specs.Messages.{HasFilled, HasPacked, IsFrameCopy, IsMessageFrom, IsMessageTo}
-use Rattle.amr_ghost.specs.Outer.{AreOuterBeside}
+use Rattle.amr_ghost.specs.Frames.{is_of_level, old_masses}
+use Rattle.amr_ghost.specs.Outer.{AreOuterBeside, AreOuterFor, HasNoMass, HasOuterPlaces, IsOuterSpan, lent}
+use Rattle.amr_ghost.specs.declared.outer.OuterGhosts.{OuterGhosts}
 use Rattle.amr_layout.specs.declared.FlowTo.{FlowTo}
 use Rattle.amr_register.specs.EdgeCells.{AreEdgesIn, HaveNets, IsSmallNet, lists_of}
 use Rattle.amr_transfer.specs.Packed.{AreSums, HasSmallSums, sum_count}
 use Rattle.amr_transfer.specs.Sums.{AreCoarsenable}
 use Rattle.amr_lots.specs.declared.lot.Lot.{Lot}
 use Rattle.amr_lots.specs.declared.lot.Phase.{Phase}
-use Rattle.amr_lots.specs.declared.lot.Phase.TheVariants.{Send, Step, Sum}
+use Rattle.amr_lots.specs.declared.lot.Phase.TheVariants.{Send, Step, Sum, Value}
+use Rattle.amr_lots.specs.Delivery.{with_phase}
 use Rattle.amr_lots.specs.Lots.{AreReady, HasStepped, lot_total}
 use Rattle.amr_lots.specs.Runs.{HasLayoutOf}
 
@@ -41,10 +47,18 @@ pub record MaySum (lot : Lot) : Type 0 where
   pub small : All HasSmallSums lot.patches.items
   pub room : length lot.sums.items ≡ sum_count lot.patches.items
 
+-- a lot of this problem whose outer ghost cells may get their values
+pub record MayFindValues (p : Problem) (lot : Lot) : Type 0 where
+  pub problem : lot.problem.value ≡ p
+  pub shallow : lot.level ≤ 4
+  pub spans : All (IsOuterSpan (domain p lot.level)) lot.outer.spans.items
+  pub places : HasOuterPlaces lot.outer
+
 abbrev pub MayServeIn : Phase → Problem → Lot → Type 0
 MayServeIn Send p lot = MaySend lot
 MayServeIn Step p lot = MayAdvance p lot × MaySend lot
 MayServeIn Sum p lot = MaySum lot
+MayServeIn Value p lot = MayFindValues p lot
 
 -- a lot may be served in its phase
 abbrev pub MayServe : Problem → Lot → Type 0
@@ -98,10 +112,37 @@ pub record HasSummed (lot after : Lot) : Type 0 where
   pub count : length after.sums.items ≡ length lot.sums.items
   pub sums : AreSums lot.patches.items after.sums.items
 
+-- a lot with other outer ghost cells
+abbrev pub with_outer : OuterGhosts → Lot → Lot
+with_outer outer lot = record lot { outer = outer }
+
+-- all but its outer ghost cells and what it is for is as before
+abbrev pub KeepsAllButOuter : Lot → Lot → Type 0
+KeepsAllButOuter a b = b ≡ with_phase b.phase (with_outer b.outer a)
+
+-- these are the values of outer ghost cells of level l, where the next coarser level had the masses `old`, whatever masses the level has
+abbrev pub HasValuesBy : Problem → ℕ → Masses → OuterGhosts → Type 0
+HasValuesBy p l old x = (m : Masses) → All (HasNoMass (domain p l) m) x.spans.items → AreOuterFor (value_at p l m old) (is_of_level p l m) x
+
+-- the values of a lot's outer ghost cells were worked out, where the next coarser level had the masses `old`. All else stayed, but for what
+-- the lot is for, and what is lent to it.
+pub record HasFound (p : Problem) (l : ℕ) (old : Masses) (a b : Lot) : Type 0 where
+  pub spans : b.outer.spans ≡ a.outer.spans
+  pub places : HasOuterPlaces b.outer
+  pub values : HasValuesBy p l old b.outer
+  pub others : KeepsAllButOuter a b
+
+-- they were, by the coarser level that was lent, and those stayed, too
+pub record HasFoundValues (lot after : Lot) : Type 0 where
+  pub found : HasFound lot.problem.value lot.level (old_masses (lent lot.outer.coarser)) lot after
+  pub phase : after.phase ≡ lot.phase
+  pub coarser : after.outer.coarser ≡ lot.outer.coarser
+
 abbrev pub IsServedIn : Phase → Lot → Lot → Type 0
 IsServedIn Send lot after = HasSent lot after
 IsServedIn Step lot after = HasMadeStep lot after
 IsServedIn Sum lot after = HasSummed lot after
+IsServedIn Value lot after = HasFoundValues lot after
 
 -- a lot was served in its phase
 abbrev pub IsServed : Lot → Lot → Type 0

@@ -18,6 +18,8 @@ pub enum Phase {
     Step,
     /// The sums of children are packed.
     Sum,
+    /// The values of outer ghost cells are worked out, by the coarser level that was lent.
+    Value,
 }
 
 /// A lot: patches of a level that one worker makes the step of, and what it works with. It is handed over by value.

@@ -1,6 +1,6 @@
 //! What a worker does with the lot that it is handed.
 
-ghost use Rattle.amr_lots.specs.Serving.{HasAdvanced, HasMadeStep, HasSent, HasSummed, MayAdvance, MaySend, MaySum};
+ghost use Rattle.amr_lots.specs.Serving.{HasAdvanced, HasFoundValues, HasMadeStep, HasSent, HasSummed, MayAdvance, MayFindValues, MaySend, MaySum};
 
 use crate::lot::{Lot, Phase};
 use crate::steps::step_patches;
@@ -13,7 +13,8 @@ use std::boxed::Box;
 
 /// The service of a pool that makes steps of a level. It packs the masses that other lots need. Before, where it is the step's turn, it
 /// fills the ghost cells by masses of the lot's own patches and by what others gave it, works out what flows into its register cells,
-/// and makes the patches' step. Where it is the turn of sums, it packs those of the children of the lot's patches.
+/// and makes the patches' step. Where it is the turn of sums, it packs those of the children of the lot's patches. Where it is the turn of
+/// values, it works out those of the ghost cells that get no mass of a patch of the level.
 #[derive(Clone, Copy)]
 pub struct LotWork<'a> {
     pub problem: &'a Problem,
@@ -62,6 +63,14 @@ fn sum(lot: &mut Lot)
     pack_sums(&lot.patches, &mut lot.sums);
 }
 
+/// Works out the values of the ghost cells that get no mass of a patch of the level.
+fn find_values(p: &Problem, lot: &mut Lot)
+    requires { MayFindValues p.now lot.old }
+    ensures { HasFoundValues lot.old lot.new }
+{
+    lot.outer.find_lent_values(p, lot.level);
+}
+
 impl Service<Box<Lot>> for LotWork<'_> {
     ghost use Rattle.amr_lots.specs.Serving.{IsServed, MayServe};
 
@@ -75,6 +84,7 @@ impl Service<Box<Lot>> for LotWork<'_> {
             Phase::Send => send(lot),
             Phase::Step => make_step(self.problem, lot),
             Phase::Sum => sum(lot),
+            Phase::Value => find_values(self.problem, lot),
         }
     }
 }

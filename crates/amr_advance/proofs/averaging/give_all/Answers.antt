@@ -1,13 +1,12 @@
-use Rattle.std.proofs.Common.{◌≡◌, ◌∙◌, true, ℕ, ◌+◌, ◌*◌, ◌<◌, ◌≤◌, List, drop, length, get_or, refl, sym, ap, subst, arith}
+use Rattle.std.proofs.Common.{◌≡◌, ◌∙◌, true, ℕ, ◌*◌, ◌≤◌, List, drop, length, get_or, sym, ap, subst, arith}
 use Rattle.std.specs.Global.{Box}
 use Rattle.std.specs.List.{All}
 use Rattle.amr_box.specs.declared.Cell.{Cell}
 use Rattle.amr_box.specs.Cells.{has_child_where, parent}
-use Rattle.amr_lots.specs.Runs.{run}
 use Rattle.amr_lots.specs.declared.lot.Lot.{Lot}
 use Rattle.amr_patch.specs.declared.patches.Patch.{Patch}
 use Rattle.amr_patch.specs.Pairwise.{Pairwise}
-use Rattle.amr_patch.specs.Patches.{KeepsFrameAndFluxes, in_patches}
+use Rattle.amr_patch.specs.Patches.{in_patches}
 use Rattle.amr_patch.proofs.Keeping.{kept_apart, kept_order}
 use Rattle.amr_transfer.specs.Given.{IsGiven}
 use Rattle.amr_transfer.specs.Packed.{AreSums, HasSumsOf, HaveSumsTo, sum_count}

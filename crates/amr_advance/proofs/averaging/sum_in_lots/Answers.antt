@@ -1,10 +1,8 @@
-use Rattle.std.proofs.Common.{◌≡◌, ◌∙◌, ℕ, ◌<◌, List, length, get_or, map, refl, sym, ap, subst}
+use Rattle.std.proofs.Common.{◌≡◌, ℕ, ◌<◌, List, length, get_or, refl, sym, subst}
 use Rattle.std.specs.Global.{Box}
 use Rattle.std.specs.Vec.{with_items}
 use Rattle.amr_lots.specs.declared.lot.Lot.{Lot}
 use Rattle.amr_lots.specs.Runs.{run}
-use Rattle.amr_patch.specs.Patches.{box}
-use Rattle.amr_advance.specs.Averaging.{AreLotsFor}
 use Rattle.amr_advance.proofs.Averaged.{AreServed, AreToSum, AreTraded, HaveNewSums, all_carry, all_may_sum, all_new, all_summed, all_told, all_traded, counts, counts_back, same_patches, tasks_kept}
 use Rattle.amr_advance.proofs.averaging.sum_in_lots.Given as given
 use Rattle.amr_advance.proofs.averaging.sum_in_lots.Goals.{After-exchange_runs, After-exchange_runs-2, After-serve_lots, After-set_phase}

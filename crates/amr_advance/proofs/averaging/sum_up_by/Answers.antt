@@ -1,7 +1,6 @@
 use Rattle.std.proofs.Common.{◌∙◌, map, sym, ap, subst}
 use Rattle.amr_patch.specs.Levels.{patches_of}
 use Rattle.amr_patch.specs.Patches.{box}
-use Rattle.amr_advance.specs.declared.tasks.Tasks.{Tasks}
 use Rattle.amr_advance.specs.Tasks.{AreCurrent}
 use Rattle.amr_advance.proofs.Averaged.{layout_kept, lots_for}
 use Rattle.amr_advance.proofs.averaging.sum_up_by.Goals as goal

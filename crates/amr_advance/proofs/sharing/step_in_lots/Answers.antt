@@ -4,9 +4,7 @@ use Rattle.std.specs.List.{All}
 use Rattle.std.specs.Option.{option_copied}
 use Rattle.std.specs.Prelude.{slice_index}
 use Rattle.std.specs.Vec.{with_items}
-use Rattle.amr_def.specs.Domain.{domain}
 use Rattle.amr_ghost.specs.Frames.{old_masses}
-use Rattle.amr_ghost.specs.Outer.{HasOuterPlaces, IsOuterSpan}
 use Rattle.amr_layout.specs.Surroundings.{around}
 use Rattle.amr_flows.specs.Laws.{plain_size}
 use Rattle.amr_flows.specs.Words.{level_total}
@@ -14,11 +12,10 @@ use Rattle.amr_lots.specs.declared.lot.Lot.{Lot}
 use Rattle.amr_lots.specs.Runs.{HasBoxes, run, word_of}
 use Rattle.amr_patch.specs.Patches.{masses_in}
 use Rattle.amr_phase.specs.Plans.{total}
-use Rattle.amr_advance.specs.Lots.{HasValuesBy}
 use Rattle.amr_advance.proofs.BackEdges.{again_none, all_nets, all_same, all_small, back_count}
 use Rattle.amr_advance.proofs.InLots.{IsShared, totals_small}
 use Rattle.amr_advance.proofs.LentEdges.{AreLent}
-use Rattle.amr_advance.proofs.LotsHanded.{AreDelivered, AreFound, AreHanded, AreSentFrom, HaveLists, HaveNoEdges, HaveRuns, all_exchanged, all_found, all_handed, all_lent, all_outer_places, all_outer_spans, boxes, found_empty, found_lots, handed_empty, handed_lots, lent_lists, lent_runs, list_counts, now_handed, still_carried}
+use Rattle.amr_advance.proofs.LotsHanded.{AreDelivered, AreFound, AreHanded, AreSentFrom, HaveLists, HaveNoEdges, HaveRuns, all_exchanged, all_handed, all_lent, all_at_level, all_outer_places, all_outer_spans, boxes, found_empty, found_lots, handed_empty, handed_lots, lent_lists, lent_runs, list_counts, now_handed, still_carried}
 use Rattle.amr_advance.proofs.Sent.{all_may_advance, all_may_send, delivered_to, sent_from}
 use Rattle.amr_advance.proofs.Shared.{HaveFlows, HaveMadeStep, all_stepped, carried, counts, last_lots, lent_made, made_flows, made_step, tasks_again, totals_of, totals_sum, words_of}
 use Rattle.amr_advance.proofs.sharing.step_in_lots.Given as given
@@ -36,20 +33,20 @@ shared g c = record {
   tasks = c.requires.tasks;
 }
 
-found : (g : given.Over) (c : After-find_outer g) → AreFound c.args.given.problem.now c.args.given.level (old_masses (option_copied c.args.given.old)) c.args.tasks.now.lots.items (with_items c.args.tasks.now.lots c.find_outer.new.lots).items
+found : (g : given.Over) (c : After-find_outer g) → AreFound c.args.given.problem.now c.args.given.level (old_masses (option_copied c.args.given.old)) c.args.tasks.now.lots.items c.find_outer.new.lots.items
 found g c =
-    all_found c.args.given.problem.now c.args.given.level (old_masses (option_copied c.args.given.old)) c.args.tasks.now.lots c.deref_mut.result.now c.find_outer.new.lots c.deref_mut.ensures.value (record { found = c.find_outer.ensures })
+    record { found = c.find_outer.ensures.found }
 
-handed : (g : given.Over) (c : After-exchange_runs g) → AreHanded c.args.tasks.now.each c.args.patches.now (with_items c.args.tasks.now.lots c.find_outer.new.lots).items (with_items (with_items c.args.tasks.now.lots c.find_outer.new.lots) c.exchange_runs.new.lots).items
+handed : (g : given.Over) (c : After-exchange_runs g) → AreHanded c.args.tasks.now.each c.args.patches.now c.find_outer.new.lots.items (with_items c.find_outer.new.lots c.exchange_runs.new.lots).items
 handed g c =
     let call = c.exchange_runs.ensures in
-    all_handed c.args.tasks.now.each c.args.patches.now (with_items c.args.tasks.now.lots c.find_outer.new.lots) c.deref_mut-2.result.now c.exchange_runs.new.lots c.deref_mut-2.ensures.value (record { patches = call.handed; others = call.others })
+    all_handed c.args.tasks.now.each c.args.patches.now c.find_outer.new.lots c.deref_mut.result.now c.exchange_runs.new.lots c.deref_mut.ensures.value (record { patches = call.handed; others = call.others })
 
-lent : (g : given.Over) (c : After-exchange_lists g) → AreLent c.args.tasks.now.each c.args.edges.now c.exchange_lists.new.edges (with_items (with_items c.args.tasks.now.lots c.find_outer.new.lots) c.exchange_runs.new.lots).items
-    (with_items (with_items (with_items c.args.tasks.now.lots c.find_outer.new.lots) c.exchange_runs.new.lots) c.exchange_lists.new.lots).items
+lent : (g : given.Over) (c : After-exchange_lists g) → AreLent c.args.tasks.now.each c.args.edges.now c.exchange_lists.new.edges (with_items c.find_outer.new.lots c.exchange_runs.new.lots).items
+    (with_items (with_items c.find_outer.new.lots c.exchange_runs.new.lots) c.exchange_lists.new.lots).items
 lent g c =
     let call = c.exchange_lists.ensures in
-    all_lent c.args.tasks.now.each c.args.edges.now c.exchange_lists.new.edges (with_items (with_items c.args.tasks.now.lots c.find_outer.new.lots) c.exchange_runs.new.lots) c.deref_mut-3.result.now c.exchange_lists.new.lots c.deref_mut-3.ensures.value
+    all_lent c.args.tasks.now.each c.args.edges.now c.exchange_lists.new.edges (with_items c.find_outer.new.lots c.exchange_runs.new.lots) c.deref_mut-2.result.now c.exchange_lists.new.lots c.deref_mut-2.ensures.value
     (record { none = call.none; handed = call.handed; back = call.back; count = call.count; others = call.others })
 
 -- the patches that stood in the lots are as many
@@ -57,46 +54,46 @@ same : (g : given.Over) (c : After-exchange_runs g) → length c.exchange_runs.n
 same g c = c.exchange_runs.ensures.count
 
 -- and they had no lists of register cells
-none : (g : given.Over) (c : After-exchange_runs g) → HaveNoEdges (shared g (goal.at.After-exchange_runs g c).After-find_outer) (with_items (with_items c.args.tasks.now.lots c.find_outer.new.lots) c.exchange_runs.new.lots).items
+none : (g : given.Over) (c : After-exchange_runs g) → HaveNoEdges (shared g (goal.at.After-exchange_runs g c).After-find_outer) (with_items c.find_outer.new.lots c.exchange_runs.new.lots).items
 none g c =
     let at = goal.at.After-exchange_runs g c in
     let level = shared g at.After-find_outer in
     handed_empty level (found_lots level (found g at.After-find_outer)) (handed g c) (found_empty level (found g at.After-find_outer))
 
 -- lots with all that a step takes of the caller
-runs : (g : given.Over) (c : After-exchange_lists g) → HaveRuns (shared g (goal.at.After-exchange_lists g c).After-find_outer) (with_items (with_items (with_items c.args.tasks.now.lots c.find_outer.new.lots) c.exchange_runs.new.lots) c.exchange_lists.new.lots).items
-    (with_items (with_items (with_items c.args.tasks.now.lots c.find_outer.new.lots) c.exchange_runs.new.lots) c.exchange_lists.new.lots).items
+runs : (g : given.Over) (c : After-exchange_lists g) → HaveRuns (shared g (goal.at.After-exchange_lists g c).After-find_outer) (with_items (with_items c.find_outer.new.lots c.exchange_runs.new.lots) c.exchange_lists.new.lots).items
+    (with_items (with_items c.find_outer.new.lots c.exchange_runs.new.lots) c.exchange_lists.new.lots).items
 runs g c =
     let at = goal.at.After-exchange_lists g c in
     lent_runs (shared g at.After-find_outer) (found g at.After-find_outer) (handed g at.After-exchange_runs) (lent g c)
 
-lists : (g : given.Over) (c : After-exchange_lists g) → HaveLists (shared g (goal.at.After-exchange_lists g c).After-find_outer) (with_items (with_items (with_items c.args.tasks.now.lots c.find_outer.new.lots) c.exchange_runs.new.lots) c.exchange_lists.new.lots).items
+lists : (g : given.Over) (c : After-exchange_lists g) → HaveLists (shared g (goal.at.After-exchange_lists g c).After-find_outer) (with_items (with_items c.find_outer.new.lots c.exchange_runs.new.lots) c.exchange_lists.new.lots).items
 lists g c =
     let at = goal.at.After-exchange_lists g c in
     let level = shared g at.After-find_outer in
     lent_lists level (now_handed level (found g at.After-find_outer) (handed g at.After-exchange_runs) (lent g c)) (lent g c) (none g at.After-exchange_runs) c.requires.edges
 
-sent : (g : given.Over) (c : After-pack_lots g) → AreSentFrom (shared g (goal.at.After-pack_lots g c).After-find_outer) (with_items (with_items (with_items c.args.tasks.now.lots c.find_outer.new.lots) c.exchange_runs.new.lots) c.exchange_lists.new.lots).items c.pack_lots.new.tasks.lots.items
+sent : (g : given.Over) (c : After-pack_lots g) → AreSentFrom (shared g (goal.at.After-pack_lots g c).After-find_outer) (with_items (with_items c.find_outer.new.lots c.exchange_runs.new.lots) c.exchange_lists.new.lots).items c.pack_lots.new.tasks.lots.items
 sent g c =
     let at = goal.at.After-pack_lots g c in
     let call = c.pack_lots.ensures in
     sent_from (shared g at.After-find_outer) (runs g at.After-exchange_lists) (still_carried (shared g at.After-find_outer) (found g at.After-find_outer) (handed g at.After-exchange_runs) (lent g at.After-exchange_lists) (masses_in c.args.patches.now))
     c.requires.current c.pack_lots.new.tasks.lots.items (λ packed. λ i. (call.packed packed i).lots.items) call.sent
 
-delivered : (g : given.Over) (c : After-exchange_messages g) → AreDelivered (shared g (goal.at.After-exchange_messages g c).After-find_outer) (with_items (with_items (with_items c.args.tasks.now.lots c.find_outer.new.lots) c.exchange_runs.new.lots) c.exchange_lists.new.lots).items
+delivered : (g : given.Over) (c : After-exchange_messages g) → AreDelivered (shared g (goal.at.After-exchange_messages g c).After-find_outer) (with_items (with_items c.find_outer.new.lots c.exchange_runs.new.lots) c.exchange_lists.new.lots).items
     (with_items c.pack_lots.new.tasks.lots c.exchange_messages.new.lots).items
 delivered g c =
     let at = goal.at.After-exchange_messages g c in
     let call = c.exchange_messages.ensures in
     delivered_to (shared g at.After-find_outer) (sent g at.After-pack_lots)
-    (all_exchanged c.pack_lots.new.tasks.lots c.deref_mut-4.result.now c.exchange_messages.new.lots c.deref_mut-4.ensures.value (record { delivered = call.delivered; back = call.back; others = call.others; phase = call.phase }))
+    (all_exchanged c.pack_lots.new.tasks.lots c.deref_mut-3.result.now c.exchange_messages.new.lots c.deref_mut-3.ensures.value (record { delivered = call.delivered; back = call.back; others = call.others; phase = call.phase }))
 
 served : (g : given.Over) (c : After-serve_lots g) → HaveMadeStep (shared g (goal.at.After-serve_lots g c).After-find_outer) c.serve_lots.new.lots.items
 served g c =
     let at = goal.at.After-serve_lots g c in
     made_step (shared g at.After-find_outer) (delivered g at.After-exchange_messages) (record { served = c.serve_lots.ensures.served })
 
-flows : (g : given.Over) (c : After-serve_lots g) → HaveFlows (shared g (goal.at.After-serve_lots g c).After-find_outer) (with_items (with_items (with_items c.args.tasks.now.lots c.find_outer.new.lots) c.exchange_runs.new.lots) c.exchange_lists.new.lots).items c.serve_lots.new.lots.items
+flows : (g : given.Over) (c : After-serve_lots g) → HaveFlows (shared g (goal.at.After-serve_lots g c).After-find_outer) (with_items (with_items c.find_outer.new.lots c.exchange_runs.new.lots) c.exchange_lists.new.lots).items c.serve_lots.new.lots.items
 flows g c =
     let at = goal.at.After-serve_lots g c in
     made_flows (shared g at.After-find_outer) (delivered g at.After-exchange_messages) (record { served = c.serve_lots.ensures.served }) (lists g at.After-exchange_lists)
@@ -106,7 +103,7 @@ back_lists : (g : given.Over) (c : After-exchange_lists-2 g) → AreLent c.args.
 back_lists g c =
     let call = c.exchange_lists-2.ensures in
     subst (λ n. AreLent n c.exchange_lists.new.edges c.exchange_lists-2.new.edges c.serve_lots.new.lots.items (with_items c.serve_lots.new.lots c.exchange_lists-2.new.lots).items) c.pack_lots.ensures.each
-    (all_lent c.pack_lots.new.tasks.each c.exchange_lists.new.edges c.exchange_lists-2.new.edges c.serve_lots.new.lots c.deref_mut-5.result.now c.exchange_lists-2.new.lots c.deref_mut-5.ensures.value
+    (all_lent c.pack_lots.new.tasks.each c.exchange_lists.new.edges c.exchange_lists-2.new.edges c.serve_lots.new.lots c.deref_mut-4.result.now c.exchange_lists-2.new.lots c.deref_mut-4.ensures.value
     (record { none = call.none; handed = call.handed; back = call.back; count = call.count; others = call.others }))
 
 made : (g : given.Over) (c : After-exchange_lists-2 g) → HaveMadeStep (shared g (goal.at.After-exchange_lists-2 g c).After-find_outer) (with_items c.serve_lots.new.lots c.exchange_lists-2.new.lots).items
@@ -120,7 +117,7 @@ last g c =
     let call = c.exchange_runs-2.ensures in
     let v = with_items c.serve_lots.new.lots c.exchange_lists-2.new.lots in
     subst (λ n. AreHanded n c.exchange_runs.new.patches v.items (with_items v c.exchange_runs-2.new.lots).items) c.pack_lots.ensures.each
-    (all_handed c.pack_lots.new.tasks.each c.exchange_runs.new.patches v c.deref_mut-6.result.now c.exchange_runs-2.new.lots c.deref_mut-6.ensures.value (record { patches = call.handed; others = call.others }))
+    (all_handed c.pack_lots.new.tasks.each c.exchange_runs.new.patches v c.deref_mut-5.result.now c.exchange_runs-2.new.lots c.deref_mut-5.ensures.value (record { patches = call.handed; others = call.others }))
 
 -- and the patches that came back
 back : (g : given.Over) (c : After-exchange_runs-2 g) → (k : ℕ) (x : Box Lot) → k < length (with_items c.serve_lots.new.lots c.exchange_lists-2.new.lots).items
@@ -129,7 +126,7 @@ back g c =
     let zs = c.exchange_runs-2.new.patches in
     let v = with_items c.serve_lots.new.lots c.exchange_lists-2.new.lots in
     subst (λ (n : ℕ). (k : ℕ) (x : Box Lot) → k < length v.items → run n k zs ≡ (get_or v.items k x).value.patches.items) c.pack_lots.ensures.each
-    (subst (λ (ys : List (Box Lot)). (k : ℕ) (x : Box Lot) → k < length ys → run c.pack_lots.new.tasks.each k zs ≡ (get_or ys k x).value.patches.items) c.deref_mut-6.ensures.value c.exchange_runs-2.ensures.back)
+    (subst (λ (ys : List (Box Lot)). (k : ℕ) (x : Box Lot) → k < length ys → run c.pack_lots.new.tasks.each k zs ≡ (get_or ys k x).value.patches.items) c.deref_mut-5.ensures.value c.exchange_runs-2.ensures.back)
 
 as_many : (g : given.Over) (c : After-exchange_runs-2 g) → length c.exchange_runs-2.new.patches ≡ length c.args.patches.now
 as_many g c = c.exchange_runs-2.ensures.count ∙ same g (goal.at.After-exchange_runs-2 g c).After-exchange_runs
@@ -144,29 +141,30 @@ sums g c word =
 
 -- ---- the goals
 
+pub find_outer-requires-clause-of_level : goal.find_outer-requires-clause-of_level
+find_outer-requires-clause-of_level g c =
+    let h = c.requires in
+    all_at_level (record { shallow = h.level; apart = h.apart; inside = h.inside; fits = h.fits; tasks = h.tasks })
+
 pub find_outer-requires-clause-spans : goal.find_outer-requires-clause-spans
 find_outer-requires-clause-spans g c =
     let h = c.requires in
-    subst (λ (xs : List (Box Lot)). All (λ (x : Box Lot). All (IsOuterSpan (domain c.args.given.problem.now c.args.given.level)) x.value.outer.spans.items) xs) (sym c.deref_mut.ensures.value)
-    (all_outer_spans (record { shallow = h.level; apart = h.apart; inside = h.inside; fits = h.fits; tasks = h.tasks }))
+    all_outer_spans (record { shallow = h.level; apart = h.apart; inside = h.inside; fits = h.fits; tasks = h.tasks })
 
 pub find_outer-requires-clause-places : goal.find_outer-requires-clause-places
 find_outer-requires-clause-places g c =
     let h = c.requires in
-    subst (λ (xs : List (Box Lot)). All (λ (x : Box Lot). HasOuterPlaces x.value.outer) xs) (sym c.deref_mut.ensures.value)
-    (all_outer_places (record { shallow = h.level; apart = h.apart; inside = h.inside; fits = h.fits; tasks = h.tasks }))
+    all_outer_places (record { shallow = h.level; apart = h.apart; inside = h.inside; fits = h.fits; tasks = h.tasks })
 
 pub find_outer-requires-clause-valued : goal.find_outer-requires-clause-valued
-find_outer-requires-clause-valued g c = λ yes.
-    let p = c.args.given.problem.now in
-    subst (λ (xs : List (Box Lot)). All (λ (x : Box Lot). HasValuesBy p c.args.given.level (old_masses (option_copied c.args.given.old)) x.value.outer) xs) (sym c.deref_mut.ensures.value) (c.requires.valued yes)
+find_outer-requires-clause-valued g c = c.requires.valued
 
 pub exchange_runs-requires : goal.exchange_runs-requires
 exchange_runs-requires g c =
     let at = goal.at.exchange_runs-requires g c in
     let lots = found_lots (shared g at.After-find_outer) (found g at.After-find_outer) in
     record {
-      counts = subst (λ (ys : List (Box Lot)). (k : ℕ) (x : Box Lot) → k < length ys → length (get_or ys k x).value.patches.items ≡ length (run c.args.tasks.now.each k c.args.patches.now)) (sym c.deref_mut-2.ensures.value)
+      counts = subst (λ (ys : List (Box Lot)). (k : ℕ) (x : Box Lot) → k < length ys → length (get_or ys k x).value.patches.items ≡ length (run c.args.tasks.now.each k c.args.patches.now)) (sym c.deref_mut.ensures.value)
           (λ k x lt. (lots.of k x (omega (arith, lt, lots.count))).count);
     }
 
@@ -175,7 +173,7 @@ exchange_lists-requires g c =
     let at = goal.at.exchange_lists-requires g c in
     let level = shared g at.After-find_outer in
     record {
-      counts = λ some. subst (λ (ys : List (Box Lot)). (k : ℕ) (x : Box Lot) → k < length ys → length (get_or ys k x).value.edges.items ≡ length (run c.args.tasks.now.each k c.args.edges.now)) (sym c.deref_mut-3.ensures.value)
+      counts = λ some. subst (λ (ys : List (Box Lot)). (k : ℕ) (x : Box Lot) → k < length ys → length (get_or ys k x).value.edges.items ≡ length (run c.args.tasks.now.each k c.args.edges.now)) (sym c.deref_mut-2.ensures.value)
           (list_counts level c.args.edges.now (handed_lots level (found_lots level (found g at.After-find_outer)) (handed g at.After-exchange_runs) refl) (none g at.After-exchange_runs) c.requires.edges some);
     }
 
@@ -188,7 +186,7 @@ pub exchange_messages-requires : goal.exchange_messages-requires
 exchange_messages-requires g c =
     let at = goal.at.exchange_messages-requires g c in
     let xs = c.pack_lots.new.tasks.lots.items in
-    record { boxes = subst (λ (ys : List (Box Lot)). All (HasBoxes (length ys)) ys) (sym c.deref_mut-4.ensures.value) (boxes (shared g at.After-find_outer) xs (sent g at.After-pack_lots).all.lots) }
+    record { boxes = subst (λ (ys : List (Box Lot)). All (HasBoxes (length ys)) ys) (sym c.deref_mut-3.ensures.value) (boxes (shared g at.After-find_outer) xs (sent g at.After-pack_lots).all.lots) }
 
 pub serve_lots-requires-clause-may : goal.serve_lots-requires-clause-may
 serve_lots-requires-clause-may g c =
@@ -202,8 +200,8 @@ exchange_lists-requires-2 g c =
     let es = c.exchange_lists.new.edges in
     record {
       counts = λ some.
-          subst (λ (n : ℕ). (k : ℕ) (x : Box Lot) → k < length c.deref_mut-5.result.now → length (get_or c.deref_mut-5.result.now k x).value.edges.items ≡ length (run n k es)) (sym c.pack_lots.ensures.each)
-          (subst (λ (ys : List (Box Lot)). (k : ℕ) (x : Box Lot) → k < length ys → length (get_or ys k x).value.edges.items ≡ length (run c.args.tasks.now.each k es)) (sym c.deref_mut-5.ensures.value)
+          subst (λ (n : ℕ). (k : ℕ) (x : Box Lot) → k < length c.deref_mut-4.result.now → length (get_or c.deref_mut-4.result.now k x).value.edges.items ≡ length (run n k es)) (sym c.pack_lots.ensures.each)
+          (subst (λ (ys : List (Box Lot)). (k : ℕ) (x : Box Lot) → k < length ys → length (get_or ys k x).value.edges.items ≡ length (run c.args.tasks.now.each k es)) (sym c.deref_mut-4.ensures.value)
           (back_count level (now_handed level (found g at.After-find_outer) (handed g at.After-exchange_runs) (lent g at.After-exchange_lists)) (none g at.After-exchange_runs) c.requires.edges (lent g at.After-exchange_lists) (served g at.After-serve_lots).lots (flows g at.After-serve_lots) some));
     }
 
@@ -212,8 +210,8 @@ exchange_runs-requires-2 g c =
     let at = goal.at.exchange_runs-requires-2 g c in
     let ds = c.exchange_runs.new.patches in
     record {
-      counts = subst (λ (n : ℕ). (k : ℕ) (x : Box Lot) → k < length c.deref_mut-6.result.now → length (get_or c.deref_mut-6.result.now k x).value.patches.items ≡ length (run n k ds)) (sym c.pack_lots.ensures.each)
-          (subst (λ (ys : List (Box Lot)). (k : ℕ) (x : Box Lot) → k < length ys → length (get_or ys k x).value.patches.items ≡ length (run c.args.tasks.now.each k ds)) (sym c.deref_mut-6.ensures.value)
+      counts = subst (λ (n : ℕ). (k : ℕ) (x : Box Lot) → k < length c.deref_mut-5.result.now → length (get_or c.deref_mut-5.result.now k x).value.patches.items ≡ length (run n k ds)) (sym c.pack_lots.ensures.each)
+          (subst (λ (ys : List (Box Lot)). (k : ℕ) (x : Box Lot) → k < length ys → length (get_or ys k x).value.patches.items ≡ length (run c.args.tasks.now.each k ds)) (sym c.deref_mut-5.ensures.value)
           (counts (shared g at.After-find_outer) (made g at.After-exchange_lists-2) ds (same g at.After-exchange_runs)));
     }
 

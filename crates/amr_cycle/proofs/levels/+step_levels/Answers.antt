@@ -1,5 +1,6 @@
 use Rattle.std.proofs.Common.{ℕ, ◌+◌, ◌<◌, List, ◌∷◌, get_or, length, map, set, sym, ap, subst, ◌∙◌, arith}
 use Rattle.std.specs.Prelude.{IfSome}
+use Rattle.std.specs.Arc.{arc_value}
 use Rattle.std.specs.Option.{option_copied}
 use Rattle.amr_box.specs.Cells.{Extent}
 use Rattle.amr_def.specs.declared.problem.Problem.{Problem}
@@ -33,11 +34,11 @@ step_coarse-requires-clause-outflow g t c κs within =
 
 pub step_levels-requires-clause-part : goal.step_levels-requires-clause-part
 step_levels-requires-clause-part g t c κs within =
-    part_1 c.args.given.now.problem.now c.args.given.now.level (level_of c.args.level.now) c.args.finer.now (old_masses (option_copied c.args.given.now.old)) c.requires.part c.in-Some-split_first_mut.next.now c.in-Some-split_first_mut.finest.now c.in-Some-split_first_mut.ensures.cases.0 c.in_ok-below.below.before c.in_ok-below.ensures.before c.in_ok-below.below.regs.coarser c.in_ok-below.ensures.register c.for_finer-inner.result.problem.now c.for_finer-inner.ensures.problem c.for_finer-inner.result.level c.for_finer-inner.ensures.level (option_copied c.for_finer-inner.result.old) c.for_finer-inner.ensures.old
+    part_1 c.args.given.now.problem.now c.args.given.now.level (level_of c.args.level.now) c.args.finer.now (old_masses (option_copied c.args.given.now.old)) c.requires.part c.in-Some-split_first_mut.next.now c.in-Some-split_first_mut.finest.now c.in-Some-split_first_mut.ensures.cases.0 (arc_value c.in_ok-below.below.before) c.in_ok-below.ensures.before c.in_ok-below.below.regs.coarser c.in_ok-below.ensures.register c.for_finer-inner.result.problem.now c.for_finer-inner.ensures.problem c.for_finer-inner.result.level c.for_finer-inner.ensures.level (option_copied c.for_finer-inner.result.old) c.for_finer-inner.ensures.old
 
 pub step_levels-requires-clause-coarser : goal.step_levels-requires-clause-coarser
 step_levels-requires-clause-coarser g t c κs within =
-    coarser_1 c.args.given.now.problem.now c.args.given.now.level (level_of c.args.level.now) c.args.finer.now (old_masses (option_copied c.args.given.now.old)) c.requires.part c.in-Some-split_first_mut.next.now c.in-Some-split_first_mut.finest.now c.in-Some-split_first_mut.ensures.cases.0 c.in_ok-below.below.before c.in_ok-below.ensures.before c.in_ok-below.below.regs.coarser c.in_ok-below.ensures.register c.for_finer-inner.result.problem.now c.for_finer-inner.ensures.problem c.for_finer-inner.result.level c.for_finer-inner.ensures.level (option_copied c.for_finer-inner.result.old) c.for_finer-inner.ensures.old
+    coarser_1 c.args.given.now.problem.now c.args.given.now.level (level_of c.args.level.now) c.args.finer.now (old_masses (option_copied c.args.given.now.old)) c.requires.part c.in-Some-split_first_mut.next.now c.in-Some-split_first_mut.finest.now c.in-Some-split_first_mut.ensures.cases.0 (arc_value c.in_ok-below.below.before) c.in_ok-below.ensures.before c.in_ok-below.below.regs.coarser c.in_ok-below.ensures.register c.for_finer-inner.result.problem.now c.for_finer-inner.ensures.problem c.for_finer-inner.result.level c.for_finer-inner.ensures.level (option_copied c.for_finer-inner.result.old) c.for_finer-inner.ensures.old
 
 pub step_levels-requires-clause-coarsenable : goal.step_levels-requires-clause-coarsenable
 step_levels-requires-clause-coarsenable g t c κs within =
@@ -45,25 +46,25 @@ step_levels-requires-clause-coarsenable g t c κs within =
 
 pub step_levels-requires-clause-inflow : goal.step_levels-requires-clause-inflow
 step_levels-requires-clause-inflow g t c κs within =
-    omega (arith, c.requires.inflow, c.in_ok-below.ensures.inflow, flows_split c.args.given.now.problem.now c.args.given.now.level (level_of c.args.level.now) c.args.finer.now (old_masses (option_copied c.args.given.now.old)) c.requires.part c.in-Some-split_first_mut.next.now c.in-Some-split_first_mut.finest.now c.in-Some-split_first_mut.ensures.cases.0 (inflow_beside c.args.given.now.problem.now), flows_1 c.args.given.now.problem.now c.args.given.now.level (level_of c.args.level.now) c.args.finer.now (old_masses (option_copied c.args.given.now.old)) c.requires.part c.in-Some-split_first_mut.next.now c.in-Some-split_first_mut.finest.now c.in-Some-split_first_mut.ensures.cases.0 c.in_ok-below.below.before c.in_ok-below.ensures.before c.in_ok-below.below.regs.coarser c.in_ok-below.ensures.register c.for_finer-inner.result.problem.now c.for_finer-inner.ensures.problem c.for_finer-inner.result.level c.for_finer-inner.ensures.level (option_copied c.for_finer-inner.result.old) c.for_finer-inner.ensures.old inflow_beside)
+    omega (arith, c.requires.inflow, c.in_ok-below.ensures.inflow, flows_split c.args.given.now.problem.now c.args.given.now.level (level_of c.args.level.now) c.args.finer.now (old_masses (option_copied c.args.given.now.old)) c.requires.part c.in-Some-split_first_mut.next.now c.in-Some-split_first_mut.finest.now c.in-Some-split_first_mut.ensures.cases.0 (inflow_beside c.args.given.now.problem.now), flows_1 c.args.given.now.problem.now c.args.given.now.level (level_of c.args.level.now) c.args.finer.now (old_masses (option_copied c.args.given.now.old)) c.requires.part c.in-Some-split_first_mut.next.now c.in-Some-split_first_mut.finest.now c.in-Some-split_first_mut.ensures.cases.0 (arc_value c.in_ok-below.below.before) c.in_ok-below.ensures.before c.in_ok-below.below.regs.coarser c.in_ok-below.ensures.register c.for_finer-inner.result.problem.now c.for_finer-inner.ensures.problem c.for_finer-inner.result.level c.for_finer-inner.ensures.level (option_copied c.for_finer-inner.result.old) c.for_finer-inner.ensures.old inflow_beside)
 
 pub step_levels-requires-clause-outflow : goal.step_levels-requires-clause-outflow
 step_levels-requires-clause-outflow g t c κs within =
-    omega (arith, c.requires.outflow, c.in_ok-below.ensures.outflow, flows_split c.args.given.now.problem.now c.args.given.now.level (level_of c.args.level.now) c.args.finer.now (old_masses (option_copied c.args.given.now.old)) c.requires.part c.in-Some-split_first_mut.next.now c.in-Some-split_first_mut.finest.now c.in-Some-split_first_mut.ensures.cases.0 (outflow_beside c.args.given.now.problem.now), flows_1 c.args.given.now.problem.now c.args.given.now.level (level_of c.args.level.now) c.args.finer.now (old_masses (option_copied c.args.given.now.old)) c.requires.part c.in-Some-split_first_mut.next.now c.in-Some-split_first_mut.finest.now c.in-Some-split_first_mut.ensures.cases.0 c.in_ok-below.below.before c.in_ok-below.ensures.before c.in_ok-below.below.regs.coarser c.in_ok-below.ensures.register c.for_finer-inner.result.problem.now c.for_finer-inner.ensures.problem c.for_finer-inner.result.level c.for_finer-inner.ensures.level (option_copied c.for_finer-inner.result.old) c.for_finer-inner.ensures.old outflow_beside)
+    omega (arith, c.requires.outflow, c.in_ok-below.ensures.outflow, flows_split c.args.given.now.problem.now c.args.given.now.level (level_of c.args.level.now) c.args.finer.now (old_masses (option_copied c.args.given.now.old)) c.requires.part c.in-Some-split_first_mut.next.now c.in-Some-split_first_mut.finest.now c.in-Some-split_first_mut.ensures.cases.0 (outflow_beside c.args.given.now.problem.now), flows_1 c.args.given.now.problem.now c.args.given.now.level (level_of c.args.level.now) c.args.finer.now (old_masses (option_copied c.args.given.now.old)) c.requires.part c.in-Some-split_first_mut.next.now c.in-Some-split_first_mut.finest.now c.in-Some-split_first_mut.ensures.cases.0 (arc_value c.in_ok-below.below.before) c.in_ok-below.ensures.before c.in_ok-below.below.regs.coarser c.in_ok-below.ensures.register c.for_finer-inner.result.problem.now c.for_finer-inner.ensures.problem c.for_finer-inner.result.level c.for_finer-inner.ensures.level (option_copied c.for_finer-inner.result.old) c.for_finer-inner.ensures.old outflow_beside)
 
 pub step_levels-requires-2-clause-part : goal.step_levels-requires-2-clause-part
 step_levels-requires-2-clause-part g t c κs within =
-    part_2 c.args.given.now.problem.now c.args.given.now.level (level_of c.args.level.now) c.args.finer.now (old_masses (option_copied c.args.given.now.old)) c.requires.part c.in-Some-split_first_mut.next.now c.in-Some-split_first_mut.finest.now c.in-Some-split_first_mut.ensures.cases.0 c.in_ok-below.below.before c.in_ok-below.ensures.before c.in_ok-below.below.regs.coarser c.in_ok-below.ensures.register c.for_finer-inner.result.problem.now c.for_finer-inner.ensures.problem c.for_finer-inner.result.level c.for_finer-inner.ensures.level (option_copied c.for_finer-inner.result.old) c.for_finer-inner.ensures.old
+    part_2 c.args.given.now.problem.now c.args.given.now.level (level_of c.args.level.now) c.args.finer.now (old_masses (option_copied c.args.given.now.old)) c.requires.part c.in-Some-split_first_mut.next.now c.in-Some-split_first_mut.finest.now c.in-Some-split_first_mut.ensures.cases.0 (arc_value c.in_ok-below.below.before) c.in_ok-below.ensures.before c.in_ok-below.below.regs.coarser c.in_ok-below.ensures.register c.for_finer-inner.result.problem.now c.for_finer-inner.ensures.problem c.for_finer-inner.result.level c.for_finer-inner.ensures.level (option_copied c.for_finer-inner.result.old) c.for_finer-inner.ensures.old
     c.step_levels.new.level c.step_levels.new.finer c.step_levels.new.regs.coarser c.in_ok-step_levels.ensures.levels c.in_ok-step_levels.ensures.patches c.in_ok-step_levels.ensures.coarser
 
 pub step_levels-requires-2-clause-coarser : goal.step_levels-requires-2-clause-coarser
 step_levels-requires-2-clause-coarser g t c κs within =
-    coarser_2 c.args.given.now.problem.now c.args.given.now.level (level_of c.args.level.now) c.args.finer.now (old_masses (option_copied c.args.given.now.old)) c.requires.part c.in-Some-split_first_mut.next.now c.in-Some-split_first_mut.finest.now c.in-Some-split_first_mut.ensures.cases.0 c.in_ok-below.below.before c.in_ok-below.ensures.before c.in_ok-below.below.regs.coarser c.in_ok-below.ensures.register c.for_finer-inner.result.problem.now c.for_finer-inner.ensures.problem c.for_finer-inner.result.level c.for_finer-inner.ensures.level (option_copied c.for_finer-inner.result.old) c.for_finer-inner.ensures.old
+    coarser_2 c.args.given.now.problem.now c.args.given.now.level (level_of c.args.level.now) c.args.finer.now (old_masses (option_copied c.args.given.now.old)) c.requires.part c.in-Some-split_first_mut.next.now c.in-Some-split_first_mut.finest.now c.in-Some-split_first_mut.ensures.cases.0 (arc_value c.in_ok-below.below.before) c.in_ok-below.ensures.before c.in_ok-below.below.regs.coarser c.in_ok-below.ensures.register c.for_finer-inner.result.problem.now c.for_finer-inner.ensures.problem c.for_finer-inner.result.level c.for_finer-inner.ensures.level (option_copied c.for_finer-inner.result.old) c.for_finer-inner.ensures.old
     c.step_levels.new.level c.step_levels.new.finer c.step_levels.new.regs.coarser c.in_ok-step_levels.ensures.levels c.in_ok-step_levels.ensures.patches c.in_ok-step_levels.ensures.coarser
 
 pub step_levels-requires-2-clause-coarsenable : goal.step_levels-requires-2-clause-coarsenable
 step_levels-requires-2-clause-coarsenable g t c κs within =
-    rest1_coarsenable c.args.given.now.problem.now c.args.given.now.level (level_of c.args.level.now) c.args.finer.now (old_masses (option_copied c.args.given.now.old)) c.requires.part c.in-Some-split_first_mut.next.now c.in-Some-split_first_mut.finest.now c.in-Some-split_first_mut.ensures.cases.0 c.in_ok-below.below.before c.in_ok-below.ensures.before c.in_ok-below.below.regs.coarser c.in_ok-below.ensures.register c.for_finer-inner.result.problem.now c.for_finer-inner.ensures.problem c.for_finer-inner.result.level c.for_finer-inner.ensures.level (option_copied c.for_finer-inner.result.old) c.for_finer-inner.ensures.old
+    rest1_coarsenable c.args.given.now.problem.now c.args.given.now.level (level_of c.args.level.now) c.args.finer.now (old_masses (option_copied c.args.given.now.old)) c.requires.part c.in-Some-split_first_mut.next.now c.in-Some-split_first_mut.finest.now c.in-Some-split_first_mut.ensures.cases.0 (arc_value c.in_ok-below.below.before) c.in_ok-below.ensures.before c.in_ok-below.below.regs.coarser c.in_ok-below.ensures.register c.for_finer-inner.result.problem.now c.for_finer-inner.ensures.problem c.for_finer-inner.result.level c.for_finer-inner.ensures.level (option_copied c.for_finer-inner.result.old) c.for_finer-inner.ensures.old
     c.step_levels.new.level c.step_levels.new.finer c.step_levels.new.regs.coarser c.in_ok-step_levels.ensures.levels c.in_ok-step_levels.ensures.patches c.in_ok-step_levels.ensures.coarser c.requires.coarsenable
 
 pub step_levels-requires-2-clause-inflow : goal.step_levels-requires-2-clause-inflow
@@ -74,8 +75,8 @@ step_levels-requires-2-clause-inflow g t c κs within =
       c.in_ok-below.ensures.inflow,
       c.in_ok-step_levels.ensures.inflow,
       flows_split c.args.given.now.problem.now c.args.given.now.level (level_of c.args.level.now) c.args.finer.now (old_masses (option_copied c.args.given.now.old)) c.requires.part c.in-Some-split_first_mut.next.now c.in-Some-split_first_mut.finest.now c.in-Some-split_first_mut.ensures.cases.0 (inflow_beside c.args.given.now.problem.now),
-      flows_1 c.args.given.now.problem.now c.args.given.now.level (level_of c.args.level.now) c.args.finer.now (old_masses (option_copied c.args.given.now.old)) c.requires.part c.in-Some-split_first_mut.next.now c.in-Some-split_first_mut.finest.now c.in-Some-split_first_mut.ensures.cases.0 c.in_ok-below.below.before c.in_ok-below.ensures.before c.in_ok-below.below.regs.coarser c.in_ok-below.ensures.register c.for_finer-inner.result.problem.now c.for_finer-inner.ensures.problem c.for_finer-inner.result.level c.for_finer-inner.ensures.level (option_copied c.for_finer-inner.result.old) c.for_finer-inner.ensures.old inflow_beside,
-      flows_2 c.args.given.now.problem.now c.args.given.now.level (level_of c.args.level.now) c.args.finer.now (old_masses (option_copied c.args.given.now.old)) c.requires.part c.in-Some-split_first_mut.next.now c.in-Some-split_first_mut.finest.now c.in-Some-split_first_mut.ensures.cases.0 c.in_ok-below.below.before c.in_ok-below.ensures.before c.in_ok-below.below.regs.coarser c.in_ok-below.ensures.register c.for_finer-inner.result.problem.now c.for_finer-inner.ensures.problem c.for_finer-inner.result.level c.for_finer-inner.ensures.level (option_copied c.for_finer-inner.result.old) c.for_finer-inner.ensures.old
+      flows_1 c.args.given.now.problem.now c.args.given.now.level (level_of c.args.level.now) c.args.finer.now (old_masses (option_copied c.args.given.now.old)) c.requires.part c.in-Some-split_first_mut.next.now c.in-Some-split_first_mut.finest.now c.in-Some-split_first_mut.ensures.cases.0 (arc_value c.in_ok-below.below.before) c.in_ok-below.ensures.before c.in_ok-below.below.regs.coarser c.in_ok-below.ensures.register c.for_finer-inner.result.problem.now c.for_finer-inner.ensures.problem c.for_finer-inner.result.level c.for_finer-inner.ensures.level (option_copied c.for_finer-inner.result.old) c.for_finer-inner.ensures.old inflow_beside,
+      flows_2 c.args.given.now.problem.now c.args.given.now.level (level_of c.args.level.now) c.args.finer.now (old_masses (option_copied c.args.given.now.old)) c.requires.part c.in-Some-split_first_mut.next.now c.in-Some-split_first_mut.finest.now c.in-Some-split_first_mut.ensures.cases.0 (arc_value c.in_ok-below.below.before) c.in_ok-below.ensures.before c.in_ok-below.below.regs.coarser c.in_ok-below.ensures.register c.for_finer-inner.result.problem.now c.for_finer-inner.ensures.problem c.for_finer-inner.result.level c.for_finer-inner.ensures.level (option_copied c.for_finer-inner.result.old) c.for_finer-inner.ensures.old
           c.step_levels.new.level c.step_levels.new.finer c.step_levels.new.regs.coarser c.in_ok-step_levels.ensures.levels c.in_ok-step_levels.ensures.patches c.in_ok-step_levels.ensures.coarser inflow_beside,
     )
 
@@ -87,61 +88,61 @@ step_levels-requires-2-clause-outflow g t c κs within =
       c.in_ok-below.ensures.outflow,
       c.in_ok-step_levels.ensures.outflow,
       flows_split c.args.given.now.problem.now c.args.given.now.level (level_of c.args.level.now) c.args.finer.now (old_masses (option_copied c.args.given.now.old)) c.requires.part c.in-Some-split_first_mut.next.now c.in-Some-split_first_mut.finest.now c.in-Some-split_first_mut.ensures.cases.0 (outflow_beside c.args.given.now.problem.now),
-      flows_1 c.args.given.now.problem.now c.args.given.now.level (level_of c.args.level.now) c.args.finer.now (old_masses (option_copied c.args.given.now.old)) c.requires.part c.in-Some-split_first_mut.next.now c.in-Some-split_first_mut.finest.now c.in-Some-split_first_mut.ensures.cases.0 c.in_ok-below.below.before c.in_ok-below.ensures.before c.in_ok-below.below.regs.coarser c.in_ok-below.ensures.register c.for_finer-inner.result.problem.now c.for_finer-inner.ensures.problem c.for_finer-inner.result.level c.for_finer-inner.ensures.level (option_copied c.for_finer-inner.result.old) c.for_finer-inner.ensures.old outflow_beside,
-      flows_2 c.args.given.now.problem.now c.args.given.now.level (level_of c.args.level.now) c.args.finer.now (old_masses (option_copied c.args.given.now.old)) c.requires.part c.in-Some-split_first_mut.next.now c.in-Some-split_first_mut.finest.now c.in-Some-split_first_mut.ensures.cases.0 c.in_ok-below.below.before c.in_ok-below.ensures.before c.in_ok-below.below.regs.coarser c.in_ok-below.ensures.register c.for_finer-inner.result.problem.now c.for_finer-inner.ensures.problem c.for_finer-inner.result.level c.for_finer-inner.ensures.level (option_copied c.for_finer-inner.result.old) c.for_finer-inner.ensures.old
+      flows_1 c.args.given.now.problem.now c.args.given.now.level (level_of c.args.level.now) c.args.finer.now (old_masses (option_copied c.args.given.now.old)) c.requires.part c.in-Some-split_first_mut.next.now c.in-Some-split_first_mut.finest.now c.in-Some-split_first_mut.ensures.cases.0 (arc_value c.in_ok-below.below.before) c.in_ok-below.ensures.before c.in_ok-below.below.regs.coarser c.in_ok-below.ensures.register c.for_finer-inner.result.problem.now c.for_finer-inner.ensures.problem c.for_finer-inner.result.level c.for_finer-inner.ensures.level (option_copied c.for_finer-inner.result.old) c.for_finer-inner.ensures.old outflow_beside,
+      flows_2 c.args.given.now.problem.now c.args.given.now.level (level_of c.args.level.now) c.args.finer.now (old_masses (option_copied c.args.given.now.old)) c.requires.part c.in-Some-split_first_mut.next.now c.in-Some-split_first_mut.finest.now c.in-Some-split_first_mut.ensures.cases.0 (arc_value c.in_ok-below.below.before) c.in_ok-below.ensures.before c.in_ok-below.below.regs.coarser c.in_ok-below.ensures.register c.for_finer-inner.result.problem.now c.for_finer-inner.ensures.problem c.for_finer-inner.result.level c.for_finer-inner.ensures.level (option_copied c.for_finer-inner.result.old) c.for_finer-inner.ensures.old
           c.step_levels.new.level c.step_levels.new.finer c.step_levels.new.regs.coarser c.in_ok-step_levels.ensures.levels c.in_ok-step_levels.ensures.patches c.in_ok-step_levels.ensures.coarser outflow_beside,
     )
 
 pub correct-requires-clause-placed : goal.correct-requires-clause-placed
 correct-requires-clause-placed g t c =
-    placed_2 c.args.given.now.problem.now c.args.given.now.level (level_of c.args.level.now) c.args.finer.now (old_masses (option_copied c.args.given.now.old)) c.requires.part c.in-Some-split_first_mut.next.now c.in-Some-split_first_mut.finest.now c.in-Some-split_first_mut.ensures.cases.0 c.in_ok-below.below.before c.in_ok-below.ensures.before c.in_ok-below.below.regs.coarser c.in_ok-below.ensures.register c.for_finer-inner.result.problem.now c.for_finer-inner.ensures.problem c.for_finer-inner.result.level c.for_finer-inner.ensures.level (option_copied c.for_finer-inner.result.old) c.for_finer-inner.ensures.old
+    placed_2 c.args.given.now.problem.now c.args.given.now.level (level_of c.args.level.now) c.args.finer.now (old_masses (option_copied c.args.given.now.old)) c.requires.part c.in-Some-split_first_mut.next.now c.in-Some-split_first_mut.finest.now c.in-Some-split_first_mut.ensures.cases.0 (arc_value c.in_ok-below.below.before) c.in_ok-below.ensures.before c.in_ok-below.below.regs.coarser c.in_ok-below.ensures.register c.for_finer-inner.result.problem.now c.for_finer-inner.ensures.problem c.for_finer-inner.result.level c.for_finer-inner.ensures.level (option_copied c.for_finer-inner.result.old) c.for_finer-inner.ensures.old
     c.step_levels.new.level c.step_levels.new.finer c.step_levels.new.regs.coarser c.in_ok-step_levels.ensures.levels c.in_ok-step_levels.ensures.patches c.in_ok-step_levels.ensures.coarser
     c.step_levels-2.new.level c.step_levels-2.new.finer c.step_levels-2.new.regs.coarser c.in_ok-step_levels-2.ensures.levels c.in_ok-step_levels-2.ensures.patches c.in_ok-step_levels-2.ensures.coarser
 
 pub correct-requires-clause-edges : goal.correct-requires-clause-edges
 correct-requires-clause-edges g t c =
-    let boxes = map box (patches_of c.in_ok-below.below.before) in
+    let boxes = map box (patches_of (arc_value c.in_ok-below.below.before)) in
     subst (λ (bs : List Extent). IfSome c.step_levels-2.new.regs.coarser (HasEdgesOf bs)) (c.in_ok-below.ensures.before_patches ∙ sym c.in_ok-below.ensures.patches)
     (edges_stay boxes _ c.step_levels.new.regs.coarser c.step_levels-2.new.regs.coarser c.in_ok-step_levels-2.ensures.coarser
     (edges_stay boxes _ c.in_ok-below.below.regs.coarser c.step_levels.new.regs.coarser c.in_ok-step_levels.ensures.coarser c.in_ok-below.ensures.edges))
 
 pub correct-requires-clause-of_level : goal.correct-requires-clause-of_level
 correct-requires-clause-of_level g t c =
-    of_level_2 c.args.given.now.problem.now c.args.given.now.level (level_of c.args.level.now) c.args.finer.now (old_masses (option_copied c.args.given.now.old)) c.requires.part c.in-Some-split_first_mut.next.now c.in-Some-split_first_mut.finest.now c.in-Some-split_first_mut.ensures.cases.0 c.in_ok-below.below.before c.in_ok-below.ensures.before c.in_ok-below.below.regs.coarser c.in_ok-below.ensures.register c.for_finer-inner.result.problem.now c.for_finer-inner.ensures.problem c.for_finer-inner.result.level c.for_finer-inner.ensures.level (option_copied c.for_finer-inner.result.old) c.for_finer-inner.ensures.old
+    of_level_2 c.args.given.now.problem.now c.args.given.now.level (level_of c.args.level.now) c.args.finer.now (old_masses (option_copied c.args.given.now.old)) c.requires.part c.in-Some-split_first_mut.next.now c.in-Some-split_first_mut.finest.now c.in-Some-split_first_mut.ensures.cases.0 (arc_value c.in_ok-below.below.before) c.in_ok-below.ensures.before c.in_ok-below.below.regs.coarser c.in_ok-below.ensures.register c.for_finer-inner.result.problem.now c.for_finer-inner.ensures.problem c.for_finer-inner.result.level c.for_finer-inner.ensures.level (option_copied c.for_finer-inner.result.old) c.for_finer-inner.ensures.old
     c.step_levels.new.level c.step_levels.new.finer c.step_levels.new.regs.coarser c.in_ok-step_levels.ensures.levels c.in_ok-step_levels.ensures.patches c.in_ok-step_levels.ensures.coarser
     c.step_levels-2.new.level c.step_levels-2.new.finer c.step_levels-2.new.regs.coarser c.in_ok-step_levels-2.ensures.levels c.in_ok-step_levels-2.ensures.patches c.in_ok-step_levels-2.ensures.coarser
     (level_of c.step_coarse.new.level).masses c.in_ok-below.ensures.masses
 
 pub correct-requires-clause-kept : goal.correct-requires-clause-kept
 correct-requires-clause-kept g t c =
-    kept_2 c.args.given.now.problem.now c.args.given.now.level (level_of c.args.level.now) c.args.finer.now (old_masses (option_copied c.args.given.now.old)) c.requires.part c.in-Some-split_first_mut.next.now c.in-Some-split_first_mut.finest.now c.in-Some-split_first_mut.ensures.cases.0 c.in_ok-below.below.before c.in_ok-below.ensures.before c.in_ok-below.below.regs.coarser c.in_ok-below.ensures.register c.for_finer-inner.result.problem.now c.for_finer-inner.ensures.problem c.for_finer-inner.result.level c.for_finer-inner.ensures.level (option_copied c.for_finer-inner.result.old) c.for_finer-inner.ensures.old
+    kept_2 c.args.given.now.problem.now c.args.given.now.level (level_of c.args.level.now) c.args.finer.now (old_masses (option_copied c.args.given.now.old)) c.requires.part c.in-Some-split_first_mut.next.now c.in-Some-split_first_mut.finest.now c.in-Some-split_first_mut.ensures.cases.0 (arc_value c.in_ok-below.below.before) c.in_ok-below.ensures.before c.in_ok-below.below.regs.coarser c.in_ok-below.ensures.register c.for_finer-inner.result.problem.now c.for_finer-inner.ensures.problem c.for_finer-inner.result.level c.for_finer-inner.ensures.level (option_copied c.for_finer-inner.result.old) c.for_finer-inner.ensures.old
     c.step_levels.new.level c.step_levels.new.finer c.step_levels.new.regs.coarser c.in_ok-step_levels.ensures.levels c.in_ok-step_levels.ensures.patches c.in_ok-step_levels.ensures.coarser
     c.step_levels-2.new.level c.step_levels-2.new.finer c.step_levels-2.new.regs.coarser c.in_ok-step_levels-2.ensures.levels c.in_ok-step_levels-2.ensures.patches c.in_ok-step_levels-2.ensures.coarser
     (level_of c.step_coarse.new.level).masses c.in_ok-below.ensures.masses
 
 pub correct-requires-clause-fits : goal.correct-requires-clause-fits
 correct-requires-clause-fits g t c =
-    fits_2 c.args.given.now.problem.now c.args.given.now.level (level_of c.args.level.now) c.args.finer.now (old_masses (option_copied c.args.given.now.old)) c.requires.part c.in-Some-split_first_mut.next.now c.in-Some-split_first_mut.finest.now c.in-Some-split_first_mut.ensures.cases.0 c.in_ok-below.below.before c.in_ok-below.ensures.before c.in_ok-below.below.regs.coarser c.in_ok-below.ensures.register c.for_finer-inner.result.problem.now c.for_finer-inner.ensures.problem c.for_finer-inner.result.level c.for_finer-inner.ensures.level (option_copied c.for_finer-inner.result.old) c.for_finer-inner.ensures.old
+    fits_2 c.args.given.now.problem.now c.args.given.now.level (level_of c.args.level.now) c.args.finer.now (old_masses (option_copied c.args.given.now.old)) c.requires.part c.in-Some-split_first_mut.next.now c.in-Some-split_first_mut.finest.now c.in-Some-split_first_mut.ensures.cases.0 (arc_value c.in_ok-below.below.before) c.in_ok-below.ensures.before c.in_ok-below.below.regs.coarser c.in_ok-below.ensures.register c.for_finer-inner.result.problem.now c.for_finer-inner.ensures.problem c.for_finer-inner.result.level c.for_finer-inner.ensures.level (option_copied c.for_finer-inner.result.old) c.for_finer-inner.ensures.old
     c.step_levels.new.level c.step_levels.new.finer c.step_levels.new.regs.coarser c.in_ok-step_levels.ensures.levels c.in_ok-step_levels.ensures.patches c.in_ok-step_levels.ensures.coarser
     c.step_levels-2.new.level c.step_levels-2.new.finer c.step_levels-2.new.regs.coarser c.in_ok-step_levels-2.ensures.levels c.in_ok-step_levels-2.ensures.patches c.in_ok-step_levels-2.ensures.coarser
     (level_of c.step_coarse.new.level).masses c.in_ok-below.ensures.masses
 
 pub correct-requires-clause-parents : goal.correct-requires-clause-parents
 correct-requires-clause-parents g t c =
-    parents_2 c.args.given.now.problem.now c.args.given.now.level (level_of c.args.level.now) c.args.finer.now (old_masses (option_copied c.args.given.now.old)) c.requires.part c.in-Some-split_first_mut.next.now c.in-Some-split_first_mut.finest.now c.in-Some-split_first_mut.ensures.cases.0 c.in_ok-below.below.before c.in_ok-below.ensures.before c.in_ok-below.below.regs.coarser c.in_ok-below.ensures.register c.for_finer-inner.result.problem.now c.for_finer-inner.ensures.problem c.for_finer-inner.result.level c.for_finer-inner.ensures.level (option_copied c.for_finer-inner.result.old) c.for_finer-inner.ensures.old
+    parents_2 c.args.given.now.problem.now c.args.given.now.level (level_of c.args.level.now) c.args.finer.now (old_masses (option_copied c.args.given.now.old)) c.requires.part c.in-Some-split_first_mut.next.now c.in-Some-split_first_mut.finest.now c.in-Some-split_first_mut.ensures.cases.0 (arc_value c.in_ok-below.below.before) c.in_ok-below.ensures.before c.in_ok-below.below.regs.coarser c.in_ok-below.ensures.register c.for_finer-inner.result.problem.now c.for_finer-inner.ensures.problem c.for_finer-inner.result.level c.for_finer-inner.ensures.level (option_copied c.for_finer-inner.result.old) c.for_finer-inner.ensures.old
     c.step_levels.new.level c.step_levels.new.finer c.step_levels.new.regs.coarser c.in_ok-step_levels.ensures.levels c.in_ok-step_levels.ensures.patches c.in_ok-step_levels.ensures.coarser
     c.step_levels-2.new.level c.step_levels-2.new.finer c.step_levels-2.new.regs.coarser c.in_ok-step_levels-2.ensures.levels c.in_ok-step_levels-2.ensures.patches c.in_ok-step_levels-2.ensures.coarser
     (level_of c.step_coarse.new.level).masses c.in_ok-below.ensures.masses
 
 pub correct-requires-clause-coarsenable : goal.correct-requires-clause-coarsenable
 correct-requires-clause-coarsenable g t c =
-    next2_coarsenable c.args.given.now.problem.now c.args.given.now.level (level_of c.args.level.now) c.args.finer.now (old_masses (option_copied c.args.given.now.old)) c.requires.part c.in-Some-split_first_mut.next.now c.in-Some-split_first_mut.finest.now c.in-Some-split_first_mut.ensures.cases.0 c.in_ok-below.below.before c.in_ok-below.ensures.before c.in_ok-below.below.regs.coarser c.in_ok-below.ensures.register c.for_finer-inner.result.problem.now c.for_finer-inner.ensures.problem c.for_finer-inner.result.level c.for_finer-inner.ensures.level (option_copied c.for_finer-inner.result.old) c.for_finer-inner.ensures.old
+    next2_coarsenable c.args.given.now.problem.now c.args.given.now.level (level_of c.args.level.now) c.args.finer.now (old_masses (option_copied c.args.given.now.old)) c.requires.part c.in-Some-split_first_mut.next.now c.in-Some-split_first_mut.finest.now c.in-Some-split_first_mut.ensures.cases.0 (arc_value c.in_ok-below.below.before) c.in_ok-below.ensures.before c.in_ok-below.below.regs.coarser c.in_ok-below.ensures.register c.for_finer-inner.result.problem.now c.for_finer-inner.ensures.problem c.for_finer-inner.result.level c.for_finer-inner.ensures.level (option_copied c.for_finer-inner.result.old) c.for_finer-inner.ensures.old
     c.step_levels.new.level c.step_levels.new.finer c.step_levels.new.regs.coarser c.in_ok-step_levels.ensures.levels c.in_ok-step_levels.ensures.patches c.in_ok-step_levels.ensures.coarser
     c.step_levels-2.new.level c.step_levels-2.new.finer c.step_levels-2.new.regs.coarser c.in_ok-step_levels-2.ensures.levels c.in_ok-step_levels-2.ensures.patches c.in_ok-step_levels-2.ensures.coarser c.requires.coarsenable
 
 pub correct-requires-clause-small : goal.correct-requires-clause-small
 correct-requires-clause-small g t c =
-    small_2 c.args.given.now.problem.now c.args.given.now.level (level_of c.args.level.now) c.args.finer.now (old_masses (option_copied c.args.given.now.old)) c.requires.part c.in-Some-split_first_mut.next.now c.in-Some-split_first_mut.finest.now c.in-Some-split_first_mut.ensures.cases.0 c.in_ok-below.below.before c.in_ok-below.ensures.before c.in_ok-below.below.regs.coarser c.in_ok-below.ensures.register c.for_finer-inner.result.problem.now c.for_finer-inner.ensures.problem c.for_finer-inner.result.level c.for_finer-inner.ensures.level (option_copied c.for_finer-inner.result.old) c.for_finer-inner.ensures.old
+    small_2 c.args.given.now.problem.now c.args.given.now.level (level_of c.args.level.now) c.args.finer.now (old_masses (option_copied c.args.given.now.old)) c.requires.part c.in-Some-split_first_mut.next.now c.in-Some-split_first_mut.finest.now c.in-Some-split_first_mut.ensures.cases.0 (arc_value c.in_ok-below.below.before) c.in_ok-below.ensures.before c.in_ok-below.below.regs.coarser c.in_ok-below.ensures.register c.for_finer-inner.result.problem.now c.for_finer-inner.ensures.problem c.for_finer-inner.result.level c.for_finer-inner.ensures.level (option_copied c.for_finer-inner.result.old) c.for_finer-inner.ensures.old
     c.step_levels.new.level c.step_levels.new.finer c.step_levels.new.regs.coarser c.in_ok-step_levels.ensures.levels c.in_ok-step_levels.ensures.patches c.in_ok-step_levels.ensures.coarser
     c.step_levels-2.new.level c.step_levels-2.new.finer c.step_levels-2.new.regs.coarser c.in_ok-step_levels-2.ensures.levels c.in_ok-step_levels-2.ensures.patches c.in_ok-step_levels-2.ensures.coarser
     (level_of c.step_coarse.new.level).masses c.in_ok-below.ensures.masses
@@ -149,7 +150,7 @@ correct-requires-clause-small g t c =
 pub returns-clause-levels : goal.returns-clause-levels
 returns-clause-levels g t c =
     (λ i. level_of c.correct.new.level ∷ c.correct.ensures.finer i ∷ map level_of c.step_levels-2.new.finer)
-    ∙ levels_are c.args.given.now.problem.now c.args.given.now.level (level_of c.args.level.now) c.args.finer.now (old_masses (option_copied c.args.given.now.old)) c.requires.part c.in-Some-split_first_mut.next.now c.in-Some-split_first_mut.finest.now c.in-Some-split_first_mut.ensures.cases.0 c.in_ok-below.below.before c.in_ok-below.ensures.before c.in_ok-below.below.regs.coarser c.in_ok-below.ensures.register c.for_finer-inner.result.problem.now c.for_finer-inner.ensures.problem c.for_finer-inner.result.level c.for_finer-inner.ensures.level (option_copied c.for_finer-inner.result.old) c.for_finer-inner.ensures.old
+    ∙ levels_are c.args.given.now.problem.now c.args.given.now.level (level_of c.args.level.now) c.args.finer.now (old_masses (option_copied c.args.given.now.old)) c.requires.part c.in-Some-split_first_mut.next.now c.in-Some-split_first_mut.finest.now c.in-Some-split_first_mut.ensures.cases.0 (arc_value c.in_ok-below.below.before) c.in_ok-below.ensures.before c.in_ok-below.below.regs.coarser c.in_ok-below.ensures.register c.for_finer-inner.result.problem.now c.for_finer-inner.ensures.problem c.for_finer-inner.result.level c.for_finer-inner.ensures.level (option_copied c.for_finer-inner.result.old) c.for_finer-inner.ensures.old
     c.step_levels.new.level c.step_levels.new.finer c.step_levels.new.regs.coarser c.in_ok-step_levels.ensures.levels c.in_ok-step_levels.ensures.patches c.in_ok-step_levels.ensures.coarser
     c.step_levels-2.new.level c.step_levels-2.new.finer c.step_levels-2.new.regs.coarser c.in_ok-step_levels-2.ensures.levels c.in_ok-step_levels-2.ensures.patches c.in_ok-step_levels-2.ensures.coarser
     (level_of c.correct.new.level) (c.correct.ensures.boxes ∙ c.in_ok-below.ensures.boxes)
@@ -163,8 +164,8 @@ returns-clause-inflow g t c =
       c.in_ok-step_levels.ensures.inflow,
       c.in_ok-step_levels-2.ensures.inflow,
       flows_split c.args.given.now.problem.now c.args.given.now.level (level_of c.args.level.now) c.args.finer.now (old_masses (option_copied c.args.given.now.old)) c.requires.part c.in-Some-split_first_mut.next.now c.in-Some-split_first_mut.finest.now c.in-Some-split_first_mut.ensures.cases.0 (inflow_beside c.args.given.now.problem.now),
-      flows_1 c.args.given.now.problem.now c.args.given.now.level (level_of c.args.level.now) c.args.finer.now (old_masses (option_copied c.args.given.now.old)) c.requires.part c.in-Some-split_first_mut.next.now c.in-Some-split_first_mut.finest.now c.in-Some-split_first_mut.ensures.cases.0 c.in_ok-below.below.before c.in_ok-below.ensures.before c.in_ok-below.below.regs.coarser c.in_ok-below.ensures.register c.for_finer-inner.result.problem.now c.for_finer-inner.ensures.problem c.for_finer-inner.result.level c.for_finer-inner.ensures.level (option_copied c.for_finer-inner.result.old) c.for_finer-inner.ensures.old inflow_beside,
-      flows_2 c.args.given.now.problem.now c.args.given.now.level (level_of c.args.level.now) c.args.finer.now (old_masses (option_copied c.args.given.now.old)) c.requires.part c.in-Some-split_first_mut.next.now c.in-Some-split_first_mut.finest.now c.in-Some-split_first_mut.ensures.cases.0 c.in_ok-below.below.before c.in_ok-below.ensures.before c.in_ok-below.below.regs.coarser c.in_ok-below.ensures.register c.for_finer-inner.result.problem.now c.for_finer-inner.ensures.problem c.for_finer-inner.result.level c.for_finer-inner.ensures.level (option_copied c.for_finer-inner.result.old) c.for_finer-inner.ensures.old
+      flows_1 c.args.given.now.problem.now c.args.given.now.level (level_of c.args.level.now) c.args.finer.now (old_masses (option_copied c.args.given.now.old)) c.requires.part c.in-Some-split_first_mut.next.now c.in-Some-split_first_mut.finest.now c.in-Some-split_first_mut.ensures.cases.0 (arc_value c.in_ok-below.below.before) c.in_ok-below.ensures.before c.in_ok-below.below.regs.coarser c.in_ok-below.ensures.register c.for_finer-inner.result.problem.now c.for_finer-inner.ensures.problem c.for_finer-inner.result.level c.for_finer-inner.ensures.level (option_copied c.for_finer-inner.result.old) c.for_finer-inner.ensures.old inflow_beside,
+      flows_2 c.args.given.now.problem.now c.args.given.now.level (level_of c.args.level.now) c.args.finer.now (old_masses (option_copied c.args.given.now.old)) c.requires.part c.in-Some-split_first_mut.next.now c.in-Some-split_first_mut.finest.now c.in-Some-split_first_mut.ensures.cases.0 (arc_value c.in_ok-below.below.before) c.in_ok-below.ensures.before c.in_ok-below.below.regs.coarser c.in_ok-below.ensures.register c.for_finer-inner.result.problem.now c.for_finer-inner.ensures.problem c.for_finer-inner.result.level c.for_finer-inner.ensures.level (option_copied c.for_finer-inner.result.old) c.for_finer-inner.ensures.old
           c.step_levels.new.level c.step_levels.new.finer c.step_levels.new.regs.coarser c.in_ok-step_levels.ensures.levels c.in_ok-step_levels.ensures.patches c.in_ok-step_levels.ensures.coarser inflow_beside,
     )
 
@@ -176,8 +177,8 @@ returns-clause-outflow g t c =
       c.in_ok-step_levels.ensures.outflow,
       c.in_ok-step_levels-2.ensures.outflow,
       flows_split c.args.given.now.problem.now c.args.given.now.level (level_of c.args.level.now) c.args.finer.now (old_masses (option_copied c.args.given.now.old)) c.requires.part c.in-Some-split_first_mut.next.now c.in-Some-split_first_mut.finest.now c.in-Some-split_first_mut.ensures.cases.0 (outflow_beside c.args.given.now.problem.now),
-      flows_1 c.args.given.now.problem.now c.args.given.now.level (level_of c.args.level.now) c.args.finer.now (old_masses (option_copied c.args.given.now.old)) c.requires.part c.in-Some-split_first_mut.next.now c.in-Some-split_first_mut.finest.now c.in-Some-split_first_mut.ensures.cases.0 c.in_ok-below.below.before c.in_ok-below.ensures.before c.in_ok-below.below.regs.coarser c.in_ok-below.ensures.register c.for_finer-inner.result.problem.now c.for_finer-inner.ensures.problem c.for_finer-inner.result.level c.for_finer-inner.ensures.level (option_copied c.for_finer-inner.result.old) c.for_finer-inner.ensures.old outflow_beside,
-      flows_2 c.args.given.now.problem.now c.args.given.now.level (level_of c.args.level.now) c.args.finer.now (old_masses (option_copied c.args.given.now.old)) c.requires.part c.in-Some-split_first_mut.next.now c.in-Some-split_first_mut.finest.now c.in-Some-split_first_mut.ensures.cases.0 c.in_ok-below.below.before c.in_ok-below.ensures.before c.in_ok-below.below.regs.coarser c.in_ok-below.ensures.register c.for_finer-inner.result.problem.now c.for_finer-inner.ensures.problem c.for_finer-inner.result.level c.for_finer-inner.ensures.level (option_copied c.for_finer-inner.result.old) c.for_finer-inner.ensures.old
+      flows_1 c.args.given.now.problem.now c.args.given.now.level (level_of c.args.level.now) c.args.finer.now (old_masses (option_copied c.args.given.now.old)) c.requires.part c.in-Some-split_first_mut.next.now c.in-Some-split_first_mut.finest.now c.in-Some-split_first_mut.ensures.cases.0 (arc_value c.in_ok-below.below.before) c.in_ok-below.ensures.before c.in_ok-below.below.regs.coarser c.in_ok-below.ensures.register c.for_finer-inner.result.problem.now c.for_finer-inner.ensures.problem c.for_finer-inner.result.level c.for_finer-inner.ensures.level (option_copied c.for_finer-inner.result.old) c.for_finer-inner.ensures.old outflow_beside,
+      flows_2 c.args.given.now.problem.now c.args.given.now.level (level_of c.args.level.now) c.args.finer.now (old_masses (option_copied c.args.given.now.old)) c.requires.part c.in-Some-split_first_mut.next.now c.in-Some-split_first_mut.finest.now c.in-Some-split_first_mut.ensures.cases.0 (arc_value c.in_ok-below.below.before) c.in_ok-below.ensures.before c.in_ok-below.below.regs.coarser c.in_ok-below.ensures.register c.for_finer-inner.result.problem.now c.for_finer-inner.ensures.problem c.for_finer-inner.result.level c.for_finer-inner.ensures.level (option_copied c.for_finer-inner.result.old) c.for_finer-inner.ensures.old
           c.step_levels.new.level c.step_levels.new.finer c.step_levels.new.regs.coarser c.in_ok-step_levels.ensures.levels c.in_ok-step_levels.ensures.patches c.in_ok-step_levels.ensures.coarser outflow_beside,
     )
 
@@ -206,17 +207,17 @@ returns-clause-kept g t c =
     let finer =
     subst (λ n. AreKept p n c.step_levels-2.new.kept) c.for_finer-inner.ensures.level (subst (λ (q : Problem). AreKept q c.for_finer-inner.result.level c.step_levels-2.new.kept) c.for_finer-inner.ensures.problem c.in_ok-step_levels-2.ensures.kept) in
     let has =
-    has2 c.args.given.now.problem.now c.args.given.now.level (level_of c.args.level.now) c.args.finer.now (old_masses (option_copied c.args.given.now.old)) c.requires.part c.in-Some-split_first_mut.next.now c.in-Some-split_first_mut.finest.now c.in-Some-split_first_mut.ensures.cases.0 c.in_ok-below.below.before c.in_ok-below.ensures.before c.in_ok-below.below.regs.coarser c.in_ok-below.ensures.register c.for_finer-inner.result.problem.now c.for_finer-inner.ensures.problem c.for_finer-inner.result.level c.for_finer-inner.ensures.level (option_copied c.for_finer-inner.result.old) c.for_finer-inner.ensures.old
+    has2 c.args.given.now.problem.now c.args.given.now.level (level_of c.args.level.now) c.args.finer.now (old_masses (option_copied c.args.given.now.old)) c.requires.part c.in-Some-split_first_mut.next.now c.in-Some-split_first_mut.finest.now c.in-Some-split_first_mut.ensures.cases.0 (arc_value c.in_ok-below.below.before) c.in_ok-below.ensures.before c.in_ok-below.below.regs.coarser c.in_ok-below.ensures.register c.for_finer-inner.result.problem.now c.for_finer-inner.ensures.problem c.for_finer-inner.result.level c.for_finer-inner.ensures.level (option_copied c.for_finer-inner.result.old) c.for_finer-inner.ensures.old
     c.step_levels.new.level c.step_levels.new.finer c.step_levels.new.regs.coarser c.in_ok-step_levels.ensures.levels c.in_ok-step_levels.ensures.patches c.in_ok-step_levels.ensures.coarser
     c.step_levels-2.new.level c.step_levels-2.new.finer c.step_levels-2.new.regs.coarser c.in_ok-step_levels-2.ensures.levels c.in_ok-step_levels-2.ensures.patches c.in_ok-step_levels-2.ensures.coarser in
     let again : KeptLevel = record { layout = c.correct.new.layout; below = (get_or c.step_levels-2.new.kept 0 c.index-rest-0.result).below } in
     let edges =
-    edges_stay (map box (patches_of c.in_ok-below.below.before)) _ c.step_levels.new.regs.coarser c.step_levels-2.new.regs.coarser c.in_ok-step_levels-2.ensures.coarser
-    (edges_stay (map box (patches_of c.in_ok-below.below.before)) _ c.in_ok-below.below.regs.coarser c.step_levels.new.regs.coarser c.in_ok-step_levels.ensures.coarser c.in_ok-below.ensures.edges) in
+    edges_stay (map box (patches_of (arc_value c.in_ok-below.below.before))) _ c.step_levels.new.regs.coarser c.step_levels-2.new.regs.coarser c.in_ok-step_levels-2.ensures.coarser
+    (edges_stay (map box (patches_of (arc_value c.in_ok-below.below.before))) _ c.in_ok-below.below.regs.coarser c.step_levels.new.regs.coarser c.in_ok-step_levels.ensures.coarser c.in_ok-below.ensures.edges) in
     kept_all p c.args.given.now.level (record { layout = c.step_coarse.new.own.layout; below = c.kept_of.result }) (set c.step_levels-2.new.kept 0 again)
     (record {
       layout = c.in_ok-below.ensures.layout;
-      below = all_below_after p c.args.given.now.level k fine _ c.kept_of.result c.in_ok-below.below.before c.in_ok-below.below.finer c.step_levels-2.new.regs.coarser c.in_ok-below.ensures.before c.in_ok-below.ensures.finer_boxes c.kept_of.ensures has edges;
+      below = all_below_after p c.args.given.now.level k fine _ c.kept_of.result (arc_value c.in_ok-below.below.before) c.in_ok-below.below.finer c.step_levels-2.new.regs.coarser c.in_ok-below.ensures.before c.in_ok-below.ensures.finer_boxes c.kept_of.ensures has edges;
     })
     (kept_again p (c.args.given.now.level + 1) c.correct.new.layout c.index-rest-0.result c.step_levels-2.new.kept (first_kept g t (goal.at.returns-clause-kept g t c).In_ok-step_levels-2) c.correct.ensures.layout finer)
 

@@ -6,6 +6,7 @@ use Rattle.std.specs.Option.{option_copied}
 use Rattle.amr_register.specs.declared.register.Register.{Register}
 use Rattle.amr_advance.specs.Registers.{BothChange, taken}
 use Rattle.amr_box.specs.Cells.{Extent}
+use Rattle.amr_patch.specs.declared.levels.Level.{Level as Held}
 use Rattle.amr_patch.specs.Levels.{level_of, patches_of}
 use Rattle.amr_patch.specs.Patches.{box}
 use Rattle.amr_register.specs.Registers.{HasEdgesOf}
@@ -60,5 +61,6 @@ pub returns-clause-edges : goal.returns-clause-edges
 returns-clause-edges g c =
     let boxes = map box (patches_of c.in_ok-before.field-0.before) in
     let by = taken c.args.given.now.problem.now c.args.given.now.level (level_of c.args.level.now).masses (old_masses (option_copied c.args.given.now.old)) (level_of c.args.next.now).masses in
-    edges_stay boxes by (Some c.in_ok-before.field-0.register) c.take.result
-    (subst (λ (s : Option Register). BothChange by (Some c.in_ok-before.field-0.register) s) (sym c.take.ensures.value) c.in_ok-advance_kept.ensures.finer) c.in_ok-before.ensures.below.edges
+    subst (λ (k : Held). IfSome c.take.result (HasEdgesOf (map box (patches_of k)))) (sym c.in_ok-new.ensures.ok)
+    (edges_stay boxes by (Some c.in_ok-before.field-0.register) c.take.result
+    (subst (λ (s : Option Register). BothChange by (Some c.in_ok-before.field-0.register) s) (sym c.take.ensures.value) c.in_ok-advance_kept.ensures.finer) c.in_ok-before.ensures.below.edges)

@@ -1,8 +1,8 @@
 use Rattle.std.specs.Option.{option_copied}
 use Rattle.amr_ghost.specs.Frames.{old_masses}
 use Rattle.amr_lots.proofs.InPlaces.{AreChangedTo}
-use Rattle.amr_advance.specs.Lots.{HasFound}
-use Rattle.amr_advance.proofs.sharing.find_outer.Given as goal
+use Rattle.amr_lots.specs.Serving.{HasFound}
+use Rattle.amr_advance.proofs.valuing.find_alone.Given as goal
 
 -- the lots before this one have their values
 abbrev pub invariant-loop-k : goal.invariant-loop-k

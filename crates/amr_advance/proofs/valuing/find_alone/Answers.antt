@@ -4,11 +4,8 @@ use Rattle.std.specs.List.{All}
 use Rattle.amr_def.specs.Domain.{domain}
 use Rattle.amr_ghost.specs.Outer.{HasOuterPlaces, IsOuterSpan}
 use Rattle.amr_lots.specs.declared.lot.Lot.{Lot}
-use Rattle.amr_ghost.specs.Frames.{old_masses}
-use Rattle.std.specs.Option.{option_copied}
-use Rattle.amr_advance.proofs.LotsHanded.{found_already}
 use Rattle.amr_lots.proofs.InPlaces.{all_changed, none_changed, one_more_changed}
-use Rattle.amr_advance.proofs.sharing.find_outer.Goals as goal
+use Rattle.amr_advance.proofs.valuing.find_alone.Goals as goal
 
 pub loop-k-init : goal.loop-k-init
 loop-k-init c = none_changed _ c.args.lots.now
@@ -25,9 +22,6 @@ find_lot_outer-requires-clause-places c =
 
 pub loop-k-preserved : goal.loop-k-preserved
 loop-k-preserved c = one_more_changed _ c.args.lots.now c.loop-k.k c.loop-k.lots c.loop-k.invariant c.index-lots-k.result _ c.loop-k-test.true c.find_lot_outer.ensures
-
-pub returns-then-valued : goal.returns-then-valued
-returns-then-valued c = found_already c.args.p.now c.args.l (old_masses (option_copied c.args.old)) c.args.lots.now c.requires.places (c.requires.valued c.if-valued.true)
 
 pub returns : goal.returns
 returns c = all_changed _ c.args.lots.now c.loop-k.k c.loop-k.lots c.loop-k.invariant (omega (arith, c.loop-k-test.false))
