@@ -1,3 +1,5 @@
 mod Fragments
+mod LevelBoxes
 mod Putting
+mod Texts
 mod Words

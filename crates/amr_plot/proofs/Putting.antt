@@ -1,9 +1,9 @@
 -- Texts that are put one after another.
 use Rattle.std.proofs.Common.{◌≡◌, ℕ, zero, suc, ◌+◌, ◌-◌, ◌<◌, ◌≤◌, ◌⊎◌, inl, inr, List, [], ◌∷◌, ◌++◌, length, get_or, refl, sym, ap, subst, ◌∙◌, append_assoc, arith, add-one}
-use Rattle.std.specs.Prelude.{Result, Ok, Err, IsErr, OnErr}
+use Rattle.std.specs.Prelude.{Result, Ok, Err, IsErr, OnOk, OnErr}
 use Rattle.std.proofs.lemmas.List.{append-nil}
 use Rattle.std.proofs.lemmas.Bool.{cases_lt}
-use Rattle.amr_causes.specs.Causes.{Rose}
+use Rattle.amr_causes.specs.Causes.{HasCause, Rose}
 use Rattle.amr_causes.specs.Bytes.{Grows, IsPrefix}
 use Rattle.amr_causes.proofs.CauseLaws.{rose_after}
 use Rattle.amr_causes.proofs.ByteLaws.{prefix_whole, prefix_longer, prefix_after, grows_to}
@@ -49,6 +49,18 @@ module _ {S : Type 0} (holds : S → List ℕ → Type 0) (faults : S → ℕ) w
 
   short_of_more : (s0 s1 : S) (part whole : List ℕ) → IsPrefix part whole → FallsShort holds s0 s1 part → FallsShort holds s0 s1 whole
   short_of_more s0 s1 part whole is taken = subst (λ (u : List ℕ). FallsShort holds s0 s1 u) is.split (short_longer holds s0 s1 part is.rest taken)
+
+  -- a fault as what was kept back was sent
+  pub puts_unsent : {T E : Type 0} (s0 s1 : S) (k0 k1 text : List ℕ) (r : Result T E) → IsErr r → FallsShort holds s0 s1 k0 → faults s0 ≤ faults s1 → Rose (faults s0) (faults s1) → Puts holds faults s0 s1 k0 k1 text r
+  puts_unsent s0 s1 k0 k1 text (Ok v) failed part later rose = cc
+  puts_unsent s0 s1 k0 k1 text (Err e) failed part later rose = record { sent = tt; part = short_longer holds s0 s1 k0 text part; no_fault = tt; cause = record { later = later; failed = rose } }
+
+  -- bytes that go past a buffer which keeps nothing back
+  pub puts_past : {T E : Type 0} (s0 s1 : S) (kept bytes : List ℕ) (r : Result T E) → kept ≡ [] → OnOk r (Grows holds s0 s1 bytes) → OnErr r (FallsShort holds s0 s1 bytes) → OnOk r (faults s1 ≡ faults s0) → HasCause (faults s0) (faults s1) r → Puts holds faults s0 s1 kept kept bytes r
+  puts_past {T} {E} s0 s1 kept bytes (Ok v) none whole part same cause =
+      subst (λ (k : List ℕ). Puts {T = T} {E = E} holds faults s0 s1 k k bytes (Ok v)) (sym none) (record { sent = (bytes, whole, append-nil bytes); part = tt; no_fault = same; cause = cause })
+  puts_past {T} {E} s0 s1 kept bytes (Err e) none whole part same cause =
+      subst (λ (k : List ℕ). Puts {T = T} {E = E} holds faults s0 s1 k k bytes (Err e)) (sym none) (record { sent = tt; part = part; no_fault = tt; cause = cause })
 
   -- a fault after some of a text
   pub puts_stop : {T E : Type 0} (s0 s1 s2 : S) (k0 k1 k2 done now whole : List ℕ) (r : Result T E) → IsErr r → IsPrefix (done ++ now) whole → Sent holds s0 s1 k0 k1 done → faults s1 ≡ faults s0 → FallsShort holds s1 s2 (k1 ++ now) → faults s1 ≤ faults s2 → Rose (faults s1) (faults s2)

@@ -1,3 +1,4 @@
 pub mod Puts
 pub mod Rows
 pub mod Parts
+pub mod Boxes

@@ -1,88 +1,91 @@
 //! Levels: each its line, then its boxes in order.
 
-ghost use Rattle.std.specs.Prelude.{◌≡◌, ℕ, ◌<◌, ◌≤◌, length, map, slice_index_or, IsTrue};
+ghost use Rattle.std.specs.Prelude.{ℕ, ◌<◌, ◌≤◌, length, map, slice_index_or};
 ghost use Rattle.std.specs.List.{flat_map};
-ghost use Rattle.amr_box.specs.declared.Cell.{Cell};
-ghost use Rattle.amr_box.specs.Cells.{holds};
-ghost use Rattle.amr_def.specs.Domain.{domain, in_domain};
 ghost use Rattle.amr_def.specs.Facts.{IsLevel};
 ghost use Rattle.amr_def.specs.Plot.{box_text, level_text, numbered};
 ghost use Rattle.amr_def.specs.State.{no_level};
 ghost use Rattle.amr_patch.specs.Levels.{level_of};
+ghost use Rattle.amr_plot.specs.Boxes.{joined};
 ghost use Rattle.amr_plot.specs.Puts.{Puts};
-ghost use Rattle.amr_patch.specs.BoxRows.{HasCellsOf};
 
-use crate::lines::{put_box_line, put_level_line};
-use crate::rows::put_rows;
-use amr_box::Bx;
+use crate::boxes::put_boxes;
+use crate::lines::put_level_line;
+use crate::sharing::Sharing;
 use amr_def::Problem;
-use amr_io::{Sink, Text, WriteFault};
+use amr_io::{Sink, Text, WriteFault, write_whole};
 use amr_patch::Level;
 
-/// A box of level `l` and its rows.
-fn put_box<O: Sink>(
-    p: &Problem,
-    l: u32,
-    level: &Level,
-    b: &Bx,
-    text: &mut Text,
-    sink: &mut O,
-) -> Result<(), WriteFault>
-    requires fine { l ≤ 4 }
-    requires inside { (c : Cell) → IsTrue (holds b.now c) → IsTrue (in_domain (domain p.now l) c) }
-    requires cells { HasCellsOf level.now b.now }
-    ensures { Puts O.holds O.faults sink.old sink.new text.old text.new (box_text (level_of level.now).masses b.now) result }
+/// Bytes go past the buffer, once it has sent what it kept back.
+fn put_bytes<O: Sink>(bytes: &[u8], text: &mut Text, sink: &mut O) -> Result<(), WriteFault>
+    ensures { Puts O.holds O.faults sink.old sink.new text.old text.new bytes.now result }
 {
-    put_box_line(b.lo(), b.hi(), text, sink)?;
-    put_rows(level, b, text, sink)
+    text.flush(sink)?;
+    write_whole(sink, bytes)
 }
 
-/// The boxes of level `l`, in order.
-fn put_boxes<O: Sink>(
-    p: &Problem,
-    l: u32,
-    level: &Level,
-    text: &mut Text,
-    sink: &mut O,
-) -> Result<(), WriteFault>
-    requires fine { l ≤ 4 }
-    requires level { IsLevel p.now l (level_of level.now) }
-    ensures { Puts O.holds O.faults sink.old sink.new text.old text.new (flat_map (box_text (level_of level.now).masses) (level_of level.now).boxes) result }
+/// Texts that are made, in order.
+fn put_texts<O: Sink>(texts: &[Vec<u8>], text: &mut Text, sink: &mut O) -> Result<(), WriteFault>
+    ensures { Puts O.holds O.faults sink.old sink.new text.old text.new (joined texts.now) result }
 {
-    for b in level.boxes() {
-        put_box(p, l, level, b, text, sink)?;
+    for made in texts {
+        put_bytes(made, text, sink)?;
     }
     Ok(())
 }
 
-fn put_level<O: Sink>(
+/// All boxes of level `l`.
+fn put_level_boxes<S: Sharing, O: Sink>(
+    sharing: &S,
     p: &Problem,
     l: u32,
     level: &Level,
     text: &mut Text,
     sink: &mut O,
 ) -> Result<(), WriteFault>
+    requires shared { S.may_share sharing.now }
+    requires fine { l ≤ 4 }
+    requires level { IsLevel p.now l (level_of level.now) }
+    ensures { Puts O.holds O.faults sink.old sink.new text.old text.new (flat_map (box_text (level_of level.now).masses) (level_of level.now).boxes) result }
+{
+    match sharing.made_before(p, l, level) {
+        Some(texts) => put_texts(&texts, text, sink),
+        None => put_boxes(p, l, level, level.boxes(), text, sink),
+    }
+}
+
+fn put_level<S: Sharing, O: Sink>(
+    sharing: &S,
+    p: &Problem,
+    l: u32,
+    level: &Level,
+    text: &mut Text,
+    sink: &mut O,
+) -> Result<(), WriteFault>
+    requires shared { S.may_share sharing.now }
     requires fine { l ≤ 4 }
     requires level { IsLevel p.now l (level_of level.now) }
     ensures { Puts O.holds O.faults sink.old sink.new text.old text.new (level_text l (level_of level.now)) result }
 {
     put_level_line(l, level.boxes().len(), text, sink)?;
-    put_boxes(p, l, level, text, sink)
+    put_level_boxes(sharing, p, l, level, text, sink)
 }
 
 /// The levels, from level 0 on.
-pub(crate) fn put_levels<O: Sink>(
+pub(crate) fn put_levels<S: Sharing, O: Sink>(
+    sharing: &S,
     p: &Problem,
     levels: &[Level],
     text: &mut Text,
     sink: &mut O,
 ) -> Result<(), WriteFault>
+    requires shared { S.may_share sharing.now }
     requires few { length levels.now ≤ 5 }
     requires levels { (l : ℕ) → l < length levels.now → IsLevel p.now l (slice_index_or (map level_of levels.now) l no_level) }
     ensures { Puts O.holds O.faults sink.old sink.new text.old text.new (numbered level_text 0 (map level_of levels.now)) result }
 {
     for (l, level) in levels.iter().enumerate() {
-        put_level(p, l as u32, level, text, sink)?;
+        put_level(sharing, p, l as u32, level, text, sink)?;
     }
     Ok(())
 }

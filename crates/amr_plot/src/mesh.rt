@@ -12,9 +12,12 @@ ghost use Rattle.amr_plot.specs.Parts.{after_head, after_ledger};
 
 use crate::levels::put_levels;
 use crate::lines::{put_head, put_ledger_row};
+use crate::sharing::{Alone, InThreads, Sharing};
 use amr_def::Problem;
 use amr_io::{Sink, Text, WriteFault};
 use amr_patch::Mesh;
+use std::alloc::Global;
+use std::thread::Threads;
 
 /// The rows of the ledger, of which there are `count`.
 fn put_ledger<O: Sink>(
@@ -34,47 +37,75 @@ fn put_ledger<O: Sink>(
 }
 
 /// The levels and the end.
-fn put_tables<O: Sink>(
+fn put_tables<S: Sharing, O: Sink>(
+    sharing: &S,
     p: &Problem,
     mesh: &Mesh,
     text: &mut Text,
     sink: &mut O,
 ) -> Result<(), WriteFault>
+    requires shared { S.may_share sharing.now }
     requires whole { is_spent mesh.now ≡ false }
     requires sound { IsSound p.now (state_of mesh.now) }
     ensures { Puts O.holds O.faults sink.old sink.new text.old text.new (after_ledger (state_of mesh.now)) result }
 {
-    put_levels(p, mesh.levels(), text, sink)?;
+    put_levels(sharing, p, mesh.levels(), text, sink)?;
     text.put_str(sink, "end\n")
 }
 
 /// What follows the head.
-fn put_body<O: Sink>(
+fn put_body<S: Sharing, O: Sink>(
+    sharing: &S,
     p: &Problem,
     mesh: &Mesh,
     text: &mut Text,
     sink: &mut O,
 ) -> Result<(), WriteFault>
+    requires shared { S.may_share sharing.now }
     requires whole { is_spent mesh.now ≡ false }
     requires sound { IsSound p.now (state_of mesh.now) }
     ensures { Puts O.holds O.faults sink.old sink.new text.old text.new (after_head (state_of mesh.now)) result }
 {
     put_ledger(mesh, mesh.step() + 1, text, sink)?;
-    put_tables(p, mesh, text, sink)
+    put_tables(sharing, p, mesh, text, sink)
 }
 
-fn put_plot<O: Sink>(
+fn put_plot<S: Sharing, O: Sink>(
+    sharing: &S,
     p: &Problem,
     mesh: &Mesh,
     text: &mut Text,
     sink: &mut O,
 ) -> Result<(), WriteFault>
+    requires shared { S.may_share sharing.now }
     requires whole { is_spent mesh.now ≡ false }
     requires sound { IsSound p.now (state_of mesh.now) }
     ensures { Puts O.holds O.faults sink.old sink.new text.old text.new (plot p.now (state_of mesh.now)) result }
 {
     put_head(p, mesh.step(), text, sink)?;
-    put_body(p, mesh, text, sink)
+    put_body(sharing, p, mesh, text, sink)
+}
+
+/// Writes the plot, with the texts of boxes made by who shares them out.
+fn plot_by<S: Sharing, O: Sink>(
+    sharing: &S,
+    p: &Problem,
+    mesh: &Mesh,
+    sink: &mut O,
+) -> Result<(), WriteFault>
+    requires shared { S.may_share sharing.now }
+    requires whole { is_spent mesh.now ≡ false }
+    requires sound { IsSound p.now (state_of mesh.now) }
+    ensures whole { OnOk result (Grows O.holds sink.old sink.new (plot p.now (state_of mesh.now))) }
+    ensures part { TakesPrefix O.holds sink.old sink.new (plot p.now (state_of mesh.now)) }
+    ensures short { OnErr result (FallsShort O.holds sink.old sink.new (plot p.now (state_of mesh.now))) }
+    ensures no_fault { OnOk result (O.faults sink.new ≡ O.faults sink.old) }
+    ensures cause { HasCause (O.faults sink.old) (O.faults sink.new) result }
+{
+    let mut text = Text::make();
+    put_plot(sharing, p, mesh, &mut text, sink)?;
+    text.flush(sink)?;
+    Ok(())
 }
 
 /// Writes the plot of the mesh's state through a buffer of fixed size; it takes no memory. The mesh is a sound state of the
@@ -89,8 +120,32 @@ pub fn plot<O: Sink>(p: &Problem, mesh: &Mesh, sink: &mut O) -> Result<(), Write
     ensures no_fault { OnOk result (O.faults sink.new ≡ O.faults sink.old) }
     ensures cause { HasCause (O.faults sink.old) (O.faults sink.new) result }
 {
-    let mut text = Text::make();
-    put_plot(p, mesh, &mut text, sink)?;
-    text.flush(sink)?;
-    Ok(())
+    plot_by(&Alone, p, mesh, sink)
+}
+
+/// Writes the same as `plot`. The texts of the boxes of a large level are made in memory by at most `threads` threads, each a run
+/// of the boxes, and put in order when all are made. Where there is no memory for that, the caller writes the boxes as `plot`
+/// does.
+pub fn plot_in_threads<R: Threads + Sync, O: Sink>(
+    rt: &R,
+    threads: usize,
+    alloc: Global,
+    p: &Problem,
+    mesh: &Mesh,
+    sink: &mut O,
+) -> Result<(), WriteFault>
+    requires whole { is_spent mesh.now ≡ false }
+    requires sound { IsSound p.now (state_of mesh.now) }
+    ensures whole { OnOk result (Grows O.holds sink.old sink.new (plot p.now (state_of mesh.now))) }
+    ensures part { TakesPrefix O.holds sink.old sink.new (plot p.now (state_of mesh.now)) }
+    ensures short { OnErr result (FallsShort O.holds sink.old sink.new (plot p.now (state_of mesh.now))) }
+    ensures no_fault { OnOk result (O.faults sink.new ≡ O.faults sink.old) }
+    ensures cause { HasCause (O.faults sink.old) (O.faults sink.new) result }
+{
+    let sharing = InThreads {
+        runtime: rt,
+        threads,
+        alloc,
+    };
+    plot_by(&sharing, p, mesh, sink)
 }

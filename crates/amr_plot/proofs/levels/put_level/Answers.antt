@@ -23,6 +23,6 @@ returns g c =
     let k = level_of c.args.level.now in
     let rest : List ℕ = flat_map (box_text k.masses) k.boxes in
     let e = c.in_ok-put_level_line.ensures in
-    puts_same g.O.Sink.holds g.O.Sink.faults c.args.sink.now c.put_boxes.new.sink c.args.text.now c.put_boxes.new.text _ _ c.put_boxes.result
+    puts_same g.O.Sink.holds g.O.Sink.faults c.args.sink.now c.put_level_boxes.new.sink c.args.text.now c.put_level_boxes.new.text _ _ c.put_level_boxes.result
     ((λ i. level_head c.args.l (length (c.boxes.ensures i)) ++ rest) ∙ ap (λ (t : List ℕ). t ++ rest) (level_fragments c.args.l k))
-    (puts_then g.O.Sink.holds g.O.Sink.faults c.args.sink.now c.put_level_line.new.sink c.put_boxes.new.sink c.args.text.now c.put_level_line.new.text c.put_boxes.new.text _ rest c.put_boxes.result e.sent e.no_fault c.put_boxes.ensures)
+    (puts_then g.O.Sink.holds g.O.Sink.faults c.args.sink.now c.put_level_line.new.sink c.put_level_boxes.new.sink c.args.text.now c.put_level_line.new.text c.put_level_boxes.new.text _ rest c.put_level_boxes.result e.sent e.no_fault c.put_level_boxes.ensures)

@@ -4,11 +4,11 @@ use Rattle.amr_def.specs.Plot.{box_text}
 use Rattle.amr_patch.specs.Levels.{level_of}
 use Rattle.amr_plot.specs.Puts.{texts}
 use Rattle.amr_patch.proofs.BoxEntries.{no_box}
-use Rattle.amr_plot.proofs.levels.put_boxes.Given as goal
+use Rattle.amr_plot.proofs.boxes.put_boxes.Given as goal
 
 -- the boxes so far are put
 abbrev pub invariant-loop-b : goal.invariant-loop-b
 invariant-loop-b g l = record {
-  sent : Sent g.O.Sink.holds l.initial.sink l.sink l.initial.text l.text (texts (λ i. box_text (level_of l.level).masses (get_or (level_of l.level).boxes i no_box)) l.b-index);
+  sent : Sent g.O.Sink.holds l.initial.sink l.sink l.initial.text l.text (texts (λ i. box_text (level_of l.level).masses (get_or l.boxes i no_box)) l.b-index);
   same : g.O.Sink.faults l.sink ≡ g.O.Sink.faults l.initial.sink;
 }

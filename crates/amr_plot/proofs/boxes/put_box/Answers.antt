@@ -6,30 +6,30 @@ use Rattle.amr_patch.specs.Levels.{level_of}
 use Rattle.amr_plot.specs.Puts.{texts}
 use Rattle.amr_patch.proofs.Corners.{corners}
 use Rattle.amr_plot.proofs.Putting.{puts_first, puts_same, puts_then, texts_of_range}
-use Rattle.amr_plot.proofs.levels.put_box.Goals as goal
+use Rattle.amr_plot.proofs.boxes.put_box.Goals as goal
 
 pub put_box_line-requires-clause-west : goal.put_box_line-requires-clause-west
 put_box_line-requires-clause-west g c =
-    let k = corners c.args.p.now c.args.l c.args.b.now c.requires.fine c.lo.ensures.proper c.requires.inside in
+    let k = corners c.args.p.now c.args.l c.args.b.now c.requires.fine c.lo.ensures.proper c.requires.of_level.inside in
     omega (arith, ints, k.west, c.lo.ensures.x)
 
 pub put_box_line-requires-clause-south : goal.put_box_line-requires-clause-south
 put_box_line-requires-clause-south g c =
-    let k = corners c.args.p.now c.args.l c.args.b.now c.requires.fine c.lo.ensures.proper c.requires.inside in
+    let k = corners c.args.p.now c.args.l c.args.b.now c.requires.fine c.lo.ensures.proper c.requires.of_level.inside in
     omega (arith, ints, k.south, c.lo.ensures.y)
 
 pub put_box_line-requires-clause-east : goal.put_box_line-requires-clause-east
 put_box_line-requires-clause-east g c =
-    let k = corners c.args.p.now c.args.l c.args.b.now c.requires.fine c.lo.ensures.proper c.requires.inside in
+    let k = corners c.args.p.now c.args.l c.args.b.now c.requires.fine c.lo.ensures.proper c.requires.of_level.inside in
     omega (arith, ints, k.east, c.hi.ensures.x)
 
 pub put_box_line-requires-clause-north : goal.put_box_line-requires-clause-north
 put_box_line-requires-clause-north g c =
-    let k = corners c.args.p.now c.args.l c.args.b.now c.requires.fine c.lo.ensures.proper c.requires.inside in
+    let k = corners c.args.p.now c.args.l c.args.b.now c.requires.fine c.lo.ensures.proper c.requires.of_level.inside in
     omega (arith, ints, k.north, c.hi.ensures.y)
 
 pub put_rows-requires-clause-near : goal.put_rows-requires-clause-near
-put_rows-requires-clause-near g c = (corners c.args.p.now c.args.l c.args.b.now c.requires.fine c.lo.ensures.proper c.requires.inside).near
+put_rows-requires-clause-near g c = (corners c.args.p.now c.args.l c.args.b.now c.requires.fine c.lo.ensures.proper c.requires.of_level.inside).near
 
 pub returns-in_err-put_box_line : goal.returns-in_err-put_box_line
 unfolding box_text

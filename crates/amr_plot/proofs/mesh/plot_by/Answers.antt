@@ -6,7 +6,7 @@ use Rattle.amr_io.specs.Short.{FallsShort}
 use Rattle.amr_io.proofs.Sending.{flush_stops}
 use Rattle.amr_io.proofs.Shorter.{flush_short, short_takes}
 use Rattle.amr_plot.proofs.Putting.{all_flushed, where_it_fails}
-use Rattle.amr_plot.proofs.mesh.plot.Goals as goal
+use Rattle.amr_plot.proofs.mesh.plot_by.Goals as goal
 
 pub returns-in_err-put_plot-clause-short : goal.returns-in_err-put_plot-clause-short
 returns-in_err-put_plot-clause-short g c =
