@@ -1,3 +1,4 @@
+mod Cutting
 mod Fragments
 mod LevelBoxes
 mod Putting

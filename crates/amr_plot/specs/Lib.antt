@@ -2,3 +2,4 @@ pub mod Puts
 pub mod Rows
 pub mod Parts
 pub mod Boxes
+pub mod BoxParts

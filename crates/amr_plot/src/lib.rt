@@ -10,6 +10,7 @@ mod levels;
 mod lines;
 mod mesh;
 mod page;
+mod parts;
 mod rows;
 mod runs;
 mod sharing;

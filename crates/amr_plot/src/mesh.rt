@@ -124,7 +124,7 @@ pub fn plot<O: Sink>(p: &Problem, mesh: &Mesh, sink: &mut O) -> Result<(), Write
 }
 
 /// Writes the same as `plot`. The texts of the boxes of a large level are made in memory by at most `threads` threads, each a run
-/// of the boxes, and put in order when all are made. Where there is no memory for that, the caller writes the boxes as `plot`
+/// of their rows, and put in order when all are made. Where there is no memory for that, the caller writes the boxes as `plot`
 /// does.
 pub fn plot_in_threads<R: Threads + Sync, O: Sink>(
     rt: &R,

@@ -1,6 +1,7 @@
 //! The rows of masses of a box. A row is read span by span, with one look-up a span.
 
 ghost use Rattle.std.specs.Prelude.{◌≡◌, ℕ, ◌+◌, ◌<◌, ◌≤◌, ◌≤ℤ◌, ◌^◌, length, slice_index, IsSome, IsTrue, pos, ◌+ℤ◌};
+ghost use Rattle.std.specs.List.{flat_map, range_with_len};
 ghost use Rattle.amr_box.specs.declared.Cell.{Cell};
 ghost use Rattle.amr_box.specs.Cells.{IsNear, cell, height, holds, width, within};
 ghost use Rattle.amr_def.specs.Plot.{mass_line};
@@ -79,19 +80,22 @@ fn put_columns<O: Sink>(
     Ok(())
 }
 
-/// The rows of a box, from the low row on.
+/// So many rows of a box, from row `first` on.
 pub(crate) fn put_rows<O: Sink>(
     level: &Level,
     b: &Bx,
+    first: u32,
+    count: u32,
     text: &mut Text,
     sink: &mut O,
 ) -> Result<(), WriteFault>
     requires near { IsNear b.now }
+    requires within { first + count ≤ height b.now }
     requires cells { HasCellsOf level.now b.now }
-    ensures { Puts O.holds O.faults sink.old sink.new text.old text.new (texts (mass_line (level_of level.now).masses b.now) (height b.now)) result }
+    ensures { Puts O.holds O.faults sink.old sink.new text.old text.new (flat_map (mass_line (level_of level.now).masses b.now) (range_with_len first count)) result }
 {
-    for row in 0..b.height() {
-        put_row(level, b, row, text, sink)?;
+    for row in 0..count {
+        put_row(level, b, first + row, text, sink)?;
     }
     Ok(())
 }

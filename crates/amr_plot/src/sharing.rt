@@ -22,8 +22,8 @@ pub(crate) trait Sharing {
     // That threads may share the runtime, where there is one.
     ghost may_share: { Self → Type 0 };
 
-    /// The texts of the boxes of level `l`, made before they are put, some boxes in each. `None` where the caller is to put the
-    /// boxes itself.
+    /// The texts of the boxes of level `l`, made before they are put, some parts of boxes in each. `None` where the caller is to
+    /// put the boxes itself.
     fn made_before(&self, p: &Problem, l: u32, level: &Level) -> Option<Vec<Vec<u8>>>
         requires shared { may_share self.now }
         requires fine { l ≤ 4 }
@@ -43,7 +43,7 @@ impl Sharing for Alone {
     }
 }
 
-/// Each of several threads makes the text of a run of the boxes, where these have many cells.
+/// Each of several threads makes the text of a run of the boxes' parts, where these have many cells.
 #[derive(Drop)]
 pub(crate) struct InThreads<'a, R> {
     pub(crate) runtime: &'a R,
@@ -57,7 +57,7 @@ impl<R: Threads + Sync> Sharing for InThreads<'_, R> {
     ghost may_share = { λ _. IsSync R.row };
 
     fn made_before(&self, p: &Problem, l: u32, level: &Level) -> Option<Vec<Vec<u8>>> {
-        if self.threads < 2 || level.boxes().len() < 2 || !are_many(level.patches()) {
+        if self.threads < 2 || !are_many(level.patches()) {
             return None;
         }
         texts_by_runs(self.runtime, self.threads, self.alloc, p, l, level).ok()
