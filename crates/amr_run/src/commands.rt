@@ -25,7 +25,7 @@ use amr_disk::Disk;
 use amr_drive::{Nothing, drive, start};
 use amr_io::{Fragment, Sink, Source, WriteFault, write_whole};
 use amr_patch::Mesh;
-use amr_plot::plot;
+use amr_plot::{plot, plot_in_threads};
 use amr_problem::judge;
 use amr_trial::{summary, text};
 use amr_workers::Gate;
@@ -121,7 +121,14 @@ pub(crate) fn run<R: Threads + Wait + Sync, S: Source, O: Sink, G: Gate + Sync>(
     let given = read_problem(workers.alloc, src)?;
     let target = stop_of(&given.problem, to);
     let mesh = run_to(workers, &given.problem, target)?;
-    plot(&given.problem, &mesh, out)?;
+    plot_in_threads(
+        workers.runtime,
+        workers.count as usize,
+        workers.alloc,
+        &given.problem,
+        &mesh,
+        out,
+    )?;
     Ok(())
 }
 
@@ -165,7 +172,14 @@ pub(crate) fn keep<R: Threads + Wait + Sync, S: Source, O: Sink, E: Sink, D: Dis
         target: stop_of(&given.problem, marks.to),
     };
     let mesh = keep_run(workers, &keeping, &given.bytes, err, disk)?;
-    plot(&given.problem, &mesh, out)?;
+    plot_in_threads(
+        workers.runtime,
+        workers.count as usize,
+        workers.alloc,
+        &given.problem,
+        &mesh,
+        out,
+    )?;
     Ok(())
 }
 

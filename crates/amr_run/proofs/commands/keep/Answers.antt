@@ -56,13 +56,13 @@ returns-in_err-mesh-clause-outcome g c =
       ),
     )
 
-pub returns-in_err-plot-clause-outcome : goal.returns-in_err-plot-clause-outcome
-returns-in_err-plot-clause-outcome g c =
+pub returns-in_err-plot_in_threads-clause-outcome : goal.returns-in_err-plot_in_threads-clause-outcome
+returns-in_err-plot_in_threads-clause-outcome g c =
     let read = c.in_ok-given.ensures.problem in
     let run = c.in_ok-mesh.ensures.outcome in
     let p = c.in_ok-given.given.problem in
     let same = c.deref.ensures.value ∙ read.2.0 in
-    let part = c.in_err-plot.ensures.short in
+    let part = c.in_err-plot_in_threads.ensures.short in
     let whole = plot p (state_of c.in_ok-mesh.mesh) in
     let answer = plot_of_kept c.deref.result.now read.0 c.args.marks.to p c.args.marks.every c.stop_of.result (g.D.Disk.seen c.args.disk.now) whole run.0 same c.stop_of.ensures read.2.1 run.2 in (
       read.0,
@@ -73,8 +73,8 @@ returns-in_err-plot-clause-outcome g c =
           read.1,
           part.2,
           run.1,
-          kept_by (IsPlotOfKeptRun read.0 c.args.marks.to c.args.marks.every (g.D.Disk.seen c.args.disk.now)) (λ (refusal : Refusal). IfSome (g.D.Disk.seen c.args.disk.now) (RefusesRunTo read.0 c.args.marks.to refusal)) c.from_residual-in_err-plot.result WriteFault read.0 part.0 run.0 c.from_residual-in_err-plot.ensures.1 (record { whole = whole; lines = run.0; answer = answer; cut = inl (part.1, refl) }),
-          stops_by g.D.Disk.seen g.D.Disk.moment g.D.Disk.leaves c.args.disk.now c.keep_run.new.disk c.from_residual-in_err-plot.result WriteFault read.0 c.args.marks.to c.args.marks.every run.0 c.from_residual-in_err-plot.ensures.1 (stops_run g.D.Disk.seen g.D.Disk.moment g.D.Disk.leaves c.args.disk.now c.keep_run.new.disk Done WriteFault c.deref.result.now read.0 c.args.marks.to p c.args.marks.every c.stop_of.result run.0 same c.stop_of.ensures read.2.1 run.3 (λ attempt h. h)),
+          kept_by (IsPlotOfKeptRun read.0 c.args.marks.to c.args.marks.every (g.D.Disk.seen c.args.disk.now)) (λ (refusal : Refusal). IfSome (g.D.Disk.seen c.args.disk.now) (RefusesRunTo read.0 c.args.marks.to refusal)) c.from_residual-in_err-plot_in_threads.result WriteFault read.0 part.0 run.0 c.from_residual-in_err-plot_in_threads.ensures.1 (record { whole = whole; lines = run.0; answer = answer; cut = inl (part.1, refl) }),
+          stops_by g.D.Disk.seen g.D.Disk.moment g.D.Disk.leaves c.args.disk.now c.keep_run.new.disk c.from_residual-in_err-plot_in_threads.result WriteFault read.0 c.args.marks.to c.args.marks.every run.0 c.from_residual-in_err-plot_in_threads.ensures.1 (stops_run g.D.Disk.seen g.D.Disk.moment g.D.Disk.leaves c.args.disk.now c.keep_run.new.disk Done WriteFault c.deref.result.now read.0 c.args.marks.to p c.args.marks.every c.stop_of.result run.0 same c.stop_of.ensures read.2.1 run.3 (λ attempt h. h)),
         ),
       ),
     )
@@ -92,7 +92,7 @@ returns-clause-outcome g c =
         (
           run.0,
           read.1,
-          c.in_ok-plot.ensures.whole,
+          c.in_ok-plot_in_threads.ensures.whole,
           run.1,
           plot_of_kept c.deref.result.now read.0 c.args.marks.to p c.args.marks.every c.stop_of.result (g.D.Disk.seen c.args.disk.now) whole run.0 same c.stop_of.ensures read.2.1 run.2,
           stops_run g.D.Disk.seen g.D.Disk.moment g.D.Disk.leaves c.args.disk.now c.keep_run.new.disk Done Done c.deref.result.now read.0 c.args.marks.to p c.args.marks.every c.stop_of.result run.0 same c.stop_of.ensures read.2.1 run.3 (λ attempt h. h),

@@ -21,15 +21,15 @@ returns-in_err-mesh-clause-outcome g c =
     let left = were_left (g.S.Source.left c.args.src.now) in
     (left.0, ([], left.1, grows_none g.O.Sink.holds c.args.out.now, out_of_memory (IsPlotOfRun left.0 c.args.to) c.from_residual-in_err-mesh.result _ left.0 c.from_residual-in_err-mesh.ensures.1 c.in_err-mesh.ensures.refused))
 
-pub returns-in_err-plot-clause-outcome : goal.returns-in_err-plot-clause-outcome
-returns-in_err-plot-clause-outcome g c =
+pub returns-in_err-plot_in_threads-clause-outcome : goal.returns-in_err-plot_in_threads-clause-outcome
+returns-in_err-plot_in_threads-clause-outcome g c =
     let read = c.in_ok-given.ensures.problem in
     let answer = is_plot_of_run read.0 c.args.to c.in_ok-given.given.problem (state_of c.in_ok-mesh.mesh) c.stop_of-target.result read.2.1 c.stop_of-target.ensures c.in_ok-mesh.ensures.value c.in_ok-mesh.ensures.run in
-    let part = c.in_err-plot.ensures.short in
-    (read.0, (part.0, read.1, part.2, refused_by (IsPlotOfRun read.0 c.args.to) c.from_residual-in_err-plot.result WriteFault read.0 part.0 c.from_residual-in_err-plot.ensures.1 (plot c.in_ok-given.given.problem (state_of c.in_ok-mesh.mesh), answer, part.1)))
+    let part = c.in_err-plot_in_threads.ensures.short in
+    (read.0, (part.0, read.1, part.2, refused_by (IsPlotOfRun read.0 c.args.to) c.from_residual-in_err-plot_in_threads.result WriteFault read.0 part.0 c.from_residual-in_err-plot_in_threads.ensures.1 (plot c.in_ok-given.given.problem (state_of c.in_ok-mesh.mesh), answer, part.1)))
 
 pub returns-clause-outcome : goal.returns-clause-outcome
 returns-clause-outcome g c =
     let read = c.in_ok-given.ensures.problem in
     let answer = is_plot_of_run read.0 c.args.to c.in_ok-given.given.problem (state_of c.in_ok-mesh.mesh) c.stop_of-target.result read.2.1 c.stop_of-target.ensures c.in_ok-mesh.ensures.value c.in_ok-mesh.ensures.run in
-    (read.0, (plot c.in_ok-given.given.problem (state_of c.in_ok-mesh.mesh), read.1, c.in_ok-plot.ensures.whole, answer))
+    (read.0, (plot c.in_ok-given.given.problem (state_of c.in_ok-mesh.mesh), read.1, c.in_ok-plot_in_threads.ensures.whole, answer))
