@@ -35,7 +35,8 @@ box 0 0 3 1
 end
 ";
 
-/// What a call is made on: the words, the bytes, and the calls of the source and of the two sinks that fail.
+/// What a call is made on: the words, the bytes, the calls of the source and of the two sinks that fail, and how many bytes the
+/// first sink has room for.
 #[derive(Clone, Copy)]
 pub(crate) struct Case<'a> {
     pub words: &'a str,
@@ -43,6 +44,7 @@ pub(crate) struct Case<'a> {
     pub reads_fail: &'a [u64],
     pub writes_fail: &'a [u64],
     pub lines_fail: &'a [u64],
+    pub room: usize,
 }
 
 /// How a call ended, and what went to the two sinks.
@@ -61,6 +63,7 @@ impl<'a> Case<'a> {
             reads_fail: &[],
             writes_fail: &[],
             lines_fail: &[],
+            room: 10_000,
         }
     }
 
@@ -77,7 +80,7 @@ impl<'a> Case<'a> {
         let alloc = rt.alloc();
         let line = line_of(alloc, self.words)?;
         let mut src = MemSource::make(alloc, self.bytes, 1000, self.reads_fail)?;
-        let mut out = MemSink::make(alloc, 10_000, 16, self.writes_fail)?;
+        let mut out = MemSink::make(alloc, self.room, 16, self.writes_fail)?;
         let mut err = MemSink::make(alloc, 1000, 40, self.lines_fail)?;
         let status = amr(rt, alloc, &line, &mut src, &mut out, &mut err, disk).code();
         Ok(Ended { status, out, err })

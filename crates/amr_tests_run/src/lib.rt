@@ -16,3 +16,5 @@ mod kept;
 mod plots;
 #[cfg(test)]
 mod stops;
+#[cfg(test)]
+mod threads;
