@@ -1,3 +1,4 @@
+pub mod LotSends
 pub mod StartLaws
 pub mod Kept
 mod Regridded
