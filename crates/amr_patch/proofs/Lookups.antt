@@ -1,5 +1,5 @@
 -- Which of several patches has a cell.
-use Rattle.std.proofs.Common.{◌≡◌, ◌∙◌, ℕ, zero, suc, ◌+◌, ◌-◌, ◌<◌, ◌≤◌, ◌⊎◌, inl, inr, below_more, Bool, true, false, ◌||◌, ℤ, pos, negsuc, ◌-ℤ◌, ◌≤ℤ◌, ◌<ℤ◌, List, [], ◌∷◌, length, cond, refl, sym, ap, arith}
+use Rattle.std.proofs.Common.{◌≡◌, ◌∙◌, ℕ, zero, suc, ◌+◌, ◌-◌, ◌<◌, ◌≤◌, ◌⊎◌, inl, inr, below_more, Bool, true, false, ◌||◌, ℤ, pos, negsuc, ◌+ℤ◌, ◌-ℤ◌, ◌≤ℤ◌, ◌<ℤ◌, List, [], ◌∷◌, length, cond, refl, sym, ap, arith}
 use Rattle.std.specs.Prelude.{int_le, is_some, slice_index_or, IsTrue}
 use Rattle.std.specs.List.{All}
 use Rattle.std.specs.List.Sorted.{IsPartitionPoint}
@@ -9,7 +9,7 @@ use Rattle.std.proofs.lemmas.Int.{ints, clamps}
 use Rattle.std.proofs.lemmas.Bool.{or_right, cases_lt, cases_eq, false_from_ne_true}
 use Rattle.std.specs.Int.{int_min}
 use Rattle.amr_box.specs.declared.Cell.{Cell}
-use Rattle.amr_box.specs.Cells.{at_least_zero, cell, height, holds}
+use Rattle.amr_box.specs.Cells.{Extent, at_least_zero, cell, height, holds}
 use Rattle.amr_box.proofs.Tests.{opposite}
 use Rattle.amr_patch.specs.declared.patches.Patch.{Patch}
 use Rattle.amr_patch.specs.Patches.{ArePatchesApart, box, in_patches, mass_in, masses_in}
@@ -222,3 +222,18 @@ going_down start y a b z e f g = cases (one_of_both a b)
     cases : (a ≤ℤ int_min a b) ⊎ (b ≤ℤ int_min a b) → (start ≤ℤ z) ⊎ ((y -ℤ pos 1) ≤ℤ z)
     cases (inl h) = inl (omega (arith, ints, e, f, h))
     cases (inr h) = inr (omega (arith, ints, e, g, h))
+
+-- ---- patches that may reach rows
+
+-- one that starts in a row so far below ends below, too
+pub ends_below : (b : Extent) (x y low : ℤ) (tallest : ℕ) → height b ≤ tallest → y ≡ low -ℤ pos tallest → comes_first b.lo (cell x y) ≡ true → b.hi.y <ℤ low
+ends_below b x y low tallest h is e =
+    let row = comes_first-rows b.lo (cell x y) e in
+    grind (arith, ints, row, h, is)
+
+pub starts_above : (a : Cell) (x y high : ℤ) → y ≡ high +ℤ pos 1 → comes_first a (cell x y) ≡ false → high <ℤ a.y
+starts_above a x y high is e = cases (at_most_or_above a.y y)
+  where
+    cases : (a.y ≤ℤ (y -ℤ pos 1)) ⊎ (y ≤ℤ a.y) → high <ℤ a.y
+    cases (inl l) = absurd (opposite (comes_first-below a (cell x y) (omega (arith, ints, l))) e)
+    cases (inr g) = omega (arith, ints, g, is)

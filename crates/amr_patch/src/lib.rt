@@ -19,6 +19,6 @@ mod places;
 pub use amr_def::Row;
 pub use box_rows::{cell_in, masses_from};
 pub use levels::Level;
-pub use lookup::{Order, find, find_near, mass_at, order_of};
+pub use lookup::{Order, find, find_near, mass_at, order_of, reach_of};
 pub use meshes::Mesh;
 pub use patches::{Patch, PatchData};

@@ -1,6 +1,6 @@
 //! Which of several patches has a cell.
 
-ghost use Rattle.std.specs.Prelude.{◌≡◌, ◌-◌, ◌<◌, ◌≤◌, ◌↔◌, true, false, IfSome, IsTrue, length, is_some, slice_index_or};
+ghost use Rattle.std.specs.Prelude.{◌≡◌, ℕ, ◌-◌, ◌<◌, ◌≤◌, ◌<ℤ◌, ◌↔◌, true, false, IfSome, IsTrue, length, is_some, slice_index_or};
 ghost use Rattle.std.specs.List.Sorted.{IsPartitionPoint};
 ghost use Rattle.amr_box.specs.Cells.{cell, holds};
 ghost use Rattle.amr_patch.specs.declared.patches.Patch.{Patch};
@@ -239,6 +239,24 @@ pub fn find_near(patches: &[Patch], order: Order, near: &mut usize, c: Cell) -> 
         *near = k;
     }
     found
+}
+
+/// The places in the list of the patches that may have cells in rows `low` to `high`: from the first number up to before the second. None
+/// of the other patches has a cell in these rows. Where the patches go row by row it is found by halving.
+pub fn reach_of(patches: &[Patch], order: Order, low: i32, high: i32) -> (usize, usize)
+    requires order { IsOrderOf order patches.now }
+    ensures range { result.0 ≤ result.1 }
+    ensures within { result.1 ≤ length patches.now }
+    ensures below { (k : ℕ) (p : Patch) → k < result.0 → (box (slice_index_or patches.now k p)).hi.y <ℤ low }
+    ensures above { (k : ℕ) (p : Patch) → result.1 ≤ k → k < length patches.now → high <ℤ (box (slice_index_or patches.now k p)).lo.y }
+{
+    if !order.sorted {
+        return (0, patches.len());
+    }
+    let bottom = i64::from(low) - i64::from(order.tallest);
+    let from = count_up_to(patches, bottom, i32::MAX);
+    let to = count_up_to(patches, i64::from(high) + 1, i32::MIN);
+    (from.min(to), to)
 }
 
 /// The mass of a cell, None exactly where it is in none of the patches. No cell is in two of them.
