@@ -1,33 +1,16 @@
 -- The part of a list of patches that may reach some rows.
-use Rattle.std.proofs.Common.{◌≡◌, ◌∙◌, ℕ, zero, suc, ◌+◌, ◌<◌, ◌≤◌, ◌⊎◌, inl, inr, Bool, true, false, cond, ℤ, pos, ◌-ℤ◌, ◌≤ℤ◌, List, [], ◌∷◌, length, take, drop, below_more, refl, sym, ap, arith}
-use Rattle.std.specs.Prelude.{int_le, slice_index_or}
+use Rattle.std.proofs.Common.{◌≡◌, ◌∙◌, ℕ, zero, suc, ◌+◌, ◌<◌, ◌≤◌, Bool, false, cond, ℤ, ◌≤ℤ◌, ◌<ℤ◌, List, [], ◌∷◌, length, take, drop, refl, sym, ap, arith}
+use Rattle.std.specs.Prelude.{slice_index_or}
 use Rattle.std.specs.declared.option.Option.{Option}
 use Rattle.std.specs.declared.option.Option.TheVariants.{None, Some}
 use Rattle.std.proofs.lemmas.Int.{ints}
-use Rattle.std.proofs.lemmas.Bool.{cases_eq, false_from_ne_true}
+use Rattle.std.proofs.lemmas.Bool.{false_from_ne_true}
 use Rattle.std.proofs.lemmas.List.{get_or-drop, get_or-take, length-drop, length-take}
 use Rattle.amr_box.specs.declared.Cell.{Cell}
-use Rattle.amr_box.specs.Cells.{height, holds}
-use Rattle.amr_box.proofs.Numbers.{above_from, le_from}
+use Rattle.amr_box.specs.Cells.{holds}
 use Rattle.amr_patch.specs.declared.patches.Patch.{Patch}
 use Rattle.amr_patch.specs.Patches.{ArePatchesApart, box, mass_in, masses_in}
-use Rattle.amr_patch.proofs.Rows.{inside, sides}
-use Rattle.amr_transfer.specs.Windows.{AreRising}
-
--- ---- halving
-
-at_most : (a b y : ℤ) → a ≤ℤ b → int_le b y ≡ true → int_le a y ≡ true
-at_most a b y h e = grind (arith, ints)
-
-pub parted : (ps : List Patch) (y : ℤ) → AreRising ps → (i j : ℕ) (d : Patch) → i ≤ j → j < length ps → int_le (box (slice_index_or ps j d)).lo.y y ≡ true → int_le (box (slice_index_or ps i d)).lo.y y ≡ true
-parted ps y rising i j d h l e = cases (cases_eq i j)
-  where
-    cases : ((i ≡ j) ⊎ (i ≡ j → ⊥)) → int_le (box (slice_index_or ps i d)).lo.y y ≡ true
-    cases (inl k) = ap (λ (n : ℕ). int_le (box (slice_index_or ps n d)).lo.y y) k ∙ e
-    cases (inr k) = at_most (box (slice_index_or ps i d)).lo.y (box (slice_index_or ps j d)).lo.y y (rising i j d (omega arith) l) e
-
-pub rising_more : (ps : List Patch) (k : ℕ) (last : ℤ) → ((i j : ℕ) (d : Patch) → i < j → j < k → (box (slice_index_or ps i d)).lo.y ≤ℤ (box (slice_index_or ps j d)).lo.y) → ((i : ℕ) (d : Patch) → i < k → (box (slice_index_or ps i d)).lo.y ≤ℤ last) → ((d : Patch) → last ≤ℤ (box (slice_index_or ps k d)).lo.y) → (i j : ℕ) (d : Patch) → i < j → j < k + 1 → (box (slice_index_or ps i d)).lo.y ≤ℤ (box (slice_index_or ps j d)).lo.y
-rising_more ps k last old below here i j d h l = below_more (λ (m : ℕ). i < m → (box (slice_index_or ps i d)).lo.y ≤ℤ (box (slice_index_or ps m d)).lo.y) k (λ m lt g. old i m d g lt) (λ g. omega (arith, ints, below i d g, here d)) j l h
+use Rattle.amr_patch.proofs.Rows.{inside}
 
 -- ---- what a part of the list has
 
@@ -64,12 +47,8 @@ apart_between ps from n apart = λ i j d lt l c a b.
 
 -- ---- patches too low or too high
 
-pub too_low : (p : Patch) (c : Cell) (low y : ℤ) (tallest : ℕ) → height (box p) ≤ tallest → y ≡ low -ℤ pos tallest → int_le (box p).lo.y y ≡ true → low ≤ℤ c.y → holds (box p) c ≡ false
-too_low p c low y tallest tall is e from = false_from_ne_true (holds (box p) c) (λ h.
-    let s = sides (box p) p.near in
-    let i = inside (box p) c h in
-    let under = le_from (box p).lo.y y e in
-    omega (arith, ints, s.high, i.north, under, from, tall, is))
+pub too_low : (p : Patch) (c : Cell) (low : ℤ) → (box p).hi.y <ℤ low → low ≤ℤ c.y → holds (box p) c ≡ false
+too_low p c low under from = false_from_ne_true (holds (box p) c) (λ h. let i = inside (box p) c h in omega (arith, ints, i.north, under, from))
 
-pub too_high : (p : Patch) (c : Cell) (y : ℤ) → int_le (box p).lo.y y ≡ false → c.y ≤ℤ y → holds (box p) c ≡ false
-too_high p c y e to = false_from_ne_true (holds (box p) c) (λ h. let i = inside (box p) c h in let over = above_from (box p).lo.y y e in omega (arith, ints, i.south, over, to))
+pub too_high : (p : Patch) (c : Cell) (high : ℤ) → high <ℤ (box p).lo.y → c.y ≤ℤ high → holds (box p) c ≡ false
+too_high p c high over to = false_from_ne_true (holds (box p) c) (λ h. let i = inside (box p) c h in omega (arith, ints, i.south, over, to))

@@ -119,7 +119,7 @@ child_more ps i p c lt at =
 
 -- ---- covered cells
 
-covered_in : (ps : List Patch) (c : Cell) → is_covered (masses_in ps) c ≡ has_child_where (in_patches ps) c
+pub covered_in : (ps : List Patch) (c : Cell) → is_covered (masses_in ps) c ≡ has_child_where (in_patches ps) c
 unfolding is_covered
 covered_in ps c i = some_mass ps (child c 0) i || some_mass ps (child c 1) i || some_mass ps (child c 2) i || some_mass ps (child c 3) i
 

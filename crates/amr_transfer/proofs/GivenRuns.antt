@@ -82,7 +82,7 @@ take_run fine n size =
 in_run : (fine : List Patch) (n size : ℕ) (c : Cell) → in_patches (take (n + size) fine) c ≡ (in_patches (take n fine) c || in_patches (take size (drop n fine)) c)
 in_run fine n size c = ap (λ (qs : List Patch). in_patches qs c) (take_run fine n size) ∙ list_any-append (λ (p : Patch). holds (box p) c) (take n fine) (take size (drop n fine))
 
-in_all : (fine : List Patch) (n : ℕ) (c : Cell) → in_patches fine c ≡ (in_patches (take n fine) c || in_patches (drop n fine) c)
+pub in_all : (fine : List Patch) (n : ℕ) (c : Cell) → in_patches fine c ≡ (in_patches (take n fine) c || in_patches (drop n fine) c)
 in_all fine n c = ap (λ (qs : List Patch). in_patches qs c) (sym (take-append-drop n fine)) ∙ list_any-append (λ (p : Patch). holds (box p) c) (take n fine) (drop n fine)
 
 pub run_among : (fine : List Patch) (n size : ℕ) (c : Cell) → in_patches (take size (drop n fine)) c ≡ true → in_patches fine c ≡ true

@@ -11,3 +11,4 @@ pub mod ListParts
 pub mod ByRows
 pub mod PackedSums
 pub mod GivenRuns
+pub mod Covers

@@ -4,15 +4,15 @@ ghost use Rattle.std.specs.Prelude.{◌≡◌, ◌&&◌, pos, ◌+ℤ◌, ◌≤
 ghost use Rattle.amr_box.specs.declared.Cell.{Cell};
 ghost use Rattle.amr_box.specs.Cells.{IsBoxOf, IsNear, holds};
 ghost use Rattle.amr_def.specs.State.{mass_of};
+ghost use Rattle.amr_patch.specs.Orders.{IsOrderOf};
 ghost use Rattle.amr_patch.specs.Patches.{ArePatchesApart, box, mass_in, masses_in};
 ghost use Rattle.amr_transfer.specs.Given.{IsGiven, span};
-ghost use Rattle.amr_transfer.specs.Windows.{AreRowsOf};
 
 use crate::cells::above;
 use crate::giving::give;
-use crate::windows::{Rows, reaching};
+use crate::windows::reaching;
 use amr_box::{Bx, Cell};
-use amr_patch::Patch;
+use amr_patch::{Order, Patch};
 
 /// Gives cells of a row of a patch, from one of them on, the masses that an old patch has there.
 fn keep_span(old: &Patch, patch: &mut Patch, c: Cell, count: u32)
@@ -48,12 +48,12 @@ fn keep_patch(old: &Patch, patch: &mut Patch)
 }
 
 /// Gives the cells that old patches have the masses that they have.
-pub(crate) fn keep(old: &[Patch], rows: Rows, patch: &mut Patch)
-    requires rows { AreRowsOf rows old.now }
+pub(crate) fn keep(old: &[Patch], order: Order, patch: &mut Patch)
+    requires order { IsOrderOf order old.now }
     requires apart { ArePatchesApart old.now }
     ensures { IsGiven (λ c. is_some (masses_in old.now c)) (mass_of (masses_in old.now)) patch.old patch.new }
 {
-    for q in reaching(old, rows, &patch.bx()) {
+    for q in reaching(old, order, &patch.bx()) {
         keep_patch(q, patch);
     }
 }

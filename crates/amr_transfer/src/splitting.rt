@@ -9,18 +9,17 @@ ghost use Rattle.amr_def.specs.Regrid.{refilled, share, split_mass};
 ghost use Rattle.amr_def.specs.State.{children_mass, mass_of};
 ghost use Rattle.amr_patch.specs.Levels.{level_of, patches_of};
 ghost use Rattle.amr_patch.specs.Pairwise.{Pairwise};
+ghost use Rattle.amr_patch.specs.Orders.{IsOrderOf};
 ghost use Rattle.amr_patch.specs.Patches.{ArePatchesApart, KeepsFrameAndFluxes, box, in_patches, masses_in};
 ghost use Rattle.amr_transfer.specs.Given.{HasMasses, IsGiven, span};
 ghost use Rattle.amr_transfer.specs.Shares.{HasChildren, IsInSync, kept_or_split, masses_before};
-ghost use Rattle.amr_transfer.specs.Windows.{AreRowsOf};
 
 use crate::cells::{ROOM, above, ahead, cells_from, odd};
 use crate::giving::give;
 use crate::keeping::keep;
 use crate::sharing::{Alone, Sharing};
-use crate::windows::{Rows, rows_of};
 use amr_box::{Cell, parent};
-use amr_patch::{Level, Patch, find_near};
+use amr_patch::{Level, Order, Patch, find_near, order_of};
 
 /// What child `k` gets of its parent's mass: a quarter, and one more for the first of the four.
 fn share(mass: u32, k: u32) -> u32
@@ -108,19 +107,19 @@ fn fill_patch(
     coarse: &Level,
     near: &mut usize,
     old: &[Patch],
-    rows: Rows,
+    order: Order,
     patch: &mut Patch,
     room: &mut [u32],
 )
     requires parents { (c : Cell) → IsTrue (holds (box patch.old) c) → IsSome ((level_of coarse.now).masses (parent c)) }
-    requires rows { AreRowsOf rows old.now }
+    requires order { IsOrderOf order old.now }
     requires apart { ArePatchesApart old.now }
     requires room { length room.old ≡ 256 }
     ensures kept { KeepsFrameAndFluxes patch.old patch.new }
     ensures masses { HasMasses (kept_or_split (level_of coarse.now).masses (masses_in old.now)) patch.new }
 {
     split_patch(coarse, near, patch, room);
-    keep(old, rows, patch);
+    keep(old, order, patch);
 }
 
 /// The same of a list of patches.
@@ -130,11 +129,11 @@ pub(crate) fn fill_all(coarse: &Level, old: &[Patch], patches: &mut [Patch])
     ensures kept { Pairwise KeepsFrameAndFluxes patches.old patches.new }
     ensures masses { All (HasMasses (kept_or_split (level_of coarse.now).masses (masses_in old.now))) patches.new }
 {
-    let rows = rows_of(old);
+    let order = order_of(old);
     let mut near = 0;
     let mut room = [0u32; ROOM];
     for i in 0..patches.len() {
-        fill_patch(coarse, &mut near, old, rows, &mut patches[i], &mut room);
+        fill_patch(coarse, &mut near, old, order, &mut patches[i], &mut room);
     }
 }
 

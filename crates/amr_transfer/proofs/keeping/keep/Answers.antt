@@ -3,7 +3,7 @@ use Rattle.std.specs.Prelude.{is_some}
 use Rattle.std.specs.declared.option.Option.{Option}
 use Rattle.std.specs.Option.{unwrap_or}
 use Rattle.std.proofs.lemmas.List.{take_all}
-use Rattle.amr_box.specs.Cells.{Extent, IsNear, holds}
+use Rattle.amr_box.specs.Cells.{Extent, holds}
 use Rattle.amr_def.specs.State.{mass_of}
 use Rattle.amr_patch.proofs.Lookups.{some_mass}
 use Rattle.amr_patch.specs.declared.patches.Patch.{Patch}
@@ -11,9 +11,6 @@ use Rattle.amr_patch.specs.Patches.{box, in_patches, mass_in, masses_in}
 use Rattle.amr_transfer.proofs.GivenCells.{given_as, given_more, given_none}
 use Rattle.amr_transfer.proofs.PatchLists.{in_more, mass_there}
 use Rattle.amr_transfer.proofs.keeping.keep.Goals as goal
-
-pub reaching-q-items-requires-clause-near : goal.reaching-q-items-requires-clause-near
-reaching-q-items-requires-clause-near c = subst (λ (b : Extent). IsNear b) (sym c.bx.ensures.value) c.bx.ensures.near
 
 pub loop-q-init : goal.loop-q-init
 loop-q-init c =

@@ -1,4 +1,4 @@
-use Rattle.std.proofs.Common.{◌-◌, ◌≤◌, arith}
+use Rattle.std.proofs.Common.{◌-◌, arith}
 use Rattle.std.proofs.lemmas.Int.{ints}
 use Rattle.std.specs.Prelude.{slice_index_or}
 use Rattle.amr_patch.proofs.Rows.{inside}
@@ -8,13 +8,12 @@ use Rattle.amr_transfer.proofs.windows.reaching.Goals as goal
 pub returns-clause-masses : goal.returns-clause-masses
 returns-clause-masses c d h =
     let ps = c.args.patches.now in
-    let from = c.min-start.result in
-    let to = c.count_up_to-end.result in
+    let from = c.reach_of-from.result.0 in
+    let to = c.reach_of-from.result.1 in
     let at = inside c.args.b.now d h in
-    let order : from ≤ to = omega (arith, c.min-start.ensures) in
-    masses_between ps from to (to - from) d (omega arith)
-    (λ i e lt l. too_low (slice_index_or ps i e) d c.from-low.result _ c.args.rows.tallest (c.requires.rows.tallest i e l) (omega (arith, ints, c.from.ensures)) (c.count_up_to.ensures.parts.0 i e (omega arith) (omega (arith, c.min-start.ensures, lt))) (omega (arith, ints, c.from-low.ensures, c.lo.ensures.y, at.south)))
-    (λ i e le lt. too_high (slice_index_or ps i e) d _ (c.count_up_to-end.ensures.parts.1 i e le lt) (omega (arith, ints, c.from-high.ensures, c.hi.ensures.y, at.north)))
+    masses_between ps from to (to - from) d (omega (arith, c.reach_of-from.ensures.range))
+    (λ i e lt l. too_low (slice_index_or ps i e) d _ (c.reach_of-from.ensures.below i e lt) (omega (arith, ints, c.lo.ensures.y, at.south)))
+    (λ i e le lt. too_high (slice_index_or ps i e) d _ (c.reach_of-from.ensures.above i e le lt) (omega (arith, ints, c.hi.ensures.y, at.north)))
 
 pub returns-clause-apart : goal.returns-clause-apart
-returns-clause-apart c = apart_between c.args.patches.now c.min-start.result (c.count_up_to-end.result - c.min-start.result) c.requires.apart
+returns-clause-apart c = apart_between c.args.patches.now c.reach_of-from.result.0 (c.reach_of-from.result.1 - c.reach_of-from.result.0) c.requires.apart
