@@ -13,7 +13,6 @@ pub mod FineBoxes
 pub mod BeltCells
 pub mod BandLists
 pub mod Refluxes
-pub mod Kept
 pub mod PatchRefluxes
 pub mod PatchSums
 pub mod Owners
@@ -31,3 +30,4 @@ pub mod Numbers
 pub mod FewCells
 pub mod WholeBands
 pub mod SameCells
+pub mod BoxesAt

@@ -13,14 +13,18 @@ use Rattle.amr_register.specs.EdgeCells.{AreEdgesIn, HasNet, HaveNets, IsSmallNe
 use Rattle.amr_register.proofs.Changed.{AreChanged}
 use Rattle.amr_register.proofs.EdgeLists.{first_of, zip_at}
 
+-- each box has a list of cells
+pub boxes_count : (qs : List Patch) (xs : List (List EdgeCell)) → AllZip AreEdgesIn (map box qs) xs → length xs ≡ length qs
+boxes_count qs xs h = AllZip-long AreEdgesIn (map box qs) xs h ∙ length-map qs box
+
+pub list_in_box : (qs : List Patch) (xs : List (List EdgeCell)) (k : ℕ) (q : Patch) → AllZip AreEdgesIn (map box qs) xs → k < length qs → AreEdgesIn (box (get_or qs k q)) (get_or xs k [])
+list_in_box qs xs k q h lt = subst (λ (b : Extent). AreEdgesIn b (get_or xs k [])) (get_or-map box qs k q (box q) lt) (zip_at AreEdgesIn (map box qs) xs k (box q) [] h (omega (arith, lt, length-map qs box)))
+
 pub lists_count : (qs : List Patch) (vs : List (Vec EdgeCell)) → AllZip AreEdgesIn (map box qs) (lists_of vs) → length vs ≡ length qs
-lists_count qs vs h = sym (length-map vs (λ (v : Vec EdgeCell). v.items)) ∙ AllZip-long AreEdgesIn (map box qs) (lists_of vs) h ∙ length-map qs box
+lists_count qs vs h = sym (length-map vs (λ (v : Vec EdgeCell). v.items)) ∙ boxes_count qs (lists_of vs) h
 
 pub list_inside : (qs : List Patch) (vs : List (Vec EdgeCell)) (k : ℕ) (q : Patch) (v : Vec EdgeCell) → AllZip AreEdgesIn (map box qs) (lists_of vs) → k < length qs → AreEdgesIn (box (get_or qs k q)) (get_or vs k v).items
-list_inside qs vs k q v h lt =
-    let there : k < length vs = omega (arith, lt, lists_count qs vs h) in
-    subst (λ (b : Extent). AreEdgesIn b (get_or vs k v).items) (get_or-map box qs k q (box q) lt)
-    (subst (AreEdgesIn (get_or (map box qs) k (box q))) (get_or-map (λ (w : Vec EdgeCell). w.items) vs k v [] there) (zip_at AreEdgesIn (map box qs) (lists_of vs) k (box q) [] h (omega (arith, lt, length-map qs box))))
+list_inside qs vs k q v h lt = subst (AreEdgesIn (box (get_or qs k q))) (get_or-map (λ (w : Vec EdgeCell). w.items) vs k v [] (omega (arith, lt, lists_count qs vs h))) (list_in_box qs (lists_of vs) k q h lt)
 
 -- list k of all lists
 pub lists_number : (vs : List (Vec EdgeCell)) (k : ℕ) → k < length vs → k < length (lists_of vs)

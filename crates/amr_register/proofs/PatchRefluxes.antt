@@ -1,121 +1,102 @@
--- Patches to whose masses entries are added.
-use Rattle.std.proofs.Common.{◌≡◌, ◌∙◌, ℕ, ◌+◌, ◌<◌, Bool, true, false, cond, ℤ, pos, ◌+ℤ◌, List, [], length, map, refl, sym, ap, subst, arith}
-use Rattle.std.specs.Prelude.{slice_index_or, slice_set}
-use Rattle.std.specs.List.{All, AllZip}
-use Rattle.std.specs.Global.{Vec}
-use Rattle.std.specs.Option.{unwrap_or}
-use Rattle.std.specs.declared.option.Option.{Option}
-use Rattle.std.proofs.lemmas.Bool.{both_ways}
-use Rattle.std.specs.declared.option.Option.TheVariants.{Some}
+-- A patch to whose masses the entries of its register cells are added.
+use Rattle.std.proofs.Common.{◌≡◌, ◌∙◌, ℕ, ◌+◌, ◌<◌, Bool, true, false, ◌⊎◌, inl, inr, ℤ, pos, ◌+ℤ◌, List, [], length, get_or, refl, sym, ap, subst, arith}
+use Rattle.std.specs.List.{All, Contains}
+use Rattle.std.proofs.lemmas.Bool.{cond-false, cond-true}
 use Rattle.amr_box.specs.declared.Cell.{Cell}
 use Rattle.amr_box.specs.Cells.{Extent, at_least_zero, holds}
-use Rattle.amr_box.proofs.CellEquality.{cell_apart, cell_itself, cell_same, is_cell}
-use Rattle.amr_def.specs.State.{mass_of}
 use Rattle.amr_patch.specs.declared.patches.Patch.{Patch}
-use Rattle.amr_patch.specs.Orders.{IsHolder}
-use Rattle.amr_patch.specs.Pairwise.{Pairwise}
-use Rattle.amr_patch.specs.Patches.{ArePatchesApart, KeepsFrameAndFluxes, SameFluxes, SameMarks, SameOtherValues, box, mass_in, masses_in}
-use Rattle.amr_patch.proofs.LevelLaws.{all_kept, frames_set, ghosts_stay, masses_set_other, masses_set_same}
-use Rattle.amr_patch.proofs.Lookups.{masses_in-at, same_default}
-use Rattle.amr_patch.proofs.Rows.{zero-cut}
-use Rattle.amr_patch.proofs.SameBoxes.{box_at, same_length}
-use Rattle.amr_patch.proofs.Keeping.{kept_apart, kept_boxes}
+use Rattle.amr_patch.specs.Patches.{KeepsFrameAndFluxes, SameFluxes, SameMarks, SameOtherValues, box, mass_in}
+use Rattle.amr_patch.proofs.Entries.{in_grown}
+use Rattle.amr_patch.proofs.Keeping.{kept_twice}
+use Rattle.amr_patch.proofs.LevelLaws.{ghosts_stay, itself}
 use Rattle.amr_register.specs.declared.edges.EdgeCell.{EdgeCell}
-use Rattle.amr_register.specs.EdgeCells.{AreEdgesIn, AreOnceBy, cell_of, lists_of}
-use Rattle.amr_register.specs.Written.{AreAllWritten, AreKeysApart, AreWritten, by_number, mass_with}
-use Rattle.amr_register.proofs.Kept.{all_kept_twice}
-use Rattle.amr_register.proofs.NetLists.{list_inside}
-use Rattle.amr_register.proofs.Refluxes.{with_entry}
-use Rattle.amr_register.proofs.Writes.{none_all_written, none_written, one_list, one_written}
+use Rattle.amr_register.specs.EdgeCells.{AreEdgesIn, HaveEachOnce, IsNumbered, IsPlaceIn, Place, cell_of, edge_at}
+use Rattle.amr_register.specs.Entries.{AreRising, entry_at}
+use Rattle.amr_register.specs.Written.{AreKeysApart, AreWritten, by_number, own_mass, with_entry}
+use Rattle.amr_register.proofs.EntryLaws.{entry_of_none}
+use Rattle.amr_register.proofs.Numbers.{edge_entry, edge_listed, numbered_at}
+use Rattle.amr_register.proofs.Taken.{no_edge}
+use Rattle.amr_register.proofs.Writes.{none_written, not_yet, one_written}
 
--- ---- the write of one mass
+-- ---- its own masses
 
--- the mass of a cell that patch k has
-pub mass_there : (ps : List Patch) (k : ℕ) (c : Cell) (q : Patch) → ArePatchesApart ps → IsHolder ps c k → mass_of (masses_in ps) c ≡ mass_in (slice_index_or ps k q) c
-mass_there ps k c q apart found = ap (λ (o : Option ℕ). unwrap_or o 0) (masses_in-at ps c k q apart found)
+own_there : (p : Patch) (c : Cell) → holds (box p) c ≡ true → own_mass p c ≡ mass_in p c
+own_there p c h = cond-true _ _ _ h
 
--- patch q at place k was replaced by p, which has mass w at the cell and all else of q
-module _ (ps : List Patch) (k : ℕ) (c : Cell) (q p : Patch) (apart : ArePatchesApart ps) (found : IsHolder ps c k) (at : q ≡ slice_index_or ps k q) (of_box : box p ≡ box q) (others : SameOtherValues c q p) where
-  same_box : box p ≡ box (slice_index_or ps k p)
-  same_box = of_box ∙ ap (λ (r : Patch). box r) (at ∙ same_default ps k q p found.inside)
+own_none : (p : Patch) (c : Cell) → holds (box p) c ≡ false → own_mass p c ≡ 0
+own_none p c h = cond-false _ _ _ h
 
-  held : holds (box q) c ≡ true
-  held = ap (λ (r : Patch). holds (box r) c) at ∙ found.holds_it q
-
-  pub mass_after : (v w : ℕ) (e : ℤ) → mass_in q c ≡ v → mass_in p c ≡ w → pos w ≡ pos v +ℤ e → (d : Cell) → masses_in (slice_set ps k p) d ≡ with_entry (masses_in ps) c e d
-  mass_after v w e is_v is_w sum d = by_test (is_cell d c) refl
-    where
-      wrote : masses_in (slice_set ps k p) c ≡ Some w
-      wrote = masses_set_same ps k c p found.inside same_box apart (ap (λ (b : Extent). holds b c) of_box ∙ held) ∙ ap Some is_w
-
-      by_test : (t : Bool) → is_cell d c ≡ t → masses_in (slice_set ps k p) d ≡ with_entry (masses_in ps) c e d
-      by_test true s =
-          ap (masses_in (slice_set ps k p)) (cell_same d c s) ∙ wrote
-          ∙ ap Some (sym (zero-cut (pos (mass_of (masses_in ps) c) +ℤ e) w (sum ∙ ap (λ (n : ℕ). pos n +ℤ e) (sym (mass_there ps k c q apart found ∙ ap (λ (r : Patch). mass_in r c) (sym at) ∙ is_v)))))
-          ∙ sym (ap (λ (b : Bool). cond b (Some (at_least_zero (pos (mass_of (masses_in ps) c) +ℤ e))) (masses_in ps d)) s)
-      by_test false s =
-          masses_set_other ps k c d p found.inside same_box (subst (λ (r : Patch). SameOtherValues c r p) (at ∙ same_default ps k q p found.inside) others) (λ same. both_ways (is_cell d c) s (ap (λ (r : Cell). is_cell r c) same ∙ cell_itself c))
-          ∙ sym (ap (λ (b : Bool). cond b (Some (at_least_zero (pos (mass_of (masses_in ps) c) +ℤ e))) (masses_in ps d)) s)
-
-  pub all_else_kept : SameMarks q p → SameFluxes q p → Pairwise KeepsFrameAndFluxes ps (slice_set ps k p)
-  all_else_kept marks fluxes = frames_set ps k p q found.inside at (record { of_box = of_box; ghosts = ghosts_stay c q p held others; marks = marks; fluxes = fluxes })
+still_held : (p q : Patch) (c : Cell) → box q ≡ box p → holds (box p) c ≡ true → holds (box q) c ≡ true
+still_held p q c same h = ap (λ (b : Extent). holds b c) same ∙ h
 
 -- ---- cell by cell
 
--- patches keep their cells
-pub held_still : (ps qs : List Patch) (c : Cell) (k : ℕ) → Pairwise KeepsFrameAndFluxes ps qs → IsHolder ps c k → IsHolder qs c k
-held_still ps qs c k kept h =
-    let boxes = kept_boxes ps qs kept in
-    record { inside = omega (arith, h.inside, same_length qs ps boxes); holds_it = λ d. ap (λ (b : Extent). holds b c) (box_at qs ps k d boxes) ∙ h.holds_it d }
+-- the first n cells of a list have their entries, and the patch keeps all else
+pub record IsPartly (es : List ℤ) (list : List EdgeCell) (old now : Patch) (n : ℕ) : Type 0 where
+  pub masses : AreWritten cell_of (with_entry es) list (own_mass old) (own_mass now) n
+  pub kept : KeepsFrameAndFluxes old now
 
--- the first n cells of a list have their entries, and the patches keep all else
-pub record IsPartly (es : List ℤ) (list : List EdgeCell) (old now : List Patch) (n : ℕ) : Type 0 where
-  pub masses : AreWritten cell_of (mass_with es) list (masses_in old) (masses_in now) n
-  pub kept : Pairwise KeepsFrameAndFluxes old now
-  pub apart : ArePatchesApart now
+pub at_start : (es : List ℤ) (list : List EdgeCell) (p : Patch) → IsPartly es list p p 0
+at_start es list p = record { masses = none_written cell_of (with_entry es) list (own_mass p); kept = itself p }
 
-pub at_start : (es : List ℤ) (list : List EdgeCell) (ps : List Patch) → ArePatchesApart ps → IsPartly es list ps ps 0
-at_start es list ps apart = record { masses = none_written cell_of (mass_with es) list (masses_in ps); kept = all_kept ps; apart = apart }
+module _ (es : List ℤ) (list : List EdgeCell) (old now : Patch) (n : ℕ) (d : EdgeCell) (once : AreKeysApart cell_of list) (inside : AreEdgesIn (box old) list) (h : IsPartly es list old now n) (lt : n < length list) where
+  abbrev pub next : Cell
+  next = (get_or list n d).cell
 
-pub one_further : (es : List ℤ) (list : List EdgeCell) (old now new : List Patch) (n : ℕ) (d : EdgeCell) (e : ℤ) → AreKeysApart cell_of list → IsPartly es list old now n → n < length list → e ≡ by_number es (slice_index_or list n d).number
-    → ((q : Cell) → masses_in new q ≡ with_entry (masses_in now) (slice_index_or list n d).cell e q) → Pairwise KeepsFrameAndFluxes now new → IsPartly es list old new (n + 1)
-one_further es list old now new n d e once h lt is_e wrote kept = record {
-  masses = one_written cell_of (mass_with es) list (masses_in old) (masses_in now) (masses_in new) n d once h.masses lt here others;
-  kept = all_kept_twice old now new h.kept kept;
-  apart = kept_apart now new kept h.apart;
-}
-  where
-    c : Cell
-    c = (slice_index_or list n d).cell
+  -- the next cell is one of the patch, and has the mass of before
+  pub next_held : holds (box now) next ≡ true
+  next_held = still_held old now next h.kept.of_box (inside n d lt)
 
-    by_test : (q : Cell) (t : Bool) → is_cell q c ≡ t → masses_in new q ≡ cond t (Some (at_least_zero (pos (mass_of (masses_in now) c) +ℤ e))) (masses_in now q)
-    by_test q t s = wrote q ∙ ap (λ (b : Bool). cond b (Some (at_least_zero (pos (mass_of (masses_in now) c) +ℤ e))) (masses_in now q)) s
+  pub next_mass : mass_in now next ≡ mass_in old next
+  next_mass = sym (own_there now next next_held) ∙ not_yet cell_of (with_entry es) list (own_mass old) (own_mass now) n d once h.masses lt ∙ own_there old next (inside n d lt)
 
-    here : masses_in new c ≡ mass_with es (slice_index_or list n d) (masses_in now c)
-    here = by_test c true (cell_itself c) ∙ ap (λ (z : ℤ). Some (at_least_zero (pos (mass_of (masses_in now) c) +ℤ z))) is_e
+  pub one_further : (new : Patch) → mass_in new next ≡ with_entry es (get_or list n d) (mass_in now next) → SameOtherValues next now new → SameMarks now new → SameFluxes now new → box new ≡ box now → IsPartly es list old new (n + 1)
+  one_further new set others marks fluxes of_box = record {
+    masses = one_written cell_of (with_entry es) list (own_mass old) (own_mass now) (own_mass new) n d once h.masses lt here (λ k ne. elsewhere k ne (holds (box now) k) refl);
+    kept = kept_twice old now new h.kept (record { of_box = of_box; ghosts = ghosts_stay next now new next_held others; marks = marks; fluxes = fluxes });
+  }
+    where
+      here : own_mass new next ≡ with_entry es (get_or list n d) (own_mass now next)
+      here = own_there new next (still_held now new next of_box next_held) ∙ set ∙ ap (with_entry es (get_or list n d)) (sym (own_there now next next_held))
 
-    others : (q : Cell) → (c ≡ q → ⊥) → masses_in new q ≡ masses_in now q
-    others q ne = by_test q false (cell_apart q c (λ s. ne (sym s)))
+      elsewhere : (k : Cell) → (next ≡ k → ⊥) → (t : Bool) → holds (box now) k ≡ t → own_mass new k ≡ own_mass now k
+      elsewhere k ne true s = own_there new k (still_held now new k of_box s) ∙ others k (in_grown (box now) k s) (λ e. ne (sym e)) ∙ sym (own_there now k s)
+      elsewhere k ne false s = own_none new k (ap (λ (b : Extent). holds b k) of_box ∙ s) ∙ sym (own_none now k s)
 
--- ---- list by list
+-- ---- all cells of list k
 
--- a patch has the cells of its list
-pub list_held : (ps qs : List Patch) (vs : List (Vec EdgeCell)) (k : ℕ) (v : Vec EdgeCell) → AllZip AreEdgesIn (map box ps) (lists_of vs) → Pairwise KeepsFrameAndFluxes ps qs → k < length ps → All (λ e. IsHolder qs e.cell k) (slice_index_or vs k v).items
-list_held ps qs vs k v held kept lt i e below = held_still ps qs (slice_index_or (slice_index_or vs k v).items i e).cell k kept (record { inside = lt; holds_it = λ d. list_inside ps vs k d v held lt i e below })
+module _ (cs : List Cell) (es : List ℤ) (xs : List (List EdgeCell)) (k : ℕ) (rises : AreRising cs) (count : length es ≡ length cs) (placed : HaveEachOnce cs xs) (lt : k < length xs) where
+  -- what holds of the sum of a mass and its entry, at each cell of the list
+  pub each_sum : (P : ℤ → Type 0) (p : Patch) (list : List EdgeCell) (zs : List ℤ) → list ≡ get_or xs k [] → zs ≡ es → ((c : Cell) → Contains cs c → holds (box p) c ≡ true → P (pos (mass_in p c) +ℤ entry_at cs es c)) → AreEdgesIn (box p) list → All (λ e. P (pos (mass_in p e.cell) +ℤ by_number zs e.number)) list
+  each_sum P p list zs is_list are_entries h inside i e below =
+      let x : EdgeCell = get_or list i e in
+      let numbered : IsNumbered cs x = subst (All (IsNumbered cs)) (sym is_list) (placed.numbered k [] lt) i e below in
+      let entry = edge_entry cs es x rises count numbered ∙ ap (λ (ys : List ℤ). by_number ys x.number) (sym are_entries) in
+      subst (λ (z : ℤ). P (pos (mass_in p x.cell) +ℤ z)) entry (h x.cell (edge_listed cs x numbered) (inside i e below))
 
--- the cells of the first n lists have their entries, and the patches keep all else
-pub record ArePartly (es : List ℤ) (xs : List (List EdgeCell)) (old now : List Patch) (n : ℕ) : Type 0 where
-  pub masses : AreAllWritten cell_of (mass_with es) xs (masses_in old) (masses_in now) n
-  pub kept : Pairwise KeepsFrameAndFluxes old now
-  pub apart : ArePatchesApart now
+  -- no other list has cells of the patch, so each cell has its entry, which is 0 where it is no register cell
+  pub patch_refluxed : (old new : Patch) → ((w : Place) (e : EdgeCell) → IsPlaceIn xs w → holds (box old) (edge_at xs w e).cell ≡ true → w.list ≡ k) → box new ≡ box old → AreWritten cell_of (with_entry es) (get_or xs k []) (own_mass old) (own_mass new) (length (get_or xs k []))
+      → (c : Cell) → holds (box old) c ≡ true → Contains cs c ⊎ (Contains cs c → ⊥) → mass_in new c ≡ at_least_zero (pos (mass_in old c) +ℤ entry_at cs es c)
+  patch_refluxed old new others of_box wrote c held among =
+      sym (own_there new c (still_held old new c of_box held)) ∙ own among ∙ ap (λ (v : ℕ). at_least_zero (pos v +ℤ entry_at cs es c)) (own_there old c held)
+    where
+      HasEntry : Cell → ℤ → Type 0
+      HasEntry q z = own_mass new q ≡ at_least_zero (pos (own_mass old q) +ℤ z)
 
-pub all_at_start : (es : List ℤ) (xs : List (List EdgeCell)) (ps : List Patch) → ArePatchesApart ps → ArePartly es xs ps ps 0
-all_at_start es xs ps apart = record { masses = none_all_written cell_of (mass_with es) xs (masses_in ps); kept = all_kept ps; apart = apart }
+      unchanged : (v : ℕ) → v ≡ at_least_zero (pos v +ℤ pos 0)
+      unchanged v = omega arith
 
-pub one_list_further : (es : List ℤ) (xs : List (List EdgeCell)) (old now new : List Patch) (n : ℕ) → AreOnceBy cell_of xs → ArePartly es xs old now n → n < length xs → AreWritten cell_of (mass_with es) (slice_index_or xs n []) (masses_in now) (masses_in new) (length (slice_index_or xs n []))
-    → Pairwise KeepsFrameAndFluxes now new → ArePartly es xs old new (n + 1)
-one_list_further es xs old now new n once h lt wrote kept = record {
-  masses = one_list cell_of (mass_with es) xs (masses_in old) (masses_in now) n once h.masses (masses_in new) lt wrote;
-  kept = all_kept_twice old now new h.kept kept;
-  apart = kept_apart now new kept h.apart;
-}
+      own : Contains cs c ⊎ (Contains cs c → ⊥) → HasEntry c (entry_at cs es c)
+      own (inl (n, below, s)) =
+          let p = placed.listed n below in
+          let inside = p.has.inside in
+          let x : EdgeCell = edge_at xs p.place no_edge in
+          let numbered = numbered_at cs xs p.place no_edge placed inside in
+          let is_c : x.cell ≡ c = numbered.cell c ∙ ap (λ (j : ℕ). get_or cs j c) (p.has.number no_edge) ∙ s in
+          let list : p.place.list ≡ k = others p.place no_edge inside (ap (holds (box old)) is_c ∙ held) in
+          let here : AreWritten cell_of (with_entry es) (get_or xs p.place.list []) (own_mass old) (own_mass new) (length (get_or xs p.place.list [])) = subst (λ (j : ℕ). AreWritten cell_of (with_entry es) (get_or xs j []) (own_mass old) (own_mass new) (length (get_or xs j []))) (sym list) wrote in
+          subst (λ (q : Cell). HasEntry q (entry_at cs es q)) is_c (subst (HasEntry x.cell) (sym (edge_entry cs es x rises count numbered)) (here.done p.place.at no_edge inside.at inside.at))
+      own (inr none) =
+          wrote.left c (λ i e below inside s. none (subst (Contains cs) s (edge_listed cs (get_or (get_or xs k []) i e) (placed.numbered k [] lt i e inside))))
+          ∙ unchanged (own_mass old c)
+          ∙ ap (λ (z : ℤ). at_least_zero (pos (own_mass old c) +ℤ z)) (sym (entry_of_none cs es c none))

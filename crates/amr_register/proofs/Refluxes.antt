@@ -1,51 +1,69 @@
--- Masses to which entries are added, cell by cell.
-use Rattle.std.proofs.Common.{◌≡◌, ◌∙◌, ℕ, ◌<◌, ◌⊎◌, inl, inr, true, cond, ℤ, pos, ◌+ℤ◌, List, [], length, get_or, refl, sym, ap, subst, arith}
-use Rattle.std.specs.Prelude.{is_some, slice_index_or}
+-- The patches of a level, to whose masses the entries of its register cells are added.
+use Rattle.std.proofs.Common.{◌≡◌, ◌∙◌, ℕ, suc, ◌<◌, ◌≤◌, Bool, true, false, ℤ, pos, ◌+ℤ◌, List, [], ◌∷◌, length, map, refl, sym, ap, subst, arith}
+use Rattle.std.specs.Prelude.{slice_index_or}
 use Rattle.std.specs.Option.{option_map, unwrap_or}
-use Rattle.std.specs.List.{Contains}
 use Rattle.std.specs.declared.option.Option.{Option}
-use Rattle.std.specs.declared.option.Option.TheVariants.{None, Some}
-use Rattle.std.specs.Ordering.{eq_by_cmp}
+use Rattle.std.specs.declared.option.Option.TheVariants.{Some}
+use Rattle.std.proofs.lemmas.Bool.{cond-false, cond-true}
 use Rattle.amr_box.specs.declared.Cell.{Cell}
-use Rattle.amr_box.specs.Cells.{at_least_zero, cell_cmp}
-use Rattle.amr_def.specs.State.{Masses, mass_of}
-use Rattle.amr_register.specs.declared.edges.EdgeCell.{EdgeCell}
-use Rattle.amr_register.specs.EdgeCells.{HaveEachOnce, cell_of, edge_at}
-use Rattle.amr_register.specs.Entries.{AreRising, entry_at, with_entries}
-use Rattle.amr_register.specs.Written.{AreAllWritten, by_number, mass_with}
-use Rattle.amr_register.proofs.EntryLaws.{entry_of_none, entry_of_place}
+use Rattle.amr_box.specs.Cells.{Extent, at_least_zero, holds}
+use Rattle.amr_patch.specs.declared.patches.Patch.{Patch}
+use Rattle.amr_def.specs.State.{mass_of}
+use Rattle.amr_patch.specs.Orders.{IsHolder}
+use Rattle.amr_patch.specs.Pairwise.{Pairwise}
+use Rattle.amr_patch.specs.Patches.{ArePatchesApart, KeepsFrameAndFluxes, box, mass_in, masses_in}
+use Rattle.amr_patch.proofs.Lookups.{masses_in-at, same_default}
+use Rattle.amr_register.specs.declared.register.Register.{Register}
+use Rattle.amr_register.specs.Entries.{AreRising, with_entries}
+use Rattle.amr_register.specs.Registers.{HasEdgesOf, IsBoxAt}
+use Rattle.amr_register.proofs.BoxesAt.{box_at}
+use Rattle.amr_register.proofs.Changed.{AreChanged}
 use Rattle.amr_register.proofs.RowOrder.{row_cmp-itself}
-use Rattle.amr_register.proofs.Taken.{no_edge, same_at}
-
--- one mass with its entry
-abbrev pub with_entry : Masses → Cell → ℤ → Masses
-with_entry m c e d = cond (eq_by_cmp cell_cmp d c) (Some (at_least_zero (pos (mass_of m c) +ℤ e))) (m d)
+use Rattle.amr_register.proofs.Taken.{same_at}
 
 pub apart_places : (cs : List Cell) (i j : ℕ) (c d : Cell) → AreRising cs → i < j → j < length cs → slice_index_or cs i c ≡ slice_index_or cs j d → ⊥
 apart_places cs i j c d rises lt l e = row_cmp-itself (slice_index_or cs i d) (slice_index_or cs j d) (same_at cs i d c (omega arith) ∙ e) (rises i j d lt l)
 
-some_mass : (o : Option ℕ) (e : ℤ) → is_some o ≡ true → Some (at_least_zero (pos (unwrap_or o 0) +ℤ e)) ≡ option_map (λ v. at_least_zero (pos v +ℤ e)) o
-some_mass None e h = absurd (cc)
-some_mass (Some v) e h = refl
+-- a patch has its masses with their entries, and keeps all else
+pub record IsRefluxed (entry : Cell → ℤ) (p q : Patch) : Type 0 where
+  pub kept : KeepsFrameAndFluxes p q
+  pub masses : (c : Cell) → holds (box p) c ≡ true → mass_in q c ≡ at_least_zero (pos (mass_in p c) +ℤ entry c)
 
--- nothing is added
-zero_added : (o : Option ℕ) → option_map (λ v. at_least_zero (pos v +ℤ pos 0)) o ≡ o
-zero_added None = refl
-zero_added (Some v) = ap Some (omega arith)
+-- two lists of one length, place by place
+pairwise_from : {A : Type 0} (R : A → A → Type 0) (xs ys : List A) → length ys ≡ length xs → ((k : ℕ) (d e : A) → k < length xs → R (slice_index_or xs k d) (slice_index_or ys k e)) → Pairwise R xs ys
+pairwise_from R [] [] n h = tt
+pairwise_from R [] (y ∷ ys) n h = absurd (omega arith)
+pairwise_from R (x ∷ xs) [] n h = absurd (omega arith)
+pairwise_from R (x ∷ xs) (y ∷ ys) n h = (h 0 x y (omega arith), pairwise_from R xs ys (omega arith) (λ k d e lt. h (suc k) d e (omega arith)))
 
--- the cells of all lists have their entries, each once; a cell that is not among them has none
-pub all_added : (cs : List Cell) (es : List ℤ) (xs : List (List EdgeCell)) (before after : Masses) → AreRising cs → length es ≡ length cs → HaveEachOnce cs xs → ((c : Cell) → Contains cs c → is_some (before c) ≡ true) → AreAllWritten cell_of (mass_with es) xs before after (length xs)
-    → (q : Cell) → Contains cs q ⊎ (Contains cs q → ⊥) → after q ≡ with_entries (entry_at cs es) before q
-all_added cs es xs before after rises count h some wrote q (inl (k, lt, s)) =
-    let p = h.listed k lt in
-    let x : EdgeCell = edge_at xs p.place no_edge in
-    let number : x.number ≡ k = p.has.number no_edge in
-    let is_q : x.cell ≡ q = (h.numbered p.place.list [] p.has.inside.list p.place.at no_edge p.has.inside.at).cell q ∙ ap (λ (j : ℕ). get_or cs j q) number ∙ s in
-    let entry : by_number es x.number ≡ entry_at cs es q = ap (by_number es) number ∙ sym (entry_of_place cs es k q rises count lt) ∙ ap (entry_at cs es) s in
-    subst (λ (r : Cell). after r ≡ mass_with es x (before r)) is_q (wrote.done p.place no_edge p.has.inside.list p.has.inside)
-    ∙ some_mass (before q) (by_number es x.number) (some q (k, lt, s))
-    ∙ ap (λ (z : ℤ). option_map (λ v. at_least_zero (pos v +ℤ z)) (before q)) entry
-all_added cs es xs before after rises count h some wrote q (inr none) =
-    wrote.left q (λ w e below inside s. let n = h.numbered w.list [] inside.list w.at e inside.at in none ((edge_at xs w e).number, n.inside, sym (n.cell q) ∙ s))
-    ∙ sym (zero_added (before q))
-    ∙ sym (ap (λ (z : ℤ). option_map (λ v. at_least_zero (pos v +ℤ z)) (before q)) (entry_of_none cs es q none))
+-- so the level has its masses with their entries
+all_refluxed : (entry : Cell → ℤ) (ps qs : List Patch) (c : Cell) → Pairwise (IsRefluxed entry) ps qs → masses_in qs c ≡ with_entries entry (masses_in ps) c
+all_refluxed entry [] [] c h = refl
+all_refluxed entry [] (q ∷ qs) c h = absurd h
+all_refluxed entry (p ∷ ps) [] c h = absurd h
+all_refluxed entry (p ∷ ps) (q ∷ qs) c h = by_test (holds (box p) c) refl (all_refluxed entry ps qs c h.1)
+  where
+    add : Option ℕ → Option ℕ
+    add o = option_map (λ v. at_least_zero (pos v +ℤ entry c)) o
+
+    by_test : (t : Bool) → holds (box p) c ≡ t → masses_in qs c ≡ with_entries entry (masses_in ps) c → masses_in (q ∷ qs) c ≡ with_entries entry (masses_in (p ∷ ps)) c
+    by_test true s rest = cond-true _ _ _ (ap (λ (b : Extent). holds b c) h.0.kept.of_box ∙ s) ∙ ap Some (h.0.masses c s) ∙ ap add (sym (cond-true _ (Some (mass_in p c)) (masses_in ps c) s))
+    by_test false s rest = cond-false _ _ _ (ap (λ (b : Extent). holds b c) h.0.kept.of_box ∙ s) ∙ rest ∙ ap add (sym (cond-false _ (Some (mass_in p c)) (masses_in ps c) s))
+
+-- patch k at its turn, which is as it was
+module _ (ps : List Patch) (k : ℕ) (p q : Patch) (apart : ArePatchesApart ps) (lt : k < length ps) (is : p ≡ slice_index_or ps k q) where
+  pub turn_place : (r : Register) → HasEdgesOf (map box ps) r → IsBoxAt k (box p) r
+  turn_place r edges = subst (λ (x : Patch). IsBoxAt k (box x) r) (sym is) (box_at r ps k q edges apart lt)
+
+  pub turn_mass : (c : Cell) → holds (box p) c ≡ true → mass_of (masses_in ps) c ≡ mass_in p c
+  turn_mass c held =
+      let holder : IsHolder ps c k = record { inside = lt; holds_it = λ d. ap (λ (x : Patch). holds (box x) c) (same_default ps k d q lt ∙ sym is) ∙ held } in
+      ap (λ (o : Option ℕ). unwrap_or o 0) (masses_in-at ps c k q apart holder) ∙ ap (λ (x : Patch). mass_in x c) (sym is)
+
+-- all patches have had their turn
+module _ (entry : Cell → ℤ) (ps qs : List Patch) (n : ℕ) (all : length ps ≤ n) (h : AreChanged (λ k. IsRefluxed entry) ps qs n) where
+  pub all_have_entries : masses_in qs ≡ with_entries entry (masses_in ps)
+  all_have_entries = λ i c. all_refluxed entry ps qs c (pairwise_from (IsRefluxed entry) ps qs h.count (λ k d e lt. h.done k d e (omega (arith, lt, all)) lt)) i
+
+  pub all_frames_kept : Pairwise KeepsFrameAndFluxes ps qs
+  all_frames_kept = pairwise_from KeepsFrameAndFluxes ps qs h.count (λ k d e lt. (h.done k d e (omega (arith, lt, all)) lt).kept)

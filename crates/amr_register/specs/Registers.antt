@@ -1,9 +1,9 @@
 -- What a flux register has: the list of its cells, an entry for each, and for each patch of the level the cells that it has.
 -- (Berger and Colella)
-use Rattle.std.specs.Prelude.{◌≡◌, ℕ, ℤ, List}
+use Rattle.std.specs.Prelude.{◌≡◌, ◌<◌, ℕ, ℤ, List, [], length, slice_index_or, IsTrue}
 use Rattle.std.specs.List.{AllZip}
 use Rattle.amr_box.specs.declared.Cell.{Cell}
-use Rattle.amr_box.specs.Cells.{Extent}
+use Rattle.amr_box.specs.Cells.{Extent, holds}
 use Rattle.amr_def.specs.declared.problem.Problem.{Problem}
 use Rattle.amr_def.specs.Domain.{domain}
 use Rattle.amr_def.specs.State.{Masses, is_covered}
@@ -12,7 +12,7 @@ use Rattle.amr_register.specs.declared.edges.EdgeCell.{EdgeCell}
 use Rattle.amr_register.specs.declared.sides.CoveredSides.{CoveredSides}
 use Rattle.amr_register.specs.RegisterCells.{register_cells}
 use Rattle.amr_register.specs.Beside.{HaveSides}
-use Rattle.amr_register.specs.EdgeCells.{AreEdges, AreEdgesIn, HaveEachOnce, SameEdges, lists_of}
+use Rattle.amr_register.specs.EdgeCells.{AreEdges, AreEdgesIn, HaveEachOnce, IsPlaceIn, Place, SameEdges, edge_at, lists_of}
 use Rattle.amr_register.specs.Entries.{entry_at}
 
 -- its cells, in order
@@ -34,6 +34,12 @@ edges_in r = lists_of r.edges.items
 -- it has a list for each of these boxes, with cells of the box
 pub record HasEdgesOf (boxes : List Extent) (r : Register) : Type 0 where
   pub lists : AllZip AreEdgesIn boxes (edges_in r)
+
+-- this is the box of patch k of the level: list k has cells of it, and no other list has any
+pub record IsBoxAt (k : ℕ) (b : Extent) (r : Register) : Type 0 where
+  pub inside : k < length (edges_in r)
+  pub cells : AreEdgesIn b (slice_index_or (edges_in r) k [])
+  pub others : (w : Place) (e : EdgeCell) → IsPlaceIn (edges_in r) w → IsTrue (holds b (edge_at (edges_in r) w e).cell) → w.list ≡ k
 
 -- each of its cells stands in the lists once, with its number, and no others
 abbrev pub IsPlaced : Register → Type 0

@@ -1,9 +1,9 @@
 -- Edge cells that are gone over, each of which writes one value: an entry, or the mass of its cell.
-use Rattle.std.specs.Prelude.{◌≡◌, ℕ, ◌<◌, ◌≢◌, ℤ, pos, ◌+ℤ◌, ◌-ℤ◌, List, length, slice_index_or}
-use Rattle.std.specs.declared.option.Option.{Option}
-use Rattle.std.specs.declared.option.Option.TheVariants.{Some}
-use Rattle.std.specs.Option.{unwrap_or}
-use Rattle.amr_box.specs.Cells.{at_least_zero}
+use Rattle.std.specs.Prelude.{◌≡◌, ℕ, ◌<◌, ◌≢◌, cond, ℤ, pos, ◌+ℤ◌, ◌-ℤ◌, List, length, slice_index_or}
+use Rattle.amr_box.specs.declared.Cell.{Cell}
+use Rattle.amr_box.specs.Cells.{at_least_zero, holds}
+use Rattle.amr_patch.specs.declared.patches.Patch.{Patch}
+use Rattle.amr_patch.specs.Patches.{box, mass_in}
 use Rattle.amr_register.specs.declared.edges.EdgeCell.{EdgeCell}
 use Rattle.amr_register.specs.EdgeCells.{IsPlaceIn, Place, edge_at}
 
@@ -33,6 +33,10 @@ without_net e z = z -ℤ e.net
 
 -- ---- masses
 
--- a mass gets the entry of the cell
-abbrev pub mass_with : List ℤ → EdgeCell → Option ℕ → Option ℕ
-mass_with es e o = Some (at_least_zero (pos (unwrap_or o 0) +ℤ by_number es e.number))
+-- the mass of a cell of a patch; 0 past its box
+abbrev pub own_mass : Patch → Cell → ℕ
+own_mass p c = cond (holds (box p) c) (mass_in p c) 0
+
+-- a mass of a patch gets the entry of the cell
+abbrev pub with_entry : List ℤ → EdgeCell → ℕ → ℕ
+with_entry es e v = at_least_zero (pos v +ℤ by_number es e.number)

@@ -6,7 +6,8 @@
 //! looks no cell up. The coarse step works out what flows into them through the coarse-fine edges by the values of their patch
 //! ([`Register::find_all_nets`], or [`find_nets`] where the lists were taken out), and takes it away from the entries
 //! ([`Register::take_nets`]). What flowed through the finer faces there is added ([`Register::absorb`]). In the end each entry
-//! is added to its cell ([`Register::reflux`]). [`Register::clear`] makes it ready for the next step.
+//! is added to its cell ([`Register::reflux`], or [`Register::reflux_patch`] for one patch). [`Register::clear`] makes it ready for
+//! the next step.
 //!
 //! [`Register::coarse_part`] is the same by owners of faces: what one patch takes away.
 #![tactic(auto)]

@@ -11,7 +11,7 @@ use crate::edge_lists::{edge_lists, take_nets};
 use crate::edges::{EdgeCell, find_nets_of_all};
 use crate::flows::{Edge, take_away};
 use crate::pair::LevelPair;
-use crate::reflux::add_entries;
+use crate::reflux::add_in_patch;
 use crate::sides::CoveredSides;
 use amr_box::Cell;
 use amr_causes::NoMemory;
@@ -52,6 +52,7 @@ impl Register {
     ghost use Rattle.std.specs.Prelude.{ℕ, [], map, ℤ, suc, ◌<◌, ◌≤◌, ◌≢◌, ◌^◌, pos, negsuc, ◌+ℤ◌, ◌-ℤ◌, ◌≤ℤ◌, ◌<ℤ◌, IfOk, IsSome, IsTrue, slice_index_or, unsigned_abs};
     ghost use Rattle.std.specs.List.{Contains};
     ghost use Rattle.amr_box.specs.declared.Cell.{Cell};
+    ghost use Rattle.amr_box.specs.Cells.{at_least_zero, holds};
     ghost use Rattle.amr_def.specs.declared.problem.Problem.{Problem};
     ghost use Rattle.amr_def.specs.Domain.{domain};
     ghost use Rattle.amr_def.specs.Facts.{IsLevel, IsNestedLevel};
@@ -59,13 +60,13 @@ impl Register {
     ghost use Rattle.amr_def.specs.State.{Masses, mass_of};
     ghost use Rattle.amr_patch.specs.Levels.{level_of, patches_of};
     ghost use Rattle.amr_patch.specs.Pairwise.{Pairwise};
-    ghost use Rattle.amr_patch.specs.Patches.{KeepsFrameAndFluxes, box, in_patches};
+    ghost use Rattle.amr_patch.specs.Patches.{ArePatchesApart, KeepsFrameAndFluxes, box, in_patches, mass_in, masses_in};
     ghost use Rattle.amr_flux.specs.Faces.{IsInDomain};
     ghost use Rattle.amr_register.specs.Bands.{IsWhole};
     ghost use Rattle.amr_register.specs.CoarseFlows.{coarse_flows};
     ghost use Rattle.amr_register.specs.Entries.{with_entries};
     ghost use Rattle.amr_register.specs.EdgeCells.{HaveNets, IsSmallNet, lists_of};
-    ghost use Rattle.amr_register.specs.Registers.{HasEdgesOf, IsPlaced, IsRegisterOf, IsWithEdges, SameCells, cells_in, edges_in, entry_in};
+    ghost use Rattle.amr_register.specs.Registers.{HasEdgesOf, IsBoxAt, IsPlaced, IsRegisterOf, IsWithEdges, SameCells, cells_in, edges_in, entry_in};
 
     /// The register of level `l`, 0 to 3, below the finer level `l + 1`. Each entry is 0. The two levels are nested. The finer
     /// level's boxes tell which cells are covered, a stretch of a row at a look. Which patch of the coarse level has a
@@ -246,6 +247,19 @@ impl Register {
         self.entries.fill(0);
     }
 
+    /// Adds its entry to the mass of each register cell of patch `k` of the level, and all else of the patch stays. The register was made over
+    /// the level's patch boxes, of which the patch has number `k`. No sum is below 0, or 2^32 or more.
+    pub fn reflux_patch(&self, k: usize, patch: &mut Patch)
+        requires placed { IsPlaced self.now }
+        requires place { IsBoxAt k (box patch.old) self.now }
+        requires kept { (c : Cell) → Contains (cells_in self.now) c → IsTrue (holds (box patch.old) c) → pos 0 ≤ℤ (pos (mass_in patch.old c) +ℤ entry_in self.now c) }
+        requires fits { (c : Cell) → Contains (cells_in self.now) c → IsTrue (holds (box patch.old) c) → (pos (mass_in patch.old c) +ℤ entry_in self.now c) <ℤ pos (2 ^ 32) }
+        ensures kept { KeepsFrameAndFluxes patch.old patch.new }
+        ensures masses { (c : Cell) → IsTrue (holds (box patch.old) c) → mass_in patch.new c ≡ at_least_zero (pos (mass_in patch.old c) +ℤ entry_in self.now c) }
+    {
+        add_in_patch(&self.edges[k], &self.entries, patch);
+    }
+
     /// Adds each entry to the mass of its cell, patch by patch. The level has patches over the boxes that the register was made
     /// over, and no sum is below 0, or 2^32 or more.
     pub fn reflux(&self, level: &mut Level)
@@ -258,6 +272,24 @@ impl Register {
         ensures boxes { (level_of level.new).boxes ≡ (level_of level.old).boxes }
         ensures patches { Pairwise KeepsFrameAndFluxes (patches_of level.old) (patches_of level.new) }
     {
-        add_entries(&self.edges, &self.entries, level);
+        let order = level.order();
+        let mut patches = level.take_patches();
+        self.reflux_all(&mut patches);
+        level.put_patches_in_order(patches, order);
+    }
+
+    /// The same for the patches of a level.
+    fn reflux_all(&self, patches: &mut [Patch])
+        requires placed { IsPlaced self.now }
+        requires edges { HasEdgesOf (map box patches.old) self.now }
+        requires apart { ArePatchesApart patches.old }
+        requires kept { (c : Cell) → Contains (cells_in self.now) c → pos 0 ≤ℤ (pos (mass_of (masses_in patches.old) c) +ℤ entry_in self.now c) }
+        requires fits { (c : Cell) → Contains (cells_in self.now) c → (pos (mass_of (masses_in patches.old) c) +ℤ entry_in self.now c) <ℤ pos (2 ^ 32) }
+        ensures masses { masses_in patches.new ≡ with_entries (entry_in self.now) (masses_in patches.old) }
+        ensures kept { Pairwise KeepsFrameAndFluxes patches.old patches.new }
+    {
+        for k in 0..patches.len() {
+            self.reflux_patch(k, &mut patches[k]);
+        }
     }
 }

@@ -1,5 +1,0 @@
-use Rattle.amr_register.proofs.PatchRefluxes.{IsPartly}
-use Rattle.amr_register.proofs.reflux.add_list.Given as goal
-
-abbrev pub invariant-loop-n : goal.invariant-loop-n
-invariant-loop-n l = IsPartly l.entries l.list l.initial.patches l.patches l.n
