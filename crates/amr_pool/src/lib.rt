@@ -7,6 +7,7 @@ mod kept;
 mod order;
 mod pool;
 mod service;
+mod shared;
 
 pub use asked::Asked;
 pub use helper::{Helper, Recruit};
@@ -14,6 +15,7 @@ pub use kept::serve_all;
 pub use order::{Duty, PieceAsker, PieceBox, PieceWorker};
 pub use pool::{Pool, serve_alone};
 pub use service::Service;
+pub use shared::sole;
 
 #[cfg(test)]
 mod tests;
