@@ -17,6 +17,7 @@ use Rattle.amr_ghost.specs.Parts.{IsParted}
 use Rattle.amr_ghost.specs.declared.messages.Message.{Message}
 use Rattle.amr_ghost.specs.declared.parts.FrameParts.{FrameParts}
 use Rattle.amr_layout.specs.Surroundings.{Around}
+use Rattle.amr_lots.specs.Correcting.{with_correction}
 use Rattle.amr_lots.specs.Delivery.{with_phase}
 use Rattle.amr_lots.specs.Runs.{HasLayoutOf, HasOthersOf, KeepOthers, run}
 use Rattle.amr_lots.specs.Serving.{HasSummed, IsServed, MayServe, MaySum}
@@ -34,6 +35,7 @@ use Rattle.amr_advance.specs.Averaging.{AreLotsFor, HaveSums}
 use Rattle.amr_advance.specs.Kept.{IsKept}
 use Rattle.amr_advance.specs.Lots.{AreLotTasks, CarryMasses, IsLotOf}
 use Rattle.amr_advance.specs.Tasks.{AreTasks}
+use Rattle.amr_advance.proofs.KeptLots.{of_phase}
 use Rattle.amr_transfer.proofs.GivenRuns.{run_coarsenable, run_small, sum_count_of_boxes}
 
 -- ---- runs
@@ -70,9 +72,9 @@ count_of_boxes ps qs same = sym (length-map ps box) ∙ ap length same ∙ lengt
 
 -- ---- one lot
 
--- all but its patches, of which it has as many, its phase and the sums, of which it has as many, is as before
-pub record HasNewSums (a b : Lot) : Type 0 where
-  pub layout : HasLayoutOf a b
+-- all but its patches, of which it has as many, its phase, the sums, of which it has as many, and what corrects it is as before
+pub record KeepsRun (a b : Lot) : Type 0 where
+  pub layout : HasLayoutOf (with_correction b.correction a) b
   pub patches : length b.patches.items ≡ length a.patches.items
   pub edges : b.edges ≡ a.edges
   pub outbox : b.outbox ≡ a.outbox
@@ -81,8 +83,12 @@ pub record HasNewSums (a b : Lot) : Type 0 where
   pub totals : b.totals ≡ a.totals
   pub sums : length b.sums.items ≡ length a.sums.items
 
+-- so where what corrects it is as before, too
+pub other_correction : (a b : Lot) → HasLayoutOf a b → HasLayoutOf (with_correction b.correction a) b
+other_correction a b h = record { level = h.level; problem = h.problem; flows = h.flows; words = h.words; copies = h.copies; outer = h.outer; correction = refl }
+
 -- it then is the lot of the same run
-pub still_of : {s : Around} {each k runs : ℕ} {parts : FrameParts} (a b : Lot) → HasNewSums a b → IsLotOf s each k runs parts a → IsLotOf s each k runs parts b
+pub still_of : {s : Around} {each k runs : ℕ} {parts : FrameParts} (a b : Lot) → KeepsRun a b → IsLotOf s each k runs parts a → IsLotOf s each k runs parts b
 still_of {s = s} {each = each} {k = k} {runs = runs} {parts = parts} a b new of = subst (IsLotOf s each k runs parts) made (record {
   serves = record {
     of_problem = of.serves.of_problem;
@@ -109,7 +115,7 @@ still_of {s = s} {each = each} {k = k} {runs = runs} {parts = parts} a b new of 
   no_edges = of.no_edges;
 })
   where
-    made : record a { phase = b.phase; patches = b.patches; sums = b.sums } ≡ b
+    made : record a { phase = b.phase; patches = b.patches; sums = b.sums; correction = b.correction } ≡ b
     made = λ i. record {
       phase = b.phase;
       level = sym new.layout.level i;
@@ -124,24 +130,27 @@ still_of {s = s} {each = each} {k = k} {runs = runs} {parts = parts} a b new of 
       room = sym new.room i;
       totals = sym new.totals i;
       sums = b.sums;
+      correction = b.correction;
       problem = sym new.layout.problem i;
     }
 
-pub record HaveNewSums (xs ys : List (Box Lot)) : Type 0 where
+pub record KeepRuns (xs ys : List (Box Lot)) : Type 0 where
   pub count : length ys ≡ length xs
-  pub each : (k : ℕ) (x : Box Lot) → k < length xs → HasNewSums (get_or xs k x).value (get_or ys k x).value
+  pub each : (k : ℕ) (x : Box Lot) → k < length xs → KeepsRun (get_or xs k x).value (get_or ys k x).value
 
 -- and sends what it sent
-pub all_carry : (M : Masses) (xs ys : List (Box Lot)) → HaveNewSums xs ys → CarryMasses M xs → CarryMasses M ys
+pub all_carry : (M : Masses) (xs ys : List (Box Lot)) → KeepRuns xs ys → CarryMasses M xs → CarryMasses M ys
 all_carry M xs ys new h k x lt =
     let below : k < length xs = omega (arith, lt, new.count) in
     subst (λ (v : Vec Message). All (CarriesMasses M) v.items) (sym (new.each k x below).outbox) (h k x below)
 
 -- so lots with other sums serve the same level
-pub tasks_kept : (s : Around) (t u : LotTasks) → u.each ≡ t.each → HaveNewSums t.lots.items u.lots.items → AreLotTasks s t → AreLotTasks s u
+pub tasks_kept : (s : Around) (t u : LotTasks) → u.each ≡ t.each → KeepRuns t.lots.items u.lots.items → AreLotTasks s t → AreLotTasks s u
 tasks_kept s t u each new tasks = record {
   some = subst (λ n. 0 < n) (sym each) tasks.some;
   enough = subst (λ n. length s.patches ≤ length u.lots.items * n) (sym each) (subst (λ n. length s.patches ≤ n * t.each) (sym new.count) tasks.enough);
+  tight = subst (λ n. length u.lots.items * n < length s.patches + n) (sym each) (subst (λ n. n * t.each < length s.patches + t.each) (sym new.count) tasks.tight);
+  small = tasks.small;
   edges = tasks.edges;
   plan = tasks.plan;
   planned = tasks.planned;
@@ -220,7 +229,7 @@ module _ {t : LotTasks} (ps : List Patch) (made : AreLotsFor (map box ps) t) whe
   boxes_of_run : (k : ℕ) → map box (run t.each k ps) ≡ map box (run t.each k made.made_for.patches)
   boxes_of_run k = run_boxes t.each k made.made_for.patches ps made.on_boxes
 
-  same_count : length made.made_for.patches ≡ length ps
+  pub same_count : length made.made_for.patches ≡ length ps
   same_count = count_of_boxes made.made_for.patches ps made.on_boxes
 
   pub counts : (k : ℕ) (x : Box Lot) → k < length t.lots.items → length (get_or t.lots.items k x).value.patches.items ≡ length (run t.each k ps)
@@ -289,7 +298,7 @@ module _ {t : LotTasks} (ps : List Patch) (made : AreLotsFor (map box ps) t) whe
               same_runs t.each (length t.lots.items) rs ps (b.count ∙ h.count) (omega (arith, enough, b.count, h.count))
               (λ k lt. let x : Box Lot = nth t.lots.items k lt in b.back k x (omega (arith, lt, us_count)) ∙ patches_at k x lt)
 
-          one_new : (k : ℕ) (x : Box Lot) → k < length t.lots.items → HasNewSums (get_or t.lots.items k x).value (get_or vs k x).value
+          one_new : (k : ℕ) (x : Box Lot) → k < length t.lots.items → KeepsRun (get_or t.lots.items k x).value (get_or vs k x).value
           one_new k x lt =
               let a : Lot = (get_or t.lots.items k x).value in
               let y : Lot = (get_or ys k x).value in
@@ -299,7 +308,7 @@ module _ {t : LotTasks} (ps : List Patch) (made : AreLotsFor (map box ps) t) whe
               let sum = one_summed k x lt in
               let last = one_back k x lt in
               record {
-                layout = layout_twice a u v (layout_twice a y u first.layout (record { level = sum.layout.level; problem = sum.layout.problem; flows = sum.layout.flows; words = sum.layout.words; copies = sum.layout.copies; outer = sum.layout.outer })) last.layout;
+                layout = other_correction a v (layout_twice a u v (layout_twice a y u first.layout (of_phase Sum y u sum.layout)) last.layout);
                 patches = ap length (b.handed k x (omega (arith, lt, us_count)) ∙ h.back k x lt);
                 edges = last.edges ∙ sum.edges ∙ first.edges;
                 outbox = last.outbox ∙ sum.outbox ∙ first.outbox;
@@ -309,7 +318,7 @@ module _ {t : LotTasks} (ps : List Patch) (made : AreLotsFor (map box ps) t) whe
                 sums = (λ i. length (last.sums i).items) ∙ sum.count ∙ (λ i. length (first.sums i).items);
               }
 
-          pub all_new : HaveNewSums t.lots.items vs
+          pub all_new : KeepRuns t.lots.items vs
           all_new = record { count = vs_count; each = one_new }
 
           -- and their sums stand in the lots

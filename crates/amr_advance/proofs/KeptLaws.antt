@@ -119,6 +119,8 @@ same_lots : (s t : Around) (x : LotTasks) → SameGround s t → AreLotTasks s x
 same_lots s t x g h = record {
   some = h.some;
   enough = omega (arith, h.enough, same_length s.patches t.patches g.boxes);
+  tight = omega (arith, h.tight, same_length s.patches t.patches g.boxes);
+  small = omega (arith, h.small, same_length s.patches t.patches g.boxes);
   edges = subst (λ n. n ≤ 2 ^ 30) (same_edges s.patches t.patches g.boxes) h.edges;
   plan = h.plan;
   planned = same_frames s.problem t.problem s.level t.level s.patches t.patches h.plan g.problem g.level g.boxes h.planned;
@@ -202,6 +204,8 @@ with_flags : (s : Around) (t : LotTasks) (packed valued : Bool) → AreLotTasks 
 with_flags s t packed valued h = record {
   some = h.some;
   enough = h.enough;
+  tight = h.tight;
+  small = h.small;
   edges = h.edges;
   plan = h.plan;
   planned = h.planned;

@@ -100,11 +100,12 @@ plan_handed a b o = plan_same a b o.layout o.room o.totals o.sums
 pub plan_lent : (a b : Lot) → HasAllButEdgesOf a b → KeepsPlan a b
 plan_lent a b o = plan_same a b o.layout o.room o.totals o.sums
 
+-- whatever phase it was for
+pub of_phase : (phase : Phase) (a b : Lot) → HasLayoutOf (with_phase phase a) b → HasLayoutOf a b
+of_phase phase a b h = record { level = h.level; problem = h.problem; flows = h.flows; words = h.words; copies = h.copies; outer = h.outer; correction = h.correction }
+
 pub plan_sent : (phase : Phase) (a b : Lot) → HasSent (with_phase phase a) b → KeepsPlan a b
-plan_sent phase a b o = plan_same a b (of_layout o.layout) o.room o.totals o.sums
-  where
-    of_layout : HasLayoutOf (with_phase phase a) b → HasLayoutOf a b
-    of_layout h = record { level = h.level; problem = h.problem; flows = h.flows; words = h.words; copies = h.copies; outer = h.outer }
+plan_sent phase a b o = plan_same a b (of_phase phase a b o.layout) o.room o.totals o.sums
 
 pub plan_exchanged : (a b : Lot) → IsDelivered a b → KeepsPlan a b
 plan_exchanged a b o = plan_same a b o.layout o.room o.totals o.sums

@@ -27,3 +27,6 @@ mod Shared
 mod BackEdges
 mod MadeLots
 mod Averaged
+mod Corrected
+mod CorrectedLots
+mod LentParts

@@ -248,6 +248,8 @@ module _ {p : Problem} {l : ℕ} {old : Masses} {ps : List Patch} {cells : List 
       record {
         some = subst (λ n. 0 < n) (sym each) level.tasks.some;
         enough = subst (λ n. length ps ≤ length u.lots.items * n) (sym each) (subst (λ n. length ps ≤ n * t.each) (sym many) level.tasks.enough);
+        tight = subst (λ n. length u.lots.items * n < length ps + n) (sym each) (subst (λ n. n * t.each < length ps + t.each) (sym many) level.tasks.tight);
+        small = level.tasks.small;
         edges = level.tasks.edges;
         plan = level.tasks.plan;
         planned = level.tasks.planned;

@@ -11,3 +11,4 @@ pub mod Teams
 pub mod Turns
 pub mod Lots
 pub mod Averaging
+pub mod Correcting

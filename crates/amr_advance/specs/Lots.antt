@@ -83,6 +83,8 @@ pub record IsLotOf (s : Around) (each k runs : ℕ) (parts : FrameParts) (x : Lo
 pub record AreLotTasks (s : Around) (t : LotTasks) : Type 0 where
   pub some : 0 < t.each
   pub enough : length s.patches ≤ length t.lots.items * t.each
+  pub tight : length t.lots.items * t.each < length s.patches + t.each
+  pub small : length s.patches ≤ 2 ^ 26
   pub edges : total (λ q. edge_count (box q)) s.patches ≤ 2 ^ 30
   pub plan : FramePlan
   pub planned : PlansFrames (domain s.problem s.level) s.patches plan

@@ -9,6 +9,7 @@
 mod alone;
 mod averaging;
 mod collecting;
+mod correcting;
 mod kept;
 mod level;
 mod lots;
@@ -24,6 +25,7 @@ mod valuing;
 mod ways;
 
 pub use averaging::sum_up_kept;
+pub use correcting::correct_kept;
 pub use kept::KeptLayout;
 pub use regs::{Crew, Regs};
 pub use running::{LevelTeam, Workers};

@@ -248,6 +248,7 @@ fn lot_for(
         room: Room::make(alloc, widest_of(&s.patches[first..first + count]))?,
         totals,
         sums: vec![in alloc; 0u32; count_sums(&s.patches[first..first + count])?]?,
+        correction: None,
         problem: Snapshot::of(s.problem),
     })
 }

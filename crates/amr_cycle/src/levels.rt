@@ -31,10 +31,11 @@ use amr_advance::{Regs, Workers, advance_kept};
 use amr_box::Bx;
 use amr_causes::NoMemory;
 use amr_patch::Level;
+use amr_pool::sole;
 use amr_workers::Gate;
 use std::alloc::Global;
 use std::sync::{Arc, Wait};
-use std::thread::{Threads, yield_now};
+use std::thread::Threads;
 
 /// What both steps of the next finer level stand on: the level with the masses before its own step, and the finer
 /// level's patch boxes. And what those steps add to, the level's register among them.
@@ -171,21 +172,6 @@ fn step_coarse<R: Threads + Wait + Sync, G: Gate + Sync>(
     })
 }
 
-/// What was shared, once nobody else has it any more. Workers give their shares back before they answer.
-fn sole<R: Wait>(rt: &R, shared: Arc<Level, Global>) -> Level
-    ensures { result ≡ arc_value shared }
-{
-    let mut shared = shared;
-    'turns: for _ in rt.forever() {
-        match Arc::try_unwrap(shared) {
-            Ok(whole) => return whole,
-            Err(again) => shared = again,
-        }
-        yield_now();
-    }
-    unreachable!()
-}
-
 /// What is kept of it when both steps are made.
 fn kept_of<R: Wait>(rt: &R, below: Below) -> Option<KeptBelow>
     ensures { IfSome result (λ b. (b.before ≡ arc_value below.before) × (b.finer ≡ below.finer) × (Some b.register ≡ below.regs.coarser)) }
@@ -261,10 +247,11 @@ pub(crate) fn step_levels<R: Threads + Wait + Sync, G: Gate + Sync>(
         workers,
         given.problem,
         level,
-        &below.regs.coarser,
+        &mut below.regs.coarser,
         next,
+        &mut own.layout,
         &mut rest[0].layout,
-    );
+    )?;
     regs.inflow = below.regs.inflow;
     regs.outflow = below.regs.outflow;
     own.below = kept_of(workers.runtime, below);

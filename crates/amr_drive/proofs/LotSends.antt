@@ -12,6 +12,7 @@ use Rattle.amr_ghost.proofs.messages.Message.TheSendSync.{the_send as message_se
 use Rattle.amr_ghost.proofs.outer.OuterGhosts.TheSendSync.{the_send as outer_send}
 use Rattle.amr_ghost.proofs.parts.FrameCopy.TheSendSync.{the_send as copy_send}
 use Rattle.amr_layout.proofs.FlowTo.TheSendSync.{the_send as flow_send}
+use Rattle.amr_lots.proofs.lot.Correction.TheSendSync.{the_send as correction_send}
 use Rattle.amr_lots.proofs.lot.Phase.TheSendSync.{the_send as phase_send}
 use Rattle.amr_lots.proofs.serving.LotWork.TheSendSync.{the_sync as work_sync}
 use Rattle.amr_lots.specs.contracts.lot.Lot.{the_row, the_type}
@@ -23,11 +24,11 @@ use Rattle.amr_register.proofs.edges.EdgeCell.TheSendSync.{the_send as edge_send
 snapshot_send : (Y : RattleType) → IsSend (snapshot_row Y)
 snapshot_send Y = record { owned = λ d vs. ((λ vss. (tt, ((λ uss. (tt, tt)), tt))), tt); leaving = λ k f vs. tt }
 
-ruleset parts = (as_row_send, sendable, snapshot_send, phase_send, outer_send, message_send, copy_send, room_send, flow_send, edge_send, patch_send, vec_send, global_send, global_sync, frees)
+ruleset parts = (as_row_send, sendable, snapshot_send, phase_send, correction_send, outer_send, message_send, copy_send, room_send, flow_send, edge_send, patch_send, vec_send, global_send, global_sync, frees)
 
 -- field by field
 pub lot_send : IsSend the_row
-lot_send = declared_send the_type (search parts depth 12 fits 2000, (search parts, (search parts depth 12 fits 2000, (search parts depth 12 fits 2000, (search parts depth 12 fits 2000, (search parts depth 12 fits 2000, (search parts depth 12 fits 2000, (search parts depth 12 fits 2000, (search parts depth 12 fits 2000, (search parts depth 12 fits 2000, (search parts depth 12 fits 2000, (search parts depth 12 fits 2000, (search parts depth 12 fits 2000, (search parts depth 12 fits 2000, tt))))))))))))))
+lot_send = declared_send the_type (search parts depth 12 fits 2000, (search parts, (search parts depth 12 fits 2000, (search parts depth 12 fits 2000, (search parts depth 12 fits 2000, (search parts depth 12 fits 2000, (search parts depth 12 fits 2000, (search parts depth 12 fits 2000, (search parts depth 12 fits 2000, (search parts depth 12 fits 2000, (search parts depth 12 fits 2000, (search parts depth 12 fits 2000, (search parts depth 12 fits 2000, (search parts depth 12 fits 2000, (search parts depth 12 fits 2000, tt)))))))))))))))
 
 -- so may a lot in a box, and those who begin to serve lots
 pub ruleset lots_sendable = (lot_send, box_send, vec_send, global_send, global_sync, frees, recruit_send, work_sync, sendable)

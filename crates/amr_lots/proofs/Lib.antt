@@ -9,3 +9,4 @@ pub mod Numbered
 pub mod Layouts
 pub mod Runs
 mod HandedRuns
+mod CorrectedPatches

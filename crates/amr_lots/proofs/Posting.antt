@@ -50,6 +50,7 @@ posted_layout a b is = record {
   words = ap (λ (e : Lot). e.words) is;
   copies = ap (λ (e : Lot). e.copies) is;
   outer = ap (λ (e : Lot). e.outer) is;
+  correction = ap (λ (e : Lot). e.correction) is;
 }
 
 -- a lot whose outbox was taken, which traded, and was given the outbox back

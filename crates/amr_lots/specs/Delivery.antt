@@ -22,6 +22,7 @@ with_outbox outbox phase lot = record {
   room = lot.room;
   totals = lot.totals;
   sums = lot.sums;
+  correction = lot.correction;
   problem = lot.problem;
 }
 

@@ -8,7 +8,8 @@ use Rattle.amr_lots.specs.Words.{sum_at}
 abbrev pub run : {A : Type 0} → ℕ → ℕ → List A → List A
 run size k xs = take size (drop (k * size) xs)
 
--- the level and the problem of a lot, its flows with their words, and where its ghost cells get their values from, are as before
+-- the level and the problem of a lot, its flows with their words, where its ghost cells get their values from, and what corrects its patches,
+-- are as before
 pub record HasLayoutOf (a b : Lot) : Type 0 where
   pub level : b.level ≡ a.level
   pub problem : b.problem ≡ a.problem
@@ -16,6 +17,7 @@ pub record HasLayoutOf (a b : Lot) : Type 0 where
   pub words : b.words ≡ a.words
   pub copies : b.copies ≡ a.copies
   pub outer : b.outer ≡ a.outer
+  pub correction : b.correction ≡ a.correction
 
 -- all but its patches is as before
 pub record HasOthersOf (a b : Lot) : Type 0 where

@@ -18,7 +18,8 @@ use Rattle.amr_transfer.specs.Packed.{AreSums, HasSmallSums, sum_count}
 use Rattle.amr_transfer.specs.Sums.{AreCoarsenable}
 use Rattle.amr_lots.specs.declared.lot.Lot.{Lot}
 use Rattle.amr_lots.specs.declared.lot.Phase.{Phase}
-use Rattle.amr_lots.specs.declared.lot.Phase.TheVariants.{Send, Step, Sum, Value}
+use Rattle.amr_lots.specs.declared.lot.Phase.TheVariants.{Correct, Send, Step, Sum, Value}
+use Rattle.amr_lots.specs.Correcting.{HasCorrected, MayCorrect}
 use Rattle.amr_lots.specs.Delivery.{with_phase}
 use Rattle.amr_lots.specs.Lots.{AreReady, HasStepped, lot_total}
 use Rattle.amr_lots.specs.Runs.{HasLayoutOf}
@@ -59,6 +60,7 @@ MayServeIn Send p lot = MaySend lot
 MayServeIn Step p lot = MayAdvance p lot × MaySend lot
 MayServeIn Sum p lot = MaySum lot
 MayServeIn Value p lot = MayFindValues p lot
+MayServeIn Correct p lot = MayCorrect lot
 
 -- a lot may be served in its phase
 abbrev pub MayServe : Problem → Lot → Type 0
@@ -143,6 +145,7 @@ IsServedIn Send lot after = HasSent lot after
 IsServedIn Step lot after = HasMadeStep lot after
 IsServedIn Sum lot after = HasSummed lot after
 IsServedIn Value lot after = HasFoundValues lot after
+IsServedIn Correct lot after = HasCorrected lot after
 
 -- a lot was served in its phase
 abbrev pub IsServed : Lot → Lot → Type 0

@@ -10,7 +10,7 @@ mod summing;
 
 pub use delivery::{exchange_messages, set_phase};
 pub use handing::{exchange_edges, exchange_runs};
-pub use lot::{Lot, Phase};
+pub use lot::{Correction, Lot, Phase};
 pub use serving::LotWork;
 pub use steps::step_patches;
 pub use summing::add_up;

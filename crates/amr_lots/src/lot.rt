@@ -4,9 +4,11 @@ use amr_def::Problem;
 use amr_flux::Room;
 use amr_ghost::{FrameCopy, Message, OuterGhosts};
 use amr_layout::FlowTo;
-use amr_patch::Patch;
-use amr_register::EdgeCell;
+use amr_patch::{Order, Patch};
+use amr_register::{EdgeCell, Register};
+use std::alloc::Global;
 use std::snapshot::Snapshot;
+use std::sync::Arc;
 
 /// What is to be done with a lot.
 #[derive(Clone, Copy, PartialEq, Eq, Debug)]
@@ -20,6 +22,21 @@ pub enum Phase {
     Sum,
     /// The values of outer ghost cells are worked out, by the coarser level that was lent.
     Value,
+    /// The patches are corrected, by the register and the finer level that were lent.
+    Correct,
+}
+
+/// What corrects patches of a level after both steps of the next finer one: the level's flux register and the finer patches, lent to a lot.
+#[derive(Drop)]
+pub struct Correction {
+    /// The register, with a list of register cells for each patch of the level.
+    pub register: Arc<Register, Global>,
+    /// The patches of the finer level.
+    pub finer: Arc<Vec<Patch>, Global>,
+    /// How these stand.
+    pub order: Order,
+    /// The number that the lot's first patch has in the level.
+    pub first: usize,
 }
 
 /// A lot: patches of a level that one worker makes the step of, and what it works with. It is handed over by value.
@@ -52,6 +69,8 @@ pub struct Lot {
     pub totals: Vec<u64>,
     /// Room for the sums of children of its patches.
     pub sums: Vec<u32>,
+    /// What corrects its patches, while it is lent.
+    pub correction: Option<Correction>,
     /// The problem, which no byte stands for.
     pub problem: Snapshot<Problem>,
 }

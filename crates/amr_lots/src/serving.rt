@@ -1,20 +1,26 @@
 //! What a worker does with the lot that it is handed.
 
+ghost use Rattle.std.specs.Prelude.{◌+◌, ◌<◌, ◌^◌};
+ghost use Rattle.amr_patch.specs.Patches.{box, masses_in};
+ghost use Rattle.amr_register.specs.Registers.{IsBoxAt, entry_in};
+ghost use Rattle.amr_lots.specs.Correcting.{AreCorrectedBy, CanCorrect, FitsEntries, HasCorrected, IsCorrected, IsReady, MayCorrect, finer_in, register_in};
 ghost use Rattle.amr_lots.specs.Serving.{HasAdvanced, HasFoundValues, HasMadeStep, HasSent, HasSummed, MayAdvance, MayFindValues, MaySend, MaySum};
 
-use crate::lot::{Lot, Phase};
+use crate::lot::{Correction, Lot, Phase};
 use crate::steps::step_patches;
 use amr_def::Problem;
 use amr_ghost::{fill_run, pack_messages};
+use amr_patch::Patch;
 use amr_pool::Service;
 use amr_register::find_nets_of_all;
-use amr_transfer::pack_sums;
+use amr_transfer::{cover_patch, pack_sums};
 use std::boxed::Box;
 
 /// The service of a pool that makes steps of a level. It packs the masses that other lots need. Before, where it is the step's turn, it
 /// fills the ghost cells by masses of the lot's own patches and by what others gave it, works out what flows into its register cells,
 /// and makes the patches' step. Where it is the turn of sums, it packs those of the children of the lot's patches. Where it is the turn of
-/// values, it works out those of the ghost cells that get no mass of a patch of the level.
+/// values, it works out those of the ghost cells that get no mass of a patch of the level. Where it is the turn of the correction after both
+/// steps of the next finer level, it gives its patches their entries and the sums of children.
 #[derive(Clone, Copy)]
 pub struct LotWork<'a> {
     pub problem: &'a Problem,
@@ -71,6 +77,42 @@ fn find_values(p: &Problem, lot: &mut Lot)
     lot.outer.find_lent_values(p, lot.level);
 }
 
+/// Corrects the patch that stands so many places after the first one: each register cell gets its entry, and then each covered cell the sum
+/// of the masses of its children.
+fn correct_patch(correction: &Correction, k: usize, patch: &mut Patch)
+    requires ready { IsReady correction.now }
+    requires few { correction.now.first + k < 2 ^ 62 }
+    requires place { IsBoxAt (correction.now.first + k) (box patch.old) (register_in correction.now) }
+    requires fits { FitsEntries (register_in correction.now) patch.old }
+    ensures { IsCorrected (masses_in (finer_in correction.now)) (entry_in (register_in correction.now)) patch.old patch.new }
+{
+    correction
+        .register
+        .reflux_patch(correction.first + k, patch);
+    cover_patch(&correction.finer, correction.order, patch);
+}
+
+/// Corrects patches, one after another.
+fn correct_patches(correction: &Correction, patches: &mut [Patch])
+    requires { CanCorrect correction.now patches.old }
+    ensures { AreCorrectedBy correction.now patches.old patches.new }
+{
+    for k in 0..patches.len() {
+        correct_patch(correction, k, &mut patches[k]);
+    }
+}
+
+/// Corrects the patches of a lot by what was lent to it.
+fn correct(lot: &mut Lot)
+    requires { MayCorrect lot.old }
+    ensures { HasCorrected lot.old lot.new }
+{
+    match &lot.correction {
+        Some(correction) => correct_patches(correction, &mut lot.patches),
+        None => unreachable!(),
+    }
+}
+
 impl Service<Box<Lot>> for LotWork<'_> {
     ghost use Rattle.amr_lots.specs.Serving.{IsServed, MayServe};
 
@@ -85,6 +127,7 @@ impl Service<Box<Lot>> for LotWork<'_> {
             Phase::Step => make_step(self.problem, lot),
             Phase::Sum => sum(lot),
             Phase::Value => find_values(self.problem, lot),
+            Phase::Correct => correct(lot),
         }
     }
 }

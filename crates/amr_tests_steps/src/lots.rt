@@ -67,6 +67,7 @@ fn lot(alloc: Global, p: &Problem, number: u8, words: [u32; 2]) -> Result<Lot, N
         room: Room::make(alloc, 1)?,
         totals: Vec::from_slice(alloc, &[u64::from(number), 10 * u64::from(number)])?,
         sums: Vec::new(alloc),
+        correction: None,
         problem: Snapshot::of(p),
     })
 }

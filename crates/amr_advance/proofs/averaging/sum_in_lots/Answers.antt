@@ -3,7 +3,7 @@ use Rattle.std.specs.Global.{Box}
 use Rattle.std.specs.Vec.{with_items}
 use Rattle.amr_lots.specs.declared.lot.Lot.{Lot}
 use Rattle.amr_lots.specs.Runs.{run}
-use Rattle.amr_advance.proofs.Averaged.{AreServed, AreToSum, AreTraded, HaveNewSums, all_carry, all_may_sum, all_new, all_summed, all_told, all_traded, counts, counts_back, same_patches, tasks_kept}
+use Rattle.amr_advance.proofs.Averaged.{AreServed, AreToSum, AreTraded, KeepRuns, all_carry, all_may_sum, all_new, all_summed, all_told, all_traded, counts, counts_back, same_patches, tasks_kept}
 use Rattle.amr_advance.proofs.averaging.sum_in_lots.Given as given
 use Rattle.amr_advance.proofs.averaging.sum_in_lots.Goals.{After-exchange_runs, After-exchange_runs-2, After-serve_lots, After-set_phase}
 use Rattle.amr_advance.proofs.averaging.sum_in_lots.Goals as goal
@@ -26,7 +26,7 @@ returned g c =
     let call = c.exchange_runs-2.ensures in
     all_traded c.args.tasks.now.each c.exchange_runs.new.patches c.exchange_runs-2.new.patches c.serve_lots.new.lots c.deref_mut-3.result.now c.exchange_runs-2.new.lots c.deref_mut-3.ensures.value (record { handed = call.handed; back = call.back; count = call.count; others = call.others })
 
-summed : (g : given.Over) (c : After-exchange_runs-2 g) → HaveNewSums c.args.tasks.now.lots.items (with_items c.serve_lots.new.lots c.exchange_runs-2.new.lots).items
+summed : (g : given.Over) (c : After-exchange_runs-2 g) → KeepRuns c.args.tasks.now.lots.items (with_items c.serve_lots.new.lots c.exchange_runs-2.new.lots).items
 summed g c =
     let at = goal.at.After-exchange_runs-2 g c in
     all_new c.args.fine.now c.requires.tasks (traded g at.After-exchange_runs) (told g at.After-set_phase) (served g at.After-serve_lots) (returned g c)

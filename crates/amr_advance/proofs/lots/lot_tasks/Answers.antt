@@ -1,4 +1,4 @@
-use Rattle.std.proofs.Common.{◌≡◌, ◌*◌, ◌≤◌, length, get_or, sym, subst, arith}
+use Rattle.std.proofs.Common.{◌≡◌, ◌*◌, ◌+◌, ◌<◌, ◌≤◌, length, get_or, sym, subst, arith}
 use Rattle.std.specs.Option.{option_copied}
 use Rattle.amr_def.specs.Domain.{domain}
 use Rattle.amr_ghost.specs.Parts.{IsParted}
@@ -24,6 +24,8 @@ returns-clause-tasks g c =
     record {
       some = omega (arith, c.max-each.ensures);
       enough = subst (λ n. length c.args.s.patches.now ≤ n * c.max-each.result) (sym count) c.parts_in-runs.ensures.enough;
+      tight = subst (λ n. n * c.max-each.result < length c.args.s.patches.now + c.max-each.result) (sym count) c.parts_in-runs.ensures.tight;
+      small = omega (arith, c.if-count-gt-MOST.false);
       edges = c.in_ok-flows.ensures.edges;
       plan = c.args.frames.now;
       planned = c.requires.frames;

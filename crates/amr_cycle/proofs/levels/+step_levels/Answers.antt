@@ -1,5 +1,7 @@
-use Rattle.std.proofs.Common.{ℕ, ◌+◌, ◌<◌, List, ◌∷◌, get_or, length, map, set, sym, ap, subst, ◌∙◌, arith}
+use Rattle.std.proofs.Common.{◌≡◌, ℕ, ◌+◌, ◌<◌, List, ◌∷◌, get_or, length, map, set, sym, ap, subst, ◌∙◌, arith}
 use Rattle.std.specs.Prelude.{IfSome}
+use Rattle.std.specs.declared.option.Option.{Option}
+use Rattle.std.specs.declared.option.Option.TheVariants.{Some}
 use Rattle.std.specs.Arc.{arc_value}
 use Rattle.std.specs.Option.{option_copied}
 use Rattle.amr_box.specs.Cells.{Extent}
@@ -10,10 +12,12 @@ use Rattle.amr_patch.specs.Levels.{level_of, patches_of}
 use Rattle.amr_patch.specs.Patches.{box}
 use Rattle.amr_ghost.specs.Frames.{old_masses}
 use Rattle.amr_def.specs.State.{Level, Masses}
+use Rattle.amr_register.specs.declared.register.Register.{Register}
 use Rattle.amr_register.specs.Entries.{with_entries}
 use Rattle.amr_register.specs.Registers.{HasEdgesOf}
 use Rattle.amr_transfer.specs.Sums.{summed}
 use Rattle.amr_cycle.specs.Cycles.{entries_of}
+use Rattle.amr_cycle.specs.declared.kept.KeptBelow.{KeptBelow}
 use Rattle.amr_cycle.specs.declared.kept.KeptLevel.{KeptLevel}
 use Rattle.amr_cycle.specs.Kept.{AreCurrent, AreKept}
 use Rattle.std.proofs.lemmas.Result.{on_ok_weaker}
@@ -113,8 +117,8 @@ correct-requires-clause-of_level g t c =
     c.step_levels-2.new.level c.step_levels-2.new.finer c.step_levels-2.new.regs.coarser c.in_ok-step_levels-2.ensures.levels c.in_ok-step_levels-2.ensures.patches c.in_ok-step_levels-2.ensures.coarser
     (level_of c.step_coarse.new.level).masses c.in_ok-below.ensures.masses
 
-pub correct-requires-clause-kept : goal.correct-requires-clause-kept
-correct-requires-clause-kept g t c =
+pub correct-requires-clause-not_negative : goal.correct-requires-clause-not_negative
+correct-requires-clause-not_negative g t c =
     kept_2 c.args.given.now.problem.now c.args.given.now.level (level_of c.args.level.now) c.args.finer.now (old_masses (option_copied c.args.given.now.old)) c.requires.part c.in-Some-split_first_mut.next.now c.in-Some-split_first_mut.finest.now c.in-Some-split_first_mut.ensures.cases.0 (arc_value c.in_ok-below.below.before) c.in_ok-below.ensures.before c.in_ok-below.below.regs.coarser c.in_ok-below.ensures.register c.for_finer-inner.result.problem.now c.for_finer-inner.ensures.problem c.for_finer-inner.result.level c.for_finer-inner.ensures.level (option_copied c.for_finer-inner.result.old) c.for_finer-inner.ensures.old
     c.step_levels.new.level c.step_levels.new.finer c.step_levels.new.regs.coarser c.in_ok-step_levels.ensures.levels c.in_ok-step_levels.ensures.patches c.in_ok-step_levels.ensures.coarser
     c.step_levels-2.new.level c.step_levels-2.new.finer c.step_levels-2.new.regs.coarser c.in_ok-step_levels-2.ensures.levels c.in_ok-step_levels-2.ensures.patches c.in_ok-step_levels-2.ensures.coarser
@@ -149,12 +153,12 @@ correct-requires-clause-small g t c =
 
 pub returns-clause-levels : goal.returns-clause-levels
 returns-clause-levels g t c =
-    (λ i. level_of c.correct.new.level ∷ c.correct.ensures.finer i ∷ map level_of c.step_levels-2.new.finer)
+    (λ i. level_of c.correct.new.level ∷ c.in_ok-correct.ensures.finer i ∷ map level_of c.step_levels-2.new.finer)
     ∙ levels_are c.args.given.now.problem.now c.args.given.now.level (level_of c.args.level.now) c.args.finer.now (old_masses (option_copied c.args.given.now.old)) c.requires.part c.in-Some-split_first_mut.next.now c.in-Some-split_first_mut.finest.now c.in-Some-split_first_mut.ensures.cases.0 (arc_value c.in_ok-below.below.before) c.in_ok-below.ensures.before c.in_ok-below.below.regs.coarser c.in_ok-below.ensures.register c.for_finer-inner.result.problem.now c.for_finer-inner.ensures.problem c.for_finer-inner.result.level c.for_finer-inner.ensures.level (option_copied c.for_finer-inner.result.old) c.for_finer-inner.ensures.old
     c.step_levels.new.level c.step_levels.new.finer c.step_levels.new.regs.coarser c.in_ok-step_levels.ensures.levels c.in_ok-step_levels.ensures.patches c.in_ok-step_levels.ensures.coarser
     c.step_levels-2.new.level c.step_levels-2.new.finer c.step_levels-2.new.regs.coarser c.in_ok-step_levels-2.ensures.levels c.in_ok-step_levels-2.ensures.patches c.in_ok-step_levels-2.ensures.coarser
-    (level_of c.correct.new.level) (c.correct.ensures.boxes ∙ c.in_ok-below.ensures.boxes)
-    (c.correct.ensures.masses ∙ ap (λ (m : Masses). summed (level_of c.step_levels-2.new.level).masses (with_entries (entries_of c.step_levels-2.new.regs.coarser) m)) c.in_ok-below.ensures.masses)
+    (level_of c.correct.new.level) (c.in_ok-correct.ensures.boxes ∙ c.in_ok-below.ensures.boxes)
+    (c.in_ok-correct.ensures.masses ∙ ap (λ (m : Masses). summed (level_of c.step_levels-2.new.level).masses (with_entries (entries_of c.step_levels-2.new.regs.coarser) m)) c.in_ok-below.ensures.masses)
 
 pub returns-clause-inflow : goal.returns-clause-inflow
 returns-clause-inflow g t c =
@@ -210,16 +214,18 @@ returns-clause-kept g t c =
     has2 c.args.given.now.problem.now c.args.given.now.level (level_of c.args.level.now) c.args.finer.now (old_masses (option_copied c.args.given.now.old)) c.requires.part c.in-Some-split_first_mut.next.now c.in-Some-split_first_mut.finest.now c.in-Some-split_first_mut.ensures.cases.0 (arc_value c.in_ok-below.below.before) c.in_ok-below.ensures.before c.in_ok-below.below.regs.coarser c.in_ok-below.ensures.register c.for_finer-inner.result.problem.now c.for_finer-inner.ensures.problem c.for_finer-inner.result.level c.for_finer-inner.ensures.level (option_copied c.for_finer-inner.result.old) c.for_finer-inner.ensures.old
     c.step_levels.new.level c.step_levels.new.finer c.step_levels.new.regs.coarser c.in_ok-step_levels.ensures.levels c.in_ok-step_levels.ensures.patches c.in_ok-step_levels.ensures.coarser
     c.step_levels-2.new.level c.step_levels-2.new.finer c.step_levels-2.new.regs.coarser c.in_ok-step_levels-2.ensures.levels c.in_ok-step_levels-2.ensures.patches c.in_ok-step_levels-2.ensures.coarser in
-    let again : KeptLevel = record { layout = c.correct.new.layout; below = (get_or c.step_levels-2.new.kept 0 c.index-rest-0.result).below } in
+    let again : KeptLevel = record { layout = c.correct.new.finer_kept; below = (get_or c.step_levels-2.new.kept 0 c.index-rest-0.result).below } in
+    let same =
+    subst (λ (o : Option Register). IfSome c.kept_of.result (λ (b : KeptBelow). (b.before ≡ arc_value c.in_ok-below.below.before) × (b.finer ≡ c.in_ok-below.below.finer) × (Some b.register ≡ o))) c.in_ok-correct.ensures.register c.kept_of.ensures in
     let edges =
     edges_stay (map box (patches_of (arc_value c.in_ok-below.below.before))) _ c.step_levels.new.regs.coarser c.step_levels-2.new.regs.coarser c.in_ok-step_levels-2.ensures.coarser
     (edges_stay (map box (patches_of (arc_value c.in_ok-below.below.before))) _ c.in_ok-below.below.regs.coarser c.step_levels.new.regs.coarser c.in_ok-step_levels.ensures.coarser c.in_ok-below.ensures.edges) in
-    kept_all p c.args.given.now.level (record { layout = c.step_coarse.new.own.layout; below = c.kept_of.result }) (set c.step_levels-2.new.kept 0 again)
+    kept_all p c.args.given.now.level (record { layout = c.correct.new.kept; below = c.kept_of.result }) (set c.step_levels-2.new.kept 0 again)
     (record {
-      layout = c.in_ok-below.ensures.layout;
-      below = all_below_after p c.args.given.now.level k fine _ c.kept_of.result (arc_value c.in_ok-below.below.before) c.in_ok-below.below.finer c.step_levels-2.new.regs.coarser c.in_ok-below.ensures.before c.in_ok-below.ensures.finer_boxes c.kept_of.ensures has edges;
+      layout = c.in_ok-correct.ensures.kept;
+      below = all_below_after p c.args.given.now.level k fine _ c.kept_of.result (arc_value c.in_ok-below.below.before) c.in_ok-below.below.finer c.step_levels-2.new.regs.coarser c.in_ok-below.ensures.before c.in_ok-below.ensures.finer_boxes same has edges;
     })
-    (kept_again p (c.args.given.now.level + 1) c.correct.new.layout c.index-rest-0.result c.step_levels-2.new.kept (first_kept g t (goal.at.returns-clause-kept g t c).In_ok-step_levels-2) c.correct.ensures.layout finer)
+    (kept_again p (c.args.given.now.level + 1) c.correct.new.finer_kept c.index-rest-0.result c.step_levels-2.new.kept (first_kept g t (goal.at.returns-clause-kept g t c).In_ok-step_levels-2) c.in_ok-correct.ensures.finer_kept finer)
 
 pub step_finest-requires-clause-current : goal.step_finest-requires-clause-current
 step_finest-requires-clause-current g t c κs within = c.ready.ensures.current (level_of c.args.level.now).masses (current_first (level_of c.args.level.now) (map level_of c.args.finer.now) c.in-Some.own.now c.in-Some.rest.now c.args.kept.now c.in-Some.ensures.cases.0 c.requires.current)
@@ -238,12 +244,12 @@ step_levels-requires-clause-current g t c κs within =
 
 pub returns-clause-current : goal.returns-clause-current
 returns-clause-current g t c =
-    let again : KeptLevel = record { layout = c.correct.new.layout; below = (get_or c.step_levels-2.new.kept 0 c.index-rest-0.result).below } in
+    let again : KeptLevel = record { layout = c.correct.new.finer_kept; below = (get_or c.step_levels-2.new.kept 0 c.index-rest-0.result).below } in
     let next = level_of c.step_levels-2.new.level in
     let finest = map level_of c.step_levels-2.new.finer in
-    subst (λ (k : Level). AreCurrent (level_of c.correct.new.level ∷ k ∷ finest) (record { layout = c.step_coarse.new.own.layout; below = c.kept_of.result } ∷ set c.step_levels-2.new.kept 0 again)) (sym c.correct.ensures.finer)
-    (current_all (level_of c.correct.new.level) (next ∷ finest) (record { layout = c.step_coarse.new.own.layout; below = c.kept_of.result }) (set c.step_levels-2.new.kept 0 again) (c.in_ok-below.ensures.current (level_of c.correct.new.level).masses)
-    (current_again next finest again c.index-rest-0.result c.step_levels-2.new.kept (first_kept g t (goal.at.returns-clause-current g t c).In_ok-step_levels-2) (c.correct.ensures.current next.masses) c.in_ok-step_levels-2.ensures.current))
+    subst (λ (k : Level). AreCurrent (level_of c.correct.new.level ∷ k ∷ finest) (record { layout = c.correct.new.kept; below = c.kept_of.result } ∷ set c.step_levels-2.new.kept 0 again)) (sym c.in_ok-correct.ensures.finer)
+    (current_all (level_of c.correct.new.level) (next ∷ finest) (record { layout = c.correct.new.kept; below = c.kept_of.result }) (set c.step_levels-2.new.kept 0 again) (c.in_ok-correct.ensures.current (level_of c.correct.new.level).masses (c.in_ok-below.ensures.current (level_of c.correct.new.level).masses))
+    (current_again next finest again c.index-rest-0.result c.step_levels-2.new.kept (first_kept g t (goal.at.returns-clause-current g t c).In_ok-step_levels-2) (c.in_ok-correct.ensures.finer_current next.masses) c.in_ok-step_levels-2.ensures.current))
 
 pub step_finest-requires-clause-valued : goal.step_finest-requires-clause-valued
 step_finest-requires-clause-valued g t c κs within =
@@ -261,4 +267,4 @@ pub returns-in_default-split_first_mut-clause-valued : goal.returns-in_default-s
 returns-in_default-split_first_mut-clause-valued g t c = on_ok_weaker c.step_finest.result (λ first own. first) c.step_finest.ensures.valued
 
 pub returns-clause-valued : goal.returns-clause-valued
-returns-clause-valued g t c = λ own. c.in_ok-below.ensures.valued
+returns-clause-valued g t c = λ own. c.in_ok-correct.ensures.valued c.args.given.now.level (old_masses (option_copied c.args.given.now.old)) c.in_ok-below.ensures.valued
