@@ -29,6 +29,9 @@ use amr_patch::{Level, Order, Patch};
 use std::alloc::Global;
 use std::thread::Threads;
 
+/// How many register cells are compared: of more, two lists count as other ones.
+const MOST_CELLS: usize = 1 << 30;
+
 /// The layout of a level's step, with a plan of the frames, and what it was made for. That is the boxes of the level's
 /// patches, the register cells of the next coarser level, and the patch boxes of the next finer one. Those matter only
 /// beside open sides. While these stay, each step of the level that is made in the same way takes it as it is.
@@ -70,27 +73,30 @@ impl KeptLayout {
     }
 }
 
-/// Whether two cells are one.
-fn is_same_cell(a: &Cell, b: &Cell) -> bool
-    ensures { IsTrue result → a.now ≡ b.now }
+/// How many coordinates of two cells differ.
+fn differences(a: &Cell, b: &Cell) -> u32
+    ensures few { result ≤ 2 }
+    ensures none { result ≡ 0 → a.now ≡ b.now }
 {
-    let in_column = a.x == b.x;
-    let in_row = a.y == b.y;
-    in_column & in_row
+    u32::from(a.x != b.x) + u32::from(a.y != b.y)
 }
 
-/// Whether two lists have the same cells in the same order. It goes over all of them, so that many are compared at once.
+/// Whether two lists have the same cells in the same order. It says yes of no others. It goes over all of them and counts what differs, so
+/// that several are compared at once.
 fn are_same_cells(a: &[Cell], b: &[Cell]) -> bool
     ensures { IsTrue result → a.now ≡ b.now }
 {
     if a.len() != b.len() {
         return false;
     }
-    let mut same = true;
-    for k in 0..a.len() {
-        same &= is_same_cell(&a[k], &b[k]);
+    if a.len() > MOST_CELLS {
+        return false;
     }
-    same
+    let mut count = 0u32;
+    for k in 0..a.len() {
+        count += differences(&a[k], &b[k]);
+    }
+    count == 0
 }
 
 /// Whether the patches of the finer level have these boxes. There are none where there is no such level.

@@ -34,6 +34,7 @@ use amr_register::EdgeCell;
 use amr_transfer::count_sums;
 use std::alloc::Global;
 use std::boxed::Box;
+use std::mem::replace;
 use std::snapshot::Snapshot;
 use std::thread::Threads;
 
@@ -56,6 +57,17 @@ pub(crate) struct LotTasks {
     pub(crate) lots: Vec<Box<Lot>>,
 }
 
+/// What the lots of a level are made by: runs of its patches, what each patch adds, and a plan of its frames in parts, run by run.
+#[derive(Clone, Copy)]
+struct Cut<'a> {
+    /// How many patches each run has; the last may have fewer.
+    each: usize,
+    /// How many runs there are.
+    runs: usize,
+    flows: &'a LevelFlows,
+    parts: &'a FrameParts,
+}
+
 /// How many parts of so many there are in all.
 fn parts_in(all: usize, each: usize) -> usize
     requires some { 0 < each }
@@ -69,15 +81,24 @@ fn parts_in(all: usize, each: usize) -> usize
     all / each + 1
 }
 
-/// So many patches of one cell, which stand in a lot while no step is made.
-fn blank_patches(alloc: Global, count: usize) -> Result<Vec<Patch>, NoMemory>
+/// So many patches, which stand in a lot while no step is made: old ones as far as they go, and then such of one cell.
+fn blank_patches(alloc: Global, old: Vec<Patch>, count: usize) -> Result<Vec<Patch>, NoMemory>
     ensures { IfOk result (λ qs. length qs.items ≡ count) }
 {
-    let mut patches = Vec::with_capacity(alloc, count)?;
-    for _place in 0..count {
-        patches.push_reserved(Patch::make(alloc, one_cell())?);
+    let mut patches = old;
+    patches.truncate(count);
+    'more: while patches.len() < count {
+        patches.push(Patch::make(alloc, one_cell())?)?;
     }
     Ok(patches)
+}
+
+/// The patches that stand in the last of these lots, which goes. None where there is none.
+fn patches_of_last(alloc: Global, lots: &mut Vec<Box<Lot>>) -> Vec<Patch> {
+    match lots.pop() {
+        Some(mut lot) => replace(&mut lot.patches, Vec::new(alloc)),
+        None => Vec::new(alloc),
+    }
 }
 
 /// So many empty lists of register cells, which stand in a lot while no step is made.
@@ -202,27 +223,30 @@ fn messages_for(
     Ok(messages)
 }
 
-/// The lot for run `k` of so many runs of the patches, `each` of them or as many as are left. `parts` are those of a plan of the level's
-/// frames.
+/// The lot for run `k` of the patches. `old` are patches that may stand in it.
 fn lot_for(
     alloc: Global,
     s: Surroundings<'_>,
-    flows: &LevelFlows,
-    each: usize,
+    cut: Cut<'_>,
     k: usize,
-    runs: usize,
-    parts: &FrameParts,
+    old: Vec<Patch>,
 ) -> Result<Lot, NoMemory>
-    requires adds { AreAddsOf (around s.problem.now s.level s.patches.now s.cells.now (option_copied s.finer)) flows.now }
+    requires adds { AreAddsOf (around s.problem.now s.level s.patches.now s.cells.now (option_copied s.finer)) cut.flows.now }
     requires few { length s.cells.now ≤ 2 ^ 30 }
     requires small { length s.patches.now ≤ 2 ^ 26 }
-    requires within { k * each ≤ length s.patches.now }
-    requires there { k < runs }
-    requires many { runs ≤ 2 ^ 26 }
-    requires copies { length parts.now.copies.items ≡ runs * runs }
-    requires outer { length parts.now.outer.items ≡ runs }
-    ensures { IfOk result (IsLotOf (around s.entry.problem.now s.entry.level s.entry.patches.now s.entry.cells.now (option_copied s.entry.finer)) each k runs parts.now) }
+    requires within { k * cut.each ≤ length s.patches.now }
+    requires there { k < cut.runs }
+    requires many { cut.runs ≤ 2 ^ 26 }
+    requires copies { length cut.parts.now.copies.items ≡ cut.runs * cut.runs }
+    requires outer { length cut.parts.now.outer.items ≡ cut.runs }
+    ensures { IfOk result (IsLotOf (around s.entry.problem.now s.entry.level s.entry.patches.now s.entry.cells.now (option_copied s.entry.finer)) cut.entry.each k cut.entry.runs cut.entry.parts.now) }
 {
+    let Cut {
+        each,
+        runs,
+        flows,
+        parts,
+    } = cut;
     let first = k * each;
     let count = each.min(s.patches.len() - first);
     let NumberedFlows { lists, words } = flows_from(
@@ -237,7 +261,7 @@ fn lot_for(
     Ok(Lot {
         phase: Phase::Send,
         level: s.level,
-        patches: blank_patches(alloc, count)?,
+        patches: blank_patches(alloc, old, count)?,
         edges: blank_edges(alloc, count)?,
         flows: lists,
         words,
@@ -253,42 +277,43 @@ fn lot_for(
     })
 }
 
-/// A lot for each of so many runs of the patches. `parts` are those of a plan of the level's frames.
+/// A lot for each run of the patches. Patches that stand in old lots stand in the new ones.
 fn lots_for(
     alloc: Global,
     s: Surroundings<'_>,
-    flows: &LevelFlows,
-    each: usize,
-    runs: usize,
-    parts: &FrameParts,
+    cut: Cut<'_>,
+    mut old: Vec<Box<Lot>>,
 ) -> Result<Vec<Box<Lot>>, NoMemory>
-    requires adds { AreAddsOf (around s.problem.now s.level s.patches.now s.cells.now (option_copied s.finer)) flows.now }
+    requires adds { AreAddsOf (around s.problem.now s.level s.patches.now s.cells.now (option_copied s.finer)) cut.flows.now }
     requires few { length s.cells.now ≤ 2 ^ 30 }
     requires small { length s.patches.now ≤ 2 ^ 26 }
-    requires tight { runs * each < length s.patches.now + each }
-    requires short { each ≤ 2 ^ 26 }
-    requires many { runs ≤ 2 ^ 26 }
-    requires copies { length parts.now.copies.items ≡ runs * runs }
-    requires outer { length parts.now.outer.items ≡ runs }
-    ensures count { IfOk result (λ xs. length xs.items ≡ runs) }
-    ensures lots { IfOk result (λ xs. (k : ℕ) (x : boxed lot) → k < runs → IsLotOf (around s.entry.problem.now s.entry.level s.entry.patches.now s.entry.cells.now (option_copied s.entry.finer)) each k runs parts.now (slice_index_or xs.items k x).value) }
+    requires tight { cut.runs * cut.each < length s.patches.now + cut.each }
+    requires short { cut.each ≤ 2 ^ 26 }
+    requires many { cut.runs ≤ 2 ^ 26 }
+    requires copies { length cut.parts.now.copies.items ≡ cut.runs * cut.runs }
+    requires outer { length cut.parts.now.outer.items ≡ cut.runs }
+    ensures count { IfOk result (λ xs. length xs.items ≡ cut.entry.runs) }
+    ensures lots { IfOk result (λ xs. (k : ℕ) (x : boxed lot) → k < cut.entry.runs → IsLotOf (around s.entry.problem.now s.entry.level s.entry.patches.now s.entry.cells.now (option_copied s.entry.finer)) cut.entry.each k cut.entry.runs cut.entry.parts.now (slice_index_or xs.items k x).value) }
 {
-    let mut lots = Vec::with_capacity(alloc, runs)?;
-    for k in 0..runs {
-        let lot = lot_for(alloc, s, flows, each, k, runs, parts)?;
+    let mut lots = Vec::with_capacity(alloc, cut.runs)?;
+    for k in 0..cut.runs {
+        let blank = patches_of_last(alloc, &mut old);
+        let lot = lot_for(alloc, s, cut, k, blank)?;
         lots.push_reserved(Box::new(alloc, lot)?);
     }
     Ok(lots)
 }
 
 /// What so many workers work with in the step of these patches where they share them out in lots: runs of as many each. This plan
-/// tells where the ghost cells get their values from. Where each flow goes is worked out by as many threads.
+/// tells where the ghost cells get their values from. Where each flow goes is worked out by as many threads. Old lots leave the patches
+/// that stand in them.
 pub(crate) fn lot_tasks<R: Threads + Sync>(
     rt: &R,
     alloc: Global,
     s: Surroundings<'_>,
     frames: &FramePlan,
     workers: u32,
+    old: Vec<Box<Lot>>,
 ) -> Result<LotTasks, NoMemory>
     requires level { s.level ≤ 4 }
     requires order { IsOrderOf s.order s.patches.now }
@@ -310,7 +335,13 @@ pub(crate) fn lot_tasks<R: Threads + Sync>(
     let each = parts_in(count, workers.max(1) as usize).max(1);
     let runs = parts_in(count, each);
     let parts = part_frames(alloc, frames, each, runs)?;
-    let lots = lots_for(alloc, s, &flows, each, runs, &parts)?;
+    let cut = Cut {
+        each,
+        runs,
+        flows: &flows,
+        parts: &parts,
+    };
+    let lots = lots_for(alloc, s, cut, old)?;
     Ok(LotTasks {
         workers,
         each,

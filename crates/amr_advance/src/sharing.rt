@@ -67,8 +67,8 @@ fn exchange_lists(edges: &mut [Vec<EdgeCell>], lots: &mut [Box<Lot>], size: usiz
     exchange_edges(edges, lots, size);
 }
 
-/// Makes a step of the patches of a level. The caller works out the values of the ghost cells that get no mass of a patch of the level,
-/// once for both steps that the next coarser level's masses serve, and delivers the masses that lots have packed for others. Then it and the kept workers each serve lots: they fill the ghost cells, work
+/// Makes a step of the patches of a level. Lots find the values of the ghost cells that get no mass of a patch of the level, once for both
+/// steps that the next coarser level's masses serve ([`find_outer`]). The caller delivers the masses that lots have packed for others. Then it and the kept workers each serve lots: they fill the ghost cells, work
 /// out what flows into the register cells of this level, make the step of one patch after another, each by its own values and those of its
 /// frame, and pack what others need at the next step. So a lot is handed over once a step, and twice where the level's masses changed
 /// otherwise since its last one. The words, all 0 before, get the totals of the level, and the tasks serve the next step. `edges` are the

@@ -27,6 +27,7 @@ use amr_causes::NoMemory;
 use amr_flux::Room;
 use amr_ghost::FramePlan;
 use amr_layout::{Layout, LevelFlows, Surroundings, plan, plan_adds};
+use amr_lots::Lot;
 use amr_patch::Patch;
 use amr_work::Body;
 use std::alloc::Global;
@@ -190,6 +191,23 @@ fn bodies_from(alloc: Global, old: Option<Tasks>) -> Vec<Box<Body>> {
     }
 }
 
+/// The lots of old tasks, none where there were none.
+fn lots_from(alloc: Global, old: Option<Tasks>) -> Vec<Box<Lot>> {
+    match old {
+        Some(Tasks::Lots(tasks)) => {
+            let LotTasks {
+                workers: _,
+                each: _,
+                packed: _,
+                valued: _,
+                lots,
+            } = tasks;
+            lots
+        }
+        _ => Vec::new(alloc),
+    }
+}
+
 /// What workers work with in the step of these patches, in this way, with what old tasks leave.
 pub(crate) fn tasks_for<R: Threads + Sync>(
     rt: &R,
@@ -217,7 +235,7 @@ pub(crate) fn tasks_for<R: Threads + Sync>(
             Ok(Tasks::Lone(tasks))
         }
         Way::InLots(workers) => {
-            let tasks = lot_tasks(rt, alloc, s, frames, workers)?;
+            let tasks = lot_tasks(rt, alloc, s, frames, workers, lots_from(alloc, old))?;
             Ok(Tasks::Lots(tasks))
         }
         Way::OnBoard => {

@@ -1,6 +1,8 @@
-use Rattle.std.proofs.Common.{◌≡◌, ◌≤◌, length}
-use Rattle.std.specs.Prelude.{vec_capacity}
+use Rattle.std.proofs.Common.{◌-◌, ◌≤◌, length}
 use Rattle.amr_advance.proofs.lots.blank_patches.Given as goal
 
-abbrev pub invariant-loop-place : goal.invariant-loop-place
-invariant-loop-place l = (length l.patches.items ≡ l._place) × (l.count ≤ vec_capacity l.patches)
+abbrev pub invariant-more : goal.invariant-more
+invariant-more l = length l.patches.items ≤ l.count
+
+abbrev pub decreases-more : goal.decreases-more
+decreases-more l = l.count - length l.patches.items

@@ -15,22 +15,22 @@ use Rattle.amr_advance.proofs.lots.lot_for.Goals as goal
 
 pub flows_from-requires-clause-there : goal.flows_from-requires-clause-there
 flows_from-requires-clause-there c =
-    there (around c.args.s.problem.now c.args.s.level c.args.s.patches.now c.args.s.cells.now (option_copied c.args.s.finer)) c.args.flows.now c.requires.adds c.args.each c.args.k c.min-count.result (omega (arith, c.min-count.ensures)) c.requires.within
+    there (around c.args.s.problem.now c.args.s.level c.args.s.patches.now c.args.s.cells.now (option_copied c.args.s.finer)) c.args.cut.flows.now c.requires.adds c.args.cut.each c.args.k c.min-count.result (omega (arith, c.min-count.ensures)) c.requires.within
 
 pub returns : goal.returns
 returns c =
     let s = around c.args.s.problem.now c.args.s.level c.args.s.patches.now c.args.s.cells.now (option_copied c.args.s.finer) in
-    let parts = c.args.parts.now in
-    let runs = c.args.runs in
+    let parts = c.args.cut.parts.now in
+    let runs = c.args.cut.runs in
     let k = c.args.k in
-    let first = k * c.args.each in
+    let first = k * c.args.cut.each in
     let cut : (first + c.min-count.result) - first ≡ c.min-count.result = omega arith in
     let wide : All (λ q. width (box q) ≤ c.widest_of.result) (take c.min-count.result (drop first c.args.s.patches.now)) = subst (λ n. All (λ q. width (box q) ≤ c.widest_of.result) (take n (drop first c.args.s.patches.now))) cut c.widest_of.ensures in
     let below : k * runs + k < length parts.copies.items = (let lt : k * runs + k < runs * runs = place_within k k runs runs c.requires.there c.requires.there in omega (arith, lt, c.requires.copies)) in
     let here : k < length parts.outer.items = omega (arith, c.requires.there, c.requires.outer) in
     let outbox = c.in_ok-messages_for.ensures in
     let inbox = c.in_ok-messages_for-2.ensures in
-    lot_is s c.args.flows.now c.requires.adds c.args.each k c.min-count.result (omega (arith, c.min-count.ensures)) c.requires.within
+    lot_is s c.args.cut.flows.now c.requires.adds c.args.cut.each k c.min-count.result (omega (arith, c.min-count.ensures)) c.requires.within
     runs c.requires.there parts
     _ c.of.ensures refl c.in_ok-blank_patches.ensures c.in_ok-blank_edges.ensures.count c.in_ok-blank_edges.ensures.empty
     c.in_ok-lists.ensures.count c.in_ok-lists.ensures.flows c.in_ok-lists.ensures.words

@@ -19,8 +19,8 @@ loop-k-preserved c =
     record {
       count = omega (arith, ap length pushed, length-append lots (b ∷ []), done.count);
       room = omega (arith, done.room, c.push_reserved.ensures.capacity);
-      done = one_more (λ j (x : Box Lot). IsLotOf s c.args.each j c.args.runs c.args.parts.now x.value) lots c.push_reserved.new.self.items b k done.count pushed done.done
-          (subst (λ (y : Lot). IsLotOf s c.args.each k c.args.runs c.args.parts.now y) (sym c.in_ok-new.ensures.ok) c.in_ok-lot.ensures);
+      done = one_more (λ j (x : Box Lot). IsLotOf s c.args.cut.each j c.args.cut.runs c.args.cut.parts.now x.value) lots c.push_reserved.new.self.items b k done.count pushed done.done
+          (subst (λ (y : Lot). IsLotOf s c.args.cut.each k c.args.cut.runs c.args.cut.parts.now y) (sym c.in_ok-new.ensures.ok) c.in_ok-lot.ensures);
     }
 
 pub returns-clause-lots : goal.returns-clause-lots

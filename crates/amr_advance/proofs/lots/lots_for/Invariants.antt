@@ -11,6 +11,6 @@ use Rattle.amr_advance.proofs.lots.lots_for.Given as goal
 abbrev pub invariant-loop-k : goal.invariant-loop-k
 invariant-loop-k l = record {
   count : length l.lots.items ≡ l.k;
-  room : l.runs ≤ vec_capacity l.lots;
-  done : (j : ℕ) (x : Box Lot) → j < l.k → IsLotOf (around l.s.problem.now l.s.level l.s.patches.now l.s.cells.now (option_copied l.s.finer)) l.each j l.runs l.parts (slice_index_or l.lots.items j x).value;
+  room : l.cut.runs ≤ vec_capacity l.lots;
+  done : (j : ℕ) (x : Box Lot) → j < l.k → IsLotOf (around l.s.problem.now l.s.level l.s.patches.now l.s.cells.now (option_copied l.s.finer)) l.cut.each j l.cut.runs l.cut.parts.now (slice_index_or l.lots.items j x).value;
 }
