@@ -31,7 +31,7 @@ none_absorbed ws r = record { done = λ k c lt. absurd (omega (arith, lt)); left
 abbrev pub IsOfLevels : Register → Type 0
 IsOfLevels r = (p : Problem) × ((l : ℕ) × ((m : Masses) × ((fine : Masses) × IsRegisterOf p l m fine r)))
 
-rises : (r : Register) → IsOfLevels r → AreRising (cells_in r)
+pub rises : (r : Register) → IsOfLevels r → AreRising (cells_in r)
 rises r made =
     let fine = made.1.1.1.0 in
     subst (λ (cs : List Cell). AreRising cs) (sym made.1.1.1.1.cells) (register_cells_rise made.0 made.1.0 made.1.1.0 fine)

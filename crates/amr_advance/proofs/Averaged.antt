@@ -19,7 +19,7 @@ use Rattle.amr_ghost.specs.declared.parts.FrameParts.{FrameParts}
 use Rattle.amr_layout.specs.Surroundings.{Around}
 use Rattle.amr_lots.specs.Correcting.{with_correction}
 use Rattle.amr_lots.specs.Delivery.{with_phase}
-use Rattle.amr_lots.specs.Runs.{HasLayoutOf, HasOthersOf, KeepOthers, run}
+use Rattle.amr_lots.specs.Runs.{HasLayoutOf, HasOthersOf, KeepOthers, run, with_before}
 use Rattle.amr_lots.specs.Serving.{HasSummed, IsServed, MayServe, MaySum}
 use Rattle.amr_lots.specs.declared.lot.Lot.{Lot}
 use Rattle.amr_lots.specs.declared.lot.Phase.TheVariants.{Sum}
@@ -72,10 +72,12 @@ count_of_boxes ps qs same = sym (length-map ps box) ∙ ap length same ∙ lengt
 
 -- ---- one lot
 
--- all but its patches, of which it has as many, its phase, the sums, of which it has as many, and what corrects it is as before
+-- all but its patches and those that keep masses, of which it has as many, its phase, the sums, of which it has as many, and what corrects it
+-- is as before
 pub record KeepsRun (a b : Lot) : Type 0 where
-  pub layout : HasLayoutOf (with_correction b.correction a) b
+  pub layout : HasLayoutOf (with_before b.before (with_correction b.correction a)) b
   pub patches : length b.patches.items ≡ length a.patches.items
+  pub before : length b.before.items ≡ length a.before.items
   pub edges : b.edges ≡ a.edges
   pub outbox : b.outbox ≡ a.outbox
   pub inbox : b.inbox ≡ a.inbox
@@ -84,8 +86,8 @@ pub record KeepsRun (a b : Lot) : Type 0 where
   pub sums : length b.sums.items ≡ length a.sums.items
 
 -- so where what corrects it is as before, too
-pub other_correction : (a b : Lot) → HasLayoutOf a b → HasLayoutOf (with_correction b.correction a) b
-other_correction a b h = record { level = h.level; problem = h.problem; flows = h.flows; words = h.words; copies = h.copies; outer = h.outer; correction = refl }
+pub other_correction : (a b : Lot) → HasLayoutOf a b → HasLayoutOf (with_before b.before (with_correction b.correction a)) b
+other_correction a b h = record { level = h.level; problem = h.problem; flows = h.flows; words = h.words; copies = h.copies; outer = h.outer; correction = refl; before = refl }
 
 -- it then is the lot of the same run
 pub still_of : {s : Around} {each k runs : ℕ} {parts : FrameParts} (a b : Lot) → KeepsRun a b → IsLotOf s each k runs parts a → IsLotOf s each k runs parts b
@@ -94,6 +96,7 @@ still_of {s = s} {each = each} {k = k} {runs = runs} {parts = parts} a b new of 
     of_problem = of.serves.of_problem;
     of_level = of.serves.of_level;
     count = new.patches ∙ of.serves.count;
+    before = new.before ∙ of.serves.before;
     numbered = of.serves.numbered;
     words = of.serves.words;
     copies = of.serves.copies;
@@ -115,11 +118,12 @@ still_of {s = s} {each = each} {k = k} {runs = runs} {parts = parts} a b new of 
   no_edges = of.no_edges;
 })
   where
-    made : record a { phase = b.phase; patches = b.patches; sums = b.sums; correction = b.correction } ≡ b
+    made : record a { phase = b.phase; patches = b.patches; before = b.before; sums = b.sums; correction = b.correction } ≡ b
     made = λ i. record {
       phase = b.phase;
       level = sym new.layout.level i;
       patches = b.patches;
+      before = b.before;
       edges = sym new.edges i;
       flows = sym new.layout.flows i;
       words = sym new.layout.words i;
@@ -144,24 +148,29 @@ all_carry M xs ys new h k x lt =
     let below : k < length xs = omega (arith, lt, new.count) in
     subst (λ (v : Vec Message). All (CarriesMasses M) v.items) (sym (new.each k x below).outbox) (h k x below)
 
--- so lots with other sums serve the same level
-pub tasks_kept : (s : Around) (t u : LotTasks) → u.each ≡ t.each → KeepRuns t.lots.items u.lots.items → AreLotTasks s t → AreLotTasks s u
-tasks_kept s t u each new tasks = record {
+-- as many lots, each of the same run still, serve the same level
+pub tasks_by : (s : Around) (t u : LotTasks) → u.each ≡ t.each → length u.lots.items ≡ length t.lots.items
+    → ((parts : FrameParts) (k : ℕ) (x : Box Lot) → k < length t.lots.items → IsLotOf s t.each k (length t.lots.items) parts (get_or t.lots.items k x).value → IsLotOf s t.each k (length t.lots.items) parts (get_or u.lots.items k x).value) → AreLotTasks s t
+    → AreLotTasks s u
+tasks_by s t u each count same tasks = record {
   some = subst (λ n. 0 < n) (sym each) tasks.some;
-  enough = subst (λ n. length s.patches ≤ length u.lots.items * n) (sym each) (subst (λ n. length s.patches ≤ n * t.each) (sym new.count) tasks.enough);
-  tight = subst (λ n. length u.lots.items * n < length s.patches + n) (sym each) (subst (λ n. n * t.each < length s.patches + t.each) (sym new.count) tasks.tight);
+  enough = subst (λ n. length s.patches ≤ length u.lots.items * n) (sym each) (subst (λ n. length s.patches ≤ n * t.each) (sym count) tasks.enough);
+  tight = subst (λ n. length u.lots.items * n < length s.patches + n) (sym each) (subst (λ n. n * t.each < length s.patches + t.each) (sym count) tasks.tight);
   small = tasks.small;
   edges = tasks.edges;
   plan = tasks.plan;
   planned = tasks.planned;
   parts = tasks.parts;
-  parted = subst (λ n. IsParted tasks.plan n (length u.lots.items) tasks.parts) (sym each) (subst (λ n. IsParted tasks.plan t.each n tasks.parts) (sym new.count) tasks.parted);
+  parted = subst (λ n. IsParted tasks.plan n (length u.lots.items) tasks.parts) (sym each) (subst (λ n. IsParted tasks.plan t.each n tasks.parts) (sym count) tasks.parted);
   lots = λ k x lt.
-      let below : k < length t.lots.items = omega (arith, lt, new.count) in
+      let below : k < length t.lots.items = omega (arith, lt, count) in
       subst (λ n. IsLotOf s n k (length u.lots.items) tasks.parts (get_or u.lots.items k x).value) (sym each)
-      (subst (λ n. IsLotOf s t.each k n tasks.parts (get_or u.lots.items k x).value) (sym new.count)
-      (still_of (get_or t.lots.items k x).value (get_or u.lots.items k x).value (new.each k x below) (tasks.lots k x below)));
+      (subst (λ n. IsLotOf s t.each k n tasks.parts (get_or u.lots.items k x).value) (sym count) (same tasks.parts k x below (tasks.lots k x below)));
 }
+
+-- so lots with other sums do
+pub tasks_kept : (s : Around) (t u : LotTasks) → u.each ≡ t.each → KeepRuns t.lots.items u.lots.items → AreLotTasks s t → AreLotTasks s u
+tasks_kept s t u each new = tasks_by s t u each new.count (λ parts k x below of. still_of (get_or t.lots.items k x).value (get_or u.lots.items k x).value (new.each k x below) of)
 
 -- and so does a layout
 pub layout_kept : (p : Problem) (k : KeptLayout) (t u : LotTasks) → k.tasks ≡ Lots t → ((s : Around) → AreLotTasks s t → AreLotTasks s u) → IsKept p k → IsKept p (record k { tasks = Lots u })
@@ -176,7 +185,6 @@ layout_kept p k t u is tasks kept =
         cells = made.cells;
         finer = made.finer;
         frames = made.frames;
-        totals = made.totals;
         few = made.few;
         tasks = tasks kept.made_for (subst (AreTasks kept.made_for) is made.tasks);
       };
@@ -226,7 +234,7 @@ all_told v lent xs is h = when_lent AreToSum v lent xs is (length_all_zip IsToSu
 
 -- lots that were made for patches with these boxes, before they are handed patches
 module _ {t : LotTasks} (ps : List Patch) (made : AreLotsFor (map box ps) t) where
-  boxes_of_run : (k : ℕ) → map box (run t.each k ps) ≡ map box (run t.each k made.made_for.patches)
+  pub boxes_of_run : (k : ℕ) → map box (run t.each k ps) ≡ map box (run t.each k made.made_for.patches)
   boxes_of_run k = run_boxes t.each k made.made_for.patches ps made.on_boxes
 
   pub same_count : length made.made_for.patches ≡ length ps
@@ -310,6 +318,7 @@ module _ {t : LotTasks} (ps : List Patch) (made : AreLotsFor (map box ps) t) whe
               record {
                 layout = other_correction a v (layout_twice a u v (layout_twice a y u first.layout (of_phase Sum y u sum.layout)) last.layout);
                 patches = ap length (b.handed k x (omega (arith, lt, us_count)) ∙ h.back k x lt);
+                before = (λ i. length (last.layout.before i).items) ∙ (λ i. length (sum.layout.before i).items) ∙ (λ i. length (first.layout.before i).items);
                 edges = last.edges ∙ sum.edges ∙ first.edges;
                 outbox = last.outbox ∙ sum.outbox ∙ first.outbox;
                 inbox = last.inbox ∙ sum.inbox ∙ first.inbox;

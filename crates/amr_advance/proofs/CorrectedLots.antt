@@ -1,35 +1,42 @@
--- Lots to which what corrects a level was lent: they are handed the level's patches, correct them, and are handed what they had before.
-use Rattle.std.proofs.Common.{◌≡◌, ◌∙◌, ℕ, suc, ◌+◌, ◌*◌, ◌^◌, ◌<◌, ◌≤◌, List, length, get_or, map, take, drop, refl, sym, ap, subst, arith}
+-- Lots to which what corrects a level was lent: they are handed the level's patches, correct them, pack their messages, and are handed what
+-- they had before.
+use Rattle.std.proofs.Common.{◌≡◌, ◌∙◌, ℕ, suc, ◌+◌, ◌*◌, ◌^◌, ◌<◌, ◌≤◌, List, length, get_or, map, drop, refl, sym, ap, subst, arith}
 use Rattle.std.specs.declared.option.Option.TheVariants.{None, Some}
-use Rattle.std.specs.Global.{Box}
+use Rattle.std.specs.Global.{Box, Vec}
 use Rattle.std.specs.List.{All, AllZip}
 use Rattle.std.proofs.Math.Nat.{mul-le-mul_right}
 use Rattle.std.proofs.lemmas.List.{length-drop, length-take}
 use Rattle.std.proofs.lemmas.List.Elements.{AllZip-get_or, length_all_zip}
 use Rattle.amr_def.specs.declared.problem.Problem.{Problem}
 use Rattle.amr_def.specs.State.{Masses, children_mass}
+use Rattle.amr_ghost.specs.Messages.{HasPacked, IsMessageFrom}
+use Rattle.amr_ghost.specs.declared.messages.Message.{Message}
+use Rattle.amr_ghost.proofs.Zips.{boxes_of_zip}
 use Rattle.amr_layout.proofs.Planned.{nth}
 use Rattle.amr_patch.specs.declared.patches.Patch.{Patch}
 use Rattle.amr_patch.specs.Orders.{IsOrderOf}
 use Rattle.amr_patch.specs.Patches.{ArePatchesApart, box, masses_in}
+use Rattle.amr_patch.proofs.SameBoxes.{apart_alike}
 use Rattle.amr_register.specs.Registers.{HasEdgesOf, IsBoxAt, IsPlaced, entry_in}
 use Rattle.amr_register.specs.declared.register.Register.{Register}
 use Rattle.amr_transfer.specs.Sums.{AreCoarsenable}
 use Rattle.amr_lots.specs.declared.lot.Correction.{Correction}
 use Rattle.amr_lots.specs.declared.lot.Lot.{Lot}
 use Rattle.amr_lots.specs.declared.lot.Phase.TheVariants.{Correct}
-use Rattle.amr_lots.specs.Correcting.{AreCorrectedBy, CanCorrect, FitsEntries, HasCorrected, IsCorrected, IsReady, MayCorrect, finer_in, register_in, with_correction}
+use Rattle.amr_lots.specs.Correcting.{AreCorrectedBy, CanCorrect, FitsEntries, IsCorrected, IsReady, MayCorrect, finer_in, register_in, with_correction}
 use Rattle.amr_lots.specs.Delivery.{with_phase}
-use Rattle.amr_lots.specs.Runs.{HasLayoutOf, HasOthersOf, KeepOthers, run}
-use Rattle.amr_lots.specs.Serving.{HasValuesBy, IsServed, MayServe}
+use Rattle.amr_lots.specs.Runs.{HasOthersOf, KeepOthers, run}
+use Rattle.amr_lots.specs.Serving.{HasMadeCorrection, HasValuesBy, IsServed, MaySend, MayServe}
 use Rattle.amr_lots.proofs.Layouts.{layout_twice}
-use Rattle.amr_lots.proofs.Runs.{run_at, run_length, run_place}
+use Rattle.amr_lots.proofs.Runs.{run_at, run_place}
 use Rattle.amr_advance.specs.declared.lots.LotTasks.{LotTasks}
 use Rattle.amr_advance.specs.Averaging.{AreLotsFor}
 use Rattle.amr_advance.specs.Correcting.{IsLentPart, IsPartFrom, KeepsAllButCorrection}
+use Rattle.amr_advance.specs.Lots.{CarryMasses}
 use Rattle.amr_advance.proofs.Averaged.{AreServed, AreTraded, KeepRuns, KeepsRun, counts, enough, same_count}
 use Rattle.amr_register.proofs.BoxesAt.{box_at}
 use Rattle.amr_advance.proofs.KeptLots.{of_phase}
+use Rattle.amr_advance.proofs.PackedLots.{PackRuns, PacksRun, packed_carry, sends_run}
 use Rattle.amr_advance.proofs.RunZips.{zip_length, zip_runs}
 
 -- ---- shares
@@ -107,8 +114,10 @@ given_back a b c h back =
         copies = λ i. (same i).copies;
         outer = λ i. (same i).outer;
         correction = refl;
+        before = refl;
       };
       patches = λ i. length (same i).patches.items;
+      before = λ i. length (same i).before.items;
       edges = λ i. (same i).edges;
       outbox = λ i. (same i).outbox;
       inbox = λ i. (same i).inbox;
@@ -116,6 +125,11 @@ given_back a b c h back =
       totals = λ i. (same i).totals;
       sums = λ i. length (same i).sums.items;
     }
+
+-- messages packed from patches, by other names of the same
+packed_by : (ps qs : List Patch) (a b c d : Vec Message) → ps ≡ qs → a ≡ b → c ≡ d → AllZip (HasPacked ps) a.items c.items → AllZip (HasPacked qs) b.items d.items
+packed_by ps qs a b c d patches before after h =
+    subst (λ (v : Vec Message). AllZip (HasPacked qs) b.items v.items) after (subst (λ (v : Vec Message). AllZip (HasPacked qs) v.items c.items) before (subst (λ (rs : List Patch). AllZip (HasPacked rs) a.items c.items) patches h))
 
 -- so lots of which some were lent shares, when they were taken back
 pub all_given_back : (xs ys zs : List (Box Lot)) → AllZip (λ (a b : Box Lot). KeepsAllButCorrection a.value b.value) xs ys → AreGivenBack ys zs → KeepRuns xs zs
@@ -187,23 +201,31 @@ module _ {t : LotTasks} (ps : List Patch) (whole : Correction) (made : AreLotsFo
             can = subst (CanCorrect of.part) (sym (h.handed k x (in_lent k lt))) (part_can t.each k whole of.part ps of.is_part ready apart edges fits (few ps made) (there ps made k lt));
           }
 
+      -- its messages are those that it had, from patches over the boxes of its run
+      may_send : (k : ℕ) (x : Box Lot) → k < length t.lots.items → MaySend (with_phase Correct (get_or ys k x).value)
+      may_send k x lt =
+          subst (λ (v : Vec Message). All (IsMessageFrom (get_or ys k x).value.patches.items) v.items) (sym ((one_handed k x lt).outbox ∙ (λ i. ((lent.parts k x lt).lent i).outbox)))
+          (subst (λ (rs : List Patch). All (IsMessageFrom rs) (get_or t.lots.items k x).value.outbox.items) (sym (h.handed k x (in_lent k lt))) (sends_run ps made k x lt))
+
       pub all_may_correct : (p : Problem) → IsReady whole → ArePatchesApart ps → HasEdgesOf (map box ps) (register_in whole) → All (FitsEntries (register_in whole)) ps → All (λ (x : Box Lot). MayServe p x.value) zs
       all_may_correct p ready apart edges fits = λ k x lt.
           let below : k < length t.lots.items = omega (arith, lt, zs_count) in
-          subst (MayServe p) (sym (one_told k x below)) (may_correct ready apart edges fits k x below)
+          subst (MayServe p) (sym (one_told k x below)) (may_correct ready apart edges fits k x below, may_send k x below)
 
       module _ {us : List (Box Lot)} (g : AreServed zs us) where
         us_count : length us ≡ length t.lots.items
         us_count = sym (length_all_zip WasServed zs us g.served) ∙ zs_count
 
-        one_corrected : (k : ℕ) (x : Box Lot) → k < length t.lots.items → HasCorrected (with_phase Correct (get_or ys k x).value) (get_or us k x).value
+        one_corrected : (k : ℕ) (x : Box Lot) → k < length t.lots.items → HasMadeCorrection (with_phase Correct (get_or ys k x).value) (get_or us k x).value
         one_corrected k x lt = subst (λ (a : Lot). IsServed a (get_or us k x).value) (one_told k x lt) (AllZip-get_or WasServed zs us k x x g.served (omega (arith, lt, zs_count)))
 
         run_corrected : (k : ℕ) (x : Box Lot) → k < length t.lots.items → AreCorrectedBy whole (run t.each k ps) (get_or us k x).value.patches.items
         run_corrected k x lt =
             let of = lent.parts k x lt in
+            let made = one_corrected k x lt in
             part_corrects (k * t.each) whole of.part (run t.each k ps) (get_or us k x).value.patches.items of.is_part
-            (subst (λ (rs : List Patch). AreCorrectedBy of.part rs (get_or us k x).value.patches.items) (h.handed k x (in_lent k lt)) ((one_corrected k x lt).patches of.part (has_part k x lt)))
+            (subst (λ (v : Vec Patch). AreCorrectedBy of.part (run t.each k ps) v.items) (sym made.sends.patches)
+            (subst (λ (rs : List Patch). AreCorrectedBy of.part rs made.corrected.patches.items) (h.handed k x (in_lent k lt)) (made.corrects.patches of.part (has_part k x lt))))
 
         -- so they may be handed what they had before
         pub counts_back : (k : ℕ) (x : Box Lot) → k < length us → length (get_or us k x).value.patches.items ≡ length (run t.each k qs)
@@ -226,40 +248,54 @@ module _ {t : LotTasks} (ps : List Patch) (whole : Correction) (made : AreLotsFo
               zip_runs t.each (length t.lots.items) made.tasks.some ps (enough ps made) (IsCorrected (masses_in (finer_in whole)) (entry_in (register_in whole))) rs (sym (b.count ∙ h.count))
               (λ k lt. let x : Box Lot = nth t.lots.items k lt in subst (AreCorrectedBy whole (run t.each k ps)) (sym (b.back k x (omega (arith, lt, us_count)))) (run_corrected k x lt))
 
+          -- over the boxes that they had
+          same_boxes : map box rs ≡ map box ps
+          same_boxes = boxes_of_zip (IsCorrected (masses_in (finer_in whole)) (entry_in (register_in whole))) (λ q r s. s.kept.of_box) ps rs all_corrected
+
           module _ {ws : List (Box Lot)} (back : AreGivenBack vs ws) where
-            one_new : (k : ℕ) (x : Box Lot) → k < length t.lots.items → KeepsRun (get_or t.lots.items k x).value (get_or ws k x).value
+            one_new : (k : ℕ) (x : Box Lot) → k < length t.lots.items → PacksRun (run t.each k rs) (get_or t.lots.items k x).value (get_or ws k x).value
             one_new k x lt =
-                let a : Lot = (get_or t.lots.items k x).value in
                 let l : Lot = (get_or ls k x).value in
                 let y : Lot = (get_or ys k x).value in
                 let u : Lot = (get_or us k x).value in
                 let v : Lot = (get_or vs k x).value in
                 let w : Lot = (get_or ws k x).value in
                 let first = one_handed k x lt in
-                let corrected = (one_corrected k x lt).others in
+                let c : Lot = (one_corrected k x lt).corrected in
+                let corrected = (one_corrected k x lt).corrects.others in
+                let sent = (one_corrected k x lt).sends in
                 let last = one_back k x lt in
-                let mid = layout_twice l u v (layout_twice l y u first.layout (of_phase Correct y u corrected.layout)) last.layout in
+                let mid = layout_twice l u v (layout_twice l c u (layout_twice l y c first.layout (of_phase Correct y c corrected.layout)) sent.layout) last.layout in
                 let given = (lent.parts k x lt).lent in
                 let taken : w ≡ with_correction None v = AllZip-get_or IsGivenBack vs ws k x x back.back (omega (arith, lt, vs_count)) in
                 record {
-                  layout = record {
-                    level = (λ i. (taken i).level) ∙ mid.level ∙ (λ i. (given i).level);
-                    problem = (λ i. (taken i).problem) ∙ mid.problem ∙ (λ i. (given i).problem);
-                    flows = (λ i. (taken i).flows) ∙ mid.flows ∙ (λ i. (given i).flows);
-                    words = (λ i. (taken i).words) ∙ mid.words ∙ (λ i. (given i).words);
-                    copies = (λ i. (taken i).copies) ∙ mid.copies ∙ (λ i. (given i).copies);
-                    outer = (λ i. (taken i).outer) ∙ mid.outer ∙ (λ i. (given i).outer);
-                    correction = refl;
+                  kept = record {
+                    layout = record {
+                      level = (λ i. (taken i).level) ∙ mid.level ∙ (λ i. (given i).level);
+                      problem = (λ i. (taken i).problem) ∙ mid.problem ∙ (λ i. (given i).problem);
+                      flows = (λ i. (taken i).flows) ∙ mid.flows ∙ (λ i. (given i).flows);
+                      words = (λ i. (taken i).words) ∙ mid.words ∙ (λ i. (given i).words);
+                      copies = (λ i. (taken i).copies) ∙ mid.copies ∙ (λ i. (given i).copies);
+                      outer = (λ i. (taken i).outer) ∙ mid.outer ∙ (λ i. (given i).outer);
+                      correction = refl;
+                      before = refl;
+                    };
+                    patches = (λ i. length (taken i).patches.items) ∙ ap length (b.handed k x (omega (arith, lt, us_count)) ∙ h.back k x (in_lent k lt)) ∙ (λ i. length (given i).patches.items);
+                    before = (λ i. length (taken i).before.items) ∙ (λ i. length (mid.before i).items) ∙ (λ i. length (given i).before.items);
+                    edges = (λ i. (taken i).edges) ∙ last.edges ∙ sent.edges ∙ corrected.edges ∙ first.edges ∙ (λ i. (given i).edges);
+                    outbox = refl;
+                    inbox = (λ i. (taken i).inbox) ∙ last.inbox ∙ sent.inbox ∙ corrected.inbox ∙ first.inbox ∙ (λ i. (given i).inbox);
+                    room = (λ i. (taken i).room) ∙ last.room ∙ sent.room ∙ corrected.room ∙ first.room ∙ (λ i. (given i).room);
+                    totals = (λ i. (taken i).totals) ∙ last.totals ∙ sent.totals ∙ corrected.totals ∙ first.totals ∙ (λ i. (given i).totals);
+                    sums = (λ i. length (taken i).sums.items) ∙ (λ i. length (last.sums i).items) ∙ (λ i. length (sent.sums i).items) ∙ (λ i. length (corrected.sums i).items) ∙ (λ i. length (first.sums i).items) ∙ (λ i. length (given i).sums.items);
                   };
-                  patches = (λ i. length (taken i).patches.items) ∙ ap length (b.handed k x (omega (arith, lt, us_count)) ∙ h.back k x (in_lent k lt)) ∙ (λ i. length (given i).patches.items);
-                  edges = (λ i. (taken i).edges) ∙ last.edges ∙ corrected.edges ∙ first.edges ∙ (λ i. (given i).edges);
-                  outbox = (λ i. (taken i).outbox) ∙ last.outbox ∙ corrected.outbox ∙ first.outbox ∙ (λ i. (given i).outbox);
-                  inbox = (λ i. (taken i).inbox) ∙ last.inbox ∙ corrected.inbox ∙ first.inbox ∙ (λ i. (given i).inbox);
-                  room = (λ i. (taken i).room) ∙ last.room ∙ corrected.room ∙ first.room ∙ (λ i. (given i).room);
-                  totals = (λ i. (taken i).totals) ∙ last.totals ∙ corrected.totals ∙ first.totals ∙ (λ i. (given i).totals);
-                  sums = (λ i. length (taken i).sums.items) ∙ (λ i. length (last.sums i).items) ∙ (λ i. length (corrected.sums i).items) ∙ (λ i. length (first.sums i).items) ∙ (λ i. length (given i).sums.items);
+                  packed = packed_by c.patches.items (run t.each k rs) c.outbox (get_or t.lots.items k x).value.outbox u.outbox w.outbox ((λ i. (sym sent.patches i).items) ∙ sym (b.back k x (omega (arith, lt, us_count)))) (corrected.outbox ∙ first.outbox ∙ (λ i. (given i).outbox)) (sym last.outbox ∙ (λ i. (sym taken i).outbox)) sent.packed;
                 }
 
-            -- all else of the lots is as before
-            pub all_new : KeepRuns t.lots.items ws
-            all_new = record { count = sym (length_all_zip IsGivenBack vs ws back.back) ∙ vs_count; each = one_new }
+            -- each lot keeps its run, and has packed its messages from the run's corrected patches
+            pub all_new : PackRuns t.each rs t.lots.items ws
+            all_new = record { count = sym (length_all_zip IsGivenBack vs ws back.back) ∙ vs_count; lots = one_new }
+
+            -- so they carry the corrected masses
+            pub all_current : ArePatchesApart ps → CarryMasses (masses_in rs) ws
+            all_current apart = packed_carry rs (subst (λ bs. AreLotsFor bs t) (sym same_boxes) made) (apart_alike ps rs same_boxes apart) ws all_new

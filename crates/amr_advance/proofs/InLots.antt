@@ -54,7 +54,8 @@ use Rattle.amr_advance.specs.Lots.{AreLotTasks, ServesRun}
 use Rattle.amr_advance.specs.Shown.{IsStepped, StepFits}
 use Rattle.amr_advance.proofs.Filled.{all_lie}
 use Rattle.amr_advance.proofs.Going.{same_words}
-use Rattle.amr_advance.proofs.Lone.{level_most, word_sum}
+use Rattle.amr_advance.proofs.FewFlows.{level_few}
+use Rattle.amr_advance.proofs.Lone.{word_sum}
 use Rattle.amr_advance.proofs.OnePatch as OnePatch
 
 -- ---- runs
@@ -127,8 +128,8 @@ module _ {p : Problem} {l : ℕ} {old : Masses} {ps : List Patch} {cells : List 
   abbrev pub flow_lists : ℕ → List (List FlowTo)
   flow_lists k = map (λ (q : Patch). flows_of (around p l ps cells next) (box q)) (run t.each k ps)
 
-  pub totals_small : (word : ℕ) → level_total (around p l ps cells next) (plain_size p l (masses_in ps) old) word < 2 ^ 63
-  totals_small word = omega (arith, level_most s (plain_size p l (masses_in ps) old) level.fits.fluxes word ps, level.tasks.edges)
+  pub totals_small : (word : ℕ) → level_total (around p l ps cells next) (plain_size p l (masses_in ps) old) word ≤ 2 ^ 61
+  totals_small word = omega (arith, level_few s (plain_size p l (masses_in ps) old) level.fits.fluxes word ps, level.tasks.edges)
 
   -- ---- the patches of a lot with their frames filled, by values worked out before, by copies within the lot and by messages
 

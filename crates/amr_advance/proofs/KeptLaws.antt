@@ -1,7 +1,6 @@
 -- A layout that is kept serves each level with the same boxes beside levels with the same boxes.
 use Rattle.std.proofs.Common.{◌≡◌, ◌∙◌, ℕ, ◌+◌, ◌*◌, ◌^◌, ◌<◌, ◌≤◌, Bool, true, List, [], ◌∷◌, length, get_or, map, refl, sym, ap, subst, arith}
 use Rattle.std.specs.Prelude.{is_some}
-use Rattle.std.specs.Global.{Vec}
 use Rattle.std.specs.List.{All}
 use Rattle.amr_balance.specs.Turns.{IsLargestFirst, in_turn}
 use Rattle.amr_balance.proofs.TurnLaws.{in_turn_map}
@@ -91,6 +90,7 @@ same_lot s t each k runs parts x g h =
         of_problem = of.of_problem ∙ g.problem;
         of_level = of.of_level ∙ g.level;
         count = of.count ∙ count;
+        before = of.before ∙ count;
         numbered = subst (λ (xs : List (List FlowTo)). AreNumbered x.words.items xs (flows_of_lot x)) flows of.numbered;
         words = subst (λ (cs : List Cell). All (λ w. w < 2 + 2 * length cs) x.words.items) g.cells of.words;
         copies = of.copies;
@@ -131,7 +131,7 @@ same_lots s t x g h = record {
 
 -- and so the tasks
 same_tasks : (s t : Around) (tasks : Tasks) → SameGround s t → AreTasks s tasks → AreTasks t tasks
-same_tasks s t (Lone x) g h = record { adds = same_adds s t x.flows g h.adds; room = same_room s.patches t.patches (widest x.room) g.boxes h.room }
+same_tasks s t (Lone x) g h = record { adds = same_adds s t x.flows g h.adds; room = same_room s.patches t.patches (widest x.room) g.boxes h.room; totals = h.totals ∙ ap (λ (cs : List Cell). 2 + 2 * length cs) g.cells }
 same_tasks s t (Lots x) g h = same_lots s t x g h
 same_tasks s t (Board x) g h = record {
   layout = same_layout s t x.layout.value g h.layout;
@@ -140,6 +140,7 @@ same_tasks s t (Board x) g h = record {
   workspaces =
       same_workspaces (in_turn x.turns.items s.patches) (in_turn x.turns.items t.patches) (in_turn x.turns.items x.layout.value.tasks.items) (workspaces_in x.bodies.items) (same_turned s t x.turns.items g) h.workspaces;
   faces = h.faces;
+  totals = h.totals;
 }
 
 -- a layout made for the same ground serves here
@@ -155,8 +156,7 @@ serves_here t k h level boxes cells finer =
       cells = cells;
       finer = finer;
       frames = same_frames s.problem t.problem s.level t.level s.patches t.patches k.frames h.of_problem (sym made.level ∙ level) same made.frames;
-      totals = made.totals ∙ ap (λ (cs : List Cell). 2 + 2 * length cs) (sym made.cells ∙ cells);
-      few = made.few;
+      few = subst (λ (cs : List Cell). 2 + 2 * length cs < 2 ^ 32) (sym made.cells ∙ cells) made.few;
       tasks = same_tasks s t k.tasks (record { problem = h.of_problem; level = sym made.level ∙ level; boxes = same; cells = sym made.cells ∙ cells; finer = λ e c. made.finer e c ∙ sym (finer (opened ∙ e) c) }) made.tasks;
     }
 
@@ -168,8 +168,7 @@ still_here s t k g h = record {
   cells = h.cells ∙ g.cells;
   finer = λ e c. let here : has_open_side s.problem ≡ true = ap has_open_side g.problem ∙ e in sym (g.finer here c) ∙ h.finer here c;
   frames = same_frames s.problem t.problem s.level t.level s.patches t.patches k.frames g.problem g.level g.boxes h.frames;
-  totals = h.totals ∙ ap (λ (cs : List Cell). 2 + 2 * length cs) g.cells;
-  few = h.few;
+  few = subst (λ (cs : List Cell). 2 + 2 * length cs < 2 ^ 32) g.cells h.few;
   tasks = same_tasks s t k.tasks g h.tasks;
 }
 
@@ -181,21 +180,7 @@ with_tasks s k ts h are = record {
   cells = h.cells;
   finer = h.finer;
   frames = h.frames;
-  totals = h.totals;
   few = h.few;
-  tasks = are;
-}
-
--- and its totals those of another step
-pub with_step : (s : Around) (k : KeptLayout) (ws : Vec ℕ) (ts : Tasks) → IsLaidOut s k → ws.len ≡ k.totals.len → AreTasks s ts → IsLaidOut s (record k { totals = ws; tasks = ts })
-with_step s k ws ts h long are = record {
-  level = h.level;
-  boxes = h.boxes;
-  cells = h.cells;
-  finer = h.finer;
-  frames = h.frames;
-  totals = omega (arith, long, ws.ok.0, k.totals.ok.0, h.totals);
-  few = omega (arith, long, ws.ok.0, k.totals.ok.0, h.few);
   tasks = are;
 }
 

@@ -102,7 +102,7 @@ plan_lent a b o = plan_same a b o.layout o.room o.totals o.sums
 
 -- whatever phase it was for
 pub of_phase : (phase : Phase) (a b : Lot) → HasLayoutOf (with_phase phase a) b → HasLayoutOf a b
-of_phase phase a b h = record { level = h.level; problem = h.problem; flows = h.flows; words = h.words; copies = h.copies; outer = h.outer; correction = h.correction }
+of_phase phase a b h = record { level = h.level; problem = h.problem; flows = h.flows; words = h.words; copies = h.copies; outer = h.outer; correction = h.correction; before = h.before }
 
 pub plan_sent : (phase : Phase) (a b : Lot) → HasSent (with_phase phase a) b → KeepsPlan a b
 plan_sent phase a b o = plan_same a b (of_phase phase a b o.layout) o.room o.totals o.sums
@@ -129,6 +129,7 @@ module _ {s : Around} {each k runs : ℕ} {parts : FrameParts} {a : Lot} (of : S
     of_problem = (λ i. (plan.layout.problem i).value) ∙ of.of_problem;
     of_level = plan.layout.level ∙ of.of_level;
     count = count;
+    before = (λ i. length (plan.layout.before i).items) ∙ of.before;
     numbered = with_flows;
     words = subst (λ ws. All (λ w. w < 2 + 2 * length s.cells) ws.items) (sym plan.layout.words) of.words;
     copies = λ v. (λ i. (plan.layout.copies i).items) ∙ of.copies v;
@@ -165,6 +166,7 @@ module _ {s : Around} {each k runs : ℕ} {parts : FrameParts} {a : Lot} (of : S
     of_problem = of.of_problem;
     of_level = of.of_level;
     count = of.count;
+    before = of.before;
     numbered = of.numbered;
     words = of.words;
     copies = of.copies;

@@ -28,5 +28,11 @@ mod BackEdges
 mod MadeLots
 mod Averaged
 mod Corrected
+mod PackedLots
 mod CorrectedLots
+mod KeptMasses
 mod LentParts
+mod AddedWords
+mod FewFlows
+mod KeptTotals
+mod LotsAdded

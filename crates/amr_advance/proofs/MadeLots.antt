@@ -199,16 +199,17 @@ module _ (s : Around) (v : LevelFlows) (of : AreAddsOf s v) (each k count : ℕ)
 
   -- a lot with all that a run needs, by a plan of the level's frames in parts
   module _ (runs : ℕ) (here : k < runs) (parts : FrameParts) where
-    pub lot_is : (x : Lot) → x.problem.value ≡ s.problem → x.level ≡ s.level → length x.patches.items ≡ count → length x.edges.items ≡ count → All (λ (es : Vec EdgeCell). es.items ≡ []) x.edges.items
+    pub lot_is : (x : Lot) → x.problem.value ≡ s.problem → x.level ≡ s.level → length x.patches.items ≡ count → length x.before.items ≡ count → length x.edges.items ≡ count → All (λ (es : Vec EdgeCell). es.items ≡ []) x.edges.items
         → length x.flows.items ≡ count → ((i : ℕ) (w : Vec FlowTo) → i < count → AllZip (IsNumbered x.words.items) (flows_at v (k * each + i)) (get_or x.flows.items i w).items) → All (λ w. w < 2 + 2 * length s.cells) x.words.items
         → ((w : Vec FrameCopy) → x.copies.items ≡ (get_or parts.copies.items (k * runs + k) w).items) → ((w : Vec Span) → x.outer.spans.items ≡ (get_or parts.outer.items k w).items) → HasOuterPlaces x.outer
         → AreMadeFor parts.copies.items (k * runs) 1 k runs x.outbox.items → AreMadeFor parts.copies.items k runs k runs x.inbox.items → All (λ q. width (box q) ≤ widest x.room) (take count (drop (k * each) s.patches))
         → length x.totals.items ≡ length x.words.items → length x.sums.items ≡ sum_count (take count (drop (k * each) s.patches)) → IsLotOf s each k runs parts x
-    lot_is x problem level patches edges none flow_count numbered words copies outer outer_places outbox inbox room totals sums = record {
+    lot_is x problem level patches before edges none flow_count numbered words copies outer outer_places outbox inbox room totals sums = record {
       serves = record {
         of_problem = problem;
         of_level = level;
         count = patches ∙ sym run_count;
+        before = before ∙ sym run_count;
         numbered = numbered_run x.words.items x flow_count numbered;
         words = words;
         copies = copies;

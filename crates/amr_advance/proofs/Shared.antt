@@ -192,12 +192,6 @@ module _ {p : Problem} {l : ℕ} {old : Masses} {ps : List Patch} {cells : List 
       one_last : (k : ℕ) (x : Box Lot) → k < runs → KeepOthers (get_or xs k x) (get_or last k x)
       one_last = one_handed level made.lots h
 
-      pub totals_of : All (λ (x : Box Lot). length x.value.totals.items ≡ length x.value.words.items) last
-      totals_of = λ k x lt. (last_lots.of k x (omega (arith, lt, last_lots.count))).totals
-
-      pub words_of : All (λ (x : Box Lot). All (λ w. w < 2 + 2 * length cells) x.value.words.items) last
-      words_of = λ k x lt. (last_lots.of k x (omega (arith, lt, last_lots.count))).words
-
       pub totals_sum : (word : ℕ) → total (word_of word) last ≡ level_total (around p l ps cells next) (plain_size p l (masses_in ps) old) word
       totals_sum word =
           total_runs (adds level word) (word_of word) t.each last ps

@@ -12,3 +12,4 @@ pub mod Turns
 pub mod Lots
 pub mod Averaging
 pub mod Correcting
+pub mod Adding

@@ -51,11 +51,12 @@ pub record AreNumbersOf (words numbers : List ℕ) : Type 0 where
 -- ---- the lots of a level
 
 -- a lot that serves run k of a level's patches, in runs of so many each, by a plan of the level's frames in parts. While no step is made it
--- has other patches, as many.
+-- has other patches, as many, and so for those that keep masses.
 pub record ServesRun (s : Around) (each k runs : ℕ) (parts : FrameParts) (x : Lot) : Type 0 where
   pub of_problem : x.problem.value ≡ s.problem
   pub of_level : x.level ≡ s.level
   pub count : length x.patches.items ≡ length (run each k s.patches)
+  pub before : length x.before.items ≡ length (run each k s.patches)
   pub numbered : AreNumbered x.words.items (map (λ q. flows_of s (box q)) (run each k s.patches)) (flows_of_lot x)
   pub words : All (λ w. w < 2 + 2 * length s.cells) x.words.items
   pub copies : (v : Vec FrameCopy) → x.copies.items ≡ (slice_index_or parts.copies.items (k * runs + k) v).items

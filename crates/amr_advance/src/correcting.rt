@@ -7,6 +7,7 @@ ghost use Rattle.std.specs.Global.{Box as boxed};
 ghost use Rattle.std.specs.List.{All, AllZip, Contains};
 ghost use Rattle.amr_box.specs.declared.Cell.{Cell};
 ghost use Rattle.amr_box.specs.Cells.{parent};
+ghost use Rattle.amr_def.specs.declared.problem.Problem.{Problem};
 ghost use Rattle.amr_def.specs.State.{Masses, children_mass, mass_of};
 ghost use Rattle.amr_layout.specs.Surroundings.{Around};
 ghost use Rattle.amr_lots.specs.Correcting.{AreCorrectedBy, FitsEntries, IsReady, finer_in, register_in, with_correction};
@@ -80,8 +81,8 @@ fn take_back(lots: &mut [Box<Lot>])
     }
 }
 
-/// Has workers correct the patches of a level, each those of a lot. It answers whether they did: there may be no memory for the shares of
-/// all lots. Else all is as before.
+/// Has workers correct the patches of a level, each those of a lot. Each lot then packs the masses that others need for the next step. It
+/// answers whether they did: there may be no memory for the shares of all lots. Else all is as before.
 fn correct_in_lots<R: Wait, G: Gate>(
     workers: &mut Workers<'_, R, G>,
     p: &Problem,
@@ -99,7 +100,8 @@ fn correct_in_lots<R: Wait, G: Gate>(
     ensures corrected { result ≡ true → AreCorrectedBy whole.now patches.old patches.new }
     ensures same { result ≡ false → patches.new ≡ patches.old }
     ensures tasks { (s : Around) → AreLotTasks s tasks.old → AreLotTasks s tasks.new }
-    ensures current { (M : Masses) → AreLotsCurrent M tasks.old → AreLotsCurrent M tasks.new }
+    ensures current { result ≡ true → AreLotsCurrent (masses_in patches.new) tasks.new }
+    ensures still_current { result ≡ false → (M : Masses) → AreLotsCurrent M tasks.old → AreLotsCurrent M tasks.new }
     ensures valued { (l : ℕ) (old : Masses) → AreLotsValued p.now l old tasks.old → AreLotsValued p.now l old tasks.new }
 {
     match lend(&mut tasks.lots, tasks.each, whole) {
@@ -113,6 +115,7 @@ fn correct_in_lots<R: Wait, G: Gate>(
             serve_lots(workers, p, &mut tasks.lots);
             exchange_runs(patches, &mut tasks.lots, tasks.each);
             take_back(&mut tasks.lots);
+            tasks.packed = true;
             true
         }
     }
@@ -206,7 +209,8 @@ fn correct_by_workers<R: Wait, G: Gate>(
     ensures finer { OnOk result (level_of finer.new ≡ level_of finer.old) }
     ensures finer_patches { OnOk result (patches_of finer.new ≡ patches_of finer.old) }
     ensures tasks { OnOk result ((s : Around) → AreLotTasks s tasks.old → AreLotTasks s tasks.new) }
-    ensures current { OnOk result ((M : Masses) → AreLotsCurrent M tasks.old → AreLotsCurrent M tasks.new) }
+    ensures current { IfOk result (λ x. x.done ≡ true → AreLotsCurrent (level_of level.new).masses tasks.new) }
+    ensures still_current { IfOk result (λ x. x.done ≡ false → (M : Masses) → AreLotsCurrent M tasks.old → AreLotsCurrent M tasks.new) }
     ensures valued { OnOk result ((l : ℕ) (old : Masses) → AreLotsValued p.now l old tasks.old → AreLotsValued p.now l old tasks.new) }
 {
     let order = level.order();
@@ -245,7 +249,8 @@ fn correct_by_layout<R: Wait, G: Gate>(
     ensures finer { OnOk result (level_of finer.new ≡ level_of finer.old) }
     ensures finer_patches { OnOk result (patches_of finer.new ≡ patches_of finer.old) }
     ensures kept { OnOk result (IfSome kept.new (IsKept p.now)) }
-    ensures current { OnOk result ((M : Masses) → IfSome kept.old (IsCurrent M) → IfSome kept.new (IsCurrent M)) }
+    ensures current { IfOk result (λ x. x.done ≡ true → IfSome kept.new (IsCurrent (level_of level.new).masses)) }
+    ensures still_current { IfOk result (λ x. x.done ≡ false → (M : Masses) → IfSome kept.old (IsCurrent M) → IfSome kept.new (IsCurrent M)) }
     ensures valued { OnOk result ((l : ℕ) (old : Masses) → IfSome kept.old (IsValued p.now l old) → IfSome kept.new (IsValued p.now l old)) }
 {
     let Some(layout) = kept else {
@@ -260,9 +265,21 @@ fn correct_by_layout<R: Wait, G: Gate>(
     }
 }
 
+/// Tells what is kept of a level, where something is, that its masses changed otherwise than by its step.
+fn forget_masses(kept: &mut Option<KeptLayout>)
+    ensures kept { (q : Problem) → IfSome kept.old (IsKept q) → IfSome kept.new (IsKept q) }
+    ensures current { (M : Masses) → IfSome kept.new (IsCurrent M) }
+    ensures valued { (q : Problem) (l : ℕ) (old : Masses) → IfSome kept.old (IsValued q l old) → IfSome kept.new (IsValued q l old) }
+{
+    if let Some(layout) = kept {
+        layout.masses_changed();
+    }
+}
+
 /// Gives each register cell of a level its entry, and each covered cell the sum of the masses of its children: by workers where `kept`, what
 /// is kept of the level, has lots of its patches, else by this thread, with sums by workers where `finer_kept` has lots. All else of both
-/// levels stays, and what is kept serves their next steps. The register comes back as it was.
+/// levels stays, and what is kept serves their next steps: what it says of the level's masses is of the corrected ones, whatever it was of
+/// before. The register comes back as it was.
 ///
 /// The level has patches over the boxes that the register was made over, and no mass with its entry is below 0, or 2^32 or more. The parent
 /// of each finer cell is a cell of the level, no finer patch cuts one, and each sum is below 2^32. After `NoMemory` both levels may have lost
@@ -295,7 +312,7 @@ pub fn correct_kept<R: Wait, G: Gate>(
     ensures finer { OnOk result (level_of finer.new ≡ level_of finer.old) }
     ensures finer_patches { OnOk result (patches_of finer.new ≡ patches_of finer.old) }
     ensures kept { OnOk result (IfSome kept.new (IsKept p.now)) }
-    ensures current { OnOk result ((M : Masses) → IfSome kept.old (IsCurrent M) → IfSome kept.new (IsCurrent M)) }
+    ensures current { OnOk result (IfSome kept.new (IsCurrent (level_of level.new).masses)) }
     ensures valued { OnOk result ((l : ℕ) (old : Masses) → IfSome kept.old (IsValued p.now l old) → IfSome kept.new (IsValued p.now l old)) }
     ensures finer_kept { OnOk result (IfSome finer_kept.new (IsKept p.now)) }
     ensures finer_current { OnOk result ((M : Masses) → IfSome finer_kept.old (IsCurrent M) → IfSome finer_kept.new (IsCurrent M)) }
@@ -306,5 +323,6 @@ pub fn correct_kept<R: Wait, G: Gate>(
     }
     corrected.register.reflux(level);
     sum_up_kept(workers, p, finer, level, finer_kept);
+    forget_masses(kept);
     Ok(corrected.register)
 }

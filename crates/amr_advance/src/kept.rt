@@ -42,8 +42,6 @@ pub struct KeptLayout {
     cells: Vec<Cell>,
     finer: Vec<Bx>,
     pub(crate) frames: FramePlan,
-    /// The totals of the words that its tasks add to: those of the last step, once one was made.
-    pub(crate) totals: Vec<u64>,
     pub(crate) tasks: Tasks,
 }
 
@@ -196,14 +194,12 @@ fn lay_out_anew<R: Threads + Sync>(
         &starts,
     )?;
     let tasks = tasks_for(rt, alloc, surroundings, &frames, way, old)?;
-    let totals = vec![in alloc; 0u64; 2 + 2 * given.cells.len()]?;
     Ok(KeptLayout {
         level: given.level,
         boxes: boxes_of(alloc, patches)?,
         cells: Vec::from_slice(alloc, given.cells)?,
         finer: finer_boxes(alloc, given.finer)?,
         frames,
-        totals,
         tasks,
     })
 }
@@ -216,7 +212,6 @@ fn tasks_from(layout: KeptLayout) -> Tasks {
         cells: _,
         finer: _,
         frames: _,
-        totals: _,
         tasks,
     } = layout;
     tasks

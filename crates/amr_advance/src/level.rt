@@ -10,14 +10,14 @@ ghost use Rattle.amr_layout.specs.Surroundings.{around};
 ghost use Rattle.amr_flows.specs.Laws.{plain_size};
 ghost use Rattle.amr_flows.specs.Words.{level_total};
 ghost use Rattle.amr_register.specs.EdgeCells.{IsSmallNet, SameEdges, lists_of};
-ghost use Rattle.amr_advance.specs.Kept.{IsCurrent, IsLaidOut, IsValued};
+ghost use Rattle.amr_advance.specs.Kept.{IsCurrent, IsLaidOut, IsValued, totals_kept};
 ghost use Rattle.amr_advance.specs.Lots.{IsSharedOf};
 ghost use Rattle.amr_advance.specs.Registers.{AreEdgesFor, AreNetsOf};
 ghost use Rattle.amr_advance.specs.Shown.{AreShown, IsStepped, StepFits};
-ghost use Rattle.amr_advance.specs.Tasks.{AreBoardTasks, AreFilledFor};
+ghost use Rattle.amr_advance.specs.Tasks.{AreBoardTasks, AreFilledFor, AreSmallInLots};
 ghost use Rattle.amr_advance.specs.Teams.{IsTeamFor};
 
-use crate::alone::step_each;
+use crate::alone::step_alone_by;
 use crate::collecting::{collect, take_totals};
 use crate::kept::KeptLayout;
 use crate::pieces::{to_patches, to_pieces};
@@ -49,8 +49,8 @@ pub(crate) struct Given<'a> {
     pub cells: &'a [Cell],
 }
 
-/// Makes a step of the patches of a level, whose frames are filled, by workers on a board with these tasks. It takes
-/// the totals of the words from the closed board. The tasks serve the next step.
+/// Makes a step of the patches of a level, whose frames are filled, by workers on a board with these tasks. They get
+/// the totals of the words from the closed board, and serve the next step.
 ///
 /// All memory whose lack is a refusal is taken before the first task is drawn. If allocation fails the patches are as before.
 fn run_on_board<R: Threads + Wait + Sync, G: Gate + Sync>(
@@ -58,7 +58,6 @@ fn run_on_board<R: Threads + Wait + Sync, G: Gate + Sync>(
     given: Given<'_>,
     patches: &mut [Patch],
     tasks: &mut BoardTasks,
-    totals: &mut [u64],
 ) -> Result<(), NoMemory>
     requires level { given.level ≤ 4 }
     requires shown { AreShown given.problem.now given.level (old_masses (option_copied given.old)) patches.old }
@@ -69,12 +68,10 @@ fn run_on_board<R: Threads + Wait + Sync, G: Gate + Sync>(
     requires few_workers { workers.old.count ≤ 64 }
     requires gate { (worker task : ℕ) → worker < workers.old.count → task < length patches.old → G.admits workers.old.gate.now worker task }
     requires team { IfSome workers.old.team (IsTeamFor given.problem.now workers.old.gate.now workers.old.count) }
-    requires words { length totals.old ≡ tasks.old.shape.words }
     ensures workers { workers.new ≡ workers.old }
     ensures stepped { OnOk result (AllZip (IsStepped (flux_at given.entry.problem.now given.entry.level (masses_in patches.old) (old_masses (option_copied given.entry.old)))) patches.old patches.new) }
-    ensures words { length totals.new ≡ length totals.old }
-    ensures totals { OnOk result ((word : ℕ) → word < length totals.new → slice_index totals.new word ≡ level_total (around given.entry.problem.now given.entry.level patches.old given.entry.cells.now (option_copied given.entry.finer)) (plain_size given.entry.problem.now given.entry.level (masses_in patches.old) (old_masses (option_copied given.entry.old))) word) }
-    ensures small { OnOk result ((word : ℕ) → word < length totals.new → slice_index totals.new word < 2 ^ 63) }
+    ensures totals { OnOk result ((word : ℕ) → word < length tasks.new.totals.items → slice_index tasks.new.totals.items word ≡ level_total (around given.entry.problem.now given.entry.level patches.old given.entry.cells.now (option_copied given.entry.finer)) (plain_size given.entry.problem.now given.entry.level (masses_in patches.old) (old_masses (option_copied given.entry.old))) word) }
+    ensures small { OnOk result ((word : ℕ) → word < length tasks.new.totals.items → slice_index tasks.new.totals.items word < 2 ^ 63) }
     ensures tasks { OnOk result (AreBoardTasks (around given.entry.problem.now given.entry.level patches.old given.entry.cells.now (option_copied given.entry.finer)) tasks.new) }
     ensures same { OnErr result (patches.new ≡ patches.old) }
 {
@@ -87,7 +84,7 @@ fn run_on_board<R: Threads + Wait + Sync, G: Gate + Sync>(
     match run_pieces(workers, alloc, given.problem, tasks.shape, pieces) {
         Ok(mut ended) => {
             collect(workers, given, &mut ended, room, tasks, patches);
-            take_totals(&ended, totals);
+            take_totals(&ended, &mut tasks.totals);
             Ok(())
         }
         Err(pieces) => {
@@ -98,8 +95,8 @@ fn run_on_board<R: Threads + Wait + Sync, G: Gate + Sync>(
 }
 
 /// Makes a step of the patches of a level: each cell gets what flows in through its faces. The layout was made for the way that this
-/// is done in. Frames are filled, but for patches in lots. The layout gets the totals of the ledger's words and of the register's, and
-/// serves the next step. The lists of register cells over a finer level, where there is one, get what the level's own fluxes carry into
+/// is done in. Frames are filled, but for patches in lots. The layout's tasks get the totals of the ledger's words and of the register's, and
+/// serve the next step. The lists of register cells over a finer level, where there is one, get what the level's own fluxes carry into
 /// each cell. They have the same cells afterwards, whatever the result.
 ///
 /// All memory whose lack is a refusal is taken before the first task is begun. If allocation fails the patches are as before.
@@ -125,8 +122,9 @@ pub(crate) fn run_level<R: Threads + Wait + Sync, G: Gate + Sync>(
     requires team { IfSome workers.old.team (IsTeamFor given.problem.now workers.old.gate.now workers.old.count) }
     ensures workers { workers.new ≡ workers.old }
     ensures stepped { OnOk result (AllZip (IsStepped (flux_at given.entry.problem.now given.entry.level (masses_in patches.old) (old_masses (option_copied given.entry.old)))) patches.old patches.new) }
-    ensures totals { OnOk result ((word : ℕ) → word < length layout.new.totals.items → slice_index layout.new.totals.items word ≡ level_total (around given.entry.problem.now given.entry.level patches.old given.entry.cells.now (option_copied given.entry.finer)) (plain_size given.entry.problem.now given.entry.level (masses_in patches.old) (old_masses (option_copied given.entry.old))) word) }
-    ensures small { OnOk result ((word : ℕ) → word < length layout.new.totals.items → slice_index layout.new.totals.items word < 2 ^ 63) }
+    ensures totals { OnOk result ((word : ℕ) → word < length (totals_kept layout.new) → slice_index (totals_kept layout.new) word ≡ level_total (around given.entry.problem.now given.entry.level patches.old given.entry.cells.now (option_copied given.entry.finer)) (plain_size given.entry.problem.now given.entry.level (masses_in patches.old) (old_masses (option_copied given.entry.old))) word) }
+    ensures small { OnOk result ((word : ℕ) → word < length (totals_kept layout.new) → slice_index (totals_kept layout.new) word < 2 ^ 63) }
+    ensures small_lots { OnOk result (AreSmallInLots layout.new.tasks) }
     ensures layout { OnOk result (IsLaidOut (around given.entry.problem.now given.entry.level patches.old given.entry.cells.now (option_copied given.entry.finer)) layout.new) }
     ensures current { OnOk result (IsCurrent (masses_in patches.new) layout.new) }
     ensures valued { OnOk result (IsValued given.entry.problem.now given.entry.level (old_masses (option_copied given.entry.old)) layout.new) }
@@ -135,20 +133,19 @@ pub(crate) fn run_level<R: Threads + Wait + Sync, G: Gate + Sync>(
     ensures nets { AreNetsOf given.entry.problem.now given.entry.level (masses_in patches.old) (old_masses (option_copied given.entry.old)) (lists_of edges.old) (lists_of edges.new) }
     ensures same { OnErr result (patches.new ≡ patches.old) }
 {
-    layout.totals.fill(0);
     match &mut layout.tasks {
         Tasks::Lone(tasks) => {
             find_nets(given, patches, edges);
-            step_each(workers.gate, given, patches, tasks, &mut layout.totals);
+            step_alone_by(workers.gate, given, patches, tasks);
             Ok(())
         }
         Tasks::Lots(tasks) => {
-            step_in_lots(workers, given, patches, edges, tasks, &mut layout.totals);
+            step_in_lots(workers, given, patches, edges, tasks);
             Ok(())
         }
         Tasks::Board(tasks) => {
             find_nets(given, patches, edges);
-            run_on_board(workers, given, patches, tasks, &mut layout.totals)
+            run_on_board(workers, given, patches, tasks)
         }
     }
 }

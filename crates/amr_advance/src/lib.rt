@@ -6,10 +6,12 @@
 //! lots add up the masses of children, which the covered cells get ([`sum_up_kept`]).
 #![tactic(auto)]
 
+mod adding;
 mod alone;
 mod averaging;
 mod collecting;
 mod correcting;
+mod keeping;
 mod kept;
 mod level;
 mod lots;
@@ -26,6 +28,7 @@ mod ways;
 
 pub use averaging::sum_up_kept;
 pub use correcting::correct_kept;
+pub use keeping::keep_masses;
 pub use kept::KeptLayout;
 pub use regs::{Crew, Regs};
 pub use running::{LevelTeam, Workers};

@@ -93,11 +93,25 @@ fn blank_patches(alloc: Global, old: Vec<Patch>, count: usize) -> Result<Vec<Pat
     Ok(patches)
 }
 
+/// Patches that may stand in a lot while no step is made.
+#[derive(Drop)]
+struct Blank {
+    patches: Vec<Patch>,
+    /// In place of those that keep masses.
+    before: Vec<Patch>,
+}
+
 /// The patches that stand in the last of these lots, which goes. None where there is none.
-fn patches_of_last(alloc: Global, lots: &mut Vec<Box<Lot>>) -> Vec<Patch> {
+fn blank_of_last(alloc: Global, lots: &mut Vec<Box<Lot>>) -> Blank {
     match lots.pop() {
-        Some(mut lot) => replace(&mut lot.patches, Vec::new(alloc)),
-        None => Vec::new(alloc),
+        Some(mut lot) => Blank {
+            patches: replace(&mut lot.patches, Vec::new(alloc)),
+            before: replace(&mut lot.before, Vec::new(alloc)),
+        },
+        None => Blank {
+            patches: Vec::new(alloc),
+            before: Vec::new(alloc),
+        },
     }
 }
 
@@ -223,13 +237,13 @@ fn messages_for(
     Ok(messages)
 }
 
-/// The lot for run `k` of the patches. `old` are patches that may stand in it.
+/// The lot for run `k` of the patches. `blank` are patches that may stand in it.
 fn lot_for(
     alloc: Global,
     s: Surroundings<'_>,
     cut: Cut<'_>,
     k: usize,
-    old: Vec<Patch>,
+    blank: Blank,
 ) -> Result<Lot, NoMemory>
     requires adds { AreAddsOf (around s.problem.now s.level s.patches.now s.cells.now (option_copied s.finer)) cut.flows.now }
     requires few { length s.cells.now ≤ 2 ^ 30 }
@@ -261,7 +275,8 @@ fn lot_for(
     Ok(Lot {
         phase: Phase::Send,
         level: s.level,
-        patches: blank_patches(alloc, old, count)?,
+        patches: blank_patches(alloc, blank.patches, count)?,
+        before: blank_patches(alloc, blank.before, count)?,
         edges: blank_edges(alloc, count)?,
         flows: lists,
         words,
@@ -297,7 +312,7 @@ fn lots_for(
 {
     let mut lots = Vec::with_capacity(alloc, cut.runs)?;
     for k in 0..cut.runs {
-        let blank = patches_of_last(alloc, &mut old);
+        let blank = blank_of_last(alloc, &mut old);
         let lot = lot_for(alloc, s, cut, k, blank)?;
         lots.push_reserved(Box::new(alloc, lot)?);
     }

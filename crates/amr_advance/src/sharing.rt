@@ -9,13 +9,14 @@ ghost use Rattle.amr_def.specs.Flux.{flux_at, net};
 ghost use Rattle.amr_def.specs.State.{Masses};
 ghost use Rattle.amr_patch.specs.Patches.{ArePatchesApart, box, masses_in};
 ghost use Rattle.amr_ghost.specs.Frames.{AreInDomain, old_masses};
+ghost use Rattle.amr_phase.specs.Plans.{total};
 ghost use Rattle.amr_layout.specs.Surroundings.{around};
 ghost use Rattle.amr_flows.specs.Laws.{plain_size};
 ghost use Rattle.amr_flows.specs.Words.{level_total};
 ghost use Rattle.amr_register.specs.CoarseFlows.{edge_flows};
 ghost use Rattle.amr_register.specs.EdgeCells.{AreEdges, IsSmallNet, SameEdges, lists_of};
 ghost use Rattle.amr_lots.specs.Delivery.{with_phase};
-ghost use Rattle.amr_lots.specs.Runs.{KeepAllButEdges, run};
+ghost use Rattle.amr_lots.specs.Runs.{KeepAllButEdges, run, word_of};
 ghost use Rattle.amr_lots.specs.Serving.{HasSent, MaySend};
 ghost use Rattle.amr_lots.specs.declared.lot.Lot.{Lot as lot};
 ghost use Rattle.amr_lots.specs.declared.lot.Phase.TheVariants.{Send};
@@ -29,14 +30,14 @@ use crate::lots::LotTasks;
 use crate::running::{Workers, serve_lots};
 use crate::valuing::find_outer;
 use amr_def::Problem;
-use amr_lots::{Lot, Phase, add_up, exchange_edges, exchange_messages, exchange_runs, set_phase};
+use amr_lots::{Lot, Phase, exchange_edges, exchange_messages, exchange_runs, set_phase};
 use amr_patch::Patch;
 use amr_register::EdgeCell;
 use amr_workers::Gate;
 use std::boxed::Box;
 use std::sync::Wait;
 
-/// Has the masses packed that other lots need, where that was not done at the end of the last step.
+/// Has the masses packed that other lots need, where that was not done at the end of the last step or of the correction after it.
 fn pack_lots<R: Wait, G: Gate>(workers: &mut Workers<'_, R, G>, p: &Problem, tasks: &mut LotTasks)
     requires may { All (λ x. MaySend x.value) tasks.old.lots.items }
     requires team { IfSome workers.old.team (IsTeamFor p.now workers.old.gate.now workers.old.count) }
@@ -68,18 +69,18 @@ fn exchange_lists(edges: &mut [Vec<EdgeCell>], lots: &mut [Box<Lot>], size: usiz
 }
 
 /// Makes a step of the patches of a level. Lots find the values of the ghost cells that get no mass of a patch of the level, once for both
-/// steps that the next coarser level's masses serve ([`find_outer`]). The caller delivers the masses that lots have packed for others. Then it and the kept workers each serve lots: they fill the ghost cells, work
-/// out what flows into the register cells of this level, make the step of one patch after another, each by its own values and those of its
-/// frame, and pack what others need at the next step. So a lot is handed over once a step, and twice where the level's masses changed
-/// otherwise since its last one. The words, all 0 before, get the totals of the level, and the tasks serve the next step. `edges` are the
-/// lists of register cells, one a patch, or none where no register is over this level. It takes no memory.
+/// steps that the next coarser level's masses serve ([`find_outer`]). The caller delivers the masses that lots have packed for others. Then
+/// it and the kept workers each serve lots: they fill the ghost cells, work out what flows into the register cells of this level, make the
+/// step of one patch after another, each by its own values and those of its frame, and pack what others need at the next step. So a lot is
+/// handed over once a step, and twice where the level's masses changed since its last one otherwise than by its lots. The lots have what
+/// flowed to each of their words then, all together the totals of the level, and serve the next step. `edges` are the lists of register
+/// cells, one a patch, or none where no register is over this level. It takes no memory.
 pub(crate) fn step_in_lots<R: Wait, G: Gate>(
     workers: &mut Workers<'_, R, G>,
     given: Given<'_>,
     patches: &mut [Patch],
     edges: &mut [Vec<EdgeCell>],
     tasks: &mut LotTasks,
-    totals: &mut [u64],
 )
     requires level { given.level ≤ 4 }
     requires apart { ArePatchesApart patches.old }
@@ -91,16 +92,13 @@ pub(crate) fn step_in_lots<R: Wait, G: Gate>(
     requires valued { AreLotsValued given.problem.now given.level (old_masses (option_copied given.old)) tasks.old }
     requires shared { IsSharedOf given.old given.shared }
     requires team { IfSome workers.old.team (IsTeamFor given.problem.now workers.old.gate.now workers.old.count) }
-    requires words { length totals.old ≡ 2 + 2 * length given.cells.now }
-    requires none { (word : ℕ) → slice_index totals.old word ≡ 0 }
     ensures workers { workers.new ≡ workers.old }
     ensures stepped { AllZip (IsStepped (flux_at given.entry.problem.now given.entry.level (masses_in patches.old) (old_masses (option_copied given.entry.old)))) patches.old patches.new }
     ensures same_edges { SameEdges (lists_of edges.old) (lists_of edges.new) }
     ensures small_nets { All (All IsSmallNet) (lists_of edges.new) }
     ensures nets { (fine : Masses) → AreEdges (domain given.entry.problem.now given.entry.level) (masses_in patches.old) fine (lists_of edges.old) → All (All (λ e. e.net ≡ net (edge_flows given.entry.problem.now given.entry.level (masses_in patches.old) (old_masses (option_copied given.entry.old)) fine) e.cell)) (lists_of edges.new) }
-    ensures words { length totals.new ≡ length totals.old }
-    ensures totals { (word : ℕ) → slice_index totals.new word ≡ level_total (around given.entry.problem.now given.entry.level patches.old given.entry.cells.now (option_copied given.entry.finer)) (plain_size given.entry.problem.now given.entry.level (masses_in patches.old) (old_masses (option_copied given.entry.old))) word }
-    ensures small { (word : ℕ) → slice_index totals.new word < 2 ^ 63 }
+    ensures totals { (word : ℕ) → total (word_of word) tasks.new.lots.items ≡ level_total (around given.entry.problem.now given.entry.level patches.old given.entry.cells.now (option_copied given.entry.finer)) (plain_size given.entry.problem.now given.entry.level (masses_in patches.old) (old_masses (option_copied given.entry.old))) word }
+    ensures small { (word : ℕ) → total (word_of word) tasks.new.lots.items ≤ 2 ^ 61 }
     ensures tasks { AreLotTasks (around given.entry.problem.now given.entry.level patches.old given.entry.cells.now (option_copied given.entry.finer)) tasks.new }
     ensures current { AreLotsCurrent (masses_in patches.new) tasks.new }
     ensures valued { AreLotsValued given.entry.problem.now given.entry.level (old_masses (option_copied given.entry.old)) tasks.new }
@@ -116,5 +114,4 @@ pub(crate) fn step_in_lots<R: Wait, G: Gate>(
     exchange_runs(patches, &mut tasks.lots, tasks.each);
     tasks.packed = true;
     tasks.valued = true;
-    add_up(&tasks.lots, totals);
 }

@@ -15,17 +15,18 @@ ghost use Rattle.amr_ghost.specs.Frames.{AreInDomain, old_masses};
 ghost use Rattle.amr_layout.specs.Adds.{HasRegisterCells};
 ghost use Rattle.amr_layout.specs.Surroundings.{around, finer_masses};
 ghost use Rattle.amr_advance.specs.Registers.{BothChange, HasCoarser, HasEdges, HasFiner, cells_of, gained, taken};
-ghost use Rattle.amr_advance.specs.Totals.{HasTotals, SomeHasAbsorbed, SomeMayAbsorb};
+ghost use Rattle.amr_advance.specs.Totals.{HasTotals};
 ghost use Rattle.amr_register.specs.Registers.{HasEdgesOf};
 ghost use Rattle.amr_advance.specs.Lots.{IsSharedOf};
-ghost use Rattle.amr_advance.specs.Kept.{IsCurrent, IsKept, IsLaidOut, IsValued, totals_in};
+ghost use Rattle.amr_advance.specs.Kept.{IsCurrent, IsKept, IsLaidOut, IsSmallInLots, IsValued, totals_in};
 ghost use Rattle.amr_advance.specs.Shown.{StepFits};
 ghost use Rattle.amr_advance.specs.Tasks.{AreFilledFor};
 ghost use Rattle.amr_advance.specs.Teams.{IsTeamFor};
 
+use crate::adding::add_totals;
 use crate::kept::{KeptLayout, layout_for};
 use crate::level::{Given, run_level};
-use crate::registers::{absorb_totals, put_edges, take_edges, take_nets};
+use crate::registers::{put_edges, take_edges, take_nets};
 use crate::regs::{Crew, Regs};
 use crate::running::Workers;
 use crate::tasks::are_lots;
@@ -79,16 +80,6 @@ fn cells_of(register: &Option<Register>) -> &[Cell]
     }
 }
 
-/// The totals that a layout that is kept has, none where none is kept.
-fn totals_in(kept: &Option<KeptLayout>) -> &[u64]
-    ensures { result.now ≡ totals_in kept.now }
-{
-    match kept {
-        Some(layout) => layout.totals.as_slice(),
-        None => &[],
-    }
-}
-
 /// Makes a step of the patches of a level. The layout that is kept has the totals of its words. The register over the next finer level
 /// loses the level's own flows through its coarse-fine edges. If allocation fails the patches have the masses of before, and the
 /// register has the entries of before.
@@ -123,6 +114,7 @@ fn step_patches<R: Threads + Wait + Sync, G: Gate + Sync>(
     ensures count { OnOk result (length (totals_in kept.new) ≡ 2 + 2 * length given.entry.cells.now) }
     ensures few { OnOk result (length (totals_in kept.new) < 2 ^ 32) }
     ensures small { OnOk result ((word : ℕ) → word < length (totals_in kept.new) → slice_index (totals_in kept.new) word < 2 ^ 63) }
+    ensures small_lots { IfSome kept.new IsSmallInLots }
     ensures totals { OnOk result (HasTotals given.entry.problem.now given.entry.level (masses_in patches.old) (old_masses (option_copied given.entry.old)) (finer_masses (option_copied given.entry.finer)) given.entry.cells.now (totals_in kept.new)) }
     ensures register { OnOk result (BothChange (taken given.entry.problem.now given.entry.level (masses_in patches.old) (old_masses (option_copied given.entry.old)) (finer_masses (option_copied given.entry.finer))) register.old register.new) }
     ensures same_masses { OnErr result (masses_in patches.new ≡ masses_in patches.old) }
@@ -144,27 +136,6 @@ fn step_patches<R: Threads + Wait + Sync, G: Gate + Sync>(
     take_nets(register);
     *kept = Some(layout);
     Ok(())
-}
-
-/// Adds the totals of a step: the ledger's words to the sums, and the others to the register of the next coarser level.
-fn add_totals(totals: &[u64], regs: &mut Regs)
-    requires count { length totals.now ≡ 2 + 2 * length (cells_of regs.old.coarser) }
-    requires few { length totals.now < 2 ^ 32 }
-    requires small { (word : ℕ) → word < length totals.now → slice_index totals.now word < 2 ^ 63 }
-    requires inflow { regs.old.inflow + slice_index totals.now 0 < 2 ^ 63 }
-    requires outflow { regs.old.outflow + slice_index totals.now 1 < 2 ^ 63 }
-    requires coarser { SomeMayAbsorb totals.now regs.old.coarser }
-    ensures inflow { regs.new.inflow ≡ regs.old.inflow + slice_index totals.now 0 }
-    ensures outflow { regs.new.outflow ≡ regs.old.outflow + slice_index totals.now 1 }
-    ensures coarser { SomeHasAbsorbed totals.now regs.old.coarser regs.new.coarser }
-    ensures finer { regs.new.finer ≡ regs.old.finer }
-{
-    regs.inflow += totals[0];
-    regs.outflow += totals[1];
-    match &mut regs.coarser {
-        Some(register) => absorb_totals(totals, register),
-        None => (),
-    }
 }
 
 /// The same as `advance`, for a level that makes many steps. What depends on boxes alone, the layout of the step and
@@ -233,7 +204,7 @@ pub fn advance_kept<R: Threads + Wait + Sync, G: Gate + Sync>(
     let stepped = step_patches(workers, given, order, &mut patches, &mut regs.finer, kept);
     level.put_patches_in_order(patches, order);
     stepped?;
-    add_totals(totals_in(kept), regs);
+    add_totals(kept, regs);
     Ok(())
 }
 

@@ -42,6 +42,8 @@ pub(crate) struct LoneTasks {
     pub(crate) flows: LevelFlows,
     /// Room for a row of fluxes of the widest patch.
     pub(crate) room: Room,
+    /// What flowed to each word of the level in the last step, once one was made.
+    pub(crate) totals: Vec<u64>,
 }
 
 /// What several workers work with on a board.
@@ -54,6 +56,8 @@ pub(crate) struct BoardTasks {
     pub(crate) bodies: Vec<Box<Body>>,
     /// Room for what stands at each place of the board, once it is closed.
     pub(crate) faces: Vec<u64>,
+    /// What flowed to each word of the level in the last step, once one was made.
+    pub(crate) totals: Vec<u64>,
     pub(crate) layout: Snapshot<Layout>,
 }
 
@@ -104,7 +108,11 @@ pub(crate) fn widest_of(patches: &[Patch]) -> u32
 fn room_from(old: Option<Tasks>) -> Option<Room> {
     match old {
         Some(Tasks::Lone(tasks)) => {
-            let LoneTasks { flows: _, room } = tasks;
+            let LoneTasks {
+                flows: _,
+                room,
+                totals: _,
+            } = tasks;
             Some(room)
         }
         _ => None,
@@ -137,7 +145,12 @@ fn lone_tasks(alloc: Global, s: Surroundings<'_>, old: Option<Room>) -> Result<L
 {
     let room = room_for(alloc, widest_of(s.patches), old)?;
     let flows = plan_adds(alloc, s)?;
-    Ok(LoneTasks { flows, room })
+    let totals = vec![in alloc; 0u64; 2 + 2 * s.cells.len()]?;
+    Ok(LoneTasks {
+        flows,
+        room,
+        totals,
+    })
 }
 
 /// What several workers work with on a board in the step of these patches, with old bodies as far as they go.
@@ -165,11 +178,13 @@ fn board_tasks(
     let tasks = in_turn(alloc, layout.tasks, &turns)?;
     let bodies = bodies_of(alloc, s.patches, &turns, tasks, olds)?;
     let faces = vec![in alloc; 0u64; shape.places as usize]?;
+    let totals = vec![in alloc; 0u64; shape.words as usize]?;
     Ok(BoardTasks {
         shape,
         turns,
         bodies,
         faces,
+        totals,
         layout: made,
     })
 }
@@ -183,6 +198,7 @@ fn bodies_from(alloc: Global, old: Option<Tasks>) -> Vec<Box<Body>> {
                 turns: _,
                 bodies,
                 faces: _,
+                totals: _,
                 layout: _,
             } = tasks;
             bodies

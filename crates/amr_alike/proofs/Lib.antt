@@ -1,2 +1,2 @@
 pub mod SameBoxes
-mod Copying
+pub mod Copying

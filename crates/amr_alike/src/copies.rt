@@ -1,6 +1,7 @@
 //! Masses copied from one level into another with the same patch boxes.
 
 ghost use Rattle.std.specs.Prelude.{◌≡◌, ℕ, ◌<◌, length, map, slice_index_or};
+ghost use Rattle.std.specs.List.{AllZip};
 ghost use Rattle.amr_box.specs.declared.Cell.{Cell};
 ghost use Rattle.amr_patch.specs.Levels.{level_of, patches_of};
 ghost use Rattle.amr_patch.specs.Patches.{ArePatchesApart, box, mass_in, masses_in};
@@ -18,9 +19,10 @@ fn copy_values(from: &Patch, to: &mut Patch)
     target.values.copy_from_slice(&source.values);
 }
 
-/// Copies the values of patches into others with the same boxes, one by one.
-fn copy_all(from: &[Patch], to: &mut [Patch])
+/// Copies the values of patches into others with the same boxes, one by one, those of their frames too. It takes no memory.
+pub fn copy_patches(from: &[Patch], to: &mut [Patch])
     requires { map box to.old ≡ map box from.now }
+    ensures copied { AllZip IsCopied from.now to.new }
     ensures boxes { map box to.new ≡ map box to.old }
     ensures masses { masses_in to.new ≡ masses_in from.now }
 {
@@ -39,6 +41,6 @@ pub fn copy_masses(from: &Level, to: &mut Level)
 {
     let order = to.order();
     let mut patches = to.take_patches();
-    copy_all(from.patches(), patches.as_mut_slice());
+    copy_patches(from.patches(), patches.as_mut_slice());
     to.put_patches_in_order(patches, order);
 }

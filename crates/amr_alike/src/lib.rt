@@ -6,5 +6,5 @@ mod copies;
 mod patches;
 
 pub use boxes::are_same;
-pub use copies::copy_masses;
+pub use copies::{copy_masses, copy_patches};
 pub use patches::{boxes_of, have_boxes, have_same_boxes};

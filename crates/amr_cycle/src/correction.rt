@@ -24,7 +24,7 @@ use amr_workers::Gate;
 use std::sync::Wait;
 
 /// Gives each register cell its entry, and each covered cell the sum of its children, by the register that there is and by what is kept of both
-/// levels. The register stays.
+/// levels. The register stays, and what is kept of the level is of its corrected masses.
 pub(crate) fn correct<R: Wait, G: Gate>(
     workers: &mut Workers<'_, R, G>,
     p: &Problem,
@@ -54,7 +54,7 @@ pub(crate) fn correct<R: Wait, G: Gate>(
     ensures finer { OnOk result (level_of finer.new ≡ level_of finer.old) }
     ensures finer_patches { OnOk result (patches_of finer.new ≡ patches_of finer.old) }
     ensures kept { OnOk result (IfSome kept.new (IsKept p.now)) }
-    ensures current { OnOk result ((M : Masses) → IfSome kept.old (IsCurrent M) → IfSome kept.new (IsCurrent M)) }
+    ensures current { OnOk result (IfSome kept.new (IsCurrent (level_of level.new).masses)) }
     ensures valued { OnOk result ((l : ℕ) (old : Masses) → IfSome kept.old (IsValued p.now l old) → IfSome kept.new (IsValued p.now l old)) }
     ensures finer_kept { OnOk result (IfSome finer_kept.new (IsKept p.now)) }
     ensures finer_current { OnOk result ((M : Masses) → IfSome finer_kept.old (IsCurrent M) → IfSome finer_kept.new (IsCurrent M)) }

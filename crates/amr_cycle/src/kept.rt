@@ -8,17 +8,21 @@ ghost use Rattle.amr_def.specs.State.{Level as StateLevel, Masses};
 ghost use Rattle.amr_patch.specs.Levels.{level_of, patches_of};
 ghost use Rattle.amr_patch.specs.Patches.{box};
 ghost use Rattle.amr_register.specs.Registers.{SameCells, entry_in};
-ghost use Rattle.amr_advance.specs.Kept.{IsCurrent as IsCurrentLayout, IsValued};
+ghost use Rattle.amr_advance.specs.Kept.{IsCurrent as IsCurrentLayout, IsKept as IsKeptLayout, IsValued};
+ghost use Rattle.amr_advance.specs.Teams.{IsTeamFor};
 ghost use Rattle.amr_cycle.specs.Kept.{AreCurrent, AreKept, HasBoxesOf, IsBelow, IsCurrent, IsKept, IsKeptBelow, IsKeptLevel, IsOnSameBoxes};
 
-use amr_advance::KeptLayout;
+use crate::given::Given;
+use amr_advance::{KeptLayout, Workers, keep_masses};
 use amr_alike::{are_same, boxes_of, copy_masses, have_boxes, have_same_boxes};
 use amr_box::Bx;
 use amr_causes::NoMemory;
 use amr_def::Problem;
 use amr_patch::Level;
 use amr_register::Register;
+use amr_workers::Gate;
 use std::alloc::Global;
+use std::sync::Wait;
 use std::thread::Threads;
 
 /// What a level keeps for both steps of the next finer one. There is a level on its own boxes, in which its masses
@@ -122,17 +126,32 @@ fn serves(kept: &KeptBelow, level: &Level, next: &Level) -> bool
     have_boxes(next.patches(), &kept.finer)
 }
 
-/// Brings up to date what was kept over the same boxes: the masses of the level, and a register of zeros.
-fn renew(kept: &mut KeptBelow, level: &Level)
-    requires { map box (patches_of kept.old.before) ≡ map box (patches_of level.now) }
-    ensures before { (level_of kept.new.before).masses ≡ (level_of level.now).masses }
+/// Brings up to date what was kept over the same boxes: the masses of the level, which workers copy where they share its patches out, and
+/// a register of zeros. The level stays, and what is kept of it serves its next step.
+fn renew<R: Wait, G: Gate>(
+    workers: &mut Workers<'_, R, G>,
+    p: &Problem,
+    kept: &mut KeptBelow,
+    level: &mut Level,
+    layout: &mut Option<KeptLayout>,
+)
+    requires boxes { map box (patches_of kept.old.before) ≡ map box (patches_of level.old) }
+    requires team { IfSome workers.old.team (IsTeamFor p.now workers.old.gate.now workers.old.count) }
+    requires layout { IfSome layout.old (IsKeptLayout p.now) }
+    ensures workers { workers.new ≡ workers.old }
+    ensures before { (level_of kept.new.before).masses ≡ (level_of level.old).masses }
     ensures boxes { (level_of kept.new.before).boxes ≡ (level_of kept.old.before).boxes }
     ensures finer { kept.new.finer ≡ kept.old.finer }
     ensures patches { map box (patches_of kept.new.before) ≡ map box (patches_of kept.old.before) }
     ensures cells { SameCells kept.old.register kept.new.register }
     ensures zero { (c : Cell) → entry_in kept.new.register c ≡ pos 0 }
+    ensures level { level_of level.new ≡ level_of level.old }
+    ensures level_patches { patches_of level.new ≡ patches_of level.old }
+    ensures layout { IfSome layout.new (IsKeptLayout p.now) }
+    ensures current { (M : Masses) → IfSome layout.old (IsCurrentLayout M) → IfSome layout.new (IsCurrentLayout M) }
+    ensures valued { (l : ℕ) (old : Masses) → IfSome layout.old (IsValued p.now l old) → IfSome layout.new (IsValued p.now l old) }
 {
-    copy_masses(level, &mut kept.before);
+    keep_masses(workers, p, level, &mut kept.before, layout);
     kept.register.clear();
 }
 
@@ -149,66 +168,75 @@ fn before_in(mut kept: Level, level: &Level) -> Result<Level, NoMemory>
 }
 
 /// What both steps of the next finer level stand on, made anew: the level as it is before its step, and a register of zeros. It is
-/// made by as many threads at once as `threads` says.
-fn make_below<R: Threads + Sync>(
-    rt: &R,
-    threads: usize,
-    alloc: Global,
-    p: &Problem,
-    l: u32,
+/// made by as many threads at once as there are workers.
+fn make_below<R: Threads + Sync, G: Gate>(
+    workers: &Workers<'_, R, G>,
+    given: &Given<'_>,
     before: Level,
     level: &Level,
     next: &Level,
 ) -> Result<KeptBelow, NoMemory>
     requires before { level_of before ≡ level_of level.now }
     requires patches { map box (patches_of before) ≡ map box (patches_of level.now) }
-    requires number { l ≤ 3 }
-    requires coarse { IsLevel p.now l (level_of level.now) }
-    requires fine { IsLevel p.now (suc l) (level_of next.now) }
-    requires nested { IsNestedLevel p.now l (level_of level.now) (level_of next.now) }
-    ensures below { IfOk result (IsBelow p.now l (level_of level.now) (level_of next.now)) }
+    requires number { given.now.level ≤ 3 }
+    requires coarse { IsLevel given.now.problem.now given.now.level (level_of level.now) }
+    requires fine { IsLevel given.now.problem.now (suc given.now.level) (level_of next.now) }
+    requires nested { IsNestedLevel given.now.problem.now given.now.level (level_of level.now) (level_of next.now) }
+    ensures below { IfOk result (IsBelow given.now.problem.now given.now.level (level_of level.now) (level_of next.now)) }
     ensures zero { IfOk result (λ b. (c : Cell) → entry_in b.register c ≡ pos 0) }
     ensures patches { IfOk result (λ b. map box (patches_of b.before) ≡ map box (patches_of level.now)) }
 {
     Ok(KeptBelow {
         before,
-        finer: boxes_of(alloc, next.patches())?,
-        register: Register::make_in_threads(rt, threads, alloc, p, l, level, next)?,
+        finer: boxes_of(given.alloc, next.patches())?,
+        register: Register::make_in_threads(
+            workers.runtime,
+            workers.count as usize,
+            given.alloc,
+            given.problem,
+            given.level,
+            level,
+            next,
+        )?,
     })
 }
 
 /// What both steps of the next finer level stand on: the level's masses as they are now, and a register of zeros. It is what is kept,
-/// where boxes have not changed, else made anew; room for the masses stays where the level's own boxes have not changed. Nothing is
-/// kept afterwards.
-pub(crate) fn below_for<R: Threads + Sync>(
-    rt: &R,
-    threads: usize,
-    alloc: Global,
-    p: &Problem,
-    l: u32,
-    level: &Level,
+/// where boxes have not changed, else made anew; room for the masses stays where the level's own boxes have not changed. The level
+/// stays, and the layout that is kept of it. What was kept below it is gone afterwards.
+pub(crate) fn below_for<R: Threads + Wait + Sync, G: Gate>(
+    workers: &mut Workers<'_, R, G>,
+    given: &Given<'_>,
+    level: &mut Level,
     next: &Level,
-    kept: &mut Option<KeptBelow>,
+    own: &mut KeptLevel,
 ) -> Result<KeptBelow, NoMemory>
-    requires number { l ≤ 3 }
-    requires coarse { IsLevel p.now l (level_of level.now) }
-    requires fine { IsLevel p.now (suc l) (level_of next.now) }
-    requires nested { IsNestedLevel p.now l (level_of level.now) (level_of next.now) }
-    requires kept { IfSome kept.old (IsKeptBelow p.now l) }
-    ensures below { IfOk result (IsBelow p.now l (level_of level.now) (level_of next.now)) }
+    requires number { given.now.level ≤ 3 }
+    requires coarse { IsLevel given.now.problem.now given.now.level (level_of level.old) }
+    requires fine { IsLevel given.now.problem.now (suc given.now.level) (level_of next.now) }
+    requires nested { IsNestedLevel given.now.problem.now given.now.level (level_of level.old) (level_of next.now) }
+    requires team { IfSome workers.old.team (IsTeamFor given.now.problem.now workers.old.gate.now workers.old.count) }
+    requires kept { IsKeptLevel given.now.problem.now given.now.level own.old }
+    ensures workers { workers.new ≡ workers.old }
+    ensures below { IfOk result (IsBelow given.now.problem.now given.now.level (level_of level.old) (level_of next.now)) }
     ensures zero { IfOk result (λ b. (c : Cell) → entry_in b.register c ≡ pos 0) }
-    ensures patches { IfOk result (λ b. map box (patches_of b.before) ≡ map box (patches_of level.now)) }
-    ensures none { kept.new ≡ None }
+    ensures patches { IfOk result (λ b. map box (patches_of b.before) ≡ map box (patches_of level.old)) }
+    ensures level { level_of level.new ≡ level_of level.old }
+    ensures level_patches { patches_of level.new ≡ patches_of level.old }
+    ensures none { own.new.below ≡ None }
+    ensures layout { IfSome own.new.layout (IsKeptLayout given.now.problem.now) }
+    ensures current { (M : Masses) → IfSome own.old.layout (IsCurrentLayout M) → IfSome own.new.layout (IsCurrentLayout M) }
+    ensures valued { (l : ℕ) (old : Masses) → IfSome own.old.layout (IsValued given.now.problem.now l old) → IfSome own.new.layout (IsValued given.now.problem.now l old) }
 {
-    let Some(mut below) = kept.take() else {
-        return make_below(rt, threads, alloc, p, l, level.copy()?, level, next);
+    let Some(mut below) = own.below.take() else {
+        return make_below(workers, given, level.copy()?, level, next);
     };
     if serves(&below, level, next) {
-        renew(&mut below, level);
+        renew(workers, given.problem, &mut below, level, &mut own.layout);
         return Ok(below);
     }
     let before = before_in(below.before, level)?;
-    make_below(rt, threads, alloc, p, l, before, level, next)
+    make_below(workers, given, before, level, next)
 }
 
 /// Makes room for what so many levels keep.

@@ -7,7 +7,6 @@ ghost use Rattle.std.specs.Option.{option_copied};
 ghost use Rattle.amr_box.specs.declared.Cell.{Cell};
 ghost use Rattle.amr_box.specs.Cells.{in_boxes};
 ghost use Rattle.amr_def.specs.Flux.{flux_at, updated};
-ghost use Rattle.amr_def.specs.State.{Masses};
 ghost use Rattle.amr_laws.specs.Sides.{inflow_beside, is_uncovered, outflow_beside};
 ghost use Rattle.amr_laws.specs.Substeps.{after_step};
 ghost use Rattle.amr_patch.specs.Levels.{level_of, patches_of};
@@ -26,7 +25,7 @@ ghost use Rattle.amr_cycle.specs.Kept.{AreCurrent, AreKept, IsKeptLevel};
 
 use crate::correction::correct;
 use crate::given::Given;
-use crate::kept::{KeptBelow, KeptLevel, below_for, forget_masses_of, ready};
+use crate::kept::{KeptBelow, KeptLevel, below_for, ready};
 use amr_advance::{Regs, Workers, advance_kept};
 use amr_box::Bx;
 use amr_causes::NoMemory;
@@ -93,7 +92,7 @@ fn step_finest<R: Threads + Wait + Sync, G: Gate + Sync>(
 }
 
 /// Makes a step of a level that has a finer one, `next`, by plain fluxes. The level's new register has lost those through its
-/// coarse-fine edges. Its masses are corrected afterwards, so what is kept is told that they change.
+/// coarse-fine edges. Its masses are corrected afterwards ([`correct`]).
 fn step_coarse<R: Threads + Wait + Sync, G: Gate + Sync>(
     given: &Given<'_>,
     workers: &mut Workers<'_, R, G>,
@@ -117,7 +116,6 @@ fn step_coarse<R: Threads + Wait + Sync, G: Gate + Sync>(
     requires shared { IsSharedOf given.now.old given.now.shared }
     ensures workers { workers.new ≡ workers.old }
     ensures layout { OnOk result (IfSome own.new.layout (IsKept given.now.problem.now)) }
-    ensures current { OnOk result ((M : Masses) → IfSome own.new.layout (IsCurrent M)) }
     ensures valued { OnOk result (IfSome own.new.layout (IsValued given.now.problem.now given.now.level (old_masses (option_copied given.now.old)))) }
     ensures before { IfOk result (λ b. level_of (arc_value b.before) ≡ level_of level.old) }
     ensures before_patches { IfOk result (λ b. map box (patches_of (arc_value b.before)) ≡ map box (patches_of level.old)) }
@@ -137,16 +135,7 @@ fn step_coarse<R: Threads + Wait + Sync, G: Gate + Sync>(
         before,
         finer,
         register,
-    } = below_for(
-        workers.runtime,
-        workers.count as usize,
-        given.alloc,
-        given.problem,
-        given.level,
-        level,
-        next,
-        &mut own.below,
-    )?;
+    } = below_for(workers, given, level, next, own)?;
     regs.finer = Some(register);
     advance_kept(
         workers,
@@ -159,7 +148,6 @@ fn step_coarse<R: Threads + Wait + Sync, G: Gate + Sync>(
         regs,
         &mut own.layout,
     )?;
-    forget_masses_of(own);
     Ok(Below {
         before: Arc::new(given.alloc, before)?,
         finer,

@@ -28,7 +28,7 @@ ruleset parts = (as_row_send, sendable, snapshot_send, phase_send, correction_se
 
 -- field by field
 pub lot_send : IsSend the_row
-lot_send = declared_send the_type (search parts depth 12 fits 2000, (search parts, (search parts depth 12 fits 2000, (search parts depth 12 fits 2000, (search parts depth 12 fits 2000, (search parts depth 12 fits 2000, (search parts depth 12 fits 2000, (search parts depth 12 fits 2000, (search parts depth 12 fits 2000, (search parts depth 12 fits 2000, (search parts depth 12 fits 2000, (search parts depth 12 fits 2000, (search parts depth 12 fits 2000, (search parts depth 12 fits 2000, (search parts depth 12 fits 2000, tt)))))))))))))))
+lot_send = declared_send the_type (search parts depth 12 fits 2000, (search parts, (search parts depth 12 fits 2000, (search parts depth 12 fits 2000, (search parts depth 12 fits 2000, (search parts depth 12 fits 2000, (search parts depth 12 fits 2000, (search parts depth 12 fits 2000, (search parts depth 12 fits 2000, (search parts depth 12 fits 2000, (search parts depth 12 fits 2000, (search parts depth 12 fits 2000, (search parts depth 12 fits 2000, (search parts depth 12 fits 2000, (search parts depth 12 fits 2000, (search parts depth 12 fits 2000, tt))))))))))))))))
 
 -- so may a lot in a box, and those who begin to serve lots
 pub ruleset lots_sendable = (lot_send, box_send, vec_send, global_send, global_sync, frees, recruit_send, work_sync, sendable)

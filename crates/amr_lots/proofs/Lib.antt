@@ -4,7 +4,7 @@ pub mod InPlaces
 mod Trading
 mod Posting
 mod Served
-mod WordSums
+pub mod WordSums
 pub mod Numbered
 pub mod Layouts
 pub mod Runs

@@ -51,6 +51,7 @@ posted_layout a b is = record {
   copies = ap (λ (e : Lot). e.copies) is;
   outer = ap (λ (e : Lot). e.outer) is;
   correction = ap (λ (e : Lot). e.correction) is;
+  before = ap (λ (e : Lot). e.before) is;
 }
 
 -- a lot whose outbox was taken, which traded, and was given the outbox back

@@ -1,8 +1,8 @@
 -- What numbers for words give to a word: one after another, and where a function says what each has.
-use Rattle.std.proofs.Common.{◌≡◌, ◌∙◌, ℕ, zero, suc, ◌+◌, ◌<◌, ◌≤◌, Bool, true, false, List, [], ◌∷◌, length, set, take, refl, sym, ap, subst, arith, add-one}
+use Rattle.std.proofs.Common.{◌≡◌, ◌∙◌, ℕ, zero, suc, ◌+◌, ◌<◌, ◌≤◌, Bool, true, false, List, [], ◌∷◌, length, take, refl, sym, ap, arith, add-one}
 use Rattle.std.specs.Prelude.{◌==◌, if◌then◌else◌, slice_index}
 use Rattle.std.proofs.lemmas.Bool.Decides.{Decides-eqb}
-use Rattle.std.proofs.lemmas.List.{get_or-set_other, get_or-set_same, take_all}
+use Rattle.std.proofs.lemmas.List.{take_all}
 use Rattle.amr_lots.specs.Words.{sum_at}
 
 -- ---- one after another
@@ -26,28 +26,6 @@ sum_take word (w ∷ ws) (n ∷ ns) (suc k) = omega (arith, sum_take word ws ns 
 
 pub sum_whole : (word : ℕ) (ws ns : List ℕ) (k : ℕ) → length ns ≡ length ws → length ws ≤ k → sum_at word (take k ws) (take k ns) ≡ sum_at word ws ns
 sum_whole word ws ns k count whole = λ i. sum_at word (take_all k ws whole i) (take_all k ns (let e : length ns ≤ k = omega (arith, count, whole) in e) i)
-
--- a number added to a word
-if_here : (t : Bool) (n : ℕ) → t ≡ true → (if t then n else 0) ≡ n
-if_here t n e = λ i. if e i then n else 0
-
-pub itself : (w n : ℕ) → (if w == w then n else 0) ≡ n
-itself w n = if_here (w == w) n ((Decides-eqb w w).1 refl)
-
-pub added_at : (ts : List ℕ) (w n word : ℕ) → w < length ts → slice_index (set ts w (slice_index ts w + n)) word ≡ slice_index ts word + (if w == word then n else 0)
-added_at ts w n word lt = from (w == word) refl
-  where
-    from : (t : Bool) → (w == word) ≡ t → slice_index (set ts w (slice_index ts w + n)) word ≡ slice_index ts word + (if w == word then n else 0)
-    from true e =
-        let here : w ≡ word = (Decides-eqb w word).0 e in
-        let set_here : slice_index (set ts w (slice_index ts w + n)) w ≡ slice_index ts w + n = get_or-set_same ts w (slice_index ts w + n) 0 lt in
-        let gets : (if w == word then n else 0) ≡ n = λ i. if e i then n else 0 in
-        subst (λ (u : ℕ). slice_index (set ts w (slice_index ts w + n)) u ≡ slice_index ts u + (if w == word then n else 0)) here (omega (arith, set_here, gets))
-    from false e =
-        let other : word ≡ w → ⊥ = λ same. let e' = sym e ∙ (Decides-eqb w word).1 (sym same) in absurd (cc e') in
-        let kept : slice_index (set ts w (slice_index ts w + n)) word ≡ slice_index ts word = get_or-set_other ts w word (slice_index ts w + n) 0 other in
-        let gets : (if w == word then n else 0) ≡ 0 = λ i. if e i then n else 0 in
-        omega (arith, kept, gets)
 
 -- ---- by a function
 

@@ -12,6 +12,7 @@ with_outbox outbox phase lot = record {
   phase = phase;
   level = lot.level;
   patches = lot.patches;
+  before = lot.before;
   edges = lot.edges;
   flows = lot.flows;
   words = lot.words;

@@ -1,6 +1,7 @@
 -- Runs of a list, and lots that are handed one each.
 use Rattle.std.specs.Prelude.{ℕ, ◌≡◌, ◌*◌, List, length, take, drop}
-use Rattle.std.specs.Global.{Box}
+use Rattle.std.specs.Global.{Box, Vec}
+use Rattle.amr_patch.specs.declared.patches.Patch.{Patch}
 use Rattle.amr_lots.specs.declared.lot.Lot.{Lot}
 use Rattle.amr_lots.specs.Words.{sum_at}
 
@@ -8,8 +9,8 @@ use Rattle.amr_lots.specs.Words.{sum_at}
 abbrev pub run : {A : Type 0} → ℕ → ℕ → List A → List A
 run size k xs = take size (drop (k * size) xs)
 
--- the level and the problem of a lot, its flows with their words, where its ghost cells get their values from, and what corrects its patches,
--- are as before
+-- the level and the problem of a lot, its flows with their words, where its ghost cells get their values from, what corrects its patches,
+-- and the patches that keep masses are as before
 pub record HasLayoutOf (a b : Lot) : Type 0 where
   pub level : b.level ≡ a.level
   pub problem : b.problem ≡ a.problem
@@ -18,6 +19,7 @@ pub record HasLayoutOf (a b : Lot) : Type 0 where
   pub copies : b.copies ≡ a.copies
   pub outer : b.outer ≡ a.outer
   pub correction : b.correction ≡ a.correction
+  pub before : b.before ≡ a.before
 
 -- all but its patches is as before
 pub record HasOthersOf (a b : Lot) : Type 0 where
@@ -46,6 +48,14 @@ pub record HasAllButEdgesOf (a b : Lot) : Type 0 where
 
 abbrev pub KeepAllButEdges : Box Lot → Box Lot → Type 0
 KeepAllButEdges a b = HasAllButEdgesOf a.value b.value
+
+-- a lot with other patches that keep masses
+abbrev pub with_before : Vec Patch → Lot → Lot
+with_before before lot = record lot { before = before }
+
+-- all but those is as before
+abbrev pub KeepAllButBefore : Box Lot → Box Lot → Type 0
+KeepAllButBefore a b = b.value ≡ with_before b.value.before a.value
 
 -- a lot has a message for each of so many lots, and one from each
 abbrev pub HasBoxes : ℕ → Box Lot → Type 0

@@ -1,6 +1,7 @@
 -- What a lot has to be before a worker is handed it, and what it becomes.
 use Rattle.std.specs.Prelude.{◌≡◌, ◌≤◌, ℕ, List, length, map, slice_index}
 use Rattle.std.specs.List.{All, AllZip}
+use Rattle.amr_alike.specs.Copied.{IsCopied}
 use Rattle.amr_def.specs.declared.problem.Problem.{Problem}
 use Rattle.amr_def.specs.Domain.{domain}
 use Rattle.amr_def.specs.State.{Masses}
@@ -18,11 +19,11 @@ use Rattle.amr_transfer.specs.Packed.{AreSums, HasSmallSums, sum_count}
 use Rattle.amr_transfer.specs.Sums.{AreCoarsenable}
 use Rattle.amr_lots.specs.declared.lot.Lot.{Lot}
 use Rattle.amr_lots.specs.declared.lot.Phase.{Phase}
-use Rattle.amr_lots.specs.declared.lot.Phase.TheVariants.{Correct, Send, Step, Sum, Value}
+use Rattle.amr_lots.specs.declared.lot.Phase.TheVariants.{Correct, Keep, Send, Step, Sum, Value}
 use Rattle.amr_lots.specs.Correcting.{HasCorrected, MayCorrect}
 use Rattle.amr_lots.specs.Delivery.{with_phase}
 use Rattle.amr_lots.specs.Lots.{AreReady, HasStepped, lot_total}
-use Rattle.amr_lots.specs.Runs.{HasLayoutOf}
+use Rattle.amr_lots.specs.Runs.{HasLayoutOf, with_before}
 
 -- the flows of a lot, a list for each patch
 abbrev pub flows_of_lot : Lot → List (List FlowTo)
@@ -55,12 +56,17 @@ pub record MayFindValues (p : Problem) (lot : Lot) : Type 0 where
   pub spans : All (IsOuterSpan (domain p lot.level)) lot.outer.spans.items
   pub places : HasOuterPlaces lot.outer
 
+-- a lot in which patches with the boxes of its own stand that may keep their masses
+abbrev pub MayKeepMasses : Lot → Type 0
+MayKeepMasses lot = map box lot.before.items ≡ map box lot.patches.items
+
 abbrev pub MayServeIn : Phase → Problem → Lot → Type 0
 MayServeIn Send p lot = MaySend lot
 MayServeIn Step p lot = MayAdvance p lot × MaySend lot
 MayServeIn Sum p lot = MaySum lot
 MayServeIn Value p lot = MayFindValues p lot
-MayServeIn Correct p lot = MayCorrect lot
+MayServeIn Correct p lot = MayCorrect lot × MaySend lot
+MayServeIn Keep p lot = MayKeepMasses lot
 
 -- a lot may be served in its phase
 abbrev pub MayServe : Problem → Lot → Type 0
@@ -101,6 +107,12 @@ pub record HasMadeStep (lot after : Lot) : Type 0 where
   pub advances : HasAdvanced lot advanced
   pub sends : HasSent advanced after
 
+-- it was corrected, and then packed what other lots need for their next step
+pub record HasMadeCorrection (lot after : Lot) : Type 0 where
+  pub corrected : Lot
+  pub corrects : HasCorrected lot corrected
+  pub sends : HasSent corrected after
+
 -- the sums of children of its patches were packed, and all else stayed
 pub record HasSummed (lot after : Lot) : Type 0 where
   pub layout : HasLayoutOf lot after
@@ -140,12 +152,18 @@ pub record HasFoundValues (lot after : Lot) : Type 0 where
   pub phase : after.phase ≡ lot.phase
   pub coarser : after.outer.coarser ≡ lot.outer.coarser
 
+-- the patches that keep masses got the masses of its own, and all else stayed
+pub record HasKeptMasses (lot after : Lot) : Type 0 where
+  pub copied : AllZip IsCopied lot.patches.items after.before.items
+  pub others : after ≡ with_before after.before lot
+
 abbrev pub IsServedIn : Phase → Lot → Lot → Type 0
 IsServedIn Send lot after = HasSent lot after
 IsServedIn Step lot after = HasMadeStep lot after
 IsServedIn Sum lot after = HasSummed lot after
 IsServedIn Value lot after = HasFoundValues lot after
-IsServedIn Correct lot after = HasCorrected lot after
+IsServedIn Correct lot after = HasMadeCorrection lot after
+IsServedIn Keep lot after = HasKeptMasses lot after
 
 -- a lot was served in its phase
 abbrev pub IsServed : Lot → Lot → Type 0

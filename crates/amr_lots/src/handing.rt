@@ -1,9 +1,9 @@
-//! Patches of a level, and the register cells of its patches, handed to lots and taken back.
+//! Patches of a level, those that keep its masses, and the register cells of its patches, handed to lots and taken back.
 
 ghost use Rattle.std.specs.Prelude.{◌≡◌, ◌<◌, ℕ, List, length, slice_index_or};
 ghost use Rattle.std.specs.List.{AllZip};
 ghost use Rattle.std.specs.Global.{Box as boxed};
-ghost use Rattle.amr_lots.specs.Runs.{HasAllButEdgesOf, HasOthersOf, KeepAllButEdges, KeepOthers, run};
+ghost use Rattle.amr_lots.specs.Runs.{HasAllButEdgesOf, HasOthersOf, KeepAllButBefore, KeepAllButEdges, KeepOthers, run, with_before};
 ghost use Rattle.amr_lots.specs.declared.lot.Lot.{Lot as lot};
 
 use crate::lot::Lot;
@@ -65,4 +65,32 @@ pub fn exchange_edges(edges: &mut [Vec<EdgeCell>], lots: &mut [Box<Lot>], size: 
     let (first, others) = edges.split_at_mut(count);
     trade_edges(first, lot);
     exchange_edges(others, rest, size);
+}
+
+/// Exchanges patches with those that keep masses in a lot.
+fn trade_before(patches: &mut [Patch], lot: &mut Box<Lot>)
+    requires { length lot.old.value.before.items ≡ length patches.old }
+    ensures handed { lot.new.value.before.items ≡ patches.old }
+    ensures back { patches.new ≡ lot.old.value.before.items }
+    ensures others { lot.new.value ≡ with_before lot.new.value.before lot.old.value }
+{
+    patches.swap_with_slice(&mut lot.before);
+}
+
+/// Exchanges patches that keep the masses of a level, one for each of its own, with those of its lots: lot `k` gets run `k` of them, in
+/// runs of this size, and the run gets what the lot had.
+pub fn exchange_before(patches: &mut [Patch], lots: &mut [Box<Lot>], size: usize)
+    requires counts { (k : ℕ) (x : boxed lot) → k < length lots.old → length (slice_index_or lots.old k x).value.before.items ≡ length (run size k patches.old) }
+    ensures handed { (k : ℕ) (x : boxed lot) → k < length lots.old → (slice_index_or lots.new k x).value.before.items ≡ run size k patches.old }
+    ensures back { (k : ℕ) (x : boxed lot) → k < length lots.old → run size k patches.new ≡ (slice_index_or lots.old k x).value.before.items }
+    ensures count { length patches.new ≡ length patches.old }
+    ensures others { AllZip KeepAllButBefore lots.old lots.new }
+{
+    let Some((lot, rest)) = lots.split_first_mut() else {
+        return;
+    };
+    let count = size.min(patches.len());
+    let (first, others) = patches.split_at_mut(count);
+    trade_before(first, lot);
+    exchange_before(others, rest, size);
 }

@@ -6,11 +6,9 @@ mod handing;
 mod lot;
 mod serving;
 mod steps;
-mod summing;
 
 pub use delivery::{exchange_messages, set_phase};
-pub use handing::{exchange_edges, exchange_runs};
+pub use handing::{exchange_before, exchange_edges, exchange_runs};
 pub use lot::{Correction, Lot, Phase};
 pub use serving::LotWork;
 pub use steps::step_patches;
-pub use summing::add_up;

@@ -22,8 +22,11 @@ pub enum Phase {
     Sum,
     /// The values of outer ghost cells are worked out, by the coarser level that was lent.
     Value,
-    /// The patches are corrected, by the register and the finer level that were lent.
+    /// The patches are corrected, by the register and the finer level that were lent, and the masses that other lots need for the next step
+    /// are packed.
     Correct,
+    /// The masses of the patches are copied into those that keep them as they are before a step.
+    Keep,
 }
 
 /// What corrects patches of a level after both steps of the next finer one: the level's flux register and the finer patches, lent to a lot.
@@ -48,6 +51,8 @@ pub struct Lot {
     pub level: u32,
     /// The patches, while the lot is served; else others of any boxes, as many.
     pub patches: Vec<Patch>,
+    /// Patches that keep the masses of before a step, while those are copied; else others of any boxes, as many.
+    pub before: Vec<Patch>,
     /// The register cells of each patch, while a step over a finer level is made; else empty lists, one a patch.
     pub edges: Vec<Vec<EdgeCell>>,
     /// The flows that each patch adds to words, through faces on its edges that it owns. Each word is given by its place in

@@ -4,10 +4,11 @@ ghost use Rattle.std.specs.Prelude.{◌+◌, ◌<◌, ◌^◌};
 ghost use Rattle.amr_patch.specs.Patches.{box, masses_in};
 ghost use Rattle.amr_register.specs.Registers.{IsBoxAt, entry_in};
 ghost use Rattle.amr_lots.specs.Correcting.{AreCorrectedBy, CanCorrect, FitsEntries, HasCorrected, IsCorrected, IsReady, MayCorrect, finer_in, register_in};
-ghost use Rattle.amr_lots.specs.Serving.{HasAdvanced, HasFoundValues, HasMadeStep, HasSent, HasSummed, MayAdvance, MayFindValues, MaySend, MaySum};
+ghost use Rattle.amr_lots.specs.Serving.{HasAdvanced, HasFoundValues, HasKeptMasses, HasMadeCorrection, HasMadeStep, HasSent, HasSummed, MayAdvance, MayFindValues, MayKeepMasses, MaySend, MaySum};
 
 use crate::lot::{Correction, Lot, Phase};
 use crate::steps::step_patches;
+use amr_alike::copy_patches;
 use amr_def::Problem;
 use amr_ghost::{fill_run, pack_messages};
 use amr_patch::Patch;
@@ -20,7 +21,8 @@ use std::boxed::Box;
 /// fills the ghost cells by masses of the lot's own patches and by what others gave it, works out what flows into its register cells,
 /// and makes the patches' step. Where it is the turn of sums, it packs those of the children of the lot's patches. Where it is the turn of
 /// values, it works out those of the ghost cells that get no mass of a patch of the level. Where it is the turn of the correction after both
-/// steps of the next finer level, it gives its patches their entries and the sums of children.
+/// steps of the next finer level, it gives its patches their entries and the sums of children, and packs the masses that other lots need
+/// then. Where it is the turn of the masses of before a step, it copies those of its patches.
 #[derive(Clone, Copy)]
 pub struct LotWork<'a> {
     pub problem: &'a Problem,
@@ -113,6 +115,24 @@ fn correct(lot: &mut Lot)
     }
 }
 
+/// Corrects the patches of a lot, and then packs the masses that other lots need for their next step.
+fn make_correction(lot: &mut Lot)
+    requires corrects { MayCorrect lot.old }
+    requires sends { MaySend lot.old }
+    ensures { HasMadeCorrection lot.old lot.new }
+{
+    correct(lot);
+    send(lot);
+}
+
+/// Copies the masses of a lot's patches into those that keep them.
+fn keep_masses(lot: &mut Lot)
+    requires { MayKeepMasses lot.old }
+    ensures { HasKeptMasses lot.old lot.new }
+{
+    copy_patches(&lot.patches, &mut lot.before);
+}
+
 impl Service<Box<Lot>> for LotWork<'_> {
     ghost use Rattle.amr_lots.specs.Serving.{IsServed, MayServe};
 
@@ -127,7 +147,8 @@ impl Service<Box<Lot>> for LotWork<'_> {
             Phase::Step => make_step(self.problem, lot),
             Phase::Sum => sum(lot),
             Phase::Value => find_values(self.problem, lot),
-            Phase::Correct => correct(lot),
+            Phase::Correct => make_correction(lot),
+            Phase::Keep => keep_masses(lot),
         }
     }
 }

@@ -1,2 +1,1 @@
 mod EmptyRing
-mod TwoLots

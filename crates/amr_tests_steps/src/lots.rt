@@ -1,16 +1,15 @@
-//! Two lots of one patch each: patches and lists of register cells handed to them and taken back, messages delivered, and what flows to
-//! words added up.
+//! Two lots of one patch each: patches and lists of register cells handed to them and taken back, and messages delivered.
 
 ghost use Rattle.std.specs.Prelude.{◌≡◌, ◌≤◌, length, true};
 ghost use Rattle.std.specs.List.{All};
-ghost use Rattle.amr_tests_steps.specs.TwoLots.{HasTwoWords, IsForTwo};
+ghost use Rattle.amr_tests_steps.specs.TwoLots.{IsForTwo};
 
 use amr_box::{Bx, Cell};
 use amr_causes::NoMemory;
 use amr_def::{Problem, Sides};
 use amr_flux::Room;
 use amr_ghost::{Message, OuterGhosts};
-use amr_lots::{Lot, Phase, add_up, exchange_edges, exchange_messages, exchange_runs, set_phase};
+use amr_lots::{Lot, Phase, exchange_edges, exchange_messages, exchange_runs, set_phase};
 use amr_patch::Patch;
 use amr_register::{EdgeCell, Register};
 use amr_samples::{empty_level, fine_box, problem, ring, whole_box};
@@ -57,6 +56,7 @@ fn lot(alloc: Global, p: &Problem, number: u8, words: [u32; 2]) -> Result<Lot, N
         phase: Phase::Send,
         level: 0,
         patches,
+        before: Vec::new(alloc),
         edges,
         flows: Vec::new(alloc),
         words: Vec::from_slice(alloc, &words)?,
@@ -81,29 +81,7 @@ fn two_lots(alloc: Global) -> Result<Vec<Box<Lot>>, NoMemory> {
     Ok(lots)
 }
 
-/// Whether a lot has totals of two words of a level that has as many, and the totals are small.
-fn has_two_words(lot: &Lot) -> bool
-    ensures { result ≡ true → HasTwoWords lot.now }
-{
-    if lot.words.len() != 2 {
-        return false;
-    }
-    if lot.totals.len() != 2 {
-        return false;
-    }
-    if lot.words[0] > 1 {
-        return false;
-    }
-    if lot.words[1] > 1 {
-        return false;
-    }
-    if lot.totals[0] > 1000 {
-        return false;
-    }
-    lot.totals[1] <= 1000
-}
-
-/// Whether a lot has one patch, one list of register cells, two messages each way and two small totals.
+/// Whether a lot has one patch, one list of register cells and two messages each way.
 fn is_for_two(lot: &Lot) -> bool
     ensures { result ≡ true → IsForTwo lot.now }
 {
@@ -116,10 +94,7 @@ fn is_for_two(lot: &Lot) -> bool
     if lot.outbox.len() != 2 {
         return false;
     }
-    if lot.inbox.len() != 2 {
-        return false;
-    }
-    has_two_words(lot)
+    lot.inbox.len() == 2
 }
 
 /// Whether there are two lots, each of one patch.
@@ -166,15 +141,6 @@ fn deliver(lots: &mut [Box<Lot>]) -> bool {
     }
     exchange_messages(lots, Phase::Step);
     true
-}
-
-/// What flows to two words in two lots, if there are so many, and 100 more to the first.
-fn sums(lots: &[Box<Lot>]) -> [u64; 2] {
-    let mut totals = [100, 0];
-    if are_two(lots) {
-        add_up(lots, &mut totals);
-    }
-    totals
 }
 
 /// The register cells of a ring in one patch, three of them.
@@ -272,12 +238,5 @@ fn messages_are_delivered(rt: HostRuntime) -> Result<(), Fail> {
     );
     set_phase(&mut lots, Phase::Send);
     assert!(rt; are_for(&lots, Phase::Send));
-    Ok(())
-}
-
-#[test]
-fn flows_of_two_lots_are_added_up(rt: HostRuntime) -> Result<(), Fail> {
-    let lots = two_lots(rt.alloc())?;
-    assert_eq!(rt; sums(&lots), [121, 12]);
     Ok(())
 }

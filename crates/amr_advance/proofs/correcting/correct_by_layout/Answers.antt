@@ -1,7 +1,7 @@
 use Rattle.std.proofs.Common.{◌∙◌, map, sym, ap, subst}
 use Rattle.std.specs.Prelude.{IfSome}
 use Rattle.std.specs.declared.option.Option.{Option}
-use Rattle.std.proofs.lemmas.Result.{on_ok_weaker}
+use Rattle.std.proofs.lemmas.Result.{IfOk-weaker, on_ok_weaker}
 use Rattle.amr_patch.specs.Levels.{patches_of}
 use Rattle.amr_patch.specs.Patches.{box}
 use Rattle.amr_advance.specs.declared.kept.KeptLayout.{KeptLayout}
@@ -19,9 +19,9 @@ pub returns-in-Lots-clause-kept : goal.returns-in-Lots-clause-kept
 returns-in-Lots-clause-kept g c =
     on_ok_weaker c.correct_by_workers.result (λ tasks. layout_kept c.args.p.now c.in-Some.layout c.in-Lots.tasks c.correct_by_workers.new.tasks c.in-Lots.is tasks (subst (λ (o : Option KeptLayout). IfSome o (IsKept c.args.p.now)) c.in-Some.is c.requires.kept)) c.correct_by_workers.ensures.tasks
 
-pub returns-in-Lots-clause-current : goal.returns-in-Lots-clause-current
-returns-in-Lots-clause-current g c =
-    on_ok_weaker c.correct_by_workers.result (λ current M before. current M (subst (AreCurrent M) c.in-Lots.is (subst (λ (o : Option KeptLayout). IfSome o (IsCurrent M)) c.in-Some.is before))) c.correct_by_workers.ensures.current
+pub returns-in-Lots-clause-still_current : goal.returns-in-Lots-clause-still_current
+returns-in-Lots-clause-still_current g c =
+    IfOk-weaker c.correct_by_workers.result _ _ (λ x current undone M before. current undone M (subst (AreCurrent M) c.in-Lots.is (subst (λ (o : Option KeptLayout). IfSome o (IsCurrent M)) c.in-Some.is before))) c.correct_by_workers.ensures.still_current
 
 pub returns-in-Lots-clause-valued : goal.returns-in-Lots-clause-valued
 returns-in-Lots-clause-valued g c =

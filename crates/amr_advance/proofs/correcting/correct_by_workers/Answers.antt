@@ -17,6 +17,7 @@ use Rattle.amr_register.specs.Entries.{with_entries}
 use Rattle.amr_register.specs.Registers.{cells_in, entry_in}
 use Rattle.amr_transfer.specs.Sums.{summed}
 use Rattle.amr_lots.specs.Correcting.{FitsEntries, finer_in, register_in}
+use Rattle.amr_advance.specs.Lots.{AreLotsCurrent}
 use Rattle.amr_advance.proofs.Corrected.{corrected_level, fits_each, tried_kept}
 use Rattle.amr_advance.proofs.correcting.correct_by_workers.Given as given
 use Rattle.amr_advance.proofs.correcting.correct_by_workers.Goals.{After-correct_in_lots-done, After-deref_mut}
@@ -80,6 +81,11 @@ returns-clause-not_done g c undone =
     c.put_patches_in_order.ensures.masses
     ∙ ap (λ (qs : List Patch). masses_in qs) (put g at.After-correct_in_lots-done ∙ c.correct_in_lots-done.ensures.same undone)
     ∙ sym (taken g at.After-deref_mut)
+
+pub returns-clause-current : goal.returns-clause-current
+returns-clause-current g c is_done =
+    let same = c.put_patches_in_order.ensures.masses ∙ ap (λ (qs : List Patch). masses_in qs) (put g (goal.at.returns-clause-current g c).After-correct_in_lots-done) in
+    subst (λ (m : Masses). AreLotsCurrent m c.correct_in_lots-done.new.tasks) (sym same) (c.correct_in_lots-done.ensures.current is_done)
 
 pub returns-clause-patches : goal.returns-clause-patches
 returns-clause-patches g c =

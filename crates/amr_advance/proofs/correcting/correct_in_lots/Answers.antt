@@ -1,15 +1,15 @@
-use Rattle.std.proofs.Common.{◌≡◌, ℕ, ◌*◌, ◌^◌, ◌<◌, List, length, get_or, refl, sym, subst, arith}
+use Rattle.std.proofs.Common.{◌≡◌, ℕ, ◌*◌, ◌^◌, ◌<◌, true, List, length, get_or, refl, sym, subst}
 use Rattle.std.specs.Global.{Box}
 use Rattle.std.specs.List.{AllZip}
 use Rattle.std.specs.Vec.{with_items}
 use Rattle.std.proofs.lemmas.List.Elements.{length_all_zip}
 use Rattle.amr_lots.specs.declared.lot.Lot.{Lot}
 use Rattle.amr_lots.specs.Runs.{run}
-use Rattle.amr_advance.specs.declared.lots.LotTasks.{LotTasks}
 use Rattle.amr_advance.specs.Correcting.{KeepsAllButCorrection}
 use Rattle.amr_advance.proofs.Averaged.{AreServed, AreTraded, KeepRuns, all_carry, all_traded, tasks_kept}
-use Rattle.amr_advance.proofs.CorrectedLots.{AreGivenBack, AreLentParts, AreToCorrect, IsGivenBack, IsToCorrect, all_corrected, all_given_back, all_may_correct, all_new, all_valued, counts_back, lent_counts, lent_small}
+use Rattle.amr_advance.proofs.CorrectedLots.{AreGivenBack, AreLentParts, AreToCorrect, IsGivenBack, IsToCorrect, all_corrected, all_current, all_given_back, all_may_correct, all_new, all_valued, counts_back, lent_counts, lent_small}
 use Rattle.amr_advance.proofs.LotsHanded.{when_lent}
+use Rattle.amr_advance.proofs.PackedLots.{PackRuns, packed_valued, tasks_packed}
 use Rattle.amr_advance.proofs.correcting.correct_in_lots.Given as given
 use Rattle.amr_advance.proofs.correcting.correct_in_lots.Goals.{After-deref_mut-in-Ok, After-exchange_runs, After-exchange_runs-in-Ok, After-serve_lots, After-set_phase, After-take_back, After-take_back-in-Ok}
 use Rattle.amr_advance.proofs.correcting.correct_in_lots.Goals as goal
@@ -45,7 +45,7 @@ given_back g c =
     when_lent AreGivenBack v c.deref_mut-in-Ok-4.result.now c.take_back-in-Ok.new.lots c.deref_mut-in-Ok-4.ensures.value (length_all_zip IsGivenBack c.deref_mut-in-Ok-4.result.now c.take_back-in-Ok.new.lots c.take_back-in-Ok.ensures) (record { back = c.take_back-in-Ok.ensures })
 
 -- what the lots keep, whether they corrected the patches or not
-done : (g : given.Over) (c : After-take_back-in-Ok g) → KeepRuns c.args.tasks.now.lots.items (with_items (with_items c.serve_lots.new.lots c.exchange_runs-in-Ok.new.lots) c.take_back-in-Ok.new.lots).items
+done : (g : given.Over) (c : After-take_back-in-Ok g) → PackRuns c.args.tasks.now.each c.exchange_runs-in-Ok.new.patches c.args.tasks.now.lots.items (with_items (with_items c.serve_lots.new.lots c.exchange_runs-in-Ok.new.lots) c.take_back-in-Ok.new.lots).items
 done g c =
     let at = goal.at.After-take_back-in-Ok g c in
     all_new c.args.patches.now c.args.whole.now c.requires.tasks (lent g at.After-deref_mut-in-Ok) (traded g at.After-exchange_runs) (told g at.After-set_phase) (served g at.After-serve_lots) (returned g at.After-exchange_runs-in-Ok) (given_back g c)
@@ -87,10 +87,10 @@ returns-in-Err-clause-tasks g c s tasks =
     let t = c.args.tasks.now in
     tasks_kept s t (record t { lots = with_items (with_items t.lots c.lend.new.lots) c.take_back.new.lots }) refl (undone g (goal.at.returns-in-Err-clause-tasks g c).After-take_back) tasks
 
-pub returns-in-Err-clause-current : goal.returns-in-Err-clause-current
-returns-in-Err-clause-current g c M current packed =
+pub returns-in-Err-clause-still_current : goal.returns-in-Err-clause-still_current
+returns-in-Err-clause-still_current g c _ M current packed =
     let t = c.args.tasks.now in
-    all_carry M t.lots.items (with_items (with_items t.lots c.lend.new.lots) c.take_back.new.lots).items (undone g (goal.at.returns-in-Err-clause-current g c).After-take_back) (current packed)
+    all_carry M t.lots.items (with_items (with_items t.lots c.lend.new.lots) c.take_back.new.lots).items (undone g (goal.at.returns-in-Err-clause-still_current g c).After-take_back) (current packed)
 
 pub returns-in-Err-clause-valued : goal.returns-in-Err-clause-valued
 returns-in-Err-clause-valued g c l old values valued =
@@ -105,12 +105,13 @@ returns-in-Ok-clause-corrected g c _ =
 pub returns-in-Ok-clause-tasks : goal.returns-in-Ok-clause-tasks
 returns-in-Ok-clause-tasks g c s tasks =
     let t = c.args.tasks.now in
-    tasks_kept s t (record t { lots = with_items (with_items c.serve_lots.new.lots c.exchange_runs-in-Ok.new.lots) c.take_back-in-Ok.new.lots }) refl (done g (goal.at.returns-in-Ok-clause-tasks g c).After-take_back-in-Ok) tasks
+    tasks_packed s t (record t { lots = with_items (with_items c.serve_lots.new.lots c.exchange_runs-in-Ok.new.lots) c.take_back-in-Ok.new.lots; packed = true }) c.exchange_runs-in-Ok.new.patches refl (done g (goal.at.returns-in-Ok-clause-tasks g c).After-take_back-in-Ok) tasks
 
 pub returns-in-Ok-clause-current : goal.returns-in-Ok-clause-current
-returns-in-Ok-clause-current g c M current packed =
-    all_carry M c.args.tasks.now.lots.items (with_items (with_items c.serve_lots.new.lots c.exchange_runs-in-Ok.new.lots) c.take_back-in-Ok.new.lots).items (done g (goal.at.returns-in-Ok-clause-current g c).After-take_back-in-Ok) (current packed)
+returns-in-Ok-clause-current g c _ packed =
+    let at = goal.at.returns-in-Ok-clause-current g c in
+    all_current c.args.patches.now c.args.whole.now c.requires.tasks (lent g at.After-deref_mut-in-Ok) (traded g at.After-exchange_runs) (told g at.After-set_phase) (served g at.After-serve_lots) (returned g at.After-exchange_runs-in-Ok) (given_back g at.After-take_back-in-Ok) c.requires.apart
 
 pub returns-in-Ok-clause-valued : goal.returns-in-Ok-clause-valued
 returns-in-Ok-clause-valued g c l old values valued =
-    all_valued c.args.p.now l old c.args.tasks.now.lots.items (with_items (with_items c.serve_lots.new.lots c.exchange_runs-in-Ok.new.lots) c.take_back-in-Ok.new.lots).items (done g (goal.at.returns-in-Ok-clause-valued g c).After-take_back-in-Ok) (values valued)
+    packed_valued c.args.p.now l old c.args.tasks.now.each c.exchange_runs-in-Ok.new.patches c.args.tasks.now.lots.items (with_items (with_items c.serve_lots.new.lots c.exchange_runs-in-Ok.new.lots) c.take_back-in-Ok.new.lots).items (done g (goal.at.returns-in-Ok-clause-valued g c).After-take_back-in-Ok) (values valued)

@@ -1,4 +1,4 @@
-use Rattle.std.proofs.Common.{refl, arith}
+use Rattle.std.proofs.Common.{refl}
 use Rattle.amr_advance.proofs.kept.lay_out_anew.Goals as goal
 
 pub returns-clause-laid_out : goal.returns-clause-laid_out
@@ -8,8 +8,7 @@ returns-clause-laid_out g c = record {
   cells = c.in_ok-from_slice.ensures.items;
   finer = λ e. c.in_ok-finer_boxes.ensures;
   frames = c.in_ok-frames.ensures;
-  totals = omega (arith, c.in_ok-totals.totals.ok.0, c.in_ok-totals.ensures.len);
-  few = omega (arith, c.in_ok-totals.totals.ok.0, c.in_ok-totals.ensures.len, c.in_ok-tasks.ensures.few);
+  few = c.in_ok-tasks.ensures.few;
   tasks = c.in_ok-tasks.ensures.tasks;
 }
 

@@ -32,7 +32,7 @@ returns c =
     let inbox = c.in_ok-messages_for-2.ensures in
     lot_is s c.args.cut.flows.now c.requires.adds c.args.cut.each k c.min-count.result (omega (arith, c.min-count.ensures)) c.requires.within
     runs c.requires.there parts
-    _ c.of.ensures refl c.in_ok-blank_patches.ensures c.in_ok-blank_edges.ensures.count c.in_ok-blank_edges.ensures.empty
+    _ c.of.ensures refl c.in_ok-blank_patches.ensures c.in_ok-blank_patches-2.ensures c.in_ok-blank_edges.ensures.count c.in_ok-blank_edges.ensures.empty
     c.in_ok-lists.ensures.count c.in_ok-lists.ensures.flows c.in_ok-lists.ensures.words
     (λ v. c.in_ok-from_slice.ensures.items ∙ c.deref-2.ensures.value ∙ ap (λ (u : Vec FrameCopy). u.items) (c.index-2.ensures ∙ get_or_default parts.copies.items (k * runs + k) c.index-2.result.now v below))
     (λ v. ap (λ (u : Vec Span). u.items) c.in_ok-make.ensures.spans ∙ c.in_ok-outer.ensures.items ∙ c.deref.ensures.value ∙ ap (λ (u : Vec Span). u.items) (c.index.ensures ∙ get_or_default parts.outer.items k c.index.result.now v here))

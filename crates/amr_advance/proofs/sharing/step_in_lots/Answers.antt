@@ -1,8 +1,7 @@
-use Rattle.std.proofs.Common.{◌≡◌, ◌∙◌, ℕ, ◌+◌, ◌<◌, true, List, length, get_or, refl, sym, ap, subst, arith}
+use Rattle.std.proofs.Common.{◌≡◌, ◌∙◌, ℕ, ◌<◌, true, List, length, get_or, refl, sym, subst, arith}
 use Rattle.std.specs.Global.{Box}
 use Rattle.std.specs.List.{All}
 use Rattle.std.specs.Option.{option_copied}
-use Rattle.std.specs.Prelude.{slice_index}
 use Rattle.std.specs.Vec.{with_items}
 use Rattle.amr_ghost.specs.Frames.{old_masses}
 use Rattle.amr_layout.specs.Surroundings.{around}
@@ -17,9 +16,9 @@ use Rattle.amr_advance.proofs.InLots.{IsShared, totals_small}
 use Rattle.amr_advance.proofs.LentEdges.{AreLent}
 use Rattle.amr_advance.proofs.LotsHanded.{AreDelivered, AreFound, AreHanded, AreSentFrom, HaveLists, HaveNoEdges, HaveRuns, all_exchanged, all_handed, all_lent, all_at_level, all_outer_places, all_outer_spans, boxes, found_empty, found_lots, handed_empty, handed_lots, lent_lists, lent_runs, list_counts, now_handed, still_carried}
 use Rattle.amr_advance.proofs.Sent.{all_may_advance, all_may_send, delivered_to, sent_from}
-use Rattle.amr_advance.proofs.Shared.{HaveFlows, HaveMadeStep, all_stepped, carried, counts, last_lots, lent_made, made_flows, made_step, tasks_again, totals_of, totals_sum, words_of}
+use Rattle.amr_advance.proofs.Shared.{HaveFlows, HaveMadeStep, all_stepped, carried, counts, last_lots, lent_made, made_flows, made_step, tasks_again, totals_sum}
 use Rattle.amr_advance.proofs.sharing.step_in_lots.Given as given
-use Rattle.amr_advance.proofs.sharing.step_in_lots.Goals.{After-deref, After-exchange_lists, After-exchange_lists-2, After-exchange_messages, After-exchange_runs, After-exchange_runs-2, After-find_outer, After-pack_lots, After-serve_lots}
+use Rattle.amr_advance.proofs.sharing.step_in_lots.Goals.{After-exchange_lists, After-exchange_lists-2, After-exchange_messages, After-exchange_runs, After-exchange_runs-2, After-find_outer, After-pack_lots, After-serve_lots}
 use Rattle.amr_advance.proofs.sharing.step_in_lots.Goals as goal
 
 -- ---- the stages of the step
@@ -131,13 +130,12 @@ back g c =
 as_many : (g : given.Over) (c : After-exchange_runs-2 g) → length c.exchange_runs-2.new.patches ≡ length c.args.patches.now
 as_many g c = c.exchange_runs-2.ensures.count ∙ same g (goal.at.After-exchange_runs-2 g c).After-exchange_runs
 
--- what is added up
-sums : (g : given.Over) (c : After-deref g) (word : ℕ) → slice_index c.args.totals.now word + total (word_of word) c.deref.result.now
+-- what flowed to a word, all lots together
+sums : (g : given.Over) (c : After-exchange_runs-2 g) (word : ℕ) → total (word_of word) (with_items (with_items c.serve_lots.new.lots c.exchange_lists-2.new.lots) c.exchange_runs-2.new.lots).items
     ≡ level_total (around c.args.given.problem.now c.args.given.level c.args.patches.now c.args.given.cells.now (option_copied c.args.given.finer)) (plain_size c.args.given.problem.now c.args.given.level (masses_in c.args.patches.now) (old_masses (option_copied c.args.given.old))) word
 sums g c word =
-    let at = goal.at.After-deref g c in
-    let whole = totals_sum (shared g at.After-find_outer) (made g at.After-exchange_lists-2) (same g at.After-exchange_runs) (last g at.After-exchange_runs-2) word in
-    omega (arith, c.requires.none word, ap (total (word_of word)) c.deref.ensures.value, whole)
+    let at = goal.at.After-exchange_runs-2 g c in
+    totals_sum (shared g at.After-find_outer) (made g at.After-exchange_lists-2) (same g at.After-exchange_runs) (last g c) word
 
 -- ---- the goals
 
@@ -215,23 +213,6 @@ exchange_runs-requires-2 g c =
           (counts (shared g at.After-find_outer) (made g at.After-exchange_lists-2) ds (same g at.After-exchange_runs)));
     }
 
-pub add_up-requires-clause-counts : goal.add_up-requires-clause-counts
-add_up-requires-clause-counts g c =
-    let at = goal.at.add_up-requires-clause-counts g c in
-    subst (All (λ (x : Box Lot). length x.value.totals.items ≡ length x.value.words.items)) (sym c.deref.ensures.value) (totals_of (shared g at.After-find_outer) (made g at.After-exchange_lists-2) (same g at.After-exchange_runs) (last g at.After-exchange_runs-2))
-
-pub add_up-requires-clause-words : goal.add_up-requires-clause-words
-add_up-requires-clause-words g c =
-    let at = goal.at.add_up-requires-clause-words g c in
-    let lots = words_of (shared g at.After-find_outer) (made g at.After-exchange_lists-2) (same g at.After-exchange_runs) (last g at.After-exchange_runs-2) in
-    subst (All (λ (x : Box Lot). All (λ w. w < length c.args.totals.now) x.value.words.items)) (sym c.deref.ensures.value)
-    (λ k x lt. subst (λ n. All (λ w. w < n) (get_or (with_items (with_items c.serve_lots.new.lots c.exchange_lists-2.new.lots) c.exchange_runs-2.new.lots).items k x).value.words.items) (sym c.requires.words) (lots k x lt))
-
-pub add_up-requires-clause-fits : goal.add_up-requires-clause-fits
-add_up-requires-clause-fits g c =
-    let at = goal.at.add_up-requires-clause-fits g c in
-    λ word. omega (arith, sums g at.After-deref word, totals_small (shared g at.After-find_outer) word)
-
 pub returns-clause-stepped : goal.returns-clause-stepped
 returns-clause-stepped g c =
     let at = goal.at.returns-clause-stepped g c in
@@ -260,12 +241,12 @@ returns-clause-nets g c =
     (back_lists g at.After-exchange_lists-2)
 
 pub returns-clause-totals : goal.returns-clause-totals
-returns-clause-totals g c = λ word. c.add_up.ensures.sums word ∙ sums g (goal.at.returns-clause-totals g c).After-deref word
+returns-clause-totals g c = sums g (goal.at.returns-clause-totals g c).After-exchange_runs-2
 
 pub returns-clause-small : goal.returns-clause-small
 returns-clause-small g c =
     let at = goal.at.returns-clause-small g c in
-    λ word. omega (arith, c.add_up.ensures.sums word, sums g at.After-deref word, totals_small (shared g at.After-find_outer) word)
+    λ word. omega (arith, sums g at.After-exchange_runs-2 word, totals_small (shared g at.After-find_outer) word)
 
 pub returns-clause-tasks : goal.returns-clause-tasks
 returns-clause-tasks g c =

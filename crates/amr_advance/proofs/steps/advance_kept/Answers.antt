@@ -1,4 +1,4 @@
-use Rattle.std.proofs.Common.{IfSome, ◌≡◌, ◌+◌, ◌*◌, ℕ, List, length, map, sym, ap, subst, ◌∙◌, arith}
+use Rattle.std.proofs.Common.{IfSome, ◌≡◌, ◌+◌, ◌*◌, List, length, map, sym, ap, subst, ◌∙◌, arith}
 use Rattle.std.specs.declared.option.Option.{Option}
 use Rattle.std.specs.Option.{option_copied}
 use Rattle.std.specs.Global.{Vec}
@@ -23,6 +23,7 @@ use Rattle.amr_advance.specs.Kept.{IsCurrent, totals_in}
 use Rattle.amr_advance.specs.Registers.{BothChange, taken}
 use Rattle.amr_advance.specs.Totals.{HasTotals}
 use Rattle.amr_advance.proofs.Advancing.{both_changed, cells_serve, inflow_is, outflow_is, some_may_absorb}
+use Rattle.amr_advance.proofs.KeptTotals.{lot_totals}
 use Rattle.amr_advance.proofs.steps.advance_kept.Goals as goal
 
 -- patches that were lent and are given back
@@ -56,12 +57,10 @@ add_totals-requires-clause-inflow g c =
     let m = (level_of c.args.level.now).masses in
     let old = old_masses (option_copied c.args.old) in
     let fine = finer_masses (option_copied c.args.finer) in
-    let ws = c.totals_in.result.now in
-    let read : ws ≡ totals_in c.step_patches-stepped.new.kept = c.totals_in.ensures in
-    let count : length ws ≡ 2 + 2 * length c.cells_of.result.now = ap length read ∙ c.in_ok-stepped.ensures.count in
+    let ws = totals_in c.step_patches-stepped.new.kept in
+    let count : length ws ≡ 2 + 2 * length c.cells_of.result.now = c.in_ok-stepped.ensures.count in
     let totals : HasTotals c.args.p.now c.args.l m old fine c.cells_of.result.now ws =
-    subst (λ (xs : List ℕ). HasTotals c.args.p.now c.args.l m old fine c.cells_of.result.now xs) (sym read)
-    (subst (λ (n : Masses). HasTotals c.args.p.now c.args.l n old fine c.cells_of.result.now (totals_in c.step_patches-stepped.new.kept)) (ap masses_in c.deref_mut.ensures.value ∙ sym c.take_patches-patches.ensures.masses) c.in_ok-stepped.ensures.totals) in
+    subst (λ (n : Masses). HasTotals c.args.p.now c.args.l n old fine c.cells_of.result.now ws) (ap masses_in c.deref_mut.ensures.value ∙ sym c.take_patches-patches.ensures.masses) c.in_ok-stepped.ensures.totals in
     omega (arith, c.requires.inflow, inflow_is c.args.p.now c.args.l m old fine c.cells_of.result.now ws totals count)
 
 pub add_totals-requires-clause-outflow : goal.add_totals-requires-clause-outflow
@@ -69,12 +68,10 @@ add_totals-requires-clause-outflow g c =
     let m = (level_of c.args.level.now).masses in
     let old = old_masses (option_copied c.args.old) in
     let fine = finer_masses (option_copied c.args.finer) in
-    let ws = c.totals_in.result.now in
-    let read : ws ≡ totals_in c.step_patches-stepped.new.kept = c.totals_in.ensures in
-    let count : length ws ≡ 2 + 2 * length c.cells_of.result.now = ap length read ∙ c.in_ok-stepped.ensures.count in
+    let ws = totals_in c.step_patches-stepped.new.kept in
+    let count : length ws ≡ 2 + 2 * length c.cells_of.result.now = c.in_ok-stepped.ensures.count in
     let totals : HasTotals c.args.p.now c.args.l m old fine c.cells_of.result.now ws =
-    subst (λ (xs : List ℕ). HasTotals c.args.p.now c.args.l m old fine c.cells_of.result.now xs) (sym read)
-    (subst (λ (n : Masses). HasTotals c.args.p.now c.args.l n old fine c.cells_of.result.now (totals_in c.step_patches-stepped.new.kept)) (ap masses_in c.deref_mut.ensures.value ∙ sym c.take_patches-patches.ensures.masses) c.in_ok-stepped.ensures.totals) in
+    subst (λ (n : Masses). HasTotals c.args.p.now c.args.l n old fine c.cells_of.result.now ws) (ap masses_in c.deref_mut.ensures.value ∙ sym c.take_patches-patches.ensures.masses) c.in_ok-stepped.ensures.totals in
     omega (arith, c.requires.outflow, outflow_is c.args.p.now c.args.l m old fine c.cells_of.result.now ws totals count)
 
 pub add_totals-requires-clause-coarser : goal.add_totals-requires-clause-coarser
@@ -82,12 +79,10 @@ add_totals-requires-clause-coarser g c =
     let k = level_of c.args.level.now in
     let old = old_masses (option_copied c.args.old) in
     let fine = finer_masses (option_copied c.args.finer) in
-    let ws = c.totals_in.result.now in
-    let read : ws ≡ totals_in c.step_patches-stepped.new.kept = c.totals_in.ensures in
-    let count : length ws ≡ 2 + 2 * length c.cells_of.result.now = ap length read ∙ c.in_ok-stepped.ensures.count in
+    let ws = totals_in c.step_patches-stepped.new.kept in
+    let count : length ws ≡ 2 + 2 * length c.cells_of.result.now = c.in_ok-stepped.ensures.count in
     let totals : HasTotals c.args.p.now c.args.l k.masses old fine c.cells_of.result.now ws =
-    subst (λ (xs : List ℕ). HasTotals c.args.p.now c.args.l k.masses old fine c.cells_of.result.now xs) (sym read)
-    (subst (λ (n : Masses). HasTotals c.args.p.now c.args.l n old fine c.cells_of.result.now (totals_in c.step_patches-stepped.new.kept)) (ap masses_in c.deref_mut.ensures.value ∙ sym c.take_patches-patches.ensures.masses) c.in_ok-stepped.ensures.totals) in
+    subst (λ (n : Masses). HasTotals c.args.p.now c.args.l n old fine c.cells_of.result.now ws) (ap masses_in c.deref_mut.ensures.value ∙ sym c.take_patches-patches.ensures.masses) c.in_ok-stepped.ensures.totals in
     some_may_absorb c.args.p.now c.args.l k (option_copied c.args.old) c.args.regs.now.coarser old fine ws c.requires.coarser c.requires.of_domain
     (subst (λ (xs : List Cell). HasTotals c.args.p.now c.args.l k.masses old fine xs ws) c.cells_of.ensures totals)
     (count ∙ ap (λ (xs : List Cell). 2 + 2 * length xs) c.cells_of.ensures) c.requires.fits.fluxes
@@ -106,12 +101,10 @@ returns-clause-coarser g c =
     let k = level_of c.args.level.now in
     let old = old_masses (option_copied c.args.old) in
     let fine = finer_masses (option_copied c.args.finer) in
-    let ws = c.totals_in.result.now in
-    let read : ws ≡ totals_in c.step_patches-stepped.new.kept = c.totals_in.ensures in
-    let count : length ws ≡ 2 + 2 * length c.cells_of.result.now = ap length read ∙ c.in_ok-stepped.ensures.count in
+    let ws = totals_in c.step_patches-stepped.new.kept in
+    let count : length ws ≡ 2 + 2 * length c.cells_of.result.now = c.in_ok-stepped.ensures.count in
     let totals : HasTotals c.args.p.now c.args.l k.masses old fine c.cells_of.result.now ws =
-    subst (λ (xs : List ℕ). HasTotals c.args.p.now c.args.l k.masses old fine c.cells_of.result.now xs) (sym read)
-    (subst (λ (n : Masses). HasTotals c.args.p.now c.args.l n old fine c.cells_of.result.now (totals_in c.step_patches-stepped.new.kept)) (ap masses_in c.deref_mut.ensures.value ∙ sym c.take_patches-patches.ensures.masses) c.in_ok-stepped.ensures.totals) in
+    subst (λ (n : Masses). HasTotals c.args.p.now c.args.l n old fine c.cells_of.result.now ws) (ap masses_in c.deref_mut.ensures.value ∙ sym c.take_patches-patches.ensures.masses) c.in_ok-stepped.ensures.totals in
     both_changed c.args.p.now c.args.l k (option_copied c.args.old) c.args.regs.now.coarser c.add_totals.new.regs.coarser old fine ws c.requires.coarser c.requires.of_domain
     (subst (λ (xs : List Cell). HasTotals c.args.p.now c.args.l k.masses old fine xs ws) c.cells_of.ensures totals)
     (count ∙ ap (λ (xs : List Cell). 2 + 2 * length xs) c.cells_of.ensures) c.add_totals.ensures.coarser
@@ -128,12 +121,10 @@ returns-clause-inflow g c =
     let m = (level_of c.args.level.now).masses in
     let old = old_masses (option_copied c.args.old) in
     let fine = finer_masses (option_copied c.args.finer) in
-    let ws = c.totals_in.result.now in
-    let read : ws ≡ totals_in c.step_patches-stepped.new.kept = c.totals_in.ensures in
-    let count : length ws ≡ 2 + 2 * length c.cells_of.result.now = ap length read ∙ c.in_ok-stepped.ensures.count in
+    let ws = totals_in c.step_patches-stepped.new.kept in
+    let count : length ws ≡ 2 + 2 * length c.cells_of.result.now = c.in_ok-stepped.ensures.count in
     let totals : HasTotals c.args.p.now c.args.l m old fine c.cells_of.result.now ws =
-    subst (λ (xs : List ℕ). HasTotals c.args.p.now c.args.l m old fine c.cells_of.result.now xs) (sym read)
-    (subst (λ (n : Masses). HasTotals c.args.p.now c.args.l n old fine c.cells_of.result.now (totals_in c.step_patches-stepped.new.kept)) (ap masses_in c.deref_mut.ensures.value ∙ sym c.take_patches-patches.ensures.masses) c.in_ok-stepped.ensures.totals) in
+    subst (λ (n : Masses). HasTotals c.args.p.now c.args.l n old fine c.cells_of.result.now ws) (ap masses_in c.deref_mut.ensures.value ∙ sym c.take_patches-patches.ensures.masses) c.in_ok-stepped.ensures.totals in
     c.add_totals.ensures.inflow ∙ ap (λ n. c.args.regs.now.inflow + n) (inflow_is c.args.p.now c.args.l m old fine c.cells_of.result.now ws totals count)
 
 pub returns-clause-outflow : goal.returns-clause-outflow
@@ -141,12 +132,10 @@ returns-clause-outflow g c =
     let m = (level_of c.args.level.now).masses in
     let old = old_masses (option_copied c.args.old) in
     let fine = finer_masses (option_copied c.args.finer) in
-    let ws = c.totals_in.result.now in
-    let read : ws ≡ totals_in c.step_patches-stepped.new.kept = c.totals_in.ensures in
-    let count : length ws ≡ 2 + 2 * length c.cells_of.result.now = ap length read ∙ c.in_ok-stepped.ensures.count in
+    let ws = totals_in c.step_patches-stepped.new.kept in
+    let count : length ws ≡ 2 + 2 * length c.cells_of.result.now = c.in_ok-stepped.ensures.count in
     let totals : HasTotals c.args.p.now c.args.l m old fine c.cells_of.result.now ws =
-    subst (λ (xs : List ℕ). HasTotals c.args.p.now c.args.l m old fine c.cells_of.result.now xs) (sym read)
-    (subst (λ (n : Masses). HasTotals c.args.p.now c.args.l n old fine c.cells_of.result.now (totals_in c.step_patches-stepped.new.kept)) (ap masses_in c.deref_mut.ensures.value ∙ sym c.take_patches-patches.ensures.masses) c.in_ok-stepped.ensures.totals) in
+    subst (λ (n : Masses). HasTotals c.args.p.now c.args.l n old fine c.cells_of.result.now ws) (ap masses_in c.deref_mut.ensures.value ∙ sym c.take_patches-patches.ensures.masses) c.in_ok-stepped.ensures.totals in
     c.add_totals.ensures.outflow ∙ ap (λ n. c.args.regs.now.outflow + n) (outflow_is c.args.p.now c.args.l m old fine c.cells_of.result.now ws totals count)
 
 pub step_patches-stepped-requires-clause-current : goal.step_patches-stepped-requires-clause-current
@@ -160,3 +149,6 @@ returns-clause-current g c =
 pub returns-in_err-stepped-clause-current : goal.returns-in_err-stepped-clause-current
 returns-in_err-stepped-clause-current g c =
     still_current c.step_patches-stepped.new.kept c.take_patches-patches.result c.deref_mut.result.now c.step_patches-stepped.new.patches _ c.deref_mut.ensures.len c.step_patches-stepped.ensures.boxes c.put_patches_in_order.ensures.masses c.step_patches-stepped.ensures.current
+
+pub add_totals-requires-clause-lot_totals : goal.add_totals-requires-clause-lot_totals
+add_totals-requires-clause-lot_totals g c = lot_totals c.args.p.now c.step_patches-stepped.new.kept c.step_patches-stepped.ensures.kept

@@ -1,14 +1,16 @@
-use Rattle.std.proofs.Common.{◌≡◌, ◌∙◌, List, map, refl, sym, ap, subst}
+use Rattle.std.proofs.Common.{◌≡◌, ◌∙◌, List, map, refl, sym, ap, subst, arith}
 use Rattle.std.specs.Option.{option_copied}
 use Rattle.amr_box.specs.Cells.{Extent}
 use Rattle.amr_def.specs.State.{Masses}
 use Rattle.amr_def.specs.Flux.{flux_at, updated}
 use Rattle.amr_ghost.specs.Frames.{old_masses}
+use Rattle.amr_layout.specs.Surroundings.{around}
 use Rattle.amr_patch.specs.Patches.{box, masses_in}
 use Rattle.amr_register.specs.declared.edges.EdgeCell.{EdgeCell}
 use Rattle.amr_register.specs.EdgeCells.{lists_of}
-use Rattle.amr_advance.specs.Kept.{IsCurrent}
+use Rattle.amr_advance.specs.Kept.{IsCurrent, totals_kept}
 use Rattle.amr_advance.specs.Registers.{AreEdgesFor, AreNetsOf, edges_of}
+use Rattle.amr_advance.proofs.KeptTotals.{kept_count}
 use Rattle.amr_advance.proofs.Parts.{back_unchanged, came_back, edges_for, may_take, nets_taken, on_err, totals_of, unchanged}
 use Rattle.amr_advance.proofs.Stepped.{stepped_apart, stepped_boxes, stepped_masses}
 use Rattle.amr_advance.proofs.steps.step_patches.Goals as goal
@@ -62,7 +64,7 @@ returns-clause-totals g c =
     let p = c.args.given.problem.now in
     let l = c.args.given.level in
     let old = old_masses (option_copied c.args.given.old) in
-    totals_of p l (masses_in c.args.patches.now) old c.fill_frames.new.patches c.args.given.cells.now (option_copied c.args.given.finer) c.run_level-run.new.layout.totals.items c.fill_frames.ensures.inside c.fill_frames.ensures.apart c.fill_frames.ensures.masses c.in_ok-run.ensures.totals
+    totals_of p l (masses_in c.args.patches.now) old c.fill_frames.new.patches c.args.given.cells.now (option_copied c.args.given.finer) (totals_kept c.run_level-run.new.layout) c.fill_frames.ensures.inside c.fill_frames.ensures.apart c.fill_frames.ensures.masses c.in_ok-run.ensures.totals
 
 pub returns-clause-register : goal.returns-clause-register
 returns-clause-register g c =
@@ -77,3 +79,12 @@ returns-clause-register g c =
     nets_taken p l m ys old (option_copied c.args.given.finer) c.args.register.now c.put_edges.new.register c.take_nets.new.register c.requires.register
     (came_back c.args.register.now c.take_edges-edges.new.register c.put_edges.new.register c.take_edges-edges.result c.deref_mut.result.now c.run_level-run.new.edges c.take_edges-edges.ensures.lists c.deref_mut.ensures.value c.deref_mut.ensures.len c.take_edges-edges.ensures.rest c.run_level-run.ensures.same_edges c.put_edges.ensures)
     nets c.take_nets.ensures
+
+pub returns-clause-count : goal.returns-clause-count
+returns-clause-count g c =
+    kept_count (around c.args.given.problem.now c.args.given.level c.fill_frames.new.patches c.args.given.cells.now (option_copied c.args.given.finer)) c.run_level-run.new.layout c.in_ok-run.ensures.layout
+
+pub returns-clause-few : goal.returns-clause-few
+returns-clause-few g c =
+    let laid = c.in_ok-run.ensures.layout in
+    omega (arith, laid.few, kept_count (around c.args.given.problem.now c.args.given.level c.fill_frames.new.patches c.args.given.cells.now (option_copied c.args.given.finer)) c.run_level-run.new.layout laid)

@@ -60,4 +60,5 @@ returns-clause-tasks c =
       workspaces = subst (λ (z : Layout). AreWorkspaces (in_turn turns ps) (in_turn turns z.tasks.items) ws) (sym made)
           (subst (λ ts. AreWorkspaces (in_turn turns ps) ts ws) tasks (subst (λ ks. AreWorkspaces (in_turn ks ps) c.in_ok-tasks.tasks.items ws) c.deref-2.ensures.value c.in_ok-bodies.ensures));
       faces = ap length (c.in_ok-faces.ensures.items_if_clones_equal (λ y h. search rules)) ∙ length-replicate _ _;
+      totals = ap length (c.in_ok-totals.ensures.items_if_clones_equal (λ y h. search rules)) ∙ length-replicate _ _;
     }

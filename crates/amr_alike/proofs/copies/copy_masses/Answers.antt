@@ -8,15 +8,15 @@ use Rattle.amr_patch.proofs.SameBoxes.{apart_alike, same_length}
 use Rattle.amr_alike.proofs.copies.copy_masses.Goals as goal
 
 -- the list after the patches were written
-listed : (c : goal.After-put_patches_in_order-arg-1) → (with_items c.take_patches-patches.result c.copy_all.new.to).items ≡ c.copy_all.new.to
-listed c = with_items_is c.take_patches-patches.result c.copy_all.new.to (omega (arith, same_length c.copy_all.new.to c.as_mut_slice.result.now c.copy_all.ensures.boxes, c.as_mut_slice.ensures.len))
+listed : (c : goal.After-put_patches_in_order-arg-1) → (with_items c.take_patches-patches.result c.copy_patches.new.to).items ≡ c.copy_patches.new.to
+listed c = with_items_is c.take_patches-patches.result c.copy_patches.new.to (omega (arith, same_length c.copy_patches.new.to c.as_mut_slice.result.now c.copy_patches.ensures.boxes, c.as_mut_slice.ensures.len))
 
-boxes : (c : goal.After-put_patches_in_order-arg-1) → map box c.copy_all.new.to ≡ map box c.take_patches-patches.result.items
-boxes c = c.copy_all.ensures.boxes ∙ ap (map box) c.as_mut_slice.ensures.value
+boxes : (c : goal.After-put_patches_in_order-arg-1) → map box c.copy_patches.new.to ≡ map box c.take_patches-patches.result.items
+boxes c = c.copy_patches.ensures.boxes ∙ ap (map box) c.as_mut_slice.ensures.value
 
 pub put_patches_in_order-requires-clause-apart : goal.put_patches_in_order-requires-clause-apart
-put_patches_in_order-requires-clause-apart c = subst ArePatchesApart (sym (listed c)) (apart_alike c.take_patches-patches.result.items c.copy_all.new.to (boxes c) c.take_patches-patches.ensures.apart)
+put_patches_in_order-requires-clause-apart c = subst ArePatchesApart (sym (listed c)) (apart_alike c.take_patches-patches.result.items c.copy_patches.new.to (boxes c) c.take_patches-patches.ensures.apart)
 
 pub put_patches_in_order-requires-clause-order : goal.put_patches_in_order-requires-clause-order
 put_patches_in_order-requires-clause-order c =
-    subst (IsOrderOf c.order-order.result) (sym (listed c)) (order_of_boxes c.order-order.result c.take_patches-patches.result.items c.copy_all.new.to (boxes c) (subst (IsOrderOf c.order-order.result) (sym c.take_patches-patches.ensures.all) c.order-order.ensures))
+    subst (IsOrderOf c.order-order.result) (sym (listed c)) (order_of_boxes c.order-order.result c.take_patches-patches.result.items c.copy_patches.new.to (boxes c) (subst (IsOrderOf c.order-order.result) (sym c.take_patches-patches.ensures.all) c.order-order.ensures))

@@ -11,7 +11,8 @@ use Rattle.amr_cycle.proofs.kept.below_for.Goals as goal
 pub returns-then-serves-clause-below : goal.returns-then-serves-clause-below
 returns-then-serves-clause-below g c =
     let on = c.serves.ensures c.if-serves.true in
-    renewed c.args.p.now c.args.l c.in-Some.below c.renew.new.kept c.args.level.now c.args.next.now (subst (λ (o : Option KeptBelow). IfSome o (IsKeptBelow c.args.p.now c.args.l)) (sym c.take.ensures.value ∙ c.in-Some.is) c.requires.kept) on c.renew.ensures.before c.renew.ensures.boxes c.renew.ensures.finer c.renew.ensures.patches c.renew.ensures.cells
+    renewed c.args.given.now.problem.now c.args.given.now.level c.in-Some.below c.renew.new.kept c.args.level.now c.args.next.now
+    (subst (λ (o : Option KeptBelow). IfSome o (IsKeptBelow c.args.given.now.problem.now c.args.given.now.level)) (sym c.take.ensures.value ∙ c.in-Some.is) c.requires.kept.below) on c.renew.ensures.before c.renew.ensures.boxes c.renew.ensures.finer c.renew.ensures.patches c.renew.ensures.cells
 
 pub make_below-requires-clause-patches : goal.make_below-requires-clause-patches
 make_below-requires-clause-patches g c κs within = copy_boxes (patches_of c.args.level.now) (patches_of c.in_ok-copy.field-0) c.in_ok-copy.ensures.patches

@@ -248,7 +248,7 @@ returns-clause-current g t c =
     let next = level_of c.step_levels-2.new.level in
     let finest = map level_of c.step_levels-2.new.finer in
     subst (λ (k : Level). AreCurrent (level_of c.correct.new.level ∷ k ∷ finest) (record { layout = c.correct.new.kept; below = c.kept_of.result } ∷ set c.step_levels-2.new.kept 0 again)) (sym c.in_ok-correct.ensures.finer)
-    (current_all (level_of c.correct.new.level) (next ∷ finest) (record { layout = c.correct.new.kept; below = c.kept_of.result }) (set c.step_levels-2.new.kept 0 again) (c.in_ok-correct.ensures.current (level_of c.correct.new.level).masses (c.in_ok-below.ensures.current (level_of c.correct.new.level).masses))
+    (current_all (level_of c.correct.new.level) (next ∷ finest) (record { layout = c.correct.new.kept; below = c.kept_of.result }) (set c.step_levels-2.new.kept 0 again) c.in_ok-correct.ensures.current
     (current_again next finest again c.index-rest-0.result c.step_levels-2.new.kept (first_kept g t (goal.at.returns-clause-current g t c).In_ok-step_levels-2) (c.in_ok-correct.ensures.finer_current next.masses) c.in_ok-step_levels-2.ensures.current))
 
 pub step_finest-requires-clause-valued : goal.step_finest-requires-clause-valued

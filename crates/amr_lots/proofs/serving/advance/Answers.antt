@@ -32,7 +32,7 @@ returns c =
     let stepped : (with_items room c.step_patches.new.patches).items ≡ c.step_patches.new.patches = given_items room c.deref_mut-3.result.now c.step_patches.new.patches c.deref_mut-3.ensures.value (sym c.step_patches.auto.patches) in
     let totals : (with_items lot.totals c.step_patches.new.totals).items ≡ c.step_patches.new.totals = given_items lot.totals c.deref_mut-4.result.now c.step_patches.new.totals c.deref_mut-4.ensures.value (sym c.step_patches.ensures.count) in
     record {
-      layout = record { level = refl; problem = refl; flows = refl; words = refl; copies = refl; outer = refl; correction = refl };
+      layout = record { level = refl; problem = refl; flows = refl; words = refl; copies = refl; outer = refl; correction = refl; before = refl };
       phase = refl;
       outbox = refl;
       inbox = refl;

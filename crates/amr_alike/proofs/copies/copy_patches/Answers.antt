@@ -5,9 +5,9 @@ use Rattle.amr_patch.specs.declared.patches.Patch.{Patch}
 use Rattle.amr_patch.specs.Patches.{box}
 use Rattle.amr_patch.proofs.Lookups.{same_default}
 use Rattle.amr_alike.specs.Copied.{IsCopied}
-use Rattle.amr_alike.proofs.Copying.{same_boxes, same_masses}
+use Rattle.amr_alike.proofs.Copying.{same_boxes, same_masses, zip_copied}
 use Rattle.amr_patch.proofs.SameBoxes.{box_at, same_length}
-use Rattle.amr_alike.proofs.copies.copy_all.Goals as goal
+use Rattle.amr_alike.proofs.copies.copy_patches.Goals as goal
 
 pub loop-k-init : goal.loop-k-init
 loop-k-init c = record { count = same_length c.args.to.now c.args.from.now c.requires; copied = λ j d e lt. absurd (omega arith); boxes = λ j d e le. refl }
@@ -48,3 +48,8 @@ pub returns-clause-masses : goal.returns-clause-masses
 returns-clause-masses c =
     let inv = c.loop-k.invariant in
     same_masses c.args.from.now c.loop-k.to (sym inv.count) (λ j d e lt. inv.copied j d e (omega (arith, lt, same_length c.args.to.now c.args.from.now c.requires, c.loop-k-test.false)))
+
+pub returns-clause-copied : goal.returns-clause-copied
+returns-clause-copied c =
+    let inv = c.loop-k.invariant in
+    zip_copied c.args.from.now c.loop-k.to (sym inv.count) (λ j d e lt. inv.copied j d e (omega (arith, lt, same_length c.args.to.now c.args.from.now c.requires, c.loop-k-test.false)))
