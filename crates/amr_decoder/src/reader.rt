@@ -177,18 +177,6 @@ impl<'a> Reader<'a> {
         Ok(long_at(self.bytes, at))
     }
 
-    /// A mass.
-    pub fn read_mass(&mut self, width: MassWidth) -> Result<u64, CodecFault>
-        ensures read { IfOk result (λ n. read_number (width_of width) (left_of self.old) ≡ read n (left_of self.new)) }
-        ensures bad { IfErr result (IsFaultOf (read_number (width_of width) (left_of self.old))) }
-        ensures whole { whole_of self.new ≡ whole_of self.old }
-    {
-        match width {
-            MassWidth::Four => Ok(u64::from(self.read_u32()?)),
-            MassWidth::Eight => self.read_u64(),
-        }
-    }
-
     /// Goes over the bytes of masses once. It passes `count` of them, or those before the first that doesn't lie wholly
     /// inside the bytes or is greater than `greatest`. Says how many they are.
     pub(crate) fn pass_masses(&mut self, width: MassWidth, count: u64, greatest: u64) -> u64
