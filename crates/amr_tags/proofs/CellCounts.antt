@@ -1,5 +1,6 @@
 -- The number of a box's tagged cells in a part of it, row by row.
-use Rattle.std.proofs.Common.{◌≡◌, ℕ, zero, suc, ◌+◌, ◌-◌, ◌*◌, ◌/◌, ◌<◌, ◌≤◌, Bool, true, false, ◌&&◌, cond, ℤ, pos, ◌+ℤ◌, ◌-ℤ◌, ◌≤ℤ◌, ◌<ℤ◌, negsuc, refl, sym, ap, ◌∙◌, arith, List, [], ◌∷◌, map}
+use Rattle.std.proofs.Common.{◌≡◌, ℕ, zero, suc, ◌+◌, ◌-◌, ◌*◌, ◌/◌, ◌<◌, ◌≤◌, Bool, true, false, ◌&&◌, cond, ℤ, pos, ◌+ℤ◌, ◌-ℤ◌, ◌≤ℤ◌, ◌<ℤ◌, negsuc, refl, sym, ap, ◌∙◌, arith, List, [], ◌∷◌, map, length, subst}
+use Rattle.std.proofs.lemmas.Nat.{row_fits}
 use Rattle.std.specs.Prelude.{nat_le, unsigned_abs}
 use Rattle.std.specs.List.{count_by, flat_map, range_with_len, sum_by}
 use Rattle.std.proofs.lemmas.Int.{ints, clamps}
@@ -11,7 +12,7 @@ use Rattle.amr_box.specs.declared.Cell.{Cell}
 use Rattle.amr_box.specs.Cells.{AreDisjoint, Extent, IsProper, at_least_zero, cell, common, cells_of, height, holds, width, within}
 use Rattle.amr_box.proofs.Tests.{and_turned}
 use Rattle.amr_tags.specs.Bits.{bit_of, words_for}
-use Rattle.amr_tags.specs.Parts.{count_from, in_columns, row_count, rows_from}
+use Rattle.amr_tags.specs.Parts.{IsWindow, count_from, in_columns, row_count, rows_from}
 use Rattle.amr_tags.specs.Stored.{IsPart}
 use Rattle.amr_tags.specs.TagSets.{column_in, row_in}
 use Rattle.amr_tags.proofs.Counts.{rows-append, rows-none, rows-same}
@@ -50,14 +51,7 @@ turned false true true = refl
 turned false true false = refl
 turned false false c = refl
 
--- where a part's columns and rows begin and end, counted from the low corner of the box
-pub record Spans (b part : Extent) (west south east north : ℕ) : Type 0 where
-  pub west_is : pos west ≡ part.lo.x -ℤ b.lo.x
-  pub south_is : pos south ≡ part.lo.y -ℤ b.lo.y
-  pub east_is : pos east ≡ part.hi.x -ℤ b.lo.x
-  pub north_is : pos north ≡ part.hi.y -ℤ b.lo.y
-
-cell_test : (b part : Extent) (words : List ℕ) (west south east north i j : ℕ) → Spans b part west south east north → (holds part (cell (b.lo.x +ℤ pos i) (b.lo.y +ℤ pos j)) && bit_of (words_for (width b)) words (unsigned_abs ((b.lo.x +ℤ pos i) -ℤ b.lo.x)) (unsigned_abs ((b.lo.y +ℤ pos j) -ℤ b.lo.y))) ≡ ((nat_le south j && nat_le j north) && in_columns (words_for (width b)) words j west east i)
+cell_test : (b part : Extent) (words : List ℕ) (west south east north i j : ℕ) → IsWindow b part west south east north → (holds part (cell (b.lo.x +ℤ pos i) (b.lo.y +ℤ pos j)) && bit_of (words_for (width b)) words (unsigned_abs ((b.lo.x +ℤ pos i) -ℤ b.lo.x)) (unsigned_abs ((b.lo.y +ℤ pos j) -ℤ b.lo.y))) ≡ ((nat_le south j && nat_le j north) && in_columns (words_for (width b)) words j west east i)
 cell_test b part words west south east north i j k =
     ap (λ t. (t && within part.lo.y part.hi.y (b.lo.y +ℤ pos j)) && bit_of (words_for (width b)) words (unsigned_abs ((b.lo.x +ℤ pos i) -ℤ b.lo.x)) (unsigned_abs ((b.lo.y +ℤ pos j) -ℤ b.lo.y))) (in_range b.lo.x part.lo.x part.hi.x west east i k.west_is k.east_is)
     ∙ ap (λ t. ((nat_le west i && nat_le i east) && t) && bit_of (words_for (width b)) words (unsigned_abs ((b.lo.x +ℤ pos i) -ℤ b.lo.x)) (unsigned_abs ((b.lo.y +ℤ pos j) -ℤ b.lo.y))) (in_range b.lo.y part.lo.y part.hi.y south north j k.south_is k.north_is)
@@ -116,15 +110,15 @@ count_if : (t : Bool) (p : ℕ → Bool) (a n : ℕ) → count_from (λ i. t && 
 count_if true p a n = refl
 count_if false p a n = rows-none (λ i. 0) a n (λ i _ _. refl)
 
-pub part-count : (b part : Extent) (words : List ℕ) (west south east north : ℕ) → Spans b part west south east north → west ≤ east → south ≤ north → east < width b → north < height b → rows_from (row_count (words_for (width b)) words west east) south (north + 1 - south) ≡ count_by (λ c. holds part c && bit_of (words_for (width b)) words (column_in b c) (row_in b c)) (cells_of b)
-part-count b part words west south east north k wide high columns rows =
+pub part-count : (b part : Extent) (words : List ℕ) (west south east north : ℕ) → IsWindow b part west south east north → rows_from (row_count (words_for (width b)) words west east) south (north + 1 - south) ≡ count_by (λ c. holds part c && bit_of (words_for (width b)) words (column_in b c) (row_in b c)) (cells_of b)
+part-count b part words west south east north k =
     sym
     (cells-sum (λ c. holds part c && bit_of (words_for (width b)) words (column_in b c) (row_in b c)) b
     ∙ rows-same (λ j. count_from (λ i. holds part (cell (b.lo.x +ℤ pos i) (b.lo.y +ℤ pos j)) && bit_of (words_for (width b)) words (unsigned_abs ((b.lo.x +ℤ pos i) -ℤ b.lo.x)) (unsigned_abs ((b.lo.y +ℤ pos j) -ℤ b.lo.y))) 0 (width b)) row 0 (height b) (λ j _ _.
     rows-same _ (λ i. cond ((nat_le south j && nat_le j north) && in_columns (words_for (width b)) words j west east i) 1 0) 0 (width b) (λ i _ _. ap (λ t. cond t 1 0) (cell_test b part words west south east north i j k))
     ∙ count_if (nat_le south j && nat_le j north) (in_columns (words_for (width b)) words j west east) 0 (width b)
-    ∙ ap (λ t. cond (nat_le south j && nat_le j north) t 0) (row_is (words_for (width b)) words j west east (width b) columns))
-    ∙ middle_rows row (row_count (words_for (width b)) words west east) south north (height b) high rows (λ j h. below j h) (λ j h. above j h) (λ j h g. same j h g))
+    ∙ ap (λ t. cond (nat_le south j && nat_le j north) t 0) (row_is (words_for (width b)) words j west east (width b) k.columns))
+    ∙ middle_rows row (row_count (words_for (width b)) words west east) south north (height b) k.high k.rows (λ j h. below j h) (λ j h. above j h) (λ j h g. same j h g))
   where
     row : ℕ → ℕ
     row j = cond (nat_le south j && nat_le j north) (row_count (words_for (width b)) words west east j) 0
@@ -147,15 +141,24 @@ part-count b part words west south east north k wide high columns rows =
         ap (λ t. cond (t && nat_le j north) (row_count (words_for (width b)) words west east j) 0) (le-leb south j h)
         ∙ ap (λ t. cond t (row_count (words_for (width b)) words west east j) 0) (le-leb j north g)
 
-pub column_inside : (lo hi end : ℤ) (e w : ℕ) → pos e ≡ end -ℤ lo → pos w ≡ hi +ℤ pos 1 -ℤ lo → end ≤ℤ hi → e < w
-column_inside lo hi end e w p q h = omega (arith, ints)
+pub column_there : (i w : ℕ) → i < w → i / 64 < words_for w
+column_there i w h = omega arith
 
-pub word_inside : (e w p : ℕ) → e < w → p ≡ words_for w → e / 64 < p
-word_inside e w p h k = omega arith
+pub window_there : (b part : Extent) (words : List ℕ) (p west south east north : ℕ) → IsWindow b part west south east north → p ≡ words_for (width b) → length words ≡ height b * words_for (width b) → north * p + p ≤ length words
+window_there b part words p west south east north k e count =
+    let fits : north * p + p ≤ height b * words_for (width b) = row_fits north p (height b) (words_for (width b)) k.rows (omega (arith, e)) in
+    subst (λ (n : ℕ). north * p + p ≤ n) (sym count) fits
 
 pub below_side : (z : ℤ) (n : ℕ) → pos n <ℤ z → n < at_least_zero z
 below_side (pos m) n h = omega (arith, ints)
 below_side (negsuc m) n h = absurd (omega (arith, ints))
+
+-- along one axis
+pub side_order : (lo low high : ℤ) (first last : ℕ) → low ≤ℤ high → pos first ≡ low -ℤ lo → pos last ≡ high -ℤ lo → first ≤ last
+side_order lo low high first last h p q = omega (arith, ints)
+
+pub side_inside : (lo hi high : ℤ) (last : ℕ) → high ≤ℤ hi → pos last ≡ high -ℤ lo → last < at_least_zero (hi +ℤ pos 1 -ℤ lo)
+side_inside lo hi high last h q = below_side (hi +ℤ pos 1 -ℤ lo) last (omega (arith, ints))
 
 -- ---- a part by what a box has in common with another
 

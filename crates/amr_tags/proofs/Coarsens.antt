@@ -15,7 +15,7 @@ use Rattle.amr_tags.specs.Grown.{AreBits}
 use Rattle.amr_tags.specs.Parts.{in_rows}
 use Rattle.amr_tags.specs.TagSets.{column_in, row_in}
 use Rattle.amr_tags.proofs.Places.{column_within, in_holds, is_in, row_within}
-use Rattle.amr_tags.proofs.Fills.{column_there}
+use Rattle.amr_tags.proofs.CellCounts.{column_there}
 
 -- ---- bits beyond the rows
 

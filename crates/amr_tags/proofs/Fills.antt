@@ -10,10 +10,10 @@ use Rattle.std.proofs.lemmas.Bool.{eq-eqb, eqb-true}
 use Rattle.amr_box.specs.declared.Cell.{Cell}
 use Rattle.amr_box.specs.Cells.{Extent, height, holds, width, within}
 use Rattle.amr_tags.specs.Bits.{AreRows, bit, bit_of, words_for}
-use Rattle.amr_tags.specs.Parts.{in_rows, with_part}
+use Rattle.amr_tags.specs.Parts.{IsWindow, in_rows, with_part}
 use Rattle.amr_tags.specs.Stored.{IsIn}
 use Rattle.amr_tags.specs.TagSets.{column_in, row_in}
-use Rattle.amr_tags.proofs.CellCounts.{Spans, in_range}
+use Rattle.amr_tags.proofs.CellCounts.{column_there, in_range}
 use Rattle.amr_tags.proofs.Places.{apart, column_within, is_in}
 use Rattle.amr_tags.proofs.Shifts.{or-bit}
 use Rattle.amr_tags.proofs.Grows.{offset-is}
@@ -154,9 +154,6 @@ last-row a from to first last i r j e = ap (λ n. a || up_to_row from to first n
 
 -- ---- a part of the box
 
-pub column_there : (i w : ℕ) → i < w → i / 64 < words_for w
-column_there i w h = omega arith
-
 pub rows_after_part : (b : Extent) (old words : List ℕ) (west south east north : ℕ) → AreRows (width b) (height b) old → east < width b → length words ≡ length old → ((i r : ℕ) → i / 64 < words_for (width b) → bit_of (words_for (width b)) words i r ≡ with_part (words_for (width b)) old west east south north i r) → AreRows (width b) (height b) words
 rows_after_part b old words west south east north rows inside count bits = record {
   count = count ∙ rows.count;
@@ -178,7 +175,7 @@ rows_after_part b old words west south east north rows inside count bits = recor
     none true false = refl
     none false t = refl
 
-pub cells_after_part : (b part : Extent) (old words : List ℕ) (west south east north : ℕ) → Spans b part west south east north → ((i r : ℕ) → i / 64 < words_for (width b) → bit_of (words_for (width b)) words i r ≡ with_part (words_for (width b)) old west east south north i r) → (c : Cell) → in_rows b words c ≡ (in_rows b old c || (holds b c && holds part c))
+pub cells_after_part : (b part : Extent) (old words : List ℕ) (west south east north : ℕ) → IsWindow b part west south east north → ((i r : ℕ) → i / 64 < words_for (width b) → bit_of (words_for (width b)) words i r ≡ with_part (words_for (width b)) old west east south north i r) → (c : Cell) → in_rows b words c ≡ (in_rows b old c || (holds b c && holds part c))
 cells_after_part b part old words west south east north k bits c = step (holds b c) refl
   where
     in_part : IsIn b c → ((nat_le south (row_in b c) && nat_le (row_in b c) north) && in_span west east (column_in b c)) ≡ holds part c

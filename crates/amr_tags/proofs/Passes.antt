@@ -2,7 +2,7 @@
 use Rattle.std.proofs.Common.{◌≡◌, ℕ, ◌+◌, ◌*◌, ◌/◌, ◌%◌, ◌<◌, Bool, true, false, refl, sym, ap, ◌∙◌, subst, arith, List, length, set, get_or}
 use Rattle.std.specs.Prelude.{◌==◌}
 use Rattle.std.proofs.lemmas.List.{get_or-set_same, get_or-set_other}
-use Rattle.std.proofs.lemmas.Nat.{same_from_place}
+use Rattle.std.proofs.lemmas.Nat.{mul-add-lt, same_from_place}
 use Rattle.std.proofs.lemmas.Bool.{eqb-true}
 use Rattle.amr_tags.specs.Bits.{bit, bit_of}
 use Rattle.amr_tags.specs.Grown.{AreBits}
@@ -37,3 +37,7 @@ next-bits p words test k c v hk within done new = λ i j hi h. step i j hi (shif
 
 pub all-bits : (p : ℕ) (words : List ℕ) (test : ℕ → ℕ → Bool) (j height count : ℕ) → j ≡ height → count ≡ height * p → AreBits p words test (j * p) → AreBits p words test count
 all-bits p words test j height count e f done = subst (AreBits p words test) (ap (λ t. t * p) e ∙ sym f) done
+
+-- word k of row j stands before the end of so many rows
+pub place-within : (j k p height n : ℕ) → j < height → k < p → n ≡ height * p → j * p + k < n
+place-within j k p height n hj hk e = let m = mul-add-lt j p k height hj hk in omega (arith, m)

@@ -1,7 +1,7 @@
 -- Parts of rows of bits, and counts of their bits.
-use Rattle.std.specs.Prelude.{ℕ, zero, suc, ◌+◌, ◌*◌, ◌/◌, Bool, cond, ◌&&◌, ◌||◌, ◌==◌, List, nat_le}
+use Rattle.std.specs.Prelude.{◌≡◌, ℕ, zero, suc, ◌+◌, ◌*◌, ◌/◌, ◌<◌, ◌≤◌, pos, ◌-ℤ◌, Bool, cond, ◌&&◌, ◌||◌, ◌==◌, List, nat_le}
 use Rattle.amr_box.specs.declared.Cell.{Cell}
-use Rattle.amr_box.specs.Cells.{Extent, holds, width}
+use Rattle.amr_box.specs.Cells.{Extent, height, holds, width}
 use Rattle.amr_tags.specs.Bits.{bit_of, words_for}
 use Rattle.amr_tags.specs.TagSets.{column_in, row_in}
 
@@ -35,3 +35,14 @@ with_part per_row words from to first last i r = bit_of per_row words i r || ((n
 -- whether the bit of a cell of the box is set in the rows
 abbrev pub in_rows : Extent → List ℕ → Cell → Bool
 in_rows b words c = holds b c && bit_of (words_for (width b)) words (column_in b c) (row_in b c)
+
+-- where a part's columns and rows begin and end, counted from the low corner of the box
+pub record IsWindow (b part : Extent) (west south east north : ℕ) : Type 0 where
+  pub west_is : pos west ≡ part.lo.x -ℤ b.lo.x
+  pub south_is : pos south ≡ part.lo.y -ℤ b.lo.y
+  pub east_is : pos east ≡ part.hi.x -ℤ b.lo.x
+  pub north_is : pos north ≡ part.hi.y -ℤ b.lo.y
+  pub wide : west ≤ east
+  pub high : south ≤ north
+  pub columns : east < width b
+  pub rows : north < height b

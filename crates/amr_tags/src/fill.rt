@@ -53,12 +53,16 @@ fn set_part(words: &mut Vec<u64>, b: &Bx, part: &Bx)
     ensures count { length words.new.items ≡ length words.old.items }
     ensures cells { (c : Cell) → in_rows b.now words.new.items c ≡ (in_rows b.now words.old.items c || (holds b.now c && holds part.now c)) }
 {
-    let west = scan::offset(b.lo().x, part.lo().x);
-    let south = scan::offset(b.lo().y, part.lo().y);
-    let east = scan::offset(b.lo().x, part.hi().x);
-    let north = scan::offset(b.lo().y, part.hi().y);
+    let window = scan::window_of(b, part);
     let per_row = rows::words_for(b.width()) as usize;
-    set_rows(words, per_row, west, east, south, north);
+    set_rows(
+        words,
+        per_row,
+        window.west,
+        window.east,
+        window.south,
+        window.north,
+    );
 }
 
 /// Sets the bits of the cells of a box that lie in the rows' box.

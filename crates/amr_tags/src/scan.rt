@@ -5,7 +5,7 @@ ghost use Rattle.amr_tags.specs.Bits.{bit, bit_of, words_for};
 ghost use Rattle.amr_box.specs.Cells.{IsNear, cells_of, height, holds, width};
 ghost use Rattle.amr_tags.specs.Stored.{IsPart};
 ghost use Rattle.amr_tags.specs.TagSets.{column_in, row_in};
-ghost use Rattle.amr_tags.specs.Parts.{row_count, rows_from};
+ghost use Rattle.amr_tags.specs.Parts.{IsWindow, row_count, rows_from};
 
 use crate::rows;
 use amr_box::Bx;
@@ -86,12 +86,48 @@ pub fn count_part(words: &[u64], b: &Bx, part: &Bx) -> u64
     requires count { length words.now ≡ height b.now * words_for (width b.now) }
     ensures { result ≡ count_by (λ c. holds part.now c && bit_of (words_for (width b.now)) words.now (column_in b.now c) (row_in b.now c)) (cells_of b.now) }
 {
-    let west = offset(b.lo().x, part.lo().x);
-    let south = offset(b.lo().y, part.lo().y);
-    let east = offset(b.lo().x, part.hi().x);
-    let north = offset(b.lo().y, part.hi().y);
+    let window = window_of(b, part);
     let per_row = rows::words_for(b.width()) as usize;
-    count_rows(words, per_row, west, east, south, north)
+    count_rows(
+        words,
+        per_row,
+        window.west,
+        window.east,
+        window.south,
+        window.north,
+    )
+}
+
+/// Where a part's columns and rows begin and end, counted from the low corner of the box.
+#[derive(Clone, Copy)]
+pub struct Window {
+    pub west: u32,
+    pub south: u32,
+    pub east: u32,
+    pub north: u32,
+}
+
+/// The columns and rows of a part of a box.
+pub fn window_of(b: &Bx, part: &Bx) -> Window
+    requires near { IsNear b.now }
+    requires part { IsPart b.now part.now }
+    ensures place { IsWindow b.now part.now result.west result.south result.east result.north }
+    ensures few_columns { result.east < 2 ^ 26 }
+    ensures few_rows { result.north < 2 ^ 26 }
+{
+    let low = b.lo();
+    let from = part.lo();
+    let to = part.hi();
+    let west = offset(low.x, from.x);
+    let south = offset(low.y, from.y);
+    let east = offset(low.x, to.x);
+    let north = offset(low.y, to.y);
+    Window {
+        west,
+        south,
+        east,
+        north,
+    }
 }
 
 /// How far a coordinate lies above another.
