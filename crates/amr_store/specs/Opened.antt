@@ -35,7 +35,7 @@ IsUnshut (Ready store) = is_shut store ≡ false
 IsUnshut (Damaged part) = ⊤
 
 -- a store at a base, as its outline says
-pub record IsStoreOf (base : ℕ) (inner : Outline) (store : Store) : Type 0 where
+pub record IsStoreAtBase (base : ℕ) (inner : Outline) (store : Store) : Type 0 where
   pub base_is : base_in store ≡ base
   pub version : version_in store ≡ 2
   pub slot_size : slot_size_in store ≡ inner.slot_size
@@ -45,5 +45,5 @@ pub record IsStoreOf (base : ℕ) (inner : Outline) (store : Store) : Type 0 whe
 -- the new store of a renewed one, where it holds the old problem
 abbrev pub IsRenewedFound : ℕ → Outline → List ℕ → List ℕ → Found → Type 0
 IsRenewedFound base inner problem old Nothing = ⊥
-IsRenewedFound base inner problem old (Ready store) = (pointwise nat_eq problem old ≡ true) × (problem_in store ≡ problem) × IsStoreOf base inner store
+IsRenewedFound base inner problem old (Ready store) = (pointwise nat_eq problem old ≡ true) × (problem_in store ≡ problem) × IsStoreAtBase base inner store
 IsRenewedFound base inner problem old (Damaged part) = (pointwise nat_eq problem old ≡ false) × (part ≡ Renewal)

@@ -5,7 +5,7 @@ ghost use Rattle.amr_disk.specs.Image.{Only};
 ghost use Rattle.amr_store.specs.Checking.{IsOutline, IsHeldBy, IsInner};
 ghost use Rattle.amr_store.specs.Opened.{Finds, FindsIn, IsReadyFound, IsRenewedFound, IsUnshut};
 ghost use Rattle.amr_store.specs.Phases.{OnlyReads};
-ghost use Rattle.amr_store.specs.Reasons.{HasReason, is_no_memory, is_shut_fault};
+ghost use Rattle.amr_store.specs.Reasons.{HasReason, is_disk_fault, is_no_memory, is_shut_fault};
 ghost use Rattle.amr_store.specs.Stored.{stored, is_open, is_empty, is_renewed, end_in};
 
 use crate::check::{Checked, Outline, check};
@@ -219,11 +219,12 @@ fn settle<D: Disk>(disk: &mut D) -> Result<(), DiskFault>
 
 impl Store {
     /// Finds out what a disk holds: no store, a store, or one of which a part is damaged, by the bytes alone. Begins with a sync, and
-    /// reads heads, gates and the problem; of a payload it looks only whether its last byte is there. Writes nothing.
+    /// reads heads, gates and the problem; of a payload it looks only whether its last byte is there. Writes nothing. Whatever it answers but a
+    /// fault of the disk, a stop leaves what a read gives.
     pub fn open<D: Disk>(alloc: Global, disk: &mut D) -> Result<Found, StoreFault>
         ensures finds { IfOk result (λ found. (s : List ℕ) → D.seen disk.old ≡ Some s → Finds found (stored s)) }
         ensures ready { IfOk result (λ found. IsReadyFound D.seen D.moment D.leaves found disk.new) }
-        ensures settled { OnOk result (Only (D.seen disk.new) (D.leaves disk.new (D.moment disk.new))) }
+        ensures settled { is_disk_fault result ≡ false → Only (D.seen disk.new) (D.leaves disk.new (D.moment disk.new)) }
         ensures reads { OnlyReads D.seen D.moment D.leaves disk.old disk.new }
         ensures reason { HasReason (D.faults disk.old) (D.faults disk.new) result }
         ensures unshut { is_shut_fault result ≡ false }
