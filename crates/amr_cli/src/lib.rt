@@ -11,8 +11,6 @@ mod number;
 mod options;
 mod program;
 mod table;
-#[cfg(test)]
-mod tests;
 mod words;
 
 pub use command::Command;
