@@ -18,8 +18,6 @@ mod marks;
 mod reading;
 mod refusal;
 mod resuming;
-#[cfg(test)]
-mod tests;
 
 pub use acknowledging::{Keeping, keep_state};
 pub use difference::first_difference;
