@@ -1,10 +1,12 @@
-"""A plot as VTK's overlapping AMR data set: a grid for each box, finer ones over coarser ones."""
+"""A plot as VTK's overlapping AMR data set: a grid for each box, finer ones over coarser ones. The plots of several steps
+are files that end in the step's number, which ParaView opens as one series in time."""
 
 from __future__ import annotations
 
 from pathlib import Path
 
 from vtkmodules.util.numpy_support import numpy_to_vtk
+from vtkmodules.vtkCommonCore import vtkDoubleArray, vtkStringArray
 from vtkmodules.vtkCommonDataModel import VTK_XY_PLANE, vtkAMRBox, vtkAMRUtilities, vtkOverlappingAMR, vtkUniformGrid
 from vtkmodules.vtkIOXML import vtkXMLUniformGridAMRWriter
 
@@ -45,13 +47,27 @@ def amr_of(plot: Plot) -> vtkOverlappingAMR:
             amr.SetAMRBox(level.number, k, vtkAMRBox([box.x0, box.y0, 0], [box.x1, box.y1, -1]))
             amr.SetDataSet(level.number, k, grid_of(box, level.number))
     vtkAMRUtilities.BlankCells(amr)
+    label(amr, plot)
     return amr
+
+
+def label(amr: vtkOverlappingAMR, plot: Plot) -> None:
+    """The problem's name and the step, as data of the whole set; the step is the time that ParaView shows."""
+    name = vtkStringArray()
+    name.SetName("name")
+    name.InsertNextValue(plot.name)
+    amr.GetFieldData().AddArray(name)
+    for word in ("step", "TimeValue"):
+        number = vtkDoubleArray()
+        number.SetName(word)
+        number.InsertNextValue(plot.step)
+        amr.GetFieldData().AddArray(number)
 
 
 def write_vtk(plot: Plot, folder: Path) -> Path:
     """Writes the data set into a folder. The answer is the file to open."""
     folder.mkdir(parents=True, exist_ok=True)
-    path = folder / f"{plot.name}.vthb"
+    path = folder / f"{plot.name}_{plot.step:04}.vthb"
     writer = vtkXMLUniformGridAMRWriter()
     writer.SetInputData(amr_of(plot))
     writer.SetFileName(str(path))

@@ -8,6 +8,7 @@ import sys
 import tempfile
 import tomllib
 from collections.abc import Iterator
+from dataclasses import replace
 from pathlib import Path
 
 import numpy
@@ -101,9 +102,10 @@ def progress(wanted: list[int]) -> Iterator[int]:
         print("\r" + " " * 60 + "\r", end="", file=sys.stderr, flush=True)
 
 
-def save(plots: list[Plot], path: str, log: bool, boxes: bool) -> None:
-    """Draws the plots into a GIF, eight of them a second."""
-    style = Style(log=log, boxes=boxes, greatest=max(max(int(finest_masses(plot).max()) for plot in plots), 1))
+def save(plots: list[Plot], path: str, style: Style) -> None:
+    """Draws the plots into a GIF, eight of them a second, on one scale that has the greatest mass of all."""
+    if style.greatest is None:
+        style = replace(style, greatest=max(max(int(finest_masses(plot).max()) for plot in plots), 1))
     frames = [frame(plot, style) for plot in plots]
     size = (max(f.width for f in frames), max(f.height for f in frames))
     padded = [f if f.size == size else f.resize(size) for f in frames]

@@ -58,6 +58,15 @@ def test_the_cells_that_vtk_shows_have_the_mass_of_the_ledger(plot_file, tmp_pat
     assert total == plot.ledger[-1][0]
 
 
-def test_the_program_names_the_file_to_open(disc, tmp_path):
-    done = subprocess.run([sys.executable, LOOK / "amr-vtk", disc, "-o", tmp_path / "out"], capture_output=True, text=True)
-    assert (done.returncode, done.stdout, done.stderr) == (0, f"{tmp_path / 'out' / 'disc.vthb'}\n", "")
+def test_a_file_has_the_name_and_the_step(disc, tmp_path):
+    fields = read_back(export.write_vtk(read_plot(disc), tmp_path / "out")).GetFieldData()
+    assert fields.GetAbstractArray("name").GetValue(0) == "disc"
+    assert [fields.GetArray(word).GetValue(0) for word in ("step", "TimeValue")] == [20, 20]
+
+
+def test_the_program_names_the_files_to_open(disc, tmp_path):
+    start = tmp_path / "start.plot"
+    start.write_text("amr-plot 1\nname disc\nstep 0\nledger 0 8 0 0\nlevel 0 1\nbox 0 0 1 0\n8 0\nend\n")
+    done = subprocess.run([sys.executable, LOOK / "amr-vtk", start, disc, "-o", tmp_path / "out"], capture_output=True, text=True)
+    files = "".join(f"{tmp_path / 'out' / name}\n" for name in ("disc_0000.vthb", "disc_0020.vthb"))
+    assert (done.returncode, done.stdout, done.stderr) == (0, files, "")

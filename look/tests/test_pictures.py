@@ -39,11 +39,47 @@ def test_nothing_of_a_picture_is_cut_off(plot_file):
         pyplot.close(figure)
 
 
-def test_the_ledger_of_a_start_has_one_step():
-    figure = pictures.draw(read_plot(EXAMPLES / "7_clusters_60.plot"), pictures.Style())
+def texts_of(figure) -> list[str]:
+    return [text.get_text() for text in figure.findobj(Text) if text.get_text()]
+
+
+@pytest.mark.parametrize(
+    "name, line",
+    [
+        ("7_clusters_60", "mass 208,000 at step 0"),
+        ("3_disc", "mass 832,000 after each of 20 steps: nothing flowed in or out"),
+        ("1_ring", "mass 8 after step 1: nothing flowed in or out"),
+    ],
+)
+def test_a_ledger_in_which_nothing_changes_is_one_line(name, line):
+    figure = pictures.draw(read_plot(EXAMPLES / f"{name}.plot"), pictures.Style())
     try:
-        low, high = figure.axes[1].get_xlim()
-        assert [step for step in figure.axes[1].get_xticks() if low <= step <= high] == [0]
+        assert line in texts_of(figure)
+        assert "step" not in [axes.get_xlabel() for axes in figure.axes]
+    finally:
+        pyplot.close(figure)
+
+
+def test_the_ledger_shows_the_change_since_step_0():
+    plot = read_plot(EXAMPLES / "2_wind.plot")
+    figure = pictures.draw(plot, pictures.Style())
+    try:
+        (ledger,) = (axes for axes in figure.axes if axes.get_ylabel() == "change of mass")
+        drawn = ledger.get_lines()[0].get_ydata()
+        assert drawn.tolist() == (plot.ledger[:, 0] - plot.ledger[0, 0]).tolist()
+        assert {"in, a step", "out, a step"} <= set(texts_of(figure))
+    finally:
+        pyplot.close(figure)
+
+
+def test_what_did_not_flow_is_not_in_the_legend(tmp_path):
+    path = tmp_path / "out.plot"
+    path.write_text("amr-plot 1\nname out\nstep 1\nledger 0 8 0 0\nledger 1 5 0 3\nlevel 0 1\nbox 0 0 1 0\n5 0\nend\n")
+    figure = pictures.draw(read_plot(path), pictures.Style())
+    try:
+        told = texts_of(figure)
+        assert "out, a step" in told and "in, a step" not in told
+        assert not any(it.startswith("level ") for it in told)
     finally:
         pyplot.close(figure)
 
@@ -56,6 +92,16 @@ def test_the_colours_are_those_of_the_finest_masses(disc):
         cells = 4 ** (len(plot.levels) - 1)
         assert int(drawn.get_array().sum()) == cells * plot.ledger[-1][0]
         assert "disc, step 20" in [text.get_text() for text in figure.findobj(Text)]
+    finally:
+        pyplot.close(figure)
+
+
+def test_the_ends_of_the_scale_are_those_given(disc):
+    figure = pictures.draw(read_plot(disc), pictures.Style(least=100, greatest=3000, cmap="magma", title="A disc"))
+    try:
+        (drawn,) = figure.axes[0].get_images()
+        assert (drawn.norm.vmin, drawn.norm.vmax, drawn.cmap.name) == (100, 3000, "magma")
+        assert "A disc" in texts_of(figure) and "disc, step 20" not in texts_of(figure)
     finally:
         pyplot.close(figure)
 
@@ -87,7 +133,19 @@ def test_each_kind_of_file_from_standard_input(disc, tmp_path, kind, first):
     assert path.read_bytes().startswith(first)
 
 
-@pytest.mark.parametrize("words", [["--level", "1"], ["--log"], ["--no-boxes"], ["--log", "--level", "2"]])
+WORDS = [
+    ["--level", "1"],
+    ["--log"],
+    ["--no-boxes"],
+    ["--log", "--level", "2"],
+    ["--min", "1000"],
+    ["--max", "2000"],
+    ["--cmap", "magma"],
+    ["--title", "A disc"],
+]
+
+
+@pytest.mark.parametrize("words", WORDS)
 def test_each_word_changes_the_picture(disc, tmp_path, words):
     plain, other = tmp_path / "plain.png", tmp_path / "other.png"
     assert look(disc, "-o", plain).returncode == 0
@@ -105,6 +163,9 @@ def test_a_state_without_mass_is_drawn(tmp_path):
 REFUSED = {
     "cut off": (["-"], b"amr-plot 1\nname ring\n", "amr-look: standard input: line 3: the plot is cut off where `step N` should stand"),
     "absent": (["absent.plot"], b"", "amr-look: absent.plot: No such file or directory"),
+    "no such colours": ([PLOTS / "strip.plot", "--cmap", "none"], b"", "amr-look: --cmap none: matplotlib has no colours of that name"),
+    "no scale": ([PLOTS / "strip.plot", "--min", "9", "--max", "9"], b"", "amr-look: --min 9 is not below --max 9"),
+    "no logarithm": ([PLOTS / "strip.plot", "--min", "0", "--log"], b"", "amr-look: --min 0: with --log it has to be above 0"),
     "no such level": ([PLOTS / "strip.plot", "--level", "1"], b"", "amr-look: no level 1: the plot has levels 0 to 0"),
 }
 
