@@ -240,5 +240,5 @@ def draw_work(axes: pyplot.Axes, results: list[Result], mark: str, colour: str) 
     axes.plot([it.updated for it in more], [it.mean for it in more], mark, color=colour, fillstyle="none", markersize=9, label=f"{name}, finer levels")
     for it in more:
         below = it.case.cells == 128
-        at = {"xytext": (7, -13 if below else 5), "textcoords": "offset points"}
+        at = {"xytext": (7, -13) if below else (-7, -4), "ha": "left" if below else "right", "textcoords": "offset points"}
         axes.annotate(f"{it.case.cells} + {it.case.finer}", (it.updated, it.mean), fontsize="small", color=colour, **at)
