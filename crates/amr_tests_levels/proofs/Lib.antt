@@ -1,5 +1,4 @@
 mod OneBoxLevels
-mod RefluxedRing
 mod ApartPatches
 mod CoveredCells
 mod TwoRuns

@@ -1,4 +1,4 @@
-//! Tests of levels, with their frames, tags, masses and registers, by public items alone: a module for each crate. They stand
+//! Tests of levels, with their frames, masses and registers, by public items alone: a module for each crate. They stand
 //! here and not beside what they test, so that no crate is proved a second time with its tests.
 #![tactic(auto)]
 
@@ -7,8 +7,6 @@ mod alike;
 #[cfg(test)]
 mod boxes;
 #[cfg(test)]
-mod criterion;
-#[cfg(test)]
 mod frames;
 #[cfg(test)]
 mod parts;
@@ -16,7 +14,5 @@ mod parts;
 mod plans;
 #[cfg(test)]
 mod register;
-#[cfg(test)]
-mod start;
 #[cfg(test)]
 mod transfer;

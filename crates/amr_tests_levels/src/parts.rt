@@ -1,9 +1,8 @@
 //! Frames filled in parts: four patches in two runs of two, which send each other messages.
 
-ghost use Rattle.std.specs.Prelude.{◌≡◌, ◌*◌, ◌^◌, ◌<◌, ◌≤◌, List, length, true, IfOk};
+ghost use Rattle.std.specs.Prelude.{◌≡◌, ◌*◌, ◌^◌, ◌<◌, ◌≤◌, List, length, IfOk};
 ghost use Rattle.std.specs.List.{All};
 ghost use Rattle.amr_def.specs.Domain.{domain};
-ghost use Rattle.amr_def.specs.Limits.{has_inflows};
 ghost use Rattle.amr_patch.specs.declared.patches.Patch.{Patch};
 ghost use Rattle.amr_patch.specs.Patches.{ArePatchesApart};
 ghost use Rattle.amr_ghost.specs.Frames.{AreInDomain};
@@ -149,14 +148,18 @@ fn fill_in_runs(
     exchange(alloc, first, second, &outer, &parts.copies)
 }
 
-/// The four patches of a domain with these sides of its columns, filled if they are those of a level, and how many masses were sent.
+/// The four patches of a domain whose columns have open sides or none, filled if they are those of a level, and how many masses were
+/// sent.
 fn four_filled(
     alloc: Global,
-    x_sides: Sides,
+    is_open: bool,
     how_far: HowFar,
-) -> Result<(Vec<Patch>, (usize, usize)), Fail>
-    requires { has_inflows x_sides ≡ true }
-{
+) -> Result<(Vec<Patch>, (usize, usize)), Fail> {
+    let x_sides = if is_open {
+        Sides::Open(6, 40)
+    } else {
+        Sides::Periodic
+    };
     let p = problem(alloc, 4, 4, x_sides, Sides::Periodic)?;
     let mut patches = four_patches(alloc)?;
     let mut sent = (0, 0);
@@ -184,33 +187,37 @@ fn has_frame(patches: &[Patch], k: usize, wanted: &[u64]) -> bool {
     left.next().is_none()
 }
 
+/// Open sides are there before any mass is sent.
 #[test]
 fn two_runs_fill_each_other(rt: HostRuntime) -> Result<(), Fail> {
-    let (patches, sent) = four_filled(rt.alloc(), Sides::Periodic, HowFar::Whole)?;
-    assert!(rt; has_frame(&patches, 0, &[0, 41, 42, 0, 14, 13, 24, 23, 0, 31, 32, 0]));
-    assert!(rt;
-        has_frame(
-            &patches,
-            1,
-            &[0, 43, 44, 0, 12, 11, 22, 21, 32, 31, 42, 41, 0, 13, 14, 0]
-        )
-    );
-    assert!(rt; has_frame(&patches, 2, &[0, 21, 22, 0, 34, 33, 0, 41, 42, 0]));
-    assert!(rt; has_frame(&patches, 3, &[0, 31, 32, 0, 44, 43, 0, 11, 12, 0]));
-    assert_eq!(rt; sent, (0, 8));
-    Ok(())
-}
-
-#[test]
-fn open_sides_come_first(rt: HostRuntime) -> Result<(), Fail> {
-    let (outer, _none) = four_filled(rt.alloc(), Sides::Open(6, 40), HowFar::Outer)?;
-    assert!(rt; has_frame(&outer, 0, &[0, 0, 0, 0, 6, 0, 6, 0, 0, 0, 0, 0]));
-    assert!(rt; has_frame(&outer, 3, &[0, 0, 0, 0, 6, 0, 0, 0, 0, 0]));
-    let (whole, sent) = four_filled(rt.alloc(), Sides::Open(6, 40), HowFar::Whole)?;
-    assert!(rt; has_frame(&whole, 0, &[0, 41, 42, 0, 6, 13, 6, 23, 0, 31, 32, 0]));
-    assert_eq!(rt; ghost_at(&whole, 0, cell(-1, 1)), Some((6, false)));
-    assert_eq!(rt; ghost_at(&whole, 0, cell(1, 2)), Some((32, true)));
-    assert_eq!(rt; sent, (0, 6));
+    for (is_open, how_far, first, third, sent) in [
+        (
+            false,
+            HowFar::Whole,
+            [0, 41, 42, 0, 14, 13, 24, 23, 0, 31, 32, 0],
+            [0, 21, 22, 0, 34, 33, 0, 41, 42, 0],
+            (0, 8),
+        ),
+        (
+            true,
+            HowFar::Outer,
+            [0, 0, 0, 0, 6, 0, 6, 0, 0, 0, 0, 0],
+            [0, 0, 0, 0, 6, 0, 0, 0, 0, 0],
+            (0, 0),
+        ),
+        (
+            true,
+            HowFar::Whole,
+            [0, 41, 42, 0, 6, 13, 6, 23, 0, 31, 32, 0],
+            [0, 21, 22, 0, 6, 33, 0, 41, 42, 0],
+            (0, 6),
+        ),
+    ] {
+        let (patches, found) = four_filled(rt.alloc(), is_open, how_far)?;
+        assert!(rt; has_frame(&patches, 0, &first));
+        assert!(rt; has_frame(&patches, 2, &third));
+        assert_eq!(rt; found, sent);
+    }
     Ok(())
 }
 
@@ -219,10 +226,4 @@ fn more_runs_than_memory_has_lists_for(rt: HostRuntime) -> Result<(), Fail> {
     let p = problem(rt.alloc(), 4, 4, Sides::Periodic, Sides::Periodic)?;
     assert!(rt; parts_of(rt.alloc(), &p, &[], 4_294_967_295).is_err());
     Ok(())
-}
-
-#[test]
-fn an_empty_message_has_no_masses(rt: HostRuntime) {
-    let message = Message::empty(rt.alloc());
-    assert_eq!(rt; (message.copies.len(), message.masses.len()), (0, 0));
 }

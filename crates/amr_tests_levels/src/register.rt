@@ -1,17 +1,12 @@
-//! The register of a ring.
+//! Beside a finer box in a ring: its ghost cells, and what a register gives back.
 
-ghost use Rattle.std.specs.Prelude.{◌≡◌, [], ◌∷◌, pos, map};
+ghost use Rattle.std.specs.Prelude.{◌≡◌, pos};
 ghost use Rattle.amr_box.specs.declared.Cell.{Cell};
-ghost use Rattle.amr_box.specs.Cells.{cell, extent, in_boxes};
 ghost use Rattle.amr_def.specs.State.{Masses};
-ghost use Rattle.amr_patch.specs.Patches.{AreApart, box};
-ghost use Rattle.amr_register.specs.Registers.{HasEdgesOf, IsRegisterOf, entry_in};
+ghost use Rattle.amr_register.specs.Registers.{IsRegisterOf, entry_in};
 
-use crate::boxes::side_by_side;
-use crate::frames::are_of_level;
+use crate::frames::{are_of_level, cell, ghost_at, patch};
 use crate::transfer::put;
-use amr_box::{Bx, Cell};
-use amr_causes::NoMemory;
 use amr_def::Problem;
 use amr_ghost::fill;
 use amr_patch::{Level, Patch};
@@ -20,89 +15,81 @@ use amr_samples::{empty_level, fine_box, ring, whole_box};
 use std::alloc::Global;
 use std::test::Fail;
 
-/// The 100 units of cell (1, 0) and what an entry adds to them.
-#[test]
-fn the_ring_has_three_register_cells(rt: HostRuntime) -> Result<(), Fail> {
-    let p = ring(rt.alloc())?;
-    let mut coarse = empty_level(rt.alloc(), whole_box())?;
-    let fine = empty_level(rt.alloc(), fine_box())?;
-    let mut register = Register::make(rt.alloc(), &p, 0, &coarse, &fine)?;
-    let west = Cell { x: 1, y: 0 };
-    let beside = [west, Cell { x: 3, y: 0 }, Cell { x: 2, y: 1 }];
-    assert_eq!(rt; register.cells(), beside.as_slice());
-    coarse.set(west, 100);
-    register.absorb(0, 7, 2);
-    register.reflux(&mut coarse);
-    assert_eq!(rt; coarse.get(west), Some(105));
-    Ok(())
-}
-
-/// The entries of the ring's register.
-fn entries(register: &Register) -> [i64; 3] {
-    if register.cells().len() != 3 {
-        return [99; 3];
+/// The value of a ghost cell of the finer box to its left, in the lower of its rows and in the upper one.
+fn ghosts(alloc: Global, p: &Problem, coarse: &Level) -> Result<[Option<(u64, bool)>; 2], Fail> {
+    let mut fine = Vec::new(alloc);
+    fine.push(patch(alloc, 4, 0, 5, 1)?)?;
+    if are_of_level(p, 1, &fine) {
+        fill(p, 1, &mut fine, Some(coarse));
     }
-    [register.entry(0), register.entry(1), register.entry(2)]
+    Ok([
+        ghost_at(&fine, 0, cell(3, 0)),
+        ghost_at(&fine, 0, cell(3, 1)),
+    ])
 }
 
-/// The entries that a step of level 0 takes flows from: those by the cells of each patch, then, each time from 0 on, those by the edges
-/// that each patch owns.
-fn entries_taken(
-    alloc: Global,
+/// The first entry of a register after a step of the coarser level, and once so much has flowed from that cell in the finer steps.
+fn exchanged(
     p: &Problem,
     patches: &mut [Patch],
     register: &mut Register,
-) -> Result<Vec<[i64; 3]>, NoMemory>
-    requires edges { HasEdgesOf (map box patches.old) register.old }
+    finer: u8,
+) -> Option<(i64, i64)>
     requires register { (m : Masses) × (fine : Masses) × IsRegisterOf p.now 0 m fine register.old }
     requires zero { (c : Cell) → entry_in register.old c ≡ pos 0 }
 {
-    let mut taken = Vec::new(alloc);
     if !are_of_level(p, 0, patches) {
-        return Ok(taken);
+        return None;
+    }
+    if patches.is_empty() {
+        return None;
+    }
+    if register.cells().is_empty() {
+        return None;
     }
     fill(p, 0, patches, None);
-    register.find_all_nets(p, 0, patches);
-    register.take_nets();
-    taken.push(entries(register))?;
-    for k in 0..patches.len() {
-        register.clear();
-        register.coarse_part(p, 0, &patches[k]);
-        taken.push(entries(register))?;
+    register.coarse_part(p, 0, &patches[0]);
+    let coarse = register.entry(0);
+    if coarse.abs_diff(0) > 99 {
+        return None;
     }
-    Ok(taken)
+    register.absorb(0, 0, u64::from(finer));
+    Some((coarse, register.entry(0)))
 }
 
-/// Those of the ring in these patches, with masses of 7 and 5 in cells (1, 0) and (2, 0).
-fn ring_in(alloc: Global, patch_boxes: &[Bx]) -> Result<Vec<[i64; 3]>, NoMemory>
-    requires apart { AreApart patch_boxes.now }
-    requires cells { (c : Cell) → in_boxes patch_boxes.now c ≡ in_boxes (extent (cell (pos 0) (pos 0)) (cell (pos 3) (pos 1)) ∷ []) c }
-{
+/// The ghost cells beside a mass in cell (1, 0), and what the register has for that cell after the coarser step and after the finer ones,
+/// in which so much flows from it.
+fn given_back(
+    alloc: Global,
+    mass: u8,
+    finer: u8,
+) -> Result<([Option<(u64, bool)>; 2], Option<(i64, i64)>), Fail> {
     let p = ring(alloc)?;
-    let mut coarse = Level::make(alloc, &[whole_box()], patch_boxes)?;
+    let mut coarse = empty_level(alloc, whole_box())?;
     let fine = empty_level(alloc, fine_box())?;
     let mut register = Register::make(alloc, &p, 0, &coarse, &fine)?;
-    put(&mut coarse, Cell { x: 1, y: 0 }, 7);
-    put(&mut coarse, Cell { x: 2, y: 0 }, 5);
-    entries_taken(alloc, &p, &mut coarse.take_patches(), &mut register)
+    put(&mut coarse, cell(1, 0), mass);
+    let ghosts = ghosts(alloc, &p, &coarse)?;
+    let entries = exchanged(&p, &mut coarse.take_patches(), &mut register, finer);
+    Ok((ghosts, entries))
 }
 
-/// The wind carries each unit of mass one cell to the east in a step. So the 7 units leave cell (1, 0) through its coarse-fine edge, and 5
-/// come to cell (3, 0) through its own.
+/// All that a cell has flows one column on in a step. So the whole mass leaves its cell in the coarser step, and a ghost cell's value
+/// comes in through each of two faces in each of two finer steps. The register gives back the rest.
 #[test]
-fn flows_through_edges_of_the_ring(rt: HostRuntime) -> Result<(), Fail> {
-    let one = ring_in(rt.alloc(), &[whole_box()])?;
-    assert_eq!(rt; one.as_slice(), [[7, -5, 0], [7, -5, 0]].as_slice());
-    Ok(())
-}
-
-/// Where cell (1, 0) is the last of its patch, the other patch owns its edge.
-#[test]
-fn an_edge_between_two_patches(rt: HostRuntime) -> Result<(), Fail> {
-    let two = ring_in(rt.alloc(), &side_by_side(0, 1, 3, 1))?;
-    assert_eq!(rt;
-        two.as_slice(),
-        [[7, -5, 0], [0, 0, 0], [7, -5, 0]].as_slice()
-    );
+fn the_register_gives_back_what_the_finer_steps_left(rt: HostRuntime) -> Result<(), Fail> {
+    for (mass, beside, finer, rest) in [(7, 1, 4, 3), (8, 2, 8, 0), (2, 0, 0, 2)] {
+        let (ghosts, entries) = given_back(rt.alloc(), mass, finer)?;
+        assert_eq!(rt;
+            ghosts,
+            [Some((beside, false)); 2],
+            "ghost cells beside {mass}"
+        );
+        assert_eq!(rt;
+            entries,
+            Some((i64::from(mass), rest)),
+            "entries beside {mass}"
+        );
+    }
     Ok(())
 }

@@ -1,7 +1,5 @@
 use Rattle.std.proofs.Common.{List, ◌∙◌, sym, ap}
 use Rattle.amr_box.specs.Cells.{Extent, in_boxes}
-use Rattle.amr_patch.specs.Levels.{patches_of}
-use Rattle.amr_tests_levels.proofs.CoveredCells.{coarsenable_from}
 use Rattle.amr_tests_levels.proofs.transfer.fine_level.Goals as goal
 
 pub returns-clause-filled : goal.returns-clause-filled
@@ -9,6 +7,3 @@ returns-clause-filled c d = c.in_ok-level.ensures.cells d ∙ ap (λ (bs : List 
 
 pub returns-clause-cells : goal.returns-clause-cells
 returns-clause-cells c d = c.in_ok-level.ensures.cells d ∙ ap (λ (bs : List Extent). in_boxes bs d) c.side_by_side-boxes.ensures.are
-
-pub returns-clause-coarsenable : goal.returns-clause-coarsenable
-returns-clause-coarsenable c = coarsenable_from c.side_by_side-boxes.result (patches_of c.in_ok-level.level) c.side_by_side-boxes.ensures.are c.in_ok-level.ensures.patches

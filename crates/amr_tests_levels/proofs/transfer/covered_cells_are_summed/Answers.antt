@@ -1,7 +1,0 @@
-use Rattle.std.proofs.Common.{◌∙◌, sym}
-use Rattle.amr_box.specs.Cells.{parent}
-use Rattle.amr_tests_levels.proofs.CoveredCells.{parents_there}
-use Rattle.amr_tests_levels.proofs.transfer.covered_cells_are_summed.Goals as goal
-
-pub sum_up-requires-clause-parents : goal.sum_up-requires-clause-parents
-sum_up-requires-clause-parents g c d h = c.in_ok-coarse.ensures (parent d) ∙ parents_there d (sym (c.in_ok-fine.ensures.cells d) ∙ h)
