@@ -21,7 +21,7 @@ ghost use Rattle.amr_advance.specs.Pieces.{AreRawPieces, AreWorkspaces, IsRawPie
 ghost use Rattle.amr_advance.specs.Shown.{AreShown};
 ghost use Rattle.amr_cycle.specs.Cycles.{HasStepToCome};
 
-use amr_advance::turns_of;
+use crate::cycle::masses_after_a_step;
 use amr_board::{Board, Ended, Shape};
 use amr_causes::NoMemory;
 use amr_def::Problem;
@@ -30,7 +30,7 @@ use amr_gaps::{Starts, starts_of};
 use amr_ghost::fill_in_order;
 use amr_layout::{Layout, Surroundings, TaskLayout, plan};
 use amr_patch::{Level, Patch, order_of};
-use amr_samples::{fine_box, nine_columns, whole_box};
+use amr_samples::nine_columns;
 use amr_start::base;
 use amr_work::{Body, Stage, Work, Workspace, work_level};
 use amr_workers::OpenGate;
@@ -217,7 +217,7 @@ fn stages_after<R: Threads + Sync>(
 }
 
 /// The tasks are drawn in order, 0 to 2. Each reads what the patch at its high side puts, which for the last one is the first. So the
-/// first two stop at a face that is not there yet, and the last one finds all.
+/// first two stop at a face that is not there yet, and the last one finds all. After a step by one worker the mass is a column on.
 #[test]
 fn last_task_alone_is_finished(rt: HostRuntime) -> Result<(), Fail> {
     let alloc = rt.alloc();
@@ -227,21 +227,7 @@ fn last_task_alone_is_finished(rt: HostRuntime) -> Result<(), Fail> {
         all.as_slice(),
         [Stage::Swept, Stage::Swept, Stage::Finished].as_slice()
     );
-    Ok(())
-}
-
-/// Three patches of four, four and one columns stay in order. A small patch before a larger one goes to a board after it.
-#[test]
-fn larger_patches_go_first(rt: HostRuntime) -> Result<(), Fail> {
-    let alloc = rt.alloc();
-    let p = nine_columns(alloc)?;
-    let level = start_level(alloc, &p)?;
-    let turns = turns_of(alloc, level.patches())?;
-    assert_eq!(rt; turns.as_slice(), [0, 1, 2].as_slice());
-    let mut patches = Vec::new(alloc);
-    patches.push(Patch::make(alloc, fine_box())?)?;
-    patches.push(Patch::make(alloc, whole_box())?)?;
-    let turns = turns_of(alloc, &patches)?;
-    assert_eq!(rt; turns.as_slice(), [1, 0].as_slice());
+    let masses = masses_after_a_step(&rt, alloc, &p, 1, &OpenGate)?;
+    assert_eq!(rt; masses.as_slice(), [8, 0, 0, 0, 0, 0, 0, 0, 0].as_slice());
     Ok(())
 }

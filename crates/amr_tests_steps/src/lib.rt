@@ -11,12 +11,6 @@ mod cycle;
 #[cfg(test)]
 mod drive;
 #[cfg(test)]
-mod lots;
-#[cfg(test)]
-mod regrid;
-#[cfg(test)]
 mod rows;
-#[cfg(test)]
-mod shared;
 #[cfg(test)]
 mod start;

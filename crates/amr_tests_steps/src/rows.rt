@@ -8,7 +8,7 @@ use amr_patch::Level;
 use std::alloc::Global;
 
 /// The mass of a cell of level `l`.
-pub(crate) fn mass_at(levels: &[Level], l: usize, x: i32, y: i32) -> Option<u64> {
+fn mass_at(levels: &[Level], l: usize, x: i32, y: i32) -> Option<u64> {
     match levels.get(l) {
         None => None,
         Some(level) => level.get(Cell { x, y }),
@@ -41,6 +41,22 @@ pub(crate) fn corners(
     let mut all = Vec::new(alloc);
     if let Some(level) = levels.get(l) {
         for b in level.boxes() {
+            all.push([b.lo().x, b.lo().y, b.hi().x, b.hi().y])?;
+        }
+    }
+    Ok(all)
+}
+
+/// The corners of the patches of a level.
+pub(crate) fn patch_corners(
+    alloc: Global,
+    levels: &[Level],
+    l: usize,
+) -> Result<Vec<[i32; 4]>, NoMemory> {
+    let mut all = Vec::new(alloc);
+    if let Some(level) = levels.get(l) {
+        for patch in level.patches() {
+            let b = patch.bx();
             all.push([b.lo().x, b.lo().y, b.hi().x, b.hi().y])?;
         }
     }
