@@ -1,4 +1,5 @@
-//! A step of a mesh compared with the step of the witness, over sound states that a fixed generator draws. It is all tests.
+//! A step of a mesh compared with the step of the witness: over worked states, and over sound states that a fixed generator draws.
+//! It is all tests.
 #![tactic(auto)]
 
 #[cfg(test)]
@@ -7,3 +8,5 @@ mod problems;
 mod states;
 #[cfg(test)]
 mod steps;
+#[cfg(test)]
+mod worked;

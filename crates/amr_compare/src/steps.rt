@@ -81,7 +81,7 @@ fn mesh_of(alloc: Global, p: &Problem, bytes: &[u8]) -> Option<Mesh>
 }
 
 /// The state of a payload after a step by so many workers.
-fn stepped<R: Threads + Wait + Sync>(
+pub(crate) fn stepped<R: Threads + Wait + Sync>(
     rt: &R,
     alloc: Global,
     p: &Problem,
@@ -100,7 +100,11 @@ fn stepped<R: Threads + Wait + Sync>(
 }
 
 /// The same by the witness.
-fn stepped_slowly(alloc: Global, p: &Problem, bytes: &[u8]) -> Result<Option<Plain>, Fail> {
+pub(crate) fn stepped_slowly(
+    alloc: Global,
+    p: &Problem,
+    bytes: &[u8],
+) -> Result<Option<Plain>, Fail> {
     let Some(mesh) = mesh_of(alloc, p, bytes) else {
         return Ok(None);
     };
