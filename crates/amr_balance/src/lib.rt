@@ -9,8 +9,6 @@ use amr_causes::NoMemory;
 use std::alloc::Global;
 
 mod order;
-#[cfg(test)]
-mod tests;
 
 pub use order::largest_first;
 

@@ -105,6 +105,3 @@ impl BoxList {
         Ok(())
     }
 }
-
-#[cfg(test)]
-mod tests;

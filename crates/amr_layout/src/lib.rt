@@ -12,8 +12,6 @@ mod lookup;
 mod places;
 mod registers;
 mod stretches;
-#[cfg(test)]
-mod tests;
 
 pub use crate::adds::Surroundings;
 pub use crate::alone::{LevelFlows, plan_adds};

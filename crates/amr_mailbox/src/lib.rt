@@ -16,6 +16,3 @@ pub use letter::Letter;
 pub use mailbox::Mailbox;
 pub use rule::Kept;
 pub use view::{Role, Turn, View};
-
-#[cfg(test)]
-mod tests;

@@ -9,8 +9,6 @@
 mod nesting;
 mod projection;
 mod reach;
-#[cfg(test)]
-mod tests;
 
 pub use nesting::nested;
 pub use projection::project;

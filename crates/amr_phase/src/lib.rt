@@ -13,6 +13,3 @@ pub use laws::{every_list_of_events, layouts_and_plans, tests_of_plans};
 pub use list::List;
 pub use machine::{Core, Event, Hold, Stage};
 pub use plan::{Plan, Post, Task};
-
-#[cfg(test)]
-mod tests;

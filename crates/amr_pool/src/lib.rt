@@ -16,6 +16,3 @@ pub use order::{Duty, PieceAsker, PieceBox, PieceWorker};
 pub use pool::{Pool, serve_alone};
 pub use service::Service;
 pub use shared::sole;
-
-#[cfg(test)]
-mod tests;

@@ -7,4 +7,3 @@ pub mod FaceLaws
 pub mod Levels
 pub mod LedgerLaws
 pub mod States
-pub mod Samples

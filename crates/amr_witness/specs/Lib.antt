@@ -1,5 +1,4 @@
 pub mod Ends
-pub mod Given
 pub mod Maps
 pub mod Parts
 pub mod Ready

@@ -6,8 +6,6 @@
 mod advance;
 mod faces;
 mod ledger;
-#[cfg(test)]
-mod tests;
 mod value;
 
 pub use advance::slow_step;

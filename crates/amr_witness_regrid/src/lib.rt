@@ -10,8 +10,6 @@ mod mesh;
 mod regrid;
 mod same;
 mod tagged;
-#[cfg(test)]
-mod tests;
 mod wanted;
 
 pub use both::regrid_both;

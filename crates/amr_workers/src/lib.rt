@@ -19,6 +19,3 @@ pub use kept::{OrderAsker, OrderBox, OrderWorker, serve_all};
 pub use order::{About, Answer, CompletionOrder, DrawOrder, Duty, Order};
 pub use phase::run_phase;
 pub use team::Team;
-
-#[cfg(test)]
-mod tests;
