@@ -5,8 +5,6 @@
 #[cfg(test)]
 mod codec;
 #[cfg(test)]
-mod decoder;
-#[cfg(test)]
 mod fields;
 #[cfg(test)]
 mod payloads;
@@ -14,3 +12,5 @@ mod payloads;
 mod problem;
 #[cfg(test)]
 mod problems;
+#[cfg(test)]
+mod trial;

@@ -7,9 +7,6 @@ use std::fmt::Write as _;
 use std::process::Abort;
 use std::test::Fail;
 
-/// The greatest number of bytes of a problem.
-const MOST_BYTES: usize = 65536;
-
 const RING: &str = "version = 1
 name = \"ring\"
 cells = [4, 2]
@@ -209,9 +206,9 @@ fn each_fault_comes_where_it_applies(rt: HostRuntime) -> Result<(), Fail> {
     Ok(())
 }
 
-/// Bytes that no line of the table can be: too many of them, no text, and rows that are too many.
+/// Bytes that no line of the table can be: no text, and rows that are too many.
 #[test]
-fn long_texts(rt: HostRuntime) -> Result<(), Fail> {
+fn bytes_that_are_no_line_of_the_table(rt: HostRuntime) -> Result<(), Fail> {
     let alloc = rt.alloc();
     assert_eq!(rt; verdict(alloc, b"\xff")?.as_str(), "NotToml");
     let mut text = ring_with(alloc, "blocks")?;
@@ -224,13 +221,6 @@ fn long_texts(rt: HostRuntime) -> Result<(), Fail> {
         verdict(alloc, rows.as_bytes())?.as_str(),
         "OutOfRange(Blocks, 257)"
     );
-    text.push_str("]\n#")?;
-    for _ in text.len()..MOST_BYTES {
-        text.push('x')?;
-    }
-    assert_eq!(rt; verdict(alloc, text.as_bytes())?.as_str(), "accepted");
-    text.push('x')?;
-    assert_eq!(rt; verdict(alloc, text.as_bytes())?.as_str(), "TooLong");
     Ok(())
 }
 

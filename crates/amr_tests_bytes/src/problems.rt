@@ -1,37 +1,36 @@
 //! A problem that several crates are tested with.
 
-ghost use Rattle.std.specs.Prelude.{◌≡◌, ◌≤◌, IfOk};
+ghost use Rattle.std.specs.Prelude.{◌≡◌, IfOk};
 
 use amr_def::{Blocks, Name, Problem, Shear, Sides, Thresholds};
 use std::alloc::Global;
 use std::test::Fail;
 
-/// A problem of 2 by 2 cells without blocks, of so many steps.
-pub(crate) fn two_by_two(alloc: Global, steps: u32) -> Result<Problem, Fail>
-    requires { steps ≤ 4096 }
+/// The ring with 2 by 2 cells, without steps and blocks.
+pub(crate) fn two_by_two(alloc: Global) -> Result<Problem, Fail>
     ensures { IfOk result (λ p. p.max_level ≡ 0) }
 {
     Ok(Problem {
         version: 1,
-        name: Name::make(Vec::from_slice(alloc, b"two")?),
+        name: Name::make(Vec::from_slice(alloc, b"ring")?),
         nx: 2,
         ny: 2,
-        steps,
-        cx: 0,
+        steps: 0,
+        cx: 1,
         cy: 0,
-        d: 1,
+        d: 2,
         shear_x: Shear::make(Vec::new(alloc)),
         shear_y: Shear::make(Vec::new(alloc)),
         x_sides: Sides::Periodic,
         y_sides: Sides::Periodic,
         max_level: 0,
         tag: Thresholds::make(Vec::new(alloc)),
-        n_error_buf: 0,
-        efficiency: 80,
-        min_width: 1,
-        regrid_int: 4096,
+        n_error_buf: 1,
+        efficiency: 70,
+        min_width: 2,
+        regrid_int: 2,
         blocking: 2,
-        max_grid_size: 4,
+        max_grid_size: 32,
         blocks: Blocks::make(Vec::new(alloc)),
     })
 }

@@ -8,8 +8,6 @@ mod digest;
 mod generator;
 mod line;
 mod problem;
-#[cfg(test)]
-mod tests;
 mod writing;
 
 pub use digest::DigestSink;
