@@ -1,7 +1,4 @@
 //! Stops, refusals, and the file.
-ghost use Rattle.std.specs.Prelude.{◌≡◌, Some, IfOk};
-ghost use Rattle.amr_disk.specs.Memory.{seen_of};
-
 use amr_causes::NoMemory;
 use amr_disk::{Disk, DiskFault, FileDisk, Leave, MemDisk};
 use std::alloc::Global;
@@ -15,16 +12,6 @@ fn read_all<D: Disk>(alloc: Global, disk: &mut D) -> Result<Vec<u8>, Fail> {
     let mut bytes = [0u8; 16];
     let n = disk.read_at(0, &mut bytes)?;
     Ok(bytes[..n.min(16)].to_vec(alloc)?)
-}
-
-// A disk that was only read, after a stop: the clauses of the calls say what the stop leaves.
-fn only_read(alloc: Global, bytes: &[u8], mode: Leave) -> Result<MemDisk, NoMemory>
-    ensures { IfOk result (λ d. seen_of d ≡ Some bytes.now) }
-{
-    let mut disk = MemDisk::make(alloc, bytes, 16, 8, &[2], None)?;
-    let _ = disk.read_at(0, &mut [0]);
-    let _ = disk.read_at(1, &mut [0]);
-    Ok(disk.leave(mode))
 }
 
 // Three bytes, one of which is written over, and two beyond a gap, with a sync between where asked.
@@ -131,15 +118,4 @@ fn file_keeps_what_was_written(rt: HostRuntime) -> Result<(), Fail> {
     fs::remove_file(&rt, "mesh.store")?;
     unopened_file(&rt, &rt)?;
     unsynced_file(&rt, &rt)
-}
-
-#[test]
-fn reads_leave_the_bytes(rt: HostRuntime) -> Result<(), Fail> {
-    let alloc = rt.alloc();
-    let mut left = only_read(alloc, &[1, 2, 3], Leave::New)?;
-    assert_eq!(rt;
-        read_all(alloc, &mut left)?.as_slice(),
-        [1, 2, 3].as_slice()
-    );
-    Ok(())
 }

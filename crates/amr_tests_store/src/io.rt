@@ -12,74 +12,54 @@ use std::test::Fail;
 
 const BYTES: &[u8] = b"block-structured";
 
+/// Sixteen reads give a byte each, and the next one is the end. A fault at one of them takes no byte.
 #[test]
-fn one_byte_a_call_and_a_fault_at_each_call(rt: HostRuntime) -> Result<(), Fail> {
-    let alloc = rt.alloc();
+fn reads_of_one_byte_and_a_fault_at_each(rt: HostRuntime) {
     for call in 1..=18u64 {
-        let before = call as usize - 1;
-        let fails = [call];
-
-        // Sixteen reads give a byte each, and the next one is the end.
-        let mut src = MemSource::make(alloc, BYTES, 1, &fails).expect(&rt, "memory");
-        match read_all(alloc, &mut src, BYTES.len()) {
-            Ok(all) => {
-                assert!(rt; call == 18, "no fault at call {call}");
-                assert_eq!(rt; all.as_slice(), BYTES);
-            }
-            Err(fault) => {
-                assert!(rt; call <= 17, "a fault without a call {call}");
-                assert_eq!(rt; fault, ReadAll::ReadFault);
-                let rest = read_all(alloc, &mut src, BYTES.len()).expect(&rt, "the rest");
-                assert_eq!(rt; rest.as_slice(), &BYTES[before..], "left at call {call}");
-            }
+        let mut src = MemSource::make(rt.alloc(), BYTES, 1, &[call]).expect(&rt, "memory");
+        if call <= 17 {
+            let fault = read_all(rt.alloc(), &mut src, BYTES.len()).err();
+            assert_eq!(rt; fault, Some(ReadAll::ReadFault), "at call {call}");
         }
+        let left = if call <= 17 { call as usize - 1 } else { 0 };
+        let rest = read_all(rt.alloc(), &mut src, BYTES.len()).expect(&rt, "the rest");
+        assert_eq!(rt; rest.as_slice(), &BYTES[left..], "left at call {call}");
+    }
+}
 
-        // Sixteen writes take a byte each.
-        let held = &BYTES[..before.min(16)];
-        let mut sink = MemSink::make(alloc, 16, 1, &fails).expect(&rt, "memory");
+/// Sixteen writes take a byte each. A fault at one of them leaves what is held.
+#[test]
+fn writes_of_one_byte_and_a_fault_at_each(rt: HostRuntime) {
+    for call in 1..=17u64 {
+        let mut sink = MemSink::make(rt.alloc(), 16, 1, &[call]).expect(&rt, "memory");
         let done = write_whole(&mut sink, BYTES);
-        assert_eq!(rt; done.is_err(), call <= 16, "write at call {call}");
-        assert_eq!(rt; sink.bytes(), held, "held at call {call}");
+        assert_eq!(rt; done.is_err(), call <= 16, "at call {call}");
+        assert_eq!(rt;
+            sink.bytes(),
+            &BYTES[..call as usize - 1],
+            "held at call {call}"
+        );
+    }
+}
 
-        let mut sink = MemSink::make(alloc, 16, 1, &fails).expect(&rt, "memory");
+/// The same of a text in fragments.
+#[test]
+fn fragments_by_one_byte_and_a_fault_at_each(rt: HostRuntime) {
+    for call in 1..=17u64 {
+        let mut sink = MemSink::make(rt.alloc(), 16, 1, &[call]).expect(&rt, "memory");
         let fragments = [
             Fragment::Str("block-"),
             Fragment::Str(""),
             Fragment::Str("structured"),
         ];
         let done = write_fragments(&mut sink, &fragments);
-        assert_eq!(rt; done.is_err(), call <= 16, "text at call {call}");
-        assert_eq!(rt; sink.bytes(), held, "held of a text at call {call}");
+        assert_eq!(rt; done.is_err(), call <= 16, "at call {call}");
+        assert_eq!(rt;
+            sink.bytes(),
+            &BYTES[..call as usize - 1],
+            "held at call {call}"
+        );
     }
-    Ok(())
-}
-
-#[test]
-fn too_long_by_one_byte(rt: HostRuntime) -> Result<(), Fail> {
-    let alloc = rt.alloc();
-    let long = [b'x'; 10_000];
-    for (given, max, fits) in [
-        (0, 0, true),
-        (1, 0, false),
-        (16, 16, true),
-        (17, 16, false),
-        (4096, 4096, true),
-        (4097, 4096, false),
-        (10_000, usize::MAX, true),
-    ] {
-        let mut src = MemSource::make(alloc, &long[..given], 5000, &[]).expect(&rt, "memory");
-        match read_all(alloc, &mut src, max) {
-            Ok(all) => assert_eq!(rt; (all.len(), fits), (given, true), "{given} of {max}"),
-            Err(fault) => {
-                assert_eq!(rt;
-                    (fault, fits),
-                    (ReadAll::TooLong, false),
-                    "{given} of {max}"
-                )
-            }
-        }
-    }
-    Ok(())
 }
 
 /// The lines of so many cells.

@@ -5,8 +5,6 @@
 #[cfg(test)]
 mod board;
 #[cfg(test)]
-mod damage;
-#[cfg(test)]
 mod disk;
 #[cfg(test)]
 mod io;

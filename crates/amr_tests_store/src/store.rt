@@ -1,17 +1,16 @@
-//! Stops, puts, renewals, older bytes, and the file. The problem is one byte, and a slot holds two: the gates stand at 22 and 41, the end at 60.
+//! Puts, older bytes, and calls that fail. The problem is one byte, and a slot holds two: the gates stand at 22 and 41, the end at 60.
 ghost use Rattle.std.specs.Prelude.{◌≡◌, None};
 ghost use Rattle.amr_store.specs.Created.{IsVersion};
 ghost use Rattle.amr_store.specs.Stands.{IsStoreReady, last_in, slot_size_in};
 
-use amr_disk::{Disk, FileDisk, Leave, MemDisk};
+use amr_disk::{Disk, MemDisk};
 use amr_store::{Found, Part, Store, StoreFault};
 use std::alloc::Global;
-use std::fs;
 use std::process::Abort;
 use std::test::Fail;
 
 // A store of version 1 with one state in its first slot.
-pub(crate) const IMAGE: [u8; 42] = [
+const IMAGE: [u8; 42] = [
     0xA5, 65, 77, 82, 83, 84, 79, 82, 49, 2, 0, 0, 0, 0, 0, 0, 0, 1, 0, 0, 0, 112, 0xA5, 1, 0, 0,
     0, 0, 0, 0, 0, 2, 0, 0, 0, 0, 0, 0, 0, 8, 9, 0,
 ];
@@ -25,13 +24,13 @@ fn older() -> [u8; 128] {
 
 // What opening a disk finds, short of the store.
 #[derive(Clone, Copy, Debug, PartialEq, Eq)]
-pub(crate) enum Seen {
+enum Seen {
     Nothing,
     Ready,
     Damaged(Part),
 }
 
-pub(crate) fn shown(found: &Found) -> Seen {
+fn shown(found: &Found) -> Seen {
     match found {
         Found::Nothing => Seen::Nothing,
         Found::Ready(_) => Seen::Ready,
@@ -54,56 +53,6 @@ fn is_state(found: &Option<Vec<u8>>, want: &[u8]) -> bool {
         Some(bytes) => bytes.as_slice() == want,
         None => false,
     }
-}
-
-// A new store with two states, on a disk that stops at a call, and what a stop leaves.
-pub(crate) fn stopped(
-    alloc: Global,
-    stop: Option<u64>,
-    version: u32,
-    mode: Leave,
-) -> Result<MemDisk, Fail>
-    requires { IsVersion version }
-{
-    let mut disk = MemDisk::make(alloc, &[], 128, 64, &[], stop)?;
-    match Store::create(alloc, &mut disk, &[112], 2, version) {
-        Ok(mut store) => match store.put(&mut disk, 1, &[8, 9]) {
-            Ok(()) => {
-                let _ = store.put(&mut disk, 2, &[7]);
-            }
-            Err(_) => {}
-        },
-        Err(_) => {}
-    }
-    Ok(disk.leave(mode))
-}
-
-#[test]
-fn stops_find_one_state_or_the_next(rt: HostRuntime) -> Result<(), Fail> {
-    let alloc = rt.alloc();
-    for mode in [
-        Leave::Old,
-        Leave::New,
-        Leave::Filled(0),
-        Leave::Filled(0xA5),
-    ] {
-        for call in 1..9 {
-            let mut left = stopped(alloc, Some(call), 2, mode)?;
-            let found = Store::open(alloc, &mut left)?;
-            assert!(rt;
-                !matches!(found, Found::Damaged(_)),
-                "creation stopped at {call}"
-            );
-        }
-        for call in 16..23 {
-            let latest = latest_on(alloc, stopped(alloc, Some(call), 2, mode)?)?;
-            assert!(rt;
-                is_state(&latest, &[8, 9]) || is_state(&latest, &[7]),
-                "the second put stopped at {call}"
-            );
-        }
-    }
-    Ok(())
 }
 
 // Three puts in turn, up to the first that is refused.
@@ -186,37 +135,6 @@ fn puts_are_found_again(rt: HostRuntime) -> Result<(), Fail> {
         is_found(&rt, disk, version, 2, &[7])?;
     }
     Ok(())
-}
-
-// A store of version 1 with one state, and its renewal, on a disk that stops at a call, and what a stop leaves.
-pub(crate) fn renewed(alloc: Global, stop: Option<u64>, mode: Leave) -> Result<MemDisk, Fail> {
-    let mut disk = MemDisk::make(alloc, &[], 256, 64, &[], stop)?;
-    match Store::create(alloc, &mut disk, &[112], 2, 1) {
-        Ok(mut store) => match store.put(&mut disk, 1, &[8, 9]) {
-            Ok(()) => {
-                let _ = store.renew(alloc, &mut disk, 2, &[1, 2, 3], 3);
-            }
-            Err(_) => {}
-        },
-        Err(_) => {}
-    }
-    Ok(disk.leave(mode))
-}
-
-#[test]
-fn renewal_finds_the_old_state_or_the_new(rt: HostRuntime) -> Result<(), Fail> {
-    let alloc = rt.alloc();
-    for mode in [Leave::Old, Leave::New, Leave::Filled(0xA5)] {
-        for call in 17..25 {
-            let latest = latest_on(alloc, renewed(alloc, Some(call), mode)?)?;
-            assert!(rt;
-                is_state(&latest, &[8, 9]) || is_state(&latest, &[1, 2, 3]),
-                "the renewal stopped at {call}"
-            );
-        }
-    }
-    let disk = renewed(alloc, None, Leave::Old)?;
-    is_found(&rt, disk, 2, 3, &[1, 2, 3])
 }
 
 // A new store over the older bytes, with one state where asked.
@@ -310,35 +228,5 @@ fn failed_read_is_no_damage(rt: HostRuntime) -> Result<(), Fail> {
     let mut disk = MemDisk::make(alloc, &IMAGE, 128, 8, &[1], None)?;
     assert!(rt; matches!(Store::open(alloc, &mut disk), Err(StoreFault::DiskFault)));
     assert_eq!(rt; shown(&Store::open(alloc, &mut disk)?), Seen::Ready);
-    Ok(())
-}
-
-// Makes a store of one state in the file, and says what was found there before.
-fn make_in_file(rt: &HostRuntime) -> Result<Seen, Fail> {
-    let alloc = rt.alloc();
-    let mut disk = FileDisk::make(rt.clone()?);
-    let before = shown(&Store::open(alloc, &mut disk)?);
-    let mut store = Store::create(alloc, &mut disk, &[112], 2, 2)?;
-    store.put(&mut disk, 1, &[8, 9])?;
-    Ok(before)
-}
-
-// The latest state of the store in the file.
-fn latest_in_file(rt: &HostRuntime) -> Result<Option<Vec<u8>>, Fail> {
-    let mut disk = FileDisk::make(rt.clone()?);
-    match Store::open(rt.alloc(), &mut disk)? {
-        Found::Ready(mut store) => Ok(store.latest(rt.alloc(), &mut disk)?),
-        Found::Nothing => Ok(None),
-        Found::Damaged(_) => Ok(None),
-    }
-}
-
-#[test]
-fn file_holds_a_store(rt: HostRuntime) -> Result<(), Fail> {
-    let _ = fs::remove_file(&rt, "mesh.store");
-    assert_eq!(rt; make_in_file(&rt)?, Seen::Nothing);
-    let latest = latest_in_file(&rt)?;
-    assert!(rt; is_state(&latest, &[8, 9]));
-    fs::remove_file(&rt, "mesh.store")?;
     Ok(())
 }
