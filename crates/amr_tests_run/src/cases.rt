@@ -114,37 +114,36 @@ impl<'a> Case<'a> {
     }
 }
 
+/// The words, parted by blanks; of no text no word.
 fn line_of(alloc: Global, words: &str) -> Result<Line, NoMemory> {
     let mut line = Line::make(alloc);
+    if words.is_empty() {
+        return Ok(line);
+    }
     for word in words.split(' ') {
         line.push(word)?;
     }
     Ok(line)
 }
 
-/// The ring with other lines, or none, for some keys.
-pub(crate) fn ring_with(alloc: Global, changes: &[(&str, &str)]) -> Result<String, Fail> {
-    let mut text = String::new(alloc);
-    for old in RING.lines() {
-        let mut line = old;
-        for (key, new) in changes {
-            if old.starts_with(*key) {
-                line = *new;
-            }
-        }
-        if !line.is_empty() {
-            write!(text, "{line}\n")?;
-        }
-    }
-    Ok(text)
+fn key_of(line: &str) -> &str {
+    line.split(' ').next().unwrap_or("")
 }
 
-/// The ring with other lines, parted by semicolons, in the place of a key's.
-pub(crate) fn ring_with_lines(alloc: Global, key: &str, lines: &str) -> Result<String, Fail> {
+/// The ring with these lines, parted by semicolons, in the place of those with their keys. A key alone takes its line away.
+pub(crate) fn ring_with(alloc: Global, lines: &str) -> Result<String, Fail> {
     let mut text = String::new(alloc);
     for old in RING.lines() {
-        let lines = if old.starts_with(key) { lines } else { old };
+        let mut stays = true;
         for line in lines.split(';') {
+            stays = stays && key_of(line) != key_of(old);
+        }
+        if stays {
+            write!(text, "{old}\n")?;
+        }
+    }
+    for line in lines.split(';') {
+        if line.contains('=') {
             write!(text, "{line}\n")?;
         }
     }

@@ -1,6 +1,6 @@
 //! The text of each refusal that needs no store, and the trial, which reads nothing.
 
-use crate::cases::{Case, RING, RING_PLOT, ring_with_lines};
+use crate::cases::{Case, RING, RING_PLOT, ring_with};
 use std::test::Fail;
 
 const USAGE: &str =
@@ -13,7 +13,7 @@ const TRIAL: &str =
 #[test]
 fn a_trial(rt: HostRuntime) {
     for words in [
-        "trial 1 64",
+        "trial 1 64 --workers 1",
         "trial 1 64 --workers 2",
         "trial 1 64 --workers 64",
     ] {
@@ -67,48 +67,46 @@ fn faults_of_the_outside(rt: HostRuntime) {
     case.ends(&rt, 2, "", "amr: usage: run [--workers W] [--to K] [");
 }
 
-/// A key of the ring, lines in the place of its own, and what is said of the problem then.
-const FAULTS: &str = "version||missing key version
-blocks||missing key blocks
-name|name = 1|wrong kind name
-cells|cells = [4]|wrong kind cells
-max_level|max_level = false|wrong kind max_level
-blocks|blocks = [[0, 0, 0, 8]]|wrong kind blocks
-version|version = 3|out of range version 3
-name|name = \"\"|out of range name 0
-name|name = \"Ring\"|out of range name 4
-cells|cells = [4, 257]|out of range cells 257
-steps|steps = -1|out of range steps -1
-steps|steps = 4097|out of range steps 4097
-sides|sides = [-1, -1, -2, -1]|out of range sides -2
-max_level|max_level = 5|out of range max_level 5
-steps|steps = 1;max_grid_size = 5|out of range max_grid_size 5
-blocks|blocks = [[0, 0, 0, 0, 1073741825]]|out of range blocks 1073741825
-courant|courant = [3, 2, 4]|courant 5 over 4
-courant|courant = [-1024, 0, 1023]|courant 1024 over 1023
-sides|sides = [-1, 0, -1, -1]|sides differ x
-sides|sides = [-1, -1, 0, -1]|sides differ y
-blocks|blocks = [[0, 0, 4, 0, 8]]|block 0 outside
-blocks|blocks = [[0, 0, 0, 0, 8], [1, 0, 0, 0, 8]]|block 1 outside
-max_level|max_level = 0;tag = [4, 2]|2 tags for 0 levels
-max_level|max_level = 0;efficiency = 101|out of range efficiency 101
-version|version = 1;shear_x = [1, 1]|unknown key shear_x
-version|version = 1;blocking = 2|unknown key blocking
-version|version = 2;blocking = 8|blocking 8 does not fit y
-version|version = 2;shear_x = [1, -3]|courant 3 over 2
-steps|steps = 1;zebra = 1;alpha = 1|unknown key alpha
-steps|steps = 1;steps = 1|not TOML
-steps|steps 1|not TOML";
+/// Lines for the ring, each in the place of the one with its key (a key alone takes its line away), and what is said of the problem
+/// then.
+const FAULTS: &str = "version|missing key version
+blocks|missing key blocks
+name = 1|wrong kind name
+cells = [4]|wrong kind cells
+max_level = false|wrong kind max_level
+blocks = [[0, 0, 0, 8]]|wrong kind blocks
+version = 3|out of range version 3
+name = \"\"|out of range name 0
+name = \"Ring\"|out of range name 4
+cells = [4, 257]|out of range cells 257
+steps = -1|out of range steps -1
+steps = 4097|out of range steps 4097
+sides = [-1, -1, -2, -1]|out of range sides -2
+max_level = 5|out of range max_level 5
+steps = 1;max_grid_size = 5|out of range max_grid_size 5
+blocks = [[0, 0, 0, 0, 1073741825]]|out of range blocks 1073741825
+courant = [3, 2, 4]|courant 5 over 4
+courant = [-1024, 0, 1023]|courant 1024 over 1023
+sides = [-1, 0, -1, -1]|sides differ x
+sides = [-1, -1, 0, -1]|sides differ y
+blocks = [[0, 0, 4, 0, 8]]|block 0 outside
+blocks = [[0, 0, 0, 0, 8], [1, 0, 0, 0, 8]]|block 1 outside
+max_level = 0;tag = [4, 2]|2 tags for 0 levels
+max_level = 0;efficiency = 101|out of range efficiency 101
+version = 1;shear_x = [1, 1]|unknown key shear_x
+version = 1;blocking = 2|unknown key blocking
+version = 2;blocking = 8|blocking 8 does not fit y
+version = 2;shear_x = [1, -3]|courant 3 over 2
+steps = 1;zebra = 1;alpha = 1|unknown key alpha
+steps = 1;steps = 1|not TOML
+steps =|not TOML";
 
 #[test]
 fn faults_of_the_problem(rt: HostRuntime) -> Result<(), Fail> {
     let alloc = rt.alloc();
     for row in FAULTS.lines() {
-        let mut fields = row.split('|');
-        let key = fields.next().unwrap_or("");
-        let lines = fields.next().unwrap_or("");
-        let fault = fields.next().unwrap_or("");
-        let text = ring_with_lines(alloc, key, lines)?;
+        let (lines, fault) = row.split_once('|').unwrap_or((row, ""));
+        let text = ring_with(alloc, lines)?;
         let line = format!(in alloc; "amr: problem: {fault}\n")?;
         Case::run(text.as_bytes()).ends(&rt, 3, "", line.as_str());
         Case::of("check", text.as_bytes()).ends(&rt, 3, "", line.as_str());
@@ -117,9 +115,11 @@ fn faults_of_the_problem(rt: HostRuntime) -> Result<(), Fail> {
 }
 
 #[test]
-fn whole_courant_number(rt: HostRuntime) -> Result<(), Fail> {
-    let text = ring_with_lines(rt.alloc(), "courant", "courant = [2, 2, 4]")?;
-    Case::of("check", text.as_bytes()).ends(&rt, 0, "ok 4 2 1 0\n", "");
+fn accepted(rt: HostRuntime) -> Result<(), Fail> {
+    for lines in ["courant = [1, 0, 2]", "courant = [2, 2, 4]"] {
+        let text = ring_with(rt.alloc(), lines)?;
+        Case::of("check", text.as_bytes()).ends(&rt, 0, "ok 4 2 1 0\n", "");
+    }
     Ok(())
 }
 

@@ -1,34 +1,12 @@
 //! Worked plots of finer levels, and of rows that move against each other.
 
-use crate::cases::{Case, RING};
+use crate::cases::{Case, ring_with};
 use std::alloc::Global;
 use std::fmt::Write as _;
+use std::process::Abort;
+use std::sync::Wait;
 use std::test::Fail;
-
-/// Whether one of the lines, parted by semicolons, begins so.
-fn begins_one(lines: &str, start: &str) -> bool {
-    for line in lines.split(';') {
-        if line.starts_with(start) {
-            return true;
-        }
-    }
-    false
-}
-
-/// The ring with these lines in the place of those with the same keys, and after them.
-fn ring_but(alloc: Global, lines: &str) -> Result<String, Fail> {
-    let mut text = String::new(alloc);
-    for old in RING.lines() {
-        let key = old.split('=').next().unwrap_or("");
-        if !begins_one(lines, key) {
-            write!(text, "{old}\n")?;
-        }
-    }
-    for line in lines.split(';') {
-        write!(text, "{line}\n")?;
-    }
-    Ok(text)
-}
+use std::thread::Threads;
 
 /// A column of mass 8 on 2 by 2 cells, all of which are tagged. Half of the first column has moved on, in two finer steps.
 const REFINED_EVERYWHERE_PLOT: &str = "amr-plot 1
@@ -51,7 +29,7 @@ end
 
 #[test]
 fn refined_everywhere_by_workers(rt: HostRuntime) -> Result<(), Fail> {
-    let text = ring_but(
+    let text = ring_with(
         rt.alloc(),
         "cells = [2, 2];max_level = 1;tag = [1];blocks = [[0, 0, 0, 1, 8]]",
     )?;
@@ -82,28 +60,38 @@ fn half_filled(alloc: Global, level: u32, n: u32, mass: u32) -> Result<String, F
     Ok(text)
 }
 
-/// A column of mass 1024 on 2 by 2 cells, refined four times: each level is one box, and a cell has a quarter of its parent's mass.
-#[test]
-fn five_levels_at_the_start(rt: HostRuntime) -> Result<(), Fail> {
+/// A column on 2 by 2 cells, refined so many times: each level is one box, and a cell has a quarter of its
+/// parent's mass.
+fn is_refined<R: Abort + Alloc<A = Global> + Threads + Wait + Sync>(
+    rt: &R,
+    levels: u32,
+    lines: &str,
+    mass: u32,
+) -> Result<(), Fail> {
     let alloc = rt.alloc();
-    let problem = ring_but(
-        alloc,
-        "cells = [2, 2];steps = 0;max_level = 4;tag = [1, 1, 1, 1];n_error_buf = 4;blocks = [[0, 0, 0, 1, 1024]]",
+    let lines = format!(in alloc;
+        "cells = [2, 2];steps = 0;courant = [0, 0, 1];max_level = {levels};blocks = [[0, 0, 0, 1, {mass}]];{lines}"
     )?;
-    let mut plot = format!(in alloc; "amr-plot 1\nname ring\nstep 0\nledger 0 2048 0 0\n")?;
-    for (level, n, mass) in [
-        (0, 2, 1024),
-        (1, 4, 256),
-        (2, 8, 64),
-        (3, 16, 16),
-        (4, 32, 4),
-    ] {
-        let rows = half_filled(alloc, level, n, mass)?;
-        plot.push_str(rows.as_str())?;
+    let problem = ring_with(alloc, lines.as_str())?;
+    let whole = mass.saturating_mul(2);
+    let mut plot = format!(in alloc; "amr-plot 1\nname ring\nstep 0\nledger 0 {whole} 0 0\n")?;
+    let mut share = mass;
+    for (level, n) in [(0u32, 2), (1, 4), (2, 8), (3, 16), (4, 32)] {
+        if level <= levels {
+            let rows = half_filled(alloc, level, n, share)?;
+            plot.push_str(rows.as_str())?;
+            share /= 4;
+        }
     }
     plot.push_str("end\n")?;
-    Case::run(problem.as_bytes()).ends(&rt, 0, plot.as_str(), "");
+    Case::run(problem.as_bytes()).ends(rt, 0, plot.as_str(), "");
     Ok(())
+}
+
+#[test]
+fn a_column_refined_twice_and_four_times(rt: HostRuntime) -> Result<(), Fail> {
+    is_refined(&rt, 2, "tag = [1, 1];n_error_buf = 0", 64)?;
+    is_refined(&rt, 4, "tag = [1, 1, 1, 1];n_error_buf = 4", 1024)
 }
 
 /// Row 0 moves half a cell up its axis, and row 1 half a cell down, past its end.
@@ -121,20 +109,25 @@ end
 
 #[test]
 fn rows_against_each_other(rt: HostRuntime) -> Result<(), Fail> {
-    let text = ring_but(
+    let text = ring_with(
         rt.alloc(),
         "version = 2;courant = [0, 0, 2];shear_x = [1, -1];blocks = [[0, 0, 0, 1, 8]]",
     )?;
     Case::run(text.as_bytes()).ends(&rt, 0, SHEARED_PLOT, "");
+    let faster = ring_with(
+        rt.alloc(),
+        "version = 2;courant = [0, 0, 2];shear_x = [1, -3];blocks = [[0, 0, 0, 1, 8]]",
+    )?;
+    Case::run(faster.as_bytes()).ends(&rt, 3, "", "amr: problem: courant 3 over 2\n");
     Ok(())
 }
 
 /// A ring with a mass of 7 in cell (1, 0), which differs by enough to tag it and three neighbours, with further lines.
 fn spot(alloc: Global, lines: &str) -> Result<String, Fail> {
     let all = format!(in alloc;
-        "max_level = 1;tag = [4];n_error_buf = 0;min_width = 1;blocks = [[1, 0, 1, 0, 7]];{lines}"
+        "steps = 0;courant = [0, 0, 1];max_level = 1;tag = [4];n_error_buf = 0;min_width = 1;blocks = [[1, 0, 1, 0, 7]];{lines}"
     )?;
-    ring_but(alloc, all.as_str())
+    ring_with(alloc, all.as_str())
 }
 
 /// All of three boxes is tagged.
@@ -174,12 +167,9 @@ box 0 0 7 3
 fn boxes_round_a_spot(rt: HostRuntime) -> Result<(), Fail> {
     let alloc = rt.alloc();
     for (lines, finer) in [
-        ("steps = 0;efficiency = 100", THREE_BOXES),
-        ("steps = 0;efficiency = 60", ONE_BOX),
-        (
-            "steps = 0;efficiency = 100;version = 2;blocking = 4",
-            WHOLE_BLOCKS,
-        ),
+        ("efficiency = 100", THREE_BOXES),
+        ("efficiency = 60", ONE_BOX),
+        ("efficiency = 100;version = 2;blocking = 4", WHOLE_BLOCKS),
     ] {
         let text = spot(alloc, lines)?;
         let plot = format!(in alloc;
@@ -192,75 +182,10 @@ fn boxes_round_a_spot(rt: HostRuntime) -> Result<(), Fail> {
 
 #[test]
 fn blocks_that_do_not_fit_the_columns(rt: HostRuntime) -> Result<(), Fail> {
-    let text = spot(rt.alloc(), "version = 2;cells = [3, 2];blocking = 4")?;
-    Case::run(text.as_bytes()).ends(&rt, 3, "", "amr: problem: blocking 4 does not fit x\n");
-    Ok(())
-}
-
-/// The finer box goes with the spot, which moves a cell a step. It is of the state before the last step.
-const ONE_BOX_MOVED: &str = "amr-plot 1
-name ring
-step 2
-ledger 0 7 0 0
-ledger 1 7 0 0
-ledger 2 7 0 0
-level 0 1
-box 0 0 3 1
-0 0 0 7
-0 0 0 0
-level 1 1
-box 2 0 7 3
-0 0 0 0 2 2
-0 0 0 0 2 1
-0 0 0 0 0 0
-0 0 0 0 0 0
-end
-";
-
-/// Round the end of the axis there are two boxes.
-const TWO_BOXES_ROUND_THE_END: &str = "amr-plot 1
-name ring
-step 3
-ledger 0 7 0 0
-ledger 1 7 0 0
-ledger 2 7 0 0
-ledger 3 7 0 0
-level 0 1
-box 0 0 3 1
-7 0 0 0
-0 0 0 0
-level 1 2
-box 0 0 1 1
-2 2
-2 1
-box 4 0 7 3
-0 0 0 0
-0 0 0 0
-0 0 0 0
-0 0 0 0
-end
-";
-
-#[test]
-fn regrids_before_every_step(rt: HostRuntime) -> Result<(), Fail> {
     let text = spot(
         rt.alloc(),
-        "steps = 3;courant = [1, 0, 1];efficiency = 60;regrid_int = 1",
+        "efficiency = 100;version = 2;blocking = 4;cells = [3, 2]",
     )?;
-    Case::of("run --to 2", text.as_bytes()).ends(&rt, 0, ONE_BOX_MOVED, "");
-    Case::run(text.as_bytes()).ends(&rt, 0, TWO_BOXES_ROUND_THE_END, "");
-    Ok(())
-}
-
-/// Where no cell is tagged there is no finer level.
-#[test]
-fn no_blocks_and_no_finer_level(rt: HostRuntime) -> Result<(), Fail> {
-    let text = ring_but(
-        rt.alloc(),
-        "steps = 0;max_level = 2;tag = [1, 1];blocks = []",
-    )?;
-    let plot =
-        "amr-plot 1\nname ring\nstep 0\nledger 0 0 0 0\nlevel 0 1\nbox 0 0 3 1\n0 0 0 0\n0 0 0 0\nend\n";
-    Case::run(text.as_bytes()).ends(&rt, 0, plot, "");
+    Case::run(text.as_bytes()).ends(&rt, 3, "", "amr: problem: blocking 4 does not fit x\n");
     Ok(())
 }

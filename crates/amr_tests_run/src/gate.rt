@@ -21,12 +21,7 @@ use std::thread::Threads;
 fn nine_columns(alloc: Global) -> Result<String, Fail> {
     ring_with(
         alloc,
-        &[
-            ("cells", "cells = [9, 3]"),
-            ("courant", "courant = [1, 0, 1]"),
-            ("steps", "steps = 2\nmax_grid_size = 4"),
-            ("blocks", "blocks = [[8, 0, 8, 0, 8]]"),
-        ],
+        "cells = [9, 3];courant = [1, 0, 1];steps = 2;max_grid_size = 4;blocks = [[8, 0, 8, 0, 8]]",
     )
 }
 

@@ -3,13 +3,13 @@
 use crate::cases::{Case, FOUR_STEPS, LONG_RING, RING, TWO_STEPS, empty_disk};
 use amr_disk::{Disk, DiskFault, MemDisk};
 use std::alloc::Global;
+use std::process::Abort;
+use std::sync::Wait;
 use std::test::Fail;
-
-const START: &str =
-    "amr-plot 1\nname ring\nstep 0\nledger 0 8 0 0\nlevel 0 1\nbox 0 0 3 1\n8 0 0 0\n0 0 0 0\nend\n";
+use std::thread::Threads;
 
 /// The bytes that a disk reads.
-fn bytes_of(alloc: Global, disk: &mut MemDisk) -> Result<Vec<u8>, Fail> {
+pub(crate) fn bytes_of(alloc: Global, disk: &mut MemDisk) -> Result<Vec<u8>, Fail> {
     let mut bytes = Vec::new(alloc);
     let mut part = [0u8; 64];
     for place in 0..64u64 {
@@ -22,72 +22,52 @@ fn bytes_of(alloc: Global, disk: &mut MemDisk) -> Result<Vec<u8>, Fail> {
 }
 
 /// Kept to step 2, shown, gone on with by four workers, and shown again.
-#[test]
-fn kept_shown_and_gone_on_with(rt: HostRuntime) -> Result<(), Fail> {
-    let mut disk = empty_disk(rt.alloc(), &[], None)?;
+fn keep_and_go_on<R: Abort + Alloc<A = Global> + Threads + Wait + Sync>(
+    rt: &R,
+    disk: &mut MemDisk,
+) {
     let ring = LONG_RING.as_bytes();
     Case::of("run --to 2 --keep 1", ring).ends_on(
-        &rt,
-        &mut disk,
+        rt,
+        disk,
         0,
         TWO_STEPS,
         "checkpoint 1\ncheckpoint 2\n",
     );
-    Case::of("show", b"").ends_on(&rt, &mut disk, 0, TWO_STEPS, "");
+    Case::of("show", b"").ends_on(rt, disk, 0, TWO_STEPS, "");
     Case::of("run --keep 1 --workers 4", ring).ends_on(
-        &rt,
-        &mut disk,
+        rt,
+        disk,
         0,
         FOUR_STEPS,
         "checkpoint 3\ncheckpoint 4\n",
     );
-    Case::run(ring).ends(&rt, 0, FOUR_STEPS, "");
-    Case::of("show", b"").ends_on(&rt, &mut disk, 0, FOUR_STEPS, "");
-    Case::of("run --keep 1", ring).ends_on(&rt, &mut disk, 0, FOUR_STEPS, "");
-    Ok(())
+    Case::run(ring).ends(rt, 0, FOUR_STEPS, "");
+    Case::of("show", b"").ends_on(rt, disk, 0, FOUR_STEPS, "");
 }
 
-/// A lower target, and another problem. No byte of the store changes.
+/// A lower target, and another problem, are refused then. No byte of the store changes.
 #[test]
-fn refused_by_what_is_stored(rt: HostRuntime) -> Result<(), Fail> {
+fn kept_shown_gone_on_with_and_refused(rt: HostRuntime) -> Result<(), Fail> {
     let alloc = rt.alloc();
     let mut disk = empty_disk(alloc, &[], None)?;
-    let ring = LONG_RING.as_bytes();
-    Case::of("run --keep 4096", ring).ends_on(&rt, &mut disk, 0, FOUR_STEPS, "checkpoint 4\n");
+    keep_and_go_on(&rt, &mut disk);
     let before = bytes_of(alloc, &mut disk)?;
-    Case::of("run --to 2 --keep 1", ring).ends_on(
-        &rt,
-        &mut disk,
-        7,
-        "",
-        "amr: store is ahead: 4 2\n",
-    );
-    Case::of("run --keep 1", RING.as_bytes()).ends_on(
-        &rt,
-        &mut disk,
-        7,
-        "",
-        "amr: store holds another problem: 137 137 at 49\n",
-    );
-    assert_eq!(rt; bytes_of(alloc, &mut disk)?.as_slice(), before.as_slice());
-    Ok(())
-}
-
-/// The steps that are marks: multiples, the target, and the start where it is the target.
-#[test]
-fn marks_of_a_run(rt: HostRuntime) -> Result<(), Fail> {
-    let alloc = rt.alloc();
-    let ring = LONG_RING.as_bytes();
-    for (words, plot, lines) in [
-        ("run --to 0 --keep 3", START, "checkpoint 0\n"),
-        ("run --to 2 --keep 3", TWO_STEPS, "checkpoint 2\n"),
-        ("run --keep 3", FOUR_STEPS, "checkpoint 3\ncheckpoint 4\n"),
-        ("run --keep 2", FOUR_STEPS, "checkpoint 2\ncheckpoint 4\n"),
+    for (words, problem, line) in [
+        (
+            "run --to 2 --keep 1",
+            LONG_RING,
+            "amr: store is ahead: 4 2\n",
+        ),
+        (
+            "run --keep 1",
+            RING,
+            "amr: store holds another problem: 137 137 at 49\n",
+        ),
     ] {
-        let mut disk = empty_disk(alloc, &[], None)?;
-        Case::of(words, ring).ends_on(&rt, &mut disk, 0, plot, lines);
-        Case::of("show", b"").ends_on(&rt, &mut disk, 0, plot, "");
+        Case::of(words, problem.as_bytes()).ends_on(&rt, &mut disk, 7, "", line);
     }
+    assert_eq!(rt; bytes_of(alloc, &mut disk)?.as_slice(), before.as_slice());
     Ok(())
 }
 

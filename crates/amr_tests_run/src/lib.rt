@@ -17,4 +17,4 @@ mod plots;
 #[cfg(test)]
 mod stops;
 #[cfg(test)]
-mod threads;
+mod versions;

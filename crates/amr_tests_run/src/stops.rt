@@ -1,9 +1,12 @@
-//! Each call of an object fails once, and each call of the disk is the last: what the run says, and what the next one finds.
+//! Each call of an object fails once, and each call of the disk is the last: what the run says, and what the next one
+//! finds.
 
 use crate::cases::{Case, Ended, FOUR_STEPS, LONG_RING, TWO_STEPS, empty_disk};
+use crate::versions::ring_at_two_steps;
 use amr_causes::NoMemory;
-use amr_disk::{Disk, Leave, MemDisk};
+use amr_disk::{Leave, MemDisk};
 use std::alloc::Global;
+use std::fmt::Write as _;
 use std::process::Abort;
 use std::sync::Wait;
 use std::test::Fail;
@@ -131,65 +134,68 @@ fn stops<R: Abort + Alloc<A = Global> + Threads + Wait + Sync>(
     Ok(stopped)
 }
 
-#[test]
-fn stops_within_a_run(rt: HostRuntime) -> Result<(), Fail> {
-    let stopped = stops(&rt, "run --to 2 --keep 1", &[], 0)?;
-    assert!(rt; 20 <= stopped && stopped < CALLS);
-    Ok(())
-}
-
-/// A store of version 1 at step 2 of the ring.
-fn first_version(alloc: Global) -> Result<Vec<u8>, Fail> {
-    let mut bytes = Vec::from_slice(alloc, b"\xA5AMRSTOR1")?;
-    bytes.extend_from_slice(&241u64.to_le_bytes())?;
-    bytes.extend_from_slice(&137u32.to_le_bytes())?;
-    bytes.extend_from_slice(LONG_RING.as_bytes())?;
-    bytes.push(0xA5)?;
-    bytes.extend_from_slice(&3u64.to_le_bytes())?;
-    bytes.extend_from_slice(&161u64.to_le_bytes())?;
-    bytes.extend_from_slice(&2u32.to_le_bytes())?;
-    for _ in 0..3 {
-        for number in [8u64, 0, 0] {
-            bytes.extend_from_slice(&number.to_le_bytes())?;
+/// Stops at the calls from one on up to another, which keep the next state. The last two open its gate: only a stop at these may
+/// leave it, and does where what was written reached the disk. What the next run shows is that state, or the one before.
+fn either_state<R: Abort + Alloc<A = Global> + Threads + Wait + Sync>(
+    rt: &R,
+    run: Case<'_>,
+    store: &[u8],
+    calls: (u64, u64),
+    plots: (&str, &str),
+) {
+    for call in calls.0..=calls.1 {
+        for (way, reaches) in [
+            (Leave::Old, false),
+            (Leave::New, true),
+            (Leave::Filled(0), false),
+            (Leave::Filled(0xA5), true),
+        ] {
+            let mut disk = MemDisk::make(rt.alloc(), store, 4000, 1000, &[], Some(call)).expect(
+                rt, "memory",
+            );
+            let ended = run.call(rt, &mut disk).expect(rt, "memory");
+            assert_eq!(rt; ended.status, 6);
+            let is_next = reaches && call.saturating_add(1) >= calls.1;
+            let plot = if is_next { plots.1 } else { plots.0 };
+            let mut left = disk.leave(way);
+            Case::of("show", b"").ends_on(rt, &mut left, 0, plot, "");
         }
     }
-    bytes.push(1)?;
-    for number in [1u32, 0, 0, 3, 1] {
-        bytes.extend_from_slice(&number.to_le_bytes())?;
-    }
-    for mass in [2u64, 4, 2, 0, 0, 0, 0, 0] {
-        bytes.extend_from_slice(&mass.to_le_bytes())?;
-    }
-    for _ in 0..81 {
-        bytes.push(0)?;
-    }
-    Ok(bytes)
 }
 
-/// It is shown and gone on with. Then it is one of version 2.
+/// The ring's plot after so many steps.
+fn plot_after(alloc: Global, steps: u32, row: &str) -> Result<String, Fail> {
+    let mut plot = format!(in alloc; "amr-plot 1\nname ring\nstep {steps}\n")?;
+    for step in 0..=steps {
+        write!(plot, "ledger {step} 8 0 0\n")?;
+    }
+    write!(plot, "level 0 1\nbox 0 0 3 1\n{row}\n0 0 0 0\nend\n")?;
+    Ok(plot)
+}
+
+/// The seven last calls of the run are those of its second checkpoint.
 #[test]
-fn store_of_version_1_renewed(rt: HostRuntime) -> Result<(), Fail> {
-    let store = first_version(rt.alloc())?;
-    let mut disk = MemDisk::make(rt.alloc(), &store, 4000, 1000, &[], None)?;
-    Case::of("show", b"").ends_on(&rt, &mut disk, 0, TWO_STEPS, "");
-    Case::of("run --keep 1 --workers 4", LONG_RING.as_bytes()).ends_on(
-        &rt,
-        &mut disk,
-        0,
-        FOUR_STEPS,
-        "checkpoint 3\ncheckpoint 4\n",
-    );
-    let mut head = [0u8; 17];
-    let end = 537 + LONG_RING.len() as u64;
-    assert_eq!(rt; disk.read_at(end, &mut head), Ok(17));
-    assert_eq!(rt; head, *b"\xA5AMRSTOR2\xD1\0\0\0\0\0\0\0");
+fn stops_within_a_run(rt: HostRuntime) -> Result<(), Fail> {
+    let words = "run --to 2 --keep 1";
+    let stopped = stops(&rt, words, &[], 0)?;
+    assert!(rt; 20 <= stopped && stopped < CALLS);
+    let case = Case::of(words, LONG_RING.as_bytes());
+    let one = plot_after(rt.alloc(), 1, "4 4 0 0")?;
+    let calls = (stopped.saturating_sub(6), stopped);
+    either_state(&rt, case, &[], calls, (one.as_str(), TWO_STEPS));
     Ok(())
 }
 
+/// The eight calls of the renewal come before the seven of the last checkpoint.
 #[test]
 fn stops_within_a_renewal(rt: HostRuntime) -> Result<(), Fail> {
-    let store = first_version(rt.alloc())?;
-    let stopped = stops(&rt, "run --keep 1", &store, 2)?;
-    assert!(rt; 10 <= stopped && stopped < CALLS);
+    let store = ring_at_two_steps(rt.alloc())?;
+    let words = "run --keep 1 --workers 4";
+    let stopped = stops(&rt, words, &store, 2)?;
+    assert!(rt; 20 <= stopped && stopped < CALLS);
+    let case = Case::of(words, LONG_RING.as_bytes());
+    let three = plot_after(rt.alloc(), 3, "1 3 3 1")?;
+    let calls = (stopped.saturating_sub(14), stopped.saturating_sub(7));
+    either_state(&rt, case, &store, calls, (TWO_STEPS, three.as_str()));
     Ok(())
 }
