@@ -17,7 +17,7 @@ use Rattle.amr_patch.specs.declared.patches.Patch.{Patch}
 use Rattle.amr_patch.specs.Patches.{box, mass_in, masses_in}
 use Rattle.amr_patch.specs.Places.{is_face_of}
 use Rattle.amr_patch.proofs.Rows.{sides}
-use Rattle.amr_flux.specs.Faces.{IsInDomain, border_faces, flux_beside}
+use Rattle.amr_faces.specs.Faces.{IsInDomain, border_faces, flux_beside}
 use Rattle.amr_flux.specs.Rooms.{widest}
 use Rattle.amr_edges.specs.Borders.{IsOwnEdge}
 use Rattle.amr_edges.proofs.Joined.{adds_own}

@@ -19,9 +19,9 @@ use Rattle.amr_patch.specs.declared.patches.Patch.{Patch}
 use Rattle.amr_box.specs.declared.Face.{Face}
 use Rattle.amr_patch.specs.Patches.{box, mass_in, masses_in}
 use Rattle.amr_patch.specs.Places.{is_face_of}
-use Rattle.amr_flux.specs.Faces.{flux_beside}
+use Rattle.amr_faces.specs.Faces.{flux_beside}
 use Rattle.amr_flux.specs.Rooms.{widest}
-use Rattle.amr_flux.proofs.Shown.{net_alike}
+use Rattle.amr_faces.proofs.Shown.{net_alike}
 use Rattle.amr_flows.specs.Laws.{plain_size}
 use Rattle.amr_flows.specs.Words.{level_total}
 use Rattle.amr_phase.specs.Plans.{PlanOf}

@@ -10,7 +10,7 @@ use Rattle.amr_def.specs.Value.{value_at}
 use Rattle.amr_patch.proofs.Lookups.{in_one, same_default}
 use Rattle.amr_patch.specs.declared.patches.Patch.{Patch}
 use Rattle.amr_patch.specs.Patches.{ArePatchesApart, SameFluxes, box, masses_in}
-use Rattle.amr_flux.specs.Faces.{IsInDomain}
+use Rattle.amr_faces.specs.Faces.{IsInDomain}
 use Rattle.amr_ghost.specs.Frames.{AreInDomain, HasGhostMarks, HasGhostValues, KeepsCorners, SameMasses}
 use Rattle.amr_ghost.specs.Filling.{KeepsCells}
 use Rattle.amr_ghost.proofs.Levels.{zip_inside}

@@ -20,10 +20,10 @@ use Rattle.amr_patch.specs.declared.patches.Patch.{Patch}
 use Rattle.amr_patch.specs.Patches.{box, masses_in}
 use Rattle.amr_patch.specs.Places.{is_edge_face, is_face_of}
 use Rattle.amr_patch.proofs.Lookups.{same_default}
-use Rattle.amr_flux.specs.Faces.{border_faces, flux_beside, is_border, owns}
+use Rattle.amr_faces.specs.Faces.{border_faces, flux_beside, is_border, owns}
 use Rattle.amr_flux.specs.Rooms.{widest}
-use Rattle.amr_flux.proofs.Shown.{border_of_box}
-use Rattle.amr_flux.proofs.Places.{owned_of_box}
+use Rattle.amr_faces.proofs.Shown.{border_of_box}
+use Rattle.amr_faces.proofs.Places.{owned_of_box}
 use Rattle.amr_flows.proofs.LedgerFlowsSums.{total_append}
 use Rattle.amr_flows.specs.Laws.{plain_size}
 use Rattle.amr_flows.specs.Words.{level_total}

@@ -17,9 +17,9 @@ use Rattle.amr_def.specs.Flux.{Fluxes, flux_at}
 use Rattle.amr_patch.specs.declared.levels.Level.{Level as Held}
 use Rattle.amr_patch.specs.declared.patches.Patch.{Patch}
 use Rattle.amr_patch.specs.Patches.{ArePatchesApart, box, masses_in}
-use Rattle.amr_flux.specs.Faces.{IsInDomain, ShowsValues, flux_beside}
+use Rattle.amr_faces.specs.Faces.{IsInDomain, ShowsValues, flux_beside}
 use Rattle.amr_flux.specs.Rooms.{widest}
-use Rattle.amr_flux.proofs.Places.{owned_of_box}
+use Rattle.amr_faces.proofs.Places.{owned_of_box}
 use Rattle.amr_flows.specs.Laws.{plain_size}
 use Rattle.amr_flows.specs.Words.{level_total}
 use Rattle.amr_edges.proofs.OwnFlows.{flows_owned}

@@ -15,9 +15,9 @@ use Rattle.amr_patch.specs.declared.levels.Level.{Level as Held}
 use Rattle.amr_patch.specs.declared.patches.Patch.{Patch}
 use Rattle.amr_patch.specs.Patches.{box, mass_in, masses_in}
 use Rattle.amr_patch.proofs.Lookups.{same_default}
-use Rattle.amr_flux.specs.Faces.{flux_beside}
-use Rattle.amr_flux.proofs.Shown.{net_alike}
-use Rattle.amr_flux.proofs.Places.{owned_of_box}
+use Rattle.amr_faces.specs.Faces.{flux_beside}
+use Rattle.amr_faces.proofs.Shown.{net_alike}
+use Rattle.amr_faces.proofs.Places.{owned_of_box}
 use Rattle.amr_flows.specs.Laws.{plain_size}
 use Rattle.amr_flows.specs.Words.{level_total}
 use Rattle.amr_phase.specs.Plans.{total}

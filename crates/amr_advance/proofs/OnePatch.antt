@@ -16,8 +16,8 @@ use Rattle.amr_patch.specs.declared.patches.Patch.{Patch}
 use Rattle.amr_patch.specs.Patches.{ArePatchesApart, box, mass_in, masses_in, value_in}
 use Rattle.amr_patch.specs.Places.{grown, is_face_of}
 use Rattle.amr_patch.proofs.Lookups.{in_one, masses_in-at, same_default}
-use Rattle.amr_flux.specs.Faces.{IsInDomain, ShowsValues, flux_beside, in_reach}
-use Rattle.amr_flux.proofs.Shown.{flux_is, net_alike}
+use Rattle.amr_faces.specs.Faces.{IsInDomain, ShowsValues, flux_beside, in_reach}
+use Rattle.amr_faces.proofs.Shown.{flux_is, net_alike}
 use Rattle.amr_ghost.specs.Filling.{HasFrame}
 use Rattle.amr_ghost.specs.Frames.{AreInDomain, HasGhostMarks, SameMasses}
 use Rattle.amr_ghost.proofs.Reach.{own_value}

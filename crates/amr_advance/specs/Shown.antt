@@ -12,7 +12,7 @@ use Rattle.amr_def.specs.Flux.{Fluxes, flux_at, net}
 use Rattle.amr_patch.specs.declared.patches.Patch.{Patch}
 use Rattle.amr_patch.specs.Patches.{ArePatchesApart, SameMarks, SameValues, box, mass_in, masses_in}
 use Rattle.amr_ghost.specs.Frames.{AreInDomain, HasGhostMarks}
-use Rattle.amr_flux.specs.Faces.{ShowsValues}
+use Rattle.amr_faces.specs.Faces.{ShowsValues}
 
 -- the numbers of a step of level l with masses m, where the next coarser level had the masses `old`, fit the integers of code:
 -- what flows out of a cell is no more than it has

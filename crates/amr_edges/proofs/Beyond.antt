@@ -27,7 +27,7 @@ use Rattle.amr_patch.proofs.Lookups.{some_mass}
 use Rattle.amr_patch.specs.declared.patches.Patch.{Patch}
 use Rattle.amr_patch.specs.declared.levels.Level.{Level as Held}
 use Rattle.amr_patch.specs.Patches.{box, in_patches, masses_in}
-use Rattle.amr_flux.specs.Faces.{x_end, y_end}
+use Rattle.amr_faces.specs.Faces.{x_end, y_end}
 use Rattle.amr_register.specs.RegisterCells.{is_register_cell, register_cells}
 use Rattle.amr_register.proofs.CellLists.{where_among}
 use Rattle.amr_register.proofs.CollectLaws.{column_high, column_low, passes, row_high, row_low}

@@ -17,8 +17,8 @@ use Rattle.amr_patch.specs.Patches.{box, mark_in, masses_in}
 use Rattle.amr_patch.specs.Places.{grown, is_face_of, on_box}
 use Rattle.amr_patch.proofs.Rows.{inside, is_inside, sides}
 use Rattle.amr_ghost.specs.Frames.{HasGhostMarks, is_beside}
-use Rattle.amr_flux.specs.Faces.{border_faces, is_border, owns, passing, x_end, y_end}
-use Rattle.amr_flux.proofs.Given.{beyond, within_box}
+use Rattle.amr_faces.specs.Faces.{border_faces, is_border, owns, passing, x_end, y_end}
+use Rattle.amr_faces.proofs.Owners.{beyond, within_box}
 use Rattle.amr_layout.specs.Places.{borders_of, leads_on}
 
 -- the cells at whose low side a face of a box lies

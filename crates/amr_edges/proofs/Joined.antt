@@ -12,8 +12,8 @@ use Rattle.amr_patch.specs.declared.patches.Patch.{Patch}
 use Rattle.amr_patch.specs.Patches.{box, masses_in}
 use Rattle.amr_patch.specs.Places.{is_face_of}
 use Rattle.amr_ghost.specs.Frames.{HasGhostMarks}
-use Rattle.amr_flux.specs.Faces.{IsInDomain, ShowsValues, flux_beside}
-use Rattle.amr_flux.proofs.Shown.{flux_is}
+use Rattle.amr_faces.specs.Faces.{IsInDomain, ShowsValues, flux_beside}
+use Rattle.amr_faces.proofs.Shown.{flux_is}
 use Rattle.amr_register.proofs.Homes.{size_at}
 use Rattle.amr_register.proofs.Once.{same_flux}
 use Rattle.amr_layout.specs.declared.AddAt.{AddAt}

@@ -21,7 +21,7 @@ use Rattle.amr_patch.specs.Patches.{ArePatchesApart, box}
 use Rattle.amr_patch.specs.Places.{is_edge_face, is_end}
 use Rattle.amr_patch.proofs.Lookups.{one_patch, same_default}
 use Rattle.amr_patch.proofs.Rows.{inside, is_inside}
-use Rattle.amr_flux.specs.Faces.{IsInDomain, passing, x_end, y_end}
+use Rattle.amr_faces.specs.Faces.{IsInDomain, passing, x_end, y_end}
 use Rattle.amr_register.proofs.CollectLaws.{column_high, row_high}
 use Rattle.amr_register.proofs.Homes.{HasSize, size_at, within_domain}
 use Rattle.amr_register.proofs.OwnedFlows.{low_face_of_box}

@@ -22,7 +22,7 @@ use Rattle.amr_patch.specs.Patches.{box, in_patches, masses_in}
 use Rattle.amr_patch.specs.Places.{is_edge_face, is_face_of}
 use Rattle.amr_patch.proofs.Rows.{sides}
 use Rattle.amr_ghost.specs.Frames.{HasGhostMarks}
-use Rattle.amr_flux.specs.Faces.{IsInDomain, owns, passing}
+use Rattle.amr_faces.specs.Faces.{IsInDomain, owns, passing}
 use Rattle.amr_register.proofs.CollectLaws.{column_low, row_low}
 use Rattle.amr_register.proofs.OwnedFlows.{low_face_of_box}
 use Rattle.amr_layout.specs.declared.AddAt.{AddAt}

@@ -13,7 +13,7 @@ use Rattle.amr_def.specs.Flux.{high_cell}
 use Rattle.amr_patch.specs.declared.patches.Patch.{Patch}
 use Rattle.amr_patch.specs.Patches.{box, in_patches}
 use Rattle.amr_patch.proofs.Lookups.{same_default}
-use Rattle.amr_flux.specs.Faces.{passing, x_end, y_end}
+use Rattle.amr_faces.specs.Faces.{passing, x_end, y_end}
 use Rattle.amr_layout.specs.declared.PutAt.{PutAt}
 use Rattle.amr_layout.specs.Places.{border_places, borders_of, home_face, leads_on, level_borders, placed, places_before, puts_of}
 use Rattle.amr_layout.proofs.LevelPlaces.{level_more}

@@ -6,7 +6,7 @@ use Rattle.amr_def.specs.Domain.{Domain}
 use Rattle.amr_patch.specs.declared.patches.Patch.{Patch}
 use Rattle.amr_patch.specs.Patches.{box}
 use Rattle.amr_patch.specs.Places.{is_edge_face}
-use Rattle.amr_flux.specs.Faces.{owns}
+use Rattle.amr_faces.specs.Faces.{owns}
 use Rattle.amr_layout.specs.Places.{puts_of}
 
 -- a face on a patch's edges that the patch owns

@@ -17,7 +17,7 @@ use Rattle.amr_patch.specs.declared.patches.Patch.{Patch}
 use Rattle.amr_patch.specs.Patches.{ArePatchesApart, box, in_patches, masses_in}
 use Rattle.amr_patch.specs.Places.{is_face_of}
 use Rattle.amr_ghost.specs.Frames.{HasGhostMarks}
-use Rattle.amr_flux.specs.Faces.{IsInDomain, ShowsValues, border_faces, flux_beside, owns}
+use Rattle.amr_faces.specs.Faces.{IsInDomain, ShowsValues, border_faces, flux_beside, owns}
 use Rattle.amr_register.specs.RegisterCells.{register_cells}
 use Rattle.amr_layout.specs.declared.AddAt.{AddAt}
 use Rattle.amr_layout.specs.declared.PutAt.{PutAt}

@@ -12,7 +12,7 @@ use Rattle.amr_def.specs.State.{Masses}
 use Rattle.amr_def.specs.Flux.{Fluxes, face, flux_at}
 use Rattle.amr_def.specs.Ledger.{sum_to}
 use Rattle.amr_patch.proofs.Rows.{inside}
-use Rattle.amr_flux.specs.Faces.{passing, x_end, y_end}
+use Rattle.amr_faces.specs.Faces.{passing, x_end, y_end}
 use Rattle.amr_layout.specs.Surroundings.{Around, edge_count, edge_face, inward, x_start, y_start}
 use Rattle.amr_layout.specs.Adds.{cell_beyond, flow_to, flows_of, inflow_faces, is_exchange_face, is_inflow_face, is_outflow_face, number_of, outflow_faces, register_flows, size_to, word_of, word_total}
 use Rattle.amr_flows.proofs.LedgerFlowsSums.{sum_edges, sum_run, total_append, total_image, total_none, total_passing}

@@ -9,7 +9,7 @@ use Rattle.amr_def.specs.declared.problem.Problem.{Problem}
 use Rattle.amr_def.specs.Domain.{columns, domain, home_cell, in_domain, is_periodic, rows, wrapped}
 use Rattle.amr_def.proofs.Nesting.{in_domain-inside}
 use Rattle.amr_patch.proofs.Rows.{is_inside, sides}
-use Rattle.amr_flux.specs.Faces.{IsInDomain}
+use Rattle.amr_faces.specs.Faces.{IsInDomain}
 use Rattle.amr_layout.proofs.OpenSides.{IsAmong, has}
 
 -- ---- a box of the domain, by whole numbers

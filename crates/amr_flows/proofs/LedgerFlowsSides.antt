@@ -13,7 +13,7 @@ use Rattle.amr_def.specs.Domain.{columns, is_periodic, rows}
 use Rattle.amr_def.specs.State.{Masses, is_covered}
 use Rattle.amr_def.specs.Flux.{Fluxes, face, flux_at, high_cell, low_cell}
 use Rattle.amr_patch.proofs.Rows.{inside as in_box, is_inside}
-use Rattle.amr_flux.specs.Faces.{x_end, y_end}
+use Rattle.amr_faces.specs.Faces.{x_end, y_end}
 use Rattle.amr_layout.specs.Surroundings.{Around, inside, inward, is_open, outside, x_start, y_start}
 use Rattle.amr_layout.specs.Adds.{is_ledger_face}
 use Rattle.amr_layout.proofs.Going.{open_is}

@@ -10,7 +10,7 @@ use Rattle.amr_patch.specs.declared.patches.Patch.{Patch}
 use Rattle.amr_patch.specs.Patches.{ArePatchesApart, box, in_patches}
 use Rattle.amr_patch.proofs.Lookups.{in_none}
 use Rattle.amr_phase.specs.Plans.{total}
-use Rattle.amr_flux.specs.Faces.{passing, x_end, y_end}
+use Rattle.amr_faces.specs.Faces.{passing, x_end, y_end}
 use Rattle.amr_layout.specs.Surroundings.{edge_count, edge_face, x_start, y_start}
 use Rattle.amr_layout.proofs.Edges.{edge_east, edge_north, edge_south, edge_west}
 

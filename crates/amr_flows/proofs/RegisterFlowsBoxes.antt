@@ -19,7 +19,7 @@ use Rattle.amr_def.proofs.Sums.{sum_z, sum_z-same}
 use Rattle.amr_patch.specs.declared.patches.Patch.{Patch}
 use Rattle.amr_patch.specs.Patches.{in_patches}
 use Rattle.amr_patch.proofs.Rows.{inside}
-use Rattle.amr_flux.specs.Faces.{passing, x_end, y_end}
+use Rattle.amr_faces.specs.Faces.{passing, x_end, y_end}
 use Rattle.amr_layout.specs.Surroundings.{Around, edge_count, edge_face, inward, is_coarse_fine, x_start, y_start}
 use Rattle.amr_layout.specs.declared.FlowTo.{FlowTo}
 use Rattle.amr_layout.specs.Adds.{cell_beyond, flow_to, flows_of, inflow_faces, is_exchange_face, number_of, outflow_faces, register_flows, size_to, word_of, word_total}

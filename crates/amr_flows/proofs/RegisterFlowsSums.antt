@@ -6,7 +6,7 @@ use Rattle.std.proofs.lemmas.Bool.{cases_eq, cond-false, cond-true, false_from_n
 use Rattle.amr_box.specs.declared.Face.{Face}
 use Rattle.amr_box.specs.Cells.{Extent, height, width}
 use Rattle.amr_phase.specs.Plans.{total}
-use Rattle.amr_flux.specs.Faces.{passing, x_end, y_end}
+use Rattle.amr_faces.specs.Faces.{passing, x_end, y_end}
 use Rattle.amr_layout.specs.Surroundings.{edge_count, edge_face, x_start, y_start}
 use Rattle.amr_layout.proofs.Edges.{edge_east, edge_north, edge_south, edge_west}
 use Rattle.amr_def.proofs.Sums.{sum_z, sum_z-same}

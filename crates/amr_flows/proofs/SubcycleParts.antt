@@ -14,8 +14,8 @@ use Rattle.amr_def.specs.Flux.{Fluxes, flux_at, high_cell, net}
 use Rattle.amr_def.proofs.Subcycle.{bool_cases, is_false}
 use Rattle.amr_patch.specs.declared.patches.Patch.{Patch}
 use Rattle.amr_patch.specs.Patches.{ArePatchesApart, box}
-use Rattle.amr_flux.specs.Faces.{ShowsValues, flux_beside}
-use Rattle.amr_flux.proofs.Shown.{flux_is}
+use Rattle.amr_faces.specs.Faces.{ShowsValues, flux_beside}
+use Rattle.amr_faces.proofs.Shown.{flux_is}
 use Rattle.amr_register.specs.CoarseFlows.{coarse_flows, has_high_cell, home_face}
 use Rattle.amr_register.specs.RegisterCells.{is_coarse_fine}
 use Rattle.amr_register.specs.Laws.{net_of_all}

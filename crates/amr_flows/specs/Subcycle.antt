@@ -15,7 +15,7 @@ use Rattle.amr_laws.specs.Sides.{inflow_beside, is_uncovered, outflow_beside, ov
 use Rattle.amr_laws.specs.Substeps.{IsSubstep, after_step}
 use Rattle.amr_patch.specs.declared.patches.Patch.{Patch}
 use Rattle.amr_patch.specs.Patches.{ArePatchesApart}
-use Rattle.amr_flux.specs.Faces.{ShowsValues}
+use Rattle.amr_faces.specs.Faces.{ShowsValues}
 use Rattle.amr_register.specs.CoarseFlows.{edge_flows}
 use Rattle.amr_register.specs.Entries.{with_entries}
 use Rattle.amr_register.specs.Laws.{net_of_all}

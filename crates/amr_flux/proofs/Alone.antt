@@ -5,9 +5,10 @@ use Rattle.std.specs.Prelude.{cond, nat_eq, slice_index}
 use Rattle.amr_box.specs.Cells.{height, width}
 use Rattle.amr_def.specs.declared.problem.Problem.{Problem}
 use Rattle.amr_patch.specs.declared.patches.Patch.{Patch}
-use Rattle.amr_flux.specs.Faces.{flux_beside}
-use Rattle.amr_flux.specs.Rows.{signed}
-use Rattle.amr_flux.specs.Tables.{Stands, count_below, x_flux, x_marked, x_number, x_through, y_flux, y_marked, y_number, y_through}
+use Rattle.amr_faces.specs.Faces.{flux_beside}
+use Rattle.amr_faces.specs.Shares.{signed}
+use Rattle.amr_faces.specs.Numbers.{x_number, y_number}
+use Rattle.amr_flux.specs.Tables.{Stands, count_below, x_flux, x_marked, x_through, y_flux, y_marked, y_through}
 use Rattle.amr_flux.proofs.Owned.{x_beside, y_beside}
 use Rattle.amr_flux.proofs.Updates.{AreFluxes}
 

@@ -6,7 +6,7 @@ use Rattle.std.proofs.lemmas.Int.{ints}
 use Rattle.std.proofs.lemmas.Nat.{same_from_place}
 use Rattle.amr_flux.specs.declared.pace.Pace.{Pace}
 use Rattle.amr_flux.specs.Paces.{IsWordOf, mass_by_ends, mass_with, top_share, x_between, x_with, y_between, y_share, y_with}
-use Rattle.amr_flux.specs.Rows.{signed}
+use Rattle.amr_faces.specs.Shares.{signed}
 use Rattle.amr_flux.specs.Tables.{count_below, net_inflow, value, x_marked, y_marked}
 use Rattle.amr_flux.proofs.Throughs.{not_last}
 

@@ -1,33 +1,27 @@
 -- The fluxes through the faces of a patch, once those of its border faces are written beside its own.
-use Rattle.std.proofs.Common.{◌≡◌, ℕ, zero, suc, ◌+◌, ◌<◌, ◌≤◌, ◌⊎◌, inl, inr, Bool, true, false, ◌&&◌, ℤ, pos, ◌+ℤ◌, ◌≤ℤ◌, List, [], ◌∷◌, ◌++◌, length, length-append, refl, sym, ap, ◌∙◌, arith}
-use Rattle.std.specs.Prelude.{not, cond, slice_index}
+use Rattle.std.proofs.Common.{◌≡◌, ℕ, zero, suc, ◌+◌, ◌<◌, ◌≤◌, ◌⊎◌, inl, inr, Bool, true, false, ℤ, pos, ◌+ℤ◌, List, [], ◌∷◌, length, length-append, refl, sym, ap, ◌∙◌, arith}
+use Rattle.std.specs.Prelude.{cond, slice_index}
 use Rattle.std.proofs.lemmas.Int.{ints}
 use Rattle.std.proofs.lemmas.Bool.{cases_lt}
 use Rattle.amr_box.specs.declared.Face.{Face}
-use Rattle.amr_box.specs.declared.Axis.{Axis}
 use Rattle.amr_box.specs.declared.Axis.TheVariants.{X, Y}
-use Rattle.amr_box.specs.Cells.{Extent, cell, extent, height, holds, width}
+use Rattle.amr_box.specs.Cells.{cell, extent, height, holds, width}
 use Rattle.amr_def.specs.declared.problem.Problem.{Problem}
-use Rattle.amr_def.specs.Flux.{face, high_cell, courant}
+use Rattle.amr_def.specs.Flux.{face}
 use Rattle.amr_patch.specs.declared.patches.Patch.{Patch}
-use Rattle.amr_patch.specs.Places.{grown, in_frame, is_face_of}
+use Rattle.amr_patch.specs.Places.{is_face_of}
 use Rattle.amr_patch.specs.Patches.{mark_in}
 use Rattle.amr_patch.proofs.Rows.{is_inside, sides}
-use Rattle.amr_flux.specs.Faces.{border_faces, border_place, flux_beside, fluxes_with, is_border, passing, x_end, y_end}
-use Rattle.amr_flux.specs.Rows.{signed}
+use Rattle.amr_faces.specs.Faces.{border_faces, border_place, fluxes_with, is_border, passing, x_end, y_end}
+use Rattle.amr_faces.specs.Shares.{signed}
 use Rattle.amr_flux.specs.Tables.{Stands, count_below, mark, x_flux, x_marked, x_through, y_flux, y_marked, y_through}
+use Rattle.amr_faces.proofs.Owners.{beyond, with_border, with_own, x_inner, y_inner}
 use Rattle.amr_flux.proofs.Owned.{x_beside, y_beside}
 use Rattle.amr_flux.proofs.Throughs.{x_flux_inner, x_flux_last, y_flux_inner, y_flux_last}
-use Rattle.amr_flux.proofs.Places.{around, IsXFace, IsYFace, high_at, mark_here, offset, x_beyond, x_courant_here, x_face_at, y_beyond, y_courant_here, y_face_at}
+use Rattle.amr_faces.proofs.Places.{IsXFace, IsYFace, offset, x_beyond, x_face_at, y_beyond, y_face_at}
+use Rattle.amr_flux.proofs.Entries.{high_at, mark_here, x_courant_here, y_courant_here}
 
 -- ---- which faces are border faces
-
-pub beyond : (a b m : Bool) → a ≡ true → b ≡ false → (a && not b && m) ≡ m
-beyond a b m e h = rw (e, h) refl
-
-pub within_box : (a b m : Bool) → b ≡ true → (a && not b && m) ≡ false
-within_box true b m h = rw h refl
-within_box false b m h = refl
 
 module _ (q : Patch) where
   pub x_border : (x y : ℤ) (i j : ℕ) → is_face_of q.bx (face X x y) ≡ true → IsXFace q.bx x y i j → i ≡ width q.bx → is_border q (face X x y) ≡ x_marked (width q.bx) q.data.value.marks.items j
@@ -41,20 +35,6 @@ module _ (q : Patch) where
   y_border x y i j e f last =
       beyond (is_face_of q.bx (face Y x y)) (holds q.bx (cell x y)) (mark_in q (cell x y)) e (y_beyond q.bx x y i j q.near f last)
       ∙ mark_here q (cell x y) (i + 1) (j + 1) (high_at q.bx x y i j f.at) ∙ ap (λ n. mark (width q.bx) q.data.value.marks.items (i + 1) (n + 1)) last
-
-  pub x_inner : (x y : ℤ) (i j : ℕ) → IsXFace q.bx x y i j → i < width q.bx → is_border q (face X x y) ≡ false
-  unfolding is_border
-  x_inner x y i j f below =
-      let s = sides q.bx q.near in
-      within_box (is_face_of q.bx (face X x y)) (holds q.bx (cell x y)) (mark_in q (cell x y))
-      (is_inside q.bx (cell x y) (record { west = omega (arith, ints, f.at.column); east = omega (arith, ints, f.at.column, s.wide, below); south = omega (arith, ints, f.at.row); north = omega (arith, ints, f.at.row, s.high, f.row) }))
-
-  pub y_inner : (x y : ℤ) (i j : ℕ) → IsYFace q.bx x y i j → j < height q.bx → is_border q (face Y x y) ≡ false
-  unfolding is_border
-  y_inner x y i j f below =
-      let s = sides q.bx q.near in
-      within_box (is_face_of q.bx (face Y x y)) (holds q.bx (cell x y)) (mark_in q (cell x y))
-      (is_inside q.bx (cell x y) (record { west = omega (arith, ints, f.at.column); east = omega (arith, ints, f.at.column, s.wide, f.column); south = omega (arith, ints, f.at.row); north = omega (arith, ints, f.at.row, s.high, below) }))
 
   -- ---- their order
 
@@ -114,14 +94,6 @@ module _ (q : Patch) where
 
 -- ---- the written lists
 
-pub with_border : (p : Problem) (l : ℕ) (q : Patch) (border : List ℕ) (f : Face) → is_border q f ≡ true → fluxes_with p l q border f ≡ signed (courant p l f) (slice_index border (border_place q f))
-unfolding fluxes_with
-with_border p l q border f e = ap (λ b. cond b (signed (courant p l f) (slice_index border (border_place q f))) (flux_beside p l q f)) e
-
-pub with_own : (p : Problem) (l : ℕ) (q : Patch) (border : List ℕ) (f : Face) → is_border q f ≡ false → fluxes_with p l q border f ≡ flux_beside p l q f
-unfolding fluxes_with
-with_own p l q border f e = ap (λ b. cond b (signed (courant p l f) (slice_index border (border_place q f))) (flux_beside p l q f)) e
-
 pub signed_of : {c c' : ℤ} {n n' : ℕ} → c ≡ c' → n ≡ n' → signed c n ≡ signed c' n'
 signed_of ec en i = signed (ec i) (en i)
 
@@ -169,33 +141,3 @@ module _ (p : Problem) (l : ℕ) (q : Patch) (column row : ℕ) (s : Stands p l 
           ∙ ap (λ n. y_flux p l column (width q.bx) q.data.value.values.items (offset q.bx.lo.x x) n) (sym last)
           ∙ y_beside p l q column row s x y (offset q.bx.lo.x x) (offset q.bx.lo.y y) f.at f.column
           ∙ sym (with_own p l q border (face Y x y) (y_border q x y (offset q.bx.lo.x x) (offset q.bx.lo.y y) e f last ∙ m))
-
--- ---- the cell beyond a face
-
-pub border_when : (q : Patch) (f : Face) → is_face_of q.bx f ≡ true → holds q.bx (high_cell f) ≡ false → is_border q f ≡ mark_in q (high_cell f)
-unfolding is_border
-border_when q f e out = beyond (is_face_of q.bx f) (holds q.bx (high_cell f)) (mark_in q (high_cell f)) e out
-
-framed : (a b : Bool) → a ≡ true → b ≡ false → (a && not b) ≡ true
-framed a b e h = rw (e, h) refl
-
-in_grown : (b : Extent) (a : Axis) (x y : ℤ) → is_face_of b (face a x y) ≡ true → holds (grown b) (cell x y) ≡ true
-in_grown b X x y e =
-    let k = around X b (cell x y) e in
-    let west : b.lo.x ≤ℤ x = k.west in
-    let south : b.lo.y ≤ℤ y = k.south in
-    let north : y ≤ℤ b.hi.y = k.north in
-    is_inside (grown b) (cell x y) (record { west = omega (arith, ints, west); east = k.east; south = omega (arith, ints, south); north = omega (arith, ints, north) })
-in_grown b Y x y e =
-    let k = around Y b (cell x y) e in
-    let west : b.lo.x ≤ℤ x = k.west in
-    let east : x ≤ℤ b.hi.x = k.east in
-    let south : b.lo.y ≤ℤ y = k.south in
-    is_inside (grown b) (cell x y) (record { west = omega (arith, ints, west); east = omega (arith, ints, east); south = omega (arith, ints, south); north = k.north })
-
-pub beyond_frame : (b : Extent) (f : Face) → is_face_of b f ≡ true → holds b (high_cell f) ≡ false → in_frame b (high_cell f) ≡ true
-beyond_frame b f e out = framed (holds (grown b) (high_cell f)) (holds b (high_cell f)) (in_grown b f.axis f.x f.y e) out
-
-pub border_faces_is : (q : Patch) → border_faces q ≡ passing (is_border q) (x_end q.bx) (height q.bx) ++ passing (is_border q) (y_end q.bx) (width q.bx)
-unfolding border_faces
-border_faces_is q = refl

@@ -1,16 +1,12 @@
 mod Alone
 mod Borders
+mod Entries
 mod Exchanged
-pub mod FaceSides
-pub mod Given
-mod Numbers
+mod Given
 mod Owned
 pub mod Paces
 mod Parts
 pub mod PatchSteps
-pub mod Places
-pub mod Reciprocals
-pub mod Shown
 pub mod RowOrder
 pub mod RowSteps
 mod Steps

@@ -13,10 +13,11 @@ use Rattle.amr_patch.specs.declared.patches.Patch.{Patch}
 use Rattle.amr_patch.specs.Places.{grown}
 use Rattle.amr_patch.specs.Patches.{value_in}
 use Rattle.amr_patch.proofs.Rows.{is_inside, sides}
-use Rattle.amr_flux.specs.Faces.{in_reach, flux_beside}
+use Rattle.amr_faces.specs.Faces.{in_reach, flux_beside}
 use Rattle.amr_flux.specs.Tables.{AreXSmall, AreYSmall, Stands, value, x_flux, y_flux}
-use Rattle.amr_flux.proofs.Steps.{flow_of}
-use Rattle.amr_flux.proofs.Places.{IsAt, IsFaceAt, high_at, value_here, x_courant_here, x_low_at, y_courant_here, y_low_at}
+use Rattle.amr_faces.proofs.Shown.{flow_of}
+use Rattle.amr_faces.proofs.Places.{IsFaceAt}
+use Rattle.amr_flux.proofs.Entries.{IsAt, high_at, value_here, x_courant_here, x_low_at, y_courant_here, y_low_at}
 
 -- ---- values are small
 

@@ -8,7 +8,7 @@ use Rattle.amr_def.proofs.Courants.{stable}
 use Rattle.amr_def.proofs.Flows.{shares_le}
 use Rattle.amr_flux.specs.declared.pace.Pace.{Pace}
 use Rattle.amr_flux.specs.Paces.{IsFit, gone, x_share, y_share}
-use Rattle.amr_flux.proofs.Numbers.{x_unsheared, unsheared, y_slow}
+use Rattle.amr_faces.proofs.Numbers.{x_unsheared, unsheared, y_slow}
 
 -- ---- the Courant numbers of a problem that has one along each axis
 
@@ -35,10 +35,10 @@ module _ (pace : Pace) where
   parts v = ap (λ n. unsigned_abs pace.y.number * v / n) pace.same_parts
 
   pub gone_within : (v : ℕ) → gone pace v ≤ v
-  gone_within v = omega (arith, parts v, shares_le (unsigned_abs pace.x.number) (unsigned_abs pace.y.number) pace.x.parts v pace.x.reciprocal.some pace.stable)
+  gone_within v = omega (arith, parts v, shares_le (unsigned_abs pace.x.number) (unsigned_abs pace.y.number) pace.x.parts v pace.x.some pace.stable)
 
   pub come_below : (u v : ℕ) → u < 2 ^ 31 → v < 2 ^ 31 → x_share pace u + y_share pace v ≤ 2 ^ 31
-  come_below u v hu hv = omega (arith, parts v, both_below (unsigned_abs pace.x.number) (unsigned_abs pace.y.number) pace.x.parts u v pace.x.reciprocal.some pace.stable hu hv)
+  come_below u v hu hv = omega (arith, parts v, both_below (unsigned_abs pace.x.number) (unsigned_abs pace.y.number) pace.x.parts u v pace.x.some pace.stable hu hv)
 
 -- ---- a cell of a row, by what the row was
 

@@ -7,7 +7,7 @@ use Rattle.std.proofs.lemmas.List.Edits.{get_or-between}
 use Rattle.std.proofs.lemmas.Bool.{cases_lt}
 use borrow.Rule.Slice.PartMut.{put_mid}
 use Rattle.amr_flux.specs.Rows.{inflow}
-use Rattle.amr_flux.specs.Shares.{AreSmall}
+use Rattle.amr_faces.specs.Shares.{AreSmall}
 
 -- ---- a part that is read
 

@@ -5,11 +5,10 @@ use Rattle.std.proofs.lemmas.Bool.{cases_eq}
 use borrow.Rule.Slice.PartMut.{put_mid}
 use Rattle.amr_def.specs.declared.problem.Problem.{Problem}
 use Rattle.amr_def.specs.Flux.{flow}
-use Rattle.amr_flux.specs.Tables.{value, x_flux, x_number, y_flux, y_number}
+use Rattle.amr_faces.specs.Numbers.{x_number, y_number}
+use Rattle.amr_flux.specs.Tables.{value, x_flux, y_flux}
+use Rattle.amr_faces.proofs.Shown.{flow_of}
 use Rattle.amr_flux.proofs.Parts.{written}
-
-pub flow_of : {c c' : ℤ} {d d' a a' b b' : ℕ} → c ≡ c' → d ≡ d' → a ≡ a' → b ≡ b' → flow c d a b ≡ flow c' d' a' b'
-flow_of ec ed ea eb i = flow (ec i) (ed i) (ea i) (eb i)
 
 -- ---- a row of faces
 

@@ -15,12 +15,14 @@ use Rattle.amr_patch.specs.Places.{is_edge_face, on_box, on_edge}
 use Rattle.amr_patch.specs.Patches.{box, flux_in}
 use Rattle.amr_patch.proofs.Edges.{at_end, x_edge, y_edge}
 use Rattle.amr_patch.proofs.Rows.{is_inside, sides}
-use Rattle.amr_flux.specs.Faces.{flux_beside, is_border, owns}
+use Rattle.amr_faces.specs.Faces.{flux_beside, is_border, owns}
 use Rattle.amr_flux.specs.Tables.{Stands, mark, x_flux, x_marked, y_flux, y_marked}
-use Rattle.amr_flux.proofs.Places.{IsFaceAt, IsXFace, IsYFace, high_at, mark_here, offset, owned_of_box, owned_unmarked, x_beyond, x_face_at, x_high_here, x_low_here, y_beyond, y_face_at, y_high_here, y_low_here}
+use Rattle.amr_faces.proofs.Places.{IsFaceAt, IsXFace, IsYFace, offset, owned_of_box, owned_unmarked, x_beyond, x_face_at, y_beyond, y_face_at}
+use Rattle.amr_flux.proofs.Entries.{high_at, mark_here, x_high_here, x_low_here, y_high_here, y_low_here}
 use Rattle.amr_flux.proofs.Owned.{x_beside, y_beside}
-use Rattle.amr_flux.proofs.Given.{x_border, x_inner, y_border, y_inner}
-use Rattle.amr_flux.proofs.Shown.{border_of_box}
+use Rattle.amr_faces.proofs.Owners.{x_inner, y_inner}
+use Rattle.amr_flux.proofs.Given.{x_border, y_border}
+use Rattle.amr_faces.proofs.Shown.{border_of_box}
 
 -- a face at an end of a row or a column has the entry of its edge
 module _ (p : Problem) (l : ℕ) (q new : Patch) (column row : ℕ) (s : Stands p l q.bx column row) (same : new.bx ≡ q.bx) where

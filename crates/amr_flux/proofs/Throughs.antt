@@ -6,8 +6,10 @@ use Rattle.std.proofs.lemmas.List.{get_or-drop}
 use Rattle.std.proofs.lemmas.Nat.{same_from_place}
 use Rattle.amr_def.specs.declared.problem.Problem.{Problem}
 use Rattle.amr_def.specs.Flux.{flow}
-use Rattle.amr_flux.specs.Rows.{inflow, signed}
-use Rattle.amr_flux.specs.Tables.{IsOtherPlace, count_below, net_inflow, value, x_flux, x_marked, x_number, x_through, y_flux, y_marked, y_number, y_through}
+use Rattle.amr_faces.specs.Shares.{signed}
+use Rattle.amr_flux.specs.Rows.{inflow}
+use Rattle.amr_faces.specs.Numbers.{x_number, y_number}
+use Rattle.amr_flux.specs.Tables.{IsOtherPlace, count_below, net_inflow, value, x_flux, x_marked, x_through, y_flux, y_marked, y_through}
 
 -- ---- rows that still have their old values
 

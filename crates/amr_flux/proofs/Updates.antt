@@ -15,9 +15,10 @@ use Rattle.amr_patch.specs.declared.patches.Patch.{Patch}
 use Rattle.amr_patch.specs.Places.{column_of, grown, in_frame, is_face_of, row_of}
 use Rattle.amr_patch.specs.Patches.{flux_along, mass_in, value_in}
 use Rattle.amr_patch.proofs.Rows.{inside, is_inside, sides, zero-cut}
-use Rattle.amr_flux.specs.Faces.{border_faces, fluxes_with}
+use Rattle.amr_faces.specs.Faces.{border_faces, fluxes_with}
 use Rattle.amr_flux.specs.Tables.{IsOtherPlace, Stands, count_below, net_inflow, value, x_marked, x_through, y_marked, y_through}
-use Rattle.amr_flux.proofs.Places.{IsAt, IsFaceAt, high_at, offset, value_here}
+use Rattle.amr_faces.proofs.Places.{IsFaceAt, offset}
+use Rattle.amr_flux.proofs.Entries.{IsAt, high_at, value_here}
 use Rattle.amr_flux.proofs.Given.{border_count, x_given, y_given}
 
 -- ---- faces by column and row

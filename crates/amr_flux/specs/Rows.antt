@@ -1,10 +1,5 @@
 -- Rows of fluxes beside a row of masses.
-use Rattle.std.specs.Prelude.{ℕ, ◌+◌, ◌^◌, ◌<◌, ℤ, pos, negsuc, neg_ℤ, ◌+ℤ◌, ◌-ℤ◌, ◌<ℤ◌, List, length, slice_index_or}
-
--- a number of this size, and of the sign of c
-abbrev pub signed : ℤ → ℕ → ℤ
-signed (pos a) n = pos n
-signed (negsuc a) n = neg_ℤ (pos n)
+use Rattle.std.specs.Prelude.{ℕ, ◌+◌, ◌^◌, ◌<◌, ℤ, pos, negsuc, ◌+ℤ◌, ◌-ℤ◌, ◌<ℤ◌, List, length, slice_index_or}
 
 -- of a size below 2^31
 pub record IsSmallFlow (z : ℤ) : Type 0 where

@@ -1,12 +1,13 @@
 -- The fluxes of a patch's faces by its lists, where columns and rows count from the low corner. A row of values has two
 -- cells of the frame besides the patch's own, and there are two such rows more: cell (i, j) of the patch stands in column
 -- i + 1 of row j + 1.
-use Rattle.std.specs.Prelude.{◌≡◌, ◌≢◌, ℕ, zero, suc, ◌+◌, ◌≤◌, ◌*◌, ◌/◌, ◌^◌, ◌<◌, Bool, false, ◌&&◌, cond, nat_eq, ℤ, pos, ◌+ℤ◌, ◌-ℤ◌, List, slice_index, slice_index_or}
+use Rattle.std.specs.Prelude.{◌≡◌, ◌≢◌, ℕ, zero, suc, ◌+◌, ◌≤◌, ◌*◌, ◌^◌, ◌<◌, Bool, false, ◌&&◌, cond, nat_eq, ℤ, pos, ◌+ℤ◌, ◌-ℤ◌, List, slice_index, slice_index_or}
 use Rattle.amr_box.specs.Cells.{Extent, height, width}
 use Rattle.amr_def.specs.declared.problem.Problem.{Problem}
 use Rattle.amr_def.specs.Domain.{columns, rows}
-use Rattle.amr_def.specs.Flux.{flow, number_for}
-use Rattle.amr_flux.specs.Rows.{signed}
+use Rattle.amr_faces.specs.Numbers.{x_number, y_number}
+use Rattle.amr_def.specs.Flux.{flow}
+use Rattle.amr_faces.specs.Shares.{signed}
 
 -- where a box of a level stands
 pub record Stands (p : Problem) (l : ℕ) (b : Extent) (column row : ℕ) : Type 0 where
@@ -21,13 +22,6 @@ value w values i j = slice_index values (j * (w + 2) + i)
 
 abbrev pub mark : ℕ → List Bool → ℕ → ℕ → Bool
 mark w marks i j = slice_index_or marks (j * (w + 2) + i) false
-
--- the Courant number of the x faces in a row of level l, and of the y faces in a column
-abbrev pub x_number : Problem → ℕ → ℕ → ℤ
-x_number p l row = number_for p.cx p.shear_x (row / 2 ^ l)
-
-abbrev pub y_number : Problem → ℕ → ℕ → ℤ
-y_number p l column = number_for p.cy p.shear_y (column / 2 ^ l)
 
 -- ---- fluxes by the values on the two sides
 

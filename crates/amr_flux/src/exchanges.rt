@@ -2,7 +2,7 @@
 
 ghost use Rattle.std.specs.Prelude.{◌≡◌, ◌≢◌, ℕ, ℤ, ◌+◌, ◌*◌, ◌<◌, ◌≤◌, ◌^◌, cond, length, pos, ◌+ℤ◌, ◌-ℤ◌, slice_index};
 ghost use Rattle.amr_flux.specs.Paces.{IsFit, IsWordOf, top_share};
-ghost use Rattle.amr_flux.specs.Rows.{signed};
+ghost use Rattle.amr_faces.specs.Shares.{signed};
 ghost use Rattle.amr_flux.specs.Tables.{count_below, value, x_marked, y_marked};
 
 use crate::pace::Pace;

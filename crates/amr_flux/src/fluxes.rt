@@ -6,7 +6,7 @@ ghost use Rattle.amr_box.specs.declared.Face.{Face};
 ghost use Rattle.amr_def.specs.Domain.{domain};
 ghost use Rattle.amr_patch.specs.Places.{is_edge_face};
 ghost use Rattle.amr_patch.specs.Patches.{SameMarks, SameValues, box, flux_in, value_in};
-ghost use Rattle.amr_flux.specs.Faces.{IsInDomain, flux_beside, in_reach, is_border, owns};
+ghost use Rattle.amr_faces.specs.Faces.{IsInDomain, flux_beside, in_reach, is_border, owns};
 ghost use Rattle.amr_flux.specs.Rooms.{widest};
 
 use crate::room::Room;

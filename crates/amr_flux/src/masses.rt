@@ -7,9 +7,9 @@ ghost use Rattle.amr_def.specs.Domain.{domain};
 ghost use Rattle.amr_def.specs.Flux.{net};
 ghost use Rattle.amr_patch.specs.Places.{in_frame};
 ghost use Rattle.amr_patch.specs.Patches.{SameFluxes, SameMarks, box, mass_in, value_in};
-ghost use Rattle.amr_flux.specs.Faces.{IsInDomain, border_faces, flux_beside, fluxes_with, in_reach};
+ghost use Rattle.amr_faces.specs.Faces.{IsInDomain, border_faces, flux_beside, fluxes_with, in_reach};
 ghost use Rattle.amr_flux.specs.Rooms.{widest};
-ghost use Rattle.amr_flux.specs.Shares.{AreSmall};
+ghost use Rattle.amr_faces.specs.Shares.{AreSmall};
 
 use crate::exchanges::Border;
 use crate::one_pass::update_cells;

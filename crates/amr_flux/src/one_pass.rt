@@ -3,7 +3,7 @@
 ghost use Rattle.std.specs.Prelude.{◌≡◌, ℕ, ◌+◌, ◌*◌, ◌<◌, ◌≤◌, ◌^◌, [], pos, ◌+ℤ◌, ◌≤ℤ◌, ◌<ℤ◌, length, slice_index};
 ghost use Rattle.amr_def.specs.Domain.{columns, rows};
 ghost use Rattle.amr_flux.specs.Rooms.{widest};
-ghost use Rattle.amr_flux.specs.Shares.{AreSmall};
+ghost use Rattle.amr_faces.specs.Shares.{AreSmall};
 ghost use Rattle.amr_flux.specs.Tables.{AreXSmall, AreYSmall, IsOtherPlace, count_below, net_inflow, value, x_marked, x_through, y_marked, y_through};
 
 use crate::exchanges::Border;

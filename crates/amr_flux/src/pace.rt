@@ -2,8 +2,8 @@
 
 ghost use Rattle.std.specs.Prelude.{◌≡◌, ◌+◌, ◌≤◌, unsigned_abs};
 
-use crate::share::{Share, are_near};
 use amr_def::Problem;
+use amr_faces::{Share, are_near};
 
 /// The shares of a mass that flow out along both axes. They add up to at most the mass.
 #[derive(Clone, Copy, Debug)]
@@ -42,7 +42,7 @@ impl Pace {
 
     /// The pace at a problem's Courant numbers, from the shares that were used last. Whether one product gives the shares is found
     /// by one look at all masses of the patch, if there is a limit at all.
-    #[tactic(auto, using(crate::proofs::Paces::plain_stable, crate::proofs::Numbers::plain_x_slow, crate::proofs::Paces::plain_y_slow))]
+    #[tactic(auto, using(crate::proofs::Paces::plain_stable, amr_faces::proofs::Numbers::plain_x_slow, crate::proofs::Paces::plain_y_slow))]
     pub(crate) fn of(p: &Problem, x: Share, y: Share, values: &[u32]) -> Pace
         requires one_x { p.now.shear_x ≡ [] }
         requires one_y { p.now.shear_y ≡ [] }

@@ -2,8 +2,8 @@
 
 ghost use Rattle.std.specs.Prelude.{◌≡◌, ◌+◌, length};
 
-use crate::share::Share;
 use amr_causes::NoMemory;
+use amr_faces::Share;
 use std::alloc::Global;
 
 /// Room for the fluxes through the faces of one row of cells, and the shares at the Courant numbers that were used last. It is

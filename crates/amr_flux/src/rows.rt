@@ -4,12 +4,12 @@ ghost use Rattle.std.specs.Prelude.{◌≡◌, ◌≢◌, neg_ℤ, ℕ, ◌+◌,
 ghost use Rattle.amr_def.specs.Flux.{flow};
 ghost use Rattle.amr_flux.specs.Rooms.{widest};
 ghost use Rattle.amr_flux.specs.Rows.{AreSmallFlows, inflow};
-ghost use Rattle.amr_flux.specs.Shares.{AreSmall, share_of};
+ghost use Rattle.amr_faces.specs.Shares.{AreSmall, share_of};
 ghost use Rattle.amr_flux.specs.Tables.{value};
 
 use crate::room::Room;
 use crate::shape::Shape;
-use crate::share::Share;
+use amr_faces::Share;
 
 /// The sizes of the flows out of these cells, place by place.
 fn sizes(share: Share, cells: &[u32], sizes: &mut [i32])

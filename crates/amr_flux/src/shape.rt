@@ -3,13 +3,14 @@
 ghost use Rattle.std.specs.Prelude.{◌≡◌, ◌≤◌, ◌<◌, pos, ◌≤ℤ◌};
 ghost use Rattle.amr_box.specs.Cells.{IsNear, height, width};
 ghost use Rattle.amr_def.specs.Domain.{columns, domain, rows};
-ghost use Rattle.amr_flux.specs.Faces.{IsInDomain};
-ghost use Rattle.amr_flux.specs.Tables.{Stands, x_number, y_number};
+ghost use Rattle.amr_faces.specs.Faces.{IsInDomain};
+ghost use Rattle.amr_faces.specs.Numbers.{x_number, y_number};
+ghost use Rattle.amr_flux.specs.Tables.{Stands};
 
 use crate::room::Room;
-use crate::share::Share;
 use amr_box::Bx;
 use amr_def::Problem;
+use amr_faces::Share;
 
 /// A patch of a level: how many columns and rows it has, and which column and row of the level its first cell lies in.
 /// And the shares at the Courant numbers of that row and that column.
@@ -33,7 +34,7 @@ pub(crate) fn coordinate(z: i32) -> u32
 }
 
 /// The share at the Courant number of the x faces in a row of a level, from the share that was used last.
-#[tactic(auto, using(crate::proofs::Numbers::x_slow))]
+#[tactic(auto, using(amr_faces::proofs::Numbers::x_slow))]
 pub(crate) fn x_share(p: &Problem, level: u32, row: u32, last: Share) -> Share
     requires level { level ≤ 4 }
     requires inside { row < rows p.now level }
@@ -44,7 +45,7 @@ pub(crate) fn x_share(p: &Problem, level: u32, row: u32, last: Share) -> Share
 }
 
 /// The share at the Courant number of the y faces in a column of a level, from the share that was used last.
-#[tactic(auto, using(crate::proofs::Numbers::y_slow))]
+#[tactic(auto, using(amr_faces::proofs::Numbers::y_slow))]
 pub(crate) fn y_share(p: &Problem, level: u32, column: u32, last: Share) -> Share
     requires level { level ≤ 4 }
     requires inside { column < columns p.now level }

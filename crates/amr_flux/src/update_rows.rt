@@ -3,7 +3,7 @@
 ghost use Rattle.std.specs.Prelude.{◌≡◌, ℕ, ◌+◌, ◌*◌, ◌<◌, ◌≤◌, ◌^◌, pos, ◌+ℤ◌, ◌≤ℤ◌, ◌<ℤ◌, length, slice_index};
 ghost use Rattle.amr_def.specs.Domain.{columns, rows};
 ghost use Rattle.amr_flux.specs.Rooms.{widest};
-ghost use Rattle.amr_flux.specs.Shares.{AreSmall};
+ghost use Rattle.amr_faces.specs.Shares.{AreSmall};
 ghost use Rattle.amr_flux.specs.Tables.{AreXSmall, AreYSmall, IsOtherPlace, count_below, net_inflow, value, x_marked, x_through, y_marked, y_through};
 
 use crate::exchanges::Border;
@@ -16,7 +16,7 @@ use amr_def::Problem;
 
 /// Gives each cell of a patch what comes in through its faces: by the values on their two sides, and for border faces by the sizes
 /// handed in. Rows and columns may have Courant numbers of their own. The fluxes of a row are worked out and used before the next.
-#[tactic(auto, using(crate::proofs::Numbers::x_slow), unfolding(crate::specs::Rooms::widest))]
+#[tactic(auto, using(amr_faces::proofs::Numbers::x_slow), unfolding(crate::specs::Rooms::widest))]
 pub(crate) fn update_rows(
     p: &Problem,
     shape: Shape,

@@ -3,15 +3,16 @@
 ghost use Rattle.std.specs.Prelude.{◌≡◌, ◌≢◌, ℕ, ◌^◌, ◌+◌, ◌*◌, ◌≤◌, ◌<◌, cond, false, true, length, pos, slice_index, slice_index_or, unsigned_abs};
 ghost use Rattle.amr_def.specs.Domain.{rows};
 ghost use Rattle.amr_def.specs.Flux.{flow};
-ghost use Rattle.amr_flux.specs.Rows.{signed};
-ghost use Rattle.amr_flux.specs.Shares.{AreSmall};
-ghost use Rattle.amr_flux.specs.Tables.{AreXSmall, value, x_flux, x_marked, x_number};
+ghost use Rattle.amr_faces.specs.Shares.{signed};
+ghost use Rattle.amr_faces.specs.Shares.{AreSmall};
+ghost use Rattle.amr_faces.specs.Numbers.{x_number};
+ghost use Rattle.amr_flux.specs.Tables.{AreXSmall, value, x_flux, x_marked};
 
 use crate::rows::face_fluxes;
 use crate::shape::{Shape, x_share};
-use crate::share::Share;
 use crate::y_faces::signed_flux;
 use amr_def::Problem;
+use amr_faces::Share;
 
 /// The flux through x face `i` of row `j`.
 pub(crate) fn x_face_flux(shape: Shape, share: Share, values: &[u32], i: usize, j: usize) -> i32
@@ -40,7 +41,7 @@ fn column_at(shape: Shape, share: Share, values: &[u32], i: usize, fluxes: &mut 
 }
 
 /// The flux through x face `i` of each row.
-#[tactic(auto, using(crate::proofs::Numbers::plain_x_slow))]
+#[tactic(auto, using(amr_faces::proofs::Numbers::plain_x_slow))]
 pub(crate) fn column_fluxes(p: &Problem, shape: Shape, values: &[u32], i: usize, fluxes: &mut [i32])
     requires level { shape.level ≤ 4 }
     requires inside { shape.row + shape.h ≤ rows p.now shape.level }
@@ -78,7 +79,7 @@ fn high_at(shape: Shape, share: Share, values: &[u32], marks: &[bool], fluxes: &
 }
 
 /// The flux through the x face at the high side of each row, where the cell beyond it is not marked.
-#[tactic(auto, using(crate::proofs::Numbers::plain_x_slow))]
+#[tactic(auto, using(amr_faces::proofs::Numbers::plain_x_slow))]
 pub(crate) fn high_fluxes(
     p: &Problem,
     shape: Shape,

@@ -3,15 +3,16 @@
 ghost use Rattle.std.specs.Prelude.{◌≡◌, ℕ, ◌+◌, ◌*◌, ◌≤◌, ◌<◌, ◌^◌, Bool, ◌&&◌, cond, nat_eq, false, true, length, pos, slice_index, slice_index_or, unsigned_abs};
 ghost use Rattle.amr_def.specs.Domain.{columns};
 ghost use Rattle.amr_def.specs.Flux.{flow};
-ghost use Rattle.amr_flux.specs.Rows.{signed};
-ghost use Rattle.amr_flux.specs.Shares.{AreSmall};
-ghost use Rattle.amr_flux.specs.Tables.{AreYSmall, count_below, value, y_flux, y_marked, y_number};
+ghost use Rattle.amr_faces.specs.Shares.{signed};
+ghost use Rattle.amr_faces.specs.Shares.{AreSmall};
+ghost use Rattle.amr_faces.specs.Numbers.{y_number};
+ghost use Rattle.amr_flux.specs.Tables.{AreYSmall, count_below, value, y_flux, y_marked};
 
 use crate::rows::face_fluxes;
 use crate::shape::{Shape, y_share};
-use crate::share::Share;
 use crate::x_faces::is_marked;
 use amr_def::Problem;
+use amr_faces::Share;
 
 /// The share that is kept at a place, or another where none is.
 fn share_at(shares: &[Share], i: usize, other: Share) -> Share {
@@ -22,7 +23,7 @@ fn share_at(shares: &[Share], i: usize, other: Share) -> Share {
 }
 
 /// Makes the shares at the Courant numbers of a patch's columns, where each column has its own; those that it has are kept.
-#[tactic(auto, using(crate::proofs::Numbers::y_slow))]
+#[tactic(auto, using(amr_faces::proofs::Numbers::y_slow))]
 pub(crate) fn set_shares(p: &Problem, shape: Shape, shares: &mut [Share])
     requires level { shape.level ≤ 4 }
     requires inside { shape.column + shape.w ≤ columns p.now shape.level }
@@ -37,7 +38,7 @@ pub(crate) fn set_shares(p: &Problem, shape: Shape, shares: &mut [Share])
 
 /// The fluxes through the y faces between two rows of cells of a patch. No division is made where the shares are those of the
 /// columns.
-#[tactic(auto, using(crate::proofs::Numbers::y_slow))]
+#[tactic(auto, using(amr_faces::proofs::Numbers::y_slow))]
 pub(crate) fn y_fluxes(
     p: &Problem,
     shape: Shape,
@@ -113,7 +114,7 @@ fn top_at(shape: Shape, share: Share, values: &[u32], marks: &[bool], fluxes: &m
 }
 
 /// The fluxes through the y faces at the high side of a patch, where the cell beyond is not marked.
-#[tactic(auto, using(crate::proofs::Numbers::y_slow, crate::proofs::Paces::plain_y_slow))]
+#[tactic(auto, using(amr_faces::proofs::Numbers::y_slow, crate::proofs::Paces::plain_y_slow))]
 pub(crate) fn top_fluxes(
     p: &Problem,
     shape: Shape,

@@ -16,7 +16,7 @@ use Rattle.amr_patch.specs.declared.patches.Patch.{Patch}
 use Rattle.amr_patch.specs.Patches.{box, in_patches}
 use Rattle.amr_patch.proofs.Lookups.{holder, in_one}
 use Rattle.amr_patch.proofs.Rows.{HasSides, inside, is_inside as is_in, sides}
-use Rattle.amr_flux.specs.Faces.{IsInDomain, x_end, y_end}
+use Rattle.amr_faces.specs.Faces.{IsInDomain, x_end, y_end}
 use Rattle.amr_layout.specs.Surroundings.{Around, LiesBesideLevel, domain_around, edge_count, edge_face, is_coarse_fine, is_open, outside, x_start, y_start}
 use Rattle.amr_layout.proofs.Edges.{edge_east, edge_north, edge_south, edge_west, on_each_side}
 

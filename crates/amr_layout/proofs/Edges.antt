@@ -14,7 +14,7 @@ use Rattle.amr_def.proofs.Nesting.{in_domain-inside, test_inside}
 use Rattle.amr_def.proofs.Flows.{wrapped_inside}
 use Rattle.amr_def.proofs.Uncovered.{inside_test}
 use Rattle.amr_patch.proofs.Rows.{is_inside as is_in, sides}
-use Rattle.amr_flux.specs.Faces.{IsInDomain, x_end, y_end}
+use Rattle.amr_faces.specs.Faces.{IsInDomain, x_end, y_end}
 use Rattle.amr_layout.specs.Surroundings.{IsInRowOrColumn, IsNearFace, IsReachable, edge_count, edge_face, inside, x_start, y_start}
 
 -- ---- which side a face lies on

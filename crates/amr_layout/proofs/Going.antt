@@ -11,7 +11,7 @@ use Rattle.amr_box.proofs.CellEquality.{same_number}
 use Rattle.amr_def.specs.Domain.{home_cell, in_domain}
 use Rattle.amr_def.specs.State.{is_covered}
 use Rattle.amr_patch.specs.Patches.{in_patches}
-use Rattle.amr_flux.specs.Faces.{passing}
+use Rattle.amr_faces.specs.Faces.{passing}
 use Rattle.amr_layout.specs.declared.adds.Flow.{Flow}
 use Rattle.amr_layout.specs.declared.adds.Flow.TheVariants.{Kept, Inflow, Outflow, Register}
 use Rattle.amr_layout.specs.Surroundings.{Around, domain_around, inside, inward, is_coarse_fine, is_open, outside}

@@ -11,7 +11,7 @@ use Rattle.amr_box.proofs.Numbers.{range_more}
 use Rattle.amr_def.specs.Domain.{Domain}
 use Rattle.amr_patch.specs.declared.patches.Patch.{Patch}
 use Rattle.amr_patch.specs.Patches.{box}
-use Rattle.amr_flux.specs.Faces.{passing, x_end, y_end}
+use Rattle.amr_faces.specs.Faces.{passing, x_end, y_end}
 use Rattle.amr_layout.specs.declared.PutAt.{PutAt}
 use Rattle.amr_layout.specs.Places.{ArePut, border_places, borders_of, leads_on, level_borders, places_before}
 use Rattle.amr_layout.proofs.Passing.{passing_next}

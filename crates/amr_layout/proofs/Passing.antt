@@ -1,7 +1,7 @@
 -- Faces that pass a test, one after another.
 use Rattle.std.proofs.Common.{◌≡◌, ℕ, zero, suc, ◌+◌, ◌<◌, ◌≤◌, Bool, true, false, cond, [], ◌∷◌, ◌++◌, length, length-append, append-nil, ap, ◌∙◌, add-one, arith}
 use Rattle.amr_box.specs.declared.Face.{Face}
-use Rattle.amr_flux.specs.Faces.{passing}
+use Rattle.amr_faces.specs.Faces.{passing}
 
 module _ (test : Face → Bool) (g : ℕ → Face) where
   pub passing_next : (n : ℕ) → passing test g (n + 1) ≡ passing test g n ++ cond (test (g n)) (g n ∷ []) []

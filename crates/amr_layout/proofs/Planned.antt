@@ -16,7 +16,7 @@ use Rattle.amr_phase.specs.declared.plan.Post.{Post}
 use Rattle.amr_phase.specs.declared.plan.Task.{Task}
 use Rattle.amr_phase.specs.Plans.{IsPlan, PutsAreApart, added, adds_of, no_post, no_task, planned_total, put_at, puts_of as posts_at, total}
 use Rattle.amr_phase.proofs.Layouts.{layout_is_plan}
-use Rattle.amr_flux.specs.Faces.{passing}
+use Rattle.amr_faces.specs.Faces.{passing}
 use Rattle.amr_layout.specs.declared.PutAt.{PutAt}
 use Rattle.amr_layout.specs.declared.AddAt.{AddAt}
 use Rattle.amr_layout.specs.declared.TaskLayout.{TaskLayout}

@@ -9,7 +9,7 @@ use Rattle.amr_def.specs.Domain.{home_cell}
 use Rattle.amr_def.specs.State.{is_covered}
 use Rattle.amr_patch.specs.Patches.{box}
 use Rattle.amr_patch.specs.Orders.{comes_first}
-use Rattle.amr_flux.specs.Faces.{passing}
+use Rattle.amr_faces.specs.Faces.{passing}
 use Rattle.amr_phase.specs.Plans.{total}
 use Rattle.amr_layout.specs.declared.AddAt.{AddAt}
 use Rattle.amr_layout.specs.declared.FlowTo.{FlowTo}

@@ -15,7 +15,7 @@ use Rattle.amr_patch.specs.declared.patches.Patch.{Patch}
 use Rattle.amr_patch.specs.declared.levels.Level.{Level}
 use Rattle.amr_patch.specs.Levels.{level_of}
 use Rattle.amr_patch.specs.Patches.{in_patches}
-use Rattle.amr_flux.specs.Faces.{x_end, y_end}
+use Rattle.amr_faces.specs.Faces.{x_end, y_end}
 
 -- a level with what lies around it: its problem and number, its patches, the register cells of the next coarser level in
 -- their order, and the masses of the next finer level

@@ -7,7 +7,7 @@ ghost use Rattle.amr_box.specs.Cells.{IsNear};
 ghost use Rattle.amr_def.specs.Domain.{domain, home_cell, in_domain};
 ghost use Rattle.amr_patch.specs.Patches.{ArePatchesApart, in_patches};
 ghost use Rattle.amr_patch.specs.Orders.{IsOrderOf};
-ghost use Rattle.amr_flux.specs.Faces.{IsInDomain};
+ghost use Rattle.amr_faces.specs.Faces.{IsInDomain};
 ghost use Rattle.amr_layout.specs.Surroundings.{IsInRowOrColumn, IsNearFace, LiesBesideLevel, around, edge_count, edge_face, is_coarse_fine};
 ghost use Rattle.amr_gaps.specs.Gaps.{HasStarts, IsGap};
 ghost use Rattle.amr_layout.specs.Adds.{AreInOrder, HasCellsBeyond, cell_beyond, flow_to, flows_in, flows_of, inflow_faces, is_exchange_face, is_inflow_face, is_outflow_face, number_of, outflow_faces, register_flows, word_of};

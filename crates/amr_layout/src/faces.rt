@@ -9,7 +9,7 @@ ghost use Rattle.amr_layout.specs.Surroundings.{IsInRowOrColumn, IsNearFace, edg
 
 use amr_box::{Axis, Bx, Cell, Face};
 use amr_def::{Dom, Problem};
-use amr_flux::{x_end, y_end};
+use amr_faces::{x_end, y_end};
 
 /// How many faces the edges of a box have.
 pub(crate) fn edge_count(b: &Bx) -> u32

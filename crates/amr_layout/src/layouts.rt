@@ -6,7 +6,7 @@ ghost use Rattle.std.specs.List.{All, range_with_len};
 ghost use Rattle.amr_def.specs.Domain.{domain};
 ghost use Rattle.amr_patch.specs.Patches.{ArePatchesApart, box};
 ghost use Rattle.amr_patch.specs.Orders.{IsOrderOf};
-ghost use Rattle.amr_flux.specs.Faces.{IsInDomain};
+ghost use Rattle.amr_faces.specs.Faces.{IsInDomain};
 ghost use Rattle.amr_phase.specs.Plans.{IsPlan, total};
 ghost use Rattle.amr_layout.specs.Surroundings.{around, edge_count};
 ghost use Rattle.amr_gaps.specs.Gaps.{HasStarts};

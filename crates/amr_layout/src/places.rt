@@ -16,7 +16,7 @@ use crate::lookup::{Trace, look_beside};
 use amr_box::{Bx, Face};
 use amr_causes::NoMemory;
 use amr_def::Dom;
-use amr_flux::{x_end, y_end};
+use amr_faces::{x_end, y_end};
 use amr_gaps::Starts;
 use amr_patch::{Order, Patch};
 use std::alloc::Global;

@@ -10,7 +10,7 @@ use Rattle.amr_def.specs.declared.problem.Problem.{Problem}
 use Rattle.amr_patch.specs.declared.patches.Patch.{Patch}
 use Rattle.amr_patch.specs.Places.{is_edge_face}
 use Rattle.amr_patch.specs.Patches.{box}
-use Rattle.amr_flux.specs.Faces.{flux_beside, owns}
+use Rattle.amr_faces.specs.Faces.{flux_beside, owns}
 use Rattle.amr_layout.specs.declared.FlowTo.{FlowTo}
 use Rattle.amr_layout.specs.Adds.{size_to, word_total}
 use Rattle.amr_work.specs.Ready.{AreOwnFlows}

@@ -22,7 +22,7 @@ use Rattle.amr_def.proofs.Nesting.{of_level as of_coarse}
 use Rattle.amr_def.proofs.Nests.{IsEven, half_and_odd}
 use Rattle.amr_def.proofs.Uncovered.{in_domain-yes, no_children, wrapped_at}
 use Rattle.amr_patch.proofs.Rows.{inside, is_inside}
-use Rattle.amr_flux.specs.Faces.{IsInDomain}
+use Rattle.amr_faces.specs.Faces.{IsInDomain}
 use Rattle.amr_register.specs.RegisterCells.{has_neighbour_where, is_register_cell}
 use Rattle.amr_register.specs.Beside.{stands_beside}
 use Rattle.amr_register.specs.Collecting.{FindsAround}

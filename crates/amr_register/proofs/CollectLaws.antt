@@ -13,7 +13,7 @@ use Rattle.amr_def.specs.State.{Masses, is_covered}
 use Rattle.amr_def.specs.Tags.{neighbours}
 use Rattle.amr_def.proofs.Nesting.{any_at}
 use Rattle.amr_patch.proofs.Rows.{is_inside, sides}
-use Rattle.amr_flux.specs.Faces.{IsInDomain}
+use Rattle.amr_faces.specs.Faces.{IsInDomain}
 use Rattle.amr_register.specs.RegisterCells.{has_neighbour_where, is_register_cell}
 use Rattle.amr_register.specs.Beside.{IsBesideDomain, stands_beside}
 use Rattle.amr_register.specs.Collecting.{Collects, Finds, FindsAround, FindsBelowAndAbove, FindsLeftAndRight}

@@ -14,8 +14,8 @@ use Rattle.amr_def.specs.Flux.{net}
 use Rattle.amr_patch.specs.declared.patches.Patch.{Patch}
 use Rattle.amr_patch.specs.Patches.{box}
 use Rattle.amr_patch.specs.Places.{is_face_of}
-use Rattle.amr_flux.specs.Faces.{IsInDomain, ShowsValues}
-use Rattle.amr_flux.proofs.Shown.{flux_is}
+use Rattle.amr_faces.specs.Faces.{IsInDomain, ShowsValues}
+use Rattle.amr_faces.proofs.Shown.{flux_is}
 use Rattle.amr_register.specs.declared.edges.EdgeCell.{EdgeCell}
 use Rattle.amr_register.specs.declared.sides.CoveredSides.{CoveredSides}
 use Rattle.amr_register.specs.RegisterCells.{is_coarse_fine}

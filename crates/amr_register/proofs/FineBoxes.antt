@@ -12,7 +12,7 @@ use Rattle.amr_def.specs.declared.problem.Problem.{Problem}
 use Rattle.amr_def.specs.Domain.{Domain, cells_where, domain}
 use Rattle.amr_def.specs.State.{Level, is_covered}
 use Rattle.amr_def.specs.Facts.{IsLevel, IsNestedLevel}
-use Rattle.amr_flux.specs.Faces.{IsInDomain}
+use Rattle.amr_faces.specs.Faces.{IsInDomain}
 use Rattle.amr_register.specs.RegisterCells.{is_register_cell}
 use Rattle.amr_register.specs.declared.belts.Belt.{Belt}
 use Rattle.amr_register.specs.Belts.{is_in_belt}

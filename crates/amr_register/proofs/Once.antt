@@ -21,8 +21,8 @@ use Rattle.amr_def.proofs.Values.{value_same}
 use Rattle.amr_patch.specs.declared.patches.Patch.{Patch}
 use Rattle.amr_patch.specs.Patches.{ArePatchesApart, box, in_patches, masses_in}
 use Rattle.amr_patch.proofs.LevelLaws.{none_here}
-use Rattle.amr_flux.specs.Faces.{ShowsValues, flux_beside}
-use Rattle.amr_flux.proofs.Shown.{flux_is}
+use Rattle.amr_faces.specs.Faces.{ShowsValues, flux_beside}
+use Rattle.amr_faces.proofs.Shown.{flux_is}
 use Rattle.amr_register.specs.CoarseFlows.{coarse_flows, edge_flows, has_high_cell, high_face, home_face, low_face, sum_over}
 use Rattle.amr_register.specs.RegisterCells.{is_coarse_fine, is_register_cell}
 use Rattle.amr_register.specs.Laws.{net_of_all}

@@ -9,7 +9,7 @@ use Rattle.amr_def.specs.Domain.{Domain, domain, home_cell}
 use Rattle.amr_def.specs.Flux.{face, high_cell}
 use Rattle.amr_patch.specs.declared.patches.Patch.{Patch}
 use Rattle.amr_patch.specs.Patches.{box}
-use Rattle.amr_flux.specs.Faces.{flux_beside}
+use Rattle.amr_faces.specs.Faces.{flux_beside}
 use Rattle.amr_register.specs.CoarseFlows.{has_high_cell, home_face, owned_flow}
 
 -- a face that doesn't count

@@ -11,7 +11,7 @@ use Rattle.amr_def.specs.State.{Masses}
 use Rattle.amr_def.specs.Flux.{Fluxes, face, flux_at, high_cell}
 use Rattle.amr_patch.specs.declared.patches.Patch.{Patch}
 use Rattle.amr_patch.specs.Patches.{box}
-use Rattle.amr_flux.specs.Faces.{flux_beside}
+use Rattle.amr_faces.specs.Faces.{flux_beside}
 use Rattle.amr_register.specs.declared.sides.CoveredSides.{CoveredSides}
 use Rattle.amr_register.specs.RegisterCells.{is_coarse_fine}
 

@@ -10,7 +10,7 @@ use Rattle.amr_def.specs.declared.problem.Problem.{Problem}
 use Rattle.amr_def.specs.Domain.{Domain}
 use Rattle.amr_def.specs.State.{Masses, is_covered}
 use Rattle.amr_patch.specs.declared.patches.Patch.{Patch}
-use Rattle.amr_flux.specs.Faces.{flux_beside}
+use Rattle.amr_faces.specs.Faces.{flux_beside}
 use Rattle.amr_register.specs.declared.sides.CoveredSides.{CoveredSides}
 use Rattle.amr_register.specs.declared.edges.EdgeCell.{EdgeCell}
 use Rattle.amr_register.specs.RegisterCells.{is_register_cell}

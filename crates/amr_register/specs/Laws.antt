@@ -9,7 +9,7 @@ use Rattle.amr_def.specs.Flux.{net}
 use Rattle.amr_def.specs.State.{Level, Masses}
 use Rattle.amr_patch.specs.declared.patches.Patch.{Patch}
 use Rattle.amr_patch.specs.Patches.{ArePatchesApart, masses_in}
-use Rattle.amr_flux.specs.Faces.{ShowsValues}
+use Rattle.amr_faces.specs.Faces.{ShowsValues}
 use Rattle.amr_register.specs.declared.register.Register.{Register}
 use Rattle.amr_register.specs.Registers.{IsRegisterOf}
 use Rattle.amr_register.specs.CoarseFlows.{coarse_flows, edge_flows}

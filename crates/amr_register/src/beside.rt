@@ -6,7 +6,7 @@ ghost use Rattle.amr_box.specs.declared.Cell.{Cell};
 ghost use Rattle.amr_box.specs.Cells.{IsNear, height, holds, width};
 ghost use Rattle.amr_def.specs.Domain.{domain_of, home_cell};
 ghost use Rattle.amr_patch.specs.Levels.{level_of};
-ghost use Rattle.amr_flux.specs.Faces.{IsInDomain};
+ghost use Rattle.amr_faces.specs.Faces.{IsInDomain};
 ghost use Rattle.amr_register.specs.RegisterCells.{has_neighbour_where};
 ghost use Rattle.amr_register.specs.Bands.{cells_between};
 ghost use Rattle.amr_register.specs.Beside.{IsDomainCell, stands_in};

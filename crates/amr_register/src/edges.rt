@@ -6,14 +6,14 @@ ghost use Rattle.amr_box.specs.Cells.{holds};
 ghost use Rattle.amr_def.specs.Domain.{domain};
 ghost use Rattle.amr_patch.specs.Patches.{box};
 ghost use Rattle.amr_patch.specs.Places.{is_face_of};
-ghost use Rattle.amr_flux.specs.Faces.{IsInDomain};
+ghost use Rattle.amr_faces.specs.Faces.{IsInDomain};
 ghost use Rattle.amr_register.specs.EdgeCells.{AreEdgesIn, HasNet, HaveNets, IsSmallNet, flow_if, lists_of, net_beside};
 
 use crate::flows::{high_face, low_face};
 use crate::sides::CoveredSides;
 use amr_box::{Axis, Cell, Face};
 use amr_def::Problem;
-use amr_flux::face_flux;
+use amr_faces::face_flux;
 use amr_patch::Patch;
 
 /// A register cell of a patch, the sides where covered cells lie beside it, its number in the register, and what flows into it

@@ -6,7 +6,7 @@ ghost use Rattle.amr_box.specs.declared.Cell.{Cell};
 ghost use Rattle.amr_def.specs.Domain.{domain, domain_of, home_cell};
 ghost use Rattle.amr_def.specs.Flux.{high_cell};
 ghost use Rattle.amr_patch.specs.Patches.{box};
-ghost use Rattle.amr_flux.specs.Faces.{IsInDomain};
+ghost use Rattle.amr_faces.specs.Faces.{IsInDomain};
 ghost use Rattle.amr_register.specs.declared.sides.CoveredSides.{CoveredSides};
 ghost use Rattle.amr_register.specs.Beside.{IsDomainCell};
 ghost use Rattle.amr_register.specs.CoarseFlows.{high_face, low_face, net_owned, owned_flow};
@@ -14,7 +14,7 @@ ghost use Rattle.amr_register.specs.CoarseFlows.{high_face, low_face, net_owned,
 use crate::sides::CoveredSides;
 use amr_box::{Axis, Cell, Face};
 use amr_def::{Dom, Problem};
-use amr_flux::face_flux;
+use amr_faces::face_flux;
 use amr_patch::Patch;
 
 /// Register cells in their order, with the sides of each where covered cells lie.

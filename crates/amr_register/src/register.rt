@@ -61,7 +61,7 @@ impl Register {
     ghost use Rattle.amr_patch.specs.Levels.{level_of, patches_of};
     ghost use Rattle.amr_patch.specs.Pairwise.{Pairwise};
     ghost use Rattle.amr_patch.specs.Patches.{ArePatchesApart, KeepsFrameAndFluxes, box, in_patches, mass_in, masses_in};
-    ghost use Rattle.amr_flux.specs.Faces.{IsInDomain};
+    ghost use Rattle.amr_faces.specs.Faces.{IsInDomain};
     ghost use Rattle.amr_register.specs.Bands.{IsWhole};
     ghost use Rattle.amr_register.specs.CoarseFlows.{coarse_flows};
     ghost use Rattle.amr_register.specs.Entries.{with_entries};

@@ -14,7 +14,7 @@ use Rattle.amr_box.specs.Cells.{AreDisjoint, Extent, holds}
 use Rattle.amr_def.specs.Domain.{Domain, in_domain, is_inside}
 use Rattle.amr_patch.specs.declared.patches.Patch.{Patch}
 use Rattle.amr_patch.specs.Patches.{box, in_patches}
-use Rattle.amr_flux.specs.Faces.{IsInDomain}
+use Rattle.amr_faces.specs.Faces.{IsInDomain}
 use Rattle.amr_ghost.specs.Frames.{AreInDomain}
 use Rattle.amr_ghost.proofs.Homes.{bounds}
 

@@ -20,7 +20,7 @@ use Rattle.amr_def.specs.Flux.{courant, flow, flux_at, high_cell, low_cell, net}
 use Rattle.amr_def.specs.Ledger.{below_zero, if_open}
 use Rattle.amr_laws.specs.Sides.{inflow_beside, is_uncovered, outflow_beside, x_beside, y_beside}
 use Rattle.amr_def.proofs.Totals.{number_small}
-use Rattle.amr_flux.proofs.Reciprocals.{share_within}
+use Rattle.amr_faces.proofs.Reciprocals.{share_within}
 use Rattle.amr_advance.specs.Shown.{StepFits}
 
 no_mass : (t : Bool) (o : Option ℕ) → o ≡ cond t (Some 0) None → (d : ℕ) → d ≡ 0 → unwrap_or o d ≡ 0

@@ -8,7 +8,7 @@ use Rattle.amr_def.specs.Flux.{Fluxes}
 use Rattle.amr_patch.specs.declared.patches.Patch.{Patch}
 use Rattle.amr_patch.specs.Places.{is_edge_face}
 use Rattle.amr_patch.specs.Patches.{box}
-use Rattle.amr_flux.specs.Faces.{owns}
+use Rattle.amr_faces.specs.Faces.{owns}
 use Rattle.amr_phase.proofs.Sums.{total_more, total_take}
 use Rattle.amr_layout.specs.declared.FlowTo.{FlowTo}
 use Rattle.amr_layout.specs.Adds.{size_to, word_total}

@@ -14,11 +14,11 @@ use Rattle.amr_def.proofs.Subcycle.{bool_cases}
 use Rattle.amr_patch.specs.declared.patches.Patch.{Patch}
 use Rattle.amr_patch.specs.Places.{is_face_of}
 use Rattle.amr_patch.specs.Patches.{box, mass_in, value_in}
-use Rattle.amr_flux.specs.Faces.{border_faces, border_place, flux_beside, fluxes_with, is_border, passing, x_end, y_end}
-use Rattle.amr_flux.specs.Rows.{signed}
-use Rattle.amr_flux.specs.Shares.{AreSmall}
-use Rattle.amr_flux.proofs.Shown.{border_of_box, border_placed, net_alike}
-use Rattle.amr_flux.proofs.Given.{with_own}
+use Rattle.amr_faces.specs.Faces.{border_faces, border_place, flux_beside, fluxes_with, is_border, passing, x_end, y_end}
+use Rattle.amr_faces.specs.Shares.{signed}
+use Rattle.amr_faces.specs.Shares.{AreSmall}
+use Rattle.amr_faces.proofs.Shown.{border_of_box, border_placed, net_alike}
+use Rattle.amr_faces.proofs.Owners.{with_own}
 use Rattle.amr_work.specs.declared.work.Stage.TheVariants.{Finished}
 use Rattle.amr_work.specs.declared.work.Work.{Work}
 use Rattle.amr_work.specs.Ready.{IsReadyPiece}

@@ -10,8 +10,8 @@ use Rattle.amr_def.specs.Domain.{domain}
 use Rattle.amr_def.specs.Flux.{courant, flow, high_cell, low_cell, net}
 use Rattle.amr_patch.specs.Places.{is_edge_face, is_face_of}
 use Rattle.amr_patch.specs.Patches.{box, flux_in, mark_in, mass_in, value_in}
-use Rattle.amr_flux.specs.Faces.{IsInDomain, border_faces, flux_beside, in_reach, is_border, owns, passing, x_end, y_end}
-use Rattle.amr_flux.proofs.Places.{owned_of_box}
+use Rattle.amr_faces.specs.Faces.{IsInDomain, border_faces, flux_beside, in_reach, is_border, owns, passing, x_end, y_end}
+use Rattle.amr_faces.proofs.Places.{owned_of_box}
 use Rattle.amr_phase.specs.Plans.{PlanOf, planned_face, total}
 use Rattle.amr_layout.specs.declared.TaskLayout.{TaskLayout}
 use Rattle.amr_work.specs.declared.work.Stage.TheVariants.{Raw, Swept, Finished}

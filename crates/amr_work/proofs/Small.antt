@@ -10,9 +10,9 @@ use Rattle.amr_def.proofs.Totals.{number_small}
 use Rattle.amr_patch.specs.declared.patches.Patch.{Patch}
 use Rattle.amr_patch.specs.Places.{is_face_of}
 use Rattle.amr_patch.specs.Patches.{box, value_in}
-use Rattle.amr_flux.specs.Faces.{flux_beside, in_reach}
-use Rattle.amr_flux.proofs.Reciprocals.{share_within}
-use Rattle.amr_flux.proofs.Shown.{high_in_reach, low_in_reach}
+use Rattle.amr_faces.specs.Faces.{flux_beside, in_reach}
+use Rattle.amr_faces.proofs.Reciprocals.{share_within}
+use Rattle.amr_faces.proofs.Shown.{high_in_reach, low_in_reach}
 
 size_of_negative : (n b : ℕ) → n < b → unsigned_abs (neg_ℤ (pos n)) < b
 size_of_negative zero b h = h

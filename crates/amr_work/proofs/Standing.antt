@@ -6,7 +6,7 @@ use Rattle.amr_def.specs.declared.problem.Problem.{Problem}
 use Rattle.amr_def.specs.Flux.{Fluxes, courant, flow, high_cell, low_cell, net}
 use Rattle.amr_patch.specs.declared.patches.Patch.{Patch}
 use Rattle.amr_patch.specs.Patches.{SameValues, flux_in, mass_in, value_in}
-use Rattle.amr_flux.specs.Faces.{flux_beside}
+use Rattle.amr_faces.specs.Faces.{flux_beside}
 use Rattle.std.specs.Prelude.{◌≢◌}
 use Rattle.amr_work.specs.declared.work.Stage.{Stage}
 use Rattle.amr_work.specs.declared.work.Stage.TheVariants.{Raw, Swept, Finished}

@@ -9,7 +9,7 @@ use Rattle.amr_def.specs.Flux.{net}
 use Rattle.amr_patch.specs.declared.patches.Patch.{Patch}
 use Rattle.amr_patch.specs.Places.{is_edge_face}
 use Rattle.amr_patch.specs.Patches.{SameValues, box, mass_in, value_in}
-use Rattle.amr_flux.specs.Faces.{IsInDomain, flux_beside, in_reach}
+use Rattle.amr_faces.specs.Faces.{IsInDomain, flux_beside, in_reach}
 use Rattle.amr_layout.specs.declared.FlowTo.{FlowTo}
 use Rattle.amr_work.specs.Ready.{AreOwnFlows, MayStep}
 use Rattle.amr_work.proofs.Standing.{beside_same, net_same}

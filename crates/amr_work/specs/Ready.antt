@@ -9,7 +9,7 @@ use Rattle.amr_def.specs.Flux.{net}
 use Rattle.amr_patch.specs.declared.patches.Patch.{Patch}
 use Rattle.amr_patch.specs.Places.{is_edge_face}
 use Rattle.amr_patch.specs.Patches.{box, mass_in, value_in}
-use Rattle.amr_flux.specs.Faces.{IsInDomain, border_faces, flux_beside, in_reach, owns}
+use Rattle.amr_faces.specs.Faces.{IsInDomain, border_faces, flux_beside, in_reach, owns}
 use Rattle.amr_flux.specs.Rooms.{widest}
 use Rattle.amr_phase.specs.Plans.{PlanOf, planned_face}
 use Rattle.amr_layout.specs.declared.AddAt.{AddAt}

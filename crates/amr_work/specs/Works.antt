@@ -7,7 +7,7 @@ use Rattle.amr_box.specs.Cells.{holds}
 use Rattle.amr_def.specs.Flux.{Fluxes, net}
 use Rattle.amr_patch.specs.Places.{is_edge_face}
 use Rattle.amr_patch.specs.Patches.{SameMarks, SameValues, box, flux_in, mass_in}
-use Rattle.amr_flux.specs.Faces.{flux_beside, owns}
+use Rattle.amr_faces.specs.Faces.{flux_beside, owns}
 use Rattle.amr_flux.specs.Rooms.{widest}
 use Rattle.amr_phase.specs.declared.plan.Post.{Post}
 use Rattle.amr_phase.specs.Plans.{total}

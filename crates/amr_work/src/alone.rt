@@ -9,7 +9,7 @@ ghost use Rattle.amr_def.specs.Domain.{domain};
 ghost use Rattle.amr_def.specs.Flux.{net};
 ghost use Rattle.amr_patch.specs.Patches.{SameMarks, SameValues, box, flux_in, mass_in, value_in};
 ghost use Rattle.amr_patch.specs.Places.{is_edge_face};
-ghost use Rattle.amr_flux.specs.Faces.{IsInDomain, flux_beside, in_reach};
+ghost use Rattle.amr_faces.specs.Faces.{IsInDomain, flux_beside, in_reach};
 ghost use Rattle.amr_flux.specs.Rooms.{widest};
 ghost use Rattle.amr_layout.specs.Adds.{word_total};
 ghost use Rattle.amr_work.specs.Ready.{AreOwnFlows, MayStep};

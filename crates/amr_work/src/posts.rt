@@ -5,7 +5,7 @@ ghost use Rattle.std.specs.List.{All};
 ghost use Rattle.amr_box.specs.declared.Face.{Face};
 ghost use Rattle.amr_patch.specs.Places.{is_edge_face};
 ghost use Rattle.amr_patch.specs.Patches.{box, flux_in};
-ghost use Rattle.amr_flux.specs.Faces.{owns};
+ghost use Rattle.amr_faces.specs.Faces.{owns};
 ghost use Rattle.amr_phase.specs.Plans.{adds_of, puts_of, total};
 ghost use Rattle.amr_board.specs.BoardOf.{IsSeatOf, view};
 ghost use Rattle.amr_board.specs.Posts.{HasPosted};

@@ -8,7 +8,7 @@ use Rattle.amr_def.specs.Flux.{flux_at}
 use Rattle.amr_patch.specs.declared.patches.Patch.{Patch}
 use Rattle.amr_patch.specs.Patches.{box, masses_in}
 use Rattle.amr_work.specs.Ready.{AreOwnFlows}
-use Rattle.amr_flux.specs.Faces.{flux_beside}
+use Rattle.amr_faces.specs.Faces.{flux_beside}
 use Rattle.amr_ghost.specs.Frames.{old_masses}
 use Rattle.amr_layout.specs.declared.FlowTo.{FlowTo}
 use Rattle.amr_layout.specs.Adds.{word_total}

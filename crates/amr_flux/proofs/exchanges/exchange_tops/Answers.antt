@@ -4,7 +4,7 @@ use mir.Syntax.{w32}
 use Rattle.std.specs.Prelude.{cond, slice_index}
 use Rattle.std.proofs.lemmas.Int.{to_z-of_z}
 use Rattle.amr_flux.specs.Paces.{IsWordOf, top_share}
-use Rattle.amr_flux.specs.Rows.{signed}
+use Rattle.amr_faces.specs.Shares.{signed}
 use Rattle.amr_flux.specs.Tables.{count_below, value, y_marked}
 use Rattle.amr_flux.proofs.Borders.{count_less, count_next, count_same}
 use Rattle.amr_flux.proofs.Exchanged.{others_more, share_still, still, tops_more, word_same}

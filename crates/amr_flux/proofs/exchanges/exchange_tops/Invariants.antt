@@ -1,7 +1,7 @@
 use Rattle.std.proofs.Common.{◌≡◌, ◌≢◌, ℕ, ◌+◌, ◌*◌, ◌<◌, ℤ, ◌+ℤ◌, ◌-ℤ◌}
 use Rattle.std.specs.Prelude.{cond, slice_index}
 use Rattle.amr_flux.specs.Paces.{IsWordOf, top_share}
-use Rattle.amr_flux.specs.Rows.{signed}
+use Rattle.amr_faces.specs.Shares.{signed}
 use Rattle.amr_flux.specs.Tables.{count_below, value, y_marked}
 use Rattle.amr_flux.proofs.exchanges.exchange_tops.Given as goal
 

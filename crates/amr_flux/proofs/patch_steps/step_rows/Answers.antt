@@ -4,7 +4,7 @@ use mir.Syntax.{w32}
 use Rattle.std.specs.Prelude.{slice_index}
 use Rattle.std.proofs.lemmas.Int.{to_z-of_z}
 use Rattle.amr_flux.specs.Paces.{IsReadyRow, IsSteppedRow, IsWordOf, mass_by_ends, row_at, row_before, x_between, x_donor, x_share, x_with, y_share}
-use Rattle.amr_flux.specs.Rows.{signed}
+use Rattle.amr_faces.specs.Shares.{signed}
 use Rattle.amr_flux.specs.Tables.{count_below, value, x_marked}
 use Rattle.amr_flux.proofs.Exchanged.{end_free, end_marked, row_cell, still, word_same}
 use Rattle.amr_flux.proofs.PatchSteps.{cell_either, x_signed}

@@ -1,5 +1,5 @@
 use Rattle.std.proofs.Common.{◌≡◌, ℕ, ◌<◌, slice_index, slice_index_or, pos}
-use Rattle.amr_flux.specs.Shares.{share_of}
+use Rattle.amr_faces.specs.Shares.{share_of}
 use Rattle.amr_flux.proofs.rows.sizes.Given as goal
 
 -- the sizes before place k are worked out

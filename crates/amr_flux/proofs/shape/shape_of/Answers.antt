@@ -1,7 +1,8 @@
 use Rattle.std.proofs.Common.{◌≡◌, pos, arith}
 use Rattle.std.proofs.lemmas.Int.{ints}
 use Rattle.amr_patch.proofs.Rows.{sides}
-use Rattle.amr_flux.proofs.Places.{corner, column_fits, row_fits, stands}
+use Rattle.amr_faces.proofs.Places.{corner}
+use Rattle.amr_flux.proofs.Entries.{column_fits, row_fits, stands}
 use Rattle.amr_flux.proofs.shape.shape_of.Goals as goal
 
 pub coordinate-column-requires : goal.coordinate-column-requires

@@ -3,7 +3,7 @@ use mir.Val.{SFits}
 use mir.Syntax.{w32}
 use Rattle.std.proofs.lemmas.Int.{to_z-of_z}
 use Rattle.amr_flux.specs.Tables.{x_flux}
-use Rattle.amr_flux.proofs.Numbers.{x_unsheared}
+use Rattle.amr_faces.proofs.Numbers.{x_unsheared}
 use Rattle.amr_flux.proofs.Steps.{one_made, x_flux_is}
 use Rattle.amr_flux.proofs.x_faces.column_fluxes.Goals as goal
 

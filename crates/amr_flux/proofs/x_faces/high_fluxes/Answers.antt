@@ -5,7 +5,7 @@ use Rattle.std.proofs.lemmas.Int.{to_z-of_z}
 use Rattle.std.specs.Prelude.{slice_index_or}
 use Rattle.amr_box.proofs.Tests.{opposite}
 use Rattle.amr_flux.specs.Tables.{x_flux, x_marked}
-use Rattle.amr_flux.proofs.Numbers.{x_unsheared}
+use Rattle.amr_faces.proofs.Numbers.{x_unsheared}
 use Rattle.amr_flux.proofs.Steps.{one_left, one_made, others_kept, x_flux_is}
 use Rattle.amr_flux.proofs.x_faces.high_fluxes.Goals as goal
 use Rattle.amr_flux.proofs.x_faces.high_fluxes.Goals.{then-not-is_end_marked, else-not-is_end_marked}

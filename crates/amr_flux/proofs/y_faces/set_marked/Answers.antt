@@ -4,8 +4,9 @@ use mir.Val.{SFits}
 use mir.Syntax.{w32}
 use Rattle.std.proofs.lemmas.Int.{to_z-of_z}
 use Rattle.amr_box.proofs.Tests.{opposite}
-use Rattle.amr_flux.specs.Rows.{signed}
-use Rattle.amr_flux.specs.Tables.{count_below, y_marked, y_number}
+use Rattle.amr_faces.specs.Shares.{signed}
+use Rattle.amr_faces.specs.Numbers.{y_number}
+use Rattle.amr_flux.specs.Tables.{count_below, y_marked}
 use Rattle.amr_flux.proofs.Borders.{count_less, count_next, count_same}
 use Rattle.amr_flux.proofs.Steps.{one_left, one_made, others_kept}
 use Rattle.amr_flux.proofs.y_faces.set_marked.Goals as goal

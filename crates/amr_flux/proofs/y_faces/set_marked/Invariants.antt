@@ -1,7 +1,8 @@
 use Rattle.std.proofs.Common.{◌≡◌, ℕ, ◌+◌, ◌<◌, true, false, pos}
 use Rattle.std.specs.Prelude.{slice_index, slice_index_or}
-use Rattle.amr_flux.specs.Rows.{signed}
-use Rattle.amr_flux.specs.Tables.{count_below, y_marked, y_number}
+use Rattle.amr_faces.specs.Shares.{signed}
+use Rattle.amr_faces.specs.Numbers.{y_number}
+use Rattle.amr_flux.specs.Tables.{count_below, y_marked}
 use Rattle.amr_flux.proofs.y_faces.set_marked.Given as goal
 
 -- the marked faces before i have their fluxes

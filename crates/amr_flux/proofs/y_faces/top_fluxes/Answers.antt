@@ -7,7 +7,7 @@ use Rattle.amr_box.proofs.Tests.{opposite}
 use Rattle.amr_def.specs.Domain.{columns}
 use Rattle.amr_def.proofs.Sizes.{doubled_small}
 use Rattle.amr_flux.specs.Tables.{y_flux, y_marked}
-use Rattle.amr_flux.proofs.Numbers.{unsheared}
+use Rattle.amr_faces.proofs.Numbers.{unsheared}
 use Rattle.amr_flux.proofs.Steps.{one_left, one_made, others_kept, y_flux_is}
 use Rattle.amr_flux.proofs.y_faces.top_fluxes.Goals as goal
 use Rattle.amr_flux.proofs.y_faces.top_fluxes.Goals.{then-not-is_top_marked, else-not-is_top_marked}

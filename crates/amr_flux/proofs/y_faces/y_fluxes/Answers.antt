@@ -4,8 +4,9 @@ use mir.Syntax.{w32}
 use Rattle.std.proofs.lemmas.Int.{to_z-of_z}
 use Rattle.std.specs.Prelude.{slice_index}
 use Rattle.amr_def.specs.Flux.{flow}
-use Rattle.amr_flux.specs.Tables.{y_number}
-use Rattle.amr_flux.proofs.Steps.{flow_of, one_made}
+use Rattle.amr_faces.specs.Numbers.{y_number}
+use Rattle.amr_faces.proofs.Shown.{flow_of}
+use Rattle.amr_flux.proofs.Steps.{one_made}
 use Rattle.amr_flux.proofs.y_faces.y_fluxes.Goals as goal
 
 pub loop-i-preserved : goal.loop-i-preserved

@@ -1,7 +1,7 @@
 use Rattle.std.proofs.Common.{◌≡◌, ℕ, ◌+◌, ◌<◌, pos}
 use Rattle.std.specs.Prelude.{slice_index, slice_index_or}
 use Rattle.amr_def.specs.Flux.{flow}
-use Rattle.amr_flux.specs.Tables.{y_number}
+use Rattle.amr_faces.specs.Numbers.{y_number}
 use Rattle.amr_flux.proofs.y_faces.y_fluxes.Given as goal
 
 -- the columns before i have their fluxes

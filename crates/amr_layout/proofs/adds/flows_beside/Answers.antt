@@ -1,7 +1,7 @@
 use Rattle.std.proofs.Common.{◌≡◌, ℕ, ◌≤◌, ◌<◌, ◌+◌, ◌*◌, length, map, sym, ap, subst, ◌∙◌, arith}
 use Rattle.std.specs.Option.{option_copied}
 use Rattle.amr_box.specs.declared.Face.{Face}
-use Rattle.amr_flux.specs.Faces.{passing}
+use Rattle.amr_faces.specs.Faces.{passing}
 use Rattle.amr_layout.specs.Surroundings.{IsInRowOrColumn, IsNearFace, LiesBesideLevel, around, edge_count, edge_face}
 use Rattle.amr_layout.specs.Adds.{flow_to, inflow_faces, is_exchange_face, is_inflow_face, is_outflow_face, outflow_faces, register_flows, word_of}
 use Rattle.amr_layout.specs.Flows.{is_inflow, is_outflow}

@@ -6,7 +6,7 @@ use Rattle.amr_box.specs.Cells.{Extent}
 use Rattle.amr_def.specs.Domain.{domain}
 use Rattle.amr_patch.specs.declared.patches.Patch.{Patch}
 use Rattle.amr_patch.specs.Patches.{box}
-use Rattle.amr_flux.specs.Faces.{IsInDomain}
+use Rattle.amr_faces.specs.Faces.{IsInDomain}
 use Rattle.amr_layout.specs.declared.FlowTo.{FlowTo}
 use Rattle.amr_layout.specs.Adds.{HasCellsBeyond, flow_to, flows_of}
 use Rattle.amr_layout.specs.LevelFlowLists.{level_flows}

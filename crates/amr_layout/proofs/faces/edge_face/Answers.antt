@@ -1,6 +1,6 @@
 use Rattle.std.proofs.Common.{◌≡◌, ◌+◌, ◌-◌, ◌*◌, sym, ap, ◌∙◌, arith}
 use Rattle.amr_box.specs.Cells.{height, width}
-use Rattle.amr_flux.specs.Faces.{x_end, y_end}
+use Rattle.amr_faces.specs.Faces.{x_end, y_end}
 use Rattle.amr_layout.specs.Surroundings.{y_start}
 use Rattle.amr_layout.proofs.Edges.{edge_east, edge_north, edge_south, edge_west}
 use Rattle.amr_layout.proofs.faces.edge_face.Goals as goal

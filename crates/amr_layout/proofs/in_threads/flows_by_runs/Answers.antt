@@ -6,7 +6,7 @@ use Rattle.std.proofs.lemmas.List.Elements.{All-drop, All-take}
 use Rattle.amr_def.specs.Domain.{domain}
 use Rattle.amr_patch.specs.declared.patches.Patch.{Patch}
 use Rattle.amr_patch.specs.Patches.{box}
-use Rattle.amr_flux.specs.Faces.{IsInDomain}
+use Rattle.amr_faces.specs.Faces.{IsInDomain}
 use Rattle.amr_layout.specs.declared.alone.LevelFlows.{LevelFlows}
 use Rattle.amr_layout.specs.Adds.{HasCellsBeyond}
 use Rattle.amr_layout.specs.LevelFlowLists.{AreFlowsOfRun}

@@ -2,7 +2,7 @@ use Rattle.std.proofs.Common.{◌≡◌, ◌++◌, List, ap, sym, subst, ◌∙�
 use Rattle.amr_box.specs.declared.Face.{Face}
 use Rattle.amr_box.specs.Cells.{height, width}
 use Rattle.amr_def.specs.Domain.{domain_of}
-use Rattle.amr_flux.specs.Faces.{passing, x_end, y_end}
+use Rattle.amr_faces.specs.Faces.{passing, x_end, y_end}
 use Rattle.amr_layout.specs.Places.{ArePut, leads_on}
 use Rattle.amr_layout.proofs.LevelPlaces.{borders_is, done_more, done_more_after}
 use Rattle.amr_layout.proofs.places.put_borders.Goals as goal

@@ -1,6 +1,6 @@
 use Rattle.std.proofs.Common.{◌≡◌, ◌∙◌, length, ap, subst, sym, arith}
 use Rattle.amr_def.specs.Domain.{Domain, domain_of}
-use Rattle.amr_flux.specs.Faces.{IsInDomain}
+use Rattle.amr_faces.specs.Faces.{IsInDomain}
 use Rattle.amr_patch.specs.Levels.{level_of}
 use Rattle.amr_register.specs.Covers.{covers}
 use Rattle.amr_register.proofs.CollectLaws.{more_boxes, no_boxes}

@@ -1,7 +1,7 @@
 use Rattle.std.proofs.Common.{◌∙◌, arith, pos, sym}
 use Rattle.std.proofs.lemmas.Bool.{cond-true}
 use Rattle.std.proofs.lemmas.Int.{ints}
-use Rattle.amr_flux.specs.Faces.{flux_beside}
+use Rattle.amr_faces.specs.Faces.{flux_beside}
 use Rattle.amr_register.proofs.OwnedFlows.{above_limit, below, kept_as}
 use Rattle.amr_register.proofs.edges.flow_beside.Goals as goal
 

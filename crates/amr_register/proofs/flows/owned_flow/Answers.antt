@@ -3,7 +3,7 @@ use Rattle.std.proofs.lemmas.Int.{ints}
 use Rattle.amr_box.specs.Cells.{Extent, holds}
 use Rattle.amr_patch.specs.Patches.{box}
 use Rattle.amr_patch.specs.Places.{is_face_of}
-use Rattle.amr_flux.specs.Faces.{flux_beside}
+use Rattle.amr_faces.specs.Faces.{flux_beside}
 use Rattle.amr_register.proofs.OwnedFlows.{above, below, kept_as, low_face_of_box}
 use Rattle.amr_register.proofs.Owners.{no_owner, none_counts, one_owner}
 use Rattle.amr_register.proofs.flows.owned_flow.Goals as goal

@@ -3,7 +3,7 @@ use Rattle.std.specs.Prelude.{slice_index, unsigned_abs}
 use Rattle.std.proofs.lemmas.Bool.{eqb-true}
 use Rattle.amr_box.specs.declared.Face.{Face}
 use Rattle.amr_patch.specs.Patches.{flux_in}
-use Rattle.amr_flux.specs.Faces.{flux_beside}
+use Rattle.amr_faces.specs.Faces.{flux_beside}
 use Rattle.amr_work.proofs.Adding.{flows_alike, none_added}
 use Rattle.amr_work.proofs.SweptPatch.{edges_on}
 use Rattle.amr_work.proofs.alone.add_flows.Goals as goal

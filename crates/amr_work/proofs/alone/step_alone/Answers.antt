@@ -1,7 +1,7 @@
 use Rattle.std.proofs.Common.{sym, ap, ◌∙◌, subst, arith}
 use Rattle.amr_box.specs.Cells.{Extent, holds, width}
 use Rattle.amr_def.specs.Domain.{domain}
-use Rattle.amr_flux.specs.Faces.{IsInDomain}
+use Rattle.amr_faces.specs.Faces.{IsInDomain}
 use Rattle.amr_work.proofs.SweptPatch.{fits_on, kept_on, small_on, sum_on}
 use Rattle.amr_work.proofs.alone.step_alone.Goals as goal
 

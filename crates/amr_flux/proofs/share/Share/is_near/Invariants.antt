@@ -1,7 +1,0 @@
-use Rattle.std.proofs.Common.{ℕ, ◌<◌, ◌≤◌}
-use Rattle.std.specs.Prelude.{slice_index}
-use Rattle.amr_flux.proofs.share.Share.is_near.Given as goal
-
--- none of the masses before place k is greater than `most`
-abbrev pub invariant-loop-k : goal.invariant-loop-k
-invariant-loop-k l = (k : ℕ) → k < l.k → slice_index l.masses k ≤ l.most
