@@ -51,12 +51,12 @@ size_within (negsuc n) h = let least : negsuc 1023 ≤ℤ negsuc n = h.least in 
 side_within : (z : ℤ) → IsIn side z → IsSide z
 side_within z h = record { least = h.least; greatest = h.greatest }
 
-record IsName (bytes : List ℕ) : Type 0 where
-  named : 1 ≤ length bytes
-  short : length bytes ≤ 32
-  proper : list_all is_name_byte bytes ≡ true
+pub record IsName (bytes : List ℕ) : Type 0 where
+  pub named : 1 ≤ length bytes
+  pub short : length bytes ≤ 32
+  pub proper : list_all is_name_byte bytes ≡ true
 
-name_from_none : (bytes : List ℕ) → text_outside (range (pos 1) (pos 32)) bytes ≡ None → IsName bytes
+pub name_from_none : (bytes : List ℕ) → text_outside (range (pos 1) (pos 32)) bytes ≡ None → IsName bytes
 name_from_none bytes h =
     elim (cases_Bool (holds (range (pos 1) (pos 32)) (pos (length bytes)) && list_all is_name_byte bytes)) [
       | inl pass ↦
@@ -68,15 +68,15 @@ name_from_none bytes h =
       | inr fail ↦ absurd (let e = rw fail at h in cc)
     ]
 
-record AreRows (rows : List (List ℤ)) : Type 0 where
-  many : length rows ≤ 256
-  inside : list_all (λ row. is_none (first_outside (ranges_of Blocks) row)) rows ≡ true
+pub record AreRows (rows : List (List ℤ)) : Type 0 where
+  pub many : length rows ≤ 256
+  pub inside : list_all (λ row. is_none (first_outside (ranges_of Blocks) row)) rows ≡ true
 
 all_none : {X A : Type 0} (f : X → Option A) (xs : List X) → first_some (map f xs) ≡ None → list_all (λ x. is_none (f x)) xs ≡ true
 all_none f [] h = refl
 all_none f (x ∷ xs) h = let none = fold-none (f x) (map f xs) h in rw (none.first, all_none f xs none.second)
 
-rows_from_none : (rows : List (List ℤ)) → rows_outside 256 (ranges_of Blocks) rows ≡ None → AreRows rows
+pub rows_from_none : (rows : List (List ℤ)) → rows_outside 256 (ranges_of Blocks) rows ≡ None → AreRows rows
 rows_from_none rows h =
     elim (cases_Bool (nat_lt 256 (length rows))) [
       | inl over ↦ absurd (let e = rw over at h in cc)

@@ -9,11 +9,12 @@ use Rattle.amr_problem.specs.declared.fault.ProblemFault.{ProblemFault}
 use Rattle.amr_problem.specs.declared.key.Key.{Key}
 use Rattle.amr_problem.specs.Keys.{kind_of}
 use Rattle.amr_problem.specs.Faults.{is_read, unknown_key, missing_key, wrong_kind, first_wrong, courant_over, sides_differ, block_outside, tag_count, blocking_misfit, fault_in}
-use Rattle.amr_problem.specs.Entries.{basic_keys, refining_keys, overlay_keys, IsReadOf, HasShears, range_fault, entry_fault}
+use Rattle.amr_problem.specs.Entries.{basic_keys, refining_keys, overlay_keys, IsReadOf, HasShears, IsInRange, IsClean, range_fault, in_range_fault, entry_fault}
 use Rattle.amr_problem.specs.Fields.{IsOfEntries}
 use Rattle.amr_problem.specs.Judgement.{HasKeys}
 use Rattle.amr_problem.proofs.EntryLaws.{same_ranges}
-use Rattle.amr_problem.proofs.FirstSome.{first_some-cons}
+use Rattle.amr_problem.proofs.FirstSome.{first_some-cons, fold-none}
+use Rattle.amr_problem.proofs.ProblemLaws.{alike_from_none, fits_from_none}
 use Rattle.amr_problem.proofs.ValueLaws.{shear_at-for_each}
 
 -- ---- the first key of another kind
@@ -84,4 +85,34 @@ has_keys table e p r v =
       shear_x = rw v.ny_is at (o.shear_x ∙ ap Some v.shear_x_is);
       shear_y = rw v.nx_is at (o.shear_y ∙ ap Some v.shear_y_is);
       blocking = o.blocking ∙ ap Some v.blocking_is;
+    }
+
+-- ---- entries without a fault
+
+pub is_clean : (e : Entries) → IsInRange e → in_range_fault e ≡ None → IsClean e
+is_clean e inside none =
+    let b = e.basics in
+    let o = e.overlay in
+    let sides = b.x_low ∷ b.x_high ∷ b.y_low ∷ b.y_high ∷ [] in
+    let cells = b.nx ∷ b.ny ∷ [] in
+    let from_blocking = blocking_misfit cells o.blocking ∷ [] in
+    let from_tag = tag_count b.max_level e.refining.tag.items ∷ from_blocking in
+    let from_blocks = block_outside cells o.blocks.items ∷ from_tag in
+    let from_sides = sides_differ sides ∷ from_blocks in
+    let courant = fold-none (courant_over (b.cx ∷ b.cy ∷ b.d ∷ []) o.shear_x.items o.shear_y.items) from_sides none in
+    let alike = fold-none (sides_differ sides) from_blocks courant.second in
+    let within = fold-none (block_outside cells o.blocks.items) from_tag alike.second in
+    let counted = fold-none (tag_count b.max_level e.refining.tag.items) from_blocking within.second in
+    let fitting = fold-none (blocking_misfit cells o.blocking) [] counted.second in
+    let same = alike_from_none b.x_low b.x_high b.y_low b.y_high alike.first in
+    let both = fits_from_none b.nx b.ny o.blocking fitting.first in
+    record {
+      in_range = inside;
+      stable = courant.first;
+      x_alike = same.x;
+      y_alike = same.y;
+      inside = within.first;
+      counted = counted.first;
+      x_fits = both.x;
+      y_fits = both.y;
     }

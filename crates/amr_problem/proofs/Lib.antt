@@ -7,3 +7,5 @@ pub mod EntryLaws
 pub mod JudgementLaws
 pub mod PlainLaws
 pub mod OneProblem
+pub mod TableEntries
+pub mod CleanBytes

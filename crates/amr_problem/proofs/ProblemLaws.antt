@@ -46,7 +46,7 @@ pub in_use_within : (c : ℤ) (zs : List ℤ) → unsigned_abs c ≤ 1024 → li
 in_use_within c [] one all = omega (arith, one)
 in_use_within c (z ∷ zs) one all = sizes_within (z ∷ zs) all
 
-same_pos : (m n : ℕ) → int_eq (pos m) (pos n) ≡ true → m ≡ n
+pub same_pos : (m n : ℕ) → int_eq (pos m) (pos n) ≡ true → m ≡ n
 same_pos m n h = let same : pos m ≡ pos n = (Decides-int_eq (pos m) (pos n)).0 h in omega (arith, ints)
 
 -- a shear of none, or of one number for each row or column, in their range

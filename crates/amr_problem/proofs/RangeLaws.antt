@@ -1,5 +1,5 @@
 -- Laws of ranges.
-use Rattle.std.proofs.Common.{◌≡◌, true, ◌&&◌, ℤ, ◌≤ℤ◌, int_le, inl, inr, refl, List, [], ◌∷◌, None, arith}
+use Rattle.std.proofs.Common.{◌≡◌, true, ◌&&◌, ℤ, ◌≤ℤ◌, int_le, inl, inr, refl, List, [], ◌∷◌, None}
 use Rattle.std.proofs.lemmas.Bool.{cases_Bool, and_parts}
 use Rattle.std.specs.List.{list_all}
 use Rattle.amr_box.proofs.Numbers.{le_from}

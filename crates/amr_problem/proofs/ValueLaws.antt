@@ -62,7 +62,7 @@ numbers_in_other many vs other = rw (count_view vs, ne_eqb (length vs) many othe
 -- ---- one for each of so many rows or columns
 
 -- as many integers are read as there are items
-length-integers : (items : Items) (zs : List ℤ) → integers items ≡ Some zs → length zs ≡ count items
+pub length-integers : (items : Items) (zs : List ℤ) → integers items ≡ Some zs → length zs ≡ count items
 length-integers no_items zs h = let same = same_Some [] zs h in ap length (sym same)
 length-integers (item d rest) zs h = length-read (as_integer d) (integers rest) zs (count rest) (λ ys is. length-integers rest ys is) h
   where

@@ -4,7 +4,7 @@
 //! - `specs/Values.antt`: the values of a document, each read by the kind of its key.
 //! - `specs/Faults.antt`: the faults, in the order in which they are looked for.
 //! - `specs/Judgement.antt`: the fault of bytes, and the problem that they are.
-//! - `specs/Laws.antt`: that bytes are one problem at most.
+//! - `specs/Laws.antt`: that bytes without a fault are exactly one problem.
 #![tactic(auto)]
 
 mod checks;
@@ -26,4 +26,4 @@ pub use fault::{JudgeFault, ProblemFault};
 pub use judgement::judge;
 pub use key::Key;
 pub use key_text::KeyText;
-pub use laws::bytes_are_one_problem;
+pub use laws::{bytes_are_one_problem, clean_bytes_are_a_problem};
