@@ -1,5 +1,7 @@
 -- The elements of lists, by place.
-use Rattle.std.proofs.Common.{◌≡◌, ◌∙◌, sym, refl, ℕ, ◌<◌, true, false, not, ltb, ℤ, pos, inl, inr, List, [], ◌∷◌, length, get_or, Option, Some, None, is_none, Bool, cond, arith}
+use Rattle.std.proofs.Common.{◌≡◌, ◌∙◌, sym, refl, ℕ, ◌<◌, true, false, not, ltb, ℤ, pos, inl, inr, List, [], ◌∷◌, length, get_or, Option, Some, None, is_none, Bool, cond, arith, ap, ◌&&◌}
+use Rattle.std.specs.Prelude.{int_le, int_lt}
+use Rattle.amr_problem.specs.Faults.{is_inside}
 use Rattle.std.proofs.lemmas.Bool.{cases_Bool, true≢false}
 use Rattle.std.proofs.lemmas.Bool.Decides.{nat_tests}
 use Rattle.std.proofs.lemmas.List.Folds.{list_all_at}
@@ -13,6 +15,20 @@ five (a ∷ b ∷ c ∷ []) h = absurd (omega arith)
 five (a ∷ b ∷ c ∷ d ∷ []) h = absurd (omega arith)
 five (a ∷ b ∷ c ∷ d ∷ e ∷ []) h = refl
 five (a ∷ b ∷ c ∷ d ∷ e ∷ f ∷ rest) h = absurd (omega arith)
+
+-- a block lies inside where it does along each axis
+pub inside_by_axis : (nx ny : ℤ) (block : List ℤ) → length block ≡ 5
+    → is_inside (nx ∷ ny ∷ []) block ≡ ((int_le (get_or block 0 (pos 0)) (get_or block 2 (pos 0)) && int_lt (get_or block 2 (pos 0)) nx) && (int_le (get_or block 1 (pos 0)) (get_or block 3 (pos 0)) && int_lt (get_or block 3 (pos 0)) ny))
+inside_by_axis nx ny block h = ap (is_inside (nx ∷ ny ∷ [])) (five block h) ∙ joined (int_le (get_or block 0 (pos 0)) (get_or block 2 (pos 0))) (int_lt (get_or block 2 (pos 0)) nx) (int_le (get_or block 1 (pos 0)) (get_or block 3 (pos 0))) (int_lt (get_or block 3 (pos 0)) ny)
+  where
+    joined : (p q r s : Bool) → (p && q && r && s) ≡ ((p && q) && (r && s))
+    joined true true true s = refl
+    joined true true false s = refl
+    joined true false r s = refl
+    joined false q r s = refl
+
+pub between_as : (l h m low high n : ℤ) (r : Bool) → r ≡ (int_le l h && int_lt h m) → l ≡ low → h ≡ high → m ≡ n → r ≡ (int_le low high && int_lt high n)
+between_as l h m low high n r e p q s = e ∙ (λ i. int_le (p i) (q i) && int_lt (q i) (s i))
 
 pub none_from_test : {A : Type 0} (o : Option A) → is_none o ≡ true → o ≡ None
 none_from_test None h = refl

@@ -1,6 +1,6 @@
 //! What entries within their ranges must fulfil together.
 
-ghost use Rattle.std.specs.Prelude.{◌≡◌, ◌≤◌, ◌+◌, pos, ◌≤ℤ◌, [], ◌∷◌, length, not, position, option_map};
+ghost use Rattle.std.specs.Prelude.{◌≡◌, ◌≤◌, ◌+◌, pos, ◌≤ℤ◌, [], ◌∷◌, length, not, position, option_map, ◌&&◌, int_le, int_lt};
 ghost use Rattle.amr_def.specs.Limits.{greatest_size, in_use};
 ghost use Rattle.amr_problem.specs.Faults.{over_by, is_periodic, differ, sides_differ, block_outside, is_inside, tag_count, fits, blocking_misfit};
 
@@ -94,7 +94,16 @@ fn is_inside(nx: i64, ny: i64, block: &[i64; 5]) -> bool
     ensures { result ≡ is_inside (nx ∷ ny ∷ []) block.now }
 {
     let [x0, y0, x1, y1, _] = *block;
-    x0 <= x1 && x1 < nx && y0 <= y1 && y1 < ny
+    let along = is_between(x0, x1, nx);
+    let across = is_between(y0, y1, ny);
+    along && across
+}
+
+// Whether the ends along an axis are in order, and the high one below so many cells.
+fn is_between(low: i64, high: i64, cells: i64) -> bool
+    ensures { result ≡ (int_le low high && int_lt high cells) }
+{
+    low <= high && high < cells
 }
 
 /// Whether there is not one threshold for each level below the finest.

@@ -14,7 +14,7 @@ use std::alloc::Global;
 use toml::Table;
 
 /// The values of the keys, before any is held against its range.
-#[derive(Debug, Drop)]
+#[derive(Drop)]
 pub struct Entries {
     pub basics: Basics,
     pub refining: Refining,
@@ -22,7 +22,7 @@ pub struct Entries {
 }
 
 /// What every problem has to say, but for its blocks.
-#[derive(Debug, Drop)]
+#[derive(Drop)]
 pub struct Basics {
     pub version: i64,
     pub name: Vec<u8>,
@@ -40,7 +40,7 @@ pub struct Basics {
 }
 
 /// How finer levels are made, and levels are held.
-#[derive(Debug, Drop)]
+#[derive(Drop)]
 pub struct Refining {
     pub tag: Vec<i64>,
     pub n_error_buf: i64,
@@ -51,7 +51,7 @@ pub struct Refining {
 }
 
 /// What is laid over level 0: masses, Courant numbers by rows and by columns, and the blocking.
-#[derive(Debug, Drop)]
+#[derive(Drop)]
 pub struct Overlay {
     pub blocks: Vec<[i64; 5]>,
     pub shear_x: Vec<i64>,

@@ -8,7 +8,7 @@ ghost use Rattle.amr_problem.specs.Values.{integers_of};
 use std::alloc::Global;
 
 /// What stands where a key is absent.
-#[derive(Clone, Copy, Debug, PartialEq, Eq)]
+#[derive(Clone, Copy, PartialEq, Eq)]
 pub enum Absent {
     /// Nothing: the key is required.
     Required,

@@ -5,7 +5,7 @@ ghost use Rattle.std.specs.List.{zip};
 ghost use Rattle.amr_problem.specs.Keys.{is_even, is_among, holds, first_outside, first_beyond};
 
 /// Which of the whole numbers between two ends.
-#[derive(Clone, Copy, Debug, PartialEq, Eq)]
+#[derive(Clone, Copy, PartialEq, Eq)]
 pub enum Among {
     Every,
     Even,
@@ -14,7 +14,7 @@ pub enum Among {
 }
 
 /// The whole numbers from `low` to `high`, both inside, or some of them.
-#[derive(Clone, Copy, Debug, PartialEq, Eq)]
+#[derive(Clone, Copy, PartialEq, Eq)]
 pub struct Range {
     pub low: i64,
     pub high: i64,
