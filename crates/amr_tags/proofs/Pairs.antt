@@ -61,22 +61,34 @@ step_high t1 t2 a b h p q x y e1 e2 ea eb eh eq =
 step_none : (t1 t2 a b p q z : Bool) → t1 ≡ t2 → a ≡ false → b ≡ false → (((t1 && z) || (p && a)) || (q && b)) ≡ (t2 && z)
 step_none t1 t2 a b p q z e ea eb = (λ i. ((e i && z) || (p && ea i)) || (q && eb i)) ∙ neither (t2 && z) p q
 
+at_end : (m i : ℕ) → m ≡ i → nat_lt m i ≡ false
+at_end m i e = grind (arith, nat_tests)
+
+at_last : (m i : ℕ) → m ≡ i → nat_lt m (i + 1) ≡ true
+at_last m i e = grind (arith, nat_tests)
+
+beside_last : (m i : ℕ) → (m ≡ i → ⊥) → nat_lt m i ≡ nat_lt m (i + 1)
+beside_last m i n = grind (arith, nat_tests)
+
+not_same : (a b : ℕ) → (a == b) ≡ false → a ≡ b → ⊥
+not_same a b e f = grind (arith, nat_tests)
+
+below_half : (k : ℕ) → nat_lt k 32 ≡ true → k < 32
+below_half k h = grind (arith, nat_tests)
+
+above_half : (k : ℕ) → nat_lt k 32 ≡ false → 32 ≤ k
+above_half k h = grind (arith, nat_tests)
+
+not_past : (k i : ℕ) → k ≡ i → (k == i + 32) ≡ false
+not_past k i e = grind (arith, nat_tests)
+
+in_low : (k i : ℕ) → i < 32 → k ≡ i → nat_lt k 32 ≡ true
+in_low k i h e = grind (arith, nat_tests)
+
+in_high : (k i : ℕ) → k ≡ i + 32 → nat_lt k 32 ≡ false
+in_high k i e = grind (arith, nat_tests)
+
 module _ (low high i k : ℕ) (fits : i < 32) (inside : k < 64) where
-  before_one : k % 32 ≡ i → nat_lt (k % 32) i ≡ false
-  before_one e = grind (arith, nat_tests)
-
-  up_to_one : k % 32 ≡ i → nat_lt (k % 32) (i + 1) ≡ true
-  up_to_one e = grind (arith, nat_tests)
-
-  not_high : k ≡ i → (k == i + 32) ≡ false
-  not_high e = grind (arith, nat_tests)
-
-  is_low : k ≡ i → nat_lt k 32 ≡ true
-  is_low e = grind (arith, nat_tests)
-
-  not_low : k ≡ i + 32 → nat_lt k 32 ≡ false
-  not_low e = grind (arith, nat_tests)
-
   place_low : k ≡ i → k % 32 ≡ i
   place_low e = omega (arith, e, fits)
 
@@ -84,20 +96,11 @@ module _ (low high i k : ℕ) (fits : i < 32) (inside : k < 64) where
   place_high e = omega (arith, e, fits)
 
   elsewhere : (k == i) ≡ false → (k == i + 32) ≡ false → nat_lt (k % 32) i ≡ nat_lt (k % 32) (i + 1)
-  elsewhere e f = by (k % 32) (other (apart k i e) (apart k (i + 32) f))
+  elsewhere e f = beside_last (k % 32) i (λ h. split h (nat_lt k 32) refl)
     where
-      apart : (a b : ℕ) → (a == b) ≡ false → a ≡ b → ⊥
-      apart a b e f = grind (arith, nat_tests)
-
-      other : (k ≡ i → ⊥) → (k ≡ i + 32 → ⊥) → k % 32 ≡ i → ⊥
-      other e f h = split (nat_lt k 32) refl
-        where
-          split : (t : Bool) → nat_lt k 32 ≡ t → ⊥
-          split true l = let less : k < 32 = (let d : k < 32 = grind (arith, nat_tests) in d) in e (omega (arith, h, less))
-          split false l = let more : 32 ≤ k = (let d : 32 ≤ k = grind (arith, nat_tests) in d) in f (omega (arith, h, more, inside))
-
-      by : (m : ℕ) → (m ≡ i → ⊥) → nat_lt m i ≡ nat_lt m (i + 1)
-      by m n = grind (arith, nat_tests)
+      split : k % 32 ≡ i → (t : Bool) → nat_lt k 32 ≡ t → ⊥
+      split h true l = let less = below_half k l in not_same k i e (omega (arith, h, less))
+      split h false l = let more = above_half k l in not_same k (i + 32) f (omega (arith, h, more, inside))
 
   pub next-pair : (was p q : Bool) → was ≡ (nat_lt (k % 32) i && paired low high k) → p ≡ pair low i → q ≡ pair high i → ((was || (p && (k == i))) || (q && (k == i + 32))) ≡ (nat_lt (k % 32) (i + 1) && paired low high k)
   next-pair was p q before ep eq = ap (λ (t : Bool). (t || (p && (k == i))) || (q && (k == i + 32))) before ∙ choose (k == i) refl (k == i + 32) refl
@@ -105,11 +108,11 @@ module _ (low high i k : ℕ) (fits : i < 32) (inside : k < 64) where
       choose : (a : Bool) → (k == i) ≡ a → (b : Bool) → (k == i + 32) ≡ b → (((nat_lt (k % 32) i && paired low high k) || (p && (k == i))) || (q && (k == i + 32))) ≡ (nat_lt (k % 32) (i + 1) && paired low high k)
       choose true ea b eb =
           let e = eqb-true k i ea in
-          step_low _ _ _ _ _ p q _ _ (before_one (place_low e)) (up_to_one (place_low e)) ea (not_high e) (is_low e) (ep ∙ ap (pair low) (sym e))
+          step_low _ _ _ _ _ p q _ _ (at_end (k % 32) i (place_low e)) (at_last (k % 32) i (place_low e)) ea (not_past k i e) (in_low k i fits e) (ep ∙ ap (pair low) (sym e))
       choose false ea true eb =
           let e = eqb-true k (i + 32) eb in
           let back : i ≡ k - 32 = omega (arith, e) in
-          step_high _ _ _ _ _ p q _ _ (before_one (place_high e)) (up_to_one (place_high e)) ea eb (not_low e) (eq ∙ ap (pair high) back)
+          step_high _ _ _ _ _ p q _ _ (at_end (k % 32) i (place_high e)) (at_last (k % 32) i (place_high e)) ea eb (in_high k i e) (eq ∙ ap (pair high) back)
       choose false ea false eb = step_none _ _ _ _ p q _ (elsewhere ea eb) ea eb
 
 pub no-pairs : (z : ℕ) (k : ℕ) (w : Bool) → z ≡ 0 → bit z k ≡ (nat_lt (k % 32) 0 && w)
@@ -134,14 +137,14 @@ coarse-word p height words k j low high r b small lows highs is = is b small ∙
   where
     split : (t : Bool) → nat_lt b 32 ≡ t → cond t (pair low b) (pair high (b - 32)) ≡ coarse_bit p height words (64 * k + b) j
     split true e =
-        let less : b < 32 = grind (arith, nat_tests) in
+        let less = below_half b e in
         let f : 64 * (2 * k) + 2 * b ≡ 2 * (64 * k + b) = omega arith in
         let g : 64 * (2 * k) + (2 * b + 1) ≡ 2 * (64 * k + b) + 1 = omega arith in
         let first = lows (2 * b) (omega (arith, less)) ∙ ap (in_rows_two p height words j) f in
         let second = lows (2 * b + 1) (omega (arith, less)) ∙ ap (in_rows_two p height words j) g in
         λ i. first i || second i
     split false e =
-        let more : 32 ≤ b = grind (arith, nat_tests) in
+        let more = above_half b e in
         let f : 64 * (2 * k + 1) + 2 * (b - 32) ≡ 2 * (64 * k + b) = omega (arith, more) in
         let g : 64 * (2 * k + 1) + (2 * (b - 32) + 1) ≡ 2 * (64 * k + b) + 1 = omega (arith, more) in
         let first = highs (2 * (b - 32)) (omega (arith, small)) ∙ ap (in_rows_two p height words j) f in
