@@ -31,3 +31,27 @@ returns-clause-masses c j lt =
     c.masses_from.ensures.masses j lt
     ∙ ap (λ (d : Cell). mass_in f (cell (d.x +ℤ pos j) d.y)) (cell_is f e k c.requires.of_row c.requires.there)
     ∙ (λ i. mass_in f (cell (x i) (y i)))
+
+pub overflow_add-c : goal.overflow_add-c
+overflow_add-c c =
+    let f = c.args.fine.now in
+    let i = inside (box f) (child c.args.c (2 * c.args.k)) c.requires.there in
+    omega (arith, ints, i.west, i.east, f.near.west, f.near.east)
+
+pub overflow_add-c-2 : goal.overflow_add-c-2
+overflow_add-c-2 c =
+    let f = c.args.fine.now in
+    let i = inside (box f) (child c.args.c (2 * c.args.k)) c.requires.there in
+    omega (arith, ints, i.south, i.north, f.near.south, f.near.north)
+
+pub overflow_add-c-3 : goal.overflow_add-c-3
+overflow_add-c-3 c =
+    let f = c.args.fine.now in
+    let i = inside (box f) (child c.args.c (2 * c.args.k)) c.requires.there in
+    omega (arith, ints, i.south, i.north, f.near.south, f.near.north)
+
+pub returns-clause-count : goal.returns-clause-count
+returns-clause-count c =
+    let f = c.args.fine.now in
+    let x = ap (λ (d : Cell). d.x) (cell_is f c.args.c c.args.k c.requires.of_row c.requires.there) in
+    omega (arith, ints, c.masses_from.ensures.count, x)

@@ -81,3 +81,15 @@ returns c mass is =
     (λ d. rows_all b c.loop-k.k d (omega (arith, ints, whole, c.height-k-end.ensures.corners)))
     (λ d on. refl)
     (c.loop-k.invariant.given mass is)
+
+pub overflow_cast-count : goal.overflow_cast-count
+overflow_cast-count c = omega arith
+
+pub above-requires-clause-from : goal.above-requires-clause-from
+above-requires-clause-from c = omega (arith, ints)
+
+pub above-requires-clause-to : goal.above-requires-clause-to
+above-requires-clause-to c = omega (arith, ints)
+
+pub slice_bounds-give_row-count : goal.slice_bounds-give_row-count
+slice_bounds-give_row-count c = omega arith
