@@ -1,7 +1,8 @@
 -- What a step keeps: levels that were chopped are, since boxes and patch boxes stay.
-use Rattle.std.proofs.Common.{◌≡◌, ◌∙◌, ℕ, suc, List, [], ◌∷◌, map, refl, sym, ap, subst, arith}
+use Rattle.std.proofs.Common.{◌≡◌, ◌∙◌, Bool, true, false, Result, Ok, Err, OnOk, OnErr, ℕ, suc, List, [], ◌∷◌, map, refl, sym, ap, subst, arith}
 use Rattle.std.specs.List.{All, flat_map}
 use Rattle.std.specs.List.Sorted.{IsPermutation}
+use Rattle.std.proofs.lemmas.Bool.{true≢false}
 use Rattle.std.proofs.lemmas.List.Elements.{All-cons, All-nil}
 use Rattle.amr_box.specs.Cells.{Extent}
 use Rattle.amr_boxlist.specs.Chopped.{chopped}
@@ -17,6 +18,8 @@ use Rattle.amr_patch.specs.Levels.{level_of, patches_of}
 use Rattle.amr_patch.specs.Meshes.{levels_of, state_of}
 use Rattle.amr_patch.specs.Patches.{box}
 use Rattle.amr_patch.proofs.Items.{levels_are}
+use Rattle.amr_regrid.specs.Outlines.{Outline, outlines}
+use Rattle.amr_regrid.proofs.OutlineLaws.{same_levels}
 use Rattle.amr_start.specs.PatchBoxes.{IsChopped}
 use Rattle.amr_cycle.specs.Cycles.{AreCoarsenableAbove, patch_boxes}
 use Rattle.amr_cycle.proofs.Chopped.{chopped_above}
@@ -63,3 +66,24 @@ coarsenable_after_step (j ∷ hs) [] e h = cc
 coarsenable_after_step (j ∷ hs) (k ∷ ks) e h =
     let more : patch_boxes hs ≡ patch_boxes ks = cc in
     all_coarsenable hs ks more h
+
+-- ---- levels that keep their outlines
+
+patches_by : (ks : List Held) → patch_boxes ks ≡ map (λ (o : Outline). o.patch_boxes) (outlines ks)
+patches_by [] = refl
+patches_by (k ∷ ks) = ap (λ (rest : List (List Extent)). map box (patches_of k) ∷ rest) (patches_by ks)
+
+same_patches : (hs ks : List Held) → outlines hs ≡ outlines ks → patch_boxes hs ≡ patch_boxes ks
+same_patches hs ks e = patches_by hs ∙ ap (map (λ (o : Outline). o.patch_boxes)) e ∙ sym (patches_by ks)
+
+pub coarsenable_stays : (hs ks : List Held) → outlines hs ≡ outlines ks → AreCoarsenableAbove ks → AreCoarsenableAbove hs
+coarsenable_stays hs ks e = coarsenable_after_step hs ks (same_patches hs ks e)
+
+pub chopped_stays : (n : ℕ) (hs ks : List Held) → outlines hs ≡ outlines ks → All (IsChopped n) ks → All (IsChopped n) hs
+chopped_stays n hs ks e = all_kept n hs ks (same_patches hs ks e) (sym (of_levels hs) ∙ ap (map (λ k. k.boxes)) (same_levels hs ks e) ∙ of_levels ks)
+
+-- ---- a step whose refusal leaves the mesh spent
+
+pub unless_spent : {T E X Y : Type 0} {spent : Bool} (r : Result T E) → OnErr r (spent ≡ true) → OnOk r X → (X → Y) → spent ≡ false → Y
+unless_spent (Ok t) gone made from whole = from made
+unless_spent (Err e) gone made from whole = absurd (true≢false (sym gone ∙ whole))

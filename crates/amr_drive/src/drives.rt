@@ -11,7 +11,6 @@ ghost use Rattle.amr_advance.specs.Teams.{IsTeamFor};
 ghost use Rattle.amr_cycle.specs.Cycles.{AreCoarsenableAbove};
 ghost use Rattle.amr_cycle.specs.Kept.{IsCurrent, IsKept};
 ghost use Rattle.amr_drive.specs.Drives.{HasDriven, MayDrive};
-ghost use Rattle.amr_drive.specs.Regrids.{RunHoldsTags};
 ghost use Rattle.amr_drive.specs.States.{states_after};
 
 use crate::after::AfterStep;
@@ -69,8 +68,8 @@ fn make_step<R: Threads + Wait + Sync, G: Gate + Sync, A: AfterStep>(
     requires team { IfSome workers.old.team (IsTeamFor run.now.job.problem.now workers.old.gate.now workers.old.count) }
     ensures workers { workers.new ≡ workers.old }
     ensures value { OnOk result (state_of mesh.new ≡ next run.now.job.problem.now (state_of mesh.old)) }
-    ensures patches { All (IsChopped run.now.job.problem.now.max_grid_size) (levels_of mesh.old) → OnOk result (All (IsChopped run.now.job.problem.now.max_grid_size) (levels_of mesh.new)) }
-    ensures coarsenable { OnOk result (AreCoarsenableAbove (levels_of mesh.new)) }
+    ensures patches { is_spent mesh.new ≡ false → All (IsChopped run.now.job.problem.now.max_grid_size) (levels_of mesh.old) → All (IsChopped run.now.job.problem.now.max_grid_size) (levels_of mesh.new) }
+    ensures coarsenable { is_spent mesh.new ≡ false → AreCoarsenableAbove (levels_of mesh.new) }
     ensures whole { OnOk result (is_spent mesh.new ≡ false) }
     ensures answer { OnOk result (A.answers after.old (next run.now.job.problem.now (state_of mesh.old)) (Ok tt) after.new) }
     ensures ready { OnOk result ((s : State) → (next run.now.job.problem.now (state_of mesh.old)).step < s.step → A.ready after.old s → A.ready after.new s) }
@@ -113,7 +112,7 @@ pub(crate) fn make_steps<R: Threads + Wait + Sync, G: Gate + Sync, A: AfterStep>
 /// last.
 ///
 /// No patch of a level above level 0 cuts a cell of the next coarser level. Levels that are in the patches that the problem asks for
-/// are so afterwards.
+/// are so afterwards. Both hold after a refusal too, where the mesh is not spent: the run can be gone on with from there.
 ///
 /// `After` comes exactly where a call of `after` was refused; the mesh is then as after that step. After `NoMemory` the mesh is
 /// spent, or as after the last step made, and `spent` tells which. The crew has one rank, and from 1 to 64 workers. The call
@@ -140,10 +139,9 @@ pub fn drive<R: Threads + Wait + Sync, G: Gate + Sync, A: AfterStep>(
     requires gate { (worker task : ℕ) → worker < crew.workers → G.admits gate.now worker task }
     ensures value { OnOk result (state_of mesh.new ≡ finish p.now (state_of mesh.old) target) }
     ensures sound { OnOk result (IsSound p.now (state_of mesh.new)) }
-    ensures patches { All (IsChopped p.now.max_grid_size) (levels_of mesh.old) → OnOk result (All (IsChopped p.now.max_grid_size) (levels_of mesh.new)) }
-    ensures coarsenable { OnOk result (AreCoarsenableAbove (levels_of mesh.new)) }
+    ensures patches { is_spent mesh.new ≡ false → All (IsChopped p.now.max_grid_size) (levels_of mesh.old) → All (IsChopped p.now.max_grid_size) (levels_of mesh.new) }
+    ensures coarsenable { is_spent mesh.new ≡ false → AreCoarsenableAbove (levels_of mesh.new) }
     ensures whole { OnOk result (is_spent mesh.new ≡ false) }
-    ensures held { RunHoldsTags p.now (state_of mesh.old) target }
     ensures made { OnOk result (A.made after.old (states_after p.now (state_of mesh.old) (target - (state_of mesh.old).step)) (Ok tt) after.new) }
     ensures refused { (f : _) → IsErrOf result (DriveFault.After f) → (n : ℕ) × (0 < n) × ((state_of mesh.old).step + n ≤ target) × (is_spent mesh.new ≡ false) × (state_of mesh.new ≡ finish p.now (state_of mesh.old) ((state_of mesh.old).step + n)) × A.made after.old (states_after p.now (state_of mesh.old) n) (Err f) after.new }
     ensures memory { IsErrOf result DriveFault.NoMemory → (n : ℕ) × ((state_of mesh.old).step + n < target) × ((is_spent mesh.new ≡ true) ⊎ ((is_spent mesh.new ≡ false) × (state_of mesh.new ≡ finish p.now (state_of mesh.old) ((state_of mesh.old).step + n)))) × A.made after.old (states_after p.now (state_of mesh.old) n) (Ok tt) after.new }

@@ -49,8 +49,8 @@ fn regrid_if_due<R: Threads + Sync>(
     requires current { IsCurrent (state_of mesh.old).levels kept.old }
     ensures value { OnOk result (state_of mesh.new ≡ cond (regrid_is_due p.now (state_of mesh.old)) (regrid p.now (state_of mesh.old)) (state_of mesh.old)) }
     ensures sound { OnOk result (IsSound p.now (state_of mesh.new)) }
-    ensures patches { All (IsChopped p.now.max_grid_size) (levels_of mesh.old) → OnOk result (All (IsChopped p.now.max_grid_size) (levels_of mesh.new)) }
-    ensures coarsenable { OnOk result (AreCoarsenableAbove (levels_of mesh.new)) }
+    ensures patches { All (IsChopped p.now.max_grid_size) (levels_of mesh.old) → All (IsChopped p.now.max_grid_size) (levels_of mesh.new) }
+    ensures coarsenable { AreCoarsenableAbove (levels_of mesh.new) }
     ensures kept { OnOk result (IsKept p.now kept.new) }
     ensures current { OnOk result (IsCurrent (state_of mesh.new).levels kept.new) }
     ensures whole { is_spent mesh.new ≡ false }
@@ -95,8 +95,8 @@ pub(crate) fn make_next<R: Threads + Wait + Sync, G: Gate + Sync>(
     ensures workers { workers.new ≡ workers.old }
     ensures value { OnOk result (state_of mesh.new ≡ next run.now.job.problem.now (state_of mesh.old)) }
     ensures sound { OnOk result (IsSound run.now.job.problem.now (state_of mesh.new)) }
-    ensures patches { All (IsChopped run.now.job.problem.now.max_grid_size) (levels_of mesh.old) → OnOk result (All (IsChopped run.now.job.problem.now.max_grid_size) (levels_of mesh.new)) }
-    ensures coarsenable { OnOk result (AreCoarsenableAbove (levels_of mesh.new)) }
+    ensures patches { is_spent mesh.new ≡ false → All (IsChopped run.now.job.problem.now.max_grid_size) (levels_of mesh.old) → All (IsChopped run.now.job.problem.now.max_grid_size) (levels_of mesh.new) }
+    ensures coarsenable { is_spent mesh.new ≡ false → AreCoarsenableAbove (levels_of mesh.new) }
     ensures whole { OnOk result (is_spent mesh.new ≡ false) }
     ensures kept { OnOk result (IsKept run.now.job.problem.now kept.new) }
     ensures current { OnOk result (IsCurrent (state_of mesh.new).levels kept.new) }

@@ -7,7 +7,6 @@ ghost use Rattle.amr_def.specs.Run.{start};
 ghost use Rattle.amr_patch.specs.Meshes.{is_spent, levels_of, state_of};
 ghost use Rattle.amr_start.specs.PatchBoxes.{IsChopped};
 ghost use Rattle.amr_cycle.specs.Cycles.{AreCoarsenableAbove};
-ghost use Rattle.amr_drive.specs.Regrids.{StartHoldsTags};
 
 use amr_causes::NoMemory;
 use amr_def::Problem;
@@ -17,13 +16,12 @@ use amr_start::base;
 use std::alloc::Global;
 
 /// The start of a run (Berger and Colella 1989): level 0 with the masses of the blocks, regridded once for each level
-/// that the problem may have above it. So each regrid may add one. It is at step 0. Each tagged cell of a regrid is
-/// covered after it, and each level is in patches of at most `max_grid_size` by `max_grid_size` cells. `NoMemory` is
-/// the only refusal.
+/// that the problem may have above it. So each regrid may add one, and covers each cell that it tagged (`start_holds_tags`).
+/// It is at step 0, and each level is in patches of at most `max_grid_size` by `max_grid_size` cells. `NoMemory` is the
+/// only refusal.
 pub fn start(alloc: Global, p: &Problem) -> Result<Mesh, NoMemory>
     ensures value { IfOk result (λ m. state_of m ≡ start p.now) }
     ensures sound { IfOk result (λ m. IsSound p.now (state_of m)) }
-    ensures held { StartHoldsTags p.now }
     ensures patches { IfOk result (λ m. All (IsChopped p.now.max_grid_size) (levels_of m)) }
     ensures coarsenable { IfOk result (λ m. AreCoarsenableAbove (levels_of m)) }
     ensures whole { IfOk result (λ m. is_spent m ≡ false) }

@@ -6,7 +6,7 @@ use Rattle.amr_def.proofs.Runs.{finish_step}
 use Rattle.amr_patch.specs.Meshes.{is_spent, state_of}
 use Rattle.amr_drive.specs.States.{states_after}
 use Rattle.amr_drive.specs.declared.drives.DriveFault.TheVariants.{After, NoMemory}
-use Rattle.amr_drive.proofs.Finishes.{after_more, finish_here, finish_more, finish_sound, no_fault, none_after, not_done, run_holds, through}
+use Rattle.amr_drive.proofs.Finishes.{after_more, finish_here, finish_more, finish_sound, no_fault, none_after, not_done, through}
 use Rattle.amr_drive.proofs.drives.make_steps.Goals as goal
 
 pub loop-step-init : goal.loop-step-init
@@ -58,10 +58,9 @@ pub returns-in_err-make_step : goal.returns-in_err-make_step
 returns-in_err-make_step g c = record {
   value = not_done _ _ c.from_residual.result c.from_residual.ensures.1;
   sound = not_done _ _ c.from_residual.result c.from_residual.ensures.1;
-  patches = λ _. not_done _ _ c.from_residual.result c.from_residual.ensures.1;
-  coarsenable = not_done _ _ c.from_residual.result c.from_residual.ensures.1;
+  patches = λ left h. c.make_step.ensures.patches left (c.loop-step.invariant.patches h);
+  coarsenable = c.make_step.ensures.coarsenable;
   whole = not_done _ _ c.from_residual.result c.from_residual.ensures.1;
-  held = run_holds c.args.run.now.job.problem.now (state_of c.args.mesh.now) c.args.run.now.target c.requires.may.sound c.requires.may.within;
   all_made = not_done _ _ c.from_residual.result c.from_residual.ensures.1;
   refused = λ f is.
       let p = c.args.run.now.job.problem.now in
@@ -109,8 +108,8 @@ loop-step-preserved g c =
       value = said.value ∙ state;
       kept = said.kept;
       current = said.current;
-      patches = λ h. said.patches (c.loop-step.invariant.patches h);
-      coarsenable = said.coarsenable;
+      patches = λ h. said.patches said.whole (c.loop-step.invariant.patches h);
+      coarsenable = said.coarsenable said.whole;
       made = subst (λ (ss : List State). g.A.AfterStep.made c.args.after.now ss (Ok tt) c.make_step.new.after) (after_more p s k (next p (state_of c.loop-step.mesh)) from state ∙ ap (states_after p s) count)
           (g.met.A.AfterStep.made_more c.args.after.now c.loop-step.after c.make_step.new.after (states_after p s (k - s.step)) (next p (state_of c.loop-step.mesh)) (Ok tt) c.loop-step.invariant.made said.answer);
       ready = λ j more upto.
@@ -127,10 +126,9 @@ returns g c =
     record {
       value = c.loop-step.invariant.value ∙ ap (finish p s) last;
       sound = subst (IsSound p) (sym c.loop-step.invariant.value) (finish_sound p s c.loop-step._step c.requires.may.sound (omega (arith, last, c.requires.may.within)));
-      patches = c.loop-step.invariant.patches;
-      coarsenable = c.loop-step.invariant.coarsenable;
+      patches = λ _. c.loop-step.invariant.patches;
+      coarsenable = λ _. c.loop-step.invariant.coarsenable;
       whole = c.loop-step.invariant.whole;
-      held = run_holds p s c.args.run.now.target c.requires.may.sound c.requires.may.within;
       all_made = subst (λ n. g.A.AfterStep.made c.args.after.now (states_after p s (n - s.step)) (Ok tt) c.loop-step.after) last c.loop-step.invariant.made;
       refused = λ f is. no_fault tt (After f) is;
       memory = λ is. no_fault tt NoMemory is;

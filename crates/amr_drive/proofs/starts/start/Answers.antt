@@ -1,11 +1,8 @@
 use Rattle.std.proofs.Common.{arith}
 use Rattle.amr_patch.specs.Meshes.{state_of}
 use Rattle.amr_drive.proofs.Kept.{coarsenable}
-use Rattle.amr_drive.proofs.StartLaws.{base-chopped, start-begun, start-holds_tags, start-onward}
+use Rattle.amr_drive.proofs.StartLaws.{base-chopped, start-begun, start-onward}
 use Rattle.amr_drive.proofs.starts.start.Goals as goal
-
-pub returns-in_err-mesh-clause-held : goal.returns-in_err-mesh-clause-held
-returns-in_err-mesh-clause-held c = start-holds_tags c.args.p.now
 
 pub loop-regrid-init : goal.loop-regrid-init
 loop-regrid-init c = record {
@@ -15,9 +12,6 @@ loop-regrid-init c = record {
   whole = c.in_ok-mesh.ensures.whole;
 }
 
-pub returns-in_err-regrid-clause-held : goal.returns-in_err-regrid-clause-held
-returns-in_err-regrid-clause-held c = start-holds_tags c.args.p.now
-
 pub loop-regrid-preserved : goal.loop-regrid-preserved
 loop-regrid-preserved c = record {
   state = start-onward c.args.p.now c.loop-regrid._regrid (state_of c.loop-regrid.mesh) (state_of c.regrid.new.mesh) (omega arith) c.in_ok-regrid.ensures.value c.loop-regrid.invariant.state;
@@ -25,9 +19,6 @@ loop-regrid-preserved c = record {
   patches = c.in_ok-regrid.ensures.patches c.loop-regrid.invariant.patches;
   whole = c.in_ok-regrid.ensures.whole;
 }
-
-pub returns-clause-held : goal.returns-clause-held
-returns-clause-held c = start-holds_tags c.args.p.now
 
 pub returns-clause-coarsenable : goal.returns-clause-coarsenable
 returns-clause-coarsenable c = coarsenable c.args.p.now c.loop-regrid.mesh c.loop-regrid.invariant.sound c.loop-regrid.invariant.patches
