@@ -3,3 +3,4 @@ pub mod Rows
 pub mod Numbers
 pub mod Program
 pub mod Words
+pub mod Laws

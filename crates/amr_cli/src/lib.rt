@@ -6,6 +6,7 @@
 #![tactic(auto)]
 
 mod command;
+mod laws;
 mod line;
 mod number;
 mod options;
@@ -14,5 +15,6 @@ mod table;
 mod words;
 
 pub use command::Command;
+pub use laws::{numbers_are_read_alike, usage_has_no_other_cause};
 pub use line::Line;
 pub use words::{CliFault, parse};
