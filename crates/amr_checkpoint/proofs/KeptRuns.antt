@@ -2,12 +2,12 @@
 use Rattle.std.proofs.Common.{◌≡◌, ℕ, ◌≤◌, List, [], ◌∷◌, ◌++◌, Option, Some, None, refl, sym, ◌∙◌, ap, subst, arith}
 use Rattle.std.proofs.lemmas.List.{append-nil}
 use Rattle.std.specs.List.{flat_map}
-use Rattle.std.specs.Prelude.{◌⊎◌}
+use Rattle.std.specs.Prelude.{◌≢◌, ◌⊎◌}
 use Rattle.amr_causes.specs.Bytes.{IsPrefix}
 use Rattle.amr_causes.specs.Causes.{Rose}
 use Rattle.amr_causes.proofs.ByteLaws.{grows_none, prefix_none, prefix_whole}
 use Rattle.amr_io.specs.Short.{IsProperPrefix}
-use Rattle.amr_io.proofs.Shorter.{proper_longer}
+use Rattle.amr_io.proofs.Shorter.{proper_after, proper_longer}
 use Rattle.amr_def.specs.declared.problem.Problem.{Problem}
 use Rattle.amr_def.specs.State.{State}
 use Rattle.amr_disk.specs.Image.{Only}
@@ -17,39 +17,64 @@ use Rattle.amr_checkpoint.specs.declared.faults.KeepFault.{KeepFault}
 use Rattle.amr_checkpoint.specs.declared.faults.KeepFault.TheVariants as fault
 use Rattle.amr_checkpoint.specs.Checkpoints.{StaysTold}
 use Rattle.amr_checkpoint.specs.Contents.{Content, Empty, Fresh, Holds}
-use Rattle.amr_checkpoint.specs.Kept.{AreFirstOf, EndsAt, FailsBy, IsBegunBy, Keeps, KeepsRun, SameUntil, SaysBy, SaysOfRun, StandsAt, StandsBy, contents_at, lines_of, marked}
+use Rattle.amr_checkpoint.specs.Kept.{AreFirstOf, EndsAt, ErrFailsBy, FailsBy, History, IsBegunBy, IsCutAtLast, IsSaid, Keeps, KeepsRun, SameUntil, SaysOfRun, StandsAt, StandsBy, contents_at, marked}
+use Rattle.amr_checkpoint.specs.Made.{ReadsWith}
 use Rattle.amr_checkpoint.specs.Laws.{IsInSequence}
-use Rattle.amr_checkpoint.specs.Marks.{acknowledgements, checkpoint_line, marks, to_make}
+use Rattle.amr_checkpoint.specs.Marks.{acknowledgement, acknowledgements, checkpoint_line, marks, to_make}
 use Rattle.amr_checkpoint.specs.Refusals.{GoesOn}
 use Rattle.amr_checkpoint.specs.Times.{StopsLeave, Time, contents_of}
-use Rattle.amr_checkpoint.proofs.KeptStates.{lines_on}
+use Rattle.amr_checkpoint.proofs.KeptStates.{acks_on, contents_on, reads_with_more}
 use Rattle.amr_checkpoint.proofs.Progress.{acknowledges_marks, checkpoints_rise}
 use Rattle.amr_checkpoint.proofs.Stopping.{leave_begun, leave_done, leave_tried}
 
 -- ---- what was said
 
-acks_of : (bytes : List ℕ) (p : Problem) (xs : List State) → acknowledgements (contents_at bytes p xs) ≡ lines_of xs
-acks_of bytes p [] = refl
-acks_of bytes p (s ∷ xs) = ap (λ (t : List ℕ). checkpoint_line s.step ++ t) (acks_of bytes p xs)
+first_lines : (bytes : List ℕ) (p : Problem) (all first rest : List State) → first ++ rest ≡ all → acknowledgements (contents_at bytes p first) ++ acknowledgements (contents_at bytes p rest) ≡ acknowledgements (contents_at bytes p all)
+first_lines bytes p all first rest split =
+    sym (acks_on (contents_at bytes p first) (contents_at bytes p rest)) ∙ ap acknowledgements (sym (contents_on bytes p first rest)) ∙ ap (λ (ss : List State). acknowledgements (contents_at bytes p ss)) split
 
-first_lines : (all first : List State) → AreFirstOf all first → IsPrefix (lines_of first) (lines_of all)
-first_lines all first h = record { rest = lines_of h.rest; split = sym (lines_on first h.rest) ∙ ap lines_of h.split }
+-- the line of the last was cut short, so all of them were
+cut_short : (said : List ℕ) (made : List Content) → IsCutAtLast said made → IsProperPrefix said (acknowledgements made)
+cut_short said made h =
+    subst (λ (t : List ℕ). IsProperPrefix t (acknowledgements made)) h.all
+    (subst (IsProperPrefix (acknowledgements h.front ++ h.part))
+    (ap (λ (t : List ℕ). acknowledgements h.front ++ t) (sym (append-nil (acknowledgement h.last))) ∙ sym (acks_on h.front (h.last ∷ [])) ∙ ap acknowledgements h.split)
+    (proper_after (acknowledgements h.front) h.part (acknowledgement h.last) h.cut))
 
-run_says : (ended : Option KeepFault) (all stood : List State) (said lines : List ℕ) (before now : ℕ) → StandsBy ended all stood → SaysBy ended said (lines_of stood) before now → lines_of all ≡ lines → SaysOfRun ended said lines before now
-run_says None all stood said lines before now stands says same = (says.0 ∙ ap lines_of stands ∙ same, says.1)
-run_says (Some fault.DiskFault) all stood said lines before now stands says same =
-    (subst (IsPrefix said) same (subst (λ (t : List ℕ). IsPrefix t (lines_of all)) (sym says.0) (first_lines all stood stands)), says.1)
-run_says (Some fault.NoMemory) all stood said lines before now stands says same =
-    (subst (IsPrefix said) same (subst (λ (t : List ℕ). IsPrefix t (lines_of all)) (sym says.0) (first_lines all stood stands)), says.1)
-run_says (Some fault.WriteFault) all stood said lines before now stands says same =
-    (subst (IsProperPrefix said) (sym (lines_on stood stands.rest) ∙ ap lines_of stands.split ∙ same) (proper_longer said (lines_of stood) (lines_of stands.rest) says.0), says.1)
+first_said : (bytes : List ℕ) (p : Problem) (all stood : List State) (said lines : List ℕ) → AreFirstOf all stood → said ≡ acknowledgements (contents_at bytes p stood) → acknowledgements (contents_at bytes p all) ≡ lines → IsPrefix said lines
+first_said bytes p all stood said lines stands says same = record {
+  rest = acknowledgements (contents_at bytes p stands.rest);
+  split = ap (λ (t : List ℕ). t ++ acknowledgements (contents_at bytes p stands.rest)) says ∙ first_lines bytes p all stood stands.rest stands.split ∙ same;
+}
 
--- of what stands
-said_stands : (ended : Option KeepFault) (said lines : List ℕ) (before now : ℕ) → SaysBy ended said lines before now → IsPrefix said lines
-said_stands None said lines before now says = subst (λ (t : List ℕ). IsPrefix t lines) (sym says.0) (prefix_whole lines)
-said_stands (Some fault.DiskFault) said lines before now says = subst (λ (t : List ℕ). IsPrefix t lines) (sym says.0) (prefix_whole lines)
-said_stands (Some fault.NoMemory) said lines before now says = subst (λ (t : List ℕ). IsPrefix t lines) (sym says.0) (prefix_whole lines)
-said_stands (Some fault.WriteFault) said lines before now says = record { rest = says.0.rest; split = says.0.split }
+run_says : (ended : Option KeepFault) (bytes : List ℕ) (p : Problem) (all stood : List State) (said lines : List ℕ) (before now : ℕ) → StandsBy ended all stood → IsSaid ended said (contents_at bytes p stood) → ErrFailsBy ended before now
+    → acknowledgements (contents_at bytes p all) ≡ lines → SaysOfRun ended said lines before now
+run_says None bytes p all stood said lines before now stands says fails same = (says ∙ ap (λ (ss : List State). acknowledgements (contents_at bytes p ss)) stands ∙ same, fails)
+run_says (Some fault.DiskFault) bytes p all stood said lines before now stands says fails same = (first_said bytes p all stood said lines stands says same, fails)
+run_says (Some fault.NoMemory) bytes p all stood said lines before now stands says fails same = (first_said bytes p all stood said lines stands says same, fails)
+run_says (Some fault.WriteFault) bytes p all stood said lines before now stands says fails same = (
+  subst (IsProperPrefix said) (first_lines bytes p all stood stands.rest stands.split ∙ same)
+      (proper_longer said (acknowledgements (contents_at bytes p stood)) (acknowledgements (contents_at bytes p stands.rest)) (cut_short said (contents_at bytes p stood) says)),
+  fails,
+)
+
+-- what was said is of what has its time
+said_made : (ended : Option KeepFault) (said : List ℕ) (made others : List Content) → others ≡ made → IsSaid ended said made → IsSaid ended said others
+said_made ended said made others same says = subst (IsSaid ended said) (sym same) says
+
+-- a store that was made is said nothing of
+said_new : (ended : Option KeepFault) (said : List ℕ) (bytes : List ℕ) (p : Problem) (made : List Content) → IsSaid ended said made → IsSaid ended said (Fresh bytes p ∷ made)
+said_new None said bytes p made says = says
+said_new (Some fault.DiskFault) said bytes p made says = says
+said_new (Some fault.NoMemory) said bytes p made says = says
+said_new (Some fault.WriteFault) said bytes p made says = record {
+  front = Fresh bytes p ∷ says.front;
+  last = says.last;
+  part = says.part;
+  split = ap (λ (cs : List Content). Fresh bytes p ∷ cs) says.split;
+  all = says.all;
+  cut = says.cut;
+}
 
 module _ {D E : Type 0} (seen : D → Option (List ℕ)) (moment : D → ℕ) (leaves : D → ℕ → List ℕ → Type 0) (disk_faults : D → ℕ) (holds : E → List ℕ → Type 0) (err_faults : E → ℕ) (bytes : List ℕ) (p : Problem) (every target : ℕ) where
   ends_leave : (old : D) (ended : Option KeepFault) (d : D) (found : Time) (all : List Content) (times : List Time) → EndsAt seen moment leaves old ended d found all times
@@ -66,9 +91,6 @@ module _ {D E : Type 0} (seen : D → Option (List ℕ)) (moment : D → ℕ) (l
   -- after calls
   same_after : {P : List ℕ → Type 0} (d later_d : D) → StopsIn moment leaves d later_d P → SameUntil (moment d) (leaves d) (leaves later_d)
   same_after d later_d run = record { still = run.still; kept = run.kept }
-
-  acknowledged : (said : List ℕ) (stood : List State) (times : List Time) → IsPrefix said (lines_of stood) → contents_of times ≡ contents_at bytes p stood → IsPrefix said (acknowledgements (contents_of times))
-  acknowledged said stood times is made = subst (IsPrefix said) (sym (ap acknowledgements made ∙ acks_of bytes p stood)) is
 
   -- how calls end from a store that is there
   run_ends : (d later_d : D) (e later_e : E) (found : Content) (states : List State) (ended : Option KeepFault) → (h : Keeps seen moment leaves disk_faults holds err_faults bytes p every target d later_d e later_e states ended)
@@ -91,19 +113,21 @@ module _ {D E : Type 0} (seen : D → Option (List ℕ)) (moment : D → ℕ) (l
   run_kept d later_d e later_e found states ended h made on order = record {
     said = h.said;
     grows = h.grows;
-    says = run_says ended (marked every target states) h.stood h.said (flat_map checkpoint_line (marks every found target)) (err_faults e) (err_faults later_e) h.stands h.says
-        (sym (acks_of bytes p (marked every target states)) ∙ ap acknowledgements made ∙ acknowledges_marks bytes p every target found on);
+    says = run_says ended bytes p (marked every target states) h.stood h.said (flat_map checkpoint_line (marks every found target)) (err_faults e) (err_faults later_e) h.stands h.says h.err_fails
+        (ap acknowledgements made ∙ acknowledges_marks bytes p every target found on);
     later = h.later;
     fails = h.fails;
-    stops = λ image told held settled.
+    settled = h.settled;
+    history = λ image told held settled.
         let end = run_ends d later_d e later_e found states ended h made on order image told held settled in
         record {
           times = end.0;
           attempt = end.2;
           leave = end.3;
-          acknowledged = acknowledged h.said h.stood end.0 (said_stands ended h.said (lines_of h.stood) (err_faults e) (err_faults later_e) h.says) end.1;
+          begun = end.5;
+          acknowledged = said_made ended h.said (contents_at bytes p h.stood) (contents_of end.0) end.1 h.says;
+          made = λ no. subst (ReadsWith (seen later_d) image) (sym end.1) (h.made no image told);
         };
-    begun = λ image told held settled. (run_ends d later_d e later_e found states ended h made on order image told held settled).5;
     past = λ image told held settled. (run_ends d later_d e later_e found states ended h made on order image told held settled).4;
   }
 
@@ -137,24 +161,29 @@ module _ {D E : Type 0} (seen : D → Option (List ℕ)) (moment : D → ℕ) (l
   -- from one that was made
   pub run_kept_new : (d made_d later_d : D) (e later_e : E) (states : List State) (ended : Option KeepFault) → Keeps seen moment leaves disk_faults holds err_faults bytes p every target made_d later_d e later_e states ended
       → Fresh bytes p ∷ contents_at bytes p (marked every target states) ≡ to_make bytes p every Empty target → disk_faults made_d ≡ disk_faults d → StaysTold (seen d) (seen made_d) → Only (seen made_d) (leaves made_d (moment made_d))
+      → ((image : List ℕ) → seen d ≡ Some image → ReadsWith (seen made_d) image (Fresh bytes p ∷ []))
       → ((t : List ℕ) → seen made_d ≡ Some t → Holds t (Fresh bytes p)) → ((s : List ℕ) → seen d ≡ Some s → StopsIn moment leaves d made_d (λ c. Holds c Empty ⊎ Holds c (Fresh bytes p)))
       → KeepsRun seen moment leaves disk_faults holds err_faults bytes p every target Empty d later_d e later_e ended
-  run_kept_new d made_d later_d e later_e states ended h made same told_on settled_on holds_fresh stops = record {
+  run_kept_new d made_d later_d e later_e states ended h made same told_on settled_on makes holds_fresh stops = record {
     said = h.said;
     grows = h.grows;
-    says = run_says ended (marked every target states) h.stood h.said (flat_map checkpoint_line (marks every Empty target)) (err_faults e) (err_faults later_e) h.stands h.says
-        (sym (acks_of bytes p (marked every target states)) ∙ ap acknowledgements made ∙ acknowledges_marks bytes p every target Empty tt);
+    says = run_says ended bytes p (marked every target states) h.stood h.said (flat_map checkpoint_line (marks every Empty target)) (err_faults e) (err_faults later_e) h.stands h.says h.err_fails
+        (ap acknowledgements made ∙ acknowledges_marks bytes p every target Empty tt);
     later = omega (arith, same, h.later);
     fails = subst (λ n. FailsBy ended n (disk_faults later_d)) same h.fails;
-    stops = λ image told held settled.
+    settled = λ no only. h.settled no settled_on;
+    history = λ image told held settled.
         let end = run_ends_new d made_d later_d e later_e states ended h made told_on settled_on holds_fresh stops image told held settled in
+        let stood : List Content = contents_at bytes p h.stood in
         record {
           times = record { moment = moment made_d; content = Fresh bytes p } ∷ end.0;
           attempt = end.2;
           leave = end.3;
-          acknowledged = acknowledged h.said h.stood end.0 (said_stands ended h.said (lines_of h.stood) (err_faults e) (err_faults later_e) h.says) end.1;
+          begun = end.5;
+          acknowledged = said_new ended h.said bytes p (contents_of end.0) (said_made ended h.said stood (contents_of end.0) end.1 h.says);
+          made = λ no. subst (λ (cs : List Content). ReadsWith (seen later_d) image (Fresh bytes p ∷ cs)) (sym end.1)
+              (reads_with_more (Fresh bytes p) stood (seen made_d) (seen later_d) image (makes image told) (λ next is. h.made no next is));
         };
-    begun = λ image told held settled. (run_ends_new d made_d later_d e later_e states ended h made told_on settled_on holds_fresh stops image told held settled).5;
     past = λ image told held settled. (run_ends_new d made_d later_d e later_e states ended h made told_on settled_on holds_fresh stops image told held settled).4;
   }
 
@@ -168,16 +197,18 @@ module _ {D E : Type 0} (seen : D → Option (List ℕ)) (moment : D → ℕ) (l
     says = (prefix_none (flat_map checkpoint_line (marks every Empty target)), refl);
     later = later;
     fails = rose;
-    stops = λ image told held settled.
+    settled = λ no. absurd (no refl);
+    history = λ image told held settled.
         let all : List Content = to_make bytes p every Empty target in
         let first : Time = record { moment = moment d; content = Empty } in
         record {
           times = [];
           attempt = Some (Fresh bytes p);
           leave = leave_tried moment leaves d later_d first all [] (Fresh bytes p) rest (leave_begun moment leaves d (seen d) image Empty all told settled held) made (stops image told);
-          acknowledged = prefix_none (acknowledgements (contents_of []));
+          begun = tt;
+          acknowledged = refl;
+          made = λ no. absurd (no refl);
         };
-    begun = λ image told held settled. tt;
     past = λ image told held settled. same_after d later_d (stops image told);
   }
 
@@ -189,13 +220,15 @@ module _ {D E : Type 0} (seen : D → Option (List ℕ)) (moment : D → ℕ) (l
     says = (prefix_none (flat_map checkpoint_line (marks every Empty target)), refl);
     later = omega arith;
     fails = refl;
-    stops = λ image told held settled. record {
+    settled = λ no only. only;
+    history = λ image told held settled. record {
       times = [];
       attempt = None;
       leave = leave_begun moment leaves d (seen d) image Empty (to_make bytes p every Empty target) told settled held;
-      acknowledged = prefix_none (acknowledgements (contents_of []));
+      begun = refl;
+      acknowledged = refl;
+      made = λ no. (image, told, refl);
     };
-    begun = λ image told held settled. refl;
     past = λ image told held settled. same_now d;
   }
 

@@ -2,7 +2,9 @@
 use Rattle.std.proofs.Common.{◌≡◌, ℕ, ◌+◌, ◌≤◌, Bool, true, false, cond, List, [], ◌∷◌, ◌++◌, Option, Some, None, refl, sym, ◌∙◌, ap, subst, arith}
 use Rattle.std.proofs.lemmas.List.{append-nil, append_assoc, map-append}
 use Rattle.std.proofs.lemmas.List.Elements.{filter-append}
-use Rattle.std.specs.Prelude.{◌⊎◌}
+use Rattle.std.proofs.lemmas.Option.{none-some}
+use Rattle.std.specs.List.{flat_map}
+use Rattle.std.specs.Prelude.{◌≢◌, ◌⊎◌}
 use Rattle.amr_causes.specs.Bytes.{Grows}
 use Rattle.amr_causes.specs.Causes.{Rose}
 use Rattle.amr_causes.proofs.ByteLaws.{grows_more, grows_none}
@@ -17,22 +19,23 @@ use Rattle.amr_checkpoint.specs.declared.faults.KeepFault.{KeepFault}
 use Rattle.amr_checkpoint.specs.declared.faults.KeepFault.TheVariants as fault
 use Rattle.amr_checkpoint.specs.Checkpoints.{StaysTold}
 use Rattle.amr_checkpoint.specs.Contents.{Content, At, Holds}
-use Rattle.amr_checkpoint.specs.Kept.{EndsAt, FailsBy, Keeps, SameUntil, SaysBy, StandsAt, StandsBy, contents_at, lines_of, marked}
+use Rattle.amr_checkpoint.specs.Made.{HasPut, Makes, MakesAll, ReadsWith}
+use Rattle.amr_checkpoint.specs.Kept.{EndsAt, ErrFailsBy, FailsBy, IsCutAtLast, IsSaid, Keeps, SameUntil, StandsAt, StandsBy, contents_at, marked}
 use Rattle.amr_checkpoint.specs.Laws.{AreRising}
-use Rattle.amr_checkpoint.specs.Marks.{checkpoint_line, is_mark}
+use Rattle.amr_checkpoint.specs.Marks.{acknowledgement, acknowledgements, checkpoint_line, is_mark}
 use Rattle.amr_checkpoint.specs.Times.{StopsLeave, Time, contents_of, last_of}
 use Rattle.amr_checkpoint.proofs.Stopping.{along_now, leave_done, leave_tried, rises_at}
 
 -- ---- lists
 
-pub lines_on : (xs ys : List State) → lines_of (xs ++ ys) ≡ lines_of xs ++ lines_of ys
-lines_on [] ys = refl
-lines_on (s ∷ xs) ys = ap (λ (t : List ℕ). checkpoint_line s.step ++ t) (lines_on xs ys) ∙ sym (append_assoc (checkpoint_line s.step) (lines_of xs) (lines_of ys))
+pub acks_on : (xs ys : List Content) → acknowledgements (xs ++ ys) ≡ acknowledgements xs ++ acknowledgements ys
+acks_on [] ys = refl
+acks_on (x ∷ xs) ys = ap (λ (t : List ℕ). acknowledgement x ++ t) (acks_on xs ys) ∙ sym (append_assoc (acknowledgement x) (acknowledgements xs) (acknowledgements ys))
 
 marked_on : (every target : ℕ) (xs ys : List State) → marked every target (xs ++ ys) ≡ marked every target xs ++ marked every target ys
 marked_on every target xs ys = filter-append (λ (s : State). is_mark every target s.step) xs ys
 
-contents_on : (bytes : List ℕ) (p : Problem) (xs ys : List State) → contents_at bytes p (xs ++ ys) ≡ contents_at bytes p xs ++ contents_at bytes p ys
+pub contents_on : (bytes : List ℕ) (p : Problem) (xs ys : List State) → contents_at bytes p (xs ++ ys) ≡ contents_at bytes p xs ++ contents_at bytes p ys
 contents_on bytes p xs ys = map-append (λ (s : State). At bytes p s (s.step + 1)) xs ys
 
 pub times_on : (xs ys : List Time) → contents_of (xs ++ ys) ≡ contents_of xs ++ contents_of ys
@@ -44,12 +47,36 @@ last_more found (next ∷ times) time = last_more next times time
 
 -- ---- what was said
 
-says_on : (ended : Option KeepFault) (a b front lines : List ℕ) (x y z : ℕ) → a ≡ front → y ≡ x → SaysBy ended b lines y z → SaysBy ended (a ++ b) (front ++ lines) x z
-says_on None a b front lines x y z same none says = (cc, says.1 ∙ none)
-says_on (Some fault.DiskFault) a b front lines x y z same none says = (cc, says.1 ∙ none)
-says_on (Some fault.NoMemory) a b front lines x y z same none says = (cc, says.1 ∙ none)
-says_on (Some fault.WriteFault) a b front lines x y z same none says =
-    (subst (λ (t : List ℕ). IsProperPrefix (t ++ b) (front ++ lines)) (sym same) (proper_after front b lines says.0), subst (λ n. Rose n z) none says.1)
+whole_on : (a b : List ℕ) (front made : List Content) → a ≡ acknowledgements front → b ≡ acknowledgements made → a ++ b ≡ acknowledgements (front ++ made)
+whole_on a b front made first next = ap (λ (t : List ℕ). t ++ b) first ∙ ap (λ (t : List ℕ). acknowledgements front ++ t) next ∙ sym (acks_on front made)
+
+says_on : (ended : Option KeepFault) (a b : List ℕ) (front made : List Content) → a ≡ acknowledgements front → IsSaid ended b made → IsSaid ended (a ++ b) (front ++ made)
+says_on None a b front made same says = whole_on a b front made same says
+says_on (Some fault.DiskFault) a b front made same says = whole_on a b front made same says
+says_on (Some fault.NoMemory) a b front made same says = whole_on a b front made same says
+says_on (Some fault.WriteFault) a b front made same says = record {
+  front = front ++ says.front;
+  last = says.last;
+  part = says.part;
+  split = append_assoc front says.front (says.last ∷ []) ∙ ap (λ (t : List Content). front ++ t) says.split;
+  all = ap (λ (t : List ℕ). t ++ says.part) (acks_on front says.front)
+      ∙ append_assoc (acknowledgements front) (acknowledgements says.front) says.part
+      ∙ ap (λ (t : List ℕ). acknowledgements front ++ t) says.all
+      ∙ ap (λ (t : List ℕ). t ++ b) (sym same);
+  cut = says.cut;
+}
+
+err_on : (ended : Option KeepFault) (x y z : ℕ) → y ≡ x → ErrFailsBy ended y z → ErrFailsBy ended x z
+err_on ended x y z none fails = subst (λ n. ErrFailsBy ended n z) none fails
+
+-- ---- what was made
+
+makes_on : (xs ys : List Content) (a b c : List ℕ) → MakesAll xs a b → MakesAll ys b c → MakesAll (xs ++ ys) a c
+makes_on [] ys a b c same more = subst (λ (i : List ℕ). MakesAll ys i c) same more
+makes_on (x ∷ xs) ys a b c first more = (first.0, first.1, makes_on xs ys first.0 b c first.2 more)
+
+pub reads_with_more : (x : Content) (xs : List Content) (one two : Option (List ℕ)) (a : List ℕ) → ReadsWith one a (x ∷ []) → ((b : List ℕ) → one ≡ Some b → ReadsWith two b xs) → ReadsWith two a (x ∷ xs)
+reads_with_more x xs one two a first next = let more = next first.0 first.1 in (more.0, more.1, makes_on (x ∷ []) xs a first.0 more.0 first.2 more.2)
 
 -- ---- what stands
 
@@ -68,9 +95,12 @@ module _ {D E : Type 0} (seen : D → Option (List ℕ)) (moment : D → ℕ) (l
     said = [];
     stands = ap (λ (b : Bool). cond b (s ∷ []) []) (sym no_mark);
     grows = grows_none holds e;
-    says = (refl, refl);
+    says = refl;
+    err_fails = refl;
     later = omega arith;
     fails = refl;
+    settled = λ no only. only;
+    made = λ no image told. (image, told, refl);
     stops = λ old found all rest times at split rising. ([], refl, subst (λ (ts : List Time). StandsAt seen moment leaves old d found all ts) (sym (append-nil times)) at);
   }
 
@@ -98,9 +128,12 @@ module _ {D E : Type 0} (seen : D → Option (List ℕ)) (moment : D → ℕ) (l
     said = [];
     stands = record { rest = marked every target (s ∷ []); split = refl };
     grows = grows_none holds e;
-    says = (refl, refl);
+    says = refl;
+    err_fails = refl;
     later = later;
     fails = rose;
+    settled = λ no. absurd (no refl);
+    made = λ no. absurd (no refl);
     stops = λ old found all rest times at split rising. (
       [],
       refl,
@@ -134,16 +167,20 @@ module _ {D E : Type 0} (seen : D → Option (List ℕ)) (moment : D → ℕ) (l
   -- a checkpoint that stands and was acknowledged
   pub keeps_stood : (d later_d : D) (e later_e : E) (s : State) → is_mark every target s.step ≡ true → Grows holds e later_e (checkpoint_line s.step) → err_faults later_e ≡ err_faults e → disk_faults later_d ≡ disk_faults d
       → StaysTold (seen d) (seen later_d) → Only (seen later_d) (leaves later_d (moment later_d)) → ((t : List ℕ) → seen later_d ≡ Some t → Holds t (At bytes p s (s.step + 1)))
+      → ((image : List ℕ) → seen d ≡ Some image → ReadsWith (seen later_d) image (At bytes p s (s.step + 1) ∷ []))
       → ((image : List ℕ) (content : Content) → seen d ≡ Some image → Holds image content → StopsIn moment leaves d later_d (λ c. Holds c content ⊎ Holds c (At bytes p s (s.step + 1))))
       → Keeps seen moment leaves disk_faults holds err_faults bytes p every target d later_d e later_e (s ∷ []) None
-  keeps_stood d later_d e later_e s mark grows no_fault same told settled held stops = record {
+  keeps_stood d later_d e later_e s mark grows no_fault same told settled held puts stops = record {
     stood = s ∷ [];
     said = checkpoint_line s.step;
     stands = ap (λ (b : Bool). cond b (s ∷ []) []) (sym mark);
     grows = grows;
-    says = (sym (append-nil (checkpoint_line s.step)), no_fault);
+    says = sym (append-nil (checkpoint_line s.step));
+    err_fails = no_fault;
     later = omega (arith, same);
     fails = same;
+    settled = λ no only. settled;
+    made = λ no image told. puts image told;
     stops = λ old found all rest times at split rising. (
       record { moment = moment later_d; content = At bytes p s (s.step + 1) } ∷ [],
       refl,
@@ -154,16 +191,20 @@ module _ {D E : Type 0} (seen : D → Option (List ℕ)) (moment : D → ℕ) (l
   -- one that stands, whose line did not go out whole
   pub keeps_unsaid : (d later_d : D) (e later_e : E) (s : State) → is_mark every target s.step ≡ true → FallsShort holds e later_e (checkpoint_line s.step) → Rose (err_faults e) (err_faults later_e) → disk_faults later_d ≡ disk_faults d
       → StaysTold (seen d) (seen later_d) → Only (seen later_d) (leaves later_d (moment later_d)) → ((t : List ℕ) → seen later_d ≡ Some t → Holds t (At bytes p s (s.step + 1)))
+      → ((image : List ℕ) → seen d ≡ Some image → ReadsWith (seen later_d) image (At bytes p s (s.step + 1) ∷ []))
       → ((image : List ℕ) (content : Content) → seen d ≡ Some image → Holds image content → StopsIn moment leaves d later_d (λ c. Holds c content ⊎ Holds c (At bytes p s (s.step + 1))))
       → Keeps seen moment leaves disk_faults holds err_faults bytes p every target d later_d e later_e (s ∷ []) (Some fault.WriteFault)
-  keeps_unsaid d later_d e later_e s mark short rose same told settled held stops = record {
+  keeps_unsaid d later_d e later_e s mark short rose same told settled held puts stops = record {
     stood = s ∷ [];
     said = short.0;
     stands = record { rest = []; split = ap (λ (b : Bool). cond b (s ∷ []) []) (sym mark) };
     grows = short.2;
-    says = (subst (IsProperPrefix short.0) (sym (append-nil (checkpoint_line s.step))) short.1, rose);
+    says = record { front = []; last = At bytes p s (s.step + 1); part = short.0; split = refl; all = refl; cut = short.1 };
+    err_fails = rose;
     later = omega (arith, same);
     fails = same;
+    settled = λ no only. settled;
+    made = λ no image told. puts image told;
     stops = λ old found all rest times at split rising. (
       record { moment = moment later_d; content = At bytes p s (s.step + 1) } ∷ [],
       refl,
@@ -198,10 +239,18 @@ module _ {D E : Type 0} (seen : D → Option (List ℕ)) (moment : D → ℕ) (l
     said = h.said ++ k.said;
     stands = subst (λ (t : List State). StandsBy ended t (h.stood ++ k.stood)) (sym (marked_on every target xs ys)) (stands_on ended (marked every target xs) (marked every target ys) h.stood k.stood h.stands k.stands);
     grows = grows_more holds e0 e1 e2 h.said k.said h.grows k.grows;
-    says = subst (λ (t : List ℕ). SaysBy ended (h.said ++ k.said) t (err_faults e0) (err_faults e2)) (sym (lines_on h.stood k.stood))
-        (says_on ended h.said k.said (lines_of h.stood) (lines_of k.stood) (err_faults e0) (err_faults e1) (err_faults e2) h.says.0 h.says.1 k.says);
+    says = subst (λ (cs : List Content). IsSaid ended (h.said ++ k.said) cs) (sym (contents_on bytes p h.stood k.stood)) (says_on ended h.said k.said (contents_at bytes p h.stood) (contents_at bytes p k.stood) h.says k.says);
+    err_fails = err_on ended (err_faults e0) (err_faults e1) (err_faults e2) h.err_fails k.err_fails;
     later = omega (arith, h.later, k.later);
     fails = subst (λ n. FailsBy ended n (disk_faults d2)) h.fails k.fails;
+    settled = λ no only. k.settled no (h.settled (λ is. none-some fault.DiskFault is) only);
+    made = λ no image told.
+        let first = h.made (λ is. none-some fault.DiskFault is) image told in
+        let next = k.made no first.0 first.1 in (
+          next.0,
+          next.1,
+          subst (λ (cs : List Content). MakesAll cs image next.0) (sym (contents_on bytes p h.stood k.stood)) (makes_on (contents_at bytes p h.stood) (contents_at bytes p k.stood) image first.0 next.0 first.2 next.2),
+        );
     stops = λ old found all rest times at split rising.
         let first = h.stops old found all (contents_at bytes p (marked every target ys) ++ rest) times at (split_on xs ys all rest times split) rising in
         let next = k.stops old found all rest (times ++ first.0) first.2 (split_made xs h.stood all (contents_at bytes p (marked every target ys) ++ rest) times first.0 h.stands first.1 (split_on xs ys all rest times split)) rising in (
@@ -224,7 +273,10 @@ module _ {D E : Type 0} (seen : D → Option (List ℕ)) (moment : D → ℕ) (l
     grows = h.grows;
     says = h.says;
     later = h.later;
+    err_fails = h.err_fails;
     fails = h.fails;
+    settled = λ no only. h.settled (λ is. none-some fault.DiskFault is) only;
+    made = λ no image told. h.made (λ is. none-some fault.DiskFault is) image told;
     stops = λ old found all rest times at split rising. h.stops old found all rest times at split rising;
   }
 
@@ -241,7 +293,10 @@ module _ {D E : Type 0} (seen : D → Option (List ℕ)) (moment : D → ℕ) (l
     grows = h.grows;
     says = h.says;
     later = h.later;
+    err_fails = h.err_fails;
     fails = h.fails;
+    settled = h.settled;
+    made = h.made;
     stops = λ old found all rest times at split rising. h.stops old found all (contents_at bytes p (marked every target ys) ++ rest) times at (split_on xs ys all rest times split) rising;
   }
 
@@ -252,9 +307,12 @@ module _ {D E : Type 0} (seen : D → Option (List ℕ)) (moment : D → ℕ) (l
     said = [];
     stands = record { rest = marked every target xs; split = refl };
     grows = grows_none holds e;
-    says = (refl, refl);
+    says = refl;
+    err_fails = refl;
     later = omega arith;
     fails = refl;
+    settled = λ no only. only;
+    made = λ no image told. (image, told, refl);
     stops = λ old found all rest times at split rising. ([], refl, subst (λ (ts : List Time). StandsAt seen moment leaves old d found all ts) (sym (append-nil times)) at);
   }
 
@@ -270,8 +328,11 @@ module _ {D E : Type 0} (seen : D → Option (List ℕ)) (moment : D → ℕ) (l
     said = [];
     stands = refl;
     grows = grows_none holds e;
-    says = (refl, refl);
+    says = refl;
+    err_fails = refl;
     later = omega arith;
     fails = refl;
+    settled = λ no only. only;
+    made = λ no image told. (image, told, refl);
     stops = λ old found all rest times at split rising. ([], refl, subst (λ (ts : List Time). StandsAt seen moment leaves old d found all ts) (sym (append-nil times)) at);
   }

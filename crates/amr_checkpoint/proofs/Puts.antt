@@ -1,5 +1,5 @@
 -- What a run makes of a store on a disk, and what a stop within leaves.
-use Rattle.std.proofs.Common.{◌≡◌, ◌≢◌, inl, inr, ⊎_elim, ℕ, zero, suc, ◌+◌, ◌*◌, ◌^◌, ◌<◌, ◌≤◌, nat_le, Bool, true, false, eq-eqb, List, length, Option, Some, None, refl, sym, ◌∙◌, ap, subst, arith}
+use Rattle.std.proofs.Common.{◌≡◌, ◌≢◌, inl, inr, ⊎_elim, ℕ, zero, suc, ◌+◌, ◌*◌, ◌^◌, ◌<◌, ◌≤◌, nat_le, Bool, true, false, eq-eqb, List, [], ◌∷◌, length, Option, Some, None, refl, sym, ◌∙◌, ap, subst, arith}
 use Rattle.std.proofs.lemmas.Bool.{cases_Bool, leb-true, leb-false, ne_eqb}
 use Rattle.std.proofs.lemmas.Nat.{mul-le}
 use Rattle.std.proofs.lemmas.Option.{same_Some}
@@ -20,7 +20,10 @@ use Rattle.amr_store.specs.declared.store.Store.{Store}
 use Rattle.amr_store.specs.Created.{new_state}
 use Rattle.amr_store.specs.Renewed.{renewed_state}
 use Rattle.amr_store.specs.Shown.{Shows}
-use Rattle.amr_store.specs.Stands.{SameStore, Stands, is_shut, problem_in, slot_size_in, version_in}
+use Rattle.amr_store.specs.Created.{created_image}
+use Rattle.amr_store.specs.Layout.{end_of}
+use Rattle.amr_store.specs.Renewed.{renewed_image}
+use Rattle.amr_store.specs.Stands.{SameStore, Stands, is_shut, problem_in, put_image, slot_size_in, version_in}
 use Rattle.amr_store.specs.Stored as store
 use Rattle.amr_store.proofs.Calls.{mapped_some}
 use Rattle.amr_store.proofs.Joins.{shut_stays}
@@ -32,6 +35,7 @@ use Rattle.amr_checkpoint.specs.declared.faults.CheckpointFault.TheVariants.{Dis
 use Rattle.amr_checkpoint.specs.Checkpoints.{IsStoreFor, renewed_version}
 use Rattle.amr_checkpoint.specs.Contents.{Content, Empty, Fresh, At, Holds, StoreHolds, mass_width}
 use Rattle.amr_checkpoint.specs.Laws.{IsStoreOf}
+use Rattle.amr_checkpoint.specs.Made.{HasPut, ReadsWith, put_into}
 use Rattle.amr_checkpoint.specs.Reasons.{fault_of_call}
 use Rattle.amr_store.specs.Reasons.{is_disk_fault, is_no_memory, is_shut_fault}
 use Rattle.amr_decoder.proofs.LevelReadings.{four_small}
@@ -171,3 +175,40 @@ put_held f before after st t payload_bytes p state sequence mapped stands of sec
     let same : made.0 ≡ t = same_Some made.0 t (sym made.1 ∙ seen) in
     put_made st (store.stored source.0) (store.stored t) payload_bytes p state sequence (shows_of st source.0 (stands source.0 source.1)) of second sound sequence_is payload_is
     (ap store.stored (sym same) ∙ made.2)
+
+-- ---- the bytes that are written, all of them
+
+mapped_at : (f : List ℕ → List ℕ) (before after : Option (List ℕ)) (s : List ℕ) → after ≡ option_map f before → before ≡ Some s → after ≡ Some (f s)
+mapped_at f before after s mapped is = mapped ∙ ap (option_map f) is
+
+pub created_whole : (before after : Option (List ℕ)) (bytes : List ℕ) (p : Problem) (size : ℕ) → size ≡ slot_size w32 p → after ≡ option_map (created_image 2 bytes size) before → (s : List ℕ) → before ≡ Some s
+    → ReadsWith after s (Fresh bytes p ∷ [])
+created_whole before after bytes p size size_is mapped s is =
+    let image : List ℕ = created_image 2 bytes size s in
+    (image, mapped_at (created_image 2 bytes size) before after s mapped is, (image, ap (λ n. created_image 2 bytes n s) size_is, refl))
+
+put_with : (st : Store) (before after : Option (List ℕ)) (p : Problem) (state : State) (f : List ℕ → List ℕ) → ((s : List ℕ) → before ≡ Some s → Stands st s) → after ≡ option_map f before
+    → ((s : List ℕ) → f s ≡ put_into st p state s) → (s : List ℕ) → before ≡ Some s → ReadsWith after s (At (problem_in st) p state (state.step + 1) ∷ [])
+put_with st before after p state f stands mapped same s is =
+    (f s, mapped_at f before after s mapped is, (f s, record { store = st; stands = stands s is; of_bytes = refl; put = same s }, refl))
+
+pub renewed_whole : (st : Store) (before after : Option (List ℕ)) (p : Problem) (state : State) (payload_bytes : List ℕ) (size sequence : ℕ) → ((s : List ℕ) → before ≡ Some s → Stands st s) → version_in st ≡ 1
+    → size ≡ slot_size w32 p → sequence ≡ state.step + 1 → payload_bytes ≡ payload w32 state
+    → after ≡ option_map (renewed_image (end_of (length (problem_in st)) (slot_size_in st)) (problem_in st) size sequence payload_bytes) before
+    → (s : List ℕ) → before ≡ Some s → ReadsWith after s (At (problem_in st) p state (state.step + 1) ∷ [])
+renewed_whole st before after p state payload_bytes size sequence stands one size_is sequence_is payload_is mapped =
+    let end = end_of (length (problem_in st)) (slot_size_in st) in
+    put_with st before after p state (renewed_image end (problem_in st) size sequence payload_bytes) stands mapped
+    (λ s. ap (λ n. renewed_image end (problem_in st) n sequence payload_bytes s) size_is
+    ∙ ap (λ n. renewed_image end (problem_in st) (slot_size w32 p) n payload_bytes s) sequence_is
+    ∙ ap (λ (b : List ℕ). renewed_image end (problem_in st) (slot_size w32 p) (state.step + 1) b s) payload_is
+    ∙ sym (ap (λ (b : Bool). if b then renewed_image end (problem_in st) (slot_size w32 p) (state.step + 1) (payload w32 state) s else put_image st (state.step + 1) (payload w32 state) s) (eq-eqb (version_in st) 1 one)))
+
+pub put_whole : (st : Store) (before after : Option (List ℕ)) (p : Problem) (state : State) (payload_bytes : List ℕ) (sequence : ℕ) → ((s : List ℕ) → before ≡ Some s → Stands st s) → version_in st ≢ 1
+    → sequence ≡ state.step + 1 → payload_bytes ≡ payload w32 state → after ≡ option_map (put_image st sequence payload_bytes) before
+    → (s : List ℕ) → before ≡ Some s → ReadsWith after s (At (problem_in st) p state (state.step + 1) ∷ [])
+put_whole st before after p state payload_bytes sequence stands second sequence_is payload_is mapped =
+    put_with st before after p state (put_image st sequence payload_bytes) stands mapped
+    (λ s. ap (λ n. put_image st n payload_bytes s) sequence_is
+    ∙ ap (λ (b : List ℕ). put_image st (state.step + 1) b s) payload_is
+    ∙ sym (ap (λ (b : Bool). if b then renewed_image (end_of (length (problem_in st)) (slot_size_in st)) (problem_in st) (slot_size w32 p) (state.step + 1) (payload w32 state) s else put_image st (state.step + 1) (payload w32 state) s) (ne_eqb (version_in st) 1 second)))

@@ -6,3 +6,4 @@ pub mod Reasons
 pub mod Checkpoints
 pub mod Laws
 pub mod Kept
+pub mod Made

@@ -1,5 +1,5 @@
 //! Making a store for a run, and putting checkpoints into it.
-ghost use Rattle.std.specs.Prelude.{◌≡◌, ◌+◌, ◌<◌, ◌≤◌, ◌⊎◌, ◌^◌, ℕ, List, Some, false, IfOk, IfSome, OnOk, IsErrOf};
+ghost use Rattle.std.specs.Prelude.{◌≡◌, ◌+◌, ◌<◌, ◌≤◌, ◌⊎◌, ◌^◌, ◌∷◌, [], ℕ, List, Some, false, IfOk, IfSome, OnOk, IsErrOf};
 ghost use Rattle.std.specs.Int.{w32};
 ghost use Rattle.amr_causes.specs.Causes.{Rose};
 ghost use Rattle.amr_def.specs.Facts.{IsSound};
@@ -11,6 +11,7 @@ ghost use Rattle.amr_problem.specs.Judgement.{IsProblemOf};
 ghost use Rattle.amr_store.specs.Stands.{IsStoreReady, last_in, problem_in, version_in};
 ghost use Rattle.amr_checkpoint.specs.Checkpoints.{IsFreshStore, IsStoreFor, IsStorePast, StaysTold, content_at_mesh, renewed_version};
 ghost use Rattle.amr_checkpoint.specs.Contents.{Content, Empty, Fresh, Holds};
+ghost use Rattle.amr_checkpoint.specs.Made.{ReadsWith};
 
 use crate::faults::CheckpointFault;
 use crate::reading::fault_of_call;
@@ -47,6 +48,7 @@ pub fn make_store<D: Disk>(
     ensures ready { IfOk result (λ store. IsStoreReady D.seen D.moment D.leaves store disk.new) }
     ensures holds { OnOk result ((t : List ℕ) → D.seen disk.new ≡ Some t → Holds t (Fresh bytes.now p.now)) }
     ensures told { OnOk result (StaysTold (D.seen disk.old) (D.seen disk.new)) }
+    ensures made { OnOk result ((s : List ℕ) → D.seen disk.old ≡ Some s → ReadsWith (D.seen disk.new) s (Fresh bytes.now p.now ∷ [])) }
     ensures stops { (s : List ℕ) → D.seen disk.old ≡ Some s → StopsIn D.moment D.leaves disk.old disk.new (λ c. Holds c Empty ⊎ Holds c (Fresh bytes.now p.now)) }
     ensures memory { IsErrOf result CheckpointFault.NoMemory → disk.new ≡ disk.old }
     ensures later { D.faults disk.old ≤ D.faults disk.new }
@@ -81,6 +83,7 @@ pub fn put_checkpoint<D: Disk>(
     ensures ready { IfOk result (λ store. IsStoreReady D.seen D.moment D.leaves store disk.new) }
     ensures holds { OnOk result ((t : List ℕ) → D.seen disk.new ≡ Some t → Holds t (content_at_mesh (problem_in store) p.now mesh.now)) }
     ensures told { OnOk result (StaysTold (D.seen disk.old) (D.seen disk.new)) }
+    ensures made { OnOk result ((s : List ℕ) → D.seen disk.old ≡ Some s → ReadsWith (D.seen disk.new) s (content_at_mesh (problem_in store) p.now mesh.now ∷ [])) }
     ensures stops { (s : List ℕ) (content : Content) → D.seen disk.old ≡ Some s → Holds s content → StopsIn D.moment D.leaves disk.old disk.new (λ c. Holds c content ⊎ Holds c (content_at_mesh (problem_in store) p.now mesh.now)) }
     ensures memory { IsErrOf result CheckpointFault.NoMemory → disk.new ≡ disk.old }
     ensures later { D.faults disk.old ≤ D.faults disk.new }

@@ -4,6 +4,7 @@
 //! - `specs/Marks.antt`: the steps at which a checkpoint is put, what a run makes of a store, and the answers.
 //! - `specs/Refusals.antt`: why a run does not go on, why nothing is shown, and the texts.
 //! - `specs/Times.antt`: a stop at any moment of a run.
+//! - `specs/Made.antt`: the bytes of a disk after calls that make a store or put a state, each whole.
 //! - `specs/Kept.antt`: which checkpoints of a run stand, what was said of them, and what a stop leaves.
 //! - `specs/Laws.antt`: laws of these, each of which a call with an empty body ensures.
 #![tactic(auto)]

@@ -1,5 +1,5 @@
 //! Reading what a disk holds for a program: the readings of the store, of its problem and of its latest state, in their order.
-ghost use Rattle.std.specs.Prelude.{◌≡◌, ◌+◌, ◌≤◌, ◌↔◌, ℕ, List, Some, false, true, IfOk, IfErr, OnOk, IsErrOf};
+ghost use Rattle.std.specs.Prelude.{◌≡◌, ◌+◌, ◌≤◌, ◌↔◌, ℕ, List, Some, false, true, IfOk, IfErr, IsErrOf};
 ghost use Rattle.std.specs.List.{All};
 ghost use Rattle.std.specs.declared.result.Result.TheVariants.{Ok};
 ghost use Rattle.amr_causes.specs.Causes.{Rose};
@@ -122,7 +122,7 @@ fn read_latest<D: Disk>(
     ensures read { IfOk result (λ found. (s : List ℕ) (held : State) → D.seen disk.old ≡ Some s → stored s ≡ Held held → ShowsState store held → content_of found ≡ latest_read held problem held.latest) }
     ensures usable { IfOk result IsUsable }
     ensures ready { IfOk result (λ found. IsReadReady D.seen D.moment D.leaves found disk.new) }
-    ensures settled { OnOk result (Only (D.seen disk.new) (D.leaves disk.new (D.moment disk.new))) }
+    ensures settled { Only (D.seen disk.new) (D.leaves disk.new (D.moment disk.new)) }
     ensures reads { OnlyReads D.seen D.moment D.leaves disk.old disk.new }
     ensures later { D.faults disk.old ≤ D.faults disk.new }
     ensures disk_fault { IsErrOf result CheckpointFault.DiskFault → Rose (D.faults disk.old) (D.faults disk.new) }
@@ -149,7 +149,7 @@ fn read_store<D: Disk>(
     ensures holds { IfOk result (λ found. (s : List ℕ) → D.seen disk.old ≡ Some s → Shows store (stored s) → Holds s (content_of found)) }
     ensures usable { IfOk result IsUsable }
     ensures ready { IfOk result (λ found. IsReadReady D.seen D.moment D.leaves found disk.new) }
-    ensures settled { OnOk result (Only (D.seen disk.new) (D.leaves disk.new (D.moment disk.new))) }
+    ensures settled { Only (D.seen disk.new) (D.leaves disk.new (D.moment disk.new)) }
     ensures reads { OnlyReads D.seen D.moment D.leaves disk.old disk.new }
     ensures later { D.faults disk.old ≤ D.faults disk.new }
     ensures disk_fault { IsErrOf result CheckpointFault.DiskFault → Rose (D.faults disk.old) (D.faults disk.new) }
@@ -167,12 +167,13 @@ fn read_store<D: Disk>(
     }
 }
 
-/// What a disk holds for a program: exactly what its image does, by the bytes alone. Begins with a sync and only reads.
+/// What a disk holds for a program: exactly what its image does, by the bytes alone. Begins with a sync and only reads. But where the disk
+/// failed a stop leaves what a read gives.
 pub fn read_checkpoint<D: Disk>(alloc: Global, disk: &mut D) -> Result<Checkpoint, CheckpointFault>
     ensures holds { IfOk result (λ found. (s : List ℕ) → D.seen disk.old ≡ Some s → Holds s (content_of found)) }
     ensures usable { IfOk result IsUsable }
     ensures ready { IfOk result (λ found. IsReadReady D.seen D.moment D.leaves found disk.new) }
-    ensures settled { OnOk result (Only (D.seen disk.new) (D.leaves disk.new (D.moment disk.new))) }
+    ensures settled { ¬ (IsErrOf result CheckpointFault.DiskFault) → Only (D.seen disk.new) (D.leaves disk.new (D.moment disk.new)) }
     ensures reads { OnlyReads D.seen D.moment D.leaves disk.old disk.new }
     ensures later { D.faults disk.old ≤ D.faults disk.new }
     ensures disk_fault { IsErrOf result CheckpointFault.DiskFault → Rose (D.faults disk.old) (D.faults disk.new) }

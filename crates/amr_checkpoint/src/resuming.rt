@@ -1,5 +1,5 @@
 //! What a run goes on from, and what is shown of a store.
-ghost use Rattle.std.specs.Prelude.{◌≡◌, ◌≤◌, ◌<◌, ℕ, List, Some, None, IfOk, IfErr, IfSome, OnOk, IsErrOf};
+ghost use Rattle.std.specs.Prelude.{◌≡◌, ◌≤◌, ◌<◌, ℕ, List, Some, None, IfOk, IfErr, IfSome, IsErrOf};
 ghost use Rattle.amr_causes.specs.Causes.{Rose};
 ghost use Rattle.amr_def.specs.declared.problem.Problem.{Problem};
 ghost use Rattle.amr_disk.specs.Image.{Only};
@@ -111,7 +111,7 @@ fn shown_of(found: Checkpoint) -> Result<Shown, Refusal>
 
 /// What a run to a target goes on from, of the problem that these bytes are; or why what the disk holds refuses it. It goes on
 /// from nothing only where the disk holds nothing, and from a store only where the bytes are a problem. Begins with a sync and only
-/// reads.
+/// reads. But where the disk failed a stop leaves what a read gives.
 pub fn resume<D: Disk>(
     alloc: Global,
     bytes: &[u8],
@@ -124,7 +124,7 @@ pub fn resume<D: Disk>(
     ensures can_go_on { IfOk result (λ resumed. (p : Problem) → IsProblemOf bytes.now p → CanGoOn bytes.now p target resumed) }
     ensures refused { (refusal : Refusal) (s : List ℕ) → IsErrOf result (ResumeFault.Refused refusal) → D.seen disk.old ≡ Some s → (content : Content) × Holds s content × RefusesRun bytes.now target content refusal }
     ensures ready { IfOk result (λ resumed. IsResumedReady D.seen D.moment D.leaves resumed disk.new) }
-    ensures settled { OnOk result (Only (D.seen disk.new) (D.leaves disk.new (D.moment disk.new))) }
+    ensures settled { ¬ (IsErrOf result ResumeFault.DiskFault) → Only (D.seen disk.new) (D.leaves disk.new (D.moment disk.new)) }
     ensures reads { OnlyReads D.seen D.moment D.leaves disk.old disk.new }
     ensures later { D.faults disk.old ≤ D.faults disk.new }
     ensures disk_fault { IsErrOf result ResumeFault.DiskFault → Rose (D.faults disk.old) (D.faults disk.new) }
@@ -140,11 +140,13 @@ pub fn resume<D: Disk>(
     }
 }
 
-/// The problem and the state that the disk holds, or why there is nothing to show. Begins with a sync and only reads.
+/// The problem and the state that the disk holds, or why there is nothing to show. Begins with a sync and only reads. But where the disk
+/// failed a stop leaves what a read gives.
 pub fn show<D: Disk>(alloc: Global, disk: &mut D) -> Result<Shown, ResumeFault>
     ensures holds { IfOk result (λ shown. (s : List ℕ) → D.seen disk.old ≡ Some s → (bytes : List ℕ) × Holds s (content_at_mesh bytes shown.problem shown.mesh)) }
     ensures mesh { IfOk result (λ shown. IsMeshFor shown.problem shown.mesh) }
     ensures refused { (refusal : Refusal) (s : List ℕ) → IsErrOf result (ResumeFault.Refused refusal) → D.seen disk.old ≡ Some s → (content : Content) × Holds s content × RefusesShow content refusal }
+    ensures settled { ¬ (IsErrOf result ResumeFault.DiskFault) → Only (D.seen disk.new) (D.leaves disk.new (D.moment disk.new)) }
     ensures reads { OnlyReads D.seen D.moment D.leaves disk.old disk.new }
     ensures later { D.faults disk.old ≤ D.faults disk.new }
     ensures disk_fault { IsErrOf result ResumeFault.DiskFault → Rose (D.faults disk.old) (D.faults disk.new) }

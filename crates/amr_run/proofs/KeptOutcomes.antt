@@ -24,7 +24,7 @@ use Rattle.amr_checkpoint.specs.declared.resuming.Resumed.{Resumed}
 use Rattle.amr_checkpoint.specs.declared.resuming.Resumed.TheVariants as resumed
 use Rattle.amr_checkpoint.specs.Checkpoints.{CanGoOn, content_resumed}
 use Rattle.amr_checkpoint.specs.Contents.{Content, Holds, state_from}
-use Rattle.amr_checkpoint.specs.Kept.{FailsBy, IsBegunBy, KeepsRun, SameUntil, SaysOfRun}
+use Rattle.amr_checkpoint.specs.Kept.{FailsBy, KeepsRun, SameUntil, SaysOfRun}
 use Rattle.amr_checkpoint.specs.Laws.{IsInSequence}
 use Rattle.amr_checkpoint.specs.Marks.{answer_of_run, checkpoint_line, marks}
 use Rattle.amr_checkpoint.specs.Refusals.{GoesOn, RefusesRun}
@@ -32,7 +32,7 @@ use Rattle.amr_cli.specs.declared.command.Command.{Command}
 use Rattle.amr_cli.specs.declared.command.Command.TheVariants.{Run, Check, Show, Trial}
 use Rattle.amr_run.specs.Answer.{IsKeptRun, IsPlotOfKeptRun, WasFound, stop_of}
 use Rattle.amr_run.specs.Kept.{KeptReplies}
-use Rattle.amr_run.specs.Outcome.{BeginsLines, IsBegunAt, RefusesKept, RefusesRunTo, RepliesKeeping, RunsThrough, StopsKept, StopsRun, StopsTo, status_of}
+use Rattle.amr_run.specs.Outcome.{BeginsLines, EndsBefore, EndsRun, EndsSettled, RefusesKept, RefusesRunTo, RepliesKeeping, RunsThrough, StopsKept, StopsRun, StopsTo, status_of}
 use Rattle.amr_run.specs.Reading.{Refuses}
 use Rattle.amr_run.specs.Refusals.{keep_refused, resume_refused}
 use Rattle.amr_run.specs.declared.status.Status.{Status}
@@ -176,50 +176,53 @@ kept_by answers refuses (Err x) s bytes out said is replies = subst (λ (t : Sta
 
 -- ---- stops
 
--- what was begun and not finished, by the fault that a call of the run had
-pub begun_by : (e : KeepFault) (attempt : Option Content) → IsBegunBy (Some e) attempt → IsBegunAt (keep_refused e) attempt
-begun_by fault.DiskFault attempt h = tt
-begun_by fault.NoMemory attempt h = h
-begun_by fault.WriteFault attempt h = h
+-- a run whose calls all ended well, and whose plot did not go out
+pub plot_unwritten : (ended : Option KeepFault) → EndsRun ended status.Done → EndsRun ended status.WriteFault
+plot_unwritten None is = tt
+plot_unwritten (Some fault.DiskFault) is = absurd (cc)
+plot_unwritten (Some fault.NoMemory) is = absurd (cc)
+plot_unwritten (Some fault.WriteFault) is = absurd (cc)
 
 -- what a stop left while the disk was read, it leaves on the later disk
 stays_past : (image : List ℕ) (first last : ℕ) (was leaves : ℕ → List ℕ → Type 0) → SameUntil last was leaves → StaysDurable (Some image) first last was → StaysDurable (Some image) first last leaves
 stays_past image first last was leaves same stays = λ k t from order to settled c left.
     stays k t from order to (λ e there. settled e (same.still k e (omega (arith, order, to)) there)) c (same.kept t c to left)
 
--- by another status at which no more was begun
-runs_on : (leaves : ℕ → List ℕ → Type 0) (before now : ℕ) (was status : Status) (image bytes : List ℕ) (p : Problem) (every target : ℕ) (said : List ℕ) → ((attempt : Option Content) → IsBegunAt was attempt → IsBegunAt status attempt)
-    → RunsThrough leaves before now was image bytes p every target said → RunsThrough leaves before now status image bytes p every target said
-runs_on leaves before now was status image bytes p every target said still h =
-    record { found = h.found; since = h.since; stays = h.stays; held = h.held; on = h.on; stops = h.stops; begun = still h.stops.attempt h.begun }
-
 module _ {D : Type 0} (seen : D → Option (List ℕ)) (moment : D → ℕ) (leaves : D → ℕ → List ℕ → Type 0) where
+  -- by another status of a run whose calls ended so
+  runs_on : (d later_d : D) (was status : Status) (image bytes : List ℕ) (p : Problem) (every target : ℕ) (said : List ℕ) → ((ended : Option KeepFault) → EndsRun ended was → EndsRun ended status)
+      → RunsThrough seen moment leaves d later_d was image bytes p every target said → RunsThrough seen moment leaves d later_d status image bytes p every target said
+  runs_on d later_d was status image bytes p every target said still h =
+      record { opened = h.opened; since = h.since; stays = h.stays; held = h.held; on = h.on; ended = h.ended; ends = still h.ended h.ends; history = h.history }
+
   -- the run went on from what was read
   pub stops_kept : {E : Type 0} (disk_faults : D → ℕ) (holds : E → List ℕ → Type 0) (err_faults : E → ℕ) (bytes : List ℕ) (p : Problem) (every target : ℕ) (r : Resumed) (d read later_d : D) (e later_e : E) (ended : Option KeepFault) (status : Status)
-      → ((attempt : Option Content) → IsBegunBy ended attempt → IsBegunAt status attempt) → OnlyReads seen moment leaves d read → Only (seen read) (leaves read (moment read)) → ((image : List ℕ) → seen d ≡ Some image → Holds image (content_resumed bytes p r)) → CanGoOn bytes p target r
+      → EndsRun ended status → OnlyReads seen moment leaves d read → Only (seen read) (leaves read (moment read)) → ((image : List ℕ) → seen d ≡ Some image → Holds image (content_resumed bytes p r)) → CanGoOn bytes p target r
       → (h : KeepsRun seen moment leaves disk_faults holds err_faults bytes p every target (content_resumed bytes p r) read later_d e later_e ended) → StopsKept seen moment leaves d later_d status bytes p every target h.said
-  stops_kept disk_faults holds err_faults bytes p every target r d read later_d e later_e ended status still reads settled held can h image told = inr record {
-    found = record { moment = moment read; content = content_resumed bytes p r };
+  stops_kept disk_faults holds err_faults bytes p every target r d read later_d e later_e ended status ends reads settled held can h image told = inr record {
+    opened = record { moment = moment read; content = content_resumed bytes p r };
     since = reads.images.passes.later;
     stays = stays_past image (moment d) (moment read) (leaves read) (leaves later_d) (h.past image (reads.same ∙ told) (held image told) settled)
         (subst (λ (o : Option (List ℕ)). StaysDurable o (moment d) (moment read) (leaves read)) told reads.images.stays);
     held = held image told;
     on = goes_on bytes p target r can;
-    stops = h.stops image (reads.same ∙ told) (held image told) settled;
-    begun = still _ (h.begun image (reads.same ∙ told) (held image told) settled);
+    ended = ended;
+    ends = ends;
+    history = h.history image (reads.same ∙ told) (held image told) settled;
   }
 
   -- of the problem that the source gave
   pub stops_run : (d later_d : D) (was status : Status) (given bytes : List ℕ) (to : Option ℕ) (p : Problem) (every target : ℕ) (said : List ℕ) → given ≡ bytes → target ≡ stop_of to p → IsProblemOf bytes p
-      → StopsKept seen moment leaves d later_d was given p every target said → ((attempt : Option Content) → IsBegunAt was attempt → IsBegunAt status attempt) → StopsRun seen moment leaves d later_d status bytes to every said
-  stops_run d later_d was status given bytes to p every target said same stops accepted h still image told = elim (h image told) [
-    | inl reads ↦ inl reads
+      → StopsKept seen moment leaves d later_d was given p every target said → (EndsBefore was → EndsBefore status) → ((ended : Option KeepFault) → EndsRun ended was → EndsRun ended status)
+      → StopsRun seen moment leaves d later_d status bytes to every said
+  stops_run d later_d was status given bytes to p every target said same stops accepted h before still image told = elim (h image told) [
+    | inl reads ↦ inl (before reads.0, reads.1, reads.2)
     | inr through ↦ inr record {
       problem = p;
       accepted = accepted;
-      through = subst (λ n. RunsThrough (leaves later_d) (moment d) (moment later_d) status image bytes p every n said) stops
-          (subst (λ (b : List ℕ). RunsThrough (leaves later_d) (moment d) (moment later_d) status image b p every target said) same
-          (runs_on (leaves later_d) (moment d) (moment later_d) was status image given p every target said still through));
+      through = subst (λ n. RunsThrough seen moment leaves d later_d status image bytes p every n said) stops
+          (subst (λ (b : List ℕ). RunsThrough seen moment leaves d later_d status image b p every target said) same
+          (runs_on d later_d was status image given p every target said still through));
     }
   ]
 
@@ -233,10 +236,54 @@ module _ {D : Type 0} (seen : D → Option (List ℕ)) (moment : D → ℕ) (lea
   pub only_reads_none : (d : D) → OnlyReads seen moment leaves d d
   only_reads_none d = record { same = refl; images = rests_same (seen d) (moment d) (leaves d) }
 
-  pub stops_none : (d : D) (status : Status) (asked : Option Command) (bytes : List ℕ) → StopsTo seen moment leaves d d status asked bytes []
-  stops_none d status None bytes = only_reads_none d
-  stops_none d status (Some (Run workers to None)) bytes = only_reads_none d
-  stops_none d status (Some (Run workers to (Some every))) bytes = λ image told. inl (only_reads_none d, refl)
-  stops_none d status (Some Check) bytes = only_reads_none d
-  stops_none d status (Some Show) bytes = only_reads_none d
-  stops_none d status (Some (Trial number size workers)) bytes = only_reads_none d
+  pub stops_none : (d : D) (status : Status) (asked : Option Command) (bytes : List ℕ) → EndsBefore status → StopsTo seen moment leaves d d status asked bytes []
+  stops_none d status None bytes before = only_reads_none d
+  stops_none d status (Some (Run workers to None)) bytes before = only_reads_none d
+  stops_none d status (Some (Run workers to (Some every))) bytes before = λ image told. inl (before, only_reads_none d, refl)
+  stops_none d status (Some Check) bytes before = only_reads_none d
+  stops_none d status (Some Show) bytes before = only_reads_none d
+  stops_none d status (Some (Trial number size workers)) bytes before = only_reads_none d
+
+  -- ---- what is pending
+
+  pub settles : (d later_d : D) (s : Status) → ((s ≡ status.DiskFault → ⊥) → Only (seen later_d) (leaves later_d (moment later_d))) → EndsSettled seen moment leaves d later_d s
+  settles d later_d status.Done only = only (λ is. absurd (cc))
+  settles d later_d (status.Store refusal) only = only (λ is. absurd (cc))
+  settles d later_d status.WriteFault only = only (λ is. absurd (cc))
+  settles d later_d status.NoMemory only = inr (only (λ is. absurd (cc)))
+  settles d later_d status.DiskFault only = tt
+  settles d later_d status.Usage only = tt
+  settles d later_d status.ReadFault only = tt
+  settles d later_d (status.Problem reason) only = tt
+
+  -- a disk that was not called, as its problem was not read
+  pub settles_unread : (d : D) (s : Status) (bytes : List ℕ) → Refuses s bytes → EndsSettled seen moment leaves d d s
+  settles_unread d status.Done bytes h = absurd h
+  settles_unread d (status.Store refusal) bytes h = absurd h
+  settles_unread d status.WriteFault bytes h = absurd h
+  settles_unread d status.NoMemory bytes h = inl refl
+  settles_unread d status.DiskFault bytes h = tt
+  settles_unread d status.Usage bytes h = tt
+  settles_unread d status.ReadFault bytes h = tt
+  settles_unread d (status.Problem reason) bytes h = tt
+
+  -- by the status that an error became
+  pub settles_by : (d later_d : D) (r : Result Unit Status) (s : Status) → IsErrAnd r (λ x. x ≡ s) → EndsSettled seen moment leaves d later_d s → EndsSettled seen moment leaves d later_d (status_of r)
+  settles_by d later_d (Ok done) s is settled = absurd is
+  settles_by d later_d (Err x) s is settled = subst (λ (t : Status). EndsSettled seen moment leaves d later_d t) (sym is) settled
+
+pub unread_before : (s : Status) (bytes : List ℕ) → Refuses s bytes → EndsBefore s
+unread_before status.Done bytes h = absurd h
+unread_before (status.Store refusal) bytes h = tt
+unread_before status.WriteFault bytes h = absurd h
+unread_before status.NoMemory bytes h = tt
+unread_before status.DiskFault bytes h = tt
+unread_before status.Usage bytes h = tt
+unread_before status.ReadFault bytes h = tt
+unread_before (status.Problem reason) bytes h = tt
+
+-- a store that was not gone on with
+pub unresumed_before : (e : ResumeFault) → EndsBefore (resume_refused e)
+unresumed_before resuming.DiskFault = tt
+unresumed_before (resuming.Refused refusal) = tt
+unresumed_before resuming.NoMemory = tt

@@ -5,3 +5,4 @@ pub mod Outcome
 pub mod Refusals
 pub mod Keeper
 pub mod Kept
+pub mod Served

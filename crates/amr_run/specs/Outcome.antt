@@ -7,13 +7,16 @@ use Rattle.amr_def.specs.declared.problem.Problem.{Problem}
 use Rattle.amr_problem.specs.Judgement.{fault_of, IsProblemOf}
 use Rattle.amr_checkpoint.specs.declared.refusal.Refusal.{Refusal}
 use Rattle.amr_checkpoint.specs.Contents.{Content, Holds}
-use Rattle.amr_checkpoint.specs.Kept.{StopsOfRun}
+use Rattle.amr_checkpoint.specs.declared.faults.KeepFault.{KeepFault}
+use Rattle.amr_checkpoint.specs.Kept.{History}
 use Rattle.amr_checkpoint.specs.Marks.{to_make}
 use Rattle.amr_checkpoint.specs.Refusals.{GoesOn, RefusesRun, RefusesShow}
 use Rattle.amr_checkpoint.specs.Times.{Time}
+use Rattle.amr_disk.specs.Image.{Only}
 use Rattle.amr_disk.specs.Moments.{StaysDurable}
 use Rattle.amr_store.specs.Phases.{OnlyReads}
 use Rattle.amr_run.specs.Answer.{IsLineOfProblem, IsLineOfTrial, IsPlotOfKeptRun, IsPlotOfRun, IsPlotOfStore, stop_of}
+use Rattle.amr_run.specs.Refusals.{keep_refused}
 use Rattle.amr_run.specs.Texts.{message}
 use Rattle.amr_cli.specs.declared.command.Command.{Command}
 use Rattle.amr_cli.specs.declared.command.Command.TheVariants.{Run, Check, Show, Trial}
@@ -125,36 +128,48 @@ pub record EndsByLine (status : Status) (said all : List ℕ) (before now : ℕ)
 
 -- ---- stops
 
--- a call that puts or makes a store was begun and not finished only where the disk failed
-abbrev pub IsBegunAt : Status → Option Content → Type 0
-IsBegunAt DiskFault attempt = ⊤
-IsBegunAt _ attempt = attempt ≡ None
+-- By how a run's calls of its disk ended: after all of them its plot went out or did not, and else the run ended by their fault.
+abbrev pub EndsRun : Option KeepFault → Status → Type 0
+EndsRun None Done = ⊤
+EndsRun None WriteFault = ⊤
+EndsRun None _ = ⊥
+EndsRun (Some fault) status = status ≡ keep_refused fault
 
--- A run found this on a disk that reads as the image, and goes on from it. A stop since leaves it, or what the run made last or makes next.
--- Before that time the disk was only read: from a moment on at which a stop leaves nothing but the image, as where a sync returns, it leaves that.
-pub record RunsThrough (leaves : ℕ → List ℕ → Type 0) (before now : ℕ) (status : Status) (image bytes : List ℕ) (p : Problem) (every target : ℕ) (said : List ℕ) : Type 0 where
-  pub found : Time
-  pub since : before ≤ found.moment
-  pub stays : StaysDurable (Some image) before found.moment leaves
-  pub held : Holds image found.content
-  pub on : GoesOn bytes target found.content
-  pub stops : StopsOfRun leaves found now (to_make bytes p every found.content target) said
-  pub begun : IsBegunAt status stops.attempt
+-- A run may have ended so before it went on from its store. Where all is done, or where a line or the plot did not go out, it went on.
+abbrev pub EndsBefore : Status → Type 0
+EndsBefore Done = ⊥
+EndsBefore WriteFault = ⊥
+EndsBefore _ = ⊤
+
+-- A run opened its store on a disk that reads as the image, found this, and went on from it. Its times begin there: a stop since then leaves what
+-- was found or made last, or what was made next. Before that the disk was only read: from a moment on at which a stop leaves nothing but the
+-- image, as where a sync returns, it leaves that. But where the disk failed it reads as the image with what was made, each whole.
+pub record RunsThrough {D : Type 0} (seen : D → Option (List ℕ)) (moment : D → ℕ) (leaves : D → ℕ → List ℕ → Type 0) (disk later_disk : D) (status : Status) (image bytes : List ℕ) (p : Problem) (every target : ℕ) (said : List ℕ) : Type 0 where
+  pub opened : Time
+  pub since : moment disk ≤ opened.moment
+  pub stays : StaysDurable (Some image) (moment disk) opened.moment (leaves later_disk)
+  pub held : Holds image opened.content
+  pub on : GoesOn bytes target opened.content
+  pub ended : Option KeepFault
+  pub ends : EndsRun ended status
+  pub history : History (seen later_disk) (leaves later_disk) opened (moment later_disk) image (to_make bytes p every opened.content target) said ended
 
 -- Where the disk tells what it reads, it was only read and nothing was said of checkpoints, or a run went on from it.
 abbrev pub StopsKept : {D : Type 0} → (D → Option (List ℕ)) → (D → ℕ) → (D → ℕ → List ℕ → Type 0) → D → D → Status → List ℕ → Problem → ℕ → ℕ → List ℕ → Type 0
 StopsKept seen moment leaves disk later_disk status bytes p every target said =
-    (image : List ℕ) → seen disk ≡ Some image → (OnlyReads seen moment leaves disk later_disk × (said ≡ [])) ⊎ RunsThrough (leaves later_disk) (moment disk) (moment later_disk) status image bytes p every target said
+    (image : List ℕ) → seen disk ≡ Some image
+    → (EndsBefore status × OnlyReads seen moment leaves disk later_disk × (said ≡ [])) ⊎ RunsThrough seen moment leaves disk later_disk status image bytes p every target said
 
 -- of the problem that the bytes of the source are, at the step that it stops at
-pub record RunsThroughTo (leaves : ℕ → List ℕ → Type 0) (before now : ℕ) (status : Status) (image bytes : List ℕ) (to : Option ℕ) (every : ℕ) (said : List ℕ) : Type 0 where
+pub record RunsThroughTo {D : Type 0} (seen : D → Option (List ℕ)) (moment : D → ℕ) (leaves : D → ℕ → List ℕ → Type 0) (disk later_disk : D) (status : Status) (image bytes : List ℕ) (to : Option ℕ) (every : ℕ) (said : List ℕ) : Type 0 where
   pub problem : Problem
   pub accepted : IsProblemOf bytes problem
-  pub through : RunsThrough leaves before now status image bytes problem every (stop_of to problem) said
+  pub through : RunsThrough seen moment leaves disk later_disk status image bytes problem every (stop_of to problem) said
 
 abbrev pub StopsRun : {D : Type 0} → (D → Option (List ℕ)) → (D → ℕ) → (D → ℕ → List ℕ → Type 0) → D → D → Status → List ℕ → Option ℕ → ℕ → List ℕ → Type 0
 StopsRun seen moment leaves disk later_disk status bytes to every said =
-    (image : List ℕ) → seen disk ≡ Some image → (OnlyReads seen moment leaves disk later_disk × (said ≡ [])) ⊎ RunsThroughTo (leaves later_disk) (moment disk) (moment later_disk) status image bytes to every said
+    (image : List ℕ) → seen disk ≡ Some image
+    → (EndsBefore status × OnlyReads seen moment leaves disk later_disk × (said ≡ [])) ⊎ RunsThroughTo seen moment leaves disk later_disk status image bytes to every said
 
 -- By the command: any other than a run that keeps checkpoints only reads.
 abbrev pub StopsTo : {D : Type 0} → (D → Option (List ℕ)) → (D → ℕ) → (D → ℕ → List ℕ → Type 0) → D → D → Status → Option Command → List ℕ → List ℕ → Type 0
@@ -164,3 +179,14 @@ StopsTo seen moment leaves disk later_disk status (Some (Run workers to (Some ev
 StopsTo seen moment leaves disk later_disk status (Some Check) bytes said = OnlyReads seen moment leaves disk later_disk
 StopsTo seen moment leaves disk later_disk status (Some Show) bytes said = OnlyReads seen moment leaves disk later_disk
 StopsTo seen moment leaves disk later_disk status (Some (Trial number size workers)) bytes said = OnlyReads seen moment leaves disk later_disk
+
+-- ---- what is pending
+
+-- Of a command that opens the store. Where the disk did not fail it was synced: a stop leaves what a read gives. Memory may have run out before
+-- the disk was called, and the source and its problem come before it.
+abbrev pub EndsSettled : {D : Type 0} → (D → Option (List ℕ)) → (D → ℕ) → (D → ℕ → List ℕ → Type 0) → D → D → Status → Type 0
+EndsSettled seen moment leaves disk later_disk Done = Only (seen later_disk) (leaves later_disk (moment later_disk))
+EndsSettled seen moment leaves disk later_disk (Store refusal) = Only (seen later_disk) (leaves later_disk (moment later_disk))
+EndsSettled seen moment leaves disk later_disk WriteFault = Only (seen later_disk) (leaves later_disk (moment later_disk))
+EndsSettled seen moment leaves disk later_disk NoMemory = (later_disk ≡ disk) ⊎ Only (seen later_disk) (leaves later_disk (moment later_disk))
+EndsSettled seen moment leaves disk later_disk _ = ⊤

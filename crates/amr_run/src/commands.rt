@@ -11,7 +11,7 @@ ghost use Rattle.amr_patch.specs.Meshes.{is_spent, state_of};
 ghost use Rattle.amr_trial.specs.Trial.{IsSize};
 ghost use Rattle.amr_store.specs.Phases.{OnlyReads};
 ghost use Rattle.amr_run.specs.Answer.{IsLineOfProblem, IsLineOfTrial, IsPlotOfKeptRun, IsPlotOfRun, IsSoundRun, stop_of};
-ghost use Rattle.amr_run.specs.Outcome.{RefusesRunTo, Replies, RepliesKeeping, RepliesShowing, RepliesUnread, StopsRun, status_of};
+ghost use Rattle.amr_run.specs.Outcome.{EndsSettled, RefusesRunTo, Replies, RepliesKeeping, RepliesShowing, RepliesUnread, StopsRun, status_of};
 ghost use Rattle.amr_run.specs.Reading.{TakesAtMost};
 
 use crate::Status;
@@ -160,6 +160,7 @@ pub(crate) fn keep<R: Threads + Wait + Sync, S: Source, O: Sink, E: Sink, D: Dis
     ensures no_disk_fault { result ≢ Err Status.DiskFault → D.faults disk.new ≡ D.faults disk.old }
     ensures write_fault { result ≡ Err Status.WriteFault → (Rose (O.faults out.old) (O.faults out.new) × (E.faults err.new ≡ E.faults err.old)) ⊎ Rose (E.faults err.old) (E.faults err.new) }
     ensures no_write_fault { result ≢ Err Status.WriteFault → (O.faults out.new ≡ O.faults out.old) × (E.faults err.new ≡ E.faults err.old) }
+    ensures settled { EndsSettled D.seen D.moment D.leaves disk.old disk.new (status_of result) }
     ensures unwritten { (refusal : _) → result ≡ Err (Status.Store refusal) → OnlyReads D.seen D.moment D.leaves disk.old disk.new }
     ensures source_first { result ≡ Err Status.ReadFault → disk.new ≡ disk.old }
     ensures judged_first { (fault : _) → result ≡ Err (Status.Problem fault) → disk.new ≡ disk.old }
@@ -190,6 +191,7 @@ pub(crate) fn show<O: Sink, D: Disk>(alloc: Global, out: &mut O, disk: &mut D) -
     ensures no_read_fault { result ≢ Err Status.ReadFault }
     ensures no_problem { (fault : _) → result ≢ Err (Status.Problem fault) }
     ensures reads { OnlyReads D.seen D.moment D.leaves disk.old disk.new }
+    ensures settled { EndsSettled D.seen D.moment D.leaves disk.old disk.new (status_of result) }
     ensures disk_fault { result ≡ Err Status.DiskFault → Rose (D.faults disk.old) (D.faults disk.new) }
     ensures no_disk_fault { result ≢ Err Status.DiskFault → D.faults disk.new ≡ D.faults disk.old }
     ensures write_fault { result ≡ Err Status.WriteFault → Rose (O.faults out.old) (O.faults out.new) }

@@ -173,6 +173,7 @@ pub(crate) fn keep_run<R: Threads + Wait + Sync, E: Sink, D: Disk, G: Gate + Syn
     ensures no_disk_fault { result ≢ Err Status.DiskFault → D.faults disk.new ≡ D.faults disk.old }
     ensures write_fault { result ≡ Err Status.WriteFault → Rose (E.faults err.old) (E.faults err.new) }
     ensures no_write_fault { result ≢ Err Status.WriteFault → E.faults err.new ≡ E.faults err.old }
+    ensures settled { result ≢ Err Status.DiskFault → Only (D.seen disk.new) (D.leaves disk.new (D.moment disk.new)) }
     ensures unwritten { (refusal : _) → result ≡ Err (Status.Store refusal) → OnlyReads D.seen D.moment D.leaves disk.old disk.new }
 {
     let resumed = match resume(keeping.alloc, bytes, keeping.target, disk) {

@@ -1,12 +1,13 @@
 //! The top call.
-ghost use Rattle.std.specs.Prelude.{◌≡◌, ◌≢◌, ◌⊎◌, ◌<◌, ◌≤◌, List, ℕ, Some, Err, IfErr, IfSome, OnOk};
+ghost use Rattle.std.specs.Prelude.{◌≡◌, ◌≢◌, ◌⊎◌, ◌<◌, ◌≤◌, List, ℕ, Some, None, Err, IfErr, OnOk};
 ghost use Rattle.std.specs.Io.KnownBytes.{IsAtEnd};
 ghost use Rattle.amr_causes.specs.Causes.{Rose};
 ghost use Rattle.amr_causes.specs.Bytes.{Grows, WereLeft};
 ghost use Rattle.amr_cli.specs.Words.{HasRanges, HasWorkers, command_of};
-ghost use Rattle.amr_run.specs.Answer.{HasAnswer, KeepsCheckpoints, OpensStore, ReadsSource};
-ghost use Rattle.amr_run.specs.Outcome.{EndsByLine, Outcome, RepliesTo, StopsTo, status_of};
+ghost use Rattle.amr_run.specs.Answer.{KeepsCheckpoints, OpensStore, ReadsSource};
+ghost use Rattle.amr_run.specs.Outcome.{EndsSettled, Outcome, RepliesTo, StopsTo, status_of};
 ghost use Rattle.amr_run.specs.Reading.{TakesAtMost};
+ghost use Rattle.amr_run.specs.Served.{Serves};
 ghost use Rattle.amr_store.specs.Phases.{OnlyReads};
 
 use crate::Status;
@@ -27,10 +28,11 @@ use std::thread::Threads;
 /// promise if it returns.
 ///
 /// With `--keep` a run goes on from the state that `disk` holds, and puts a checkpoint there at each mark. It
-/// acknowledges it on `err` by a line once it stands. A stop at any moment leaves the last checkpoint that stands, or
-/// the one that is put.
+/// acknowledges it on `err` by a line once it stands. A stop at any moment since the store was opened leaves the last
+/// checkpoint that stands, or the one that is put.
 ///
-/// Clauses on bytes hold of objects that tell them. Memory may run out at any time; that is tied to no cause.
+/// Each field of `Serves` is a clause, in `specs/Served.antt`. Clauses on bytes hold of objects that tell them. Memory may
+/// run out at any time; that is tied to no cause.
 pub fn amr<R: Threads + Wait + Sync, S: Source, O: Sink, E: Sink, D: Disk>(
     rt: &R,
     alloc: Global,
@@ -40,63 +42,13 @@ pub fn amr<R: Threads + Wait + Sync, S: Source, O: Sink, E: Sink, D: Disk>(
     err: &mut E,
     disk: &mut D,
 ) -> Status
-    // The status, and what went to `out` and to `err`, are those of the words, of the bytes that the source had left and of what the
-    // disk holds. `err` gets the lines of checkpoints, and then the line of a refusal, whole unless `err` failed.
-    ensures outcome { (bytes : List ℕ) × ((sent : List ℕ) × ((said : List ℕ) × ((all : List ℕ) × WereLeft (S.left src.old) bytes
-        × Grows O.holds out.old out.new sent × Grows E.holds err.old err.new all
-        × Outcome result (command_of words.now) bytes (D.seen disk.old) sent said
-        × EndsByLine result said all (E.faults err.old) (E.faults err.new)))) }
-
-    // A stop at any moment leaves what was found on the disk, or what the run put last or puts next, from which its bytes follow. Each
-    // line on `err` is of a checkpoint that stands.
-    ensures stops { (bytes : List ℕ) × ((said : List ℕ) × ((all : List ℕ) × WereLeft (S.left src.old) bytes × Grows E.holds err.old err.new all
-        × EndsByLine result said all (E.faults err.old) (E.faults err.new)
-        × StopsTo D.seen D.moment D.leaves disk.old disk.new result (command_of words.now) bytes said)) }
-
-    // Where a command that reads its source is done, nothing of it is left. Any other leaves it as it was.
-    ensures ended { (command : _) → command_of words.now ≡ Some command → ReadsSource command → result ≡ Status.Done → IsAtEnd (S.left src.new) }
-
-    // Whatever the answer, at most one byte more than a problem has was taken, from the front.
-    ensures unread { (command : _) → command_of words.now ≡ Some command → ¬ (ReadsSource command) → src.new ≡ src.old }
-    ensures taken { TakesAtMost 65537 (S.left src.old) (S.left src.new) }
-
-    // A command that opens no store leaves the disk as it was. A store that refuses a command was not written.
-    ensures unopened { (command : _) → command_of words.now ≡ Some command → ¬ (OpensStore command) → disk.new ≡ disk.old }
-    ensures unwritten { (refusal : _) → result ≡ Status.Store refusal → OnlyReads D.seen D.moment D.leaves disk.old disk.new }
-
-    // The disk is called once the source was read and its problem judged: where either ends the call, the disk is as it was.
-    ensures source_first { result ≡ Status.ReadFault → disk.new ≡ disk.old }
-    ensures judged_first { (fault : _) → result ≡ Status.Problem fault → disk.new ≡ disk.old }
-
-    // Words that are no command leave the source, `out` and the disk as they were.
-    ensures untouched { result ≡ Status.Usage → (src.new ≡ src.old) × (out.new ≡ out.old) × (disk.new ≡ disk.old) }
-
-    // A command that keeps no checkpoints says nothing on `err` where all is done.
-    ensures quiet { (command : _) → command_of words.now ≡ Some command → ¬ (KeepsCheckpoints command) → result ≡ Status.Done → err.new ≡ err.old }
-
-    // A fault of the outside comes only where that object failed in this call.
-    ensures read_fault { result ≡ Status.ReadFault → Rose (S.faults src.old) (S.faults src.new) }
-    ensures disk_fault { result ≡ Status.DiskFault → Rose (D.faults disk.old) (D.faults disk.new) }
-    ensures write_fault { result ≡ Status.WriteFault → Rose (O.faults out.old) (O.faults out.new) ⊎ Rose (E.faults err.old) (E.faults err.new) }
-
-    // With any other answer the source, the disk and `out` didn't fail, and where all is done `err` didn't either.
-    ensures no_read_fault { result ≢ Status.ReadFault → S.faults src.new ≡ S.faults src.old }
-    ensures no_disk_fault { result ≢ Status.DiskFault → D.faults disk.new ≡ D.faults disk.old }
-    ensures no_write_fault { result ≢ Status.WriteFault → O.faults out.new ≡ O.faults out.old }
-    ensures no_line_fault { result ≡ Status.Done → E.faults err.new ≡ E.faults err.old }
-
-    // Words that are a command, bytes that have an answer and a store that lets it come get it, unless something fails or memory runs
-    // out.
-    ensures complete { (command : _) → command_of words.now ≡ Some command
-        → ((bytes : List ℕ) → WereLeft (S.left src.old) bytes → HasAnswer command bytes (D.seen disk.old))
-        → ¬ (Rose (S.faults src.old) (S.faults src.new)) → ¬ (Rose (O.faults out.old) (O.faults out.new))
-        → ¬ (Rose (E.faults err.old) (E.faults err.new)) → ¬ (Rose (D.faults disk.old) (D.faults disk.new))
-        → (result ≡ Status.Done) ⊎ (result ≡ Status.NoMemory) }
+    ensures served { Serves S.left S.faults O.holds O.faults E.holds E.faults D.seen D.moment D.leaves D.faults
+        (command_of words.now) result src.old src.new out.old out.new err.old err.new disk.old disk.new }
 {
     amr_gated(rt, alloc, words, src, out, err, disk, &OpenGate)
 }
 
-/// The same with a gate that each worker calls before and after each task.
+/// The same with a gate that each worker calls before and after each task. What `amr` promises it promises too: one definition.
 pub fn amr_gated<R: Threads + Wait + Sync, S: Source, O: Sink, E: Sink, D: Disk, G: Gate + Sync>(
     rt: &R,
     alloc: Global,
@@ -108,34 +60,8 @@ pub fn amr_gated<R: Threads + Wait + Sync, S: Source, O: Sink, E: Sink, D: Disk,
     gate: &G,
 ) -> Status
     requires gate { (worker task : ℕ) → worker < 64 → G.admits gate.now worker task }
-    ensures outcome { (bytes : List ℕ) × ((sent : List ℕ) × ((said : List ℕ) × ((all : List ℕ) × WereLeft (S.left src.old) bytes
-        × Grows O.holds out.old out.new sent × Grows E.holds err.old err.new all
-        × Outcome result (command_of words.now) bytes (D.seen disk.old) sent said
-        × EndsByLine result said all (E.faults err.old) (E.faults err.new)))) }
-    ensures stops { (bytes : List ℕ) × ((said : List ℕ) × ((all : List ℕ) × WereLeft (S.left src.old) bytes × Grows E.holds err.old err.new all
-        × EndsByLine result said all (E.faults err.old) (E.faults err.new)
-        × StopsTo D.seen D.moment D.leaves disk.old disk.new result (command_of words.now) bytes said)) }
-    ensures ended { (command : _) → command_of words.now ≡ Some command → ReadsSource command → result ≡ Status.Done → IsAtEnd (S.left src.new) }
-    ensures unread { (command : _) → command_of words.now ≡ Some command → ¬ (ReadsSource command) → src.new ≡ src.old }
-    ensures taken { TakesAtMost 65537 (S.left src.old) (S.left src.new) }
-    ensures unopened { (command : _) → command_of words.now ≡ Some command → ¬ (OpensStore command) → disk.new ≡ disk.old }
-    ensures unwritten { (refusal : _) → result ≡ Status.Store refusal → OnlyReads D.seen D.moment D.leaves disk.old disk.new }
-    ensures source_first { result ≡ Status.ReadFault → disk.new ≡ disk.old }
-    ensures judged_first { (fault : _) → result ≡ Status.Problem fault → disk.new ≡ disk.old }
-    ensures untouched { result ≡ Status.Usage → (src.new ≡ src.old) × (out.new ≡ out.old) × (disk.new ≡ disk.old) }
-    ensures quiet { (command : _) → command_of words.now ≡ Some command → ¬ (KeepsCheckpoints command) → result ≡ Status.Done → err.new ≡ err.old }
-    ensures read_fault { result ≡ Status.ReadFault → Rose (S.faults src.old) (S.faults src.new) }
-    ensures disk_fault { result ≡ Status.DiskFault → Rose (D.faults disk.old) (D.faults disk.new) }
-    ensures write_fault { result ≡ Status.WriteFault → Rose (O.faults out.old) (O.faults out.new) ⊎ Rose (E.faults err.old) (E.faults err.new) }
-    ensures no_read_fault { result ≢ Status.ReadFault → S.faults src.new ≡ S.faults src.old }
-    ensures no_disk_fault { result ≢ Status.DiskFault → D.faults disk.new ≡ D.faults disk.old }
-    ensures no_write_fault { result ≢ Status.WriteFault → O.faults out.new ≡ O.faults out.old }
-    ensures no_line_fault { result ≡ Status.Done → E.faults err.new ≡ E.faults err.old }
-    ensures complete { (command : _) → command_of words.now ≡ Some command
-        → ((bytes : List ℕ) → WereLeft (S.left src.old) bytes → HasAnswer command bytes (D.seen disk.old))
-        → ¬ (Rose (S.faults src.old) (S.faults src.new)) → ¬ (Rose (O.faults out.old) (O.faults out.new))
-        → ¬ (Rose (E.faults err.old) (E.faults err.new)) → ¬ (Rose (D.faults disk.old) (D.faults disk.new))
-        → (result ≡ Status.Done) ⊎ (result ≡ Status.NoMemory) }
+    ensures served { Serves S.left S.faults O.holds O.faults E.holds E.faults D.seen D.moment D.leaves D.faults
+        (command_of words.now) result src.old src.new out.old out.new err.old err.new disk.old disk.new }
 {
     let shell = Shell {
         runtime: rt,
@@ -173,7 +99,8 @@ fn serve<R: Threads + Wait + Sync, S: Source, O: Sink, E: Sink, D: Disk, G: Gate
     ensures unopened { (command : _) → command_of words.now ≡ Some command → ¬ (OpensStore command) → disk.new ≡ disk.old }
     ensures silent { (command : _) → command_of words.now ≡ Some command → ¬ (KeepsCheckpoints command) → err.new ≡ err.old }
     ensures taken { TakesAtMost 65537 (S.left src.old) (S.left src.new) }
-    ensures untouched { result ≡ Status.Usage → (src.new ≡ src.old) × (out.new ≡ out.old) × (err.new ≡ err.old) × (disk.new ≡ disk.old) }
+    ensures untouched { command_of words.now ≡ None → (src.new ≡ src.old) × (out.new ≡ out.old) × (err.new ≡ err.old) × (disk.new ≡ disk.old) }
+    ensures settled { (command : _) → command_of words.now ≡ Some command → OpensStore command → EndsSettled D.seen D.moment D.leaves disk.old disk.new result }
     ensures unwritten { (refusal : _) → result ≡ Status.Store refusal → OnlyReads D.seen D.moment D.leaves disk.old disk.new }
     ensures source_first { result ≡ Status.ReadFault → disk.new ≡ disk.old }
     ensures judged_first { (fault : _) → result ≡ Status.Problem fault → disk.new ≡ disk.old }
@@ -216,6 +143,7 @@ fn answer<R: Threads + Wait + Sync, S: Source, O: Sink, E: Sink, D: Disk, G: Gat
     ensures silent { ¬ (KeepsCheckpoints command) → err.new ≡ err.old }
     ensures taken { TakesAtMost 65537 (S.left src.old) (S.left src.new) }
     ensures refused { IfErr result (λ status. (status ≢ Status.Done) × (status ≢ Status.Usage)) }
+    ensures settled { OpensStore command → EndsSettled D.seen D.moment D.leaves disk.old disk.new (status_of result) }
     ensures unwritten { (refusal : _) → result ≡ Err (Status.Store refusal) → OnlyReads D.seen D.moment D.leaves disk.old disk.new }
     ensures source_first { result ≡ Err Status.ReadFault → disk.new ≡ disk.old }
     ensures judged_first { (fault : _) → result ≡ Err (Status.Problem fault) → disk.new ≡ disk.old }

@@ -32,7 +32,7 @@ returns-in-Ok-put_checkpoint_line-clause-kept g c =
     let whole = subst (λ n. Grows g.E.Sink.holds c.args.err.now c.put_checkpoint_line.new.err (checkpoint_line n)) c.step-step.ensures c.in-Ok-put_checkpoint_line.ensures.whole in
     keeps_stood g.D.Disk.seen g.D.Disk.moment g.D.Disk.leaves g.D.Disk.faults g.E.Sink.holds g.E.Sink.faults (problem_in c.args.store) c.args.keeping.now.problem.now every target c.args.disk.now c.put_checkpoint.new.disk c.args.err.now c.put_checkpoint_line.new.err (state_of c.args.mesh.now)
     mark whole c.in-Ok-put_checkpoint_line.ensures.no_fault (c.in-Ok.ensures.no_disk_fault (λ is. absurd (cc))) c.in-Ok.ensures.told (c.in-Ok.ensures.ready.settled c.in-Ok.ensures.store.store_is.unshut) c.in-Ok.ensures.holds
-    (λ image content. c.in-Ok.ensures.stops image content)
+    c.in-Ok.ensures.made (λ image content. c.in-Ok.ensures.stops image content)
 
 pub returns-in-Err-clause-kept : goal.returns-in-Err-clause-kept
 returns-in-Err-clause-kept g c =
@@ -42,7 +42,7 @@ returns-in-Err-clause-kept g c =
     let short = subst (λ n. FallsShort g.E.Sink.holds c.args.err.now c.put_checkpoint_line.new.err (checkpoint_line n)) c.step-step.ensures c.in-Err.ensures.short in
     keeps_unsaid g.D.Disk.seen g.D.Disk.moment g.D.Disk.leaves g.D.Disk.faults g.E.Sink.holds g.E.Sink.faults (problem_in c.args.store) c.args.keeping.now.problem.now every target c.args.disk.now c.put_checkpoint.new.disk c.args.err.now c.put_checkpoint_line.new.err (state_of c.args.mesh.now)
     mark short c.in-Err.ensures.cause.failed (c.in-Ok.ensures.no_disk_fault (λ is. absurd (cc))) c.in-Ok.ensures.told (c.in-Ok.ensures.ready.settled c.in-Ok.ensures.store.store_is.unshut) c.in-Ok.ensures.holds
-    (λ image content. c.in-Ok.ensures.stops image content)
+    c.in-Ok.ensures.made (λ image content. c.in-Ok.ensures.stops image content)
 
 pub returns-in-Err-DiskFault-clause-kept : goal.returns-in-Err-DiskFault-clause-kept
 returns-in-Err-DiskFault-clause-kept g c =

@@ -3,7 +3,7 @@ use Rattle.amr_store.proofs.Runs.{weaker}
 use Rattle.amr_store.specs.declared.store.Store.{Store}
 use Rattle.amr_store.specs.Stored as store
 use Rattle.amr_checkpoint.specs.declared.faults.CheckpointFault.TheVariants.{DiskFault, NoMemory}
-use Rattle.amr_checkpoint.proofs.Puts.{creation_made, creation_stop, disk_fault_of, no_memory_of, other_fault_of, store_made, text_short}
+use Rattle.amr_checkpoint.proofs.Puts.{created_whole, creation_made, creation_stop, disk_fault_of, no_memory_of, other_fault_of, store_made, text_short}
 use Rattle.amr_checkpoint.proofs.Readings.{empty_of}
 use Rattle.amr_checkpoint.proofs.keeping.make_store.Goals as goal
 
@@ -27,6 +27,10 @@ returns-in-Ok-clause-store g c = record {
 
 pub returns-in-Ok-clause-holds : goal.returns-in-Ok-clause-holds
 returns-in-Ok-clause-holds g c t seen = creation_made t c.args.bytes.now c.args.p.now c.room-size.result c.requires.accepted c.room-size.ensures.value (c.in-Ok.ensures.made t seen)
+
+pub returns-in-Ok-clause-made : goal.returns-in-Ok-clause-made
+returns-in-Ok-clause-made g c s seen =
+    created_whole (g.D.Disk.seen c.args.disk.now) (g.D.Disk.seen c.create.new.disk) c.args.bytes.now c.args.p.now c.room-size.result c.room-size.ensures.value c.in-Ok.ensures.seen s seen
 
 pub returns-in-Ok-clause-stops : goal.returns-in-Ok-clause-stops
 returns-in-Ok-clause-stops g c s seen =

@@ -7,7 +7,7 @@ use Rattle.amr_store.specs.declared.store.Store.{Store}
 use Rattle.amr_store.specs.Stands.{last_in, problem_in, put_image, version_in}
 use Rattle.amr_checkpoint.specs.declared.faults.CheckpointFault.TheVariants.{DiskFault, NoMemory}
 use Rattle.amr_checkpoint.proofs.FromDisk.{second_width}
-use Rattle.amr_checkpoint.proofs.Puts.{disk_fault_of, no_memory_of, other_fault_of, put_held, put_stop, renewal_made, renewal_stop, store_after, store_made, untouched_stop, version_renewed, version_stays}
+use Rattle.amr_checkpoint.proofs.Puts.{disk_fault_of, no_memory_of, other_fault_of, put_held, put_stop, put_whole, renewal_made, renewal_stop, renewed_whole, store_after, store_made, untouched_stop, version_renewed, version_stays}
 use Rattle.amr_checkpoint.proofs.keeping.put_checkpoint.Goals as goal
 
 pub returns-in-Err-clause-stops : goal.returns-in-Err-clause-stops
@@ -37,6 +37,12 @@ pub returns-in-Ok-renew-clause-holds : goal.returns-in-Ok-renew-clause-holds
 returns-in-Ok-renew-clause-holds g c t seen =
     renewal_made t (problem_in c.args.store) c.deref.result.now c.args.p.now (state_of c.args.mesh.now) c.room.result (c.from-sequence.result + 1) c.requires.store.accepted c.requires.sound c.room.ensures.value
     (ap (λ n. n + 1) (c.from-sequence.ensures ∙ c.step.ensures)) (c.deref.ensures.value ∙ c.in-Ok.ensures.bytes) (c.in-Ok-renew.ensures.renewed t seen)
+
+pub returns-in-Ok-renew-clause-made : goal.returns-in-Ok-renew-clause-made
+returns-in-Ok-renew-clause-made g c s seen =
+    renewed_whole c.args.store (g.D.Disk.seen c.args.disk.now) (g.D.Disk.seen c.renew.new.disk) c.args.p.now (state_of c.args.mesh.now) c.deref.result.now c.room.result (c.from-sequence.result + 1)
+    (c.requires.ready.stands c.requires.store.unshut) (sym c.version-must_renew.ensures ∙ c.if-must_renew.true) c.room.ensures.value (ap (λ n. n + 1) (c.from-sequence.ensures ∙ c.step.ensures)) (c.deref.ensures.value ∙ c.in-Ok.ensures.bytes)
+    c.in-Ok-renew.ensures.seen s seen
 
 pub returns-in-Ok-renew-clause-stops : goal.returns-in-Ok-renew-clause-stops
 returns-in-Ok-renew-clause-stops g c s content seen h =
@@ -92,6 +98,12 @@ returns-in-Ok-put-clause-holds g c t seen =
     put_held (put_image c.args.store (c.from-sequence.result + 1) c.deref-else-must_renew.result.now) (g.D.Disk.seen c.args.disk.now) (g.D.Disk.seen c.put.new.disk) c.args.store t c.deref-else-must_renew.result.now c.args.p.now
     (state_of c.args.mesh.now) (c.from-sequence.result + 1) c.in-Ok-put.ensures.seen (c.requires.ready.stands c.requires.store.unshut) c.requires.store (λ one. c.if-must_renew.false (c.version-must_renew.ensures ∙ one)) c.requires.sound
     (ap (λ n. n + 1) (c.from-sequence.ensures ∙ c.step.ensures)) (c.deref-else-must_renew.ensures.value ∙ c.in-Ok.ensures.bytes) (c.in-Ok-put.ensures.put c.requires.store.unshut) seen
+
+pub returns-in-Ok-put-clause-made : goal.returns-in-Ok-put-clause-made
+returns-in-Ok-put-clause-made g c s seen =
+    put_whole c.args.store (g.D.Disk.seen c.args.disk.now) (g.D.Disk.seen c.put.new.disk) c.args.p.now (state_of c.args.mesh.now) c.deref-else-must_renew.result.now (c.from-sequence.result + 1)
+    (c.requires.ready.stands c.requires.store.unshut) (λ one. c.if-must_renew.false (c.version-must_renew.ensures ∙ one)) (ap (λ n. n + 1) (c.from-sequence.ensures ∙ c.step.ensures)) (c.deref-else-must_renew.ensures.value ∙ c.in-Ok.ensures.bytes)
+    c.in-Ok-put.ensures.seen s seen
 
 pub returns-in-Ok-put-clause-stops : goal.returns-in-Ok-put-clause-stops
 returns-in-Ok-put-clause-stops g c s content seen h =

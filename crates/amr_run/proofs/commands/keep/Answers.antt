@@ -6,7 +6,7 @@ use Rattle.amr_patch.specs.Meshes.{state_of}
 use Rattle.amr_problem.specs.Judgement.{IsProblemOf}
 use Rattle.amr_run.specs.Answer.{IsPlotOfKeptRun}
 use Rattle.amr_run.specs.Outcome.{RefusesRunTo}
-use Rattle.amr_run.proofs.KeptOutcomes.{kept_by, kept_replies, only_reads_none, plot_of_kept, stops_by, stops_run, unread_kept}
+use Rattle.amr_run.proofs.KeptOutcomes.{kept_by, kept_replies, only_reads_none, plot_of_kept, plot_unwritten, settles, settles_by, settles_unread, stops_by, stops_run, unread_before, unread_kept}
 use Rattle.amr_run.proofs.Outcomes.{stops_within}
 use Rattle.amr_run.specs.declared.status.Status.TheVariants.{Done, WriteFault}
 use Rattle.amr_run.proofs.commands.keep.Goals as goal
@@ -23,7 +23,8 @@ returns-in_err-given-clause-outcome g c =
           grows_none g.O.Sink.holds c.args.out.now,
           grows_none g.E.Sink.holds c.args.err.now,
           kept_by (IsPlotOfKeptRun read.0 c.args.marks.to c.args.marks.every (g.D.Disk.seen c.args.disk.now)) (λ (refusal : Refusal). IfSome (g.D.Disk.seen c.args.disk.now) (RefusesRunTo read.0 c.args.marks.to refusal)) c.from_residual.result _ read.0 [] [] c.from_residual.ensures.1 (unread_kept (IsPlotOfKeptRun read.0 c.args.marks.to c.args.marks.every (g.D.Disk.seen c.args.disk.now)) (λ (refusal : Refusal). IfSome (g.D.Disk.seen c.args.disk.now) (RefusesRunTo read.0 c.args.marks.to refusal)) _ read.0 read.2),
-          λ image told. inl (only_reads_none g.D.Disk.seen g.D.Disk.moment g.D.Disk.leaves c.args.disk.now, refl),
+          stops_by g.D.Disk.seen g.D.Disk.moment g.D.Disk.leaves c.args.disk.now c.args.disk.now c.from_residual.result _ read.0 c.args.marks.to c.args.marks.every [] c.from_residual.ensures.1
+              (λ image told. inl (unread_before _ read.0 read.2, only_reads_none g.D.Disk.seen g.D.Disk.moment g.D.Disk.leaves c.args.disk.now, refl)),
         ),
       ),
     )
@@ -51,7 +52,7 @@ returns-in_err-mesh-clause-outcome g c =
           grows_none g.O.Sink.holds c.args.out.now,
           run.1,
           kept_by (IsPlotOfKeptRun read.0 c.args.marks.to c.args.marks.every (g.D.Disk.seen c.args.disk.now)) (λ (refusal : Refusal). IfSome (g.D.Disk.seen c.args.disk.now) (RefusesRunTo read.0 c.args.marks.to refusal)) c.from_residual-in_err-mesh.result _ read.0 [] run.0 c.from_residual-in_err-mesh.ensures.1 (kept_replies _ c.deref.result.now read.0 c.args.marks.to p c.args.marks.every c.stop_of.result (g.D.Disk.seen c.args.disk.now) run.0 same c.stop_of.ensures read.2.1 run.2),
-          stops_by g.D.Disk.seen g.D.Disk.moment g.D.Disk.leaves c.args.disk.now c.keep_run.new.disk c.from_residual-in_err-mesh.result _ read.0 c.args.marks.to c.args.marks.every run.0 c.from_residual-in_err-mesh.ensures.1 (stops_run g.D.Disk.seen g.D.Disk.moment g.D.Disk.leaves c.args.disk.now c.keep_run.new.disk _ _ c.deref.result.now read.0 c.args.marks.to p c.args.marks.every c.stop_of.result run.0 same c.stop_of.ensures read.2.1 run.3 (λ attempt h. h)),
+          stops_by g.D.Disk.seen g.D.Disk.moment g.D.Disk.leaves c.args.disk.now c.keep_run.new.disk c.from_residual-in_err-mesh.result _ read.0 c.args.marks.to c.args.marks.every run.0 c.from_residual-in_err-mesh.ensures.1 (stops_run g.D.Disk.seen g.D.Disk.moment g.D.Disk.leaves c.args.disk.now c.keep_run.new.disk _ _ c.deref.result.now read.0 c.args.marks.to p c.args.marks.every c.stop_of.result run.0 same c.stop_of.ensures read.2.1 run.3 (λ h. h) (λ ended h. h)),
         ),
       ),
     )
@@ -74,7 +75,7 @@ returns-in_err-plot_in_threads-clause-outcome g c =
           part.2,
           run.1,
           kept_by (IsPlotOfKeptRun read.0 c.args.marks.to c.args.marks.every (g.D.Disk.seen c.args.disk.now)) (λ (refusal : Refusal). IfSome (g.D.Disk.seen c.args.disk.now) (RefusesRunTo read.0 c.args.marks.to refusal)) c.from_residual-in_err-plot_in_threads.result WriteFault read.0 part.0 run.0 c.from_residual-in_err-plot_in_threads.ensures.1 (record { whole = whole; lines = run.0; answer = answer; cut = inl (part.1, refl) }),
-          stops_by g.D.Disk.seen g.D.Disk.moment g.D.Disk.leaves c.args.disk.now c.keep_run.new.disk c.from_residual-in_err-plot_in_threads.result WriteFault read.0 c.args.marks.to c.args.marks.every run.0 c.from_residual-in_err-plot_in_threads.ensures.1 (stops_run g.D.Disk.seen g.D.Disk.moment g.D.Disk.leaves c.args.disk.now c.keep_run.new.disk Done WriteFault c.deref.result.now read.0 c.args.marks.to p c.args.marks.every c.stop_of.result run.0 same c.stop_of.ensures read.2.1 run.3 (λ attempt h. h)),
+          stops_by g.D.Disk.seen g.D.Disk.moment g.D.Disk.leaves c.args.disk.now c.keep_run.new.disk c.from_residual-in_err-plot_in_threads.result WriteFault read.0 c.args.marks.to c.args.marks.every run.0 c.from_residual-in_err-plot_in_threads.ensures.1 (stops_run g.D.Disk.seen g.D.Disk.moment g.D.Disk.leaves c.args.disk.now c.keep_run.new.disk Done WriteFault c.deref.result.now read.0 c.args.marks.to p c.args.marks.every c.stop_of.result run.0 same c.stop_of.ensures read.2.1 run.3 (λ h. absurd h) plot_unwritten),
         ),
       ),
     )
@@ -95,7 +96,26 @@ returns-clause-outcome g c =
           c.in_ok-plot_in_threads.ensures.whole,
           run.1,
           plot_of_kept c.deref.result.now read.0 c.args.marks.to p c.args.marks.every c.stop_of.result (g.D.Disk.seen c.args.disk.now) whole run.0 same c.stop_of.ensures read.2.1 run.2,
-          stops_run g.D.Disk.seen g.D.Disk.moment g.D.Disk.leaves c.args.disk.now c.keep_run.new.disk Done Done c.deref.result.now read.0 c.args.marks.to p c.args.marks.every c.stop_of.result run.0 same c.stop_of.ensures read.2.1 run.3 (λ attempt h. h),
+          stops_run g.D.Disk.seen g.D.Disk.moment g.D.Disk.leaves c.args.disk.now c.keep_run.new.disk Done Done c.deref.result.now read.0 c.args.marks.to p c.args.marks.every c.stop_of.result run.0 same c.stop_of.ensures read.2.1 run.3 (λ h. h) (λ ended h. h),
         ),
       ),
     )
+
+-- ---- what is pending
+
+pub returns-in_err-given-clause-settled : goal.returns-in_err-given-clause-settled
+returns-in_err-given-clause-settled g c =
+    let read = c.in_err-given.ensures.problem in
+    settles_by g.D.Disk.seen g.D.Disk.moment g.D.Disk.leaves c.args.disk.now c.args.disk.now c.from_residual.result _ c.from_residual.ensures.1 (settles_unread g.D.Disk.seen g.D.Disk.moment g.D.Disk.leaves c.args.disk.now _ read.0 read.2)
+
+pub returns-in_err-mesh-clause-settled : goal.returns-in_err-mesh-clause-settled
+returns-in_err-mesh-clause-settled g c =
+    settles_by g.D.Disk.seen g.D.Disk.moment g.D.Disk.leaves c.args.disk.now c.keep_run.new.disk c.from_residual-in_err-mesh.result _ c.from_residual-in_err-mesh.ensures.1
+    (settles g.D.Disk.seen g.D.Disk.moment g.D.Disk.leaves c.args.disk.now c.keep_run.new.disk _ (λ other. c.in_err-mesh.ensures.settled (λ is. other (cc))))
+
+pub returns-in_err-plot_in_threads-clause-settled : goal.returns-in_err-plot_in_threads-clause-settled
+returns-in_err-plot_in_threads-clause-settled g c =
+    settles_by g.D.Disk.seen g.D.Disk.moment g.D.Disk.leaves c.args.disk.now c.keep_run.new.disk c.from_residual-in_err-plot_in_threads.result WriteFault c.from_residual-in_err-plot_in_threads.ensures.1 (c.in_ok-mesh.ensures.settled (λ is. absurd (cc)))
+
+pub returns-clause-settled : goal.returns-clause-settled
+returns-clause-settled g c = c.in_ok-mesh.ensures.settled (λ is. absurd (cc))

@@ -1,8 +1,11 @@
-use Rattle.std.proofs.Common.{[], ap, Err}
+use Rattle.std.proofs.Common.{◌≡◌, [], ap, Err}
 use Rattle.amr_causes.proofs.ByteLaws.{grows_none}
+use Rattle.amr_checkpoint.specs.declared.faults.ResumeFault.TheVariants as resuming
 use Rattle.amr_def.specs.Plot.{plot}
 use Rattle.amr_patch.specs.Meshes.{state_of}
+use Rattle.amr_run.proofs.KeptOutcomes.{settles, settles_by}
 use Rattle.amr_run.proofs.StoreOutcomes.{plot_of_store, shown_by, unshown}
+use Rattle.amr_run.specs.Refusals.{resume_refused}
 use Rattle.amr_run.specs.declared.status.Status.TheVariants.{WriteFault}
 use Rattle.amr_run.proofs.commands.show.Goals as goal
 
@@ -21,3 +24,15 @@ pub returns-clause-outcome : goal.returns-clause-outcome
 returns-clause-outcome g c =
     let shown = c.in_ok-shown.shown in
     (plot shown.problem (state_of shown.mesh), c.in_ok-plot.ensures.whole, plot_of_store (g.D.Disk.seen c.args.disk.now) shown.problem shown.mesh c.in_ok-shown.ensures.holds c.in_ok-shown.ensures.mesh.sound)
+
+pub returns-in_err-shown-clause-settled : goal.returns-in_err-shown-clause-settled
+returns-in_err-shown-clause-settled g c =
+    settles_by g.D.Disk.seen g.D.Disk.moment g.D.Disk.leaves c.args.disk.now c.show.new.disk c.from_residual.result _ c.from_residual.ensures.1
+    (settles g.D.Disk.seen g.D.Disk.moment g.D.Disk.leaves c.args.disk.now c.show.new.disk _ (λ other. c.in_err-shown.ensures.settled (λ failed. let is : c.in_err-shown.field-0.0 ≡ resuming.DiskFault = cc in other (ap resume_refused is))))
+
+pub returns-in_err-plot-clause-settled : goal.returns-in_err-plot-clause-settled
+returns-in_err-plot-clause-settled g c =
+    settles_by g.D.Disk.seen g.D.Disk.moment g.D.Disk.leaves c.args.disk.now c.show.new.disk c.from_residual-in_err-plot.result WriteFault c.from_residual-in_err-plot.ensures.1 (c.in_ok-shown.ensures.settled (λ failed. absurd (cc)))
+
+pub returns-clause-settled : goal.returns-clause-settled
+returns-clause-settled g c = c.in_ok-shown.ensures.settled (λ failed. absurd (cc))

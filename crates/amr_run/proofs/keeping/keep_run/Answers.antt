@@ -1,7 +1,10 @@
 use Rattle.std.proofs.Common.{◌≡◌, [], Some, None, Err, refl, sym, ◌∙◌, ap, subst, inl}
+use Rattle.std.proofs.lemmas.Option.{none-some, same_Some}
 use Rattle.std.specs.List.{flat_map}
 use Rattle.amr_causes.proofs.ByteLaws.{grows_none}
 use Rattle.amr_causes.specs.Causes.{Rose}
+use Rattle.amr_checkpoint.specs.declared.faults.KeepFault.TheVariants as fault
+use Rattle.amr_checkpoint.specs.declared.faults.ResumeFault.TheVariants as resuming
 use Rattle.amr_checkpoint.specs.Checkpoints.{content_resumed}
 use Rattle.amr_checkpoint.specs.Contents.{Holds, state_from}
 use Rattle.amr_checkpoint.specs.Marks.{answer_of_run, checkpoint_line, marks}
@@ -11,10 +14,10 @@ use Rattle.amr_drive.proofs.Finishes.{finish_sound}
 use Rattle.amr_store.specs.Phases.{OnlyReads}
 use Rattle.amr_run.specs.Kept.{KeptReplies}
 use Rattle.amr_run.specs.Refusals.{keep_refused, resume_refused}
-use Rattle.amr_run.specs.Outcome.{StopsKept}
+use Rattle.amr_run.specs.Outcome.{EndsBefore, StopsKept}
 use Rattle.amr_run.specs.declared.status.Status.{Status}
 use Rattle.amr_run.specs.declared.status.Status.TheVariants.{Done}
-use Rattle.amr_run.proofs.KeptOutcomes.{begun_by, disk_cause, found_sound, is_kept_run, no_disk_cause, no_store, no_write_cause, stops_kept, unkept, unresumed}
+use Rattle.amr_run.proofs.KeptOutcomes.{disk_cause, found_sound, is_kept_run, no_disk_cause, no_store, no_write_cause, stops_kept, unkept, unresumed, unresumed_before}
 use Rattle.amr_run.proofs.StoreOutcomes.{if_told}
 use Rattle.amr_run.proofs.keeping.keep_run.Goals as goal
 
@@ -24,7 +27,7 @@ returns-in-Err-clause-outcome g c =
       [],
       grows_none g.E.Sink.holds c.args.err.now,
       subst (λ (s : Status). KeptReplies (Err s) c.args.bytes.now c.args.keeping.now.problem.now c.args.keeping.now.every c.args.keeping.now.target (g.D.Disk.seen c.args.disk.now) []) (sym is) (unresumed c.args.bytes.now c.args.keeping.now.problem.now c.args.keeping.now.every c.args.keeping.now.target (g.D.Disk.seen c.args.disk.now) c.in-Err.fault c.requires.accepted.clean (λ refusal image same told. c.in-Err.ensures.refused refusal image (ap Err same) told)),
-      λ image told. inl (c.in-Err.ensures.reads, refl),
+      λ image told. inl (subst EndsBefore (sym is) (unresumed_before c.in-Err.fault), c.in-Err.ensures.reads, refl),
     )
 
 pub run_from-requires-clause-holds : goal.run_from-requires-clause-holds
@@ -45,7 +48,7 @@ returns-in-Ok-run_from-clause-outcome g c =
       run.said,
       run.grows,
       is_kept_run c.args.bytes.now c.args.keeping.now.problem.now c.args.keeping.now.every c.args.keeping.now.target (g.D.Disk.seen c.args.disk.now) c.in-Ok.resumed _ run.said can held c.requires.within (ap (plot p) c.in-Ok-run_from.ensures.value) run.says.0,
-      stops_kept g.D.Disk.seen g.D.Disk.moment g.D.Disk.leaves g.D.Disk.faults g.E.Sink.holds g.E.Sink.faults c.args.bytes.now c.args.keeping.now.problem.now c.args.keeping.now.every c.args.keeping.now.target c.in-Ok.resumed c.args.disk.now c.resume.new.disk c.run_from.new.disk c.args.err.now c.run_from.new.err None Done (λ attempt is. is) c.in-Ok.ensures.reads c.in-Ok.ensures.settled (λ image told. c.in-Ok.ensures.holds image p told c.requires.accepted) can run,
+      stops_kept g.D.Disk.seen g.D.Disk.moment g.D.Disk.leaves g.D.Disk.faults g.E.Sink.holds g.E.Sink.faults c.args.bytes.now c.args.keeping.now.problem.now c.args.keeping.now.every c.args.keeping.now.target c.in-Ok.resumed c.args.disk.now c.resume.new.disk c.run_from.new.disk c.args.err.now c.run_from.new.err None Done tt c.in-Ok.ensures.reads (c.in-Ok.ensures.settled (λ failed. absurd (cc))) (λ image told. c.in-Ok.ensures.holds image p told c.requires.accepted) can run,
     )
 
 pub returns-in-Err-run_from-clause-outcome : goal.returns-in-Err-run_from-clause-outcome
@@ -64,7 +67,7 @@ returns-in-Err-run_from-clause-outcome g c =
       subst (λ (s : Status). KeptReplies (Err s) c.args.bytes.now c.args.keeping.now.problem.now c.args.keeping.now.every c.args.keeping.now.target (g.D.Disk.seen c.args.disk.now) run.said) (sym is)
           (unkept c.args.bytes.now c.args.keeping.now.problem.now c.args.keeping.now.every c.args.keeping.now.target (g.D.Disk.seen c.args.disk.now) (answer_of_run p found target) lines run.said (g.E.Sink.faults c.args.err.now) (g.E.Sink.faults c.run_from.new.err) c.in-Err-run_from.fault c.requires.accepted.clean answer run.says),
       subst (λ (s : Status). StopsKept g.D.Disk.seen g.D.Disk.moment g.D.Disk.leaves c.args.disk.now c.run_from.new.disk s c.args.bytes.now c.args.keeping.now.problem.now c.args.keeping.now.every c.args.keeping.now.target run.said) (sym is)
-          (stops_kept g.D.Disk.seen g.D.Disk.moment g.D.Disk.leaves g.D.Disk.faults g.E.Sink.holds g.E.Sink.faults c.args.bytes.now c.args.keeping.now.problem.now c.args.keeping.now.every c.args.keeping.now.target c.in-Ok.resumed c.args.disk.now c.resume.new.disk c.run_from.new.disk c.args.err.now c.run_from.new.err (Some c.in-Err-run_from.fault) (keep_refused c.in-Err-run_from.fault) (begun_by c.in-Err-run_from.fault) c.in-Ok.ensures.reads c.in-Ok.ensures.settled (λ image told. c.in-Ok.ensures.holds image p told c.requires.accepted) can run),
+          (stops_kept g.D.Disk.seen g.D.Disk.moment g.D.Disk.leaves g.D.Disk.faults g.E.Sink.holds g.E.Sink.faults c.args.bytes.now c.args.keeping.now.problem.now c.args.keeping.now.every c.args.keeping.now.target c.in-Ok.resumed c.args.disk.now c.resume.new.disk c.run_from.new.disk c.args.err.now c.run_from.new.err (Some c.in-Err-run_from.fault) (keep_refused c.in-Err-run_from.fault) refl c.in-Ok.ensures.reads (c.in-Ok.ensures.settled (λ failed. absurd (cc))) (λ image told. c.in-Ok.ensures.holds image p told c.requires.accepted) can run),
     )
 
 pub returns-in-Err-run_from-clause-disk_fault : goal.returns-in-Err-run_from-clause-disk_fault
@@ -89,3 +92,16 @@ returns-in-Err-run_from-clause-no_write_fault g c other =
 pub returns-in-Err-run_from-clause-unwritten : goal.returns-in-Err-run_from-clause-unwritten
 returns-in-Err-run_from-clause-unwritten g c refusal is =
     no_store c.in-Err-run_from.fault refusal (OnlyReads g.D.Disk.seen g.D.Disk.moment g.D.Disk.leaves c.args.disk.now c.run_from.new.disk) (sym c.from-in-Err-run_from.ensures ∙ (cc))
+
+-- ---- what is pending
+
+pub returns-in-Err-clause-settled : goal.returns-in-Err-clause-settled
+returns-in-Err-clause-settled g c other =
+    c.in-Err.ensures.settled (λ failed. let is : c.in-Err.fault ≡ resuming.DiskFault = cc in other (ap Err (c.from.ensures ∙ ap resume_refused is)))
+
+pub returns-in-Ok-run_from-clause-settled : goal.returns-in-Ok-run_from-clause-settled
+returns-in-Ok-run_from-clause-settled g c other = c.in-Ok-run_from.ensures.kept.settled (λ is. none-some fault.DiskFault is) (c.in-Ok.ensures.settled (λ failed. absurd (cc)))
+
+pub returns-in-Err-run_from-clause-settled : goal.returns-in-Err-run_from-clause-settled
+returns-in-Err-run_from-clause-settled g c other =
+    c.in-Err-run_from.ensures.kept.settled (λ is. other (ap Err (c.from-in-Err-run_from.ensures ∙ ap keep_refused (same_Some c.in-Err-run_from.fault fault.DiskFault is)))) (c.in-Ok.ensures.settled (λ failed. absurd (cc)))

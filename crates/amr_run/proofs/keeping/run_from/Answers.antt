@@ -20,7 +20,7 @@ returns-in-Ok-clause-kept g c =
     let states = start p ∷ states_after p (start p) target in
     let kept = keeps_of g.D.Disk.seen g.D.Disk.moment g.D.Disk.leaves g.D.Disk.faults g.E.Sink.holds g.E.Sink.faults c.args.bytes.now c.args.keeping.now.problem.now c.args.keeping.now.every c.args.keeping.now.target (problem_in c.in-Ok.store) c.make_store.new.disk c.run_new.new.disk c.args.err.now c.run_new.new.err states (fault_in c.run_new.result) c.in-Ok.ensures.problem c.run_new.ensures.kept in
     let run = run_kept_new g.D.Disk.seen g.D.Disk.moment g.D.Disk.leaves g.D.Disk.faults g.E.Sink.holds g.E.Sink.faults c.args.bytes.now c.args.keeping.now.problem.now c.args.keeping.now.every c.args.keeping.now.target c.args.disk.now c.make_store.new.disk c.run_new.new.disk c.args.err.now c.run_new.new.err states (fault_in c.run_new.result) kept (made_first c.args.bytes.now p every target) (c.in-Ok.ensures.no_disk_fault (λ is. absurd (cc))) c.in-Ok.ensures.told
-    (c.in-Ok.ensures.ready.settled c.in-Ok.ensures.store.store_is.unshut) c.in-Ok.ensures.holds c.in-Ok.ensures.stops in
+    (c.in-Ok.ensures.ready.settled c.in-Ok.ensures.store.store_is.unshut) c.in-Ok.ensures.made c.in-Ok.ensures.holds c.in-Ok.ensures.stops in
     subst (λ (r : Resumed). KeepsRun g.D.Disk.seen g.D.Disk.moment g.D.Disk.leaves g.D.Disk.faults g.E.Sink.holds g.E.Sink.faults c.args.bytes.now c.args.keeping.now.problem.now c.args.keeping.now.every c.args.keeping.now.target (content_resumed c.args.bytes.now p r) c.args.disk.now c.run_new.new.disk c.args.err.now c.run_new.new.err (fault_in c.run_new.result)) (sym c.in-Nothing.is) run
 
 pub returns-in-Err-DiskFault-clause-kept : goal.returns-in-Err-DiskFault-clause-kept

@@ -2,8 +2,9 @@ use Rattle.std.proofs.Common.{◌≡◌, ◌∙◌, ap, refl, sym, subst, Some, 
 use Rattle.amr_causes.proofs.ByteLaws.{grows_none, were_left}
 use Rattle.amr_cli.specs.declared.command.Command.{Command}
 use Rattle.amr_cli.specs.declared.command.Command.TheVariants.{Run}
+use Rattle.amr_run.specs.Answer.{OpensStore}
 use Rattle.amr_run.specs.Outcome.{RepliesTo, StopsTo, status_of}
-use Rattle.amr_run.proofs.KeptOutcomes.{stops_none}
+use Rattle.amr_run.proofs.KeptOutcomes.{only_reads_none}
 use Rattle.amr_run.proofs.run.answer.Goals as goal
 
 pub returns-in-Run-default-default-None-clause-outcome : goal.returns-in-Run-default-default-None-clause-outcome
@@ -21,7 +22,7 @@ returns-in-Run-default-default-None-clause-outcome g c =
           done.1.2,
           grows_none g.E.Sink.holds c.args.err.now,
           subst (λ (command : Command). RepliesTo (status_of c.run.result) command done.0 seen done.1.0 []) is (done.1.3, refl),
-          stops_none g.D.Disk.seen g.D.Disk.moment g.D.Disk.leaves c.args.disk.now _ (Some c.args.command) done.0,
+          subst (λ (command : Command). StopsTo g.D.Disk.seen g.D.Disk.moment g.D.Disk.leaves c.args.disk.now c.args.disk.now (status_of c.run.result) (Some command) done.0 []) is (only_reads_none g.D.Disk.seen g.D.Disk.moment g.D.Disk.leaves c.args.disk.now),
         ),
       ),
     )
@@ -60,7 +61,7 @@ returns-in-Check-clause-outcome g c =
           done.1.2,
           grows_none g.E.Sink.holds c.args.err.now,
           subst (λ (command : Command). RepliesTo (status_of c.check.result) command done.0 seen done.1.0 []) (sym c.in-Check.is) (done.1.3, refl),
-          stops_none g.D.Disk.seen g.D.Disk.moment g.D.Disk.leaves c.args.disk.now _ (Some c.args.command) done.0,
+          subst (λ (command : Command). StopsTo g.D.Disk.seen g.D.Disk.moment g.D.Disk.leaves c.args.disk.now c.args.disk.now (status_of c.check.result) (Some command) done.0 []) (sym c.in-Check.is) (only_reads_none g.D.Disk.seen g.D.Disk.moment g.D.Disk.leaves c.args.disk.now),
         ),
       ),
     )
@@ -98,7 +99,27 @@ returns-in-Trial-clause-outcome g c =
           said.1,
           grows_none g.E.Sink.holds c.args.err.now,
           subst (λ (command : Command). RepliesTo (status_of c.trial.result) command left.0 seen said.0 []) (sym c.in-Trial.is) (said.2, refl),
-          stops_none g.D.Disk.seen g.D.Disk.moment g.D.Disk.leaves c.args.disk.now _ (Some c.args.command) left.0,
+          subst (λ (command : Command). StopsTo g.D.Disk.seen g.D.Disk.moment g.D.Disk.leaves c.args.disk.now c.args.disk.now (status_of c.trial.result) (Some command) left.0 []) (sym c.in-Trial.is) (only_reads_none g.D.Disk.seen g.D.Disk.moment g.D.Disk.leaves c.args.disk.now),
         ),
       ),
     )
+
+-- ---- what is pending
+
+pub returns-in-Run-default-default-None-clause-settled : goal.returns-in-Run-default-default-None-clause-settled
+returns-in-Run-default-default-None-clause-settled g c opens =
+    let kept : c.in-Run-default-default-None.keep ≡ None = rw c.in-Run-default-default-None.is at c.in-Run-default-default-None.keep-is in
+    let is : Run c.in-Run-default-default-None.workers c.in-Run-default-default-None.to None ≡ c.args.command = ap (λ k. Run c.in-Run-default-default-None.workers c.in-Run-default-default-None.to k) (sym kept) ∙ sym c.in-Run-default-default-None.is in
+    absurd (subst OpensStore (sym is) opens)
+
+pub returns-in-Run-default-default-Some-clause-settled : goal.returns-in-Run-default-default-Some-clause-settled
+returns-in-Run-default-default-Some-clause-settled g c opens = c.keep.ensures.settled
+
+pub returns-in-Check-clause-settled : goal.returns-in-Check-clause-settled
+returns-in-Check-clause-settled g c opens = absurd (subst OpensStore c.in-Check.is opens)
+
+pub returns-in-Show-clause-settled : goal.returns-in-Show-clause-settled
+returns-in-Show-clause-settled g c opens = c.show.ensures.settled
+
+pub returns-in-Trial-clause-settled : goal.returns-in-Trial-clause-settled
+returns-in-Trial-clause-settled g c opens = absurd (subst OpensStore c.in-Trial.is opens)

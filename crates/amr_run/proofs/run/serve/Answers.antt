@@ -1,7 +1,9 @@
-use Rattle.std.proofs.Common.{ap, sym, subst, Option, [], refl, Err}
+use Rattle.std.proofs.Common.{◌∙◌, inl, ap, sym, subst, Option, [], refl, Err}
+use Rattle.std.proofs.lemmas.Option.{none-some, same_Some}
 use Rattle.amr_causes.proofs.ByteLaws.{grows_none, were_left}
 use Rattle.amr_cli.specs.declared.command.Command.{Command}
 use Rattle.amr_cli.specs.Words.{command_of}
+use Rattle.amr_run.specs.Answer.{OpensStore}
 use Rattle.amr_run.specs.Outcome.{Outcome, StopsTo}
 use Rattle.amr_run.specs.declared.status.Status.TheVariants.{Done, NoMemory, Usage}
 use Rattle.amr_run.proofs.KeptOutcomes.{stops_none}
@@ -22,7 +24,7 @@ returns-in-Err-Usage-clause-outcome g c =
           grows_none g.O.Sink.holds c.args.out.now,
           grows_none g.E.Sink.holds c.args.err.now,
           subst (λ (o : Option Command). Outcome Usage o left.0 seen [] []) (sym none) (refl, refl),
-          stops_none g.D.Disk.seen g.D.Disk.moment g.D.Disk.leaves c.args.disk.now Usage (command_of c.args.words.now) left.0,
+          stops_none g.D.Disk.seen g.D.Disk.moment g.D.Disk.leaves c.args.disk.now Usage (command_of c.args.words.now) left.0 tt,
         ),
       ),
     )
@@ -39,7 +41,7 @@ returns-in-Err-NoMemory-clause-outcome g c =
           grows_none g.O.Sink.holds c.args.out.now,
           grows_none g.E.Sink.holds c.args.err.now,
           of_no_memory (command_of c.args.words.now) left.0 (g.D.Disk.seen c.args.disk.now),
-          stops_none g.D.Disk.seen g.D.Disk.moment g.D.Disk.leaves c.args.disk.now NoMemory (command_of c.args.words.now) left.0,
+          stops_none g.D.Disk.seen g.D.Disk.moment g.D.Disk.leaves c.args.disk.now NoMemory (command_of c.args.words.now) left.0 tt,
         ),
       ),
     )
@@ -79,3 +81,31 @@ returns-in-Err-clause-outcome g c =
         ),
       ),
     )
+
+-- ---- what is pending
+
+pub returns-in-Err-Usage-clause-settled : goal.returns-in-Err-Usage-clause-settled
+returns-in-Err-Usage-clause-settled g c command asked opens = tt
+
+pub returns-in-Err-NoMemory-clause-settled : goal.returns-in-Err-NoMemory-clause-settled
+returns-in-Err-NoMemory-clause-settled g c command asked opens = inl refl
+
+pub returns-in-Ok-answer-clause-settled : goal.returns-in-Ok-answer-clause-settled
+returns-in-Ok-answer-clause-settled g c command asked opens = c.in-Ok-answer.ensures.settled (subst OpensStore (same_Some command c.in-Ok.command (sym asked ∙ c.in-Ok.ensures.command)) opens)
+
+pub returns-in-Err-clause-settled : goal.returns-in-Err-clause-settled
+returns-in-Err-clause-settled g c command asked opens = c.in-Err.ensures.settled (subst OpensStore (same_Some command c.in-Ok.command (sym asked ∙ c.in-Ok.ensures.command)) opens)
+
+-- ---- words that are no command
+
+pub returns-in-Err-Usage-clause-untouched : goal.returns-in-Err-Usage-clause-untouched
+returns-in-Err-Usage-clause-untouched g c none = (refl, refl, refl, refl)
+
+pub returns-in-Err-NoMemory-clause-untouched : goal.returns-in-Err-NoMemory-clause-untouched
+returns-in-Err-NoMemory-clause-untouched g c none = (refl, refl, refl, refl)
+
+pub returns-in-Ok-answer-clause-untouched : goal.returns-in-Ok-answer-clause-untouched
+returns-in-Ok-answer-clause-untouched g c none = absurd (none-some c.in-Ok.command (sym none ∙ c.in-Ok.ensures.command))
+
+pub returns-in-Err-clause-untouched : goal.returns-in-Err-clause-untouched
+returns-in-Err-clause-untouched g c none = absurd (none-some c.in-Ok.command (sym none ∙ c.in-Ok.ensures.command))
