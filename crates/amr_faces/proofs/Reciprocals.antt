@@ -1,8 +1,9 @@
 -- A product with a reciprocal in place of a division.
-use Rattle.std.proofs.Common.{◌≡◌, ℕ, zero, suc, ◌+◌, ◌-◌, ◌*◌, ◌/◌, ◌%◌, ◌^◌, ◌<◌, ◌≤◌, ℤ, ap, ◌∙◌, arith}
+use Rattle.std.proofs.Common.{◌≡◌, ℕ, zero, suc, ◌+◌, ◌-◌, ◌*◌, ◌/◌, ◌%◌, ◌^◌, ◌<◌, ◌≤◌, ℤ, pos, negsuc, ◌-ℤ◌, ◌≤ℤ◌, ◌<ℤ◌, ap, ◌∙◌, arith}
 use Rattle.std.specs.Prelude.{List, length, slice_index, unsigned_abs}
+use Rattle.std.proofs.lemmas.Int.{ints}
 use Rattle.std.proofs.Math.Nat.{div-le_of_le-mul, mul-le-mul_right, mul_comm, mul-le-mul_left, div-mul-le_self, lt-div-mul-add, lt_of_mul-lt-mul_left}
-use Rattle.amr_faces.specs.Shares.{AreBelow, AreSmall, IsNearReciprocal, IsReciprocal, share_of}
+use Rattle.amr_faces.specs.Shares.{AreBelow, AreFactors, AreSmall, IsNearReciprocal, IsReciprocal, product, share_of}
 
 -- a quotient by d is below n where the dividend is below d * n
 quotient_below : (x d n : ℕ) → 0 < d → x < d * n → x / d < n
@@ -89,6 +90,11 @@ product_fits v near small fits =
     let h : (v + v) * near ≤ (v + v) * 2 ^ 31 = mul-le-mul_left (v + v) fits in
     omega (arith, h)
 
+pub product_small : (v near : ℕ) → v < 2 ^ 31 → near ≤ 2 ^ 31 → (v + v) * near / 2 ^ 32 < 2 ^ 31
+product_small v near small fits =
+    let h : (v + v) * near ≤ (v + v) * 2 ^ 31 = mul-le-mul_left (v + v) fits in
+    omega (arith, h)
+
 near_product : (v a b e : ℕ) → a ≡ b + e → v * a ≡ v * b + v * e
 near_product v a b e is = ap (λ n. v * n) is ∙ omega arith
 
@@ -121,6 +127,28 @@ pub exact_near : (c : ℤ) (d near limit v : ℕ) → 0 < d → IsNearReciprocal
 exact_near c d near limit v some r below =
     let halved : (v + v) * near / 2 ^ 32 ≡ v * near / 2 ^ 31 = omega arith in
     halved ∙ near_scaled (unsigned_abs c) d v near limit some below r.up r.error
+
+-- ---- a flux as two products
+
+product_none : (v : ℕ) → product 0 v ≡ 0
+product_none v = omega arith
+
+module _ (d near limit : ℕ) (some : 0 < d) where
+  pub factors_ahead : (c : ℤ) → pos 0 ≤ℤ c → IsNearReciprocal c d near limit → AreFactors c d limit near 0
+  factors_ahead (pos n) h r = record {
+    low_fits = r.fits;
+    high_fits = omega arith;
+    flows = λ a b below beyond. (λ t. pos (exact_near (pos n) d near limit a some r below t) -ℤ pos (product_none b t)) ∙ omega (arith, ints);
+  }
+  factors_ahead (negsuc n) h r = absurd (omega (arith, ints, h))
+
+  pub factors_back : (c : ℤ) → c <ℤ pos 0 → IsNearReciprocal c d near limit → AreFactors c d limit 0 near
+  factors_back (pos n) h r = absurd (omega (arith, ints, h))
+  factors_back (negsuc n) h r = record {
+    low_fits = omega arith;
+    high_fits = r.fits;
+    flows = λ a b below beyond. (λ t. pos (product_none a t) -ℤ pos (exact_near (negsuc n) d near limit b some r beyond t)) ∙ omega (arith, ints);
+  }
 
 -- small masses each of which is below a limit, if it is small
 pub below_limit : (limit : ℕ) (masses : List ℕ) → AreSmall masses → ((k : ℕ) → k < length masses → slice_index masses k < 2 ^ 31 → slice_index masses k < limit) → AreBelow limit masses

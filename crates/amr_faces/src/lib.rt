@@ -11,5 +11,5 @@ mod one_face;
 mod share;
 
 pub use crate::ends::{x_end, y_end};
-pub use crate::one_face::face_flux;
-pub use crate::share::{Share, are_near};
+pub use crate::one_face::{face_flux, first_share};
+pub use crate::share::{Factors, Share, are_near};

@@ -1,41 +1,39 @@
 //! What flows through one face of a patch.
 
-ghost use Rattle.std.specs.Prelude.{◌≡◌, ◌≤◌, ◌<◌, ◌^◌, unsigned_abs, IsTrue};
+ghost use Rattle.std.specs.Prelude.{◌≡◌, ◌≤◌, ◌<◌, ◌^◌, unsigned_abs, pos, IsTrue};
 ghost use Rattle.amr_box.specs.Cells.{IsNear, holds};
 ghost use Rattle.amr_def.specs.Domain.{domain};
-ghost use Rattle.amr_def.specs.Flux.{courant, flow, low_cell};
+ghost use Rattle.amr_def.specs.Flux.{courant, face, flow, low_cell};
 ghost use Rattle.amr_patch.specs.Patches.{box, value_in};
 ghost use Rattle.amr_patch.specs.Places.{grown, is_face_of};
 ghost use Rattle.amr_faces.specs.Faces.{IsInDomain, flux_beside};
 ghost use Rattle.amr_faces.specs.Shares.{share_of};
 
+use crate::share::Share;
 use amr_box::{Axis, Bx, Cell, Face, distance};
 use amr_def::Problem;
 use amr_patch::Patch;
 
-/// The size of the flow out of a cell of this mass at Courant number `number / parts`, by a division.
+/// The size of the flow out of a cell of this mass. A division is made for masses of 2^31 and more alone.
 #[tactic(auto, using(crate::proofs::Reciprocals::share_within, crate::proofs::FaceSides::product_fits))]
-fn share_by_division(number: i32, parts: u32, mass: u32) -> u32
-    requires some { 0 < parts }
-    requires few { parts ≤ 1024 }
-    requires slow { unsigned_abs number ≤ parts }
-    ensures { result ≡ share_of number parts mass }
+fn size_of(share: Share, mass: u32) -> u32
+    ensures { result ≡ share_of share.number share.parts mass }
 {
-    (u64::from(number.unsigned_abs()) * u64::from(mass) / u64::from(parts)) as u32
+    if mass < 2147483648 {
+        return share.size(mass);
+    }
+    (u64::from(share.number.unsigned_abs()) * u64::from(mass) / u64::from(share.parts)) as u32
 }
 
-/// The flux through a face between cells of these values at Courant number `number / parts`.
-fn flow_between(number: i32, parts: u32, low: u32, high: u32) -> i64
-    requires some { 0 < parts }
-    requires few { parts ≤ 1024 }
-    requires slow { unsigned_abs number ≤ parts }
-    ensures value { result ≡ flow number parts low high }
+/// The flux through a face between cells of these values.
+fn flow_between(share: Share, low: u32, high: u32) -> i64
+    ensures value { result ≡ flow share.number share.parts low high }
     ensures small { unsigned_abs result < 2 ^ 32 }
 {
-    if number < 0 {
-        -i64::from(share_by_division(number, parts, high))
+    if share.number < 0 {
+        -i64::from(size_of(share, high))
     } else {
-        i64::from(share_by_division(number, parts, low))
+        i64::from(size_of(share, low))
     }
 }
 
@@ -75,11 +73,24 @@ fn courant(p: &Problem, l: u32, b: &Bx, f: Face) -> i32
     }
 }
 
+/// The share at the Courant number of the first row, or for y faces of the first column: that of all faces along the axis where
+/// there is no shear.
+#[tactic(auto, using(crate::proofs::Numbers::x_slow, crate::proofs::Numbers::y_slow))]
+pub fn first_share(p: &Problem, axis: Axis) -> Share
+    ensures number { result.number ≡ courant p.now 0 (face axis (pos 0) (pos 0)) }
+    ensures parts { result.parts ≡ p.now.d }
+{
+    match axis {
+        Axis::X => Share::make(p.x_courant(0, 0), p.d),
+        Axis::Y => Share::make(p.y_courant(0, 0), p.d),
+    }
+}
+
 /// What flows through a face of a cell of a patch of level `l`, above 0 towards the high side. It follows from the
 /// values on its two sides, in the patch or in its frame (donor cell; Berger and Colella 1989). The face may lie inside
 /// the patch or on its edge, and may belong to another patch. Before an update this is what flows in the level itself,
-/// where the frame is filled. It takes no memory.
-pub fn face_flux(p: &Problem, l: u32, patch: &Patch, f: Face) -> i64
+/// where the frame is filled. It takes no memory, and makes no division where the Courant number is that of the share handed in.
+pub fn face_flux(p: &Problem, l: u32, patch: &Patch, f: Face, last: Share) -> i64
     requires level { l ≤ 4 }
     requires inside { IsInDomain (domain p.now l) (box patch.now) }
     requires of_box { IsTrue (is_face_of (box patch.now) f) }
@@ -88,5 +99,6 @@ pub fn face_flux(p: &Problem, l: u32, patch: &Patch, f: Face) -> i64
 {
     let low = value_of(patch, low_cell(&patch.bx, f));
     let high = value_of(patch, Cell { x: f.x, y: f.y });
-    flow_between(courant(p, l, &patch.bx, f), p.d, low, high)
+    let share = last.with(courant(p, l, &patch.bx, f), p.d);
+    flow_between(share, low, high)
 }

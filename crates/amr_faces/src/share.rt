@@ -2,7 +2,7 @@
 
 ghost use Rattle.std.specs.Prelude.{◌≡◌, ℕ, length, slice_index, ◌+◌, ◌*◌, ◌/◌, ◌^◌, ◌<◌, ◌≤◌, IsTrue, unsigned_abs};
 ghost use Rattle.amr_def.specs.Flux.{flow};
-ghost use Rattle.amr_faces.specs.Shares.{AreBelow, AreSmall, IsNearReciprocal, IsReciprocal, share_of};
+ghost use Rattle.amr_faces.specs.Shares.{AreBelow, AreFactors, AreSmall, IsNearReciprocal, IsReciprocal, product, share_of};
 
 /// 2 to the 41: a share of a mass below 2^31 is exact if the number has so many binary places.
 const PLACES: u64 = 2199023255552;
@@ -36,6 +36,14 @@ pub struct Share {
     ghost near_reciprocal: { IsNearReciprocal number parts near limit },
 }
 
+/// What the masses at the two sides of a face are multiplied by, where one product gives each share: 0 at the side that nothing
+/// flows out of.
+#[derive(Clone, Copy, Debug)]
+pub struct Factors {
+    pub low: u32,
+    pub high: u32,
+}
+
 /// Below which masses a product with 31 places gives the share, where these are `error` too great, times `d * 2^31`.
 #[tactic(auto, using(crate::proofs::Reciprocals::limit_fits))]
 fn limit_of(error: u64) -> u32
@@ -45,6 +53,35 @@ fn limit_of(error: u64) -> u32
         return WHOLE as u32;
     }
     (WHOLE / error) as u32
+}
+
+/// A mass times a number with 31 places.
+#[inline(always)]
+#[tactic(auto, using(crate::proofs::Reciprocals::product_fits, crate::proofs::Reciprocals::product_small))]
+fn product(places: u32, mass: u32) -> u32
+    requires few { places ≤ 2 ^ 31 }
+    requires small { mass < 2 ^ 31 }
+    ensures value { result ≡ product places mass }
+    ensures small { result < 2 ^ 31 }
+{
+    (u64::from(mass + mass) * u64::from(places) / DOUBLE) as u32
+}
+
+impl Factors {
+    ghost use Rattle.std.specs.Prelude.{◌-ℤ◌, pos};
+    ghost use Rattle.amr_faces.specs.Shares.{product};
+
+    /// The flux through a face between cells of these values.
+    #[inline(always)]
+    pub fn flow(self, low: u32, high: u32) -> i32
+        requires low_few { self.low ≤ 2 ^ 31 }
+        requires high_few { self.high ≤ 2 ^ 31 }
+        requires low_small { low < 2 ^ 31 }
+        requires high_small { high < 2 ^ 31 }
+        ensures { result ≡ pos (product self.low low) -ℤ pos (product self.high high) }
+    {
+        product(self.low, low) as i32 - product(self.high, high) as i32
+    }
 }
 
 /// Whether each of these masses is below a limit, or not below 2^31. Where the limit is 2^31, none is looked at.
@@ -102,6 +139,24 @@ impl Share {
         self
     }
 
+    /// The factors by which one product gives each share of masses below the limit.
+    #[tactic(auto, using(crate::proofs::Reciprocals::factors_ahead, crate::proofs::Reciprocals::factors_back))]
+    pub fn factors(&self) -> Factors
+        ensures { AreFactors self.now.number self.now.parts self.now.limit result.low result.high }
+    {
+        if self.number < 0 {
+            Factors {
+                low: 0,
+                high: self.near,
+            }
+        } else {
+            Factors {
+                low: self.near,
+                high: 0,
+            }
+        }
+    }
+
     /// Whether one product gives the shares of all these masses. Where there is no limit, none is looked at.
     #[tactic(auto, using(crate::proofs::Reciprocals::below_limit))]
     pub fn is_near(&self, masses: &[u32]) -> bool
@@ -120,7 +175,7 @@ impl Share {
         ensures value { result ≡ share_of self.now.number self.now.parts mass }
         ensures bound { result ≤ mass }
     {
-        (u64::from(mass + mass) * u64::from(self.near) / DOUBLE) as u32
+        product(self.near, mass)
     }
 
     /// The size of the flow out of a cell of this mass.

@@ -2,6 +2,7 @@
 use Rattle.std.proofs.Common.{◌≡◌, ◌≢◌, ℕ, ◌+◌, ◌-◌, ◌*◌, ◌^◌, ◌<◌, ◌≤◌, inl, inr, ℤ, pos, ◌+ℤ◌, ◌-ℤ◌, List, ◌++◌, length, get_or, take, drop, ap, ◌∙◌, arith, length-take}
 use Rattle.std.specs.Prelude.{slice_index, slice_index_or}
 use Rattle.std.proofs.Math.ListN.{get_or-append}
+use Rattle.std.proofs.Math.Nat.{mul-le-mul_right}
 use Rattle.std.proofs.lemmas.List.{get_or-append_right, get_or-drop, get_or-take}
 use Rattle.std.proofs.lemmas.List.Edits.{get_or-between}
 use Rattle.std.proofs.lemmas.Bool.{cases_lt}
@@ -20,6 +21,12 @@ small_part xs a b each = record {
       let below : a + t < b = omega (arith, length-take (b - a) (drop a xs)) in
       rw (read xs a b t below) (each t below);
 }
+
+-- cell i of row j of a patch stands in its table, whose rows are two longer and two more
+pub in_table : (w h i j n : ℕ) → n ≡ (h + 2) * (w + 2) → j < h → i < w + 2 → (j + 1) * (w + 2) + i < n
+in_table w h i j n e row column =
+    let all : (j + 2) * (w + 2) ≤ (h + 2) * (w + 2) = mul-le-mul_right (w + 2) (omega arith) in
+    omega (arith, e, all, column)
 
 -- ---- a part that was written: k entries from a on
 

@@ -1,5 +1,5 @@
 -- A part of a row of fluxes more.
-use Rattle.std.proofs.Common.{◌≡◌, ◌≢◌, ℕ, ◌+◌, ◌<◌, ◌≤◌, ◌⊎◌, inl, inr, Bool, ℤ, pos, List, length, set, get_or-set_same, get_or-set_other, sym, ap, ◌∙◌, arith}
+use Rattle.std.proofs.Common.{◌≡◌, ◌≢◌, ℕ, ◌+◌, ◌<◌, ◌≤◌, ◌⊎◌, inl, inr, Bool, ℤ, pos, List, length, set, get_or-set_same, get_or-set_other, sym, subst, ap, ◌∙◌, arith}
 use Rattle.std.specs.Prelude.{slice_index_or}
 use Rattle.std.proofs.lemmas.Bool.{cases_eq}
 use borrow.Rule.Slice.PartMut.{put_mid}
@@ -7,6 +7,7 @@ use Rattle.amr_def.specs.declared.problem.Problem.{Problem}
 use Rattle.amr_def.specs.Flux.{flow}
 use Rattle.amr_faces.specs.Numbers.{x_number, y_number}
 use Rattle.amr_flux.specs.Tables.{value, x_flux, y_flux}
+use Rattle.amr_faces.specs.Shares.{AreFactors}
 use Rattle.amr_faces.proofs.Shown.{flow_of}
 use Rattle.amr_flux.proofs.Parts.{written}
 
@@ -46,3 +47,14 @@ x_flux_is p l first w values i j en ed el eh = flow_of en ed el eh
 pub y_flux_is : (p : Problem) (l first w : ℕ) (values : List ℕ) (i j : ℕ) {n : ℤ} {d low high : ℕ} → n ≡ y_number p l (first + i) → d ≡ p.d → low ≡ value w values (i + 1) j → high ≡ value w values (i + 1) (j + 1) → flow n d low high ≡ y_flux p l first w values i j
 unfolding y_flux
 y_flux_is p l first w values i j en ed el eh = flow_of en ed el eh
+
+-- ---- factors of a column
+
+pub factors_same : (c c' : ℤ) (d d' limit limit' low low' high high' : ℕ) → c ≡ c' → d ≡ d' → limit' ≤ limit → low ≡ low' → high ≡ high' → AreFactors c d limit low high → AreFactors c' d' limit' low' high'
+factors_same c c' d d' limit limit' low low' high high' ec ed less el eh f =
+    let narrow : AreFactors c d limit' low high = record { low_fits = f.low_fits; high_fits = f.high_fits; flows = λ a b ha hb. f.flows a b (omega (arith, ha, less)) (omega (arith, hb, less)) } in
+    let C : ℤ → Type 0 = λ z. AreFactors z d limit' low high in
+    let D : ℕ → Type 0 = λ n. AreFactors c' n limit' low high in
+    let L : ℕ → Type 0 = λ n. AreFactors c' d' limit' n high in
+    let H : ℕ → Type 0 = λ n. AreFactors c' d' limit' low' n in
+    subst H eh (subst L el (subst D ed (subst C ec narrow)))

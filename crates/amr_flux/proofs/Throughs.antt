@@ -135,32 +135,28 @@ pub total_now : (x low high : List ℤ) (X Y : ℕ → ℕ → ℤ) (m v t j : �
     → pos m +ℤ inflow x low high t ≡ pos v +ℤ net_inflow X Y t j
 total_now x low high X Y m v t j e ew ee es en = λ i. pos (e i) +ℤ ((ew i -ℤ ee i) +ℤ (es i -ℤ en i))
 
--- ---- a row in an update: x, low and high are its lists of fluxes
+-- ---- a row in an update
 
-module _ (p : Problem) (l row column w h : ℕ) (marks : List Bool) (border old values : List ℕ) (j : ℕ) (before : (q : ℕ) → IsOtherPlace w j q → slice_index values q ≡ slice_index old q)
-    (x low high : List ℤ) where
+module _ (p : Problem) (l row column w h : ℕ) (marks : List Bool) (border old values : List ℕ) (j : ℕ) (before : (q : ℕ) → IsOtherPlace w j q → slice_index values q ≡ slice_index old q) where
   abbrev xs : ℕ → ℕ → ℤ
   xs = x_through p l row w marks border old
 
   abbrev ys : ℕ → ℕ → ℤ
   ys = y_through p l column w h marks border old
 
-  -- those along the row, first by the values and then with the last one's border flux
-  pub x_here : (one : List ℤ) {n : ℤ} {m : Bool} {used : ℕ} → ((k : ℕ) → k < w + 1 → slice_index_or one k (pos 0) ≡ x_flux p l row w values k j)
-      → n ≡ x_number p l (row + j) → m ≡ x_marked w marks j → used ≡ count_below (x_marked w marks) j
-      → slice_index_or x w (pos 0) ≡ cond m (signed n (slice_index border used)) (slice_index_or one w (pos 0))
-      → ((k : ℕ) → k ≢ w → slice_index_or x k (pos 0) ≡ slice_index_or one k (pos 0))
-      → (k : ℕ) → k ≤ w → slice_index_or x k (pos 0) ≡ xs k j
-  x_here one each en em eu last others = x_made p l row w marks border old j one x _ _ _ (λ k i. each k i ∙ x_now p l row w j values old before k i) en em eu last others
+  -- rows that still have their old values give the old fluxes
+  x_same : (k : ℕ) → k < w + 1 → x_through p l row w marks border values k j ≡ xs k j
+  unfolding x_through
+  x_same k h = ap (λ v. cond (nat_eq k w && x_marked w marks j) (signed (x_number p l (row + j)) (slice_index border (count_below (x_marked w marks) j))) v) (x_now p l row w j values old before k h)
 
-  -- those above the row, first by the values and then with the fluxes of the border above the last row
-  pub high_here : (one : List ℤ) (used : ℕ) (rest : List ℕ) → rest ≡ drop used border → used ≡ count_below (x_marked w marks) (j + 1)
-      → ((i : ℕ) → i < w → slice_index_or one i (pos 0) ≡ y_flux p l column w values i (j + 1))
-      → ((i : ℕ) → i < w → slice_index_or high i (pos 0) ≡ cond (nat_eq (j + 1) h && y_marked w h marks i) (signed (y_number p l (column + i)) (slice_index rest (count_below (y_marked w h marks) i))) (slice_index_or one i (pos 0)))
-      → (i : ℕ) → i < w → slice_index_or high i (pos 0) ≡ ys i (j + 1)
-  high_here one used rest er eu each is i k = y_made p l column w h marks border old j i used rest er eu (each i k ∙ y_now p l column w j values old before i k) (is i k)
+  pub y_same : (i : ℕ) → i < w → y_through p l column w h marks border values i (j + 1) ≡ ys i (j + 1)
+  unfolding y_through
+  y_same i k = ap (λ v. cond (nat_eq (j + 1) h && y_marked w h marks i) (signed (y_number p l (column + i)) (slice_index border (count_below (x_marked w marks) h + count_below (y_marked w h marks) i))) v) (y_now p l column w j values old before i k)
 
-  -- what a cell of the row gets
-  pub row_total : ((k : ℕ) → k ≤ w → slice_index_or x k (pos 0) ≡ xs k j) → ((i : ℕ) → i < w → slice_index_or low i (pos 0) ≡ ys i j) → ((i : ℕ) → i < w → slice_index_or high i (pos 0) ≡ ys i (j + 1))
+  -- what a cell of the row gets, by its lists of fluxes
+  pub row_total : (x low high : List ℤ) → ((k : ℕ) → k ≤ w → slice_index_or x k (pos 0) ≡ x_through p l row w marks border values k j) → ((i : ℕ) → i < w → slice_index_or low i (pos 0) ≡ ys i j)
+      → ((i : ℕ) → i < w → slice_index_or high i (pos 0) ≡ y_through p l column w h marks border values i (j + 1))
       → (t : ℕ) → t < w → pos (value w values (t + 1) (j + 1)) +ℤ inflow x low high t ≡ pos (value w old (t + 1) (j + 1)) +ℤ net_inflow xs ys t j
-  row_total x_is low_is high_is t i = total_now x low high xs ys _ _ t j (later w j values old before (j + 1) (t + 1) _ (omega arith) (omega (arith, i)) refl) (x_is t (omega (arith, i))) (x_is (t + 1) (omega (arith, i))) (low_is t i) (high_is t i)
+  row_total x low high x_is low_is high_is t i =
+      total_now x low high xs ys _ _ t j (later w j values old before (j + 1) (t + 1) _ (omega arith) (omega (arith, i)) refl)
+      (x_is t (omega (arith, i)) ∙ x_same t (omega (arith, i))) (x_is (t + 1) (omega (arith, i)) ∙ x_same (t + 1) (omega (arith, i))) (low_is t i) (high_is t i ∙ y_same t i)

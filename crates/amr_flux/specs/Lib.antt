@@ -1,3 +1,4 @@
+pub mod Columns
 pub mod Paces
 pub mod Rooms
 pub mod Rows

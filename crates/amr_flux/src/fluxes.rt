@@ -12,7 +12,7 @@ ghost use Rattle.amr_flux.specs.Rooms.{widest};
 use crate::room::Room;
 use crate::shape::shape_of;
 use crate::x_faces::{column_fluxes, high_fluxes};
-use crate::y_faces::{set_shares, top_fluxes, y_row};
+use crate::y_faces::{set_columns, top_fluxes, y_row};
 use amr_def::Problem;
 use amr_patch::Patch;
 
@@ -36,15 +36,15 @@ pub fn sweep(p: &Problem, l: u32, patch: &mut Patch, room: &mut Room)
     let data = &mut *patch.data;
     column_fluxes(p, shape, &data.values, 0, &mut data.x_low);
     high_fluxes(p, shape, &data.values, &data.marks, &mut data.x_high);
-    set_shares(p, shape, &mut room.shares);
-    let shares = &room.shares;
-    y_row(p, shape, &data.values, 0, shares, &mut data.y_low);
+    set_columns(p, shape, &mut room.columns);
+    let factors = &room.columns;
+    y_row(p, shape, &data.values, 0, factors, &mut data.y_low);
     top_fluxes(
         p,
         shape,
         &data.values,
         &data.marks,
-        shares,
+        factors,
         &mut data.y_high,
     );
 }

@@ -5,6 +5,7 @@
 //! - [`update_alone`]: the same, where what flows through border faces follows from the frame as well.
 #![tactic(auto)]
 
+mod columns;
 mod exchanges;
 mod fluxes;
 mod masses;

@@ -2,6 +2,7 @@
 
 ghost use Rattle.std.specs.Prelude.{◌≡◌, ◌+◌, length};
 
+use crate::columns::Columns;
 use amr_causes::NoMemory;
 use amr_faces::Share;
 use std::alloc::Global;
@@ -20,12 +21,11 @@ pub struct Room {
     pub(crate) high: Vec<i32>,
     /// What flows out of the cells of the row across its y faces.
     pub(crate) across: Vec<u32>,
-    /// The shares at the Courant numbers of the columns that were worked on last, where each column has its own.
-    pub(crate) shares: Vec<Share>,
+    pub(crate) columns: Columns,
     pub ghost x_count: { length x.items ≡ length low.items + 1 },
     pub ghost high_count: { length high.items ≡ length low.items },
     pub ghost across_count: { length across.items ≡ length low.items },
-    pub ghost share_count: { length shares.items ≡ length low.items },
+    pub ghost column_count: { length columns.low.items ≡ length low.items },
 }
 
 #[tactic(auto, unfolding(crate::specs::Rooms::widest))]
@@ -42,7 +42,8 @@ impl Room {
         let low = vec![in alloc; 0i32; columns]?;
         let high = vec![in alloc; 0i32; columns]?;
         let across = vec![in alloc; 0u32; columns]?;
-        let shares = vec![in alloc; Share::make(0, 1); columns]?;
+        let low_factors = vec![in alloc; 0u32; columns]?;
+        let high_factors = vec![in alloc; 0u32; columns]?;
         Ok(Room {
             x_share: Share::make(0, 1),
             y_share: Share::make(0, 1),
@@ -50,7 +51,11 @@ impl Room {
             low,
             high,
             across,
-            shares,
+            columns: Columns {
+                low: low_factors,
+                high: high_factors,
+                limit: 0,
+            },
         })
     }
 

@@ -15,6 +15,7 @@ use amr_def::Problem;
 use amr_faces::Share;
 
 /// The flux through x face `i` of row `j`.
+#[tactic(auto, using(crate::proofs::Parts::in_table))]
 pub(crate) fn x_face_flux(shape: Shape, share: Share, values: &[u32], i: usize, j: usize) -> i32
     requires value_count { length values.now ≡ (shape.h + 2) * (shape.w + 2) }
     requires column { i ≤ shape.w }

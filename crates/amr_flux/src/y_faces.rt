@@ -1,68 +1,130 @@
 //! The fluxes through rows of y faces.
 
-ghost use Rattle.std.specs.Prelude.{◌≡◌, ℕ, ◌+◌, ◌*◌, ◌≤◌, ◌<◌, ◌^◌, Bool, ◌&&◌, cond, nat_eq, false, true, length, pos, slice_index, slice_index_or, unsigned_abs};
+ghost use Rattle.std.specs.Prelude.{◌≡◌, ℕ, ◌+◌, ◌*◌, ◌≤◌, ◌<◌, ◌^◌, Bool, ◌&&◌, cond, nat_eq, false, true, length, pos, ◌-ℤ◌, slice_index, slice_index_or, unsigned_abs};
 ghost use Rattle.amr_def.specs.Domain.{columns};
 ghost use Rattle.amr_def.specs.Flux.{flow};
 ghost use Rattle.amr_faces.specs.Shares.{signed};
-ghost use Rattle.amr_faces.specs.Shares.{AreSmall};
+ghost use Rattle.amr_faces.specs.Shares.{AreBelow, AreSmall, product};
+ghost use Rattle.amr_flux.specs.Columns.{AreColumns};
 ghost use Rattle.amr_faces.specs.Numbers.{y_number};
 ghost use Rattle.amr_flux.specs.Tables.{AreYSmall, count_below, value, y_flux, y_marked};
 
+use crate::columns::Columns;
 use crate::rows::face_fluxes;
 use crate::shape::{Shape, y_share};
 use crate::x_faces::is_marked;
 use amr_def::Problem;
-use amr_faces::Share;
+use amr_faces::{Factors, Share};
 
-/// The share that is kept at a place, or another where none is.
-fn share_at(shares: &[Share], i: usize, other: Share) -> Share {
-    if i < shares.len() {
-        return shares[i];
-    }
-    other
-}
-
-/// Makes the shares at the Courant numbers of a patch's columns, where each column has its own; those that it has are kept.
+/// Makes the factors of a patch's columns, where each column has a Courant number of its own.
 #[tactic(auto, using(amr_faces::proofs::Numbers::y_slow))]
-pub(crate) fn set_shares(p: &Problem, shape: Shape, shares: &mut [Share])
+pub(crate) fn set_columns(p: &Problem, shape: Shape, factors: &mut Columns)
     requires level { shape.level ≤ 4 }
     requires inside { shape.column + shape.w ≤ columns p.now shape.level }
+    ensures columns { AreColumns p.now shape.level shape.column shape.w factors.new }
+    ensures room { length factors.new.low.items ≡ length factors.old.low.items }
 {
+    factors.limit = 0;
     if p.shear_y.entries().is_empty() {
         return;
     }
-    for i in 0..shape.w.min(shares.len()) {
-        shares[i] = shares[i].with(p.y_courant(shape.level, shape.column + i as u32), p.d);
+    if factors.low.len() < shape.w {
+        return;
+    }
+    let mut share = shape.y;
+    let mut limit = 2147483648;
+    for i in 0..shape.w {
+        share = share.with(p.y_courant(shape.level, shape.column + i as u32), p.d);
+        let pair = share.factors();
+        factors.low[i] = pair.low;
+        factors.high[i] = pair.high;
+        limit = share.limit.min(limit);
+    }
+    factors.limit = limit;
+}
+
+/// The flux through a y face of column `i` between these values: by the column's factors where these do.
+#[tactic(auto, using(amr_faces::proofs::Numbers::y_slow))]
+fn y_face(p: &Problem, shape: Shape, factors: &Columns, i: usize, low: u32, high: u32) -> i32
+    requires level { shape.level ≤ 4 }
+    requires inside { shape.column + shape.w ≤ columns p.now shape.level }
+    requires columns { AreColumns p.now shape.level shape.column shape.w factors.now }
+    requires column { i < shape.w }
+    requires low_small { low < 2 ^ 31 }
+    requires high_small { high < 2 ^ 31 }
+    ensures value { result ≡ flow (y_number p.now shape.level (shape.column + i)) p.now.d low high }
+    ensures small { unsigned_abs result < 2147483648 }
+{
+    if low < factors.limit {
+        if high < factors.limit {
+            return factors.at(i).flow(low, high);
+        }
+    }
+    y_share(p, shape.level, shape.column + i as u32, shape.y).flow(low, high)
+}
+
+/// The fluxes through faces between these cells, by factors of their own.
+fn fluxes_by(
+    low_factors: &[u32],
+    high_factors: &[u32],
+    low: &[u32],
+    high: &[u32],
+    fluxes: &mut [i32],
+)
+    requires low_count { length low.now ≡ length fluxes.old }
+    requires high_count { length high.now ≡ length fluxes.old }
+    requires low_factors_count { length low_factors.now ≡ length fluxes.old }
+    requires high_factors_count { length high_factors.now ≡ length fluxes.old }
+    requires low_few { AreBelow (2 ^ 31 + 1) low_factors.now }
+    requires high_few { AreBelow (2 ^ 31 + 1) high_factors.now }
+    requires low_small { AreSmall low.now }
+    requires high_small { AreSmall high.now }
+    ensures { (k : ℕ) → k < length fluxes.old → slice_index_or fluxes.new k (pos 0) ≡ pos (product (slice_index low_factors.now k) (slice_index low.now k)) -ℤ pos (product (slice_index high_factors.now k) (slice_index high.now k)) }
+{
+    for k in 0..fluxes.len() {
+        let factors = Factors {
+            low: low_factors[k],
+            high: high_factors[k],
+        };
+        fluxes[k] = factors.flow(low[k], high[k]);
     }
 }
 
-/// The fluxes through the y faces between two rows of cells of a patch. No division is made where the shares are those of the
-/// columns.
-#[tactic(auto, using(amr_faces::proofs::Numbers::y_slow))]
+/// The fluxes through the y faces between two rows of cells of a patch, by one product for each side where the columns' factors do.
 pub(crate) fn y_fluxes(
     p: &Problem,
     shape: Shape,
     low: &[u32],
     high: &[u32],
-    shares: &[Share],
+    factors: &Columns,
     fluxes: &mut [i32],
 )
     requires level { shape.level ≤ 4 }
-    requires inside { shape.column + length fluxes.old ≤ columns p.now shape.level }
-    requires low_count { length low.now ≡ length fluxes.old }
-    requires high_count { length high.now ≡ length fluxes.old }
+    requires inside { shape.column + shape.w ≤ columns p.now shape.level }
+    requires columns { AreColumns p.now shape.level shape.column shape.w factors.now }
+    requires flux_count { length fluxes.old ≡ shape.w }
+    requires low_count { length low.now ≡ shape.w }
+    requires high_count { length high.now ≡ shape.w }
     requires low_small { AreSmall low.now }
     requires high_small { AreSmall high.now }
-    ensures { (i : ℕ) → i < length fluxes.old → slice_index_or fluxes.new i (pos 0) ≡ flow (y_number p.now shape.level (shape.column + i)) p.now.d (slice_index low.now i) (slice_index high.now i) }
+    ensures { (i : ℕ) → i < shape.w → slice_index_or fluxes.new i (pos 0) ≡ flow (y_number p.now shape.level (shape.column + i)) p.now.d (slice_index low.now i) (slice_index high.now i) }
 {
     if p.shear_y.entries().is_empty() {
         face_fluxes(shape.y.with(p.cy, p.d), low, high, fluxes);
         return;
     }
+    if factors.serve(low, high) {
+        fluxes_by(
+            &factors.low[..shape.w],
+            &factors.high[..shape.w],
+            low,
+            high,
+            fluxes,
+        );
+        return;
+    }
     for i in 0..fluxes.len() {
-        let last = share_at(shares, i, shape.y);
-        let share = last.with(p.y_courant(shape.level, shape.column + i as u32), p.d);
-        fluxes[i] = share.flow(low[i], high[i]);
+        fluxes[i] = y_face(p, shape, factors, i, low[i], high[i]);
     }
 }
 
@@ -73,11 +135,12 @@ pub(crate) fn y_row(
     shape: Shape,
     values: &[u32],
     j: usize,
-    shares: &[Share],
+    factors: &Columns,
     fluxes: &mut [i32],
 )
     requires level { shape.level ≤ 4 }
     requires inside { shape.column + shape.w ≤ columns p.now shape.level }
+    requires columns { AreColumns p.now shape.level shape.column shape.w factors.now }
     requires value_count { length values.now ≡ (shape.h + 2) * (shape.w + 2) }
     requires flux_count { shape.w ≤ length fluxes.old }
     requires row { j ≤ shape.h }
@@ -92,7 +155,7 @@ pub(crate) fn y_row(
         shape,
         &values[low..low + shape.w],
         &values[high..high + shape.w],
-        shares,
+        factors,
         &mut fluxes[0..shape.w],
     );
 }
@@ -120,11 +183,12 @@ pub(crate) fn top_fluxes(
     shape: Shape,
     values: &[u32],
     marks: &[bool],
-    shares: &[Share],
+    factors: &Columns,
     fluxes: &mut [i32],
 )
     requires level { shape.level ≤ 4 }
     requires inside { shape.column + shape.w ≤ columns p.now shape.level }
+    requires columns { AreColumns p.now shape.level shape.column shape.w factors.now }
     requires value_count { length values.now ≡ (shape.h + 2) * (shape.w + 2) }
     requires flux_count { length fluxes.old ≡ shape.w }
     requires small { AreYSmall shape.w shape.h values.now }
@@ -138,9 +202,16 @@ pub(crate) fn top_fluxes(
     }
     for i in 0..fluxes.len() {
         if !is_top_marked(shape, marks, i) {
-            let last = share_at(shares, i, shape.y);
-            let share = y_share(p, shape.level, shape.column + i as u32, last);
-            fluxes[i] = top_flux(shape, share, values, i);
+            let low = shape.h * (shape.w + 2);
+            let high = (shape.h + 1) * (shape.w + 2);
+            fluxes[i] = y_face(
+                p,
+                shape,
+                factors,
+                i,
+                values[low + (i + 1)],
+                values[high + (i + 1)],
+            );
         }
     }
 }

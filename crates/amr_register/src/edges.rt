@@ -13,7 +13,7 @@ use crate::flows::{high_face, low_face};
 use crate::sides::CoveredSides;
 use amr_box::{Axis, Cell, Face};
 use amr_def::Problem;
-use amr_faces::face_flux;
+use amr_faces::{Share, face_flux, first_share};
 use amr_patch::Patch;
 
 /// A register cell of a patch, the sides where covered cells lie beside it, its number in the register, and what flows into it
@@ -28,7 +28,7 @@ pub struct EdgeCell {
 
 /// The flow through a face of a patch by its values, if it counts.
 #[inline(always)]
-fn flow_beside(p: &Problem, l: u32, patch: &Patch, counts: bool, f: Face) -> i64
+fn flow_beside(p: &Problem, l: u32, patch: &Patch, counts: bool, f: Face, last: Share) -> i64
     requires level { l ≤ 4 }
     requires inside { IsInDomain (domain p.now l) (box patch.now) }
     requires of_box { IsTrue (is_face_of (box patch.now) f) }
@@ -39,11 +39,19 @@ fn flow_beside(p: &Problem, l: u32, patch: &Patch, counts: bool, f: Face) -> i64
     if !counts {
         return 0;
     }
-    face_flux(p, l, patch, f)
+    face_flux(p, l, patch, f, last)
 }
 
-/// What flows into a cell of a patch through its faces on these sides.
-fn net_beside(p: &Problem, l: u32, patch: &Patch, sides: CoveredSides, c: Cell) -> i64
+/// What flows into a cell of a patch through its faces on these sides. No division is made where these shares are those of the faces.
+fn net_beside(
+    p: &Problem,
+    l: u32,
+    patch: &Patch,
+    x: Share,
+    y: Share,
+    sides: CoveredSides,
+    c: Cell,
+) -> i64
     requires level { l ≤ 4 }
     requires inside { IsInDomain (domain p.now l) (box patch.now) }
     requires of_patch { IsTrue (holds (box patch.now) c) }
@@ -51,10 +59,10 @@ fn net_beside(p: &Problem, l: u32, patch: &Patch, sides: CoveredSides, c: Cell) 
     ensures low { negsuc (2 ^ 34 - 1) <ℤ result }
     ensures high { result <ℤ pos (2 ^ 34) }
 {
-    let west = flow_beside(p, l, patch, sides.west, low_face(Axis::X, c));
-    let east = flow_beside(p, l, patch, sides.east, high_face(Axis::X, c));
-    let south = flow_beside(p, l, patch, sides.south, low_face(Axis::Y, c));
-    let north = flow_beside(p, l, patch, sides.north, high_face(Axis::Y, c));
+    let west = flow_beside(p, l, patch, sides.west, low_face(Axis::X, c), x);
+    let east = flow_beside(p, l, patch, sides.east, high_face(Axis::X, c), x);
+    let south = flow_beside(p, l, patch, sides.south, low_face(Axis::Y, c), y);
+    let north = flow_beside(p, l, patch, sides.north, high_face(Axis::Y, c), y);
     (west - east) + (south - north)
 }
 
@@ -67,8 +75,10 @@ pub fn find_nets(p: &Problem, l: u32, patch: &Patch, edges: &mut [EdgeCell])
     ensures nets { AllZip (HasNet p.now l patch.now) edges.old edges.new }
     ensures small { All IsSmallNet edges.new }
 {
+    let x = first_share(p, Axis::X);
+    let y = first_share(p, Axis::Y);
     for k in 0..edges.len() {
-        edges[k].net = net_beside(p, l, patch, edges[k].sides, edges[k].cell);
+        edges[k].net = net_beside(p, l, patch, x, y, edges[k].sides, edges[k].cell);
     }
 }
 

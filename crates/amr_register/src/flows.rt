@@ -14,7 +14,7 @@ ghost use Rattle.amr_register.specs.CoarseFlows.{high_face, low_face, net_owned,
 use crate::sides::CoveredSides;
 use amr_box::{Axis, Cell, Face};
 use amr_def::{Dom, Problem};
-use amr_faces::face_flux;
+use amr_faces::{Share, face_flux, first_share};
 use amr_patch::Patch;
 
 /// Register cells in their order, with the sides of each where covered cells lie.
@@ -72,7 +72,7 @@ fn home_of(dom: &Dom, c: Cell) -> Cell
 }
 
 /// The flow through a face by the values of a patch, if it counts and the patch owns it; 0 else.
-fn owned_flow(p: &Problem, l: u32, patch: &Patch, counts: bool, f: Face) -> i64
+fn owned_flow(p: &Problem, l: u32, patch: &Patch, counts: bool, f: Face, last: Share) -> i64
     requires level { l ≤ 4 }
     requires inside { IsInDomain (domain p.now l) (box patch.now) }
     ensures value { result ≡ owned_flow p.now l patch.now counts f }
@@ -86,11 +86,19 @@ fn owned_flow(p: &Problem, l: u32, patch: &Patch, counts: bool, f: Face) -> i64
     if !patch.bx().holds(high) {
         return 0;
     }
-    face_flux(p, l, patch, low_face(f.axis, high))
+    face_flux(p, l, patch, low_face(f.axis, high), last)
 }
 
 /// What comes into a cell by the flows through those of its faces that lie on these sides and that a patch owns.
-fn net_owned(p: &Problem, l: u32, patch: &Patch, sides: CoveredSides, c: Cell) -> i64
+fn net_owned(
+    p: &Problem,
+    l: u32,
+    patch: &Patch,
+    x: Share,
+    y: Share,
+    sides: CoveredSides,
+    c: Cell,
+) -> i64
     requires level { l ≤ 4 }
     requires near { IsDomainCell c }
     requires inside { IsInDomain (domain p.now l) (box patch.now) }
@@ -98,10 +106,10 @@ fn net_owned(p: &Problem, l: u32, patch: &Patch, sides: CoveredSides, c: Cell) -
     ensures low { negsuc (2 ^ 34) <ℤ result }
     ensures high { result <ℤ pos (2 ^ 34) }
 {
-    let west = owned_flow(p, l, patch, sides.west, low_face(Axis::X, c));
-    let east = owned_flow(p, l, patch, sides.east, high_face(Axis::X, c));
-    let south = owned_flow(p, l, patch, sides.south, low_face(Axis::Y, c));
-    let north = owned_flow(p, l, patch, sides.north, high_face(Axis::Y, c));
+    let west = owned_flow(p, l, patch, sides.west, low_face(Axis::X, c), x);
+    let east = owned_flow(p, l, patch, sides.east, high_face(Axis::X, c), x);
+    let south = owned_flow(p, l, patch, sides.south, low_face(Axis::Y, c), y);
+    let north = owned_flow(p, l, patch, sides.north, high_face(Axis::Y, c), y);
     (west - east) + (south - north)
 }
 
@@ -116,7 +124,9 @@ pub(crate) fn take_away(p: &Problem, l: u32, patch: &Patch, edge: Edge<'_>, entr
     requires room { (k : ℕ) → k < length edge.cells.now → unsigned_abs (slice_index_or entries.old k (pos 0)) < 2 ^ 62 }
     ensures { (k : ℕ) (c : Cell) (s : CoveredSides) → k < length edge.entry.cells.now → slice_index_or entries.new k (pos 0) ≡ slice_index_or entries.old k (pos 0) -ℤ net_owned p.now l patch.now (slice_index_or edge.entry.sides.now k s) (slice_index_or edge.entry.cells.now k c) }
 {
+    let x = first_share(p, Axis::X);
+    let y = first_share(p, Axis::Y);
     for k in 0..edge.cells.len() {
-        entries[k] -= net_owned(p, l, patch, edge.sides[k], edge.cells[k]);
+        entries[k] -= net_owned(p, l, patch, x, y, edge.sides[k], edge.cells[k]);
     }
 }

@@ -1,6 +1,6 @@
 use mir.Syntax.{w32, w64}
 use mir.Val.{of_z, to_z}
-use Rattle.std.proofs.Common.{◌≡◌, refl, ap, ◌∙◌, arith}
+use Rattle.std.proofs.Common.{◌≡◌, ap, ◌∙◌, arith}
 use Rattle.std.specs.Prelude.{◌||◌}
 use Rattle.std.proofs.lemmas.Int.{ints}
 use Rattle.std.proofs.lemmas.Bool.{and_parts}
@@ -32,8 +32,8 @@ value_of-high-requires c =
     let y : to_z w32 (of_z w32 f.y) ≡ f.y = omega (arith, ints) in
     ap (holds (grown b)) (same_cell x y) ∙ parts.0
 
-pub flow_between-requires-clause-slow : goal.flow_between-requires-clause-slow
-flow_between-requires-clause-slow c = let e : to_z w32 (of_z w32 c.courant.result) ≡ c.courant.result = omega (arith, ints) in rw e c.courant.ensures.slow
+pub with-share-requires-clause-slow : goal.with-share-requires-clause-slow
+with-share-requires-clause-slow c = let e : to_z w32 (of_z w32 c.courant.result) ≡ c.courant.result = omega (arith, ints) in rw e c.courant.ensures.slow
 
 pub returns-clause-value : goal.returns-clause-value
 unfolding flux_beside
@@ -46,6 +46,6 @@ returns-clause-value c =
     let number : to_z w32 (of_z w32 c.courant.result) ≡ courant c.args.p.now c.args.l f = e ∙ c.courant.ensures.value in
     let low : c.value_of-low.result ≡ value_in q (low_cell f) = c.value_of-low.ensures ∙ ap (value_in q) c.low_cell.ensures in
     let high : c.value_of-high.result ≡ value_in q (high_cell f) = c.value_of-high.ensures ∙ ap (value_in q) (same_cell x y) in
-    let sum : flow (to_z w32 (of_z w32 c.courant.result)) c.args.p.now.d c.value_of-low.result c.value_of-high.result ≡ flow (courant c.args.p.now c.args.l f) c.args.p.now.d (value_in q (low_cell f)) (value_in q (high_cell f)) = flow_of number refl low high in
+    let sum : flow c.with-share.result.number c.with-share.result.parts c.value_of-low.result c.value_of-high.result ≡ flow (courant c.args.p.now c.args.l f) c.args.p.now.d (value_in q (low_cell f)) (value_in q (high_cell f)) = flow_of (c.with-share.ensures.number ∙ number) c.with-share.ensures.parts low high in
     let whole : to_z w64 (of_z w64 c.flow_between.result) ≡ c.flow_between.result = omega (arith, ints) in
     whole ∙ c.flow_between.ensures.value ∙ sum

@@ -30,7 +30,7 @@ pub high_fluxes-requires-clause-small : goal.high_fluxes-requires-clause-small
 high_fluxes-requires-clause-small c = rw (c.shape_of-shape.ensures.columns, c.shape_of-shape.ensures.rows, c.deref-2.ensures.value, c.deref_mut-data.ensures.value) (x_small c.args.patch.now c.requires.small)
 
 pub top_fluxes-requires-clause-small : goal.top_fluxes-requires-clause-small
-top_fluxes-requires-clause-small c = rw (c.shape_of-shape.ensures.columns, c.shape_of-shape.ensures.rows, c.deref-6.ensures.value, c.deref_mut-data.ensures.value) (y_small c.args.patch.now c.requires.small)
+top_fluxes-requires-clause-small c = rw (c.shape_of-shape.ensures.columns, c.shape_of-shape.ensures.rows, c.deref-5.ensures.value, c.deref_mut-data.ensures.value) (y_small c.args.patch.now c.requires.small)
 
 pub y_row-requires-clause-low_small : goal.y_row-requires-clause-low_small
 y_row-requires-clause-low_small c = λ i h.
@@ -59,8 +59,8 @@ returns-clause-fluxes c =
     (λ j h f. ap (λ es. slice_index_or es j (pos 0)) (with_items_is c.deref_mut-data.result.now.x_high x_high (search rules)) ∙ moved (λ l w h v m. (j : ℕ) → j < h → x_marked w m j ≡ false → slice_index_or x_high j (pos 0) ≡ x_flux p l row w v w j) e.level e.columns e.rows (c.deref-2.ensures.value ∙ ap (λ (t : PatchData). t.values.items) held) (c.deref-3.ensures.value ∙ ap (λ (t : PatchData). t.marks.items) held) c.high_fluxes.ensures.made j h f)
     (λ j f. ap (λ es. slice_index_or es j (pos 0)) (with_items_is c.deref_mut-data.result.now.x_high x_high (search rules)) ∙ moved (λ l w h v m. (j : ℕ) → x_marked w m j ≡ true → slice_index_or x_high j (pos 0) ≡ slice_index_or c.deref_mut-2.result.now j (pos 0)) e.level e.columns e.rows (c.deref-2.ensures.value ∙ ap (λ (t : PatchData). t.values.items) held) (c.deref-3.ensures.value ∙ ap (λ (t : PatchData). t.marks.items) held) c.high_fluxes.ensures.others j f ∙ ap (λ es. slice_index_or es j (pos 0)) c.deref_mut-2.ensures.value ∙ ap (λ (t : PatchData). slice_index_or t.x_high.items j (pos 0)) held)
     (λ i h. ap (λ es. slice_index_or es i (pos 0)) (with_items_is c.deref_mut-data.result.now.y_low y_low (search rules)) ∙ moved (λ l w h v m. (i : ℕ) → i < w → slice_index_or y_low i (pos 0) ≡ y_flux p l column w v i 0) e.level e.columns e.rows (c.deref-4.ensures.value ∙ ap (λ (t : PatchData). t.values.items) held) (c.deref-3.ensures.value ∙ ap (λ (t : PatchData). t.marks.items) held) c.y_row.ensures i h)
-    (λ i h f. ap (λ es. slice_index_or es i (pos 0)) (with_items_is c.deref_mut-data.result.now.y_high y_high (search rules)) ∙ moved (λ l w h v m. (i : ℕ) → i < w → y_marked w h m i ≡ false → slice_index_or y_high i (pos 0) ≡ y_flux p l column w v i h) e.level e.columns e.rows (c.deref-6.ensures.value ∙ ap (λ (t : PatchData). t.values.items) held) (c.deref-7.ensures.value ∙ ap (λ (t : PatchData). t.marks.items) held) c.top_fluxes.ensures.made i h f)
-    (λ i h f. ap (λ es. slice_index_or es i (pos 0)) (with_items_is c.deref_mut-data.result.now.y_high y_high (search rules)) ∙ moved (λ l w h v m. (i : ℕ) → i < w → y_marked w h m i ≡ true → slice_index_or y_high i (pos 0) ≡ slice_index_or c.deref_mut-5.result.now i (pos 0)) e.level e.columns e.rows (c.deref-6.ensures.value ∙ ap (λ (t : PatchData). t.values.items) held) (c.deref-7.ensures.value ∙ ap (λ (t : PatchData). t.marks.items) held) c.top_fluxes.ensures.others i h f ∙ ap (λ es. slice_index_or es i (pos 0)) c.deref_mut-5.ensures.value ∙ ap (λ (t : PatchData). slice_index_or t.y_high.items i (pos 0)) held)
+    (λ i h f. ap (λ es. slice_index_or es i (pos 0)) (with_items_is c.deref_mut-data.result.now.y_high y_high (search rules)) ∙ moved (λ l w h v m. (i : ℕ) → i < w → y_marked w h m i ≡ false → slice_index_or y_high i (pos 0) ≡ y_flux p l column w v i h) e.level e.columns e.rows (c.deref-5.ensures.value ∙ ap (λ (t : PatchData). t.values.items) held) (c.deref-6.ensures.value ∙ ap (λ (t : PatchData). t.marks.items) held) c.top_fluxes.ensures.made i h f)
+    (λ i h f. ap (λ es. slice_index_or es i (pos 0)) (with_items_is c.deref_mut-data.result.now.y_high y_high (search rules)) ∙ moved (λ l w h v m. (i : ℕ) → i < w → y_marked w h m i ≡ true → slice_index_or y_high i (pos 0) ≡ slice_index_or c.deref_mut-4.result.now i (pos 0)) e.level e.columns e.rows (c.deref-5.ensures.value ∙ ap (λ (t : PatchData). t.values.items) held) (c.deref-6.ensures.value ∙ ap (λ (t : PatchData). t.marks.items) held) c.top_fluxes.ensures.others i h f ∙ ap (λ es. slice_index_or es i (pos 0)) c.deref_mut-4.ensures.value ∙ ap (λ (t : PatchData). slice_index_or t.y_high.items i (pos 0)) held)
 
 pub returns-clause-border : goal.returns-clause-border
 returns-clause-border c =
@@ -79,8 +79,8 @@ returns-clause-border c =
     (λ j h f. ap (λ es. slice_index_or es j (pos 0)) (with_items_is c.deref_mut-data.result.now.x_high x_high (search rules)) ∙ moved (λ l w h v m. (j : ℕ) → j < h → x_marked w m j ≡ false → slice_index_or x_high j (pos 0) ≡ x_flux p l row w v w j) e.level e.columns e.rows (c.deref-2.ensures.value ∙ ap (λ (t : PatchData). t.values.items) held) (c.deref-3.ensures.value ∙ ap (λ (t : PatchData). t.marks.items) held) c.high_fluxes.ensures.made j h f)
     (λ j f. ap (λ es. slice_index_or es j (pos 0)) (with_items_is c.deref_mut-data.result.now.x_high x_high (search rules)) ∙ moved (λ l w h v m. (j : ℕ) → x_marked w m j ≡ true → slice_index_or x_high j (pos 0) ≡ slice_index_or c.deref_mut-2.result.now j (pos 0)) e.level e.columns e.rows (c.deref-2.ensures.value ∙ ap (λ (t : PatchData). t.values.items) held) (c.deref-3.ensures.value ∙ ap (λ (t : PatchData). t.marks.items) held) c.high_fluxes.ensures.others j f ∙ ap (λ es. slice_index_or es j (pos 0)) c.deref_mut-2.ensures.value ∙ ap (λ (t : PatchData). slice_index_or t.x_high.items j (pos 0)) held)
     (λ i h. ap (λ es. slice_index_or es i (pos 0)) (with_items_is c.deref_mut-data.result.now.y_low y_low (search rules)) ∙ moved (λ l w h v m. (i : ℕ) → i < w → slice_index_or y_low i (pos 0) ≡ y_flux p l column w v i 0) e.level e.columns e.rows (c.deref-4.ensures.value ∙ ap (λ (t : PatchData). t.values.items) held) (c.deref-3.ensures.value ∙ ap (λ (t : PatchData). t.marks.items) held) c.y_row.ensures i h)
-    (λ i h f. ap (λ es. slice_index_or es i (pos 0)) (with_items_is c.deref_mut-data.result.now.y_high y_high (search rules)) ∙ moved (λ l w h v m. (i : ℕ) → i < w → y_marked w h m i ≡ false → slice_index_or y_high i (pos 0) ≡ y_flux p l column w v i h) e.level e.columns e.rows (c.deref-6.ensures.value ∙ ap (λ (t : PatchData). t.values.items) held) (c.deref-7.ensures.value ∙ ap (λ (t : PatchData). t.marks.items) held) c.top_fluxes.ensures.made i h f)
-    (λ i h f. ap (λ es. slice_index_or es i (pos 0)) (with_items_is c.deref_mut-data.result.now.y_high y_high (search rules)) ∙ moved (λ l w h v m. (i : ℕ) → i < w → y_marked w h m i ≡ true → slice_index_or y_high i (pos 0) ≡ slice_index_or c.deref_mut-5.result.now i (pos 0)) e.level e.columns e.rows (c.deref-6.ensures.value ∙ ap (λ (t : PatchData). t.values.items) held) (c.deref-7.ensures.value ∙ ap (λ (t : PatchData). t.marks.items) held) c.top_fluxes.ensures.others i h f ∙ ap (λ es. slice_index_or es i (pos 0)) c.deref_mut-5.ensures.value ∙ ap (λ (t : PatchData). slice_index_or t.y_high.items i (pos 0)) held)
+    (λ i h f. ap (λ es. slice_index_or es i (pos 0)) (with_items_is c.deref_mut-data.result.now.y_high y_high (search rules)) ∙ moved (λ l w h v m. (i : ℕ) → i < w → y_marked w h m i ≡ false → slice_index_or y_high i (pos 0) ≡ y_flux p l column w v i h) e.level e.columns e.rows (c.deref-5.ensures.value ∙ ap (λ (t : PatchData). t.values.items) held) (c.deref-6.ensures.value ∙ ap (λ (t : PatchData). t.marks.items) held) c.top_fluxes.ensures.made i h f)
+    (λ i h f. ap (λ es. slice_index_or es i (pos 0)) (with_items_is c.deref_mut-data.result.now.y_high y_high (search rules)) ∙ moved (λ l w h v m. (i : ℕ) → i < w → y_marked w h m i ≡ true → slice_index_or y_high i (pos 0) ≡ slice_index_or c.deref_mut-4.result.now i (pos 0)) e.level e.columns e.rows (c.deref-5.ensures.value ∙ ap (λ (t : PatchData). t.values.items) held) (c.deref-6.ensures.value ∙ ap (λ (t : PatchData). t.marks.items) held) c.top_fluxes.ensures.others i h f ∙ ap (λ es. slice_index_or es i (pos 0)) c.deref_mut-4.ensures.value ∙ ap (λ (t : PatchData). slice_index_or t.y_high.items i (pos 0)) held)
 
 pub returns-clause-values : goal.returns-clause-values
 unfolding value_in

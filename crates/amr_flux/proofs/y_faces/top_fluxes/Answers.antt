@@ -1,11 +1,9 @@
-use Rattle.std.proofs.Common.{◌≡◌, ℕ, ◌+◌, ◌<◌, ◌≤◌, ◌∙◌, false, true, [], pos, sym, refl, subst, rules, ℤ, List, Bool, arith}
+use Rattle.std.proofs.Common.{◌≡◌, ℕ, ◌+◌, ◌<◌, ◌∙◌, false, true, [], pos, sym, refl, subst, rules, ℤ, List, Bool}
 use mir.Val.{SFits}
 use mir.Syntax.{w32}
 use Rattle.std.proofs.lemmas.Int.{to_z-of_z}
 use Rattle.std.specs.Prelude.{slice_index_or}
 use Rattle.amr_box.proofs.Tests.{opposite}
-use Rattle.amr_def.specs.Domain.{columns}
-use Rattle.amr_def.proofs.Sizes.{doubled_small}
 use Rattle.amr_flux.specs.Tables.{y_flux, y_marked}
 use Rattle.amr_faces.proofs.Numbers.{unsheared}
 use Rattle.amr_flux.proofs.Steps.{one_left, one_made, others_kept, y_flux_is}
@@ -23,8 +21,8 @@ loop-i-preserved c =
     let Q : List ℤ → Type 0 = λ es. (n : ℕ) → y_marked w h c.args.marks.now n ≡ true → slice_index_or es n (pos 0) ≡ slice_index_or c.args.fluxes.now n (pos 0) in
     elim c.if-not-is_top_marked.branch [
       | then-not-is_top_marked b ↦
-          let fits : SFits w32 b.top_flux.result = search rules in
-          let is : b.top_flux.result ≡ f i = b.top_flux.ensures.value ∙ y_flux_is c.args.p.now c.args.shape.level c.args.shape.column w c.args.values.now i h (search rules) (search rules) refl refl in
+          let fits : SFits w32 b.y_face.result = search rules in
+          let is : b.y_face.result ≡ f i = b.y_face.ensures.value ∙ y_flux_is c.args.p.now c.args.shape.level c.args.shape.column w c.args.values.now i h refl refl refl refl in
           let free : test i ≡ false = search rules in
           record {
             made = subst P (sym b.fluxes-is) (one_made test false c.loop-i.fluxes i f _ (search rules) (rw to_z-of_z is) c.loop-i.invariant.made);
@@ -46,8 +44,3 @@ returns-then-is_empty-clause-made c = λ i h free.
     let number : c.with-share.result.number ≡ p.cy = search rules in
     let parts : c.with-share.result.parts ≡ p.d = search rules in
     c.top_at.ensures.made i h free ∙ y_flux_is p s.level s.column s.w c.args.values.now i s.h (number ∙ sym (unsheared p s.level (s.column + i) empty)) parts refl refl
-
-pub overflow_add-shape : goal.overflow_add-shape
-overflow_add-shape c =
-    let few : columns c.args.p.now c.args.shape.level ≤ 4096 = doubled_small c.args.p.now.nx c.args.shape.level c.args.p.now.limits.greatest_nx c.requires.level in
-    record { fits = omega (arith, few, c.requires.inside, c.requires.flux_count, c.loop-i-test.true, c.loop-i.auto.fluxes) }

@@ -43,3 +43,11 @@ returns-clause-low c = omega (arith, ints)
 
 pub returns-clause-high : goal.returns-clause-high
 returns-clause-high c = omega (arith, ints)
+
+pub overflow_add-result : goal.overflow_add-result
+overflow_add-result c =
+    let west = c.flow_beside-west.ensures in
+    let east = c.flow_beside-east.ensures in
+    let south = c.flow_beside-south.ensures in
+    let north = c.flow_beside-north.ensures in
+    omega (arith, ints, west.low, west.high, east.low, east.high, south.low, south.high, north.low, north.high)

@@ -20,3 +20,11 @@ returns-clause-low c = omega (arith, ints)
 
 pub returns-clause-high : goal.returns-clause-high
 returns-clause-high c = omega (arith, ints)
+
+pub overflow_add-result : goal.overflow_add-result
+overflow_add-result c =
+    let west = c.owned_flow-west.ensures in
+    let east = c.owned_flow-east.ensures in
+    let south = c.owned_flow-south.ensures in
+    let north = c.owned_flow-north.ensures in
+    omega (arith, ints, west.low, west.high, east.low, east.high, south.low, south.high, north.low, north.high)
