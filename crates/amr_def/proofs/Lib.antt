@@ -1,9 +1,3 @@
-pub mod Examples
-pub mod StepRows
-pub mod LevelRows
-pub mod ClusterRows
-pub mod RegridRows
-pub mod FiveLevelRows
 pub mod LevelLists
 pub mod Children
 pub mod Sums

@@ -18,4 +18,3 @@ pub mod Subcycle
 pub mod SubcycleSizes
 pub mod SubcycleLedger
 pub mod SubcycleParts
-mod SubcycleRows

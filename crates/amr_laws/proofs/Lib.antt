@@ -9,7 +9,6 @@ pub mod Held
 pub mod Steps
 pub mod Registers
 pub mod Kept
-pub mod RunRows
 pub mod GridSize
 pub mod NearBoxes
 pub mod Sizes
@@ -18,4 +17,3 @@ pub mod Substeps
 pub mod Signs
 pub mod Sides
 pub mod LedgerLevels
-mod SubstepRows

@@ -10,5 +10,3 @@ pub mod WriteLevels
 pub mod WriteStates
 pub mod Room
 pub mod Bytes
-mod WorkedRows
-mod LevelRows

@@ -17,7 +17,6 @@ pub mod PatchRefluxes
 pub mod PatchSums
 pub mod Owners
 pub mod NetOver
-pub mod RegisterRows
 pub mod Once
 pub mod Changed
 pub mod EdgeLists

@@ -8,7 +8,6 @@ mod PlainTexts
 pub mod Problems
 mod Rows
 mod ShortTexts
-mod SummaryRows
 mod TextParts
 mod TextRows
 mod ValueTexts

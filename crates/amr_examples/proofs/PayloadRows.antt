@@ -11,7 +11,7 @@ use Rattle.amr_def.specs.Domain.{in_domain}
 use Rattle.amr_def.specs.Ledger.{total_mass}
 use Rattle.amr_def.specs.Regrid.{refill, regrid}
 use Rattle.amr_def.specs.Run.{start}
-use Rattle.amr_def.proofs.Examples.{Keys, AreWithinLimits, problem, ring_keys}
+use Rattle.amr_examples.proofs.Examples.{Keys, AreWithinLimits, problem, ring_keys}
 use Rattle.amr_payload.specs.Payload.{number_bytes, row_bytes, corner_bytes, box_bytes, level_bytes, payload, slot_size}
 use Rattle.amr_payload.specs.Tests.{read_number, read_row, read_first_row, read_row_after, read_rows, read_box, is_box_of, read_mass, read_grid, level_of, read_level, read_finer, read_levels, read_step, read_state, decoded}
 

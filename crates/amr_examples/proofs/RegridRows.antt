@@ -12,7 +12,7 @@ use Rattle.amr_def.specs.NewBoxes.{new_boxes, is_projected}
 use Rattle.amr_def.specs.Regrid.{regrid, refill, share}
 use Rattle.amr_def.specs.Run.{plain_start, run, start, finish}
 use Rattle.amr_def.specs.Plot.{plot, head_text, ledger_line, level_text, level_line, box_text, box_line, mass_line}
-use Rattle.amr_def.proofs.Examples.{box, at, spot, loose_spot, blocked_spot, three_levels}
+use Rattle.amr_examples.proofs.Examples.{box, at, spot, loose_spot, blocked_spot, three_levels}
 
 shares_of_seven : map (share 7) (0 ∷ 1 ∷ 2 ∷ 3 ∷ []) ≡ 2 ∷ 2 ∷ 2 ∷ 1 ∷ []
 shares_of_seven = refl

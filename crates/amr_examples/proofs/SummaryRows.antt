@@ -16,7 +16,7 @@ use Rattle.amr_def.specs.NewBoxes.{new_boxes}
 use Rattle.amr_def.specs.Regrid.{regrid, refill}
 use Rattle.amr_def.specs.Run.{run, start, finish, next, stepped}
 use Rattle.amr_def.specs.Plot.{plot, head_text, ledger_line, level_text, level_line, box_text, box_line, mass_line}
-use Rattle.amr_def.proofs.Examples.{filling, spot}
+use Rattle.amr_examples.proofs.Examples.{filling, spot}
 use Rattle.amr_trial.specs.Summary.{summary}
 
 boxes_of_all_levels : summary 7 64 spot (run spot 0) ≡ codes "trial 7 64 step 0 levels 2 boxes 4 mass 7 sha256 bec4df96f922d060993c8c7af6bc59504cb97b1a5687626c339383cc03e6e572\n"

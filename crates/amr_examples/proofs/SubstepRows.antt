@@ -6,9 +6,9 @@ use Rattle.amr_def.specs.State.{Level, is_covered_by, mass_of, no_masses}
 use Rattle.amr_def.specs.Value.{value_at, inflow_at}
 use Rattle.amr_def.specs.Flux.{courant, flux_at, net, updated}
 use Rattle.amr_def.specs.LevelStep.{at_top, step_within}
-use Rattle.amr_def.proofs.Examples.{at, box, edge_coarse, edge_fine, edge_state, edged}
+use Rattle.amr_examples.proofs.Examples.{at, box, edge_coarse, edge_fine, edge_state, edged}
 use Rattle.amr_def.proofs.Chain.{nth}
-use Rattle.amr_def.proofs.RegridRows.{eight}
+use Rattle.amr_examples.proofs.RegridRows.{eight}
 use Rattle.amr_laws.specs.Substeps.{IsSubstep, after_step}
 use Rattle.amr_laws.specs.Substeps.{second, whole}
 

@@ -16,7 +16,7 @@ use Rattle.amr_def.specs.NewBoxes.{new_boxes}
 use Rattle.amr_def.specs.Regrid.{regrid, refill}
 use Rattle.amr_def.specs.Run.{plain_start, run, start, finish, stepped, next}
 use Rattle.amr_def.specs.Plot.{plot, head_text, ledger_line, level_text, level_line, box_text, box_line, mass_line}
-use Rattle.amr_def.proofs.Examples.{edged, edge_coarse, edge_fine, edge_state, at, touching}
+use Rattle.amr_examples.proofs.Examples.{edged, edge_coarse, edge_fine, edge_state, at, touching}
 
 ghost_cells_of_seven : map (value_at edged 1 edge_fine (edge_coarse 7)) (at 3 0 ∷ at 3 1 ∷ []) ≡ 1 ∷ 1 ∷ []
 unfolding value_at in_domain inflow_at

@@ -10,7 +10,7 @@ use Rattle.amr_box.specs.Cells.{Extent, at_least_zero, holds}
 use Rattle.amr_def.specs.Domain.{in_domain}
 use Rattle.amr_def.specs.State.{Level, State, is_covered}
 use Rattle.amr_def.specs.Ledger.{total_mass}
-use Rattle.amr_def.proofs.Examples.{box, edged, edge_state, edge_coarse, edge_fine, three_levels}
+use Rattle.amr_examples.proofs.Examples.{box, edged, edge_state, edge_coarse, edge_fine, three_levels}
 use Rattle.amr_payload.specs.Payload.{number_bytes, row_bytes, corner_bytes, box_bytes, level_bytes, payload, slot_size}
 use Rattle.amr_payload.specs.Tests.{read_number, read_row, read_first_row, read_row_after, read_rows, read_box, is_box_of, read_mass, read_grid, level_of, read_level, read_finer, read_levels, read_step, read_state, decoded}
 

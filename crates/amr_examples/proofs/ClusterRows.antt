@@ -5,7 +5,7 @@ use Rattle.amr_box.specs.declared.Axis.TheVariants.{X, Y}
 use Rattle.amr_def.specs.Signature.{signature}
 use Rattle.amr_def.specs.Cut.{best_cut}
 use Rattle.amr_def.specs.Cluster.{cluster, cluster_within}
-use Rattle.amr_def.proofs.Examples.{box, at}
+use Rattle.amr_examples.proofs.Examples.{box, at}
 
 no_tags_no_boxes : cluster 70 2 [] ≡ []
 unfolding cluster cluster_within best_cut

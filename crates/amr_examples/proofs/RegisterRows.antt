@@ -6,7 +6,7 @@ use Rattle.amr_def.specs.Flux.{courant, face, flux_at, net, updated}
 use Rattle.amr_def.specs.LevelStep.{at_top, effective, over_finer, step, step_within}
 use Rattle.amr_def.specs.State.{is_covered, no_masses}
 use Rattle.amr_def.specs.Value.{inflow_at, value_at}
-use Rattle.amr_def.proofs.Examples.{at, edge_coarse, edge_fine, edged}
+use Rattle.amr_examples.proofs.Examples.{at, edge_coarse, edge_fine, edged}
 use Rattle.amr_register.specs.CoarseFlows.{edge_flows}
 use Rattle.amr_register.specs.RegisterCells.{is_coarse_fine, is_register_cell, register_cells}
 

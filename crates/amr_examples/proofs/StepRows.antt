@@ -9,7 +9,7 @@ use Rattle.amr_def.specs.LevelStep.{step_within, at_top}
 use Rattle.amr_def.specs.Ledger.{total_mass, inflow, outflow}
 use Rattle.amr_def.specs.Run.{run, start, finish, stepped, next}
 use Rattle.amr_def.specs.Plot.{plot, head_text, ledger_line, level_text, level_line, box_text, box_line, mass_line}
-use Rattle.amr_def.proofs.Examples.{ring, odd_ring, open_pair, filling, long_ring, sheared}
+use Rattle.amr_examples.proofs.Examples.{ring, odd_ring, open_pair, filling, long_ring, sheared}
 
 ring_start : plot ring (run ring 0) ≡ codes "amr-plot 1\nname ring\nstep 0\nledger 0 8 0 0\nlevel 0 1\nbox 0 0 3 1\n8 0 0 0\n0 0 0 0\nend\n"
 unfolding run start finish next stepped step_within at_top updated net flux_at courant value_at in_domain inflow_at total_mass inflow outflow plot head_text ledger_line level_text level_line box_text box_line mass_line digits

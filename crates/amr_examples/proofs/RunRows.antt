@@ -20,7 +20,7 @@ use Rattle.amr_def.specs.Run.{stepped, next, finish, start, run}
 use Rattle.amr_def.specs.Plot.{ledger_line, mass_line, box_line, box_text, level_line, level_text, head_text, plot}
 use Rattle.amr_laws.specs.Levels.{masses_of}
 use Rattle.amr_laws.specs.Sides.{inflow_beside, is_uncovered, outflow_beside, over_levels}
-use Rattle.amr_def.proofs.Examples.{block, Keys, AreWithinLimits, problem, ring_keys}
+use Rattle.amr_examples.proofs.Examples.{block, Keys, AreWithinLimits, problem, ring_keys}
 
 -- mass flows in on the west side and out on the east side
 abbrev stream_keys : Keys

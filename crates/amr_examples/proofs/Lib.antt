@@ -1,0 +1,13 @@
+mod ClusterRows
+pub mod Examples
+mod FiveLevelRows
+mod LevelRows
+mod PayloadLevelRows
+mod PayloadRows
+mod RegisterRows
+mod RegridRows
+mod RunRows
+mod StepRows
+mod SubcycleRows
+mod SubstepRows
+mod SummaryRows
