@@ -166,6 +166,3 @@ alone p n rs (k ∷ k' ∷ ks) e h = absurd (omega arith)
 
 pub regrid_alone : (p : Problem) (s : State) → p.max_level ≡ 0 → IsSound p s → regrid p s ≡ s
 regrid_alone p s e sound = alone p s.step s.rows s.levels e (omega (arith, e, sound.few_levels))
-
-pub keeps_alone : (p : Problem) → p.max_level ≡ 0 → RegridKeeps p
-keeps_alone p e s sound = subst (λ (t : State). IsSound p t) (sym (regrid_alone p s e sound)) sound

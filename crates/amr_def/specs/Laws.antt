@@ -7,7 +7,7 @@ use Rattle.amr_def.specs.State.{State, level_at, no_masses, mass_of}
 use Rattle.amr_def.specs.Flux.{Fluxes, net}
 use Rattle.amr_def.specs.LevelStep.{step}
 use Rattle.amr_def.specs.Ledger.{total_mass, inflow, outflow}
-use Rattle.amr_def.specs.Run.{stepped, start, next, finish, run}
+use Rattle.amr_def.specs.Run.{stepped, finish}
 use Rattle.amr_def.specs.Facts.{IsSound}
 
 -- what flows through the faces of level 0 in the step that is made from a state
@@ -31,21 +31,6 @@ MassChangesByFlows = (p : Problem) (s : State) → IsSound p s
 -- each mass of a sound state is below 2 ^ 31
 abbrev pub MassesAreSmall : Type 0
 MassesAreSmall = (p : Problem) (s : State) (l : ℕ) (c : Cell) → IsSound p s → mass_of (level_at s l).masses c < 2 ^ 31
-
--- of a problem of one level the start is sound
-abbrev pub SingleLevelStartIsSound : Type 0
-SingleLevelStartIsSound = (p : Problem) → p.max_level ≡ 0 → IsSound p (start p)
-
--- and so is the state after the next step of a sound state
-abbrev pub SingleLevelNextIsSound : Type 0
-SingleLevelNextIsSound = (p : Problem) (s : State) → p.max_level ≡ 0 → IsSound p s → s.step < p.steps → IsSound p (next p s)
-
--- and each state that a sound one is finished to
-abbrev pub SingleLevelFinishIsSound : Type 0
-SingleLevelFinishIsSound = (p : Problem) (s : State) (k : ℕ) → p.max_level ≡ 0 → IsSound p s → k ≤ p.steps → IsSound p (finish p s k)
-
-abbrev pub SingleLevelRunIsSound : Type 0
-SingleLevelRunIsSound = (p : Problem) (k : ℕ) → p.max_level ≡ 0 → k ≤ p.steps → IsSound p (run p k)
 
 -- to finish a state to step i and then to step k is to finish it to step k
 abbrev pub FinishInParts : Type 0

@@ -1,7 +1,7 @@
 //! Laws of the definitions. Each call has an empty body, and what it ensures is the law: it holds for
 //! every problem, so for every one that is accepted.
 
-ghost use Rattle.amr_def.specs.Laws.{FinishInParts, MassChangesByFlows, MassesAreSmall, NewMassIsExact, SingleLevelFinishIsSound, SingleLevelNextIsSound, SingleLevelRunIsSound, SingleLevelStartIsSound, StepKeepsSound};
+ghost use Rattle.amr_def.specs.Laws.{FinishInParts, MassChangesByFlows, MassesAreSmall, NewMassIsExact, StepKeepsSound};
 
 /// One step of a sound state with any number of levels gives a sound state.
 pub fn step_keeps_sound()
@@ -22,26 +22,6 @@ pub fn mass_changes_by_flows()
 /// Each mass of a sound state is below 2^31.
 pub fn masses_are_small()
     ensures { MassesAreSmall }
-{}
-
-/// The start of a problem of one level is sound.
-pub fn single_level_start_is_sound()
-    ensures { SingleLevelStartIsSound }
-{}
-
-/// The next step of a sound state of a problem of one level gives a sound state.
-pub fn single_level_next_is_sound()
-    ensures { SingleLevelNextIsSound }
-{}
-
-/// A sound state of a problem of one level is finished to a sound state.
-pub fn single_level_finish_is_sound()
-    ensures { SingleLevelFinishIsSound }
-{}
-
-/// Each state of the run of a problem of one level is sound.
-pub fn single_level_run_is_sound()
-    ensures { SingleLevelRunIsSound }
 {}
 
 /// To finish a state to a step and then to a later one is to finish it to the later one.
