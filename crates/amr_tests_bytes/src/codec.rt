@@ -1,22 +1,18 @@
 //! The start of 2 by 2 cells as bytes, by both widths of a mass: places and sizes worked out by hand from the table of fields.
 
-ghost use Rattle.amr_start.specs.OneLevel.{HasOneLevel};
-
 use crate::payloads::{fault_in, set};
 use crate::problems::two_by_two;
 use amr_causes::NoMemory;
 use amr_codec::{MassWidth, encode, encode2, slot_size, slot_size2};
 use amr_decoder::CodecFault;
 use amr_def::Problem;
-use amr_start::start;
+use amr_start::base;
 use std::alloc::Global;
 use std::test::Fail;
 
 /// Both payloads of the start.
-fn start_as_bytes(alloc: Global, p: &Problem) -> Result<(Vec<u8>, Vec<u8>), NoMemory>
-    requires { HasOneLevel p.now }
-{
-    let mesh = start(alloc, p)?;
+fn start_as_bytes(alloc: Global, p: &Problem) -> Result<(Vec<u8>, Vec<u8>), NoMemory> {
+    let mesh = base(alloc, p)?;
     let first = encode(alloc, p, &mesh)?;
     let second = encode2(alloc, p, &mesh)?;
     Ok((first, second))
