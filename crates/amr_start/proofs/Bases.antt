@@ -11,10 +11,8 @@ use Rattle.amr_box.specs.Cells.{Extent, cell, holds, within}
 use Rattle.amr_def.specs.declared.problem.Problem.{Problem}
 use Rattle.amr_def.specs.Domain.{columns, rows as domain_rows, domain, domain_box}
 use Rattle.amr_def.specs.Ledger.{sum_to, mass_at, row_mass, total_mass}
-use Rattle.amr_def.specs.Regrid.{regrid}
-use Rattle.amr_def.specs.Run.{times, block_mass, base_level, plain_start, start}
+use Rattle.amr_def.specs.Run.{block_mass, base_level, plain_start}
 use Rattle.amr_def.specs.State.{Masses, State}
-use Rattle.amr_start.specs.OneLevel.{HasOneLevel}
 use Rattle.amr_start.specs.Rows.{HasBlocks, box_of, masses_on, row_mass_in}
 
 within_below : (k n : ℕ) → k < n → within (pos 0) (pos n -ℤ pos 1) (pos k) ≡ true
@@ -107,8 +105,3 @@ module _ (p : Problem) (ms : List ℕ) (has : HasBlocks p ms) where
   unfolding base
   base-state_with mass is =
       λ i. record { step = 0; rows = record { mass = (is ∙ sym base_total) i; inflow = 0; outflow = 0 } ∷ []; levels = record { boxes = sym (whole_box p) i ∷ []; masses = sym base_masses i } ∷ [] }
-
--- a problem of one level starts with level 0 alone
-pub start-alone : (p : Problem) → HasOneLevel p → plain_start p ≡ start p
-unfolding start
-start-alone p one = ap (λ n. times (regrid p) n (plain_start p)) (sym one.one_level)

@@ -16,7 +16,7 @@ use Rattle.amr_box.specs.declared.Cell.{Cell}
 use Rattle.amr_box.specs.Cells.{cell, holds, within}
 use Rattle.amr_def.specs.declared.problem.Block.{Block}
 use Rattle.amr_def.specs.Run.{block_extent, block_mass}
-use Rattle.amr_start.specs.Rows.{IsBlockIn, IsFilled}
+use Rattle.amr_start.specs.Rows.{IsBlockIn, FillsBlock}
 
 -- whether a cell is in the rows of a block before row e
 abbrev pub is_in_rows : Block → ℕ → ℕ → ℕ → Bool
@@ -127,7 +127,7 @@ span_inside columns rows y past_east count hy hx e =
 
 -- ---- the blocks in turn
 
-pub filled_small : (w h : ℕ) (b : Block) (old new : List ℕ) → 0 < w → length new ≡ h * w → b.mass ≤ 2 ^ 30 → ((k : ℕ) → get_or old k 0 < 2 ^ 31) → IsFilled w h b old new → (k : ℕ) → get_or new k 0 < 2 ^ 31
+pub filled_small : (w h : ℕ) (b : Block) (old new : List ℕ) → 0 < w → length new ≡ h * w → b.mass ≤ 2 ^ 30 → ((k : ℕ) → get_or old k 0 < 2 ^ 31) → FillsBlock w h b old new → (k : ℕ) → get_or new k 0 < 2 ^ 31
 filled_small w h b old new some count light small filled k = at_each (cases_lt k (length new))
   where
     chosen : (t : Bool) (a c : ℕ) → a < 2 ^ 31 → c < 2 ^ 31 → cond t a c < 2 ^ 31
@@ -153,7 +153,7 @@ pub record HasMore (w h : ℕ) (bs : List Block) (i : ℕ) (ms : List ℕ) : Typ
   pub small : (k : ℕ) → get_or ms k 0 < 2 ^ 31
   pub at : (x y : ℕ) → x < w → y < h → get_or ms (y * w + x) 0 ≡ block_mass (take i bs) (cell (pos x) (pos y))
 
-pub more_blocks : (w h : ℕ) (bs : List Block) (i : ℕ) (d : Block) (old new : List ℕ) → 0 < w → i < length bs → length new ≡ h * w → (get_or bs i d).mass ≤ 2 ^ 30 → IsFilled w h (get_or bs i d) old new → HasMore w h bs i old → HasMore w h bs (i + 1) new
+pub more_blocks : (w h : ℕ) (bs : List Block) (i : ℕ) (d : Block) (old new : List ℕ) → 0 < w → i < length bs → length new ≡ h * w → (get_or bs i d).mass ≤ 2 ^ 30 → FillsBlock w h (get_or bs i d) old new → HasMore w h bs i old → HasMore w h bs (i + 1) new
 more_blocks w h bs i d old new some inside count light filled had = record {
   count = count;
   small = filled_small w h (get_or bs i d) old new some count light had.small filled;

@@ -1,4 +1,3 @@
-pub mod OneLevel
 pub mod Rows
 pub mod Placed
 pub mod PatchBoxes

@@ -4,7 +4,7 @@ ghost use Rattle.std.specs.Prelude.{◌≡◌, ℕ, ◌+◌, ◌*◌, ◌^◌, �
 ghost use Rattle.amr_box.specs.Cells.{cell, holds};
 ghost use Rattle.amr_def.specs.Run.{block_extent, block_mass};
 ghost use Rattle.amr_def.specs.Ledger.{sum_to};
-ghost use Rattle.amr_start.specs.Rows.{IsBlockIn, IsFilled, HasBlocks, row_mass_in};
+ghost use Rattle.amr_start.specs.Rows.{IsBlockIn, FillsBlock, HasBlocks, row_mass_in};
 
 use amr_causes::NoMemory;
 use amr_def::{Block, Problem};
@@ -27,7 +27,7 @@ fn fill_block(masses: &mut [u32], columns: usize, rows: usize, b: &Block)
     requires count { length masses.old ≡ rows * columns }
     requires narrow { columns ≤ 256 }
     requires flat { rows ≤ 256 }
-    ensures { IsFilled columns rows b.now masses.old masses.new }
+    ensures { FillsBlock columns rows b.now masses.old masses.new }
 {
     let west = b.x0 as usize;
     let past_east = b.x1 as usize + 1;

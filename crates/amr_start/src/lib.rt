@@ -7,4 +7,4 @@ mod blocks;
 mod placed;
 mod starts;
 
-pub use starts::{base, start};
+pub use starts::base;

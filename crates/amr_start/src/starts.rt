@@ -1,11 +1,10 @@
-//! Level 0 of a problem, and the start of a run of one level.
+//! Level 0 of a problem.
 
 ghost use Rattle.std.specs.Prelude.{◌≡◌, ◌*◌, ◌≤◌, ◌∷◌, [], false, length, IfOk};
 ghost use Rattle.amr_def.specs.Facts.{IsSound};
-ghost use Rattle.amr_def.specs.Run.{plain_start, start};
+ghost use Rattle.amr_def.specs.Run.{plain_start};
 ghost use Rattle.amr_patch.specs.Levels.{level_of};
 ghost use Rattle.amr_patch.specs.Meshes.{is_spent, levels_of, state_of};
-ghost use Rattle.amr_start.specs.OneLevel.{HasOneLevel};
 ghost use Rattle.amr_start.specs.PatchBoxes.{HasChoppedDomain, IsBoxChopped};
 ghost use Rattle.amr_start.specs.Rows.{box_of, masses_on};
 
@@ -62,16 +61,4 @@ pub fn base(alloc: Global, p: &Problem) -> Result<Mesh, NoMemory>
     let rows = vec![in alloc; row]?;
     let levels = vec![in alloc; level]?;
     Ok(Mesh::of(0, rows, levels))
-}
-
-/// The start of a run of a problem of one level: level 0 alone. `NoMemory` is the only refusal.
-pub fn start(alloc: Global, p: &Problem) -> Result<Mesh, NoMemory>
-    requires { HasOneLevel p.now }
-    ensures value { IfOk result (λ m. state_of m ≡ start p.now) }
-    ensures sound { IfOk result (λ m. IsSound p.now (state_of m)) }
-    ensures at_start { IfOk result (λ m. (state_of m).step ≡ 0) }
-    ensures patches { IfOk result (λ m. HasChoppedDomain p.now (levels_of m)) }
-    ensures whole { IfOk result (λ m. is_spent m ≡ false) }
-{
-    base(alloc, p)
 }

@@ -2,7 +2,7 @@ use Rattle.std.proofs.Common.{◌≡◌, ℕ, ◌<◌, ◌*◌, ◌+◌, List, l
 use Rattle.std.proofs.lemmas.List.{with_items_is}
 use Rattle.std.specs.Prelude.{replicate}
 use Rattle.amr_def.specs.declared.problem.Block.{Block}
-use Rattle.amr_start.specs.Rows.{IsBlockIn, IsFilled}
+use Rattle.amr_start.specs.Rows.{IsBlockIn, FillsBlock}
 use Rattle.amr_start.proofs.Filling.{HasMore, none_yet, block_at, more_blocks}
 use Rattle.amr_start.proofs.blocks.start_masses.Goals as goal
 
@@ -29,8 +29,8 @@ loop-b-preserved c =
     let i = c.loop-b.b-index in
     let inside = subst (λ (bs : List Block). i < length bs) c.entries-b-items.ensures c.loop-b-test.true in
     let block = block_at p.nx p.ny p.blocks i no_block inside p.limits.blocks_inside in
-    let filled = subst (λ (bs : List Block). IsFilled p.nx p.ny (get_or bs i no_block) c.deref_mut.result.now c.fill_block.new.masses) c.entries-b-items.ensures c.fill_block.ensures in
-    let from = subst (λ (ms : List ℕ). IsFilled p.nx p.ny (get_or p.blocks i no_block) ms c.fill_block.new.masses) c.deref_mut.ensures.value filled in
+    let filled = subst (λ (bs : List Block). FillsBlock p.nx p.ny (get_or bs i no_block) c.deref_mut.result.now c.fill_block.new.masses) c.entries-b-items.ensures c.fill_block.ensures in
+    let from = subst (λ (ms : List ℕ). FillsBlock p.nx p.ny (get_or p.blocks i no_block) ms c.fill_block.new.masses) c.deref_mut.ensures.value filled in
     let count : length c.fill_block.new.masses ≡ p.ny * p.nx = c.fill_block.auto.masses ∙ ap length c.deref_mut.ensures.value ∙ c.loop-b.invariant.count in
     let items = with_items_is c.loop-b.masses c.fill_block.new.masses (c.fill_block.auto.masses ∙ c.deref_mut.ensures.len) in
     subst (λ (ms : List ℕ). HasMore p.nx p.ny p.blocks (i + 1) ms) (sym items)
