@@ -18,3 +18,4 @@ pub mod Subcycle
 pub mod SubcycleSizes
 pub mod SubcycleLedger
 pub mod SubcycleParts
+pub mod Layouts

@@ -1,3 +1,4 @@
 pub mod Words
+pub mod Layouts
 pub mod Laws
 pub mod Subcycle

@@ -3,8 +3,17 @@
 //! make of them: the step of a level over finer ones. Each call has an empty body, and what it ensures is the law.
 #![tactic(auto)]
 
+ghost use Rattle.amr_flows.specs.Layouts.{LayoutsAreExact};
 ghost use Rattle.amr_flows.specs.Laws.{InflowIsOfLevel, OutflowIsOfLevel, RegisterWordsAreOfChildren};
 ghost use Rattle.amr_flows.specs.Subcycle.{FlowsAreOfFinerSteps, FlowsAreOfLevelAlone, FlowsFit, PartsTakenFit, PlainFluxesGiveTheStep, RefluxFits, RegistersGiveTheStep, StepKeepsCover};
+
+/// The layout of a level, by counts. Each border face is put once, by the patch that owns it, the one with the cell at its high side.
+/// Each face on the edges of a patch adds its flow once to the word that the flow goes to, and to no other: to the ledger's words where
+/// the side is open and the cell beside it is not covered, to a register cell's gain or loss where the face lies on the coarse-fine
+/// edge. `amr_layout::plan` makes that layout.
+pub fn layouts_are_exact()
+    ensures { LayoutsAreExact }
+{}
 
 /// What the patches of a level add to word 0 of its layout is what flows into the domain beside its uncovered cells.
 pub fn inflow_is_of_level()
