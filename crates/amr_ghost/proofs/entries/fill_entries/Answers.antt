@@ -17,3 +17,15 @@ loop-k-preserved g c absent = one_more_written absent c.args.target (λ k. c.arg
 
 pub returns : goal.returns
 returns g c absent = subst (λ n. AreWritten absent c.args.target n (λ k. c.args.value) c.args.values.now c.loop-k.values) (omega (arith, c.loop-k.auto.k-end, c.loop-k-test.false)) (c.loop-k.invariant absent)
+
+pub slice_bounds-fill_all-count : goal.slice_bounds-fill_all-count
+slice_bounds-fill_all-count g c = omega arith
+
+pub overflow_mul-value : goal.overflow_mul-value
+overflow_mul-value g c = omega arith
+
+pub overflow_add-value : goal.overflow_add-value
+overflow_add-value g c = omega arith
+
+pub bounds-values-target : goal.bounds-values-target
+bounds-values-target g c = omega arith
