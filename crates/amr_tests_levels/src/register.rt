@@ -19,13 +19,30 @@ use std::test::Fail;
 fn ghosts(alloc: Global, p: &Problem, coarse: &Level) -> Result<[Option<(u64, bool)>; 2], Fail> {
     let mut fine = Vec::new(alloc);
     fine.push(patch(alloc, 4, 0, 5, 1)?)?;
-    if are_of_level(p, 1, &fine) {
-        fill(p, 1, &mut fine, Some(coarse));
+    if !are_of_level(p, 1, &fine) {
+        return Ok([None; 2]);
     }
+    fill(p, 1, &mut fine, Some(coarse));
     Ok([
         ghost_at(&fine, 0, cell(3, 0)),
         ghost_at(&fine, 0, cell(3, 1)),
     ])
+}
+
+/// The first entry of a register, and the same once so much has flowed from its cell in the finer steps.
+fn absorbed(register: &mut Register, finer: u8) -> Option<(i64, i64)> {
+    if register.cells().is_empty() {
+        return None;
+    }
+    let coarse = register.entry(0);
+    if coarse < -99 {
+        return None;
+    }
+    if coarse > 99 {
+        return None;
+    }
+    register.absorb(0, 0, u64::from(finer));
+    Some((coarse, register.entry(0)))
 }
 
 /// The first entry of a register after a step of the coarser level, and once so much has flowed from that cell in the finer steps.
@@ -41,20 +58,12 @@ fn exchanged(
     if !are_of_level(p, 0, patches) {
         return None;
     }
+    fill(p, 0, patches, None);
     if patches.is_empty() {
         return None;
     }
-    if register.cells().is_empty() {
-        return None;
-    }
-    fill(p, 0, patches, None);
     register.coarse_part(p, 0, &patches[0]);
-    let coarse = register.entry(0);
-    if coarse.abs_diff(0) > 99 {
-        return None;
-    }
-    register.absorb(0, 0, u64::from(finer));
-    Some((coarse, register.entry(0)))
+    absorbed(register, finer)
 }
 
 /// The ghost cells beside a mass in cell (1, 0), and what the register has for that cell after the coarser step and after the finer ones,

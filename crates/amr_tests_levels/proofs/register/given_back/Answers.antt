@@ -1,7 +1,4 @@
-use Rattle.std.proofs.Common.{◌∙◌, ℕ, [], ◌∷◌, ap, arith}
-use Rattle.std.specs.declared.option.Option.{Option}
-use Rattle.std.specs.Option.{unwrap_or}
-use Rattle.amr_box.specs.Cells.{in_boxes}
+use Rattle.std.proofs.Common.{[], ◌∷◌}
 use Rattle.amr_patch.specs.Levels.{level_of}
 use Rattle.amr_samples.proofs.OneBox.{finer_ring, nested_ring, whole_ring}
 use Rattle.amr_tests_levels.proofs.OneBoxLevels.{cells_of}
