@@ -1,8 +1,13 @@
 //! Steps beside a finer box in a ring, and regrids round a spot, each by workers and by the witness.
 
+ghost use Rattle.std.specs.Prelude.{◌≡◌, false, OnOk};
+ghost use Rattle.amr_def.specs.Facts.{IsSound};
+ghost use Rattle.amr_patch.specs.Meshes.{is_spent, state_of};
+
 use crate::steps::{stepped, stepped_slowly};
 use amr_box::Cell;
 use amr_def::{Problem, Row};
+use amr_patch::Mesh;
 use amr_problem::judge;
 use amr_start::base;
 use amr_witness::Plain;
@@ -117,16 +122,30 @@ min_width = 1
 blocks = [[1, 0, 1, 0, 7]]
 ";
 
+/// The boxes of level 1 after a regrid, by both.
+fn boxes_regridded(
+    rt: &impl Abort,
+    alloc: Global,
+    p: &Problem,
+    mesh: &mut Mesh,
+) -> Result<Option<usize>, Fail>
+    requires whole { is_spent mesh.old ≡ false }
+    requires sound { IsSound p.now (state_of mesh.old) }
+    ensures whole { is_spent mesh.new ≡ false }
+    ensures sound { OnOk result (IsSound p.now (state_of mesh.new)) }
+{
+    assert!(rt; regrid_both(alloc, p, mesh)?);
+    Ok(mesh.levels().get(1).map(|level| level.boxes().len()))
+}
+
 /// The first regrid adds three boxes, and the second changes nothing.
 #[test]
 fn regrids_round_a_spot(rt: HostRuntime) -> Result<(), Fail> {
     let alloc = rt.alloc();
     let p = problem(alloc, SPOT)?;
     let mut mesh = base(alloc, &p)?;
-    for _ in 0..2 {
-        assert!(rt; regrid_both(alloc, &p, &mut mesh)?);
-        let boxes = mesh.levels().get(1).map(|level| level.boxes().len());
-        assert_eq!(rt; boxes, Some(3));
-    }
+    let first = boxes_regridded(&rt, alloc, &p, &mut mesh)?;
+    let second = boxes_regridded(&rt, alloc, &p, &mut mesh)?;
+    assert_eq!(rt; (first, second), (Some(3), Some(3)));
     Ok(())
 }
