@@ -1,5 +1,7 @@
 //! Stores of version 1, as the store's calls make them: read cut, shown, and renewed by the next checkpoint.
 
+ghost use Rattle.std.specs.Prelude.{◌≤◌, length};
+
 use crate::cases::{Case, FOUR_STEPS, LONG_RING, TWO_STEPS, ring_with};
 use crate::kept::bytes_of;
 use amr_disk::{Disk, MemDisk};
