@@ -25,3 +25,24 @@ pub loop-k-preserved : goal.loop-k-preserved
 loop-k-preserved c =
     let given : ℕ → ℕ = λ j. slice_index c.args.from.now (nth_place c.args.source ((c.args.skipped + j) / 2)) / 4 in
     one_more_written 0 c.args.target given c.loop-k.k (given c.loop-k.k) c.args.values.now c.loop-k.values c.requires.apart (c.requires.within c.loop-k.k c.loop-k-test.true) refl c.loop-k.invariant
+
+pub slice_bounds-quarter_all-count-then-source-eq1 : goal.slice_bounds-quarter_all-count-then-source-eq1
+slice_bounds-quarter_all-count-then-source-eq1 c = omega arith
+
+pub quarter_all-requires-clause-skipped : goal.quarter_all-requires-clause-skipped
+quarter_all-requires-clause-skipped c = omega arith
+
+pub overflow_add-mass : goal.overflow_add-mass
+overflow_add-mass c = omega arith
+
+pub overflow_mul-values : goal.overflow_mul-values
+overflow_mul-values c = omega arith
+
+pub overflow_add-values : goal.overflow_add-values
+overflow_add-values c = omega arith
+
+pub offset_bounds-values-target-in-loop-k : goal.offset_bounds-values-target-in-loop-k
+offset_bounds-values-target-in-loop-k c = omega arith
+
+pub bounds-values-target : goal.bounds-values-target
+bounds-values-target c = omega arith

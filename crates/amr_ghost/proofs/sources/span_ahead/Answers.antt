@@ -28,3 +28,18 @@ returns-in-None-clause-span c =
     first_span d ps c.args.target.patch c.args.strip c.first_of-in-None.result c.first_of-in-None.ensures.axis c.first_of-in-None.ensures.from (Coarser c.home_cell-home.result) (omega (arith, c.first_of-in-None.ensures.count, c.gap_ahead-ahead.ensures.some)) (omega (arith, c.first_of-in-None.ensures.count, c.gap_ahead-ahead.ensures.within)) c.requires.there c.requires.small c.requires.room c.requires.ghost_strip
     (gap_source d ps c.args.target.patch c.args.strip c.first_of-in-None.result c.first_of-in-None.ensures.axis c.first_of-in-None.ensures.from c.home_cell-home.result home (room_in_domain c.args.p.now c.args.target.level c.home_cell-home.result c.requires.level here) here
     (λ k t. c.gap_ahead-ahead.ensures.gap ps c.requires.patches.starting (sym c.in-None.ensures.some) k (omega (arith, t, c.first_of-in-None.ensures.count))))
+
+pub domain-dom-requires : goal.domain-dom-requires
+domain-dom-requires c = omega arith
+
+pub returns-then-not-in_domain-clause-within : goal.returns-then-not-in_domain-clause-within
+returns-then-not-in_domain-clause-within c = omega arith
+
+pub gap_ahead-ahead-requires-clause-some : goal.gap_ahead-ahead-requires-clause-some
+gap_ahead-ahead-requires-clause-some c = omega arith
+
+pub returns-in-Some-clause-within : goal.returns-in-Some-clause-within
+returns-in-Some-clause-within c = omega arith
+
+pub returns-in-None-clause-within : goal.returns-in-None-clause-within
+returns-in-None-clause-within c = omega arith
