@@ -7,8 +7,7 @@ use Rattle.amr_def.specs.declared.problem.Problem.{Problem}
 use Rattle.amr_faces.proofs.Numbers.{unsheared, x_unsheared}
 use Rattle.amr_flux.proofs.Steps.{x_flux_is, y_flux_is}
 use Rattle.amr_flux.specs.declared.pace.Pace.{Pace}
-use Rattle.amr_faces.specs.Shares.{share_of}
-use Rattle.amr_faces.specs.Shares.{signed}
+use Rattle.amr_faces.specs.Shares.{share_of, signed}
 use Rattle.amr_flux.specs.Paces.{AreFit, GoesWith, IsFit, IsFitPatch, IsStepped, mass_with, x_before, x_between, x_donor, x_with, row_before, top_share, y_before, y_between, y_share, y_with}
 use Rattle.amr_flux.specs.Tables.{AreXSmall, AreYSmall, count_below, net_inflow, value, x_flux, x_marked, x_through, y_flux, y_marked, y_through}
 use Rattle.amr_flux.proofs.Parts.{read}

@@ -2,8 +2,7 @@
 -- flow into it (donor cell), told by masses alone.
 use Rattle.std.specs.Prelude.{◌≡◌, ◌≢◌, ℕ, zero, suc, ◌+◌, ◌-◌, ◌*◌, ◌^◌, ◌<◌, ◌≤◌, Bool, true, false, ◌&&◌, cond, nat_eq, ℤ, pos, negsuc, ◌+ℤ◌, ◌≤ℤ◌, ◌<ℤ◌, List, length, slice_index, IsTrue}
 use Rattle.amr_flux.specs.declared.pace.Pace.{Pace}
-use Rattle.amr_faces.specs.Shares.{signed}
-use Rattle.amr_faces.specs.Shares.{share_of}
+use Rattle.amr_faces.specs.Shares.{signed, share_of}
 use Rattle.amr_flux.specs.Tables.{count_below, net_inflow, value, x_marked, y_marked}
 use Rattle.amr_def.specs.Flux.{flow}
 

@@ -3,8 +3,7 @@
 ghost use Rattle.std.specs.Prelude.{◌≡◌, ◌≢◌, ℕ, ◌^◌, ◌+◌, ◌*◌, ◌≤◌, ◌<◌, cond, false, true, length, pos, slice_index, slice_index_or, unsigned_abs};
 ghost use Rattle.amr_def.specs.Domain.{rows};
 ghost use Rattle.amr_def.specs.Flux.{flow};
-ghost use Rattle.amr_faces.specs.Shares.{signed};
-ghost use Rattle.amr_faces.specs.Shares.{AreSmall};
+ghost use Rattle.amr_faces.specs.Shares.{signed, AreSmall};
 ghost use Rattle.amr_faces.specs.Numbers.{x_number};
 ghost use Rattle.amr_flux.specs.Tables.{AreXSmall, value, x_flux, x_marked};
 

@@ -3,10 +3,9 @@
 ghost use Rattle.std.specs.Prelude.{◌≡◌, ℕ, ◌+◌, ◌*◌, ◌≤◌, ◌<◌, ◌^◌, Bool, ◌&&◌, cond, nat_eq, false, true, length, pos, ◌-ℤ◌, slice_index, slice_index_or, unsigned_abs};
 ghost use Rattle.amr_def.specs.Domain.{columns};
 ghost use Rattle.amr_def.specs.Flux.{flow};
-ghost use Rattle.amr_faces.specs.Shares.{signed};
-ghost use Rattle.amr_faces.specs.Shares.{AreBelow, AreSmall, product};
-ghost use Rattle.amr_flux.specs.Columns.{AreColumns};
 ghost use Rattle.amr_faces.specs.Numbers.{y_number};
+ghost use Rattle.amr_faces.specs.Shares.{AreBelow, AreSmall, product, signed};
+ghost use Rattle.amr_flux.specs.Columns.{AreColumns};
 ghost use Rattle.amr_flux.specs.Tables.{AreYSmall, count_below, value, y_flux, y_marked};
 
 use crate::columns::Columns;

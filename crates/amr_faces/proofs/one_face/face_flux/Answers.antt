@@ -10,8 +10,7 @@ use Rattle.amr_def.specs.Flux.{courant, flow, high_cell, low_cell}
 use Rattle.amr_patch.specs.Places.{grown}
 use Rattle.amr_patch.specs.Patches.{value_in}
 use Rattle.amr_faces.specs.Faces.{flux_beside}
-use Rattle.amr_faces.proofs.Shown.{high_in_reach, low_in_reach}
-use Rattle.amr_faces.proofs.Shown.{flow_of}
+use Rattle.amr_faces.proofs.Shown.{high_in_reach, low_in_reach, flow_of}
 use Rattle.amr_faces.proofs.one_face.face_flux.Goals as goal
 
 pub value_of-low-requires : goal.value_of-low-requires
