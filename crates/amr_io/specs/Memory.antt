@@ -28,6 +28,12 @@ pub record SinkState : Type 0 where
   pub calls : ℕ
   pub faults : ℕ
 
+-- A sink that grows: the bytes that it holds, how many it has memory for, and its faults.
+pub record PageState : Type 0 where
+  pub held : List ℕ
+  pub room : ℕ
+  pub faults : ℕ
+
 -- the next read fails: its number is listed
 abbrev pub read_fails : SourceState → Bool
 read_fails s = is_listed s.fails (counted s.calls)
