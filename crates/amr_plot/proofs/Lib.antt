@@ -1,5 +1,7 @@
+mod Counted
 mod Cutting
 mod Fragments
+mod Lengths
 mod LevelBoxes
 mod Putting
 mod Texts

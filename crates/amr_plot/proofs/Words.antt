@@ -22,17 +22,17 @@ words_texts f a (suc n) =
     ∙ ap (λ (l : List ℕ). (32 ∷ f (a + 0)) ++ l) (texts_same _ _ n (λ i below. let e : a + 1 + i ≡ a + suc i = omega arith in ap (λ k. 32 ∷ f k) e))
     ∙ sym (texts_front (λ i. 32 ∷ f (a + i)) n)
 
-none_before : (v : ℕ) → decimal v ≡ word 0 v
+pub none_before : (v : ℕ) → decimal v ≡ word 0 v
 none_before v = refl
 
 not_first : (i : ℕ) → (suc i == 0) ≡ false
 not_first i = grind (arith, nat_tests)
 
-space_before : (i v : ℕ) → 32 ∷ decimal v ≡ word (suc i) v
+pub space_before : (i v : ℕ) → 32 ∷ decimal v ≡ word (suc i) v
 space_before i v = ap (λ (t : Bool). cond t [] (codes " ") ++ decimal v) (sym (not_first i))
 
 -- numbers with one space between
-spaced_words : (v : ℕ → ℕ) (n : ℕ) → 0 < n → spaced (map (λ i. decimal (v i)) (range_with_len 0 n)) ≡ texts (λ x. word x (v x)) n
+pub spaced_words : (v : ℕ → ℕ) (n : ℕ) → 0 < n → spaced (map (λ i. decimal (v i)) (range_with_len 0 n)) ≡ texts (λ x. word x (v x)) n
 spaced_words v zero h = absurd (omega arith)
 spaced_words v (suc n) h =
     ap (λ (l : List ℕ). decimal (v 0) ++ l) (words_texts (λ i. decimal (v i)) 1 n ∙ texts_same (λ i. 32 ∷ decimal (v (1 + i))) (λ i. word (suc i) (v (suc i))) n (λ i below. let e : 1 + i ≡ suc i = omega arith in ap (λ k. 32 ∷ decimal (v k)) e ∙ space_before i (v (suc i))))

@@ -3,3 +3,4 @@ pub mod Rows
 pub mod Parts
 pub mod Boxes
 pub mod BoxParts
+pub mod Laws

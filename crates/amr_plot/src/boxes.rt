@@ -1,36 +1,18 @@
 //! Boxes of a level, one after another, each its line and its rows.
 
-ghost use Rattle.std.specs.Prelude.{◌≤◌, IsTrue};
+ghost use Rattle.std.specs.Prelude.{◌≤◌};
 ghost use Rattle.std.specs.List.{All, flat_map};
-ghost use Rattle.amr_box.specs.declared.Cell.{Cell};
-ghost use Rattle.amr_box.specs.Cells.{holds};
-ghost use Rattle.amr_def.specs.Domain.{domain, in_domain};
-ghost use Rattle.amr_def.specs.Plot.{box_line, box_text};
+ghost use Rattle.amr_def.specs.Plot.{box_text};
 ghost use Rattle.amr_patch.specs.Levels.{level_of};
 ghost use Rattle.amr_plot.specs.Boxes.{IsBoxOf};
 ghost use Rattle.amr_plot.specs.Puts.{Puts};
 
-use crate::lines::put_box_line;
+use crate::lines::{box_row, put_line};
 use crate::rows::put_rows;
 use amr_box::Bx;
 use amr_def::Problem;
 use amr_io::{Sink, Text, WriteFault};
 use amr_patch::Level;
-
-/// The line of a box of level `l`.
-pub(crate) fn put_line<O: Sink>(
-    p: &Problem,
-    l: u32,
-    b: &Bx,
-    text: &mut Text,
-    sink: &mut O,
-) -> Result<(), WriteFault>
-    requires fine { l ≤ 4 }
-    requires inside { (c : Cell) → IsTrue (holds b.now c) → IsTrue (in_domain (domain p.now l) c) }
-    ensures { Puts O.holds O.faults sink.old sink.new text.old text.new (box_line b.now) result }
-{
-    put_box_line(b.lo(), b.hi(), text, sink)
-}
 
 /// A box of level `l` and its rows.
 fn put_box<O: Sink>(
@@ -45,7 +27,7 @@ fn put_box<O: Sink>(
     requires of_level { IsBoxOf p.now l level.now b.now }
     ensures { Puts O.holds O.faults sink.old sink.new text.old text.new (box_text (level_of level.now).masses b.now) result }
 {
-    put_line(p, l, b, text, sink)?;
+    put_line(&box_row(p, l, b), text, sink)?;
     put_rows(level, b, 0, b.height(), text, sink)
 }
 

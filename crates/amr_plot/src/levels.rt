@@ -10,7 +10,7 @@ ghost use Rattle.amr_plot.specs.Boxes.{joined};
 ghost use Rattle.amr_plot.specs.Puts.{Puts};
 
 use crate::boxes::put_boxes;
-use crate::lines::put_level_line;
+use crate::lines::{level_row, put_line};
 use crate::sharing::Sharing;
 use amr_def::Problem;
 use amr_io::{Sink, Text, WriteFault, write_whole};
@@ -67,7 +67,7 @@ fn put_level<S: Sharing, O: Sink>(
     requires level { IsLevel p.now l (level_of level.now) }
     ensures { Puts O.holds O.faults sink.old sink.new text.old text.new (level_text l (level_of level.now)) result }
 {
-    put_level_line(l, level.boxes().len(), text, sink)?;
+    put_line(&level_row(l, level.boxes().len()), text, sink)?;
     put_level_boxes(sharing, p, l, level, text, sink)
 }
 

@@ -11,7 +11,7 @@ ghost use Rattle.amr_plot.specs.Puts.{Puts};
 ghost use Rattle.amr_plot.specs.Parts.{after_head, after_ledger};
 
 use crate::levels::put_levels;
-use crate::lines::{put_head, put_ledger_row};
+use crate::lines::{head, ledger_row, put_line};
 use crate::sharing::{Alone, InThreads, Sharing};
 use amr_def::Problem;
 use amr_io::{Sink, Text, WriteFault};
@@ -31,7 +31,7 @@ fn put_ledger<O: Sink>(
     ensures { Puts O.holds O.faults sink.old sink.new text.old text.new (numbered ledger_line 0 (state_of mesh.now).rows) result }
 {
     for k in 0..count {
-        put_ledger_row(k, mesh.row(k), text, sink)?;
+        put_line(&ledger_row(k, mesh.row(k)), text, sink)?;
     }
     Ok(())
 }
@@ -82,7 +82,7 @@ fn put_plot<S: Sharing, O: Sink>(
     requires sound { IsSound p.now (state_of mesh.now) }
     ensures { Puts O.holds O.faults sink.old sink.new text.old text.new (plot p.now (state_of mesh.now)) result }
 {
-    put_head(p, mesh.step(), text, sink)?;
+    put_line(&head(p, mesh.step()), text, sink)?;
     put_body(sharing, p, mesh, text, sink)
 }
 

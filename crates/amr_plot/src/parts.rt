@@ -12,7 +12,7 @@ ghost use Rattle.amr_plot.specs.Boxes.{IsBoxOf};
 ghost use Rattle.amr_plot.specs.BoxParts.{IsPartOf, part_text};
 ghost use Rattle.amr_plot.specs.Puts.{Puts};
 
-use crate::boxes::put_line;
+use crate::lines::{box_row, put_line};
 use crate::rows::put_rows;
 use amr_box::Bx;
 use amr_causes::NoMemory;
@@ -77,7 +77,7 @@ fn put_part<O: Sink>(
     ensures { Puts O.holds O.faults sink.old sink.new text.old text.new (part_text (level_of level.now).masses part) result }
 {
     match part {
-        Part::Line(b) => put_line(p, l, &b, text, sink),
+        Part::Line(b) => put_line(&box_row(p, l, &b), text, sink),
         Part::Rows(b, first, count) => put_rows(level, &b, first, count, text, sink),
     }
 }

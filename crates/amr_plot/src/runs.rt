@@ -9,11 +9,10 @@ ghost use Rattle.amr_plot.specs.Boxes.{AreTextsOfRuns, joined};
 ghost use Rattle.amr_plot.specs.BoxParts.{IsPartOf, part_text};
 ghost use Rattle.amr_plot.specs.declared.parts.Part.{Part};
 
-use crate::page::Page;
 use crate::parts::{Part, parts_of, put_parts};
 use amr_causes::NoMemory;
 use amr_def::Problem;
-use amr_io::{Text, WriteFault};
+use amr_io::{Page, Text, WriteFault};
 use amr_patch::Level;
 use std::alloc::Global;
 use std::thread::{Threads, map_chunks};
