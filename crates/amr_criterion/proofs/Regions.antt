@@ -32,9 +32,6 @@ rows_parts from n m k t c e =
     let x = within from.x (from.x +ℤ pos n -ℤ pos 1) c.x in
     ap (λ (b : Bool). x && b) (two_parts from.y c.y m k t e) ∙ and-or_distrib_left x (within from.y (from.y +ℤ pos m -ℤ pos 1) c.y) (within (from.y +ℤ pos m) (from.y +ℤ pos m +ℤ pos k -ℤ pos 1) c.y)
 
-pub no_columns : (from : Cell) (m : ℕ) (c : Cell) → holds (region from 0 m) c ≡ false
-no_columns from m c = ap (λ (b : Bool). b && within from.y (from.y +ℤ pos m -ℤ pos 1) c.y) (none_within from.x c.x)
-
 pub no_rows : (from : Cell) (n : ℕ) (c : Cell) → holds (region from n 0) c ≡ false
 no_rows from n c = ap (λ (b : Bool). within from.x (from.x +ℤ pos n -ℤ pos 1) c.x && b) (none_within from.y c.y) ∙ and-false (within from.x (from.x +ℤ pos n -ℤ pos 1) c.x)
 

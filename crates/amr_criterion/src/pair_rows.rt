@@ -38,6 +38,24 @@ fn differs_by(threshold: u64, a: u32, b: u32) -> bool
     threshold <= u64::from(a.abs_diff(b))
 }
 
+/// How many pairs from the start of a row on are known to differ by less than the threshold: all of them where the greatest
+/// difference is below it, else none. Most rows end here, so each is gone over without a stop, as fast as it is read.
+fn count_even(threshold: u64, first: &[u32], second: &[u32]) -> usize
+    requires same { length second.now ≡ length first.now }
+    ensures within { result ≤ length first.now }
+    ensures even { (k : ℕ) → k < result → differs_by threshold (slice_index first.now k) (slice_index second.now k) ≡ false }
+{
+    let mut most = 0;
+    for k in 0..first.len() {
+        most = most.max(first[k].abs_diff(second[k]));
+    }
+    if u64::from(most) < threshold {
+        first.len()
+    } else {
+        0
+    }
+}
+
 /// The first place from `from` on where the values of a pair differ by the threshold or more, and the end of the row where
 /// there is none.
 fn next_steep(threshold: u64, first: &[u32], second: &[u32], from: usize) -> usize
@@ -123,7 +141,7 @@ pub(crate) fn tag_pairs(tags: &mut Tags, pairs: &PairRow, first: &[u32], second:
     requires room { IsBelow 536870912 pairs.now.from }
     ensures { (value : Cell → ℕ) → AreAlong value pairs.now.axis pairs.now.from first.now second.now → IsJoined (λ c. holds pairs.now.part c && in_steep_pair pairs.now.threshold value pairs.now.axis (region pairs.now.from (length first.now) 1) c) tags.old tags.new }
 {
-    let mut done = 0;
+    let mut done = count_even(pairs.threshold, first, second);
     while done < first.len() {
         done = tag_next(tags, pairs, first, second, done);
     }
