@@ -17,7 +17,7 @@ use Rattle.amr_patch.specs.Levels.{level_of}
 use Rattle.amr_patch.specs.Patches.{masses_in}
 use Rattle.amr_layout.specs.Adds.{HasRegisterCells}
 use Rattle.amr_layout.specs.Surroundings.{around}
-use Rattle.amr_edges.proofs.Ordered.{serve, serve_base}
+use Rattle.amr_flows.proofs.Ordered.{serve, serve_base}
 use Rattle.amr_flows.specs.Laws.{plain_size}
 use Rattle.amr_flows.specs.Words.{child_flows, level_total}
 use Rattle.amr_flows.proofs.LedgerFlows.{inflow_of_level, outflow_of_level}

@@ -32,7 +32,7 @@ use Rattle.amr_advance.specs.declared.kept.KeptLayout.{KeptLayout}
 use Rattle.amr_advance.specs.declared.lots.LotTasks.{LotTasks}
 use Rattle.amr_advance.specs.declared.tasks.Tasks.TheVariants.{Lots}
 use Rattle.amr_advance.specs.Averaging.{AreLotsFor, HaveSums}
-use Rattle.amr_advance.specs.Kept.{IsKept}
+use Rattle.amr_advance.specs.Kept.{IsKeptLayout}
 use Rattle.amr_advance.specs.Lots.{AreLotTasks, CarryMasses, IsLotOf}
 use Rattle.amr_advance.specs.Tasks.{AreTasks}
 use Rattle.amr_advance.proofs.KeptLots.{of_phase}
@@ -173,7 +173,7 @@ pub tasks_kept : (s : Around) (t u : LotTasks) → u.each ≡ t.each → KeepRun
 tasks_kept s t u each new = tasks_by s t u each new.count (λ parts k x below of. still_of (get_or t.lots.items k x).value (get_or u.lots.items k x).value (new.each k x below) of)
 
 -- and so does a layout
-pub layout_kept : (p : Problem) (k : KeptLayout) (t u : LotTasks) → k.tasks ≡ Lots t → ((s : Around) → AreLotTasks s t → AreLotTasks s u) → IsKept p k → IsKept p (record k { tasks = Lots u })
+pub layout_kept : (p : Problem) (k : KeptLayout) (t u : LotTasks) → k.tasks ≡ Lots t → ((s : Around) → AreLotTasks s t → AreLotTasks s u) → IsKeptLayout p k → IsKeptLayout p (record k { tasks = Lots u })
 layout_kept p k t u is tasks kept =
     let made = kept.laid_out in
     record {
@@ -191,7 +191,7 @@ layout_kept p k t u is tasks kept =
     }
 
 -- the lots of a layout, where the patches have the boxes that it was made for
-pub lots_for : (p : Problem) (k : KeptLayout) (t : LotTasks) (boxes : List Extent) → k.tasks ≡ Lots t → k.boxes.items ≡ boxes → IsKept p k → AreLotsFor boxes t
+pub lots_for : (p : Problem) (k : KeptLayout) (t : LotTasks) (boxes : List Extent) → k.tasks ≡ Lots t → k.boxes.items ≡ boxes → IsKeptLayout p k → AreLotsFor boxes t
 lots_for p k t boxes is same kept = record {
   made_for = kept.made_for;
   on_boxes = sym kept.laid_out.boxes ∙ same;

@@ -19,10 +19,10 @@ use Rattle.amr_patch.specs.Places.{is_face_of}
 use Rattle.amr_patch.proofs.Rows.{sides}
 use Rattle.amr_faces.specs.Faces.{IsInDomain, border_faces, flux_beside}
 use Rattle.amr_flux.specs.Rooms.{widest}
-use Rattle.amr_edges.specs.Borders.{IsOwnEdge}
-use Rattle.amr_edges.proofs.Joined.{adds_own}
-use Rattle.amr_edges.proofs.OwnEdges.{puts_owned}
-use Rattle.amr_edges.proofs.PutPlaces.{places_count}
+use Rattle.amr_flows.specs.Borders.{IsOwnEdge}
+use Rattle.amr_flows.proofs.Joined.{adds_own}
+use Rattle.amr_flows.proofs.OwnEdges.{puts_owned}
+use Rattle.amr_flows.proofs.PutPlaces.{places_count}
 use Rattle.amr_layout.specs.declared.AddAt.{AddAt}
 use Rattle.amr_layout.specs.declared.PutAt.{PutAt}
 use Rattle.amr_layout.specs.declared.Layout.{Layout}
@@ -36,7 +36,7 @@ use Rattle.amr_work.specs.declared.work.Workspace.{Workspace}
 use Rattle.amr_work.specs.Ready.{AreOwnAdds, HasOwnPosts, MayStepWith, MayStep}
 use Rattle.amr_advance.specs.Layouts.{IsLayoutOf}
 use Rattle.amr_advance.proofs.OnePatch as OnePatch
-use Rattle.amr_advance.specs.Shown.{AreShown, StepFits}
+use Rattle.amr_advance.specs.Shown.{AreShown, LevelStepFits}
 
 zero_more : (k : ℕ) → 0 + k ≡ k
 zero_more k = omega arith
@@ -47,7 +47,7 @@ adds_few [] k d lt = absurd (omega arith)
 adds_few (a ∷ adds) zero d lt = omega (arith, length-append (map (flow_to a.word) a.faces.items) (flows_in adds), length-map a.faces.items (flow_to a.word))
 adds_few (a ∷ adds) (suc k) d lt = let r = adds_few adds k d (omega (arith, lt)) in omega (arith, r, length-append (map (flow_to a.word) a.faces.items) (flows_in adds))
 
-module _ (p : Problem) (l : ℕ) (old : Masses) (qs : List Patch) (cells : List Cell) (next : Option Held) (shallow : l ≤ 4) (shown : AreShown p l old qs) (fits : StepFits p l (masses_in qs) old) where
+module _ (p : Problem) (l : ℕ) (old : Masses) (qs : List Patch) (cells : List Cell) (next : Option Held) (shallow : l ≤ 4) (shown : AreShown p l old qs) (fits : LevelStepFits p l (masses_in qs) old) where
   abbrev d : Domain
   d = domain p l
 

@@ -43,7 +43,7 @@ use Rattle.amr_advance.specs.Collected.{AreCollected, AreFacesOf, AreReturned, H
 use Rattle.amr_advance.specs.Ended.{HasPiece, HasPieces, HasWords}
 use Rattle.amr_advance.specs.Layouts.{IsLayoutOf}
 use Rattle.amr_advance.specs.Pieces.{AreRawPieces, AreWorkspaces, IsRawPiece, Serves}
-use Rattle.amr_advance.specs.Shown.{AreShown, IsStepped, StepFits}
+use Rattle.amr_advance.specs.Shown.{AreShown, IsStepped, LevelStepFits}
 use Rattle.amr_advance.specs.Turns.{AreTurnsOf}
 use Rattle.amr_advance.proofs.Begun.{plain_at}
 use Rattle.amr_advance.proofs.Stages.{stage_number}
@@ -77,7 +77,7 @@ module _ (p : Problem) (l : ℕ) (qs : List Patch) (ss : List Workspace) (ws : L
 
 -- ---- on the closed board
 
-module _ (p : Problem) (l : ℕ) (old : Masses) (qs : List Patch) (cells : List Cell) (next : Option Held) (shallow : l ≤ 4) (shown : AreShown p l old qs) (fits : StepFits p l (masses_in qs) old)
+module _ (p : Problem) (l : ℕ) (old : Masses) (qs : List Patch) (cells : List Cell) (next : Option Held) (shallow : l ≤ 4) (shown : AreShown p l old qs) (fits : LevelStepFits p l (masses_in qs) old)
     (y : Layout) (layout : IsLayoutOf (around p l qs cells next) y) (turns : List ℕ) (order : AreTurnsOf qs turns)
     (ss : List Workspace) (served : AreWorkspaces (in_turn turns qs) (in_turn turns y.tasks.items) ss) (ws : List Work) (raw : AreRawPieces p l (in_turn turns qs) ss ws)
     (o : EndedOf Work) (words : HasWords (plan_of puts_of_work adds_of_work y.places y.words ws) o) (pieces : HasPieces o ws 0) where

@@ -33,11 +33,11 @@ use Rattle.amr_phase.specs.Plans.{IsPlan, PlanOf, added, no_post, no_task, plann
 use Rattle.amr_phase.proofs.Layouts.{put_is_planned}
 use Rattle.amr_board.specs.Piece.{plan_of}
 use Rattle.amr_board.proofs.Planning.{totals_of_pieces}
-use Rattle.amr_edges.specs.Borders.{IsOwnEdge, IsPut}
-use Rattle.amr_edges.proofs.Borders.{borders_same}
-use Rattle.amr_edges.proofs.OwnEdges.{puts_owned}
-use Rattle.amr_edges.proofs.OwnFlows.{flows_owned}
-use Rattle.amr_edges.proofs.PutPlaces.{put_there}
+use Rattle.amr_flows.specs.Borders.{IsOwnEdge, IsPut}
+use Rattle.amr_flows.proofs.Borders.{borders_same}
+use Rattle.amr_flows.proofs.OwnEdges.{puts_owned}
+use Rattle.amr_flows.proofs.OwnFlows.{flows_owned}
+use Rattle.amr_flows.proofs.PutPlaces.{put_there}
 use Rattle.amr_layout.specs.declared.AddAt.{AddAt}
 use Rattle.amr_layout.specs.declared.Layout.{Layout}
 use Rattle.amr_layout.specs.declared.PutAt.{PutAt}
@@ -59,7 +59,7 @@ use Rattle.amr_work.proofs.Small.{beside_small}
 use Rattle.amr_work.proofs.Standing.{through_raw}
 use Rattle.amr_advance.specs.Layouts.{IsLayoutOf}
 use Rattle.amr_advance.specs.Pieces.{AreRawPieces, AreWorkspaces, IsRawPiece, Serves}
-use Rattle.amr_advance.specs.Shown.{AreShown, StepFits}
+use Rattle.amr_advance.specs.Shown.{AreShown, LevelStepFits}
 use Rattle.amr_advance.proofs.Begun.{adds_at, all_lie, border_at, border_count, own, plain_at, puts_at, ready_of, size, task_count}
 
 -- ---- sums
@@ -123,7 +123,7 @@ sizes_small (q ∷ qs) [] e h k f = omega arith
 sizes_small (q ∷ qs) (w ∷ ws) e h zero f = h 0 q w (omega arith) f
 sizes_small (q ∷ qs) (w ∷ ws) e h (suc k) f = sizes_small qs ws (omega (arith, e)) (λ j r w0 lt g. h (suc j) r w0 (omega (arith, lt)) g) k f
 
-module _ (p : Problem) (l : ℕ) (old : Masses) (qs : List Patch) (cells : List Cell) (next : Option Held) (shallow : l ≤ 4) (shown : AreShown p l old qs) (fits : StepFits p l (masses_in qs) old)
+module _ (p : Problem) (l : ℕ) (old : Masses) (qs : List Patch) (cells : List Cell) (next : Option Held) (shallow : l ≤ 4) (shown : AreShown p l old qs) (fits : LevelStepFits p l (masses_in qs) old)
     (y : Layout) (layout : IsLayoutOf (around p l qs cells next) y)
     (ss : List Workspace) (served : AreWorkspaces qs y.tasks.items ss) (ws : List Work) (raw : AreRawPieces p l qs ss ws) where
   abbrev d : Domain

@@ -22,7 +22,7 @@ use Rattle.amr_flux.specs.Rooms.{widest}
 use Rattle.amr_faces.proofs.Places.{owned_of_box}
 use Rattle.amr_flows.specs.Laws.{plain_size}
 use Rattle.amr_flows.specs.Words.{level_total}
-use Rattle.amr_edges.proofs.OwnFlows.{flows_owned}
+use Rattle.amr_flows.proofs.OwnFlows.{flows_owned}
 use Rattle.amr_phase.specs.Plans.{total}
 use Rattle.amr_phase.proofs.Sums.{total_take_drop}
 use Rattle.amr_ghost.specs.Filling.{HasFrame, KeepsCells}
@@ -51,7 +51,7 @@ use Rattle.amr_lots.proofs.Runs.{run_at, run_first, run_has, run_length, run_nex
 use Rattle.amr_work.specs.Ready.{AreOwnFlows, MayStep}
 use Rattle.amr_advance.specs.declared.lots.LotTasks.{LotTasks}
 use Rattle.amr_advance.specs.Lots.{AreLotTasks, ServesRun}
-use Rattle.amr_advance.specs.Shown.{IsStepped, StepFits}
+use Rattle.amr_advance.specs.Shown.{IsStepped, LevelStepFits}
 use Rattle.amr_advance.proofs.Filled.{all_lie}
 use Rattle.amr_advance.proofs.Going.{same_words}
 use Rattle.amr_advance.proofs.FewFlows.{level_few}
@@ -107,7 +107,7 @@ pub record IsShared (p : Problem) (l : ℕ) (old : Masses) (ps : List Patch) (ce
   pub shallow : l ≤ 4
   pub apart : ArePatchesApart ps
   pub inside : AreInDomain (domain p l) ps
-  pub fits : StepFits p l (masses_in ps) old
+  pub fits : LevelStepFits p l (masses_in ps) old
   pub tasks : AreLotTasks (around p l ps cells next) t
 
 module _ {p : Problem} {l : ℕ} {old : Masses} {ps : List Patch} {cells : List Cell} {next : Option Held} {t : LotTasks} (level : IsShared p l old ps cells next t) where

@@ -30,7 +30,7 @@ use Rattle.amr_work.specs.Ready.{MayBegin}
 use Rattle.amr_work.specs.Works.{adds_of_work, puts_of_work, through}
 use Rattle.amr_advance.specs.Layouts.{IsLayoutOf}
 use Rattle.amr_advance.specs.Pieces.{AreRawPieces, AreWorkspaces, IsRawPiece, Serves}
-use Rattle.amr_advance.specs.Shown.{AreShown, StepFits}
+use Rattle.amr_advance.specs.Shown.{AreShown, LevelStepFits}
 use Rattle.amr_advance.specs.Turns.{AreTurnsOf, areas_of}
 use Rattle.amr_advance.proofs.Begun.{task_count}
 use Rattle.amr_advance.proofs.Going.{all_begin as level_begins, is_plan as level_plan, totals_are as level_totals}
@@ -96,7 +96,7 @@ still_begins p places words ts us k w same h = record {
   border = record { places = h.border.places; sizes = λ j f below. same _ ∙ h.border.sizes j f below };
 }
 
-module _ (p : Problem) (l : ℕ) (old : Masses) (qs : List Patch) (cells : List Cell) (next : Option Held) (shallow : l ≤ 4) (shown : AreShown p l old qs) (fits : StepFits p l (masses_in qs) old)
+module _ (p : Problem) (l : ℕ) (old : Masses) (qs : List Patch) (cells : List Cell) (next : Option Held) (shallow : l ≤ 4) (shown : AreShown p l old qs) (fits : LevelStepFits p l (masses_in qs) old)
     (y : Layout) (layout : IsLayoutOf (around p l qs cells next) y) (turns : List ℕ) (order : AreTurnsOf qs turns)
     (ss : List Workspace) (served : AreWorkspaces (in_turn turns qs) (in_turn turns y.tasks.items) ss) (ws : List Work) (raw : AreRawPieces p l (in_turn turns qs) ss ws) where
   perm : IsPermutation (range_with_len 0 (length qs)) turns

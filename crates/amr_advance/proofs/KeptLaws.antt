@@ -25,7 +25,7 @@ use Rattle.amr_phase.specs.Plans.{total}
 use Rattle.amr_flux.specs.Rooms.{widest}
 use Rattle.amr_work.specs.declared.work.Workspace.{Workspace}
 use Rattle.amr_advance.specs.declared.kept.KeptLayout.{KeptLayout}
-use Rattle.amr_advance.specs.Kept.{IsKept, IsLaidOut}
+use Rattle.amr_advance.specs.Kept.{IsKeptLayout, IsLaidOut}
 use Rattle.amr_advance.specs.Layouts.{AreAddsOf}
 use Rattle.amr_advance.specs.Tasks.{AreTasks}
 use Rattle.amr_advance.specs.declared.tasks.Tasks.{Tasks}
@@ -144,7 +144,7 @@ same_tasks s t (Board x) g h = record {
 }
 
 -- a layout made for the same ground serves here
-pub serves_here : (t : Around) (k : KeptLayout) → IsKept t.problem k → k.level ≡ t.level → map box t.patches ≡ k.boxes.items → k.cells.items ≡ t.cells → (has_open_side t.problem ≡ true → (c : Cell) → is_some (t.finer c) ≡ in_boxes k.finer.items c) → IsLaidOut t k
+pub serves_here : (t : Around) (k : KeptLayout) → IsKeptLayout t.problem k → k.level ≡ t.level → map box t.patches ≡ k.boxes.items → k.cells.items ≡ t.cells → (has_open_side t.problem ≡ true → (c : Cell) → is_some (t.finer c) ≡ in_boxes k.finer.items c) → IsLaidOut t k
 serves_here t k h level boxes cells finer =
     let s = h.made_for in
     let made = h.laid_out in
@@ -199,7 +199,7 @@ with_flags s t packed valued h = record {
   lots = h.lots;
 }
 
-pub kept_with_flags : (p : Problem) (k : KeptLayout) (t : LotTasks) (packed valued : Bool) → k.tasks ≡ Lots t → IsKept p k → IsKept p (record k { tasks = Lots (record t { packed = packed; valued = valued }) })
+pub kept_with_flags : (p : Problem) (k : KeptLayout) (t : LotTasks) (packed valued : Bool) → k.tasks ≡ Lots t → IsKeptLayout p k → IsKeptLayout p (record k { tasks = Lots (record t { packed = packed; valued = valued }) })
 kept_with_flags p k t packed valued is h = record {
   made_for = h.made_for;
   of_problem = h.of_problem;

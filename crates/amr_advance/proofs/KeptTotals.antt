@@ -15,7 +15,7 @@ use Rattle.amr_phase.specs.Plans.{total}
 use Rattle.amr_advance.specs.declared.kept.KeptLayout.{KeptLayout}
 use Rattle.amr_advance.specs.declared.tasks.Tasks.{Tasks}
 use Rattle.amr_advance.specs.declared.tasks.Tasks.TheVariants.{Board, Lone, Lots}
-use Rattle.amr_advance.specs.Kept.{HasLotTotals, IsKept, IsLaidOut, totals_kept, words_kept}
+use Rattle.amr_advance.specs.Kept.{HasLotTotals, IsKeptLayout, IsLaidOut, totals_kept, words_kept}
 use Rattle.amr_advance.specs.Tasks.{AreTasks, HaveTotalsAmong, sums_of, totals_of}
 
 -- what flowed to a word in lots
@@ -49,9 +49,9 @@ lots_have s many (Lots t) same are = λ k x lt.
     let of = (are.lots k x lt).serves in
     record { count = of.totals; words = λ j w below. let r = of.words j w below in omega (arith, r, same) }
 
-kept_have : (p : Problem) (k : KeptLayout) → IsKept p k → HasLotTotals k
+kept_have : (p : Problem) (k : KeptLayout) → IsKeptLayout p k → HasLotTotals k
 kept_have p k h = lots_have h.made_for (words_kept k) k.tasks (words_are h.made_for k h.laid_out) h.laid_out.tasks
 
-pub lot_totals : (p : Problem) (kept : Option KeptLayout) → IfSome kept (IsKept p) → IfSome kept HasLotTotals
+pub lot_totals : (p : Problem) (kept : Option KeptLayout) → IfSome kept (IsKeptLayout p) → IfSome kept HasLotTotals
 lot_totals p None h = tt
 lot_totals p (Some k) h = kept_have p k h

@@ -22,7 +22,7 @@ use Rattle.amr_flows.specs.Laws.{plain_size}
 use Rattle.amr_flows.specs.Words.{level_total}
 use Rattle.amr_phase.specs.Plans.{total}
 use Rattle.amr_phase.proofs.Sums.{total_more, total_take}
-use Rattle.amr_edges.proofs.OwnFlows.{flows_owned}
+use Rattle.amr_flows.proofs.OwnFlows.{flows_owned}
 use Rattle.amr_layout.specs.declared.FlowTo.{FlowTo}
 use Rattle.amr_layout.specs.declared.alone.LevelFlows.{LevelFlows}
 use Rattle.amr_layout.specs.Adds.{flows_of, size_to, word_total}
@@ -32,7 +32,7 @@ use Rattle.amr_layout.proofs.LevelFlowLists.{each_of_patch, flows_here, has_flow
 use Rattle.amr_layout.proofs.Planned.{flows_few}
 use Rattle.amr_work.specs.Ready.{AreOwnFlows, MayStep}
 use Rattle.amr_advance.specs.Layouts.{AreAddsOf}
-use Rattle.amr_advance.specs.Shown.{AreShown, IsStepped, StepFits}
+use Rattle.amr_advance.specs.Shown.{AreShown, IsStepped, LevelStepFits}
 use Rattle.amr_advance.proofs.Begun.{all_lie, may_step, plain_at}
 use Rattle.amr_advance.proofs.Bodies.{set_done}
 use Rattle.amr_advance.proofs.Filled.{zip_from}
@@ -85,7 +85,7 @@ pub record AreDoneUpTo (R : Patch → Patch → Type 0) (s : Around) (old : Mass
 abbrev pub AreSteppedUpTo : Around → Masses → List Patch → List ℕ → ℕ → Type 0
 AreSteppedUpTo s old rs ws n = AreDoneUpTo (IsStepped (flux_at s.problem s.level (masses_in s.patches) old)) s old rs ws n
 
-module _ (p : Problem) (l : ℕ) (old : Masses) (qs : List Patch) (cells : List Cell) (next : Option Held) (shallow : l ≤ 4) (shown : AreShown p l old qs) (fits : StepFits p l (masses_in qs) old)
+module _ (p : Problem) (l : ℕ) (old : Masses) (qs : List Patch) (cells : List Cell) (next : Option Held) (shallow : l ≤ 4) (shown : AreShown p l old qs) (fits : LevelStepFits p l (masses_in qs) old)
     (v : LevelFlows) (of : AreAddsOf (around p l qs cells next) v) where
   abbrev m : Masses
   m = masses_in qs

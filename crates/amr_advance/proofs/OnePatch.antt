@@ -22,7 +22,7 @@ use Rattle.amr_ghost.specs.Filling.{HasFrame}
 use Rattle.amr_ghost.specs.Frames.{AreInDomain, HasGhostMarks, SameMasses}
 use Rattle.amr_ghost.proofs.Reach.{own_value}
 use Rattle.amr_work.specs.Ready.{MayStep}
-use Rattle.amr_advance.specs.Shown.{IsStepped, StepFits}
+use Rattle.amr_advance.specs.Shown.{IsStepped, LevelStepFits}
 
 module _ (p : Problem) (l : ℕ) (old : Masses) (ps : List Patch) (apart : ArePatchesApart ps) (inside : AreInDomain (domain p l) ps) (k : ℕ) (r : Patch) (lt : k < length ps)
     (q : Patch) (of_box : box q ≡ box (get_or ps k r)) (same : SameMasses (get_or ps k r) q) where
@@ -73,7 +73,7 @@ module _ (p : Problem) (l : ℕ) (old : Masses) (ps : List Patch) (apart : ArePa
     is_there c h = subst IsSome (sym (mass_here c h)) refl
 
     -- so its step may be made
-    pub may_step : l ≤ 4 → StepFits p l (masses_in ps) old → MayStep p l q
+    pub may_step : l ≤ 4 → LevelStepFits p l (masses_in ps) old → MayStep p l q
     may_step shallow fits = record {
       level = shallow;
       inside = lies;

@@ -47,14 +47,14 @@ abbrev pub IsSmallInLots : KeptLayout → Type 0
 IsSmallInLots k = AreSmallInLots k.tasks
 
 -- it was made for a level of this problem
-pub record IsKept (p : Problem) (k : KeptLayout) : Type 0 where
+pub record IsKeptLayout (p : Problem) (k : KeptLayout) : Type 0 where
   pub made_for : Around
   pub of_problem : made_for.problem ≡ p
   pub laid_out : IsLaidOut made_for k
 
 -- what it keeps of a level's masses, where it keeps any, is of the masses M
-abbrev pub IsCurrent : Masses → KeptLayout → Type 0
-IsCurrent M k = AreCurrent M k.tasks
+abbrev pub IsCurrentLayout : Masses → KeptLayout → Type 0
+IsCurrentLayout M k = AreCurrent M k.tasks
 
 -- what it keeps of outer ghost cells of level l, where it keeps any, is what they get where the next coarser level has the masses `old`
 abbrev pub IsValued : Problem → ℕ → Masses → KeptLayout → Type 0

@@ -16,7 +16,7 @@ use Rattle.amr_faces.specs.Faces.{ShowsValues}
 
 -- the numbers of a step of level l with masses m, where the next coarser level had the masses `old`, fit the integers of code:
 -- what flows out of a cell is no more than it has
-pub record StepFits (p : Problem) (l : ℕ) (m old : Masses) : Type 0 where
+pub record LevelStepFits (p : Problem) (l : ℕ) (m old : Masses) : Type 0 where
   pub values : (c : Cell) → value_at p l m old c < 2 ^ 31
   pub fluxes : (f : Face) → unsigned_abs (flux_at p l m old f) < 2 ^ 31
   pub kept : (c : Cell) → IsSome (m c) → pos 0 ≤ℤ (pos (mass_of m c) +ℤ net (flux_at p l m old) c)

@@ -13,7 +13,7 @@ ghost use Rattle.amr_flows.specs.Laws.{plain_size};
 ghost use Rattle.amr_flows.specs.Words.{level_total};
 ghost use Rattle.amr_advance.specs.Layouts.{AreAddsOf};
 ghost use Rattle.amr_advance.specs.Tasks.{AreLoneTasks};
-ghost use Rattle.amr_advance.specs.Shown.{AreShown, IsStepped, StepFits};
+ghost use Rattle.amr_advance.specs.Shown.{AreShown, IsStepped, LevelStepFits};
 
 use crate::level::Given;
 use crate::tasks::LoneTasks;
@@ -35,7 +35,7 @@ fn step_each<G: Gate>(
 )
     requires level { given.level ≤ 4 }
     requires shown { AreShown given.problem.now given.level (old_masses (option_copied given.old)) patches.old }
-    requires fits { StepFits given.problem.now given.level (masses_in patches.old) (old_masses (option_copied given.old)) }
+    requires fits { LevelStepFits given.problem.now given.level (masses_in patches.old) (old_masses (option_copied given.old)) }
     requires adds { AreAddsOf (around given.problem.now given.level patches.old given.cells.now (option_copied given.finer)) flows.now }
     requires room { All (λ q. width (box q) ≤ widest room.old) patches.old }
     requires few { length patches.old ≤ 2 ^ 26 }
@@ -73,7 +73,7 @@ pub(crate) fn step_alone_by<G: Gate>(
 )
     requires level { given.level ≤ 4 }
     requires shown { AreShown given.problem.now given.level (old_masses (option_copied given.old)) patches.old }
-    requires fits { StepFits given.problem.now given.level (masses_in patches.old) (old_masses (option_copied given.old)) }
+    requires fits { LevelStepFits given.problem.now given.level (masses_in patches.old) (old_masses (option_copied given.old)) }
     requires tasks { AreLoneTasks (around given.problem.now given.level patches.old given.cells.now (option_copied given.finer)) tasks.old }
     requires few { length patches.old ≤ 2 ^ 26 }
     requires gate { (task : ℕ) → task < length patches.old → G.admits gate.now 0 task }

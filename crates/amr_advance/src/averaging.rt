@@ -12,7 +12,7 @@ ghost use Rattle.amr_patch.specs.Pairwise.{Pairwise};
 ghost use Rattle.amr_patch.specs.Patches.{ArePatchesApart, KeepsFrameAndFluxes, box, in_patches, masses_in};
 ghost use Rattle.amr_transfer.specs.Sums.{AreCoarsenable, summed};
 ghost use Rattle.amr_advance.specs.Averaging.{AreLotsFor, HaveSums};
-ghost use Rattle.amr_advance.specs.Kept.{IsCurrent, IsKept};
+ghost use Rattle.amr_advance.specs.Kept.{IsCurrentLayout, IsKeptLayout};
 ghost use Rattle.amr_advance.specs.Lots.{AreLotTasks, AreLotsCurrent};
 ghost use Rattle.amr_advance.specs.Teams.{IsTeamFor};
 
@@ -118,15 +118,15 @@ fn sum_up_by<R: Wait, G: Gate>(
     requires coarsenable { AreCoarsenable (patches_of fine.old) }
     requires small { (c : Cell) → children_mass (level_of fine.old).masses c < 2 ^ 32 }
     requires team { IfSome workers.old.team (IsTeamFor p.now workers.old.gate.now workers.old.count) }
-    requires kept { IsKept p.now layout.old }
+    requires kept { IsKeptLayout p.now layout.old }
     ensures workers { workers.new ≡ workers.old }
     ensures masses { (level_of coarse.new).masses ≡ summed (level_of fine.old).masses (level_of coarse.old).masses }
     ensures boxes { (level_of coarse.new).boxes ≡ (level_of coarse.old).boxes }
     ensures patches { Pairwise KeepsFrameAndFluxes (patches_of coarse.old) (patches_of coarse.new) }
     ensures finer { level_of fine.new ≡ level_of fine.old }
     ensures finer_patches { patches_of fine.new ≡ patches_of fine.old }
-    ensures kept { IsKept p.now layout.new }
-    ensures current { (M : Masses) → IsCurrent M layout.old → IsCurrent M layout.new }
+    ensures kept { IsKeptLayout p.now layout.new }
+    ensures current { (M : Masses) → IsCurrentLayout M layout.old → IsCurrentLayout M layout.new }
 {
     if !have_boxes(fine.patches(), &layout.boxes) {
         return sum_up(fine, coarse);
@@ -151,7 +151,7 @@ pub fn sum_up_kept<R: Wait, G: Gate>(
     requires coarsenable { AreCoarsenable (patches_of fine.old) }
     requires small { (c : Cell) → children_mass (level_of fine.old).masses c < 2 ^ 32 }
     requires team { IfSome workers.old.team (IsTeamFor p.now workers.old.gate.now workers.old.count) }
-    requires kept { IfSome kept.old (IsKept p.now) }
+    requires kept { IfSome kept.old (IsKeptLayout p.now) }
     ensures workers { workers.new ≡ workers.old }
     ensures masses { (level_of coarse.new).masses ≡ summed (level_of fine.old).masses (level_of coarse.old).masses }
     ensures boxes { (level_of coarse.new).boxes ≡ (level_of coarse.old).boxes }
@@ -159,8 +159,8 @@ pub fn sum_up_kept<R: Wait, G: Gate>(
     ensures finer { level_of fine.new ≡ level_of fine.old }
     ensures finer_patches { patches_of fine.new ≡ patches_of fine.old }
     ensures some { is_some kept.new ≡ is_some kept.old }
-    ensures kept { IfSome kept.new (IsKept p.now) }
-    ensures current { (M : Masses) → IfSome kept.old (IsCurrent M) → IfSome kept.new (IsCurrent M) }
+    ensures kept { IfSome kept.new (IsKeptLayout p.now) }
+    ensures current { (M : Masses) → IfSome kept.old (IsCurrentLayout M) → IfSome kept.new (IsCurrentLayout M) }
 {
     match kept {
         Some(layout) => sum_up_by(workers, p, fine, coarse, layout),

@@ -19,7 +19,7 @@ ghost use Rattle.amr_register.specs.Registers.{HasEdgesOf, IsPlaced, cells_in, e
 ghost use Rattle.amr_transfer.specs.Sums.{AreCoarsenable, summed};
 ghost use Rattle.amr_advance.specs.Averaging.{AreLotsFor};
 ghost use Rattle.amr_advance.specs.Correcting.{IsLentPart, IsPartFrom, KeepsAllButCorrection};
-ghost use Rattle.amr_advance.specs.Kept.{IsCurrent, IsKept, IsValued};
+ghost use Rattle.amr_advance.specs.Kept.{IsCurrentLayout, IsKeptLayout, IsValued};
 ghost use Rattle.amr_advance.specs.Lots.{AreLotTasks, AreLotsCurrent, AreLotsValued};
 ghost use Rattle.amr_advance.specs.Teams.{IsTeamFor};
 
@@ -239,7 +239,7 @@ fn correct_by_layout<R: Wait, G: Gate>(
     requires coarsenable { AreCoarsenable (patches_of finer.old) }
     requires small { (c : Cell) → children_mass (level_of finer.old).masses c < 2 ^ 32 }
     requires team { IfSome workers.old.team (IsTeamFor p.now workers.old.gate.now workers.old.count) }
-    requires kept { IfSome kept.old (IsKept p.now) }
+    requires kept { IfSome kept.old (IsKeptLayout p.now) }
     ensures workers { workers.new ≡ workers.old }
     ensures register { IfOk result (λ x. x.register ≡ register) }
     ensures done { IfOk result (λ x. x.done ≡ true → (level_of level.new).masses ≡ summed (level_of finer.old).masses (with_entries (entry_in register) (level_of level.old).masses)) }
@@ -248,9 +248,9 @@ fn correct_by_layout<R: Wait, G: Gate>(
     ensures patches { OnOk result (map box (patches_of level.new) ≡ map box (patches_of level.old)) }
     ensures finer { OnOk result (level_of finer.new ≡ level_of finer.old) }
     ensures finer_patches { OnOk result (patches_of finer.new ≡ patches_of finer.old) }
-    ensures kept { OnOk result (IfSome kept.new (IsKept p.now)) }
-    ensures current { IfOk result (λ x. x.done ≡ true → IfSome kept.new (IsCurrent (level_of level.new).masses)) }
-    ensures still_current { IfOk result (λ x. x.done ≡ false → (M : Masses) → IfSome kept.old (IsCurrent M) → IfSome kept.new (IsCurrent M)) }
+    ensures kept { OnOk result (IfSome kept.new (IsKeptLayout p.now)) }
+    ensures current { IfOk result (λ x. x.done ≡ true → IfSome kept.new (IsCurrentLayout (level_of level.new).masses)) }
+    ensures still_current { IfOk result (λ x. x.done ≡ false → (M : Masses) → IfSome kept.old (IsCurrentLayout M) → IfSome kept.new (IsCurrentLayout M)) }
     ensures valued { OnOk result ((l : ℕ) (old : Masses) → IfSome kept.old (IsValued p.now l old) → IfSome kept.new (IsValued p.now l old)) }
 {
     let Some(layout) = kept else {
@@ -267,8 +267,8 @@ fn correct_by_layout<R: Wait, G: Gate>(
 
 /// Tells what is kept of a level, where something is, that its masses changed otherwise than by its step.
 fn forget_masses(kept: &mut Option<KeptLayout>)
-    ensures kept { (q : Problem) → IfSome kept.old (IsKept q) → IfSome kept.new (IsKept q) }
-    ensures current { (M : Masses) → IfSome kept.new (IsCurrent M) }
+    ensures kept { (q : Problem) → IfSome kept.old (IsKeptLayout q) → IfSome kept.new (IsKeptLayout q) }
+    ensures current { (M : Masses) → IfSome kept.new (IsCurrentLayout M) }
     ensures valued { (q : Problem) (l : ℕ) (old : Masses) → IfSome kept.old (IsValued q l old) → IfSome kept.new (IsValued q l old) }
 {
     if let Some(layout) = kept {
@@ -302,8 +302,8 @@ pub fn correct_kept<R: Wait, G: Gate>(
     requires coarsenable { AreCoarsenable (patches_of finer.old) }
     requires small { (c : Cell) → children_mass (level_of finer.old).masses c < 2 ^ 32 }
     requires team { IfSome workers.old.team (IsTeamFor p.now workers.old.gate.now workers.old.count) }
-    requires kept { IfSome kept.old (IsKept p.now) }
-    requires finer_kept { IfSome finer_kept.old (IsKept p.now) }
+    requires kept { IfSome kept.old (IsKeptLayout p.now) }
+    requires finer_kept { IfSome finer_kept.old (IsKeptLayout p.now) }
     ensures workers { workers.new ≡ workers.old }
     ensures register { IfOk result (λ r. r ≡ register) }
     ensures masses { OnOk result ((level_of level.new).masses ≡ summed (level_of finer.old).masses (with_entries (entry_in register) (level_of level.old).masses)) }
@@ -311,11 +311,11 @@ pub fn correct_kept<R: Wait, G: Gate>(
     ensures patches { OnOk result (map box (patches_of level.new) ≡ map box (patches_of level.old)) }
     ensures finer { OnOk result (level_of finer.new ≡ level_of finer.old) }
     ensures finer_patches { OnOk result (patches_of finer.new ≡ patches_of finer.old) }
-    ensures kept { OnOk result (IfSome kept.new (IsKept p.now)) }
-    ensures current { OnOk result (IfSome kept.new (IsCurrent (level_of level.new).masses)) }
+    ensures kept { OnOk result (IfSome kept.new (IsKeptLayout p.now)) }
+    ensures current { OnOk result (IfSome kept.new (IsCurrentLayout (level_of level.new).masses)) }
     ensures valued { OnOk result ((l : ℕ) (old : Masses) → IfSome kept.old (IsValued p.now l old) → IfSome kept.new (IsValued p.now l old)) }
-    ensures finer_kept { OnOk result (IfSome finer_kept.new (IsKept p.now)) }
-    ensures finer_current { OnOk result ((M : Masses) → IfSome finer_kept.old (IsCurrent M) → IfSome finer_kept.new (IsCurrent M)) }
+    ensures finer_kept { OnOk result (IfSome finer_kept.new (IsKeptLayout p.now)) }
+    ensures finer_current { OnOk result ((M : Masses) → IfSome finer_kept.old (IsCurrentLayout M) → IfSome finer_kept.new (IsCurrentLayout M)) }
 {
     let corrected = correct_by_layout(workers, p, level, register, finer, kept)?;
     if corrected.done {

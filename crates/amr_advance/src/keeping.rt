@@ -9,7 +9,7 @@ ghost use Rattle.amr_patch.specs.Levels.{level_of, patches_of};
 ghost use Rattle.amr_patch.specs.Patches.{box};
 ghost use Rattle.amr_alike.specs.Copied.{IsCopied};
 ghost use Rattle.amr_advance.specs.Averaging.{AreLotsFor};
-ghost use Rattle.amr_advance.specs.Kept.{IsCurrent, IsKept, IsValued};
+ghost use Rattle.amr_advance.specs.Kept.{IsCurrentLayout, IsKeptLayout, IsValued};
 ghost use Rattle.amr_advance.specs.Lots.{AreLotTasks, AreLotsCurrent, AreLotsValued};
 ghost use Rattle.amr_advance.specs.Teams.{IsTeamFor};
 
@@ -91,15 +91,15 @@ fn keep_by_layout<R: Wait, G: Gate>(
 )
     requires boxes { map box (patches_of before.old) ≡ map box (patches_of level.old) }
     requires team { IfSome workers.old.team (IsTeamFor p.now workers.old.gate.now workers.old.count) }
-    requires kept { IsKept p.now layout.old }
+    requires kept { IsKeptLayout p.now layout.old }
     ensures workers { workers.new ≡ workers.old }
     ensures masses { (level_of before.new).masses ≡ (level_of level.old).masses }
     ensures boxes { (level_of before.new).boxes ≡ (level_of before.old).boxes }
     ensures patches { map box (patches_of before.new) ≡ map box (patches_of before.old) }
     ensures level { level_of level.new ≡ level_of level.old }
     ensures level_patches { patches_of level.new ≡ patches_of level.old }
-    ensures kept { IsKept p.now layout.new }
-    ensures current { (M : Masses) → IsCurrent M layout.old → IsCurrent M layout.new }
+    ensures kept { IsKeptLayout p.now layout.new }
+    ensures current { (M : Masses) → IsCurrentLayout M layout.old → IsCurrentLayout M layout.new }
     ensures valued { (l : ℕ) (old : Masses) → IsValued p.now l old layout.old → IsValued p.now l old layout.new }
 {
     if !have_boxes(level.patches(), &layout.boxes) {
@@ -123,15 +123,15 @@ pub fn keep_masses<R: Wait, G: Gate>(
 )
     requires boxes { map box (patches_of before.old) ≡ map box (patches_of level.old) }
     requires team { IfSome workers.old.team (IsTeamFor p.now workers.old.gate.now workers.old.count) }
-    requires kept { IfSome kept.old (IsKept p.now) }
+    requires kept { IfSome kept.old (IsKeptLayout p.now) }
     ensures workers { workers.new ≡ workers.old }
     ensures masses { (level_of before.new).masses ≡ (level_of level.old).masses }
     ensures boxes { (level_of before.new).boxes ≡ (level_of before.old).boxes }
     ensures patches { map box (patches_of before.new) ≡ map box (patches_of before.old) }
     ensures level { level_of level.new ≡ level_of level.old }
     ensures level_patches { patches_of level.new ≡ patches_of level.old }
-    ensures kept { IfSome kept.new (IsKept p.now) }
-    ensures current { (M : Masses) → IfSome kept.old (IsCurrent M) → IfSome kept.new (IsCurrent M) }
+    ensures kept { IfSome kept.new (IsKeptLayout p.now) }
+    ensures current { (M : Masses) → IfSome kept.old (IsCurrentLayout M) → IfSome kept.new (IsCurrentLayout M) }
     ensures valued { (l : ℕ) (old : Masses) → IfSome kept.old (IsValued p.now l old) → IfSome kept.new (IsValued p.now l old) }
 {
     match kept {

@@ -13,7 +13,7 @@ ghost use Rattle.amr_layout.specs.Adds.{HasRegisterCells};
 ghost use Rattle.amr_layout.specs.Grounds.{has_open_side};
 ghost use Rattle.amr_layout.specs.Surroundings.{around, finer_masses};
 ghost use Rattle.amr_ghost.specs.Frames.{AreInDomain, old_masses};
-ghost use Rattle.amr_advance.specs.Kept.{IsCurrent, IsKept, IsLaidOut, IsValued};
+ghost use Rattle.amr_advance.specs.Kept.{IsCurrentLayout, IsKeptLayout, IsLaidOut, IsValued};
 
 use crate::level::Given;
 use crate::tasks::{Tasks, are_for, tasks_for};
@@ -22,10 +22,9 @@ use amr_alike::{boxes_of, have_boxes};
 use amr_box::{Bx, Cell};
 use amr_causes::NoMemory;
 use amr_def::Problem;
-use amr_gaps::starts_of;
 use amr_ghost::{FramePlan, plan_frames_in_threads};
 use amr_layout::Surroundings;
-use amr_patch::{Level, Order, Patch};
+use amr_patch::{Level, Order, Patch, starts_of};
 use std::alloc::Global;
 use std::thread::Threads;
 
@@ -49,8 +48,8 @@ impl KeptLayout {
     /// Tells that masses of the level changed otherwise than by its step. What was worked out from the masses of before, which is what
     /// lots have packed for others, is worked out anew at the next step.
     pub fn masses_changed(&mut self)
-        ensures kept { (p : Problem) → IsKept p self.old → IsKept p self.new }
-        ensures current { (M : Masses) → IsCurrent M self.new }
+        ensures kept { (p : Problem) → IsKeptLayout p self.old → IsKeptLayout p self.new }
+        ensures current { (M : Masses) → IsCurrentLayout M self.new }
         ensures valued { (p : Problem) (l : ℕ) (old : Masses) → IsValued p l old self.old → IsValued p l old self.new }
     {
         if let Tasks::Lots(tasks) = &mut self.tasks {
@@ -61,8 +60,8 @@ impl KeptLayout {
     /// Tells that masses of the next coarser level changed, by which ghost cells get their values. These are worked out anew at the next
     /// step.
     pub fn coarser_changed(&mut self)
-        ensures kept { (p : Problem) → IsKept p self.old → IsKept p self.new }
-        ensures current { (M : Masses) → IsCurrent M self.old → IsCurrent M self.new }
+        ensures kept { (p : Problem) → IsKeptLayout p self.old → IsKeptLayout p self.new }
+        ensures current { (M : Masses) → IsCurrentLayout M self.old → IsCurrentLayout M self.new }
         ensures valued { (p : Problem) (l : ℕ) (old : Masses) → IsValued p l old self.new }
     {
         if let Tasks::Lots(tasks) = &mut self.tasks {
@@ -137,7 +136,7 @@ fn finer_boxes(alloc: Global, finer: Option<&Level>) -> Result<Vec<Bx>, NoMemory
 
 /// Whether a layout that is kept is that of these patches, in this way.
 fn serves(kept: &KeptLayout, given: Given<'_>, patches: &[Patch], way: Way) -> bool
-    ensures { IsTrue result → IsKept given.entry.problem.now kept.now → IsLaidOut (around given.entry.problem.now given.entry.level patches.now given.entry.cells.now (option_copied given.entry.finer)) kept.now }
+    ensures { IsTrue result → IsKeptLayout given.entry.problem.now kept.now → IsLaidOut (around given.entry.problem.now given.entry.level patches.now given.entry.cells.now (option_copied given.entry.finer)) kept.now }
 {
     if !are_for(&kept.tasks, way) {
         return false;
@@ -169,7 +168,7 @@ fn lay_out_anew<R: Threads + Sync>(
     requires inside { AreInDomain (domain given.problem.now given.level) patches.now }
     requires cells { HasRegisterCells (around given.problem.now given.level patches.now given.cells.now (option_copied given.finer)) }
     ensures laid_out { IfOk result (IsLaidOut (around given.entry.problem.now given.entry.level patches.now given.entry.cells.now (option_copied given.entry.finer))) }
-    ensures current { IfOk result (λ k. (M : Masses) → IsCurrent M k) }
+    ensures current { IfOk result (λ k. (M : Masses) → IsCurrentLayout M k) }
     ensures valued { IfOk result (λ k. (p : Problem) (l : ℕ) (old : Masses) → IsValued p l old k) }
 {
     let alloc = given.alloc;
@@ -232,11 +231,11 @@ pub(crate) fn layout_for<R: Threads + Sync>(
     requires apart { ArePatchesApart patches.now }
     requires inside { AreInDomain (domain given.problem.now given.level) patches.now }
     requires cells { HasRegisterCells (around given.problem.now given.level patches.now given.cells.now (option_copied given.finer)) }
-    requires kept { IfSome kept.old (IsKept given.problem.now) }
-    requires current { IfSome kept.old (IsCurrent (masses_in patches.now)) }
+    requires kept { IfSome kept.old (IsKeptLayout given.problem.now) }
+    requires current { IfSome kept.old (IsCurrentLayout (masses_in patches.now)) }
     requires valued { IfSome kept.old (IsValued given.problem.now given.level (old_masses (option_copied given.old))) }
     ensures laid_out { IfOk result (IsLaidOut (around given.entry.problem.now given.entry.level patches.now given.entry.cells.now (option_copied given.entry.finer))) }
-    ensures current { IfOk result (IsCurrent (masses_in patches.now)) }
+    ensures current { IfOk result (IsCurrentLayout (masses_in patches.now)) }
     ensures valued { IfOk result (IsValued given.entry.problem.now given.entry.level (old_masses (option_copied given.entry.old))) }
     ensures kept { kept.new ≡ None }
 {

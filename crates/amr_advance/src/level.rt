@@ -10,10 +10,10 @@ ghost use Rattle.amr_layout.specs.Surroundings.{around};
 ghost use Rattle.amr_flows.specs.Laws.{plain_size};
 ghost use Rattle.amr_flows.specs.Words.{level_total};
 ghost use Rattle.amr_register.specs.EdgeCells.{IsSmallNet, SameEdges, lists_of};
-ghost use Rattle.amr_advance.specs.Kept.{IsCurrent, IsLaidOut, IsValued, totals_kept};
+ghost use Rattle.amr_advance.specs.Kept.{IsCurrentLayout, IsLaidOut, IsValued, totals_kept};
 ghost use Rattle.amr_advance.specs.Lots.{IsSharedOf};
 ghost use Rattle.amr_advance.specs.Registers.{AreEdgesFor, AreNetsOf};
-ghost use Rattle.amr_advance.specs.Shown.{AreShown, IsStepped, StepFits};
+ghost use Rattle.amr_advance.specs.Shown.{AreShown, IsStepped, LevelStepFits};
 ghost use Rattle.amr_advance.specs.Tasks.{AreBoardTasks, AreFilledFor, AreSmallInLots};
 ghost use Rattle.amr_advance.specs.Teams.{IsTeamFor};
 
@@ -61,7 +61,7 @@ fn run_on_board<R: Threads + Wait + Sync, G: Gate + Sync>(
 ) -> Result<(), NoMemory>
     requires level { given.level ≤ 4 }
     requires shown { AreShown given.problem.now given.level (old_masses (option_copied given.old)) patches.old }
-    requires fits { StepFits given.problem.now given.level (masses_in patches.old) (old_masses (option_copied given.old)) }
+    requires fits { LevelStepFits given.problem.now given.level (masses_in patches.old) (old_masses (option_copied given.old)) }
     requires tasks { AreBoardTasks (around given.problem.now given.level patches.old given.cells.now (option_copied given.finer)) tasks.old }
     requires few { length patches.old ≤ 2 ^ 26 }
     requires some_workers { 1 ≤ workers.old.count }
@@ -109,9 +109,9 @@ pub(crate) fn run_level<R: Threads + Wait + Sync, G: Gate + Sync>(
 ) -> Result<(), NoMemory>
     requires level { given.level ≤ 4 }
     requires filled { AreFilledFor layout.old.tasks given.problem.now given.level (old_masses (option_copied given.old)) patches.old }
-    requires fits { StepFits given.problem.now given.level (masses_in patches.old) (old_masses (option_copied given.old)) }
+    requires fits { LevelStepFits given.problem.now given.level (masses_in patches.old) (old_masses (option_copied given.old)) }
     requires layout { IsLaidOut (around given.problem.now given.level patches.old given.cells.now (option_copied given.finer)) layout.old }
-    requires current { IsCurrent (masses_in patches.old) layout.old }
+    requires current { IsCurrentLayout (masses_in patches.old) layout.old }
     requires valued { IsValued given.problem.now given.level (old_masses (option_copied given.old)) layout.old }
     requires shared { IsSharedOf given.old given.shared }
     requires edges { AreEdgesFor (map box patches.old) (lists_of edges.old) }
@@ -126,7 +126,7 @@ pub(crate) fn run_level<R: Threads + Wait + Sync, G: Gate + Sync>(
     ensures small { OnOk result ((word : ℕ) → word < length (totals_kept layout.new) → slice_index (totals_kept layout.new) word < 2 ^ 63) }
     ensures small_lots { OnOk result (AreSmallInLots layout.new.tasks) }
     ensures layout { OnOk result (IsLaidOut (around given.entry.problem.now given.entry.level patches.old given.entry.cells.now (option_copied given.entry.finer)) layout.new) }
-    ensures current { OnOk result (IsCurrent (masses_in patches.new) layout.new) }
+    ensures current { OnOk result (IsCurrentLayout (masses_in patches.new) layout.new) }
     ensures valued { OnOk result (IsValued given.entry.problem.now given.entry.level (old_masses (option_copied given.entry.old)) layout.new) }
     ensures same_edges { SameEdges (lists_of edges.old) (lists_of edges.new) }
     ensures small_nets { All (All IsSmallNet) (lists_of edges.new) }

@@ -7,7 +7,7 @@ ghost use Rattle.std.specs.Option.{option_copied};
 ghost use Rattle.amr_def.specs.Domain.{domain};
 ghost use Rattle.amr_patch.specs.Orders.{IsOrderOf};
 ghost use Rattle.amr_patch.specs.Patches.{ArePatchesApart};
-ghost use Rattle.amr_gaps.specs.Gaps.{HasStarts};
+ghost use Rattle.amr_patch.specs.Gaps.{HasStarts};
 ghost use Rattle.amr_ghost.specs.Frames.{AreInDomain};
 ghost use Rattle.amr_ghost.specs.Plans.{PlansFrames};
 ghost use Rattle.amr_ghost.specs.Messages.{HasPlaces};

@@ -22,7 +22,7 @@ ghost use Rattle.amr_lots.specs.declared.lot.Lot.{Lot as lot};
 ghost use Rattle.amr_lots.specs.declared.lot.Phase.TheVariants.{Send};
 ghost use Rattle.amr_advance.specs.Lots.{AreLotTasks, AreLotsCurrent, AreLotsValued, IsSharedOf};
 ghost use Rattle.amr_advance.specs.Registers.{AreEdgesFor};
-ghost use Rattle.amr_advance.specs.Shown.{IsStepped, StepFits};
+ghost use Rattle.amr_advance.specs.Shown.{IsStepped, LevelStepFits};
 ghost use Rattle.amr_advance.specs.Teams.{IsTeamFor};
 
 use crate::level::Given;
@@ -85,7 +85,7 @@ pub(crate) fn step_in_lots<R: Wait, G: Gate>(
     requires level { given.level ≤ 4 }
     requires apart { ArePatchesApart patches.old }
     requires inside { AreInDomain (domain given.problem.now given.level) patches.old }
-    requires fits { StepFits given.problem.now given.level (masses_in patches.old) (old_masses (option_copied given.old)) }
+    requires fits { LevelStepFits given.problem.now given.level (masses_in patches.old) (old_masses (option_copied given.old)) }
     requires edges { AreEdgesFor (map box patches.old) (lists_of edges.old) }
     requires tasks { AreLotTasks (around given.problem.now given.level patches.old given.cells.now (option_copied given.finer)) tasks.old }
     requires current { AreLotsCurrent (masses_in patches.old) tasks.old }

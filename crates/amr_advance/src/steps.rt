@@ -18,8 +18,8 @@ ghost use Rattle.amr_advance.specs.Registers.{BothChange, HasCoarser, HasEdges, 
 ghost use Rattle.amr_advance.specs.Totals.{HasTotals};
 ghost use Rattle.amr_register.specs.Registers.{HasEdgesOf};
 ghost use Rattle.amr_advance.specs.Lots.{IsSharedOf};
-ghost use Rattle.amr_advance.specs.Kept.{IsCurrent, IsKept, IsLaidOut, IsSmallInLots, IsValued, totals_in};
-ghost use Rattle.amr_advance.specs.Shown.{StepFits};
+ghost use Rattle.amr_advance.specs.Kept.{IsCurrentLayout, IsKeptLayout, IsLaidOut, IsSmallInLots, IsValued, totals_in};
+ghost use Rattle.amr_advance.specs.Shown.{LevelStepFits};
 ghost use Rattle.amr_advance.specs.Tasks.{AreFilledFor};
 ghost use Rattle.amr_advance.specs.Teams.{IsTeamFor};
 
@@ -95,12 +95,12 @@ fn step_patches<R: Threads + Wait + Sync, G: Gate + Sync>(
     requires order { IsOrderOf order patches.old }
     requires apart { ArePatchesApart patches.old }
     requires inside { AreInDomain (domain given.problem.now given.level) patches.old }
-    requires fits { StepFits given.problem.now given.level (masses_in patches.old) (old_masses (option_copied given.old)) }
+    requires fits { LevelStepFits given.problem.now given.level (masses_in patches.old) (old_masses (option_copied given.old)) }
     requires cells { (qs : List Patch) → masses_in qs ≡ masses_in patches.old → HasRegisterCells (around given.problem.now given.level qs given.cells.now (option_copied given.finer)) }
     requires register { HasEdges given.problem.now given.level (masses_in patches.old) (option_copied given.finer) register.old }
     requires edges { IfSome register.old (HasEdgesOf (map box patches.old)) }
-    requires kept { IfSome kept.old (IsKept given.problem.now) }
-    requires current { IfSome kept.old (IsCurrent (masses_in patches.old)) }
+    requires kept { IfSome kept.old (IsKeptLayout given.problem.now) }
+    requires current { IfSome kept.old (IsCurrentLayout (masses_in patches.old)) }
     requires valued { IfSome kept.old (IsValued given.problem.now given.level (old_masses (option_copied given.old))) }
     requires shared { IsSharedOf given.old given.shared }
     requires some_workers { 1 ≤ workers.old.count }
@@ -119,8 +119,8 @@ fn step_patches<R: Threads + Wait + Sync, G: Gate + Sync>(
     ensures register { OnOk result (BothChange (taken given.entry.problem.now given.entry.level (masses_in patches.old) (old_masses (option_copied given.entry.old)) (finer_masses (option_copied given.entry.finer))) register.old register.new) }
     ensures same_masses { OnErr result (masses_in patches.new ≡ masses_in patches.old) }
     ensures same_register { OnErr result (BothChange (λ c. pos 0) register.old register.new) }
-    ensures kept { IfSome kept.new (IsKept given.entry.problem.now) }
-    ensures current { IfSome kept.new (IsCurrent (masses_in patches.new)) }
+    ensures kept { IfSome kept.new (IsKeptLayout given.entry.problem.now) }
+    ensures current { IfSome kept.new (IsCurrentLayout (masses_in patches.new)) }
     ensures valued { IfSome kept.new (IsValued given.entry.problem.now given.entry.level (old_masses (option_copied given.entry.old))) }
 {
     let way = way_for(workers, given, patches);
@@ -160,7 +160,7 @@ pub fn advance_kept<R: Threads + Wait + Sync, G: Gate + Sync>(
 ) -> Result<(), NoMemory>
     requires number { l ≤ 4 }
     requires of_domain { IsLevel p.now l (level_of level.old) }
-    requires fits { StepFits p.now l (level_of level.old).masses (old_masses (option_copied old)) }
+    requires fits { LevelStepFits p.now l (level_of level.old).masses (old_masses (option_copied old)) }
     requires coarser { HasCoarser p.now l (level_of level.old) (option_copied old) regs.old.coarser }
     requires finer { HasFiner p.now l (level_of level.old) (option_copied finer) regs.old.finer }
     requires edges { IfSome regs.old.finer (HasEdgesOf (map box (patches_of level.old))) }
@@ -171,8 +171,8 @@ pub fn advance_kept<R: Threads + Wait + Sync, G: Gate + Sync>(
     requires team { IfSome workers.old.team (IsTeamFor p.now workers.old.gate.now workers.old.count) }
     requires inflow { regs.old.inflow + inflow_beside p.now l (is_uncovered (level_of level.old).masses (finer_masses (option_copied finer))) (flux_at p.now l (level_of level.old).masses (old_masses (option_copied old))) < 2 ^ 63 }
     requires outflow { regs.old.outflow + outflow_beside p.now l (is_uncovered (level_of level.old).masses (finer_masses (option_copied finer))) (flux_at p.now l (level_of level.old).masses (old_masses (option_copied old))) < 2 ^ 63 }
-    requires kept { IfSome kept.old (IsKept p.now) }
-    requires current { IfSome kept.old (IsCurrent (level_of level.old).masses) }
+    requires kept { IfSome kept.old (IsKeptLayout p.now) }
+    requires current { IfSome kept.old (IsCurrentLayout (level_of level.old).masses) }
     requires valued { IfSome kept.old (IsValued p.now l (old_masses (option_copied old))) }
     ensures workers { workers.new ≡ workers.old }
     ensures masses { OnOk result ((level_of level.new).masses ≡ updated (level_of level.old).masses (flux_at p.now l (level_of level.old).masses (old_masses (option_copied old.entry)))) }
@@ -186,8 +186,8 @@ pub fn advance_kept<R: Threads + Wait + Sync, G: Gate + Sync>(
     ensures same_coarser { OnErr result (regs.new.coarser ≡ regs.old.coarser) }
     ensures same_finer { OnErr result (BothChange (λ c. pos 0) regs.old.finer regs.new.finer) }
     ensures same_sums { OnErr result ((regs.new.inflow ≡ regs.old.inflow) × (regs.new.outflow ≡ regs.old.outflow)) }
-    ensures kept { IfSome kept.new (IsKept p.now) }
-    ensures current { IfSome kept.new (IsCurrent (level_of level.new).masses) }
+    ensures kept { IfSome kept.new (IsKeptLayout p.now) }
+    ensures current { IfSome kept.new (IsCurrentLayout (level_of level.new).masses) }
     ensures valued { IfSome kept.new (IsValued p.now l (old_masses (option_copied old.entry))) }
 {
     let order = level.order();
@@ -234,7 +234,7 @@ pub fn advance<R: Threads + Wait + Sync, G: Gate + Sync>(
 ) -> Result<(), NoMemory>
     requires number { l ≤ 4 }
     requires of_domain { IsLevel p.now l (level_of level.old) }
-    requires fits { StepFits p.now l (level_of level.old).masses (old_masses (option_copied old)) }
+    requires fits { LevelStepFits p.now l (level_of level.old).masses (old_masses (option_copied old)) }
     requires coarser { HasCoarser p.now l (level_of level.old) (option_copied old) regs.old.coarser }
     requires finer { HasFiner p.now l (level_of level.old) (option_copied finer) regs.old.finer }
     requires edges { IfSome regs.old.finer (HasEdgesOf (map box (patches_of level.old))) }

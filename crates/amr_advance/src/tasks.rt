@@ -9,7 +9,7 @@ ghost use Rattle.amr_def.specs.declared.problem.Problem.{Problem};
 ghost use Rattle.amr_def.specs.Domain.{domain};
 ghost use Rattle.amr_def.specs.State.{Masses};
 ghost use Rattle.amr_flux.specs.Rooms.{widest};
-ghost use Rattle.amr_gaps.specs.Gaps.{HasStarts};
+ghost use Rattle.amr_patch.specs.Gaps.{HasStarts};
 ghost use Rattle.amr_ghost.specs.Frames.{AreInDomain};
 ghost use Rattle.amr_ghost.specs.Plans.{PlansFrames};
 ghost use Rattle.amr_layout.specs.Adds.{HasRegisterCells};

@@ -10,7 +10,7 @@ use Rattle.amr_def.specs.Domain.{Domain, domain_box, home_cell, in_domain, is_ne
 use Rattle.amr_def.specs.Domain.{wrapped as wrapped_from_zero}
 use Rattle.amr_def.proofs.Uncovered.{domain_box_cells}
 use Rattle.amr_tags.specs.TagSets.{TagSet, has, home, wrapped}
-use Rattle.amr_tags.specs.TagSets.{is_near as is_near_tag}
+use Rattle.amr_tags.specs.TagSets.{is_near_tag}
 use Rattle.amr_cluster.specs.Grown.{IsOverDomain}
 
 zero_left : (z : ℤ) → (pos 0 +ℤ z) ≡ z

@@ -6,7 +6,7 @@ use Rattle.amr_def.specs.declared.problem.Problem.{Problem}
 use Rattle.amr_def.specs.Domain.{Domain, domain, domain_box, in_domain, is_near}
 use Rattle.amr_def.specs.Tags.{is_grown}
 use Rattle.amr_tags.specs.TagSets.{TagSet, has}
-use Rattle.amr_tags.specs.TagSets.{is_near as is_near_tag}
+use Rattle.amr_tags.specs.TagSets.{is_near_tag}
 
 -- the box of the set is the domain, and its axes are the domain's
 pub record IsOverDomain (d : Domain) (t : TagSet) : Type 0 where

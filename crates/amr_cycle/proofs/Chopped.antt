@@ -11,7 +11,7 @@ use Rattle.amr_def.specs.State.{Level, State, level_at, no_level}
 use Rattle.amr_patch.specs.declared.levels.Level.{Level as Held}
 use Rattle.amr_patch.specs.Levels.{level_of, patches_of}
 use Rattle.amr_patch.specs.Patches.{box}
-use Rattle.amr_edges.proofs.Coarsenable.{all_coarsenable}
+use Rattle.amr_flows.proofs.Coarsenable.{all_coarsenable}
 use Rattle.amr_cycle.specs.Cycles.{AreCoarsenableAbove}
 
 -- a level whose patches are its boxes chopped

@@ -27,13 +27,13 @@ use Rattle.amr_flows.specs.Subcycle.{AreGathered, CoverAlike, GatheredFits, chil
 use Rattle.amr_flows.proofs.Subcycle.{give_the_step, of_plain_fluxes}
 use Rattle.amr_flows.proofs.SubcycleSizes.{gathered_fits}
 use Rattle.amr_flows.proofs.SubcycleSteps.{keeps_cover, of_finer_steps}
-use Rattle.amr_advance.specs.Shown.{StepFits}
+use Rattle.amr_advance.specs.Shown.{LevelStepFits}
 use Rattle.amr_cycle.specs.Cycles.{IsCoarsePart, IsPartOfStep}
 
 -- ---- one level's numbers
 
 -- what a level's step asks, from what the laws say of the levels
-pub level_fits : (p : Problem) (l : ℕ) (k : Level) (finer : List Level) (old : Masses) → LevelsFit p l k finer old → StepFits p l k.masses old
+pub level_fits : (p : Problem) (l : ℕ) (k : Level) (finer : List Level) (old : Masses) → LevelsFit p l k finer old → LevelStepFits p l k.masses old
 level_fits p l k finer old f = record {
   values = f.values;
   fluxes = f.fluxes;
@@ -41,7 +41,7 @@ level_fits p l k finer old f = record {
   fits = λ c there. let sum = updated_exact k.masses (flux_at p l k.masses old) c there (f.covered c there) in omega (arith, ints, sum, f.updated_masses c);
 }
 
-pub part_fits : (p : Problem) (l : ℕ) (k : Level) (finer : List Level) (old : Masses) → IsPartOfStep p l (k ∷ finer) old → StepFits p l k.masses old
+pub part_fits : (p : Problem) (l : ℕ) (k : Level) (finer : List Level) (old : Masses) → IsPartOfStep p l (k ∷ finer) old → LevelStepFits p l k.masses old
 part_fits p l k finer old part = level_fits p l k finer old (fits p part.state l k finer old part.sound part.before part.within)
 
 pub part_levels : (p : Problem) (l : ℕ) (ks : List Level) (old : Masses) → IsPartOfStep p l ks old → AreLevels p l ks
@@ -61,7 +61,7 @@ module _ (p : Problem) (l : ℕ) (k fine : Level) (old : Masses) (part : IsCoars
   pub fine_level : IsLevel p (suc l) fine
   fine_level = chain_first p (suc l) fine part.finest (links p (suc l) (fine ∷ part.finest) coarse_levels.3)
 
-  pub coarse_fits : StepFits p l k.masses old
+  pub coarse_fits : LevelStepFits p l k.masses old
   coarse_fits = part_fits p l k (fine ∷ part.finest) old part.part
 
 -- ---- lists of levels

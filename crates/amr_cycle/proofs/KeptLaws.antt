@@ -22,7 +22,7 @@ use Rattle.amr_cycle.specs.declared.kept.KeptBelow.{KeptBelow}
 use Rattle.amr_cycle.specs.declared.kept.KeptLevel.{KeptLevel}
 use Rattle.amr_cycle.specs.Cycles.{SomeHasEntries}
 use Rattle.amr_advance.specs.declared.kept.KeptLayout.{KeptLayout}
-use Rattle.amr_advance.specs.Kept.{IsCurrent as IsCurrentLayout, IsKept as IsKeptLayout, IsValued}
+use Rattle.amr_advance.specs.Kept.{IsCurrentLayout, IsKeptLayout, IsValued}
 use Rattle.amr_cycle.specs.Kept.{AreCurrent, AreKept, IsBelow, IsKeptBelow, IsKeptLevel, IsOnSameBoxes}
 use Rattle.amr_cycle.proofs.Cycling.{same_level}
 

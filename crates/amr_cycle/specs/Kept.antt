@@ -8,7 +8,7 @@ use Rattle.amr_patch.specs.declared.levels.Level.{Level as Held}
 use Rattle.amr_patch.specs.Levels.{level_of, patches_of}
 use Rattle.amr_patch.specs.Patches.{box}
 use Rattle.amr_register.specs.Registers.{HasEdgesOf, IsRegisterOf}
-use Rattle.amr_advance.specs.Kept.{IsCurrent as IsCurrentLayout, IsKept as IsKeptLayout}
+use Rattle.amr_advance.specs.Kept.{IsCurrentLayout, IsKeptLayout}
 use Rattle.amr_cycle.specs.declared.kept.Kept.{Kept}
 use Rattle.amr_cycle.specs.declared.kept.KeptBelow.{KeptBelow}
 use Rattle.amr_cycle.specs.declared.kept.KeptLevel.{KeptLevel}
@@ -46,7 +46,7 @@ abbrev pub AreKept : Problem → ℕ → List KeptLevel → Type 0
 AreKept p l ks = (k : ℕ) (d : KeptLevel) → k < length ks → IsKeptLevel p (l + k) (slice_index_or ks k d)
 
 -- what a run keeps is of this problem
-pub record IsKept (p : Problem) (k : Kept) : Type 0 where
+pub record IsKeptFor (p : Problem) (k : Kept) : Type 0 where
   pub levels : IfSome k.levels (λ ks. AreKept p 0 ks.items)
 
 -- what levels keep of their masses, where they keep any, is of these levels

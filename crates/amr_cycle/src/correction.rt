@@ -9,7 +9,7 @@ ghost use Rattle.amr_patch.specs.Levels.{level_of, patches_of};
 ghost use Rattle.amr_patch.specs.Patches.{box};
 ghost use Rattle.amr_register.specs.Entries.{with_entries};
 ghost use Rattle.amr_register.specs.Registers.{HasEdgesOf, IsPlaced};
-ghost use Rattle.amr_advance.specs.Kept.{IsCurrent, IsKept, IsValued};
+ghost use Rattle.amr_advance.specs.Kept.{IsCurrentLayout, IsKeptLayout, IsValued};
 ghost use Rattle.amr_advance.specs.Registers.{cells_of};
 ghost use Rattle.amr_advance.specs.Teams.{IsTeamFor};
 ghost use Rattle.amr_cycle.specs.Cycles.{entries_of};
@@ -44,8 +44,8 @@ pub(crate) fn correct<R: Wait, G: Gate>(
     requires coarsenable { AreCoarsenable (patches_of finer.old) }
     requires small { (c : Cell) → children_mass (level_of finer.old).masses c < 2 ^ 32 }
     requires team { IfSome workers.old.team (IsTeamFor p.now workers.old.gate.now workers.old.count) }
-    requires kept { IfSome kept.old (IsKept p.now) }
-    requires finer_kept { IfSome finer_kept.old (IsKept p.now) }
+    requires kept { IfSome kept.old (IsKeptLayout p.now) }
+    requires finer_kept { IfSome finer_kept.old (IsKeptLayout p.now) }
     ensures workers { workers.new ≡ workers.old }
     ensures register { OnOk result (register.new ≡ register.old) }
     ensures masses { OnOk result ((level_of level.new).masses ≡ summed (level_of finer.old).masses (with_entries (entries_of register.old) (level_of level.old).masses)) }
@@ -53,11 +53,11 @@ pub(crate) fn correct<R: Wait, G: Gate>(
     ensures patches { OnOk result (map box (patches_of level.new) ≡ map box (patches_of level.old)) }
     ensures finer { OnOk result (level_of finer.new ≡ level_of finer.old) }
     ensures finer_patches { OnOk result (patches_of finer.new ≡ patches_of finer.old) }
-    ensures kept { OnOk result (IfSome kept.new (IsKept p.now)) }
-    ensures current { OnOk result (IfSome kept.new (IsCurrent (level_of level.new).masses)) }
+    ensures kept { OnOk result (IfSome kept.new (IsKeptLayout p.now)) }
+    ensures current { OnOk result (IfSome kept.new (IsCurrentLayout (level_of level.new).masses)) }
     ensures valued { OnOk result ((l : ℕ) (old : Masses) → IfSome kept.old (IsValued p.now l old) → IfSome kept.new (IsValued p.now l old)) }
-    ensures finer_kept { OnOk result (IfSome finer_kept.new (IsKept p.now)) }
-    ensures finer_current { OnOk result ((M : Masses) → IfSome finer_kept.old (IsCurrent M) → IfSome finer_kept.new (IsCurrent M)) }
+    ensures finer_kept { OnOk result (IfSome finer_kept.new (IsKeptLayout p.now)) }
+    ensures finer_current { OnOk result ((M : Masses) → IfSome finer_kept.old (IsCurrentLayout M) → IfSome finer_kept.new (IsCurrentLayout M)) }
 {
     let Some(whole) = register.take() else {
         unreachable!()

@@ -8,9 +8,9 @@ ghost use Rattle.amr_def.specs.State.{Level as StateLevel, Masses};
 ghost use Rattle.amr_patch.specs.Levels.{level_of, patches_of};
 ghost use Rattle.amr_patch.specs.Patches.{box};
 ghost use Rattle.amr_register.specs.Registers.{SameCells, entry_in};
-ghost use Rattle.amr_advance.specs.Kept.{IsCurrent as IsCurrentLayout, IsKept as IsKeptLayout, IsValued};
+ghost use Rattle.amr_advance.specs.Kept.{IsCurrentLayout, IsKeptLayout, IsValued};
 ghost use Rattle.amr_advance.specs.Teams.{IsTeamFor};
-ghost use Rattle.amr_cycle.specs.Kept.{AreCurrent, AreKept, HasBoxesOf, IsBelow, IsCurrent, IsKept, IsKeptBelow, IsKeptLevel, IsOnSameBoxes};
+ghost use Rattle.amr_cycle.specs.Kept.{AreCurrent, AreKept, HasBoxesOf, IsBelow, IsCurrent, IsKeptFor, IsKeptBelow, IsKeptLevel, IsOnSameBoxes};
 
 use crate::given::Given;
 use amr_advance::{KeptLayout, Workers, keep_masses};
@@ -52,7 +52,7 @@ pub struct Kept {
 impl Kept {
     /// Nothing yet, of any problem.
     pub const fn nothing() -> Kept
-        ensures kept { (p : Problem) → IsKept p result }
+        ensures kept { (p : Problem) → IsKeptFor p result }
         ensures current { (levels : List StateLevel) → IsCurrent levels result }
     {
         Kept { levels: None }
@@ -60,7 +60,7 @@ impl Kept {
 
     /// Tells that masses changed otherwise than by a step, as by a regrid. What is kept of them is worked out anew at the next step.
     pub fn masses_changed(&mut self)
-        ensures kept { (p : Problem) → IsKept p self.old → IsKept p self.new }
+        ensures kept { (p : Problem) → IsKeptFor p self.old → IsKeptFor p self.new }
         ensures current { (levels : List StateLevel) → IsCurrent levels self.new }
     {
         if let Some(levels) = &mut self.levels {

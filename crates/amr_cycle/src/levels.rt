@@ -17,7 +17,7 @@ ghost use Rattle.amr_transfer.specs.Sums.{AreCoarsenable};
 ghost use Rattle.amr_flows.specs.Subcycle.{edge_part, flows_of_step};
 ghost use Rattle.amr_advance.specs.Registers.{BothChange, HasCoarser, gained};
 ghost use Rattle.amr_advance.specs.Lots.{IsSharedOf};
-ghost use Rattle.amr_advance.specs.Kept.{IsCurrent, IsKept, IsValued};
+ghost use Rattle.amr_advance.specs.Kept.{IsCurrentLayout, IsKeptLayout, IsValued};
 ghost use Rattle.amr_advance.specs.Teams.{IsTeamFor};
 ghost use Rattle.amr_cycle.specs.Cycles.{IsCoarsePart, IsPartOfStep, SomeHasEntries, patch_boxes};
 ghost use Rattle.amr_cycle.specs.declared.kept.KeptLevel.{KeptLevel};
@@ -64,12 +64,12 @@ fn step_finest<R: Threads + Wait + Sync, G: Gate + Sync>(
     requires inflow { regs.old.inflow + flows_of_step (inflow_beside given.now.problem.now) given.now.problem.now given.now.level (level_of level.old ∷ []) (old_masses (option_copied given.now.old)) < 2 ^ 63 }
     requires outflow { regs.old.outflow + flows_of_step (outflow_beside given.now.problem.now) given.now.problem.now given.now.level (level_of level.old ∷ []) (old_masses (option_copied given.now.old)) < 2 ^ 63 }
     requires kept { IsKeptLevel given.now.problem.now given.now.level own.old }
-    requires current { IfSome own.old.layout (IsCurrent (level_of level.old).masses) }
+    requires current { IfSome own.old.layout (IsCurrentLayout (level_of level.old).masses) }
     requires valued { IfSome own.old.layout (IsValued given.now.problem.now given.now.level (old_masses (option_copied given.now.old))) }
     requires shared { IsSharedOf given.now.old given.now.shared }
     ensures workers { workers.new ≡ workers.old }
     ensures kept { OnOk result (IsKeptLevel given.now.problem.now given.now.level own.new) }
-    ensures current { OnOk result (IfSome own.new.layout (IsCurrent (level_of level.new).masses)) }
+    ensures current { OnOk result (IfSome own.new.layout (IsCurrentLayout (level_of level.new).masses)) }
     ensures valued { OnOk result (IfSome own.new.layout (IsValued given.now.problem.now given.now.level (old_masses (option_copied given.now.old)))) }
     ensures level { OnOk result (level_of level.new ∷ [] ≡ after_step given.now.problem.now given.now.level (level_of level.old ∷ []) (old_masses (option_copied given.now.old))) }
     ensures patches { OnOk result (map box (patches_of level.new) ≡ map box (patches_of level.old)) }
@@ -111,11 +111,11 @@ fn step_coarse<R: Threads + Wait + Sync, G: Gate + Sync>(
     requires inflow { regs.old.inflow + inflow_beside given.now.problem.now given.now.level (is_uncovered (level_of level.old).masses (level_of next.now).masses) (flux_at given.now.problem.now given.now.level (level_of level.old).masses (old_masses (option_copied given.now.old))) < 2 ^ 63 }
     requires outflow { regs.old.outflow + outflow_beside given.now.problem.now given.now.level (is_uncovered (level_of level.old).masses (level_of next.now).masses) (flux_at given.now.problem.now given.now.level (level_of level.old).masses (old_masses (option_copied given.now.old))) < 2 ^ 63 }
     requires kept { IsKeptLevel given.now.problem.now given.now.level own.old }
-    requires current { IfSome own.old.layout (IsCurrent (level_of level.old).masses) }
+    requires current { IfSome own.old.layout (IsCurrentLayout (level_of level.old).masses) }
     requires valued { IfSome own.old.layout (IsValued given.now.problem.now given.now.level (old_masses (option_copied given.now.old))) }
     requires shared { IsSharedOf given.now.old given.now.shared }
     ensures workers { workers.new ≡ workers.old }
-    ensures layout { OnOk result (IfSome own.new.layout (IsKept given.now.problem.now)) }
+    ensures layout { OnOk result (IfSome own.new.layout (IsKeptLayout given.now.problem.now)) }
     ensures valued { OnOk result (IfSome own.new.layout (IsValued given.now.problem.now given.now.level (old_masses (option_copied given.now.old)))) }
     ensures before { IfOk result (λ b. level_of (arc_value b.before) ≡ level_of level.old) }
     ensures before_patches { IfOk result (λ b. map box (patches_of (arc_value b.before)) ≡ map box (patches_of level.old)) }

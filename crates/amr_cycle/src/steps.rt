@@ -10,7 +10,7 @@ ghost use Rattle.amr_patch.specs.Levels.{level_of};
 ghost use Rattle.amr_patch.specs.Meshes.{is_spent, levels_of, state_of};
 ghost use Rattle.amr_flows.specs.Subcycle.{flows_of_step};
 ghost use Rattle.amr_advance.specs.Teams.{IsTeamFor};
-ghost use Rattle.amr_cycle.specs.Kept.{AreCurrent, AreKept, IsCurrent, IsKept};
+ghost use Rattle.amr_cycle.specs.Kept.{AreCurrent, AreKept, IsCurrent, IsKeptFor};
 ghost use Rattle.amr_cycle.specs.Cycles.{AreCoarsenableAbove, HasStepToCome, patch_boxes};
 
 use crate::given::Given;
@@ -137,7 +137,7 @@ pub fn step_kept<R: Threads + Wait + Sync, G: Gate + Sync>(
     requires few_workers { workers.old.count ≤ 64 }
     requires gate { (worker task : ℕ) → worker < workers.old.count → G.admits workers.old.gate.now worker task }
     requires team { IfSome workers.old.team (IsTeamFor p.now workers.old.gate.now workers.old.count) }
-    requires kept { IsKept p.now kept.old }
+    requires kept { IsKeptFor p.now kept.old }
     requires current { IsCurrent (state_of mesh.old).levels kept.old }
     ensures workers { workers.new ≡ workers.old }
     ensures value { OnOk result (state_of mesh.new ≡ stepped p.now (state_of mesh.old)) }
@@ -145,7 +145,7 @@ pub fn step_kept<R: Threads + Wait + Sync, G: Gate + Sync>(
     ensures patches { OnOk result (patch_boxes (levels_of mesh.new) ≡ patch_boxes (levels_of mesh.old)) }
     ensures whole { OnOk result (is_spent mesh.new ≡ false) }
     ensures spent { OnErr result (is_spent mesh.new ≡ true) }
-    ensures kept { OnOk result (IsKept p.now kept.new) }
+    ensures kept { OnOk result (IsKeptFor p.now kept.new) }
     ensures current { OnOk result (IsCurrent (state_of mesh.new).levels kept.new) }
 {
     let number = mesh.step();

@@ -18,7 +18,7 @@ use Rattle.amr_patch.proofs.Rows.{inside, is_inside, sides}
 use Rattle.amr_payload.specs.Tests.{Grid, place_in}
 use Rattle.amr_payload.specs.Tests as tests
 use Rattle.amr_payload.proofs.Places.{IsCellOf, cell_of, place_of}
-use Rattle.amr_decoder.specs.Filled.{AreFilled, IsFilled, IsSpanSet}
+use Rattle.amr_decoder.specs.Filled.{AreGridsSet, IsGridSet, IsSpanSet}
 
 -- ---- spans
 
@@ -120,7 +120,7 @@ row_filled g j c row ps qs rs near inside_rows is count at filled set = record {
             let place : place_in g.box d ≡ j * width g.box + at_d.i = ap (place_in g.box) here ∙ place_of g.box at_d.i j in
             ap (masses_in rs) (here ∙ sym (along at_d.i)) ∙ set.set at_d.i (omega (arith, at_d.column, count)) ∙ ap Some (at at_d.i at_d.column ∙ ap (slice_index g.masses) (sym place))
 
-pub all_rows : (g : Grid) (j : ℕ) (ps qs : List Patch) → IsNear g.box → height g.box ≤ j → IsFilledTo g j ps qs → IsFilled g ps qs
+pub all_rows : (g : Grid) (j : ℕ) (ps qs : List Patch) → IsNear g.box → height g.box ≤ j → IsFilledTo g j ps qs → IsGridSet g ps qs
 all_rows g j ps qs near all filled = record {
   boxes = filled.boxes;
   set = λ d held. let i = inside g.box d held in let s = sides g.box near in filled.set d held (omega (arith, ints, i.north, s.high, all));
@@ -148,7 +148,7 @@ last_has (h ∷ gs) g d none held =
     let parts = or_parts (holds h.box d) (in_boxes (map (λ g. g.box) gs) d) none in
     ap (λ (t : Bool). if t then Some (slice_index h.masses (place_in h.box d)) else tests.masses_in (gs ++ g ∷ []) d) parts.0 ∙ last_has gs g d parts.1 held
 
-pub box_filled : (gs : List Grid) (g : Grid) (ps qs rs : List Patch) → ((d : Cell) → in_boxes (map (λ g. g.box) gs) d ≡ true → holds g.box d ≡ true → ⊥) → AreFilled gs ps qs → IsFilled g qs rs → AreFilled (gs ++ g ∷ []) ps rs
+pub box_filled : (gs : List Grid) (g : Grid) (ps qs rs : List Patch) → ((d : Cell) → in_boxes (map (λ g. g.box) gs) d ≡ true → holds g.box d ≡ true → ⊥) → AreGridsSet gs ps qs → IsGridSet g qs rs → AreGridsSet (gs ++ g ∷ []) ps rs
 box_filled gs g ps qs rs apart so_far filled = record {
   boxes = filled.boxes ∙ so_far.boxes;
   set = λ d h. by_test d (in_boxes (map (λ g. g.box) gs) d) refl (sym (in_more gs g d) ∙ h);

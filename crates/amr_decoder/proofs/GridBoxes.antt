@@ -12,14 +12,14 @@ use Rattle.amr_box.specs.Cells.{Extent, holds, in_boxes}
 use Rattle.amr_def.specs.State.{Level}
 use Rattle.amr_def.proofs.Uncovered.{no_mass}
 use Rattle.amr_patch.specs.declared.patches.Patch.{Patch}
-use Rattle.amr_patch.specs.Patches.{AreApart, box, in_patches, mass_in, masses_in}
+use Rattle.amr_patch.specs.Patches.{ArePairwiseApart, box, in_patches, mass_in, masses_in}
 use Rattle.amr_patch.proofs.Apart.{in_boxes_at}
 use Rattle.amr_patch.proofs.LevelLaws.{none_here}
 use Rattle.amr_patch.proofs.Lookups.{masses_in-none}
 use Rattle.amr_payload.specs.Tests as tests
 use Rattle.amr_payload.proofs.GridLevels.{has_masses}
 use Rattle.amr_decoder.specs.declared.grid.Grid.{Grid}
-use Rattle.amr_decoder.specs.Filled.{AreFilled}
+use Rattle.amr_decoder.specs.Filled.{AreGridsSet}
 use Rattle.amr_decoder.specs.Grids.{boxes_of, grid_of}
 use Rattle.amr_patch.proofs.SameBoxes.{in_same_boxes}
 
@@ -35,7 +35,7 @@ box_at_place (k ∷ gs) (suc i) g h is = box_at_place gs i g (omega arith) is
 pub in_grids : (gs : List Grid) (i : ℕ) (g : Grid) (d : Cell) → i < length gs → g ≡ get_or gs i g → holds g.bx d ≡ true → in_boxes (boxes_of gs) d ≡ true
 in_grids gs i g d h is held = in_boxes_at (boxes_of gs) d i g.bx (omega (arith, h, length-map gs (λ (g : Grid). g.bx))) (ap (λ (b : Extent). holds b d) (box_at_place gs i g h is) ∙ held)
 
-pub apart_before : (gs : List Grid) (i : ℕ) (g : Grid) (d : Cell) → AreApart (boxes_of gs) → i < length gs → g ≡ get_or gs i g → in_boxes (boxes_of (take i gs)) d ≡ true → holds g.bx d ≡ true → ⊥
+pub apart_before : (gs : List Grid) (i : ℕ) (g : Grid) (d : Cell) → ArePairwiseApart (boxes_of gs) → i < length gs → g ≡ get_or gs i g → in_boxes (boxes_of (take i gs)) d ≡ true → holds g.bx d ≡ true → ⊥
 apart_before [] i g d apart h is before held = absurd (omega arith)
 apart_before (k ∷ gs) zero g d apart h is before held = absurd (cc)
 apart_before (k ∷ gs) (suc i) g d apart h is before held = choose (or_cases (holds k.bx d) (in_boxes (boxes_of (take i gs)) d) before) (λ there. apart_before gs i g d (λ a b e less within. apart (suc a) (suc b) e (omega arith) (omega arith)) (omega arith) is there held)
@@ -66,7 +66,7 @@ some_from (p ∷ ps) d h = by_test (holds (box p) d) h (some_from ps d)
     by_test true e more = refl
     by_test false e more = more e
 
-pub all_masses : (gs : List tests.Grid) (ps qs : List Patch) → AreFilled gs ps qs → ((d : Cell) → in_patches ps d ≡ true → in_boxes (map (λ g. g.box) gs) d ≡ true) → masses_in qs ≡ tests.masses_in gs
+pub all_masses : (gs : List tests.Grid) (ps qs : List Patch) → AreGridsSet gs ps qs → ((d : Cell) → in_patches ps d ≡ true → in_boxes (map (λ g. g.box) gs) d ≡ true) → masses_in qs ≡ tests.masses_in gs
 all_masses gs ps qs filled inside = λ i d. at d (in_boxes (map (λ g. g.box) gs) d) refl i
   where
     at : (d : Cell) (t : Bool) → in_boxes (map (λ g. g.box) gs) d ≡ t → masses_in qs d ≡ tests.masses_in gs d
@@ -78,7 +78,7 @@ all_masses gs ps qs filled inside = λ i d. at d (in_boxes (map (λ g. g.box) gs
 -- ---- a level that is made of them
 
 pub made_level : (w : Width) (bytes : List ℕ) (gs : List Grid) (ps qs : List Patch) (k : Level) → k.boxes ≡ boxes_of gs → k.masses ≡ masses_in qs
-    → ((d : Cell) → masses_in ps d ≡ cond {A = Option ℕ} (in_boxes (boxes_of gs) d) (Some 0) None) → AreFilled (map (grid_of w bytes) gs) ps qs → k ≡ tests.level_of (map (grid_of w bytes) gs)
+    → ((d : Cell) → masses_in ps d ≡ cond {A = Option ℕ} (in_boxes (boxes_of gs) d) (Some 0) None) → AreGridsSet (map (grid_of w bytes) gs) ps qs → k ≡ tests.level_of (map (grid_of w bytes) gs)
 unfolding tests.level_of
 made_level w bytes gs ps qs k boxes masses blank filled =
     let same = all_masses (map (grid_of w bytes) gs) ps qs filled (λ d h. ap (λ (bs : List Extent). in_boxes bs d) (boxes_of_grids w bytes gs) ∙ in_blank d (in_boxes (boxes_of gs) d) (blank d) h) in

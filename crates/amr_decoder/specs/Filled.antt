@@ -15,13 +15,13 @@ pub record IsSpanSet (c : Cell) (masses : List ℕ) (n : ℕ) (ps qs : List Patc
   pub others : (d : Cell) → ((k : ℕ) → k < n → d ≢ cell (c.x +ℤ pos k) c.y) → masses_in qs d ≡ masses_in ps d
 
 -- the cells of a box have its masses, and all else stays
-pub record IsFilled (g : Grid) (ps qs : List Patch) : Type 0 where
+pub record IsGridSet (g : Grid) (ps qs : List Patch) : Type 0 where
   pub boxes : map box qs ≡ map box ps
   pub set : (d : Cell) → IsTrue (holds g.box d) → masses_in qs d ≡ Some (slice_index g.masses (place_in g.box d))
   pub others : (d : Cell) → holds g.box d ≡ false → masses_in qs d ≡ masses_in ps d
 
 -- the cells of boxes have their masses
-pub record AreFilled (gs : List Grid) (ps qs : List Patch) : Type 0 where
+pub record AreGridsSet (gs : List Grid) (ps qs : List Patch) : Type 0 where
   pub boxes : map box qs ≡ map box ps
   pub set : (d : Cell) → IsTrue (in_boxes (map (λ g. g.box) gs) d) → masses_in qs d ≡ tests.masses_in gs d
 

@@ -8,8 +8,8 @@ ghost use Rattle.amr_box.specs.Cells as boxes;
 ghost use Rattle.amr_box.specs.Cells.{cell, holds, in_boxes, near_limit};
 ghost use Rattle.amr_codec.specs.MassWidths.{width_of};
 ghost use Rattle.amr_patch.specs.Orders.{IsOrderOf};
-ghost use Rattle.amr_patch.specs.Patches.{AreApart, ArePatchesApart, box, in_patches};
-ghost use Rattle.amr_decoder.specs.Filled.{AreFilled, IsFilled, IsPlaced, IsSpanSet};
+ghost use Rattle.amr_patch.specs.Patches.{ArePairwiseApart, ArePatchesApart, box, in_patches};
+ghost use Rattle.amr_decoder.specs.Filled.{AreGridsSet, IsGridSet, IsPlaced, IsSpanSet};
 ghost use Rattle.amr_decoder.specs.Grids.{HasSmallMasses, IsInside, boxes_of, grid_of};
 ghost use Rattle.amr_decoder.specs.Numbers.{number_at, numbers};
 
@@ -120,7 +120,7 @@ fn fill_rows(
     requires inside { IsInside (width_of width) bytes.now grid.now }
     requires small { HasSmallMasses (width_of width) bytes.now grid.now }
     requires row { length row.old ≡ boxes.width grid.now.bx }
-    ensures { IsFilled (grid_of (width_of width) bytes.now grid.now) patches.old patches.new }
+    ensures { IsGridSet (grid_of (width_of width) bytes.now grid.now) patches.old patches.new }
 {
     let len = mass_len(width) * row.len();
     for j in 0..grid.bx.height() {
@@ -144,7 +144,7 @@ fn fill_box(
     requires placed { IsPlaced grid.now.bx }
     requires inside { IsInside (width_of width) bytes.now grid.now }
     requires small { HasSmallMasses (width_of width) bytes.now grid.now }
-    ensures { OnOk result (IsFilled (grid_of (width_of width) bytes.now grid.now) patches.old patches.new) }
+    ensures { OnOk result (IsGridSet (grid_of (width_of width) bytes.now grid.now) patches.old patches.new) }
 {
     row.resize(grid.bx.width() as usize, 0)?;
     fill_rows(patches, order, bytes, width, grid, row);
@@ -162,12 +162,12 @@ pub(crate) fn fill_boxes(
 ) -> Result<(), NoMemory>
     requires order { IsOrderOf order patches.old }
     requires apart { ArePatchesApart patches.old }
-    requires disjoint { AreApart (boxes_of grids.now) }
+    requires disjoint { ArePairwiseApart (boxes_of grids.now) }
     requires cells { (c : Cell) → IsTrue (in_boxes (boxes_of grids.now) c) → IsTrue (in_patches patches.old c) }
     requires placed { All IsPlaced (boxes_of grids.now) }
     requires inside { All (IsInside (width_of width) bytes.now) grids.now }
     requires small { All (HasSmallMasses (width_of width) bytes.now) grids.now }
-    ensures { OnOk result (AreFilled (map (grid_of (width_of width) bytes.now) grids.now) patches.old patches.new) }
+    ensures { OnOk result (AreGridsSet (map (grid_of (width_of width) bytes.now) grids.now) patches.old patches.new) }
 {
     let mut row = Vec::new(alloc);
     for grid in grids {

@@ -6,7 +6,7 @@ ghost use Rattle.amr_box.specs.declared.Cell.{Cell};
 ghost use Rattle.amr_box.specs.Cells.{in_boxes};
 ghost use Rattle.amr_codec.specs.MassWidths.{width_of};
 ghost use Rattle.amr_patch.specs.Levels.{level_of};
-ghost use Rattle.amr_patch.specs.Patches.{AreApart, AreNear};
+ghost use Rattle.amr_patch.specs.Patches.{ArePairwiseApart, AreNear};
 ghost use Rattle.amr_payload.specs.Tests as tests;
 ghost use Rattle.amr_start.specs.PatchBoxes.{IsChopped};
 ghost use Rattle.amr_decoder.specs.Filled.{IsPlaced};
@@ -22,7 +22,7 @@ use std::alloc::Global;
 
 /// The boxes, of which no two have a cell in common.
 fn listed(alloc: Global, grids: &[Grid]) -> Result<BoxList, NoMemory>
-    requires { AreApart (boxes_of grids.now) }
+    requires { ArePairwiseApart (boxes_of grids.now) }
     ensures { IfOk result (λ l. l ≡ boxes_of grids.now) }
 {
     let mut list = BoxList::make(alloc);
@@ -34,7 +34,7 @@ fn listed(alloc: Global, grids: &[Grid]) -> Result<BoxList, NoMemory>
 
 /// The level of these boxes, in patches of at most `max` by `max` cells, with mass 0 in each cell.
 fn blank_level(alloc: Global, grids: &[Grid], max: u32) -> Result<Level, NoMemory>
-    requires disjoint { AreApart (boxes_of grids.now) }
+    requires disjoint { ArePairwiseApart (boxes_of grids.now) }
     requires near { AreNear (boxes_of grids.now) }
     requires some { 1 ≤ max }
     ensures boxes { IfOk result (λ l. (level_of l).boxes ≡ boxes_of grids.now) }
@@ -59,7 +59,7 @@ pub(crate) fn make_level(
     grids: &[Grid],
 ) -> Result<Level, NoMemory>
     requires some { 1 ≤ max }
-    requires disjoint { AreApart (boxes_of grids.now) }
+    requires disjoint { ArePairwiseApart (boxes_of grids.now) }
     requires near { AreNear (boxes_of grids.now) }
     requires placed { All IsPlaced (boxes_of grids.now) }
     requires inside { All (IsInside (width_of width) bytes.now) grids.now }

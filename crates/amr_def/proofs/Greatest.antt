@@ -15,7 +15,7 @@ use Rattle.amr_def.proofs.Values.{same_cell, flow_same, value_here}
 use Rattle.amr_def.proofs.Bounds.{new_mass_bounded, plain_gain}
 use Rattle.amr_def.proofs.Ghosts.{ghost_value}
 use Rattle.amr_def.proofs.Uncovered.{no_children, home_at}
-use Rattle.amr_def.proofs.Subcycle.{SameCells, HasSameCells, IsKept, HeadFacts, step-kept, nested_same, is_false, none_is, cond_none, bool_cases, same_none, uncovered_where_none, covered_is, together_covers, updated_exact, plain_covers}
+use Rattle.amr_def.proofs.Subcycle.{SameCells, HasSameCells, KeepsLevels, HeadFacts, step-kept, nested_same, is_false, none_is, cond_none, bool_cases, same_none, uncovered_where_none, covered_is, together_covers, updated_exact, plain_covers}
 use Rattle.amr_def.proofs.Raise.{Along, Flows, IsUpTo, IsForward, IsBackward, signed, flow_along, together_along, uncovered_raised}
 use Rattle.amr_def.specs.State.{Masses, is_covered, mass_of, children_mass}
 use Rattle.amr_box.specs.declared.Axis.TheVariants.{X, Y}
@@ -201,7 +201,7 @@ same_length (m ∷ ms) [] s = absurd s
 same_length (m ∷ ms) (m' ∷ ms') s = ap suc (same_length ms ms' s.1)
 
 over_all : (p : Problem) (l : ℕ) (m old fine : Masses) (finer ms1 ms2 : List Masses) (e1 e2 : Fluxes) (b r : ℕ) → IsStable p → Nested p l (m ∷ fine ∷ finer) → IsSyncedPair m fine
-    → IsKept p (suc l) (fine ∷ finer) m ms1 e1 → IsKept p (suc l) ms1 m ms2 e2
+    → KeepsLevels p (suc l) (fine ∷ finer) m ms1 e1 → KeepsLevels p (suc l) ms1 m ms2 e2
     → IsRaised p (suc l) (fine ∷ finer) m ms1 e1 (b + r) → IsRaised p (suc l) ms1 m ms2 e2 (b + r + r)
     → MassesUpTo l m b → OldUpTo l old b → SidesUpTo p b
     → IsRaised p l (m ∷ fine ∷ finer) old (updated m (together p l m old fine e1 e2) ∷ ms2) (together p l m old fine e1 e2) (b + (2 * r + 14 * 4 ^ l))

@@ -8,10 +8,10 @@ use Rattle.amr_def.proofs.Children.{covered_by}
 use Rattle.amr_def.specs.State.{Masses}
 use Rattle.amr_def.proofs.LevelLists.{child_0, child_1, child_2, child_3}
 use Rattle.amr_def.proofs.LevelLists.{HasAllChildren}
-use Rattle.amr_def.specs.Regrid.{share, odd}
+use Rattle.amr_def.specs.Regrid.{child_share, odd}
 
 -- the shares of the four children make up the whole
-pub shares_sum : (m : ℕ) → share m 0 + share m 1 + share m 2 + share m 3 ≡ m
+pub shares_sum : (m : ℕ) → child_share m 0 + child_share m 1 + child_share m 2 + child_share m 3 ≡ m
 shares_sum m = by_rest (m % 4) (m / 4) m (omega arith) (omega arith)
   where
     by_rest : (r q m : ℕ) → r < 4 → m ≡ 4 * q + r → (q + cond (nat_lt 0 r) 1 0) + (q + cond (nat_lt 1 r) 1 0) + (q + cond (nat_lt 2 r) 1 0) + (q + cond (nat_lt 3 r) 1 0) ≡ m

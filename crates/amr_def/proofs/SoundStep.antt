@@ -15,7 +15,7 @@ use Rattle.amr_def.specs.Run.{with_masses, stepped}
 use Rattle.amr_def.specs.Facts.{IsSmallRow, IsSound, IsBounded, IsTelescoped, no_row, growth}
 use Rattle.amr_def.proofs.LevelLists.{IsWhole, Nested, Synced}
 use Rattle.amr_def.proofs.Courants.{stable, some_columns}
-use Rattle.amr_def.proofs.Subcycle.{IsKept, step-kept}
+use Rattle.amr_def.proofs.Subcycle.{KeepsLevels, step-kept}
 use Rattle.amr_def.proofs.Steps.{head_updated, step-telescopes}
 use Rattle.amr_def.proofs.Greatest.{AllUpTo, IsRaised, rise, step-raises, all_more}
 use Rattle.amr_def.proofs.Totals.{IsSmallFluxes, bound_small, flux_within, inflow_within, outflow_within, total_within}
@@ -53,7 +53,7 @@ module _ (p : Problem) (n : ℕ) (rs : List Row) (k : Level) (ks : List Level) w
     lists : Nested p 0 (masses_in (k ∷ ks)) × Synced (masses_in (k ∷ ks))
     lists = chain_lists p 0 (k ∷ ks) links
 
-    kept : IsKept p 0 (masses_in (k ∷ ks)) no_masses taken.levels taken.fluxes
+    kept : KeepsLevels p 0 (masses_in (k ∷ ks)) no_masses taken.levels taken.fluxes
     kept = step-kept p (length (masses_in (k ∷ ks))) 0 (masses_in (k ∷ ks)) no_masses (stable p) lists.0 lists.1
 
     new_links : Chain p 0 (with_masses (k ∷ ks) taken.levels)
@@ -73,7 +73,7 @@ module _ (p : Problem) (n : ℕ) (rs : List Row) (k : Level) (ks : List Level) w
     pub exact : (c : Cell) → IsSome (k.masses c) → pos (mass_of (first_of taken.levels) c) ≡ pos (mass_of k.masses c) +ℤ net taken.fluxes c
     exact c there = by_head taken.levels kept
       where
-        by_head : (ms : List Masses) → IsKept p 0 (masses_in (k ∷ ks)) no_masses ms taken.fluxes → pos (mass_of (first_of ms) c) ≡ pos (mass_of k.masses c) +ℤ net taken.fluxes c
+        by_head : (ms : List Masses) → KeepsLevels p 0 (masses_in (k ∷ ks)) no_masses ms taken.fluxes → pos (mass_of (first_of ms) c) ≡ pos (mass_of k.masses c) +ℤ net taken.fluxes c
         by_head [] x = absurd x.same
         by_head (m ∷ ms) x = x.head.exact c there
 

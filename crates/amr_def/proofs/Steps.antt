@@ -10,7 +10,7 @@ use Rattle.amr_def.proofs.Conservation.{IsCovering, conserves}
 use Rattle.amr_def.proofs.Values.{same_cell, flow_same, value_same}
 use Rattle.amr_def.proofs.TwoLevels.{together}
 use Rattle.amr_def.proofs.Courants.{twice_as_many, power_positive}
-use Rattle.amr_def.proofs.Subcycle.{IsKept, step-kept}
+use Rattle.amr_def.proofs.Subcycle.{KeepsLevels, step-kept}
 use Rattle.amr_def.specs.State.{Masses, is_covered, no_masses}
 use Rattle.amr_def.specs.Flux.{Fluxes, face, courant, updated, flux_at}
 use Rattle.amr_def.specs.Ledger.{first_of, total_mass, inflow, outflow}
@@ -79,7 +79,7 @@ unfolding step_within over_finer at_top
 head_updated p n l m [] old = refl
 head_updated p n l m (fine ∷ finer) old = refl
 
-covering : (p : Problem) (m : Masses) (ms ms' : List Masses) (e : Fluxes) → IsWhole p m → IsKept p 0 (m ∷ ms) no_masses ms' e → IsCovering p m e
+covering : (p : Problem) (m : Masses) (ms ms' : List Masses) (e : Fluxes) → IsWhole p m → KeepsLevels p 0 (m ∷ ms) no_masses ms' e → IsCovering p m e
 covering p m ms [] e whole kept = absurd kept.same
 covering p m ms (m' ∷ ms') e whole kept = record { at = λ x y hx hy. omega (arith, ints, kept.head.exact (cell (pos x) (pos y)) (whole.at x y hx hy)) }
 

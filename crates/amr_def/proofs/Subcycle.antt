@@ -92,7 +92,7 @@ AtHead p l old [] ms' e = Unit {0}
 AtHead p l old (m ∷ ms) [] e = ⊥
 AtHead p l old (m ∷ ms) (m' ∷ ms') e = HeadFacts p l old m m' e
 
-pub record IsKept (p : Problem) (l : ℕ) (ms : List Masses) (old : Masses) (ms' : List Masses) (e : Fluxes) : Type 0 where
+pub record KeepsLevels (p : Problem) (l : ℕ) (ms : List Masses) (old : Masses) (ms' : List Masses) (e : Fluxes) : Type 0 where
   pub same : SameCells ms ms'
   pub synced : Synced ms'
   pub head : AtHead p l old ms ms' e
@@ -130,7 +130,7 @@ module _ (p : Problem) (l : ℕ) (m old : Masses) (stable : IsStable p) (inside 
       subst (λ (z : ℤ). pos 0 ≤ℤ (pos (mass_of m c) +ℤ z)) (sym n)
       (left_over cx cy p.d (mass_of m c) _ _ _ _ stable.some (stable.within l (home_cell (domain p l) c)) (flow_leaves_low _ _ _ _) (flow_leaves_high _ _ _ _) (flow_leaves_low _ _ _ _) (flow_leaves_high _ _ _ _))
 
-  top_kept : IsKept p l (m ∷ []) old (at_top p l m old).levels (at_top p l m old).fluxes
+  top_kept : KeepsLevels p l (m ∷ []) old (at_top p l m old).levels (at_top p l m old).fluxes
   unfolding at_top
   top_kept = record {
     same = (updated_same m _, tt);
@@ -203,8 +203,8 @@ module _ (p : Problem) (l : ℕ) (m old fine fine1 fine2 : Masses) (e1 e2 : Flux
 
 -- a level and the results of two steps of the finer ones
 over_kept : (p : Problem) (l : ℕ) (m old fine : Masses) (finer ms1 ms2 : List Masses) (e1 e2 : Fluxes) → IsStable p → Nested p l (m ∷ fine ∷ finer) → IsSyncedPair m fine
-    → IsKept p (suc l) (fine ∷ finer) m ms1 e1 → IsKept p (suc l) ms1 m ms2 e2
-    → IsKept p l (m ∷ fine ∷ finer) old (updated m (together p l m old fine e1 e2) ∷ ms2) (together p l m old fine e1 e2)
+    → KeepsLevels p (suc l) (fine ∷ finer) m ms1 e1 → KeepsLevels p (suc l) ms1 m ms2 e2
+    → KeepsLevels p l (m ∷ fine ∷ finer) old (updated m (together p l m old fine e1 e2) ∷ ms2) (together p l m old fine e1 e2)
 over_kept p l m old fine finer [] ms2 e1 e2 stable nested synced k1 k2 = absurd k1.same
 over_kept p l m old fine finer (fine1 ∷ finer1) [] e1 e2 stable nested synced k1 k2 = absurd k2.same
 over_kept p l m old fine finer (fine1 ∷ finer1) (fine2 ∷ finer2) e1 e2 stable nested synced k1 k2 = record {
@@ -234,13 +234,13 @@ unchanged_head p l old (m ∷ ms) = record {
   exact = λ c there. omega (arith, ints, net_none c);
 }
 
-pub step-kept : (p : Problem) (n l : ℕ) (ms : List Masses) (old : Masses) → IsStable p → Nested p l ms → Synced ms → IsKept p l ms old (step_within p n l ms old).levels (step_within p n l ms old).fluxes
+pub step-kept : (p : Problem) (n l : ℕ) (ms : List Masses) (old : Masses) → IsStable p → Nested p l ms → Synced ms → KeepsLevels p l ms old (step_within p n l ms old).levels (step_within p n l ms old).fluxes
 unfolding step_within over_finer
 step-kept p zero l ms old stable nested synced = record { same = same_itself ms; synced = synced; head = unchanged_head p l old ms }
 step-kept p (suc n) l [] old stable nested synced = record { same = tt; synced = tt; head = tt }
 step-kept p (suc n) l (m ∷ []) old stable nested synced = top_kept p l m old stable nested
 step-kept p (suc n) l (m ∷ fine ∷ finer) old stable nested synced =
     let first = step_within p n (suc l) (fine ∷ finer) m in
-    let k1 : IsKept p (suc l) (fine ∷ finer) m first.levels first.fluxes = step-kept p n (suc l) (fine ∷ finer) m stable nested.2 synced.1 in
+    let k1 : KeepsLevels p (suc l) (fine ∷ finer) m first.levels first.fluxes = step-kept p n (suc l) (fine ∷ finer) m stable nested.2 synced.1 in
     let k2 = step-kept p n (suc l) first.levels m stable (nested_same p (suc l) (fine ∷ finer) first.levels k1.same nested.2) k1.synced in
     over_kept p l m old fine finer first.levels _ first.fluxes _ stable nested synced.0 k1 k2

@@ -11,8 +11,8 @@ use Rattle.amr_def.specs.Tags.{is_tagged}
 use Rattle.amr_def.specs.NewBoxes.{new_boxes}
 
 -- the share of child k of a parent of mass m: a quarter, and one more for the first of them
-abbrev pub share : ℕ → ℕ → ℕ
-share m k = m / 4 + cond (nat_lt k (m % 4)) 1 0
+abbrev pub child_share : ℕ → ℕ → ℕ
+child_share m k = m / 4 + cond (nat_lt k (m % 4)) 1 0
 
 abbrev pub odd : ℤ → ℕ
 odd z = unsigned_abs (int_rem_euclid z (pos 2))
@@ -23,7 +23,7 @@ child_number c = 2 * odd c.y + odd c.x
 
 -- what a cell gets of the mass of its parent
 abbrev pub split_mass : Masses → Cell → ℕ
-split_mass coarse c = share (mass_of coarse (parent c)) (child_number c)
+split_mass coarse c = child_share (mass_of coarse (parent c)) (child_number c)
 
 -- the masses of new boxes over the coarser level's: a cell that was of the level keeps its mass, and
 -- another gets its share

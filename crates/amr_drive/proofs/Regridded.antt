@@ -13,7 +13,7 @@ use Rattle.amr_patch.specs.Levels.{level_of, patches_of}
 use Rattle.amr_patch.specs.Meshes.{levels_of, state_of}
 use Rattle.amr_patch.proofs.Items.{levels_are}
 use Rattle.amr_start.specs.PatchBoxes.{IsChopped}
-use Rattle.amr_edges.proofs.Coarsenable.{all_coarsenable}
+use Rattle.amr_flows.proofs.Coarsenable.{all_coarsenable}
 use Rattle.amr_cycle.specs.Cycles.{AreCoarsenableAbove}
 use Rattle.amr_cycle.proofs.Coarsenable.{coarsenable_by_boxes}
 use Rattle.amr_regrid.specs.Outlines.{Outline, outlines}

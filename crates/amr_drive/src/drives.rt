@@ -9,7 +9,7 @@ ghost use Rattle.amr_patch.specs.Meshes.{is_spent, levels_of, state_of};
 ghost use Rattle.amr_start.specs.PatchBoxes.{IsChopped};
 ghost use Rattle.amr_advance.specs.Teams.{IsTeamFor};
 ghost use Rattle.amr_cycle.specs.Cycles.{AreCoarsenableAbove};
-ghost use Rattle.amr_cycle.specs.Kept.{IsCurrent, IsKept};
+ghost use Rattle.amr_cycle.specs.Kept.{IsCurrent, IsKeptFor};
 ghost use Rattle.amr_drive.specs.Drives.{HasDriven, MayDrive};
 ghost use Rattle.amr_drive.specs.States.{states_after};
 
@@ -60,7 +60,7 @@ fn make_step<R: Threads + Wait + Sync, G: Gate + Sync, A: AfterStep>(
     requires to_come { (state_of mesh.old).step < run.now.job.problem.now.steps }
     requires coarsenable { AreCoarsenableAbove (levels_of mesh.old) }
     requires ready { A.ready after.old (next run.now.job.problem.now (state_of mesh.old)) }
-    requires kept { IsKept run.now.job.problem.now kept.old }
+    requires kept { IsKeptFor run.now.job.problem.now kept.old }
     requires current { IsCurrent (state_of mesh.old).levels kept.old }
     requires some_workers { 1 ≤ workers.old.count }
     requires few_workers { workers.old.count ≤ 64 }
@@ -73,7 +73,7 @@ fn make_step<R: Threads + Wait + Sync, G: Gate + Sync, A: AfterStep>(
     ensures whole { OnOk result (is_spent mesh.new ≡ false) }
     ensures answer { OnOk result (A.answers after.old (next run.now.job.problem.now (state_of mesh.old)) (Ok tt) after.new) }
     ensures ready { OnOk result ((s : State) → (next run.now.job.problem.now (state_of mesh.old)).step < s.step → A.ready after.old s → A.ready after.new s) }
-    ensures kept { OnOk result (IsKept run.now.job.problem.now kept.new) }
+    ensures kept { OnOk result (IsKeptFor run.now.job.problem.now kept.new) }
     ensures current { OnOk result (IsCurrent (state_of mesh.new).levels kept.new) }
     ensures refused { (f : _) → IsErrOf result (DriveFault.After f) → (state_of mesh.new ≡ next run.now.job.problem.now (state_of mesh.old)) × (is_spent mesh.new ≡ false) × A.answers after.old (next run.now.job.problem.now (state_of mesh.old)) (Err f) after.new }
     ensures memory { IsErrOf result DriveFault.NoMemory → (after.new ≡ after.old) × ((is_spent mesh.new ≡ true) ⊎ ((is_spent mesh.new ≡ false) × (state_of mesh.new ≡ state_of mesh.old))) }

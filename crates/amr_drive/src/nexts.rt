@@ -9,7 +9,7 @@ ghost use Rattle.amr_patch.specs.Meshes.{is_spent, levels_of, state_of};
 ghost use Rattle.amr_start.specs.PatchBoxes.{IsChopped};
 ghost use Rattle.amr_advance.specs.Teams.{IsTeamFor};
 ghost use Rattle.amr_cycle.specs.Cycles.{AreCoarsenableAbove};
-ghost use Rattle.amr_cycle.specs.Kept.{IsCurrent, IsKept};
+ghost use Rattle.amr_cycle.specs.Kept.{IsCurrent, IsKeptFor};
 
 use amr_advance::Workers;
 use amr_causes::NoMemory;
@@ -45,13 +45,13 @@ fn regrid_if_due<R: Threads + Sync>(
     requires whole { is_spent mesh.old ≡ false }
     requires sound { IsSound p.now (state_of mesh.old) }
     requires coarsenable { AreCoarsenableAbove (levels_of mesh.old) }
-    requires kept { IsKept p.now kept.old }
+    requires kept { IsKeptFor p.now kept.old }
     requires current { IsCurrent (state_of mesh.old).levels kept.old }
     ensures value { OnOk result (state_of mesh.new ≡ cond (regrid_is_due p.now (state_of mesh.old)) (regrid p.now (state_of mesh.old)) (state_of mesh.old)) }
     ensures sound { OnOk result (IsSound p.now (state_of mesh.new)) }
     ensures patches { All (IsChopped p.now.max_grid_size) (levels_of mesh.old) → All (IsChopped p.now.max_grid_size) (levels_of mesh.new) }
     ensures coarsenable { AreCoarsenableAbove (levels_of mesh.new) }
-    ensures kept { OnOk result (IsKept p.now kept.new) }
+    ensures kept { OnOk result (IsKeptFor p.now kept.new) }
     ensures current { OnOk result (IsCurrent (state_of mesh.new).levels kept.new) }
     ensures whole { is_spent mesh.new ≡ false }
     ensures refused { OnErr result (state_of mesh.new ≡ state_of mesh.old) }
@@ -86,7 +86,7 @@ pub(crate) fn make_next<R: Threads + Wait + Sync, G: Gate + Sync>(
     requires sound { IsSound run.now.job.problem.now (state_of mesh.old) }
     requires to_come { (state_of mesh.old).step < run.now.job.problem.now.steps }
     requires coarsenable { AreCoarsenableAbove (levels_of mesh.old) }
-    requires kept { IsKept run.now.job.problem.now kept.old }
+    requires kept { IsKeptFor run.now.job.problem.now kept.old }
     requires current { IsCurrent (state_of mesh.old).levels kept.old }
     requires some_workers { 1 ≤ workers.old.count }
     requires few_workers { workers.old.count ≤ 64 }
@@ -98,7 +98,7 @@ pub(crate) fn make_next<R: Threads + Wait + Sync, G: Gate + Sync>(
     ensures patches { is_spent mesh.new ≡ false → All (IsChopped run.now.job.problem.now.max_grid_size) (levels_of mesh.old) → All (IsChopped run.now.job.problem.now.max_grid_size) (levels_of mesh.new) }
     ensures coarsenable { is_spent mesh.new ≡ false → AreCoarsenableAbove (levels_of mesh.new) }
     ensures whole { OnOk result (is_spent mesh.new ≡ false) }
-    ensures kept { OnOk result (IsKept run.now.job.problem.now kept.new) }
+    ensures kept { OnOk result (IsKeptFor run.now.job.problem.now kept.new) }
     ensures current { OnOk result (IsCurrent (state_of mesh.new).levels kept.new) }
     ensures refused { OnErr result ((is_spent mesh.new ≡ true) ⊎ ((is_spent mesh.new ≡ false) × (state_of mesh.new ≡ state_of mesh.old))) }
 {

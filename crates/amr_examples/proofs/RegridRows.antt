@@ -9,18 +9,18 @@ use Rattle.amr_def.specs.Tags.{is_tagged, is_tagged_by}
 use Rattle.amr_def.specs.Cut.{best_cut}
 use Rattle.amr_def.specs.Cluster.{cluster, cluster_within}
 use Rattle.amr_def.specs.NewBoxes.{new_boxes, is_projected}
-use Rattle.amr_def.specs.Regrid.{regrid, refill, share}
+use Rattle.amr_def.specs.Regrid.{regrid, refill, child_share}
 use Rattle.amr_def.specs.Run.{plain_start, run, start, finish}
 use Rattle.amr_def.specs.Plot.{plot, head_text, ledger_line, level_text, level_line, box_text, box_line, mass_line}
 use Rattle.amr_examples.proofs.Examples.{box, at, spot, loose_spot, blocked_spot, three_levels}
 
-shares_of_seven : map (share 7) (0 ∷ 1 ∷ 2 ∷ 3 ∷ []) ≡ 2 ∷ 2 ∷ 2 ∷ 1 ∷ []
+shares_of_seven : map (child_share 7) (0 ∷ 1 ∷ 2 ∷ 3 ∷ []) ≡ 2 ∷ 2 ∷ 2 ∷ 1 ∷ []
 shares_of_seven = refl
 
-shares_of_two : map (share 2) (0 ∷ 1 ∷ 2 ∷ 3 ∷ []) ≡ 1 ∷ 1 ∷ 0 ∷ 0 ∷ []
+shares_of_two : map (child_share 2) (0 ∷ 1 ∷ 2 ∷ 3 ∷ []) ≡ 1 ∷ 1 ∷ 0 ∷ 0 ∷ []
 shares_of_two = refl
 
-shares_of_nothing : map (share 0) (0 ∷ 1 ∷ 2 ∷ 3 ∷ []) ≡ 0 ∷ 0 ∷ 0 ∷ 0 ∷ []
+shares_of_nothing : map (child_share 0) (0 ∷ 1 ∷ 2 ∷ 3 ∷ []) ≡ 0 ∷ 0 ∷ 0 ∷ 0 ∷ []
 shares_of_nothing = refl
 
 -- a periodic domain of 8 by 8 cells, and the coarser one of 4 by 4

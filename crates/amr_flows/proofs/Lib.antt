@@ -19,3 +19,12 @@ pub mod SubcycleSizes
 pub mod SubcycleLedger
 pub mod SubcycleParts
 pub mod Layouts
+pub mod Borders
+pub mod Parents
+pub mod Beyond
+pub mod Ordered
+pub mod Coarsenable
+pub mod OwnEdges
+pub mod OwnFlows
+pub mod PutPlaces
+pub mod Joined

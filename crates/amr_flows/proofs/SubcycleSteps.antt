@@ -15,7 +15,7 @@ use Rattle.amr_def.proofs.Courants.{stable}
 use Rattle.amr_def.proofs.Greatest.{same_length}
 use Rattle.amr_def.proofs.Nesting.{nest}
 use Rattle.amr_def.proofs.Stepping.{chain_lists, count_kept, masses_in}
-use Rattle.amr_def.proofs.Subcycle.{HasSameCells, IsKept, SameCells, covered_same, is_false, step-kept}
+use Rattle.amr_def.proofs.Subcycle.{HasSameCells, KeepsLevels, SameCells, covered_same, is_false, step-kept}
 use Rattle.amr_laws.specs.Levels.{AreLevels, masses_of}
 use Rattle.amr_laws.specs.Sides.{is_uncovered, over_levels}
 use Rattle.amr_laws.specs.Substeps.{after_step}
@@ -28,7 +28,7 @@ use Rattle.amr_flows.specs.Subcycle.{CoverAlike, flows_of_step}
 
 -- ---- what a step keeps
 
-pub kept_by : (p : Problem) (l : ℕ) (ks : List Level) (old : Masses) → AreLevels p l ks → IsKept p l (masses_of ks) old (step p l (masses_of ks) old).levels (step p l (masses_of ks) old).fluxes
+pub kept_by : (p : Problem) (l : ℕ) (ks : List Level) (old : Masses) → AreLevels p l ks → KeepsLevels p l (masses_of ks) old (step p l (masses_of ks) old).levels (step p l (masses_of ks) old).fluxes
 kept_by p l ks old a = let lists = chain_lists p l ks (links p l ks a) in step-kept p (length (masses_in ks)) l (masses_in ks) old (stable p) lists.0 lists.1
 
 heads_same : (ms ms' : List Masses) → SameCells ms ms' → HasSameCells (first_of ms) (first_of ms')

@@ -1,11 +1,20 @@
 //! Laws of what a layout's words hold. Over the patches of a level they add up to what flows through its open sides,
 //! and into and out of each register cell of the next coarser level. And laws of what registers and sums over children
 //! make of them: the step of a level over finer ones. Each call has an empty body, and what it ensures is the law.
+//!
+//! Below them, in `edges`, laws that join what several crates know of a level's edges, so that a step can stand on all of them.
 #![tactic(auto)]
 
 ghost use Rattle.amr_flows.specs.Layouts.{LayoutsAreExact};
 ghost use Rattle.amr_flows.specs.Laws.{InflowIsOfLevel, OutflowIsOfLevel, RegisterWordsAreOfChildren};
 ghost use Rattle.amr_flows.specs.Subcycle.{FlowsAreOfFinerSteps, FlowsAreOfLevelAlone, FlowsFit, PartsTakenFit, PlainFluxesGiveTheStep, RefluxFits, RegistersGiveTheStep, StepKeepsCover};
+
+mod edges;
+
+pub use edges::{
+    borders_are_marked, borders_are_put, owners_are_told, patches_are_coarsenable,
+    posts_are_of_own_edges, registers_serve_layouts,
+};
 
 /// The layout of a level, by counts. Each border face is put once, by the patch that owns it, the one with the cell at its high side.
 /// Each face on the edges of a patch adds its flow once to the word that the flow goes to, and to no other: to the ledger's words where

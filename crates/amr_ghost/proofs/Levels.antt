@@ -21,9 +21,9 @@ use Rattle.amr_patch.specs.declared.lookup.Order.{Order}
 use Rattle.amr_patch.specs.Places.{in_frame}
 use Rattle.amr_patch.specs.Patches.{box, in_patches, masses_in}
 use Rattle.amr_patch.proofs.Standing.{order_of_boxes}
-use Rattle.amr_gaps.specs.declared.gaps.Starts.{Starts}
-use Rattle.amr_gaps.specs.Gaps.{HasStarts}
-use Rattle.amr_gaps.proofs.GapLaws.{starts_of_boxes}
+use Rattle.amr_patch.specs.declared.gaps.Starts.{Starts}
+use Rattle.amr_patch.specs.Gaps.{HasStarts}
+use Rattle.amr_patch.proofs.GapLaws.{starts_of_boxes}
 use Rattle.amr_ghost.specs.Strips.{step}
 use Rattle.amr_ghost.specs.Frames.{AreInDomain, is_beside, is_of_level}
 use Rattle.amr_ghost.specs.declared.sides.Side.{Side}

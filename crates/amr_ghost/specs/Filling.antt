@@ -15,8 +15,8 @@ use Rattle.amr_patch.specs.Places.{grown, in_frame}
 use Rattle.amr_patch.specs.Patches.{ArePatchesApart, SameFluxes, box, mark_in, mass_in, masses_in, value_in}
 use Rattle.amr_patch.specs.declared.lookup.Order.{Order}
 use Rattle.amr_patch.specs.Orders.{IsOrderOf}
-use Rattle.amr_gaps.specs.declared.gaps.Starts.{Starts}
-use Rattle.amr_gaps.specs.Gaps.{Ascends, HasStarts}
+use Rattle.amr_patch.specs.declared.gaps.Starts.{Starts}
+use Rattle.amr_patch.specs.Gaps.{Ascends, HasStarts}
 use Rattle.amr_ghost.specs.Frames.{AreInDomain, KeepsCorners, SameMasses, is_beside, is_of_level}
 use Rattle.amr_ghost.specs.Strips.{step}
 use Rattle.amr_ghost.specs.declared.sides.Side.{Side}

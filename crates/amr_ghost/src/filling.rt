@@ -9,7 +9,7 @@ ghost use Rattle.amr_def.specs.Value.{value_at};
 ghost use Rattle.amr_patch.specs.declared.patches.Patch.{Patch};
 ghost use Rattle.amr_patch.specs.Patches.{ArePatchesApart, SameFluxes, box, in_patches, masses_in};
 ghost use Rattle.amr_patch.specs.Orders.{IsHolder, IsOrderOf};
-ghost use Rattle.amr_gaps.specs.Gaps.{HasStarts};
+ghost use Rattle.amr_patch.specs.Gaps.{HasStarts};
 ghost use Rattle.amr_ghost.specs.Strips.{HasRoom};
 ghost use Rattle.amr_ghost.specs.Frames.{AreInDomain, HasGhostMarks, HasGhostValues, KeepsCorners, SameMasses, is_of_level, old_masses};
 ghost use Rattle.amr_ghost.specs.Filling.{HasFrame, HasSideValues, HasValues, IsGhostStrip, IsLevelInOrder, KeepsCells, KeepsValues, LiesInDomain};
@@ -19,8 +19,7 @@ use crate::places::step;
 use crate::sides::{Side, Strip, side_strip};
 use crate::sources::{place_span, span_ahead};
 use amr_def::Problem;
-use amr_gaps::Starts;
-use amr_patch::{Level, Order, Patch, order_of};
+use amr_patch::{Level, Order, Patch, Starts, order_of};
 
 /// Gives the first ghost cells of a strip beside a patch their values, and answers how many. They stand for cells of one patch,
 /// lie in a gap between patches over one coarser patch, or are the whole strip where it lies outside an open side.

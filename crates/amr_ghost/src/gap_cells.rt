@@ -10,7 +10,7 @@ ghost use Rattle.amr_patch.specs.declared.patches.Patch.{Patch};
 ghost use Rattle.amr_patch.specs.Places.{in_frame};
 ghost use Rattle.amr_patch.specs.Patches.{box, in_patches};
 ghost use Rattle.amr_patch.specs.Levels.{level_of};
-ghost use Rattle.amr_gaps.specs.Gaps.{Ascends, HasStarts};
+ghost use Rattle.amr_patch.specs.Gaps.{Ascends, HasStarts};
 ghost use Rattle.amr_ghost.specs.Strips.{HasRoom, step};
 ghost use Rattle.amr_ghost.specs.Frames.{is_beside, old_masses};
 ghost use Rattle.amr_ghost.specs.Filling.{AreGiven, AreOrdered, HasGhosts, KeepsCells, KeepsGhosts};
@@ -19,8 +19,7 @@ use crate::ghosts::{quarter_strip, set_strip};
 use crate::places::{cells_up_to, children_ahead};
 use crate::sides::Strip;
 use amr_box::{Axis, Cell, parent};
-use amr_gaps::{Starts, gap_from};
-use amr_patch::{Level, Patch, find_near};
+use amr_patch::{Level, Patch, Starts, find_near, gap_from};
 
 /// How many cells, from one that no patch has on along an axis, no patch has, counted up to `most`. It is 1 where it isn't known
 /// where the patches start.

@@ -1,7 +1,6 @@
 //! Whose frame is filled, and where look-ups begin: where the last one ended.
 
-use amr_gaps::Starts;
-use amr_patch::Order;
+use amr_patch::{Order, Starts};
 
 /// The patch whose frame is filled: the number of its level, how that level's patches stand, where they start, if that is known,
 /// and its own number among them.

@@ -7,7 +7,7 @@ ghost use Rattle.amr_def.specs.Domain.{domain};
 ghost use Rattle.amr_patch.specs.declared.patches.Patch.{Patch};
 ghost use Rattle.amr_patch.specs.Orders.{IsOrderOf};
 ghost use Rattle.amr_patch.specs.Patches.{ArePatchesApart, box};
-ghost use Rattle.amr_gaps.specs.Gaps.{HasStarts};
+ghost use Rattle.amr_patch.specs.Gaps.{HasStarts};
 ghost use Rattle.amr_ghost.specs.Strips.{HasRoom};
 ghost use Rattle.amr_ghost.specs.Frames.{AreInDomain};
 ghost use Rattle.amr_ghost.specs.Filling.{IsGhostStrip, IsLevelInOrder, side_axis, side_count, side_from};
@@ -19,8 +19,7 @@ use crate::sides::{Side, Strip, side_strip};
 use crate::sources::{Span, span_ahead};
 use amr_causes::NoMemory;
 use amr_def::Problem;
-use amr_gaps::Starts;
-use amr_patch::{Order, Patch};
+use amr_patch::{Order, Patch, Starts};
 use std::alloc::Global;
 
 /// Where each ghost cell beside each patch of a level gets its value from. It depends on boxes alone, so it serves until a regrid.

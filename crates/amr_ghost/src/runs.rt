@@ -7,7 +7,7 @@ ghost use Rattle.amr_def.specs.Domain.{Domain, domain};
 ghost use Rattle.amr_patch.specs.declared.patches.Patch.{Patch};
 ghost use Rattle.amr_patch.specs.Orders.{IsOrderOf};
 ghost use Rattle.amr_patch.specs.Patches.{ArePatchesApart};
-ghost use Rattle.amr_gaps.specs.Gaps.{HasStarts};
+ghost use Rattle.amr_patch.specs.Gaps.{HasStarts};
 ghost use Rattle.amr_ghost.specs.Frames.{AreInDomain};
 ghost use Rattle.amr_ghost.specs.Filling.{IsLevelInOrder};
 ghost use Rattle.amr_ghost.specs.Plans.{ArePlannedRuns, PlansFrames, PlansRun};
@@ -17,8 +17,7 @@ use crate::plan::{FramePlan, plan_frames, plan_run};
 use crate::sources::Span;
 use amr_causes::NoMemory;
 use amr_def::Problem;
-use amr_gaps::Starts;
-use amr_patch::{Order, Patch};
+use amr_patch::{Order, Patch, Starts};
 use std::alloc::Global;
 use std::thread::{Threads, map_chunks};
 

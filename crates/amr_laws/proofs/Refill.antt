@@ -12,7 +12,7 @@ use Rattle.amr_def.specs.Domain.{domain, in_domain, is_near}
 use Rattle.amr_def.specs.State.{Masses, Level, is_covered, is_covered_by, mass_of, children_mass}
 use Rattle.amr_def.specs.NewBoxes.{first_boxes, is_projected, is_wanted, new_boxes}
 use Rattle.amr_def.specs.Tags.{is_grown}
-use Rattle.amr_def.specs.Regrid.{share, odd, child_number, split_mass, refilled}
+use Rattle.amr_def.specs.Regrid.{child_share, odd, child_number, split_mass, refilled}
 use Rattle.amr_def.specs.Facts.{IsLevel, IsNestedLevel}
 use Rattle.amr_def.proofs.LevelLists.{IsCellInside, HasAllChildren, IsSyncedPair, child_0, child_1, child_2, child_3}
 use Rattle.amr_def.proofs.Values.{same_cell}
@@ -88,19 +88,19 @@ odd-double_next z = omega (arith, ints, half_and_odd (z +ℤ z +ℤ pos 1), half
 -- ---- the shares of the four children
 
 module _ (coarse : Masses) (c : Cell) where
-  shared : (q : Cell) (i j : ℕ) → parent q ≡ c → odd q.x ≡ i → odd q.y ≡ j → split_mass coarse q ≡ share (mass_of coarse c) (2 * j + i)
-  shared q i j e ex ey = ap (λ (k : Cell). share (mass_of coarse k) (child_number q)) e ∙ ap (λ (t : ℕ). share (mass_of coarse c) (2 * t + odd q.x)) ey ∙ ap (λ (t : ℕ). share (mass_of coarse c) (2 * j + t)) ex
+  shared : (q : Cell) (i j : ℕ) → parent q ≡ c → odd q.x ≡ i → odd q.y ≡ j → split_mass coarse q ≡ child_share (mass_of coarse c) (2 * j + i)
+  shared q i j e ex ey = ap (λ (k : Cell). child_share (mass_of coarse k) (child_number q)) e ∙ ap (λ (t : ℕ). child_share (mass_of coarse c) (2 * t + odd q.x)) ey ∙ ap (λ (t : ℕ). child_share (mass_of coarse c) (2 * j + t)) ex
 
-  share_0 : split_mass coarse (child_0 c) ≡ share (mass_of coarse c) 0
+  share_0 : split_mass coarse (child_0 c) ≡ child_share (mass_of coarse c) 0
   share_0 = shared (child_0 c) 0 0 (same_cell (half-double c.x) (half-double c.y)) (odd-double c.x) (odd-double c.y)
 
-  share_1 : split_mass coarse (child_1 c) ≡ share (mass_of coarse c) 1
+  share_1 : split_mass coarse (child_1 c) ≡ child_share (mass_of coarse c) 1
   share_1 = shared (child_1 c) 1 0 (same_cell (half-double_next c.x) (half-double c.y)) (odd-double_next c.x) (odd-double c.y)
 
-  share_2 : split_mass coarse (child_2 c) ≡ share (mass_of coarse c) 2
+  share_2 : split_mass coarse (child_2 c) ≡ child_share (mass_of coarse c) 2
   share_2 = shared (child_2 c) 0 1 (same_cell (half-double c.x) (half-double_next c.y)) (odd-double c.x) (odd-double_next c.y)
 
-  share_3 : split_mass coarse (child_3 c) ≡ share (mass_of coarse c) 3
+  share_3 : split_mass coarse (child_3 c) ≡ child_share (mass_of coarse c) 3
   share_3 = shared (child_3 c) 1 1 (same_cell (half-double_next c.x) (half-double_next c.y)) (odd-double_next c.x) (odd-double_next c.y)
 
 module _ (p : Problem) (l : ℕ) (k : Level) (old : Masses) (bs : List Extent) (klevel : IsLevel p l k) (some : 0 < length bs) (good : AreNewBoxes p (suc l) bs) (surrounds : Surrounds p l k bs) where

@@ -11,7 +11,7 @@ use Rattle.amr_box.specs.Cells.{Extent, in_boxes, parent}
 use Rattle.amr_def.specs.declared.problem.Problem.{Problem}
 use Rattle.amr_def.specs.State.{Masses, Level, no_masses, is_covered, mass_of}
 use Rattle.amr_def.specs.NewBoxes.{first_boxes}
-use Rattle.amr_def.specs.Regrid.{share, child_number, split_mass, refilled, first_masses, rest_of, refill}
+use Rattle.amr_def.specs.Regrid.{child_share, child_number, split_mass, refilled, first_masses, rest_of, refill}
 use Rattle.amr_def.specs.Facts.{IsLevel}
 use Rattle.amr_def.proofs.LevelLists.{HasAllChildren}
 use Rattle.amr_def.proofs.Children.{covered_by}
@@ -86,7 +86,7 @@ refill_count coarse olds ((b ∷ bs) ∷ more) = omega (arith, refill_count (ref
 
 -- ---- bounded
 
-share_at_most : (m k q : ℕ) → m ≤ 4 * q → share m k ≤ q
+share_at_most : (m k q : ℕ) → m ≤ 4 * q → child_share m k ≤ q
 share_at_most m k q h = by_test (nat_lt k (m % 4)) refl
   where
     rest_some : (k r : ℕ) → nat_lt k r ≡ true → 0 < r

@@ -15,7 +15,7 @@ use Rattle.amr_def.specs.Ledger.{first_of}
 use Rattle.amr_def.proofs.Courants.{stable, courant_x_first, courant_x_second, courant_y_first, courant_y_second}
 use Rattle.amr_def.proofs.Ghosts.{LeavesHigh, LeavesLow, flow_leaves_high, flow_leaves_low, four_leave_high, four_leave_low}
 use Rattle.amr_def.proofs.TwoLevels.{refluxed}
-use Rattle.amr_def.proofs.Subcycle.{IsKept, step-kept, cond_none}
+use Rattle.amr_def.proofs.Subcycle.{KeepsLevels, step-kept, cond_none}
 use Rattle.amr_def.proofs.Chain.{Chain}
 use Rattle.amr_def.proofs.Stepping.{masses_in, chain_lists}
 use Rattle.amr_laws.specs.Levels.{AreLevels}
@@ -35,7 +35,7 @@ exact p l ks k old c levels there =
     let r : Stepped = step p l (k.masses ∷ masses_in ks) old in
     by_head r.levels r.fluxes (step-kept p (length (masses_in (k ∷ ks))) l (masses_in (k ∷ ks)) old (stable p) lists.0 lists.1)
   where
-    by_head : (ms : List Masses) (e : Fluxes) → IsKept p l (masses_in (k ∷ ks)) old ms e → pos (mass_of (first_of ms) c) ≡ pos (mass_of k.masses c) +ℤ net e c
+    by_head : (ms : List Masses) (e : Fluxes) → KeepsLevels p l (masses_in (k ∷ ks)) old ms e → pos (mass_of (first_of ms) c) ≡ pos (mass_of k.masses c) +ℤ net e c
     by_head [] e x = absurd x.same
     by_head (m ∷ ms) e x = x.head.exact c there
 

@@ -13,7 +13,7 @@ use Rattle.amr_def.specs.Ledger.{sum_to}
 use Rattle.amr_def.specs.Run.{with_masses}
 use Rattle.amr_def.specs.Facts.{IsSound, growth}
 use Rattle.amr_def.proofs.Courants.{stable, weighs}
-use Rattle.amr_def.proofs.Subcycle.{IsKept, SameCells, plain_covers, step-kept}
+use Rattle.amr_def.proofs.Subcycle.{KeepsLevels, SameCells, plain_covers, step-kept}
 use Rattle.amr_def.proofs.Raise.{IsUpTo}
 use Rattle.amr_def.proofs.Greatest.{AllUpTo, IsRaised, OldUpTo, finer_old, old_more, plain_flows, rise, same_length, step-raises, top_raised, values_up}
 use Rattle.amr_def.proofs.Nesting.{level_inside}
@@ -35,7 +35,7 @@ levels_of p l [] x = tt
 levels_of p l (k ∷ []) x = x
 levels_of p l (k ∷ fine ∷ finer) x = (x.0, x.1, x.2.at, levels_of p (suc l) (fine ∷ finer) x.3)
 
-kept_by_step : (p : Problem) (l : ℕ) (ks : List Level) (old : Masses) → Chain p l ks → IsKept p l (masses_in ks) old (step p l (masses_in ks) old).levels (step p l (masses_in ks) old).fluxes
+kept_by_step : (p : Problem) (l : ℕ) (ks : List Level) (old : Masses) → Chain p l ks → KeepsLevels p l (masses_in ks) old (step p l (masses_in ks) old).levels (step p l (masses_in ks) old).fluxes
 kept_by_step p l ks old x = let lists = chain_lists p l ks x in step-kept p (length (masses_in ks)) l (masses_in ks) old (stable p) lists.0 lists.1
 
 chain_after : (p : Problem) (l : ℕ) (ks : List Level) (old : Masses) → Chain p l ks → Chain p l (after_step p l ks old)

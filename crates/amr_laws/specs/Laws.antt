@@ -12,7 +12,7 @@ use Rattle.amr_def.specs.Flux.{Fluxes, face, low_cell, high_cell, courant, flow,
 use Rattle.amr_def.specs.LevelStep.{effective, Stepped, step, over_finer}
 use Rattle.amr_def.specs.Ledger.{first_of, inflow, outflow}
 use Rattle.amr_def.specs.Laws.{step_fluxes}
-use Rattle.amr_def.specs.Regrid.{share, regrid}
+use Rattle.amr_def.specs.Regrid.{child_share, regrid}
 use Rattle.amr_def.specs.Run.{start, next, finish, run}
 use Rattle.amr_def.specs.Facts.{IsLevel, IsSound, IsHeld}
 use Rattle.amr_def.specs.Plot.{plot}
@@ -73,7 +73,7 @@ RegridKeepsMasses = (p : Problem) (s : State) (l : ℕ) (c : Cell) → IsSome ((
 
 -- what the four children of a cell get is its mass
 abbrev pub SharesAddUp : Type 0
-SharesAddUp = (m : ℕ) → share m 0 + share m 1 + share m 2 + share m 3 ≡ m
+SharesAddUp = (m : ℕ) → child_share m 0 + child_share m 1 + child_share m 2 + child_share m 3 ≡ m
 
 -- ---- a step
 

@@ -9,7 +9,7 @@ ghost use Rattle.amr_patch.specs.Patches.{ArePatchesApart, in_patches};
 ghost use Rattle.amr_patch.specs.Orders.{IsOrderOf};
 ghost use Rattle.amr_faces.specs.Faces.{IsInDomain};
 ghost use Rattle.amr_layout.specs.Surroundings.{IsInRowOrColumn, IsNearFace, LiesBesideLevel, around, edge_count, edge_face, is_coarse_fine};
-ghost use Rattle.amr_gaps.specs.Gaps.{HasStarts, IsGap};
+ghost use Rattle.amr_patch.specs.Gaps.{HasStarts, IsGap};
 ghost use Rattle.amr_layout.specs.Adds.{AreInOrder, HasCellsBeyond, cell_beyond, flow_to, flows_in, flows_of, inflow_faces, is_exchange_face, is_inflow_face, is_outflow_face, number_of, outflow_faces, register_flows, word_of};
 ghost use Rattle.amr_layout.specs.Flows.{IsAtHome, IsToWord, is_coarser, is_inflow, is_outflow, is_outside, is_register, word_in};
 
@@ -21,8 +21,7 @@ use crate::{AddAt, FlowTo};
 use amr_box::{Bx, Cell, Face, parent};
 use amr_causes::NoMemory;
 use amr_def::Problem;
-use amr_gaps::Starts;
-use amr_patch::{Level, Order, Patch};
+use amr_patch::{Level, Order, Patch, Starts};
 use std::alloc::Global;
 
 /// A level with what lies around it.

@@ -9,7 +9,7 @@ ghost use Rattle.amr_patch.specs.Orders.{IsOrderOf};
 ghost use Rattle.amr_faces.specs.Faces.{IsInDomain};
 ghost use Rattle.amr_phase.specs.Plans.{IsPlan, total};
 ghost use Rattle.amr_layout.specs.Surroundings.{around, edge_count};
-ghost use Rattle.amr_gaps.specs.Gaps.{HasStarts};
+ghost use Rattle.amr_patch.specs.Gaps.{HasStarts};
 ghost use Rattle.amr_layout.specs.Places.{border_places, level_borders, puts_of};
 ghost use Rattle.amr_layout.specs.Adds.{HasLedgerAdds, HasRegisterCells, flows_in, flows_of};
 ghost use Rattle.amr_layout.specs.Posts.{AreSmallSizes, Sizes, plan_of};

@@ -7,12 +7,11 @@ ghost use Rattle.amr_def.specs.State.{is_covered};
 ghost use Rattle.amr_patch.specs.Levels.{level_of};
 ghost use Rattle.amr_patch.specs.Patches.{ArePatchesApart, in_patches};
 ghost use Rattle.amr_patch.specs.Orders.{IsHolder, IsOrderOf};
-ghost use Rattle.amr_gaps.specs.Gaps.{HasStarts, IsGap};
+ghost use Rattle.amr_patch.specs.Gaps.{HasStarts, IsGap};
 ghost use Rattle.amr_layout.specs.Surroundings.{IsReachable, finer_masses};
 
 use amr_box::{Bx, Cell};
-use amr_gaps::{Starts, gap_from, is_in_gap};
-use amr_patch::{Level, Order, Patch, find_near};
+use amr_patch::{Level, Order, Patch, Starts, find_near, gap_from, is_in_gap};
 
 /// What the last look-ups among the patches of a level found: the number of a patch, and a box of cells that none of them has.
 #[derive(Clone, Copy)]

@@ -7,7 +7,7 @@ ghost use Rattle.amr_box.specs.Cells.{IsNear};
 ghost use Rattle.amr_def.specs.Domain.{domain_of};
 ghost use Rattle.amr_patch.specs.Patches.{ArePatchesApart};
 ghost use Rattle.amr_patch.specs.Orders.{IsOrderOf};
-ghost use Rattle.amr_gaps.specs.Gaps.{HasStarts, IsGap};
+ghost use Rattle.amr_patch.specs.Gaps.{HasStarts, IsGap};
 ghost use Rattle.amr_layout.specs.Places.{AreEmptyLots, ArePut, borders_of, border_places, leads_on, level_borders};
 
 use crate::PutAt;
@@ -17,8 +17,7 @@ use amr_box::{Bx, Face};
 use amr_causes::NoMemory;
 use amr_def::Dom;
 use amr_faces::{x_end, y_end};
-use amr_gaps::Starts;
-use amr_patch::{Order, Patch};
+use amr_patch::{Order, Patch, Starts};
 use std::alloc::Global;
 
 /// The border faces so far: the puts of each patch, how many places there are, and where the next look-up begins.

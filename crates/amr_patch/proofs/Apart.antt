@@ -9,7 +9,7 @@ use Rattle.std.proofs.lemmas.Bool.{or_right}
 use Rattle.amr_box.specs.declared.Cell.{Cell}
 use Rattle.std.proofs.lemmas.Int.{ints}
 use Rattle.amr_box.specs.Cells.{Extent, IsNear, IsProper, holds, in_boxes}
-use Rattle.amr_patch.specs.Patches.{AreApart, AreNear}
+use Rattle.amr_patch.specs.Patches.{ArePairwiseApart, AreNear}
 use Rattle.amr_patch.proofs.Rows.{is_inside}
 
 -- how many of the boxes hold a cell
@@ -25,10 +25,10 @@ none_hold (b ∷ bs) c h = cases (holds b c) refl (none_hold bs c (λ j d lt. h 
     cases true e rest = absurd (h 0 b (omega arith) e)
     cases false e rest = omega (arith, rest)
 
-tail_apart : (b : Extent) (bs : List Extent) → AreApart (b ∷ bs) → AreApart bs
+tail_apart : (b : Extent) (bs : List Extent) → ArePairwiseApart (b ∷ bs) → ArePairwiseApart bs
 tail_apart b bs h = λ i j d lt l. h (suc i) (suc j) d (omega arith) (omega arith)
 
-pub one_holder : (bs : List Extent) → AreApart bs → (c : Cell) → holders bs c ≤ 1
+pub one_holder : (bs : List Extent) → ArePairwiseApart bs → (c : Cell) → holders bs c ≤ 1
 one_holder [] h c = omega arith
 one_holder (b ∷ bs) h c = cases (holds b c) refl (one_holder bs (tail_apart b bs h) c)
   where
@@ -47,11 +47,11 @@ two_holders (b ∷ bs) c i zero d g lt e f = absurd (omega arith)
 two_holders (b ∷ bs) c zero (suc j) d g lt e f = rw e (omega (arith, some_holder bs c j d (omega arith) f))
 two_holders (b ∷ bs) c (suc i) (suc j) d g lt e f = omega (arith, two_holders bs c i j d (omega arith) (omega arith) e f)
 
-pub apart_by_counts : (bs : List Extent) → ((c : Cell) → holders bs c ≤ 1) → AreApart bs
+pub apart_by_counts : (bs : List Extent) → ((c : Cell) → holders bs c ≤ 1) → ArePairwiseApart bs
 apart_by_counts bs h = λ i j d g lt c e f. let two = two_holders bs c i j d g lt e f in let one = h c in omega (arith, two, one)
 
 -- from any count of the boxes that hold a cell, by what it gives for the empty list and for one box more
-pub apart_from_counts : (count : List Extent → Cell → ℕ) → ((c : Cell) → count [] c ≡ 0) → ((b : Extent) (bs : List Extent) (c : Cell) → count (b ∷ bs) c ≡ cond (holds b c) 1 0 + count bs c) → (bs : List Extent) → ((c : Cell) → count bs c ≤ 1) → AreApart bs
+pub apart_from_counts : (count : List Extent → Cell → ℕ) → ((c : Cell) → count [] c ≡ 0) → ((b : Extent) (bs : List Extent) (c : Cell) → count (b ∷ bs) c ≡ cond (holds b c) 1 0 + count bs c) → (bs : List Extent) → ((c : Cell) → count bs c ≤ 1) → ArePairwiseApart bs
 apart_from_counts count none more bs h = apart_by_counts bs (λ c. omega (arith, same bs c, h c))
   where
     same : (bs : List Extent) (c : Cell) → holders bs c ≡ count bs c
@@ -64,7 +64,7 @@ counted : (bs : List Extent) (c : Cell) → sum_by (λ b. cond (holds b c) 1 0) 
 counted [] c = refl
 counted (b ∷ bs) c = sum_by-cons (λ (e : Extent). cond (holds e c) 1 0) b bs ∙ ap (λ (n : ℕ). cond (holds b c) 1 0 + n) (counted bs c)
 
-pub apart_in_order : (bs es : List Extent) → IsPermutation bs es → AreApart bs → AreApart es
+pub apart_in_order : (bs es : List Extent) → IsPermutation bs es → ArePairwiseApart bs → ArePairwiseApart es
 apart_in_order bs es p h = apart_by_counts es (λ c. omega (arith, counted bs c, counted es c, sum_by-IsPermutation (λ (b : Extent). cond (holds b c) 1 0) bs es p, one_holder bs h c))
 
 -- ---- near boxes

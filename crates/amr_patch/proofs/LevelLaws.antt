@@ -12,7 +12,7 @@ use Rattle.amr_box.specs.Cells.{Extent, cell, holds, in_boxes}
 use Rattle.amr_patch.specs.declared.patches.Patch.{Patch}
 use Rattle.amr_patch.specs.Places.{grown}
 use Rattle.amr_patch.specs.Pairwise.{Pairwise}
-use Rattle.amr_patch.specs.Patches.{AreApart, ArePatchesApart, HasNoFluxes, HasNoMarks, IsBlank, IsCopy, KeepsFrameAndFluxes, SameGhosts, SameOtherValues, box, in_patches, mass_in, masses_in}
+use Rattle.amr_patch.specs.Patches.{ArePairwiseApart, ArePatchesApart, HasNoFluxes, HasNoMarks, IsBlank, IsCopy, KeepsFrameAndFluxes, SameGhosts, SameOtherValues, box, in_patches, mass_in, masses_in}
 use Rattle.amr_patch.specs.declared.lookup.Order.{Order}
 use Rattle.amr_patch.specs.Orders.{AreBoxesInRows, AreInRows, IsHolder, IsOrderOf, comes_first}
 use Rattle.amr_patch.proofs.Rows.{inside, is_inside}
@@ -65,7 +65,7 @@ blank_masses (b ∷ bs) (p ∷ ps) c h = (λ i. cond (holds (h.0.of_box i) c) (S
     either true = refl
     either false = refl
 
-pub blank_apart : (bs : List Extent) (ps : List Patch) → Pairwise IsBlank bs ps → AreApart bs → ArePatchesApart ps
+pub blank_apart : (bs : List Extent) (ps : List Patch) → Pairwise IsBlank bs ps → ArePairwiseApart bs → ArePatchesApart ps
 blank_apart bs ps h apart i j d lt l c p q =
     let n = pairwise_length IsBlank bs ps h in
     let b = pairwise_at IsBlank bs ps i (box d) d h (omega arith) in

@@ -11,3 +11,4 @@ pub mod Apart
 pub mod Conditions
 pub mod Corners
 pub mod BoxEntries
+pub mod GapLaws

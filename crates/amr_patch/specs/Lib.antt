@@ -5,3 +5,4 @@ pub mod Pairwise
 pub mod Levels
 pub mod Meshes
 pub mod BoxRows
+pub mod Gaps

@@ -113,8 +113,8 @@ abbrev pub AreNear : List Extent → Type 0
 AreNear bs = (c : Cell) → IsTrue (in_boxes bs c) → IsNearCell c
 
 -- no cell is in two of the boxes
-abbrev pub AreApart : List Extent → Type 0
-AreApart bs = AllPairs (λ a b. (c : Cell) → IsTrue (holds a c) → IsTrue (holds b c) → ⊥) bs
+abbrev pub ArePairwiseApart : List Extent → Type 0
+ArePairwiseApart bs = AllPairs (λ a b. (c : Cell) → IsTrue (holds a c) → IsTrue (holds b c) → ⊥) bs
 
 -- no cell is in two of the patches
 abbrev pub ArePatchesApart : List Patch → Type 0

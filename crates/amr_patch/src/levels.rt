@@ -32,14 +32,14 @@ impl Level {
     ghost use Rattle.amr_def.specs.State.{no_masses};
     ghost use Rattle.amr_patch.specs.Orders.{AreInRows};
     ghost use Rattle.amr_patch.specs.Pairwise.{Pairwise};
-    ghost use Rattle.amr_patch.specs.Patches.{AreApart, AreNear, HasNoFluxes, HasNoMarks, IsCopy, KeepsFrameAndFluxes, box, masses_in};
+    ghost use Rattle.amr_patch.specs.Patches.{ArePairwiseApart, AreNear, HasNoFluxes, HasNoMarks, IsCopy, KeepsFrameAndFluxes, box, masses_in};
     ghost use Rattle.amr_patch.specs.Levels.{level_of, patches_of};
 
     /// The level of these boxes, whose cells the patch boxes share out, with a patch for each patch box, row by row. All masses
     /// and fluxes are 0, and no ghost cell is marked. No cell is in two of the patch boxes. Coordinates of cells lie between
     /// -2^24 and 2^24.
     pub fn make(alloc: Global, boxes: &[Bx], patch_boxes: &[Bx]) -> Result<Level, NoMemory>
-        requires apart { AreApart patch_boxes.now }
+        requires apart { ArePairwiseApart patch_boxes.now }
         requires near { AreNear boxes.now }
         requires cells { (c : Cell) → in_boxes patch_boxes.now c ≡ in_boxes boxes.now c }
         ensures boxes { IfOk result (λ l. (level_of l).boxes ≡ boxes.now) }

@@ -124,9 +124,9 @@ placed p (suc l) earlier b h =
 
 -- ---- boxes apart
 
-abbrev pub AreApart : List Grid → Type 0
-AreApart [] = Unit {0}
-AreApart (g ∷ gs) = Each (λ k. meets k.box g.box ≡ false) gs × AreApart gs
+abbrev pub AreGridsApart : List Grid → Type 0
+AreGridsApart [] = Unit {0}
+AreGridsApart (g ∷ gs) = Each (λ k. meets k.box g.box ≡ false) gs × AreGridsApart gs
 
 module _ (w : Width) (code : IsCode w (2 ^ 32)) (p : Problem) (n l : ℕ) where
   later_apart : (e : Extent) (earlier : List Extent) (gs : List Grid) → ((b : Extent) → list_any (meets b) earlier ≡ false → meets b e ≡ false) → AreGrids w code p n (suc l) earlier gs → Each (λ k. meets k.box e ≡ false) gs
@@ -136,14 +136,14 @@ module _ (w : Width) (code : IsCode w (2 ^ 32)) (p : Problem) (n l : ℕ) where
     later_apart e (g.box ∷ earlier) gs (λ b none. among b (or_parts (meets b g.box) (list_any (meets b) earlier) none).1) each.1,
   )
 
-  fine_apart : (earlier : List Extent) (gs : List Grid) → AreGrids w code p n (suc l) earlier gs → AreApart gs
+  fine_apart : (earlier : List Extent) (gs : List Grid) → AreGrids w code p n (suc l) earlier gs → AreGridsApart gs
   fine_apart earlier [] each = tt
   fine_apart earlier (g ∷ gs) each = (
     later_apart g.box (g.box ∷ earlier) gs (λ b none. (or_parts (meets b g.box) (list_any (meets b) earlier) none).0) each.1,
     fine_apart (g.box ∷ earlier) gs each.1,
   )
 
-pub apart : (w : Width) (code : IsCode w (2 ^ 32)) (p : Problem) (n l : ℕ) (gs : List Grid) → is_box_count p l (length gs) ≡ true → AreGrids w code p n l [] gs → AreApart gs
+pub apart : (w : Width) (code : IsCode w (2 ^ 32)) (p : Problem) (n l : ℕ) (gs : List Grid) → is_box_count p l (length gs) ≡ true → AreGrids w code p n l [] gs → AreGridsApart gs
 apart w code p n zero [] count each = tt
 apart w code p n zero (g ∷ []) count each = (tt, tt)
 apart w code p n zero (g ∷ h ∷ gs) count each = let one : suc (suc (length gs)) ≡ 1 = eqb-true (suc (suc (length gs))) 1 count in absurd (omega arith)
@@ -154,7 +154,7 @@ apart w code p n (suc l) gs count each = fine_apart w code p n l [] gs each
 abbrev pub Agrees : Masses → List Grid → Type 0
 Agrees m gs = Each (λ g. (c : Cell) → holds g.box c ≡ true → m c ≡ Some (slice_index g.masses (place_in g.box c))) gs
 
-pub agrees : (gs : List Grid) → AreApart gs → Agrees (masses_in gs) gs
+pub agrees : (gs : List Grid) → AreGridsApart gs → Agrees (masses_in gs) gs
 agrees [] h = tt
 agrees (g ∷ gs) h = (
   λ c held. ap (λ (t : Bool). if t then Some (slice_index g.masses (place_in g.box c)) else masses_in gs c) held,
@@ -218,7 +218,7 @@ each_map P f (x ∷ xs) h = (h.0, each_map P f xs h.1)
 abbrev pub HaveNoCommonCell : Extent → Extent → Type 0
 HaveNoCommonCell a b = (c : Cell) → IsTrue (holds a c) → IsTrue (holds b c) → ⊥
 
-all_apart : (gs : List Grid) → AreApart gs → AllPairs HaveNoCommonCell (map (λ g. g.box) gs)
+all_apart : (gs : List Grid) → AreGridsApart gs → AllPairs HaveNoCommonCell (map (λ g. g.box) gs)
 all_apart [] h = λ i j d before inside. absurd (omega arith)
 all_apart (g ∷ gs) h = at (all_apart gs h.1) (all_from (HaveNoCommonCell g.box) (map (λ g. g.box) gs) (each_map (HaveNoCommonCell g.box) (λ g. g.box) gs (others gs h.0)))
   where

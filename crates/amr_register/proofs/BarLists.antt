@@ -22,7 +22,7 @@ use Rattle.amr_def.proofs.LevelLists.{child_0}
 use Rattle.amr_def.proofs.Nesting.{aligned_even, odd_small}
 use Rattle.amr_def.proofs.Nests.{AllEven, IsEven, all_children, half_and_odd}
 use Rattle.amr_patch.specs.Orders.{AreBoxesInRows}
-use Rattle.amr_patch.specs.Patches.{AreApart}
+use Rattle.amr_patch.specs.Patches.{ArePairwiseApart}
 use Rattle.amr_patch.proofs.Apart.{apart_in_order}
 use Rattle.amr_patch.proofs.Rows.{inside, sides}
 use Rattle.amr_register.specs.Bars.{AreBars, IsBar}
@@ -59,7 +59,7 @@ rows_apart b n c h k = let i = inside (first_rows b n) c h in let j = inside (ro
 pub record AddsBox (b : Extent) (old new : List Extent) : Type 0 where
   pub each : All IsBar old → All IsBar new
   pub cells : (c : Cell) → in_boxes new c ≡ (in_boxes old c || holds b c)
-  pub apart : AreApart old → ((c : Cell) → in_boxes old c ≡ true → holds b c ≡ true → ⊥) → AreApart new
+  pub apart : ArePairwiseApart old → ((c : Cell) → in_boxes old c ≡ true → holds b c ≡ true → ⊥) → ArePairwiseApart new
 
 pub no_rows_added : (b : Extent) (rs : List Extent) → AddsBox (first_rows b 0) rs rs
 no_rows_added b rs = record {
@@ -96,7 +96,7 @@ one_row_added b old now new n r done is_row wide is_new =
     none_twice out c (inl h) k = out c h (last c k)
     none_twice out c (inr h) k = rows_apart b n c h k
 
-    apart_from : AreApart old → ((c : Cell) → in_boxes old c ≡ true → holds (first_rows b (n + 1)) c ≡ true → ⊥) → AreApart (now ++ row_at b n ∷ [])
+    apart_from : ArePairwiseApart old → ((c : Cell) → in_boxes old c ≡ true → holds (first_rows b (n + 1)) c ≡ true → ⊥) → ArePairwiseApart (now ++ row_at b n ∷ [])
     apart_from h out =
         all_pairs_push (λ (a e : Extent). (c : Cell) → holds a c ≡ true → holds e c ≡ true → ⊥) now (row_at b n) (done.apart h (λ c i k. out c i (more c k)))
         (λ k d lt c i j. none_twice out c (or_cases (in_boxes old c) (holds (first_rows b n) c) (sym (done.cells c) ∙ list_any_at (λ (e : Extent). holds e c) now k d lt i)) j)
@@ -123,7 +123,7 @@ all_rows_added b old new n near e done = subst (λ (x : Extent). AddsBox x old n
 pub record AreRowsOf (bs rs : List Extent) (n : ℕ) : Type 0 where
   pub each : All IsBar rs
   pub cells : (c : Cell) → in_boxes rs c ≡ in_boxes (take n bs) (child_0 c)
-  pub apart : AreApart rs
+  pub apart : ArePairwiseApart rs
 
 pub no_boxes_yet : (bs rs : List Extent) → rs ≡ [] → AreRowsOf bs rs 0
 no_boxes_yet bs rs e = subst (λ (xs : List Extent). AreRowsOf bs xs 0) (sym e) (record { each = All-nil IsBar; cells = λ c. refl; apart = λ i j d lt l. absurd (omega arith) })
@@ -131,7 +131,7 @@ no_boxes_yet bs rs e = subst (λ (xs : List Extent). AreRowsOf bs xs 0) (sym e) 
 even_of : (e : Extent) → IsAligned 2 e → IsEven e
 even_of e h = aligned_even 2 e refl h
 
-pub one_box_more : (bs old new : List Extent) (n : ℕ) (e b : Extent) → AreApart bs → All (IsAligned 2) bs → AreRowsOf bs old n → n < length bs → e ≡ slice_index_or bs n e → HasCorners b (half e.lo.x) (half e.lo.y) (half e.hi.x) (half e.hi.y) → AddsBox b old new → AreRowsOf bs new (n + 1)
+pub one_box_more : (bs old new : List Extent) (n : ℕ) (e b : Extent) → ArePairwiseApart bs → All (IsAligned 2) bs → AreRowsOf bs old n → n < length bs → e ≡ slice_index_or bs n e → HasCorners b (half e.lo.x) (half e.lo.y) (half e.hi.x) (half e.hi.y) → AddsBox b old new → AreRowsOf bs new (n + 1)
 one_box_more bs old new n e b apart aligned done lt at corners added = record {
   each = added.each done.each;
   cells = λ c.

@@ -5,7 +5,7 @@ use Rattle.std.specs.declared.option.Option.TheVariants.{None, Some}
 use Rattle.std.specs.List.{All}
 use Rattle.amr_box.specs.declared.Cell.{Cell}
 use Rattle.amr_box.specs.Cells.{Extent, holds}
-use Rattle.amr_patch.specs.Patches.{AreApart}
+use Rattle.amr_patch.specs.Patches.{ArePairwiseApart}
 use Rattle.amr_patch.specs.Orders.{AreBoxesInRows}
 use Rattle.amr_register.specs.declared.bars.Stretch.{Stretch}
 
@@ -17,7 +17,7 @@ pub record IsBar (b : Extent) : Type 0 where
 -- bars row by row, within a row by column, no two with a cell in common
 pub record AreBars (rs : List Extent) : Type 0 where
   pub each : All IsBar rs
-  pub apart : AreApart rs
+  pub apart : ArePairwiseApart rs
   pub in_rows : AreBoxesInRows rs
 
 -- a stretch, where one is known: all its cells pass a test, or none of them does

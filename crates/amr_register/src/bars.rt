@@ -6,7 +6,7 @@ ghost use Rattle.std.specs.List.Sorted.{IsPartitionPoint};
 ghost use Rattle.amr_box.specs.declared.Cell.{Cell};
 ghost use Rattle.amr_box.specs.Cells.{Extent, IsNear, cell, extent, height, holds, in_boxes};
 ghost use Rattle.amr_patch.specs.Orders.{comes_first};
-ghost use Rattle.amr_patch.specs.Patches.{AreApart};
+ghost use Rattle.amr_patch.specs.Patches.{ArePairwiseApart};
 ghost use Rattle.amr_register.specs.Bars.{AreBars, IsBar, IsStretch};
 
 use crate::cells::{row_first, row_last};
@@ -38,7 +38,7 @@ pub(crate) fn push_rows(bars: &mut Vec<Bx>, b: &Bx) -> Result<(), NoMemory>
     requires near { IsNear b.now }
     ensures each { OnOk result (All IsBar bars.old.items → All IsBar bars.new.items) }
     ensures cells { OnOk result ((c : Cell) → in_boxes bars.new.items c ≡ (in_boxes bars.old.items c || holds b.now c)) }
-    ensures apart { OnOk result (AreApart bars.old.items → ((c : Cell) → IsTrue (in_boxes bars.old.items c) → IsTrue (holds b.now c) → ⊥) → AreApart bars.new.items) }
+    ensures apart { OnOk result (ArePairwiseApart bars.old.items → ((c : Cell) → IsTrue (in_boxes bars.old.items c) → IsTrue (holds b.now c) → ⊥) → ArePairwiseApart bars.new.items) }
 {
     for j in 0..b.height() {
         bars.push(row_of(b, j))?;

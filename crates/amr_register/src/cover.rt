@@ -26,14 +26,14 @@ impl Cover {
     ghost use Rattle.amr_def.specs.Facts.{IsAligned};
     ghost use Rattle.amr_def.specs.State.{is_covered};
     ghost use Rattle.amr_patch.specs.Levels.{level_of};
-    ghost use Rattle.amr_patch.specs.Patches.{AreApart};
+    ghost use Rattle.amr_patch.specs.Patches.{ArePairwiseApart};
     ghost use Rattle.amr_register.specs.Bars.{IsStretch};
     ghost use Rattle.amr_register.specs.Covers.{covers};
 
     /// The cells that a level covers, whose boxes have all children of a cell or none.
     pub(crate) fn make(alloc: Global, fine: &Level) -> Result<Cover, NoMemory>
         requires near { All IsNear (level_of fine.now).boxes }
-        requires apart { AreApart (level_of fine.now).boxes }
+        requires apart { ArePairwiseApart (level_of fine.now).boxes }
         requires aligned { All (IsAligned 2) (level_of fine.now).boxes }
         requires filled { (c : Cell) → is_some ((level_of fine.now).masses c) ≡ in_boxes (level_of fine.now).boxes c }
         ensures { IfOk result (λ v. (c : Cell) → covers v c ≡ is_covered (level_of fine.now).masses c) }

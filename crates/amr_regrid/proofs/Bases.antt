@@ -19,7 +19,7 @@ use Rattle.amr_patch.specs.Levels.{level_of}
 use Rattle.amr_regrid.specs.declared.masses.Remade.{Remade}
 use Rattle.amr_regrid.specs.declared.masses.Remade.TheVariants.{Kept, Made}
 use Rattle.amr_regrid.specs.Outlines.{IsSoundWith, lists_in, outlines, regridded_boxes, with_levels}
-use Rattle.amr_regrid.specs.Remade.{AreChoppedOrKept, IsChoppedIfMade, IsFilled, remade_levels}
+use Rattle.amr_regrid.specs.Remade.{AreChoppedOrKept, IsChoppedIfMade, HasMassesInBoxes, remade_levels}
 use Rattle.amr_regrid.proofs.OutlineLaws.{same_levels}
 
 pub level_count : (ks : List Level) → length (map level_of ks) ≡ length ks
@@ -54,11 +54,11 @@ module _ (p : Problem) (ks : List Level) (sound : IsSoundWith p ks) where
     pub base_whole : (level_of base).boxes ≡ domain_box (domain p 0) ∷ []
     base_whole = subst (λ (js : List Level). (level_at (with_levels js) 0).boxes ≡ domain_box (domain p 0) ∷ []) parts base_boxes
 
-    pub olds_filled : All IsFilled (map level_of olds)
+    pub olds_filled : All HasMassesInBoxes (map level_of olds)
     olds_filled k d h =
         let inside : suc k < length ks = (let e : length ks ≡ suc (length olds) = ap length parts in omega (arith, e, h, level_count olds)) in
         let level : IsLevel p (suc k) (slice_index_or (map level_of olds) k no_level) = subst (λ (js : List Level). IsLevel p (suc k) (level_at (with_levels js) (suc k))) parts (each_level (suc k) inside) in
-        subst IsFilled (get_or_default (map level_of olds) k no_level d h) (record { at = level.filled })
+        subst HasMassesInBoxes (get_or_default (map level_of olds) k no_level d h) (record { at = level.filled })
 
 -- ---- levels that keep their outlines
 

@@ -15,7 +15,7 @@ use Rattle.amr_def.proofs.Courants.{power_positive, twice_as_many}
 use Rattle.amr_def.proofs.Uncovered.{in_domain-yes}
 use Rattle.amr_tags.specs.Coarse.{IsEvenCorner}
 use Rattle.amr_tags.specs.TagSets.{TagSet, has}
-use Rattle.amr_tags.specs.TagSets.{is_near as is_near_tag}
+use Rattle.amr_tags.specs.TagSets.{is_near_tag}
 use Rattle.amr_regrid.specs.Blocks.{blocks_of}
 use Rattle.amr_regrid.proofs.BlockPlaces.{block_inside}
 use Rattle.amr_regrid.proofs.CellBlocks.{any_box, filter_box, has_cell_1}

@@ -15,7 +15,7 @@ use Rattle.amr_patch.specs.declared.levels.Level.{Level}
 use Rattle.amr_patch.specs.Levels.{level_of}
 use Rattle.amr_regrid.specs.declared.masses.Remade.{Remade}
 use Rattle.amr_regrid.specs.declared.masses.Remade.TheVariants.{Kept, Made}
-use Rattle.amr_regrid.specs.Remade.{IsFilled, Stands, remade_levels}
+use Rattle.amr_regrid.specs.Remade.{HasMassesInBoxes, Stands, remade_levels}
 use Rattle.amr_regrid.proofs.Refilling.{refill_more}
 use Rattle.amr_regrid.proofs.Standing.{kept_masses, next}
 use Rattle.amr_transfer.specs.Shares.{masses_before}
@@ -54,7 +54,7 @@ module _ (m : Masses) (olds : List Level) (boxes more : List (List Extent)) (her
       remade_made olds k r ∙ (λ i. own i ∷ finer i) ∙ ap (λ (os : List defined.Level). record { boxes = here; masses = new } ∷ refill new os more) (rest_levels olds)
       ∙ refill_more m new (map level_of olds) boxes more here parts some filled
 
-  pub kept_step : (old : Level) (rest : List Level) → olds ≡ old ∷ rest → (level_of old).boxes ≡ here → IsFilled (level_of old) → map level_of (remade_levels (drop 1 olds) r) ≡ refill (level_of old).masses (map level_of (drop 1 olds)) more → map level_of (remade_levels olds (Kept ∷ r)) ≡ refill m (map level_of olds) boxes
+  pub kept_step : (old : Level) (rest : List Level) → olds ≡ old ∷ rest → (level_of old).boxes ≡ here → HasMassesInBoxes (level_of old) → map level_of (remade_levels (drop 1 olds) r) ≡ refill (level_of old).masses (map level_of (drop 1 olds)) more → map level_of (remade_levels olds (Kept ∷ r)) ≡ refill m (map level_of olds) boxes
   kept_step old rest is same filled finer =
       let new = (level_of old).masses in
       let tail : drop 1 olds ≡ rest = ap (drop 1) is in
@@ -74,7 +74,7 @@ module _ (p : Problem) (l : ℕ) (k : defined.Level) (boxes more : List (List Ex
   pub made_stands : (old : Masses) (fine : defined.Level) → fine ≡ new_level k.masses old here → (n : ℕ) × Stands p n fine more
   made_stands old fine is = (suc l, subst (λ (j : defined.Level). Stands p (suc l) j more) (sym is) (next p l k boxes more here stands parts some old))
 
-  pub kept_stands : (fine : defined.Level) → fine.boxes ≡ here → IsFilled fine → (n : ℕ) × Stands p n fine more
+  pub kept_stands : (fine : defined.Level) → fine.boxes ≡ here → HasMassesInBoxes fine → (n : ℕ) × Stands p n fine more
   kept_stands fine same filled = made_stands fine.masses fine (level_by fine here _ same (kept_masses k.masses fine here filled same))
 
 -- ---- lists
@@ -93,8 +93,8 @@ pub all_rest : (P : defined.Level → Type 0) (olds : List Level) → All P (map
 all_rest P [] h = h
 all_rest P (o ∷ os) h = λ k d f. h (suc k) d (omega (arith, f))
 
-pub first_filled : (olds rest : List Level) (old : Level) → olds ≡ old ∷ rest → All IsFilled (map level_of olds) → IsFilled (level_of old)
-first_filled olds rest old e h = (subst (λ (os : List Level). All IsFilled (map level_of os)) e h) 0 (level_of old) (omega arith)
+pub first_filled : (olds rest : List Level) (old : Level) → olds ≡ old ∷ rest → All HasMassesInBoxes (map level_of olds) → HasMassesInBoxes (level_of old)
+first_filled olds rest old e h = (subst (λ (os : List Level). All HasMassesInBoxes (map level_of os)) e h) 0 (level_of old) (omega arith)
 
 pub first_rest : (olds : List Level) (k : Level) → slice_get olds 0 ≡ Some k → olds ≡ k ∷ drop 1 olds
 first_rest [] k e = absurd (cc)

@@ -22,8 +22,8 @@ use Rattle.amr_def.proofs.Uncovered.{domain_box_cells}
 use Rattle.amr_laws.proofs.NewLevels.{AreNewBoxes}
 use Rattle.amr_laws.proofs.Refill.{NewFacts, Surrounds, covered_by_boxes, new_facts, new_is_level, new_is_nested, new_level, next_surrounds}
 use Rattle.amr_laws.proofs.SoundRegrid.{new_boxes_count}
-use Rattle.amr_patch.specs.Patches.{AreApart, AreNear, IsNearCell}
-use Rattle.amr_regrid.specs.Remade.{IsFilled, Stands}
+use Rattle.amr_patch.specs.Patches.{ArePairwiseApart, AreNear, IsNearCell}
+use Rattle.amr_regrid.specs.Remade.{HasMassesInBoxes, Stands}
 
 -- ---- the boxes of the next level and those beyond it
 
@@ -46,7 +46,7 @@ module _ (p : Problem) (l : ℕ) (k : Level) (boxes more : List (List Extent)) (
   surrounds : Surrounds p l k here
   surrounds = subst (λ (bs : List (List Extent)). Surrounds p l k (first_boxes bs)) parts (record { at = stands.nested.around })
 
-  pub apart : AreApart here
+  pub apart : ArePairwiseApart here
   apart = good.disjoint
 
   known : suc l + length more ≤ 4
@@ -100,7 +100,7 @@ kept_one (Some m) false v e = cc
 kept_one None true v e = cc
 kept_one None false v e = refl
 
-pub kept_masses : (coarse : Masses) (k : Level) (here : List Extent) → IsFilled k → k.boxes ≡ here → k.masses ≡ refilled coarse k.masses here
+pub kept_masses : (coarse : Masses) (k : Level) (here : List Extent) → HasMassesInBoxes k → k.boxes ≡ here → k.masses ≡ refilled coarse k.masses here
 kept_masses coarse k here filled same =
     λ i c. kept_one (k.masses c) (in_boxes here c) (split_mass coarse c) (filled.at c ∙ ap (λ (bs : List Extent). in_boxes bs c) same) i
 

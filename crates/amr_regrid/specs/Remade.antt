@@ -40,7 +40,7 @@ AreChoppedOrKept max (k ∷ ks) [] = IsChopped max k × AreChoppedOrKept max ks 
 AreChoppedOrKept max (k ∷ ks) (old ∷ olds) = (IsChopped max k ⊎ (outline k ≡ old)) × AreChoppedOrKept max ks olds
 
 -- the masses of a level are those of its boxes' cells
-pub record IsFilled (k : defined.Level) : Type 0 where
+pub record HasMassesInBoxes (k : defined.Level) : Type 0 where
   pub at : (c : Cell) → is_some (k.masses c) ≡ in_boxes k.boxes c
 
 -- new boxes of the levels l + 1 and up, over level l, in which the first of them are nested

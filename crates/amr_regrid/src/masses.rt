@@ -8,11 +8,11 @@ ghost use Rattle.amr_box.specs.Cells.{in_boxes, parent};
 ghost use Rattle.amr_boxlist.specs.Chopped.{chopped};
 ghost use Rattle.amr_def.specs.Regrid.{refill, refilled};
 ghost use Rattle.amr_patch.specs.Levels.{level_of};
-ghost use Rattle.amr_patch.specs.Patches.{AreApart, AreNear};
+ghost use Rattle.amr_patch.specs.Patches.{ArePairwiseApart, AreNear};
 ghost use Rattle.amr_patch.specs.declared.levels.Level.{Level};
 ghost use Rattle.amr_start.specs.PatchBoxes.{IsChopped};
 ghost use Rattle.amr_regrid.specs.Outlines.{lists_in};
-ghost use Rattle.amr_regrid.specs.Remade.{IsChoppedIfMade, IsFilled, Stands, remade_levels};
+ghost use Rattle.amr_regrid.specs.Remade.{IsChoppedIfMade, HasMassesInBoxes, Stands, remade_levels};
 ghost use Rattle.amr_transfer.specs.Shares.{masses_before};
 
 use amr_alike::are_same;
@@ -36,7 +36,7 @@ pub(crate) enum Remade {
 /// The boxes, chopped into patch boxes of at most `max` by `max` cells.
 fn patch_boxes(alloc: Global, boxes: &[Bx], max: u32) -> Result<BoxList, NoMemory>
     requires some { 1 ≤ max }
-    requires apart { AreApart boxes.now }
+    requires apart { ArePairwiseApart boxes.now }
     ensures chopped { IfOk result (λ r. r ≡ flat_map (chopped max) boxes.now) }
     ensures cells { IfOk result (λ r. (c : Cell) → in_boxes r c ≡ in_boxes boxes.now c) }
 {
@@ -60,7 +60,7 @@ fn made<S: Sharing>(
 ) -> Result<Level, NoMemory>
     requires shared { S.may_share sharing.now }
     requires some { 1 ≤ max }
-    requires apart { AreApart boxes.now }
+    requires apart { ArePairwiseApart boxes.now }
     requires near { AreNear boxes.now }
     requires parents { (c : Cell) → IsTrue (in_boxes boxes.now c) → IsSome ((level_of coarse.now).masses (parent c)) }
     ensures level { IfOk result (λ k. level_of k ≡ record { boxes = boxes.now; masses = refilled (level_of coarse.now).masses (masses_before (option_copied old.entry)) boxes.now }) }
@@ -106,7 +106,7 @@ pub(crate) fn refill<S: Sharing>(
 ) -> Result<Vec<Remade>, NoMemory>
     requires shared { S.may_share sharing.now }
     requires stands { (l : ℕ) × Stands p.now l (level_of coarse.now) (lists_in boxes.now) }
-    requires filled { All IsFilled (map level_of olds.now) }
+    requires filled { All HasMassesInBoxes (map level_of olds.now) }
     ensures levels { IfOk result (λ r. map level_of (remade_levels olds.now r.items) ≡ refill (level_of coarse.now).masses (map level_of olds.now) (lists_in boxes.now)) }
     ensures few { IfOk result (λ r. length r.items ≤ length boxes.now) }
     ensures chopped { IfOk result (λ r. All (IsChoppedIfMade p.now.max_grid_size) r.items) }

@@ -11,7 +11,7 @@ use Rattle.amr_box.specs.Cells.{Extent, cell, extent, height, holds, moved, widt
 use Rattle.amr_box.proofs.CellLists.{IsFound, any_in_box, found_in_box}
 use Rattle.amr_box.proofs.Numbers.{side-is}
 use Rattle.amr_tags.specs.Stored.{IsIn}
-use Rattle.amr_tags.specs.TagSets.{TagSet, has, home, is_near, wrapped}
+use Rattle.amr_tags.specs.TagSets.{TagSet, has, home, is_near_tag, wrapped}
 use Rattle.amr_tags.proofs.Neighbours.{split, wrapped-moved}
 use Rattle.amr_tags.proofs.Places.{in_holds, is_in}
 
@@ -24,9 +24,9 @@ pub record IsBeside (t : TagSet) (n : ℕ) (c : Cell) : Type 0 where
   pub step : Cell
   pub short : holds (square_box 1) step ≡ true
   pub there : holds t.bx (home t (moved c step)) ≡ true
-  pub on : is_near t n (home t (moved c step)) ≡ true
+  pub on : is_near_tag t n (home t (moved c step)) ≡ true
 
-pub near-more : (t : TagSet) (n : ℕ) (c : Cell) → holds t.bx c ≡ true → is_near t (n + 1) c ≡ true → IsBeside t n c
+pub near-more : (t : TagSet) (n : ℕ) (c : Cell) → holds t.bx c ≡ true → is_near_tag t (n + 1) c ≡ true → IsBeside t n c
 near-more t n c inside near = go (found_in_box (λ o. has t (home t (moved c o))) (square_box (n + 1)) near)
   where
     here : IsIn t.bx c
@@ -53,10 +53,10 @@ near-more t n c inside near = go (found_in_box (λ o. has t (home t (moved c o))
           on = any_in_box (λ o. has t (home t (moved (home t (moved c (cell x.first y.first))) o))) (square_box n) (cell x.rest y.rest) (in_holds (square_box n) (cell x.rest y.rest) x.rest_low x.rest_high y.rest_low y.rest_high) (ap (has t) same ∙ f.passes);
         }
 
-pub near-joined : (t : TagSet) (n : ℕ) (c e : Cell) → 0 < width t.bx → 0 < height t.bx → holds (square_box 1) e ≡ true → is_near t n (home t (moved c e)) ≡ true → is_near t (n + 1) c ≡ true
+pub near-joined : (t : TagSet) (n : ℕ) (c e : Cell) → 0 < width t.bx → 0 < height t.bx → holds (square_box 1) e ≡ true → is_near_tag t n (home t (moved c e)) ≡ true → is_near_tag t (n + 1) c ≡ true
 near-joined t n c e some_x some_y short near = go (found_in_box (λ o. has t (home t (moved (home t (moved c e)) o))) (square_box n) near)
   where
-    go : IsFound (λ o. has t (home t (moved (home t (moved c e)) o))) (square_box n) → is_near t (n + 1) c ≡ true
+    go : IsFound (λ o. has t (home t (moved (home t (moved c e)) o))) (square_box n) → is_near_tag t (n + 1) c ≡ true
     go f =
         let way = is_in (square_box n) f.at f.inside in
         let first = is_in (square_box 1) e short in
@@ -79,7 +79,7 @@ wrapped-itself true low w z y e a b =
     ap (λ (t : ℤ). low +ℤ int_rem_euclid t (pos w)) is ∙ ap (λ (t : ℕ). low +ℤ pos t) (mod-eq_of_lt small) ∙ omega (arith, ints)
 wrapped-itself false low w z y e a b = e
 
-pub near-none : (t : TagSet) (c : Cell) → holds t.bx c ≡ true → is_near t 0 c ≡ has t c
+pub near-none : (t : TagSet) (c : Cell) → holds t.bx c ≡ true → is_near_tag t 0 c ≡ has t c
 near-none t c inside = or-false (has t (home t (moved c zero_step))) ∙ ap (has t) same
   where
     zero_step : Cell

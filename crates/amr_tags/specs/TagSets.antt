@@ -57,5 +57,5 @@ abbrev pub home : TagSet → Cell → Cell
 home t c = cell (wrapped t.wrap_x t.bx.lo.x (width t.bx) c.x) (wrapped t.wrap_y t.bx.lo.y (height t.bx) c.y)
 
 -- whether a tagged cell is at most n away on both axes, past the end of a periodic axis too
-abbrev pub is_near : TagSet → ℕ → Cell → Bool
-is_near t n c = list_any (λ o. has t (home t (moved c o))) (square n)
+abbrev pub is_near_tag : TagSet → ℕ → Cell → Bool
+is_near_tag t n c = list_any (λ o. has t (home t (moved c o))) (square n)

@@ -4,7 +4,7 @@ ghost use Rattle.std.specs.Prelude.{◌≡◌, false, ℕ, ◌+◌, ◌-◌, ◌
 ghost use Rattle.amr_tags.specs.Bits.{AreRows, bit, bit_of, words_for};
 ghost use Rattle.amr_box.specs.declared.Cell.{Cell};
 ghost use Rattle.amr_box.specs.Cells.{IsNear, height, holds, width};
-ghost use Rattle.amr_tags.specs.TagSets.{has, is_near, tag_set};
+ghost use Rattle.amr_tags.specs.TagSets.{has, is_near_tag, tag_set};
 ghost use Rattle.amr_tags.specs.Grown.{AreBits, after, before, grown_bit, heightened, widened};
 
 use crate::{rows, scan};
@@ -227,7 +227,7 @@ pub fn grow_by(
     requires room { length spare.old.items ≡ length words.old.items }
     ensures rows { AreRows (width b.now) (height b.now) words.new.items }
     ensures room { length spare.new.items ≡ length words.new.items }
-    ensures cells { (c : Cell) → has (tag_set b.now wrap_x wrap_y words.new.items) c ≡ (holds b.now c && is_near (tag_set b.now wrap_x wrap_y words.old.items) n c) }
+    ensures cells { (c : Cell) → has (tag_set b.now wrap_x wrap_y words.new.items) c ≡ (holds b.now c && is_near_tag (tag_set b.now wrap_x wrap_y words.old.items) n c) }
 {
     let width = b.width() as usize;
     let height = b.height() as usize;

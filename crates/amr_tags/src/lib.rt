@@ -6,7 +6,7 @@ ghost use Rattle.amr_box.specs.Cells.{IsNear, cells_of, has_child_where, holds, 
 ghost use Rattle.amr_box.specs.declared.Cell.{Cell};
 ghost use Rattle.amr_tags.specs.Bits.{words_for};
 ghost use Rattle.amr_tags.specs.Coarse.{IsEvenCorner};
-ghost use Rattle.amr_tags.specs.TagSets.{IsLaidOut, IsLeastBox, SameShape, has, is_near};
+ghost use Rattle.amr_tags.specs.TagSets.{IsLaidOut, IsLeastBox, SameShape, has, is_near_tag};
 
 mod coarsen;
 mod edges;
@@ -151,7 +151,7 @@ impl Tags {
     /// problem's buffer, 0 to 8 cells, but any `n` is allowed, and the time grows with `n`.
     pub fn grow(&mut self, n: u32)
         ensures shape { SameShape self.old self.new }
-        ensures cells { (c : Cell) → has self.new c ≡ (holds self.old.bx c && is_near self.old n c) }
+        ensures cells { (c : Cell) → has self.new c ≡ (holds self.old.bx c && is_near_tag self.old n c) }
     {
         let bx = self.bx;
         grow::grow_by(

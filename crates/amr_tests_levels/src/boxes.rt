@@ -2,7 +2,7 @@
 
 ghost use Rattle.std.specs.Prelude.{◌≡◌, ◌≤◌, ◌<◌, ◌+◌, ◌≤ℤ◌, [], ◌∷◌, pos};
 ghost use Rattle.amr_box.specs.Cells.{IsNear, cell, extent};
-ghost use Rattle.amr_patch.specs.Patches.{AreApart, AreNear};
+ghost use Rattle.amr_patch.specs.Patches.{ArePairwiseApart, AreNear};
 
 use amr_box::{Bx, Cell};
 
@@ -27,7 +27,7 @@ pub(crate) fn side_by_side(west: u8, middle: u8, east: u8, north: u8) -> [Bx; 2]
     requires left { west ≤ middle }
     requires right { middle < east }
     ensures are { result ≡ extent (cell (pos west) (pos 0)) (cell (pos middle) (pos north)) ∷ extent (cell (pos (middle + 1)) (pos 0)) (cell (pos east) (pos north)) ∷ [] }
-    ensures apart { AreApart result }
+    ensures apart { ArePairwiseApart result }
     ensures near { AreNear result }
 {
     let (first, last) = (i32::from(west), i32::from(east));

@@ -15,12 +15,11 @@ ghost use Rattle.amr_tests_levels.specs.TwoRuns.{AreCopiesOf, AreOuterOf};
 use crate::frames::{are_of_level, cell, ghost_at, patch, set};
 use amr_causes::NoMemory;
 use amr_def::{Problem, Sides};
-use amr_gaps::starts_of;
 use amr_ghost::{
     FrameCopy, FrameParts, FramePlan, Message, OuterGhosts, Span, fill_run, pack_messages,
     part_frames, plan_frames,
 };
-use amr_patch::{Patch, order_of};
+use amr_patch::{Patch, order_of, starts_of};
 use amr_samples::problem;
 use std::alloc::Global;
 use std::test::Fail;

@@ -2,9 +2,8 @@
 
 use crate::frames::{are_of_level, cell, ghost_at, patch, set};
 use amr_def::{Problem, Sides};
-use amr_gaps::starts_of;
 use amr_ghost::{fill_planned, plan_frames_in_threads};
-use amr_patch::{Patch, order_of};
+use amr_patch::{Patch, order_of, starts_of};
 use amr_samples::problem;
 use std::alloc::Global;
 use std::test::Fail;

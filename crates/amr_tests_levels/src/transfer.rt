@@ -4,7 +4,7 @@ ghost use Rattle.std.specs.Prelude.{◌≡◌, [], ◌∷◌, pos, is_some, IfOk
 ghost use Rattle.amr_box.specs.declared.Cell.{Cell};
 ghost use Rattle.amr_box.specs.Cells.{cell, extent, in_boxes};
 ghost use Rattle.amr_patch.specs.Levels.{level_of};
-ghost use Rattle.amr_patch.specs.Patches.{AreApart, AreNear};
+ghost use Rattle.amr_patch.specs.Patches.{ArePairwiseApart, AreNear};
 
 use crate::boxes::side_by_side;
 use amr_box::{Bx, Cell};
@@ -15,7 +15,7 @@ use std::alloc::Global;
 
 /// The level of these boxes, each of them a patch, where each mass is 0.
 fn empty_level(alloc: Global, boxes: &[Bx]) -> Result<Level, NoMemory>
-    requires apart { AreApart boxes.now }
+    requires apart { ArePairwiseApart boxes.now }
     requires near { AreNear boxes.now }
     ensures boxes { IfOk result (λ l. (level_of l).boxes ≡ boxes.now) }
     ensures cells { IfOk result (λ l. (c : Cell) → is_some ((level_of l).masses c) ≡ in_boxes boxes.now c) }

@@ -21,7 +21,7 @@ use Rattle.amr_def.specs.Ledger.{below_zero, if_open}
 use Rattle.amr_laws.specs.Sides.{inflow_beside, is_uncovered, outflow_beside, x_beside, y_beside}
 use Rattle.amr_def.proofs.Totals.{number_small}
 use Rattle.amr_faces.proofs.Reciprocals.{share_within}
-use Rattle.amr_advance.specs.Shown.{StepFits}
+use Rattle.amr_advance.specs.Shown.{LevelStepFits}
 
 no_mass : (t : Bool) (o : Option ℕ) → o ≡ cond t (Some 0) None → (d : ℕ) → d ≡ 0 → unwrap_or o d ≡ 0
 no_mass true o e d z = ap (λ (x : Option ℕ). unwrap_or x d) e
@@ -79,7 +79,7 @@ module _ (p : Problem) (m : Masses) (test : Cell → Bool) (x_sides : p.x_sides 
   sum_none : (c : Cell) → pos (mass_of m c) +ℤ net (flux_at p 0 m no_masses) c ≡ pos 0
   sum_none c = λ i. pos (no_mass_of c i) +ℤ no_net c i
 
-  pub empty_fits : StepFits p 0 m no_masses
+  pub empty_fits : LevelStepFits p 0 m no_masses
   empty_fits = record {
     values = λ c. omega (arith, no_value c);
     fluxes = λ f. subst (λ z. unsigned_abs z < 2 ^ 31) (sym (no_flux f)) (omega arith);

@@ -9,7 +9,7 @@ use Rattle.amr_box.specs.declared.Cell.{Cell}
 use Rattle.amr_box.specs.Cells.{Extent, HasCorners, IsNear, cell, half, parent}
 use Rattle.amr_box.proofs.CellEquality.{same_cell}
 use Rattle.amr_box.proofs.Numbers.{half_le}
-use Rattle.amr_def.specs.Regrid.{odd, share, split_mass}
+use Rattle.amr_def.specs.Regrid.{odd, child_share, split_mass}
 use Rattle.amr_def.specs.State.{Masses, mass_of}
 use Rattle.amr_def.proofs.Nests.{half_and_odd}
 use Rattle.amr_def.proofs.Nesting.{half_ahead, odd_small}
@@ -21,12 +21,12 @@ odd_ahead z k = omega (arith, ints, half_and_odd z, half_and_odd (z +ℤ pos k),
 
 -- the share of a cell of a row, by the masses of the parents of the row
 pub share_is : (coarse : Masses) (c : Cell) (parents : List ℕ) (k : ℕ) → ((j : ℕ) → j < length parents → coarse (cell ((parent c).x +ℤ pos j) (parent c).y) ≡ Some (slice_index parents j)) → (odd c.x + k) / 2 < length parents
-    → share (slice_index parents ((odd c.x + k) / 2)) (2 * odd c.y + (odd c.x + k) % 2) ≡ split_mass coarse (cell (c.x +ℤ pos k) c.y)
+    → child_share (slice_index parents ((odd c.x + k) / 2)) (2 * odd c.y + (odd c.x + k) % 2) ≡ split_mass coarse (cell (c.x +ℤ pos k) c.y)
 share_is coarse c parents k masses lt =
     let at : mass_of coarse (cell (half (c.x +ℤ pos k)) (half c.y)) ≡ slice_index parents ((odd c.x + k) / 2) =
     ap (λ (z : ℤ). mass_of coarse (cell z (half c.y))) (half_ahead c.x k) ∙ ap (λ (o : Option ℕ). unwrap_or o 0) (masses ((odd c.x + k) / 2) lt) in
-    ap (λ (m : ℕ). share m (2 * odd c.y + (odd c.x + k) % 2)) (sym at)
-    ∙ ap (λ (n : ℕ). share (mass_of coarse (cell (half (c.x +ℤ pos k)) (half c.y))) (2 * odd c.y + n)) (sym (odd_ahead c.x k))
+    ap (λ (m : ℕ). child_share m (2 * odd c.y + (odd c.x + k) % 2)) (sym at)
+    ∙ ap (λ (n : ℕ). child_share (mass_of coarse (cell (half (c.x +ℤ pos k)) (half c.y))) (2 * odd c.y + n)) (sym (odd_ahead c.x k))
 
 -- ---- children
 
@@ -40,11 +40,11 @@ pub parent_child : (c : Cell) (i j : ℕ) → i ≤ 1 → j ≤ 1 → parent (ce
 parent_child c i j h k = same_cell (half_child c.x i h) (half_child c.y j k)
 
 -- the share of a child
-pub share_child : (coarse : Masses) (c : Cell) (i j : ℕ) → i ≤ 1 → j ≤ 1 → split_mass coarse (cell (c.x +ℤ c.x +ℤ pos i) (c.y +ℤ c.y +ℤ pos j)) ≡ share (mass_of coarse c) (2 * j + i)
+pub share_child : (coarse : Masses) (c : Cell) (i j : ℕ) → i ≤ 1 → j ≤ 1 → split_mass coarse (cell (c.x +ℤ c.x +ℤ pos i) (c.y +ℤ c.y +ℤ pos j)) ≡ child_share (mass_of coarse c) (2 * j + i)
 share_child coarse c i j h k =
-    ap (λ (d : Cell). share (mass_of coarse d) (2 * odd (c.y +ℤ c.y +ℤ pos j) + odd (c.x +ℤ c.x +ℤ pos i))) (parent_child c i j h k)
-    ∙ ap (λ (n : ℕ). share (mass_of coarse c) (2 * n + odd (c.x +ℤ c.x +ℤ pos i))) (odd_child c.y j k)
-    ∙ ap (λ (n : ℕ). share (mass_of coarse c) (2 * j + n)) (odd_child c.x i h)
+    ap (λ (d : Cell). child_share (mass_of coarse d) (2 * odd (c.y +ℤ c.y +ℤ pos j) + odd (c.x +ℤ c.x +ℤ pos i))) (parent_child c i j h k)
+    ∙ ap (λ (n : ℕ). child_share (mass_of coarse c) (2 * n + odd (c.x +ℤ c.x +ℤ pos i))) (odd_child c.y j k)
+    ∙ ap (λ (n : ℕ). child_share (mass_of coarse c) (2 * j + n)) (odd_child c.x i h)
 
 -- ---- parents of a near box
 

@@ -5,7 +5,7 @@ ghost use Rattle.std.specs.Option.{option_copied};
 ghost use Rattle.std.specs.List.{All};
 ghost use Rattle.amr_box.specs.declared.Cell.{Cell};
 ghost use Rattle.amr_box.specs.Cells.{cell, holds, in_boxes, parent};
-ghost use Rattle.amr_def.specs.Regrid.{refilled, share, split_mass};
+ghost use Rattle.amr_def.specs.Regrid.{refilled, child_share, split_mass};
 ghost use Rattle.amr_def.specs.State.{children_mass, mass_of};
 ghost use Rattle.amr_patch.specs.Levels.{level_of, patches_of};
 ghost use Rattle.amr_patch.specs.Pairwise.{Pairwise};
@@ -22,8 +22,8 @@ use amr_box::{Cell, parent};
 use amr_patch::{Level, Order, Patch, find_near, order_of};
 
 /// What child `k` gets of its parent's mass: a quarter, and one more for the first of the four.
-fn share(mass: u32, k: u32) -> u32
-    ensures { result ≡ share mass k }
+fn child_share(mass: u32, k: u32) -> u32
+    ensures { result ≡ child_share mass k }
 {
     if k < mass % 4 { mass / 4 + 1 } else { mass / 4 }
 }
@@ -35,11 +35,11 @@ fn share_row(parents: &[u32], first: usize, row: usize, shares: &mut [u32])
     requires row { row ≤ 1 }
     requires small { length shares.old ≤ 256 }
     requires enough { first + length shares.old ≤ 2 * length parents.now }
-    ensures { (k : ℕ) → k < length shares.new → slice_index shares.new k ≡ share (slice_index parents.now ((first + k) / 2)) (2 * row + (first + k) % 2) }
+    ensures { (k : ℕ) → k < length shares.new → slice_index shares.new k ≡ child_share (slice_index parents.now ((first + k) / 2)) (2 * row + (first + k) % 2) }
 {
     for k in 0..shares.len() {
         let place = first + k;
-        shares[k] = share(parents[place / 2], (2 * row + place % 2) as u32);
+        shares[k] = child_share(parents[place / 2], (2 * row + place % 2) as u32);
     }
 }
 

@@ -6,7 +6,7 @@ ghost use Rattle.std.specs.Option.{unwrap_or};
 ghost use Rattle.std.specs.List.{All};
 ghost use Rattle.amr_box.specs.Cells.{IsNear, holds};
 ghost use Rattle.amr_box.specs.declared.Cell.{Cell};
-ghost use Rattle.amr_def.specs.Regrid.{child_number, first_masses, odd, refill, refilled, rest_of, share, split_mass};
+ghost use Rattle.amr_def.specs.Regrid.{child_number, first_masses, odd, refill, refilled, rest_of, child_share, split_mass};
 ghost use Rattle.amr_witness.specs.Maps.{levels_of, masses_of, old_of};
 ghost use Rattle.amr_witness.specs.Ready.{HasMasses};
 ghost use Rattle.amr_regrid.specs.Outlines.{lists_in};
@@ -19,8 +19,8 @@ use std::alloc::Global;
 use std::collections::BTreeMap;
 
 /// The share of child `k` of a parent of mass `m`.
-fn share(m: u64, k: u64) -> u64
-    ensures { result ≡ share m k }
+fn child_share(m: u64, k: u64) -> u64
+    ensures { result ≡ child_share m k }
 {
     m / 4 + u64::from(k < m % 4)
 }
@@ -44,7 +44,7 @@ fn split_mass(coarse: &Masses, c: Cell) -> u64
     ensures { result ≡ split_mass (masses_of coarse.now) c }
 {
     let mass = mass_in(coarse, parent(c)).unwrap_or(0);
-    share(mass, child_number(c))
+    child_share(mass, child_number(c))
 }
 
 /// The mass of a cell of new boxes: the one that it had on the level, or its share.

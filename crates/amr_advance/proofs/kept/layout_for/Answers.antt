@@ -7,12 +7,12 @@ use Rattle.amr_def.specs.State.{Masses}
 use Rattle.amr_ghost.specs.Frames.{old_masses}
 use Rattle.amr_patch.specs.Patches.{masses_in}
 use Rattle.amr_advance.specs.declared.kept.KeptLayout.{KeptLayout}
-use Rattle.amr_advance.specs.Kept.{IsCurrent, IsValued}
+use Rattle.amr_advance.specs.Kept.{IsCurrentLayout, IsValued}
 use Rattle.amr_advance.proofs.kept.layout_for.Goals as goal
 
 -- what is of any masses is of these
-of_these : {E : Type 0} (r : Result KeptLayout E) (m : Masses) → IfOk r (λ k. (M : Masses) → IsCurrent M k) → IfOk r (IsCurrent m)
-of_these r m h = IfOk-weaker r (λ k. (M : Masses) → IsCurrent M k) (IsCurrent m) (λ k all. all m) h
+of_these : {E : Type 0} (r : Result KeptLayout E) (m : Masses) → IfOk r (λ k. (M : Masses) → IsCurrentLayout M k) → IfOk r (IsCurrentLayout m)
+of_these r m h = IfOk-weaker r (λ k. (M : Masses) → IsCurrentLayout M k) (IsCurrentLayout m) (λ k all. all m) h
 
 valued_for : {E : Type 0} (r : Result KeptLayout E) (p : Problem) (l : ℕ) (m : Masses) → IfOk r (λ k. (q : Problem) (n : ℕ) (old : Masses) → IsValued q n old k) → IfOk r (IsValued p l m)
 valued_for r p l m h = IfOk-weaker r (λ k. (q : Problem) (n : ℕ) (old : Masses) → IsValued q n old k) (IsValued p l m) (λ k all. all p l m) h

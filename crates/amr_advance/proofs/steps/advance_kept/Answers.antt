@@ -19,7 +19,7 @@ use Rattle.amr_ghost.proofs.Inside.{patches_inside}
 use Rattle.amr_register.specs.declared.register.Register.{Register}
 use Rattle.amr_register.specs.Registers.{HasEdgesOf}
 use Rattle.amr_advance.specs.declared.kept.KeptLayout.{KeptLayout}
-use Rattle.amr_advance.specs.Kept.{IsCurrent, totals_in}
+use Rattle.amr_advance.specs.Kept.{IsCurrentLayout, totals_in}
 use Rattle.amr_advance.specs.Registers.{BothChange, taken}
 use Rattle.amr_advance.specs.Totals.{HasTotals}
 use Rattle.amr_advance.proofs.Advancing.{both_changed, cells_serve, inflow_is, outflow_is, some_may_absorb}
@@ -31,8 +31,8 @@ written_back : (v : Vec Patch) (lent now : List Patch) → length lent ≡ v.len
 written_back v lent now len boxes = with_items_is v now (sym (length-map now box) ∙ ap length boxes ∙ length-map lent box ∙ len)
 
 -- what is kept of their masses is of those of the level that gets them back
-still_current : (kept : Option KeptLayout) (v : Vec Patch) (lent now : List Patch) (m : Masses) → length lent ≡ v.len → map box now ≡ map box lent → m ≡ masses_in (with_items v now).items → IfSome kept (IsCurrent (masses_in now)) → IfSome kept (IsCurrent m)
-still_current kept v lent now m len boxes masses h = subst (λ (n : Masses). IfSome kept (IsCurrent n)) (sym (masses ∙ ap masses_in (written_back v lent now len boxes))) h
+still_current : (kept : Option KeptLayout) (v : Vec Patch) (lent now : List Patch) (m : Masses) → length lent ≡ v.len → map box now ≡ map box lent → m ≡ masses_in (with_items v now).items → IfSome kept (IsCurrentLayout (masses_in now)) → IfSome kept (IsCurrentLayout m)
+still_current kept v lent now m len boxes masses h = subst (λ (n : Masses). IfSome kept (IsCurrentLayout n)) (sym (masses ∙ ap masses_in (written_back v lent now len boxes))) h
 
 pub step_patches-stepped-requires-clause-inside : goal.step_patches-stepped-requires-clause-inside
 step_patches-stepped-requires-clause-inside g c κs within = patches_inside c.args.p.now c.args.l (level_of c.args.level.now) c.deref_mut.result.now c.requires.of_domain (c.take_patches-patches.ensures.masses ∙ ap masses_in (sym c.deref_mut.ensures.value))
@@ -140,7 +140,7 @@ returns-clause-outflow g c =
 
 pub step_patches-stepped-requires-clause-current : goal.step_patches-stepped-requires-clause-current
 step_patches-stepped-requires-clause-current g c κs within =
-    subst (λ (m : Masses). IfSome c.args.kept.now (IsCurrent m)) (c.take_patches-patches.ensures.masses ∙ ap masses_in (sym c.deref_mut.ensures.value)) c.requires.current
+    subst (λ (m : Masses). IfSome c.args.kept.now (IsCurrentLayout m)) (c.take_patches-patches.ensures.masses ∙ ap masses_in (sym c.deref_mut.ensures.value)) c.requires.current
 
 pub returns-clause-current : goal.returns-clause-current
 returns-clause-current g c =

@@ -8,7 +8,7 @@ use Rattle.amr_layout.specs.Surroundings.{around}
 use Rattle.amr_patch.specs.Patches.{box, masses_in}
 use Rattle.amr_register.specs.declared.edges.EdgeCell.{EdgeCell}
 use Rattle.amr_register.specs.EdgeCells.{lists_of}
-use Rattle.amr_advance.specs.Kept.{IsCurrent, totals_kept}
+use Rattle.amr_advance.specs.Kept.{IsCurrentLayout, totals_kept}
 use Rattle.amr_advance.specs.Registers.{AreEdgesFor, AreNetsOf, edges_of}
 use Rattle.amr_advance.proofs.KeptTotals.{kept_count}
 use Rattle.amr_advance.proofs.Parts.{back_unchanged, came_back, edges_for, may_take, nets_taken, on_err, totals_of, unchanged}
@@ -25,7 +25,7 @@ pub layout_for-requires-clause-cells : goal.layout_for-requires-clause-cells
 layout_for-requires-clause-cells g c = λ _ _. c.requires.cells c.args.patches.now refl
 
 pub run_level-run-requires-clause-current : goal.run_level-run-requires-clause-current
-run_level-run-requires-clause-current g c = λ _ _. subst (λ (m : Masses). IsCurrent m c.in_ok-layout.layout) (sym c.fill_frames.ensures.masses) c.in_ok-layout.ensures.current
+run_level-run-requires-clause-current g c = λ _ _. subst (λ (m : Masses). IsCurrentLayout m c.in_ok-layout.layout) (sym c.fill_frames.ensures.masses) c.in_ok-layout.ensures.current
 
 pub run_level-run-requires-clause-edges : goal.run_level-run-requires-clause-edges
 run_level-run-requires-clause-edges g c = λ _ _.

@@ -11,7 +11,7 @@ use Rattle.amr_patch.specs.Levels.{level_of, patches_of}
 use Rattle.amr_patch.specs.Orders.{IsOrderOf}
 use Rattle.amr_patch.specs.Patches.{ArePatchesApart, SameFluxes, masses_in}
 use Rattle.amr_patch.proofs.Standing.{order_of_boxes}
-use Rattle.amr_gaps.specs.Gaps.{HasStarts}
+use Rattle.amr_patch.specs.Gaps.{HasStarts}
 use Rattle.amr_ghost.specs.Frames.{AreInDomain, HasGhostMarks, HasGhostValues, old_masses}
 use Rattle.amr_criterion.specs.Tagged.{is_tagged_in}
 use Rattle.amr_patch.proofs.SameBoxes.{apart_alike}

@@ -1,7 +1,7 @@
 use Rattle.std.proofs.Common.{◌+◌, ◌<◌, length, arith}
 use Rattle.std.specs.Prelude.{IfSome}
 use Rattle.std.proofs.lemmas.List.Elements.{AllWithin-more_set}
-use Rattle.amr_advance.specs.Kept.{IsCurrent as IsCurrentLayout}
+use Rattle.amr_advance.specs.Kept.{IsCurrentLayout}
 use Rattle.amr_cycle.proofs.KeptLaws.{kept_set}
 use Rattle.amr_cycle.proofs.kept.forget_masses.Goals as goal
 

@@ -2,7 +2,7 @@ use Rattle.std.specs.Prelude.{IfSome}
 use Rattle.std.specs.List.{AllWithin}
 use Rattle.amr_def.specs.declared.problem.Problem.{Problem}
 use Rattle.amr_def.specs.State.{Masses}
-use Rattle.amr_advance.specs.Kept.{IsCurrent as IsCurrentLayout}
+use Rattle.amr_advance.specs.Kept.{IsCurrentLayout}
 use Rattle.amr_cycle.specs.Kept.{AreKept}
 use Rattle.amr_cycle.proofs.kept.forget_masses.Given as goal
 

@@ -2,7 +2,7 @@ use Rattle.std.proofs.Common.{subst}
 use Rattle.std.specs.Prelude.{IfSome}
 use Rattle.std.specs.declared.option.Option.{Option}
 use Rattle.amr_advance.specs.declared.kept.KeptLayout.{KeptLayout}
-use Rattle.amr_advance.specs.Kept.{IsKept as IsKeptLayout, IsValued}
+use Rattle.amr_advance.specs.Kept.{IsKeptLayout, IsValued}
 use Rattle.amr_cycle.proofs.kept.forget_masses_of.Goals as goal
 
 pub returns-in-Some-clause-kept : goal.returns-in-Some-clause-kept

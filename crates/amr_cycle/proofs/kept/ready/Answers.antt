@@ -2,7 +2,7 @@ use Rattle.std.proofs.Common.{subst}
 use Rattle.std.specs.Prelude.{IfSome}
 use Rattle.std.specs.declared.option.Option.{Option}
 use Rattle.amr_advance.specs.declared.kept.KeptLayout.{KeptLayout}
-use Rattle.amr_advance.specs.Kept.{IsCurrent as IsCurrentLayout, IsKept as IsKeptLayout}
+use Rattle.amr_advance.specs.Kept.{IsCurrentLayout, IsKeptLayout}
 use Rattle.amr_cycle.proofs.kept.ready.Goals as goal
 
 pub returns-then-again-clause-valued : goal.returns-then-again-clause-valued

@@ -7,8 +7,8 @@ use Rattle.amr_def.specs.Facts.{IsLevel}
 use Rattle.amr_def.specs.State.{Level}
 use Rattle.amr_register.specs.declared.register.Register.{Register}
 use Rattle.amr_advance.specs.Registers.{BothChange, HasCoarser, HasFiner, taken}
-use Rattle.amr_advance.specs.Kept.{IsCurrent}
-use Rattle.amr_advance.specs.Shown.{StepFits}
+use Rattle.amr_advance.specs.Kept.{IsCurrentLayout}
+use Rattle.amr_advance.specs.Shown.{LevelStepFits}
 use Rattle.amr_box.specs.Cells.{Extent}
 use Rattle.amr_patch.specs.declared.levels.Level.{Level as Held}
 use Rattle.amr_patch.specs.Levels.{level_of, patches_of}
@@ -36,7 +36,7 @@ advance_kept-requires-clause-of_domain g c κs within =
 
 pub advance_kept-requires-clause-fits : goal.advance_kept-requires-clause-fits
 advance_kept-requires-clause-fits g c κs within =
-    subst (λ (k : Level). StepFits c.args.given.now.problem.now c.args.given.now.level k.masses (old_masses (option_copied c.args.given.now.old))) (sym c.below_for.ensures.level)
+    subst (λ (k : Level). LevelStepFits c.args.given.now.problem.now c.args.given.now.level k.masses (old_masses (option_copied c.args.given.now.old))) (sym c.below_for.ensures.level)
     (coarse_fits c.args.given.now.problem.now c.args.given.now.level (level_of c.args.level.now) (level_of c.args.next.now) (old_masses (option_copied c.args.given.now.old)) c.requires.part)
 
 pub advance_kept-requires-clause-coarser : goal.advance_kept-requires-clause-coarser
@@ -64,7 +64,7 @@ advance_kept-requires-clause-outflow g c κs within = rw c.below_for.ensures.lev
 
 pub advance_kept-requires-clause-current : goal.advance_kept-requires-clause-current
 advance_kept-requires-clause-current g c κs within =
-    subst (λ (k : Level). IfSome c.below_for.new.own.layout (IsCurrent k.masses)) (sym c.below_for.ensures.level) (c.below_for.ensures.current (level_of c.args.level.now).masses c.requires.current)
+    subst (λ (k : Level). IfSome c.below_for.new.own.layout (IsCurrentLayout k.masses)) (sym c.below_for.ensures.level) (c.below_for.ensures.current (level_of c.args.level.now).masses c.requires.current)
 
 pub advance_kept-requires-clause-valued : goal.advance_kept-requires-clause-valued
 advance_kept-requires-clause-valued g c κs within = c.below_for.ensures.valued c.args.given.now.level (old_masses (option_copied c.args.given.now.old)) c.requires.valued

@@ -5,7 +5,7 @@ use Rattle.amr_codec.specs.MassWidths.{width_of}
 use Rattle.amr_patch.proofs.Standing.{order_of_boxes}
 use Rattle.amr_payload.specs.Tests as tests
 use Rattle.amr_decoder.specs.declared.grid.Grid.{Grid}
-use Rattle.amr_decoder.specs.Filled.{AreFilled, IsPlaced}
+use Rattle.amr_decoder.specs.Filled.{AreGridsSet, IsPlaced}
 use Rattle.amr_decoder.specs.Grids.{grid_of}
 use Rattle.amr_patch.proofs.SameBoxes.{apart_alike, in_same_boxes}
 use Rattle.amr_decoder.proofs.Filling.{box_filled}
@@ -38,7 +38,7 @@ loop-grid-preserved c =
     let i = c.loop-grid.grid-index in
     let g = c.grid-item.result in
     let f : Grid → tests.Grid = grid_of w bytes in
-    subst (λ (vs : List tests.Grid). AreFilled vs c.args.patches.now c.fill_box.new.patches) (one_more f gs i g c.loop-grid-test.true c.grid-item.is)
+    subst (λ (vs : List tests.Grid). AreGridsSet vs c.args.patches.now c.fill_box.new.patches) (one_more f gs i g c.loop-grid-test.true c.grid-item.is)
     (box_filled (map f (take i gs)) (f g) c.args.patches.now c.loop-grid.patches c.fill_box.new.patches
     (λ d before held. apart_before gs i g d c.requires.disjoint c.loop-grid-test.true c.grid-item.is (ap (λ (bs : List Extent). in_boxes bs d) (sym (boxes_of_grids w bytes (take i gs))) ∙ before) held)
     c.loop-grid.invariant c.in_ok-fill_box.ensures)

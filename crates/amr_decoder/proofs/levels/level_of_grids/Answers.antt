@@ -8,7 +8,7 @@ use Rattle.amr_def.specs.Facts.{IsAligned, IsLevel}
 use Rattle.amr_def.specs.State as defined
 use Rattle.amr_patch.specs.declared.levels.Level.{Level}
 use Rattle.amr_patch.specs.Levels.{level_of}
-use Rattle.amr_patch.specs.Patches.{AreApart, AreNear}
+use Rattle.amr_patch.specs.Patches.{ArePairwiseApart, AreNear}
 use Rattle.amr_payload.specs.Tests as tests
 use Rattle.amr_decoder.specs.Filled.{IsPlaced}
 use Rattle.amr_decoder.specs.Grids.{grid_of}
@@ -21,7 +21,7 @@ make_level-requires-clause-some c = omega (arith, c.args.p.now.limits.least_max_
 
 pub make_level-requires-clause-disjoint : goal.make_level-requires-clause-disjoint
 make_level-requires-clause-disjoint c =
-    subst (λ (bs : List Extent). AreApart bs) (level_boxes (width_of c.args.kind.width) c.args.bytes.now c.args.grids.now) c.requires.read.level.disjoint
+    subst (λ (bs : List Extent). ArePairwiseApart bs) (level_boxes (width_of c.args.kind.width) c.args.bytes.now c.args.grids.now) c.requires.read.level.disjoint
 
 pub make_level-requires-clause-near : goal.make_level-requires-clause-near
 make_level-requires-clause-near c =

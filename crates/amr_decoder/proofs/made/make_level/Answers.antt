@@ -16,7 +16,7 @@ use Rattle.amr_patch.specs.Levels.{level_of, patches_of}
 use Rattle.amr_patch.specs.Orders.{IsOrderOf}
 use Rattle.amr_patch.specs.Patches.{ArePatchesApart, box, in_patches, masses_in}
 use Rattle.amr_patch.proofs.Standing.{order_of_boxes}
-use Rattle.amr_decoder.specs.Filled.{AreFilled}
+use Rattle.amr_decoder.specs.Filled.{AreGridsSet}
 use Rattle.amr_decoder.specs.Grids.{boxes_of, grid_of}
 use Rattle.amr_patch.proofs.SameBoxes.{apart_alike}
 use Rattle.amr_decoder.proofs.GridBoxes.{in_from_some, made_level}
@@ -60,7 +60,7 @@ returns-clause-level c =
     let ps = c.take_patches-patches.result.items in
     let new = c.fill_boxes.new.patches in
     let items = with_items_is c.take_patches-patches.result new (c.fill_boxes.auto.patches ∙ c.deref_mut.ensures.len) in
-    let filled : AreFilled (map (grid_of w bytes) gs) ps new = subst (λ (qs : List Patch). AreFilled (map (grid_of w bytes) gs) qs new) c.deref_mut.ensures.value c.in_ok-fill_boxes.ensures in
+    let filled : AreGridsSet (map (grid_of w bytes) gs) ps new = subst (λ (qs : List Patch). AreGridsSet (map (grid_of w bytes) gs) qs new) c.deref_mut.ensures.value c.in_ok-fill_boxes.ensures in
     let blank : (d : Cell) → masses_in ps d ≡ cond {A = Option ℕ} (in_boxes (boxes_of gs) d) (Some 0) None = λ d. ap (λ (m : Masses). m d) (sym c.take_patches-patches.ensures.masses) ∙ c.in_ok-level.ensures.masses d in
     let boxes = c.put_patches_in_order.ensures.boxes ∙ c.take_patches-patches.ensures.boxes ∙ c.in_ok-level.ensures.boxes in
     made_level w bytes gs ps new (level_of c.put_patches_in_order.new.self) boxes (c.put_patches_in_order.ensures.masses ∙ ap masses_in items) blank filled

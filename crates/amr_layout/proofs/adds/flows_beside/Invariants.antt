@@ -3,7 +3,7 @@ use Rattle.std.specs.Option.{option_copied}
 use Rattle.std.specs.List.{All}
 use Rattle.amr_faces.specs.Faces.{passing}
 use Rattle.amr_layout.specs.Surroundings.{around, edge_count, edge_face}
-use Rattle.amr_gaps.specs.Gaps.{IsGap}
+use Rattle.amr_patch.specs.Gaps.{IsGap}
 use Rattle.amr_layout.specs.Adds.{flow_to, is_exchange_face, is_inflow_face, is_outflow_face, word_of}
 use Rattle.amr_layout.proofs.adds.flows_beside.Given as goal
 

@@ -1,7 +1,7 @@
 use Rattle.std.proofs.Common.{◌≡◌, ◌+◌, ◌*◌, ◌<◌, length, map, take}
 use Rattle.std.specs.Option.{option_copied}
 use Rattle.std.specs.List.{All, range_with_len}
-use Rattle.amr_gaps.specs.Gaps.{IsGap}
+use Rattle.amr_patch.specs.Gaps.{IsGap}
 use Rattle.amr_layout.specs.LevelFlowLists.{flows_in_first, level_flows}
 use Rattle.amr_layout.specs.Surroundings.{around}
 use Rattle.amr_layout.proofs.alone.flows_of_run.Given as goal

@@ -6,7 +6,7 @@ use Rattle.std.specs.Global.{Vec}
 use Rattle.amr_patch.specs.Patches.{box}
 use Rattle.amr_layout.specs.declared.PutAt.{PutAt}
 use Rattle.amr_layout.specs.Surroundings.{around}
-use Rattle.amr_gaps.specs.Gaps.{IsGap}
+use Rattle.amr_patch.specs.Gaps.{IsGap}
 use Rattle.amr_layout.specs.Adds.{HasLedgerAdds, flows_in, flows_of}
 use Rattle.amr_layout.proofs.layouts.tasks_of.Given as goal
 

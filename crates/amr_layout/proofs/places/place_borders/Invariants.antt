@@ -1,7 +1,7 @@
 use Rattle.std.proofs.Common.{◌≡◌, map, take}
 use Rattle.std.specs.List.{range_with_len}
 use Rattle.amr_def.specs.Domain.{domain_of}
-use Rattle.amr_gaps.specs.Gaps.{IsGap}
+use Rattle.amr_patch.specs.Gaps.{IsGap}
 use Rattle.amr_layout.specs.Places.{ArePut, border_places, level_borders}
 use Rattle.amr_layout.proofs.places.place_borders.Given as goal
 

@@ -3,7 +3,7 @@ use Rattle.amr_box.specs.declared.Face.{Face}
 use Rattle.amr_box.specs.Cells.{height}
 use Rattle.amr_def.specs.Domain.{domain_of}
 use Rattle.amr_faces.specs.Faces.{passing, x_end, y_end}
-use Rattle.amr_gaps.specs.Gaps.{IsGap}
+use Rattle.amr_patch.specs.Gaps.{IsGap}
 use Rattle.amr_layout.specs.Places.{ArePut, leads_on}
 use Rattle.amr_layout.proofs.places.put_borders.Given as goal
 

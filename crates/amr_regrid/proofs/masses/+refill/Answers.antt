@@ -7,11 +7,11 @@ use Rattle.amr_def.specs.State.{no_masses}
 use Rattle.amr_laws.proofs.Refill.{new_level}
 use Rattle.amr_patch.specs.declared.levels.Level.{Level}
 use Rattle.amr_patch.specs.Levels.{level_of}
-use Rattle.amr_patch.specs.Patches.{AreApart, AreNear}
+use Rattle.amr_patch.specs.Patches.{ArePairwiseApart, AreNear}
 use Rattle.amr_regrid.specs.declared.masses.Remade.{Remade}
 use Rattle.amr_regrid.specs.declared.masses.Remade.TheVariants.{Made}
 use Rattle.amr_regrid.specs.Outlines.{lists_in}
-use Rattle.amr_regrid.specs.Remade.{IsChoppedIfMade, IsFilled, remade_levels}
+use Rattle.amr_regrid.specs.Remade.{IsChoppedIfMade, HasMassesInBoxes, remade_levels}
 use Rattle.amr_regrid.proofs.Refilling.{items_empty, items_some, nil_of, refill_empty, refill_none}
 use Rattle.amr_regrid.proofs.Remaking.{all_more, all_none, all_rest, first_filled, first_is, kept_stands, kept_step, made_stands, made_step, none_remade}
 use Rattle.amr_regrid.proofs.Standing.{apart, near, parents}
@@ -39,7 +39,7 @@ refill-requires g t c κs within =
     let kept = c.in-Some-unchanged.ensures in
     let filled = first_filled olds kept.0 c.in-Some-unchanged.old.now kept.1 c.requires.filled in (
       omega (arith, c.decreases, c.in-Some.ensures.cases.1),
-      (within, (c.requires.shared, (kept_stands c.args.p.now c.requires.stands.0 (level_of c.args.coarse.now) (lists_in c.args.boxes.now) (lists_in c.in-Some.more.now) c.in-Some.here.now.items c.requires.stands.1 (ap lists_in c.in-Some.ensures.cases.0) some (level_of c.in-Some-unchanged.old.now) (kept.2 ∙ slice) filled, subst (λ (os : List Level). All IsFilled (map level_of os)) (sym c.rest_of.ensures) (all_rest IsFilled olds c.requires.filled)))),
+      (within, (c.requires.shared, (kept_stands c.args.p.now c.requires.stands.0 (level_of c.args.coarse.now) (lists_in c.args.boxes.now) (lists_in c.in-Some.more.now) c.in-Some.here.now.items c.requires.stands.1 (ap lists_in c.in-Some.ensures.cases.0) some (level_of c.in-Some-unchanged.old.now) (kept.2 ∙ slice) filled, subst (λ (os : List Level). All HasMassesInBoxes (map level_of os)) (sym c.rest_of.ensures) (all_rest HasMassesInBoxes olds c.requires.filled)))),
     )
 
 pub returns-in-Some-unchanged-clause-levels : goal.returns-in-Some-unchanged-clause-levels
@@ -57,7 +57,7 @@ returns-in-Some-unchanged-clause-levels g t c =
 
 pub made-requires-clause-apart : goal.made-requires-clause-apart
 made-requires-clause-apart g t c =
-    subst (λ (bs : List Extent). AreApart bs) (sym c.as_slice-here.ensures.value)
+    subst (λ (bs : List Extent). ArePairwiseApart bs) (sym c.as_slice-here.ensures.value)
     (apart c.args.p.now c.requires.stands.0 (level_of c.args.coarse.now) (lists_in c.args.boxes.now) (lists_in c.in-Some.more.now) c.in-Some.here.now.items c.requires.stands.1 (ap lists_in c.in-Some.ensures.cases.0))
 
 pub made-requires-clause-near : goal.made-requires-clause-near
@@ -80,7 +80,7 @@ refill-requires-2 g t c κs within =
     let before = first_is olds (option_copied c.first.result) c.first.ensures.value in
     let is = c.in_ok-level.ensures.level ∙ (λ i. new_level m (before i) (slice i)) in (
       omega (arith, c.decreases, c.in-Some.ensures.cases.1),
-      (within, (c.requires.shared, (made_stands c.args.p.now c.requires.stands.0 (level_of c.args.coarse.now) (lists_in c.args.boxes.now) (lists_in c.in-Some.more.now) c.in-Some.here.now.items c.requires.stands.1 (ap lists_in c.in-Some.ensures.cases.0) some (first_masses (map level_of olds)) (level_of c.in_ok-level.level) is, subst (λ (os : List Level). All IsFilled (map level_of os)) (sym c.rest_of-2.ensures) (all_rest IsFilled olds c.requires.filled)))),
+      (within, (c.requires.shared, (made_stands c.args.p.now c.requires.stands.0 (level_of c.args.coarse.now) (lists_in c.args.boxes.now) (lists_in c.in-Some.more.now) c.in-Some.here.now.items c.requires.stands.1 (ap lists_in c.in-Some.ensures.cases.0) some (first_masses (map level_of olds)) (level_of c.in_ok-level.level) is, subst (λ (os : List Level). All HasMassesInBoxes (map level_of os)) (sym c.rest_of-2.ensures) (all_rest HasMassesInBoxes olds c.requires.filled)))),
     )
 
 pub returns-clause-levels : goal.returns-clause-levels

@@ -1,6 +1,6 @@
 use Rattle.std.proofs.Common.{None, sym, ◌∙◌}
 use Rattle.amr_patch.proofs.Lookups.{some_mass}
-use Rattle.amr_edges.proofs.Ordered.{serve_base}
+use Rattle.amr_flows.proofs.Ordered.{serve_base}
 use Rattle.amr_advance.proofs.Filled.{all_lie}
 use Rattle.amr_tests_steps.proofs.board.layout_with.Goals as goal
 

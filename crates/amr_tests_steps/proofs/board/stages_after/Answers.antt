@@ -20,7 +20,7 @@ use Rattle.amr_work.specs.Ready.{MayBegin}
 use Rattle.amr_work.specs.Works.{adds_of_work, puts_of_work}
 use Rattle.amr_advance.specs.Layouts.{IsLayoutOf}
 use Rattle.amr_advance.specs.Pieces.{AreRawPieces, AreWorkspaces}
-use Rattle.amr_advance.specs.Shown.{AreShown, StepFits}
+use Rattle.amr_advance.specs.Shown.{AreShown, LevelStepFits}
 use Rattle.amr_cycle.specs.Cycles.{HasStepToCome}
 use Rattle.amr_cycle.proofs.Cycling.{part_fits, part_levels}
 use Rattle.amr_cycle.proofs.StateSteps.{no_coarser, whole_part}
@@ -34,8 +34,8 @@ workspaces ws = map (λ (w : Work). w.body.value.workspace) ws
 -- the pieces of a level whose step is to come
 module _ (p : Problem) (k : Level) (come : HasStepToCome p (k ∷ [])) (qs : List Patch) (shown : AreShown p 0 no_masses qs) (same : masses_in qs ≡ k.masses)
     (y : Layout) (layout : IsLayoutOf (around p 0 qs [] None) y) (ws : List Work) (raw : AreRawPieces p 0 qs (map (λ (w : Work). w.body.value.workspace) ws) ws) (served : AreWorkspaces qs y.tasks.items (map (λ (w : Work). w.body.value.workspace) ws)) where
-  fits : StepFits p 0 (masses_in qs) no_masses
-  fits = subst (λ (m : Masses). StepFits p 0 m no_masses) (sym same) (part_fits p 0 k [] no_masses (whole_part p k [] come))
+  fits : LevelStepFits p 0 (masses_in qs) no_masses
+  fits = subst (λ (m : Masses). LevelStepFits p 0 m no_masses) (sym same) (part_fits p 0 k [] no_masses (whole_part p k [] come))
 
   planned : IsPlan (plan_of puts_of_work adds_of_work y.places y.words ws)
   planned = is_plan p 0 no_masses qs [] None (omega arith) shown fits y layout (map (λ (w : Work). w.body.value.workspace) ws) served ws raw

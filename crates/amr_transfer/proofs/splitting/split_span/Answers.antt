@@ -5,7 +5,7 @@ use Rattle.std.proofs.lemmas.Int.{ints}
 use Rattle.std.proofs.lemmas.List.{length-take, length-take-le}
 use Rattle.amr_box.specs.declared.Cell.{Cell}
 use Rattle.amr_box.specs.Cells.{Extent, IsNear, cell, holds, parent}
-use Rattle.amr_def.specs.Regrid.{odd, share, split_mass}
+use Rattle.amr_def.specs.Regrid.{odd, child_share, split_mass}
 use Rattle.amr_patch.specs.Levels.{level_of}
 use Rattle.amr_patch.specs.Patches.{box}
 use Rattle.amr_patch.proofs.Rows.{inside}
@@ -69,6 +69,6 @@ returns-clause-given c =
     λ k lt.
     ap (λ (xs : List ℕ). slice_index xs k) row
     ∙ c.share_row.ensures k (omega (arith, lt, whole, count))
-    ∙ (λ i. share (slice_index parents ((first i + k) / 2)) (2 * second i + (first i + k) % 2))
+    ∙ (λ i. child_share (slice_index parents ((first i + k) / 2)) (2 * second i + (first i + k) % 2))
     ∙ share_is coarse c.args.c parents k masses (omega (arith, lt, whole, reach, first)) in
     subst (λ (m : ℕ). IsGiven (holds (span c.args.c m)) (split_mass coarse) c.args.patch.now c.give.new.patch) whole (c.give.ensures (split_mass coarse) shares)

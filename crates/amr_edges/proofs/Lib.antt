@@ -1,9 +1,0 @@
-pub mod Borders
-pub mod Parents
-pub mod Beyond
-pub mod Ordered
-pub mod Coarsenable
-pub mod OwnEdges
-pub mod OwnFlows
-pub mod PutPlaces
-pub mod Joined

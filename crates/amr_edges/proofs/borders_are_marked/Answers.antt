@@ -1,5 +1,0 @@
-use Rattle.amr_edges.proofs.Borders.{borders_same}
-use Rattle.amr_edges.proofs.borders_are_marked.Goals as goal
-
-pub returns : goal.returns
-returns c = borders_same
