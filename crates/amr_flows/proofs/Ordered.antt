@@ -1,6 +1,7 @@
 -- Register cells stand in the order in which layouts number them.
-use Rattle.std.proofs.Common.{◌≡◌, ℕ, suc, true, ◌<ℤ◌, List, [], arith}
-use Rattle.std.specs.Prelude.{not, slice_index_or, IsTrue}
+use Rattle.std.proofs.Common.{◌≡◌, ◌∙◌, ℕ, suc, ◌-◌, true, ◌<ℤ◌, List, [], sym, subst, arith}
+use Rattle.std.specs.Prelude.{is_some, not, slice_index_or, IsTrue}
+use Rattle.std.specs.List.{All}
 use Rattle.std.specs.declared.option.Option.{Option}
 use Rattle.std.specs.declared.cmp.Ordering.{Ordering}
 use Rattle.std.specs.declared.cmp.Ordering.TheVariants.{Equal, Greater, Less}
@@ -8,6 +9,7 @@ use Rattle.std.specs.Cmp.{int_ranks}
 use Rattle.std.specs.Ordering.{MatchOrdering, int_cmp, ordering_then}
 use Rattle.std.proofs.lemmas.Int.{ints}
 use Rattle.std.proofs.lemmas.Bool.{and_parts, not-true}
+use Rattle.std.proofs.lemmas.List.Elements.{filter_passes}
 use Rattle.std.proofs.lemmas.List.Kept.{IsStrictlySortedBy-filter}
 use Rattle.amr_box.specs.declared.Cell.{Cell}
 use Rattle.amr_box.specs.Cells.{cells_of, is_same_cell}
@@ -44,9 +46,18 @@ in_order p l m fine i j d lt below =
     let sorted = IsStrictlySortedBy-filter row_cmp test all (cells_sorted (domain_box (domain p l))) in
     before (slice_index_or (register_cells p l m fine) i d) (slice_index_or (register_cells p l m fine) j d) (rising (register_cells p l m fine) sorted i j d lt below)
 
+-- they are cells of the level, and so of the domain
+inside : (p : Problem) (l : ℕ) (k : Level) (fine : Masses) → IsLevel p l k → All (λ c. IsTrue (in_domain (domain p l) c)) (register_cells p l k.masses fine)
+unfolding is_register_cell
+inside p l k fine level i d lt =
+    let c = slice_index_or (register_cells p l k.masses fine) i d in
+    let passes = filter_passes (is_register_cell (domain p l) k.masses fine) (cells_of (domain_box (domain p l))) i d lt in
+    level.inside c (sym (level.filled c) ∙ (and_parts (is_some (k.masses c)) _ passes).0)
+
 pub serve : (p : Problem) (l : ℕ) (k fine : Level) (ps : List Patch) (finer : Option Held) → IsLevel p l k → IsLevel p (suc l) fine → IsNestedLevel p l k fine → masses_in ps ≡ fine.masses → HasRegisterCells (around p (suc l) ps (register_cells p l k.masses fine.masses) finer)
 serve p l k fine ps finer klevel flevel nested of_patches = record {
   ordered = in_order p l k.masses fine.masses;
+  inside = let below : l ≡ suc l - 1 = omega arith in subst (λ n. All (λ c. IsTrue (in_domain (domain p n) c)) (register_cells p l k.masses fine.masses)) below (inside p l k fine.masses klevel);
   each = λ n e lt. has_cells p l k fine klevel flevel nested ps finer of_patches n e lt;
 }
 
@@ -65,5 +76,6 @@ no_edge p ps finer q n whole edge =
 pub serve_base : (p : Problem) (ps : List Patch) (finer : Option Held) → ((c : Cell) → IsTrue (in_domain (domain p 0) c) → IsTrue (in_patches ps c)) → HasRegisterCells (around p 0 ps [] finer)
 serve_base p ps finer whole = record {
   ordered = λ i j d lt below. absurd (omega arith);
+  inside = λ i d lt. absurd (omega arith);
   each = λ n e lt m below edge. absurd (no_edge p ps finer (slice_index_or ps n e) m whole edge);
 }

@@ -1,8 +1,8 @@
 -- The layout of a level goes by boxes: two levels on the same ones have the same places, puts, reads and flows, whatever their
 -- masses are.
 use Rattle.std.proofs.Common.{◌≡◌, ◌∙◌, ℕ, Bool, true, false, refl, suc, ◌+◌, ◌-◌, ◌*◌, ◌<◌, ◌&&◌, not, cond, pos, int_lt, List, ◌++◌, length, get_or, map, take, sym, ap, subst}
-use Rattle.std.specs.Prelude.{Contains, is_some}
-use Rattle.std.specs.List.{flat_map, range_with_len}
+use Rattle.std.specs.Prelude.{Contains, IsTrue, is_some}
+use Rattle.std.specs.List.{All, flat_map, range_with_len}
 use Rattle.std.specs.Ordering.{int_eq}
 use Rattle.std.proofs.lemmas.List.{take-map}
 use Rattle.std.proofs.lemmas.List.Folds.{flat_map-map}
@@ -10,6 +10,7 @@ use Rattle.std.proofs.lemmas.Simd.{map-map}
 use Rattle.amr_box.specs.declared.Cell.{Cell}
 use Rattle.amr_box.specs.declared.Face.{Face}
 use Rattle.amr_box.specs.Cells.{Extent, has_child_where, height, parent, width}
+use Rattle.amr_def.specs.declared.problem.Problem.{Problem}
 use Rattle.amr_def.specs.Domain.{Domain, domain, home_cell, in_domain}
 use Rattle.amr_def.specs.Flux.{high_cell}
 use Rattle.amr_def.specs.State.{is_covered}
@@ -197,6 +198,9 @@ module _ (s t : Around) (g : SameGround s t) where
   pub same_register_cells : HasRegisterCells s → HasRegisterCells t
   same_register_cells h = record {
     ordered = subst (λ (cs : List Cell). AreInOrder cs) g.cells h.ordered;
+    inside = subst (λ l. All (λ c. IsTrue (in_domain (domain t.problem (l - 1)) c)) t.cells) g.level
+        (subst (λ (p : Problem). All (λ c. IsTrue (in_domain (domain p (s.level - 1)) c)) t.cells) g.problem
+        (subst (λ (cs : List Cell). All (λ c. IsTrue (in_domain (domain s.problem (s.level - 1)) c)) cs) g.cells h.inside));
     each = λ k d lt.
         subst (λ (b : Extent). HasCellsBeyond t b) (box_at s.patches t.patches k d g.boxes)
         (cells_beyond (box (get_or s.patches k d)) (h.each k d (subst (λ n. k < n) (sym (same_length s.patches t.patches g.boxes)) lt)));

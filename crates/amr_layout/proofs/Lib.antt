@@ -14,3 +14,4 @@ pub mod Lasts
 pub mod OpenSides
 pub mod ByBoxes
 pub mod AlongSides
+pub mod Counts

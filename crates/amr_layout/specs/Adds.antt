@@ -1,11 +1,11 @@
 -- The faces whose flows are added to words: those of open sides to the ledger's, those of coarse-fine edges to a register cell's.
-use Rattle.std.specs.Prelude.{◌≡◌, ℕ, ◌+◌, ◌*◌, ◌<◌, ◌==◌, if◌then◌else◌, Bool, ◌&&◌, not, cond, pos, int_lt, List, [], ◌∷◌, ◌++◌, map, take, Contains, IsTrue}
+use Rattle.std.specs.Prelude.{◌≡◌, ℕ, ◌+◌, ◌-◌, ◌*◌, ◌<◌, ◌==◌, if◌then◌else◌, Bool, ◌&&◌, not, cond, pos, int_lt, List, [], ◌∷◌, ◌++◌, map, take, Contains, IsTrue}
 use Rattle.std.specs.List.{All, AllPairs, flat_map, position_or_len}
 use Rattle.std.specs.Ordering.{int_eq}
 use Rattle.amr_box.specs.declared.Cell.{Cell}
 use Rattle.amr_box.specs.declared.Face.{Face}
 use Rattle.amr_box.specs.Cells.{Extent, is_same_cell, parent}
-use Rattle.amr_def.specs.Domain.{home_cell}
+use Rattle.amr_def.specs.Domain.{domain, home_cell, in_domain}
 use Rattle.amr_def.specs.State.{is_covered}
 use Rattle.amr_patch.specs.Patches.{box}
 use Rattle.amr_patch.specs.Orders.{comes_first}
@@ -97,6 +97,8 @@ AreInOrder cells = AllPairs (λ a b. IsTrue (comes_first a b) × (IsTrue (is_sam
 abbrev pub HasCellsBeyond : Around → Extent → Type 0
 HasCellsBeyond s b = (n : ℕ) → n < edge_count b → IsTrue (is_coarse_fine s b (edge_face b n)) → Contains s.cells (cell_beyond s b (edge_face b n))
 
+-- they are cells of the domain of that coarser level; level 0 has none
 pub record HasRegisterCells (s : Around) : Type 0 where
   pub ordered : AreInOrder s.cells
+  pub inside : All (λ c. IsTrue (in_domain (domain s.problem (s.level - 1)) c)) s.cells
   pub each : All (λ q. HasCellsBeyond s (box q)) s.patches

@@ -15,7 +15,6 @@ ghost use Rattle.amr_layout.specs.LevelFlowLists.{AreFlowsOf, AreFlowsOfRun, Has
 
 use crate::FlowTo;
 use crate::adds::{Near, PatchFlows, Surroundings, flows_beside, no_flows};
-use crate::layouts::{MOST, check_faces};
 use crate::lookup::Trace;
 use amr_box::Face;
 use amr_causes::NoMemory;
@@ -98,22 +97,10 @@ pub(crate) fn flows_of_run(
     Ok(LevelFlows { flows: all, bounds })
 }
 
-/// Counts the faces on the edges of all patches and the register cells. Too many are refused as memory that lacks.
-pub(crate) fn check_size(s: Surroundings<'_>) -> Result<(), NoMemory>
-    ensures edges { OnOk result (total (λ q. edge_count (box q)) s.entry.patches.now ≤ 2 ^ 30) }
-    ensures few { OnOk result (length s.entry.cells.now ≤ 2 ^ 30) }
-{
-    check_faces(s.patches)?;
-    if s.cells.len() > MOST as usize {
-        return Err(NoMemory);
-    }
-    Ok(())
-}
-
 /// What each patch of a level adds, as in the tasks of `plan`, where one worker makes the step alone. Then no border
 /// face has a place, and no patch puts or reads.
 ///
-/// `NoMemory` is the only refusal; it also stands for more than 2^30 faces or cells.
+/// `NoMemory` is the only refusal.
 pub fn plan_adds(alloc: Global, s: Surroundings<'_>) -> Result<LevelFlows, NoMemory>
     requires level { s.level ≤ 4 }
     requires order { IsOrderOf s.order s.patches.now }
@@ -126,6 +113,5 @@ pub fn plan_adds(alloc: Global, s: Surroundings<'_>) -> Result<LevelFlows, NoMem
     ensures edges { OnOk result (total (λ q. edge_count (box q)) s.entry.patches.now ≤ 2 ^ 30) }
     ensures few { OnOk result (length s.entry.cells.now ≤ 2 ^ 30) }
 {
-    check_size(s)?;
     flows_of_run(alloc, s, s.patches)
 }

@@ -15,7 +15,7 @@ ghost use Rattle.amr_layout.specs.Adds.{AreInOrder, HasCellsBeyond, HasRegisterC
 ghost use Rattle.amr_layout.specs.LevelFlowLists.{AreFlowsOf, AreFlowsOfRun};
 
 use crate::adds::Surroundings;
-use crate::alone::{LevelFlows, check_size, flows_of_run, plan_adds};
+use crate::alone::{LevelFlows, flows_of_run, plan_adds};
 use amr_causes::NoMemory;
 use amr_patch::Patch;
 use std::alloc::Global;
@@ -87,7 +87,6 @@ pub(crate) fn flows_by_runs<R: Threads + Sync>(
     requires order { IsOrderOf s.order s.patches.now }
     requires apart { ArePatchesApart s.patches.now }
     requires starts { HasStarts s.patches.now s.starts.now }
-    requires few { length s.cells.now ≤ 2 ^ 30 }
     requires inside { All (λ q. IsInDomain (domain s.problem.now s.level) (box q)) s.patches.now }
     requires cells { HasRegisterCells (around s.problem.now s.level s.patches.now s.cells.now (option_copied s.finer)) }
     ensures flows { IfOk result (AreFlowsOf (around s.entry.problem.now s.entry.level s.entry.patches.now s.entry.cells.now (option_copied s.entry.finer))) }
@@ -122,6 +121,5 @@ pub fn plan_adds_in_threads<R: Threads + Sync>(
     if threads < 2 || s.patches.len() < FEWEST {
         return plan_adds(alloc, s);
     }
-    check_size(s)?;
     flows_by_runs(rt, alloc, s, s.patches.len().div_ceil(threads))
 }

@@ -1,44 +1,25 @@
 //! The layout of a level.
 
-ghost use Rattle.std.specs.Prelude.{◌≡◌, ℕ, ◌+◌, ◌*◌, ◌≤◌, ◌<◌, ◌^◌, length, map, IfOk, OnOk};
+ghost use Rattle.std.specs.Prelude.{◌≡◌, ℕ, ◌+◌, ◌*◌, ◌≤◌, ◌<◌, length, map, IfOk};
 ghost use Rattle.std.specs.Option.{option_copied};
 ghost use Rattle.std.specs.List.{All, range_with_len};
 ghost use Rattle.amr_def.specs.Domain.{domain};
 ghost use Rattle.amr_patch.specs.Patches.{ArePatchesApart, box};
 ghost use Rattle.amr_patch.specs.Orders.{IsOrderOf};
 ghost use Rattle.amr_faces.specs.Faces.{IsInDomain};
-ghost use Rattle.amr_phase.specs.Plans.{IsPlan, total};
-ghost use Rattle.amr_layout.specs.Surroundings.{around, edge_count};
+ghost use Rattle.amr_phase.specs.Plans.{IsPlan};
+ghost use Rattle.amr_layout.specs.Surroundings.{around};
 ghost use Rattle.amr_patch.specs.Gaps.{HasStarts};
 ghost use Rattle.amr_layout.specs.Places.{border_places, level_borders, puts_of};
 ghost use Rattle.amr_layout.specs.Adds.{HasLedgerAdds, HasRegisterCells, flows_in, flows_of};
 ghost use Rattle.amr_layout.specs.Posts.{AreSmallSizes, Sizes, plan_of};
 
 use crate::adds::{Near, Surroundings, adds_of};
-use crate::faces::edge_count;
 use crate::lookup::Trace;
 use crate::places::place_borders;
 use crate::{Layout, PutAt, TaskLayout};
 use amr_causes::NoMemory;
-use amr_patch::Patch;
 use std::alloc::Global;
-
-/// How many faces or cells a layout may have. More would take more memory than there is, and are refused as that.
-pub(crate) const MOST: u32 = 1 << 30;
-
-/// Counts the faces on the edges of all patches, so that the flows through them add up to less than 2^63.
-pub(crate) fn check_faces(patches: &[Patch]) -> Result<(), NoMemory>
-    ensures { OnOk result (total (λ q. edge_count (box q)) patches.now ≤ 2 ^ 30) }
-{
-    let mut sum = 0;
-    for patch in patches {
-        sum += edge_count(&patch.bx());
-        if sum > MOST {
-            return Err(NoMemory);
-        }
-    }
-    Ok(())
-}
 
 /// The tasks of a level: what each puts and reads, which is known, and what it adds.
 fn tasks_of(
@@ -51,7 +32,6 @@ fn tasks_of(
     requires order { IsOrderOf s.order s.patches.now }
     requires apart { ArePatchesApart s.patches.now }
     requires starts { HasStarts s.patches.now s.starts.now }
-    requires few { length s.cells.now ≤ 2 ^ 30 }
     requires inside { All (λ q. IsInDomain (domain s.problem.now s.level) (box q)) s.patches.now }
     requires cells { HasRegisterCells (around s.problem.now s.level s.patches.now s.cells.now (option_copied s.finer)) }
     requires lots { length lots.old ≡ length s.patches.now }
@@ -94,7 +74,7 @@ fn tasks_of(
 /// Time and memory grow with the faces on the patches' edges. A span of faces beside one patch takes one search. So does
 /// one beside a gap between the columns and rows where patches start.
 ///
-/// `NoMemory` is the only refusal; it also stands for more than 2^30 faces or cells.
+/// `NoMemory` is the only refusal.
 pub fn plan(alloc: Global, s: Surroundings<'_>) -> Result<Layout, NoMemory>
     requires level { s.level ≤ 4 }
     requires order { IsOrderOf s.order s.patches.now }
@@ -110,10 +90,6 @@ pub fn plan(alloc: Global, s: Surroundings<'_>) -> Result<Layout, NoMemory>
     ensures ledger { IfOk result (λ y. All HasLedgerAdds y.tasks.items) }
     ensures plan { IfOk result (λ y. (size : Sizes) → AreSmallSizes size → IsPlan (plan_of y size)) }
 {
-    check_faces(s.patches)?;
-    if s.cells.len() > MOST as usize {
-        return Err(NoMemory);
-    }
     let (mut places, mut borders) = place_borders(
         alloc,
         &s.problem.domain(s.level),

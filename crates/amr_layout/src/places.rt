@@ -1,13 +1,15 @@
 //! Places of border faces: numbered as they are read, and put by the patches that own them.
 
-ghost use Rattle.std.specs.Prelude.{◌≡◌, ℕ, ◌≤◌, ◌-◌, ◌++◌, [], ◌∷◌, cond, length, map, IfOk, OnOk, List};
+ghost use Rattle.std.specs.Prelude.{◌≡◌, ℕ, ◌+◌, ◌<◌, ◌≤◌, ◌-◌, ◌^◌, ◌++◌, [], ◌∷◌, cond, length, map, IfOk, OnOk, List};
 ghost use Rattle.std.specs.List.{range_with_len};
 ghost use Rattle.amr_box.specs.declared.Face.{Face};
-ghost use Rattle.amr_box.specs.Cells.{IsNear};
+ghost use Rattle.amr_box.specs.Cells.{IsNear, height, width};
 ghost use Rattle.amr_def.specs.Domain.{domain_of};
-ghost use Rattle.amr_patch.specs.Patches.{ArePatchesApart};
+ghost use Rattle.amr_patch.specs.Patches.{ArePatchesApart, box};
 ghost use Rattle.amr_patch.specs.Orders.{IsOrderOf};
 ghost use Rattle.amr_patch.specs.Gaps.{HasStarts, IsGap};
+ghost use Rattle.amr_phase.specs.Plans.{total};
+ghost use Rattle.amr_layout.specs.Surroundings.{edge_count};
 ghost use Rattle.amr_layout.specs.Places.{AreEmptyLots, ArePut, borders_of, border_places, leads_on, level_borders};
 
 use crate::PutAt;
@@ -54,6 +56,8 @@ fn put_border(
     requires starts { HasStarts patches.now starts.now }
     requires gap { IsGap patches.now places.old.near.gap }
     requires lots { length places.old.lots.items ≡ length patches.now }
+    requires room { places.old.count < 2 ^ 31 }
+    ensures count { places.new.count ≤ places.old.count + 1 }
     ensures gap { OnOk result (IsGap patches.now places.new.near.gap) }
     ensures lots { OnOk result (length places.new.lots.items ≡ length patches.now) }
     ensures put { OnOk result ((done : List Face) → ArePut (domain_of dom.now) patches.now done places.old.count places.old.lots.items → ArePut (domain_of dom.now) patches.now (done ++ cond (leads_on (domain_of dom.now) patches.now f) (f ∷ []) []) places.new.count places.new.lots.items) }
@@ -62,9 +66,6 @@ fn put_border(
     let Some(owner) = look_beside(patches, order, starts, &mut places.near, high_cell(face)) else {
         return Ok(());
     };
-    if places.count == u32::MAX {
-        return Err(NoMemory);
-    }
     let put = PutAt {
         place: places.count,
         face,
@@ -89,6 +90,8 @@ fn put_borders(
     requires starts { HasStarts patches.now starts.now }
     requires gap { IsGap patches.now places.old.near.gap }
     requires lots { length places.old.lots.items ≡ length patches.now }
+    requires room { places.old.count + height b.now + width b.now ≤ 2 ^ 31 }
+    ensures count { OnOk result (places.new.count ≤ places.old.count + height b.now + width b.now) }
     ensures gap { OnOk result (IsGap patches.now places.new.near.gap) }
     ensures lots { OnOk result (length places.new.lots.items ≡ length patches.now) }
     ensures put { OnOk result ((done : List Face) → ArePut (domain_of dom.now) patches.now done places.old.count places.old.lots.items → ArePut (domain_of dom.now) patches.now (done ++ borders_of (domain_of dom.now) patches.now b.now) places.new.count places.new.lots.items) }
@@ -125,6 +128,7 @@ pub(crate) fn place_borders(
     requires order { IsOrderOf order patches.now }
     requires apart { ArePatchesApart patches.now }
     requires starts { HasStarts patches.now starts.now }
+    requires few { total (λ q. edge_count (box q)) patches.now ≤ 2 ^ 30 }
     ensures put { IfOk result (λ r. ArePut (domain_of dom.now) patches.now (level_borders (domain_of dom.now) patches.now patches.now) r.0.count r.0.lots.items) }
     ensures borders { IfOk result (λ r. map (λ v. v.items) r.1.items ≡ map (border_places (domain_of dom.now) patches.now) (range_with_len 0 (length patches.now))) }
 {

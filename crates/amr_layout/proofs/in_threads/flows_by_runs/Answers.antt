@@ -11,6 +11,7 @@ use Rattle.amr_layout.specs.declared.alone.LevelFlows.{LevelFlows}
 use Rattle.amr_layout.specs.Adds.{HasCellsBeyond}
 use Rattle.amr_layout.specs.LevelFlowLists.{AreFlowsOfRun}
 use Rattle.amr_layout.specs.Surroundings.{around}
+use Rattle.amr_layout.proofs.Counts.{cells_few}
 use Rattle.amr_layout.proofs.Runs.{runs_enough}
 use Rattle.amr_layout.proofs.in_threads.flows_by_runs.Goals as goal
 
@@ -25,7 +26,7 @@ map_chunks-requires-clause-accepts g c κs within = λ start p chunk.
       c.requires.apart,
       c.requires.starts,
       c.requires.cells.ordered,
-      c.requires.few,
+      omega (arith, cells_few s c.requires.level c.requires.cells),
       subst (λ (l : List Patch). All P l) (sym chunk.value) (All-take P c.args.size (drop start ps) (All-drop P start ps c.requires.inside)),
       subst (λ (l : List Patch). All Q l) (sym chunk.value) (All-take Q c.args.size (drop start ps) (All-drop Q start ps c.requires.cells.each)),
     )

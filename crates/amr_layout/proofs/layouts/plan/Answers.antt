@@ -1,4 +1,4 @@
-use Rattle.std.proofs.Common.{ℕ, ◌+◌, ◌*◌, List, length, map, ap, ◌∙◌}
+use Rattle.std.proofs.Common.{ℕ, ◌+◌, ◌*◌, List, length, map, ap, ◌∙◌, arith}
 use Rattle.std.specs.Option.{option_copied}
 use Rattle.std.specs.List.{range_with_len}
 use Rattle.std.specs.Global.{Vec}
@@ -8,6 +8,7 @@ use Rattle.amr_patch.specs.Patches.{box}
 use Rattle.amr_layout.specs.declared.PutAt.{PutAt}
 use Rattle.amr_layout.specs.Surroundings.{around}
 use Rattle.amr_layout.specs.Places.{border_places, puts_of}
+use Rattle.amr_layout.proofs.Counts.{cells_few, faces_few}
 use Rattle.amr_layout.proofs.Planned.{image_length, lots_are, planned}
 use Rattle.amr_layout.proofs.layouts.plan.Goals as goal
 
@@ -33,5 +34,17 @@ returns-clause-plan c = λ size small.
       places = c.in_ok-places.ensures.put.places;
       flows = c.in_ok-tasks.ensures.flows;
       words = c.in_ok-tasks.ensures.words;
-      few = c.in_ok-check_faces.ensures;
+      few = omega (arith, faces_few c.args.s.problem.now c.args.s.level ps c.requires.level c.requires.apart c.requires.inside);
     }) size small
+
+pub place_borders-requires-clause-few : goal.place_borders-requires-clause-few
+place_borders-requires-clause-few c = omega (arith, faces_few c.args.s.problem.now c.args.s.level c.args.s.patches.now c.requires.level c.requires.apart c.requires.inside)
+
+pub overflow_cast-result : goal.overflow_cast-result
+overflow_cast-result c = omega (arith, cells_few (around c.args.s.problem.now c.args.s.level c.args.s.patches.now c.args.s.cells.now (option_copied c.args.s.finer)) c.requires.level c.requires.cells)
+
+pub overflow_mul-result : goal.overflow_mul-result
+overflow_mul-result c = omega (arith, cells_few (around c.args.s.problem.now c.args.s.level c.args.s.patches.now c.args.s.cells.now (option_copied c.args.s.finer)) c.requires.level c.requires.cells)
+
+pub overflow_add-result : goal.overflow_add-result
+overflow_add-result c = omega (arith, cells_few (around c.args.s.problem.now c.args.s.level c.args.s.patches.now c.args.s.cells.now (option_copied c.args.s.finer)) c.requires.level c.requires.cells)

@@ -10,6 +10,7 @@ use Rattle.amr_layout.specs.declared.PutAt.{PutAt}
 use Rattle.amr_layout.specs.declared.TaskLayout.{TaskLayout}
 use Rattle.amr_layout.specs.Surroundings.{around}
 use Rattle.amr_layout.specs.Adds.{HasLedgerAdds, flows_in, flows_of}
+use Rattle.amr_layout.proofs.Counts.{cells_few}
 use Rattle.amr_layout.proofs.Taken.{all_more, list_more}
 use Rattle.amr_layout.proofs.layouts.tasks_of.Goals as goal
 
@@ -43,3 +44,8 @@ loop-i-preserved c =
       ledger = all_more HasLedgerAdds ts us task c.in_ok-push.ensures.items c.loop-i.invariant.ledger c.in_ok-adds.ensures.ledger;
       words = all_more (λ (t : TaskLayout). All (λ (a : AddAt). a.word < 2 + 2 * length c.args.s.cells.now) t.adds.items) ts us task c.in_ok-push.ensures.items c.loop-i.invariant.words c.in_ok-adds.ensures.words;
     }
+
+pub adds_of-requires-clause-few : goal.adds_of-requires-clause-few
+adds_of-requires-clause-few c =
+    let s = around c.args.s.problem.now c.args.s.level c.args.s.patches.now c.args.s.cells.now (option_copied c.args.s.finer) in
+    omega (arith, cells_few s c.requires.level c.requires.cells)

@@ -9,6 +9,7 @@ use Rattle.amr_layout.proofs.places.put_borders.Goals as goal
 
 pub loop-j-preserved : goal.loop-j-preserved
 loop-j-preserved c = record {
+  count = omega (arith, c.in_ok-put_border.ensures.count, c.loop-j.invariant.count);
   gap = c.in_ok-put_border.ensures.gap;
   lots = c.in_ok-put_border.ensures.lots;
   put = λ done h.
@@ -19,6 +20,7 @@ loop-j-preserved c = record {
 
 pub loop-i-init : goal.loop-i-init
 loop-i-init c = record {
+  count = omega (arith, c.loop-j.invariant.count, c.loop-j-test.false, c.loop-j.auto.j-end, c.height-j-end.ensures.value);
   gap = c.loop-j.invariant.gap;
   lots = c.loop-j.invariant.lots;
   put = λ done h.
@@ -30,6 +32,7 @@ loop-i-init c = record {
 
 pub loop-i-preserved : goal.loop-i-preserved
 loop-i-preserved c = record {
+  count = omega (arith, c.in_ok-put_border-2.ensures.count, c.loop-i.invariant.count);
   gap = c.in_ok-put_border-2.ensures.gap;
   lots = c.in_ok-put_border-2.ensures.lots;
   put = λ done h.
