@@ -1,7 +1,7 @@
 -- Cells of a patch that are given masses: none, those of a span, those of one set after another.
-use Rattle.std.proofs.Common.{◌≡◌, ◌∙◌, ℕ, ◌<◌, Bool, true, false, ◌||◌, pos, ◌+ℤ◌, ◌≤ℤ◌, ◌≤◌, List, ◌++◌, length, take, drop, IsTrue, refl, sym, ap, subst, arith}
+use Rattle.std.proofs.Common.{◌≡◌, ◌∙◌, ℕ, ◌+◌, ◌-◌, ◌<◌, Bool, true, false, ◌||◌, pos, ◌+ℤ◌, ◌≤ℤ◌, ◌≤◌, List, ◌++◌, length, take, drop, IsTrue, refl, sym, ap, subst, arith}
 use Rattle.std.specs.Prelude.{slice_index}
-use Rattle.std.proofs.lemmas.List.{length-take-le, take-append-le, take_all}
+use Rattle.std.proofs.lemmas.List.{get_or-drop, get_or-take, get_or_append_left, length-append, length-drop, length-take, length-take-le, take-append-le, take_all}
 use Rattle.std.proofs.lemmas.Bool.{and_right, both_ways, not_from_true, or_from, or_parts}
 use Rattle.amr_box.specs.declared.Cell.{Cell}
 use Rattle.amr_box.specs.Cells.{Extent, cell, holds}
@@ -82,3 +82,10 @@ pub written : (n : ℕ) (room row : List ℕ) → n ≤ length room → length r
 written n room row le same =
     let whole : length row ≡ n = same ∙ length-take-le n room le in
     take-append-le n row (drop n room) (omega (arith, whole)) ∙ take_all n row (omega (arith, whole))
+
+-- a part of the room that was written, from a place on
+pub written_count : (f n : ℕ) (row rest : List ℕ) → f + n ≤ length row → length (take (f + n - f) (drop f (row ++ rest))) ≡ n
+written_count f n row rest le = length-take (f + n - f) (drop f (row ++ rest)) ∙ omega (arith, length-drop f (row ++ rest), length-append row rest)
+
+pub written_at : (f n : ℕ) (row rest : List ℕ) (k : ℕ) → f + n ≤ length row → k < n → slice_index (take (f + n - f) (drop f (row ++ rest))) k ≡ slice_index row (f + k)
+written_at f n row rest k le lt = get_or-take (f + n - f) (drop f (row ++ rest)) k 0 (omega arith) ∙ get_or-drop f (row ++ rest) k 0 ∙ get_or_append_left row rest 0 (f + k) (omega arith)

@@ -3,6 +3,7 @@ pub mod GivenCells
 pub mod PatchLists
 pub mod PatchChunks
 pub mod Bands
+pub mod KeptCells
 pub mod Halves
 pub mod Fours
 pub mod KeptOrSplit

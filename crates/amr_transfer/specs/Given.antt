@@ -1,7 +1,8 @@
 -- Cells of a patch that are given masses, while all else of the patch stays.
-use Rattle.std.specs.Prelude.{◌≡◌, ℕ, Bool, false, pos, ◌+ℤ◌, ◌-ℤ◌, IsTrue}
+use Rattle.std.specs.Prelude.{◌≡◌, ℕ, Bool, false, pos, ◌+ℤ◌, ◌-ℤ◌, IsSome, IsTrue}
 use Rattle.amr_box.specs.declared.Cell.{Cell}
 use Rattle.amr_box.specs.Cells.{Extent, cell, extent, holds}
+use Rattle.amr_def.specs.State.{Masses, mass_of}
 use Rattle.amr_patch.specs.declared.patches.Patch.{Patch}
 use Rattle.amr_patch.specs.Patches.{KeepsFrameAndFluxes, box, mass_in}
 
@@ -10,6 +11,11 @@ pub record IsGiven (cells : Cell → Bool) (mass : Cell → ℕ) (p q : Patch) :
   pub kept : KeepsFrameAndFluxes p q
   pub given : (c : Cell) → IsTrue (holds (box p) c) → IsTrue (cells c) → mass_in q c ≡ mass c
   pub others : (c : Cell) → IsTrue (holds (box p) c) → cells c ≡ false → mass_in q c ≡ mass_in p c
+
+-- the cells of a set were cells of the level, and keep the masses that they had there
+pub record IsKept (old : Masses) (cells : Cell → Bool) (p q : Patch) : Type 0 where
+  pub given : IsGiven cells (mass_of old) p q
+  pub there : (c : Cell) → IsTrue (holds (box p) c) → IsTrue (cells c) → IsSome (old c)
 
 -- n cells of a row, from a cell on
 abbrev pub span : Cell → ℕ → Extent

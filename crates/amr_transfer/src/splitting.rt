@@ -16,7 +16,7 @@ ghost use Rattle.amr_transfer.specs.Shares.{HasChildren, IsInSync, kept_or_split
 
 use crate::cells::{ROOM, above, ahead, cells_from, odd};
 use crate::giving::give;
-use crate::keeping::keep;
+use crate::keeping::{keep, keep_whole};
 use crate::sharing::{Alone, Sharing};
 use amr_box::{Cell, parent};
 use amr_patch::{Level, Order, Patch, find_near, order_of};
@@ -28,18 +28,16 @@ fn child_share(mass: u32, k: u32) -> u32
     if k < mass % 4 { mass / 4 + 1 } else { mass / 4 }
 }
 
-/// Works out the shares of the cells of a row. They begin with the low child of the first parent where `first` is 0, and
-/// with the high one where it is 1. `row` is 0 in the low row of the children, and 1 in the high row.
-fn share_row(parents: &[u32], first: usize, row: usize, shares: &mut [u32])
-    requires first { first ≤ 1 }
+/// Works out the shares of the children of parents in a row, two of each: those in the low row of its children where `row` is 0,
+/// those in the high row where it is 1.
+fn share_row(parents: &[u32], row: u32, shares: &mut [u32])
     requires row { row ≤ 1 }
-    requires small { length shares.old ≤ 256 }
-    requires enough { first + length shares.old ≤ 2 * length parents.now }
-    ensures { (k : ℕ) → k < length shares.new → slice_index shares.new k ≡ child_share (slice_index parents.now ((first + k) / 2)) (2 * row + (first + k) % 2) }
+    requires twice { length shares.old ≡ 2 * length parents.now }
+    ensures { (k : ℕ) → k < length shares.new → slice_index shares.new k ≡ child_share (slice_index parents.now (k / 2)) (2 * row + k % 2) }
 {
-    for k in 0..shares.len() {
-        let place = first + k;
-        shares[k] = child_share(parents[place / 2], (2 * row + place % 2) as u32);
+    for k in 0..parents.len() {
+        shares[2 * k] = child_share(parents[k], 2 * row);
+        shares[2 * k + 1] = child_share(parents[k], 2 * row + 1);
     }
 }
 
@@ -69,10 +67,11 @@ fn split_span(coarse: &Level, near: &mut usize, patch: &mut Patch, c: Cell, room
 {
     let parents = parents_from(coarse, near, parent(c));
     let first = odd(c.x);
-    let reach = 2 * parents.len().min(room.len()) - first;
-    let count = reach.min(room.len()).min(cells_from(&patch.bx(), c));
-    share_row(parents, first, odd(c.y), &mut room[..count]);
-    give(patch, c, &room[..count]);
+    let reach = 2 * parents.len().min(ROOM / 2) - first;
+    let count = reach.min(cells_from(&patch.bx(), c));
+    let pairs = (first + count + 1) / 2;
+    share_row(&parents[..pairs], odd(c.y) as u32, &mut room[..2 * pairs]);
+    give(patch, c, &room[first..first + count]);
     count as u32
 }
 
@@ -102,12 +101,14 @@ fn split_patch(coarse: &Level, near: &mut usize, patch: &mut Patch, room: &mut [
     }
 }
 
-/// Gives the cells of a patch their masses: those that the old patches have, else their shares.
+/// Gives the cells of a patch their masses: those that the old patches have, else their shares. Most patches of a regrid lie wholly in
+/// old ones, so shares are worked out only where this one doesn't.
 fn fill_patch(
     coarse: &Level,
     near: &mut usize,
     old: &[Patch],
     order: Order,
+    near_old: &mut usize,
     patch: &mut Patch,
     room: &mut [u32],
 )
@@ -118,6 +119,9 @@ fn fill_patch(
     ensures kept { KeepsFrameAndFluxes patch.old patch.new }
     ensures masses { HasMasses (kept_or_split (level_of coarse.now).masses (masses_in old.now)) patch.new }
 {
+    if keep_whole(old, order, near_old, patch) {
+        return;
+    }
     split_patch(coarse, near, patch, room);
     keep(old, order, patch);
 }
@@ -131,9 +135,18 @@ pub(crate) fn fill_all(coarse: &Level, old: &[Patch], patches: &mut [Patch])
 {
     let order = order_of(old);
     let mut near = 0;
+    let mut near_old = 0;
     let mut room = [0u32; ROOM];
     for i in 0..patches.len() {
-        fill_patch(coarse, &mut near, old, order, &mut patches[i], &mut room);
+        fill_patch(
+            coarse,
+            &mut near,
+            old,
+            order,
+            &mut near_old,
+            &mut patches[i],
+            &mut room,
+        );
     }
 }
 
