@@ -2,7 +2,6 @@ pub mod Registers
 pub mod Cycling
 pub mod Corrections
 pub mod StateSteps
-pub mod Keeping
 pub mod Coarsenable
 pub mod Whole
 pub mod Chopped

@@ -1,6 +1,6 @@
 -- The register over a level, from its own step on through both finer ones.
-use Rattle.std.proofs.Common.{◌≡◌, ℕ, suc, ◌^◌, ◌<◌, ◌≤◌, ℤ, pos, ◌+ℤ◌, neg_ℤ, List, refl, sym, ap, subst, ◌∙◌, arith}
-use Rattle.std.specs.Prelude.{unsigned_abs, IfSome, IsSome}
+use Rattle.std.proofs.Common.{◌≡◌, ℕ, suc, ◌^◌, ◌<◌, ◌≤◌, ℤ, pos, ◌+ℤ◌, neg_ℤ, List, sym, ap, subst, ◌∙◌, arith}
+use Rattle.std.specs.Prelude.{unsigned_abs, IfSome}
 use Rattle.std.specs.declared.option.Option.{Option}
 use Rattle.std.specs.declared.option.Option.TheVariants.{None, Some}
 use Rattle.std.specs.List.{Contains}
@@ -85,10 +85,6 @@ gathers p l k fine old between (Some r) h = record {
   cells = λ c listed. let now = h.entries c (subst (λ (cs : List Cell). Contains cs c) (sym h.of_levels.cells) listed) in omega (arith, ints, now);
   others = λ c none. no_entry r c (λ listed. none (subst (λ (cs : List Cell). Contains cs c) h.of_levels.cells listed));
 }
-
-pub some_register : (p : Problem) (l : ℕ) (m fine : Masses) (e : Cell → ℤ) (r : Option Register) → SomeHasEntries p l m fine e r → IsSome r
-some_register p l m fine e None h = absurd h
-some_register p l m fine e (Some r) h = refl
 
 -- its cells stand in its lists
 pub is_placed : (p : Problem) (l : ℕ) (m fine : Masses) (e : Cell → ℤ) (r : Option Register) → SomeHasEntries p l m fine e r → IfSome r IsPlaced

@@ -42,9 +42,6 @@ module _ (p : Problem) (k : Level) (ks : List Level) (come : HasStepToCome p (k 
   pub whole_part : IsPartOfStep p 0 (k ∷ ks) no_masses
   whole_part = record { state = come.state; sound = come.sound; before = come.before; within = all_within }
 
-  pub few_levels : length ks ≤ 4
-  few_levels = let count = ap length come.levels_are in omega (arith, count, come.sound.few_levels, p.limits.greatest_max_level)
-
   base_is : level_at come.state 0 ≡ k
   base_is = ap (λ (js : List Level). slice_index_or js 0 _) come.levels_are
 

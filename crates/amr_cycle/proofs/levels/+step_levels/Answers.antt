@@ -23,85 +23,124 @@ use Rattle.amr_cycle.specs.Kept.{AreCurrent, AreKept}
 use Rattle.std.proofs.lemmas.Result.{on_ok_weaker}
 use Rattle.amr_cycle.proofs.KeptLaws.{all_below_after, current_again, current_all, current_first, current_rest, kept_again, kept_all, kept_first, kept_rest, valued_first}
 use Rattle.amr_cycle.proofs.Registers.{edges_stay}
-use Rattle.amr_cycle.proofs.Whole.{coarser_1, coarser_2, fits_2, flows_1, flows_2, flows_split, has2, kept_2, levels_are, next2_coarsenable, of_level_2, parents_2, part_1, part_2, placed_2, rest1_coarsenable, rest_coarsenable, small_2}
+use Rattle.amr_cycle.proofs.Whole.{IsBegun, IsMade, IsOver, coarser_1, coarser_2, fits_2, flows_1, flows_2, flows_split, has2, kept_2, levels_are, next2_coarsenable, of_level_2, parents_2, part_1, part_2, placed_2, rest1_coarsenable, rest_coarsenable, small_2}
 use Rattle.amr_cycle.proofs.levels.+step_levels.Given as given
-use Rattle.amr_cycle.proofs.levels.+step_levels.Goals.{In_ok-step_levels-2}
+use Rattle.amr_cycle.proofs.levels.+step_levels.Goals.{After-for_finer-inner, In-Some-split_first_mut, In_ok-step_levels, In_ok-step_levels-2}
 use Rattle.amr_cycle.proofs.levels.+step_levels.Goals as goal
+
+-- ---- the stages
+
+abbrev split : (g : given.Over) (t : ℕ) (c : In-Some-split_first_mut g t) → IsOver c.args.given.now.problem.now c.args.given.now.level (level_of c.args.level.now) c.args.finer.now (old_masses (option_copied c.args.given.now.old))
+split g t c = record { part = c.requires.part; next = c.in-Some-split_first_mut.next.now; rest = c.in-Some-split_first_mut.finest.now; is = c.in-Some-split_first_mut.ensures.cases.0 }
+
+abbrev begun : (g : given.Over) (t : ℕ) (c : After-for_finer-inner g t) → IsBegun (split g t (goal.at.After-for_finer-inner g t c).In-Some-split_first_mut)
+begun g t c = record {
+  before = arc_value c.in_ok-below.below.before;
+  same = c.in_ok-below.ensures.before;
+  register = c.in_ok-below.below.regs.coarser;
+  has = c.in_ok-below.ensures.register;
+  problem = c.for_finer-inner.result.problem.now;
+  problem_is = c.for_finer-inner.ensures.problem;
+  number = c.for_finer-inner.result.level;
+  number_is = c.for_finer-inner.ensures.level;
+  over = option_copied c.for_finer-inner.result.old;
+  over_is = c.for_finer-inner.ensures.old;
+}
+
+abbrev once : (g : given.Over) (t : ℕ) (c : In_ok-step_levels g t) → IsMade (begun g t (goal.at.In_ok-step_levels g t c).After-for_finer-inner) c.in-Some-split_first_mut.next.now c.in-Some-split_first_mut.finest.now c.in_ok-below.below.regs.coarser
+once g t c =
+    let made = c.step_levels.new in
+    let call = c.in_ok-step_levels.ensures in
+    record { next = made.level; rest = made.finer; after = made.regs.coarser; levels = call.levels; boxes = call.patches; change = call.coarser }
+
+abbrev twice : (g : given.Over) (t : ℕ) (c : In_ok-step_levels-2 g t) → IsMade (begun g t (goal.at.In_ok-step_levels-2 g t c).After-for_finer-inner) c.step_levels.new.level c.step_levels.new.finer c.step_levels.new.regs.coarser
+twice g t c =
+    let made = c.step_levels-2.new in
+    let call = c.in_ok-step_levels-2.ensures in
+    record { next = made.level; rest = made.finer; after = made.regs.coarser; levels = call.levels; boxes = call.patches; change = call.coarser }
+
+-- ---- the goals
 
 pub step_coarse-requires-clause-inflow : goal.step_coarse-requires-clause-inflow
 step_coarse-requires-clause-inflow g t c κs within =
-    omega (arith, c.requires.inflow, flows_split c.args.given.now.problem.now c.args.given.now.level (level_of c.args.level.now) c.args.finer.now (old_masses (option_copied c.args.given.now.old)) c.requires.part c.in-Some-split_first_mut.next.now c.in-Some-split_first_mut.finest.now c.in-Some-split_first_mut.ensures.cases.0 (inflow_beside c.args.given.now.problem.now))
+    let at = goal.at.step_coarse-requires-clause-inflow g t c in
+    omega (arith, c.requires.inflow, flows_split (split g t at.In-Some-split_first_mut) (inflow_beside c.args.given.now.problem.now))
 
 pub step_coarse-requires-clause-outflow : goal.step_coarse-requires-clause-outflow
 step_coarse-requires-clause-outflow g t c κs within =
-    omega (arith, c.requires.outflow, flows_split c.args.given.now.problem.now c.args.given.now.level (level_of c.args.level.now) c.args.finer.now (old_masses (option_copied c.args.given.now.old)) c.requires.part c.in-Some-split_first_mut.next.now c.in-Some-split_first_mut.finest.now c.in-Some-split_first_mut.ensures.cases.0 (outflow_beside c.args.given.now.problem.now))
+    let at = goal.at.step_coarse-requires-clause-outflow g t c in
+    omega (arith, c.requires.outflow, flows_split (split g t at.In-Some-split_first_mut) (outflow_beside c.args.given.now.problem.now))
 
 pub step_levels-requires-clause-part : goal.step_levels-requires-clause-part
 step_levels-requires-clause-part g t c κs within =
-    part_1 c.args.given.now.problem.now c.args.given.now.level (level_of c.args.level.now) c.args.finer.now (old_masses (option_copied c.args.given.now.old)) c.requires.part c.in-Some-split_first_mut.next.now c.in-Some-split_first_mut.finest.now c.in-Some-split_first_mut.ensures.cases.0 (arc_value c.in_ok-below.below.before) c.in_ok-below.ensures.before c.in_ok-below.below.regs.coarser c.in_ok-below.ensures.register c.for_finer-inner.result.problem.now c.for_finer-inner.ensures.problem c.for_finer-inner.result.level c.for_finer-inner.ensures.level (option_copied c.for_finer-inner.result.old) c.for_finer-inner.ensures.old
+    let at = goal.at.step_levels-requires-clause-part g t c in
+    part_1 _ (begun g t at.After-for_finer-inner)
 
 pub step_levels-requires-clause-coarser : goal.step_levels-requires-clause-coarser
 step_levels-requires-clause-coarser g t c κs within =
-    coarser_1 c.args.given.now.problem.now c.args.given.now.level (level_of c.args.level.now) c.args.finer.now (old_masses (option_copied c.args.given.now.old)) c.requires.part c.in-Some-split_first_mut.next.now c.in-Some-split_first_mut.finest.now c.in-Some-split_first_mut.ensures.cases.0 (arc_value c.in_ok-below.below.before) c.in_ok-below.ensures.before c.in_ok-below.below.regs.coarser c.in_ok-below.ensures.register c.for_finer-inner.result.problem.now c.for_finer-inner.ensures.problem c.for_finer-inner.result.level c.for_finer-inner.ensures.level (option_copied c.for_finer-inner.result.old) c.for_finer-inner.ensures.old
+    let at = goal.at.step_levels-requires-clause-coarser g t c in
+    coarser_1 _ (begun g t at.After-for_finer-inner)
 
 pub step_levels-requires-clause-coarsenable : goal.step_levels-requires-clause-coarsenable
 step_levels-requires-clause-coarsenable g t c κs within =
-    rest_coarsenable c.args.given.now.problem.now c.args.given.now.level (level_of c.args.level.now) c.args.finer.now (old_masses (option_copied c.args.given.now.old)) c.requires.part c.in-Some-split_first_mut.next.now c.in-Some-split_first_mut.finest.now c.in-Some-split_first_mut.ensures.cases.0 c.requires.coarsenable
+    let at = goal.at.step_levels-requires-clause-coarsenable g t c in
+    rest_coarsenable (split g t at.In-Some-split_first_mut) c.requires.coarsenable
 
 pub step_levels-requires-clause-inflow : goal.step_levels-requires-clause-inflow
 step_levels-requires-clause-inflow g t c κs within =
-    omega (arith, c.requires.inflow, c.in_ok-below.ensures.inflow, flows_split c.args.given.now.problem.now c.args.given.now.level (level_of c.args.level.now) c.args.finer.now (old_masses (option_copied c.args.given.now.old)) c.requires.part c.in-Some-split_first_mut.next.now c.in-Some-split_first_mut.finest.now c.in-Some-split_first_mut.ensures.cases.0 (inflow_beside c.args.given.now.problem.now), flows_1 c.args.given.now.problem.now c.args.given.now.level (level_of c.args.level.now) c.args.finer.now (old_masses (option_copied c.args.given.now.old)) c.requires.part c.in-Some-split_first_mut.next.now c.in-Some-split_first_mut.finest.now c.in-Some-split_first_mut.ensures.cases.0 (arc_value c.in_ok-below.below.before) c.in_ok-below.ensures.before c.in_ok-below.below.regs.coarser c.in_ok-below.ensures.register c.for_finer-inner.result.problem.now c.for_finer-inner.ensures.problem c.for_finer-inner.result.level c.for_finer-inner.ensures.level (option_copied c.for_finer-inner.result.old) c.for_finer-inner.ensures.old inflow_beside)
+    let at = goal.at.step_levels-requires-clause-inflow g t c in
+    omega (arith, c.requires.inflow, c.in_ok-below.ensures.inflow, flows_split (split g t at.In-Some-split_first_mut) (inflow_beside c.args.given.now.problem.now), flows_1 _ (begun g t at.After-for_finer-inner) inflow_beside)
 
 pub step_levels-requires-clause-outflow : goal.step_levels-requires-clause-outflow
 step_levels-requires-clause-outflow g t c κs within =
-    omega (arith, c.requires.outflow, c.in_ok-below.ensures.outflow, flows_split c.args.given.now.problem.now c.args.given.now.level (level_of c.args.level.now) c.args.finer.now (old_masses (option_copied c.args.given.now.old)) c.requires.part c.in-Some-split_first_mut.next.now c.in-Some-split_first_mut.finest.now c.in-Some-split_first_mut.ensures.cases.0 (outflow_beside c.args.given.now.problem.now), flows_1 c.args.given.now.problem.now c.args.given.now.level (level_of c.args.level.now) c.args.finer.now (old_masses (option_copied c.args.given.now.old)) c.requires.part c.in-Some-split_first_mut.next.now c.in-Some-split_first_mut.finest.now c.in-Some-split_first_mut.ensures.cases.0 (arc_value c.in_ok-below.below.before) c.in_ok-below.ensures.before c.in_ok-below.below.regs.coarser c.in_ok-below.ensures.register c.for_finer-inner.result.problem.now c.for_finer-inner.ensures.problem c.for_finer-inner.result.level c.for_finer-inner.ensures.level (option_copied c.for_finer-inner.result.old) c.for_finer-inner.ensures.old outflow_beside)
+    let at = goal.at.step_levels-requires-clause-outflow g t c in
+    omega (arith, c.requires.outflow, c.in_ok-below.ensures.outflow, flows_split (split g t at.In-Some-split_first_mut) (outflow_beside c.args.given.now.problem.now), flows_1 _ (begun g t at.After-for_finer-inner) outflow_beside)
 
 pub step_levels-requires-2-clause-part : goal.step_levels-requires-2-clause-part
 step_levels-requires-2-clause-part g t c κs within =
-    part_2 c.args.given.now.problem.now c.args.given.now.level (level_of c.args.level.now) c.args.finer.now (old_masses (option_copied c.args.given.now.old)) c.requires.part c.in-Some-split_first_mut.next.now c.in-Some-split_first_mut.finest.now c.in-Some-split_first_mut.ensures.cases.0 (arc_value c.in_ok-below.below.before) c.in_ok-below.ensures.before c.in_ok-below.below.regs.coarser c.in_ok-below.ensures.register c.for_finer-inner.result.problem.now c.for_finer-inner.ensures.problem c.for_finer-inner.result.level c.for_finer-inner.ensures.level (option_copied c.for_finer-inner.result.old) c.for_finer-inner.ensures.old
-    c.step_levels.new.level c.step_levels.new.finer c.step_levels.new.regs.coarser c.in_ok-step_levels.ensures.levels c.in_ok-step_levels.ensures.patches c.in_ok-step_levels.ensures.coarser
+    let at = goal.at.step_levels-requires-2-clause-part g t c in
+    part_2 _ _ (once g t at.In_ok-step_levels)
 
 pub step_levels-requires-2-clause-coarser : goal.step_levels-requires-2-clause-coarser
 step_levels-requires-2-clause-coarser g t c κs within =
-    coarser_2 c.args.given.now.problem.now c.args.given.now.level (level_of c.args.level.now) c.args.finer.now (old_masses (option_copied c.args.given.now.old)) c.requires.part c.in-Some-split_first_mut.next.now c.in-Some-split_first_mut.finest.now c.in-Some-split_first_mut.ensures.cases.0 (arc_value c.in_ok-below.below.before) c.in_ok-below.ensures.before c.in_ok-below.below.regs.coarser c.in_ok-below.ensures.register c.for_finer-inner.result.problem.now c.for_finer-inner.ensures.problem c.for_finer-inner.result.level c.for_finer-inner.ensures.level (option_copied c.for_finer-inner.result.old) c.for_finer-inner.ensures.old
-    c.step_levels.new.level c.step_levels.new.finer c.step_levels.new.regs.coarser c.in_ok-step_levels.ensures.levels c.in_ok-step_levels.ensures.patches c.in_ok-step_levels.ensures.coarser
+    let at = goal.at.step_levels-requires-2-clause-coarser g t c in
+    coarser_2 _ _ (once g t at.In_ok-step_levels)
 
 pub step_levels-requires-2-clause-coarsenable : goal.step_levels-requires-2-clause-coarsenable
 step_levels-requires-2-clause-coarsenable g t c κs within =
-    rest1_coarsenable c.args.given.now.problem.now c.args.given.now.level (level_of c.args.level.now) c.args.finer.now (old_masses (option_copied c.args.given.now.old)) c.requires.part c.in-Some-split_first_mut.next.now c.in-Some-split_first_mut.finest.now c.in-Some-split_first_mut.ensures.cases.0 (arc_value c.in_ok-below.below.before) c.in_ok-below.ensures.before c.in_ok-below.below.regs.coarser c.in_ok-below.ensures.register c.for_finer-inner.result.problem.now c.for_finer-inner.ensures.problem c.for_finer-inner.result.level c.for_finer-inner.ensures.level (option_copied c.for_finer-inner.result.old) c.for_finer-inner.ensures.old
-    c.step_levels.new.level c.step_levels.new.finer c.step_levels.new.regs.coarser c.in_ok-step_levels.ensures.levels c.in_ok-step_levels.ensures.patches c.in_ok-step_levels.ensures.coarser c.requires.coarsenable
+    let at = goal.at.step_levels-requires-2-clause-coarsenable g t c in
+    rest1_coarsenable _ _ (once g t at.In_ok-step_levels) c.requires.coarsenable
 
 pub step_levels-requires-2-clause-inflow : goal.step_levels-requires-2-clause-inflow
 step_levels-requires-2-clause-inflow g t c κs within =
+    let at = goal.at.step_levels-requires-2-clause-inflow g t c in
     omega (
       arith,
       c.requires.inflow,
       c.in_ok-below.ensures.inflow,
       c.in_ok-step_levels.ensures.inflow,
-      flows_split c.args.given.now.problem.now c.args.given.now.level (level_of c.args.level.now) c.args.finer.now (old_masses (option_copied c.args.given.now.old)) c.requires.part c.in-Some-split_first_mut.next.now c.in-Some-split_first_mut.finest.now c.in-Some-split_first_mut.ensures.cases.0 (inflow_beside c.args.given.now.problem.now),
-      flows_1 c.args.given.now.problem.now c.args.given.now.level (level_of c.args.level.now) c.args.finer.now (old_masses (option_copied c.args.given.now.old)) c.requires.part c.in-Some-split_first_mut.next.now c.in-Some-split_first_mut.finest.now c.in-Some-split_first_mut.ensures.cases.0 (arc_value c.in_ok-below.below.before) c.in_ok-below.ensures.before c.in_ok-below.below.regs.coarser c.in_ok-below.ensures.register c.for_finer-inner.result.problem.now c.for_finer-inner.ensures.problem c.for_finer-inner.result.level c.for_finer-inner.ensures.level (option_copied c.for_finer-inner.result.old) c.for_finer-inner.ensures.old inflow_beside,
-      flows_2 c.args.given.now.problem.now c.args.given.now.level (level_of c.args.level.now) c.args.finer.now (old_masses (option_copied c.args.given.now.old)) c.requires.part c.in-Some-split_first_mut.next.now c.in-Some-split_first_mut.finest.now c.in-Some-split_first_mut.ensures.cases.0 (arc_value c.in_ok-below.below.before) c.in_ok-below.ensures.before c.in_ok-below.below.regs.coarser c.in_ok-below.ensures.register c.for_finer-inner.result.problem.now c.for_finer-inner.ensures.problem c.for_finer-inner.result.level c.for_finer-inner.ensures.level (option_copied c.for_finer-inner.result.old) c.for_finer-inner.ensures.old
-          c.step_levels.new.level c.step_levels.new.finer c.step_levels.new.regs.coarser c.in_ok-step_levels.ensures.levels c.in_ok-step_levels.ensures.patches c.in_ok-step_levels.ensures.coarser inflow_beside,
+      flows_split (split g t at.In-Some-split_first_mut) (inflow_beside c.args.given.now.problem.now),
+      flows_1 _ (begun g t at.After-for_finer-inner) inflow_beside,
+      flows_2 _ _ (once g t at.In_ok-step_levels) inflow_beside,
     )
 
 pub step_levels-requires-2-clause-outflow : goal.step_levels-requires-2-clause-outflow
 step_levels-requires-2-clause-outflow g t c κs within =
+    let at = goal.at.step_levels-requires-2-clause-outflow g t c in
     omega (
       arith,
       c.requires.outflow,
       c.in_ok-below.ensures.outflow,
       c.in_ok-step_levels.ensures.outflow,
-      flows_split c.args.given.now.problem.now c.args.given.now.level (level_of c.args.level.now) c.args.finer.now (old_masses (option_copied c.args.given.now.old)) c.requires.part c.in-Some-split_first_mut.next.now c.in-Some-split_first_mut.finest.now c.in-Some-split_first_mut.ensures.cases.0 (outflow_beside c.args.given.now.problem.now),
-      flows_1 c.args.given.now.problem.now c.args.given.now.level (level_of c.args.level.now) c.args.finer.now (old_masses (option_copied c.args.given.now.old)) c.requires.part c.in-Some-split_first_mut.next.now c.in-Some-split_first_mut.finest.now c.in-Some-split_first_mut.ensures.cases.0 (arc_value c.in_ok-below.below.before) c.in_ok-below.ensures.before c.in_ok-below.below.regs.coarser c.in_ok-below.ensures.register c.for_finer-inner.result.problem.now c.for_finer-inner.ensures.problem c.for_finer-inner.result.level c.for_finer-inner.ensures.level (option_copied c.for_finer-inner.result.old) c.for_finer-inner.ensures.old outflow_beside,
-      flows_2 c.args.given.now.problem.now c.args.given.now.level (level_of c.args.level.now) c.args.finer.now (old_masses (option_copied c.args.given.now.old)) c.requires.part c.in-Some-split_first_mut.next.now c.in-Some-split_first_mut.finest.now c.in-Some-split_first_mut.ensures.cases.0 (arc_value c.in_ok-below.below.before) c.in_ok-below.ensures.before c.in_ok-below.below.regs.coarser c.in_ok-below.ensures.register c.for_finer-inner.result.problem.now c.for_finer-inner.ensures.problem c.for_finer-inner.result.level c.for_finer-inner.ensures.level (option_copied c.for_finer-inner.result.old) c.for_finer-inner.ensures.old
-          c.step_levels.new.level c.step_levels.new.finer c.step_levels.new.regs.coarser c.in_ok-step_levels.ensures.levels c.in_ok-step_levels.ensures.patches c.in_ok-step_levels.ensures.coarser outflow_beside,
+      flows_split (split g t at.In-Some-split_first_mut) (outflow_beside c.args.given.now.problem.now),
+      flows_1 _ (begun g t at.After-for_finer-inner) outflow_beside,
+      flows_2 _ _ (once g t at.In_ok-step_levels) outflow_beside,
     )
 
 pub correct-requires-clause-placed : goal.correct-requires-clause-placed
 correct-requires-clause-placed g t c =
-    placed_2 c.args.given.now.problem.now c.args.given.now.level (level_of c.args.level.now) c.args.finer.now (old_masses (option_copied c.args.given.now.old)) c.requires.part c.in-Some-split_first_mut.next.now c.in-Some-split_first_mut.finest.now c.in-Some-split_first_mut.ensures.cases.0 (arc_value c.in_ok-below.below.before) c.in_ok-below.ensures.before c.in_ok-below.below.regs.coarser c.in_ok-below.ensures.register c.for_finer-inner.result.problem.now c.for_finer-inner.ensures.problem c.for_finer-inner.result.level c.for_finer-inner.ensures.level (option_copied c.for_finer-inner.result.old) c.for_finer-inner.ensures.old
-    c.step_levels.new.level c.step_levels.new.finer c.step_levels.new.regs.coarser c.in_ok-step_levels.ensures.levels c.in_ok-step_levels.ensures.patches c.in_ok-step_levels.ensures.coarser
-    c.step_levels-2.new.level c.step_levels-2.new.finer c.step_levels-2.new.regs.coarser c.in_ok-step_levels-2.ensures.levels c.in_ok-step_levels-2.ensures.patches c.in_ok-step_levels-2.ensures.coarser
+    let at = goal.at.correct-requires-clause-placed g t c in
+    placed_2 _ _ (once g t at.In_ok-step_levels) (twice g t at.In_ok-step_levels-2)
 
 pub correct-requires-clause-edges : goal.correct-requires-clause-edges
 correct-requires-clause-edges g t c =
@@ -112,78 +151,71 @@ correct-requires-clause-edges g t c =
 
 pub correct-requires-clause-of_level : goal.correct-requires-clause-of_level
 correct-requires-clause-of_level g t c =
-    of_level_2 c.args.given.now.problem.now c.args.given.now.level (level_of c.args.level.now) c.args.finer.now (old_masses (option_copied c.args.given.now.old)) c.requires.part c.in-Some-split_first_mut.next.now c.in-Some-split_first_mut.finest.now c.in-Some-split_first_mut.ensures.cases.0 (arc_value c.in_ok-below.below.before) c.in_ok-below.ensures.before c.in_ok-below.below.regs.coarser c.in_ok-below.ensures.register c.for_finer-inner.result.problem.now c.for_finer-inner.ensures.problem c.for_finer-inner.result.level c.for_finer-inner.ensures.level (option_copied c.for_finer-inner.result.old) c.for_finer-inner.ensures.old
-    c.step_levels.new.level c.step_levels.new.finer c.step_levels.new.regs.coarser c.in_ok-step_levels.ensures.levels c.in_ok-step_levels.ensures.patches c.in_ok-step_levels.ensures.coarser
-    c.step_levels-2.new.level c.step_levels-2.new.finer c.step_levels-2.new.regs.coarser c.in_ok-step_levels-2.ensures.levels c.in_ok-step_levels-2.ensures.patches c.in_ok-step_levels-2.ensures.coarser
+    let at = goal.at.correct-requires-clause-of_level g t c in
+    of_level_2 _ _ (once g t at.In_ok-step_levels) (twice g t at.In_ok-step_levels-2)
     (level_of c.step_coarse.new.level).masses c.in_ok-below.ensures.masses
 
 pub correct-requires-clause-not_negative : goal.correct-requires-clause-not_negative
 correct-requires-clause-not_negative g t c =
-    kept_2 c.args.given.now.problem.now c.args.given.now.level (level_of c.args.level.now) c.args.finer.now (old_masses (option_copied c.args.given.now.old)) c.requires.part c.in-Some-split_first_mut.next.now c.in-Some-split_first_mut.finest.now c.in-Some-split_first_mut.ensures.cases.0 (arc_value c.in_ok-below.below.before) c.in_ok-below.ensures.before c.in_ok-below.below.regs.coarser c.in_ok-below.ensures.register c.for_finer-inner.result.problem.now c.for_finer-inner.ensures.problem c.for_finer-inner.result.level c.for_finer-inner.ensures.level (option_copied c.for_finer-inner.result.old) c.for_finer-inner.ensures.old
-    c.step_levels.new.level c.step_levels.new.finer c.step_levels.new.regs.coarser c.in_ok-step_levels.ensures.levels c.in_ok-step_levels.ensures.patches c.in_ok-step_levels.ensures.coarser
-    c.step_levels-2.new.level c.step_levels-2.new.finer c.step_levels-2.new.regs.coarser c.in_ok-step_levels-2.ensures.levels c.in_ok-step_levels-2.ensures.patches c.in_ok-step_levels-2.ensures.coarser
+    let at = goal.at.correct-requires-clause-not_negative g t c in
+    kept_2 _ _ (once g t at.In_ok-step_levels) (twice g t at.In_ok-step_levels-2)
     (level_of c.step_coarse.new.level).masses c.in_ok-below.ensures.masses
 
 pub correct-requires-clause-fits : goal.correct-requires-clause-fits
 correct-requires-clause-fits g t c =
-    fits_2 c.args.given.now.problem.now c.args.given.now.level (level_of c.args.level.now) c.args.finer.now (old_masses (option_copied c.args.given.now.old)) c.requires.part c.in-Some-split_first_mut.next.now c.in-Some-split_first_mut.finest.now c.in-Some-split_first_mut.ensures.cases.0 (arc_value c.in_ok-below.below.before) c.in_ok-below.ensures.before c.in_ok-below.below.regs.coarser c.in_ok-below.ensures.register c.for_finer-inner.result.problem.now c.for_finer-inner.ensures.problem c.for_finer-inner.result.level c.for_finer-inner.ensures.level (option_copied c.for_finer-inner.result.old) c.for_finer-inner.ensures.old
-    c.step_levels.new.level c.step_levels.new.finer c.step_levels.new.regs.coarser c.in_ok-step_levels.ensures.levels c.in_ok-step_levels.ensures.patches c.in_ok-step_levels.ensures.coarser
-    c.step_levels-2.new.level c.step_levels-2.new.finer c.step_levels-2.new.regs.coarser c.in_ok-step_levels-2.ensures.levels c.in_ok-step_levels-2.ensures.patches c.in_ok-step_levels-2.ensures.coarser
+    let at = goal.at.correct-requires-clause-fits g t c in
+    fits_2 _ _ (once g t at.In_ok-step_levels) (twice g t at.In_ok-step_levels-2)
     (level_of c.step_coarse.new.level).masses c.in_ok-below.ensures.masses
 
 pub correct-requires-clause-parents : goal.correct-requires-clause-parents
 correct-requires-clause-parents g t c =
-    parents_2 c.args.given.now.problem.now c.args.given.now.level (level_of c.args.level.now) c.args.finer.now (old_masses (option_copied c.args.given.now.old)) c.requires.part c.in-Some-split_first_mut.next.now c.in-Some-split_first_mut.finest.now c.in-Some-split_first_mut.ensures.cases.0 (arc_value c.in_ok-below.below.before) c.in_ok-below.ensures.before c.in_ok-below.below.regs.coarser c.in_ok-below.ensures.register c.for_finer-inner.result.problem.now c.for_finer-inner.ensures.problem c.for_finer-inner.result.level c.for_finer-inner.ensures.level (option_copied c.for_finer-inner.result.old) c.for_finer-inner.ensures.old
-    c.step_levels.new.level c.step_levels.new.finer c.step_levels.new.regs.coarser c.in_ok-step_levels.ensures.levels c.in_ok-step_levels.ensures.patches c.in_ok-step_levels.ensures.coarser
-    c.step_levels-2.new.level c.step_levels-2.new.finer c.step_levels-2.new.regs.coarser c.in_ok-step_levels-2.ensures.levels c.in_ok-step_levels-2.ensures.patches c.in_ok-step_levels-2.ensures.coarser
+    let at = goal.at.correct-requires-clause-parents g t c in
+    parents_2 _ _ (once g t at.In_ok-step_levels) (twice g t at.In_ok-step_levels-2)
     (level_of c.step_coarse.new.level).masses c.in_ok-below.ensures.masses
 
 pub correct-requires-clause-coarsenable : goal.correct-requires-clause-coarsenable
 correct-requires-clause-coarsenable g t c =
-    next2_coarsenable c.args.given.now.problem.now c.args.given.now.level (level_of c.args.level.now) c.args.finer.now (old_masses (option_copied c.args.given.now.old)) c.requires.part c.in-Some-split_first_mut.next.now c.in-Some-split_first_mut.finest.now c.in-Some-split_first_mut.ensures.cases.0 (arc_value c.in_ok-below.below.before) c.in_ok-below.ensures.before c.in_ok-below.below.regs.coarser c.in_ok-below.ensures.register c.for_finer-inner.result.problem.now c.for_finer-inner.ensures.problem c.for_finer-inner.result.level c.for_finer-inner.ensures.level (option_copied c.for_finer-inner.result.old) c.for_finer-inner.ensures.old
-    c.step_levels.new.level c.step_levels.new.finer c.step_levels.new.regs.coarser c.in_ok-step_levels.ensures.levels c.in_ok-step_levels.ensures.patches c.in_ok-step_levels.ensures.coarser
-    c.step_levels-2.new.level c.step_levels-2.new.finer c.step_levels-2.new.regs.coarser c.in_ok-step_levels-2.ensures.levels c.in_ok-step_levels-2.ensures.patches c.in_ok-step_levels-2.ensures.coarser c.requires.coarsenable
+    let at = goal.at.correct-requires-clause-coarsenable g t c in
+    next2_coarsenable _ _ (once g t at.In_ok-step_levels) (twice g t at.In_ok-step_levels-2) c.requires.coarsenable
 
 pub correct-requires-clause-small : goal.correct-requires-clause-small
 correct-requires-clause-small g t c =
-    small_2 c.args.given.now.problem.now c.args.given.now.level (level_of c.args.level.now) c.args.finer.now (old_masses (option_copied c.args.given.now.old)) c.requires.part c.in-Some-split_first_mut.next.now c.in-Some-split_first_mut.finest.now c.in-Some-split_first_mut.ensures.cases.0 (arc_value c.in_ok-below.below.before) c.in_ok-below.ensures.before c.in_ok-below.below.regs.coarser c.in_ok-below.ensures.register c.for_finer-inner.result.problem.now c.for_finer-inner.ensures.problem c.for_finer-inner.result.level c.for_finer-inner.ensures.level (option_copied c.for_finer-inner.result.old) c.for_finer-inner.ensures.old
-    c.step_levels.new.level c.step_levels.new.finer c.step_levels.new.regs.coarser c.in_ok-step_levels.ensures.levels c.in_ok-step_levels.ensures.patches c.in_ok-step_levels.ensures.coarser
-    c.step_levels-2.new.level c.step_levels-2.new.finer c.step_levels-2.new.regs.coarser c.in_ok-step_levels-2.ensures.levels c.in_ok-step_levels-2.ensures.patches c.in_ok-step_levels-2.ensures.coarser
+    let at = goal.at.correct-requires-clause-small g t c in
+    small_2 _ _ (once g t at.In_ok-step_levels) (twice g t at.In_ok-step_levels-2)
     (level_of c.step_coarse.new.level).masses c.in_ok-below.ensures.masses
 
 pub returns-clause-levels : goal.returns-clause-levels
 returns-clause-levels g t c =
+    let at = goal.at.returns-clause-levels g t c in
     (λ i. level_of c.correct.new.level ∷ c.in_ok-correct.ensures.finer i ∷ map level_of c.step_levels-2.new.finer)
-    ∙ levels_are c.args.given.now.problem.now c.args.given.now.level (level_of c.args.level.now) c.args.finer.now (old_masses (option_copied c.args.given.now.old)) c.requires.part c.in-Some-split_first_mut.next.now c.in-Some-split_first_mut.finest.now c.in-Some-split_first_mut.ensures.cases.0 (arc_value c.in_ok-below.below.before) c.in_ok-below.ensures.before c.in_ok-below.below.regs.coarser c.in_ok-below.ensures.register c.for_finer-inner.result.problem.now c.for_finer-inner.ensures.problem c.for_finer-inner.result.level c.for_finer-inner.ensures.level (option_copied c.for_finer-inner.result.old) c.for_finer-inner.ensures.old
-    c.step_levels.new.level c.step_levels.new.finer c.step_levels.new.regs.coarser c.in_ok-step_levels.ensures.levels c.in_ok-step_levels.ensures.patches c.in_ok-step_levels.ensures.coarser
-    c.step_levels-2.new.level c.step_levels-2.new.finer c.step_levels-2.new.regs.coarser c.in_ok-step_levels-2.ensures.levels c.in_ok-step_levels-2.ensures.patches c.in_ok-step_levels-2.ensures.coarser
+    ∙ levels_are _ _ (once g t at.In_ok-step_levels) (twice g t at.In_ok-step_levels-2)
     (level_of c.correct.new.level) (c.in_ok-correct.ensures.boxes ∙ c.in_ok-below.ensures.boxes)
     (c.in_ok-correct.ensures.masses ∙ ap (λ (m : Masses). summed (level_of c.step_levels-2.new.level).masses (with_entries (entries_of c.step_levels-2.new.regs.coarser) m)) c.in_ok-below.ensures.masses)
 
 pub returns-clause-inflow : goal.returns-clause-inflow
 returns-clause-inflow g t c =
+    let at = goal.at.returns-clause-inflow g t c in
     omega (
       arith,
       c.in_ok-below.ensures.inflow,
       c.in_ok-step_levels.ensures.inflow,
       c.in_ok-step_levels-2.ensures.inflow,
-      flows_split c.args.given.now.problem.now c.args.given.now.level (level_of c.args.level.now) c.args.finer.now (old_masses (option_copied c.args.given.now.old)) c.requires.part c.in-Some-split_first_mut.next.now c.in-Some-split_first_mut.finest.now c.in-Some-split_first_mut.ensures.cases.0 (inflow_beside c.args.given.now.problem.now),
-      flows_1 c.args.given.now.problem.now c.args.given.now.level (level_of c.args.level.now) c.args.finer.now (old_masses (option_copied c.args.given.now.old)) c.requires.part c.in-Some-split_first_mut.next.now c.in-Some-split_first_mut.finest.now c.in-Some-split_first_mut.ensures.cases.0 (arc_value c.in_ok-below.below.before) c.in_ok-below.ensures.before c.in_ok-below.below.regs.coarser c.in_ok-below.ensures.register c.for_finer-inner.result.problem.now c.for_finer-inner.ensures.problem c.for_finer-inner.result.level c.for_finer-inner.ensures.level (option_copied c.for_finer-inner.result.old) c.for_finer-inner.ensures.old inflow_beside,
-      flows_2 c.args.given.now.problem.now c.args.given.now.level (level_of c.args.level.now) c.args.finer.now (old_masses (option_copied c.args.given.now.old)) c.requires.part c.in-Some-split_first_mut.next.now c.in-Some-split_first_mut.finest.now c.in-Some-split_first_mut.ensures.cases.0 (arc_value c.in_ok-below.below.before) c.in_ok-below.ensures.before c.in_ok-below.below.regs.coarser c.in_ok-below.ensures.register c.for_finer-inner.result.problem.now c.for_finer-inner.ensures.problem c.for_finer-inner.result.level c.for_finer-inner.ensures.level (option_copied c.for_finer-inner.result.old) c.for_finer-inner.ensures.old
-          c.step_levels.new.level c.step_levels.new.finer c.step_levels.new.regs.coarser c.in_ok-step_levels.ensures.levels c.in_ok-step_levels.ensures.patches c.in_ok-step_levels.ensures.coarser inflow_beside,
+      flows_split (split g t at.In-Some-split_first_mut) (inflow_beside c.args.given.now.problem.now),
+      flows_1 _ (begun g t at.After-for_finer-inner) inflow_beside,
+      flows_2 _ _ (once g t at.In_ok-step_levels) inflow_beside,
     )
 
 pub returns-clause-outflow : goal.returns-clause-outflow
 returns-clause-outflow g t c =
+    let at = goal.at.returns-clause-outflow g t c in
     omega (
       arith,
       c.in_ok-below.ensures.outflow,
       c.in_ok-step_levels.ensures.outflow,
       c.in_ok-step_levels-2.ensures.outflow,
-      flows_split c.args.given.now.problem.now c.args.given.now.level (level_of c.args.level.now) c.args.finer.now (old_masses (option_copied c.args.given.now.old)) c.requires.part c.in-Some-split_first_mut.next.now c.in-Some-split_first_mut.finest.now c.in-Some-split_first_mut.ensures.cases.0 (outflow_beside c.args.given.now.problem.now),
-      flows_1 c.args.given.now.problem.now c.args.given.now.level (level_of c.args.level.now) c.args.finer.now (old_masses (option_copied c.args.given.now.old)) c.requires.part c.in-Some-split_first_mut.next.now c.in-Some-split_first_mut.finest.now c.in-Some-split_first_mut.ensures.cases.0 (arc_value c.in_ok-below.below.before) c.in_ok-below.ensures.before c.in_ok-below.below.regs.coarser c.in_ok-below.ensures.register c.for_finer-inner.result.problem.now c.for_finer-inner.ensures.problem c.for_finer-inner.result.level c.for_finer-inner.ensures.level (option_copied c.for_finer-inner.result.old) c.for_finer-inner.ensures.old outflow_beside,
-      flows_2 c.args.given.now.problem.now c.args.given.now.level (level_of c.args.level.now) c.args.finer.now (old_masses (option_copied c.args.given.now.old)) c.requires.part c.in-Some-split_first_mut.next.now c.in-Some-split_first_mut.finest.now c.in-Some-split_first_mut.ensures.cases.0 (arc_value c.in_ok-below.below.before) c.in_ok-below.ensures.before c.in_ok-below.below.regs.coarser c.in_ok-below.ensures.register c.for_finer-inner.result.problem.now c.for_finer-inner.ensures.problem c.for_finer-inner.result.level c.for_finer-inner.ensures.level (option_copied c.for_finer-inner.result.old) c.for_finer-inner.ensures.old
-          c.step_levels.new.level c.step_levels.new.finer c.step_levels.new.regs.coarser c.in_ok-step_levels.ensures.levels c.in_ok-step_levels.ensures.patches c.in_ok-step_levels.ensures.coarser outflow_beside,
+      flows_split (split g t at.In-Some-split_first_mut) (outflow_beside c.args.given.now.problem.now),
+      flows_1 _ (begun g t at.After-for_finer-inner) outflow_beside,
+      flows_2 _ _ (once g t at.In_ok-step_levels) outflow_beside,
     )
 
 pub step_finest-requires-clause-kept : goal.step_finest-requires-clause-kept
@@ -205,15 +237,14 @@ first_kept g t c = omega (arith, c.in_ok-step_levels-2.ensures.kept_count, c.in_
 
 pub returns-clause-kept : goal.returns-clause-kept
 returns-clause-kept g t c =
+    let at = goal.at.returns-clause-kept g t c in
     let p = c.args.given.now.problem.now in
     let k = level_of c.args.level.now in
     let fine = level_of c.in-Some-split_first_mut.next.now in
     let finer =
     subst (λ n. AreKept p n c.step_levels-2.new.kept) c.for_finer-inner.ensures.level (subst (λ (q : Problem). AreKept q c.for_finer-inner.result.level c.step_levels-2.new.kept) c.for_finer-inner.ensures.problem c.in_ok-step_levels-2.ensures.kept) in
     let has =
-    has2 c.args.given.now.problem.now c.args.given.now.level (level_of c.args.level.now) c.args.finer.now (old_masses (option_copied c.args.given.now.old)) c.requires.part c.in-Some-split_first_mut.next.now c.in-Some-split_first_mut.finest.now c.in-Some-split_first_mut.ensures.cases.0 (arc_value c.in_ok-below.below.before) c.in_ok-below.ensures.before c.in_ok-below.below.regs.coarser c.in_ok-below.ensures.register c.for_finer-inner.result.problem.now c.for_finer-inner.ensures.problem c.for_finer-inner.result.level c.for_finer-inner.ensures.level (option_copied c.for_finer-inner.result.old) c.for_finer-inner.ensures.old
-    c.step_levels.new.level c.step_levels.new.finer c.step_levels.new.regs.coarser c.in_ok-step_levels.ensures.levels c.in_ok-step_levels.ensures.patches c.in_ok-step_levels.ensures.coarser
-    c.step_levels-2.new.level c.step_levels-2.new.finer c.step_levels-2.new.regs.coarser c.in_ok-step_levels-2.ensures.levels c.in_ok-step_levels-2.ensures.patches c.in_ok-step_levels-2.ensures.coarser in
+    has2 _ _ (once g t at.In_ok-step_levels) (twice g t at.In_ok-step_levels-2) in
     let again : KeptLevel = record { layout = c.correct.new.finer_kept; below = (get_or c.step_levels-2.new.kept 0 c.index-rest-0.result).below } in
     let same =
     subst (λ (o : Option Register). IfSome c.kept_of.result (λ (b : KeptBelow). (b.before ≡ arc_value c.in_ok-below.below.before) × (b.finer ≡ c.in_ok-below.below.finer) × (Some b.register ≡ o))) c.in_ok-correct.ensures.register c.kept_of.ensures in
