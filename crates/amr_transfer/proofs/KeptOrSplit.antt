@@ -16,7 +16,7 @@ use Rattle.std.specs.List.{All}
 use Rattle.amr_patch.specs.Pairwise.{Pairwise}
 use Rattle.amr_patch.specs.Patches.{KeepsFrameAndFluxes, box, mass_in, masses_in}
 use Rattle.amr_transfer.proofs.PatchLists.{kept_in, masses_had}
-use Rattle.amr_transfer.specs.Given.{HasMasses, IsGiven, IsKept}
+use Rattle.amr_transfer.specs.Given.{HasMasses, IsGiven, HasOldMasses}
 use Rattle.amr_transfer.specs.Shares.{HasChildren, IsInSync, kept_or_split}
 use Rattle.amr_transfer.proofs.Halves.{share_child}
 
@@ -40,7 +40,7 @@ filled_patch coarse old p q r split kept = record { at = λ c h. cases c h (is_s
         kept.others c now e ∙ split.given c first first ∙ split_none (old c) (split_mass coarse c) e
 
 -- a patch whose cells all were of the old level
-pub whole_patch : (coarse old : Masses) (p q : Patch) → IsKept old (holds (box p)) p q → HasMasses (kept_or_split coarse old) q
+pub whole_patch : (coarse old : Masses) (p q : Patch) → HasOldMasses old (holds (box p)) p q → HasMasses (kept_or_split coarse old) q
 whole_patch coarse old p q kept = record { at = λ c h. all c (subst (λ (b : Extent). holds b c ≡ true) kept.given.kept.of_box h) }
   where
     all : (c : Cell) → holds (box p) c ≡ true → mass_in q c ≡ kept_or_split coarse old c

@@ -29,3 +29,7 @@ pub record IsRow (p : Patch) (y : ℤ) (ms : List ℕ) : Type 0 where
 -- the masses of two neighbours of a row and of the two above them, the k-th four of the rows
 abbrev pub four_at : List ℕ → List ℕ → ℕ → ℕ
 four_at lower upper k = slice_index lower (2 * k) + slice_index lower (2 * k + 1) + slice_index upper (2 * k) + slice_index upper (2 * k + 1)
+
+-- the fours of two rows are the masses of the cells of a row, from a cell on
+abbrev pub AreFours : (Cell → ℕ) → Cell → List ℕ → List ℕ → Type 0
+AreFours mass c lower upper = (k : ℕ) → 2 * k + 1 < length lower → four_at lower upper k ≡ mass (cell (c.x +ℤ pos k) c.y)

@@ -1,12 +1,12 @@
 //! Cells of a patch that were cells of the level keep their masses.
 
-ghost use Rattle.std.specs.Prelude.{◌≡◌, true, ℕ, ◌&&◌, pos, ◌+ℤ◌, ◌-ℤ◌, ◌≤ℤ◌, is_some, IsTrue};
+ghost use Rattle.std.specs.Prelude.{◌≡◌, true, ℕ, ◌&&◌, pos, ◌+ℤ◌, ◌≤ℤ◌, is_some, IsTrue};
 ghost use Rattle.amr_box.specs.declared.Cell.{Cell};
 ghost use Rattle.amr_box.specs.Cells.{IsBoxOf, IsNear, holds};
 ghost use Rattle.amr_def.specs.State.{mass_of};
 ghost use Rattle.amr_patch.specs.Orders.{IsOrderOf};
 ghost use Rattle.amr_patch.specs.Patches.{ArePatchesApart, KeepsFrameAndFluxes, box, mass_in, masses_in};
-ghost use Rattle.amr_transfer.specs.Given.{IsGiven, IsKept, span};
+ghost use Rattle.amr_transfer.specs.Given.{HasOldMasses, IsCountFrom, IsGiven, span};
 
 use crate::cells::{above, ahead, cells_from};
 use crate::giving::give;
@@ -66,7 +66,7 @@ fn keep_run(old: &[Patch], order: Order, near: &mut usize, patch: &mut Patch, c:
     requires apart { ArePatchesApart old.now }
     requires inside { IsTrue (holds (box patch.old) c) }
     ensures within { (c.x +ℤ pos result) ≤ℤ ((box patch.old).hi.x +ℤ pos 1) }
-    ensures kept { IsKept (masses_in old.now) (holds (span c result)) patch.old patch.new }
+    ensures kept { HasOldMasses (masses_in old.now) (holds (span c result)) patch.old patch.new }
 {
     match find_near(old, order, near, c) {
         None => 0,
@@ -86,7 +86,7 @@ fn keep_row(old: &[Patch], order: Order, near: &mut usize, patch: &mut Patch, lo
     requires apart { ArePatchesApart old.now }
     requires inside { IsTrue (holds (box patch.old) low) }
     ensures frame { KeepsFrameAndFluxes patch.old patch.new }
-    ensures kept { result ≡ true → (n : ℕ) → pos n ≡ (box patch.old).hi.x +ℤ pos 1 -ℤ low.x → IsKept (masses_in old.now) (holds (span low n)) patch.old patch.new }
+    ensures kept { result ≡ true → (n : ℕ) → IsCountFrom (box patch.old) low n → HasOldMasses (masses_in old.now) (holds (span low n)) patch.old patch.new }
 {
     let width = cells_from(&patch.bx(), low) as u32;
     let mut done = 0;
@@ -106,7 +106,7 @@ pub(crate) fn keep_whole(old: &[Patch], order: Order, near: &mut usize, patch: &
     requires order { IsOrderOf order old.now }
     requires apart { ArePatchesApart old.now }
     ensures frame { KeepsFrameAndFluxes patch.old patch.new }
-    ensures kept { result ≡ true → IsKept (masses_in old.now) (holds (box patch.old)) patch.old patch.new }
+    ensures kept { result ≡ true → HasOldMasses (masses_in old.now) (holds (box patch.old)) patch.old patch.new }
 {
     let b = patch.bx();
     for k in 0..b.height() {

@@ -1,6 +1,6 @@
 //! The masses of a level that is made anew.
 
-ghost use Rattle.std.specs.Prelude.{◌≡◌, ℕ, ◌+◌, ◌*◌, ◌/◌, ◌%◌, ◌<◌, ◌≤◌, pos, ◌+ℤ◌, ◌-ℤ◌, ◌≤ℤ◌, Some, length, slice_index, is_some, IsSome, IsTrue};
+ghost use Rattle.std.specs.Prelude.{◌≡◌, ℕ, ◌+◌, ◌*◌, ◌/◌, ◌%◌, ◌<◌, ◌≤◌, pos, ◌+ℤ◌, ◌≤ℤ◌, Some, length, slice_index, is_some, IsSome, IsTrue};
 ghost use Rattle.std.specs.Option.{option_copied};
 ghost use Rattle.std.specs.List.{All};
 ghost use Rattle.amr_box.specs.declared.Cell.{Cell};
@@ -11,7 +11,7 @@ ghost use Rattle.amr_patch.specs.Levels.{level_of, patches_of};
 ghost use Rattle.amr_patch.specs.Pairwise.{Pairwise};
 ghost use Rattle.amr_patch.specs.Orders.{IsOrderOf};
 ghost use Rattle.amr_patch.specs.Patches.{ArePatchesApart, KeepsFrameAndFluxes, box, in_patches, masses_in};
-ghost use Rattle.amr_transfer.specs.Given.{HasMasses, IsGiven, span};
+ghost use Rattle.amr_transfer.specs.Given.{HasMasses, IsCountFrom, IsGiven, span};
 ghost use Rattle.amr_transfer.specs.Shares.{HasChildren, IsInSync, kept_or_split, masses_before};
 
 use crate::cells::{ROOM, above, ahead, cells_from, odd};
@@ -80,7 +80,7 @@ fn split_row(coarse: &Level, near: &mut usize, patch: &mut Patch, low: Cell, roo
     requires parents { (c : Cell) → IsTrue (holds (box patch.old) c) → IsSome ((level_of coarse.now).masses (parent c)) }
     requires inside { IsTrue (holds (box patch.old) low) }
     requires room { length room.old ≡ 256 }
-    ensures { (n : ℕ) → pos n ≡ (box patch.old).hi.x +ℤ pos 1 -ℤ low.x → IsGiven (holds (span low n)) (split_mass (level_of coarse.now).masses) patch.old patch.new }
+    ensures { (n : ℕ) → IsCountFrom (box patch.old) low n → IsGiven (holds (span low n)) (split_mass (level_of coarse.now).masses) patch.old patch.new }
 {
     let width = cells_from(&patch.bx(), low) as u32;
     let mut done = 0;

@@ -10,7 +10,7 @@ ghost use Rattle.amr_patch.specs.Orders.{IsOrderOf};
 ghost use Rattle.amr_patch.specs.Pairwise.{Pairwise};
 ghost use Rattle.amr_patch.specs.Patches.{ArePatchesApart, KeepsFrameAndFluxes, box, in_patches, masses_in};
 ghost use Rattle.amr_transfer.specs.Given.{IsGiven, span};
-ghost use Rattle.amr_transfer.specs.Sums.{AreCoarsenable, IsRow, children_in, four_at, summed};
+ghost use Rattle.amr_transfer.specs.Sums.{AreCoarsenable, AreFours, IsRow, children_in, four_at, summed};
 
 use crate::cells::{ROOM, above, ahead, cells_from};
 use crate::covering::cover_box;
@@ -51,7 +51,7 @@ fn sum_in_patch(patch: &mut Patch, c: Cell, children: Children<'_>, room: &mut [
     ensures some { 0 < result }
     ensures within { 2 * result ≤ length children.entry.lower.now }
     ensures inside { (c.x +ℤ pos result) ≤ℤ ((box patch.old).hi.x +ℤ pos 1) }
-    ensures given { (mass : Cell → ℕ) → ((k : ℕ) → 2 * k + 1 < length children.entry.lower.now → four_at children.entry.lower.now children.entry.upper.now k ≡ mass (cell (c.x +ℤ pos k) c.y)) → IsGiven (holds (span c result)) mass patch.old patch.new }
+    ensures given { (mass : Cell → ℕ) → AreFours mass c children.entry.lower.now children.entry.upper.now → IsGiven (holds (span c result)) mass patch.old patch.new }
 {
     let count = (children.lower.len() / 2)
         .min(room.len())
@@ -80,7 +80,7 @@ fn sum_span(
     requires room { length room.old ≡ 256 }
     ensures some { 0 < result }
     ensures within { 2 * result ≤ length children.entry.lower.now }
-    ensures given { (mass : Cell → ℕ) → ((k : ℕ) → 2 * k + 1 < length children.entry.lower.now → four_at children.entry.lower.now children.entry.upper.now k ≡ mass (cell (c.x +ℤ pos k) c.y)) → Pairwise (IsGiven (holds (span c result)) mass) patches.old patches.new }
+    ensures given { (mass : Cell → ℕ) → AreFours mass c children.entry.lower.now children.entry.upper.now → Pairwise (IsGiven (holds (span c result)) mass) patches.old patches.new }
 {
     match find_near(patches, order, near, c) {
         None => unreachable!(),

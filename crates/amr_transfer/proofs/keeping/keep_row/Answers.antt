@@ -6,7 +6,7 @@ use Rattle.amr_box.specs.Cells.{Extent, IsNear, holds}
 use Rattle.amr_patch.specs.Patches.{box, masses_in}
 use Rattle.amr_patch.proofs.Keeping.{kept_twice}
 use Rattle.amr_patch.proofs.Rows.{inside}
-use Rattle.amr_transfer.specs.Given.{IsKept, span}
+use Rattle.amr_transfer.specs.Given.{HasOldMasses, span}
 use Rattle.amr_transfer.proofs.BoxRows.{ahead_held}
 use Rattle.amr_transfer.proofs.GivenCells.{still_held}
 use Rattle.amr_transfer.proofs.KeptCells.{kept_more, kept_none}
@@ -65,4 +65,4 @@ pub returns-clause-kept : goal.returns-clause-kept
 returns-clause-kept c _ n e =
     let count = c.cells_from-width.ensures.count ∙ ap (λ (b : Extent). b.hi.x +ℤ pos 1 -ℤ c.args.low.x) c.bx.ensures.value in
     let all : c.loop-done.done ≡ n = omega (arith, ints, c.loop-done-test.false, c.loop-done.invariant.within, count, e) in
-    subst (λ (m : ℕ). IsKept (masses_in c.args.old.now) (holds (span c.args.low m)) c.args.patch.now c.loop-done.patch) all c.loop-done.invariant.kept
+    subst (λ (m : ℕ). HasOldMasses (masses_in c.args.old.now) (holds (span c.args.low m)) c.args.patch.now c.loop-done.patch) all c.loop-done.invariant.kept
