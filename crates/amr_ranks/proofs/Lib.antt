@@ -1,0 +1,12 @@
+pub mod Sums
+pub mod Chosen
+pub mod Masses
+pub mod Events
+pub mod Came
+pub mod Weighs
+pub mod Whole
+pub mod Held
+pub mod Found
+pub mod Kept
+pub mod Looked
+pub mod Slices
