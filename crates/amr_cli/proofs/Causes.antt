@@ -16,8 +16,8 @@ use Rattle.clap.proofs.ValueTestLemmas.{accepts-Accepts}
 use Rattle.amr_cli.specs.Table.{NumberRow, keep, number, size, to, workers}
 use Rattle.amr_cli.specs.Program.{program_app}
 use Rattle.amr_cli.specs.Numbers.{in_range, number_of}
-use Rattle.amr_cli.specs.Words.{command_from, command_of, may_be_command, is_command_name, is_help, option_of, or_one, place_of, run_of, trial_of, workers_of}
-use Rattle.amr_cli.specs.declared.command.Command.TheVariants.{Run, Trial}
+use Rattle.amr_cli.specs.Words.{command_from, command_of, may_be_command, is_command_name, is_help, option_of, or_one, place_of, run_by, run_of, trial_of, workers_of}
+use Rattle.amr_cli.specs.declared.command.Command.TheVariants.{Trial}
 use Rattle.amr_cli.proofs.Numerals.{taken_is_read}
 use Rattle.amr_cli.proofs.Walks.{Every, IsPlainRule, RowsFit, checks, first_none, first_passes, given_first, rows_fit, second_none}
 
@@ -94,7 +94,7 @@ run_read : (words : List Text) → level_fault run_shape [] nothing_held words f
 run_read words none =
     let rows = rows_after run_shape.rules [] words in
     let fit = rows_fit run_shape run_plain words none in
-    all_three (λ w k e. Run w k e) (workers_of rows) (option_of to rows) (option_of keep rows)
+    all_three (λ w k e. run_by w k e) (workers_of rows) (option_of to rows) (option_of keep rows)
     (workers_read (option_of workers rows) (option_read workers run_shape.rules _ refl refl rows fit))
     (option_read to run_shape.rules _ refl refl rows fit)
     (option_read keep run_shape.rules _ refl refl rows fit)

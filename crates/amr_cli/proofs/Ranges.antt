@@ -6,9 +6,9 @@ use Rattle.std.proofs.lemmas.Option.{cond_some, none-some, same_Some, IfSome_the
 use Rattle.clap.specs.Words.{Row, Text, first_of}
 use Rattle.amr_cli.specs.Table.{NumberRow, keep, number, size, to, workers}
 use Rattle.amr_cli.specs.Numbers.{in_range, number_of}
-use Rattle.amr_cli.specs.Words.{HasRanges, HasWorkers, command_from, option_of, or_one, place_of, run_of, trial_of, workers_of}
+use Rattle.amr_cli.specs.Words.{HasRanges, HasWorkers, command_from, option_of, or_one, place_of, run_by, run_of, trial_of, workers_of}
 use Rattle.amr_cli.specs.declared.command.Command.{Command}
-use Rattle.amr_cli.specs.declared.command.Command.TheVariants.{Run, Check, Show, Trial}
+use Rattle.amr_cli.specs.declared.command.Command.TheVariants.{Check, Show, Trial}
 
 -- a number that was taken lies in the range
 in_range_within : (low high n m : ℕ) → in_range low high n ≡ Some m → (low ≤ m) × (m ≤ high)
@@ -68,9 +68,9 @@ Has command = HasWorkers command × HasRanges command
 
 run_has : (command : Command) (rows : List Row) → run_of rows ≡ Some command → Has command
 run_has command rows is =
-    option_and_then_some (λ (w : ℕ). option_and_then (λ (k : Option ℕ). option_map (λ (e : Option ℕ). Run w k e) (option_of keep rows)) (option_of to rows)) (workers_of rows) command is
-    (λ w w_is rest. option_and_then_some (λ (k : Option ℕ). option_map (λ (e : Option ℕ). Run w k e) (option_of keep rows)) (option_of to rows) command rest
-    (λ k k_is last. mapped_some (λ (e : Option ℕ). Run w k e) (option_of keep rows) command last
+    option_and_then_some (λ (w : ℕ). option_and_then (λ (k : Option ℕ). option_map (λ (e : Option ℕ). run_by w k e) (option_of keep rows)) (option_of to rows)) (workers_of rows) command is
+    (λ w w_is rest. option_and_then_some (λ (k : Option ℕ). option_map (λ (e : Option ℕ). run_by w k e) (option_of keep rows)) (option_of to rows) command rest
+    (λ k k_is last. mapped_some (λ (e : Option ℕ). run_by w k e) (option_of keep rows) command last
     (λ e e_is made. subst Has made
     (workers_within rows w w_is, (IfSome_then k (option_ranged to rows k k_is) (λ _ p. p.1), option_ranged keep rows e e_is)))))
 

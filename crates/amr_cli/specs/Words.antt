@@ -45,9 +45,13 @@ or_one (Some n) = n
 abbrev pub workers_of : List Row → Option ℕ
 workers_of rows = option_map or_one (option_of workers rows)
 
+-- a run by its numbers
+abbrev pub run_by : ℕ → Option ℕ → Option ℕ → Command
+run_by w k e = Run record { workers = w; to = k; keep = e }
+
 abbrev pub run_of : List Row → Option Command
 run_of rows =
-    option_and_then (λ w. option_and_then (λ k. option_map (λ e. Run w k e) (option_of keep rows)) (option_of to rows)) (workers_of rows)
+    option_and_then (λ w. option_and_then (λ k. option_map (λ e. run_by w k e) (option_of keep rows)) (option_of to rows)) (workers_of rows)
 
 abbrev pub trial_of : List Row → Option Command
 trial_of rows =
@@ -73,7 +77,7 @@ command_of words =
 
 -- a number of workers from 1 to 64, where the command has one
 abbrev pub HasWorkers : Command → Type 0
-HasWorkers (Run w _ _) = (1 ≤ w) × (w ≤ 64)
+HasWorkers (Run options) = (1 ≤ options.workers) × (options.workers ≤ 64)
 HasWorkers Check = Unit {0}
 HasWorkers Show = Unit {0}
 HasWorkers (Trial _ _ w) = (1 ≤ w) × (w ≤ 64)
@@ -81,7 +85,7 @@ HasWorkers (Trial _ _ w) = (1 ≤ w) × (w ≤ 64)
 -- a run stops at a step up to 4096, and from 1 to 4096 steps lie between two checkpoints; a trial is drawn from a number of
 -- 32 bits, with from 8 to 256 cells along each axis
 abbrev pub HasRanges : Command → Type 0
-HasRanges (Run _ stop every) = IfSome stop (λ k. k ≤ 4096) × IfSome every (λ e. (1 ≤ e) × (e ≤ 4096))
+HasRanges (Run options) = IfSome options.to (λ k. k ≤ 4096) × IfSome options.keep (λ e. (1 ≤ e) × (e ≤ 4096))
 HasRanges Check = Unit {0}
 HasRanges Show = Unit {0}
 HasRanges (Trial n m _) = (n < 2 ^ 32) × (8 ≤ m) × (m ≤ 256)

@@ -4,14 +4,7 @@
 #[derive(Clone, Copy, Debug, PartialEq, Eq, Drop)]
 pub enum Command {
     /// Reads a problem and writes the plot of its run.
-    Run {
-        /// How many workers share a step, from 1 to 64.
-        workers: u32,
-        /// The step to stop at, up to 4096. None: the problem's last step.
-        to: Option<u32>,
-        /// A checkpoint is kept each time that so many steps are made, from 1 to 4096. None: none is kept.
-        keep: Option<u32>,
-    },
+    Run(RunOptions),
     /// Reads a problem and says what it is.
     Check,
     /// Writes the plot of the state that the store holds.
@@ -25,4 +18,15 @@ pub enum Command {
         /// How many workers share a step, from 1 to 64.
         workers: u32,
     },
+}
+
+/// The options of a run.
+#[derive(Clone, Copy, Debug, PartialEq, Eq, Drop)]
+pub struct RunOptions {
+    /// How many workers share a step, from 1 to 64.
+    pub workers: u32,
+    /// The step to stop at, up to 4096. None: the problem's last step.
+    pub to: Option<u32>,
+    /// A checkpoint is kept each time that so many steps are made, from 1 to 4096. None: none is kept.
+    pub keep: Option<u32>,
 }

@@ -4,9 +4,9 @@ ghost use Rattle.clap.specs.Words.{first_of, found_of, rows_of, subcommand_rows_
 ghost use Rattle.amr_cli.specs.Rows.{number_row};
 ghost use Rattle.amr_cli.specs.Words.{command_from, option_of, place_of, run_of, trial_of, workers_of};
 
-use crate::Command;
 use crate::number::number_between;
 use crate::table::{KEEP, NUMBER, NumberForm, SIZE, TO, WORKERS};
+use crate::{Command, RunOptions};
 use clap::ArgMatches;
 
 /// The command that was found, with its numbers. None where a text is no number in its range.
@@ -29,7 +29,7 @@ fn run_from(matches: &ArgMatches) -> Option<Command>
     let workers = workers_from(matches)?;
     let to = option_from(matches, &TO)?;
     let keep = option_from(matches, &KEEP)?;
-    Some(Command::Run { workers, to, keep })
+    Some(Command::Run(RunOptions { workers, to, keep }))
 }
 
 fn trial_from(matches: &ArgMatches) -> Option<Command>

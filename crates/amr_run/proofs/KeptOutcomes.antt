@@ -13,7 +13,7 @@ use Rattle.amr_disk.specs.Replay.{rests_same}
 use Rattle.amr_drive.proofs.Finishes.{finish_sound, run_holds}
 use Rattle.amr_drive.proofs.StartLaws.{start-holds_tags}
 use Rattle.amr_laws.proofs.SoundRegrid.{regrid-sound}
-use Rattle.amr_problem.specs.Judgement.{IsProblemOf, fault_of}
+use Rattle.amr_problem.specs.Judgement.{IsProblemOf}
 use Rattle.amr_store.specs.Phases.{OnlyReads}
 use Rattle.amr_checkpoint.specs.declared.faults.KeepFault.{KeepFault}
 use Rattle.amr_checkpoint.specs.declared.faults.KeepFault.TheVariants as fault
@@ -29,12 +29,13 @@ use Rattle.amr_checkpoint.specs.Laws.{IsInSequence}
 use Rattle.amr_checkpoint.specs.Marks.{answer_of_run, checkpoint_line, marks}
 use Rattle.amr_checkpoint.specs.Refusals.{GoesOn, RefusesRun}
 use Rattle.amr_cli.specs.declared.command.Command.{Command}
-use Rattle.amr_cli.specs.declared.command.Command.TheVariants.{Run, Check, Show, Trial}
 use Rattle.amr_run.specs.Answer.{IsKeptRun, IsPlotOfKeptRun, WasFound, stop_of}
 use Rattle.amr_run.specs.Kept.{KeptReplies}
-use Rattle.amr_run.specs.Outcome.{BeginsLines, EndsBefore, EndsRun, EndsSettled, RefusesKept, RefusesRunTo, RepliesKeeping, RunsThrough, StopsKept, StopsRun, StopsTo, status_of}
+use Rattle.amr_run.specs.Outcome.{BeginsLines, EndsBefore, EndsRun, EndsSettled, RefusesStored, RepliesBy, RunsThrough, StopsBy, StopsKept, StopsRun, StopsTo, status_of}
 use Rattle.amr_run.specs.Reading.{Refuses}
 use Rattle.amr_run.specs.Refusals.{keep_refused, resume_refused}
+use Rattle.amr_run.specs.Table.{RefusesRunTo, kept_row, meaning}
+use Rattle.amr_run.specs.declared.commands.Marks.{Marks}
 use Rattle.amr_run.specs.declared.status.Status.{Status}
 use Rattle.amr_run.specs.declared.status.Status.TheVariants as status
 use Rattle.amr_run.proofs.StoreOutcomes.{if_told}
@@ -79,19 +80,19 @@ is_kept_run bytes p every target seen r out lines can held within text said =
 
 -- what is stored could not be read, or refuses the run
 pub unresumed : (bytes : List ℕ) (p : Problem) (every target : ℕ) (seen : Option (List ℕ)) (e : ResumeFault)
-    → fault_of bytes ≡ None → ((refusal : Refusal) (image : List ℕ) → e ≡ resuming.Refused refusal → seen ≡ Some image → (content : Content) × Holds image content × RefusesRun bytes target content refusal)
+    → ((refusal : Refusal) (image : List ℕ) → e ≡ resuming.Refused refusal → seen ≡ Some image → (content : Content) × Holds image content × RefusesRun bytes target content refusal)
     → KeptReplies (Err (resume_refused e)) bytes p every target seen []
-unresumed bytes p every target seen resuming.DiskFault clean refused = (clean, refl, inl refl)
-unresumed bytes p every target seen (resuming.Refused refusal) clean refused =
-    (clean, if_told (RefusesKept bytes target refusal) seen (λ image told. let by = refused refusal image refl told in record { content = by.0; held = by.1; refuses = by.2 }), refl, refl)
-unresumed bytes p every target seen resuming.NoMemory clean refused = (refl, inl refl)
+unresumed bytes p every target seen resuming.DiskFault refused = (tt, refl, inl refl)
+unresumed bytes p every target seen (resuming.Refused refusal) refused =
+    (if_told (RefusesStored (RefusesRun bytes target) refusal) seen (λ image told. let by = refused refusal image refl told in record { content = by.0; held = by.1; refused = by.2 }), refl, refl)
+unresumed bytes p every target seen resuming.NoMemory refused = (refl, inl refl)
 
 -- a state was not kept
-pub unkept : (bytes : List ℕ) (p : Problem) (every target : ℕ) (seen : Option (List ℕ)) (whole lines said : List ℕ) (before now : ℕ) (e : KeepFault) → fault_of bytes ≡ None → IsKeptRun bytes p every target seen whole lines → SaysOfRun (Some e) said lines before now
+pub unkept : (bytes : List ℕ) (p : Problem) (every target : ℕ) (seen : Option (List ℕ)) (whole lines said : List ℕ) (before now : ℕ) (e : KeepFault) → IsKeptRun bytes p every target seen whole lines → SaysOfRun (Some e) said lines before now
     → KeptReplies (Err (keep_refused e)) bytes p every target seen said
-unkept bytes p every target seen whole lines said before now fault.DiskFault clean answer says = (clean, refl, inr record { whole = whole; lines = lines; answer = answer; prefix = says.0 })
-unkept bytes p every target seen whole lines said before now fault.NoMemory clean answer says = (refl, inr record { whole = whole; lines = lines; answer = answer; prefix = says.0 })
-unkept bytes p every target seen whole lines said before now fault.WriteFault clean answer says = record { whole = whole; lines = lines; answer = answer; cut = inr (refl, says.0) }
+unkept bytes p every target seen whole lines said before now fault.DiskFault answer says = (tt, refl, inr record { whole = whole; lines = lines; answer = answer; prefix = says.0 })
+unkept bytes p every target seen whole lines said before now fault.NoMemory answer says = (refl, inr record { whole = whole; lines = lines; answer = answer; prefix = says.0 })
+unkept bytes p every target seen whole lines said before now fault.WriteFault answer says = record { whole = whole; lines = lines; answer = answer; cut = inr (refl, says.0) }
 
 -- the causes of a state that was not kept
 pub write_cause : (e : KeepFault) (said lines : List ℕ) (before now : ℕ) → SaysOfRun (Some e) said lines before now → keep_refused e ≡ status.WriteFault → Rose before now
@@ -134,10 +135,14 @@ plot_of_kept given bytes to p every target seen out lines same stops accepted ke
 }
 
 refuses_to : (given bytes : List ℕ) (to : Option ℕ) (p : Problem) (target : ℕ) (seen : Option (List ℕ)) (refusal : Refusal) → given ≡ bytes → target ≡ stop_of to p → IsProblemOf bytes p
-    → IfSome seen (RefusesKept given target refusal) → IfSome seen (RefusesRunTo bytes to refusal)
+    → IfSome seen (RefusesStored (RefusesRun given target) refusal) → IfSome seen (RefusesStored (RefusesRunTo to bytes) refusal)
 refuses_to given bytes to p target seen refusal same stops accepted refuses =
-    if_still (RefusesKept given target refusal) (RefusesRunTo bytes to refusal) seen
-    (λ image h. record { problem = p; accepted = accepted; refuses = subst (λ n. RefusesKept bytes n refusal image) stops (subst (λ (b : List ℕ). RefusesKept b target refusal image) same h) }) refuses
+    if_still (RefusesStored (RefusesRun given target) refusal) (RefusesStored (RefusesRunTo to bytes) refusal) seen
+    (λ image h. record {
+      content = h.content;
+      held = h.held;
+      refused = record { problem = p; accepted = accepted; refuses = subst (λ n. RefusesRun bytes n h.content refusal) stops (subst (λ (b : List ℕ). RefusesRun b target h.content refusal) same h.refused) };
+    }) refuses
 
 begun : (given bytes : List ℕ) (to : Option ℕ) (p : Problem) (every target : ℕ) (seen : Option (List ℕ)) (said : List ℕ) → given ≡ bytes → target ≡ stop_of to p → IsProblemOf bytes p
     → (said ≡ []) ⊎ BeginsLines (IsKeptRun given p every target seen) said → (said ≡ []) ⊎ BeginsLines (IsPlotOfKeptRun bytes to every seen) said
@@ -145,34 +150,17 @@ begun given bytes to p every target seen said same stops accepted (inl none) = i
 begun given bytes to p every target seen said same stops accepted (inr h) =
     inr record { whole = h.whole; lines = h.lines; answer = plot_of_kept given bytes to p every target seen h.whole h.lines same stops accepted h.answer; prefix = h.prefix }
 
-pub kept_replies : (s : Status) (given bytes : List ℕ) (to : Option ℕ) (p : Problem) (every target : ℕ) (seen : Option (List ℕ)) (said : List ℕ) → given ≡ bytes → target ≡ stop_of to p → IsProblemOf bytes p
-    → KeptReplies (Err s) given p every target seen said → RepliesKeeping s (IsPlotOfKeptRun bytes to every seen) (λ refusal. IfSome seen (RefusesRunTo bytes to refusal)) bytes [] said
-kept_replies status.Done given bytes to p every target seen said same stops accepted h = plot_of_kept given bytes to p every target seen [] said same stops accepted h
-kept_replies (status.Problem reason) given bytes to p every target seen said same stops accepted h = (subst (λ (b : List ℕ). fault_of b ≡ Some reason) same h.0, h.1, h.2)
-kept_replies status.ReadFault given bytes to p every target seen said same stops accepted h = h
-kept_replies (status.Store refusal) given bytes to p every target seen said same stops accepted h = (accepted.clean, refuses_to given bytes to p target seen refusal same stops accepted h.1, h.2, h.3)
-kept_replies status.DiskFault given bytes to p every target seen said same stops accepted h = (accepted.clean, h.1, begun given bytes to p every target seen said same stops accepted h.2)
-kept_replies status.NoMemory given bytes to p every target seen said same stops accepted h = (h.0, begun given bytes to p every target seen said same stops accepted h.1)
-kept_replies status.WriteFault given bytes to p every target seen said same stops accepted h =
-    record { whole = h.whole; lines = h.lines; answer = plot_of_kept given bytes to p every target seen h.whole h.lines same stops accepted h.answer; cut = h.cut }
-kept_replies status.Usage given bytes to p every target seen said same stops accepted h = h
-
--- where the problem was not read
-pub unread_kept : (answers : List ℕ → List ℕ → Type 0) (refuses : Refusal → Type 0) (s : Status) (bytes : List ℕ) → Refuses s bytes → RepliesKeeping s answers refuses bytes [] []
-unread_kept answers refuses (status.Problem reason) bytes h = (h, refl, refl)
-unread_kept answers refuses status.ReadFault bytes h = (refl, refl)
-unread_kept answers refuses status.NoMemory bytes h = (refl, inl refl)
-unread_kept answers refuses status.Done bytes h = absurd h
-unread_kept answers refuses status.Usage bytes h = absurd h
-unread_kept answers refuses status.WriteFault bytes h = absurd h
-unread_kept answers refuses status.DiskFault bytes h = absurd h
-unread_kept answers refuses (status.Store refusal) bytes h = absurd h
-
--- by the status that an error became
-pub kept_by : (answers : List ℕ → List ℕ → Type 0) (refuses : Refusal → Type 0) (r : Result Unit Status) (s : Status) (bytes out said : List ℕ) → IsErrAnd r (λ x. x ≡ s) → RepliesKeeping s answers refuses bytes out said
-    → RepliesKeeping (status_of r) answers refuses bytes out said
-kept_by answers refuses (Ok done) s bytes out said is replies = absurd is
-kept_by answers refuses (Err x) s bytes out said is replies = subst (λ (t : Status). RepliesKeeping t answers refuses bytes out said) (sym is) replies
+pub kept_replies : (s : Status) (given bytes : List ℕ) (marked : Marks) (p : Problem) (target : ℕ) (seen : Option (List ℕ)) (said : List ℕ) → given ≡ bytes → target ≡ stop_of marked.to p → IsProblemOf bytes p
+    → KeptReplies (Err s) given p marked.every target seen said → RepliesBy (kept_row marked) s bytes seen [] said
+kept_replies status.Done given bytes marked p target seen said same stops accepted h = plot_of_kept given bytes marked.to p marked.every target seen [] said same stops accepted h
+kept_replies (status.Problem reason) given bytes marked p target seen said same stops accepted h = absurd h.0
+kept_replies status.ReadFault given bytes marked p target seen said same stops accepted h = absurd h.0
+kept_replies (status.Store refusal) given bytes marked p target seen said same stops accepted h = ((tt, accepted.clean, refuses_to given bytes marked.to p target seen refusal same stops accepted h.0), h.1, h.2)
+kept_replies status.DiskFault given bytes marked p target seen said same stops accepted h = ((tt, accepted.clean), h.1, begun given bytes marked.to p marked.every target seen said same stops accepted h.2)
+kept_replies status.NoMemory given bytes marked p target seen said same stops accepted h = (h.0, begun given bytes marked.to p marked.every target seen said same stops accepted h.1)
+kept_replies status.WriteFault given bytes marked p target seen said same stops accepted h =
+    record { whole = h.whole; lines = h.lines; answer = plot_of_kept given bytes marked.to p marked.every target seen h.whole h.lines same stops accepted h.answer; cut = h.cut }
+kept_replies status.Usage given bytes marked p target seen said same stops accepted h = h
 
 -- ---- stops
 
@@ -236,13 +224,13 @@ module _ {D : Type 0} (seen : D → Option (List ℕ)) (moment : D → ℕ) (lea
   pub only_reads_none : (d : D) → OnlyReads seen moment leaves d d
   only_reads_none d = record { same = refl; images = rests_same (seen d) (moment d) (leaves d) }
 
-  pub stops_none : (d : D) (status : Status) (asked : Option Command) (bytes : List ℕ) → EndsBefore status → StopsTo seen moment leaves d d status asked bytes []
-  stops_none d status None bytes before = only_reads_none d
-  stops_none d status (Some (Run workers to None)) bytes before = only_reads_none d
-  stops_none d status (Some (Run workers to (Some every))) bytes before = λ image told. inl (before, only_reads_none d, refl)
-  stops_none d status (Some Check) bytes before = only_reads_none d
-  stops_none d status (Some Show) bytes before = only_reads_none d
-  stops_none d status (Some (Trial number size workers)) bytes before = only_reads_none d
+  stops_before : (d : D) (s : Status) (keeps : Option Marks) (bytes : List ℕ) → EndsBefore s → StopsBy seen moment leaves d d s keeps bytes []
+  stops_before d s None bytes before = only_reads_none d
+  stops_before d s (Some marked) bytes before = λ image told. inl (before, only_reads_none d, refl)
+
+  pub stops_none : (d : D) (s : Status) (asked : Option Command) (bytes : List ℕ) → EndsBefore s → StopsTo seen moment leaves d d s asked bytes []
+  stops_none d s None bytes before = only_reads_none d
+  stops_none d s (Some command) bytes before = stops_before d s (meaning command).keeps bytes before
 
   -- ---- what is pending
 

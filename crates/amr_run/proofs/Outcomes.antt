@@ -1,13 +1,13 @@
 -- The outcome at each exit, by what the layers below say of it.
-use Rattle.std.proofs.Common.{◌≡◌, ◌≤◌, ◌<◌, ◌^◌, ◌⊎◌, inl, inr, ⊎_elim, IfSome, ℕ, List, [], ◌++◌, length, Option, Some, None, Result, Ok, Err, OnErr, refl, sym, ◌∙◌, ap, subst, arith, length-append, OnOk}
+use Rattle.std.proofs.Common.{◌≡◌, ◌≢◌, ◌≤◌, ◌<◌, ◌^◌, ◌⊎◌, inl, inr, ⊎_elim, IfErr, IfSome, ℕ, List, [], ◌++◌, length, Option, Some, None, Result, Ok, Err, OnErr, refl, sym, ◌∙◌, ap, subst, arith, length-append, OnOk}
 use Rattle.std.proofs.lemmas.List.{append-nil}
 use Rattle.std.proofs.lemmas.Option.{none-some, same_Some}
 use Rattle.std.specs.Prelude.{IsErrAnd}
 use Rattle.std.specs.Io.KnownBytes.{Consumes, IsAtEnd}
 use Rattle.amr_causes.specs.Causes.{HasCause, Rose}
 use Rattle.amr_causes.specs.Bytes.{Grows, IsPrefix, WereLeft}
-use Rattle.amr_io.specs.Short.{FallsShort}
-use Rattle.amr_causes.proofs.ByteLaws.{prefix_whole, were_left}
+use Rattle.amr_io.specs.Short.{FallsShort, IsProperPrefix}
+use Rattle.amr_causes.proofs.ByteLaws.{consumes_none, prefix_whole, were_left}
 use Rattle.amr_def.specs.declared.problem.Problem.{Problem}
 use Rattle.amr_def.specs.State.{State}
 use Rattle.amr_def.specs.Run.{start, finish, run}
@@ -29,12 +29,11 @@ use Rattle.amr_trial.proofs.Problems.{sixteen_steps}
 use Rattle.amr_trial.proofs.Accepted.{no_fault}
 use Rattle.amr_checkpoint.specs.declared.refusal.Refusal.{Refusal}
 use Rattle.amr_checkpoint.specs.Contents.{Content, Holds}
-use Rattle.amr_checkpoint.specs.Refusals.{CanShow, GoesOn}
-use Rattle.amr_checkpoint.proofs.Going.{not_both, not_both_shown}
 use Rattle.amr_checkpoint.proofs.Stepping.{start_step}
-use Rattle.amr_run.specs.Answer.{HasAnswer, TellsOne, IsLineOfProblem, IsLineOfTrial, IsPlotOfRun, IsSoundRun, stop_of}
-use Rattle.amr_run.specs.Outcome.{EndsByLine, Outcome, RefusesRunTo, RefusesStore, Replies, RepliesTo, RepliesUnread, status_of}
-use Rattle.amr_run.specs.Reading.{Reads, Refuses}
+use Rattle.amr_run.specs.Answer.{IsLineOfProblem, IsLineOfTrial, IsPlotOfRun, IsSoundRun, stop_of}
+use Rattle.amr_run.specs.Outcome.{EndsByLine, Outcome, RefusesStored, RepliesBy, RepliesTo, status_of}
+use Rattle.amr_run.specs.Reading.{Reads, Refuses, TakesAtMost}
+use Rattle.amr_run.specs.Table.{HasAnswer, IsGiven, JudgesProblem, Meaning, TellsAccepted, meaning, run_meaning, trial_row}
 use Rattle.amr_run.specs.Refusals.{read_refused, judge_refused}
 use Rattle.amr_run.specs.Texts.{message, problem_line}
 use Rattle.amr_run.specs.declared.reading.ReadProblem.{ReadProblem}
@@ -78,24 +77,39 @@ reads_refused (Err x) s bytes is refuses = subst (λ (t : Status). Refuses t byt
 -- ---- exits of a command
 
 -- where its problem was not read, nothing went out
-pub unread : (answers : List ℕ → Type 0) (status : Status) (bytes : List ℕ) → Refuses status bytes → Replies status answers bytes []
-unread answers (status.Problem fault) bytes refuses = (refuses, refl)
-unread answers status.ReadFault bytes refuses = refl
-unread answers status.NoMemory bytes refuses = refl
-unread answers status.Done bytes refuses = absurd refuses
-unread answers status.Usage bytes refuses = absurd refuses
-unread answers status.WriteFault bytes refuses = absurd refuses
-unread answers status.DiskFault bytes refuses = absurd refuses
-unread answers (status.Store reason) bytes refuses = absurd refuses
+pub unread : (row : Meaning) (s : Status) (bytes : List ℕ) (seen : Option (List ℕ)) → IsGiven row.reads → ((fault : ProblemFault) → fault_of bytes ≡ Some fault → row.judges bytes (Some (status.Problem fault))) → Refuses s bytes → RepliesBy row s bytes seen [] []
+unread row (status.Problem fault) bytes seen reads judges refuses = (judges fault refuses, refl, refl)
+unread row status.ReadFault bytes seen reads judges refuses = (reads, refl, refl)
+unread row status.NoMemory bytes seen reads judges refuses = (refl, inl refl)
+unread row status.Done bytes seen reads judges refuses = absurd refuses
+unread row status.Usage bytes seen reads judges refuses = absurd refuses
+unread row status.WriteFault bytes seen reads judges refuses = absurd refuses
+unread row status.DiskFault bytes seen reads judges refuses = absurd refuses
+unread row (status.Store reason) bytes seen reads judges refuses = absurd refuses
 
 -- by the status that an error became
-pub refused_by : (answers : List ℕ → Type 0) (r : Result Unit Status) (s : Status) (bytes out : List ℕ) → IsErrAnd r (λ x. x ≡ s) → Replies s answers bytes out → Replies (status_of r) answers bytes out
-refused_by answers (Ok done) s bytes out is replies = absurd is
-refused_by answers (Err x) s bytes out is replies = subst (λ (t : Status). Replies t answers bytes out) (sym is) replies
+pub refused_by : (row : Meaning) (r : Result Unit Status) (s : Status) (bytes : List ℕ) (seen : Option (List ℕ)) (out said : List ℕ) → IsErrAnd r (λ x. x ≡ s) → RepliesBy row s bytes seen out said → RepliesBy row (status_of r) bytes seen out said
+refused_by row (Ok done) s bytes seen out said is replies = absurd is
+refused_by row (Err x) s bytes seen out said is replies = subst (λ (t : Status). RepliesBy row t bytes seen out said) (sym is) replies
 
 -- of a call that only memory refuses
-pub out_of_memory : (answers : List ℕ → Type 0) (r : Result Unit Status) (s : Status) (bytes : List ℕ) → IsErrAnd r (λ x. x ≡ s) → s ≡ status.NoMemory → Replies (status_of r) answers bytes []
-out_of_memory answers r s bytes is none = refused_by answers r s bytes [] is (subst (λ (t : Status). Replies t answers bytes []) (sym none) refl)
+pub out_of_memory : (row : Meaning) (r : Result Unit Status) (s : Status) (bytes : List ℕ) (seen : Option (List ℕ)) → IsErrAnd r (λ x. x ≡ s) → s ≡ status.NoMemory → RepliesBy row (status_of r) bytes seen [] []
+out_of_memory row r s bytes seen is none = refused_by row r s bytes seen [] [] is (subst (λ (t : Status). RepliesBy row t bytes seen [] []) (sym none) (refl, inl refl))
+
+-- not all of an answer with no lines went out
+pub cut_short : (row : Meaning) (r : Result Unit Status) (bytes : List ℕ) (seen : Option (List ℕ)) (whole part : List ℕ) → IsErrAnd r (λ x. x ≡ status.WriteFault) → row.answers bytes seen whole [] → IsProperPrefix part whole → RepliesBy row (status_of r) bytes seen part []
+cut_short row r bytes seen whole part is answer short = refused_by row r status.WriteFault bytes seen part [] is record { whole = whole; lines = []; answer = answer; cut = inl (short, refl) }
+
+-- a command is never refused as none
+pub never_usage : (row : Meaning) (r : Result Unit Status) (bytes : List ℕ) (seen : Option (List ℕ)) (out said : List ℕ) → RepliesBy row (status_of r) bytes seen out said → IfErr r (λ s. s ≢ status.Done) → IfErr r (λ s. (s ≢ status.Done) × (s ≢ status.Usage))
+never_usage row (Ok done) bytes seen out said replies refused = tt
+never_usage row (Err x) bytes seen out said replies refused = (refused, λ is. subst (λ (t : Status). RepliesBy row t bytes seen out said) is replies)
+
+-- nor one that opens no store by the disk
+pub never_disk_fault : (row : Meaning) (r : Result Unit Status) (bytes : List ℕ) (seen : Option (List ℕ)) (out said : List ℕ) → ¬ row.opens → RepliesBy row (status_of r) bytes seen out said → r ≡ Err status.DiskFault → ⊥
+never_disk_fault row r bytes seen out said closed replies is =
+    let faulted : RepliesBy row status.DiskFault bytes seen out said = subst (λ (t : Result Unit Status). RepliesBy row (status_of t) bytes seen out said) is replies in
+    closed faulted.0.0
 
 -- of the command that the words are
 pub of_command : (status : Status) (asked : Option Command) (command : Command) (bytes : List ℕ) (seen : Option (List ℕ)) (out said : List ℕ) → asked ≡ Some command → RepliesTo status command bytes seen out said → Outcome status asked bytes seen out said
@@ -104,11 +118,12 @@ of_command status asked command bytes seen out said is replies = subst (λ (o : 
 -- of words that were not read, as memory ran out
 pub of_no_memory : (asked : Option Command) (bytes : List ℕ) (seen : Option (List ℕ)) → Outcome status.NoMemory asked bytes seen [] []
 of_no_memory None bytes seen = (refl, refl)
-of_no_memory (Some (Run workers to None)) bytes seen = (refl, refl)
-of_no_memory (Some (Run workers to (Some every))) bytes seen = (refl, inl refl)
-of_no_memory (Some Check) bytes seen = (refl, refl)
-of_no_memory (Some Show) bytes seen = (refl, refl)
-of_no_memory (Some (Trial number size workers)) bytes seen = (refl, refl)
+of_no_memory (Some command) bytes seen = (refl, inl refl)
+
+-- a source of which nothing was taken
+pub takes_none : (left : Option (List ℕ)) (reads : Option ℕ) → IfSome reads (λ most. TakesAtMost most left left)
+takes_none left None = tt
+takes_none left (Some most) = ([], consumes_none left, omega arith)
 
 -- ---- the answer
 
@@ -143,21 +158,12 @@ is_plot_of_run bytes to p last k accepted stops is sound = record {
 
 -- ---- a trial
 
-pub trial_unread : (number size : ℕ) (bytes : List ℕ) (e : JudgeFault) → number < 2 ^ 32 → IsSize size → bytes ≡ text number size → ((f : ProblemFault) → e ≡ judging.Fault f → fault_of bytes ≡ Some f) → RepliesUnread (judge_refused e) (IsLineOfTrial number size) []
-trial_unread number size bytes (judging.Fault f) small is same fault = let wrong : Some f ≡ None = sym (fault f refl) ∙ ap fault_of same ∙ no_fault number size small is in absurd (none-some f (sym wrong))
-trial_unread number size bytes judging.NoMemory small is same fault = refl
+pub trial_unread : (number size : ℕ) (bytes : List ℕ) (e : JudgeFault) (given : List ℕ) (seen : Option (List ℕ)) → number < 2 ^ 32 → IsSize size → bytes ≡ text number size → ((f : ProblemFault) → e ≡ judging.Fault f → fault_of bytes ≡ Some f) → RepliesBy (trial_row number size) (judge_refused e) given seen [] []
+trial_unread number size bytes (judging.Fault f) given seen small is same fault = let wrong : Some f ≡ None = sym (fault f refl) ∙ ap fault_of same ∙ no_fault number size small is in absurd (none-some f (sym wrong))
+trial_unread number size bytes judging.NoMemory given seen small is same fault = (refl, inl refl)
 
 pub trial_steps : (number size : ℕ) (bytes : List ℕ) (p : Problem) → number < 2 ^ 32 → IsSize size → bytes ≡ text number size → IsProblemOf bytes p → p.steps ≡ 16
 trial_steps number size bytes p small is same accepted = sixteen_steps number size p small is (subst (λ (bs : List ℕ). IsProblemOf bs p) same accepted)
-
--- by the status that an error became
-pub trial_refused_by : (answers : List ℕ → Type 0) (r : Result Unit Status) (s : Status) (out : List ℕ) → IsErrAnd r (λ x. x ≡ s) → RepliesUnread s answers out → RepliesUnread (status_of r) answers out
-trial_refused_by answers (Ok done) s out is replies = absurd is
-trial_refused_by answers (Err x) s out is replies = subst (λ (t : Status). RepliesUnread t answers out) (sym is) replies
-
--- where only memory refuses
-pub trial_out_of_memory : (answers : List ℕ → Type 0) (r : Result Unit Status) (s : Status) → IsErrAnd r (λ x. x ≡ s) → s ≡ status.NoMemory → RepliesUnread (status_of r) answers []
-trial_out_of_memory answers r s is none = trial_refused_by answers r s [] is (subst (λ (t : Status). RepliesUnread t answers []) (sym none) refl)
 
 pub is_line_of_trial : (number size : ℕ) (bytes line : List ℕ) (p : Problem) (last : State) → bytes ≡ text number size → IsProblemOf bytes p → last ≡ run p 16 → IsSoundRun p 16 → line ≡ summary number size p last → IsLineOfTrial number size line
 is_line_of_trial number size bytes line p last same accepted is sound said = record {
@@ -174,39 +180,22 @@ is_line_of_problem bytes p accepted = record { problem = p; accepted = accepted;
 
 -- ---- all is done, or memory ran out
 
-clash : (image : List ℕ) (P : Content → Type 0) (content : Content) → TellsOne P (Some image) → Holds image content → P content
-clash image P content tells held = let same : image ≡ tells.image = same_Some image tells.image tells.told in tells.each content (subst (λ (i : List ℕ). Holds i content) same held)
+clash : (refuses : Content → Refusal → Type 0) (seen : Option (List ℕ)) (refusal : Refusal) → TellsAccepted refuses seen → IfSome seen (RefusesStored refuses refusal) → ⊥
+clash refuses None refusal tells h = absurd (none-some tells.image tells.told)
+clash refuses (Some image) refusal tells h = let same : image ≡ tells.image = same_Some image tells.image tells.told in tells.none h.content (subst (λ (i : List ℕ). Holds i h.content) same h.held) refusal h.refused
 
-refused_run : (bytes : List ℕ) (to : Option ℕ) (seen : Option (List ℕ)) (refusal : Refusal) → TellsOne (λ content. (p : Problem) → IsProblemOf bytes p → GoesOn bytes (stop_of to p) content) seen → IfSome seen (RefusesRunTo bytes to refusal) → ⊥
-refused_run bytes to None refusal tells refuses = absurd (none-some tells.image tells.told)
-refused_run bytes to (Some image) refusal tells refuses =
-    not_both bytes (stop_of to refuses.problem) refuses.refuses.content refusal
-    (clash image (λ content. (p : Problem) → IsProblemOf bytes p → GoesOn bytes (stop_of to p) content) refuses.refuses.content tells refuses.refuses.held refuses.problem refuses.accepted) refuses.refuses.refuses
+problem_once : (bytes : List ℕ) (reason : ProblemFault) → JudgesProblem bytes None → JudgesProblem bytes (Some (status.Problem reason)) → ⊥
+problem_once bytes reason none some = absurd (none-some reason (sym none ∙ some))
 
-refused_show : (seen : Option (List ℕ)) (refusal : Refusal) → TellsOne CanShow seen → IfSome seen (RefusesStore refusal) → ⊥
-refused_show None refusal tells refuses = absurd (none-some tells.image tells.told)
-refused_show (Some image) refusal tells refuses = not_both_shown refuses.content refusal (clash image CanShow refuses.content tells refuses.held) refuses.refuses
+run_once : (to keep : Option ℕ) (bytes : List ℕ) (reason : ProblemFault) → (run_meaning to keep).judges bytes None → (run_meaning to keep).judges bytes (Some (status.Problem reason)) → ⊥
+run_once to None bytes reason none some = problem_once bytes reason none some
+run_once to (Some every) bytes reason none some = problem_once bytes reason none some
 
-not_usage : (command : Command) (bytes : List ℕ) (seen : Option (List ℕ)) (out said : List ℕ) → RepliesTo status.Usage command bytes seen out said → ⊥
-not_usage (Run workers to None) bytes seen out said h = h.0
-not_usage (Run workers to (Some every)) bytes seen out said h = h
-not_usage Check bytes seen out said h = h.0
-not_usage Show bytes seen out said h = h.0
-not_usage (Trial number size workers) bytes seen out said h = h.0
-
-not_problem : (command : Command) (reason : ProblemFault) (bytes : List ℕ) (seen : Option (List ℕ)) (out said : List ℕ) → HasAnswer command bytes seen → RepliesTo (status.Problem reason) command bytes seen out said → ⊥
-not_problem (Run workers to None) reason bytes seen out said has h = none-some reason (sym has ∙ h.0.0)
-not_problem (Run workers to (Some every)) reason bytes seen out said has h = none-some reason (sym has.0 ∙ h.0)
-not_problem Check reason bytes seen out said has h = none-some reason (sym has ∙ h.0.0)
-not_problem Show reason bytes seen out said has h = h.0
-not_problem (Trial number size workers) reason bytes seen out said has h = h.0
-
-not_store : (command : Command) (refusal : Refusal) (bytes : List ℕ) (seen : Option (List ℕ)) (out said : List ℕ) → HasAnswer command bytes seen → RepliesTo (status.Store refusal) command bytes seen out said → ⊥
-not_store (Run workers to None) refusal bytes seen out said has h = h.0
-not_store (Run workers to (Some every)) refusal bytes seen out said has h = refused_run bytes to seen refusal has.1 h.1
-not_store Check refusal bytes seen out said has h = h.0
-not_store Show refusal bytes seen out said has h = refused_show seen refusal has h.0.0
-not_store (Trial number size workers) refusal bytes seen out said has h = h.0
+judged_once : (command : Command) (bytes : List ℕ) (reason : ProblemFault) → (meaning command).judges bytes None → (meaning command).judges bytes (Some (status.Problem reason)) → ⊥
+judged_once (Run options) bytes reason none some = run_once options.to options.keep bytes reason none some
+judged_once Check bytes reason none some = problem_once bytes reason none some
+judged_once Show bytes reason none some = some
+judged_once (Trial number size workers) bytes reason none some = some
 
 completed : (s : Status) (command : Command) (bytes : List ℕ) (seen : Option (List ℕ)) (out said : List ℕ) → HasAnswer command bytes seen → RepliesTo s command bytes seen out said
     → (s ≡ status.ReadFault → ⊥) → (s ≡ status.WriteFault → ⊥) → (s ≡ status.DiskFault → ⊥) → (s ≡ status.Done) ⊎ (s ≡ status.NoMemory)
@@ -215,9 +204,9 @@ completed status.NoMemory command bytes seen out said has h read write disk = in
 completed status.ReadFault command bytes seen out said has h read write disk = absurd (read refl)
 completed status.WriteFault command bytes seen out said has h read write disk = absurd (write refl)
 completed status.DiskFault command bytes seen out said has h read write disk = absurd (disk refl)
-completed status.Usage command bytes seen out said has h read write disk = absurd (not_usage command bytes seen out said h)
-completed (status.Problem reason) command bytes seen out said has h read write disk = absurd (not_problem command reason bytes seen out said has h)
-completed (status.Store refusal) command bytes seen out said has h read write disk = absurd (not_store command refusal bytes seen out said has h)
+completed status.Usage command bytes seen out said has h read write disk = absurd h
+completed (status.Problem reason) command bytes seen out said has h read write disk = absurd (judged_once command bytes reason has.taken h.0)
+completed (status.Store refusal) command bytes seen out said has h read write disk = absurd (clash ((meaning command).refuses bytes) seen refusal (has.stored h.0.0) h.0.2)
 
 pub is_complete : (s : Status) (asked : Option Command) (command : Command) (bytes : List ℕ) (seen : Option (List ℕ)) (out said : List ℕ) → asked ≡ Some command → HasAnswer command bytes seen → Outcome s asked bytes seen out said
     → (s ≡ status.ReadFault → ⊥) → (s ≡ status.WriteFault → ⊥) → (s ≡ status.DiskFault → ⊥) → (s ≡ status.Done) ⊎ (s ≡ status.NoMemory)

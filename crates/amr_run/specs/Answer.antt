@@ -6,14 +6,12 @@ use Rattle.amr_def.specs.Run as runs
 use Rattle.amr_def.specs.Plot as plots
 use Rattle.amr_def.specs.Facts.{IsSound}
 use Rattle.amr_def.specs.State.{State}
-use Rattle.amr_problem.specs.Judgement.{fault_of, IsProblemOf}
+use Rattle.amr_problem.specs.Judgement.{IsProblemOf}
 use Rattle.amr_trial.specs.Summary.{summary_line}
 use Rattle.amr_trial.specs.Trial.{text}
 use Rattle.amr_checkpoint.specs.Contents.{Content, At, Holds, state_from}
 use Rattle.amr_checkpoint.specs.Marks.{answer_of_run, checkpoint_line, marks}
-use Rattle.amr_checkpoint.specs.Refusals.{CanShow, GoesOn}
-use Rattle.amr_cli.specs.declared.command.Command.{Command}
-use Rattle.amr_cli.specs.declared.command.Command.TheVariants.{Run, Check, Show, Trial}
+use Rattle.amr_checkpoint.specs.Refusals.{GoesOn}
 use Rattle.amr_drive.specs.Regrids.{RunHoldsTags, StartHoldsTags}
 use Rattle.amr_run.specs.Texts.{problem_line}
 
@@ -83,43 +81,3 @@ pub record IsLineOfTrial (number size : ℕ) (out : List ℕ) : Type 0 where
   pub accepted : IsProblemOf (text number size) problem
   pub line : out ≡ summary_line number size problem
   pub run : IsSoundRun problem 16
-
--- ---- by command
-
--- the command reads a problem from its source
-abbrev pub ReadsSource : Command → Type 0
-ReadsSource (Run workers to keep) = Unit {0}
-ReadsSource Check = Unit {0}
-ReadsSource Show = ⊥
-ReadsSource (Trial number size workers) = ⊥
-
--- the command opens the store
-abbrev pub OpensStore : Command → Type 0
-OpensStore (Run workers to None) = ⊥
-OpensStore (Run workers to (Some every)) = Unit {0}
-OpensStore Check = ⊥
-OpensStore Show = Unit {0}
-OpensStore (Trial number size workers) = ⊥
-
--- and writes to it, and acknowledges what it keeps
-abbrev pub KeepsCheckpoints : Command → Type 0
-KeepsCheckpoints (Run workers to None) = ⊥
-KeepsCheckpoints (Run workers to (Some every)) = Unit {0}
-KeepsCheckpoints Check = ⊥
-KeepsCheckpoints Show = ⊥
-KeepsCheckpoints (Trial number size workers) = ⊥
-
--- the disk tells what it reads, and what that holds has P
-pub record TellsOne (P : Content → Type 0) (seen : Option (List ℕ)) : Type 0 where
-  pub image : List ℕ
-  pub told : seen ≡ Some image
-  pub each : (content : Content) → Holds image content → P content
-
--- The command has an answer: where it reads a problem, the bytes of the source are one without fault. A run that keeps checkpoints can go
--- on from what is stored, and what is shown is stored.
-abbrev pub HasAnswer : Command → List ℕ → Option (List ℕ) → Type 0
-HasAnswer (Run workers to None) bytes seen = fault_of bytes ≡ None
-HasAnswer (Run workers to (Some every)) bytes seen = (fault_of bytes ≡ None) × TellsOne (λ content. (p : Problem) → IsProblemOf bytes p → GoesOn bytes (stop_of to p) content) seen
-HasAnswer Check bytes seen = fault_of bytes ≡ None
-HasAnswer Show bytes seen = TellsOne CanShow seen
-HasAnswer (Trial number size workers) bytes seen = Unit {0}

@@ -1,6 +1,7 @@
 pub mod Texts
 pub mod Reading
 pub mod Answer
+pub mod Table
 pub mod Outcome
 pub mod Refusals
 pub mod Keeper

@@ -4,22 +4,23 @@ use Rattle.amr_causes.specs.Bytes.{IsPrefix}
 use Rattle.amr_causes.specs.Causes.{Rose}
 use Rattle.amr_io.specs.Short.{IsProperPrefix}
 use Rattle.amr_def.specs.declared.problem.Problem.{Problem}
-use Rattle.amr_problem.specs.Judgement.{fault_of, IsProblemOf}
+use Rattle.amr_problem.specs.Judgement.{IsProblemOf}
 use Rattle.amr_checkpoint.specs.declared.refusal.Refusal.{Refusal}
 use Rattle.amr_checkpoint.specs.Contents.{Content, Holds}
 use Rattle.amr_checkpoint.specs.declared.faults.KeepFault.{KeepFault}
 use Rattle.amr_checkpoint.specs.Kept.{History}
 use Rattle.amr_checkpoint.specs.Marks.{to_make}
-use Rattle.amr_checkpoint.specs.Refusals.{GoesOn, RefusesRun, RefusesShow}
+use Rattle.amr_checkpoint.specs.Refusals.{GoesOn}
 use Rattle.amr_checkpoint.specs.Times.{Time}
 use Rattle.amr_disk.specs.Image.{Only}
 use Rattle.amr_disk.specs.Moments.{StaysDurable}
 use Rattle.amr_store.specs.Phases.{OnlyReads}
-use Rattle.amr_run.specs.Answer.{IsLineOfProblem, IsLineOfTrial, IsPlotOfKeptRun, IsPlotOfRun, IsPlotOfStore, stop_of}
+use Rattle.amr_run.specs.Answer.{stop_of}
 use Rattle.amr_run.specs.Refusals.{keep_refused}
+use Rattle.amr_run.specs.Table.{IsGiven, Meaning, meaning}
 use Rattle.amr_run.specs.Texts.{message}
 use Rattle.amr_cli.specs.declared.command.Command.{Command}
-use Rattle.amr_cli.specs.declared.command.Command.TheVariants.{Run, Check, Show, Trial}
+use Rattle.amr_run.specs.declared.commands.Marks.{Marks}
 use Rattle.amr_run.specs.declared.status.Status.{Status}
 use Rattle.amr_run.specs.declared.status.Status.TheVariants.{Done, Usage, ReadFault, Problem as BadProblem, DiskFault, Store, WriteFault, NoMemory}
 
@@ -28,53 +29,7 @@ abbrev pub status_of : {T : Type 0} → Result T Status → Status
 status_of (Ok done) = Done
 status_of (Err status) = status
 
--- Of a command, by what its answers are: all of its answer went out where all is done, a prefix of it that isn't the whole after a
--- fault in writing, and else nothing. A problem is refused exactly by its fault, and a command is never refused as none.
-abbrev pub Replies : Status → (List ℕ → Type 0) → List ℕ → List ℕ → Type 0
-Replies Done answers bytes out = answers out
-Replies (BadProblem fault) answers bytes out = (fault_of bytes ≡ Some fault) × (out ≡ [])
-Replies WriteFault answers bytes out = (whole : List ℕ) × answers whole × IsProperPrefix out whole
-Replies ReadFault answers bytes out = out ≡ []
-Replies NoMemory answers bytes out = out ≡ []
-Replies Usage answers bytes out = ⊥
-Replies DiskFault answers bytes out = ⊥
-Replies (Store refusal) answers bytes out = ⊥
-
--- Of a command that reads no source: it is never refused by one.
-abbrev pub RepliesUnread : Status → (List ℕ → Type 0) → List ℕ → Type 0
-RepliesUnread Done answers out = answers out
-RepliesUnread WriteFault answers out = (whole : List ℕ) × answers whole × IsProperPrefix out whole
-RepliesUnread NoMemory answers out = out ≡ []
-RepliesUnread _ answers out = ⊥
-
--- what is stored refuses to be shown
-pub record RefusesStore (refusal : Refusal) (image : List ℕ) : Type 0 where
-  pub content : Content
-  pub held : Holds image content
-  pub refuses : RefusesShow content refusal
-
--- Of a command that shows what the disk holds: it is refused exactly by that, where the disk tells it.
-abbrev pub RepliesShowing : Status → Option (List ℕ) → List ℕ → Type 0
-RepliesShowing Done seen out = IsPlotOfStore seen out
-RepliesShowing DiskFault seen out = out ≡ []
-RepliesShowing (Store refusal) seen out = IfSome seen (RefusesStore refusal) × (out ≡ [])
-RepliesShowing WriteFault seen out = (whole : List ℕ) × IsPlotOfStore seen whole × IsProperPrefix out whole
-RepliesShowing NoMemory seen out = out ≡ []
-RepliesShowing _ seen out = ⊥
-
--- ---- a run that keeps checkpoints
-
--- what is stored refuses a run of the problem
-pub record RefusesKept (bytes : List ℕ) (target : ℕ) (refusal : Refusal) (image : List ℕ) : Type 0 where
-  pub content : Content
-  pub held : Holds image content
-  pub refuses : RefusesRun bytes target content refusal
-
--- at the step that it stops at
-pub record RefusesRunTo (bytes : List ℕ) (to : Option ℕ) (refusal : Refusal) (image : List ℕ) : Type 0 where
-  pub problem : Problem
-  pub accepted : IsProblemOf bytes problem
-  pub refuses : RefusesKept bytes (stop_of to problem) refusal image
+-- ---- an answer of which not all went out
 
 -- the lines of an answer, or the first bytes of them
 pub record BeginsLines (answers : List ℕ → List ℕ → Type 0) (said : List ℕ) : Type 0 where
@@ -83,34 +38,53 @@ pub record BeginsLines (answers : List ℕ → List ℕ → Type 0) (said : List
   pub answer : answers whole lines
   pub prefix : IsPrefix said lines
 
--- an answer of which not all went out: less than the whole after all lines, or less than all lines
+-- less than the whole after all lines, or less than all lines
 pub record IsCutShort (answers : List ℕ → List ℕ → Type 0) (out said : List ℕ) : Type 0 where
   pub whole : List ℕ
   pub lines : List ℕ
   pub answer : answers whole lines
   pub cut : (IsProperPrefix out whole × (said ≡ lines)) ⊎ ((out ≡ []) × IsProperPrefix said lines)
 
--- By what its answers are, with the lines that acknowledge checkpoints, and by what refuses it. The disk and what it holds refuse only a
--- problem without fault.
-abbrev pub RepliesKeeping : Status → (List ℕ → List ℕ → Type 0) → (Refusal → Type 0) → List ℕ → List ℕ → List ℕ → Type 0
-RepliesKeeping Done answers refuses bytes out said = answers out said
-RepliesKeeping (BadProblem fault) answers refuses bytes out said = (fault_of bytes ≡ Some fault) × (out ≡ []) × (said ≡ [])
-RepliesKeeping ReadFault answers refuses bytes out said = (out ≡ []) × (said ≡ [])
-RepliesKeeping (Store refusal) answers refuses bytes out said = (fault_of bytes ≡ None) × refuses refusal × (out ≡ []) × (said ≡ [])
-RepliesKeeping DiskFault answers refuses bytes out said = (fault_of bytes ≡ None) × (out ≡ []) × ((said ≡ []) ⊎ BeginsLines answers said)
-RepliesKeeping WriteFault answers refuses bytes out said = IsCutShort answers out said
-RepliesKeeping NoMemory answers refuses bytes out said = (out ≡ []) × ((said ≡ []) ⊎ BeginsLines answers said)
-RepliesKeeping Usage answers refuses bytes out said = ⊥
+-- ---- replies
 
--- ---- by the command
+-- By what its answers are, with the lines that acknowledge checkpoints, and by what refuses it. All of its answer went out where all is done, less
+-- than that after a fault in writing, and else nothing of it. A refusal comes before any line; after a fault of the disk, or where memory ran
+-- out, lines are those of an answer, or the first bytes of them. A command is never refused as none.
+abbrev pub Replies : Status → (List ℕ → List ℕ → Type 0) → (Status → Type 0) → List ℕ → List ℕ → Type 0
+Replies Done answers refuses out said = answers out said
+Replies Usage answers refuses out said = ⊥
+Replies ReadFault answers refuses out said = refuses ReadFault × (out ≡ []) × (said ≡ [])
+Replies (BadProblem fault) answers refuses out said = refuses (BadProblem fault) × (out ≡ []) × (said ≡ [])
+Replies DiskFault answers refuses out said = refuses DiskFault × (out ≡ []) × ((said ≡ []) ⊎ BeginsLines answers said)
+Replies (Store refusal) answers refuses out said = refuses (Store refusal) × (out ≡ []) × (said ≡ [])
+Replies WriteFault answers refuses out said = IsCutShort answers out said
+Replies NoMemory answers refuses out said = (out ≡ []) × ((said ≡ []) ⊎ BeginsLines answers said)
+
+-- what is stored refuses the command so
+pub record RefusesStored (refuses : Content → Refusal → Type 0) (refusal : Refusal) (image : List ℕ) : Type 0 where
+  pub content : Content
+  pub held : Holds image content
+  pub refused : refuses content refusal
+
+-- ---- by the row of a command
+
+-- The statuses that may refuse it. A source refuses only a command that reads it, and bytes exactly by what the row judges of them. The disk, and
+-- what is stored where the disk tells it, refuse only a command that opens the store, once its bytes were taken.
+abbrev pub RefusedBy : Meaning → List ℕ → Option (List ℕ) → Status → Type 0
+RefusedBy row bytes seen ReadFault = IsGiven row.reads
+RefusedBy row bytes seen (BadProblem fault) = row.judges bytes (Some (BadProblem fault))
+RefusedBy row bytes seen DiskFault = row.opens × row.judges bytes None
+RefusedBy row bytes seen (Store refusal) = row.opens × row.judges bytes None × IfSome seen (RefusesStored (row.refuses bytes) refusal)
+RefusedBy row bytes seen Done = ⊥
+RefusedBy row bytes seen Usage = ⊥
+RefusedBy row bytes seen WriteFault = ⊥
+RefusedBy row bytes seen NoMemory = ⊥
+
+abbrev pub RepliesBy : Meaning → Status → List ℕ → Option (List ℕ) → List ℕ → List ℕ → Type 0
+RepliesBy row status bytes seen out said = Replies status (row.answers bytes seen) (RefusedBy row bytes seen) out said
 
 abbrev pub RepliesTo : Status → Command → List ℕ → Option (List ℕ) → List ℕ → List ℕ → Type 0
-RepliesTo status (Run workers to None) bytes seen out said = Replies status (IsPlotOfRun bytes to) bytes out × (said ≡ [])
-RepliesTo status (Run workers to (Some every)) bytes seen out said =
-    RepliesKeeping status (IsPlotOfKeptRun bytes to every seen) (λ refusal. IfSome seen (RefusesRunTo bytes to refusal)) bytes out said
-RepliesTo status Check bytes seen out said = Replies status (IsLineOfProblem bytes) bytes out × (said ≡ [])
-RepliesTo status Show bytes seen out said = RepliesShowing status seen out × (said ≡ [])
-RepliesTo status (Trial number size workers) bytes seen out said = RepliesUnread status (IsLineOfTrial number size) out × (said ≡ [])
+RepliesTo status command bytes seen out said = RepliesBy (meaning command) status bytes seen out said
 
 -- Of the command that the words are. Where they are none, the status is that, unless memory ran out.
 abbrev pub Outcome : Status → Option Command → List ℕ → Option (List ℕ) → List ℕ → List ℕ → Type 0
@@ -171,14 +145,15 @@ StopsRun seen moment leaves disk later_disk status bytes to every said =
     (image : List ℕ) → seen disk ≡ Some image
     → (EndsBefore status × OnlyReads seen moment leaves disk later_disk × (said ≡ [])) ⊎ RunsThroughTo seen moment leaves disk later_disk status image bytes to every said
 
--- By the command: any other than a run that keeps checkpoints only reads.
+-- By its row: a command that keeps no checkpoints only reads.
+abbrev pub StopsBy : {D : Type 0} → (D → Option (List ℕ)) → (D → ℕ) → (D → ℕ → List ℕ → Type 0) → D → D → Status → Option Marks → List ℕ → List ℕ → Type 0
+StopsBy seen moment leaves disk later_disk status None bytes said = OnlyReads seen moment leaves disk later_disk
+StopsBy seen moment leaves disk later_disk status (Some marks) bytes said = StopsRun seen moment leaves disk later_disk status bytes marks.to marks.every said
+
+-- Words that are no command only read too.
 abbrev pub StopsTo : {D : Type 0} → (D → Option (List ℕ)) → (D → ℕ) → (D → ℕ → List ℕ → Type 0) → D → D → Status → Option Command → List ℕ → List ℕ → Type 0
 StopsTo seen moment leaves disk later_disk status None bytes said = OnlyReads seen moment leaves disk later_disk
-StopsTo seen moment leaves disk later_disk status (Some (Run workers to None)) bytes said = OnlyReads seen moment leaves disk later_disk
-StopsTo seen moment leaves disk later_disk status (Some (Run workers to (Some every))) bytes said = StopsRun seen moment leaves disk later_disk status bytes to every said
-StopsTo seen moment leaves disk later_disk status (Some Check) bytes said = OnlyReads seen moment leaves disk later_disk
-StopsTo seen moment leaves disk later_disk status (Some Show) bytes said = OnlyReads seen moment leaves disk later_disk
-StopsTo seen moment leaves disk later_disk status (Some (Trial number size workers)) bytes said = OnlyReads seen moment leaves disk later_disk
+StopsTo seen moment leaves disk later_disk status (Some command) bytes said = StopsBy seen moment leaves disk later_disk status (meaning command).keeps bytes said
 
 -- ---- what is pending
 

@@ -1,5 +1,5 @@
 -- What a call does, whole: by the command that its words are, by its status, and by its four objects before and after it.
-use Rattle.std.specs.Prelude.{ℕ, ◌≡◌, ◌≢◌, ◌⊎◌, List, Option, Some, None}
+use Rattle.std.specs.Prelude.{ℕ, ◌≡◌, ◌≢◌, ◌⊎◌, List, Option, Some, None, IfSome}
 use Rattle.std.specs.Io.KnownBytes.{IsAtEnd}
 use Rattle.amr_causes.specs.Bytes.{Grows, WereLeft}
 use Rattle.amr_causes.specs.Causes.{Rose}
@@ -7,9 +7,9 @@ use Rattle.amr_checkpoint.specs.declared.refusal.Refusal.{Refusal}
 use Rattle.amr_cli.specs.declared.command.Command.{Command}
 use Rattle.amr_problem.specs.declared.fault.ProblemFault.{ProblemFault}
 use Rattle.amr_store.specs.Phases.{OnlyReads}
-use Rattle.amr_run.specs.Answer.{HasAnswer, KeepsCheckpoints, OpensStore, ReadsSource}
 use Rattle.amr_run.specs.Outcome.{EndsByLine, EndsSettled, Outcome, StopsTo}
 use Rattle.amr_run.specs.Reading.{TakesAtMost}
+use Rattle.amr_run.specs.Table.{HasAnswer, KeepsCheckpoints, OpensStore, ReadsSource, meaning}
 use Rattle.amr_run.specs.declared.status.Status.{Status}
 use Rattle.amr_run.specs.declared.status.Status.TheVariants.{Done, ReadFault, Problem, DiskFault, Store, WriteFault, NoMemory}
 
@@ -32,11 +32,11 @@ pub record Serves {S O E D : Type 0} (left : S → Option (List ℕ)) (src_fault
   pub stops : StopsTo seen moment leaves disk later_disk status asked bytes said
   -- Nothing is pending at the end, unless the disk failed.
   pub settled : (command : Command) → asked ≡ Some command → OpensStore command → EndsSettled seen moment leaves disk later_disk status
-  -- Where a command that reads its source is done, nothing of it is left. Any other leaves it as it was. At most one byte more than a
-  -- problem has is taken, from the front.
+  -- Where a command that reads its source is done, nothing of it is left. It takes no more bytes than its row says, from the front. Any other
+  -- leaves the source as it was.
   pub ended : (command : Command) → asked ≡ Some command → ReadsSource command → status ≡ Done → IsAtEnd (left later_src)
   pub unread : (command : Command) → asked ≡ Some command → ¬ (ReadsSource command) → later_src ≡ src
-  pub taken : TakesAtMost 65537 (left src) (left later_src)
+  pub taken : (command : Command) → asked ≡ Some command → IfSome (meaning command).reads (λ most. TakesAtMost most (left src) (left later_src))
   -- A command that opens no store leaves the disk as it was. A store that refuses a command was not written.
   pub unopened : (command : Command) → asked ≡ Some command → ¬ (OpensStore command) → later_disk ≡ disk
   pub unwritten : (refusal : Refusal) → status ≡ Store refusal → OnlyReads seen moment leaves disk later_disk

@@ -1,5 +1,5 @@
 //! The commands.
-ghost use Rattle.std.specs.Prelude.{◌≡◌, ◌≢◌, ◌<◌, ◌≤◌, ◌⊎◌, List, ℕ, Some, Err, false, IfErr, IfOk, IfSome, OnOk, OnErr};
+ghost use Rattle.std.specs.Prelude.{◌≡◌, ◌≢◌, ◌<◌, ◌≤◌, ◌⊎◌, List, [], ℕ, Option, Err, false, IfErr, IfOk, OnOk, OnErr};
 ghost use Rattle.std.specs.Io.KnownBytes.{IsAtEnd};
 ghost use Rattle.amr_causes.specs.Causes.{HasCause, Rose};
 ghost use Rattle.amr_causes.specs.Bytes.{Grows, WereLeft};
@@ -10,9 +10,10 @@ ghost use Rattle.amr_def.specs.Run.{run};
 ghost use Rattle.amr_patch.specs.Meshes.{is_spent, state_of};
 ghost use Rattle.amr_trial.specs.Trial.{IsSize};
 ghost use Rattle.amr_store.specs.Phases.{OnlyReads};
-ghost use Rattle.amr_run.specs.Answer.{IsLineOfProblem, IsLineOfTrial, IsPlotOfKeptRun, IsPlotOfRun, IsSoundRun, stop_of};
-ghost use Rattle.amr_run.specs.Outcome.{EndsSettled, RefusesRunTo, Replies, RepliesKeeping, RepliesShowing, RepliesUnread, StopsRun, status_of};
+ghost use Rattle.amr_run.specs.Answer.{IsSoundRun, stop_of};
+ghost use Rattle.amr_run.specs.Outcome.{EndsSettled, RepliesBy, StopsRun, status_of};
 ghost use Rattle.amr_run.specs.Reading.{TakesAtMost};
+ghost use Rattle.amr_run.specs.Table.{check_row, kept_row, run_row, show_row, trial_row};
 
 use crate::Status;
 use crate::keeping::keep_run;
@@ -109,7 +110,7 @@ pub(crate) fn run<R: Threads + Wait + Sync, S: Source, O: Sink, G: Gate + Sync>(
     requires few_workers { workers.now.count ≤ 64 }
     requires gate { (worker task : ℕ) → worker < workers.now.count → G.admits workers.now.gate.now worker task }
     ensures outcome { (bytes : List ℕ) × ((sent : List ℕ) × WereLeft (S.left src.old) bytes
-        × Grows O.holds out.old out.new sent × Replies (status_of result) (IsPlotOfRun bytes to) bytes sent) }
+        × Grows O.holds out.old out.new sent × ((seen : Option (List ℕ)) → RepliesBy (run_row to) (status_of result) bytes seen sent [])) }
     ensures ended { OnOk result (IsAtEnd (S.left src.new)) }
     ensures taken { TakesAtMost 65537 (S.left src.old) (S.left src.new) }
     ensures refused { IfErr result (λ status. status ≢ Status.Done) }
@@ -149,7 +150,7 @@ pub(crate) fn keep<R: Threads + Wait + Sync, S: Source, O: Sink, E: Sink, D: Dis
     requires gate { (worker task : ℕ) → worker < workers.now.count → G.admits workers.now.gate.now worker task }
     ensures outcome { (bytes : List ℕ) × ((sent : List ℕ) × ((said : List ℕ) × WereLeft (S.left src.old) bytes
         × Grows O.holds out.old out.new sent × Grows E.holds err.old err.new said
-        × RepliesKeeping (status_of result) (IsPlotOfKeptRun bytes marks.to marks.every (D.seen disk.old)) (λ refusal. IfSome (D.seen disk.old) (RefusesRunTo bytes marks.to refusal)) bytes sent said
+        × RepliesBy (kept_row marks) (status_of result) bytes (D.seen disk.old) sent said
         × StopsRun D.seen D.moment D.leaves disk.old disk.new (status_of result) bytes marks.to marks.every said)) }
     ensures ended { OnOk result (IsAtEnd (S.left src.new)) }
     ensures taken { TakesAtMost 65537 (S.left src.old) (S.left src.new) }
@@ -158,7 +159,8 @@ pub(crate) fn keep<R: Threads + Wait + Sync, S: Source, O: Sink, E: Sink, D: Dis
     ensures no_read_fault { result ≢ Err Status.ReadFault → S.faults src.new ≡ S.faults src.old }
     ensures disk_fault { result ≡ Err Status.DiskFault → Rose (D.faults disk.old) (D.faults disk.new) }
     ensures no_disk_fault { result ≢ Err Status.DiskFault → D.faults disk.new ≡ D.faults disk.old }
-    ensures write_fault { result ≡ Err Status.WriteFault → (Rose (O.faults out.old) (O.faults out.new) × (E.faults err.new ≡ E.faults err.old)) ⊎ Rose (E.faults err.old) (E.faults err.new) }
+    ensures write_fault { result ≡ Err Status.WriteFault
+        → (Rose (O.faults out.old) (O.faults out.new) × (E.faults err.new ≡ E.faults err.old)) ⊎ Rose (E.faults err.old) (E.faults err.new) }
     ensures no_write_fault { result ≢ Err Status.WriteFault → (O.faults out.new ≡ O.faults out.old) × (E.faults err.new ≡ E.faults err.old) }
     ensures settled { EndsSettled D.seen D.moment D.leaves disk.old disk.new (status_of result) }
     ensures unwritten { (refusal : _) → result ≡ Err (Status.Store refusal) → OnlyReads D.seen D.moment D.leaves disk.old disk.new }
@@ -186,7 +188,8 @@ pub(crate) fn keep<R: Threads + Wait + Sync, S: Source, O: Sink, E: Sink, D: Dis
 
 /// The command `show`: the plot of the state that the disk holds, or the status that refuses it.
 pub(crate) fn show<O: Sink, D: Disk>(alloc: Global, out: &mut O, disk: &mut D) -> Result<(), Status>
-    ensures outcome { (sent : List ℕ) × Grows O.holds out.old out.new sent × RepliesShowing (status_of result) (D.seen disk.old) sent }
+    ensures outcome { (sent : List ℕ) × Grows O.holds out.old out.new sent
+        × ((bytes : List ℕ) → RepliesBy show_row (status_of result) bytes (D.seen disk.old) sent []) }
     ensures refused { IfErr result (λ status. status ≢ Status.Done) }
     ensures no_read_fault { result ≢ Err Status.ReadFault }
     ensures no_problem { (fault : _) → result ≢ Err (Status.Problem fault) }
@@ -214,7 +217,8 @@ pub(crate) fn trial<R: Threads + Wait + Sync, O: Sink, G: Gate + Sync>(
     requires some_workers { 1 ≤ workers.now.count }
     requires few_workers { workers.now.count ≤ 64 }
     requires gate { (worker task : ℕ) → worker < workers.now.count → G.admits workers.now.gate.now worker task }
-    ensures outcome { (sent : List ℕ) × Grows O.holds out.old out.new sent × RepliesUnread (status_of result) (IsLineOfTrial number size) sent }
+    ensures outcome { (sent : List ℕ) × Grows O.holds out.old out.new sent
+        × ((bytes : List ℕ) (seen : Option (List ℕ)) → RepliesBy (trial_row number size) (status_of result) bytes seen sent []) }
     ensures refused { IfErr result (λ status. status ≢ Status.Done) }
     ensures no_read_fault { result ≢ Err Status.ReadFault }
     ensures write_fault { result ≡ Err Status.WriteFault → Rose (O.faults out.old) (O.faults out.new) }
@@ -236,7 +240,7 @@ pub(crate) fn check<S: Source, O: Sink>(
     out: &mut O,
 ) -> Result<(), Status>
     ensures outcome { (bytes : List ℕ) × ((sent : List ℕ) × WereLeft (S.left src.old) bytes
-        × Grows O.holds out.old out.new sent × Replies (status_of result) (IsLineOfProblem bytes) bytes sent) }
+        × Grows O.holds out.old out.new sent × ((seen : Option (List ℕ)) → RepliesBy check_row (status_of result) bytes seen sent [])) }
     ensures ended { OnOk result (IsAtEnd (S.left src.new)) }
     ensures taken { TakesAtMost 65537 (S.left src.old) (S.left src.new) }
     ensures refused { IfErr result (λ status. status ≢ Status.Done) }

@@ -31,13 +31,28 @@ impl<'p, 's, 'e, 'd, E: Sink, D: Disk> AfterStep for Keeper<'p, 's, 'e, 'd, E, D
     ghost ready = { λ keeper s. MayKeep D.seen D.moment D.leaves keeper.keeping.problem.now keeper.keeping.every keeper.store.now keeper.disk.now s };
 
     // The disk and the stream are those of before, and what was called keeps the state.
-    ghost answers = { λ a s answer b. (b.keeping ≡ a.keeping) × (b.store.ghost_name ≡ a.store.ghost_name) × (b.err.ghost_name ≡ a.err.ghost_name) × (b.disk.ghost_name ≡ a.disk.ghost_name)
-        × ((bytes : List ℕ) → HasProblem a.store.now bytes → OnOk answer (HasProblem b.store.now bytes) × Keeps D.seen D.moment D.leaves D.faults E.holds E.faults bytes a.keeping.problem.now a.keeping.every a.keeping.target a.disk.now b.disk.now a.err.now b.err.now (s ∷ []) (fault_in answer)) };
+    ghost answers = { λ a s answer b. (b.keeping ≡ a.keeping) × (b.store.ghost_name ≡ a.store.ghost_name) × (b.err.ghost_name ≡ a.err.ghost_name)
+        × (b.disk.ghost_name ≡ a.disk.ghost_name)
+        × ((bytes : List ℕ) → HasProblem a.store.now bytes → OnOk answer (HasProblem b.store.now bytes)
+        × Keeps D.seen D.moment D.leaves D.faults E.holds E.faults bytes a.keeping.problem.now a.keeping.every a.keeping.target
+        a.disk.now b.disk.now a.err.now b.err.now (s ∷ []) (fault_in answer)) };
 
-    ghost made = { λ a states answer b. (b.keeping ≡ a.keeping) × (b.store.ghost_name ≡ a.store.ghost_name) × (b.err.ghost_name ≡ a.err.ghost_name) × (b.disk.ghost_name ≡ a.disk.ghost_name)
-        × ((bytes : List ℕ) → HasProblem a.store.now bytes → OnOk answer (HasProblem b.store.now bytes) × Keeps D.seen D.moment D.leaves D.faults E.holds E.faults bytes a.keeping.problem.now a.keeping.every a.keeping.target a.disk.now b.disk.now a.err.now b.err.now states (fault_in answer)) };
+    ghost made = { λ a states answer b. (b.keeping ≡ a.keeping) × (b.store.ghost_name ≡ a.store.ghost_name) × (b.err.ghost_name ≡ a.err.ghost_name)
+        × (b.disk.ghost_name ≡ a.disk.ghost_name)
+        × ((bytes : List ℕ) → HasProblem a.store.now bytes → OnOk answer (HasProblem b.store.now bytes)
+        × Keeps D.seen D.moment D.leaves D.faults E.holds E.faults bytes a.keeping.problem.now a.keeping.every a.keeping.target
+        a.disk.now b.disk.now a.err.now b.err.now states (fault_in answer)) };
 
-    ghost made_none = { λ a. (refl, refl, refl, refl, λ bytes has. (has, keeps_none D.seen D.moment D.leaves D.faults E.holds E.faults bytes a.keeping.problem.now a.keeping.every a.keeping.target a.disk.now a.err.now)) };
+    ghost made_none = { λ a. (
+      refl,
+      refl,
+      refl,
+      refl,
+      λ bytes has. (
+        has,
+        keeps_none D.seen D.moment D.leaves D.faults E.holds E.faults bytes a.keeping.problem.now a.keeping.every a.keeping.target a.disk.now a.err.now,
+      ),
+    ) };
 
     ghost made_more = { λ a b c states s answer so_far one. (
       one.0 ∙ so_far.0,
@@ -48,8 +63,10 @@ impl<'p, 's, 'e, 'd, E: Sink, D: Disk> AfterStep for Keeper<'p, 's, 'e, 'd, E, D
           let first = so_far.4 bytes has in
           let next = one.4 bytes first.0 in (
             next.0,
-            keeps_on D.seen D.moment D.leaves D.faults E.holds E.faults bytes a.keeping.problem.now a.keeping.every a.keeping.target a.disk.now b.disk.now c.disk.now a.err.now b.err.now c.err.now states (s ∷ []) (fault_in answer) first.1
-                (subst (λ (k : Keeping). Keeps D.seen D.moment D.leaves D.faults E.holds E.faults bytes k.problem.now k.every k.target b.disk.now c.disk.now b.err.now c.err.now (s ∷ []) (fault_in answer)) so_far.0 next.1),
+            keeps_on D.seen D.moment D.leaves D.faults E.holds E.faults bytes a.keeping.problem.now a.keeping.every a.keeping.target
+                a.disk.now b.disk.now c.disk.now a.err.now b.err.now c.err.now states (s ∷ []) (fault_in answer) first.1
+                (subst (λ (k : Keeping). Keeps D.seen D.moment D.leaves D.faults E.holds E.faults bytes k.problem.now k.every k.target
+                b.disk.now c.disk.now b.err.now c.err.now (s ∷ []) (fault_in answer)) so_far.0 next.1),
           ),
     ) };
 

@@ -54,7 +54,8 @@ fn run_on<R: Threads + Wait + Sync, E: Sink, D: Disk, G: Gate + Sync>(
     requires gate { (worker task : ℕ) → worker < workers.now.count → G.admits workers.now.gate.now worker task }
     ensures whole { IfOk result (λ m. is_spent m ≡ false) }
     ensures value { IfOk result (λ m. state_of m ≡ finish keeping.now.problem.now (state_of mesh) keeping.now.target) }
-    ensures kept { Keeps D.seen D.moment D.leaves D.faults E.holds E.faults (problem_in store) keeping.now.problem.now keeping.now.every keeping.now.target disk.old disk.new err.old err.new (states_after keeping.now.problem.now (state_of mesh) (keeping.now.target - (state_of mesh).step)) (fault_in result) }
+    ensures kept { Keeps D.seen D.moment D.leaves D.faults E.holds E.faults (problem_in store) keeping.now.problem.now keeping.now.every keeping.now.target
+        disk.old disk.new err.old err.new (states_after keeping.now.problem.now (state_of mesh) (keeping.now.target - (state_of mesh).step)) (fault_in result) }
 {
     let crew = Crew {
         ranks: 1,
@@ -101,7 +102,9 @@ fn run_new<R: Threads + Wait + Sync, E: Sink, D: Disk, G: Gate + Sync>(
     requires gate { (worker task : ℕ) → worker < workers.now.count → G.admits workers.now.gate.now worker task }
     ensures whole { IfOk result (λ m. is_spent m ≡ false) }
     ensures value { IfOk result (λ m. state_of m ≡ finish keeping.now.problem.now (start keeping.now.problem.now) keeping.now.target) }
-    ensures kept { Keeps D.seen D.moment D.leaves D.faults E.holds E.faults (problem_in store) keeping.now.problem.now keeping.now.every keeping.now.target disk.old disk.new err.old err.new (start keeping.now.problem.now ∷ states_after keeping.now.problem.now (start keeping.now.problem.now) keeping.now.target) (fault_in result) }
+    ensures kept { Keeps D.seen D.moment D.leaves D.faults E.holds E.faults (problem_in store) keeping.now.problem.now keeping.now.every keeping.now.target
+        disk.old disk.new err.old err.new
+        (start keeping.now.problem.now ∷ states_after keeping.now.problem.now (start keeping.now.problem.now) keeping.now.target) (fault_in result) }
 {
     let mesh = match start(keeping.alloc, keeping.problem) {
         Ok(mesh) => mesh,
@@ -133,8 +136,10 @@ fn run_from<R: Threads + Wait + Sync, E: Sink, D: Disk, G: Gate + Sync>(
     requires few_workers { workers.now.count ≤ 64 }
     requires gate { (worker task : ℕ) → worker < workers.now.count → G.admits workers.now.gate.now worker task }
     ensures whole { IfOk result (λ m. is_spent m ≡ false) }
-    ensures value { IfOk result (λ m. state_of m ≡ finish keeping.now.problem.now (state_from keeping.now.problem.now (content_resumed bytes.now keeping.now.problem.now resumed)) keeping.now.target) }
-    ensures kept { KeepsRun D.seen D.moment D.leaves D.faults E.holds E.faults bytes.now keeping.now.problem.now keeping.now.every keeping.now.target (content_resumed bytes.now keeping.now.problem.now resumed) disk.old disk.new err.old err.new (fault_in result) }
+    ensures value { IfOk result (λ m. state_of m
+        ≡ finish keeping.now.problem.now (state_from keeping.now.problem.now (content_resumed bytes.now keeping.now.problem.now resumed)) keeping.now.target) }
+    ensures kept { KeepsRun D.seen D.moment D.leaves D.faults E.holds E.faults bytes.now keeping.now.problem.now keeping.now.every keeping.now.target
+        (content_resumed bytes.now keeping.now.problem.now resumed) disk.old disk.new err.old err.new (fault_in result) }
 {
     match resumed {
         Resumed::Nothing => match make_store(keeping.alloc, keeping.problem, bytes, disk) {

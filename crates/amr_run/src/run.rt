@@ -1,13 +1,13 @@
 //! The top call.
-ghost use Rattle.std.specs.Prelude.{◌≡◌, ◌≢◌, ◌⊎◌, ◌<◌, ◌≤◌, List, ℕ, Some, None, Err, IfErr, OnOk};
+ghost use Rattle.std.specs.Prelude.{◌≡◌, ◌≢◌, ◌⊎◌, ◌<◌, ◌≤◌, List, ℕ, Some, None, Err, IfErr, IfSome, OnOk};
 ghost use Rattle.std.specs.Io.KnownBytes.{IsAtEnd};
 ghost use Rattle.amr_causes.specs.Causes.{Rose};
 ghost use Rattle.amr_causes.specs.Bytes.{Grows, WereLeft};
 ghost use Rattle.amr_cli.specs.Words.{HasRanges, HasWorkers, command_of};
-ghost use Rattle.amr_run.specs.Answer.{KeepsCheckpoints, OpensStore, ReadsSource};
 ghost use Rattle.amr_run.specs.Outcome.{EndsSettled, Outcome, RepliesTo, StopsTo, status_of};
 ghost use Rattle.amr_run.specs.Reading.{TakesAtMost};
 ghost use Rattle.amr_run.specs.Served.{Serves};
+ghost use Rattle.amr_run.specs.Table.{KeepsCheckpoints, OpensStore, ReadsSource, meaning};
 ghost use Rattle.amr_store.specs.Phases.{OnlyReads};
 
 use crate::Status;
@@ -98,15 +98,19 @@ fn serve<R: Threads + Wait + Sync, S: Source, O: Sink, E: Sink, D: Disk, G: Gate
     ensures unread { (command : _) → command_of words.now ≡ Some command → ¬ (ReadsSource command) → src.new ≡ src.old }
     ensures unopened { (command : _) → command_of words.now ≡ Some command → ¬ (OpensStore command) → disk.new ≡ disk.old }
     ensures silent { (command : _) → command_of words.now ≡ Some command → ¬ (KeepsCheckpoints command) → err.new ≡ err.old }
-    ensures taken { TakesAtMost 65537 (S.left src.old) (S.left src.new) }
-    ensures untouched { command_of words.now ≡ None → (src.new ≡ src.old) × (out.new ≡ out.old) × (err.new ≡ err.old) × (disk.new ≡ disk.old) }
-    ensures settled { (command : _) → command_of words.now ≡ Some command → OpensStore command → EndsSettled D.seen D.moment D.leaves disk.old disk.new result }
+    ensures taken { (command : _) → command_of words.now ≡ Some command
+        → IfSome (meaning command).reads (λ most. TakesAtMost most (S.left src.old) (S.left src.new)) }
+    ensures untouched { command_of words.now ≡ None
+        → (src.new ≡ src.old) × (out.new ≡ out.old) × (err.new ≡ err.old) × (disk.new ≡ disk.old) }
+    ensures settled { (command : _) → command_of words.now ≡ Some command → OpensStore command
+        → EndsSettled D.seen D.moment D.leaves disk.old disk.new result }
     ensures unwritten { (refusal : _) → result ≡ Status.Store refusal → OnlyReads D.seen D.moment D.leaves disk.old disk.new }
     ensures source_first { result ≡ Status.ReadFault → disk.new ≡ disk.old }
     ensures judged_first { (fault : _) → result ≡ Status.Problem fault → disk.new ≡ disk.old }
     ensures read_fault { result ≡ Status.ReadFault → Rose (S.faults src.old) (S.faults src.new) }
     ensures disk_fault { result ≡ Status.DiskFault → Rose (D.faults disk.old) (D.faults disk.new) }
-    ensures write_fault { result ≡ Status.WriteFault → (Rose (O.faults out.old) (O.faults out.new) × (E.faults err.new ≡ E.faults err.old)) ⊎ Rose (E.faults err.old) (E.faults err.new) }
+    ensures write_fault { result ≡ Status.WriteFault
+        → (Rose (O.faults out.old) (O.faults out.new) × (E.faults err.new ≡ E.faults err.old)) ⊎ Rose (E.faults err.old) (E.faults err.new) }
     ensures no_read_fault { result ≢ Status.ReadFault → S.faults src.new ≡ S.faults src.old }
     ensures no_disk_fault { result ≢ Status.DiskFault → D.faults disk.new ≡ D.faults disk.old }
     ensures no_write_fault { result ≢ Status.WriteFault → (O.faults out.new ≡ O.faults out.old) × (E.faults err.new ≡ E.faults err.old) }
@@ -141,7 +145,7 @@ fn answer<R: Threads + Wait + Sync, S: Source, O: Sink, E: Sink, D: Disk, G: Gat
     ensures unread { ¬ (ReadsSource command) → src.new ≡ src.old }
     ensures unopened { ¬ (OpensStore command) → disk.new ≡ disk.old }
     ensures silent { ¬ (KeepsCheckpoints command) → err.new ≡ err.old }
-    ensures taken { TakesAtMost 65537 (S.left src.old) (S.left src.new) }
+    ensures taken { IfSome (meaning command).reads (λ most. TakesAtMost most (S.left src.old) (S.left src.new)) }
     ensures refused { IfErr result (λ status. (status ≢ Status.Done) × (status ≢ Status.Usage)) }
     ensures settled { OpensStore command → EndsSettled D.seen D.moment D.leaves disk.old disk.new (status_of result) }
     ensures unwritten { (refusal : _) → result ≡ Err (Status.Store refusal) → OnlyReads D.seen D.moment D.leaves disk.old disk.new }
@@ -151,22 +155,23 @@ fn answer<R: Threads + Wait + Sync, S: Source, O: Sink, E: Sink, D: Disk, G: Gat
     ensures no_read_fault { result ≢ Err Status.ReadFault → S.faults src.new ≡ S.faults src.old }
     ensures disk_fault { result ≡ Err Status.DiskFault → Rose (D.faults disk.old) (D.faults disk.new) }
     ensures no_disk_fault { result ≢ Err Status.DiskFault → D.faults disk.new ≡ D.faults disk.old }
-    ensures write_fault { result ≡ Err Status.WriteFault → (Rose (O.faults out.old) (O.faults out.new) × (E.faults err.new ≡ E.faults err.old)) ⊎ Rose (E.faults err.old) (E.faults err.new) }
+    ensures write_fault { result ≡ Err Status.WriteFault
+        → (Rose (O.faults out.old) (O.faults out.new) × (E.faults err.new ≡ E.faults err.old)) ⊎ Rose (E.faults err.old) (E.faults err.new) }
     ensures no_write_fault { result ≢ Err Status.WriteFault → (O.faults out.new ≡ O.faults out.old) × (E.faults err.new ≡ E.faults err.old) }
 {
     match command {
-        Command::Run {
-            workers,
-            to,
-            keep: None,
-        } => run(&workers_of(shell, workers), to, src, out),
-        Command::Run {
-            workers,
-            to,
-            keep: Some(every),
-        } => {
-            let marks = Marks { to, every };
-            keep(&workers_of(shell, workers), marks, src, out, err, disk)
+        Command::Run(options) => {
+            let workers = workers_of(shell, options.workers);
+            match options.keep {
+                None => run(&workers, options.to, src, out),
+                Some(every) => {
+                    let marks = Marks {
+                        to: options.to,
+                        every,
+                    };
+                    keep(&workers, marks, src, out, err, disk)
+                }
+            }
         }
         Command::Check => check(shell.alloc, src, out),
         Command::Show => show(shell.alloc, out, disk),

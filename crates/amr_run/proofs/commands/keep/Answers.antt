@@ -1,13 +1,11 @@
-use Rattle.std.proofs.Common.{IfSome, [], sym, ◌∙◌, refl, subst, inl, List, ℕ}
+use Rattle.std.proofs.Common.{[], sym, ◌∙◌, refl, subst, inl, List, ℕ}
 use Rattle.amr_causes.proofs.ByteLaws.{grows_none}
-use Rattle.amr_checkpoint.specs.declared.refusal.Refusal.{Refusal}
 use Rattle.amr_def.specs.Plot.{plot}
 use Rattle.amr_patch.specs.Meshes.{state_of}
 use Rattle.amr_problem.specs.Judgement.{IsProblemOf}
-use Rattle.amr_run.specs.Answer.{IsPlotOfKeptRun}
-use Rattle.amr_run.specs.Outcome.{RefusesRunTo}
-use Rattle.amr_run.proofs.KeptOutcomes.{kept_by, kept_replies, only_reads_none, plot_of_kept, plot_unwritten, settles, settles_by, settles_unread, stops_by, stops_run, unread_before, unread_kept}
-use Rattle.amr_run.proofs.Outcomes.{stops_within}
+use Rattle.amr_run.specs.Table.{kept_row}
+use Rattle.amr_run.proofs.KeptOutcomes.{kept_replies, only_reads_none, plot_of_kept, plot_unwritten, settles, settles_by, settles_unread, stops_by, stops_run, unread_before}
+use Rattle.amr_run.proofs.Outcomes.{refused_by, stops_within, unread}
 use Rattle.amr_run.specs.declared.status.Status.TheVariants.{Done, WriteFault}
 use Rattle.amr_run.proofs.commands.keep.Goals as goal
 
@@ -22,7 +20,7 @@ returns-in_err-given-clause-outcome g c =
           read.1,
           grows_none g.O.Sink.holds c.args.out.now,
           grows_none g.E.Sink.holds c.args.err.now,
-          kept_by (IsPlotOfKeptRun read.0 c.args.marks.to c.args.marks.every (g.D.Disk.seen c.args.disk.now)) (λ (refusal : Refusal). IfSome (g.D.Disk.seen c.args.disk.now) (RefusesRunTo read.0 c.args.marks.to refusal)) c.from_residual.result _ read.0 [] [] c.from_residual.ensures.1 (unread_kept (IsPlotOfKeptRun read.0 c.args.marks.to c.args.marks.every (g.D.Disk.seen c.args.disk.now)) (λ (refusal : Refusal). IfSome (g.D.Disk.seen c.args.disk.now) (RefusesRunTo read.0 c.args.marks.to refusal)) _ read.0 read.2),
+          refused_by (kept_row c.args.marks) c.from_residual.result _ read.0 (g.D.Disk.seen c.args.disk.now) [] [] c.from_residual.ensures.1 (unread (kept_row c.args.marks) _ read.0 (g.D.Disk.seen c.args.disk.now) tt (λ fault h. h) read.2),
           stops_by g.D.Disk.seen g.D.Disk.moment g.D.Disk.leaves c.args.disk.now c.args.disk.now c.from_residual.result _ read.0 c.args.marks.to c.args.marks.every [] c.from_residual.ensures.1
               (λ image told. inl (unread_before _ read.0 read.2, only_reads_none g.D.Disk.seen g.D.Disk.moment g.D.Disk.leaves c.args.disk.now, refl)),
         ),
@@ -51,7 +49,7 @@ returns-in_err-mesh-clause-outcome g c =
           read.1,
           grows_none g.O.Sink.holds c.args.out.now,
           run.1,
-          kept_by (IsPlotOfKeptRun read.0 c.args.marks.to c.args.marks.every (g.D.Disk.seen c.args.disk.now)) (λ (refusal : Refusal). IfSome (g.D.Disk.seen c.args.disk.now) (RefusesRunTo read.0 c.args.marks.to refusal)) c.from_residual-in_err-mesh.result _ read.0 [] run.0 c.from_residual-in_err-mesh.ensures.1 (kept_replies _ c.deref.result.now read.0 c.args.marks.to p c.args.marks.every c.stop_of.result (g.D.Disk.seen c.args.disk.now) run.0 same c.stop_of.ensures read.2.1 run.2),
+          refused_by (kept_row c.args.marks) c.from_residual-in_err-mesh.result _ read.0 (g.D.Disk.seen c.args.disk.now) [] run.0 c.from_residual-in_err-mesh.ensures.1 (kept_replies _ c.deref.result.now read.0 c.args.marks p c.stop_of.result (g.D.Disk.seen c.args.disk.now) run.0 same c.stop_of.ensures read.2.1 run.2),
           stops_by g.D.Disk.seen g.D.Disk.moment g.D.Disk.leaves c.args.disk.now c.keep_run.new.disk c.from_residual-in_err-mesh.result _ read.0 c.args.marks.to c.args.marks.every run.0 c.from_residual-in_err-mesh.ensures.1 (stops_run g.D.Disk.seen g.D.Disk.moment g.D.Disk.leaves c.args.disk.now c.keep_run.new.disk _ _ c.deref.result.now read.0 c.args.marks.to p c.args.marks.every c.stop_of.result run.0 same c.stop_of.ensures read.2.1 run.3 (λ h. h) (λ ended h. h)),
         ),
       ),
@@ -74,7 +72,7 @@ returns-in_err-plot_in_threads-clause-outcome g c =
           read.1,
           part.2,
           run.1,
-          kept_by (IsPlotOfKeptRun read.0 c.args.marks.to c.args.marks.every (g.D.Disk.seen c.args.disk.now)) (λ (refusal : Refusal). IfSome (g.D.Disk.seen c.args.disk.now) (RefusesRunTo read.0 c.args.marks.to refusal)) c.from_residual-in_err-plot_in_threads.result WriteFault read.0 part.0 run.0 c.from_residual-in_err-plot_in_threads.ensures.1 (record { whole = whole; lines = run.0; answer = answer; cut = inl (part.1, refl) }),
+          refused_by (kept_row c.args.marks) c.from_residual-in_err-plot_in_threads.result WriteFault read.0 (g.D.Disk.seen c.args.disk.now) part.0 run.0 c.from_residual-in_err-plot_in_threads.ensures.1 (record { whole = whole; lines = run.0; answer = answer; cut = inl (part.1, refl) }),
           stops_by g.D.Disk.seen g.D.Disk.moment g.D.Disk.leaves c.args.disk.now c.keep_run.new.disk c.from_residual-in_err-plot_in_threads.result WriteFault read.0 c.args.marks.to c.args.marks.every run.0 c.from_residual-in_err-plot_in_threads.ensures.1 (stops_run g.D.Disk.seen g.D.Disk.moment g.D.Disk.leaves c.args.disk.now c.keep_run.new.disk Done WriteFault c.deref.result.now read.0 c.args.marks.to p c.args.marks.every c.stop_of.result run.0 same c.stop_of.ensures read.2.1 run.3 (λ h. absurd h) plot_unwritten),
         ),
       ),

@@ -1,9 +1,9 @@
 use Rattle.std.proofs.Common.{◌<◌, ◌^◌, ◌∙◌, Err, ap, refl, [], arith}
 use Rattle.amr_causes.proofs.ByteLaws.{grows_none}
 use Rattle.amr_patch.specs.Meshes.{state_of}
-use Rattle.amr_run.specs.Answer.{IsLineOfTrial}
-use Rattle.amr_run.proofs.Outcomes.{is_line_of_trial, trial_out_of_memory, trial_refused_by, trial_steps, trial_unread}
-use Rattle.amr_run.specs.declared.status.Status.TheVariants.{NoMemory, WriteFault}
+use Rattle.amr_run.specs.Table.{trial_row}
+use Rattle.amr_run.proofs.Outcomes.{cut_short, is_line_of_trial, out_of_memory, refused_by, trial_steps, trial_unread}
+use Rattle.amr_run.specs.declared.status.Status.TheVariants.{NoMemory}
 use Rattle.amr_run.proofs.commands.trial.Goals as goal
 
 pub returns-in_err-problem-clause-outcome : goal.returns-in_err-problem-clause-outcome
@@ -11,8 +11,8 @@ returns-in_err-problem-clause-outcome g c =
     let small : c.args.number < 2 ^ 32 = omega (arith, c.ranges.number.fits) in (
       [],
       grows_none g.O.Sink.holds c.args.out.now,
-      trial_refused_by (IsLineOfTrial c.args.number c.args.size) c.from_residual-in_err-problem.result _ [] c.from_residual-in_err-problem.ensures.1
-          (trial_unread c.args.number c.args.size c.deref.result.now c.in_err-problem.field-0.0 small c.requires.size (c.deref.ensures.value ∙ c.in_ok-bytes.ensures) (λ f is. c.in_err-problem.ensures.refused f (ap Err is))),
+      λ bytes seen. refused_by (trial_row c.args.number c.args.size) c.from_residual-in_err-problem.result _ bytes seen [] [] c.from_residual-in_err-problem.ensures.1
+          (trial_unread c.args.number c.args.size c.deref.result.now c.in_err-problem.field-0.0 bytes seen small c.requires.size (c.deref.ensures.value ∙ c.in_ok-bytes.ensures) (λ f is. c.in_err-problem.ensures.refused f (ap Err is))),
     )
 
 pub run_to-requires-clause-within : goal.run_to-requires-clause-within
@@ -23,19 +23,19 @@ run_to-requires-clause-within g c κs within =
 
 pub returns-in_err-mesh-clause-outcome : goal.returns-in_err-mesh-clause-outcome
 returns-in_err-mesh-clause-outcome g c =
-    ([], grows_none g.O.Sink.holds c.args.out.now, trial_out_of_memory (IsLineOfTrial c.args.number c.args.size) c.from_residual-in_err-mesh.result _ c.from_residual-in_err-mesh.ensures.1 c.in_err-mesh.ensures.refused)
+    ([], grows_none g.O.Sink.holds c.args.out.now, λ bytes seen. out_of_memory (trial_row c.args.number c.args.size) c.from_residual-in_err-mesh.result _ bytes seen c.from_residual-in_err-mesh.ensures.1 c.in_err-mesh.ensures.refused)
 
 pub returns-in_err-line-clause-outcome : goal.returns-in_err-line-clause-outcome
 returns-in_err-line-clause-outcome g c =
-    ([], grows_none g.O.Sink.holds c.args.out.now, trial_refused_by (IsLineOfTrial c.args.number c.args.size) c.from_residual-in_err-line.result NoMemory [] c.from_residual-in_err-line.ensures.1 refl)
+    ([], grows_none g.O.Sink.holds c.args.out.now, λ bytes seen. out_of_memory (trial_row c.args.number c.args.size) c.from_residual-in_err-line.result NoMemory bytes seen c.from_residual-in_err-line.ensures.1 refl)
 
 pub returns-in_err-write_whole-clause-outcome : goal.returns-in_err-write_whole-clause-outcome
 returns-in_err-write_whole-clause-outcome g c =
     let part = c.in_err-write_whole.ensures.short in
     let answer = is_line_of_trial c.args.number c.args.size c.deref.result.now c.deref-2.result.now c.in_ok-problem.problem (state_of c.in_ok-mesh.mesh) (c.deref.ensures.value ∙ c.in_ok-bytes.ensures) c.in_ok-problem.ensures.accepted c.in_ok-mesh.ensures.value c.in_ok-mesh.ensures.run (c.deref-2.ensures.value ∙ c.in_ok-line.ensures) in
-    (part.0, part.2, trial_refused_by (IsLineOfTrial c.args.number c.args.size) c.from_residual-in_err-write_whole.result WriteFault part.0 c.from_residual-in_err-write_whole.ensures.1 (c.deref-2.result.now, answer, part.1))
+    (part.0, part.2, λ bytes seen. cut_short (trial_row c.args.number c.args.size) c.from_residual-in_err-write_whole.result bytes seen c.deref-2.result.now part.0 c.from_residual-in_err-write_whole.ensures.1 (answer, refl) part.1)
 
 pub returns-clause-outcome : goal.returns-clause-outcome
 returns-clause-outcome g c =
     let answer = is_line_of_trial c.args.number c.args.size c.deref.result.now c.deref-2.result.now c.in_ok-problem.problem (state_of c.in_ok-mesh.mesh) (c.deref.ensures.value ∙ c.in_ok-bytes.ensures) c.in_ok-problem.ensures.accepted c.in_ok-mesh.ensures.value c.in_ok-mesh.ensures.run (c.deref-2.ensures.value ∙ c.in_ok-line.ensures) in
-    (c.deref-2.result.now, c.in_ok-write_whole.ensures.whole, answer)
+    (c.deref-2.result.now, c.in_ok-write_whole.ensures.whole, λ bytes seen. (answer, refl))

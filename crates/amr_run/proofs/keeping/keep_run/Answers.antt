@@ -26,7 +26,7 @@ returns-in-Err-clause-outcome g c =
     let is : c.from.result ≡ resume_refused c.in-Err.fault = c.from.ensures in (
       [],
       grows_none g.E.Sink.holds c.args.err.now,
-      subst (λ (s : Status). KeptReplies (Err s) c.args.bytes.now c.args.keeping.now.problem.now c.args.keeping.now.every c.args.keeping.now.target (g.D.Disk.seen c.args.disk.now) []) (sym is) (unresumed c.args.bytes.now c.args.keeping.now.problem.now c.args.keeping.now.every c.args.keeping.now.target (g.D.Disk.seen c.args.disk.now) c.in-Err.fault c.requires.accepted.clean (λ refusal image same told. c.in-Err.ensures.refused refusal image (ap Err same) told)),
+      subst (λ (s : Status). KeptReplies (Err s) c.args.bytes.now c.args.keeping.now.problem.now c.args.keeping.now.every c.args.keeping.now.target (g.D.Disk.seen c.args.disk.now) []) (sym is) (unresumed c.args.bytes.now c.args.keeping.now.problem.now c.args.keeping.now.every c.args.keeping.now.target (g.D.Disk.seen c.args.disk.now) c.in-Err.fault (λ refusal image same told. c.in-Err.ensures.refused refusal image (ap Err same) told)),
       λ image told. inl (subst EndsBefore (sym is) (unresumed_before c.in-Err.fault), c.in-Err.ensures.reads, refl),
     )
 
@@ -65,7 +65,7 @@ returns-in-Err-run_from-clause-outcome g c =
       run.said,
       run.grows,
       subst (λ (s : Status). KeptReplies (Err s) c.args.bytes.now c.args.keeping.now.problem.now c.args.keeping.now.every c.args.keeping.now.target (g.D.Disk.seen c.args.disk.now) run.said) (sym is)
-          (unkept c.args.bytes.now c.args.keeping.now.problem.now c.args.keeping.now.every c.args.keeping.now.target (g.D.Disk.seen c.args.disk.now) (answer_of_run p found target) lines run.said (g.E.Sink.faults c.args.err.now) (g.E.Sink.faults c.run_from.new.err) c.in-Err-run_from.fault c.requires.accepted.clean answer run.says),
+          (unkept c.args.bytes.now c.args.keeping.now.problem.now c.args.keeping.now.every c.args.keeping.now.target (g.D.Disk.seen c.args.disk.now) (answer_of_run p found target) lines run.said (g.E.Sink.faults c.args.err.now) (g.E.Sink.faults c.run_from.new.err) c.in-Err-run_from.fault answer run.says),
       subst (λ (s : Status). StopsKept g.D.Disk.seen g.D.Disk.moment g.D.Disk.leaves c.args.disk.now c.run_from.new.disk s c.args.bytes.now c.args.keeping.now.problem.now c.args.keeping.now.every c.args.keeping.now.target run.said) (sym is)
           (stops_kept g.D.Disk.seen g.D.Disk.moment g.D.Disk.leaves g.D.Disk.faults g.E.Sink.holds g.E.Sink.faults c.args.bytes.now c.args.keeping.now.problem.now c.args.keeping.now.every c.args.keeping.now.target c.in-Ok.resumed c.args.disk.now c.resume.new.disk c.run_from.new.disk c.args.err.now c.run_from.new.err (Some c.in-Err-run_from.fault) (keep_refused c.in-Err-run_from.fault) refl c.in-Ok.ensures.reads (c.in-Ok.ensures.settled (λ failed. absurd (cc))) (λ image told. c.in-Ok.ensures.holds image p told c.requires.accepted) can run),
     )

@@ -1,17 +1,17 @@
-use Rattle.std.proofs.Common.{◌≡◌, ◌∙◌, ap, refl, sym, subst, Some, None, []}
+use Rattle.std.proofs.Common.{sym, subst, ℕ, IfSome, Option, Some, None, []}
 use Rattle.amr_causes.proofs.ByteLaws.{grows_none, were_left}
 use Rattle.amr_cli.specs.declared.command.Command.{Command}
-use Rattle.amr_cli.specs.declared.command.Command.TheVariants.{Run}
-use Rattle.amr_run.specs.Answer.{OpensStore}
-use Rattle.amr_run.specs.Outcome.{RepliesTo, StopsTo, status_of}
+use Rattle.amr_run.specs.Outcome.{RepliesBy, RepliesTo, StopsBy, StopsTo, status_of}
+use Rattle.amr_run.specs.Reading.{TakesAtMost}
+use Rattle.amr_run.specs.Table.{OpensStore, check_row, meaning, run_meaning, run_row, show_row, trial_row}
 use Rattle.amr_run.proofs.KeptOutcomes.{only_reads_none}
+use Rattle.amr_run.proofs.Outcomes.{never_disk_fault, never_usage, takes_none}
 use Rattle.amr_run.proofs.run.answer.Goals as goal
 
-pub returns-in-Run-default-default-None-clause-outcome : goal.returns-in-Run-default-default-None-clause-outcome
-returns-in-Run-default-default-None-clause-outcome g c =
+pub returns-in-None-clause-outcome : goal.returns-in-None-clause-outcome
+returns-in-None-clause-outcome g c =
     let done = c.run.ensures.outcome in
-    let kept : c.in-Run-default-default-None.keep ≡ None = rw c.in-Run-default-default-None.is at c.in-Run-default-default-None.keep-is in
-    let is : Run c.in-Run-default-default-None.workers c.in-Run-default-default-None.to None ≡ c.args.command = ap (λ k. Run c.in-Run-default-default-None.workers c.in-Run-default-default-None.to k) (sym kept) ∙ sym c.in-Run-default-default-None.is in
+    let to = c.in-Run.options.to in
     let seen = g.D.Disk.seen c.args.disk.now in (
       done.0,
       (
@@ -21,18 +21,19 @@ returns-in-Run-default-default-None-clause-outcome g c =
           done.1.1,
           done.1.2,
           grows_none g.E.Sink.holds c.args.err.now,
-          subst (λ (command : Command). RepliesTo (status_of c.run.result) command done.0 seen done.1.0 []) is (done.1.3, refl),
-          subst (λ (command : Command). StopsTo g.D.Disk.seen g.D.Disk.moment g.D.Disk.leaves c.args.disk.now c.args.disk.now (status_of c.run.result) (Some command) done.0 []) is (only_reads_none g.D.Disk.seen g.D.Disk.moment g.D.Disk.leaves c.args.disk.now),
+          subst (λ (command : Command). RepliesTo (status_of c.run.result) command done.0 seen done.1.0 []) (sym c.in-Run.is)
+              (subst (λ (keep : Option ℕ). RepliesBy (run_meaning to keep) (status_of c.run.result) done.0 seen done.1.0 []) (sym c.in-None.is) (done.1.3 seen)),
+          subst (λ (command : Command). StopsTo g.D.Disk.seen g.D.Disk.moment g.D.Disk.leaves c.args.disk.now c.args.disk.now (status_of c.run.result) (Some command) done.0 []) (sym c.in-Run.is)
+              (subst (λ (keep : Option ℕ). StopsBy g.D.Disk.seen g.D.Disk.moment g.D.Disk.leaves c.args.disk.now c.args.disk.now (status_of c.run.result) (run_meaning to keep).keeps done.0 []) (sym c.in-None.is) (only_reads_none g.D.Disk.seen g.D.Disk.moment g.D.Disk.leaves c.args.disk.now)),
         ),
       ),
     )
 
-pub returns-in-Run-default-default-Some-clause-outcome : goal.returns-in-Run-default-default-Some-clause-outcome
-returns-in-Run-default-default-Some-clause-outcome g c =
+pub returns-in-Some-clause-outcome : goal.returns-in-Some-clause-outcome
+returns-in-Some-clause-outcome g c =
     let done = c.keep.ensures.outcome in
     let all = done.1.1 in
-    let kept : c.in-Run-default-default-Some.keep ≡ Some c.in-Run-default-default-Some.every = rw c.in-Run-default-default-Some.is at c.in-Run-default-default-Some.keep-is in
-    let is : Run c.in-Run-default-default-Some.workers c.in-Run-default-default-Some.to (Some c.in-Run-default-default-Some.every) ≡ c.args.command = ap (λ k. Run c.in-Run-default-default-Some.workers c.in-Run-default-default-Some.to k) (sym kept) ∙ sym c.in-Run-default-default-Some.is in
+    let to = c.in-Run.options.to in
     let seen = g.D.Disk.seen c.args.disk.now in (
       done.0,
       (
@@ -42,8 +43,10 @@ returns-in-Run-default-default-Some-clause-outcome g c =
           all.1,
           all.2,
           all.3,
-          subst (λ (command : Command). RepliesTo (status_of c.keep.result) command done.0 seen done.1.0 all.0) is all.4,
-          subst (λ (command : Command). StopsTo g.D.Disk.seen g.D.Disk.moment g.D.Disk.leaves c.args.disk.now c.keep.new.disk (status_of c.keep.result) (Some command) done.0 all.0) is all.5,
+          subst (λ (command : Command). RepliesTo (status_of c.keep.result) command done.0 seen done.1.0 all.0) (sym c.in-Run.is)
+              (subst (λ (keep : Option ℕ). RepliesBy (run_meaning to keep) (status_of c.keep.result) done.0 seen done.1.0 all.0) (sym c.in-Some.is) all.4),
+          subst (λ (command : Command). StopsTo g.D.Disk.seen g.D.Disk.moment g.D.Disk.leaves c.args.disk.now c.keep.new.disk (status_of c.keep.result) (Some command) done.0 all.0) (sym c.in-Run.is)
+              (subst (λ (keep : Option ℕ). StopsBy g.D.Disk.seen g.D.Disk.moment g.D.Disk.leaves c.args.disk.now c.keep.new.disk (status_of c.keep.result) (run_meaning to keep).keeps done.0 all.0) (sym c.in-Some.is) all.5),
         ),
       ),
     )
@@ -60,7 +63,7 @@ returns-in-Check-clause-outcome g c =
           done.1.1,
           done.1.2,
           grows_none g.E.Sink.holds c.args.err.now,
-          subst (λ (command : Command). RepliesTo (status_of c.check.result) command done.0 seen done.1.0 []) (sym c.in-Check.is) (done.1.3, refl),
+          subst (λ (command : Command). RepliesTo (status_of c.check.result) command done.0 seen done.1.0 []) (sym c.in-Check.is) (done.1.3 seen),
           subst (λ (command : Command). StopsTo g.D.Disk.seen g.D.Disk.moment g.D.Disk.leaves c.args.disk.now c.args.disk.now (status_of c.check.result) (Some command) done.0 []) (sym c.in-Check.is) (only_reads_none g.D.Disk.seen g.D.Disk.moment g.D.Disk.leaves c.args.disk.now),
         ),
       ),
@@ -79,7 +82,7 @@ returns-in-Show-clause-outcome g c =
           left.1,
           said.1,
           grows_none g.E.Sink.holds c.args.err.now,
-          subst (λ (command : Command). RepliesTo (status_of c.show.result) command left.0 seen said.0 []) (sym c.in-Show.is) (said.2, refl),
+          subst (λ (command : Command). RepliesTo (status_of c.show.result) command left.0 seen said.0 []) (sym c.in-Show.is) (said.2 left.0),
           subst (λ (command : Command). StopsTo g.D.Disk.seen g.D.Disk.moment g.D.Disk.leaves c.args.disk.now c.show.new.disk (status_of c.show.result) (Some command) left.0 []) (sym c.in-Show.is) c.show.ensures.reads,
         ),
       ),
@@ -98,22 +101,40 @@ returns-in-Trial-clause-outcome g c =
           left.1,
           said.1,
           grows_none g.E.Sink.holds c.args.err.now,
-          subst (λ (command : Command). RepliesTo (status_of c.trial.result) command left.0 seen said.0 []) (sym c.in-Trial.is) (said.2, refl),
+          subst (λ (command : Command). RepliesTo (status_of c.trial.result) command left.0 seen said.0 []) (sym c.in-Trial.is) (said.2 left.0 seen),
           subst (λ (command : Command). StopsTo g.D.Disk.seen g.D.Disk.moment g.D.Disk.leaves c.args.disk.now c.args.disk.now (status_of c.trial.result) (Some command) left.0 []) (sym c.in-Trial.is) (only_reads_none g.D.Disk.seen g.D.Disk.moment g.D.Disk.leaves c.args.disk.now),
         ),
       ),
     )
 
+-- ---- what was taken
+
+pub returns-in-None-clause-taken : goal.returns-in-None-clause-taken
+returns-in-None-clause-taken g c =
+    subst (λ (command : Command). IfSome (meaning command).reads (λ most. TakesAtMost most (g.S.Source.left c.args.src.now) (g.S.Source.left c.run.new.src))) (sym c.in-Run.is)
+    (subst (λ (keep : Option ℕ). IfSome (run_meaning c.in-Run.options.to keep).reads (λ most. TakesAtMost most (g.S.Source.left c.args.src.now) (g.S.Source.left c.run.new.src))) (sym c.in-None.is) c.run.ensures.taken)
+
+pub returns-in-Some-clause-taken : goal.returns-in-Some-clause-taken
+returns-in-Some-clause-taken g c =
+    subst (λ (command : Command). IfSome (meaning command).reads (λ most. TakesAtMost most (g.S.Source.left c.args.src.now) (g.S.Source.left c.keep.new.src))) (sym c.in-Run.is)
+    (subst (λ (keep : Option ℕ). IfSome (run_meaning c.in-Run.options.to keep).reads (λ most. TakesAtMost most (g.S.Source.left c.args.src.now) (g.S.Source.left c.keep.new.src))) (sym c.in-Some.is) c.keep.ensures.taken)
+
+pub returns-in-Check-clause-taken : goal.returns-in-Check-clause-taken
+returns-in-Check-clause-taken g c = subst (λ (command : Command). IfSome (meaning command).reads (λ most. TakesAtMost most (g.S.Source.left c.args.src.now) (g.S.Source.left c.check.new.src))) (sym c.in-Check.is) c.check.ensures.taken
+
+pub returns-in-Show-clause-taken : goal.returns-in-Show-clause-taken
+returns-in-Show-clause-taken g c = takes_none (g.S.Source.left c.args.src.now) (meaning c.args.command).reads
+
+pub returns-in-Trial-clause-taken : goal.returns-in-Trial-clause-taken
+returns-in-Trial-clause-taken g c = takes_none (g.S.Source.left c.args.src.now) (meaning c.args.command).reads
+
 -- ---- what is pending
 
-pub returns-in-Run-default-default-None-clause-settled : goal.returns-in-Run-default-default-None-clause-settled
-returns-in-Run-default-default-None-clause-settled g c opens =
-    let kept : c.in-Run-default-default-None.keep ≡ None = rw c.in-Run-default-default-None.is at c.in-Run-default-default-None.keep-is in
-    let is : Run c.in-Run-default-default-None.workers c.in-Run-default-default-None.to None ≡ c.args.command = ap (λ k. Run c.in-Run-default-default-None.workers c.in-Run-default-default-None.to k) (sym kept) ∙ sym c.in-Run-default-default-None.is in
-    absurd (subst OpensStore (sym is) opens)
+pub returns-in-None-clause-settled : goal.returns-in-None-clause-settled
+returns-in-None-clause-settled g c opens = absurd (subst (λ (keep : Option ℕ). (run_meaning c.in-Run.options.to keep).opens) c.in-None.is (subst OpensStore c.in-Run.is opens))
 
-pub returns-in-Run-default-default-Some-clause-settled : goal.returns-in-Run-default-default-Some-clause-settled
-returns-in-Run-default-default-Some-clause-settled g c opens = c.keep.ensures.settled
+pub returns-in-Some-clause-settled : goal.returns-in-Some-clause-settled
+returns-in-Some-clause-settled g c opens = c.keep.ensures.settled
 
 pub returns-in-Check-clause-settled : goal.returns-in-Check-clause-settled
 returns-in-Check-clause-settled g c opens = absurd (subst OpensStore c.in-Check.is opens)
@@ -123,3 +144,28 @@ returns-in-Show-clause-settled g c opens = c.show.ensures.settled
 
 pub returns-in-Trial-clause-settled : goal.returns-in-Trial-clause-settled
 returns-in-Trial-clause-settled g c opens = absurd (subst OpensStore c.in-Trial.is opens)
+
+-- ---- what never refuses
+
+pub returns-in-None-clause-refused : goal.returns-in-None-clause-refused
+returns-in-None-clause-refused g c = let done = c.run.ensures.outcome in never_usage (run_row c.in-Run.options.to) c.run.result done.0 None done.1.0 [] (done.1.3 None) c.run.ensures.refused
+
+pub returns-in-Check-clause-refused : goal.returns-in-Check-clause-refused
+returns-in-Check-clause-refused g c = let done = c.check.ensures.outcome in never_usage check_row c.check.result done.0 None done.1.0 [] (done.1.3 None) c.check.ensures.refused
+
+pub returns-in-Show-clause-refused : goal.returns-in-Show-clause-refused
+returns-in-Show-clause-refused g c = let said = c.show.ensures.outcome in never_usage show_row c.show.result [] (g.D.Disk.seen c.args.disk.now) said.0 [] (said.2 []) c.show.ensures.refused
+
+pub returns-in-Trial-clause-refused : goal.returns-in-Trial-clause-refused
+returns-in-Trial-clause-refused g c = let said = c.trial.ensures.outcome in never_usage (trial_row c.in-Trial.number c.in-Trial.size) c.trial.result [] None said.0 [] (said.2 [] None) c.trial.ensures.refused
+
+pub returns-in-None-clause-disk_fault : goal.returns-in-None-clause-disk_fault
+returns-in-None-clause-disk_fault g c is = let done = c.run.ensures.outcome in absurd (never_disk_fault (run_row c.in-Run.options.to) c.run.result done.0 None done.1.0 [] (λ opens. opens) (done.1.3 None) is)
+
+pub returns-in-Check-clause-disk_fault : goal.returns-in-Check-clause-disk_fault
+returns-in-Check-clause-disk_fault g c is = let done = c.check.ensures.outcome in absurd (never_disk_fault check_row c.check.result done.0 None done.1.0 [] (λ opens. opens) (done.1.3 None) is)
+
+pub returns-in-Trial-clause-disk_fault : goal.returns-in-Trial-clause-disk_fault
+returns-in-Trial-clause-disk_fault g c is =
+    let said = c.trial.ensures.outcome in
+    absurd (never_disk_fault (trial_row c.in-Trial.number c.in-Trial.size) c.trial.result [] None said.0 [] (λ opens. opens) (said.2 [] None) is)

@@ -1,13 +1,14 @@
-use Rattle.std.proofs.Common.{◌∙◌, inl, ap, sym, subst, Option, [], refl, Err}
+use Rattle.std.proofs.Common.{◌∙◌, inl, ap, sym, subst, IfSome, Option, [], refl, Err}
 use Rattle.std.proofs.lemmas.Option.{none-some, same_Some}
 use Rattle.amr_causes.proofs.ByteLaws.{grows_none, were_left}
 use Rattle.amr_cli.specs.declared.command.Command.{Command}
 use Rattle.amr_cli.specs.Words.{command_of}
-use Rattle.amr_run.specs.Answer.{OpensStore}
 use Rattle.amr_run.specs.Outcome.{Outcome, StopsTo}
+use Rattle.amr_run.specs.Reading.{TakesAtMost}
+use Rattle.amr_run.specs.Table.{OpensStore, meaning}
 use Rattle.amr_run.specs.declared.status.Status.TheVariants.{Done, NoMemory, Usage}
 use Rattle.amr_run.proofs.KeptOutcomes.{stops_none}
-use Rattle.amr_run.proofs.Outcomes.{of_command, of_no_memory}
+use Rattle.amr_run.proofs.Outcomes.{of_command, of_no_memory, takes_none}
 use Rattle.amr_run.proofs.run.serve.Goals as goal
 
 pub returns-in-Err-Usage-clause-outcome : goal.returns-in-Err-Usage-clause-outcome
@@ -109,3 +110,24 @@ returns-in-Ok-answer-clause-untouched g c none = absurd (none-some c.in-Ok.comma
 
 pub returns-in-Err-clause-untouched : goal.returns-in-Err-clause-untouched
 returns-in-Err-clause-untouched g c none = absurd (none-some c.in-Ok.command (sym none ∙ c.in-Ok.ensures.command))
+
+-- ---- what was taken
+
+pub returns-in-Err-Usage-clause-taken : goal.returns-in-Err-Usage-clause-taken
+returns-in-Err-Usage-clause-taken g c command asked = takes_none (g.S.Source.left c.args.src.now) (meaning command).reads
+
+pub returns-in-Err-NoMemory-clause-taken : goal.returns-in-Err-NoMemory-clause-taken
+returns-in-Err-NoMemory-clause-taken g c command asked = takes_none (g.S.Source.left c.args.src.now) (meaning command).reads
+
+pub returns-in-Ok-answer-clause-taken : goal.returns-in-Ok-answer-clause-taken
+returns-in-Ok-answer-clause-taken g c command asked =
+    subst (λ (k : Command). IfSome (meaning k).reads (λ most. TakesAtMost most (g.S.Source.left c.args.src.now) (g.S.Source.left c.answer.new.src))) (same_Some c.in-Ok.command command (sym c.in-Ok.ensures.command ∙ asked)) c.in-Ok-answer.ensures.taken
+
+pub returns-in-Err-clause-taken : goal.returns-in-Err-clause-taken
+returns-in-Err-clause-taken g c command asked =
+    subst (λ (k : Command). IfSome (meaning k).reads (λ most. TakesAtMost most (g.S.Source.left c.args.src.now) (g.S.Source.left c.answer.new.src))) (same_Some c.in-Ok.command command (sym c.in-Ok.ensures.command ∙ asked)) c.in-Err.ensures.taken
+
+-- ---- causes
+
+pub returns-in-Err-clause-write_fault : goal.returns-in-Err-clause-write_fault
+returns-in-Err-clause-write_fault g c is = c.in-Err.ensures.write_fault (ap Err is)
