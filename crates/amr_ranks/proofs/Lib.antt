@@ -10,3 +10,4 @@ pub mod Found
 pub mod Kept
 pub mod Looked
 pub mod Slices
+pub mod Rows

@@ -1,4 +1,5 @@
-//! Tests of what threads share, by public items alone: mailboxes, pools of workers, workers on a board, and the core of a board.
+//! Tests of what threads share, by public items alone: mailboxes, pools of workers, workers on a board, the core of a board, and
+//! letters between ranks.
 //! They stand here and not beside what they test, so that no crate is proved a second time with its tests.
 #![tactic(auto)]
 
@@ -10,5 +11,7 @@ mod mailbox;
 mod phase;
 #[cfg(test)]
 mod pool;
+#[cfg(test)]
+mod ranks;
 #[cfg(test)]
 mod team;
