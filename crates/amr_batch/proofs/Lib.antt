@@ -1,3 +1,5 @@
 mod Fronts
 mod JobsRead
+mod LotTasks
 mod OneReading
+mod Placing
