@@ -8,5 +8,6 @@ mod firsts;
 mod level;
 mod pair_rows;
 mod patches;
+mod spread;
 
 pub use level::tags;

@@ -7,11 +7,12 @@ ghost use Rattle.amr_def.specs.Domain.{domain_of};
 ghost use Rattle.amr_ghost.specs.Filling.{LiesInDomain};
 ghost use Rattle.amr_ghost.specs.Frames.{AreInDomain};
 ghost use Rattle.amr_patch.specs.Patches.{box, value_in};
-ghost use Rattle.amr_criterion.specs.Pairs.{IsJoined, in_steep_pair, region};
-ghost use Rattle.amr_criterion.specs.Tagged.{AreReached, IsRowOf, is_tagged_in};
+ghost use Rattle.amr_criterion.specs.Pairs.{IsJoined, in_steep_pair};
+ghost use Rattle.amr_criterion.specs.Tagged.{AreReached, IsRowOf, all_firsts, is_tagged_in, row_firsts};
 
 use crate::firsts::{Firsts, across, upward};
 use crate::pair_rows::{PairRow, after, tag_pairs};
+use crate::spread::is_flat;
 use amr_box::{Bx, Cell, distance};
 use amr_def::Dom;
 use amr_patch::Patch;
@@ -40,7 +41,7 @@ fn values_from(patch: &Patch, c: Cell, n: u32) -> &[u32]
 }
 
 /// The number that lies `k` above another.
-fn above(z: i32, k: u32) -> i32
+pub(crate) fn above(z: i32, k: u32) -> i32
     requires from { negsuc 16777217 <ℤ z }
     requires to { z <ℤ pos 16777219 }
     requires few { k ≤ 67108864 }
@@ -54,7 +55,7 @@ fn tag_row(tags: &mut Tags, patch: &Patch, threshold: u64, firsts: &Firsts, k: u
     requires reached { AreReached (box patch.now) firsts.now }
     requires few { firsts.now.rows ≤ 67108864 }
     requires inside { k < firsts.now.rows }
-    ensures { IsJoined (λ c. holds (box patch.now) c && in_steep_pair threshold (value_in patch.now) firsts.now.axis (region (cell firsts.now.from.x (firsts.now.from.y +ℤ pos k)) firsts.now.columns 1) c) tags.old tags.new }
+    ensures { IsJoined (λ c. holds (box patch.now) c && in_steep_pair threshold (value_in patch.now) firsts.now.axis (row_firsts firsts.now k) c) tags.old tags.new }
 {
     let bx = patch.bx();
     let from = Cell {
@@ -76,7 +77,7 @@ fn tag_row(tags: &mut Tags, patch: &Patch, threshold: u64, firsts: &Firsts, k: u
 fn tag_rows(tags: &mut Tags, patch: &Patch, threshold: u64, firsts: &Firsts)
     requires reached { AreReached (box patch.now) firsts.now }
     requires few { firsts.now.rows ≤ 67108864 }
-    ensures { IsJoined (λ c. holds (box patch.now) c && in_steep_pair threshold (value_in patch.now) firsts.now.axis (region firsts.now.from firsts.now.columns firsts.now.rows) c) tags.old tags.new }
+    ensures { IsJoined (λ c. holds (box patch.now) c && in_steep_pair threshold (value_in patch.now) firsts.now.axis (all_firsts firsts.now) c) tags.old tags.new }
 {
     for k in 0..firsts.rows {
         tag_row(tags, patch, threshold, firsts, k);
@@ -84,11 +85,14 @@ fn tag_rows(tags: &mut Tags, patch: &Patch, threshold: u64, firsts: &Firsts)
 }
 
 /// Tags the cells of a patch that differ from a neighbour in the domain by the threshold or more. Each pair of neighbours is
-/// compared once, along the rows first and then from row to row.
+/// compared once, along the rows first and then from row to row; none where no two values of the patch lie so far apart.
 fn tag_patch(tags: &mut Tags, patch: &Patch, dom: &Dom, threshold: u64)
     requires { LiesInDomain (domain_of dom.now) (box patch.now) }
     ensures { IsJoined (is_tagged_in threshold (domain_of dom.now) patch.now) tags.old tags.new }
 {
+    if is_flat(patch, threshold) {
+        return;
+    }
     let bx = patch.bx();
     tag_rows(tags, patch, threshold, &across(&bx, dom));
     tag_rows(tags, patch, threshold, &upward(&bx, dom));

@@ -6,9 +6,16 @@ use Rattle.amr_def.specs.Domain.{domain_of}
 use Rattle.amr_patch.specs.Patches.{box, value_in}
 use Rattle.amr_criterion.specs.Pairs.{IsJoined, in_steep_pair, region}
 use Rattle.amr_criterion.specs.Tagged.{is_tagged_in, reach_high, reach_low}
-use Rattle.amr_criterion.proofs.Joins.{joined_as, joined_within}
+use Rattle.amr_criterion.proofs.Joins.{joined_as, joined_none, joined_within}
+use Rattle.amr_criterion.proofs.Flats.{none_tagged}
 use Rattle.amr_criterion.proofs.TaggedIn.{IsAcross, IsUpward, tagged_in_is, pairs_of}
 use Rattle.amr_criterion.proofs.patches.tag_patch.Goals as goal
+
+pub returns-then-is_flat : goal.returns-then-is_flat
+returns-then-is_flat c =
+    let q = c.args.patch.now in
+    let d = domain_of c.args.dom.now in
+    joined_none (is_tagged_in c.args.threshold d q) c.args.tags.now (none_tagged c.args.threshold d q (c.is_flat.ensures c.if-is_flat.true))
 
 pub returns : goal.returns
 returns c =
