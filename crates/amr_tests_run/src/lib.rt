@@ -15,6 +15,8 @@ mod kept;
 #[cfg(test)]
 mod plots;
 #[cfg(test)]
+mod settled;
+#[cfg(test)]
 mod stops;
 #[cfg(test)]
 mod versions;
