@@ -43,9 +43,3 @@ first_some-at f xs i d z h is = rw (drop_more xs i d h, is) (fold-some z (map f 
 pub fold-none : {A : Type 0} (o : Option A) (os : List (Option A)) → fold option_or o os ≡ None → AreNone o (first_some os)
 fold-none None os h = record { first = refl; second = h }
 fold-none (Some x) os h = absurd (let e = fold-some x os in cc)
-
-pub first_some-skip : {A : Type 0} (o : Option A) (os : List (Option A)) → o ≡ None → first_some (o ∷ os) ≡ first_some os
-first_some-skip o os none = rw none
-
-pub first_some-here : {A : Type 0} (o : Option A) (os : List (Option A)) (x : A) → o ≡ Some x → first_some (o ∷ os) ≡ Some x
-first_some-here o os x is = rw is (fold-some x os)

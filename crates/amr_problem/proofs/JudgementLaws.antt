@@ -1,15 +1,12 @@
 -- From the entries of a table to its problem.
-use Rattle.std.proofs.Common.{◌≡◌, ◌∙◌, ap, refl, inl, inr, ℤ, List, [], ◌∷◌, ◌++◌, Option, Some, None}
-use Rattle.std.proofs.lemmas.Bool.{cases_Bool}
+use Rattle.std.proofs.Common.{◌≡◌, ◌∙◌, ap, ℤ, List, [], ◌∷◌, ◌++◌, Option, Some, None}
 use Rattle.std.specs.Option.{option_or}
 use Rattle.toml.specs.Data.{Members}
 use Rattle.amr_def.specs.declared.problem.Problem.{Problem}
 use Rattle.amr_problem.specs.declared.entries.Entries.{Entries}
 use Rattle.amr_problem.specs.declared.fault.ProblemFault.{ProblemFault}
-use Rattle.amr_problem.specs.declared.key.Key.{Key}
-use Rattle.amr_problem.specs.Keys.{kind_of}
-use Rattle.amr_problem.specs.Faults.{is_read, unknown_key, missing_key, wrong_kind, first_wrong, courant_over, sides_differ, block_outside, tag_count, blocking_misfit, fault_in}
-use Rattle.amr_problem.specs.Entries.{basic_keys, refining_keys, overlay_keys, IsReadOf, HasShears, IsInRange, IsClean, range_fault, in_range_fault, entry_fault}
+use Rattle.amr_problem.specs.Faults.{unknown_key, missing_key, wrong_kind, courant_over, sides_differ, block_outside, tag_count, blocking_misfit, fault_in}
+use Rattle.amr_problem.specs.Entries.{IsReadOf, HasShears, IsInRange, IsClean, range_fault, in_range_fault, entry_fault}
 use Rattle.amr_problem.specs.Fields.{IsOfEntries}
 use Rattle.amr_problem.specs.Judgement.{HasKeys}
 use Rattle.amr_problem.proofs.EntryLaws.{same_ranges}
@@ -18,20 +15,6 @@ use Rattle.amr_problem.proofs.ProblemLaws.{alike_from_none, fits_from_none}
 use Rattle.amr_problem.proofs.ValueLaws.{shear_at-for_each}
 
 -- ---- the first key of another kind
-
-first_wrong-append : (table : Members) (ks ls : List Key) → first_wrong table (ks ++ ls) ≡ option_or (first_wrong table ks) (first_wrong table ls)
-first_wrong-append table [] ls = refl
-first_wrong-append table (k ∷ ks) ls =
-    elim (cases_Bool (is_read table k (kind_of k))) [
-      | inl read ↦ rw read (first_wrong-append table ks ls)
-      | inr unread ↦ rw unread refl
-    ]
-
--- part by part of the keys
-pub wrong_kind-parts : (table : Members) → wrong_kind table ≡ option_or (first_wrong table basic_keys) (option_or (first_wrong table refining_keys) (first_wrong table overlay_keys))
-wrong_kind-parts table =
-    first_wrong-append table basic_keys (refining_keys ++ overlay_keys)
-    ∙ ap (option_or (first_wrong table basic_keys)) (first_wrong-append table refining_keys overlay_keys)
 
 -- ---- the fault of a table
 

@@ -1,5 +1,5 @@
 -- Lists of which one element after the other is written.
-use Rattle.std.proofs.Common.{◌≡◌, ◌∙◌, ℕ, ◌+◌, ◌<◌, ◌≤◌, ◌⊎◌, inl, inr, List, length, get_or, set, refl, sym, subst, arith}
+use Rattle.std.proofs.Common.{◌≡◌, ◌∙◌, ℕ, ◌+◌, ◌<◌, ◌≤◌, ◌⊎◌, inl, inr, List, length, get_or, set, sym, subst, arith}
 use Rattle.std.proofs.lemmas.Bool.{cases_eq}
 use Rattle.std.proofs.lemmas.List.{get_or-set_other, get_or-set_same, length-set}
 use Rattle.amr_register.proofs.Taken.{same_at}
@@ -9,9 +9,6 @@ pub record AreChanged {A : Type 0} (R : ℕ → A → A → Type 0) (before afte
   pub count : length after ≡ length before
   pub done : (k : ℕ) (d e : A) → k < n → k < length before → R k (get_or before k d) (get_or after k e)
   pub left : (k : ℕ) (d : A) → n ≤ k → get_or after k d ≡ get_or before k d
-
-pub none_changed : {A : Type 0} (R : ℕ → A → A → Type 0) (xs : List A) → AreChanged R xs xs 0
-none_changed R xs = record { count = refl; done = λ k d e below lt. absurd (omega (arith, below)); left = λ k d out. refl }
 
 pub one_changed : {A : Type 0} (R : ℕ → A → A → Type 0) (before after : List A) (n : ℕ) (v d : A) → AreChanged R before after n → n < length after → R n (get_or after n d) v → AreChanged R before (set after n v) (n + 1)
 one_changed {A} R before after n v d h lt r = record {

@@ -1,8 +1,6 @@
 -- Lists of edge cells, place by place.
-use Rattle.std.proofs.Common.{◌≡◌, ◌∙◌, ℕ, zero, suc, ◌+◌, ◌-◌, ◌<◌, ◌≤◌, true, ◌⊎◌, inl, inr, List, [], ◌∷◌, ◌++◌, length, get_or, refl, sym, ap, subst, arith}
+use Rattle.std.proofs.Common.{◌≡◌, ◌∙◌, ℕ, zero, suc, ◌<◌, true, List, [], ◌∷◌, length, get_or, refl, sym, ap, subst, arith}
 use Rattle.std.specs.List.{All, AllZip}
-use Rattle.std.proofs.lemmas.List.{get_or-append_right, get_or_append_left, length-append}
-use Rattle.std.proofs.lemmas.Bool.{cases_lt}
 use Rattle.amr_box.specs.declared.Cell.{Cell}
 use Rattle.amr_box.specs.Cells.{Extent, holds}
 use Rattle.amr_def.specs.declared.problem.Problem.{Problem}
@@ -110,21 +108,3 @@ kept_edges d m fine xs ys same h = all_along (All (IsEdge d m fine)) (All (IsEdg
     each es fs alike all = all_along (IsEdge d m fine) (IsEdge d m fine) IsSameEdge es fs one alike all
 
 -- ---- runs one after the other
-
-pub nets_joined : (p : Problem) (l : ℕ) (qs qs' : List Patch) (xs xs' ys ys' : List (List EdgeCell)) → HaveNets p l qs xs ys → HaveNets p l qs' xs' ys' → HaveNets p l (qs ++ qs') (xs ++ xs') (ys ++ ys')
-nets_joined p l qs qs' xs xs' ys ys' h k = record {
-  before_count = length-append xs xs' ∙ (λ i. h.before_count i + k.before_count i) ∙ sym (length-append qs qs');
-  after_count = length-append ys ys' ∙ (λ i. h.after_count i + k.after_count i) ∙ sym (length-append qs qs');
-  each = λ n q lt. by_place n q lt (cases_lt n (length qs));
-}
-  where
-    by_place : (n : ℕ) (q : Patch) → n < length (qs ++ qs') → (n < length qs) ⊎ (length qs ≤ n) → AllZip (HasNet p l (get_or (qs ++ qs') n q)) (get_or (xs ++ xs') n []) (get_or (ys ++ ys') n [])
-    by_place n q lt (inl early) =
-        subst (λ (x : Patch). AllZip (HasNet p l x) (get_or (xs ++ xs') n []) (get_or (ys ++ ys') n [])) (sym (get_or_append_left qs qs' q n early))
-        (subst (λ (es : List EdgeCell). AllZip (HasNet p l (get_or qs n q)) es (get_or (ys ++ ys') n [])) (sym (get_or_append_left xs xs' [] n (omega (arith, early, h.before_count))))
-        (subst (λ (bs : List EdgeCell). AllZip (HasNet p l (get_or qs n q)) (get_or xs n []) bs) (sym (get_or_append_left ys ys' [] n (omega (arith, early, h.after_count)))) (h.each n q early)))
-    by_place n q lt (inr late) =
-        let m = n - length qs in
-        subst (λ (x : Patch). AllZip (HasNet p l x) (get_or (xs ++ xs') n []) (get_or (ys ++ ys') n [])) (sym (get_or-append_right qs qs' (length qs) n q refl late))
-        (subst (λ (es : List EdgeCell). AllZip (HasNet p l (get_or qs' m q)) es (get_or (ys ++ ys') n [])) (sym (get_or-append_right xs xs' (length qs) n [] h.before_count late))
-        (subst (λ (bs : List EdgeCell). AllZip (HasNet p l (get_or qs' m q)) (get_or xs' m []) bs) (sym (get_or-append_right ys ys' (length qs) n [] h.after_count late)) (k.each m q (omega (arith, lt, late, length-append qs qs')))))

@@ -1,7 +1,7 @@
 -- The cells that cells beside those of a domain stand for.
 use Rattle.std.proofs.Common.{◌≡◌, ℕ, ◌*◌, ◌^◌, ◌<◌, ◌≤◌, true, ℤ, pos, ◌+ℤ◌, ◌≤ℤ◌, ◌<ℤ◌, arith}
 use Rattle.std.proofs.lemmas.Int.{ints}
-use Rattle.std.proofs.lemmas.Bool.{and_from, and_parts}
+use Rattle.std.proofs.lemmas.Bool.{and_parts}
 use Rattle.std.proofs.lemmas.Nat.{mul-le}
 use Rattle.amr_box.specs.declared.Cell.{Cell}
 use Rattle.amr_box.specs.Cells.{cell, moved}
@@ -12,7 +12,6 @@ use Rattle.amr_def.specs.Domain.{Domain, domain, domain_of, home_cell, in_domain
 use Rattle.amr_def.proofs.Homes.{inside-itself}
 use Rattle.amr_def.proofs.Nesting.{test_inside, wrapped_shift}
 use Rattle.amr_def.proofs.Sizes.{doubled_small}
-use Rattle.amr_def.proofs.Uncovered.{inside_test}
 use Rattle.amr_def.proofs.Courants.{power_some}
 use Rattle.amr_register.specs.Beside.{IsBesideDomain, IsDomainCell}
 
@@ -64,10 +63,6 @@ within_domain d c h =
     let x = test_inside d.columns c.x parts.0 in
     let y = test_inside d.rows c.y parts.1 in
     record { west = x.0; east = x.1; south = y.0; north = y.1 }
-
-pub in_domain-yes : (d : Domain) (c : Cell) → IsWithinDomain d c → in_domain d c ≡ true
-unfolding in_domain
-in_domain-yes d c h = and_from (is_inside d.columns c.x) (is_inside d.rows c.y) (inside_test d.columns c.x h.west h.east) (inside_test d.rows c.y h.south h.north)
 
 pub domain_cell : (d : Domain) (c : Cell) → HasSize d → in_domain d c ≡ true → IsDomainCell c
 domain_cell d c size h =

@@ -4,7 +4,7 @@
 //! A [`Register`] has an entry for each register cell, a cell that is not covered beside one that is. It also has a list of
 //! them for each patch of the level, as [`EdgeCell`]s, each with its number in the register. So a step goes patch by patch, and
 //! looks no cell up. The coarse step works out what flows into them through the coarse-fine edges by the values of their patch
-//! ([`Register::find_all_nets`], or [`find_nets`] where the lists were taken out), and takes it away from the entries
+//! ([`find_nets_of_all`]), and takes it away from the entries
 //! ([`Register::take_nets`]). What flowed through the finer faces there is added ([`Register::absorb`]). In the end each entry
 //! is added to its cell ([`Register::reflux`], or [`Register::reflux_patch`] for one patch). [`Register::clear`] makes it ready for
 //! the next step.
@@ -28,6 +28,6 @@ mod reflux;
 mod register;
 mod sides;
 
-pub use edges::{EdgeCell, find_nets, find_nets_of_all};
+pub use edges::{EdgeCell, find_nets_of_all};
 pub use laws::{edges_are_taken_once, registers_go_by_cells};
 pub use register::Register;

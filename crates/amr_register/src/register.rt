@@ -8,7 +8,7 @@ ghost use Rattle.amr_register.specs.Entries.{AreRising};
 use crate::bands::{Band, whole, whole_in_threads};
 use crate::cover::Cover;
 use crate::edge_lists::{edge_lists, take_nets};
-use crate::edges::{EdgeCell, find_nets_of_all};
+use crate::edges::EdgeCell;
 use crate::flows::{Edge, take_away};
 use crate::pair::LevelPair;
 use crate::reflux::add_in_patch;
@@ -65,7 +65,7 @@ impl Register {
     ghost use Rattle.amr_register.specs.Bands.{IsWhole};
     ghost use Rattle.amr_register.specs.CoarseFlows.{coarse_flows};
     ghost use Rattle.amr_register.specs.Entries.{with_entries};
-    ghost use Rattle.amr_register.specs.EdgeCells.{HaveNets, IsSmallNet, lists_of};
+    ghost use Rattle.amr_register.specs.EdgeCells.{IsSmallNet, lists_of};
     ghost use Rattle.amr_register.specs.Registers.{HasEdgesOf, IsBoxAt, IsPlaced, IsRegisterOf, IsWithEdges, SameCells, cells_in, edges_in, entry_in};
 
     /// The register of level `l`, 0 to 3, below the finer level `l + 1`. Each entry is 0. The two levels are nested. The finer
@@ -182,20 +182,6 @@ impl Register {
         self.edges = edges;
     }
 
-    /// Works out what flows into the cells of each list through their coarse-fine edges, by the values of its patch before the
-    /// step. There is a list for each patch.
-    pub fn find_all_nets(&mut self, p: &Problem, l: u32, patches: &[Patch])
-        requires level { l ≤ 4 }
-        requires inside { All (λ q. IsInDomain (domain p.now l) (box q)) patches.now }
-        requires edges { HasEdgesOf (map box patches.now) self.old }
-        ensures nets { HaveNets p.now l patches.now (edges_in self.old) (edges_in self.new) }
-        ensures small { All (All IsSmallNet) (edges_in self.new) }
-        ensures entries { (c : Cell) → entry_in self.new c ≡ entry_in self.old c }
-        ensures cells { SameCells self.old self.new }
-    {
-        find_nets_of_all(p, l, patches, &mut self.edges);
-    }
-
     /// Takes what flows into each register cell through its coarse-fine edges, as its list has it, away from its entry, list by
     /// list. Entries lie between -2^62 and 2^62.
     pub fn take_nets(&mut self)
@@ -210,7 +196,7 @@ impl Register {
 
     /// Takes away the plain flows through those coarse-fine edges of the level that one patch owns, by its values before the step. An
     /// edge belongs to the patch that has the cell at its high side. Over all patches each edge's flow is taken away once, as by
-    /// `find_all_nets` and `take_nets`. Entries lie between -2^62 and 2^62.
+    /// `find_nets_of_all` and `take_nets`. Entries lie between -2^62 and 2^62.
     pub fn coarse_part(&mut self, p: &Problem, l: u32, patch: &Patch)
         requires level { l ≤ 3 }
         requires inside { IsInDomain (domain p.now l) (box patch.now) }
