@@ -232,11 +232,3 @@ outflow_added word amount a b is inflow outflow coarser finer = record {
   coarser = subst (SomeHasGained (to_word word amount) a.coarser) (sym coarser) (some_none (to_word word amount) a.coarser (λ k. to_another word amount (2 + 2 * k) (λ e. omega (arith, e, is))) (λ k. to_another word amount (3 + 2 * k) (λ e. omega (arith, e, is))));
   finer = finer;
 }
-
-pub cell_added : (word amount : ℕ) (a b : Regs) → (word ≡ 0 → ⊥) → (word ≡ 1 → ⊥) → b.inflow ≡ a.inflow → b.outflow ≡ a.outflow → SomeHasGained (to_word word amount) a.coarser b.coarser → b.finer ≡ a.finer → HasAdded (to_word word amount) a b
-cell_added word amount a b none one inflow outflow coarser finer = record {
-  inflow = omega (arith, inflow, to_another word amount 0 none);
-  outflow = omega (arith, outflow, to_another word amount 1 one);
-  coarser = coarser;
-  finer = finer;
-}

@@ -1,5 +1,5 @@
 -- The jobs of a batch, read one after another.
-use Rattle.std.proofs.Common.{◌≡◌, ◌∙◌, ℕ, ◌+◌, ◌-◌, ◌<◌, ◌≤◌, List, [], ◌∷◌, ◌++◌, All, length, map, take, drop, refl, inl, inr, ◌⊎◌, sym, ap, subst, append-nil, flat_map, length-append, length-drop, take-add, arith}
+use Rattle.std.proofs.Common.{◌≡◌, ◌∙◌, ℕ, ◌+◌, ◌-◌, ◌<◌, ◌≤◌, List, [], ◌∷◌, ◌++◌, All, length, map, take, drop, inl, inr, ◌⊎◌, sym, ap, subst, append-nil, flat_map, length-append, length-drop, take-add, arith}
 use Rattle.std.proofs.lemmas.Grind.{flat_map-append}
 use Rattle.std.proofs.lemmas.List.{drop-drop, length-map, length-take-le, map-append, take-append-drop, take_all}
 use Rattle.std.proofs.lemmas.List.Elements.{All-append, All-cons, All-nil}
@@ -17,9 +17,6 @@ pub record AreRead (bytes : List ℕ) (spans : List Span) (at : ℕ) : Type 0 wh
   pub each : All IsJob (map (bytes_in bytes) spans)
   pub inside : All (IsSpanOf bytes) spans
   pub few : length spans ≤ 256
-
-pub none_read : (bytes : List ℕ) → AreRead bytes [] 0
-none_read bytes = record { within = omega arith; so_far = refl; each = All-nil IsJob; inside = All-nil (IsSpanOf bytes); few = omega arith }
 
 module _ (bytes : List ℕ) (spans : List Span) (at from len : ℕ) (are : AreRead bytes spans at) (room : length spans < 256) (begins : BeginsWith (drop at bytes) from len) where
   pub one_more_read : (all : List Span) → all ≡ spans ++ record { from = at + from; len = len } ∷ [] → AreRead bytes all (at + (from + len))

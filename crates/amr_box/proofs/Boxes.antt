@@ -7,7 +7,7 @@ use Rattle.std.specs.declared.option.Option.TheVariants.{None, Some}
 use Rattle.std.specs.Int.{int_max, int_min}
 use Rattle.std.proofs.lemmas.Int.{ints, clamps, to_z-of_z}
 use Rattle.amr_box.specs.declared.Cell.{Cell}
-use Rattle.amr_box.specs.Cells.{AreDisjoint, IsBoxOf, IsNear, IsProper, at_least_zero, near_limit, width, height, Extent, extent, holds, within, common}
+use Rattle.amr_box.specs.Cells.{AreDisjoint, IsBoxOf, IsProper, at_least_zero, near_limit, width, height, Extent, extent, holds, within, common}
 
 -- a test for ≤ from what holds, and the other way round
 pub int_le-yes : (a b : ℤ) → a ≤ℤ b → int_le a b ≡ true
@@ -102,9 +102,3 @@ side_small low high h k = step (high +ℤ pos 1 -ℤ low) (omega (arith, ints))
     step : (z : ℤ) → z ≤ℤ pos (2 * near_limit + 1) → at_least_zero z ≤ 2 * near_limit + 1
     step (pos n) h = omega (arith, ints)
     step (negsuc n) h = omega arith
-
-pub near_width : (b : Extent) → IsNear b → width b ≤ 2 * near_limit + 1
-near_width b near = side_small b.lo.x b.hi.x near.west near.east
-
-pub near_height : (b : Extent) → IsNear b → height b ≤ 2 * near_limit + 1
-near_height b near = side_small b.lo.y b.hi.y near.south near.north

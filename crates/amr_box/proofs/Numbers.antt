@@ -25,9 +25,6 @@ is_between low high z h k = grind (arith, ints)
 pub none_within : (low z : ℤ) → within low (low +ℤ pos 0 -ℤ pos 1) z ≡ false
 none_within low z = grind (arith, ints)
 
-pub up_to_last : (z : ℤ) (n : ℕ) → int_le z (pos n -ℤ pos 1) ≡ int_lt z (pos n)
-up_to_last z n = grind (arith, ints)
-
 -- ---- one less, one more
 
 pub plus_zero : (z : ℤ) → z ≡ z +ℤ pos 0

@@ -194,9 +194,6 @@ remnants-hold b a = record { at = λ c. step c (is_proper (common a b)) refl }
 pub remnants-alone : (b a : Extent) → (IsProper (common a b) → ⊥) → whole_or_frame b a ≡ a ∷ []
 remnants-alone b a n = rw (improper-test (common a b) n)
 
-pub remnants-frame : (b a m : Extent) → m ≡ common a b → IsProper (common a b) → whole_or_frame b a ≡ frame a m
-remnants-frame b a m e p = rw (proper-test (common a b) p, e)
-
 pub high_is : (axis : Axis) (i k : ℤ) (a r : Extent) → i <ℤ along axis a.hi → k ≡ i +ℤ pos 1 → r ≡ from_cut axis k a → r ∷ [] ≡ high_part axis (i +ℤ pos 1) a
 high_is axis i k a r h e f =
     let test : int_lt (along axis a.hi) (i +ℤ pos 1) ≡ false = no_less (along axis a.hi) i h in

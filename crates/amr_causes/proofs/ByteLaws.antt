@@ -2,8 +2,8 @@
 use Rattle.std.proofs.Common.{◌≡◌, ℕ, ◌+◌, ◌-◌, List, [], ◌++◌, length, take, drop, Option, Some, None, refl, sym, ◌∙◌, ap, subst, append_assoc, arith, length-drop}
 use Rattle.std.proofs.lemmas.List.{append-nil, take-append-drop, take_all}
 use Rattle.std.proofs.Math.Seq.{take-add}
-use Rattle.std.specs.Io.KnownBytes.{Consumes, Keeps}
-use Rattle.amr_causes.specs.Bytes.{Grows, IsPrefix, TakesPrefix, LeavesSuffix, WereLeft}
+use Rattle.std.specs.Io.KnownBytes.{Consumes}
+use Rattle.amr_causes.specs.Bytes.{Grows, IsPrefix, TakesPrefix, WereLeft}
 
 -- prefixes
 
@@ -77,18 +77,6 @@ consumes_more None b c xs ys first second = tt
 consumes_more (Some p) None c xs ys first second = absurd first
 consumes_more (Some p) (Some q) None xs ys first second = absurd second
 consumes_more (Some p) (Some q) (Some r) xs ys first second = first ∙ ap (λ (l : List ℕ). xs ++ l) second ∙ sym (append_assoc xs ys r)
-
--- a call that failed took nothing
-pub keeps_is : (a b : Option (List ℕ)) → Keeps a b → Consumes a b []
-keeps_is None b k = tt
-keeps_is (Some p) None k = absurd k
-keeps_is (Some p) (Some q) k = sym k
-
-pub leaves_same : (a : Option (List ℕ)) → LeavesSuffix a a
-leaves_same a = ([], consumes_none a)
-
-pub leaves_suffix : (a b c : Option (List ℕ)) (xs ys : List ℕ) → Consumes a b xs → Consumes b c ys → LeavesSuffix a c
-leaves_suffix a b c xs ys first second = (xs ++ ys, consumes_more a b c xs ys first second)
 
 -- a source that tells had what it tells, and one that does not may have had anything
 pub were_left : (told : Option (List ℕ)) → (bytes : List ℕ) × WereLeft told bytes

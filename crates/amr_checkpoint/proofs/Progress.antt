@@ -172,12 +172,3 @@ made_front bytes p every target found step later within =
     sym (ap (λ k. made_before bytes p every found target step ++ map f (filter (is_mark every target) (range_with_len k (target + 1 - step)))) here)
     ∙ sym (marked_split f (is_mark every target) (store_to_make bytes p found) first (step - first) (target + 1 - step))
     ∙ ap (λ k. store_to_make bytes p found ++ map f (filter (is_mark every target) (range_with_len first k))) all
-
--- a mark is next to be made
-pub made_at_mark : (bytes : List ℕ) (p : Problem) (every target : ℕ) (found : Content) (step : ℕ) → first_unstored found ≤ step → step ≤ target → is_mark every target step ≡ true
-    → made_before bytes p every found target step ++ content_at bytes p found step ∷ map (content_at bytes p found) (filter (is_mark every target) (range_with_len (step + 1) (target + 1 - (step + 1)))) ≡ to_make bytes p every found target
-made_at_mark bytes p every target found step later within mark =
-    let rest = map (content_at bytes p found) (filter (is_mark every target) (range_with_len (step + 1) (target + 1 - (step + 1)))) in
-    sym (append_assoc (made_before bytes p every found target step) (content_at bytes p found step ∷ []) rest)
-    ∙ sym (ap (λ (cs : List Content). cs ++ rest) (made_next bytes p every target found step later ∙ ap (λ b. made_before bytes p every found target step ++ cond b (content_at bytes p found step ∷ []) []) mark))
-    ∙ made_front bytes p every target found (step + 1) (omega arith) (omega arith)

@@ -99,18 +99,6 @@ pub record IsHeldAs (stored : store.Stored) (content : Content) : Type 0 where
   pub accepted : IsProblemOf held.problem problem
   pub tells : Tells held problem content
 
-pub fresh_of : (stored : store.Stored) (bytes : List ℕ) (p : Problem) → StoreHolds stored (Fresh bytes p) → IsHeldAs stored (Fresh bytes p)
-fresh_of store.Empty bytes p h = absurd (cc)
-fresh_of (store.Damaged damage) bytes p h = absurd (cc)
-fresh_of (store.Held held) bytes p (inl h) = let is : Fresh bytes p ≡ Damaged part.Problem = h.content_is in absurd (cc)
-fresh_of (store.Held held) bytes p (inr h) = record {
-  held = held;
-  stored_is = refl;
-  problem = h.problem;
-  accepted = h.accepted;
-  tells = subst (Tells held h.problem) (sym h.content_is) (store_tells held h.problem);
-}
-
 pub at_of : (stored : store.Stored) (bytes : List ℕ) (p : Problem) (s : State) (sequence : ℕ) → StoreHolds stored (At bytes p s sequence) → IsHeldAs stored (At bytes p s sequence)
 at_of store.Empty bytes p s sequence h = absurd (cc)
 at_of (store.Damaged damage) bytes p s sequence h = absurd (cc)

@@ -59,8 +59,3 @@ filled_past byte at len size old grown some is past longer =
     let n_is : length (replicate len byte) ≡ len = length-replicate len byte in
     subst (λ (n : ℕ). take at grown ++ replicate len byte ++ drop (at + n) grown ≡ placed byte at (replicate len byte) old) n_is
     (placed_past byte at size (replicate len byte) old grown (omega (arith, n_is)) is (omega (arith, n_is)) (rw n_is longer))
-
--- an empty chunk changes nothing
-pub placed_none : (gap at : ℕ) (chunk old : List ℕ) → length chunk ≡ 0 → old ≡ placed gap at chunk old
-placed_none gap at [] old none = refl
-placed_none gap at (b ∷ bs) old none = absurd (omega arith)

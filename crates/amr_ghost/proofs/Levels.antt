@@ -28,7 +28,7 @@ use Rattle.amr_ghost.specs.Strips.{step}
 use Rattle.amr_ghost.specs.Frames.{AreInDomain, is_beside, is_of_level}
 use Rattle.amr_ghost.specs.declared.sides.Side.{Side}
 use Rattle.amr_ghost.specs.declared.sides.Side.TheVariants.{East, North, South, West}
-use Rattle.amr_ghost.specs.Filling.{AreOrdered, HasFrame, HasGhost, HasSideValues, HasValues, IsLevelInOrder, KeepsCells, KeepsGhosts, KeepsValues, LiesInDomain, side_axis, side_count, side_from, size_along}
+use Rattle.amr_ghost.specs.Filling.{HasFrame, HasGhost, HasSideValues, HasValues, IsLevelInOrder, KeepsCells, KeepsGhosts, KeepsValues, LiesInDomain, side_axis, side_count, side_from, size_along}
 use Rattle.amr_ghost.proofs.BoxSides.{beside_of, side_ghost}
 use Rattle.amr_ghost.proofs.Zips.{zip_apart, zip_box, zip_boxes, zip_ghosts, zip_masses}
 use Rattle.amr_ghost.proofs.GhostStrips.{still_ghosts}
@@ -50,11 +50,6 @@ still_level d o s ps qs kept level = record {
   inside = zip_inside d ps qs kept level.inside;
   starting = still_starts s ps qs kept level.starting;
 }
-
--- columns and rows where patches start stand in order
-pub starts_ordered : (s : Option Starts) (ps : List Patch) → IfSome s (HasStarts ps) → IfSome s AreOrdered
-starts_ordered None ps h = tt
-starts_ordered (Some s) ps h = record { columns = h.columns; rows = h.rows }
 
 -- the values of the level's cells are those of before
 same_keeps : (p : Problem) (l : ℕ) (old : Masses) (ps qs rs : List Patch) → AllZip KeepsCells ps qs → KeepsValues p l old qs rs → AllZip (KeepsGhosts (value_at p l (masses_in ps) old) (is_of_level p l (masses_in ps))) qs rs

@@ -1,7 +1,6 @@
 -- Flows to words of a level, and the same flows to the places of a lot's words: what a lot adds to a word is what its flows give there.
 use Rattle.std.proofs.Common.{◌≡◌, ◌∙◌, ℕ, ◌+◌, ◌^◌, ◌<◌, ◌≤◌, Bool, true, false, List, [], ◌∷◌, length, get_or, refl, sym, ap, subst, arith}
 use Rattle.std.specs.Prelude.{◌==◌, if◌then◌else◌, slice_index, unsigned_abs, IsTrue}
-use Rattle.std.specs.Global.{Box}
 use Rattle.std.specs.List.{All, AllZip}
 use Rattle.std.proofs.lemmas.Bool.Decides.{Decides-eqb}
 use Rattle.std.proofs.lemmas.List.Elements.{AllZip-get_or, length_all_zip}
@@ -14,10 +13,7 @@ use Rattle.amr_faces.specs.Faces.{flux_beside, owns}
 use Rattle.amr_layout.specs.declared.FlowTo.{FlowTo}
 use Rattle.amr_layout.specs.Adds.{size_to, word_total}
 use Rattle.amr_work.specs.Ready.{AreOwnFlows}
-use Rattle.amr_lots.specs.declared.lot.Lot.{Lot}
 use Rattle.amr_lots.specs.Lots.{adds_to, lot_total}
-use Rattle.amr_lots.specs.Runs.{word_of}
-use Rattle.amr_lots.specs.Serving.{HasAdvanced, flows_of_lot}
 use Rattle.amr_lots.specs.Words.{AreNumbered, IsNumbered, sum_at}
 use Rattle.amr_lots.proofs.WordSums.{sum_at_is, sum_by, sum_by_both, sum_by_none, sum_by_one}
 
@@ -123,10 +119,3 @@ numbered_own words [] (xs ∷ xss) locals h owned = absurd owned
 numbered_own words (q ∷ qs) [] locals h owned = absurd owned
 numbered_own words (q ∷ qs) (xs ∷ xss) [] h owned = absurd h
 numbered_own words (q ∷ qs) (xs ∷ xss) (ys ∷ yss) h owned = (own words q xs ys h.0 owned.0, numbered_own words qs xss yss h.1 owned.1)
-
--- after its step it gives each word of the level what the original flows give it
-pub word_of_advanced : (a b : Box Lot) (originals : List (List FlowTo)) → AreNumbered a.value.words.items originals (flows_of_lot a.value) → length a.value.totals.items ≡ length a.value.words.items
-    → (h : HasAdvanced a.value b.value) → (word : ℕ) → word_of word b ≡ lot_total a.value.problem.value a.value.level h.filled originals word
-word_of_advanced a b originals numbered count h word =
-    ap (λ ws. sum_at word ws.items b.value.totals.items) h.layout.words
-    ∙ numbered_sum a.value.problem.value a.value.level a.value.words.items h.filled originals (flows_of_lot a.value) numbered b.value.totals.items (h.count ∙ count) h.totals word

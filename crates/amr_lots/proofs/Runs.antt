@@ -20,14 +20,6 @@ nothing_taken : {A : Type 0} (k : ℕ) → take {A = A} k [] ≡ []
 nothing_taken zero = refl
 nothing_taken (suc k) = refl
 
-pub take_plus : {A : Type 0} (m n : ℕ) (xs : List A) → take (m + n) xs ≡ take m xs ++ take n (drop m xs)
-take_plus zero n xs = let e : 0 + n ≡ n = omega arith in ap (λ k. take k xs) e
-take_plus (suc m) n [] = nothing_taken (suc m + n) ∙ sym (nothing_taken n)
-take_plus (suc m) n (x ∷ xs) = ap (λ k. take k (x ∷ xs)) (more m n) ∙ ap (λ ys. x ∷ ys) (take_plus m n xs)
-  where
-    more : (m n : ℕ) → suc m + n ≡ suc (m + n)
-    more m n = omega arith
-
 module _ {A : Type 0} (size : ℕ) (xs : List A) where
   pub run_length : (k : ℕ) → length (run size k xs) ≤ size
   run_length k = omega (arith, length-take size (drop (k * size) xs))

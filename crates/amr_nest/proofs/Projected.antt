@@ -2,18 +2,16 @@
 use Rattle.std.proofs.Common.{◌≡◌, ℕ, suc, ◌/◌, ◌%◌, ◌<◌, Bool, true, false, ◌&&◌, ◌||◌, refl, sym, ap, ◌∙◌, arith, List, [], ◌∷◌, length, get_or}
 use Rattle.std.specs.List.{list_any}
 use Rattle.std.proofs.lemmas.Int.{ints}
-use Rattle.std.proofs.lemmas.List.Folds.{list_any_at}
 use Rattle.amr_box.specs.declared.Cell.{Cell}
 use Rattle.amr_box.specs.Cells.{Extent, IsProper, child, has_child_where, holds, in_boxes, moved, parents_of, square}
 use Rattle.amr_box.proofs.Tests.{or_last, or_swapped}
 use Rattle.amr_def.specs.Domain.{Domain, domain_box, home_cell, in_blocks, in_domain, is_near}
-use Rattle.amr_def.specs.Facts.{IsAligned, IsNestedIn}
+use Rattle.amr_def.specs.Facts.{IsAligned}
 use Rattle.amr_def.specs.NewBoxes.{is_projected}
 use Rattle.amr_def.specs.State.{is_covered_by}
-use Rattle.amr_def.proofs.Uncovered.{domain_box_cells}
 use Rattle.amr_tags.proofs.Places.{in_holds, is_in}
-use Rattle.amr_nest.specs.Reach.{IsInDomainBox, is_reached, is_reached_at}
-use Rattle.amr_nest.proofs.Reaches.{near_is_reached, parents_hold, reached_found, reached_from}
+use Rattle.amr_nest.specs.Reach.{IsInDomainBox, is_reached}
+use Rattle.amr_nest.proofs.Reaches.{near_is_reached, parents_hold}
 
 -- ---- one of two tests
 
@@ -91,23 +89,10 @@ projected_by_turns d a p in_dom proper c here =
 pub record IsSurrounded (d : Domain) (coarse : List Extent) (a : Extent) : Type 0 where
   pub at : (c : Cell) → in_domain d c ≡ true → near_box d a c ≡ true → in_boxes coarse c ≡ true
 
-pub surrounded_from : (d : Domain) (coarse : List Extent) (a : Extent) → IsProper a → IsInDomainBox d (parents_of a) → IsProper (parents_of a) → ((k : ℕ) → k < 9 → (c : Cell) → is_reached_at d (parents_of a) k c ≡ true → in_boxes coarse c ≡ true) → IsSurrounded d coarse a
-surrounded_from d coarse a p in_dom proper h = record {
-  at = λ c inside near.
-      let here = domain_box_cells d c ∙ inside in
-      let r = reached_found d (parents_of a) 9 c (sym (near_by_turns d a p in_dom proper c here) ∙ near) in
-      h r.turn r.below c r.at;
-}
-
 reached_inside : (t s u : Bool) → (t && (s && u)) ≡ true → s ≡ true
 reached_inside true true u e = refl
 reached_inside true false u e = absurd (cc)
 reached_inside false s u e = absurd (cc)
-
-pub surrounded_to : (d : Domain) (coarse : List Extent) (a : Extent) → IsProper a → IsInDomainBox d (parents_of a) → IsProper (parents_of a) → IsSurrounded d coarse a → (k : ℕ) → k < 9 → (c : Cell) → is_reached_at d (parents_of a) k c ≡ true → in_boxes coarse c ≡ true
-surrounded_to d coarse a p in_dom proper s k below c h =
-    let here : holds (domain_box d) c ≡ true = reached_inside _ (holds (domain_box d) c) _ h in
-    s.at c (sym (domain_box_cells d c) ∙ here) (near_by_turns d a p in_dom proper c here ∙ reached_from d (parents_of a) 9 k c below h)
 
 -- aligned, and surrounded
 pub record IsNestedBox (d : Domain) (blocking : ℕ) (coarse : List Extent) (a : Extent) : Type 0 where
@@ -126,18 +111,3 @@ found_at f (b ∷ bs) h = choose (f b) refl (found_at f bs)
     choose : (v : Bool) → f b ≡ v → (list_any f bs ≡ true → IsFoundAt f bs) → IsFoundAt f (b ∷ bs)
     choose true e more = record { place = 0; below = omega arith; passes = λ d. e }
     choose false e more = let k = more (or_last (f b) (list_any f bs) h e) in record { place = suc k.place; below = omega (arith, k.below); passes = k.passes }
-
-pub all_nested : (d : Domain) (blocking : ℕ) (fine coarse : List Extent) → ((m : ℕ) (e : Extent) → m < length fine → IsNestedBox d blocking coarse (get_or fine m e)) → IsNestedIn d blocking fine coarse
-all_nested d blocking fine coarse each = record {
-  aligned = λ m e below. (each m e below).aligned;
-  around = λ c inside near.
-      let f = found_at (λ a. near_box d a c) fine (sym (near_any d fine c) ∙ near) in
-      let e : Extent = domain_box d in
-      (each f.place e f.below).around.at c inside (f.passes e);
-}
-
-pub one_nested : (d : Domain) (blocking : ℕ) (fine coarse : List Extent) (m : ℕ) (e : Extent) → m < length fine → IsNestedIn d blocking fine coarse → IsNestedBox d blocking coarse (get_or fine m e)
-one_nested d blocking fine coarse m e below n = record {
-  aligned = n.aligned m e below;
-  around = record { at = λ c inside near. n.around c inside (near_any d fine c ∙ list_any_at (λ a. near_box d a c) fine m e below near) };
-}

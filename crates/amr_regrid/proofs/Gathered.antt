@@ -13,7 +13,6 @@ use Rattle.amr_def.specs.NewBoxes.{block_side, is_projected, is_wanted, wanted_b
 use Rattle.amr_def.specs.Tags.{is_grown}
 use Rattle.amr_def.proofs.Courants.{power_positive, twice_as_many}
 use Rattle.amr_def.proofs.Uncovered.{in_domain-yes}
-use Rattle.amr_tags.specs.Coarse.{IsEvenCorner}
 use Rattle.amr_tags.specs.TagSets.{TagSet, has}
 use Rattle.amr_tags.specs.TagSets.{is_near_tag}
 use Rattle.amr_regrid.specs.Blocks.{blocks_of}
@@ -55,9 +54,6 @@ half_last (suc m) h e =
 -- the parents of the cells of a domain of even sides
 pub halved : (d : Domain) → 1 ≤ d.columns → d.columns % 2 ≡ 0 → 1 ≤ d.rows → d.rows % 2 ≡ 0 → parents_of (domain_box d) ≡ domain_box (in_blocks 2 d)
 halved d some x more y i = extent (cell (pos 0) (pos 0)) (cell (half_last d.columns some x i) (half_last d.rows more y i))
-
-pub even_corner : (d : Domain) (b : Extent) → b ≡ domain_box d → IsEvenCorner b.lo
-even_corner d b is = subst (λ (e : Extent). IsEvenCorner e.lo) (sym is) (record { x = refl; y = refl })
 
 module _ (p : Problem) (l : ℕ) where
   side_is : (b : ℕ) → p.blocking ≡ b → block_side p ≡ b / 2

@@ -1,10 +1,9 @@
 -- Levels of a list, by their outlines.
-use Rattle.std.proofs.Common.{◌≡◌, inl, inr, ℕ, zero, suc, ◌-◌, ◌<◌, refl, sym, ap, subst, ◌∙◌, arith, List, [], ◌∷◌, ◌++◌, length, map, set, take, get_or}
+use Rattle.std.proofs.Common.{◌≡◌, inl, inr, ℕ, zero, suc, ◌-◌, ◌<◌, refl, sym, ap, subst, ◌∙◌, arith, List, [], ◌∷◌, ◌++◌, length, map, take, get_or}
 use Rattle.std.specs.Prelude.{slice_index_or, slice_get}
 use Rattle.std.specs.declared.option.Option.{Option}
 use Rattle.std.specs.List.{All, flat_map}
 use Rattle.std.specs.List.Sorted.{IsPermutation}
-use Rattle.std.proofs.lemmas.List.{map-append}
 use Rattle.std.proofs.lemmas.List.Elements.{All-cons, All-nil}
 use Rattle.amr_boxlist.specs.Chopped.{chopped}
 use Rattle.amr_def.specs.State.{masses_below, no_level}
@@ -39,16 +38,6 @@ pub level_at_is : (ks : List Level) (l : ℕ) (k : Level) → l < length ks → 
 level_at_is [] l k h e = absurd (omega (arith, h))
 level_at_is (x ∷ xs) zero k h e = ap level_of (sym e)
 level_at_is (x ∷ xs) (suc l) k h e = level_at_is xs l k (omega (arith, h)) e
-
--- one level set in place of another
-pub outlines_set : (ks : List Level) (i : ℕ) (j k : Level) → i < length ks → k ≡ get_or ks i k → outline j ≡ outline k → outlines (set ks i j) ≡ outlines ks
-outlines_set [] i j k h e o = absurd (omega (arith, h))
-outlines_set (x ∷ xs) zero j k h e o = ap (λ t. t ∷ outlines xs) (o ∙ ap outline e)
-outlines_set (x ∷ xs) (suc i) j k h e o = ap (λ t. outline x ∷ t) (outlines_set xs i j k (omega (arith, h)) e o)
-
-pub outlines_append : (js ks js' ks' all : List Level) → outlines js' ≡ outlines js → outlines ks' ≡ outlines ks → all ≡ js ++ ks → outlines (js' ++ ks') ≡ outlines all
-outlines_append js ks js' ks' all e f parts =
-    map-append outline js' ks' ∙ (λ i. e i ++ f i) ∙ sym (map-append outline js ks) ∙ ap outlines (sym parts)
 
 -- the masses of the level below
 last_of : (ks : List Level) (l : ℕ) → suc l < length ks → old_masses (slice_get (take (suc l) ks) l) ≡ (slice_index_or (map level_of ks) l no_level).masses

@@ -5,7 +5,6 @@ use Rattle.std.specs.Prelude.{◌⊎◌, IsErrAnd}
 use Rattle.amr_causes.specs.Causes.{Rose}
 use Rattle.amr_def.specs.declared.problem.Problem.{Problem}
 use Rattle.amr_def.specs.Facts.{IsSound}
-use Rattle.amr_def.specs.Regrid.{regrid}
 use Rattle.amr_def.proofs.SoundRun.{start-sound}
 use Rattle.amr_disk.specs.Image.{Only}
 use Rattle.amr_disk.specs.Moments.{StaysDurable}
@@ -25,7 +24,6 @@ use Rattle.amr_checkpoint.specs.declared.resuming.Resumed.TheVariants as resumed
 use Rattle.amr_checkpoint.specs.Checkpoints.{CanGoOn, content_resumed}
 use Rattle.amr_checkpoint.specs.Contents.{Content, Holds, state_from}
 use Rattle.amr_checkpoint.specs.Kept.{FailsBy, KeepsRun, SameUntil, SaysOfRun}
-use Rattle.amr_checkpoint.specs.Laws.{IsInSequence}
 use Rattle.amr_checkpoint.specs.Marks.{answer_of_run, checkpoint_line, marks}
 use Rattle.amr_checkpoint.specs.Refusals.{GoesOn, RefusesRun}
 use Rattle.amr_cli.specs.declared.command.Command.{Command}
@@ -46,11 +44,6 @@ pub goes_on : (bytes : List ℕ) (p : Problem) (target : ℕ) (r : Resumed) → 
 goes_on bytes p target resumed.Nothing can = tt
 goes_on bytes p target (resumed.Fresh store) can = refl
 goes_on bytes p target (resumed.At store mesh) can = (refl, can.2)
-
-pub in_sequence : (bytes : List ℕ) (p : Problem) (r : Resumed) → IsInSequence (content_resumed bytes p r)
-in_sequence bytes p resumed.Nothing = tt
-in_sequence bytes p (resumed.Fresh store) = tt
-in_sequence bytes p (resumed.At store mesh) = refl
 
 pub found_sound : (bytes : List ℕ) (p : Problem) (target : ℕ) (r : Resumed) → CanGoOn bytes p target r → IsSound p (state_from p (content_resumed bytes p r))
 found_sound bytes p target resumed.Nothing can = start-sound p (regrid-sound p)
@@ -93,12 +86,6 @@ pub unkept : (bytes : List ℕ) (p : Problem) (every target : ℕ) (seen : Optio
 unkept bytes p every target seen whole lines said before now fault.DiskFault answer says = (tt, refl, inr record { whole = whole; lines = lines; answer = answer; prefix = says.0 })
 unkept bytes p every target seen whole lines said before now fault.NoMemory answer says = (refl, inr record { whole = whole; lines = lines; answer = answer; prefix = says.0 })
 unkept bytes p every target seen whole lines said before now fault.WriteFault answer says = record { whole = whole; lines = lines; answer = answer; cut = inr (refl, says.0) }
-
--- the causes of a state that was not kept
-pub write_cause : (e : KeepFault) (said lines : List ℕ) (before now : ℕ) → SaysOfRun (Some e) said lines before now → keep_refused e ≡ status.WriteFault → Rose before now
-write_cause fault.DiskFault said lines before now says is = absurd (cc)
-write_cause fault.NoMemory said lines before now says is = absurd (cc)
-write_cause fault.WriteFault said lines before now says is = says.1
 
 pub no_write_cause : (e : KeepFault) (said lines : List ℕ) (before now : ℕ) → SaysOfRun (Some e) said lines before now → (keep_refused e ≡ status.WriteFault → ⊥) → now ≡ before
 no_write_cause fault.DiskFault said lines before now says other = says.1

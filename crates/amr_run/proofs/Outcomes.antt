@@ -65,10 +65,6 @@ reading_refused old new reading.TooLong long =
 reading_refused old new reading.ReadFault long = let left = were_left old in (left.0, left.1, tt)
 reading_refused old new reading.NoMemory long = let left = were_left old in (left.0, left.1, tt)
 
-pub judging_refused : (bytes : List ℕ) (e : JudgeFault) → ((f : ProblemFault) → e ≡ judging.Fault f → fault_of bytes ≡ Some f) → Refuses (judge_refused e) bytes
-judging_refused bytes (judging.Fault f) fault = fault f refl
-judging_refused bytes judging.NoMemory fault = tt
-
 -- by the status that an error became
 pub reads_refused : (r : Result ReadProblem Status) (s : Status) (bytes : List ℕ) → IsErrAnd r (λ x. x ≡ s) → Refuses s bytes → Reads r bytes
 reads_refused (Ok given) s bytes is refuses = absurd is

@@ -203,9 +203,6 @@ mapped_some f (Some s) t is = (s, refl, inner)
     inner : f s ≡ t
     inner = cc
 
-latest_when : (b : Bool) (which : Which) → which ≡ next_after b → next_after b ≡ which
-latest_when b which is = sym is
-
 -- the sequence that a closed slot had was not the greatest
 pub last_none : (which : Which) (a b : Option ℕ) → which ≡ next_after (is_latest a b) → last_of (first_with which None a) (second_with which None b) ≡ last_of a b
 last_none First None b is = refl

@@ -45,14 +45,6 @@ short_after s = record {
   shut = ap (λ (n : ℕ). n == open_gate) (written_byte 0 0 s);
 }
 
-pub long_shut : (s : List ℕ) → is_empty s ≡ true → 1 < length s → IsShutFirst s
-long_shut s is long = elim (cases_Bool (is_open s 0)) [
-  | inr shut ↦ record { some = omega arith; shut = shut }
-  | inl opened ↦
-      let quiet : is_empty s ≡ false = held_of s long opened in
-      let wrong : true ≡ false = sym is ∙ quiet in cc
-]
-
 -- what is written past the first byte leaves it as it was
 pub first_kept : (s c : List ℕ) (at n : ℕ) → 0 < at → IsShutFirst s → Torn at n s c → IsShutFirst c
 first_kept s c at n past is torn = record {

@@ -16,7 +16,7 @@ use Rattle.amr_store.specs.declared.store.Store.{Store}
 use Rattle.amr_store.specs.Layout.{long_at, size_of, text_length}
 use Rattle.amr_store.specs.Next.{sequence_of, is_latest, gate_at, next_after, other_than}
 use Rattle.amr_store.specs.Shown.{payload_of, latest_in}
-use Rattle.amr_store.specs.Stands.{Stands, slot_of, base_in, problem_in, slot_size_in, first_in, second_in, slot_in, next_in, sequence_in, last_of, last_in}
+use Rattle.amr_store.specs.Stands.{Stands, slot_of, base_in, problem_in, slot_size_in, slot_in, next_in, sequence_in, last_of}
 use Rattle.amr_store.specs.Stored.{Entry, stored, is_open, entry_at, first_of, second_of, latest_of, is_tie}
 
 abbrev pick : Which → Option Entry → Option Entry → Option Entry
@@ -112,11 +112,3 @@ some_pick (Some a) (Some b) = elim (cases_Bool (nat_lt b.sequence a.sequence)) [
   | inl first ↦ elim (cases_Bool (nat_lt a.sequence b.sequence)) [ inl x ↦ rw (first, x) refl | inr x ↦ rw (first, x) refl ]
   | inr second ↦ elim (cases_Bool (nat_lt a.sequence b.sequence)) [ inl x ↦ rw (second, x) refl | inr x ↦ rw (second, x) refl ]
 ]
-
--- a slot is open where a sequence is known
-pub latest_is_some : (store : Store) (which : Which) → which ≡ other_than (next_in store) → is_some (slot_in store which) ≡ is_some (last_in store)
-latest_is_some store which is = ap (λ (w : Which). is_some (slot_in store w)) is ∙ ap is_some (picked (other_than (next_in store))) ∙ some_pick (first_in store) (second_in store)
-  where
-    picked : (w : Which) → slot_in store w ≡ pick_slot w (first_in store) (second_in store)
-    picked First = refl
-    picked Second = refl

@@ -20,10 +20,6 @@ use Rattle.amr_store.specs.Stored.{IsFilled, Entry, State, Held, Reads, stored, 
 gate_in : Which → List ℕ → ℕ
 gate_in which part = gate_at which (text_length part) (size_of part)
 
--- where the slot ends
-slot_end : Which → List ℕ → ℕ
-slot_end which part = gate_in which part + 17 + size_of part
-
 pub sound_of : (which : Which) (part : List ℕ) → Whole true part → is_broken part (gate_at which (text_length part) (size_of part)) (size_of part) ≡ false
 sound_of First part whole = whole.slot_0
 sound_of Second part whole = whole.slot_1

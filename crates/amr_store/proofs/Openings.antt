@@ -221,14 +221,3 @@ no_version v b not_one = elim (cases_Bool (v == 1)) [
   | inl one ↦ absurd (not_one (eqb-true v 1 one))
   | inr other ↦ rw other refl
 ]
-
-pub not_renewed : (outline : Outline) (s : List ℕ) → IsOutline outline s → (outline.version ≡ 1 → ⊥) → false ≡ is_renewed s
-not_renewed outline s is not_one = renewed_is outline s false is (no_version outline.version _ not_one)
-
-pub maybe_renewed : (outline : Outline) (s : List ℕ) (has : Bool) → IsOutline outline s → outline.version ≡ 1
-    → has ≡ (nat_lt (21 + outline.text + 2 * (17 + outline.slot_size) + 1) (length s) && is_open s (21 + outline.text + 2 * (17 + outline.slot_size))) → has ≡ is_renewed s
-maybe_renewed outline s has is one tests = renewed_is outline s has is (tests ∙ sym (both (outline.version == 1) _ (ap (λ (n : ℕ). n == 1) one)))
-  where
-    both : (a b : Bool) → a ≡ true → (a && b) ≡ b
-    both true b e = refl
-    both false b e = let wrong : false ≡ true = e in cc

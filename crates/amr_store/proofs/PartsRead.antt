@@ -48,10 +48,6 @@ read_range part bytes n at read whole =
     let all : n ≡ length bytes = omega (arith, read.count) in
     sym (range_is part at bytes whole (λ i lt. sym (read.bytes i (omega (arith, all)))))
 
-pub read_range_of : (part bytes : List ℕ) (n at count : ℕ) → IsRead part at bytes n → length bytes ≡ count → at + count ≤ length part → bytes ≡ slice_range part at (at + count)
-read_range_of part bytes n at count read size whole =
-    read_range part bytes n at read (omega (arith, size)) ∙ ap (λ (k : ℕ). slice_range part at (at + k)) size
-
 -- what a version says of the magic
 abbrev KnownVersion : Option ℕ → Bool → ℕ → Type 0
 KnownVersion None m k = ((m && (k == magic_1)) || (k == magic_2)) ≡ false

@@ -1,9 +1,9 @@
 -- Coarse patches that are given the sums of a level's fine patches, patch by patch and run after run.
-use Rattle.std.proofs.Common.{◌≡◌, ◌∙◌, ℕ, ◌+◌, ◌-◌, ◌*◌, ◌/◌, ◌<◌, ◌≤◌, ◌^◌, Bool, true, ◌||◌, pos, ◌+ℤ◌, List, [], ◌∷◌, ◌++◌, length, map, min, take, drop, IsTrue, refl, sym, ap, subst, arith}
+use Rattle.std.proofs.Common.{◌≡◌, ◌∙◌, ℕ, ◌+◌, ◌-◌, ◌*◌, ◌/◌, ◌<◌, ◌≤◌, ◌^◌, Bool, true, ◌||◌, pos, ◌+ℤ◌, List, [], ◌∷◌, ◌++◌, length, map, take, drop, IsTrue, refl, sym, ap, subst, arith}
 use Rattle.std.specs.Prelude.{slice_index_or}
 use Rattle.std.specs.List.{All}
 use Rattle.std.proofs.lemmas.Bool.{or_left, or_right}
-use Rattle.std.proofs.lemmas.List.{drop-take, get_or-drop, get_or-take, get_or_default, length-drop, length-take, take-append-drop, take-take, take_all, take_min}
+use Rattle.std.proofs.lemmas.List.{drop-take, get_or-drop, get_or-take, get_or_default, length-drop, length-take, take-append-drop, take-take, take_all}
 use Rattle.std.proofs.lemmas.List.Folds.{list_any-append, list_any_at}
 use Rattle.amr_box.specs.declared.Cell.{Cell}
 use Rattle.amr_box.specs.Cells.{Extent, IsBoxOf, cell, child, has_child_where, height, holds, parent, width}
@@ -43,12 +43,6 @@ run_at fine n size j d lt = get_or-take size (drop n fine) j d (omega (arith, lt
 
 run_within : (fine : List Patch) (n size j : ℕ) → j < length (take size (drop n fine)) → n + j < length fine
 run_within fine n size j lt = omega (arith, lt, length-take size (drop n fine), length-drop n fine)
-
--- the part of a list that a run is, the last of which may be shorter
-pub part_is_run : (fine : List Patch) (first end size : ℕ) → end ≡ min (first + size) (length fine) → take (end - first) (drop first fine) ≡ take size (drop first fine)
-part_is_run fine first end size e =
-    let m : end - first ≡ min size (length (drop first fine)) = omega (arith, e, length-drop first fine) in
-    ap (λ (n : ℕ). take n (drop first fine)) m ∙ take_min size (drop first fine)
 
 pub run_coarsenable : (fine : List Patch) (n size : ℕ) → AreCoarsenable fine → AreCoarsenable (take size (drop n fine))
 run_coarsenable fine n size all j d lt = subst (λ (p : Patch). IsAligned 2 (box p)) (sym (run_at fine n size j d lt)) (all (n + j) d (run_within fine n size j lt))

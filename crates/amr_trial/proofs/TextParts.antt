@@ -51,9 +51,6 @@ five_words a b c d e end =
     append_assoc a _ end
     ∙ ap (λ (l : List ℕ). a ++ l) (word_then b _ end ∙ after_word b (word_then c _ end ∙ after_word c (word_then d _ end ∙ after_word d (word_then e [] end))))
 
-pub block_fragments : (b : Block) → codes "[" ++ (decimal b.x0 ++ (codes ", " ++ (decimal b.y0 ++ (codes ", " ++ (decimal b.x1 ++ (codes ", " ++ (decimal b.y1 ++ (codes ", " ++ (decimal b.mass ++ (codes "]" ++ [])))))))))) ≡ block_text b
-block_fragments b = ap (λ (l : List ℕ). codes "[" ++ l) (sym (five_words (decimal b.x0) (decimal b.y0) (decimal b.x1) (decimal b.y1) (decimal b.mass) (codes "]")))
-
 name_line : (number size rest : List ℕ) → line (((number ++ (45 ∷ [])) ++ size) ++ (34 ∷ [])) ++ rest ≡ number ++ (45 ∷ (size ++ (34 ∷ 10 ∷ rest)))
 name_line number size rest =
     append_assoc (((number ++ (45 ∷ [])) ++ size) ++ (34 ∷ [])) (10 ∷ []) rest

@@ -22,9 +22,6 @@ use Rattle.amr_witness_regrid.specs.Places.{AreInside, HasBoxes}
 
 -- ---- levels
 
-pub levels_more : (ks : List PlainLevel) (k : PlainLevel) (rest : List PlainLevel) (bs : List Extent) (m : Masses) → ks ≡ k ∷ rest → k.boxes.items ≡ bs → masses_of k.masses ≡ m → levels_of ks ≡ record { boxes = bs; masses = m } ∷ levels_of rest
-levels_more ks k rest bs m parts boxes masses = ap levels_of parts ∙ (λ i. record { boxes = boxes i; masses = masses i } ∷ levels_of rest)
-
 pub first_is : (ks : List PlainLevel) (k : PlainLevel) (rest : List PlainLevel) → ks ≡ k ∷ rest → masses_of k.masses ≡ first_masses (levels_of ks)
 first_is ks k rest parts = ap (λ (xs : List PlainLevel). first_masses (levels_of xs)) (sym parts)
 

@@ -4,14 +4,13 @@ use Rattle.std.specs.List.{All}
 use Rattle.amr_box.specs.declared.Cell.{Cell}
 use Rattle.amr_box.specs.Cells.{Extent, holds}
 use Rattle.amr_def.specs.declared.problem.Problem.{Problem}
-use Rattle.amr_def.specs.Domain.{domain}
 use Rattle.amr_def.specs.Flux.{net}
 use Rattle.amr_patch.specs.declared.patches.Patch.{Patch}
 use Rattle.amr_patch.specs.Places.{is_edge_face}
 use Rattle.amr_patch.specs.Patches.{SameValues, box, mass_in, value_in}
-use Rattle.amr_faces.specs.Faces.{IsInDomain, flux_beside, in_reach}
+use Rattle.amr_faces.specs.Faces.{flux_beside, in_reach}
 use Rattle.amr_layout.specs.declared.FlowTo.{FlowTo}
-use Rattle.amr_work.specs.Ready.{AreOwnFlows, MayStep}
+use Rattle.amr_work.specs.Ready.{AreOwnFlows}
 use Rattle.amr_work.proofs.Standing.{beside_same, net_same}
 
 module _ (p : Problem) (l : ℕ) (q r : Patch) (of_box : box r ≡ box q) where
@@ -32,13 +31,3 @@ module _ (p : Problem) (l : ℕ) (q r : Patch) (of_box : box r ≡ box q) where
 
   pub edges_on : (flows : List FlowTo) → AreOwnFlows q flows → All (λ x. is_edge_face (box r) x.face ≡ true) flows
   edges_on flows own k d lt = ap (λ (b : Extent). is_edge_face b (get_or flows k d).face) of_box ∙ (own k d lt).0
-
--- so its step may be made as well
-pub may_step_on : (p : Problem) (l : ℕ) (q r : Patch) → box r ≡ box q → SameValues q r → MayStep p l q → MayStep p l r
-may_step_on p l q r of_box same h = record {
-  level = h.level;
-  inside = subst (λ (b : Extent). IsInDomain (domain p l) b) (sym of_box) h.inside;
-  small = small_on p l q r of_box same h.small;
-  kept = kept_on p l q r of_box same h.kept;
-  fits = fits_on p l q r of_box same h.fits;
-}
