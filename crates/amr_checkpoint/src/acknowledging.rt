@@ -48,11 +48,13 @@ pub fn keep_state<E: Sink, D: Disk>(
     requires above { IfSome (last_in store) (λ last. last < (state_of mesh.now).step + 1) }
     requires ready { IsStoreReady D.seen D.moment D.leaves store disk.old }
     ensures store { IfOk result (IsStoreFor keeping.now.problem.now) }
-    ensures version { is_mark keeping.now.every keeping.now.target (state_of mesh.now).step ≡ true → IfOk result (λ kept. version_in kept ≡ renewed_version (version_in store)) }
+    ensures version { is_mark keeping.now.every keeping.now.target (state_of mesh.now).step ≡ true
+        → IfOk result (λ kept. version_in kept ≡ renewed_version (version_in store)) }
     ensures problem { IfOk result (λ kept. problem_in kept ≡ problem_in store) }
     ensures above { IfOk result (λ kept. IfSome (last_in kept) (λ last. last < (state_of mesh.now).step + 2)) }
     ensures ready { IfOk result (λ kept. IsStoreReady D.seen D.moment D.leaves kept disk.new) }
-    ensures kept { Keeps D.seen D.moment D.leaves D.faults E.holds E.faults (problem_in store) keeping.now.problem.now keeping.now.every keeping.now.target disk.old disk.new err.old err.new (state_of mesh.now ∷ []) (fault_in result) }
+    ensures kept { Keeps D.seen D.moment D.leaves D.faults E.holds E.faults (problem_in store) keeping.now.problem.now keeping.now.every keeping.now.target
+        disk.old disk.new err.old err.new (state_of mesh.now ∷ []) (fault_in result) }
     ensures memory { IsErrOf result KeepFault.NoMemory → disk.new ≡ disk.old }
 {
     let step = mesh.step();

@@ -49,7 +49,8 @@ pub fn make_store<D: Disk>(
     ensures holds { OnOk result ((t : List ℕ) → D.seen disk.new ≡ Some t → Holds t (Fresh bytes.now p.now)) }
     ensures told { OnOk result (StaysTold (D.seen disk.old) (D.seen disk.new)) }
     ensures made { OnOk result ((s : List ℕ) → D.seen disk.old ≡ Some s → ReadsWith (D.seen disk.new) s (Fresh bytes.now p.now ∷ [])) }
-    ensures stops { (s : List ℕ) → D.seen disk.old ≡ Some s → StopsIn D.moment D.leaves disk.old disk.new (λ c. Holds c Empty ⊎ Holds c (Fresh bytes.now p.now)) }
+    ensures stops { (s : List ℕ) → D.seen disk.old ≡ Some s
+        → StopsIn D.moment D.leaves disk.old disk.new (λ c. Holds c Empty ⊎ Holds c (Fresh bytes.now p.now)) }
     ensures memory { IsErrOf result CheckpointFault.NoMemory → disk.new ≡ disk.old }
     ensures later { D.faults disk.old ≤ D.faults disk.new }
     ensures disk_fault { IsErrOf result CheckpointFault.DiskFault → Rose (D.faults disk.old) (D.faults disk.new) }
@@ -83,8 +84,10 @@ pub fn put_checkpoint<D: Disk>(
     ensures ready { IfOk result (λ store. IsStoreReady D.seen D.moment D.leaves store disk.new) }
     ensures holds { OnOk result ((t : List ℕ) → D.seen disk.new ≡ Some t → Holds t (content_at_mesh (problem_in store) p.now mesh.now)) }
     ensures told { OnOk result (StaysTold (D.seen disk.old) (D.seen disk.new)) }
-    ensures made { OnOk result ((s : List ℕ) → D.seen disk.old ≡ Some s → ReadsWith (D.seen disk.new) s (content_at_mesh (problem_in store) p.now mesh.now ∷ [])) }
-    ensures stops { (s : List ℕ) (content : Content) → D.seen disk.old ≡ Some s → Holds s content → StopsIn D.moment D.leaves disk.old disk.new (λ c. Holds c content ⊎ Holds c (content_at_mesh (problem_in store) p.now mesh.now)) }
+    ensures made { OnOk result ((s : List ℕ) → D.seen disk.old ≡ Some s
+        → ReadsWith (D.seen disk.new) s (content_at_mesh (problem_in store) p.now mesh.now ∷ [])) }
+    ensures stops { (s : List ℕ) (content : Content) → D.seen disk.old ≡ Some s → Holds s content
+        → StopsIn D.moment D.leaves disk.old disk.new (λ c. Holds c content ⊎ Holds c (content_at_mesh (problem_in store) p.now mesh.now)) }
     ensures memory { IsErrOf result CheckpointFault.NoMemory → disk.new ≡ disk.old }
     ensures later { D.faults disk.old ≤ D.faults disk.new }
     ensures disk_fault { IsErrOf result CheckpointFault.DiskFault → Rose (D.faults disk.old) (D.faults disk.new) }

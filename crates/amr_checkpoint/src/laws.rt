@@ -2,7 +2,9 @@
 ghost use Rattle.std.specs.Prelude.{ℕ, ◌≤◌, List, Option};
 ghost use Rattle.amr_def.specs.declared.problem.Problem.{Problem};
 ghost use Rattle.amr_checkpoint.specs.Contents.{Content};
-ghost use Rattle.amr_checkpoint.specs.Laws.{AcknowledgesMarks, CheckpointsRise, CheckpointsRunOn, CreationHolds, GoesOnOrRefuses, HoldsOne, HoldsSome, HoldsSound, IsLeftBy, NotBoth, NotBothShown, PutHolds, RefusesOnce, RenewalHolds, RunsOn, SameRun, ShowsOrRefuses};
+ghost use Rattle.amr_checkpoint.specs.Laws.{AcknowledgesMarks, CheckpointsRise, CheckpointsRunOn, CreationHolds, GoesOnOrRefuses, HoldsOne, HoldsSome};
+ghost use Rattle.amr_checkpoint.specs.Laws.{HoldsSound, IsLeftBy, NotBoth, NotBothShown, PutHolds, RefusesOnce, RenewalHolds, RunsOn, SameRun};
+ghost use Rattle.amr_checkpoint.specs.Laws.{ShowsOrRefuses};
 ghost use Rattle.amr_checkpoint.specs.Marks.{to_make};
 ghost use Rattle.amr_checkpoint.specs.Times.{Time, StopsLeave};
 

@@ -84,7 +84,8 @@ fn read_payload(
     bytes: &[u8],
 ) -> Result<Checkpoint, NoMemory>
     requires { IsStoreFor problem store }
-    ensures read { IfOk result (λ found. (sequence : ℕ) → last_in store ≡ Some sequence → content_of found ≡ payload_read (problem_in store) problem sequence (decoded (mass_width (version_in store)) problem bytes.now)) }
+    ensures read { IfOk result (λ found. (sequence : ℕ) → last_in store ≡ Some sequence
+        → content_of found ≡ payload_read (problem_in store) problem sequence (decoded (mass_width (version_in store)) problem bytes.now)) }
     ensures usable { IfOk result IsUsable }
     ensures same { IfOk result (HasStore store) }
 {
@@ -119,7 +120,8 @@ fn read_latest<D: Disk>(
 ) -> Result<Checkpoint, CheckpointFault>
     requires ready { IsStoreReady D.seen D.moment D.leaves store disk.old }
     requires store { IsStoreFor problem store }
-    ensures read { IfOk result (λ found. (s : List ℕ) (held : State) → D.seen disk.old ≡ Some s → stored s ≡ Held held → ShowsState store held → content_of found ≡ latest_read held problem held.latest) }
+    ensures read { IfOk result (λ found. (s : List ℕ) (held : State) → D.seen disk.old ≡ Some s → stored s ≡ Held held → ShowsState store held
+        → content_of found ≡ latest_read held problem held.latest) }
     ensures usable { IfOk result IsUsable }
     ensures ready { IfOk result (λ found. IsReadReady D.seen D.moment D.leaves found disk.new) }
     ensures settled { Only (D.seen disk.new) (D.leaves disk.new (D.moment disk.new)) }

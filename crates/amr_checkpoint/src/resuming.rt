@@ -120,9 +120,11 @@ pub fn resume<D: Disk>(
 ) -> Result<Resumed, ResumeFault>
     ensures nothing { IfOk result (λ resumed. (s : List ℕ) → resumed ≡ Resumed.Nothing → D.seen disk.old ≡ Some s → Holds s Empty) }
     ensures problem { IfOk result (λ resumed. ¬ (resumed ≡ Resumed.Nothing) → (p : Problem) × IsProblemOf bytes.now p) }
-    ensures holds { IfOk result (λ resumed. (s : List ℕ) (p : Problem) → D.seen disk.old ≡ Some s → IsProblemOf bytes.now p → Holds s (content_resumed bytes.now p resumed)) }
+    ensures holds { IfOk result (λ resumed. (s : List ℕ) (p : Problem) → D.seen disk.old ≡ Some s → IsProblemOf bytes.now p
+        → Holds s (content_resumed bytes.now p resumed)) }
     ensures can_go_on { IfOk result (λ resumed. (p : Problem) → IsProblemOf bytes.now p → CanGoOn bytes.now p target resumed) }
-    ensures refused { (refusal : Refusal) (s : List ℕ) → IsErrOf result (ResumeFault.Refused refusal) → D.seen disk.old ≡ Some s → (content : Content) × Holds s content × RefusesRun bytes.now target content refusal }
+    ensures refused { (refusal : Refusal) (s : List ℕ) → IsErrOf result (ResumeFault.Refused refusal) → D.seen disk.old ≡ Some s
+        → (content : Content) × Holds s content × RefusesRun bytes.now target content refusal }
     ensures ready { IfOk result (λ resumed. IsResumedReady D.seen D.moment D.leaves resumed disk.new) }
     ensures settled { ¬ (IsErrOf result ResumeFault.DiskFault) → Only (D.seen disk.new) (D.leaves disk.new (D.moment disk.new)) }
     ensures reads { OnlyReads D.seen D.moment D.leaves disk.old disk.new }
@@ -143,9 +145,11 @@ pub fn resume<D: Disk>(
 /// The problem and the state that the disk holds, or why there is nothing to show. Begins with a sync and only reads. But where the disk
 /// failed a stop leaves what a read gives.
 pub fn show<D: Disk>(alloc: Global, disk: &mut D) -> Result<Shown, ResumeFault>
-    ensures holds { IfOk result (λ shown. (s : List ℕ) → D.seen disk.old ≡ Some s → (bytes : List ℕ) × Holds s (content_at_mesh bytes shown.problem shown.mesh)) }
+    ensures holds { IfOk result (λ shown. (s : List ℕ) → D.seen disk.old ≡ Some s
+        → (bytes : List ℕ) × Holds s (content_at_mesh bytes shown.problem shown.mesh)) }
     ensures mesh { IfOk result (λ shown. IsMeshFor shown.problem shown.mesh) }
-    ensures refused { (refusal : Refusal) (s : List ℕ) → IsErrOf result (ResumeFault.Refused refusal) → D.seen disk.old ≡ Some s → (content : Content) × Holds s content × RefusesShow content refusal }
+    ensures refused { (refusal : Refusal) (s : List ℕ) → IsErrOf result (ResumeFault.Refused refusal) → D.seen disk.old ≡ Some s
+        → (content : Content) × Holds s content × RefusesShow content refusal }
     ensures settled { ¬ (IsErrOf result ResumeFault.DiskFault) → Only (D.seen disk.new) (D.leaves disk.new (D.moment disk.new)) }
     ensures reads { OnlyReads D.seen D.moment D.leaves disk.old disk.new }
     ensures later { D.faults disk.old ≤ D.faults disk.new }
