@@ -2,7 +2,8 @@
 //! generator, the text of a trial's problem, and the line that a trial prints of a mesh's state.
 #![tactic(auto)]
 
-ghost use Rattle.amr_trial.specs.Laws.{BlocksLieInside, CourantNumbersFit, TextsAreAccepted, TextsAreDocuments, TextsAreShort, TextsAreUtf8, TrialsHaveSixteenSteps};
+ghost use Rattle.amr_trial.specs.Laws.{BlocksLieInside, CourantNumbersFit, TextsAreAccepted, TextsAreDocuments};
+ghost use Rattle.amr_trial.specs.Laws.{TextsAreShort, TextsAreUtf8, TrialsHaveSixteenSteps};
 
 mod digest;
 mod generator;
