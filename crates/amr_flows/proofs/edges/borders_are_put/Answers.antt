@@ -1,7 +1,7 @@
 use Rattle.amr_def.specs.Domain.{domain}
 use Rattle.amr_flows.proofs.Joined.{fluxes_agree}
 use Rattle.amr_flows.proofs.PutPlaces.{put_there}
-use Rattle.amr_flows.proofs.borders_are_put.Goals as goal
+use Rattle.amr_flows.proofs.edges.borders_are_put.Goals as goal
 
 pub returns-clause-put : goal.returns-clause-put
 returns-clause-put c = λ p l ps i k q f lt below. put_there (domain p l) ps i k q f lt below

@@ -1,5 +1,5 @@
 use Rattle.amr_flows.proofs.Ordered.{serve, serve_base}
-use Rattle.amr_flows.proofs.registers_serve_layouts.Goals as goal
+use Rattle.amr_flows.proofs.edges.registers_serve_layouts.Goals as goal
 
 pub returns-clause-finer : goal.returns-clause-finer
 returns-clause-finer c = serve
