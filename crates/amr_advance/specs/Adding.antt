@@ -24,7 +24,8 @@ pub record MayGain (g : ℕ → ℕ) (r : Register) : Type 0 where
 
 -- and has taken it
 pub record HasGained (g : ℕ → ℕ) (r s : Register) : Type 0 where
-  pub gained : (k : ℕ) (c : Cell) → k < length (cells_in r) → c ≡ slice_index_or (cells_in r) k c → entry_in s c ≡ entry_in r c +ℤ (pos (g (2 + 2 * k)) -ℤ pos (g (3 + 2 * k)))
+  pub gained : (k : ℕ) (c : Cell) → k < length (cells_in r) → c ≡ slice_index_or (cells_in r) k c
+      → entry_in s c ≡ entry_in r c +ℤ (pos (g (2 + 2 * k)) -ℤ pos (g (3 + 2 * k)))
   pub cells : SameCells r s
 
 -- where there is one

@@ -63,11 +63,13 @@ pub record ServesRun (s : Around) (each k runs : ℕ) (parts : FrameParts) (x : 
   pub outer : (v : Vec Span) → x.outer.spans.items ≡ (slice_index_or parts.outer.items k v).items
   pub outer_places : HasOuterPlaces x.outer
   pub outbox_count : length x.outbox.items ≡ runs
-  pub sent : (t : ℕ) (m : Message) (v : Vec FrameCopy) → t < runs → t ≢ k → (slice_index_or x.outbox.items t m).copies.items ≡ (slice_index_or parts.copies.items (k * runs + t) v).items
+  pub sent : (t : ℕ) (m : Message) (v : Vec FrameCopy) → t < runs → t ≢ k
+      → (slice_index_or x.outbox.items t m).copies.items ≡ (slice_index_or parts.copies.items (k * runs + t) v).items
   pub own : (m : Message) → (slice_index_or x.outbox.items k m).copies.items ≡ []
   pub places : All HasPlaces x.outbox.items
   pub inbox_count : length x.inbox.items ≡ runs
-  pub received : (u : ℕ) (m : Message) (v : Vec FrameCopy) → u < runs → u ≢ k → (slice_index_or x.inbox.items u m).copies.items ≡ (slice_index_or parts.copies.items (u * runs + k) v).items
+  pub received : (u : ℕ) (m : Message) (v : Vec FrameCopy) → u < runs → u ≢ k
+      → (slice_index_or x.inbox.items u m).copies.items ≡ (slice_index_or parts.copies.items (u * runs + k) v).items
   pub own_received : (m : Message) → (slice_index_or x.inbox.items k m).copies.items ≡ []
   pub received_places : All HasPlaces x.inbox.items
   pub room : All (λ q. width (box q) ≤ widest x.room) (run each k s.patches)

@@ -25,7 +25,8 @@ workspaces_in bodies = map (λ (b : Box Body). b.value.workspace) bodies
 -- one for each patch
 pub record AreWorkspaces (qs : List Patch) (ts : List TaskLayout) (ws : List Workspace) : Type 0 where
   pub count : length ws ≡ length qs
-  pub each : (k : ℕ) (q : Patch) (t : TaskLayout) (w : Workspace) → k < length qs → Serves (width (box (slice_index_or qs k q))) (slice_index_or ts k t) (slice_index_or ws k w)
+  pub each : (k : ℕ) (q : Patch) (t : TaskLayout) (w : Workspace) → k < length qs
+      → Serves (width (box (slice_index_or qs k q))) (slice_index_or ts k t) (slice_index_or ws k w)
 
 -- one with room for a row of fluxes for each patch
 pub record AreRooms (qs : List Patch) (ws : List Workspace) : Type 0 where
@@ -44,4 +45,5 @@ pub record IsRawPiece (p : Problem) (l task : ℕ) (q : Patch) (s : Workspace) (
 -- one for each patch, by number
 pub record AreRawPieces (p : Problem) (l : ℕ) (qs : List Patch) (ss : List Workspace) (ws : List Work) : Type 0 where
   pub count : length ws ≡ length qs
-  pub each : (k : ℕ) (q : Patch) (s : Workspace) (w : Work) → k < length qs → IsRawPiece p l k (slice_index_or qs k q) (slice_index_or ss k s) (slice_index_or ws k w)
+  pub each : (k : ℕ) (q : Patch) (s : Workspace) (w : Work) → k < length qs
+      → IsRawPiece p l k (slice_index_or qs k q) (slice_index_or ss k s) (slice_index_or ws k w)

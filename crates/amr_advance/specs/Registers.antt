@@ -32,14 +32,16 @@ HasCoarser p zero k None (Some r) = ⊥
 HasCoarser p zero k (Some coarse) r = ⊥
 HasCoarser p (suc l) k None r = ⊥
 HasCoarser p (suc l) k (Some coarse) None = ⊥
-HasCoarser p (suc l) k (Some coarse) (Some r) = IsLevel p l (level_of coarse) × IsNestedLevel p l (level_of coarse) k × IsRegisterOf p l (level_of coarse).masses k.masses r × AreSmallEntries r
+HasCoarser p (suc l) k (Some coarse) (Some r) =
+    IsLevel p l (level_of coarse) × IsNestedLevel p l (level_of coarse) k × IsRegisterOf p l (level_of coarse).masses k.masses r × AreSmallEntries r
 
 -- the register of this level, k, over the next finer one, where there is one
 abbrev pub HasFiner : Problem → ℕ → Level → Option Held → Option Register → Type 0
 HasFiner p l k None None = Unit {0}
 HasFiner p l k None (Some r) = ⊥
 HasFiner p l k (Some fine) None = ⊥
-HasFiner p l k (Some fine) (Some r) = (l ≤ 3) × IsLevel p (suc l) (level_of fine) × IsNestedLevel p l k (level_of fine) × IsRegisterOf p l k.masses (level_of fine).masses r × AreSmallEntries r
+HasFiner p l k (Some fine) (Some r) =
+    (l ≤ 3) × IsLevel p (suc l) (level_of fine) × IsNestedLevel p l k (level_of fine) × IsRegisterOf p l k.masses (level_of fine).masses r × AreSmallEntries r
 
 -- masses m are those of a level of the problem, whose register over the next finer one, where there is one, is this
 pub record HasEdges (p : Problem) (l : ℕ) (m : Masses) (next : Option Held) (r : Option Register) : Type 0 where
@@ -85,7 +87,8 @@ pub record MayTakeNets (r : Register) : Type 0 where
 
 -- and has lost it
 pub record HasTakenNets (r s : Register) : Type 0 where
-  pub taken : (flow : Cell → ℤ) → All (All (λ e. e.net ≡ flow e.cell)) (edges_in r) → (c : Cell) → Contains (cells_in r) c → entry_in s c ≡ entry_in r c -ℤ flow c
+  pub taken : (flow : Cell → ℤ) → All (All (λ e. e.net ≡ flow e.cell)) (edges_in r) → (c : Cell) → Contains (cells_in r) c
+      → entry_in s c ≡ entry_in r c -ℤ flow c
   pub cells : SameCells r s
 
 -- where there is one

@@ -15,7 +15,8 @@ use Rattle.amr_register.specs.Registers.{IsRegisterOf, SameCells, cells_in, entr
 pub record HasTotals (p : Problem) (l : ℕ) (m old fine : Masses) (cells : List Cell) (ws : List ℕ) : Type 0 where
   pub patches : List Patch
   pub of_level : ArePatchesOf p l m patches
-  pub words : (word : ℕ) → word < length ws → slice_index ws word ≡ level_total (record { problem = p; level = l; patches = patches; cells = cells; finer = fine }) (plain_size p l m old) word
+  pub words : (word : ℕ) → word < length ws
+      → slice_index ws word ≡ level_total (record { problem = p; level = l; patches = patches; cells = cells; finer = fine }) (plain_size p l m old) word
 
 -- ---- to a register
 
@@ -27,7 +28,8 @@ pub record MayAbsorb (ws : List ℕ) (r : Register) : Type 0 where
 
 -- and has taken them
 pub record HasAbsorbed (ws : List ℕ) (r s : Register) : Type 0 where
-  pub gained : (k : ℕ) (c : Cell) → k < length (cells_in r) → c ≡ slice_index_or (cells_in r) k c → entry_in s c ≡ entry_in r c +ℤ (pos (slice_index ws (2 + 2 * k)) -ℤ pos (slice_index ws (3 + 2 * k)))
+  pub gained : (k : ℕ) (c : Cell) → k < length (cells_in r) → c ≡ slice_index_or (cells_in r) k c
+      → entry_in s c ≡ entry_in r c +ℤ (pos (slice_index ws (2 + 2 * k)) -ℤ pos (slice_index ws (3 + 2 * k)))
   pub cells : SameCells r s
 
 -- where there is one

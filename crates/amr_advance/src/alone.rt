@@ -42,9 +42,12 @@ fn step_each<G: Gate>(
     requires gate { (task : ℕ) → task < length patches.old → G.admits gate.now 0 task }
     requires words { length totals.old ≡ 2 + 2 * length given.cells.now }
     requires none { (word : ℕ) → slice_index totals.old word ≡ 0 }
-    ensures stepped { AllZip (IsStepped (flux_at given.entry.problem.now given.entry.level (masses_in patches.old) (old_masses (option_copied given.entry.old)))) patches.old patches.new }
+    ensures stepped { AllZip (IsStepped
+        (flux_at given.entry.problem.now given.entry.level (masses_in patches.old) (old_masses (option_copied given.entry.old)))) patches.old patches.new }
     ensures words { length totals.new ≡ length totals.old }
-    ensures totals { (word : ℕ) → slice_index totals.new word ≡ level_total (around given.entry.problem.now given.entry.level patches.old given.entry.cells.now (option_copied given.entry.finer)) (plain_size given.entry.problem.now given.entry.level (masses_in patches.old) (old_masses (option_copied given.entry.old))) word }
+    ensures totals { (word : ℕ) → slice_index totals.new word
+        ≡ level_total (around given.entry.problem.now given.entry.level patches.old given.entry.cells.now (option_copied given.entry.finer))
+        (plain_size given.entry.problem.now given.entry.level (masses_in patches.old) (old_masses (option_copied given.entry.old))) word }
     ensures small { (word : ℕ) → slice_index totals.new word < 2 ^ 63 }
     ensures room { widest room.new ≡ widest room.old }
 {
@@ -77,10 +80,14 @@ pub(crate) fn step_alone_by<G: Gate>(
     requires tasks { AreLoneTasks (around given.problem.now given.level patches.old given.cells.now (option_copied given.finer)) tasks.old }
     requires few { length patches.old ≤ 2 ^ 26 }
     requires gate { (task : ℕ) → task < length patches.old → G.admits gate.now 0 task }
-    ensures stepped { AllZip (IsStepped (flux_at given.entry.problem.now given.entry.level (masses_in patches.old) (old_masses (option_copied given.entry.old)))) patches.old patches.new }
-    ensures totals { (word : ℕ) → slice_index tasks.new.totals.items word ≡ level_total (around given.entry.problem.now given.entry.level patches.old given.entry.cells.now (option_copied given.entry.finer)) (plain_size given.entry.problem.now given.entry.level (masses_in patches.old) (old_masses (option_copied given.entry.old))) word }
+    ensures stepped { AllZip (IsStepped
+        (flux_at given.entry.problem.now given.entry.level (masses_in patches.old) (old_masses (option_copied given.entry.old)))) patches.old patches.new }
+    ensures totals { (word : ℕ) → slice_index tasks.new.totals.items word
+        ≡ level_total (around given.entry.problem.now given.entry.level patches.old given.entry.cells.now (option_copied given.entry.finer))
+        (plain_size given.entry.problem.now given.entry.level (masses_in patches.old) (old_masses (option_copied given.entry.old))) word }
     ensures small { (word : ℕ) → slice_index tasks.new.totals.items word < 2 ^ 63 }
-    ensures tasks { AreLoneTasks (around given.entry.problem.now given.entry.level patches.old given.entry.cells.now (option_copied given.entry.finer)) tasks.new }
+    ensures tasks { AreLoneTasks (around given.entry.problem.now given.entry.level patches.old given.entry.cells.now
+        (option_copied given.entry.finer)) tasks.new }
 {
     tasks.totals.fill(0);
     step_each(

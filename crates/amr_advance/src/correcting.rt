@@ -2,7 +2,8 @@
 //! the patches of a lot. (Berger and Colella 1989: the coarse level is corrected at the edges of the finer one, and under it takes the
 //! finer one's values. AMReX: `Reflux`, `average_down`)
 
-ghost use Rattle.std.specs.Prelude.{◌≡◌, ◌*◌, ◌<◌, ◌^◌, ℕ, true, false, pos, ◌+ℤ◌, ◌≤ℤ◌, ◌<ℤ◌, IfOk, IfSome, IsSome, None, OnOk, Some, length, map, slice_index_or};
+ghost use Rattle.std.specs.Prelude.{◌≡◌, ◌*◌, ◌<◌, ◌^◌, ℕ, true, false, pos, ◌+ℤ◌, ◌≤ℤ◌, ◌<ℤ◌, IfOk, IfSome};
+ghost use Rattle.std.specs.Prelude.{IsSome, None, OnOk, Some, length, map, slice_index_or};
 ghost use Rattle.std.specs.Global.{Box as boxed};
 ghost use Rattle.std.specs.List.{All, AllZip, Contains};
 ghost use Rattle.amr_box.specs.declared.Cell.{Cell};
@@ -62,7 +63,8 @@ fn lend_to(lot: &mut Box<Lot>, part: Correction)
 /// Lends lots, of so many patches each, what corrects their patches. Some of them may have it after a refusal.
 fn lend(lots: &mut [Box<Lot>], each: usize, whole: &Correction) -> Result<(), AllocError>
     requires small { (k : ℕ) → k < length lots.old → k * each < 2 ^ 62 }
-    ensures lent { OnOk result ((k : ℕ) (x : boxed lot) → k < length lots.old → IsLentPart (k * each) whole.now (slice_index_or lots.old k x).value (slice_index_or lots.new k x).value) }
+    ensures lent { OnOk result ((k : ℕ) (x : boxed lot) → k < length lots.old
+        → IsLentPart (k * each) whole.now (slice_index_or lots.old k x).value (slice_index_or lots.new k x).value) }
     ensures kept { AllZip (λ a b. KeepsAllButCorrection a.value b.value) lots.old lots.new }
 {
     for k in 0..lots.len() {
@@ -202,7 +204,8 @@ fn correct_by_workers<R: Wait, G: Gate>(
     requires team { IfSome workers.old.team (IsTeamFor p.now workers.old.gate.now workers.old.count) }
     ensures workers { workers.new ≡ workers.old }
     ensures register { IfOk result (λ x. x.register ≡ register) }
-    ensures done { IfOk result (λ x. x.done ≡ true → (level_of level.new).masses ≡ summed (level_of finer.old).masses (with_entries (entry_in register) (level_of level.old).masses)) }
+    ensures done { IfOk result (λ x. x.done ≡ true
+        → (level_of level.new).masses ≡ summed (level_of finer.old).masses (with_entries (entry_in register) (level_of level.old).masses)) }
     ensures not_done { IfOk result (λ x. x.done ≡ false → (level_of level.new).masses ≡ (level_of level.old).masses) }
     ensures boxes { OnOk result ((level_of level.new).boxes ≡ (level_of level.old).boxes) }
     ensures patches { OnOk result (map box (patches_of level.new) ≡ map box (patches_of level.old)) }
@@ -242,7 +245,8 @@ fn correct_by_layout<R: Wait, G: Gate>(
     requires kept { IfSome kept.old (IsKeptLayout p.now) }
     ensures workers { workers.new ≡ workers.old }
     ensures register { IfOk result (λ x. x.register ≡ register) }
-    ensures done { IfOk result (λ x. x.done ≡ true → (level_of level.new).masses ≡ summed (level_of finer.old).masses (with_entries (entry_in register) (level_of level.old).masses)) }
+    ensures done { IfOk result (λ x. x.done ≡ true
+        → (level_of level.new).masses ≡ summed (level_of finer.old).masses (with_entries (entry_in register) (level_of level.old).masses)) }
     ensures not_done { IfOk result (λ x. x.done ≡ false → (level_of level.new).masses ≡ (level_of level.old).masses) }
     ensures boxes { OnOk result ((level_of level.new).boxes ≡ (level_of level.old).boxes) }
     ensures patches { OnOk result (map box (patches_of level.new) ≡ map box (patches_of level.old)) }
@@ -306,7 +310,8 @@ pub fn correct_kept<R: Wait, G: Gate>(
     requires finer_kept { IfSome finer_kept.old (IsKeptLayout p.now) }
     ensures workers { workers.new ≡ workers.old }
     ensures register { IfOk result (λ r. r ≡ register) }
-    ensures masses { OnOk result ((level_of level.new).masses ≡ summed (level_of finer.old).masses (with_entries (entry_in register) (level_of level.old).masses)) }
+    ensures masses { OnOk result ((level_of level.new).masses
+        ≡ summed (level_of finer.old).masses (with_entries (entry_in register) (level_of level.old).masses)) }
     ensures boxes { OnOk result ((level_of level.new).boxes ≡ (level_of level.old).boxes) }
     ensures patches { OnOk result (map box (patches_of level.new) ≡ map box (patches_of level.old)) }
     ensures finer { OnOk result (level_of finer.new ≡ level_of finer.old) }

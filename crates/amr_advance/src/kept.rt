@@ -136,7 +136,8 @@ fn finer_boxes(alloc: Global, finer: Option<&Level>) -> Result<Vec<Bx>, NoMemory
 
 /// Whether a layout that is kept is that of these patches, in this way.
 fn serves(kept: &KeptLayout, given: Given<'_>, patches: &[Patch], way: Way) -> bool
-    ensures { IsTrue result → IsKeptLayout given.entry.problem.now kept.now → IsLaidOut (around given.entry.problem.now given.entry.level patches.now given.entry.cells.now (option_copied given.entry.finer)) kept.now }
+    ensures { IsTrue result → IsKeptLayout given.entry.problem.now kept.now
+        → IsLaidOut (around given.entry.problem.now given.entry.level patches.now given.entry.cells.now (option_copied given.entry.finer)) kept.now }
 {
     if !are_for(&kept.tasks, way) {
         return false;
@@ -167,7 +168,8 @@ fn lay_out_anew<R: Threads + Sync>(
     requires apart { ArePatchesApart patches.now }
     requires inside { AreInDomain (domain given.problem.now given.level) patches.now }
     requires cells { HasRegisterCells (around given.problem.now given.level patches.now given.cells.now (option_copied given.finer)) }
-    ensures laid_out { IfOk result (IsLaidOut (around given.entry.problem.now given.entry.level patches.now given.entry.cells.now (option_copied given.entry.finer))) }
+    ensures laid_out { IfOk result (IsLaidOut
+        (around given.entry.problem.now given.entry.level patches.now given.entry.cells.now (option_copied given.entry.finer))) }
     ensures current { IfOk result (λ k. (M : Masses) → IsCurrentLayout M k) }
     ensures valued { IfOk result (λ k. (p : Problem) (l : ℕ) (old : Masses) → IsValued p l old k) }
 {
@@ -234,7 +236,8 @@ pub(crate) fn layout_for<R: Threads + Sync>(
     requires kept { IfSome kept.old (IsKeptLayout given.problem.now) }
     requires current { IfSome kept.old (IsCurrentLayout (masses_in patches.now)) }
     requires valued { IfSome kept.old (IsValued given.problem.now given.level (old_masses (option_copied given.old))) }
-    ensures laid_out { IfOk result (IsLaidOut (around given.entry.problem.now given.entry.level patches.now given.entry.cells.now (option_copied given.entry.finer))) }
+    ensures laid_out { IfOk result (IsLaidOut
+        (around given.entry.problem.now given.entry.level patches.now given.entry.cells.now (option_copied given.entry.finer))) }
     ensures current { IfOk result (IsCurrentLayout (masses_in patches.now)) }
     ensures valued { IfOk result (IsValued given.entry.problem.now given.entry.level (old_masses (option_copied given.entry.old))) }
     ensures kept { kept.new ≡ None }

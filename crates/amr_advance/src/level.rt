@@ -69,10 +69,16 @@ fn run_on_board<R: Threads + Wait + Sync, G: Gate + Sync>(
     requires gate { (worker task : ℕ) → worker < workers.old.count → task < length patches.old → G.admits workers.old.gate.now worker task }
     requires team { IfSome workers.old.team (IsTeamFor given.problem.now workers.old.gate.now workers.old.count) }
     ensures workers { workers.new ≡ workers.old }
-    ensures stepped { OnOk result (AllZip (IsStepped (flux_at given.entry.problem.now given.entry.level (masses_in patches.old) (old_masses (option_copied given.entry.old)))) patches.old patches.new) }
-    ensures totals { OnOk result ((word : ℕ) → word < length tasks.new.totals.items → slice_index tasks.new.totals.items word ≡ level_total (around given.entry.problem.now given.entry.level patches.old given.entry.cells.now (option_copied given.entry.finer)) (plain_size given.entry.problem.now given.entry.level (masses_in patches.old) (old_masses (option_copied given.entry.old))) word) }
+    ensures stepped { OnOk result (AllZip
+        (IsStepped (flux_at given.entry.problem.now given.entry.level (masses_in patches.old)
+        (old_masses (option_copied given.entry.old)))) patches.old patches.new) }
+    ensures totals { OnOk result ((word : ℕ) → word < length tasks.new.totals.items
+        → slice_index tasks.new.totals.items word
+        ≡ level_total (around given.entry.problem.now given.entry.level patches.old given.entry.cells.now (option_copied given.entry.finer))
+        (plain_size given.entry.problem.now given.entry.level (masses_in patches.old) (old_masses (option_copied given.entry.old))) word) }
     ensures small { OnOk result ((word : ℕ) → word < length tasks.new.totals.items → slice_index tasks.new.totals.items word < 2 ^ 63) }
-    ensures tasks { OnOk result (AreBoardTasks (around given.entry.problem.now given.entry.level patches.old given.entry.cells.now (option_copied given.entry.finer)) tasks.new) }
+    ensures tasks { OnOk result (AreBoardTasks
+        (around given.entry.problem.now given.entry.level patches.old given.entry.cells.now (option_copied given.entry.finer)) tasks.new) }
     ensures same { OnErr result (patches.new ≡ patches.old) }
 {
     let alloc = given.alloc;
@@ -121,16 +127,23 @@ pub(crate) fn run_level<R: Threads + Wait + Sync, G: Gate + Sync>(
     requires gate { (worker task : ℕ) → worker < workers.old.count → task < length patches.old → G.admits workers.old.gate.now worker task }
     requires team { IfSome workers.old.team (IsTeamFor given.problem.now workers.old.gate.now workers.old.count) }
     ensures workers { workers.new ≡ workers.old }
-    ensures stepped { OnOk result (AllZip (IsStepped (flux_at given.entry.problem.now given.entry.level (masses_in patches.old) (old_masses (option_copied given.entry.old)))) patches.old patches.new) }
-    ensures totals { OnOk result ((word : ℕ) → word < length (totals_kept layout.new) → slice_index (totals_kept layout.new) word ≡ level_total (around given.entry.problem.now given.entry.level patches.old given.entry.cells.now (option_copied given.entry.finer)) (plain_size given.entry.problem.now given.entry.level (masses_in patches.old) (old_masses (option_copied given.entry.old))) word) }
+    ensures stepped { OnOk result (AllZip
+        (IsStepped (flux_at given.entry.problem.now given.entry.level (masses_in patches.old)
+        (old_masses (option_copied given.entry.old)))) patches.old patches.new) }
+    ensures totals { OnOk result ((word : ℕ) → word < length (totals_kept layout.new)
+        → slice_index (totals_kept layout.new) word
+        ≡ level_total (around given.entry.problem.now given.entry.level patches.old given.entry.cells.now (option_copied given.entry.finer))
+        (plain_size given.entry.problem.now given.entry.level (masses_in patches.old) (old_masses (option_copied given.entry.old))) word) }
     ensures small { OnOk result ((word : ℕ) → word < length (totals_kept layout.new) → slice_index (totals_kept layout.new) word < 2 ^ 63) }
     ensures small_lots { OnOk result (AreSmallInLots layout.new.tasks) }
-    ensures layout { OnOk result (IsLaidOut (around given.entry.problem.now given.entry.level patches.old given.entry.cells.now (option_copied given.entry.finer)) layout.new) }
+    ensures layout { OnOk result (IsLaidOut
+        (around given.entry.problem.now given.entry.level patches.old given.entry.cells.now (option_copied given.entry.finer)) layout.new) }
     ensures current { OnOk result (IsCurrentLayout (masses_in patches.new) layout.new) }
     ensures valued { OnOk result (IsValued given.entry.problem.now given.entry.level (old_masses (option_copied given.entry.old)) layout.new) }
     ensures same_edges { SameEdges (lists_of edges.old) (lists_of edges.new) }
     ensures small_nets { All (All IsSmallNet) (lists_of edges.new) }
-    ensures nets { AreNetsOf given.entry.problem.now given.entry.level (masses_in patches.old) (old_masses (option_copied given.entry.old)) (lists_of edges.old) (lists_of edges.new) }
+    ensures nets { AreNetsOf given.entry.problem.now given.entry.level (masses_in patches.old) (old_masses (option_copied given.entry.old))
+        (lists_of edges.old) (lists_of edges.new) }
     ensures same { OnErr result (patches.new ≡ patches.old) }
 {
     match &mut layout.tasks {

@@ -197,7 +197,8 @@ fn flows_from(
     requires words { All (λ x. x.word < many) flows.now.flows.items }
     requires few { many < 2 ^ 32 }
     ensures count { IfOk result (λ x. length x.lists.items ≡ count) }
-    ensures flows { IfOk result (λ x. (i : ℕ) (v : vec flow) → i < count → AllZip (IsNumbered x.words.items) (flows_at flows.now (first + i)) (slice_index_or x.lists.items i v).items) }
+    ensures flows { IfOk result (λ x. (i : ℕ) (v : vec flow) → i < count
+        → AllZip (IsNumbered x.words.items) (flows_at flows.now (first + i)) (slice_index_or x.lists.items i v).items) }
     ensures words { IfOk result (λ x. All (λ w. w < many) x.words.items) }
 {
     let mut lists = Vec::with_capacity(alloc, count)?;
@@ -221,7 +222,8 @@ fn messages_for(
 ) -> Result<Vec<Message>, NoMemory>
     requires there { (t : ℕ) → t < count → first + t * stride < length lists.now }
     ensures count { IfOk result (λ xs. length xs.items ≡ count) }
-    ensures copies { IfOk result (λ xs. (t : ℕ) (m : message) (v : vec frame_copy) → t < count → t ≢ own → (slice_index_or xs.items t m).copies.items ≡ (slice_index_or lists.now (first + t * stride) v).items) }
+    ensures copies { IfOk result (λ xs. (t : ℕ) (m : message) (v : vec frame_copy) → t < count → t ≢ own
+        → (slice_index_or xs.items t m).copies.items ≡ (slice_index_or lists.now (first + t * stride) v).items) }
     ensures own { IfOk result (λ xs. (m : message) → own < count → (slice_index_or xs.items own m).copies.items ≡ []) }
     ensures places { IfOk result (λ xs. All HasPlaces xs.items) }
 {
@@ -253,7 +255,8 @@ fn lot_for(
     requires many { cut.runs ≤ 2 ^ 26 }
     requires copies { length cut.parts.now.copies.items ≡ cut.runs * cut.runs }
     requires outer { length cut.parts.now.outer.items ≡ cut.runs }
-    ensures { IfOk result (IsLotOf (around s.entry.problem.now s.entry.level s.entry.patches.now s.entry.cells.now (option_copied s.entry.finer)) cut.entry.each k cut.entry.runs cut.entry.parts.now) }
+    ensures { IfOk result (IsLotOf (around s.entry.problem.now s.entry.level s.entry.patches.now s.entry.cells.now
+        (option_copied s.entry.finer)) cut.entry.each k cut.entry.runs cut.entry.parts.now) }
 {
     let Cut {
         each,
@@ -308,7 +311,9 @@ fn lots_for(
     requires copies { length cut.parts.now.copies.items ≡ cut.runs * cut.runs }
     requires outer { length cut.parts.now.outer.items ≡ cut.runs }
     ensures count { IfOk result (λ xs. length xs.items ≡ cut.entry.runs) }
-    ensures lots { IfOk result (λ xs. (k : ℕ) (x : boxed lot) → k < cut.entry.runs → IsLotOf (around s.entry.problem.now s.entry.level s.entry.patches.now s.entry.cells.now (option_copied s.entry.finer)) cut.entry.each k cut.entry.runs cut.entry.parts.now (slice_index_or xs.items k x).value) }
+    ensures lots { IfOk result (λ xs. (k : ℕ) (x : boxed lot) → k < cut.entry.runs
+        → IsLotOf (around s.entry.problem.now s.entry.level s.entry.patches.now s.entry.cells.now
+        (option_copied s.entry.finer)) cut.entry.each k cut.entry.runs cut.entry.parts.now (slice_index_or xs.items k x).value) }
 {
     let mut lots = Vec::with_capacity(alloc, cut.runs)?;
     for k in 0..cut.runs {

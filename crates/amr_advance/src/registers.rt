@@ -38,7 +38,8 @@ pub(crate) fn find_nets(given: Given<'_>, patches: &[Patch], edges: &mut [Vec<Ed
     requires edges { AreEdgesFor (map box patches.now) (lists_of edges.old) }
     ensures same_edges { SameEdges (lists_of edges.old) (lists_of edges.new) }
     ensures small_nets { All (All IsSmallNet) (lists_of edges.new) }
-    ensures nets { AreNetsOf given.entry.problem.now given.entry.level (masses_in patches.now) (old_masses (option_copied given.entry.old)) (lists_of edges.old) (lists_of edges.new) }
+    ensures nets { AreNetsOf given.entry.problem.now given.entry.level (masses_in patches.now) (old_masses (option_copied given.entry.old))
+        (lists_of edges.old) (lists_of edges.new) }
 {
     if edges.is_empty() {
         return;
@@ -76,8 +77,10 @@ pub(crate) fn absorb_totals(totals: &[u64], register: &mut Register)
     requires small { (word : ℕ) → word < length totals.now → slice_index totals.now word < 2 ^ 63 }
     requires made { (p : Problem) × ((l : ℕ) × ((m : Masses) × ((fine : Masses) × IsRegisterOf p l m fine register.old))) }
     requires room { (c : Cell) → unsigned_abs (entry_in register.old c) < 2 ^ 61 }
-    requires net { (k : ℕ) → k < length (cells_in register.old) → unsigned_abs (pos (slice_index totals.now (2 + 2 * k)) -ℤ pos (slice_index totals.now (3 + 2 * k))) < 2 ^ 61 }
-    ensures gained { (k : ℕ) (c : Cell) → k < length (cells_in register.old) → c ≡ slice_index_or (cells_in register.old) k c → entry_in register.new c ≡ entry_in register.old c +ℤ (pos (slice_index totals.now (2 + 2 * k)) -ℤ pos (slice_index totals.now (3 + 2 * k))) }
+    requires net { (k : ℕ) → k < length (cells_in register.old)
+        → unsigned_abs (pos (slice_index totals.now (2 + 2 * k)) -ℤ pos (slice_index totals.now (3 + 2 * k))) < 2 ^ 61 }
+    ensures gained { (k : ℕ) (c : Cell) → k < length (cells_in register.old) → c ≡ slice_index_or (cells_in register.old) k c
+        → entry_in register.new c ≡ entry_in register.old c +ℤ (pos (slice_index totals.now (2 + 2 * k)) -ℤ pos (slice_index totals.now (3 + 2 * k))) }
     ensures cells { SameCells register.old register.new }
 {
     for k in 0..register.cells().len() as u32 {

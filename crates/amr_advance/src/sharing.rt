@@ -55,10 +55,13 @@ fn pack_lots<R: Wait, G: Gate>(workers: &mut Workers<'_, R, G>, p: &Problem, tas
 
 /// Exchanges the lists of register cells of a level, where it has a register, with those of its lots.
 fn exchange_lists(edges: &mut [Vec<EdgeCell>], lots: &mut [Box<Lot>], size: usize)
-    requires counts { 0 < length edges.old → (k : ℕ) (x : boxed lot) → k < length lots.old → length (slice_index_or lots.old k x).value.edges.items ≡ length (run size k edges.old) }
+    requires counts { 0 < length edges.old → (k : ℕ) (x : boxed lot) → k < length lots.old
+        → length (slice_index_or lots.old k x).value.edges.items ≡ length (run size k edges.old) }
     ensures none { length edges.old ≡ 0 → lots.new ≡ lots.old }
-    ensures handed { 0 < length edges.old → (k : ℕ) (x : boxed lot) → k < length lots.old → (slice_index_or lots.new k x).value.edges.items ≡ run size k edges.old }
-    ensures back { 0 < length edges.old → (k : ℕ) (x : boxed lot) → k < length lots.old → run size k edges.new ≡ (slice_index_or lots.old k x).value.edges.items }
+    ensures handed { 0 < length edges.old → (k : ℕ) (x : boxed lot) → k < length lots.old
+        → (slice_index_or lots.new k x).value.edges.items ≡ run size k edges.old }
+    ensures back { 0 < length edges.old → (k : ℕ) (x : boxed lot) → k < length lots.old
+        → run size k edges.new ≡ (slice_index_or lots.old k x).value.edges.items }
     ensures count { length edges.new ≡ length edges.old }
     ensures others { AllZip KeepAllButEdges lots.old lots.new }
 {
@@ -93,13 +96,20 @@ pub(crate) fn step_in_lots<R: Wait, G: Gate>(
     requires shared { IsSharedOf given.old given.shared }
     requires team { IfSome workers.old.team (IsTeamFor given.problem.now workers.old.gate.now workers.old.count) }
     ensures workers { workers.new ≡ workers.old }
-    ensures stepped { AllZip (IsStepped (flux_at given.entry.problem.now given.entry.level (masses_in patches.old) (old_masses (option_copied given.entry.old)))) patches.old patches.new }
+    ensures stepped { AllZip (IsStepped
+        (flux_at given.entry.problem.now given.entry.level (masses_in patches.old) (old_masses (option_copied given.entry.old)))) patches.old patches.new }
     ensures same_edges { SameEdges (lists_of edges.old) (lists_of edges.new) }
     ensures small_nets { All (All IsSmallNet) (lists_of edges.new) }
-    ensures nets { (fine : Masses) → AreEdges (domain given.entry.problem.now given.entry.level) (masses_in patches.old) fine (lists_of edges.old) → All (All (λ e. e.net ≡ net (edge_flows given.entry.problem.now given.entry.level (masses_in patches.old) (old_masses (option_copied given.entry.old)) fine) e.cell)) (lists_of edges.new) }
-    ensures totals { (word : ℕ) → total (word_of word) tasks.new.lots.items ≡ level_total (around given.entry.problem.now given.entry.level patches.old given.entry.cells.now (option_copied given.entry.finer)) (plain_size given.entry.problem.now given.entry.level (masses_in patches.old) (old_masses (option_copied given.entry.old))) word }
+    ensures nets { (fine : Masses) → AreEdges (domain given.entry.problem.now given.entry.level) (masses_in patches.old) fine (lists_of edges.old)
+        → All (All (λ e. e.net
+        ≡ net (edge_flows given.entry.problem.now given.entry.level (masses_in patches.old) (old_masses (option_copied given.entry.old)) fine) e.cell))
+        (lists_of edges.new) }
+    ensures totals { (word : ℕ) → total (word_of word) tasks.new.lots.items
+        ≡ level_total (around given.entry.problem.now given.entry.level patches.old given.entry.cells.now (option_copied given.entry.finer))
+        (plain_size given.entry.problem.now given.entry.level (masses_in patches.old) (old_masses (option_copied given.entry.old))) word }
     ensures small { (word : ℕ) → total (word_of word) tasks.new.lots.items ≤ 2 ^ 61 }
-    ensures tasks { AreLotTasks (around given.entry.problem.now given.entry.level patches.old given.entry.cells.now (option_copied given.entry.finer)) tasks.new }
+    ensures tasks { AreLotTasks (around given.entry.problem.now given.entry.level patches.old given.entry.cells.now
+        (option_copied given.entry.finer)) tasks.new }
     ensures current { AreLotsCurrent (masses_in patches.new) tasks.new }
     ensures valued { AreLotsValued given.entry.problem.now given.entry.level (old_masses (option_copied given.entry.old)) tasks.new }
 {

@@ -56,7 +56,8 @@ fn fill_frames(given: Given<'_>, patches: &mut [Patch], layout: &KeptLayout)
     ensures apart { ArePatchesApart patches.new }
     ensures inside { AreInDomain (domain given.entry.problem.now given.entry.level) patches.new }
     ensures filled { AreFilledFor layout.entry.now.tasks given.entry.problem.now given.entry.level (old_masses (option_copied given.entry.old)) patches.new }
-    ensures layout { IsLaidOut (around given.entry.problem.now given.entry.level patches.new given.entry.cells.now (option_copied given.entry.finer)) layout.entry.now }
+    ensures layout { IsLaidOut (around given.entry.problem.now given.entry.level patches.new given.entry.cells.now
+        (option_copied given.entry.finer)) layout.entry.now }
 {
     if are_lots(&layout.tasks) {
         return;
@@ -96,7 +97,8 @@ fn step_patches<R: Threads + Wait + Sync, G: Gate + Sync>(
     requires apart { ArePatchesApart patches.old }
     requires inside { AreInDomain (domain given.problem.now given.level) patches.old }
     requires fits { LevelStepFits given.problem.now given.level (masses_in patches.old) (old_masses (option_copied given.old)) }
-    requires cells { (qs : List Patch) → masses_in qs ≡ masses_in patches.old → HasRegisterCells (around given.problem.now given.level qs given.cells.now (option_copied given.finer)) }
+    requires cells { (qs : List Patch) → masses_in qs ≡ masses_in patches.old
+        → HasRegisterCells (around given.problem.now given.level qs given.cells.now (option_copied given.finer)) }
     requires register { HasEdges given.problem.now given.level (masses_in patches.old) (option_copied given.finer) register.old }
     requires edges { IfSome register.old (HasEdgesOf (map box patches.old)) }
     requires kept { IfSome kept.old (IsKeptLayout given.problem.now) }
@@ -108,15 +110,20 @@ fn step_patches<R: Threads + Wait + Sync, G: Gate + Sync>(
     requires gate { (worker task : ℕ) → worker < workers.old.count → task < length patches.old → G.admits workers.old.gate.now worker task }
     requires team { IfSome workers.old.team (IsTeamFor given.problem.now workers.old.gate.now workers.old.count) }
     ensures workers { workers.new ≡ workers.old }
-    ensures masses { OnOk result (masses_in patches.new ≡ updated (masses_in patches.old) (flux_at given.entry.problem.now given.entry.level (masses_in patches.old) (old_masses (option_copied given.entry.old)))) }
+    ensures masses { OnOk result (masses_in patches.new
+        ≡ updated (masses_in patches.old)
+        (flux_at given.entry.problem.now given.entry.level (masses_in patches.old) (old_masses (option_copied given.entry.old)))) }
     ensures boxes { map box patches.new ≡ map box patches.old }
     ensures apart { ArePatchesApart patches.new }
     ensures count { OnOk result (length (totals_in kept.new) ≡ 2 + 2 * length given.entry.cells.now) }
     ensures few { OnOk result (length (totals_in kept.new) < 2 ^ 32) }
     ensures small { OnOk result ((word : ℕ) → word < length (totals_in kept.new) → slice_index (totals_in kept.new) word < 2 ^ 63) }
     ensures small_lots { IfSome kept.new IsSmallInLots }
-    ensures totals { OnOk result (HasTotals given.entry.problem.now given.entry.level (masses_in patches.old) (old_masses (option_copied given.entry.old)) (finer_masses (option_copied given.entry.finer)) given.entry.cells.now (totals_in kept.new)) }
-    ensures register { OnOk result (BothChange (taken given.entry.problem.now given.entry.level (masses_in patches.old) (old_masses (option_copied given.entry.old)) (finer_masses (option_copied given.entry.finer))) register.old register.new) }
+    ensures totals { OnOk result (HasTotals given.entry.problem.now given.entry.level (masses_in patches.old) (old_masses (option_copied given.entry.old))
+        (finer_masses (option_copied given.entry.finer)) given.entry.cells.now (totals_in kept.new)) }
+    ensures register { OnOk result (BothChange
+        (taken given.entry.problem.now given.entry.level (masses_in patches.old) (old_masses (option_copied given.entry.old))
+        (finer_masses (option_copied given.entry.finer))) register.old register.new) }
     ensures same_masses { OnErr result (masses_in patches.new ≡ masses_in patches.old) }
     ensures same_register { OnErr result (BothChange (λ c. pos 0) register.old register.new) }
     ensures kept { IfSome kept.new (IsKeptLayout given.entry.problem.now) }
@@ -169,19 +176,32 @@ pub fn advance_kept<R: Threads + Wait + Sync, G: Gate + Sync>(
     requires few_workers { workers.old.count ≤ 64 }
     requires gate { (worker task : ℕ) → worker < workers.old.count → task < length (patches_of level.old) → G.admits workers.old.gate.now worker task }
     requires team { IfSome workers.old.team (IsTeamFor p.now workers.old.gate.now workers.old.count) }
-    requires inflow { regs.old.inflow + inflow_beside p.now l (is_uncovered (level_of level.old).masses (finer_masses (option_copied finer))) (flux_at p.now l (level_of level.old).masses (old_masses (option_copied old))) < 2 ^ 63 }
-    requires outflow { regs.old.outflow + outflow_beside p.now l (is_uncovered (level_of level.old).masses (finer_masses (option_copied finer))) (flux_at p.now l (level_of level.old).masses (old_masses (option_copied old))) < 2 ^ 63 }
+    requires inflow { regs.old.inflow
+        + inflow_beside p.now l (is_uncovered (level_of level.old).masses (finer_masses (option_copied finer)))
+        (flux_at p.now l (level_of level.old).masses (old_masses (option_copied old))) < 2 ^ 63 }
+    requires outflow { regs.old.outflow
+        + outflow_beside p.now l (is_uncovered (level_of level.old).masses (finer_masses (option_copied finer)))
+        (flux_at p.now l (level_of level.old).masses (old_masses (option_copied old))) < 2 ^ 63 }
     requires kept { IfSome kept.old (IsKeptLayout p.now) }
     requires current { IfSome kept.old (IsCurrentLayout (level_of level.old).masses) }
     requires valued { IfSome kept.old (IsValued p.now l (old_masses (option_copied old))) }
     ensures workers { workers.new ≡ workers.old }
-    ensures masses { OnOk result ((level_of level.new).masses ≡ updated (level_of level.old).masses (flux_at p.now l (level_of level.old).masses (old_masses (option_copied old.entry)))) }
+    ensures masses { OnOk result ((level_of level.new).masses
+        ≡ updated (level_of level.old).masses (flux_at p.now l (level_of level.old).masses (old_masses (option_copied old.entry)))) }
     ensures boxes { (level_of level.new).boxes ≡ (level_of level.old).boxes }
     ensures patches { map box (patches_of level.new) ≡ map box (patches_of level.old) }
-    ensures coarser { OnOk result (BothChange (gained p.now l (level_of level.old).masses (flux_at p.now l (level_of level.old).masses (old_masses (option_copied old.entry)))) regs.old.coarser regs.new.coarser) }
-    ensures finer { OnOk result (BothChange (taken p.now l (level_of level.old).masses (old_masses (option_copied old.entry)) (finer_masses (option_copied finer.entry))) regs.old.finer regs.new.finer) }
-    ensures inflow { OnOk result (regs.new.inflow ≡ regs.old.inflow + inflow_beside p.now l (is_uncovered (level_of level.old).masses (finer_masses (option_copied finer.entry))) (flux_at p.now l (level_of level.old).masses (old_masses (option_copied old.entry)))) }
-    ensures outflow { OnOk result (regs.new.outflow ≡ regs.old.outflow + outflow_beside p.now l (is_uncovered (level_of level.old).masses (finer_masses (option_copied finer.entry))) (flux_at p.now l (level_of level.old).masses (old_masses (option_copied old.entry)))) }
+    ensures coarser { OnOk result (BothChange
+        (gained p.now l (level_of level.old).masses
+        (flux_at p.now l (level_of level.old).masses (old_masses (option_copied old.entry)))) regs.old.coarser regs.new.coarser) }
+    ensures finer { OnOk result (BothChange
+        (taken p.now l (level_of level.old).masses (old_masses (option_copied old.entry))
+        (finer_masses (option_copied finer.entry))) regs.old.finer regs.new.finer) }
+    ensures inflow { OnOk result (regs.new.inflow
+        ≡ regs.old.inflow + inflow_beside p.now l (is_uncovered (level_of level.old).masses (finer_masses (option_copied finer.entry)))
+        (flux_at p.now l (level_of level.old).masses (old_masses (option_copied old.entry)))) }
+    ensures outflow { OnOk result (regs.new.outflow
+        ≡ regs.old.outflow + outflow_beside p.now l (is_uncovered (level_of level.old).masses (finer_masses (option_copied finer.entry)))
+        (flux_at p.now l (level_of level.old).masses (old_masses (option_copied old.entry)))) }
     ensures same_masses { OnErr result ((level_of level.new).masses ≡ (level_of level.old).masses) }
     ensures same_coarser { OnErr result (regs.new.coarser ≡ regs.old.coarser) }
     ensures same_finer { OnErr result (BothChange (λ c. pos 0) regs.old.finer regs.new.finer) }
@@ -242,15 +262,28 @@ pub fn advance<R: Threads + Wait + Sync, G: Gate + Sync>(
     requires some_workers { 1 ≤ crew.workers }
     requires few_workers { crew.workers ≤ 64 }
     requires gate { (worker task : ℕ) → worker < crew.workers → task < length (patches_of level.old) → G.admits gate.now worker task }
-    requires inflow { regs.old.inflow + inflow_beside p.now l (is_uncovered (level_of level.old).masses (finer_masses (option_copied finer))) (flux_at p.now l (level_of level.old).masses (old_masses (option_copied old))) < 2 ^ 63 }
-    requires outflow { regs.old.outflow + outflow_beside p.now l (is_uncovered (level_of level.old).masses (finer_masses (option_copied finer))) (flux_at p.now l (level_of level.old).masses (old_masses (option_copied old))) < 2 ^ 63 }
-    ensures masses { OnOk result ((level_of level.new).masses ≡ updated (level_of level.old).masses (flux_at p.now l (level_of level.old).masses (old_masses (option_copied old.entry)))) }
+    requires inflow { regs.old.inflow
+        + inflow_beside p.now l (is_uncovered (level_of level.old).masses (finer_masses (option_copied finer)))
+        (flux_at p.now l (level_of level.old).masses (old_masses (option_copied old))) < 2 ^ 63 }
+    requires outflow { regs.old.outflow
+        + outflow_beside p.now l (is_uncovered (level_of level.old).masses (finer_masses (option_copied finer)))
+        (flux_at p.now l (level_of level.old).masses (old_masses (option_copied old))) < 2 ^ 63 }
+    ensures masses { OnOk result ((level_of level.new).masses
+        ≡ updated (level_of level.old).masses (flux_at p.now l (level_of level.old).masses (old_masses (option_copied old.entry)))) }
     ensures boxes { (level_of level.new).boxes ≡ (level_of level.old).boxes }
     ensures patches { map box (patches_of level.new) ≡ map box (patches_of level.old) }
-    ensures coarser { OnOk result (BothChange (gained p.now l (level_of level.old).masses (flux_at p.now l (level_of level.old).masses (old_masses (option_copied old.entry)))) regs.old.coarser regs.new.coarser) }
-    ensures finer { OnOk result (BothChange (taken p.now l (level_of level.old).masses (old_masses (option_copied old.entry)) (finer_masses (option_copied finer.entry))) regs.old.finer regs.new.finer) }
-    ensures inflow { OnOk result (regs.new.inflow ≡ regs.old.inflow + inflow_beside p.now l (is_uncovered (level_of level.old).masses (finer_masses (option_copied finer.entry))) (flux_at p.now l (level_of level.old).masses (old_masses (option_copied old.entry)))) }
-    ensures outflow { OnOk result (regs.new.outflow ≡ regs.old.outflow + outflow_beside p.now l (is_uncovered (level_of level.old).masses (finer_masses (option_copied finer.entry))) (flux_at p.now l (level_of level.old).masses (old_masses (option_copied old.entry)))) }
+    ensures coarser { OnOk result (BothChange
+        (gained p.now l (level_of level.old).masses
+        (flux_at p.now l (level_of level.old).masses (old_masses (option_copied old.entry)))) regs.old.coarser regs.new.coarser) }
+    ensures finer { OnOk result (BothChange
+        (taken p.now l (level_of level.old).masses (old_masses (option_copied old.entry))
+        (finer_masses (option_copied finer.entry))) regs.old.finer regs.new.finer) }
+    ensures inflow { OnOk result (regs.new.inflow
+        ≡ regs.old.inflow + inflow_beside p.now l (is_uncovered (level_of level.old).masses (finer_masses (option_copied finer.entry)))
+        (flux_at p.now l (level_of level.old).masses (old_masses (option_copied old.entry)))) }
+    ensures outflow { OnOk result (regs.new.outflow
+        ≡ regs.old.outflow + outflow_beside p.now l (is_uncovered (level_of level.old).masses (finer_masses (option_copied finer.entry)))
+        (flux_at p.now l (level_of level.old).masses (old_masses (option_copied old.entry)))) }
     ensures same_masses { OnErr result ((level_of level.new).masses ≡ (level_of level.old).masses) }
     ensures same_coarser { OnErr result (regs.new.coarser ≡ regs.old.coarser) }
     ensures same_finer { OnErr result (BothChange (λ c. pos 0) regs.old.finer regs.new.finer) }

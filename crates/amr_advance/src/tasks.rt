@@ -165,7 +165,8 @@ fn board_tasks(
     requires starts { HasStarts s.patches.now s.starts.now }
     requires inside { AreInDomain (domain s.problem.now s.level) s.patches.now }
     requires cells { HasRegisterCells (around s.problem.now s.level s.patches.now s.cells.now (option_copied s.finer)) }
-    ensures tasks { IfOk result (AreBoardTasks (around s.entry.problem.now s.entry.level s.entry.patches.now s.entry.cells.now (option_copied s.entry.finer))) }
+    ensures tasks { IfOk result (AreBoardTasks
+        (around s.entry.problem.now s.entry.level s.entry.patches.now s.entry.cells.now (option_copied s.entry.finer))) }
     ensures few { OnOk result (2 + 2 * length s.entry.cells.now < 2 ^ 32) }
 {
     let layout = plan(alloc, s)?;

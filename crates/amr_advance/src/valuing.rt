@@ -139,11 +139,13 @@ pub(crate) fn find_outer<R: Wait, G: Gate>(
     requires of_level { All (λ x. IsAtLevel given.problem.now given.level x.value) lots.old.items }
     requires spans { All (λ x. All (IsOuterSpan (domain given.problem.now given.level)) x.value.outer.spans.items) lots.old.items }
     requires places { All (λ x. HasOuterPlaces x.value.outer) lots.old.items }
-    requires valued { valued ≡ true → All (λ x. HasValuesBy given.problem.now given.level (old_masses (option_copied given.old)) x.value.outer) lots.old.items }
+    requires valued { valued ≡ true
+        → All (λ x. HasValuesBy given.problem.now given.level (old_masses (option_copied given.old)) x.value.outer) lots.old.items }
     requires shared { IsSharedOf given.old given.shared }
     requires team { IfSome workers.old.team (IsTeamFor given.problem.now workers.old.gate.now workers.old.count) }
     ensures workers { workers.new ≡ workers.old }
-    ensures found { AllZip (λ a b. HasFound given.entry.problem.now given.entry.level (old_masses (option_copied given.entry.old)) a.value b.value) lots.old.items lots.new.items }
+    ensures found { AllZip (λ a b. HasFound given.entry.problem.now given.entry.level
+        (old_masses (option_copied given.entry.old)) a.value b.value) lots.old.items lots.new.items }
 {
     if valued {
         return;

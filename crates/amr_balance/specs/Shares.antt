@@ -1,6 +1,7 @@
 -- Tasks shared out among workers: each task in turn to the worker with the least to do, the lowest number on a tie
 -- (list scheduling; Graham 1966).
-use Rattle.std.specs.Prelude.{◌≡◌, ℕ, zero, suc, ◌+◌, ◌*◌, ◌-◌, ◌<◌, ◌≤◌, ◌==◌, List, [], ◌∷◌, ◌++◌, length, max, slice_index, slice_index_or, map, sum, if◌then◌else◌}
+use Rattle.std.specs.Prelude.{◌≡◌, ℕ, zero, suc, ◌+◌, ◌*◌, ◌-◌, ◌<◌, ◌≤◌, ◌==◌, List, [], ◌∷◌, ◌++◌, length}
+use Rattle.std.specs.Prelude.{max, slice_index, slice_index_or, map, sum, if◌then◌else◌}
 use Rattle.std.specs.Global.{Vec}
 
 -- which worker has each task

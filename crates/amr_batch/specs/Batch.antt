@@ -35,7 +35,8 @@ pub record BreaksAfter (bytes : List ℕ) (jobs : List (List ℕ)) (place : ℕ)
 -- the bytes are no batch, and this is the place to be told: their greatest length where they are longer, and else where the first
 -- job begins that is not whole and of the form, or is one too many
 abbrev pub IsMalformedAt : List ℕ → ℕ → Type 0
-IsMalformedAt bytes place = ((1048576 < length bytes) × (place ≡ 1048576)) ⊎ ((length bytes ≤ 1048576) × ((jobs : List (List ℕ)) × BreaksAfter bytes jobs place))
+IsMalformedAt bytes place =
+    ((1048576 < length bytes) × (place ≡ 1048576)) ⊎ ((length bytes ≤ 1048576) × ((jobs : List (List ℕ)) × BreaksAfter bytes jobs place))
 
 -- the bytes of a span, and that it lies in the batch
 abbrev pub bytes_in : List ℕ → Span → List ℕ

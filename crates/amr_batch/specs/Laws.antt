@@ -18,5 +18,7 @@ HasOnePlace = (bytes : List ℕ) (place other : ℕ) → IsMalformedAt bytes pla
 
 -- isolation: where a job may have one reply only, it has the same in every batch, whatever jobs stand beside it
 abbrev pub RepliesStandAlone : {V X : Type 0} → (V → List ℕ → X → Type 0) → Type 0
-RepliesStandAlone {V} {X} answers = (s : V) → ((job : List ℕ) (x y : X) → answers s job x → answers s job y → x ≡ y) → (bytes others : List ℕ) (spans more : List Span) (replies beside : List X) (i j : ℕ) (d : X)
-    → AreReplies (answers s) bytes spans replies → AreReplies (answers s) others more beside → i < length replies → j < length beside → job_at bytes spans i ≡ job_at others more j → slice_index_or replies i d ≡ slice_index_or beside j d
+RepliesStandAlone {V} {X} answers = (s : V) → ((job : List ℕ) (x y : X) → answers s job x → answers s job y → x ≡ y)
+    → (bytes others : List ℕ) (spans more : List Span) (replies beside : List X) (i j : ℕ) (d : X)
+    → AreReplies (answers s) bytes spans replies → AreReplies (answers s) others more beside → i < length replies → j < length beside
+    → job_at bytes spans i ≡ job_at others more j → slice_index_or replies i d ≡ slice_index_or beside j d

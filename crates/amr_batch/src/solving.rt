@@ -85,7 +85,8 @@ impl<S: Solve + Sync> Work<'_, S> {
         requires inside { All (IsSpanOf self.now.bytes.now) self.now.spans.now }
         requires numbers { AreTasks (length self.now.spans.now) lot.old.numbers.items }
         ensures numbers { lot.new.numbers ≡ lot.old.numbers }
-        ensures solved { IfOk lot.new.outcome (λ v. AreRepliesTo (S.answers self.now.solve.now) self.now.bytes.now self.now.spans.now lot.new.numbers.items v.items) }
+        ensures solved { IfOk lot.new.outcome
+            (λ v. AreRepliesTo (S.answers self.now.solve.now) self.now.bytes.now self.now.spans.now lot.new.numbers.items v.items) }
     {
         lot.outcome = self.replies(rt, alloc, &lot.numbers);
     }

@@ -1,6 +1,7 @@
 -- A running board is the machine of the phase: at each moment words, slots and views show a state that events lead to,
 -- and each call is one event of its seat. (profile)
-use Rattle.std.specs.Prelude.{ℕ, ◌+◌, ◌==◌, ◌≡◌, ◌<◌, ◌≤◌, true, false, if◌then◌else◌, List, [], ◌∷◌, length, slice_index, slice_index_or, All, Option, None, Some}
+use Rattle.std.specs.Prelude.{ℕ, ◌+◌, ◌==◌, ◌≡◌, ◌<◌, ◌≤◌, true, false, if◌then◌else◌, List, [], ◌∷◌}
+use Rattle.std.specs.Prelude.{length, slice_index, slice_index_or, All, Option, None, Some}
 use mathlib.Core.Option as lookup
 use lib.ListN.{get_elem?}
 use Rattle.amr_phase.specs.declared.machine.Stage.{Stage}
@@ -64,7 +65,8 @@ module _ {P : Type 0} where
     -- a task at or above the counter waits
     pub waiting : (t : ℕ) → c.counter ≤ t → t < length c.stages → stage_of c t ≡ Waiting
     -- where a view has it, it is drawn, held or given as that view notes
-    pub noted : (k : ℕ) (v : View P) → get_elem? s.views k ≡ lookup.some v → (i : ℕ) (e : Progress) → get_elem? v.tasks i ≡ lookup.some e → stage_of c e.task ≡ stage_shown k e
+    pub noted : (k : ℕ) (v : View P) → get_elem? s.views k ≡ lookup.some v → (i : ℕ) (e : Progress) → get_elem? v.tasks i ≡ lookup.some e
+        → stage_of c e.task ≡ stage_shown k e
     -- who drew past the end is past
     pub past : (k : ℕ) (v : View P) → get_elem? s.views k ≡ lookup.some v → v.spent ≡ false → slice_index_or c.past k false ≡ true → v.past ≡ true
     -- a worker that is no seat yet has drawn nothing

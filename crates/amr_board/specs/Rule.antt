@@ -1,5 +1,6 @@
 -- The rule of a board, which holds at each moment, sentence by sentence. (profile)
-use Rattle.std.specs.Prelude.{ℕ, zero, suc, ◌+◌, ◌==◌, ◌≡◌, ◌<◌, ◌≤◌, ◌^◌, ◌⊎◌, min, true, false, if◌then◌else◌, List, [], take, length, slice_index, Contains, Option, Some}
+use Rattle.std.specs.Prelude.{ℕ, zero, suc, ◌+◌, ◌==◌, ◌≡◌, ◌<◌, ◌≤◌, ◌^◌, ◌⊎◌, min, true, false, if◌then◌else◌}
+use Rattle.std.specs.Prelude.{List, [], take, length, slice_index, Contains, Option, Some}
 use mathlib.Core.Option as lookup
 use lib.ListN.{get_elem?}
 use Rattle.atomic_table.specs.Table.{State}
@@ -91,7 +92,8 @@ module _ {P : Type 0} where
 
     -- a put that a view knows was made
     abbrev pub KnownWereMade : Type 0
-    KnownWereMade = (k : ℕ) (v : View P) (p : ℕ) → get_elem? s.views k ≡ lookup.some v → Contains v.known p → (p < plan.places) × (0 < slice_index s.words (1 + p))
+    KnownWereMade =
+        (k : ℕ) (v : View P) (p : ℕ) → get_elem? s.views k ≡ lookup.some v → Contains v.known p → (p < plan.places) × (0 < slice_index s.words (1 + p))
 
     -- a look holds 0 or the planned value of its place plus 1
     abbrev pub LooksArePlanned : Type 0
@@ -110,7 +112,8 @@ module _ {P : Type 0} where
 
     -- a spent view's share is 0 and it has no tasks; any other's is at least 1
     abbrev pub SharesFit : Type 0
-    SharesFit = (k : ℕ) (v : View P) → get_elem? s.views k ≡ lookup.some v → (v.spent ≡ true → (v.share ≡ 0) × (v.tasks ≡ [])) × (v.spent ≡ false → 1 ≤ v.share)
+    SharesFit =
+        (k : ℕ) (v : View P) → get_elem? s.views k ≡ lookup.some v → (v.spent ≡ true → (v.share ≡ 0) × (v.tasks ≡ [])) × (v.spent ≡ false → 1 ≤ v.share)
 
     -- the counter is at most the number of tasks plus the shares of past views, so it can't wrap
     abbrev pub CounterFits : Type 0

@@ -29,16 +29,30 @@ module _ {P : Type 0} where
     Leaves Draw t =
         HoldsNone v
         × (v.past ≡ false)
-        × (t ≡ record { words = slice_set s.words 0 (slice_index s.words 0 + 1); homes = s.homes; views = slice_set s.views seat (after_draw v (slice_index s.words 0)) })
-    Leaves Take t = IsHolding v (current v).task false × (t ≡ record { words = s.words; homes = slice_set s.homes (current v).task lookup.none; views = slice_set s.views seat (taking v) })
+        × (t ≡ record {
+          words = slice_set s.words 0 (slice_index s.words 0 + 1);
+          homes = s.homes;
+          views = slice_set s.views seat (after_draw v (slice_index s.words 0));
+        })
+    Leaves Take t =
+        IsHolding v (current v).task false
+        × (t ≡ record { words = s.words; homes = slice_set s.homes (current v).task lookup.none; views = slice_set s.views seat (taking v) })
     Leaves Put t =
         (place : ℕ) × (amount : ℕ) × IsNextPut v place amount
         × (t ≡ record { words = slice_set s.words (1 + place) (amount + 1); homes = s.homes; views = slice_set s.views seat (put_done v place) })
     Leaves Add t =
         (word : ℕ) × (amount : ℕ) × IsNextAdd v word amount
-        × (t ≡ record { words = slice_set s.words (1 + v.plan.places + word) (slice_index s.words (1 + v.plan.places + word) + amount); homes = s.homes; views = slice_set s.views seat (add_done v) })
+        × (t ≡ record {
+          words = slice_set s.words (1 + v.plan.places + word) (slice_index s.words (1 + v.plan.places + word) + amount);
+          homes = s.homes;
+          views = slice_set s.views seat (add_done v);
+        })
     Leaves (Face place) t =
-        (place < v.plan.places) × (t ≡ record { words = s.words; homes = s.homes; views = slice_set s.views seat (looked v place (slice_index s.words (1 + place))) })
+        (place < v.plan.places) × (t ≡ record {
+          words = s.words;
+          homes = s.homes;
+          views = slice_set s.views seat (looked v place (slice_index s.words (1 + place)));
+        })
     Leaves Give t =
         (piece : P) × MayGive becomes v piece
         × (t ≡ record { words = s.words; homes = slice_set s.homes (current v).task (lookup.some (Some piece)); views = slice_set s.views seat (giving v) })

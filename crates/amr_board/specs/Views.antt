@@ -1,5 +1,6 @@
 -- What a seat knows, and how each call changes it. (profile)
-use Rattle.std.specs.Prelude.{ℕ, ◌+◌, ◌-◌, ◌==◌, ◌≡◌, ◌<◌, ◌^◌, ◌/◌, true, false, Bool, if◌then◌else◌, List, [], ◌∷◌, ◌++◌, drop, length, slice_index_or, slice_set, nat_lt}
+use Rattle.std.specs.Prelude.{ℕ, ◌+◌, ◌-◌, ◌==◌, ◌≡◌, ◌<◌, ◌^◌, ◌/◌, true, false, Bool, if◌then◌else◌, List, []}
+use Rattle.std.specs.Prelude.{◌∷◌, ◌++◌, drop, length, slice_index_or, slice_set, nat_lt}
 use Rattle.amr_phase.specs.Plans.{PlanOf, puts_of, adds_of, no_post}
 use Rattle.amr_board.specs.declared.view.Deed.{Deed}
 use Rattle.amr_board.specs.declared.view.Deed.TheVariants.{Draw, Take, Put, Add, Face, Give}
@@ -105,7 +106,10 @@ module _ {P : Type 0} where
   -- the view notes the look, and the put where the word isn't empty
   abbrev pub looked : View P → ℕ → ℕ → View P
   looked v place found =
-      did (Face place) (record v { look = record { number = v.look.number + 1; place = place; found = found }; known = if found == 0 then v.known else v.known ++ place ∷ [] })
+      did (Face place) (record v {
+        look = record { number = v.look.number + 1; place = place; found = found };
+        known = if found == 0 then v.known else v.known ++ place ∷ [];
+      })
 
   abbrev pub giving : View P → View P
   giving v = did Give (with_current v (record (current v) { given = true }))
@@ -121,7 +125,13 @@ module _ {P : Type 0} where
   -- the first has what both have, and keeps its own look and its own deeds
   abbrev pub joined : View P → View P → View P
   joined v w =
-      record v { tasks = v.tasks ++ w.tasks; past = if v.past then true else w.past; share = v.share + w.share; known = v.known ++ w.known; made = v.made + w.made }
+      record v {
+        tasks = v.tasks ++ w.tasks;
+        past = if v.past then true else w.past;
+        share = v.share + w.share;
+        known = v.known ++ w.known;
+        made = v.made + w.made;
+      }
 
   abbrev pub spent_view : View P
   spent_view = record { spent = true; plan = no_plan; pieces = []; tasks = []; past = false; share = 0; known = []; look = no_look; deeds = []; made = 0 }

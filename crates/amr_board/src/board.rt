@@ -4,7 +4,8 @@ ghost use Rattle.std.specs.Prelude.{◌≡◌, ℕ, ◌+◌, ◌<◌, ◌≤◌,
 ghost use Rattle.amr_phase.specs.Plans.{IsPlan, puts_of, adds_of, planned_total, planned_face};
 ghost use Rattle.amr_phase.specs.Machine.{word_of};
 ghost use Rattle.amr_board.specs.Piece.{plan_of, AreNumbered};
-ghost use Rattle.amr_board.specs.Views.{first_view, current, IsHolding, HoldsNone, IsNextPut, IsNextAdd, drawn, gone, taking, put_done, add_done, looked, giving, keeps_half, other_half, joined};
+ghost use Rattle.amr_board.specs.Views.{first_view, current, IsHolding, HoldsNone, IsNextPut, IsNextAdd, drawn, gone, taking};
+ghost use Rattle.amr_board.specs.Views.{put_done, add_done, looked, giving, keeps_half, other_half, joined};
 ghost use Rattle.amr_board.specs.Ended.{total_of, face_of};
 ghost use mathlib.Core.Option.{some};
 ghost use lib.ListN.{get_elem?};
@@ -53,9 +54,16 @@ impl<P: Piece> Model for Board<P> {
 
     ghost Value = { BoardOf P };
 
-    ghost view = { λ b. record { id = b.table.shared.table_id; plan = plan_of P.puts P.adds b.table.shared.key.shape.places b.table.shared.key.shape.words b.table.shared.key.pieces.value.items; pieces = b.table.shared.key.pieces.value.items } };
+    ghost view = { λ b. record {
+      id = b.table.shared.table_id;
+      plan = plan_of P.puts P.adds b.table.shared.key.shape.places b.table.shared.key.shape.words b.table.shared.key.pieces.value.items;
+      pieces = b.table.shared.key.pieces.value.items;
+    } };
 
-    ghost invariant = { λ b. (b.table.shared.key.shape ≡ b.shape) × (b.table.shared.table_id.words ≡ 1 + b.shape.places + b.shape.words) × (b.table.shared.table_id.slots ≡ b.tasks) × (b.tasks ≡ length b.table.shared.key.pieces.value.items) × IsPlan (plan_of P.puts P.adds b.table.shared.key.shape.places b.table.shared.key.shape.words b.table.shared.key.pieces.value.items) × AreNumbered P.task b.table.shared.key.pieces.value.items };
+    ghost invariant = { λ b. (b.table.shared.key.shape ≡ b.shape) × (b.table.shared.table_id.words ≡ 1 + b.shape.places + b.shape.words)
+        × (b.table.shared.table_id.slots ≡ b.tasks) × (b.tasks ≡ length b.table.shared.key.pieces.value.items)
+        × IsPlan (plan_of P.puts P.adds b.table.shared.key.shape.places b.table.shared.key.shape.words b.table.shared.key.pieces.value.items)
+        × AreNumbered P.task b.table.shared.key.pieces.value.items };
 }
 
 impl<P: Piece> Board<P> {
@@ -113,7 +121,8 @@ impl<P: Piece> Board<P> {
         requires none { HoldsNone (view seat.old) }
         requires here { (view seat.old).past ≡ false }
         ensures seat { IsSeatOf self.now seat.new }
-        ensures drew { MatchOption result (view seat.new ≡ gone (view seat.old)) (λ t. (t < length self.now.plan.tasks) × (view seat.new ≡ drawn (view seat.old) t)) }
+        ensures drew { MatchOption result (view seat.new ≡ gone (view seat.old))
+            (λ t. (t < length self.now.plan.tasks) × (view seat.new ≡ drawn (view seat.old) t)) }
         ensures few { length (view seat.new).tasks ≤ length self.now.plan.tasks }
         ensures event { IsEvent Draw seat.old seat.new }
     {

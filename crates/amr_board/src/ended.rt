@@ -23,7 +23,12 @@ impl<P> Model for Ended<P> {
 
     ghost Value = { EndedOf P };
 
-    ghost view = { λ e. record { places = e.shape.places; registers = e.shape.words; words = slots_items e.closed.words; pieces = slots_items e.closed.slots } };
+    ghost view = { λ e. record {
+      places = e.shape.places;
+      registers = e.shape.words;
+      words = slots_items e.closed.words;
+      pieces = slots_items e.closed.slots;
+    } };
 
     ghost invariant = { λ e. (slots_len e.closed.words ≡ 1 + e.shape.places + e.shape.words) × IsFull e.closed.words × IsFull e.closed.slots };
 }

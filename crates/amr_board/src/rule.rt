@@ -24,7 +24,8 @@ pub struct Kept<P> {
 }
 
 impl<P: Piece> TableRule<Option<P>, View<P>, About<P>> for Kept<P> {
-    ghost holds = { λ about s. Rule (plan_of P.puts P.adds about.shape.places about.shape.words about.pieces.value.items) about.pieces.value.items P.becomes s };
+    ghost holds = { λ about s. Rule
+        (plan_of P.puts P.adds about.shape.places about.shape.words about.pieces.value.items) about.pieces.value.items P.becomes s };
 
     ghost first = { λ about. first_view (plan_of P.puts P.adds about.shape.places about.shape.words about.pieces.value.items) about.pieces.value.items };
 }

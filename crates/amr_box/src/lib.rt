@@ -2,8 +2,10 @@
 //! Each call on boxes is told twice, by its corners and by its set of cells.
 #![tactic(auto)]
 
-ghost use Rattle.std.specs.Prelude.{◌≡◌, ◌&&◌, ◌⊎◌, ℕ, ◌*◌, ◌<◌, ◌≤◌, ◌^◌, ◌↔◌, pos, negsuc, ◌+ℤ◌, ◌-ℤ◌, ◌≤ℤ◌, ◌<ℤ◌, int_le, int_lt, length, IsTrue, IfSome, IsSome, IsNone};
-ghost use Rattle.amr_box.specs.Cells.{AreDisjoint, HasCorners, HoldsNear, IsBoxOf, IsNear, IsProper, along, below_cut, cell, cells_of, common, extent, from_cut, half, has_child_where, height, holds, parent, width, within};
+ghost use Rattle.std.specs.Prelude.{◌≡◌, ◌&&◌, ◌⊎◌, ℕ, ◌*◌, ◌<◌, ◌≤◌, ◌^◌, ◌↔◌, pos, negsuc, ◌+ℤ◌, ◌-ℤ◌, ◌≤ℤ◌};
+ghost use Rattle.std.specs.Prelude.{◌<ℤ◌, int_le, int_lt, length, IsTrue, IfSome, IsSome, IsNone};
+ghost use Rattle.amr_box.specs.Cells.{AreDisjoint, HasCorners, HoldsNear, IsBoxOf, IsNear, IsProper, along, below_cut, cell, cells_of};
+ghost use Rattle.amr_box.specs.Cells.{common, extent, from_cut, half, has_child_where, height, holds, parent, width, within};
 ghost use Rattle.amr_box.specs.declared.Cell.{Cell};
 
 use std::marker::Model;
@@ -136,7 +138,8 @@ impl Bx {
     /// The children of the cells (BoxLib's `refine` by 2). Coordinates lie between -2^24 and 2^24.
     pub fn refine2(&self) -> Bx
         requires { IsNear self.now }
-        ensures corners { HasCorners result (self.now.lo.x +ℤ self.now.lo.x) (self.now.lo.y +ℤ self.now.lo.y) (self.now.hi.x +ℤ self.now.hi.x +ℤ pos 1) (self.now.hi.y +ℤ self.now.hi.y +ℤ pos 1) }
+        ensures corners { HasCorners result (self.now.lo.x +ℤ self.now.lo.x) (self.now.lo.y +ℤ self.now.lo.y) (self.now.hi.x +ℤ self.now.hi.x +ℤ pos 1)
+            (self.now.hi.y +ℤ self.now.hi.y +ℤ pos 1) }
         ensures cells { IsBoxOf result (λ c. holds self.now (parent c)) }
     {
         let lo = self.lo();

@@ -75,7 +75,8 @@ pub record SameUntil (until : ℕ) (was leaves : ℕ → List ℕ → Type 0) : 
 
 -- A disk that reads as what was found or made last. Until now a stop left what the times say; up to the first it left what it left of the disk
 -- that was found.
-pub record StandsAt {D : Type 0} (seen : D → Option (List ℕ)) (moment : D → ℕ) (leaves : D → ℕ → List ℕ → Type 0) (found_disk disk : D) (found : Time) (all : List Content) (times : List Time) : Type 0 where
+pub record StandsAt {D : Type 0} (seen : D → Option (List ℕ)) (moment : D → ℕ) (leaves : D → ℕ → List ℕ → Type 0) (found_disk disk : D) (found : Time)
+    (all : List Content) (times : List Time) : Type 0 where
   pub image : List ℕ
   pub told : seen disk ≡ Some image
   pub held : Holds image (last_of found times)
@@ -83,7 +84,8 @@ pub record StandsAt {D : Type 0} (seen : D → Option (List ℕ)) (moment : D �
   pub past : SameUntil found.moment (leaves found_disk) (leaves disk)
 
 -- At the end it reads so, but where the disk failed: there a stop may leave what a call was about to make.
-abbrev pub EndsAt : {D : Type 0} → (D → Option (List ℕ)) → (D → ℕ) → (D → ℕ → List ℕ → Type 0) → D → Option KeepFault → D → Time → List Content → List Time → Type 0
+abbrev pub EndsAt : {D : Type 0} → (D → Option (List ℕ)) → (D → ℕ) → (D → ℕ → List ℕ → Type 0) → D → Option KeepFault → D → Time → List Content → List Time
+    → Type 0
 EndsAt seen moment leaves found_disk None disk found all times = StandsAt seen moment leaves found_disk disk found all times
 EndsAt seen moment leaves found_disk (Some fault.NoMemory) disk found all times = StandsAt seen moment leaves found_disk disk found all times
 EndsAt seen moment leaves found_disk (Some fault.WriteFault) disk found all times = StandsAt seen moment leaves found_disk disk found all times
@@ -93,7 +95,8 @@ EndsAt seen moment leaves found_disk (Some fault.DiskFault) disk found all times
 -- Calls that keep some states in their order, from one disk and one stream of errors to another. Of those whose steps are marks all stand
 -- at the end, or the first ones, and are acknowledged. Each that stands adds one time to those of before. But where the disk failed each was
 -- put whole and nothing else was written, and a stop leaves what a read gives, if it did before.
-pub record Keeps {D E : Type 0} (seen : D → Option (List ℕ)) (moment : D → ℕ) (leaves : D → ℕ → List ℕ → Type 0) (disk_faults : D → ℕ) (holds : E → List ℕ → Type 0) (err_faults : E → ℕ)
+pub record Keeps {D E : Type 0} (seen : D → Option (List ℕ)) (moment : D → ℕ) (leaves : D → ℕ → List ℕ → Type 0) (disk_faults : D → ℕ)
+    (holds : E → List ℕ → Type 0) (err_faults : E → ℕ)
     (bytes : List ℕ) (p : Problem) (every target : ℕ) (disk later_disk : D) (err later_err : E) (states : List State) (ended : Option KeepFault) : Type 0 where
   pub stood : List State
   pub said : List ℕ
@@ -127,7 +130,8 @@ IsBegunBy (Some fault.WriteFault) attempt = attempt ≡ None
 
 -- What became of a disk since a time at which it read as the image, where calls were to make all that of it and said this: a stop leaves what was
 -- found then or made last, or what is made next. But where the disk failed it reads as it did then, with what was made and nothing else.
-pub record History (seen : Option (List ℕ)) (leaves : ℕ → List ℕ → Type 0) (found : Time) (now : ℕ) (image : List ℕ) (all : List Content) (said : List ℕ) (ended : Option KeepFault) : Type 0 where
+pub record History (seen : Option (List ℕ)) (leaves : ℕ → List ℕ → Type 0) (found : Time) (now : ℕ) (image : List ℕ) (all : List Content) (said : List ℕ)
+    (ended : Option KeepFault) : Type 0 where
   pub times : List Time
   pub attempt : Option Content
   pub leave : StopsLeave leaves found now all times attempt
@@ -136,7 +140,8 @@ pub record History (seen : Option (List ℕ)) (leaves : ℕ → List ℕ → Typ
   pub made : ended ≢ Some fault.DiskFault → ReadsWith seen image (contents_of times)
 
 -- The calls of a run from what was found on a disk to the step that it goes to, or to a fault.
-pub record KeepsRun {D E : Type 0} (seen : D → Option (List ℕ)) (moment : D → ℕ) (leaves : D → ℕ → List ℕ → Type 0) (disk_faults : D → ℕ) (holds : E → List ℕ → Type 0) (err_faults : E → ℕ)
+pub record KeepsRun {D E : Type 0} (seen : D → Option (List ℕ)) (moment : D → ℕ) (leaves : D → ℕ → List ℕ → Type 0) (disk_faults : D → ℕ)
+    (holds : E → List ℕ → Type 0) (err_faults : E → ℕ)
     (bytes : List ℕ) (p : Problem) (every target : ℕ) (found : Content) (disk later_disk : D) (err later_err : E) (ended : Option KeepFault) : Type 0 where
   pub said : List ℕ
   pub grows : Grows holds err later_err said
@@ -145,5 +150,7 @@ pub record KeepsRun {D E : Type 0} (seen : D → Option (List ℕ)) (moment : D 
   pub fails : FailsBy ended (disk_faults disk) (disk_faults later_disk)
   pub settled : ended ≢ Some fault.DiskFault → Only (seen disk) (leaves disk (moment disk)) → Only (seen later_disk) (leaves later_disk (moment later_disk))
   pub history : (image : List ℕ) → seen disk ≡ Some image → Holds image found → Only (seen disk) (leaves disk (moment disk))
-      → History (seen later_disk) (leaves later_disk) (record { moment = moment disk; content = found }) (moment later_disk) image (to_make bytes p every found target) said ended
-  pub past : (image : List ℕ) → seen disk ≡ Some image → Holds image found → Only (seen disk) (leaves disk (moment disk)) → SameUntil (moment disk) (leaves disk) (leaves later_disk)
+      → History (seen later_disk) (leaves later_disk) (record { moment = moment disk; content = found }) (moment later_disk) image
+      (to_make bytes p every found target) said ended
+  pub past : (image : List ℕ) → seen disk ≡ Some image → Holds image found → Only (seen disk) (leaves disk (moment disk))
+      → SameUntil (moment disk) (leaves disk) (leaves later_disk)

@@ -30,7 +30,8 @@ IsJudged bytes = ((fault : ProblemFault) × (fault_of bytes ≡ Some fault)) ⊎
 
 -- and one at least, where the bytes of its problem are judged
 abbrev pub HoldsSome : Type 0
-HoldsSome = (image : List ℕ) → ((held : store.State) → store.stored image ≡ store.Held held → IsJudged held.problem) → (content : Content) × Holds image content
+HoldsSome =
+    (image : List ℕ) → ((held : store.State) → store.stored image ≡ store.Held held → IsJudged held.problem) → (content : Content) × Holds image content
 
 -- a state that is stored is a sound one of its problem, and its sequence its step and one
 pub record IsSoundAt (bytes : List ℕ) (p : Problem) (s : State) (sequence : ℕ) : Type 0 where
@@ -39,7 +40,9 @@ pub record IsSoundAt (bytes : List ℕ) (p : Problem) (s : State) (sequence : �
   pub sequence_is : sequence ≡ s.step + 1
 
 abbrev pub HoldsSound : Type 0
-HoldsSound = (image bytes : List ℕ) (p : Problem) (s : State) (sequence : ℕ) → All (λ b. b < 256) image → Holds image (At bytes p s sequence) → IsSoundAt bytes p s sequence
+HoldsSound =
+    (image bytes : List ℕ) (p : Problem) (s : State) (sequence : ℕ) → All (λ b. b < 256) image → Holds image (At bytes p s sequence)
+    → IsSoundAt bytes p s sequence
 
 -- ---- what is made
 
@@ -56,7 +59,9 @@ pub record IsStoreOf (held : store.State) (bytes : List ℕ) (p : Problem) : Typ
 
 -- the payload of a sound state, put with the sequence of its step and one
 abbrev pub PutHolds : Type 0
-PutHolds = (before image bytes : List ℕ) (p : Problem) (held : store.State) (s : State) → store.stored before ≡ store.Held held → IsStoreOf held bytes p → IsSound p s
+PutHolds =
+    (before image bytes : List ℕ) (p : Problem) (held : store.State) (s : State) → store.stored before ≡ store.Held held → IsStoreOf held bytes p
+    → IsSound p s
     → store.stored image ≡ store.with_latest (store.stored before) (s.step + 1) (payload (mass_width held.version) s) → Holds image (At bytes p s (s.step + 1))
 
 -- and the renewal of a store of version 1 with it
@@ -68,7 +73,8 @@ RenewalHolds = (image bytes : List ℕ) (p : Problem) (s : State) → IsProblemO
 
 -- what is stored lets a run go on or refuses it, and not both
 abbrev pub GoesOnOrRefuses : Type 0
-GoesOnOrRefuses = (bytes : List ℕ) (target : ℕ) (content : Content) → GoesOn bytes target content ⊎ ((refusal : Refusal) × RefusesRun bytes target content refusal)
+GoesOnOrRefuses =
+    (bytes : List ℕ) (target : ℕ) (content : Content) → GoesOn bytes target content ⊎ ((refusal : Refusal) × RefusesRun bytes target content refusal)
 
 abbrev pub NotBoth : Type 0
 NotBoth = (bytes : List ℕ) (target : ℕ) (content : Content) (refusal : Refusal) → GoesOn bytes target content → RefusesRun bytes target content refusal → ⊥
@@ -98,7 +104,9 @@ AreRising content (next ∷ rest) = (rank content < rank next) × AreRising next
 
 -- what a run makes of a store goes further each time
 abbrev pub CheckpointsRise : Type 0
-CheckpointsRise = (bytes : List ℕ) (p : Problem) (every target : ℕ) (found : Content) → GoesOn bytes target found → IsInSequence found → AreRising found (to_make bytes p every found target)
+CheckpointsRise =
+    (bytes : List ℕ) (p : Problem) (every target : ℕ) (found : Content) → GoesOn bytes target found → IsInSequence found
+    → AreRising found (to_make bytes p every found target)
 
 -- all that is made is acknowledged by one line for each mark, in order
 abbrev pub AcknowledgesMarks : Type 0
@@ -112,7 +120,9 @@ pub record RunsOn (bytes : List ℕ) (p : Problem) (target : ℕ) (content : Con
 
 -- where what was found is so, all that is made of it is
 abbrev pub CheckpointsRunOn : Type 0
-CheckpointsRunOn = (bytes : List ℕ) (p : Problem) (every target : ℕ) (found : Content) → RunsOn bytes p target found → All (RunsOn bytes p target) (to_make bytes p every found target)
+CheckpointsRunOn =
+    (bytes : List ℕ) (p : Problem) (every target : ℕ) (found : Content) → RunsOn bytes p target found
+    → All (RunsOn bytes p target) (to_make bytes p every found target)
 
 -- and from it the run goes on as if it had never stopped: to the same state, with the same plot
 abbrev pub SameRun : Type 0

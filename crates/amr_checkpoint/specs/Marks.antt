@@ -43,7 +43,8 @@ to_make bytes p every found target = store_to_make bytes p found ++ map (content
 -- as far as it is made before a step
 abbrev pub made_before : List ℕ → Problem → ℕ → Content → ℕ → ℕ → List Content
 made_before bytes p every found target step =
-    store_to_make bytes p found ++ map (content_at bytes p found) (filter (is_mark every target) (range_with_len (first_unstored found) (step - first_unstored found)))
+    store_to_make bytes p found ++ map (content_at bytes p found)
+    (filter (is_mark every target) (range_with_len (first_unstored found) (step - first_unstored found)))
 
 -- ---- what is written
 

@@ -68,7 +68,8 @@ part_text part.Renewal = codes "renewal"
 
 abbrev pub refusal_text : Refusal → List ℕ
 refusal_text (refused.Damaged damage) = codes "store damaged: " ++ part_text damage
-refusal_text (refused.WrongProblem kept given place) = spaced (codes "store holds another problem:" ∷ decimal kept ∷ decimal given ∷ codes "at" ∷ decimal place ∷ [])
+refusal_text (refused.WrongProblem kept given place) =
+    spaced (codes "store holds another problem:" ∷ decimal kept ∷ decimal given ∷ codes "at" ∷ decimal place ∷ [])
 refusal_text (refused.Ahead stored target) = spaced (codes "store is ahead:" ∷ decimal stored ∷ decimal target ∷ [])
 refusal_text refused.Empty = codes "store is empty"
 

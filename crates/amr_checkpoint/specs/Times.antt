@@ -42,6 +42,7 @@ pub record IsFrontOf (all made : List Content) (attempt : Option Content) : Type
 
 -- A run that found this at a time, and was to make all that of it. At each moment from then until now a stop leaves what was found or made
 -- last, or what is made next.
-pub record StopsLeave (leaves : ℕ → List ℕ → Type 0) (found : Time) (now : ℕ) (all : List Content) (times : List Time) (attempt : Option Content) : Type 0 where
+pub record StopsLeave (leaves : ℕ → List ℕ → Type 0) (found : Time) (now : ℕ) (all : List Content) (times : List Time)
+    (attempt : Option Content) : Type 0 where
   pub front : IsFrontOf all (contents_of times) attempt
   pub along : StopsAlong leaves found times now attempt

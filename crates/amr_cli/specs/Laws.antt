@@ -8,7 +8,8 @@ use Rattle.amr_cli.specs.Words.{command_of, may_be_command}
 
 -- the texts that `clap` takes for a number from low to high are those that this program reads as one
 abbrev pub NumbersAreReadAlike : Type 0
-NumbersAreReadAlike = (low high : ℕ) (text : List ℕ) → Accepts Bool.false (parser.Unsigned low high) text ↔ IsSome (option_and_then (in_range low high) (number_of text))
+NumbersAreReadAlike =
+    (low high : ℕ) (text : List ℕ) → Accepts Bool.false (parser.Unsigned low high) text ↔ IsSome (option_and_then (in_range low high) (number_of text))
 
 -- words are no command only where the first names none, a word asks for help or for the version, or `clap` finds a fault in them
 abbrev pub UsageHasNoOtherCause : Type 0

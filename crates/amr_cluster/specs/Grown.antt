@@ -16,8 +16,12 @@ pub record IsOverDomain (d : Domain) (t : TagSet) : Type 0 where
 
 -- the cells of the set that a growth by n cells leaves are those of the domain at most n away from a tagged cell
 abbrev pub TagsGrowInDomain : Type 0
-TagsGrowInDomain = (d : Domain) (t : TagSet) → IsOverDomain d t → (tagged : Cell → Bool) → ((c : Cell) → has t c ≡ tagged c) → (n : ℕ) (c : Cell) → (holds t.bx c && is_near_tag t n c) ≡ (in_domain d c && is_near d n tagged c)
+TagsGrowInDomain =
+    (d : Domain) (t : TagSet) → IsOverDomain d t → (tagged : Cell → Bool) → ((c : Cell) → has t c ≡ tagged c) → (n : ℕ) (c : Cell)
+    → (holds t.bx c && is_near_tag t n c) ≡ (in_domain d c && is_near d n tagged c)
 
 -- and so, over the domain of a level, the grown tags of the level where it grows by the problem's buffer
 abbrev pub TagsGrowOnLevel : Type 0
-TagsGrowOnLevel = (p : Problem) (l : ℕ) (t : TagSet) → IsOverDomain (domain p l) t → (tagged : Cell → Bool) → ((c : Cell) → has t c ≡ tagged c) → (c : Cell) → (holds t.bx c && is_near_tag t p.n_error_buf c) ≡ (in_domain (domain p l) c && is_grown p l tagged c)
+TagsGrowOnLevel =
+    (p : Problem) (l : ℕ) (t : TagSet) → IsOverDomain (domain p l) t → (tagged : Cell → Bool) → ((c : Cell) → has t c ≡ tagged c) → (c : Cell)
+    → (holds t.bx c && is_near_tag t p.n_error_buf c) ≡ (in_domain (domain p l) c && is_grown p l tagged c)

@@ -35,4 +35,6 @@ abbrev pub ClustersAreSound : Type 0
 ClustersAreSound = (efficiency w : ℕ) (cells : List Cell) → 1 ≤ w → IsClustering efficiency w cells (cluster efficiency w cells)
 
 abbrev pub ClusterIsRecursive : Type 0
-ClusterIsRecursive = (efficiency w : ℕ) (c : Cell) (cs : List Cell) → 1 ≤ w → cluster efficiency w (c ∷ cs) ≡ parts (cluster efficiency w) (c ∷ cs) (bounding c cs) (cut_of efficiency w (c ∷ cs) (bounding c cs))
+ClusterIsRecursive =
+    (efficiency w : ℕ) (c : Cell) (cs : List Cell) → 1 ≤ w
+    → cluster efficiency w (c ∷ cs) ≡ parts (cluster efficiency w) (c ∷ cs) (bounding c cs) (cut_of efficiency w (c ∷ cs) (bounding c cs))

@@ -39,7 +39,8 @@ waiting efficiency w has (p ∷ work) = waiting efficiency w has work ++ cluster
 -- each is the least box round its cells, lies in the box of the set, and is cut as the definition has it
 abbrev pub IsWork : ℕ → ℕ → (Cell → Bool) → Extent → List CutBox → Type 0
 IsWork efficiency w has larger [] = Unit {0}
-IsWork efficiency w has larger (p ∷ work) = IsRound p.bx (cells_in has p.bx) × IsPart larger p.bx × IsCutAs efficiency w has p × IsWork efficiency w has larger work
+IsWork efficiency w has larger (p ∷ work) =
+    IsRound p.bx (cells_in has p.bx) × IsPart larger p.bx × IsCutAs efficiency w has p × IsWork efficiency w has larger work
 
 -- a bound on how many boxes there are still to look at: each ends with one cell at least
 abbrev pub work_left : (Cell → Bool) → List CutBox → ℕ

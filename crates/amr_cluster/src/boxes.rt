@@ -82,7 +82,8 @@ fn push_parts(
         ++ waiting efficiency w (has tags.now) work.old.items) }
     ensures work { OnOk result (IsWork efficiency w (has tags.now) tags.now.bx work.new.items) }
     ensures left { OnOk result (work_left (has tags.now) work.new.items
-        ≤ (work_left (has tags.now) work.old.items + (2 * length (cells_in (has tags.now) (from_cut split.cut.axis (edge split.bx (defined_cut split.cut)) split.bx)) - 1))
+        ≤ (work_left (has tags.now) work.old.items
+        + (2 * length (cells_in (has tags.now) (from_cut split.cut.axis (edge split.bx (defined_cut split.cut)) split.bx)) - 1))
         + (2 * length (cells_in (has tags.now) (below_cut split.cut.axis (edge split.bx (defined_cut split.cut)) split.bx)) - 1)) }
 {
     let Split { bx, cut } = split;

@@ -25,7 +25,8 @@ fn put_row(
     requires near { IsNear b.now }
     requires row { (b.now.lo.y +ℤ pos row) ≤ℤ b.now.hi.y }
     requires cells { HasCellsOf level.now b.now }
-    ensures { OnOk result (out.new.items ≡ out.old.items ++ flat_map (λ i. number_bytes (width_of mass_width) (mass_in level.now b.now row i)) (range_with_len 0 (width b.now))) }
+    ensures { OnOk result (out.new.items
+        ≡ out.old.items ++ flat_map (λ i. number_bytes (width_of mass_width) (mass_in level.now b.now row i)) (range_with_len 0 (width b.now))) }
 {
     let columns = b.width();
     let mut first = 0;
@@ -46,7 +47,8 @@ pub(crate) fn put_rows(
 ) -> Result<(), NoMemory>
     requires near { IsNear b.now }
     requires cells { HasCellsOf level.now b.now }
-    ensures { OnOk result (out.new.items ≡ out.old.items ++ flat_map (λ c. number_bytes (width_of mass_width) (mass_of (level_of level.now).masses c)) (cells_of b.now)) }
+    ensures { OnOk result (out.new.items
+        ≡ out.old.items ++ flat_map (λ c. number_bytes (width_of mass_width) (mass_of (level_of level.now).masses c)) (cells_of b.now)) }
 {
     for row in 0..b.height() {
         put_row(mass_width, level, b, row, out)?;

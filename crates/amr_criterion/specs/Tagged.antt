@@ -19,7 +19,8 @@ is_tagged_in threshold d q c =
 
 -- no two values of a patch and its frame differ by the threshold or more
 abbrev pub IsFlat : ℕ → Patch → Type 0
-IsFlat threshold q = (c d : Cell) → IsTrue (holds (grown (box q)) c) → IsTrue (holds (grown (box q)) d) → differs_by threshold (value_in q c) (value_in q d) ≡ false
+IsFlat threshold q =
+    (c d : Cell) → IsTrue (holds (grown (box q)) c) → IsTrue (holds (grown (box q)) d) → differs_by threshold (value_in q c) (value_in q d) ≡ false
 
 -- ---- which pairs a patch compares
 

@@ -96,7 +96,8 @@ fn tag_span(tags: &mut Tags, pairs: &PairRow, start: usize, end: usize)
     requires some { start < end }
     requires small { end ≤ 67108864 }
     requires room { IsBelow 536870912 pairs.now.from }
-    ensures { IsJoined (λ c. holds pairs.now.part c && holds (with_after pairs.now.axis (region (ahead pairs.now.from start) (end - start) 1)) c) tags.old tags.new }
+    ensures { IsJoined (λ c. holds pairs.now.part c
+        && holds (with_after pairs.now.axis (region (ahead pairs.now.from start) (end - start) 1)) c) tags.old tags.new }
 {
     let low = Cell {
         x: pairs.from.x + start as i32,
@@ -122,7 +123,9 @@ fn tag_next(tags: &mut Tags, pairs: &PairRow, first: &[u32], second: &[u32], don
     requires room { IsBelow 536870912 pairs.now.from }
     ensures order { done < result }
     ensures within { result ≤ length first.now }
-    ensures joined { (value : Cell → ℕ) → AreAlong value pairs.now.axis pairs.now.from first.now second.now → IsJoined (λ c. holds pairs.now.part c && in_steep_pair pairs.now.threshold value pairs.now.axis (region (ahead pairs.now.from done) (result - done) 1) c) tags.old tags.new }
+    ensures joined { (value : Cell → ℕ) → AreAlong value pairs.now.axis pairs.now.from first.now second.now
+        → IsJoined (λ c. holds pairs.now.part c
+        && in_steep_pair pairs.now.threshold value pairs.now.axis (region (ahead pairs.now.from done) (result - done) 1) c) tags.old tags.new }
 {
     let start = next_steep(pairs.threshold, first, second, done);
     if start == first.len() {
@@ -139,7 +142,9 @@ pub(crate) fn tag_pairs(tags: &mut Tags, pairs: &PairRow, first: &[u32], second:
     requires same { length second.now ≡ length first.now }
     requires small { length first.now ≤ 67108864 }
     requires room { IsBelow 536870912 pairs.now.from }
-    ensures { (value : Cell → ℕ) → AreAlong value pairs.now.axis pairs.now.from first.now second.now → IsJoined (λ c. holds pairs.now.part c && in_steep_pair pairs.now.threshold value pairs.now.axis (region pairs.now.from (length first.now) 1) c) tags.old tags.new }
+    ensures { (value : Cell → ℕ) → AreAlong value pairs.now.axis pairs.now.from first.now second.now
+        → IsJoined (λ c. holds pairs.now.part c
+        && in_steep_pair pairs.now.threshold value pairs.now.axis (region pairs.now.from (length first.now) 1) c) tags.old tags.new }
 {
     let mut done = count_even(pairs.threshold, first, second);
     while done < first.len() {

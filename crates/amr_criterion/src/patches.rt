@@ -55,7 +55,8 @@ fn tag_row(tags: &mut Tags, patch: &Patch, threshold: u64, firsts: &Firsts, k: u
     requires reached { AreReached (box patch.now) firsts.now }
     requires few { firsts.now.rows ≤ 67108864 }
     requires inside { k < firsts.now.rows }
-    ensures { IsJoined (λ c. holds (box patch.now) c && in_steep_pair threshold (value_in patch.now) firsts.now.axis (row_firsts firsts.now k) c) tags.old tags.new }
+    ensures { IsJoined (λ c. holds (box patch.now) c
+        && in_steep_pair threshold (value_in patch.now) firsts.now.axis (row_firsts firsts.now k) c) tags.old tags.new }
 {
     let bx = patch.bx();
     let from = Cell {
@@ -77,7 +78,8 @@ fn tag_row(tags: &mut Tags, patch: &Patch, threshold: u64, firsts: &Firsts, k: u
 fn tag_rows(tags: &mut Tags, patch: &Patch, threshold: u64, firsts: &Firsts)
     requires reached { AreReached (box patch.now) firsts.now }
     requires few { firsts.now.rows ≤ 67108864 }
-    ensures { IsJoined (λ c. holds (box patch.now) c && in_steep_pair threshold (value_in patch.now) firsts.now.axis (all_firsts firsts.now) c) tags.old tags.new }
+    ensures { IsJoined (λ c. holds (box patch.now) c
+        && in_steep_pair threshold (value_in patch.now) firsts.now.axis (all_firsts firsts.now) c) tags.old tags.new }
 {
     for k in 0..firsts.rows {
         tag_row(tags, patch, threshold, firsts, k);

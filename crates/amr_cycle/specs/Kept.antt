@@ -51,7 +51,9 @@ pub record IsKeptFor (p : Problem) (k : Kept) : Type 0 where
 
 -- what levels keep of their masses, where they keep any, is of these levels
 abbrev pub AreCurrent : List Level → List KeptLevel → Type 0
-AreCurrent levels ks = (k : ℕ) (level : Level) (d : KeptLevel) → k < length levels → k < length ks → IfSome (slice_index_or ks k d).layout (IsCurrentLayout (slice_index_or levels k level).masses)
+AreCurrent levels ks =
+    (k : ℕ) (level : Level) (d : KeptLevel) → k < length levels → k < length ks
+    → IfSome (slice_index_or ks k d).layout (IsCurrentLayout (slice_index_or levels k level).masses)
 
 -- what a run keeps of masses is of these levels
 abbrev pub IsCurrent : List Level → Kept → Type 0

@@ -38,8 +38,10 @@ pub(crate) fn correct<R: Wait, G: Gate>(
     requires placed { IfSome register.old IsPlaced }
     requires edges { IfSome register.old (HasEdgesOf (map box (patches_of level.old))) }
     requires of_level { (c : Cell) → Contains (cells_of register.old) c → IsSome ((level_of level.old).masses c) }
-    requires not_negative { (c : Cell) → Contains (cells_of register.old) c → pos 0 ≤ℤ (pos (mass_of (level_of level.old).masses c) +ℤ entries_of register.old c) }
-    requires fits { (c : Cell) → Contains (cells_of register.old) c → (pos (mass_of (level_of level.old).masses c) +ℤ entries_of register.old c) <ℤ pos (2 ^ 32) }
+    requires not_negative { (c : Cell) → Contains (cells_of register.old) c
+        → pos 0 ≤ℤ (pos (mass_of (level_of level.old).masses c) +ℤ entries_of register.old c) }
+    requires fits { (c : Cell) → Contains (cells_of register.old) c
+        → (pos (mass_of (level_of level.old).masses c) +ℤ entries_of register.old c) <ℤ pos (2 ^ 32) }
     requires parents { (c : Cell) → IsSome ((level_of finer.old).masses c) → IsSome ((level_of level.old).masses (parent c)) }
     requires coarsenable { AreCoarsenable (patches_of finer.old) }
     requires small { (c : Cell) → children_mass (level_of finer.old).masses c < 2 ^ 32 }
@@ -48,7 +50,8 @@ pub(crate) fn correct<R: Wait, G: Gate>(
     requires finer_kept { IfSome finer_kept.old (IsKeptLayout p.now) }
     ensures workers { workers.new ≡ workers.old }
     ensures register { OnOk result (register.new ≡ register.old) }
-    ensures masses { OnOk result ((level_of level.new).masses ≡ summed (level_of finer.old).masses (with_entries (entries_of register.old) (level_of level.old).masses)) }
+    ensures masses { OnOk result ((level_of level.new).masses
+        ≡ summed (level_of finer.old).masses (with_entries (entries_of register.old) (level_of level.old).masses)) }
     ensures boxes { OnOk result ((level_of level.new).boxes ≡ (level_of level.old).boxes) }
     ensures patches { OnOk result (map box (patches_of level.new) ≡ map box (patches_of level.old)) }
     ensures finer { OnOk result (level_of finer.new ≡ level_of finer.old) }

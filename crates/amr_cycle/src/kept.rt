@@ -86,7 +86,8 @@ pub(crate) fn forget_masses_of(kept: &mut KeptLevel)
 pub(crate) fn ready(kept: &mut KeptLevel, again: bool)
     ensures kept { (p : Problem) (l : ℕ) → IsKeptLevel p l kept.old → IsKeptLevel p l kept.new }
     ensures current { (M : Masses) → IfSome kept.old.layout (IsCurrentLayout M) → IfSome kept.new.layout (IsCurrentLayout M) }
-    ensures valued { (p : Problem) (l : ℕ) (old : Masses) → (again ≡ true → IfSome kept.old.layout (IsValued p l old)) → IfSome kept.new.layout (IsValued p l old) }
+    ensures valued { (p : Problem) (l : ℕ) (old : Masses) → (again ≡ true → IfSome kept.old.layout (IsValued p l old))
+        → IfSome kept.new.layout (IsValued p l old) }
 {
     if again {
         return;
@@ -226,7 +227,8 @@ pub(crate) fn below_for<R: Threads + Wait + Sync, G: Gate>(
     ensures none { own.new.below ≡ None }
     ensures layout { IfSome own.new.layout (IsKeptLayout given.now.problem.now) }
     ensures current { (M : Masses) → IfSome own.old.layout (IsCurrentLayout M) → IfSome own.new.layout (IsCurrentLayout M) }
-    ensures valued { (l : ℕ) (old : Masses) → IfSome own.old.layout (IsValued given.now.problem.now l old) → IfSome own.new.layout (IsValued given.now.problem.now l old) }
+    ensures valued { (l : ℕ) (old : Masses) → IfSome own.old.layout (IsValued given.now.problem.now l old)
+        → IfSome own.new.layout (IsValued given.now.problem.now l old) }
 {
     let Some(mut below) = own.below.take() else {
         return make_below(workers, given, level.copy()?, level, next);

@@ -1,6 +1,7 @@
 //! Steps of levels: of one level and of those finer than it, each of which makes twice as many.
 
-ghost use Rattle.std.specs.Prelude.{◌≡◌, ◌≢◌, ℕ, [], ◌∷◌, ◌+◌, ◌<◌, ◌≤◌, ◌^◌, true, IfOk, IfSome, OnOk, None, Some, is_some, length, map, neg_ℤ, slice_index_or};
+ghost use Rattle.std.specs.Prelude.{◌≡◌, ◌≢◌, ℕ, [], ◌∷◌, ◌+◌, ◌<◌, ◌≤◌, ◌^◌, true, IfOk, IfSome, OnOk, None};
+ghost use Rattle.std.specs.Prelude.{Some, is_some, length, map, neg_ℤ, slice_index_or};
 ghost use Rattle.std.specs.Arc.{arc_value};
 ghost use Rattle.std.specs.List.{All};
 ghost use Rattle.std.specs.Option.{option_copied};
@@ -61,8 +62,12 @@ fn step_finest<R: Threads + Wait + Sync, G: Gate + Sync>(
     requires few_workers { workers.old.count ≤ 64 }
     requires gate { (worker task : ℕ) → worker < workers.old.count → G.admits workers.old.gate.now worker task }
     requires team { IfSome workers.old.team (IsTeamFor given.now.problem.now workers.old.gate.now workers.old.count) }
-    requires inflow { regs.old.inflow + flows_of_step (inflow_beside given.now.problem.now) given.now.problem.now given.now.level (level_of level.old ∷ []) (old_masses (option_copied given.now.old)) < 2 ^ 63 }
-    requires outflow { regs.old.outflow + flows_of_step (outflow_beside given.now.problem.now) given.now.problem.now given.now.level (level_of level.old ∷ []) (old_masses (option_copied given.now.old)) < 2 ^ 63 }
+    requires inflow { regs.old.inflow
+        + flows_of_step (inflow_beside given.now.problem.now) given.now.problem.now given.now.level (level_of level.old ∷ [])
+        (old_masses (option_copied given.now.old)) < 2 ^ 63 }
+    requires outflow { regs.old.outflow
+        + flows_of_step (outflow_beside given.now.problem.now) given.now.problem.now given.now.level (level_of level.old ∷ [])
+        (old_masses (option_copied given.now.old)) < 2 ^ 63 }
     requires kept { IsKeptLevel given.now.problem.now given.now.level own.old }
     requires current { IfSome own.old.layout (IsCurrentLayout (level_of level.old).masses) }
     requires valued { IfSome own.old.layout (IsValued given.now.problem.now given.now.level (old_masses (option_copied given.now.old))) }
@@ -71,12 +76,20 @@ fn step_finest<R: Threads + Wait + Sync, G: Gate + Sync>(
     ensures kept { OnOk result (IsKeptLevel given.now.problem.now given.now.level own.new) }
     ensures current { OnOk result (IfSome own.new.layout (IsCurrentLayout (level_of level.new).masses)) }
     ensures valued { OnOk result (IfSome own.new.layout (IsValued given.now.problem.now given.now.level (old_masses (option_copied given.now.old)))) }
-    ensures level { OnOk result (level_of level.new ∷ [] ≡ after_step given.now.problem.now given.now.level (level_of level.old ∷ []) (old_masses (option_copied given.now.old))) }
+    ensures level { OnOk result (level_of level.new ∷ []
+        ≡ after_step given.now.problem.now given.now.level (level_of level.old ∷ []) (old_masses (option_copied given.now.old))) }
     ensures patches { OnOk result (map box (patches_of level.new) ≡ map box (patches_of level.old)) }
-    ensures coarser { OnOk result (BothChange (gained given.now.problem.now given.now.level (level_of level.old).masses (flux_at given.now.problem.now given.now.level (level_of level.old).masses (old_masses (option_copied given.now.old)))) regs.old.coarser regs.new.coarser) }
+    ensures coarser { OnOk result (BothChange
+        (gained given.now.problem.now given.now.level (level_of level.old).masses
+        (flux_at given.now.problem.now given.now.level (level_of level.old).masses
+        (old_masses (option_copied given.now.old)))) regs.old.coarser regs.new.coarser) }
     ensures finer { OnOk result (regs.new.finer ≡ None) }
-    ensures inflow { OnOk result (regs.new.inflow ≡ regs.old.inflow + flows_of_step (inflow_beside given.now.problem.now) given.now.problem.now given.now.level (level_of level.old ∷ []) (old_masses (option_copied given.now.old))) }
-    ensures outflow { OnOk result (regs.new.outflow ≡ regs.old.outflow + flows_of_step (outflow_beside given.now.problem.now) given.now.problem.now given.now.level (level_of level.old ∷ []) (old_masses (option_copied given.now.old))) }
+    ensures inflow { OnOk result (regs.new.inflow
+        ≡ regs.old.inflow + flows_of_step (inflow_beside given.now.problem.now) given.now.problem.now given.now.level (level_of level.old ∷ [])
+        (old_masses (option_copied given.now.old))) }
+    ensures outflow { OnOk result (regs.new.outflow
+        ≡ regs.old.outflow + flows_of_step (outflow_beside given.now.problem.now) given.now.problem.now given.now.level (level_of level.old ∷ [])
+        (old_masses (option_copied given.now.old))) }
 {
     advance_kept(
         workers,
@@ -108,8 +121,12 @@ fn step_coarse<R: Threads + Wait + Sync, G: Gate + Sync>(
     requires few_workers { workers.old.count ≤ 64 }
     requires gate { (worker task : ℕ) → worker < workers.old.count → G.admits workers.old.gate.now worker task }
     requires team { IfSome workers.old.team (IsTeamFor given.now.problem.now workers.old.gate.now workers.old.count) }
-    requires inflow { regs.old.inflow + inflow_beside given.now.problem.now given.now.level (is_uncovered (level_of level.old).masses (level_of next.now).masses) (flux_at given.now.problem.now given.now.level (level_of level.old).masses (old_masses (option_copied given.now.old))) < 2 ^ 63 }
-    requires outflow { regs.old.outflow + outflow_beside given.now.problem.now given.now.level (is_uncovered (level_of level.old).masses (level_of next.now).masses) (flux_at given.now.problem.now given.now.level (level_of level.old).masses (old_masses (option_copied given.now.old))) < 2 ^ 63 }
+    requires inflow { regs.old.inflow
+        + inflow_beside given.now.problem.now given.now.level (is_uncovered (level_of level.old).masses (level_of next.now).masses)
+        (flux_at given.now.problem.now given.now.level (level_of level.old).masses (old_masses (option_copied given.now.old))) < 2 ^ 63 }
+    requires outflow { regs.old.outflow
+        + outflow_beside given.now.problem.now given.now.level (is_uncovered (level_of level.old).masses (level_of next.now).masses)
+        (flux_at given.now.problem.now given.now.level (level_of level.old).masses (old_masses (option_copied given.now.old))) < 2 ^ 63 }
     requires kept { IsKeptLevel given.now.problem.now given.now.level own.old }
     requires current { IfSome own.old.layout (IsCurrentLayout (level_of level.old).masses) }
     requires valued { IfSome own.old.layout (IsValued given.now.problem.now given.now.level (old_masses (option_copied given.now.old))) }
@@ -120,16 +137,27 @@ fn step_coarse<R: Threads + Wait + Sync, G: Gate + Sync>(
     ensures before { IfOk result (λ b. level_of (arc_value b.before) ≡ level_of level.old) }
     ensures before_patches { IfOk result (λ b. map box (patches_of (arc_value b.before)) ≡ map box (patches_of level.old)) }
     ensures finer_boxes { IfOk result (λ b. (c : Cell) → is_some ((level_of next.now).masses c) ≡ in_boxes b.finer.items c) }
-    ensures masses { OnOk result ((level_of level.new).masses ≡ updated (level_of level.old).masses (flux_at given.now.problem.now given.now.level (level_of level.old).masses (old_masses (option_copied given.now.old)))) }
+    ensures masses { OnOk result ((level_of level.new).masses
+        ≡ updated (level_of level.old).masses
+        (flux_at given.now.problem.now given.now.level (level_of level.old).masses (old_masses (option_copied given.now.old)))) }
     ensures boxes { OnOk result ((level_of level.new).boxes ≡ (level_of level.old).boxes) }
     ensures patches { OnOk result (map box (patches_of level.new) ≡ map box (patches_of level.old)) }
-    ensures register { IfOk result (λ b. SomeHasEntries given.now.problem.now given.now.level (level_of level.old).masses (level_of next.now).masses (λ c. neg_ℤ (edge_part given.now.problem.now given.now.level (level_of level.old) (old_masses (option_copied given.now.old)) (level_of next.now).masses c)) b.regs.coarser) }
+    ensures register { IfOk result (λ b. SomeHasEntries given.now.problem.now given.now.level (level_of level.old).masses (level_of next.now).masses
+        (λ c. neg_ℤ (edge_part given.now.problem.now given.now.level (level_of level.old) (old_masses (option_copied given.now.old))
+        (level_of next.now).masses c)) b.regs.coarser) }
     ensures edges { IfOk result (λ b. IfSome b.regs.coarser (HasEdgesOf (map box (patches_of (arc_value b.before))))) }
-    ensures coarser { OnOk result (BothChange (gained given.now.problem.now given.now.level (level_of level.old).masses (flux_at given.now.problem.now given.now.level (level_of level.old).masses (old_masses (option_copied given.now.old)))) regs.old.coarser regs.new.coarser) }
+    ensures coarser { OnOk result (BothChange
+        (gained given.now.problem.now given.now.level (level_of level.old).masses
+        (flux_at given.now.problem.now given.now.level (level_of level.old).masses
+        (old_masses (option_copied given.now.old)))) regs.old.coarser regs.new.coarser) }
     ensures finer { OnOk result (regs.new.finer ≡ None) }
     ensures no_finer { IfOk result (λ b. b.regs.finer ≡ None) }
-    ensures inflow { IfOk result (λ b. b.regs.inflow ≡ regs.old.inflow + inflow_beside given.now.problem.now given.now.level (is_uncovered (level_of level.old).masses (level_of next.now).masses) (flux_at given.now.problem.now given.now.level (level_of level.old).masses (old_masses (option_copied given.now.old)))) }
-    ensures outflow { IfOk result (λ b. b.regs.outflow ≡ regs.old.outflow + outflow_beside given.now.problem.now given.now.level (is_uncovered (level_of level.old).masses (level_of next.now).masses) (flux_at given.now.problem.now given.now.level (level_of level.old).masses (old_masses (option_copied given.now.old)))) }
+    ensures inflow { IfOk result (λ b. b.regs.inflow
+        ≡ regs.old.inflow + inflow_beside given.now.problem.now given.now.level (is_uncovered (level_of level.old).masses (level_of next.now).masses)
+        (flux_at given.now.problem.now given.now.level (level_of level.old).masses (old_masses (option_copied given.now.old)))) }
+    ensures outflow { IfOk result (λ b. b.regs.outflow
+        ≡ regs.old.outflow + outflow_beside given.now.problem.now given.now.level (is_uncovered (level_of level.old).masses (level_of next.now).masses)
+        (flux_at given.now.problem.now given.now.level (level_of level.old).masses (old_masses (option_copied given.now.old)))) }
 {
     let KeptBelow {
         before,
@@ -193,7 +221,8 @@ pub(crate) fn step_levels<R: Threads + Wait + Sync, G: Gate + Sync>(
     kept: &mut [KeptLevel],
 ) -> Result<(), NoMemory>
     requires few { given.now.level + length finer.old ≤ 4 }
-    requires part { IsPartOfStep given.now.problem.now given.now.level (level_of level.old ∷ map level_of finer.old) (old_masses (option_copied given.now.old)) }
+    requires part { IsPartOfStep given.now.problem.now given.now.level (level_of level.old ∷ map level_of finer.old)
+        (old_masses (option_copied given.now.old)) }
     requires coarser { HasCoarser given.now.problem.now given.now.level (level_of level.old) (option_copied given.now.old) regs.old.coarser }
     requires finer { regs.old.finer ≡ None }
     requires coarsenable { All (λ k. AreCoarsenable (patches_of k)) finer.old }
@@ -201,24 +230,38 @@ pub(crate) fn step_levels<R: Threads + Wait + Sync, G: Gate + Sync>(
     requires few_workers { workers.old.count ≤ 64 }
     requires gate { (worker task : ℕ) → worker < workers.old.count → G.admits workers.old.gate.now worker task }
     requires team { IfSome workers.old.team (IsTeamFor given.now.problem.now workers.old.gate.now workers.old.count) }
-    requires inflow { regs.old.inflow + flows_of_step (inflow_beside given.now.problem.now) given.now.problem.now given.now.level (level_of level.old ∷ map level_of finer.old) (old_masses (option_copied given.now.old)) < 2 ^ 63 }
-    requires outflow { regs.old.outflow + flows_of_step (outflow_beside given.now.problem.now) given.now.problem.now given.now.level (level_of level.old ∷ map level_of finer.old) (old_masses (option_copied given.now.old)) < 2 ^ 63 }
+    requires inflow { regs.old.inflow
+        + flows_of_step (inflow_beside given.now.problem.now) given.now.problem.now given.now.level (level_of level.old ∷ map level_of finer.old)
+        (old_masses (option_copied given.now.old)) < 2 ^ 63 }
+    requires outflow { regs.old.outflow
+        + flows_of_step (outflow_beside given.now.problem.now) given.now.problem.now given.now.level (level_of level.old ∷ map level_of finer.old)
+        (old_masses (option_copied given.now.old)) < 2 ^ 63 }
     requires kept { AreKept given.now.problem.now given.now.level kept.old }
     requires current { AreCurrent (level_of level.old ∷ map level_of finer.old) kept.old }
     requires room { length finer.old < length kept.old }
     requires shared { IsSharedOf given.now.old given.now.shared }
-    requires valued { again ≡ true → (own : KeptLevel) → IfSome (slice_index_or kept.old 0 own).layout (IsValued given.now.problem.now given.now.level (old_masses (option_copied given.now.old))) }
+    requires valued { again ≡ true → (own : KeptLevel)
+        → IfSome (slice_index_or kept.old 0 own).layout (IsValued given.now.problem.now given.now.level (old_masses (option_copied given.now.old))) }
     ensures workers { workers.new ≡ workers.old }
     ensures kept { OnOk result (AreKept given.now.problem.now given.now.level kept.new) }
     ensures current { OnOk result (AreCurrent (level_of level.new ∷ map level_of finer.new) kept.new) }
     ensures kept_count { OnOk result (length kept.new ≡ length kept.old) }
-    ensures valued { OnOk result ((own : KeptLevel) → IfSome (slice_index_or kept.new 0 own).layout (IsValued given.now.problem.now given.now.level (old_masses (option_copied given.now.old)))) }
-    ensures levels { OnOk result (level_of level.new ∷ map level_of finer.new ≡ after_step given.now.problem.now given.now.level (level_of level.old ∷ map level_of finer.old) (old_masses (option_copied given.now.old))) }
+    ensures valued { OnOk result ((own : KeptLevel)
+        → IfSome (slice_index_or kept.new 0 own).layout (IsValued given.now.problem.now given.now.level (old_masses (option_copied given.now.old)))) }
+    ensures levels { OnOk result (level_of level.new ∷ map level_of finer.new
+        ≡ after_step given.now.problem.now given.now.level (level_of level.old ∷ map level_of finer.old) (old_masses (option_copied given.now.old))) }
     ensures patches { OnOk result (patch_boxes (level.new ∷ finer.new) ≡ patch_boxes (level.old ∷ finer.old)) }
-    ensures coarser { OnOk result (BothChange (gained given.now.problem.now given.now.level (level_of level.old).masses (flux_at given.now.problem.now given.now.level (level_of level.old).masses (old_masses (option_copied given.now.old)))) regs.old.coarser regs.new.coarser) }
+    ensures coarser { OnOk result (BothChange
+        (gained given.now.problem.now given.now.level (level_of level.old).masses
+        (flux_at given.now.problem.now given.now.level (level_of level.old).masses
+        (old_masses (option_copied given.now.old)))) regs.old.coarser regs.new.coarser) }
     ensures finer { OnOk result (regs.new.finer ≡ None) }
-    ensures inflow { OnOk result (regs.new.inflow ≡ regs.old.inflow + flows_of_step (inflow_beside given.now.problem.now) given.now.problem.now given.now.level (level_of level.old ∷ map level_of finer.old) (old_masses (option_copied given.now.old))) }
-    ensures outflow { OnOk result (regs.new.outflow ≡ regs.old.outflow + flows_of_step (outflow_beside given.now.problem.now) given.now.problem.now given.now.level (level_of level.old ∷ map level_of finer.old) (old_masses (option_copied given.now.old))) }
+    ensures inflow { OnOk result (regs.new.inflow
+        ≡ regs.old.inflow + flows_of_step (inflow_beside given.now.problem.now) given.now.problem.now given.now.level
+        (level_of level.old ∷ map level_of finer.old) (old_masses (option_copied given.now.old))) }
+    ensures outflow { OnOk result (regs.new.outflow
+        ≡ regs.old.outflow + flows_of_step (outflow_beside given.now.problem.now) given.now.problem.now given.now.level
+        (level_of level.old ∷ map level_of finer.old) (old_masses (option_copied given.now.old))) }
 {
     let Some((own, rest)) = kept.split_first_mut() else {
         unreachable!()

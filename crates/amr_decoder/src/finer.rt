@@ -48,7 +48,8 @@ pub fn read_finer(
     requires step { kind.step ≤ 4096 }
     requires level { kind.level ≤ 3 }
     requires below { IsLevel p.now kind.level (level_of below.now) }
-    ensures read { IfOk result (λ k. read_finer (width_of kind.width) p.now kind.step kind.level (level_of below.now) (left_of r.old) ≡ read (level_of k) (left_of r.new)) }
+    ensures read { IfOk result (λ k. read_finer (width_of kind.width) p.now kind.step kind.level (level_of below.now) (left_of r.old)
+        ≡ read (level_of k) (left_of r.new)) }
     ensures bad { IfErr result (IsFaultOf (read_finer (width_of kind.width) p.now kind.step kind.level (level_of below.now) (left_of r.old))) }
     ensures level { IfOk result (λ k. IsLevel p.now (kind.level + 1) (level_of k)) }
     ensures chopped { IfOk result (IsChopped p.now.max_grid_size) }
@@ -90,7 +91,8 @@ fn add_finer(
     requires few { count ≤ 4 }
     requires base { IsLevel p.now 0 (level_of base) }
     requires chopped { IsChopped p.now.max_grid_size base }
-    ensures read { IfOk result (λ ks. read_over (width_of kind.width) p.now kind.step count (level_of base) (left_of r.old) ≡ read (map level_of ks.items) (left_of r.new)) }
+    ensures read { IfOk result (λ ks. read_over (width_of kind.width) p.now kind.step count (level_of base) (left_of r.old)
+        ≡ read (map level_of ks.items) (left_of r.new)) }
     ensures bad { IfErr result (IsFaultOf (read_over (width_of kind.width) p.now kind.step count (level_of base) (left_of r.old))) }
     ensures chopped { IfOk result (λ ks. All (IsChopped p.now.max_grid_size) ks.items) }
 {

@@ -62,7 +62,8 @@ fn read_grid(
     requires step { kind.step ≤ 4096 }
     requires level { kind.level ≤ 4 }
     requires earlier { AreOfLevel p.now kind.level earlier.now }
-    ensures read { IfOk result (λ g. read_grid (width_of kind.width) p.now kind.step kind.level (newest_first earlier.now.grids) (left_of r.old) ≡ read (grid_of (width_of kind.width) (whole_of r.old) g) (left_of r.new)) }
+    ensures read { IfOk result (λ g. read_grid (width_of kind.width) p.now kind.step kind.level (newest_first earlier.now.grids) (left_of r.old)
+        ≡ read (grid_of (width_of kind.width) (whole_of r.old) g) (left_of r.new)) }
     ensures bad { IfErr result (IsFaultOf (read_grid (width_of kind.width) p.now kind.step kind.level (newest_first earlier.now.grids) (left_of r.old))) }
     ensures over { IfOk result (λ g. 0 < kind.level → IsOverParents earlier.now.below g.bx) }
     ensures inside { IfOk result (IsInside (width_of kind.width) (whole_of r.old)) }
@@ -110,7 +111,8 @@ pub(crate) fn read_grids(
 ) -> Result<Vec<Grid>, CodecFault>
     requires step { kind.step ≤ 4096 }
     requires level { kind.level ≤ 4 }
-    ensures read { IfOk result (λ gs. read_grids (width_of kind.width) p.now kind.step kind.level count [] (left_of r.old) ≡ read (map (grid_of (width_of kind.width) (whole_of r.old)) gs.items) (left_of r.new)) }
+    ensures read { IfOk result (λ gs. read_grids (width_of kind.width) p.now kind.step kind.level count [] (left_of r.old)
+        ≡ read (map (grid_of (width_of kind.width) (whole_of r.old)) gs.items) (left_of r.new)) }
     ensures bad { IfErr result (IsFaultOf (read_grids (width_of kind.width) p.now kind.step kind.level count [] (left_of r.old))) }
     ensures inside { IfOk result (λ gs. All (IsInside (width_of kind.width) (whole_of r.old)) gs.items) }
     ensures small { IfOk result (λ gs. All (HasSmallMasses (width_of kind.width) (whole_of r.old)) gs.items) }

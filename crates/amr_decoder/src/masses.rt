@@ -53,7 +53,8 @@ pub(crate) fn read_masses(
 ) -> Result<(), CodecFault>
     requires step { kind.step ≤ 4096 }
     requires level { kind.level ≤ 4 }
-    ensures read { OnOk result (read_masses (width_of kind.width) p.now kind.step kind.level count (left_of r.old) ≡ read (numbers (width_of kind.width) count (left_of r.old).bytes) (left_of r.new)) }
+    ensures read { OnOk result (read_masses (width_of kind.width) p.now kind.step kind.level count (left_of r.old)
+        ≡ read (numbers (width_of kind.width) count (left_of r.old).bytes) (left_of r.new)) }
     ensures bad { IfErr result (IsFaultOf (read_masses (width_of kind.width) p.now kind.step kind.level count (left_of r.old))) }
     ensures inside { OnOk result ((left_of r.old).place + byte_len (width_of kind.width) * count ≤ length (whole_of r.old)) }
     ensures small { OnOk result ((i : ℕ) → i < count → number_at (width_of kind.width) (left_of r.old).bytes i < 2 ^ 32) }

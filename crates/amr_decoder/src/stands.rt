@@ -47,7 +47,9 @@ pub fn stands_over(
     requires coarse { IsLevel p.now l (level_of coarse.now) }
     requires fine { IsLevel p.now (l + 1) (level_of fine.now) }
     requires aligned { All (IsAligned p.now.blocking) (level_of fine.now).boxes }
-    ensures { IfOk result (λ yes. yes ≡ (surrounds (domain p.now l) (level_of coarse.now).boxes (level_of fine.now).boxes && is_in_sync (domain p.now l) (level_of coarse.now).masses (level_of fine.now).masses)) }
+    ensures { IfOk result (λ yes. yes
+        ≡ (surrounds (domain p.now l) (level_of coarse.now).boxes (level_of fine.now).boxes
+        && is_in_sync (domain p.now l) (level_of coarse.now).masses (level_of fine.now).masses)) }
 {
     let nested = surrounds(alloc, p, l, coarse, fine)?;
     if !nested {

@@ -115,7 +115,8 @@ fn span_sums(masses: &[u32], lower: &[u32], upper: &[u32]) -> Option<usize>
     ensures lower { IfSome result (λ n. 2 * n ≤ length lower.now) }
     ensures upper { IfSome result (λ n. 2 * n ≤ length upper.now) }
     ensures sums { IfSome result (λ n. (k : ℕ) → k < n → slice_index masses.now k ≡ four_at lower.now upper.now k) }
-    ensures none { IsNone result → ((k : ℕ) → k < length masses.now → 2 * k + 1 < length lower.now → 2 * k + 1 < length upper.now → slice_index masses.now k ≡ four_at lower.now upper.now k) → ⊥ }
+    ensures none { IsNone result → ((k : ℕ) → k < length masses.now → 2 * k + 1 < length lower.now → 2 * k + 1 < length upper.now
+        → slice_index masses.now k ≡ four_at lower.now upper.now k) → ⊥ }
 {
     let count = masses.len().min(lower.len() / 2).min(upper.len() / 2);
     if are_sums(&masses[..count], lower, upper) {
@@ -201,7 +202,9 @@ pub(crate) fn are_boxes_in_sync(p: &Problem, l: u32, coarse: &Level, fine: &Leve
     requires fine { IsLevel p.now (l + 1) (level_of fine.now) }
     requires aligned { All (IsAligned p.now.blocking) (level_of fine.now).boxes }
     requires parents { (c : Cell) → IsTrue (is_covered_by (level_of fine.now).boxes c) → IsSome ((level_of coarse.now).masses c) }
-    ensures { IsTrue result ↔ ((k : ℕ) (d : Extent) (c : Cell) → k < length (level_of fine.now).boxes → IsTrue (has_child_where (holds (slice_index_or (level_of fine.now).boxes k d)) c) → IsSum (level_of coarse.now).masses (level_of fine.now).masses c) }
+    ensures { IsTrue result ↔ ((k : ℕ) (d : Extent) (c : Cell) → k < length (level_of fine.now).boxes
+        → IsTrue (has_child_where (holds (slice_index_or (level_of fine.now).boxes k d)) c)
+        → IsSum (level_of coarse.now).masses (level_of fine.now).masses c) }
 {
     for b in fine.boxes() {
         if !are_parents_in_sync(p, coarse, fine, b) {

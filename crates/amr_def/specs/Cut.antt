@@ -1,5 +1,6 @@
 -- Where a box is cut, by its signatures. (Berger and Rigoutsos: holes, then inflections; ties and halving: profile)
-use Rattle.std.specs.Prelude.{ℕ, ◌+◌, ◌-◌, ◌*◌, ◌/◌, Bool, cond, ◌&&◌, ◌||◌, ℤ, pos, ◌-ℤ◌, int_lt, List, [], ◌∷◌, length, nat_lt, nat_le, ◌==◌, slice_index, unsigned_abs}
+use Rattle.std.specs.Prelude.{ℕ, ◌+◌, ◌-◌, ◌*◌, ◌/◌, Bool, cond, ◌&&◌, ◌||◌, ℤ, pos, ◌-ℤ◌, int_lt, List, []}
+use Rattle.std.specs.Prelude.{◌∷◌, length, nat_lt, nat_le, ◌==◌, slice_index, unsigned_abs}
 use Rattle.std.specs.declared.option.Option.{Option}
 use Rattle.std.specs.declared.option.Option.TheVariants.{None, Some}
 use Rattle.std.specs.List.{filter, fold, range_with_len}

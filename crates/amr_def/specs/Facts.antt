@@ -48,7 +48,8 @@ pub record IsNested (p : Problem) (s : State) : Type 0 where
 
 -- a covered cell has the mass of its children
 pub record IsSynced (s : State) : Type 0 where
-  pub at : (l : ℕ) (c : Cell) → l + 1 < length s.levels → IsTrue (is_covered (level_at s (l + 1)).masses c) → mass_of (level_at s l).masses c ≡ children_mass (level_at s (l + 1)).masses c
+  pub at : (l : ℕ) (c : Cell) → l + 1 < length s.levels → IsTrue (is_covered (level_at s (l + 1)).masses c)
+      → mass_of (level_at s l).masses c ≡ children_mass (level_at s (l + 1)).masses c
 
 -- by how much the bound of masses grows at a step (profile)
 abbrev pub growth : ℕ → ℕ

@@ -47,7 +47,8 @@ is_blocking b = (b == 2) || (b == 4) || (b == 8)
 
 -- ---- the limits
 
-pub record Limits (version : ℕ) (name : List ℕ) (nx ny steps : ℕ) (cx cy : ℤ) (d : ℕ) (shear_x shear_y : List ℤ) (x_sides y_sides : Sides) (max_level : ℕ) (tag : List ℕ) (n_error_buf efficiency min_width regrid_int blocking max_grid_size : ℕ) (blocks : List Block) : Type 0 where
+pub record Limits (version : ℕ) (name : List ℕ) (nx ny steps : ℕ) (cx cy : ℤ) (d : ℕ) (shear_x shear_y : List ℤ) (x_sides y_sides : Sides) (max_level : ℕ)
+    (tag : List ℕ) (n_error_buf efficiency min_width regrid_int blocking max_grid_size : ℕ) (blocks : List Block) : Type 0 where
   pub first_version : 1 ≤ version
   pub last_version : version ≤ 2
   pub named : 1 ≤ length name

@@ -20,7 +20,8 @@ differs_by t a b = nat_le t ((a - b) + (b - a))
 unfoldable pub is_tagged_by : Problem → ℕ → Masses → Masses → Cell → Bool
 is_tagged_by p l m coarse c =
     let value : Cell → ℕ = value_at p l m coarse in
-    is_some (m c) && list_any (λ o. in_domain (domain p l) (home_cell (domain p l) (moved c o)) && differs_by (slice_index p.tag l) (value c) (value (moved c o))) neighbours
+    is_some (m c) && list_any (λ o. in_domain (domain p l) (home_cell (domain p l) (moved c o))
+    && differs_by (slice_index p.tag l) (value c) (value (moved c o))) neighbours
 
 abbrev pub is_tagged : Problem → State → ℕ → Cell → Bool
 is_tagged p s l = is_tagged_by p l (level_at s l).masses (masses_below s l)

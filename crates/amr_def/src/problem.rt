@@ -79,7 +79,8 @@ pub struct Problem {
     /// The masses at the start, at most 256 rectangles. A later one replaces an earlier one, and a cell
     /// of none has mass 0.
     pub blocks: Blocks,
-    pub ghost limits: { Limits version name nx ny steps cx cy d shear_x shear_y x_sides y_sides max_level tag n_error_buf efficiency min_width regrid_int blocking max_grid_size blocks },
+    pub ghost limits: { Limits version name nx ny steps cx cy d shear_x shear_y x_sides y_sides max_level tag n_error_buf efficiency min_width regrid_int
+        blocking max_grid_size blocks },
 }
 
 impl Sides {

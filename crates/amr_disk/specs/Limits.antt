@@ -34,7 +34,8 @@ has_call limits calls = nat_lt (length calls) limits.calls
 -- after these calls there is room for a write; an empty chunk needs none
 abbrev pub has_room : Limits → List Call → ℕ → List ℕ → Bool
 has_room limits calls at [] = true
-has_room limits calls at (b ∷ bs) = nat_le (at + length (b ∷ bs)) limits.capacity && nat_le (bytes_in calls + length (b ∷ bs)) limits.capacity && has_call limits calls
+has_room limits calls at (b ∷ bs) =
+    nat_le (at + length (b ∷ bs)) limits.capacity && nat_le (bytes_in calls + length (b ∷ bs)) limits.capacity && has_call limits calls
 
 -- the calls after a write, which takes place where there is room
 abbrev pub with_write : Limits → List Call → ℕ → List ℕ → List Call

@@ -1,5 +1,6 @@
 -- A log with one call more.
-use Rattle.std.proofs.Common.{◌≡◌, inl, inr, ℕ, ◌+◌, ◌-◌, ◌≤◌, ◌<◌, max, List, [], ◌∷◌, ◌++◌, length, take, drop, replicate, nat_le, Bool, true, false, Option, Some, refl, sym, ◌∙◌, ap, subst, arith, length-append}
+use Rattle.std.proofs.Common.{◌≡◌, inl, inr, ℕ, ◌+◌, ◌-◌, ◌≤◌, ◌<◌, max, List, [], ◌∷◌, ◌++◌, length, take, drop, replicate, nat_le}
+use Rattle.std.proofs.Common.{Bool, true, false, Option, Some, refl, sym, ◌∙◌, ap, subst, arith, length-append}
 use Rattle.std.proofs.lemmas.List.{take-append-le, take_all}
 use Rattle.std.proofs.lemmas.Grind.{common_steps}
 use Rattle.std.proofs.lemmas.Bool.{cases_Bool, leb-true, leb-false}
@@ -34,16 +35,20 @@ leaves_sync now seen (Synced ∷ rest) c left = leaves_sync _ seen rest c left
 pub torn_same : (at n : ℕ) (c : List ℕ) → Torn at n c c
 torn_same at n c = record { no_shorter = omega arith; no_longer = omega arith; below = λ i a b. refl; above = λ i a b. refl }
 
-no_shorter_placed : (gap at n : ℕ) (bytes old : List ℕ) → length bytes ≡ n → length old ≤ length (take at old ++ replicate (at - length old) gap ++ bytes ++ drop (at + n) old)
+no_shorter_placed : (gap at n : ℕ) (bytes old : List ℕ) → length bytes ≡ n
+    → length old ≤ length (take at old ++ replicate (at - length old) gap ++ bytes ++ drop (at + n) old)
 no_shorter_placed gap at n bytes old size = grind (arith, common_steps)
 
-no_longer_placed : (gap at n : ℕ) (bytes old : List ℕ) → length bytes ≡ n → length (take at old ++ replicate (at - length old) gap ++ bytes ++ drop (at + n) old) ≤ max (length old) (at + n)
+no_longer_placed : (gap at n : ℕ) (bytes old : List ℕ) → length bytes ≡ n
+    → length (take at old ++ replicate (at - length old) gap ++ bytes ++ drop (at + n) old) ≤ max (length old) (at + n)
 no_longer_placed gap at n bytes old size = grind (arith, common_steps)
 
-below_placed : (gap at n i : ℕ) (bytes old : List ℕ) → length bytes ≡ n → i < length old → i < at → slice_index (take at old ++ replicate (at - length old) gap ++ bytes ++ drop (at + n) old) i ≡ slice_index old i
+below_placed : (gap at n i : ℕ) (bytes old : List ℕ) → length bytes ≡ n → i < length old → i < at
+    → slice_index (take at old ++ replicate (at - length old) gap ++ bytes ++ drop (at + n) old) i ≡ slice_index old i
 below_placed gap at n i bytes old size within below = grind (arith, common_steps)
 
-above_placed : (gap at n i : ℕ) (bytes old : List ℕ) → length bytes ≡ n → i < length old → at + n ≤ i → slice_index (take at old ++ replicate (at - length old) gap ++ bytes ++ drop (at + n) old) i ≡ slice_index old i
+above_placed : (gap at n i : ℕ) (bytes old : List ℕ) → length bytes ≡ n → i < length old → at + n ≤ i
+    → slice_index (take at old ++ replicate (at - length old) gap ++ bytes ++ drop (at + n) old) i ≡ slice_index old i
 above_placed gap at n i bytes old size within above = grind (arith, common_steps)
 
 -- a write that is done, with any filling of a gap, is one that a stop may leave
@@ -63,7 +68,8 @@ torn_written at bytes old = torn_placed 0 at bytes old
 pub left_is_image : (part : ℕ → List ℕ → List ℕ → List ℕ) → ((at : ℕ) (bytes old : List ℕ) → Torn at (length bytes) old (part at bytes old))
     → (now : List ℕ → Type 0) (image seen : List ℕ) (log : List Call) → now image → Leaves now seen log (left_after part image seen log)
 left_is_image part torn now image seen [] is = is
-left_is_image part torn now image seen (Wrote at v ∷ rest) is = left_is_image part torn _ (part at v image) (written_at at v seen) rest (image, is, torn at v image)
+left_is_image part torn now image seen (Wrote at v ∷ rest) is =
+    left_is_image part torn _ (part at v image) (written_at at v seen) rest (image, is, torn at v image)
 left_is_image part torn now image seen (Synced ∷ rest) is = left_is_image part torn _ seen seen rest refl
 
 pub reads : (now : List ℕ → Type 0) (seen : List ℕ) (log : List Call) → now seen → Leaves now seen log (seen_after seen log)
@@ -92,7 +98,8 @@ stays_still : (seen : Option (List ℕ)) (now : ℕ) (leaves : ℕ → List ℕ 
 stays_still seen now leaves = λ k t from order to settled. let is : k ≡ t = omega arith in subst (λ (n : ℕ). Only seen (leaves n)) is settled
 
 -- from one moment to the next, where a stop leaves what a read gives at the end
-stays_next : (seen : Option (List ℕ)) (before now : ℕ) (leaves : ℕ → List ℕ → Type 0) → now ≤ before + 1 → Only seen (leaves now) → StaysDurable seen before now leaves
+stays_next : (seen : Option (List ℕ)) (before now : ℕ) (leaves : ℕ → List ℕ → Type 0) → now ≤ before + 1 → Only seen (leaves now)
+    → StaysDurable seen before now leaves
 stays_next seen before now leaves next durable = λ k t from order to settled. elim (cases_Bool (nat_le now t)) [
   | inl last ↦ let is : now ≡ t = omega (arith, leb-true now t last) in subst (λ (n : ℕ). Only seen (leaves n)) is durable
   | inr earlier ↦ let is : k ≡ t = omega (arith, leb-false now t earlier) in subst (λ (n : ℕ). Only seen (leaves n)) is settled
@@ -137,12 +144,14 @@ passes_push base log later e step is made =
           (from.0, subst (λ (l : List Call). Leaves (λ x. x ≡ base) base l from.0) (sym (take_all (length log) log (omega arith))) from.1, from.2);
     }
 
-pub durable : (base bytes : List ℕ) (log later : List Call) (c : List ℕ) → bytes ≡ seen_after base log → later ≡ log ++ Synced ∷ [] → LeavesAt base later (length later) c → c ≡ bytes
+pub durable : (base bytes : List ℕ) (log later : List Call) (c : List ℕ) → bytes ≡ seen_after base log → later ≡ log ++ Synced ∷ []
+    → LeavesAt base later (length later) c → c ≡ bytes
 durable base bytes log later c is pushed left =
     let whole : take (length later) later ≡ log ++ Synced ∷ [] = take_all (length later) later (omega arith) ∙ pushed in
     leaves_sync (λ x. x ≡ base) base log c (subst (λ (l : List Call). Leaves (λ x. x ≡ base) base l c) whole left) ∙ sym is
 
-synced : (base : List ℕ) (log : List Call) (c : List ℕ) → Leaves (λ x. x ≡ base) base (log ++ Synced ∷ []) c → (d : List ℕ) × Leaves (λ x. x ≡ base) base log d × Same d c
+synced : (base : List ℕ) (log : List Call) (c : List ℕ) → Leaves (λ x. x ≡ base) base (log ++ Synced ∷ []) c → (d : List ℕ)
+    × Leaves (λ x. x ≡ base) base log d × Same d c
 synced base log c left = (seen_after base log, reads (λ x. x ≡ base) base log refl, leaves_sync (λ x. x ≡ base) base log c left)
 
 -- a sync that the log took
@@ -152,14 +161,17 @@ rests_sync base later_base bytes log later replayed same is =
     let size : length later ≡ length log + 1 = ap (λ (l : List Call). length l) is ∙ length-append log (Synced ∷ []) in
     subst (λ (b : List ℕ). Rests (Some bytes) (length log) (length later) (LeavesAt base log) (LeavesAt b later)) (sym same) (record {
       passes = passes_push base log later Synced Same is (synced base log);
-      stays = stays_next (Some bytes) (length log) (length later) (LeavesAt base later) (omega (arith, size)) (λ c left. durable base bytes log later c replayed is left);
+      stays =
+          stays_next (Some bytes) (length log) (length later) (LeavesAt base later) (omega (arith, size))
+          (λ c left. durable base bytes log later c replayed is left);
     })
 
 passes_taken : (taken : Bool) (base : List ℕ) (log later : List Call) (at : ℕ) (v : List ℕ) → later ≡ (if taken then log ++ Wrote at v ∷ [] else log)
     → Passes (length log) (length later) (LeavesAt base log) (LeavesAt base later) (Torn at (length v))
 passes_taken true base log later at v is = passes_push base log later (Wrote at v) (Torn at (length v)) is (leaves_write (λ x. x ≡ base) base log at v)
 passes_taken false base log later at v is =
-    subst (λ (l : List Call). Passes (length log) (length l) (LeavesAt base log) (LeavesAt base l) (Torn at (length v))) (sym is) (passes_same (length log) (LeavesAt base log) (Torn at (length v)) (λ c. torn_same at (length v) c))
+    subst (λ (l : List Call). Passes (length log) (length l) (LeavesAt base log) (LeavesAt base l) (Torn at (length v))) (sym is)
+    (passes_same (length log) (LeavesAt base log) (Torn at (length v)) (λ c. torn_same at (length v) c))
 
 passes_with : (limits : Limits) (base : List ℕ) (log later : List Call) (at : ℕ) (v : List ℕ) → later ≡ with_write limits log at v
     → Passes (length log) (length later) (LeavesAt base log) (LeavesAt base later) (Torn at (length v))
@@ -167,13 +179,15 @@ passes_with limits base log later at [] is = passes_taken false base log later a
 passes_with limits base log later at (b ∷ bs) is = passes_taken (has_room limits log at (b ∷ bs)) base log later at (b ∷ bs) is
 
 -- a write, which the log takes where it has room
-pub passes_write : (limits : Limits) (base later_base : List ℕ) (log mid later : List Call) (at : ℕ) (v : List ℕ) → later_base ≡ base → mid ≡ log → later ≡ with_write limits mid at v
+pub passes_write : (limits : Limits) (base later_base : List ℕ) (log mid later : List Call) (at : ℕ) (v : List ℕ) → later_base ≡ base → mid ≡ log
+    → later ≡ with_write limits mid at v
     → Passes (length log) (length later) (LeavesAt base log) (LeavesAt later_base later) (Torn at (length v))
 passes_write limits base later_base log mid later at v same kept is =
     subst (λ (b : List ℕ). Passes (length log) (length later) (LeavesAt base log) (LeavesAt b later) (Torn at (length v))) (sym same)
     (passes_with limits base log later at v (is ∙ ap (λ (l : List Call). with_write limits l at v) kept))
 
 -- a sync that the log took: a stop leaves what a read gives
-pub durable_sync : (base later_base bytes : List ℕ) (log later : List Call) (c : List ℕ) → bytes ≡ seen_after base log → later_base ≡ base → later ≡ log ++ Synced ∷ [] → LeavesAt later_base later (length later) c → c ≡ bytes
+pub durable_sync : (base later_base bytes : List ℕ) (log later : List Call) (c : List ℕ) → bytes ≡ seen_after base log → later_base ≡ base
+    → later ≡ log ++ Synced ∷ [] → LeavesAt later_base later (length later) c → c ≡ bytes
 durable_sync base later_base bytes log later c is same pushed left =
     durable base bytes log later c is pushed (subst (λ (b : List ℕ). LeavesAt b later (length later) c) same left)

@@ -48,7 +48,9 @@ pub fn replay(
     requires small { reach_of (step ∷ []) < 2 ^ 64 }
     requires fits { vec_len made.old ≤ vec_capacity image.old }
     ensures end { result ≡ start + size_of (step ∷ []) }
-    ensures left { (rest : List Step) → left_after (part_of mode) image.new.items made.new.items (calls_of rest (drop result written.now)) ≡ left_after (part_of mode) image.old.items made.old.items (calls_of (step ∷ rest) (drop start written.now)) }
+    ensures left { (rest : List Step)
+        → left_after (part_of mode) image.new.items made.new.items (calls_of rest (drop result written.now))
+        ≡ left_after (part_of mode) image.old.items made.old.items (calls_of (step ∷ rest) (drop start written.now)) }
     ensures made_fits { vec_len made.new ≤ max (vec_len made.old) (reach_of (step ∷ [])) }
     ensures image_fits { vec_len image.new ≤ max (max (vec_len image.old) (vec_len made.old)) (reach_of (step ∷ [])) }
     ensures made_grows { vec_capacity made.old ≤ vec_capacity made.new }

@@ -1,5 +1,6 @@
 //! A disk in memory, which keeps its calls.
-ghost use Rattle.std.specs.Prelude.{◌≡◌, ◌≤◌, ◌<◌, ◌+◌, ◌^◌, ◌-◌, true, drop, List, IfSome, [], ◌∷◌, ◌++◌, ◌&&◌, if◌then◌else◌, nat_le, nat_lt, Some, None, length, min, max, not, is_ok, vec_len, vec_capacity, IfOk, OnOk, OnErr, IsTrue, option_map};
+ghost use Rattle.std.specs.Prelude.{◌≡◌, ◌≤◌, ◌<◌, ◌+◌, ◌^◌, ◌-◌, true, drop, List, IfSome, [], ◌∷◌, ◌++◌, ◌&&◌, if◌then◌else◌, nat_le, nat_lt, Some};
+ghost use Rattle.std.specs.Prelude.{None, length, min, max, not, is_ok, vec_len, vec_capacity, IfOk, OnOk, OnErr, IsTrue, option_map};
 ghost use Rattle.std.specs.Io.{ReadsAtMost};
 ghost use Rattle.amr_causes.specs.Causes.{HasCause, Rose};
 ghost use Rattle.amr_disk.specs.Calls.{Synced, seen_after, left_after, LeavesAt};
@@ -63,7 +64,8 @@ impl MemDisk {
         ensures faultless { IfOk result (λ d. faults_of d ≡ 0) }
         ensures unasked { IfOk result (λ d. asked_of d ≡ 0) }
         ensures idle { IfOk result (λ d. calls_in d ≡ []) }
-        ensures limits { IfOk result (λ d. limits_of d ≡ record { capacity = max capacity (length bytes.now); calls = calls; fails = fails.now; stop = stop }) }
+        ensures limits { IfOk result (λ d. limits_of d
+            ≡ record { capacity = max capacity (length bytes.now); calls = calls; fails = fails.now; stop = stop }) }
     {
         let capacity = (capacity as usize).max(bytes.len());
         Ok(MemDisk {
@@ -260,7 +262,8 @@ impl Disk for MemDisk {
         ensures cause { HasCause (faults_of self.old) (faults_of self.new) result }
         ensures no_fault { OnOk result (faults_of self.new ≡ faults_of self.old) }
         ensures one_fault { OnErr result (faults_of self.new ≡ min (faults_of self.old + 1) (2 ^ 64 - 1)) }
-        ensures answer { is_ok result ≡ (not (is_refused (limits_of self.old) (asked_of self.new)) && has_room (limits_of self.old) (calls_in self.old) at bytes.now) }
+        ensures answer { is_ok result ≡
+            (not (is_refused (limits_of self.old) (asked_of self.new)) && has_room (limits_of self.old) (calls_in self.old) at bytes.now) }
         ensures counted { asked_of self.new ≡ min (asked_of self.old + 1) (2 ^ 64 - 1) }
         ensures calls { calls_in self.new ≡ with_write (limits_of self.old) (calls_in self.old) at bytes.now }
         ensures limits { limits_of self.new ≡ limits_of self.old }

@@ -23,7 +23,8 @@ pub record MayDrive {A : Type 0} (ready : A → State → Type 0) (p : Problem) 
   pub readiness : (k : ℕ) → (state_of mesh).step < k → k ≤ target → ready after (finish p (state_of mesh) k)
 
 -- they were made from this mesh, or as many of them as this answer tells
-pub record HasDriven {A F : Type 0} (made : A → List State → Result Unit F → A → Type 0) (p : Problem) (target : ℕ) (old : Mesh) (before : A) (answer : Result Unit (DriveFault F)) (mesh : Mesh) (after : A) : Type 0 where
+pub record HasDriven {A F : Type 0} (made : A → List State → Result Unit F → A → Type 0) (p : Problem) (target : ℕ) (old : Mesh) (before : A)
+    (answer : Result Unit (DriveFault F)) (mesh : Mesh) (after : A) : Type 0 where
   pub value : OnOk answer (state_of mesh ≡ finish p (state_of old) target)
   pub sound : OnOk answer (IsSound p (state_of mesh))
   -- a mesh that is not spent can be gone on with, after a refusal too
@@ -31,5 +32,8 @@ pub record HasDriven {A F : Type 0} (made : A → List State → Result Unit F �
   pub coarsenable : is_spent mesh ≡ false → AreCoarsenableAbove (levels_of mesh)
   pub whole : OnOk answer (is_spent mesh ≡ false)
   pub all_made : OnOk answer (made before (states_after p (state_of old) (target - (state_of old).step)) (Ok tt) after)
-  pub refused : (f : F) → IsErrOf answer (After f) → (n : ℕ) × (0 < n) × ((state_of old).step + n ≤ target) × (is_spent mesh ≡ false) × (state_of mesh ≡ finish p (state_of old) ((state_of old).step + n)) × made before (states_after p (state_of old) n) (Err f) after
-  pub memory : IsErrOf answer NoMemory → (n : ℕ) × ((state_of old).step + n < target) × ((is_spent mesh ≡ true) ⊎ ((is_spent mesh ≡ false) × (state_of mesh ≡ finish p (state_of old) ((state_of old).step + n)))) × made before (states_after p (state_of old) n) (Ok tt) after
+  pub refused : (f : F) → IsErrOf answer (After f) → (n : ℕ) × (0 < n) × ((state_of old).step + n ≤ target) × (is_spent mesh ≡ false)
+      × (state_of mesh ≡ finish p (state_of old) ((state_of old).step + n)) × made before (states_after p (state_of old) n) (Err f) after
+  pub memory : IsErrOf answer NoMemory → (n : ℕ) × ((state_of old).step + n < target)
+      × ((is_spent mesh ≡ true) ⊎ ((is_spent mesh ≡ false) × (state_of mesh ≡ finish p (state_of old) ((state_of old).step + n))))
+      × made before (states_after p (state_of old) n) (Ok tt) after

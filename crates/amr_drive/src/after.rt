@@ -35,7 +35,8 @@ pub trait AfterStep {
 
     ghost made_none: { (a : Self) → made a [] (Ok tt) a };
 
-    ghost made_more: { (a b c : Self) (states : List State) (s : State) (answer : Result Unit Self.Fault) → made a states (Ok tt) b → answers b s answer c → made a (states ++ s ∷ []) answer c };
+    ghost made_more: { (a b c : Self) (states : List State) (s : State) (answer : Result Unit Self.Fault) → made a states (Ok tt) b → answers b s answer c
+        → made a (states ++ s ∷ []) answer c };
 }
 
 /// Does nothing after a step, and is never refused.

@@ -68,15 +68,18 @@ fn make_step<R: Threads + Wait + Sync, G: Gate + Sync, A: AfterStep>(
     requires team { IfSome workers.old.team (IsTeamFor run.now.job.problem.now workers.old.gate.now workers.old.count) }
     ensures workers { workers.new ≡ workers.old }
     ensures value { OnOk result (state_of mesh.new ≡ next run.now.job.problem.now (state_of mesh.old)) }
-    ensures patches { is_spent mesh.new ≡ false → All (IsChopped run.now.job.problem.now.max_grid_size) (levels_of mesh.old) → All (IsChopped run.now.job.problem.now.max_grid_size) (levels_of mesh.new) }
+    ensures patches { is_spent mesh.new ≡ false → All (IsChopped run.now.job.problem.now.max_grid_size) (levels_of mesh.old)
+        → All (IsChopped run.now.job.problem.now.max_grid_size) (levels_of mesh.new) }
     ensures coarsenable { is_spent mesh.new ≡ false → AreCoarsenableAbove (levels_of mesh.new) }
     ensures whole { OnOk result (is_spent mesh.new ≡ false) }
     ensures answer { OnOk result (A.answers after.old (next run.now.job.problem.now (state_of mesh.old)) (Ok tt) after.new) }
     ensures ready { OnOk result ((s : State) → (next run.now.job.problem.now (state_of mesh.old)).step < s.step → A.ready after.old s → A.ready after.new s) }
     ensures kept { OnOk result (IsKeptFor run.now.job.problem.now kept.new) }
     ensures current { OnOk result (IsCurrent (state_of mesh.new).levels kept.new) }
-    ensures refused { (f : _) → IsErrOf result (DriveFault.After f) → (state_of mesh.new ≡ next run.now.job.problem.now (state_of mesh.old)) × (is_spent mesh.new ≡ false) × A.answers after.old (next run.now.job.problem.now (state_of mesh.old)) (Err f) after.new }
-    ensures memory { IsErrOf result DriveFault.NoMemory → (after.new ≡ after.old) × ((is_spent mesh.new ≡ true) ⊎ ((is_spent mesh.new ≡ false) × (state_of mesh.new ≡ state_of mesh.old))) }
+    ensures refused { (f : _) → IsErrOf result (DriveFault.After f) → (state_of mesh.new ≡ next run.now.job.problem.now (state_of mesh.old))
+        × (is_spent mesh.new ≡ false) × A.answers after.old (next run.now.job.problem.now (state_of mesh.old)) (Err f) after.new }
+    ensures memory { IsErrOf result DriveFault.NoMemory → (after.new ≡ after.old)
+        × ((is_spent mesh.new ≡ true) ⊎ ((is_spent mesh.new ≡ false) × (state_of mesh.new ≡ state_of mesh.old))) }
 {
     make_next(run, workers, mesh, kept)?;
     match after.after(mesh) {
@@ -139,12 +142,17 @@ pub fn drive<R: Threads + Wait + Sync, G: Gate + Sync, A: AfterStep>(
     requires gate { (worker task : ℕ) → worker < crew.workers → G.admits gate.now worker task }
     ensures value { OnOk result (state_of mesh.new ≡ finish p.now (state_of mesh.old) target) }
     ensures sound { OnOk result (IsSound p.now (state_of mesh.new)) }
-    ensures patches { is_spent mesh.new ≡ false → All (IsChopped p.now.max_grid_size) (levels_of mesh.old) → All (IsChopped p.now.max_grid_size) (levels_of mesh.new) }
+    ensures patches { is_spent mesh.new ≡ false → All (IsChopped p.now.max_grid_size) (levels_of mesh.old)
+        → All (IsChopped p.now.max_grid_size) (levels_of mesh.new) }
     ensures coarsenable { is_spent mesh.new ≡ false → AreCoarsenableAbove (levels_of mesh.new) }
     ensures whole { OnOk result (is_spent mesh.new ≡ false) }
     ensures made { OnOk result (A.made after.old (states_after p.now (state_of mesh.old) (target - (state_of mesh.old).step)) (Ok tt) after.new) }
-    ensures refused { (f : _) → IsErrOf result (DriveFault.After f) → (n : ℕ) × (0 < n) × ((state_of mesh.old).step + n ≤ target) × (is_spent mesh.new ≡ false) × (state_of mesh.new ≡ finish p.now (state_of mesh.old) ((state_of mesh.old).step + n)) × A.made after.old (states_after p.now (state_of mesh.old) n) (Err f) after.new }
-    ensures memory { IsErrOf result DriveFault.NoMemory → (n : ℕ) × ((state_of mesh.old).step + n < target) × ((is_spent mesh.new ≡ true) ⊎ ((is_spent mesh.new ≡ false) × (state_of mesh.new ≡ finish p.now (state_of mesh.old) ((state_of mesh.old).step + n)))) × A.made after.old (states_after p.now (state_of mesh.old) n) (Ok tt) after.new }
+    ensures refused { (f : _) → IsErrOf result (DriveFault.After f) → (n : ℕ) × (0 < n) × ((state_of mesh.old).step + n ≤ target)
+        × (is_spent mesh.new ≡ false) × (state_of mesh.new ≡ finish p.now (state_of mesh.old) ((state_of mesh.old).step + n))
+        × A.made after.old (states_after p.now (state_of mesh.old) n) (Err f) after.new }
+    ensures memory { IsErrOf result DriveFault.NoMemory → (n : ℕ) × ((state_of mesh.old).step + n < target)
+        × ((is_spent mesh.new ≡ true) ⊎ ((is_spent mesh.new ≡ false) × (state_of mesh.new ≡ finish p.now (state_of mesh.old) ((state_of mesh.old).step + n))))
+        × A.made after.old (states_after p.now (state_of mesh.old) n) (Ok tt) after.new }
 {
     let run = Run {
         alloc,

@@ -95,7 +95,8 @@ pub(crate) fn make_next<R: Threads + Wait + Sync, G: Gate + Sync>(
     ensures workers { workers.new ≡ workers.old }
     ensures value { OnOk result (state_of mesh.new ≡ next run.now.job.problem.now (state_of mesh.old)) }
     ensures sound { OnOk result (IsSound run.now.job.problem.now (state_of mesh.new)) }
-    ensures patches { is_spent mesh.new ≡ false → All (IsChopped run.now.job.problem.now.max_grid_size) (levels_of mesh.old) → All (IsChopped run.now.job.problem.now.max_grid_size) (levels_of mesh.new) }
+    ensures patches { is_spent mesh.new ≡ false → All (IsChopped run.now.job.problem.now.max_grid_size) (levels_of mesh.old)
+        → All (IsChopped run.now.job.problem.now.max_grid_size) (levels_of mesh.new) }
     ensures coarsenable { is_spent mesh.new ≡ false → AreCoarsenableAbove (levels_of mesh.new) }
     ensures whole { OnOk result (is_spent mesh.new ≡ false) }
     ensures kept { OnOk result (IsKeptFor run.now.job.problem.now kept.new) }

@@ -76,7 +76,9 @@ fn drive_by_drawing<'a, R: Threads + Wait + Sync, G: Gate + Sync, A: AfterStep>(
             requires { All (λ r. IsRecruit job.now gate.now (arc_value r.mailbox) r.worker r.number) recruits.items }
         { serve_all(rt, &mut recruits, job, gate) },
         &mut || -> Result<(), DriveFault<A::Fault>>
-            requires { MayDrive A.ready run.now.job.problem.now run.now.target mesh.now after.now × (1 ≤ workers.count) × (workers.count ≤ 64) × ((worker task : ℕ) → worker < workers.count → G.admits workers.gate.now worker task) × IfSome workers.team (IsTeamFor run.now.job.problem.now workers.gate.now workers.count) }
+            requires { MayDrive A.ready run.now.job.problem.now run.now.target mesh.now after.now × (1 ≤ workers.count) × (workers.count ≤ 64)
+                × ((worker task : ℕ) → worker < workers.count → G.admits workers.gate.now worker task)
+                × IfSome workers.team (IsTeamFor run.now.job.problem.now workers.gate.now workers.count) }
             ensures { HasDriven A.made run.entry.now.job.problem.now run.entry.now.target mesh.entry.now after.entry.now result mesh.exit.now after.exit.now }
         { lead(run, &mut workers, mesh, after) },
     );
@@ -116,7 +118,9 @@ fn drive_by_sharing<'a, R: Threads + Wait + Sync, G: Gate + Sync, A: AfterStep>(
             requires { All (λ r. IsLotRecruit service.now (arc_value r.mailbox) r.worker) recruits.items }
         { serve_lots(rt, &mut recruits, service) },
         &mut || -> Result<(), DriveFault<A::Fault>>
-            requires { MayDrive A.ready run.now.job.problem.now run.now.target mesh.now after.now × (1 ≤ workers.count) × (workers.count ≤ 64) × ((worker task : ℕ) → worker < workers.count → G.admits workers.gate.now worker task) × IfSome workers.team (IsTeamFor run.now.job.problem.now workers.gate.now workers.count) }
+            requires { MayDrive A.ready run.now.job.problem.now run.now.target mesh.now after.now × (1 ≤ workers.count) × (workers.count ≤ 64)
+                × ((worker task : ℕ) → worker < workers.count → G.admits workers.gate.now worker task)
+                × IfSome workers.team (IsTeamFor run.now.job.problem.now workers.gate.now workers.count) }
             ensures { HasDriven A.made run.entry.now.job.problem.now run.entry.now.target mesh.entry.now after.entry.now result mesh.exit.now after.exit.now }
         { lead(run, &mut workers, mesh, after) },
     );

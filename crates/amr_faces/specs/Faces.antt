@@ -65,7 +65,8 @@ border_faces q = passing (is_border q) (x_end (box q)) (height (box q)) ++ passi
 -- how many border faces come before a face
 abbrev pub place_along : Axis → Patch → Face → ℕ
 place_along X q f = length (passing (is_border q) (x_end (box q)) (at_least_zero (f.y -ℤ (box q).lo.y)))
-place_along Y q f = length (passing (is_border q) (x_end (box q)) (height (box q))) + length (passing (is_border q) (y_end (box q)) (at_least_zero (f.x -ℤ (box q).lo.x)))
+place_along Y q f =
+    length (passing (is_border q) (x_end (box q)) (height (box q))) + length (passing (is_border q) (y_end (box q)) (at_least_zero (f.x -ℤ (box q).lo.x)))
 
 unfoldable pub border_place : Patch → Face → ℕ
 border_place q f = place_along f.axis q f

@@ -32,7 +32,8 @@ use Rattle.amr_transfer.specs.Sums.{AreCoarsenable}
 -- where a patch's ghost cells are marked as those of the level's patches ps, the border faces by the boxes of the level are
 -- those by the marks
 abbrev pub BordersAreMarked : Type 0
-BordersAreMarked = (p : Problem) (l : ℕ) (ps : List Patch) (q : Patch) → HasGhostMarks p l (masses_in ps) q → borders_of (domain p l) ps (box q) ≡ border_faces q
+BordersAreMarked =
+    (p : Problem) (l : ℕ) (ps : List Patch) (q : Patch) → HasGhostMarks p l (masses_in ps) q → borders_of (domain p l) ps (box q) ≡ border_faces q
 
 -- and a patch owns a face of its cells where it has the cell at the high side, or where no patch has the cell that this one
 -- stands for (profile)
@@ -49,34 +50,46 @@ PutsAreOwnEdges = (p : Problem) (l : ℕ) (ps : List Patch) → l ≤ 4 → AreP
 
 -- so is each face of an add, where the adds have the flows of the patch
 abbrev pub AddsAreOwnEdges : Type 0
-AddsAreOwnEdges = (p : Problem) (l : ℕ) (ps : List Patch) (cells : List Cell) (finer : Option Held) (q : Patch) (adds : List AddAt) → All (λ r. IsInDomain (domain p l) (box r)) ps → HasGhostMarks p l (masses_in ps) q
+AddsAreOwnEdges =
+    (p : Problem) (l : ℕ) (ps : List Patch) (cells : List Cell) (finer : Option Held) (q : Patch) (adds : List AddAt)
+    → All (λ r. IsInDomain (domain p l) (box r)) ps → HasGhostMarks p l (masses_in ps) q
     → flows_in adds ≡ flows_of (around p l ps cells finer) (box q) → All (λ (a : AddAt). All (IsOwnEdge q) a.faces.items) adds
 
 -- patch i reads border face k at a place where a patch of the level puts the face that this one stands for
 abbrev pub BordersArePut : Type 0
-BordersArePut = (p : Problem) (l : ℕ) (ps : List Patch) (i k : ℕ) (q : Patch) (f : Face) → i < length ps → k < length (borders_of (domain p l) ps (box (slice_index_or ps i q)))
-    → IsPut (domain p l) ps (slice_index (border_places (domain p l) ps i) k) (home_face (domain p l) (slice_index_or (borders_of (domain p l) ps (box (slice_index_or ps i q))) k f))
+BordersArePut =
+    (p : Problem) (l : ℕ) (ps : List Patch) (i k : ℕ) (q : Patch) (f : Face) → i < length ps
+    → k < length (borders_of (domain p l) ps (box (slice_index_or ps i q)))
+    → IsPut (domain p l) ps (slice_index (border_places (domain p l) ps i) k)
+    (home_face (domain p l) (slice_index_or (borders_of (domain p l) ps (box (slice_index_or ps i q))) k f))
 
 -- and patches that have the values of the level find one flux through a face and through the face that it stands for
 abbrev pub FluxesAgree : Type 0
 FluxesAgree = (p : Problem) (l : ℕ) (m old : Masses) (q r : Patch) (f : Face) → l ≤ 4 → ShowsValues p l m old q → ShowsValues p l m old r
-    → IsTrue (is_face_of (box q) f) → IsTrue (is_face_of (box r) (home_face (domain p l) f)) → flux_beside p l r (home_face (domain p l) f) ≡ flux_beside p l q f
+    → IsTrue (is_face_of (box q) f) → IsTrue (is_face_of (box r) (home_face (domain p l) f))
+    → flux_beside p l r (home_face (domain p l) f) ≡ flux_beside p l q f
 
 -- ---- register cells
 
 -- the register cells of a level k stand in order, and are all that lie across the coarse-fine edges of the patches ps of the
 -- next finer level (Berger and Colella: the cells of the coarse grid along the boundary of the fine one)
 abbrev pub RegistersServeLayouts : Type 0
-RegistersServeLayouts = (p : Problem) (l : ℕ) (k fine : Level) (ps : List Patch) (finer : Option Held) → IsLevel p l k → IsLevel p (suc l) fine → IsNestedLevel p l k fine → masses_in ps ≡ fine.masses
+RegistersServeLayouts =
+    (p : Problem) (l : ℕ) (k fine : Level) (ps : List Patch) (finer : Option Held) → IsLevel p l k → IsLevel p (suc l) fine → IsNestedLevel p l k fine
+    → masses_in ps ≡ fine.masses
     → HasRegisterCells (around p (suc l) ps (register_cells p l k.masses fine.masses) finer)
 
 -- level 0 is the whole domain, so that it has no coarse-fine edge
 abbrev pub BaseHasNoRegisterCells : Type 0
-BaseHasNoRegisterCells = (p : Problem) (ps : List Patch) (finer : Option Held) → ((c : Cell) → IsTrue (in_domain (domain p 0) c) → IsTrue (in_patches ps c)) → HasRegisterCells (around p 0 ps [] finer)
+BaseHasNoRegisterCells =
+    (p : Problem) (ps : List Patch) (finer : Option Held) → ((c : Cell) → IsTrue (in_domain (domain p 0) c) → IsTrue (in_patches ps c))
+    → HasRegisterCells (around p 0 ps [] finer)
 
 -- ---- patches of a level above level 0
 
 -- no patch cuts a cell of the coarser level, where the boxes are aligned and the patch boxes are their parts, in any order
 -- (AMReX: coarsenable)
 abbrev pub PatchesAreCoarsenable : Type 0
-PatchesAreCoarsenable = (p : Problem) (boxes : List Extent) (ps : List Patch) → All (IsAligned p.blocking) boxes → IsPermutation (flat_map (chopped p.max_grid_size) boxes) (map box ps) → AreCoarsenable ps
+PatchesAreCoarsenable =
+    (p : Problem) (boxes : List Extent) (ps : List Patch) → All (IsAligned p.blocking) boxes
+    → IsPermutation (flat_map (chopped p.max_grid_size) boxes) (map box ps) → AreCoarsenable ps

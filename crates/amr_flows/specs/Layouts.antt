@@ -39,7 +39,8 @@ pub record IsExact (s : Around) : Type 0 where
   pub put_by_owner : (q : Patch) → All (IsOwnPut s q) (puts_of (domain_around s) s.patches (box q))
   -- what a patch adds to a word is what flows through the faces on its edges whose flows go there, each counted once, whatever flows
   pub added_once : (q : Patch) (flow : Face → ℕ) (word : ℕ)
-      → word_total flow word (flows_of s (box q)) ≡ sum_to (λ n. cond (goes_to s (box q) word (edge_face (box q) n)) (flow (edge_face (box q) n)) 0) (edge_count (box q))
+      → word_total flow word (flows_of s (box q))
+      ≡ sum_to (λ n. cond (goes_to s (box q) word (edge_face (box q) n)) (flow (edge_face (box q) n)) 0) (edge_count (box q))
 
 -- the layout of patches with no cell in common is exact
 abbrev pub LayoutsAreExact : Type 0

@@ -53,11 +53,13 @@ RegistersGiveTheStep = (p : Problem) (l : ℕ) (k fine : Level) (ks : List Level
     → let first : Stepped = step p (suc l) (masses_of (fine ∷ ks)) k.masses in
     let second : Stepped = step p (suc l) (masses_of (after_step p (suc l) (fine ∷ ks) k.masses)) k.masses in
     AreGathered p l k old fine.masses (first_of first.levels) e
-    → (step p l (masses_of (k ∷ fine ∷ ks)) old).levels ≡ summed (first_of second.levels) (with_entries e (updated k.masses (flux_at p l k.masses old))) ∷ second.levels
+    → (step p l (masses_of (k ∷ fine ∷ ks)) old).levels
+    ≡ summed (first_of second.levels) (with_entries e (updated k.masses (flux_at p l k.masses old))) ∷ second.levels
 
 -- of a level alone it is the step with plain fluxes
 abbrev pub PlainFluxesGiveTheStep : Type 0
-PlainFluxesGiveTheStep = (p : Problem) (l : ℕ) (k : Level) (old : Masses) → (step p l (masses_of (k ∷ [])) old).levels ≡ updated k.masses (flux_at p l k.masses old) ∷ []
+PlainFluxesGiveTheStep =
+    (p : Problem) (l : ℕ) (k : Level) (old : Masses) → (step p l (masses_of (k ∷ [])) old).levels ≡ updated k.masses (flux_at p l k.masses old) ∷ []
 
 -- levels that cover the same cells, and so have the same registers and coarse-fine edges
 pub record CoverAlike (fine after : Masses) : Type 0 where
@@ -68,7 +70,9 @@ pub record CoverAlike (fine after : Masses) : Type 0 where
 
 -- a step of levels leaves what the coarsest of them covers
 abbrev pub StepKeepsCover : Type 0
-StepKeepsCover = (p : Problem) (l : ℕ) (ks : List Level) (old : Masses) → AreLevels p l ks → CoverAlike (first_of (masses_of ks)) (first_of (step p l (masses_of ks) old).levels)
+StepKeepsCover =
+    (p : Problem) (l : ℕ) (ks : List Level) (old : Masses) → AreLevels p l ks
+    → CoverAlike (first_of (masses_of ks)) (first_of (step p l (masses_of ks) old).levels)
 
 -- ---- its numbers
 
@@ -82,13 +86,17 @@ pub record GatheredFits (p : Problem) (l : ℕ) (k : Level) (old fine between : 
 
 -- in each step of levels within the step from a sound state
 abbrev pub RefluxFits : Type 0
-RefluxFits = (p : Problem) (s : State) (l : ℕ) (k fine : Level) (ks : List Level) (old : Masses) (c : Cell) → IsSound p s → s.step < p.steps → IsSubstep p s l (k ∷ fine ∷ ks) old → Contains (register_cells p l k.masses fine.masses) c
+RefluxFits =
+    (p : Problem) (s : State) (l : ℕ) (k fine : Level) (ks : List Level) (old : Masses) (c : Cell) → IsSound p s → s.step < p.steps
+    → IsSubstep p s l (k ∷ fine ∷ ks) old → Contains (register_cells p l k.masses fine.masses) c
     → GatheredFits p l k old fine.masses (first_of (step p (suc l) (masses_of (fine ∷ ks)) k.masses).levels) c
 
 -- while patches take their plain flows from entries, one patch after the other, entries stay small: of no face are two of them
 -- the owner
 abbrev pub PartsTakenFit : Type 0
-PartsTakenFit = (p : Problem) (l : ℕ) (m old fine : Masses) (ps : List Patch) (c : Cell) → ((f : Face) → unsigned_abs (flux_at p l m old f) < 2 ^ 31) → ArePatchesApart ps → All (ShowsValues p l m old) ps
+PartsTakenFit =
+    (p : Problem) (l : ℕ) (m old fine : Masses) (ps : List Patch) (c : Cell) → ((f : Face) → unsigned_abs (flux_at p l m old f) < 2 ^ 31) → ArePatchesApart ps
+    → All (ShowsValues p l m old) ps
     → unsigned_abs (net_of_all p l fine ps c) < 2 ^ 33
 
 -- ---- its ledger
@@ -99,12 +107,17 @@ flows_of_step flows p l ks old = over_levels flows p (length (masses_of ks)) l (
 
 -- they are those of the coarsest level and those of both finer steps
 abbrev pub FlowsAreOfFinerSteps : Type 0
-FlowsAreOfFinerSteps = (flows : ℕ → (Cell → Bool) → Fluxes → ℕ) (p : Problem) (l : ℕ) (k fine : Level) (ks : List Level) (old : Masses) → AreLevels p (suc l) (fine ∷ ks)
-    → flows_of_step flows p l (k ∷ fine ∷ ks) old ≡ flows l (is_uncovered k.masses fine.masses) (flux_at p l k.masses old) + (flows_of_step flows p (suc l) (fine ∷ ks) k.masses + flows_of_step flows p (suc l) (after_step p (suc l) (fine ∷ ks) k.masses) k.masses)
+FlowsAreOfFinerSteps =
+    (flows : ℕ → (Cell → Bool) → Fluxes → ℕ) (p : Problem) (l : ℕ) (k fine : Level) (ks : List Level) (old : Masses) → AreLevels p (suc l) (fine ∷ ks)
+    → flows_of_step flows p l (k ∷ fine ∷ ks) old
+    ≡ flows l (is_uncovered k.masses fine.masses) (flux_at p l k.masses old)
+    + (flows_of_step flows p (suc l) (fine ∷ ks) k.masses + flows_of_step flows p (suc l) (after_step p (suc l) (fine ∷ ks) k.masses) k.masses)
 
 -- and of a level alone those of the level, of which nothing is covered
 abbrev pub FlowsAreOfLevelAlone : Type 0
-FlowsAreOfLevelAlone = (flows : ℕ → (Cell → Bool) → Fluxes → ℕ) (p : Problem) (l : ℕ) (k : Level) (old : Masses) → flows_of_step flows p l (k ∷ []) old ≡ flows l (is_uncovered k.masses no_masses) (flux_at p l k.masses old)
+FlowsAreOfLevelAlone =
+    (flows : ℕ → (Cell → Bool) → Fluxes → ℕ) (p : Problem) (l : ℕ) (k : Level) (old : Masses)
+    → flows_of_step flows p l (k ∷ []) old ≡ flows l (is_uncovered k.masses no_masses) (flux_at p l k.masses old)
 
 -- what flows through open sides in a step of levels
 pub record LedgerFits (p : Problem) (l : ℕ) (ks : List Level) (old : Masses) : Type 0 where

@@ -1,7 +1,8 @@
 //! Laws that join what several crates know of a level's edges, so that a step of levels can stand on all of them. Each call
 //! has an empty body, and what it ensures is the law.
 
-ghost use Rattle.amr_flows.specs.Edges.{AddsAreOwnEdges, BaseHasNoRegisterCells, BordersAreMarked, BordersArePut, FluxesAgree, OwnersAreTold, PatchesAreCoarsenable, PutsAreOwnEdges, RegistersServeLayouts};
+ghost use Rattle.amr_flows.specs.Edges.{AddsAreOwnEdges, BaseHasNoRegisterCells, BordersAreMarked, BordersArePut, FluxesAgree};
+ghost use Rattle.amr_flows.specs.Edges.{OwnersAreTold, PatchesAreCoarsenable, PutsAreOwnEdges, RegistersServeLayouts};
 
 /// The layout tells a patch's border faces by the boxes of the level, and the patch tells its own by the marks of its frame.
 /// Where the marks are right both have the same faces in the same order.

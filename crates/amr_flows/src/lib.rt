@@ -7,7 +7,8 @@
 
 ghost use Rattle.amr_flows.specs.Layouts.{LayoutsAreExact};
 ghost use Rattle.amr_flows.specs.Laws.{InflowIsOfLevel, OutflowIsOfLevel, RegisterWordsAreOfChildren};
-ghost use Rattle.amr_flows.specs.Subcycle.{FlowsAreOfFinerSteps, FlowsAreOfLevelAlone, FlowsFit, PartsTakenFit, PlainFluxesGiveTheStep, RefluxFits, RegistersGiveTheStep, StepKeepsCover};
+ghost use Rattle.amr_flows.specs.Subcycle.{FlowsAreOfFinerSteps, FlowsAreOfLevelAlone, FlowsFit, PartsTakenFit};
+ghost use Rattle.amr_flows.specs.Subcycle.{PlainFluxesGiveTheStep, RefluxFits, RegistersGiveTheStep, StepKeepsCover};
 
 mod edges;
 

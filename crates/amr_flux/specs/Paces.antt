@@ -1,6 +1,7 @@
 -- A step of a patch where one Courant number holds along each axis: each cell gives its shares and gets those of the cells that
 -- flow into it (donor cell), told by masses alone.
-use Rattle.std.specs.Prelude.{◌≡◌, ◌≢◌, ℕ, zero, suc, ◌+◌, ◌-◌, ◌*◌, ◌^◌, ◌<◌, ◌≤◌, Bool, true, false, ◌&&◌, cond, nat_eq, ℤ, pos, negsuc, ◌+ℤ◌, ◌≤ℤ◌, ◌<ℤ◌, List, length, slice_index, IsTrue}
+use Rattle.std.specs.Prelude.{◌≡◌, ◌≢◌, ℕ, zero, suc, ◌+◌, ◌-◌, ◌*◌, ◌^◌, ◌<◌, ◌≤◌, Bool, true, false, ◌&&◌, cond, nat_eq}
+use Rattle.std.specs.Prelude.{ℤ, pos, negsuc, ◌+ℤ◌, ◌≤ℤ◌, ◌<ℤ◌, List, length, slice_index, IsTrue}
 use Rattle.amr_flux.specs.declared.pace.Pace.{Pace}
 use Rattle.amr_faces.specs.Shares.{signed, share_of}
 use Rattle.amr_flux.specs.Tables.{count_below, net_inflow, value, x_marked, y_marked}
@@ -57,7 +58,8 @@ pub record IsReadyRow (pace : Pace) (w j : ℕ) (values entering : List ℕ) : T
 
 -- each cell of row j has what it had, less what flowed out, and what flowed in along the row and by `entering`
 pub record IsSteppedRow (pace : Pace) (w j : ℕ) (old new entering : List ℕ) : Type 0 where
-  pub totals : (i : ℕ) → i < w → value w new (i + 1) (j + 1) + gone pace (value w old (i + 1) (j + 1)) ≡ value w old (i + 1) (j + 1) + (x_share pace (x_before pace.x.number w old i j) + slice_index entering i)
+  pub totals : (i : ℕ) → i < w → value w new (i + 1) (j + 1) + gone pace (value w old (i + 1) (j + 1))
+      ≡ value w old (i + 1) (j + 1) + (x_share pace (x_before pace.x.number w old i j) + slice_index entering i)
   pub others : (k : ℕ) → ((i : ℕ) → i < w → k ≢ (j + 1) * (w + 2) + (i + 1)) → slice_index new k ≡ slice_index old k
 
 -- ---- rows from the low one up, or from the high one down
@@ -83,7 +85,8 @@ y_before true w values i j = value w values (i + 1) (j + 2)
 
 -- a cell of a row has what it had, less what flowed out, and what flowed in
 pub record IsStepped (pace : Pace) (down : Bool) (w : ℕ) (old new : List ℕ) (i j : ℕ) : Type 0 where
-  pub total : value w new (i + 1) (j + 1) + gone pace (value w old (i + 1) (j + 1)) ≡ value w old (i + 1) (j + 1) + (x_share pace (x_before pace.x.number w old i j) + y_share pace (y_before down w old i j))
+  pub total : value w new (i + 1) (j + 1) + gone pace (value w old (i + 1) (j + 1))
+      ≡ value w old (i + 1) (j + 1) + (x_share pace (x_before pace.x.number w old i j) + y_share pace (y_before down w old i j))
 
 -- what flows through x face i of row j and y face j of column i, at Courant number c/d
 abbrev pub x_between : ℤ → ℕ → ℕ → List ℕ → ℕ → ℕ → ℤ

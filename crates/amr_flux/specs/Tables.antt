@@ -1,7 +1,8 @@
 -- The fluxes of a patch's faces by its lists, where columns and rows count from the low corner. A row of values has two
 -- cells of the frame besides the patch's own, and there are two such rows more: cell (i, j) of the patch stands in column
 -- i + 1 of row j + 1.
-use Rattle.std.specs.Prelude.{◌≡◌, ◌≢◌, ℕ, zero, suc, ◌+◌, ◌≤◌, ◌*◌, ◌^◌, ◌<◌, Bool, false, ◌&&◌, cond, nat_eq, ℤ, pos, ◌+ℤ◌, ◌-ℤ◌, List, slice_index, slice_index_or}
+use Rattle.std.specs.Prelude.{◌≡◌, ◌≢◌, ℕ, zero, suc, ◌+◌, ◌≤◌, ◌*◌, ◌^◌, ◌<◌, Bool, false, ◌&&◌, cond}
+use Rattle.std.specs.Prelude.{nat_eq, ℤ, pos, ◌+ℤ◌, ◌-ℤ◌, List, slice_index, slice_index_or}
 use Rattle.amr_box.specs.Cells.{Extent, height, width}
 use Rattle.amr_def.specs.declared.problem.Problem.{Problem}
 use Rattle.amr_def.specs.Domain.{columns, rows}

@@ -78,7 +78,11 @@ pub(crate) fn exchange_tops(
     requires width { length across.now ≡ shape.w }
     requires fit { (i : ℕ) → i < shape.w → IsFit pace (value shape.w values.old (i + 1) (shape.h + 1)) }
     requires enough { count_below (y_marked shape.w shape.h border.marks.now) shape.w ≤ length border.sizes.now }
-    ensures tops { (i : ℕ) (z : ℤ) → i < shape.w → IsWordOf z (value shape.w values.old (i + 1) shape.h) → IsWordOf (z +ℤ (signed pace.y.number (top_share down pace shape.w shape.h values.old across.now i) -ℤ cond (y_marked shape.w shape.h border.entry.marks.now i) (signed pace.y.number (slice_index border.entry.sizes.now (count_below (y_marked shape.w shape.h border.entry.marks.now) i))) (signed pace.y.number (top_share down pace shape.w shape.h values.old across.now i)))) (value shape.w values.new (i + 1) shape.h) }
+    ensures tops { (i : ℕ) (z : ℤ) → i < shape.w → IsWordOf z (value shape.w values.old (i + 1) shape.h)
+        → IsWordOf (z +ℤ (signed pace.y.number (top_share down pace shape.w shape.h values.old across.now i)
+        -ℤ cond (y_marked shape.w shape.h border.entry.marks.now i)
+        (signed pace.y.number (slice_index border.entry.sizes.now (count_below (y_marked shape.w shape.h border.entry.marks.now) i)))
+        (signed pace.y.number (top_share down pace shape.w shape.h values.old across.now i)))) (value shape.w values.new (i + 1) shape.h) }
     ensures others { (k : ℕ) → ((i : ℕ) → i < shape.w → k ≢ shape.h * (shape.w + 2) + (i + 1)) → slice_index values.new k ≡ slice_index values.old k }
 {
     let mut used = 0;

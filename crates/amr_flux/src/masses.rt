@@ -28,9 +28,11 @@ pub fn update(p: &Problem, l: u32, patch: &mut Patch, border: &[u32], room: &mut
     requires small { (c : Cell) → IsTrue (in_reach (box patch.old) c) → value_in patch.old c < 2 ^ 31 }
     requires border_small { AreSmall border.now }
     requires kept { (c : Cell) → IsTrue (holds (box patch.old) c) → pos 0 ≤ℤ (pos (mass_in patch.old c) +ℤ net (fluxes_with p.now l patch.old border.now) c) }
-    requires fits { (c : Cell) → IsTrue (holds (box patch.old) c) → (pos (mass_in patch.old c) +ℤ net (fluxes_with p.now l patch.old border.now) c) <ℤ pos (2 ^ 32) }
+    requires fits { (c : Cell) → IsTrue (holds (box patch.old) c)
+        → (pos (mass_in patch.old c) +ℤ net (fluxes_with p.now l patch.old border.now) c) <ℤ pos (2 ^ 32) }
     requires room { width (box patch.old) ≤ widest room.old }
-    ensures masses { (c : Cell) → IsTrue (holds (box patch.old) c) → pos (mass_in patch.new c) ≡ pos (mass_in patch.old c) +ℤ net (fluxes_with p.now l patch.old border.now) c }
+    ensures masses { (c : Cell) → IsTrue (holds (box patch.old) c)
+        → pos (mass_in patch.new c) ≡ pos (mass_in patch.old c) +ℤ net (fluxes_with p.now l patch.old border.now) c }
     ensures of_box { box patch.new ≡ box patch.old }
     ensures frame { (c : Cell) → IsTrue (in_frame (box patch.old) c) → value_in patch.new c ≡ value_in patch.old c }
     ensures marks { SameMarks patch.old patch.new }
@@ -57,7 +59,8 @@ pub fn update_alone(p: &Problem, l: u32, patch: &mut Patch, room: &mut Room)
     requires kept { (c : Cell) → IsTrue (holds (box patch.old) c) → pos 0 ≤ℤ (pos (mass_in patch.old c) +ℤ net (flux_beside p.now l patch.old) c) }
     requires fits { (c : Cell) → IsTrue (holds (box patch.old) c) → (pos (mass_in patch.old c) +ℤ net (flux_beside p.now l patch.old) c) <ℤ pos (2 ^ 32) }
     requires room { width (box patch.old) ≤ widest room.old }
-    ensures masses { (c : Cell) → IsTrue (holds (box patch.old) c) → pos (mass_in patch.new c) ≡ pos (mass_in patch.old c) +ℤ net (flux_beside p.now l patch.old) c }
+    ensures masses { (c : Cell) → IsTrue (holds (box patch.old) c)
+        → pos (mass_in patch.new c) ≡ pos (mass_in patch.old c) +ℤ net (flux_beside p.now l patch.old) c }
     ensures of_box { box patch.new ≡ box patch.old }
     ensures frame { (c : Cell) → IsTrue (in_frame (box patch.old) c) → value_in patch.new c ≡ value_in patch.old c }
     ensures marks { SameMarks patch.old patch.new }

@@ -33,13 +33,24 @@ fn update_plain(
     requires some_columns { 0 < shape.w }
     requires some { 0 < shape.h }
     requires room { shape.w ≤ widest room.old }
-    requires enough { count_below (x_marked shape.w border.marks.now) shape.h + count_below (y_marked shape.w shape.h border.marks.now) shape.w ≤ length border.sizes.now }
+    requires enough { count_below (x_marked shape.w border.marks.now) shape.h + count_below (y_marked shape.w shape.h border.marks.now) shape.w
+        ≤ length border.sizes.now }
     requires border_small { AreSmall border.sizes.now }
     requires x_small { AreXSmall shape.w shape.h values.old }
     requires y_small { AreYSmall shape.w shape.h values.old }
-    requires kept { (i j : ℕ) → i < shape.w → j < shape.h → pos 0 ≤ℤ (pos (value shape.w values.old (i + 1) (j + 1)) +ℤ net_inflow (x_through p.now shape.level shape.row shape.w border.marks.now border.sizes.now values.old) (y_through p.now shape.level shape.column shape.w shape.h border.marks.now border.sizes.now values.old) i j) }
-    requires fits { (i j : ℕ) → i < shape.w → j < shape.h → (pos (value shape.w values.old (i + 1) (j + 1)) +ℤ net_inflow (x_through p.now shape.level shape.row shape.w border.marks.now border.sizes.now values.old) (y_through p.now shape.level shape.column shape.w shape.h border.marks.now border.sizes.now values.old) i j) <ℤ pos (2 ^ 32) }
-    ensures made { (i j : ℕ) → i < shape.w → j < shape.h → pos (value shape.w values.new (i + 1) (j + 1)) ≡ pos (value shape.w values.old (i + 1) (j + 1)) +ℤ net_inflow (x_through p.now shape.level shape.row shape.w border.entry.marks.now border.entry.sizes.now values.old) (y_through p.now shape.level shape.column shape.w shape.h border.entry.marks.now border.entry.sizes.now values.old) i j }
+    requires kept { (i j : ℕ) → i < shape.w → j < shape.h
+        → pos 0 ≤ℤ (pos (value shape.w values.old (i + 1) (j + 1))
+        +ℤ net_inflow (x_through p.now shape.level shape.row shape.w border.marks.now border.sizes.now values.old)
+        (y_through p.now shape.level shape.column shape.w shape.h border.marks.now border.sizes.now values.old) i j) }
+    requires fits { (i j : ℕ) → i < shape.w → j < shape.h
+        → (pos (value shape.w values.old (i + 1) (j + 1))
+        +ℤ net_inflow (x_through p.now shape.level shape.row shape.w border.marks.now border.sizes.now values.old)
+        (y_through p.now shape.level shape.column shape.w shape.h border.marks.now border.sizes.now values.old) i j) <ℤ pos (2 ^ 32) }
+    ensures made { (i j : ℕ) → i < shape.w → j < shape.h
+        → pos (value shape.w values.new (i + 1) (j + 1))
+        ≡ pos (value shape.w values.old (i + 1) (j + 1))
+        +ℤ net_inflow (x_through p.now shape.level shape.row shape.w border.entry.marks.now border.entry.sizes.now values.old)
+        (y_through p.now shape.level shape.column shape.w shape.h border.entry.marks.now border.entry.sizes.now values.old) i j }
     ensures others { (k : ℕ) → IsOtherPlace shape.w shape.h k → slice_index values.new k ≡ slice_index values.old k }
     ensures room { widest room.new ≡ widest room.old }
 {
@@ -67,13 +78,24 @@ pub(crate) fn update_cells(
     requires some_columns { 0 < shape.w }
     requires some { 0 < shape.h }
     requires room { shape.w ≤ widest room.old }
-    requires enough { count_below (x_marked shape.w border.marks.now) shape.h + count_below (y_marked shape.w shape.h border.marks.now) shape.w ≤ length border.sizes.now }
+    requires enough { count_below (x_marked shape.w border.marks.now) shape.h + count_below (y_marked shape.w shape.h border.marks.now) shape.w
+        ≤ length border.sizes.now }
     requires border_small { AreSmall border.sizes.now }
     requires x_small { AreXSmall shape.w shape.h values.old }
     requires y_small { AreYSmall shape.w shape.h values.old }
-    requires kept { (i j : ℕ) → i < shape.w → j < shape.h → pos 0 ≤ℤ (pos (value shape.w values.old (i + 1) (j + 1)) +ℤ net_inflow (x_through p.now shape.level shape.row shape.w border.marks.now border.sizes.now values.old) (y_through p.now shape.level shape.column shape.w shape.h border.marks.now border.sizes.now values.old) i j) }
-    requires fits { (i j : ℕ) → i < shape.w → j < shape.h → (pos (value shape.w values.old (i + 1) (j + 1)) +ℤ net_inflow (x_through p.now shape.level shape.row shape.w border.marks.now border.sizes.now values.old) (y_through p.now shape.level shape.column shape.w shape.h border.marks.now border.sizes.now values.old) i j) <ℤ pos (2 ^ 32) }
-    ensures made { (i j : ℕ) → i < shape.w → j < shape.h → pos (value shape.w values.new (i + 1) (j + 1)) ≡ pos (value shape.w values.old (i + 1) (j + 1)) +ℤ net_inflow (x_through p.now shape.level shape.row shape.w border.entry.marks.now border.entry.sizes.now values.old) (y_through p.now shape.level shape.column shape.w shape.h border.entry.marks.now border.entry.sizes.now values.old) i j }
+    requires kept { (i j : ℕ) → i < shape.w → j < shape.h
+        → pos 0 ≤ℤ (pos (value shape.w values.old (i + 1) (j + 1))
+        +ℤ net_inflow (x_through p.now shape.level shape.row shape.w border.marks.now border.sizes.now values.old)
+        (y_through p.now shape.level shape.column shape.w shape.h border.marks.now border.sizes.now values.old) i j) }
+    requires fits { (i j : ℕ) → i < shape.w → j < shape.h
+        → (pos (value shape.w values.old (i + 1) (j + 1))
+        +ℤ net_inflow (x_through p.now shape.level shape.row shape.w border.marks.now border.sizes.now values.old)
+        (y_through p.now shape.level shape.column shape.w shape.h border.marks.now border.sizes.now values.old) i j) <ℤ pos (2 ^ 32) }
+    ensures made { (i j : ℕ) → i < shape.w → j < shape.h
+        → pos (value shape.w values.new (i + 1) (j + 1))
+        ≡ pos (value shape.w values.old (i + 1) (j + 1))
+        +ℤ net_inflow (x_through p.now shape.level shape.row shape.w border.entry.marks.now border.entry.sizes.now values.old)
+        (y_through p.now shape.level shape.column shape.w shape.h border.entry.marks.now border.entry.sizes.now values.old) i j }
     ensures others { (k : ℕ) → IsOtherPlace shape.w shape.h k → slice_index values.new k ≡ slice_index values.old k }
     ensures room { widest room.new ≡ widest room.old }
 {

@@ -41,7 +41,8 @@ fn step_rows(
     requires enough { count_below (x_marked shape.w border.marks.now) shape.h ≤ length border.sizes.now }
     requires entering { (i : ℕ) → i < shape.w → slice_index across.old i ≡ y_share pace (value shape.w values.old (i + 1) (row_before down shape.h 0)) }
     ensures ends { result ≡ count_below (x_marked shape.w border.entry.marks.now) shape.h }
-    ensures cells { (i j : ℕ) → i < shape.w → j < shape.h → IsWordOf (mass_by_ends pace shape.w border.entry.marks.now border.entry.sizes.now values.old i j) (value shape.w values.new (i + 1) (j + 1)) }
+    ensures cells { (i j : ℕ) → i < shape.w → j < shape.h
+        → IsWordOf (mass_by_ends pace shape.w border.entry.marks.now border.entry.sizes.now values.old i j) (value shape.w values.new (i + 1) (j + 1)) }
     ensures leaving { (i : ℕ) → i < shape.w → slice_index across.new i ≡ y_share pace (value shape.w values.old (i + 1) (row_before down shape.h shape.h)) }
     ensures others { (k : ℕ) → IsOtherPlace shape.w shape.h k → slice_index values.new k ≡ slice_index values.old k }
 {
@@ -98,10 +99,12 @@ fn step_in_order(
     requires value_count { length values.old ≡ (shape.h + 2) * (shape.w + 2) }
     requires way { GoesWith down pace.y.number }
     requires fit { IsFitPatch pace shape.w shape.h values.old }
-    requires enough { count_below (x_marked shape.w border.marks.now) shape.h + count_below (y_marked shape.w shape.h border.marks.now) shape.w ≤ length border.sizes.now }
+    requires enough { count_below (x_marked shape.w border.marks.now) shape.h + count_below (y_marked shape.w shape.h border.marks.now) shape.w
+        ≤ length border.sizes.now }
     requires kept { (i j : ℕ) → i < shape.w → j < shape.h → pos 0 ≤ℤ mass_with pace shape.w shape.h border.marks.now border.sizes.now values.old i j }
     requires fits { (i j : ℕ) → i < shape.w → j < shape.h → mass_with pace shape.w shape.h border.marks.now border.sizes.now values.old i j <ℤ pos (2 ^ 32) }
-    ensures made { (i j : ℕ) → i < shape.w → j < shape.h → pos (value shape.w values.new (i + 1) (j + 1)) ≡ mass_with pace shape.w shape.h border.entry.marks.now border.entry.sizes.now values.old i j }
+    ensures made { (i j : ℕ) → i < shape.w → j < shape.h
+        → pos (value shape.w values.new (i + 1) (j + 1)) ≡ mass_with pace shape.w shape.h border.entry.marks.now border.entry.sizes.now values.old i j }
     ensures others { (k : ℕ) → IsOtherPlace shape.w shape.h k → slice_index values.new k ≡ slice_index values.old k }
 {
     let from = first_row(down, shape.h) * (shape.w + 2) + 1;
@@ -129,10 +132,12 @@ pub(crate) fn step_cells(
     requires some_rows { 0 < shape.h }
     requires value_count { length values.old ≡ (shape.h + 2) * (shape.w + 2) }
     requires fit { IsFitPatch pace shape.w shape.h values.old }
-    requires enough { count_below (x_marked shape.w border.marks.now) shape.h + count_below (y_marked shape.w shape.h border.marks.now) shape.w ≤ length border.sizes.now }
+    requires enough { count_below (x_marked shape.w border.marks.now) shape.h + count_below (y_marked shape.w shape.h border.marks.now) shape.w
+        ≤ length border.sizes.now }
     requires kept { (i j : ℕ) → i < shape.w → j < shape.h → pos 0 ≤ℤ mass_with pace shape.w shape.h border.marks.now border.sizes.now values.old i j }
     requires fits { (i j : ℕ) → i < shape.w → j < shape.h → mass_with pace shape.w shape.h border.marks.now border.sizes.now values.old i j <ℤ pos (2 ^ 32) }
-    ensures made { (i j : ℕ) → i < shape.w → j < shape.h → pos (value shape.w values.new (i + 1) (j + 1)) ≡ mass_with pace shape.w shape.h border.entry.marks.now border.entry.sizes.now values.old i j }
+    ensures made { (i j : ℕ) → i < shape.w → j < shape.h
+        → pos (value shape.w values.new (i + 1) (j + 1)) ≡ mass_with pace shape.w shape.h border.entry.marks.now border.entry.sizes.now values.old i j }
     ensures others { (k : ℕ) → IsOtherPlace shape.w shape.h k → slice_index values.new k ≡ slice_index values.old k }
 {
     if pace.y.number < 0 {

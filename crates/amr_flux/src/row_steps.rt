@@ -24,7 +24,8 @@ fn ahead(pace: Pace, first: u32, across: &mut [u32], row: &mut [u32]) -> u32
     requires count { length across.old ≡ length row.old }
     requires fit { AreFit pace row.old }
     requires room { (k : ℕ) → k < length row.old → came pace first row.old k + slice_index across.old k ≤ 2 ^ 31 }
-    ensures masses { (k : ℕ) → k < length row.old → slice_index row.new k + gone pace (slice_index row.old k) ≡ slice_index row.old k + (came pace first row.old k + slice_index across.old k) }
+    ensures masses { (k : ℕ) → k < length row.old
+        → slice_index row.new k + gone pace (slice_index row.old k) ≡ slice_index row.old k + (came pace first row.old k + slice_index across.old k) }
     ensures across { (k : ℕ) → k < length row.old → slice_index across.new k ≡ y_share pace (slice_index row.old k) }
     ensures last { result ≡ came pace first row.old (length row.old) }
 {
@@ -46,7 +47,9 @@ fn back(pace: Pace, across: &mut [u32], row: &mut [u32])
     requires count { length row.old ≡ length across.old + 1 }
     requires fit { AreFit pace row.old }
     requires room { (k : ℕ) → k < length across.old → x_share pace (slice_index row.old (k + 1)) + slice_index across.old k ≤ 2 ^ 31 }
-    ensures masses { (k : ℕ) → k < length across.old → slice_index row.new k + gone pace (slice_index row.old k) ≡ slice_index row.old k + (x_share pace (slice_index row.old (k + 1)) + slice_index across.old k) }
+    ensures masses { (k : ℕ) → k < length across.old
+        → slice_index row.new k + gone pace (slice_index row.old k)
+        ≡ slice_index row.old k + (x_share pace (slice_index row.old (k + 1)) + slice_index across.old k) }
     ensures across { (k : ℕ) → k < length across.old → slice_index across.new k ≡ y_share pace (slice_index row.old k) }
     ensures beyond { slice_index row.new (length across.old) ≡ slice_index row.old (length across.old) }
 {

@@ -44,7 +44,8 @@ pub(crate) fn face_fluxes(share: Share, low: &[u32], high: &[u32], fluxes: &mut 
     requires high_count { length high.now ≡ length fluxes.old }
     requires low_small { AreSmall low.now }
     requires high_small { AreSmall high.now }
-    ensures { (k : ℕ) → k < length fluxes.old → slice_index_or fluxes.new k (pos 0) ≡ flow share.number share.parts (slice_index low.now k) (slice_index high.now k) }
+    ensures { (k : ℕ) → k < length fluxes.old
+        → slice_index_or fluxes.new k (pos 0) ≡ flow share.number share.parts (slice_index low.now k) (slice_index high.now k) }
 {
     if share.number < 0 {
         sizes(share, high, fluxes);
@@ -105,9 +106,13 @@ pub(crate) fn update_patch_row(shape: Shape, j: usize, values: &mut [u32], room:
     requires value_count { length values.old ≡ (shape.h + 2) * (shape.w + 2) }
     requires row { j < shape.h }
     requires room { shape.w ≤ widest room.now }
-    requires kept { (i : ℕ) → i < shape.w → pos 0 ≤ℤ (pos (value shape.w values.old (i + 1) (j + 1)) +ℤ inflow room.now.x.items room.now.low.items room.now.high.items i) }
-    requires fits { (i : ℕ) → i < shape.w → (pos (value shape.w values.old (i + 1) (j + 1)) +ℤ inflow room.now.x.items room.now.low.items room.now.high.items i) <ℤ pos (2 ^ 32) }
-    ensures made { (i : ℕ) → i < shape.w → pos (value shape.w values.new (i + 1) (j + 1)) ≡ pos (value shape.w values.old (i + 1) (j + 1)) +ℤ inflow room.now.x.items room.now.low.items room.now.high.items i }
+    requires kept { (i : ℕ) → i < shape.w
+        → pos 0 ≤ℤ (pos (value shape.w values.old (i + 1) (j + 1)) +ℤ inflow room.now.x.items room.now.low.items room.now.high.items i) }
+    requires fits { (i : ℕ) → i < shape.w
+        → (pos (value shape.w values.old (i + 1) (j + 1)) +ℤ inflow room.now.x.items room.now.low.items room.now.high.items i) <ℤ pos (2 ^ 32) }
+    ensures made { (i : ℕ) → i < shape.w
+        → pos (value shape.w values.new (i + 1) (j + 1))
+        ≡ pos (value shape.w values.old (i + 1) (j + 1)) +ℤ inflow room.now.x.items room.now.low.items room.now.high.items i }
     ensures others { (k : ℕ) → ((i : ℕ) → i < shape.w → k ≢ (j + 1) * (shape.w + 2) + (i + 1)) → slice_index values.new k ≡ slice_index values.old k }
 {
     let w = shape.w;

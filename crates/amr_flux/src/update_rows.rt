@@ -39,13 +39,18 @@ fn row_fluxes(
     requires value_count { length values.now ≡ (shape.h + 2) * (shape.w + 2) }
     requires room { shape.w ≤ widest room.old }
     requires used { used ≡ count_below (x_marked shape.w border.marks.now) j }
-    requires enough { count_below (x_marked shape.w border.marks.now) shape.h + count_below (y_marked shape.w shape.h border.marks.now) shape.w ≤ length border.sizes.now }
+    requires enough { count_below (x_marked shape.w border.marks.now) shape.h + count_below (y_marked shape.w shape.h border.marks.now) shape.w
+        ≤ length border.sizes.now }
     requires border_small { AreSmall border.sizes.now }
     requires here_small { (i : ℕ) → i < shape.w + 2 → value shape.w values.now i (j + 1) < 2 ^ 31 }
     requires above_small { (i : ℕ) → i < shape.w → value shape.w values.now (i + 1) (j + 1 + 1) < 2 ^ 31 }
     ensures used { result ≡ count_below (x_marked shape.w border.entry.marks.now) (j + 1) }
-    ensures row { (i : ℕ) → i ≤ shape.w → slice_index_or room.new.x.items i (pos 0) ≡ x_through p.now shape.level shape.row shape.w border.entry.marks.now border.entry.sizes.now values.now i j }
-    ensures above { (i : ℕ) → i < shape.w → slice_index_or room.new.high.items i (pos 0) ≡ y_through p.now shape.level shape.column shape.w shape.h border.entry.marks.now border.entry.sizes.now values.now i (j + 1) }
+    ensures row { (i : ℕ) → i ≤ shape.w
+        → slice_index_or room.new.x.items i (pos 0)
+        ≡ x_through p.now shape.level shape.row shape.w border.entry.marks.now border.entry.sizes.now values.now i j }
+    ensures above { (i : ℕ) → i < shape.w
+        → slice_index_or room.new.high.items i (pos 0)
+        ≡ y_through p.now shape.level shape.column shape.w shape.h border.entry.marks.now border.entry.sizes.now values.now i (j + 1) }
     ensures below { room.new.low.items ≡ room.old.low.items }
     ensures columns { room.new.columns ≡ room.old.columns }
 {
@@ -87,13 +92,24 @@ pub(crate) fn update_rows(
     requires value_count { length values.old ≡ (shape.h + 2) * (shape.w + 2) }
     requires some { 0 < shape.h }
     requires room { shape.w ≤ widest room.old }
-    requires enough { count_below (x_marked shape.w border.marks.now) shape.h + count_below (y_marked shape.w shape.h border.marks.now) shape.w ≤ length border.sizes.now }
+    requires enough { count_below (x_marked shape.w border.marks.now) shape.h + count_below (y_marked shape.w shape.h border.marks.now) shape.w
+        ≤ length border.sizes.now }
     requires border_small { AreSmall border.sizes.now }
     requires x_small { AreXSmall shape.w shape.h values.old }
     requires y_small { AreYSmall shape.w shape.h values.old }
-    requires kept { (i j : ℕ) → i < shape.w → j < shape.h → pos 0 ≤ℤ (pos (value shape.w values.old (i + 1) (j + 1)) +ℤ net_inflow (x_through p.now shape.level shape.row shape.w border.marks.now border.sizes.now values.old) (y_through p.now shape.level shape.column shape.w shape.h border.marks.now border.sizes.now values.old) i j) }
-    requires fits { (i j : ℕ) → i < shape.w → j < shape.h → (pos (value shape.w values.old (i + 1) (j + 1)) +ℤ net_inflow (x_through p.now shape.level shape.row shape.w border.marks.now border.sizes.now values.old) (y_through p.now shape.level shape.column shape.w shape.h border.marks.now border.sizes.now values.old) i j) <ℤ pos (2 ^ 32) }
-    ensures made { (i j : ℕ) → i < shape.w → j < shape.h → pos (value shape.w values.new (i + 1) (j + 1)) ≡ pos (value shape.w values.old (i + 1) (j + 1)) +ℤ net_inflow (x_through p.now shape.level shape.row shape.w border.entry.marks.now border.entry.sizes.now values.old) (y_through p.now shape.level shape.column shape.w shape.h border.entry.marks.now border.entry.sizes.now values.old) i j }
+    requires kept { (i j : ℕ) → i < shape.w → j < shape.h
+        → pos 0 ≤ℤ (pos (value shape.w values.old (i + 1) (j + 1))
+        +ℤ net_inflow (x_through p.now shape.level shape.row shape.w border.marks.now border.sizes.now values.old)
+        (y_through p.now shape.level shape.column shape.w shape.h border.marks.now border.sizes.now values.old) i j) }
+    requires fits { (i j : ℕ) → i < shape.w → j < shape.h
+        → (pos (value shape.w values.old (i + 1) (j + 1))
+        +ℤ net_inflow (x_through p.now shape.level shape.row shape.w border.marks.now border.sizes.now values.old)
+        (y_through p.now shape.level shape.column shape.w shape.h border.marks.now border.sizes.now values.old) i j) <ℤ pos (2 ^ 32) }
+    ensures made { (i j : ℕ) → i < shape.w → j < shape.h
+        → pos (value shape.w values.new (i + 1) (j + 1))
+        ≡ pos (value shape.w values.old (i + 1) (j + 1))
+        +ℤ net_inflow (x_through p.now shape.level shape.row shape.w border.entry.marks.now border.entry.sizes.now values.old)
+        (y_through p.now shape.level shape.column shape.w shape.h border.entry.marks.now border.entry.sizes.now values.old) i j }
     ensures others { (k : ℕ) → IsOtherPlace shape.w shape.h k → slice_index values.new k ≡ slice_index values.old k }
     ensures room { widest room.new ≡ widest room.old }
 {

@@ -33,7 +33,9 @@ fn column_at(shape: Shape, share: Share, values: &[u32], i: usize, fluxes: &mut 
     requires column { i ≤ shape.w }
     requires flux_count { length fluxes.old ≡ shape.h }
     requires small { AreXSmall shape.w shape.h values.now }
-    ensures { (j : ℕ) → j < shape.h → slice_index_or fluxes.new j (pos 0) ≡ flow share.number share.parts (value shape.w values.now i (j + 1)) (value shape.w values.now (i + 1) (j + 1)) }
+    ensures { (j : ℕ) → j < shape.h
+        → slice_index_or fluxes.new j (pos 0)
+        ≡ flow share.number share.parts (value shape.w values.now i (j + 1)) (value shape.w values.now (i + 1) (j + 1)) }
 {
     for j in 0..fluxes.len() {
         fluxes[j] = x_face_flux(shape, share, values, i, j);
@@ -68,7 +70,9 @@ fn high_at(shape: Shape, share: Share, values: &[u32], marks: &[bool], fluxes: &
     requires value_count { length values.now ≡ (shape.h + 2) * (shape.w + 2) }
     requires flux_count { length fluxes.old ≡ shape.h }
     requires small { AreXSmall shape.w shape.h values.now }
-    ensures made { (j : ℕ) → j < shape.h → x_marked shape.w marks.now j ≡ false → slice_index_or fluxes.new j (pos 0) ≡ flow share.number share.parts (value shape.w values.now shape.w (j + 1)) (value shape.w values.now (shape.w + 1) (j + 1)) }
+    ensures made { (j : ℕ) → j < shape.h → x_marked shape.w marks.now j ≡ false
+        → slice_index_or fluxes.new j (pos 0)
+        ≡ flow share.number share.parts (value shape.w values.now shape.w (j + 1)) (value shape.w values.now (shape.w + 1) (j + 1)) }
     ensures others { (j : ℕ) → x_marked shape.w marks.now j ≡ true → slice_index_or fluxes.new j (pos 0) ≡ slice_index_or fluxes.old j (pos 0) }
 {
     for j in 0..fluxes.len() {
@@ -93,7 +97,8 @@ pub(crate) fn high_fluxes(
     requires mark_count { length marks.now ≡ (shape.h + 2) * (shape.w + 2) }
     requires flux_count { length fluxes.old ≡ shape.h }
     requires small { AreXSmall shape.w shape.h values.now }
-    ensures made { (j : ℕ) → j < shape.h → x_marked shape.w marks.now j ≡ false → slice_index_or fluxes.new j (pos 0) ≡ x_flux p.now shape.level shape.row shape.w values.now shape.w j }
+    ensures made { (j : ℕ) → j < shape.h → x_marked shape.w marks.now j ≡ false
+        → slice_index_or fluxes.new j (pos 0) ≡ x_flux p.now shape.level shape.row shape.w values.now shape.w j }
     ensures others { (j : ℕ) → x_marked shape.w marks.now j ≡ true → slice_index_or fluxes.new j (pos 0) ≡ slice_index_or fluxes.old j (pos 0) }
 {
     if p.shear_x.entries().is_empty() {
@@ -171,7 +176,8 @@ pub(crate) fn set_end(
     requires small { AreSmall border.now }
     ensures count { result ≡ used + cond marked 1 0 }
     ensures within { result ≤ length border.now }
-    ensures last { slice_index_or fluxes.new last (pos 0) ≡ cond marked (signed number (slice_index border.now used)) (slice_index_or fluxes.old last (pos 0)) }
+    ensures last { slice_index_or fluxes.new last (pos 0)
+        ≡ cond marked (signed number (slice_index border.now used)) (slice_index_or fluxes.old last (pos 0)) }
     ensures others { (k : ℕ) → k ≢ last → slice_index_or fluxes.new k (pos 0) ≡ slice_index_or fluxes.old k (pos 0) }
 {
     if marked {

@@ -1,6 +1,7 @@
 //! The fluxes through rows of y faces.
 
-ghost use Rattle.std.specs.Prelude.{◌≡◌, ℕ, ◌+◌, ◌*◌, ◌≤◌, ◌<◌, ◌^◌, Bool, ◌&&◌, cond, nat_eq, false, true, length, pos, ◌-ℤ◌, slice_index, slice_index_or, unsigned_abs};
+ghost use Rattle.std.specs.Prelude.{◌≡◌, ℕ, ◌+◌, ◌*◌, ◌≤◌, ◌<◌, ◌^◌, Bool, ◌&&◌, cond, nat_eq, false, true};
+ghost use Rattle.std.specs.Prelude.{length, pos, ◌-ℤ◌, slice_index, slice_index_or, unsigned_abs};
 ghost use Rattle.amr_def.specs.Domain.{columns};
 ghost use Rattle.amr_def.specs.Flux.{flow};
 ghost use Rattle.amr_faces.specs.Numbers.{y_number};
@@ -78,7 +79,9 @@ fn fluxes_by(
     requires high_few { AreBelow (2 ^ 31 + 1) high_factors.now }
     requires low_small { AreSmall low.now }
     requires high_small { AreSmall high.now }
-    ensures { (k : ℕ) → k < length fluxes.old → slice_index_or fluxes.new k (pos 0) ≡ pos (product (slice_index low_factors.now k) (slice_index low.now k)) -ℤ pos (product (slice_index high_factors.now k) (slice_index high.now k)) }
+    ensures { (k : ℕ) → k < length fluxes.old
+        → slice_index_or fluxes.new k (pos 0)
+        ≡ pos (product (slice_index low_factors.now k) (slice_index low.now k)) -ℤ pos (product (slice_index high_factors.now k) (slice_index high.now k)) }
 {
     for k in 0..fluxes.len() {
         let factors = Factors {
@@ -106,7 +109,9 @@ pub(crate) fn y_fluxes(
     requires high_count { length high.now ≡ shape.w }
     requires low_small { AreSmall low.now }
     requires high_small { AreSmall high.now }
-    ensures { (i : ℕ) → i < shape.w → slice_index_or fluxes.new i (pos 0) ≡ flow (y_number p.now shape.level (shape.column + i)) p.now.d (slice_index low.now i) (slice_index high.now i) }
+    ensures { (i : ℕ) → i < shape.w
+        → slice_index_or fluxes.new i (pos 0)
+        ≡ flow (y_number p.now shape.level (shape.column + i)) p.now.d (slice_index low.now i) (slice_index high.now i) }
 {
     if p.shear_y.entries().is_empty() {
         face_fluxes(shape.y.with(p.cy, p.d), low, high, fluxes);
@@ -165,8 +170,11 @@ fn top_at(shape: Shape, share: Share, values: &[u32], marks: &[bool], fluxes: &m
     requires value_count { length values.now ≡ (shape.h + 2) * (shape.w + 2) }
     requires flux_count { length fluxes.old ≡ shape.w }
     requires small { AreYSmall shape.w shape.h values.now }
-    ensures made { (i : ℕ) → i < shape.w → y_marked shape.w shape.h marks.now i ≡ false → slice_index_or fluxes.new i (pos 0) ≡ flow share.number share.parts (value shape.w values.now (i + 1) shape.h) (value shape.w values.now (i + 1) (shape.h + 1)) }
-    ensures others { (i : ℕ) → i < shape.w → y_marked shape.w shape.h marks.now i ≡ true → slice_index_or fluxes.new i (pos 0) ≡ slice_index_or fluxes.old i (pos 0) }
+    ensures made { (i : ℕ) → i < shape.w → y_marked shape.w shape.h marks.now i ≡ false
+        → slice_index_or fluxes.new i (pos 0)
+        ≡ flow share.number share.parts (value shape.w values.now (i + 1) shape.h) (value shape.w values.now (i + 1) (shape.h + 1)) }
+    ensures others { (i : ℕ) → i < shape.w → y_marked shape.w shape.h marks.now i ≡ true
+        → slice_index_or fluxes.new i (pos 0) ≡ slice_index_or fluxes.old i (pos 0) }
 {
     for i in 0..fluxes.len() {
         if !is_top_marked(shape, marks, i) {
@@ -191,8 +199,10 @@ pub(crate) fn top_fluxes(
     requires value_count { length values.now ≡ (shape.h + 2) * (shape.w + 2) }
     requires flux_count { length fluxes.old ≡ shape.w }
     requires small { AreYSmall shape.w shape.h values.now }
-    ensures made { (i : ℕ) → i < shape.w → y_marked shape.w shape.h marks.now i ≡ false → slice_index_or fluxes.new i (pos 0) ≡ y_flux p.now shape.level shape.column shape.w values.now i shape.h }
-    ensures others { (i : ℕ) → i < shape.w → y_marked shape.w shape.h marks.now i ≡ true → slice_index_or fluxes.new i (pos 0) ≡ slice_index_or fluxes.old i (pos 0) }
+    ensures made { (i : ℕ) → i < shape.w → y_marked shape.w shape.h marks.now i ≡ false
+        → slice_index_or fluxes.new i (pos 0) ≡ y_flux p.now shape.level shape.column shape.w values.now i shape.h }
+    ensures others { (i : ℕ) → i < shape.w → y_marked shape.w shape.h marks.now i ≡ true
+        → slice_index_or fluxes.new i (pos 0) ≡ slice_index_or fluxes.old i (pos 0) }
 {
     if p.shear_y.entries().is_empty() {
         let share = shape.y.with(p.cy, p.d);
@@ -258,7 +268,9 @@ fn set_marked(p: &Problem, shape: Shape, marks: &[bool], border: &[u32], fluxes:
     requires flux_count { shape.w ≤ length fluxes.old }
     requires enough { count_below (y_marked shape.w shape.h marks.now) shape.w ≤ length border.now }
     requires small { AreSmall border.now }
-    ensures made { (i : ℕ) → i < shape.w → y_marked shape.w shape.h marks.now i ≡ true → slice_index_or fluxes.new i (pos 0) ≡ signed (y_number p.now shape.level (shape.column + i)) (slice_index border.now (count_below (y_marked shape.w shape.h marks.now) i)) }
+    ensures made { (i : ℕ) → i < shape.w → y_marked shape.w shape.h marks.now i ≡ true
+        → slice_index_or fluxes.new i (pos 0)
+        ≡ signed (y_number p.now shape.level (shape.column + i)) (slice_index border.now (count_below (y_marked shape.w shape.h marks.now) i)) }
     ensures others { (i : ℕ) → y_marked shape.w shape.h marks.now i ≡ false → slice_index_or fluxes.new i (pos 0) ≡ slice_index_or fluxes.old i (pos 0) }
 {
     let mut used = 0;
@@ -289,7 +301,11 @@ pub(crate) fn set_top(
     requires row { j < shape.h }
     requires enough { j + 1 ≡ shape.h → count_below (y_marked shape.w shape.h marks.now) shape.w ≤ length border.now }
     requires small { AreSmall border.now }
-    ensures { (i : ℕ) → i < shape.w → slice_index_or fluxes.new i (pos 0) ≡ cond (nat_eq (j + 1) shape.h && y_marked shape.w shape.h marks.now i) (signed (y_number p.now shape.level (shape.column + i)) (slice_index border.now (count_below (y_marked shape.w shape.h marks.now) i))) (slice_index_or fluxes.old i (pos 0)) }
+    ensures { (i : ℕ) → i < shape.w
+        → slice_index_or fluxes.new i (pos 0)
+        ≡ cond (nat_eq (j + 1) shape.h && y_marked shape.w shape.h marks.now i)
+        (signed (y_number p.now shape.level (shape.column + i)) (slice_index border.now (count_below (y_marked shape.w shape.h marks.now) i)))
+        (slice_index_or fluxes.old i (pos 0)) }
 {
     if j + 1 == shape.h {
         set_marked(p, shape, marks, border, fluxes);

@@ -69,7 +69,9 @@ IsMessageTo rs x = All (IsReceived rs) x.copies.items × HasPlaces x
 -- masses are those that copies take from a run's patches, one copy after another
 abbrev pub ArePacked : List Patch → List FrameCopy → List ℕ → Type 0
 ArePacked rs [] masses = ⊤
-ArePacked rs (c ∷ cs) masses = ((q : Patch) (k : ℕ) → k < c.strip.count → slice_index masses k ≡ mass_in (slice_index_or rs c.source q) (step c.strip.axis c.from k)) × ArePacked rs cs (drop c.strip.count masses)
+ArePacked rs (c ∷ cs) masses =
+    ((q : Patch) (k : ℕ) → k < c.strip.count → slice_index masses k ≡ mass_in (slice_index_or rs c.source q) (step c.strip.axis c.from k))
+    × ArePacked rs cs (drop c.strip.count masses)
 
 -- a message was given the masses of a run's patches
 pub record HasPacked (rs : List Patch) (x y : Message) : Type 0 where
@@ -80,7 +82,8 @@ pub record HasPacked (rs : List Patch) (x y : Message) : Type 0 where
 -- masses are the values V of the ghost cells that copies give them to, one copy after another, and those have the mark M
 abbrev pub AreMassesFor : (Cell → ℕ) → (Cell → Bool) → List FrameCopy → List ℕ → Type 0
 AreMassesFor V M [] masses = ⊤
-AreMassesFor V M (c ∷ cs) masses = AreGiven V M c.strip.axis c.strip.from c.strip.count (λ k. slice_index masses k) true × AreMassesFor V M cs (drop c.strip.count masses)
+AreMassesFor V M (c ∷ cs) masses =
+    AreGiven V M c.strip.axis c.strip.from c.strip.count (λ k. slice_index masses k) true × AreMassesFor V M cs (drop c.strip.count masses)
 
 abbrev pub IsMessageFor : (Cell → ℕ) → (Cell → Bool) → Message → Type 0
 IsMessageFor V M x = AreMassesFor V M x.copies.items x.masses.items
@@ -94,7 +97,8 @@ pub record HasUnpacked (copies : List FrameCopy) (masses : List ℕ) (rs fs : Li
 -- masses are those, M, of the cells that copies take, one copy after another
 abbrev pub AreMassesOf : Masses → List FrameCopy → List ℕ → Type 0
 AreMassesOf M [] masses = ⊤
-AreMassesOf M (c ∷ cs) masses = ((k : ℕ) → k < c.strip.count → M (step c.strip.axis c.from k) ≡ Some (slice_index masses k)) × AreMassesOf M cs (drop c.strip.count masses)
+AreMassesOf M (c ∷ cs) masses =
+    ((k : ℕ) → k < c.strip.count → M (step c.strip.axis c.from k) ≡ Some (slice_index masses k)) × AreMassesOf M cs (drop c.strip.count masses)
 
 -- a message carries the masses M of the cells that its copies take
 abbrev pub CarriesMasses : Masses → Message → Type 0
@@ -111,15 +115,21 @@ pub record HasMadeCopies (copies : List FrameCopy) (rs fs : List Patch) : Type 0
 -- the patches rs became fs where outer ghost cells were given their values, copies within the patches were made, and messages unpacked
 pub record HasFilled (given : OuterGhosts) (copies : List FrameCopy) (messages : List Message) (rs fs : List Patch) : Type 0 where
   pub kept : AllZip KeepsCells rs fs
-  pub ghosts : (V : Cell → ℕ) (M : Cell → Bool) → AreOuterFor V M given → All (IsCopyFor V M rs) copies → All (IsMessageFor V M) messages → AllZip (KeepsGhosts V M) rs fs
-  pub outer : (V : Cell → ℕ) (M : Cell → Bool) → AreOuterFor V M given → All (IsCopyFor V M rs) copies → All (IsMessageFor V M) messages → All (HasOuter V M fs) given.spans.items
-  pub set : (V : Cell → ℕ) (M : Cell → Bool) → AreOuterFor V M given → All (IsCopyFor V M rs) copies → All (IsMessageFor V M) messages → All (HasCopy V M fs) copies
-  pub received : (V : Cell → ℕ) (M : Cell → Bool) → AreOuterFor V M given → All (IsCopyFor V M rs) copies → All (IsMessageFor V M) messages → All (λ x. All (HasCopy V M fs) x.copies.items) messages
+  pub ghosts : (V : Cell → ℕ) (M : Cell → Bool) → AreOuterFor V M given → All (IsCopyFor V M rs) copies → All (IsMessageFor V M) messages
+      → AllZip (KeepsGhosts V M) rs fs
+  pub outer : (V : Cell → ℕ) (M : Cell → Bool) → AreOuterFor V M given → All (IsCopyFor V M rs) copies → All (IsMessageFor V M) messages
+      → All (HasOuter V M fs) given.spans.items
+  pub set : (V : Cell → ℕ) (M : Cell → Bool) → AreOuterFor V M given → All (IsCopyFor V M rs) copies → All (IsMessageFor V M) messages
+      → All (HasCopy V M fs) copies
+  pub received : (V : Cell → ℕ) (M : Cell → Bool) → AreOuterFor V M given → All (IsCopyFor V M rs) copies → All (IsMessageFor V M) messages
+      → All (λ x. All (HasCopy V M fs) x.copies.items) messages
 
 -- messages to run t of a level's patches, one from each run, have the masses that their copies take there. That from the run itself is
 -- empty.
 pub record AreMessagesTo (parts : FrameParts) (width runs t : ℕ) (qs : List Patch) (xs : List Message) : Type 0 where
   pub count : length xs ≡ runs
-  pub copies : (u : ℕ) (x : Message) (v : Vec FrameCopy) → u < runs → u ≢ t → (slice_index_or xs u x).copies.items ≡ (slice_index_or parts.copies.items (u * runs + t) v).items
+  pub copies : (u : ℕ) (x : Message) (v : Vec FrameCopy) → u < runs → u ≢ t
+      → (slice_index_or xs u x).copies.items ≡ (slice_index_or parts.copies.items (u * runs + t) v).items
   pub own : (x : Message) → (slice_index_or xs t x).copies.items ≡ []
-  pub packed : (u : ℕ) (x : Message) (us : List Patch) → u < runs → IsRun width u qs us → ArePacked us (slice_index_or xs u x).copies.items (slice_index_or xs u x).masses.items
+  pub packed : (u : ℕ) (x : Message) (us : List Patch) → u < runs → IsRun width u qs us
+      → ArePacked us (slice_index_or xs u x).copies.items (slice_index_or xs u x).masses.items

@@ -68,7 +68,8 @@ HasOuterPlaces x = length x.values.items ≡ value_count x.spans.items
 -- these are the values V of the ghost cells of spans, one span after another, and none of those has the mark M
 abbrev pub AreOuterValuesFor : (Cell → ℕ) → (Cell → Bool) → List Span → List ℕ → Type 0
 AreOuterValuesFor V M [] values = ⊤
-AreOuterValuesFor V M (s ∷ ss) values = AreGiven V M s.strip.axis s.strip.from s.strip.count (λ k. slice_index values k) false × AreOuterValuesFor V M ss (drop s.strip.count values)
+AreOuterValuesFor V M (s ∷ ss) values =
+    AreGiven V M s.strip.axis s.strip.from s.strip.count (λ k. slice_index values k) false × AreOuterValuesFor V M ss (drop s.strip.count values)
 
 abbrev pub AreOuterFor : (Cell → ℕ) → (Cell → Bool) → OuterGhosts → Type 0
 AreOuterFor V M x = AreOuterValuesFor V M x.spans.items x.values.items

@@ -76,7 +76,8 @@ pub record PlansRun (d : Domain) (ps : List Patch) (from to : ℕ) (ss : List Sp
 
 -- the patches are cut into runs of one size, the last one perhaps shorter, and each list that is there tells it of the run of its number
 abbrev pub ArePlannedRuns : Domain → List Patch → ℕ → List (Result (Vec Span) NoMemory) → Type 0
-ArePlannedRuns d ps size runs = (k : ℕ) (r : Result (Vec Span) NoMemory) → k < length runs → IfOk (slice_index_or runs k r) (λ v. PlansRun d ps (k * size) (k * size + size) v.items)
+ArePlannedRuns d ps size runs =
+    (k : ℕ) (r : Result (Vec Span) NoMemory) → k < length runs → IfOk (slice_index_or runs k r) (λ v. PlansRun d ps (k * size) (k * size + size) v.items)
 
 -- a plan tells of each ghost cell beside each of the patches where it gets its value from
 pub record PlansFrames (d : Domain) (ps : List Patch) (plan : FramePlan) : Type 0 where

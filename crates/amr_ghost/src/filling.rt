@@ -38,12 +38,14 @@ fn fill_span(
     requires some { 0 < strip.count }
     requires small { strip.count ≤ 8192 }
     requires room { HasRoom strip.from }
-    requires ghost_strip { (q : Patch) → IsGhostStrip (domain p.now target.level) (box (slice_index_or patches.old target.patch q)) strip.axis strip.from strip.count }
+    requires ghost_strip { (q : Patch)
+        → IsGhostStrip (domain p.now target.level) (box (slice_index_or patches.old target.patch q)) strip.axis strip.from strip.count }
     ensures some { 0 < result }
     ensures within { result ≤ strip.count }
     ensures kept { AllZip KeepsCells patches.old patches.new }
     ensures ghosts { KeepsValues p.now target.entry.level (old_masses (option_copied old.entry)) patches.old patches.new }
-    ensures set { (q : Patch) → HasValues p.now target.entry.level (masses_in patches.old) (old_masses (option_copied old.entry)) (slice_index_or patches.new target.entry.patch q) strip.axis strip.from result }
+    ensures set { (q : Patch) → HasValues p.now target.entry.level (masses_in patches.old) (old_masses (option_copied old.entry))
+        (slice_index_or patches.new target.entry.patch q) strip.axis strip.from result }
 {
     let span = span_ahead(p, patches, target, strip, &mut near.level);
     place_span(p, target.level, patches, span, old, &mut near.coarser);
@@ -65,10 +67,12 @@ fn fill_strip(
     requires there { target.patch < length patches.old }
     requires small { strip.count ≤ 8192 }
     requires room { HasRoom strip.from }
-    requires ghost_strip { (q : Patch) → IsGhostStrip (domain p.now target.level) (box (slice_index_or patches.old target.patch q)) strip.axis strip.from strip.count }
+    requires ghost_strip { (q : Patch)
+        → IsGhostStrip (domain p.now target.level) (box (slice_index_or patches.old target.patch q)) strip.axis strip.from strip.count }
     ensures kept { AllZip KeepsCells patches.old patches.new }
     ensures ghosts { KeepsValues p.now target.entry.level (old_masses (option_copied old.entry)) patches.old patches.new }
-    ensures set { (q : Patch) → HasValues p.now target.entry.level (masses_in patches.old) (old_masses (option_copied old.entry)) (slice_index_or patches.new target.entry.patch q) strip.axis strip.from strip.count }
+    ensures set { (q : Patch) → HasValues p.now target.entry.level (masses_in patches.old) (old_masses (option_copied old.entry))
+        (slice_index_or patches.new target.entry.patch q) strip.axis strip.from strip.count }
 {
     let mut done = 0;
     while done < strip.count {
@@ -96,7 +100,8 @@ fn fill_side(
     requires there { target.patch < length patches.old }
     ensures kept { AllZip KeepsCells patches.old patches.new }
     ensures ghosts { KeepsValues p.now target.entry.level (old_masses (option_copied old.entry)) patches.old patches.new }
-    ensures set { (q : Patch) → HasSideValues p.now target.entry.level (masses_in patches.old) (old_masses (option_copied old.entry)) (slice_index_or patches.new target.entry.patch q) side }
+    ensures set { (q : Patch) → HasSideValues p.now target.entry.level (masses_in patches.old) (old_masses (option_copied old.entry))
+        (slice_index_or patches.new target.entry.patch q) side }
     ensures inside { (q : Patch) → LiesInDomain (domain p.now target.entry.level) (box (slice_index_or patches.new target.entry.patch q)) }
 {
     let strip = side_strip(&patches[target.patch].bx(), side);
@@ -116,7 +121,8 @@ fn fill_frame(
     requires there { target.patch < length patches.old }
     ensures kept { AllZip KeepsCells patches.old patches.new }
     ensures ghosts { KeepsValues p.now target.entry.level (old_masses (option_copied old.entry)) patches.old patches.new }
-    ensures set { (q : Patch) → HasFrame p.now target.entry.level (masses_in patches.old) (old_masses (option_copied old.entry)) (slice_index_or patches.new target.entry.patch q) }
+    ensures set { (q : Patch) → HasFrame p.now target.entry.level (masses_in patches.old) (old_masses (option_copied old.entry))
+        (slice_index_or patches.new target.entry.patch q) }
 {
     fill_side(p, old, patches, target, Side::West, &mut near.west);
     fill_side(p, old, patches, target, Side::East, &mut near.east);

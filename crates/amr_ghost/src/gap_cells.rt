@@ -28,7 +28,8 @@ pub(crate) fn gap_ahead(starts: Option<&Starts>, axis: Axis, c: Cell, most: u32)
     requires some { 0 < most }
     ensures some { 0 < result }
     ensures within { result ≤ most }
-    ensures gap { (ps : List Patch) → IfSome (option_copied starts.entry) (HasStarts ps) → in_patches ps c ≡ false → (k : ℕ) → k < result → in_patches ps (step axis c k) ≡ false }
+    ensures gap { (ps : List Patch) → IfSome (option_copied starts.entry) (HasStarts ps) → in_patches ps c ≡ false → (k : ℕ) → k < result
+        → in_patches ps (step axis c k) ≡ false }
 {
     let Some(starts) = starts else {
         return 1;
@@ -58,8 +59,12 @@ fn quarter_span(
     ensures some { 0 < result }
     ensures within { result ≤ strip.count }
     ensures kept { AllZip KeepsCells patches.old patches.new }
-    ensures ghosts { (value : Cell → ℕ) (mark : Cell → Bool) → AreGiven value mark strip.axis strip.from result (λ k. mass_of (level_of level.now).masses (parent (step strip.axis from k)) / 4) false → AllZip (KeepsGhosts value mark) patches.old patches.new }
-    ensures set { (value : Cell → ℕ) (mark : Cell → Bool) (q : Patch) → AreGiven value mark strip.axis strip.from result (λ k. mass_of (level_of level.now).masses (parent (step strip.axis from k)) / 4) false → HasGhosts value mark (slice_index_or patches.new i q) strip.axis strip.from result }
+    ensures ghosts { (value : Cell → ℕ) (mark : Cell → Bool)
+        → AreGiven value mark strip.axis strip.from result (λ k. mass_of (level_of level.now).masses (parent (step strip.axis from k)) / 4) false
+        → AllZip (KeepsGhosts value mark) patches.old patches.new }
+    ensures set { (value : Cell → ℕ) (mark : Cell → Bool) (q : Patch)
+        → AreGiven value mark strip.axis strip.from result (λ k. mass_of (level_of level.now).masses (parent (step strip.axis from k)) / 4) false
+        → HasGhosts value mark (slice_index_or patches.new i q) strip.axis strip.from result }
 {
     let coarse = level.patches();
     match find_near(coarse, level.order(), near, parent(from)) {
@@ -102,8 +107,12 @@ pub(crate) fn quarter_ahead(
     ensures some { 0 < result }
     ensures within { result ≤ strip.count }
     ensures kept { AllZip KeepsCells patches.old patches.new }
-    ensures ghosts { (value : Cell → ℕ) (mark : Cell → Bool) → AreGiven value mark strip.axis strip.from result (λ k. mass_of (old_masses (option_copied old.entry)) (parent (step strip.axis from k)) / 4) false → AllZip (KeepsGhosts value mark) patches.old patches.new }
-    ensures set { (value : Cell → ℕ) (mark : Cell → Bool) (q : Patch) → AreGiven value mark strip.axis strip.from result (λ k. mass_of (old_masses (option_copied old.entry)) (parent (step strip.axis from k)) / 4) false → HasGhosts value mark (slice_index_or patches.new i q) strip.axis strip.from result }
+    ensures ghosts { (value : Cell → ℕ) (mark : Cell → Bool)
+        → AreGiven value mark strip.axis strip.from result (λ k. mass_of (old_masses (option_copied old.entry)) (parent (step strip.axis from k)) / 4) false
+        → AllZip (KeepsGhosts value mark) patches.old patches.new }
+    ensures set { (value : Cell → ℕ) (mark : Cell → Bool) (q : Patch)
+        → AreGiven value mark strip.axis strip.from result (λ k. mass_of (old_masses (option_copied old.entry)) (parent (step strip.axis from k)) / 4) false
+        → HasGhosts value mark (slice_index_or patches.new i q) strip.axis strip.from result }
 {
     match old {
         None => {

@@ -42,8 +42,10 @@ pub(crate) fn set_strip(patches: &mut [Patch], i: usize, strip: Strip, value: u3
     requires ghost_cells { (q : Patch) (k : ℕ) → k < strip.count → IsTrue (in_frame (box (slice_index_or patches.old i q)) (step strip.axis strip.from k)) }
     requires beside { (q : Patch) (k : ℕ) → k < strip.count → IsTrue (is_beside (box (slice_index_or patches.old i q)) (step strip.axis strip.from k)) }
     ensures kept { AllZip KeepsCells patches.old patches.new }
-    ensures ghosts { (value_of : Cell → ℕ) (mark : Cell → Bool) → AreGiven value_of mark strip.axis strip.from strip.count (λ k. value) false → AllZip (KeepsGhosts value_of mark) patches.old patches.new }
-    ensures set { (value_of : Cell → ℕ) (mark : Cell → Bool) (q : Patch) → AreGiven value_of mark strip.axis strip.from strip.count (λ k. value) false → HasGhosts value_of mark (slice_index_or patches.new i q) strip.axis strip.from strip.count }
+    ensures ghosts { (value_of : Cell → ℕ) (mark : Cell → Bool) → AreGiven value_of mark strip.axis strip.from strip.count (λ k. value) false
+        → AllZip (KeepsGhosts value_of mark) patches.old patches.new }
+    ensures set { (value_of : Cell → ℕ) (mark : Cell → Bool) (q : Patch) → AreGiven value_of mark strip.axis strip.from strip.count (λ k. value) false
+        → HasGhosts value_of mark (slice_index_or patches.new i q) strip.axis strip.from strip.count }
 {
     set_ghosts(&mut patches[i], strip, value);
 }
@@ -78,8 +80,11 @@ pub(crate) fn give_strip(
     requires ghost_cells { (q : Patch) (k : ℕ) → k < strip.count → IsTrue (in_frame (box (slice_index_or patches.old i q)) (step strip.axis strip.from k)) }
     requires beside { (q : Patch) (k : ℕ) → k < strip.count → IsTrue (is_beside (box (slice_index_or patches.old i q)) (step strip.axis strip.from k)) }
     ensures kept { AllZip KeepsCells patches.old patches.new }
-    ensures ghosts { (value : Cell → ℕ) (mark : Cell → Bool) → AreGiven value mark strip.axis strip.from strip.count (λ k. slice_index values.now k) of_level → AllZip (KeepsGhosts value mark) patches.old patches.new }
-    ensures set { (value : Cell → ℕ) (mark : Cell → Bool) (q : Patch) → AreGiven value mark strip.axis strip.from strip.count (λ k. slice_index values.now k) of_level → HasGhosts value mark (slice_index_or patches.new i q) strip.axis strip.from strip.count }
+    ensures ghosts { (value : Cell → ℕ) (mark : Cell → Bool) → AreGiven value mark strip.axis strip.from strip.count (λ k. slice_index values.now k) of_level
+        → AllZip (KeepsGhosts value mark) patches.old patches.new }
+    ensures set { (value : Cell → ℕ) (mark : Cell → Bool) (q : Patch)
+        → AreGiven value mark strip.axis strip.from strip.count (λ k. slice_index values.now k) of_level
+        → HasGhosts value mark (slice_index_or patches.new i q) strip.axis strip.from strip.count }
 {
     give_ghosts(&mut patches[i], strip, values, of_level);
 }
@@ -126,8 +131,12 @@ pub(crate) fn quarter_strip(
     requires beside { (q : Patch) (k : ℕ) → k < strip.count → IsTrue (is_beside (box (slice_index_or patches.old i q)) (step strip.axis strip.from k)) }
     requires masses { (k : ℕ) → k < strip.count → IsTrue (holds (box source.now) (parent (step strip.axis from k))) }
     ensures kept { AllZip KeepsCells patches.old patches.new }
-    ensures ghosts { (value : Cell → ℕ) (mark : Cell → Bool) → AreGiven value mark strip.axis strip.from strip.count (λ k. mass_in source.now (parent (step strip.axis from k)) / 4) false → AllZip (KeepsGhosts value mark) patches.old patches.new }
-    ensures set { (value : Cell → ℕ) (mark : Cell → Bool) (q : Patch) → AreGiven value mark strip.axis strip.from strip.count (λ k. mass_in source.now (parent (step strip.axis from k)) / 4) false → HasGhosts value mark (slice_index_or patches.new i q) strip.axis strip.from strip.count }
+    ensures ghosts { (value : Cell → ℕ) (mark : Cell → Bool)
+        → AreGiven value mark strip.axis strip.from strip.count (λ k. mass_in source.now (parent (step strip.axis from k)) / 4) false
+        → AllZip (KeepsGhosts value mark) patches.old patches.new }
+    ensures set { (value : Cell → ℕ) (mark : Cell → Bool) (q : Patch)
+        → AreGiven value mark strip.axis strip.from strip.count (λ k. mass_in source.now (parent (step strip.axis from k)) / 4) false
+        → HasGhosts value mark (slice_index_or patches.new i q) strip.axis strip.from strip.count }
 {
     quarter_ghosts(&mut patches[i], strip, source, from);
 }
@@ -180,8 +189,12 @@ pub(crate) fn copy_strip(patches: &mut [Patch], i: usize, strip: Strip, j: usize
     requires beside { (q : Patch) (k : ℕ) → k < strip.count → IsTrue (is_beside (box (slice_index_or patches.old i q)) (step strip.axis strip.from k)) }
     requires masses { (q : Patch) (k : ℕ) → k < strip.count → IsTrue (holds (box (slice_index_or patches.old j q)) (step strip.axis from k)) }
     ensures kept { AllZip KeepsCells patches.old patches.new }
-    ensures ghosts { (value : Cell → ℕ) (mark : Cell → Bool) (d : Patch) → AreCopied value mark (slice_index_or patches.old j d) strip.axis strip.from from strip.count → AllZip (KeepsGhosts value mark) patches.old patches.new }
-    ensures set { (value : Cell → ℕ) (mark : Cell → Bool) (q d : Patch) → AreCopied value mark (slice_index_or patches.old j d) strip.axis strip.from from strip.count → HasGhosts value mark (slice_index_or patches.new i q) strip.axis strip.from strip.count }
+    ensures ghosts { (value : Cell → ℕ) (mark : Cell → Bool) (d : Patch)
+        → AreCopied value mark (slice_index_or patches.old j d) strip.axis strip.from from strip.count
+        → AllZip (KeepsGhosts value mark) patches.old patches.new }
+    ensures set { (value : Cell → ℕ) (mark : Cell → Bool) (q d : Patch)
+        → AreCopied value mark (slice_index_or patches.old j d) strip.axis strip.from from strip.count
+        → HasGhosts value mark (slice_index_or patches.new i q) strip.axis strip.from strip.count }
 {
     if strip.count == 0 {
         return;

@@ -3,7 +3,8 @@
 ghost use Rattle.std.specs.Prelude.{◌≡◌, length, [], IfOk};
 ghost use Rattle.std.specs.List.{All, AllZip};
 ghost use Rattle.amr_ghost.specs.Outer.{AreOuterBeside};
-ghost use Rattle.amr_ghost.specs.Messages.{ArePacked, HasFilled, HasMadeCopies, HasPacked, HasPlaces, HasUnpacked, IsFrameCopy, IsMessageFrom, IsMessageTo, IsReceived, IsTaken, mass_count};
+ghost use Rattle.amr_ghost.specs.Messages.{ArePacked, HasFilled, HasMadeCopies, HasPacked, HasPlaces, HasUnpacked, IsFrameCopy};
+ghost use Rattle.amr_ghost.specs.Messages.{IsMessageFrom, IsMessageTo, IsReceived, IsTaken, mass_count};
 
 use crate::ghosts::{copy_strip, give_strip, take_strip};
 use crate::outer::{OuterGhosts, give_outer};

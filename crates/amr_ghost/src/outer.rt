@@ -12,7 +12,8 @@ ghost use Rattle.amr_patch.specs.Levels.{level_of};
 ghost use Rattle.amr_ghost.specs.Strips.{HasRoom, step};
 ghost use Rattle.amr_ghost.specs.Frames.{is_of_level, old_masses};
 ghost use Rattle.amr_ghost.specs.Filling.{AreGiven};
-ghost use Rattle.amr_ghost.specs.Outer.{AreOuterFor, AreOuterValuesFor, HasNoMass, HasOuterGiven, HasOuterPlaces, IsOuterSpan, IsSpanBeside, lent, value_count};
+ghost use Rattle.amr_ghost.specs.Outer.{AreOuterFor, AreOuterValuesFor, HasNoMass, HasOuterGiven};
+ghost use Rattle.amr_ghost.specs.Outer.{HasOuterPlaces, IsOuterSpan, IsSpanBeside, lent, value_count};
 
 use crate::entries::{Entries, entries_of, quarter_entries};
 use crate::ghosts::give_strip;
@@ -62,7 +63,8 @@ impl OuterGhosts {
         ensures spans { self.new.spans ≡ self.old.spans }
         ensures places { HasOuterPlaces self.new }
         ensures coarser { self.new.coarser ≡ self.old.coarser }
-        ensures found { (m : Masses) → All (HasNoMass (domain p.now l) m) self.new.spans.items → AreOuterFor (value_at p.now l m (old_masses (option_copied old.entry))) (is_of_level p.now l m) self.new }
+        ensures found { (m : Masses) → All (HasNoMass (domain p.now l) m) self.new.spans.items
+            → AreOuterFor (value_at p.now l m (old_masses (option_copied old.entry))) (is_of_level p.now l m) self.new }
     {
         find_all(p, l, &self.spans, old, &mut self.values);
     }
@@ -75,7 +77,8 @@ impl OuterGhosts {
         ensures spans { self.new.spans ≡ self.old.spans }
         ensures places { HasOuterPlaces self.new }
         ensures coarser { self.new.coarser ≡ self.old.coarser }
-        ensures found { (m : Masses) → All (HasNoMass (domain p.now l) m) self.new.spans.items → AreOuterFor (value_at p.now l m (old_masses (lent self.old.coarser))) (is_of_level p.now l m) self.new }
+        ensures found { (m : Masses) → All (HasNoMass (domain p.now l) m) self.new.spans.items
+            → AreOuterFor (value_at p.now l m (old_masses (lent self.old.coarser))) (is_of_level p.now l m) self.new }
     {
         match &self.coarser {
             Some(level) => find_all(p, l, &self.spans, Some(&**level), &mut self.values),
@@ -161,7 +164,8 @@ fn quarter_values(old: Option<&Level>, axis: Axis, from: Cell, values: &mut [u32
     requires small { length values.old ≤ 8192 }
     requires room { HasRoom from }
     ensures count { length values.new ≡ length values.old }
-    ensures quarters { (k : ℕ) → k < length values.old → slice_index values.new k ≡ mass_of (old_masses (option_copied old.entry)) (parent (step axis from k)) / 4 }
+    ensures quarters { (k : ℕ) → k < length values.old
+        → slice_index values.new k ≡ mass_of (old_masses (option_copied old.entry)) (parent (step axis from k)) / 4 }
 {
     let Some(level) = old else {
         values.fill(0);
@@ -188,7 +192,9 @@ fn find_span(
     requires span { IsOuterSpan (domain p.now l) span }
     requires count { length values.old ≡ span.strip.count }
     ensures count { length values.new ≡ length values.old }
-    ensures found { (m : Masses) → HasNoMass (domain p.now l) m span → AreGiven (value_at p.now l m (old_masses (option_copied old.entry))) (is_of_level p.now l m) span.strip.axis span.strip.from span.strip.count (λ k. slice_index values.new k) false }
+    ensures found { (m : Masses) → HasNoMass (domain p.now l) m span
+        → AreGiven (value_at p.now l m (old_masses (option_copied old.entry))) (is_of_level p.now l m) span.strip.axis span.strip.from span.strip.count
+        (λ k. slice_index values.new k) false }
 {
     match span.source {
         Source::Outside => {
@@ -206,7 +212,8 @@ fn find_all(p: &Problem, l: u32, spans: &[Span], old: Option<&Level>, values: &m
     requires spans { All (IsOuterSpan (domain p.now l)) spans.now }
     requires places { length values.old ≡ value_count spans.now }
     ensures count { length values.new ≡ length values.old }
-    ensures found { (m : Masses) → All (HasNoMass (domain p.now l) m) spans.now → AreOuterValuesFor (value_at p.now l m (old_masses (option_copied old.entry))) (is_of_level p.now l m) spans.now values.new }
+    ensures found { (m : Masses) → All (HasNoMass (domain p.now l) m) spans.now
+        → AreOuterValuesFor (value_at p.now l m (old_masses (option_copied old.entry))) (is_of_level p.now l m) spans.now values.new }
 {
     let mut near = NearAlong { x: 0, y: 0 };
     let mut done = 0;

@@ -38,7 +38,8 @@ fn part_span(parts: &mut FrameParts, span: Span, width: usize, runs: usize) -> R
     requires outer_count { length parts.old.outer.items ≡ runs }
     requires count { length parts.old.copies.items ≡ runs * runs }
     requires there { IsSpanBelow (runs * width) span }
-    ensures { OnOk result ((spans : List Span) (k : ℕ) → k < length spans → slice_index_or spans k span ≡ span → ArePartedTo spans k width runs parts.old → ArePartedTo spans (k + 1) width runs parts.new) }
+    ensures { OnOk result ((spans : List Span) (k : ℕ) → k < length spans → slice_index_or spans k span ≡ span → ArePartedTo spans k width runs parts.old
+        → ArePartedTo spans (k + 1) width runs parts.new) }
 {
     let Source::Beside(source, from) = span.source else {
         let outer = Span {

@@ -42,7 +42,8 @@ fn plan_strip(
     requires there { target.patch < length patches.now }
     requires small { strip.count ≤ 8192 }
     requires room { HasRoom strip.from }
-    requires ghost_strip { (q : Patch) → IsGhostStrip (domain p.now target.level) (box (slice_index_or patches.now target.patch q)) strip.axis strip.from strip.count }
+    requires ghost_strip { (q : Patch)
+        → IsGhostStrip (domain p.now target.level) (box (slice_index_or patches.now target.patch q)) strip.axis strip.from strip.count }
     requires spans { All (IsSpan (domain p.now target.level) patches.now) spans.old.items }
     ensures spans { OnOk result (All (IsSpan (domain p.now target.entry.level) patches.now) spans.new.items) }
     ensures kept { OnOk result (KeepSpans spans.old.items spans.new.items) }
@@ -77,7 +78,9 @@ fn plan_side(
     requires spans { All (IsSpan (domain p.now target.level) patches.now) spans.old.items }
     ensures spans { OnOk result (All (IsSpan (domain p.now target.entry.level) patches.now) spans.new.items) }
     ensures kept { OnOk result (KeepSpans spans.old.items spans.new.items) }
-    ensures made { OnOk result ((q : Patch) → HaveStrip spans.new.items target.entry.patch (side_axis side) (side_from (box (slice_index_or patches.now target.entry.patch q)) side) (side_count (box (slice_index_or patches.now target.entry.patch q)) side)) }
+    ensures made { OnOk result ((q : Patch)
+        → HaveStrip spans.new.items target.entry.patch (side_axis side) (side_from (box (slice_index_or patches.now target.entry.patch q)) side)
+        (side_count (box (slice_index_or patches.now target.entry.patch q)) side)) }
 {
     let strip = side_strip(&patches[target.patch].bx(), side);
     plan_strip(p, patches, target, strip, near, spans)

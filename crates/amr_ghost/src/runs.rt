@@ -26,7 +26,8 @@ const MANY: usize = 256;
 
 /// The spans of all runs, in order. `NoMemory` where a run has none.
 fn join_runs(alloc: Global, runs: Vec<Result<Vec<Span>, NoMemory>>) -> Result<Vec<Span>, NoMemory>
-    ensures { IfOk result (λ v. (d : Domain) (ps : List Patch) (size : ℕ) → ArePlannedRuns d ps size runs.items → PlansRun d ps 0 (length runs.items * size) v.items) }
+    ensures { IfOk result (λ v. (d : Domain) (ps : List Patch) (size : ℕ) → ArePlannedRuns d ps size runs.items
+        → PlansRun d ps 0 (length runs.items * size) v.items) }
 {
     let mut all = Vec::new(alloc);
     for run in runs {

@@ -60,7 +60,8 @@ pub(crate) fn span_ahead(
     requires some { 0 < strip.count }
     requires small { strip.count ≤ 8192 }
     requires room { HasRoom strip.from }
-    requires ghost_strip { (q : Patch) → IsGhostStrip (domain p.now target.level) (box (slice_index_or patches.now target.patch q)) strip.axis strip.from strip.count }
+    requires ghost_strip { (q : Patch)
+        → IsGhostStrip (domain p.now target.level) (box (slice_index_or patches.now target.patch q)) strip.axis strip.from strip.count }
     ensures span { IsSpan (domain p.now target.entry.level) patches.now result }
     ensures patch { result.patch ≡ target.entry.patch }
     ensures axis { result.strip.axis ≡ strip.axis }
@@ -126,8 +127,14 @@ fn quarter_spans(
     requires ghost_cells { (q : Patch) (k : ℕ) → k < strip.count → IsTrue (in_frame (box (slice_index_or patches.old i q)) (step strip.axis strip.from k)) }
     requires beside { (q : Patch) (k : ℕ) → k < strip.count → IsTrue (is_beside (box (slice_index_or patches.old i q)) (step strip.axis strip.from k)) }
     ensures kept { AllZip KeepsCells patches.old patches.new }
-    ensures ghosts { (value : Cell → ℕ) (mark : Cell → Bool) → AreGiven value mark strip.axis strip.from strip.count (λ k. mass_of (old_masses (option_copied old.entry)) (parent (step strip.axis from k)) / 4) false → AllZip (KeepsGhosts value mark) patches.old patches.new }
-    ensures set { (value : Cell → ℕ) (mark : Cell → Bool) (q : Patch) → AreGiven value mark strip.axis strip.from strip.count (λ k. mass_of (old_masses (option_copied old.entry)) (parent (step strip.axis from k)) / 4) false → HasGhosts value mark (slice_index_or patches.new i q) strip.axis strip.from strip.count }
+    ensures ghosts { (value : Cell → ℕ) (mark : Cell → Bool)
+        → AreGiven value mark strip.axis strip.from strip.count
+        (λ k. mass_of (old_masses (option_copied old.entry)) (parent (step strip.axis from k)) / 4) false
+        → AllZip (KeepsGhosts value mark) patches.old patches.new }
+    ensures set { (value : Cell → ℕ) (mark : Cell → Bool) (q : Patch)
+        → AreGiven value mark strip.axis strip.from strip.count
+        (λ k. mass_of (old_masses (option_copied old.entry)) (parent (step strip.axis from k)) / 4) false
+        → HasGhosts value mark (slice_index_or patches.new i q) strip.axis strip.from strip.count }
 {
     let mut done = 0;
     while done < strip.count {
@@ -157,7 +164,8 @@ pub(crate) fn place_span(
     requires span { IsSpan (domain p.now l) patches.old span }
     ensures kept { AllZip KeepsCells patches.old patches.new }
     ensures ghosts { KeepsValues p.now l (old_masses (option_copied old.entry)) patches.old patches.new }
-    ensures set { (q : Patch) → HasValues p.now l (masses_in patches.old) (old_masses (option_copied old.entry)) (slice_index_or patches.new span.patch q) span.strip.axis span.strip.from span.strip.count }
+    ensures set { (q : Patch) → HasValues p.now l (masses_in patches.old) (old_masses (option_copied old.entry))
+        (slice_index_or patches.new span.patch q) span.strip.axis span.strip.from span.strip.count }
 {
     match span.source {
         Source::Outside => {

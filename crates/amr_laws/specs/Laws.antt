@@ -1,5 +1,6 @@
 -- Laws of states with any number of levels, each of which a call of this crate ensures.
-use Rattle.std.specs.Prelude.{◌≡◌, ℕ, suc, cond, ◌+◌, ◌*◌, ◌/◌, ◌^◌, ◌<◌, ◌≤◌, ℤ, pos, ◌+ℤ◌, ◌-ℤ◌, ◌≤ℤ◌, neg_ℤ, List, [], ◌∷◌, length, map, unsigned_abs, IsFalse, IsSome}
+use Rattle.std.specs.Prelude.{◌≡◌, ℕ, suc, cond, ◌+◌, ◌*◌, ◌/◌, ◌^◌, ◌<◌, ◌≤◌, ℤ, pos, ◌+ℤ◌, ◌-ℤ◌, ◌≤ℤ◌, neg_ℤ}
+use Rattle.std.specs.Prelude.{List, [], ◌∷◌, length, map, unsigned_abs, IsFalse, IsSome}
 use Rattle.amr_box.specs.declared.Cell.{Cell}
 use Rattle.amr_box.specs.declared.Face.{Face}
 use Rattle.amr_box.specs.declared.Axis.{Axis}
@@ -62,7 +63,9 @@ ValuesAreSmall = (p : Problem) (s : State) (l : ℕ) (c : Cell) → IsSound p s 
 
 -- and its product with a Courant number is below 2 ^ 42
 abbrev pub ProductsAreSmall : Type 0
-ProductsAreSmall = (p : Problem) (s : State) (l : ℕ) (f : Face) (c : Cell) → IsSound p s → unsigned_abs (courant p l f) * value_at p l (level_at s l).masses (masses_below s l) c < 2 ^ 42
+ProductsAreSmall =
+    (p : Problem) (s : State) (l : ℕ) (f : Face) (c : Cell) → IsSound p s
+    → unsigned_abs (courant p l f) * value_at p l (level_at s l).masses (masses_below s l) c < 2 ^ 42
 
 -- ---- a regrid's masses
 
@@ -100,7 +103,8 @@ abbrev pub four_fluxes : Problem → ℕ → Face → (ℕ → ℕ × ℕ) → �
 four_fluxes p l f sides =
     let first = courant p (suc l) (first_child_face f) in
     let second = courant p (suc l) (second_child_face f) in
-    (flow first p.d (sides 0).0 (sides 0).1 +ℤ flow second p.d (sides 1).0 (sides 1).1) +ℤ (flow first p.d (sides 2).0 (sides 2).1 +ℤ flow second p.d (sides 3).0 (sides 3).1)
+    (flow first p.d (sides 0).0 (sides 0).1 +ℤ flow second p.d (sides 1).0 (sides 1).1)
+    +ℤ (flow first p.d (sides 2).0 (sides 2).1 +ℤ flow second p.d (sides 3).0 (sides 3).1)
 
 -- the share of a mass that may flow through a face of its cell
 abbrev pub face_share : Problem → ℕ → Face → ℕ → ℕ
@@ -116,11 +120,14 @@ FourFluxesAreWithinShare = (p : Problem) (l : ℕ) (f : Face) (m : ℕ) (other :
 -- faces less the plain ones, is the step with the effective fluxes
 abbrev pub RefluxIsEffectiveStep : Type 0
 RefluxIsEffectiveStep = (p : Problem) (l : ℕ) (m old fine : Masses) (e1 e2 : Fluxes) (c : Cell)
-    → (pos (mass_of m c) +ℤ net (flux_at p l m old) c) +ℤ net (λ f. effective p l m old fine e1 e2 f -ℤ flux_at p l m old f) c ≡ pos (mass_of m c) +ℤ net (effective p l m old fine e1 e2) c
+    → (pos (mass_of m c) +ℤ net (flux_at p l m old) c) +ℤ net (λ f. effective p l m old fine e1 e2 f -ℤ flux_at p l m old f) c
+    ≡ pos (mass_of m c) +ℤ net (effective p l m old fine e1 e2) c
 
 -- and away from covered cells there is nothing to correct
 abbrev pub RegistersLieBesideCovered : Type 0
-RegistersLieBesideCovered = (p : Problem) (l : ℕ) (m old fine : Masses) (e1 e2 : Fluxes) (f : Face) → IsFalse (is_covered fine (home_cell (domain p l) (low_cell f))) → IsFalse (is_covered fine (home_cell (domain p l) (high_cell f)))
+RegistersLieBesideCovered =
+    (p : Problem) (l : ℕ) (m old fine : Masses) (e1 e2 : Fluxes) (f : Face) → IsFalse (is_covered fine (home_cell (domain p l) (low_cell f)))
+    → IsFalse (is_covered fine (home_cell (domain p l) (high_cell f)))
     → effective p l m old fine e1 e2 f ≡ flux_at p l m old f
 
 -- ---- the whole step of a level over finer ones
@@ -136,18 +143,24 @@ abbrev pub LevelStepByRegisters : Type 0
 LevelStepByRegisters = (p : Problem) (l : ℕ) (k fine : Level) (ks : List Level) (old : Masses) (c : Cell) → AreLevels p l (k ∷ fine ∷ ks) → IsSome (k.masses c)
     → let r : Stepped = step p l (k.masses ∷ fine.masses ∷ masses_of ks) old in
     let plain : Fluxes = flux_at p l k.masses old in
-    pos (mass_of (first_of r.levels) c) ≡ cond (is_covered fine.masses c) (pos (children_mass (second_of r.levels) c)) ((pos (mass_of k.masses c) +ℤ net plain c) +ℤ net (λ f. r.fluxes f -ℤ plain f) c)
+    pos (mass_of (first_of r.levels) c)
+    ≡ cond (is_covered fine.masses c) (pos (children_mass (second_of r.levels) c))
+    ((pos (mass_of k.masses c) +ℤ net plain c) +ℤ net (λ f. r.fluxes f -ℤ plain f) c)
 
 -- ---- the ledger by levels
 
 -- what flows into the domain in the step from a sound state is what flows in through open sides beside cells that no finer
 -- level covers, over all levels and the steps that each makes
 abbrev pub InflowByLevels : Type 0
-InflowByLevels = (p : Problem) (s : State) → IsSound p s → inflow p (step_fluxes p s) ≡ over_levels (inflow_beside p) p (length (masses_of s.levels)) 0 (masses_of s.levels) no_masses
+InflowByLevels =
+    (p : Problem) (s : State) → IsSound p s
+    → inflow p (step_fluxes p s) ≡ over_levels (inflow_beside p) p (length (masses_of s.levels)) 0 (masses_of s.levels) no_masses
 
 -- and the same of what flows out
 abbrev pub OutflowByLevels : Type 0
-OutflowByLevels = (p : Problem) (s : State) → IsSound p s → outflow p (step_fluxes p s) ≡ over_levels (outflow_beside p) p (length (masses_of s.levels)) 0 (masses_of s.levels) no_masses
+OutflowByLevels =
+    (p : Problem) (s : State) → IsSound p s
+    → outflow p (step_fluxes p s) ≡ over_levels (outflow_beside p) p (length (masses_of s.levels)) 0 (masses_of s.levels) no_masses
 
 -- ---- steps within a step
 
@@ -157,11 +170,13 @@ LevelStepKeepsLevels = (p : Problem) (l : ℕ) (ks : List Level) (old : Masses) 
 
 -- their boxes stay
 abbrev pub LevelStepKeepsBoxes : Type 0
-LevelStepKeepsBoxes = (p : Problem) (l : ℕ) (ks : List Level) (old : Masses) → AreLevels p l ks → map (λ k. k.boxes) (after_step p l ks old) ≡ map (λ k. k.boxes) ks
+LevelStepKeepsBoxes =
+    (p : Problem) (l : ℕ) (ks : List Level) (old : Masses) → AreLevels p l ks → map (λ k. k.boxes) (after_step p l ks old) ≡ map (λ k. k.boxes) ks
 
 -- and their masses are those of the step, none left out
 abbrev pub LevelStepGivesMasses : Type 0
-LevelStepGivesMasses = (p : Problem) (l : ℕ) (ks : List Level) (old : Masses) → AreLevels p l ks → masses_of (after_step p l ks old) ≡ (step p l (masses_of ks) old).levels
+LevelStepGivesMasses =
+    (p : Problem) (l : ℕ) (ks : List Level) (old : Masses) → AreLevels p l ks → masses_of (after_step p l ks old) ≡ (step p l (masses_of ks) old).levels
 
 -- a step of a level over finer ones is made of two steps of those, the second of what the first left, both with the
 -- level's masses of before
@@ -177,4 +192,6 @@ SubstepsAreOfLevels = (p : Problem) (s : State) (l : ℕ) (ks : List Level) (old
 
 -- and its numbers fit the integers of code
 abbrev pub SubstepsFit : Type 0
-SubstepsFit = (p : Problem) (s : State) (l : ℕ) (k : Level) (finer : List Level) (old : Masses) → IsSound p s → s.step < p.steps → IsSubstep p s l (k ∷ finer) old → StepFits p l k finer old
+SubstepsFit =
+    (p : Problem) (s : State) (l : ℕ) (k : Level) (finer : List Level) (old : Masses) → IsSound p s → s.step < p.steps → IsSubstep p s l (k ∷ finer) old
+    → StepFits p l k finer old

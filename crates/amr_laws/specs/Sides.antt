@@ -26,10 +26,12 @@ y_beside p l counts low high e =
 
 -- what flows into the domain beside cells that count, and out of it
 unfoldable pub inflow_beside : Problem → ℕ → (Cell → Bool) → Fluxes → ℕ
-inflow_beside p l counts e = if_open p.x_sides (x_beside p l counts at_least_zero below_zero e) + if_open p.y_sides (y_beside p l counts at_least_zero below_zero e)
+inflow_beside p l counts e =
+    if_open p.x_sides (x_beside p l counts at_least_zero below_zero e) + if_open p.y_sides (y_beside p l counts at_least_zero below_zero e)
 
 unfoldable pub outflow_beside : Problem → ℕ → (Cell → Bool) → Fluxes → ℕ
-outflow_beside p l counts e = if_open p.x_sides (x_beside p l counts below_zero at_least_zero e) + if_open p.y_sides (y_beside p l counts below_zero at_least_zero e)
+outflow_beside p l counts e =
+    if_open p.x_sides (x_beside p l counts below_zero at_least_zero e) + if_open p.y_sides (y_beside p l counts below_zero at_least_zero e)
 
 -- ---- over all levels
 

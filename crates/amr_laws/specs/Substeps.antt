@@ -20,7 +20,8 @@ after_step p l ks old = with_masses ks (step p l (masses_of ks) old).levels
 pub data IsSubstep (p : Problem) (s : State) : ℕ → List Level → Masses → Type 0 where
   whole : IsSubstep p s 0 s.levels no_masses
   first : (l : ℕ) (k : Level) (finer : List Level) (old : Masses) → IsSubstep p s l (k ∷ finer) old → IsSubstep p s (suc l) finer k.masses
-  second : (l : ℕ) (k : Level) (finer : List Level) (old : Masses) → IsSubstep p s l (k ∷ finer) old → IsSubstep p s (suc l) (after_step p (suc l) finer k.masses) k.masses
+  second : (l : ℕ) (k : Level) (finer : List Level) (old : Masses) → IsSubstep p s l (k ∷ finer) old
+      → IsSubstep p s (suc l) (after_step p (suc l) finer k.masses) k.masses
 
 -- the numbers of a step of a level, and of the finer ones with it, fit
 pub record StepFits (p : Problem) (l : ℕ) (k : Level) (finer : List Level) (old : Masses) : Type 0 where

@@ -2,7 +2,11 @@
 //! empty body, and what it ensures is the law.
 #![tactic(auto)]
 
-ghost use Rattle.amr_laws.specs.Laws.{BoxesLieInLevel, FinishIsSound, FourFluxesAreWithinShare, InflowByLevels, LevelStepByRegisters, LevelStepGivesMasses, LevelStepIsExact, LevelStepIsTwoFiner, LevelStepKeepsBoxes, LevelStepKeepsLevels, NextIsSound, OutflowByLevels, PlotIgnoresGridSize, ProductsAreSmall, RefluxIsEffectiveStep, RegistersLieBesideCovered, RegridHoldsTags, RegridKeepsMasses, RegridKeepsSound, RunIgnoresGridSize, RunIsSound, SharesAddUp, StartIsSound, SubstepsAreOfLevels, SubstepsFit, ValuesAreSmall};
+ghost use Rattle.amr_laws.specs.Laws.{BoxesLieInLevel, FinishIsSound, FourFluxesAreWithinShare, InflowByLevels, LevelStepByRegisters};
+ghost use Rattle.amr_laws.specs.Laws.{LevelStepGivesMasses, LevelStepIsExact, LevelStepIsTwoFiner, LevelStepKeepsBoxes, LevelStepKeepsLevels};
+ghost use Rattle.amr_laws.specs.Laws.{NextIsSound, OutflowByLevels, PlotIgnoresGridSize, ProductsAreSmall, RefluxIsEffectiveStep};
+ghost use Rattle.amr_laws.specs.Laws.{RegistersLieBesideCovered, RegridHoldsTags, RegridKeepsMasses, RegridKeepsSound, RunIgnoresGridSize};
+ghost use Rattle.amr_laws.specs.Laws.{RunIsSound, SharesAddUp, StartIsSound, SubstepsAreOfLevels, SubstepsFit, ValuesAreSmall};
 
 /// The start of a run is sound: nested, synced, bounded and telescoped, with boxes that have cells and rows of 64 bits.
 pub fn start_is_sound()
@@ -99,7 +103,8 @@ pub fn level_step_by_registers()
 {}
 
 /// A step of levels keeps what the laws on it ask: each in its domain, nested and in sync with the next finer one. All
-/// levels stay, with their boxes, and have the masses of the step. So what `level_step_is_exact` and `level_step_by_registers` say of a first finer step they say of the second too.
+/// levels stay, with their boxes, and have the masses of the step. So what `level_step_is_exact` and `level_step_by_registers` say of a first finer step
+/// they say of the second too.
 pub fn level_step_keeps_levels()
     ensures levels { LevelStepKeepsLevels }
     ensures boxes { LevelStepKeepsBoxes }

@@ -1,5 +1,6 @@
 -- The faces whose flows are added to words: those of open sides to the ledger's, those of coarse-fine edges to a register cell's.
-use Rattle.std.specs.Prelude.{◌≡◌, ℕ, ◌+◌, ◌-◌, ◌*◌, ◌<◌, ◌==◌, if◌then◌else◌, Bool, ◌&&◌, not, cond, pos, int_lt, List, [], ◌∷◌, ◌++◌, map, take, Contains, IsTrue}
+use Rattle.std.specs.Prelude.{◌≡◌, ℕ, ◌+◌, ◌-◌, ◌*◌, ◌<◌, ◌==◌, if◌then◌else◌, Bool, ◌&&◌, not, cond, pos}
+use Rattle.std.specs.Prelude.{int_lt, List, [], ◌∷◌, ◌++◌, map, take, Contains, IsTrue}
 use Rattle.std.specs.List.{All, AllPairs, flat_map, position_or_len}
 use Rattle.std.specs.Ordering.{int_eq}
 use Rattle.amr_box.specs.declared.Cell.{Cell}

@@ -1,6 +1,7 @@
 //! The faces of a patch whose flows go to the ledger or to register cells.
 
-ghost use Rattle.std.specs.Prelude.{◌≡◌, ℕ, ◌+◌, ◌-◌, ◌*◌, ◌≤◌, ◌<◌, ◌++◌, ◌^◌, ◌&&◌, not, [], ◌∷◌, cond, pos, int_lt, false, length, map, slice_index_or, take, true, IfOk, OnOk, IsTrue, Contains};
+ghost use Rattle.std.specs.Prelude.{◌≡◌, ℕ, ◌+◌, ◌-◌, ◌*◌, ◌≤◌, ◌<◌, ◌++◌, ◌^◌, ◌&&◌, not, [], ◌∷◌, cond, pos, int_lt, false};
+ghost use Rattle.std.specs.Prelude.{length, map, slice_index_or, take, true, IfOk, OnOk, IsTrue, Contains};
 ghost use Rattle.std.specs.Option.{option_copied};
 ghost use Rattle.std.specs.List.{All};
 ghost use Rattle.amr_box.specs.Cells.{IsNear};
@@ -10,7 +11,8 @@ ghost use Rattle.amr_patch.specs.Orders.{IsOrderOf};
 ghost use Rattle.amr_faces.specs.Faces.{IsInDomain};
 ghost use Rattle.amr_layout.specs.Surroundings.{IsInRowOrColumn, IsNearFace, LiesBesideLevel, around, edge_count, edge_face, is_coarse_fine};
 ghost use Rattle.amr_patch.specs.Gaps.{HasStarts, IsGap};
-ghost use Rattle.amr_layout.specs.Adds.{AreInOrder, HasCellsBeyond, cell_beyond, flow_to, flows_in, flows_of, inflow_faces, is_exchange_face, is_inflow_face, is_outflow_face, number_of, outflow_faces, register_flows, word_of};
+ghost use Rattle.amr_layout.specs.Adds.{AreInOrder, HasCellsBeyond, cell_beyond, flow_to, flows_in, flows_of, inflow_faces, is_exchange_face};
+ghost use Rattle.amr_layout.specs.Adds.{is_inflow_face, is_outflow_face, number_of, outflow_faces, register_flows, word_of};
 ghost use Rattle.amr_layout.specs.Flows.{IsAtHome, IsToWord, is_coarser, is_inflow, is_outflow, is_outside, is_register, word_in};
 
 use crate::faces::{edge_count, edge_face, inside, inward, outside};
@@ -91,7 +93,9 @@ pub(crate) fn beyond(s: Surroundings<'_>, near: &mut Near, c: Cell) -> Across
     requires starts { HasStarts s.patches.now s.starts.now }
     requires gap { IsGap s.patches.now near.old.level.gap }
     ensures outside { is_outside result ≡ not (in_domain (domain s.entry.problem.now s.entry.level) (home_cell (domain s.entry.problem.now s.entry.level) c)) }
-    ensures coarser { is_coarser result ≡ (in_domain (domain s.entry.problem.now s.entry.level) (home_cell (domain s.entry.problem.now s.entry.level) c) && not (in_patches s.entry.patches.now (home_cell (domain s.entry.problem.now s.entry.level) c))) }
+    ensures coarser { is_coarser result
+        ≡ (in_domain (domain s.entry.problem.now s.entry.level) (home_cell (domain s.entry.problem.now s.entry.level) c)
+        && not (in_patches s.entry.patches.now (home_cell (domain s.entry.problem.now s.entry.level) c))) }
     ensures gap { IsGap s.entry.patches.now near.new.level.gap }
     ensures home { IsAtHome result (home_cell (domain s.entry.problem.now s.entry.level) c) }
 {
@@ -145,13 +149,18 @@ fn flow_of(s: Surroundings<'_>, near: &mut Near, b: &Bx, f: Face) -> Flow
     requires few { length s.cells.now ≤ 2 ^ 30 }
     requires lies { IsInRowOrColumn s.problem.now s.level f }
     requires near { IsNearFace f }
-    requires there { IsTrue (is_coarse_fine (around s.problem.now s.level s.patches.now s.cells.now (option_copied s.finer)) b.now f) → Contains s.cells.now (cell_beyond (around s.problem.now s.level s.patches.now s.cells.now (option_copied s.finer)) b.now f) }
-    ensures inflow { is_inflow result ≡ is_inflow_face (around s.entry.problem.now s.entry.level s.entry.patches.now s.entry.cells.now (option_copied s.entry.finer)) b.now f }
-    ensures outflow { is_outflow result ≡ is_outflow_face (around s.entry.problem.now s.entry.level s.entry.patches.now s.entry.cells.now (option_copied s.entry.finer)) b.now f }
-    ensures register { is_register result ≡ is_exchange_face (around s.entry.problem.now s.entry.level s.entry.patches.now s.entry.cells.now (option_copied s.entry.finer)) b.now f }
+    requires there { IsTrue (is_coarse_fine (around s.problem.now s.level s.patches.now s.cells.now (option_copied s.finer)) b.now f)
+        → Contains s.cells.now (cell_beyond (around s.problem.now s.level s.patches.now s.cells.now (option_copied s.finer)) b.now f) }
+    ensures inflow { is_inflow result
+        ≡ is_inflow_face (around s.entry.problem.now s.entry.level s.entry.patches.now s.entry.cells.now (option_copied s.entry.finer)) b.now f }
+    ensures outflow { is_outflow result
+        ≡ is_outflow_face (around s.entry.problem.now s.entry.level s.entry.patches.now s.entry.cells.now (option_copied s.entry.finer)) b.now f }
+    ensures register { is_register result
+        ≡ is_exchange_face (around s.entry.problem.now s.entry.level s.entry.patches.now s.entry.cells.now (option_copied s.entry.finer)) b.now f }
     ensures gap { IsGap s.entry.patches.now near.new.level.gap }
     ensures within { word_in result < 2 + 2 * length s.entry.cells.now }
-    ensures word { IsToWord result (word_of (around s.entry.problem.now s.entry.level s.entry.patches.now s.entry.cells.now (option_copied s.entry.finer)) b.now f) }
+    ensures word { IsToWord result (word_of
+        (around s.entry.problem.now s.entry.level s.entry.patches.now s.entry.cells.now (option_copied s.entry.finer)) b.now f) }
 {
     let inward = inward(s.problem, s.level, b, f);
     match beyond(s, near, outside(b, f)) {
@@ -177,7 +186,9 @@ fn more_kept(s: Surroundings<'_>, at: usize, b: &Bx, n: u32, flow: Flow) -> u32
     requires inside { IsInDomain (domain s.problem.now s.level) b.now }
     requires there { n < edge_count b.now }
     ensures count { n + result < edge_count b.now }
-    ensures beside { (m : ℕ) → n < m → m ≤ n + result → LiesBesideLevel (around s.entry.problem.now s.entry.level s.entry.patches.now s.entry.cells.now (option_copied s.entry.finer)) b.now (edge_face b.now m) }
+    ensures beside { (m : ℕ) → n < m → m ≤ n + result
+        → LiesBesideLevel (around s.entry.problem.now s.entry.level s.entry.patches.now s.entry.cells.now (option_copied s.entry.finer)) b.now
+        (edge_face b.now m) }
 {
     match flow {
         Flow::Kept => more_beside(s, at, b, n),
@@ -209,7 +220,8 @@ fn ends_with(adds: &[AddAt], word: u32) -> bool
 /// Adds a face to the last of these adds.
 fn extend_last(adds: &mut [AddAt], f: Face) -> Result<(), NoMemory>
     requires { 0 < length adds.old }
-    ensures flows { OnOk result ((word : ℕ) → ((a : AddAt) → (slice_index_or adds.old (length adds.old - 1) a).word ≡ word) → flows_in adds.new ≡ flows_in adds.old ++ flow_to word f ∷ []) }
+    ensures flows { OnOk result ((word : ℕ) → ((a : AddAt) → (slice_index_or adds.old (length adds.old - 1) a).word ≡ word)
+        → flows_in adds.new ≡ flows_in adds.old ++ flow_to word f ∷ []) }
     ensures words { (n : ℕ) → All (λ a. a.word < n) adds.old → All (λ a. a.word < n) adds.new }
 {
     let last = adds.len() - 1;
@@ -235,7 +247,8 @@ fn add_face(flows: &mut PatchFlows, flow: Flow, f: Face) -> Result<(), NoMemory>
     ensures inflow { OnOk result (flows.new.inflow.items ≡ flows.old.inflow.items ++ cond (is_inflow flow) (f ∷ []) []) }
     ensures outflow { OnOk result (flows.new.outflow.items ≡ flows.old.outflow.items ++ cond (is_outflow flow) (f ∷ []) []) }
     ensures register { OnOk result (flows.new.register.items ≡ flows.old.register.items ++ cond (is_register flow) (flow_to (word_in flow) f ∷ []) []) }
-    ensures words { (n : ℕ) → word_in flow < n → All (λ x. x.word < n) flows.old.register.items → OnOk result (All (λ x. x.word < n) flows.new.register.items) }
+    ensures words { (n : ℕ) → word_in flow < n → All (λ x. x.word < n) flows.old.register.items
+        → OnOk result (All (λ x. x.word < n) flows.new.register.items) }
 {
     match flow {
         Flow::Kept => {}
@@ -284,9 +297,12 @@ pub(crate) fn flows_beside(
     requires inside { IsInDomain (domain s.problem.now s.level) b.now }
     requires there { HasCellsBeyond (around s.problem.now s.level s.patches.now s.cells.now (option_copied s.finer)) b.now }
     ensures gap { OnOk result (IsGap s.entry.patches.now near.new.level.gap) }
-    ensures inflow { OnOk result (flows.new.inflow.items ≡ inflow_faces (around s.entry.problem.now s.entry.level s.entry.patches.now s.entry.cells.now (option_copied s.entry.finer)) b.now) }
-    ensures outflow { OnOk result (flows.new.outflow.items ≡ outflow_faces (around s.entry.problem.now s.entry.level s.entry.patches.now s.entry.cells.now (option_copied s.entry.finer)) b.now) }
-    ensures register { OnOk result (flows.new.register.items ≡ register_flows (around s.entry.problem.now s.entry.level s.entry.patches.now s.entry.cells.now (option_copied s.entry.finer)) b.now) }
+    ensures inflow { OnOk result (flows.new.inflow.items
+        ≡ inflow_faces (around s.entry.problem.now s.entry.level s.entry.patches.now s.entry.cells.now (option_copied s.entry.finer)) b.now) }
+    ensures outflow { OnOk result (flows.new.outflow.items
+        ≡ outflow_faces (around s.entry.problem.now s.entry.level s.entry.patches.now s.entry.cells.now (option_copied s.entry.finer)) b.now) }
+    ensures register { OnOk result (flows.new.register.items
+        ≡ register_flows (around s.entry.problem.now s.entry.level s.entry.patches.now s.entry.cells.now (option_copied s.entry.finer)) b.now) }
     ensures words { OnOk result (All (λ x. x.word < 2 + 2 * length s.entry.cells.now) flows.new.register.items) }
 {
     clear(flows);
@@ -331,7 +347,8 @@ pub(crate) fn adds_of(
     requires inside { IsInDomain (domain s.problem.now s.level) b.now }
     requires there { HasCellsBeyond (around s.problem.now s.level s.patches.now s.cells.now (option_copied s.finer)) b.now }
     ensures gap { OnOk result (IsGap s.entry.patches.now near.new.level.gap) }
-    ensures flows { IfOk result (λ adds. flows_in adds.items ≡ flows_of (around s.entry.problem.now s.entry.level s.entry.patches.now s.entry.cells.now (option_copied s.entry.finer)) b.now) }
+    ensures flows { IfOk result (λ adds. flows_in adds.items
+        ≡ flows_of (around s.entry.problem.now s.entry.level s.entry.patches.now s.entry.cells.now (option_copied s.entry.finer)) b.now) }
     ensures ledger { IfOk result (λ adds. take 2 (map (λ a. a.word) adds.items) ≡ 0 ∷ 1 ∷ []) }
     ensures words { IfOk result (λ adds. All (λ a. a.word < 2 + 2 * length s.entry.cells.now) adds.items) }
 {

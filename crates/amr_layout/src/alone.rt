@@ -51,7 +51,8 @@ fn append_faces(all: &mut Vec<FlowTo>, word: u32, faces: &[Face]) -> Result<(), 
 
 /// Puts the flows of a patch behind a list: the inflows, the outflows, and those to register words.
 fn append_flows(all: &mut Vec<FlowTo>, flows: &PatchFlows) -> Result<(), NoMemory>
-    ensures { OnOk result (all.new.items ≡ all.old.items ++ (map (flow_to 0) flows.now.inflow.items ++ (map (flow_to 1) flows.now.outflow.items ++ flows.now.register.items))) }
+    ensures { OnOk result (all.new.items
+        ≡ all.old.items ++ (map (flow_to 0) flows.now.inflow.items ++ (map (flow_to 1) flows.now.outflow.items ++ flows.now.register.items))) }
 {
     append_faces(all, 0, &flows.inflow)?;
     append_faces(all, 1, &flows.outflow)?;
@@ -73,7 +74,8 @@ pub(crate) fn flows_of_run(
     requires few { length s.cells.now ≤ 2 ^ 30 }
     requires inside { All (λ q. IsInDomain (domain s.problem.now s.level) (box q)) run.now }
     requires there { All (λ q. HasCellsBeyond (around s.problem.now s.level s.patches.now s.cells.now (option_copied s.finer)) (box q)) run.now }
-    ensures flows { IfOk result (AreFlowsOfRun (around s.entry.problem.now s.entry.level s.entry.patches.now s.entry.cells.now (option_copied s.entry.finer)) run.now) }
+    ensures flows { IfOk result (AreFlowsOfRun
+        (around s.entry.problem.now s.entry.level s.entry.patches.now s.entry.cells.now (option_copied s.entry.finer)) run.now) }
     ensures words { IfOk result (λ v. All (λ x. x.word < 2 + 2 * length s.entry.cells.now) v.flows.items) }
 {
     let level = Trace {

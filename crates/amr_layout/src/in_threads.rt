@@ -55,8 +55,11 @@ fn join_runs(
     runs: &[Result<LevelFlows, NoMemory>],
 ) -> Result<LevelFlows, NoMemory>
     requires all { length s.patches.now ≤ length runs.now * size }
-    requires flows { (n : ℕ) (d : _) → n < length runs.now → IfOk (slice_index_or runs.now n d) (AreFlowsOfRun (around s.problem.now s.level s.patches.now s.cells.now (option_copied s.finer)) (slice_chunk s.patches.now size n)) }
-    requires words { (n : ℕ) (d : _) → n < length runs.now → IfOk (slice_index_or runs.now n d) (λ v. All (λ x. x.word < 2 + 2 * length s.cells.now) v.flows.items) }
+    requires flows { (n : ℕ) (d : _) → n < length runs.now
+        → IfOk (slice_index_or runs.now n d)
+        (AreFlowsOfRun (around s.problem.now s.level s.patches.now s.cells.now (option_copied s.finer)) (slice_chunk s.patches.now size n)) }
+    requires words { (n : ℕ) (d : _) → n < length runs.now
+        → IfOk (slice_index_or runs.now n d) (λ v. All (λ x. x.word < 2 + 2 * length s.cells.now) v.flows.items) }
     ensures flows { IfOk result (AreFlowsOf (around s.entry.problem.now s.entry.level s.entry.patches.now s.entry.cells.now (option_copied s.entry.finer))) }
     ensures words { IfOk result (λ v. All (λ x. x.word < 2 + 2 * length s.entry.cells.now) v.flows.items) }
 {
@@ -93,8 +96,12 @@ pub(crate) fn flows_by_runs<R: Threads + Sync>(
     ensures words { IfOk result (λ v. All (λ x. x.word < 2 + 2 * length s.entry.cells.now) v.flows.items) }
 {
     let of_run = move |_start: usize, run: &[Patch]| -> Result<LevelFlows, NoMemory>
-        requires { (s.level ≤ 4) × IsOrderOf s.order s.patches.now × ArePatchesApart s.patches.now × HasStarts s.patches.now s.starts.now × AreInOrder s.cells.now × (length s.cells.now ≤ 2 ^ 30) × All (λ q. IsInDomain (domain s.problem.now s.level) (box q)) run.now × All (λ q. HasCellsBeyond (around s.problem.now s.level s.patches.now s.cells.now (option_copied s.finer)) (box q)) run.now }
-        ensures { IfOk result (AreFlowsOfRun (around s.entry.problem.now s.entry.level s.entry.patches.now s.entry.cells.now (option_copied s.entry.finer)) run.entry.now) × IfOk result (λ v. All (λ x. x.word < 2 + 2 * length s.entry.cells.now) v.flows.items) }
+        requires { (s.level ≤ 4) × IsOrderOf s.order s.patches.now × ArePatchesApart s.patches.now × HasStarts s.patches.now s.starts.now
+            × AreInOrder s.cells.now × (length s.cells.now ≤ 2 ^ 30) × All (λ q. IsInDomain (domain s.problem.now s.level) (box q)) run.now
+            × All (λ q. HasCellsBeyond (around s.problem.now s.level s.patches.now s.cells.now (option_copied s.finer)) (box q)) run.now }
+        ensures { IfOk result (AreFlowsOfRun
+            (around s.entry.problem.now s.entry.level s.entry.patches.now s.entry.cells.now (option_copied s.entry.finer)) run.entry.now)
+            × IfOk result (λ v. All (λ x. x.word < 2 + 2 * length s.entry.cells.now) v.flows.items) }
     { flows_of_run(alloc, s, run) };
     let runs = map_chunks(rt, alloc, s.patches, size, &of_run)?;
     join_runs(alloc, s, size, &runs)

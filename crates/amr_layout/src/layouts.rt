@@ -38,7 +38,9 @@ fn tasks_of(
     requires borders { length borders.old ≡ length s.patches.now }
     ensures puts { IfOk result (λ ts. map (λ t. t.puts.items) ts.items ≡ map (λ v. v.items) lots.old) }
     ensures border { IfOk result (λ ts. map (λ t. t.border.items) ts.items ≡ map (λ v. v.items) borders.old) }
-    ensures flows { IfOk result (λ ts. map (λ t. flows_in t.adds.items) ts.items ≡ map (λ q. flows_of (around s.entry.problem.now s.entry.level s.entry.patches.now s.entry.cells.now (option_copied s.entry.finer)) (box q)) s.entry.patches.now) }
+    ensures flows { IfOk result (λ ts. map (λ t. flows_in t.adds.items) ts.items
+        ≡ map (λ q. flows_of (around s.entry.problem.now s.entry.level s.entry.patches.now s.entry.cells.now (option_copied s.entry.finer))
+        (box q)) s.entry.patches.now) }
     ensures ledger { IfOk result (λ ts. All HasLedgerAdds ts.items) }
     ensures words { IfOk result (λ ts. All (λ t. All (λ a. a.word < 2 + 2 * length s.entry.cells.now) t.adds.items) ts.items) }
 {
@@ -84,9 +86,13 @@ pub fn plan(alloc: Global, s: Surroundings<'_>) -> Result<Layout, NoMemory>
     requires cells { HasRegisterCells (around s.problem.now s.level s.patches.now s.cells.now (option_copied s.finer)) }
     ensures places { IfOk result (λ y. y.places ≡ length (level_borders (domain s.entry.problem.now s.entry.level) s.entry.patches.now s.entry.patches.now)) }
     ensures words { IfOk result (λ y. y.words ≡ 2 + 2 * length s.entry.cells.now) }
-    ensures puts { IfOk result (λ y. map (λ t. t.puts.items) y.tasks.items ≡ map (λ q. puts_of (domain s.entry.problem.now s.entry.level) s.entry.patches.now (box q)) s.entry.patches.now) }
-    ensures border { IfOk result (λ y. map (λ t. t.border.items) y.tasks.items ≡ map (border_places (domain s.entry.problem.now s.entry.level) s.entry.patches.now) (range_with_len 0 (length s.entry.patches.now))) }
-    ensures adds { IfOk result (λ y. map (λ t. flows_in t.adds.items) y.tasks.items ≡ map (λ q. flows_of (around s.entry.problem.now s.entry.level s.entry.patches.now s.entry.cells.now (option_copied s.entry.finer)) (box q)) s.entry.patches.now) }
+    ensures puts { IfOk result (λ y. map (λ t. t.puts.items) y.tasks.items
+        ≡ map (λ q. puts_of (domain s.entry.problem.now s.entry.level) s.entry.patches.now (box q)) s.entry.patches.now) }
+    ensures border { IfOk result (λ y. map (λ t. t.border.items) y.tasks.items
+        ≡ map (border_places (domain s.entry.problem.now s.entry.level) s.entry.patches.now) (range_with_len 0 (length s.entry.patches.now))) }
+    ensures adds { IfOk result (λ y. map (λ t. flows_in t.adds.items) y.tasks.items
+        ≡ map (λ q. flows_of (around s.entry.problem.now s.entry.level s.entry.patches.now s.entry.cells.now (option_copied s.entry.finer))
+        (box q)) s.entry.patches.now) }
     ensures ledger { IfOk result (λ y. All HasLedgerAdds y.tasks.items) }
     ensures plan { IfOk result (λ y. (size : Sizes) → AreSmallSizes size → IsPlan (plan_of y size)) }
 {

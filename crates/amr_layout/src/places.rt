@@ -60,7 +60,9 @@ fn put_border(
     ensures count { places.new.count ≤ places.old.count + 1 }
     ensures gap { OnOk result (IsGap patches.now places.new.near.gap) }
     ensures lots { OnOk result (length places.new.lots.items ≡ length patches.now) }
-    ensures put { OnOk result ((done : List Face) → ArePut (domain_of dom.now) patches.now done places.old.count places.old.lots.items → ArePut (domain_of dom.now) patches.now (done ++ cond (leads_on (domain_of dom.now) patches.now f) (f ∷ []) []) places.new.count places.new.lots.items) }
+    ensures put { OnOk result ((done : List Face) → ArePut (domain_of dom.now) patches.now done places.old.count places.old.lots.items
+        → ArePut (domain_of dom.now) patches.now
+        (done ++ cond (leads_on (domain_of dom.now) patches.now f) (f ∷ []) []) places.new.count places.new.lots.items) }
 {
     let face = home_face(dom, f);
     let Some(owner) = look_beside(patches, order, starts, &mut places.near, high_cell(face)) else {
@@ -94,7 +96,8 @@ fn put_borders(
     ensures count { OnOk result (places.new.count ≤ places.old.count + height b.now + width b.now) }
     ensures gap { OnOk result (IsGap patches.now places.new.near.gap) }
     ensures lots { OnOk result (length places.new.lots.items ≡ length patches.now) }
-    ensures put { OnOk result ((done : List Face) → ArePut (domain_of dom.now) patches.now done places.old.count places.old.lots.items → ArePut (domain_of dom.now) patches.now (done ++ borders_of (domain_of dom.now) patches.now b.now) places.new.count places.new.lots.items) }
+    ensures put { OnOk result ((done : List Face) → ArePut (domain_of dom.now) patches.now done places.old.count places.old.lots.items
+        → ArePut (domain_of dom.now) patches.now (done ++ borders_of (domain_of dom.now) patches.now b.now) places.new.count places.new.lots.items) }
 {
     for j in 0..b.height() {
         put_border(dom, patches, order, starts, places, x_end(b, j))?;
@@ -129,8 +132,10 @@ pub(crate) fn place_borders(
     requires apart { ArePatchesApart patches.now }
     requires starts { HasStarts patches.now starts.now }
     requires few { total (λ q. edge_count (box q)) patches.now ≤ 2 ^ 30 }
-    ensures put { IfOk result (λ r. ArePut (domain_of dom.now) patches.now (level_borders (domain_of dom.now) patches.now patches.now) r.0.count r.0.lots.items) }
-    ensures borders { IfOk result (λ r. map (λ v. v.items) r.1.items ≡ map (border_places (domain_of dom.now) patches.now) (range_with_len 0 (length patches.now))) }
+    ensures put { IfOk result (λ r. ArePut (domain_of dom.now) patches.now
+        (level_borders (domain_of dom.now) patches.now patches.now) r.0.count r.0.lots.items) }
+    ensures borders { IfOk result (λ r. map (λ v. v.items) r.1.items
+        ≡ map (border_places (domain_of dom.now) patches.now) (range_with_len 0 (length patches.now))) }
 {
     let mut places = Places {
         lots: no_puts(alloc, patches)?,

@@ -29,7 +29,9 @@ pub(crate) fn more_beside(s: Surroundings<'_>, at: usize, b: &Bx, n: u32) -> u32
     requires inside { IsInDomain (domain s.problem.now s.level) b.now }
     requires there { n < edge_count b.now }
     ensures count { n + result < edge_count b.now }
-    ensures beside { (m : ℕ) → n < m → m ≤ n + result → LiesBesideLevel (around s.entry.problem.now s.entry.level s.entry.patches.now s.entry.cells.now (option_copied s.entry.finer)) b.now (edge_face b.now m) }
+    ensures beside { (m : ℕ) → n < m → m ≤ n + result
+        → LiesBesideLevel (around s.entry.problem.now s.entry.level s.entry.patches.now s.entry.cells.now (option_copied s.entry.finer)) b.now
+        (edge_face b.now m) }
 {
     if at >= s.patches.len() {
         return 0;

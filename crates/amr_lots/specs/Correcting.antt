@@ -21,7 +21,8 @@ use Rattle.amr_lots.specs.Runs.{HasOthersOf}
 -- a covered cell of a patch gets the mass of its children, each other cell what it had with its entry, and all else of the patch stays
 pub record IsCorrected (fine : Masses) (entry : Cell → ℤ) (old new : Patch) : Type 0 where
   pub kept : KeepsFrameAndFluxes old new
-  pub masses : (c : Cell) → IsTrue (holds (box old) c) → mass_in new c ≡ cond (is_covered fine c) (children_mass fine c) (at_least_zero (pos (mass_in old c) +ℤ entry c))
+  pub masses : (c : Cell) → IsTrue (holds (box old) c)
+      → mass_in new c ≡ cond (is_covered fine c) (children_mass fine c) (at_least_zero (pos (mass_in old c) +ℤ entry c))
 
 -- the entry of each register cell of a patch fits its mass
 pub record FitsEntries (r : Register) (q : Patch) : Type 0 where

@@ -43,14 +43,18 @@ pub record HasTraded (from : ℕ) (x y : Message) (a b : Lot) : Type 0 where
 pub record HaveTraded (from : ℕ) (xs ys : List Message) (lots after : List (Box Lot)) : Type 0 where
   pub messages : length ys ≡ length xs
   pub count : length after ≡ length lots
-  pub each : (to : ℕ) (m : Message) (x : Box Lot) → to < length lots → HasTraded from (slice_index_or xs to m) (slice_index_or ys to m) (slice_index_or lots to x).value (slice_index_or after to x).value
+  pub each : (to : ℕ) (m : Message) (x : Box Lot) → to < length lots
+      → HasTraded from (slice_index_or xs to m) (slice_index_or ys to m) (slice_index_or lots to x).value (slice_index_or after to x).value
 
 -- the messages of one lot for each were exchanged for those that each had from it, and it is for this phase then. All else stayed.
 pub record ArePosted (from : ℕ) (phase : Phase) (lots after : List (Box Lot)) : Type 0 where
   pub count : length after ≡ length lots
-  pub delivered : (to : ℕ) (x : Box Lot) (m : Message) → to < length lots → slice_index_or (slice_index_or after to x).value.inbox.items from m ≡ slice_index_or (slice_index_or lots from x).value.outbox.items to m
-  pub back : (to : ℕ) (x : Box Lot) (m : Message) → to < length lots → slice_index_or (slice_index_or after from x).value.outbox.items to m ≡ slice_index_or (slice_index_or lots to x).value.inbox.items from m
-  pub inboxes : (u to : ℕ) (x : Box Lot) (m : Message) → u ≢ from → to < length lots → slice_index_or (slice_index_or after to x).value.inbox.items u m ≡ slice_index_or (slice_index_or lots to x).value.inbox.items u m
+  pub delivered : (to : ℕ) (x : Box Lot) (m : Message) → to < length lots
+      → slice_index_or (slice_index_or after to x).value.inbox.items from m ≡ slice_index_or (slice_index_or lots from x).value.outbox.items to m
+  pub back : (to : ℕ) (x : Box Lot) (m : Message) → to < length lots
+      → slice_index_or (slice_index_or after from x).value.outbox.items to m ≡ slice_index_or (slice_index_or lots to x).value.inbox.items from m
+  pub inboxes : (u to : ℕ) (x : Box Lot) (m : Message) → u ≢ from → to < length lots
+      → slice_index_or (slice_index_or after to x).value.inbox.items u m ≡ slice_index_or (slice_index_or lots to x).value.inbox.items u m
   pub outboxes : (u : ℕ) (x : Box Lot) → u ≢ from → u < length lots → (slice_index_or after u x).value.outbox ≡ (slice_index_or lots u x).value.outbox
   pub phase_here : (x : Box Lot) → (slice_index_or after from x).value.phase ≡ phase
   pub phases : (u : ℕ) (x : Box Lot) → u ≢ from → u < length lots → (slice_index_or after u x).value.phase ≡ (slice_index_or lots u x).value.phase

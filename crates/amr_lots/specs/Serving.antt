@@ -41,7 +41,8 @@ pub record MayAdvance (p : Problem) (lot : Lot) : Type 0 where
   pub copies : All (IsFrameCopy lot.patches.items) lot.copies.items
   pub messages : All (IsMessageTo lot.patches.items) lot.inbox.items
   pub edges : AllZip AreEdgesIn (map box lot.patches.items) (lists_of lot.edges.items)
-  pub ready : (fs : List Patch) → HasFilled lot.outer lot.copies.items lot.inbox.items lot.patches.items fs → AreReady p lot.level (widest lot.room) (length lot.totals.items) fs (flows_of_lot lot)
+  pub ready : (fs : List Patch) → HasFilled lot.outer lot.copies.items lot.inbox.items lot.patches.items fs
+      → AreReady p lot.level (widest lot.room) (length lot.totals.items) fs (flows_of_lot lot)
 
 -- a lot whose patches cut no cell of the next coarser level, with room for the sums of their children, each of which fits
 pub record MaySum (lot : Lot) : Type 0 where

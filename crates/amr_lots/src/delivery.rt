@@ -73,8 +73,10 @@ pub fn set_phase(lots: &mut [Box<Lot>], phase: Phase)
 /// from each in its inbox. The lots are for the given phase then. It takes no memory.
 pub fn exchange_messages(lots: &mut [Box<Lot>], phase: Phase)
     requires boxes { All (HasBoxes (length lots.old)) lots.old }
-    ensures delivered { (u t : ℕ) (x : boxed lot) (m : message) → u < length lots.old → t < length lots.old → slice_index_or (slice_index_or lots.new t x).value.inbox.items u m ≡ slice_index_or (slice_index_or lots.old u x).value.outbox.items t m }
-    ensures back { (u t : ℕ) (x : boxed lot) (m : message) → u < length lots.old → t < length lots.old → slice_index_or (slice_index_or lots.new u x).value.outbox.items t m ≡ slice_index_or (slice_index_or lots.old t x).value.inbox.items u m }
+    ensures delivered { (u t : ℕ) (x : boxed lot) (m : message) → u < length lots.old → t < length lots.old
+        → slice_index_or (slice_index_or lots.new t x).value.inbox.items u m ≡ slice_index_or (slice_index_or lots.old u x).value.outbox.items t m }
+    ensures back { (u t : ℕ) (x : boxed lot) (m : message) → u < length lots.old → t < length lots.old
+        → slice_index_or (slice_index_or lots.new u x).value.outbox.items t m ≡ slice_index_or (slice_index_or lots.old t x).value.inbox.items u m }
     ensures others { AllZip KeepAllButMessages lots.old lots.new }
     ensures phase { All (λ x. x.value.phase ≡ phase) lots.new }
 {

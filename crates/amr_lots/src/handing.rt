@@ -24,7 +24,8 @@ fn trade(patches: &mut [Patch], lot: &mut Box<Lot>)
 /// Exchanges the patches of a level with those of its lots: lot `k` gets run `k` of them, in runs of this size, and the run gets
 /// what the lot had.
 pub fn exchange_runs(patches: &mut [Patch], lots: &mut [Box<Lot>], size: usize)
-    requires counts { (k : ℕ) (x : boxed lot) → k < length lots.old → length (slice_index_or lots.old k x).value.patches.items ≡ length (run size k patches.old) }
+    requires counts { (k : ℕ) (x : boxed lot) → k < length lots.old
+        → length (slice_index_or lots.old k x).value.patches.items ≡ length (run size k patches.old) }
     ensures handed { (k : ℕ) (x : boxed lot) → k < length lots.old → (slice_index_or lots.new k x).value.patches.items ≡ run size k patches.old }
     ensures back { (k : ℕ) (x : boxed lot) → k < length lots.old → run size k patches.new ≡ (slice_index_or lots.old k x).value.patches.items }
     ensures count { length patches.new ≡ length patches.old }
@@ -80,7 +81,8 @@ fn trade_before(patches: &mut [Patch], lot: &mut Box<Lot>)
 /// Exchanges patches that keep the masses of a level, one for each of its own, with those of its lots: lot `k` gets run `k` of them, in
 /// runs of this size, and the run gets what the lot had.
 pub fn exchange_before(patches: &mut [Patch], lots: &mut [Box<Lot>], size: usize)
-    requires counts { (k : ℕ) (x : boxed lot) → k < length lots.old → length (slice_index_or lots.old k x).value.before.items ≡ length (run size k patches.old) }
+    requires counts { (k : ℕ) (x : boxed lot) → k < length lots.old
+        → length (slice_index_or lots.old k x).value.before.items ≡ length (run size k patches.old) }
     ensures handed { (k : ℕ) (x : boxed lot) → k < length lots.old → (slice_index_or lots.new k x).value.before.items ≡ run size k patches.old }
     ensures back { (k : ℕ) (x : boxed lot) → k < length lots.old → run size k patches.new ≡ (slice_index_or lots.old k x).value.before.items }
     ensures count { length patches.new ≡ length patches.old }

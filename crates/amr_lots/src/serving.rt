@@ -4,7 +4,8 @@ ghost use Rattle.std.specs.Prelude.{◌+◌, ◌<◌, ◌^◌};
 ghost use Rattle.amr_patch.specs.Patches.{box, masses_in};
 ghost use Rattle.amr_register.specs.Registers.{IsBoxAt, entry_in};
 ghost use Rattle.amr_lots.specs.Correcting.{AreCorrectedBy, CanCorrect, FitsEntries, HasCorrected, IsCorrected, IsReady, MayCorrect, finer_in, register_in};
-ghost use Rattle.amr_lots.specs.Serving.{HasAdvanced, HasFoundValues, HasKeptMasses, HasMadeCorrection, HasMadeStep, HasSent, HasSummed, MayAdvance, MayFindValues, MayKeepMasses, MaySend, MaySum};
+ghost use Rattle.amr_lots.specs.Serving.{HasAdvanced, HasFoundValues, HasKeptMasses, HasMadeCorrection, HasMadeStep, HasSent};
+ghost use Rattle.amr_lots.specs.Serving.{HasSummed, MayAdvance, MayFindValues, MayKeepMasses, MaySend, MaySum};
 
 use crate::lot::{Correction, Lot, Phase};
 use crate::steps::step_patches;

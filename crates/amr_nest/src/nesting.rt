@@ -87,7 +87,9 @@ fn are_aligned(boxes: &[Bx], blocking: u32) -> bool
 /// Whether each cell of the domain at most one away from a parent of a cell of the fine boxes is in a coarse box.
 fn are_surrounded(alloc: Global, fine: &[Bx], coarse: &[Bx], dom: &Dom) -> Result<bool, NoMemory>
     requires { (c : Cell) → IsTrue (in_boxes fine.now c) → IsTrue (in_domain (domain_of dom.now) (parent c)) }
-    ensures { IfOk result (λ yes. IsTrue yes ↔ ((c : Cell) → IsTrue (in_domain (domain_of dom.now) c) → IsTrue (is_near (domain_of dom.now) 1 (is_covered_by fine.now) c) → IsTrue (in_boxes coarse.now c))) }
+    ensures { IfOk result (λ yes. IsTrue yes
+        ↔ ((c : Cell) → IsTrue (in_domain (domain_of dom.now) c) → IsTrue (is_near (domain_of dom.now) 1 (is_covered_by fine.now) c)
+        → IsTrue (in_boxes coarse.now c))) }
 {
     let mut tags = tagged(alloc, coarse, dom)?;
     let whole = tags.bx();
@@ -113,7 +115,8 @@ fn tag_around(tags: &mut Tags, boxes: &[Bx], dom: &Dom)
     requires in_box { tags.old.bx ≡ domain_box (domain_of dom.now) }
     requires inside { (c : Cell) → IsTrue (in_boxes boxes.now c) → IsTrue (in_domain (domain_of dom.now) (parent c)) }
     ensures shape { SameShape tags.old tags.new }
-    ensures cells { (c : Cell) → has tags.new c ≡ (has tags.old c || (holds (domain_box (domain_of dom.now)) c && is_near (domain_of dom.now) 1 (is_covered_by boxes.now) c)) }
+    ensures cells { (c : Cell) → has tags.new c
+        ≡ (has tags.old c || (holds (domain_box (domain_of dom.now)) c && is_near (domain_of dom.now) 1 (is_covered_by boxes.now) c)) }
 {
     for b in boxes {
         tag_reach(tags, &parents(b, dom), dom);

@@ -33,8 +33,12 @@ unfoldable pub mark_in : Patch → Cell → Bool
 mark_in p c = slice_index_or p.data.value.marks.items (place p.bx c) false
 
 abbrev pub flux_along : Axis → Patch → Cell → ℤ
-flux_along X p c = cond (int_eq c.x p.bx.lo.x) (slice_index_or p.data.value.x_low.items (row_of p.bx c) (pos 0)) (slice_index_or p.data.value.x_high.items (row_of p.bx c) (pos 0))
-flux_along Y p c = cond (int_eq c.y p.bx.lo.y) (slice_index_or p.data.value.y_low.items (column_of p.bx c) (pos 0)) (slice_index_or p.data.value.y_high.items (column_of p.bx c) (pos 0))
+flux_along X p c =
+    cond (int_eq c.x p.bx.lo.x) (slice_index_or p.data.value.x_low.items (row_of p.bx c) (pos 0))
+    (slice_index_or p.data.value.x_high.items (row_of p.bx c) (pos 0))
+flux_along Y p c =
+    cond (int_eq c.y p.bx.lo.y) (slice_index_or p.data.value.y_low.items (column_of p.bx c) (pos 0))
+    (slice_index_or p.data.value.y_high.items (column_of p.bx c) (pos 0))
 
 -- the flux through a face on an edge of the box
 unfoldable pub flux_in : Patch → Face → ℤ

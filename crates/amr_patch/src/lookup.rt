@@ -165,7 +165,8 @@ fn starts_later(patches: &[Patch], count: usize, y: i64, x: i32) -> bool
 fn is_count(patches: &[Patch], count: usize, y: i64, x: i32) -> bool
     requires { AreInRows patches.now }
     ensures within { result ≡ true → count ≤ length patches.now }
-    ensures parts { result ≡ true → IsPartitionPoint (λ p. comes_first (box p).lo (cell x y) ≡ true) (λ p. comes_first (box p).lo (cell x y) ≡ false) patches.now count }
+    ensures parts { result ≡ true → IsPartitionPoint (λ p. comes_first (box p).lo (cell x y) ≡ true)
+        (λ p. comes_first (box p).lo (cell x y) ≡ false) patches.now count }
 {
     if patches.len() < count {
         return false;

@@ -54,7 +54,8 @@ impl Patch {
     ghost use Rattle.amr_box.specs.declared.Face.{Face};
     ghost use Rattle.amr_box.specs.Cells.{cell, holds, within};
     ghost use Rattle.amr_patch.specs.Places.{in_frame, is_edge_face};
-    ghost use Rattle.amr_patch.specs.Patches.{HasNoFluxes, HasNoMarks, SameBeside, SameFluxes, SameMarks, SameOtherFluxes, SameOtherMarks, SameOtherValues, SameValues, box, flux_in, ghost_in, mark_in, mass_in, value_in};
+    ghost use Rattle.amr_patch.specs.Patches.{HasNoFluxes, HasNoMarks, SameBeside, SameFluxes, SameMarks, SameOtherFluxes, SameOtherMarks};
+    ghost use Rattle.amr_patch.specs.Patches.{SameOtherValues, SameValues, box, flux_in, ghost_in, mark_in, mass_in, value_in};
 
     /// The patch of a box: all values and fluxes are 0, and no cell of the frame is marked.
     pub fn make(alloc: Global, b: Bx) -> Result<Patch, NoMemory>
@@ -287,7 +288,8 @@ impl Patch {
     pub fn row_with_frame(&self, y: i32) -> &[u32]
         requires { IsTrue (within ((box self.now).lo.y -ℤ pos 1) ((box self.now).hi.y +ℤ pos 1) y) }
         ensures count { length result.now ≡ width (box self.now) + 2 }
-        ensures values { (k : ℕ) → k < width (box self.now) + 2 → slice_index result.now k ≡ value_in self.now (cell ((box self.now).lo.x -ℤ pos 1 +ℤ pos k) y) }
+        ensures values { (k : ℕ) → k < width (box self.now) + 2
+            → slice_index result.now k ≡ value_in self.now (cell ((box self.now).lo.x -ℤ pos 1 +ℤ pos k) y) }
     {
         let x = self.bx.lo().x - 1;
         let count = self.bx.width() + 2;

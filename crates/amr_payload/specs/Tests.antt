@@ -12,7 +12,8 @@
 --     the last row's mass is that of level 0                                                  the last row's mass
 --     nothing follows                                                                         the end of the last field
 -- (profile)
-use Rattle.std.specs.Prelude.{ℕ, zero, suc, ◌+◌, ◌-◌, ◌*◌, ◌^◌, Bool, true, false, not, if◌then◌else◌, ◌&&◌, ◌||◌, ◌==◌, nat_le, ℤ, pos, ◌+ℤ◌, ◌-ℤ◌, List, [], ◌∷◌, length, drop, map, slice_index}
+use Rattle.std.specs.Prelude.{ℕ, zero, suc, ◌+◌, ◌-◌, ◌*◌, ◌^◌, Bool, true, false, not, if◌then◌else◌, ◌&&◌, ◌||◌, ◌==◌}
+use Rattle.std.specs.Prelude.{nat_le, ℤ, pos, ◌+ℤ◌, ◌-ℤ◌, List, [], ◌∷◌, length, drop, map, slice_index}
 use Rattle.std.specs.Int.{Width, w8, w32, w64, byte_len, from_le_bytes, int_rem_euclid}
 use Rattle.std.specs.List.{list_any, list_all}
 use Rattle.std.specs.Ordering.{int_eq}
@@ -141,7 +142,8 @@ read_masses w p n l (suc k) r = then_read (read_mass w p n l r) (λ m a. read_al
 
 unfoldable pub read_grid : Width → Problem → ℕ → ℕ → List Extent → Left → Reading Grid
 read_grid w p n l earlier r =
-    then_read (read_box r) (λ b a. then_read (tested (is_box_of p l earlier b) r.place b a) (λ b a. then_read (read_masses w p n l (width b * height b) a) (λ ms c.
+    then_read (read_box r) (λ b a. then_read (tested (is_box_of p l earlier b) r.place b a)
+    (λ b a. then_read (read_masses w p n l (width b * height b) a) (λ ms c.
     read (record { box = b; masses = ms }) c)))
 
 -- k boxes with their masses

@@ -1,5 +1,6 @@
 -- What holds of every state that events lead to, enabled or not, in every order.
-use Rattle.std.specs.Prelude.{ℕ, zero, suc, ◌+◌, ◌≡◌, ◌<◌, ◌≤◌, ◌⊎◌, Bool, true, List, length, slice_index, slice_index_or, nat_le, Option, Some, None, if◌then◌else◌}
+use Rattle.std.specs.Prelude.{ℕ, zero, suc, ◌+◌, ◌≡◌, ◌<◌, ◌≤◌, ◌⊎◌, Bool, true, List, length, slice_index}
+use Rattle.std.specs.Prelude.{slice_index_or, nat_le, Option, Some, None, if◌then◌else◌}
 use Rattle.amr_phase.specs.declared.machine.Event.{Event}
 use Rattle.amr_phase.specs.Plans.{PlanOf, IsPlan, total, planned_total, planned_face}
 use Rattle.amr_phase.specs.Machine.{CoreOf, fresh, after, stage_of, is_with, is_waiting, is_complete, total2, adds_sum, puts_sum, puts_count, word_of}

@@ -1,5 +1,6 @@
 -- The machine as plain data, and what each event does to it. (profile)
-use Rattle.std.specs.Prelude.{ℕ, ◌+◌, ◌==◌, ◌≡◌, Bool, true, false, if◌then◌else◌, List, [], ◌∷◌, take, length, replicate, slice_index, slice_index_or, slice_set, nat_lt, Option, Some, None, position, unwrap_or, MatchOption}
+use Rattle.std.specs.Prelude.{ℕ, ◌+◌, ◌==◌, ◌≡◌, Bool, true, false, if◌then◌else◌, List, [], ◌∷◌, take, length, replicate, slice_index}
+use Rattle.std.specs.Prelude.{slice_index_or, slice_set, nat_lt, Option, Some, None, position, unwrap_or, MatchOption}
 use Rattle.std.specs.List.{list_all}
 use Rattle.std.specs.Option.{option_and_then}
 use Rattle.amr_phase.specs.declared.plan.Post.{Post}
@@ -23,7 +24,14 @@ pub record CoreOf : Type 0 where
 -- the start: all tasks wait, all places are empty, all words are 0
 abbrev pub fresh : PlanOf → ℕ → CoreOf
 fresh plan workers =
-    record { plan = plan; counter = 0; stages = replicate (length plan.tasks) Waiting; past = replicate workers false; faces = replicate plan.places None; totals = replicate plan.words 0 }
+    record {
+      plan = plan;
+      counter = 0;
+      stages = replicate (length plan.tasks) Waiting;
+      past = replicate workers false;
+      faces = replicate plan.places None;
+      totals = replicate plan.words 0;
+    }
 
 -- the task is drawn or held by this worker
 abbrev pub is_with : ℕ → Stage → Bool

@@ -26,5 +26,6 @@ pub fn tests_of_plans()
 /// its place. It does nothing: it stands for its contract.
 pub fn layouts_and_plans()
     ensures layout { (plan : PlanOf) → IsLayout plan → IsPlan plan }
-    ensures put { (plan : PlanOf) (task put : ℕ) → IsPlan plan → put < length (puts_of plan task) → planned_face plan (put_at plan task put).at ≡ (put_at plan task put).amount + 1 }
+    ensures put { (plan : PlanOf) (task put : ℕ) → IsPlan plan → put < length (puts_of plan task)
+        → planned_face plan (put_at plan task put).at ≡ (put_at plan task put).amount + 1 }
 {}

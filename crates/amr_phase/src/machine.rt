@@ -66,9 +66,18 @@ impl Model for Core {
 
     ghost Value = { CoreOf };
 
-    ghost view = { λ c. record { plan = c.plan; counter = c.counter; stages = c.stages.items; past = c.past.items; faces = c.faces.items; totals = c.totals.items } };
+    ghost view = { λ c. record {
+      plan = c.plan;
+      counter = c.counter;
+      stages = c.stages.items;
+      past = c.past.items;
+      faces = c.faces.items;
+      totals = c.totals.items;
+    } };
 
-    ghost invariant = { λ c. IsConsistent (record { plan = c.plan; counter = c.counter; stages = c.stages.items; past = c.past.items; faces = c.faces.items; totals = c.totals.items }) × (length c.past.items < 2 ^ 32) };
+    ghost invariant = { λ c. IsConsistent
+        (record { plan = c.plan; counter = c.counter; stages = c.stages.items; past = c.past.items; faces = c.faces.items; totals = c.totals.items })
+        × (length c.past.items < 2 ^ 32) };
 }
 
 impl Stage {
@@ -96,7 +105,8 @@ impl Stage {
 }
 
 impl Core {
-    ghost use Rattle.amr_phase.specs.Machine.{Steps, Moves, fresh, is_with, is_complete, after_draw, next_at, after_take, hold_of, after_put, after_add, after_give};
+    ghost use Rattle.amr_phase.specs.Machine.{Steps, Moves, fresh, is_with, is_complete, after_draw, next_at};
+    ghost use Rattle.amr_phase.specs.Machine.{after_take, hold_of, after_put, after_add, after_give};
     ghost use Rattle.amr_phase.specs.Laws.{place_of};
 
     /// The start of a phase by so many workers: all tasks wait, all places are empty and all words are 0. It is refused

@@ -51,7 +51,8 @@ impl Plan {
     /// range, two puts name one place, or what is put or added at one place or word reaches 2^63. The tasks are then
     /// dropped. It takes no memory, and compares each post with all others.
     pub fn try_new(places: u32, words: u32, tasks: List<Task>) -> Option<Plan>
-        ensures { let asked : PlanOf = record { places = places; words = words; tasks = tasks } in MatchOption result (is_plan asked ≡ false) (λ p. (p ≡ asked) × IsPlan p) }
+        ensures { let asked : PlanOf = record { places = places; words = words; tasks = tasks } in MatchOption result (is_plan asked ≡ false)
+            (λ p. (p ≡ asked) × IsPlan p) }
     {
         if !are_tasks_sound(places, words, tasks.as_slice()) {
             return None;

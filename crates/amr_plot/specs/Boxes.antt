@@ -24,4 +24,5 @@ joined texts = flat_map (λ (t : Vec ℕ). t.items) texts
 
 -- each run of so many items has their text, where there was memory for it
 abbrev pub AreTextsOfRuns : {A : Type 0} → (A → List ℕ) → List A → ℕ → List (Result (Vec ℕ) WriteFault) → Type 0
-AreTextsOfRuns text items size runs = (k : ℕ) (r : Result (Vec ℕ) WriteFault) → k < length runs → IfOk (slice_index_or runs k r) (λ v. v.items ≡ flat_map text (slice_chunk items size k))
+AreTextsOfRuns text items size runs =
+    (k : ℕ) (r : Result (Vec ℕ) WriteFault) → k < length runs → IfOk (slice_index_or runs k r) (λ v. v.items ≡ flat_map text (slice_chunk items size k))

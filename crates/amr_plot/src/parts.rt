@@ -36,7 +36,8 @@ pub(crate) enum Part {
 fn append_parts(parts: &mut Vec<Part>, b: &Bx) -> Result<(), NoMemory>
     requires near { IsNear b.now }
     ensures texts { OnOk result ((m : Masses) → flat_map (part_text m) parts.new.items ≡ flat_map (part_text m) parts.old.items ++ box_text m b.now) }
-    ensures of_level { OnOk result ((p : Problem) (l : ℕ) (level : Level) → IsBoxOf p l level b.now → All (IsPartOf p l level) parts.old.items → All (IsPartOf p l level) parts.new.items) }
+    ensures of_level { OnOk result ((p : Problem) (l : ℕ) (level : Level) → IsBoxOf p l level b.now → All (IsPartOf p l level) parts.old.items
+        → All (IsPartOf p l level) parts.new.items) }
 {
     let most = (CELLS / b.width()).max(1);
     let height = b.height();

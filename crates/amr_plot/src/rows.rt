@@ -92,7 +92,8 @@ pub(crate) fn put_rows<O: Sink>(
     requires near { IsNear b.now }
     requires within { first + count ≤ height b.now }
     requires cells { HasCellsOf level.now b.now }
-    ensures { Puts O.holds O.faults sink.old sink.new text.old text.new (flat_map (mass_line (level_of level.now).masses b.now) (range_with_len first count)) result }
+    ensures { Puts O.holds O.faults sink.old sink.new text.old text.new
+        (flat_map (mass_line (level_of level.now).masses b.now) (range_with_len first count)) result }
 {
     for row in 0..count {
         put_row(level, b, first + row, text, sink)?;

@@ -41,7 +41,8 @@ fn join_runs(
     alloc: Global,
     runs: Vec<Result<Vec<u8>, WriteFault>>,
 ) -> Result<Vec<Vec<u8>>, NoMemory>
-    ensures { IfOk result (λ v. (f : Part → List ℕ) (ps : List Part) (size : ℕ) → AreTextsOfRuns f ps size runs.items → joined v.items ≡ flat_map f (take (length runs.items * size) ps)) }
+    ensures { IfOk result (λ v. (f : Part → List ℕ) (ps : List Part) (size : ℕ) → AreTextsOfRuns f ps size runs.items
+        → joined v.items ≡ flat_map f (take (length runs.items * size) ps)) }
 {
     let mut texts = Vec::new(alloc);
     for run in runs {

@@ -61,7 +61,8 @@ impl<P: Drop, S: Service<P>> Helper<P, S> {
     pub(crate) fn take_back(&mut self) -> Option<P>
         requires asked { IsBusy (arc_value self.old.mailbox) self.old.asker }
         ensures back { MatchOption result (self.new ≡ self.old) (λ piece. self.old.asker.turn ≡ Busy piece) }
-        ensures free { MatchOption result (self.new ≡ self.old) (λ _. self.new ≡ record { mailbox = self.old.mailbox; asker = end_of (arc_value self.old.mailbox) Free }) }
+        ensures free { MatchOption result (self.new ≡ self.old)
+            (λ _. self.new ≡ record { mailbox = self.old.mailbox; asker = end_of (arc_value self.old.mailbox) Free }) }
     {
         self.mailbox.take_back(&mut self.asker)
     }

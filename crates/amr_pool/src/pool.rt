@@ -41,7 +41,8 @@ impl<'a, P: Drop, S: Service<P>> Model for Pool<'a, P, S> {
 
     ghost view = { λ p. record { service = p.service.now; workers = 1 + length p.helpers.items } };
 
-    ghost invariant = { λ p. All (λ h. IsHelper p.service.now (arc_value h.mailbox) h.asker) p.helpers.items × (length p.helpers.items < 64) × (p.asked.items ≡ []) × (length p.helpers.items ≤ vec_capacity p.asked) };
+    ghost invariant = { λ p. All (λ h. IsHelper p.service.now (arc_value h.mailbox) h.asker) p.helpers.items × (length p.helpers.items < 64)
+        × (p.asked.items ≡ []) × (length p.helpers.items ≤ vec_capacity p.asked) };
 }
 
 impl<'a, P: Drop, S: Service<P>> Pool<'a, P, S> {

@@ -1,5 +1,6 @@
 -- What a problem writes at its keys.
-use Rattle.std.specs.Prelude.{◌≡◌, ◌≤◌, ◌||◌, ◌==◌, ℤ, pos, negsuc, ◌≤ℤ◌, unsigned_abs, Bool, true, Option, Some, None, option_map, is_none, List, [], ◌∷◌, length}
+use Rattle.std.specs.Prelude.{◌≡◌, ◌≤◌, ◌||◌, ◌==◌, ℤ, pos, negsuc, ◌≤ℤ◌, unsigned_abs, Bool, true, Option}
+use Rattle.std.specs.Prelude.{Some, None, option_map, is_none, List, [], ◌∷◌, length}
 use Rattle.std.specs.Ordering.{int_eq}
 use Rattle.std.specs.List.{list_all}
 use Rattle.std.specs.Option.{option_or}
@@ -12,9 +13,11 @@ use Rattle.amr_problem.specs.declared.entries.Entries.{Entries}
 use Rattle.amr_problem.specs.declared.fault.ProblemFault.{ProblemFault}
 use Rattle.amr_problem.specs.declared.fault.ProblemFault.TheVariants.{OutOfRange}
 use Rattle.amr_problem.specs.declared.key.Key.{Key}
-use Rattle.amr_problem.specs.declared.key.Key.TheVariants.{Version, Name, Cells, Steps, Courant, Sides, MaxLevel, Tag, NErrorBuf, Efficiency, MinWidth, RegridInt, MaxGridSize, Blocks, ShearX, ShearY, Blocking}
+use Rattle.amr_problem.specs.declared.key.Key.TheVariants.{Version, Name, Cells, Steps, Courant, Sides, MaxLevel, Tag, NErrorBuf, Efficiency}
+use Rattle.amr_problem.specs.declared.key.Key.TheVariants.{MinWidth, RegridInt, MaxGridSize, Blocks, ShearX, ShearY, Blocking}
 use Rattle.amr_problem.specs.Keys.{range, ranges_of, first_outside, first_beyond, is_even, holds, threshold, courant_number, blocking_factor}
-use Rattle.amr_problem.specs.Faults.{courant_over, is_periodic, sides_differ, block_outside, tag_count, blocking_misfit, fits, first_some, text_outside, rows_outside}
+use Rattle.amr_problem.specs.Faults.{courant_over, is_periodic, sides_differ, block_outside, tag_count}
+use Rattle.amr_problem.specs.Faults.{blocking_misfit, fits, first_some, text_outside, rows_outside}
 use Rattle.amr_problem.specs.Values.{number_at, text_at, numbers_at, integers_at, shear_at, rows_at}
 
 -- ---- the entries are those of the table

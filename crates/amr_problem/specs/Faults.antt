@@ -1,5 +1,6 @@
 -- The faults of a problem, in the order in which they are looked for. (profile)
-use Rattle.std.specs.Prelude.{ℕ, ◌+◌, ◌/◌, ◌%◌, ◌==◌, ℤ, pos, Bool, ◌&&◌, not, nat_lt, int_le, int_lt, unsigned_abs, List, [], ◌∷◌, length, map, find, fold, true, false, position, Option, Some, None, option_map, is_some, if◌then◌else◌}
+use Rattle.std.specs.Prelude.{ℕ, ◌+◌, ◌/◌, ◌%◌, ◌==◌, ℤ, pos, Bool, ◌&&◌, not, nat_lt, int_le, int_lt, unsigned_abs, List, [], ◌∷◌, length, map}
+use Rattle.std.specs.Prelude.{find, fold, true, false, position, Option, Some, None, option_map, is_some, if◌then◌else◌}
 use Rattle.std.specs.Ordering.{int_eq}
 use Rattle.std.specs.List.{list_all}
 use Rattle.std.specs.Option.{option_or}
@@ -8,7 +9,8 @@ use Rattle.amr_box.specs.declared.Axis.TheVariants.{X, Y}
 use Rattle.amr_def.specs.Limits.{is_name_byte, in_use, greatest_size}
 use Rattle.toml.specs.Data.{Members, no_members, member}
 use Rattle.amr_problem.specs.declared.fault.ProblemFault.{ProblemFault}
-use Rattle.amr_problem.specs.declared.fault.ProblemFault.TheVariants.{TooLong, NotToml, UnknownKey, Missing, WrongKind, OutOfRange, SidesDiffer, BlockOutside, TagCount}
+use Rattle.amr_problem.specs.declared.fault.ProblemFault.TheVariants.{TooLong, NotToml, UnknownKey, Missing, WrongKind}
+use Rattle.amr_problem.specs.declared.fault.ProblemFault.TheVariants.{OutOfRange, SidesDiffer, BlockOutside, TagCount}
 use Rattle.amr_problem.specs.declared.fault.ProblemFault.TheVariants as fault
 use Rattle.amr_problem.specs.declared.key.Key.{Key}
 use Rattle.amr_problem.specs.declared.key.Key.TheVariants.{Version, Cells, Courant, Sides, MaxLevel, Tag, Blocks, ShearX, ShearY, Blocking}

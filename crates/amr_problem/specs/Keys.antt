@@ -1,5 +1,6 @@
 -- The table of keys. (profile)
-use Rattle.std.specs.Prelude.{ℕ, ◌%◌, ◌==◌, ℤ, pos, negsuc, unsigned_abs, Bool, true, ◌&&◌, ◌||◌, not, List, [], ◌∷◌, Option, Some, None, option_map, codes, find, int_le, nat_le}
+use Rattle.std.specs.Prelude.{ℕ, ◌%◌, ◌==◌, ℤ, pos, negsuc, unsigned_abs, Bool, true, ◌&&◌, ◌||◌, not, List, []}
+use Rattle.std.specs.Prelude.{◌∷◌, Option, Some, None, option_map, codes, find, int_le, nat_le}
 use Rattle.std.specs.Ordering.{int_eq}
 use Rattle.std.specs.List.{zip, list_any}
 use Rattle.std.specs.Str.{bytes_eq}
@@ -7,7 +8,8 @@ use Rattle.toml.specs.Data.{Data, integer, array, no_items}
 use Rattle.amr_box.specs.declared.Axis.{Axis}
 use Rattle.amr_box.specs.declared.Axis.TheVariants as axis
 use Rattle.amr_problem.specs.declared.key.Key.{Key}
-use Rattle.amr_problem.specs.declared.key.Key.TheVariants.{Version, Name, Cells, Steps, Courant, Sides, MaxLevel, Tag, NErrorBuf, Efficiency, MinWidth, RegridInt, MaxGridSize, Blocks, ShearX, ShearY, Blocking}
+use Rattle.amr_problem.specs.declared.key.Key.TheVariants.{Version, Name, Cells, Steps, Courant, Sides, MaxLevel, Tag, NErrorBuf, Efficiency}
+use Rattle.amr_problem.specs.declared.key.Key.TheVariants.{MinWidth, RegridInt, MaxGridSize, Blocks, ShearX, ShearY, Blocking}
 use Rattle.amr_problem.specs.declared.range.Range.{Range}
 use Rattle.amr_problem.specs.declared.range.Among.{Among}
 use Rattle.amr_problem.specs.declared.range.Among.TheVariants.{Every, Even, TwoFourEight}
@@ -95,7 +97,9 @@ row_of Blocking = row_2 (codes "blocking") (number blocking_factor) (Number (pos
 
 -- every key, in the table's order
 abbrev pub keys : List Key
-keys = Version ∷ Name ∷ Cells ∷ Steps ∷ Courant ∷ Sides ∷ MaxLevel ∷ Tag ∷ NErrorBuf ∷ Efficiency ∷ MinWidth ∷ RegridInt ∷ MaxGridSize ∷ Blocks ∷ ShearX ∷ ShearY ∷ Blocking ∷ []
+keys =
+    Version ∷ Name ∷ Cells ∷ Steps ∷ Courant ∷ Sides ∷ MaxLevel ∷ Tag ∷ NErrorBuf ∷ Efficiency ∷ MinWidth ∷ RegridInt ∷ MaxGridSize ∷ Blocks ∷ ShearX ∷ ShearY
+    ∷ Blocking ∷ []
 
 -- ---- what is read of it
 

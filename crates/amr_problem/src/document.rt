@@ -79,7 +79,8 @@ fn unknown_text(version: u32, table: &Table) -> Option<&String>
 }
 
 fn unknown_in(table: &Table) -> Option<&String>
-    ensures { option_map (λ s. string_bytes s.now) result ≡ find (λ key. not (is_known (version_in (table_view table.now)) key)) (keys_in (table_view table.now)) }
+    ensures { option_map (λ s. string_bytes s.now) result
+        ≡ find (λ key. not (is_known (version_in (table_view table.now)) key)) (keys_in (table_view table.now)) }
 {
     unknown_text(version_in(table), table)
 }

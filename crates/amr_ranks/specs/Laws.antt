@@ -44,4 +44,5 @@ HasWhatCame =
 abbrev pub IsWholeWhenReady : Type 0
 IsWholeWhenReady =
     (ls : List LetterOf) (ranks words room rank : ℕ) (es : List NetEvent) → IsNet ls ranks words room → rank < ranks
-    → is_ready (node_of (after (fresh ls ranks words room) es) rank) ≡ true → HasJust (node_of (after (fresh ls ranks words room) es) rank) words (letters_to rank ls)
+    → is_ready (node_of (after (fresh ls ranks words room) es) rank) ≡ true
+    → HasJust (node_of (after (fresh ls ranks words room) es) rank) words (letters_to rank ls)

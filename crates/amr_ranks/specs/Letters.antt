@@ -38,7 +38,8 @@ shares_of word ls = total (λ (l : LetterOf). share_in word l.items) ls
 
 -- the letters to one rank have numbers of their own
 abbrev pub NumbersDiffer : List LetterOf → Type 0
-NumbersDiffer ls = (j k : ℕ) → j < length ls → k < length ls → (letter_at ls j).to ≡ (letter_at ls k).to → (letter_at ls j).number ≡ (letter_at ls k).number → j ≡ k
+NumbersDiffer ls =
+    (j k : ℕ) → j < length ls → k < length ls → (letter_at ls j).to ≡ (letter_at ls k).to → (letter_at ls j).number ≡ (letter_at ls k).number → j ≡ k
 
 -- Letters that so many ranks may send each other, with totals of so many words and so many cells for each rank
 pub record IsNet (ls : List LetterOf) (ranks words room : ℕ) : Type 0 where

@@ -1,6 +1,7 @@
 -- Posts and deliveries as a machine: which letters are sent, and which each rank has taken. (A message is received only after it
 -- was sent: Lamport, L., Time, Clocks, and the Ordering of Events in a Distributed System, Communications of the ACM 21 (1978))
-use Rattle.std.specs.Prelude.{ℕ, ◌≡◌, ◌≤◌, ◌==◌, ◌&&◌, Bool, true, false, if◌then◌else◌, List, [], ◌∷◌, ◌++◌, length, map, replicate, slice_index_or, slice_set, nat_lt, Option, Some, None, MatchOption, unwrap_or}
+use Rattle.std.specs.Prelude.{ℕ, ◌≡◌, ◌≤◌, ◌==◌, ◌&&◌, Bool, true, false, if◌then◌else◌, List, [], ◌∷◌, ◌++◌, length, map}
+use Rattle.std.specs.Prelude.{replicate, slice_index_or, slice_set, nat_lt, Option, Some, None, MatchOption, unwrap_or}
 use Rattle.std.specs.List.{range_with_len}
 use Rattle.amr_ranks.specs.declared.net.NetEvent.{NetEvent}
 use Rattle.amr_ranks.specs.declared.net.NetEvent.TheVariants.{Post, Deliver}

@@ -34,7 +34,11 @@ answer n l = if is_in l.number n.numbers then (if is_in l.number n.taken then Ag
 -- its number is taken, its cells are there, and its shares are added
 abbrev pub with_letter : NodeOf → LetterOf → NodeOf
 with_letter n l =
-    record n { taken = n.taken ++ l.number ∷ []; cells = n.cells ++ cells_in l.items; totals = map (λ w. slice_index n.totals w + share_in w l.items) (range_with_len 0 (length n.totals)) }
+    record n {
+      taken = n.taken ++ l.number ∷ [];
+      cells = n.cells ++ cells_in l.items;
+      totals = map (λ w. slice_index n.totals w + share_in w l.items) (range_with_len 0 (length n.totals));
+    }
 
 -- only a new letter changes the node
 abbrev pub taking : Taken → NodeOf → LetterOf → NodeOf

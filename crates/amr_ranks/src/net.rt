@@ -36,9 +36,22 @@ impl Model for Net {
 
     ghost Value = { NetOf };
 
-    ghost view = { λ n. record { letters = n.letters.items; words = n.words; room = n.room; posted = n.posted.items; taken = map (λ (d : NodeOf). d.taken) n.nodes.items } };
+    ghost view = { λ n. record {
+      letters = n.letters.items;
+      words = n.words;
+      room = n.room;
+      posted = n.posted.items;
+      taken = map (λ (d : NodeOf). d.taken) n.nodes.items;
+    } };
 
-    ghost invariant = { λ n. IsHeld (record { letters = n.letters.items; words = n.words; room = n.room; posted = n.posted.items; taken = map (λ (d : NodeOf). d.taken) n.nodes.items }) n.nodes.items };
+    ghost invariant = { λ n. IsHeld
+        (record {
+          letters = n.letters.items;
+          words = n.words;
+          room = n.room;
+          posted = n.posted.items;
+          taken = map (λ (d : NodeOf). d.taken) n.nodes.items;
+        }) n.nodes.items };
 }
 
 impl Net {

@@ -54,7 +54,14 @@ impl Model for Node {
     ghost use Rattle.amr_ranks.specs.declared.node.Run.{Run};
     ghost use Rattle.amr_ranks.specs.Stored.{IsStored};
 
-    ghost view = { λ n. record { rank = n.rank; numbers = n.numbers.items; room = length n.cells.items; taken = map (λ (r : Run). r.number) (take n.count n.runs.items); cells = take n.filled n.cells.items; totals = n.totals.items } };
+    ghost view = { λ n. record {
+      rank = n.rank;
+      numbers = n.numbers.items;
+      room = length n.cells.items;
+      taken = map (λ (r : Run). r.number) (take n.count n.runs.items);
+      cells = take n.filled n.cells.items;
+      totals = n.totals.items;
+    } };
 
     ghost invariant = { λ n. IsStored n.numbers.items n.cells.items n.filled n.runs.items n.count };
 }

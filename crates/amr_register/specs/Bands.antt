@@ -30,4 +30,5 @@ IsWhole p l m fine b = HasCells p l fine (register_cells p l m fine) b
 
 -- each that was found is that of its belt, of those of so many rows
 abbrev pub AreBandsOf : Problem → ℕ → Masses → Masses → ℕ → List (Result Band NoMemory) → Type 0
-AreBandsOf p l m fine size bs = (k : ℕ) (b : Result Band NoMemory) → k < length bs → IfOk (slice_index_or bs k b) (IsBandOf p l m fine (pos (k * size)) (pos ((k + 1) * size) -ℤ pos 1))
+AreBandsOf p l m fine size bs =
+    (k : ℕ) (b : Result Band NoMemory) → k < length bs → IfOk (slice_index_or bs k b) (IsBandOf p l m fine (pos (k * size)) (pos ((k + 1) * size) -ℤ pos 1))

@@ -44,7 +44,8 @@ coarse_flows p l fine q f = owned_flow p l q (is_coarse_fine (domain p l) fine f
 -- what comes into a cell by those through its edges on these sides
 abbrev pub net_owned : Problem → ℕ → Patch → CoveredSides → Cell → ℤ
 net_owned p l q s c =
-    (owned_flow p l q s.west (low_face X c) -ℤ owned_flow p l q s.east (high_face X c)) +ℤ (owned_flow p l q s.south (low_face Y c) -ℤ owned_flow p l q s.north (high_face Y c))
+    (owned_flow p l q s.west (low_face X c) -ℤ owned_flow p l q s.east (high_face X c))
+    +ℤ (owned_flow p l q s.south (low_face Y c) -ℤ owned_flow p l q s.north (high_face Y c))
 
 -- what patches give together
 abbrev pub sum_over : (Patch → ℤ) → List Patch → ℤ

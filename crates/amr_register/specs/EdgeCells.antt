@@ -30,7 +30,8 @@ flow_if p l q counts f = cond counts (flux_beside p l q f) (pos 0)
 -- what flows into a cell through its faces on these sides, by the values of the patch that has the cell
 abbrev pub net_beside : Problem → ℕ → Patch → CoveredSides → Cell → ℤ
 net_beside p l q s c =
-    (flow_if p l q s.west (low_face X c) -ℤ flow_if p l q s.east (high_face X c)) +ℤ (flow_if p l q s.south (low_face Y c) -ℤ flow_if p l q s.north (high_face Y c))
+    (flow_if p l q s.west (low_face X c) -ℤ flow_if p l q s.east (high_face X c))
+    +ℤ (flow_if p l q s.south (low_face Y c) -ℤ flow_if p l q s.north (high_face Y c))
 
 -- an edge cell of a patch before its net flow is worked out, and after
 pub record HasNet (p : Problem) (l : ℕ) (q : Patch) (a b : EdgeCell) : Type 0 where

@@ -24,9 +24,14 @@ net_of_all p l fine (q ∷ qs) c = net (coarse_flows p l fine q) c +ℤ net_of_a
 -- entry of a register cell they take its net plain flow through its edges. The patches have the values of the level and of
 -- the cells beside it, and the finer level is nested in it.
 abbrev pub EdgesAreTakenOnce : Type 0
-EdgesAreTakenOnce = (p : Problem) (l : ℕ) (k fine : Level) (old : Masses) (ps : List Patch) → l ≤ 3 → IsLevel p l k → IsLevel p (suc l) fine → IsNestedLevel p l k fine → ArePatchesApart ps → masses_in ps ≡ k.masses → All (ShowsValues p l k.masses old) ps
-    → (c : Cell) → is_register_cell (domain p l) k.masses fine.masses c ≡ true → net_of_all p l fine.masses ps c ≡ net (edge_flows p l k.masses old fine.masses) c
+EdgesAreTakenOnce =
+    (p : Problem) (l : ℕ) (k fine : Level) (old : Masses) (ps : List Patch) → l ≤ 3 → IsLevel p l k → IsLevel p (suc l) fine → IsNestedLevel p l k fine
+    → ArePatchesApart ps → masses_in ps ≡ k.masses → All (ShowsValues p l k.masses old) ps
+    → (c : Cell) → is_register_cell (domain p l) k.masses fine.masses c ≡ true
+    → net_of_all p l fine.masses ps c ≡ net (edge_flows p l k.masses old fine.masses) c
 
 -- a register over two levels is one over all levels with the same cells, whatever their masses are
 abbrev pub RegistersGoByCells : Type 0
-RegistersGoByCells = (p : Problem) (l : ℕ) (m fine m' fine' : Masses) (r : Register) → ((c : Cell) → is_some (m' c) ≡ is_some (m c)) → ((c : Cell) → is_some (fine' c) ≡ is_some (fine c)) → IsRegisterOf p l m fine r → IsRegisterOf p l m' fine' r
+RegistersGoByCells =
+    (p : Problem) (l : ℕ) (m fine m' fine' : Masses) (r : Register) → ((c : Cell) → is_some (m' c) ≡ is_some (m c))
+    → ((c : Cell) → is_some (fine' c) ≡ is_some (fine c)) → IsRegisterOf p l m fine r → IsRegisterOf p l m' fine' r

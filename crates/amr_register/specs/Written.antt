@@ -13,11 +13,13 @@ AreKeysApart key es = (i k : ℕ) (e : EdgeCell) → i < k → k < length es →
 
 -- each of the first n has written at its key what it makes of the value there; a key that none of them has keeps its value
 pub record AreWritten {K V : Type 0} (key : EdgeCell → K) (make : EdgeCell → V → V) (es : List EdgeCell) (before after : K → V) (n : ℕ) : Type 0 where
-  pub done : (i : ℕ) (e : EdgeCell) → i < n → i < length es → after (key (slice_index_or es i e)) ≡ make (slice_index_or es i e) (before (key (slice_index_or es i e)))
+  pub done : (i : ℕ) (e : EdgeCell) → i < n → i < length es
+      → after (key (slice_index_or es i e)) ≡ make (slice_index_or es i e) (before (key (slice_index_or es i e)))
   pub left : (k : K) → ((i : ℕ) (e : EdgeCell) → i < n → i < length es → key (slice_index_or es i e) ≢ k) → after k ≡ before k
 
 -- the same of the first n lists
-pub record AreAllWritten {K V : Type 0} (key : EdgeCell → K) (make : EdgeCell → V → V) (xs : List (List EdgeCell)) (before after : K → V) (n : ℕ) : Type 0 where
+pub record AreAllWritten {K V : Type 0} (key : EdgeCell → K) (make : EdgeCell → V → V) (xs : List (List EdgeCell)) (before after : K → V)
+    (n : ℕ) : Type 0 where
   pub done : (w : Place) (e : EdgeCell) → w.list < n → IsPlaceIn xs w → after (key (edge_at xs w e)) ≡ make (edge_at xs w e) (before (key (edge_at xs w e)))
   pub left : (k : K) → ((w : Place) (e : EdgeCell) → w.list < n → IsPlaceIn xs w → key (edge_at xs w e) ≢ k) → after k ≡ before k
 

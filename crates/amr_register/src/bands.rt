@@ -32,7 +32,8 @@ pub(crate) struct Band {
 fn band_of(alloc: Global, pair: &LevelPair<'_>, k: u32, size: u32) -> Result<Band, NoMemory>
     requires few { k < 4096 }
     requires small { size ≤ 4097 }
-    ensures { IfOk result (IsBandOf pair.now.p.now pair.now.l (level_of pair.now.coarse.now).masses (level_of pair.now.fine.now).masses (pos (k * size)) (pos ((k + 1) * size) -ℤ pos 1)) }
+    ensures { IfOk result (IsBandOf pair.now.p.now pair.now.l (level_of pair.now.coarse.now).masses (level_of pair.now.fine.now).masses (pos (k * size))
+        (pos ((k + 1) * size) -ℤ pos 1)) }
 {
     let cells = register_cells(alloc, pair, belt_at(k, size))?;
     let sides = sides_of_all(alloc, &pair.p.domain(pair.l), pair.cover, &cells)?;
@@ -41,7 +42,9 @@ fn band_of(alloc: Global, pair: &LevelPair<'_>, k: u32, size: u32) -> Result<Ban
 
 /// Adds the band of the next rows.
 fn add_band(band: &mut Band, next: &Band) -> Result<(), NoMemory>
-    ensures { (p : Problem) (l : ℕ) (m fine : Masses) (n size : ℕ) → IsBandOf p l m fine (pos 0) (pos (n * size) -ℤ pos 1) band.old → IsBandOf p l m fine (pos (n * size)) (pos ((n + 1) * size) -ℤ pos 1) next.now → OnOk result (IsBandOf p l m fine (pos 0) (pos ((n + 1) * size) -ℤ pos 1) band.new) }
+    ensures { (p : Problem) (l : ℕ) (m fine : Masses) (n size : ℕ) → IsBandOf p l m fine (pos 0) (pos (n * size) -ℤ pos 1) band.old
+        → IsBandOf p l m fine (pos (n * size)) (pos ((n + 1) * size) -ℤ pos 1) next.now
+        → OnOk result (IsBandOf p l m fine (pos 0) (pos ((n + 1) * size) -ℤ pos 1) band.new) }
 {
     band.cells.extend_from_slice(&next.cells)?;
     band.sides.extend_from_slice(&next.sides)?;
@@ -50,7 +53,9 @@ fn add_band(band: &mut Band, next: &Band) -> Result<(), NoMemory>
 
 /// Adds the band of the next rows, if memory was enough for it.
 fn add_found(band: &mut Band, next: &Result<Band, NoMemory>) -> Result<(), NoMemory>
-    ensures { (p : Problem) (l : ℕ) (m fine : Masses) (n size : ℕ) → IsBandOf p l m fine (pos 0) (pos (n * size) -ℤ pos 1) band.old → IfOk next.now (IsBandOf p l m fine (pos (n * size)) (pos ((n + 1) * size) -ℤ pos 1)) → OnOk result (IsBandOf p l m fine (pos 0) (pos ((n + 1) * size) -ℤ pos 1) band.new) }
+    ensures { (p : Problem) (l : ℕ) (m fine : Masses) (n size : ℕ) → IsBandOf p l m fine (pos 0) (pos (n * size) -ℤ pos 1) band.old
+        → IfOk next.now (IsBandOf p l m fine (pos (n * size)) (pos ((n + 1) * size) -ℤ pos 1))
+        → OnOk result (IsBandOf p l m fine (pos 0) (pos ((n + 1) * size) -ℤ pos 1) band.new) }
 {
     match next {
         Ok(next) => add_band(band, next),
@@ -60,7 +65,8 @@ fn add_found(band: &mut Band, next: &Result<Band, NoMemory>) -> Result<(), NoMem
 
 /// The bands of belts one behind the other, as one.
 fn put_together(alloc: Global, bands: &[Result<Band, NoMemory>]) -> Result<Band, NoMemory>
-    ensures { (p : Problem) (l : ℕ) (m fine : Masses) (size : ℕ) → AreBandsOf p l m fine size bands.now → IfOk result (IsBandOf p l m fine (pos 0) (pos (length bands.now * size) -ℤ pos 1)) }
+    ensures { (p : Problem) (l : ℕ) (m fine : Masses) (size : ℕ) → AreBandsOf p l m fine size bands.now
+        → IfOk result (IsBandOf p l m fine (pos 0) (pos (length bands.now * size) -ℤ pos 1)) }
 {
     let mut all = Band {
         cells: Vec::new(alloc),
@@ -93,7 +99,8 @@ fn whole_by_belts<R: Threads + Sync>(
     let size = pair.p.domain(pair.l).rows() / belts + 1;
     let part = move |k: usize| -> Result<Band, NoMemory>
         requires { (k < 4096) × (size ≤ 4097) }
-        ensures { IfOk result (IsBandOf pair.entry.now.p.now pair.entry.now.l (level_of pair.entry.now.coarse.now).masses (level_of pair.entry.now.fine.now).masses (pos (k * size)) (pos ((k + 1) * size) -ℤ pos 1)) }
+        ensures { IfOk result (IsBandOf pair.entry.now.p.now pair.entry.now.l (level_of pair.entry.now.coarse.now).masses
+            (level_of pair.entry.now.fine.now).masses (pos (k * size)) (pos ((k + 1) * size) -ℤ pos 1)) }
     { band_of(alloc, pair, k as u32, size) };
     let bands = map_indices(rt, alloc, belts as usize, &part)?;
     put_together(alloc, &bands)

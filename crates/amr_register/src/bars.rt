@@ -1,6 +1,7 @@
 //! Bars: cells of one row, one after the other. A look-up among bars in order finds how far along the row its answer goes.
 
-ghost use Rattle.std.specs.Prelude.{◌≡◌, Bool, ◌-◌, ◌<◌, ◌≤◌, true, false, ◌||◌, ℤ, pos, ◌+ℤ◌, ◌≤ℤ◌, length, slice_index_or, is_some, Contains, IfSome, IsTrue, OnOk, Some};
+ghost use Rattle.std.specs.Prelude.{◌≡◌, Bool, ◌-◌, ◌<◌, ◌≤◌, true, false, ◌||◌, ℤ, pos, ◌+ℤ◌, ◌≤ℤ◌, length};
+ghost use Rattle.std.specs.Prelude.{slice_index_or, is_some, Contains, IfSome, IsTrue, OnOk, Some};
 ghost use Rattle.std.specs.List.{All};
 ghost use Rattle.std.specs.List.Sorted.{IsPartitionPoint};
 ghost use Rattle.amr_box.specs.declared.Cell.{Cell};
@@ -38,7 +39,8 @@ pub(crate) fn push_rows(bars: &mut Vec<Bx>, b: &Bx) -> Result<(), NoMemory>
     requires near { IsNear b.now }
     ensures each { OnOk result (All IsBar bars.old.items → All IsBar bars.new.items) }
     ensures cells { OnOk result ((c : Cell) → in_boxes bars.new.items c ≡ (in_boxes bars.old.items c || holds b.now c)) }
-    ensures apart { OnOk result (ArePairwiseApart bars.old.items → ((c : Cell) → IsTrue (in_boxes bars.old.items c) → IsTrue (holds b.now c) → ⊥) → ArePairwiseApart bars.new.items) }
+    ensures apart { OnOk result (ArePairwiseApart bars.old.items → ((c : Cell) → IsTrue (in_boxes bars.old.items c) → IsTrue (holds b.now c) → ⊥)
+        → ArePairwiseApart bars.new.items) }
 {
     for j in 0..b.height() {
         bars.push(row_of(b, j))?;

@@ -42,7 +42,8 @@ pub(crate) fn is_in_belt(belt: Belt, c: Cell) -> bool
 /// rows begin anew on a periodic axis.
 pub(crate) fn may_reach(dom: &Dom, belt: Belt, b: &Bx) -> bool
     requires near { IsNear b.now }
-    ensures { result ≡ false → (c : Cell) → (b.now.lo.y -ℤ pos 1) ≤ℤ c.y → c.y ≤ℤ (b.now.hi.y +ℤ pos 1) → is_in_belt belt (home_cell (domain_of dom.now) c) ≡ false }
+    ensures { result ≡ false → (c : Cell) → (b.now.lo.y -ℤ pos 1) ≤ℤ c.y → c.y ≤ℤ (b.now.hi.y +ℤ pos 1)
+        → is_in_belt belt (home_cell (domain_of dom.now) c) ≡ false }
 {
     let below = b.lo().y - 1;
     let above = b.hi().y + 1;

@@ -69,7 +69,8 @@ fn push_left_and_right(
     requires inside { IsInDomain (domain_of dom.now) b.now }
     requires covered { (c : Cell) → holds b.now c ≡ true → covers cover.now c ≡ true }
     ensures collects { OnOk result (Collects (stands_in belt (domain_of dom.now) (covers cover.now)) cells.old.items cells.new.items) }
-    ensures finds { OnOk result (FindsLeftAndRight (domain_of dom.now) (stands_in belt (domain_of dom.now) (covers cover.now)) b.now (height b.now) cells.new.items) }
+    ensures finds { OnOk result (FindsLeftAndRight (domain_of dom.now) (stands_in belt (domain_of dom.now) (covers cover.now)) b.now
+        (height b.now) cells.new.items) }
 {
     let mut west = None;
     let mut east = None;
@@ -92,7 +93,8 @@ fn push_below_and_above(
     requires inside { IsInDomain (domain_of dom.now) b.now }
     requires covered { (c : Cell) → holds b.now c ≡ true → covers cover.now c ≡ true }
     ensures collects { OnOk result (Collects (stands_in belt (domain_of dom.now) (covers cover.now)) cells.old.items cells.new.items) }
-    ensures finds { OnOk result (FindsBelowAndAbove (domain_of dom.now) (stands_in belt (domain_of dom.now) (covers cover.now)) b.now (width b.now) cells.new.items) }
+    ensures finds { OnOk result (FindsBelowAndAbove (domain_of dom.now) (stands_in belt (domain_of dom.now) (covers cover.now)) b.now
+        (width b.now) cells.new.items) }
 {
     let mut south = None;
     let mut north = None;
@@ -146,7 +148,8 @@ pub(crate) fn register_cells(
     pair: &LevelPair<'_>,
     belt: Belt,
 ) -> Result<Vec<Cell>, NoMemory>
-    ensures cells { IfOk result (λ v. v.items ≡ cells_between pair.now.p.now pair.now.l (level_of pair.now.coarse.now).masses (level_of pair.now.fine.now).masses belt.first belt.last) }
+    ensures cells { IfOk result (λ v. v.items
+        ≡ cells_between pair.now.p.now pair.now.l (level_of pair.now.coarse.now).masses (level_of pair.now.fine.now).masses belt.first belt.last) }
     ensures near { IfOk result (λ v. All IsDomainCell v.items) }
 {
     let dom = pair.p.domain(pair.l);

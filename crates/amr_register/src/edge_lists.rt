@@ -47,7 +47,8 @@ fn push_edge(
     sides: CoveredSides,
 ) -> Result<(), NoMemory>
     requires { patch < length lists.old }
-    ensures { OnOk result (lists_of lists.new ≡ slice_set (lists_of lists.old) patch (slice_index_or (lists_of lists.old) patch [] ++ new_edge number cell sides ∷ [])) }
+    ensures { OnOk result (lists_of lists.new
+        ≡ slice_set (lists_of lists.old) patch (slice_index_or (lists_of lists.old) patch [] ++ new_edge number cell sides ∷ [])) }
 {
     lists[patch].push(EdgeCell {
         cell,

@@ -122,7 +122,10 @@ pub(crate) fn take_away(p: &Problem, l: u32, patch: &Patch, edge: Edge<'_>, entr
     requires side_count { length edge.sides.now ≡ length edge.cells.now }
     requires entry_count { length entries.old ≡ length edge.cells.now }
     requires room { (k : ℕ) → k < length edge.cells.now → unsigned_abs (slice_index_or entries.old k (pos 0)) < 2 ^ 62 }
-    ensures { (k : ℕ) (c : Cell) (s : CoveredSides) → k < length edge.entry.cells.now → slice_index_or entries.new k (pos 0) ≡ slice_index_or entries.old k (pos 0) -ℤ net_owned p.now l patch.now (slice_index_or edge.entry.sides.now k s) (slice_index_or edge.entry.cells.now k c) }
+    ensures { (k : ℕ) (c : Cell) (s : CoveredSides) → k < length edge.entry.cells.now
+        → slice_index_or entries.new k (pos 0)
+        ≡ slice_index_or entries.old k (pos 0)
+        -ℤ net_owned p.now l patch.now (slice_index_or edge.entry.sides.now k s) (slice_index_or edge.entry.cells.now k c) }
 {
     let x = first_share(p, Axis::X);
     let y = first_share(p, Axis::Y);

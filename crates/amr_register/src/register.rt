@@ -49,7 +49,8 @@ pub struct Register {
 
 #[tactic(auto, unfolding(crate::specs::Registers::cells_in, crate::specs::Registers::sides_in, crate::specs::Registers::edges_in, crate::specs::Registers::entry_in))]
 impl Register {
-    ghost use Rattle.std.specs.Prelude.{ℕ, [], map, ℤ, suc, ◌<◌, ◌≤◌, ◌≢◌, ◌^◌, pos, negsuc, ◌+ℤ◌, ◌-ℤ◌, ◌≤ℤ◌, ◌<ℤ◌, IfOk, IsSome, IsTrue, slice_index_or, unsigned_abs};
+    ghost use Rattle.std.specs.Prelude.{ℕ, [], map, ℤ, suc, ◌<◌, ◌≤◌, ◌≢◌, ◌^◌, pos, negsuc, ◌+ℤ◌, ◌-ℤ◌, ◌≤ℤ◌};
+    ghost use Rattle.std.specs.Prelude.{◌<ℤ◌, IfOk, IsSome, IsTrue, slice_index_or, unsigned_abs};
     ghost use Rattle.std.specs.List.{Contains};
     ghost use Rattle.amr_box.specs.declared.Cell.{Cell};
     ghost use Rattle.amr_box.specs.Cells.{at_least_zero, holds};
@@ -188,7 +189,8 @@ impl Register {
         requires placed { IsPlaced self.old }
         requires small { All (All IsSmallNet) (edges_in self.old) }
         requires room { (c : Cell) → unsigned_abs (entry_in self.old c) < 2 ^ 62 }
-        ensures taken { (flow : Cell → ℤ) → All (All (λ e. e.net ≡ flow e.cell)) (edges_in self.old) → (c : Cell) → Contains (cells_in self.old) c → entry_in self.new c ≡ entry_in self.old c -ℤ flow c }
+        ensures taken { (flow : Cell → ℤ) → All (All (λ e. e.net ≡ flow e.cell)) (edges_in self.old) → (c : Cell) → Contains (cells_in self.old) c
+            → entry_in self.new c ≡ entry_in self.old c -ℤ flow c }
         ensures cells { SameCells self.old self.new }
     {
         take_nets(&self.edges, &mut self.entries);
@@ -201,7 +203,8 @@ impl Register {
         requires level { l ≤ 3 }
         requires inside { IsInDomain (domain p.now l) (box patch.now) }
         requires room { (c : Cell) → unsigned_abs (entry_in self.old c) < 2 ^ 62 }
-        ensures taken { (m fine : Masses) → IsRegisterOf p.now l m fine self.old → (c : Cell) → Contains (cells_in self.old) c → entry_in self.new c ≡ entry_in self.old c -ℤ net (coarse_flows p.now l fine patch.now) c }
+        ensures taken { (m fine : Masses) → IsRegisterOf p.now l m fine self.old → (c : Cell) → Contains (cells_in self.old) c
+            → entry_in self.new c ≡ entry_in self.old c -ℤ net (coarse_flows p.now l fine patch.now) c }
         ensures cells { SameCells self.old self.new }
     {
         let edge = Edge {
@@ -238,10 +241,13 @@ impl Register {
     pub fn reflux_patch(&self, k: usize, patch: &mut Patch)
         requires placed { IsPlaced self.now }
         requires place { IsBoxAt k (box patch.old) self.now }
-        requires kept { (c : Cell) → Contains (cells_in self.now) c → IsTrue (holds (box patch.old) c) → pos 0 ≤ℤ (pos (mass_in patch.old c) +ℤ entry_in self.now c) }
-        requires fits { (c : Cell) → Contains (cells_in self.now) c → IsTrue (holds (box patch.old) c) → (pos (mass_in patch.old c) +ℤ entry_in self.now c) <ℤ pos (2 ^ 32) }
+        requires kept { (c : Cell) → Contains (cells_in self.now) c → IsTrue (holds (box patch.old) c)
+            → pos 0 ≤ℤ (pos (mass_in patch.old c) +ℤ entry_in self.now c) }
+        requires fits { (c : Cell) → Contains (cells_in self.now) c → IsTrue (holds (box patch.old) c)
+            → (pos (mass_in patch.old c) +ℤ entry_in self.now c) <ℤ pos (2 ^ 32) }
         ensures kept { KeepsFrameAndFluxes patch.old patch.new }
-        ensures masses { (c : Cell) → IsTrue (holds (box patch.old) c) → mass_in patch.new c ≡ at_least_zero (pos (mass_in patch.old c) +ℤ entry_in self.now c) }
+        ensures masses { (c : Cell) → IsTrue (holds (box patch.old) c)
+            → mass_in patch.new c ≡ at_least_zero (pos (mass_in patch.old c) +ℤ entry_in self.now c) }
     {
         add_in_patch(&self.edges[k], &self.entries, patch);
     }

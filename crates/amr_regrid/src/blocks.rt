@@ -32,7 +32,8 @@ fn join_projection(
     requires over { IsOverDomain (domain p.now l) tags.old }
     requires finer { (c : Cell) → IsTrue (in_boxes finer.now c) → IsTrue (in_domain (domain p.now (l + 1)) (parent c)) }
     ensures over { OnOk result (IsOverDomain (domain p.now l) tags.new) }
-    ensures cells { OnOk result ((c : Cell) → has tags.new c ≡ (has tags.old c || (in_domain (domain p.now l) c && is_projected (domain p.now (l + 1)) finer.now c))) }
+    ensures cells { OnOk result ((c : Cell)
+        → has tags.new c ≡ (has tags.old c || (in_domain (domain p.now l) c && is_projected (domain p.now (l + 1)) finer.now c))) }
 {
     let dom = p.domain(l + 1);
     let projected = project(alloc, finer, &dom)?;
@@ -117,7 +118,8 @@ pub(crate) fn boxes_over(
     requires below { l < p.now.max_level }
     requires over { IsOverDomain (domain p.now l) tags }
     requires finer { (c : Cell) → IsTrue (in_boxes finer.now c) → IsTrue (in_domain (domain p.now (l + 1)) (parent c)) }
-    ensures { IfOk result (λ r. r.items ≡ map (refined p.now.blocking) (cluster p.now.efficiency p.now.min_width (wanted_blocks p.now (λ k. has tags) l finer.now))) }
+    ensures { IfOk result (λ r. r.items
+        ≡ map (refined p.now.blocking) (cluster p.now.efficiency p.now.min_width (wanted_blocks p.now (λ k. has tags) l finer.now))) }
 {
     let blocks = wanted(alloc, p, l, tags, finer)?;
     let clusters = cluster(alloc, &blocks, p.efficiency, p.min_width)?;

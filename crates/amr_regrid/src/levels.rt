@@ -11,7 +11,8 @@ use amr_patch::Level;
 fn add_last(levels: &mut Vec<Level>, remade: &mut Vec<Remade>) -> Result<(), NoMemory>
     requires { length remade.old.items ≤ length levels.old.items + 1 }
     ensures fits { OnOk result (length remade.new.items ≤ length levels.new.items) }
-    ensures levels { OnOk result ((n : ℕ) → n ≡ length remade.old.items → take n (placed levels.new.items remade.new.items) ≡ remade_levels levels.old.items remade.old.items) }
+    ensures levels { OnOk result ((n : ℕ) → n ≡ length remade.old.items
+        → take n (placed levels.new.items remade.new.items) ≡ remade_levels levels.old.items remade.old.items) }
     ensures refused { OnErr result (levels.new.items ≡ levels.old.items) }
 {
     if remade.len() <= levels.len() {

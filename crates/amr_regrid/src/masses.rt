@@ -63,7 +63,8 @@ fn made<S: Sharing>(
     requires apart { ArePairwiseApart boxes.now }
     requires near { AreNear boxes.now }
     requires parents { (c : Cell) → IsTrue (in_boxes boxes.now c) → IsSome ((level_of coarse.now).masses (parent c)) }
-    ensures level { IfOk result (λ k. level_of k ≡ record { boxes = boxes.now; masses = refilled (level_of coarse.now).masses (masses_before (option_copied old.entry)) boxes.now }) }
+    ensures level { IfOk result (λ k. level_of k
+        ≡ record { boxes = boxes.now; masses = refilled (level_of coarse.now).masses (masses_before (option_copied old.entry)) boxes.now }) }
     ensures chopped { IfOk result (IsChopped max) }
 {
     let patch_boxes = patch_boxes(alloc, boxes, max)?;
@@ -107,7 +108,8 @@ pub(crate) fn refill<S: Sharing>(
     requires shared { S.may_share sharing.now }
     requires stands { (l : ℕ) × Stands p.now l (level_of coarse.now) (lists_in boxes.now) }
     requires filled { All HasMassesInBoxes (map level_of olds.now) }
-    ensures levels { IfOk result (λ r. map level_of (remade_levels olds.now r.items) ≡ refill (level_of coarse.now).masses (map level_of olds.now) (lists_in boxes.now)) }
+    ensures levels { IfOk result (λ r. map level_of (remade_levels olds.now r.items)
+        ≡ refill (level_of coarse.now).masses (map level_of olds.now) (lists_in boxes.now)) }
     ensures few { IfOk result (λ r. length r.items ≤ length boxes.now) }
     ensures chopped { IfOk result (λ r. All (IsChoppedIfMade p.now.max_grid_size) r.items) }
 {

@@ -8,7 +8,8 @@ use Rattle.amr_store.specs.declared.store.Store.{Store}
 use Rattle.amr_store.specs.Stands.{IsStoreReady, last_in, problem_in}
 
 -- it has a store that a state of the run may be put into
-pub record MayKeep {D : Type 0} (seen : D → Option (List ℕ)) (moment : D → ℕ) (leaves : D → ℕ → List ℕ → Type 0) (p : Problem) (every : ℕ) (kept : Option Store) (disk : D) (s : State) : Type 0 where
+pub record MayKeep {D : Type 0} (seen : D → Option (List ℕ)) (moment : D → ℕ) (leaves : D → ℕ → List ℕ → Type 0) (p : Problem) (every : ℕ)
+    (kept : Option Store) (disk : D) (s : State) : Type 0 where
   pub sound : IsSound p s
   pub some : 0 < every
   pub store : Store

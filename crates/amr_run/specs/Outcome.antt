@@ -118,7 +118,8 @@ EndsBefore _ = ⊤
 -- A run opened its store on a disk that reads as the image, found this, and went on from it. Its times begin there: a stop since then leaves what
 -- was found or made last, or what was made next. Before that the disk was only read: from a moment on at which a stop leaves nothing but the
 -- image, as where a sync returns, it leaves that. But where the disk failed it reads as the image with what was made, each whole.
-pub record RunsThrough {D : Type 0} (seen : D → Option (List ℕ)) (moment : D → ℕ) (leaves : D → ℕ → List ℕ → Type 0) (disk later_disk : D) (status : Status) (image bytes : List ℕ) (p : Problem) (every target : ℕ) (said : List ℕ) : Type 0 where
+pub record RunsThrough {D : Type 0} (seen : D → Option (List ℕ)) (moment : D → ℕ) (leaves : D → ℕ → List ℕ → Type 0) (disk later_disk : D) (status : Status)
+    (image bytes : List ℕ) (p : Problem) (every target : ℕ) (said : List ℕ) : Type 0 where
   pub opened : Time
   pub since : moment disk ≤ opened.moment
   pub stays : StaysDurable (Some image) (moment disk) opened.moment (leaves later_disk)
@@ -132,10 +133,12 @@ pub record RunsThrough {D : Type 0} (seen : D → Option (List ℕ)) (moment : D
 abbrev pub StopsKept : {D : Type 0} → (D → Option (List ℕ)) → (D → ℕ) → (D → ℕ → List ℕ → Type 0) → D → D → Status → List ℕ → Problem → ℕ → ℕ → List ℕ → Type 0
 StopsKept seen moment leaves disk later_disk status bytes p every target said =
     (image : List ℕ) → seen disk ≡ Some image
-    → (EndsBefore status × OnlyReads seen moment leaves disk later_disk × (said ≡ [])) ⊎ RunsThrough seen moment leaves disk later_disk status image bytes p every target said
+    → (EndsBefore status × OnlyReads seen moment leaves disk later_disk
+    × (said ≡ [])) ⊎ RunsThrough seen moment leaves disk later_disk status image bytes p every target said
 
 -- of the problem that the bytes of the source are, at the step that it stops at
-pub record RunsThroughTo {D : Type 0} (seen : D → Option (List ℕ)) (moment : D → ℕ) (leaves : D → ℕ → List ℕ → Type 0) (disk later_disk : D) (status : Status) (image bytes : List ℕ) (to : Option ℕ) (every : ℕ) (said : List ℕ) : Type 0 where
+pub record RunsThroughTo {D : Type 0} (seen : D → Option (List ℕ)) (moment : D → ℕ) (leaves : D → ℕ → List ℕ → Type 0) (disk later_disk : D) (status : Status)
+    (image bytes : List ℕ) (to : Option ℕ) (every : ℕ) (said : List ℕ) : Type 0 where
   pub problem : Problem
   pub accepted : IsProblemOf bytes problem
   pub through : RunsThrough seen moment leaves disk later_disk status image bytes problem every (stop_of to problem) said
@@ -143,7 +146,8 @@ pub record RunsThroughTo {D : Type 0} (seen : D → Option (List ℕ)) (moment :
 abbrev pub StopsRun : {D : Type 0} → (D → Option (List ℕ)) → (D → ℕ) → (D → ℕ → List ℕ → Type 0) → D → D → Status → List ℕ → Option ℕ → ℕ → List ℕ → Type 0
 StopsRun seen moment leaves disk later_disk status bytes to every said =
     (image : List ℕ) → seen disk ≡ Some image
-    → (EndsBefore status × OnlyReads seen moment leaves disk later_disk × (said ≡ [])) ⊎ RunsThroughTo seen moment leaves disk later_disk status image bytes to every said
+    → (EndsBefore status × OnlyReads seen moment leaves disk later_disk
+    × (said ≡ [])) ⊎ RunsThroughTo seen moment leaves disk later_disk status image bytes to every said
 
 -- By its row: a command that keeps no checkpoints only reads.
 abbrev pub StopsBy : {D : Type 0} → (D → Option (List ℕ)) → (D → ℕ) → (D → ℕ → List ℕ → Type 0) → D → D → Status → Option Marks → List ℕ → List ℕ → Type 0
@@ -153,7 +157,8 @@ StopsBy seen moment leaves disk later_disk status (Some marks) bytes said = Stop
 -- Words that are no command only read too.
 abbrev pub StopsTo : {D : Type 0} → (D → Option (List ℕ)) → (D → ℕ) → (D → ℕ → List ℕ → Type 0) → D → D → Status → Option Command → List ℕ → List ℕ → Type 0
 StopsTo seen moment leaves disk later_disk status None bytes said = OnlyReads seen moment leaves disk later_disk
-StopsTo seen moment leaves disk later_disk status (Some command) bytes said = StopsBy seen moment leaves disk later_disk status (meaning command).keeps bytes said
+StopsTo seen moment leaves disk later_disk status (Some command) bytes said =
+    StopsBy seen moment leaves disk later_disk status (meaning command).keeps bytes said
 
 -- ---- what is pending
 

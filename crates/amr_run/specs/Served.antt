@@ -13,7 +13,8 @@ use Rattle.amr_run.specs.Table.{HasAnswer, KeepsCheckpoints, OpensStore, ReadsSo
 use Rattle.amr_run.specs.declared.status.Status.{Status}
 use Rattle.amr_run.specs.declared.status.Status.TheVariants.{Done, ReadFault, Problem, DiskFault, Store, WriteFault, NoMemory}
 
-pub record Serves {S O E D : Type 0} (left : S → Option (List ℕ)) (src_faults : S → ℕ) (out_holds : O → List ℕ → Type 0) (out_faults : O → ℕ) (err_holds : E → List ℕ → Type 0) (err_faults : E → ℕ)
+pub record Serves {S O E D : Type 0} (left : S → Option (List ℕ)) (src_faults : S → ℕ) (out_holds : O → List ℕ → Type 0) (out_faults : O → ℕ)
+    (err_holds : E → List ℕ → Type 0) (err_faults : E → ℕ)
     (seen : D → Option (List ℕ)) (moment : D → ℕ) (leaves : D → ℕ → List ℕ → Type 0) (disk_faults : D → ℕ)
     (asked : Option Command) (status : Status) (src later_src : S) (out later_out : O) (err later_err : E) (disk later_disk : D) : Type 0 where
   -- What the source had left, what went to `out`, the lines of checkpoints on `err`, and all that went there: these and then the line of a
@@ -58,5 +59,6 @@ pub record Serves {S O E D : Type 0} (left : S → Option (List ℕ)) (src_fault
   pub no_line_fault : status ≡ Done → err_faults later_err ≡ err_faults err
   -- Words that are a command, bytes that have an answer and a store that lets it come get it, unless something fails or memory runs out.
   pub complete : (command : Command) → asked ≡ Some command → ((bytes : List ℕ) → WereLeft (left src) bytes → HasAnswer command bytes (seen disk))
-      → ¬ (Rose (src_faults src) (src_faults later_src)) → ¬ (Rose (out_faults out) (out_faults later_out)) → ¬ (Rose (err_faults err) (err_faults later_err)) → ¬ (Rose (disk_faults disk) (disk_faults later_disk))
+      → ¬ (Rose (src_faults src) (src_faults later_src)) → ¬ (Rose (out_faults out) (out_faults later_out)) → ¬ (Rose (err_faults err) (err_faults later_err))
+      → ¬ (Rose (disk_faults disk) (disk_faults later_disk))
       → (status ≡ Done) ⊎ (status ≡ NoMemory)

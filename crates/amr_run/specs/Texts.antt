@@ -49,7 +49,8 @@ fault_text (problem.OutOfRange key value) = spaced (codes "problem: out of range
 fault_text (problem.Courant sum d) = spaced (codes "problem: courant" ∷ signed_decimal sum ∷ codes "over" ∷ signed_decimal d ∷ [])
 fault_text (problem.SidesDiffer axis) = spaced (codes "problem: sides differ" ∷ axis_text axis ∷ [])
 fault_text (problem.BlockOutside index) = spaced (codes "problem: block" ∷ decimal index ∷ codes "outside" ∷ [])
-fault_text (problem.TagCount given max_level) = spaced (codes "problem:" ∷ signed_decimal given ∷ codes "tags for" ∷ signed_decimal max_level ∷ codes "levels" ∷ [])
+fault_text (problem.TagCount given max_level) =
+    spaced (codes "problem:" ∷ signed_decimal given ∷ codes "tags for" ∷ signed_decimal max_level ∷ codes "levels" ∷ [])
 fault_text (problem.Blocking axis b) = spaced (codes "problem: blocking" ∷ signed_decimal b ∷ codes "does not fit" ∷ axis_text axis ∷ [])
 
 -- the line of a refusal

@@ -55,7 +55,8 @@ fn run_on<R: Threads + Wait + Sync, E: Sink, D: Disk, G: Gate + Sync>(
     ensures whole { IfOk result (λ m. is_spent m ≡ false) }
     ensures value { IfOk result (λ m. state_of m ≡ finish keeping.now.problem.now (state_of mesh) keeping.now.target) }
     ensures kept { Keeps D.seen D.moment D.leaves D.faults E.holds E.faults (problem_in store) keeping.now.problem.now keeping.now.every keeping.now.target
-        disk.old disk.new err.old err.new (states_after keeping.now.problem.now (state_of mesh) (keeping.now.target - (state_of mesh).step)) (fault_in result) }
+        disk.old disk.new err.old err.new (states_after keeping.now.problem.now (state_of mesh) (keeping.now.target - (state_of mesh).step))
+        (fault_in result) }
 {
     let crew = Crew {
         ranks: 1,

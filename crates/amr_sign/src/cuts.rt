@@ -1,5 +1,6 @@
 //! Where to cut a box of tagged cells in two, by its signatures along both axes (Berger and Rigoutsos 1991).
-ghost use Rattle.std.specs.Prelude.{◌≡◌, ℕ, ◌+◌, ◌-◌, ◌*◌, ◌/◌, ◌^◌, ◌<◌, ◌≤◌, ◌==◌, ◌-ℤ◌, ◌&&◌, pos, length, cond, None, Some, Option, slice_index, unsigned_abs};
+ghost use Rattle.std.specs.Prelude.{◌≡◌, ℕ, ◌+◌, ◌-◌, ◌*◌, ◌/◌, ◌^◌, ◌<◌, ◌≤◌, ◌==◌, ◌-ℤ◌, ◌&&◌, pos, length};
+ghost use Rattle.std.specs.Prelude.{cond, None, Some, Option, slice_index, unsigned_abs};
 ghost use Rattle.std.specs.Option.{option_map};
 ghost use Rattle.amr_def.specs.Signature.{second_difference};
 ghost use Rattle.amr_def.specs.Cut.{best_cut, cut_in_order, cut_on, best_hole, best_inflection, middle, nearer, off_middle, opposite, sharper};

@@ -1,5 +1,6 @@
 //! Signatures of sets that are given as rows of bits, by whole words.
-ghost use Rattle.std.specs.Prelude.{◌≡◌, ◌==◌, ℕ, ◌+◌, ◌-◌, ◌*◌, ◌/◌, ◌%◌, ◌^◌, ◌<◌, ◌≤◌, ◌&&◌, ◌≤ℤ◌, pos, true, length, IfOk, EachIndex, slice_index, nat_le, nat_lt};
+ghost use Rattle.std.specs.Prelude.{◌≡◌, ◌==◌, ℕ, ◌+◌, ◌-◌, ◌*◌, ◌/◌, ◌%◌, ◌^◌, ◌<◌, ◌≤◌, ◌&&◌, ◌≤ℤ◌, pos, true};
+ghost use Rattle.std.specs.Prelude.{length, IfOk, EachIndex, slice_index, nat_le, nat_lt};
 ghost use Rattle.std.specs.Int.{bit_at};
 ghost use Rattle.amr_box.specs.declared.Axis.TheVariants.{X, Y};
 ghost use Rattle.amr_def.specs.Signature.{signature};

@@ -26,7 +26,8 @@ pub record IsBlockIn (columns rows : ℕ) (b : Block) : Type 0 where
 
 -- a block has filled its cells, and every other cell has what it had
 pub record FillsBlock (columns rows : ℕ) (b : Block) (old new : List ℕ) : Type 0 where
-  pub at : (x y : ℕ) → x < columns → y < rows → slice_index new (y * columns + x) ≡ cond (holds (block_extent b) (cell (pos x) (pos y))) b.mass (slice_index old (y * columns + x))
+  pub at : (x y : ℕ) → x < columns → y < rows
+      → slice_index new (y * columns + x) ≡ cond (holds (block_extent b) (cell (pos x) (pos y))) b.mass (slice_index old (y * columns + x))
 
 -- the mass of a row
 abbrev pub row_mass_in : ℕ → List ℕ → ℕ → ℕ

@@ -1,5 +1,6 @@
 -- The image of a new store without open slots. (profile)
-use Rattle.std.specs.Prelude.{ℕ, ◌≡◌, ◌<◌, ◌+◌, ◌==◌, ◌&&◌, ◌⊎◌, nat_lt, true, false, slice_index, slice_range, List, [], ◌∷◌, ◌++◌, length, None, if◌then◌else◌}
+use Rattle.std.specs.Prelude.{ℕ, ◌≡◌, ◌<◌, ◌+◌, ◌==◌, ◌&&◌, ◌⊎◌, nat_lt, true, false, slice_index}
+use Rattle.std.specs.Prelude.{slice_range, List, [], ◌∷◌, ◌++◌, length, None, if◌then◌else◌}
 use Rattle.std.specs.Int.{to_le_bytes, w32, w64}
 use Rattle.amr_disk.specs.Image.{written_at}
 use Rattle.amr_store.specs.Layout.{magic_1, magic_2, long_at, word_at, gate_0, gate_1, end_of}
@@ -57,7 +58,8 @@ shut_first image = if nat_lt 1 (length image) then image else written_at 0 (0 �
 abbrev pub laid_image : ℕ → List ℕ → ℕ → List ℕ → List ℕ
 laid_image version problem size image =
     if version == 1 && nat_lt (end_of (length problem) size) (length image)
-    then written_at (end_of (length problem) size) (0 ∷ []) (written_at (gate_1 (length problem) size) (0 ∷ []) (written_at 1 (head_bytes 0 version problem size) image))
+    then written_at (end_of (length problem) size) (0 ∷ [])
+    (written_at (gate_1 (length problem) size) (0 ∷ []) (written_at 1 (head_bytes 0 version problem size) image))
     else written_at (gate_1 (length problem) size) (0 ∷ []) (written_at 1 (head_bytes 0 version problem size) image)
 
 -- and the first byte, opened

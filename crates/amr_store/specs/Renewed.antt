@@ -8,7 +8,8 @@ use Rattle.amr_store.specs.Stored.{State, Held, Reads, IsFilled, has_magic_1, is
 
 -- what a renewed store shows
 abbrev pub renewed_state : List ℕ → ℕ → ℕ → List ℕ → State
-renewed_state problem size sequence payload = record { version = 2; problem = problem; slot_size = size; latest = Some record { sequence = sequence; payload = payload } }
+renewed_state problem size sequence payload =
+    record { version = 2; problem = problem; slot_size = size; latest = Some record { sequence = sequence; payload = payload } }
 
 -- all of a store of version 2 behind its gate, up to its second slot, with a state in its first slot
 abbrev pub renewal_bytes : List ℕ → ℕ → ℕ → List ℕ → List ℕ
@@ -56,4 +57,5 @@ shut_past end image = if nat_lt (end + 1) (length image) then image else written
 -- the new store behind it with its state, the closed gate of its second slot, and the first byte, opened
 abbrev pub renewed_image : ℕ → List ℕ → ℕ → ℕ → List ℕ → List ℕ → List ℕ
 renewed_image end problem size sequence payload image =
-    written_at end (165 ∷ []) (written_at (end + gate_1 (length problem) size) (0 ∷ []) (written_at (end + 1) (renewal_bytes problem size sequence payload) (shut_past end image)))
+    written_at end (165 ∷ []) (written_at (end + gate_1 (length problem) size) (0 ∷ [])
+    (written_at (end + 1) (renewal_bytes problem size sequence payload) (shut_past end image)))

@@ -61,7 +61,8 @@ fn check_slots<D: Disk>(disk: &mut D, base: u64, head: Head) -> Result<Checked, 
     requires base { base ≤ 2 ^ 43 }
     requires text { head.text ≤ 65536 }
     requires size { head.slot_size ≤ 2 ^ 40 }
-    ensures told { IfOk result (λ checked. (s : List ℕ) → D.seen disk.old ≡ Some s → SaysHead head.version head.slot_size head.text (drop base s) → Checks checked (slot_tests (drop base s)) (drop base s)) }
+    ensures told { IfOk result (λ checked. (s : List ℕ) → D.seen disk.old ≡ Some s → SaysHead head.version head.slot_size head.text (drop base s)
+        → Checks checked (slot_tests (drop base s)) (drop base s)) }
     ensures fits { IfOk result (λ checked. HasRoom checked) }
     ensures reads { OnlyReads D.seen D.moment D.leaves disk.old disk.new }
     ensures cause { HasCause (D.faults disk.old) (D.faults disk.new) result }
@@ -82,7 +83,8 @@ fn check_slots<D: Disk>(disk: &mut D, base: u64, head: Head) -> Result<Checked, 
 // The tests on the text, the size and the slots.
 fn check_text<D: Disk>(disk: &mut D, base: u64, head: Head) -> Result<Checked, DiskFault>
     requires base { base ≤ 2 ^ 43 }
-    ensures told { IfOk result (λ checked. (s : List ℕ) → D.seen disk.old ≡ Some s → SaysHead head.version head.slot_size head.text (drop base s) → Checks checked (text_tests (drop base s)) (drop base s)) }
+    ensures told { IfOk result (λ checked. (s : List ℕ) → D.seen disk.old ≡ Some s → SaysHead head.version head.slot_size head.text (drop base s)
+        → Checks checked (text_tests (drop base s)) (drop base s)) }
     ensures fits { IfOk result (λ checked. HasRoom checked) }
     ensures reads { OnlyReads D.seen D.moment D.leaves disk.old disk.new }
     ensures cause { HasCause (D.faults disk.old) (D.faults disk.new) result }
@@ -105,7 +107,8 @@ fn check_text<D: Disk>(disk: &mut D, base: u64, head: Head) -> Result<Checked, D
 // All tests on the store at a base. Where `takes_first` is false the second magic alone counts.
 pub fn check<D: Disk>(disk: &mut D, base: u64, takes_first: bool) -> Result<Checked, DiskFault>
     requires base { base ≤ 2 ^ 43 }
-    ensures told { IfOk result (λ checked. (s : List ℕ) → D.seen disk.old ≡ Some s → Checks checked (tests (magic_in takes_first (drop base s)) (drop base s)) (drop base s)) }
+    ensures told { IfOk result (λ checked. (s : List ℕ) → D.seen disk.old ≡ Some s
+        → Checks checked (tests (magic_in takes_first (drop base s)) (drop base s)) (drop base s)) }
     ensures fits { IfOk result (λ checked. HasRoom checked) }
     ensures reads { OnlyReads D.seen D.moment D.leaves disk.old disk.new }
     ensures cause { HasCause (D.faults disk.old) (D.faults disk.new) result }

@@ -1,5 +1,6 @@
 //! A new store over an empty disk.
-ghost use Rattle.std.specs.Prelude.{◌≡◌, ◌≤◌, ◌<◌, ◌+◌, ◌^◌, ◌⊎◌, ◌==◌, ◌&&◌, true, false, nat_lt, List, ℕ, Some, None, length, IsSome, IfOk, OnOk, vec_len, option_map};
+ghost use Rattle.std.specs.Prelude.{◌≡◌, ◌≤◌, ◌<◌, ◌+◌, ◌^◌, ◌⊎◌, ◌==◌, ◌&&◌, true, false, nat_lt, List, ℕ, Some};
+ghost use Rattle.std.specs.Prelude.{None, length, IsSome, IfOk, OnOk, vec_len, option_map};
 ghost use Rattle.amr_causes.specs.Causes.{HasCause};
 ghost use Rattle.amr_disk.specs.Image.{Only};
 ghost use Rattle.amr_store.specs.Created.{IsVersion, IsShutFirst, IsLaid, IsMade, magic_of, head_bytes, new_state, shut_first, laid_image, created_image};
@@ -150,7 +151,8 @@ fn write_store<D: Disk>(
     requires empty { (s : List ℕ) → D.seen disk.old ≡ Some s → is_empty s ≡ true }
     ensures seen { OnOk result (D.seen disk.new ≡ option_map (created_image version problem.now slot_size) (D.seen disk.old)) }
     ensures made { OnOk result ((t : List ℕ) → D.seen disk.new ≡ Some t → IsMade version problem.now slot_size t) }
-    ensures stops { StopsFrom D.seen D.moment D.leaves disk.old disk.new (λ s c. stored c ≡ Empty ⊎ stored c ≡ Held (new_state version problem.now slot_size)) }
+    ensures stops { StopsFrom D.seen D.moment D.leaves disk.old disk.new
+        (λ s c. stored c ≡ Empty ⊎ stored c ≡ Held (new_state version problem.now slot_size)) }
     ensures settled { OnOk result (Only (D.seen disk.new) (D.leaves disk.new (D.moment disk.new))) }
     ensures cause { HasCause (D.faults disk.old) (D.faults disk.new) result }
     ensures no_fault { OnOk result (D.faults disk.new ≡ D.faults disk.old) }
@@ -187,7 +189,8 @@ impl Store {
         ensures unshut_store { IfOk result (λ store. is_shut store ≡ false) }
         ensures seen { OnOk result (D.seen disk.new ≡ option_map (created_image version problem.now slot_size) (D.seen disk.old)) }
         ensures made { OnOk result ((t : List ℕ) → D.seen disk.new ≡ Some t → stored t ≡ Held (new_state version problem.now slot_size)) }
-        ensures stops { StopsFrom D.seen D.moment D.leaves disk.old disk.new (λ s c. stored c ≡ Empty ⊎ stored c ≡ Held (new_state version problem.now slot_size)) }
+        ensures stops { StopsFrom D.seen D.moment D.leaves disk.old disk.new
+            (λ s c. stored c ≡ Empty ⊎ stored c ≡ Held (new_state version problem.now slot_size)) }
         ensures memory { is_no_memory result ≡ true → disk.new ≡ disk.old }
         ensures reason { HasReason (D.faults disk.old) (D.faults disk.new) result }
         ensures unshut { is_shut_fault result ≡ false }

@@ -120,8 +120,12 @@ pub fn write_three_synced<D: Disk>(
     requires second { second.at + length second.bytes.now < 2 ^ 48 }
     requires third { third.at + length third.bytes.now < 2 ^ 48 }
     requires settled { Only (D.seen disk.old) (D.leaves disk.old (D.moment disk.old)) }
-    ensures stops { StopsFrom D.seen D.moment D.leaves disk.old disk.new (TornThrice first.entry.at (length first.entry.bytes.now) second.entry.at (length second.entry.bytes.now) third.entry.at (length third.entry.bytes.now)) }
-    ensures seen { OnOk result (D.seen disk.new ≡ option_map (λ s. written_at third.entry.at third.entry.bytes.now (written_at second.entry.at second.entry.bytes.now (written_at first.entry.at first.entry.bytes.now s))) (D.seen disk.old)) }
+    ensures stops { StopsFrom D.seen D.moment D.leaves disk.old disk.new
+        (TornThrice first.entry.at (length first.entry.bytes.now) second.entry.at (length second.entry.bytes.now) third.entry.at
+        (length third.entry.bytes.now)) }
+    ensures seen { OnOk result (D.seen disk.new
+        ≡ option_map (λ s. written_at third.entry.at third.entry.bytes.now
+        (written_at second.entry.at second.entry.bytes.now (written_at first.entry.at first.entry.bytes.now s))) (D.seen disk.old)) }
     ensures settled { OnOk result (Only (D.seen disk.new) (D.leaves disk.new (D.moment disk.new))) }
     ensures cause { HasCause (D.faults disk.old) (D.faults disk.new) result }
     ensures no_fault { OnOk result (D.faults disk.new ≡ D.faults disk.old) }

@@ -21,7 +21,8 @@ impl Store {
         disk: &mut D,
     ) -> Result<Option<Vec<u8>>, StoreFault>
         requires ready { IsStoreReady D.seen D.moment D.leaves self.old disk.old }
-        ensures latest { is_shut self.old ≡ false → IfOk result (λ latest. (s : List ℕ) → D.seen disk.old ≡ Some s → option_map (λ v. v.items) latest ≡ latest_in (stored s)) }
+        ensures latest { is_shut self.old ≡ false
+            → IfOk result (λ latest. (s : List ℕ) → D.seen disk.old ≡ Some s → option_map (λ v. v.items) latest ≡ latest_in (stored s)) }
         ensures none { IfOk result (λ latest. is_some latest ≡ is_some (last_in self.old)) }
         ensures ready { IsStoreReady D.seen D.moment D.leaves self.new disk.new }
         ensures reads { OnlyReads D.seen D.moment D.leaves disk.old disk.new }

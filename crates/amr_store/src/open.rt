@@ -1,5 +1,6 @@
 //! Opening a store: what the disk holds, by the tests on it in their order.
-ghost use Rattle.std.specs.Prelude.{◌≡◌, ◌≤◌, ◌<◌, ◌+◌, ◌*◌, ◌^◌, ◌==◌, ◌&&◌, true, false, nat_lt, nat_eq, List, ℕ, Some, length, drop, slice_range, IfOk, OnOk, vec_len};
+ghost use Rattle.std.specs.Prelude.{◌≡◌, ◌≤◌, ◌<◌, ◌+◌, ◌*◌, ◌^◌, ◌==◌, ◌&&◌, true, false, nat_lt, nat_eq, List};
+ghost use Rattle.std.specs.Prelude.{ℕ, Some, length, drop, slice_range, IfOk, OnOk, vec_len};
 ghost use Rattle.amr_causes.specs.Causes.{HasCause};
 ghost use Rattle.amr_disk.specs.Image.{Only};
 ghost use Rattle.amr_store.specs.Checking.{IsOutline, IsHeldBy, IsInner};
@@ -34,7 +35,8 @@ pub fn read_bytes<D: Disk>(
 ) -> Result<Vec<u8>, StoreFault>
     requires small { base + at + count < 2 ^ 48 }
     ensures count { IfOk result (λ v. vec_len v ≡ count) }
-    ensures told { IfOk result (λ v. (s : List ℕ) → D.seen disk.old ≡ Some s → at + count ≤ length (drop base s) → v.items ≡ slice_range (drop base s) at (at + count)) }
+    ensures told { IfOk result (λ v. (s : List ℕ) → D.seen disk.old ≡ Some s → at + count ≤ length (drop base s)
+        → v.items ≡ slice_range (drop base s) at (at + count)) }
     ensures reads { OnlyReads D.seen D.moment D.leaves disk.old disk.new }
     ensures memory { is_no_memory result ≡ true → disk.new ≡ disk.old }
     ensures reason { HasReason (D.faults disk.old) (D.faults disk.new) result }
@@ -109,7 +111,8 @@ fn open_inner<D: Disk>(
     requires base { base ≤ 2 ^ 43 }
     requires inner_text { inner.text ≤ 65536 }
     requires inner_size { inner.slot_size ≤ 2 ^ 40 }
-    ensures told { IfOk result (λ found. (s : List ℕ) → D.seen disk.old ≡ Some s → IsHeldBy outline s → is_renewed s ≡ true → base ≡ end_in s → IsInner inner (drop base s) → FindsIn found s) }
+    ensures told { IfOk result (λ found. (s : List ℕ) → D.seen disk.old ≡ Some s → IsHeldBy outline s → is_renewed s ≡ true → base ≡ end_in s
+        → IsInner inner (drop base s) → FindsIn found s) }
     ensures open { IfOk result (λ found. IsUnshut found) }
     ensures reads { OnlyReads D.seen D.moment D.leaves disk.old disk.new }
     ensures reason { HasReason (D.faults disk.old) (D.faults disk.new) result }

@@ -1,13 +1,16 @@
 //! The three steps of a put. A stop in the first leaves a closed gate closed, and an open one any byte over a slot that
 //! is as it was. In the second the gate is closed on the disk. In the third the gate is any byte over a slot that is
 //! synced.
-ghost use Rattle.std.specs.Prelude.{◌≡◌, ◌≤◌, ◌<◌, ◌+◌, ◌^◌, ◌++◌, ◌∷◌, [], ◌⊎◌, false, true, List, ℕ, Some, None, is_some, length, IfOk, IfSome, OnOk, OnErr, option_map, if◌then◌else◌};
+ghost use Rattle.std.specs.Prelude.{◌≡◌, ◌≤◌, ◌<◌, ◌+◌, ◌^◌, ◌++◌, ◌∷◌, [], ◌⊎◌, false, true, List, ℕ, Some, None};
+ghost use Rattle.std.specs.Prelude.{is_some, length, IfOk, IfSome, OnOk, OnErr, option_map, if◌then◌else◌};
 ghost use Rattle.std.specs.Int.{to_le_bytes, w64};
 ghost use Rattle.amr_store.specs.Next.{first_with, second_with, other_than};
 ghost use Rattle.amr_disk.specs.Moments.{StopsIn};
 ghost use Rattle.amr_store.specs.Phases.{StopsFrom};
 ghost use Rattle.amr_store.specs.Reasons.{HasReason, Shuts, is_no_memory};
-ghost use Rattle.amr_store.specs.Stands.{IsStoreReady, IsClosed, IsFilledIn, SameStore, Stands, is_shut, next_in, gate_in, slot_in, last_in, first_in, second_in, slot_size_in, closed_image, filled_image, opened_image, put_image, closing_chunk, slot_closed, slot_filled, sequence_filled, length_filled, opened_slot};
+ghost use Rattle.amr_store.specs.Stands.{IsStoreReady, IsClosed, IsFilledIn, SameStore, Stands, is_shut, next_in, gate_in, slot_in, last_in};
+ghost use Rattle.amr_store.specs.Stands.{first_in, second_in, slot_size_in, closed_image, filled_image, opened_image, put_image, closing_chunk};
+ghost use Rattle.amr_store.specs.Stands.{slot_closed, slot_filled, sequence_filled, length_filled, opened_slot};
 ghost use Rattle.amr_store.specs.Stored.{stored, with_latest};
 
 use crate::device::{write_synced, write_two_synced};
@@ -105,8 +108,11 @@ impl Store {
         ensures ready { OnOk result (IsStoreReady D.seen D.moment D.leaves self.new disk.new) }
         ensures seen { OnOk result (D.seen disk.new ≡ option_map (put_image self.old sequence bytes.now) (D.seen disk.old)) }
         ensures other { OnOk result (slot_in self.new (other_than (next_in self.old)) ≡ slot_in self.old (other_than (next_in self.old))) }
-        ensures put { is_shut self.old ≡ false → OnOk result ((s : List ℕ) → D.seen disk.old ≡ Some s → (t : List ℕ) × (D.seen disk.new ≡ Some t) × (stored t ≡ with_latest (stored s) sequence bytes.now)) }
-        ensures stops { is_shut self.old ≡ false → StopsFrom D.seen D.moment D.leaves disk.old disk.new (λ s c. stored c ≡ stored s ⊎ stored c ≡ with_latest (stored s) sequence bytes.now) }
+        ensures put { is_shut self.old ≡ false
+            → OnOk result ((s : List ℕ) → D.seen disk.old ≡ Some s → (t : List ℕ) × (D.seen disk.new ≡ Some t)
+            × (stored t ≡ with_latest (stored s) sequence bytes.now)) }
+        ensures stops { is_shut self.old ≡ false
+            → StopsFrom D.seen D.moment D.leaves disk.old disk.new (λ s c. stored c ≡ stored s ⊎ stored c ≡ with_latest (stored s) sequence bytes.now) }
         ensures same { SameStore self.old self.new }
         ensures last { OnOk result (last_in self.new ≡ Some sequence) }
         ensures kept { OnErr result (last_in self.new ≡ last_in self.old) }
@@ -138,8 +144,10 @@ impl Closed {
         requires ready { IsStoreReady D.seen D.moment D.leaves store.old disk.old }
         requires counted { 0 < sequence }
         requires fits { length bytes.now ≤ slot_size_in store.old }
-        ensures filled { IfOk result (λ filled. (slot_filled filled ≡ slot_closed self) × (sequence_filled filled ≡ sequence) × (length_filled filled ≡ length bytes.now)) }
-        ensures holds { OnOk result ((t : List ℕ) → D.seen disk.new ≡ Some t → is_shut store.old ≡ false → IsFilledIn (slot_closed self) store.new t sequence bytes.now) }
+        ensures filled { IfOk result (λ filled. (slot_filled filled ≡ slot_closed self) × (sequence_filled filled ≡ sequence)
+            × (length_filled filled ≡ length bytes.now)) }
+        ensures holds { OnOk result ((t : List ℕ) → D.seen disk.new ≡ Some t → is_shut store.old ≡ false
+            → IsFilledIn (slot_closed self) store.new t sequence bytes.now) }
         ensures ready { OnOk result (IsStoreReady D.seen D.moment D.leaves store.new disk.new) }
         ensures seen { OnOk result (D.seen disk.new ≡ option_map (filled_image store.old (slot_closed self) sequence bytes.now) (D.seen disk.old)) }
         ensures stops { is_shut store.old ≡ false → StopsFrom D.seen D.moment D.leaves disk.old disk.new (λ s c. stored c ≡ stored s) }
@@ -176,11 +184,15 @@ impl Filled {
         requires closed { IsClosed (slot_filled self) store.old }
         requires above { IfSome (last_in store.old) (λ last. last < sequence_filled self) }
         requires ready { IsStoreReady D.seen D.moment D.leaves store.old disk.old }
-        requires filled { is_shut store.old ≡ false → (s : List ℕ) → D.seen disk.old ≡ Some s → (payload : List ℕ) × (length payload ≡ length_filled self) × IsFilledIn (slot_filled self) store.old s (sequence_filled self) payload }
+        requires filled { is_shut store.old ≡ false → (s : List ℕ) → D.seen disk.old ≡ Some s → (payload : List ℕ) × (length payload ≡ length_filled self)
+            × IsFilledIn (slot_filled self) store.old s (sequence_filled self) payload }
         ensures ready { OnOk result (IsStoreReady D.seen D.moment D.leaves store.new disk.new) }
         ensures seen { OnOk result (D.seen disk.new ≡ option_map (opened_image store.old (slot_filled self)) (D.seen disk.old)) }
-        ensures put { OnOk result ((s t payload : List ℕ) → D.seen disk.old ≡ Some s → D.seen disk.new ≡ Some t → IsFilledIn (slot_filled self) store.old s (sequence_filled self) payload → stored t ≡ with_latest (stored s) (sequence_filled self) payload) }
-        ensures stops { is_shut store.old ≡ false → (s payload : List ℕ) → D.seen disk.old ≡ Some s → IsFilledIn (slot_filled self) store.old s (sequence_filled self) payload → StopsIn D.moment D.leaves disk.old disk.new (λ c. stored c ≡ stored s ⊎ stored c ≡ with_latest (stored s) (sequence_filled self) payload) }
+        ensures put { OnOk result ((s t payload : List ℕ) → D.seen disk.old ≡ Some s → D.seen disk.new ≡ Some t
+            → IsFilledIn (slot_filled self) store.old s (sequence_filled self) payload → stored t ≡ with_latest (stored s) (sequence_filled self) payload) }
+        ensures stops { is_shut store.old ≡ false → (s payload : List ℕ) → D.seen disk.old ≡ Some s
+            → IsFilledIn (slot_filled self) store.old s (sequence_filled self) payload
+            → StopsIn D.moment D.leaves disk.old disk.new (λ c. stored c ≡ stored s ⊎ stored c ≡ with_latest (stored s) (sequence_filled self) payload) }
         ensures first { OnOk result (first_in store.new ≡ first_with (slot_filled self) (opened_slot self) (first_in store.old)) }
         ensures second { OnOk result (second_in store.new ≡ second_with (slot_filled self) (opened_slot self) (second_in store.old)) }
         ensures same { SameStore store.old store.new }

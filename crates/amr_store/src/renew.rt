@@ -47,10 +47,12 @@ fn renewal_of(
 fn shut_end<D: Disk>(disk: &mut D, end: u64) -> Result<(), DiskFault>
     requires small { end < 2 ^ 47 }
     requires settled { Only (D.seen disk.old) (D.leaves disk.old (D.moment disk.old)) }
-    ensures shut { OnOk result ((t problem : List ℕ) → D.seen disk.new ≡ Some t → ((s : List ℕ) → D.seen disk.old ≡ Some s → IsOld end problem s) → IsOldShut end problem t) }
+    ensures shut { OnOk result ((t problem : List ℕ) → D.seen disk.new ≡ Some t → ((s : List ℕ) → D.seen disk.old ≡ Some s → IsOld end problem s)
+        → IsOldShut end problem t) }
     ensures told { OnOk result ((s : List ℕ) → D.seen disk.old ≡ Some s → IsSome (D.seen disk.new)) }
     ensures seen { OnOk result (D.seen disk.new ≡ option_map (shut_past end) (D.seen disk.old)) }
-    ensures stops { (s problem : List ℕ) → D.seen disk.old ≡ Some s → IsOld end problem s → StopsIn D.moment D.leaves disk.old disk.new (λ c. stored c ≡ stored s) }
+    ensures stops { (s problem : List ℕ) → D.seen disk.old ≡ Some s → IsOld end problem s
+        → StopsIn D.moment D.leaves disk.old disk.new (λ c. stored c ≡ stored s) }
     ensures settled { OnOk result (Only (D.seen disk.new) (D.leaves disk.new (D.moment disk.new))) }
     ensures cause { HasCause (D.faults disk.old) (D.faults disk.new) result }
     ensures no_fault { OnOk result (D.faults disk.new ≡ D.faults disk.old) }
@@ -88,9 +90,11 @@ fn write_renewal<D: Disk>(
     requires all { all.now ≡ renewal_bytes problem.now slot_size state.sequence state.payload.now }
     requires settled { Only (D.seen disk.old) (D.leaves disk.old (D.moment disk.old)) }
     requires old { (s : List ℕ) → D.seen disk.old ≡ Some s → IsOld end problem.now s }
-    ensures seen { OnOk result (D.seen disk.new ≡ option_map (renewed_image end problem.now slot_size state.entry.sequence state.entry.payload.now) (D.seen disk.old)) }
+    ensures seen { OnOk result (D.seen disk.new
+        ≡ option_map (renewed_image end problem.now slot_size state.entry.sequence state.entry.payload.now) (D.seen disk.old)) }
     ensures made { OnOk result ((t : List ℕ) → D.seen disk.new ≡ Some t → IsRenewed end problem.now slot_size state.entry.sequence state.entry.payload.now t) }
-    ensures stops { StopsFrom D.seen D.moment D.leaves disk.old disk.new (λ s c. stored c ≡ stored s ⊎ stored c ≡ Held (renewed_state problem.now slot_size state.entry.sequence state.entry.payload.now)) }
+    ensures stops { StopsFrom D.seen D.moment D.leaves disk.old disk.new
+        (λ s c. stored c ≡ stored s ⊎ stored c ≡ Held (renewed_state problem.now slot_size state.entry.sequence state.entry.payload.now)) }
     ensures settled { OnOk result (Only (D.seen disk.new) (D.leaves disk.new (D.moment disk.new))) }
     ensures cause { HasCause (D.faults disk.old) (D.faults disk.new) result }
     ensures no_fault { OnOk result (D.faults disk.new ≡ D.faults disk.old) }
@@ -130,9 +134,14 @@ impl Store {
         ensures version { IfOk result (λ store. version_in store ≡ 2) }
         ensures last { IfOk result (λ store. last_in store ≡ Some sequence) }
         ensures unshut_store { IfOk result (λ store. is_shut store ≡ false) }
-        ensures seen { OnOk result (D.seen disk.new ≡ option_map (renewed_image (end_of (length (problem_in self)) (slot_size_in self)) (problem_in self) slot_size sequence bytes.now) (D.seen disk.old)) }
-        ensures renewed { OnOk result ((t : List ℕ) → D.seen disk.new ≡ Some t → stored t ≡ Held (renewed_state (problem_in self) slot_size sequence bytes.now)) }
-        ensures stops { is_shut self ≡ false → StopsFrom D.seen D.moment D.leaves disk.old disk.new (λ s c. stored c ≡ stored s ⊎ stored c ≡ Held (renewed_state (problem_in self) slot_size sequence bytes.now)) }
+        ensures seen { OnOk result (D.seen disk.new
+            ≡ option_map (renewed_image (end_of (length (problem_in self)) (slot_size_in self)) (problem_in self) slot_size sequence bytes.now)
+            (D.seen disk.old)) }
+        ensures renewed { OnOk result ((t : List ℕ) → D.seen disk.new ≡ Some t
+            → stored t ≡ Held (renewed_state (problem_in self) slot_size sequence bytes.now)) }
+        ensures stops { is_shut self ≡ false
+            → StopsFrom D.seen D.moment D.leaves disk.old disk.new
+            (λ s c. stored c ≡ stored s ⊎ stored c ≡ Held (renewed_state (problem_in self) slot_size sequence bytes.now)) }
         ensures memory { is_no_memory result ≡ true → disk.new ≡ disk.old }
         ensures untouched { is_shut self ≡ true → disk.new ≡ disk.old }
         ensures shuts { is_shut_fault result ≡ is_shut self }

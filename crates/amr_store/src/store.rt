@@ -20,7 +20,8 @@ pub struct Store {
 
 impl Store {
     ghost use Rattle.amr_store.specs.Next.{first_with, second_with, other_than};
-    ghost use Rattle.amr_store.specs.Stands.{problem_in, slot_size_in, version_in, last_in, next_in, gate_in, slot_in, sequence_in, first_in, second_in, base_in, is_shut, shut_of};
+    ghost use Rattle.amr_store.specs.Stands.{problem_in, slot_size_in, version_in, last_in, next_in, gate_in, slot_in};
+    ghost use Rattle.amr_store.specs.Stands.{sequence_in, first_in, second_in, base_in, is_shut, shut_of};
 
     /// The problem bytes.
     pub fn problem(&self) -> &[u8]

@@ -53,7 +53,8 @@ fn word_at(words: &[u64], per_row: usize, height: usize, k: usize, j: usize) -> 
 fn two_rows(words: &[u64], per_row: usize, height: usize, k: usize, j: usize) -> u64
     requires count { length words.now ≡ height * per_row }
     requires few { j < 67108864 }
-    ensures { (b : ℕ) → b < 64 → bit result b ≡ (there per_row height words.now (64 * k + b) (2 * j) || there per_row height words.now (64 * k + b) (2 * j + 1)) }
+    ensures { (b : ℕ) → b < 64 → bit result b
+        ≡ (there per_row height words.now (64 * k + b) (2 * j) || there per_row height words.now (64 * k + b) (2 * j + 1)) }
 {
     let low = word_at(words, per_row, height, k, 2 * j);
     let high = word_at(words, per_row, height, k, 2 * j + 1);

@@ -206,7 +206,8 @@ pub fn grow_once(
     requires room { length spare.old.items ≡ length words.old.items }
     ensures rows { AreRows width height words.new.items }
     ensures room { length spare.new.items ≡ length words.new.items }
-    ensures bits { (i j : ℕ) → i < width → j < height → bit_of (words_for width) words.new.items i j ≡ grown_bit wrap_x wrap_y width height words.old.items i j }
+    ensures bits { (i j : ℕ) → i < width → j < height
+        → bit_of (words_for width) words.new.items i j ≡ grown_bit wrap_x wrap_y width height words.old.items i j }
 {
     let per_row = rows::words_for(width as u32) as usize;
     widen(words, spare, per_row, width, height, wrap_x);
@@ -227,7 +228,8 @@ pub fn grow_by(
     requires room { length spare.old.items ≡ length words.old.items }
     ensures rows { AreRows (width b.now) (height b.now) words.new.items }
     ensures room { length spare.new.items ≡ length words.new.items }
-    ensures cells { (c : Cell) → has (tag_set b.now wrap_x wrap_y words.new.items) c ≡ (holds b.now c && is_near_tag (tag_set b.now wrap_x wrap_y words.old.items) n c) }
+    ensures cells { (c : Cell) → has (tag_set b.now wrap_x wrap_y words.new.items) c
+        ≡ (holds b.now c && is_near_tag (tag_set b.now wrap_x wrap_y words.old.items) n c) }
 {
     let width = b.width() as usize;
     let height = b.height() as usize;

@@ -87,7 +87,9 @@ pub fn set_bit(words: &mut Vec<u64>, b: &Bx, c: Cell)
     requires near { IsNear b.now }
     requires inside { IsTrue (holds b.now c) }
     requires count { length words.old.items ≡ height b.now * words_for (width b.now) }
-    ensures { words.new.items ≡ slice_set words.old.items (row_in b.now c * words_for (width b.now) + column_in b.now c / 64) (bit_or (slice_index words.old.items (row_in b.now c * words_for (width b.now) + column_in b.now c / 64)) (1 * 2 ^ (column_in b.now c % 64) % 2 ^ 64)) }
+    ensures { words.new.items ≡ slice_set words.old.items (row_in b.now c * words_for (width b.now) + column_in b.now c / 64)
+        (bit_or (slice_index words.old.items (row_in b.now c * words_for (width b.now) + column_in b.now c / 64))
+        (1 * 2 ^ (column_in b.now c % 64) % 2 ^ 64)) }
 {
     let (word, at) = place(b, c);
     words[word] = words[word] | (1 << at);

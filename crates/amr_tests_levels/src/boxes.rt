@@ -26,7 +26,8 @@ fn columns(west: i32, east: i32, north: u8) -> Bx
 pub(crate) fn side_by_side(west: u8, middle: u8, east: u8, north: u8) -> [Bx; 2]
     requires left { west ≤ middle }
     requires right { middle < east }
-    ensures are { result ≡ extent (cell (pos west) (pos 0)) (cell (pos middle) (pos north)) ∷ extent (cell (pos (middle + 1)) (pos 0)) (cell (pos east) (pos north)) ∷ [] }
+    ensures are { result ≡ extent (cell (pos west) (pos 0)) (cell (pos middle) (pos north))
+        ∷ extent (cell (pos (middle + 1)) (pos 0)) (cell (pos east) (pos north)) ∷ [] }
     ensures apart { ArePairwiseApart result }
     ensures near { AreNear result }
 {

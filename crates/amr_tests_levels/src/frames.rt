@@ -68,7 +68,8 @@ fn meet(a: &Patch, b: &Patch) -> bool
 /// Whether a patch has a cell in common with an earlier one.
 fn meets_earlier(patches: &[Patch], k: usize) -> bool
     requires { k < length patches.now }
-    ensures { result ≡ false → (j : ℕ) (d : Patch) → j < k → (c : Cell) → IsTrue (holds (box (slice_index_or patches.now j d)) c) → IsTrue (holds (box (slice_index_or patches.now k d)) c) → ⊥ }
+    ensures { result ≡ false → (j : ℕ) (d : Patch) → j < k → (c : Cell) → IsTrue (holds (box (slice_index_or patches.now j d)) c)
+        → IsTrue (holds (box (slice_index_or patches.now k d)) c) → ⊥ }
 {
     for j in 0..k {
         if meet(&patches[j], &patches[k]) {

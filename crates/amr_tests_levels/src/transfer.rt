@@ -36,7 +36,9 @@ pub(crate) fn put(level: &mut Level, c: Cell, m: u8)
 
 /// A coarse level of the boxes (0, 0) to (0, 0) and (1, 0) to (3, 0), with the masses 7, 2, 0 and 5.
 fn coarse_level(alloc: Global) -> Result<Level, NoMemory>
-    ensures { IfOk result (λ l. (c : Cell) → is_some ((level_of l).masses c) ≡ in_boxes (extent (cell (pos 0) (pos 0)) (cell (pos 0) (pos 0)) ∷ extent (cell (pos 1) (pos 0)) (cell (pos 3) (pos 0)) ∷ []) c) }
+    ensures { IfOk result (λ l. (c : Cell)
+        → is_some ((level_of l).masses c)
+        ≡ in_boxes (extent (cell (pos 0) (pos 0)) (cell (pos 0) (pos 0)) ∷ extent (cell (pos 1) (pos 0)) (cell (pos 3) (pos 0)) ∷ []) c) }
 {
     let boxes = side_by_side(0, 0, 3, 0);
     let mut level = empty_level(alloc, &boxes)?;
@@ -49,7 +51,9 @@ fn coarse_level(alloc: Global) -> Result<Level, NoMemory>
 /// A fine level of the boxes (0, 0) to (1, 1) and (2, 0) to (5, 1), without masses.
 fn fine_level(alloc: Global) -> Result<Level, NoMemory>
     ensures filled { IfOk result (λ l. (c : Cell) → is_some ((level_of l).masses c) ≡ in_boxes (level_of l).boxes c) }
-    ensures cells { IfOk result (λ l. (c : Cell) → is_some ((level_of l).masses c) ≡ in_boxes (extent (cell (pos 0) (pos 0)) (cell (pos 1) (pos 1)) ∷ extent (cell (pos 2) (pos 0)) (cell (pos 5) (pos 1)) ∷ []) c) }
+    ensures cells { IfOk result (λ l. (c : Cell)
+        → is_some ((level_of l).masses c)
+        ≡ in_boxes (extent (cell (pos 0) (pos 0)) (cell (pos 1) (pos 1)) ∷ extent (cell (pos 2) (pos 0)) (cell (pos 5) (pos 1)) ∷ []) c) }
 {
     let boxes = side_by_side(0, 1, 5, 1);
     let level = empty_level(alloc, &boxes)?;

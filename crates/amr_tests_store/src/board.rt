@@ -35,7 +35,8 @@ impl Piece for Simple {
 }
 
 fn two_pieces(alloc: Global) -> Result<Vec<Simple>, AllocError>
-    ensures { IfOk result (λ v. v.items ≡ record { task = 0; value = 0; amount = 3; done = false } ∷ record { task = 1; value = 9; amount = 5; done = false } ∷ []) }
+    ensures { IfOk result (λ v. v.items
+        ≡ record { task = 0; value = 0; amount = 3; done = false } ∷ record { task = 1; value = 9; amount = 5; done = false } ∷ []) }
 {
     let mut pieces = Vec::new(alloc);
     pieces.push(Simple {
@@ -103,7 +104,8 @@ fn look(
     requires seat { IsSeatOf board.now seat.old }
     requires place { place < board.now.plan.places }
     ensures seat { IsSeatOf board.now seat.new }
-    ensures same { ((view seat.new).tasks ≡ (view seat.old).tasks) × ((view seat.new).share ≡ (view seat.old).share) × ((view seat.new).past ≡ (view seat.old).past) }
+    ensures same { ((view seat.new).tasks ≡ (view seat.old).tasks) × ((view seat.new).share ≡ (view seat.old).share)
+        × ((view seat.new).past ≡ (view seat.old).past) }
 {
     let found = board.face(seat, place);
     assert!(rt; found == want);

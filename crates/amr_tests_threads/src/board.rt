@@ -133,7 +133,9 @@ impl Job<Counted> for RollCall {
 }
 
 pub(crate) fn five_pieces(alloc: Global) -> Result<Vec<Counted>, AllocError>
-    ensures { IfOk result (λ v. v.items ≡ record { task = 0; done = false } ∷ record { task = 1; done = false } ∷ record { task = 2; done = false } ∷ record { task = 3; done = false } ∷ record { task = 4; done = false } ∷ []) }
+    ensures { IfOk result (λ v. v.items
+        ≡ record { task = 0; done = false } ∷ record { task = 1; done = false } ∷ record { task = 2; done = false } ∷ record { task = 3; done = false }
+        ∷ record { task = 4; done = false } ∷ []) }
 {
     let done = false;
     let mut pieces = Vec::new(alloc);

@@ -94,7 +94,8 @@ fn give_in_patch(patch: &mut Patch, c: Cell, sums: &[u32]) -> usize
     ensures some { 0 < result }
     ensures within { result ≤ length sums.now }
     ensures inside { (c.x +ℤ pos result) ≤ℤ ((box patch.old).hi.x +ℤ pos 1) }
-    ensures given { (mass : Cell → ℕ) → ((k : ℕ) → k < length sums.now → slice_index sums.now k ≡ mass (cell (c.x +ℤ pos k) c.y)) → IsGiven (holds (span c result)) mass patch.old patch.new }
+    ensures given { (mass : Cell → ℕ) → ((k : ℕ) → k < length sums.now → slice_index sums.now k ≡ mass (cell (c.x +ℤ pos k) c.y))
+        → IsGiven (holds (span c result)) mass patch.old patch.new }
 {
     let count = sums.len().min(cells_from(&patch.bx(), c));
     give(patch, c, &sums[..count]);
@@ -129,7 +130,8 @@ fn give_span(patches: &mut [Patch], order: Order, near: &mut Near, c: Cell, sums
     requires some { 0 < length sums.now }
     ensures some { 0 < result }
     ensures within { result ≤ length sums.now }
-    ensures given { (mass : Cell → ℕ) → ((k : ℕ) → k < length sums.now → slice_index sums.now k ≡ mass (cell (c.x +ℤ pos k) c.y)) → Pairwise (IsGiven (holds (span c result)) mass) patches.old patches.new }
+    ensures given { (mass : Cell → ℕ) → ((k : ℕ) → k < length sums.now → slice_index sums.now k ≡ mass (cell (c.x +ℤ pos k) c.y))
+        → Pairwise (IsGiven (holds (span c result)) mass) patches.old patches.new }
 {
     near.turn_to(patches, c);
     match find_near(patches, order, &mut near.last, c) {
@@ -146,7 +148,8 @@ fn give_row(patches: &mut [Patch], order: Order, near: &mut Near, c: Cell, sums:
     requires to { c.x <ℤ pos 67108865 }
     requires few { length sums.now ≤ 67108864 }
     requires there { (k : ℕ) → k < length sums.now → IsTrue (in_patches patches.old (cell (c.x +ℤ pos k) c.y)) }
-    ensures { (mass : Cell → ℕ) → ((k : ℕ) → k < length sums.now → slice_index sums.now k ≡ mass (cell (c.x +ℤ pos k) c.y)) → Pairwise (IsGiven (holds (span c (length sums.now))) mass) patches.old patches.new }
+    ensures { (mass : Cell → ℕ) → ((k : ℕ) → k < length sums.now → slice_index sums.now k ≡ mass (cell (c.x +ℤ pos k) c.y))
+        → Pairwise (IsGiven (holds (span c (length sums.now))) mass) patches.old patches.new }
 {
     let mut done = 0;
     while done < sums.len() {
@@ -191,7 +194,8 @@ fn give_by_rows(patches: &mut [Patch], order: Order, near: &mut Near, b: &Bx, su
     requires near { IsNear b.now }
     requires count { length sums.now ≡ width b.now * height b.now }
     requires there { (d : Cell) → IsTrue (holds b.now d) → IsTrue (in_patches patches.old d) }
-    ensures { (mass : Cell → ℕ) → AreByRows mass b.now.lo (width b.now) (height b.now) sums.now → Pairwise (IsGiven (holds b.now) mass) patches.old patches.new }
+    ensures { (mass : Cell → ℕ) → AreByRows mass b.now.lo (width b.now) (height b.now) sums.now
+        → Pairwise (IsGiven (holds b.now) mass) patches.old patches.new }
 {
     let count = b.width() as usize;
     let mut done = 0;
@@ -209,7 +213,8 @@ fn give_box(patches: &mut [Patch], order: Order, near: &mut Near, b: &Bx, sums: 
     requires near { IsNear b.now }
     requires count { length sums.now ≡ width b.now * height b.now }
     requires there { (d : Cell) → IsTrue (holds b.now d) → IsTrue (in_patches patches.old d) }
-    ensures { (mass : Cell → ℕ) → AreByRows mass b.now.lo (width b.now) (height b.now) sums.now → Pairwise (IsGiven (holds b.now) mass) patches.old patches.new }
+    ensures { (mass : Cell → ℕ) → AreByRows mass b.now.lo (width b.now) (height b.now) sums.now
+        → Pairwise (IsGiven (holds b.now) mass) patches.old patches.new }
 {
     match holder_of(patches, order, &mut near.last, b) {
         Some(j) => give_in_one(&mut patches[j], b, sums),

@@ -97,7 +97,8 @@ fn fill_in_threads<R: Threads + Sync>(
     let size = patches.len().div_ceil(threads.max(1)).max(1);
     let part = move |_: usize, part: &mut [Patch]|
         requires { ((c : Cell) → IsTrue (in_patches part.now c) → IsSome ((level_of coarse.now).masses (parent c))) × ArePatchesApart old.now }
-        ensures { Pairwise KeepsFrameAndFluxes part.entry.now part.exit.now × All (HasMasses (kept_or_split (level_of coarse.entry.now).masses (masses_in old.entry.now))) part.exit.now }
+        ensures { Pairwise KeepsFrameAndFluxes part.entry.now part.exit.now
+            × All (HasMasses (kept_or_split (level_of coarse.entry.now).masses (masses_in old.entry.now))) part.exit.now }
     { fill_all(coarse, old, part) };
     for_each_chunk_mut(rt, patches, size, &part);
 }

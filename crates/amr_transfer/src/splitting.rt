@@ -171,10 +171,13 @@ fn patches_before(old: Option<&Level>) -> &[Patch]
 pub fn split_into(coarse: &Level, old_fine: Option<&Level>, fine: &mut Level)
     requires filled { (c : Cell) → is_some ((level_of fine.old).masses c) ≡ in_boxes (level_of fine.old).boxes c }
     requires parents { (c : Cell) → IsSome ((level_of fine.old).masses c) → IsSome ((level_of coarse.now).masses (parent c)) }
-    ensures masses { (level_of fine.new).masses ≡ refilled (level_of coarse.now).masses (masses_before (option_copied old_fine.entry)) (level_of fine.old).boxes }
+    ensures masses { (level_of fine.new).masses
+        ≡ refilled (level_of coarse.now).masses (masses_before (option_copied old_fine.entry)) (level_of fine.old).boxes }
     ensures boxes { (level_of fine.new).boxes ≡ (level_of fine.old).boxes }
     ensures patches { Pairwise KeepsFrameAndFluxes (patches_of fine.old) (patches_of fine.new) }
-    ensures sync { (c : Cell) → HasChildren (level_of fine.old).masses c → IsInSync (level_of coarse.now).masses (masses_before (option_copied old_fine.entry)) c → children_mass (level_of fine.new).masses c ≡ mass_of (level_of coarse.now).masses c }
+    ensures sync { (c : Cell) → HasChildren (level_of fine.old).masses c
+        → IsInSync (level_of coarse.now).masses (masses_before (option_copied old_fine.entry)) c
+        → children_mass (level_of fine.new).masses c ≡ mass_of (level_of coarse.now).masses c }
 {
     split_by(&Alone, coarse, old_fine, fine);
 }
@@ -184,10 +187,13 @@ pub fn split_by<S: Sharing>(sharing: &S, coarse: &Level, old_fine: Option<&Level
     requires shared { S.may_share sharing.now }
     requires filled { (c : Cell) → is_some ((level_of fine.old).masses c) ≡ in_boxes (level_of fine.old).boxes c }
     requires parents { (c : Cell) → IsSome ((level_of fine.old).masses c) → IsSome ((level_of coarse.now).masses (parent c)) }
-    ensures masses { (level_of fine.new).masses ≡ refilled (level_of coarse.now).masses (masses_before (option_copied old_fine.entry)) (level_of fine.old).boxes }
+    ensures masses { (level_of fine.new).masses
+        ≡ refilled (level_of coarse.now).masses (masses_before (option_copied old_fine.entry)) (level_of fine.old).boxes }
     ensures boxes { (level_of fine.new).boxes ≡ (level_of fine.old).boxes }
     ensures patches { Pairwise KeepsFrameAndFluxes (patches_of fine.old) (patches_of fine.new) }
-    ensures sync { (c : Cell) → HasChildren (level_of fine.old).masses c → IsInSync (level_of coarse.now).masses (masses_before (option_copied old_fine.entry)) c → children_mass (level_of fine.new).masses c ≡ mass_of (level_of coarse.now).masses c }
+    ensures sync { (c : Cell) → HasChildren (level_of fine.old).masses c
+        → IsInSync (level_of coarse.now).masses (masses_before (option_copied old_fine.entry)) c
+        → children_mass (level_of fine.new).masses c ≡ mass_of (level_of coarse.now).masses c }
 {
     let order = fine.order();
     let mut patches = fine.take_patches();

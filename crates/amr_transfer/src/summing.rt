@@ -51,7 +51,8 @@ fn sum_in_patch(patch: &mut Patch, c: Cell, children: Children<'_>, room: &mut [
     ensures some { 0 < result }
     ensures within { 2 * result ≤ length children.entry.lower.now }
     ensures inside { (c.x +ℤ pos result) ≤ℤ ((box patch.old).hi.x +ℤ pos 1) }
-    ensures given { (mass : Cell → ℕ) → AreFours mass c children.entry.lower.now children.entry.upper.now → IsGiven (holds (span c result)) mass patch.old patch.new }
+    ensures given { (mass : Cell → ℕ) → AreFours mass c children.entry.lower.now children.entry.upper.now
+        → IsGiven (holds (span c result)) mass patch.old patch.new }
 {
     let count = (children.lower.len() / 2)
         .min(room.len())
@@ -80,7 +81,8 @@ fn sum_span(
     requires room { length room.old ≡ 256 }
     ensures some { 0 < result }
     ensures within { 2 * result ≤ length children.entry.lower.now }
-    ensures given { (mass : Cell → ℕ) → AreFours mass c children.entry.lower.now children.entry.upper.now → Pairwise (IsGiven (holds (span c result)) mass) patches.old patches.new }
+    ensures given { (mass : Cell → ℕ) → AreFours mass c children.entry.lower.now children.entry.upper.now
+        → Pairwise (IsGiven (holds (span c result)) mass) patches.old patches.new }
 {
     match find_near(patches, order, near, c) {
         None => unreachable!(),

@@ -134,8 +134,10 @@ fn through_ends(
     requires ready { AreReadyToStep p.now 0 (masses_in levels.now) no_masses }
     requires low { IsFace p.now 0 low }
     requires high { IsFace p.now 0 high }
-    ensures inflow { IfOk result (λ t. let e = (step p.now 0 (masses_in levels.now) no_masses).fluxes in t.inflow ≡ at_least_zero (e low) + below_zero (e high)) }
-    ensures outflow { IfOk result (λ t. let e = (step p.now 0 (masses_in levels.now) no_masses).fluxes in t.outflow ≡ below_zero (e low) + at_least_zero (e high)) }
+    ensures inflow { IfOk result (λ t. let e = (step p.now 0 (masses_in levels.now) no_masses).fluxes in t.inflow
+        ≡ at_least_zero (e low) + below_zero (e high)) }
+    ensures outflow { IfOk result (λ t. let e = (step p.now 0 (masses_in levels.now) no_masses).fluxes in t.outflow
+        ≡ below_zero (e low) + at_least_zero (e high)) }
     ensures inflow_small { IfOk result (λ t. t.inflow ≤ 2 ^ 51) }
     ensures outflow_small { IfOk result (λ t. t.outflow ≤ 2 ^ 51) }
 {
@@ -197,8 +199,10 @@ fn through_axis(
 ) -> Result<Through, NoMemory>
     requires few { length levels.now ≤ 5 }
     requires ready { AreReadyToStep p.now 0 (masses_in levels.now) no_masses }
-    ensures inflow { IfOk result (λ t. t.inflow ≡ if_open (sides_of p.now axis) (through_axis p.now axis at_least_zero below_zero (step p.now 0 (masses_in levels.now) no_masses).fluxes)) }
-    ensures outflow { IfOk result (λ t. t.outflow ≡ if_open (sides_of p.now axis) (through_axis p.now axis below_zero at_least_zero (step p.now 0 (masses_in levels.now) no_masses).fluxes)) }
+    ensures inflow { IfOk result (λ t. t.inflow
+        ≡ if_open (sides_of p.now axis) (through_axis p.now axis at_least_zero below_zero (step p.now 0 (masses_in levels.now) no_masses).fluxes)) }
+    ensures outflow { IfOk result (λ t. t.outflow
+        ≡ if_open (sides_of p.now axis) (through_axis p.now axis below_zero at_least_zero (step p.now 0 (masses_in levels.now) no_masses).fluxes)) }
     ensures inflow_small { IfOk result (λ t. t.inflow ≤ 2 ^ 59) }
     ensures outflow_small { IfOk result (λ t. t.outflow ≤ 2 ^ 59) }
 {

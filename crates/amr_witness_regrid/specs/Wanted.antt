@@ -16,7 +16,8 @@ use Rattle.amr_witness.specs.Maps.{levels_of}
 -- whether a cell's neighbour at an offset is in the domain, and its value differs by the threshold or more
 abbrev pub is_steep : Problem → ℕ → Masses → Masses → Cell → Cell → Bool
 is_steep p l m coarse c o =
-    in_domain (domain p l) (home_cell (domain p l) (moved c o)) && differs_by (slice_index p.tag l) (value_at p l m coarse c) (value_at p l m coarse (moved c o))
+    in_domain (domain p l) (home_cell (domain p l) (moved c o))
+    && differs_by (slice_index p.tag l) (value_at p l m coarse c) (value_at p l m coarse (moved c o))
 
 abbrev pub is_wanted_by : Problem → ℕ → Masses → Masses → List Extent → Cell → Bool
 is_wanted_by p l m coarse finer c = is_grown p l (is_tagged_by p l m coarse) c || is_projected (domain p (l + 1)) finer c

@@ -25,7 +25,8 @@ use std::collections::BTreeMap;
 /// Gives the cells of a box the masses that they have in a level.
 fn copy_box(alloc: Global, masses: &mut Masses, level: &Level, b: &Bx) -> Result<(), NoMemory>
     requires { IsNear b.now }
-    ensures { OnOk result ((q : Cell) → maps.masses_of masses.new q ≡ cond (holds b.now q) (Some (mass_of (level_of level.now).masses q)) (maps.masses_of masses.old q)) }
+    ensures { OnOk result ((q : Cell)
+        → maps.masses_of masses.new q ≡ cond (holds b.now q) (Some (mass_of (level_of level.now).masses q)) (maps.masses_of masses.old q)) }
 {
     let cells = cells_of(alloc, b)?;
     for c in cells.as_slice() {

@@ -145,7 +145,9 @@ fn wanted_blocks(
     requires inside { HasCellsInside p.now here.level (masses_of here.masses.now) }
     requires offsets { AreOffsets p.now near.now }
     ensures bx { IfOk result (λ t. t.bx ≡ domain_box (blocks_of p.now here.entry.level)) }
-    ensures cells { IfOk result (λ t. (c : Cell) → has t c ≡ (holds (domain_box (blocks_of p.now here.entry.level)) c && is_wanted_block p.now here.entry.level (masses_of here.entry.masses.now) (old_of here.entry.coarse) finer.now c)) }
+    ensures cells { IfOk result (λ t. (c : Cell)
+        → has t c ≡ (holds (domain_box (blocks_of p.now here.entry.level)) c
+        && is_wanted_block p.now here.entry.level (masses_of here.entry.masses.now) (old_of here.entry.coarse) finer.now c)) }
 {
     let whole = blocks_of(p, here.level);
     let mut tags = Tags::make(alloc, whole, false, false)?;

@@ -67,13 +67,15 @@ pub record IsReadyAlone (w : Work) : Type 0 where
 pub record HasBorderPlanned (plan : PlanOf) (w : Work) : Type 0 where
   pub places : All (λ place. place < plan.places) w.body.value.workspace.layout.border.items
   pub sizes : (k : ℕ) (f : Face) → k < length w.body.value.workspace.layout.border.items
-      → planned_face plan (slice_index w.body.value.workspace.layout.border.items k) ≡ unsigned_abs (plain w (slice_index_or (border_faces w.body.value.patch) k f)) + 1
+      → planned_face plan (slice_index w.body.value.workspace.layout.border.items k)
+      ≡ unsigned_abs (plain w (slice_index_or (border_faces w.body.value.patch) k f)) + 1
 
 -- and so have the places of a closed board
 pub record HasBorderIn (faces : List ℕ) (w : Work) : Type 0 where
   pub places : All (λ place. place < length faces) w.body.value.workspace.layout.border.items
   pub sizes : (k : ℕ) (f : Face) → k < length w.body.value.workspace.layout.border.items
-      → slice_index faces (slice_index w.body.value.workspace.layout.border.items k) ≡ unsigned_abs (plain w (slice_index_or (border_faces w.body.value.patch) k f)) + 1
+      → slice_index faces (slice_index w.body.value.workspace.layout.border.items k)
+      ≡ unsigned_abs (plain w (slice_index_or (border_faces w.body.value.patch) k f)) + 1
 
 -- a raw piece of this problem that is ready, whose border the plan has
 pub record MayBegin (p : Problem) (plan : PlanOf) (w : Work) : Type 0 where

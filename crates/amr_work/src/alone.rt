@@ -25,7 +25,8 @@ fn add_through(patch: &Patch, flows: &[FlowTo], words: &mut [u64])
     requires words { All (λ x. x.word < length words.old) flows.now }
     requires fits { (word : ℕ) → slice_index words.old word + word_total (λ (f : Face). unsigned_abs (flux_in patch.now f)) word flows.now < 2 ^ 63 }
     ensures count { length words.new ≡ length words.old }
-    ensures totals { (word : ℕ) → slice_index words.new word ≡ slice_index words.old word + word_total (λ (f : Face). unsigned_abs (flux_in patch.now f)) word flows.now }
+    ensures totals { (word : ℕ) → slice_index words.new word
+        ≡ slice_index words.old word + word_total (λ (f : Face). unsigned_abs (flux_in patch.now f)) word flows.now }
 {
     for x in flows {
         words[x.word as usize] += patch.flux(x.face).unsigned_abs();
@@ -47,13 +48,15 @@ pub fn add_flows(
     requires small { (c : Cell) → IsTrue (in_reach (box patch.old) c) → value_in patch.old c < 2 ^ 31 }
     requires flows { AreOwnFlows patch.old flows.now }
     requires words { All (λ x. x.word < length words.old) flows.now }
-    requires fits { (word : ℕ) → slice_index words.old word + word_total (λ (f : Face). unsigned_abs (flux_beside p.now l patch.old f)) word flows.now < 2 ^ 63 }
+    requires fits { (word : ℕ) → slice_index words.old word + word_total (λ (f : Face). unsigned_abs (flux_beside p.now l patch.old f)) word flows.now
+        < 2 ^ 63 }
     ensures of_box { box patch.new ≡ box patch.old }
     ensures values { SameValues patch.old patch.new }
     ensures marks { SameMarks patch.old patch.new }
     ensures room { widest room.new ≡ widest room.old }
     ensures count { length words.new ≡ length words.old }
-    ensures totals { (word : ℕ) → slice_index words.new word ≡ slice_index words.old word + word_total (λ (f : Face). unsigned_abs (flux_beside p.now l patch.old f)) word flows.now }
+    ensures totals { (word : ℕ) → slice_index words.new word
+        ≡ slice_index words.old word + word_total (λ (f : Face). unsigned_abs (flux_beside p.now l patch.old f)) word flows.now }
 {
     if flows.is_empty() {
         return;
@@ -76,13 +79,16 @@ pub fn step_alone(
     requires flows { AreOwnFlows patch.old flows.now }
     requires room { width (box patch.old) ≤ widest room.old }
     requires words { All (λ x. x.word < length words.old) flows.now }
-    requires fits { (word : ℕ) → slice_index words.old word + word_total (λ (f : Face). unsigned_abs (flux_beside p.now l patch.old f)) word flows.now < 2 ^ 63 }
-    ensures masses { (c : Cell) → IsTrue (holds (box patch.old) c) → pos (mass_in patch.new c) ≡ pos (mass_in patch.old c) +ℤ net (flux_beside p.now l patch.old) c }
+    requires fits { (word : ℕ) → slice_index words.old word + word_total (λ (f : Face). unsigned_abs (flux_beside p.now l patch.old f)) word flows.now
+        < 2 ^ 63 }
+    ensures masses { (c : Cell) → IsTrue (holds (box patch.old) c)
+        → pos (mass_in patch.new c) ≡ pos (mass_in patch.old c) +ℤ net (flux_beside p.now l patch.old) c }
     ensures of_box { box patch.new ≡ box patch.old }
     ensures marks { SameMarks patch.old patch.new }
     ensures room { widest room.new ≡ widest room.old }
     ensures count { length words.new ≡ length words.old }
-    ensures totals { (word : ℕ) → slice_index words.new word ≡ slice_index words.old word + word_total (λ (f : Face). unsigned_abs (flux_beside p.now l patch.old f)) word flows.now }
+    ensures totals { (word : ℕ) → slice_index words.new word
+        ≡ slice_index words.old word + word_total (λ (f : Face). unsigned_abs (flux_beside p.now l patch.old f)) word flows.now }
 {
     add_flows(p, l, patch, flows, room, words);
     update_alone(p, l, patch, room);

@@ -39,7 +39,8 @@ pub(crate) fn make_posts(board: &Board<Work>, seat: &mut Seat<Work>, work: &Work
     requires fresh { IsFresh (view seat.old) }
     requires swept { work.now.stage ≡ Swept }
     requires posts { HasOwnPosts work.now.body.value.patch work.now.body.value.workspace.layout }
-    requires small { (f : Face) → IsTrue (is_edge_face (box work.now.body.value.patch) f) → IsTrue (owns work.now.body.value.patch f) → unsigned_abs (flux_in work.now.body.value.patch f) < 2 ^ 31 }
+    requires small { (f : Face) → IsTrue (is_edge_face (box work.now.body.value.patch) f) → IsTrue (owns work.now.body.value.patch f)
+        → unsigned_abs (flux_in work.now.body.value.patch f) < 2 ^ 31 }
     requires puts { puts_of board.now.plan (current (view seat.old)).task ≡ puts_of_work work.now }
     requires adds { adds_of board.now.plan (current (view seat.old)).task ≡ adds_of_work work.now }
     ensures seat { IsSeatOf board.now seat.new }

@@ -64,7 +64,8 @@ impl<P: Piece, J: Job<P>, G: Gate> Helper<P, J, G> {
     /// Posts an order.
     pub(crate) fn post(&mut self, order: Order<P>)
         requires free { self.old.asker ≡ end_of (arc_value self.old.mailbox) Free }
-        requires may { MayAsk (J.ready (arc_value self.old.mailbox).key.job.value) (J.may_complete (arc_value self.old.mailbox).key.job.value) (G.admits (arc_value self.old.mailbox).key.gate.value (arc_value self.old.mailbox).key.number) order }
+        requires may { MayAsk (J.ready (arc_value self.old.mailbox).key.job.value) (J.may_complete (arc_value self.old.mailbox).key.job.value)
+            (G.admits (arc_value self.old.mailbox).key.gate.value (arc_value self.old.mailbox).key.number) order }
         ensures { self.new ≡ record { mailbox = self.old.mailbox; asker = end_of (arc_value self.old.mailbox) (Busy order) } }
     {
         self.mailbox.post(&mut self.asker, order);

@@ -26,7 +26,8 @@ pub trait Job<P: Piece> {
         requires fresh { IsFresh (view seat.old) }
         requires piece { get_elem? board.now.pieces (current (view seat.old)).task ≡ some piece }
         requires task { P.task piece ≡ (current (view seat.old)).task }
-        requires posts { (puts_of board.now.plan (current (view seat.old)).task ≡ P.puts piece) × (adds_of board.now.plan (current (view seat.old)).task ≡ P.adds piece) }
+        requires posts { (puts_of board.now.plan (current (view seat.old)).task ≡ P.puts piece)
+            × (adds_of board.now.plan (current (view seat.old)).task ≡ P.adds piece) }
         requires ready { ready self.now board.now.plan piece }
         ensures seat { IsSeatOf board.now seat.new }
         ensures worked { HasWorked board.now.plan (view seat.old) (view seat.new) }

@@ -62,7 +62,8 @@ fn run_workers<R: Threads + Sync, P: Piece + Send, J: Job<P> + Sync, G: Gate + S
     requires numbers { crew.first + crew.workers ≤ 64 }
     requires share { crew.workers ≤ (view seat).share }
     requires ready { (t : ℕ) (p : P) → get_elem? board.now.pieces t ≡ some p → J.ready job.now board.now.plan p }
-    requires gate { (worker task : ℕ) → crew.first ≤ worker → worker < crew.first + crew.workers → task < length board.now.plan.tasks → G.admits gate.now worker task }
+    requires gate { (worker task : ℕ) → crew.first ≤ worker → worker < crew.first + crew.workers → task < length board.now.plan.tasks
+        → G.admits gate.now worker task }
     ensures seat { IsSeatOf board.now result }
     ensures none { HoldsNone (view result) }
     ensures past { (view result).past ≡ true }
@@ -84,11 +85,19 @@ fn run_workers<R: Threads + Sync, P: Piece + Send, J: Job<P> + Sync, G: Gate + S
     let (mut one, two) = join(
         rt,
         move || -> Seat<P>
-            requires { IsSync R.row × IsSeatOf board.now seat × HoldsNone (view seat) × ((view seat).past ≡ false) × (1 ≤ half.workers) × (half.first + half.workers ≤ 64) × (half.workers ≤ (view seat).share) × ((t : ℕ) (p : P) → get_elem? board.now.pieces t ≡ some p → J.ready job.now board.now.plan p) × ((worker task : ℕ) → half.first ≤ worker → worker < half.first + half.workers → task < length board.now.plan.tasks → G.admits gate.now worker task) }
+            requires { IsSync R.row × IsSeatOf board.now seat × HoldsNone (view seat) × ((view seat).past ≡ false) × (1 ≤ half.workers)
+                × (half.first + half.workers ≤ 64) × (half.workers ≤ (view seat).share)
+                × ((t : ℕ) (p : P) → get_elem? board.now.pieces t ≡ some p → J.ready job.now board.now.plan p)
+                × ((worker task : ℕ) → half.first ≤ worker → worker < half.first + half.workers → task < length board.now.plan.tasks
+                → G.admits gate.now worker task) }
             ensures { IsSeatOf board.entry.now result × HoldsNone (view result) × ((view result).past ≡ true) × ((view result).share ≡ (view seat).share) }
         { run_workers(rt, board, seat, job, gate, half) },
         move || -> Seat<P>
-            requires { IsSync R.row × IsSeatOf board.now other × HoldsNone (view other) × ((view other).past ≡ false) × (1 ≤ more.workers) × (more.first + more.workers ≤ 64) × (more.workers ≤ (view other).share) × ((t : ℕ) (p : P) → get_elem? board.now.pieces t ≡ some p → J.ready job.now board.now.plan p) × ((worker task : ℕ) → more.first ≤ worker → worker < more.first + more.workers → task < length board.now.plan.tasks → G.admits gate.now worker task) }
+            requires { IsSync R.row × IsSeatOf board.now other × HoldsNone (view other) × ((view other).past ≡ false) × (1 ≤ more.workers)
+                × (more.first + more.workers ≤ 64) × (more.workers ≤ (view other).share)
+                × ((t : ℕ) (p : P) → get_elem? board.now.pieces t ≡ some p → J.ready job.now board.now.plan p)
+                × ((worker task : ℕ) → more.first ≤ worker → worker < more.first + more.workers → task < length board.now.plan.tasks
+                → G.admits gate.now worker task) }
             ensures { IsSeatOf board.entry.now result × HoldsNone (view result) × ((view result).past ≡ true) × ((view result).share ≡ (view other).share) }
         { run_workers(rt, board, other, job, gate, more) },
     );

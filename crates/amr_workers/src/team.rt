@@ -51,7 +51,8 @@ impl<'a, P: Piece, J: Job<P>, G: Gate> Model for Team<'a, P, J, G> {
 
     ghost view = { λ t. record { job = t.job.now; gate = t.gate.now; workers = 1 + length t.helpers.items } };
 
-    ghost invariant = { λ t. All (λ h. IsHelper t.job.now t.gate.now (1 + length t.helpers.items) (arc_value h.mailbox) h.asker) t.helpers.items × (length t.helpers.items < 64) };
+    ghost invariant = { λ t. All (λ h. IsHelper t.job.now t.gate.now (1 + length t.helpers.items) (arc_value h.mailbox) h.asker) t.helpers.items
+        × (length t.helpers.items < 64) };
 }
 
 impl<'a, P: Piece, J: Job<P>, G: Gate> Team<'a, P, J, G> {
