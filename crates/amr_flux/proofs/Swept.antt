@@ -1,20 +1,20 @@
 -- What a sweep's lists say of the faces on a patch's edges.
-use Rattle.std.proofs.Common.{◌≡◌, ℕ, ◌+◌, ◌<◌, ◌≤◌, ◌⊎◌, inl, inr, true, false, ℤ, pos, ◌+ℤ◌, sym, ap, subst, ◌∙◌, arith}
+use Rattle.std.proofs.Common.{◌≡◌, ℕ, ◌+◌, ◌<◌, ◌≤◌, ◌⊎◌, inl, inr, true, false, ℤ, pos, ◌+ℤ◌, List, sym, ap, subst, ◌∙◌, arith}
 use Rattle.std.specs.Prelude.{IsTrue, slice_index_or}
 use Rattle.std.proofs.lemmas.Int.{ints}
 use Rattle.std.proofs.lemmas.Bool.{cases_lt}
 use Rattle.amr_box.specs.declared.Face.{Face}
 use Rattle.amr_box.specs.declared.Axis.{Axis}
 use Rattle.amr_box.specs.declared.Axis.TheVariants.{X, Y}
-use Rattle.amr_box.specs.Cells.{Extent, IsNear, cell, extent, height, width}
+use Rattle.amr_box.specs.Cells.{Extent, cell, height, width}
 use Rattle.amr_box.proofs.Tests.{opposite}
 use Rattle.amr_def.specs.declared.problem.Problem.{Problem}
 use Rattle.amr_def.specs.Flux.{face}
 use Rattle.amr_patch.specs.declared.patches.Patch.{Patch}
-use Rattle.amr_patch.specs.Places.{is_edge_face, on_box, on_edge}
+use Rattle.amr_patch.specs.Places.{is_edge_face}
 use Rattle.amr_patch.specs.Patches.{box, flux_in}
 use Rattle.amr_patch.proofs.Edges.{at_end, x_edge, y_edge}
-use Rattle.amr_patch.proofs.Rows.{is_inside, sides}
+use Rattle.amr_patch.proofs.Rows.{sides}
 use Rattle.amr_faces.specs.Faces.{flux_beside, is_border, owns}
 use Rattle.amr_flux.specs.Tables.{Stands, mark, x_flux, x_marked, y_flux, y_marked}
 use Rattle.amr_faces.proofs.Places.{IsFaceAt, IsXFace, IsYFace, offset, owned_of_box, owned_unmarked, x_beyond, x_face_at, y_beyond, y_face_at}
@@ -51,28 +51,30 @@ module _ (p : Problem) (l : ℕ) (q new : Patch) (column row : ℕ) (s : Stands 
       let last : j ≡ height q.bx = omega (arith, ints, f.at.row, e, high) in
       y_high_here new x y i j (there x y i j f.at) (e ∙ ap (λ (b : Extent). b.hi.y +ℤ pos 1) (sym same)) ∙ is ∙ ap (λ n. y_flux p l column (width q.bx) q.data.value.values.items i n) (sym last) ∙ y_beside p l q column row s x y i j f.at f.column
 
--- a face on an edge is a face of the box
-pub edge_face : (b : Extent) (a : Axis) (x y : ℤ) → IsNear b → on_edge a b (cell x y) ≡ true → on_box a b (cell x y) ≡ true
-edge_face b X x y near e = at_each (at_end b.lo.x b.hi.x x (x_edge b (cell x y) e).ends)
-  where
-    at_each : (x ≡ b.lo.x) ⊎ (x ≡ b.hi.x +ℤ pos 1) → on_box X b (cell x y) ≡ true
-    at_each (inl at) = let edge = x_edge b (cell x y) e in is_inside (extent b.lo (cell (b.hi.x +ℤ pos 1) b.hi.y)) (cell x y) (record { west = omega (arith, ints, at); east = omega (arith, ints, at, near.wide); south = edge.from; north = edge.to })
-    at_each (inr at) = let edge = x_edge b (cell x y) e in is_inside (extent b.lo (cell (b.hi.x +ℤ pos 1) b.hi.y)) (cell x y) (record { west = omega (arith, ints, at, near.wide); east = omega (arith, ints, at); south = edge.from; north = edge.to })
-edge_face b Y x y near e = at_each (at_end b.lo.y b.hi.y y (y_edge b (cell x y) e).ends)
-  where
-    at_each : (y ≡ b.lo.y) ⊎ (y ≡ b.hi.y +ℤ pos 1) → on_box Y b (cell x y) ≡ true
-    at_each (inl at) = let edge = y_edge b (cell x y) e in is_inside (extent b.lo (cell b.hi.x (b.hi.y +ℤ pos 1))) (cell x y) (record { west = edge.from; east = edge.to; south = omega (arith, ints, at); north = omega (arith, ints, at, near.high) })
-    at_each (inr at) = let edge = y_edge b (cell x y) e in is_inside (extent b.lo (cell b.hi.x (b.hi.y +ℤ pos 1))) (cell x y) (record { west = edge.from; east = edge.to; south = omega (arith, ints, at, near.high); north = omega (arith, ints, at) })
+-- the lists of a patch's edges: a face that it owns has the flux between the values beside it, a border face what it had
+pub record AreEdgeFluxes (p : Problem) (l : ℕ) (q : Patch) (column row : ℕ) (west east south north : List ℤ) : Type 0 where
+  pub x_low : (j : ℕ) → j < height q.bx → slice_index_or west j (pos 0) ≡ x_flux p l row (width q.bx) q.data.value.values.items 0 j
+  pub x_made : (j : ℕ) → j < height q.bx → x_marked (width q.bx) q.data.value.marks.items j ≡ false → slice_index_or east j (pos 0) ≡ x_flux p l row (width q.bx) q.data.value.values.items (width q.bx) j
+  pub x_kept : (j : ℕ) → x_marked (width q.bx) q.data.value.marks.items j ≡ true → slice_index_or east j (pos 0) ≡ slice_index_or q.data.value.x_high.items j (pos 0)
+  pub y_low : (i : ℕ) → i < width q.bx → slice_index_or south i (pos 0) ≡ y_flux p l column (width q.bx) q.data.value.values.items i 0
+  pub y_made : (i : ℕ) → i < width q.bx → y_marked (width q.bx) (height q.bx) q.data.value.marks.items i ≡ false → slice_index_or north i (pos 0) ≡ y_flux p l column (width q.bx) q.data.value.values.items i (height q.bx)
+  pub y_kept : (i : ℕ) → i < width q.bx → y_marked (width q.bx) (height q.bx) q.data.value.marks.items i ≡ true → slice_index_or north i (pos 0) ≡ slice_index_or q.data.value.y_high.items i (pos 0)
+
+pub edge_fluxes_in : (p : Problem) (l : ℕ) (q : Patch) (column row : ℕ) {west west' east east' south south' north north' : List ℤ} → west' ≡ west → east' ≡ east → south' ≡ south → north' ≡ north
+    → AreEdgeFluxes p l q column row west east south north → AreEdgeFluxes p l q column row west' east' south' north'
+edge_fluxes_in p l q column row w e s n lists = record {
+  x_low = λ j h. ap (λ es. slice_index_or es j (pos 0)) w ∙ lists.x_low j h;
+  x_made = λ j h free. ap (λ es. slice_index_or es j (pos 0)) e ∙ lists.x_made j h free;
+  x_kept = λ j marked. ap (λ es. slice_index_or es j (pos 0)) e ∙ lists.x_kept j marked;
+  y_low = λ i h. ap (λ es. slice_index_or es i (pos 0)) s ∙ lists.y_low i h;
+  y_made = λ i h free. ap (λ es. slice_index_or es i (pos 0)) n ∙ lists.y_made i h free;
+  y_kept = λ i h marked. ap (λ es. slice_index_or es i (pos 0)) n ∙ lists.y_kept i h marked;
+}
 
 module _ (p : Problem) (l : ℕ) (q new : Patch) (column row : ℕ) (s : Stands p l q.bx column row) (same : new.bx ≡ q.bx)
-    (x_low : (j : ℕ) → j < height q.bx → slice_index_or new.data.value.x_low.items j (pos 0) ≡ x_flux p l row (width q.bx) q.data.value.values.items 0 j)
-    (x_made : (j : ℕ) → j < height q.bx → x_marked (width q.bx) q.data.value.marks.items j ≡ false → slice_index_or new.data.value.x_high.items j (pos 0) ≡ x_flux p l row (width q.bx) q.data.value.values.items (width q.bx) j)
-    (x_kept : (j : ℕ) → x_marked (width q.bx) q.data.value.marks.items j ≡ true → slice_index_or new.data.value.x_high.items j (pos 0) ≡ slice_index_or q.data.value.x_high.items j (pos 0))
-    (y_low : (i : ℕ) → i < width q.bx → slice_index_or new.data.value.y_low.items i (pos 0) ≡ y_flux p l column (width q.bx) q.data.value.values.items i 0)
-    (y_made : (i : ℕ) → i < width q.bx → y_marked (width q.bx) (height q.bx) q.data.value.marks.items i ≡ false → slice_index_or new.data.value.y_high.items i (pos 0) ≡ y_flux p l column (width q.bx) q.data.value.values.items i (height q.bx))
-    (y_kept : (i : ℕ) → i < width q.bx → y_marked (width q.bx) (height q.bx) q.data.value.marks.items i ≡ true → slice_index_or new.data.value.y_high.items i (pos 0) ≡ slice_index_or q.data.value.y_high.items i (pos 0)) where
+    (lists : AreEdgeFluxes p l q column row new.data.value.x_low.items new.data.value.x_high.items new.data.value.y_low.items new.data.value.y_high.items) where
   x_swept : (x y : ℤ) → owns q (face X x y) ≡ true → (x ≡ q.bx.lo.x) ⊎ (x ≡ q.bx.hi.x +ℤ pos 1) → flux_in new (face X x y) ≡ flux_beside p l q (face X x y)
-  x_swept x y own (inl e) = let f = x_face_at q.bx x y q.near (owned_of_box q (face X x y) own) in x_low_is p l q new column row s same x y _ _ f e (x_low _ f.row)
+  x_swept x y own (inl e) = let f = x_face_at q.bx x y q.near (owned_of_box q (face X x y) own) in x_low_is p l q new column row s same x y _ _ f e (lists.x_low _ f.row)
   x_swept x y own (inr e) =
       let f = x_face_at q.bx x y q.near (owned_of_box q (face X x y) own) in
       let i = offset q.bx.lo.x x in
@@ -80,10 +82,10 @@ module _ (p : Problem) (l : ℕ) (q new : Patch) (column row : ℕ) (s : Stands 
       let wide = (sides q.bx q.near).wide in
       let last : i ≡ width q.bx = omega (arith, ints, f.at.column, e, wide) in
       let free : x_marked (width q.bx) q.data.value.marks.items j ≡ false = ap (λ n. mark (width q.bx) q.data.value.marks.items (n + 1) (j + 1)) (sym last) ∙ sym (mark_here q (cell x y) (i + 1) (j + 1) (high_at q.bx x y i j f.at)) ∙ owned_unmarked q (face X x y) own (x_beyond q.bx x y i j q.near f last) in
-      x_high_is p l q new column row s same x y i j f e (x_made j f.row free)
+      x_high_is p l q new column row s same x y i j f e (lists.x_made j f.row free)
 
   y_swept : (x y : ℤ) → owns q (face Y x y) ≡ true → (y ≡ q.bx.lo.y) ⊎ (y ≡ q.bx.hi.y +ℤ pos 1) → flux_in new (face Y x y) ≡ flux_beside p l q (face Y x y)
-  y_swept x y own (inl e) = let f = y_face_at q.bx x y q.near (owned_of_box q (face Y x y) own) in y_low_is p l q new column row s same x y _ _ f e (y_low _ f.column)
+  y_swept x y own (inl e) = let f = y_face_at q.bx x y q.near (owned_of_box q (face Y x y) own) in y_low_is p l q new column row s same x y _ _ f e (lists.y_low _ f.column)
   y_swept x y own (inr e) =
       let f = y_face_at q.bx x y q.near (owned_of_box q (face Y x y) own) in
       let i = offset q.bx.lo.x x in
@@ -91,7 +93,7 @@ module _ (p : Problem) (l : ℕ) (q new : Patch) (column row : ℕ) (s : Stands 
       let high = (sides q.bx q.near).high in
       let last : j ≡ height q.bx = omega (arith, ints, f.at.row, e, high) in
       let free : y_marked (width q.bx) (height q.bx) q.data.value.marks.items i ≡ false = ap (λ n. mark (width q.bx) q.data.value.marks.items (i + 1) (n + 1)) (sym last) ∙ sym (mark_here q (cell x y) (i + 1) (j + 1) (high_at q.bx x y i j f.at)) ∙ owned_unmarked q (face Y x y) own (y_beyond q.bx x y i j q.near f last) in
-      y_high_is p l q new column row s same x y i j f e (y_made i f.column free)
+      y_high_is p l q new column row s same x y i j f e (lists.y_made i f.column free)
 
   by_axis : (a : Axis) (x y : ℤ) → is_edge_face q.bx (face a x y) ≡ true → owns q (face a x y) ≡ true → flux_in new (face a x y) ≡ flux_beside p l q (face a x y)
   by_axis X x y e own = x_swept x y own (at_end q.bx.lo.x q.bx.hi.x x (x_edge q.bx (cell x y) e).ends)
@@ -112,7 +114,7 @@ module _ (p : Problem) (l : ℕ) (q new : Patch) (column row : ℕ) (s : Stands 
           let wide = (sides q.bx q.near).wide in
           let edge : x ≡ q.bx.hi.x +ℤ pos 1 = omega (arith, ints, f.at.column, last, wide) in
           let marked : x_marked (width q.bx) q.data.value.marks.items j ≡ true = sym (x_border q x y i j (border_of_box q (face X x y) e) f last) ∙ e in
-          x_high_here new x y i j (there p l q new column row s same x y i j f.at) (edge ∙ ap (λ (b : Extent). b.hi.x +ℤ pos 1) (sym same)) ∙ x_kept j marked ∙ sym (x_high_here q x y i j f.at edge)
+          x_high_here new x y i j (there p l q new column row s same x y i j f.at) (edge ∙ ap (λ (b : Extent). b.hi.x +ℤ pos 1) (sym same)) ∙ lists.x_kept j marked ∙ sym (x_high_here q x y i j f.at edge)
 
   y_stays : (x y : ℤ) → is_border q (face Y x y) ≡ true → flux_in new (face Y x y) ≡ flux_in q (face Y x y)
   y_stays x y e = at_each (y_face_at q.bx x y q.near (border_of_box q (face Y x y) e)) (cases_lt (offset q.bx.lo.y y) (height q.bx))
@@ -126,7 +128,7 @@ module _ (p : Problem) (l : ℕ) (q new : Patch) (column row : ℕ) (s : Stands 
           let high = (sides q.bx q.near).high in
           let edge : y ≡ q.bx.hi.y +ℤ pos 1 = omega (arith, ints, f.at.row, last, high) in
           let marked : y_marked (width q.bx) (height q.bx) q.data.value.marks.items i ≡ true = sym (y_border q x y i j (border_of_box q (face Y x y) e) f last) ∙ e in
-          y_high_here new x y i j (there p l q new column row s same x y i j f.at) (edge ∙ ap (λ (b : Extent). b.hi.y +ℤ pos 1) (sym same)) ∙ y_kept i f.column marked ∙ sym (y_high_here q x y i j f.at edge)
+          y_high_here new x y i j (there p l q new column row s same x y i j f.at) (edge ∙ ap (λ (b : Extent). b.hi.y +ℤ pos 1) (sym same)) ∙ lists.y_kept i f.column marked ∙ sym (y_high_here q x y i j f.at edge)
 
   stays_by : (a : Axis) (x y : ℤ) → is_border q (face a x y) ≡ true → flux_in new (face a x y) ≡ flux_in q (face a x y)
   stays_by X x y e = x_stays x y e
