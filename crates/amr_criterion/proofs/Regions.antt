@@ -74,10 +74,6 @@ ahead_of from a n c h =
     let row = one_row from.y c.y both.1 in
     record { k = unsigned_abs (c.x -ℤ from.x); from_a = column.1; to_n = column.2; is = λ i. cell (column.0 i) (row i) }
 
--- boxes with the same corners have the same cells
-pub same_corners : (b : Extent) (west south east north : ℤ) → b.lo.x ≡ west → b.lo.y ≡ south → b.hi.x ≡ east → b.hi.y ≡ north → (c : Cell) → holds b c ≡ holds (extent (cell west south) (cell east north)) c
-same_corners b west south east north w s e n c = λ i. within (w i) (e i) c.x && within (s i) (n i) c.y
-
 -- ---- the box of a span of pairs
 
 pub not_before : (axis : Axis) (last high : Cell) → high ≡ after axis last → (last.x ≤ℤ high.x) × (last.y ≤ℤ high.y)

@@ -89,10 +89,6 @@ zip_mass (p ∷ ps) (q ∷ qs) c h =
 pub zip_masses : (ps qs : List Patch) → AllZip KeepsCells ps qs → masses_in qs ≡ masses_in ps
 zip_masses ps qs h i c = zip_mass ps qs c h i
 
--- a cell of a patch's box stays one
-pub still_held : (ps qs : List Patch) (i : ℕ) (d e : Patch) (c c' : Cell) → AllZip KeepsCells ps qs → i < length ps → c' ≡ c → IsTrue (holds (box (get_or ps i d)) c) → IsTrue (holds (box (get_or qs i e)) c')
-still_held ps qs i d e c c' h there is t = rw (is, zip_box ps qs i d e h there) t
-
 -- and a cell of its frame
 pub still_ghost : (ps qs : List Patch) (i : ℕ) (d e : Patch) (c c' : Cell) → AllZip KeepsCells ps qs → i < length ps → c' ≡ c → IsTrue (in_frame (box (get_or ps i d)) c) → IsTrue (in_frame (box (get_or qs i e)) c')
 still_ghost ps qs i d e c c' h there is t = rw (is, zip_box ps qs i d e h there) t

@@ -86,10 +86,6 @@ module _ (p : Problem) (l : ℕ) (words : List ℕ) where
     pub numbered_sum : (ns : List ℕ) → length ns ≡ length words → ((j : ℕ) → slice_index ns j ≡ lot_total p l qs locals j) → (word : ℕ) → sum_at word words ns ≡ lot_total p l qs originals word
     numbered_sum ns count is word = sum_at_is word words ns (λ j. lot_total p l qs locals j) count is ∙ lot_given word qs originals locals h
 
-    -- what flows to a place is no more than what flows to its word
-    pub numbered_total : (j : ℕ) → lot_total p l qs locals j ≤ lot_total p l qs originals (slice_index words j)
-    numbered_total j = lot_at_most j qs originals locals h
-
     -- so no place gets 2^63 where no word does
     pub numbered_fits : ((word : ℕ) → lot_total p l qs originals word < 2 ^ 63) → (word : ℕ) → lot_total p l qs locals word < 2 ^ 63
     numbered_fits fits j = let at = fits (slice_index words j) in let most = lot_at_most j qs originals locals h in omega (arith, at, most)

@@ -1,5 +1,5 @@
 -- The texts of boxes, cut into parts.
-use Rattle.std.proofs.Common.{◌≡◌, ◌∙◌, ℕ, ◌+◌, List, [], ◌∷◌, ◌++◌, sym, ap, append-nil, append_assoc}
+use Rattle.std.proofs.Common.{◌≡◌, ◌∙◌, ℕ, ◌+◌, List, [], ◌∷◌, ◌++◌, sym, ap, append_assoc}
 use Rattle.std.specs.List.{flat_map, range_with_len}
 use Rattle.amr_box.specs.Cells.{Extent}
 use Rattle.amr_def.specs.Plot.{box_line, mass_line}
@@ -21,9 +21,6 @@ module _ (m : Masses) (b : Extent) where
   -- a box's line and its first rows
   abbrev pub first_text : ℕ → List ℕ
   first_text n = box_line b ++ flat_map (mass_line m b) (range_with_len 0 n)
-
-  pub line_put : (old new : List Part) → new ≡ old ++ Line b ∷ [] → flat_map (part_text m) new ≡ flat_map (part_text m) old ++ first_text 0
-  line_put old new is = ap (flat_map (part_text m)) is ∙ one_more (part_text m) old (Line b) ∙ ap (λ (l : List ℕ). flat_map (part_text m) old ++ l) (sym (append-nil (box_line b)))
 
   pub rows_put : (old now new : List Part) (first count : ℕ) → flat_map (part_text m) now ≡ flat_map (part_text m) old ++ first_text first → new ≡ now ++ Rows b first count ∷ [] → flat_map (part_text m) new ≡ flat_map (part_text m) old ++ first_text (first + count)
   rows_put old now new first count so_far is =

@@ -70,9 +70,6 @@ module _ (p : Problem) (l : ℕ) where
 
   -- blocks of one cell
   module _ (two : p.blocking ≡ 2) where
-    pub blocks_1 : domain p l ≡ blocks_of p l
-    blocks_1 = sym (ap (λ (s : ℕ). in_blocks s (domain p l)) (side_is 2 two) ∙ (λ i. record { columns = whole (columns p l) i; rows = whole (rows p l) i; wrap_x = (domain p l).wrap_x; wrap_y = (domain p l).wrap_y }))
-
     pub cells_1 : (test : Cell → Bool) (c : Cell) → test c ≡ has_cell_where (block_side p) test c
     cells_1 test c = sym (ap (λ (s : ℕ). has_cell_where s test c) (side_is 2 two) ∙ has_cell_1 test c)
 

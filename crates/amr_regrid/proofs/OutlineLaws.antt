@@ -1,5 +1,5 @@
 -- Levels of a list, by their outlines.
-use Rattle.std.proofs.Common.{◌≡◌, inl, inr, ℕ, zero, suc, ◌-◌, ◌<◌, refl, sym, ap, subst, ◌∙◌, arith, List, [], ◌∷◌, ◌++◌, length, map, take, get_or}
+use Rattle.std.proofs.Common.{◌≡◌, inl, inr, ℕ, zero, suc, ◌-◌, ◌<◌, refl, sym, ap, subst, ◌∙◌, arith, List, [], ◌∷◌, length, map, take, get_or}
 use Rattle.std.specs.Prelude.{slice_index_or, slice_get}
 use Rattle.std.specs.declared.option.Option.{Option}
 use Rattle.std.specs.List.{All, flat_map}
@@ -9,14 +9,10 @@ use Rattle.amr_boxlist.specs.Chopped.{chopped}
 use Rattle.amr_def.specs.State.{masses_below, no_level}
 use Rattle.amr_ghost.specs.Frames.{old_masses}
 use Rattle.amr_patch.specs.declared.levels.Level.{Level}
-use Rattle.amr_patch.specs.Levels.{level_of, patches_of}
-use Rattle.amr_patch.specs.Patches.{box}
+use Rattle.amr_patch.specs.Levels.{level_of}
 use Rattle.amr_start.specs.PatchBoxes.{IsChopped}
 use Rattle.amr_regrid.specs.Outlines.{Outline, outline, outlines, with_levels}
 use Rattle.amr_regrid.specs.Remade.{AreChoppedOrKept}
-
-pub outline_is : (j k : Level) → level_of j ≡ level_of k → map box (patches_of j) ≡ map box (patches_of k) → outline j ≡ outline k
-outline_is j k levels boxes = λ i. record { level = levels i; patch_boxes = boxes i }
 
 -- levels that keep their outlines are the same levels
 levels_by : (ks : List Level) → map level_of ks ≡ map (λ (o : Outline). o.level) (outlines ks)

@@ -1,5 +1,5 @@
 -- How a block fills its cells, row by row.
-use Rattle.std.proofs.Common.{◌≡◌, ℕ, ◌+◌, ◌*◌, ◌<◌, ◌≤◌, Bool, true, false, cond, ◌&&◌, ◌⊎◌, inl, inr, ◌≢◌, pos, List, length, get_or, set, get_or-set_same, get_or-set_other, take, ◌/◌, ◌%◌, ◌^◌, refl, sym, ap, subst, ◌∙◌, arith}
+use Rattle.std.proofs.Common.{◌≡◌, ℕ, ◌+◌, ◌*◌, ◌<◌, ◌≤◌, Bool, true, false, cond, ◌&&◌, ◌⊎◌, inl, inr, ◌≢◌, pos, List, length, get_or, take, ◌/◌, ◌%◌, ◌^◌, refl, sym, ap, subst, ◌∙◌, arith}
 use Rattle.std.specs.Prelude.{nat_le, nat_lt}
 use Rattle.std.proofs.lemmas.Bool.{and_parts, cases_eq, cases_lt, le-leb, le-ltb, leb-true, lt-leb, lt-ltb, ltb-true}
 use Rattle.std.proofs.lemmas.Bool.Decides.{nat_tests}
@@ -33,20 +33,6 @@ same_span a b s x = λ i. le i && lt i
     lt = grind (arith, nat_tests)
 
 -- ---- a span of the list
-
-pub span_more : (ms first : List ℕ) (low k mass : ℕ) → low ≤ k → k < length ms → ((j : ℕ) → get_or ms j 0 ≡ cond (nat_le low j && nat_lt j k) mass (get_or first j 0))
-    → (j : ℕ) → get_or (set ms k mass) j 0 ≡ cond (nat_le low j && nat_lt j (k + 1)) mass (get_or first j 0)
-span_more ms first low k mass above inside before j = at_each (cases_eq j k)
-  where
-    at_each : (j ≡ k) ⊎ (j ≢ k) → get_or (set ms k mass) j 0 ≡ cond (nat_le low j && nat_lt j (k + 1)) mass (get_or first j 0)
-    at_each (inl e) = ap (λ t. get_or (set ms k mass) t 0) e ∙ get_or-set_same ms k mass 0 inside ∙ sym (ap (λ (b : Bool). cond b mass (get_or first j 0)) (here e))
-      where
-        here : j ≡ k → (nat_le low j && nat_lt j (k + 1)) ≡ true
-        here e = grind (arith, nat_tests)
-    at_each (inr ne) = get_or-set_other ms k j mass 0 ne ∙ before j ∙ ap (λ (b : Bool). cond (nat_le low j && b) mass (get_or first j 0)) (same ne)
-      where
-        same : j ≢ k → nat_lt j k ≡ nat_lt j (k + 1)
-        same ne = grind (arith, nat_tests)
 
 -- ---- a row of a block
 

@@ -43,14 +43,6 @@ one_more_block k start before next so_far drawn =
 word_then : (word rest end : List ℕ) → (44 ∷ 32 ∷ (word ++ rest)) ++ end ≡ 44 ∷ 32 ∷ (word ++ (rest ++ end))
 word_then word rest end = ap (λ (l : List ℕ). 44 ∷ 32 ∷ l) (append_assoc word rest end)
 
-after_word : (word : List ℕ) {l m : List ℕ} → l ≡ m → 44 ∷ 32 ∷ (word ++ l) ≡ 44 ∷ 32 ∷ (word ++ m)
-after_word word e = ap (λ (l : List ℕ). 44 ∷ 32 ∷ (word ++ l)) e
-
-five_words : (a b c d e end : List ℕ) → (a ++ (44 ∷ 32 ∷ (b ++ (44 ∷ 32 ∷ (c ++ (44 ∷ 32 ∷ (d ++ (44 ∷ 32 ∷ (e ++ []))))))))) ++ end ≡ a ++ (44 ∷ 32 ∷ (b ++ (44 ∷ 32 ∷ (c ++ (44 ∷ 32 ∷ (d ++ (44 ∷ 32 ∷ (e ++ end))))))))
-five_words a b c d e end =
-    append_assoc a _ end
-    ∙ ap (λ (l : List ℕ). a ++ l) (word_then b _ end ∙ after_word b (word_then c _ end ∙ after_word c (word_then d _ end ∙ after_word d (word_then e [] end))))
-
 name_line : (number size rest : List ℕ) → line (((number ++ (45 ∷ [])) ++ size) ++ (34 ∷ [])) ++ rest ≡ number ++ (45 ∷ (size ++ (34 ∷ 10 ∷ rest)))
 name_line number size rest =
     append_assoc (((number ++ (45 ∷ [])) ++ size) ++ (34 ∷ [])) (10 ∷ []) rest

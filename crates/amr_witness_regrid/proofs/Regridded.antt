@@ -22,12 +22,6 @@ use Rattle.amr_witness_regrid.specs.Places.{AreInside, HasBoxes}
 
 -- ---- levels
 
-pub first_is : (ks : List PlainLevel) (k : PlainLevel) (rest : List PlainLevel) → ks ≡ k ∷ rest → masses_of k.masses ≡ first_masses (levels_of ks)
-first_is ks k rest parts = ap (λ (xs : List PlainLevel). first_masses (levels_of xs)) (sym parts)
-
-pub rest_is : (ks : List PlainLevel) (k : PlainLevel) (rest : List PlainLevel) → ks ≡ k ∷ rest → levels_of rest ≡ rest_of (levels_of ks)
-rest_is ks k rest parts = ap (λ (xs : List PlainLevel). rest_of (levels_of xs)) (sym parts)
-
 -- ---- near boxes
 
 pub head_near : (bs more : List (Vec Extent)) (here : Vec Extent) → bs ≡ here ∷ more → All (All IsNear) (lists_in bs) → All IsNear here.items
