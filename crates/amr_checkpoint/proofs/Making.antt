@@ -15,7 +15,8 @@ use Rattle.amr_problem.specs.Judgement.{IsProblemOf}
 use Rattle.amr_store.specs.declared.part.Part.{Part}
 use Rattle.amr_store.specs.declared.part.Part.TheVariants as part
 use Rattle.amr_store.specs.Created.{new_state}
-use Rattle.amr_store.specs.Layout.{gate_0, gate_1, long_at, size_of, text_length}
+use Rattle.amr_store.specs.Layout.{long_at}
+use Rattle.amr_store.specs.Table.{latest_base}
 use Rattle.amr_store.specs.Renewed.{renewed_state}
 use Rattle.amr_store.specs.Stored as store
 use Rattle.amr_checkpoint.specs.Contents.{Damaged, Fresh, At, StoreHolds, latest_read, mass_width, payload_read, store_read}
@@ -80,18 +81,9 @@ entry_bytes part gate small = chosen (store.is_open part gate)
     chosen true = All-take IsByte _ (drop (gate + 17) part) (All-drop IsByte (gate + 17) part small)
     chosen false = tt
 
-later_bytes : (first second : Option store.Entry) → HasBytes first → HasBytes second → HasBytes (store.latest_of first second)
-later_bytes None second h k = k
-later_bytes (Some a) None h k = h
-later_bytes (Some a) (Some b) h k = chosen (nat_lt a.sequence b.sequence)
-  where
-    chosen : (t : Bool) → HasBytes (if t then Some b else Some a)
-    chosen true = k
-    chosen false = h
-
 -- the payload of the latest state is bytes
 state_bytes : (part : List ℕ) → All IsByte part → HasBytes (store.state_of part).latest
-state_bytes part small = later_bytes (store.first_of part) (store.second_of part) (entry_bytes part (gate_0 (text_length part)) small) (entry_bytes part (gate_1 (text_length part) (size_of part)) small)
+state_bytes part small = entry_bytes part (store.gate_of part (latest_base (store.deltas_of part) (store.slots_of part))) small
 
 judged_held : (b : Bool) (damage : Option Part) (st held : store.State) → store.judged b damage st ≡ store.Held held → st ≡ held
 judged_held true damage st held is = absurd (cc)

@@ -1,8 +1,9 @@
 -- A new store, from the closed first byte to the open one.
 use Rattle.std.proofs.Common.{◌≡◌, ◌⊎◌, inl, inr, ℕ, ◌+◌, ◌≤◌, ◌<◌, ◌^◌, ◌==◌, nat_le, nat_lt, Bool, true, false, ◌&&◌, ◌||◌, List, [], ◌∷◌, ◌++◌, length, drop, Option, Some, None, refl, sym, ◌∙◌, ap, subst, arith, length-append, lit<}
-use Rattle.std.proofs.lemmas.Bool.{cases_Bool, le-leb, ltb-true, ltb-false, le-ltb, or_left, or_right, not_from_false}
+use Rattle.std.proofs.lemmas.Bool.{cases_Bool, le-leb, ltb-true, ltb-false, le-ltb, or_left, or_right, not_from_false, eqb-true}
 use Rattle.std.proofs.lemmas.List.{get_or-drop, get_or_append_left, get_or-append-add}
-use Rattle.std.proofs.lemmas.Nat.{from_le_bytes-to_le_bytes_4}
+use Rattle.std.proofs.lemmas.Nat.{from_le_bytes-to_le_bytes_4, mul-le}
+use Rattle.std.proofs.lemmas.Bool.Decides.{nat_tests}
 use Rattle.std.specs.Int.{from_le_bytes, to_le_bytes, w32, w64}
 use Rattle.std.specs.Prelude.{slice_index, slice_range, if◌then◌else◌}
 use Rattle.amr_disk.specs.Image.{Torn, written_at}
@@ -12,14 +13,18 @@ use Rattle.amr_store.proofs.Places.{torn_outside, long_same, word_same, range_sa
 use Rattle.amr_store.proofs.Slots.{sound_closed, entry_closed, second_false}
 use Rattle.amr_store.proofs.Whole.{Whole}
 use Rattle.amr_store.proofs.Writes.{written_index, written_length, written_byte, long_from, range_is}
-use Rattle.std.specs.Prelude.{option_map}
+use Rattle.std.specs.Prelude.{option_map, replicate}
 use Rattle.amr_store.proofs.Calls.{stands_at}
+use Rattle.amr_store.proofs.Seen.{where_true, where_false}
 use Rattle.amr_store.specs.declared.store.Store.{Store}
-use Rattle.amr_store.specs.Stands.{Stands, slot_of, base_in, version_in, problem_in, slot_size_in, first_in, second_in}
-use Rattle.amr_store.specs.Created.{IsVersion, IsShutFirst, IsNew, IsPlain, IsLaid, IsMade, magic_of, head_bytes, new_state}
-use Rattle.amr_store.specs.Layout.{open_gate, magic_1, magic_2, long_at, word_at, size_of, text_length, problem_of, gate_0, gate_1, end_of}
+use Rattle.amr_store.specs.Stands.{Stands, base_in, version_in, problem_in, slot_size_in, deltas_in, slots_in}
+use Rattle.amr_store.specs.Created.{IsVersion, IsShutFirst, IsNew, IsPlain, IsLaid, IsMade, magic_of, head_bytes, new_state, laid_image}
+use Rattle.amr_store.specs.Layout.{open_gate, magic_1, magic_2, long_at, word_at, size_of, problem_of, gate_at, end_of}
 use Rattle.amr_store.specs.Phases.{TornTwice, TornThrice}
-use Rattle.amr_store.specs.Stored.{Entry, State, Empty, Damaged, Held, Reads, stored, judged, is_empty, is_open, first_of, second_of, is_tie, latest_of, is_renewed, has_magic_1, has_magic_2, state_of, end_in}
+use Rattle.amr_store.specs.Table.{table, is_tied, latest_base}
+use Rattle.amr_store.specs.declared.slot.Slot.{Slot}
+use Rattle.amr_store.proofs.Tables.{latest_within}
+use Rattle.amr_store.specs.Stored.{Entry, State, Empty, Damaged, Held, Reads, stored, judged, is_empty, is_open, slot_of, deltas_of, gate_of, entry_of, known_of, slots_of, latest_entry, is_renewed, has_magic_1, has_magic_2, state_of, end_in}
 
 pub empty_stored : (c : List ℕ) → is_empty c ≡ true → stored c ≡ Empty
 empty_stored c is = rw is refl
@@ -58,16 +63,18 @@ first_kept_twice s c at n beyond m p q is torn = first_kept torn.0 c beyond m q 
 pub first_kept_thrice : (s c : List ℕ) (at n beyond m last k : ℕ) → 0 < at → 0 < beyond → 0 < last → IsShutFirst s → TornThrice at n beyond m last k s c → IsShutFirst c
 first_kept_thrice s c at n beyond m last k p q r is torn = first_kept torn.0 c last k r (first_kept_twice s torn.0 at n beyond m p q is torn.1) torn.2
 
+few_gates : (k text size : ℕ) → k < 2 → gate_at k text size ≤ gate_at 1 text size
+few_gates k text size few = omega (arith, mul-le k (17 + size) 1 (17 + size) (omega arith) (omega arith))
+
 pub new_same : (version : ℕ) (problem : List ℕ) (size : ℕ) (old new : List ℕ) → IsNew version problem size old → length old ≤ length new
-    → ((i : ℕ) → 1 ≤ i → i ≤ gate_1 (length problem) size → slice_index new i ≡ slice_index old i) → IsNew version problem size new
+    → ((i : ℕ) → 1 ≤ i → i ≤ gate_at 1 (length problem) size → slice_index new i ≡ slice_index old i) → IsNew version problem size new
 new_same version problem size old new is longer same = record {
   long = omega (arith, is.long, longer);
   magic = long_same old new 1 (λ i lt. same (1 + i) (omega arith) (omega arith)) ∙ is.magic;
   size_is = long_same old new 9 (λ i lt. same (9 + i) (omega arith) (omega arith)) ∙ is.size_is;
   text_is = word_same old new 17 (λ i lt. same (17 + i) (omega arith) (omega arith)) ∙ is.text_is;
   problem_is = range_same old new 21 (21 + length problem) (omega (arith, is.long)) (omega (arith, is.long, longer)) (λ i from to. same i (omega arith) (omega arith)) ∙ is.problem_is;
-  shut_0 = same (gate_0 (length problem)) (omega arith) (omega arith) ∙ is.shut_0;
-  shut_1 = same (gate_1 (length problem) size) (omega arith) (omega arith) ∙ is.shut_1;
+  shut = λ k few. same (gate_at k (length problem) size) (omega arith) (few_gates k (length problem) size few) ∙ is.shut k few;
 }
 
 -- the first byte is written over a new store
@@ -137,14 +144,25 @@ has_version version problem size image known is = elim known [
     end_same : (m n s t : ℕ) → m ≡ n → s ≡ t → end_of m s ≡ end_of n t
     end_same m n s t e f = cc
 
+-- two closed slots
+none_tied : is_tied 0 (replicate 2 None) ≡ false
+unfolding is_tied
+none_tied = refl
+
+all_none : (known : ℕ → Option Slot) → known 0 ≡ None → known 1 ≡ None → table known 2 ≡ replicate 2 None
+unfolding table
+all_none known one two = rw (one, two) refl
+
+no_latest : (image : List ℕ) → slots_of image ≡ replicate 2 None → ((k : ℕ) → k < 2 → entry_of image k ≡ None) → latest_entry image ≡ None
+no_latest image slots none = none (latest_base (deltas_of image) (slots_of image)) (latest_within (deltas_of image) (slots_of image))
+
 -- a new store behind an open first byte
 pub record NewStore (version : ℕ) (problem : List ℕ) (size : ℕ) (image : List ℕ) : Type 0 where
   pub reads : Reads image 0
   pub size_is : size_of image ≡ size
   pub problem_is : problem_of image ≡ problem
   pub version_is : (state_of image).version ≡ version
-  pub first_is : first_of image ≡ None
-  pub second_is : second_of image ≡ None
+  pub slots_is : slots_of image ≡ replicate 2 None
   pub stored_as : stored image ≡ Held (new_state version problem size)
 
 pub new_store : (version : ℕ) (problem : List ℕ) (size : ℕ) (image : List ℕ) → IsVersion version → length problem ≤ 65536 → size ≤ 2 ^ 40 → IsMade version problem size image → NewStore version problem size image
@@ -152,12 +170,10 @@ new_store version problem size image known text_fits size_fits made =
     let is = made.laid.inner in
     let opened = made.opened in
     let versions = has_version version problem size image known made.laid in
-    let gate_a : gate_0 (text_length image) ≡ gate_0 (length problem) = ap (λ (n : ℕ). gate_0 n) is.text_is in
-    let gate_b : gate_1 (text_length image) (size_of image) ≡ gate_1 (length problem) size = gates _ _ _ _ is.text_is is.size_is in
-    let shut_a : is_open image (gate_0 (text_length image)) ≡ false = ap (λ (n : ℕ). is_open image n) gate_a ∙ zero_shut image (gate_0 (length problem)) is.shut_0 in
-    let shut_b : is_open image (gate_1 (text_length image) (size_of image)) ≡ false = ap (λ (n : ℕ). is_open image n) gate_b ∙ zero_shut image (gate_1 (length problem) size) is.shut_1 in
-    let one : first_of image ≡ None = entry_closed image (gate_0 (text_length image)) shut_a in
-    let two : second_of image ≡ None = entry_closed image (gate_1 (text_length image) (size_of image)) shut_b in
+    let shut : (k : ℕ) → k < 2 → is_open image (gate_of image k) ≡ false = λ k few.
+    ap (λ (n : ℕ). is_open image n) (gates k _ _ _ _ is.text_is is.size_is) ∙ zero_shut image (gate_at k (length problem) size) (is.shut k few) in
+    let none : (k : ℕ) → k < 2 → entry_of image k ≡ None = λ k few. entry_closed image (gate_of image k) (shut k few) in
+    let slots : slots_of image ≡ replicate 2 None = all_none (λ k. known_of image k) (ap (λ (o : Option Entry). option_map slot_of o) (none 0 (omega arith))) (ap (λ (o : Option Entry). option_map slot_of o) (none 1 (omega arith))) in
     let text : problem_of image ≡ problem = ap (λ (n : ℕ). slice_range image 21 (21 + n)) is.text_is ∙ is.problem_is in
     let whole : Whole true image = record {
       long = omega (arith, is.long);
@@ -165,9 +181,8 @@ new_store version problem size image known text_fits size_fits made =
       text_fits = omega (arith, is.text_is, text_fits);
       text_whole = omega (arith, is.text_is, is.long);
       size_fits = omega (arith, is.size_is, size_fits);
-      slot_0 = sound_closed image (gate_0 (text_length image)) (size_of image) (omega (arith, is.long, is.text_is)) shut_a;
-      slot_1 = sound_closed image (gate_1 (text_length image) (size_of image)) (size_of image) (omega (arith, is.long, gate_b)) shut_b;
-      tie = ties _ _ one two;
+      slots = λ k few. sound_closed image (gate_of image k) (size_of image) (omega (arith, is.long, gates k _ _ _ _ is.text_is is.size_is, few_gates k (length problem) size few)) (shut k few);
+      tie = ap (λ (l : List (Option Slot)). is_tied (deltas_of image) l) slots ∙ none_tied;
     } in
     let reads : Reads image 0 = record {
       held = held_of image (omega (arith, is.long)) opened;
@@ -179,23 +194,18 @@ new_store version problem size image known text_fits size_fits made =
       size_is = is.size_is;
       problem_is = text;
       version_is = versions.number;
-      first_is = one;
-      second_is = two;
-      stored_as = stored_is image 0 reads ∙ ap Held (states _ _ _ _ _ _ _ _ _ _ versions.number text is.size_is one two);
+      slots_is = slots;
+      stored_as = stored_is image 0 reads ∙ ap Held (states _ _ _ _ _ _ _ _ versions.number text is.size_is (no_latest image slots none));
     }
   where
-    gates : (m n s t : ℕ) → m ≡ n → s ≡ t → gate_1 m s ≡ gate_1 n t
-    gates m n s t e f = cc
+    gates : (k m n s t : ℕ) → m ≡ n → s ≡ t → gate_at k m s ≡ gate_at k n t
+    gates k m n s t e f = cc
 
-    ties : (a b : Option Entry) → a ≡ None → b ≡ None → is_tie a b ≡ false
-    ties None b e f = refl
-    ties (Some a) b e f = let wrong : Some a ≡ None = e in cc
+    shown : ℕ → List ℕ → ℕ → Option Entry → State
+    shown v p t a = record { version = v; problem = p; slot_size = t; latest = a }
 
-    shown : ℕ → List ℕ → ℕ → Option Entry → Option Entry → State
-    shown v p t a b = record { version = v; problem = p; slot_size = t; latest = latest_of a b }
-
-    states : (v w : ℕ) (p q : List ℕ) (s t : ℕ) (a b c d : Option Entry) → v ≡ w → p ≡ q → s ≡ t → a ≡ c → b ≡ d → shown v p s a b ≡ shown w q t c d
-    states v w p q s t a b c d e f g h i = cc
+    states : (v w : ℕ) (p q : List ℕ) (s t : ℕ) (a c : Option Entry) → v ≡ w → p ≡ q → s ≡ t → a ≡ c → shown v p s a ≡ shown w q t c
+    states v w p q s t a c e f g h = cc
 
 -- the head as it was written
 low_8 : (last version : ℕ) (problem : List ℕ) (size i : ℕ) → i < 8 → slice_index (head_bytes last version problem size) i ≡ slice_index (to_le_bytes w64 (magic_of version)) i
@@ -264,9 +274,9 @@ is_head last version head problem size is = subst (λ (h : List ℕ). IsHead las
 }
 
 new_at : (version : ℕ) (s head problem : List ℕ) (size : ℕ) → IsHead 0 version head problem size → length problem ≤ 65536 → size ≤ 2 ^ 40
-    → IsNew version problem size (written_at (gate_1 (length problem) size) (0 ∷ []) (written_at 1 head s))
+    → IsNew version problem size (written_at (gate_at 1 (length problem) size) (0 ∷ []) (written_at 1 head s))
 new_at version s head problem size is text_fits size_fits =
-    let gate = gate_1 (length problem) size in
+    let gate = gate_at 1 (length problem) size in
     let mid = written_at 1 head s in
     let after = written_at gate (0 ∷ []) mid in
     let second : Torn gate 1 mid after = torn_written gate (0 ∷ []) mid in
@@ -279,8 +289,10 @@ new_at version s head problem size is text_fits size_fits =
       size_is = long_from after 9 size (omega arith) (λ i lt. ap (λ (n : ℕ). slice_index after n) (nine i) ∙ at (8 + i) (omega (arith, is.count)) ∙ is.size_is i lt);
       text_is = word_from after 17 (length problem) (omega arith) (λ i lt. ap (λ (n : ℕ). slice_index after n) (seventeen i) ∙ at (16 + i) (omega (arith, is.count)) ∙ is.text_is i lt);
       problem_is = range_is after 21 problem (omega (arith, whole)) (λ i lt. ap (λ (n : ℕ). slice_index after n) (twenty_one i) ∙ at (20 + i) (omega (arith, is.count)) ∙ is.problem_is i lt);
-      shut_0 = ap (λ (n : ℕ). slice_index after n) (twenty_one (length problem)) ∙ at (20 + length problem) (omega (arith, is.count)) ∙ is.gate;
-      shut_1 = written_byte gate 0 mid;
+      shut = λ k few. elim (cases_Bool (k == 0)) [
+        | inl zeroth ↦ ap (λ (n : ℕ). slice_index after n) (first_gate k zeroth) ∙ at (20 + length problem) (omega (arith, is.count)) ∙ is.gate
+        | inr other ↦ ap (λ (n : ℕ). slice_index after (gate_at n (length problem) size)) (other_gate k few other) ∙ written_byte gate 0 mid
+      ];
     }
   where
     nine : (i : ℕ) → 9 + i ≡ 1 + (8 + i)
@@ -292,38 +304,81 @@ new_at version s head problem size is text_fits size_fits =
     twenty_one : (i : ℕ) → 21 + i ≡ 1 + (20 + i)
     twenty_one i = omega arith
 
+    first_gate : (k : ℕ) → (k == 0) ≡ true → gate_at k (length problem) size ≡ 1 + (20 + length problem)
+    first_gate k is_zero = let zeroth : k ≡ 0 = eqb-true k 0 is_zero in ap (λ (n : ℕ). gate_at n (length problem) size) zeroth ∙ omega arith
+
+    other_gate : (k : ℕ) → k < 2 → (k == 0) ≡ false → k ≡ 1
+    other_gate k few other = grind (arith, nat_tests)
+
 -- what is written where the gate past the store is not closed, since the image does not reach it or the store is of version 2
-pub laid_twice : (version : ℕ) (s head problem : List ℕ) (size : ℕ) → head ≡ head_bytes 0 version problem size → length problem ≤ 65536 → size ≤ 2 ^ 40
+twice_laid : (version : ℕ) (s head problem : List ℕ) (size : ℕ) → head ≡ head_bytes 0 version problem size → length problem ≤ 65536 → size ≤ 2 ^ 40
     → (version == 1 && nat_lt (end_of (length problem) size) (length s)) ≡ false
-    → IsLaid version problem size (written_at (gate_1 (length problem) size) (0 ∷ []) (written_at 1 head s))
-laid_twice version s head problem size is text_fits size_fits short =
+    → IsLaid version problem size (written_at (gate_at 1 (length problem) size) (0 ∷ []) (written_at 1 head s))
+twice_laid version s head problem size is text_fits size_fits short =
     let head_is = is_head 0 version head problem size is in
     let mid = written_at 1 head s in
-    let after = written_at (gate_1 (length problem) size) (0 ∷ []) mid in
+    let after = written_at (gate_at 1 (length problem) size) (0 ∷ []) mid in
     let first : Torn 1 (length head) s mid = torn_written 1 head s in
-    let second : Torn (gate_1 (length problem) size) 1 mid after = torn_written (gate_1 (length problem) size) (0 ∷ []) mid in
+    let second : Torn (gate_at 1 (length problem) size) 1 mid after = torn_written (gate_at 1 (length problem) size) (0 ∷ []) mid in
     record {
       inner = new_at version s head problem size head_is text_fits size_fits;
       plain = record {
         past = λ one long.
             let none : nat_lt (end_of (length problem) size) (length s) ≡ false = second_false (version == 1) _ (ap (λ (n : ℕ). n == 1) one) short in
             let out_1 = torn_outside 1 (length head) 1 (22 + length problem) s mid (omega arith) (omega (arith, head_is.count)) first in
-            let out_2 = torn_outside (gate_1 (length problem) size) 1 1 (gate_1 (length problem) size + 1) mid after (omega arith) (omega arith) second in
+            let out_2 = torn_outside (gate_at 1 (length problem) size) 1 1 (gate_at 1 (length problem) size + 1) mid after (omega arith) (omega arith) second in
             let wrong : length after ≤ end_of (length problem) size = omega (arith, out_1.no_longer, out_2.no_longer, ltb-false (end_of (length problem) size) (length s) none) in
             absurd (omega arith);
       };
     }
 
 -- what is written where the gate past the store is closed too
-pub laid_thrice : (version : ℕ) (s head problem : List ℕ) (size : ℕ) → head ≡ head_bytes 0 version problem size → length problem ≤ 65536 → size ≤ 2 ^ 40
-    → IsLaid version problem size (written_at (end_of (length problem) size) (0 ∷ []) (written_at (gate_1 (length problem) size) (0 ∷ []) (written_at 1 head s)))
-laid_thrice version s head problem size is text_fits size_fits =
+thrice_laid : (version : ℕ) (s head problem : List ℕ) (size : ℕ) → head ≡ head_bytes 0 version problem size → length problem ≤ 65536 → size ≤ 2 ^ 40
+    → IsLaid version problem size (written_at (end_of (length problem) size) (0 ∷ []) (written_at (gate_at 1 (length problem) size) (0 ∷ []) (written_at 1 head s)))
+thrice_laid version s head problem size is text_fits size_fits =
     let end = end_of (length problem) size in
-    let mid = written_at (gate_1 (length problem) size) (0 ∷ []) (written_at 1 head s) in
+    let mid = written_at (gate_at 1 (length problem) size) (0 ∷ []) (written_at 1 head s) in
     record {
       inner = past_kept version problem size mid (written_at end (0 ∷ []) mid) (new_at version s head problem size (is_head 0 version head problem size is) text_fits size_fits) (torn_written end (0 ∷ []) mid);
       plain = record { past = λ one long. written_byte end 0 mid };
     }
+
+-- the same, by the places that the code works out
+pub record LaysAt (version : ℕ) (head problem : List ℕ) (size gate end : ℕ) : Type 0 where
+  pub gate_is : gate ≡ gate_at 1 (length problem) size
+  pub end_is : end ≡ end_of (length problem) size
+  pub head_is : head ≡ head_bytes 0 version problem size
+  pub text_fits : length problem ≤ 65536
+  pub size_fits : size ≤ 2 ^ 40
+
+pub laid_twice : (version : ℕ) (s head problem : List ℕ) (size gate end : ℕ) → LaysAt version head problem size gate end → (version == 1 && nat_lt end (length s)) ≡ false
+    → IsLaid version problem size (written_at gate (0 ∷ []) (written_at 1 head s))
+laid_twice version s head problem size gate end lays short =
+    subst (λ (g : ℕ). IsLaid version problem size (written_at g (0 ∷ []) (written_at 1 head s))) (sym lays.gate_is)
+    (twice_laid version s head problem size lays.head_is lays.text_fits lays.size_fits (subst (λ (e : ℕ). (version == 1 && nat_lt e (length s)) ≡ false) lays.end_is short))
+
+pub laid_thrice : (version : ℕ) (s head problem : List ℕ) (size gate end : ℕ) → LaysAt version head problem size gate end
+    → IsLaid version problem size (written_at end (0 ∷ []) (written_at gate (0 ∷ []) (written_at 1 head s)))
+laid_thrice version s head problem size gate end lays =
+    subst (λ (e : ℕ). IsLaid version problem size (written_at e (0 ∷ []) (written_at gate (0 ∷ []) (written_at 1 head s)))) (sym lays.end_is)
+    (subst (λ (g : ℕ). IsLaid version problem size (written_at (end_of (length problem) size) (0 ∷ []) (written_at g (0 ∷ []) (written_at 1 head s)))) (sym lays.gate_is)
+    (thrice_laid version s head problem size lays.head_is lays.text_fits lays.size_fits))
+
+pub laid_past : (version : ℕ) (s head problem : List ℕ) (size gate end : ℕ) → LaysAt version head problem size gate end → (version == 1 && nat_lt end (length s)) ≡ true
+    → written_at end (0 ∷ []) (written_at gate (0 ∷ []) (written_at 1 head s)) ≡ laid_image version problem size s
+laid_past version s head problem size gate end lays long =
+    same _ _ _ _ _ _ lays.end_is lays.gate_is lays.head_is ∙ where_true _ _ _ (subst (λ (e : ℕ). (version == 1 && nat_lt e (length s)) ≡ true) lays.end_is long)
+  where
+    same : (e f g k : ℕ) (h i : List ℕ) → e ≡ f → g ≡ k → h ≡ i → written_at e (0 ∷ []) (written_at g (0 ∷ []) (written_at 1 h s)) ≡ written_at f (0 ∷ []) (written_at k (0 ∷ []) (written_at 1 i s))
+    same e f g k h i a b c = cc
+
+pub laid_short : (version : ℕ) (s head problem : List ℕ) (size gate end : ℕ) → LaysAt version head problem size gate end → (version == 1 && nat_lt end (length s)) ≡ false
+    → written_at gate (0 ∷ []) (written_at 1 head s) ≡ laid_image version problem size s
+laid_short version s head problem size gate end lays short =
+    same _ _ _ _ lays.gate_is lays.head_is ∙ where_false _ _ _ (subst (λ (e : ℕ). (version == 1 && nat_lt e (length s)) ≡ false) lays.end_is short)
+  where
+    same : (g k : ℕ) (h i : List ℕ) → g ≡ k → h ≡ i → written_at g (0 ∷ []) (written_at 1 h s) ≡ written_at k (0 ∷ []) (written_at 1 i s)
+    same g k h i b c = cc
 
 -- a stop while the first byte is opened
 pub made_stop : (version : ℕ) (problem : List ℕ) (size : ℕ) (s c : List ℕ) → IsVersion version → length problem ≤ 65536 → size ≤ 2 ^ 40 → IsLaid version problem size s → Torn 0 1 s c
@@ -345,8 +400,7 @@ made_stored version problem size t known text_fits size_fits made = (new_store v
 
 -- a store in memory that was made so stands for the image
 pub made_stands : (store : Store) (version : ℕ) (problem : List ℕ) (size : ℕ) (t : List ℕ) → IsVersion version → length problem ≤ 65536 → size ≤ 2 ^ 40 → IsMade version problem size t
-    → base_in store ≡ 0 → version_in store ≡ version → problem_in store ≡ problem → slot_size_in store ≡ size → first_in store ≡ None → second_in store ≡ None → Stands store t
-made_stands store version problem size t known text_fits size_fits made base version_is text slot first second =
+    → base_in store ≡ 0 → version_in store ≡ version → problem_in store ≡ problem → slot_size_in store ≡ size → deltas_in store ≡ 0 → slots_in store ≡ replicate 2 None → Stands store t
+made_stands store version problem size t known text_fits size_fits made base version_is text slot deltas slots =
     let new = new_store version problem size t known text_fits size_fits made in
-    stands_at store t 0 (sym base) new.reads (version_is ∙ sym new.version_is) (text ∙ sym new.problem_is) (slot ∙ sym new.size_is)
-    (first ∙ sym (ap (λ (o : Option Entry). option_map slot_of o) new.first_is)) (second ∙ sym (ap (λ (o : Option Entry). option_map slot_of o) new.second_is))
+    stands_at store t 0 (sym base) new.reads (version_is ∙ sym new.version_is) (text ∙ sym new.problem_is) (slot ∙ sym new.size_is) deltas (slots ∙ sym new.slots_is)

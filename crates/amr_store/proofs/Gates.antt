@@ -3,11 +3,11 @@ use Rattle.std.proofs.Common.{◌≡◌, ◌⊎◌, inl, inr, ℕ, ◌+◌, ◌�
 use Rattle.std.proofs.lemmas.Bool.{cases_Bool, ltb-true, ltb-false}
 use Rattle.std.specs.Prelude.{slice_index, slice_range, if◌then◌else◌}
 use Rattle.std.proofs.lemmas.Bool.Decides.{nat_tests}
-use Rattle.amr_store.proofs.Parts.{Kept}
+use Rattle.amr_store.proofs.Parts.{SameHead}
 use Rattle.amr_store.proofs.Places.{Outside, long_same, range_same}
 use Rattle.amr_store.proofs.Slots.{slot_kept, gate_within, sound_closed, sound_full, entry_closed, entry_open}
 use Rattle.amr_store.specs.Layout.{open_gate, long_at, magic_1}
-use Rattle.amr_store.specs.Stored.{IsFilled, Entry, State, is_open, is_broken, entry_at, latest_of, state_of}
+use Rattle.amr_store.specs.Stored.{IsFilled, Entry, State, is_open, is_broken, entry_at, latest_entry, state_of}
 
 -- the slot is sound, and holds what it held, or nothing
 pub record HeldOrNone (old new : List ℕ) (gate size : ℕ) : Type 0 where
@@ -76,17 +76,17 @@ opening old new gate size sequence payload out filled =
       | inr closed ↦ record { sound = full; either = inl (entry_closed new gate closed); opened = holds }
     ]
 
--- what a store shows whose slots are these
-pub state_kept : (old new : List ℕ) (f s : Option Entry) → Kept old new f s → state_of new ≡ record (state_of old) { latest = latest_of f s }
-state_kept old new f s kept = same _ _ _ _ _ _ _ _ _ _ kept.head.magic kept.head.problem kept.head.size kept.first_is kept.second_is
+-- what a store shows with the head of another
+pub state_kept : (old new : List ℕ) → SameHead old new → state_of new ≡ record (state_of old) { latest = latest_entry new }
+state_kept old new head = same _ _ _ _ _ _ head.magic head.problem head.size
   where
-    shown : ℕ → List ℕ → ℕ → Option Entry → Option Entry → State
-    shown magic problem size first second = record {
+    shown : ℕ → List ℕ → ℕ → State
+    shown magic problem size = record {
       version = if magic == magic_1 then 1 else 2;
       problem = problem;
       slot_size = size;
-      latest = latest_of first second;
+      latest = latest_entry new;
     }
 
-    same : (m n : ℕ) (p q : List ℕ) (t u : ℕ) (a b c d : Option Entry) → m ≡ n → p ≡ q → t ≡ u → a ≡ b → c ≡ d → shown m p t a c ≡ shown n q u b d
-    same m n p q t u a b c d e f g h i = cc
+    same : (m n : ℕ) (p q : List ℕ) (t u : ℕ) → m ≡ n → p ≡ q → t ≡ u → shown m p t ≡ shown n q u
+    same m n p q t u e f g = cc

@@ -1,14 +1,14 @@
 -- A whole image, with the store that counts in it.
-use Rattle.std.proofs.Common.{◌≡◌, ℕ, ◌+◌, ◌≤◌, ◌<◌, max, nat_le, nat_lt, ◌==◌, Bool, true, false, not, ◌&&◌, ◌||◌, List, [], ◌∷◌, ◌++◌, length, drop, Option, None, inl, inr, refl, sym, ◌∙◌, ap, subst, arith}
+use Rattle.std.proofs.Common.{◌≡◌, ℕ, ◌+◌, ◌≤◌, ◌<◌, max, nat_le, nat_lt, ◌==◌, Bool, true, false, not, ◌&&◌, ◌||◌, List, [], ◌∷◌, ◌++◌, length, drop, None, inl, inr, refl, sym, ◌∙◌, ap, subst, arith}
 use Rattle.std.proofs.lemmas.Bool.{cases_Bool, ltb-true, ltb-false, lt-ltb, le-ltb, leb-false, lt-leb, or_parts, or_from, not-false, not_from_true}
 use Rattle.std.specs.Prelude.{slice_index, nat_eq}
 use Rattle.std.specs.Cmp.Lexicographic.{pointwise}
-use Rattle.amr_store.proofs.Parts.{SameHead, Kept, beyond_changed}
+use Rattle.amr_store.proofs.Parts.{SameHead, beyond_changed}
 use Rattle.amr_store.proofs.Places.{Outside}
 use Rattle.amr_store.proofs.Whole.{Whole, whole_of, tests_of, found_append, front_none, head_none, NoneFound}
 use Rattle.amr_store.specs.declared.part.Part.TheVariants.{Renewal}
 use Rattle.amr_store.specs.Layout.{open_gate, magic_1, magic_2, problem_of}
-use Rattle.amr_store.specs.Stored.{Reads, Entry, Held, is_open, tests, first_found, has_magic_1, has_magic_2, end_in, is_renewed, base_of, renewal_tests, damage_in, state_of, is_empty, stored}
+use Rattle.amr_store.specs.Stored.{Reads, Held, is_open, tests, first_found, has_magic_1, has_magic_2, end_in, is_renewed, base_of, renewal_tests, damage_in, state_of, is_empty, stored}
 
 pub stored_is : (image : List ℕ) (base : ℕ) → Reads image base → stored image ≡ Held (state_of (drop base image))
 stored_is image base reads = rw (reads.held, reads.sound, reads.base_is) refl
@@ -137,12 +137,12 @@ pub plain_sound : (new : List ℕ) → (has_magic_1 new || has_magic_2 new) ≡ 
 plain_sound new magic whole plain =
     found_append (tests (has_magic_1 new || has_magic_2 new) new) (renewal_tests new) (tests_of (has_magic_1 new || has_magic_2 new) new (with_magic _ new magic whole)) ∙ rw plain refl
 
-pub plain_changed : (old new : List ℕ) (a b : ℕ) (f s : Option Entry) → Reads old 0 → is_renewed old ≡ false → 0 < a → b ≤ end_in old → Outside a b old new → Kept old new f s → Reads new 0
-plain_changed old new a b f s reads plain past within out kept =
-    let plain_new = still_plain old new b plain kept.head out.no_longer (omega arith) (λ here. out.above (end_in old) here within) in
+pub plain_changed : (old new : List ℕ) (a b : ℕ) → Reads old 0 → is_renewed old ≡ false → 0 < a → b ≤ end_in old → Outside a b old new → SameHead old new → Whole true new → Reads new 0
+plain_changed old new a b reads plain past within out head whole =
+    let plain_new = still_plain old new b plain head out.no_longer (omega arith) (λ here. out.above (end_in old) here within) in
     record {
       held = held_kept old new a b past out reads.held;
-      sound = plain_sound new (some_magic_kept old new kept.head ∙ (outer_whole old reads.sound).magic) kept.whole plain_new;
+      sound = plain_sound new (some_magic_kept old new head ∙ (outer_whole old reads.sound).magic) whole plain_new;
       base_is = base_plain new plain_new;
     }
 
@@ -185,9 +185,9 @@ renewed_moved image e is magic whole same = record {
   same = subst (λ (n : ℕ). pointwise nat_eq (problem_of (drop n image)) (problem_of image) ≡ true) (sym is) same;
 }
 
-pub renewed_changed : (old new : List ℕ) (a b : ℕ) (f s : Option Entry) → Reads old (end_in old) → is_renewed old ≡ true → 0 < a → Outside (end_in old + a) (end_in old + b) old new
-    → Kept (drop (end_in old) old) (drop (end_in old) new) f s → Reads new (end_in old)
-renewed_changed old new a b f s reads renewed past out kept =
+pub renewed_changed : (old new : List ℕ) (a b : ℕ) → Reads old (end_in old) → is_renewed old ≡ true → 0 < a → Outside (end_in old + a) (end_in old + b) old new
+    → SameHead (drop (end_in old) old) (drop (end_in old) new) → Whole true (drop (end_in old) new) → Reads new (end_in old)
+renewed_changed old new a b reads renewed past out head whole =
     let e = end_in old in
     let outer = true_whole _ old (outer_whole old reads.sound) in
     let front = beyond_changed old new (e + a) (e + b) outer (omega arith) out in
@@ -199,8 +199,8 @@ renewed_changed old new a b f s reads renewed past out kept =
     (magic_1_kept old new front.head ∙ first_true (has_magic_1 old) (nat_lt (e + 1) (length old)) (is_open old e) renewed)
     (lt-ltb (end_in new + 1) (length new) (omega (arith, same_end, long, out.no_shorter)))
     (ap (λ (n : ℕ). is_open new n) same_end ∙ gate) in
-    let inner_new = renewed_moved new e same_end (magic_2_kept (drop e old) (drop e new) kept.head ∙ inner.magic) kept.whole
-    (same_problems _ _ _ _ kept.head.problem front.head.problem ∙ inner.same) in
+    let inner_new = renewed_moved new e same_end (magic_2_kept (drop e old) (drop e new) head ∙ inner.magic) whole
+    (same_problems _ _ _ _ head.problem front.head.problem ∙ inner.same) in
     record {
       held = held_kept old new (e + a) (e + b) (omega arith) out reads.held;
       sound = renewed_sound new (some_magic_kept old new front.head ∙ (outer_whole old reads.sound).magic) front.whole renewed_new inner_new;
@@ -214,16 +214,16 @@ outside_at : (a b c d : ℕ) (old new : List ℕ) → a ≡ c → b ≡ d → Ou
 outside_at a b c d old new e f out = subst (λ (n : ℕ). Outside c n old new) f (subst (λ (n : ℕ). Outside n b old new) e out)
 
 -- an image where a slot of the store that counts was written reads as that store, whichever it is
-pub reads_changed : (old new : List ℕ) (base a b : ℕ) (f s : Option Entry) → Reads old base → 0 < a → b ≤ end_in (drop base old) → Outside (base + a) (base + b) old new
-    → Kept (drop base old) (drop base new) f s → Reads new base
-reads_changed old new base a b f s reads past within out kept = elim (cases_Bool (is_renewed old)) [
+pub reads_changed : (old new : List ℕ) (base a b : ℕ) → Reads old base → 0 < a → b ≤ end_in (drop base old) → Outside (base + a) (base + b) old new
+    → SameHead (drop base old) (drop base new) → Whole true (drop base new) → Reads new base
+reads_changed old new base a b reads past within out head whole = elim (cases_Bool (is_renewed old)) [
   | inl renewed ↦
       let at : end_in old ≡ base = sym (base_renewed old renewed) ∙ reads.base_is in
-      subst Changed at (λ r w o k. renewed_changed old new a b f s r renewed past o k) reads within out kept
+      subst Changed at (λ r w o h v. renewed_changed old new a b r renewed past o h v) reads within out head whole
   | inr plain ↦
       let at : 0 ≡ base = sym (base_plain old plain) ∙ reads.base_is in
-      subst Changed at (λ r w o k. plain_changed old new a b f s r plain past w (outside_at (0 + a) (0 + b) a b old new (omega arith) (omega arith) o) k) reads within out kept
+      subst Changed at (λ r w o h v. plain_changed old new a b r plain past w (outside_at (0 + a) (0 + b) a b old new (omega arith) (omega arith) o) h v) reads within out head whole
 ]
   where
     Changed : ℕ → Type 0
-    Changed n = Reads old n → b ≤ end_in (drop n old) → Outside (n + a) (n + b) old new → Kept (drop n old) (drop n new) f s → Reads new n
+    Changed n = Reads old n → b ≤ end_in (drop n old) → Outside (n + a) (n + b) old new → SameHead (drop n old) (drop n new) → Whole true (drop n new) → Reads new n

@@ -1,4 +1,5 @@
 pub mod Examples
+pub mod Tables
 pub mod Images
 pub mod Parts
 pub mod Places
@@ -6,7 +7,6 @@ pub mod Slots
 pub mod Whole
 pub mod Runs
 pub mod Gates
-pub mod Phases
 pub mod Moves
 pub mod Writes
 pub mod Calls

@@ -1,5 +1,5 @@
 -- What an image is stored as, by what the tests on it find.
-use Rattle.std.proofs.Common.{◌≡◌, inl, inr, ℕ, ◌+◌, ◌*◌, ◌≤◌, ◌==◌, nat_le, nat_lt, Bool, true, false, not, ◌&&◌, ◌||◌, List, [], ◌∷◌, ◌++◌, length, drop, Option, Some, None, refl, sym, ◌∙◌, ap, subst, arith}
+use Rattle.std.proofs.Common.{◌≡◌, inl, inr, ℕ, ◌+◌, ◌≤◌, ◌==◌, nat_le, nat_lt, Bool, true, false, not, ◌&&◌, ◌||◌, List, [], ◌∷◌, ◌++◌, length, drop, Option, Some, None, refl, sym, ◌∙◌, ap, subst, arith}
 use Rattle.std.proofs.lemmas.Bool.{cases_Bool, eqb-true}
 use Rattle.std.proofs.lemmas.Bool.Decides.{nat_tests}
 use Rattle.std.specs.Prelude.{slice_range, option_map, nat_eq, if◌then◌else◌}
@@ -8,7 +8,7 @@ use Rattle.std.proofs.Math.Bool.{and_assoc}
 use Rattle.amr_store.proofs.Calls.{stands_at}
 use Rattle.amr_store.proofs.Images.{base_plain, base_renewed, one_row, stored_is}
 use Rattle.amr_store.proofs.PartsRead.{not_both}
-use Rattle.amr_store.proofs.Whole.{found_append, whole_of}
+use Rattle.amr_store.proofs.Whole.{found_append, front_found, whole_of}
 use Rattle.amr_store.specs.declared.check.Outline.{Outline}
 use Rattle.amr_store.specs.declared.found.Found.{Found}
 use Rattle.amr_store.specs.declared.found.Found.TheVariants.{Nothing, Ready, Damaged as Faulty}
@@ -16,23 +16,17 @@ use Rattle.amr_store.specs.declared.part.Part.{Part}
 use Rattle.amr_store.specs.declared.part.Part.TheVariants.{Renewal}
 use Rattle.amr_store.specs.declared.slot.Slot.{Slot}
 use Rattle.amr_store.specs.declared.store.Store.{Store}
-use Rattle.amr_store.specs.Checking.{IsOutline, IsHeldBy, IsInner}
-use Rattle.amr_store.specs.Layout.{long_at, problem_of, end_of}
-use Rattle.amr_store.specs.Opened.{Finds, FindsIn, IsReadyFound, IsRenewedFound, IsUnshut}
-use Rattle.amr_store.specs.Reading.{magic_in}
+use Rattle.amr_store.specs.declared.reading.Head.{Head}
+use Rattle.amr_store.specs.Checking.{IsOutline, IsHeldBy, IsInner, IsRenewedAt}
+use Rattle.amr_store.specs.Layout.{long_at, problem_of, text_length, end_of}
+use Rattle.amr_store.specs.Opened.{Finds, FindsIn, IsReadyFound, IsRenewedFound, IsStoreAtBase, IsUnshut}
+use Rattle.amr_store.specs.Reading.{SaysHead, magic_in}
+use Rattle.amr_store.specs.Table.{latest_base, sequence_in, last_of}
+use Rattle.amr_store.proofs.Tables.{table_index, latest_within}
 use Rattle.amr_disk.specs.Image.{Only}
 use Rattle.amr_store.specs.Shown.{Shows}
-use Rattle.amr_store.specs.Stands.{Stands, slot_of, base_in, version_in, problem_in, slot_size_in, first_in, second_in, sequence_in, last_of}
-use Rattle.amr_store.specs.Stored.{Entry, Empty, Damaged, stored, state_of, is_empty, is_open, is_renewed, end_in, tests, renewal_tests, damage_in, first_found, first_of, second_of, latest_of, has_magic_1, has_magic_2}
-
-found_go : (test : Bool) (part p : Part) (front back : List (Bool × Part)) → (first_found front ≡ Some p → first_found (front ++ back) ≡ Some p)
-    → first_found ((test, part) ∷ front) ≡ Some p → first_found ((test, part) ∷ (front ++ back)) ≡ Some p
-found_go true part p front back rest is = is
-found_go false part p front back rest is = rest is
-
-front_found : (front back : List (Bool × Part)) (p : Part) → first_found front ≡ Some p → first_found (front ++ back) ≡ Some p
-front_found [] back p is = let wrong : None ≡ Some p = is in cc
-front_found (row ∷ front) back p is = found_go row.0 row.1 p front back (front_found front back p) is
+use Rattle.amr_store.specs.Stands.{Stands, base_in, version_in, problem_in, slot_size_in, deltas_in, slots_in}
+use Rattle.amr_store.specs.Stored.{Entry, Empty, Damaged, stored, state_of, is_empty, is_open, is_renewed, end_in, tests, renewal_tests, damage_in, first_found, slot_of, deltas_of, count_of, entry_of, known_of, slots_of, latest_entry, has_magic_1, has_magic_2}
 
 damaged_stored : (s : List ℕ) (p : Part) → is_empty s ≡ false → damage_in s ≡ Some p → stored s ≡ Damaged p
 damaged_stored s p held damage = rw (held, damage) refl
@@ -69,9 +63,9 @@ held_is s has is some = some_held (nat_le (length s) 1) (is_open s 0) (sym (test
 pub outer_damaged : (s : List ℕ) (p : Part) → is_empty s ≡ false → first_found (tests (magic_in true s) s) ≡ Some p → stored s ≡ Damaged p
 outer_damaged s p held found = damaged_stored s p held (front_found (tests (magic_in true s) s) (renewal_tests s) p found)
 
--- the end of a store by its outline
-pub end_is : (outline : Outline) (s : List ℕ) → IsOutline outline s → end_in s ≡ 21 + outline.text + 2 * (17 + outline.slot_size)
-end_is outline s is = ends _ _ _ _ (sym is.head.text_is) (sym is.head.size_is)
+-- the end of a store by its head
+pub end_is : (head : Head) (s : List ℕ) → SaysHead head s → end_in s ≡ end_of head.text head.slot_size
+end_is head s is = ends _ _ _ _ (sym is.text_is) (sym is.size_is)
   where
     ends : (m n t u : ℕ) → m ≡ n → t ≡ u → end_of m t ≡ end_of n u
     ends m n t u e f = cc
@@ -80,11 +74,11 @@ one_is : (b : Bool) (v : ℕ) → v ≡ (if b then 1 else 2) → (v == 1) ≡ b
 one_is true v is = ap (λ (n : ℕ). n == 1) is
 one_is false v is = ap (λ (n : ℕ). n == 1) is
 
--- whether it was renewed, by its outline
-pub renewed_is : (outline : Outline) (s : List ℕ) (has : Bool) → IsOutline outline s
-    → has ≡ ((outline.version == 1) && (nat_lt (21 + outline.text + 2 * (17 + outline.slot_size) + 1) (length s) && is_open s (21 + outline.text + 2 * (17 + outline.slot_size)))) → has ≡ is_renewed s
-renewed_is outline s has is tests =
-    tests ∙ same (outline.version == 1) (has_magic_1 s) (21 + outline.text + 2 * (17 + outline.slot_size)) (end_in s) (one_is (has_magic_1 s) outline.version is.head.version_is) (sym (end_is outline s is))
+-- whether it was renewed, by its head
+pub renewed_is : (head : Head) (s : List ℕ) (has : Bool) → SaysHead head s
+    → has ≡ ((head.version == 1) && (nat_lt (end_of head.text head.slot_size + 1) (length s) && is_open s (end_of head.text head.slot_size))) → has ≡ is_renewed s
+renewed_is head s has is tests =
+    tests ∙ same (head.version == 1) (has_magic_1 s) (end_of head.text head.slot_size) (end_in s) (one_is (has_magic_1 s) head.version is.version_is) (sym (end_is head s is))
   where
     same : (a b : Bool) (m n : ℕ) → a ≡ b → m ≡ n → (a && (nat_lt (m + 1) (length s) && is_open s m)) ≡ (b && nat_lt (n + 1) (length s) && is_open s n)
     same a b m n e f = rw (e, f) (sym (and_assoc b (nat_lt (n + 1) (length s)) (is_open s n)))
@@ -93,82 +87,76 @@ plain_none : (s : List ℕ) → is_renewed s ≡ false → first_found (renewal_
 plain_none s plain = rw plain refl
 
 -- a store in memory stands for an image that was not renewed
-pub plain_stands : (store : Store) (outline : Outline) (s : List ℕ) → IsHeldBy outline s → is_renewed s ≡ false → base_in store ≡ 0
-    → version_in store ≡ outline.version → (21 + outline.text ≤ length s → problem_in store ≡ slice_range s 21 (21 + outline.text)) → slot_size_in store ≡ outline.slot_size
-    → first_in store ≡ outline.first → second_in store ≡ outline.second → Stands store s
-plain_stands store outline s is plain base version problem size first second =
+pub plain_stands : (store : Store) (outline : Outline) (s : List ℕ) → IsHeldBy outline.head s → IsOutline outline s → is_renewed s ≡ false → base_in store ≡ 0
+    → version_in store ≡ outline.head.version → (21 + outline.head.text ≤ length s → problem_in store ≡ slice_range s 21 (21 + outline.head.text)) → slot_size_in store ≡ outline.head.slot_size
+    → deltas_in store ≡ 0 → slots_in store ≡ outline.slots.items → Stands store s
+plain_stands store outline s is outline_is plain base version problem size deltas slots =
     let whole = whole_of (magic_in true s) s is.sound in
-    let head = is.outline_is.head in
+    let head = is.head_is in
     stands_at store s 0 (sym base)
     record { held = is.held; sound = found_append (tests (magic_in true s) s) (renewal_tests s) is.sound ∙ plain_none s plain; base_is = base_plain s plain }
-    (version ∙ head.version_is) (problem (omega (arith, whole.text_whole, head.text_is)) ∙ ap (λ (n : ℕ). slice_range s 21 (21 + n)) head.text_is) (size ∙ head.size_is) (first ∙ is.outline_is.first) (second ∙ is.outline_is.second)
+    (version ∙ head.version_is) (problem (omega (arith, whole.text_whole, head.text_is)) ∙ ap (λ (n : ℕ). slice_range s 21 (21 + n)) head.text_is) (size ∙ head.size_is) deltas (slots ∙ outline_is.slots)
 
 renewal_is : (s : List ℕ) → is_renewed s ≡ true → first_found (renewal_tests s)
     ≡ first_found (tests (has_magic_2 (drop (end_in s) s)) (drop (end_in s) s) ++ (not (pointwise nat_eq (problem_of (drop (end_in s) s)) (problem_of s)), Renewal) ∷ [])
 renewal_is s renewed = rw renewed refl
 
-damage_is : (outline : Outline) (s : List ℕ) → IsHeldBy outline s → is_renewed s ≡ true
+damage_is : (s : List ℕ) → first_found (tests (magic_in true s) s) ≡ None → is_renewed s ≡ true
     → damage_in s ≡ first_found (tests (has_magic_2 (drop (end_in s) s)) (drop (end_in s) s) ++ (not (pointwise nat_eq (problem_of (drop (end_in s) s)) (problem_of s)), Renewal) ∷ [])
-damage_is outline s is renewed = found_append (tests (magic_in true s) s) (renewal_tests s) is.sound ∙ renewal_is s renewed
+damage_is s sound renewed = found_append (tests (magic_in true s) s) (renewal_tests s) sound ∙ renewal_is s renewed
 
 -- the new store of a renewed one is damaged
-pub inner_damaged : (outline : Outline) (s : List ℕ) (p : Part) → IsHeldBy outline s → is_renewed s ≡ true
-    → first_found (tests (magic_in false (drop (end_in s) s)) (drop (end_in s) s)) ≡ Some p → stored s ≡ Damaged p
-inner_damaged outline s p is renewed found =
-    damaged_stored s p is.held (damage_is outline s is renewed ∙ front_found (tests (has_magic_2 (drop (end_in s) s)) (drop (end_in s) s)) ((not (pointwise nat_eq (problem_of (drop (end_in s) s)) (problem_of s)), Renewal) ∷ []) p found)
+pub inner_damaged : (head : Head) (s : List ℕ) (p : Part) → IsHeldBy head s → is_renewed s ≡ true → first_found (tests (magic_in false (drop (end_in s) s)) (drop (end_in s) s)) ≡ Some p → stored s ≡ Damaged p
+inner_damaged head s p is renewed found =
+    damaged_stored s p is.held (damage_is s is.sound renewed ∙ front_found (tests (has_magic_2 (drop (end_in s) s)) (drop (end_in s) s)) ((not (pointwise nat_eq (problem_of (drop (end_in s) s)) (problem_of s)), Renewal) ∷ []) p found)
 
 last_row : (b : Bool) → b ≡ false → first_found ((not b, Renewal) ∷ []) ≡ Some Renewal
 last_row true is = let wrong : true ≡ false = is in cc
 last_row false is = refl
 
-problem_at : (inner : Outline) (part : List ℕ) (m : Bool) (text : List ℕ) → first_found (tests m part) ≡ None → IsOutline inner part → (21 + inner.text ≤ length part → text ≡ slice_range part 21 (21 + inner.text)) → text ≡ problem_of part
-problem_at inner part m text none is told =
+problem_at : (text : ℕ) (part : List ℕ) (m : Bool) (bytes : List ℕ) → first_found (tests m part) ≡ None → text ≡ text_length part → (21 + text ≤ length part → bytes ≡ slice_range part 21 (21 + text)) → bytes ≡ problem_of part
+problem_at text part m bytes none is told =
     let whole = whole_of m part none in
-    told (omega (arith, whole.text_whole, is.head.text_is)) ∙ ap (λ (n : ℕ). slice_range part 21 (21 + n)) is.head.text_is
+    told (omega (arith, whole.text_whole, is)) ∙ ap (λ (n : ℕ). slice_range part 21 (21 + n)) is
+
+-- the problems of both stores, as they were read
+pub record ProblemsRead (text base : ℕ) (inner : Outline) (problem old s : List ℕ) : Type 0 where
+  pub new_told : 21 + inner.head.text ≤ length (drop base s) → problem ≡ slice_range (drop base s) 21 (21 + inner.head.text)
+  pub old_told : 21 + text ≤ length s → old ≡ slice_range s 21 (21 + text)
+
+same_problems : (text : ℕ) (inner : Outline) (s problem old : List ℕ) (b : Bool) → IsRenewedAt text (end_in s) s → IsInner inner (drop (end_in s) s) → ProblemsRead text (end_in s) inner problem old s
+    → pointwise nat_eq problem old ≡ b → pointwise nat_eq (problem_of (drop (end_in s) s)) (problem_of s) ≡ b
+same_problems text inner s problem old b is of read same =
+    let part = drop (end_in s) s in
+    let new_is = problem_at inner.head.text part (magic_in false part) problem of.sound of.outline_is.head.text_is read.new_told in
+    let old_is = problem_at text s (magic_in true s) old is.sound is.text_is read.old_told in
+    subst (λ (x : List ℕ). pointwise nat_eq x (problem_of s) ≡ b) new_is (subst (λ (x : List ℕ). pointwise nat_eq problem x ≡ b) old_is same)
 
 -- the new store holds another problem
-pub other_problem : (outline inner : Outline) (s problem old : List ℕ) → IsHeldBy outline s → is_renewed s ≡ true → IsInner inner (drop (end_in s) s)
-    → (21 + inner.text ≤ length (drop (end_in s) s) → problem ≡ slice_range (drop (end_in s) s) 21 (21 + inner.text)) → (21 + outline.text ≤ length s → old ≡ slice_range s 21 (21 + outline.text))
+other_problem : (text : ℕ) (inner : Outline) (s problem old : List ℕ) → IsRenewedAt text (end_in s) s → IsInner inner (drop (end_in s) s) → ProblemsRead text (end_in s) inner problem old s
     → pointwise nat_eq problem old ≡ false → stored s ≡ Damaged Renewal
-other_problem outline inner s problem old is renewed of new_told old_told differ =
+other_problem text inner s problem old is of read differ =
     let part = drop (end_in s) s in
-    let new_is = problem_at inner part (magic_in false part) problem of.sound of.outline_is new_told in
-    let old_is = problem_at outline s (magic_in true s) old is.sound is.outline_is old_told in
-    let apart : pointwise nat_eq (problem_of part) (problem_of s) ≡ false = subst (λ (x : List ℕ). pointwise nat_eq x (problem_of s) ≡ false) new_is (subst (λ (x : List ℕ). pointwise nat_eq problem x ≡ false) old_is differ) in
     damaged_stored s Renewal is.held
-    (damage_is outline s is renewed ∙ found_append (tests (has_magic_2 part) part) ((not (pointwise nat_eq (problem_of part) (problem_of s)), Renewal) ∷ []) of.sound ∙ last_row (pointwise nat_eq (problem_of part) (problem_of s)) apart)
+    (damage_is s is.sound is.renewed ∙ found_append (tests (has_magic_2 part) part) ((not (pointwise nat_eq (problem_of part) (problem_of s)), Renewal) ∷ []) of.sound
+    ∙ last_row (pointwise nat_eq (problem_of part) (problem_of s)) (same_problems text inner s problem old false is of read differ))
 
 -- a store in memory stands for an image that was renewed
-pub renewed_stands : (store : Store) (outline inner : Outline) (s old : List ℕ) → IsHeldBy outline s → is_renewed s ≡ true → IsInner inner (drop (end_in s) s)
-    → (21 + inner.text ≤ length (drop (end_in s) s) → problem_in store ≡ slice_range (drop (end_in s) s) 21 (21 + inner.text)) → (21 + outline.text ≤ length s → old ≡ slice_range s 21 (21 + outline.text))
-    → pointwise nat_eq (problem_in store) old ≡ true → base_in store ≡ end_in s
-    → version_in store ≡ 2 → slot_size_in store ≡ inner.slot_size → first_in store ≡ inner.first → second_in store ≡ inner.second → Stands store s
-renewed_stands store outline inner s old is renewed of new_told old_told equal base version size first second =
+renewed_stands : (store : Store) (text : ℕ) (inner : Outline) (s problem old : List ℕ) → IsRenewedAt text (end_in s) s → IsInner inner (drop (end_in s) s) → ProblemsRead text (end_in s) inner problem old s
+    → pointwise nat_eq problem old ≡ true → problem_in store ≡ problem → IsStoreAtBase (end_in s) inner store → Stands store s
+renewed_stands store text inner s problem old is of read equal problem_is store_is =
     let part = drop (end_in s) s in
     let head = of.outline_is.head in
     let other : has_magic_1 part ≡ false = not_both (long_at part 1) (whole_of (has_magic_2 part) part of.sound).magic in
-    let new_is = problem_at inner part (magic_in false part) (problem_in store) of.sound of.outline_is new_told in
-    let old_is = problem_at outline s (magic_in true s) old is.sound is.outline_is old_told in
-    let same : pointwise nat_eq (problem_of part) (problem_of s) ≡ true = subst (λ (x : List ℕ). pointwise nat_eq x (problem_of s) ≡ true) new_is (subst (λ (x : List ℕ). pointwise nat_eq (problem_in store) x ≡ true) old_is equal) in
-    stands_at store s (end_in s) (sym base)
+    let same = same_problems text inner s problem old true is of read equal in
+    stands_at store s (end_in s) (sym store_is.base_is)
     record {
       held = is.held;
-      sound = damage_is outline s is renewed ∙ found_append (tests (has_magic_2 part) part) ((not (pointwise nat_eq (problem_of part) (problem_of s)), Renewal) ∷ []) of.sound ∙ one_row (pointwise nat_eq (problem_of part) (problem_of s)) same;
-      base_is = base_renewed s renewed;
+      sound = damage_is s is.sound is.renewed ∙ found_append (tests (has_magic_2 part) part) ((not (pointwise nat_eq (problem_of part) (problem_of s)), Renewal) ∷ []) of.sound ∙ one_row (pointwise nat_eq (problem_of part) (problem_of s)) same;
+      base_is = base_renewed s is.renewed;
     }
-    (version ∙ sym (rw other refl)) new_is (size ∙ head.size_is) (first ∙ of.outline_is.first) (second ∙ of.outline_is.second)
-
-sequence_of : Entry → ℕ
-sequence_of e = e.sequence
-
-last_is : (a b : Option Entry) → last_of (sequence_in (option_map slot_of a)) (sequence_in (option_map slot_of b)) ≡ option_map (λ (e : Entry). e.sequence) (latest_of a b)
-last_is None None = refl
-last_is None (Some b) = refl
-last_is (Some a) None = refl
-last_is (Some a) (Some b) = elim (cases_Bool (nat_lt a.sequence b.sequence)) [
-  | inl later ↦ rw later refl
-  | inr sooner ↦ rw sooner refl
-]
+    (store_is.version ∙ sym (rw other refl)) (problem_is ∙ problem_at inner.head.text part (magic_in false part) problem of.sound head.text_is read.new_told) (store_is.slot_size ∙ head.size_is)
+    store_is.deltas (store_is.slots ∙ of.outline_is.slots)
 
 -- a store that stands for an image shows what is stored
 pub shows_of : (store : Store) (s : List ℕ) → Stands store s → Shows store (stored s)
@@ -180,29 +168,34 @@ shows_of store s is =
         version = is.version;
         problem = is.problem;
         slot_size = is.slot_size;
-        last = lasts _ _ _ _ is.first is.second ∙ last_is (first_of part) (second_of part);
+        last = lasts _ _ _ _ is.deltas is.slots ∙ last_is part;
       },
     )
   where
-    lasts : (a b c d : Option Slot) → a ≡ b → c ≡ d → last_of (sequence_in a) (sequence_in c) ≡ last_of (sequence_in b) (sequence_in d)
-    lasts a b c d e f = cc
+    lasts : (m n : ℕ) (t u : List (Option Slot)) → m ≡ n → t ≡ u → last_of m t ≡ last_of n u
+    lasts m n t u e f = cc
+
+    sequences : (o : Option Entry) → sequence_in (option_map slot_of o) ≡ option_map (λ (e : Entry). e.sequence) o
+    sequences None = refl
+    sequences (Some e) = refl
+
+    last_is : (part : List ℕ) → last_of (deltas_of part) (slots_of part) ≡ option_map (λ (e : Entry). e.sequence) (latest_entry part)
+    last_is part =
+        let k = latest_base (deltas_of part) (slots_of part) in
+        ap sequence_in (table_index (λ j. known_of part j) (count_of part) k None (latest_within (deltas_of part) (slots_of part))) ∙ sequences (entry_of part k)
 
 -- the new store of a renewed one, by what was made of its problem and the old one
-pub renewed_finds : (found : Found) (outline inner : Outline) (s problem old : List ℕ) → IsRenewedFound (end_in s) inner problem old found → IsHeldBy outline s → is_renewed s ≡ true → IsInner inner (drop (end_in s) s)
-    → (21 + inner.text ≤ length (drop (end_in s) s) → problem ≡ slice_range (drop (end_in s) s) 21 (21 + inner.text)) → (21 + outline.text ≤ length s → old ≡ slice_range s 21 (21 + outline.text)) → FindsIn found s
-renewed_finds Nothing outline inner s problem old made is renewed of new_told old_told = absurd made
-renewed_finds (Ready store) outline inner s problem old made is renewed of new_told old_told =
-    let store_is = made.2 in
-    renewed_stands store outline inner s old is renewed of (λ whole. made.1 ∙ new_told whole) old_told (subst (λ (x : List ℕ). pointwise nat_eq x old ≡ true) (sym made.1) made.0) store_is.base_is
-    store_is.version store_is.slot_size store_is.first store_is.second
-renewed_finds (Faulty part) outline inner s problem old made is renewed of new_told old_told = other_problem outline inner s problem old is renewed of new_told old_told made.0 ∙ ap Damaged (sym made.1)
+renewed_found : (found : Found) (text : ℕ) (inner : Outline) (s problem old : List ℕ) → IsRenewedFound (end_in s) inner problem old found → IsRenewedAt text (end_in s) s → IsInner inner (drop (end_in s) s)
+    → ProblemsRead text (end_in s) inner problem old s → FindsIn found s
+renewed_found Nothing text inner s problem old made is of read = absurd made
+renewed_found (Ready store) text inner s problem old made is of read = renewed_stands store text inner s problem old is of read made.0 made.1 made.2
+renewed_found (Faulty part) text inner s problem old made is of read = other_problem text inner s problem old is of read made.0 ∙ ap Damaged (sym made.1)
 
-pub renewed_finds_at : (found : Found) (outline inner : Outline) (s problem old : List ℕ) (base : ℕ) → base ≡ end_in s → IsRenewedFound base inner problem old found → IsHeldBy outline s → is_renewed s ≡ true → IsInner inner (drop base s)
-    → (21 + inner.text ≤ length (drop base s) → problem ≡ slice_range (drop base s) 21 (21 + inner.text)) → (21 + outline.text ≤ length s → old ≡ slice_range s 21 (21 + outline.text)) → FindsIn found s
-renewed_finds_at found outline inner s problem old base at =
-    subst (λ (b : ℕ). IsRenewedFound b inner problem old found → IsHeldBy outline s → is_renewed s ≡ true → IsInner inner (drop b s)
-    → (21 + inner.text ≤ length (drop b s) → problem ≡ slice_range (drop b s) 21 (21 + inner.text)) → (21 + outline.text ≤ length s → old ≡ slice_range s 21 (21 + outline.text)) → FindsIn found s)
-    (sym at) (renewed_finds found outline inner s problem old)
+pub renewed_finds : (found : Found) (text base : ℕ) (inner : Outline) (s problem old : List ℕ) → IsRenewedFound base inner problem old found → IsRenewedAt text base s → IsInner inner (drop base s)
+    → ProblemsRead text base inner problem old s → FindsIn found s
+renewed_finds found text base inner s problem old made is =
+    subst (λ (b : ℕ). IsRenewedFound b inner problem old found → IsRenewedAt text b s → IsInner inner (drop b s) → ProblemsRead text b inner problem old s → FindsIn found s) (sym is.base_is)
+    (renewed_found found text inner s problem old) made is
 
 -- what was found in the image shows what is stored
 pub finds_of : (found : Found) (s : List ℕ) → FindsIn found s → Finds found (stored s)
@@ -221,3 +214,14 @@ no_version v b not_one = elim (cases_Bool (v == 1)) [
   | inl one ↦ absurd (not_one (eqb-true v 1 one))
   | inr other ↦ rw other refl
 ]
+
+pub not_renewed : (head : Head) (s : List ℕ) → SaysHead head s → (head.version ≡ 1 → ⊥) → false ≡ is_renewed s
+not_renewed head s is not_one = renewed_is head s false is (no_version head.version _ not_one)
+
+pub maybe_renewed : (head : Head) (s : List ℕ) (has : Bool) → SaysHead head s → head.version ≡ 1
+    → has ≡ (nat_lt (end_of head.text head.slot_size + 1) (length s) && is_open s (end_of head.text head.slot_size)) → has ≡ is_renewed s
+maybe_renewed head s has is one tests = renewed_is head s has is (tests ∙ sym (both (head.version == 1) _ (ap (λ (n : ℕ). n == 1) one)))
+  where
+    both : (a b : Bool) → a ≡ true → (a && b) ≡ b
+    both true b e = refl
+    both false b e = let wrong : false ≡ true = e in cc

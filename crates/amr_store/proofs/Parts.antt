@@ -1,11 +1,16 @@
 -- A store, from its first byte on, of which one slot was written.
-use Rattle.std.proofs.Common.{◌≡◌, ℕ, ◌+◌, ◌≤◌, true, false, List, length, Option, refl, ◌∙◌, ap, arith}
-use Rattle.std.specs.Prelude.{slice_range}
+use Rattle.std.proofs.Common.{◌≡◌, inl, inr, ℕ, ◌+◌, ◌≤◌, ◌<◌, ◌==◌, nat_lt, true, false, List, length, Option, None, refl, sym, ◌∙◌, ap, arith}
+use Rattle.std.proofs.lemmas.Bool.{cases_Bool, ltb-true, ltb-false}
+use Rattle.std.proofs.lemmas.Bool.Decides.{nat_tests}
+use Rattle.std.specs.Prelude.{slice_range, slice_set, option_map}
 use Rattle.amr_store.proofs.Places.{Outside, long_same, word_same, range_same}
-use Rattle.amr_store.proofs.Slots.{slot_kept}
+use Rattle.amr_store.proofs.Slots.{SlotKept, slot_kept}
+use Rattle.amr_store.proofs.Tables.{gates_apart, gate_first, table_same, table_set}
 use Rattle.amr_store.proofs.Whole.{Whole}
-use Rattle.amr_store.specs.Layout.{long_at, size_of, text_length, problem_of, gate_0, gate_1, end_of}
-use Rattle.amr_store.specs.Stored.{Entry, is_broken, entry_at, first_of, second_of, is_tie}
+use Rattle.amr_store.specs.declared.slot.Slot.{Slot}
+use Rattle.amr_store.specs.Layout.{long_at, size_of, text_length, problem_of, gate_at}
+use Rattle.amr_store.specs.Stored.{Entry, slot_of, deltas_of, count_of, gate_of, entry_of, known_of, slots_of, is_broken, entry_at}
+use Rattle.amr_store.specs.Table.{is_tied}
 
 -- the same magic, size and problem
 pub record SameHead (old new : List ℕ) : Type 0 where
@@ -26,68 +31,105 @@ head_kept old new a b long whole from out =
           ∙ range_same old new 21 (21 + text_length old) whole (omega (arith, out.no_shorter)) (λ i low high. out.below i (omega arith) (omega arith));
     }
 
--- new is a store with the head of old and these slots
-pub record Kept (old new : List ℕ) (first second : Option Entry) : Type 0 where
-  pub head : SameHead old new
-  pub whole : Whole true new
-  pub first_is : first_of new ≡ first
-  pub second_is : second_of new ≡ second
+pub gate_kept : (old new : List ℕ) (k : ℕ) → SameHead old new → gate_of new k ≡ gate_of old k
+gate_kept old new k head = same _ _ _ _ head.text head.size
+  where
+    same : (m n t u : ℕ) → m ≡ n → t ≡ u → gate_at k m t ≡ gate_at k n u
+    same m n t u e f = cc
 
 -- the store of new, slot by slot
-pub assembled : (old new : List ℕ) (first second : Option Entry) → Whole true old → length old ≤ length new → SameHead old new
-    → is_broken new (gate_0 (text_length old)) (size_of old) ≡ false → entry_at new (gate_0 (text_length old)) ≡ first
-    → is_broken new (gate_1 (text_length old) (size_of old)) (size_of old) ≡ false → entry_at new (gate_1 (text_length old) (size_of old)) ≡ second
-    → is_tie first second ≡ false → Kept old new first second
-assembled old new first second whole longer head sound_0 first_is sound_1 second_is tie =
-    let one : first_of new ≡ first = ap (λ (n : ℕ). entry_at new (gate_0 n)) head.text ∙ first_is in
-    let two : second_of new ≡ second = at_gate_1 _ _ _ _ head.text head.size ∙ second_is in
+pub assembled : (old new : List ℕ) → Whole true old → length old ≤ length new → SameHead old new → ((k : ℕ) → k < count_of old → is_broken new (gate_of old k) (size_of old) ≡ false)
+    → is_tied (deltas_of old) (slots_of new) ≡ false → Whole true new
+assembled old new whole longer head sound tie = record {
+  long = omega (arith, whole.long);
+  magic = refl;
+  text_fits = omega (arith, whole.text_fits, head.text);
+  text_whole = omega (arith, whole.text_whole, head.text);
+  size_fits = omega (arith, whole.size_fits, head.size);
+  slots = λ k within. broken _ _ _ _ (gate_kept old new k head) head.size ∙ sound k within;
+  tie = tie;
+}
+  where
+    broken : (m n s t : ℕ) → m ≡ n → s ≡ t → is_broken new m s ≡ is_broken new n t
+    broken m n s t e f = rw (e, f) refl
+
+-- new is a store with the head of old, of which one slot was written and holds this entry
+pub record Kept (old new : List ℕ) (k : ℕ) (entry : Option Entry) : Type 0 where
+  pub head : SameHead old new
+  pub whole : Whole true new
+  pub here : entry_of new k ≡ entry
+  pub others : (j : ℕ) → j < count_of old → (j ≡ k → ⊥) → entry_of new j ≡ entry_of old j
+
+pub slots_set : (old new : List ℕ) (k : ℕ) (entry : Option Entry) → k < count_of old → entry_of new k ≡ entry → ((j : ℕ) → j < count_of old → (j ≡ k → ⊥) → entry_of new j ≡ entry_of old j)
+    → slots_of new ≡ slice_set (slots_of old) k (option_map slot_of entry)
+slots_set old new k entry within here others =
+    table_set (λ j. known_of old j) (λ j. known_of new j) (count_of old) k None within (λ j lt other. ap (λ (o : Option Entry). option_map slot_of o) (others j lt other))
+    ∙ ap (λ (o : Option Entry). slice_set (slots_of old) k (option_map slot_of o)) here
+
+other_slot : (old new : List ℕ) (k j : ℕ) → Whole true old → Outside (gate_of old k) (gate_of old k + (17 + size_of old)) old new → j < count_of old → (j ≡ k → ⊥) → SlotKept old new (gate_of old j) (size_of old)
+other_slot old new k j whole out within other = elim (cases_Bool (nat_lt j k)) [
+  | inl before ↦
+      let ends = gates_apart j k (text_length old) (size_of old) (ltb-true j k before) in
+      slot_kept old new (gate_of old j) (size_of old) out.no_shorter (λ i here from to. out.below i here (omega (arith, to, ends))) (whole.slots j within)
+  | inr after ↦
+      let ends = gates_apart k j (text_length old) (size_of old) (strict k j (ltb-false j k after) (λ e. other (sym e))) in
+      slot_kept old new (gate_of old j) (size_of old) out.no_shorter (λ i here from to. out.above i here (omega (arith, from, ends))) (whole.slots j within)
+]
+  where
+    strict : (m n : ℕ) → m ≤ n → (m ≡ n → ⊥) → m < n
+    strict m n le other = elim (cases_Bool (nat_lt m n)) [
+      | inl lt ↦ ltb-true m n lt
+      | inr ge ↦ absurd (other (omega (arith, le, ltb-false m n ge)))
+    ]
+
+-- a slot was written, or its gate
+pub slot_changed : (old new : List ℕ) (k : ℕ) → k < count_of old → Whole true old → Outside (gate_of old k) (gate_of old k + (17 + size_of old)) old new → is_broken new (gate_of old k) (size_of old) ≡ false
+    → is_tied (deltas_of old) (slice_set (slots_of old) k (option_map slot_of (entry_at new (gate_of old k)))) ≡ false → Kept old new k (entry_at new (gate_of old k))
+slot_changed old new k within whole out sound tie =
+    let head = head_kept old new (gate_of old k) (gate_of old k + (17 + size_of old)) whole.long whole.text_whole (gate_first k (text_length old) (size_of old)) out in
+    let here : entry_of new k ≡ entry_at new (gate_of old k) = ap (λ (g : ℕ). entry_at new g) (gate_kept old new k head) in
+    let others : (j : ℕ) → j < count_of old → (j ≡ k → ⊥) → entry_of new j ≡ entry_of old j = λ j lt other.
+    ap (λ (g : ℕ). entry_at new g) (gate_kept old new j head) ∙ (other_slot old new k j whole out lt other).entry in
     record {
       head = head;
-      whole = record {
-        long = omega (arith, whole.long);
-        magic = refl;
-        text_fits = omega (arith, whole.text_fits, head.text);
-        text_whole = omega (arith, whole.text_whole, head.text);
-        size_fits = omega (arith, whole.size_fits, head.size);
-        slot_0 = broken_0 _ _ _ _ head.text head.size ∙ sound_0;
-        slot_1 = broken_1 _ _ _ _ head.text head.size ∙ sound_1;
-        tie = ties _ _ _ _ one two ∙ tie;
-      };
-      first_is = one;
-      second_is = two;
+      whole = assembled old new whole out.no_shorter head (λ j lt. each head others j lt)
+          (ap (λ (l : List (Option Slot)). is_tied (deltas_of old) l) (slots_set old new k _ within here others) ∙ tie);
+      here = here;
+      others = others;
     }
   where
-    at_gate_1 : (n m s t : ℕ) → n ≡ m → s ≡ t → entry_at new (gate_1 n s) ≡ entry_at new (gate_1 m t)
-    at_gate_1 n m s t e f = rw (e, f) refl
+    equal : (i j : ℕ) → (i == j) ≡ true → i ≡ j
+    equal i j is = grind (arith, nat_tests)
 
-    broken_0 : (n m s t : ℕ) → n ≡ m → s ≡ t → is_broken new (gate_0 n) s ≡ is_broken new (gate_0 m) t
-    broken_0 n m s t e f = rw (e, f) refl
+    apart : (i j : ℕ) → (i == j) ≡ false → i ≡ j → ⊥
+    apart i j is e = grind (arith, nat_tests)
 
-    broken_1 : (n m s t : ℕ) → n ≡ m → s ≡ t → is_broken new (gate_1 n s) s ≡ is_broken new (gate_1 m t) t
-    broken_1 n m s t e f = rw (e, f) refl
-
-    ties : (a b c d : Option Entry) → a ≡ b → c ≡ d → is_tie a c ≡ is_tie b d
-    ties a b c d e f = rw (e, f) refl
-
--- slot 0 was written, or its gate
-pub first_changed : (old new : List ℕ) → Whole true old → Outside (gate_0 (text_length old)) (gate_1 (text_length old) (size_of old)) old new
-    → is_broken new (gate_0 (text_length old)) (size_of old) ≡ false → is_tie (entry_at new (gate_0 (text_length old))) (second_of old) ≡ false
-    → Kept old new (entry_at new (gate_0 (text_length old))) (second_of old)
-first_changed old new whole out sound tie =
-    let other = slot_kept old new (gate_1 (text_length old) (size_of old)) (size_of old) out.no_shorter (λ i within from to. out.above i within (omega arith)) whole.slot_1 in
-    assembled old new _ _ whole out.no_shorter (head_kept old new _ _ whole.long whole.text_whole (omega arith) out) sound refl other.sound other.entry tie
-
--- slot 1 was written, or its gate
-pub second_changed : (old new : List ℕ) → Whole true old → Outside (gate_1 (text_length old) (size_of old)) (end_of (text_length old) (size_of old)) old new
-    → is_broken new (gate_1 (text_length old) (size_of old)) (size_of old) ≡ false → is_tie (first_of old) (entry_at new (gate_1 (text_length old) (size_of old))) ≡ false
-    → Kept old new (first_of old) (entry_at new (gate_1 (text_length old) (size_of old)))
-second_changed old new whole out sound tie =
-    let other = slot_kept old new (gate_0 (text_length old)) (size_of old) out.no_shorter (λ i within from to. out.below i within (omega arith)) whole.slot_0 in
-    assembled old new _ _ whole out.no_shorter (head_kept old new _ _ whole.long whole.text_whole (omega arith) out) other.sound other.entry sound refl tie
+    each : SameHead old new → ((j : ℕ) → j < count_of old → (j ≡ k → ⊥) → entry_of new j ≡ entry_of old j) → (j : ℕ) → j < count_of old → is_broken new (gate_of old j) (size_of old) ≡ false
+    each head others j lt = elim (cases_Bool (j == k)) [
+      | inl same ↦ ap (λ (i : ℕ). is_broken new (gate_of old i) (size_of old)) (equal j k same) ∙ sound
+      | inr other ↦ (other_slot old new k j whole out lt (apart j k other)).sound
+    ]
 
 -- what was written lies past the store
-pub beyond_changed : (old new : List ℕ) (a b : ℕ) → Whole true old → end_of (text_length old) (size_of old) ≤ a → Outside a b old new → Kept old new (first_of old) (second_of old)
+pub record Untouched (old new : List ℕ) : Type 0 where
+  pub head : SameHead old new
+  pub whole : Whole true new
+  pub entries : (k : ℕ) → k < count_of old → entry_of new k ≡ entry_of old k
+  pub slots : slots_of new ≡ slots_of old
+
+pub beyond_changed : (old new : List ℕ) (a b : ℕ) → Whole true old → gate_at (count_of old) (text_length old) (size_of old) ≤ a → Outside a b old new → Untouched old new
 beyond_changed old new a b whole past out =
-    let one = slot_kept old new (gate_0 (text_length old)) (size_of old) out.no_shorter (λ i within from to. out.below i within (omega arith)) whole.slot_0 in
-    let two = slot_kept old new (gate_1 (text_length old) (size_of old)) (size_of old) out.no_shorter (λ i within from to. out.below i within (omega arith)) whole.slot_1 in
-    assembled old new _ _ whole out.no_shorter (head_kept old new _ _ whole.long whole.text_whole (omega arith) out) one.sound one.entry two.sound two.entry whole.tie
+    let head = head_kept old new a b whole.long whole.text_whole (omega (arith, past, gate_first (count_of old) (text_length old) (size_of old))) out in
+    let entries : (k : ℕ) → k < count_of old → entry_of new k ≡ entry_of old k = λ k lt. ap (λ (g : ℕ). entry_at new g) (gate_kept old new k head) ∙ (each k lt).entry in
+    let slots : slots_of new ≡ slots_of old = table_same (λ k. known_of old k) (λ k. known_of new k) (count_of old) (λ k lt. ap (λ (o : Option Entry). option_map slot_of o) (entries k lt)) in
+    record {
+      head = head;
+      whole = assembled old new whole out.no_shorter head (λ k lt. (each k lt).sound) (ap (λ (l : List (Option Slot)). is_tied (deltas_of old) l) slots ∙ whole.tie);
+      entries = entries;
+      slots = slots;
+    }
+  where
+    each : (k : ℕ) → k < count_of old → SlotKept old new (gate_of old k) (size_of old)
+    each k lt =
+        let ends = gates_apart k (count_of old) (text_length old) (size_of old) lt in
+        slot_kept old new (gate_of old k) (size_of old) out.no_shorter (λ i here from to. out.below i here (omega (arith, to, ends, past))) (whole.slots k lt)

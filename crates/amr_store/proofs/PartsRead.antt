@@ -1,7 +1,8 @@
 -- What the parts of a store say that were read.
-use Rattle.std.proofs.Common.{◌≡◌, inl, inr, ℕ, ◌+◌, ◌≤◌, ◌<◌, ◌==◌, nat_le, nat_lt, Bool, true, false, not, ◌&&◌, ◌||◌, List, [], ◌∷◌, length, drop, Option, Some, None, refl, sym, ◌∙◌, ap, subst, arith}
+use Rattle.std.proofs.Common.{◌≡◌, inl, inr, ℕ, ◌+◌, ◌≤◌, ◌<◌, ◌==◌, nat_le, nat_lt, Bool, true, false, not, ◌&&◌, ◌||◌, List, [], ◌∷◌, ◌++◌, length, drop, Option, Some, None, refl, sym, ◌∙◌, ap, subst, arith}
 use Rattle.std.proofs.lemmas.Bool.{cases_Bool, ltb-true, ltb-false, lt-ltb, le-ltb, le-leb, or_from, or_left, or_right, not_from_false, not_from_true, eqb-true}
 use Rattle.std.proofs.lemmas.List.{get_or-drop}
+use Rattle.std.specs.Global.{Vec}
 use Rattle.std.specs.Prelude.{slice_index, slice_range, option_map, if◌then◌else◌, Result, Ok, Err, IfOk}
 use Rattle.amr_store.proofs.Slots.{sound_full, sound_closed, entry_closed, entry_open}
 use Rattle.amr_store.proofs.Writes.{range_is}
@@ -10,15 +11,19 @@ use Rattle.amr_store.specs.declared.check.Checked.{Checked}
 use Rattle.amr_store.specs.declared.check.Checked.TheVariants.{Whole, Faulty}
 use Rattle.amr_store.specs.declared.part.Part.{Part}
 use Rattle.amr_store.specs.declared.part.Part.TheVariants.{Slot, Tie}
+use Rattle.amr_store.specs.declared.check.SlotsFound.{SlotsFound}
+use Rattle.amr_store.specs.declared.check.SlotsFound.TheVariants.{Sound as AllSound, Broken as AnyBroken}
 use Rattle.amr_store.specs.declared.reading.Head.{Head}
 use Rattle.amr_store.specs.declared.reading.SlotFound.TheVariants.{Sound, Broken}
 use Rattle.amr_store.specs.declared.slot.Slot.{Slot as Known}
-use Rattle.amr_store.specs.Checking.{Checks, IsOutline, is_slot_tie, joined}
-use Rattle.amr_store.specs.Layout.{open_gate, magic_1, magic_2, long_at, word_at, size_of, text_length, gate_0, gate_1}
-use Rattle.amr_store.specs.Reading.{IsRead, IsHeadOf, SaysHead, IsBegun, IsOpened, IsSlot, version_read, head_with, head_read, magic_in, slot_read, slot_tests}
-use Rattle.amr_store.specs.Stands.{slot_of}
-use Rattle.amr_store.specs.Stored.{Entry, is_open, is_broken, first_of, second_of, is_tie, first_found}
+use Rattle.amr_store.specs.Checking.{AreSlots, SlotsRead, BrokenFirst, Checks}
+use Rattle.amr_store.specs.Layout.{open_gate, magic_1, magic_2, long_at, word_at, gate_at, size_of, text_length}
+use Rattle.amr_store.specs.Reading.{IsRead, IsHeadOf, SaysHead, IsBegun, IsOpened, IsSlot, version_read, head_with, head_read, magic_in, slot_read}
+use Rattle.amr_store.specs.Stored.{Entry, entry_at, is_open, is_broken, slot_of, deltas_of, count_of, slots_of, slot_tests, first_found}
+use Rattle.amr_store.specs.Table.{table, is_tied}
+use Rattle.amr_store.proofs.Whole.{slot_row, rows_pass, row_found, front_found, found_append, slots_pass}
 use Rattle.amr_store.proofs.Entries.{range_length}
+use Rattle.amr_store.proofs.Tables.{table_more}
 
 pub if_ok_both : {T E : Type 0} (r : Result T E) (P Q R : T → Type 0) → IfOk r P → IfOk r Q → ((x : T) → P x → Q x → R x) → IfOk r R
 if_ok_both (Ok x) P Q R p q f = f x p q
@@ -222,34 +227,52 @@ first_test test damage rows e = rw e refl
 pub next_test : (test : Bool) (damage found : Part) (rows : List (Bool × Part)) → test ≡ false → first_found rows ≡ Some found → first_found ((test, damage) ∷ rows) ≡ Some found
 next_test test damage found rows e is = rw e is
 
-slots_tie : (a b : Option Entry) → is_slot_tie (option_map slot_of a) (option_map slot_of b) ≡ is_tie a b
-slots_tie None b = refl
-slots_tie (Some a) None = refl
-slots_tie (Some a) (Some b) = refl
-
 -- the slots that were read, behind a head
-pub joined_checks : (head : Head) (part : List ℕ) (first second : Option Known) → SaysHead head.version head.slot_size head.text part
-    → IsSlot (Sound first) part (21 + head.text) head.slot_size → IsSlot (Sound second) part (21 + head.text + (17 + head.slot_size)) head.slot_size → Checks (joined head first second) (slot_tests part) part
-joined_checks head part first second says one two =
-    let one' = subst (λ (t : ℕ). IsSlot (Sound first) part (21 + t) (size_of part)) says.text_is (subst (λ (z : ℕ). IsSlot (Sound first) part (21 + head.text) z) says.size_is one) in
-    let two' = subst (λ (t : ℕ). IsSlot (Sound second) part (21 + t + (17 + size_of part)) (size_of part)) says.text_is (subst (λ (z : ℕ). IsSlot (Sound second) part (21 + head.text + (17 + z)) z) says.size_is two) in
-    let ties : is_tie (first_of part) (second_of part) ≡ is_slot_tie first second = sym (slots_tie (first_of part) (second_of part)) ∙ sym (tied _ _ _ _ one'.1 two'.1) in
-    let last : List (Bool × Part) = (is_tie (first_of part) (second_of part), Tie) ∷ [] in
-    let both : List (Bool × Part) = (is_broken part (gate_1 (text_length part) (size_of part)) (size_of part), Slot 1) ∷ last in
-    elim (cases_Bool (is_slot_tie first second)) [
-      | inl tie ↦ rw tie
-          (next_test (is_broken part (gate_0 (text_length part)) (size_of part)) (Slot 0) Tie both one'.0
-          (next_test (is_broken part (gate_1 (text_length part) (size_of part)) (size_of part)) (Slot 1) Tie last two'.0
-          (first_test (is_tie (first_of part) (second_of part)) Tie [] (ties ∙ tie))))
-      | inr apart ↦
-          let outline : Outline = record { version = head.version; slot_size = head.slot_size; text = head.text; first = first; second = second } in
-          let says_all : IsOutline outline part = record { head = says; first = one'.1; second = two'.1 } in
-          let none : first_found [] ≡ None = refl in
-          rw apart
-          (more_tests (Whole outline) (is_broken part (gate_0 (text_length part)) (size_of part)) (Slot 0) both part one'.0
-          (more_tests (Whole outline) (is_broken part (gate_1 (text_length part) (size_of part)) (size_of part)) (Slot 1) last part two'.0
-          (more_tests (Whole outline) (is_tie (first_of part) (second_of part)) Tie [] part (ties ∙ apart) (none, says_all))))
-    ]
-  where
-    tied : (a b c d : Option Known) → a ≡ b → c ≡ d → is_slot_tie a c ≡ is_slot_tie b d
-    tied a b c d e f = cc
+slots_as : (head : Head) (part : List ℕ) (found : SlotsFound) (n : ℕ) → SaysHead head part → AreSlots found part head.text head.slot_size n → AreSlots found part (text_length part) (size_of part) n
+slots_as head part found n says is =
+    subst (λ (t : ℕ). AreSlots found part t (size_of part) n) says.text_is (subst (λ (z : ℕ). AreSlots found part head.text z n) says.size_is is)
+
+pub slot_broken : (head : Head) (part : List ℕ) (number : ℕ) → SaysHead head part → AreSlots (AnyBroken number) part head.text head.slot_size (count_of part) → first_found (slot_tests part) ≡ Some (Slot number)
+unfolding slot_row
+slot_broken head part number says is =
+    let broken = slots_as head part (AnyBroken number) (count_of part) says is in
+    front_found (table (λ k. slot_row part k) (count_of part)) ((is_tied (deltas_of part) (slots_of part), Tie) ∷ []) (Slot number)
+    (row_found (λ k. slot_row part k) (count_of part) number broken.within broken.before broken.broken)
+
+pub slots_tied : (head : Head) (part : List ℕ) (slots : Vec (Option Known)) → SaysHead head part → AreSlots (AllSound slots) part head.text head.slot_size (count_of part) → is_tied (deltas_of part) slots.items ≡ true → first_found (slot_tests part) ≡ Some Tie
+unfolding slot_row
+slots_tied head part slots says is tied =
+    let read = slots_as head part (AllSound slots) (count_of part) says is in
+    found_append (table (λ k. slot_row part k) (count_of part)) ((is_tied (deltas_of part) (slots_of part), Tie) ∷ []) (rows_pass (λ k. slot_row part k) (count_of part) read.sound)
+    ∙ first_test (is_tied (deltas_of part) (slots_of part)) Tie [] (sym (ap (λ (l : List (Option Known)). is_tied (deltas_of part) l) read.known) ∙ tied)
+
+pub slots_whole : (head : Head) (part : List ℕ) (slots : Vec (Option Known)) (outline : Outline) → SaysHead head part → AreSlots (AllSound slots) part head.text head.slot_size (count_of part) → is_tied (deltas_of part) slots.items ≡ false
+    → outline.head ≡ head → outline.slots ≡ slots → Checks (Whole outline) (slot_tests part) part
+slots_whole head part slots outline says is apart head_is slots_is =
+    let read = slots_as head part (AllSound slots) (count_of part) says is in (
+      slots_pass part read.sound (sym (ap (λ (l : List (Option Known)). is_tied (deltas_of part) l) read.known) ∙ apart),
+      record { head = subst (λ (h : Head). SaysHead h part) (sym head_is) says; slots = ap (λ (v : Vec (Option Known)). v.items) slots_is ∙ read.known },
+    )
+
+-- what is known of a slot, by the lengths of problem and slot
+abbrev known_at : List ℕ → ℕ → ℕ → ℕ → Option Known
+known_at part text size k = option_map slot_of (entry_at part (gate_at k text size))
+
+-- the slots that were read so far
+pub slots_none : (part : List ℕ) (text size : ℕ) → SlotsRead part text size 0 []
+unfolding table
+slots_none part text size = record { sound = λ k lt. absurd (omega arith); known = refl }
+
+pub slots_more : (part : List ℕ) (text size k : ℕ) (slots : List (Option Known)) (slot : Option Known) → SlotsRead part text size k slots → IsSlot (Sound slot) part (gate_at k text size) size
+    → SlotsRead part text size (k + 1) (slots ++ slot ∷ [])
+slots_more part text size k slots slot read is = record {
+  sound = λ j lt. elim (cases_Bool (nat_lt j k)) [
+    | inl early ↦ read.sound j (ltb-true j k early)
+    | inr last ↦ let here : j ≡ k = omega (arith, ltb-false j k last) in ap (λ (i : ℕ). is_broken part (gate_at i text size) size) here ∙ is.0
+  ];
+  known = ap (λ (l : List (Option Known)). l ++ slot ∷ []) read.known ∙ ap (λ (o : Option Known). table (known_at part text size) k ++ o ∷ []) is.1 ∙ sym (table_more (known_at part text size) k);
+}
+
+-- the first that is broken
+pub slots_cut : (part : List ℕ) (text size n k : ℕ) (slots : List (Option Known)) → SlotsRead part text size k slots → k < n → is_broken part (gate_at k text size) size ≡ true → BrokenFirst part text size n k
+slots_cut part text size n k slots read within broken = record { within = within; before = read.sound; broken = broken }

@@ -1,5 +1,5 @@
 -- A store of version 1 while it is renewed.
-use Rattle.std.proofs.Common.{◌≡◌, ◌⊎◌, inl, inr, ℕ, ◌+◌, ◌-◌, ◌*◌, ◌≤◌, ◌<◌, ◌^◌, ◌==◌, nat_lt, Bool, true, false, ◌||◌, List, [], ◌∷◌, ◌++◌, length, drop, Option, Some, None, refl, sym, ◌∙◌, ap, subst, arith, length-append, length-drop, lit<}
+use Rattle.std.proofs.Common.{◌≡◌, ◌⊎◌, inl, inr, ℕ, zero, suc, ◌+◌, ◌-◌, ◌≤◌, ◌<◌, ◌^◌, ◌==◌, nat_lt, Bool, true, false, ◌||◌, List, [], ◌∷◌, ◌++◌, length, drop, Option, Some, None, refl, sym, ◌∙◌, ap, subst, arith, length-append, length-drop, lit<}
 use Rattle.std.proofs.lemmas.Bool.{cases_Bool, ltb-true, ltb-false, lt-ltb, le-ltb}
 use Rattle.std.proofs.lemmas.Cmp.{nat_list_eq_equiv}
 use Rattle.std.proofs.lemmas.List.{get_or-drop, get_or_append_left, get_or-append-add}
@@ -12,27 +12,33 @@ use Rattle.amr_store.proofs.Calls.{stands_at, text_is}
 use Rattle.amr_store.proofs.Creation.{IsHead, is_head, word_from}
 use Rattle.amr_store.proofs.Gates.{entry_is, not_zero, state_kept}
 use Rattle.amr_store.proofs.Images.{true_whole, outer_whole, base_plain, base_renewed, plain_sound, renewed_of, renewed_moved, renewed_sound, stored_is, and_second, and_third, third_false, all_true, end_kept, magic_1_kept, some_magic_kept, held_kept}
-use Rattle.amr_store.proofs.Parts.{Kept, beyond_changed}
-use Rattle.amr_store.proofs.Phases.{no_tie_none}
+use Rattle.amr_store.proofs.Parts.{Untouched, beyond_changed}
+use Rattle.amr_store.proofs.Tables.{latest_within}
+use Rattle.amr_store.specs.Table.{table, is_tied, latest_base}
+use Rattle.amr_store.specs.declared.slot.Slot.{Slot}
 use Rattle.amr_store.proofs.PartsRead.{not_both}
 use Rattle.amr_store.proofs.Places.{Outside, torn_outside, outside_twice, long_same, word_same, range_same}
 use Rattle.amr_store.proofs.Slots.{sound_full, sound_closed, entry_closed, entry_open}
 use Rattle.amr_store.proofs.Whole.{Whole}
 use Rattle.amr_store.proofs.Writes.{written_index, written_length, written_byte, long_from, range_is}
 use Rattle.amr_store.specs.declared.store.Store.{Store}
-use Rattle.amr_store.specs.Layout.{open_gate, magic_2, long_at, size_of, text_length, problem_of, gate_0, gate_1, end_of}
+use Rattle.amr_store.specs.Layout.{open_gate, magic_2, long_at, size_of, text_length, problem_of, gate_at, end_of}
 use Rattle.amr_store.specs.Created.{head_bytes}
 use Rattle.amr_store.specs.Phases.{TornTwice}
 use Rattle.amr_store.specs.Renewed.{IsOld, IsOldShut, IsRenewal, IsRenewed, renewal_bytes, renewed_state}
-use Rattle.amr_store.specs.Stands.{Stands, slot_of, base_in, version_in, problem_in, slot_size_in, first_in, second_in}
-use Rattle.amr_store.specs.Stored.{Entry, State, Held, Reads, stored, state_of, is_open, is_broken, is_renewed, is_tie, end_in, entry_at, first_of, second_of, latest_of, has_magic_1, has_magic_2}
+use Rattle.amr_store.specs.Stands.{Stands, base_in, version_in, problem_in, slot_size_in, deltas_in, slots_in}
+use Rattle.amr_store.specs.Stored.{Entry, State, Held, Reads, stored, state_of, is_open, is_broken, is_renewed, end_in, slot_of, deltas_of, gate_of, entry_of, known_of, slots_of, latest_entry, entry_at, has_magic_1, has_magic_2}
 
 one_of : (b : Bool) (v : ℕ) → v ≡ 1 → v ≡ (if b then 1 else 2) → b ≡ true
 one_of true v one is = refl
 one_of false v one is = absurd (omega (arith, one, is))
 
+-- where the store ends, by what the code works out
+pub end_as : (store : Store) (text end : ℕ) → text ≡ length (problem_in store) → end ≡ end_of text (slot_size_in store) → end ≡ end_of (length (problem_in store)) (slot_size_in store)
+end_as store text end is at = at ∙ ap (λ (n : ℕ). end_of n (slot_size_in store)) is
+
 -- what a store of version 1 stands for was not renewed
-pub old_of : (store : Store) (s : List ℕ) → Stands store s → version_in store ≡ 1 → IsOld (21 + length (problem_in store) + 2 * (17 + slot_size_in store)) (problem_in store) s
+pub old_of : (store : Store) (s : List ℕ) → Stands store s → version_in store ≡ 1 → IsOld (end_of (length (problem_in store)) (slot_size_in store)) (problem_in store) s
 old_of store s stands one =
     let version : has_magic_1 (drop (base_in store) s) ≡ true = one_of (has_magic_1 (drop (base_in store) s)) (version_in store) one stands.version in
     elim (cases_Bool (is_renewed s)) [
@@ -55,12 +61,12 @@ old_of store s stands one =
           }
     ]
   where
-    ends : (m n t u : ℕ) → m ≡ n → t ≡ u → end_of m t ≡ 21 + n + 2 * (17 + u)
+    ends : (m n t u : ℕ) → m ≡ n → t ≡ u → end_of m t ≡ end_of n u
     ends m n t u e f = cc
 
 -- what follows the old store changed
 record Behind (end : ℕ) (problem s c : List ℕ) : Type 0 where
-  kept : Kept s c (first_of s) (second_of s)
+  kept : Untouched s c
   end_is : end_in c ≡ end
   past : 0 < end
 
@@ -70,9 +76,19 @@ behind end b problem s c is out =
     let kept = beyond_changed s c end b whole (omega (arith, is.end_is)) out in
     record { kept = kept; end_is = end_kept s c kept.head ∙ is.end_is; past = omega (arith, is.end_is) }
 
+-- what a store shows, with another latest state
+abbrev with_latest_of : List ℕ → Option Entry → State
+with_latest_of s e = record (state_of s) { latest = e }
+
 record OldKept (end : ℕ) (problem s c : List ℕ) : Type 0 where
   old : IsOld end problem c
   same : stored c ≡ stored s
+
+latest_same : (s c : List ℕ) → Untouched s c → with_latest_of s (latest_entry c) ≡ with_latest_of s (latest_entry s)
+latest_same s c kept =
+    let k = latest_base (deltas_of s) (slots_of s) in
+    ap (λ (e : Option Entry). with_latest_of s e)
+    (ap (λ (l : List (Option Slot)). entry_of c (latest_base (deltas_of s) l)) kept.slots ∙ kept.entries k (latest_within (deltas_of s) (slots_of s)))
 
 old_kept : (end b : ℕ) (problem s c : List ℕ) → IsOld end problem s → Outside end b s c → is_renewed c ≡ false → OldKept end problem s c
 old_kept end b problem s c is out plain =
@@ -90,7 +106,7 @@ old_kept end b problem s c is out plain =
         end_is = after.end_is;
         problem_is = after.kept.head.problem ∙ is.problem_is;
       };
-      same = stored_is c 0 reads ∙ ap Held (state_kept s c (first_of s) (second_of s) after.kept) ∙ sym (stored_is s 0 is.reads);
+      same = stored_is c 0 reads ∙ ap Held (state_kept s c after.kept.head ∙ latest_same s c after.kept) ∙ sym (stored_is s 0 is.reads);
     }
 
 plain_by_length : (c : List ℕ) (end : ℕ) → end_in c ≡ end → length c ≤ end + 1 → is_renewed c ≡ false
@@ -193,10 +209,10 @@ is_all : (all problem : List ℕ) (size sequence : ℕ) (payload : List ℕ) →
 is_all all problem size sequence payload is = subst (λ (a : List ℕ). IsAll a problem size sequence payload) (sym is) (all_bytes problem size sequence payload)
 
 renewal_at : (s all problem : List ℕ) (end size sequence : ℕ) (payload : List ℕ) → IsAll all problem size sequence payload → length problem ≤ 65536 → size ≤ 2 ^ 40 → length payload ≤ size → 0 < sequence → sequence < 2 ^ 64
-    → IsRenewal problem size sequence payload (drop end (written_at (end + gate_1 (length problem) size) (0 ∷ []) (written_at (end + 1) all s)))
+    → IsRenewal problem size sequence payload (drop end (written_at (end + gate_at 1 (length problem) size) (0 ∷ []) (written_at (end + 1) all s)))
 renewal_at s all problem end size sequence payload is text_fits size_fits fits some small =
     let l = length problem in
-    let gate = gate_1 l size in
+    let gate = gate_at 1 l size in
     let mid = written_at (end + 1) all s in
     let after = written_at (end + gate) (0 ∷ []) mid in
     let part = drop end after in
@@ -214,14 +230,14 @@ renewal_at s all problem end size sequence payload is text_fits size_fits fits s
       size_is = long_from part 9 size (omega arith) (λ i lt. ap (λ (k : ℕ). slice_index part k) (nine i) ∙ front (8 + i) (omega arith) ∙ head.size_is i lt);
       text_is = word_from part 17 l (omega arith) (λ i lt. ap (λ (k : ℕ). slice_index part k) (seventeen i) ∙ front (16 + i) (omega arith) ∙ head.text_is i lt);
       problem_is = range_is part 21 problem (omega (arith, whole)) (λ i lt. ap (λ (k : ℕ). slice_index part k) (twenty_one i) ∙ front (20 + i) (omega arith) ∙ head.problem_is i lt);
-      opened_0 = ap (λ (k : ℕ). slice_index part k) (twenty_one l) ∙ front (20 + l) (omega arith) ∙ head.gate;
+      opened_0 = ap (λ (k : ℕ). slice_index part k) zero_gate ∙ front (20 + l) (omega arith) ∙ head.gate;
       filled = record {
         whole = omega (arith, whole, fits);
         fits = fits;
         some = some;
-        sequence_is = long_from part (gate_0 l + 1) sequence small (λ i lt. ap (λ (k : ℕ). slice_index part k) (low_sum i) ∙ at (21 + l + i) (omega (arith, is.count)) ∙ is.low i lt);
-        length_is = long_from part (gate_0 l + 9) (length payload) (omega arith) (λ i lt. ap (λ (k : ℕ). slice_index part k) (high_sum i) ∙ at (21 + l + (8 + i)) (omega (arith, is.count)) ∙ is.high i lt);
-        payload_is = range_is part (gate_0 l + 17) payload (omega (arith, whole, fits)) (λ i lt. ap (λ (k : ℕ). slice_index part k) (payload_sum i) ∙ at (21 + l + (16 + i)) (omega (arith, is.count)) ∙ is.payload_is i lt);
+        sequence_is = long_from part (gate_at 0 l size + 1) sequence small (λ i lt. ap (λ (k : ℕ). slice_index part k) (low_sum i) ∙ at (21 + l + i) (omega (arith, is.count)) ∙ is.low i lt);
+        length_is = long_from part (gate_at 0 l size + 9) (length payload) (omega arith) (λ i lt. ap (λ (k : ℕ). slice_index part k) (high_sum i) ∙ at (21 + l + (8 + i)) (omega (arith, is.count)) ∙ is.high i lt);
+        payload_is = range_is part (gate_at 0 l size + 17) payload (omega (arith, whole, fits)) (λ i lt. ap (λ (k : ℕ). slice_index part k) (payload_sum i) ∙ at (21 + l + (16 + i)) (omega (arith, is.count)) ∙ is.payload_is i lt);
       };
       shut_1 = get_or-drop end after gate 0 ∙ written_byte (end + gate) 0 mid;
     }
@@ -238,18 +254,23 @@ renewal_at s all problem end size sequence payload is text_fits size_fits fits s
     twenty_one : (i : ℕ) → 21 + i ≡ 1 + (20 + i)
     twenty_one i = omega arith
 
-    low_sum : (i : ℕ) → gate_0 (length problem) + 1 + i ≡ 1 + (21 + length problem + i)
+    zero_gate : gate_at 0 (length problem) size ≡ 1 + (20 + length problem)
+    zero_gate = omega arith
+
+    low_sum : (i : ℕ) → gate_at 0 (length problem) size + 1 + i ≡ 1 + (21 + length problem + i)
     low_sum i = omega arith
 
-    high_sum : (i : ℕ) → gate_0 (length problem) + 9 + i ≡ 1 + (21 + length problem + (8 + i))
+    high_sum : (i : ℕ) → gate_at 0 (length problem) size + 9 + i ≡ 1 + (21 + length problem + (8 + i))
     high_sum i = omega arith
 
-    payload_sum : (i : ℕ) → gate_0 (length problem) + 17 + i ≡ 1 + (21 + length problem + (16 + i))
+    payload_sum : (i : ℕ) → gate_at 0 (length problem) size + 17 + i ≡ 1 + (21 + length problem + (16 + i))
     payload_sum i = omega arith
 
-pub renewal_written : (s all problem : List ℕ) (end size sequence : ℕ) (payload : List ℕ) → all ≡ renewal_bytes problem size sequence payload → length problem ≤ 65536 → size ≤ 2 ^ 40 → length payload ≤ size → 0 < sequence → sequence < 2 ^ 64
-    → IsRenewal problem size sequence payload (drop end (written_at (end + gate_1 (length problem) size) (0 ∷ []) (written_at (end + 1) all s)))
-renewal_written s all problem end size sequence payload is = renewal_at s all problem end size sequence payload (is_all all problem size sequence payload is)
+pub renewal_written : (s all problem : List ℕ) (end size sequence gate : ℕ) (payload : List ℕ) → gate ≡ gate_at 1 (length problem) size → all ≡ renewal_bytes problem size sequence payload → length problem ≤ 65536 → size ≤ 2 ^ 40
+    → length payload ≤ size → 0 < sequence → sequence < 2 ^ 64 → IsRenewal problem size sequence payload (drop end (written_at (end + gate) (0 ∷ []) (written_at (end + 1) all s)))
+renewal_written s all problem end size sequence gate payload at is text_fits size_fits fits some small =
+    subst (λ (g : ℕ). IsRenewal problem size sequence payload (drop end (written_at (end + g) (0 ∷ []) (written_at (end + 1) all s)))) (sym at)
+    (renewal_at s all problem end size sequence payload (is_all all problem size sequence payload is) text_fits size_fits fits some small)
 
 -- the part behind its first byte stays
 renewal_kept : (problem : List ℕ) (size sequence : ℕ) (payload old new : List ℕ) → IsRenewal problem size sequence payload old → length old ≤ length new
@@ -263,16 +284,16 @@ renewal_kept problem size sequence payload old new is longer same =
       size_is = long_same old new 9 (λ i lt. same (9 + i) (omega arith) (omega (arith, is.long))) ∙ is.size_is;
       text_is = word_same old new 17 (λ i lt. same (17 + i) (omega arith) (omega (arith, is.long))) ∙ is.text_is;
       problem_is = range_same old new 21 (21 + l) (omega (arith, is.long)) (omega (arith, is.long, longer)) (λ i from to. same i (omega arith) (omega (arith, is.long))) ∙ is.problem_is;
-      opened_0 = same (gate_0 l) (omega arith) (omega (arith, is.long)) ∙ is.opened_0;
+      opened_0 = same (gate_at 0 l size) (omega arith) (omega (arith, is.long)) ∙ is.opened_0;
       filled = record {
         whole = omega (arith, filled.whole, longer);
         fits = filled.fits;
         some = filled.some;
-        sequence_is = long_same old new (gate_0 l + 1) (λ i lt. same (gate_0 l + 1 + i) (omega arith) (omega (arith, filled.whole))) ∙ filled.sequence_is;
-        length_is = long_same old new (gate_0 l + 9) (λ i lt. same (gate_0 l + 9 + i) (omega arith) (omega (arith, filled.whole))) ∙ filled.length_is;
-        payload_is = range_same old new (gate_0 l + 17) (gate_0 l + 17 + length payload) filled.whole (omega (arith, filled.whole, longer)) (λ i from to. same i (omega arith) (omega (arith, filled.whole))) ∙ filled.payload_is;
+        sequence_is = long_same old new (gate_at 0 l size + 1) (λ i lt. same (gate_at 0 l size + 1 + i) (omega arith) (omega (arith, filled.whole))) ∙ filled.sequence_is;
+        length_is = long_same old new (gate_at 0 l size + 9) (λ i lt. same (gate_at 0 l size + 9 + i) (omega arith) (omega (arith, filled.whole))) ∙ filled.length_is;
+        payload_is = range_same old new (gate_at 0 l size + 17) (gate_at 0 l size + 17 + length payload) filled.whole (omega (arith, filled.whole, longer)) (λ i from to. same i (omega arith) (omega (arith, filled.whole))) ∙ filled.payload_is;
       };
-      shut_1 = same (gate_1 l size) (omega arith) is.long ∙ is.shut_1;
+      shut_1 = same (gate_at 1 l size) (omega arith) is.long ∙ is.shut_1;
     }
 
 -- what the new store reads as once its gate is open
@@ -281,25 +302,44 @@ record InnerStore (problem : List ℕ) (size sequence : ℕ) (payload part : Lis
   magic_is : has_magic_2 part ≡ true
   number : (state_of part).version ≡ 2
   text : problem_of part ≡ problem
-  first : first_of part ≡ Some record { sequence = sequence; payload = payload }
-  second : second_of part ≡ None
+  slots : slots_of part ≡ Some (slot_of record { sequence = sequence; payload = payload }) ∷ None ∷ []
+  latest : latest_entry part ≡ Some record { sequence = sequence; payload = payload }
+
+-- an open slot and a closed one
+first_open : (known : ℕ → Option Slot) (slot : Slot) → known 0 ≡ Some slot → known 1 ≡ None → table known 2 ≡ Some slot ∷ None ∷ []
+unfolding table
+first_open known slot one two = rw (one, two) refl
+
+one_tied : (slot : Slot) → is_tied 0 (Some slot ∷ None ∷ []) ≡ false
+unfolding is_tied
+one_tied slot = refl
+
+one_latest : (slot : Slot) → latest_base 0 (Some slot ∷ None ∷ []) ≡ 0
+unfolding latest_base
+one_latest slot = refl
+
+two_of : (P : ℕ → Type 0) → P 0 → P 1 → (k : ℕ) → k < 2 → P k
+two_of P one two zero few = one
+two_of P one two (suc zero) few = two
+two_of P one two (suc (suc k)) few = absurd (omega arith)
 
 inner_store : (problem : List ℕ) (size sequence : ℕ) (payload part : List ℕ) → length problem ≤ 65536 → size ≤ 2 ^ 40 → IsRenewal problem size sequence payload part → InnerStore problem size sequence payload part
 inner_store problem size sequence payload part text_fits size_fits is =
     let filled = is.filled in
-    let gate_a : gate_0 (text_length part) ≡ gate_0 (length problem) = ap (λ (n : ℕ). gate_0 n) is.text_is in
-    let gate_b : gate_1 (text_length part) (size_of part) ≡ gate_1 (length problem) size = gates _ _ _ _ is.text_is is.size_is in
-    let opened : is_open part (gate_0 (length problem)) ≡ true = ap (λ (n : ℕ). n == open_gate) is.opened_0 in
-    let shut : is_open part (gate_1 (text_length part) (size_of part)) ≡ false = ap (λ (n : ℕ). is_open part n) gate_b ∙ ap (λ (n : ℕ). n == open_gate) is.shut_1 in
-    let full : is_broken part (gate_0 (length problem)) size ≡ false = sound_full part (gate_0 (length problem)) size record {
+    let opened : is_open part (gate_at 0 (length problem) size) ≡ true = ap (λ (n : ℕ). n == open_gate) is.opened_0 in
+    let shut : is_open part (gate_of part 1) ≡ false = ap (λ (n : ℕ). is_open part n) (gates 1 _ _ _ _ is.text_is is.size_is) ∙ ap (λ (n : ℕ). n == open_gate) is.shut_1 in
+    let full : is_broken part (gate_at 0 (length problem) size) size ≡ false = sound_full part (gate_at 0 (length problem) size) size record {
       head = omega (arith, filled.whole);
       fits = omega (arith, filled.fits, filled.length_is);
       whole = omega (arith, filled.whole, filled.length_is);
       some = ap (λ (n : ℕ). n == 0) filled.sequence_is ∙ not_zero sequence filled.some;
     } in
-    let one : first_of part ≡ Some record { sequence = sequence; payload = payload } = ap (λ (n : ℕ). entry_at part n) gate_a
-    ∙ entry_is _ _ _ _ _ (entry_open part (gate_0 (length problem)) opened) filled.sequence_is (ap (λ (n : ℕ). slice_range part (gate_0 (length problem) + 17) (gate_0 (length problem) + 17 + n)) filled.length_is ∙ filled.payload_is) in
-    let two : second_of part ≡ None = entry_closed part (gate_1 (text_length part) (size_of part)) shut in
+    let one : entry_of part 0 ≡ Some record { sequence = sequence; payload = payload } = ap (λ (n : ℕ). entry_at part n) (gates 0 _ _ _ _ is.text_is is.size_is)
+    ∙ entry_is _ _ _ _ _ (entry_open part (gate_at 0 (length problem) size) opened) filled.sequence_is (ap (λ (n : ℕ). slice_range part (gate_at 0 (length problem) size + 17) (gate_at 0 (length problem) size + 17 + n)) filled.length_is ∙ filled.payload_is) in
+    let two : entry_of part 1 ≡ None = entry_closed part (gate_of part 1) shut in
+    let slots = first_open (λ k. known_of part k) (slot_of record { sequence = sequence; payload = payload }) (ap (λ (o : Option Entry). option_map slot_of o) one) (ap (λ (o : Option Entry). option_map slot_of o) two) in
+    let sound_0 : is_broken part (gate_of part 0) (size_of part) ≡ false = brokens _ _ _ _ (gates 0 _ _ _ _ is.text_is is.size_is) is.size_is ∙ full in
+    let sound_1 : is_broken part (gate_of part 1) (size_of part) ≡ false = sound_closed part (gate_of part 1) (size_of part) (omega (arith, is.long, gates 1 _ _ _ _ is.text_is is.size_is)) shut in
     let magic : has_magic_2 part ≡ true = ap (λ (n : ℕ). n == magic_2) is.magic in
     let other : has_magic_1 part ≡ false = not_both (long_at part 1) magic in
     record {
@@ -309,19 +349,18 @@ inner_store problem size sequence payload part text_fits size_fits is =
         text_fits = omega (arith, is.text_is, text_fits);
         text_whole = omega (arith, is.text_is, is.long);
         size_fits = omega (arith, is.size_is, size_fits);
-        slot_0 = brokens _ _ _ _ gate_a is.size_is ∙ full;
-        slot_1 = sound_closed part (gate_1 (text_length part) (size_of part)) (size_of part) (omega (arith, is.long, gate_b)) shut;
-        tie = ap (λ (o : Option Entry). is_tie (first_of part) o) two ∙ no_tie_none (first_of part);
+        slots = λ k few. two_of (λ j. is_broken part (gate_of part j) (size_of part) ≡ false) sound_0 sound_1 k few;
+        tie = ap (λ (l : List (Option Slot)). is_tied (deltas_of part) l) slots ∙ one_tied _;
       };
       magic_is = magic;
       number = rw other refl;
       text = ap (λ (n : ℕ). slice_range part 21 (21 + n)) is.text_is ∙ is.problem_is;
-      first = one;
-      second = two;
+      slots = slots;
+      latest = ap (λ (l : List (Option Slot)). entry_of part (latest_base (deltas_of part) l)) slots ∙ ap (λ (k : ℕ). entry_of part k) (one_latest _) ∙ one;
     }
   where
-    gates : (m n s t : ℕ) → m ≡ n → s ≡ t → gate_1 m s ≡ gate_1 n t
-    gates m n s t e f = cc
+    gates : (k m n s t : ℕ) → m ≡ n → s ≡ t → gate_at k m s ≡ gate_at k n t
+    gates k m n s t e f = cc
 
     brokens : (m n s t : ℕ) → m ≡ n → s ≡ t → is_broken part m s ≡ is_broken part n t
     brokens m n s t e f = rw (e, f) refl
@@ -353,19 +392,18 @@ renewed_at end problem size sequence payload s c is text_fits size_fits renewal 
       version_is = inner.number;
       problem_is = inner.text;
       size_is = size_is;
-      first_is = inner.first;
-      second_is = inner.second;
-      stored_as = stored_is c end reads ∙ ap Held (states _ _ _ _ _ _ _ _ _ _ inner.number inner.text size_is inner.first inner.second);
+      slots_is = inner.slots;
+      stored_as = stored_is c end reads ∙ ap Held (states _ _ _ _ _ _ _ _ inner.number inner.text size_is inner.latest);
     }
   where
     equal_lists : (p q r : List ℕ) → p ≡ r → q ≡ r → pointwise nat_eq p q ≡ true
     equal_lists p q r e f = subst (λ (x : List ℕ). pointwise nat_eq x q ≡ true) (sym e) (subst (λ (x : List ℕ). pointwise nat_eq r x ≡ true) (sym f) (nat_list_eq_equiv.refl r))
 
-    shown : ℕ → List ℕ → ℕ → Option Entry → Option Entry → State
-    shown v p t a b = record { version = v; problem = p; slot_size = t; latest = latest_of a b }
+    shown : ℕ → List ℕ → ℕ → Option Entry → State
+    shown v p t a = record { version = v; problem = p; slot_size = t; latest = a }
 
-    states : (v w : ℕ) (p q : List ℕ) (t u : ℕ) (a b e f : Option Entry) → v ≡ w → p ≡ q → t ≡ u → a ≡ e → b ≡ f → shown v p t a b ≡ shown w q u e f
-    states v w p q t u a b e f g h i j k = cc
+    states : (v w : ℕ) (p q : List ℕ) (t u : ℕ) (a e : Option Entry) → v ≡ w → p ≡ q → t ≡ u → a ≡ e → shown v p t a ≡ shown w q u e
+    states v w p q t u a e g h i j = cc
 
 -- a stop while the new store's gate is opened
 pub renewed_stop : (end : ℕ) (problem : List ℕ) (size sequence : ℕ) (payload s c : List ℕ) → IsOldShut end problem s → length problem ≤ 65536 → size ≤ 2 ^ 40 → IsRenewal problem size sequence payload (drop end s) → Torn end 1 s c
@@ -384,7 +422,6 @@ renewed_after end problem size sequence payload s is text_fits size_fits renewal
 
 -- a store in memory that was made so stands for the image
 pub renewed_stands : (store : Store) (end : ℕ) (problem : List ℕ) (size sequence : ℕ) (payload t : List ℕ) → IsRenewed end problem size sequence payload t → base_in store ≡ end → version_in store ≡ 2 → problem_in store ≡ problem
-    → slot_size_in store ≡ size → first_in store ≡ Some (slot_of record { sequence = sequence; payload = payload }) → second_in store ≡ None → Stands store t
-renewed_stands store end problem size sequence payload t is base version text slot first second =
-    stands_at store t end (sym base) is.reads (version ∙ sym is.version_is) (text ∙ sym is.problem_is) (slot ∙ sym is.size_is)
-    (first ∙ sym (ap (λ (o : Option Entry). option_map slot_of o) is.first_is)) (second ∙ sym (ap (λ (o : Option Entry). option_map slot_of o) is.second_is))
+    → slot_size_in store ≡ size → deltas_in store ≡ 0 → slots_in store ≡ Some (slot_of record { sequence = sequence; payload = payload }) ∷ None ∷ [] → Stands store t
+renewed_stands store end problem size sequence payload t is base version text slot deltas slots =
+    stands_at store t end (sym base) is.reads (version ∙ sym is.version_is) (text ∙ sym is.problem_is) (slot ∙ sym is.size_is) deltas (slots ∙ sym is.slots_is)

@@ -1,16 +1,15 @@
 -- What a read gives after writes that depend on a test.
-use Rattle.std.proofs.Common.{◌≡◌, ◌∙◌, ◌+◌, ◌==◌, ◌∷◌, [], refl, ap, ℕ, Bool, true, false, List, Option, Some, None, length, nat_lt}
-use Rattle.std.specs.Prelude.{◌&&◌, option_map, if◌then◌else◌}
+use Rattle.std.proofs.Common.{◌≡◌, ◌∙◌, ◌+◌, ◌∷◌, [], refl, ap, ℕ, Bool, true, false, List, Option, Some, None, length, nat_lt}
+use Rattle.std.specs.Prelude.{option_map, if◌then◌else◌}
 use Rattle.amr_disk.specs.Image.{written_at}
-use Rattle.amr_store.specs.Created.{head_bytes, laid_image, shut_first}
-use Rattle.amr_store.specs.Layout.{gate_1, end_of}
+use Rattle.amr_store.specs.Created.{shut_first}
 use Rattle.amr_store.specs.Renewed.{shut_past}
 
-where_true : (b : Bool) (x y : List ℕ) → b ≡ true → x ≡ (if b then x else y)
+pub where_true : (b : Bool) (x y : List ℕ) → b ≡ true → x ≡ (if b then x else y)
 where_true true x y is = refl
 where_true false x y is = let wrong : false ≡ true = is in cc
 
-where_false : (b : Bool) (x y : List ℕ) → b ≡ false → y ≡ (if b then x else y)
+pub where_false : (b : Bool) (x y : List ℕ) → b ≡ false → y ≡ (if b then x else y)
 where_false true x y is = let wrong : true ≡ false = is in cc
 where_false false x y is = refl
 
@@ -40,13 +39,3 @@ past_stays end s is = where_true (nat_lt (end + 1) (length s)) s (written_at end
 
 pub past_written : (end : ℕ) (s : List ℕ) → nat_lt (end + 1) (length s) ≡ false → written_at end (0 ∷ []) s ≡ shut_past end s
 past_written end s is = where_false (nat_lt (end + 1) (length s)) s (written_at end (0 ∷ []) s) is
-
-pub laid_past : (version : ℕ) (problem : List ℕ) (size : ℕ) (head s : List ℕ) → head ≡ head_bytes 0 version problem size → (version == 1 && nat_lt (end_of (length problem) size) (length s)) ≡ true
-    → written_at (end_of (length problem) size) (0 ∷ []) (written_at (gate_1 (length problem) size) (0 ∷ []) (written_at 1 head s)) ≡ laid_image version problem size s
-laid_past version problem size head s head_is is =
-    ap (λ (h : List ℕ). written_at (end_of (length problem) size) (0 ∷ []) (written_at (gate_1 (length problem) size) (0 ∷ []) (written_at 1 h s))) head_is ∙ where_true _ _ _ is
-
-pub laid_short : (version : ℕ) (problem : List ℕ) (size : ℕ) (head s : List ℕ) → head ≡ head_bytes 0 version problem size → (version == 1 && nat_lt (end_of (length problem) size) (length s)) ≡ false
-    → written_at (gate_1 (length problem) size) (0 ∷ []) (written_at 1 head s) ≡ laid_image version problem size s
-laid_short version problem size head s head_is is =
-    ap (λ (h : List ℕ). written_at (gate_1 (length problem) size) (0 ∷ []) (written_at 1 h s)) head_is ∙ where_false _ _ _ is

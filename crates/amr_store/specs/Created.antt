@@ -3,8 +3,8 @@ use Rattle.std.specs.Prelude.{ℕ, ◌≡◌, ◌<◌, ◌+◌, ◌==◌, ◌&&�
 use Rattle.std.specs.Prelude.{slice_range, List, [], ◌∷◌, ◌++◌, length, None, if◌then◌else◌}
 use Rattle.std.specs.Int.{to_le_bytes, w32, w64}
 use Rattle.amr_disk.specs.Image.{written_at}
-use Rattle.amr_store.specs.Layout.{magic_1, magic_2, long_at, word_at, gate_0, gate_1, end_of}
-use Rattle.amr_store.specs.Stored.{State, is_open}
+use Rattle.amr_store.specs.Layout.{magic_1, magic_2, long_at, word_at, gate_at, end_of}
+use Rattle.amr_store.specs.Stored.{State, Empty, Held, is_open, stored}
 
 -- the versions of the format
 abbrev pub IsVersion : ℕ → Type 0
@@ -28,13 +28,12 @@ pub record IsShutFirst (image : List ℕ) : Type 0 where
 
 -- behind the first byte stands a new store
 pub record IsNew (version : ℕ) (problem : List ℕ) (size : ℕ) (image : List ℕ) : Type 0 where
-  pub long : gate_1 (length problem) size < length image
+  pub long : gate_at 1 (length problem) size < length image
   pub magic : long_at image 1 ≡ magic_of version
   pub size_is : long_at image 9 ≡ size
   pub text_is : word_at image 17 ≡ length problem
   pub problem_is : slice_range image 21 (21 + length problem) ≡ problem
-  pub shut_0 : slice_index image (gate_0 (length problem)) ≡ 0
-  pub shut_1 : slice_index image (gate_1 (length problem) size) ≡ 0
+  pub shut : (k : ℕ) → k < 2 → slice_index image (gate_at k (length problem) size) ≡ 0
 
 -- what follows a store of version 1 does not renew it
 pub record IsPlain (version text size : ℕ) (image : List ℕ) : Type 0 where
@@ -59,9 +58,13 @@ abbrev pub laid_image : ℕ → List ℕ → ℕ → List ℕ → List ℕ
 laid_image version problem size image =
     if version == 1 && nat_lt (end_of (length problem) size) (length image)
     then written_at (end_of (length problem) size) (0 ∷ [])
-    (written_at (gate_1 (length problem) size) (0 ∷ []) (written_at 1 (head_bytes 0 version problem size) image))
-    else written_at (gate_1 (length problem) size) (0 ∷ []) (written_at 1 (head_bytes 0 version problem size) image)
+    (written_at (gate_at 1 (length problem) size) (0 ∷ []) (written_at 1 (head_bytes 0 version problem size) image))
+    else written_at (gate_at 1 (length problem) size) (0 ∷ []) (written_at 1 (head_bytes 0 version problem size) image)
 
 -- and the first byte, opened
 abbrev pub created_image : ℕ → List ℕ → ℕ → List ℕ → List ℕ
 created_image version problem size image = written_at 0 (165 ∷ []) (laid_image version problem size (shut_first image))
+
+-- no store, or the new one
+abbrev pub EmptyOrNew : ℕ → List ℕ → ℕ → List ℕ → List ℕ → Type 0
+EmptyOrNew version problem size old new = (stored new ≡ Empty) ⊎ (stored new ≡ Held (new_state version problem size))

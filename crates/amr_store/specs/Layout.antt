@@ -36,12 +36,9 @@ text_length image = word_at image 17
 abbrev pub problem_of : List ℕ → List ℕ
 problem_of image = slice_range image head_length (head_length + text_length image)
 
--- where the slots' gates stand, and where the store ends, by the lengths of problem and slot
-abbrev pub gate_0 : ℕ → ℕ
-gate_0 text = head_length + text
-
-abbrev pub gate_1 : ℕ → ℕ → ℕ
-gate_1 text size = head_length + text + (slot_head + size)
+-- where the gate of a slot stands, and where the store ends, by the lengths of problem and slot
+abbrev pub gate_at : ℕ → ℕ → ℕ → ℕ
+gate_at k text size = head_length + text + k * (slot_head + size)
 
 abbrev pub end_of : ℕ → ℕ → ℕ
 end_of text size = head_length + text + 2 * (slot_head + size)

@@ -1,6 +1,6 @@
 pub mod Created
 pub mod Layout
-pub mod Next
+pub mod Table
 pub mod Phases
 pub mod Stored
 pub mod Reasons

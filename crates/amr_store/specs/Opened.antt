@@ -7,7 +7,7 @@ use Rattle.amr_store.specs.declared.found.Found.TheVariants.{Nothing, Ready, Dam
 use Rattle.amr_store.specs.declared.part.Part.TheVariants.{Renewal}
 use Rattle.amr_store.specs.declared.store.Store.{Store}
 use Rattle.amr_store.specs.Shown.{IsDamaged, Shows}
-use Rattle.amr_store.specs.Stands.{IsStoreReady, Stands, is_shut, base_in, version_in, problem_in, slot_size_in, first_in, second_in}
+use Rattle.amr_store.specs.Stands.{IsStoreReady, Stands, is_shut, base_in, version_in, problem_in, slot_size_in, deltas_in, slots_in}
 use Rattle.amr_store.specs.Stored.{Stored, Empty, stored}
 
 -- exactly what is stored: no store, a store that shows its state, or a damaged part
@@ -38,9 +38,9 @@ IsUnshut (Damaged part) = ⊤
 pub record IsStoreAtBase (base : ℕ) (inner : Outline) (store : Store) : Type 0 where
   pub base_is : base_in store ≡ base
   pub version : version_in store ≡ 2
-  pub slot_size : slot_size_in store ≡ inner.slot_size
-  pub first : first_in store ≡ inner.first
-  pub second : second_in store ≡ inner.second
+  pub slot_size : slot_size_in store ≡ inner.head.slot_size
+  pub deltas : deltas_in store ≡ 0
+  pub slots : slots_in store ≡ inner.slots.items
 
 -- the new store of a renewed one, where it holds the old problem
 abbrev pub IsRenewedFound : ℕ → Outline → List ℕ → List ℕ → Found → Type 0

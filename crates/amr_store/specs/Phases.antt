@@ -20,3 +20,7 @@ TornThrice at n beyond m last k s c = (d : List ℕ) × TornTwice at n beyond m 
 pub record OnlyReads {D : Type 0} (seen : D → Option (List ℕ)) (moment : D → ℕ) (leaves : D → ℕ → List ℕ → Type 0) (old new : D) : Type 0 where
   pub same : seen new ≡ seen old
   pub images : Rests (seen old) (moment old) (moment new) (leaves old) (leaves new)
+
+-- what is told of the bytes that a read gives, where a read tells
+abbrev pub Told : Option (List ℕ) → (List ℕ → Type 0) → Type 0
+Told seen P = (s : List ℕ) → seen ≡ Some s → P s

@@ -1,15 +1,14 @@
 -- What the parts of a store read as, one after the other.
 use Rattle.std.specs.Prelude.{ℕ, ◌≡◌, ◌+◌, ◌-◌, ◌<◌, ◌≤◌, ◌==◌, ◌^◌, min, nat_lt, ⊤, Bool, true, false, not, ◌&&◌, ◌||◌, List}
-use Rattle.std.specs.Prelude.{[], ◌∷◌, length, slice_index, Option, Some, None, option_map, if◌then◌else◌}
+use Rattle.std.specs.Prelude.{◌∷◌, length, slice_index, Option, Some, None, option_map, if◌then◌else◌}
 use Rattle.amr_store.specs.declared.part.Part.{Part}
-use Rattle.amr_store.specs.declared.part.Part.TheVariants.{Text, Size, Slot, Tie}
+use Rattle.amr_store.specs.declared.part.Part.TheVariants.{Text, Size}
 use Rattle.amr_store.specs.declared.slot.Slot.{Slot as Entered}
 use Rattle.amr_store.specs.declared.reading.SlotFound.{SlotFound}
 use Rattle.amr_store.specs.declared.reading.SlotFound.TheVariants.{Sound, Broken}
 use Rattle.amr_store.specs.declared.reading.Head.{Head}
-use Rattle.amr_store.specs.Layout.{open_gate, magic_1, magic_2, long_at, word_at, size_of, text_length, gate_0, gate_1}
-use Rattle.amr_store.specs.Stands.{slot_of}
-use Rattle.amr_store.specs.Stored.{has_magic_1, has_magic_2, is_open, is_broken, entry_at, first_of, second_of, is_tie}
+use Rattle.amr_store.specs.Layout.{open_gate, magic_1, magic_2, long_at, word_at, size_of, text_length}
+use Rattle.amr_store.specs.Stored.{has_magic_1, has_magic_2, is_open, is_broken, entry_at, slot_of, slot_tests}
 
 -- the first n bytes of a buffer are those from a place on, as many as there are
 pub record IsRead (part : List ℕ) (at : ℕ) (into : List ℕ) (n : ℕ) : Type 0 where
@@ -36,14 +35,14 @@ abbrev pub head_test : Bool → List ℕ → Bool
 head_test takes_first part = nat_lt (length part) 21 || not (magic_in takes_first part)
 
 -- what a head says
-pub record SaysHead (version size text : ℕ) (part : List ℕ) : Type 0 where
-  pub version_is : version ≡ (if has_magic_1 part then 1 else 2)
-  pub size_is : size ≡ size_of part
-  pub text_is : text ≡ text_length part
+pub record SaysHead (head : Head) (part : List ℕ) : Type 0 where
+  pub version_is : head.version ≡ (if has_magic_1 part then 1 else 2)
+  pub size_is : head.slot_size ≡ size_of part
+  pub text_is : head.text ≡ text_length part
 
 abbrev pub IsHeadOf : Option Head → Bool → List ℕ → Type 0
 IsHeadOf None takes_first part = head_test takes_first part ≡ true
-IsHeadOf (Some head) takes_first part = (head_test takes_first part ≡ false) × SaysHead head.version head.slot_size head.text part
+IsHeadOf (Some head) takes_first part = (head_test takes_first part ≡ false) × SaysHead head part
 
 -- the slot in a buffer of which n bytes were read, short of its payload
 abbrev pub slot_read : List ℕ → ℕ → ℕ → SlotFound
@@ -79,14 +78,7 @@ abbrev pub IsSlot : SlotFound → List ℕ → ℕ → ℕ → Type 0
 IsSlot Broken part gate size = is_broken part gate size ≡ true
 IsSlot (Sound slot) part gate size = (is_broken part gate size ≡ false) × (slot ≡ option_map slot_of (entry_at part gate))
 
--- the tests on a store from the one on its slots on, and from the one on its text on
-abbrev pub slot_tests : List ℕ → List (Bool × Part)
-slot_tests part =
-    (is_broken part (gate_0 (text_length part)) (size_of part), Slot 0)
-    ∷ (is_broken part (gate_1 (text_length part) (size_of part)) (size_of part), Slot 1)
-    ∷ (is_tie (first_of part) (second_of part), Tie)
-    ∷ []
-
+-- the tests on a store from the one on its text on
 abbrev pub text_tests : List ℕ → List (Bool × Part)
 text_tests part =
     (nat_lt 65536 (text_length part) || nat_lt (length part) (21 + text_length part), Text)

@@ -1,20 +1,14 @@
 -- A store in memory, and the image that it stands for. (profile)
-use Rattle.std.specs.Prelude.{ℕ, ◌≡◌, ◌+◌, nat_lt, Bool, true, false, List, [], ◌∷◌, ◌++◌, length, drop, Option, Some, None, option_map, if◌then◌else◌}
+use Rattle.std.specs.Prelude.{ℕ, ◌≡◌, ◌<◌, ◌+◌, Bool, true, false, List, [], ◌∷◌, ◌++◌, length, drop, Option, Some, None}
 use Rattle.std.specs.Int.{to_le_bytes, w64}
 use Rattle.amr_disk.specs.Image.{Only, written_at}
 use Rattle.amr_store.specs.declared.put.Closed.{Closed}
 use Rattle.amr_store.specs.declared.put.Filled.{Filled}
 use Rattle.amr_store.specs.declared.slot.Slot.{Slot}
-use Rattle.amr_store.specs.declared.slot.Which.{Which}
-use Rattle.amr_store.specs.declared.slot.Which.TheVariants.{First, Second}
 use Rattle.amr_store.specs.declared.store.Store.{Store}
-use Rattle.amr_store.specs.Layout.{size_of, problem_of}
-use Rattle.amr_store.specs.Next.{is_latest, next_after, gate_at}
-use Rattle.amr_store.specs.Stored.{Entry, Reads, IsFilled, state_of, first_of, second_of}
-
--- what a store knows of an entry
-abbrev pub slot_of : Entry → Slot
-slot_of entry = record { sequence = entry.sequence; length = length entry.payload }
+use Rattle.amr_store.specs.Layout.{size_of, problem_of, gate_at}
+use Rattle.amr_store.specs.Stored.{Reads, IsFilled, state_of, slot_of, deltas_of, slots_of}
+use Rattle.amr_store.specs.Table.{slot_count, slot_at, next_base, latest_base, last_of}
 
 abbrev pub is_shut : Store → Bool
 is_shut store = store.is_shut
@@ -35,34 +29,28 @@ slot_size_in store = store.slot_size
 abbrev pub base_in : Store → ℕ
 base_in store = store.base
 
-abbrev pub first_in : Store → Option Slot
-first_in store = store.first
+abbrev pub deltas_in : Store → ℕ
+deltas_in store = store.deltas
 
-abbrev pub second_in : Store → Option Slot
-second_in store = store.second
+abbrev pub slots_in : Store → List (Option Slot)
+slots_in store = store.slots.items
 
-abbrev pub sequence_in : Option Slot → Option ℕ
-sequence_in slot = option_map (λ (s : Slot). s.sequence) slot
+abbrev pub slot_in : Store → ℕ → Option Slot
+slot_in store k = slot_at (slots_in store) k
 
--- the greater of the open slots' sequences
-abbrev pub last_of : Option ℕ → Option ℕ → Option ℕ
-last_of None second = second
-last_of (Some a) None = Some a
-last_of (Some a) (Some b) = if nat_lt a b then Some b else Some a
-
+-- the greatest sequence of a base
 abbrev pub last_in : Store → Option ℕ
-last_in store = last_of (sequence_in (first_in store)) (sequence_in (second_in store))
+last_in store = last_of (deltas_in store) (slots_in store)
 
--- the slot that the next put fills, and the place of its gate on the disk
-abbrev pub next_in : Store → Which
-next_in store = next_after (is_latest (sequence_in (first_in store)) (sequence_in (second_in store)))
+-- the slot that the next put fills, the one that holds the latest state, and the place of a slot's gate on the disk
+abbrev pub next_in : Store → ℕ
+next_in store = next_base (deltas_in store) (slots_in store)
 
-abbrev pub gate_in : Store → Which → ℕ
-gate_in store which = base_in store + gate_at which (length (problem_in store)) (slot_size_in store)
+abbrev pub latest_slot_in : Store → ℕ
+latest_slot_in store = latest_base (deltas_in store) (slots_in store)
 
-abbrev pub slot_in : Store → Which → Option Slot
-slot_in store First = first_in store
-slot_in store Second = second_in store
+abbrev pub gate_in : Store → ℕ → ℕ
+gate_in store k = base_in store + gate_at k (length (problem_in store)) (slot_size_in store)
 
 -- the store stands for the image: the image reads as a sound store, and what is known of it in memory is so
 pub record Stands (store : Store) (image : List ℕ) : Type 0 where
@@ -70,8 +58,8 @@ pub record Stands (store : Store) (image : List ℕ) : Type 0 where
   pub version : version_in store ≡ (state_of (drop (base_in store) image)).version
   pub problem : problem_in store ≡ problem_of (drop (base_in store) image)
   pub slot_size : slot_size_in store ≡ size_of (drop (base_in store) image)
-  pub first : first_in store ≡ option_map slot_of (first_of (drop (base_in store) image))
-  pub second : second_in store ≡ option_map slot_of (second_of (drop (base_in store) image))
+  pub deltas : deltas_in store ≡ deltas_of (drop (base_in store) image)
+  pub slots : slots_in store ≡ slots_of (drop (base_in store) image)
 
 -- a store that is not shut finds the disk as its last call left it: nothing is pending, and the store stands for what a read gives
 pub record IsStoreReady {D : Type 0} (seen : D → Option (List ℕ)) (moment : D → ℕ) (leaves : D → ℕ → List ℕ → Type 0) (store : Store) (disk : D) : Type 0 where
@@ -86,11 +74,11 @@ closing_chunk (Some slot) = 0 ∷ []
 abbrev pub closed_image : Store → List ℕ → List ℕ
 closed_image store image = written_at (gate_in store (next_in store)) (closing_chunk (slot_in store (next_in store))) image
 
-abbrev pub filled_image : Store → Which → ℕ → List ℕ → List ℕ → List ℕ
+abbrev pub filled_image : Store → ℕ → ℕ → List ℕ → List ℕ → List ℕ
 filled_image store which sequence payload image =
     written_at (gate_in store which + 17) payload (written_at (gate_in store which + 1) (to_le_bytes w64 sequence ++ to_le_bytes w64 (length payload)) image)
 
-abbrev pub opened_image : Store → Which → List ℕ → List ℕ
+abbrev pub opened_image : Store → ℕ → List ℕ → List ℕ
 opened_image store which image = written_at (gate_in store which) (165 ∷ []) image
 
 -- the bytes that a put writes, and no other: its three steps in turn
@@ -98,10 +86,10 @@ abbrev pub put_image : Store → ℕ → List ℕ → List ℕ → List ℕ
 put_image store sequence payload image = opened_image store (next_in store) (filled_image store (next_in store) sequence payload (closed_image store image))
 
 -- the slot that a step of a put closed or filled, and what it was filled with
-abbrev pub slot_closed : Closed → Which
+abbrev pub slot_closed : Closed → ℕ
 slot_closed closed = closed.which
 
-abbrev pub slot_filled : Filled → Which
+abbrev pub slot_filled : Filled → ℕ
 slot_filled filled = filled.which
 
 abbrev pub sequence_filled : Filled → ℕ
@@ -114,13 +102,18 @@ length_filled filled = filled.slot.length
 abbrev pub opened_slot : Filled → Option Slot
 opened_slot filled = Some filled.slot
 
+-- what is known of the slot that a put filled
+abbrev pub put_slot : ℕ → List ℕ → Option Slot
+put_slot sequence payload = Some (slot_of record { sequence = sequence; payload = payload })
+
 -- the slot that is next is closed, in memory
-pub record IsClosed (which : Which) (store : Store) : Type 0 where
+pub record IsClosed (which : ℕ) (store : Store) : Type 0 where
   pub next : which ≡ next_in store
+  pub within : which < slot_count (deltas_in store)
   pub none : slot_in store which ≡ None
 
 -- a slot of the store is filled with this, behind its gate
-abbrev pub IsFilledIn : Which → Store → List ℕ → ℕ → List ℕ → Type 0
+abbrev pub IsFilledIn : ℕ → Store → List ℕ → ℕ → List ℕ → Type 0
 IsFilledIn which store image sequence payload =
     IsFilled (drop (base_in store) image) (gate_at which (length (problem_in store)) (slot_size_in store)) (slot_size_in store) sequence payload
 
@@ -130,3 +123,4 @@ pub record SameStore (old new : Store) : Type 0 where
   pub problem : problem_in new ≡ problem_in old
   pub slot_size : slot_size_in new ≡ slot_size_in old
   pub base : base_in new ≡ base_in old
+  pub deltas : deltas_in new ≡ deltas_in old

@@ -1,10 +1,12 @@
 -- What an image of the store's file holds: the first reading that applies, by the bytes alone. (profile)
-use Rattle.std.specs.Prelude.{ℕ, ◌+◌, ◌^◌, ◌≡◌, ◌≤◌, ◌<◌, ◌==◌, nat_le, nat_lt, Bool, true, false, not, ◌&&◌, ◌||◌, List, [], ◌∷◌, ◌++◌}
-use Rattle.std.specs.Prelude.{length, drop, slice_index, slice_range, nat_eq, Option, Some, None, if◌then◌else◌}
+use Rattle.std.specs.Prelude.{ℕ, ◌+◌, ◌^◌, ◌≡◌, ◌≤◌, ◌<◌, ◌⊎◌, ◌==◌, nat_le, nat_lt, Bool, true, false, not, ◌&&◌, ◌||◌, List, [], ◌∷◌, ◌++◌}
+use Rattle.std.specs.Prelude.{length, drop, slice_index, slice_range, nat_eq, Option, Some, None, option_map, if◌then◌else◌}
 use Rattle.amr_store.specs.declared.part.Part.{Part}
 use Rattle.amr_store.specs.declared.part.Part.TheVariants.{Head, Text, Size, Slot, Tie, Renewal}
 use Rattle.std.specs.Cmp.Lexicographic.{pointwise}
-use Rattle.amr_store.specs.Layout.{open_gate, head_length, slot_head, long_at, magic_1, magic_2, size_of, text_length, problem_of, gate_0, gate_1, end_of}
+use Rattle.amr_store.specs.declared.slot.Slot.{Slot as Known}
+use Rattle.amr_store.specs.Layout.{open_gate, head_length, slot_head, long_at, magic_1, magic_2, size_of, text_length, problem_of, gate_at, end_of}
+use Rattle.amr_store.specs.Table.{table, slot_count, is_tied, latest_base}
 
 -- a state in a slot
 pub record Entry : Type 0 where
@@ -43,21 +45,38 @@ entry_at image gate =
     then Some record { sequence = long_at image (gate + 1); payload = slice_range image (gate + slot_head) (gate + slot_head + long_at image (gate + 9)) }
     else None
 
-abbrev pub first_of : List ℕ → Option Entry
-first_of image = entry_at image (gate_0 (text_length image))
+-- what a store knows of an entry
+abbrev pub slot_of : Entry → Known
+slot_of entry = record { sequence = entry.sequence; length = length entry.payload }
 
-abbrev pub second_of : List ℕ → Option Entry
-second_of image = entry_at image (gate_1 (text_length image) (size_of image))
+-- how many records follow each base: none in versions 1 and 2
+abbrev pub deltas_of : List ℕ → ℕ
+deltas_of image = 0
 
-abbrev pub is_tie : Option Entry → Option Entry → Bool
-is_tie None second = false
-is_tie (Some a) None = false
-is_tie (Some a) (Some b) = a.sequence == b.sequence
+abbrev pub count_of : List ℕ → ℕ
+count_of image = slot_count (deltas_of image)
 
-abbrev pub latest_of : Option Entry → Option Entry → Option Entry
-latest_of None second = second
-latest_of (Some a) None = Some a
-latest_of (Some a) (Some b) = if nat_lt a.sequence b.sequence then Some b else Some a
+-- the gate of a slot, what it holds, and what is known of all slots
+abbrev pub gate_of : List ℕ → ℕ → ℕ
+gate_of image k = gate_at k (text_length image) (size_of image)
+
+abbrev pub entry_of : List ℕ → ℕ → Option Entry
+entry_of image k = entry_at image (gate_of image k)
+
+abbrev pub known_of : List ℕ → ℕ → Option Known
+known_of image k = option_map slot_of (entry_of image k)
+
+abbrev pub slots_of : List ℕ → List (Option Known)
+slots_of image = table (λ k. known_of image k) (count_of image)
+
+-- the latest state, where a base is open
+abbrev pub latest_entry : List ℕ → Option Entry
+latest_entry image = entry_of image (latest_base (deltas_of image) (slots_of image))
+
+-- the tests on the slots, each by itself and then the bases together
+abbrev pub slot_tests : List ℕ → List (Bool × Part)
+slot_tests image =
+    table (λ k. (is_broken image (gate_of image k) (size_of image), Slot k)) (count_of image) ++ (is_tied (deltas_of image) (slots_of image), Tie) ∷ []
 
 -- the tests on a store that begins at the first byte, in their order, each with the part that it finds damaged
 abbrev pub tests : Bool → List ℕ → List (Bool × Part)
@@ -65,10 +84,7 @@ tests has_magic image =
     (nat_lt (length image) head_length || not has_magic, Head)
     ∷ (nat_lt 65536 (text_length image) || nat_lt (length image) (head_length + text_length image), Text)
     ∷ (nat_lt (2 ^ 40) (size_of image), Size)
-    ∷ (is_broken image (gate_0 (text_length image)) (size_of image), Slot 0)
-    ∷ (is_broken image (gate_1 (text_length image) (size_of image)) (size_of image), Slot 1)
-    ∷ (is_tie (first_of image) (second_of image), Tie)
-    ∷ []
+    ∷ slot_tests image
 
 abbrev pub has_magic_1 : List ℕ → Bool
 has_magic_1 image = long_at image 1 == magic_1
@@ -110,7 +126,7 @@ state_of image = record {
   version = if has_magic_1 image then 1 else 2;
   problem = problem_of image;
   slot_size = size_of image;
-  latest = latest_of (first_of image) (second_of image);
+  latest = latest_entry image;
 }
 
 -- no store was made
@@ -145,3 +161,10 @@ abbrev pub with_latest : Stored → ℕ → List ℕ → Stored
 with_latest (Held state) sequence payload = Held (record state { latest = Some record { sequence = sequence; payload = payload } })
 with_latest Empty sequence payload = Empty
 with_latest (Damaged part) sequence payload = Damaged part
+
+-- an image that holds what the one before it held, and one that holds that or has this state as its latest
+abbrev pub SameStored : List ℕ → List ℕ → Type 0
+SameStored old new = stored new ≡ stored old
+
+abbrev pub SameOrPut : ℕ → List ℕ → List ℕ → List ℕ → Type 0
+SameOrPut sequence payload old new = (stored new ≡ stored old) ⊎ (stored new ≡ with_latest (stored old) sequence payload)

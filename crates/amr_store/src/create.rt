@@ -1,10 +1,11 @@
 //! A new store over an empty disk.
-ghost use Rattle.std.specs.Prelude.{◌≡◌, ◌≤◌, ◌<◌, ◌+◌, ◌^◌, ◌⊎◌, ◌==◌, ◌&&◌, true, false, nat_lt, List, ℕ, Some};
-ghost use Rattle.std.specs.Prelude.{None, length, IsSome, IfOk, OnOk, vec_len, option_map};
+ghost use Rattle.std.specs.Prelude.{◌≡◌, ◌≤◌, ◌<◌, ◌+◌, ◌^◌, ◌⊎◌, ◌==◌, ◌&&◌, true, false, nat_lt, List, ℕ, Some, None};
+ghost use Rattle.std.specs.Prelude.{length, IsSome, IfOk, OnOk, replicate, vec_len, option_map};
 ghost use Rattle.amr_causes.specs.Causes.{HasCause};
 ghost use Rattle.amr_disk.specs.Image.{Only};
-ghost use Rattle.amr_store.specs.Created.{IsVersion, IsShutFirst, IsLaid, IsMade, magic_of, head_bytes, new_state, shut_first, laid_image, created_image};
-ghost use Rattle.amr_store.specs.Phases.{OnlyReads, StopsFrom};
+ghost use Rattle.amr_store.specs.Created.{EmptyOrNew, IsVersion, IsShutFirst, IsLaid, IsMade, magic_of, head_bytes};
+ghost use Rattle.amr_store.specs.Created.{new_state, shut_first, laid_image, created_image};
+ghost use Rattle.amr_store.specs.Phases.{OnlyReads, StopsFrom, Told};
 ghost use Rattle.amr_store.specs.Reasons.{HasReason, is_no_memory, is_shut_fault};
 ghost use Rattle.amr_store.specs.Stands.{IsStoreReady, is_shut, version_in, problem_in, slot_size_in, last_in};
 ghost use Rattle.amr_store.specs.Stored.{stored, is_empty, Empty, Held};
@@ -12,6 +13,7 @@ ghost use Rattle.amr_store.specs.Stored.{stored, is_empty, Empty, Held};
 use crate::device::{Write, has_byte, write_synced, write_three_synced, write_two_synced};
 use crate::part::StoreFault;
 use crate::put::OPEN;
+use crate::slot::{Slot, end_of, gate_at};
 use crate::store::Store;
 use amr_disk::{Disk, DiskFault};
 use std::alloc::{AllocError, Global};
@@ -48,6 +50,15 @@ fn head_of(
     Ok(head)
 }
 
+// So many closed slots.
+fn closed_slots(alloc: Global, count: usize) -> Result<Vec<Option<Slot>>, AllocError>
+    ensures slots { IfOk result (λ v. v.items ≡ replicate count None) }
+    ensures count { IfOk result (λ v. vec_len v ≡ count) }
+{
+    let slots = vec![in alloc; None; count]?;
+    Ok(slots)
+}
+
 // A copy of the bytes.
 pub fn copy_of(alloc: Global, bytes: &[u8]) -> Result<Vec<u8>, AllocError>
     ensures items { IfOk result (λ v. v.items ≡ bytes.now) }
@@ -79,7 +90,7 @@ fn close_first<D: Disk>(disk: &mut D) -> Result<(), DiskFault>
 // Whether a byte follows a store of version 1: an open one there would renew it.
 fn has_renewal_gate<D: Disk>(disk: &mut D, version: u32, end: u64) -> Result<bool, DiskFault>
     requires small { end + 1 < 2 ^ 48 }
-    ensures told { IfOk result (λ has. (s : List ℕ) → D.seen disk.old ≡ Some s → has ≡ (version == 1 && nat_lt end (length s))) }
+    ensures told { IfOk result (λ has. Told (D.seen disk.old) (λ s. has ≡ (version == 1 && nat_lt end (length s)))) }
     ensures reads { OnlyReads D.seen D.moment D.leaves disk.old disk.new }
     ensures cause { HasCause (D.faults disk.old) (D.faults disk.new) result }
     ensures no_fault { OnOk result (D.faults disk.new ≡ D.faults disk.old) }
@@ -114,8 +125,8 @@ fn lay<D: Disk>(
     ensures no_fault { OnOk result (D.faults disk.new ≡ D.faults disk.old) }
 {
     let text = problem.len() as u64;
-    let gate = 21 + text + (17 + slot_size);
-    let end = 21 + text + 2 * (17 + slot_size);
+    let gate = gate_at(1, text, slot_size);
+    let end = end_of(text, slot_size);
     match has_renewal_gate(disk, version, end) {
         Ok(true) => write_three_synced(
             disk,
@@ -151,8 +162,7 @@ fn write_store<D: Disk>(
     requires empty { (s : List ℕ) → D.seen disk.old ≡ Some s → is_empty s ≡ true }
     ensures seen { OnOk result (D.seen disk.new ≡ option_map (created_image version problem.now slot_size) (D.seen disk.old)) }
     ensures made { OnOk result ((t : List ℕ) → D.seen disk.new ≡ Some t → IsMade version problem.now slot_size t) }
-    ensures stops { StopsFrom D.seen D.moment D.leaves disk.old disk.new
-        (λ s c. stored c ≡ Empty ⊎ stored c ≡ Held (new_state version problem.now slot_size)) }
+    ensures stops { StopsFrom D.seen D.moment D.leaves disk.old disk.new (EmptyOrNew version problem.now slot_size) }
     ensures settled { OnOk result (Only (D.seen disk.new) (D.leaves disk.new (D.moment disk.new))) }
     ensures cause { HasCause (D.faults disk.old) (D.faults disk.new) result }
     ensures no_fault { OnOk result (D.faults disk.new ≡ D.faults disk.old) }
@@ -189,28 +199,22 @@ impl Store {
         ensures unshut_store { IfOk result (λ store. is_shut store ≡ false) }
         ensures seen { OnOk result (D.seen disk.new ≡ option_map (created_image version problem.now slot_size) (D.seen disk.old)) }
         ensures made { OnOk result ((t : List ℕ) → D.seen disk.new ≡ Some t → stored t ≡ Held (new_state version problem.now slot_size)) }
-        ensures stops { StopsFrom D.seen D.moment D.leaves disk.old disk.new
-            (λ s c. stored c ≡ Empty ⊎ stored c ≡ Held (new_state version problem.now slot_size)) }
+        ensures stops { StopsFrom D.seen D.moment D.leaves disk.old disk.new (EmptyOrNew version problem.now slot_size) }
         ensures memory { is_no_memory result ≡ true → disk.new ≡ disk.old }
         ensures reason { HasReason (D.faults disk.old) (D.faults disk.new) result }
         ensures unshut { is_shut_fault result ≡ false }
     {
-        let head = match head_of(alloc, version, problem, slot_size) {
-            Ok(head) => head,
-            Err(_) => return Err(StoreFault::NoMemory),
-        };
-        let kept = match copy_of(alloc, problem) {
-            Ok(kept) => kept,
-            Err(_) => return Err(StoreFault::NoMemory),
-        };
+        let head = head_of(alloc, version, problem, slot_size)?;
+        let kept = copy_of(alloc, problem)?;
+        let slots = closed_slots(alloc, 2)?;
         match write_store(disk, version, problem, slot_size, &head) {
             Ok(()) => Ok(Store {
                 version,
                 base: 0,
                 problem: kept,
                 slot_size,
-                first: None,
-                second: None,
+                deltas: 0,
+                slots,
                 is_shut: false,
             }),
             Err(_) => Err(StoreFault::DiskFault),

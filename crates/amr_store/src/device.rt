@@ -2,7 +2,7 @@
 ghost use Rattle.std.specs.Prelude.{◌≡◌, ◌<◌, ◌+◌, ◌^◌, nat_lt, ◌&&◌, List, ℕ, Some, length, drop, IfOk, OnOk, option_map};
 ghost use Rattle.amr_causes.specs.Causes.{HasCause};
 ghost use Rattle.amr_disk.specs.Image.{written_at, Torn, Only};
-ghost use Rattle.amr_store.specs.Phases.{OnlyReads, StopsFrom, TornTwice, TornThrice};
+ghost use Rattle.amr_store.specs.Phases.{OnlyReads, StopsFrom, Told, TornTwice, TornThrice};
 ghost use Rattle.amr_store.specs.Reading.{IsRead};
 ghost use Rattle.amr_store.specs.Stored.{is_open};
 
@@ -19,7 +19,7 @@ pub struct Write<'a> {
 // Whether the disk has a byte at a place.
 pub fn has_byte<D: Disk>(disk: &mut D, at: u64) -> Result<bool, DiskFault>
     requires small { at + 1 < 2 ^ 48 }
-    ensures told { IfOk result (λ has. (s : List ℕ) → D.seen disk.old ≡ Some s → has ≡ nat_lt at (length s)) }
+    ensures told { IfOk result (λ has. Told (D.seen disk.old) (λ s. has ≡ nat_lt at (length s))) }
     ensures reads { OnlyReads D.seen D.moment D.leaves disk.old disk.new }
     ensures cause { HasCause (D.faults disk.old) (D.faults disk.new) result }
     ensures no_fault { OnOk result (D.faults disk.new ≡ D.faults disk.old) }
@@ -32,7 +32,7 @@ pub fn has_byte<D: Disk>(disk: &mut D, at: u64) -> Result<bool, DiskFault>
 // Whether the part of the disk from a base on has a byte at a place.
 pub fn has_byte_from<D: Disk>(disk: &mut D, base: u64, at: u64) -> Result<bool, DiskFault>
     requires small { base + at + 1 < 2 ^ 48 }
-    ensures told { IfOk result (λ has. (s : List ℕ) → D.seen disk.old ≡ Some s → has ≡ nat_lt at (length (drop base s))) }
+    ensures told { IfOk result (λ has. Told (D.seen disk.old) (λ s. has ≡ nat_lt at (length (drop base s)))) }
     ensures reads { OnlyReads D.seen D.moment D.leaves disk.old disk.new }
     ensures cause { HasCause (D.faults disk.old) (D.faults disk.new) result }
     ensures no_fault { OnOk result (D.faults disk.new ≡ D.faults disk.old) }
@@ -48,7 +48,7 @@ pub fn read_from<D: Disk>(
     into: &mut [u8],
 ) -> Result<usize, DiskFault>
     requires small { base + at + length into.old < 2 ^ 48 }
-    ensures told { IfOk result (λ n. (s : List ℕ) → D.seen disk.old ≡ Some s → IsRead (drop base s) at into.new n) }
+    ensures told { IfOk result (λ n. Told (D.seen disk.old) (λ s. IsRead (drop base s) at into.new n)) }
     ensures reads { OnlyReads D.seen D.moment D.leaves disk.old disk.new }
     ensures cause { HasCause (D.faults disk.old) (D.faults disk.new) result }
     ensures no_fault { OnOk result (D.faults disk.new ≡ D.faults disk.old) }
@@ -59,7 +59,7 @@ pub fn read_from<D: Disk>(
 // Whether the disk has two bytes at a place, of which the first is an open gate.
 pub fn has_open_gate<D: Disk>(disk: &mut D, at: u64) -> Result<bool, DiskFault>
     requires small { at + 2 < 2 ^ 48 }
-    ensures told { IfOk result (λ has. (s : List ℕ) → D.seen disk.old ≡ Some s → has ≡ (nat_lt (at + 1) (length s) && is_open s at)) }
+    ensures told { IfOk result (λ has. Told (D.seen disk.old) (λ s. has ≡ (nat_lt (at + 1) (length s) && is_open s at))) }
     ensures reads { OnlyReads D.seen D.moment D.leaves disk.old disk.new }
     ensures cause { HasCause (D.faults disk.old) (D.faults disk.new) result }
     ensures no_fault { OnOk result (D.faults disk.new ≡ D.faults disk.old) }

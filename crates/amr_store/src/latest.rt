@@ -1,6 +1,6 @@
 //! The latest state.
 ghost use Rattle.std.specs.Prelude.{◌≡◌, true, false, List, ℕ, Some, is_some, option_map, IfOk};
-ghost use Rattle.amr_store.specs.Phases.{OnlyReads};
+ghost use Rattle.amr_store.specs.Phases.{OnlyReads, Told};
 ghost use Rattle.amr_store.specs.Reasons.{HasReason, Shuts, is_no_memory};
 ghost use Rattle.amr_store.specs.Shown.{latest_in};
 ghost use Rattle.amr_store.specs.Stands.{IsStoreReady, SameStore, is_shut, last_in};
@@ -22,7 +22,7 @@ impl Store {
     ) -> Result<Option<Vec<u8>>, StoreFault>
         requires ready { IsStoreReady D.seen D.moment D.leaves self.old disk.old }
         ensures latest { is_shut self.old ≡ false
-            → IfOk result (λ latest. (s : List ℕ) → D.seen disk.old ≡ Some s → option_map (λ v. v.items) latest ≡ latest_in (stored s)) }
+            → IfOk result (λ latest. Told (D.seen disk.old) (λ s. option_map (λ v. v.items) latest ≡ latest_in (stored s))) }
         ensures none { IfOk result (λ latest. is_some latest ≡ is_some (last_in self.old)) }
         ensures ready { IsStoreReady D.seen D.moment D.leaves self.new disk.new }
         ensures reads { OnlyReads D.seen D.moment D.leaves disk.old disk.new }

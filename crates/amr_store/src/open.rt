@@ -1,18 +1,20 @@
 //! Opening a store: what the disk holds, by the tests on it in their order.
-ghost use Rattle.std.specs.Prelude.{◌≡◌, ◌≤◌, ◌<◌, ◌+◌, ◌*◌, ◌^◌, ◌==◌, ◌&&◌, true, false, nat_lt, nat_eq, List};
-ghost use Rattle.std.specs.Prelude.{ℕ, Some, length, drop, slice_range, IfOk, OnOk, vec_len};
+ghost use Rattle.std.specs.Prelude.{◌≡◌, ◌≤◌, ◌<◌, ◌+◌, ◌^◌, true, false, List, ℕ, Some, length, drop, slice_range, IfOk, OnOk, vec_len};
 ghost use Rattle.amr_causes.specs.Causes.{HasCause};
 ghost use Rattle.amr_disk.specs.Image.{Only};
-ghost use Rattle.amr_store.specs.Checking.{IsOutline, IsHeldBy, IsInner};
+ghost use Rattle.amr_store.specs.Checking.{IsOutline, IsHeldBy, IsInner, IsRenewedAt};
 ghost use Rattle.amr_store.specs.Opened.{Finds, FindsIn, IsReadyFound, IsRenewedFound, IsUnshut};
-ghost use Rattle.amr_store.specs.Phases.{OnlyReads};
+ghost use Rattle.amr_store.specs.Phases.{OnlyReads, Told};
+ghost use Rattle.amr_store.specs.Reading.{SaysHead};
 ghost use Rattle.amr_store.specs.Reasons.{HasReason, is_disk_fault, is_no_memory, is_shut_fault};
-ghost use Rattle.amr_store.specs.Stored.{stored, is_open, is_empty, is_renewed, end_in};
+ghost use Rattle.amr_store.specs.Stored.{stored, is_empty, is_renewed};
 
 use crate::check::{Checked, Outline, check};
 use crate::device::{has_open_gate, read_from};
 use crate::found::Found;
 use crate::part::{Part, StoreFault};
+use crate::reading::Head;
+use crate::slot::end_of;
 use crate::store::Store;
 use amr_disk::{Disk, DiskFault};
 use std::alloc::{AllocError, Global};
@@ -35,8 +37,7 @@ pub fn read_bytes<D: Disk>(
 ) -> Result<Vec<u8>, StoreFault>
     requires small { base + at + count < 2 ^ 48 }
     ensures count { IfOk result (λ v. vec_len v ≡ count) }
-    ensures told { IfOk result (λ v. (s : List ℕ) → D.seen disk.old ≡ Some s → at + count ≤ length (drop base s)
-        → v.items ≡ slice_range (drop base s) at (at + count)) }
+    ensures told { IfOk result (λ v. Told (D.seen disk.old) (λ s. at + count ≤ length (drop base s) → v.items ≡ slice_range (drop base s) at (at + count))) }
     ensures reads { OnlyReads D.seen D.moment D.leaves disk.old disk.new }
     ensures memory { is_no_memory result ≡ true → disk.new ≡ disk.old }
     ensures reason { HasReason (D.faults disk.old) (D.faults disk.new) result }
@@ -54,22 +55,24 @@ pub fn read_bytes<D: Disk>(
 
 // The store at the first byte, which was not renewed.
 fn open_plain<D: Disk>(alloc: Global, disk: &mut D, outline: Outline) -> Result<Found, StoreFault>
-    requires text { outline.text ≤ 65536 }
-    requires size { outline.slot_size ≤ 2 ^ 40 }
-    ensures told { IfOk result (λ found. (s : List ℕ) → D.seen disk.old ≡ Some s → IsHeldBy outline s → is_renewed s ≡ false → FindsIn found s) }
-    ensures open { IfOk result (λ found. IsUnshut found) }
+    requires text { outline.head.text ≤ 65536 }
+    requires size { outline.head.slot_size ≤ 2 ^ 40 }
+    requires slots { vec_len outline.slots ≡ 2 }
+    ensures told { IfOk result (λ found. Told (D.seen disk.old)
+        (λ s. IsHeldBy outline.head s → IsOutline outline s → is_renewed s ≡ false → FindsIn found s)) }
+    ensures open { IfOk result IsUnshut }
     ensures reads { OnlyReads D.seen D.moment D.leaves disk.old disk.new }
     ensures reason { HasReason (D.faults disk.old) (D.faults disk.new) result }
     ensures unshut { is_shut_fault result ≡ false }
 {
-    match read_bytes(alloc, disk, 0, 21, outline.text as u64) {
+    match read_bytes(alloc, disk, 0, 21, outline.head.text as u64) {
         Ok(problem) => Ok(Found::Ready(Store {
-            version: outline.version,
+            version: outline.head.version,
             base: 0,
             problem,
-            slot_size: outline.slot_size,
-            first: outline.first,
-            second: outline.second,
+            slot_size: outline.head.slot_size,
+            deltas: 0,
+            slots: outline.slots,
             is_shut: false,
         })),
         Err(fault) => Err(fault),
@@ -80,7 +83,8 @@ fn open_plain<D: Disk>(alloc: Global, disk: &mut D, outline: Outline) -> Result<
 fn same_problem(base: u64, inner: Outline, problem: Vec<u8>, old: &[u8]) -> Found
     requires base { base ≤ 2 ^ 43 }
     requires text { vec_len problem ≤ 65536 }
-    requires size { inner.slot_size ≤ 2 ^ 40 }
+    requires size { inner.head.slot_size ≤ 2 ^ 40 }
+    requires slots { vec_len inner.slots ≡ 2 }
     ensures told { IsRenewedFound base inner problem.items old.now result }
     ensures open { IsUnshut result }
 {
@@ -89,9 +93,9 @@ fn same_problem(base: u64, inner: Outline, problem: Vec<u8>, old: &[u8]) -> Foun
             version: 2,
             base,
             problem,
-            slot_size: inner.slot_size,
-            first: inner.first,
-            second: inner.second,
+            slot_size: inner.head.slot_size,
+            deltas: 0,
+            slots: inner.slots,
             is_shut: false,
         })
     } else {
@@ -103,23 +107,23 @@ fn same_problem(base: u64, inner: Outline, problem: Vec<u8>, old: &[u8]) -> Foun
 fn open_inner<D: Disk>(
     alloc: Global,
     disk: &mut D,
-    outline: Outline,
+    text: u32,
     base: u64,
     inner: Outline,
 ) -> Result<Found, StoreFault>
-    requires text { outline.text ≤ 65536 }
+    requires text { text ≤ 65536 }
     requires base { base ≤ 2 ^ 43 }
-    requires inner_text { inner.text ≤ 65536 }
-    requires inner_size { inner.slot_size ≤ 2 ^ 40 }
-    ensures told { IfOk result (λ found. (s : List ℕ) → D.seen disk.old ≡ Some s → IsHeldBy outline s → is_renewed s ≡ true → base ≡ end_in s
-        → IsInner inner (drop base s) → FindsIn found s) }
-    ensures open { IfOk result (λ found. IsUnshut found) }
+    requires inner_text { inner.head.text ≤ 65536 }
+    requires inner_size { inner.head.slot_size ≤ 2 ^ 40 }
+    requires inner_slots { vec_len inner.slots ≡ 2 }
+    ensures told { IfOk result (λ found. Told (D.seen disk.old) (λ s. IsRenewedAt text base s → IsInner inner (drop base s) → FindsIn found s)) }
+    ensures open { IfOk result IsUnshut }
     ensures reads { OnlyReads D.seen D.moment D.leaves disk.old disk.new }
     ensures reason { HasReason (D.faults disk.old) (D.faults disk.new) result }
     ensures unshut { is_shut_fault result ≡ false }
 {
-    match read_bytes(alloc, disk, 0, 21, outline.text as u64) {
-        Ok(old) => match read_bytes(alloc, disk, base, 21, inner.text as u64) {
+    match read_bytes(alloc, disk, 0, 21, text as u64) {
+        Ok(old) => match read_bytes(alloc, disk, base, 21, inner.head.text as u64) {
             Ok(problem) => Ok(same_problem(base, inner, problem, &old)),
             Err(fault) => Err(fault),
         },
@@ -128,53 +132,51 @@ fn open_inner<D: Disk>(
 }
 
 // The store that renewed the one at the first byte.
-fn open_renewed<D: Disk>(alloc: Global, disk: &mut D, outline: Outline) -> Result<Found, StoreFault>
-    requires text { outline.text ≤ 65536 }
-    requires size { outline.slot_size ≤ 2 ^ 40 }
-    ensures told { IfOk result (λ found. (s : List ℕ) → D.seen disk.old ≡ Some s → IsHeldBy outline s → is_renewed s ≡ true → FindsIn found s) }
-    ensures open { IfOk result (λ found. IsUnshut found) }
+fn open_renewed<D: Disk>(alloc: Global, disk: &mut D, head: Head) -> Result<Found, StoreFault>
+    requires text { head.text ≤ 65536 }
+    requires size { head.slot_size ≤ 2 ^ 40 }
+    ensures told { IfOk result (λ found. Told (D.seen disk.old) (λ s. IsHeldBy head s → is_renewed s ≡ true → FindsIn found s)) }
+    ensures open { IfOk result IsUnshut }
     ensures reads { OnlyReads D.seen D.moment D.leaves disk.old disk.new }
     ensures reason { HasReason (D.faults disk.old) (D.faults disk.new) result }
     ensures unshut { is_shut_fault result ≡ false }
 {
-    let base = 21 + outline.text as u64 + 2 * (17 + outline.slot_size);
-    match check(disk, base, false) {
-        Ok(Checked::Whole(inner)) => open_inner(alloc, disk, outline, base, inner),
+    let base = end_of(head.text as u64, head.slot_size);
+    match check(alloc, disk, base, false) {
+        Ok(Checked::Whole(inner)) => open_inner(alloc, disk, head.text, base, inner),
         Ok(Checked::Faulty(part)) => Ok(Found::Damaged(part)),
-        Err(_) => Err(StoreFault::DiskFault),
+        Err(fault) => Err(fault),
     }
 }
 
 // Whether a store of version 1 was renewed: an open gate and more follow its end.
-fn was_renewed<D: Disk>(disk: &mut D, outline: Outline) -> Result<bool, DiskFault>
-    requires text { outline.text ≤ 65536 }
-    requires size { outline.slot_size ≤ 2 ^ 40 }
-    ensures told { IfOk result (λ has. (s : List ℕ) → D.seen disk.old ≡ Some s → IsOutline outline s → has ≡ is_renewed s) }
+fn was_renewed<D: Disk>(disk: &mut D, head: Head) -> Result<bool, DiskFault>
+    requires text { head.text ≤ 65536 }
+    requires size { head.slot_size ≤ 2 ^ 40 }
+    ensures told { IfOk result (λ has. Told (D.seen disk.old) (λ s. SaysHead head s → has ≡ is_renewed s)) }
     ensures reads { OnlyReads D.seen D.moment D.leaves disk.old disk.new }
     ensures cause { HasCause (D.faults disk.old) (D.faults disk.new) result }
     ensures no_fault { OnOk result (D.faults disk.new ≡ D.faults disk.old) }
 {
-    if outline.version != 1 {
+    if head.version != 1 {
         return Ok(false);
     }
-    has_open_gate(
-        disk,
-        21 + outline.text as u64 + 2 * (17 + outline.slot_size),
-    )
+    has_open_gate(disk, end_of(head.text as u64, head.slot_size))
 }
 
 // The store at the first byte, where none of its parts is damaged.
 fn open_whole<D: Disk>(alloc: Global, disk: &mut D, outline: Outline) -> Result<Found, StoreFault>
-    requires text { outline.text ≤ 65536 }
-    requires size { outline.slot_size ≤ 2 ^ 40 }
-    ensures told { IfOk result (λ found. (s : List ℕ) → D.seen disk.old ≡ Some s → IsHeldBy outline s → FindsIn found s) }
-    ensures open { IfOk result (λ found. IsUnshut found) }
+    requires text { outline.head.text ≤ 65536 }
+    requires size { outline.head.slot_size ≤ 2 ^ 40 }
+    requires slots { vec_len outline.slots ≡ 2 }
+    ensures told { IfOk result (λ found. Told (D.seen disk.old) (λ s. IsHeldBy outline.head s → IsOutline outline s → FindsIn found s)) }
+    ensures open { IfOk result IsUnshut }
     ensures reads { OnlyReads D.seen D.moment D.leaves disk.old disk.new }
     ensures reason { HasReason (D.faults disk.old) (D.faults disk.new) result }
     ensures unshut { is_shut_fault result ≡ false }
 {
-    match was_renewed(disk, outline) {
-        Ok(true) => open_renewed(alloc, disk, outline),
+    match was_renewed(disk, outline.head) {
+        Ok(true) => open_renewed(alloc, disk, outline.head),
         Ok(false) => open_plain(alloc, disk, outline),
         Err(_) => Err(StoreFault::DiskFault),
     }
@@ -182,23 +184,23 @@ fn open_whole<D: Disk>(alloc: Global, disk: &mut D, outline: Outline) -> Result<
 
 // A store whose first byte is open.
 fn open_held<D: Disk>(alloc: Global, disk: &mut D) -> Result<Found, StoreFault>
-    ensures told { IfOk result (λ found. (s : List ℕ) → D.seen disk.old ≡ Some s → is_empty s ≡ false → FindsIn found s) }
-    ensures open { IfOk result (λ found. IsUnshut found) }
+    ensures told { IfOk result (λ found. Told (D.seen disk.old) (λ s. is_empty s ≡ false → FindsIn found s)) }
+    ensures open { IfOk result IsUnshut }
     ensures reads { OnlyReads D.seen D.moment D.leaves disk.old disk.new }
     ensures reason { HasReason (D.faults disk.old) (D.faults disk.new) result }
     ensures unshut { is_shut_fault result ≡ false }
 {
-    match check(disk, 0, true) {
+    match check(alloc, disk, 0, true) {
         Ok(Checked::Whole(outline)) => open_whole(alloc, disk, outline),
         Ok(Checked::Faulty(part)) => Ok(Found::Damaged(part)),
-        Err(_) => Err(StoreFault::DiskFault),
+        Err(fault) => Err(fault),
     }
 }
 
 // What a disk holds.
 fn find<D: Disk>(alloc: Global, disk: &mut D) -> Result<Found, StoreFault>
-    ensures told { IfOk result (λ found. (s : List ℕ) → D.seen disk.old ≡ Some s → FindsIn found s) }
-    ensures open { IfOk result (λ found. IsUnshut found) }
+    ensures told { IfOk result (λ found. Told (D.seen disk.old) (λ s. FindsIn found s)) }
+    ensures open { IfOk result IsUnshut }
     ensures reads { OnlyReads D.seen D.moment D.leaves disk.old disk.new }
     ensures reason { HasReason (D.faults disk.old) (D.faults disk.new) result }
     ensures unshut { is_shut_fault result ≡ false }
@@ -225,7 +227,7 @@ impl Store {
     /// reads heads, gates and the problem; of a payload it looks only whether its last byte is there. Writes nothing. Whatever it answers but a
     /// fault of the disk, a stop leaves what a read gives.
     pub fn open<D: Disk>(alloc: Global, disk: &mut D) -> Result<Found, StoreFault>
-        ensures finds { IfOk result (λ found. (s : List ℕ) → D.seen disk.old ≡ Some s → Finds found (stored s)) }
+        ensures finds { IfOk result (λ found. Told (D.seen disk.old) (λ s. Finds found (stored s))) }
         ensures ready { IfOk result (λ found. IsReadyFound D.seen D.moment D.leaves found disk.new) }
         ensures settled { is_disk_fault result ≡ false → Only (D.seen disk.new) (D.leaves disk.new (D.moment disk.new)) }
         ensures reads { OnlyReads D.seen D.moment D.leaves disk.old disk.new }

@@ -3,6 +3,7 @@ ghost use Rattle.std.specs.Prelude.{◌≡◌};
 
 use amr_causes::NoMemory;
 use amr_disk::DiskFault;
+use std::alloc::{AllocError, AllocFailed};
 
 /// A part of the store's file that is damaged.
 #[derive(Clone, Copy, Debug, PartialEq, Eq)]
@@ -54,6 +55,26 @@ impl From<NoMemory> for StoreFault {
     ghost from_gives = { λ _ fault. fault ≡ NoMemory };
 
     fn from(_: NoMemory) -> Self {
+        StoreFault::NoMemory
+    }
+}
+
+impl From<AllocError> for StoreFault {
+    ghost use Rattle.amr_store.specs.declared.part.StoreFault.TheVariants.{NoMemory};
+
+    ghost from_gives = { λ _ fault. fault ≡ NoMemory };
+
+    fn from(_: AllocError) -> Self {
+        StoreFault::NoMemory
+    }
+}
+
+impl<T: Drop> From<AllocFailed<T>> for StoreFault {
+    ghost use Rattle.amr_store.specs.declared.part.StoreFault.TheVariants.{NoMemory};
+
+    ghost from_gives = { λ _ fault. fault ≡ NoMemory };
+
+    fn from(_: AllocFailed<T>) -> Self {
         StoreFault::NoMemory
     }
 }

@@ -1,21 +1,20 @@
 //! The three steps of a put. A stop in the first leaves a closed gate closed, and an open one any byte over a slot that
 //! is as it was. In the second the gate is closed on the disk. In the third the gate is any byte over a slot that is
 //! synced.
-ghost use Rattle.std.specs.Prelude.{◌≡◌, ◌≤◌, ◌<◌, ◌+◌, ◌^◌, ◌++◌, ◌∷◌, [], ◌⊎◌, false, true, List, ℕ, Some, None};
-ghost use Rattle.std.specs.Prelude.{is_some, length, IfOk, IfSome, OnOk, OnErr, option_map, if◌then◌else◌};
+ghost use Rattle.std.specs.Prelude.{◌≡◌, ◌≤◌, ◌<◌, ◌+◌, ◌^◌, ◌++◌, ◌∷◌, [], false, true, List, ℕ, Some, None, length};
+ghost use Rattle.std.specs.Prelude.{slice_set, IfOk, IfSome, OnOk, OnErr, option_map, if◌then◌else◌};
 ghost use Rattle.std.specs.Int.{to_le_bytes, w64};
-ghost use Rattle.amr_store.specs.Next.{first_with, second_with, other_than};
 ghost use Rattle.amr_disk.specs.Moments.{StopsIn};
 ghost use Rattle.amr_store.specs.Phases.{StopsFrom};
 ghost use Rattle.amr_store.specs.Reasons.{HasReason, Shuts, is_no_memory};
-ghost use Rattle.amr_store.specs.Stands.{IsStoreReady, IsClosed, IsFilledIn, SameStore, Stands, is_shut, next_in, gate_in, slot_in, last_in};
-ghost use Rattle.amr_store.specs.Stands.{first_in, second_in, slot_size_in, closed_image, filled_image, opened_image, put_image, closing_chunk};
-ghost use Rattle.amr_store.specs.Stands.{slot_closed, slot_filled, sequence_filled, length_filled, opened_slot};
-ghost use Rattle.amr_store.specs.Stored.{stored, with_latest};
+ghost use Rattle.amr_store.specs.Stands.{IsStoreReady, IsClosed, IsFilledIn, SameStore, Stands, is_shut, next_in, gate_in, slots_in};
+ghost use Rattle.amr_store.specs.Stands.{last_in, slot_size_in, put_slot, closed_image, filled_image, opened_image, put_image};
+ghost use Rattle.amr_store.specs.Stands.{closing_chunk, slot_closed, slot_filled, sequence_filled, length_filled, opened_slot};
+ghost use Rattle.amr_store.specs.Stored.{SameOrPut, SameStored, stored, with_latest};
 
 use crate::device::{write_synced, write_two_synced};
 use crate::part::StoreFault;
-use crate::slot::{Slot, Which};
+use crate::slot::Slot;
 use crate::store::Store;
 use amr_disk::Disk;
 
@@ -25,13 +24,13 @@ pub const OPEN: u8 = 0xA5;
 /// A store whose next slot is closed, on the disk too. Where it is dropped the slot stays closed, and the other slot as it was.
 #[derive(Drop)]
 pub struct Closed {
-    which: Which,
+    which: usize,
 }
 
 /// A store whose next slot is filled behind its closed gate. Where it is dropped the slot stays closed, and the other slot as it was.
 #[derive(Drop)]
 pub struct Filled {
-    which: Which,
+    which: usize,
     slot: Slot,
 }
 
@@ -64,11 +63,10 @@ impl Store {
         requires ready { IsStoreReady D.seen D.moment D.leaves self.old disk.old }
         ensures closed { IfOk result (λ closed. IsClosed (slot_closed closed) self.new) }
         ensures which { IfOk result (λ closed. slot_closed closed ≡ next_in self.old) }
-        ensures first { OnOk result (first_in self.new ≡ first_with (next_in self.old) None (first_in self.old)) }
-        ensures second { OnOk result (second_in self.new ≡ second_with (next_in self.old) None (second_in self.old)) }
+        ensures slots { OnOk result (slots_in self.new ≡ slice_set (slots_in self.old) (next_in self.old) None) }
         ensures ready { OnOk result (IsStoreReady D.seen D.moment D.leaves self.new disk.new) }
         ensures seen { OnOk result (D.seen disk.new ≡ option_map (closed_image self.old) (D.seen disk.old)) }
-        ensures stops { is_shut self.old ≡ false → StopsFrom D.seen D.moment D.leaves disk.old disk.new (λ s c. stored c ≡ stored s) }
+        ensures stops { is_shut self.old ≡ false → StopsFrom D.seen D.moment D.leaves disk.old disk.new SameStored }
         ensures same { SameStore self.old self.new }
         ensures last { last_in self.new ≡ last_in self.old }
         ensures shuts { Shuts (is_shut self.old) (is_shut self.new) result }
@@ -107,12 +105,11 @@ impl Store {
         requires fits { length bytes.now ≤ slot_size_in self.old }
         ensures ready { OnOk result (IsStoreReady D.seen D.moment D.leaves self.new disk.new) }
         ensures seen { OnOk result (D.seen disk.new ≡ option_map (put_image self.old sequence bytes.now) (D.seen disk.old)) }
-        ensures other { OnOk result (slot_in self.new (other_than (next_in self.old)) ≡ slot_in self.old (other_than (next_in self.old))) }
+        ensures slots { OnOk result (slots_in self.new ≡ slice_set (slots_in self.old) (next_in self.old) (put_slot sequence bytes.now)) }
         ensures put { is_shut self.old ≡ false
             → OnOk result ((s : List ℕ) → D.seen disk.old ≡ Some s → (t : List ℕ) × (D.seen disk.new ≡ Some t)
             × (stored t ≡ with_latest (stored s) sequence bytes.now)) }
-        ensures stops { is_shut self.old ≡ false
-            → StopsFrom D.seen D.moment D.leaves disk.old disk.new (λ s c. stored c ≡ stored s ⊎ stored c ≡ with_latest (stored s) sequence bytes.now) }
+        ensures stops { is_shut self.old ≡ false → StopsFrom D.seen D.moment D.leaves disk.old disk.new (SameOrPut sequence bytes.now) }
         ensures same { SameStore self.old self.new }
         ensures last { OnOk result (last_in self.new ≡ Some sequence) }
         ensures kept { OnErr result (last_in self.new ≡ last_in self.old) }
@@ -150,7 +147,7 @@ impl Closed {
             → IsFilledIn (slot_closed self) store.new t sequence bytes.now) }
         ensures ready { OnOk result (IsStoreReady D.seen D.moment D.leaves store.new disk.new) }
         ensures seen { OnOk result (D.seen disk.new ≡ option_map (filled_image store.old (slot_closed self) sequence bytes.now) (D.seen disk.old)) }
-        ensures stops { is_shut store.old ≡ false → StopsFrom D.seen D.moment D.leaves disk.old disk.new (λ s c. stored c ≡ stored s) }
+        ensures stops { is_shut store.old ≡ false → StopsFrom D.seen D.moment D.leaves disk.old disk.new SameStored }
         ensures store { OnOk result (store.new ≡ store.old) }
         ensures same { SameStore store.old store.new }
         ensures last { last_in store.new ≡ last_in store.old }
@@ -192,9 +189,8 @@ impl Filled {
             → IsFilledIn (slot_filled self) store.old s (sequence_filled self) payload → stored t ≡ with_latest (stored s) (sequence_filled self) payload) }
         ensures stops { is_shut store.old ≡ false → (s payload : List ℕ) → D.seen disk.old ≡ Some s
             → IsFilledIn (slot_filled self) store.old s (sequence_filled self) payload
-            → StopsIn D.moment D.leaves disk.old disk.new (λ c. stored c ≡ stored s ⊎ stored c ≡ with_latest (stored s) (sequence_filled self) payload) }
-        ensures first { OnOk result (first_in store.new ≡ first_with (slot_filled self) (opened_slot self) (first_in store.old)) }
-        ensures second { OnOk result (second_in store.new ≡ second_with (slot_filled self) (opened_slot self) (second_in store.old)) }
+            → StopsIn D.moment D.leaves disk.old disk.new (SameOrPut (sequence_filled self) payload s) }
+        ensures slots { OnOk result (slots_in store.new ≡ slice_set (slots_in store.old) (slot_filled self) (opened_slot self)) }
         ensures same { SameStore store.old store.new }
         ensures last { OnOk result (last_in store.new ≡ Some (sequence_filled self)) }
         ensures kept { OnErr result (last_in store.new ≡ last_in store.old) }

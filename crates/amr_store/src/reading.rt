@@ -2,7 +2,7 @@
 ghost use Rattle.std.specs.Prelude.{◌≡◌, ◌≤◌, ◌<◌, ◌+◌, ◌^◌, List, ℕ, Some, length, drop, IfOk, OnOk};
 ghost use Rattle.amr_causes.specs.Causes.{HasCause};
 ghost use Rattle.amr_store.specs.Layout.{long_at, word_at};
-ghost use Rattle.amr_store.specs.Phases.{OnlyReads};
+ghost use Rattle.amr_store.specs.Phases.{OnlyReads, Told};
 ghost use Rattle.amr_store.specs.Reading.{IsHeadOf, IsSlot, IsWithin, version_read, head_read, slot_read};
 
 use crate::create::{MAGIC_1, MAGIC_2};
@@ -94,7 +94,7 @@ pub fn read_head<D: Disk>(
     takes_first: bool,
 ) -> Result<Option<Head>, DiskFault>
     requires small { base < 2 ^ 47 }
-    ensures told { IfOk result (λ head. (s : List ℕ) → D.seen disk.old ≡ Some s → IsHeadOf head takes_first (drop base s)) }
+    ensures told { IfOk result (λ head. Told (D.seen disk.old) (λ s. IsHeadOf head takes_first (drop base s))) }
     ensures reads { OnlyReads D.seen D.moment D.leaves disk.old disk.new }
     ensures cause { HasCause (D.faults disk.old) (D.faults disk.new) result }
     ensures no_fault { OnOk result (D.faults disk.new ≡ D.faults disk.old) }
@@ -138,7 +138,7 @@ pub fn read_slot<D: Disk>(
     size: u64,
 ) -> Result<SlotFound, DiskFault>
     requires small { base + gate + size < 2 ^ 47 }
-    ensures told { IfOk result (λ slot. (s : List ℕ) → D.seen disk.old ≡ Some s → IsSlot slot (drop base s) gate size) }
+    ensures told { IfOk result (λ slot. Told (D.seen disk.old) (λ s. IsSlot slot (drop base s) gate size)) }
     ensures reads { OnlyReads D.seen D.moment D.leaves disk.old disk.new }
     ensures cause { HasCause (D.faults disk.old) (D.faults disk.new) result }
     ensures no_fault { OnOk result (D.faults disk.new ≡ D.faults disk.old) }

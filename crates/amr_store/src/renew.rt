@@ -1,12 +1,13 @@
 //! A store of version 2 past the end of one of version 1, with the same problem and a new state.
-ghost use Rattle.std.specs.Prelude.{◌≡◌, ◌≤◌, ◌<◌, ◌+◌, ◌^◌, ◌⊎◌, true, false, List, ℕ, Some, length, IsSome, IfOk, IfSome, OnOk, vec_len, option_map};
+ghost use Rattle.std.specs.Prelude.{◌≡◌, ◌≤◌, ◌<◌, ◌+◌, ◌^◌, true, false, List, [], ◌∷◌, ℕ, Some, None};
+ghost use Rattle.std.specs.Prelude.{length, IsSome, IfOk, IfSome, OnOk, vec_len, option_map};
 ghost use Rattle.amr_causes.specs.Causes.{HasCause};
 ghost use Rattle.amr_disk.specs.Image.{Only};
 ghost use Rattle.amr_disk.specs.Moments.{StopsIn};
 ghost use Rattle.amr_store.specs.Layout.{end_of};
 ghost use Rattle.amr_store.specs.Phases.{StopsFrom};
 ghost use Rattle.amr_store.specs.Reasons.{HasReason, is_no_memory, is_shut_fault};
-ghost use Rattle.amr_store.specs.Renewed.{IsOld, IsOldShut, IsRenewed, renewal_bytes, renewed_state, shut_past, renewed_image};
+ghost use Rattle.amr_store.specs.Renewed.{IsOld, IsOldShut, IsRenewed, SameOrRenewed, renewal_bytes, renewed_state, shut_past, renewed_image};
 ghost use Rattle.amr_store.specs.Stands.{IsStoreReady, is_shut, version_in, problem_in, slot_size_in, last_in};
 ghost use Rattle.amr_store.specs.Stored.{stored, Held};
 
@@ -14,7 +15,7 @@ use crate::create::MAGIC_2;
 use crate::device::{has_byte, write_synced, write_two_synced};
 use crate::part::StoreFault;
 use crate::put::{OPEN, slot_head};
-use crate::slot::Slot;
+use crate::slot::{Slot, end_of, gate_at};
 use crate::store::Store;
 use amr_disk::{Disk, DiskFault};
 use std::alloc::{AllocError, Global};
@@ -41,6 +42,17 @@ fn renewal_of(
     all.extend_from_slice(&slot_head(sequence, bytes.len() as u64))?;
     all.extend_from_slice(bytes)?;
     Ok(all)
+}
+
+// The slots of the new store: the first holds the state.
+fn renewed_slots(alloc: Global, sequence: u64, length: u64) -> Result<Vec<Option<Slot>>, AllocError>
+    ensures slots { IfOk result (λ v. v.items ≡ Some record { sequence = sequence; length = length } ∷ None ∷ []) }
+    ensures count { IfOk result (λ v. vec_len v ≡ 2) }
+{
+    let mut slots = Vec::new(alloc);
+    slots.push(Some(Slot { sequence, length }))?;
+    slots.push(None)?;
+    Ok(slots)
 }
 
 // Closes the byte past the old store, where nothing follows it.
@@ -93,14 +105,13 @@ fn write_renewal<D: Disk>(
     ensures seen { OnOk result (D.seen disk.new
         ≡ option_map (renewed_image end problem.now slot_size state.entry.sequence state.entry.payload.now) (D.seen disk.old)) }
     ensures made { OnOk result ((t : List ℕ) → D.seen disk.new ≡ Some t → IsRenewed end problem.now slot_size state.entry.sequence state.entry.payload.now t) }
-    ensures stops { StopsFrom D.seen D.moment D.leaves disk.old disk.new
-        (λ s c. stored c ≡ stored s ⊎ stored c ≡ Held (renewed_state problem.now slot_size state.entry.sequence state.entry.payload.now)) }
+    ensures stops { StopsFrom D.seen D.moment D.leaves disk.old disk.new (SameOrRenewed problem.now slot_size state.entry.sequence state.entry.payload.now) }
     ensures settled { OnOk result (Only (D.seen disk.new) (D.leaves disk.new (D.moment disk.new))) }
     ensures cause { HasCause (D.faults disk.old) (D.faults disk.new) result }
     ensures no_fault { OnOk result (D.faults disk.new ≡ D.faults disk.old) }
 {
     let text = problem.len() as u64;
-    let gate = end + (21 + text + (17 + slot_size));
+    let gate = end + gate_at(1, text, slot_size);
     match shut_end(disk, end) {
         Ok(()) => match write_two_synced(disk, end + 1, all, gate, &[0]) {
             Ok(()) => write_synced(disk, end, &[OPEN]),
@@ -140,8 +151,7 @@ impl Store {
         ensures renewed { OnOk result ((t : List ℕ) → D.seen disk.new ≡ Some t
             → stored t ≡ Held (renewed_state (problem_in self) slot_size sequence bytes.now)) }
         ensures stops { is_shut self ≡ false
-            → StopsFrom D.seen D.moment D.leaves disk.old disk.new
-            (λ s c. stored c ≡ stored s ⊎ stored c ≡ Held (renewed_state (problem_in self) slot_size sequence bytes.now)) }
+            → StopsFrom D.seen D.moment D.leaves disk.old disk.new (SameOrRenewed (problem_in self) slot_size sequence bytes.now) }
         ensures memory { is_no_memory result ≡ true → disk.new ≡ disk.old }
         ensures untouched { is_shut self ≡ true → disk.new ≡ disk.old }
         ensures shuts { is_shut_fault result ≡ is_shut self }
@@ -152,18 +162,16 @@ impl Store {
             base: _,
             problem,
             slot_size: old_size,
-            first: _,
-            second: _,
+            deltas: _,
+            slots: _,
             is_shut,
         } = self;
         if is_shut {
             return Err(StoreFault::Shut);
         }
-        let end = 21 + problem.len() as u64 + 2 * (17 + old_size);
-        let all = match renewal_of(alloc, &problem, slot_size, sequence, bytes) {
-            Ok(all) => all,
-            Err(_) => return Err(StoreFault::NoMemory),
-        };
+        let end = end_of(problem.len() as u64, old_size);
+        let all = renewal_of(alloc, &problem, slot_size, sequence, bytes)?;
+        let slots = renewed_slots(alloc, sequence, bytes.len() as u64)?;
         let state = Entry {
             sequence,
             payload: bytes,
@@ -174,11 +182,8 @@ impl Store {
                 base: end,
                 problem,
                 slot_size,
-                first: Some(Slot {
-                    sequence,
-                    length: bytes.len() as u64,
-                }),
-                second: None,
+                deltas: 0,
+                slots,
                 is_shut: false,
             }),
             Err(_) => Err(StoreFault::DiskFault),

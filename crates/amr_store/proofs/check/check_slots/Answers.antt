@@ -1,25 +1,26 @@
-use Rattle.std.proofs.Common.{◌∙◌, ◌+◌, sym, subst, drop}
-use Rattle.amr_store.proofs.PartsRead.{joined_checks}
-use Rattle.amr_store.specs.declared.check.Checked.{Checked}
-use Rattle.amr_store.specs.declared.reading.SlotFound.{SlotFound}
-use Rattle.amr_store.specs.Checking.{Checks}
-use Rattle.amr_store.specs.Reading.{IsSlot, slot_tests}
-use Rattle.amr_store.proofs.Readings.{reads_on}
+use Rattle.std.proofs.Common.{◌∙◌, ap, sym, refl, subst, drop, List, Option}
+use Rattle.amr_store.proofs.PartsRead.{slot_broken, slots_tied, slots_whole}
+use Rattle.amr_store.specs.declared.check.SlotsFound.{SlotsFound}
+use Rattle.amr_store.specs.Checking.{AreSlots}
+use Rattle.amr_store.specs.declared.slot.Slot.{Slot as Known}
+use Rattle.amr_store.specs.Stored.{count_of}
+use Rattle.amr_store.specs.Table.{is_tied}
 use Rattle.amr_store.proofs.check.check_slots.Goals as goal
 
-pub returns-in-Sound-2-clause-told : goal.returns-in-Sound-2-clause-told
-returns-in-Sound-2-clause-told g c s is says =
+pub returns-in-Broken-clause-told : goal.returns-in-Broken-clause-told
+returns-in-Broken-clause-told g c s is says =
     let part = drop c.args.base s in
-    let head = c.args.head in
-    let one = subst (λ (f : SlotFound). IsSlot f part (21 + head.text) head.slot_size) c.in-Sound.is (c.in_ok-read_slot.ensures.told s is) in
-    let two = subst (λ (f : SlotFound). IsSlot f part (21 + head.text + (17 + head.slot_size)) head.slot_size) c.in-Sound-2.is (c.in_ok-read_slot-in-Sound.ensures.told s (c.read_slot.ensures.reads.same ∙ is)) in
-    subst (λ (f : Checked). Checks f (slot_tests part) part) (sym c.join.ensures) (joined_checks head part c.in-Sound.first c.in-Sound-2.second says one two)
+    let found = subst (λ (f : SlotsFound). AreSlots f part c.args.head.text c.args.head.slot_size (count_of part)) c.in-Broken.is (c.in_ok-number.ensures.told s is) in
+    slot_broken c.args.head part c.in-Broken.number says found
 
-pub returns-in_err-read_slot-in-Sound-clause-reads : goal.returns-in_err-read_slot-in-Sound-clause-reads
-returns-in_err-read_slot-in-Sound-clause-reads g c = reads_on g.D.Disk.seen g.D.Disk.moment g.D.Disk.leaves c.args.disk.now c.read_slot.new.disk c.read_slot-in-Sound.new.disk c.read_slot.ensures.reads c.read_slot-in-Sound.ensures.reads
+pub returns-then-is_tied-clause-told : goal.returns-then-is_tied-clause-told
+returns-then-is_tied-clause-told g c s is says =
+    let part = drop c.args.base s in
+    let found = subst (λ (f : SlotsFound). AreSlots f part c.args.head.text c.args.head.slot_size (count_of part)) c.in-Sound.is (c.in_ok-number.ensures.told s is) in
+    slots_tied c.args.head part c.in-Sound.slots says found (ap (λ (l : List (Option Known)). is_tied 0 l) (sym c.deref.ensures.value) ∙ sym c.is_tied.ensures ∙ c.if-is_tied.true)
 
-pub returns-in-Broken-2-clause-reads : goal.returns-in-Broken-2-clause-reads
-returns-in-Broken-2-clause-reads g c = reads_on g.D.Disk.seen g.D.Disk.moment g.D.Disk.leaves c.args.disk.now c.read_slot.new.disk c.read_slot-in-Sound.new.disk c.read_slot.ensures.reads c.read_slot-in-Sound.ensures.reads
-
-pub returns-in-Sound-2-clause-reads : goal.returns-in-Sound-2-clause-reads
-returns-in-Sound-2-clause-reads g c = reads_on g.D.Disk.seen g.D.Disk.moment g.D.Disk.leaves c.args.disk.now c.read_slot.new.disk c.read_slot-in-Sound.new.disk c.read_slot.ensures.reads c.read_slot-in-Sound.ensures.reads
+pub returns-else-is_tied-clause-told : goal.returns-else-is_tied-clause-told
+returns-else-is_tied-clause-told g c s is says =
+    let part = drop c.args.base s in
+    let found = subst (λ (f : SlotsFound). AreSlots f part c.args.head.text c.args.head.slot_size (count_of part)) c.in-Sound.is (c.in_ok-number.ensures.told s is) in
+    slots_whole c.args.head part c.in-Sound.slots _ says found (ap (λ (l : List (Option Known)). is_tied 0 l) (sym c.deref.ensures.value) ∙ sym c.is_tied.ensures ∙ c.if-is_tied.false) refl refl

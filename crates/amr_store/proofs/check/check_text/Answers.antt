@@ -4,7 +4,7 @@ use Rattle.std.proofs.lemmas.Result.{IfOk-weaker}
 use Rattle.amr_store.proofs.PartsRead.{more_tests, first_test, next_test}
 use Rattle.amr_store.specs.declared.part.Part.TheVariants.{Text, Size}
 use Rattle.amr_store.specs.Layout.{size_of, text_length}
-use Rattle.amr_store.specs.Reading.{slot_tests}
+use Rattle.amr_store.specs.Stored.{slot_tests}
 use Rattle.amr_store.proofs.Readings.{reads_on}
 use Rattle.amr_store.proofs.check.check_text.Goals as goal
 

@@ -12,7 +12,7 @@ pub returns-in-Ok-Whole-clause-told : goal.returns-in-Ok-Whole-clause-told
 returns-in-Ok-Whole-clause-told g c =
     IfOk-weaker c.open_whole.result _ _ (λ found told s is held.
     let checked : Checks (Whole c.in-Ok-Whole.outline) (tests (magic_in true s) s) s = (rw c.in-Ok-Whole.field-0-is at c.in-Ok-Whole.ensures.told) s is in
-    told s (c.check.ensures.reads.same ∙ is) record { held = held; sound = checked.0; outline_is = checked.1 }) c.open_whole.ensures.told
+    told s (c.check.ensures.reads.same ∙ is) record { held = held; sound = checked.0; head_is = checked.1.head } checked.1) c.open_whole.ensures.told
 
 pub returns-in-Ok-Faulty-clause-told : goal.returns-in-Ok-Faulty-clause-told
 returns-in-Ok-Faulty-clause-told g c s is held =

@@ -1,6 +1,6 @@
 use Rattle.std.proofs.Common.{◌≡◌, ◌∙◌, ◌⊎◌, ◌∷◌, [], sym}
 use Rattle.amr_disk.specs.Image.{Torn, written_at}
-use Rattle.amr_store.proofs.Calls.{open_either, open_stored, open_stands, mapped_some, mapped_at, slot_made}
+use Rattle.amr_store.proofs.Calls.{open_either, open_stored, open_stands, last_opened, slots_count, mapped_some, mapped_at, slot_made}
 use Rattle.amr_store.proofs.Runs.{weaker}
 use Rattle.amr_store.specs.Stored.{stored, with_latest}
 use Rattle.amr_store.proofs.put.Filled.open_gate.Goals as goal
@@ -16,8 +16,7 @@ returns-in-Ok-clause-ready g c =
           let from = mapped_some (written_at c.gate-gate.result (165 ∷ [])) (g.D.Disk.seen c.args.disk.now) t (sym c.in-Ok.ensures.seen ∙ is) in
           let filled = c.requires.filled c.if-store.false from.0 from.1 in
           open_stands store later from.0 t c.args.self.which c.gate-gate.result q filled.0 c.args.self.slot c.gate-gate.ensures.place (c.requires.ready.stands c.if-store.false from.0 from.1) c.requires.closed.next c.requires.above filled.2 (slot_made c.args.self.slot filled.0 filled.1)
-          record { version = c.set_slot.ensures.version; problem = c.set_slot.ensures.problem; slot_size = c.set_slot.ensures.slot_size; base = c.set_slot.ensures.base }
-          c.set_slot.ensures.first c.set_slot.ensures.second from.2;
+          c.set_slot.ensures.same c.set_slot.ensures.slots from.2;
     }
 
 pub returns-in-Ok-clause-put : goal.returns-in-Ok-clause-put
@@ -39,3 +38,6 @@ returns-in-Err-clause-stops g c shut s payload is filled =
     let q = c.args.self.slot.sequence in
     weaker g.D.Disk.moment g.D.Disk.leaves c.args.disk.now c.write_synced.new.disk (Torn c.gate-gate.result 1 s) (λ image. (stored image ≡ stored s) ⊎ (stored image ≡ with_latest (stored s) q payload))
     (λ image torn. open_either store s image c.args.self.which c.gate-gate.result q payload c.gate-gate.ensures.place (c.requires.ready.stands shut s is) c.requires.closed.next c.requires.above filled torn) (c.write_synced.ensures.stops s is)
+
+pub returns-in-Ok-clause-last : goal.returns-in-Ok-clause-last
+returns-in-Ok-clause-last g c = last_opened c.args.store.now c.set_slot.new.self c.args.self.which c.args.self.slot (slots_count c.args.store.now) c.set_slot.ensures.same c.requires.closed.next c.requires.above c.set_slot.ensures.slots

@@ -1,13 +1,13 @@
-use Rattle.std.proofs.Common.{◌≡◌, ◌⊎◌, sym, ◌∙◌, ap, subst, ℕ, false}
+use Rattle.std.proofs.Common.{◌≡◌, ◌⊎◌, sym, ◌∙◌, ap, subst, ℕ, Option, false}
 use Rattle.amr_disk.specs.Moments.{StopsIn}
 use Rattle.amr_store.proofs.Joins.{shut_stays, mapped_on, here, one, two, three}
 use Rattle.amr_causes.proofs.Results.{on_ok_both}
 use Rattle.std.proofs.lemmas.Result.{on_ok_weaker}
-use Rattle.amr_store.proofs.Puts.{put_seen, other_stays}
+use Rattle.amr_store.proofs.Puts.{put_seen, slot_put, slots_put}
 use Rattle.amr_store.specs.declared.store.Store.{Store}
-use Rattle.amr_store.specs.Next.{first_with, second_with}
-use Rattle.amr_store.specs.declared.slot.Which.{Which}
-use Rattle.amr_store.specs.Stands.{opened_slot, first_in, second_in, next_in, IsFilledIn, closed_image, filled_image, opened_image, is_shut}
+use Rattle.std.specs.Prelude.{slice_set}
+use Rattle.amr_store.specs.declared.slot.Slot.{Slot}
+use Rattle.amr_store.specs.Stands.{opened_slot, put_slot, slots_in, next_in, IsFilledIn, closed_image, filled_image, opened_image, is_shut}
 use Rattle.amr_store.specs.Stored.{Stored, stored, with_latest}
 use Rattle.amr_store.proofs.store.Store.put.Goals as goal
 
@@ -20,7 +20,7 @@ open_gate-requires-clause-filled g c shut s is =
       bytes,
       sym fill.filled.2,
       subst (λ (q : ℕ). IsFilledIn c.in-Ok-fill.filled.which c.fill.new.store s q bytes) (sym fill.filled.1)
-          (subst (λ (w : Which). IsFilledIn w c.fill.new.store s c.args.sequence bytes) (sym fill.filled.0) holds),
+          (subst (λ (w : ℕ). IsFilledIn w c.fill.new.store s c.args.sequence bytes) (sym fill.filled.0) holds),
     )
 
 pub returns-in-Ok-fill-clause-put : goal.returns-in-Ok-fill-clause-put
@@ -41,7 +41,7 @@ returns-in-Ok-fill-clause-put g c shut = on_ok_both c.open_gate.result (λ seen 
     let shut_2 : is_shut store_2 ≡ false = ap is_shut fill.store ∙ shut_1 in
     let holds : IsFilledIn c.in-Ok-fill.filled.which store_2 image_2 c.in-Ok-fill.filled.slot.sequence bytes =
     subst (λ (q : ℕ). IsFilledIn c.in-Ok-fill.filled.which store_2 image_2 q bytes) (sym fill.filled.1)
-    (subst (λ (w : Which). IsFilledIn w store_2 image_2 c.args.sequence bytes) (sym fill.filled.0) (fill.holds image_2 told_2 shut_1)) in
+    (subst (λ (w : ℕ). IsFilledIn w store_2 image_2 c.args.sequence bytes) (sym fill.filled.0) (fill.holds image_2 told_2 shut_1)) in
     let image_3 = opened_image store_2 c.in-Ok-fill.filled.which image_2 in
     let told_3 = mapped_on (opened_image store_2 c.in-Ok-fill.filled.which) (g.D.Disk.seen disk_2) (g.D.Disk.seen c.open_gate.new.disk) image_2 told_2 seen in
     let same_1 : stored image_1 ≡ stored s = here g.D.Disk.moment g.D.Disk.leaves disk_0 disk_1 (λ i. stored i ≡ stored s) image_1 (c.close_gate.ensures.stops shut s is) (g.met.D.Disk.reads_image disk_1 image_1 told_1) in
@@ -71,7 +71,7 @@ returns-in-Ok-fill-clause-stops g c shut s is =
     let shut_2 : is_shut store_2 ≡ false = ap is_shut fill.store ∙ shut_1 in
     let holds : IsFilledIn c.in-Ok-fill.filled.which store_2 image_2 c.in-Ok-fill.filled.slot.sequence bytes =
     subst (λ (q : ℕ). IsFilledIn c.in-Ok-fill.filled.which store_2 image_2 q bytes) (sym fill.filled.1)
-    (subst (λ (w : Which). IsFilledIn w store_2 image_2 c.args.sequence bytes) (sym fill.filled.0) (fill.holds image_2 told_2 shut_1)) in
+    (subst (λ (w : ℕ). IsFilledIn w store_2 image_2 c.args.sequence bytes) (sym fill.filled.0) (fill.holds image_2 told_2 shut_1)) in
     let first = two m l disk_0 disk_1 disk_2 s image_1 (c.close_gate.ensures.stops shut s is) (c.fill.ensures.stops shut_1 image_1 told_1) (g.met.D.Disk.reads_image disk_1 image_1 told_1) in
     let left = g.met.D.Disk.reads_image disk_2 image_2 told_2 in
     let last : StopsIn m l disk_2 c.open_gate.new.disk (λ i. (stored i ≡ stored image_2) ⊎ (stored i ≡ with_latest (stored image_2) c.args.sequence bytes)) =
@@ -103,15 +103,16 @@ returns-in-Ok-fill-clause-seen g c =
     (put_seen c.args.self.now c.close_gate.new.self c.fill.new.store c.in-Ok.closed.which c.in-Ok-fill.filled.which c.args.sequence c.args.bytes.now (seen c.args.disk.now) (seen c.close_gate.new.disk) (seen c.fill.new.disk) (seen c.open_gate.new.disk)
     c.close_gate.ensures.same fill.store c.in-Ok.ensures.which fill.filled.0 c.in-Ok.ensures.seen fill.seen) c.open_gate.ensures.seen
 
-pub returns-in-Ok-fill-clause-other : goal.returns-in-Ok-fill-clause-other
-returns-in-Ok-fill-clause-other g c =
+pub returns-in-Ok-fill-clause-slots : goal.returns-in-Ok-fill-clause-slots
+returns-in-Ok-fill-clause-slots g c =
     let fill = c.in-Ok-fill.ensures in
     let store = c.args.self.now in
     let later = c.open_gate.new.store in
-    let slot = opened_slot c.in-Ok-fill.filled in
-    let which : c.in-Ok-fill.filled.which ≡ next_in store = fill.filled.0 ∙ c.in-Ok.ensures.which in
-    on_ok_both c.open_gate.result (λ first second.
-    other_stays store c.close_gate.new.self later (next_in store) slot c.in-Ok.ensures.first c.in-Ok.ensures.second
-    (subst (λ (x : Store). first_in later ≡ first_with (next_in store) slot (first_in x)) fill.store (subst (λ (w : Which). first_in later ≡ first_with w slot (first_in c.fill.new.store)) which first))
-    (subst (λ (x : Store). second_in later ≡ second_with (next_in store) slot (second_in x)) fill.store (subst (λ (w : Which). second_in later ≡ second_with w slot (second_in c.fill.new.store)) which second))
-    ) c.open_gate.ensures.first c.open_gate.ensures.second
+    let filled = c.in-Ok-fill.filled in
+    let which : filled.which ≡ next_in store = fill.filled.0 ∙ c.in-Ok.ensures.which in
+    let slot : opened_slot filled ≡ put_slot c.args.sequence c.args.bytes.now = slot_put filled.slot c.args.sequence c.args.bytes.now fill.filled.1 fill.filled.2 in
+    on_ok_weaker c.open_gate.result (λ slots.
+    slots_put store c.close_gate.new.self later (next_in store) (put_slot c.args.sequence c.args.bytes.now) c.in-Ok.ensures.slots
+    (subst (λ (x : Store). slots_in later ≡ slice_set (slots_in x) (next_in store) (put_slot c.args.sequence c.args.bytes.now)) fill.store
+    (subst (λ (o : Option Slot). slots_in later ≡ slice_set (slots_in c.fill.new.store) (next_in store) o) slot
+    (subst (λ (w : ℕ). slots_in later ≡ slice_set (slots_in c.fill.new.store) w (opened_slot filled)) which slots)))) c.open_gate.ensures.slots
