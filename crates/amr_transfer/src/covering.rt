@@ -67,8 +67,8 @@ fn cover_row(fine: &Patch, patch: &mut Patch, c: Cell, count: usize, room: &mut 
     }
 }
 
-/// Gives the cells of a box in a patch the sums of their children, which a fine patch has.
-pub(crate) fn cover_box(fine: &Patch, patch: &mut Patch, b: &Bx, room: &mut [u32])
+/// The same of the cells of a box.
+fn cover_box(fine: &Patch, patch: &mut Patch, b: &Bx, room: &mut [u32])
     requires near { IsNear b.now }
     requires aligned { IsAligned 2 (box fine.now) }
     requires small { HasSmallSums fine.now }

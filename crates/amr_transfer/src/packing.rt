@@ -158,13 +158,13 @@ fn give_row(patches: &mut [Patch], order: Order, near: &mut Near, c: Cell, sums:
 }
 
 /// The number of the patch that has all cells of a box, where one has. `near` is where it is looked for first.
-pub(crate) fn holder_of(patches: &[Patch], order: Order, near: &mut usize, b: &Bx) -> Option<usize>
+fn holder_of(patches: &[Patch], order: Order, near: &mut Near, b: &Bx) -> Option<usize>
     requires order { IsOrderOf order patches.now }
     requires apart { ArePatchesApart patches.now }
     ensures there { IfSome result (λ k. k < length patches.now) }
     ensures holds { IfSome result (λ k. (d : Cell) → IsTrue (holds b.now d) → IsHolder patches.now d k) }
 {
-    let k = find_near(patches, order, near, b.lo())?;
+    let k = find_near(patches, order, &mut near.last, b.lo())?;
     if !patches[k].bx().holds(b.hi()) {
         return None;
     }
@@ -216,7 +216,7 @@ fn give_box(patches: &mut [Patch], order: Order, near: &mut Near, b: &Bx, sums: 
     ensures { (mass : Cell → ℕ) → AreByRows mass b.now.lo (width b.now) (height b.now) sums.now
         → Pairwise (IsGiven (holds b.now) mass) patches.old patches.new }
 {
-    match holder_of(patches, order, &mut near.last, b) {
+    match holder_of(patches, order, near, b) {
         Some(j) => give_in_one(&mut patches[j], b, sums),
         None => give_by_rows(patches, order, near, b, sums),
     }

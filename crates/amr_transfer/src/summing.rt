@@ -13,9 +13,7 @@ ghost use Rattle.amr_transfer.specs.Given.{IsGiven, span};
 ghost use Rattle.amr_transfer.specs.Sums.{AreCoarsenable, AreFours, IsRow, children_in, four_at, summed};
 
 use crate::cells::{ROOM, above, ahead, cells_from};
-use crate::covering::cover_box;
 use crate::giving::give;
-use crate::packing::holder_of;
 use amr_box::Cell;
 use amr_patch::{Level, Order, Patch, find_near};
 
@@ -134,14 +132,8 @@ fn sum_row(
     }
 }
 
-/// Gives the cells of which a fine patch has the children their sums, row by row, whichever patches have them.
-fn sum_by_rows(
-    fine: &Patch,
-    patches: &mut [Patch],
-    order: Order,
-    near: &mut usize,
-    room: &mut [u32],
-)
+/// Gives the cells of which a fine patch has the children their sums.
+fn sum_patch(fine: &Patch, patches: &mut [Patch], order: Order, near: &mut usize, room: &mut [u32])
     requires order { IsOrderOf order patches.old }
     requires apart { ArePatchesApart patches.old }
     requires aligned { IsAligned 2 (box fine.now) }
@@ -153,23 +145,6 @@ fn sum_by_rows(
     let b = fine.bx().coarsen2();
     for k in 0..b.height() {
         sum_row(fine, patches, order, near, above(b.lo(), k), room);
-    }
-}
-
-/// Gives the cells of which a fine patch has the children their sums. Where one patch has all of them nothing else is looked up.
-fn sum_patch(fine: &Patch, patches: &mut [Patch], order: Order, near: &mut usize, room: &mut [u32])
-    requires order { IsOrderOf order patches.old }
-    requires apart { ArePatchesApart patches.old }
-    requires aligned { IsAligned 2 (box fine.now) }
-    requires parents { (d : Cell) → IsTrue (holds (box fine.now) d) → IsTrue (in_patches patches.old (parent d)) }
-    requires small { (d : Cell) → IsTrue (holds (box fine.now) (child d 0)) → children_in fine.now d < 2 ^ 32 }
-    requires room { length room.old ≡ 256 }
-    ensures { Pairwise (IsGiven (has_child_where (holds (box fine.now))) (children_in fine.now)) patches.old patches.new }
-{
-    let b = fine.bx().coarsen2();
-    match holder_of(patches, order, near, &b) {
-        Some(j) => cover_box(fine, &mut patches[j], &b, room),
-        None => sum_by_rows(fine, patches, order, near, room),
     }
 }
 
