@@ -1,7 +1,6 @@
 -- Sums of patches in a list, one patch after another: how many there are, where those of a patch stand, and one more patch packed.
-use Rattle.std.proofs.Common.{◌≡◌, ◌∙◌, ℕ, zero, suc, ◌+◌, ◌-◌, ◌*◌, ◌/◌, ◌<◌, ◌≤◌, pos, ◌+ℤ◌, List, [], ◌∷◌, ◌++◌, length, take, drop, Some, SomeIff, refl, sym, ap, subst, arith}
+use Rattle.std.proofs.Common.{◌≡◌, ◌∙◌, ℕ, zero, suc, ◌+◌, ◌-◌, ◌*◌, ◌/◌, ◌<◌, ◌≤◌, pos, ◌+ℤ◌, List, [], ◌∷◌, ◌++◌, length, take, drop, refl, sym, ap, subst, arith}
 use Rattle.std.specs.Prelude.{slice_index, slice_index_or, slice_range}
-use Rattle.std.specs.declared.option.Option.{Option}
 use Rattle.std.proofs.lemmas.List.{get_or-drop, take_more}
 use borrow.Rule.Slice.PartMut.{put_mid}
 use Rattle.amr_box.specs.Cells.{cell, height, parent, width}
@@ -26,13 +25,6 @@ sum_count_more ps k q lt is =
     let cut = ap sum_count (take_next ps k q lt is) in
     let two = sum_count_joined (take k ps) (q ∷ []) in
     omega (arith, cut, two)
-
--- counted one by one
-sum_is : (o : Option ℕ) (P : Type 0) (v n : ℕ) → SomeIff o P v → o ≡ Some n → n ≡ v
-sum_is o P v n h e = (subst (λ (x : Option ℕ). SomeIff x P v) e h).1
-
-pub counted_more : (ps : List Patch) (k : ℕ) (q : Patch) (P : Type 0) (o : Option ℕ) (count m more : ℕ) → k < length ps → q ≡ slice_index_or ps k q → count ≡ sum_count (take k ps) → m ≡ coarse_count q → SomeIff o P (count + m) → o ≡ Some more → more ≡ sum_count (take (k + 1) ps)
-counted_more ps k q P o count m more lt is before one sum some = let e = sum_is o P (count + m) more sum some in omega (arith, e, before, one, sum_count_more ps k q lt is)
 
 first_sums : (ps : List Patch) (k : ℕ) → sum_count (take k ps) ≤ sum_count ps
 first_sums [] zero = omega arith

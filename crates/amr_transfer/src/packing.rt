@@ -1,6 +1,6 @@
 //! The sums of children in one buffer, so that workers add up runs of fine patches and one of them gives the sums.
 
-ghost use Rattle.std.specs.Prelude.{◌≡◌, ℕ, ◌+◌, ◌*◌, ◌<◌, ◌≤◌, ◌^◌, pos, negsuc, ◌+ℤ◌, ◌≤ℤ◌, ◌<ℤ◌, length, slice_index, IfOk, IfSome, IsTrue};
+ghost use Rattle.std.specs.Prelude.{◌≡◌, ℕ, ◌+◌, ◌*◌, ◌<◌, ◌≤◌, ◌^◌, pos, negsuc, ◌+ℤ◌, ◌≤ℤ◌, ◌<ℤ◌, length, slice_index, IfSome, IsTrue};
 ghost use Rattle.std.specs.List.{All};
 ghost use Rattle.amr_box.specs.declared.Cell.{Cell};
 ghost use Rattle.amr_box.specs.Cells.{IsNear, cell, child, has_child_where, height, holds, parent, width};
@@ -16,7 +16,6 @@ use crate::cells::{above, ahead, cells_from};
 use crate::giving::give;
 use crate::summing::{children_row, sum_rows};
 use amr_box::{Bx, Cell};
-use amr_causes::NoMemory;
 use amr_patch::{Order, Patch, find_near};
 
 /// How many cells a patch has the children of.
@@ -28,15 +27,16 @@ fn coarse_count(fine: &Patch) -> usize
     (b.width() / 2) as usize * (b.height() / 2) as usize
 }
 
-/// How many sums fine patches have. `NoMemory` where there are more than any memory has.
-pub fn count_sums(fine: &[Patch]) -> Result<usize, NoMemory>
-    ensures { IfOk result (λ count. count ≡ sum_count fine.now) }
+/// How many sums fine patches have: fewer than 2^64.
+pub fn count_sums(fine: &[Patch]) -> usize
+    requires { sum_count fine.now < 2 ^ 64 }
+    ensures { result ≡ sum_count fine.now }
 {
-    let mut count = 0usize;
+    let mut count = 0;
     for q in fine {
-        count = count.checked_add(coarse_count(q)).ok_or(NoMemory)?;
+        count += coarse_count(q);
     }
-    Ok(count)
+    count
 }
 
 /// Writes the sums of the cells of a row of which a fine patch has the children, from the first of them on.
