@@ -34,5 +34,6 @@ mod KeptMasses
 mod LentParts
 mod AddedWords
 mod FewFlows
+mod FewPatches
 mod KeptTotals
 mod LotsAdded

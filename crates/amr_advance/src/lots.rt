@@ -6,7 +6,7 @@ ghost use Rattle.std.specs.Global.{Box as boxed, Vec as vec};
 ghost use Rattle.std.specs.Option.{option_copied};
 ghost use Rattle.amr_def.specs.Domain.{domain};
 ghost use Rattle.amr_patch.specs.Orders.{IsOrderOf};
-ghost use Rattle.amr_patch.specs.Patches.{ArePatchesApart};
+ghost use Rattle.amr_patch.specs.Patches.{ArePatchesApart, box};
 ghost use Rattle.amr_patch.specs.Gaps.{HasStarts};
 ghost use Rattle.amr_ghost.specs.Frames.{AreInDomain};
 ghost use Rattle.amr_ghost.specs.Plans.{PlansFrames};
@@ -16,7 +16,8 @@ ghost use Rattle.amr_ghost.specs.declared.parts.FrameCopy.{FrameCopy as frame_co
 ghost use Rattle.amr_layout.specs.declared.FlowTo.{FlowTo as flow};
 ghost use Rattle.amr_layout.specs.Adds.{HasRegisterCells};
 ghost use Rattle.amr_layout.specs.LevelFlowLists.{HasFlowsAt, flows_at};
-ghost use Rattle.amr_layout.specs.Surroundings.{around};
+ghost use Rattle.amr_layout.specs.Surroundings.{around, edge_count};
+ghost use Rattle.amr_phase.specs.Plans.{total};
 ghost use Rattle.amr_lots.specs.Words.{IsNumbered};
 ghost use Rattle.amr_lots.specs.declared.lot.Lot.{Lot as lot};
 ghost use Rattle.amr_advance.specs.Layouts.{AreAddsOf};
@@ -37,9 +38,6 @@ use std::boxed::Box;
 use std::mem::replace;
 use std::snapshot::Snapshot;
 use std::thread::Threads;
-
-/// How many patches a level may have that is shared out. More would take more memory than there is, and are refused as that.
-const MOST: usize = 1 << 26;
 
 /// What several workers work with who share the patches out in lots.
 #[derive(Drop)]
@@ -250,6 +248,7 @@ fn lot_for(
     requires adds { AreAddsOf (around s.problem.now s.level s.patches.now s.cells.now (option_copied s.finer)) cut.flows.now }
     requires few { length s.cells.now ≤ 2 ^ 30 }
     requires small { length s.patches.now ≤ 2 ^ 26 }
+    requires edges { total (λ q. edge_count (box q)) s.patches.now ≤ 2 ^ 30 }
     requires within { k * cut.each ≤ length s.patches.now }
     requires there { k < cut.runs }
     requires many { cut.runs ≤ 2 ^ 26 }
@@ -289,7 +288,7 @@ fn lot_for(
         inbox: messages_for(alloc, &parts.copies, k, runs, runs, k)?,
         room: Room::make(alloc, widest_of(&s.patches[first..first + count]))?,
         totals,
-        sums: vec![in alloc; 0u32; count_sums(&s.patches[first..first + count])?]?,
+        sums: vec![in alloc; 0u32; count_sums(&s.patches[first..first + count])]?,
         correction: None,
         problem: Snapshot::of(s.problem),
     })
@@ -305,6 +304,7 @@ fn lots_for(
     requires adds { AreAddsOf (around s.problem.now s.level s.patches.now s.cells.now (option_copied s.finer)) cut.flows.now }
     requires few { length s.cells.now ≤ 2 ^ 30 }
     requires small { length s.patches.now ≤ 2 ^ 26 }
+    requires edges { total (λ q. edge_count (box q)) s.patches.now ≤ 2 ^ 30 }
     requires tight { cut.runs * cut.each < length s.patches.now + cut.each }
     requires short { cut.each ≤ 2 ^ 26 }
     requires many { cut.runs ≤ 2 ^ 26 }
@@ -348,9 +348,6 @@ pub(crate) fn lot_tasks<R: Threads + Sync>(
     ensures few { OnOk result (2 + 2 * length s.entry.cells.now < 2 ^ 32) }
 {
     let count = s.patches.len();
-    if count > MOST {
-        return Err(NoMemory);
-    }
     let flows = plan_adds_in_threads(rt, workers as usize, alloc, s)?;
     let each = parts_in(count, workers.max(1) as usize).max(1);
     let runs = parts_in(count, each);

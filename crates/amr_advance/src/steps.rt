@@ -42,9 +42,6 @@ use std::alloc::Global;
 use std::sync::{Arc, Wait};
 use std::thread::Threads;
 
-/// How many patches a level may have. More would take more memory than there is, and are refused as that.
-const MOST: usize = 1 << 26;
-
 /// Fills the frames of a level's patches by the plan of its layout. Lots fill those of their own patches.
 fn fill_frames(given: Given<'_>, patches: &mut [Patch], layout: &KeptLayout)
     requires level { given.level ≤ 4 }
@@ -132,9 +129,6 @@ fn step_patches<R: Threads + Wait + Sync, G: Gate + Sync>(
 {
     let way = way_for(workers, given, patches);
     let mut layout = layout_for(workers.runtime, given, order, patches, way, kept)?;
-    if patches.len() > MOST {
-        return Err(NoMemory);
-    }
     fill_frames(given, patches, &layout);
     let mut edges = take_edges(given.alloc, register);
     let run = run_level(workers, given, patches, &mut edges, &mut layout);
@@ -239,8 +233,8 @@ pub fn advance_kept<R: Threads + Wait + Sync, G: Gate + Sync>(
 /// which task.
 ///
 /// The crew has one rank, and from 1 to 64 workers. All memory whose lack is a refusal is taken before the first task is drawn.
-/// `NoMemory` is the only refusal, and also stands for more than 2^26 patches or 2^30 faces: then the level has the masses of before, and `regs` has
-/// the entries and sums of before. The call joins its workers, and keeps this promise if it returns.
+/// `NoMemory` is the only refusal: then the level has the masses of before, and `regs` has the entries and sums of before. The call
+/// joins its workers, and keeps this promise if it returns.
 pub fn advance<R: Threads + Wait + Sync, G: Gate + Sync>(
     rt: &R,
     p: &Problem,

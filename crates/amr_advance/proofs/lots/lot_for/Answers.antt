@@ -10,12 +10,16 @@ use Rattle.amr_ghost.specs.declared.parts.FrameCopy.{FrameCopy}
 use Rattle.amr_ghost.specs.declared.sources.Span.{Span}
 use Rattle.amr_layout.specs.Surroundings.{around}
 use Rattle.amr_transfer.specs.Packed.{sum_count}
+use Rattle.amr_advance.proofs.FewPatches.{few_sums}
 use Rattle.amr_advance.proofs.MadeLots.{AreMadeFor, lot_is, there}
 use Rattle.amr_advance.proofs.lots.lot_for.Goals as goal
 
 pub flows_from-requires-clause-there : goal.flows_from-requires-clause-there
 flows_from-requires-clause-there c =
     there (around c.args.s.problem.now c.args.s.level c.args.s.patches.now c.args.s.cells.now (option_copied c.args.s.finer)) c.args.cut.flows.now c.requires.adds c.args.cut.each c.args.k c.min-count.result (omega (arith, c.min-count.ensures)) c.requires.within
+
+pub count_sums-requires : goal.count_sums-requires
+count_sums-requires c = few_sums c.args.s.patches.now (c.args.k * c.args.cut.each) (c.args.k * c.args.cut.each + c.min-count.result - c.args.k * c.args.cut.each) c.requires.edges
 
 pub returns : goal.returns
 returns c =
@@ -41,4 +45,4 @@ returns c =
     (subst (λ ls. AreMadeFor ls k runs k runs c.in_ok-messages_for-2.field-0.items) c.deref-4.ensures.value (record { count = inbox.count; copies = inbox.copies; empty = inbox.own; places = inbox.places }))
     (λ i q lt. omega (arith, wide i q lt, c.in_ok-make-2.ensures))
     (omega (arith, c.in_ok-totals.ensures.len, c.in_ok-totals.totals.ok.0))
-    (omega (arith, c.in_ok-vec.ensures.len, c.in_ok-vec.field-0.ok.0, c.in_ok-count_sums.ensures, ap (λ n. sum_count (take n (drop first c.args.s.patches.now))) cut))
+    (omega (arith, c.in_ok-vec.ensures.len, c.in_ok-vec.field-0.ok.0, c.count_sums.ensures, ap (λ n. sum_count (take n (drop first c.args.s.patches.now))) cut))

@@ -5,6 +5,7 @@ use Rattle.amr_ghost.specs.Parts.{IsParted}
 use Rattle.amr_ghost.proofs.PartLaws.{plan_small}
 use Rattle.amr_layout.specs.Surroundings.{around}
 use Rattle.amr_advance.specs.Lots.{IsLotOf}
+use Rattle.amr_advance.proofs.FewPatches.{few_patches}
 use Rattle.amr_advance.proofs.lots.lot_tasks.Goals as goal
 
 pub part_frames-requires-clause-enough : goal.part_frames-requires-clause-enough
@@ -16,6 +17,22 @@ lots_for-requires-clause-copies g c = c.in_ok-parts.ensures.count
 pub lots_for-requires-clause-outer : goal.lots_for-requires-clause-outer
 lots_for-requires-clause-outer g c = c.in_ok-parts.ensures.outer_count
 
+pub lots_for-requires-clause-small : goal.lots_for-requires-clause-small
+lots_for-requires-clause-small g c = few_patches c.args.s.problem.now c.args.s.level c.args.s.patches.now c.requires.level c.requires.apart c.requires.inside
+
+pub lots_for-requires-clause-edges : goal.lots_for-requires-clause-edges
+lots_for-requires-clause-edges g c = c.in_ok-flows.ensures.edges
+
+pub lots_for-requires-clause-many : goal.lots_for-requires-clause-many
+lots_for-requires-clause-many g c =
+    let few = few_patches c.args.s.problem.now c.args.s.level c.args.s.patches.now c.requires.level c.requires.apart c.requires.inside in
+    omega (arith, few, c.parts_in-runs.ensures.few)
+
+pub lots_for-requires-clause-short : goal.lots_for-requires-clause-short
+lots_for-requires-clause-short g c =
+    let few = few_patches c.args.s.problem.now c.args.s.level c.args.s.patches.now c.requires.level c.requires.apart c.requires.inside in
+    omega (arith, few, c.parts_in.ensures.few, c.max-each.ensures)
+
 pub returns-clause-tasks : goal.returns-clause-tasks
 returns-clause-tasks g c =
     let s = around c.args.s.problem.now c.args.s.level c.args.s.patches.now c.args.s.cells.now (option_copied c.args.s.finer) in
@@ -25,7 +42,7 @@ returns-clause-tasks g c =
       some = omega (arith, c.max-each.ensures);
       enough = subst (λ n. length c.args.s.patches.now ≤ n * c.max-each.result) (sym count) c.parts_in-runs.ensures.enough;
       tight = subst (λ n. n * c.max-each.result < length c.args.s.patches.now + c.max-each.result) (sym count) c.parts_in-runs.ensures.tight;
-      small = omega (arith, c.if-count-gt-MOST.false);
+      small = few_patches c.args.s.problem.now c.args.s.level c.args.s.patches.now c.requires.level c.requires.apart c.requires.inside;
       edges = c.in_ok-flows.ensures.edges;
       plan = c.args.frames.now;
       planned = c.requires.frames;

@@ -10,6 +10,7 @@ use Rattle.amr_register.specs.declared.edges.EdgeCell.{EdgeCell}
 use Rattle.amr_register.specs.EdgeCells.{lists_of}
 use Rattle.amr_advance.specs.Kept.{IsCurrentLayout, totals_kept}
 use Rattle.amr_advance.specs.Registers.{AreEdgesFor, AreNetsOf, edges_of}
+use Rattle.amr_advance.proofs.FewPatches.{few_patches}
 use Rattle.amr_advance.proofs.KeptTotals.{kept_count}
 use Rattle.amr_advance.proofs.Parts.{back_unchanged, came_back, edges_for, may_take, nets_taken, on_err, totals_of, unchanged}
 use Rattle.amr_advance.proofs.Stepped.{stepped_apart, stepped_boxes, stepped_masses}
@@ -18,8 +19,8 @@ use Rattle.amr_advance.proofs.steps.step_patches.Goals as goal
 pub returns-in_err-layout-clause-same_register : goal.returns-in_err-layout-clause-same_register
 returns-in_err-layout-clause-same_register g c = on_err c.from_residual.result (unchanged c.args.register.now)
 
-pub returns-then-patches-gt-MOST-clause-same_register : goal.returns-then-patches-gt-MOST-clause-same_register
-returns-then-patches-gt-MOST-clause-same_register g c = unchanged c.args.register.now
+pub run_level-run-requires-clause-few : goal.run_level-run-requires-clause-few
+run_level-run-requires-clause-few g c = λ _ _. few_patches c.args.given.problem.now c.args.given.level c.fill_frames.new.patches c.requires.level c.fill_frames.ensures.apart c.fill_frames.ensures.inside
 
 pub layout_for-requires-clause-cells : goal.layout_for-requires-clause-cells
 layout_for-requires-clause-cells g c = λ _ _. c.requires.cells c.args.patches.now refl
