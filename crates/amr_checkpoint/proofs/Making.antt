@@ -1,7 +1,7 @@
 -- What calls make of a store is held, and a state that is held is sound.
 use Rattle.std.proofs.Common.{◌≡◌, inr, ℕ, ◌+◌, Bool, true, false, List, Option, Some, None, drop, refl, sym, ◌∙◌, ap, subst, All, eq-eqb}
 use Rattle.std.proofs.lemmas.List.Elements.{All-drop, All-take}
-use Rattle.std.specs.Prelude.{if◌then◌else◌, slice_range, nat_lt}
+use Rattle.std.specs.Prelude.{if◌then◌else◌, slice_range}
 use Rattle.std.specs.declared.result.Result.TheVariants.{Ok}
 use Rattle.std.specs.Int.{w32}
 use Rattle.amr_def.specs.declared.problem.Problem.{Problem}
