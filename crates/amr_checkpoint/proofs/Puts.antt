@@ -35,7 +35,7 @@ use Rattle.amr_checkpoint.specs.declared.faults.CheckpointFault.TheVariants.{Dis
 use Rattle.amr_checkpoint.specs.Checkpoints.{IsStoreFor, renewed_version}
 use Rattle.amr_checkpoint.specs.Contents.{Content, Empty, Fresh, At, Holds, StoreHolds, mass_width}
 use Rattle.amr_checkpoint.specs.Laws.{IsStoreOf}
-use Rattle.amr_checkpoint.specs.Made.{HasPut, ReadsWith, put_into}
+use Rattle.amr_checkpoint.specs.Made.{ReadsWith, put_into}
 use Rattle.amr_checkpoint.specs.Reasons.{fault_of_call}
 use Rattle.amr_store.specs.Reasons.{is_disk_fault, is_no_memory, is_shut_fault}
 use Rattle.amr_decoder.proofs.LevelReadings.{four_small}

@@ -1,16 +1,13 @@
 -- A stop along the times of a run: one time more, a call that fails, and what each image holds.
-use Rattle.std.proofs.Common.{◌≡◌, suc, inl, inr, ℕ, ◌<◌, ◌≤◌, nat_le, ◌∷◌, [], ◌++◌, List, Option, Some, None, IfSome, refl, sym, ◌∙◌, ap, subst, arith, All}
+use Rattle.std.proofs.Common.{◌≡◌, suc, inl, inr, ℕ, ◌≤◌, nat_le, ◌∷◌, [], ◌++◌, List, Option, Some, None, IfSome, refl, sym, subst, arith, All}
 use Rattle.std.proofs.lemmas.Bool.{cases_Bool, leb-true, leb-false}
 use Rattle.std.proofs.lemmas.List.Elements.{All-nil, All-cons}
-use Rattle.std.proofs.lemmas.List.{append_assoc}
 use Rattle.std.proofs.lemmas.Option.{same_Some}
-use Rattle.std.specs.Prelude.{◌⊎◌, slice_get}
+use Rattle.std.specs.Prelude.{slice_get}
 use Rattle.amr_disk.specs.Image.{Only}
-use Rattle.amr_disk.specs.Moments.{StopsIn}
-use Rattle.amr_store.proofs.Runs.{only_at}
 use Rattle.amr_checkpoint.specs.Laws.{AreRising}
-use Rattle.amr_checkpoint.specs.Contents.{Content, Holds, rank}
-use Rattle.amr_checkpoint.specs.Times.{HoldsOneOf, IsFrontOf, Time, StopsAlong, StopsBetween, StopsLeave, contents_of, last_of}
+use Rattle.amr_checkpoint.specs.Contents.{Content, Holds}
+use Rattle.amr_checkpoint.specs.Times.{HoldsOneOf, Time, StopsAlong, StopsBetween, StopsLeave, contents_of, last_of}
 
 one_of : (content : Content) (attempt : Option Content) (image : List ℕ) → Holds image content → HoldsOneOf content attempt image
 one_of content None image h = h
@@ -40,113 +37,45 @@ pub along_now : (leaves : ℕ → List ℕ → Type 0) (time : Time) (times : Li
 along_now leaves time [] now attempt h = h.later
 along_now leaves time (next ∷ rest) now attempt h = omega (arith, h.0.later, along_now leaves next rest now attempt h.2)
 
--- the moments up to now on a later disk
-pub along_kept : (leaves later : ℕ → List ℕ → Type 0) (time : Time) (times : List Time) (now : ℕ) (attempt : Option Content) → ((t : ℕ) (image : List ℕ) → t ≤ now → later t image → leaves t image)
-    → StopsAlong leaves time times now attempt → StopsAlong later time times now attempt
-along_kept leaves later time [] now attempt kept h = between_kept leaves later time.moment now time.content attempt kept h
-along_kept leaves later time (next ∷ rest) now attempt kept h =
-    let ends : next.moment ≤ now = along_now leaves next rest now attempt h.2 in
-    (between_kept leaves later time.moment next.moment time.content (Some next.content) (λ t image to left. kept t image (omega arith) left) h.0, h.1, along_kept leaves later next rest now attempt kept h.2)
+-- those of one disk up to a moment, and of a later one from there on
+pub along_joined : (leaves later : ℕ → List ℕ → Type 0) (time : Time) (times : List Time) (middle : ℕ) (more : List Time) (now : ℕ) (attempt : Option Content)
+    → ((t : ℕ) (image : List ℕ) → t ≤ middle → later t image → leaves t image) → StopsAlong leaves time times middle None
+    → StopsAlong later (record { moment = middle; content = last_of time.content (contents_of times) }) more now attempt → StopsAlong later time (times ++ more) now attempt
+along_joined leaves later time [] middle [] now attempt kept h k =
+    between_joined later time.moment middle now time.content attempt (between_kept leaves later time.moment middle time.content None kept h) k
+along_joined leaves later time [] middle (next ∷ rest) now attempt kept h k =
+    (between_joined later time.moment middle next.moment time.content (Some next.content) (between_kept leaves later time.moment middle time.content None kept h) k.0, k.1, k.2)
+along_joined leaves later time (next ∷ rest) middle more now attempt kept h k =
+    let ends : next.moment ≤ middle = along_now leaves next rest middle None h.2 in (
+      between_kept leaves later time.moment next.moment time.content (Some next.content) (λ t image to left. kept t image (omega (arith, to, ends)) left) h.0,
+      h.1,
+      along_joined leaves later next rest middle more now attempt kept h.2 k,
+    )
 
--- more moments at which an image holds what was made last, or what a call was about to make
-pub along_more : (leaves : ℕ → List ℕ → Type 0) (time : Time) (times : List Time) (now then : ℕ) (attempt : Option Content) → StopsAlong leaves time times now None
-    → StopsBetween leaves now then (last_of time times) attempt → StopsAlong leaves time times then attempt
-along_more leaves time [] now then attempt h k = between_joined leaves time.moment now then time.content attempt h k
-along_more leaves time (next ∷ rest) now then attempt h k = (h.0, h.1, along_more leaves next rest now then attempt h.2 k)
-
--- what a call was about to make is made
-pub along_made : (leaves : ℕ → List ℕ → Type 0) (time : Time) (times : List Time) (now : ℕ) (content : Content) → StopsAlong leaves time times now (Some content) → rank (last_of time times) < rank content
-    → ((image : List ℕ) → leaves now image → Holds image content) → StopsAlong leaves time (times ++ record { moment = now; content = content } ∷ []) now None
-along_made leaves time [] now content h above made = (
-  h,
-  above,
-  record {
-    later = omega arith;
-    each = λ t image from to left. let is : t ≡ now = omega arith in made image (subst (λ (u : ℕ). leaves u image) is left);
-  },
-)
-along_made leaves time (next ∷ rest) now content h above made = (h.0, h.1, along_made leaves next rest now content h.2 above made)
-
--- ---- the front of all
-
--- nothing is made yet
-pub front_none : (all : List Content) → IsFrontOf all [] None
-front_none all = record { rest = all; split = refl; next = tt }
-
--- the next is about to be made
-pub front_next : (all made : List Content) (content : Content) (rest : List Content) → made ++ content ∷ rest ≡ all → IsFrontOf all made (Some content)
-front_next all made content rest split = record { rest = content ∷ rest; split = split; next = refl }
-
--- and is made
-pub front_made : (all made : List Content) (content : Content) → IsFrontOf all made (Some content) → IsFrontOf all (made ++ content ∷ []) None
-front_made all made content h = by_rest h.rest h.split h.next
-  where
-    by_rest : (rest : List Content) → made ++ rest ≡ all → slice_get rest 0 ≡ Some content → IsFrontOf all (made ++ content ∷ []) None
-    by_rest [] split next = absurd (cc)
-    by_rest (x ∷ rest) split next = record { rest = rest; split = append_assoc made (content ∷ []) rest ∙ ap (λ (y : Content). made ++ y ∷ rest) (sym (same_Some x content next)) ∙ split; next = tt }
-
-contents_more : (times : List Time) (time : Time) → contents_of (times ++ time ∷ []) ≡ contents_of times ++ time.content ∷ []
-contents_more [] time = refl
-contents_more (s ∷ rest) time = ap (λ (cs : List Content). s.content ∷ cs) (contents_more rest time)
-
--- ---- the whole
-
--- what was found, before anything is made
-pub leave_found : (leaves : ℕ → List ℕ → Type 0) (found : Time) (now : ℕ) (all : List Content) → StopsBetween leaves found.moment now found.content None → StopsLeave leaves found now all [] None
-leave_found leaves found now all h = record { front = front_none all; along = h }
-
--- a call that was to make the next, done or not
-pub leave_attempt : (leaves : ℕ → List ℕ → Type 0) (found : Time) (now then : ℕ) (all : List Content) (times : List Time) (content : Content) (rest : List Content) → StopsLeave leaves found now all times None
-    → contents_of times ++ content ∷ rest ≡ all → StopsBetween leaves now then (last_of found times) (Some content) → StopsLeave leaves found then all times (Some content)
-leave_attempt leaves found now then all times content rest h split k = record {
-  front = front_next all (contents_of times) content rest split;
-  along = along_more leaves found times now then (Some content) h.along k;
+-- a stop leaves what a read gives, at the one moment
+pub between_now : (seen : Option (List ℕ)) (moment : ℕ) (leaves : ℕ → List ℕ → Type 0) (s : List ℕ) (content : Content) → seen ≡ Some s → Only seen (leaves moment) → Holds s content
+    → StopsBetween leaves moment moment content None
+between_now seen moment leaves s content told settled held = record {
+  later = omega arith;
+  each = λ t image from to left.
+      let now : t ≡ moment = omega (arith, from, to) in
+      let only : Only (Some s) (leaves moment) = subst (λ (o : Option (List ℕ)). Only o (leaves moment)) told settled in
+      subst (λ (c : List ℕ). Holds c content) (sym (only image (subst (λ (u : ℕ). leaves u image) now left))) held;
 }
 
--- one that is done
-pub leave_made : (leaves : ℕ → List ℕ → Type 0) (found : Time) (now : ℕ) (all : List Content) (times : List Time) (content : Content) → StopsLeave leaves found now all times (Some content) → rank (last_of found times) < rank content
-    → ((image : List ℕ) → leaves now image → Holds image content) → StopsLeave leaves found now all (times ++ record { moment = now; content = content } ∷ []) None
-leave_made leaves found now all times content h above made = record {
-  front = subst (λ (cs : List Content). IsFrontOf all cs None) (sym (contents_more times (record { moment = now; content = content }))) (front_made all (contents_of times) content h.front);
-  along = along_made leaves found times now content h.along above made;
-}
+-- ---- what was made last
 
--- a later disk, up to the same moment
-pub leave_kept : (leaves later : ℕ → List ℕ → Type 0) (found : Time) (now : ℕ) (all : List Content) (times : List Time) (attempt : Option Content) → ((t : ℕ) (image : List ℕ) → t ≤ now → later t image → leaves t image)
-    → StopsLeave leaves found now all times attempt → StopsLeave later found now all times attempt
-leave_kept leaves later found now all times attempt kept h = record { front = h.front; along = along_kept leaves later found times now attempt kept h.along }
+pub last_on : (found : Content) (xs ys : List Content) → last_of found (xs ++ ys) ≡ last_of (last_of found xs) ys
+last_on found [] ys = refl
+last_on found (x ∷ xs) ys = last_on x xs ys
 
--- what is made next has gone further than what was made last
-pub rises_at : (found : Time) (times : List Time) (content : Content) (rest : List Content) → AreRising found.content (contents_of times ++ content ∷ rest) → rank (last_of found times) < rank content
-rises_at found [] content rest h = h.0
-rises_at found (next ∷ times) content rest h = rises_at next times content rest h.1
+pub rising_front : (found : Content) (xs ys : List Content) → AreRising found (xs ++ ys) → AreRising found xs
+rising_front found [] ys h = tt
+rising_front found (x ∷ xs) ys h = (h.0, rising_front x xs ys h.1)
 
--- ---- along a disk's clock
-
-module _ {D : Type 0} (clock : D → ℕ) (leaves : D → ℕ → List ℕ → Type 0) where
-  -- where nothing is pending a stop leaves what was found
-  pub leave_begun : (disk : D) (seen : Option (List ℕ)) (s : List ℕ) (content : Content) (all : List Content) → seen ≡ Some s → Only seen (leaves disk (clock disk)) → Holds s content
-      → StopsLeave (leaves disk) (record { moment = clock disk; content = content }) (clock disk) all [] None
-  leave_begun disk seen s content all is settled h =
-      leave_found (leaves disk) (record { moment = clock disk; content = content }) (clock disk) all (record {
-        later = omega arith;
-        each = λ t image from to left. let now : t ≡ clock disk = omega arith in
-            subst (λ (c : List ℕ). Holds c content) (sym (only_at clock leaves disk seen s is settled image (subst (λ (u : ℕ). leaves disk u image) now left))) h;
-      })
-
-  -- a call that was to make the next, whatever became of it
-  pub leave_tried : (old new : D) (found : Time) (all : List Content) (times : List Time) (content : Content) (rest : List Content) → StopsLeave (leaves old) found (clock old) all times None → contents_of times ++ content ∷ rest ≡ all
-      → StopsIn clock leaves old new (λ c. Holds c (last_of found times) ⊎ Holds c content) → StopsLeave (leaves new) found (clock new) all times (Some content)
-  leave_tried old new found all times content rest h split stops =
-      leave_attempt (leaves new) found (clock old) (clock new) all times content rest
-      (leave_kept (leaves old) (leaves new) found (clock old) all times None (λ t image to left. stops.kept t image to left) h) split (record { later = stops.later; each = stops.each })
-
-  -- one that is done
-  pub leave_done : (old new : D) (found : Time) (all : List Content) (times : List Time) (content : Content) (rest : List Content) → StopsLeave (leaves old) found (clock old) all times None → contents_of times ++ content ∷ rest ≡ all
-      → StopsIn clock leaves old new (λ c. Holds c (last_of found times) ⊎ Holds c content) → rank (last_of found times) < rank content → ((image : List ℕ) → leaves new (clock new) image → Holds image content)
-      → StopsLeave (leaves new) found (clock new) all (times ++ record { moment = clock new; content = content } ∷ []) None
-  leave_done old new found all times content rest h split stops above made =
-      leave_made (leaves new) found (clock new) all times content (leave_tried old new found all times content rest h split stops) above made
+pub rising_back : (found : Content) (xs ys : List Content) → AreRising found (xs ++ ys) → AreRising (last_of found xs) ys
+rising_back found [] ys h = h
+rising_back found (x ∷ xs) ys h = rising_back x xs ys h.1
 
 -- ---- what each image holds
 

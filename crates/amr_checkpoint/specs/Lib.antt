@@ -5,5 +5,6 @@ pub mod Times
 pub mod Reasons
 pub mod Checkpoints
 pub mod Laws
+pub mod Outside
 pub mod Kept
 pub mod Made

@@ -11,9 +11,9 @@ abbrev pub contents_of : List Time → List Content
 contents_of times = map (λ time. time.content) times
 
 -- what was found, or made last
-abbrev pub last_of : Time → List Time → Content
-last_of time [] = time.content
-last_of time (next ∷ rest) = last_of next rest
+abbrev pub last_of : Content → List Content → Content
+last_of found [] = found
+last_of found (next ∷ rest) = last_of next rest
 
 -- the image holds the one, or the other where there is another
 abbrev pub HoldsOneOf : Content → Option Content → List ℕ → Type 0

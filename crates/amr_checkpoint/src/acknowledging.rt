@@ -4,8 +4,9 @@ ghost use Rattle.amr_def.specs.Facts.{IsSound};
 ghost use Rattle.amr_patch.specs.Meshes.{is_spent, state_of};
 ghost use Rattle.amr_store.specs.Stands.{IsStoreReady, last_in, problem_in, version_in};
 ghost use Rattle.amr_checkpoint.specs.Checkpoints.{IsStoreFor, renewed_version};
-ghost use Rattle.amr_checkpoint.specs.Kept.{Keeps, fault_in};
+ghost use Rattle.amr_checkpoint.specs.Kept.{Keeps, checkpoints_of, fault_in, run_of};
 ghost use Rattle.amr_checkpoint.specs.Marks.{is_mark};
+ghost use Rattle.amr_checkpoint.specs.Outside.{outside_at};
 
 use crate::faults::{CheckpointFault, KeepFault};
 use crate::keeping::put_checkpoint;
@@ -53,8 +54,9 @@ pub fn keep_state<E: Sink, D: Disk>(
     ensures problem { IfOk result (λ kept. problem_in kept ≡ problem_in store) }
     ensures above { IfOk result (λ kept. IfSome (last_in kept) (λ last. last < (state_of mesh.now).step + 2)) }
     ensures ready { IfOk result (λ kept. IsStoreReady D.seen D.moment D.leaves kept disk.new) }
-    ensures kept { Keeps D.seen D.moment D.leaves D.faults E.holds E.faults (problem_in store) keeping.now.problem.now keeping.now.every keeping.now.target
-        disk.old disk.new err.old err.new (state_of mesh.now ∷ []) (fault_in result) }
+    ensures kept { let shown = outside_at D.seen D.moment D.leaves D.faults E.holds E.faults in
+        Keeps (shown disk.old err.old) (shown disk.new err.new)
+        (checkpoints_of (run_of (problem_in store) keeping.now) (state_of mesh.now ∷ [])) (fault_in result) }
     ensures memory { IsErrOf result KeepFault.NoMemory → disk.new ≡ disk.old }
 {
     let step = mesh.step();

@@ -23,9 +23,14 @@ use Rattle.amr_checkpoint.specs.declared.resuming.Resumed.{Resumed}
 use Rattle.amr_checkpoint.specs.declared.resuming.Resumed.TheVariants as resumed
 use Rattle.amr_checkpoint.specs.Checkpoints.{CanGoOn, content_resumed}
 use Rattle.amr_checkpoint.specs.Contents.{Content, Holds, state_from}
-use Rattle.amr_checkpoint.specs.Kept.{FailsBy, KeepsRun, SameUntil, SaysOfRun}
+use Rattle.amr_checkpoint.specs.Kept.{ErrFailsBy, FailsBy, IsSaid, Keeps, KeptRun, SameUntil, made_of}
+use Rattle.amr_checkpoint.specs.Laws.{IsInSequence}
+use Rattle.amr_checkpoint.specs.Made.{ReadsWith}
 use Rattle.amr_checkpoint.specs.Marks.{answer_of_run, checkpoint_line, marks}
 use Rattle.amr_checkpoint.specs.Refusals.{GoesOn, RefusesRun}
+use Rattle.amr_checkpoint.specs.Outside.{DiskAt, disk_at, outside_at}
+use Rattle.amr_checkpoint.proofs.KeptRuns.{SaysOfRun}
+use Rattle.amr_checkpoint.proofs.Progress.{checkpoints_rise}
 use Rattle.amr_cli.specs.declared.command.Command.{Command}
 use Rattle.amr_run.specs.Answer.{IsKeptRun, IsPlotOfKeptRun, WasFound, stop_of}
 use Rattle.amr_run.specs.Kept.{KeptReplies}
@@ -49,6 +54,11 @@ pub found_sound : (bytes : List ℕ) (p : Problem) (target : ℕ) (r : Resumed) 
 found_sound bytes p target resumed.Nothing can = start-sound p (regrid-sound p)
 found_sound bytes p target (resumed.Fresh store) can = start-sound p (regrid-sound p)
 found_sound bytes p target (resumed.At store mesh) can = can.1.mesh_is.sound
+
+in_sequence : (bytes : List ℕ) (p : Problem) (r : Resumed) → IsInSequence (content_resumed bytes p r)
+in_sequence bytes p resumed.Nothing = tt
+in_sequence bytes p (resumed.Fresh store) = tt
+in_sequence bytes p (resumed.At store mesh) = refl
 
 -- the answer of a run from it
 pub is_kept_run : (bytes : List ℕ) (p : Problem) (every target : ℕ) (seen : Option (List ℕ)) (r : Resumed) (out lines : List ℕ) → CanGoOn bytes p target r → WasFound seen (content_resumed bytes p r) → target ≤ p.steps
@@ -87,10 +97,10 @@ unkept bytes p every target seen whole lines said before now fault.DiskFault ans
 unkept bytes p every target seen whole lines said before now fault.NoMemory answer says = (refl, inr record { whole = whole; lines = lines; answer = answer; prefix = says.0 })
 unkept bytes p every target seen whole lines said before now fault.WriteFault answer says = record { whole = whole; lines = lines; answer = answer; cut = inr (refl, says.0) }
 
-pub no_write_cause : (e : KeepFault) (said lines : List ℕ) (before now : ℕ) → SaysOfRun (Some e) said lines before now → (keep_refused e ≡ status.WriteFault → ⊥) → now ≡ before
-no_write_cause fault.DiskFault said lines before now says other = says.1
-no_write_cause fault.NoMemory said lines before now says other = says.1
-no_write_cause fault.WriteFault said lines before now says other = absurd (other refl)
+pub no_write_cause : (e : KeepFault) (before now : ℕ) → ErrFailsBy (Some e) before now → (keep_refused e ≡ status.WriteFault → ⊥) → now ≡ before
+no_write_cause fault.DiskFault before now fails other = fails
+no_write_cause fault.NoMemory before now fails other = fails
+no_write_cause fault.WriteFault before now fails other = absurd (other refl)
 
 pub disk_cause : (e : KeepFault) (before now : ℕ) → FailsBy (Some e) before now → keep_refused e ≡ status.DiskFault → Rose before now
 disk_cause fault.DiskFault before now fails is = fails
@@ -163,49 +173,63 @@ stays_past : (image : List ℕ) (first last : ℕ) (was leaves : ℕ → List �
 stays_past image first last was leaves same stays = λ k t from order to settled c left.
     stays k t from order to (λ e there. settled e (same.still k e (omega (arith, order, to)) there)) c (same.kept t c to left)
 
-module _ {D : Type 0} (seen : D → Option (List ℕ)) (moment : D → ℕ) (leaves : D → ℕ → List ℕ → Type 0) where
-  -- by another status of a run whose calls ended so
-  runs_on : (d later_d : D) (was status : Status) (image bytes : List ℕ) (p : Problem) (every target : ℕ) (said : List ℕ) → ((ended : Option KeepFault) → EndsRun ended was → EndsRun ended status)
-      → RunsThrough seen moment leaves d later_d was image bytes p every target said → RunsThrough seen moment leaves d later_d status image bytes p every target said
-  runs_on d later_d was status image bytes p every target said still h =
-      record { opened = h.opened; since = h.since; stays = h.stays; held = h.held; on = h.on; ended = h.ended; ends = still h.ended h.ends; history = h.history }
+-- by another status of a run whose calls ended so
+runs_on : (before after : DiskAt) (was status : Status) (run : KeptRun) (image said : List ℕ) → ((ended : Option KeepFault) → EndsRun ended was → EndsRun ended status) → RunsThrough before after was run image said
+    → RunsThrough before after status run image said
+runs_on before after was status run image said still h =
+    record { opened = h.opened; since = h.since; stays = h.stays; held = h.held; on = h.on; ended = h.ended; ends = still h.ended h.ends; history = h.history }
 
+module _ {D : Type 0} (seen : D → Option (List ℕ)) (moment : D → ℕ) (leaves : D → ℕ → List ℕ → Type 0) where
   -- the run went on from what was read
-  pub stops_kept : {E : Type 0} (disk_faults : D → ℕ) (holds : E → List ℕ → Type 0) (err_faults : E → ℕ) (bytes : List ℕ) (p : Problem) (every target : ℕ) (r : Resumed) (d read later_d : D) (e later_e : E) (ended : Option KeepFault) (status : Status)
-      → EndsRun ended status → OnlyReads seen moment leaves d read → Only (seen read) (leaves read (moment read)) → ((image : List ℕ) → seen d ≡ Some image → Holds image (content_resumed bytes p r)) → CanGoOn bytes p target r
-      → (h : KeepsRun seen moment leaves disk_faults holds err_faults bytes p every target (content_resumed bytes p r) read later_d e later_e ended) → StopsKept seen moment leaves d later_d status bytes p every target h.said
-  stops_kept disk_faults holds err_faults bytes p every target r d read later_d e later_e ended status ends reads settled held can h image told = inr record {
-    opened = record { moment = moment read; content = content_resumed bytes p r };
-    since = reads.images.passes.later;
-    stays = stays_past image (moment d) (moment read) (leaves read) (leaves later_d) (h.past image (reads.same ∙ told) (held image told) settled)
-        (subst (λ (o : Option (List ℕ)). StaysDurable o (moment d) (moment read) (leaves read)) told reads.images.stays);
-    held = held image told;
-    on = goes_on bytes p target r can;
-    ended = ended;
-    ends = ends;
-    history = h.history image (reads.same ∙ told) (held image told) settled;
-  }
+  pub stops_kept : {E : Type 0} (disk_faults : D → ℕ) (holds : E → List ℕ → Type 0) (err_faults : E → ℕ) (run : KeptRun) (r : Resumed) (d read later_d : D) (e later_e : E) (ended : Option KeepFault) (status : Status)
+      → EndsRun ended status → OnlyReads seen moment leaves d read → Only (seen read) (leaves read (moment read)) → ((image : List ℕ) → seen d ≡ Some image → Holds image (content_resumed run.bytes run.problem r))
+      → CanGoOn run.bytes run.problem run.target r
+      → (h : Keeps (outside_at seen moment leaves disk_faults holds err_faults read e) (outside_at seen moment leaves disk_faults holds err_faults later_d later_e) (made_of run (content_resumed run.bytes run.problem r)) ended)
+      → StopsKept seen moment leaves d later_d status run h.said
+  stops_kept disk_faults holds err_faults run r d read later_d e later_e ended status ends reads settled held can h image told =
+      let found : Content = content_resumed run.bytes run.problem r in
+      let on = goes_on run.bytes run.problem run.target r can in
+      let through = h.stops image found (reads.same ∙ told) (held image told) settled (checkpoints_rise run.bytes run.problem run.every run.target found on (in_sequence run.bytes run.problem r)) in
+      inr record {
+        opened = record { moment = moment read; content = found };
+        since = reads.images.passes.later;
+        stays = stays_past image (moment d) (moment read) (leaves read) (leaves later_d) through.past (subst (λ (o : Option (List ℕ)). StaysDurable o (moment d) (moment read) (leaves read)) told reads.images.stays);
+        held = held image told;
+        on = on;
+        ended = ended;
+        ends = ends;
+        history = record {
+          times = through.times;
+          attempt = through.attempt;
+          leave = through.leave;
+          begun = through.begun;
+          acknowledged = subst (IsSaid ended h.said) (sym through.made) h.says;
+          made = λ no. subst (ReadsWith (seen later_d) image) (sym through.made) (h.made no image (reads.same ∙ told));
+        };
+      }
 
   -- of the problem that the source gave
-  pub stops_run : (d later_d : D) (was status : Status) (given bytes : List ℕ) (to : Option ℕ) (p : Problem) (every target : ℕ) (said : List ℕ) → given ≡ bytes → target ≡ stop_of to p → IsProblemOf bytes p
-      → StopsKept seen moment leaves d later_d was given p every target said → (EndsBefore was → EndsBefore status) → ((ended : Option KeepFault) → EndsRun ended was → EndsRun ended status)
-      → StopsRun seen moment leaves d later_d status bytes to every said
-  stops_run d later_d was status given bytes to p every target said same stops accepted h before still image told = elim (h image told) [
+  pub stops_run : (d later_d : D) (was status : Status) (given bytes : List ℕ) (marked : Marks) (p : Problem) (target : ℕ) (said : List ℕ) → given ≡ bytes → target ≡ stop_of marked.to p → IsProblemOf bytes p
+      → StopsKept seen moment leaves d later_d was (record { bytes = given; problem = p; every = marked.every; target = target }) said → (EndsBefore was → EndsBefore status)
+      → ((ended : Option KeepFault) → EndsRun ended was → EndsRun ended status) → StopsRun seen moment leaves d later_d status marked bytes said
+  stops_run d later_d was status given bytes marked p target said same stops accepted h before still image told = elim (h image told) [
     | inl reads ↦ inl (before reads.0, reads.1, reads.2)
-    | inr through ↦ inr record {
-      problem = p;
-      accepted = accepted;
-      through = subst (λ n. RunsThrough seen moment leaves d later_d status image bytes p every n said) stops
-          (subst (λ (b : List ℕ). RunsThrough seen moment leaves d later_d status image b p every target said) same
-          (runs_on d later_d was status image given p every target said still through));
-    }
+    | inr through ↦ let first = disk_at seen moment leaves d in
+        let last = disk_at seen moment leaves later_d in
+        let by : List ℕ → ℕ → KeptRun = λ b n. record { bytes = b; problem = p; every = marked.every; target = n } in
+        inr record {
+          problem = p;
+          accepted = accepted;
+          through = subst (λ n. RunsThrough first last status (by bytes n) image said) stops
+              (subst (λ (b : List ℕ). RunsThrough first last status (by b target) image said) same (runs_on first last was status (by given target) image said still through));
+        }
   ]
 
   -- by the status that an error became
-  pub stops_by : (d later_d : D) (r : Result Unit Status) (s : Status) (bytes : List ℕ) (to : Option ℕ) (every : ℕ) (said : List ℕ) → IsErrAnd r (λ x. x ≡ s)
-      → StopsRun seen moment leaves d later_d s bytes to every said → StopsRun seen moment leaves d later_d (status_of r) bytes to every said
-  stops_by d later_d (Ok done) s bytes to every said is stops = absurd is
-  stops_by d later_d (Err x) s bytes to every said is stops = subst (λ (t : Status). StopsRun seen moment leaves d later_d t bytes to every said) (sym is) stops
+  pub stops_by : (d later_d : D) (r : Result Unit Status) (s : Status) (bytes : List ℕ) (marked : Marks) (said : List ℕ) → IsErrAnd r (λ x. x ≡ s)
+      → StopsRun seen moment leaves d later_d s marked bytes said → StopsRun seen moment leaves d later_d (status_of r) marked bytes said
+  stops_by d later_d (Ok done) s bytes marked said is stops = absurd is
+  stops_by d later_d (Err x) s bytes marked said is stops = subst (λ (t : Status). StopsRun seen moment leaves d later_d t marked bytes said) (sym is) stops
 
   -- a disk that was not called
   pub only_reads_none : (d : D) → OnlyReads seen moment leaves d d

@@ -13,9 +13,10 @@ use Rattle.amr_drive.proofs.Finishes.{finish_here}
 use Rattle.amr_checkpoint.specs.declared.faults.KeepFault.{KeepFault}
 use Rattle.amr_checkpoint.specs.declared.faults.KeepFault.TheVariants as fault
 use Rattle.amr_checkpoint.specs.Contents.{Content, Empty, Fresh, At}
-use Rattle.amr_checkpoint.specs.Kept.{Keeps, contents_at, marked}
-use Rattle.amr_checkpoint.specs.Marks.{is_mark, to_make}
-use Rattle.amr_checkpoint.proofs.KeptStates.{keeps_ended, keeps_longer, keeps_on}
+use Rattle.amr_checkpoint.specs.Kept.{Keeps, KeptRun, checkpoints_of, made_of}
+use Rattle.amr_checkpoint.specs.Marks.{is_mark}
+use Rattle.amr_checkpoint.specs.Outside.{OutsideAt, outside_at}
+use Rattle.amr_checkpoint.proofs.KeptStates.{checkpoints_on, keeps_ended, keeps_longer, keeps_on}
 use Rattle.amr_checkpoint.proofs.Stepping.{start_step}
 
 -- ---- states and steps
@@ -40,6 +41,12 @@ states_split p s n (suc m) within = elim (cases_Bool (nat_le n m)) [
 
 -- ---- what is made
 
+abbrev marked : ℕ → ℕ → List State → List State
+marked every target states = filter (λ (s : State). is_mark every target s.step) states
+
+abbrev contents_at : List ℕ → Problem → List State → List Content
+contents_at bytes p states = map (λ (s : State). At bytes p s (s.step + 1)) states
+
 made_one : (bytes : List ℕ) (p : Problem) (f : ℕ → State) (first : ℕ) (b : Bool) (rest : List State) (ks : List ℕ) → (f first).step ≡ first → contents_at bytes p rest ≡ map (λ k. At bytes p (f k) (k + 1)) ks
     → contents_at bytes p (cond b (f first ∷ rest) rest) ≡ map (λ k. At bytes p (f k) (k + 1)) (cond b (first ∷ ks) ks)
 made_one bytes p f first true rest ks at made =
@@ -56,11 +63,11 @@ made_range bytes p every target s first (suc n) from =
     ∙ made_one bytes p (finish p s) first (is_mark every target first) rest (filter (is_mark every target) (range_with_len (first + 1) n)) at (made_range bytes p every target s (first + 1) n (omega arith))
 
 -- from a stored state
-pub made_on : (bytes kept : List ℕ) (p q : Problem) (every target sequence : ℕ) (s : State) → contents_at bytes p (marked every target (states_after p s (target - s.step))) ≡ to_make bytes p every (At kept q s sequence) target
-made_on bytes kept p q every target sequence s =
-    let count : target - s.step ≡ target + 1 - (s.step + 1) = omega arith in
-    ap (λ (ss : List State). contents_at bytes p (marked every target ss)) (states_are p s (target - s.step) ∙ ap (λ n. map (finish p s) (range_with_len (s.step + 1) n)) count)
-    ∙ made_range bytes p every target s (s.step + 1) (target + 1 - (s.step + 1)) (omega arith)
+pub made_on : (run : KeptRun) (kept : List ℕ) (q : Problem) (sequence : ℕ) (s : State) → checkpoints_of run (states_after run.problem s (run.target - s.step)) ≡ made_of run (At kept q s sequence)
+made_on run kept q sequence s =
+    let count : run.target - s.step ≡ run.target + 1 - (s.step + 1) = omega arith in
+    ap (checkpoints_of run) (states_are run.problem s (run.target - s.step) ∙ ap (λ n. map (finish run.problem s) (range_with_len (s.step + 1) n)) count)
+    ∙ made_range run.bytes run.problem run.every run.target s (s.step + 1) (run.target + 1 - (s.step + 1)) (omega arith)
 
 -- from the start
 start_states : (p : Problem) (target : ℕ) → start p ∷ states_after p (start p) target ≡ map (finish p (start p)) (range_with_len 0 (target + 1 - 0))
@@ -72,63 +79,68 @@ start_states p target =
     ∙ ap (λ (ss : List State). finish p (start p) 0 ∷ ss) (states_are p (start p) target ∙ ap (λ k. map (finish p (start p)) (range_with_len k target)) first)
     ∙ ap (λ n. map (finish p (start p)) (range_with_len 0 n)) count
 
-pub made_new : (bytes kept : List ℕ) (p q : Problem) (every target : ℕ) → contents_at bytes p (marked every target (start p ∷ states_after p (start p) target)) ≡ to_make bytes p every (Fresh kept q) target
-made_new bytes kept p q every target =
-    ap (λ (ss : List State). contents_at bytes p (marked every target ss)) (start_states p target)
-    ∙ made_range bytes p every target (start p) 0 (target + 1 - 0) (omega (arith, start_step p))
+abbrev all_states : Problem → ℕ → List State
+all_states p target = start p ∷ states_after p (start p) target
 
-pub made_first : (bytes : List ℕ) (p : Problem) (every target : ℕ) → Fresh bytes p ∷ contents_at bytes p (marked every target (start p ∷ states_after p (start p) target)) ≡ to_make bytes p every Empty target
-made_first bytes p every target =
-    ap (λ (cs : List Content). Fresh bytes p ∷ cs)
-    (ap (λ (ss : List State). contents_at bytes p (marked every target ss)) (start_states p target)
-    ∙ made_range bytes p every target (start p) 0 (target + 1 - 0) (omega (arith, start_step p)))
+pub made_new : (run : KeptRun) (kept : List ℕ) (q : Problem) → checkpoints_of run (all_states run.problem run.target) ≡ made_of run (Fresh kept q)
+made_new run kept q =
+    ap (checkpoints_of run) (start_states run.problem run.target)
+    ∙ made_range run.bytes run.problem run.every run.target (start run.problem) 0 (run.target + 1 - 0) (omega (arith, start_step run.problem))
+
+pub made_first : (run : KeptRun) → Fresh run.bytes run.problem ∷ checkpoints_of run (all_states run.problem run.target) ≡ made_of run Empty
+made_first run = ap (λ (cs : List Content). Fresh run.bytes run.problem ∷ cs) (made_new run run.bytes run.problem)
 
 -- ---- calls that kept the states
 
-module _ {D E : Type 0} (seen : D → Option (List ℕ)) (moment : D → ℕ) (leaves : D → ℕ → List ℕ → Type 0) (disk_faults : D → ℕ) (holds : E → List ℕ → Type 0) (err_faults : E → ℕ) (bytes : List ℕ) (p : Problem) (every target : ℕ) where
-  -- the disk and the stream as they were lent back
-  pub keeps_back : (d later_d back_d : D) (e later_e back_e : E) (xs : List State) (ended : Option KeepFault) → back_d ≡ later_d → back_e ≡ later_e
-      → Keeps seen moment leaves disk_faults holds err_faults bytes p every target d later_d e later_e xs ended → Keeps seen moment leaves disk_faults holds err_faults bytes p every target d back_d e back_e xs ended
-  keeps_back d later_d back_d e later_e back_e xs ended disk err h =
-      subst (λ (x : D). Keeps seen moment leaves disk_faults holds err_faults bytes p every target d x e back_e xs ended) (sym disk)
-      (subst (λ (x : E). Keeps seen moment leaves disk_faults holds err_faults bytes p every target d later_d e x xs ended) (sym err) h)
+-- the disk and the stream as they were lent back
+module _ {D E : Type 0} (seen : D → Option (List ℕ)) (moment : D → ℕ) (leaves : D → ℕ → List ℕ → Type 0) (disk_faults : D → ℕ) (holds : E → List ℕ → Type 0) (err_faults : E → ℕ) where
+  abbrev at : D → E → OutsideAt
+  at d e = outside_at seen moment leaves disk_faults holds err_faults d e
+
+  pub keeps_back : (before : OutsideAt) (later_d back_d : D) (later_e back_e : E) (all : List Content) (ended : Option KeepFault) → back_d ≡ later_d → back_e ≡ later_e → Keeps before (at later_d later_e) all ended
+      → Keeps before (at back_d back_e) all ended
+  keeps_back before later_d back_d later_e back_e all ended disk err h =
+      subst (λ (x : D). Keeps before (at x back_e) all ended) (sym disk) (subst (λ (x : E). Keeps before (at later_d x) all ended) (sym err) h)
+
+module _ (before after : OutsideAt) (run : KeptRun) where
+  -- a fault after the first of these states
+  keeps_first : (first rest all : List State) (reason : KeepFault) → first ++ rest ≡ all → Keeps before after (checkpoints_of run first) (Some reason) → Keeps before after (checkpoints_of run all) (Some reason)
+  keeps_first first rest all reason split h =
+      subst (λ (ss : List State). Keeps before after (checkpoints_of run ss) (Some reason)) split
+      (subst (λ (cs : List Content). Keeps before after cs (Some reason)) (sym (checkpoints_on run first rest)) (keeps_longer before after (checkpoints_of run first) (checkpoints_of run rest) reason h))
 
   -- a fault after the first n states of a run
-  pub keeps_part : (d later_d : D) (e later_e : E) (s : State) (n : ℕ) (reason : KeepFault) → s.step + n ≤ target
-      → Keeps seen moment leaves disk_faults holds err_faults bytes p every target d later_d e later_e (states_after p s n) (Some reason)
-      → Keeps seen moment leaves disk_faults holds err_faults bytes p every target d later_d e later_e (states_after p s (target - s.step)) (Some reason)
-  keeps_part d later_d e later_e s n reason within h =
-      let all = states_split p s n (target - s.step) (omega arith) in
-      subst (λ (ss : List State). Keeps seen moment leaves disk_faults holds err_faults bytes p every target d later_d e later_e ss (Some reason)) all.1
-      (keeps_longer seen moment leaves disk_faults holds err_faults bytes p every target d later_d e later_e (states_after p s n) all.0 reason h)
+  pub keeps_part : (s : State) (n : ℕ) (reason : KeepFault) → s.step + n ≤ run.target → Keeps before after (checkpoints_of run (states_after run.problem s n)) (Some reason)
+      → Keeps before after (checkpoints_of run (states_after run.problem s (run.target - s.step))) (Some reason)
+  keeps_part s n reason within h =
+      let all = states_split run.problem s n (run.target - s.step) (omega arith) in
+      keeps_first (states_after run.problem s n) all.0 (states_after run.problem s (run.target - s.step)) reason all.1 h
 
   -- and out of memory
-  pub keeps_no_more : (d later_d : D) (e later_e : E) (s : State) (n : ℕ) → s.step + n ≤ target → Keeps seen moment leaves disk_faults holds err_faults bytes p every target d later_d e later_e (states_after p s n) None
-      → Keeps seen moment leaves disk_faults holds err_faults bytes p every target d later_d e later_e (states_after p s (target - s.step)) (Some fault.NoMemory)
-  keeps_no_more d later_d e later_e s n within h =
-      keeps_part d later_d e later_e s n fault.NoMemory within (keeps_ended seen moment leaves disk_faults holds err_faults bytes p every target d later_d e later_e (states_after p s n) h)
+  pub keeps_no_more : (s : State) (n : ℕ) → s.step + n ≤ run.target → Keeps before after (checkpoints_of run (states_after run.problem s n)) None
+      → Keeps before after (checkpoints_of run (states_after run.problem s (run.target - s.step))) (Some fault.NoMemory)
+  keeps_no_more s n within h = keeps_part s n fault.NoMemory within (keeps_ended before after (checkpoints_of run (states_after run.problem s n)) h)
 
   -- by the bytes that a store has
-  pub keeps_of : (other : List ℕ) (d later_d : D) (e later_e : E) (xs : List State) (ended : Option KeepFault) → other ≡ bytes → Keeps seen moment leaves disk_faults holds err_faults other p every target d later_d e later_e xs ended
-      → Keeps seen moment leaves disk_faults holds err_faults bytes p every target d later_d e later_e xs ended
-  keeps_of other d later_d e later_e xs ended same h = subst (λ (b : List ℕ). Keeps seen moment leaves disk_faults holds err_faults b p every target d later_d e later_e xs ended) same h
+  pub keeps_of : (other : List ℕ) (states : List State) (ended : Option KeepFault) → other ≡ run.bytes → Keeps before after (checkpoints_of (record run { bytes = other }) states) ended
+      → Keeps before after (checkpoints_of run states) ended
+  keeps_of other states ended same h = subst (λ (b : List ℕ). Keeps before after (checkpoints_of (record run { bytes = b }) states) ended) same h
 
   -- the start and all states after it
-  start_first : (s : State) → s ≡ start p → s ∷ states_after p s (target - s.step) ≡ start p ∷ states_after p (start p) target
+  start_first : (s : State) → s ≡ start run.problem → s ∷ states_after run.problem s (run.target - s.step) ≡ all_states run.problem run.target
   start_first s is =
-      let none : target - (start p).step ≡ target = omega (arith, start_step p) in
-      ap (λ (t : State). t ∷ states_after p t (target - t.step)) is ∙ ap (λ n. start p ∷ states_after p (start p) n) none
-
-  pub keeps_new : (d0 d1 d2 : D) (e0 e1 e2 : E) (s : State) (ended : Option KeepFault) → s ≡ start p → Keeps seen moment leaves disk_faults holds err_faults bytes p every target d0 d1 e0 e1 (s ∷ []) None
-      → Keeps seen moment leaves disk_faults holds err_faults bytes p every target d1 d2 e1 e2 (states_after p s (target - s.step)) ended
-      → Keeps seen moment leaves disk_faults holds err_faults bytes p every target d0 d2 e0 e2 (start p ∷ states_after p (start p) target) ended
-  keeps_new d0 d1 d2 e0 e1 e2 s ended is h k =
-      subst (λ (ss : List State). Keeps seen moment leaves disk_faults holds err_faults bytes p every target d0 d2 e0 e2 ss ended) (start_first s is)
-      (keeps_on seen moment leaves disk_faults holds err_faults bytes p every target d0 d1 d2 e0 e1 e2 (s ∷ []) (states_after p s (target - s.step)) ended h k)
+      let p = run.problem in
+      let none : run.target - (start p).step ≡ run.target = omega (arith, start_step p) in
+      ap (λ (t : State). t ∷ states_after p t (run.target - t.step)) is ∙ ap (λ n. start p ∷ states_after p (start p) n) none
 
   -- a fault at the start
-  pub keeps_start : (d0 d1 : D) (e0 e1 : E) (s : State) (reason : KeepFault) → s ≡ start p → Keeps seen moment leaves disk_faults holds err_faults bytes p every target d0 d1 e0 e1 (s ∷ []) (Some reason)
-      → Keeps seen moment leaves disk_faults holds err_faults bytes p every target d0 d1 e0 e1 (start p ∷ states_after p (start p) target) (Some reason)
-  keeps_start d0 d1 e0 e1 s reason is h =
-      subst (λ (ss : List State). Keeps seen moment leaves disk_faults holds err_faults bytes p every target d0 d1 e0 e1 ss (Some reason)) (start_first s is)
-      (keeps_longer seen moment leaves disk_faults holds err_faults bytes p every target d0 d1 e0 e1 (s ∷ []) (states_after p s (target - s.step)) reason h)
+  pub keeps_start : (s : State) (reason : KeepFault) → s ≡ start run.problem → Keeps before after (checkpoints_of run (s ∷ [])) (Some reason)
+      → Keeps before after (checkpoints_of run (all_states run.problem run.target)) (Some reason)
+  keeps_start s reason is h = keeps_first (s ∷ []) (states_after run.problem s (run.target - s.step)) (all_states run.problem run.target) reason (start_first s is) h
+
+  pub keeps_new : (middle : OutsideAt) (s : State) (ended : Option KeepFault) → s ≡ start run.problem → Keeps before middle (checkpoints_of run (s ∷ [])) None
+      → Keeps middle after (checkpoints_of run (states_after run.problem s (run.target - s.step))) ended → Keeps before after (checkpoints_of run (all_states run.problem run.target)) ended
+  keeps_new middle s ended is h k =
+      let rest : List State = states_after run.problem s (run.target - s.step) in
+      subst (λ (ss : List State). Keeps before after (checkpoints_of run ss) ended) (start_first s is)
+      (subst (λ (cs : List Content). Keeps before after cs ended) (sym (checkpoints_on run (s ∷ []) rest)) (keeps_on before middle after (checkpoints_of run (s ∷ [])) (checkpoints_of run rest) ended h k))

@@ -8,10 +8,10 @@ use Rattle.amr_problem.specs.Judgement.{IsProblemOf}
 use Rattle.amr_checkpoint.specs.declared.refusal.Refusal.{Refusal}
 use Rattle.amr_checkpoint.specs.Contents.{Content, Holds}
 use Rattle.amr_checkpoint.specs.declared.faults.KeepFault.{KeepFault}
-use Rattle.amr_checkpoint.specs.Kept.{History}
-use Rattle.amr_checkpoint.specs.Marks.{to_make}
+use Rattle.amr_checkpoint.specs.Kept.{History, KeptRun, made_of}
 use Rattle.amr_checkpoint.specs.Refusals.{GoesOn}
 use Rattle.amr_checkpoint.specs.Times.{Time}
+use Rattle.amr_checkpoint.specs.Outside.{DiskAt, disk_at}
 use Rattle.amr_disk.specs.Image.{Only}
 use Rattle.amr_disk.specs.Moments.{StaysDurable}
 use Rattle.amr_store.specs.Phases.{OnlyReads}
@@ -118,41 +118,40 @@ EndsBefore _ = ⊤
 -- A run opened its store on a disk that reads as the image, found this, and went on from it. Its times begin there: a stop since then leaves what
 -- was found or made last, or what was made next. Before that the disk was only read: from a moment on at which a stop leaves nothing but the
 -- image, as where a sync returns, it leaves that. But where the disk failed it reads as the image with what was made, each whole.
-pub record RunsThrough {D : Type 0} (seen : D → Option (List ℕ)) (moment : D → ℕ) (leaves : D → ℕ → List ℕ → Type 0) (disk later_disk : D) (status : Status)
-    (image bytes : List ℕ) (p : Problem) (every target : ℕ) (said : List ℕ) : Type 0 where
+pub record RunsThrough (before after : DiskAt) (status : Status) (run : KeptRun) (image said : List ℕ) : Type 0 where
   pub opened : Time
-  pub since : moment disk ≤ opened.moment
-  pub stays : StaysDurable (Some image) (moment disk) opened.moment (leaves later_disk)
+  pub since : before.moment ≤ opened.moment
+  pub stays : StaysDurable (Some image) before.moment opened.moment after.leaves
   pub held : Holds image opened.content
-  pub on : GoesOn bytes target opened.content
+  pub on : GoesOn run.bytes run.target opened.content
   pub ended : Option KeepFault
   pub ends : EndsRun ended status
-  pub history : History (seen later_disk) (leaves later_disk) opened (moment later_disk) image (to_make bytes p every opened.content target) said ended
+  pub history : History after opened image (made_of run opened.content) said ended
 
 -- Where the disk tells what it reads, it was only read and nothing was said of checkpoints, or a run went on from it.
-abbrev pub StopsKept : {D : Type 0} → (D → Option (List ℕ)) → (D → ℕ) → (D → ℕ → List ℕ → Type 0) → D → D → Status → List ℕ → Problem → ℕ → ℕ → List ℕ → Type 0
-StopsKept seen moment leaves disk later_disk status bytes p every target said =
+abbrev pub StopsKept : {D : Type 0} → (D → Option (List ℕ)) → (D → ℕ) → (D → ℕ → List ℕ → Type 0) → D → D → Status → KeptRun → List ℕ → Type 0
+StopsKept seen moment leaves disk later_disk status run said =
     (image : List ℕ) → seen disk ≡ Some image
-    → (EndsBefore status × OnlyReads seen moment leaves disk later_disk
-    × (said ≡ [])) ⊎ RunsThrough seen moment leaves disk later_disk status image bytes p every target said
+    → (EndsBefore status × OnlyReads seen moment leaves disk later_disk × (said ≡ []))
+    ⊎ RunsThrough (disk_at seen moment leaves disk) (disk_at seen moment leaves later_disk) status run image said
 
 -- of the problem that the bytes of the source are, at the step that it stops at
-pub record RunsThroughTo {D : Type 0} (seen : D → Option (List ℕ)) (moment : D → ℕ) (leaves : D → ℕ → List ℕ → Type 0) (disk later_disk : D) (status : Status)
-    (image bytes : List ℕ) (to : Option ℕ) (every : ℕ) (said : List ℕ) : Type 0 where
+pub record RunsThroughTo (before after : DiskAt) (status : Status) (marks : Marks) (image bytes said : List ℕ) : Type 0 where
   pub problem : Problem
   pub accepted : IsProblemOf bytes problem
-  pub through : RunsThrough seen moment leaves disk later_disk status image bytes problem every (stop_of to problem) said
+  pub through : RunsThrough before after status
+      (record { bytes = bytes; problem = problem; every = marks.every; target = stop_of marks.to problem }) image said
 
-abbrev pub StopsRun : {D : Type 0} → (D → Option (List ℕ)) → (D → ℕ) → (D → ℕ → List ℕ → Type 0) → D → D → Status → List ℕ → Option ℕ → ℕ → List ℕ → Type 0
-StopsRun seen moment leaves disk later_disk status bytes to every said =
+abbrev pub StopsRun : {D : Type 0} → (D → Option (List ℕ)) → (D → ℕ) → (D → ℕ → List ℕ → Type 0) → D → D → Status → Marks → List ℕ → List ℕ → Type 0
+StopsRun seen moment leaves disk later_disk status marks bytes said =
     (image : List ℕ) → seen disk ≡ Some image
-    → (EndsBefore status × OnlyReads seen moment leaves disk later_disk
-    × (said ≡ [])) ⊎ RunsThroughTo seen moment leaves disk later_disk status image bytes to every said
+    → (EndsBefore status × OnlyReads seen moment leaves disk later_disk × (said ≡ []))
+    ⊎ RunsThroughTo (disk_at seen moment leaves disk) (disk_at seen moment leaves later_disk) status marks image bytes said
 
 -- By its row: a command that keeps no checkpoints only reads.
 abbrev pub StopsBy : {D : Type 0} → (D → Option (List ℕ)) → (D → ℕ) → (D → ℕ → List ℕ → Type 0) → D → D → Status → Option Marks → List ℕ → List ℕ → Type 0
 StopsBy seen moment leaves disk later_disk status None bytes said = OnlyReads seen moment leaves disk later_disk
-StopsBy seen moment leaves disk later_disk status (Some marks) bytes said = StopsRun seen moment leaves disk later_disk status bytes marks.to marks.every said
+StopsBy seen moment leaves disk later_disk status (Some marks) bytes said = StopsRun seen moment leaves disk later_disk status marks bytes said
 
 -- Words that are no command only read too.
 abbrev pub StopsTo : {D : Type 0} → (D → Option (List ℕ)) → (D → ℕ) → (D → ℕ → List ℕ → Type 0) → D → D → Status → Option Command → List ℕ → List ℕ → Type 0

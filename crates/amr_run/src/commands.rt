@@ -151,7 +151,7 @@ pub(crate) fn keep<R: Threads + Wait + Sync, S: Source, O: Sink, E: Sink, D: Dis
     ensures outcome { (bytes : List ℕ) × ((sent : List ℕ) × ((said : List ℕ) × WereLeft (S.left src.old) bytes
         × Grows O.holds out.old out.new sent × Grows E.holds err.old err.new said
         × RepliesBy (kept_row marks) (status_of result) bytes (D.seen disk.old) sent said
-        × StopsRun D.seen D.moment D.leaves disk.old disk.new (status_of result) bytes marks.to marks.every said)) }
+        × StopsRun D.seen D.moment D.leaves disk.old disk.new (status_of result) marks bytes said)) }
     ensures ended { OnOk result (IsAtEnd (S.left src.new)) }
     ensures taken { TakesAtMost 65537 (S.left src.old) (S.left src.new) }
     ensures refused { IfErr result (λ status. status ≢ Status.Done) }

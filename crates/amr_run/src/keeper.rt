@@ -1,6 +1,7 @@
 //! What a run that keeps checkpoints calls after each step.
 ghost use Rattle.std.specs.Prelude.{◌≡◌, ◌∷◌, [], List, ℕ, OnOk};
-ghost use Rattle.amr_checkpoint.specs.Kept.{Keeps, fault_in};
+ghost use Rattle.amr_checkpoint.specs.Kept.{Keeps, checkpoints_of, fault_in, run_of};
+ghost use Rattle.amr_checkpoint.specs.Outside.{outside_at};
 ghost use Rattle.amr_run.specs.Keeper.{HasProblem, MayKeep};
 
 use amr_checkpoint::{KeepFault, Keeping, keep_state};
@@ -22,8 +23,9 @@ pub(crate) struct Keeper<'p, 's, 'e, 'd, E: Sink, D: Disk> {
 
 impl<'p, 's, 'e, 'd, E: Sink, D: Disk> AfterStep for Keeper<'p, 's, 'e, 'd, E, D> {
     ghost use Rattle.std.specs.Prelude.{refl};
-    ghost use Rattle.std.proofs.Common.{◌∙◌, subst};
-    ghost use Rattle.amr_checkpoint.proofs.KeptStates.{keeps_none, keeps_on};
+    ghost use Rattle.std.proofs.Common.{◌∙◌, subst, sym};
+    ghost use Rattle.amr_checkpoint.proofs.KeptStates.{checkpoints_on, keeps_none, keeps_on};
+    ghost use Rattle.amr_checkpoint.specs.Contents.{Content};
     ghost use Rattle.amr_checkpoint.specs.declared.acknowledging.Keeping.{Keeping};
 
     type Fault = KeepFault;
@@ -34,14 +36,14 @@ impl<'p, 's, 'e, 'd, E: Sink, D: Disk> AfterStep for Keeper<'p, 's, 'e, 'd, E, D
     ghost answers = { λ a s answer b. (b.keeping ≡ a.keeping) × (b.store.ghost_name ≡ a.store.ghost_name) × (b.err.ghost_name ≡ a.err.ghost_name)
         × (b.disk.ghost_name ≡ a.disk.ghost_name)
         × ((bytes : List ℕ) → HasProblem a.store.now bytes → OnOk answer (HasProblem b.store.now bytes)
-        × Keeps D.seen D.moment D.leaves D.faults E.holds E.faults bytes a.keeping.problem.now a.keeping.every a.keeping.target
-        a.disk.now b.disk.now a.err.now b.err.now (s ∷ []) (fault_in answer)) };
+        × (let shown = outside_at D.seen D.moment D.leaves D.faults E.holds E.faults in Keeps (shown a.disk.now a.err.now) (shown b.disk.now b.err.now)
+        (checkpoints_of (run_of bytes a.keeping) (s ∷ [])) (fault_in answer))) };
 
     ghost made = { λ a states answer b. (b.keeping ≡ a.keeping) × (b.store.ghost_name ≡ a.store.ghost_name) × (b.err.ghost_name ≡ a.err.ghost_name)
         × (b.disk.ghost_name ≡ a.disk.ghost_name)
         × ((bytes : List ℕ) → HasProblem a.store.now bytes → OnOk answer (HasProblem b.store.now bytes)
-        × Keeps D.seen D.moment D.leaves D.faults E.holds E.faults bytes a.keeping.problem.now a.keeping.every a.keeping.target
-        a.disk.now b.disk.now a.err.now b.err.now states (fault_in answer)) };
+        × (let shown = outside_at D.seen D.moment D.leaves D.faults E.holds E.faults in Keeps (shown a.disk.now a.err.now) (shown b.disk.now b.err.now)
+        (checkpoints_of (run_of bytes a.keeping) states) (fault_in answer))) };
 
     ghost made_none = { λ a. (
       refl,
@@ -50,7 +52,7 @@ impl<'p, 's, 'e, 'd, E: Sink, D: Disk> AfterStep for Keeper<'p, 's, 'e, 'd, E, D
       refl,
       λ bytes has. (
         has,
-        keeps_none D.seen D.moment D.leaves D.faults E.holds E.faults bytes a.keeping.problem.now a.keeping.every a.keeping.target a.disk.now a.err.now,
+        keeps_none (outside_at D.seen D.moment D.leaves D.faults E.holds E.faults a.disk.now a.err.now),
       ),
     ) };
 
@@ -60,13 +62,17 @@ impl<'p, 's, 'e, 'd, E: Sink, D: Disk> AfterStep for Keeper<'p, 's, 'e, 'd, E, D
       one.2 ∙ so_far.2,
       one.3 ∙ so_far.3,
       λ bytes has.
+          let shown = outside_at D.seen D.moment D.leaves D.faults E.holds E.faults in
+          let kept = checkpoints_of (run_of bytes a.keeping) in
           let first = so_far.4 bytes has in
           let next = one.4 bytes first.0 in (
             next.0,
-            keeps_on D.seen D.moment D.leaves D.faults E.holds E.faults bytes a.keeping.problem.now a.keeping.every a.keeping.target
-                a.disk.now b.disk.now c.disk.now a.err.now b.err.now c.err.now states (s ∷ []) (fault_in answer) first.1
-                (subst (λ (k : Keeping). Keeps D.seen D.moment D.leaves D.faults E.holds E.faults bytes k.problem.now k.every k.target
-                b.disk.now c.disk.now b.err.now c.err.now (s ∷ []) (fault_in answer)) so_far.0 next.1),
+            subst (λ (all : List Content). Keeps (shown a.disk.now a.err.now) (shown c.disk.now c.err.now) all (fault_in answer))
+                (sym (checkpoints_on (run_of bytes a.keeping) states (s ∷ [])))
+                (keeps_on (shown a.disk.now a.err.now) (shown b.disk.now b.err.now) (shown c.disk.now c.err.now) (kept states) (kept (s ∷ []))
+                (fault_in answer) first.1
+                (subst (λ (k : Keeping). Keeps (shown b.disk.now b.err.now) (shown c.disk.now c.err.now) (checkpoints_of (run_of bytes k) (s ∷ []))
+                (fault_in answer)) so_far.0 next.1)),
           ),
     ) };
 

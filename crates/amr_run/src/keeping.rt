@@ -4,7 +4,8 @@ ghost use Rattle.amr_causes.specs.Bytes.{Grows};
 ghost use Rattle.amr_causes.specs.Causes.{Rose};
 ghost use Rattle.amr_checkpoint.specs.Checkpoints.{CanGoOn, IsMeshFor, IsResumedReady, IsStoreFor, content_resumed};
 ghost use Rattle.amr_checkpoint.specs.Contents.{Holds, state_from};
-ghost use Rattle.amr_checkpoint.specs.Kept.{Keeps, KeepsRun, fault_in};
+ghost use Rattle.amr_checkpoint.specs.Kept.{Keeps, checkpoints_of, fault_in, made_of, run_of};
+ghost use Rattle.amr_checkpoint.specs.Outside.{outside_at};
 ghost use Rattle.amr_def.specs.Facts.{IsSound};
 ghost use Rattle.amr_def.specs.Run.{finish, start};
 ghost use Rattle.amr_disk.specs.Image.{Only};
@@ -54,9 +55,10 @@ fn run_on<R: Threads + Wait + Sync, E: Sink, D: Disk, G: Gate + Sync>(
     requires gate { (worker task : ℕ) → worker < workers.now.count → G.admits workers.now.gate.now worker task }
     ensures whole { IfOk result (λ m. is_spent m ≡ false) }
     ensures value { IfOk result (λ m. state_of m ≡ finish keeping.now.problem.now (state_of mesh) keeping.now.target) }
-    ensures kept { Keeps D.seen D.moment D.leaves D.faults E.holds E.faults (problem_in store) keeping.now.problem.now keeping.now.every keeping.now.target
-        disk.old disk.new err.old err.new (states_after keeping.now.problem.now (state_of mesh) (keeping.now.target - (state_of mesh).step))
-        (fault_in result) }
+    ensures kept { let shown = outside_at D.seen D.moment D.leaves D.faults E.holds E.faults in
+        Keeps (shown disk.old err.old) (shown disk.new err.new)
+        (checkpoints_of (run_of (problem_in store) keeping.now)
+        (states_after keeping.now.problem.now (state_of mesh) (keeping.now.target - (state_of mesh).step))) (fault_in result) }
 {
     let crew = Crew {
         ranks: 1,
@@ -103,9 +105,10 @@ fn run_new<R: Threads + Wait + Sync, E: Sink, D: Disk, G: Gate + Sync>(
     requires gate { (worker task : ℕ) → worker < workers.now.count → G.admits workers.now.gate.now worker task }
     ensures whole { IfOk result (λ m. is_spent m ≡ false) }
     ensures value { IfOk result (λ m. state_of m ≡ finish keeping.now.problem.now (start keeping.now.problem.now) keeping.now.target) }
-    ensures kept { Keeps D.seen D.moment D.leaves D.faults E.holds E.faults (problem_in store) keeping.now.problem.now keeping.now.every keeping.now.target
-        disk.old disk.new err.old err.new
-        (start keeping.now.problem.now ∷ states_after keeping.now.problem.now (start keeping.now.problem.now) keeping.now.target) (fault_in result) }
+    ensures kept { let shown = outside_at D.seen D.moment D.leaves D.faults E.holds E.faults in
+        Keeps (shown disk.old err.old) (shown disk.new err.new)
+        (checkpoints_of (run_of (problem_in store) keeping.now)
+        (start keeping.now.problem.now ∷ states_after keeping.now.problem.now (start keeping.now.problem.now) keeping.now.target)) (fault_in result) }
 {
     let mesh = match start(keeping.alloc, keeping.problem) {
         Ok(mesh) => mesh,
@@ -139,8 +142,9 @@ fn run_from<R: Threads + Wait + Sync, E: Sink, D: Disk, G: Gate + Sync>(
     ensures whole { IfOk result (λ m. is_spent m ≡ false) }
     ensures value { IfOk result (λ m. state_of m
         ≡ finish keeping.now.problem.now (state_from keeping.now.problem.now (content_resumed bytes.now keeping.now.problem.now resumed)) keeping.now.target) }
-    ensures kept { KeepsRun D.seen D.moment D.leaves D.faults E.holds E.faults bytes.now keeping.now.problem.now keeping.now.every keeping.now.target
-        (content_resumed bytes.now keeping.now.problem.now resumed) disk.old disk.new err.old err.new (fault_in result) }
+    ensures kept { let shown = outside_at D.seen D.moment D.leaves D.faults E.holds E.faults in
+        Keeps (shown disk.old err.old) (shown disk.new err.new)
+        (made_of (run_of bytes.now keeping.now) (content_resumed bytes.now keeping.now.problem.now resumed)) (fault_in result) }
 {
     match resumed {
         Resumed::Nothing => match make_store(keeping.alloc, keeping.problem, bytes, disk) {
@@ -172,7 +176,7 @@ pub(crate) fn keep_run<R: Threads + Wait + Sync, E: Sink, D: Disk, G: Gate + Syn
     ensures sound { IfOk result (λ m. IsSound keeping.now.problem.now (state_of m)) }
     ensures outcome { (said : List ℕ) × Grows E.holds err.old err.new said
         × KeptReplies result bytes.now keeping.now.problem.now keeping.now.every keeping.now.target (D.seen disk.old) said
-        × StopsKept D.seen D.moment D.leaves disk.old disk.new (status_of result) bytes.now keeping.now.problem.now keeping.now.every keeping.now.target said }
+        × StopsKept D.seen D.moment D.leaves disk.old disk.new (status_of result) (run_of bytes.now keeping.now) said }
     ensures refused { IfErr result (λ status. (status ≢ Status.Done) × (status ≢ Status.ReadFault)) }
     ensures no_problem { (fault : _) → result ≢ Err (Status.Problem fault) }
     ensures disk_fault { result ≡ Err Status.DiskFault → Rose (D.faults disk.old) (D.faults disk.new) }

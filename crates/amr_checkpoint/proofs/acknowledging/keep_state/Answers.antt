@@ -1,23 +1,31 @@
-use Rattle.std.proofs.Common.{◌≡◌, ◌∷◌, [], true, false, ap, sym, ◌∙◌, subst}
+use Rattle.std.proofs.Common.{◌≡◌, ℕ, Bool, ◌+◌, ◌∷◌, [], true, false, ap, sym, ◌∙◌, subst, List, Some, None}
 use Rattle.amr_causes.specs.Bytes.{Grows}
 use Rattle.amr_io.specs.Short.{FallsShort}
 use Rattle.amr_patch.specs.Meshes.{state_of}
 use Rattle.amr_store.specs.Stands.{problem_in}
+use Rattle.amr_checkpoint.specs.declared.faults.KeepFault.TheVariants as fault
+use Rattle.amr_checkpoint.specs.Contents.{Content, At}
+use Rattle.amr_checkpoint.specs.Kept.{Keeps, checkpoints_of, run_of}
 use Rattle.amr_checkpoint.specs.Marks.{checkpoint_line, is_mark}
-use Rattle.amr_checkpoint.proofs.KeptStates.{keeps_refused, keeps_stood, keeps_unmarked, keeps_unsaid, keeps_untouched}
+use Rattle.amr_checkpoint.specs.Outside.{outside_at}
+use Rattle.amr_checkpoint.proofs.KeptStates.{keeps_none, keeps_refused, keeps_stood, keeps_unsaid, keeps_untouched, marked_state, unmarked_state}
 use Rattle.amr_checkpoint.proofs.acknowledging.keep_state.Goals as goal
+
+-- by what the test of a step answered
+answered : (every target step at : ℕ) (test is : Bool) → step ≡ at → test ≡ is_mark every target step → test ≡ is → is_mark every target at ≡ is
+answered every target step at test is same tests answer = ap (λ n. is_mark every target n) (sym same) ∙ sym tests ∙ answer
 
 pub returns-then-not-is_mark-clause-kept : goal.returns-then-not-is_mark-clause-kept
 returns-then-not-is_mark-clause-kept g c =
-    let every = c.args.keeping.now.every in
-    let target = c.args.keeping.now.target in
-    let no_mark : is_mark every target (state_of c.args.mesh.now).step ≡ false = ap (λ n. is_mark every target n) (sym c.step-step.ensures) ∙ sym c.is_mark.ensures ∙ c.if-not-is_mark.true in
-    keeps_unmarked g.D.Disk.seen g.D.Disk.moment g.D.Disk.leaves g.D.Disk.faults g.E.Sink.holds g.E.Sink.faults (problem_in c.args.store) c.args.keeping.now.problem.now every target c.args.disk.now c.args.err.now (state_of c.args.mesh.now) no_mark
+    let at = outside_at g.D.Disk.seen g.D.Disk.moment g.D.Disk.leaves g.D.Disk.faults g.E.Sink.holds g.E.Sink.faults c.args.disk.now c.args.err.now in
+    let run = run_of (problem_in c.args.store) c.args.keeping.now in
+    let no_mark : is_mark run.every run.target (state_of c.args.mesh.now).step ≡ false = answered run.every run.target c.step-step.result (state_of c.args.mesh.now).step c.is_mark.result false c.step-step.ensures c.is_mark.ensures c.if-not-is_mark.true in
+    subst (λ (all : List Content). Keeps at at all None) (sym (unmarked_state run (state_of c.args.mesh.now) no_mark)) (keeps_none at)
 
 pub returns-then-not-is_mark-clause-version : goal.returns-then-not-is_mark-clause-version
 returns-then-not-is_mark-clause-version g c mark =
     let no_mark : is_mark c.args.keeping.now.every c.args.keeping.now.target (state_of c.args.mesh.now).step ≡ false =
-    ap (λ n. is_mark c.args.keeping.now.every c.args.keeping.now.target n) (sym c.step-step.ensures) ∙ sym c.is_mark.ensures ∙ c.if-not-is_mark.true in
+    answered c.args.keeping.now.every c.args.keeping.now.target c.step-step.result (state_of c.args.mesh.now).step c.is_mark.result false c.step-step.ensures c.is_mark.ensures c.if-not-is_mark.true in
     let clash : true ≡ false = sym mark ∙ no_mark in
     absurd (cc)
 
@@ -26,36 +34,42 @@ returns-in-Ok-put_checkpoint_line-clause-version g c mark = c.in-Ok.ensures.vers
 
 pub returns-in-Ok-put_checkpoint_line-clause-kept : goal.returns-in-Ok-put_checkpoint_line-clause-kept
 returns-in-Ok-put_checkpoint_line-clause-kept g c =
-    let every = c.args.keeping.now.every in
-    let target = c.args.keeping.now.target in
-    let mark : is_mark every target (state_of c.args.mesh.now).step ≡ true = ap (λ n. is_mark every target n) (sym c.step-step.ensures) ∙ sym c.is_mark.ensures ∙ c.if-not-is_mark.false in
+    let at = outside_at g.D.Disk.seen g.D.Disk.moment g.D.Disk.leaves g.D.Disk.faults g.E.Sink.holds g.E.Sink.faults in
+    let run = run_of (problem_in c.args.store) c.args.keeping.now in
+    let s = state_of c.args.mesh.now in
+    let mark : is_mark run.every run.target s.step ≡ true = answered run.every run.target c.step-step.result s.step c.is_mark.result true c.step-step.ensures c.is_mark.ensures c.if-not-is_mark.false in
     let whole = subst (λ n. Grows g.E.Sink.holds c.args.err.now c.put_checkpoint_line.new.err (checkpoint_line n)) c.step-step.ensures c.in-Ok-put_checkpoint_line.ensures.whole in
-    keeps_stood g.D.Disk.seen g.D.Disk.moment g.D.Disk.leaves g.D.Disk.faults g.E.Sink.holds g.E.Sink.faults (problem_in c.args.store) c.args.keeping.now.problem.now every target c.args.disk.now c.put_checkpoint.new.disk c.args.err.now c.put_checkpoint_line.new.err (state_of c.args.mesh.now)
-    mark whole c.in-Ok-put_checkpoint_line.ensures.no_fault (c.in-Ok.ensures.no_disk_fault (λ is. absurd (cc))) c.in-Ok.ensures.told (c.in-Ok.ensures.ready.settled c.in-Ok.ensures.store.store_is.unshut) c.in-Ok.ensures.holds
-    c.in-Ok.ensures.made (λ image content. c.in-Ok.ensures.stops image content)
+    subst (λ (all : List Content). Keeps (at c.args.disk.now c.args.err.now) (at c.put_checkpoint.new.disk c.put_checkpoint_line.new.err) all None) (sym (marked_state run s mark))
+    (keeps_stood g.D.Disk.seen g.D.Disk.moment g.D.Disk.leaves g.D.Disk.faults g.E.Sink.holds g.E.Sink.faults c.args.disk.now c.put_checkpoint.new.disk c.args.err.now c.put_checkpoint_line.new.err (At run.bytes run.problem s (s.step + 1))
+    whole c.in-Ok-put_checkpoint_line.ensures.no_fault (c.in-Ok.ensures.no_disk_fault (λ is. absurd (cc))) c.in-Ok.ensures.told (c.in-Ok.ensures.ready.settled c.in-Ok.ensures.store.store_is.unshut) c.in-Ok.ensures.holds
+    c.in-Ok.ensures.made (λ image content. c.in-Ok.ensures.stops image content))
 
 pub returns-in-Err-clause-kept : goal.returns-in-Err-clause-kept
 returns-in-Err-clause-kept g c =
-    let every = c.args.keeping.now.every in
-    let target = c.args.keeping.now.target in
-    let mark : is_mark every target (state_of c.args.mesh.now).step ≡ true = ap (λ n. is_mark every target n) (sym c.step-step.ensures) ∙ sym c.is_mark.ensures ∙ c.if-not-is_mark.false in
+    let at = outside_at g.D.Disk.seen g.D.Disk.moment g.D.Disk.leaves g.D.Disk.faults g.E.Sink.holds g.E.Sink.faults in
+    let run = run_of (problem_in c.args.store) c.args.keeping.now in
+    let s = state_of c.args.mesh.now in
+    let mark : is_mark run.every run.target s.step ≡ true = answered run.every run.target c.step-step.result s.step c.is_mark.result true c.step-step.ensures c.is_mark.ensures c.if-not-is_mark.false in
     let short = subst (λ n. FallsShort g.E.Sink.holds c.args.err.now c.put_checkpoint_line.new.err (checkpoint_line n)) c.step-step.ensures c.in-Err.ensures.short in
-    keeps_unsaid g.D.Disk.seen g.D.Disk.moment g.D.Disk.leaves g.D.Disk.faults g.E.Sink.holds g.E.Sink.faults (problem_in c.args.store) c.args.keeping.now.problem.now every target c.args.disk.now c.put_checkpoint.new.disk c.args.err.now c.put_checkpoint_line.new.err (state_of c.args.mesh.now)
-    mark short c.in-Err.ensures.cause.failed (c.in-Ok.ensures.no_disk_fault (λ is. absurd (cc))) c.in-Ok.ensures.told (c.in-Ok.ensures.ready.settled c.in-Ok.ensures.store.store_is.unshut) c.in-Ok.ensures.holds
-    c.in-Ok.ensures.made (λ image content. c.in-Ok.ensures.stops image content)
+    subst (λ (all : List Content). Keeps (at c.args.disk.now c.args.err.now) (at c.put_checkpoint.new.disk c.put_checkpoint_line.new.err) all (Some fault.WriteFault)) (sym (marked_state run s mark))
+    (keeps_unsaid g.D.Disk.seen g.D.Disk.moment g.D.Disk.leaves g.D.Disk.faults g.E.Sink.holds g.E.Sink.faults c.args.disk.now c.put_checkpoint.new.disk c.args.err.now c.put_checkpoint_line.new.err (At run.bytes run.problem s (s.step + 1))
+    short c.in-Err.ensures.cause.failed (c.in-Ok.ensures.no_disk_fault (λ is. absurd (cc))) c.in-Ok.ensures.told (c.in-Ok.ensures.ready.settled c.in-Ok.ensures.store.store_is.unshut) c.in-Ok.ensures.holds
+    c.in-Ok.ensures.made (λ image content. c.in-Ok.ensures.stops image content))
 
 pub returns-in-Err-DiskFault-clause-kept : goal.returns-in-Err-DiskFault-clause-kept
 returns-in-Err-DiskFault-clause-kept g c =
-    let every = c.args.keeping.now.every in
-    let target = c.args.keeping.now.target in
-    let mark : is_mark every target (state_of c.args.mesh.now).step ≡ true = ap (λ n. is_mark every target n) (sym c.step-step.ensures) ∙ sym c.is_mark.ensures ∙ c.if-not-is_mark.false in
-    keeps_refused g.D.Disk.seen g.D.Disk.moment g.D.Disk.leaves g.D.Disk.faults g.E.Sink.holds g.E.Sink.faults (problem_in c.args.store) c.args.keeping.now.problem.now every target c.args.disk.now c.put_checkpoint.new.disk c.args.err.now (state_of c.args.mesh.now)
-    mark c.in-Err-DiskFault.ensures.later (c.in-Err-DiskFault.ensures.disk_fault (cc)) (λ image content. c.in-Err-DiskFault.ensures.stops image content)
+    let at = outside_at g.D.Disk.seen g.D.Disk.moment g.D.Disk.leaves g.D.Disk.faults g.E.Sink.holds g.E.Sink.faults in
+    let run = run_of (problem_in c.args.store) c.args.keeping.now in
+    let s = state_of c.args.mesh.now in
+    let mark : is_mark run.every run.target s.step ≡ true = answered run.every run.target c.step-step.result s.step c.is_mark.result true c.step-step.ensures c.is_mark.ensures c.if-not-is_mark.false in
+    subst (λ (all : List Content). Keeps (at c.args.disk.now c.args.err.now) (at c.put_checkpoint.new.disk c.args.err.now) all (Some fault.DiskFault)) (sym (marked_state run s mark))
+    (keeps_refused g.D.Disk.seen g.D.Disk.moment g.D.Disk.leaves g.D.Disk.faults g.E.Sink.holds g.E.Sink.faults c.args.disk.now c.put_checkpoint.new.disk c.args.err.now (At run.bytes run.problem s (s.step + 1))
+    c.in-Err-DiskFault.ensures.later (c.in-Err-DiskFault.ensures.disk_fault (cc)) (λ image content. c.in-Err-DiskFault.ensures.stops image content))
 
 pub returns-in-Err-NoMemory-clause-kept : goal.returns-in-Err-NoMemory-clause-kept
 returns-in-Err-NoMemory-clause-kept g c =
-    keeps_untouched g.D.Disk.seen g.D.Disk.moment g.D.Disk.leaves g.D.Disk.faults g.E.Sink.holds g.E.Sink.faults (problem_in c.args.store) c.args.keeping.now.problem.now c.args.keeping.now.every c.args.keeping.now.target c.args.disk.now c.put_checkpoint.new.disk c.args.err.now (state_of c.args.mesh.now ∷ [])
-    (c.in-Err-NoMemory.ensures.memory (cc))
+    keeps_untouched g.D.Disk.seen g.D.Disk.moment g.D.Disk.leaves g.D.Disk.faults g.E.Sink.holds g.E.Sink.faults c.args.disk.now c.put_checkpoint.new.disk c.args.err.now
+    (checkpoints_of (run_of (problem_in c.args.store) c.args.keeping.now) (state_of c.args.mesh.now ∷ [])) (c.in-Err-NoMemory.ensures.memory (cc))
 
 pub returns-in-Err-NoMemory-clause-memory : goal.returns-in-Err-NoMemory-clause-memory
 returns-in-Err-NoMemory-clause-memory g c is = c.in-Err-NoMemory.ensures.memory (cc)

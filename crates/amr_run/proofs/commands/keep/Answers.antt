@@ -21,7 +21,7 @@ returns-in_err-given-clause-outcome g c =
           grows_none g.O.Sink.holds c.args.out.now,
           grows_none g.E.Sink.holds c.args.err.now,
           refused_by (kept_row c.args.marks) c.from_residual.result _ read.0 (g.D.Disk.seen c.args.disk.now) [] [] c.from_residual.ensures.1 (unread (kept_row c.args.marks) _ read.0 (g.D.Disk.seen c.args.disk.now) tt (λ fault h. h) read.2),
-          stops_by g.D.Disk.seen g.D.Disk.moment g.D.Disk.leaves c.args.disk.now c.args.disk.now c.from_residual.result _ read.0 c.args.marks.to c.args.marks.every [] c.from_residual.ensures.1
+          stops_by g.D.Disk.seen g.D.Disk.moment g.D.Disk.leaves c.args.disk.now c.args.disk.now c.from_residual.result _ read.0 c.args.marks [] c.from_residual.ensures.1
               (λ image told. inl (unread_before _ read.0 read.2, only_reads_none g.D.Disk.seen g.D.Disk.moment g.D.Disk.leaves c.args.disk.now, refl)),
         ),
       ),
@@ -50,7 +50,7 @@ returns-in_err-mesh-clause-outcome g c =
           grows_none g.O.Sink.holds c.args.out.now,
           run.1,
           refused_by (kept_row c.args.marks) c.from_residual-in_err-mesh.result _ read.0 (g.D.Disk.seen c.args.disk.now) [] run.0 c.from_residual-in_err-mesh.ensures.1 (kept_replies _ c.deref.result.now read.0 c.args.marks p c.stop_of.result (g.D.Disk.seen c.args.disk.now) run.0 same c.stop_of.ensures read.2.1 run.2),
-          stops_by g.D.Disk.seen g.D.Disk.moment g.D.Disk.leaves c.args.disk.now c.keep_run.new.disk c.from_residual-in_err-mesh.result _ read.0 c.args.marks.to c.args.marks.every run.0 c.from_residual-in_err-mesh.ensures.1 (stops_run g.D.Disk.seen g.D.Disk.moment g.D.Disk.leaves c.args.disk.now c.keep_run.new.disk _ _ c.deref.result.now read.0 c.args.marks.to p c.args.marks.every c.stop_of.result run.0 same c.stop_of.ensures read.2.1 run.3 (λ h. h) (λ ended h. h)),
+          stops_by g.D.Disk.seen g.D.Disk.moment g.D.Disk.leaves c.args.disk.now c.keep_run.new.disk c.from_residual-in_err-mesh.result _ read.0 c.args.marks run.0 c.from_residual-in_err-mesh.ensures.1 (stops_run g.D.Disk.seen g.D.Disk.moment g.D.Disk.leaves c.args.disk.now c.keep_run.new.disk _ _ c.deref.result.now read.0 c.args.marks p c.stop_of.result run.0 same c.stop_of.ensures read.2.1 run.3 (λ h. h) (λ ended h. h)),
         ),
       ),
     )
@@ -73,7 +73,7 @@ returns-in_err-plot_in_threads-clause-outcome g c =
           part.2,
           run.1,
           refused_by (kept_row c.args.marks) c.from_residual-in_err-plot_in_threads.result WriteFault read.0 (g.D.Disk.seen c.args.disk.now) part.0 run.0 c.from_residual-in_err-plot_in_threads.ensures.1 (record { whole = whole; lines = run.0; answer = answer; cut = inl (part.1, refl) }),
-          stops_by g.D.Disk.seen g.D.Disk.moment g.D.Disk.leaves c.args.disk.now c.keep_run.new.disk c.from_residual-in_err-plot_in_threads.result WriteFault read.0 c.args.marks.to c.args.marks.every run.0 c.from_residual-in_err-plot_in_threads.ensures.1 (stops_run g.D.Disk.seen g.D.Disk.moment g.D.Disk.leaves c.args.disk.now c.keep_run.new.disk Done WriteFault c.deref.result.now read.0 c.args.marks.to p c.args.marks.every c.stop_of.result run.0 same c.stop_of.ensures read.2.1 run.3 (λ h. absurd h) plot_unwritten),
+          stops_by g.D.Disk.seen g.D.Disk.moment g.D.Disk.leaves c.args.disk.now c.keep_run.new.disk c.from_residual-in_err-plot_in_threads.result WriteFault read.0 c.args.marks run.0 c.from_residual-in_err-plot_in_threads.ensures.1 (stops_run g.D.Disk.seen g.D.Disk.moment g.D.Disk.leaves c.args.disk.now c.keep_run.new.disk Done WriteFault c.deref.result.now read.0 c.args.marks p c.stop_of.result run.0 same c.stop_of.ensures read.2.1 run.3 (λ h. absurd h) plot_unwritten),
         ),
       ),
     )
@@ -94,7 +94,7 @@ returns-clause-outcome g c =
           c.in_ok-plot_in_threads.ensures.whole,
           run.1,
           plot_of_kept c.deref.result.now read.0 c.args.marks.to p c.args.marks.every c.stop_of.result (g.D.Disk.seen c.args.disk.now) whole run.0 same c.stop_of.ensures read.2.1 run.2,
-          stops_run g.D.Disk.seen g.D.Disk.moment g.D.Disk.leaves c.args.disk.now c.keep_run.new.disk Done Done c.deref.result.now read.0 c.args.marks.to p c.args.marks.every c.stop_of.result run.0 same c.stop_of.ensures read.2.1 run.3 (λ h. h) (λ ended h. h),
+          stops_run g.D.Disk.seen g.D.Disk.moment g.D.Disk.leaves c.args.disk.now c.keep_run.new.disk Done Done c.deref.result.now read.0 c.args.marks p c.stop_of.result run.0 same c.stop_of.ensures read.2.1 run.3 (λ h. h) (λ ended h. h),
         ),
       ),
     )

@@ -1,5 +1,6 @@
 use Rattle.std.proofs.Common.{◌∷◌, ap, arith}
-use Rattle.amr_checkpoint.specs.Kept.{fault_in}
+use Rattle.amr_checkpoint.specs.Kept.{checkpoints_of, fault_in, run_of}
+use Rattle.amr_checkpoint.specs.Outside.{outside_at}
 use Rattle.amr_checkpoint.proofs.KeptStates.{keeps_nothing}
 use Rattle.amr_checkpoint.proofs.Stepping.{start_step}
 use Rattle.amr_def.specs.Run.{start}
@@ -12,8 +13,9 @@ use Rattle.amr_run.proofs.keeping.run_new.Goals as goal
 
 pub returns-in-Err-clause-kept : goal.returns-in-Err-clause-kept
 returns-in-Err-clause-kept g c =
-    let p = c.args.keeping.now.problem.now in
-    keeps_nothing g.D.Disk.seen g.D.Disk.moment g.D.Disk.leaves g.D.Disk.faults g.E.Sink.holds g.E.Sink.faults (problem_in c.args.store) c.args.keeping.now.problem.now c.args.keeping.now.every c.args.keeping.now.target c.args.disk.now c.args.err.now (start p ∷ states_after p (start p) c.args.keeping.now.target)
+    let run = run_of (problem_in c.args.store) c.args.keeping.now in
+    let p = run.problem in
+    keeps_nothing (outside_at g.D.Disk.seen g.D.Disk.moment g.D.Disk.leaves g.D.Disk.faults g.E.Sink.holds g.E.Sink.faults c.args.disk.now c.args.err.now) (checkpoints_of run (start p ∷ states_after p (start p) run.target))
 
 pub run_on-requires-clause-ahead : goal.run_on-requires-clause-ahead
 run_on-requires-clause-ahead g c κs within =
@@ -23,10 +25,16 @@ run_on-requires-clause-ahead g c κs within =
 
 pub returns-in-Ok-keep_state-clause-kept : goal.returns-in-Ok-keep_state-clause-kept
 returns-in-Ok-keep_state-clause-kept g c =
-    let s = state_of c.in-Ok.mesh in
-    let rest = keeps_of g.D.Disk.seen g.D.Disk.moment g.D.Disk.leaves g.D.Disk.faults g.E.Sink.holds g.E.Sink.faults (problem_in c.args.store) c.args.keeping.now.problem.now c.args.keeping.now.every c.args.keeping.now.target (problem_in c.in-Ok-keep_state.kept) c.keep_state.new.disk c.run_on.new.disk c.keep_state.new.err c.run_on.new.err _ (fault_in c.run_on.result) c.in-Ok-keep_state.ensures.problem c.run_on.ensures.kept in
-    keeps_new g.D.Disk.seen g.D.Disk.moment g.D.Disk.leaves g.D.Disk.faults g.E.Sink.holds g.E.Sink.faults (problem_in c.args.store) c.args.keeping.now.problem.now c.args.keeping.now.every c.args.keeping.now.target c.args.disk.now c.keep_state.new.disk c.run_on.new.disk c.args.err.now c.keep_state.new.err c.run_on.new.err s (fault_in c.run_on.result) c.in-Ok.ensures.value c.in-Ok-keep_state.ensures.kept rest
+    let at = outside_at g.D.Disk.seen g.D.Disk.moment g.D.Disk.leaves g.D.Disk.faults g.E.Sink.holds g.E.Sink.faults in
+    let run = run_of (problem_in c.args.store) c.args.keeping.now in
+    let before = at c.args.disk.now c.args.err.now in
+    let middle = at c.keep_state.new.disk c.keep_state.new.err in
+    let after = at c.run_on.new.disk c.run_on.new.err in
+    let rest = keeps_of middle after run (problem_in c.in-Ok-keep_state.kept) _ (fault_in c.run_on.result) c.in-Ok-keep_state.ensures.problem c.run_on.ensures.kept in
+    keeps_new before after run middle (state_of c.in-Ok.mesh) (fault_in c.run_on.result) c.in-Ok.ensures.value c.in-Ok-keep_state.ensures.kept rest
 
 pub returns-in-Err-keep_state-clause-kept : goal.returns-in-Err-keep_state-clause-kept
 returns-in-Err-keep_state-clause-kept g c =
-    keeps_start g.D.Disk.seen g.D.Disk.moment g.D.Disk.leaves g.D.Disk.faults g.E.Sink.holds g.E.Sink.faults (problem_in c.args.store) c.args.keeping.now.problem.now c.args.keeping.now.every c.args.keeping.now.target c.args.disk.now c.keep_state.new.disk c.args.err.now c.keep_state.new.err (state_of c.in-Ok.mesh) c.in-Err-keep_state.fault c.in-Ok.ensures.value c.in-Err-keep_state.ensures.kept
+    let at = outside_at g.D.Disk.seen g.D.Disk.moment g.D.Disk.leaves g.D.Disk.faults g.E.Sink.holds g.E.Sink.faults in
+    keeps_start (at c.args.disk.now c.args.err.now) (at c.keep_state.new.disk c.keep_state.new.err) (run_of (problem_in c.args.store) c.args.keeping.now) (state_of c.in-Ok.mesh) c.in-Err-keep_state.fault
+    c.in-Ok.ensures.value c.in-Err-keep_state.ensures.kept

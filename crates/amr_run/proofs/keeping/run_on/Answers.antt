@@ -1,5 +1,7 @@
 use Rattle.std.proofs.Common.{◌≤◌, ◌+◌, refl, sym, arith}
 use Rattle.std.proofs.lemmas.Option.{IfSome_then}
+use Rattle.amr_checkpoint.specs.Kept.{run_of}
+use Rattle.amr_checkpoint.specs.Outside.{outside_at}
 use Rattle.amr_drive.proofs.Finishes.{finish_sound}
 use Rattle.amr_drive.proofs.Kept.{coarsenable}
 use Rattle.amr_patch.specs.Meshes.{state_of}
@@ -28,23 +30,31 @@ drive-requires-clause-ready g c κs within k more upto =
 
 pub returns-in-Ok-clause-kept : goal.returns-in-Ok-clause-kept
 returns-in-Ok-clause-kept g c =
+    let at = outside_at g.D.Disk.seen g.D.Disk.moment g.D.Disk.leaves g.D.Disk.faults g.E.Sink.holds g.E.Sink.faults in
     let made = c.in-Ok.ensures.made in
     let kept = made.4 (problem_in c.args.store) refl in
-    keeps_back g.D.Disk.seen g.D.Disk.moment g.D.Disk.leaves g.D.Disk.faults g.E.Sink.holds g.E.Sink.faults (problem_in c.args.store) c.args.keeping.now.problem.now c.args.keeping.now.every c.args.keeping.now.target c.args.disk.now c.drive.new.after.disk.now _ c.args.err.now c.drive.new.after.err.now _ _ _ (c.disk-1.given.1 (sym made.3)) (c.err-1.given.1 (sym made.2)) kept.1
+    keeps_back g.D.Disk.seen g.D.Disk.moment g.D.Disk.leaves g.D.Disk.faults g.E.Sink.holds g.E.Sink.faults (at c.args.disk.now c.args.err.now) c.drive.new.after.disk.now _ c.drive.new.after.err.now _ _ _
+    (c.disk-1.given.1 (sym made.3)) (c.err-1.given.1 (sym made.2)) kept.1
 
 pub returns-in-Err-After-clause-kept : goal.returns-in-Err-After-clause-kept
 returns-in-Err-After-clause-kept g c =
+    let at = outside_at g.D.Disk.seen g.D.Disk.moment g.D.Disk.leaves g.D.Disk.faults g.E.Sink.holds g.E.Sink.faults in
+    let before = at c.args.disk.now c.args.err.now in
     let said = c.in-Err-After.ensures.refused c.in-Err-After.fault (cc) in
     let made = said.5 in
     let kept = made.4 (problem_in c.args.store) refl in
-    let part = keeps_part g.D.Disk.seen g.D.Disk.moment g.D.Disk.leaves g.D.Disk.faults g.E.Sink.holds g.E.Sink.faults (problem_in c.args.store) c.args.keeping.now.problem.now c.args.keeping.now.every c.args.keeping.now.target c.args.disk.now c.drive.new.after.disk.now c.args.err.now c.drive.new.after.err.now (state_of c.args.mesh) said.0 c.in-Err-After.fault said.2 kept.1 in
-    keeps_back g.D.Disk.seen g.D.Disk.moment g.D.Disk.leaves g.D.Disk.faults g.E.Sink.holds g.E.Sink.faults (problem_in c.args.store) c.args.keeping.now.problem.now c.args.keeping.now.every c.args.keeping.now.target c.args.disk.now c.drive.new.after.disk.now _ c.args.err.now c.drive.new.after.err.now _ _ _ (c.disk-1.given.1 (sym made.3)) (c.err-1.given.1 (sym made.2)) part
+    let part = keeps_part before (at c.drive.new.after.disk.now c.drive.new.after.err.now) (run_of (problem_in c.args.store) c.args.keeping.now) (state_of c.args.mesh) said.0 c.in-Err-After.fault said.2 kept.1 in
+    keeps_back g.D.Disk.seen g.D.Disk.moment g.D.Disk.leaves g.D.Disk.faults g.E.Sink.holds g.E.Sink.faults before c.drive.new.after.disk.now _ c.drive.new.after.err.now _ _ _
+    (c.disk-1.given.1 (sym made.3)) (c.err-1.given.1 (sym made.2)) part
 
 pub returns-clause-kept : goal.returns-clause-kept
 returns-clause-kept g c =
+    let at = outside_at g.D.Disk.seen g.D.Disk.moment g.D.Disk.leaves g.D.Disk.faults g.E.Sink.holds g.E.Sink.faults in
+    let before = at c.args.disk.now c.args.err.now in
     let said = c.in-Err-NoMemory.ensures.memory (cc) in
     let made = said.3 in
     let kept = made.4 (problem_in c.args.store) refl in
     let within : (state_of c.args.mesh).step + said.0 ≤ c.args.keeping.now.target = omega (arith, said.1) in
-    let part = keeps_no_more g.D.Disk.seen g.D.Disk.moment g.D.Disk.leaves g.D.Disk.faults g.E.Sink.holds g.E.Sink.faults (problem_in c.args.store) c.args.keeping.now.problem.now c.args.keeping.now.every c.args.keeping.now.target c.args.disk.now c.drive.new.after.disk.now c.args.err.now c.drive.new.after.err.now (state_of c.args.mesh) said.0 within kept.1 in
-    keeps_back g.D.Disk.seen g.D.Disk.moment g.D.Disk.leaves g.D.Disk.faults g.E.Sink.holds g.E.Sink.faults (problem_in c.args.store) c.args.keeping.now.problem.now c.args.keeping.now.every c.args.keeping.now.target c.args.disk.now c.drive.new.after.disk.now _ c.args.err.now c.drive.new.after.err.now _ _ _ (c.disk-1.given.1 (sym made.3)) (c.err-1.given.1 (sym made.2)) part
+    let part = keeps_no_more before (at c.drive.new.after.disk.now c.drive.new.after.err.now) (run_of (problem_in c.args.store) c.args.keeping.now) (state_of c.args.mesh) said.0 within kept.1 in
+    keeps_back g.D.Disk.seen g.D.Disk.moment g.D.Disk.leaves g.D.Disk.faults g.E.Sink.holds g.E.Sink.faults before c.drive.new.after.disk.now _ c.drive.new.after.err.now _ _ _
+    (c.disk-1.given.1 (sym made.3)) (c.err-1.given.1 (sym made.2)) part
