@@ -1,5 +1,6 @@
+mod Answering
 mod Fronts
 mod JobsRead
 mod LotTasks
-mod OneReading
+pub mod OneReading
 mod Placing

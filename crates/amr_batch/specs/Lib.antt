@@ -1,3 +1,4 @@
+pub mod Answer
 pub mod Batch
 pub mod Laws
 pub mod Replies

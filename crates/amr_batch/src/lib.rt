@@ -2,16 +2,19 @@
 //!
 //! - [`jobs`]: where the jobs of a batch stand in its bytes.
 //! - [`run_all`]: the reply of each job, by what solves one ([`Solve`]).
+//! - [`put_answer`]: the replies ([`Reply`]) in order, and the end.
 //!
-//! The definitions stand in `specs/Batch`, and the laws in `specs/Laws`: each is what a call with an empty body ensures.
+//! The definitions stand in `specs/Batch` and `specs/Answer`, and the laws in `specs/Laws`: each is what a call with an empty body ensures.
 #![tactic(auto)]
 
 ghost use Rattle.amr_batch.specs.Laws.{HasOnePlace, HasOneReading, IsOneOrTheOther, RepliesStandAlone};
 
+mod answer;
 mod numeral;
 mod reading;
 mod solving;
 
+pub use answer::{Reply, put_answer};
 pub use reading::{JobsFault, Span, jobs};
 pub use solving::{Solve, run_all};
 

@@ -190,7 +190,7 @@ fn lots_of<X: Drop>(alloc: Global, shares: Vec<Vec<u32>>) -> Result<Vec<Lot<X>>,
 
 /// Solves the jobs of a batch: one reply for each span, in order, each one that `solve` answers to the bytes of that span alone.
 /// The jobs are shared out among at most `workers` threads, 1 to 64, in advance; each job is solved by one of them. The spans lie in
-/// the bytes. `NoMemory` is the only refusal, and the batch's.
+/// the bytes, and there are at most as many as a batch has jobs. `NoMemory` is the only refusal, and the batch's.
 pub fn run_all<R: Threads + Wait + Sync, S: Solve + Sync>(
     rt: &R,
     alloc: Global,
@@ -201,13 +201,11 @@ pub fn run_all<R: Threads + Wait + Sync, S: Solve + Sync>(
 ) -> Result<Vec<S::Reply>, NoMemory>
     requires ready { S.ready solve.now }
     requires inside { All (IsSpanOf bytes.now) spans.now }
+    requires few { length spans.now ≤ 256 }
     requires some { 1 ≤ workers }
     requires crew { workers ≤ 64 }
     ensures { IfOk result (λ replies. AreReplies (S.answers solve.now) bytes.now spans.now replies.items) }
 {
-    if spans.len() > u32::MAX as usize {
-        return Err(NoMemory);
-    }
     let areas = vec![in alloc; 1u64; spans.len()]?;
     let shares = share(alloc, &areas, workers)?;
     let mut lots = lots_of(alloc, shares)?;
