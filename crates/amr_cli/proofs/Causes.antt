@@ -1,5 +1,5 @@
 -- Words that begin with a command's name, ask for no help and have no fault are a command.
-use Rattle.std.proofs.Common.{◌≡◌, ◌∙◌, ℕ, ◌⊎◌, inl, inr, Bool, true, false, ◌||◌, not, List, [], ◌∷◌, ◌++◌, Option, Some, None, is_some, option_map, option_and_then, codes, refl, sym, ap, subst, append_assoc, append-nil}
+use Rattle.std.proofs.Common.{◌≡◌, ◌∙◌, ◌⊎◌, inl, inr, Bool, true, false, ◌||◌, not, List, [], ◌∷◌, ◌++◌, Option, Some, None, is_some, option_map, option_and_then, codes, refl, sym, ap, subst, append_assoc, append-nil}
 use Rattle.std.specs.Prelude.{find, unwrap_or}
 use Rattle.std.specs.List.{fold, list_any}
 use Rattle.std.specs.Str.{bytes_eq}
@@ -16,10 +16,14 @@ use Rattle.clap.proofs.ValueTestLemmas.{accepts-Accepts}
 use Rattle.amr_cli.specs.Table.{NumberRow, keep, number, size, to, workers}
 use Rattle.amr_cli.specs.Program.{program_app}
 use Rattle.amr_cli.specs.Numbers.{in_range, number_of}
-use Rattle.amr_cli.specs.Words.{command_from, command_of, may_be_command, is_command_name, is_help, option_of, or_one, place_of, run_by, run_of, trial_of, workers_of}
-use Rattle.amr_cli.specs.declared.command.Command.TheVariants.{Trial}
+use Rattle.amr_cli.specs.Words.{batch_of, command_from, command_of, may_be_command, is_command_name, is_help, option_of, or_one, place_of, run_by, run_of, trial_of, workers_of}
+use Rattle.amr_cli.specs.declared.command.Command.TheVariants.{Batch, Trial}
 use Rattle.amr_cli.proofs.Numerals.{taken_is_read}
 use Rattle.amr_cli.proofs.Walks.{Every, IsPlainRule, RowsFit, checks, first_none, first_passes, given_first, rows_fit, second_none}
+
+some_map : {A B : Type 0} (f : A → B) (o : Option A) → is_some o ≡ true → is_some (option_map f o) ≡ true
+some_map f None h = h
+some_map f (Some x) h = refl
 
 -- ---- numbers in rows
 
@@ -33,13 +37,9 @@ module _ (row : NumberRow) (c : List Rule) (a : Rule) (is : arg_by_id c row.name
   option_read : (rows : List Row) → RowsFit c rows → is_some (option_of row rows) ≡ true
   option_read rows fit = found (first_of row.name rows) refl
     where
-      some_map : (o : Option ℕ) → is_some o ≡ true → is_some (option_map (λ n. Some n) o) ≡ true
-      some_map None h = h
-      some_map (Some n) h = refl
-
       found : (o : Option Text) → first_of row.name rows ≡ o → is_some (option_of row rows) ≡ true
       found None there = rw there refl
-      found (Some t) there = rw there (some_map (option_and_then (in_range row.low row.high) (number_of t)) (read_here rows t fit there))
+      found (Some t) there = rw there (some_map (λ n. Some n) (option_and_then (in_range row.low row.high) (number_of t)) (read_here rows t fit there))
 
   place_read : (rows : List Row) → RowsFit c rows → is_given row.name rows ≡ true → is_some (place_of row rows) ≡ true
   place_read rows fit given = found (first_of row.name rows) refl (given_first c row.name a is rows fit given)
@@ -55,6 +55,9 @@ run_shape = unwrap_or (find (λ (s : Shape). answers_to (codes "run") (label_of 
 
 abbrev trial_shape : Shape
 trial_shape = unwrap_or (find (λ (s : Shape). answers_to (codes "trial") (label_of s)) (built program_app).subs) (new_shape [])
+
+abbrev batch_shape : Shape
+batch_shape = unwrap_or (find (λ (s : Shape). answers_to (codes "batch") (label_of s)) (built program_app).subs) (new_shape [])
 
 run_plain : Every (IsPlainRule run_shape.rules) run_shape.rules
 run_plain = (
@@ -80,22 +83,24 @@ trial_plain = (
   ),
 )
 
+batch_plain : Every (IsPlainRule batch_shape.rules) batch_shape.rules
+batch_plain = (
+  record { own = refl; action = inl refl; some = λ _. refl; no_default = refl },
+  (record { own = refl; action = inr refl; some = λ e. absurd (cc); no_default = refl }, tt),
+)
+
 all_three : {A B C D : Type 0} (f : A → B → C → D) (a : Option A) (b : Option B) (c : Option C) → is_some a ≡ true → is_some b ≡ true → is_some c ≡ true → is_some (option_and_then (λ x. option_and_then (λ y. option_map (λ z. f x y z) c) b) a) ≡ true
 all_three f None b c ha hb hc = absurd (true≢false (sym ha))
 all_three f (Some x) None c ha hb hc = absurd (true≢false (sym hb))
 all_three f (Some x) (Some y) None ha hb hc = absurd (true≢false (sym hc))
 all_three f (Some x) (Some y) (Some z) ha hb hc = refl
 
-workers_read : (o : Option (Option ℕ)) → is_some o ≡ true → is_some (option_map or_one o) ≡ true
-workers_read None h = h
-workers_read (Some n) h = refl
-
 run_read : (words : List Text) → level_fault run_shape [] nothing_held words false [] ≡ [] → is_some (run_of (rows_after run_shape.rules [] words)) ≡ true
 run_read words none =
     let rows = rows_after run_shape.rules [] words in
     let fit = rows_fit run_shape run_plain words none in
     all_three (λ w k e. run_by w k e) (workers_of rows) (option_of to rows) (option_of keep rows)
-    (workers_read (option_of workers rows) (option_read workers run_shape.rules _ refl refl rows fit))
+    (some_map or_one (option_of workers rows) (option_read workers run_shape.rules _ refl refl rows fit))
     (option_read to run_shape.rules _ refl refl rows fit)
     (option_read keep run_shape.rules _ refl refl rows fit)
 
@@ -112,7 +117,13 @@ trial_read words none =
     all_three (λ n m w. Trial n m w) (place_of number rows) (place_of size rows) (workers_of rows)
     (place_read number trial_shape.rules _ refl refl rows fit both.0)
     (place_read size trial_shape.rules _ refl refl rows fit both.1)
-    (workers_read (option_of workers rows) (option_read workers trial_shape.rules _ refl refl rows fit))
+    (some_map or_one (option_of workers rows) (option_read workers trial_shape.rules _ refl refl rows fit))
+
+batch_read : (words : List Text) → level_fault batch_shape [] nothing_held words false [] ≡ [] → is_some (batch_of (rows_after batch_shape.rules [] words)) ≡ true
+batch_read words none =
+    let rows = rows_after batch_shape.rules [] words in
+    let fit = rows_fit batch_shape batch_plain words none in
+    some_map (λ w. Batch w) (workers_of rows) (some_map or_one (option_of workers rows) (option_read workers batch_shape.rules _ refl refl rows fit))
 
 -- ---- the first word
 
@@ -175,25 +186,32 @@ module _ (rest : List Text) where
   trial_taken : IsTaken (codes "trial")
   trial_taken none = entered_as (codes "trial") refl (trial_read rest (entered_none (codes "trial") rest refl none))
 
-  named : (word : Text) → bytes_eq word (codes "run") || (bytes_eq word (codes "check") || (bytes_eq word (codes "show") || (bytes_eq word (codes "trial") || false))) ≡ true → IsTaken word
+  batch_taken : IsTaken (codes "batch")
+  batch_taken none = entered_as (codes "batch") refl (batch_read rest (entered_none (codes "batch") rest refl none))
+
+  named : (word : Text) → bytes_eq word (codes "run") || (bytes_eq word (codes "check") || (bytes_eq word (codes "show") || (bytes_eq word (codes "trial") || (bytes_eq word (codes "batch") || false)))) ≡ true → IsTaken word
   named word h = by_run (or_cases _ _ h)
     where
       is : (name : Text) → bytes_eq word name ≡ true → IsTaken name → IsTaken word
       is name e taken = subst IsTaken (sym ((bytes_eq-Decides word name).0 e)) taken
 
-      by_trial : (bytes_eq word (codes "trial") ≡ true) ⊎ (false ≡ true) → IsTaken word
-      by_trial (inl e) = is (codes "trial") e trial_taken
-      by_trial (inr e) = absurd (true≢false (sym e))
+      by_batch : (bytes_eq word (codes "batch") ≡ true) ⊎ (false ≡ true) → IsTaken word
+      by_batch (inl e) = is (codes "batch") e batch_taken
+      by_batch (inr e) = absurd (true≢false (sym e))
 
-      by_show : (bytes_eq word (codes "show") ≡ true) ⊎ (bytes_eq word (codes "trial") || false ≡ true) → IsTaken word
+      by_trial : (bytes_eq word (codes "trial") ≡ true) ⊎ (bytes_eq word (codes "batch") || false ≡ true) → IsTaken word
+      by_trial (inl e) = is (codes "trial") e trial_taken
+      by_trial (inr e) = by_batch (or_cases _ _ e)
+
+      by_show : (bytes_eq word (codes "show") ≡ true) ⊎ (bytes_eq word (codes "trial") || (bytes_eq word (codes "batch") || false) ≡ true) → IsTaken word
       by_show (inl e) = is (codes "show") e show_taken
       by_show (inr e) = by_trial (or_cases _ _ e)
 
-      by_check : (bytes_eq word (codes "check") ≡ true) ⊎ (bytes_eq word (codes "show") || (bytes_eq word (codes "trial") || false) ≡ true) → IsTaken word
+      by_check : (bytes_eq word (codes "check") ≡ true) ⊎ (bytes_eq word (codes "show") || (bytes_eq word (codes "trial") || (bytes_eq word (codes "batch") || false)) ≡ true) → IsTaken word
       by_check (inl e) = is (codes "check") e check_taken
       by_check (inr e) = by_show (or_cases _ _ e)
 
-      by_run : (bytes_eq word (codes "run") ≡ true) ⊎ (bytes_eq word (codes "check") || (bytes_eq word (codes "show") || (bytes_eq word (codes "trial") || false)) ≡ true) → IsTaken word
+      by_run : (bytes_eq word (codes "run") ≡ true) ⊎ (bytes_eq word (codes "check") || (bytes_eq word (codes "show") || (bytes_eq word (codes "trial") || (bytes_eq word (codes "batch") || false))) ≡ true) → IsTaken word
       by_run (inl e) = is (codes "run") e run_taken
       by_run (inr e) = by_check (or_cases _ _ e)
 

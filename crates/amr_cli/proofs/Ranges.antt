@@ -6,9 +6,9 @@ use Rattle.std.proofs.lemmas.Option.{cond_some, none-some, same_Some, IfSome_the
 use Rattle.clap.specs.Words.{Row, Text, first_of}
 use Rattle.amr_cli.specs.Table.{NumberRow, keep, number, size, to, workers}
 use Rattle.amr_cli.specs.Numbers.{in_range, number_of}
-use Rattle.amr_cli.specs.Words.{HasRanges, HasWorkers, command_from, option_of, or_one, place_of, run_by, run_of, trial_of, workers_of}
+use Rattle.amr_cli.specs.Words.{HasRanges, HasWorkers, batch_of, command_from, option_of, or_one, place_of, run_by, run_of, trial_of, workers_of}
 use Rattle.amr_cli.specs.declared.command.Command.{Command}
-use Rattle.amr_cli.specs.declared.command.Command.TheVariants.{Check, Show, Trial}
+use Rattle.amr_cli.specs.declared.command.Command.TheVariants.{Check, Show, Trial, Batch}
 
 -- a number that was taken lies in the range
 in_range_within : (low high n m : ℕ) → in_range low high n ≡ Some m → (low ≤ m) × (m ≤ high)
@@ -85,14 +85,18 @@ trial_has command rows is =
     short : (n : ℕ) → (number.low ≤ n) × (n ≤ number.high) → n < 2 ^ 32
     short n within = omega arith
 
+batch_has : (command : Command) (rows : List Row) → batch_of rows ≡ Some command → Has command
+batch_has command rows is = mapped_some (λ (w : ℕ). Batch w) (workers_of rows) command is (λ w w_is made. subst Has made (workers_within rows w w_is, tt))
+
 -- what was found in the words is a command whose numbers lie in their ranges
 pub found_has : (command : Command) (found : Option (Text × List Row)) → command_from found ≡ Some command → Has command
 found_has command None is = absurd (none-some command is)
-found_has command (Some found) is = named (bytes_eq found.0 (codes "run")) (bytes_eq found.0 (codes "check")) (bytes_eq found.0 (codes "show")) (bytes_eq found.0 (codes "trial")) is
+found_has command (Some found) is = named (bytes_eq found.0 (codes "run")) (bytes_eq found.0 (codes "check")) (bytes_eq found.0 (codes "show")) (bytes_eq found.0 (codes "trial")) (bytes_eq found.0 (codes "batch")) is
   where
-    named : (run check show trial : Bool) → cond run (run_of found.1) (cond check (Some Check) (cond show (Some Show) (cond trial (trial_of found.1) None))) ≡ Some command → Has command
-    named true check show trial is = run_has command found.1 is
-    named false true show trial is = subst Has (same_Some Check command is) (tt, tt)
-    named false false true trial is = subst Has (same_Some Show command is) (tt, tt)
-    named false false false true is = trial_has command found.1 is
-    named false false false false is = absurd (none-some command is)
+    named : (run check show trial batch : Bool) → cond run (run_of found.1) (cond check (Some Check) (cond show (Some Show) (cond trial (trial_of found.1) (cond batch (batch_of found.1) None)))) ≡ Some command → Has command
+    named true check show trial batch is = run_has command found.1 is
+    named false true show trial batch is = subst Has (same_Some Check command is) (tt, tt)
+    named false false true trial batch is = subst Has (same_Some Show command is) (tt, tt)
+    named false false false true batch is = trial_has command found.1 is
+    named false false false false true is = batch_has command found.1 is
+    named false false false false false is = absurd (none-some command is)

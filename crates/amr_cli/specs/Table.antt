@@ -14,7 +14,7 @@ pub record CommandRow : Type 0 where
   pub places : List NumberRow
   pub options : List NumberRow
 
--- how many workers share a step
+-- how many workers share a step, or the jobs of a batch
 abbrev pub workers : NumberRow
 workers = record { name = codes "workers"; low = 1; high = 64 }
 
@@ -40,4 +40,5 @@ commands =
     ∷ record { name = codes "check"; places = []; options = [] }
     ∷ record { name = codes "show"; places = []; options = [] }
     ∷ record { name = codes "trial"; places = number ∷ size ∷ []; options = workers ∷ [] }
+    ∷ record { name = codes "batch"; places = []; options = workers ∷ [] }
     ∷ []

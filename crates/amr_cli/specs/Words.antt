@@ -8,7 +8,7 @@ use Rattle.amr_cli.specs.Table.{NumberRow, commands, keep, number, size, to, wor
 use Rattle.amr_cli.specs.Program.{program_app}
 use Rattle.amr_cli.specs.Numbers.{number_of, in_range}
 use Rattle.amr_cli.specs.declared.command.Command.{Command}
-use Rattle.amr_cli.specs.declared.command.Command.TheVariants.{Run, Check, Show, Trial}
+use Rattle.amr_cli.specs.declared.command.Command.TheVariants.{Run, Check, Show, Trial, Batch}
 
 -- ---- by this program's own rule, before `clap` is asked
 
@@ -58,13 +58,17 @@ abbrev pub trial_of : List Row → Option Command
 trial_of rows =
     option_and_then (λ n. option_and_then (λ m. option_map (λ w. Trial n m w) (workers_of rows)) (place_of size rows)) (place_of number rows)
 
+abbrev pub batch_of : List Row → Option Command
+batch_of rows = option_map (λ w. Batch w) (workers_of rows)
+
 abbrev pub command_from : Option (Text × List Row) → Option Command
 command_from None = None
 command_from (Some found) =
     if bytes_eq found.0 (codes "run") then run_of found.1
     else (if bytes_eq found.0 (codes "check") then Some Check
     else (if bytes_eq found.0 (codes "show") then Some Show
-    else (if bytes_eq found.0 (codes "trial") then trial_of found.1 else None)))
+    else (if bytes_eq found.0 (codes "trial") then trial_of found.1
+    else (if bytes_eq found.0 (codes "batch") then batch_of found.1 else None))))
 
 -- ---- the whole
 
@@ -82,6 +86,7 @@ HasWorkers (Run options) = (1 ≤ options.workers) × (options.workers ≤ 64)
 HasWorkers Check = Unit {0}
 HasWorkers Show = Unit {0}
 HasWorkers (Trial _ _ w) = (1 ≤ w) × (w ≤ 64)
+HasWorkers (Batch w) = (1 ≤ w) × (w ≤ 64)
 
 -- a run stops at a step up to 4096, and from 1 to 4096 steps lie between two checkpoints; a trial is drawn from a number of
 -- 32 bits, with from 8 to 256 cells along each axis
@@ -90,3 +95,4 @@ HasRanges (Run options) = IfSome options.to (λ k. k ≤ 4096) × IfSome options
 HasRanges Check = Unit {0}
 HasRanges Show = Unit {0}
 HasRanges (Trial n m _) = (n < 2 ^ 32) × (8 ≤ m) × (m ≤ 256)
+HasRanges (Batch _) = Unit {0}

@@ -18,6 +18,11 @@ pub enum Command {
         /// How many workers share a step, from 1 to 64.
         workers: u32,
     },
+    /// Reads a batch of problems and writes the reply of each.
+    Batch {
+        /// How many workers solve jobs, from 1 to 64.
+        workers: u32,
+    },
 }
 
 /// The options of a run.

@@ -2,7 +2,7 @@
 ghost use Rattle.std.specs.Prelude.{◌≡◌, ◌<◌, ◌^◌, option_map};
 ghost use Rattle.clap.specs.Words.{first_of, found_of, rows_of, subcommand_rows_of};
 ghost use Rattle.amr_cli.specs.Rows.{number_row};
-ghost use Rattle.amr_cli.specs.Words.{command_from, option_of, place_of, run_of, trial_of, workers_of};
+ghost use Rattle.amr_cli.specs.Words.{batch_of, command_from, option_of, place_of, run_of, trial_of, workers_of};
 
 use crate::number::number_between;
 use crate::table::{KEEP, NUMBER, NumberForm, SIZE, TO, WORKERS};
@@ -19,6 +19,7 @@ pub(crate) fn command_from(matches: &ArgMatches) -> Option<Command>
         "check" => Some(Command::Check),
         "show" => Some(Command::Show),
         "trial" => trial_from(found),
+        "batch" => batch_from(found),
         _ => None,
     }
 }
@@ -43,6 +44,13 @@ fn trial_from(matches: &ArgMatches) -> Option<Command>
         size,
         workers,
     })
+}
+
+fn batch_from(matches: &ArgMatches) -> Option<Command>
+    ensures { result ≡ batch_of (rows_of (found_of matches.now)) }
+{
+    let workers = workers_from(matches)?;
+    Some(Command::Batch { workers })
 }
 
 // The number of workers, 1 where none is given.

@@ -18,7 +18,7 @@ pub(crate) struct CommandForm {
     pub options: &'static [NumberForm],
 }
 
-/// How many workers share a step.
+/// How many workers share a step, or the jobs of a batch.
 pub(crate) const WORKERS: NumberForm = NumberForm {
     name: "workers",
     low: 1,
@@ -53,7 +53,7 @@ pub(crate) const SIZE: NumberForm = NumberForm {
     high: 256,
 };
 
-const COMMANDS: [CommandForm; 4] = [
+const COMMANDS: [CommandForm; 5] = [
     CommandForm {
         name: "run",
         places: &[],
@@ -72,6 +72,11 @@ const COMMANDS: [CommandForm; 4] = [
     CommandForm {
         name: "trial",
         places: &[NUMBER, SIZE],
+        options: &[WORKERS],
+    },
+    CommandForm {
+        name: "batch",
+        places: &[],
         options: &[WORKERS],
     },
 ];
