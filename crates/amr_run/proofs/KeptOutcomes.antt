@@ -151,6 +151,7 @@ pub kept_replies : (s : Status) (given bytes : List ℕ) (marked : Marks) (p : P
     → KeptReplies (Err s) given p marked.every target seen said → RepliesBy (kept_row marked) s bytes seen [] said
 kept_replies status.Done given bytes marked p target seen said same stops accepted h = plot_of_kept given bytes marked.to p marked.every target seen [] said same stops accepted h
 kept_replies (status.Problem reason) given bytes marked p target seen said same stops accepted h = absurd h.0
+kept_replies (status.BadBatch place) given bytes marked p target seen said same stops accepted h = absurd h.0
 kept_replies status.ReadFault given bytes marked p target seen said same stops accepted h = absurd h.0
 kept_replies (status.Store refusal) given bytes marked p target seen said same stops accepted h = ((tt, accepted.clean, refuses_to given bytes marked.to p target seen refusal same stops accepted h.0), h.1, h.2)
 kept_replies status.DiskFault given bytes marked p target seen said same stops accepted h = ((tt, accepted.clean), h.1, begun given bytes marked.to p marked.every target seen said same stops accepted h.2)
@@ -254,6 +255,7 @@ module _ {D : Type 0} (seen : D → Option (List ℕ)) (moment : D → ℕ) (lea
   settles d later_d status.Usage only = tt
   settles d later_d status.ReadFault only = tt
   settles d later_d (status.Problem reason) only = tt
+  settles d later_d (status.BadBatch place) only = tt
 
   -- a disk that was not called, as its problem was not read
   pub settles_unread : (d : D) (s : Status) (bytes : List ℕ) → Refuses s bytes → EndsSettled seen moment leaves d d s
@@ -265,6 +267,7 @@ module _ {D : Type 0} (seen : D → Option (List ℕ)) (moment : D → ℕ) (lea
   settles_unread d status.Usage bytes h = tt
   settles_unread d status.ReadFault bytes h = tt
   settles_unread d (status.Problem reason) bytes h = tt
+  settles_unread d (status.BadBatch place) bytes h = tt
 
   -- by the status that an error became
   pub settles_by : (d later_d : D) (r : Result Unit Status) (s : Status) → IsErrAnd r (λ x. x ≡ s) → EndsSettled seen moment leaves d later_d s → EndsSettled seen moment leaves d later_d (status_of r)
@@ -280,6 +283,7 @@ unread_before status.DiskFault bytes h = tt
 unread_before status.Usage bytes h = tt
 unread_before status.ReadFault bytes h = tt
 unread_before (status.Problem reason) bytes h = tt
+unread_before (status.BadBatch place) bytes h = tt
 
 -- a store that was not gone on with
 pub unresumed_before : (e : ResumeFault) → EndsBefore (resume_refused e)

@@ -1,3 +1,4 @@
+pub mod BatchLaws
 pub mod Outcomes
 pub mod StoreOutcomes
 pub mod RunStates

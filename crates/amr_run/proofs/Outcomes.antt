@@ -1,5 +1,5 @@
 -- The outcome at each exit, by what the layers below say of it.
-use Rattle.std.proofs.Common.{◌≡◌, ◌≢◌, ◌≤◌, ◌<◌, ◌^◌, ◌⊎◌, inl, inr, ⊎_elim, IfErr, IfSome, ℕ, List, [], ◌++◌, length, Option, Some, None, Result, Ok, Err, OnErr, refl, sym, ◌∙◌, ap, subst, arith, length-append, OnOk}
+use Rattle.std.proofs.Common.{◌≡◌, ◌≢◌, ◌≤◌, ◌<◌, ◌^◌, ◌⊎◌, inl, inr, ⊎_elim, IfErr, IfSome, ℕ, ◌+◌, List, [], ◌++◌, length, Option, Some, None, Result, Ok, Err, OnErr, refl, sym, ◌∙◌, ap, subst, arith, length-append, OnOk}
 use Rattle.std.proofs.lemmas.List.{append-nil}
 use Rattle.std.proofs.lemmas.Option.{none-some, same_Some}
 use Rattle.std.specs.Prelude.{IsErrAnd}
@@ -8,6 +8,10 @@ use Rattle.amr_causes.specs.Causes.{HasCause, Rose}
 use Rattle.amr_causes.specs.Bytes.{Grows, IsPrefix, WereLeft}
 use Rattle.amr_io.specs.Short.{FallsShort, IsProperPrefix}
 use Rattle.amr_causes.proofs.ByteLaws.{consumes_none, prefix_whole, were_left}
+use Rattle.amr_batch.proofs.OneReading.{is_one_or_the_other}
+use Rattle.amr_batch.specs.Batch.{IsMalformedAt}
+use Rattle.amr_batch.specs.declared.reading.JobsFault.{JobsFault}
+use Rattle.amr_batch.specs.declared.reading.JobsFault.TheVariants as finding
 use Rattle.amr_def.specs.declared.problem.Problem.{Problem}
 use Rattle.amr_def.specs.State.{State}
 use Rattle.amr_def.specs.Run.{start, finish, run}
@@ -19,10 +23,9 @@ use Rattle.amr_problem.specs.declared.fault.JudgeFault.{JudgeFault}
 use Rattle.amr_problem.specs.declared.fault.JudgeFault.TheVariants as judging
 use Rattle.amr_problem.specs.declared.fault.ProblemFault.{ProblemFault}
 use Rattle.amr_problem.specs.Judgement.{fault_of, IsProblemOf}
-use Rattle.amr_problem.proofs.PlainLaws.{too_many_bytes}
 use Rattle.amr_drive.specs.Regrids.{RunHoldsTags, StartHoldsTags}
 use Rattle.amr_cli.specs.declared.command.Command.{Command}
-use Rattle.amr_cli.specs.declared.command.Command.TheVariants.{Run, Check, Show, Trial}
+use Rattle.amr_cli.specs.declared.command.Command.TheVariants.{Run, Check, Show, Trial, Batch}
 use Rattle.amr_trial.specs.Summary.{summary}
 use Rattle.amr_trial.specs.Trial.{IsSize, text}
 use Rattle.amr_trial.proofs.Problems.{sixteen_steps}
@@ -32,11 +35,10 @@ use Rattle.amr_checkpoint.specs.Contents.{Content, Holds}
 use Rattle.amr_checkpoint.proofs.Stepping.{start_step}
 use Rattle.amr_run.specs.Answer.{IsLineOfProblem, IsLineOfTrial, IsPlotOfRun, IsSoundRun, stop_of}
 use Rattle.amr_run.specs.Outcome.{EndsByLine, Outcome, RefusesStored, RepliesBy, RepliesTo, status_of}
-use Rattle.amr_run.specs.Reading.{Reads, Refuses, TakesAtMost}
-use Rattle.amr_run.specs.Table.{HasAnswer, IsGiven, JudgesProblem, Meaning, TellsAccepted, meaning, run_meaning, trial_row}
-use Rattle.amr_run.specs.Refusals.{read_refused, judge_refused}
+use Rattle.amr_run.specs.Reading.{ReadsBy, RefusesBy, TakesAtMost}
+use Rattle.amr_run.specs.Table.{HasAnswer, IsGiven, JudgesBatch, JudgesProblem, Meaning, TellsAccepted, meaning, run_meaning, trial_row}
+use Rattle.amr_run.specs.Refusals.{jobs_refused, judge_refused, read_refused}
 use Rattle.amr_run.specs.Texts.{message, problem_line}
-use Rattle.amr_run.specs.declared.reading.ReadProblem.{ReadProblem}
 use Rattle.amr_run.specs.declared.status.Status.{Status}
 use Rattle.amr_run.specs.declared.status.Status.TheVariants as status
 
@@ -56,32 +58,39 @@ front_taken (Some left) (Some rest) front taken = (left, refl, omega (arith, ap 
 
 -- ---- why a problem was not read
 
-pub reading_refused : (old new : Option (List ℕ)) (e : ReadAll) → (e ≡ reading.TooLong → (taken : List ℕ) × Consumes old new taken × (length taken ≡ 65537))
-    → (bytes : List ℕ) × WereLeft old bytes × Refuses (read_refused e) bytes
-reading_refused old new reading.TooLong long =
+-- where a longer source than `most` bytes has the status `too_long`
+pub reading_refused : (judges : List ℕ → Option Status → Type 0) (most : ℕ) (too_long : Status) (old new : Option (List ℕ)) (e : ReadAll) → ((bytes : List ℕ) → most < length bytes → RefusesBy judges too_long bytes)
+    → (e ≡ reading.TooLong → (taken : List ℕ) × Consumes old new taken × (length taken ≡ most + 1)) → (bytes : List ℕ) × WereLeft old bytes × RefusesBy judges (read_refused too_long e) bytes
+reading_refused judges most too_long old new reading.TooLong refuses long =
     let taken = long refl in
     let front = front_taken old new taken.0 taken.1 in
-    (front.0, front.1, too_many_bytes front.0 (omega (arith, taken.2, front.2)))
-reading_refused old new reading.ReadFault long = let left = were_left old in (left.0, left.1, tt)
-reading_refused old new reading.NoMemory long = let left = were_left old in (left.0, left.1, tt)
+    (front.0, front.1, refuses front.0 (omega (arith, taken.2, front.2)))
+reading_refused judges most too_long old new reading.ReadFault refuses long = let left = were_left old in (left.0, left.1, tt)
+reading_refused judges most too_long old new reading.NoMemory refuses long = let left = were_left old in (left.0, left.1, tt)
 
 -- by the status that an error became
-pub reads_refused : (r : Result ReadProblem Status) (s : Status) (bytes : List ℕ) → IsErrAnd r (λ x. x ≡ s) → Refuses s bytes → Reads r bytes
-reads_refused (Ok given) s bytes is refuses = absurd is
-reads_refused (Err x) s bytes is refuses = subst (λ (t : Status). Refuses t bytes) (sym is) refuses
+pub reads_refused : {T : Type 0} (judges : List ℕ → Option Status → Type 0) (is : T → List ℕ → Type 0) (r : Result T Status) (s : Status) (bytes : List ℕ) → IsErrAnd r (λ x. x ≡ s) → RefusesBy judges s bytes → ReadsBy judges is r bytes
+reads_refused judges is (Ok given) s bytes by refuses = absurd by
+reads_refused judges is (Err x) s bytes by refuses = subst (λ (t : Status). RefusesBy judges t bytes) (sym by) refuses
+
+-- a batch whose jobs were not found
+pub jobs_unread : (bytes : List ℕ) (e : JobsFault) → ((place : ℕ) → e ≡ finding.BadBatch place → IsMalformedAt bytes place) → RefusesBy JudgesBatch (jobs_refused e) bytes
+jobs_unread bytes (finding.BadBatch place) malformed = malformed place refl
+jobs_unread bytes finding.NoMemory malformed = tt
 
 -- ---- exits of a command
 
--- where its problem was not read, nothing went out
-pub unread : (row : Meaning) (s : Status) (bytes : List ℕ) (seen : Option (List ℕ)) → IsGiven row.reads → ((fault : ProblemFault) → fault_of bytes ≡ Some fault → row.judges bytes (Some (status.Problem fault))) → Refuses s bytes → RepliesBy row s bytes seen [] []
-unread row (status.Problem fault) bytes seen reads judges refuses = (judges fault refuses, refl, refl)
-unread row status.ReadFault bytes seen reads judges refuses = (reads, refl, refl)
-unread row status.NoMemory bytes seen reads judges refuses = (refl, inl refl)
-unread row status.Done bytes seen reads judges refuses = absurd refuses
-unread row status.Usage bytes seen reads judges refuses = absurd refuses
-unread row status.WriteFault bytes seen reads judges refuses = absurd refuses
-unread row status.DiskFault bytes seen reads judges refuses = absurd refuses
-unread row (status.Store reason) bytes seen reads judges refuses = absurd refuses
+-- where its bytes were not read, nothing went out
+pub unread : (row : Meaning) (s : Status) (bytes : List ℕ) (seen : Option (List ℕ)) → IsGiven row.reads → RefusesBy row.judges s bytes → RepliesBy row s bytes seen [] []
+unread row (status.Problem fault) bytes seen reads refuses = (refuses, refl, refl)
+unread row (status.BadBatch place) bytes seen reads refuses = (refuses, refl, refl)
+unread row status.ReadFault bytes seen reads refuses = (reads, refl, refl)
+unread row status.NoMemory bytes seen reads refuses = (refl, inl refl)
+unread row status.Done bytes seen reads refuses = absurd refuses
+unread row status.Usage bytes seen reads refuses = absurd refuses
+unread row status.WriteFault bytes seen reads refuses = absurd refuses
+unread row status.DiskFault bytes seen reads refuses = absurd refuses
+unread row (status.Store reason) bytes seen reads refuses = absurd refuses
 
 -- by the status that an error became
 pub refused_by : (row : Meaning) (r : Result Unit Status) (s : Status) (bytes : List ℕ) (seen : Option (List ℕ)) (out said : List ℕ) → IsErrAnd r (λ x. x ≡ s) → RepliesBy row s bytes seen out said → RepliesBy row (status_of r) bytes seen out said
@@ -180,18 +189,24 @@ clash : (refuses : Content → Refusal → Type 0) (seen : Option (List ℕ)) (r
 clash refuses None refusal tells h = absurd (none-some tells.image tells.told)
 clash refuses (Some image) refusal tells h = let same : image ≡ tells.image = same_Some image tells.image tells.told in tells.none h.content (subst (λ (i : List ℕ). Holds i h.content) same h.held) refusal h.refused
 
-problem_once : (bytes : List ℕ) (reason : ProblemFault) → JudgesProblem bytes None → JudgesProblem bytes (Some (status.Problem reason)) → ⊥
-problem_once bytes reason none some = absurd (none-some reason (sym none ∙ some))
+problem_once : (bytes : List ℕ) (s : Status) → JudgesProblem bytes None → JudgesProblem bytes (Some s) → ⊥
+problem_once bytes (status.Problem reason) none some = absurd (none-some reason (sym none ∙ some))
+problem_once bytes _ none some = some
 
-run_once : (to keep : Option ℕ) (bytes : List ℕ) (reason : ProblemFault) → (run_meaning to keep).judges bytes None → (run_meaning to keep).judges bytes (Some (status.Problem reason)) → ⊥
-run_once to None bytes reason none some = problem_once bytes reason none some
-run_once to (Some every) bytes reason none some = problem_once bytes reason none some
+batch_once : (bytes : List ℕ) (s : Status) → JudgesBatch bytes None → JudgesBatch bytes (Some s) → ⊥
+batch_once bytes (status.BadBatch place) is malformed = is_one_or_the_other bytes is.0 place is.1 malformed
+batch_once bytes _ is malformed = malformed
 
-judged_once : (command : Command) (bytes : List ℕ) (reason : ProblemFault) → (meaning command).judges bytes None → (meaning command).judges bytes (Some (status.Problem reason)) → ⊥
-judged_once (Run options) bytes reason none some = run_once options.to options.keep bytes reason none some
-judged_once Check bytes reason none some = problem_once bytes reason none some
-judged_once Show bytes reason none some = some
-judged_once (Trial number size workers) bytes reason none some = some
+run_once : (to keep : Option ℕ) (bytes : List ℕ) (s : Status) → (run_meaning to keep).judges bytes None → (run_meaning to keep).judges bytes (Some s) → ⊥
+run_once to None bytes s none some = problem_once bytes s none some
+run_once to (Some every) bytes s none some = problem_once bytes s none some
+
+judged_once : (command : Command) (bytes : List ℕ) (s : Status) → (meaning command).judges bytes None → (meaning command).judges bytes (Some s) → ⊥
+judged_once (Run options) bytes s none some = run_once options.to options.keep bytes s none some
+judged_once Check bytes s none some = problem_once bytes s none some
+judged_once Show bytes s none some = some
+judged_once (Trial number size workers) bytes s none some = some
+judged_once (Batch workers) bytes s none some = batch_once bytes s none some
 
 completed : (s : Status) (command : Command) (bytes : List ℕ) (seen : Option (List ℕ)) (out said : List ℕ) → HasAnswer command bytes seen → RepliesTo s command bytes seen out said
     → (s ≡ status.ReadFault → ⊥) → (s ≡ status.WriteFault → ⊥) → (s ≡ status.DiskFault → ⊥) → (s ≡ status.Done) ⊎ (s ≡ status.NoMemory)
@@ -201,7 +216,8 @@ completed status.ReadFault command bytes seen out said has h read write disk = a
 completed status.WriteFault command bytes seen out said has h read write disk = absurd (write refl)
 completed status.DiskFault command bytes seen out said has h read write disk = absurd (disk refl)
 completed status.Usage command bytes seen out said has h read write disk = absurd h
-completed (status.Problem reason) command bytes seen out said has h read write disk = absurd (judged_once command bytes reason has.taken h.0)
+completed (status.Problem reason) command bytes seen out said has h read write disk = absurd (judged_once command bytes (status.Problem reason) has.taken h.0)
+completed (status.BadBatch place) command bytes seen out said has h read write disk = absurd (judged_once command bytes (status.BadBatch place) has.taken h.0)
 completed (status.Store refusal) command bytes seen out said has h read write disk = absurd (clash ((meaning command).refuses bytes) seen refusal (has.stored h.0.0) h.0.2)
 
 pub is_complete : (s : Status) (asked : Option Command) (command : Command) (bytes : List ℕ) (seen : Option (List ℕ)) (out said : List ℕ) → asked ≡ Some command → HasAnswer command bytes seen → Outcome s asked bytes seen out said
@@ -217,6 +233,7 @@ err_before status.Done P old now other write = inl (other (λ is. cc))
 err_before status.Usage P old now other write = inl (other (λ is. cc))
 err_before status.ReadFault P old now other write = inl (other (λ is. cc))
 err_before (status.Problem reason) P old now other write = inl (other (λ is. cc))
+err_before (status.BadBatch place) P old now other write = inl (other (λ is. cc))
 err_before status.DiskFault P old now other write = inl (other (λ is. cc))
 err_before (status.Store refusal) P old now other write = inl (other (λ is. cc))
 err_before status.NoMemory P old now other write = inl (other (λ is. cc))

@@ -1,4 +1,6 @@
 pub mod Texts
+pub mod Batch
+pub mod Laws
 pub mod Reading
 pub mod Answer
 pub mod Table

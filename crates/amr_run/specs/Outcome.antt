@@ -22,7 +22,7 @@ use Rattle.amr_run.specs.Texts.{message}
 use Rattle.amr_cli.specs.declared.command.Command.{Command}
 use Rattle.amr_run.specs.declared.commands.Marks.{Marks}
 use Rattle.amr_run.specs.declared.status.Status.{Status}
-use Rattle.amr_run.specs.declared.status.Status.TheVariants.{Done, Usage, ReadFault, Problem as BadProblem, DiskFault, Store, WriteFault, NoMemory}
+use Rattle.amr_run.specs.declared.status.Status.TheVariants.{Done, Usage, ReadFault, Problem as BadProblem, BadBatch, DiskFault, Store, WriteFault, NoMemory}
 
 -- how a command ended: with its answer, or with the status that refuses it
 abbrev pub status_of : {T : Type 0} → Result T Status → Status
@@ -55,6 +55,7 @@ Replies Done answers refuses out said = answers out said
 Replies Usage answers refuses out said = ⊥
 Replies ReadFault answers refuses out said = refuses ReadFault × (out ≡ []) × (said ≡ [])
 Replies (BadProblem fault) answers refuses out said = refuses (BadProblem fault) × (out ≡ []) × (said ≡ [])
+Replies (BadBatch place) answers refuses out said = refuses (BadBatch place) × (out ≡ []) × (said ≡ [])
 Replies DiskFault answers refuses out said = refuses DiskFault × (out ≡ []) × ((said ≡ []) ⊎ BeginsLines answers said)
 Replies (Store refusal) answers refuses out said = refuses (Store refusal) × (out ≡ []) × (said ≡ [])
 Replies WriteFault answers refuses out said = IsCutShort answers out said
@@ -73,6 +74,7 @@ pub record RefusesStored (refuses : Content → Refusal → Type 0) (refusal : R
 abbrev pub RefusedBy : Meaning → List ℕ → Option (List ℕ) → Status → Type 0
 RefusedBy row bytes seen ReadFault = IsGiven row.reads
 RefusedBy row bytes seen (BadProblem fault) = row.judges bytes (Some (BadProblem fault))
+RefusedBy row bytes seen (BadBatch place) = row.judges bytes (Some (BadBatch place))
 RefusedBy row bytes seen DiskFault = row.opens × row.judges bytes None
 RefusedBy row bytes seen (Store refusal) = row.opens × row.judges bytes None × IfSome seen (RefusesStored (row.refuses bytes) refusal)
 RefusedBy row bytes seen Done = ⊥

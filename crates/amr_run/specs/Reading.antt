@@ -1,25 +1,51 @@
--- How the bytes of the source were read as a problem.
-use Rattle.std.specs.Prelude.{ℕ, ◌≡◌, ◌≤◌, List, length, Option, Some, Result, Ok, Err}
+-- How the bytes of the source were read, as a problem or as a batch.
+use Rattle.std.specs.Prelude.{ℕ, ◌≡◌, ◌≤◌, List, length, map, Option, Some, Result, Ok, Err}
+use Rattle.std.specs.List.{All}
 use Rattle.std.specs.Io.KnownBytes.{Consumes}
-use Rattle.amr_problem.specs.Judgement.{fault_of, IsProblemOf}
+use Rattle.amr_batch.specs.Batch.{IsBatch, IsSpanOf, bytes_in}
+use Rattle.amr_problem.specs.Judgement.{IsProblemOf}
+use Rattle.amr_run.specs.Table.{JudgesBatch, JudgesProblem}
+use Rattle.amr_run.specs.declared.reading.ReadBatch.{ReadBatch}
 use Rattle.amr_run.specs.declared.reading.ReadProblem.{ReadProblem}
 use Rattle.amr_run.specs.declared.status.Status.{Status}
 use Rattle.amr_run.specs.declared.status.Status.TheVariants as status
 
--- the status by which they were not
+-- the status by which they were not, by what is judged of them
+abbrev pub RefusesBy : (List ℕ → Option Status → Type 0) → Status → List ℕ → Type 0
+RefusesBy judges (status.Problem fault) bytes = judges bytes (Some (status.Problem fault))
+RefusesBy judges (status.BadBatch place) bytes = judges bytes (Some (status.BadBatch place))
+RefusesBy judges status.ReadFault bytes = Unit {0}
+RefusesBy judges status.NoMemory bytes = Unit {0}
+RefusesBy judges status.Done bytes = ⊥
+RefusesBy judges status.Usage bytes = ⊥
+RefusesBy judges status.WriteFault bytes = ⊥
+RefusesBy judges status.DiskFault bytes = ⊥
+RefusesBy judges (status.Store reason) bytes = ⊥
+
+abbrev pub ReadsBy : {T : Type 0} → (List ℕ → Option Status → Type 0) → (T → List ℕ → Type 0) → Result T Status → List ℕ → Type 0
+ReadsBy judges is (Ok given) bytes = is given bytes
+ReadsBy judges is (Err refusal) bytes = RefusesBy judges refusal bytes
+
+-- ---- a problem
+
 abbrev pub Refuses : Status → List ℕ → Type 0
-Refuses (status.Problem fault) bytes = fault_of bytes ≡ Some fault
-Refuses status.ReadFault bytes = Unit {0}
-Refuses status.NoMemory bytes = Unit {0}
-Refuses status.Done bytes = ⊥
-Refuses status.Usage bytes = ⊥
-Refuses status.WriteFault bytes = ⊥
-Refuses status.DiskFault bytes = ⊥
-Refuses (status.Store reason) bytes = ⊥
+Refuses status bytes = RefusesBy JudgesProblem status bytes
+
+abbrev pub IsProblemRead : ReadProblem → List ℕ → Type 0
+IsProblemRead given bytes = (given.bytes.items ≡ bytes) × IsProblemOf bytes given.problem
 
 abbrev pub Reads : Result ReadProblem Status → List ℕ → Type 0
-Reads (Ok given) bytes = (given.bytes.items ≡ bytes) × IsProblemOf bytes given.problem
-Reads (Err refusal) bytes = Refuses refusal bytes
+Reads result bytes = ReadsBy JudgesProblem IsProblemRead result bytes
+
+-- ---- a batch
+
+pub record IsBatchRead (given : ReadBatch) (bytes : List ℕ) : Type 0 where
+  pub same : given.bytes.items ≡ bytes
+  pub batch : IsBatch bytes (map (bytes_in bytes) given.jobs.items)
+  pub inside : All (IsSpanOf bytes) given.jobs.items
+
+abbrev pub ReadsBatch : Result ReadBatch Status → List ℕ → Type 0
+ReadsBatch result bytes = ReadsBy JudgesBatch IsBatchRead result bytes
 
 -- at most so many bytes were taken, from the front of those that were left
 abbrev pub TakesAtMost : ℕ → Option (List ℕ) → Option (List ℕ) → Type 0

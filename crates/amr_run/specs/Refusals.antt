@@ -1,4 +1,6 @@
 -- The statuses by which a fault of a lower layer ends a call.
+use Rattle.amr_batch.specs.declared.reading.JobsFault.{JobsFault}
+use Rattle.amr_batch.specs.declared.reading.JobsFault.TheVariants as jobs
 use Rattle.amr_io.specs.declared.source.ReadAll.{ReadAll}
 use Rattle.amr_io.specs.declared.source.ReadAll.TheVariants as reading
 use Rattle.amr_problem.specs.declared.fault.JudgeFault.{JudgeFault}
@@ -9,13 +11,25 @@ use Rattle.amr_checkpoint.specs.declared.faults.KeepFault.TheVariants as keeping
 use Rattle.amr_checkpoint.specs.declared.faults.ResumeFault.{ResumeFault}
 use Rattle.amr_checkpoint.specs.declared.faults.ResumeFault.TheVariants as resuming
 use Rattle.amr_run.specs.declared.status.Status.{Status}
-use Rattle.amr_run.specs.declared.status.Status.TheVariants.{ReadFault, Problem, DiskFault, Store, WriteFault, NoMemory}
+use Rattle.amr_run.specs.declared.status.Status.TheVariants.{ReadFault, Problem, BadBatch, DiskFault, Store, WriteFault, NoMemory}
+
+-- more bytes than are taken have a status of their own
+abbrev pub read_refused : Status → ReadAll → Status
+read_refused too_long reading.TooLong = too_long
+read_refused too_long reading.ReadFault = ReadFault
+read_refused too_long reading.NoMemory = NoMemory
 
 -- more bytes than a problem has are its first fault
-abbrev pub read_refused : ReadAll → Status
-read_refused reading.TooLong = Problem TooLong
-read_refused reading.ReadFault = ReadFault
-read_refused reading.NoMemory = NoMemory
+abbrev pub problem_unread : ReadAll → Status
+problem_unread e = read_refused (Problem TooLong) e
+
+-- a batch that is longer than any is malformed at the place after the longest
+abbrev pub batch_unread : ReadAll → Status
+batch_unread e = read_refused (BadBatch 1048576) e
+
+abbrev pub jobs_refused : JobsFault → Status
+jobs_refused (jobs.BadBatch place) = BadBatch place
+jobs_refused jobs.NoMemory = NoMemory
 
 abbrev pub judge_refused : JudgeFault → Status
 judge_refused (judging.Fault fault) = Problem fault

@@ -1,17 +1,19 @@
 -- The table of commands: what each of them means, a row each. The outcome of a call, its stops and what it leaves pending say of a command what
 -- its row says, and nothing else of it.
 use Rattle.std.specs.Prelude.{ℕ, ◌≡◌, ⊤, List, [], Option, None, Some}
+use Rattle.amr_batch.specs.Batch.{IsBatch, IsMalformedAt}
 use Rattle.amr_problem.specs.Judgement.{IsProblemOf, fault_of}
 use Rattle.amr_checkpoint.specs.declared.refusal.Refusal.{Refusal}
 use Rattle.amr_checkpoint.specs.Contents.{Content, Holds}
 use Rattle.amr_checkpoint.specs.Refusals.{RefusesRun, RefusesShow}
 use Rattle.amr_cli.specs.declared.command.Command.{Command}
-use Rattle.amr_cli.specs.declared.command.Command.TheVariants.{Run, Check, Show, Trial}
+use Rattle.amr_cli.specs.declared.command.Command.TheVariants.{Run, Check, Show, Trial, Batch}
 use Rattle.amr_def.specs.declared.problem.Problem.{Problem}
 use Rattle.amr_run.specs.Answer.{IsLineOfProblem, IsLineOfTrial, IsPlotOfKeptRun, IsPlotOfRun, IsPlotOfStore, stop_of}
+use Rattle.amr_run.specs.Batch.{IsBatchAnswer}
 use Rattle.amr_run.specs.declared.commands.Marks.{Marks}
 use Rattle.amr_run.specs.declared.status.Status.{Status}
-use Rattle.amr_run.specs.declared.status.Status.TheVariants.{Problem as BadProblem}
+use Rattle.amr_run.specs.declared.status.Status.TheVariants.{Problem as BadProblem, BadBatch}
 
 -- ---- the columns
 
@@ -34,6 +36,12 @@ abbrev pub JudgesProblem : List ℕ → Option Status → Type 0
 JudgesProblem bytes None = fault_of bytes ≡ None
 JudgesProblem bytes (Some (BadProblem fault)) = fault_of bytes ≡ Some fault
 JudgesProblem bytes (Some status) = ⊥
+
+-- its bytes are a batch, or malformed at a place
+abbrev pub JudgesBatch : List ℕ → Option Status → Type 0
+JudgesBatch bytes None = (jobs : List (List ℕ)) × IsBatch bytes jobs
+JudgesBatch bytes (Some (BadBatch place)) = IsMalformedAt bytes place
+JudgesBatch bytes (Some status) = ⊥
 
 -- no bytes refuse it
 abbrev pub JudgesNothing : List ℕ → Option Status → Type 0
@@ -107,6 +115,17 @@ trial_row number size = record {
   answers = λ bytes seen out said. IsLineOfTrial number size out × (said ≡ []);
 }
 
+-- `batch`
+abbrev pub batch_row : Meaning
+batch_row = record {
+  reads = Some 1048577;
+  judges = JudgesBatch;
+  opens = ⊥;
+  refuses = UsesNoStore;
+  keeps = None;
+  answers = λ bytes seen out said. IsBatchAnswer bytes out × (said ≡ []);
+}
+
 -- by whether checkpoints are asked for
 abbrev pub run_meaning : Option ℕ → Option ℕ → Meaning
 run_meaning to None = run_row to
@@ -118,6 +137,7 @@ meaning (Run options) = run_meaning options.to options.keep
 meaning Check = check_row
 meaning Show = show_row
 meaning (Trial number size workers) = trial_row number size
+meaning (Batch workers) = batch_row
 
 -- ---- by command
 

@@ -25,10 +25,11 @@ exit_status status.ReadFault = 4
 exit_status status.WriteFault = 5
 exit_status status.DiskFault = 6
 exit_status (status.Store reason) = 7
+exit_status (status.BadBatch place) = 8
 exit_status status.NoMemory = 9
 
 abbrev pub usage_text : List ℕ
-usage_text = codes "usage: run [--workers W] [--to K] [--keep E] | check | show | trial NUMBER SIZE [--workers W]"
+usage_text = codes "usage: run [--workers W] [--to K] [--keep E] | check | show | trial NUMBER SIZE [--workers W] | batch [--workers W]"
 
 -- what stands before a number's digits
 abbrev pub sign_text : ℤ → List ℕ
@@ -63,6 +64,7 @@ message status.Done = []
 message status.Usage = refusal usage_text
 message status.ReadFault = refusal (codes "read failed")
 message (status.Problem fault) = refusal (fault_text fault)
+message (status.BadBatch place) = refusal (spaced (codes "batch malformed at" ∷ decimal place ∷ []))
 message status.DiskFault = refusal disk_text
 message (status.Store reason) = refusal_line reason
 message status.WriteFault = refusal (codes "write failed")

@@ -66,7 +66,7 @@ fn stop_of(problem: &Problem, to: Option<u32>) -> u32
 }
 
 /// The state of a problem's run at step `target`. Out of memory is the only refusal.
-fn run_to<R: Threads + Wait + Sync, G: Gate + Sync>(
+pub(crate) fn run_to<R: Threads + Wait + Sync, G: Gate + Sync>(
     workers: &Workers<'_, R, G>,
     problem: &Problem,
     target: u32,

@@ -13,7 +13,7 @@ use amr_io::{Fragment, Sink, WriteFault};
 use amr_problem::{Key, ProblemFault};
 
 const USAGE: &str =
-    "amr: usage: run [--workers W] [--to K] [--keep E] | check | show | trial NUMBER SIZE [--workers W]";
+    "amr: usage: run [--workers W] [--to K] [--keep E] | check | show | trial NUMBER SIZE [--workers W] | batch [--workers W]";
 
 /// Writes the line of a refusal, nothing where all is done.
 pub(crate) fn tell<E: Sink>(err: &mut E, status: &Status) -> Result<(), WriteFault>
@@ -27,6 +27,13 @@ pub(crate) fn tell<E: Sink>(err: &mut E, status: &Status) -> Result<(), WriteFau
         Status::Usage => put_line(err, &[Fragment::Str(USAGE)]),
         Status::ReadFault => put_line(err, &[Fragment::Str("amr: read failed")]),
         Status::Problem(fault) => put_fault(err, fault),
+        Status::BadBatch(place) => put_line(
+            err,
+            &[
+                Fragment::Str("amr: batch malformed at "),
+                Fragment::Number(*place),
+            ],
+        ),
         Status::DiskFault => put_line(err, &[Fragment::Str("amr: disk failed")]),
         Status::Store(refusal) => put_refusal(err, *refusal),
         Status::WriteFault => put_line(err, &[Fragment::Str("amr: write failed")]),

@@ -11,6 +11,7 @@ ghost use Rattle.amr_run.specs.Table.{KeepsCheckpoints, OpensStore, ReadsSource,
 ghost use Rattle.amr_store.specs.Phases.{OnlyReads};
 
 use crate::Status;
+use crate::batch::batch;
 use crate::commands::{Marks, Workers, check, keep, run, show, trial};
 use crate::message::tell;
 use amr_cli::{CliFault, Command, Line, parse};
@@ -180,6 +181,7 @@ fn answer<R: Threads + Wait + Sync, S: Source, O: Sink, E: Sink, D: Disk, G: Gat
             size,
             workers,
         } => trial(&workers_of(shell, workers), number, size, out),
+        Command::Batch { workers } => batch(&workers_of(shell, workers), src, out),
     }
 }
 

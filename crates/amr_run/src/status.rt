@@ -2,6 +2,7 @@
 ghost use Rattle.std.specs.Prelude.{◌≡◌};
 ghost use Rattle.amr_run.specs.Texts.{exit_status};
 
+use amr_batch::JobsFault;
 use amr_causes::NoMemory;
 use amr_checkpoint::{KeepFault, Refusal, ResumeFault};
 use amr_drive::DriveFault;
@@ -20,6 +21,9 @@ pub enum Status {
     ReadFault,
     /// The bytes of the source are no problem.
     Problem(ProblemFault),
+    /// The bytes of the source are no batch: the offset at which the first job begins that isn't whole and of the form, or is one
+    /// too many; 1,048,576 where there are more bytes than that.
+    BadBatch(u64),
     /// The disk failed.
     DiskFault,
     /// What is stored refuses the command.
@@ -43,15 +47,16 @@ impl Status {
             Status::WriteFault => 5,
             Status::DiskFault => 6,
             Status::Store(_) => 7,
+            Status::BadBatch(_) => 8,
             Status::NoMemory => 9,
         }
     }
 }
 
 impl From<ReadAll> for Status {
-    ghost use Rattle.amr_run.specs.Refusals.{read_refused};
+    ghost use Rattle.amr_run.specs.Refusals.{problem_unread};
 
-    ghost from_gives = { λ e status. status ≡ read_refused e };
+    ghost from_gives = { λ e status. status ≡ problem_unread e };
 
     fn from(fault: ReadAll) -> Self {
         match fault {
@@ -71,6 +76,19 @@ impl From<JudgeFault> for Status {
         match fault {
             JudgeFault::Fault(fault) => Status::Problem(fault),
             JudgeFault::NoMemory => Status::NoMemory,
+        }
+    }
+}
+
+impl From<JobsFault> for Status {
+    ghost use Rattle.amr_run.specs.Refusals.{jobs_refused};
+
+    ghost from_gives = { λ e status. status ≡ jobs_refused e };
+
+    fn from(fault: JobsFault) -> Self {
+        match fault {
+            JobsFault::BadBatch(place) => Status::BadBatch(place),
+            JobsFault::NoMemory => Status::NoMemory,
         }
     }
 }

@@ -8,7 +8,7 @@ use Rattle.amr_run.proofs.commands.check.Goals as goal
 pub returns-in_err-given-clause-outcome : goal.returns-in_err-given-clause-outcome
 returns-in_err-given-clause-outcome g c =
     let read = c.in_err-given.ensures.problem in
-    (read.0, ([], read.1, grows_none g.O.Sink.holds c.args.out.now, λ seen. refused_by check_row c.from_residual.result _ read.0 seen [] [] c.from_residual.ensures.1 (unread check_row _ read.0 seen tt (λ fault h. h) read.2)))
+    (read.0, ([], read.1, grows_none g.O.Sink.holds c.args.out.now, λ seen. refused_by check_row c.from_residual.result _ read.0 seen [] [] c.from_residual.ensures.1 (unread check_row _ read.0 seen tt read.2)))
 
 pub returns-in_err-put_problem-clause-outcome : goal.returns-in_err-put_problem-clause-outcome
 returns-in_err-put_problem-clause-outcome g c =

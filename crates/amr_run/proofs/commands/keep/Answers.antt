@@ -20,7 +20,7 @@ returns-in_err-given-clause-outcome g c =
           read.1,
           grows_none g.O.Sink.holds c.args.out.now,
           grows_none g.E.Sink.holds c.args.err.now,
-          refused_by (kept_row c.args.marks) c.from_residual.result _ read.0 (g.D.Disk.seen c.args.disk.now) [] [] c.from_residual.ensures.1 (unread (kept_row c.args.marks) _ read.0 (g.D.Disk.seen c.args.disk.now) tt (λ fault h. h) read.2),
+          refused_by (kept_row c.args.marks) c.from_residual.result _ read.0 (g.D.Disk.seen c.args.disk.now) [] [] c.from_residual.ensures.1 (unread (kept_row c.args.marks) _ read.0 (g.D.Disk.seen c.args.disk.now) tt read.2),
           stops_by g.D.Disk.seen g.D.Disk.moment g.D.Disk.leaves c.args.disk.now c.args.disk.now c.from_residual.result _ read.0 c.args.marks [] c.from_residual.ensures.1
               (λ image told. inl (unread_before _ read.0 read.2, only_reads_none g.D.Disk.seen g.D.Disk.moment g.D.Disk.leaves c.args.disk.now, refl)),
         ),

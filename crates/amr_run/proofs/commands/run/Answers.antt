@@ -9,7 +9,7 @@ use Rattle.amr_run.proofs.commands.run.Goals as goal
 pub returns-in_err-given-clause-outcome : goal.returns-in_err-given-clause-outcome
 returns-in_err-given-clause-outcome g c =
     let read = c.in_err-given.ensures.problem in
-    (read.0, ([], read.1, grows_none g.O.Sink.holds c.args.out.now, λ seen. refused_by (run_row c.args.to) c.from_residual.result _ read.0 seen [] [] c.from_residual.ensures.1 (unread (run_row c.args.to) _ read.0 seen tt (λ fault h. h) read.2)))
+    (read.0, ([], read.1, grows_none g.O.Sink.holds c.args.out.now, λ seen. refused_by (run_row c.args.to) c.from_residual.result _ read.0 seen [] [] c.from_residual.ensures.1 (unread (run_row c.args.to) _ read.0 seen tt read.2)))
 
 pub run_to-requires-clause-within : goal.run_to-requires-clause-within
 run_to-requires-clause-within g c κs within = stops_within c.args.to c.in_ok-given.given.problem c.stop_of-target.result c.stop_of-target.ensures

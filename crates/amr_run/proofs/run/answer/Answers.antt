@@ -3,7 +3,7 @@ use Rattle.amr_causes.proofs.ByteLaws.{grows_none, were_left}
 use Rattle.amr_cli.specs.declared.command.Command.{Command}
 use Rattle.amr_run.specs.Outcome.{RepliesBy, RepliesTo, StopsBy, StopsTo, status_of}
 use Rattle.amr_run.specs.Reading.{TakesAtMost}
-use Rattle.amr_run.specs.Table.{OpensStore, check_row, meaning, run_meaning, run_row, show_row, trial_row}
+use Rattle.amr_run.specs.Table.{OpensStore, batch_row, check_row, meaning, run_meaning, run_row, show_row, trial_row}
 use Rattle.amr_run.proofs.KeptOutcomes.{only_reads_none}
 use Rattle.amr_run.proofs.Outcomes.{never_disk_fault, never_usage, takes_none}
 use Rattle.amr_run.proofs.run.answer.Goals as goal
@@ -107,6 +107,24 @@ returns-in-Trial-clause-outcome g c =
       ),
     )
 
+pub returns-in-Batch-clause-outcome : goal.returns-in-Batch-clause-outcome
+returns-in-Batch-clause-outcome g c =
+    let done = c.batch.ensures.outcome in
+    let seen = g.D.Disk.seen c.args.disk.now in (
+      done.0,
+      (
+        done.1.0,
+        (
+          [],
+          done.1.1,
+          done.1.2,
+          grows_none g.E.Sink.holds c.args.err.now,
+          subst (λ (command : Command). RepliesTo (status_of c.batch.result) command done.0 seen done.1.0 []) (sym c.in-Batch.is) (done.1.3 seen),
+          subst (λ (command : Command). StopsTo g.D.Disk.seen g.D.Disk.moment g.D.Disk.leaves c.args.disk.now c.args.disk.now (status_of c.batch.result) (Some command) done.0 []) (sym c.in-Batch.is) (only_reads_none g.D.Disk.seen g.D.Disk.moment g.D.Disk.leaves c.args.disk.now),
+        ),
+      ),
+    )
+
 -- ---- what was taken
 
 pub returns-in-None-clause-taken : goal.returns-in-None-clause-taken
@@ -128,6 +146,9 @@ returns-in-Show-clause-taken g c = takes_none (g.S.Source.left c.args.src.now) (
 pub returns-in-Trial-clause-taken : goal.returns-in-Trial-clause-taken
 returns-in-Trial-clause-taken g c = takes_none (g.S.Source.left c.args.src.now) (meaning c.args.command).reads
 
+pub returns-in-Batch-clause-taken : goal.returns-in-Batch-clause-taken
+returns-in-Batch-clause-taken g c = subst (λ (command : Command). IfSome (meaning command).reads (λ most. TakesAtMost most (g.S.Source.left c.args.src.now) (g.S.Source.left c.batch.new.src))) (sym c.in-Batch.is) c.batch.ensures.taken
+
 -- ---- what is pending
 
 pub returns-in-None-clause-settled : goal.returns-in-None-clause-settled
@@ -145,6 +166,9 @@ returns-in-Show-clause-settled g c opens = c.show.ensures.settled
 pub returns-in-Trial-clause-settled : goal.returns-in-Trial-clause-settled
 returns-in-Trial-clause-settled g c opens = absurd (subst OpensStore c.in-Trial.is opens)
 
+pub returns-in-Batch-clause-settled : goal.returns-in-Batch-clause-settled
+returns-in-Batch-clause-settled g c opens = absurd (subst OpensStore c.in-Batch.is opens)
+
 -- ---- what never refuses
 
 pub returns-in-None-clause-refused : goal.returns-in-None-clause-refused
@@ -159,6 +183,9 @@ returns-in-Show-clause-refused g c = let said = c.show.ensures.outcome in never_
 pub returns-in-Trial-clause-refused : goal.returns-in-Trial-clause-refused
 returns-in-Trial-clause-refused g c = let said = c.trial.ensures.outcome in never_usage (trial_row c.in-Trial.number c.in-Trial.size) c.trial.result [] None said.0 [] (said.2 [] None) c.trial.ensures.refused
 
+pub returns-in-Batch-clause-refused : goal.returns-in-Batch-clause-refused
+returns-in-Batch-clause-refused g c = let done = c.batch.ensures.outcome in never_usage batch_row c.batch.result done.0 None done.1.0 [] (done.1.3 None) c.batch.ensures.refused
+
 pub returns-in-None-clause-disk_fault : goal.returns-in-None-clause-disk_fault
 returns-in-None-clause-disk_fault g c is = let done = c.run.ensures.outcome in absurd (never_disk_fault (run_row c.in-Run.options.to) c.run.result done.0 None done.1.0 [] (λ opens. opens) (done.1.3 None) is)
 
@@ -169,3 +196,6 @@ pub returns-in-Trial-clause-disk_fault : goal.returns-in-Trial-clause-disk_fault
 returns-in-Trial-clause-disk_fault g c is =
     let said = c.trial.ensures.outcome in
     absurd (never_disk_fault (trial_row c.in-Trial.number c.in-Trial.size) c.trial.result [] None said.0 [] (λ opens. opens) (said.2 [] None) is)
+
+pub returns-in-Batch-clause-disk_fault : goal.returns-in-Batch-clause-disk_fault
+returns-in-Batch-clause-disk_fault g c is = let done = c.batch.ensures.outcome in absurd (never_disk_fault batch_row c.batch.result done.0 None done.1.0 [] (λ opens. opens) (done.1.3 None) is)
