@@ -4,7 +4,7 @@ use crate::cases::{Case, RING, RING_PLOT, ring_with};
 use std::test::Fail;
 
 const USAGE: &str =
-    "amr: usage: run [--workers W] [--to K] [--keep E] | check | show | trial NUMBER SIZE [--workers W]\n";
+    "amr: usage: run [--workers W] [--to K] [--keep E] | check | show | trial NUMBER SIZE [--workers W] | batch [--workers W]\n";
 
 const TRIAL: &str =
     "trial 1 64 step 16 levels 3 boxes 16 mass 1501170 sha256 b10ee6787cb6ad3e832772c1cd56fc3516691143d250f1d82867fbe5b0a60a5d\n";
@@ -39,6 +39,8 @@ fn words_that_are_no_command(rt: HostRuntime) {
         "run --keep 4097",
         "show x",
         "trial 1 7",
+        "batch 1",
+        "batch --workers 65",
     ] {
         Case::of(words, RING.as_bytes()).ends(&rt, 2, "", USAGE);
     }

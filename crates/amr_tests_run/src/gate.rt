@@ -2,6 +2,7 @@
 
 ghost use Rattle.std.specs.Prelude.{ℕ, ◌<◌};
 
+use crate::batch::{batch_of, replies};
 use crate::cases::ring_with;
 use crate::plots::NINE_COLUMNS_PLOT;
 use amr_cli::Line;
@@ -25,6 +26,33 @@ fn nine_columns(alloc: Global) -> Result<String, Fail> {
     )
 }
 
+/// A command whose tasks pass this gate answers so, with so many workers.
+fn answers<R: Abort + Alloc<A = Global> + Threads + Wait + Sync, G: Gate + Sync>(
+    rt: &R,
+    words: [&str; 3],
+    bytes: &[u8],
+    answer: &[u8],
+    gate: &G,
+) -> Result<(), Fail>
+    requires { (worker task : ℕ) → worker < 64 → G.admits gate.now worker task }
+{
+    let alloc = rt.alloc();
+    let mut line = Line::make(alloc);
+    for word in words {
+        line.push(word)?;
+    }
+    let mut src = MemSource::make(alloc, bytes, 1000, &[]).expect(rt, "memory");
+    let mut out = MemSink::make(alloc, 10_000, 16, &[]).expect(rt, "memory");
+    let mut lines = MemSink::make(alloc, 1000, 40, &[]).expect(rt, "memory");
+    let mut disk = MemDisk::make(alloc, &[], 0, 0, &[], Some(1)).expect(rt, "memory");
+    let ended = amr_gated(
+        rt, alloc, &line, &mut src, &mut out, &mut lines, &mut disk, gate,
+    );
+    assert_eq!(rt; ended.code(), 0);
+    assert_eq!(rt; out.bytes(), answer);
+    Ok(())
+}
+
 /// So many workers at this gate make the same plot of nine columns.
 fn makes_plot<R: Abort + Alloc<A = Global> + Threads + Wait + Sync, G: Gate + Sync>(
     rt: &R,
@@ -33,22 +61,15 @@ fn makes_plot<R: Abort + Alloc<A = Global> + Threads + Wait + Sync, G: Gate + Sy
 ) -> Result<(), Fail>
     requires { (worker task : ℕ) → worker < 64 → G.admits gate.now worker task }
 {
-    let alloc = rt.alloc();
-    let text = nine_columns(alloc)?;
-    let mut line = Line::make(alloc);
-    for word in ["run", "--workers", workers] {
-        line.push(word)?;
-    }
-    let mut src = MemSource::make(alloc, text.as_bytes(), 1000, &[]).expect(rt, "memory");
-    let mut plot = MemSink::make(alloc, 10_000, 16, &[]).expect(rt, "memory");
-    let mut lines = MemSink::make(alloc, 1000, 40, &[]).expect(rt, "memory");
-    let mut disk = MemDisk::make(alloc, &[], 0, 0, &[], Some(1)).expect(rt, "memory");
-    let ended = amr_gated(
-        rt, alloc, &line, &mut src, &mut plot, &mut lines, &mut disk, gate,
-    );
-    assert_eq!(rt; ended.code(), 0);
-    assert_eq!(rt; plot.bytes(), NINE_COLUMNS_PLOT.as_bytes());
-    Ok(())
+    let text = nine_columns(rt.alloc())?;
+    let words = ["run", "--workers", workers];
+    answers(
+        rt,
+        words,
+        text.as_bytes(),
+        NINE_COLUMNS_PLOT.as_bytes(),
+        gate,
+    )
 }
 
 /// A task is held until another is done: so a second worker takes part in the steps of the program.
@@ -56,6 +77,20 @@ fn makes_plot<R: Abort + Alloc<A = Global> + Threads + Wait + Sync, G: Gate + Sy
 fn second_task_first(rt: HostRuntime) -> Result<(), Fail> {
     let gate = Turnstile::new();
     makes_plot(&rt, "2", &gate)?;
+    assert!(rt; gate.has_held());
+    Ok(())
+}
+
+/// The same of the tasks of two jobs: so these are solved side by side, by one worker each.
+#[test]
+fn second_job_first(rt: HostRuntime) -> Result<(), Fail> {
+    let alloc = rt.alloc();
+    let text = nine_columns(alloc)?;
+    let batch = batch_of(alloc, &[text.as_str(), text.as_str()])?;
+    let answer = replies(alloc, &[(0, NINE_COLUMNS_PLOT), (0, NINE_COLUMNS_PLOT)])?;
+    let gate = Turnstile::new();
+    let words = ["batch", "--workers", "2"];
+    answers(&rt, words, batch.as_bytes(), answer.as_bytes(), &gate)?;
     assert!(rt; gate.has_held());
     Ok(())
 }

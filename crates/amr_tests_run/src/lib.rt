@@ -3,6 +3,8 @@
 #![tactic(auto)]
 
 #[cfg(test)]
+mod batch;
+#[cfg(test)]
 mod cases;
 #[cfg(test)]
 mod faults;
