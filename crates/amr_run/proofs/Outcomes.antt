@@ -9,9 +9,6 @@ use Rattle.amr_causes.specs.Bytes.{Grows, IsPrefix, WereLeft}
 use Rattle.amr_io.specs.Short.{FallsShort, IsProperPrefix}
 use Rattle.amr_causes.proofs.ByteLaws.{consumes_none, prefix_whole, were_left}
 use Rattle.amr_batch.proofs.OneReading.{is_one_or_the_other}
-use Rattle.amr_batch.specs.Batch.{IsMalformedAt}
-use Rattle.amr_batch.specs.declared.reading.JobsFault.{JobsFault}
-use Rattle.amr_batch.specs.declared.reading.JobsFault.TheVariants as finding
 use Rattle.amr_def.specs.declared.problem.Problem.{Problem}
 use Rattle.amr_def.specs.State.{State}
 use Rattle.amr_def.specs.Run.{start, finish, run}
@@ -37,7 +34,7 @@ use Rattle.amr_run.specs.Answer.{IsLineOfProblem, IsLineOfTrial, IsPlotOfRun, Is
 use Rattle.amr_run.specs.Outcome.{EndsByLine, Outcome, RefusesStored, RepliesBy, RepliesTo, status_of}
 use Rattle.amr_run.specs.Reading.{ReadsBy, RefusesBy, TakesAtMost}
 use Rattle.amr_run.specs.Table.{HasAnswer, IsGiven, JudgesBatch, JudgesProblem, Meaning, TellsAccepted, meaning, run_meaning, trial_row}
-use Rattle.amr_run.specs.Refusals.{jobs_refused, judge_refused, read_refused}
+use Rattle.amr_run.specs.Refusals.{judge_refused, read_refused}
 use Rattle.amr_run.specs.Texts.{message, problem_line}
 use Rattle.amr_run.specs.declared.status.Status.{Status}
 use Rattle.amr_run.specs.declared.status.Status.TheVariants as status
@@ -72,11 +69,6 @@ reading_refused judges most too_long old new reading.NoMemory refuses long = let
 pub reads_refused : {T : Type 0} (judges : List ℕ → Option Status → Type 0) (is : T → List ℕ → Type 0) (r : Result T Status) (s : Status) (bytes : List ℕ) → IsErrAnd r (λ x. x ≡ s) → RefusesBy judges s bytes → ReadsBy judges is r bytes
 reads_refused judges is (Ok given) s bytes by refuses = absurd by
 reads_refused judges is (Err x) s bytes by refuses = subst (λ (t : Status). RefusesBy judges t bytes) (sym by) refuses
-
--- a batch whose jobs were not found
-pub jobs_unread : (bytes : List ℕ) (e : JobsFault) → ((place : ℕ) → e ≡ finding.BadBatch place → IsMalformedAt bytes place) → RefusesBy JudgesBatch (jobs_refused e) bytes
-jobs_unread bytes (finding.BadBatch place) malformed = malformed place refl
-jobs_unread bytes finding.NoMemory malformed = tt
 
 -- ---- exits of a command
 

@@ -1,9 +1,9 @@
 use Rattle.std.proofs.Common.{ap, inl, refl, subst, sym, Err}
-use Rattle.amr_run.specs.Reading.{IsBatchRead, RefusesBy}
+use Rattle.amr_run.specs.Reading.{RefusesBy}
 use Rattle.amr_run.specs.Table.{JudgesBatch}
 use Rattle.amr_run.specs.declared.status.Status.{Status}
 use Rattle.amr_run.specs.declared.status.Status.TheVariants.{BadBatch}
-use Rattle.amr_run.proofs.Outcomes.{all_taken, jobs_unread, reading_refused, reads_refused}
+use Rattle.amr_run.proofs.Outcomes.{reading_refused}
 use Rattle.amr_run.proofs.reading.read_batch.Goals as goal
 
 pub returns-in-Err-clause-batch : goal.returns-in-Err-clause-batch
