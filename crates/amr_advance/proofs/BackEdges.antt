@@ -19,13 +19,15 @@ use Rattle.amr_register.specs.EdgeCells.{AreEdges, IsEdge, IsSameEdge, IsSmallNe
 use Rattle.amr_lots.specs.declared.lot.Lot.{Lot}
 use Rattle.amr_lots.specs.Runs.{run}
 use Rattle.amr_lots.proofs.Runs.{map_run}
-use Rattle.amr_advance.specs.declared.lots.LotTasks.{LotTasks}
+use Rattle.amr_advance.specs.declared.lots.Lots.{Lots}
 use Rattle.amr_advance.specs.Registers.{AreEdgesFor}
-use Rattle.amr_advance.proofs.InLots.{IsShared, same_run}
-use Rattle.amr_advance.proofs.LentEdges.{AreEmpty, AreLent, as_many, lists_count, still_empty}
-use Rattle.amr_advance.proofs.LotsHanded.{AreLots, HaveNoEdges}
+use Rattle.amr_advance.specs.Handing.{AreLent}
+use Rattle.amr_advance.proofs.InLots.{IsInStep}
+use Rattle.amr_advance.proofs.LentEdges.{AreEmpty, as_many, lists_count, still_empty}
+use Rattle.amr_advance.proofs.LotsHanded.{AreRunLots, HaveNoEdges}
+use Rattle.amr_advance.proofs.Made.{HaveFlows}
+use Rattle.amr_advance.proofs.RunLists.{same_run}
 use Rattle.amr_advance.proofs.RunZips.{all_runs, zip_length, zip_runs}
-use Rattle.amr_advance.proofs.Shared.{HaveFlows}
 
 -- lists of nothing
 no_zip : {A B : Type 0} (R : A → B → Type 0) (xs : List A) (ys : List B) → length xs ≡ 0 → length ys ≡ 0 → AllZip R xs ys
@@ -37,11 +39,11 @@ no_zip R (x ∷ xs) ys e n = absurd (omega (arith, e))
 run_lists : (each k : ℕ) (vs ws : List (Vec EdgeCell)) → run each k vs ≡ ws → run each k (lists_of vs) ≡ lists_of ws
 run_lists each k vs ws e = sym (map_run (λ (v : Vec EdgeCell). v.items) each k vs) ∙ ap lists_of e
 
-module _ {p : Problem} {l : ℕ} {old : Masses} {ps : List Patch} {cells : List Cell} {next : Option Held} {t : LotTasks} (level : IsShared p l old ps cells next t) where
+module _ {p : Problem} {l : ℕ} {old : Masses} {ps : List Patch} {cells : List Cell} {next : Option Held} {t : Lots} (level : IsInStep p l old ps cells next t) where
   abbrev runs : ℕ
   runs = length t.lots.items
 
-  module _ {handed lent ys : List (Box Lot)} {es ds : List (Vec EdgeCell)} (before : AreLots level handed) (none : HaveNoEdges level handed) (fit : AreEdgesFor (map box ps) (lists_of es)) (g : AreLent t.each es ds handed lent) (made : AreLots level ys) (flows : HaveFlows level lent ys) where
+  module _ {handed lent ys : List (Box Lot)} {es ds : List (Vec EdgeCell)} (before : AreRunLots level handed) (none : HaveNoEdges level handed) (fit : AreEdgesFor (map box ps) (lists_of es)) (g : AreLent t.each es ds handed lent) (made : length ys ≡ length t.lots.items) (flows : HaveFlows level lent ys) where
     same_count : (k : ℕ) (x : Box Lot) → k < runs → length (get_or ys k x).value.edges.items ≡ length (get_or lent k x).value.edges.items
     same_count k x lt =
         let vs = (get_or lent k x).value.edges.items in
@@ -51,7 +53,7 @@ module _ {p : Problem} {l : ℕ} {old : Masses} {ps : List Patch} {cells : List 
     -- where lists were lent, each lot has one for each patch of its run
     pub back_count : 0 < length ds → (k : ℕ) (x : Box Lot) → k < length ys → length (get_or ys k x).value.edges.items ≡ length (run t.each k ds)
     back_count some k x lt =
-        let below : k < runs = omega (arith, lt, made.count) in
+        let below : k < runs = omega (arith, lt, made) in
         let n = g.count in
         same_count k x below ∙ ap length (g.handed (omega (arith, some, n)) k x (omega (arith, below, before.count))) ∙ same_run t.each k es ds (sym n)
 
@@ -75,7 +77,7 @@ module _ {p : Problem} {l : ℕ} {old : Masses} {ps : List Patch} {cells : List 
           by_count (suc n) e =
               let m = g.count in
               let some : 0 < length es = omega (arith, e) in
-              let was : (k : ℕ) (x : Box Lot) → k < runs → (get_or zs k x).value.edges.items ≡ (get_or handed k x).value.edges.items = λ k x lt. h.handed (omega (arith, some, m)) k x (omega (arith, lt, made.count)) ∙ g.back some k x (omega (arith, lt, before.count)) in
+              let was : (k : ℕ) (x : Box Lot) → k < runs → (get_or zs k x).value.edges.items ≡ (get_or handed k x).value.edges.items = λ k x lt. h.handed (omega (arith, some, m)) k x (omega (arith, lt, made)) ∙ g.back some k x (omega (arith, lt, before.count)) in
               record {
                 count = λ k x lt. ap length (was k x lt) ∙ none.count k x lt;
                 empty = λ k x lt. subst AreEmpty (sym (was k x lt)) (none.empty k x lt);
@@ -90,18 +92,18 @@ module _ {p : Problem} {l : ℕ} {old : Masses} {ps : List Patch} {cells : List 
         lent_run k x lt = run_lists t.each k es (get_or lent k x).value.edges.items (sym (g.handed some k x (omega (arith, lt, before.count))))
 
         back_run : (k : ℕ) (x : Box Lot) → k < runs → run t.each k (lists_of bs) ≡ lists_of (get_or ys k x).value.edges.items
-        back_run k x lt = let m = g.count in run_lists t.each k bs (get_or ys k x).value.edges.items (h.back (omega (arith, some, m)) k x (omega (arith, lt, made.count)))
+        back_run k x lt = let m = g.count in run_lists t.each k bs (get_or ys k x).value.edges.items (h.back (omega (arith, some, m)) k x (omega (arith, lt, made)))
 
         enough : (vs : List (Vec EdgeCell)) → length vs ≡ length es → length (lists_of vs) ≤ runs * t.each
-        enough vs same = omega (arith, lists_count vs, same, as_many t.each ps es fit some, level.tasks.enough)
+        enough vs same = omega (arith, lists_count vs, same, as_many t.each ps es fit some, level.lots.enough)
 
         all_back : (P : List EdgeCell → Type 0) → ((k : ℕ) (x : Box Lot) → k < runs → All P (lists_of (get_or ys k x).value.edges.items)) → All P (lists_of bs)
-        all_back P holds = all_runs t.each runs level.tasks.some (lists_of bs) (enough bs count_now) P (λ k lt. let x : Box Lot = nth t.lots.items k lt in subst (All P) (sym (back_run k x lt)) (holds k x lt))
+        all_back P holds = all_runs t.each runs level.lots.some (lists_of bs) (enough bs count_now) P (λ k lt. let x : Box Lot = nth t.lots.items k lt in subst (All P) (sym (back_run k x lt)) (holds k x lt))
 
         same_now : SameEdges (lists_of es) (lists_of bs)
         same_now =
             let m = count_now in
-            zip_runs t.each runs level.tasks.some (lists_of es) (enough es refl) (AllZip IsSameEdge) (lists_of bs) (omega (arith, lists_count es, lists_count bs, m)) (λ k lt.
+            zip_runs t.each runs level.lots.some (lists_of es) (enough es refl) (AllZip IsSameEdge) (lists_of bs) (omega (arith, lists_count es, lists_count bs, m)) (λ k lt.
             let x : Box Lot = nth t.lots.items k lt in
             subst (SameEdges (run t.each k (lists_of es))) (sym (back_run k x lt)) (subst (λ xs. SameEdges xs (lists_of (get_or ys k x).value.edges.items)) (sym (lent_run k x lt)) (flows.same k x lt)))
 

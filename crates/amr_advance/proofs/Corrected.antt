@@ -5,10 +5,12 @@ use Rattle.std.specs.Option.{option_map}
 use Rattle.std.specs.declared.option.Option.{Option}
 use Rattle.std.specs.declared.option.Option.TheVariants.{None, Some}
 use Rattle.std.specs.List.{All, AllZip, Contains}
+use Rattle.std.proofs.lemmas.Bool.{false≢true}
 use Rattle.amr_box.specs.declared.Cell.{Cell}
 use Rattle.amr_box.specs.Cells.{Extent, at_least_zero, child, holds, parent}
 use Rattle.amr_box.proofs.Children.{by_child}
 use Rattle.amr_def.specs.State.{Masses, children_mass, is_covered, mass_of}
+use Rattle.amr_patch.specs.declared.levels.Level.{Level as Held}
 use Rattle.amr_patch.specs.declared.patches.Patch.{Patch}
 use Rattle.amr_patch.specs.Pairwise.{Pairwise}
 use Rattle.amr_patch.specs.Patches.{ArePatchesApart, KeepsFrameAndFluxes, box, mass_in, masses_in}
@@ -22,6 +24,7 @@ use Rattle.amr_transfer.proofs.Halves.{parent_child}
 use Rattle.amr_transfer.proofs.PatchLists.{mass_there}
 use Rattle.amr_lots.specs.declared.lot.Correction.{Correction}
 use Rattle.amr_lots.specs.Correcting.{AreCorrectedBy, FitsEntries, IsCorrected, finer_in, register_in}
+use Rattle.amr_advance.specs.Correction.{IsTriedLevel}
 
 -- ---- the parents of fine cells
 
@@ -85,6 +88,9 @@ module _ (t : Bool) (whole : Correction) (ps qs : List Patch) (done : t ≡ true
       by_answer : (u : Bool) → t ≡ u → Pairwise KeepsFrameAndFluxes ps qs
       by_answer true is = kept_all (masses_in (finer_in whole)) (entry_in (register_in whole)) ps qs (done is)
       by_answer false is = subst (Pairwise KeepsFrameAndFluxes ps) (sym (same is)) (all_kept ps)
+
+pub not_tried : (t : Bool) (r : Register) (finer k : Held) → t ≡ false → IsTriedLevel t r finer k k
+not_tried t r finer k undone = record { corrected = λ is. absurd (false≢true (sym undone ∙ is)); same = λ h. refl; boxes = refl; patches = refl }
 
 -- ---- entries that fit a level fit each of its patches
 

@@ -1,14 +1,12 @@
 -- Lots to which what corrects a level was lent: they are handed the level's patches, correct them, pack their messages, and are handed what
 -- they had before.
-use Rattle.std.proofs.Common.{◌≡◌, ◌∙◌, ℕ, suc, ◌+◌, ◌*◌, ◌^◌, ◌<◌, ◌≤◌, List, length, get_or, map, drop, refl, sym, ap, subst, arith}
+use Rattle.std.proofs.Common.{◌≡◌, ◌∙◌, ℕ, ◌+◌, ◌*◌, ◌^◌, ◌<◌, ◌≤◌, List, length, get_or, map, drop, sym, ap, subst, arith}
 use Rattle.std.specs.declared.option.Option.TheVariants.{None, Some}
 use Rattle.std.specs.Global.{Box, Vec}
 use Rattle.std.specs.List.{All, AllZip}
-use Rattle.std.proofs.Math.Nat.{mul-le-mul_right}
 use Rattle.std.proofs.lemmas.List.{length-drop, length-take}
 use Rattle.std.proofs.lemmas.List.Elements.{AllZip-get_or, length_all_zip}
-use Rattle.amr_def.specs.declared.problem.Problem.{Problem}
-use Rattle.amr_def.specs.State.{Masses, children_mass}
+use Rattle.amr_def.specs.State.{children_mass}
 use Rattle.amr_ghost.specs.Messages.{HasPacked, IsMessageFrom}
 use Rattle.amr_ghost.specs.declared.messages.Message.{Message}
 use Rattle.amr_ghost.proofs.Zips.{boxes_of_zip}
@@ -22,21 +20,17 @@ use Rattle.amr_register.specs.declared.register.Register.{Register}
 use Rattle.amr_transfer.specs.Sums.{AreCoarsenable}
 use Rattle.amr_lots.specs.declared.lot.Correction.{Correction}
 use Rattle.amr_lots.specs.declared.lot.Lot.{Lot}
-use Rattle.amr_lots.specs.declared.lot.Phase.TheVariants.{Correct}
+use Rattle.amr_lots.specs.declared.lot.Duty.TheVariants.{Correct}
 use Rattle.amr_lots.specs.Correcting.{AreCorrectedBy, CanCorrect, FitsEntries, IsCorrected, IsReady, MayCorrect, finer_in, register_in, with_correction}
-use Rattle.amr_lots.specs.Delivery.{with_phase}
-use Rattle.amr_lots.specs.Runs.{HasOthersOf, KeepOthers, run}
-use Rattle.amr_lots.specs.Serving.{HasMadeCorrection, HasValuesBy, IsServed, MaySend, MayServe}
-use Rattle.amr_lots.proofs.Layouts.{layout_twice}
+use Rattle.amr_lots.specs.Runs.{KeepOthers, run}
+use Rattle.amr_lots.specs.Serving.{HasMadeCorrection, IsServed, MaySend, MayServe}
 use Rattle.amr_lots.proofs.Runs.{run_at, run_place}
-use Rattle.amr_advance.specs.declared.lots.LotTasks.{LotTasks}
-use Rattle.amr_advance.specs.Averaging.{AreLotsFor}
-use Rattle.amr_advance.specs.Correcting.{IsLentPart, IsPartFrom, KeepsAllButCorrection}
-use Rattle.amr_advance.specs.Lots.{CarryMasses}
-use Rattle.amr_advance.proofs.Averaged.{AreServed, AreTraded, KeepRuns, KeepsRun, counts, enough, same_count}
+use Rattle.amr_advance.specs.declared.lots.Lots.{Lots}
+use Rattle.amr_advance.specs.Correction.{IsLentPart, IsPartFrom, KeepsAllButCorrection}
+use Rattle.amr_advance.specs.Lots.{AreLotsFor, CarryMasses}
+use Rattle.amr_advance.proofs.LotCounts.{run_there}
+use Rattle.amr_advance.proofs.KeptRuns.{AreServed, AreTraded, KeepRuns, KeepsRun, PackRuns, PacksRun, counts, enough, packed_carry, same_count, sends_run, several_of}
 use Rattle.amr_register.proofs.BoxesAt.{box_at}
-use Rattle.amr_advance.proofs.KeptLots.{of_phase}
-use Rattle.amr_advance.proofs.PackedLots.{PackRuns, PacksRun, packed_carry, sends_run}
 use Rattle.amr_advance.proofs.RunZips.{zip_length, zip_runs}
 
 -- ---- shares
@@ -72,13 +66,6 @@ part_can each k whole part ps is ready apart edges fits small there = record {
       (subst (FitsEntries (register_in whole)) (sym (run_at each ps k i q lt)) (fits (k * each + i) q (run_place each ps k i lt)));
 }
 
--- where each of so many lots has a run, each run begins among the patches
-run_there : (each k runs n : ℕ) → k < runs → runs * each < n + each → k * each < n
-run_there each k runs n lt tight = omega (arith, tight, mul-le)
-  where
-    mul-le : suc k * each ≤ runs * each
-    mul-le = mul-le-mul_right each (omega (arith, lt))
-
 -- ---- lots
 
 -- each lot was lent its share
@@ -92,38 +79,18 @@ IsGivenBack a b = b.value ≡ with_correction None a.value
 pub record AreGivenBack (xs ys : List (Box Lot)) : Type 0 where
   pub back : AllZip IsGivenBack xs ys
 
-abbrev pub IsToCorrect : Box Lot → Box Lot → Type 0
-IsToCorrect a b = b.value ≡ with_phase Correct a.value
-
 abbrev WasServed : Box Lot → Box Lot → Type 0
-WasServed a b = IsServed a.value b.value
-
-pub record AreToCorrect (xs ys : List (Box Lot)) : Type 0 where
-  pub told : AllZip IsToCorrect xs ys
+WasServed a b = IsServed Correct a.value b.value
 
 -- a lot that was lent its share or not, and then has none, keeps its run
 given_back : (a b c : Lot) → KeepsAllButCorrection a b → c ≡ with_correction None b → KeepsRun a c
 given_back a b c h back =
     let same : c ≡ with_correction None a = back ∙ (λ i. with_correction None (h i)) in
     record {
-      layout = record {
-        level = λ i. (same i).level;
-        problem = λ i. (same i).problem;
-        flows = λ i. (same i).flows;
-        words = λ i. (same i).words;
-        copies = λ i. (same i).copies;
-        outer = λ i. (same i).outer;
-        correction = refl;
-        before = refl;
-      };
+      workspace = λ i. (same i).workspace;
       patches = λ i. length (same i).patches.items;
       before = λ i. length (same i).before.items;
       edges = λ i. (same i).edges;
-      outbox = λ i. (same i).outbox;
-      inbox = λ i. (same i).inbox;
-      room = λ i. (same i).room;
-      totals = λ i. (same i).totals;
-      sums = λ i. length (same i).sums.items;
     }
 
 -- messages packed from patches, by other names of the same
@@ -143,20 +110,14 @@ all_given_back xs ys zs h back =
           (AllZip-get_or IsGivenBack ys zs k x x back.back (omega (arith, lt, n)));
     }
 
--- and they have the values of outer ghost cells that they had
-pub all_valued : (p : Problem) (l : ℕ) (old : Masses) (xs ys : List (Box Lot)) → KeepRuns xs ys → All (λ (x : Box Lot). HasValuesBy p l old x.value.outer) xs → All (λ (x : Box Lot). HasValuesBy p l old x.value.outer) ys
-all_valued p l old xs ys kept h k x lt =
-    let below : k < length xs = omega (arith, lt, kept.count) in
-    subst (HasValuesBy p l old) (sym (kept.each k x below).layout.outer) (h k x below)
-
 -- ---- the lots of a level
 
-module _ {t : LotTasks} (ps : List Patch) (made : AreLotsFor (map box ps) t) where
+module _ {t : Lots} (ps : List Patch) (made : AreLotsFor (map box ps) t) where
   few : length ps ≤ 2 ^ 26
-  few = omega (arith, made.tasks.small, same_count ps made)
+  few = omega (arith, made.lots.small, same_count ps made)
 
   there : (k : ℕ) → k < length t.lots.items → k * t.each < length ps
-  there k lt = run_there t.each k (length t.lots.items) (length ps) lt (omega (arith, made.tasks.tight, same_count ps made))
+  there k lt = let tight = (several_of ps made).tight in run_there t.each k (length t.lots.items) (length ps) lt (omega (arith, tight, same_count ps made))
 
   -- so that the number of each run's first patch is small
   pub lent_small : (k : ℕ) → k < length t.lots.items → k * t.each < 2 ^ 62
@@ -164,7 +125,7 @@ module _ {t : LotTasks} (ps : List Patch) (made : AreLotsFor (map box ps) t) whe
 
 -- ---- lent what corrects it, handed its patches, served, handed what they had before, and with nothing lent
 
-module _ {t : LotTasks} (ps : List Patch) (whole : Correction) (made : AreLotsFor (map box ps) t) {ls : List (Box Lot)} (lent : AreLentParts t.each whole t.lots.items ls) where
+module _ {t : Lots} (ps : List Patch) (whole : Correction) (made : AreLotsFor (map box ps) t) {ls : List (Box Lot)} (lent : AreLentParts t.each whole t.lots.items ls) where
   -- so they may be handed runs
   pub lent_counts : (k : ℕ) (x : Box Lot) → k < length ls → length (get_or ls k x).value.patches.items ≡ length (run t.each k ps)
   lent_counts k x lt =
@@ -178,124 +139,102 @@ module _ {t : LotTasks} (ps : List Patch) (whole : Correction) (made : AreLotsFo
     in_lent : (k : ℕ) → k < length t.lots.items → k < length ls
     in_lent k lt = omega (arith, lt, lent.count)
 
-    one_handed : (k : ℕ) (x : Box Lot) → k < length t.lots.items → HasOthersOf (get_or ls k x).value (get_or ys k x).value
+    one_handed : (k : ℕ) (x : Box Lot) → k < length t.lots.items → KeepOthers (get_or ls k x) (get_or ys k x)
     one_handed k x lt = AllZip-get_or KeepOthers ls ys k x x h.others (in_lent k lt)
 
     -- each has its share still
     has_part : (k : ℕ) (x : Box Lot) (lt : k < length t.lots.items) → (get_or ys k x).value.correction ≡ Some (lent.parts k x lt).part
-    has_part k x lt = (one_handed k x lt).layout.correction ∙ (λ i. ((lent.parts k x lt).lent i).correction)
+    has_part k x lt = (λ i. (one_handed k x lt i).correction) ∙ (λ i. ((lent.parts k x lt).lent i).correction)
 
-    module _ {zs : List (Box Lot)} (to_correct : AreToCorrect ys zs) where
-      zs_count : length zs ≡ length t.lots.items
-      zs_count = sym (length_all_zip IsToCorrect ys zs to_correct.told) ∙ ys_count
+    may_correct : IsReady whole → ArePatchesApart ps → HasEdgesOf (map box ps) (register_in whole) → All (FitsEntries (register_in whole)) ps → (k : ℕ) (x : Box Lot) → k < length t.lots.items → MayCorrect (get_or ys k x).value
+    may_correct ready apart edges fits k x lt =
+        let of = lent.parts k x lt in
+        record {
+          correction = of.part;
+          lent = has_part k x lt;
+          can = subst (CanCorrect of.part) (sym (h.handed k x (in_lent k lt))) (part_can t.each k whole of.part ps of.is_part ready apart edges fits (few ps made) (there ps made k lt));
+        }
 
-      one_told : (k : ℕ) (x : Box Lot) → k < length t.lots.items → (get_or zs k x).value ≡ with_phase Correct (get_or ys k x).value
-      one_told k x lt = AllZip-get_or IsToCorrect ys zs k x x to_correct.told (omega (arith, lt, ys_count))
+    -- its messages are those that it had, from patches over the boxes of its run
+    may_send : (k : ℕ) (x : Box Lot) → k < length t.lots.items → MaySend (get_or ys k x).value
+    may_send k x lt =
+        subst (λ (v : Vec Message). All (IsMessageFrom (get_or ys k x).value.patches.items) v.items) (sym ((λ i. (one_handed k x lt i).workspace.outbox) ∙ (λ i. ((lent.parts k x lt).lent i).workspace.outbox)))
+        (subst (λ (rs : List Patch). All (IsMessageFrom rs) (get_or t.lots.items k x).value.workspace.outbox.items) (sym (h.handed k x (in_lent k lt))) (sends_run ps made k x lt))
 
-      may_correct : IsReady whole → ArePatchesApart ps → HasEdgesOf (map box ps) (register_in whole) → All (FitsEntries (register_in whole)) ps → (k : ℕ) (x : Box Lot) → k < length t.lots.items → MayCorrect (with_phase Correct (get_or ys k x).value)
-      may_correct ready apart edges fits k x lt =
+    pub all_may_correct : IsReady whole → ArePatchesApart ps → HasEdgesOf (map box ps) (register_in whole) → All (FitsEntries (register_in whole)) ps → All (λ (x : Box Lot). MayServe Correct x.value) ys
+    all_may_correct ready apart edges fits = λ k x lt.
+        let below : k < length t.lots.items = omega (arith, lt, ys_count) in
+        (may_correct ready apart edges fits k x below, may_send k x below)
+
+    module _ {us : List (Box Lot)} (g : AreServed Correct ys us) where
+      us_count : length us ≡ length t.lots.items
+      us_count = sym (length_all_zip WasServed ys us g.served) ∙ ys_count
+
+      one_corrected : (k : ℕ) (x : Box Lot) → k < length t.lots.items → HasMadeCorrection (get_or ys k x).value (get_or us k x).value
+      one_corrected k x lt = AllZip-get_or WasServed ys us k x x g.served (omega (arith, lt, ys_count))
+
+      run_corrected : (k : ℕ) (x : Box Lot) → k < length t.lots.items → AreCorrectedBy whole (run t.each k ps) (get_or us k x).value.patches.items
+      run_corrected k x lt =
           let of = lent.parts k x lt in
-          record {
-            correction = of.part;
-            lent = has_part k x lt;
-            can = subst (CanCorrect of.part) (sym (h.handed k x (in_lent k lt))) (part_can t.each k whole of.part ps of.is_part ready apart edges fits (few ps made) (there ps made k lt));
-          }
+          let made = one_corrected k x lt in
+          part_corrects (k * t.each) whole of.part (run t.each k ps) (get_or us k x).value.patches.items of.is_part
+          (subst (λ (v : Vec Patch). AreCorrectedBy of.part (run t.each k ps) v.items) (λ i. (sym made.sends.others i).patches)
+          (subst (λ (rs : List Patch). AreCorrectedBy of.part rs made.corrected.patches.items) (h.handed k x (in_lent k lt)) (made.corrects.patches of.part (has_part k x lt))))
 
-      -- its messages are those that it had, from patches over the boxes of its run
-      may_send : (k : ℕ) (x : Box Lot) → k < length t.lots.items → MaySend (with_phase Correct (get_or ys k x).value)
-      may_send k x lt =
-          subst (λ (v : Vec Message). All (IsMessageFrom (get_or ys k x).value.patches.items) v.items) (sym ((one_handed k x lt).outbox ∙ (λ i. ((lent.parts k x lt).lent i).outbox)))
-          (subst (λ (rs : List Patch). All (IsMessageFrom rs) (get_or t.lots.items k x).value.outbox.items) (sym (h.handed k x (in_lent k lt))) (sends_run ps made k x lt))
+      -- so they may be handed what they had before
+      pub counts_back : (k : ℕ) (x : Box Lot) → k < length us → length (get_or us k x).value.patches.items ≡ length (run t.each k qs)
+      counts_back k x lt =
+          let below : k < length t.lots.items = omega (arith, lt, us_count) in
+          sym (zip_length (IsCorrected (masses_in (finer_in whole)) (entry_in (register_in whole))) (run t.each k ps) (get_or us k x).value.patches.items (run_corrected k x below))
+          ∙ sym (lent_counts k x (in_lent k below))
+          ∙ sym (ap length (h.back k x (in_lent k below)))
 
-      pub all_may_correct : (p : Problem) → IsReady whole → ArePatchesApart ps → HasEdgesOf (map box ps) (register_in whole) → All (FitsEntries (register_in whole)) ps → All (λ (x : Box Lot). MayServe p x.value) zs
-      all_may_correct p ready apart edges fits = λ k x lt.
-          let below : k < length t.lots.items = omega (arith, lt, zs_count) in
-          subst (MayServe p) (sym (one_told k x below)) (may_correct ready apart edges fits k x below, may_send k x below)
+      module _ {rs : List Patch} {vs : List (Box Lot)} (b : AreTraded t.each qs rs us vs) where
+        vs_count : length vs ≡ length t.lots.items
+        vs_count = sym (length_all_zip KeepOthers us vs b.others) ∙ us_count
 
-      module _ {us : List (Box Lot)} (g : AreServed zs us) where
-        us_count : length us ≡ length t.lots.items
-        us_count = sym (length_all_zip WasServed zs us g.served) ∙ zs_count
+        one_back : (k : ℕ) (x : Box Lot) → k < length t.lots.items → KeepOthers (get_or us k x) (get_or vs k x)
+        one_back k x lt = AllZip-get_or KeepOthers us vs k x x b.others (omega (arith, lt, us_count))
 
-        one_corrected : (k : ℕ) (x : Box Lot) → k < length t.lots.items → HasMadeCorrection (with_phase Correct (get_or ys k x).value) (get_or us k x).value
-        one_corrected k x lt = subst (λ (a : Lot). IsServed a (get_or us k x).value) (one_told k x lt) (AllZip-get_or WasServed zs us k x x g.served (omega (arith, lt, zs_count)))
+        -- and the patches are corrected
+        pub all_corrected : AreCorrectedBy whole ps rs
+        all_corrected =
+            zip_runs t.each (length t.lots.items) made.lots.some ps (enough ps made) (IsCorrected (masses_in (finer_in whole)) (entry_in (register_in whole))) rs (sym (b.count ∙ h.count))
+            (λ k lt. let x : Box Lot = nth t.lots.items k lt in subst (AreCorrectedBy whole (run t.each k ps)) (sym (b.back k x (omega (arith, lt, us_count)))) (run_corrected k x lt))
 
-        run_corrected : (k : ℕ) (x : Box Lot) → k < length t.lots.items → AreCorrectedBy whole (run t.each k ps) (get_or us k x).value.patches.items
-        run_corrected k x lt =
-            let of = lent.parts k x lt in
-            let made = one_corrected k x lt in
-            part_corrects (k * t.each) whole of.part (run t.each k ps) (get_or us k x).value.patches.items of.is_part
-            (subst (λ (v : Vec Patch). AreCorrectedBy of.part (run t.each k ps) v.items) (sym made.sends.patches)
-            (subst (λ (rs : List Patch). AreCorrectedBy of.part rs made.corrected.patches.items) (h.handed k x (in_lent k lt)) (made.corrects.patches of.part (has_part k x lt))))
+        -- over the boxes that they had
+        same_boxes : map box rs ≡ map box ps
+        same_boxes = boxes_of_zip (IsCorrected (masses_in (finer_in whole)) (entry_in (register_in whole))) (λ q r s. s.kept.of_box) ps rs all_corrected
 
-        -- so they may be handed what they had before
-        pub counts_back : (k : ℕ) (x : Box Lot) → k < length us → length (get_or us k x).value.patches.items ≡ length (run t.each k qs)
-        counts_back k x lt =
-            let below : k < length t.lots.items = omega (arith, lt, us_count) in
-            sym (zip_length (IsCorrected (masses_in (finer_in whole)) (entry_in (register_in whole))) (run t.each k ps) (get_or us k x).value.patches.items (run_corrected k x below))
-            ∙ sym (lent_counts k x (in_lent k below))
-            ∙ sym (ap length (h.back k x (in_lent k below)))
+        module _ {ws : List (Box Lot)} (back : AreGivenBack vs ws) where
+          one_new : (k : ℕ) (x : Box Lot) → k < length t.lots.items → PacksRun (run t.each k rs) (get_or t.lots.items k x).value (get_or ws k x).value
+          one_new k x lt =
+              let l : Lot = (get_or ls k x).value in
+              let y : Lot = (get_or ys k x).value in
+              let u : Lot = (get_or us k x).value in
+              let v : Lot = (get_or vs k x).value in
+              let w : Lot = (get_or ws k x).value in
+              let first = one_handed k x lt in
+              let c : Lot = (one_corrected k x lt).corrected in
+              let corrected = (one_corrected k x lt).corrects.others in
+              let sent = (one_corrected k x lt).sends in
+              let last = one_back k x lt in
+              let given = (lent.parts k x lt).lent in
+              let taken : w ≡ with_correction None v = AllZip-get_or IsGivenBack vs ws k x x back.back (omega (arith, lt, vs_count)) in
+              let was : c.workspace ≡ (get_or t.lots.items k x).value.workspace = (λ i. (corrected i).workspace) ∙ (λ i. (first i).workspace) ∙ (λ i. (given i).workspace) in
+              let outbox : u.workspace.outbox ≡ w.workspace.outbox = (λ i. (sym last i).workspace.outbox) ∙ (λ i. (sym taken i).workspace.outbox) in
+              record {
+                workspace = (λ i. (taken i).workspace) ∙ (λ i. (last i).workspace) ∙ (λ i. (sent.others i).workspace) ∙ (λ i. record (was i) { outbox = outbox i });
+                packed = packed_by c.patches.items (run t.each k rs) c.workspace.outbox (get_or t.lots.items k x).value.workspace.outbox u.workspace.outbox w.workspace.outbox ((λ i. (sym sent.others i).patches.items) ∙ sym (b.back k x (omega (arith, lt, us_count)))) (λ i. (was i).outbox) outbox sent.packed;
+                patches = (λ i. length (taken i).patches.items) ∙ ap length (b.handed k x (omega (arith, lt, us_count)) ∙ h.back k x (in_lent k lt)) ∙ (λ i. length (given i).patches.items);
+                before = (λ i. length (taken i).before.items) ∙ (λ i. length (last i).before.items) ∙ (λ i. length (sent.others i).before.items) ∙ (λ i. length (corrected i).before.items) ∙ (λ i. length (first i).before.items) ∙ (λ i. length (given i).before.items);
+                edges = (λ i. (taken i).edges) ∙ (λ i. (last i).edges) ∙ (λ i. (sent.others i).edges) ∙ (λ i. (corrected i).edges) ∙ (λ i. (first i).edges) ∙ (λ i. (given i).edges);
+              }
 
-        module _ {rs : List Patch} {vs : List (Box Lot)} (b : AreTraded t.each qs rs us vs) where
-          vs_count : length vs ≡ length t.lots.items
-          vs_count = sym (length_all_zip KeepOthers us vs b.others) ∙ us_count
+          -- each lot keeps its run, and has packed its messages from the run's corrected patches
+          pub all_new : PackRuns t.each rs t.lots.items ws
+          all_new = record { count = sym (length_all_zip IsGivenBack vs ws back.back) ∙ vs_count; lots = one_new }
 
-          one_back : (k : ℕ) (x : Box Lot) → k < length t.lots.items → HasOthersOf (get_or us k x).value (get_or vs k x).value
-          one_back k x lt = AllZip-get_or KeepOthers us vs k x x b.others (omega (arith, lt, us_count))
-
-          -- and the patches are corrected
-          pub all_corrected : AreCorrectedBy whole ps rs
-          all_corrected =
-              zip_runs t.each (length t.lots.items) made.tasks.some ps (enough ps made) (IsCorrected (masses_in (finer_in whole)) (entry_in (register_in whole))) rs (sym (b.count ∙ h.count))
-              (λ k lt. let x : Box Lot = nth t.lots.items k lt in subst (AreCorrectedBy whole (run t.each k ps)) (sym (b.back k x (omega (arith, lt, us_count)))) (run_corrected k x lt))
-
-          -- over the boxes that they had
-          same_boxes : map box rs ≡ map box ps
-          same_boxes = boxes_of_zip (IsCorrected (masses_in (finer_in whole)) (entry_in (register_in whole))) (λ q r s. s.kept.of_box) ps rs all_corrected
-
-          module _ {ws : List (Box Lot)} (back : AreGivenBack vs ws) where
-            one_new : (k : ℕ) (x : Box Lot) → k < length t.lots.items → PacksRun (run t.each k rs) (get_or t.lots.items k x).value (get_or ws k x).value
-            one_new k x lt =
-                let l : Lot = (get_or ls k x).value in
-                let y : Lot = (get_or ys k x).value in
-                let u : Lot = (get_or us k x).value in
-                let v : Lot = (get_or vs k x).value in
-                let w : Lot = (get_or ws k x).value in
-                let first = one_handed k x lt in
-                let c : Lot = (one_corrected k x lt).corrected in
-                let corrected = (one_corrected k x lt).corrects.others in
-                let sent = (one_corrected k x lt).sends in
-                let last = one_back k x lt in
-                let mid = layout_twice l u v (layout_twice l c u (layout_twice l y c first.layout (of_phase Correct y c corrected.layout)) sent.layout) last.layout in
-                let given = (lent.parts k x lt).lent in
-                let taken : w ≡ with_correction None v = AllZip-get_or IsGivenBack vs ws k x x back.back (omega (arith, lt, vs_count)) in
-                record {
-                  kept = record {
-                    layout = record {
-                      level = (λ i. (taken i).level) ∙ mid.level ∙ (λ i. (given i).level);
-                      problem = (λ i. (taken i).problem) ∙ mid.problem ∙ (λ i. (given i).problem);
-                      flows = (λ i. (taken i).flows) ∙ mid.flows ∙ (λ i. (given i).flows);
-                      words = (λ i. (taken i).words) ∙ mid.words ∙ (λ i. (given i).words);
-                      copies = (λ i. (taken i).copies) ∙ mid.copies ∙ (λ i. (given i).copies);
-                      outer = (λ i. (taken i).outer) ∙ mid.outer ∙ (λ i. (given i).outer);
-                      correction = refl;
-                      before = refl;
-                    };
-                    patches = (λ i. length (taken i).patches.items) ∙ ap length (b.handed k x (omega (arith, lt, us_count)) ∙ h.back k x (in_lent k lt)) ∙ (λ i. length (given i).patches.items);
-                    before = (λ i. length (taken i).before.items) ∙ (λ i. length (mid.before i).items) ∙ (λ i. length (given i).before.items);
-                    edges = (λ i. (taken i).edges) ∙ last.edges ∙ sent.edges ∙ corrected.edges ∙ first.edges ∙ (λ i. (given i).edges);
-                    outbox = refl;
-                    inbox = (λ i. (taken i).inbox) ∙ last.inbox ∙ sent.inbox ∙ corrected.inbox ∙ first.inbox ∙ (λ i. (given i).inbox);
-                    room = (λ i. (taken i).room) ∙ last.room ∙ sent.room ∙ corrected.room ∙ first.room ∙ (λ i. (given i).room);
-                    totals = (λ i. (taken i).totals) ∙ last.totals ∙ sent.totals ∙ corrected.totals ∙ first.totals ∙ (λ i. (given i).totals);
-                    sums = (λ i. length (taken i).sums.items) ∙ (λ i. length (last.sums i).items) ∙ (λ i. length (sent.sums i).items) ∙ (λ i. length (corrected.sums i).items) ∙ (λ i. length (first.sums i).items) ∙ (λ i. length (given i).sums.items);
-                  };
-                  packed = packed_by c.patches.items (run t.each k rs) c.outbox (get_or t.lots.items k x).value.outbox u.outbox w.outbox ((λ i. (sym sent.patches i).items) ∙ sym (b.back k x (omega (arith, lt, us_count)))) (corrected.outbox ∙ first.outbox ∙ (λ i. (given i).outbox)) (sym last.outbox ∙ (λ i. (sym taken i).outbox)) sent.packed;
-                }
-
-            -- each lot keeps its run, and has packed its messages from the run's corrected patches
-            pub all_new : PackRuns t.each rs t.lots.items ws
-            all_new = record { count = sym (length_all_zip IsGivenBack vs ws back.back) ∙ vs_count; lots = one_new }
-
-            -- so they carry the corrected masses
-            pub all_current : ArePatchesApart ps → CarryMasses (masses_in rs) ws
-            all_current apart = packed_carry rs (subst (λ bs. AreLotsFor bs t) (sym same_boxes) made) (apart_alike ps rs same_boxes apart) ws all_new
+          -- so they carry the corrected masses
+          pub all_current : ArePatchesApart ps → CarryMasses (masses_in rs) ws
+          all_current apart = packed_carry rs (subst (λ bs. AreLotsFor bs t) (sym same_boxes) made) (apart_alike ps rs same_boxes apart) ws all_new

@@ -1,25 +1,24 @@
 -- Lots that are handed a level's patches and those that keep its masses: they copy the masses, and are handed what they had before.
-use Rattle.std.proofs.Common.{◌≡◌, ◌∙◌, ℕ, ◌<◌, List, length, get_or, map, refl, sym, ap, subst, arith}
+use Rattle.std.proofs.Common.{◌≡◌, ◌∙◌, ℕ, ◌<◌, List, length, get_or, map, sym, ap, subst, arith}
 use Rattle.std.specs.Global.{Box, Vec}
 use Rattle.std.specs.List.{All, AllZip}
 use Rattle.std.specs.Vec.{with_items}
 use Rattle.std.proofs.lemmas.List.{length-map}
 use Rattle.std.proofs.lemmas.List.Elements.{AllZip-get_or, length_all_zip}
 use Rattle.amr_alike.specs.Copied.{IsCopied}
-use Rattle.amr_def.specs.declared.problem.Problem.{Problem}
 use Rattle.amr_layout.proofs.Planned.{nth}
-use Rattle.amr_patch.specs.declared.patches.Patch.{Patch}
-use Rattle.amr_patch.specs.Patches.{box}
+use Rattle.amr_lots.specs.declared.lot.Duty.TheVariants.{Keep}
 use Rattle.amr_lots.specs.declared.lot.Lot.{Lot}
-use Rattle.amr_lots.specs.declared.lot.Phase.TheVariants.{Keep}
-use Rattle.amr_lots.specs.Delivery.{with_phase}
-use Rattle.amr_lots.specs.Runs.{HasOthersOf, KeepAllButBefore, KeepOthers, run, with_before}
+use Rattle.amr_lots.specs.Runs.{KeepAllButBefore, KeepOthers, run, with_before}
 use Rattle.amr_lots.specs.Serving.{HasKeptMasses, IsServed, MayServe}
 use Rattle.amr_lots.proofs.Runs.{map_run}
-use Rattle.amr_advance.specs.declared.lots.LotTasks.{LotTasks}
-use Rattle.amr_advance.specs.Averaging.{AreLotsFor}
-use Rattle.amr_advance.proofs.Averaged.{AreServed, AreTraded, KeepRuns, KeepsRun, counts, enough, same_runs}
+use Rattle.amr_patch.specs.declared.patches.Patch.{Patch}
+use Rattle.amr_patch.specs.Patches.{box}
+use Rattle.amr_advance.specs.declared.lots.Lots.{Lots}
+use Rattle.amr_advance.specs.Lots.{AreLotsFor}
+use Rattle.amr_advance.proofs.KeptRuns.{AreServed, AreTraded, KeepRuns, KeepsRun, counts, enough, several_of}
 use Rattle.amr_advance.proofs.LotsHanded.{when_lent}
+use Rattle.amr_advance.proofs.RunLists.{same_runs}
 use Rattle.amr_advance.proofs.RunZips.{zip_runs}
 
 -- ---- what the calls do with the patches that keep masses
@@ -31,20 +30,11 @@ pub record AreTradedBefore (each : ℕ) (bs cs : List Patch) (xs ys : List (Box 
   pub count : length cs ≡ length bs
   pub others : AllZip KeepAllButBefore xs ys
 
-abbrev pub IsToKeep : Box Lot → Box Lot → Type 0
-IsToKeep a b = b.value ≡ with_phase Keep a.value
-
 abbrev WasServed : Box Lot → Box Lot → Type 0
-WasServed a b = IsServed a.value b.value
-
-pub record AreToKeep (xs ys : List (Box Lot)) : Type 0 where
-  pub told : AllZip IsToKeep xs ys
+WasServed a b = IsServed Keep a.value b.value
 
 pub all_traded_before : (each : ℕ) (bs cs : List Patch) (v : Vec (Box Lot)) (lent xs : List (Box Lot)) → lent ≡ v.items → AreTradedBefore each bs cs lent xs → AreTradedBefore each bs cs v.items (with_items v xs).items
 all_traded_before each bs cs v lent xs is h = when_lent (AreTradedBefore each bs cs) v lent xs is (length_all_zip KeepAllButBefore lent xs h.others) h
-
-pub all_told : (v : Vec (Box Lot)) (lent xs : List (Box Lot)) → lent ≡ v.items → AreToKeep lent xs → AreToKeep v.items (with_items v xs).items
-all_told v lent xs is h = when_lent AreToKeep v lent xs is (length_all_zip IsToKeep lent xs h.told) h
 
 -- patches with the same boxes are as many
 pub as_many : (ps bs : List Patch) → map box bs ≡ map box ps → length bs ≡ length ps
@@ -56,20 +46,22 @@ same_boxes each k ps bs same = map_run box each k bs ∙ ap (run each k) same �
 
 -- ---- handed the patches
 
-module _ {t : LotTasks} (ps bs : List Patch) (made : AreLotsFor (map box ps) t) (same : map box bs ≡ map box ps) where
+module _ {t : Lots} (ps bs : List Patch) (made : AreLotsFor (map box ps) t) (same : map box bs ≡ map box ps) where
   before_count : (k : ℕ) (x : Box Lot) → k < length t.lots.items → length (get_or t.lots.items k x).value.before.items ≡ length (run t.each k bs)
-  before_count k x lt = (made.tasks.lots k x lt).serves.before ∙ sym (made.tasks.lots k x lt).serves.count ∙ counts ps made k x lt ∙ sym (as_many (run t.each k ps) (run t.each k bs) (same_boxes t.each k ps bs same))
+  before_count k x lt =
+      let others = ((several_of ps made).lots k x lt).others in
+      others.before ∙ sym others.count ∙ counts ps made k x lt ∙ sym (as_many (run t.each k ps) (run t.each k bs) (same_boxes t.each k ps bs same))
 
   module _ {qs : List Patch} {ys : List (Box Lot)} (h : AreTraded t.each ps qs t.lots.items ys) where
     ys_count : length ys ≡ length t.lots.items
     ys_count = sym (length_all_zip KeepOthers t.lots.items ys h.others)
 
-    one_handed : (k : ℕ) (x : Box Lot) → k < length t.lots.items → HasOthersOf (get_or t.lots.items k x).value (get_or ys k x).value
+    one_handed : (k : ℕ) (x : Box Lot) → k < length t.lots.items → KeepOthers (get_or t.lots.items k x) (get_or ys k x)
     one_handed k x lt = AllZip-get_or KeepOthers t.lots.items ys k x x h.others lt
 
     -- so they may be handed those that keep masses
     pub before_counts : (k : ℕ) (x : Box Lot) → k < length ys → length (get_or ys k x).value.before.items ≡ length (run t.each k bs)
-    before_counts k x lt = let below : k < length t.lots.items = omega (arith, lt, ys_count) in (λ i. length ((one_handed k x below).layout.before i).items) ∙ before_count k x below
+    before_counts k x lt = let below : k < length t.lots.items = omega (arith, lt, ys_count) in (λ i. length (one_handed k x below i).before.items) ∙ before_count k x below
 
     module _ {cs : List Patch} {zs : List (Box Lot)} (g : AreTradedBefore t.each bs cs ys zs) where
       zs_count : length zs ≡ length t.lots.items
@@ -81,114 +73,92 @@ module _ {t : LotTasks} (ps bs : List Patch) (made : AreLotsFor (map box ps) t) 
       one_given : (k : ℕ) (x : Box Lot) → k < length t.lots.items → KeepAllButBefore (get_or ys k x) (get_or zs k x)
       one_given k x lt = AllZip-get_or KeepAllButBefore ys zs k x x g.others (in_ys k lt)
 
-      module _ {ws : List (Box Lot)} (told : AreToKeep zs ws) where
-        ws_count : length ws ≡ length t.lots.items
-        ws_count = sym (length_all_zip IsToKeep zs ws told.told) ∙ zs_count
+      patches_at : (k : ℕ) (x : Box Lot) → k < length t.lots.items → (get_or zs k x).value.patches.items ≡ run t.each k ps
+      patches_at k x lt = (λ i. (one_given k x lt i).patches.items) ∙ h.handed k x lt
 
-        one_told : (k : ℕ) (x : Box Lot) → k < length t.lots.items → (get_or ws k x).value ≡ with_phase Keep (get_or zs k x).value
-        one_told k x lt = AllZip-get_or IsToKeep zs ws k x x told.told (omega (arith, lt, zs_count))
+      before_at : (k : ℕ) (x : Box Lot) → k < length t.lots.items → (get_or zs k x).value.before.items ≡ run t.each k bs
+      before_at k x lt = g.handed k x (in_ys k lt)
 
-        patches_at : (k : ℕ) (x : Box Lot) → k < length t.lots.items → (get_or zs k x).value.patches.items ≡ run t.each k ps
-        patches_at k x lt = (λ i. (one_given k x lt i).patches.items) ∙ h.handed k x lt
+      pub all_may_keep : All (λ (x : Box Lot). MayServe Keep x.value) zs
+      all_may_keep = λ k x lt.
+          let below : k < length t.lots.items = omega (arith, lt, zs_count) in
+          ap (map box) (before_at k x below) ∙ same_boxes t.each k ps bs same ∙ ap (map box) (sym (patches_at k x below))
 
-        before_at : (k : ℕ) (x : Box Lot) → k < length t.lots.items → (get_or zs k x).value.before.items ≡ run t.each k bs
-        before_at k x lt = g.handed k x (in_ys k lt)
+      module _ {us : List (Box Lot)} (s : AreServed Keep zs us) where
+        us_count : length us ≡ length t.lots.items
+        us_count = sym (length_all_zip WasServed zs us s.served) ∙ zs_count
 
-        pub all_may_keep : (p : Problem) → All (λ (x : Box Lot). MayServe p x.value) ws
-        all_may_keep p = λ k x lt.
-            let below : k < length t.lots.items = omega (arith, lt, ws_count) in
-            let may : map box (get_or zs k x).value.before.items ≡ map box (get_or zs k x).value.patches.items = ap (map box) (before_at k x below) ∙ same_boxes t.each k ps bs same ∙ ap (map box) (sym (patches_at k x below)) in
-            subst (MayServe p) (sym (one_told k x below)) may
+        in_us : (k : ℕ) → k < length t.lots.items → k < length us
+        in_us k lt = omega (arith, lt, us_count)
 
-        module _ {us : List (Box Lot)} (s : AreServed ws us) where
-          us_count : length us ≡ length t.lots.items
-          us_count = sym (length_all_zip WasServed ws us s.served) ∙ ws_count
+        one_kept : (k : ℕ) (x : Box Lot) → k < length t.lots.items → HasKeptMasses (get_or zs k x).value (get_or us k x).value
+        one_kept k x lt = AllZip-get_or WasServed zs us k x x s.served (omega (arith, lt, zs_count))
 
-          in_us : (k : ℕ) → k < length t.lots.items → k < length us
-          in_us k lt = omega (arith, lt, us_count)
+        run_copied : (k : ℕ) (x : Box Lot) → k < length t.lots.items → AllZip IsCopied (run t.each k ps) (get_or us k x).value.before.items
+        run_copied k x lt = subst (λ (rs : List Patch). AllZip IsCopied rs (get_or us k x).value.before.items) (patches_at k x lt) (one_kept k x lt).copied
 
-          one_kept : (k : ℕ) (x : Box Lot) → k < length t.lots.items → HasKeptMasses (with_phase Keep (get_or zs k x).value) (get_or us k x).value
-          one_kept k x lt = subst (λ (a : Lot). IsServed a (get_or us k x).value) (one_told k x lt) (AllZip-get_or WasServed ws us k x x s.served (omega (arith, lt, ws_count)))
+        -- what a lot has is that of before, but for the patches that keep masses
+        still : (k : ℕ) (x : Box Lot) → k < length t.lots.items → (get_or us k x).value ≡ with_before (get_or us k x).value.before (get_or ys k x).value
+        still k x lt = (one_kept k x lt).others ∙ ap (with_before (get_or us k x).value.before) (one_given k x lt)
 
-          run_copied : (k : ℕ) (x : Box Lot) → k < length t.lots.items → AllZip IsCopied (run t.each k ps) (get_or us k x).value.before.items
-          run_copied k x lt = subst (λ (rs : List Patch). AllZip IsCopied rs (get_or us k x).value.before.items) (patches_at k x lt) (one_kept k x lt).copied
+        -- so they may be handed what they had before
+        pub before_back : (k : ℕ) (x : Box Lot) → k < length us → length (get_or us k x).value.before.items ≡ length (run t.each k cs)
+        before_back k x lt =
+            let below : k < length t.lots.items = omega (arith, lt, us_count) in
+            sym (length_all_zip IsCopied (run t.each k ps) (get_or us k x).value.before.items (run_copied k x below))
+            ∙ sym (as_many (run t.each k ps) (run t.each k bs) (same_boxes t.each k ps bs same))
+            ∙ sym (before_counts k x (in_ys k below))
+            ∙ sym (ap length (g.back k x (in_ys k below)))
 
-          -- what a lot has is that of before, but for its phase and the patches that keep masses
-          still : (k : ℕ) (x : Box Lot) → k < length t.lots.items → (get_or us k x).value ≡ with_before (get_or us k x).value.before (with_phase Keep (get_or ys k x).value)
-          still k x lt = (one_kept k x lt).others ∙ (λ i. with_before (get_or us k x).value.before (with_phase Keep (one_given k x lt i)))
+        module _ {ds : List Patch} {vs : List (Box Lot)} (b : AreTradedBefore t.each cs ds us vs) where
+          vs_count : length vs ≡ length t.lots.items
+          vs_count = sym (length_all_zip KeepAllButBefore us vs b.others) ∙ us_count
 
-          -- so they may be handed what they had before
-          pub before_back : (k : ℕ) (x : Box Lot) → k < length us → length (get_or us k x).value.before.items ≡ length (run t.each k cs)
-          before_back k x lt =
-              let below : k < length t.lots.items = omega (arith, lt, us_count) in
-              sym (length_all_zip IsCopied (run t.each k ps) (get_or us k x).value.before.items (run_copied k x below))
-              ∙ sym (as_many (run t.each k ps) (run t.each k bs) (same_boxes t.each k ps bs same))
-              ∙ sym (before_counts k x (in_ys k below))
-              ∙ sym (ap length (g.back k x (in_ys k below)))
+          in_vs : (k : ℕ) → k < length t.lots.items → k < length vs
+          in_vs k lt = omega (arith, lt, vs_count)
 
-          module _ {ds : List Patch} {vs : List (Box Lot)} (b : AreTradedBefore t.each cs ds us vs) where
-            vs_count : length vs ≡ length t.lots.items
-            vs_count = sym (length_all_zip KeepAllButBefore us vs b.others) ∙ us_count
+          one_back : (k : ℕ) (x : Box Lot) → k < length t.lots.items → KeepAllButBefore (get_or us k x) (get_or vs k x)
+          one_back k x lt = AllZip-get_or KeepAllButBefore us vs k x x b.others (in_us k lt)
 
-            in_vs : (k : ℕ) → k < length t.lots.items → k < length vs
-            in_vs k lt = omega (arith, lt, vs_count)
+          -- the masses were copied
+          pub all_copied : AllZip IsCopied ps ds
+          all_copied =
+              zip_runs t.each (length t.lots.items) made.lots.some ps (enough ps made) IsCopied ds (sym (b.count ∙ g.count ∙ as_many ps bs same))
+              (λ k lt. let x : Box Lot = nth t.lots.items k lt in subst (AllZip IsCopied (run t.each k ps)) (sym (b.back k x (in_us k lt))) (run_copied k x lt))
 
-            one_back : (k : ℕ) (x : Box Lot) → k < length t.lots.items → KeepAllButBefore (get_or us k x) (get_or vs k x)
-            one_back k x lt = AllZip-get_or KeepAllButBefore us vs k x x b.others (in_us k lt)
+          now : (k : ℕ) (x : Box Lot) → k < length t.lots.items → (get_or vs k x).value ≡ with_before (get_or vs k x).value.before (get_or ys k x).value
+          now k x lt = one_back k x lt ∙ ap (with_before (get_or vs k x).value.before) (still k x lt)
 
-            -- the masses were copied
-            pub all_copied : AllZip IsCopied ps ds
-            all_copied =
-                zip_runs t.each (length t.lots.items) made.tasks.some ps (enough ps made) IsCopied ds (sym (b.count ∙ g.count ∙ as_many ps bs same))
-                (λ k lt. let x : Box Lot = nth t.lots.items k lt in subst (AllZip IsCopied (run t.each k ps)) (sym (b.back k x (in_us k lt))) (run_copied k x lt))
+          patches_now : (k : ℕ) (x : Box Lot) → k < length t.lots.items → (get_or vs k x).value.patches.items ≡ run t.each k ps
+          patches_now k x lt = (λ i. (now k x lt i).patches.items) ∙ h.handed k x lt
 
-            now : (k : ℕ) (x : Box Lot) → k < length t.lots.items → (get_or vs k x).value ≡ with_before (get_or vs k x).value.before (with_phase Keep (get_or ys k x).value)
-            now k x lt = one_back k x lt ∙ (λ i. with_before (get_or vs k x).value.before (still k x lt i))
+          pub patches_back : (k : ℕ) (x : Box Lot) → k < length vs → length (get_or vs k x).value.patches.items ≡ length (run t.each k qs)
+          patches_back k x lt =
+              let below : k < length t.lots.items = omega (arith, lt, vs_count) in
+              ap length (patches_now k x below) ∙ sym (counts ps made k x below) ∙ sym (ap length (h.back k x below))
 
-            patches_now : (k : ℕ) (x : Box Lot) → k < length t.lots.items → (get_or vs k x).value.patches.items ≡ run t.each k ps
-            patches_now k x lt = (λ i. (now k x lt i).patches.items) ∙ h.handed k x lt
+          module _ {rs : List Patch} {xs : List (Box Lot)} (last : AreTraded t.each qs rs vs xs) where
+            one_last : (k : ℕ) (x : Box Lot) → k < length t.lots.items → KeepOthers (get_or vs k x) (get_or xs k x)
+            one_last k x lt = AllZip-get_or KeepOthers vs xs k x x last.others (in_vs k lt)
 
-            pub patches_back : (k : ℕ) (x : Box Lot) → k < length vs → length (get_or vs k x).value.patches.items ≡ length (run t.each k qs)
-            patches_back k x lt =
-                let below : k < length t.lots.items = omega (arith, lt, vs_count) in
-                ap length (patches_now k x below) ∙ sym (counts ps made k x below) ∙ sym (ap length (h.back k x below))
+            -- the patches are those of before
+            pub same_patches : rs ≡ ps
+            same_patches =
+                same_runs t.each (length t.lots.items) rs ps (last.count ∙ h.count) (let n = enough ps made in omega (arith, n, last.count, h.count))
+                (λ k lt. let x : Box Lot = nth t.lots.items k lt in last.back k x (in_vs k lt) ∙ patches_now k x lt)
 
-            module _ {rs : List Patch} {xs : List (Box Lot)} (last : AreTraded t.each qs rs vs xs) where
-              one_last : (k : ℕ) (x : Box Lot) → k < length t.lots.items → HasOthersOf (get_or vs k x).value (get_or xs k x).value
-              one_last k x lt = AllZip-get_or KeepOthers vs xs k x x last.others (in_vs k lt)
+            one_new : (k : ℕ) (x : Box Lot) → k < length t.lots.items → KeepsRun (get_or t.lots.items k x).value (get_or xs k x).value
+            one_new k x lt =
+                let first = one_handed k x lt in
+                let mid = now k x lt in
+                let end = one_last k x lt in
+                record {
+                  workspace = (λ i. (end i).workspace) ∙ (λ i. (mid i).workspace) ∙ (λ i. (first i).workspace);
+                  patches = ap length (last.handed k x (in_vs k lt) ∙ h.back k x lt);
+                  before = (λ i. length (end i).before.items) ∙ ap length (b.handed k x (in_us k lt) ∙ g.back k x (in_ys k lt)) ∙ (λ i. length (first i).before.items);
+                  edges = (λ i. (end i).edges) ∙ (λ i. (mid i).edges) ∙ (λ i. (first i).edges);
+                }
 
-              -- the patches are those of before
-              pub same_patches : rs ≡ ps
-              same_patches =
-                  same_runs t.each (length t.lots.items) rs ps (last.count ∙ h.count) (let n = enough ps made in omega (arith, n, last.count, h.count))
-                  (λ k lt. let x : Box Lot = nth t.lots.items k lt in last.back k x (in_vs k lt) ∙ patches_now k x lt)
-
-              one_new : (k : ℕ) (x : Box Lot) → k < length t.lots.items → KeepsRun (get_or t.lots.items k x).value (get_or xs k x).value
-              one_new k x lt =
-                  let first = one_handed k x lt in
-                  let mid = now k x lt in
-                  let end = one_last k x lt in
-                  record {
-                    layout = record {
-                      level = end.layout.level ∙ (λ i. (mid i).level) ∙ first.layout.level;
-                      problem = end.layout.problem ∙ (λ i. (mid i).problem) ∙ first.layout.problem;
-                      flows = end.layout.flows ∙ (λ i. (mid i).flows) ∙ first.layout.flows;
-                      words = end.layout.words ∙ (λ i. (mid i).words) ∙ first.layout.words;
-                      copies = end.layout.copies ∙ (λ i. (mid i).copies) ∙ first.layout.copies;
-                      outer = end.layout.outer ∙ (λ i. (mid i).outer) ∙ first.layout.outer;
-                      correction = refl;
-                      before = refl;
-                    };
-                    patches = ap length (last.handed k x (in_vs k lt) ∙ h.back k x lt);
-                    before = (λ i. length (end.layout.before i).items) ∙ ap length (b.handed k x (in_us k lt) ∙ g.back k x (in_ys k lt)) ∙ (λ i. length (first.layout.before i).items);
-                    edges = end.edges ∙ (λ i. (mid i).edges) ∙ first.edges;
-                    outbox = end.outbox ∙ (λ i. (mid i).outbox) ∙ first.outbox;
-                    inbox = end.inbox ∙ (λ i. (mid i).inbox) ∙ first.inbox;
-                    room = end.room ∙ (λ i. (mid i).room) ∙ first.room;
-                    totals = end.totals ∙ (λ i. (mid i).totals) ∙ first.totals;
-                    sums = (λ i. length (end.sums i).items) ∙ (λ i. length (mid i).sums.items) ∙ (λ i. length (first.sums i).items);
-                  }
-
-              -- all else of the lots is as before
-              pub all_new : KeepRuns t.lots.items xs
-              all_new = record { count = sym (length_all_zip KeepOthers vs xs last.others) ∙ vs_count; each = one_new }
+            -- all else of the lots is as before
+            pub all_new : KeepRuns t.lots.items xs
+            all_new = record { count = sym (length_all_zip KeepOthers vs xs last.others) ∙ vs_count; each = one_new }

@@ -15,16 +15,6 @@ use Rattle.amr_lots.proofs.Runs.{map_run}
 use Rattle.amr_advance.specs.Registers.{AreEdgesFor}
 use Rattle.amr_advance.proofs.RunZips.{zip_length, zip_run}
 
--- ---- what the calls of a step do with the lists
-
--- where there are lists, each lot was handed its run of them, and these became what the lots had. Else nothing changed.
-pub record AreLent (each : ℕ) (es ds : List (Vec EdgeCell)) (xs ys : List (Box Lot)) : Type 0 where
-  pub none : length es ≡ 0 → ys ≡ xs
-  pub handed : 0 < length es → (k : ℕ) (x : Box Lot) → k < length xs → (get_or ys k x).value.edges.items ≡ run each k es
-  pub back : 0 < length es → (k : ℕ) (x : Box Lot) → k < length xs → run each k ds ≡ (get_or xs k x).value.edges.items
-  pub count : length ds ≡ length es
-  pub others : AllZip KeepAllButEdges xs ys
-
 -- ---- lists
 
 -- empty ones
@@ -70,7 +60,7 @@ still_empty (v ∷ vs) (w ∷ ws) same empty =
 
 module _ (each : ℕ) (ps : List Patch) (es : List (Vec EdgeCell)) (fit : AreEdgesFor (map box ps) (lists_of es)) where
   -- all of them, where there are any
-  all_in : 0 < length es → AllZip AreEdgesIn (map box ps) (lists_of es)
+  pub all_in : 0 < length es → AllZip AreEdgesIn (map box ps) (lists_of es)
   all_in some = by_list es fit some
     where
       by_list : (vs : List (Vec EdgeCell)) → AreEdgesFor (map box ps) (lists_of vs) → 0 < length vs → AllZip AreEdgesIn (map box ps) (lists_of vs)

@@ -9,8 +9,8 @@ use Rattle.std.proofs.lemmas.List.{get_or-set_other, get_or-set_same, get_or_def
 use Rattle.amr_lots.specs.declared.lot.Correction.{Correction}
 use Rattle.amr_lots.specs.declared.lot.Lot.{Lot}
 use Rattle.amr_lots.specs.Correcting.{with_correction}
-use Rattle.amr_lots.proofs.InTurn.{zip_from}
-use Rattle.amr_advance.specs.Correcting.{IsLentPart, IsPartFrom, KeepsAllButCorrection}
+use Rattle.amr_advance.proofs.RunZips.{zip_places}
+use Rattle.amr_advance.specs.Correction.{IsLentPart, IsPartFrom, KeepsAllButCorrection}
 
 -- the lots before place n were lent theirs
 pub record AreLentTo (each : ℕ) (whole : Correction) (n : ℕ) (xs ys : List (Box Lot)) : Type 0 where
@@ -28,7 +28,7 @@ module _ (each : ℕ) (whole : Correction) (xs : List (Box Lot)) where
   module _ (n : ℕ) (ys : List (Box Lot)) (lent : AreLentTo each whole n xs ys) where
     -- all but what corrects them is as before
     pub lent_kept : AllZip (λ (a b : Box Lot). KeepsAllButCorrection a.value b.value) xs ys
-    lent_kept = zip_from (λ (a b : Box Lot). KeepsAllButCorrection a.value b.value) xs ys (sym lent.count) (λ j x lt. at j x (cases_lt j n))
+    lent_kept = zip_places (λ (a b : Box Lot). KeepsAllButCorrection a.value b.value) xs ys (sym lent.count) (λ j x lt. at j x (cases_lt j n))
       where
         at : (j : ℕ) (x : Box Lot) → ((j < n) ⊎ (n ≤ j)) → KeepsAllButCorrection (get_or xs j x).value (get_or ys j x).value
         at j x (inl lt) = lent_is_kept (j * each) whole (get_or xs j x).value (get_or ys j x).value (lent.done j x lt)

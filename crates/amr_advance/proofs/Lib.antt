@@ -1,39 +1,48 @@
-mod Bodies
-mod Stages
-pub mod Reversed
-mod OnePatch
-mod Begun
-pub mod Filled
-pub mod Going
-mod Moved
-mod InTurn
-mod Lone
-pub mod Handed
-pub mod Closed
-mod Absorbed
-mod Parts
+pub mod Absorbed
+pub mod AddedWords
 pub mod Advancing
-mod Stepped
+pub mod BackEdges
+pub mod Begin
+pub mod Beside
+pub mod Boxes
+pub mod Corrected
+pub mod CorrectedLots
+pub mod Delivered
+pub mod FewFlows
+pub mod FewReads
+pub mod FinePlan
+pub mod InDomain
+pub mod InLots
+pub mod KeptLaws
+pub mod KeptMasses
+pub mod KeptRuns
+pub mod KeptTotals
+pub mod LentEdges
+pub mod LentLevels
+pub mod LentParts
+pub mod LotCounts
+pub mod LotsHanded
+pub mod Made
+pub mod MadeLots
+pub mod MadeMessages
+pub mod MadeWorkspaces
+pub mod Merged
+pub mod Moved
+pub mod Numbered
+pub mod OneLot
+pub mod OnePatch
+pub mod OuterLots
+pub mod Parts
+pub mod Pieces
+pub mod RunLists
+pub mod RunZips
 pub mod SameLayouts
-mod KeptLaws
-mod RunZips
-mod InLots
-mod KeptLots
-mod LentEdges
-mod LentLevels
-mod LotsHanded
-mod Sent
-mod Shared
-mod BackEdges
-mod MadeLots
-mod Averaged
-mod Corrected
-mod PackedLots
-mod CorrectedLots
-mod KeptMasses
-mod LentParts
-mod AddedWords
-mod FewFlows
-mod FewPatches
-mod KeptTotals
-mod LotsAdded
+pub mod Served
+pub mod ServedPieces
+pub mod Settled
+pub mod Stepped
+pub mod SteppedLots
+pub mod TakenLayouts
+pub mod WholeRun
+pub mod WholeStep
+pub mod WorkSends

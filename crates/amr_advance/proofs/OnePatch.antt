@@ -21,8 +21,7 @@ use Rattle.amr_faces.proofs.Shown.{flux_is, net_alike}
 use Rattle.amr_ghost.specs.Filling.{HasFrame}
 use Rattle.amr_ghost.specs.Frames.{AreInDomain, HasGhostMarks, SameMasses}
 use Rattle.amr_ghost.proofs.Reach.{own_value}
-use Rattle.amr_work.specs.Ready.{MayStep}
-use Rattle.amr_advance.specs.Shown.{IsStepped, LevelStepFits}
+use Rattle.amr_lots.specs.Lots.{IsStepped, LevelStepFits, MayStep}
 
 module _ (p : Problem) (l : ℕ) (old : Masses) (ps : List Patch) (apart : ArePatchesApart ps) (inside : AreInDomain (domain p l) ps) (k : ℕ) (r : Patch) (lt : k < length ps)
     (q : Patch) (of_box : box q ≡ box (get_or ps k r)) (same : SameMasses (get_or ps k r) q) where

@@ -34,9 +34,8 @@ use Rattle.amr_register.proofs.SameCells.{put_back, register_kept, same_itself, 
 use Rattle.amr_register.proofs.EdgeNets.{nets_are}
 use Rattle.amr_layout.specs.Surroundings.{around, finer_masses}
 use Rattle.amr_advance.specs.Registers.{AreEdgesFor, AreNetsOf, BothAreWithEdges, BothChange, BothHaveTakenNets, HasEdges, MayTakeNets, edges_of, taken}
-use Rattle.amr_advance.specs.Shown.{AreShown}
 use Rattle.amr_advance.specs.Totals.{HasTotals}
-use Rattle.amr_advance.proofs.Filled.{all_lie}
+use Rattle.amr_advance.proofs.InDomain.{all_lie}
 
 -- ---- registers
 
@@ -71,10 +70,6 @@ some_lists boxes (v ∷ vs) e h = h
 pub no_lists : (P : List EdgeCell → Type 0) (vs : List (Vec EdgeCell)) → (length vs == 0) ≡ true → All P (lists_of vs)
 no_lists P [] e k d lt = absurd (omega (arith, lt))
 no_lists P (v ∷ vs) e k d lt = absurd (omega (arith, eqb-true (length (v ∷ vs)) 0 e))
-
--- what frames tell, cell by cell
-pub found_nets : (p : Problem) (l : ℕ) (old : Masses) (qs : List Patch) (vs ws : List (Vec EdgeCell)) → AreShown p l old qs → AllZip AreEdgesIn (map box qs) (lists_of vs) → HaveNets p l qs (lists_of vs) (lists_of ws) → AreNetsOf p l (masses_in qs) old (lists_of vs) (lists_of ws)
-found_nets p l old qs vs ws shown inside nets fine edges = nets_are p l (masses_in qs) old fine qs (lists_of vs) (lists_of ws) shown.shows (all_lie p l qs shown.inside) inside edges nets
 
 -- a register whose lists were taken out and became these, which were put back
 pub record IsBack (ys : List (List EdgeCell)) (r s : Register) : Type 0 where

@@ -3,7 +3,7 @@ use Rattle.std.proofs.Common.{◌≡◌, ℕ, ◌+◌, ◌*◌, ◌/◌, ◌%◌
 use Rattle.std.specs.List.{All, AllZip}
 use Rattle.std.proofs.Math.Nat.{lt_of_mul-lt-mul_right, mod-lt}
 use Rattle.std.proofs.lemmas.Nat.{div-add-mod'}
-use Rattle.std.proofs.lemmas.List.{length-drop, length-take}
+use Rattle.std.proofs.lemmas.List.{get_or_default, length-drop, length-take}
 use Rattle.std.proofs.lemmas.Slice.Zip.{AllZip-long}
 use Rattle.amr_register.proofs.EdgeLists.{zip_at, zip_from}
 use Rattle.amr_lots.specs.Runs.{run}
@@ -11,6 +11,10 @@ use Rattle.amr_lots.proofs.Runs.{run_at, run_has, run_place}
 
 pub zip_length : {A B : Type 0} (R : A → B → Type 0) (xs : List A) (ys : List B) → AllZip R xs ys → length xs ≡ length ys
 zip_length R xs ys h = sym (AllZip-long R xs ys h)
+
+-- of lists of the same kind
+pub zip_places : {A : Type 0} (R : A → A → Type 0) (xs ys : List A) → length xs ≡ length ys → ((k : ℕ) (x : A) → k < length xs → R (get_or xs k x) (get_or ys k x)) → AllZip R xs ys
+zip_places R xs ys same each = zip_from R xs ys (sym same) (λ k d e lt. subst (R (get_or xs k d)) (get_or_default ys k d e (omega (arith, lt, same))) (each k d lt))
 
 -- a run of each
 pub zip_run : {A B : Type 0} (R : A → B → Type 0) (each k : ℕ) (xs : List A) (ys : List B) → AllZip R xs ys → AllZip R (run each k xs) (run each k ys)

@@ -10,7 +10,7 @@ use Rattle.amr_box.specs.Cells.{Extent, at_least_zero, holds}
 use Rattle.amr_def.specs.Flux.{Fluxes, net, updated}
 use Rattle.amr_patch.specs.declared.patches.Patch.{Patch}
 use Rattle.amr_patch.specs.Patches.{ArePatchesApart, box, mass_in, masses_in}
-use Rattle.amr_advance.specs.Shown.{IsStepped}
+use Rattle.amr_lots.specs.Lots.{IsStepped}
 
 mass_cases : (t : Bool) (a b : ℕ) (f : ℕ → ℕ) (x y : Option ℕ) → (t ≡ true → b ≡ f a) → y ≡ option_map f x → cond t (Some b) y ≡ option_map f (cond t (Some a) x)
 mass_cases true a b f x y e h = ap Some (e refl)

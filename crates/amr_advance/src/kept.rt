@@ -11,21 +11,23 @@ ghost use Rattle.amr_patch.specs.Orders.{IsOrderOf};
 ghost use Rattle.amr_patch.specs.Patches.{ArePatchesApart, box, masses_in};
 ghost use Rattle.amr_layout.specs.Adds.{HasRegisterCells};
 ghost use Rattle.amr_layout.specs.Grounds.{has_open_side};
-ghost use Rattle.amr_layout.specs.Surroundings.{around, finer_masses};
-ghost use Rattle.amr_ghost.specs.Frames.{AreInDomain, old_masses};
+ghost use Rattle.amr_layout.specs.Surroundings.{finer_masses};
+ghost use Rattle.amr_ghost.specs.Frames.{AreInDomain};
 ghost use Rattle.amr_advance.specs.Kept.{IsCurrentLayout, IsKeptLayout, IsLaidOut, IsValued};
+ghost use Rattle.amr_advance.specs.Steps.{around_of, coarser_masses};
 
 use crate::level::Given;
-use crate::tasks::{Tasks, are_for, tasks_for};
-use crate::ways::Way;
+use crate::lots::{Lots, make_lots};
 use amr_alike::{boxes_of, have_boxes};
 use amr_box::{Bx, Cell};
 use amr_causes::NoMemory;
 use amr_def::Problem;
-use amr_ghost::{FramePlan, plan_frames_in_threads};
+use amr_ghost::plan_frames_in_threads;
 use amr_layout::Surroundings;
+use amr_lots::Lot;
 use amr_patch::{Level, Order, Patch, starts_of};
 use std::alloc::Global;
+use std::boxed::Box;
 use std::thread::Threads;
 
 /// How many register cells are compared: of more, two lists count as other ones.
@@ -33,15 +35,15 @@ const MOST_CELLS: usize = 1 << 30;
 
 /// The layout of a level's step, with a plan of the frames, and what it was made for. That is the boxes of the level's
 /// patches, the register cells of the next coarser level, and the patch boxes of the next finer one. Those matter only
-/// beside open sides. While these stay, each step of the level that is made in the same way takes it as it is.
+/// beside open sides. While these stay, each step of the level takes it as it is.
 #[derive(Drop)]
 pub struct KeptLayout {
     level: u32,
     pub(crate) boxes: Vec<Bx>,
     cells: Vec<Cell>,
     finer: Vec<Bx>,
-    pub(crate) frames: FramePlan,
-    pub(crate) tasks: Tasks,
+    /// The lots of the level.
+    pub lots: Lots,
 }
 
 impl KeptLayout {
@@ -52,9 +54,7 @@ impl KeptLayout {
         ensures current { (M : Masses) → IsCurrentLayout M self.new }
         ensures valued { (p : Problem) (l : ℕ) (old : Masses) → IsValued p l old self.old → IsValued p l old self.new }
     {
-        if let Tasks::Lots(tasks) = &mut self.tasks {
-            tasks.packed = false;
-        }
+        self.lots.packed = false;
     }
 
     /// Tells that masses of the next coarser level changed, by which ghost cells get their values. These are worked out anew at the next
@@ -64,9 +64,7 @@ impl KeptLayout {
         ensures current { (M : Masses) → IsCurrentLayout M self.old → IsCurrentLayout M self.new }
         ensures valued { (p : Problem) (l : ℕ) (old : Masses) → IsValued p l old self.new }
     {
-        if let Tasks::Lots(tasks) = &mut self.tasks {
-            tasks.valued = false;
-        }
+        self.lots.valued = false;
     }
 }
 
@@ -134,12 +132,11 @@ fn finer_boxes(alloc: Global, finer: Option<&Level>) -> Result<Vec<Bx>, NoMemory
     }
 }
 
-/// Whether a layout that is kept is that of these patches, in this way.
-fn serves(kept: &KeptLayout, given: Given<'_>, patches: &[Patch], way: Way) -> bool
-    ensures { IsTrue result → IsKeptLayout given.entry.problem.now kept.now
-        → IsLaidOut (around given.entry.problem.now given.entry.level patches.now given.entry.cells.now (option_copied given.entry.finer)) kept.now }
+/// Whether a layout that is kept is that of these patches.
+fn serves(kept: &KeptLayout, given: Given<'_>, patches: &[Patch], wanted: usize) -> bool
+    ensures { IsTrue result → IsKeptLayout given.entry.problem.now kept.now → IsLaidOut (around_of given.entry patches.now) kept.now }
 {
-    if !are_for(&kept.tasks, way) {
+    if kept.lots.wanted != wanted {
         return false;
     }
     if kept.level != given.level {
@@ -154,22 +151,21 @@ fn serves(kept: &KeptLayout, given: Given<'_>, patches: &[Patch], way: Way) -> b
     serves_beside(given.problem, given.finer, &kept.finer)
 }
 
-/// Lays out the step of these patches anew, to be made in this way, with what old tasks leave as far as it goes.
+/// Lays out the step of these patches anew, with what old lots leave as far as it goes.
 fn lay_out_anew<R: Threads + Sync>(
     rt: &R,
     given: Given<'_>,
     order: Order,
     patches: &[Patch],
-    way: Way,
-    old: Option<Tasks>,
+    wanted: usize,
+    old: Vec<Box<Lot>>,
 ) -> Result<KeptLayout, NoMemory>
     requires level { given.level ≤ 4 }
     requires order { IsOrderOf order patches.now }
     requires apart { ArePatchesApart patches.now }
     requires inside { AreInDomain (domain given.problem.now given.level) patches.now }
-    requires cells { HasRegisterCells (around given.problem.now given.level patches.now given.cells.now (option_copied given.finer)) }
-    ensures laid_out { IfOk result (IsLaidOut
-        (around given.entry.problem.now given.entry.level patches.now given.entry.cells.now (option_copied given.entry.finer))) }
+    requires cells { HasRegisterCells (around_of given patches.now) }
+    ensures laid_out { IfOk result (IsLaidOut (around_of given.entry patches.now)) }
     ensures current { IfOk result (λ k. (M : Masses) → IsCurrentLayout M k) }
     ensures valued { IfOk result (λ k. (p : Problem) (l : ℕ) (old : Masses) → IsValued p l old k) }
 {
@@ -186,7 +182,7 @@ fn lay_out_anew<R: Threads + Sync>(
     };
     let frames = plan_frames_in_threads(
         rt,
-        way.threads(),
+        wanted,
         alloc,
         given.problem,
         given.level,
@@ -194,59 +190,66 @@ fn lay_out_anew<R: Threads + Sync>(
         order,
         &starts,
     )?;
-    let tasks = tasks_for(rt, alloc, surroundings, &frames, way, old)?;
+    let lots = make_lots(rt, alloc, surroundings, &frames, wanted, old)?;
     Ok(KeptLayout {
         level: given.level,
         boxes: boxes_of(alloc, patches)?,
         cells: Vec::from_slice(alloc, given.cells)?,
         finer: finer_boxes(alloc, given.finer)?,
-        frames,
-        tasks,
+        lots,
     })
 }
 
-/// The tasks of a layout that serves no more.
-fn tasks_from(layout: KeptLayout) -> Tasks {
+/// The lots of a layout that serves no more.
+fn lots_from(layout: KeptLayout) -> Vec<Box<Lot>> {
     let KeptLayout {
         level: _,
         boxes: _,
         cells: _,
         finer: _,
-        frames: _,
-        tasks,
+        lots,
     } = layout;
-    tasks
+    let Lots {
+        level: _,
+        wanted: _,
+        each: _,
+        shape: _,
+        packed: _,
+        valued: _,
+        lots,
+        totals: _,
+    } = lots;
+    lots
 }
 
-/// The layout of the step of these patches, to be made in this way: the one that is kept, where it serves, else a new one. None is
+/// The layout of the step of these patches: the one that is kept, where it serves, else a new one. None is
 /// kept afterwards.
-pub(crate) fn layout_for<R: Threads + Sync>(
+pub fn layout_for<R: Threads + Sync>(
     rt: &R,
     given: Given<'_>,
     order: Order,
     patches: &[Patch],
-    way: Way,
+    wanted: usize,
     kept: &mut Option<KeptLayout>,
 ) -> Result<KeptLayout, NoMemory>
     requires level { given.level ≤ 4 }
     requires order { IsOrderOf order patches.now }
     requires apart { ArePatchesApart patches.now }
     requires inside { AreInDomain (domain given.problem.now given.level) patches.now }
-    requires cells { HasRegisterCells (around given.problem.now given.level patches.now given.cells.now (option_copied given.finer)) }
+    requires cells { HasRegisterCells (around_of given patches.now) }
     requires kept { IfSome kept.old (IsKeptLayout given.problem.now) }
     requires current { IfSome kept.old (IsCurrentLayout (masses_in patches.now)) }
-    requires valued { IfSome kept.old (IsValued given.problem.now given.level (old_masses (option_copied given.old))) }
-    ensures laid_out { IfOk result (IsLaidOut
-        (around given.entry.problem.now given.entry.level patches.now given.entry.cells.now (option_copied given.entry.finer))) }
+    requires valued { IfSome kept.old (IsValued given.problem.now given.level (coarser_masses given)) }
+    ensures laid_out { IfOk result (IsLaidOut (around_of given.entry patches.now)) }
     ensures current { IfOk result (IsCurrentLayout (masses_in patches.now)) }
-    ensures valued { IfOk result (IsValued given.entry.problem.now given.entry.level (old_masses (option_copied given.entry.old))) }
+    ensures valued { IfOk result (IsValued given.entry.problem.now given.entry.level (coarser_masses given.entry)) }
     ensures kept { kept.new ≡ None }
 {
     let Some(layout) = kept.take() else {
-        return lay_out_anew(rt, given, order, patches, way, None);
+        return lay_out_anew(rt, given, order, patches, wanted, Vec::new(given.alloc));
     };
-    if serves(&layout, given, patches, way) {
+    if serves(&layout, given, patches, wanted) {
         return Ok(layout);
     }
-    lay_out_anew(rt, given, order, patches, way, Some(tasks_from(layout)))
+    lay_out_anew(rt, given, order, patches, wanted, lots_from(layout))
 }

@@ -1,37 +1,43 @@
-//! The step of a level's patches: one after another, shared out among several workers in lots, or drawn by them on a board.
+//! The step of a level's patches by its lots.
 
-ghost use Rattle.std.specs.Prelude.{◌≡◌, ◌+◌, ◌*◌, ◌<◌, ◌≤◌, ◌^◌, ℕ, IfSome, OnOk, OnErr, length, map, slice_index};
+ghost use Rattle.std.specs.Prelude.{◌≡◌, ◌*◌, ◌<◌, ◌≤◌, ◌^◌, ℕ, [], List, true, false, IfOk, OnOk, OnErr, length, map, slice_index_or, vec_capacity};
 ghost use Rattle.std.specs.List.{All, AllZip};
+ghost use Rattle.std.specs.Global.{Box as boxed};
 ghost use Rattle.std.specs.Option.{option_copied};
-ghost use Rattle.amr_def.specs.Flux.{flux_at};
+ghost use Rattle.amr_lots.specs.Ready.{CanStep};
+ghost use Rattle.amr_lots.specs.Runs.{KeepAllButEdges, run};
+ghost use Rattle.amr_lots.specs.Serving.{HasSent, MaySend};
+ghost use Rattle.amr_lots.specs.Stepping.{HasSteppedAlone};
+ghost use Rattle.amr_lots.specs.declared.lot.Duty.TheVariants.{Step};
+ghost use Rattle.amr_lots.specs.declared.lot.Lot.{Lot as lot};
 ghost use Rattle.amr_patch.specs.Patches.{box, masses_in};
-ghost use Rattle.amr_ghost.specs.Frames.{old_masses};
-ghost use Rattle.amr_layout.specs.Surroundings.{around};
-ghost use Rattle.amr_flows.specs.Laws.{plain_size};
-ghost use Rattle.amr_flows.specs.Words.{level_total};
-ghost use Rattle.amr_register.specs.EdgeCells.{IsSmallNet, SameEdges, lists_of};
-ghost use Rattle.amr_advance.specs.Kept.{IsCurrentLayout, IsLaidOut, IsValued, totals_kept};
-ghost use Rattle.amr_advance.specs.Lots.{IsSharedOf};
-ghost use Rattle.amr_advance.specs.Registers.{AreEdgesFor, AreNetsOf};
-ghost use Rattle.amr_advance.specs.Shown.{AreShown, IsStepped, LevelStepFits};
-ghost use Rattle.amr_advance.specs.Tasks.{AreBoardTasks, AreFilledFor, AreSmallInLots};
-ghost use Rattle.amr_advance.specs.Teams.{IsTeamFor};
+ghost use Rattle.amr_register.specs.EdgeCells.{SameEdges, lists_of};
+ghost use Rattle.amr_advance.specs.Crews.{MayRun};
+ghost use Rattle.amr_advance.specs.Kept.{IsCurrentLayout, IsLaidOut, IsValued};
+ghost use Rattle.amr_advance.specs.Lots.{AreLots, AreLotsCurrent, AreLotsValued, is_one};
+ghost use Rattle.amr_advance.specs.Outer.{IsSharedOf};
+ghost use Rattle.amr_advance.specs.Handing.{HaveBeenHanded};
+ghost use Rattle.amr_advance.specs.Phases.{HasAsMany, HaveMadeStep, IsBasisOf, IsOpened};
+ghost use Rattle.amr_advance.specs.Registers.{AreEdgesFor};
+ghost use Rattle.amr_advance.specs.Steps.{AreFound, AreStepped, CanMakeStep, HasMadeStep, HaveSettled, HaveStepped, MayStepLevel, around_of, coarser_masses};
 
-use crate::alone::step_alone_by;
-use crate::collecting::{collect, take_totals};
+use crate::crew::Workers;
 use crate::kept::KeptLayout;
-use crate::pieces::{to_patches, to_pieces};
-use crate::registers::find_nets;
-use crate::running::{Workers, run_pieces};
-use crate::sharing::step_in_lots;
-use crate::tasks::{BoardTasks, Tasks};
+use crate::lots::{Lots, is_one};
+use crate::outer::{ready_outer, take_back};
+use crate::phases::{Phase, open_lots, run_step, serve_lots};
+use amr_board::{Board, Seat};
 use amr_box::Cell;
 use amr_causes::NoMemory;
 use amr_def::Problem;
+use amr_lots::{
+    Basis, Duty, Lot, Work, Workspace, exchange_edges, exchange_messages, exchange_runs, step_alone,
+};
 use amr_patch::{Level, Patch};
 use amr_register::EdgeCell;
 use amr_workers::Gate;
 use std::alloc::Global;
+use std::boxed::Box;
 use std::sync::{Arc, Wait};
 use std::thread::Threads;
 
@@ -39,7 +45,7 @@ use std::thread::Threads;
 /// next coarser level with the masses before its step. There are the next finer level, and the cells of the coarser
 /// level's flux register. `shared` is the next coarser level again, where workers can have a share of it.
 #[derive(Clone, Copy)]
-pub(crate) struct Given<'a> {
+pub struct Given<'a> {
     pub alloc: Global,
     pub problem: &'a Problem,
     pub level: u32,
@@ -47,63 +53,249 @@ pub(crate) struct Given<'a> {
     pub shared: Option<&'a Arc<Level, Global>>,
     pub finer: Option<&'a Level>,
     pub cells: &'a [Cell],
+    /// What the step is worked out from, for contracts alone.
+    pub basis: &'a Basis,
 }
 
-/// Makes a step of the patches of a level, whose frames are filled, by workers on a board with these tasks. They get
-/// the totals of the words from the closed board, and serve the next step.
-///
-/// All memory whose lack is a refusal is taken before the first task is drawn. If allocation fails the patches are as before.
-fn run_on_board<R: Threads + Wait + Sync, G: Gate + Sync>(
-    workers: &mut Workers<'_, R, G>,
-    given: Given<'_>,
-    patches: &mut [Patch],
-    tasks: &mut BoardTasks,
-) -> Result<(), NoMemory>
-    requires level { given.level ≤ 4 }
-    requires shown { AreShown given.problem.now given.level (old_masses (option_copied given.old)) patches.old }
-    requires fits { LevelStepFits given.problem.now given.level (masses_in patches.old) (old_masses (option_copied given.old)) }
-    requires tasks { AreBoardTasks (around given.problem.now given.level patches.old given.cells.now (option_copied given.finer)) tasks.old }
-    requires few { length patches.old ≤ 2 ^ 26 }
-    requires some_workers { 1 ≤ workers.old.count }
-    requires few_workers { workers.old.count ≤ 64 }
-    requires gate { (worker task : ℕ) → worker < workers.old.count → task < length patches.old → G.admits workers.old.gate.now worker task }
-    requires team { IfSome workers.old.team (IsTeamFor given.problem.now workers.old.gate.now workers.old.count) }
-    ensures workers { workers.new ≡ workers.old }
-    ensures stepped { OnOk result (AllZip
-        (IsStepped (flux_at given.entry.problem.now given.entry.level (masses_in patches.old)
-        (old_masses (option_copied given.entry.old)))) patches.old patches.new) }
-    ensures totals { OnOk result ((word : ℕ) → word < length tasks.new.totals.items
-        → slice_index tasks.new.totals.items word
-        ≡ level_total (around given.entry.problem.now given.entry.level patches.old given.entry.cells.now (option_copied given.entry.finer))
-        (plain_size given.entry.problem.now given.entry.level (masses_in patches.old) (old_masses (option_copied given.entry.old))) word) }
-    ensures small { OnOk result ((word : ℕ) → word < length tasks.new.totals.items → slice_index tasks.new.totals.items word < 2 ^ 63) }
-    ensures tasks { OnOk result (AreBoardTasks
-        (around given.entry.problem.now given.entry.level patches.old given.entry.cells.now (option_copied given.entry.finer)) tasks.new) }
-    ensures same { OnErr result (patches.new ≡ patches.old) }
+/// The phase of the level's lots in which they do this.
+fn phase_of(given: Given<'_>, duty: Duty) -> Phase<'_>
+    ensures problem { result.problem.now ≡ given.entry.problem.now }
+    ensures level { result.level ≡ given.entry.level }
+    ensures duty { result.duty ≡ duty }
+    ensures basis { result.basis.now ≡ given.entry.basis.now }
 {
-    let alloc = given.alloc;
-    let pieces = Vec::with_capacity(alloc, patches.len())?;
-    let room = Vec::with_capacity(alloc, patches.len())?;
-    let turns = tasks.turns.as_slice();
-    let bodies = &mut tasks.bodies;
-    let pieces = to_pieces(given.problem, given.level, turns, patches, bodies, pieces);
-    match run_pieces(workers, alloc, given.problem, tasks.shape, pieces) {
-        Ok(mut ended) => {
-            collect(workers, given, &mut ended, room, tasks, patches);
-            take_totals(&ended, &mut tasks.totals);
-            Ok(())
-        }
-        Err(pieces) => {
-            to_patches(pieces, turns, patches, &mut tasks.bodies);
-            Err(NoMemory)
-        }
+    Phase {
+        alloc: given.alloc,
+        problem: given.problem,
+        level: given.level,
+        duty,
+        basis: given.basis,
     }
 }
 
-/// Makes a step of the patches of a level: each cell gets what flows in through its faces. The layout was made for the way that this
-/// is done in. Frames are filled, but for patches in lots. The layout's tasks get the totals of the ledger's words and of the register's, and
-/// serve the next step. The lists of register cells over a finer level, where there is one, get what the level's own fluxes carry into
-/// each cell. They have the same cells afterwards, whatever the result.
+/// Exchanges the lists of register cells of a level, where it has a register, with those of its lots.
+fn exchange_lists(edges: &mut [Vec<EdgeCell>], lots: &mut [Box<Lot>], size: usize)
+    requires counts { 0 < length edges.old → (k : ℕ) (x : boxed lot) → k < length lots.old
+        → length (slice_index_or lots.old k x).value.edges.items ≡ length (run size k edges.old) }
+    ensures none { length edges.old ≡ 0 → lots.new ≡ lots.old }
+    ensures handed { 0 < length edges.old → (k : ℕ) (x : boxed lot) → k < length lots.old
+        → (slice_index_or lots.new k x).value.edges.items ≡ run size k edges.old }
+    ensures back { 0 < length edges.old → (k : ℕ) (x : boxed lot) → k < length lots.old
+        → run size k edges.new ≡ (slice_index_or lots.old k x).value.edges.items }
+    ensures count { length edges.new ≡ length edges.old }
+    ensures others { AllZip KeepAllButEdges lots.old lots.new }
+{
+    if edges.is_empty() {
+        return;
+    }
+    exchange_edges(edges, lots, size);
+}
+
+/// Has the masses packed that other lots need, where that was not done at the end of the last step or of the correction after it.
+fn pack_lots<R: Threads + Wait + Sync, G: Gate + Sync>(
+    workers: &mut Workers<'_, R, G>,
+    given: Given<'_>,
+    lots: &mut Lots,
+)
+    requires problem { given.basis.now.problem.value ≡ given.problem.now }
+    requires few { length lots.old.lots.items < 2 ^ 32 }
+    requires may { All (λ x. MaySend x.value) lots.old.lots.items }
+    requires crew { MayRun G.admits given.problem.now (length lots.old.lots.items) workers.old }
+    ensures workers { workers.new ≡ workers.old }
+    ensures packed { lots.old.packed ≡ true → lots.new ≡ lots.old }
+    ensures sent { lots.old.packed ≡ false → AllZip (λ a b. HasSent a.value b.value) lots.old.lots.items lots.new.lots.items }
+    ensures rest { lots.new ≡ record lots.old { lots = lots.new.lots } }
+{
+    if lots.packed {
+        return;
+    }
+    serve_lots(workers, phase_of(given, Duty::Send), &mut lots.lots);
+}
+
+/// Makes a step of the patches of a level by the workspace of the lot that is all of it: one task, which the gate sees as task 0 of worker 0.
+/// A level without patches has no task.
+fn step_by_one<G: Gate>(
+    gate: &G,
+    given: Given<'_>,
+    patches: &mut [Patch],
+    edges: &mut [Vec<EdgeCell>],
+    workspace: &mut Workspace,
+)
+    requires step { CanStep given.problem.now given.level patches.old edges.old workspace.old }
+    requires gate { 0 < length patches.old → G.admits gate.now 0 0 }
+    ensures { HasSteppedAlone given.entry.problem.now given.entry.level patches.old edges.old workspace.old patches.new edges.new workspace.new }
+{
+    if patches.is_empty() {
+        return step_alone(given.problem, given.level, patches, edges, workspace);
+    }
+    gate.enter(0, 0);
+    step_alone(given.problem, given.level, patches, edges, workspace);
+    gate.leave(0, 0);
+}
+
+/// The same for the lots of the level, of which there is one.
+fn step_whole<G: Gate>(
+    gate: &G,
+    given: Given<'_>,
+    patches: &mut [Patch],
+    edges: &mut [Vec<EdgeCell>],
+    lots: &mut Lots,
+)
+    requires level { MayStepLevel (around_of given patches.old) (coarser_masses given) }
+    requires lots { CanMakeStep (around_of given patches.old) (coarser_masses given) lots.old }
+    requires one { is_one lots.old ≡ true }
+    requires edges { AreEdgesFor (map box patches.old) (lists_of edges.old) }
+    requires gate { 0 < length patches.old → G.admits gate.now 0 0 }
+    ensures stepped { AreStepped (around_of given.entry patches.old) (coarser_masses given.entry) patches.new }
+    ensures lots { HaveStepped (around_of given.entry patches.old) (coarser_masses given.entry) patches.new lots.old lots.new }
+    ensures edges { AreFound (around_of given.entry patches.old) (coarser_masses given.entry) (lists_of edges.old) (lists_of edges.new) }
+{
+    step_by_one(gate, given, patches, edges, &mut lots.lots[0].workspace);
+}
+
+/// Opens a step of the patches of a level by several lots, as a phase of a board. It hands the lots their patches and their lists of register cells,
+/// has them pack the masses that they need of one another, delivers these, and puts the lots on a board. It gives the board and its only seat.
+/// All memory of the step is taken here: if allocation fails the lots are back in their list, with what they were handed.
+pub fn open_step<R: Threads + Wait + Sync, G: Gate + Sync>(
+    workers: &mut Workers<'_, R, G>,
+    given: Given<'_>,
+    patches: &mut [Patch],
+    edges: &mut [Vec<EdgeCell>],
+    lots: &mut Lots,
+) -> Result<(Board<Work>, Seat<Work>), NoMemory>
+    requires level { MayStepLevel (around_of given patches.old) (coarser_masses given) }
+    requires basis { IsBasisOf given.problem.now patches.old (option_copied given.old) given.basis.now }
+    requires lots { CanMakeStep (around_of given patches.old) (coarser_masses given) lots.old }
+    requires several { is_one lots.old ≡ false }
+    requires edges { AreEdgesFor (map box patches.old) (lists_of edges.old) }
+    requires crew { MayRun G.admits given.problem.now (length patches.old) workers.old }
+    ensures workers { workers.new ≡ workers.old }
+    ensures opened { IfOk result (λ r. (xs : List (boxed lot)) × HaveBeenHanded lots.old patches.old patches.new edges.old edges.new xs
+        × IsOpened given.entry.basis.now given.entry.level Step given.entry.problem.now lots.old.shape xs r.0 r.1) }
+    ensures room { OnOk result (length lots.old.lots.items ≤ vec_capacity lots.new.lots) }
+    ensures empty { OnOk result (lots.new.lots.items ≡ []) }
+    ensures back { OnErr result (HaveBeenHanded lots.old patches.old patches.new edges.old edges.new lots.new.lots.items) }
+    ensures rest { lots.new ≡ record lots.old { lots = lots.new.lots } }
+{
+    exchange_runs(patches, &mut lots.lots, lots.each);
+    exchange_lists(edges, &mut lots.lots, lots.each);
+    pack_lots(workers, given, lots);
+    exchange_messages(&mut lots.lots);
+    open_lots(phase_of(given, Duty::Step), lots.shape, &mut lots.lots)
+}
+
+/// Has several lots make the step of a level, as a phase of a board: of the patches and the lists of register cells that they are handed, and
+/// keep. If allocation fails these are as they were.
+fn run_in_lots<R: Threads + Wait + Sync, G: Gate + Sync>(
+    workers: &mut Workers<'_, R, G>,
+    given: Given<'_>,
+    patches: &mut [Patch],
+    edges: &mut [Vec<EdgeCell>],
+    lots: &mut Lots,
+) -> Result<(), NoMemory>
+    requires level { MayStepLevel (around_of given patches.old) (coarser_masses given) }
+    requires basis { IsBasisOf given.problem.now patches.old (option_copied given.old) given.basis.now }
+    requires lots { CanMakeStep (around_of given patches.old) (coarser_masses given) lots.old }
+    requires several { is_one lots.old ≡ false }
+    requires edges { AreEdgesFor (map box patches.old) (lists_of edges.old) }
+    requires crew { MayRun G.admits given.problem.now (length patches.old) workers.old }
+    ensures workers { workers.new ≡ workers.old }
+    ensures run { (xs : List (boxed lot)) × HaveBeenHanded lots.old patches.old patches.new edges.old edges.new xs
+        × AllZip HasAsMany xs lots.new.lots.items
+        × OnOk result (HaveMadeStep given.entry.basis.now given.entry.level xs lots.old lots.new)
+        × OnErr result (lots.new.lots.items ≡ xs) }
+    ensures rest { lots.new ≡ record lots.old { lots = lots.new.lots; totals = lots.new.totals } }
+{
+    match open_step(workers, given, patches, edges, lots) {
+        Ok((board, seat)) => {
+            run_step(workers, phase_of(given, Duty::Step), board, seat, lots);
+            Ok(())
+        }
+        Err(NoMemory) => Err(NoMemory),
+    }
+}
+
+/// Makes a step of the patches of a level by several lots, as a phase of a board, and takes the patches and the lists of register cells back.
+fn step_in_lots<R: Threads + Wait + Sync, G: Gate + Sync>(
+    workers: &mut Workers<'_, R, G>,
+    given: Given<'_>,
+    patches: &mut [Patch],
+    edges: &mut [Vec<EdgeCell>],
+    lots: &mut Lots,
+) -> Result<(), NoMemory>
+    requires level { MayStepLevel (around_of given patches.old) (coarser_masses given) }
+    requires basis { IsBasisOf given.problem.now patches.old (option_copied given.old) given.basis.now }
+    requires lots { CanMakeStep (around_of given patches.old) (coarser_masses given) lots.old }
+    requires several { is_one lots.old ≡ false }
+    requires edges { AreEdgesFor (map box patches.old) (lists_of edges.old) }
+    requires crew { MayRun G.admits given.problem.now (length patches.old) workers.old }
+    ensures workers { workers.new ≡ workers.old }
+    ensures stepped { OnOk result (AreStepped (around_of given.entry patches.old) (coarser_masses given.entry) patches.new) }
+    ensures lots { OnOk result (HaveStepped (around_of given.entry patches.old) (coarser_masses given.entry) patches.new lots.old lots.new) }
+    ensures edges { OnOk result (AreFound (around_of given.entry patches.old) (coarser_masses given.entry) (lists_of edges.old) (lists_of edges.new)) }
+    ensures same { OnErr result (patches.new ≡ patches.old) }
+    ensures same_edges { OnErr result (SameEdges (lists_of edges.old) (lists_of edges.new)) }
+{
+    let run = run_in_lots(workers, given, patches, edges, lots);
+    exchange_lists(edges, &mut lots.lots, lots.each);
+    exchange_runs(patches, &mut lots.lots, lots.each);
+    run
+}
+
+/// Makes a step of the patches of a level by its lots: by one that is all of it, or by several.
+fn make_step<R: Threads + Wait + Sync, G: Gate + Sync>(
+    workers: &mut Workers<'_, R, G>,
+    given: Given<'_>,
+    patches: &mut [Patch],
+    edges: &mut [Vec<EdgeCell>],
+    lots: &mut Lots,
+) -> Result<(), NoMemory>
+    requires level { MayStepLevel (around_of given patches.old) (coarser_masses given) }
+    requires basis { IsBasisOf given.problem.now patches.old (option_copied given.old) given.basis.now }
+    requires lots { CanMakeStep (around_of given patches.old) (coarser_masses given) lots.old }
+    requires edges { AreEdgesFor (map box patches.old) (lists_of edges.old) }
+    requires crew { MayRun G.admits given.problem.now (length patches.old) workers.old }
+    ensures workers { workers.new ≡ workers.old }
+    ensures stepped { OnOk result (AreStepped (around_of given.entry patches.old) (coarser_masses given.entry) patches.new) }
+    ensures lots { OnOk result (HaveStepped (around_of given.entry patches.old) (coarser_masses given.entry) patches.new lots.old lots.new) }
+    ensures edges { OnOk result (AreFound (around_of given.entry patches.old) (coarser_masses given.entry) (lists_of edges.old) (lists_of edges.new)) }
+    ensures same { OnErr result (patches.new ≡ patches.old) }
+    ensures same_edges { OnErr result (SameEdges (lists_of edges.old) (lists_of edges.new)) }
+{
+    if is_one(lots) {
+        step_whole(workers.gate, given, patches, edges, lots);
+        return Ok(());
+    }
+    step_in_lots(workers, given, patches, edges, lots)
+}
+
+/// Readies the lots of a level for its step: each has the values of its outer ghost cells, or a level by which it can find them.
+pub fn ready_lots(given: Given<'_>, patches: &[Patch], lots: &mut Lots)
+    requires level { MayStepLevel (around_of given patches.now) (coarser_masses given) }
+    requires lots { AreLots (around_of given patches.now) lots.old }
+    requires current { AreLotsCurrent (masses_in patches.now) lots.old }
+    requires valued { AreLotsValued given.problem.now given.level (coarser_masses given) lots.old }
+    requires shared { IsSharedOf given.old given.shared }
+    ensures ready { CanMakeStep (around_of given.entry patches.now) (coarser_masses given.entry) lots.new }
+{
+    if lots.valued {
+        return;
+    }
+    ready_outer(given, &mut lots.lots);
+}
+
+/// Tells that lots made their step, and takes back from them what was lent to them for it.
+fn settle_lots(lots: &mut Lots)
+    ensures { HaveSettled lots.old lots.new }
+{
+    take_back(&mut lots.lots);
+    lots.packed = true;
+    lots.valued = true;
+}
+
+/// Makes a step of the patches of a level: each cell gets what flows in through its faces. The layout was made for it, and serves the next
+/// step. It has the totals of the ledger's words and of the register's then. The lists of register cells over a finer level, where there is one,
+/// get what the level's own fluxes carry into each cell. They have the same cells afterwards, whatever the result.
 ///
 /// All memory whose lack is a refusal is taken before the first task is begun. If allocation fails the patches are as before.
 pub(crate) fn run_level<R: Threads + Wait + Sync, G: Gate + Sync>(
@@ -113,52 +305,22 @@ pub(crate) fn run_level<R: Threads + Wait + Sync, G: Gate + Sync>(
     edges: &mut [Vec<EdgeCell>],
     layout: &mut KeptLayout,
 ) -> Result<(), NoMemory>
-    requires level { given.level ≤ 4 }
-    requires filled { AreFilledFor layout.old.tasks given.problem.now given.level (old_masses (option_copied given.old)) patches.old }
-    requires fits { LevelStepFits given.problem.now given.level (masses_in patches.old) (old_masses (option_copied given.old)) }
-    requires layout { IsLaidOut (around given.problem.now given.level patches.old given.cells.now (option_copied given.finer)) layout.old }
+    requires level { MayStepLevel (around_of given patches.old) (coarser_masses given) }
+    requires basis { IsBasisOf given.problem.now patches.old (option_copied given.old) given.basis.now }
+    requires layout { IsLaidOut (around_of given patches.old) layout.old }
     requires current { IsCurrentLayout (masses_in patches.old) layout.old }
-    requires valued { IsValued given.problem.now given.level (old_masses (option_copied given.old)) layout.old }
+    requires valued { IsValued given.problem.now given.level (coarser_masses given) layout.old }
     requires shared { IsSharedOf given.old given.shared }
     requires edges { AreEdgesFor (map box patches.old) (lists_of edges.old) }
-    requires few { length patches.old ≤ 2 ^ 26 }
-    requires some_workers { 1 ≤ workers.old.count }
-    requires few_workers { workers.old.count ≤ 64 }
-    requires gate { (worker task : ℕ) → worker < workers.old.count → task < length patches.old → G.admits workers.old.gate.now worker task }
-    requires team { IfSome workers.old.team (IsTeamFor given.problem.now workers.old.gate.now workers.old.count) }
+    requires crew { MayRun G.admits given.problem.now (length patches.old) workers.old }
     ensures workers { workers.new ≡ workers.old }
-    ensures stepped { OnOk result (AllZip
-        (IsStepped (flux_at given.entry.problem.now given.entry.level (masses_in patches.old)
-        (old_masses (option_copied given.entry.old)))) patches.old patches.new) }
-    ensures totals { OnOk result ((word : ℕ) → word < length (totals_kept layout.new)
-        → slice_index (totals_kept layout.new) word
-        ≡ level_total (around given.entry.problem.now given.entry.level patches.old given.entry.cells.now (option_copied given.entry.finer))
-        (plain_size given.entry.problem.now given.entry.level (masses_in patches.old) (old_masses (option_copied given.entry.old))) word) }
-    ensures small { OnOk result ((word : ℕ) → word < length (totals_kept layout.new) → slice_index (totals_kept layout.new) word < 2 ^ 63) }
-    ensures small_lots { OnOk result (AreSmallInLots layout.new.tasks) }
-    ensures layout { OnOk result (IsLaidOut
-        (around given.entry.problem.now given.entry.level patches.old given.entry.cells.now (option_copied given.entry.finer)) layout.new) }
-    ensures current { OnOk result (IsCurrentLayout (masses_in patches.new) layout.new) }
-    ensures valued { OnOk result (IsValued given.entry.problem.now given.entry.level (old_masses (option_copied given.entry.old)) layout.new) }
-    ensures same_edges { SameEdges (lists_of edges.old) (lists_of edges.new) }
-    ensures small_nets { All (All IsSmallNet) (lists_of edges.new) }
-    ensures nets { AreNetsOf given.entry.problem.now given.entry.level (masses_in patches.old) (old_masses (option_copied given.entry.old))
-        (lists_of edges.old) (lists_of edges.new) }
+    ensures made { OnOk result (HasMadeStep (around_of given.entry patches.old) (coarser_masses given.entry) patches.new (lists_of edges.old)
+        (lists_of edges.new) layout.new) }
     ensures same { OnErr result (patches.new ≡ patches.old) }
+    ensures same_edges { OnErr result (SameEdges (lists_of edges.old) (lists_of edges.new)) }
 {
-    match &mut layout.tasks {
-        Tasks::Lone(tasks) => {
-            find_nets(given, patches, edges);
-            step_alone_by(workers.gate, given, patches, tasks);
-            Ok(())
-        }
-        Tasks::Lots(tasks) => {
-            step_in_lots(workers, given, patches, edges, tasks);
-            Ok(())
-        }
-        Tasks::Board(tasks) => {
-            find_nets(given, patches, edges);
-            run_on_board(workers, given, patches, tasks)
-        }
-    }
+    ready_lots(given, patches, &mut layout.lots);
+    make_step(workers, given, patches, edges, &mut layout.lots)?;
+    settle_lots(&mut layout.lots);
+    Ok(())
 }

@@ -1,36 +1,28 @@
-//! A step of a level by workers (Berger and Colella 1989: the integration of the grids of one level). A lone worker makes the step of
-//! one patch after another, each by its own values and those of its frame. A team that shares levels out hands each worker a lot, a
-//! run of the level's patches; it fills their ghost cells, works out what flows into the level's register cells, and does the same. Else
-//! each patch is the piece of a task on a board, the larger patches first. What flows through the faces between patches goes over the
-//! board, and so do the sums for the ledger and for the flux register of the next coarser level. After the steps of a finer level its
-//! lots add up the masses of children, which the covered cells get ([`sum_up_kept`]).
+//! A step of a level by workers (Berger and Colella 1989: the integration of the grids of one level). The level's patches are in lots, runs of
+//! them in their order, as many as workers are invited. A step is a phase of a board: each lot is the piece of a task that a worker draws,
+//! takes, works on and gives back. What flows through the faces between lots goes over the board, and so do the sums for the ledger and for
+//! the flux register of the next coarser level. Where one lot is all of the level, its step is the same without a board.
 #![tactic(auto)]
 
-mod adding;
-mod alone;
-mod averaging;
-mod collecting;
-mod correcting;
-mod keeping;
+mod before;
+mod correction;
+mod crew;
 mod kept;
 mod level;
 mod lots;
-mod pieces;
+mod outer;
+mod phases;
 mod registers;
 mod regs;
-mod running;
-mod sharing;
 mod steps;
-mod tasks;
-mod turns;
-mod valuing;
-mod ways;
+mod totals;
+mod workspaces;
 
-pub use averaging::sum_up_kept;
-pub use correcting::correct_kept;
-pub use keeping::keep_masses;
-pub use kept::KeptLayout;
+pub use before::keep_masses;
+pub use correction::correct_kept;
+pub use crew::Workers;
+pub use kept::{KeptLayout, layout_for};
+pub use level::{Given, open_step, ready_lots};
+pub use lots::{Lots, is_one};
 pub use regs::{Crew, Regs};
-pub use running::{LevelTeam, Workers};
 pub use steps::{advance, advance_kept};
-pub use turns::turns_of;

@@ -1,69 +1,59 @@
 //! The lots of a level: runs of its patches, each with what a worker needs.
 
-ghost use Rattle.std.specs.Prelude.{◌≡◌, ◌≢◌, ◌+◌, ◌*◌, ◌<◌, ◌≤◌, ◌^◌, ℕ, false, [], IfOk, OnOk, length, slice_index, slice_index_or};
-ghost use Rattle.std.specs.List.{All, AllZip};
-ghost use Rattle.std.specs.Global.{Box as boxed, Vec as vec};
-ghost use Rattle.std.specs.Option.{option_copied};
+ghost use Rattle.std.specs.Prelude.{◌≡◌, ◌+◌, ◌*◌, ◌<◌, ◌≤◌, ◌^◌, ℕ, true, false, [], IfOk, OnOk, length, slice_index_or};
+ghost use Rattle.std.specs.List.{All};
+ghost use Rattle.std.specs.Global.{Box as boxed};
+ghost use Rattle.amr_box.specs.Cells.{IsNear};
 ghost use Rattle.amr_def.specs.Domain.{domain};
-ghost use Rattle.amr_patch.specs.Orders.{IsOrderOf};
-ghost use Rattle.amr_patch.specs.Patches.{ArePatchesApart, box};
-ghost use Rattle.amr_patch.specs.Gaps.{HasStarts};
-ghost use Rattle.amr_ghost.specs.Frames.{AreInDomain};
-ghost use Rattle.amr_ghost.specs.Plans.{PlansFrames};
-ghost use Rattle.amr_ghost.specs.Messages.{HasPlaces};
-ghost use Rattle.amr_ghost.specs.declared.messages.Message.{Message as message};
-ghost use Rattle.amr_ghost.specs.declared.parts.FrameCopy.{FrameCopy as frame_copy};
-ghost use Rattle.amr_layout.specs.declared.FlowTo.{FlowTo as flow};
-ghost use Rattle.amr_layout.specs.Adds.{HasRegisterCells};
-ghost use Rattle.amr_layout.specs.LevelFlowLists.{HasFlowsAt, flows_at};
-ghost use Rattle.amr_layout.specs.Surroundings.{around, edge_count};
+ghost use Rattle.amr_def.specs.State.{Masses};
+ghost use Rattle.amr_def.specs.declared.problem.Problem.{Problem as problem};
+ghost use Rattle.amr_patch.specs.Patches.{box};
 ghost use Rattle.amr_phase.specs.Plans.{total};
-ghost use Rattle.amr_lots.specs.Words.{IsNumbered};
+ghost use Rattle.amr_ghost.specs.Plans.{PlansFrames};
+ghost use Rattle.amr_layout.specs.Adds.{HasRegisterCells};
+ghost use Rattle.amr_layout.specs.Arounds.{around_of};
+ghost use Rattle.amr_layout.specs.Surroundings.{edge_count};
 ghost use Rattle.amr_lots.specs.declared.lot.Lot.{Lot as lot};
-ghost use Rattle.amr_advance.specs.Layouts.{AreAddsOf};
-ghost use Rattle.amr_advance.specs.Lots.{AreLotTasks, AreNumbersOf, IsLonger, IsLotOf};
+ghost use Rattle.amr_advance.specs.Cuts.{AreLayoutsFrom, AreLevelFlows, IsCut, IsSurroundings};
+ghost use Rattle.amr_advance.specs.Lots.{AreLots, AreLotsCurrent, AreLotsValued, IsLotOf, IsWholeLot, is_one, totals_of};
 
-use crate::pieces::one_cell;
-use crate::tasks::widest_of;
+use crate::workspaces::{Cut, take_layouts, whole_workspace, workspace_for};
+use amr_board::Shape;
+use amr_box::{Bx, Cell};
 use amr_causes::NoMemory;
-use amr_flux::Room;
-use amr_ghost::{FrameCopy, FrameParts, FramePlan, Message, OuterGhosts, part_frames};
-use amr_layout::{FlowTo, LevelFlows, Surroundings, plan_adds_in_threads};
-use amr_lots::{Lot, Phase};
+use amr_ghost::{FrameParts, FramePlan, part_frames};
+use amr_layout::{Layout, LevelFlows, PatchLayout, Surroundings, plan, plan_adds_in_threads};
+use amr_lots::Lot;
 use amr_patch::Patch;
 use amr_register::EdgeCell;
-use amr_transfer::count_sums;
 use std::alloc::Global;
 use std::boxed::Box;
 use std::mem::replace;
-use std::snapshot::Snapshot;
 use std::thread::Threads;
 
-/// What several workers work with who share the patches out in lots.
+/// How many patches a level may have that is shared out. More would take more memory than there is, and are refused as that.
+const MOST: usize = 1 << 26;
+
+/// The lots of a level, and what a phase of them needs.
 #[derive(Drop)]
-pub(crate) struct LotTasks {
-    /// How many workers they are for.
-    pub(crate) workers: u32,
+pub struct Lots {
+    /// The number of the level, from 0 to 4.
+    pub(crate) level: u32,
+    /// How many lots were wanted.
+    pub(crate) wanted: usize,
     /// How many patches each lot has; the last may have fewer.
     pub(crate) each: usize,
+    /// How many places and words the board of a step has.
+    pub(crate) shape: Shape,
     /// Whether the lots have packed the masses that other lots need at the next step.
     pub(crate) packed: bool,
     /// Whether they have the values of ghost cells that get no mass of a patch of the level, by the masses that the next coarser level
     /// has before its own step.
     pub(crate) valued: bool,
-    /// The lots, in the order of the level's patches.
+    /// The lots, in the order of the level's patches. A lot that is all of the level has no patches, and works on the level's own.
     pub(crate) lots: Vec<Box<Lot>>,
-}
-
-/// What the lots of a level are made by: runs of its patches, what each patch adds, and a plan of its frames in parts, run by run.
-#[derive(Clone, Copy)]
-struct Cut<'a> {
-    /// How many patches each run has; the last may have fewer.
-    each: usize,
-    /// How many runs there are.
-    runs: usize,
-    flows: &'a LevelFlows,
-    parts: &'a FrameParts,
+    /// What flowed to each word of the level in the last step, once one was made by several lots.
+    pub(crate) totals: Vec<u64>,
 }
 
 /// How many parts of so many there are in all.
@@ -77,6 +67,17 @@ fn parts_in(all: usize, each: usize) -> usize
         return all / each;
     }
     all / each + 1
+}
+
+/// A box of one cell.
+fn one_cell() -> Bx
+    ensures { IsNear result }
+{
+    let cell = Cell { x: 0, y: 0 };
+    let Some(b) = Bx::try_new(cell, cell) else {
+        unreachable!()
+    };
+    b
 }
 
 /// So many patches, which stand in a lot while no step is made: old ones as far as they go, and then such of one cell.
@@ -99,7 +100,7 @@ struct Blank {
     before: Vec<Patch>,
 }
 
-/// The patches that stand in the last of these lots, which goes. None where there is none.
+/// The patches that stand in the last of these lots, which goes. There are none where there is no lot.
 fn blank_of_last(alloc: Global, lots: &mut Vec<Box<Lot>>) -> Blank {
     match lots.pop() {
         Some(mut lot) => Blank {
@@ -125,172 +126,30 @@ fn blank_edges(alloc: Global, count: usize) -> Result<Vec<Vec<EdgeCell>>, NoMemo
     Ok(lists)
 }
 
-/// The place of a word in a list of words. It is put at the end where it was not there. `numbers` tells for each word of the level where
-/// it stands in the list, from 1 on, or 0.
-fn place_of(words: &mut Vec<u32>, numbers: &mut [u32], word: u32) -> Result<u32, NoMemory>
-    requires there { word < length numbers.old }
-    requires few { length numbers.old < 2 ^ 32 }
-    requires numbers { AreNumbersOf words.old.items numbers.old }
-    ensures count { length numbers.new ≡ length numbers.old }
-    ensures numbers { OnOk result (AreNumbersOf words.new.items numbers.new) }
-    ensures longer { OnOk result (IsLonger words.old.items words.new.items) }
-    ensures within { IfOk result (λ place. place < length words.new.items) }
-    ensures place { IfOk result (λ place. slice_index words.new.items place ≡ word) }
-{
-    let number = numbers[word as usize];
-    if number > 0 {
-        return Ok(number - 1);
-    }
-    let place = words.len() as u32;
-    words.push(word)?;
-    numbers[word as usize] = place + 1;
-    Ok(place)
-}
-
-/// Flows to places in a list of words, to which those that it lacks are added.
-fn number_flows(
-    alloc: Global,
-    flows: &[FlowTo],
-    words: &mut Vec<u32>,
-    numbers: &mut [u32],
-) -> Result<Vec<FlowTo>, NoMemory>
-    requires words { All (λ x. x.word < length numbers.old) flows.now }
-    requires few { length numbers.old < 2 ^ 32 }
-    requires numbers { AreNumbersOf words.old.items numbers.old }
-    ensures count { length numbers.new ≡ length numbers.old }
-    ensures numbers { OnOk result (AreNumbersOf words.new.items numbers.new) }
-    ensures longer { OnOk result (IsLonger words.old.items words.new.items) }
-    ensures flows { IfOk result (λ xs. AllZip (IsNumbered words.new.items) flows.now xs.items) }
-{
-    let mut numbered = Vec::with_capacity(alloc, flows.len())?;
-    for k in 0..flows.len() {
-        let place = place_of(words, numbers, flows[k].word)?;
-        numbered.push_reserved(FlowTo {
-            word: place,
-            face: flows[k].face,
-        });
-    }
-    Ok(numbered)
-}
-
-/// Flows of patches to places in a list of words.
-#[derive(Drop)]
-struct NumberedFlows {
-    /// A list for each patch.
-    lists: Vec<Vec<FlowTo>>,
-    /// The words.
-    words: Vec<u32>,
-}
-
-/// The flows of so many patches, from one on, and the words that they go to, of so many that the level has.
-fn flows_from(
-    alloc: Global,
-    flows: &LevelFlows,
-    first: usize,
-    count: usize,
-    many: usize,
-) -> Result<NumberedFlows, NoMemory>
-    requires there { (i : ℕ) → i < count → HasFlowsAt flows.now (first + i) }
-    requires small { first + count < 2 ^ 62 }
-    requires words { All (λ x. x.word < many) flows.now.flows.items }
-    requires few { many < 2 ^ 32 }
-    ensures count { IfOk result (λ x. length x.lists.items ≡ count) }
-    ensures flows { IfOk result (λ x. (i : ℕ) (v : vec flow) → i < count
-        → AllZip (IsNumbered x.words.items) (flows_at flows.now (first + i)) (slice_index_or x.lists.items i v).items) }
-    ensures words { IfOk result (λ x. All (λ w. w < many) x.words.items) }
-{
-    let mut lists = Vec::with_capacity(alloc, count)?;
-    let mut words = Vec::new(alloc);
-    let mut numbers = vec![in alloc; 0u32; many]?;
-    for i in 0..count {
-        let list = number_flows(alloc, flows.of(first + i), &mut words, &mut numbers)?;
-        lists.push_reserved(list);
-    }
-    Ok(NumberedFlows { lists, words })
-}
-
-/// Messages for so many of these lists of copies: for that at `first`, and for each `stride` places further. That of number `own` is empty.
-fn messages_for(
-    alloc: Global,
-    lists: &[Vec<FrameCopy>],
-    first: usize,
-    stride: usize,
-    count: usize,
-    own: usize,
-) -> Result<Vec<Message>, NoMemory>
-    requires there { (t : ℕ) → t < count → first + t * stride < length lists.now }
-    ensures count { IfOk result (λ xs. length xs.items ≡ count) }
-    ensures copies { IfOk result (λ xs. (t : ℕ) (m : message) (v : vec frame_copy) → t < count → t ≢ own
-        → (slice_index_or xs.items t m).copies.items ≡ (slice_index_or lists.now (first + t * stride) v).items) }
-    ensures own { IfOk result (λ xs. (m : message) → own < count → (slice_index_or xs.items own m).copies.items ≡ []) }
-    ensures places { IfOk result (λ xs. All HasPlaces xs.items) }
-{
-    let mut messages = Vec::with_capacity(alloc, count)?;
-    for t in 0..count {
-        if t == own {
-            messages.push_reserved(Message::empty(alloc));
-        } else {
-            let copies = Vec::from_slice(alloc, &lists[first + t * stride])?;
-            messages.push_reserved(Message::make(alloc, copies)?);
-        }
-    }
-    Ok(messages)
-}
-
-/// The lot for run `k` of the patches. `blank` are patches that may stand in it.
+/// The lot for run `k` of the patches, whose layouts are taken out of their list. `blank` are patches that may stand in it.
 fn lot_for(
     alloc: Global,
     s: Surroundings<'_>,
     cut: Cut<'_>,
+    layouts: &mut [PatchLayout],
     k: usize,
     blank: Blank,
 ) -> Result<Lot, NoMemory>
-    requires adds { AreAddsOf (around s.problem.now s.level s.patches.now s.cells.now (option_copied s.finer)) cut.flows.now }
-    requires few { length s.cells.now ≤ 2 ^ 30 }
-    requires small { length s.patches.now ≤ 2 ^ 26 }
-    requires edges { total (λ q. edge_count (box q)) s.patches.now ≤ 2 ^ 30 }
-    requires within { k * cut.each ≤ length s.patches.now }
+    requires cut { IsCut (around_of s) cut.each cut.runs cut.flows.now cut.parts.now }
     requires there { k < cut.runs }
-    requires many { cut.runs ≤ 2 ^ 26 }
-    requires copies { length cut.parts.now.copies.items ≡ cut.runs * cut.runs }
-    requires outer { length cut.parts.now.outer.items ≡ cut.runs }
-    ensures { IfOk result (IsLotOf (around s.entry.problem.now s.entry.level s.entry.patches.now s.entry.cells.now
-        (option_copied s.entry.finer)) cut.entry.each k cut.entry.runs cut.entry.parts.now) }
+    requires layouts { AreLayoutsFrom (around_of s) cut.each (k * cut.each) layouts.old }
+    ensures lot { IfOk result (IsLotOf (around_of s.entry) cut.entry.each k cut.entry.runs cut.entry.parts.now) }
+    ensures layouts { OnOk result (AreLayoutsFrom (around_of s.entry) cut.entry.each ((k + 1) * cut.entry.each) layouts.new) }
 {
-    let Cut {
-        each,
-        runs,
-        flows,
-        parts,
-    } = cut;
-    let first = k * each;
-    let count = each.min(s.patches.len() - first);
-    let NumberedFlows { lists, words } = flows_from(
-        alloc,
-        flows,
-        first,
-        count,
-        2 + 2 * s.cells.len(),
-    )?;
-    let totals = vec![in alloc; 0u64; words.len()]?;
-    let outer = Vec::from_slice(alloc, &parts.outer[k])?;
+    let first = k * cut.each;
+    let count = cut.each.min(s.patches.len() - first);
+    let run = take_layouts(alloc, layouts, first, count)?;
     Ok(Lot {
-        phase: Phase::Send,
-        level: s.level,
+        workspace: workspace_for(alloc, s, cut, run, k, count)?,
         patches: blank_patches(alloc, blank.patches, count)?,
         before: blank_patches(alloc, blank.before, count)?,
         edges: blank_edges(alloc, count)?,
-        flows: lists,
-        words,
-        copies: Vec::from_slice(alloc, &parts.copies[k * runs + k])?,
-        outer: OuterGhosts::make(alloc, outer)?,
-        outbox: messages_for(alloc, &parts.copies, k * runs, 1, runs, k)?,
-        inbox: messages_for(alloc, &parts.copies, k, runs, runs, k)?,
-        room: Room::make(alloc, widest_of(&s.patches[first..first + count]))?,
-        totals,
-        sums: vec![in alloc; 0u32; count_sums(&s.patches[first..first + count])]?,
         correction: None,
-        problem: Snapshot::of(s.problem),
     })
 }
 
@@ -299,71 +158,177 @@ fn lots_for(
     alloc: Global,
     s: Surroundings<'_>,
     cut: Cut<'_>,
+    layouts: &mut [PatchLayout],
     mut old: Vec<Box<Lot>>,
 ) -> Result<Vec<Box<Lot>>, NoMemory>
-    requires adds { AreAddsOf (around s.problem.now s.level s.patches.now s.cells.now (option_copied s.finer)) cut.flows.now }
-    requires few { length s.cells.now ≤ 2 ^ 30 }
-    requires small { length s.patches.now ≤ 2 ^ 26 }
-    requires edges { total (λ q. edge_count (box q)) s.patches.now ≤ 2 ^ 30 }
-    requires tight { cut.runs * cut.each < length s.patches.now + cut.each }
-    requires short { cut.each ≤ 2 ^ 26 }
-    requires many { cut.runs ≤ 2 ^ 26 }
-    requires copies { length cut.parts.now.copies.items ≡ cut.runs * cut.runs }
-    requires outer { length cut.parts.now.outer.items ≡ cut.runs }
+    requires cut { IsCut (around_of s) cut.each cut.runs cut.flows.now cut.parts.now }
+    requires layouts { AreLayoutsFrom (around_of s) cut.each 0 layouts.old }
     ensures count { IfOk result (λ xs. length xs.items ≡ cut.entry.runs) }
     ensures lots { IfOk result (λ xs. (k : ℕ) (x : boxed lot) → k < cut.entry.runs
-        → IsLotOf (around s.entry.problem.now s.entry.level s.entry.patches.now s.entry.cells.now
-        (option_copied s.entry.finer)) cut.entry.each k cut.entry.runs cut.entry.parts.now (slice_index_or xs.items k x).value) }
+        → IsLotOf (around_of s.entry) cut.entry.each k cut.entry.runs cut.entry.parts.now (slice_index_or xs.items k x).value) }
 {
     let mut lots = Vec::with_capacity(alloc, cut.runs)?;
     for k in 0..cut.runs {
         let blank = blank_of_last(alloc, &mut old);
-        let lot = lot_for(alloc, s, cut, k, blank)?;
+        let lot = lot_for(alloc, s, cut, layouts, k, blank)?;
         lots.push_reserved(Box::new(alloc, lot)?);
     }
     Ok(lots)
 }
 
-/// What so many workers work with in the step of these patches where they share them out in lots: runs of as many each. This plan
-/// tells where the ghost cells get their values from. Where each flow goes is worked out by as many threads. Old lots leave the patches
-/// that stand in them.
-pub(crate) fn lot_tasks<R: Threads + Sync>(
+/// A lot that is all of its level: no patches stand in it.
+fn whole_lot(
+    alloc: Global,
+    s: Surroundings<'_>,
+    parts: FrameParts,
+    flows: LevelFlows,
+) -> Result<Lot, NoMemory>
+    requires few { length s.cells.now ≤ 2 ^ 30 }
+    requires flows { AreLevelFlows (around_of s) flows }
+    requires copies { length parts.copies.items ≡ 1 }
+    requires outer { length parts.outer.items ≡ 1 }
+    ensures { IfOk result (λ x. (each : ℕ) → length s.entry.patches.now ≤ each → IsWholeLot (around_of s.entry) each parts x) }
+{
+    Ok(Lot {
+        patches: Vec::new(alloc),
+        before: Vec::new(alloc),
+        edges: Vec::new(alloc),
+        correction: None,
+        workspace: whole_workspace(alloc, s, parts, flows)?,
+    })
+}
+
+/// One lot, which is all of the level.
+fn one_lot(
+    alloc: Global,
+    s: Surroundings<'_>,
+    frames: &FramePlan,
+    flows: LevelFlows,
+) -> Result<Lots, NoMemory>
+    requires small { length s.patches.now ≤ 2 ^ 26 }
+    requires few { length s.cells.now ≤ 2 ^ 30 }
+    requires edges { total (λ q. edge_count (box q)) s.patches.now ≤ 2 ^ 30 }
+    requires flows { AreLevelFlows (around_of s) flows }
+    requires frames { PlansFrames (domain s.problem.now s.level) s.patches.now frames.now }
+    ensures lots { IfOk result (AreLots (around_of s.entry)) }
+    ensures one { IfOk result (λ t. t.wanted ≡ 1) }
+    ensures current { IfOk result (λ t. (M : Masses) → AreLotsCurrent M t) }
+    ensures valued { IfOk result (λ t. t.valued ≡ false) }
+{
+    let each = s.patches.len().max(1);
+    let parts = part_frames(alloc, frames, each, 1)?;
+    let lot = Box::new(alloc, whole_lot(alloc, s, parts, flows)?)?;
+    let mut lots = Vec::with_capacity(alloc, 1)?;
+    lots.push_reserved(lot);
+    Ok(Lots {
+        level: s.level,
+        wanted: 1,
+        each,
+        shape: Shape {
+            places: 0,
+            words: 0,
+        },
+        packed: true,
+        valued: false,
+        lots,
+        totals: Vec::new(alloc),
+    })
+}
+
+/// Several lots: as many as are wanted, or as runs of equal length give. Old lots leave the patches that stand in them.
+fn several_lots(
+    alloc: Global,
+    s: Surroundings<'_>,
+    frames: &FramePlan,
+    flows: &LevelFlows,
+    wanted: usize,
+    old: Vec<Box<Lot>>,
+) -> Result<Lots, NoMemory>
+    requires several { 2 ≤ wanted }
+    requires level { IsSurroundings s }
+    requires small { length s.patches.now ≤ 2 ^ 26 }
+    requires few { length s.cells.now ≤ 2 ^ 30 }
+    requires edges { total (λ q. edge_count (box q)) s.patches.now ≤ 2 ^ 30 }
+    requires cells { HasRegisterCells (around_of s) }
+    requires flows { AreLevelFlows (around_of s) flows.now }
+    requires frames { PlansFrames (domain s.problem.now s.level) s.patches.now frames.now }
+    ensures lots { IfOk result (AreLots (around_of s.entry)) }
+    ensures wanted { IfOk result (λ t. t.wanted ≡ wanted) }
+    ensures packed { IfOk result (λ t. t.packed ≡ false) }
+    ensures valued { IfOk result (λ t. t.valued ≡ false) }
+{
+    let each = parts_in(s.patches.len(), wanted).max(1);
+    let runs = parts_in(s.patches.len(), each);
+    let parts = part_frames(alloc, frames, each, runs)?;
+    let Layout {
+        places,
+        mut patches,
+    } = plan(alloc, s, each)?;
+    let cut = Cut {
+        each,
+        runs,
+        flows,
+        parts: &parts,
+    };
+    let words = 2 + 2 * s.cells.len();
+    let lots = lots_for(alloc, s, cut, &mut patches, old)?;
+    Ok(Lots {
+        level: s.level,
+        wanted,
+        each,
+        shape: Shape {
+            places,
+            words: words as u32,
+        },
+        packed: false,
+        valued: false,
+        lots,
+        totals: vec![in alloc; 0u64; words]?,
+    })
+}
+
+/// The lots of these patches, where so many are wanted. This plan tells where the ghost cells get their values from. Where each flow goes is
+/// worked out by as many threads. Old lots leave the patches that stand in them.
+pub(crate) fn make_lots<R: Threads + Sync>(
     rt: &R,
     alloc: Global,
     s: Surroundings<'_>,
     frames: &FramePlan,
-    workers: u32,
+    wanted: usize,
     old: Vec<Box<Lot>>,
-) -> Result<LotTasks, NoMemory>
-    requires level { s.level ≤ 4 }
-    requires order { IsOrderOf s.order s.patches.now }
-    requires apart { ArePatchesApart s.patches.now }
-    requires starts { HasStarts s.patches.now s.starts.now }
-    requires inside { AreInDomain (domain s.problem.now s.level) s.patches.now }
+) -> Result<Lots, NoMemory>
+    requires level { IsSurroundings s }
+    requires cells { HasRegisterCells (around_of s) }
     requires frames { PlansFrames (domain s.problem.now s.level) s.patches.now frames.now }
-    requires cells { HasRegisterCells (around s.problem.now s.level s.patches.now s.cells.now (option_copied s.finer)) }
-    ensures tasks { IfOk result (AreLotTasks (around s.entry.problem.now s.entry.level s.entry.patches.now s.entry.cells.now (option_copied s.entry.finer))) }
-    ensures packed { IfOk result (λ t. t.packed ≡ false) }
-    ensures valued { IfOk result (λ t. t.valued ≡ false) }
+    ensures lots { IfOk result (AreLots (around_of s.entry)) }
+    ensures current { IfOk result (λ t. (M : Masses) → AreLotsCurrent M t) }
+    ensures valued { IfOk result (λ t. (p : problem) (l : ℕ) (old : Masses) → AreLotsValued p l old t) }
     ensures few { OnOk result (2 + 2 * length s.entry.cells.now < 2 ^ 32) }
 {
-    let count = s.patches.len();
-    let flows = plan_adds_in_threads(rt, workers as usize, alloc, s)?;
-    let each = parts_in(count, workers.max(1) as usize).max(1);
-    let runs = parts_in(count, each);
-    let parts = part_frames(alloc, frames, each, runs)?;
-    let cut = Cut {
-        each,
-        runs,
-        flows: &flows,
-        parts: &parts,
-    };
-    let lots = lots_for(alloc, s, cut, old)?;
-    Ok(LotTasks {
-        workers,
-        each,
-        packed: false,
-        valued: false,
-        lots,
-    })
+    if s.patches.len() > MOST {
+        return Err(NoMemory);
+    }
+    let flows = plan_adds_in_threads(rt, wanted, alloc, s)?;
+    if wanted < 2 {
+        return one_lot(alloc, s, frames, flows);
+    }
+    several_lots(alloc, s, frames, &flows, wanted, old)
+}
+
+/// The totals of the words of the level, after a step.
+pub(crate) fn totals_of(lots: &Lots) -> &[u64]
+    requires { is_one lots.now ≡ true → 0 < length lots.now.lots.items }
+    ensures { result.now ≡ totals_of lots.now }
+{
+    if lots.wanted < 2 {
+        return &lots.lots[0].workspace.totals;
+    }
+    &lots.totals
+}
+
+/// Whether one lot is all of the level.
+pub fn is_one(lots: &Lots) -> bool
+    ensures { result ≡ is_one lots.now }
+{
+    lots.wanted < 2
 }

@@ -13,11 +13,8 @@ ghost use Rattle.amr_patch.specs.Patches.{box, masses_in};
 ghost use Rattle.amr_register.specs.EdgeCells.{IsSmallNet, SameEdges, lists_of};
 ghost use Rattle.amr_register.specs.Registers.{IsRegisterOf, SameCells, cells_in, entry_in};
 ghost use Rattle.amr_advance.specs.Registers.{AreEdgesFor, AreNetsOf, BothAreWithEdges, BothHaveTakenNets, MayTakeNets, edges_of};
-ghost use Rattle.amr_advance.specs.Shown.{AreShown};
 
-use crate::level::Given;
-use amr_patch::Patch;
-use amr_register::{EdgeCell, Register, find_nets_of_all};
+use amr_register::{EdgeCell, Register};
 use std::alloc::Global;
 
 /// Takes the lists of register cells out of a flux register. There are none where there is no register.
@@ -29,22 +26,6 @@ pub(crate) fn take_edges(alloc: Global, register: &mut Option<Register>) -> Vec<
         Some(register) => register.take_edges(),
         None => Vec::new(alloc),
     }
-}
-
-/// Works out what the fluxes of a level carry into its register cells over a finer level, by the frames of its patches, which are filled.
-pub(crate) fn find_nets(given: Given<'_>, patches: &[Patch], edges: &mut [Vec<EdgeCell>])
-    requires level { given.level ≤ 4 }
-    requires shown { AreShown given.problem.now given.level (old_masses (option_copied given.old)) patches.now }
-    requires edges { AreEdgesFor (map box patches.now) (lists_of edges.old) }
-    ensures same_edges { SameEdges (lists_of edges.old) (lists_of edges.new) }
-    ensures small_nets { All (All IsSmallNet) (lists_of edges.new) }
-    ensures nets { AreNetsOf given.entry.problem.now given.entry.level (masses_in patches.now) (old_masses (option_copied given.entry.old))
-        (lists_of edges.old) (lists_of edges.new) }
-{
-    if edges.is_empty() {
-        return;
-    }
-    find_nets_of_all(given.problem, given.level, patches, edges);
 }
 
 /// Puts lists of register cells back into the flux register that they were taken out of, where there is one.

@@ -1,40 +1,35 @@
 //! A step of a level.
 
-ghost use Rattle.std.specs.Prelude.{◌≡◌, ◌+◌, ◌*◌, ◌<◌, ◌≤◌, ◌^◌, ℕ, pos, List, IfSome, OnOk, OnErr, length, map, slice_index};
-ghost use Rattle.std.specs.List.{All, AllZip};
+ghost use Rattle.std.specs.Prelude.{◌≡◌, ◌+◌, ◌*◌, ◌<◌, ◌≤◌, ◌^◌, ℕ, pos, List, max, min, IfSome, OnOk, OnErr, length, map, slice_index};
 ghost use Rattle.std.specs.Option.{option_copied};
-ghost use Rattle.amr_def.specs.Domain.{domain};
 ghost use Rattle.amr_def.specs.Facts.{IsLevel};
 ghost use Rattle.amr_def.specs.Flux.{flux_at, updated};
 ghost use Rattle.amr_laws.specs.Sides.{inflow_beside, is_uncovered, outflow_beside};
-ghost use Rattle.amr_patch.specs.declared.patches.Patch.{Patch};
 ghost use Rattle.amr_patch.specs.Levels.{level_of, patches_of};
 ghost use Rattle.amr_patch.specs.Orders.{IsOrderOf};
 ghost use Rattle.amr_patch.specs.Patches.{ArePatchesApart, box, masses_in};
-ghost use Rattle.amr_ghost.specs.Frames.{AreInDomain, old_masses};
+ghost use Rattle.amr_ghost.specs.Frames.{old_masses};
 ghost use Rattle.amr_layout.specs.Adds.{HasRegisterCells};
-ghost use Rattle.amr_layout.specs.Surroundings.{around, finer_masses};
-ghost use Rattle.amr_advance.specs.Registers.{BothChange, HasCoarser, HasEdges, HasFiner, cells_of, gained, taken};
-ghost use Rattle.amr_advance.specs.Totals.{HasTotals};
+ghost use Rattle.amr_layout.specs.Surroundings.{finer_masses};
+ghost use Rattle.amr_lots.specs.Lots.{LevelStepFits};
 ghost use Rattle.amr_register.specs.Registers.{HasEdgesOf};
-ghost use Rattle.amr_advance.specs.Lots.{IsSharedOf};
-ghost use Rattle.amr_advance.specs.Kept.{IsCurrentLayout, IsKeptLayout, IsLaidOut, IsSmallInLots, IsValued, totals_in};
-ghost use Rattle.amr_advance.specs.Shown.{LevelStepFits};
-ghost use Rattle.amr_advance.specs.Tasks.{AreFilledFor};
-ghost use Rattle.amr_advance.specs.Teams.{IsTeamFor};
+ghost use Rattle.amr_advance.specs.Crews.{MayRun};
+ghost use Rattle.amr_advance.specs.Kept.{IsCurrentLayout, IsKeptLayout, IsValued};
+ghost use Rattle.amr_advance.specs.Outer.{IsSharedOf};
+ghost use Rattle.amr_advance.specs.Phases.{IsBasisOf};
+ghost use Rattle.amr_advance.specs.Registers.{BothChange, HasCoarser, HasEdges, HasFiner, cells_of, gained, taken};
+ghost use Rattle.amr_advance.specs.Steps.{LeavesStep, MayStepLevel, around_of, coarser_masses};
 
-use crate::adding::add_totals;
+use crate::crew::Workers;
 use crate::kept::{KeptLayout, layout_for};
 use crate::level::{Given, run_level};
+use crate::phases::basis_of;
 use crate::registers::{put_edges, take_edges, take_nets};
 use crate::regs::{Crew, Regs};
-use crate::running::Workers;
-use crate::tasks::are_lots;
-use crate::ways::way_for;
+use crate::totals::add_totals;
 use amr_box::Cell;
 use amr_causes::NoMemory;
 use amr_def::Problem;
-use amr_ghost::fill_planned;
 use amr_patch::{Level, Order, Patch};
 use amr_register::Register;
 use amr_workers::Gate;
@@ -42,30 +37,11 @@ use std::alloc::Global;
 use std::sync::{Arc, Wait};
 use std::thread::Threads;
 
-/// Fills the frames of a level's patches by the plan of its layout. Lots fill those of their own patches.
-fn fill_frames(given: Given<'_>, patches: &mut [Patch], layout: &KeptLayout)
-    requires level { given.level ≤ 4 }
-    requires apart { ArePatchesApart patches.old }
-    requires inside { AreInDomain (domain given.problem.now given.level) patches.old }
-    requires layout { IsLaidOut (around given.problem.now given.level patches.old given.cells.now (option_copied given.finer)) layout.now }
-    ensures masses { masses_in patches.new ≡ masses_in patches.old }
-    ensures boxes { map box patches.new ≡ map box patches.old }
-    ensures apart { ArePatchesApart patches.new }
-    ensures inside { AreInDomain (domain given.entry.problem.now given.entry.level) patches.new }
-    ensures filled { AreFilledFor layout.entry.now.tasks given.entry.problem.now given.entry.level (old_masses (option_copied given.entry.old)) patches.new }
-    ensures layout { IsLaidOut (around given.entry.problem.now given.entry.level patches.new given.entry.cells.now
-        (option_copied given.entry.finer)) layout.entry.now }
+/// How many lots these workers have the patches of a level in: one for each worker, but no more than patches.
+fn lots_wanted<R, G: Gate>(workers: &Workers<'_, R, G>, patches: &[Patch]) -> usize
+    ensures { result ≡ max 1 (min workers.now.count (length patches.now)) }
 {
-    if are_lots(&layout.tasks) {
-        return;
-    }
-    fill_planned(
-        given.problem,
-        given.level,
-        patches,
-        &layout.frames,
-        given.old,
-    );
+    (workers.count as usize).min(patches.len()).max(1)
 }
 
 /// The cells of a flux register, none where there is no register.
@@ -89,47 +65,30 @@ fn step_patches<R: Threads + Wait + Sync, G: Gate + Sync>(
     register: &mut Option<Register>,
     kept: &mut Option<KeptLayout>,
 ) -> Result<(), NoMemory>
-    requires level { given.level ≤ 4 }
+    requires level { MayStepLevel (around_of given patches.old) (coarser_masses given) }
+    requires basis { IsBasisOf given.problem.now patches.old (option_copied given.old) given.basis.now }
     requires order { IsOrderOf order patches.old }
-    requires apart { ArePatchesApart patches.old }
-    requires inside { AreInDomain (domain given.problem.now given.level) patches.old }
-    requires fits { LevelStepFits given.problem.now given.level (masses_in patches.old) (old_masses (option_copied given.old)) }
-    requires cells { (qs : List Patch) → masses_in qs ≡ masses_in patches.old
-        → HasRegisterCells (around given.problem.now given.level qs given.cells.now (option_copied given.finer)) }
+    requires cells { HasRegisterCells (around_of given patches.old) }
     requires register { HasEdges given.problem.now given.level (masses_in patches.old) (option_copied given.finer) register.old }
     requires edges { IfSome register.old (HasEdgesOf (map box patches.old)) }
     requires kept { IfSome kept.old (IsKeptLayout given.problem.now) }
     requires current { IfSome kept.old (IsCurrentLayout (masses_in patches.old)) }
-    requires valued { IfSome kept.old (IsValued given.problem.now given.level (old_masses (option_copied given.old))) }
+    requires valued { IfSome kept.old (IsValued given.problem.now given.level (coarser_masses given)) }
     requires shared { IsSharedOf given.old given.shared }
-    requires some_workers { 1 ≤ workers.old.count }
-    requires few_workers { workers.old.count ≤ 64 }
-    requires gate { (worker task : ℕ) → worker < workers.old.count → task < length patches.old → G.admits workers.old.gate.now worker task }
-    requires team { IfSome workers.old.team (IsTeamFor given.problem.now workers.old.gate.now workers.old.count) }
+    requires crew { MayRun G.admits given.problem.now (length patches.old) workers.old }
     ensures workers { workers.new ≡ workers.old }
-    ensures masses { OnOk result (masses_in patches.new
-        ≡ updated (masses_in patches.old)
-        (flux_at given.entry.problem.now given.entry.level (masses_in patches.old) (old_masses (option_copied given.entry.old)))) }
+    ensures stepped { OnOk result (LeavesStep (around_of given.entry patches.old)
+        (coarser_masses given.entry) patches.new register.old register.new kept.new) }
     ensures boxes { map box patches.new ≡ map box patches.old }
     ensures apart { ArePatchesApart patches.new }
-    ensures count { OnOk result (length (totals_in kept.new) ≡ 2 + 2 * length given.entry.cells.now) }
-    ensures few { OnOk result (length (totals_in kept.new) < 2 ^ 32) }
-    ensures small { OnOk result ((word : ℕ) → word < length (totals_in kept.new) → slice_index (totals_in kept.new) word < 2 ^ 63) }
-    ensures small_lots { IfSome kept.new IsSmallInLots }
-    ensures totals { OnOk result (HasTotals given.entry.problem.now given.entry.level (masses_in patches.old) (old_masses (option_copied given.entry.old))
-        (finer_masses (option_copied given.entry.finer)) given.entry.cells.now (totals_in kept.new)) }
-    ensures register { OnOk result (BothChange
-        (taken given.entry.problem.now given.entry.level (masses_in patches.old) (old_masses (option_copied given.entry.old))
-        (finer_masses (option_copied given.entry.finer))) register.old register.new) }
     ensures same_masses { OnErr result (masses_in patches.new ≡ masses_in patches.old) }
     ensures same_register { OnErr result (BothChange (λ c. pos 0) register.old register.new) }
     ensures kept { IfSome kept.new (IsKeptLayout given.entry.problem.now) }
     ensures current { IfSome kept.new (IsCurrentLayout (masses_in patches.new)) }
-    ensures valued { IfSome kept.new (IsValued given.entry.problem.now given.entry.level (old_masses (option_copied given.entry.old))) }
+    ensures valued { IfSome kept.new (IsValued given.entry.problem.now given.entry.level (coarser_masses given.entry)) }
 {
-    let way = way_for(workers, given, patches);
-    let mut layout = layout_for(workers.runtime, given, order, patches, way, kept)?;
-    fill_frames(given, patches, &layout);
+    let wanted = lots_wanted(workers, patches);
+    let mut layout = layout_for(workers.runtime, given, order, patches, wanted, kept)?;
     let mut edges = take_edges(given.alloc, register);
     let run = run_level(workers, given, patches, &mut edges, &mut layout);
     put_edges(register, edges);
@@ -166,10 +125,7 @@ pub fn advance_kept<R: Threads + Wait + Sync, G: Gate + Sync>(
     requires finer { HasFiner p.now l (level_of level.old) (option_copied finer) regs.old.finer }
     requires edges { IfSome regs.old.finer (HasEdgesOf (map box (patches_of level.old))) }
     requires shared { IsSharedOf old shared }
-    requires some_workers { 1 ≤ workers.old.count }
-    requires few_workers { workers.old.count ≤ 64 }
-    requires gate { (worker task : ℕ) → worker < workers.old.count → task < length (patches_of level.old) → G.admits workers.old.gate.now worker task }
-    requires team { IfSome workers.old.team (IsTeamFor p.now workers.old.gate.now workers.old.count) }
+    requires crew { MayRun G.admits p.now (length (patches_of level.old)) workers.old }
     requires inflow { regs.old.inflow
         + inflow_beside p.now l (is_uncovered (level_of level.old).masses (finer_masses (option_copied finer)))
         (flux_at p.now l (level_of level.old).masses (old_masses (option_copied old))) < 2 ^ 63 }
@@ -206,6 +162,7 @@ pub fn advance_kept<R: Threads + Wait + Sync, G: Gate + Sync>(
 {
     let order = level.order();
     let mut patches = level.take_patches();
+    let basis = basis_of(p, &patches, old);
     let given = Given {
         alloc: *patches.allocator(),
         problem: p,
@@ -214,6 +171,7 @@ pub fn advance_kept<R: Threads + Wait + Sync, G: Gate + Sync>(
         shared,
         finer,
         cells: cells_of(&regs.coarser),
+        basis: &basis,
     };
     let stepped = step_patches(workers, given, order, &mut patches, &mut regs.finer, kept);
     level.put_patches_in_order(patches, order);
@@ -233,8 +191,8 @@ pub fn advance_kept<R: Threads + Wait + Sync, G: Gate + Sync>(
 /// which task.
 ///
 /// The crew has one rank, and from 1 to 64 workers. All memory whose lack is a refusal is taken before the first task is drawn.
-/// `NoMemory` is the only refusal: then the level has the masses of before, and `regs` has the entries and sums of before. The call
-/// joins its workers, and keeps this promise if it returns.
+/// `NoMemory` is the only refusal, and also stands for more than 2^26 patches or 2^30 faces: then the level has the masses of before, and `regs` has
+/// the entries and sums of before. The call joins its workers, and keeps this promise if it returns.
 pub fn advance<R: Threads + Wait + Sync, G: Gate + Sync>(
     rt: &R,
     p: &Problem,

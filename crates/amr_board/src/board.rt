@@ -114,6 +114,13 @@ impl<P: Piece> Board<P> {
         }
     }
 
+    /// How many tasks there are.
+    pub fn tasks(&self) -> u32
+        ensures { result ≡ length self.now.plan.tasks }
+    {
+        self.tasks
+    }
+
     /// Draws the next task. None exactly where the counter that it found was at least the number of tasks: then the seat
     /// is past.
     pub fn draw(&self, seat: &mut Seat<P>) -> Option<u32>

@@ -27,7 +27,7 @@ use Rattle.amr_flows.specs.Subcycle.{AreGathered, CoverAlike, GatheredFits, chil
 use Rattle.amr_flows.proofs.Subcycle.{give_the_step, of_plain_fluxes}
 use Rattle.amr_flows.proofs.SubcycleSizes.{gathered_fits}
 use Rattle.amr_flows.proofs.SubcycleSteps.{keeps_cover, of_finer_steps}
-use Rattle.amr_advance.specs.Shown.{LevelStepFits}
+use Rattle.amr_lots.specs.Lots.{LevelStepFits}
 use Rattle.amr_cycle.specs.Cycles.{IsCoarsePart, IsPartOfStep}
 
 -- ---- one level's numbers

@@ -1,5 +1,5 @@
 -- What is kept serves levels with the same boxes.
-use Rattle.std.proofs.Common.{◌≡◌, ◌∙◌, ◌⊎◌, inl, inr, ℕ, zero, suc, ◌+◌, ◌<◌, ℤ, List, [], ◌∷◌, get_or, length, map, set, refl, sym, ap, subst, arith}
+use Rattle.std.proofs.Common.{◌≡◌, ◌∙◌, ◌⊎◌, inl, inr, ℕ, zero, suc, ◌+◌, ◌<◌, ℤ, List, ◌∷◌, get_or, length, map, set, refl, sym, ap, subst, arith}
 use Rattle.std.specs.Prelude.{is_some, IfSome}
 use Rattle.std.specs.declared.option.Option.{Option}
 use Rattle.std.specs.declared.option.Option.TheVariants.{None, Some}
@@ -21,8 +21,7 @@ use Rattle.amr_register.proofs.SameCells.{edges_kept, register_kept, same_regist
 use Rattle.amr_cycle.specs.declared.kept.KeptBelow.{KeptBelow}
 use Rattle.amr_cycle.specs.declared.kept.KeptLevel.{KeptLevel}
 use Rattle.amr_cycle.specs.Cycles.{SomeHasEntries}
-use Rattle.amr_advance.specs.declared.kept.KeptLayout.{KeptLayout}
-use Rattle.amr_advance.specs.Kept.{IsCurrentLayout, IsKeptLayout, IsValued}
+use Rattle.amr_advance.specs.Kept.{IsCurrentLayout, IsValued}
 use Rattle.amr_cycle.specs.Kept.{AreCurrent, AreKept, IsBelow, IsKeptBelow, IsKeptLevel, IsOnSameBoxes}
 use Rattle.amr_cycle.proofs.Cycling.{same_level}
 
@@ -96,13 +95,3 @@ current_all k levels d ds first rest (suc n) j e within lt = rest n j e (omega (
 
 pub valued_first : (p : Problem) (l : ℕ) (old : Masses) (d : KeptLevel) (ds ls : List KeptLevel) → ls ≡ d ∷ ds → ((e : KeptLevel) → IfSome (get_or ls 0 e).layout (IsValued p l old)) → IfSome d.layout (IsValued p l old)
 valued_first p l old d ds ls is h = subst (λ (ks : List KeptLevel). IfSome (get_or ks 0 d).layout (IsValued p l old)) is (h d)
-
--- ---- another layout is kept of the first of them
-
-pub kept_again : (p : Problem) (l : ℕ) (layout : Option KeptLayout) (d : KeptLevel) (ds : List KeptLevel) → 0 < length ds → IfSome layout (IsKeptLayout p) → AreKept p l ds → AreKept p l (set ds 0 (record { layout = layout; below = (get_or ds 0 d).below }))
-kept_again p l layout d ds some kept h = kept_set p l 0 (record { layout = layout; below = (get_or ds 0 d).below }) ds some (record { layout = kept; below = (h 0 d some).below }) h
-
--- it says of masses what that of before said
-pub current_again : (k : Level) (levels : List Level) (d e : KeptLevel) (ds : List KeptLevel) → 0 < length ds → (IfSome (get_or ds 0 e).layout (IsCurrentLayout k.masses) → IfSome d.layout (IsCurrentLayout k.masses)) → AreCurrent (k ∷ levels) ds → AreCurrent (k ∷ levels) (set ds 0 d)
-current_again k levels d e [] some again h = absurd (omega (arith, some))
-current_again k levels d e (f ∷ ds) some again h = current_all k levels d ds (again (h 0 k e (omega arith) (omega arith))) (current_rest k levels f ds (f ∷ ds) refl h)

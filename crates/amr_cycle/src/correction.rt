@@ -11,7 +11,7 @@ ghost use Rattle.amr_register.specs.Entries.{with_entries};
 ghost use Rattle.amr_register.specs.Registers.{HasEdgesOf, IsPlaced};
 ghost use Rattle.amr_advance.specs.Kept.{IsCurrentLayout, IsKeptLayout, IsValued};
 ghost use Rattle.amr_advance.specs.Registers.{cells_of};
-ghost use Rattle.amr_advance.specs.Teams.{IsTeamFor};
+ghost use Rattle.amr_advance.specs.Crews.{MayRun};
 ghost use Rattle.amr_cycle.specs.Cycles.{entries_of};
 ghost use Rattle.amr_transfer.specs.Sums.{AreCoarsenable, summed};
 
@@ -22,17 +22,17 @@ use amr_patch::Level;
 use amr_register::Register;
 use amr_workers::Gate;
 use std::sync::Wait;
+use std::thread::Threads;
 
 /// Gives each register cell its entry, and each covered cell the sum of its children, by the register that there is and by what is kept of both
 /// levels. The register stays, and what is kept of the level is of its corrected masses.
-pub(crate) fn correct<R: Wait, G: Gate>(
+pub(crate) fn correct<R: Threads + Wait + Sync, G: Gate + Sync>(
     workers: &mut Workers<'_, R, G>,
     p: &Problem,
     level: &mut Level,
     register: &mut Option<Register>,
     finer: &mut Level,
     kept: &mut Option<KeptLayout>,
-    finer_kept: &mut Option<KeptLayout>,
 ) -> Result<(), NoMemory>
     requires some { IsSome register.old }
     requires placed { IfSome register.old IsPlaced }
@@ -45,9 +45,8 @@ pub(crate) fn correct<R: Wait, G: Gate>(
     requires parents { (c : Cell) → IsSome ((level_of finer.old).masses c) → IsSome ((level_of level.old).masses (parent c)) }
     requires coarsenable { AreCoarsenable (patches_of finer.old) }
     requires small { (c : Cell) → children_mass (level_of finer.old).masses c < 2 ^ 32 }
-    requires team { IfSome workers.old.team (IsTeamFor p.now workers.old.gate.now workers.old.count) }
+    requires crew { (tasks : ℕ) → MayRun G.admits p.now tasks workers.old }
     requires kept { IfSome kept.old (IsKeptLayout p.now) }
-    requires finer_kept { IfSome finer_kept.old (IsKeptLayout p.now) }
     ensures workers { workers.new ≡ workers.old }
     ensures register { OnOk result (register.new ≡ register.old) }
     ensures masses { OnOk result ((level_of level.new).masses
@@ -59,13 +58,11 @@ pub(crate) fn correct<R: Wait, G: Gate>(
     ensures kept { OnOk result (IfSome kept.new (IsKeptLayout p.now)) }
     ensures current { OnOk result (IfSome kept.new (IsCurrentLayout (level_of level.new).masses)) }
     ensures valued { OnOk result ((l : ℕ) (old : Masses) → IfSome kept.old (IsValued p.now l old) → IfSome kept.new (IsValued p.now l old)) }
-    ensures finer_kept { OnOk result (IfSome finer_kept.new (IsKeptLayout p.now)) }
-    ensures finer_current { OnOk result ((M : Masses) → IfSome finer_kept.old (IsCurrentLayout M) → IfSome finer_kept.new (IsCurrentLayout M)) }
 {
     let Some(whole) = register.take() else {
         unreachable!()
     };
-    let whole = correct_kept(workers, p, level, whole, finer, kept, finer_kept)?;
+    let whole = correct_kept(workers, p, level, whole, finer, kept)?;
     *register = Some(whole);
     Ok(())
 }

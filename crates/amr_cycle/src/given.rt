@@ -3,7 +3,7 @@
 ghost use Rattle.std.specs.Prelude.{◌≡◌, ◌+◌, ◌≤◌, Some};
 ghost use Rattle.std.specs.Arc.{arc_value};
 ghost use Rattle.std.specs.Option.{option_copied};
-ghost use Rattle.amr_advance.specs.Lots.{IsSharedOf};
+ghost use Rattle.amr_advance.specs.Outer.{IsSharedOf};
 
 use amr_def::Problem;
 use amr_patch::Level;

@@ -9,8 +9,8 @@ ghost use Rattle.amr_patch.specs.Levels.{level_of, patches_of};
 ghost use Rattle.amr_patch.specs.Patches.{box};
 ghost use Rattle.amr_register.specs.Registers.{SameCells, entry_in};
 ghost use Rattle.amr_advance.specs.Kept.{IsCurrentLayout, IsKeptLayout, IsValued};
-ghost use Rattle.amr_advance.specs.Teams.{IsTeamFor};
-ghost use Rattle.amr_cycle.specs.Kept.{AreCurrent, AreKept, HasBoxesOf, IsBelow, IsCurrent, IsKeptFor, IsKeptBelow, IsKeptLevel, IsOnSameBoxes};
+ghost use Rattle.amr_advance.specs.Crews.{MayRun};
+ghost use Rattle.amr_cycle.specs.Kept.{AreCurrent, AreKept, HasBoxesOf, IsBelow, IsCurrent, IsKeptFor, IsKeptLevel, IsOnSameBoxes};
 
 use crate::given::Given;
 use amr_advance::{KeptLayout, Workers, keep_masses};
@@ -129,7 +129,7 @@ fn serves(kept: &KeptBelow, level: &Level, next: &Level) -> bool
 
 /// Brings up to date what was kept over the same boxes: the masses of the level, which workers copy where they share its patches out, and
 /// a register of zeros. The level stays, and what is kept of it serves its next step.
-fn renew<R: Wait, G: Gate>(
+fn renew<R: Threads + Wait + Sync, G: Gate + Sync>(
     workers: &mut Workers<'_, R, G>,
     p: &Problem,
     kept: &mut KeptBelow,
@@ -137,7 +137,7 @@ fn renew<R: Wait, G: Gate>(
     layout: &mut Option<KeptLayout>,
 )
     requires boxes { map box (patches_of kept.old.before) ≡ map box (patches_of level.old) }
-    requires team { IfSome workers.old.team (IsTeamFor p.now workers.old.gate.now workers.old.count) }
+    requires crew { (tasks : ℕ) → MayRun G.admits p.now tasks workers.old }
     requires layout { IfSome layout.old (IsKeptLayout p.now) }
     ensures workers { workers.new ≡ workers.old }
     ensures before { (level_of kept.new.before).masses ≡ (level_of level.old).masses }
@@ -205,7 +205,7 @@ fn make_below<R: Threads + Sync, G: Gate>(
 /// What both steps of the next finer level stand on: the level's masses as they are now, and a register of zeros. It is what is kept,
 /// where boxes have not changed, else made anew; room for the masses stays where the level's own boxes have not changed. The level
 /// stays, and the layout that is kept of it. What was kept below it is gone afterwards.
-pub(crate) fn below_for<R: Threads + Wait + Sync, G: Gate>(
+pub(crate) fn below_for<R: Threads + Wait + Sync, G: Gate + Sync>(
     workers: &mut Workers<'_, R, G>,
     given: &Given<'_>,
     level: &mut Level,
@@ -216,7 +216,7 @@ pub(crate) fn below_for<R: Threads + Wait + Sync, G: Gate>(
     requires coarse { IsLevel given.now.problem.now given.now.level (level_of level.old) }
     requires fine { IsLevel given.now.problem.now (suc given.now.level) (level_of next.now) }
     requires nested { IsNestedLevel given.now.problem.now given.now.level (level_of level.old) (level_of next.now) }
-    requires team { IfSome workers.old.team (IsTeamFor given.now.problem.now workers.old.gate.now workers.old.count) }
+    requires crew { (tasks : ℕ) → MayRun G.admits given.now.problem.now tasks workers.old }
     requires kept { IsKeptLevel given.now.problem.now given.now.level own.old }
     ensures workers { workers.new ≡ workers.old }
     ensures below { IfOk result (IsBelow given.now.problem.now given.now.level (level_of level.old) (level_of next.now)) }

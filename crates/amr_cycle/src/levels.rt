@@ -1,6 +1,6 @@
 //! Steps of levels: of one level and of those finer than it, each of which makes twice as many.
 
-ghost use Rattle.std.specs.Prelude.{◌≡◌, ◌≢◌, ℕ, [], ◌∷◌, ◌+◌, ◌<◌, ◌≤◌, ◌^◌, true, IfOk, IfSome, OnOk, None};
+ghost use Rattle.std.specs.Prelude.{◌≡◌, ℕ, [], ◌∷◌, ◌+◌, ◌<◌, ◌≤◌, ◌^◌, true, IfOk, IfSome, OnOk, None};
 ghost use Rattle.std.specs.Prelude.{Some, is_some, length, map, neg_ℤ, slice_index_or};
 ghost use Rattle.std.specs.Arc.{arc_value};
 ghost use Rattle.std.specs.List.{All};
@@ -17,9 +17,9 @@ ghost use Rattle.amr_register.specs.Registers.{HasEdgesOf};
 ghost use Rattle.amr_transfer.specs.Sums.{AreCoarsenable};
 ghost use Rattle.amr_flows.specs.Subcycle.{edge_part, flows_of_step};
 ghost use Rattle.amr_advance.specs.Registers.{BothChange, HasCoarser, gained};
-ghost use Rattle.amr_advance.specs.Lots.{IsSharedOf};
+ghost use Rattle.amr_advance.specs.Outer.{IsSharedOf};
 ghost use Rattle.amr_advance.specs.Kept.{IsCurrentLayout, IsKeptLayout, IsValued};
-ghost use Rattle.amr_advance.specs.Teams.{IsTeamFor};
+ghost use Rattle.amr_advance.specs.Crews.{MayRun};
 ghost use Rattle.amr_cycle.specs.Cycles.{IsCoarsePart, IsPartOfStep, SomeHasEntries, patch_boxes};
 ghost use Rattle.amr_cycle.specs.declared.kept.KeptLevel.{KeptLevel};
 ghost use Rattle.amr_cycle.specs.Kept.{AreCurrent, AreKept, IsKeptLevel};
@@ -31,8 +31,7 @@ use amr_advance::{Regs, Workers, advance_kept};
 use amr_box::Bx;
 use amr_causes::NoMemory;
 use amr_patch::Level;
-use amr_pool::sole;
-use amr_workers::Gate;
+use amr_workers::{Gate, sole};
 use std::alloc::Global;
 use std::sync::{Arc, Wait};
 use std::thread::Threads;
@@ -58,10 +57,7 @@ fn step_finest<R: Threads + Wait + Sync, G: Gate + Sync>(
     requires part { IsPartOfStep given.now.problem.now given.now.level (level_of level.old ∷ []) (old_masses (option_copied given.now.old)) }
     requires coarser { HasCoarser given.now.problem.now given.now.level (level_of level.old) (option_copied given.now.old) regs.old.coarser }
     requires finer { regs.old.finer ≡ None }
-    requires some_workers { 1 ≤ workers.old.count }
-    requires few_workers { workers.old.count ≤ 64 }
-    requires gate { (worker task : ℕ) → worker < workers.old.count → G.admits workers.old.gate.now worker task }
-    requires team { IfSome workers.old.team (IsTeamFor given.now.problem.now workers.old.gate.now workers.old.count) }
+    requires crew { (tasks : ℕ) → MayRun G.admits given.now.problem.now tasks workers.old }
     requires inflow { regs.old.inflow
         + flows_of_step (inflow_beside given.now.problem.now) given.now.problem.now given.now.level (level_of level.old ∷ [])
         (old_masses (option_copied given.now.old)) < 2 ^ 63 }
@@ -117,10 +113,7 @@ fn step_coarse<R: Threads + Wait + Sync, G: Gate + Sync>(
     requires number { given.now.level ≤ 3 }
     requires part { IsCoarsePart given.now.problem.now given.now.level (level_of level.old) (level_of next.now) (old_masses (option_copied given.now.old)) }
     requires coarser { HasCoarser given.now.problem.now given.now.level (level_of level.old) (option_copied given.now.old) regs.old.coarser }
-    requires some_workers { 1 ≤ workers.old.count }
-    requires few_workers { workers.old.count ≤ 64 }
-    requires gate { (worker task : ℕ) → worker < workers.old.count → G.admits workers.old.gate.now worker task }
-    requires team { IfSome workers.old.team (IsTeamFor given.now.problem.now workers.old.gate.now workers.old.count) }
+    requires crew { (tasks : ℕ) → MayRun G.admits given.now.problem.now tasks workers.old }
     requires inflow { regs.old.inflow
         + inflow_beside given.now.problem.now given.now.level (is_uncovered (level_of level.old).masses (level_of next.now).masses)
         (flux_at given.now.problem.now given.now.level (level_of level.old).masses (old_masses (option_copied given.now.old))) < 2 ^ 63 }
@@ -226,10 +219,7 @@ pub(crate) fn step_levels<R: Threads + Wait + Sync, G: Gate + Sync>(
     requires coarser { HasCoarser given.now.problem.now given.now.level (level_of level.old) (option_copied given.now.old) regs.old.coarser }
     requires finer { regs.old.finer ≡ None }
     requires coarsenable { All (λ k. AreCoarsenable (patches_of k)) finer.old }
-    requires some_workers { 1 ≤ workers.old.count }
-    requires few_workers { workers.old.count ≤ 64 }
-    requires gate { (worker task : ℕ) → worker < workers.old.count → G.admits workers.old.gate.now worker task }
-    requires team { IfSome workers.old.team (IsTeamFor given.now.problem.now workers.old.gate.now workers.old.count) }
+    requires crew { (tasks : ℕ) → MayRun G.admits given.now.problem.now tasks workers.old }
     requires inflow { regs.old.inflow
         + flows_of_step (inflow_beside given.now.problem.now) given.now.problem.now given.now.level (level_of level.old ∷ map level_of finer.old)
         (old_masses (option_copied given.now.old)) < 2 ^ 63 }
@@ -281,7 +271,6 @@ pub(crate) fn step_levels<R: Threads + Wait + Sync, G: Gate + Sync>(
         &mut below.regs.coarser,
         next,
         &mut own.layout,
-        &mut rest[0].layout,
     )?;
     regs.inflow = below.regs.inflow;
     regs.outflow = below.regs.outflow;

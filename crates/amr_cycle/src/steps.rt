@@ -1,6 +1,6 @@
 //! A step of a state.
 
-ghost use Rattle.std.specs.Prelude.{◌≡◌, ℕ, ◌+◌, ◌<◌, ◌≤◌, false, true, IfOk, IfSome, OnErr, OnOk, length, map};
+ghost use Rattle.std.specs.Prelude.{◌≡◌, ℕ, ◌+◌, ◌<◌, ◌≤◌, false, true, IfOk, OnErr, OnOk, length, map};
 ghost use Rattle.amr_def.specs.Facts.{IsSound};
 ghost use Rattle.amr_def.specs.Run.{stepped};
 ghost use Rattle.amr_def.specs.State.{no_masses};
@@ -9,7 +9,7 @@ ghost use Rattle.amr_laws.specs.Substeps.{after_step};
 ghost use Rattle.amr_patch.specs.Levels.{level_of};
 ghost use Rattle.amr_patch.specs.Meshes.{is_spent, levels_of, state_of};
 ghost use Rattle.amr_flows.specs.Subcycle.{flows_of_step};
-ghost use Rattle.amr_advance.specs.Teams.{IsTeamFor};
+ghost use Rattle.amr_advance.specs.Crews.{MayRun};
 ghost use Rattle.amr_cycle.specs.Kept.{AreCurrent, AreKept, IsCurrent, IsKeptFor};
 ghost use Rattle.amr_cycle.specs.Cycles.{AreCoarsenableAbove, HasStepToCome, patch_boxes};
 
@@ -42,10 +42,7 @@ fn step_all<R: Threads + Wait + Sync, G: Gate + Sync>(
 ) -> Result<Flows, NoMemory>
     requires to_come { HasStepToCome p.now (map level_of levels.old) }
     requires coarsenable { AreCoarsenableAbove levels.old }
-    requires some_workers { 1 ≤ workers.old.count }
-    requires few_workers { workers.old.count ≤ 64 }
-    requires gate { (worker task : ℕ) → worker < workers.old.count → G.admits workers.old.gate.now worker task }
-    requires team { IfSome workers.old.team (IsTeamFor p.now workers.old.gate.now workers.old.count) }
+    requires crew { (tasks : ℕ) → MayRun G.admits p.now tasks workers.old }
     requires kept { AreKept p.now 0 kept.old }
     requires current { AreCurrent (map level_of levels.old) kept.old }
     requires room { length levels.old ≤ length kept.old }
@@ -133,10 +130,7 @@ pub fn step_kept<R: Threads + Wait + Sync, G: Gate + Sync>(
     requires sound { IsSound p.now (state_of mesh.old) }
     requires to_come { (state_of mesh.old).step < p.now.steps }
     requires coarsenable { AreCoarsenableAbove (levels_of mesh.old) }
-    requires some_workers { 1 ≤ workers.old.count }
-    requires few_workers { workers.old.count ≤ 64 }
-    requires gate { (worker task : ℕ) → worker < workers.old.count → G.admits workers.old.gate.now worker task }
-    requires team { IfSome workers.old.team (IsTeamFor p.now workers.old.gate.now workers.old.count) }
+    requires crew { (tasks : ℕ) → MayRun G.admits p.now tasks workers.old }
     requires kept { IsKeptFor p.now kept.old }
     requires current { IsCurrent (state_of mesh.old).levels kept.old }
     ensures workers { workers.new ≡ workers.old }

@@ -1,6 +1,6 @@
-pub mod LotSends
 pub mod StartLaws
 pub mod Kept
 mod Regridded
 mod NextStates
 pub mod Finishes
+mod TeamSends

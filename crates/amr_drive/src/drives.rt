@@ -1,13 +1,13 @@
 //! A run up to a step.
 
-ghost use Rattle.std.specs.Prelude.{◌≡◌, ◌⊎◌, ◌+◌, ◌-◌, ◌<◌, ◌≤◌, ℕ, false, true, Ok, Err, IfSome, OnOk, IsErrOf};
+ghost use Rattle.std.specs.Prelude.{◌≡◌, ◌⊎◌, ◌+◌, ◌-◌, ◌<◌, ◌≤◌, ℕ, false, true, Ok, Err, OnOk, IsErrOf};
 ghost use Rattle.std.specs.List.{All};
 ghost use Rattle.amr_def.specs.Facts.{IsSound};
 ghost use Rattle.amr_def.specs.Run.{finish, next};
 ghost use Rattle.amr_def.specs.State.{State};
 ghost use Rattle.amr_patch.specs.Meshes.{is_spent, levels_of, state_of};
 ghost use Rattle.amr_start.specs.PatchBoxes.{IsChopped};
-ghost use Rattle.amr_advance.specs.Teams.{IsTeamFor};
+ghost use Rattle.amr_advance.specs.Crews.{MayRun};
 ghost use Rattle.amr_cycle.specs.Cycles.{AreCoarsenableAbove};
 ghost use Rattle.amr_cycle.specs.Kept.{IsCurrent, IsKeptFor};
 ghost use Rattle.amr_drive.specs.Drives.{HasDriven, MayDrive};
@@ -20,9 +20,8 @@ use amr_advance::{Crew, Workers};
 use amr_causes::NoMemory;
 use amr_cycle::Kept;
 use amr_def::Problem;
-use amr_lots::LotWork;
+use amr_lots::LevelWork;
 use amr_patch::Mesh;
-use amr_work::LevelWork;
 use amr_workers::Gate;
 use std::alloc::Global;
 use std::sync::Wait;
@@ -62,10 +61,7 @@ fn make_step<R: Threads + Wait + Sync, G: Gate + Sync, A: AfterStep>(
     requires ready { A.ready after.old (next run.now.job.problem.now (state_of mesh.old)) }
     requires kept { IsKeptFor run.now.job.problem.now kept.old }
     requires current { IsCurrent (state_of mesh.old).levels kept.old }
-    requires some_workers { 1 ≤ workers.old.count }
-    requires few_workers { workers.old.count ≤ 64 }
-    requires gate { (worker task : ℕ) → worker < workers.old.count → G.admits workers.old.gate.now worker task }
-    requires team { IfSome workers.old.team (IsTeamFor run.now.job.problem.now workers.old.gate.now workers.old.count) }
+    requires crew { (tasks : ℕ) → MayRun G.admits run.now.job.problem.now tasks workers.old }
     ensures workers { workers.new ≡ workers.old }
     ensures value { OnOk result (state_of mesh.new ≡ next run.now.job.problem.now (state_of mesh.old)) }
     ensures patches { is_spent mesh.new ≡ false → All (IsChopped run.now.job.problem.now.max_grid_size) (levels_of mesh.old)
@@ -96,10 +92,7 @@ pub(crate) fn make_steps<R: Threads + Wait + Sync, G: Gate + Sync, A: AfterStep>
     after: &mut A,
 ) -> Result<(), DriveFault<A::Fault>>
     requires may { MayDrive A.ready run.now.job.problem.now run.now.target mesh.old after.old }
-    requires some_workers { 1 ≤ workers.old.count }
-    requires few_workers { workers.old.count ≤ 64 }
-    requires gate { (worker task : ℕ) → worker < workers.old.count → G.admits workers.old.gate.now worker task }
-    requires team { IfSome workers.old.team (IsTeamFor run.now.job.problem.now workers.old.gate.now workers.old.count) }
+    requires crew { (tasks : ℕ) → MayRun G.admits run.now.job.problem.now tasks workers.old }
     ensures { HasDriven A.made run.now.job.problem.now run.now.target mesh.old after.old result mesh.new after.new }
 {
     let mut kept = Kept::nothing();
@@ -157,7 +150,6 @@ pub fn drive<R: Threads + Wait + Sync, G: Gate + Sync, A: AfterStep>(
     let run = Run {
         alloc,
         job: LevelWork { problem: p },
-        service: LotWork { problem: p },
         target,
     };
     if crew.workers > 1 {

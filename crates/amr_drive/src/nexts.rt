@@ -1,13 +1,13 @@
 //! The next state of a run: the regrid that is due, and a step.
 
-ghost use Rattle.std.specs.Prelude.{◌≡◌, ◌⊎◌, ◌<◌, ◌≤◌, ◌%◌, ◌&&◌, ◌==◌, ℕ, cond, false, true, nat_lt, IfSome, OnErr, OnOk};
+ghost use Rattle.std.specs.Prelude.{◌≡◌, ◌⊎◌, ◌<◌, ◌%◌, ◌&&◌, ◌==◌, ℕ, cond, false, true, nat_lt, OnErr, OnOk};
 ghost use Rattle.std.specs.List.{All};
 ghost use Rattle.amr_def.specs.Facts.{IsSound};
 ghost use Rattle.amr_def.specs.Regrid.{regrid};
 ghost use Rattle.amr_def.specs.Run.{next, regrid_is_due};
 ghost use Rattle.amr_patch.specs.Meshes.{is_spent, levels_of, state_of};
 ghost use Rattle.amr_start.specs.PatchBoxes.{IsChopped};
-ghost use Rattle.amr_advance.specs.Teams.{IsTeamFor};
+ghost use Rattle.amr_advance.specs.Crews.{MayRun};
 ghost use Rattle.amr_cycle.specs.Cycles.{AreCoarsenableAbove};
 ghost use Rattle.amr_cycle.specs.Kept.{IsCurrent, IsKeptFor};
 
@@ -15,10 +15,9 @@ use amr_advance::Workers;
 use amr_causes::NoMemory;
 use amr_cycle::{Kept, step_kept};
 use amr_def::Problem;
-use amr_lots::LotWork;
+use amr_lots::LevelWork;
 use amr_patch::Mesh;
 use amr_regrid::regrid_in_threads;
-use amr_work::LevelWork;
 use amr_workers::Gate;
 use std::alloc::Global;
 use std::sync::Wait;
@@ -69,8 +68,6 @@ fn regrid_if_due<R: Threads + Sync>(
 pub(crate) struct Run<'a> {
     pub alloc: Global,
     pub job: LevelWork<'a>,
-    /// What a worker does with a lot of a level's patches.
-    pub service: LotWork<'a>,
     pub target: u32,
 }
 
@@ -88,10 +85,7 @@ pub(crate) fn make_next<R: Threads + Wait + Sync, G: Gate + Sync>(
     requires coarsenable { AreCoarsenableAbove (levels_of mesh.old) }
     requires kept { IsKeptFor run.now.job.problem.now kept.old }
     requires current { IsCurrent (state_of mesh.old).levels kept.old }
-    requires some_workers { 1 ≤ workers.old.count }
-    requires few_workers { workers.old.count ≤ 64 }
-    requires gate { (worker task : ℕ) → worker < workers.old.count → G.admits workers.old.gate.now worker task }
-    requires team { IfSome workers.old.team (IsTeamFor run.now.job.problem.now workers.old.gate.now workers.old.count) }
+    requires crew { (tasks : ℕ) → MayRun G.admits run.now.job.problem.now tasks workers.old }
     ensures workers { workers.new ≡ workers.old }
     ensures value { OnOk result (state_of mesh.new ≡ next run.now.job.problem.now (state_of mesh.old)) }
     ensures sound { OnOk result (IsSound run.now.job.problem.now (state_of mesh.new)) }

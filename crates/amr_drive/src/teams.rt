@@ -1,19 +1,17 @@
 //! A run by workers who last from its first step to its last.
 
-ghost use Rattle.std.specs.Prelude.{◌≡◌, ◌<◌, ◌≤◌, ℕ, IfSome, Result};
+ghost use Rattle.std.specs.Prelude.{◌<◌, ◌≤◌, ℕ, Result};
 ghost use Rattle.std.specs.List.{All};
 ghost use Rattle.std.specs.Arc.{arc_value};
-ghost use Rattle.amr_pool.specs.Helpers.{IsRecruit as IsLotRecruit};
 ghost use Rattle.amr_workers.specs.Helpers.{IsRecruit};
-ghost use Rattle.amr_advance.specs.Teams.{IsTeamFor};
+ghost use Rattle.amr_advance.specs.Crews.{MayRun};
 ghost use Rattle.amr_drive.specs.Drives.{HasDriven, MayDrive};
 
 use crate::after::AfterStep;
 use crate::drives::{DriveFault, make_steps};
 use crate::nexts::Run;
-use amr_advance::{LevelTeam, Workers};
+use amr_advance::Workers;
 use amr_patch::Mesh;
-use amr_pool::{Pool, serve_all as serve_lots};
 use amr_workers::{Gate, Team, serve_all};
 use std::sync::Wait;
 use std::thread::{Threads, join_mut};
@@ -26,10 +24,7 @@ fn lead<R: Threads + Wait + Sync, G: Gate + Sync, A: AfterStep>(
     after: &mut A,
 ) -> Result<(), DriveFault<A::Fault>>
     requires may { MayDrive A.ready run.now.job.problem.now run.now.target mesh.old after.old }
-    requires some_workers { 1 ≤ workers.old.count }
-    requires few_workers { workers.old.count ≤ 64 }
-    requires gate { (worker task : ℕ) → worker < workers.old.count → G.admits workers.old.gate.now worker task }
-    requires team { IfSome workers.old.team (IsTeamFor run.now.job.problem.now workers.old.gate.now workers.old.count) }
+    requires crew { (tasks : ℕ) → MayRun G.admits run.now.job.problem.now tasks workers.old }
     ensures { HasDriven A.made run.now.job.problem.now run.now.target mesh.old after.old result mesh.new after.new }
 {
     if let Some(team) = &workers.team {
@@ -37,15 +32,15 @@ fn lead<R: Threads + Wait + Sync, G: Gate + Sync, A: AfterStep>(
     }
     let done = make_steps(run, workers, mesh, after);
     if let Some(team) = &mut workers.team {
-        team.dismiss();
+        drop(team.dismiss());
     }
     done
 }
 
-/// Makes the steps of a run by a team of so many workers who draw tasks, and last from the first step to the last. One side of a
+/// Makes the steps of a run by a team of so many workers, who last from the first step to the last. One side of a
 /// join serves; the other makes the steps, and lets the workers go at their end. Where there is no memory for a team, threads are
-/// made for each step of a level.
-fn drive_by_drawing<'a, R: Threads + Wait + Sync, G: Gate + Sync, A: AfterStep>(
+/// made for each phase of a level.
+pub(crate) fn drive_by_team<'a, R: Threads + Wait + Sync, G: Gate + Sync, A: AfterStep>(
     rt: &'a R,
     run: &'a Run<'a>,
     count: u32,
@@ -69,83 +64,17 @@ fn drive_by_drawing<'a, R: Threads + Wait + Sync, G: Gate + Sync, A: AfterStep>(
     let Ok((team, mut recruits)) = Team::hire(run.alloc, job, gate, count) else {
         return lead(run, &mut workers, mesh, after);
     };
-    workers.team = Some(LevelTeam::Drawing(team));
+    workers.team = Some(team);
     let ((), done) = join_mut(
         rt,
         &mut ||
             requires { All (λ r. IsRecruit job.now gate.now (arc_value r.mailbox) r.worker r.number) recruits.items }
         { serve_all(rt, &mut recruits, job, gate) },
         &mut || -> Result<(), DriveFault<A::Fault>>
-            requires { MayDrive A.ready run.now.job.problem.now run.now.target mesh.now after.now × (1 ≤ workers.count) × (workers.count ≤ 64)
-                × ((worker task : ℕ) → worker < workers.count → G.admits workers.gate.now worker task)
-                × IfSome workers.team (IsTeamFor run.now.job.problem.now workers.gate.now workers.count) }
+            requires { MayDrive A.ready run.now.job.problem.now run.now.target mesh.now after.now
+                × ((tasks : ℕ) → MayRun G.admits run.now.job.problem.now tasks workers) }
             ensures { HasDriven A.made run.entry.now.job.problem.now run.entry.now.target mesh.entry.now after.entry.now result mesh.exit.now after.exit.now }
         { lead(run, &mut workers, mesh, after) },
     );
     done
-}
-
-/// The same by a team of workers who share levels out.
-fn drive_by_sharing<'a, R: Threads + Wait + Sync, G: Gate + Sync, A: AfterStep>(
-    rt: &'a R,
-    run: &'a Run<'a>,
-    count: u32,
-    gate: &'a G,
-    mesh: &mut Mesh,
-    after: &mut A,
-) -> Result<(), DriveFault<A::Fault>>
-    requires may { MayDrive A.ready run.now.job.problem.now run.now.target mesh.old after.old }
-    requires service { run.now.service.problem.now ≡ run.now.job.problem.now }
-    requires some_workers { 1 ≤ count }
-    requires few_workers { count ≤ 64 }
-    requires gate { (worker task : ℕ) → worker < count → G.admits gate.now worker task }
-    ensures { HasDriven A.made run.now.job.problem.now run.now.target mesh.old after.old result mesh.new after.new }
-{
-    let service = &run.service;
-    let mut workers = Workers {
-        runtime: rt,
-        gate,
-        count,
-        team: None,
-    };
-    let Ok((pool, mut recruits)) = Pool::hire(run.alloc, service, count) else {
-        return lead(run, &mut workers, mesh, after);
-    };
-    workers.team = Some(LevelTeam::Sharing(pool));
-    let ((), done) = join_mut(
-        rt,
-        &mut ||
-            requires { All (λ r. IsLotRecruit service.now (arc_value r.mailbox) r.worker) recruits.items }
-        { serve_lots(rt, &mut recruits, service) },
-        &mut || -> Result<(), DriveFault<A::Fault>>
-            requires { MayDrive A.ready run.now.job.problem.now run.now.target mesh.now after.now × (1 ≤ workers.count) × (workers.count ≤ 64)
-                × ((worker task : ℕ) → worker < workers.count → G.admits workers.gate.now worker task)
-                × IfSome workers.team (IsTeamFor run.now.job.problem.now workers.gate.now workers.count) }
-            ensures { HasDriven A.made run.entry.now.job.problem.now run.entry.now.target mesh.entry.now after.entry.now result mesh.exit.now after.exit.now }
-        { lead(run, &mut workers, mesh, after) },
-    );
-    done
-}
-
-/// Makes the steps of a run by a team of so many workers, who last from the first step to the last. They draw tasks where the gate
-/// may hold one of them until another one calls it; else they share levels out.
-pub(crate) fn drive_by_team<'a, R: Threads + Wait + Sync, G: Gate + Sync, A: AfterStep>(
-    rt: &'a R,
-    run: &'a Run<'a>,
-    count: u32,
-    gate: &'a G,
-    mesh: &mut Mesh,
-    after: &mut A,
-) -> Result<(), DriveFault<A::Fault>>
-    requires may { MayDrive A.ready run.now.job.problem.now run.now.target mesh.old after.old }
-    requires service { run.now.service.problem.now ≡ run.now.job.problem.now }
-    requires some_workers { 1 ≤ count }
-    requires few_workers { count ≤ 64 }
-    requires gate { (worker task : ℕ) → worker < count → G.admits gate.now worker task }
-    ensures { HasDriven A.made run.now.job.problem.now run.now.target mesh.old after.old result mesh.new after.new }
-{
-    if gate.holds() {
-        return drive_by_drawing(rt, run, count, gate, mesh, after);
-    }
-    drive_by_sharing(rt, run, count, gate, mesh, after)
 }

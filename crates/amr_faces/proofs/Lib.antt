@@ -1,6 +1,10 @@
 pub mod FaceSides
 pub mod Numbers
-pub mod Owners
+pub mod Masked
+pub mod MaskedPlaces
 pub mod Places
 pub mod Reciprocals
 pub mod Shown
+pub mod Small
+pub mod MaskedEnds
+pub mod EdgeFaces

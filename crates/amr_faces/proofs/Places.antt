@@ -1,23 +1,18 @@
--- Where a box of a level and the faces of its cells stand, and which of these a patch owns.
-use Rattle.std.proofs.Common.{◌≡◌, ℕ, ◌<◌, ◌≤◌, Bool, true, false, ◌&&◌, ℤ, pos, ◌+ℤ◌, ◌-ℤ◌, ◌≤ℤ◌, ◌<ℤ◌, refl, arith}
-use Rattle.std.proofs.lemmas.Bool.{and_parts, false_from_ne_true}
-use Rattle.std.specs.Prelude.{not}
+-- Where a box of a level and the faces of its cells stand.
+use Rattle.std.proofs.Common.{◌≡◌, ℕ, ◌<◌, ◌≤◌, true, false, ℤ, pos, ◌+ℤ◌, ◌-ℤ◌, ◌≤ℤ◌, ◌<ℤ◌, refl, arith}
+use Rattle.std.proofs.lemmas.Bool.{false_from_ne_true}
 use Rattle.std.proofs.lemmas.Int.{ints}
 use Rattle.amr_box.specs.declared.Cell.{Cell}
-use Rattle.amr_box.specs.declared.Face.{Face}
 use Rattle.amr_box.specs.declared.Axis.{Axis}
 use Rattle.amr_box.specs.declared.Axis.TheVariants.{X, Y}
 use Rattle.amr_box.specs.Cells.{Extent, IsNear, at_least_zero, cell, extent, height, holds, width}
 use Rattle.amr_box.proofs.Numbers.{at_least_zero-same}
 use Rattle.amr_def.specs.declared.problem.Problem.{Problem}
 use Rattle.amr_def.specs.Domain.{columns, rows, domain}
-use Rattle.amr_def.specs.Flux.{high_cell}
 use Rattle.amr_def.proofs.Nesting.{in_domain-inside}
-use Rattle.amr_patch.specs.declared.patches.Patch.{Patch}
-use Rattle.amr_patch.specs.Places.{on_box, is_face_of}
-use Rattle.amr_patch.specs.Patches.{box, mark_in}
+use Rattle.amr_patch.specs.Places.{on_box}
 use Rattle.amr_patch.proofs.Rows.{IsIn, inside, is_inside, sides}
-use Rattle.amr_faces.specs.Faces.{IsInDomain, is_border, owns}
+use Rattle.amr_faces.specs.Faces.{IsInDomain}
 
 -- ---- where a box of a level stands
 
@@ -46,7 +41,7 @@ pub record IsFaceAt (b : Extent) (x y : ℤ) (i j : ℕ) : Type 0 where
   pub column : pos i ≡ x -ℤ b.lo.x
   pub row : pos j ≡ y -ℤ b.lo.y
 
--- ---- the faces that a patch owns
+-- ---- the faces of a box
 
 -- the cells at whose low side along an axis a face of the box lies
 abbrev pub face_cells : Axis → Extent → Extent
@@ -100,17 +95,3 @@ pub y_beyond : (b : Extent) (x y : ℤ) (i j : ℕ) → IsNear b → IsYFace b x
 y_beyond b x y i j near f last =
     let s = sides b near in
     false_from_ne_true (holds b (cell x y)) (λ e. let k = inside b (cell x y) e in let north : y ≤ℤ b.hi.y = k.north in omega (arith, ints, north, f.at.row, s.high))
-
-unmarked : (a b m : Bool) → (a && not (a && not b && m)) ≡ true → b ≡ false → m ≡ false
-unmarked true true m e h = cc
-unmarked true false true e h = cc
-unmarked true false false e h = refl
-unmarked false b m e h = cc
-
-pub owned_of_box : (q : Patch) (f : Face) → owns q f ≡ true → is_face_of (box q) f ≡ true
-unfolding owns
-owned_of_box q f own = (and_parts (is_face_of (box q) f) _ own).0
-
-pub owned_unmarked : (q : Patch) (f : Face) → owns q f ≡ true → holds (box q) (high_cell f) ≡ false → mark_in q (high_cell f) ≡ false
-unfolding owns is_border
-owned_unmarked q f own beyond = unmarked (is_face_of (box q) f) (holds (box q) (high_cell f)) (mark_in q (high_cell f)) own beyond

@@ -3,8 +3,6 @@ use Rattle.std.proofs.Common.{◌≡◌, ℕ, zero, suc, ◌-◌, ◌<◌, ◌�
 use Rattle.std.specs.Prelude.{not, cond}
 use Rattle.std.proofs.lemmas.Int.{ints}
 use Rattle.std.proofs.lemmas.Bool.{cases_lt}
-use Rattle.std.proofs.Math.ListN.{get_or-append}
-use Rattle.std.proofs.lemmas.List.{get_or-append_right, get_or-append-add}
 use Rattle.amr_box.specs.declared.Cell.{Cell}
 use Rattle.amr_box.specs.declared.Face.{Face}
 use Rattle.amr_box.specs.declared.Axis.{Axis}
@@ -19,9 +17,8 @@ use Rattle.amr_def.proofs.Uncovered.{same_face}
 use Rattle.amr_patch.specs.declared.patches.Patch.{Patch}
 use Rattle.amr_patch.specs.Places.{grown, is_face_of}
 use Rattle.amr_patch.proofs.Rows.{inside, is_inside, sides}
-use Rattle.amr_faces.specs.Faces.{ShowsValues, border_faces, border_place, flux_beside, in_reach, is_border, passing, x_end, y_end}
-use Rattle.amr_faces.proofs.Places.{around, IsXFace, IsYFace, offset, x_face_at, y_face_at}
-use Rattle.amr_faces.proofs.Owners.{x_inner, y_inner}
+use Rattle.amr_faces.specs.Faces.{ShowsValues, flux_beside, in_reach}
+use Rattle.amr_faces.proofs.Places.{around}
 
 -- ---- fluxes
 
@@ -79,105 +76,3 @@ net_alike b e e' same c h =
     let south = same (face Y c.x c.y) (is_inside (extent b.lo (cell b.hi.x (b.hi.y +ℤ pos 1))) (cell c.x c.y) (record { west = k.west; east = k.east; south = k.south; north = omega (arith, ints, k.north) })) in
     let north = same (face Y c.x (c.y +ℤ pos 1)) (is_inside (extent b.lo (cell b.hi.x (b.hi.y +ℤ pos 1))) (cell c.x (c.y +ℤ pos 1)) (record { west = k.west; east = k.east; south = omega (arith, ints, k.south); north = omega (arith, ints, k.north) })) in
     λ t. (west t -ℤ east t) +ℤ (south t -ℤ north t)
-
--- ---- the place of a border face
-
-module _ (test : Face → Bool) (g : ℕ → Face) where
-  one : (n : ℕ) → test (g n) ≡ true → passing test g (suc n) ≡ passing test g n ++ (g n ∷ [])
-  one n e = ap (λ b. passing test g n ++ cond b (g n ∷ []) []) e
-
-  grows : (k n : ℕ) → k ≤ n → length (passing test g k) ≤ length (passing test g n)
-  grows zero n h = omega arith
-  grows (suc k) zero h = absurd (omega arith)
-  grows (suc k) (suc n) h =
-      elim (cases_lt k n) [
-        | inl below ↦
-            let earlier : length (passing test g (suc k)) ≤ length (passing test g n) = grows (suc k) n (omega arith) in
-            omega (arith, earlier, length-append (passing test g n) (cond (test (g n)) (g n ∷ []) []))
-        | inr past ↦ let same : suc k ≡ suc n = omega arith in omega (arith, ap (λ j. length (passing test g j)) same)
-      ]
-
-  before : (k n : ℕ) → k < n → test (g k) ≡ true → length (passing test g k) < length (passing test g n)
-  before k n h e =
-      let next : length (passing test g (suc k)) ≤ length (passing test g n) = grows (suc k) n (omega arith) in
-      omega (arith, next, ap length (one k e), length-append (passing test g k) (g k ∷ []))
-
-  first : (d : Face) (j n : ℕ) → j ≡ 0 → get_or (g n ∷ []) j d ≡ g n
-  first d zero n e = refl
-  first d (suc j) n e = absurd (omega arith)
-
-  pub at_place : (d : Face) (k n : ℕ) → k < n → test (g k) ≡ true → get_or (passing test g n) (length (passing test g k)) d ≡ g k
-  at_place d k zero h e = absurd (omega arith)
-  at_place d k (suc n) h e =
-      elim (cases_lt k n) [
-        | inl below ↦ get_or-append (passing test g n) (cond (test (g n)) (g n ∷ []) []) d (length (passing test g k)) (before k n below e) ∙ at_place d k n below e
-        | inr past ↦
-            let same : k ≡ n = omega arith in
-            let last : length (passing test g k) ≡ length (passing test g n) = ap (λ j. length (passing test g j)) same in
-            ap (λ es. get_or es (length (passing test g k)) d) (one n (ap (λ j. test (g j)) (sym same) ∙ e))
-            ∙ get_or-append_right (passing test g n) (g n ∷ []) (length (passing test g n)) (length (passing test g k)) d refl (omega (arith, last))
-            ∙ first d (length (passing test g k) - length (passing test g n)) n (omega (arith, last)) ∙ ap g (sym same)
-      ]
-
-face_of : (a b m : Bool) → (a && not b && m) ≡ true → a ≡ true
-face_of true b m e = refl
-face_of false b m e = cc
-
-pub border_of_box : (q : Patch) (f : Face) → is_border q f ≡ true → is_face_of q.bx f ≡ true
-unfolding is_border
-border_of_box q f e = face_of (is_face_of q.bx f) (holds q.bx (high_cell f)) _ e
-
--- the entry that is handed in for a border face stands where the list of border faces has the face
-pub record HasPlace (q : Patch) (f : Face) : Type 0 where
-  pub inside : border_place q f < length (border_faces q)
-  pub at : (d : Face) → get_or (border_faces q) (border_place q f) d ≡ f
-
--- the row of a border face among the x faces, and the column of one among the y faces
-x_row : (q : Patch) (x y : ℤ) → is_border q (face X x y) ≡ true → (x_end q.bx (offset q.bx.lo.y y) ≡ face X x y) × (offset q.bx.lo.y y < height q.bx)
-x_row q x y e = at_each (x_face_at q.bx x y q.near (border_of_box q (face X x y) e)) (cases_lt (offset q.bx.lo.x x) (width q.bx))
-  where
-    at_each : IsXFace q.bx x y (offset q.bx.lo.x x) (offset q.bx.lo.y y) → (offset q.bx.lo.x x < width q.bx) ⊎ (width q.bx ≤ offset q.bx.lo.x x) → (x_end q.bx (offset q.bx.lo.y y) ≡ face X x y) × (offset q.bx.lo.y y < height q.bx)
-    at_each f (inl below) = absurd (opposite e (x_inner q x y (offset q.bx.lo.x x) (offset q.bx.lo.y y) f below))
-    at_each f (inr past) = let s = sides q.bx q.near in (same_face X (omega (arith, ints, f.at.column, f.column, past, s.wide)) (omega (arith, ints, f.at.row)), f.row)
-
-y_column : (q : Patch) (x y : ℤ) → is_border q (face Y x y) ≡ true → (y_end q.bx (offset q.bx.lo.x x) ≡ face Y x y) × (offset q.bx.lo.x x < width q.bx)
-y_column q x y e = at_each (y_face_at q.bx x y q.near (border_of_box q (face Y x y) e)) (cases_lt (offset q.bx.lo.y y) (height q.bx))
-  where
-    at_each : IsYFace q.bx x y (offset q.bx.lo.x x) (offset q.bx.lo.y y) → (offset q.bx.lo.y y < height q.bx) ⊎ (height q.bx ≤ offset q.bx.lo.y y) → (y_end q.bx (offset q.bx.lo.x x) ≡ face Y x y) × (offset q.bx.lo.x x < width q.bx)
-    at_each f (inl below) = absurd (opposite e (y_inner q x y (offset q.bx.lo.x x) (offset q.bx.lo.y y) f below))
-    at_each f (inr past) = let s = sides q.bx q.near in (same_face Y (omega (arith, ints, f.at.column)) (omega (arith, ints, f.at.row, f.row, past, s.high)), f.column)
-
-x_placed : (q : Patch) (x y : ℤ) → is_border q (face X x y) ≡ true → HasPlace q (face X x y)
-unfolding border_place border_faces offset
-x_placed q x y e =
-    let r = x_row q x y e in
-    let j = at_least_zero (y -ℤ q.bx.lo.y) in
-    let xs = passing (is_border q) (x_end q.bx) (height q.bx) in
-    let ys = passing (is_border q) (y_end q.bx) (width q.bx) in
-    let marked : is_border q (x_end q.bx j) ≡ true = ap (is_border q) r.0 ∙ e in
-    let below = before (is_border q) (x_end q.bx) j (height q.bx) r.1 marked in
-    record {
-      inside = omega (arith, below, length-append xs ys);
-      at = λ d. get_or-append xs ys d (length (passing (is_border q) (x_end q.bx) j)) below ∙ at_place (is_border q) (x_end q.bx) d j (height q.bx) r.1 marked ∙ r.0;
-    }
-
-y_placed : (q : Patch) (x y : ℤ) → is_border q (face Y x y) ≡ true → HasPlace q (face Y x y)
-unfolding border_place border_faces offset
-y_placed q x y e =
-    let r = y_column q x y e in
-    let i = at_least_zero (x -ℤ q.bx.lo.x) in
-    let xs = passing (is_border q) (x_end q.bx) (height q.bx) in
-    let ys = passing (is_border q) (y_end q.bx) (width q.bx) in
-    let marked : is_border q (y_end q.bx i) ≡ true = ap (is_border q) r.0 ∙ e in
-    let below = before (is_border q) (y_end q.bx) i (width q.bx) r.1 marked in
-    record {
-      inside = omega (arith, below, length-append xs ys);
-      at = λ d. get_or-append-add xs ys (length (passing (is_border q) (y_end q.bx) i)) d ∙ at_place (is_border q) (y_end q.bx) d i (width q.bx) r.1 marked ∙ r.0;
-    }
-
-by_axis : (q : Patch) (a : Axis) (x y : ℤ) → is_border q (face a x y) ≡ true → HasPlace q (face a x y)
-by_axis q X x y e = x_placed q x y e
-by_axis q Y x y e = y_placed q x y e
-
-pub border_placed : (q : Patch) (f : Face) → is_border q f ≡ true → HasPlace q f
-border_placed q f e = by_axis q f.axis f.x f.y e

@@ -1,5 +1,6 @@
--- The faces of a patch: which it owns, and in which order the fluxes of the others are handed in.
-use Rattle.std.specs.Prelude.{◌≡◌, ℕ, zero, suc, ◌+◌, Bool, ◌&&◌, ◌||◌, not, cond, ℤ, pos, ◌+ℤ◌, ◌-ℤ◌, List, [], ◌∷◌, ◌++◌, length, slice_index, IsTrue}
+-- The faces of a patch, what flows through them by its values, and in which order fluxes that are handed in stand.
+use Rattle.std.specs.Prelude.{◌≡◌, ℕ, zero, suc, ◌+◌, Bool, false, ◌&&◌, ◌||◌, not, cond, ℤ, pos, ◌+ℤ◌, ◌-ℤ◌}
+use Rattle.std.specs.Prelude.{List, [], ◌∷◌, ◌++◌, length, slice_index, slice_index_or, IsTrue}
 use Rattle.amr_box.specs.declared.Cell.{Cell}
 use Rattle.amr_box.specs.declared.Face.{Face}
 use Rattle.amr_box.specs.declared.Axis.{Axis}
@@ -11,8 +12,8 @@ use Rattle.amr_def.specs.State.{Masses}
 use Rattle.amr_def.specs.Value.{value_at}
 use Rattle.amr_def.specs.Flux.{Fluxes, courant, face, flow, high_cell, low_cell}
 use Rattle.amr_patch.specs.declared.patches.Patch.{Patch}
-use Rattle.amr_patch.specs.Places.{grown, is_face_of}
-use Rattle.amr_patch.specs.Patches.{box, mark_in, value_in}
+use Rattle.amr_patch.specs.Places.{grown, is_face_of, place}
+use Rattle.amr_patch.specs.Patches.{box, value_in}
 use Rattle.amr_faces.specs.Shares.{signed}
 
 -- all cells of a box are cells of a domain
@@ -22,17 +23,6 @@ pub record IsInDomain (d : Domain) (b : Extent) : Type 0 where
 -- whether a cell is of the box, or of the frame beside it: not a corner of the frame
 abbrev pub in_reach : Extent → Cell → Bool
 in_reach b c = holds (grown b) c && (within b.lo.x b.hi.x c.x || within b.lo.y b.hi.y c.y)
-
--- ---- owners (profile)
-
--- whether a face is one at the high side of the patch where the cell beyond it is of the level. It is owned by the patch
--- that has this cell.
-unfoldable pub is_border : Patch → Face → Bool
-is_border q f = is_face_of (box q) f && not (holds (box q) (high_cell f)) && mark_in q (high_cell f)
-
--- a patch owns all other faces of its cells, so that each face of a level has one owner
-unfoldable pub owns : Patch → Face → Bool
-owns q f = is_face_of (box q) f && not (is_border q f)
 
 -- ---- fluxes
 
@@ -44,7 +34,7 @@ flux_beside p l q f = flow (courant p l f) p.d (value_in q (low_cell f)) (value_
 pub record ShowsValues (p : Problem) (l : ℕ) (m old : Masses) (q : Patch) : Type 0 where
   pub at : (c : Cell) → IsTrue (in_reach (box q) c) → value_in q c ≡ value_at p l m old c
 
--- ---- the order of border faces
+-- ---- faces at the high side that a mask tells
 
 -- the x face beyond the last cell of row j of a box, and the y face beyond the last cell of column i
 abbrev pub x_end : Extent → ℕ → Face
@@ -58,19 +48,25 @@ abbrev pub passing : (Face → Bool) → (ℕ → Face) → ℕ → List Face
 passing test f zero = []
 passing test f (suc n) = passing test f n ++ cond (test (f n)) (f n ∷ []) []
 
--- the border faces: first the x faces by y, then the y faces by x
-unfoldable pub border_faces : Patch → List Face
-border_faces q = passing (is_border q) (x_end (box q)) (height (box q)) ++ passing (is_border q) (y_end (box q)) (width (box q))
+-- whether a face is one at the high side of a box's cells where a mask tells the cell beyond it. The mask has an entry for each cell of the
+-- grown box, as the marks of a patch; past its end it tells none.
+unfoldable pub is_masked : Extent → List Bool → Face → Bool
+is_masked b mask f = is_face_of b f && not (holds b (high_cell f)) && slice_index_or mask (place b (high_cell f)) false
 
--- how many border faces come before a face
-abbrev pub place_along : Axis → Patch → Face → ℕ
-place_along X q f = length (passing (is_border q) (x_end (box q)) (at_least_zero (f.y -ℤ (box q).lo.y)))
-place_along Y q f =
-    length (passing (is_border q) (x_end (box q)) (height (box q))) + length (passing (is_border q) (y_end (box q)) (at_least_zero (f.x -ℤ (box q).lo.x)))
+-- these faces: first the x faces by y, then the y faces by x
+unfoldable pub masked_faces : Extent → List Bool → List Face
+masked_faces b mask = passing (is_masked b mask) (x_end b) (height b) ++ passing (is_masked b mask) (y_end b) (width b)
 
-unfoldable pub border_place : Patch → Face → ℕ
-border_place q f = place_along f.axis q f
+-- how many of them come before a face
+abbrev pub masked_along : Axis → Extent → List Bool → Face → ℕ
+masked_along X b mask f = length (passing (is_masked b mask) (x_end b) (at_least_zero (f.y -ℤ b.lo.y)))
+masked_along Y b mask f =
+    length (passing (is_masked b mask) (x_end b) (height b)) + length (passing (is_masked b mask) (y_end b) (at_least_zero (f.x -ℤ b.lo.x)))
 
--- the fluxes through the faces of a patch's cells: those that it owns by the values, those of its border faces by the sizes handed in
-unfoldable pub fluxes_with : Problem → ℕ → Patch → List ℕ → Fluxes
-fluxes_with p l q border f = cond (is_border q f) (signed (courant p l f) (slice_index border (border_place q f))) (flux_beside p l q f)
+unfoldable pub masked_place : Extent → List Bool → Face → ℕ
+masked_place b mask f = masked_along f.axis b mask f
+
+-- the fluxes through the faces of a patch's cells: those of masked faces by the sizes handed in, all others by the values
+unfoldable pub fluxes_by : Problem → ℕ → Patch → List Bool → List ℕ → Fluxes
+fluxes_by p l q mask border f =
+    cond (is_masked (box q) mask f) (signed (courant p l f) (slice_index border (masked_place (box q) mask f))) (flux_beside p l q f)

@@ -1,4 +1,4 @@
-//! The faces at the high ends of a box's rows and columns, among them the border faces of a patch.
+//! The faces at the high ends of a box's rows and columns.
 
 ghost use Rattle.std.specs.Prelude.{◌≡◌, ◌<◌};
 ghost use Rattle.amr_box.specs.Cells.{IsNear, height, width};

@@ -34,7 +34,7 @@ use Rattle.amr_register.proofs.CollectLaws.{column_high, column_low, passes, row
 use Rattle.amr_layout.specs.Surroundings.{Around, around, is_coarse_fine, outside, x_start, y_start}
 use Rattle.amr_layout.specs.Adds.{HasCellsBeyond, cell_beyond}
 use Rattle.amr_layout.proofs.Edges.{on_each_side}
-use Rattle.amr_flows.proofs.Borders.{x_end-out, y_end-out}
+use Rattle.amr_flows.proofs.HighEnds.{x_end-out, y_end-out}
 use Rattle.amr_flows.proofs.Parents.{child_there, half_after, half_before, parent_home}
 
 plus_none : (z : ℤ) → z +ℤ pos 0 ≡ z

@@ -1,15 +1,15 @@
 -- The layout of a level, by counts.
 use Rattle.std.proofs.Common.{◌≡◌, ◌∙◌, ℕ, zero, suc, ◌+◌, ◌*◌, ◌<◌, ◌≤◌, ◌==◌, Bool, true, false, ◌&&◌, ◌||◌, cond, if◌then◌else◌, List, [], ◌∷◌, ◌++◌, length, map, refl, sym, ap, subst, inl, inr, pos, eq-eqb, arith}
-use Rattle.std.specs.Prelude.{slice_index_or}
+use Rattle.std.specs.Prelude.{not, slice_index_or}
 use Rattle.std.specs.List.{All, filter, flat_map, list_all}
-use Rattle.std.proofs.lemmas.Bool.{cases_Bool, and_from, and_parts, eqb-true, ne_eqb, true≢false}
+use Rattle.std.proofs.lemmas.Bool.{cases_Bool, and_from, and_parts, eqb-true, ne_eqb, not-true, true≢false}
 use Rattle.std.proofs.lemmas.List.{get_or-map, length-map}
 use Rattle.std.proofs.lemmas.List.Elements.{All-cons, All-nil}
 use Rattle.std.proofs.lemmas.List.Folds.{list_all-append, list_all_at}
 use Rattle.amr_box.specs.declared.Cell.{Cell}
 use Rattle.amr_box.specs.declared.Face.{Face}
 use Rattle.amr_box.specs.Cells.{Extent, height, holds, width}
-use Rattle.amr_def.specs.Domain.{Domain}
+use Rattle.amr_def.specs.Domain.{Domain, home_cell}
 use Rattle.amr_box.specs.declared.Axis.TheVariants.{X}
 use Rattle.amr_def.specs.Flux.{face, high_cell}
 use Rattle.amr_def.specs.Ledger.{sum_to}
@@ -20,9 +20,9 @@ use Rattle.amr_phase.specs.Plans.{total}
 use Rattle.amr_faces.specs.Faces.{passing, x_end, y_end}
 use Rattle.amr_layout.specs.declared.PutAt.{PutAt}
 use Rattle.amr_layout.specs.Adds.{flow_to, flows_of, inflow_faces, is_exchange_face, is_inflow_face, is_outflow_face, outflow_faces, register_flows, size_to, word_of, word_total}
-use Rattle.amr_layout.specs.Places.{borders_of, home_face, leads_on, level_borders, placed, puts_of}
+use Rattle.amr_layout.specs.Places.{are_grouped, borders_of, holder_of, home_face, leads_on, level_borders, placed, puts_of}
 use Rattle.amr_layout.specs.Surroundings.{Around, domain_around, edge_count, edge_face}
-use Rattle.amr_flows.specs.Layouts.{IsExact, IsOwnPut, goes_to, puts_at}
+use Rattle.amr_flows.specs.Layouts.{IsBetweenGroups, IsExact, IsOwnPut, goes_to, puts_at}
 use Rattle.amr_flows.proofs.LedgerFlowsSums.{one_holder, total_append, total_each, total_image, total_passing}
 
 -- ---- the border faces lead on
@@ -35,21 +35,38 @@ all_pass test g (suc n) = list_all-append test (passing test g n) (cond (test (g
     one true e = and_from (test (g n)) true e refl
     one false e = refl
 
-module _ (d : Domain) (ps : List Patch) where
-  leads_here : (b : Extent) → list_all (leads_on d ps) (borders_of d ps b) ≡ true
+module _ (d : Domain) (ps : List Patch) (each : ℕ) where
+  leads_here : (b : Extent) → list_all (leads_on d ps each (holder_of ps b.lo)) (borders_of d ps each b) ≡ true
   unfolding borders_of
   leads_here b =
-      list_all-append (leads_on d ps) (passing (leads_on d ps) (x_end b) (height b)) (passing (leads_on d ps) (y_end b) (width b))
-      ∙ and_from (list_all (leads_on d ps) (passing (leads_on d ps) (x_end b) (height b))) (list_all (leads_on d ps) (passing (leads_on d ps) (y_end b) (width b)))
-      (all_pass (leads_on d ps) (x_end b) (height b)) (all_pass (leads_on d ps) (y_end b) (width b))
+      let leads = leads_on d ps each (holder_of ps b.lo) in
+      list_all-append leads (passing leads (x_end b) (height b)) (passing leads (y_end b) (width b))
+      ∙ and_from (list_all leads (passing leads (x_end b) (height b))) (list_all leads (passing leads (y_end b) (width b))) (all_pass leads (x_end b) (height b)) (all_pass leads (y_end b) (width b))
 
-  all_lead : (qs : List Patch) → list_all (leads_on d ps) (flat_map (λ q. borders_of d ps (box q)) qs) ≡ true
+  -- the cell beyond is of the level
+  abbrev is_held : Face → Bool
+  is_held f = in_patches ps (home_cell d (high_cell f))
+
+  held_too : (test : Face → Bool) → ((f : Face) → test f ≡ true → is_held f ≡ true) → (fs : List Face) → list_all test fs ≡ true → list_all is_held fs ≡ true
+  held_too test h [] e = refl
+  held_too test h (f ∷ fs) e = let parts = and_parts (test f) (list_all test fs) e in and_from (is_held f) (list_all is_held fs) (h f parts.0) (held_too test h fs parts.1)
+
+  leads_held : (i : ℕ) (f : Face) → leads_on d ps each i f ≡ true → is_held f ≡ true
+  unfolding leads_on
+  leads_held i f e = (and_parts (is_held f) (not (are_grouped each i (holder_of ps (home_cell d (high_cell f))))) e).0
+
+  leads_away : (i : ℕ) (f : Face) → leads_on d ps each i f ≡ true → are_grouped each i (holder_of ps (home_cell d (high_cell f))) ≡ false
+  unfolding leads_on
+  leads_away i f e = not-true (are_grouped each i (holder_of ps (home_cell d (high_cell f)))) (and_parts (is_held f) (not (are_grouped each i (holder_of ps (home_cell d (high_cell f))))) e).1
+
+  all_lead : (qs : List Patch) → list_all is_held (flat_map (λ q. borders_of d ps each (box q)) qs) ≡ true
   all_lead [] = refl
   all_lead (q ∷ qs) =
-      list_all-append (leads_on d ps) (borders_of d ps (box q)) (flat_map (λ r. borders_of d ps (box r)) qs)
-      ∙ and_from (list_all (leads_on d ps) (borders_of d ps (box q))) (list_all (leads_on d ps) (flat_map (λ r. borders_of d ps (box r)) qs)) (leads_here (box q)) (all_lead qs)
+      list_all-append is_held (borders_of d ps each (box q)) (flat_map (λ r. borders_of d ps each (box r)) qs)
+      ∙ and_from (list_all is_held (borders_of d ps each (box q))) (list_all is_held (flat_map (λ r. borders_of d ps each (box r)) qs))
+      (held_too (leads_on d ps each (holder_of ps (box q).lo)) (leads_held (holder_of ps (box q).lo)) (borders_of d ps each (box q)) (leads_here (box q))) (all_lead qs)
 
-  borders_lead : list_all (leads_on d ps) (level_borders d ps ps) ≡ true
+  borders_lead : list_all is_held (level_borders d ps each ps) ≡ true
   unfolding level_borders
   borders_lead = all_lead ps
 
@@ -138,7 +155,7 @@ module _ (test : Face → Bool) (look : ℕ → Face) (most : ℕ) where
 
 -- ---- of a level
 
-module _ (s : Around) where
+module _ (s : Around) (each : ℕ) where
   abbrev d : Domain
   d = domain_around s
 
@@ -146,15 +163,15 @@ module _ (s : Around) where
   ps = s.patches
 
   abbrev fs : List Face
-  fs = level_borders (domain_around s) s.patches s.patches
+  fs = level_borders (domain_around s) s.patches each s.patches
 
   abbrev homes : List Face
-  homes = map (home_face (domain_around s)) (level_borders (domain_around s) s.patches s.patches)
+  homes = map (home_face (domain_around s)) (level_borders (domain_around s) s.patches each s.patches)
 
   abbrev cell_of : ℕ → Face → Cell
   cell_of n f = high_cell (slice_index_or homes n f)
 
-  of_patch : (n : ℕ) (f : Face) → n < length homes → (q : Patch) → total (at_place n) (puts_of d ps (box q)) ≡ cond (holds (box q) (cell_of n f)) 1 0
+  of_patch : (n : ℕ) (f : Face) → n < length homes → (q : Patch) → total (at_place n) (puts_of d ps each (box q)) ≡ cond (holds (box q) (cell_of n f)) 1 0
   unfolding puts_of own
   of_patch n f lt q =
       let from_zero : 0 + n ≡ n = omega arith in
@@ -162,23 +179,22 @@ module _ (s : Around) where
       subst (λ (k : ℕ). total (at_place k) (own test (placed 0 homes)) ≡ cond (test (slice_index_or homes n f)) 1 0) from_zero (put_here test 0 n homes f lt)
 
   held : (n : ℕ) (f : Face) → n < length fs → in_patches ps (cell_of n (home_face d f)) ≡ true
-  unfolding leads_on
   held n f lt =
-      let leads : leads_on d ps (slice_index_or fs n f) ≡ true = passes_at (leads_on d ps) fs n f lt (borders_lead d ps) in
+      let leads : in_patches ps (home_cell d (high_cell (slice_index_or fs n f))) ≡ true = passes_at (λ g. in_patches ps (home_cell d (high_cell g))) fs n f lt (borders_lead d ps each) in
       let home = get_or-map (home_face d) fs n f (home_face d f) lt in
       ap (λ (g : Face). in_patches ps (high_cell g)) home ∙ leads
 
-  once : ArePatchesApart s.patches → (n : ℕ) (f : Face) → n < length fs → puts_at s n ≡ 1
+  once : ArePatchesApart s.patches → (n : ℕ) (f : Face) → n < length fs → puts_at s each n ≡ 1
   unfolding at_place
   once apart n f lt =
       let below : n < length homes = omega (arith, lt, length-map fs (home_face d)) in
       let c = cell_of n (home_face d f) in
-      total_each (λ (q : Patch). total (at_place n) (puts_of d ps (box q))) (λ (q : Patch). cond (holds (box q) c) 1 0) ps (λ k q under. of_patch n (home_face d f) below (slice_index_or ps k q))
+      total_each (λ (q : Patch). total (at_place n) (puts_of d ps each (box q))) (λ (q : Patch). cond (holds (box q) c) 1 0) ps (λ k q under. of_patch n (home_face d f) below (slice_index_or ps k q))
       ∙ one_holder ps apart c 1
       ∙ ap (λ (t : Bool). cond t 1 0) (held n f lt)
 
   -- each put of a patch is its own
-  own_puts : (q : Patch) → All (IsOwnPut s q) (puts_of (domain_around s) s.patches (box q))
+  own_puts : (q : Patch) → All (IsOwnPut s each q) (puts_of (domain_around s) s.patches each (box q))
   unfolding puts_of
   own_puts q = λ k u lt.
       let test : Face → Bool = λ g. holds (box q) (high_cell g) in
@@ -189,6 +205,12 @@ module _ (s : Around) where
         there = omega (arith, is.there, length-map fs (home_face (domain_around s)));
         of_border = λ f. is.looked ∙ get_or-map (home_face (domain_around s)) fs _ f any_face (omega (arith, is.there, length-map fs (home_face (domain_around s))));
       }
+
+  -- border faces lie between groups
+  between : (b : Extent) → All (IsBetweenGroups s each b) (borders_of (domain_around s) s.patches each b)
+  between b = λ k f lt.
+      let leads = passes_at (leads_on d ps each (holder_of ps b.lo)) (borders_of d ps each b) k f lt (leads_here d ps each b) in
+      record { of_level = leads_held d ps each (holder_of ps b.lo) _ leads; of_other = leads_away d ps each (holder_of ps b.lo) _ leads }
 
 -- ---- what is added to a word
 
@@ -264,9 +286,10 @@ module _ (s : Around) (b : Extent) (flow : Face → ℕ) (word : ℕ) where
       let total_is : word_total flow word (flows_of s b) ≡ sum_to (λ i. into i + (out i + over i)) n = omega (arith, one, two, in_is, out_is, over_is, joined, all) in
       total_is ∙ same
 
-pub layouts_are_exact : (s : Around) → ArePatchesApart s.patches → IsExact s
-layouts_are_exact s apart = record {
-  put_once = λ n lt. once s apart n any_face lt;
-  put_by_owner = own_puts s;
+pub layouts_are_exact : (s : Around) (each : ℕ) → ArePatchesApart s.patches → IsExact s each
+layouts_are_exact s each apart = record {
+  between = between s each;
+  put_once = λ n lt. once s each apart n any_face lt;
+  put_by_owner = own_puts s each;
   added_once = λ q flow word. each_once s (box q) flow word;
 }

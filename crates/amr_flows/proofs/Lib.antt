@@ -19,12 +19,12 @@ pub mod SubcycleSizes
 pub mod SubcycleLedger
 pub mod SubcycleParts
 pub mod Layouts
-pub mod Borders
+pub mod HighEnds
 pub mod Parents
 pub mod Beyond
 pub mod Ordered
 pub mod Coarsenable
-pub mod OwnEdges
-pub mod OwnFlows
+pub mod EdgePuts
+pub mod EdgeFlows
 pub mod PutPlaces
-pub mod Joined
+pub mod Repeats

@@ -1,73 +1,53 @@
 -- Laws of the edges of a level's patches, each of which a call of this crate ensures.
-use Rattle.std.specs.Prelude.{◌≡◌, ℕ, suc, ◌<◌, ◌≤◌, ◌||◌, not, List, [], length, map, slice_index, slice_index_or, IsTrue}
+use Rattle.std.specs.Prelude.{◌≡◌, ℕ, suc, ◌<◌, ◌≤◌, List, [], length, map, slice_index, slice_index_or, IsTrue}
 use Rattle.std.specs.declared.option.Option.{Option}
 use Rattle.std.specs.List.{All, flat_map}
 use Rattle.std.specs.List.Sorted.{IsPermutation}
 use Rattle.amr_box.specs.declared.Cell.{Cell}
 use Rattle.amr_box.specs.declared.Face.{Face}
-use Rattle.amr_box.specs.Cells.{Extent, holds}
+use Rattle.amr_box.specs.Cells.{Extent, IsNear}
 use Rattle.amr_boxlist.specs.Chopped.{chopped}
 use Rattle.amr_def.specs.declared.problem.Problem.{Problem}
 use Rattle.amr_def.specs.Domain.{domain, in_domain}
 use Rattle.amr_def.specs.Facts.{IsAligned, IsLevel, IsNestedLevel}
-use Rattle.amr_def.specs.Flux.{high_cell}
+use Rattle.amr_def.specs.Flux.{flux_at}
 use Rattle.amr_def.specs.State.{Level, Masses}
 use Rattle.amr_patch.specs.declared.levels.Level.{Level as Held}
 use Rattle.amr_patch.specs.declared.patches.Patch.{Patch}
 use Rattle.amr_patch.specs.Patches.{ArePatchesApart, box, in_patches, masses_in}
-use Rattle.amr_patch.specs.Places.{is_face_of}
-use Rattle.amr_ghost.specs.Frames.{HasGhostMarks}
-use Rattle.amr_faces.specs.Faces.{IsInDomain, ShowsValues, border_faces, flux_beside, owns}
+use Rattle.amr_patch.specs.Places.{is_edge_face}
+use Rattle.amr_faces.specs.Faces.{IsInDomain}
 use Rattle.amr_register.specs.RegisterCells.{register_cells}
-use Rattle.amr_layout.specs.declared.AddAt.{AddAt}
+use Rattle.amr_layout.specs.declared.FlowTo.{FlowTo}
 use Rattle.amr_layout.specs.declared.PutAt.{PutAt}
-use Rattle.amr_layout.specs.Adds.{HasRegisterCells, flows_in, flows_of}
-use Rattle.amr_layout.specs.Places.{border_places, borders_of, home_face, leads_on, puts_of}
-use Rattle.amr_layout.specs.Surroundings.{around}
-use Rattle.amr_flows.specs.Borders.{IsOwnEdge, IsPut}
+use Rattle.amr_layout.specs.Adds.{HasRegisterCells, flows_of}
+use Rattle.amr_layout.specs.Places.{border_places, borders_of, home_face, puts_of}
+use Rattle.amr_layout.specs.Surroundings.{Around, around}
+use Rattle.amr_flows.specs.Borders.{IsPut}
 use Rattle.amr_transfer.specs.Sums.{AreCoarsenable}
-
--- ---- owners
-
--- where a patch's ghost cells are marked as those of the level's patches ps, the border faces by the boxes of the level are
--- those by the marks
-abbrev pub BordersAreMarked : Type 0
-BordersAreMarked =
-    (p : Problem) (l : ℕ) (ps : List Patch) (q : Patch) → HasGhostMarks p l (masses_in ps) q → borders_of (domain p l) ps (box q) ≡ border_faces q
-
--- and a patch owns a face of its cells where it has the cell at the high side, or where no patch has the cell that this one
--- stands for (profile)
-abbrev pub OwnersAreTold : Type 0
-OwnersAreTold = (p : Problem) (l : ℕ) (ps : List Patch) (q : Patch) → HasGhostMarks p l (masses_in ps) q
-    → (f : Face) → IsTrue (is_face_of (box q) f) → owns q f ≡ (holds (box q) (high_cell f) || not (leads_on (domain p l) ps f))
 
 -- ---- what a layout has patches put and add
 
--- each put of a patch of a level is of a face on the patch's edges that it owns
-abbrev pub PutsAreOwnEdges : Type 0
-PutsAreOwnEdges = (p : Problem) (l : ℕ) (ps : List Patch) → l ≤ 4 → ArePatchesApart ps → All (λ q. IsInDomain (domain p l) (box q)) ps
-    → All (λ q. All (λ (u : PutAt). IsOwnEdge q u.face) (puts_of (domain p l) ps (box q))) ps
+-- each put of a patch of a level is of a face on the patch's edges
+abbrev pub PutsAreOnEdges : Type 0
+PutsAreOnEdges = (p : Problem) (l : ℕ) (ps : List Patch) (each : ℕ) → l ≤ 4 → ArePatchesApart ps → All (λ q. IsInDomain (domain p l) (box q)) ps
+    → All (λ q. All (λ (u : PutAt). IsTrue (is_edge_face (box q) u.face)) (puts_of (domain p l) ps each (box q))) ps
 
--- so is each face of an add, where the adds have the flows of the patch
-abbrev pub AddsAreOwnEdges : Type 0
-AddsAreOwnEdges =
-    (p : Problem) (l : ℕ) (ps : List Patch) (cells : List Cell) (finer : Option Held) (q : Patch) (adds : List AddAt)
-    → All (λ r. IsInDomain (domain p l) (box r)) ps → HasGhostMarks p l (masses_in ps) q
-    → flows_in adds ≡ flows_of (around p l ps cells finer) (box q) → All (λ (a : AddAt). All (IsOwnEdge q) a.faces.items) adds
+-- so is each flow to a word
+abbrev pub FlowsAreOnEdges : Type 0
+FlowsAreOnEdges = (s : Around) (b : Extent) → IsNear b → All (λ (x : FlowTo). IsTrue (is_edge_face b x.face)) (flows_of s b)
 
 -- patch i reads border face k at a place where a patch of the level puts the face that this one stands for
 abbrev pub BordersArePut : Type 0
 BordersArePut =
-    (p : Problem) (l : ℕ) (ps : List Patch) (i k : ℕ) (q : Patch) (f : Face) → i < length ps
-    → k < length (borders_of (domain p l) ps (box (slice_index_or ps i q)))
-    → IsPut (domain p l) ps (slice_index (border_places (domain p l) ps i) k)
-    (home_face (domain p l) (slice_index_or (borders_of (domain p l) ps (box (slice_index_or ps i q))) k f))
+    (p : Problem) (l : ℕ) (ps : List Patch) (each i k : ℕ) (q : Patch) (f : Face) → i < length ps
+    → k < length (borders_of (domain p l) ps each (box (slice_index_or ps i q)))
+    → IsPut (domain p l) ps each (slice_index (border_places (domain p l) ps each i) k)
+    (home_face (domain p l) (slice_index_or (borders_of (domain p l) ps each (box (slice_index_or ps i q))) k f))
 
--- and patches that have the values of the level find one flux through a face and through the face that it stands for
-abbrev pub FluxesAgree : Type 0
-FluxesAgree = (p : Problem) (l : ℕ) (m old : Masses) (q r : Patch) (f : Face) → l ≤ 4 → ShowsValues p l m old q → ShowsValues p l m old r
-    → IsTrue (is_face_of (box q) f) → IsTrue (is_face_of (box r) (home_face (domain p l) f))
-    → flux_beside p l r (home_face (domain p l) f) ≡ flux_beside p l q f
+-- and one flux is through a face and through the face that it stands for
+abbrev pub FluxesRepeat : Type 0
+FluxesRepeat = (p : Problem) (l : ℕ) (m old : Masses) (f : Face) → l ≤ 4 → flux_at p l m old (home_face (domain p l) f) ≡ flux_at p l m old f
 
 -- ---- register cells
 

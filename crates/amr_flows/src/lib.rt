@@ -13,11 +13,11 @@ ghost use Rattle.amr_flows.specs.Subcycle.{PlainFluxesGiveTheStep, RefluxFits, R
 mod edges;
 
 pub use edges::{
-    borders_are_marked, borders_are_put, owners_are_told, patches_are_coarsenable,
-    posts_are_of_own_edges, registers_serve_layouts,
+    borders_are_put, patches_are_coarsenable, posts_are_on_edges, registers_serve_layouts,
 };
 
-/// The layout of a level, by counts. Each border face is put once, by the patch that owns it, the one with the cell at its high side.
+/// The layout of a level, by counts, where its patches stand in groups of any size. A border face lies beside a cell of the level that no
+/// patch of the group has. Each is put once, by the patch that owns it, the one with the cell at its high side.
 /// Each face on the edges of a patch adds its flow once to the word that the flow goes to, and to no other: to the ledger's words where
 /// the side is open and the cell beside it is not covered, to a register cell's gain or loss where the face lies on the coarse-fine
 /// edge. `amr_layout::plan` makes that layout.

@@ -1,5 +1,5 @@
 -- The entries of a patch's lists, and its cells and faces.
-use Rattle.std.proofs.Common.{◌≡◌, ℕ, ◌+◌, ◌<◌, ◌≤◌, false, ℤ, pos, ◌+ℤ◌, ◌-ℤ◌, refl, sym, ap, ◌∙◌, arith}
+use Rattle.std.proofs.Common.{◌≡◌, ℕ, ◌+◌, ◌<◌, ◌≤◌, Bool, false, ℤ, pos, ◌+ℤ◌, ◌-ℤ◌, List, refl, sym, ap, ◌∙◌, arith}
 use Rattle.std.specs.Prelude.{slice_index, slice_index_or}
 use Rattle.std.proofs.lemmas.Int.{ints}
 use Rattle.amr_box.specs.declared.Cell.{Cell}
@@ -9,7 +9,8 @@ use Rattle.amr_def.specs.declared.problem.Problem.{Problem}
 use Rattle.amr_def.specs.Domain.{columns, rows, domain}
 use Rattle.amr_def.specs.Flux.{face, courant}
 use Rattle.amr_patch.specs.declared.patches.Patch.{Patch}
-use Rattle.amr_patch.specs.Patches.{flux_in, mark_in, value_in}
+use Rattle.amr_patch.specs.Places.{place}
+use Rattle.amr_patch.specs.Patches.{flux_in, value_in}
 use Rattle.amr_patch.proofs.Rows.{place_is, sides, zero-cut}
 use Rattle.amr_patch.proofs.Edges.{flux_x_high, flux_x_low, flux_y_high, flux_y_low}
 use Rattle.amr_faces.specs.Faces.{IsInDomain}
@@ -40,9 +41,8 @@ pub value_here : (q : Patch) (c : Cell) (i j : ℕ) → IsAt q.bx c i j → valu
 unfolding value_in
 value_here q c i j at = ap (slice_index q.data.value.values.items) (sym (place_is q.bx c j i (width q.bx) at.y at.x refl))
 
-pub mark_here : (q : Patch) (c : Cell) (i j : ℕ) → IsAt q.bx c i j → mark_in q c ≡ mark (width q.bx) q.data.value.marks.items i j
-unfolding mark_in
-mark_here q c i j at = ap (λ n. slice_index_or q.data.value.marks.items n false) (sym (place_is q.bx c j i (width q.bx) at.y at.x refl))
+pub mark_at : (q : Patch) (marks : List Bool) (c : Cell) (i j : ℕ) → IsAt q.bx c i j → slice_index_or marks (place q.bx c) false ≡ mark (width q.bx) marks i j
+mark_at q marks c i j at = ap (λ n. slice_index_or marks n false) (sym (place_is q.bx c j i (width q.bx) at.y at.x refl))
 
 -- the flux of a face on an edge is that edge's entry
 pub x_low_here : (q : Patch) (x y : ℤ) (i j : ℕ) → IsFaceAt q.bx x y i j → x ≡ q.bx.lo.x → flux_in q (face X x y) ≡ slice_index_or q.data.value.x_low.items j (pos 0)

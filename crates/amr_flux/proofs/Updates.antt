@@ -15,11 +15,11 @@ use Rattle.amr_patch.specs.declared.patches.Patch.{Patch}
 use Rattle.amr_patch.specs.Places.{column_of, grown, in_frame, is_face_of, row_of}
 use Rattle.amr_patch.specs.Patches.{flux_along, mass_in, value_in}
 use Rattle.amr_patch.proofs.Rows.{inside, is_inside, sides, zero-cut}
-use Rattle.amr_faces.specs.Faces.{border_faces, fluxes_with}
+use Rattle.amr_faces.specs.Faces.{fluxes_by, masked_faces}
 use Rattle.amr_flux.specs.Tables.{IsOtherPlace, Stands, count_below, net_inflow, value, x_marked, x_through, y_marked, y_through}
 use Rattle.amr_faces.proofs.Places.{IsFaceAt, offset}
 use Rattle.amr_flux.proofs.Entries.{IsAt, high_at, value_here}
-use Rattle.amr_flux.proofs.Given.{border_count, x_given, y_given}
+use Rattle.amr_flux.proofs.Given.{masked_count, x_given, y_given}
 
 -- ---- faces by column and row
 
@@ -78,15 +78,15 @@ pub record AreFluxes (q : Patch) (e : Fluxes) (xs ys : ℕ → ℕ → ℤ) : Ty
   pub y : (x y : ℤ) (i j : ℕ) → IsFaceAt q.bx x y i j → i < width q.bx → j ≤ height q.bx → ys i j ≡ e (face Y x y)
 
 module _ (p : Problem) (l : ℕ) (q : Patch) (column row : ℕ) (s : Stands p l q.bx column row) where
-  -- those of border faces by the sizes handed in
-  pub given_fluxes : (border : List ℕ) → AreFluxes q (fluxes_with p l q border) (x_through p l row (width q.bx) q.data.value.marks.items border q.data.value.values.items) (y_through p l column (width q.bx) (height q.bx) q.data.value.marks.items border q.data.value.values.items)
-  given_fluxes border = record {
+  -- those of marked faces by the sizes handed in
+  pub given_fluxes : (marks : List Bool) (border : List ℕ) → AreFluxes q (fluxes_by p l q marks border) (x_through p l row (width q.bx) marks border q.data.value.values.items) (y_through p l column (width q.bx) (height q.bx) marks border q.data.value.values.items)
+  given_fluxes marks border = record {
     x = λ x y i j at hi hj.
-        (λ t. x_through p l row (width q.bx) q.data.value.marks.items border q.data.value.values.items (sym (offset_is q.bx.lo.x x i at.column) t) (sym (offset_is q.bx.lo.y y j at.row) t))
-        ∙ x_given p l q column row s border x y (x_is_face q.bx x y i j q.near at hi hj);
+        (λ t. x_through p l row (width q.bx) marks border q.data.value.values.items (sym (offset_is q.bx.lo.x x i at.column) t) (sym (offset_is q.bx.lo.y y j at.row) t))
+        ∙ x_given p l q column row s marks border x y (x_is_face q.bx x y i j q.near at hi hj);
     y = λ x y i j at hi hj.
-        (λ t. y_through p l column (width q.bx) (height q.bx) q.data.value.marks.items border q.data.value.values.items (sym (offset_is q.bx.lo.x x i at.column) t) (sym (offset_is q.bx.lo.y y j at.row) t))
-        ∙ y_given p l q column row s border x y (y_is_face q.bx x y i j q.near at hi hj);
+        (λ t. y_through p l column (width q.bx) (height q.bx) marks border q.data.value.values.items (sym (offset_is q.bx.lo.x x i at.column) t) (sym (offset_is q.bx.lo.y y j at.row) t))
+        ∙ y_given p l q column row s marks border x y (y_is_face q.bx x y i j q.near at hi hj);
   }
 
 module _ (q : Patch) (e : Fluxes) (xs ys : ℕ → ℕ → ℤ) (are : AreFluxes q e xs ys) where
@@ -170,8 +170,8 @@ moved P {l = l} {l' = l'} {w = w} {w' = w'} {h = h} {h' = h'} {v = v} {v' = v'} 
     let E : List Bool → Type 0 = λ n. P l' w' h' v' n in
     subst E em (subst D ev (subst C eh (subst B ew (subst A el has))))
 
-pub enough : (q : Patch) (border : List ℕ) → length border ≡ length (border_faces q) → count_below (x_marked (width q.bx) q.data.value.marks.items) (height q.bx) + count_below (y_marked (width q.bx) (height q.bx) q.data.value.marks.items) (width q.bx) ≤ length border
-enough q border count = omega (arith, count, border_count q)
+pub enough : (q : Patch) (marks : List Bool) (border : List ℕ) → length border ≡ length (masked_faces q.bx marks) → count_below (x_marked (width q.bx) marks) (height q.bx) + count_below (y_marked (width q.bx) (height q.bx) marks) (width q.bx) ≤ length border
+enough q marks border count = omega (arith, count, masked_count q marks)
 
 -- a patch that keeps its box and the lists of its edges has the fluxes of before
 pub same_along : (q r : Patch) (a : Axis) (c : Cell) → r.bx ≡ q.bx → r.data.value.x_low.items ≡ q.data.value.x_low.items → r.data.value.x_high.items ≡ q.data.value.x_high.items → r.data.value.y_low.items ≡ q.data.value.y_low.items → r.data.value.y_high.items ≡ q.data.value.y_high.items → flux_along a r c ≡ flux_along a q c

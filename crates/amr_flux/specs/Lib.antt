@@ -3,3 +3,4 @@ pub mod Paces
 pub mod Rooms
 pub mod Rows
 pub mod Tables
+pub mod Sides

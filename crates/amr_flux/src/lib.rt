@@ -1,8 +1,8 @@
 //! The step of one patch: donor-cell fluxes through the faces on its edges, and the new masses of its cells.
 //!
-//! - [`sweep`]: the fluxes through the faces on a patch's edges that it owns.
-//! - [`update`]: the new masses, in one pass row by row; what flows inside is worked out and used there, and kept nowhere.
-//! - [`update_alone`]: the same, where what flows through border faces follows from the frame as well.
+//! - [`sweep`]: the fluxes through the faces on some sides of a patch that it owns.
+//! - [`update_alone`]: the new masses, in one pass row by row; what flows inside is worked out and used there, and kept nowhere.
+//! - [`update_by`]: the same, where what flows through some border faces is handed in.
 #![tactic(auto)]
 
 mod columns;
@@ -20,6 +20,6 @@ mod update_rows;
 mod x_faces;
 mod y_faces;
 
-pub use crate::fluxes::sweep;
-pub use crate::masses::{update, update_alone};
+pub use crate::fluxes::{Sides, sweep};
+pub use crate::masses::{update_alone, update_by};
 pub use crate::room::Room;

@@ -44,7 +44,7 @@ fn column_at(shape: Shape, share: Share, values: &[u32], i: usize, fluxes: &mut 
 
 /// The flux through x face `i` of each row.
 #[tactic(auto, using(amr_faces::proofs::Numbers::plain_x_slow))]
-pub(crate) fn column_fluxes(p: &Problem, shape: Shape, values: &[u32], i: usize, fluxes: &mut [i32])
+fn column_fluxes(p: &Problem, shape: Shape, values: &[u32], i: usize, fluxes: &mut [i32])
     requires level { shape.level ≤ 4 }
     requires inside { shape.row + shape.h ≤ rows p.now shape.level }
     requires value_count { length values.now ≡ (shape.h + 2) * (shape.w + 2) }
@@ -64,54 +64,26 @@ pub(crate) fn column_fluxes(p: &Problem, shape: Shape, values: &[u32], i: usize,
     }
 }
 
-/// The flux through the x face at the high side of each row whose cell beyond it is not marked, where one Courant number holds in
-/// all rows.
-fn high_at(shape: Shape, share: Share, values: &[u32], marks: &[bool], fluxes: &mut [i32])
-    requires value_count { length values.now ≡ (shape.h + 2) * (shape.w + 2) }
-    requires flux_count { length fluxes.old ≡ shape.h }
-    requires small { AreXSmall shape.w shape.h values.now }
-    ensures made { (j : ℕ) → j < shape.h → x_marked shape.w marks.now j ≡ false
-        → slice_index_or fluxes.new j (pos 0)
-        ≡ flow share.number share.parts (value shape.w values.now shape.w (j + 1)) (value shape.w values.now (shape.w + 1) (j + 1)) }
-    ensures others { (j : ℕ) → x_marked shape.w marks.now j ≡ true → slice_index_or fluxes.new j (pos 0) ≡ slice_index_or fluxes.old j (pos 0) }
-{
-    for j in 0..fluxes.len() {
-        if !is_end_marked(shape, marks, j) {
-            fluxes[j] = x_face_flux(shape, share, values, shape.w, j);
-        }
-    }
-}
-
-/// The flux through the x face at the high side of each row, where the cell beyond it is not marked.
-#[tactic(auto, using(amr_faces::proofs::Numbers::plain_x_slow))]
-pub(crate) fn high_fluxes(
+/// The same where they are wanted, else they stay.
+pub(crate) fn sweep_column(
     p: &Problem,
     shape: Shape,
     values: &[u32],
-    marks: &[bool],
+    i: usize,
+    wanted: bool,
     fluxes: &mut [i32],
 )
     requires level { shape.level ≤ 4 }
     requires inside { shape.row + shape.h ≤ rows p.now shape.level }
     requires value_count { length values.now ≡ (shape.h + 2) * (shape.w + 2) }
-    requires mark_count { length marks.now ≡ (shape.h + 2) * (shape.w + 2) }
+    requires column { i ≤ shape.w }
     requires flux_count { length fluxes.old ≡ shape.h }
     requires small { AreXSmall shape.w shape.h values.now }
-    ensures made { (j : ℕ) → j < shape.h → x_marked shape.w marks.now j ≡ false
-        → slice_index_or fluxes.new j (pos 0) ≡ x_flux p.now shape.level shape.row shape.w values.now shape.w j }
-    ensures others { (j : ℕ) → x_marked shape.w marks.now j ≡ true → slice_index_or fluxes.new j (pos 0) ≡ slice_index_or fluxes.old j (pos 0) }
+    ensures made { wanted ≡ true → (j : ℕ) → j < shape.h → slice_index_or fluxes.new j (pos 0) ≡ x_flux p.now shape.level shape.row shape.w values.now i j }
+    ensures kept { wanted ≡ false → fluxes.new ≡ fluxes.old }
 {
-    if p.shear_x.entries().is_empty() {
-        let share = shape.x.with(p.cx, p.d);
-        high_at(shape, share, values, marks, fluxes);
-        return;
-    }
-    let mut share = shape.x;
-    for j in 0..fluxes.len() {
-        if !is_end_marked(shape, marks, j) {
-            share = x_share(p, shape.level, shape.row + j as u32, share);
-            fluxes[j] = x_face_flux(shape, share, values, shape.w, j);
-        }
+    if wanted {
+        column_fluxes(p, shape, values, i, fluxes);
     }
 }
 

@@ -164,64 +164,41 @@ pub(crate) fn y_row(
     );
 }
 
-/// The fluxes through the y faces at the high side of a patch whose cell beyond is not marked, where one Courant number holds in
-/// all columns.
-fn top_at(shape: Shape, share: Share, values: &[u32], marks: &[bool], fluxes: &mut [i32])
-    requires value_count { length values.now ≡ (shape.h + 2) * (shape.w + 2) }
-    requires flux_count { length fluxes.old ≡ shape.w }
-    requires small { AreYSmall shape.w shape.h values.now }
-    ensures made { (i : ℕ) → i < shape.w → y_marked shape.w shape.h marks.now i ≡ false
-        → slice_index_or fluxes.new i (pos 0)
-        ≡ flow share.number share.parts (value shape.w values.now (i + 1) shape.h) (value shape.w values.now (i + 1) (shape.h + 1)) }
-    ensures others { (i : ℕ) → i < shape.w → y_marked shape.w shape.h marks.now i ≡ true
-        → slice_index_or fluxes.new i (pos 0) ≡ slice_index_or fluxes.old i (pos 0) }
+/// Makes the factors where they are wanted.
+pub(crate) fn set_wanted_columns(p: &Problem, shape: Shape, wanted: bool, factors: &mut Columns)
+    requires level { shape.level ≤ 4 }
+    requires inside { shape.column + shape.w ≤ columns p.now shape.level }
+    ensures columns { wanted ≡ true → AreColumns p.now shape.level shape.column shape.w factors.new }
+    ensures room { length factors.new.low.items ≡ length factors.old.low.items }
 {
-    for i in 0..fluxes.len() {
-        if !is_top_marked(shape, marks, i) {
-            fluxes[i] = top_flux(shape, share, values, i);
-        }
+    if wanted {
+        set_columns(p, shape, factors);
     }
 }
 
-/// The fluxes through the y faces at the high side of a patch, where the cell beyond is not marked.
-#[tactic(auto, using(amr_faces::proofs::Numbers::y_slow, crate::proofs::Paces::plain_y_slow))]
-pub(crate) fn top_fluxes(
+/// The fluxes through the y faces at the low side of the cells of row `j`, which may be the row beyond the last, where they are wanted. Else
+/// they stay.
+pub(crate) fn sweep_row(
     p: &Problem,
     shape: Shape,
     values: &[u32],
-    marks: &[bool],
+    j: usize,
+    wanted: bool,
     factors: &Columns,
     fluxes: &mut [i32],
 )
     requires level { shape.level ≤ 4 }
     requires inside { shape.column + shape.w ≤ columns p.now shape.level }
-    requires columns { AreColumns p.now shape.level shape.column shape.w factors.now }
+    requires columns { wanted ≡ true → AreColumns p.now shape.level shape.column shape.w factors.now }
     requires value_count { length values.now ≡ (shape.h + 2) * (shape.w + 2) }
     requires flux_count { length fluxes.old ≡ shape.w }
+    requires row { j ≤ shape.h }
     requires small { AreYSmall shape.w shape.h values.now }
-    ensures made { (i : ℕ) → i < shape.w → y_marked shape.w shape.h marks.now i ≡ false
-        → slice_index_or fluxes.new i (pos 0) ≡ y_flux p.now shape.level shape.column shape.w values.now i shape.h }
-    ensures others { (i : ℕ) → i < shape.w → y_marked shape.w shape.h marks.now i ≡ true
-        → slice_index_or fluxes.new i (pos 0) ≡ slice_index_or fluxes.old i (pos 0) }
+    ensures made { wanted ≡ true → (i : ℕ) → i < shape.w → slice_index_or fluxes.new i (pos 0) ≡ y_flux p.now shape.level shape.column shape.w values.now i j }
+    ensures kept { wanted ≡ false → fluxes.new ≡ fluxes.old }
 {
-    if p.shear_y.entries().is_empty() {
-        let share = shape.y.with(p.cy, p.d);
-        top_at(shape, share, values, marks, fluxes);
-        return;
-    }
-    for i in 0..fluxes.len() {
-        if !is_top_marked(shape, marks, i) {
-            let low = shape.h * (shape.w + 2);
-            let high = (shape.h + 1) * (shape.w + 2);
-            fluxes[i] = y_face(
-                p,
-                shape,
-                factors,
-                i,
-                values[low + (i + 1)],
-                values[high + (i + 1)],
-            );
-        }
+    if wanted {
+        y_row(p, shape, values, j, factors, fluxes);
     }
 }
 
@@ -233,19 +210,6 @@ pub(crate) fn is_top_marked(shape: Shape, marks: &[bool], i: usize) -> bool
 {
     let at = (shape.h + 1) * (shape.w + 2);
     is_marked(marks, at + (i + 1))
-}
-
-/// The flux through the y face at the high side of column `i`.
-pub(crate) fn top_flux(shape: Shape, share: Share, values: &[u32], i: usize) -> i32
-    requires value_count { length values.now ≡ (shape.h + 2) * (shape.w + 2) }
-    requires column { i < shape.w }
-    requires small { AreYSmall shape.w shape.h values.now }
-    ensures value { result ≡ flow share.number share.parts (value shape.w values.now (i + 1) shape.h) (value shape.w values.now (i + 1) (shape.h + 1)) }
-    ensures small { unsigned_abs result < 2147483648 }
-{
-    let low = shape.h * (shape.w + 2);
-    let high = (shape.h + 1) * (shape.w + 2);
-    share.flow(values[low + (i + 1)], values[high + (i + 1)])
 }
 
 /// A flux of this size, with the sign of a Courant number.

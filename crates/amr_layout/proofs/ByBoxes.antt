@@ -1,15 +1,15 @@
 -- The layout of a level goes by boxes: two levels on the same ones have the same places, puts, reads and flows, whatever their
 -- masses are.
-use Rattle.std.proofs.Common.{◌≡◌, ◌∙◌, ℕ, Bool, true, false, refl, suc, ◌+◌, ◌-◌, ◌*◌, ◌<◌, ◌&&◌, not, cond, pos, int_lt, List, ◌++◌, length, get_or, map, take, sym, ap, subst}
+use Rattle.std.proofs.Common.{◌≡◌, ◌∙◌, ℕ, Bool, true, false, refl, suc, ◌+◌, ◌-◌, ◌*◌, ◌<◌, ◌&&◌, not, cond, pos, int_lt, List, ◌++◌, length, [], ◌∷◌, get_or, map, take, sym, ap, subst, arith}
 use Rattle.std.specs.Prelude.{Contains, IsTrue, is_some}
-use Rattle.std.specs.List.{All, flat_map, range_with_len}
+use Rattle.std.specs.List.{All, AllZip, flat_map, position_or_len, range_with_len}
 use Rattle.std.specs.Ordering.{int_eq}
 use Rattle.std.proofs.lemmas.List.{take-map}
 use Rattle.std.proofs.lemmas.List.Folds.{flat_map-map}
 use Rattle.std.proofs.lemmas.Simd.{map-map}
 use Rattle.amr_box.specs.declared.Cell.{Cell}
 use Rattle.amr_box.specs.declared.Face.{Face}
-use Rattle.amr_box.specs.Cells.{Extent, has_child_where, height, parent, width}
+use Rattle.amr_box.specs.Cells.{Extent, has_child_where, height, holds, parent, width}
 use Rattle.amr_def.specs.declared.problem.Problem.{Problem}
 use Rattle.amr_def.specs.Domain.{Domain, domain, home_cell, in_domain}
 use Rattle.amr_def.specs.Flux.{high_cell}
@@ -17,12 +17,14 @@ use Rattle.amr_def.specs.State.{is_covered}
 use Rattle.amr_patch.specs.declared.patches.Patch.{Patch}
 use Rattle.amr_patch.specs.Patches.{box, in_patches}
 use Rattle.amr_patch.proofs.SameBoxes.{box_at, in_same_boxes, same_length}
-use Rattle.amr_faces.specs.Faces.{passing, x_end, y_end}
+use Rattle.amr_faces.specs.Faces.{masked_faces, passing, x_end, y_end}
 use Rattle.amr_layout.specs.Adds.{AreInOrder, HasCellsBeyond, HasRegisterCells, cell_beyond, flow_to, flows_of, inflow_faces, is_exchange_face, is_inflow_face, is_ledger_face, is_outflow_face, number_of, outflow_faces, register_flows, word_of}
 use Rattle.amr_layout.specs.declared.alone.LevelFlows.{LevelFlows}
 use Rattle.amr_layout.specs.Grounds.{SameGround, has_open_side}
 use Rattle.amr_layout.specs.LevelFlowLists.{AreFlowsOf, flows_before, level_flows}
-use Rattle.amr_layout.specs.Places.{border_places, borders_of, leads_on, level_borders, places_before, puts_among, puts_of}
+use Rattle.amr_layout.specs.declared.PatchLayout.{PatchLayout}
+use Rattle.amr_layout.specs.Arounds.{HaveMasks}
+use Rattle.amr_layout.specs.Places.{are_grouped, border_places, borders_of, holder_of, leads_on, level_borders, places_before, puts_among, puts_of}
 use Rattle.amr_layout.specs.Surroundings.{Around, domain_around, edge_count, edge_face, inside, inward, is_coarse_fine, is_open, outside}
 use Rattle.amr_layout.proofs.OpenSides.{none_open}
 
@@ -34,6 +36,17 @@ same_cells ps qs e =
     let at : (c : Cell) → in_patches ps c ≡ in_patches qs c = λ c. in_same_boxes ps qs c e in
     λ i c. at c i
 
+-- and the same patch has a cell
+holders_by_box : (c : Cell) (ps : List Patch) → position_or_len (λ b. holds b c) (map box ps) ≡ holder_of ps c
+holders_by_box c [] = refl
+holders_by_box c (p ∷ ps) = ap (λ n. cond (not (holds (box p) c)) (1 + n) 0) (holders_by_box c ps)
+
+same_holders : (ps qs : List Patch) → map box ps ≡ map box qs → holder_of ps ≡ holder_of qs
+same_holders ps qs e =
+    let in_boxes : (rs : List Patch) (c : Cell) → position_or_len (λ b. holds b c) (map box rs) ≡ holder_of rs c = λ rs c. holders_by_box c rs in
+    let at : (c : Cell) → holder_of ps c ≡ holder_of qs c = λ c. sym (in_boxes ps c) ∙ ap (λ (bs : List Extent). position_or_len (λ b. holds b c) bs) e ∙ in_boxes qs c in
+    λ i c. at c i
+
 first_boxes : (ps qs : List Patch) → map box ps ≡ map box qs → (k : ℕ) → map box (take k ps) ≡ map box (take k qs)
 first_boxes ps qs e k = sym (take-map box k ps) ∙ ap (λ (bs : List Extent). take k bs) e ∙ take-map box k qs
 
@@ -41,30 +54,47 @@ first_boxes ps qs e k = sym (take-map box k ps) ∙ ap (λ (bs : List Extent). t
 over_boxes : {A : Type 0} (f g : Extent → A) → f ≡ g → (ps qs : List Patch) → map box ps ≡ map box qs → map (λ q. f (box q)) ps ≡ map (λ q. g (box q)) qs
 over_boxes f g same ps qs e = sym (map-map f box ps) ∙ (λ i. map (same i) (e i)) ∙ map-map g box qs
 
+-- a fact on boxes beside a list
+zip_over_boxes : (P Q : Extent → PatchLayout → Type 0) → ((b : Extent) (x : PatchLayout) → P b x → Q b x) → (rs ts : List Patch) → map box rs ≡ map box ts → (ls : List PatchLayout) → AllZip (λ q x. P (box q) x) rs ls → AllZip (λ q x. Q (box q) x) ts ls
+zip_over_boxes P Q from [] [] e [] h = tt
+zip_over_boxes P Q from [] [] e (x ∷ ls) h = absurd h
+zip_over_boxes P Q from [] (t ∷ ts) e ls h = absurd (omega (arith, ap length e))
+zip_over_boxes P Q from (r ∷ rs) [] e ls h = absurd (omega (arith, ap length e))
+zip_over_boxes P Q from (r ∷ rs) (t ∷ ts) e [] h = absurd h
+zip_over_boxes P Q from (r ∷ rs) (t ∷ ts) e (x ∷ ls) h =
+    let head : box r ≡ box t = cc in
+    let rest : map box rs ≡ map box ts = cc in
+    (from (box t) x (subst (λ b. P b x) head h.0), zip_over_boxes P Q from rs ts rest ls h.1)
+
 -- ---- border faces and their places
 
-module _ (d e : Domain) (domains : d ≡ e) (ps qs : List Patch) (boxes : map box ps ≡ map box qs) where
-  leads_same : leads_on d ps ≡ leads_on e qs
+module _ (d e : Domain) (domains : d ≡ e) (ps qs : List Patch) (boxes : map box ps ≡ map box qs) (each : ℕ) where
+  leads_same : leads_on d ps each ≡ leads_on e qs each
   unfolding leads_on
-  leads_same = let in_level = same_cells ps qs boxes in λ i f. in_level i (home_cell (domains i) (high_cell f))
+  leads_same =
+      let in_level = same_cells ps qs boxes in
+      let holder = same_holders ps qs boxes in
+      λ i k f. in_level i (home_cell (domains i) (high_cell f)) && not (are_grouped each k (holder i (home_cell (domains i) (high_cell f))))
 
-  borders_same : borders_of d ps ≡ borders_of e qs
+  borders_same : borders_of d ps each ≡ borders_of e qs each
   unfolding borders_of
-  borders_same = λ i b. passing (leads_same i) (x_end b) (height b) ++ passing (leads_same i) (y_end b) (width b)
+  borders_same =
+      let holder = same_holders ps qs boxes in
+      λ i b. passing (leads_same i (holder i b.lo)) (x_end b) (height b) ++ passing (leads_same i (holder i b.lo)) (y_end b) (width b)
 
-  level_same : (rs ts : List Patch) → map box rs ≡ map box ts → level_borders d ps rs ≡ level_borders e qs ts
+  level_same : (rs ts : List Patch) → map box rs ≡ map box ts → level_borders d ps each rs ≡ level_borders e qs each ts
   unfolding level_borders
-  level_same rs ts same = sym (flat_map-map (borders_of d ps) box rs) ∙ (λ i. flat_map (borders_same i) (same i)) ∙ flat_map-map (borders_of e qs) box ts
+  level_same rs ts same = sym (flat_map-map (borders_of d ps each) box rs) ∙ (λ i. flat_map (borders_same i) (same i)) ∙ flat_map-map (borders_of e qs each) box ts
 
-  puts_same : puts_of d ps ≡ puts_of e qs
+  puts_same : puts_of d ps each ≡ puts_of e qs each
   unfolding puts_of
   puts_same = λ i b. puts_among (domains i) b (level_same ps qs boxes i)
 
-  before_same : places_before d ps ≡ places_before e qs
+  before_same : places_before d ps each ≡ places_before e qs each
   unfolding places_before
   before_same = λ i k. length (level_same (take k ps) (take k qs) (first_boxes ps qs boxes k) i)
 
-  places_same : border_places d ps ≡ border_places e qs
+  places_same : border_places d ps each ≡ border_places e qs each
   unfolding border_places
   places_same = λ i k. range_with_len (before_same i k) (before_same i (suc k) - before_same i k)
 
@@ -147,27 +177,36 @@ module _ (s t : Around) (g : SameGround s t) where
 
   -- ---- the laws
 
-  pub same_borders : level_borders (domain_around s) s.patches s.patches ≡ level_borders (domain_around t) t.patches t.patches
-  same_borders = level_same (domain_around s) (domain_around t) domains s.patches t.patches g.boxes s.patches t.patches g.boxes
+  pub same_borders : (each : ℕ) → level_borders (domain_around s) s.patches each s.patches ≡ level_borders (domain_around t) t.patches each t.patches
+  same_borders each = level_same (domain_around s) (domain_around t) domains s.patches t.patches g.boxes each s.patches t.patches g.boxes
 
-  pub same_puts : (b : Extent) → puts_of (domain_around s) s.patches b ≡ puts_of (domain_around t) t.patches b
-  same_puts b = λ i. puts_same (domain_around s) (domain_around t) domains s.patches t.patches g.boxes i b
+  pub same_border_faces : (each : ℕ) → borders_of (domain_around s) s.patches each ≡ borders_of (domain_around t) t.patches each
+  same_border_faces each = borders_same (domain_around s) (domain_around t) domains s.patches t.patches g.boxes each
 
-  pub same_border_places : (k : ℕ) → border_places (domain_around s) s.patches k ≡ border_places (domain_around t) t.patches k
-  same_border_places k = λ i. places_same (domain_around s) (domain_around t) domains s.patches t.patches g.boxes i k
+  pub same_puts : (each : ℕ) (b : Extent) → puts_of (domain_around s) s.patches each b ≡ puts_of (domain_around t) t.patches each b
+  same_puts each b = λ i. puts_same (domain_around s) (domain_around t) domains s.patches t.patches g.boxes each i b
+
+  pub same_border_places : (each k : ℕ) → border_places (domain_around s) s.patches each k ≡ border_places (domain_around t) t.patches each k
+  same_border_places each k = λ i. places_same (domain_around s) (domain_around t) domains s.patches t.patches g.boxes each i k
 
   pub same_flows : (b : Extent) → flows_of s b ≡ flows_of t b
   same_flows b = λ i. flows_same i b
 
-  pub all_puts : map (λ q. puts_of (domain_around s) s.patches (box q)) s.patches ≡ map (λ q. puts_of (domain_around t) t.patches (box q)) t.patches
-  all_puts =
-      over_boxes (puts_of (domain_around s) s.patches) (puts_of (domain_around t) t.patches) (puts_same (domain_around s) (domain_around t) domains s.patches t.patches g.boxes) s.patches t.patches g.boxes
+  pub all_puts : (each : ℕ) → map (λ q. puts_of (domain_around s) s.patches each (box q)) s.patches ≡ map (λ q. puts_of (domain_around t) t.patches each (box q)) t.patches
+  all_puts each =
+      over_boxes (puts_of (domain_around s) s.patches each) (puts_of (domain_around t) t.patches each) (puts_same (domain_around s) (domain_around t) domains s.patches t.patches g.boxes each) s.patches t.patches g.boxes
 
-  pub all_border_places : map (border_places (domain_around s) s.patches) (range_with_len 0 (length s.patches)) ≡ map (border_places (domain_around t) t.patches) (range_with_len 0 (length t.patches))
-  all_border_places =
-      let places = places_same (domain_around s) (domain_around t) domains s.patches t.patches g.boxes in
+  pub all_border_places : (each : ℕ) → map (border_places (domain_around s) s.patches each) (range_with_len 0 (length s.patches)) ≡ map (border_places (domain_around t) t.patches each) (range_with_len 0 (length t.patches))
+  all_border_places each =
+      let places = places_same (domain_around s) (domain_around t) domains s.patches t.patches g.boxes each in
       let count = same_length s.patches t.patches g.boxes in
       λ i. map (places i) (range_with_len 0 (count i))
+
+  pub all_masks : (each : ℕ) (ls : List PatchLayout) → HaveMasks s each ls → HaveMasks t each ls
+  all_masks each ls h =
+      let same = borders_same (domain_around s) (domain_around t) domains s.patches t.patches g.boxes each in
+      zip_over_boxes (λ b x. masked_faces b x.mask.items ≡ borders_of (domain_around s) s.patches each b) (λ b x. masked_faces b x.mask.items ≡ borders_of (domain_around t) t.patches each b)
+      (λ b x e. e ∙ (λ i. same i b)) s.patches t.patches g.boxes ls h
 
   pub all_flows : map (λ q. flows_of s (box q)) s.patches ≡ map (λ q. flows_of t (box q)) t.patches
   all_flows = over_boxes (flows_of s) (flows_of t) flows_same s.patches t.patches g.boxes

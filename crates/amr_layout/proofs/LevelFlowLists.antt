@@ -4,7 +4,7 @@ use Rattle.std.specs.Prelude.{slice_index}
 use Rattle.std.specs.List.{All, flat_map, range_with_len}
 use Rattle.std.proofs.Math.Seq.{drop-append-add, take-append_seam}
 use Rattle.std.proofs.lemmas.Grind.{flat_map-append}
-use Rattle.std.proofs.lemmas.List.{take_all, take_more}
+use Rattle.std.proofs.lemmas.List.{take_more}
 use Rattle.std.proofs.lemmas.List.Elements.{All-append, All-drop, All-map, All-take}
 use Rattle.std.proofs.lemmas.List.Folds.{length-flat_map-take}
 use Rattle.std.proofs.lemmas.List.FromFn.{get_or-map-range_with_len, length-map-range_with_len, map-range_with_len_more}
@@ -31,6 +31,11 @@ module _ {A B : Type 0} (g : A → List B) where
 
   parts_more : (xs : List A) (i : ℕ) (d : A) → i < length xs → flat_map g (take (i + 1) xs) ≡ flat_map g (take i xs) ++ g (get_or xs i d)
   parts_more xs i d lt = ap (flat_map g) (take_more xs i d lt) ∙ flat_map-append g (take i xs) (get_or xs i d ∷ []) ∙ ap (λ l. flat_map g (take i xs) ++ l) (append-nil (g (get_or xs i d)))
+
+-- what all flows of a list have, those of a patch have
+pub each_of_patch : (P : FlowTo → Type 0) (v : LevelFlows) (i : ℕ) → All P v.flows.items → All P (flows_at v i)
+each_of_patch P v i h =
+    All-take P (slice_index v.bounds.items (i + 1) - slice_index v.bounds.items i) (drop (slice_index v.bounds.items i) v.flows.items) (All-drop P (slice_index v.bounds.items i) v.flows.items h)
 
 -- ---- made patch by patch
 
@@ -62,9 +67,6 @@ module _ (s : Around) (run : List Patch) where
 
   pub bounds_more : (i n : ℕ) (bs : List ℕ) → bs ≡ map (flows_in_first s run) (range_with_len 0 (i + 1)) → n ≡ flows_in_first s run (i + 1) → bs ++ n ∷ [] ≡ map (flows_in_first s run) (range_with_len 0 (i + 1 + 1))
   bounds_more i n bs before is = (λ t. before t ++ is t ∷ []) ∙ sym (map-range_with_len_more (flows_in_first s run) 0 (i + 1) (i + 1) (let z : 0 + (i + 1) ≡ i + 1 = omega arith in z))
-
-  pub whole : (i : ℕ) → length run ≤ i → level_flows s (take i run) ≡ level_flows s run
-  whole i le = ap (level_flows s) (take_all i run le)
 
 module _ (s : Around) where
   -- ---- the part of a patch
@@ -106,8 +108,3 @@ module _ (s : Around) where
     flows_here d =
         let count : slice_index v.bounds.items (i + 1) - slice_index v.bounds.items i ≡ length (flows_of s (box (get_or s.patches i d))) = omega (arith, start, end, next d) in
         (λ t. take (count t) (drop (start t) (h.flows t))) ∙ part_of_patch d
-
-  -- what all flows of the level have, those of a patch have
-  pub each_of_patch : (P : FlowTo → Type 0) (v : LevelFlows) (i : ℕ) → All P v.flows.items → All P (flows_at v i)
-  each_of_patch P v i h =
-      All-take P (slice_index v.bounds.items (i + 1) - slice_index v.bounds.items i) (drop (slice_index v.bounds.items i) v.flows.items) (All-drop P (slice_index v.bounds.items i) v.flows.items h)

@@ -6,12 +6,13 @@ pub mod Going
 pub mod LevelPlaces
 pub mod LevelFlowLists
 pub mod Runs
-pub mod Joined
 pub mod Planned
-pub mod Taken
 pub mod Samples
-pub mod Lasts
 pub mod OpenSides
 pub mod ByBoxes
 pub mod AlongSides
 pub mod Counts
+pub mod Groups
+pub mod Masks
+pub mod PartFlows
+pub mod HandedPuts

@@ -32,9 +32,6 @@ parted cells c ordered i j d le below h = cases (cases_eq i j)
     cases (inr ne) = comes_first-trans (get_or cells i d) (get_or cells j d) c (ordered i j d (omega arith) below).0 h
 
 module _ (cells : List Cell) (c : Cell) (ordered : AreInOrder cells) (there : Contains cells c) where
-  other : Cell → Bool
-  other a = not (is_same_cell c a)
-
   pub number_within : number_of cells c < length cells
   unfolding number_of
   number_within = cases (cases_lt (prefix_len (λ (a : Cell). not (is_same_cell c a)) cells) (length cells))

@@ -14,7 +14,7 @@ use Rattle.amr_patch.specs.declared.patches.Patch.{Patch}
 use Rattle.amr_patch.specs.Patches.{ArePatchesApart, box}
 use Rattle.amr_patch.proofs.Lookups.{one_patch}
 use Rattle.amr_layout.specs.declared.PutAt.{PutAt}
-use Rattle.amr_layout.specs.Places.{ArePut, home_face, leads_on, placed, puts_among}
+use Rattle.amr_layout.specs.Places.{ArePut, home_face, placed, puts_among}
 
 pub placed_append : (n : ℕ) (xs ys : List Face) → placed n (xs ++ ys) ≡ placed n xs ++ placed (n + length xs) ys
 placed_append n [] ys = ap (λ k. placed k ys) (let e : n ≡ n + 0 = omega arith in e)
@@ -37,10 +37,10 @@ puts_more d b done f =
     ∙ ap (filter own) (numbered ∙ ap (λ k. placed 0 (map (home_face d) done) ++ placed k (home_face d f ∷ [])) count)
     ∙ filter-append own (placed 0 (map (home_face d) done)) (put_of d (length done) f ∷ [])
 
--- no place where the cell beyond isn't of the level
-pub none_more : (d : Domain) (ps : List Patch) (done : List Face) (f : Face) (n : ℕ) (lots : List (Vec PutAt)) → leads_on d ps f ≡ false → ArePut d ps done n lots → ArePut d ps (done ++ cond (leads_on d ps f) (f ∷ []) []) n lots
-none_more d ps done f n lots e put =
-    let same : done ≡ done ++ cond (leads_on d ps f) (f ∷ []) [] = sym (append-nil done) ∙ ap (λ b. done ++ cond b (f ∷ []) []) (sym e) in
+-- no place for a face that doesn't lead on
+pub none_more : (d : Domain) (ps : List Patch) (done : List Face) (f : Face) (n : ℕ) (lots : List (Vec PutAt)) (leads : Bool) → leads ≡ false → ArePut d ps done n lots → ArePut d ps (done ++ cond leads (f ∷ []) []) n lots
+none_more d ps done f n lots leads e put =
+    let same : done ≡ done ++ cond leads (f ∷ []) [] = sym (append-nil done) ∙ ap (λ b. done ++ cond b (f ∷ []) []) (sym e) in
     subst (λ (l : List Face). ArePut d ps l n lots) same put
 
 one_lot : (d : Domain) (ps : List Patch) (done : List Face) (f : Face) (n : ℕ) (lots : List (Vec PutAt)) (j : ℕ) (new : Vec PutAt)
@@ -66,11 +66,11 @@ one_lot d ps done f n lots j new apart own there is put k v q below =
           ∙ sym (more ∙ ap (λ t. puts_among d b done ++ cond t (put_of d (length done) f ∷ []) []) not_mine)
     ]
 
-pub one_more : (d : Domain) (ps : List Patch) (done : List Face) (f : Face) (n : ℕ) (lots : List (Vec PutAt)) (j : ℕ) (new : Vec PutAt)
-    → ArePatchesApart ps → leads_on d ps f ≡ true → ((e : Patch) → holds (box (get_or ps j e)) (high_cell (home_face d f)) ≡ true) → j < length ps
+pub one_more : (d : Domain) (ps : List Patch) (done : List Face) (f : Face) (n : ℕ) (lots : List (Vec PutAt)) (j : ℕ) (new : Vec PutAt) (leads : Bool)
+    → ArePatchesApart ps → leads ≡ true → ((e : Patch) → holds (box (get_or ps j e)) (high_cell (home_face d f)) ≡ true) → j < length ps
     → new.items ≡ (get_or lots j new).items ++ put_of d n f ∷ [] → ArePut d ps done n lots
-    → ArePut d ps (done ++ cond (leads_on d ps f) (f ∷ []) []) (n + 1) (set lots j new)
-one_more d ps done f n lots j new apart on own there is put =
+    → ArePut d ps (done ++ cond leads (f ∷ []) []) (n + 1) (set lots j new)
+one_more d ps done f n lots j new leads apart on own there is put =
     let P : List Face → Type 0 = λ l. ArePut d ps l (n + 1) (set lots j new) in
     subst P (ap (λ b. done ++ cond b (f ∷ []) []) (sym on)) (record {
       places = omega (arith, put.places, length-append done (f ∷ []));

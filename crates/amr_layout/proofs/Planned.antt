@@ -1,8 +1,10 @@
--- The posts of a layout's tasks are a plan, whatever the fluxes are.
+-- The posts of a level's patches are a plan, whatever the fluxes are.
 use Rattle.std.proofs.Common.{◌≡◌, ℕ, zero, suc, ◌+◌, ◌-◌, ◌*◌, ◌^◌, ◌<◌, ◌≤◌, ◌==◌, ◌⊎◌, inl, inr, Bool, true, false, cond, pos, List, [], ◌∷◌, ◌++◌, length, length-append, get_or, map, refl, sym, ap, subst, ◌∙◌, arith}
 use Rattle.std.specs.List.{All, filter}
 use Rattle.std.specs.Global.{Vec}
-use Rattle.std.proofs.lemmas.Bool.{cases_lt}
+use Rattle.std.specs.Prelude.{int_lt}
+use Rattle.std.proofs.lemmas.Bool.{and_parts, cases_lt}
+use Rattle.std.proofs.lemmas.List.Elements.{All-append, All-cons}
 use Rattle.std.proofs.lemmas.List.{get_or-map, get_or_past, length-map}
 use Rattle.amr_box.specs.declared.Face.{Face}
 use Rattle.amr_box.specs.declared.Axis.TheVariants.{X}
@@ -14,18 +16,16 @@ use Rattle.amr_patch.specs.Patches.{ArePatchesApart, box}
 use Rattle.amr_patch.proofs.Lookups.{one_patch}
 use Rattle.amr_phase.specs.declared.plan.Post.{Post}
 use Rattle.amr_phase.specs.declared.plan.Task.{Task}
-use Rattle.amr_phase.specs.Plans.{IsPlan, PutsAreApart, added, adds_of, no_post, no_task, planned_total, put_at, puts_of as posts_at, total}
+use Rattle.amr_phase.specs.Plans.{IsPlan, PlanOf, PutsAreApart, added, adds_of, no_post, no_task, planned_total, put_at, puts_of as posts_at, total}
 use Rattle.amr_phase.proofs.Layouts.{layout_is_plan}
 use Rattle.amr_faces.specs.Faces.{passing}
 use Rattle.amr_layout.specs.declared.PutAt.{PutAt}
-use Rattle.amr_layout.specs.declared.AddAt.{AddAt}
-use Rattle.amr_layout.specs.declared.TaskLayout.{TaskLayout}
-use Rattle.amr_layout.specs.declared.Layout.{Layout}
-use Rattle.amr_layout.specs.Surroundings.{Around, edge_count, edge_face}
+use Rattle.amr_layout.specs.Surroundings.{Around, domain_around, edge_count, edge_face, inward, is_coarse_fine}
 use Rattle.amr_layout.specs.Places.{ArePut, home_face, level_borders, placed, puts_of}
 use Rattle.amr_layout.specs.declared.FlowTo.{FlowTo}
-use Rattle.amr_layout.specs.Adds.{flow_to, flows_in, flows_of, inflow_faces, is_exchange_face, is_inflow_face, is_outflow_face, outflow_faces, register_flows, word_of}
-use Rattle.amr_layout.specs.Posts.{AreSmallSizes, Sizes, plan_of, posts_of, tasks_of}
+use Rattle.amr_layout.specs.Adds.{AreInOrder, HasCellsBeyond, HasRegisterCells, cell_beyond, flow_to, flows_of, inflow_faces, is_exchange_face, is_inflow_face, is_outflow_face, number_of, outflow_faces, register_flows, word_of}
+use Rattle.amr_layout.specs.Posts.{AreSmallSizes, add_post, patch_plan, patch_task, put_post}
+use Rattle.amr_layout.proofs.Numbers.{number_within}
 use Rattle.amr_layout.proofs.Passing.{passing_length}
 
 -- ---- lists
@@ -104,25 +104,7 @@ puts_rise own n (f ∷ fs) j k d h lt =
     (λ i below. let later = own_puts own (suc n) fs f i d below in omega (arith, later.from))
     (λ i m up below. puts_rise own (suc n) fs i m d up below) (own (record { place = n; face = f })) j k h lt
 
--- ---- tasks
-
-pub at_task : (size : Sizes) (ts : List TaskLayout) (t : ℕ) (d : TaskLayout) → t < length ts → get_or (tasks_of size ts) t no_task ≡ posts_of (size t) (get_or ts t d)
-at_task size [] t d lt = absurd (omega arith)
-at_task size (x ∷ xs) zero d lt = refl
-at_task size (x ∷ xs) (suc t) d lt = at_task (λ i. size (suc i)) xs t d (omega arith)
-
-pub task_count : (size : Sizes) (ts : List TaskLayout) → length (tasks_of size ts) ≡ length ts
-task_count size [] = refl
-task_count size (x ∷ xs) = ap suc (task_count (λ i. size (suc i)) xs)
-
 -- ---- amounts
-
-faces_most : (size : Face → ℕ) → ((f : Face) → size f < 2 ^ 31) → (fs : List Face) → total size fs ≤ 2 ^ 31 * length fs
-faces_most size small [] = omega arith
-faces_most size small (f ∷ fs) =
-    let rest : total size fs ≤ 2 ^ 31 * length fs = faces_most size small fs in
-    let here : size f < 2 ^ 31 = small f in
-    let r : size f + total size fs ≤ 2 ^ 31 * suc (length fs) = omega (arith, here, rest) in r
 
 added_most : (w : ℕ) (p : Post) → added w p ≤ p.amount
 added_most w p = from (p.at == w)
@@ -131,24 +113,13 @@ added_most w p = from (p.at == w)
     from true = omega arith
     from false = omega arith
 
-abbrev post_of : (Face → ℕ) → AddAt → Post
-post_of size a = record { at = a.word; amount = total size a.faces.items }
-
-task_most : (size : Face → ℕ) → ((f : Face) → size f < 2 ^ 31) → (w : ℕ) (adds : List AddAt) → total (added w) (map (post_of size) adds) ≤ 2 ^ 31 * length (flows_in adds)
-task_most size small w [] = omega arith
-task_most size small w (a ∷ adds) =
-    let rest : total (added w) (map (post_of size) adds) ≤ 2 ^ 31 * length (flows_in adds) = task_most size small w adds in
-    let here : added w (post_of size a) ≤ total size a.faces.items = added_most w (post_of size a) in
-    let faces : total size a.faces.items ≤ 2 ^ 31 * length a.faces.items = faces_most size small a.faces.items in
-    let count : length (map (flow_to a.word) a.faces.items ++ flows_in adds) ≡ length a.faces.items + length (flows_in adds) = length-append (map (flow_to a.word) a.faces.items) (flows_in adds) ∙ ap (λ n. n + length (flows_in adds)) (length-map a.faces.items (flow_to a.word)) in
-    let r : added w (post_of size a) + total (added w) (map (post_of size) adds) ≤ 2 ^ 31 * length (map (flow_to a.word) a.faces.items ++ flows_in adds) = omega (arith, rest, here, faces, count) in r
-
-tasks_most : (size : Sizes) → AreSmallSizes size → (w : ℕ) (ts : List TaskLayout) → total (λ (t : Task). total (added w) t.adds) (tasks_of size ts) ≤ 2 ^ 31 * total (λ t. length (flows_in t.adds.items)) ts
-tasks_most size small w [] = omega arith
-tasks_most size small w (t ∷ ts) =
-    let rest : total (λ (t : Task). total (added w) t.adds) (tasks_of (λ i. size (suc i)) ts) ≤ 2 ^ 31 * total (λ t. length (flows_in t.adds.items)) ts = tasks_most (λ i. size (suc i)) (λ i f. small (suc i) f) w ts in
-    let here : total (added w) (map (post_of (size 0)) t.adds.items) ≤ 2 ^ 31 * length (flows_in t.adds.items) = task_most (size 0) (small 0) w t.adds.items in
-    let r : total (added w) (map (post_of (size 0)) t.adds.items) + total (λ (t : Task). total (added w) t.adds) (tasks_of (λ i. size (suc i)) ts) ≤ 2 ^ 31 * (length (flows_in t.adds.items) + total (λ t. length (flows_in t.adds.items)) ts) = omega (arith, rest, here) in r
+flows_most : (size : Face → ℕ) → AreSmallSizes size → (w : ℕ) (xs : List FlowTo) → total (added w) (map (add_post size) xs) ≤ 2 ^ 31 * length xs
+flows_most size small w [] = omega arith
+flows_most size small w (x ∷ xs) =
+    let rest : total (added w) (map (add_post size) xs) ≤ 2 ^ 31 * length xs = flows_most size small w xs in
+    let here : added w (add_post size x) ≤ size x.face = added_most w (add_post size x) in
+    let less : size x.face < 2 ^ 31 = small x.face in
+    let r : added w (add_post size x) + total (added w) (map (add_post size) xs) ≤ 2 ^ 31 * suc (length xs) = omega (arith, rest, here, less) in r
 
 -- a box has at most three flows for each face on its edges
 pub flows_few : (s : Around) (b : Extent) → length (flows_of s b) ≤ 3 * edge_count b
@@ -170,22 +141,19 @@ flows_few s b =
 
 -- ---- the plan
 
-abbrev put_post : (Face → ℕ) → PutAt → Post
-put_post size x = record { at = x.place; amount = size x.face }
-
 no_put : PutAt
 no_put = record { place = 0; face = face X (pos 0) (pos 0) }
 
 -- the faces of the domain that have places
-abbrev faces_of : Domain → List Patch → List Face
-faces_of d ps = map (home_face d) (level_borders d ps ps)
+abbrev faces_of : Domain → List Patch → ℕ → List Face
+faces_of d ps each = map (home_face d) (level_borders d ps each ps)
 
 abbrev is_own_of : List Patch → ℕ → Patch → PutAt → Bool
 is_own_of ps t q x = holds (box (get_or ps t q)) (high_cell x.face)
 
 -- the puts of task t
-abbrev own_list : Domain → List Patch → ℕ → Patch → List PutAt
-own_list d ps t q = filter (is_own_of ps t q) (placed 0 (faces_of d ps))
+abbrev own_list : Domain → List Patch → ℕ → ℕ → Patch → List PutAt
+own_list d ps each t q = filter (is_own_of ps t q) (placed 0 (faces_of d ps each))
 
 same_place : (own : PutAt → Bool) (n : ℕ) (fs : List Face) (k j : ℕ) (d : PutAt) → k < length (filter own (placed n fs)) → j < length (filter own (placed n fs)) → (get_or (filter own (placed n fs)) k d).place ≡ (get_or (filter own (placed n fs)) j d).place → k ≡ j
 same_place own n fs k j d kl jl e = from (cases_lt k j) (cases_lt j k)
@@ -196,118 +164,153 @@ same_place own n fs k j d kl jl e = from (cases_lt k j) (cases_lt j k)
     from (inr h) (inr m) = omega (arith, h, m)
 
 -- the task of a place is that of the patch with the cell at the face's high side
-same_task : (d : Domain) (ps : List Patch) (t u k j : ℕ) (q : Patch) → ArePatchesApart ps → t < length ps → u < length ps → k < length (own_list d ps t q) → j < length (own_list d ps u q)
-    → (get_or (own_list d ps t q) k no_put).place ≡ (get_or (own_list d ps u q) j no_put).place → (t ≡ u) × (k ≡ j)
-same_task d ps t u k j q apart t_in u_in kl jl e =
-    let a = own_puts (is_own_of ps t q) 0 (faces_of d ps) no_put.face k no_put kl in
-    let b = own_puts (is_own_of ps u q) 0 (faces_of d ps) no_put.face j no_put jl in
-    let x = get_or (own_list d ps t q) k no_put in
-    let z = get_or (own_list d ps u q) j no_put in
-    let face : x.face ≡ z.face = a.of_face ∙ ap (λ n. get_or (faces_of d ps) (n - 0) no_put.face) e ∙ sym b.of_face in
+same_task : (d : Domain) (ps : List Patch) (each t u k j : ℕ) (q : Patch) → ArePatchesApart ps → t < length ps → u < length ps → k < length (own_list d ps each t q) → j < length (own_list d ps each u q)
+    → (get_or (own_list d ps each t q) k no_put).place ≡ (get_or (own_list d ps each u q) j no_put).place → (t ≡ u) × (k ≡ j)
+same_task d ps each t u k j q apart t_in u_in kl jl e =
+    let a = own_puts (is_own_of ps t q) 0 (faces_of d ps each) no_put.face k no_put kl in
+    let b = own_puts (is_own_of ps u q) 0 (faces_of d ps each) no_put.face j no_put jl in
+    let x = get_or (own_list d ps each t q) k no_put in
+    let z = get_or (own_list d ps each u q) j no_put in
+    let face : x.face ≡ z.face = a.of_face ∙ ap (λ n. get_or (faces_of d ps each) (n - 0) no_put.face) e ∙ sym b.of_face in
     let on_u : holds (box (get_or ps u q)) (high_cell x.face) ≡ true = ap (λ f. holds (box (get_or ps u q)) (high_cell f)) face ∙ b.is_own in
     let same : t ≡ u = one_patch ps (high_cell x.face) t u q apart t_in u_in a.is_own on_u in
-    let e' : x.place ≡ (get_or (own_list d ps t q) j no_put).place = e ∙ ap (λ v. (get_or (own_list d ps v q) j no_put).place) (sym same) in
-    let P : ℕ → Type 0 = λ v. j < length (own_list d ps v q) in
-    let jl' : j < length (own_list d ps t q) = subst P (sym same) jl in
-    (same, same_place (is_own_of ps t q) 0 (faces_of d ps) k j no_put kl jl' e')
+    let e' : x.place ≡ (get_or (own_list d ps each t q) j no_put).place = e ∙ ap (λ v. (get_or (own_list d ps each v q) j no_put).place) (sym same) in
+    let P : ℕ → Type 0 = λ v. j < length (own_list d ps each v q) in
+    let jl' : j < length (own_list d ps each t q) = subst P (sym same) jl in
+    (same, same_place (is_own_of ps t q) 0 (faces_of d ps each) k j no_put kl jl' e')
 
--- what a layout has
-pub record IsLaidOut (s : Around) (d : Domain) (y : Layout) : Type 0 where
-  pub apart : ArePatchesApart s.patches
-  pub puts : map (λ t. t.puts.items) y.tasks.items ≡ map (λ q. puts_of d s.patches (box q)) s.patches
-  pub places : y.places ≡ length (level_borders d s.patches s.patches)
-  pub flows : map (λ t. flows_in t.adds.items) y.tasks.items ≡ map (λ q. flows_of s (box q)) s.patches
-  pub words : All (λ t. All (λ a. a.word < y.words) t.adds.items) y.tasks.items
-  pub few : total (λ q. edge_count (box q)) s.patches ≤ 2 ^ 30
+-- ---- words
 
-module _ (s : Around) (d : Domain) (y : Layout) (h : IsLaidOut s d y) (size : Sizes) (small : AreSmallSizes size) where
-  same_count : length y.tasks.items ≡ length s.patches
-  same_count = image_length (λ (t : TaskLayout). t.puts.items) (λ q. puts_of d s.patches (box q)) y.tasks.items s.patches h.puts
+all_images : {A B : Type 0} (P : B → Type 0) (f : A → B) (xs : List A) → All (λ x. P (f x)) xs → All P (map f xs)
+all_images P f [] h = λ k d lt. absurd (omega (arith, lt))
+all_images P f (x ∷ xs) h = All-cons P (f x) (map f xs) (h 0 x (omega arith)) (all_images P f xs (λ k d lt. h (suc k) d (omega (arith, lt))))
 
-  there : (t k : ℕ) → k < length (posts_at (plan_of y size) t) → t < length y.tasks.items
-  there t k lt = from (cases_lt t (length y.tasks.items))
+-- each face that passes has what all those have that pass
+all_passing : (P : Face → Type 0) (test : Face → Bool) (g : ℕ → Face) (n : ℕ) → ((k : ℕ) → k < n → test (g k) ≡ true → P (g k)) → All P (passing test g n)
+all_passing P test g zero h = λ k d lt. absurd (omega (arith, lt))
+all_passing P test g (suc n) h = All-append P (passing test g n) _ (all_passing P test g n (λ k lt. h k (omega (arith, lt)))) (last (test (g n)) refl)
+  where
+    last : (t : Bool) → test (g n) ≡ t → All P (cond t (g n ∷ []) [])
+    last true e = All-cons P (g n) [] (h n (omega arith) e) (λ k d lt. absurd (omega (arith, lt)))
+    last false e = λ k d lt. absurd (omega (arith, lt))
+
+register_word : (s : Around) (b : Extent) (f : Face) → number_of s.cells (cell_beyond s b f) < length s.cells → word_of s b f < 2 + 2 * length s.cells
+unfolding word_of
+register_word s b f lt = from (int_lt (inward s.problem s.level b f) (pos 0))
+  where
+    from : (t : Bool) → cond {A = ℕ} t (2 + 2 * number_of s.cells (cell_beyond s b f)) (3 + 2 * number_of s.cells (cell_beyond s b f)) < 2 + 2 * length s.cells
+    from true = omega (arith, lt)
+    from false = omega (arith, lt)
+
+exchange_coarse : (s : Around) (b : Extent) (f : Face) → is_exchange_face s b f ≡ true → is_coarse_fine s b f ≡ true
+unfolding is_exchange_face
+exchange_coarse s b f e = (and_parts (is_coarse_fine s b f) _ e).0
+
+-- the flows of a box go to words of the ledger and of the register cells
+flow_words : (s : Around) (b : Extent) → AreInOrder s.cells → HasCellsBeyond s b → All (λ (x : FlowTo). x.word < 2 + 2 * length s.cells) (flows_of s b)
+unfolding flows_of register_flows
+flow_words s b ordered there =
+    let W : FlowTo → Type 0 = λ x. x.word < 2 + 2 * length s.cells in
+    let to : Face → FlowTo = λ f. record { word = word_of s b f; face = f } in
+    let edges = passing (is_exchange_face s b) (edge_face b) (edge_count b) in
+    All-append W (map (flow_to 0) (inflow_faces s b)) (map (flow_to 1) (outflow_faces s b) ++ map to edges)
+    (all_images W (flow_to 0) (inflow_faces s b) (λ k d lt. let z : 0 < 2 + 2 * length s.cells = omega arith in z))
+    (All-append W (map (flow_to 1) (outflow_faces s b)) (map to edges) (all_images W (flow_to 1) (outflow_faces s b) (λ k d lt. let z : 1 < 2 + 2 * length s.cells = omega arith in z))
+    (all_images W to edges (all_passing (λ f. word_of s b f < 2 + 2 * length s.cells) (is_exchange_face s b) (edge_face b) (edge_count b)
+    (λ k lt e. register_word s b (edge_face b k) (number_within s.cells (cell_beyond s b (edge_face b k)) ordered (there k lt (exchange_coarse s b (edge_face b k) e)))))))
+
+-- ---- the plan
+
+module _ (s : Around) (each : ℕ) (apart : ArePatchesApart s.patches) (cells : HasRegisterCells s) (few : total (λ q. edge_count (box q)) s.patches ≤ 2 ^ 30) (size : Face → ℕ) (small : AreSmallSizes size) where
+  abbrev d : Domain
+  d = domain_around s
+
+  abbrev plan : PlanOf
+  plan = patch_plan s each size
+
+  task_at : (t : ℕ) (q : Patch) → t < length s.patches → get_or plan.tasks t no_task ≡ patch_task s each size (get_or s.patches t q)
+  task_at t q lt = get_or-map (patch_task s each size) s.patches t q no_task lt
+
+  there : (t k : ℕ) → k < length (posts_at plan t) → t < length s.patches
+  there t k lt = from (cases_lt t (length s.patches))
     where
-      from : ((t < length y.tasks.items) ⊎ (length y.tasks.items ≤ t)) → t < length y.tasks.items
+      from : ((t < length s.patches) ⊎ (length s.patches ≤ t)) → t < length s.patches
       from (inl l) = l
       from (inr past) =
-          let none : length (posts_at (plan_of y size) t) ≡ 0 = ap (λ (x : Task). length x.puts) (get_or_past (tasks_of size y.tasks.items) t no_task (omega (arith, task_count size y.tasks.items))) in
+          let none : length (posts_at plan t) ≡ 0 = ap (λ (x : Task). length x.puts) (get_or_past plan.tasks t no_task (omega (arith, past, length-map s.patches (patch_task s each size)))) in
           absurd (omega (arith, lt, none))
 
-  add_there : (t k : ℕ) → k < length (adds_of (plan_of y size) t) → t < length y.tasks.items
-  add_there t k lt = from (cases_lt t (length y.tasks.items))
+  add_there : (t k : ℕ) → k < length (adds_of plan t) → t < length s.patches
+  add_there t k lt = from (cases_lt t (length s.patches))
     where
-      from : ((t < length y.tasks.items) ⊎ (length y.tasks.items ≤ t)) → t < length y.tasks.items
+      from : ((t < length s.patches) ⊎ (length s.patches ≤ t)) → t < length s.patches
       from (inl l) = l
       from (inr past) =
-          let none : length (adds_of (plan_of y size) t) ≡ 0 = ap (λ (x : Task). length x.adds) (get_or_past (tasks_of size y.tasks.items) t no_task (omega (arith, task_count size y.tasks.items))) in
+          let none : length (adds_of plan t) ≡ 0 = ap (λ (x : Task). length x.adds) (get_or_past plan.tasks t no_task (omega (arith, past, length-map s.patches (patch_task s each size)))) in
           absurd (omega (arith, lt, none))
 
-  in_patches_too : (t : ℕ) → t < length y.tasks.items → t < length s.patches
-  in_patches_too t lt = let e : length y.tasks.items ≡ length s.patches = same_count in omega (arith, lt, e)
-
-  puts_at : (t : ℕ) (q : Patch) → t < length y.tasks.items → posts_at (plan_of y size) t ≡ map (put_post (size t)) (own_list d s.patches t q)
+  puts_at : (t : ℕ) (q : Patch) → t < length s.patches → posts_at plan t ≡ map (put_post size) (own_list d s.patches each t q)
   unfolding puts_of
-  puts_at t q lt =
-      ap (λ (x : Task). x.puts) (at_task size y.tasks.items t (nth y.tasks.items t lt) lt)
-      ∙ ap (map (put_post (size t))) (image_at (λ (x : TaskLayout). x.puts.items) (λ q. puts_of d s.patches (box q)) y.tasks.items s.patches t (nth y.tasks.items t lt) q h.puts lt (in_patches_too t lt))
+  puts_at t q lt = ap (λ (x : Task). x.puts) (task_at t q lt)
 
-  in_list : (t k : ℕ) (q : Patch) → k < length (posts_at (plan_of y size) t) → k < length (own_list d s.patches t q)
+  in_list : (t k : ℕ) (q : Patch) → k < length (posts_at plan t) → k < length (own_list d s.patches each t q)
   in_list t k q lt =
-      let e : length (posts_at (plan_of y size) t) ≡ length (map (put_post (size t)) (own_list d s.patches t q)) = ap length (puts_at t q (there t k lt)) in
-      omega (arith, lt, e, length-map (own_list d s.patches t q) (put_post (size t)))
+      let e : length (posts_at plan t) ≡ length (map (put_post size) (own_list d s.patches each t q)) = ap length (puts_at t q (there t k lt)) in
+      omega (arith, lt, e, length-map (own_list d s.patches each t q) (put_post size))
 
-  put_is : (t k : ℕ) (q : Patch) → k < length (posts_at (plan_of y size) t) → put_at (plan_of y size) t k ≡ put_post (size t) (get_or (own_list d s.patches t q) k no_put)
-  put_is t k q lt = ap (λ l. get_or l k no_post) (puts_at t q (there t k lt)) ∙ get_or-map (put_post (size t)) (own_list d s.patches t q) k no_put no_post (in_list t k q lt)
+  put_is : (t k : ℕ) (q : Patch) → k < length (posts_at plan t) → put_at plan t k ≡ put_post size (get_or (own_list d s.patches each t q) k no_put)
+  put_is t k q lt = ap (λ l. get_or l k no_post) (puts_at t q (there t k lt)) ∙ get_or-map (put_post size) (own_list d s.patches each t q) k no_put no_post (in_list t k q lt)
 
-  some : (t k : ℕ) → k < length (posts_at (plan_of y size) t) → Patch
-  some t k lt = nth s.patches t (in_patches_too t (there t k lt))
+  some : (t k : ℕ) → k < length (posts_at plan t) → Patch
+  some t k lt = nth s.patches t (there t k lt)
 
-  in_range : (t k : ℕ) → k < length (posts_at (plan_of y size) t) → (put_at (plan_of y size) t k).at < y.places
+  in_range : (t k : ℕ) → k < length (posts_at plan t) → (put_at plan t k).at < plan.places
   in_range t k lt =
       let q = some t k lt in
-      let x = get_or (own_list d s.patches t q) k no_put in
-      let at : (put_at (plan_of y size) t k).at ≡ x.place = ap (λ (p : Post). p.at) (put_is t k q lt) in
-      let known = own_puts (is_own_of s.patches t q) 0 (faces_of d s.patches) no_put.face k no_put (in_list t k q lt) in
-      let count : length (faces_of d s.patches) ≡ y.places = length-map (level_borders d s.patches s.patches) (home_face d) ∙ sym h.places in
+      let x = get_or (own_list d s.patches each t q) k no_put in
+      let at : (put_at plan t k).at ≡ x.place = ap (λ (p : Post). p.at) (put_is t k q lt) in
+      let known = own_puts (is_own_of s.patches t q) 0 (faces_of d s.patches each) no_put.face k no_put (in_list t k q lt) in
+      let count : length (faces_of d s.patches each) ≡ plan.places = length-map (level_borders d s.patches each s.patches) (home_face d) in
       omega (arith, at, known.within, count)
 
-  fits : (t k : ℕ) → k < length (posts_at (plan_of y size) t) → (put_at (plan_of y size) t k).amount < 2 ^ 63
+  fits : (t k : ℕ) → k < length (posts_at plan t) → (put_at plan t k).amount < 2 ^ 63
   fits t k lt =
       let q = some t k lt in
-      let x = get_or (own_list d s.patches t q) k no_put in
-      let at : (put_at (plan_of y size) t k).amount ≡ size t x.face = ap (λ (p : Post). p.amount) (put_is t k q lt) in
-      let less : size t x.face < 2 ^ 31 = small t x.face in
+      let x = get_or (own_list d s.patches each t q) k no_put in
+      let at : (put_at plan t k).amount ≡ size x.face = ap (λ (p : Post). p.amount) (put_is t k q lt) in
+      let less : size x.face < 2 ^ 31 = small x.face in
       omega (arith, at, less)
 
-  are_apart : PutsAreApart (plan_of y size)
+  are_apart : PutsAreApart plan
   are_apart t k u j kl jl e =
       let q = some t k kl in
-      let a : (put_at (plan_of y size) t k).at ≡ (get_or (own_list d s.patches t q) k no_put).place = ap (λ (p : Post). p.at) (put_is t k q kl) in
-      let b : (put_at (plan_of y size) u j).at ≡ (get_or (own_list d s.patches u q) j no_put).place = ap (λ (p : Post). p.at) (put_is u j q jl) in
-      same_task d s.patches t u k j q h.apart (in_patches_too t (there t k kl)) (in_patches_too u (there u j jl)) (in_list t k q kl) (in_list u j q jl) (sym a ∙ e ∙ b)
+      let a : (put_at plan t k).at ≡ (get_or (own_list d s.patches each t q) k no_put).place = ap (λ (p : Post). p.at) (put_is t k q kl) in
+      let b : (put_at plan u j).at ≡ (get_or (own_list d s.patches each u q) j no_put).place = ap (λ (p : Post). p.at) (put_is u j q jl) in
+      same_task d s.patches each t u k j q apart (there t k kl) (there u j jl) (in_list t k q kl) (in_list u j q jl) (sym a ∙ e ∙ b)
 
-  words_in_range : (t k : ℕ) → k < length (adds_of (plan_of y size) t) → (get_or (adds_of (plan_of y size) t) k no_post).at < y.words
+  words_in_range : (t k : ℕ) → k < length (adds_of plan t) → (get_or (adds_of plan t) k no_post).at < plan.words
   words_in_range t k lt =
       let l = add_there t k lt in
-      let task = nth y.tasks.items t l in
-      let adds = (get_or y.tasks.items t task).adds.items in
-      let e : adds_of (plan_of y size) t ≡ map (post_of (size t)) adds = ap (λ (x : Task). x.adds) (at_task size y.tasks.items t task l) in
-      let in_adds : k < length adds = omega (arith, lt, ap length e, length-map adds (post_of (size t))) in
-      let at : (get_or (adds_of (plan_of y size) t) k no_post).at ≡ (get_or adds k (nth adds k in_adds)).word = ap (λ (ps : List Post). (get_or ps k no_post).at) e ∙ ap (λ (p : Post). p.at) (get_or-map (post_of (size t)) adds k (nth adds k in_adds) no_post in_adds) in
-      omega (arith, at, h.words t task l k (nth adds k in_adds) in_adds)
+      let q = nth s.patches t l in
+      let xs = flows_of s (box (get_or s.patches t q)) in
+      let e : adds_of plan t ≡ map (add_post size) xs = ap (λ (x : Task). x.adds) (task_at t q l) in
+      let in_flows : k < length xs = omega (arith, lt, ap length e, length-map xs (add_post size)) in
+      let x = nth xs k in_flows in
+      let at : (get_or (adds_of plan t) k no_post).at ≡ (get_or xs k x).word = ap (λ (ps : List Post). (get_or ps k no_post).at) e ∙ ap (λ (p : Post). p.at) (get_or-map (add_post size) xs k x no_post in_flows) in
+      let word : (get_or xs k x).word < 2 + 2 * length s.cells = flow_words s (box (get_or s.patches t q)) cells.ordered (cells.each t q l) k x in_flows in
+      omega (arith, at, word)
 
-  totals : (w : ℕ) → planned_total (plan_of y size) w < 2 ^ 63
+  totals : (w : ℕ) → planned_total plan w < 2 ^ 63
   totals w =
-      let most : total (λ (t : Task). total (added w) t.adds) (tasks_of size y.tasks.items) ≤ 2 ^ 31 * total (λ t. length (flows_in t.adds.items)) y.tasks.items = tasks_most size small w y.tasks.items in
-      let same : total (λ t. length (flows_in t.adds.items)) y.tasks.items ≡ total (λ q. length (flows_of s (box q))) s.patches
-      = sym (total_image (λ (l : List FlowTo). length l) (λ (t : TaskLayout). flows_in t.adds.items) y.tasks.items) ∙ ap (total (λ (l : List FlowTo). length l)) h.flows ∙ total_image (λ (l : List FlowTo). length l) (λ q. flows_of s (box q)) s.patches in
-      let few : total (λ q. length (flows_of s (box q))) s.patches ≤ 3 * total (λ q. edge_count (box q)) s.patches = total_most (λ q. length (flows_of s (box q))) (λ q. edge_count (box q)) 3 s.patches (λ q. flows_few s (box q)) in
-      omega (arith, most, same, few, h.few)
+      let by_patch : total (λ (t : Task). total (added w) t.adds) plan.tasks ≡ total (λ q. total (added w) (map (add_post size) (flows_of s (box q)))) s.patches = total_image (λ (t : Task). total (added w) t.adds) (patch_task s each size) s.patches in
+      let most : total (λ q. total (added w) (map (add_post size) (flows_of s (box q)))) s.patches ≤ 2 ^ 31 * total (λ q. length (flows_of s (box q))) s.patches = total_most (λ q. total (added w) (map (add_post size) (flows_of s (box q)))) (λ q. length (flows_of s (box q))) (2 ^ 31) s.patches (λ q. flows_most size small w (flows_of s (box q))) in
+      let some_each : total (λ q. length (flows_of s (box q))) s.patches ≤ 3 * total (λ q. edge_count (box q)) s.patches = total_most (λ q. length (flows_of s (box q))) (λ q. edge_count (box q)) 3 s.patches (λ q. flows_few s (box q)) in
+      omega (arith, by_patch, most, some_each, few)
 
-  pub planned : IsPlan (plan_of y size)
-  planned = layout_is_plan (plan_of y size) (record { puts_in_range = in_range; adds_in_range = words_in_range; apart = are_apart; puts_fit = fits; totals_fit = totals })
+  pub planned : IsPlan plan
+  planned = layout_is_plan plan (record { puts_in_range = in_range; adds_in_range = words_in_range; apart = are_apart; puts_fit = fits; totals_fit = totals })
 
 -- each lot has the puts that are its patch's
-pub lots_are : (d : Domain) (ps : List Patch) (count : ℕ) (lots : List (Vec PutAt)) → ArePut d ps (level_borders d ps ps) count lots → map (λ v. v.items) lots ≡ map (λ q. puts_of d ps (box q)) ps
+pub lots_are : (d : Domain) (ps : List Patch) (each count : ℕ) (lots : List (Vec PutAt)) → ArePut d ps (level_borders d ps each ps) count lots → map (λ v. v.items) lots ≡ map (λ q. puts_of d ps each (box q)) ps
 unfolding puts_of
-lots_are d ps count lots put = images_alike (λ (v : Vec PutAt). v.items) (λ q. puts_of d ps (box q)) lots ps put.lot_count (λ k v q lt. put.each k v q lt)
+lots_are d ps each count lots put = images_alike (λ (v : Vec PutAt). v.items) (λ q. puts_of d ps each (box q)) lots ps put.lot_count (λ k v q lt. put.each k v q lt)

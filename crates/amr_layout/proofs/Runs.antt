@@ -43,9 +43,6 @@ module _ (s : Around) where
       omega (arith, e)
 
   module _ (qs rs : List Patch) (n : ℕ) (bs cs : List ℕ) (at : n ≡ length (level_flows s qs)) (hb : bs ≡ map (flows_in_first s qs) (range_with_len 0 (length qs + 1))) (hc : cs ≡ map (flows_in_first s rs) (range_with_len 0 (length rs + 1))) where
-    raised : List ℕ
-    raised = map (λ b. n + b) (drop 1 cs)
-
     count_b : length bs ≡ length qs + 1
     count_b = ap (λ (l : List ℕ). length l) hb ∙ length-map-range_with_len (flows_in_first s qs) 0 (length qs + 1)
 
@@ -83,9 +80,6 @@ module _ (s : Around) where
   }
 
   -- ---- one run
-
-  pub some_bound : (qs : List Patch) (v : LevelFlows) → AreFlowsOfRun s qs v → 0 < length v.bounds.items
-  some_bound qs v h = omega (arith, ap (λ (l : List ℕ). length l) h.bounds, length-map-range_with_len (flows_in_first s qs) 0 (length qs + 1))
 
   pub bounds_within : (qs : List Patch) (v : LevelFlows) → AreFlowsOfRun s qs v → All (λ b. b ≤ length v.flows.items) v.bounds.items
   bounds_within qs v h k d lt =

@@ -1,7 +1,7 @@
 -- The faces whose flows are added to words: those of open sides to the ledger's, those of coarse-fine edges to a register cell's.
-use Rattle.std.specs.Prelude.{◌≡◌, ℕ, ◌+◌, ◌-◌, ◌*◌, ◌<◌, ◌==◌, if◌then◌else◌, Bool, ◌&&◌, not, cond, pos}
-use Rattle.std.specs.Prelude.{int_lt, List, [], ◌∷◌, ◌++◌, map, take, Contains, IsTrue}
-use Rattle.std.specs.List.{All, AllPairs, flat_map, position_or_len}
+use Rattle.std.specs.Prelude.{ℕ, ◌+◌, ◌-◌, ◌*◌, ◌<◌, ◌==◌, if◌then◌else◌, Bool, ◌&&◌, not, cond, pos}
+use Rattle.std.specs.Prelude.{int_lt, List, ◌++◌, map, Contains, IsTrue}
+use Rattle.std.specs.List.{All, AllPairs, position_or_len}
 use Rattle.std.specs.Ordering.{int_eq}
 use Rattle.amr_box.specs.declared.Cell.{Cell}
 use Rattle.amr_box.specs.declared.Face.{Face}
@@ -12,9 +12,8 @@ use Rattle.amr_patch.specs.Patches.{box}
 use Rattle.amr_patch.specs.Orders.{comes_first}
 use Rattle.amr_faces.specs.Faces.{passing}
 use Rattle.amr_phase.specs.Plans.{total}
-use Rattle.amr_layout.specs.declared.AddAt.{AddAt}
+use Rattle.amr_layout.specs.declared.adds.PatchFlows.{PatchFlows}
 use Rattle.amr_layout.specs.declared.FlowTo.{FlowTo}
-use Rattle.amr_layout.specs.declared.TaskLayout.{TaskLayout}
 use Rattle.amr_layout.specs.Surroundings.{Around, domain_around, edge_count, edge_face, inside, inward, is_coarse_fine, is_open, outside}
 
 -- the flow through a face goes to a word
@@ -80,13 +79,9 @@ register_flows s b = map (λ f. record { word = word_of s b f; face = f }) (pass
 unfoldable pub flows_of : Around → Extent → List FlowTo
 flows_of s b = map (flow_to 0) (inflow_faces s b) ++ (map (flow_to 1) (outflow_faces s b) ++ register_flows s b)
 
--- what adds have of this, a face each
-abbrev pub flows_in : List AddAt → List FlowTo
-flows_in adds = flat_map (λ a. map (flow_to a.word) a.faces.items) adds
-
--- the first two adds of a task are those to the ledger's words
-abbrev pub HasLedgerAdds : TaskLayout → Type 0
-HasLedgerAdds t = take 2 (map (λ a. a.word) t.adds.items) ≡ 0 ∷ 1 ∷ []
+-- the flows of a patch in one list
+abbrev pub in_one_list : PatchFlows → List FlowTo
+in_one_list x = map (flow_to 0) x.inflow.items ++ (map (flow_to 1) x.outflow.items ++ x.register.items)
 
 -- ---- the list of register cells
 

@@ -42,3 +42,7 @@ pub record HasFlowsAt (v : LevelFlows) (i : ℕ) : Type 0 where
   pub there : i + 1 < length v.bounds.items
   pub order : slice_index v.bounds.items i ≤ slice_index v.bounds.items (i + 1)
   pub within : slice_index v.bounds.items (i + 1) ≤ length v.flows.items
+
+-- the flows of the first so many patches, a list for each
+abbrev pub flow_lists : LevelFlows → ℕ → List (List FlowTo)
+flow_lists v n = map (flows_at v) (range_with_len 0 n)

@@ -5,3 +5,5 @@ pub mod Adds
 pub mod LevelFlowLists
 pub mod Flows
 pub mod Posts
+pub mod Arounds
+pub mod PartFlows

@@ -1,29 +1,41 @@
--- The posts that the tasks of a layout make, whatever the fluxes are.
-use Rattle.std.specs.Prelude.{ℕ, suc, ◌<◌, ◌^◌, List, [], ◌∷◌, map}
+-- The posts that the patches of a level make, whatever the fluxes are.
+use Rattle.std.specs.Prelude.{ℕ, ◌+◌, ◌*◌, ◌<◌, ◌^◌, length, map}
 use Rattle.amr_box.specs.declared.Face.{Face}
+use Rattle.amr_patch.specs.declared.patches.Patch.{Patch}
+use Rattle.amr_patch.specs.Patches.{box}
+use Rattle.amr_phase.specs.declared.plan.Post.{Post}
 use Rattle.amr_phase.specs.declared.plan.Task.{Task}
-use Rattle.amr_phase.specs.Plans.{PlanOf, total}
-use Rattle.amr_layout.specs.declared.TaskLayout.{TaskLayout}
-use Rattle.amr_layout.specs.declared.Layout.{Layout}
+use Rattle.amr_phase.specs.Plans.{PlanOf}
+use Rattle.amr_layout.specs.declared.FlowTo.{FlowTo}
+use Rattle.amr_layout.specs.declared.PutAt.{PutAt}
+use Rattle.amr_layout.specs.Adds.{flows_of}
+use Rattle.amr_layout.specs.Arounds.{all_borders}
+use Rattle.amr_layout.specs.Places.{puts_of}
+use Rattle.amr_layout.specs.Surroundings.{Around, domain_around}
 
--- the sizes of the fluxes of each task's faces
-abbrev pub Sizes : Type 0
-Sizes = ℕ → Face → ℕ
+-- the size of what flows through a face, put at its place
+abbrev pub put_post : (Face → ℕ) → PutAt → Post
+put_post size x = record { at = x.place; amount = size x.face }
 
--- a task puts the size of a face at the face's place, and adds the sizes of an add's faces to its word
-abbrev pub posts_of : (Face → ℕ) → TaskLayout → Task
-posts_of size t = record {
-  puts = map (λ x. record { at = x.place; amount = size x.face }) t.puts.items;
-  adds = map (λ a. record { at = a.word; amount = total size a.faces.items }) t.adds.items;
+-- and added to a word
+abbrev pub add_post : (Face → ℕ) → FlowTo → Post
+add_post size x = record { at = x.word; amount = size x.face }
+
+-- the posts of a patch, where the patches are in groups of so many
+abbrev pub patch_task : Around → ℕ → (Face → ℕ) → Patch → Task
+patch_task s each size q = record {
+  puts = map (put_post size) (puts_of (domain_around s) s.patches each (box q));
+  adds = map (add_post size) (flows_of s (box q));
 }
 
-abbrev pub tasks_of : Sizes → List TaskLayout → List Task
-tasks_of size [] = []
-tasks_of size (t ∷ ts) = posts_of (size 0) t ∷ tasks_of (λ i. size (suc i)) ts
-
-abbrev pub plan_of : Layout → Sizes → PlanOf
-plan_of y size = record { places = y.places; words = y.words; tasks = tasks_of size y.tasks.items }
+-- the plan of a task a patch. A task of several patches posts what theirs post, its adds to a word put together.
+abbrev pub patch_plan : Around → ℕ → (Face → ℕ) → PlanOf
+patch_plan s each size = record {
+  places = length (all_borders s each);
+  words = 2 + 2 * length s.cells;
+  tasks = map (patch_task s each size) s.patches;
+}
 
 -- each flux has a size below 2^31
-abbrev pub AreSmallSizes : Sizes → Type 0
-AreSmallSizes size = (i : ℕ) (f : Face) → size i f < 2 ^ 31
+abbrev pub AreSmallSizes : (Face → ℕ) → Type 0
+AreSmallSizes size = (f : Face) → size f < 2 ^ 31

@@ -1,5 +1,6 @@
 -- The faces on the edges of a patch, and what lies on their other side.
-use Rattle.std.specs.Prelude.{◌≡◌, ℕ, ◌+◌, ◌-◌, ◌*◌, Bool, false, ◌&&◌, not, cond, nat_lt, ℤ, pos, negsuc, neg_ℤ, ◌+ℤ◌, ◌<ℤ◌, List, IsTrue}
+use Rattle.std.specs.Prelude.{◌≡◌, ℕ, ◌+◌, ◌-◌, ◌*◌, Bool, false, ◌&&◌, not, cond, nat_lt}
+use Rattle.std.specs.Prelude.{ℤ, pos, negsuc, neg_ℤ, ◌+ℤ◌, ◌<ℤ◌, List, IsTrue}
 use Rattle.std.specs.declared.option.Option.{Option}
 use Rattle.std.specs.declared.option.Option.TheVariants.{None, Some}
 use Rattle.amr_box.specs.declared.Cell.{Cell}
@@ -77,6 +78,10 @@ inward p l b f = cond (holds b (high_cell f)) (courant p l f) (neg_ℤ (courant 
 -- nothing: the face is one of an open side of the domain
 unfoldable pub is_open : Around → Extent → Face → Bool
 is_open s b f = not (in_domain (domain_around s) (home_cell (domain_around s) (outside b f)))
+
+-- whether a cell stands for one of the domain that these patches don't have
+abbrev pub is_missing : Domain → List Patch → Cell → Bool
+is_missing d ps c = in_domain d (home_cell d c) && not (in_patches ps (home_cell d c))
 
 -- a cell that the level doesn't have: the face lies on the coarse-fine edge (Berger and Colella 1989)
 unfoldable pub is_coarse_fine : Around → Extent → Face → Bool

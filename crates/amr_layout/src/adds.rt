@@ -1,25 +1,25 @@
 //! The faces of a patch whose flows go to the ledger or to register cells.
 
-ghost use Rattle.std.specs.Prelude.{◌≡◌, ℕ, ◌+◌, ◌-◌, ◌*◌, ◌≤◌, ◌<◌, ◌++◌, ◌^◌, ◌&&◌, not, [], ◌∷◌, cond, pos, int_lt, false};
-ghost use Rattle.std.specs.Prelude.{length, map, slice_index_or, take, true, IfOk, OnOk, IsTrue, Contains};
-ghost use Rattle.std.specs.Option.{option_copied};
+ghost use Rattle.std.specs.Prelude.{◌≡◌, ℕ, ◌+◌, ◌*◌, ◌≤◌, ◌<◌, ◌++◌, ◌^◌, ◌&&◌, [], ◌∷◌, pos, int_lt};
+ghost use Rattle.std.specs.Prelude.{not, cond, false, length, map, take, true, IfOk, OnOk, IsTrue, Contains};
 ghost use Rattle.std.specs.List.{All};
 ghost use Rattle.amr_box.specs.Cells.{IsNear};
 ghost use Rattle.amr_def.specs.Domain.{domain, home_cell, in_domain};
-ghost use Rattle.amr_patch.specs.Patches.{ArePatchesApart, in_patches};
+ghost use Rattle.amr_patch.specs.Patches.{ArePatchesApart};
 ghost use Rattle.amr_patch.specs.Orders.{IsOrderOf};
 ghost use Rattle.amr_faces.specs.Faces.{IsInDomain};
-ghost use Rattle.amr_layout.specs.Surroundings.{IsInRowOrColumn, IsNearFace, LiesBesideLevel, around, edge_count, edge_face, is_coarse_fine};
+ghost use Rattle.amr_layout.specs.Arounds.{around_of};
+ghost use Rattle.amr_layout.specs.Surroundings.{is_missing, IsInRowOrColumn, IsNearFace, LiesBesideLevel, edge_count, edge_face, is_coarse_fine};
 ghost use Rattle.amr_patch.specs.Gaps.{HasStarts, IsGap};
-ghost use Rattle.amr_layout.specs.Adds.{AreInOrder, HasCellsBeyond, cell_beyond, flow_to, flows_in, flows_of, inflow_faces, is_exchange_face};
-ghost use Rattle.amr_layout.specs.Adds.{is_inflow_face, is_outflow_face, number_of, outflow_faces, register_flows, word_of};
+ghost use Rattle.amr_layout.specs.Adds.{AreInOrder, HasCellsBeyond, cell_beyond, flow_to};
+ghost use Rattle.amr_layout.specs.Adds.{inflow_faces, is_exchange_face, is_inflow_face, is_outflow_face, number_of, outflow_faces, register_flows, word_of};
 ghost use Rattle.amr_layout.specs.Flows.{IsAtHome, IsToWord, is_coarser, is_inflow, is_outflow, is_outside, is_register, word_in};
 
+use crate::FlowTo;
 use crate::faces::{edge_count, edge_face, inside, inward, outside};
 use crate::lookup::{Trace, is_covered, look_beside};
 use crate::registers::next_number;
 use crate::stretches::more_beside;
-use crate::{AddAt, FlowTo};
 use amr_box::{Bx, Cell, Face, parent};
 use amr_causes::NoMemory;
 use amr_def::Problem;
@@ -92,10 +92,9 @@ pub(crate) fn beyond(s: Surroundings<'_>, near: &mut Near, c: Cell) -> Across
     requires apart { ArePatchesApart s.patches.now }
     requires starts { HasStarts s.patches.now s.starts.now }
     requires gap { IsGap s.patches.now near.old.level.gap }
-    ensures outside { is_outside result ≡ not (in_domain (domain s.entry.problem.now s.entry.level) (home_cell (domain s.entry.problem.now s.entry.level) c)) }
-    ensures coarser { is_coarser result
-        ≡ (in_domain (domain s.entry.problem.now s.entry.level) (home_cell (domain s.entry.problem.now s.entry.level) c)
-        && not (in_patches s.entry.patches.now (home_cell (domain s.entry.problem.now s.entry.level) c))) }
+    ensures outside { is_outside result
+        ≡ not (in_domain (domain s.entry.problem.now s.entry.level) (home_cell (domain s.entry.problem.now s.entry.level) c)) }
+    ensures coarser { is_coarser result ≡ is_missing (domain s.entry.problem.now s.entry.level) s.entry.patches.now c }
     ensures gap { IsGap s.entry.patches.now near.new.level.gap }
     ensures home { IsAtHome result (home_cell (domain s.entry.problem.now s.entry.level) c) }
 {
@@ -149,18 +148,13 @@ fn flow_of(s: Surroundings<'_>, near: &mut Near, b: &Bx, f: Face) -> Flow
     requires few { length s.cells.now ≤ 2 ^ 30 }
     requires lies { IsInRowOrColumn s.problem.now s.level f }
     requires near { IsNearFace f }
-    requires there { IsTrue (is_coarse_fine (around s.problem.now s.level s.patches.now s.cells.now (option_copied s.finer)) b.now f)
-        → Contains s.cells.now (cell_beyond (around s.problem.now s.level s.patches.now s.cells.now (option_copied s.finer)) b.now f) }
-    ensures inflow { is_inflow result
-        ≡ is_inflow_face (around s.entry.problem.now s.entry.level s.entry.patches.now s.entry.cells.now (option_copied s.entry.finer)) b.now f }
-    ensures outflow { is_outflow result
-        ≡ is_outflow_face (around s.entry.problem.now s.entry.level s.entry.patches.now s.entry.cells.now (option_copied s.entry.finer)) b.now f }
-    ensures register { is_register result
-        ≡ is_exchange_face (around s.entry.problem.now s.entry.level s.entry.patches.now s.entry.cells.now (option_copied s.entry.finer)) b.now f }
+    requires there { IsTrue (is_coarse_fine (around_of s) b.now f) → Contains s.cells.now (cell_beyond (around_of s) b.now f) }
+    ensures inflow { is_inflow result ≡ is_inflow_face (around_of s.entry) b.now f }
+    ensures outflow { is_outflow result ≡ is_outflow_face (around_of s.entry) b.now f }
+    ensures register { is_register result ≡ is_exchange_face (around_of s.entry) b.now f }
     ensures gap { IsGap s.entry.patches.now near.new.level.gap }
     ensures within { word_in result < 2 + 2 * length s.entry.cells.now }
-    ensures word { IsToWord result (word_of
-        (around s.entry.problem.now s.entry.level s.entry.patches.now s.entry.cells.now (option_copied s.entry.finer)) b.now f) }
+    ensures word { IsToWord result (word_of (around_of s.entry) b.now f) }
 {
     let inward = inward(s.problem, s.level, b, f);
     match beyond(s, near, outside(b, f)) {
@@ -186,60 +180,12 @@ fn more_kept(s: Surroundings<'_>, at: usize, b: &Bx, n: u32, flow: Flow) -> u32
     requires inside { IsInDomain (domain s.problem.now s.level) b.now }
     requires there { n < edge_count b.now }
     ensures count { n + result < edge_count b.now }
-    ensures beside { (m : ℕ) → n < m → m ≤ n + result
-        → LiesBesideLevel (around s.entry.problem.now s.entry.level s.entry.patches.now s.entry.cells.now (option_copied s.entry.finer)) b.now
-        (edge_face b.now m) }
+    ensures beside { (m : ℕ) → n < m → m ≤ n + result → LiesBesideLevel (around_of s.entry) b.now (edge_face b.now m) }
 {
     match flow {
         Flow::Kept => more_beside(s, at, b, n),
         _ => 0,
     }
-}
-
-/// The add of a face to the word of a register cell.
-fn register_add(alloc: Global, word: u32, f: Face) -> Result<AddAt, NoMemory>
-    ensures word { IfOk result (λ a. a.word ≡ word) }
-    ensures faces { IfOk result (λ a. a.faces.items ≡ f ∷ []) }
-{
-    let mut faces = Vec::new(alloc);
-    faces.push(f)?;
-    Ok(AddAt { word, faces })
-}
-
-/// Whether the last of these adds goes to this word.
-fn ends_with(adds: &[AddAt], word: u32) -> bool
-    ensures some { result ≡ true → 0 < length adds.now }
-    ensures word { result ≡ true → (a : AddAt) → (slice_index_or adds.now (length adds.now - 1) a).word ≡ word }
-{
-    match adds.last() {
-        None => false,
-        Some(add) => add.word == word,
-    }
-}
-
-/// Adds a face to the last of these adds.
-fn extend_last(adds: &mut [AddAt], f: Face) -> Result<(), NoMemory>
-    requires { 0 < length adds.old }
-    ensures flows { OnOk result ((word : ℕ) → ((a : AddAt) → (slice_index_or adds.old (length adds.old - 1) a).word ≡ word)
-        → flows_in adds.new ≡ flows_in adds.old ++ flow_to word f ∷ []) }
-    ensures words { (n : ℕ) → All (λ a. a.word < n) adds.old → All (λ a. a.word < n) adds.new }
-{
-    let last = adds.len() - 1;
-    adds[last].faces.push(f)?;
-    Ok(())
-}
-
-/// Adds a face to the word of a register cell: to the last add where that goes to the word, else as a new one. The faces of a
-/// box beside one register cell stand side by side, so each has one add.
-fn add_to_word(alloc: Global, adds: &mut Vec<AddAt>, word: u32, f: Face) -> Result<(), NoMemory>
-    ensures flows { OnOk result (flows_in adds.new.items ≡ flows_in adds.old.items ++ flow_to word f ∷ []) }
-    ensures words { (n : ℕ) → word < n → All (λ a. a.word < n) adds.old.items → OnOk result (All (λ a. a.word < n) adds.new.items) }
-{
-    if ends_with(adds, word) {
-        return extend_last(adds, f);
-    }
-    adds.push(register_add(alloc, word, f)?)?;
-    Ok(())
 }
 
 /// Adds a face to the list that its flow goes to.
@@ -295,14 +241,11 @@ pub(crate) fn flows_beside(
     requires few { length s.cells.now ≤ 2 ^ 30 }
     requires near { IsNear b.now }
     requires inside { IsInDomain (domain s.problem.now s.level) b.now }
-    requires there { HasCellsBeyond (around s.problem.now s.level s.patches.now s.cells.now (option_copied s.finer)) b.now }
+    requires there { HasCellsBeyond (around_of s) b.now }
     ensures gap { OnOk result (IsGap s.entry.patches.now near.new.level.gap) }
-    ensures inflow { OnOk result (flows.new.inflow.items
-        ≡ inflow_faces (around s.entry.problem.now s.entry.level s.entry.patches.now s.entry.cells.now (option_copied s.entry.finer)) b.now) }
-    ensures outflow { OnOk result (flows.new.outflow.items
-        ≡ outflow_faces (around s.entry.problem.now s.entry.level s.entry.patches.now s.entry.cells.now (option_copied s.entry.finer)) b.now) }
-    ensures register { OnOk result (flows.new.register.items
-        ≡ register_flows (around s.entry.problem.now s.entry.level s.entry.patches.now s.entry.cells.now (option_copied s.entry.finer)) b.now) }
+    ensures inflow { OnOk result (flows.new.inflow.items ≡ inflow_faces (around_of s.entry) b.now) }
+    ensures outflow { OnOk result (flows.new.outflow.items ≡ outflow_faces (around_of s.entry) b.now) }
+    ensures register { OnOk result (flows.new.register.items ≡ register_flows (around_of s.entry) b.now) }
     ensures words { OnOk result (All (λ x. x.word < 2 + 2 * length s.entry.cells.now) flows.new.register.items) }
 {
     clear(flows);
@@ -315,64 +258,4 @@ pub(crate) fn flows_beside(
         n = n + 1 + more_kept(s, near.level.patch, b, n, flow);
     }
     Ok(())
-}
-
-/// The adds of these flows: those to one word, side by side, are one add.
-fn grouped(alloc: Global, flows: &[FlowTo]) -> Result<Vec<AddAt>, NoMemory>
-    ensures flows { IfOk result (λ adds. flows_in adds.items ≡ flows.now) }
-    ensures words { (n : ℕ) → All (λ x. x.word < n) flows.now → IfOk result (λ adds. All (λ a. a.word < n) adds.items) }
-{
-    let mut adds = Vec::new(alloc);
-    for x in flows {
-        add_to_word(alloc, &mut adds, x.word, x.face)?;
-    }
-    Ok(adds)
-}
-
-/// The adds of the task of a patch with this box.
-pub(crate) fn adds_of(
-    alloc: Global,
-    s: Surroundings<'_>,
-    near: &mut Near,
-    b: &Bx,
-) -> Result<Vec<AddAt>, NoMemory>
-    requires level { s.level ≤ 4 }
-    requires order { IsOrderOf s.order s.patches.now }
-    requires apart { ArePatchesApart s.patches.now }
-    requires starts { HasStarts s.patches.now s.starts.now }
-    requires gap { IsGap s.patches.now near.old.level.gap }
-    requires ordered { AreInOrder s.cells.now }
-    requires few { length s.cells.now ≤ 2 ^ 30 }
-    requires near { IsNear b.now }
-    requires inside { IsInDomain (domain s.problem.now s.level) b.now }
-    requires there { HasCellsBeyond (around s.problem.now s.level s.patches.now s.cells.now (option_copied s.finer)) b.now }
-    ensures gap { OnOk result (IsGap s.entry.patches.now near.new.level.gap) }
-    ensures flows { IfOk result (λ adds. flows_in adds.items
-        ≡ flows_of (around s.entry.problem.now s.entry.level s.entry.patches.now s.entry.cells.now (option_copied s.entry.finer)) b.now) }
-    ensures ledger { IfOk result (λ adds. take 2 (map (λ a. a.word) adds.items) ≡ 0 ∷ 1 ∷ []) }
-    ensures words { IfOk result (λ adds. All (λ a. a.word < 2 + 2 * length s.entry.cells.now) adds.items) }
-{
-    let mut flows = no_flows(alloc);
-    flows_beside(s, near, b, &mut flows)?;
-    let PatchFlows {
-        inflow,
-        outflow,
-        register,
-    } = flows;
-    let mut adds = grouped(alloc, &register)?;
-    adds.insert(
-        0,
-        AddAt {
-            word: 1,
-            faces: outflow,
-        },
-    )?;
-    adds.insert(
-        0,
-        AddAt {
-            word: 0,
-            faces: inflow,
-        },
-    )?;
-    Ok(adds)
 }

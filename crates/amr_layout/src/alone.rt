@@ -1,7 +1,6 @@
 //! What the patches of a level add where one worker makes the step alone, so that no border face has a place.
 
 ghost use Rattle.std.specs.Prelude.{◌≡◌, ◌+◌, ◌*◌, ◌≤◌, ◌<◌, ◌^◌, ◌++◌, length, map, IfOk, OnOk};
-ghost use Rattle.std.specs.Option.{option_copied};
 ghost use Rattle.std.specs.List.{All};
 ghost use Rattle.amr_def.specs.Domain.{domain};
 ghost use Rattle.amr_patch.specs.Patches.{ArePatchesApart, box};
@@ -9,8 +8,9 @@ ghost use Rattle.amr_patch.specs.Orders.{IsOrderOf};
 ghost use Rattle.amr_faces.specs.Faces.{IsInDomain};
 ghost use Rattle.amr_patch.specs.Gaps.{HasStarts};
 ghost use Rattle.amr_phase.specs.Plans.{total};
-ghost use Rattle.amr_layout.specs.Surroundings.{around, edge_count};
-ghost use Rattle.amr_layout.specs.Adds.{AreInOrder, HasCellsBeyond, HasRegisterCells, flow_to};
+ghost use Rattle.amr_layout.specs.Arounds.{around_of};
+ghost use Rattle.amr_layout.specs.Surroundings.{edge_count};
+ghost use Rattle.amr_layout.specs.Adds.{AreInOrder, HasCellsBeyond, HasRegisterCells, flow_to, in_one_list};
 ghost use Rattle.amr_layout.specs.LevelFlowLists.{AreFlowsOf, AreFlowsOfRun, HasFlowsAt, flows_at};
 
 use crate::FlowTo;
@@ -51,8 +51,7 @@ fn append_faces(all: &mut Vec<FlowTo>, word: u32, faces: &[Face]) -> Result<(), 
 
 /// Puts the flows of a patch behind a list: the inflows, the outflows, and those to register words.
 fn append_flows(all: &mut Vec<FlowTo>, flows: &PatchFlows) -> Result<(), NoMemory>
-    ensures { OnOk result (all.new.items
-        ≡ all.old.items ++ (map (flow_to 0) flows.now.inflow.items ++ (map (flow_to 1) flows.now.outflow.items ++ flows.now.register.items))) }
+    ensures { OnOk result (all.new.items ≡ all.old.items ++ in_one_list flows.now) }
 {
     append_faces(all, 0, &flows.inflow)?;
     append_faces(all, 1, &flows.outflow)?;
@@ -73,9 +72,8 @@ pub(crate) fn flows_of_run(
     requires ordered { AreInOrder s.cells.now }
     requires few { length s.cells.now ≤ 2 ^ 30 }
     requires inside { All (λ q. IsInDomain (domain s.problem.now s.level) (box q)) run.now }
-    requires there { All (λ q. HasCellsBeyond (around s.problem.now s.level s.patches.now s.cells.now (option_copied s.finer)) (box q)) run.now }
-    ensures flows { IfOk result (AreFlowsOfRun
-        (around s.entry.problem.now s.entry.level s.entry.patches.now s.entry.cells.now (option_copied s.entry.finer)) run.now) }
+    requires there { All (λ q. HasCellsBeyond (around_of s) (box q)) run.now }
+    ensures flows { IfOk result (AreFlowsOfRun (around_of s.entry) run.now) }
     ensures words { IfOk result (λ v. All (λ x. x.word < 2 + 2 * length s.entry.cells.now) v.flows.items) }
 {
     let level = Trace {
@@ -109,8 +107,8 @@ pub fn plan_adds(alloc: Global, s: Surroundings<'_>) -> Result<LevelFlows, NoMem
     requires apart { ArePatchesApart s.patches.now }
     requires starts { HasStarts s.patches.now s.starts.now }
     requires inside { All (λ q. IsInDomain (domain s.problem.now s.level) (box q)) s.patches.now }
-    requires cells { HasRegisterCells (around s.problem.now s.level s.patches.now s.cells.now (option_copied s.finer)) }
-    ensures flows { IfOk result (AreFlowsOf (around s.entry.problem.now s.entry.level s.entry.patches.now s.entry.cells.now (option_copied s.entry.finer))) }
+    requires cells { HasRegisterCells (around_of s) }
+    ensures flows { IfOk result (AreFlowsOf (around_of s.entry)) }
     ensures words { IfOk result (λ v. All (λ x. x.word < 2 + 2 * length s.entry.cells.now) v.flows.items) }
     ensures edges { OnOk result (total (λ q. edge_count (box q)) s.entry.patches.now ≤ 2 ^ 30) }
     ensures few { OnOk result (length s.entry.cells.now ≤ 2 ^ 30) }

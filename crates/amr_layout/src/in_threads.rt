@@ -1,17 +1,16 @@
 //! What the patches of a level add, worked out by several threads: each has a run of the patches.
 
 ghost use Rattle.std.specs.Prelude.{◌≡◌, ℕ, ◌+◌, ◌*◌, ◌≤◌, ◌<◌, ◌^◌, ◌++◌, length, map, drop, slice_index_or, IfOk, OnOk};
-ghost use Rattle.std.specs.Option.{option_copied};
 ghost use Rattle.std.specs.List.{All};
-ghost use Rattle.std.specs.Fork.{slice_chunk};
 ghost use Rattle.amr_def.specs.Domain.{domain};
 ghost use Rattle.amr_patch.specs.Patches.{ArePatchesApart, box};
 ghost use Rattle.amr_patch.specs.Orders.{IsOrderOf};
 ghost use Rattle.amr_faces.specs.Faces.{IsInDomain};
 ghost use Rattle.amr_patch.specs.Gaps.{HasStarts};
 ghost use Rattle.amr_phase.specs.Plans.{total};
-ghost use Rattle.amr_layout.specs.Surroundings.{around, edge_count};
-ghost use Rattle.amr_layout.specs.Adds.{AreInOrder, HasCellsBeyond, HasRegisterCells};
+ghost use Rattle.amr_layout.specs.Arounds.{AreFlowsOfChunk, HasWordsFor, MayFindFlows, around_of};
+ghost use Rattle.amr_layout.specs.Surroundings.{edge_count};
+ghost use Rattle.amr_layout.specs.Adds.{HasRegisterCells};
 ghost use Rattle.amr_layout.specs.LevelFlowLists.{AreFlowsOf, AreFlowsOfRun};
 
 use crate::adds::Surroundings;
@@ -55,13 +54,10 @@ fn join_runs(
     runs: &[Result<LevelFlows, NoMemory>],
 ) -> Result<LevelFlows, NoMemory>
     requires all { length s.patches.now ≤ length runs.now * size }
-    requires flows { (n : ℕ) (d : _) → n < length runs.now
-        → IfOk (slice_index_or runs.now n d)
-        (AreFlowsOfRun (around s.problem.now s.level s.patches.now s.cells.now (option_copied s.finer)) (slice_chunk s.patches.now size n)) }
-    requires words { (n : ℕ) (d : _) → n < length runs.now
-        → IfOk (slice_index_or runs.now n d) (λ v. All (λ x. x.word < 2 + 2 * length s.cells.now) v.flows.items) }
-    ensures flows { IfOk result (AreFlowsOf (around s.entry.problem.now s.entry.level s.entry.patches.now s.entry.cells.now (option_copied s.entry.finer))) }
-    ensures words { IfOk result (λ v. All (λ x. x.word < 2 + 2 * length s.entry.cells.now) v.flows.items) }
+    requires flows { (n : ℕ) (d : _) → n < length runs.now → IfOk (slice_index_or runs.now n d) (AreFlowsOfChunk (around_of s) size n) }
+    requires words { (n : ℕ) (d : _) → n < length runs.now → IfOk (slice_index_or runs.now n d) (HasWordsFor s) }
+    ensures flows { IfOk result (AreFlowsOf (around_of s.entry)) }
+    ensures words { IfOk result (HasWordsFor s.entry) }
 {
     let mut bounds = Vec::with_capacity(alloc, s.patches.len() + 1)?;
     bounds.push(0)?;
@@ -91,17 +87,13 @@ pub(crate) fn flows_by_runs<R: Threads + Sync>(
     requires apart { ArePatchesApart s.patches.now }
     requires starts { HasStarts s.patches.now s.starts.now }
     requires inside { All (λ q. IsInDomain (domain s.problem.now s.level) (box q)) s.patches.now }
-    requires cells { HasRegisterCells (around s.problem.now s.level s.patches.now s.cells.now (option_copied s.finer)) }
-    ensures flows { IfOk result (AreFlowsOf (around s.entry.problem.now s.entry.level s.entry.patches.now s.entry.cells.now (option_copied s.entry.finer))) }
-    ensures words { IfOk result (λ v. All (λ x. x.word < 2 + 2 * length s.entry.cells.now) v.flows.items) }
+    requires cells { HasRegisterCells (around_of s) }
+    ensures flows { IfOk result (AreFlowsOf (around_of s.entry)) }
+    ensures words { IfOk result (HasWordsFor s.entry) }
 {
     let of_run = move |_start: usize, run: &[Patch]| -> Result<LevelFlows, NoMemory>
-        requires { (s.level ≤ 4) × IsOrderOf s.order s.patches.now × ArePatchesApart s.patches.now × HasStarts s.patches.now s.starts.now
-            × AreInOrder s.cells.now × (length s.cells.now ≤ 2 ^ 30) × All (λ q. IsInDomain (domain s.problem.now s.level) (box q)) run.now
-            × All (λ q. HasCellsBeyond (around s.problem.now s.level s.patches.now s.cells.now (option_copied s.finer)) (box q)) run.now }
-        ensures { IfOk result (AreFlowsOfRun
-            (around s.entry.problem.now s.entry.level s.entry.patches.now s.entry.cells.now (option_copied s.entry.finer)) run.entry.now)
-            × IfOk result (λ v. All (λ x. x.word < 2 + 2 * length s.entry.cells.now) v.flows.items) }
+        requires { MayFindFlows s run.now }
+        ensures { IfOk result (AreFlowsOfRun (around_of s.entry) run.entry.now) × IfOk result (HasWordsFor s.entry) }
     { flows_of_run(alloc, s, run) };
     let runs = map_chunks(rt, alloc, s.patches, size, &of_run)?;
     join_runs(alloc, s, size, &runs)
@@ -119,9 +111,9 @@ pub fn plan_adds_in_threads<R: Threads + Sync>(
     requires apart { ArePatchesApart s.patches.now }
     requires starts { HasStarts s.patches.now s.starts.now }
     requires inside { All (λ q. IsInDomain (domain s.problem.now s.level) (box q)) s.patches.now }
-    requires cells { HasRegisterCells (around s.problem.now s.level s.patches.now s.cells.now (option_copied s.finer)) }
-    ensures flows { IfOk result (AreFlowsOf (around s.entry.problem.now s.entry.level s.entry.patches.now s.entry.cells.now (option_copied s.entry.finer))) }
-    ensures words { IfOk result (λ v. All (λ x. x.word < 2 + 2 * length s.entry.cells.now) v.flows.items) }
+    requires cells { HasRegisterCells (around_of s) }
+    ensures flows { IfOk result (AreFlowsOf (around_of s.entry)) }
+    ensures words { IfOk result (HasWordsFor s.entry) }
     ensures edges { OnOk result (total (λ q. edge_count (box q)) s.entry.patches.now ≤ 2 ^ 30) }
     ensures few { OnOk result (length s.entry.cells.now ≤ 2 ^ 30) }
 {

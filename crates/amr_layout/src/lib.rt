@@ -1,4 +1,4 @@
-//! The layout of a level's step on a board: which task puts and reads which border face, and what it adds to which word.
+//! The layout of a level's step on a board: which patch puts and reads which border face, and what it adds to which word.
 //!
 //! It depends on boxes alone, so one serves each step until the next regrid.
 #![tactic(auto)]
@@ -9,6 +9,7 @@ mod faces;
 mod in_threads;
 mod layouts;
 mod lookup;
+mod parts;
 mod places;
 mod registers;
 mod stretches;
@@ -17,6 +18,7 @@ pub use crate::adds::Surroundings;
 pub use crate::alone::{LevelFlows, plan_adds};
 pub use crate::in_threads::plan_adds_in_threads;
 pub use crate::layouts::plan;
+pub use crate::parts::{RunFlows, flows_of_part};
 use amr_box::Face;
 
 /// A put: the size of the flux through a face goes to a place.
@@ -27,13 +29,6 @@ pub struct PutAt {
     pub face: Face,
 }
 
-/// An add: the sizes of the fluxes through these faces on the patch's edges, added up, go to a word.
-#[derive(Drop)]
-pub struct AddAt {
-    pub word: u32,
-    pub faces: Vec<Face>,
-}
-
 /// What flows through a face on a patch's edges is added to a word.
 #[derive(Clone, Copy)]
 pub struct FlowTo {
@@ -41,24 +36,22 @@ pub struct FlowTo {
     pub face: Face,
 }
 
-/// What the task of a patch puts, adds and reads.
+/// What a patch puts and reads in the step of its level.
 #[derive(Drop)]
-pub struct TaskLayout {
-    /// Its puts, by their places.
+pub struct PatchLayout {
+    /// Its puts: of the faces at the low side of its cells that patches of other groups read, by their places.
     pub puts: Vec<PutAt>,
-    /// Its adds: to the ledger's inflow and outflow, each of which may have no face, then to register cells.
-    pub adds: Vec<AddAt>,
-    /// The places of the border faces that its patch reads, in the order in which `amr_flux::update` takes them.
+    /// The places of the border faces that it reads from other groups, in the order in which `amr_flux::update_by` takes them.
     pub border: Vec<u32>,
+    /// Which ghost cells lie beyond these faces, in the places of the patch's marks. It is empty where the patch reads none.
+    pub mask: Vec<bool>,
 }
 
-/// The places and words of a level's board, each numbered from 0, and what each task does.
+/// The places of a level's board, numbered from 0, and what each patch puts and reads.
 #[derive(Drop)]
 pub struct Layout {
-    /// How many border faces the level has: a place for each.
+    /// How many border faces lie between groups: a place for each.
     pub places: u32,
-    /// Two for the ledger, and two for each register cell of the next coarser level: its gain, then its loss.
-    pub words: u32,
-    /// Task `i` is that of patch `i`.
-    pub tasks: Vec<TaskLayout>,
+    /// By patch.
+    pub patches: Vec<PatchLayout>,
 }

@@ -1,11 +1,11 @@
 //! Faces that lie side by side along one patch: a stretch of them takes one look-up.
 
 ghost use Rattle.std.specs.Prelude.{◌≡◌, ℕ, ◌+◌, ◌≤◌, ◌<◌, pos, ◌+ℤ◌, ◌≤ℤ◌};
-ghost use Rattle.std.specs.Option.{option_copied};
 ghost use Rattle.amr_box.specs.Cells.{IsNear};
 ghost use Rattle.amr_def.specs.Domain.{domain};
 ghost use Rattle.amr_faces.specs.Faces.{IsInDomain};
-ghost use Rattle.amr_layout.specs.Surroundings.{LiesBesideLevel, around, edge_count, edge_face};
+ghost use Rattle.amr_layout.specs.Arounds.{around_of};
+ghost use Rattle.amr_layout.specs.Surroundings.{LiesBesideLevel, edge_count, edge_face};
 
 use crate::adds::Surroundings;
 use crate::faces::{edge_face, outside};
@@ -29,9 +29,7 @@ pub(crate) fn more_beside(s: Surroundings<'_>, at: usize, b: &Bx, n: u32) -> u32
     requires inside { IsInDomain (domain s.problem.now s.level) b.now }
     requires there { n < edge_count b.now }
     ensures count { n + result < edge_count b.now }
-    ensures beside { (m : ℕ) → n < m → m ≤ n + result
-        → LiesBesideLevel (around s.entry.problem.now s.entry.level s.entry.patches.now s.entry.cells.now (option_copied s.entry.finer)) b.now
-        (edge_face b.now m) }
+    ensures beside { (m : ℕ) → n < m → m ≤ n + result → LiesBesideLevel (around_of s.entry) b.now (edge_face b.now m) }
 {
     if at >= s.patches.len() {
         return 0;

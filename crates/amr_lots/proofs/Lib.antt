@@ -1,12 +1,31 @@
-pub mod LotTotals
-pub mod InTurn
-pub mod InPlaces
-mod Trading
-mod Posting
-mod Served
-pub mod WordSums
-pub mod Numbered
-pub mod Layouts
 pub mod Runs
 mod HandedRuns
+pub mod InPlaces
+pub mod LotTotals
+pub mod InTurn
+mod SameSums
+mod Adding
+mod Filled
+mod Flat
+mod Posting
+mod Where
+mod Showing
+mod Begun
+mod Swept
+mod Sending
+mod SteppedBoxes
+mod Places
+mod LotParts
+mod Borders
+mod ByBorder
+pub mod Finishing
+pub mod Completing
+mod Reading
+mod SweptWork
+mod Duties
+mod Posts
+mod Looking
 mod CorrectedPatches
+pub mod SweptPatch
+mod Trading
+mod Messages

@@ -1,225 +1,89 @@
--- One lot's messages posted, and those of all lots in turn.
-use Rattle.std.proofs.Common.{◌≡◌, ◌≢◌, ◌⊎◌, inl, inr, ℕ, ◌+◌, ◌<◌, ◌≤◌, List, [], ◌∷◌, ◌++◌, length, drop, take, get_or, set, refl, sym, ap, subst, ◌∙◌, arith}
-use Rattle.std.specs.Global.{Box, Vec}
-use Rattle.std.specs.List.{All, AllZip}
+-- Posts of a task that go on from those that were made.
+use Rattle.std.proofs.Common.{◌≡◌, ℕ, ◌+◌, ◌<◌, true, List, length, get_or, set, refl, sym, ap, ◌∙◌, subst, arith}
 use Rattle.std.proofs.Math.ListN.{length-set}
-use Rattle.std.proofs.Math.Seq.{take-append_seam}
-use Rattle.std.proofs.lemmas.Bool.{cases_eq}
-use Rattle.std.proofs.lemmas.List.{get_or-set_other, get_or-set_same, get_or_default}
-use Rattle.amr_ghost.specs.declared.messages.Message.{Message}
-use Rattle.amr_lots.specs.declared.lot.Lot.{Lot}
-use Rattle.amr_lots.specs.declared.lot.Phase.{Phase}
-use Rattle.amr_lots.specs.Delivery.{ArePosted, HasTraded, HaveTraded, with_outbox}
-use Rattle.amr_lots.proofs.InTurn.{zip_from}
-use Rattle.amr_lots.proofs.Layouts.{layout_twice, same_layout}
-use Rattle.amr_lots.specs.Runs.{HasBoxes, HasLayoutOf, IsDelivered, KeepAllButMessages}
+use Rattle.std.proofs.lemmas.List.{get_or-set_same, set-set}
+use Rattle.amr_phase.specs.declared.plan.Post.{Post}
+use Rattle.amr_phase.specs.Plans.{PlanOf, adds_of, no_post, puts_of}
+use Rattle.amr_board.specs.declared.view.Progress.{Progress}
+use Rattle.amr_board.specs.declared.view.View.{View}
+use Rattle.amr_board.specs.Views.{IsHolding, IsNextAdd, IsNextPut, current, no_progress}
+use Rattle.amr_board.specs.Posts.{HasPosted}
 
--- the items of a `Vec`, each written anew
-pub refilled : {X : Type 0} (n : ℕ) (xs ys : List X) → n ≡ length xs → length ys ≡ length xs → take n (ys ++ drop (length ys) xs) ≡ ys
-refilled n xs ys whole same = ap (λ k. take k (ys ++ drop (length ys) xs)) (whole ∙ sym same) ∙ take-append_seam ys (drop (length ys) xs)
+module _ {P : Type 0} (v w : View P) (puts adds : ℕ) (held : 0 < length v.tasks) (h : HasPosted v w puts adds) where
+  abbrev posted : ℕ → ℕ → Progress
+  posted p a = record (current v) { puts = (current v).puts + p; adds = (current v).adds + a }
 
--- ---- a lot among lots that gets another outbox and phase
+  now : current w ≡ posted puts adds
+  now = ap (λ (l : List Progress). get_or l 0 no_progress) h.tasks ∙ get_or-set_same v.tasks 0 (posted puts adds) no_progress held
 
--- so it is with each lot, as the others stay
-abbrev HasItsInbox : Lot → Lot → Type 0
-HasItsInbox a b = b ≡ with_outbox b.outbox b.phase a
+  still_held : 0 < length w.tasks
+  still_held = subst (λ (l : List Progress). 0 < length l) (sym h.tasks) (let n = length-set v.tasks 0 (posted puts adds) in omega (arith, n, held))
 
-module _ (xs : List (Box Lot)) (i : ℕ) (old new : Box Lot) (lt : i < length xs) where
-  set_here : (x : Box Lot) → get_or (set xs i new) i x ≡ new
-  set_here x = get_or-set_same xs i new x lt
-
-  set_each : (outbox : Vec Message) (phase : Phase) → new.value ≡ with_outbox outbox phase (get_or xs i old).value → (k : ℕ) (x : Box Lot) → HasItsInbox (get_or xs k x).value (get_or (set xs i new) k x).value
-  set_each outbox phase is k x = from (cases_eq k i)
-    where
-      here : HasItsInbox (get_or xs i x).value (get_or (set xs i new) i x).value
-      here = subst (λ (b : Box Lot). HasItsInbox (get_or xs i x).value b.value) (sym (set_here x))
-          (subst (λ (a : Box Lot). HasItsInbox a.value new.value) (get_or_default xs i old x lt)
-          (subst (λ (b : Lot). HasItsInbox (get_or xs i old).value b) (sym is) refl))
-
-      from : ((k ≡ i) ⊎ (k ≡ i → ⊥)) → HasItsInbox (get_or xs k x).value (get_or (set xs i new) k x).value
-      from (inl e) = subst (λ (j : ℕ). HasItsInbox (get_or xs j x).value (get_or (set xs i new) j x).value) (sym e) here
-      from (inr other) = subst (λ (b : Box Lot). HasItsInbox (get_or xs k x).value b.value) (sym (get_or-set_other xs i k new x other)) refl
-
--- ---- one lot's messages posted
-
-posted_layout : (a b : Lot) → HasItsInbox a b → HasLayoutOf a b
-posted_layout a b is = record {
-  level = ap (λ (e : Lot). e.level) is;
-  problem = ap (λ (e : Lot). e.problem) is;
-  flows = ap (λ (e : Lot). e.flows) is;
-  words = ap (λ (e : Lot). e.words) is;
-  copies = ap (λ (e : Lot). e.copies) is;
-  outer = ap (λ (e : Lot). e.outer) is;
-  correction = ap (λ (e : Lot). e.correction) is;
-  before = ap (λ (e : Lot). e.before) is;
-}
-
--- a lot whose outbox was taken, which traded, and was given the outbox back
-is_delivered : (from : ℕ) (y z : Message) (a b c d : Lot) → HasItsInbox a b → HasTraded from y z b c → HasItsInbox c d → length d.outbox.items ≡ length a.outbox.items → IsDelivered a d
-is_delivered from y z a b c d take traded give count = record {
-  layout = layout_twice a b d (posted_layout a b take) (layout_twice b c d traded.others.layout (posted_layout c d give));
-  patches = ap (λ (e : Lot). e.patches) give ∙ traded.others.patches ∙ ap (λ (e : Lot). e.patches) take;
-  edges = ap (λ (e : Lot). e.edges) give ∙ traded.others.edges ∙ ap (λ (e : Lot). e.edges) take;
-  room = ap (λ (e : Lot). e.room) give ∙ traded.others.room ∙ ap (λ (e : Lot). e.room) take;
-  totals = ap (λ (e : Lot). e.totals) give ∙ traded.others.totals ∙ ap (λ (e : Lot). e.totals) take;
-  sums = ap (λ (e : Lot). e.sums) give ∙ traded.others.sums ∙ ap (λ (e : Lot). e.sums) take;
-  outbox = count;
-  inbox = ap (λ (e : Lot). length e.inbox.items) give ∙ traded.others.inbox ∙ ap (λ (e : Lot). length e.inbox.items) take;
-}
-
--- one of the items of a list that has some
-some_item : {X : Type 0} (xs : List X) → 0 < length xs → X
-some_item [] lt = absurd (omega (arith, lt))
-some_item (x ∷ xs) lt = x
-
--- the outbox of `old`, which is then `taken`, is traded, and `last` gets it back and is then `given`
-module _ (from : ℕ) (phase : Phase) (xs : List (Box Lot)) (there : from < length xs) (boxes : All (HasBoxes (length xs)) xs)
-    (old taken : Box Lot) (sent : Vec Message) (sent_is : sent ≡ (get_or xs from old).value.outbox) (took : taken.value ≡ with_outbox taken.value.outbox (get_or xs from old).value.phase (get_or xs from old).value)
-    (before after : List Message) (before_is : before ≡ sent.items) (cs : List (Box Lot)) (traded : HaveTraded from before after (set xs from taken) cs)
-    (last given : Box Lot) (back : Vec Message) (back_is : back.items ≡ after) (gave : given.value ≡ with_outbox back phase (get_or cs from last).value) where
-  bs_count : length (set xs from taken) ≡ length xs
-  bs_count = length-set xs from taken
-
-  cs_count : length cs ≡ length xs
-  cs_count = traded.count ∙ bs_count
-
-  still_there : from < length cs
-  still_there = omega (arith, there, cs_count)
-
-  take_each : (k : ℕ) (x : Box Lot) → HasItsInbox (get_or xs k x).value (get_or (set xs from taken) k x).value
-  take_each = set_each xs from old taken there taken.value.outbox (get_or xs from old).value.phase took
-
-  give_each : (k : ℕ) (x : Box Lot) → HasItsInbox (get_or cs k x).value (get_or (set cs from given) k x).value
-  give_each = set_each cs from last given still_there back phase gave
-
-  trade_each : (k : ℕ) (m : Message) (x : Box Lot) → k < length xs → HasTraded from (get_or before k m) (get_or after k m) (get_or (set xs from taken) k x).value (get_or cs k x).value
-  trade_each k m x lt = traded.each k m x (omega (arith, lt, bs_count))
-
-  sent_items : (x : Box Lot) → before ≡ (get_or xs from x).value.outbox.items
-  sent_items x = before_is ∙ ap (λ (v : Vec Message). v.items) sent_is ∙ ap (λ (b : Box Lot). b.value.outbox.items) (get_or_default xs from old x there)
-
-  given_here : (x : Box Lot) → (get_or (set cs from given) from x).value ≡ with_outbox back phase (get_or cs from last).value
-  given_here x = ap (λ (b : Box Lot). b.value) (set_here cs from last given still_there x) ∙ gave
-
-  sent_count : (x : Box Lot) → length before ≡ length xs
-  sent_count x = ap length (sent_items x) ∙ (boxes from x there).0
-
-  some_message : Box Lot → Message
-  some_message x = some_item before (omega (arith, sent_count x, there))
-
-  has_place : (to : ℕ) (x : Box Lot) → to < length xs → from < length (get_or (set xs from taken) to x).value.inbox.items
-  has_place to x lt = omega (arith, there, ap (λ (a : Lot). length a.inbox.items) (take_each to x), (boxes to x lt).1)
-
-  outbox_stays : (u : ℕ) (x : Box Lot) → u ≢ from → u < length xs → (get_or (set cs from given) u x).value.outbox ≡ (get_or xs u x).value.outbox
-  outbox_stays u x other lt =
-      ap (λ (b : Box Lot). b.value.outbox) (get_or-set_other cs from u given x other)
-      ∙ (trade_each u (some_message x) x lt).outbox
-      ∙ ap (λ (b : Box Lot). b.value.outbox) (get_or-set_other xs from u taken x other)
-
-  outbox_count : (u : ℕ) (x : Box Lot) → u < length xs → ((u ≡ from) ⊎ (u ≡ from → ⊥)) → length (get_or (set cs from given) u x).value.outbox.items ≡ length (get_or xs u x).value.outbox.items
-  outbox_count u x lt (inl e) = subst (λ (j : ℕ). length (get_or (set cs from given) j x).value.outbox.items ≡ length (get_or xs j x).value.outbox.items) (sym e)
-      (ap (λ (a : Lot). length a.outbox.items) (given_here x) ∙ ap length back_is ∙ traded.messages ∙ ap length (sent_items x))
-  outbox_count u x lt (inr other) = ap (λ (v : Vec Message). length v.items) (outbox_stays u x other lt)
-
-  pub posted : ArePosted from phase xs (set cs from given)
-  posted = record {
-    count = length-set cs from given ∙ cs_count;
-    delivered = λ to x m lt.
-        ap (λ (a : Lot). get_or a.inbox.items from m) (give_each to x)
-        ∙ ap (λ ms. get_or ms from m) (trade_each to m x lt).brought
-        ∙ get_or-set_same (get_or (set xs from taken) to x).value.inbox.items from (get_or before to m) m (has_place to x lt)
-        ∙ ap (λ ms. get_or ms to m) (sent_items x);
-    back = λ to x m lt.
-        ap (λ (a : Lot). get_or a.outbox.items to m) (given_here x)
-        ∙ ap (λ ms. get_or ms to m) back_is
-        ∙ (trade_each to m x lt).taken m
-        ∙ ap (λ (a : Lot). get_or a.inbox.items from m) (take_each to x);
-    inboxes = λ u to x m other lt.
-        ap (λ (a : Lot). get_or a.inbox.items u m) (give_each to x)
-        ∙ ap (λ ms. get_or ms u m) (trade_each to m x lt).brought
-        ∙ get_or-set_other (get_or (set xs from taken) to x).value.inbox.items from u (get_or before to m) m other
-        ∙ ap (λ (a : Lot). get_or a.inbox.items u m) (take_each to x);
-    outboxes = outbox_stays;
-    phase_here = λ x. ap (λ (a : Lot). a.phase) (given_here x);
-    phases = λ u x other lt.
-        ap (λ (b : Box Lot). b.value.phase) (get_or-set_other cs from u given x other)
-        ∙ (trade_each u (some_message x) x lt).phase
-        ∙ ap (λ (b : Box Lot). b.value.phase) (get_or-set_other xs from u taken x other);
-    others = λ u x lt. is_delivered from (get_or before u (some_message x)) (get_or after u (some_message x)) (get_or xs u x).value (get_or (set xs from taken) u x).value (get_or cs u x).value (get_or (set cs from given) u x).value
-        (take_each u x) (trade_each u (some_message x) x lt) (give_each u x) (outbox_count u x lt (cases_eq u from));
-  }
-
--- ---- the messages of one lot after another
-
--- those of the first n lots are posted
-pub record ArePostedTo (n : ℕ) (phase : Phase) (lots after : List (Box Lot)) : Type 0 where
-  pub count : length after ≡ length lots
-  pub delivered : (u t : ℕ) (x : Box Lot) (m : Message) → u < n → t < length lots → get_or (get_or after t x).value.inbox.items u m ≡ get_or (get_or lots u x).value.outbox.items t m
-  pub back : (u t : ℕ) (x : Box Lot) (m : Message) → u < n → t < length lots → get_or (get_or after u x).value.outbox.items t m ≡ get_or (get_or lots t x).value.inbox.items u m
-  pub inboxes : (u t : ℕ) (x : Box Lot) (m : Message) → n ≤ u → t < length lots → get_or (get_or after t x).value.inbox.items u m ≡ get_or (get_or lots t x).value.inbox.items u m
-  pub outboxes : (u : ℕ) (x : Box Lot) → n ≤ u → u < length lots → (get_or after u x).value.outbox ≡ (get_or lots u x).value.outbox
-  pub phases : (u : ℕ) (x : Box Lot) → u < n → (get_or after u x).value.phase ≡ phase
-  pub others : (u : ℕ) (x : Box Lot) → u < length lots → IsDelivered (get_or lots u x).value (get_or after u x).value
-
-same_lot : (a : Lot) → IsDelivered a a
-same_lot a = record { layout = same_layout a; patches = refl; edges = refl; room = refl; totals = refl; sums = refl; outbox = refl; inbox = refl }
-
-delivered_more : (a b c : Lot) → IsDelivered a b → IsDelivered b c → IsDelivered a c
-delivered_more a b c h k = record {
-  layout = layout_twice a b c h.layout k.layout;
-  patches = k.patches ∙ h.patches;
-  edges = k.edges ∙ h.edges;
-  room = k.room ∙ h.room;
-  totals = k.totals ∙ h.totals;
-  sums = k.sums ∙ h.sums;
-  outbox = k.outbox ∙ h.outbox;
-  inbox = k.inbox ∙ h.inbox;
-}
-
--- what holds of the first n and of the next
-with_next : (P : ℕ → Type 0) (n u : ℕ) → u < n + 1 → (u < n → P u) → P n → P u
-with_next P n u lt before next = from (cases_eq u n)
-  where
-    from : ((u ≡ n) ⊎ (u ≡ n → ⊥)) → P u
-    from (inl e) = subst P (sym e) next
-    from (inr other) = before (omega (arith, lt, other))
-
-pub none_posted : (phase : Phase) (xs : List (Box Lot)) → ArePostedTo 0 phase xs xs
-none_posted phase xs = record {
-  count = refl;
-  delivered = λ u t x m lt lt'. absurd (omega (arith, lt));
-  back = λ u t x m lt lt'. absurd (omega (arith, lt));
-  inboxes = λ u t x m le lt. refl;
-  outboxes = λ u x le lt. refl;
-  phases = λ u x lt. absurd (omega (arith, lt));
-  others = λ u x lt. same_lot (get_or xs u x).value;
-}
-
-module _ (n : ℕ) (phase : Phase) (xs ys : List (Box Lot)) (done : ArePostedTo n phase xs ys) where
-  pub still_boxes : All (HasBoxes (length xs)) xs → All (HasBoxes (length ys)) ys
-  still_boxes boxes k x lt =
-      let old : k < length xs = omega (arith, lt, done.count) in
-      ((done.others k x old).outbox ∙ (boxes k x old).0 ∙ sym done.count, (done.others k x old).inbox ∙ (boxes k x old).1 ∙ sym done.count)
-
-  pub next_posted : (zs : List (Box Lot)) → n < length xs → ArePosted n phase ys zs → ArePostedTo (n + 1) phase xs zs
-  next_posted zs there next = record {
-    count = next.count ∙ done.count;
-    delivered = λ u t x m lt lt'. with_next (λ (u : ℕ). get_or (get_or zs t x).value.inbox.items u m ≡ get_or (get_or xs u x).value.outbox.items t m) n u lt
-        (λ below. next.inboxes u t x m (λ e. omega (arith, e, below)) (still t lt') ∙ done.delivered u t x m below lt')
-        (next.delivered t x m (still t lt') ∙ ap (λ (v : Vec Message). get_or v.items t m) (done.outboxes n x (omega arith) there));
-    back = λ u t x m lt lt'. with_next (λ (u : ℕ). get_or (get_or zs u x).value.outbox.items t m ≡ get_or (get_or xs t x).value.inbox.items u m) n u lt
-        (λ below. ap (λ (v : Vec Message). get_or v.items t m) (next.outboxes u x (λ e. omega (arith, e, below)) (omega (arith, below, there, done.count))) ∙ done.back u t x m below lt')
-        (next.back t x m (still t lt') ∙ done.inboxes n t x m (omega arith) lt');
-    inboxes = λ u t x m le lt. next.inboxes u t x m (λ e. omega (arith, e, le)) (still t lt) ∙ done.inboxes u t x m (omega (arith, le)) lt;
-    outboxes = λ u x le lt. next.outboxes u x (λ e. omega (arith, e, le)) (still u lt) ∙ done.outboxes u x (omega (arith, le)) lt;
-    phases = λ u x lt. with_next (λ (u : ℕ). (get_or zs u x).value.phase ≡ phase) n u lt
-        (λ below. next.phases u x (λ e. omega (arith, e, below)) (omega (arith, below, there, done.count)) ∙ done.phases u x below)
-        (next.phase_here x);
-    others = λ u x lt. delivered_more (get_or xs u x).value (get_or ys u x).value (get_or zs u x).value (done.others u x lt) (next.others u x (still u lt));
+  -- more posts after them
+  pub posted_on : (u : View P) (p a : ℕ) → HasPosted w u p a → HasPosted v u (puts + p) (adds + a)
+  posted_on u p a g = record {
+    tasks = g.tasks ∙ ap (λ (l : List Progress). set l 0 (record (current w) { puts = (current w).puts + p; adds = (current w).adds + a })) h.tasks
+        ∙ set-set v.tasks 0 (posted puts adds) (record (current w) { puts = (current w).puts + p; adds = (current w).adds + a }) ∙ ap (set v.tasks 0) all;
+    spent = g.spent ∙ h.spent;
+    plan = g.plan ∙ h.plan;
+    pieces = g.pieces ∙ h.pieces;
+    past = g.past ∙ h.past;
+    share = g.share ∙ h.share;
+    look = g.look ∙ h.look;
+    known = λ q has. g.known q (h.known q has);
+    made = (let m = h.made in let n = g.made in omega (arith, m, n));
   }
     where
-      still : (t : ℕ) → t < length xs → t < length ys
-      still t lt = omega (arith, lt, done.count)
+      all : record (current w) { puts = (current w).puts + p; adds = (current w).adds + a } ≡ posted (puts + p) (adds + a)
+      all =
+          ap (λ (e : Progress). record e { puts = e.puts + p; adds = e.adds + a }) now
+          ∙ ap (λ n. record (posted puts adds) { puts = n; adds = (current v).adds + adds + a }) (let r : (current v).puts + puts + p ≡ (current v).puts + (puts + p) = omega arith in r)
+          ∙ ap (λ n. record (posted (puts + p) adds) { adds = n }) (let r : (current v).adds + adds + a ≡ (current v).adds + (adds + a) = omega arith in r)
 
-  pub all_kept : AllZip KeepAllButMessages xs ys
-  all_kept = zip_from KeepAllButMessages xs ys (sym done.count) done.others
+  module _ (holding : IsHolding v (current v).task true) where
+    -- the same task is held
+    pub holds_on : IsHolding w (current w).task true
+    holds_on = record {
+      held = still_held;
+      is_task = refl;
+      ungiven = ap (λ (e : Progress). e.given) now ∙ holding.ungiven;
+      is_taken = ap (λ (e : Progress). e.taken) now ∙ holding.is_taken;
+    }
+
+    pub same_task : (current w).task ≡ (current v).task
+    same_task = ap (λ (e : Progress). e.task) now
+
+    pub so_many_puts : (current w).puts ≡ (current v).puts + puts
+    so_many_puts = ap (λ (e : Progress). e.puts) now
+
+    pub puts_are : puts_of w.plan (current w).task ≡ puts_of v.plan (current v).task
+    puts_are = ap (λ (q : PlanOf). puts_of q (current w).task) h.plan ∙ ap (puts_of v.plan) same_task
+
+    pub next_put_on : (place amount : ℕ) → (current v).puts + puts < length (puts_of v.plan (current v).task) → get_or (puts_of v.plan (current v).task) ((current v).puts + puts) no_post ≡ record { at = place; amount = amount } → IsNextPut w place amount
+    next_put_on place amount lt post = record {
+      task = (current w).task;
+      holding = holds_on;
+      left = omega (arith, lt, so_many_puts, ap length puts_are);
+      post = ap (λ (l : List Post). get_or l (current w).puts no_post) puts_are ∙ (ap (λ n. get_or (puts_of v.plan (current v).task) n no_post) so_many_puts ∙ post);
+    }
+
+    pub so_many_adds : (current w).adds ≡ (current v).adds + adds
+    so_many_adds = ap (λ (e : Progress). e.adds) now
+
+    pub adds_are : adds_of w.plan (current w).task ≡ adds_of v.plan (current v).task
+    adds_are = ap (λ (q : PlanOf). adds_of q (current w).task) h.plan ∙ ap (adds_of v.plan) same_task
+
+    pub next_add_on : (word amount : ℕ) → (current v).adds + adds < length (adds_of v.plan (current v).task) → get_or (adds_of v.plan (current v).task) ((current v).adds + adds) no_post ≡ record { at = word; amount = amount } → IsNextAdd w word amount
+    next_add_on word amount lt post = record {
+      task = (current w).task;
+      holding = holds_on;
+      left = omega (arith, lt, so_many_adds, ap length adds_are);
+      post = ap (λ (l : List Post). get_or l (current w).adds no_post) adds_are ∙ (ap (λ n. get_or (adds_of v.plan (current v).task) n no_post) so_many_adds ∙ post);
+    }
+
+-- a seat knows the board's plan
+pub own_puts : {P : Type 0} (v : View P) (plan : PlanOf) (posts : List Post) → v.plan ≡ plan → puts_of plan (current v).task ≡ posts → puts_of v.plan (current v).task ≡ posts
+own_puts v plan posts e h = ap (λ (q : PlanOf). puts_of q (current v).task) e ∙ h
+
+pub own_adds : {P : Type 0} (v : View P) (plan : PlanOf) (posts : List Post) → v.plan ≡ plan → adds_of plan (current v).task ≡ posts → adds_of v.plan (current v).task ≡ posts
+own_adds v plan posts e h = ap (λ (q : PlanOf). adds_of q (current v).task) e ∙ h

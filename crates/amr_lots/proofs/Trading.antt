@@ -21,8 +21,8 @@ pub none_traded : (from : ℕ) (xs : List Message) (lots : List (Box Lot)) → A
 none_traded from xs lots = record { messages = refl; count = refl; done = λ to m x lt. absurd (omega (arith, lt)); rest = λ to m le. refl; rest_lots = λ to x le. refl }
 
 module _ (n from : ℕ) (xs ys : List Message) (lots after : List (Box Lot)) (traded : AreTradedTo n from xs ys lots after) where
-  pub still_in_box : (x : Box Lot) → n < length lots → All (λ (x : Box Lot). from < length x.value.inbox.items) lots → from < length (get_or after n x).value.inbox.items
-  still_in_box x lt boxes = subst (λ (b : Box Lot). from < length b.value.inbox.items) (sym (traded.rest_lots n x (omega arith))) (boxes n x lt)
+  pub still_in_box : (x : Box Lot) → n < length lots → All (λ (x : Box Lot). from < length x.value.workspace.inbox.items) lots → from < length (get_or after n x).value.workspace.inbox.items
+  still_in_box x lt boxes = subst (λ (b : Box Lot). from < length b.value.workspace.inbox.items) (sym (traded.rest_lots n x (omega arith))) (boxes n x lt)
 
   pub one_more_traded : (m y : Message) (x b : Box Lot) → n < length xs → n < length lots → HasTraded from (get_or ys n m) y (get_or after n x).value b.value → AreTradedTo (n + 1) from xs (set ys n y) lots (set after n b)
   one_more_traded m y x b lt lt' h = record {

@@ -16,7 +16,7 @@ use Rattle.amr_register.specs.Registers.{IsBoxAt, IsPlaced, cells_in, entry_in}
 use Rattle.amr_transfer.specs.Sums.{AreCoarsenable}
 use Rattle.amr_lots.specs.declared.lot.Correction.{Correction}
 use Rattle.amr_lots.specs.declared.lot.Lot.{Lot}
-use Rattle.amr_lots.specs.Runs.{HasOthersOf}
+use Rattle.amr_lots.specs.Runs.{with_patches}
 
 -- a covered cell of a patch gets the mass of its children, each other cell what it had with its entry, and all else of the patch stays
 pub record IsCorrected (fine : Masses) (entry : Cell → ℤ) (old new : Patch) : Type 0 where
@@ -63,7 +63,7 @@ AreCorrectedBy x before after = AllZip (IsCorrected (masses_in (finer_in x)) (en
 
 -- the patches of a lot were corrected by what was lent to it, and all else stayed
 pub record HasCorrected (lot after : Lot) : Type 0 where
-  pub others : HasOthersOf lot after
+  pub others : after ≡ with_patches after.patches lot
   pub patches : (x : Correction) → lot.correction ≡ Some x → AreCorrectedBy x lot.patches.items after.patches.items
 
 -- a lot with another correction, or none

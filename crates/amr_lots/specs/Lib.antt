@@ -1,6 +1,10 @@
 pub mod Lots
-pub mod Words
-pub mod Serving
+pub mod Filling
 pub mod Runs
 pub mod Correcting
 pub mod Delivery
+pub mod Serving
+pub mod Works
+pub mod Ready
+pub mod Stepping
+pub mod Looks

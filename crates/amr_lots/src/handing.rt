@@ -3,7 +3,7 @@
 ghost use Rattle.std.specs.Prelude.{◌≡◌, ◌<◌, ℕ, List, length, slice_index_or};
 ghost use Rattle.std.specs.List.{AllZip};
 ghost use Rattle.std.specs.Global.{Box as boxed};
-ghost use Rattle.amr_lots.specs.Runs.{HasAllButEdgesOf, HasOthersOf, KeepAllButBefore, KeepAllButEdges, KeepOthers, run, with_before};
+ghost use Rattle.amr_lots.specs.Runs.{KeepAllButBefore, KeepAllButEdges, KeepOthers, run, with_before, with_edges, with_patches};
 ghost use Rattle.amr_lots.specs.declared.lot.Lot.{Lot as lot};
 
 use crate::lot::Lot;
@@ -16,7 +16,7 @@ fn trade(patches: &mut [Patch], lot: &mut Box<Lot>)
     requires { length lot.old.value.patches.items ≡ length patches.old }
     ensures handed { lot.new.value.patches.items ≡ patches.old }
     ensures back { patches.new ≡ lot.old.value.patches.items }
-    ensures others { HasOthersOf lot.old.value lot.new.value }
+    ensures others { lot.new.value ≡ with_patches lot.new.value.patches lot.old.value }
 {
     patches.swap_with_slice(&mut lot.patches);
 }
@@ -45,7 +45,7 @@ fn trade_edges(edges: &mut [Vec<EdgeCell>], lot: &mut Box<Lot>)
     requires { length lot.old.value.edges.items ≡ length edges.old }
     ensures handed { lot.new.value.edges.items ≡ edges.old }
     ensures back { edges.new ≡ lot.old.value.edges.items }
-    ensures others { HasAllButEdgesOf lot.old.value lot.new.value }
+    ensures others { lot.new.value ≡ with_edges lot.new.value.edges lot.old.value }
 {
     edges.swap_with_slice(&mut lot.edges);
 }
@@ -53,7 +53,8 @@ fn trade_edges(edges: &mut [Vec<EdgeCell>], lot: &mut Box<Lot>)
 /// Exchanges the lists of register cells of a level, one for each patch, with those of its lots: lot `k` gets run `k` of them, in runs
 /// of this size, and the run gets what the lot had.
 pub fn exchange_edges(edges: &mut [Vec<EdgeCell>], lots: &mut [Box<Lot>], size: usize)
-    requires counts { (k : ℕ) (x : boxed lot) → k < length lots.old → length (slice_index_or lots.old k x).value.edges.items ≡ length (run size k edges.old) }
+    requires counts { (k : ℕ) (x : boxed lot) → k < length lots.old
+        → length (slice_index_or lots.old k x).value.edges.items ≡ length (run size k edges.old) }
     ensures handed { (k : ℕ) (x : boxed lot) → k < length lots.old → (slice_index_or lots.new k x).value.edges.items ≡ run size k edges.old }
     ensures back { (k : ℕ) (x : boxed lot) → k < length lots.old → run size k edges.new ≡ (slice_index_or lots.old k x).value.edges.items }
     ensures count { length edges.new ≡ length edges.old }

@@ -1,83 +1,23 @@
-//! What a worker does with the lot that it is handed.
+//! What is done with a lot in a phase without posts.
 
 ghost use Rattle.std.specs.Prelude.{◌+◌, ◌<◌, ◌^◌};
 ghost use Rattle.amr_patch.specs.Patches.{box, masses_in};
 ghost use Rattle.amr_register.specs.Registers.{IsBoxAt, entry_in};
 ghost use Rattle.amr_lots.specs.Correcting.{AreCorrectedBy, CanCorrect, FitsEntries, HasCorrected, IsCorrected, IsReady, MayCorrect, finer_in, register_in};
-ghost use Rattle.amr_lots.specs.Serving.{HasAdvanced, HasFoundValues, HasKeptMasses, HasMadeCorrection, HasMadeStep, HasSent};
-ghost use Rattle.amr_lots.specs.Serving.{HasSummed, MayAdvance, MayFindValues, MayKeepMasses, MaySend, MaySum};
+ghost use Rattle.amr_lots.specs.Serving.{HasKeptMasses, HasMadeCorrection, HasSent, IsServed, MayKeepMasses, MaySend, MayServe};
 
-use crate::lot::{Correction, Lot, Phase};
-use crate::steps::step_patches;
+use crate::lot::{Correction, Duty, Lot};
 use amr_alike::copy_patches;
-use amr_def::Problem;
-use amr_ghost::{fill_run, pack_messages};
+use amr_ghost::pack_messages;
 use amr_patch::Patch;
-use amr_pool::Service;
-use amr_register::find_nets_of_all;
-use amr_transfer::{cover_patch, pack_sums};
-use std::boxed::Box;
-
-/// The service of a pool that makes steps of a level. It packs the masses that other lots need. Before, where it is the step's turn, it
-/// fills the ghost cells by masses of the lot's own patches and by what others gave it, works out what flows into its register cells,
-/// and makes the patches' step. Where it is the turn of sums, it packs those of the children of the lot's patches. Where it is the turn of
-/// values, it works out those of the ghost cells that get no mass of a patch of the level. Where it is the turn of the correction after both
-/// steps of the next finer level, it gives its patches their entries and the sums of children, and packs the masses that other lots need
-/// then. Where it is the turn of the masses of before a step, it copies those of its patches.
-#[derive(Clone, Copy)]
-pub struct LotWork<'a> {
-    pub problem: &'a Problem,
-}
+use amr_transfer::cover_patch;
 
 /// Packs the masses that other lots need.
-fn send(lot: &mut Lot)
+pub(crate) fn send(lot: &mut Lot)
     requires { MaySend lot.old }
     ensures { HasSent lot.old lot.new }
 {
-    pack_messages(&lot.patches, &mut lot.outbox);
-}
-
-/// Fills the frames of a lot's patches, works out what flows into its register cells, and makes the patches' step.
-fn advance(p: &Problem, lot: &mut Lot)
-    requires { MayAdvance p.now lot.old }
-    ensures { HasAdvanced lot.old lot.new }
-{
-    fill_run(&mut lot.patches, &lot.outer, &lot.copies, &lot.inbox);
-    find_nets_of_all(p, lot.level, &lot.patches, &mut lot.edges);
-    step_patches(
-        p,
-        lot.level,
-        &mut lot.patches,
-        &lot.flows,
-        &mut lot.room,
-        &mut lot.totals,
-    );
-}
-
-/// Makes the step of a lot, and then packs the masses that other lots need for theirs.
-fn make_step(p: &Problem, lot: &mut Lot)
-    requires advances { MayAdvance p.now lot.old }
-    requires sends { MaySend lot.old }
-    ensures { HasMadeStep lot.old lot.new }
-{
-    advance(p, lot);
-    send(lot);
-}
-
-/// Packs the sums of children of a lot's patches.
-fn sum(lot: &mut Lot)
-    requires { MaySum lot.old }
-    ensures { HasSummed lot.old lot.new }
-{
-    pack_sums(&lot.patches, &mut lot.sums);
-}
-
-/// Works out the values of the ghost cells that get no mass of a patch of the level.
-fn find_values(p: &Problem, lot: &mut Lot)
-    requires { MayFindValues p.now lot.old }
-    ensures { HasFoundValues lot.old lot.new }
-{
-    lot.outer.find_lent_values(p, lot.level);
+    pack_messages(&lot.patches, &mut lot.workspace.outbox);
 }
 
 /// Corrects the patch that stands so many places after the first one: each register cell gets its entry, and then each covered cell the sum
@@ -134,22 +74,15 @@ fn keep_masses(lot: &mut Lot)
     copy_patches(&lot.patches, &mut lot.before);
 }
 
-impl Service<Box<Lot>> for LotWork<'_> {
-    ghost use Rattle.amr_lots.specs.Serving.{IsServed, MayServe};
-
-    ghost may_serve = { λ job lot. MayServe job.problem.now lot.value };
-
-    ghost serves = { λ old new. IsServed old.value new.value };
-
-    fn serve(&self, piece: &mut Box<Lot>) {
-        let lot = &mut **piece;
-        match lot.phase {
-            Phase::Send => send(lot),
-            Phase::Step => make_step(self.problem, lot),
-            Phase::Sum => sum(lot),
-            Phase::Value => find_values(self.problem, lot),
-            Phase::Correct => make_correction(lot),
-            Phase::Keep => keep_masses(lot),
-        }
+/// Does what is to be done with a lot in a phase without posts.
+pub fn serve(duty: Duty, lot: &mut Lot)
+    requires { MayServe duty lot.old }
+    ensures { IsServed duty lot.old lot.new }
+{
+    match duty {
+        Duty::Send => send(lot),
+        Duty::Correct => make_correction(lot),
+        Duty::Keep => keep_masses(lot),
+        Duty::Step => unreachable!(),
     }
 }

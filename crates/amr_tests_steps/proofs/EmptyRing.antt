@@ -21,7 +21,7 @@ use Rattle.amr_def.specs.Ledger.{below_zero, if_open}
 use Rattle.amr_laws.specs.Sides.{inflow_beside, is_uncovered, outflow_beside, x_beside, y_beside}
 use Rattle.amr_def.proofs.Totals.{number_small}
 use Rattle.amr_faces.proofs.Reciprocals.{share_within}
-use Rattle.amr_advance.specs.Shown.{LevelStepFits}
+use Rattle.amr_lots.specs.Lots.{LevelStepFits}
 
 no_mass : (t : Bool) (o : Option ℕ) → o ≡ cond t (Some 0) None → (d : ℕ) → d ≡ 0 → unwrap_or o d ≡ 0
 no_mass true o e d z = ap (λ (x : Option ℕ). unwrap_or x d) e

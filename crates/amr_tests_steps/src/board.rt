@@ -1,41 +1,34 @@
-//! One step of a level on a board, by a lone worker, and how far it got with each piece.
+//! One step of a level on a board, by a lone worker, and how far it got with each lot: here each patch is a lot of its own.
 
-ghost use Rattle.std.specs.Prelude.{◌≡◌, ◌∷◌, ◌++◌, [], ◌<◌, ◌^◌, ℕ, IfOk, IsSome, IsTrue, None, length, map};
-ghost use Rattle.std.specs.List.{All};
-ghost use Rattle.amr_box.specs.declared.Cell.{Cell};
-ghost use Rattle.amr_box.specs.Cells.{width};
-ghost use Rattle.amr_def.specs.Domain.{domain, in_domain};
-ghost use Rattle.amr_def.specs.Facts.{IsLevel};
-ghost use Rattle.amr_def.specs.State.{no_masses};
+ghost use Rattle.std.specs.Prelude.{◌≡◌, ◌<◌, ◌∷◌, [], ℕ, IfOk, List};
+ghost use Rattle.std.specs.Option.{option_copied};
+ghost use Rattle.std.specs.Global.{Box as boxed};
 ghost use Rattle.amr_patch.specs.Levels.{level_of};
-ghost use Rattle.amr_patch.specs.Patches.{box, masses_in};
-ghost use Rattle.amr_phase.specs.Plans.{IsPlan};
-ghost use Rattle.amr_board.specs.Piece.{AreNumbered, plan_of};
-ghost use Rattle.amr_patch.specs.Gaps.{HasStarts};
-ghost use Rattle.amr_layout.specs.Surroundings.{around};
-ghost use Rattle.amr_work.specs.Ready.{MayBegin};
-ghost use Rattle.amr_work.specs.Works.{adds_of_work, puts_of_work};
-ghost use Rattle.amr_advance.specs.Collected.{IsPieceOf};
-ghost use Rattle.amr_advance.specs.Layouts.{IsLayoutOf};
-ghost use Rattle.amr_advance.specs.Pieces.{AreRawPieces, AreWorkspaces, IsRawPiece, Serves};
-ghost use Rattle.amr_advance.specs.Shown.{AreShown};
+ghost use Rattle.amr_patch.specs.Orders.{IsOrderOf};
+ghost use Rattle.amr_layout.specs.Adds.{HasRegisterCells};
+ghost use Rattle.amr_board.specs.declared.board.Shape.{Shape as form};
+ghost use Rattle.amr_lots.specs.declared.lot.Basis.{Basis as ground_of};
+ghost use Rattle.amr_lots.specs.declared.lot.Duty.TheVariants.{Step};
+ghost use Rattle.amr_lots.specs.declared.lot.Lot.{Lot as lot};
+ghost use Rattle.amr_lots.specs.declared.lot.Work.{Work as piece};
+ghost use Rattle.amr_advance.specs.Outer.{IsSharedOf};
+ghost use Rattle.amr_advance.specs.Phases.{IsBasisOf, IsOpened, IsPieceOf};
+ghost use Rattle.amr_advance.specs.Steps.{MayStepLevel, around_of, coarser_masses};
 ghost use Rattle.amr_cycle.specs.Cycles.{HasStepToCome};
 
 use crate::cycle::masses_after_a_step;
-use amr_board::{Board, Ended, Shape};
+use amr_advance::{Given, Workers, is_one, layout_for, open_step, ready_lots};
+use amr_board::{Board, Ended, Seat};
 use amr_causes::NoMemory;
 use amr_def::Problem;
-use amr_flux::Room;
-use amr_ghost::fill_in_order;
-use amr_layout::{Layout, Surroundings, TaskLayout, plan};
-use amr_patch::{Level, Patch, Starts, order_of, starts_of};
+use amr_lots::{Basis, LevelWork, Stage, Work};
+use amr_patch::{Level, Order, Patch};
 use amr_samples::nine_columns;
 use amr_start::base;
-use amr_work::{Body, Stage, Work, Workspace, work_level};
-use amr_workers::OpenGate;
+use amr_workers::{OpenGate, run_phase};
 use std::alloc::Global;
-use std::boxed::Box;
 use std::snapshot::Snapshot;
+use std::sync::Wait;
 use std::test::Fail;
 use std::thread::Threads;
 
@@ -52,136 +45,85 @@ fn start_level(alloc: Global, p: &Problem) -> Result<Level, NoMemory>
     Ok(level)
 }
 
-/// The patches of level 0, with their frames filled.
-fn shown_patches(p: &Problem, mut level: Level) -> Vec<Patch>
-    requires { IsLevel p.now 0 (level_of level) }
-    ensures shown { AreShown p.now 0 no_masses result.items }
-    ensures masses { masses_in result.items ≡ (level_of level).masses }
+/// The board of the step of these patches, each of which is a lot, and its only seat.
+fn open_patches<R: Threads + Wait + Sync>(
+    rt: &R,
+    given: Given<'_>,
+    order: Order,
+    patches: &mut [Patch],
+) -> Result<(Board<Work>, Seat<Work>), NoMemory>
+    requires level { MayStepLevel (around_of given patches.old) (coarser_masses given) }
+    requires basis { IsBasisOf given.problem.now patches.old (option_copied given.old) given.basis.now }
+    requires order { IsOrderOf order patches.old }
+    requires cells { HasRegisterCells (around_of given patches.old) }
+    requires shared { IsSharedOf given.old given.shared }
+    ensures { IfOk result (λ r. (shape : form) × (xs : List (boxed lot))
+        × IsOpened given.entry.basis.now given.entry.level Step given.entry.problem.now shape xs r.0 r.1) }
 {
-    let order = level.order();
-    let mut patches = level.take_patches();
-    fill_in_order(p, 0, &mut patches, order, None, None);
-    patches
+    let mut kept = None;
+    let mut layout = layout_for(rt, given, order, patches, patches.len(), &mut kept)?;
+    ready_lots(given, patches, &mut layout.lots);
+    if is_one(&layout.lots) {
+        return Err(NoMemory);
+    }
+    let mut workers = Workers {
+        runtime: rt,
+        gate: &OpenGate,
+        count: 1,
+        team: None,
+    };
+    let mut edges = Vec::new(given.alloc);
+    let opened = open_step(&mut workers, given, patches, &mut edges, &mut layout.lots)?;
+    Ok(opened)
 }
 
-/// The same as `layout_of`, where the patches start there.
-fn layout_with<'a>(
-    alloc: Global,
-    p: &'a Problem,
-    patches: &'a [Patch],
-    starts: &'a Starts,
-) -> Result<Layout, NoMemory>
-    requires shown { AreShown p.now 0 no_masses patches.now }
-    requires whole { (c : Cell) → IsTrue (in_domain (domain p.now 0) c) → IsSome (masses_in patches.now c) }
-    requires starts { HasStarts patches.now starts.now }
-    ensures { IfOk result (IsLayoutOf (around p.now 0 patches.now [] None)) }
+/// What the first step of level 0 is made from.
+fn first_step<'a>(alloc: Global, p: &'a Problem, basis: &'a Basis) -> Given<'a>
+    ensures problem { result.problem.now ≡ p.now }
+    ensures level { result.level ≡ 0 }
+    ensures old { result.old ≡ None }
+    ensures shared { result.shared ≡ None }
+    ensures finer { result.finer ≡ None }
+    ensures cells { result.cells.now ≡ [] }
+    ensures basis { result.basis.now ≡ basis.now }
 {
-    let surroundings = Surroundings {
+    Given {
+        alloc,
         problem: p,
         level: 0,
-        patches,
-        order: order_of(patches),
-        starts,
-        cells: &[],
+        old: None,
+        shared: None,
         finer: None,
-    };
-    let layout = plan(alloc, surroundings)?;
-    Ok(layout)
-}
-
-/// What each task of these patches puts, reads and adds.
-fn layout_of(alloc: Global, p: &Problem, patches: &[Patch]) -> Result<Layout, NoMemory>
-    requires shown { AreShown p.now 0 no_masses patches.now }
-    requires whole { (c : Cell) → IsTrue (in_domain (domain p.now 0) c) → IsSome (masses_in patches.now c) }
-    ensures { IfOk result (IsLayoutOf (around p.now 0 patches.now [] None)) }
-{
-    let starts = starts_of(alloc, patches)?;
-    layout_with(alloc, p, patches, &starts)
-}
-
-/// The raw piece of a task.
-fn piece_of(
-    alloc: Global,
-    p: &Problem,
-    task: u32,
-    patch: Patch,
-    layout: TaskLayout,
-) -> Result<Work, NoMemory>
-    ensures raw { IfOk result (λ w. IsRawPiece p.now 0 task patch w.body.value.workspace w) }
-    ensures serves { IfOk result (λ w. Serves (width (box patch)) layout w.body.value.workspace) }
-{
-    let sizes = vec![in alloc; 0u32; layout.border.len()]?;
-    let room = Room::make(alloc, patch.bx().width())?;
-    let workspace = Workspace {
-        layout,
-        sizes,
-        room,
-    };
-    let body = Box::new(alloc, Body { patch, workspace })?;
-    Ok(Work {
-        task,
-        level: 0,
-        stage: Stage::Raw,
-        body,
-        problem: Snapshot::of(p),
-    })
-}
-
-/// Takes the last patch.
-fn last_of(patches: &mut Vec<Patch>) -> Patch
-    requires { 0 < length patches.old.items }
-    ensures { patches.old.items ≡ patches.new.items ++ result ∷ [] }
-{
-    patches.pop().unwrap()
-}
-
-/// The raw pieces of these patches.
-fn pieces_of(
-    alloc: Global,
-    p: &Problem,
-    mut patches: Vec<Patch>,
-    mut tasks: Vec<TaskLayout>,
-) -> Result<Vec<Work>, NoMemory>
-    requires count { length tasks.items ≡ length patches.items }
-    requires few { length patches.items < 2 ^ 32 }
-    ensures raw { IfOk result (λ ws. AreRawPieces p.now 0 patches.items (map (λ w. w.body.value.workspace) ws.items) ws.items) }
-    ensures served { IfOk result (λ ws. AreWorkspaces patches.items tasks.items (map (λ w. w.body.value.workspace) ws.items)) }
-{
-    let mut pieces = Vec::with_capacity(alloc, tasks.len())?;
-    'tasks: while let Some(layout) = tasks.pop() {
-        let task = tasks.len();
-        let patch = last_of(&mut patches);
-        pieces.push_reserved(piece_of(alloc, p, task as u32, patch, layout)?);
+        cells: &[],
+        basis,
     }
-    pieces.as_mut_slice().reverse();
-    Ok(pieces)
 }
 
-/// Has one worker do all tasks of a board of these pieces, and closes it.
-fn closed_board<R: Threads + Sync>(
+/// The board of the step of this level 0, and its only seat.
+fn open_level<R: Threads + Wait + Sync>(
     rt: &R,
     alloc: Global,
     p: &Problem,
-    shape: Shape,
-    pieces: Vec<Work>,
-) -> Result<Ended<Work>, NoMemory>
-    requires plan { IsPlan (plan_of puts_of_work adds_of_work shape.places shape.words pieces.items) }
-    requires numbered { AreNumbered (λ w. w.task) pieces.items }
-    requires few { length pieces.items < 2 ^ 32 }
-    requires begin { All (MayBegin p.now (plan_of puts_of_work adds_of_work shape.places shape.words pieces.items)) pieces.items }
-    ensures { IfOk result (λ o. (t : ℕ) → t < length pieces.items → (w : Work) × IsPieceOf o t w) }
+    mut level: Level,
+) -> Result<(Board<Work>, Seat<Work>), NoMemory>
+    requires { HasStepToCome p.now (level_of level ∷ []) }
+    ensures { IfOk result (λ r. (basis : ground_of) × (shape : form) × (xs : List (boxed lot)) × IsOpened basis 0 Step p.now shape xs r.0 r.1) }
 {
-    let (board, seat) = match Board::make(alloc, shape, pieces) {
-        Ok(made) => made,
-        Err(_) => return Err(NoMemory),
+    let order = level.order();
+    let mut patches = level.take_patches();
+    let basis = Basis {
+        problem: Snapshot::of(p),
+        patches: Snapshot::of(&patches),
+        coarser: None,
     };
-    let seat = work_level(rt, p, &board, seat, &OpenGate, 1);
-    Ok(board.close(seat))
+    let given = first_step(alloc, p, &basis);
+    let opened = open_patches(rt, given, order, &mut patches)?;
+    Ok(opened)
 }
 
 /// How far each of so many tasks got.
 fn stages(alloc: Global, mut ended: Ended<Work>, count: u32) -> Result<Vec<Stage>, NoMemory>
-    requires { (t : ℕ) → t < count → (w : Work) × IsPieceOf ended t w }
+    requires { (t : ℕ) → t < count → (w : piece) × IsPieceOf ended t w }
 {
     let mut all = Vec::new(alloc);
     for task in 0..count {
@@ -191,8 +133,8 @@ fn stages(alloc: Global, mut ended: Ended<Work>, count: u32) -> Result<Vec<Stage
     Ok(all)
 }
 
-/// How far one worker gets with each patch of level 0 in the first step of a problem, which has at most nine.
-fn stages_after<R: Threads + Sync>(
+/// How far one worker gets with each patch of level 0 in the first step of a problem.
+fn stages_after<R: Threads + Wait + Sync>(
     rt: &R,
     alloc: Global,
     p: &Problem,
@@ -200,19 +142,10 @@ fn stages_after<R: Threads + Sync>(
     requires { 0 < p.now.steps }
 {
     let level = start_level(alloc, p)?;
-    let patches = shown_patches(p, level);
-    if patches.len() > 9 {
-        return Err(NoMemory);
-    }
-    let count = patches.len() as u32;
-    let layout = layout_of(alloc, p, &patches)?;
-    let shape = Shape {
-        places: layout.places,
-        words: layout.words,
-    };
-    let pieces = pieces_of(alloc, p, patches, layout.tasks)?;
-    let ended = closed_board(rt, alloc, p, shape, pieces)?;
-    stages(alloc, ended, count)
+    let (board, seat) = open_level(rt, alloc, p, level)?;
+    let count = board.tasks();
+    let last = run_phase(rt, &board, seat, &LevelWork { problem: p }, &OpenGate, 1);
+    stages(alloc, board.close(last), count)
 }
 
 /// The tasks are drawn in order, 0 to 2. Each reads what the patch at its high side puts, which for the last one is the first. So the

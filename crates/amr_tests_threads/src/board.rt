@@ -104,13 +104,7 @@ impl Gate for RollCall {
 
 // A task is worked on once, after it was entered and before it is left.
 impl Job<Counted> for RollCall {
-    ghost use Rattle.std.specs.Prelude.{◌≡◌, ◌+◌, ◌<◌};
-
     ghost ready = { λ _ _ _. Unit {0} };
-
-    ghost may_complete = { λ _ _ p. p.task < 5 };
-
-    ghost completes = { λ p q. q ≡ record { task = p.task + 5; done = p.done } };
 
     fn work(
         &self,
@@ -126,13 +120,9 @@ impl Job<Counted> for RollCall {
         piece.done = true;
         piece
     }
-
-    fn complete(&self, _faces: &[u64], piece: &mut Counted) {
-        piece.task += 5;
-    }
 }
 
-pub(crate) fn five_pieces(alloc: Global) -> Result<Vec<Counted>, AllocError>
+fn five_pieces(alloc: Global) -> Result<Vec<Counted>, AllocError>
     ensures { IfOk result (λ v. v.items
         ≡ record { task = 0; done = false } ∷ record { task = 1; done = false } ∷ record { task = 2; done = false } ∷ record { task = 3; done = false }
         ∷ record { task = 4; done = false } ∷ []) }

@@ -1,4 +1,4 @@
-//! Tests of what threads share, by public items alone: mailboxes, pools of workers, workers on a board, the core of a board, and
+//! Tests of what threads share, by public items alone: mailboxes, workers on a board, the core of a board, and
 //! letters between ranks.
 //! They stand here and not beside what they test, so that no crate is proved a second time with its tests.
 #![tactic(auto)]
@@ -9,8 +9,6 @@ mod board;
 mod mailbox;
 #[cfg(test)]
 mod phase;
-#[cfg(test)]
-mod pool;
 #[cfg(test)]
 mod ranks;
 #[cfg(test)]

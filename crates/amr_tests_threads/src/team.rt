@@ -5,7 +5,7 @@ ghost use Rattle.std.specs.List.{All};
 ghost use Rattle.std.specs.Arc.{arc_value};
 ghost use Rattle.amr_workers.specs.Helpers.{IsRecruit};
 
-use crate::board::{Counted, check, five_pieces, opened};
+use crate::board::{Counted, check, opened};
 use amr_board::{Board, Seat};
 use amr_samples::Turnstile;
 use amr_workers::{Job, Team, serve_all};
@@ -20,13 +20,7 @@ use std::thread::{Threads, join_mut};
 struct Poster;
 
 impl Job<Counted> for Poster {
-    ghost use Rattle.std.specs.Prelude.{◌≡◌, ◌+◌, ◌<◌};
-
     ghost ready = { λ _ _ _. Unit {0} };
-
-    ghost may_complete = { λ _ _ p. p.task < 5 };
-
-    ghost completes = { λ p q. q ≡ record { task = p.task + 5; done = p.done } };
 
     fn work(
         &self,
@@ -39,14 +33,10 @@ impl Job<Counted> for Poster {
         piece.done = true;
         piece
     }
-
-    fn complete(&self, _faces: &[u64], piece: &mut Counted) {
-        piece.task += 5;
-    }
 }
 
-// Runs three boards one after another, then has the five pieces completed. They come back in order.
-fn run_and_complete<R: Wait + Abort>(
+// Runs three boards one after another.
+fn run_three<R: Wait + Abort>(
     rt: &R,
     alloc: Global,
     team: &mut Team<'_, Counted, Poster, Turnstile>,
@@ -56,13 +46,10 @@ fn run_and_complete<R: Wait + Abort>(
         let (board, seat) = opened(rt, alloc)?;
         check(rt, team.run_phase(rt, alloc, board, seat));
     }
-    let mut pieces = five_pieces(alloc)?;
-    drop(team.complete_all(rt, alloc, Vec::new(alloc), &mut pieces));
-    assert!(rt; pieces.iter().map(|piece| piece.task).eq(5..10));
     Ok(())
 }
 
-// Has a team of three run boards and complete pieces, and lets its kept workers go.
+// Has a team of three run boards, and lets its kept workers go.
 fn conduct<R: Threads + Wait + Abort + Sync>(
     rt: &R,
     alloc: Global,
@@ -76,7 +63,7 @@ fn conduct<R: Threads + Wait + Abort + Sync>(
             requires { All (λ r. IsRecruit poster.now gate.now (arc_value r.mailbox) r.worker r.number) recruits.items }
         { serve_all(rt, &mut recruits, poster, gate) },
         &mut || {
-            let done = run_and_complete(rt, alloc, &mut team);
+            let done = run_three(rt, alloc, &mut team);
             drop(team.dismiss());
             done
         },

@@ -1,3 +1,4 @@
 pub mod Seats
 pub mod Loans
-pub mod Runs
+pub mod Lists
+pub mod Orders

@@ -1,7 +1,7 @@
 -- The kept workers of a team.
 use Rattle.std.specs.Prelude.{ℕ, ◌≡◌, ◌<◌}
 use Rattle.amr_board.specs.BoardOf.{BoardOf}
-use Rattle.amr_mailbox.specs.declared.view.Turn.TheVariants.{Busy, Free}
+use Rattle.amr_mailbox.specs.declared.view.Turn.TheVariants.{Free}
 use Rattle.amr_mailbox.specs.MailboxOf.{MailboxOf, EndOf, end_of}
 use Rattle.amr_workers.specs.declared.order.About.{About}
 use Rattle.amr_workers.specs.Orders.{Admits}
@@ -20,15 +20,6 @@ pub record IsRecruit {O J G : Type 0} (job : J) (gate : G) (mailbox : MailboxOf 
   pub gate_is : mailbox.key.gate.value ≡ gate
   pub number_is : mailbox.key.number ≡ number
 
--- a worker that was asked something of this kind
-abbrev pub IsAskedTo : {D O K : Type 0} → (D → O) → MailboxOf K → EndOf O K → Type 0
-IsAskedTo {D} kind mailbox asker = (order : D) × (asker ≡ end_of mailbox (Busy (kind order)))
-
 -- the worker of a mailbox is admitted to each task of a board
 abbrev pub AdmitsWorker : {P J G : Type 0} → (ℕ → ℕ → Type 0) → MailboxOf (About J G) → BoardOf P → Type 0
 AdmitsWorker admits mailbox board = Admits (admits mailbox.key.number) board
-
--- a kept worker of this job that waits for an order
-pub record IsWaiting {O J G : Type 0} (job : J) (mailbox : MailboxOf (About J G)) (asker : EndOf O (About J G)) : Type 0 where
-  pub waits : asker ≡ end_of mailbox Free
-  pub job_is : mailbox.key.job.value ≡ job

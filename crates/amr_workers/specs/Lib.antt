@@ -2,3 +2,4 @@ pub mod Orders
 pub mod TeamOf
 pub mod Helpers
 pub mod Shares
+pub mod Asked

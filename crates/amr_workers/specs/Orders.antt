@@ -1,18 +1,14 @@
 -- What a kept worker is asked, and what it answers.
-use Rattle.std.specs.Prelude.{ℕ, ◌≡◌, ◌<◌, true, false, List, length, Option}
+use Rattle.std.specs.Prelude.{ℕ, ◌≡◌, ◌<◌, true, false, length, Option}
 use Rattle.std.specs.Arc.{arc_value}
-use Rattle.std.specs.List.{All, AllZip}
 use mathlib.Core.Option as lookup
 use lib.ListN.{get_elem?}
 use Rattle.amr_phase.specs.Plans.{PlanOf}
 use Rattle.atomic_table.specs.declared.shared.Seat.{Seat}
 use Rattle.amr_board.specs.declared.view.View.{View}
 use Rattle.amr_board.specs.BoardOf.{BoardOf, IsSeatOf, view}
-use Rattle.amr_board.specs.Views.{HoldsNone}
-use Rattle.amr_workers.specs.declared.order.Answer.{Answer}
-use Rattle.amr_workers.specs.declared.order.Answer.TheVariants.{Completed, Drawn}
-use Rattle.amr_workers.specs.declared.order.Order.{Order}
-use Rattle.amr_workers.specs.declared.order.Order.TheVariants.{Complete, Draw}
+use Rattle.amr_board.specs.Views.{HoldsNone, IsHolding, current}
+use Rattle.amr_workers.specs.declared.order.DrawOrder.{DrawOrder}
 
 module _ {P : Type 0} where
   -- a seat with which tasks of this board may be drawn
@@ -36,14 +32,20 @@ module _ {P : Type 0} where
   abbrev pub Admits : (ℕ → Type 0) → BoardOf P → Type 0
   Admits admits board = (task : ℕ) → task < length board.plan.tasks → admits task
 
-  -- tasks may be drawn, for which the job is ready and to which the gate admits; or each piece may be completed
-  abbrev pub MayAsk : (PlanOf → P → Type 0) → (List ℕ → P → Type 0) → (ℕ → Type 0) → Order P → Type 0
-  MayAsk ready may_complete admits (Draw o) = MayDraw (arc_value o.board) o.seat × IsReady ready (arc_value o.board) × Admits admits (arc_value o.board)
-  MayAsk ready may_complete admits (Complete o) = All (may_complete (arc_value o.faces).items) o.pieces.items
+  -- the seat has drawn the task, of which no post is made, and not taken it, and may draw further ones
+  pub record HasDrawnOne (board : BoardOf P) (task : ℕ) (seat : Seat (Option P) (View P)) : Type 0 where
+    pub seat_of : IsSeatOf board seat
+    pub holding : IsHolding (view seat) task false
+    pub unposted : ((current (view seat)).puts ≡ 0) × ((current (view seat)).adds ≡ 0)
+    pub here : (view seat).past ≡ false
+    pub below : task < length board.plan.tasks
 
-  -- what was asked is done
-  abbrev pub Serves : (P → P → Type 0) → Order P → Answer P → Type 0
-  Serves completes (Draw o) (Drawn seat) = HasDrawn (arc_value o.board) (view o.seat).share seat
-  Serves completes (Draw o) (Completed pieces) = ⊥
-  Serves completes (Complete o) (Drawn seat) = ⊥
-  Serves completes (Complete o) (Completed pieces) = AllZip completes o.pieces.items pieces.items
+  -- an order: the job is ready for the tasks, and the gate admits to them
+  pub record MayAsk (ready : PlanOf → P → Type 0) (admits : ℕ → Type 0) (order : DrawOrder P) : Type 0 where
+    pub drawn : HasDrawnOne (arc_value order.board) order.task order.seat
+    pub ready_is : IsReady ready (arc_value order.board)
+    pub admitted : Admits admits (arc_value order.board)
+
+  -- this is the seat of the order, which found no task left
+  abbrev pub Serves : DrawOrder P → Seat (Option P) (View P) → Type 0
+  Serves order seat = HasDrawn (arc_value order.board) (view order.seat).share seat

@@ -7,12 +7,6 @@ pub trait Gate {
     // The numbers of a worker and a task that it may be called with.
     ghost admits: { Self → ℕ → ℕ → Type 0 };
 
-    /// Whether it may hold a worker until another one calls it. One that never does need not be called: work may then be
-    /// shared out in advance, with no tasks to draw.
-    fn holds(&self) -> bool {
-        true
-    }
-
     /// Before the worker takes the piece of the task that it drew.
     fn enter(&self, worker: u32, task: u32)
         requires { admits self.now worker task };
@@ -28,10 +22,6 @@ pub struct OpenGate;
 
 impl Gate for OpenGate {
     ghost admits = { λ _ _ _. Unit {0} };
-
-    fn holds(&self) -> bool {
-        false
-    }
 
     fn enter(&self, _worker: u32, _task: u32) {}
 

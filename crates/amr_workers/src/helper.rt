@@ -1,20 +1,15 @@
 //! A kept worker: as its team has it, and before it begins.
-ghost use Rattle.std.specs.Prelude.{◌≡◌, ◌<◌, ℕ, IfOk};
-ghost use Rattle.std.specs.List.{AllZip};
+ghost use Rattle.std.specs.Prelude.{◌≡◌, ◌<◌, ℕ, IfOk, MatchOption};
 ghost use Rattle.std.specs.Arc.{arc_value};
-ghost use Rattle.amr_board.specs.BoardOf.{view};
 ghost use Rattle.amr_mailbox.specs.declared.view.Turn.TheVariants.{Free, Busy, Over};
 ghost use Rattle.amr_mailbox.specs.MailboxOf.{end_of, IsBusy};
-ghost use Rattle.amr_workers.specs.declared.order.CompletionOrder.{CompletionOrder};
 ghost use Rattle.amr_workers.specs.declared.order.DrawOrder.{DrawOrder};
-ghost use Rattle.amr_workers.specs.declared.order.Order.TheVariants.{Complete, Draw};
-ghost use Rattle.amr_workers.specs.Helpers.{IsAskedTo, IsHelper, IsRecruit};
-ghost use Rattle.amr_workers.specs.Orders.{HasDrawn, MayAsk};
+ghost use Rattle.amr_workers.specs.Helpers.{IsHelper, IsRecruit};
+ghost use Rattle.amr_workers.specs.Orders.{MayAsk, Serves};
 
 use crate::gate::Gate;
 use crate::job::Job;
-use crate::kept::{OrderAsker, OrderBox, OrderWorker};
-use crate::order::{About, Answer, Order};
+use crate::order::{About, DrawOrder, OrderAsker, OrderBox, OrderWorker};
 use amr_board::{Piece, Seat};
 use std::alloc::{AllocError, Global};
 use std::snapshot::Snapshot;
@@ -61,38 +56,39 @@ pub(crate) fn new_worker<P: Piece, J: Job<P>, G: Gate>(
 }
 
 impl<P: Piece, J: Job<P>, G: Gate> Helper<P, J, G> {
+    /// Whether the worker has begun.
+    pub(crate) fn is_there(&self) -> bool {
+        let there = self.mailbox.is_attended();
+        there
+    }
+
     /// Posts an order.
-    pub(crate) fn post(&mut self, order: Order<P>)
+    pub(crate) fn post(&mut self, order: DrawOrder<P>)
         requires free { self.old.asker ≡ end_of (arc_value self.old.mailbox) Free }
-        requires may { MayAsk (J.ready (arc_value self.old.mailbox).key.job.value) (J.may_complete (arc_value self.old.mailbox).key.job.value)
+        requires may { MayAsk (J.ready (arc_value self.old.mailbox).key.job.value)
             (G.admits (arc_value self.old.mailbox).key.gate.value (arc_value self.old.mailbox).key.number) order }
         ensures { self.new ≡ record { mailbox = self.old.mailbox; asker = end_of (arc_value self.old.mailbox) (Busy order) } }
     {
         self.mailbox.post(&mut self.asker, order);
     }
 
-    /// Waits for the seat of an order to draw.
-    pub(crate) fn collect_seat(&mut self, rt: &impl Wait) -> Seat<P>
-        requires asked { IsAskedTo Draw (arc_value self.old.mailbox) self.old.asker }
-        ensures serves { (order : DrawOrder P) → self.old.asker.turn ≡ Busy (Draw order) → HasDrawn (arc_value order.board) (view order.seat).share result }
-        ensures free { self.new ≡ record { mailbox = self.old.mailbox; asker = end_of (arc_value self.old.mailbox) Free } }
+    /// Takes the order back where the worker has not begun it.
+    pub(crate) fn take_back(&mut self) -> Option<DrawOrder<P>>
+        requires asked { IsBusy (arc_value self.old.mailbox) self.old.asker }
+        ensures back { MatchOption result (self.new ≡ self.old) (λ order. self.old.asker.turn ≡ Busy order) }
+        ensures free { MatchOption result (self.new ≡ self.old)
+            (λ _. self.new ≡ record { mailbox = self.old.mailbox; asker = end_of (arc_value self.old.mailbox) Free }) }
     {
-        let Answer::Drawn(seat) = self.mailbox.collect(rt, &mut self.asker) else {
-            unreachable!()
-        };
-        seat
+        self.mailbox.take_back(&mut self.asker)
     }
 
-    /// Waits for the pieces of an order to complete them.
-    pub(crate) fn collect_pieces(&mut self, rt: &impl Wait) -> Vec<P>
-        requires asked { IsAskedTo Complete (arc_value self.old.mailbox) self.old.asker }
-        ensures serves { (order : CompletionOrder P) → self.old.asker.turn ≡ Busy (Complete order) → AllZip J.completes order.pieces.items result.items }
+    /// Waits for the seat of an order.
+    pub(crate) fn collect(&mut self, rt: &impl Wait) -> Seat<P>
+        requires asked { IsBusy (arc_value self.old.mailbox) self.old.asker }
+        ensures serves { (order : DrawOrder P) → self.old.asker.turn ≡ Busy order → Serves order result }
         ensures free { self.new ≡ record { mailbox = self.old.mailbox; asker = end_of (arc_value self.old.mailbox) Free } }
     {
-        let Answer::Completed(pieces) = self.mailbox.collect(rt, &mut self.asker) else {
-            unreachable!()
-        };
-        pieces
+        self.mailbox.collect(rt, &mut self.asker)
     }
 
     /// Lets the worker go.
@@ -107,7 +103,7 @@ impl<P: Piece, J: Job<P>, G: Gate> Helper<P, J, G> {
     pub(crate) fn share<T>(&self, whole: &Arc<T, Global>) -> Result<Arc<T, Global>, AllocError>
         ensures { IfOk result (λ b. arc_value b ≡ arc_value whole.now) }
     {
-        if !self.mailbox.is_attended() {
+        if !self.is_there() {
             return Err(AllocError);
         }
         Arc::try_clone(whole)

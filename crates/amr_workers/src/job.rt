@@ -1,5 +1,5 @@
 //! What is done with the piece of a task.
-ghost use Rattle.std.specs.Prelude.{◌≡◌, ℕ, List};
+ghost use Rattle.std.specs.Prelude.{◌≡◌};
 ghost use mathlib.Core.Option.{some};
 ghost use lib.ListN.{get_elem?};
 ghost use Rattle.amr_phase.specs.Plans.{PlanOf, puts_of, adds_of};
@@ -12,12 +12,6 @@ use amr_board::{Board, Piece, Seat};
 pub trait Job<P: Piece> {
     // The condition on the job, the board's plan and a piece as handed in.
     ghost ready: { Self → PlanOf → P → Type 0 };
-
-    // The condition on the job, what stands at the places of a closed board, and a piece that was given back.
-    ghost may_complete: { Self → List ℕ → P → Type 0 };
-
-    // What a piece that was given back becomes.
-    ghost completes: { P → P → Type 0 };
 
     /// Makes the posts of the task that the seat holds, and gives a piece that the task's piece may become. The seat
     /// still holds the task; its share, its past and its other tasks stay.
@@ -32,10 +26,4 @@ pub trait Job<P: Piece> {
         ensures seat { IsSeatOf board.now seat.new }
         ensures worked { HasWorked board.now.plan (view seat.old) (view seat.new) }
         ensures next { P.becomes piece result };
-
-    /// Completes a piece that was given back, by what stands at the places of the closed board: 0 where nothing was put, else
-    /// what was put plus 1.
-    fn complete(&self, faces: &[u64], piece: &mut P)
-        requires may { may_complete self.now faces.now piece.old }
-        ensures completes { completes piece.old piece.new };
 }

@@ -1,39 +1,28 @@
 //! Workers that are kept from one phase to the next.
 ghost use Rattle.std.specs.Prelude.{◌≡◌, ◌≤◌, ◌<◌};
-ghost use Rattle.std.specs.List.{All, AllZip};
+ghost use Rattle.std.specs.List.{All};
 ghost use Rattle.std.specs.Arc.{arc_value};
-ghost use Rattle.amr_board.specs.BoardOf.{view};
-ghost use Rattle.amr_workers.specs.Orders.{MayDraw, HasDrawn, IsReady, Admits, MayAsk, Serves};
+ghost use Rattle.amr_workers.specs.Orders.{MayAsk, Serves};
 ghost use Rattle.amr_mailbox.specs.declared.view.Turn.TheVariants.{Free, Over};
 ghost use Rattle.amr_mailbox.specs.MailboxOf.{end_of};
 ghost use Rattle.amr_workers.specs.Helpers.{IsRecruit};
 
-use crate::completing::complete_each;
 use crate::gate::Gate;
 use crate::helper::Recruit;
 use crate::job::Job;
-use crate::order::{About, Answer, CompletionOrder, DrawOrder, Duty, Order};
-use crate::phase::draw_all;
+use crate::order::{DrawOrder, OrderBox, OrderWorker};
+use crate::phase::{draw_all, work_on};
 use amr_board::{Piece, Seat};
-use amr_mailbox::{Asker, Mailbox, Worker};
 use std::sync::Wait;
 use std::thread::{Threads, available_parallelism, for_each_mut};
 
 // How many looks for an order a kept worker makes before it sleeps, where each worker may have a processor of its own: they
-// take some 150 microseconds.
-const PATIENT: u32 = 1 << 15;
+// take some 2.5 milliseconds. What a caller does between two phases mostly takes less. (The threads of LLVM's OpenMP
+// wait 200 milliseconds before they sleep.)
+const PATIENT: u32 = 1 << 19;
 
 // And where there are more workers than processors.
 const HASTY: u32 = 1 << 11;
-
-/// Where the orders of a kept worker lie.
-pub type OrderBox<P, J, G> = Mailbox<Order<P>, Answer<P>, About<J, G>, Duty<P, J, G>>;
-
-/// The end of a mailbox that a team asks by.
-pub type OrderAsker<P, J, G> = Asker<Order<P>, Answer<P>, About<J, G>>;
-
-/// The end of a mailbox that a kept worker serves.
-pub type OrderWorker<P, J, G> = Worker<Order<P>, Answer<P>, About<J, G>>;
 
 /// Has each of these kept workers serve until it is dismissed, in a thread of its own. Where no thread can be had, a
 /// worker begins after another one's end. Nothing is asked of it before.
@@ -108,52 +97,28 @@ fn serve<W: Wait, P: Piece, J: Job<P>, G: Gate>(
         let Some(order) = mailbox.next(rt, worker, server.looks) else {
             return;
         };
-        mailbox.answer(worker, carry_out(order, job, gate, server.number));
+        mailbox.answer(worker, draw(order, job, gate, server.number));
     }
     unreachable!()
 }
 
-// Does what is asked.
-fn carry_out<P: Piece, J: Job<P>, G: Gate>(
-    order: Order<P>,
-    job: &J,
-    gate: &G,
-    number: u32,
-) -> Answer<P>
-    requires { MayAsk (J.ready job.now) (J.may_complete job.now) (G.admits gate.now number) order }
-    ensures { Serves J.completes order result }
-{
-    match order {
-        Order::Draw(order) => Answer::Drawn(draw(order, job, gate, number)),
-        Order::Complete(order) => Answer::Completed(complete(order, job)),
-    }
-}
-
-// Draws the tasks of a board, and lets it go.
-fn draw<P: Piece, J: Job<P>, G: Gate>(
+// Works on the task of an order, draws further ones until none is left, and lets the board go.
+pub(crate) fn draw<P: Piece, J: Job<P>, G: Gate>(
     order: DrawOrder<P>,
     job: &J,
     gate: &G,
     number: u32,
 ) -> Seat<P>
-    requires seat { MayDraw (arc_value order.board) order.seat }
-    requires ready { IsReady (J.ready job.now) (arc_value order.board) }
-    requires gate { Admits (G.admits gate.now number) (arc_value order.board) }
-    ensures { HasDrawn (arc_value order.board) (view order.seat).share result }
+    requires { MayAsk (J.ready job.now) (G.admits gate.now number) order }
+    ensures { Serves order result }
 {
-    let DrawOrder { board, mut seat } = order;
+    let DrawOrder {
+        board,
+        mut seat,
+        task,
+    } = order;
+    work_on(&board, &mut seat, task, job, gate, number);
     draw_all(&board, &mut seat, job, gate, number);
     drop(board);
     seat
-}
-
-// Completes pieces, and lets what stands at the places of their board go.
-fn complete<P: Piece, J: Job<P>>(order: CompletionOrder<P>, job: &J) -> Vec<P>
-    requires { All (J.may_complete job.now (arc_value order.faces).items) order.pieces.items }
-    ensures { AllZip J.completes order.pieces.items result.items }
-{
-    let CompletionOrder { faces, mut pieces } = order;
-    complete_each(job, &faces, &mut pieces);
-    drop(faces);
-    pieces
 }

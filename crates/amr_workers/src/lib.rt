@@ -1,21 +1,23 @@
-//! Workers in threads that draw the tasks of a board until none is left, and complete its pieces once it is closed. (profile)
+//! Workers in threads that draw the tasks of a board until none is left. (profile)
 #![tactic(auto)]
 
-mod completing;
+mod asked;
 mod gate;
 mod helper;
 mod job;
 mod kept;
 mod order;
 mod phase;
+mod shared;
 mod shares;
 mod team;
 
-pub use completing::complete_each;
+pub use asked::Asked;
 pub use gate::{Gate, OpenGate};
 pub use helper::{Helper, Recruit};
 pub use job::Job;
-pub use kept::{OrderAsker, OrderBox, OrderWorker, serve_all};
-pub use order::{About, Answer, CompletionOrder, DrawOrder, Duty, Order};
+pub use kept::serve_all;
+pub use order::{About, DrawOrder, Duty, OrderAsker, OrderBox, OrderWorker};
 pub use phase::run_phase;
+pub use shared::sole;
 pub use team::Team;

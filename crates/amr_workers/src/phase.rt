@@ -3,7 +3,7 @@ ghost use Rattle.std.specs.Prelude.{◌≡◌, ℕ, ◌+◌, ◌<◌, ◌≤◌,
 ghost use mathlib.Core.Option.{some};
 ghost use lib.ListN.{get_elem?};
 ghost use Rattle.std.specs.Thread.{IsSync};
-ghost use Rattle.amr_board.specs.Views.{HoldsNone};
+ghost use Rattle.amr_board.specs.Views.{HoldsNone, IsHolding, current};
 ghost use Rattle.amr_board.specs.BoardOf.{IsSeatOf, view};
 
 use crate::gate::Gate;
@@ -105,6 +105,33 @@ fn run_workers<R: Threads + Sync, P: Piece + Send, J: Job<P> + Sync, G: Gate + S
     one
 }
 
+// Works on the task that the seat has drawn.
+pub(crate) fn work_on<P: Piece, J: Job<P>, G: Gate>(
+    board: &Board<P>,
+    seat: &mut Seat<P>,
+    task: u32,
+    job: &J,
+    gate: &G,
+    worker: u32,
+)
+    requires seat { IsSeatOf board.now seat.old }
+    requires holding { IsHolding (view seat.old) task false }
+    requires unposted { ((current (view seat.old)).puts ≡ 0) × ((current (view seat.old)).adds ≡ 0) }
+    requires ready { (t : ℕ) (p : P) → get_elem? board.now.pieces t ≡ some p → J.ready job.now board.now.plan p }
+    requires gate { G.admits gate.now worker task }
+    ensures seat { IsSeatOf board.now seat.new }
+    ensures none { HoldsNone (view seat.new) }
+    ensures past { (view seat.new).past ≡ (view seat.old).past }
+    ensures share { (view seat.new).share ≡ (view seat.old).share }
+    ensures count { length (view seat.new).tasks ≡ length (view seat.old).tasks }
+{
+    gate.enter(worker, task);
+    let piece = board.take(seat, task);
+    let next = job.work(board, seat, piece);
+    board.give(seat, task, next);
+    gate.leave(worker, task);
+}
+
 // Draws tasks until none is left.
 pub(crate) fn draw_all<P: Piece, J: Job<P>, G: Gate>(
     board: &Board<P>,
@@ -127,10 +154,6 @@ pub(crate) fn draw_all<P: Piece, J: Job<P>, G: Gate>(
         let Some(task) = board.draw(seat) else {
             return;
         };
-        gate.enter(worker, task);
-        let piece = board.take(seat, task);
-        let next = job.work(board, seat, piece);
-        board.give(seat, task, next);
-        gate.leave(worker, task);
+        work_on(board, seat, task, job, gate, worker);
     }
 }

@@ -7,13 +7,12 @@ returns-clause-laid_out g c = record {
   boxes = c.in_ok-boxes_of.ensures;
   cells = c.in_ok-from_slice.ensures.items;
   finer = λ e. c.in_ok-finer_boxes.ensures;
-  frames = c.in_ok-frames.ensures;
-  few = c.in_ok-tasks.ensures.few;
-  tasks = c.in_ok-tasks.ensures.tasks;
+  few = c.in_ok-lots.ensures.few;
+  lots = c.in_ok-lots.ensures.lots;
 }
 
 pub returns-clause-current : goal.returns-clause-current
-returns-clause-current g c = c.in_ok-tasks.ensures.current
+returns-clause-current g c = c.in_ok-lots.ensures.current
 
 pub returns-clause-valued : goal.returns-clause-valued
-returns-clause-valued g c = c.in_ok-tasks.ensures.valued
+returns-clause-valued g c = c.in_ok-lots.ensures.valued

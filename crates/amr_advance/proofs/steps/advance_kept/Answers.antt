@@ -12,7 +12,7 @@ use Rattle.amr_layout.specs.Adds.{HasRegisterCells}
 use Rattle.amr_layout.specs.Surroundings.{around, finer_masses}
 use Rattle.amr_patch.specs.declared.patches.Patch.{Patch}
 use Rattle.amr_patch.specs.Levels.{level_of}
-use Rattle.amr_patch.specs.Patches.{box, masses_in}
+use Rattle.amr_patch.specs.Patches.{ArePatchesApart, box, masses_in}
 use Rattle.amr_patch.specs.Orders.{IsOrderOf}
 use Rattle.amr_patch.proofs.Standing.{order_of_boxes}
 use Rattle.amr_ghost.proofs.Inside.{patches_inside}
@@ -20,10 +20,11 @@ use Rattle.amr_register.specs.declared.register.Register.{Register}
 use Rattle.amr_register.specs.Registers.{HasEdgesOf}
 use Rattle.amr_advance.specs.declared.kept.KeptLayout.{KeptLayout}
 use Rattle.amr_advance.specs.Kept.{IsCurrentLayout, totals_in}
+use Rattle.amr_lots.specs.Lots.{LevelStepFits}
+use Rattle.amr_advance.specs.Phases.{IsBasisOf}
 use Rattle.amr_advance.specs.Registers.{BothChange, taken}
 use Rattle.amr_advance.specs.Totals.{HasTotals}
 use Rattle.amr_advance.proofs.Advancing.{both_changed, cells_serve, inflow_is, outflow_is, some_may_absorb}
-use Rattle.amr_advance.proofs.KeptTotals.{lot_totals}
 use Rattle.amr_advance.proofs.steps.advance_kept.Goals as goal
 
 -- patches that were lent and are given back
@@ -34,13 +35,24 @@ written_back v lent now len boxes = with_items_is v now (sym (length-map now box
 still_current : (kept : Option KeptLayout) (v : Vec Patch) (lent now : List Patch) (m : Masses) → length lent ≡ v.len → map box now ≡ map box lent → m ≡ masses_in (with_items v now).items → IfSome kept (IsCurrentLayout (masses_in now)) → IfSome kept (IsCurrentLayout m)
 still_current kept v lent now m len boxes masses h = subst (λ (n : Masses). IfSome kept (IsCurrentLayout n)) (sym (masses ∙ ap masses_in (written_back v lent now len boxes))) h
 
-pub step_patches-stepped-requires-clause-inside : goal.step_patches-stepped-requires-clause-inside
-step_patches-stepped-requires-clause-inside g c κs within = patches_inside c.args.p.now c.args.l (level_of c.args.level.now) c.deref_mut.result.now c.requires.of_domain (c.take_patches-patches.ensures.masses ∙ ap masses_in (sym c.deref_mut.ensures.value))
+pub step_patches-stepped-requires-clause-level : goal.step_patches-stepped-requires-clause-level
+step_patches-stepped-requires-clause-level g c κs within =
+    let m : (level_of c.args.level.now).masses ≡ masses_in c.deref_mut.result.now = c.take_patches-patches.ensures.masses ∙ ap masses_in (sym c.deref_mut.ensures.value) in
+    record {
+      level = c.requires.number;
+      apart = subst ArePatchesApart (sym c.deref_mut.ensures.value) c.take_patches-patches.ensures.apart;
+      inside = patches_inside c.args.p.now c.args.l (level_of c.args.level.now) c.deref_mut.result.now c.requires.of_domain m;
+      fits = subst (λ (n : Masses). LevelStepFits c.args.p.now c.args.l n (old_masses (option_copied c.args.old))) m c.requires.fits;
+    }
+
+pub step_patches-stepped-requires-clause-basis : goal.step_patches-stepped-requires-clause-basis
+step_patches-stepped-requires-clause-basis g c κs within =
+    subst (λ (qs : List Patch). IsBasisOf c.args.p.now qs (option_copied c.args.old) c.basis_of-basis.result) (sym c.deref_mut.ensures.value) c.basis_of-basis.ensures
 
 pub step_patches-stepped-requires-clause-cells : goal.step_patches-stepped-requires-clause-cells
-step_patches-stepped-requires-clause-cells g c κs within = λ qs same.
-    subst (λ (xs : List Cell). HasRegisterCells (around c.args.p.now c.args.l qs xs (option_copied c.args.finer))) (sym c.cells_of.ensures)
-    (cells_serve c.args.p.now c.args.l (level_of c.args.level.now) (option_copied c.args.old) c.args.regs.now.coarser qs (option_copied c.args.finer) c.requires.coarser c.requires.of_domain (same ∙ ap masses_in c.deref_mut.ensures.value ∙ sym c.take_patches-patches.ensures.masses))
+step_patches-stepped-requires-clause-cells g c κs within =
+    subst (λ (xs : List Cell). HasRegisterCells (around c.args.p.now c.args.l c.deref_mut.result.now xs (option_copied c.args.finer))) (sym c.cells_of.ensures)
+    (cells_serve c.args.p.now c.args.l (level_of c.args.level.now) (option_copied c.args.old) c.args.regs.now.coarser c.deref_mut.result.now (option_copied c.args.finer) c.requires.coarser c.requires.of_domain (ap masses_in c.deref_mut.ensures.value ∙ sym c.take_patches-patches.ensures.masses))
 
 pub step_patches-stepped-requires-clause-edges : goal.step_patches-stepped-requires-clause-edges
 step_patches-stepped-requires-clause-edges g c κs within =
@@ -58,9 +70,9 @@ add_totals-requires-clause-inflow g c =
     let old = old_masses (option_copied c.args.old) in
     let fine = finer_masses (option_copied c.args.finer) in
     let ws = totals_in c.step_patches-stepped.new.kept in
-    let count : length ws ≡ 2 + 2 * length c.cells_of.result.now = c.in_ok-stepped.ensures.count in
+    let count : length ws ≡ 2 + 2 * length c.cells_of.result.now = c.in_ok-stepped.ensures.stepped.count in
     let totals : HasTotals c.args.p.now c.args.l m old fine c.cells_of.result.now ws =
-    subst (λ (n : Masses). HasTotals c.args.p.now c.args.l n old fine c.cells_of.result.now ws) (ap masses_in c.deref_mut.ensures.value ∙ sym c.take_patches-patches.ensures.masses) c.in_ok-stepped.ensures.totals in
+    subst (λ (n : Masses). HasTotals c.args.p.now c.args.l n old fine c.cells_of.result.now ws) (ap masses_in c.deref_mut.ensures.value ∙ sym c.take_patches-patches.ensures.masses) c.in_ok-stepped.ensures.stepped.totals in
     omega (arith, c.requires.inflow, inflow_is c.args.p.now c.args.l m old fine c.cells_of.result.now ws totals count)
 
 pub add_totals-requires-clause-outflow : goal.add_totals-requires-clause-outflow
@@ -69,9 +81,9 @@ add_totals-requires-clause-outflow g c =
     let old = old_masses (option_copied c.args.old) in
     let fine = finer_masses (option_copied c.args.finer) in
     let ws = totals_in c.step_patches-stepped.new.kept in
-    let count : length ws ≡ 2 + 2 * length c.cells_of.result.now = c.in_ok-stepped.ensures.count in
+    let count : length ws ≡ 2 + 2 * length c.cells_of.result.now = c.in_ok-stepped.ensures.stepped.count in
     let totals : HasTotals c.args.p.now c.args.l m old fine c.cells_of.result.now ws =
-    subst (λ (n : Masses). HasTotals c.args.p.now c.args.l n old fine c.cells_of.result.now ws) (ap masses_in c.deref_mut.ensures.value ∙ sym c.take_patches-patches.ensures.masses) c.in_ok-stepped.ensures.totals in
+    subst (λ (n : Masses). HasTotals c.args.p.now c.args.l n old fine c.cells_of.result.now ws) (ap masses_in c.deref_mut.ensures.value ∙ sym c.take_patches-patches.ensures.masses) c.in_ok-stepped.ensures.stepped.totals in
     omega (arith, c.requires.outflow, outflow_is c.args.p.now c.args.l m old fine c.cells_of.result.now ws totals count)
 
 pub add_totals-requires-clause-coarser : goal.add_totals-requires-clause-coarser
@@ -80,9 +92,9 @@ add_totals-requires-clause-coarser g c =
     let old = old_masses (option_copied c.args.old) in
     let fine = finer_masses (option_copied c.args.finer) in
     let ws = totals_in c.step_patches-stepped.new.kept in
-    let count : length ws ≡ 2 + 2 * length c.cells_of.result.now = c.in_ok-stepped.ensures.count in
+    let count : length ws ≡ 2 + 2 * length c.cells_of.result.now = c.in_ok-stepped.ensures.stepped.count in
     let totals : HasTotals c.args.p.now c.args.l k.masses old fine c.cells_of.result.now ws =
-    subst (λ (n : Masses). HasTotals c.args.p.now c.args.l n old fine c.cells_of.result.now ws) (ap masses_in c.deref_mut.ensures.value ∙ sym c.take_patches-patches.ensures.masses) c.in_ok-stepped.ensures.totals in
+    subst (λ (n : Masses). HasTotals c.args.p.now c.args.l n old fine c.cells_of.result.now ws) (ap masses_in c.deref_mut.ensures.value ∙ sym c.take_patches-patches.ensures.masses) c.in_ok-stepped.ensures.stepped.totals in
     some_may_absorb c.args.p.now c.args.l k (option_copied c.args.old) c.args.regs.now.coarser old fine ws c.requires.coarser c.requires.of_domain
     (subst (λ (xs : List Cell). HasTotals c.args.p.now c.args.l k.masses old fine xs ws) c.cells_of.ensures totals)
     (count ∙ ap (λ (xs : List Cell). 2 + 2 * length xs) c.cells_of.ensures) c.requires.fits.fluxes
@@ -94,7 +106,7 @@ returns-clause-masses g c =
     let old = old_masses (option_copied c.args.old) in
     let m : masses_in c.deref_mut.result.now ≡ (level_of c.args.level.now).masses = ap masses_in c.deref_mut.ensures.value ∙ sym c.take_patches-patches.ensures.masses in
     let listed = written_back c.take_patches-patches.result c.deref_mut.result.now c.step_patches-stepped.new.patches c.deref_mut.ensures.len c.step_patches-stepped.ensures.boxes in
-    c.put_patches_in_order.ensures.masses ∙ ap masses_in listed ∙ c.in_ok-stepped.ensures.masses ∙ (λ i. updated (m i) (flux_at p l (m i) old))
+    c.put_patches_in_order.ensures.masses ∙ ap masses_in listed ∙ c.in_ok-stepped.ensures.stepped.masses ∙ (λ i. updated (m i) (flux_at p l (m i) old))
 
 pub returns-clause-coarser : goal.returns-clause-coarser
 returns-clause-coarser g c =
@@ -102,9 +114,9 @@ returns-clause-coarser g c =
     let old = old_masses (option_copied c.args.old) in
     let fine = finer_masses (option_copied c.args.finer) in
     let ws = totals_in c.step_patches-stepped.new.kept in
-    let count : length ws ≡ 2 + 2 * length c.cells_of.result.now = c.in_ok-stepped.ensures.count in
+    let count : length ws ≡ 2 + 2 * length c.cells_of.result.now = c.in_ok-stepped.ensures.stepped.count in
     let totals : HasTotals c.args.p.now c.args.l k.masses old fine c.cells_of.result.now ws =
-    subst (λ (n : Masses). HasTotals c.args.p.now c.args.l n old fine c.cells_of.result.now ws) (ap masses_in c.deref_mut.ensures.value ∙ sym c.take_patches-patches.ensures.masses) c.in_ok-stepped.ensures.totals in
+    subst (λ (n : Masses). HasTotals c.args.p.now c.args.l n old fine c.cells_of.result.now ws) (ap masses_in c.deref_mut.ensures.value ∙ sym c.take_patches-patches.ensures.masses) c.in_ok-stepped.ensures.stepped.totals in
     both_changed c.args.p.now c.args.l k (option_copied c.args.old) c.args.regs.now.coarser c.add_totals.new.regs.coarser old fine ws c.requires.coarser c.requires.of_domain
     (subst (λ (xs : List Cell). HasTotals c.args.p.now c.args.l k.masses old fine xs ws) c.cells_of.ensures totals)
     (count ∙ ap (λ (xs : List Cell). 2 + 2 * length xs) c.cells_of.ensures) c.add_totals.ensures.coarser
@@ -114,7 +126,7 @@ returns-clause-finer g c =
     let old = old_masses (option_copied c.args.old) in
     let fine = finer_masses (option_copied c.args.finer) in
     subst (λ (r : Option Register). BothChange (taken c.args.p.now c.args.l (level_of c.args.level.now).masses old fine) c.args.regs.now.finer r) (sym c.add_totals.ensures.finer)
-    (subst (λ (m : Masses). BothChange (taken c.args.p.now c.args.l m old fine) c.args.regs.now.finer c.step_patches-stepped.new.register) (ap masses_in c.deref_mut.ensures.value ∙ sym c.take_patches-patches.ensures.masses) c.in_ok-stepped.ensures.register)
+    (subst (λ (m : Masses). BothChange (taken c.args.p.now c.args.l m old fine) c.args.regs.now.finer c.step_patches-stepped.new.register) (ap masses_in c.deref_mut.ensures.value ∙ sym c.take_patches-patches.ensures.masses) c.in_ok-stepped.ensures.stepped.register)
 
 pub returns-clause-inflow : goal.returns-clause-inflow
 returns-clause-inflow g c =
@@ -122,9 +134,9 @@ returns-clause-inflow g c =
     let old = old_masses (option_copied c.args.old) in
     let fine = finer_masses (option_copied c.args.finer) in
     let ws = totals_in c.step_patches-stepped.new.kept in
-    let count : length ws ≡ 2 + 2 * length c.cells_of.result.now = c.in_ok-stepped.ensures.count in
+    let count : length ws ≡ 2 + 2 * length c.cells_of.result.now = c.in_ok-stepped.ensures.stepped.count in
     let totals : HasTotals c.args.p.now c.args.l m old fine c.cells_of.result.now ws =
-    subst (λ (n : Masses). HasTotals c.args.p.now c.args.l n old fine c.cells_of.result.now ws) (ap masses_in c.deref_mut.ensures.value ∙ sym c.take_patches-patches.ensures.masses) c.in_ok-stepped.ensures.totals in
+    subst (λ (n : Masses). HasTotals c.args.p.now c.args.l n old fine c.cells_of.result.now ws) (ap masses_in c.deref_mut.ensures.value ∙ sym c.take_patches-patches.ensures.masses) c.in_ok-stepped.ensures.stepped.totals in
     c.add_totals.ensures.inflow ∙ ap (λ n. c.args.regs.now.inflow + n) (inflow_is c.args.p.now c.args.l m old fine c.cells_of.result.now ws totals count)
 
 pub returns-clause-outflow : goal.returns-clause-outflow
@@ -133,9 +145,9 @@ returns-clause-outflow g c =
     let old = old_masses (option_copied c.args.old) in
     let fine = finer_masses (option_copied c.args.finer) in
     let ws = totals_in c.step_patches-stepped.new.kept in
-    let count : length ws ≡ 2 + 2 * length c.cells_of.result.now = c.in_ok-stepped.ensures.count in
+    let count : length ws ≡ 2 + 2 * length c.cells_of.result.now = c.in_ok-stepped.ensures.stepped.count in
     let totals : HasTotals c.args.p.now c.args.l m old fine c.cells_of.result.now ws =
-    subst (λ (n : Masses). HasTotals c.args.p.now c.args.l n old fine c.cells_of.result.now ws) (ap masses_in c.deref_mut.ensures.value ∙ sym c.take_patches-patches.ensures.masses) c.in_ok-stepped.ensures.totals in
+    subst (λ (n : Masses). HasTotals c.args.p.now c.args.l n old fine c.cells_of.result.now ws) (ap masses_in c.deref_mut.ensures.value ∙ sym c.take_patches-patches.ensures.masses) c.in_ok-stepped.ensures.stepped.totals in
     c.add_totals.ensures.outflow ∙ ap (λ n. c.args.regs.now.outflow + n) (outflow_is c.args.p.now c.args.l m old fine c.cells_of.result.now ws totals count)
 
 pub step_patches-stepped-requires-clause-current : goal.step_patches-stepped-requires-clause-current
@@ -150,5 +162,5 @@ pub returns-in_err-stepped-clause-current : goal.returns-in_err-stepped-clause-c
 returns-in_err-stepped-clause-current g c =
     still_current c.step_patches-stepped.new.kept c.take_patches-patches.result c.deref_mut.result.now c.step_patches-stepped.new.patches _ c.deref_mut.ensures.len c.step_patches-stepped.ensures.boxes c.put_patches_in_order.ensures.masses c.step_patches-stepped.ensures.current
 
-pub add_totals-requires-clause-lot_totals : goal.add_totals-requires-clause-lot_totals
-add_totals-requires-clause-lot_totals g c = lot_totals c.args.p.now c.step_patches-stepped.new.kept c.step_patches-stepped.ensures.kept
+pub add_totals-requires-clause-lots : goal.add_totals-requires-clause-lots
+add_totals-requires-clause-lots g c = c.in_ok-stepped.ensures.stepped.there

@@ -1,4 +1,4 @@
-use Rattle.std.proofs.Common.{◌≡◌, ℕ, ◌+◌, ◌<◌, List, ◌∷◌, get_or, length, map, set, sym, ap, subst, ◌∙◌, arith}
+use Rattle.std.proofs.Common.{◌≡◌, ℕ, List, ◌∷◌, map, sym, ap, subst, ◌∙◌, arith}
 use Rattle.std.specs.Prelude.{IfSome}
 use Rattle.std.specs.declared.option.Option.{Option}
 use Rattle.std.specs.declared.option.Option.TheVariants.{Some}
@@ -21,7 +21,7 @@ use Rattle.amr_cycle.specs.declared.kept.KeptBelow.{KeptBelow}
 use Rattle.amr_cycle.specs.declared.kept.KeptLevel.{KeptLevel}
 use Rattle.amr_cycle.specs.Kept.{AreCurrent, AreKept}
 use Rattle.std.proofs.lemmas.Result.{on_ok_weaker}
-use Rattle.amr_cycle.proofs.KeptLaws.{all_below_after, current_again, current_all, current_first, current_rest, kept_again, kept_all, kept_first, kept_rest, valued_first}
+use Rattle.amr_cycle.proofs.KeptLaws.{all_below_after, current_all, current_first, current_rest, kept_all, kept_first, kept_rest, valued_first}
 use Rattle.amr_cycle.proofs.Registers.{edges_stay}
 use Rattle.amr_cycle.proofs.Whole.{IsBegun, IsMade, IsOver, coarser_1, coarser_2, fits_2, flows_1, flows_2, flows_split, has2, kept_2, levels_are, next2_coarsenable, of_level_2, parents_2, part_1, part_2, placed_2, rest1_coarsenable, rest_coarsenable, small_2}
 use Rattle.amr_cycle.proofs.levels.+step_levels.Given as given
@@ -138,48 +138,48 @@ step_levels-requires-2-clause-outflow g t c κs within =
     )
 
 pub correct-requires-clause-placed : goal.correct-requires-clause-placed
-correct-requires-clause-placed g t c =
+correct-requires-clause-placed g t c κs within =
     let at = goal.at.correct-requires-clause-placed g t c in
     placed_2 _ _ (once g t at.In_ok-step_levels) (twice g t at.In_ok-step_levels-2)
 
 pub correct-requires-clause-edges : goal.correct-requires-clause-edges
-correct-requires-clause-edges g t c =
+correct-requires-clause-edges g t c κs within =
     let boxes = map box (patches_of (arc_value c.in_ok-below.below.before)) in
     subst (λ (bs : List Extent). IfSome c.step_levels-2.new.regs.coarser (HasEdgesOf bs)) (c.in_ok-below.ensures.before_patches ∙ sym c.in_ok-below.ensures.patches)
     (edges_stay boxes _ c.step_levels.new.regs.coarser c.step_levels-2.new.regs.coarser c.in_ok-step_levels-2.ensures.coarser
     (edges_stay boxes _ c.in_ok-below.below.regs.coarser c.step_levels.new.regs.coarser c.in_ok-step_levels.ensures.coarser c.in_ok-below.ensures.edges))
 
 pub correct-requires-clause-of_level : goal.correct-requires-clause-of_level
-correct-requires-clause-of_level g t c =
+correct-requires-clause-of_level g t c κs within =
     let at = goal.at.correct-requires-clause-of_level g t c in
     of_level_2 _ _ (once g t at.In_ok-step_levels) (twice g t at.In_ok-step_levels-2)
     (level_of c.step_coarse.new.level).masses c.in_ok-below.ensures.masses
 
 pub correct-requires-clause-not_negative : goal.correct-requires-clause-not_negative
-correct-requires-clause-not_negative g t c =
+correct-requires-clause-not_negative g t c κs within =
     let at = goal.at.correct-requires-clause-not_negative g t c in
     kept_2 _ _ (once g t at.In_ok-step_levels) (twice g t at.In_ok-step_levels-2)
     (level_of c.step_coarse.new.level).masses c.in_ok-below.ensures.masses
 
 pub correct-requires-clause-fits : goal.correct-requires-clause-fits
-correct-requires-clause-fits g t c =
+correct-requires-clause-fits g t c κs within =
     let at = goal.at.correct-requires-clause-fits g t c in
     fits_2 _ _ (once g t at.In_ok-step_levels) (twice g t at.In_ok-step_levels-2)
     (level_of c.step_coarse.new.level).masses c.in_ok-below.ensures.masses
 
 pub correct-requires-clause-parents : goal.correct-requires-clause-parents
-correct-requires-clause-parents g t c =
+correct-requires-clause-parents g t c κs within =
     let at = goal.at.correct-requires-clause-parents g t c in
     parents_2 _ _ (once g t at.In_ok-step_levels) (twice g t at.In_ok-step_levels-2)
     (level_of c.step_coarse.new.level).masses c.in_ok-below.ensures.masses
 
 pub correct-requires-clause-coarsenable : goal.correct-requires-clause-coarsenable
-correct-requires-clause-coarsenable g t c =
+correct-requires-clause-coarsenable g t c κs within =
     let at = goal.at.correct-requires-clause-coarsenable g t c in
     next2_coarsenable _ _ (once g t at.In_ok-step_levels) (twice g t at.In_ok-step_levels-2) c.requires.coarsenable
 
 pub correct-requires-clause-small : goal.correct-requires-clause-small
-correct-requires-clause-small g t c =
+correct-requires-clause-small g t c κs within =
     let at = goal.at.correct-requires-clause-small g t c in
     small_2 _ _ (once g t at.In_ok-step_levels) (twice g t at.In_ok-step_levels-2)
     (level_of c.step_coarse.new.level).masses c.in_ok-below.ensures.masses
@@ -218,6 +218,15 @@ returns-clause-outflow g t c =
       flows_2 _ _ (once g t at.In_ok-step_levels) outflow_beside,
     )
 
+pub step_levels-requires-clause-crew : goal.step_levels-requires-clause-crew
+step_levels-requires-clause-crew g t c κs within = λ tasks. rw (c.for_finer-inner.ensures.problem, c.step_coarse.ensures.workers) (c.requires.crew tasks)
+
+pub step_levels-requires-2-clause-crew : goal.step_levels-requires-2-clause-crew
+step_levels-requires-2-clause-crew g t c κs within = λ tasks. rw (c.for_finer-inner.ensures.problem, c.step_levels.ensures.workers, c.step_coarse.ensures.workers) (c.requires.crew tasks)
+
+pub correct-requires-clause-crew : goal.correct-requires-clause-crew
+correct-requires-clause-crew g t c κs within = λ tasks. rw (c.step_levels-2.ensures.workers, c.step_levels.ensures.workers, c.step_coarse.ensures.workers) (c.requires.crew tasks)
+
 pub step_finest-requires-clause-kept : goal.step_finest-requires-clause-kept
 step_finest-requires-clause-kept g t c κs within = c.ready.ensures.kept c.args.given.now.problem.now c.args.given.now.level (kept_first c.args.given.now.problem.now c.args.given.now.level c.in-Some.own.now c.in-Some.rest.now c.args.kept.now c.in-Some.ensures.cases.0 c.requires.kept)
 
@@ -231,10 +240,6 @@ step_coarse-requires-clause-kept g t c κs within = c.ready.ensures.kept c.args.
 pub step_levels-requires-clause-kept : goal.step_levels-requires-clause-kept
 step_levels-requires-clause-kept g t c κs within = rw (c.for_finer-inner.ensures.problem, c.for_finer-inner.ensures.level) (kept_rest c.args.given.now.problem.now c.args.given.now.level c.in-Some.own.now c.in-Some.rest.now c.args.kept.now c.in-Some.ensures.cases.0 c.requires.kept)
 
--- something is kept of the next finer level
-first_kept : (g : given.Over) (t : ℕ) (c : In_ok-step_levels-2 g t) → 0 < length c.step_levels-2.new.kept
-first_kept g t c = omega (arith, c.in_ok-step_levels-2.ensures.kept_count, c.in_ok-step_levels.ensures.kept_count, c.requires.room, ap length c.in-Some.ensures.cases.0, ap length c.in-Some-split_first_mut.ensures.cases.0)
-
 pub returns-clause-kept : goal.returns-clause-kept
 returns-clause-kept g t c =
     let at = goal.at.returns-clause-kept g t c in
@@ -245,18 +250,17 @@ returns-clause-kept g t c =
     subst (λ n. AreKept p n c.step_levels-2.new.kept) c.for_finer-inner.ensures.level (subst (λ (q : Problem). AreKept q c.for_finer-inner.result.level c.step_levels-2.new.kept) c.for_finer-inner.ensures.problem c.in_ok-step_levels-2.ensures.kept) in
     let has =
     has2 _ _ (once g t at.In_ok-step_levels) (twice g t at.In_ok-step_levels-2) in
-    let again : KeptLevel = record { layout = c.correct.new.finer_kept; below = (get_or c.step_levels-2.new.kept 0 c.index-rest-0.result).below } in
     let same =
     subst (λ (o : Option Register). IfSome c.kept_of.result (λ (b : KeptBelow). (b.before ≡ arc_value c.in_ok-below.below.before) × (b.finer ≡ c.in_ok-below.below.finer) × (Some b.register ≡ o))) c.in_ok-correct.ensures.register c.kept_of.ensures in
     let edges =
     edges_stay (map box (patches_of (arc_value c.in_ok-below.below.before))) _ c.step_levels.new.regs.coarser c.step_levels-2.new.regs.coarser c.in_ok-step_levels-2.ensures.coarser
     (edges_stay (map box (patches_of (arc_value c.in_ok-below.below.before))) _ c.in_ok-below.below.regs.coarser c.step_levels.new.regs.coarser c.in_ok-step_levels.ensures.coarser c.in_ok-below.ensures.edges) in
-    kept_all p c.args.given.now.level (record { layout = c.correct.new.kept; below = c.kept_of.result }) (set c.step_levels-2.new.kept 0 again)
+    kept_all p c.args.given.now.level (record { layout = c.correct.new.kept; below = c.kept_of.result }) c.step_levels-2.new.kept
     (record {
       layout = c.in_ok-correct.ensures.kept;
       below = all_below_after p c.args.given.now.level k fine _ c.kept_of.result (arc_value c.in_ok-below.below.before) c.in_ok-below.below.finer c.step_levels-2.new.regs.coarser c.in_ok-below.ensures.before c.in_ok-below.ensures.finer_boxes same has edges;
     })
-    (kept_again p (c.args.given.now.level + 1) c.correct.new.finer_kept c.index-rest-0.result c.step_levels-2.new.kept (first_kept g t (goal.at.returns-clause-kept g t c).In_ok-step_levels-2) c.in_ok-correct.ensures.finer_kept finer)
+    finer
 
 pub step_finest-requires-clause-current : goal.step_finest-requires-clause-current
 step_finest-requires-clause-current g t c κs within = c.ready.ensures.current (level_of c.args.level.now).masses (current_first (level_of c.args.level.now) (map level_of c.args.finer.now) c.in-Some.own.now c.in-Some.rest.now c.args.kept.now c.in-Some.ensures.cases.0 c.requires.current)
@@ -275,12 +279,10 @@ step_levels-requires-clause-current g t c κs within =
 
 pub returns-clause-current : goal.returns-clause-current
 returns-clause-current g t c =
-    let again : KeptLevel = record { layout = c.correct.new.finer_kept; below = (get_or c.step_levels-2.new.kept 0 c.index-rest-0.result).below } in
-    let next = level_of c.step_levels-2.new.level in
+    let own : KeptLevel = record { layout = c.correct.new.kept; below = c.kept_of.result } in
     let finest = map level_of c.step_levels-2.new.finer in
-    subst (λ (k : Level). AreCurrent (level_of c.correct.new.level ∷ k ∷ finest) (record { layout = c.correct.new.kept; below = c.kept_of.result } ∷ set c.step_levels-2.new.kept 0 again)) (sym c.in_ok-correct.ensures.finer)
-    (current_all (level_of c.correct.new.level) (next ∷ finest) (record { layout = c.correct.new.kept; below = c.kept_of.result }) (set c.step_levels-2.new.kept 0 again) c.in_ok-correct.ensures.current
-    (current_again next finest again c.index-rest-0.result c.step_levels-2.new.kept (first_kept g t (goal.at.returns-clause-current g t c).In_ok-step_levels-2) (c.in_ok-correct.ensures.finer_current next.masses) c.in_ok-step_levels-2.ensures.current))
+    subst (λ (k : Level). AreCurrent (level_of c.correct.new.level ∷ k ∷ finest) (own ∷ c.step_levels-2.new.kept)) (sym c.in_ok-correct.ensures.finer)
+    (current_all (level_of c.correct.new.level) (level_of c.step_levels-2.new.level ∷ finest) own c.step_levels-2.new.kept c.in_ok-correct.ensures.current c.in_ok-step_levels-2.ensures.current)
 
 pub step_finest-requires-clause-valued : goal.step_finest-requires-clause-valued
 step_finest-requires-clause-valued g t c κs within =

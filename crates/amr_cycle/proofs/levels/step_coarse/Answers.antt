@@ -8,7 +8,7 @@ use Rattle.amr_def.specs.State.{Level}
 use Rattle.amr_register.specs.declared.register.Register.{Register}
 use Rattle.amr_advance.specs.Registers.{BothChange, HasCoarser, HasFiner, taken}
 use Rattle.amr_advance.specs.Kept.{IsCurrentLayout}
-use Rattle.amr_advance.specs.Shown.{LevelStepFits}
+use Rattle.amr_lots.specs.Lots.{LevelStepFits}
 use Rattle.amr_box.specs.Cells.{Extent}
 use Rattle.amr_patch.specs.declared.levels.Level.{Level as Held}
 use Rattle.amr_patch.specs.Levels.{level_of, patches_of}
@@ -55,6 +55,9 @@ advance_kept-requires-clause-finer g c κs within =
 pub advance_kept-requires-clause-edges : goal.advance_kept-requires-clause-edges
 advance_kept-requires-clause-edges g c κs within =
     subst (λ (bs : List Extent). HasEdgesOf bs c.in_ok-before.field-0.register) (c.in_ok-before.ensures.patches ∙ ap (map box) (sym c.below_for.ensures.level_patches)) c.in_ok-before.ensures.below.edges
+
+pub advance_kept-requires-clause-crew : goal.advance_kept-requires-clause-crew
+advance_kept-requires-clause-crew g c κs within = rw c.below_for.ensures.workers (c.requires.crew _)
 
 pub advance_kept-requires-clause-inflow : goal.advance_kept-requires-clause-inflow
 advance_kept-requires-clause-inflow g c κs within = rw c.below_for.ensures.level c.requires.inflow

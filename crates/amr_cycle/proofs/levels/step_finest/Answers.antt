@@ -14,6 +14,9 @@ advance_kept-requires-clause-of_domain g c κs within = part_levels c.args.given
 pub advance_kept-requires-clause-fits : goal.advance_kept-requires-clause-fits
 advance_kept-requires-clause-fits g c κs within = part_fits c.args.given.now.problem.now c.args.given.now.level (level_of c.args.level.now) [] (old_masses (option_copied c.args.given.now.old)) c.requires.part
 
+pub advance_kept-requires-clause-crew : goal.advance_kept-requires-clause-crew
+advance_kept-requires-clause-crew g c κs within = c.requires.crew _
+
 pub advance_kept-requires-clause-inflow : goal.advance_kept-requires-clause-inflow
 advance_kept-requires-clause-inflow g c κs within =
     let p = c.args.given.now.problem.now in

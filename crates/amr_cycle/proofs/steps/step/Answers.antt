@@ -6,3 +6,11 @@ step_kept-requires-clause-kept g c κs within = c.nothing.ensures.kept c.args.p.
 
 pub step_kept-requires-clause-current : goal.step_kept-requires-clause-current
 step_kept-requires-clause-current g c κs within = c.nothing.ensures.current (state_of c.args.mesh.now).levels
+
+pub step_kept-requires-clause-crew : goal.step_kept-requires-clause-crew
+step_kept-requires-clause-crew g c κs within = λ tasks. record {
+  some_workers = c.requires.some_workers;
+  few_workers = c.requires.few_workers;
+  gate = λ worker task invited _. c.requires.gate worker task invited;
+  team = tt;
+}

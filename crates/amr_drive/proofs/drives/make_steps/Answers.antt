@@ -47,6 +47,9 @@ make_step-requires-clause-kept g c κs within = c.loop-step.invariant.kept
 pub make_step-requires-clause-current : goal.make_step-requires-clause-current
 make_step-requires-clause-current g c κs within = c.loop-step.invariant.current
 
+pub make_step-requires-clause-crew : goal.make_step-requires-clause-crew
+make_step-requires-clause-crew g c κs within = λ tasks. rw c.loop-step.invariant.workers (c.requires.crew tasks)
+
 pub make_step-requires-clause-ready : goal.make_step-requires-clause-ready
 make_step-requires-clause-ready g c κs within =
     let p = c.args.run.now.job.problem.now in

@@ -1,57 +1,42 @@
-use Rattle.std.proofs.Common.{◌≡◌, ℕ, ◌+◌, ◌*◌, ◌<◌, ◌≤◌, ◌++◌, List, length, get_or, map, take, ap, sym, subst, ◌∙◌, arith}
+use Rattle.std.proofs.Common.{◌≡◌, List, length, get_or, map, sym, ap, ◌∙◌, arith, rules}
 use Rattle.std.specs.Global.{Vec}
-use Rattle.amr_box.specs.declared.Face.{Face}
-use Rattle.amr_box.specs.Cells.{Extent, height, width}
+use Rattle.std.specs.Vec.{with_items}
+use Rattle.std.proofs.lemmas.List.{with_items_is}
 use Rattle.amr_def.specs.Domain.{domain_of}
-use Rattle.amr_patch.specs.declared.patches.Patch.{Patch}
+use Rattle.amr_faces.specs.Faces.{masked_faces}
 use Rattle.amr_patch.specs.Patches.{box}
-use Rattle.amr_phase.specs.Plans.{total}
-use Rattle.amr_phase.proofs.Sums.{total_more, total_take}
-use Rattle.amr_layout.specs.Surroundings.{edge_count}
-use Rattle.amr_layout.specs.Places.{ArePut, borders_of, level_borders}
-use Rattle.amr_layout.proofs.LevelPlaces.{level_more, no_borders, places_more}
-use Rattle.amr_layout.proofs.Placing.{no_puts_yet}
+use Rattle.amr_layout.specs.declared.PatchLayout.{PatchLayout}
+use Rattle.amr_layout.specs.declared.PutAt.{PutAt}
+use Rattle.amr_layout.proofs.Masks.{masks_all}
+use Rattle.amr_layout.proofs.Planned.{image_at, image_length, lots_are}
 use Rattle.amr_layout.proofs.places.place_borders.Goals as goal
+use Rattle.amr_layout.proofs.places.place_borders.Goals.{After-drop-places}
 
--- the faces of one more patch, and of all
-counted : (ps : List Patch) (i : ℕ) (q : Patch) (b : Extent) → i < length ps → q ≡ get_or ps i q → b ≡ box q
-    → (total (λ (r : Patch). edge_count (box r)) (take (i + 1) ps) ≡ total (λ (r : Patch). edge_count (box r)) (take i ps) + 2 * (height b + width b)) × (total (λ (r : Patch). edge_count (box r)) (take (i + 1) ps) ≤ total (λ (r : Patch). edge_count (box r)) ps)
-counted ps i q b lt e is =
-    let here : edge_count b ≡ edge_count (box (get_or ps i q)) = ap (λ (x : Extent). edge_count x) is ∙ ap (λ (r : Patch). edge_count (box r)) e in
-    (omega (arith, total_more (λ (r : Patch). edge_count (box r)) ps i q lt, here), total_take (λ (r : Patch). edge_count (box r)) ps (i + 1))
+pub hand_puts-requires : goal.hand_puts-requires
+hand_puts-requires c = ap (λ (l : List (Vec PutAt)). length l) c.deref_mut.ensures.value ∙ c.in_ok-places.ensures.put.lot_count ∙ sym (ap (λ (l : List PatchLayout). length l) c.deref_mut-2.ensures.value ∙ c.in_ok-places.ensures.count)
 
-pub put_borders-requires-clause-room : goal.put_borders-requires-clause-room
-put_borders-requires-clause-room c =
-    let one = counted c.args.patches.now c.loop-i.i c.index-patches-i.result c.bx.result (omega arith) c.index-patches-i.is c.bx.ensures.value in
-    omega (arith, one.0, one.1, c.loop-i.invariant.count, c.requires.few)
+-- the patches with their puts
+reads_now : (c : After-drop-places) → (with_items c.in_ok-places.reads c.hand_puts.new.patches).items ≡ c.hand_puts.new.patches
+reads_now c = with_items_is c.in_ok-places.reads c.hand_puts.new.patches (search rules)
 
-pub loop-i-init : goal.loop-i-init
-loop-i-init c =
+pub returns-clause-puts : goal.returns-clause-puts
+returns-clause-puts c =
+    ap (map (λ (t : PatchLayout). t.puts.items)) (reads_now c) ∙ c.hand_puts.ensures.puts ∙ ap (map (λ (v : Vec PutAt). v.items)) c.deref_mut.ensures.value
+    ∙ lots_are (domain_of c.args.dom.now) c.args.patches.now c.args.each c.in_ok-places.places.count c.in_ok-places.places.lots.items c.in_ok-places.ensures.put
+
+pub returns-clause-borders : goal.returns-clause-borders
+returns-clause-borders c =
+    ap (map (λ (t : PatchLayout). t.border.items)) (reads_now c) ∙ c.hand_puts.ensures.border ∙ ap (map (λ (t : PatchLayout). t.border.items)) c.deref_mut-2.ensures.value ∙ c.in_ok-places.ensures.borders
+
+pub returns-clause-masks : goal.returns-clause-masks
+returns-clause-masks c =
     let d = domain_of c.args.dom.now in
     let ps = c.args.patches.now in
-    let lots = c.in_ok-no_puts.field-0.items in
-    let P : List Face → Type 0 = λ l. ArePut d ps l 0 lots in
-    record {
-      count = omega arith;
-      gap = tt;
-      put = subst P (sym (no_borders d ps)) (no_puts_yet d ps lots c.in_ok-no_puts.ensures.count c.in_ok-no_puts.ensures.empty);
-      borders = ap (map (λ (v : Vec ℕ). v.items)) c.in_ok-borders.ensures.items;
-    }
-
-pub loop-i-preserved : goal.loop-i-preserved
-loop-i-preserved c =
-    let d = domain_of c.args.dom.now in
-    let ps = c.args.patches.now in
-    let i = c.loop-i.i in
-    let q = c.index-patches-i.result in
-    let lt : i < length ps = omega arith in
-    let lots = c.put_borders.new.places.lots.items in
-    let count = c.put_borders.new.places.count in
-    let P : List Face → Type 0 = λ l. ArePut d ps l count lots in
-    let more = subst P (ap (λ (b : Extent). level_borders d ps (take i ps) ++ borders_of d ps b) c.bx.ensures.value ∙ sym (level_more d ps i q lt c.index-patches-i.is)) (c.in_ok-put_borders.ensures.put (level_borders d ps (take i ps)) c.loop-i.invariant.put) in
-    record {
-      count = omega (arith, c.in_ok-put_borders.ensures.count, c.loop-i.invariant.count, (counted ps i q c.bx.result lt c.index-patches-i.is c.bx.ensures.value).0);
-      gap = c.in_ok-put_borders.ensures.gap;
-      put = more;
-      borders = ap (map (λ (v : Vec ℕ). v.items)) c.in_ok-push.ensures.items ∙ places_more d ps i c.loop-i.places.count count c.loop-i.borders.items c.in_ok-places_from.field-0 c.loop-i.places.lots.items lots c.loop-i.invariant.put more c.in_ok-places_from.ensures c.loop-i.invariant.borders;
-    }
+    let old = c.in_ok-places.reads.items in
+    let new = c.hand_puts.new.patches in
+    let same : map (λ (t : PatchLayout). t.mask.items) new ≡ map (λ (t : PatchLayout). t.mask.items) old = c.hand_puts.ensures.mask ∙ ap (map (λ (t : PatchLayout). t.mask.items)) c.deref_mut-2.ensures.value in
+    let count : length new ≡ length ps = image_length (λ (t : PatchLayout). t.mask.items) (λ (t : PatchLayout). t.mask.items) new old same ∙ c.in_ok-places.ensures.count in
+    let all = masks_all d ps c.args.each ps new count (λ k q t lt.
+    ap (masked_faces (box (get_or ps k q))) (image_at (λ (x : PatchLayout). x.mask.items) (λ (x : PatchLayout). x.mask.items) new old k t t same (omega (arith, lt, count)) (omega (arith, lt, c.in_ok-places.ensures.count)))
+    ∙ c.in_ok-places.ensures.masks k q t lt) in
+    rw (reads_now c) all

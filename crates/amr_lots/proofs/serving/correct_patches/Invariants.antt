@@ -6,4 +6,4 @@ use Rattle.amr_lots.proofs.serving.correct_patches.Given as goal
 
 -- the patches before this one are corrected
 abbrev pub invariant-loop-k : goal.invariant-loop-k
-invariant-loop-k l = AreChangedTo (IsCorrected (masses_in (finer_in l.correction)) (entry_in (register_in l.correction))) l.k l.initial.patches l.patches
+invariant-loop-k l = AreChangedTo (λ _. IsCorrected (masses_in (finer_in l.correction)) (entry_in (register_in l.correction))) l.k l.initial.patches l.patches

@@ -1,5 +1,5 @@
 use Rattle.std.proofs.Common.{rules}
-use Rattle.amr_lots.proofs.Served.{corrected_sends, made_correction}
+use Rattle.amr_lots.proofs.Sending.{corrected_sends, made_correction}
 use Rattle.amr_lots.proofs.serving.make_correction.Goals as goal
 
 pub send-requires : goal.send-requires

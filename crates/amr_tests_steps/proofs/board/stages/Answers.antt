@@ -1,8 +1,8 @@
 use Rattle.std.proofs.Common.{None, ap, ◌∙◌, arith}
 use lib.ListN.{get_elem?}
 use Rattle.amr_board.specs.Ended.{EndedOf}
-use Rattle.amr_work.specs.declared.work.Work.{Work}
-use Rattle.amr_advance.proofs.Handed.{other_piece}
+use Rattle.amr_lots.specs.declared.lot.Work.{Work}
+use Rattle.amr_advance.proofs.Pieces.{other_piece}
 use Rattle.amr_tests_steps.proofs.board.stages.Goals as goal
 
 pub loop-task-init : goal.loop-task-init

@@ -1,6 +1,6 @@
 use Rattle.std.proofs.Common.{ℕ, ◌<◌, ◌≤◌}
-use Rattle.amr_work.specs.declared.work.Work.{Work}
-use Rattle.amr_advance.specs.Collected.{IsPieceOf}
+use Rattle.amr_lots.specs.declared.lot.Work.{Work}
+use Rattle.amr_advance.specs.Phases.{IsPieceOf}
 use Rattle.amr_tests_steps.proofs.board.stages.Given as goal
 
 -- the pieces from this task on are there

@@ -1,76 +1,49 @@
-use Rattle.std.proofs.Common.{◌≡◌, List, [], ◌∷◌, None, length, map, sym, ap, subst, ◌∙◌, arith}
-use Rattle.std.specs.Prelude.{IsSome}
-use Rattle.std.specs.List.{All}
-use Rattle.amr_def.specs.declared.problem.Problem.{Problem}
-use Rattle.amr_def.specs.Domain.{domain}
-use Rattle.amr_def.specs.State.{Level, Masses, no_masses}
-use Rattle.amr_patch.specs.declared.patches.Patch.{Patch}
-use Rattle.amr_patch.specs.Levels.{level_of}
-use Rattle.amr_patch.specs.Patches.{box, masses_in}
-use Rattle.amr_phase.specs.Plans.{IsPlan}
-use Rattle.amr_board.specs.Piece.{plan_of}
-use Rattle.amr_layout.specs.declared.Layout.{Layout}
-use Rattle.amr_layout.specs.declared.TaskLayout.{TaskLayout}
-use Rattle.amr_layout.specs.Places.{puts_of}
-use Rattle.amr_layout.specs.Surroundings.{around}
-use Rattle.amr_layout.proofs.Planned.{image_length}
-use Rattle.amr_work.specs.declared.work.Work.{Work}
-use Rattle.amr_work.specs.declared.work.Workspace.{Workspace}
-use Rattle.amr_work.specs.Ready.{MayBegin}
-use Rattle.amr_work.specs.Works.{adds_of_work, puts_of_work}
-use Rattle.amr_advance.specs.Layouts.{IsLayoutOf}
-use Rattle.amr_advance.specs.Pieces.{AreRawPieces, AreWorkspaces}
-use Rattle.amr_advance.specs.Shown.{AreShown, LevelStepFits}
-use Rattle.amr_cycle.specs.Cycles.{HasStepToCome}
-use Rattle.amr_cycle.proofs.Cycling.{part_fits, part_levels}
-use Rattle.amr_cycle.proofs.StateSteps.{no_coarser, whole_part}
-use Rattle.amr_advance.proofs.Going.{all_begin, is_plan}
-use Rattle.amr_advance.proofs.Closed.{numbered}
+use Rattle.std.proofs.Common.{refl, sym, ap, subst, arith}
+use Rattle.amr_board.specs.declared.view.View.{View}
+use Rattle.amr_board.specs.Views.{HoldsNone}
+use Rattle.amr_board.proofs.Sums.{found_at, got, in_range_at}
+use Rattle.amr_phase.specs.declared.plan.Task.{Task}
+use Rattle.amr_phase.specs.Plans.{PlanOf}
+use Rattle.std.proofs.Common.{◌∙◌, List, length}
+use Rattle.std.proofs.lemmas.List.{length-map}
+use Rattle.amr_lots.specs.declared.lot.Work.{Work}
+use Rattle.amr_lots.specs.Ready.{MayBegin}
+use Rattle.amr_lots.specs.Works.{adds_of_work, puts_of_work}
+use Rattle.amr_advance.specs.Phases.{planned}
+use Rattle.amr_advance.proofs.WorkSends.{works_sendable}
 use Rattle.amr_tests_steps.proofs.board.stages_after.Goals as goal
 
-abbrev workspaces : List Work → List Workspace
-workspaces ws = map (λ (w : Work). w.body.value.workspace) ws
+pub run_phase-last-requires-clause-seat : goal.run_phase-last-requires-clause-seat
+run_phase-last-requires-clause-seat g c κs within = c.in_ok-board.ensures.3.seat_of
 
--- the pieces of a level whose step is to come
-module _ (p : Problem) (k : Level) (come : HasStepToCome p (k ∷ [])) (qs : List Patch) (shown : AreShown p 0 no_masses qs) (same : masses_in qs ≡ k.masses)
-    (y : Layout) (layout : IsLayoutOf (around p 0 qs [] None) y) (ws : List Work) (raw : AreRawPieces p 0 qs (map (λ (w : Work). w.body.value.workspace) ws) ws) (served : AreWorkspaces qs y.tasks.items (map (λ (w : Work). w.body.value.workspace) ws)) where
-  fits : LevelStepFits p 0 (masses_in qs) no_masses
-  fits = subst (λ (m : Masses). LevelStepFits p 0 m no_masses) (sym same) (part_fits p 0 k [] no_masses (whole_part p k [] come))
+pub run_phase-last-requires-clause-none : goal.run_phase-last-requires-clause-none
+run_phase-last-requires-clause-none g c κs within = subst (λ (v : View Work). HoldsNone v) (sym c.in_ok-board.ensures.3.first) refl
 
-  planned : IsPlan (plan_of puts_of_work adds_of_work y.places y.words ws)
-  planned = is_plan p 0 no_masses qs [] None (omega arith) shown fits y layout (map (λ (w : Work). w.body.value.workspace) ws) served ws raw
+pub run_phase-last-requires-clause-here : goal.run_phase-last-requires-clause-here
+run_phase-last-requires-clause-here g c κs within = ap (λ (v : View Work). v.past) c.in_ok-board.ensures.3.first
 
-  begin : All (MayBegin p (plan_of puts_of_work adds_of_work y.places y.words ws)) ws
-  begin = all_begin p 0 no_masses qs [] None (omega arith) shown fits y layout (map (λ (w : Work). w.body.value.workspace) ws) served ws raw
+pub run_phase-last-requires-clause-alone : goal.run_phase-last-requires-clause-alone
+run_phase-last-requires-clause-alone g c κs within = ap (λ (v : View Work). v.share) c.in_ok-board.ensures.3.first
 
-pub shown_patches-patches-requires : goal.shown_patches-patches-requires
-shown_patches-patches-requires g c = part_levels c.args.p.now 0 (level_of c.in_ok-level.level ∷ []) no_masses (whole_part c.args.p.now (level_of c.in_ok-level.level) [] c.in_ok-level.ensures)
+pub run_phase-last-requires-clause-ready : goal.run_phase-last-requires-clause-ready
+run_phase-last-requires-clause-ready g c κs within = λ t w at.
+    let ws = c.in_ok-board.board.pieces in
+    let begun = c.in_ok-board.ensures.3 in
+    subst (λ (q : PlanOf). MayBegin c.args.p.now q w) (sym begun.plan)
+    (subst (λ (v : Work). MayBegin c.args.p.now (planned c.in_ok-board.ensures.1 ws) v) (got ws t w w at) (begun.may.begin t w (in_range_at ws t w at)))
 
-pub layout_of-requires-clause-shown : goal.layout_of-requires-clause-shown
-layout_of-requires-clause-shown g c = subst (AreShown c.args.p.now 0 no_masses) (sym c.deref.ensures.value) c.shown_patches-patches.ensures.shown
+pub run_phase-last-requires-send-P : goal.run_phase-last-requires-send-P
+run_phase-last-requires-send-P g c κs within = search works_sendable depth 12 fits 2000
 
-pub layout_of-requires-clause-whole : goal.layout_of-requires-clause-whole
-layout_of-requires-clause-whole g c = λ k h.
-    subst (λ (m : Masses). IsSome (m k)) (sym c.shown_patches-patches.ensures.masses ∙ ap masses_in (sym c.deref.ensures.value))
-    (no_coarser c.args.p.now (level_of c.in_ok-level.level) [] c.in_ok-level.ensures k h)
-
-pub pieces_of-requires-clause-count : goal.pieces_of-requires-clause-count
-pieces_of-requires-clause-count g c =
-    let ps = c.deref.result.now in
-    image_length (λ (t : TaskLayout). t.puts.items) (λ q. puts_of (domain c.args.p.now 0) ps (box q)) c.in_ok-layout.layout.tasks.items ps c.in_ok-layout.ensures.puts ∙ ap length c.deref.ensures.value
-
-pub closed_board-requires-clause-plan : goal.closed_board-requires-clause-plan
-closed_board-requires-clause-plan g c = λ _ _.
-    planned c.args.p.now (level_of c.in_ok-level.level) c.in_ok-level.ensures c.shown_patches-patches.result.items c.shown_patches-patches.ensures.shown c.shown_patches-patches.ensures.masses
-    c.in_ok-layout.layout (subst (λ (qs : List Patch). IsLayoutOf (around c.args.p.now 0 qs [] None) c.in_ok-layout.layout) c.deref.ensures.value c.in_ok-layout.ensures) c.in_ok-pieces.pieces.items c.in_ok-pieces.ensures.raw c.in_ok-pieces.ensures.served
-
-pub closed_board-requires-clause-numbered : goal.closed_board-requires-clause-numbered
-closed_board-requires-clause-numbered g c = λ _ _. numbered c.args.p.now 0 c.shown_patches-patches.result.items (workspaces c.in_ok-pieces.pieces.items) c.in_ok-pieces.pieces.items c.in_ok-pieces.ensures.raw
-
-pub closed_board-requires-clause-begin : goal.closed_board-requires-clause-begin
-closed_board-requires-clause-begin g c = λ _ _.
-    begin c.args.p.now (level_of c.in_ok-level.level) c.in_ok-level.ensures c.shown_patches-patches.result.items c.shown_patches-patches.ensures.shown c.shown_patches-patches.ensures.masses
-    c.in_ok-layout.layout (subst (λ (qs : List Patch). IsLayoutOf (around c.args.p.now 0 qs [] None) c.in_ok-layout.layout) c.deref.ensures.value c.in_ok-layout.ensures) c.in_ok-pieces.pieces.items c.in_ok-pieces.ensures.raw c.in_ok-pieces.ensures.served
+task_of : Work → Task
+task_of w = record { puts = puts_of_work w; adds = adds_of_work w }
 
 pub stages-requires : goal.stages-requires
-stages-requires g c = λ t lt. c.in_ok-ended.ensures t (omega (arith, lt, c.len.ensures, c.in_ok-pieces.ensures.raw.count))
+unfolding task_of
+stages-requires g c = λ t lt.
+    let ws = c.in_ok-board.board.pieces in
+    let begun = c.in_ok-board.ensures.3 in
+    let many = ap (λ (q : PlanOf). length q.tasks) begun.plan ∙ length-map ws task_of in
+    let found = found_at ws t (omega (arith, lt, c.tasks-count.ensures, many)) in
+    let given = c.close.ensures.pieces t found.0 found.1 in
+    (given.0, given.2)

@@ -1,10 +1,6 @@
-use Rattle.std.proofs.Common.{false, subst}
-use Rattle.amr_advance.specs.Tasks.{AreValued}
+use Rattle.std.proofs.Common.{false}
 use Rattle.amr_advance.proofs.KeptLaws.{kept_with_flags}
 use Rattle.amr_advance.proofs.kept.KeptLayout.masses_changed.Goals as goal
 
-pub returns-in-Lots-clause-kept : goal.returns-in-Lots-clause-kept
-returns-in-Lots-clause-kept c = λ p. kept_with_flags p c.args.self.now c.in-Lots.tasks false c.in-Lots.tasks.valued c.in-Lots.is
-
-pub returns-in-Lots-clause-valued : goal.returns-in-Lots-clause-valued
-returns-in-Lots-clause-valued c = λ p l old h. subst (AreValued p l old) c.in-Lots.is h
+pub returns-clause-kept : goal.returns-clause-kept
+returns-clause-kept c = λ p. kept_with_flags p c.args.self.now false c.args.self.now.lots.valued

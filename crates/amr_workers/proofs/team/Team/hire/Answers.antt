@@ -3,7 +3,7 @@ use Rattle.std.specs.Arc.{arc_value}
 use Rattle.std.specs.List.{All}
 use Rattle.amr_workers.specs.declared.helper.Helper.{Helper}
 use Rattle.amr_workers.specs.declared.helper.Recruit.{Recruit}
-use Rattle.amr_workers.specs.declared.order.Order.{Order}
+use Rattle.amr_workers.specs.declared.order.DrawOrder.{DrawOrder}
 use Rattle.amr_workers.specs.Helpers.{IsHelper, IsRecruit}
 use Rattle.amr_mailbox.proofs.Lists.{all_snoc}
 use Rattle.amr_workers.proofs.team.Team.hire.Goals as goal
@@ -12,8 +12,8 @@ pub loop-number-preserved : goal.loop-number-preserved
 loop-number-preserved g c =
     let H : Type 0 = Helper g.row.P.Denot g.row.J.Denot g.row.G.Denot in
     let R : Type 0 = Recruit g.row.P.Denot g.row.J.Denot g.row.G.Denot in
-    let Q : H → Type 0 = λ h. IsHelper {O = Order g.row.P.Denot} c.args.job.now c.args.gate.now c.args.workers (arc_value h.mailbox) h.asker in
-    let S : R → Type 0 = λ r. IsRecruit {O = Order g.row.P.Denot} c.args.job.now c.args.gate.now (arc_value r.mailbox) r.worker r.number in
+    let Q : H → Type 0 = λ h. IsHelper {O = DrawOrder g.row.P.Denot} c.args.job.now c.args.gate.now c.args.workers (arc_value h.mailbox) h.asker in
+    let S : R → Type 0 = λ r. IsRecruit {O = DrawOrder g.row.P.Denot} c.args.job.now c.args.gate.now (arc_value r.mailbox) r.worker r.number in
     let old = c.loop-number.invariant in
     let below : c.loop-number.number < c.args.workers = c.loop-number-test.true in
     record {

@@ -1,0 +1,219 @@
+-- The pieces of a level's step: their posts are a plan, with the level's totals, and each piece may begin.
+use Rattle.std.proofs.Common.{◌≡◌, ◌∙◌, ℕ, zero, suc, ◌+◌, ◌*◌, ◌^◌, ◌<◌, ◌≤◌, ◌⊎◌, inl, inr, List, [], ◌∷◌, ◌++◌, length, get_or, map, Some, refl, sym, ap, subst, arith}
+use Rattle.std.specs.Prelude.{slice_index, unsigned_abs}
+use Rattle.std.specs.declared.option.Option.{Option}
+use Rattle.std.specs.Global.{Box, Vec}
+use Rattle.std.specs.List.{All, AllZip, flat_map}
+use Rattle.std.proofs.lemmas.Bool.{cases_lt}
+use Rattle.std.proofs.lemmas.List.{get_or-map, get_or_past, length-map}
+use Rattle.std.proofs.lemmas.List.FromFn.{get_or-map-range_with_len, length-map-range_with_len}
+use Rattle.std.proofs.lemmas.List.Elements.{length_all_zip}
+use Rattle.std.proofs.lemmas.List.Folds.{flat_map-map}
+use Rattle.amr_box.specs.declared.Cell.{Cell}
+use Rattle.amr_box.specs.declared.Face.{Face}
+use Rattle.amr_box.specs.Cells.{holds}
+use Rattle.amr_def.specs.declared.problem.Problem.{Problem}
+use Rattle.amr_def.specs.Domain.{domain}
+use Rattle.amr_def.specs.State.{Masses}
+use Rattle.amr_def.specs.Flux.{Fluxes, flux_at}
+use Rattle.amr_patch.specs.declared.levels.Level.{Level as Held}
+use Rattle.amr_patch.specs.declared.patches.Patch.{Patch}
+use Rattle.amr_patch.specs.Patches.{box, masses_in}
+use Rattle.amr_patch.proofs.Lookups.{same_default}
+use Rattle.amr_flows.specs.Laws.{plain_size}
+use Rattle.amr_flows.specs.Words.{level_total}
+use Rattle.amr_ghost.specs.Frames.{old_masses}
+use Rattle.amr_ghost.specs.declared.parts.FrameParts.{FrameParts}
+use Rattle.amr_layout.specs.declared.FlowTo.{FlowTo}
+use Rattle.amr_layout.specs.declared.PatchLayout.{PatchLayout}
+use Rattle.amr_layout.specs.declared.PutAt.{PutAt}
+use Rattle.amr_layout.specs.Adds.{flows_of, word_total}
+use Rattle.amr_layout.specs.Arounds.{all_borders, all_puts}
+use Rattle.amr_layout.specs.Surroundings.{Around, around}
+use Rattle.amr_layout.proofs.Planned.{nth}
+use Rattle.amr_lots.specs.declared.lot.Basis.{Basis}
+use Rattle.amr_lots.specs.declared.lot.Duty.{Duty}
+use Rattle.amr_lots.specs.declared.lot.Duty.TheVariants.{Step}
+use Rattle.amr_lots.specs.declared.lot.Lot.{Lot}
+use Rattle.amr_lots.specs.declared.lot.Work.{Work}
+use Rattle.amr_layout.specs.LevelFlowLists.{flow_lists}
+use Rattle.amr_lots.specs.Runs.{run}
+use Rattle.amr_lots.specs.Works.{adds_by, adds_in, adds_of_work, coarser_of, flows_in, flows_to, flux, fluxes_of, layouts_of, masses_of, patches_of, put_by, puts_by, puts_in, puts_listed, puts_of_work, size}
+use Rattle.amr_lots.proofs.Runs.{map_run}
+use Rattle.amr_phase.specs.declared.plan.Post.{Post}
+use Rattle.amr_phase.specs.declared.plan.Task.{Task}
+use Rattle.amr_phase.specs.Plans.{IsPlan, PlanOf, added, adds_of, no_post, no_task, planned_face, planned_total, puts_of, total}
+use Rattle.amr_advance.specs.declared.lots.Lots.{Lots}
+use Rattle.amr_advance.specs.Cuts.{IsWorkspaceOf}
+use Rattle.amr_advance.specs.Lots.{AreSeveralLots}
+use Rattle.amr_advance.specs.Phases.{ArePieces, IsBasisOf, IsPiece, planned}
+use Rattle.amr_advance.proofs.AddedWords.{lists_added}
+use Rattle.amr_advance.proofs.InLots.{IsInStep, totals_small}
+use Rattle.amr_advance.proofs.LotsHanded.{AreDelivered}
+use Rattle.amr_advance.proofs.Merged.{IsMerged, merged_plan, merged_total}
+
+-- ---- lists
+
+total_map : {A B : Type 0} (f : B → ℕ) (g : A → B) (xs : List A) → total f (map g xs) ≡ total (λ x. f (g x)) xs
+total_map f g [] = refl
+total_map f g (x ∷ xs) = ap (λ n. f (g x) + n) (total_map f g xs)
+
+map_joined : {A B : Type 0} (f : A → B) (xs ys : List A) → map f (xs ++ ys) ≡ map f xs ++ map f ys
+map_joined f [] ys = refl
+map_joined f (x ∷ xs) ys = ap (λ zs. f x ∷ zs) (map_joined f xs ys)
+
+map_flat : {A B C : Type 0} (f : B → C) (g : A → List B) (xs : List A) → map f (flat_map g xs) ≡ flat_map (λ x. map f (g x)) xs
+map_flat f g [] = refl
+map_flat f g (x ∷ xs) = map_joined f (g x) (flat_map g xs) ∙ ap (λ zs. map f (g x) ++ zs) (map_flat f g xs)
+
+-- an add for each place in the list of words
+abbrev add_for : (Face → ℕ) → List ℕ → List (List FlowTo) → ℕ → Post
+add_for e words xss k = record { at = slice_index words k; amount = flows_to e xss k }
+
+add_count : (e : Face → ℕ) (words : List ℕ) (xss : List (List FlowTo)) (j : ℕ) → j < length (adds_by e words xss) → j < length words
+add_count e words xss j lt = omega (arith, lt, length-map-range_with_len (add_for e words xss) 0 (length words))
+
+add_at : (e : Face → ℕ) (words : List ℕ) (xss : List (List FlowTo)) (j : ℕ) → j < length words → (get_or (adds_by e words xss) j no_post).at ≡ slice_index words j
+add_at e words xss j lt = ap (λ (x : Post). x.at) (get_or-map-range_with_len (add_for e words xss) 0 (length words) j j no_post lt (omega arith))
+
+-- ---- the plan of the patches' own posts
+
+-- a plan with a task for each patch of a level, where groups of so many are apart: its puts by these sizes, and what it adds to each word
+pub record IsFinePlan (s : Around) (each : ℕ) (e : Face → ℕ) (fine : PlanOf) : Type 0 where
+  pub places : fine.places ≡ length (all_borders s each)
+  pub words : fine.words ≡ 2 + 2 * length s.cells
+  pub puts : map (λ (t : Task). t.puts) fine.tasks ≡ map (map (put_by e)) (all_puts s each)
+  pub adds : (word : ℕ) → map (λ (t : Task). total (added word) t.adds) fine.tasks ≡ map (λ (q : Patch). word_total e word (flows_of s (box q))) s.patches
+  pub is_plan : IsPlan fine
+
+module _ {p : Problem} {l : ℕ} {old : Masses} {ps : List Patch} {cells : List Cell} {next : Option Held} {t : Lots} (level : IsInStep p l old ps cells next t) (several : AreSeveralLots (around p l ps cells next) level.lots.parts t) where
+  abbrev s : Around
+  s = around p l ps cells next
+
+  abbrev e : Fluxes
+  e = flux_at p l (masses_in ps) old
+
+  abbrev sizes : Face → ℕ
+  sizes = plain_size p l (masses_in ps) old
+
+  abbrev runs : ℕ
+  runs = length t.lots.items
+
+  abbrev parts : FrameParts
+  parts = level.lots.parts
+
+  module _ {lent xs : List (Box Lot)} (d : AreDelivered level lent xs) (b : Basis) (coarse : Option Held) (of_b : IsBasisOf p ps coarse b) (coarser : old_masses coarse ≡ old) (ws : List Work) (raw : ArePieces b l Step xs ws) where
+    piece_count : length ws ≡ runs
+    piece_count = raw.count ∙ d.all.lots.count
+
+    module _ (k : ℕ) (w0 : Work) (lt : k < length t.lots.items) where
+      abbrev w : Work
+      w = get_or ws k w0
+
+      x_there : k < length xs
+      x_there = omega (arith, lt, d.all.lots.count)
+
+      abbrev x : Box Lot
+      x = get_or xs k w0.lot
+
+      pub one : IsPiece b l Step k x w
+      one = raw.each k w0.lot w0 x_there
+
+      lot_is : w.lot ≡ x
+      lot_is = one.of_lot
+
+      of : IsWorkspaceOf s t.each k runs parts x.value.workspace
+      of = d.all.lots.of k w0.lot lt
+
+      patches_are : patches_of w ≡ run t.each k ps
+      patches_are = ap (λ (z : Box Lot). z.value.patches.items) lot_is ∙ d.all.patches k w0.lot lt
+
+      -- what flows is what flows in the level
+      pub flux_is : flux w ≡ e
+      flux_is = (λ i. fluxes_of (one.of_basis i) (one.of_level i)) ∙ (λ i. flux_at (of_b.problem i) l (masses_in (of_b.patches i)) ((of_b.coarser ∙ coarser) i))
+
+      pub size_is : size w ≡ sizes
+      size_is = λ i f. unsigned_abs (flux_is i f)
+
+      flows_are : flows_in w ≡ flow_lists x.value.workspace.flows (length (run t.each k ps))
+      flows_are = (λ i. flow_lists (lot_is i).value.workspace.flows (length (patches_are i)))
+
+      -- ---- its posts
+
+      puts_are : puts_of_work w ≡ flat_map (map (put_by sizes)) (run t.each k (all_puts s t.each))
+      puts_are =
+          (λ i. puts_in (one.of_duty i) w)
+          ∙ (λ i. puts_by (size_is i) (lot_is i).value.workspace.layouts.items)
+          ∙ ap (map (put_by sizes)) (sym (flat_map-map (λ (y : List PutAt). y) (λ (t : PatchLayout). t.puts.items) x.value.workspace.layouts.items) ∙ ap (flat_map (λ (y : List PutAt). y)) of.layouts.puts)
+          ∙ map_flat (put_by sizes) (λ (y : List PutAt). y) (run t.each k (all_puts s t.each))
+
+      adds_are : adds_of_work w ≡ adds_by sizes x.value.workspace.words.items (flow_lists x.value.workspace.flows (length (run t.each k ps)))
+      adds_are = (λ i. adds_in (one.of_duty i) w) ∙ (λ i. adds_by (size_is i) (lot_is i).value.workspace.words.items (flows_are i))
+
+      -- what it adds to a word is what its patches' own flows add up to
+      pub adds_to_word : (word : ℕ) → total (added word) (adds_of_work w) ≡ total (λ (q : Patch). word_total sizes word (flows_of s (box q))) (run t.each k ps)
+      adds_to_word word =
+          ap (total (added word)) adds_are
+          ∙ lists_added x.value.workspace.words.items word sizes (map (λ (q : Patch). flows_of s (box q)) (run t.each k ps)) (flow_lists x.value.workspace.flows (length (run t.each k ps))) of.words.numbered
+          ∙ total_map (word_total sizes word) (λ (q : Patch). flows_of s (box q)) (run t.each k ps)
+
+    -- ---- the plan of all
+
+    abbrev plan : PlanOf
+    plan = planned t.shape ws
+
+    abbrev task_of : Work → Task
+    task_of w = record { puts = puts_of_work w; adds = adds_of_work w }
+
+    task_count : length plan.tasks ≡ runs
+    task_count = length-map ws task_of ∙ piece_count
+
+    at_task : (k : ℕ) → k < length plan.tasks → (w0 : Work) → get_or plan.tasks k no_task ≡ task_of (get_or ws k w0)
+    at_task k lt w0 = get_or-map task_of ws k w0 no_task (omega (arith, lt, length-map ws task_of))
+
+    a_piece : (k : ℕ) → k < length plan.tasks → Work
+    a_piece k lt = nth ws k (omega (arith, lt, length-map ws task_of))
+
+    module _ (fine : PlanOf) (is : IsFinePlan s t.each sizes fine) where
+      fine_count : length fine.tasks ≡ length ps
+      fine_count = sym (length-map fine.tasks (λ (t : Task). total (added 0) t.adds)) ∙ ap length (is.adds 0) ∙ length-map ps (λ (q : Patch). word_total sizes 0 (flows_of s (box q)))
+
+      pub merged : IsMerged t.each fine plan
+      merged = record {
+        places = several.places ∙ sym is.places;
+        words = several.words ∙ sym is.words;
+        enough = omega (arith, fine_count, task_count, level.lots.enough, ap (λ n. n * t.each) task_count);
+        puts = λ k lt.
+            let w0 = a_piece k lt in
+            let below : k < runs = omega (arith, lt, task_count) in
+            ap (λ (x : Task). x.puts) (at_task k lt w0) ∙ puts_are k w0 below
+            ∙ sym (flat_map-map (λ (y : List Post). y) (map (put_by sizes)) (run t.each k (all_puts s t.each)))
+            ∙ ap (flat_map (λ (y : List Post). y)) (map_run (map (put_by sizes)) t.each k (all_puts s t.each) ∙ ap (run t.each k) (sym is.puts) ∙ sym (map_run (λ (x : Task). x.puts) t.each k fine.tasks))
+            ∙ flat_map-map (λ (y : List Post). y) (λ (x : Task). x.puts) (run t.each k fine.tasks);
+        range = λ k j below. adds_range k (cases_lt k (length plan.tasks)) j below;
+        adds = λ k word lt.
+            let w0 = a_piece k lt in
+            let below : k < runs = omega (arith, lt, task_count) in
+            ap (λ (x : Task). total (added word) x.adds) (at_task k lt w0) ∙ adds_to_word k w0 below word
+            ∙ sym (total_map (λ (n : ℕ). n) (λ (q : Patch). word_total sizes word (flows_of s (box q))) (run t.each k ps))
+            ∙ ap (total (λ (n : ℕ). n)) (map_run (λ (q : Patch). word_total sizes word (flows_of s (box q))) t.each k ps ∙ ap (run t.each k) (sym (is.adds word)) ∙ sym (map_run (λ (x : Task). total (added word) x.adds) t.each k fine.tasks))
+            ∙ total_map (λ (n : ℕ). n) (λ (x : Task). total (added word) x.adds) (run t.each k fine.tasks);
+      }
+        where
+          adds_range : (k : ℕ) → ((k < length plan.tasks) ⊎ (length plan.tasks ≤ k)) → (j : ℕ) → j < length (adds_of plan k) → (get_or (adds_of plan k) j no_post).at < t.shape.words
+          adds_range k (inr le) j below = absurd (let none : length (adds_of plan k) ≡ 0 = ap (λ (x : Task). length x.adds) (get_or_past plan.tasks k no_task le) in omega (arith, none, below))
+          adds_range k (inl lt) j below =
+              let w0 = a_piece k lt in
+              let there : k < runs = omega (arith, lt, task_count) in
+              let words = (get_or xs k w0.lot).value.workspace.words.items in
+              let adds : adds_of plan k ≡ adds_by sizes words (flow_lists (get_or xs k w0.lot).value.workspace.flows (length (run t.each k ps))) = ap (λ (x : Task). x.adds) (at_task k lt w0) ∙ adds_are k w0 there in
+              let inside : j < length words = add_count sizes words (flow_lists (get_or xs k w0.lot).value.workspace.flows (length (run t.each k ps))) j (subst (λ zs. j < length zs) adds below) in
+              let at : (get_or (adds_of plan k) j no_post).at ≡ slice_index words j = ap (λ zs. (get_or zs j no_post).at) adds ∙ add_at sizes words (flow_lists (get_or xs k w0.lot).value.workspace.flows (length (run t.each k ps))) j inside in
+              let small = (of k w0 there).words.within j 0 inside in
+              omega (arith, at, small, several.words)
+
+      pub is_plan : IsPlan plan
+      is_plan = merged_plan merged is.is_plan
+
+      pub plan_total : (word : ℕ) → planned_total plan word ≡ level_total s sizes word
+      plan_total word = merged_total merged word ∙ sym (total_map (λ (n : ℕ). n) (λ (x : Task). total (added word) x.adds) fine.tasks) ∙ ap (total (λ (n : ℕ). n)) (is.adds word) ∙ total_map (λ (n : ℕ). n) (λ (q : Patch). word_total sizes word (flows_of s (box q))) ps

@@ -1,0 +1,192 @@
+-- A level that one lot is all of: the lot's workspace makes its step.
+use Rattle.std.proofs.Common.{◌≡◌, ◌∙◌, ℕ, zero, suc, ◌+◌, ◌*◌, ◌^◌, ◌<◌, ◌≤◌, ◌-◌, List, [], ◌∷◌, length, get_or, map, take, drop, refl, sym, ap, subst, arith}
+use Rattle.std.specs.Prelude.{slice_index}
+use Rattle.std.specs.declared.option.Option.{Option}
+use Rattle.std.specs.Global.{Box, Vec}
+use Rattle.std.specs.List.{All, AllZip, range_with_len}
+use Rattle.std.proofs.lemmas.List.{ext_get_or, get_or-map, length-map, take_all}
+use Rattle.std.proofs.lemmas.List.Elements.{All-drop, All-take, AllZip-get_or, length_all_zip}
+use Rattle.std.proofs.lemmas.List.FromFn.{get_or-map-range_with_len, length-map-range_with_len}
+use Rattle.amr_box.specs.declared.Cell.{Cell}
+use Rattle.amr_box.specs.Cells.{width}
+use Rattle.amr_def.specs.declared.problem.Problem.{Problem}
+use Rattle.amr_def.specs.Domain.{domain}
+use Rattle.amr_def.specs.State.{Masses}
+use Rattle.amr_def.specs.Flux.{Fluxes, flux_at, net}
+use Rattle.amr_patch.specs.declared.levels.Level.{Level as Held}
+use Rattle.amr_patch.specs.declared.patches.Patch.{Patch}
+use Rattle.amr_patch.specs.Patches.{box, masses_in}
+use Rattle.amr_patch.proofs.Lookups.{same_default}
+use Rattle.amr_flows.specs.Laws.{plain_size}
+use Rattle.amr_flows.specs.Words.{level_total}
+use Rattle.amr_flux.specs.Rooms.{widest}
+use Rattle.amr_ghost.specs.Messages.{AreMessagesTo, AreMassesOf, ArePacked, CarriesMasses}
+use Rattle.amr_ghost.specs.Parts.{IsRun}
+use Rattle.amr_ghost.specs.declared.messages.Message.{Message}
+use Rattle.amr_ghost.specs.declared.outer.OuterGhosts.{OuterGhosts}
+use Rattle.amr_ghost.specs.declared.parts.FrameCopy.{FrameCopy}
+use Rattle.amr_ghost.specs.declared.parts.FrameParts.{FrameParts}
+use Rattle.amr_layout.specs.declared.FlowTo.{FlowTo}
+use Rattle.amr_layout.specs.declared.alone.LevelFlows.{LevelFlows}
+use Rattle.amr_layout.specs.Adds.{flows_of}
+use Rattle.amr_layout.specs.LevelFlowLists.{AreFlowsOf, flow_lists, flows_at}
+use Rattle.amr_layout.specs.Surroundings.{Around, around}
+use Rattle.amr_layout.proofs.LevelFlowLists.{flows_here}
+use Rattle.amr_layout.proofs.Planned.{nth}
+use Rattle.amr_phase.specs.Plans.{total}
+use Rattle.amr_register.specs.declared.edges.EdgeCell.{EdgeCell}
+use Rattle.amr_register.specs.CoarseFlows.{edge_flows}
+use Rattle.amr_register.specs.EdgeCells.{AreEdges, AreEdgesIn, IsSameEdge, IsSmallNet, SameEdges, lists_of}
+use Rattle.amr_register.proofs.EdgeLists.{same_edges, zip_from}
+use Rattle.amr_register.proofs.EdgeNets.{nets_are}
+use Rattle.amr_lots.specs.declared.lot.Lot.{Lot}
+use Rattle.amr_lots.specs.declared.lot.Workspace.{Workspace}
+use Rattle.amr_lots.specs.Filling.{AreFilled, HasFoundOuter, HasValuesBy, HasValuesOrLevel}
+use Rattle.amr_lots.specs.Lots.{AreEdgeFlows, AreReady, HasStepped, IsStepped, lot_total}
+use Rattle.amr_lots.specs.Ready.{CanStep, HasEdges, HasFlowsIn}
+use Rattle.amr_lots.specs.Runs.{run}
+use Rattle.amr_lots.specs.Stepping.{HasBegun, HasSteppedAlone, HaveEdgeNets}
+use Rattle.amr_advance.specs.declared.lots.Lots.{Lots}
+use Rattle.amr_advance.specs.Lots.{AreLots, IsBoxOf, IsOneLot, IsWholeLot, ServesRun}
+use Rattle.amr_advance.specs.Registers.{AreEdgesFor, AreNetsOf}
+use Rattle.amr_advance.specs.Steps.{AreFound}
+use Rattle.amr_advance.proofs.Delivered.{can_fill}
+use Rattle.amr_advance.proofs.InDomain.{all_lie}
+use Rattle.amr_advance.proofs.InLots.{IsInStep, adds, all_inside, all_may, all_owned, all_room, all_show, fs_boxes, fs_count, run_flows, run_small, steps, totals_are, totals_small}
+use Rattle.amr_advance.proofs.LentEdges.{all_in}
+use Rattle.amr_advance.proofs.Served.{KeepsPlan, still_whole}
+use Rattle.amr_advance.proofs.WholeRun.{alone_messages, whole_run}
+
+module _ {p : Problem} {l : ℕ} {old : Masses} {ps : List Patch} {cells : List Cell} {next : Option Held} {t : Lots} (level : IsInStep p l old ps cells next t) (one : IsOneLot (around p l ps cells next) level.lots.parts t) (x0 : Box Lot) where
+  abbrev s : Around
+  s = around p l ps cells next
+
+  abbrev e : Fluxes
+  e = flux_at p l (masses_in ps) old
+
+  abbrev x : Workspace
+  x = (get_or t.lots.items 0 x0).value.workspace
+
+  of : IsWholeLot s t.each level.lots.parts (get_or t.lots.items 0 x0).value
+  of = one.lot x0
+
+  there : 0 < length t.lots.items
+  there = omega (arith, one.one)
+
+  serves : ServesRun s t.each 0 (length t.lots.items) level.lots.parts x
+  serves = subst (λ n. ServesRun s t.each 0 n level.lots.parts x) (sym one.one) of.serves
+
+  is_whole : run t.each 0 ps ≡ ps
+  is_whole = whole_run t.each ps (let n = level.lots.enough in omega (arith, n, ap (λ m. m * t.each) one.one))
+
+  messages : AreMessagesTo level.lots.parts t.each (length t.lots.items) 0 ps x.inbox.items
+  messages = subst (λ n. AreMessagesTo level.lots.parts t.each n 0 ps x.inbox.items) (sym one.one) (record {
+    count = of.serves.inbox.count;
+    copies = of.serves.inbox.copies;
+    own = of.serves.inbox.own;
+    packed = alone_messages of.serves.inbox t.each ps;
+  })
+
+  abbrev flows : Patch → List FlowTo
+  flows q = flows_of (around p l ps cells next) (box q)
+
+  -- its flows, a list for each patch
+  lists_are : flow_lists x.flows (length ps) ≡ run_flows level 0
+  lists_are =
+      ext_get_or [] (flow_lists x.flows (length ps)) (map flows ps) (length-map-range_with_len (flows_at x.flows) 0 (length ps) ∙ sym (length-map ps flows))
+      (λ i lt.
+      let below : i < length ps = omega (arith, lt, length-map-range_with_len (flows_at x.flows) 0 (length ps)) in
+      let q : Patch = nth ps i below in
+      get_or-map-range_with_len (flows_at x.flows) 0 (length ps) i i [] below (omega arith) ∙ flows_here s x.flows of.flows i below q ∙ sym (get_or-map flows ps i q [] below))
+      ∙ ap (map flows) (sym is_whole)
+
+  list_words : (i : ℕ) → All (λ (y : FlowTo). y.word < 2 + 2 * length cells) (flows_at x.flows i)
+  list_words i = All-take (λ (y : FlowTo). y.word < 2 + 2 * length cells) (slice_index x.flows.bounds.items (i + 1) - slice_index x.flows.bounds.items i) (drop (slice_index x.flows.bounds.items i) x.flows.flows.items) (All-drop (λ (y : FlowTo). y.word < 2 + 2 * length cells) (slice_index x.flows.bounds.items i) x.flows.flows.items of.words)
+
+  module _ (values : HasValuesOrLevel p l old x.outer) where
+    module _ (o : OuterGhosts) (fs : List Patch) (found : HasFoundOuter p l x.outer o) (filled : AreFilled x o ps fs) where
+      filled_run : AreFilled x o (run t.each 0 ps) fs
+      filled_run = subst (λ rs. AreFilled x o rs fs) (sym is_whole) filled
+
+      count_is : length fs ≡ length ps
+      count_is = fs_count level 0 there x serves messages o found values fs filled_run ∙ ap length is_whole
+
+      -- what all add to a word
+      pub word_is : (word : ℕ) → lot_total p l fs (flow_lists x.flows (length ps)) word ≡ level_total s (plain_size p l (masses_in ps) old) word
+      word_is word = (λ i. lot_total p l fs (lists_are i) word) ∙ totals_are level 0 there x serves messages o found values fs filled_run word ∙ ap (total (adds level word)) is_whole
+
+      pub is_ready : AreReady p l (widest x.room) (length x.totals.items) fs (flow_lists x.flows (length ps))
+      is_ready = record {
+        count = length-map-range_with_len (flows_at x.flows) 0 (length ps) ∙ sym count_is;
+        step = all_may level 0 there x serves messages o found values fs filled_run;
+        room = all_room level 0 there x serves messages o found values fs filled_run (widest x.room) serves.room;
+        flows = subst (AllZip AreEdgeFlows fs) (sym lists_are) (all_owned level 0 there x serves messages o found values fs filled_run);
+        words = λ i ys lt. subst (λ (zs : List FlowTo). All (λ (y : FlowTo). y.word < length x.totals.items) zs) (sym (get_or-map-range_with_len (flows_at x.flows) 0 (length ps) i i ys (omega (arith, lt, length-map-range_with_len (flows_at x.flows) 0 (length ps))) (omega arith)))
+            (λ j y below. let r = list_words i j y below in omega (arith, r, of.totals));
+        fits = λ word. let r = totals_small level word in omega (arith, word_is word, r);
+      }
+
+      pub steps_at : (rs : List Patch) → AllZip (HasStepped p l) fs rs → AllZip (IsStepped (flux_at p l (masses_in ps) old)) ps rs
+      steps_at rs h = zip_from (IsStepped e) ps rs (sym (length_all_zip (HasStepped p l) fs rs h) ∙ count_is) (λ i q d lt.
+          let below : i < length fs = omega (arith, lt, count_is) in
+          let place : 0 * t.each + i ≡ i = omega arith in
+          subst (λ (r : Patch). IsStepped e (get_or ps i q) r) (same_at i q d (omega (arith, below, length_all_zip (HasStepped p l) fs rs h)))
+          (subst (λ n. IsStepped e (get_or ps n q) (get_or rs i q)) place (steps level 0 there x serves messages o found values fs filled_run i q below (get_or rs i q) (AllZip-get_or (HasStepped p l) fs rs i q q h below))))
+        where
+          same_at : (i : ℕ) (q d : Patch) → i < length rs → get_or rs i q ≡ get_or rs i d
+          same_at i q d lt = same_default rs i q d lt
+
+      -- what flows into register cells
+      pub found_at : {es ds : List (Vec EdgeCell)} → AreEdgesFor (map box ps) (lists_of es) → HaveEdgeNets p l fs es ds → AreFound s old (lists_of es) (lists_of ds)
+      found_at {es = es} {ds = ds} fit h = by_count (length es) refl
+        where
+          boxes_in : 0 < length es → AllZip AreEdgesIn (map box fs) (lists_of es)
+          boxes_in some = subst (λ bs. AllZip AreEdgesIn bs (lists_of es)) (sym (fs_boxes level 0 there x serves messages o found values fs filled_run ∙ ap (map box) is_whole)) (all_in t.each ps es fit some)
+
+          no_lists : (vs : List (Vec EdgeCell)) → length vs ≡ 0 → vs ≡ []
+          no_lists [] n = refl
+          no_lists (v ∷ vs) n = absurd (omega (arith, n))
+
+          by_count : (n : ℕ) → length es ≡ n → AreFound s old (lists_of es) (lists_of ds)
+          by_count zero n =
+              let none : es ≡ [] = no_lists es n in
+              let after : ds ≡ [] = h.none n ∙ none in
+              subst (λ vs. AreFound s old (lists_of vs) (lists_of ds)) (sym none) (subst (λ vs. AreFound s old [] (lists_of vs)) (sym after) (record { same = tt; small = λ k d lt. absurd (omega (arith, lt)); nets = λ fine edges k d lt. absurd (omega (arith, lt)) }))
+          by_count (suc m) n =
+              let some : 0 < length es = omega (arith, n) in
+              record {
+                same = same_edges p l fs (lists_of es) (lists_of ds) (h.nets some);
+                small = h.small;
+                nets = λ fine edges. nets_are p l (masses_in ps) old fine fs (lists_of es) (lists_of ds) (all_show level 0 there x serves messages o found values fs filled_run) (all_inside level 0 there x serves messages o found values fs filled_run) (boxes_in some) edges (h.nets some);
+              }
+
+    -- so it may make the step of the level
+    pub can_step : {es : List (Vec EdgeCell)} → AreEdgesFor (map box ps) (lists_of es) → CanStep p l ps es x
+    can_step {es = es} fit = record {
+      inside = all_lie p l ps level.inside;
+      fill = can_fill level 0 there x serves ps (sym is_whole);
+      lists = λ some. all_in t.each ps es fit some;
+      flows = subst (HasFlowsIn x.flows x.sides.items) is_whole of.serves.flows;
+      ready = is_ready;
+    }
+
+    -- ---- afterwards
+
+    module _ {es ds : List (Vec EdgeCell)} {rs : List Patch} {after : Workspace} (h : HasSteppedAlone p l ps es x rs ds after) where
+      pub plan_after : KeepsPlan x after
+      plan_after = subst (KeepsPlan x) (sym h.begun.others) (record { layouts = refl; flows = refl; sides = refl; words = refl; totals = h.begun.count; copies = refl; spans = h.begun.outer.spans; places = λ q. h.begun.outer.places; room = h.begun.room; sizes = refl })
+
+      pub whole_stepped : AllZip (IsStepped (flux_at p l (masses_in ps) old)) ps rs
+      whole_stepped = steps_at after.outer h.filled h.begun.outer h.begun.filled rs h.stepped
+
+      pub whole_found : AreEdgesFor (map box ps) (lists_of es) → AreFound (around p l ps cells next) old (lists_of es) (lists_of ds)
+      whole_found fit = found_at after.outer h.filled h.begun.outer h.begun.filled fit h.begun.nets
+
+      pub whole_values : HasValuesBy p l old after.outer
+      whole_values = h.begun.outer.values old values
+
+      pub whole_totals : (word : ℕ) → slice_index after.totals.items word ≡ level_total (around p l ps cells next) (plain_size p l (masses_in ps) old) word
+      whole_totals word = h.begun.totals word ∙ word_is after.outer h.filled h.begun.outer h.begun.filled word
+
+      pub whole_again : (y : Lot) → y.workspace ≡ after → IsWholeLot (around p l ps cells next) t.each level.lots.parts y
+      whole_again y is = still_whole of y (subst (KeepsPlan x) (sym is) plan_after) (ap (λ (z : Workspace). z.outbox) (is ∙ h.begun.others)) (ap (λ (z : Workspace). z.inbox) (is ∙ h.begun.others))

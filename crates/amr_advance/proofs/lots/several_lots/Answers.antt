@@ -1,0 +1,67 @@
+use Rattle.std.proofs.Common.{◌≡◌, ◌+◌, ◌*◌, ◌<◌, ◌≤◌, false, List, length, get_or, refl, sym, subst, arith}
+use Rattle.std.specs.Global.{Box}
+use Rattle.amr_def.specs.Domain.{domain}
+use Rattle.amr_ghost.specs.Parts.{IsParted}
+use Rattle.amr_ghost.proofs.PartLaws.{plan_small}
+use Rattle.amr_layout.specs.Arounds.{around_of}
+use Rattle.amr_lots.specs.declared.lot.Lot.{Lot}
+use Rattle.amr_advance.specs.declared.lots.Lots.{Lots}
+use Rattle.amr_advance.specs.Cuts.{AreLayoutsFrom}
+use Rattle.amr_advance.specs.Lots.{IsLotOf}
+use Rattle.amr_advance.proofs.InDomain.{all_lie}
+use Rattle.amr_advance.proofs.MadeLots.{layouts_made, several_are}
+use Rattle.amr_advance.proofs.lots.several_lots.Goals as goal
+
+pub part_frames-requires-clause-enough : goal.part_frames-requires-clause-enough
+part_frames-requires-clause-enough c = plan_small (domain c.args.s.problem.now c.args.s.level) c.args.s.patches.now c.args.frames.now c.max-each.result c.parts_in-runs.result c.requires.frames c.parts_in-runs.ensures.enough
+
+pub plan-requires-clause-inside : goal.plan-requires-clause-inside
+plan-requires-clause-inside c = all_lie c.args.s.problem.now c.args.s.level c.args.s.patches.now c.requires.level.inside
+
+pub lots_for-requires-clause-cut : goal.lots_for-requires-clause-cut
+lots_for-requires-clause-cut c = record {
+  short = omega (arith, c.requires.small, c.parts_in.ensures.few, c.max-each.ensures);
+  many = omega (arith, c.requires.small, c.parts_in-runs.ensures.few);
+  tight = c.parts_in-runs.ensures.tight;
+  small = c.requires.small;
+  few = c.requires.few;
+  flows_are = c.requires.flows;
+  copies = c.in_ok-parts.ensures.count;
+  outer = c.in_ok-parts.ensures.outer_count;
+}
+
+pub lots_for-requires-clause-layouts : goal.lots_for-requires-clause-layouts
+lots_for-requires-clause-layouts c =
+    let made = c.in_ok-places.ensures in
+    subst (AreLayoutsFrom (around_of c.args.s) c.max-each.result 0) (sym c.deref_mut.ensures.value)
+    (layouts_made (around_of c.args.s) c.max-each.result c.in_ok-places.field-0.patches.items c.requires.edges made.puts made.border made.masks)
+
+pub returns-clause-lots : goal.returns-clause-lots
+returns-clause-lots c =
+    let s = around_of c.args.s in
+    let each = c.max-each.result in
+    let runs = c.parts_in-runs.result in
+    let parts = c.in_ok-parts.parts in
+    let xs : List (Box Lot) = c.in_ok-lots.lots.items in
+    let count : length xs ≡ runs = c.in_ok-lots.ensures.count in
+    let t : Lots = record { level = c.args.s.level; wanted = c.args.wanted; each = each; shape = record { places = c.in_ok-places.field-0.places; words = 2 + 2 * length c.args.s.cells.now }; packed = false; valued = false; lots = c.in_ok-lots.lots; totals = c.in_ok-vec.field-0 } in
+    record {
+      of_level = refl;
+      some = omega (arith, c.max-each.ensures);
+      enough = subst (λ n. length c.args.s.patches.now ≤ n * each) (sym count) c.parts_in-runs.ensures.enough;
+      small = c.requires.small;
+      many = omega (arith, count, c.parts_in-runs.ensures.few, c.requires.small);
+      edges = c.requires.edges;
+      plan = c.args.frames.now;
+      planned = c.requires.frames;
+      parts = parts;
+      parted = subst (λ n. IsParted c.args.frames.now each n parts) (sym count) c.in_ok-parts.ensures;
+      made = several_are s t parts c.requires.several (record {
+        tight = subst (λ n. n * each < length c.args.s.patches.now + each) (sym count) c.parts_in-runs.ensures.tight;
+        places = c.in_ok-places.ensures.places;
+        words = refl;
+        totals = omega (arith, c.in_ok-vec.ensures.len, c.in_ok-vec.field-0.ok.0);
+        plan = c.plan.ensures.plan;
+        lots = λ k x lt. subst (λ n. IsLotOf s each k n parts (get_or xs k x).value) (sym count) (c.in_ok-lots.ensures.lots k x (omega (arith, lt, count)));
+      });
+    }

@@ -1,0 +1,12 @@
+use Rattle.std.proofs.Common.{arith}
+use Rattle.amr_lots.proofs.InPlaces.{all_changed, none_changed, one_more_changed}
+use Rattle.amr_advance.proofs.outer.take_back.Goals as goal
+
+pub loop-k-init : goal.loop-k-init
+loop-k-init c = none_changed _ c.args.lots.now
+
+pub loop-k-preserved : goal.loop-k-preserved
+loop-k-preserved c = one_more_changed _ c.args.lots.now c.loop-k.k c.loop-k.lots c.loop-k.invariant c.index-lots-k.result _ c.loop-k-test.true c.take_back_from.ensures
+
+pub returns : goal.returns
+returns c = all_changed _ c.args.lots.now c.loop-k.k c.loop-k.lots c.loop-k.invariant _ (λ k x y h. h) (omega (arith, c.loop-k-test.false))

@@ -1,5 +1,0 @@
-use Rattle.amr_drive.proofs.LotSends.{lots_sendable}
-use Rattle.amr_drive.proofs.teams.fn.drive_by_sharing.join_mut+arg2.Goals as goal
-
-pub serve_all-requires-send-P : goal.serve_all-requires-send-P
-serve_all-requires-send-P g c κs within = search lots_sendable depth 12 fits 2000

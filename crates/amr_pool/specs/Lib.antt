@@ -1,3 +1,0 @@
-pub mod PoolOf
-pub mod Helpers
-pub mod Asked

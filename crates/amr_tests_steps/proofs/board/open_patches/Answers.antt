@@ -1,0 +1,11 @@
+use Rattle.std.proofs.Common.{◌∙◌, sym, arith}
+use Rattle.amr_tests_steps.proofs.board.open_patches.Goals as goal
+
+pub open_step-requires-clause-several : goal.open_step-requires-clause-several
+open_step-requires-clause-several g c κs within = sym c.is_one.ensures ∙ c.if-is_one.false
+
+pub open_step-requires-clause-crew : goal.open_step-requires-clause-crew
+open_step-requires-clause-crew g c κs within = record { some_workers = omega arith; few_workers = omega arith; gate = λ worker task below lt. tt; team = tt }
+
+pub returns : goal.returns
+returns g c = let opened = c.in_ok-opened.ensures.opened in (_, opened.0, opened.2)

@@ -1,3 +1,0 @@
-pub mod Works
-pub mod Ready
-pub mod Looks
